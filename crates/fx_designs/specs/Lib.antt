@@ -1,0 +1,9 @@
+pub mod Galois
+pub mod Vectors
+pub mod Runs
+pub mod Spans
+pub mod Problems
+pub mod Demands
+pub mod Patterns
+pub mod Canonical
+pub mod Answers

@@ -1,0 +1,20 @@
+-- What is asked of a design: its dimensions, what it is to separate, and whether its pattern is to be least.
+use Rattle.std.specs.Prelude.{ℕ, Bool, List}
+
+-- q levels; q^m runs; s factors; t block factors
+pub record Dimensions : Type 0 where
+  pub q : ℕ
+  pub m : ℕ
+  pub s : ℕ
+  pub t : ℕ
+
+-- A resolution, or the effects to be estimated and those that may be there besides.
+-- An effect, a set of factors, is the sum of 2^(i-1) over its factors i.
+pub data Requirement : Type 0 where
+  AtResolution : ℕ → Requirement
+  ForEffects : List ℕ → List ℕ → Requirement
+
+pub record Problem : Type 0 where
+  pub dimensions : Dimensions
+  pub requirement : Requirement
+  pub least : Bool

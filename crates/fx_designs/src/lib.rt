@@ -1,0 +1,3 @@
+//! The mathematics of regular fractional factorial designs, as definitions: what a reader has to believe.
+//! There is no code here. Each definition is a file of `specs/`.
+#![tactic(auto)]
