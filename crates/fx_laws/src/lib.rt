@@ -1,0 +1,2 @@
+//! Laws of fields, vectors, runs and canonical prefixes, which the crates above cite.
+#![tactic(auto)]
