@@ -4,6 +4,10 @@ pub mod Sums
 pub mod Codes
 pub mod Space
 pub mod Shift
+pub mod Tests
+pub mod Judging
+pub mod CanonicalTest
+pub mod Order
 pub mod Bridge
 pub mod Separation
 pub mod Blocks

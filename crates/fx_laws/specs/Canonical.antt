@@ -1,9 +1,10 @@
 -- Canonical rows.
-use Rattle.std.specs.Prelude.{ℕ, ◌≡◌, ◌<◌, ◌≤◌, ◌+◌, ◌-◌, ◌⊎◌, true, false, List, [], length, take, min, slice_index_or}
+use Rattle.std.specs.Prelude.{ℕ, ◌≡◌, ◌<◌, ◌≤◌, ◌+◌, ◌-◌, ◌^◌, ◌⊎◌, true, false, List, [], length, take, min, slice_index, slice_index_or, All}
 use Rattle.fx_designs.specs.Galois.{number}
-use Rattle.fx_laws.specs.Facts.{IsNormal}
-use Rattle.fx_designs.specs.Vectors.{zeros}
+use Rattle.fx_designs.specs.Vectors.{zeros, vectors_of}
 use Rattle.fx_designs.specs.Spans.{in_span, rank_of}
+use Rattle.fx_designs.specs.Problems.{Dimensions, Requirement, AtResolution, ForEffects}
+use Rattle.fx_laws.specs.Facts.{IsNormal}
 use Rattle.fx_laws.specs.Changes.{unit}
 
 -- row k of a list of rows
@@ -22,3 +23,21 @@ pub record IsFalling (q m s : ℕ) (rows : List (List ℕ)) : Type 0 where
   pub no_zero : (k : ℕ) → min s m ≤ k → k < min s (length rows) → row rows k ≡ zeros m → ⊥
   pub no_unit : (k i : ℕ) → min s m ≤ k → k < min s (length rows) → i < m → row rows k ≡ unit m i → ⊥
   pub falls : (k : ℕ) → min s m ≤ k → k + 1 < min s (length rows) → number q (row rows (k + 1)) < number q (row rows k)
+
+-- the same of factor rows by their numbers
+pub record AreFalling (q m s : ℕ) (rows : List ℕ) : Type 0 where
+  pub units : (k : ℕ) → k < min s m → k < length rows → slice_index rows k ≡ q ^ k
+  pub no_zero : (k : ℕ) → min s m ≤ k → k < min s (length rows) → slice_index rows k ≡ 0 → ⊥
+  pub no_unit : (k i : ℕ) → min s m ≤ k → k < min s (length rows) → i < m → slice_index rows k ≡ q ^ i → ⊥
+  pub falls : (k : ℕ) → min s m ≤ k → k + 1 < min s (length rows) → slice_index rows (k + 1) < slice_index rows k
+
+abbrev pub IsOrdered : Dimensions → Requirement → List ℕ → Type 0
+IsOrdered d (AtResolution r) rows = AreFalling d.q d.m d.s rows
+IsOrdered d (ForEffects estimate besides) rows = Unit {0}
+
+-- what the test of canonical prefixes says
+pub record IsCanonicalPrefix (d : Dimensions) (wanted : Requirement) (rows : List ℕ) : Type 0 where
+  pub len : length rows ≤ d.s + d.t
+  pub below : All (λ r. r < d.q ^ d.m) rows
+  pub canonical : IsCanonical d.q d.m d.s (vectors_of d.q d.m rows)
+  pub ordered : IsOrdered d wanted rows

@@ -5,3 +5,4 @@ pub mod Raises
 pub mod Scalings
 pub mod Reorders
 pub mod Canonical
+pub mod Meets
