@@ -57,14 +57,14 @@ module _ (d : Dimensions) (f : IsField d.q) (rows : List ℕ) where
   rank-is : (k : ℕ) → rank_at d rows k ≡ rank_of d.q d.m (take k vectors)
   rank-is k = rw (take-vectors d.q d.m k rows) refl
 
-  zero_row : (k : ℕ) → k < length rows → slice_index rows k < d.q ^ d.m → row vectors k ≡ zeros d.m → slice_index rows k ≡ 0
+  pub zero_row : (k : ℕ) → k < length rows → slice_index rows k < d.q ^ d.m → row vectors k ≡ zeros d.m → slice_index rows k ≡ 0
   zero_row k h low z = sym (number-digits d.q d.m (slice_index rows k) some low) ∙ ap (number d.q) (sym (row-is k h) ∙ z) ∙ number-zeros d.q d.m
 
   row_zero : (k : ℕ) → k < length rows → slice_index rows k ≡ 0 → row vectors k ≡ zeros d.m
   row_zero k h z = row-is k h ∙ ap (digits d.q d.m) (z ∙ sym (number-zeros d.q d.m)) ∙ digits-number d.q d.m (zeros d.m) (zeros-vector d.q d.m f)
 
   -- a row outside the span is not past the last unit vector
-  room : (k : ℕ) → k < length rows → in_span d.q d.m (take k vectors) (row vectors k) ≡ false → row vectors k ≡ unit d.m (rank_of d.q d.m (take k vectors)) → rank_of d.q d.m (take k vectors) < d.m
+  pub room : (k : ℕ) → k < length rows → in_span d.q d.m (take k vectors) (row vectors k) ≡ false → row vectors k ≡ unit d.m (rank_of d.q d.m (take k vectors)) → rank_of d.q d.m (take k vectors) < d.m
   room k h out is = elim (cases_lt (rank_of d.q d.m (take k vectors)) d.m) [
     | inl low ↦ low
     | inr past ↦

@@ -1,0 +1,2 @@
+//! The search for the first design of a question.
+#![tactic(auto)]
