@@ -1,0 +1,5 @@
+pub mod Acts
+pub mod Faults
+pub mod Memory
+pub mod Reading
+pub mod Writing

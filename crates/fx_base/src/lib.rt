@@ -1,10 +1,28 @@
-//! What stands below every other crate: lists, and later the objects outside the program.
+//! What stands below every other crate: lists, and the objects outside the program.
 #![tactic(auto)]
 
+mod failed;
 mod items;
+mod laws;
 mod memory;
+mod reading;
+mod shelf;
+mod sink;
+mod source;
+mod sure_sink;
+mod text;
 mod values;
+mod writing;
 
+pub use failed::Failed;
 pub use items::Items;
+pub use laws::{all_acts_in_words, front_part_in_words};
 pub use memory::NoMemory;
+pub use reading::{ReadStop, Taken, read_all};
+pub use shelf::Shelf;
+pub use sink::Sink;
+pub use source::Source;
+pub use sure_sink::SureSink;
+pub use text::{put, put_number};
 pub use values::{Bytes, Values};
+pub use writing::{shelve, write_all};

@@ -82,6 +82,19 @@ impl<T> Values<T> {
             Err(_) => Err(NoMemory),
         }
     }
+
+    /// Adds these items at the end, or none where memory ran out.
+    pub fn extend_from_slice(&mut self, items: &[T]) -> Result<(), NoMemory>
+    where
+        T: Copy,
+        ensures ok { OnOk result (self.new ≡ self.old ++ items.now) }
+        ensures err { OnErr result (self.new ≡ self.old) }
+    {
+        match self.inner.extend_from_slice(items) {
+            Ok(()) => Ok(()),
+            Err(_) => Err(NoMemory),
+        }
+    }
 }
 
 /// Bytes in order.

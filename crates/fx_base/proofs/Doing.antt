@@ -1,0 +1,222 @@
+-- Acts done one after another: acts and front parts of acts compose, over loops too.
+use Rattle.std.proofs.Common.{ℕ, ◌≡◌, ◌<◌, ◌≤◌, get_or, add-one, ◌+◌, ◌++◌, length, zero, suc, List, [], ◌∷◌, map, take, drop, Option, Some, refl, sym, ◌∙◌, ap, subst, append_assoc}
+use Rattle.std.proofs.lemmas.List.{append-nil, take_all, map-append, take-append-drop}
+use Rattle.std.proofs.Math.Seq.{take-add, take-suc}
+use Rattle.std.specs.List.{flat_map}
+use Rattle.std.proofs.lemmas.Grind.{flat_map-append}
+use Rattle.fx_base.specs.Writing.{Appends, AppendsPart}
+use Rattle.fx_base.specs.Acts.{Act, ListByte, BeginFile, FileByte, EndFile, File, listed, shelved, Shelves, ShelvesPart, Event, Piece, WholeFile, acts_of, acts, World, Did, Begun}
+
+pub listed-append : (xs ys : List Act) → listed (xs ++ ys) ≡ listed xs ++ listed ys
+listed-append [] ys = refl
+listed-append (ListByte b ∷ xs) ys = ap (λ (l : List ℕ). b ∷ l) (listed-append xs ys)
+listed-append (BeginFile name ∷ xs) ys = listed-append xs ys
+listed-append (FileByte b ∷ xs) ys = listed-append xs ys
+listed-append (EndFile ∷ xs) ys = listed-append xs ys
+
+pub shelved-append : (xs ys : List Act) (files : List File) → shelved (xs ++ ys) files ≡ shelved ys (shelved xs files)
+shelved-append [] ys files = refl
+shelved-append (ListByte b ∷ xs) ys files = shelved-append xs ys files
+shelved-append (BeginFile name ∷ xs) ys files = shelved-append xs ys _
+shelved-append (FileByte b ∷ xs) ys files = shelved-append xs ys _
+shelved-append (EndFile ∷ xs) ys files = shelved-append xs ys _
+
+pub acts-append : (xs ys : List Event) → acts (xs ++ ys) ≡ acts xs ++ acts ys
+acts-append [] ys = refl
+acts-append (e ∷ xs) ys = ap (λ (l : List Act). acts_of e ++ l) (acts-append xs ys) ∙ sym (append_assoc (acts_of e) (acts xs) (acts ys))
+
+pub listed-bytes : (bytes : List ℕ) → listed (map ListByte bytes) ≡ bytes
+listed-bytes [] = refl
+listed-bytes (b ∷ bytes) = ap (λ (l : List ℕ). b ∷ l) (listed-bytes bytes)
+
+pub shelved-bytes : (bytes : List ℕ) (files : List File) → shelved (map ListByte bytes) files ≡ files
+shelved-bytes [] files = refl
+shelved-bytes (b ∷ bytes) files = shelved-bytes bytes files
+
+-- on the shelf alone
+pub shelves_none : (old : Option (List File)) → Shelves old old []
+shelves_none old = record { told = λ files e. e }
+
+pub shelves_more : (old mid new : Option (List File)) (xs ys : List Act) → Shelves old mid xs → Shelves mid new ys → Shelves old new (xs ++ ys)
+shelves_more old mid new xs ys a b = record {
+  told = λ files e. b.told (shelved xs files) (a.told files e) ∙ ap Some (sym (shelved-append xs ys files));
+}
+
+pub shelves_part_more : (old mid new : Option (List File)) (xs ys : List Act) → Shelves old mid xs → ShelvesPart mid new ys → ShelvesPart old new (xs ++ ys)
+shelves_part_more old mid new xs ys a b = record {
+  done = xs ++ b.done;
+  left = b.left;
+  front = append_assoc xs b.done b.left ∙ ap (λ (l : List Act). xs ++ l) b.front;
+  did = shelves_more old mid new xs b.done a b.did;
+}
+
+pub shelves_part_first : (old new : Option (List File)) (xs ys : List Act) → ShelvesPart old new xs → ShelvesPart old new (xs ++ ys)
+shelves_part_first old new xs ys a = record {
+  done = a.done;
+  left = a.left ++ ys;
+  front = sym (append_assoc a.done a.left ys) ∙ ap (λ (l : List Act). l ++ ys) a.front;
+  did = a.did;
+}
+
+pub shelves_part_none : (old new : Option (List File)) (xs : List Act) → new ≡ old → ShelvesPart old new xs
+shelves_part_none old new xs same = record {
+  done = [];
+  left = xs;
+  front = refl;
+  did = record { told = λ files e. same ∙ e };
+}
+
+pub shelves_part_whole : (old new : Option (List File)) (xs : List Act) → Shelves old new xs → ShelvesPart old new xs
+shelves_part_whole old new xs a = record { done = xs; left = []; front = append-nil xs; did = a }
+
+-- on listing and shelf
+pub did_none : (w : World) → Did w w []
+did_none w = record {
+  listing = record { told = λ text e. e ∙ ap Some (sym (append-nil text)) };
+  shelf = shelves_none w.files;
+}
+
+pub did_more : {a b c : World} {xs ys : List Act} → Did a b xs → Did b c ys → Did a c (xs ++ ys)
+did_more {a} {b} {c} {xs} {ys} p q = record {
+  listing = record {
+    told = λ text e. q.listing.told (text ++ listed xs) (p.listing.told text e) ∙ ap Some (append_assoc text (listed xs) (listed ys) ∙ ap (λ (l : List ℕ). text ++ l) (sym (listed-append xs ys)));
+  };
+  shelf = shelves_more a.files b.files c.files xs ys p.shelf q.shelf;
+}
+
+pub begun_whole : {a b : World} {xs : List Act} → Did a b xs → Begun a b xs
+begun_whole {a} {b} {xs} p = record { done = xs; left = []; front = append-nil xs; did = p }
+
+pub begun_none : (w : World) (xs : List Act) → Begun w w xs
+begun_none w xs = record { done = []; left = xs; front = refl; did = did_none w }
+
+pub begun_more : {a b c : World} {xs ys : List Act} → Did a b xs → Begun b c ys → Begun a c (xs ++ ys)
+begun_more {a} {b} {c} {xs} {ys} p q = record {
+  done = xs ++ q.done;
+  left = q.left;
+  front = append_assoc xs q.done q.left ∙ ap (λ (l : List Act). xs ++ l) q.front;
+  did = did_more p q.did;
+}
+
+pub begun_first : {a b : World} {xs : List Act} (ys : List Act) → Begun a b xs → Begun a b (xs ++ ys)
+begun_first {a} {b} {xs} ys p = record {
+  done = p.done;
+  left = p.left ++ ys;
+  front = sym (append_assoc p.done p.left ys) ∙ ap (λ (l : List Act). l ++ ys) p.front;
+  did = p.did;
+}
+
+-- from the calls on one object
+pub did_piece : (old new : Option (List ℕ)) (files : Option (List File)) (bytes : List ℕ) → Appends old new bytes
+    → Did (record { written = old; files = files }) (record { written = new; files = files }) (acts_of (Piece bytes))
+did_piece old new files bytes a = record {
+  listing = subst (λ (l : List ℕ). Appends old new l) (sym (listed-bytes bytes)) a;
+  shelf = record { told = λ held e. e ∙ ap Some (sym (shelved-bytes bytes held)) };
+}
+
+pub begun_piece : (old new : Option (List ℕ)) (files : Option (List File)) (bytes : List ℕ) → AppendsPart old new bytes
+    → Begun (record { written = old; files = files }) (record { written = new; files = files }) (acts_of (Piece bytes))
+begun_piece old new files bytes a = record {
+  done = map ListByte (take a.part bytes);
+  left = map ListByte (drop a.part bytes);
+  front = sym (map-append ListByte (take a.part bytes) (drop a.part bytes)) ∙ ap (map ListByte) (take-append-drop a.part bytes);
+  did = did_piece old new files (take a.part bytes) a.told;
+}
+
+-- the loop that fills a file
+pub fill_more : (old mid new : Option (List File)) (bytes : List ℕ) (from n : ℕ) → Shelves old mid (map FileByte (take from bytes)) → Shelves mid new (map FileByte (take n (drop from bytes))) → Shelves old new (map FileByte (take (from + n) bytes))
+fill_more old mid new bytes from n a b = subst (λ (l : List Act). Shelves old new l)
+    (sym (map-append FileByte (take from bytes) (take n (drop from bytes))) ∙ ap (map FileByte) (sym (take-add from n bytes)))
+    (shelves_more old mid new _ _ a b)
+
+pub fill_part : (old mid new : Option (List File)) (bytes : List ℕ) (from : ℕ) → Shelves old mid (map FileByte (take from bytes)) → new ≡ mid → ShelvesPart old new (map FileByte bytes)
+fill_part old mid new bytes from a same = subst (λ (l : List Act). ShelvesPart old new l)
+    (sym (map-append FileByte (take from bytes) (drop from bytes)) ∙ ap (map FileByte) (take-append-drop from bytes))
+    (shelves_part_more old mid new (map FileByte (take from bytes)) (map FileByte (drop from bytes)) a (shelves_part_none mid new _ same))
+
+pub fill_whole : (old new : Option (List File)) (bytes : List ℕ) (from : ℕ) → length bytes ≤ from → Shelves old new (map FileByte (take from bytes)) → Shelves old new (map FileByte bytes)
+fill_whole old new bytes from all a = subst (λ (l : List ℕ). Shelves old new (map FileByte l)) (take_all from bytes all) a
+
+pub front_nil : (xs ys : List ℕ) → xs ++ ys ≡ [] → xs ≡ []
+front_nil [] ys e = refl
+front_nil (x ∷ xs) ys e = cc
+
+pub listed-file : (bytes : List ℕ) → listed (map FileByte bytes ++ EndFile ∷ []) ≡ []
+listed-file [] = refl
+listed-file (b ∷ bytes) = listed-file bytes
+
+pub did_file : (old new : Option (List File)) (written : Option (List ℕ)) (name content : List ℕ) → Shelves old new (acts_of (WholeFile name content))
+    → Did (record { written = written; files = old }) (record { written = written; files = new }) (acts_of (WholeFile name content))
+did_file old new written name content a = record {
+  listing = record { told = λ text e. e ∙ ap Some (sym (ap (λ (l : List ℕ). text ++ l) (listed-file content) ∙ append-nil text)) };
+  shelf = a;
+}
+
+pub begun_file : (old new : Option (List File)) (written : Option (List ℕ)) (name content : List ℕ) → ShelvesPart old new (acts_of (WholeFile name content))
+    → Begun (record { written = written; files = old }) (record { written = written; files = new }) (acts_of (WholeFile name content))
+begun_file old new written name content a =
+    let none : listed a.done ≡ [] = front_nil (listed a.done) (listed a.left)
+    (sym (listed-append a.done a.left) ∙ ap listed a.front ∙ listed-file content) in
+    record {
+      done = a.done;
+      left = a.left;
+      front = a.front;
+      did = record {
+        listing = record { told = λ text e. e ∙ ap Some (sym (ap (λ (l : List ℕ). text ++ l) none ∙ append-nil text)) };
+        shelf = a.did;
+      };
+    }
+
+-- a list of things, each with its events, done one after another
+module _ {X : Type 0} (f : X → List Event) (xs : List X) (i : ℕ) (d : X) (there : i < length xs) where
+  abbrev x : X
+  x = get_or xs i d
+
+  front_is : take (i + 1) xs ≡ take i xs ++ x ∷ []
+  front_is = rw (add-one i) (take-suc xs i d there)
+
+  events_next : acts (flat_map f (take (i + 1) xs)) ≡ acts (flat_map f (take i xs)) ++ acts (f x)
+  events_next = ap (λ (l : List X). acts (flat_map f l)) front_is
+      ∙ ap acts (flat_map-append f (take i xs) (x ∷ []) ∙ ap (λ (l : List Event). flat_map f (take i xs) ++ l) (append-nil (f x)))
+      ∙ acts-append (flat_map f (take i xs)) (f x)
+
+  events_split : acts (flat_map f (take (i + 1) xs)) ++ acts (flat_map f (drop (i + 1) xs)) ≡ acts (flat_map f xs)
+  events_split = sym (acts-append (flat_map f (take (i + 1) xs)) (flat_map f (drop (i + 1) xs)))
+      ∙ ap acts (sym (flat_map-append f (take (i + 1) xs) (drop (i + 1) xs)))
+      ∙ ap (λ (l : List X). acts (flat_map f l)) (take-append-drop (i + 1) xs)
+
+  pub did_next : {a b c : World} → Did a b (acts (flat_map f (take i xs))) → Did b c (acts (f (get_or xs i d))) → Did a c (acts (flat_map f (take (i + 1) xs)))
+  did_next {a} {b} {c} p q = subst (λ (l : List Act). Did a c l) (sym events_next) (did_more p q)
+
+  pub begun_next : {a b c : World} → Did a b (acts (flat_map f (take i xs))) → Begun b c (acts (f (get_or xs i d))) → Begun a c (acts (flat_map f xs))
+  begun_next {a} {b} {c} p q = subst (λ (l : List Act). Begun a c l) events_split
+      (begun_first (acts (flat_map f (drop (i + 1) xs))) (subst (λ (l : List Act). Begun a c l) (sym events_next) (begun_more p q)))
+
+-- the things so far
+pub begun_so_far : {X : Type 0} (f : X → List Event) (xs : List X) (i : ℕ) {a b : World} → Did a b (acts (flat_map f (take i xs))) → Begun a b (acts (flat_map f xs))
+begun_so_far f xs i {a} {b} p = subst (λ (l : List Act). Begun a b l)
+    (sym (acts-append (flat_map f (take i xs)) (flat_map f (drop i xs)))
+    ∙ ap acts (sym (flat_map-append f (take i xs) (drop i xs)))
+    ∙ ap (λ l. acts (flat_map f l)) (take-append-drop i xs))
+    (begun_first (acts (flat_map f (drop i xs))) (begun_whole p))
+
+-- all the things
+pub did_all : {X : Type 0} (f : X → List Event) (xs : List X) (i : ℕ) {a b : World} → length xs ≤ i → Did a b (acts (flat_map f (take i xs))) → Did a b (acts (flat_map f xs))
+did_all f xs i {a} {b} all p = subst (λ l. Did a b (acts (flat_map f l))) (take_all i xs all) p
+
+-- a list of one event
+pub did_one : {a b : World} (e : Event) → Did a b (acts_of e) → Did a b (acts (e ∷ []))
+did_one {a} {b} e p = subst (λ (l : List Act). Did a b l) (sym (append-nil (acts_of e))) p
+
+pub begun_one : {a b : World} (e : Event) → Begun a b (acts_of e) → Begun a b (acts (e ∷ []))
+begun_one {a} {b} e p = subst (λ (l : List Act). Begun a b l) (sym (append-nil (acts_of e))) p
+
+-- lists of events one after another
+pub did_then : {a b c : World} (xs ys : List Event) → Did a b (acts xs) → Did b c (acts ys) → Did a c (acts (xs ++ ys))
+did_then {a} {b} {c} xs ys p q = subst (λ (l : List Act). Did a c l) (sym (acts-append xs ys)) (did_more p q)
+
+pub begun_then : {a b c : World} (xs ys : List Event) → Did a b (acts xs) → Begun b c (acts ys) → Begun a c (acts (xs ++ ys))
+begun_then {a} {b} {c} xs ys p q = subst (λ (l : List Act). Begun a c l) (sym (acts-append xs ys)) (begun_more p q)
+
+pub begun_before : {a b : World} (xs ys : List Event) → Begun a b (acts xs) → Begun a b (acts (xs ++ ys))
+begun_before {a} {b} xs ys p = subst (λ (l : List Act). Begun a b l) (sym (acts-append xs ys)) (begun_first (acts ys) p)

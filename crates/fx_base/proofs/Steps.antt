@@ -1,0 +1,103 @@
+-- Steps of reading to the end and of writing a whole piece.
+use Rattle.std.proofs.Common.{ℕ, ◌≡◌, ◌<◌, ◌≤◌, ◌+◌, ◌-◌, ◌++◌, List, [], length, take, drop, Option, Some, zero, suc, refl, sym, ◌∙◌, ap, arith, append_assoc, length-append, length-drop}
+use Rattle.std.proofs.lemmas.List.{append-nil, take_all, length-take-le, drop-drop}
+use Rattle.std.proofs.Math.Seq.{take-add}
+use Rattle.fx_base.specs.Reading.{Takes, TakesFrom, IsAllLeft, IsOverLimit, LeavesRest}
+use Rattle.fx_base.specs.Writing.{Appends, AppendsPart}
+
+-- nothing was appended
+pub appends_none : (old : Option (List ℕ)) → Appends old old []
+appends_none old = record { told = λ text e. e ∙ ap Some (sym (append-nil text)) }
+
+-- a front part of the piece, and then a front part of the rest
+pub appends_more : (old mid new : Option (List ℕ)) (piece : List ℕ) (from n : ℕ)
+    → Appends old mid (take from piece) → Appends mid new (take n (drop from piece)) → Appends old new (take (from + n) piece)
+appends_more old mid new piece from n a b = record {
+  told = λ text e. b.told (text ++ take from piece) (a.told text e)
+      ∙ ap Some (append_assoc text (take from piece) (take n (drop from piece))
+      ∙ ap (λ (l : List ℕ). text ++ l) (sym (take-add from n piece)));
+}
+
+-- a front part of the piece, and then a call that appended nothing
+pub appends_part : (old mid new : Option (List ℕ)) (piece : List ℕ) (from : ℕ)
+    → Appends old mid (take from piece) → new ≡ mid → AppendsPart old new piece
+appends_part old mid new piece from a same = record {
+  part = from;
+  told = record { told = λ text e. same ∙ a.told text e };
+}
+
+-- what stands after these bytes of the text were read
+pub record ReadFrom (text : List ℕ) (now : Option (List ℕ)) (bytes : List ℕ) : Type 0 where
+  pub some : length bytes ≤ length text
+  pub front : bytes ≡ take (length bytes) text
+  pub rest : now ≡ Some (drop (length bytes) text)
+
+-- these bytes were read so far
+pub record HasRead (left now : Option (List ℕ)) (bytes : List ℕ) : Type 0 where
+  pub told : (text : List ℕ) → left ≡ Some text → ReadFrom text now bytes
+
+pub read_none : (left : Option (List ℕ)) → HasRead left left []
+read_none left = record { told = λ text e. record { some = omega arith; front = refl; rest = e } }
+
+pub read_more : (left mid now : Option (List ℕ)) (bytes buffer grown : List ℕ) (n : ℕ)
+    → HasRead left mid bytes → Takes mid now buffer n → n ≤ length buffer → grown ≡ bytes ++ take n buffer → HasRead left now grown
+read_more left mid now bytes buffer grown n a b within is = record {
+  told = λ text e.
+      let old : ReadFrom text mid bytes = a.told text e in
+      let new : TakesFrom (drop (length bytes) text) now buffer n = b.told (drop (length bytes) text) old.rest in
+      let there = new.some in
+      let left_over = length-drop (length bytes) text in
+      let got : length (take n buffer) ≡ n = length-take-le n buffer within in
+      let long : length grown ≡ length bytes + n =
+      ap length is ∙ length-append bytes (take n buffer) ∙ ap (λ (k : ℕ). length bytes + k) got in
+      record {
+        some = omega (arith, old.some);
+        front = is
+            ∙ ap (λ (l : List ℕ). l ++ take n buffer) old.front
+            ∙ ap (λ (l : List ℕ). take (length bytes) text ++ l) new.front
+            ∙ sym (take-add (length bytes) n text)
+            ∙ ap (λ (k : ℕ). take k text) (sym long);
+        rest = new.rest ∙ ap Some (drop-drop n (length bytes) text ∙ ap (λ (k : ℕ). drop k text) (sym long));
+      };
+}
+
+drop_nil : (n : ℕ) → drop {A = ℕ} n [] ≡ []
+drop_nil zero = refl
+drop_nil (suc n) = refl
+
+-- a read that gave nothing shows the end
+pub read_whole : (left mid now : Option (List ℕ)) (bytes buffer : List ℕ) (n limit : ℕ)
+    → HasRead left mid bytes → Takes mid now buffer n → n ≡ 0 → 0 < length buffer → length bytes ≤ limit → IsAllLeft left now limit bytes
+read_whole left mid now bytes buffer n limit a b none room within =
+    let at_end : (text : List ℕ) → left ≡ Some text → drop (length bytes) text ≡ [] =
+    λ text e. (b.told (drop (length bytes) text) (a.told text e).rest).end none room in
+    record {
+      within = within;
+      all = λ text e.
+          let left_over = length-drop (length bytes) text in
+          let gone = ap length (at_end text e) in
+          (a.told text e).front ∙ take_all (length bytes) text (omega arith);
+      end = λ text e.
+          (b.told (drop (length bytes) text) (a.told text e).rest).rest
+          ∙ ap Some (ap (drop n) (at_end text e) ∙ drop_nil n);
+    }
+
+-- more bytes than the limit were read
+pub read_over : (left now : Option (List ℕ)) (bytes : List ℕ) (limit : ℕ) → HasRead left now bytes → limit < length bytes → IsOverLimit left limit
+read_over left now bytes limit a over = record { told = λ text e. let there = (a.told text e).some in omega arith }
+
+-- what is left after the bytes that were read, also after a call that took nothing
+pub read_rest : (left mid now : Option (List ℕ)) (bytes : List ℕ) → HasRead left mid bytes → now ≡ mid → LeavesRest left now
+read_rest left mid now bytes a same = record { taken = length bytes; told = λ text e. same ∙ (a.told text e).rest }
+
+-- a slice from an index to the end
+pub slice_to_end : (xs : List ℕ) (from : ℕ) → take (length xs - from) (drop from xs) ≡ drop from xs
+slice_to_end xs from = take_all (length xs - from) (drop from xs) (let left = length-drop from xs in omega arith)
+
+-- the same after a call that took bytes
+pub read_rest_more : (left mid now : Option (List ℕ)) (bytes buffer : List ℕ) (n : ℕ)
+    → HasRead left mid bytes → Takes mid now buffer n → LeavesRest left now
+read_rest_more left mid now bytes buffer n a b = record {
+  taken = length bytes + n;
+  told = λ text e. (b.told (drop (length bytes) text) (a.told text e).rest).rest ∙ ap Some (drop-drop n (length bytes) text);
+}

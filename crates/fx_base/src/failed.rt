@@ -1,0 +1,6 @@
+use thiserror::Error;
+
+/// A call on an object outside the program failed.
+#[derive(Debug, Clone, Copy, PartialEq, Eq, Error)]
+#[error("a call on an object outside failed")]
+pub struct Failed;

@@ -1,0 +1,20 @@
+ghost use Rattle.std.specs.Prelude.{◌≡◌, ◌++◌, ℕ, List, Some};
+ghost use Rattle.fx_base.specs.Acts.{File, Event, World, Did, Begun, Stands, acts, pieces, files_of};
+
+/// All acts of events append their pieces to the listing, and their files to the shelf.
+pub fn all_acts_in_words()
+    ensures { (events : List Event) (text : List ℕ) (files : List File) (old now : World)
+        → old.written ≡ Some text
+        → old.files ≡ Some files
+        → Did old now (acts events)
+        → (now.written ≡ Some (text ++ pieces events)) × (now.files ≡ Some (files ++ files_of events)) }
+{}
+
+/// A front part of the acts of events is some whole events and a front part of the next.
+pub fn front_part_in_words()
+    ensures { (events : List Event) (text : List ℕ) (files : List File) (old now : World)
+        → old.written ≡ Some text
+        → old.files ≡ Some files
+        → Begun old now (acts events)
+        → Stands events text files now }
+{}

@@ -1,0 +1,21 @@
+ghost use Rattle.std.specs.Prelude.{◌≡◌, ◌≤◌, ℕ, List, length, Option, IfOk, OnErr};
+ghost use Rattle.fx_base.specs.Faults.{HasCause};
+ghost use Rattle.fx_base.specs.Reading.{Takes};
+
+use crate::failed::Failed;
+
+/// Bytes that come in.
+pub trait Source {
+    /// The bytes that are left, where the source tells them.
+    ghost left: { Self → Option (List ℕ) };
+
+    /// How many calls failed.
+    ghost faults: { Self → ℕ };
+
+    /// Puts bytes at the front of `to`, and answers how many. None for a nonempty `to` is the end.
+    fn read(&mut self, to: &mut [u8]) -> Result<usize, Failed>
+        ensures within { IfOk result (λ n. n ≤ length to.new) }
+        ensures taken { IfOk result (λ n. Takes (left self.old) (left self.new) to.new n) }
+        ensures failed { OnErr result (left self.new ≡ left self.old) }
+        ensures cause { HasCause (faults self.old) (faults self.new) result };
+}

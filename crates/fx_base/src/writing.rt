@@ -1,0 +1,53 @@
+ghost use Rattle.std.specs.Prelude.{◌≡◌, ◌≤◌, length, map, true, false, OnOk};
+ghost use Rattle.fx_base.specs.Faults.{HasCause};
+ghost use Rattle.fx_base.specs.Writing.{Appends, AppendsPart};
+ghost use Rattle.fx_base.specs.Acts.{Shelves, ShelvesPart, acts_of, WholeFile, FileByte};
+
+use crate::failed::Failed;
+use crate::shelf::Shelf;
+use crate::sink::Sink;
+
+/// Writes the whole piece. After a failed call a front part of it was appended, and no further call
+/// is made.
+pub fn write_all<K: Sink>(sink: &mut K, piece: &[u8]) -> Result<(), Failed>
+    ensures done { OnOk result (Appends (K.written sink.old) (K.written sink.new) piece.now) }
+    ensures part { AppendsPart (K.written sink.old) (K.written sink.new) piece.now }
+    ensures cause { HasCause (K.faults sink.old) (K.faults sink.new) result }
+{
+    let mut from = 0;
+    while from < piece.len() {
+        from += sink.write(&piece[from..])?;
+    }
+    Ok(())
+}
+
+/// Shelves a whole file, ended. After a failed call a front part of its acts was done, and no
+/// further call is made.
+pub fn shelve<F: Shelf>(shelf: &mut F, name: &[u8], content: &[u8]) -> Result<(), Failed>
+    requires none { F.begun shelf.old ≡ false }
+    requires name { (1 ≤ length name.now) × (length name.now ≤ 64) }
+    ensures done { OnOk result (Shelves (F.files shelf.old) (F.files shelf.new) (acts_of (WholeFile name.now content.now))) }
+    ensures state { OnOk result (F.begun shelf.new ≡ false) }
+    ensures part { ShelvesPart (F.files shelf.old) (F.files shelf.new) (acts_of (WholeFile name.now content.now)) }
+    ensures cause { HasCause (F.faults shelf.old) (F.faults shelf.new) result }
+{
+    shelf.begin(name)?;
+    fill(shelf, content)?;
+    shelf.end()?;
+    Ok(())
+}
+
+/// Gives the file that is begun these bytes.
+fn fill<F: Shelf>(shelf: &mut F, content: &[u8]) -> Result<(), Failed>
+    requires { F.begun shelf.old ≡ true }
+    ensures done { OnOk result (Shelves (F.files shelf.old) (F.files shelf.new) (map FileByte content.now)) }
+    ensures state { OnOk result (F.begun shelf.new ≡ true) }
+    ensures part { ShelvesPart (F.files shelf.old) (F.files shelf.new) (map FileByte content.now) }
+    ensures cause { HasCause (F.faults shelf.old) (F.faults shelf.new) result }
+{
+    let mut from = 0;
+    while from < content.len() {
+        from += shelf.write(&content[from..])?;
+    }
+    Ok(())
+}
