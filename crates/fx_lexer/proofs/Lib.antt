@@ -1,0 +1,4 @@
+mod Examples
+pub mod NextByte
+pub mod NextPlace
+pub mod NextItem

@@ -1,0 +1,21 @@
+use Rattle.std.proofs.Common.{◌≤◌, ◌+◌, length, sym, refl, ap, ◌∙◌, arith}
+use Rattle.std.proofs.lemmas.List.{take_rest, length-drop}
+use Rattle.fx_lexer.specs.Lexing.{in_front}
+use Rattle.fx_lexer.proofs.NextItem.{item_read, in_front_twice}
+use Rattle.fx_lexer.proofs.lexing.lex.Goals as goal
+
+pub loop-at-preserved : goal.loop-at-preserved
+loop-at-preserved c =
+    let text = c.args.text.now in
+    let at = c.loop-at.at in
+    let it = c.in-Ok.item in
+    let is = rw (take_rest text at) at (sym c.in-Ok.ensures.value) in
+    let inside = rw (take_rest text at, length-drop) at c.in-Ok.ensures.bound.1 in
+    let fits : at + it.length ≤ length text = omega arith in (
+      fits,
+      c.moved-place.ensures,
+      c.loop-at.invariant.2
+          ∙ ap (λ r. in_front c.loop-at.tokens r) (item_read text c.loop-at.start at it is c.in-Ok.ensures.bound.0 fits)
+          ∙ in_front_twice c.loop-at.tokens _ _
+          ∙ rw (c.in_ok-keep-in-Ok.ensures, c.loop-at.invariant.1, c.starts_after-start.ensures) refl,
+    )

@@ -1,0 +1,5 @@
+pub mod Bytes
+pub mod Extents
+pub mod Items
+pub mod Places
+pub mod Lexing
