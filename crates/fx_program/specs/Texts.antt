@@ -1,0 +1,103 @@
+-- The texts that are read so far: one step of two-level factors with a fixed size and a resolution.
+use Rattle.std.specs.Prelude.{ℕ, ◌-◌, ◌+◌, ◌*◌, ◌==◌, ◌≤◌, ◌&&◌, ◌||◌, not, nat_lt, nat_le, Bool, true, false, if◌then◌else◌, List, [], ◌∷◌, map, length, take, drop, Option, Some, None, Result, Ok, Err, codes}
+use Rattle.std.specs.List.{list_any, list_all, prefix_len}
+use Rattle.std.specs.Str.{str_eq_ignore_ascii_case, bytes_eq}
+use Rattle.fx_lexer.specs.declared.token.Token.{Token}
+use Rattle.fx_lexer.specs.declared.token.LexFault.{LexFault}
+use Rattle.fx_lexer.specs.Lexing.{lexed}
+use Rattle.fx_program.specs.declared.reading.Step.{Step}
+
+-- the text of a token
+abbrev pub word_of : List ℕ → Token → List ℕ
+word_of text t = take (t.upto - t.from) (drop t.from text)
+
+abbrev pub words_of : List ℕ → List Token → List (List ℕ)
+words_of text tokens = map (λ t. word_of text t) tokens
+
+-- a token's text lies in a text of n bytes
+pub record IsWithin (n : ℕ) (t : Token) : Type 0 where
+  pub order : t.from ≤ t.upto
+  pub end : t.upto ≤ n
+
+infixl 10 ◌>>=◌
+abbrev pub ◌>>=◌ : {A B : Type 0} → Option A → (A → Option B) → Option B
+(Some x) >>= f = f x
+None >>= f = None
+
+-- the words behind these keywords, where the words begin with them, in capitals or small letters
+abbrev pub after : List (List ℕ) → List (List ℕ) → Option (List (List ℕ))
+after [] words = Some words
+after (k ∷ keywords) [] = None
+after (k ∷ keywords) (w ∷ words) = if str_eq_ignore_ascii_case w k then after keywords words else None
+
+-- a name begins with a letter or `_`
+abbrev pub begins_name : ℕ → Bool
+begins_name b = (nat_le 65 b && nat_le b 90) || ((nat_le 97 b && nat_le b 122) || (b == 95))
+
+abbrev pub is_name : List ℕ → Bool
+is_name [] = false
+is_name (b ∷ w) = begins_name b
+
+-- no two of the words are the same, in capitals or small letters
+abbrev pub are_different : List (List ℕ) → Bool
+are_different [] = true
+are_different (w ∷ words) = not (list_any (λ other. str_eq_ignore_ascii_case w other) words) && are_different words
+
+-- one to eight names, no two the same
+unfoldable pub are_names : List (List ℕ) → Bool
+are_names words = (nat_le 1 (length words) && nat_le (length words) 8) && (list_all is_name words && are_different words)
+
+-- how many words stand before the first semicolon
+abbrev pub before_semicolon : List (List ℕ) → ℕ
+before_semicolon words = prefix_len (λ w. not (bytes_eq w (codes ";"))) words
+
+-- the m of a number of runs, 2^m
+unfoldable pub run_indexes : List ℕ → Option ℕ
+run_indexes w =
+    if bytes_eq w (codes "2") then Some 1 else (
+    if bytes_eq w (codes "4") then Some 2 else (
+    if bytes_eq w (codes "8") then Some 3 else (
+    if bytes_eq w (codes "16") then Some 4 else None)))
+
+-- a number from 3 to 99, without leading zeros
+unfoldable pub resolution : List ℕ → Option ℕ
+resolution [] = None
+resolution (a ∷ []) = if nat_le 51 a && nat_le a 57 then Some (a - 48) else None
+resolution (a ∷ b ∷ []) = if (nat_le 49 a && nat_le a 57) && (nat_le 48 b && nat_le b 57) then Some ((a - 48) * 10 + (b - 48)) else None
+resolution (a ∷ b ∷ c ∷ w) = None
+
+-- the first word and the others
+abbrev pub first_word : List (List ℕ) → Option (List ℕ)
+first_word [] = None
+first_word (w ∷ words) = Some w
+
+-- the names, where the words before the first semicolon are names
+abbrev pub names_in : List (List ℕ) → Option (List (List ℕ))
+names_in words = if are_names (take (before_semicolon words) words) then Some (take (before_semicolon words) words) else None
+
+-- `proc factex; factors <names>; size design=<runs>; model resolution=<r>; run;`
+unfoldable pub step_in : List (List ℕ) → Option Step
+step_in words = do
+  listed ← after (codes "proc" ∷ codes "factex" ∷ codes ";" ∷ codes "factors" ∷ []) words
+  names ← names_in listed
+  sized ← after (codes ";" ∷ codes "size" ∷ codes "design" ∷ codes "=" ∷ []) (drop (length names) listed)
+  runs ← first_word sized
+  m ← run_indexes runs
+  modelled ← after (codes ";" ∷ codes "model" ∷ codes "resolution" ∷ codes "=" ∷ []) (drop 1 sized)
+  wanted ← first_word modelled
+  r ← resolution wanted
+  rest ← after (codes ";" ∷ codes "run" ∷ codes ";" ∷ []) (drop 1 modelled)
+  if length rest == 0 then Some (record { factors = names; m = m; r = r }) else None
+
+-- the step of a text's tokens, where it has no lexical fault
+abbrev pub step_of_tokens : List ℕ → Result (List Token) LexFault → Option Step
+step_of_tokens text (Ok tokens) = step_in (words_of text tokens)
+step_of_tokens text (Err fault) = None
+
+-- whether a comment may stand in the text: comments are not read so far
+abbrev pub has_comment_sign : List ℕ → Bool
+has_comment_sign text = list_any (λ b. (b == 47) || (b == 42)) text
+
+-- the step of a text of at most 1,048,576 bytes, where it has the form that is read so far
+unfoldable pub step_of : List ℕ → Option Step
+step_of text = if nat_lt 1048576 (length text) || has_comment_sign text then None else step_of_tokens text (lexed text)
