@@ -1,0 +1,28 @@
+ghost use Rattle.std.specs.Prelude.{◌≡◌, IsTrue};
+ghost use Rattle.fx_designs.specs.Galois.{is_order};
+
+use fx_galois::Field;
+
+/// The dimensions of a design. Its runs are q^m, at most 1,024; it has 1 to 40 factors, or 1 to 30
+/// where it has block factors.
+#[derive(Clone, Copy, Debug, PartialEq, Eq)]
+pub struct Shape {
+    /// Levels of a factor: 2, 3, 4, 5, 7, 8 or 9.
+    pub q: u8,
+    /// Run indexes, at least 1.
+    pub m: u8,
+    /// Factors.
+    pub s: u8,
+    /// Block factors, 0 to 10.
+    pub t: u8,
+}
+
+impl Shape {
+    /// The field of the levels.
+    pub fn field(&self) -> Field
+        requires { IsTrue (is_order self.now.q) }
+        ensures { result ≡ self.now.q }
+    {
+        Field::of(self.q).unwrap()
+    }
+}
