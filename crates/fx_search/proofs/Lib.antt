@@ -1,1 +1,3 @@
 pub mod Walks
+mod Judging
+mod Points

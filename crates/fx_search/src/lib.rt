@@ -1,2 +1,6 @@
 //! The search for the first design of a question.
 #![tactic(auto)]
+
+mod judge;
+
+pub use judge::meets;
