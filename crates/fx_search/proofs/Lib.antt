@@ -1,3 +1,5 @@
 pub mod Walks
+mod Answer
 mod Judging
 mod Points
+mod Steps

@@ -2,5 +2,7 @@
 #![tactic(auto)]
 
 mod judge;
+mod walk;
+
 
 pub use judge::meets;
