@@ -1,6 +1,7 @@
 //! The program: its words, its text, its listing, and the call that does it all.
 #![tactic(auto)]
 
+mod listing;
 mod reading;
 mod words;
 
