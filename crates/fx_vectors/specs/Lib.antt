@@ -3,3 +3,5 @@ pub use Rattle.fx_designs.specs.Vectors
 pub use Rattle.fx_designs.specs.Problems
 pub mod Shape
 pub mod Matrix
+pub mod Effects
+pub mod Question

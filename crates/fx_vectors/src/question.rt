@@ -1,0 +1,27 @@
+use crate::effect::Effects;
+use crate::shape::Shape;
+
+/// What a design is to separate.
+#[derive(Debug, Drop)]
+pub enum Demands {
+    /// Every vector over the factors of less weight than `r`, from 3 to 99, is balanced.
+    Resolution {
+        r: u8,
+    },
+    /// The effects of `estimate` can be told from one another and from those of `nonnegligible`.
+    /// Both lists are in effect order: fewer factors first, then by the factors' positions.
+    Effects {
+        estimate: Effects,
+        nonnegligible: Effects,
+    },
+}
+
+/// What is asked of the designs of a shape.
+#[derive(Debug, Drop)]
+pub struct Question {
+    pub shape: Shape,
+    pub demands: Demands,
+    /// Whether the word-length pattern is to be least, which is asked only under a resolution and
+    /// without block factors.
+    pub least: bool,
+}
