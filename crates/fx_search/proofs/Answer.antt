@@ -13,6 +13,8 @@ use Rattle.fx_laws.specs.Meets.{MeetsResolution}
 use Rattle.fx_laws.proofs.CanonicalTest.{canonical_decides}
 use Rattle.fx_laws.proofs.Judging.{met_decides}
 use Rattle.fx_laws.proofs.Order.{lists-sorted, all_lists, IsIn, first_found, none_found, find-filter}
+use Rattle.fx_vectors.specs.Question.{problem_of, requirement_of}
+use Rattle.fx_vectors.specs.declared.question.Question.{Question}
 use Rattle.fx_search.specs.Plain.{IsCandidate, IsFirst}
 
 module _ (q : ℕ) (f : IsField q) (m s r : ℕ) where
@@ -52,3 +54,8 @@ module _ (q : ℕ) (f : IsField q) (m s r : ℕ) where
 
   pub answer-none : ((rows : List ℕ) → IsCandidate q m s r rows → ⊥) → answer asked ≡ None
   answer-none none = answer-find ∙ none_found (is_design asked) (prefixes asked) (λ rows design. none rows (design_candidate rows design))
+
+-- the problem of a question without blocks and without a least pattern
+pub problem-asked : (question : Question) (r : ℕ) → (f : IsField question.shape.q) → question.shape.t ≡ 0 → requirement_of question.demands ≡ AtResolution r → question.least ≡ false
+    → problem_of question ≡ asked question.shape.q f question.shape.m question.shape.s r
+problem-asked question r f none wanted plain = rw (none, wanted, plain) refl

@@ -142,8 +142,12 @@ module _ (q : ℕ) (f : IsField q) (m s r : ℕ) where
     | inl more ↦
         let e : k + 0 ≡ k = omega arith in
         let first : x ≡ unit m k = subst (λ z. x ≡ unit m z) e (units 0 (omega arith) (omega arith)) in
-        inr (omega arith, first, formed_units (suc k) n rows hr.1 within (omega arith) (omega arith) (λ h. past (omega arith)) (λ i h h'.
-        let e' : k + suc i ≡ suc k + i = omega arith in subst (λ z. row rows i ≡ unit m z) e' (units (suc i) (omega arith) (omega arith))))
+        inr (
+          omega arith,
+          first,
+          formed_units (suc k) n rows hr.1 within (omega arith) (omega arith) (λ h. past (omega arith)) (λ i h h'.
+              let e' : k + suc i ≡ suc k + i = omega arith in subst (λ z. row rows i ≡ unit m z) e' (units (suc i) (omega arith) (omega arith))),
+        )
     | inr same ↦
         let whole : n ≡ m = past (omega arith) in
         let at : m ≡ k = omega arith in
