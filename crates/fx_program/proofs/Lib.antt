@@ -1,2 +1,3 @@
 mod Wording
 mod Keywords
+mod Products

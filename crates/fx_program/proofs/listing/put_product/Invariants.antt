@@ -1,0 +1,6 @@
+use Rattle.std.proofs.Common.{◌≡◌, ◌++◌, drop, true}
+use Rattle.fx_program.specs.Listing.{ending, terms, product}
+use Rattle.fx_program.proofs.listing.put_product.Given as goal
+
+abbrev pub invariant-loop-i : goal.invariant-loop-i
+invariant-loop-i l = l.out ++ ending l.is_first (terms (drop l.i l.names) (drop l.i l.u)) ≡ l.initial.out ++ product l.names l.u
