@@ -1,3 +1,4 @@
 mod Wording
 mod Keywords
 mod Products
+mod Endings

@@ -3,7 +3,9 @@
 
 mod listing;
 mod reading;
+mod run;
 mod words;
 
-pub use reading::{Names, Step};
+pub use reading::{Names, Step, read_step};
+pub use run::factex;
 pub use words::{Settings, WordFault, read_words};

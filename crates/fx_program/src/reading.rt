@@ -1,7 +1,8 @@
 ghost use Rattle.std.specs.Prelude.{◌≡◌, ◌↔◌, ◌≤◌, ◌&&◌, [], ◌∷◌, IsTrue, All, IfOk, IfSome, IfNone, None, Some, Option, map, length, take, drop, codes};
 ghost use Rattle.std.specs.Option.{option_map};
 ghost use Rattle.std.specs.Str.{str_eq_ignore_ascii_case};
-ghost use Rattle.fx_program.specs.Texts.{IsWithin, word_of, words_of, after, is_name, are_different, are_names, before_semicolon, run_indexes, resolution};
+ghost use Rattle.fx_program.specs.Texts.{IsWithin, word_of, words_of, after, is_name, are_different, are_names, before_semicolon, run_indexes, resolution, step_of};
+ghost use Rattle.fx_program.specs.Output.{IsStep};
 
 use fx_base::{Bytes, Items, NoMemory};
 use fx_lexer::{LexStop, Token, lex};
@@ -63,4 +64,13 @@ fn after<'a>(text: &[u8], tokens: &'a [Token], keywords: &[&[u8]]) -> Option<&'a
         }
     }
     Some(rest)
+}
+
+/// The step of a text of at most 1,048,576 bytes, where it has the form that is read so far.
+pub fn read_step(alloc: Global, text: &[u8]) -> Result<Option<Step>, NoMemory>
+    requires { length text.now ≤ 1048576 }
+    ensures step { IfOk result (λ step. step ≡ step_of text.now) }
+    ensures valid { IfOk result (λ step. IfSome step IsStep) }
+{
+    Err(NoMemory)
 }

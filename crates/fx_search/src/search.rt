@@ -1,4 +1,4 @@
-ghost use Rattle.std.specs.Prelude.{◌≡◌, ◌^◌, ◌≤◌, IfOk, IfSome, IsTrue};
+ghost use Rattle.std.specs.Prelude.{◌≡◌, ◌^◌, ◌≤◌, IfOk, IfSome, IsTrue, length};
 ghost use Rattle.std.specs.Option.{option_map};
 ghost use Rattle.fx_designs.specs.Problems.{AtResolution};
 ghost use Rattle.fx_designs.specs.Answers.{answer};
@@ -17,6 +17,7 @@ pub fn first(question: &Question) -> Result<Option<Matrix>, NoMemory>
     requires { IsSmall question.now }
     ensures answer { IfOk result (λ found. option_map (λ x. x.rows) found ≡ answer (problem_of question.now)) }
     ensures shape { IfOk result (λ found. IfSome found (λ x. x.shape ≡ question.now.shape)) }
+    ensures complete { IfOk result (λ found. IfSome found (λ x. length x.rows ≡ question.now.shape.s)) }
 {
     let shape = question.shape;
     let r = resolution(&question.demands);

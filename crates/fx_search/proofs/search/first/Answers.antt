@@ -55,6 +55,9 @@ returns-then-walk-clause-answer c =
     sym (ap answer (problem-asked c.args.question.now c.resolution-r.result f c.requires.no_blocks c.resolution-r.ensures c.requires.not_least)
     ∙ answer-first q f c.args.question.now.shape.m c.args.question.now.shape.s c.resolution-r.result c.requires.valid.shaped.some_factors c.walk.new.prefix.rows first)
 
+pub returns-then-walk-clause-complete : goal.returns-then-walk-clause-complete
+returns-then-walk-clause-complete c = c.if-walk.ensures.found.holds.complete ∙ ap (λ (z : Shape). z.s) c.loop.invariant.shape
+
 pub returns-else-walk-clause-answer : goal.returns-else-walk-clause-answer
 returns-else-walk-clause-answer c =
     let q : ℕ = c.args.question.now.shape.q in
