@@ -2,6 +2,8 @@
 #![tactic(auto)]
 
 mod failed;
+mod file_bounds;
+mod file_buffer;
 mod items;
 mod laws;
 mod memory;
@@ -9,6 +11,7 @@ mod reading;
 mod shelf;
 mod sink;
 mod source;
+mod sure_shelf;
 mod sure_sink;
 mod text;
 mod values;
@@ -22,6 +25,7 @@ pub use reading::{ReadStop, Taken, read_all};
 pub use shelf::Shelf;
 pub use sink::Sink;
 pub use source::Source;
+pub use sure_shelf::SureShelf;
 pub use sure_sink::SureSink;
 pub use text::{put, put_number};
 pub use values::{Bytes, Values};
