@@ -1,5 +1,6 @@
 -- What contracts see of the sources, sinks and shelves in memory.
-use Rattle.std.specs.Prelude.{ℕ, ◌≡◌, ◌<◌, ◌≤◌, ◌+◌, min, List, [], ◌∷◌, length, Bool, false, not}
+use Rattle.std.specs.Prelude.{ℕ, ◌≡◌, ◌<◌, ◌≤◌, ◌+◌, min, List, [], ◌∷◌, length, Bool, false, not, Contains}
+use Rattle.fx_base.specs.Faults.{raised}
 use Rattle.fx_base.specs.Acts.{File}
 
 -- a sink in memory: what was written, how many bytes a call takes at most, how many find room, how many calls failed
@@ -53,3 +54,38 @@ pub record IsSureShelf (files : List File) (step room faults : ℕ) : Type 0 whe
 pub record SourceInMemory : Type 0 where
   pub left : List ℕ
   pub step : ℕ
+
+-- the numbers of the calls that are to fail, counted from 1, and how many calls were made
+pub record CallsMade : Type 0 where
+  pub failing : List ℕ
+  pub made : ℕ
+
+-- the next call is one of those that are to fail
+abbrev pub IsListed : List ℕ → ℕ → Type 0
+IsListed failing made = Contains failing (raised made)
+
+-- a source in memory some of whose calls fail
+pub record FailingSource : Type 0 where
+  pub left : List ℕ
+  pub step : ℕ
+  pub failing : List ℕ
+  pub made : ℕ
+  pub faults : ℕ
+
+-- a sink in memory some of whose calls fail, beside those without room
+pub record FailingSink : Type 0 where
+  pub written : List ℕ
+  pub step : ℕ
+  pub room : ℕ
+  pub failing : List ℕ
+  pub made : ℕ
+  pub faults : ℕ
+
+-- a shelf in memory some of whose calls fail, beside those without room
+pub record FailingShelf : Type 0 where
+  pub files : List File
+  pub step : ℕ
+  pub room : ℕ
+  pub failing : List ℕ
+  pub made : ℕ
+  pub faults : ℕ

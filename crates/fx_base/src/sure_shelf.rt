@@ -100,6 +100,7 @@ impl Shelf for SureShelf {
 
         ensures full { IsErr result ↔ (self.old.room < room_of self.old.files + 64) }
         ensures after { OnOk result (self.new ≡ record self.old { files = shelved (BeginFile name.now ∷ []) self.old.files }) }
+        ensures room { OnOk result (room_of self.new.files ≡ room_of self.old.files + 64) }
         ensures fault { OnErr result (self.new ≡ record self.old { faults = raised self.old.faults }) }
     {
         if self.buffer.left() < FILE_ROOM {
@@ -122,6 +123,7 @@ impl Shelf for SureShelf {
         ensures full { IsErr result ↔ ((0 < length piece.now) × (room_of self.old.files ≡ self.old.room)) }
         ensures count { IfOk result (λ n. n ≡ portion self.old.step (self.old.room - room_of self.old.files) (length piece.now)) }
         ensures after { IfOk result (λ n. self.new ≡ record self.old { files = shelved (map FileByte (take n piece.now)) self.old.files }) }
+        ensures room { IfOk result (λ n. room_of self.new.files ≡ room_of self.old.files + n) }
         ensures fault { OnErr result (self.new ≡ record self.old { faults = raised self.old.faults }) }
     {
         let count = self.step.min(self.buffer.left()).min(piece.len());
@@ -142,6 +144,7 @@ impl Shelf for SureShelf {
 
         ensures never { IsOk result }
         ensures after { self.new ≡ record self.old { files = shelved (EndFile ∷ []) self.old.files } }
+        ensures room { room_of self.new.files ≡ room_of self.old.files }
     {
         self.buffer.end();
         Ok(())
