@@ -4,54 +4,11 @@ use Rattle.std.proofs.lemmas.List.{take_all, take-append-le, drop-append-le, map
 use Rattle.std.proofs.Math.Seq.{drop-append_seam}
 use Rattle.std.proofs.lemmas.Option.{slice_get-map, slice_get-get_or}
 use Rattle.fx_base.specs.declared.file_bounds.FileBounds.{FileBounds}
-use Rattle.fx_base.specs.Acts.{File, shelved, FileByte, EndFile, on_last, with_byte, as_ended}
-use Rattle.fx_base.specs.Memory.{has_open, room_of}
+use Rattle.fx_base.specs.Acts.{File, shelved, FileByte, EndFile, as_ended}
+use Rattle.fx_base.specs.Memory.{room_of}
 use Rattle.fx_base.specs.FileBounds.{file_at, IsWithin, AllWithin, LastEndsAt, IsFileBuffer}
+use Rattle.fx_base.proofs.Room.{room_of-snoc}
 use Rattle.fx_base.proofs.Words.{shelved-content, on_last-at}
-
--- lists of files with one more at the end
-pub room_of-snoc : (files : List File) (f : File) → room_of (files ++ f ∷ []) ≡ room_of files + (64 + length f.content)
-room_of-snoc [] f = omega arith
-room_of-snoc (g ∷ files) f = let rest = room_of-snoc files f in omega arith
-
-pub has_open-snoc : (files : List File) (f : File) → has_open (files ++ f ∷ []) ≡ not f.ended
-has_open-snoc [] f = refl
-has_open-snoc (g ∷ []) f = refl
-has_open-snoc (g ∷ h ∷ files) f = has_open-snoc (h ∷ files) f
-
--- the last file given bytes, or ended
-begun_byte : (byte : ℕ) (files : List File) → has_open (on_last (with_byte byte) files) ≡ has_open files
-begun_byte byte [] = refl
-begun_byte byte (f ∷ []) = refl
-begun_byte byte (f ∷ g ∷ []) = refl
-begun_byte byte (f ∷ g ∷ h ∷ files) = begun_byte byte (g ∷ h ∷ files)
-
-room_byte : (byte : ℕ) (files : List File) → has_open files ≡ true → room_of (on_last (with_byte byte) files) ≡ room_of files + 1
-room_byte byte [] begun = cc
-room_byte byte (f ∷ []) begun = let long = length-append f.content (byte ∷ []) in omega arith
-room_byte byte (f ∷ g ∷ files) begun = let rest = room_byte byte (g ∷ files) begun in omega arith
-
-pub begun_bytes : (bytes : List ℕ) (files : List File) → has_open (shelved (map FileByte bytes) files) ≡ has_open files
-begun_bytes [] files = refl
-begun_bytes (byte ∷ bytes) files = begun_bytes bytes (on_last (with_byte byte) files) ∙ begun_byte byte files
-
-pub room_bytes : (bytes : List ℕ) (files : List File) → has_open files ≡ true → room_of (shelved (map FileByte bytes) files) ≡ room_of files + length bytes
-room_bytes [] files begun = omega arith
-room_bytes (byte ∷ bytes) files begun =
-    let one = room_byte byte files begun in
-    let rest = room_bytes bytes (on_last (with_byte byte) files) (begun_byte byte files ∙ begun) in
-    omega arith
-
-pub open_ended : (files : List File) → has_open (on_last as_ended files) ≡ false
-open_ended [] = refl
-open_ended (f ∷ []) = refl
-open_ended (f ∷ g ∷ []) = refl
-open_ended (f ∷ g ∷ h ∷ files) = open_ended (g ∷ h ∷ files)
-
-pub room_ended : (files : List File) → room_of (on_last as_ended files) ≡ room_of files
-room_ended [] = refl
-room_ended (f ∷ []) = refl
-room_ended (f ∷ g ∷ files) = let rest = room_ended (g ∷ files) in omega arith
 
 -- bounds with one more at the end
 pub last_of : (n : ℕ) (front : List FileBounds) (b : FileBounds) → LastEndsAt n (front ++ b ∷ []) → b.end ≡ n
@@ -296,7 +253,7 @@ file_here : (buffer : List ℕ) (bounds : List FileBounds) (i : ℕ) (b : FileBo
 file_here buffer bounds i b there is = slice_get-map (file_at buffer) bounds i
     ∙ ap (option_map (file_at buffer)) (slice_get-get_or bounds i b there ∙ ap Some (sym is))
 
--- its name, its content or its end
+-- its name, its content, or whether it is ended
 pub part_here : {T : Type 0} (of : File → T) (buffer : List ℕ) (bounds : List FileBounds) (i : ℕ) (b : FileBounds) → i < length bounds → b ≡ get_or bounds i b
     → slice_get (map of (map (file_at buffer) bounds)) i ≡ Some (of (file_at buffer b))
 part_here of buffer bounds i b there is = slice_get-map of (map (file_at buffer) bounds) i ∙ ap (option_map of) (file_here buffer bounds i b there is)

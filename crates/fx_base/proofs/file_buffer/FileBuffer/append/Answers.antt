@@ -1,7 +1,8 @@
 use Rattle.std.proofs.Common.{◌≡◌, ◌≤◌, ◌+◌, ◌++◌, ◌∷◌, [], List, sym, ◌∙◌, ap, arith, rules}
 use Rattle.fx_base.specs.Acts.{File}
 use Rattle.fx_base.specs.Memory.{FilesInMemory, has_open, room_of}
-use Rattle.fx_base.proofs.Flat.{append_keeps, files_longer, last_of, begun_bytes, room_bytes}
+use Rattle.fx_base.proofs.Flat.{append_keeps, files_longer, last_of}
+use Rattle.fx_base.proofs.Room.{begun_bytes, room_bytes}
 use Rattle.fx_base.proofs.file_buffer.FileBuffer.append.Goals as goal
 
 pub invariant_of-self : goal.invariant_of-self

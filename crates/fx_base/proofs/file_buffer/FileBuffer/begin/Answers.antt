@@ -1,7 +1,8 @@
 use Rattle.std.proofs.Common.{◌≡◌, ◌≤◌, ◌+◌, ◌++◌, ◌∷◌, [], false, List, sym, ◌∙◌, ap, arith, rules}
 use Rattle.fx_base.specs.Acts.{File}
 use Rattle.fx_base.specs.Memory.{FilesInMemory, has_open, room_of}
-use Rattle.fx_base.proofs.Flat.{begin_keeps, files_begun, has_open-snoc, room_of-snoc}
+use Rattle.fx_base.proofs.Flat.{begin_keeps, files_begun}
+use Rattle.fx_base.proofs.Room.{has_open-snoc, room_of-snoc}
 use Rattle.fx_base.proofs.file_buffer.FileBuffer.begin.Goals as goal
 
 pub invariant_of-self : goal.invariant_of-self

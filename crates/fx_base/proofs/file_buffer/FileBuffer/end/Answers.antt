@@ -1,7 +1,8 @@
 use Rattle.std.proofs.Common.{◌≡◌, ◌≤◌, ◌+◌, ◌++◌, ◌∷◌, [], List, sym, ◌∙◌, ap, arith, rules}
 use Rattle.fx_base.specs.Acts.{File}
 use Rattle.fx_base.specs.Memory.{FilesInMemory, has_open, room_of}
-use Rattle.fx_base.proofs.Flat.{end_keeps, files_closed, open_ended, room_ended}
+use Rattle.fx_base.proofs.Flat.{end_keeps, files_closed}
+use Rattle.fx_base.proofs.Room.{open_ended, room_ended}
 use Rattle.fx_base.proofs.file_buffer.FileBuffer.end.Goals as goal
 
 pub invariant_of-self : goal.invariant_of-self
