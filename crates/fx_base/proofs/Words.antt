@@ -4,7 +4,7 @@ use Rattle.std.proofs.lemmas.List.{append-nil, take_all}
 use Rattle.fx_base.specs.Acts.{Act, ListByte, BeginFile, FileByte, EndFile, File, listed, on_last, with_byte, as_ended, shelved, Event, Piece, WholeFile, acts_of, acts, pieces, files_of, whole_file, HasCome, at_start, in_piece, in_file, past_piece, past_file}
 use Rattle.fx_base.proofs.Doing.{listed-append, shelved-append, listed-bytes, shelved-bytes, listed-file}
 
-on_last-at : (change : File → File) (files : List File) (f : File) → on_last change (files ++ f ∷ []) ≡ files ++ change f ∷ []
+pub on_last-at : (change : File → File) (files : List File) (f : File) → on_last change (files ++ f ∷ []) ≡ files ++ change f ∷ []
 on_last-at change [] f = refl
 on_last-at change (g ∷ []) f = refl
 on_last-at change (g ∷ h ∷ files) f = ap (λ (l : List File). g ∷ l) (on_last-at change (h ∷ files) f)

@@ -1,5 +1,6 @@
 pub mod Acts
 pub mod Faults
+pub mod FileBounds
 pub mod Memory
 pub mod Reading
 pub mod Writing

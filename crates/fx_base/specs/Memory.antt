@@ -1,5 +1,7 @@
 -- What contracts see of the sources, sinks and shelves in memory.
-use Rattle.std.specs.Prelude.{ℕ, ◌≡◌, ◌<◌, ◌≤◌, min, List}
+use Rattle.std.specs.Prelude.{ℕ, ◌≡◌, ◌<◌, ◌≤◌, ◌+◌, min, List, [], ◌∷◌, length, Bool, false, not, Contains}
+use Rattle.fx_base.specs.Faults.{raised}
+use Rattle.fx_base.specs.Acts.{File}
 
 -- a sink in memory: what was written, how many bytes a call takes at most, how many find room, how many calls failed
 pub record SinkInMemory : Type 0 where
@@ -18,3 +20,72 @@ pub record IsSureSink (len capacity step room faults : ℕ) : Type 0 where
   pub reserved : room ≤ capacity
   pub steps : 0 < step
   pub sure : len < room → faults ≡ 0
+
+-- files in memory, and the room for them
+pub record FilesInMemory : Type 0 where
+  pub files : List File
+  pub room : ℕ
+
+-- a shelf in memory: its files, how many bytes a call takes at most, how many find room, how many calls failed
+pub record ShelfInMemory : Type 0 where
+  pub files : List File
+  pub step : ℕ
+  pub room : ℕ
+  pub faults : ℕ
+
+-- whether the last file is begun and not ended
+abbrev pub has_open : List File → Bool
+has_open [] = false
+has_open (file ∷ []) = not file.ended
+has_open (file ∷ next ∷ files) = has_open (next ∷ files)
+
+-- the room that files take: 64 bytes each, and one for each byte of content
+abbrev pub room_of : List File → ℕ
+room_of [] = 0
+room_of (file ∷ files) = 64 + length file.content + room_of files
+
+-- while a file could be begun no call has failed
+pub record IsSureShelf (files : List File) (step room faults : ℕ) : Type 0 where
+  pub within : room_of files ≤ room
+  pub steps : 0 < step
+  pub sure : room_of files + 64 ≤ room → faults ≡ 0
+
+-- a source in memory: what is left, and how many bytes a call gives at most
+pub record SourceInMemory : Type 0 where
+  pub left : List ℕ
+  pub step : ℕ
+
+-- the numbers of the calls that are to fail, counted from 1, and how many calls were made
+pub record CallsMade : Type 0 where
+  pub failing : List ℕ
+  pub made : ℕ
+
+-- the next call is one of those that are to fail
+abbrev pub IsListed : List ℕ → ℕ → Type 0
+IsListed failing made = Contains failing (raised made)
+
+-- a source in memory some of whose calls fail
+pub record FailingSource : Type 0 where
+  pub left : List ℕ
+  pub step : ℕ
+  pub failing : List ℕ
+  pub made : ℕ
+  pub faults : ℕ
+
+-- a sink in memory some of whose calls fail, beside those without room
+pub record FailingSink : Type 0 where
+  pub written : List ℕ
+  pub step : ℕ
+  pub room : ℕ
+  pub failing : List ℕ
+  pub made : ℕ
+  pub faults : ℕ
+
+-- a shelf in memory some of whose calls fail, beside those without room
+pub record FailingShelf : Type 0 where
+  pub files : List File
+  pub step : ℕ
+  pub room : ℕ
+  pub failing : List ℕ
+  pub made : ℕ
+  pub faults : ℕ

@@ -1,6 +1,8 @@
 ghost use Rattle.std.specs.Prelude.{IfOk};
 ghost use Rattle.fx_base.specs.Reading.{ReadsAll, LeavesRest, HasReadCause};
 
+use crate::failed::Failed;
+use crate::memory::NoMemory;
 use crate::source::Source;
 use crate::values::Bytes;
 use std::alloc::Global;
@@ -16,6 +18,28 @@ pub enum ReadStop {
     NoMemory,
     #[error("reading failed")]
     ReadFault,
+}
+
+impl From<NoMemory> for ReadStop {
+    ghost use Rattle.std.specs.Prelude.{◌≡◌};
+    ghost use Rattle.fx_base.specs.declared.reading.ReadStop.TheVariants as stop;
+
+    ghost from_gives = { λ _ e. e ≡ stop.NoMemory };
+
+    fn from(_e: NoMemory) -> ReadStop {
+        ReadStop::NoMemory
+    }
+}
+
+impl From<Failed> for ReadStop {
+    ghost use Rattle.std.specs.Prelude.{◌≡◌};
+    ghost use Rattle.fx_base.specs.declared.reading.ReadStop.TheVariants as stop;
+
+    ghost from_gives = { λ _ e. e ≡ stop.ReadFault };
+
+    fn from(_e: Failed) -> ReadStop {
+        ReadStop::ReadFault
+    }
 }
 
 /// What was read.
@@ -34,19 +58,14 @@ pub fn read_all<S: Source>(alloc: Global, source: &mut S, limit: usize) -> Resul
     ensures rest { LeavesRest (S.left source.old) (S.left source.new) }
     ensures cause { HasReadCause (S.faults source.old) (S.faults source.new) result }
 {
-    let mut bytes = Vec::new(alloc);
+    let mut bytes = Bytes::new(alloc);
     let mut buffer = [0u8; BUFFER];
-    loop {
-        let count = match source.read(&mut buffer) {
-            Ok(count) => count,
-            Err(_) => return Err(ReadStop::ReadFault),
-        };
+    'reads: loop {
+        let count = source.read(&mut buffer)?;
         if count == 0 {
-            return Ok(Taken::Whole(Bytes::from_vec(bytes)));
+            return Ok(Taken::Whole(bytes));
         }
-        if bytes.extend_from_slice(&buffer[..count]).is_err() {
-            return Err(ReadStop::NoMemory);
-        }
+        bytes.extend_from_slice(&buffer[..count])?;
         if bytes.len() > limit {
             return Ok(Taken::TooLong);
         }

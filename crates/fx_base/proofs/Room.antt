@@ -1,0 +1,87 @@
+-- What acts do to the room that files take, and to whether a file is begun.
+use Rattle.std.proofs.Common.{ℕ, ◌≡◌, ◌≤◌, ◌+◌, ◌++◌, Bool, true, false, not, length, List, [], ◌∷◌, map, refl, sym, ◌∙◌, ap, subst, arith, length-append}
+use Rattle.fx_base.specs.Acts.{Act, ListByte, BeginFile, FileByte, EndFile, File, listed, shelved, on_last, with_byte, as_ended}
+use Rattle.fx_base.specs.Memory.{has_open, room_of}
+use Rattle.fx_base.proofs.Doing.{listed-append, shelved-append}
+
+-- lists of files with one more at the end
+pub room_of-snoc : (files : List File) (f : File) → room_of (files ++ f ∷ []) ≡ room_of files + (64 + length f.content)
+room_of-snoc [] f = omega arith
+room_of-snoc (g ∷ files) f = let rest = room_of-snoc files f in omega arith
+
+pub has_open-snoc : (files : List File) (f : File) → has_open (files ++ f ∷ []) ≡ not f.ended
+has_open-snoc [] f = refl
+has_open-snoc (g ∷ []) f = refl
+has_open-snoc (g ∷ h ∷ files) f = has_open-snoc (h ∷ files) f
+
+-- the last file given bytes, or ended
+begun_byte : (byte : ℕ) (files : List File) → has_open (on_last (with_byte byte) files) ≡ has_open files
+begun_byte byte [] = refl
+begun_byte byte (f ∷ []) = refl
+begun_byte byte (f ∷ g ∷ []) = refl
+begun_byte byte (f ∷ g ∷ h ∷ files) = begun_byte byte (g ∷ h ∷ files)
+
+room_byte : (byte : ℕ) (files : List File) → has_open files ≡ true → room_of (on_last (with_byte byte) files) ≡ room_of files + 1
+room_byte byte [] begun = cc
+room_byte byte (f ∷ []) begun = let long = length-append f.content (byte ∷ []) in omega arith
+room_byte byte (f ∷ g ∷ files) begun = let rest = room_byte byte (g ∷ files) begun in omega arith
+
+pub begun_bytes : (bytes : List ℕ) (files : List File) → has_open (shelved (map FileByte bytes) files) ≡ has_open files
+begun_bytes [] files = refl
+begun_bytes (byte ∷ bytes) files = begun_bytes bytes (on_last (with_byte byte) files) ∙ begun_byte byte files
+
+pub room_bytes : (bytes : List ℕ) (files : List File) → has_open files ≡ true → room_of (shelved (map FileByte bytes) files) ≡ room_of files + length bytes
+room_bytes [] files begun = omega arith
+room_bytes (byte ∷ bytes) files begun =
+    let one = room_byte byte files begun in
+    let rest = room_bytes bytes (on_last (with_byte byte) files) (begun_byte byte files ∙ begun) in
+    omega arith
+
+pub open_ended : (files : List File) → has_open (on_last as_ended files) ≡ false
+open_ended [] = refl
+open_ended (f ∷ []) = refl
+open_ended (f ∷ g ∷ []) = refl
+open_ended (f ∷ g ∷ h ∷ files) = open_ended (g ∷ h ∷ files)
+
+pub room_ended : (files : List File) → room_of (on_last as_ended files) ≡ room_of files
+room_ended [] = refl
+room_ended (f ∷ []) = refl
+room_ended (f ∷ g ∷ files) = let rest = room_ended (g ∷ files) in omega arith
+
+-- no act makes the room less that files take
+room_grows_byte : (byte : ℕ) (files : List File) → room_of files ≤ room_of (on_last (with_byte byte) files)
+room_grows_byte byte [] = omega arith
+room_grows_byte byte (f ∷ []) = let long = length-append f.content (byte ∷ []) in omega arith
+room_grows_byte byte (f ∷ g ∷ files) = let rest = room_grows_byte byte (g ∷ files) in omega arith
+
+pub room_grows : (done : List Act) (files : List File) → room_of files ≤ room_of (shelved done files)
+room_grows [] files = omega arith
+room_grows (ListByte byte ∷ done) files = room_grows done files
+room_grows (BeginFile name ∷ done) files =
+    let new : File = record { name = name; content = []; ended = false } in
+    let one = room_of-snoc files new in
+    let rest = room_grows done (files ++ new ∷ []) in
+    omega arith
+room_grows (FileByte byte ∷ done) files =
+    let one = room_grows_byte byte files in
+    let rest = room_grows done (on_last (with_byte byte) files) in
+    omega arith
+room_grows (EndFile ∷ done) files =
+    let same = room_ended files in
+    let rest = room_grows done (on_last as_ended files) in
+    omega arith
+
+-- a front part of acts lists no more bytes, and takes no more room, than all of them
+pub front_listed : (done left all : List Act) → done ++ left ≡ all → length (listed done) ≤ length (listed all)
+front_listed done left all front =
+    let two = ap length (listed-append done left) in
+    let both = length-append (listed done) (listed left) in
+    let same = ap (λ (l : List Act). length (listed l)) front in
+    omega arith
+
+pub front_room : (done left all : List Act) (files : List File) → done ++ left ≡ all → room_of (shelved done files) ≤ room_of (shelved all files)
+front_room done left all files front =
+    let more = room_grows left (shelved done files) in
+    let two = ap room_of (shelved-append done left files) in
+    let same = ap (λ (l : List Act). room_of (shelved l files)) front in
+    omega arith

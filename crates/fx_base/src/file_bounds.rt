@@ -1,0 +1,8 @@
+/// Where a file lies in a buffer: its name from `name` to `content`, its bytes from there to `end`.
+#[derive(Debug, Clone, Copy)]
+pub struct FileBounds {
+    pub name: usize,
+    pub content: usize,
+    pub end: usize,
+    pub ended: bool,
+}

@@ -1,0 +1,75 @@
+ghost use Rattle.std.specs.Prelude.{◌≡◌, ◌<◌, ◌≤◌, ◌++◌, ◌↔◌, [], length, take, drop, Some, IsErr, IfOk, OnErr, OnOk};
+ghost use Rattle.fx_base.specs.Faults.{HasCause, raised};
+ghost use Rattle.fx_base.specs.Reading.{Takes};
+ghost use Rattle.fx_base.specs.Memory.{FailingSource, IsListed, portion};
+
+use crate::failed::Failed;
+use crate::listed_calls::ListedCalls;
+use crate::source::Source;
+use crate::sure_source::SureSource;
+use crate::values::Bytes;
+use std::marker::Model;
+
+/// A source in memory that fails exactly at listed calls.
+#[derive(Debug, Drop)]
+pub struct MemorySource {
+    source: SureSource,
+    calls: ListedCalls,
+    faults: u64,
+}
+
+impl Model for MemorySource {
+    ghost Value = { FailingSource };
+
+    ghost view = { λ s. record { left = s.source.left; step = s.source.step; failing = s.calls.failing; made = s.calls.made; faults = s.faults } };
+
+    ghost invariant = { λ s. s.calls.failing ≡ [] → s.faults ≡ 0 };
+}
+
+impl MemorySource {
+    /// A source of these bytes, which gives at most `step` of them in a call, and fails at the calls
+    /// whose numbers, counted from 1, stand in `failing`.
+    pub fn new(content: Bytes, step: usize, failing: Bytes) -> MemorySource
+        requires { 0 < step }
+        ensures { result ≡ record { left = content; step = step; failing = failing; made = 0; faults = 0 } }
+    {
+        MemorySource {
+            source: SureSource::new(content, step),
+            calls: ListedCalls::new(failing),
+            faults: 0,
+        }
+    }
+
+    /// How many calls failed: none where none is listed.
+    pub fn faults(&self) -> u64
+        ensures count { result ≡ self.now.faults }
+        ensures sure { self.now.failing ≡ [] → self.now.faults ≡ 0 }
+    {
+        self.faults
+    }
+}
+
+impl Source for MemorySource {
+    ghost left = { λ s. Some s.left };
+
+    ghost faults = { λ s. s.faults };
+
+    fn read(&mut self, to: &mut [u8]) -> Result<usize, Failed>
+        ensures within { IfOk result (λ n. n ≤ length to.new) }
+        ensures taken { IfOk result (λ n. Takes (Some self.old.left) (Some self.new.left) to.new n) }
+        ensures failed { OnErr result (Some self.new.left ≡ Some self.old.left) }
+        ensures cause { HasCause self.old.faults self.new.faults result }
+
+        ensures listed { IsErr result ↔ IsListed self.old.failing self.old.made }
+        ensures count { IfOk result (λ n. n ≡ portion self.old.step (length self.old.left) (length to.old)) }
+        ensures given { IfOk result (λ n. to.new ≡ take n self.old.left ++ drop n to.old) }
+        ensures after { IfOk result (λ n. self.new ≡ record self.old { left = drop n self.old.left; made = raised self.old.made }) }
+        ensures fault { OnErr result (self.new ≡ record self.old { made = raised self.old.made; faults = raised self.old.faults }) }
+    {
+        if self.calls.next_fails() {
+            self.faults = self.faults.saturating_add(1);
+            return Err(Failed);
+        }
+        self.source.read(to)
+    }
+}
