@@ -1,4 +1,7 @@
 mod Examples
+pub mod Ends
+pub mod PieceOfItem
+pub mod PiecesOfText
 pub mod NextByte
 pub mod NextPlace
 pub mod NextItem

@@ -3,3 +3,4 @@ pub mod Extents
 pub mod Items
 pub mod Places
 pub mod Lexing
+pub mod Pieces

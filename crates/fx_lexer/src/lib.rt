@@ -10,3 +10,5 @@ mod token;
 
 pub use lexing::lex;
 pub use token::{Kind, LexFault, LexStop, Token, Tokens};
+
+ghost use Rattle.fx_lexer.specs.Pieces.{IsMadeOf};
