@@ -2,6 +2,7 @@ mod Examples
 pub mod Ends
 pub mod PieceOfItem
 pub mod PiecesOfText
+pub mod Spans
 pub mod NextByte
 pub mod NextPlace
 pub mod NextItem

@@ -1,13 +1,14 @@
 -- What a text is made of: pieces, one after another. It says of a whole text what it is, where Items and Lexing compute from its front.
-use Rattle.std.specs.Prelude.{◌≡◌, ◌≢◌, ℕ, ◌+◌, ◌==◌, ◌<◌, ◌≤◌, ◌&&◌, ◌||◌, Bool, true, false, cond, List, [], ◌∷◌, ◌++◌, length, drop, flat_map, Contains, IsTrue, Option, Some, None, if◌then◌else◌, codes}
+use Rattle.std.specs.Prelude.{◌≡◌, ◌≢◌, ℕ, ◌+◌, ◌==◌, ◌<◌, ◌≤◌, ◌&&◌, ◌||◌, Bool, true, false, cond, List, [], ◌∷◌, ◌++◌, length, take, drop, slice_range, flat_map, Contains, IsTrue, Option, Some, None, if◌then◌else◌, codes}
 use Rattle.std.specs.List.{list_all}
+use Rattle.std.specs.Option.{option_map}
 use Rattle.fx_lexer.specs.declared.token.Kind.{Kind}
 use Rattle.fx_lexer.specs.declared.token.Kind.TheVariants as kind
 use Rattle.fx_lexer.specs.declared.token.Token.{Token}
 use Rattle.fx_lexer.specs.declared.token.LexFault.{LexFault}
 use Rattle.fx_lexer.specs.Bytes.{is_white, is_digit, begins_word, is_word_byte, is_sign, is_quote}
 use Rattle.fx_lexer.specs.Extents.{begins_comment, begins_remark, starts_with_byte}
-use Rattle.fx_lexer.specs.Places.{place_after}
+use Rattle.fx_lexer.specs.Places.{line_after, column_after, place_after}
 use Rattle.fx_lexer.specs.Lexing.{tokens_of_kind, fault_at}
 
 -- A byte of white space; a comment or a remark by what it says; the tokens by what they are made of. A number has digits before its
@@ -127,6 +128,28 @@ pub record IsMadeOf (text : List ℕ) (tokens : List Token) : Type 0 where
   pub joined : text ≡ text_of pieces []
   pub formed : AreFormed true pieces []
   pub tokens_are : tokens ≡ tokens_among [] pieces
+
+-- the bytes of a piece that is a token
+abbrev pub token_text : Piece → Option (List ℕ)
+token_text p = option_map (λ kind. spelling p) (kind_of p)
+
+-- the token is a piece of the text, of its kind, with the place of its first byte and the span of its bytes
+pub record IsToken (text : List ℕ) (t : Token) : Type 0 where
+  pub piece : Piece
+  pub start : Bool
+  pub kind : kind_of piece ≡ Some t.kind
+  pub line : t.line ≡ line_after (take t.from text)
+  pub column : t.column ≡ column_after (take t.from text)
+  pub some : t.from < t.upto
+  pub inside : t.upto ≤ length text
+  pub bytes : slice_range text t.from t.upto ≡ spelling piece
+  pub form : HasForm start piece (drop t.upto text)
+  pub short : IsShort piece
+
+-- the tokens lie between these places, one behind another
+abbrev pub AreInOrder : ℕ → ℕ → List Token → Type 0
+AreInOrder from upto [] = from ≤ upto
+AreInOrder from upto (t ∷ tokens) = (from ≤ t.from) × (t.from < t.upto) × AreInOrder t.upto upto tokens
 
 -- What isn't a piece, with the text that follows: a comment, a remark or a quoted text with no end; a byte that begins no item; a
 -- piece that is too long.

@@ -4,11 +4,11 @@
 mod byte;
 mod extent;
 mod item;
+mod laws;
 mod lexing;
 mod place;
 mod token;
 
+pub use laws::{text_is_pieces, tokens_stand_in_order};
 pub use lexing::lex;
 pub use token::{Kind, LexFault, LexStop, Token, Tokens};
-
-ghost use Rattle.fx_lexer.specs.Pieces.{IsMadeOf};
