@@ -73,7 +73,7 @@ closes_nil h = nothing h.0 h.1 h.2
     nothing [] behind j = cc j
     nothing (x ∷ before) behind j = cc j
 
-ends_same : (b : ℕ) (inside rest : List ℕ) → ends_comment (b ∷ (inside ++ 42 ∷ rest)) ≡ ends_comment (b ∷ (inside ++ 42 ∷ []))
+pub ends_same : (b : ℕ) (inside rest : List ℕ) → ends_comment (b ∷ (inside ++ 42 ∷ rest)) ≡ ends_comment (b ∷ (inside ++ 42 ∷ []))
 ends_same b [] rest = refl
 ends_same b (x ∷ inside) rest = refl
 

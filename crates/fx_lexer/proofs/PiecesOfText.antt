@@ -1,6 +1,5 @@
 -- What a text is: its pieces, or pieces up to a flaw.
 use Rattle.std.proofs.Common.{◌≡◌, ℕ, zero, suc, ◌+◌, ◌-◌, ◌<◌, ◌≤◌, Bool, true, false, cond, List, [], ◌∷◌, ◌++◌, length, take, drop, Option, Some, None, Result, Ok, Err, refl, sym, ap, ap₂, subst, ◌∙◌, append_assoc, length-append, append-nil, add-zero, arith}
-use Rattle.std.specs.Prelude.{IfOk, IfErr}
 use Rattle.std.proofs.Math.Seq.{take-append_seam}
 use Rattle.fx_lexer.specs.declared.item.Item.{Item}
 use Rattle.fx_lexer.specs.declared.token.Token.{Token}
@@ -132,16 +131,8 @@ whole_of text (Err fault) h = record { pieces = h.pieces; flaw = h.flaw; joined 
 pub text_is : (text : List ℕ) → Whole text (lexed text)
 text_is text = whole_of text (lexed text) (outcome (length text) [] text true (omega arith))
 
-pub made_of : (text : List ℕ) → IfOk (lexed text) (λ tokens. IsMadeOf text tokens)
-made_of text = by (lexed text) (text_is text)
-  where
-    by : (r : Result (List Token) LexFault) → Whole text r → IfOk r (λ tokens. IsMadeOf text tokens)
-    by (Ok tokens) h = h
-    by (Err fault) h = tt
+pub made_of : (text : List ℕ) (tokens : List Token) → lexed text ≡ Ok tokens → IsMadeOf text tokens
+made_of text tokens e = let P : Result (List Token) LexFault → Type 0 = λ r. Whole text r in subst P e (text_is text)
 
-pub breaks_off : (text : List ℕ) → IfErr (lexed text) (λ fault. BreaksOff text fault)
-breaks_off text = by (lexed text) (text_is text)
-  where
-    by : (r : Result (List Token) LexFault) → Whole text r → IfErr r (λ fault. BreaksOff text fault)
-    by (Ok tokens) h = tt
-    by (Err fault) h = h
+pub breaks_off : (text : List ℕ) (fault : LexFault) → lexed text ≡ Err fault → BreaksOff text fault
+breaks_off text fault e = let P : Result (List Token) LexFault → Type 0 = λ r. Whole text r in subst P e (text_is text)

@@ -1,14 +1,15 @@
-// What the tokens of a text are, without a word on how they are found.
-ghost use Rattle.std.specs.Prelude.{◌≡◌, List, [], length, map, filter_map, slice_range, IfOk, IfErr};
+// What the tokens and the fault of a text are, without a word on how they are found.
+ghost use Rattle.std.specs.Prelude.{◌≡◌, ◌↔◌, Ok, Err, List, [], length, map, filter_map, slice_range, IfOk};
 ghost use Rattle.fx_lexer.specs.declared.token.Token.{Token};
+ghost use Rattle.fx_lexer.specs.declared.token.LexFault.{LexFault};
 ghost use Rattle.fx_lexer.specs.Lexing.{lexed};
 ghost use Rattle.fx_lexer.specs.Pieces.{Piece, text_of, token_text, tokens_among, AreInOrder, BreaksOff, IsMadeOf};
 
-/// A text is white space, comments and tokens, one after another: all of it, or up to what is at
-/// fault.
+/// A text has tokens exactly where it is white space, comments and these tokens, one after
+/// another, and a fault exactly where it is such pieces up to what is at fault.
 pub fn text_is_pieces(text: &[u8])
-    ensures tokens { IfOk (lexed text.now) (IsMadeOf text.now) }
-    ensures fault { IfErr (lexed text.now) (BreaksOff text.now) }
+    ensures tokens { (tokens : List Token) → (lexed text.now ≡ Ok tokens) ↔ IsMadeOf text.now tokens }
+    ensures fault { (fault : LexFault) → (lexed text.now ≡ Err fault) ↔ BreaksOff text.now fault }
 {}
 
 /// The tokens stand in the text one behind another, and their spans hold the bytes of the pieces
