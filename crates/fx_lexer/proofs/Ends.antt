@@ -1,11 +1,11 @@
 -- What the lengths of items mean.
-use Rattle.std.proofs.Common.{◌≡◌, ◌≢◌, ℕ, zero, suc, ◌+◌, ◌-◌, ◌<◌, ◌≤◌, Bool, true, false, cond, not, ◌&&◌, ◌||◌, List, [], ◌∷◌, ◌++◌, length, take, drop, Option, Some, None, Result, Ok, Err, refl, sym, ap, subst, ◌∙◌, inl, inr, ◌⊎◌, arith}
-use Rattle.std.specs.Prelude.{◌==◌, nat_le, nat_lt, if◌then◌else◌, IsTrue, Contains, slice_index_or, codes}
+use Rattle.std.proofs.Common.{◌≡◌, ℕ, zero, suc, ◌+◌, ◌<◌, Bool, true, false, ◌&&◌, List, [], ◌∷◌, ◌++◌, length, Option, Some, None, refl, sym, ap, ◌∙◌, inl, inr, ◌⊎◌, arith}
+use Rattle.std.specs.Prelude.{◌==◌, nat_lt, IsTrue, Contains, slice_index_or}
 use Rattle.std.specs.List.{prefix_len, list_all}
 use Rattle.std.specs.Option.{option_map}
 use Rattle.std.proofs.lemmas.Bool.{eqb-true, eq-eqb, ltb-true, ltb-false}
-use Rattle.fx_lexer.specs.Bytes.{is_white, is_digit, begins_word, is_word_byte, is_sign, is_quote}
-use Rattle.fx_lexer.specs.Extents.{begins_comment, begins_remark, starts_with_byte, closing_len, ends_comment, remark_len, fraction_len, quoted_len}
+use Rattle.fx_lexer.specs.Bytes.{is_digit}
+use Rattle.fx_lexer.specs.Extents.{starts_with_byte, closing_len, ends_comment, remark_len, fraction_len, quoted_len}
 use Rattle.fx_lexer.specs.Pieces.{begins_with, begins_fraction, Closes, EndsQuoted, doubled}
 
 pub test : (b : Bool) → (b ≡ true) ⊎ (b ≡ false)

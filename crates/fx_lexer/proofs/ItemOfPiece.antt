@@ -1,6 +1,6 @@
 -- Which item a piece or a flaw is.
-use Rattle.std.proofs.Common.{◌≡◌, ℕ, zero, suc, ◌+◌, ◌-◌, ◌<◌, ◌≤◌, Bool, true, false, cond, not, ◌&&◌, ◌||◌, List, [], ◌∷◌, ◌++◌, length, take, drop, Option, Some, None, Result, Ok, Err, refl, sym, ap, ap₂, subst, ◌∙◌, inl, inr, ◌⊎◌, append_assoc, length-append, append-nil, arith}
-use Rattle.std.specs.Prelude.{◌==◌, nat_le, nat_lt, if◌then◌else◌, IsTrue, Contains, codes, slice_index_or}
+use Rattle.std.proofs.Common.{◌≡◌, ℕ, suc, ◌+◌, ◌<◌, ◌≤◌, Bool, true, false, not, ◌||◌, List, [], ◌∷◌, ◌++◌, length, drop, Option, Some, None, Result, Ok, Err, refl, sym, ap, ap₂, ◌∙◌, inl, inr, ◌⊎◌, append_assoc, length-append, arith}
+use Rattle.std.specs.Prelude.{◌==◌, nat_le, if◌then◌else◌, Contains, codes}
 use Rattle.std.specs.List.{prefix_len, list_all, list_any}
 use Rattle.std.specs.Option.{option_map}
 use Rattle.std.proofs.lemmas.Bool.{eqb-true, eq-eqb, leb-true, le-leb, lt-leb, lt-ltb}
@@ -12,8 +12,9 @@ use Rattle.fx_lexer.specs.declared.item.Item.{Item}
 use Rattle.fx_lexer.specs.Bytes.{is_white, is_digit, begins_word, is_word_byte, is_sign, is_quote}
 use Rattle.fx_lexer.specs.Extents.{begins_comment, begins_remark, starts_with_byte, closing_len, ends_comment, remark_len, fraction_len, quoted_len}
 use Rattle.fx_lexer.specs.Items.{item, token, gap, comment_if_closed, quoted_if_closed, limited, number, begins_number}
-use Rattle.fx_lexer.specs.Pieces.{Piece, white, comment, remark, word, whole, decimal, quoted, sign, begins_with, begins_fraction, begins_item, doubled, spelling, kind_of, HasForm, IsShort, Closes, EndsQuoted, Flaw, open_comment, open_remark, open_quoted, stray, long_piece, flaw_text, fault_kind, IsFlaw}
-use Rattle.fx_lexer.proofs.Ends.{test, both, first_byte, ends_same, Closed, ClosingIs, closing_is, Remarked, RemarkIs, remark_is, QuotedAs, QuotedIs, quoted_is, Fraction, fraction_is}
+use Rattle.fx_lexer.specs.Pieces.{Piece, white, comment, remark, word, whole, decimal, quoted, sign, begins_with, begins_fraction, doubled, spelling, kind_of, HasForm, IsShort, Closes, EndsQuoted}
+use Rattle.fx_lexer.specs.Flaws.{begins_item, Flaw, open_comment, open_remark, open_quoted, stray, long_piece, flaw_text, fault_kind, IsFlaw}
+use Rattle.fx_lexer.proofs.Ends.{test, both, first_byte, ends_same, ClosingIs, closing_is, RemarkIs, remark_is, QuotedIs, quoted_is}
 
 -- a sort of bytes that c isn't of
 pub differs : (sort : ℕ → Bool) (b c : ℕ) → sort b ≡ true → sort c ≡ false → (b == c) ≡ false
@@ -116,7 +117,7 @@ module _ (start : Bool) (b : ℕ) (bytes : List ℕ) where
       let comment_not = no_comment start b bytes (differs number_byte b 47 is refl) in
       let remark_not = no_remark start b bytes (differs number_byte b 42 is refl) in
       item_not_gap start b bytes (length digits) fraction white_not comment_not remark_not count (ap fraction_len behind ∙ part)
-          ∙ number_row start b bytes (length digits) fraction (number_no_word b is) some
+      ∙ number_row start b bytes (length digits) fraction (number_no_word b is) some
 
   word_item : (name rest : List ℕ) → b ∷ bytes ≡ name ++ rest → begins_with begins_word name ≡ true → list_all is_word_byte name ≡ true → begins_with is_word_byte rest ≡ false
       → item start (b ∷ bytes) ≡ limited kind.Word (length name) 32 5
@@ -126,8 +127,8 @@ module _ (start : Bool) (b : ℕ) (bytes : List ℕ) where
       let is : begins_word b ≡ true = ap begins_word same ∙ begins in
       let count = ap (prefix_len is_word_byte) joined ∙ prefix_all is_word_byte (x ∷ name) rest all ended in
       item_not_gap start b bytes _ _ (no_white begins_word b is refl refl refl refl) (no_comment start b bytes (differs begins_word b 47 is refl)) (no_remark start b bytes (differs begins_word b 42 is refl)) refl refl
-          ∙ word_row start b bytes _ _ is
-          ∙ ap (λ n. limited kind.Word n 32 5) count
+      ∙ word_row start b bytes _ _ is
+      ∙ ap (λ n. limited kind.Word n 32 5) count
 
 -- the lengths of the items that are closed
 length_closing : (inside rest : List ℕ) → ¬ Closes (inside ++ 42 ∷ []) → closing_len (inside ++ 42 ∷ 47 ∷ rest) ≡ Some (length inside + 2)
@@ -223,7 +224,7 @@ module _ (start : Bool) (b : ℕ) (bytes : List ℕ) where
   quoted_item is =
       without_digits (no_white is_quote b is refl refl refl refl) (no_comment start b bytes (differs is_quote b 47 is refl)) (no_remark start b bytes (differs is_quote b 42 is refl))
       (quote_no_digit is) (pointless (differs is_quote b 46 is refl))
-          ∙ quoted_row start b bytes (quote_no_word is) is
+      ∙ quoted_row start b bytes (quote_no_word is) is
 
   no_sign_is : (p : ℕ → Bool) → is_sign b ≡ true → list_all (λ c. not (p c)) (codes ";=()[]/*|@-") ≡ true → p b ≡ false
   no_sign_is p is none = none_of (codes ";=()[]/*|@-") b p is none
@@ -231,7 +232,7 @@ module _ (start : Bool) (b : ℕ) (bytes : List ℕ) where
   sign_item : is_sign b ≡ true → begins_comment (b ∷ bytes) ≡ false → begins_remark start (b ∷ bytes) ≡ false → item start (b ∷ bytes) ≡ token kind.Sign 1
   sign_item is comment_not remark_not =
       without_digits (no_sign_is is_white is refl) comment_not remark_not (no_sign_is is_digit is refl) (pointless (no_sign_is (λ c. c == 46) is refl))
-          ∙ sign_row start b bytes (no_sign_is begins_word is refl) (no_sign_is is_quote is refl) is
+      ∙ sign_row start b bytes (no_sign_is begins_word is refl) (no_sign_is is_quote is refl) is
 
   -- a byte of a sort isn't one that isn't of it
   sort_other : (sort : ℕ → Bool) (c : ℕ) → sort b ≡ false → sort c ≡ true → (b == c) ≡ false
@@ -249,7 +250,7 @@ module _ (start : Bool) (b : ℕ) (bytes : List ℕ) where
       let digit_not = neither_is (is_white b || begins_word b) (is_digit b) fraction_not.0 in
       let word_not = neither_is (is_white b) (begins_word b) digit_not.0 in
       without_digits word_not.0 (no_comment start b bytes (sort_other is_sign 47 sign_not.1 refl)) (no_remark start b bytes (sort_other is_sign 42 sign_not.1 refl)) digit_not.1 fraction_not.1
-          ∙ stray_row start b bytes word_not.1 quote_not.1 sign_not.1
+      ∙ stray_row start b bytes word_not.1 quote_not.1 sign_not.1
 
   white_item : is_white b ≡ true → item start (b ∷ bytes) ≡ gap 1
   white_item is = rw is refl
@@ -297,7 +298,7 @@ module _ (start : Bool) (b : ℕ) (bytes : List ℕ) where
       let part = a_fraction fraction rest some fraction_all ended in
       let size : length digits + (1 + length fraction) ≡ length (digits ++ 46 ∷ fraction) = omega (arith, length-append digits (46 ∷ fraction)) in
       number_item start b bytes digits (46 ∷ (fraction ++ rest)) (1 + length fraction) is joined' all refl part (omega arith)
-          ∙ rw (not_zero (1 + length fraction) (omega arith)) (ap (λ n. limited kind.Decimal n 38 4) size)
+      ∙ rw (not_zero (1 + length fraction) (omega arith)) (ap (λ n. limited kind.Decimal n 38 4) size)
 
 -- the item of a piece at the front of a text
 abbrev pub item_of : Piece → Result Item ℕ

@@ -1,6 +1,6 @@
 -- What the item that a text begins with is: a piece, or a flaw.
-use Rattle.std.proofs.Common.{◌≡◌, ◌≢◌, ℕ, zero, suc, ◌+◌, ◌-◌, ◌<◌, ◌≤◌, Bool, true, false, cond, not, ◌&&◌, ◌||◌, List, [], ◌∷◌, ◌++◌, length, take, drop, Option, Some, None, Result, Ok, Err, refl, sym, ap, subst, ◌∙◌, inl, inr, ◌⊎◌, append_assoc, length-append, append-nil, arith}
-use Rattle.std.specs.Prelude.{◌==◌, nat_le, nat_lt, if◌then◌else◌, IsTrue, Contains, codes}
+use Rattle.std.proofs.Common.{◌≡◌, ℕ, suc, ◌+◌, ◌<◌, ◌≤◌, Bool, true, false, ◌||◌, List, [], ◌∷◌, ◌++◌, length, drop, Option, Some, None, Result, Ok, Err, refl, sym, ap, subst, ◌∙◌, inl, inr, append_assoc, length-append, arith}
+use Rattle.std.specs.Prelude.{◌==◌, nat_le, if◌then◌else◌, IsTrue}
 use Rattle.std.specs.List.{prefix_len, list_all}
 use Rattle.std.specs.Option.{option_map}
 use Rattle.std.proofs.lemmas.Bool.{eqb-true, eq-eqb, leb-true, leb-false, ltb-false, ltb-true}
@@ -9,11 +9,12 @@ use Rattle.fx_lexer.specs.declared.token.Kind.{Kind}
 use Rattle.fx_lexer.specs.declared.token.Kind.TheVariants as kind
 use Rattle.fx_lexer.specs.declared.item.Item.{Item}
 use Rattle.fx_lexer.specs.Bytes.{is_white, is_digit, begins_word, is_word_byte, is_sign, is_quote}
-use Rattle.fx_lexer.specs.Extents.{begins_comment, begins_remark, starts_with_byte, closing_len, ends_comment, remark_len, fraction_len, quoted_len}
+use Rattle.fx_lexer.specs.Extents.{begins_comment, begins_remark, starts_with_byte, closing_len, remark_len, fraction_len, quoted_len}
 use Rattle.fx_lexer.specs.Items.{item, token, gap, comment_if_closed, quoted_if_closed, limited, number, begins_number}
 use Rattle.fx_lexer.specs.Lexing.{starts_after}
-use Rattle.fx_lexer.specs.Pieces.{Piece, white, comment, remark, word, whole, decimal, quoted, sign, Flaw, open_comment, open_remark, open_quoted, stray, long_piece, begins_with, begins_fraction, begins_item, doubled, spelling, kind_of, starts_behind, HasForm, IsShort, flaw_text, fault_kind, IsFlaw}
-use Rattle.fx_lexer.proofs.Ends.{test, both, first_byte, Split, split, Closed, ClosingIs, closing_is, Remarked, RemarkIs, remark_is, QuotedAs, QuotedIs, quoted_is, Fraction, fraction_is}
+use Rattle.fx_lexer.specs.Pieces.{Piece, white, comment, remark, word, whole, decimal, quoted, sign, begins_with, begins_fraction, doubled, spelling, kind_of, starts_behind, HasForm, IsShort}
+use Rattle.fx_lexer.specs.Flaws.{Flaw, open_comment, open_remark, open_quoted, stray, long_piece, flaw_text, fault_kind, IsFlaw}
+use Rattle.fx_lexer.proofs.Ends.{test, both, first_byte, split, ClosingIs, closing_is, RemarkIs, remark_is, QuotedIs, quoted_is, Fraction, fraction_is}
 
 -- the item is this piece
 pub record IsPiece (start : Bool) (b : ℕ) (bytes : List ℕ) (it : Item) : Type 0 where
@@ -155,16 +156,16 @@ module _ (start : Bool) (b : ℕ) (bytes : List ℕ) where
     number_at n long some =
         choose (ItemIs start b bytes) (n == 0) (limited kind.Whole (length front) 38 4) (limited kind.Decimal (length front + n) 38 4)
         (λ e.
-            let none = eqb-true n 0 e in
-            elim (fraction_is rest) [
-              | inl f ↦ absurd (omega (arith, f.long))
-              | inr f ↦ whole_found f.1 (omega arith)
-            ])
+        let none = eqb-true n 0 e in
+        elim (fraction_is rest) [
+          | inl f ↦ absurd (omega (arith, f.long))
+          | inr f ↦ whole_found f.1 (omega arith)
+        ])
         (λ e.
-            elim (fraction_is rest) [
-              | inl f ↦ decimal_found f (length front + n) (omega arith)
-              | inr f ↦ absurd (let zero_is = eq-eqb n 0 (omega arith) in cc)
-            ])
+        elim (fraction_is rest) [
+          | inl f ↦ decimal_found f (length front + n) (omega arith)
+          | inr f ↦ absurd (let zero_is = eq-eqb n 0 (omega arith) in cc)
+        ])
 
   number_found : IsTrue (begins_number (prefix_len is_digit (b ∷ bytes)) (fraction_len (drop (prefix_len is_digit (b ∷ bytes)) (b ∷ bytes))))
       → ItemIs start b bytes (number (prefix_len is_digit (b ∷ bytes)) (fraction_len (drop (prefix_len is_digit (b ∷ bytes)) (b ∷ bytes))))

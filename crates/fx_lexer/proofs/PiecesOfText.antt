@@ -1,16 +1,16 @@
 -- What a text is: its pieces, or pieces up to a flaw.
-use Rattle.std.proofs.Common.{◌≡◌, ℕ, zero, suc, ◌+◌, ◌-◌, ◌<◌, ◌≤◌, Bool, true, false, cond, List, [], ◌∷◌, ◌++◌, length, take, drop, Option, Some, None, Result, Ok, Err, refl, sym, ap, ap₂, subst, ◌∙◌, append_assoc, length-append, append-nil, add-zero, arith}
+use Rattle.std.proofs.Common.{◌≡◌, ℕ, zero, suc, ◌+◌, ◌-◌, ◌<◌, ◌≤◌, Bool, true, List, [], ◌∷◌, ◌++◌, length, take, Result, Ok, Err, refl, sym, ap, subst, ◌∙◌, append_assoc, length-append, append-nil, add-zero, arith}
 use Rattle.std.proofs.Math.Seq.{take-append_seam}
 use Rattle.fx_lexer.specs.declared.item.Item.{Item}
 use Rattle.fx_lexer.specs.declared.token.Token.{Token}
 use Rattle.fx_lexer.specs.declared.token.LexFault.{LexFault}
-use Rattle.fx_lexer.specs.declared.place.Place.{Place}
 use Rattle.fx_lexer.specs.Places.{place_after}
 use Rattle.fx_lexer.specs.Items.{item}
-use Rattle.fx_lexer.specs.Lexing.{lexed, lexed_from, in_front, at_item, tokens_of, tokens_of_kind, starts_after, fault_at}
+use Rattle.fx_lexer.specs.Lexing.{lexed, lexed_from, in_front, at_item, tokens_of, starts_after, fault_at}
 use Rattle.fx_lexer.specs.Bytes.{begins_word}
-use Rattle.fx_lexer.specs.Pieces.{Piece, white, comment, remark, word, whole, decimal, quoted, sign, Flaw, begins_with, spelling, kind_of, starts_behind, starts_behind_all, HasForm, IsShort, text_of, AreFormed, tokens_among, flaw_text, fault_kind, IsFlaw, IsMadeOf, BreaksOff}
-use Rattle.fx_lexer.proofs.PieceOfItem.{IsPiece, IsFlawed, ItemIs, item_is}
+use Rattle.fx_lexer.specs.Pieces.{Piece, white, comment, remark, word, whole, decimal, quoted, sign, begins_with, spelling, starts_behind, starts_behind_all, HasForm, text_of, AreFormed, tokens_among, IsMadeOf}
+use Rattle.fx_lexer.specs.Flaws.{Flaw, flaw_text, fault_kind, IsFlaw, BreaksOff}
+use Rattle.fx_lexer.proofs.PieceOfItem.{IsPiece, ItemIs, item_is}
 
 -- a piece has a byte
 pub some_bytes : (start : Bool) (p : Piece) (rest : List ℕ) → HasForm start p rest → 0 < length (spelling p)
@@ -91,9 +91,9 @@ module _ (before : List ℕ) (start : Bool) (b : ℕ) (bytes : List ℕ) where
       → ((before rest : List ℕ) (start : Bool) → length rest ≤ n → Outcome before rest start (lexed_from (before ++ rest) 0 start (length before) rest))
       → (r : Result Item ℕ) → ItemIs start b bytes r
       → Outcome before (b ∷ bytes) start
-        (at_item (fault_at (place_after before))
-          (λ i. in_front (tokens_of (place_after before) (length before) i) (lexed_from (before ++ b ∷ bytes) (i.length - 1) (starts_after start i b) (length before + 1) bytes))
-          r)
+      (at_item (fault_at (place_after before))
+      (λ i. in_front (tokens_of (place_after before) (length before) i) (lexed_from (before ++ b ∷ bytes) (i.length - 1) (starts_after start i b) (length before + 1) bytes))
+      r)
   from_item n few later (Err k) h =
       record {
         pieces = [];

@@ -1,17 +1,17 @@
 -- The tokens among pieces, and where they lie.
-use Rattle.std.proofs.Common.{◌≡◌, ℕ, zero, suc, ◌+◌, ◌-◌, ◌<◌, ◌≤◌, Bool, true, List, [], ◌∷◌, ◌++◌, length, take, drop, map, Option, Some, None, Result, Ok, Err, refl, sym, ap, ap₂, subst, ◌∙◌, append_assoc, length-append, append-nil, arith}
+use Rattle.std.proofs.Common.{◌≡◌, ℕ, ◌+◌, ◌-◌, ◌<◌, ◌≤◌, Bool, true, List, [], ◌∷◌, ◌++◌, length, drop, map, Option, Some, None, Result, Ok, Err, refl, sym, ap, ap₂, subst, ◌∙◌, append_assoc, length-append, append-nil, arith}
 use Rattle.std.specs.Prelude.{All, slice_range, filter_map, IfOk}
 use Rattle.std.specs.List.{cons_option}
 use Rattle.std.specs.Option.{option_map}
 use Rattle.std.proofs.Math.Seq.{take-append_seam, drop-append_seam}
-use Rattle.std.proofs.lemmas.List.{map-append}
 use Rattle.std.proofs.lemmas.List.Elements.{All-nil, All-cons, All-append}
 use Rattle.fx_lexer.specs.declared.token.Token.{Token}
 use Rattle.fx_lexer.specs.declared.token.Kind.{Kind}
 use Rattle.fx_lexer.specs.declared.token.LexFault.{LexFault}
 use Rattle.fx_lexer.specs.Places.{place_after}
 use Rattle.fx_lexer.specs.Lexing.{lexed, token_at, tokens_of_kind}
-use Rattle.fx_lexer.specs.Pieces.{Piece, spelling, kind_of, starts_behind, HasForm, IsShort, text_of, AreFormed, tokens_among, token_text, IsToken, AreInOrder, IsMadeOf}
+use Rattle.fx_lexer.specs.Pieces.{Piece, spelling, kind_of, starts_behind, HasForm, IsShort, text_of, AreFormed, tokens_among}
+use Rattle.fx_lexer.specs.Tokens.{token_text, IsToken, AreInOrder}
 use Rattle.fx_lexer.proofs.PiecesOfText.{some_bytes, Whole, text_is}
 
 -- a middle part, by its ends

@@ -1,18 +1,17 @@
 -- What is read from pieces.
-use Rattle.std.proofs.Common.{◌≡◌, ℕ, zero, suc, ◌+◌, ◌-◌, ◌<◌, ◌≤◌, Bool, true, false, List, [], ◌∷◌, ◌++◌, length, take, drop, Option, Some, None, Result, Ok, Err, refl, sym, ap, ap₂, subst, ◌∙◌, append_assoc, length-append, append-nil, add-zero, arith}
+use Rattle.std.proofs.Common.{◌≡◌, ℕ, ◌+◌, Bool, true, List, [], ◌∷◌, ◌++◌, length, take, Result, Ok, Err, refl, sym, ap, ap₂, ◌∙◌, append_assoc, length-append, append-nil, add-zero, arith}
 use Rattle.std.specs.Prelude.{◌==◌}
 use Rattle.std.proofs.Math.Seq.{take-append_seam}
-use Rattle.fx_lexer.specs.declared.item.Item.{Item}
 use Rattle.fx_lexer.specs.declared.token.Token.{Token}
 use Rattle.fx_lexer.specs.declared.token.LexFault.{LexFault}
 use Rattle.fx_lexer.specs.Places.{place_after}
-use Rattle.fx_lexer.specs.Bytes.{begins_word, is_digit, is_quote}
-use Rattle.fx_lexer.specs.Items.{item}
-use Rattle.fx_lexer.specs.Lexing.{lexed, lexed_from, in_front, at_item, tokens_of, tokens_of_kind, starts_after, fault_at}
-use Rattle.fx_lexer.specs.Pieces.{Piece, white, comment, remark, word, whole, decimal, quoted, sign, begins_with, Flaw, open_comment, open_remark, open_quoted, stray, long_piece, spelling, kind_of, starts_behind, starts_behind_all, HasForm, IsShort, text_of, AreFormed, tokens_among, flaw_text, fault_kind, IsFlaw, IsMadeOf, BreaksOff}
+use Rattle.fx_lexer.specs.Bytes.{begins_word, is_quote}
+use Rattle.fx_lexer.specs.Lexing.{lexed, lexed_from, in_front, tokens_of_kind, starts_after, fault_at}
+use Rattle.fx_lexer.specs.Pieces.{Piece, white, comment, remark, word, whole, decimal, quoted, sign, spelling, kind_of, starts_behind, starts_behind_all, HasForm, IsShort, text_of, AreFormed, tokens_among, IsMadeOf}
+use Rattle.fx_lexer.specs.Flaws.{Flaw, open_comment, open_remark, open_quoted, stray, long_piece, flaw_text, fault_kind, IsFlaw, BreaksOff}
 use Rattle.fx_lexer.proofs.PiecesOfText.{some_bytes, item_passed}
 use Rattle.fx_lexer.proofs.NextItem.{in_front_twice}
-use Rattle.fx_lexer.proofs.ItemOfPiece.{differs, number_byte, no_semicolon_number, digit_first, point_or_digit, item_of, piece_item, flaw_item}
+use Rattle.fx_lexer.proofs.ItemOfPiece.{differs, no_semicolon_number, digit_first, point_or_digit, piece_item, flaw_item}
 
 -- whether a statement starts behind a piece, by its first byte
 behind : (start : Bool) (p : Piece) (rest : List ℕ) (b : ℕ) (bytes : List ℕ) → b ∷ bytes ≡ spelling p ++ rest → HasForm start p rest

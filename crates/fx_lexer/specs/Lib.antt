@@ -4,3 +4,5 @@ pub mod Items
 pub mod Places
 pub mod Lexing
 pub mod Pieces
+pub mod Tokens
+pub mod Flaws

@@ -1,15 +1,13 @@
--- What a text is made of: pieces, one after another. It says of a whole text what it is, where Items and Lexing compute from its front.
-use Rattle.std.specs.Prelude.{◌≡◌, ◌≢◌, ℕ, ◌+◌, ◌==◌, ◌<◌, ◌≤◌, ◌&&◌, ◌||◌, Bool, true, false, cond, List, [], ◌∷◌, ◌++◌, length, take, drop, slice_range, flat_map, Contains, IsTrue, Option, Some, None, if◌then◌else◌, codes}
+-- What a text is made of: pieces, one after another. This says what a text is; Items and Lexing compute it.
+use Rattle.std.specs.Prelude.{◌≡◌, ℕ, ◌==◌, ◌<◌, ◌≤◌, ◌&&◌, Bool, true, false, List, [], ◌∷◌, ◌++◌, length, drop, flat_map, Contains, IsTrue, Option, Some, None, if◌then◌else◌, codes}
 use Rattle.std.specs.List.{list_all}
-use Rattle.std.specs.Option.{option_map}
 use Rattle.fx_lexer.specs.declared.token.Kind.{Kind}
 use Rattle.fx_lexer.specs.declared.token.Kind.TheVariants as kind
 use Rattle.fx_lexer.specs.declared.token.Token.{Token}
-use Rattle.fx_lexer.specs.declared.token.LexFault.{LexFault}
 use Rattle.fx_lexer.specs.Bytes.{is_white, is_digit, begins_word, is_word_byte, is_sign, is_quote}
 use Rattle.fx_lexer.specs.Extents.{begins_comment, begins_remark, starts_with_byte}
-use Rattle.fx_lexer.specs.Places.{line_after, column_after, place_after}
-use Rattle.fx_lexer.specs.Lexing.{tokens_of_kind, fault_at}
+use Rattle.fx_lexer.specs.Places.{place_after}
+use Rattle.fx_lexer.specs.Lexing.{tokens_of_kind}
 
 -- A byte of white space; a comment or a remark by what it says; the tokens by what they are made of. A number has digits before its
 -- point and behind it; a quoted text has its quote and its value.
@@ -30,11 +28,11 @@ doubled quote value = flat_map (λ b. if b == quote then quote ∷ quote ∷ [] 
 -- the bytes of a piece
 abbrev pub spelling : Piece → List ℕ
 spelling (white b) = b ∷ []
-spelling (comment inside) = 47 ∷ 42 ∷ inside ++ codes "*/"
-spelling (remark inside) = 42 ∷ inside ++ codes ";"
+spelling (comment inside) = codes "/*" ++ inside ++ codes "*/"
+spelling (remark inside) = codes "*" ++ inside ++ codes ";"
 spelling (word name) = name
 spelling (whole digits) = digits
-spelling (decimal digits fraction) = digits ++ 46 ∷ fraction
+spelling (decimal digits fraction) = digits ++ (codes "." ++ fraction)
 spelling (quoted quote value) = quote ∷ doubled quote value ++ quote ∷ []
 spelling (sign b) = b ∷ []
 
@@ -65,9 +63,9 @@ begins_with sort (b ∷ bytes) = sort b
 abbrev pub begins_fraction : List ℕ → Bool
 begins_fraction bytes = starts_with_byte 46 bytes && begins_with is_digit (drop 1 bytes)
 
--- `*/` stands in these bytes
+-- `*/` stands somewhere in these bytes
 abbrev pub Closes : List ℕ → Type 0
-Closes bytes = (before : List ℕ) × (behind : List ℕ) × (bytes ≡ before ++ 42 ∷ 47 ∷ behind)
+Closes bytes = (before : List ℕ) × (behind : List ℕ) × (bytes ≡ before ++ (codes "*/" ++ behind))
 
 -- the bytes behind a quote reach its end: a value with its quotes doubled, and a quote that isn't the first of a pair
 abbrev pub EndsQuoted : ℕ → List ℕ → Type 0
@@ -96,7 +94,7 @@ HasForm start (sign b) rest =
 abbrev pub IsShort : Piece → Type 0
 IsShort (word name) = length name ≤ 32
 IsShort (whole digits) = length digits ≤ 38
-IsShort (decimal digits fraction) = length (digits ++ 46 ∷ fraction) ≤ 38
+IsShort (decimal digits fraction) = length (digits ++ (codes "." ++ fraction)) ≤ 38
 IsShort _ = Unit {0}
 
 -- the bytes of the pieces, and then the rest
@@ -128,70 +126,3 @@ pub record IsMadeOf (text : List ℕ) (tokens : List Token) : Type 0 where
   pub joined : text ≡ text_of pieces []
   pub formed : AreFormed true pieces []
   pub tokens_are : tokens ≡ tokens_among [] pieces
-
--- the bytes of a piece that is a token
-abbrev pub token_text : Piece → Option (List ℕ)
-token_text p = option_map (λ kind. spelling p) (kind_of p)
-
--- the token is a piece of the text, of its kind, with the place of its first byte and the span of its bytes
-pub record IsToken (text : List ℕ) (t : Token) : Type 0 where
-  pub piece : Piece
-  pub start : Bool
-  pub kind : kind_of piece ≡ Some t.kind
-  pub line : t.line ≡ line_after (take t.from text)
-  pub column : t.column ≡ column_after (take t.from text)
-  pub some : t.from < t.upto
-  pub inside : t.upto ≤ length text
-  pub bytes : slice_range text t.from t.upto ≡ spelling piece
-  pub form : HasForm start piece (drop t.upto text)
-  pub short : IsShort piece
-
--- the tokens lie between these places, one behind another
-abbrev pub AreInOrder : ℕ → ℕ → List Token → Type 0
-AreInOrder from upto [] = from ≤ upto
-AreInOrder from upto (t ∷ tokens) = (from ≤ t.from) × (t.from < t.upto) × AreInOrder t.upto upto tokens
-
--- What isn't a piece, with the text that follows: a comment, a remark or a quoted text with no end; a byte that begins no item; a
--- piece that is too long.
-pub data Flaw : Type 0 where
-  open_comment : List ℕ → Flaw
-  open_remark : List ℕ → Flaw
-  open_quoted : ℕ → List ℕ → Flaw
-  stray : ℕ → List ℕ → Flaw
-  long_piece : Piece → List ℕ → Flaw
-
-abbrev pub flaw_text : Flaw → List ℕ
-flaw_text (open_comment inside) = 47 ∷ 42 ∷ inside
-flaw_text (open_remark inside) = 42 ∷ inside
-flaw_text (open_quoted quote inside) = quote ∷ inside
-flaw_text (stray b rest) = b ∷ rest
-flaw_text (long_piece p rest) = spelling p ++ rest
-
--- the kind of the fault
-abbrev pub fault_kind : Flaw → ℕ
-fault_kind (open_comment inside) = 1
-fault_kind (open_remark inside) = 1
-fault_kind (open_quoted quote inside) = 2
-fault_kind (stray b rest) = 3
-fault_kind (long_piece (word name) rest) = 5
-fault_kind (long_piece _ rest) = 4
-
--- the byte is that of some row, where these bytes follow
-abbrev pub begins_item : ℕ → List ℕ → Bool
-begins_item b rest = is_white b || begins_word b || is_digit b || begins_fraction (b ∷ rest) || is_quote b || is_sign b
-
-abbrev pub IsFlaw : Bool → Flaw → Type 0
-IsFlaw start (open_comment inside) = ¬ Closes inside
-IsFlaw start (open_remark inside) = IsTrue start × ¬ Contains inside 59
-IsFlaw start (open_quoted quote inside) = IsTrue (is_quote quote) × ¬ EndsQuoted quote inside
-IsFlaw start (stray b rest) = begins_item b rest ≡ false
-IsFlaw start (long_piece p rest) = HasForm start p rest × ¬ IsShort p
-
--- the text is pieces up to a flaw, and this is its fault, with the place where the flaw begins
-pub record BreaksOff (text : List ℕ) (fault : LexFault) : Type 0 where
-  pub pieces : List Piece
-  pub flaw : Flaw
-  pub joined : text ≡ text_of pieces (flaw_text flaw)
-  pub formed : AreFormed true pieces (flaw_text flaw)
-  pub form : IsFlaw (starts_behind_all true pieces) flaw
-  pub fault_is : fault ≡ fault_at (place_after (text_of pieces [])) (fault_kind flaw)

@@ -1,5 +1,5 @@
 ghost use Rattle.std.specs.Prelude.{◌≡◌, ◌+◌, ◌<◌, ◌≤◌, ◌^◌, ◌++◌, Ok, length, IfOk, IfErr, OnOk, All};
-ghost use Rattle.fx_lexer.specs.Pieces.{IsToken};
+ghost use Rattle.fx_lexer.specs.Tokens.{AreInOrder, IsToken};
 ghost use Rattle.fx_lexer.specs.Lexing.{lexed, starts_after, tokens_of, IsFirstFault};
 
 use crate::item::{Item, front};
@@ -18,8 +18,9 @@ pub fn lex(alloc: Global, text: &[u8]) -> Result<Tokens, LexStop>
     ensures tokens { IfOk result (λ tokens. lexed text.now ≡ Ok tokens) }
     ensures fault { IfErr result (IsFirstFault text.now) }
 
-    // Its span, place, kind and form.
+    // The span, place, kind and form of each token.
     ensures each { IfOk result (All (IsToken text.now)) }
+    ensures order { IfOk result (AreInOrder 0 (length text.now)) }
 {
     let mut tokens = Tokens::new(alloc);
     let mut at = 0;

@@ -9,6 +9,9 @@ mod lexing;
 mod place;
 mod token;
 
-pub use laws::{text_is_pieces, tokens_stand_in_order};
+pub use laws::{spans_hold_the_pieces, text_is_pieces};
 pub use lexing::lex;
 pub use token::{Kind, LexFault, LexStop, Token, Tokens};
+
+#[cfg(test)]
+mod tests;
