@@ -1,18 +1,49 @@
--- Texts and their tokens.
-use Rattle.std.proofs.Common.{◌≡◌, [], ◌∷◌, ◌++◌, Ok, Err, refl}
+-- Texts with their tokens or their fault.
+use Rattle.std.proofs.Common.{◌≡◌, ℕ, List, [], ◌∷◌, ◌++◌, Result, Ok, Err, refl}
 use Rattle.std.specs.Prelude.{codes}
-use Rattle.fx_lexer.specs.declared.token.Kind.TheVariants as kind
+use Rattle.fx_lexer.specs.declared.token.Kind.{Kind}
+use Rattle.fx_lexer.specs.declared.token.Kind.TheVariants.{Word, Decimal, Quoted, Sign}
+use Rattle.fx_lexer.specs.declared.token.Token.{Token}
+use Rattle.fx_lexer.specs.declared.token.LexFault.{LexFault}
 use Rattle.fx_lexer.specs.Lexing.{lexed}
 
--- proc factex; \n factors A 'b
-open_quote : lexed (codes "proc factex;" ++ 10 ∷ codes "factors A 'b") ≡ Err (record { kind = 2; line = 2; column = 11 })
+abbrev token : Kind → ℕ → ℕ → ℕ → ℕ → Token
+token k line column from upto = record { kind = k; line = line; column = column; from = from; upto = upto }
+
+abbrev fault : ℕ → ℕ → ℕ → Result (List Token) LexFault
+fault kind line column = Err (record { kind = kind; line = line; column = column })
+
+-- comments are no tokens, and `*` is a comment only where a statement starts
+comments : lexed (codes "a=1.5;*x;/*y*/.5") ≡ Ok (token Word 1 1 0 1 ∷ token Sign 1 2 1 2 ∷ token Decimal 1 3 2 5 ∷ token Sign 1 6 5 6 ∷ token Decimal 1 15 14 16 ∷ [])
+comments = refl
+
+-- a statement still starts behind a comment
+two_remarks : lexed (codes "*a;*b; c*d") ≡ Ok (token Word 1 8 7 8 ∷ token Sign 1 9 8 9 ∷ token Word 1 10 9 10 ∷ [])
+two_remarks = refl
+
+open_quote : lexed (codes "proc factex;" ++ 10 ∷ codes "factors A 'b") ≡ fault 2 2 11
 open_quote = refl
 
-two : lexed (codes "a=1.5;*x;/*y*/.5") ≡ Ok (
-    record { kind = kind.Word; line = 1; column = 1; from = 0; upto = 1 }
-    ∷ record { kind = kind.Sign; line = 1; column = 2; from = 1; upto = 2 }
-    ∷ record { kind = kind.Decimal; line = 1; column = 3; from = 2; upto = 5 }
-    ∷ record { kind = kind.Sign; line = 1; column = 6; from = 5; upto = 6 }
-    ∷ record { kind = kind.Decimal; line = 1; column = 15; from = 14; upto = 16 }
-    ∷ [])
-two = refl
+-- a doubled quote belongs to the inside
+three_quotes : lexed (codes "'''") ≡ fault 2 1 1
+three_quotes = refl
+
+four_quotes : lexed (codes "''''") ≡ Ok (token Quoted 1 1 0 4 ∷ [])
+four_quotes = refl
+
+other_quote : lexed (codes "'\"'\"'\"") ≡ Ok (token Quoted 1 1 0 3 ∷ token Quoted 1 4 3 6 ∷ [])
+other_quote = refl
+
+-- one `*` doesn't open a comment and close it
+shared_star : lexed (codes "a /*/") ≡ fault 1 1 3
+shared_star = refl
+
+shortest_comment : lexed (codes "/**/") ≡ Ok []
+shortest_comment = refl
+
+-- a point needs a digit behind it
+last_point : lexed (codes "1.") ≡ fault 3 1 2
+last_point = refl
+
+two_points : lexed (codes "1.5.5x") ≡ Ok (token Decimal 1 1 0 3 ∷ token Decimal 1 4 3 5 ∷ token Word 1 6 5 6 ∷ [])
+two_points = refl

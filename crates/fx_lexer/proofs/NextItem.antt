@@ -1,13 +1,14 @@
 -- One item further.
-use Rattle.std.proofs.Common.{◌≡◌, ℕ, zero, suc, ◌+◌, ◌-◌, ◌<◌, ◌≤◌, Bool, List, [], ◌++◌, length, get_or, take, drop, Result, Ok, Err, refl, sym, ap, subst, append_assoc, append-nil, arith}
+use Rattle.std.proofs.Common.{◌∙◌, ◌≡◌, ℕ, zero, suc, ◌+◌, ◌-◌, ◌<◌, ◌≤◌, Bool, List, ◌++◌, length, get_or, take, drop, Result, Ok, Err, refl, sym, ap, subst, append_assoc, append-nil, arith}
 use Rattle.std.proofs.Math.Seq.{drop-cons}
+use Rattle.std.proofs.lemmas.List.{drop_all}
 use Rattle.std.proofs.Math.Numerals.{add-one}
 use Rattle.fx_lexer.specs.declared.item.Item.{Item}
 use Rattle.fx_lexer.specs.declared.token.Token.{Token}
 use Rattle.fx_lexer.specs.declared.token.LexFault.{LexFault}
 use Rattle.fx_lexer.specs.Places.{place_after}
 use Rattle.fx_lexer.specs.Items.{item}
-use Rattle.fx_lexer.specs.Lexing.{lexed_from, in_front, tokens_of, starts_after, fault_at}
+use Rattle.fx_lexer.specs.Lexing.{lexed, lexed_from, in_front, tokens_of, starts_after, fault_at}
 
 module _ (text : List ℕ) where
   -- the bytes of an item are passed over
@@ -38,5 +39,6 @@ pub in_front_twice : (a b : List Token) (r : Result (List Token) LexFault) → i
 in_front_twice a b (Ok x) = ap (λ l. Ok l) (sym (append_assoc a b x))
 in_front_twice a b (Err e) = refl
 
-pub in_front_none : (a : List Token) (r : Result (List Token) LexFault) → r ≡ Ok [] → in_front a r ≡ Ok a
-in_front_none a r e = rw e (ap (λ l. Ok l) (append-nil a))
+-- nothing is left to read
+pub all_read : (text : List ℕ) (start : Bool) (at : ℕ) (tokens : List Token) → length text ≤ at → lexed text ≡ in_front tokens (lexed_from text 0 start at (drop at text)) → lexed text ≡ Ok tokens
+all_read text start at tokens end e = e ∙ rw (drop_all at text end) (ap (λ l. Ok l) (append-nil tokens))

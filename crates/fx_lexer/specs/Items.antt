@@ -21,14 +21,14 @@ abbrev pub gap : ℕ → Result Item ℕ
 gap n = Ok (record { kind = None; length = n })
 
 -- a comment, if it ends
-abbrev pub comment : Option ℕ → Result Item ℕ
-comment None = Err 1
-comment (Some n) = gap n
+abbrev pub comment_if_closed : Option ℕ → Result Item ℕ
+comment_if_closed None = Err 1
+comment_if_closed (Some n) = gap n
 
 -- a quoted text, if it ends
-abbrev pub quote : Option ℕ → Result Item ℕ
-quote None = Err 2
-quote (Some n) = token kind.Quoted n
+abbrev pub quoted_if_closed : Option ℕ → Result Item ℕ
+quoted_if_closed None = Err 2
+quoted_if_closed (Some n) = token kind.Quoted n
 
 abbrev pub begins_number : ℕ → ℕ → Bool
 begins_number whole fraction = nat_lt 0 (whole + fraction)
@@ -44,10 +44,10 @@ item start (b ∷ bytes) =
     let whole = prefix_len is_digit (b ∷ bytes) in
     let fraction = fraction_len (drop whole (b ∷ bytes)) in
     if is_white b then gap 1
-    else (if begins_comment (b ∷ bytes) then comment (option_map (λ n. 2 + n) (closing_len (drop 1 bytes)))
-    else (if begins_remark start (b ∷ bytes) then comment (remark_len (b ∷ bytes))
+    else (if begins_comment (b ∷ bytes) then comment_if_closed (option_map (λ n. 2 + n) (closing_len (drop 1 bytes)))
+    else (if begins_remark start (b ∷ bytes) then comment_if_closed (remark_len (b ∷ bytes))
     else (if begins_word b then limited kind.Word (prefix_len is_word_byte (b ∷ bytes)) 32 5
     else (if begins_number whole fraction then number whole fraction
-    else (if is_quote b then quote (option_map suc (quoted_len b false bytes))
+    else (if is_quote b then quoted_if_closed (option_map suc (quoted_len b false bytes))
     else (if is_sign b then token kind.Sign 1
     else Err 3))))))

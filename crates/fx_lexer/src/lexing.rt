@@ -1,4 +1,5 @@
-ghost use Rattle.std.specs.Prelude.{◌≡◌, ◌+◌, ◌<◌, ◌≤◌, ◌^◌, ◌++◌, Ok, length, IfOk, IfErr, OnOk};
+ghost use Rattle.std.specs.Prelude.{◌≡◌, ◌+◌, ◌<◌, ◌≤◌, ◌^◌, ◌++◌, Ok, length, IfOk, IfErr, OnOk, All};
+ghost use Rattle.fx_lexer.specs.Tokens.{AreInOrder, IsToken};
 ghost use Rattle.fx_lexer.specs.Lexing.{lexed, starts_after, tokens_of, IsFirstFault};
 
 use crate::item::{Item, front};
@@ -16,6 +17,10 @@ pub fn lex(alloc: Global, text: &[u8]) -> Result<Tokens, LexStop>
     requires { length text.now ≤ 1048576 }
     ensures tokens { IfOk result (λ tokens. lexed text.now ≡ Ok tokens) }
     ensures fault { IfErr result (IsFirstFault text.now) }
+
+    // The span, place, kind and form of each token.
+    ensures each { IfOk result (All (IsToken text.now)) }
+    ensures order { IfOk result (AreInOrder 0 (length text.now)) }
 {
     let mut tokens = Tokens::new(alloc);
     let mut at = 0;

@@ -4,9 +4,14 @@
 mod byte;
 mod extent;
 mod item;
+mod laws;
 mod lexing;
 mod place;
 mod token;
 
+pub use laws::{spans_hold_the_pieces, text_is_pieces};
 pub use lexing::lex;
 pub use token::{Kind, LexFault, LexStop, Token, Tokens};
+
+#[cfg(test)]
+mod tests;

@@ -1,7 +1,8 @@
 use Rattle.std.proofs.Common.{◌≤◌, ◌+◌, length, sym, refl, ap, ◌∙◌, arith}
 use Rattle.std.proofs.lemmas.List.{take_rest, length-drop}
 use Rattle.fx_lexer.specs.Lexing.{in_front}
-use Rattle.fx_lexer.proofs.NextItem.{item_read, in_front_twice}
+use Rattle.fx_lexer.proofs.NextItem.{item_read, in_front_twice, all_read}
+use Rattle.fx_lexer.proofs.Spans.{each_of_text, in_order_of_text}
 use Rattle.fx_lexer.proofs.lexing.lex.Goals as goal
 
 pub loop-at-preserved : goal.loop-at-preserved
@@ -19,3 +20,15 @@ loop-at-preserved c =
           ∙ in_front_twice c.loop-at.tokens _ _
           ∙ rw (c.in_ok-keep-in-Ok.ensures, c.loop-at.invariant.1, c.starts_after-start.ensures) refl,
     )
+
+pub returns-clause-each : goal.returns-clause-each
+returns-clause-each c =
+    let text = c.args.text.now in
+    let e = all_read text c.loop-at.start c.loop-at.at c.loop-at.tokens c.loop-at-test.false c.loop-at.invariant.2 in
+    rw e at (each_of_text text)
+
+pub returns-clause-order : goal.returns-clause-order
+returns-clause-order c =
+    let text = c.args.text.now in
+    let e = all_read text c.loop-at.start c.loop-at.at c.loop-at.tokens c.loop-at-test.false c.loop-at.invariant.2 in
+    rw e at (in_order_of_text text)
