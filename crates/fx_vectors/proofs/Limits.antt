@@ -11,12 +11,12 @@ use Rattle.fx_vectors.specs.Shape.{IsShape}
 pub order-bounds : (q : ℕ) → IsTrue (is_order q) → (2 ≤ q) × (q ≤ 9)
 order-bounds q known = (grind (arith, nat_tests), grind (arith, nat_tests))
 
--- at most 40 codes have a number of less than 128 bits
-pub numbers_fit : (q n : ℕ) → q ≤ 9 → n ≤ 40 → q ^ n < 2 ^ 128
+-- at most 40 codes have a number of less than 127 bits
+pub numbers_fit : (q n : ℕ) → q ≤ 9 → n ≤ 40 → q ^ n < 2 ^ 127
 numbers_fit q n small short =
     let more : 9 ^ n ≤ 9 ^ 40 = pow-le-pow_right (omega arith) short in
     let less : q ^ n ≤ 9 ^ n = pow-le-pow_left small n in
-    let fits : 9 ^ 40 < 2 ^ 128 = lit< tt in
+    let fits : 9 ^ 40 < 2 ^ 127 = lit< tt in
     omega arith
 
 -- with at most 1,024 runs there are at most 10 run indexes

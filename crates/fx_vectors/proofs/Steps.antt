@@ -1,7 +1,7 @@
 -- One turn of each loop over the codes of a vector or the rows of a matrix.
-use Rattle.std.proofs.Common.{◌≡◌, ℕ, ◌<◌, ◌≤◌, ◌+◌, ◌*◌, ◌-◌, ◌/◌, ◌%◌, ◌^◌, ◌++◌, zero, suc, List, [], ◌∷◌, get_or, drop, take, length, arith, sym, ap, ◌∙◌, refl, add-one, append_assoc, drop-cons, Bool, true, false, cond, eqb}
+use Rattle.std.proofs.Common.{◌≡◌, ℕ, ◌<◌, ◌≤◌, ◌+◌, ◌*◌, ◌-◌, ◌/◌, ◌%◌, ◌^◌, ◌++◌, zero, suc}
+use Rattle.std.proofs.Common.{List, [], ◌∷◌, get_or, drop, take, length, arith, sym, ap, ◌∙◌, refl, add-one, lit<, append_assoc, drop-cons, Bool, true, false, cond, eqb}
 use Rattle.std.proofs.lemmas.List.{take_more}
-use Rattle.std.proofs.lemmas.List.Elements.{All-get_or, All-from_recursion}
 use Rattle.std.proofs.lemmas.Bool.Decides.{nat_tests}
 use Rattle.std.proofs.Math.ListN.{drop_of_length-le}
 use Rattle.fx_designs.specs.Galois.{add, mul, IsField, digits, number}
@@ -49,9 +49,6 @@ last_nonzero-push (a ∷ v) c = rw (last_nonzero-push v c) (by_head (eqb c 0) (l
 pub last_nonzero_more : (v : List ℕ) (i : ℕ) → i < length v → last_nonzero (take (i + 1) v) ≡ cond (eqb (get_or v i 0) 0) (last_nonzero (take i v)) (get_or v i 0)
 last_nonzero_more v i h = ap last_nonzero (take_more v i 0 h) ∙ last_nonzero-push (take i v) (get_or v i 0)
 
-pub code_at : (q n : ℕ) (v : List ℕ) (i : ℕ) → IsVector q n v → i < n → get_or v i 0 < q
-code_at q n v i h below = All-get_or (λ c. c < q) v i 0 (omega (arith, h.len)) (All-from_recursion (λ c. c < q) v h.codes)
-
 pub drop-vector : (q n : ℕ) (v : List ℕ) (i : ℕ) → IsVector q n v → IsVector q (n - i) (drop i v)
 drop-vector q n v zero h = let e : n - 0 ≡ n = omega arith in rw e h
 drop-vector q zero [] (suc i) h = let e : 0 - suc i ≡ 0 = omega arith in rw e h
@@ -66,7 +63,8 @@ drop-vector q (suc n) (a ∷ v) (suc i) h =
 pub number_fits : (q n : ℕ) (v : List ℕ) (i : ℕ) → q ≤ 9 → n ≤ 40 → IsVector q n v → number q (drop i v) < 2 ^ 128
 number_fits q n v i small short h =
     let below : number q (drop i v) < q ^ (n - i) = number-below q (n - i) (drop i v) (drop-vector q n v i h) in
-    let fits : q ^ (n - i) < 2 ^ 128 = numbers_fit q (n - i) small (omega arith) in
+    let fits : q ^ (n - i) < 2 ^ 127 = numbers_fit q (n - i) small (omega arith) in
+    let wide : 2 ^ 127 < 2 ^ 128 = lit< tt in
     omega arith
 
 -- the sum of the rows before i, and then the others

@@ -1,3 +1,5 @@
+ghost use Rattle.fx_vectors.specs.Question.{IsValid};
+
 use crate::effect::Effects;
 use crate::shape::Shape;
 
@@ -24,4 +26,30 @@ pub struct Question {
     /// Whether the word-length pattern is to be least, which is asked only under a resolution and
     /// without block factors.
     pub least: bool,
+}
+
+#[cfg(test)]
+mod tests {
+    use super::*;
+
+    /// The half fraction of four factors of two levels, with the least pattern.
+    fn half_fraction() -> Question
+        ensures { IsValid result }
+    {
+        Question {
+            shape: Shape {
+                q: 2,
+                m: 3,
+                s: 4,
+                t: 0,
+            },
+            demands: Demands::Resolution { r: 4 },
+            least: true,
+        }
+    }
+
+    #[test]
+    fn a_least_pattern_may_be_asked_under_a_resolution(rt: HostRuntime) {
+        assert!(rt; half_fraction().least);
+    }
 }

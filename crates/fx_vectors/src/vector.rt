@@ -114,6 +114,7 @@ impl Vector {
         ensures product { result ≡ dot field self.now other.now }
         ensures code { result < field }
     {
+        // Its order, once read, is known to be one of the seven.
         let _known = field.q();
         let mut sum = 0;
         for i in 0..self.len() {
@@ -152,6 +153,7 @@ impl Vector {
         ensures factor { 0 < inv field (last_nonzero self.now) }
         ensures vector { IsVector field (length self.now) result }
     {
+        // Its order, once read, is known to be one of the seven.
         let _known = field.q();
         let factor = field.inv(self.last_nonzero());
         let mut multiple = Vector::zero(self.len());

@@ -1,21 +1,19 @@
 -- The entry of the table is what the operation gives.
-use Rattle.std.proofs.Common.{ℕ, ◌≡◌, ◌<◌, get_or, ap, subst, sym, ◌∙◌}
-use Rattle.fx_designs.specs.Galois.{inv, IsField}
+use Rattle.std.proofs.Common.{ℕ, ◌<◌, IsTrue, get_or, ap, subst, sym, ◌∙◌}
+use Rattle.fx_designs.specs.Galois.{is_order}
 use Rattle.fx_laws.proofs.Tables.{is_order-field}
+use Rattle.fx_galois.specs.Places.{code_place}
 use Rattle.fx_galois.specs.declared.tables.TheConstants.{INVERSES}
 use Rattle.fx_galois.proofs.Entries.{inverse_is}
 use Rattle.fx_galois.proofs.field.Field.inv.Goals as goal
 
 pub returns-clause-inverse : goal.returns-clause-inverse
 returns-clause-inverse c =
-    ap (λ (k : ℕ). get_or INVERSES k 0) c.place_of_code.ensures.place
-    ∙ inverse_is c.self.inside.q c.args.a c.self.invariant (subst (λ n. c.args.a < n) (sym c.self.view_is) c.requires.code)
-    ∙ ap (λ (q : ℕ). inv q c.args.a) c.self.view_is
+    let order : IsTrue (is_order c.args.self.now) = subst (λ q. IsTrue (is_order q)) c.self.view_is c.self.invariant in
+    ap (λ (k : ℕ). get_or INVERSES k 0) (c.place_of_code.ensures.place ∙ ap (λ (q : ℕ). code_place q c.args.a) c.self.view_is)
+    ∙ inverse_is c.args.self.now c.args.a order c.requires.code
 
 pub returns-clause-code : goal.returns-clause-code
 returns-clause-code c =
-    let field : IsField c.self.inside.q = is_order-field c.self.inside.q c.self.invariant in
-    let entry : get_or INVERSES c.place_of_code.result 0 ≡ inv c.self.inside.q c.args.a =
-    ap (λ (k : ℕ). get_or INVERSES k 0) c.place_of_code.ensures.place
-    ∙ inverse_is c.self.inside.q c.args.a c.self.invariant (subst (λ n. c.args.a < n) (sym c.self.view_is) c.requires.code) in
-    subst (λ n. get_or INVERSES c.place_of_code.result 0 < n) c.self.view_is (subst (λ x. x < c.self.inside.q) (sym entry) (field.inv_code c.args.a))
+    let order : IsTrue (is_order c.args.self.now) = subst (λ q. IsTrue (is_order q)) c.self.view_is c.self.invariant in
+    subst (λ x. x < c.args.self.now) (sym (returns-clause-inverse c)) ((is_order-field c.args.self.now order).inv_code c.args.a)

@@ -23,7 +23,9 @@ loop-i-init c =
       vector = c.zero-sum.ensures.vector c.field-field.result (omega (arith, f.more_than_one));
       so_far =
           rw c.zero-sum.ensures.zeros
-          (zeros-plus c.field-field.result c.from-m.result f _ (combination-vector c.field-field.result c.from-m.result f c.args.u.now _ (are_vectors c.field-field.result c.from-m.result c.args.self.now.rows (omega (arith, f.more_than_one)))));
+          (zeros-plus c.field-field.result c.from-m.result f _
+          (combination-vector c.field-field.result c.from-m.result f c.args.u.now _
+          (are_vectors c.field-field.result c.from-m.result c.args.self.now.rows (omega (arith, f.more_than_one)))));
     }
 
 pub loop-i-preserved : goal.loop-i-preserved
@@ -33,7 +35,8 @@ loop-i-preserved c =
       vector = subst (λ n. IsVector c.field-field.result n c.add_scaled.new.self) c.loop-i.invariant.vector.len c.add_scaled.ensures.vector;
       so_far =
           rw (c.add_scaled.ensures.sum, c.of_number-row.ensures.digits, c.code.ensures, c.from.ensures, c.row.ensures.row)
-          (sum_more c.field-field.result c.from-m.result f c.args.u.now c.args.self.now.rows c.loop-i.i c.loop-i.sum (omega (arith, c.requires.len)) (omega arith) ∙ c.loop-i.invariant.so_far);
+          (sum_more c.field-field.result c.from-m.result f c.args.u.now c.args.self.now.rows c.loop-i.i c.loop-i.sum (omega (arith, c.requires.len)) (omega arith)
+          ∙ c.loop-i.invariant.so_far);
     }
 
 pub returns-clause-sum : goal.returns-clause-sum
@@ -41,5 +44,7 @@ returns-clause-sum c =
     let f : IsField c.field-field.result = field_of (goal.at.returns-clause-sum c).After-from-m in
     let q : c.field-field.result ≡ c.args.self.now.shape.q = c.field-field.ensures ∙ ap (λ (z : MatrixView). z.shape.q) c.self.view_is in
     let m : c.from-m.result ≡ c.args.self.now.shape.m = c.from-m.ensures ∙ ap (λ (z : MatrixView). z.shape.m) c.self.view_is in
-    let all = sum_past c.field-field.result c.from-m.result f c.args.u.now c.args.self.now.rows c.loop-i.i c.loop-i.sum _ (omega (arith, c.requires.len)) c.loop-i.invariant.vector c.loop-i.invariant.so_far in
+    let all =
+    sum_past c.field-field.result c.from-m.result f c.args.u.now c.args.self.now.rows c.loop-i.i c.loop-i.sum _
+    (omega (arith, c.requires.len)) c.loop-i.invariant.vector c.loop-i.invariant.so_far in
     rw (← q, ← m) (c.number.ensures.number ∙ ap (number c.field-field.result) all)

@@ -12,7 +12,9 @@ pub inv-factor-requires-clause-nonzero : goal.inv-factor-requires-clause-nonzero
 inv-factor-requires-clause-nonzero c = rw c.last_nonzero.ensures (last_nonzero-positive c.args.self.now c.requires.nonzero)
 
 pub inv-factor-requires-clause-code : goal.inv-factor-requires-clause-code
-inv-factor-requires-clause-code c = rw c.last_nonzero.ensures (last_nonzero-code c.args.field (is_order-field c.args.field c.q-known.ensures.known) c.args.self.now c.requires.vector.codes)
+inv-factor-requires-clause-code c =
+    let f : IsField c.args.field = is_order-field c.args.field c.q-known.ensures.known in
+    rw c.last_nonzero.ensures (last_nonzero-code c.args.field f c.args.self.now c.requires.vector.codes)
 
 pub add_scaled-requires-clause-mine : goal.add_scaled-requires-clause-mine
 add_scaled-requires-clause-mine c =
@@ -22,15 +24,18 @@ add_scaled-requires-clause-mine c =
 pub returns-clause-multiple : goal.returns-clause-multiple
 returns-clause-multiple c =
     let f : IsField c.args.field = is_order-field c.args.field c.q-known.ensures.known in
+    let scaled = scale-vector c.args.field _ f (inv c.args.field (last_nonzero c.args.self.now)) c.args.self.now c.requires.vector in
     rw (c.add_scaled.ensures.sum, c.zero-multiple.ensures.zeros, c.inv-factor.ensures.inverse, c.last_nonzero.ensures, c.len.ensures.count)
-    (zeros-plus c.args.field _ f _ (scale-vector c.args.field _ f (inv c.args.field (last_nonzero c.args.self.now)) c.args.self.now c.requires.vector))
+    (zeros-plus c.args.field _ f _ scaled)
 
 pub returns-clause-normal : goal.returns-clause-normal
 returns-clause-normal c =
     let f : IsField c.args.field = is_order-field c.args.field c.q-known.ensures.known in
-    eq-eqb _ _ (ap last_nonzero (returns-clause-multiple c) ∙ normal-scale c.args.field f c.args.self.now c.requires.vector.codes (last_nonzero-positive c.args.self.now c.requires.nonzero))
+    let some = last_nonzero-positive c.args.self.now c.requires.nonzero in
+    eq-eqb _ _ (ap last_nonzero (returns-clause-multiple c) ∙ normal-scale c.args.field f c.args.self.now c.requires.vector.codes some)
 
 pub returns-clause-factor : goal.returns-clause-factor
 returns-clause-factor c =
     let f : IsField c.args.field = is_order-field c.args.field c.q-known.ensures.known in
-    inverse-positive c.args.field f _ (last_nonzero-positive c.args.self.now c.requires.nonzero) (last_nonzero-code c.args.field f c.args.self.now c.requires.vector.codes)
+    let some = last_nonzero-positive c.args.self.now c.requires.nonzero in
+    inverse-positive c.args.field f _ some (last_nonzero-code c.args.field f c.args.self.now c.requires.vector.codes)
