@@ -1,5 +1,5 @@
 -- The texts that are read so far: one step of two-level factors with a fixed size and a resolution.
-use Rattle.std.specs.Prelude.{ℕ, ◌-◌, ◌+◌, ◌*◌, ◌==◌, ◌≤◌, ◌&&◌, ◌||◌, not, nat_lt, nat_le, Bool, true, false, if◌then◌else◌, List, [], ◌∷◌, map, length, take, drop, Option, Some, None, Result, Ok, Err, codes}
+use Rattle.std.specs.Prelude.{ℕ, ◌-◌, ◌+◌, ◌*◌, ◌==◌, ◌≤◌, ◌&&◌, ◌||◌, not, nat_lt, nat_le, Bool, true, false, if◌then◌else◌, List, [], ◌∷◌, map, length, take, drop, slice_range, Option, Some, None, is_some, Result, Ok, Err, codes}
 use Rattle.std.specs.List.{list_any, list_all, prefix_len}
 use Rattle.std.specs.Str.{str_eq_ignore_ascii_case, bytes_eq}
 use Rattle.fx_lexer.specs.declared.token.Token.{Token}
@@ -9,15 +9,10 @@ use Rattle.fx_program.specs.declared.reading.Step.{Step}
 
 -- the text of a token
 abbrev pub word_of : List ℕ → Token → List ℕ
-word_of text t = take (t.upto - t.from) (drop t.from text)
+word_of text t = slice_range text t.from t.upto
 
 abbrev pub words_of : List ℕ → List Token → List (List ℕ)
 words_of text tokens = map (λ t. word_of text t) tokens
-
--- a token's text lies in a text of n bytes
-pub record IsWithin (n : ℕ) (t : Token) : Type 0 where
-  pub order : t.from ≤ t.upto
-  pub end : t.upto ≤ n
 
 infixl 10 ◌>>=◌
 abbrev pub ◌>>=◌ : {A B : Type 0} → Option A → (A → Option B) → Option B
@@ -66,28 +61,37 @@ resolution (a ∷ []) = if nat_le 51 a && nat_le a 57 then Some (a - 48) else No
 resolution (a ∷ b ∷ []) = if (nat_le 49 a && nat_le a 57) && (nat_le 48 b && nat_le b 57) then Some ((a - 48) * 10 + (b - 48)) else None
 resolution (a ∷ b ∷ c ∷ w) = None
 
--- the first word and the others
-abbrev pub first_word : List (List ℕ) → Option (List ℕ)
-first_word [] = None
-first_word (w ∷ words) = Some w
-
 -- the names, where the words before the first semicolon are names
 abbrev pub names_in : List (List ℕ) → Option (List (List ℕ))
-names_in words = if are_names (take (before_semicolon words) words) then Some (take (before_semicolon words) words) else None
+names_in words =
+    let names = take (before_semicolon words) words in
+    (if are_names names then Some names else None)
+
+-- the number that the first word is, and the other words
+abbrev pub numbered : (List ℕ → Option ℕ) → List (List ℕ) → Option (ℕ × List (List ℕ))
+numbered read [] = None
+numbered read (w ∷ words) = read w >>= λ n. Some (n, words)
+
+-- `; size design = ` and a number of runs
+abbrev pub sized : List (List ℕ) → Option (ℕ × List (List ℕ))
+sized words = after (codes ";" ∷ codes "size" ∷ codes "design" ∷ codes "=" ∷ []) words >>= numbered run_indexes
+
+-- `; model resolution = ` and a resolution
+abbrev pub modelled : List (List ℕ) → Option (ℕ × List (List ℕ))
+modelled words = after (codes ";" ∷ codes "model" ∷ codes "resolution" ∷ codes "=" ∷ []) words >>= numbered resolution
+
+-- `; run ;` and nothing more
+abbrev pub is_end : List (List ℕ) → Bool
+is_end words = length words == 3 && is_some (after (codes ";" ∷ codes "run" ∷ codes ";" ∷ []) words)
 
 -- `proc factex; factors <names>; size design=<runs>; model resolution=<r>; run;`
 unfoldable pub step_in : List (List ℕ) → Option Step
-step_in words = do
-  listed ← after (codes "proc" ∷ codes "factex" ∷ codes ";" ∷ codes "factors" ∷ []) words
-  names ← names_in listed
-  sized ← after (codes ";" ∷ codes "size" ∷ codes "design" ∷ codes "=" ∷ []) (drop (length names) listed)
-  runs ← first_word sized
-  m ← run_indexes runs
-  modelled ← after (codes ";" ∷ codes "model" ∷ codes "resolution" ∷ codes "=" ∷ []) (drop 1 sized)
-  wanted ← first_word modelled
-  r ← resolution wanted
-  rest ← after (codes ";" ∷ codes "run" ∷ codes ";" ∷ []) (drop 1 modelled)
-  if length rest == 0 then Some (record { factors = names; m = m; r = r }) else None
+step_in words =
+    after (codes "proc" ∷ codes "factex" ∷ codes ";" ∷ codes "factors" ∷ []) words
+    >>= λ listed. names_in listed
+    >>= λ names. sized (drop (length names) listed)
+    >>= λ size. modelled size.1
+    >>= λ model. if is_end model.1 then Some (record { factors = names; m = size.0; r = model.0 }) else None
 
 -- the step of a text's tokens, where it has no lexical fault
 abbrev pub step_of_tokens : List ℕ → Result (List Token) LexFault → Option Step

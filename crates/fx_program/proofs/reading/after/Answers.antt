@@ -1,7 +1,8 @@
 use Rattle.std.proofs.Common.{ℕ, ◌≡◌, ◌<◌, ◌∷◌, [], List, All, length, map, refl, sym, ap, ◌∙◌, arith}
 use Rattle.std.proofs.lemmas.List.Elements.{All-rest}
 use Rattle.fx_lexer.specs.declared.token.Token.{Token}
-use Rattle.fx_program.specs.Texts.{words_of, IsWithin}
+use Rattle.fx_lexer.specs.Tokens.{IsToken}
+use Rattle.fx_program.specs.Texts.{words_of}
 use Rattle.fx_program.proofs.Keywords.{after_end, after_more}
 use Rattle.fx_program.proofs.reading.after.Goals as goal
 
@@ -16,6 +17,6 @@ pub loop-keyword-preserved : goal.loop-keyword-preserved
 loop-keyword-preserved c =
     let is = c.in-Some.ensures.cases.0 in
     record {
-      within = All-rest (IsWithin (length c.args.text.now)) _ _ _ is c.loop-keyword.invariant.within;
+      within = All-rest (IsToken c.args.text.now) _ _ _ is c.loop-keyword.invariant.within;
       left = c.loop-keyword.invariant.left ∙ after_more (λ k. k.now) c.args.keywords.now c.loop-keyword.keyword-index _ _ _ _ (ap (words_of c.args.text.now) is) (omega arith) (sym c.spells.ensures ∙ c.if-not-spells.false);
     }
