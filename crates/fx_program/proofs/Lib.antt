@@ -1,4 +1,7 @@
 mod Wording
 mod Keywords
+mod Names
+mod Chain
+mod Stepping
 mod Products
 mod Endings

@@ -82,6 +82,7 @@ fn parts_in<'a>(text: &[u8], tokens: &'a [Token]) -> Option<Parts<'a>>
     requires { All (IsToken text.now) tokens.now }
     ensures step { option_map (λ p. record { factors = words_of text.now p.names.now; m = p.m; r = p.r }) result ≡ step_in (words_of text.now tokens.now) }
     ensures names { IfSome result (λ p. IsTrue (are_names (words_of text.now p.names.now))) }
+    ensures numbers { IfSome result (λ p. (1 ≤ p.m) × (p.m ≤ 4) × (3 ≤ p.r) × (p.r ≤ 99)) }
     ensures within { IfSome result (λ p. All (IsToken text.now) p.names.now) }
 {
     let Some(listed) = after(text, tokens, &[b"proc", b"factex", b";", b"factors"]) else {
@@ -238,6 +239,7 @@ fn stands_in(text: &[u8], token: Token, tokens: &[Token]) -> bool
 /// The m of the size and the tokens behind it.
 fn sized<'a>(text: &[u8], tokens: &'a [Token]) -> Option<(u8, &'a [Token])>
     requires { All (IsToken text.now) tokens.now }
+    ensures limits { IfSome result (λ p. (1 ≤ p.0) × (p.0 ≤ 4)) }
     ensures size { option_map (λ p. (p.0, words_of text.now p.1.now)) result ≡ sized (words_of text.now tokens.now) }
     ensures within { IfSome result (λ p. All (IsToken text.now) p.1.now) }
 {
@@ -256,6 +258,7 @@ fn sized<'a>(text: &[u8], tokens: &'a [Token]) -> Option<(u8, &'a [Token])>
 /// The resolution and the tokens behind it.
 fn modelled<'a>(text: &[u8], tokens: &'a [Token]) -> Option<(u8, &'a [Token])>
     requires { All (IsToken text.now) tokens.now }
+    ensures limits { IfSome result (λ p. (3 ≤ p.0) × (p.0 ≤ 99)) }
     ensures model { option_map (λ p. (p.0, words_of text.now p.1.now)) result ≡ modelled (words_of text.now tokens.now) }
     ensures within { IfSome result (λ p. All (IsToken text.now) p.1.now) }
 {
@@ -282,7 +285,8 @@ fn is_end(text: &[u8], tokens: &[Token]) -> bool
 /// The m of a number of runs, 2^m.
 #[tactic(auto, unfolding(crate::specs::Texts::run_indexes))]
 fn run_indexes(word: &[u8]) -> Option<u8>
-    ensures { result ≡ run_indexes word.now }
+    ensures indexes { result ≡ run_indexes word.now }
+    ensures limits { IfSome result (λ m. (1 ≤ m) × (m ≤ 4)) }
 {
     if word == b"2".as_slice() {
         return Some(1);
@@ -302,7 +306,8 @@ fn run_indexes(word: &[u8]) -> Option<u8>
 /// A number from 3 to 99, without leading zeros.
 #[tactic(auto, unfolding(crate::specs::Texts::resolution))]
 fn resolution(word: &[u8]) -> Option<u8>
-    ensures { result ≡ resolution word.now }
+    ensures number { result ≡ resolution word.now }
+    ensures limits { IfSome result (λ r. (3 ≤ r) × (r ≤ 99)) }
 {
     match word {
         [a] if 51 <= *a && *a <= 57 => Some(*a - 48),
