@@ -8,6 +8,7 @@ pub mod Tests
 pub mod Judging
 pub mod CanonicalTest
 pub mod Order
+pub mod FirstDesign
 pub mod Bridge
 pub mod Separation
 pub mod Blocks

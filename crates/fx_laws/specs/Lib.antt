@@ -6,3 +6,4 @@ pub mod Scalings
 pub mod Reorders
 pub mod Canonical
 pub mod Meets
+pub mod First

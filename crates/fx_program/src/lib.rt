@@ -4,6 +4,8 @@
 mod listing;
 mod reading;
 mod run;
+#[cfg(test)]
+mod tests;
 mod words;
 
 pub use reading::{Names, Step, read_step};

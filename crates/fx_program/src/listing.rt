@@ -48,12 +48,7 @@ fn put_none(out: &mut Bytes, runs: u128) -> Result<(), NoMemory>
     put(out, b" runs\n")
 }
 
-fn put_design(
-    out: &mut Bytes,
-    runs: u128,
-    names: &Names,
-    matrix: &Matrix,
-) -> Result<(), NoMemory>
+fn put_design(out: &mut Bytes, runs: u128, names: &Names, matrix: &Matrix) -> Result<(), NoMemory>
     requires { length matrix.now.rows ≡ length names.now }
     ensures { OnOk result (out.new ≡ out.old ++ design_lines runs matrix.now.shape.q matrix.now.shape.m names.now matrix.now.rows) }
 {
