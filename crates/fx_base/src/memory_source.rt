@@ -21,7 +21,13 @@ pub struct MemorySource {
 impl Model for MemorySource {
     ghost Value = { FailingSource };
 
-    ghost view = { λ s. record { left = s.source.left; step = s.source.step; failing = s.calls.failing; made = s.calls.made; faults = s.faults } };
+    ghost view = { λ s. record {
+      left = s.source.left;
+      step = s.source.step;
+      failing = s.calls.failing;
+      made = s.calls.made;
+      faults = s.faults;
+    } };
 
     ghost invariant = { λ s. s.calls.failing ≡ [] → s.faults ≡ 0 };
 }
@@ -61,10 +67,14 @@ impl Source for MemorySource {
         ensures cause { HasCause self.old.faults self.new.faults result }
 
         ensures listed { IsErr result ↔ IsListed self.old.failing self.old.made }
-        ensures count { IfOk result (λ n. n ≡ portion self.old.step (length self.old.left) (length to.old)) }
+        ensures count { IfOk result (λ n.
+            n ≡ portion self.old.step (length self.old.left) (length to.old)) }
         ensures given { IfOk result (λ n. to.new ≡ take n self.old.left ++ drop n to.old) }
-        ensures after { IfOk result (λ n. self.new ≡ record self.old { left = drop n self.old.left; made = raised self.old.made }) }
-        ensures fault { OnErr result (self.new ≡ record self.old { made = raised self.old.made; faults = raised self.old.faults }) }
+        ensures after { IfOk result (λ n.
+            self.new
+            ≡ record self.old { left = drop n self.old.left; made = raised self.old.made }) }
+        ensures fault { OnErr result
+            (self.new ≡ record self.old { made = raised self.old.made; faults = raised self.old.faults }) }
     {
         if self.calls.next_fails() {
             self.faults = self.faults.saturating_add(1);

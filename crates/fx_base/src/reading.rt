@@ -14,8 +14,10 @@ const BUFFER: usize = 4096;
 /// Why not all was read.
 #[derive(Debug, Clone, Copy, PartialEq, Eq, Error)]
 pub enum ReadStop {
+    /// Memory ran out.
     #[error("memory ran out")]
     NoMemory,
+    /// A call of the source failed.
     #[error("reading failed")]
     ReadFault,
 }

@@ -19,7 +19,8 @@ pub trait Shelf {
     fn begin(&mut self, name: &[u8]) -> Result<(), Failed>
         requires none { begun self.old ≡ false }
         requires name { (1 ≤ length name.now) × (length name.now ≤ 64) }
-        ensures done { OnOk result (Shelves (files self.old) (files self.new) (BeginFile name.now ∷ [])) }
+        ensures done { OnOk result
+            (Shelves (files self.old) (files self.new) (BeginFile name.now ∷ [])) }
         ensures state { OnOk result (begun self.new ≡ true) }
         ensures failed { OnErr result (files self.new ≡ files self.old) }
         ensures cause { HasCause (faults self.old) (faults self.new) result };
@@ -30,7 +31,8 @@ pub trait Shelf {
         requires { begun self.old ≡ true }
         ensures within { IfOk result (λ n. n ≤ length piece.now) }
         ensures some { IfOk result (λ n. 0 < length piece.now → 0 < n) }
-        ensures taken { IfOk result (λ n. Shelves (files self.old) (files self.new) (map FileByte (take n piece.now))) }
+        ensures taken { IfOk result (λ n.
+            Shelves (files self.old) (files self.new) (map FileByte (take n piece.now))) }
         ensures state { OnOk result (begun self.new ≡ true) }
         ensures failed { OnErr result (files self.new ≡ files self.old) }
         ensures cause { HasCause (faults self.old) (faults self.new) result };

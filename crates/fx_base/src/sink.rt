@@ -16,7 +16,8 @@ pub trait Sink {
     fn write(&mut self, piece: &[u8]) -> Result<usize, Failed>
         ensures within { IfOk result (λ n. n ≤ length piece.now) }
         ensures some { IfOk result (λ n. 0 < length piece.now → 0 < n) }
-        ensures taken { IfOk result (λ n. Appends (written self.old) (written self.new) (take n piece.now)) }
+        ensures taken { IfOk result (λ n.
+            Appends (written self.old) (written self.new) (take n piece.now)) }
         ensures failed { OnErr result (written self.new ≡ written self.old) }
         ensures cause { HasCause (faults self.old) (faults self.new) result };
 }

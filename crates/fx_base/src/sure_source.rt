@@ -53,7 +53,8 @@ impl Source for SureSource {
         ensures cause { HasCause 0 0 result }
 
         ensures never { IsOk result }
-        ensures count { IfOk result (λ n. n ≡ portion self.old.step (length self.old.left) (length to.old)) }
+        ensures count { IfOk result (λ n.
+            n ≡ portion self.old.step (length self.old.left) (length to.old)) }
         ensures given { IfOk result (λ n. to.new ≡ take n self.old.left ++ drop n to.old) }
         ensures after { IfOk result (λ n. self.new ≡ record self.old { left = drop n self.old.left }) }
     {

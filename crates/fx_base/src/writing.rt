@@ -26,9 +26,11 @@ pub fn write_all<K: Sink>(sink: &mut K, piece: &[u8]) -> Result<(), Failed>
 pub fn shelve<F: Shelf>(shelf: &mut F, name: &[u8], content: &[u8]) -> Result<(), Failed>
     requires none { F.begun shelf.old ≡ false }
     requires name { (1 ≤ length name.now) × (length name.now ≤ 64) }
-    ensures done { OnOk result (Shelves (F.files shelf.old) (F.files shelf.new) (acts_of (WholeFile name.now content.now))) }
+    ensures done { OnOk result
+        (Shelves (F.files shelf.old) (F.files shelf.new) (acts_of (WholeFile name.now content.now))) }
     ensures state { OnOk result (F.begun shelf.new ≡ false) }
-    ensures part { ShelvesPart (F.files shelf.old) (F.files shelf.new) (acts_of (WholeFile name.now content.now)) }
+    ensures part { ShelvesPart (F.files shelf.old) (F.files shelf.new)
+        (acts_of (WholeFile name.now content.now)) }
     ensures cause { HasCause (F.faults shelf.old) (F.faults shelf.new) result }
 {
     shelf.begin(name)?;
@@ -40,7 +42,8 @@ pub fn shelve<F: Shelf>(shelf: &mut F, name: &[u8], content: &[u8]) -> Result<()
 /// Gives the file that is begun these bytes.
 fn fill<F: Shelf>(shelf: &mut F, content: &[u8]) -> Result<(), Failed>
     requires { F.begun shelf.old ≡ true }
-    ensures done { OnOk result (Shelves (F.files shelf.old) (F.files shelf.new) (map FileByte content.now)) }
+    ensures done { OnOk result
+        (Shelves (F.files shelf.old) (F.files shelf.new) (map FileByte content.now)) }
     ensures state { OnOk result (F.begun shelf.new ≡ true) }
     ensures part { ShelvesPart (F.files shelf.old) (F.files shelf.new) (map FileByte content.now) }
     ensures cause { HasCause (F.faults shelf.old) (F.faults shelf.new) result }

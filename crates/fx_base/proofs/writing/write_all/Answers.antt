@@ -1,6 +1,4 @@
-use Rattle.std.proofs.Common.{◌∙◌, arith, length-drop, subst, take, length, ◌≤◌, List, ℕ}
-use Rattle.std.proofs.lemmas.List.{take_all}
-use Rattle.fx_base.specs.Writing.{Appends}
+use Rattle.std.proofs.Common.{◌∙◌, arith, length-drop}
 use Rattle.fx_base.proofs.Steps.{appends_more, appends_part, slice_to_end}
 use Rattle.fx_base.proofs.writing.write_all.Goals as goal
 
