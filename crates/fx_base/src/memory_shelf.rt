@@ -1,7 +1,7 @@
-ghost use Rattle.std.specs.Prelude.{◌≡◌, ◌<◌, ◌≤◌, ◌+◌, ◌-◌, ◌↔◌, ◌⊎◌, [], ◌∷◌, length, map, take, Some, true, false, IsErr, IfOk, OnErr, OnOk, slice_get};
+ghost use Rattle.std.specs.Prelude.{◌≡◌, ◌<◌, ◌≤◌, ◌+◌, ◌-◌, ◌↔◌, ◌⊎◌, ℕ, [], ◌∷◌, length, map, take, Some, true, false, IsErr, IfOk, OnErr, OnOk, slice_get};
 ghost use Rattle.fx_base.specs.Faults.{HasCause, raised};
 ghost use Rattle.fx_base.specs.Acts.{Shelves, shelved, BeginFile, FileByte, EndFile};
-ghost use Rattle.fx_base.specs.Memory.{FailingShelf, IsListed, has_open, room_of, portion};
+ghost use Rattle.fx_base.specs.Memory.{FailingShelf, IsListed, sure_room, has_open, room_of, portion};
 
 use crate::failed::Failed;
 use crate::listed_calls::ListedCalls;
@@ -94,8 +94,8 @@ impl MemoryShelf {
     /// How many calls failed: none where none is listed and the files leave room for one more.
     pub fn faults(&self) -> u64
         ensures count { result ≡ self.now.faults }
-        ensures sure { self.now.failing ≡ []
-            → room_of self.now.files + 64 ≤ self.now.room → self.now.faults ≡ 0 }
+        ensures sure { (n : ℕ) → sure_room self.now.failing self.now.room ≡ Some n
+            → room_of self.now.files + 64 ≤ n → self.now.faults ≡ 0 }
     {
         self.faults
     }
@@ -108,6 +108,8 @@ impl Shelf for MemoryShelf {
 
     ghost faults = { λ s. s.faults };
 
+    ghost room = { λ s. sure_room s.failing s.room };
+
     fn begin(&mut self, name: &[u8]) -> Result<(), Failed>
         requires none { has_open self.old.files ≡ false }
         requires name { (1 ≤ length name.now) × (length name.now ≤ 64) }
@@ -116,6 +118,7 @@ impl Shelf for MemoryShelf {
         ensures state { OnOk result (has_open self.new.files ≡ true) }
         ensures failed { OnErr result (Some self.new.files ≡ Some self.old.files) }
         ensures cause { HasCause self.old.faults self.new.faults result }
+        ensures kept { sure_room self.new.failing self.new.room ≡ sure_room self.old.failing self.old.room }
 
         ensures full { IsErr result
             ↔ (IsListed self.old.failing self.old.made ⊎ (self.old.room < room_of self.old.files + 64)) }
@@ -148,6 +151,7 @@ impl Shelf for MemoryShelf {
         ensures state { OnOk result (has_open self.new.files ≡ true) }
         ensures failed { OnErr result (Some self.new.files ≡ Some self.old.files) }
         ensures cause { HasCause self.old.faults self.new.faults result }
+        ensures kept { sure_room self.new.failing self.new.room ≡ sure_room self.old.failing self.old.room }
 
         ensures full { IsErr result
             ↔ (IsListed self.old.failing self.old.made
@@ -181,6 +185,7 @@ impl Shelf for MemoryShelf {
         ensures state { OnOk result (has_open self.new.files ≡ false) }
         ensures failed { OnErr result (Some self.new.files ≡ Some self.old.files) }
         ensures cause { HasCause self.old.faults self.new.faults result }
+        ensures kept { sure_room self.new.failing self.new.room ≡ sure_room self.old.failing self.old.room }
 
         ensures listed { IsErr result ↔ IsListed self.old.failing self.old.made }
         ensures after { OnOk result

@@ -1,7 +1,7 @@
-ghost use Rattle.std.specs.Prelude.{◌≡◌, ◌<◌, ◌≤◌, ◌-◌, ◌++◌, ◌↔◌, ◌⊎◌, [], length, take, Some, IsErr, IfOk, OnErr};
+ghost use Rattle.std.specs.Prelude.{◌≡◌, ◌<◌, ◌≤◌, ◌-◌, ◌++◌, ◌↔◌, ◌⊎◌, ℕ, [], length, take, Some, IsErr, IfOk, OnErr};
 ghost use Rattle.fx_base.specs.Faults.{HasCause, raised};
 ghost use Rattle.fx_base.specs.Writing.{Appends};
-ghost use Rattle.fx_base.specs.Memory.{FailingSink, IsListed, portion};
+ghost use Rattle.fx_base.specs.Memory.{FailingSink, IsListed, sure_room, portion};
 
 use crate::failed::Failed;
 use crate::listed_calls::ListedCalls;
@@ -67,8 +67,8 @@ impl MemorySink {
     /// How many calls failed: none where none is listed and fewer bytes than the room are written.
     pub fn faults(&self) -> u64
         ensures count { result ≡ self.now.faults }
-        ensures sure { self.now.failing ≡ []
-            → length self.now.written < self.now.room → self.now.faults ≡ 0 }
+        ensures sure { (n : ℕ) → sure_room self.now.failing self.now.room ≡ Some n
+            → length self.now.written < n → self.now.faults ≡ 0 }
     {
         self.faults
     }
@@ -79,6 +79,8 @@ impl Sink for MemorySink {
 
     ghost faults = { λ s. s.faults };
 
+    ghost room = { λ s. sure_room s.failing s.room };
+
     fn write(&mut self, piece: &[u8]) -> Result<usize, Failed>
         ensures within { IfOk result (λ n. n ≤ length piece.now) }
         ensures some { IfOk result (λ n. 0 < length piece.now → 0 < n) }
@@ -86,6 +88,7 @@ impl Sink for MemorySink {
             Appends (Some self.old.written) (Some self.new.written) (take n piece.now)) }
         ensures failed { OnErr result (Some self.new.written ≡ Some self.old.written) }
         ensures cause { HasCause self.old.faults self.new.faults result }
+        ensures kept { sure_room self.new.failing self.new.room ≡ sure_room self.old.failing self.old.room }
 
         ensures full { IsErr result
             ↔ (IsListed self.old.failing self.old.made

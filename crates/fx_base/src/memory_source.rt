@@ -1,7 +1,7 @@
-ghost use Rattle.std.specs.Prelude.{◌≡◌, ◌<◌, ◌≤◌, ◌++◌, ◌↔◌, [], length, take, drop, Some, IsErr, IfOk, OnErr, OnOk};
+ghost use Rattle.std.specs.Prelude.{◌≡◌, ◌<◌, ◌≤◌, ◌++◌, ◌↔◌, true, length, take, drop, Some, IsErr, IfOk, OnErr, OnOk};
 ghost use Rattle.fx_base.specs.Faults.{HasCause, raised};
 ghost use Rattle.fx_base.specs.Reading.{Takes};
-ghost use Rattle.fx_base.specs.Memory.{FailingSource, IsListed, portion};
+ghost use Rattle.fx_base.specs.Memory.{FailingSource, IsListed, none_listed, portion};
 
 use crate::failed::Failed;
 use crate::listed_calls::ListedCalls;
@@ -29,7 +29,7 @@ impl Model for MemorySource {
       faults = s.faults;
     } };
 
-    ghost invariant = { λ s. s.calls.failing ≡ [] → s.faults ≡ 0 };
+    ghost invariant = { λ s. none_listed s.calls.failing ≡ true → s.faults ≡ 0 };
 }
 
 impl MemorySource {
@@ -49,7 +49,7 @@ impl MemorySource {
     /// How many calls failed: none where none is listed.
     pub fn faults(&self) -> u64
         ensures count { result ≡ self.now.faults }
-        ensures sure { self.now.failing ≡ [] → self.now.faults ≡ 0 }
+        ensures sure { none_listed self.now.failing ≡ true → self.now.faults ≡ 0 }
     {
         self.faults
     }
@@ -60,11 +60,14 @@ impl Source for MemorySource {
 
     ghost faults = { λ s. s.faults };
 
+    ghost sure = { λ s. none_listed s.failing };
+
     fn read(&mut self, to: &mut [u8]) -> Result<usize, Failed>
         ensures within { IfOk result (λ n. n ≤ length to.new) }
         ensures taken { IfOk result (λ n. Takes (Some self.old.left) (Some self.new.left) to.new n) }
         ensures failed { OnErr result (Some self.new.left ≡ Some self.old.left) }
         ensures cause { HasCause self.old.faults self.new.faults result }
+        ensures kept { none_listed self.new.failing ≡ none_listed self.old.failing }
 
         ensures listed { IsErr result ↔ IsListed self.old.failing self.old.made }
         ensures count { IfOk result (λ n.

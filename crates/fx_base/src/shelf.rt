@@ -1,4 +1,4 @@
-ghost use Rattle.std.specs.Prelude.{◌≡◌, ◌<◌, ◌≤◌, ℕ, List, [], ◌∷◌, length, map, take, Option, Bool, true, false, IfOk, OnErr, OnOk};
+ghost use Rattle.std.specs.Prelude.{◌≡◌, ◌<◌, ◌≤◌, ℕ, List, [], ◌∷◌, length, map, take, Option, None, Bool, true, false, IfOk, OnErr, OnOk};
 ghost use Rattle.fx_base.specs.Faults.{HasCause};
 ghost use Rattle.fx_base.specs.Acts.{File, Shelves, BeginFile, FileByte, EndFile};
 
@@ -15,6 +15,9 @@ pub trait Shelf {
     /// How many calls failed.
     ghost faults: { Self → ℕ };
 
+    /// The room for files, where it is known that calls fail for want of room alone.
+    ghost room: { Self → Option ℕ } = { λ _. None };
+
     /// Begins a file of this name, of 1 to 64 bytes, with no content.
     fn begin(&mut self, name: &[u8]) -> Result<(), Failed>
         requires none { begun self.old ≡ false }
@@ -23,7 +26,8 @@ pub trait Shelf {
             (Shelves (files self.old) (files self.new) (BeginFile name.now ∷ [])) }
         ensures state { OnOk result (begun self.new ≡ true) }
         ensures failed { OnErr result (files self.new ≡ files self.old) }
-        ensures cause { HasCause (faults self.old) (faults self.new) result };
+        ensures cause { HasCause (faults self.old) (faults self.new) result }
+        ensures kept { room self.new ≡ room self.old };
 
     /// Appends bytes of the front of the piece to the file that is begun, and answers how many: at
     /// least one of a nonempty piece.
@@ -35,7 +39,8 @@ pub trait Shelf {
             Shelves (files self.old) (files self.new) (map FileByte (take n piece.now))) }
         ensures state { OnOk result (begun self.new ≡ true) }
         ensures failed { OnErr result (files self.new ≡ files self.old) }
-        ensures cause { HasCause (faults self.old) (faults self.new) result };
+        ensures cause { HasCause (faults self.old) (faults self.new) result }
+        ensures kept { room self.new ≡ room self.old };
 
     /// Ends the file that is begun.
     fn end(&mut self) -> Result<(), Failed>
@@ -43,5 +48,6 @@ pub trait Shelf {
         ensures done { OnOk result (Shelves (files self.old) (files self.new) (EndFile ∷ [])) }
         ensures state { OnOk result (begun self.new ≡ false) }
         ensures failed { OnErr result (files self.new ≡ files self.old) }
-        ensures cause { HasCause (faults self.old) (faults self.new) result };
+        ensures cause { HasCause (faults self.old) (faults self.new) result }
+        ensures kept { room self.new ≡ room self.old };
 }

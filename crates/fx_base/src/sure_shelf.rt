@@ -95,6 +95,8 @@ impl Shelf for SureShelf {
 
     ghost faults = { λ s. s.faults };
 
+    ghost room = { λ s. Some s.room };
+
     fn begin(&mut self, name: &[u8]) -> Result<(), Failed>
         requires none { has_open self.old.files ≡ false }
         requires name { (1 ≤ length name.now) × (length name.now ≤ 64) }
@@ -103,6 +105,7 @@ impl Shelf for SureShelf {
         ensures state { OnOk result (has_open self.new.files ≡ true) }
         ensures failed { OnErr result (Some self.new.files ≡ Some self.old.files) }
         ensures cause { HasCause self.old.faults self.new.faults result }
+        ensures kept { Some self.new.room ≡ Some self.old.room }
 
         ensures full { IsErr result ↔ (self.old.room < room_of self.old.files + 64) }
         ensures after { OnOk result
@@ -127,6 +130,7 @@ impl Shelf for SureShelf {
         ensures state { OnOk result (has_open self.new.files ≡ true) }
         ensures failed { OnErr result (Some self.new.files ≡ Some self.old.files) }
         ensures cause { HasCause self.old.faults self.new.faults result }
+        ensures kept { Some self.new.room ≡ Some self.old.room }
 
         ensures full { IsErr result
             ↔ ((0 < length piece.now) × (room_of self.old.files ≡ self.old.room)) }
@@ -154,6 +158,7 @@ impl Shelf for SureShelf {
         ensures state { OnOk result (has_open self.new.files ≡ false) }
         ensures failed { OnErr result (Some self.new.files ≡ Some self.old.files) }
         ensures cause { HasCause self.old.faults self.new.faults result }
+        ensures kept { Some self.new.room ≡ Some self.old.room }
 
         ensures never { IsOk result }
         ensures after { self.new ≡ record self.old { files = shelved (EndFile ∷ []) self.old.files } }

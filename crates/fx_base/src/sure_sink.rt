@@ -71,6 +71,8 @@ impl Sink for SureSink {
 
     ghost faults = { λ s. s.faults };
 
+    ghost room = { λ s. Some s.room };
+
     fn write(&mut self, piece: &[u8]) -> Result<usize, Failed>
         ensures within { IfOk result (λ n. n ≤ length piece.now) }
         ensures some { IfOk result (λ n. 0 < length piece.now → 0 < n) }
@@ -78,6 +80,7 @@ impl Sink for SureSink {
             Appends (Some self.old.written) (Some self.new.written) (take n piece.now)) }
         ensures failed { OnErr result (Some self.new.written ≡ Some self.old.written) }
         ensures cause { HasCause self.old.faults self.new.faults result }
+        ensures kept { Some self.new.room ≡ Some self.old.room }
 
         ensures full { IsErr result
             ↔ ((0 < length piece.now) × (length self.old.written ≡ self.old.room)) }

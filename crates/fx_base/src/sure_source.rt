@@ -1,4 +1,4 @@
-ghost use Rattle.std.specs.Prelude.{◌≡◌, ◌<◌, ◌≤◌, ◌++◌, length, take, drop, Some, IsOk, IfOk, OnErr};
+ghost use Rattle.std.specs.Prelude.{◌≡◌, ◌<◌, ◌≤◌, ◌++◌, length, take, drop, Some, true, IsOk, IfOk, OnErr};
 ghost use Rattle.fx_base.specs.Faults.{HasCause};
 ghost use Rattle.fx_base.specs.Reading.{Takes};
 ghost use Rattle.fx_base.specs.Memory.{SourceInMemory, portion};
@@ -45,6 +45,8 @@ impl Source for SureSource {
     ghost left = { λ s. Some s.left };
 
     ghost faults = { λ _. 0 };
+
+    ghost sure = { λ _. true };
 
     fn read(&mut self, to: &mut [u8]) -> Result<usize, Failed>
         ensures within { IfOk result (λ n. n ≤ length to.new) }

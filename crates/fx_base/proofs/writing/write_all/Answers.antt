@@ -12,6 +12,7 @@ loop-from-preserved g c =
       in_range = omega arith;
       done = appends_more _ _ _ _ _ _ c.loop-from.invariant.done taken;
       same = c.in_ok-from.ensures.cause.kept ∙ c.loop-from.invariant.same;
+      kept = c.in_ok-from.ensures.kept ∙ c.loop-from.invariant.kept;
     }
 
 pub returns-in_err-from-clause-part : goal.returns-in_err-from-clause-part
