@@ -49,8 +49,7 @@ impl MemoryShelf {
     ) -> Result<MemoryShelf, NoMemory>
         requires { 0 < step }
         ensures { IfOk result (λ s.
-            s
-            ≡ record { files = []; step = step; room = room; failing = failing; made = 0; faults = 0 }) }
+            s ≡ record { files = []; step = step; room = room; failing = failing; made = 0; faults = 0 }) }
     {
         let shelf = SureShelf::new(alloc, step, room)?;
         Ok(MemoryShelf {
@@ -157,8 +156,7 @@ impl Shelf for MemoryShelf {
             ↔ (IsListed self.old.failing self.old.made
             ⊎ ((0 < length piece.now) × (room_of self.old.files ≡ self.old.room))) }
         ensures count { IfOk result (λ n.
-            n
-            ≡ portion self.old.step (self.old.room - room_of self.old.files) (length piece.now)) }
+            n ≡ portion self.old.step (self.old.room - room_of self.old.files) (length piece.now)) }
         ensures after { IfOk result (λ n.
             self.new
             ≡ record self.old { files = shelved (map FileByte (take n piece.now)) self.old.files; made = raised self.old.made }) }

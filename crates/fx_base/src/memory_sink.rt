@@ -46,8 +46,7 @@ impl MemorySink {
     ) -> Result<MemorySink, NoMemory>
         requires { 0 < step }
         ensures { IfOk result (λ s.
-            s
-            ≡ record { written = []; step = step; room = room; failing = failing; made = 0; faults = 0 }) }
+            s ≡ record { written = []; step = step; room = room; failing = failing; made = 0; faults = 0 }) }
     {
         let sink = SureSink::new(alloc, step, room)?;
         Ok(MemorySink {
@@ -94,8 +93,7 @@ impl Sink for MemorySink {
             ↔ (IsListed self.old.failing self.old.made
             ⊎ ((0 < length piece.now) × (length self.old.written ≡ self.old.room))) }
         ensures count { IfOk result (λ n.
-            n
-            ≡ portion self.old.step (self.old.room - length self.old.written) (length piece.now)) }
+            n ≡ portion self.old.step (self.old.room - length self.old.written) (length piece.now)) }
         ensures after { IfOk result (λ n.
             self.new
             ≡ record self.old { written = self.old.written ++ take n piece.now; made = raised self.old.made }) }

@@ -135,8 +135,7 @@ impl Shelf for SureShelf {
         ensures full { IsErr result
             ↔ ((0 < length piece.now) × (room_of self.old.files ≡ self.old.room)) }
         ensures count { IfOk result (λ n.
-            n
-            ≡ portion self.old.step (self.old.room - room_of self.old.files) (length piece.now)) }
+            n ≡ portion self.old.step (self.old.room - room_of self.old.files) (length piece.now)) }
         ensures after { IfOk result (λ n.
             self.new
             ≡ record self.old { files = shelved (map FileByte (take n piece.now)) self.old.files }) }

@@ -85,8 +85,7 @@ impl Sink for SureSink {
         ensures full { IsErr result
             ↔ ((0 < length piece.now) × (length self.old.written ≡ self.old.room)) }
         ensures count { IfOk result (λ n.
-            n
-            ≡ portion self.old.step (self.old.room - length self.old.written) (length piece.now)) }
+            n ≡ portion self.old.step (self.old.room - length self.old.written) (length piece.now)) }
         ensures after { IfOk result (λ n.
             self.new ≡ record self.old { written = self.old.written ++ take n piece.now }) }
         ensures fault { OnErr result (self.new ≡ record self.old { faults = raised self.old.faults }) }
