@@ -1,5 +1,5 @@
 -- Acts done one after another: acts and front parts of acts compose, over loops too.
-use Rattle.std.proofs.Common.{ℕ, ◌≡◌, ◌<◌, ◌≤◌, get_or, add-one, ◌+◌, ◌++◌, length, zero, suc, List, [], ◌∷◌, map, take, drop, Option, Some, refl, sym, ◌∙◌, ap, subst, append_assoc}
+use Rattle.std.proofs.Common.{ℕ, ◌≡◌, ◌<◌, ◌≤◌, get_or, add-one, ◌+◌, ◌++◌, length, List, [], ◌∷◌, map, take, drop, Option, Some, refl, sym, ◌∙◌, ap, subst, append_assoc}
 use Rattle.std.proofs.lemmas.List.{append-nil, take_all, map-append, take-append-drop}
 use Rattle.std.proofs.Math.Seq.{take-add, take-suc}
 use Rattle.std.specs.List.{flat_map}
@@ -23,7 +23,8 @@ shelved-append (EndFile ∷ xs) ys files = shelved-append xs ys _
 
 pub acts-append : (xs ys : List Event) → acts (xs ++ ys) ≡ acts xs ++ acts ys
 acts-append [] ys = refl
-acts-append (e ∷ xs) ys = ap (λ (l : List Act). acts_of e ++ l) (acts-append xs ys) ∙ sym (append_assoc (acts_of e) (acts xs) (acts ys))
+acts-append (e ∷ xs) ys = ap (λ (l : List Act). acts_of e ++ l) (acts-append xs ys)
+    ∙ sym (append_assoc (acts_of e) (acts xs) (acts ys))
 
 pub listed-bytes : (bytes : List ℕ) → listed (map ListByte bytes) ≡ bytes
 listed-bytes [] = refl
@@ -37,12 +38,14 @@ shelved-bytes (b ∷ bytes) files = shelved-bytes bytes files
 pub shelves_none : (old : Option (List File)) → Shelves old old []
 shelves_none old = record { told = λ files e. e }
 
-pub shelves_more : (old mid new : Option (List File)) (xs ys : List Act) → Shelves old mid xs → Shelves mid new ys → Shelves old new (xs ++ ys)
+pub shelves_more : (old mid new : Option (List File)) (xs ys : List Act) → Shelves old mid xs → Shelves mid new ys
+    → Shelves old new (xs ++ ys)
 shelves_more old mid new xs ys a b = record {
   told = λ files e. b.told (shelved xs files) (a.told files e) ∙ ap Some (sym (shelved-append xs ys files));
 }
 
-pub shelves_part_more : (old mid new : Option (List File)) (xs ys : List Act) → Shelves old mid xs → ShelvesPart mid new ys → ShelvesPart old new (xs ++ ys)
+pub shelves_part_more : (old mid new : Option (List File)) (xs ys : List Act) → Shelves old mid xs
+    → ShelvesPart mid new ys → ShelvesPart old new (xs ++ ys)
 shelves_part_more old mid new xs ys a b = record {
   done = xs ++ b.done;
   left = b.left;
@@ -50,7 +53,8 @@ shelves_part_more old mid new xs ys a b = record {
   did = shelves_more old mid new xs b.done a b.did;
 }
 
-pub shelves_part_first : (old new : Option (List File)) (xs ys : List Act) → ShelvesPart old new xs → ShelvesPart old new (xs ++ ys)
+pub shelves_part_first : (old new : Option (List File)) (xs ys : List Act) → ShelvesPart old new xs
+    → ShelvesPart old new (xs ++ ys)
 shelves_part_first old new xs ys a = record {
   done = a.done;
   left = a.left ++ ys;
@@ -79,7 +83,8 @@ did_none w = record {
 pub did_more : {a b c : World} {xs ys : List Act} → Did a b xs → Did b c ys → Did a c (xs ++ ys)
 did_more {a} {b} {c} {xs} {ys} p q = record {
   listing = record {
-    told = λ text e. q.listing.told (text ++ listed xs) (p.listing.told text e) ∙ ap Some (append_assoc text (listed xs) (listed ys) ∙ ap (λ (l : List ℕ). text ++ l) (sym (listed-append xs ys)));
+    told = λ text e. q.listing.told (text ++ listed xs) (p.listing.told text e)
+        ∙ ap Some (append_assoc text (listed xs) (listed ys) ∙ ap (λ (l : List ℕ). text ++ l) (sym (listed-append xs ys)));
   };
   shelf = shelves_more a.files b.files c.files xs ys p.shelf q.shelf;
 }
@@ -119,22 +124,27 @@ pub begun_piece : (old new : Option (List ℕ)) (files : Option (List File)) (by
 begun_piece old new files bytes a = record {
   done = map ListByte (take a.part bytes);
   left = map ListByte (drop a.part bytes);
-  front = sym (map-append ListByte (take a.part bytes) (drop a.part bytes)) ∙ ap (map ListByte) (take-append-drop a.part bytes);
+  front = sym (map-append ListByte (take a.part bytes) (drop a.part bytes))
+      ∙ ap (map ListByte) (take-append-drop a.part bytes);
   did = did_piece old new files (take a.part bytes) a.told;
 }
 
 -- the loop that fills a file
-pub fill_more : (old mid new : Option (List File)) (bytes : List ℕ) (from n : ℕ) → Shelves old mid (map FileByte (take from bytes)) → Shelves mid new (map FileByte (take n (drop from bytes))) → Shelves old new (map FileByte (take (from + n) bytes))
+pub fill_more : (old mid new : Option (List File)) (bytes : List ℕ) (from n : ℕ)
+    → Shelves old mid (map FileByte (take from bytes)) → Shelves mid new (map FileByte (take n (drop from bytes)))
+    → Shelves old new (map FileByte (take (from + n) bytes))
 fill_more old mid new bytes from n a b = subst (λ (l : List Act). Shelves old new l)
     (sym (map-append FileByte (take from bytes) (take n (drop from bytes))) ∙ ap (map FileByte) (sym (take-add from n bytes)))
     (shelves_more old mid new _ _ a b)
 
-pub fill_part : (old mid new : Option (List File)) (bytes : List ℕ) (from : ℕ) → Shelves old mid (map FileByte (take from bytes)) → new ≡ mid → ShelvesPart old new (map FileByte bytes)
+pub fill_part : (old mid new : Option (List File)) (bytes : List ℕ) (from : ℕ)
+    → Shelves old mid (map FileByte (take from bytes)) → new ≡ mid → ShelvesPart old new (map FileByte bytes)
 fill_part old mid new bytes from a same = subst (λ (l : List Act). ShelvesPart old new l)
     (sym (map-append FileByte (take from bytes) (drop from bytes)) ∙ ap (map FileByte) (take-append-drop from bytes))
     (shelves_part_more old mid new (map FileByte (take from bytes)) (map FileByte (drop from bytes)) a (shelves_part_none mid new _ same))
 
-pub fill_whole : (old new : Option (List File)) (bytes : List ℕ) (from : ℕ) → length bytes ≤ from → Shelves old new (map FileByte (take from bytes)) → Shelves old new (map FileByte bytes)
+pub fill_whole : (old new : Option (List File)) (bytes : List ℕ) (from : ℕ) → length bytes ≤ from
+    → Shelves old new (map FileByte (take from bytes)) → Shelves old new (map FileByte bytes)
 fill_whole old new bytes from all a = subst (λ (l : List ℕ). Shelves old new (map FileByte l)) (take_all from bytes all) a
 
 pub front_nil : (xs ys : List ℕ) → xs ++ ys ≡ [] → xs ≡ []
@@ -145,14 +155,16 @@ pub listed-file : (bytes : List ℕ) → listed (map FileByte bytes ++ EndFile �
 listed-file [] = refl
 listed-file (b ∷ bytes) = listed-file bytes
 
-pub did_file : (old new : Option (List File)) (written : Option (List ℕ)) (name content : List ℕ) → Shelves old new (acts_of (WholeFile name content))
+pub did_file : (old new : Option (List File)) (written : Option (List ℕ)) (name content : List ℕ)
+    → Shelves old new (acts_of (WholeFile name content))
     → Did (record { written = written; files = old }) (record { written = written; files = new }) (acts_of (WholeFile name content))
 did_file old new written name content a = record {
   listing = record { told = λ text e. e ∙ ap Some (sym (ap (λ (l : List ℕ). text ++ l) (listed-file content) ∙ append-nil text)) };
   shelf = a;
 }
 
-pub begun_file : (old new : Option (List File)) (written : Option (List ℕ)) (name content : List ℕ) → ShelvesPart old new (acts_of (WholeFile name content))
+pub begun_file : (old new : Option (List File)) (written : Option (List ℕ)) (name content : List ℕ)
+    → ShelvesPart old new (acts_of (WholeFile name content))
     → Begun (record { written = written; files = old }) (record { written = written; files = new }) (acts_of (WholeFile name content))
 begun_file old new written name content a =
     let none : listed a.done ≡ [] = front_nil (listed a.done) (listed a.left)
@@ -185,15 +197,18 @@ module _ {X : Type 0} (f : X → List Event) (xs : List X) (i : ℕ) (d : X) (th
       ∙ ap acts (sym (flat_map-append f (take (i + 1) xs) (drop (i + 1) xs)))
       ∙ ap (λ (l : List X). acts (flat_map f l)) (take-append-drop (i + 1) xs)
 
-  pub did_next : {a b c : World} → Did a b (acts (flat_map f (take i xs))) → Did b c (acts (f (get_or xs i d))) → Did a c (acts (flat_map f (take (i + 1) xs)))
+  pub did_next : {a b c : World} → Did a b (acts (flat_map f (take i xs))) → Did b c (acts (f (get_or xs i d)))
+      → Did a c (acts (flat_map f (take (i + 1) xs)))
   did_next {a} {b} {c} p q = subst (λ (l : List Act). Did a c l) (sym events_next) (did_more p q)
 
-  pub begun_next : {a b c : World} → Did a b (acts (flat_map f (take i xs))) → Begun b c (acts (f (get_or xs i d))) → Begun a c (acts (flat_map f xs))
+  pub begun_next : {a b c : World} → Did a b (acts (flat_map f (take i xs))) → Begun b c (acts (f (get_or xs i d)))
+      → Begun a c (acts (flat_map f xs))
   begun_next {a} {b} {c} p q = subst (λ (l : List Act). Begun a c l) events_split
       (begun_first (acts (flat_map f (drop (i + 1) xs))) (subst (λ (l : List Act). Begun a c l) (sym events_next) (begun_more p q)))
 
 -- the things so far
-pub begun_so_far : {X : Type 0} (f : X → List Event) (xs : List X) (i : ℕ) {a b : World} → Did a b (acts (flat_map f (take i xs))) → Begun a b (acts (flat_map f xs))
+pub begun_so_far : {X : Type 0} (f : X → List Event) (xs : List X) (i : ℕ) {a b : World}
+    → Did a b (acts (flat_map f (take i xs))) → Begun a b (acts (flat_map f xs))
 begun_so_far f xs i {a} {b} p = subst (λ (l : List Act). Begun a b l)
     (sym (acts-append (flat_map f (take i xs)) (flat_map f (drop i xs)))
     ∙ ap acts (sym (flat_map-append f (take i xs) (drop i xs)))
@@ -201,7 +216,8 @@ begun_so_far f xs i {a} {b} p = subst (λ (l : List Act). Begun a b l)
     (begun_first (acts (flat_map f (drop i xs))) (begun_whole p))
 
 -- all the things
-pub did_all : {X : Type 0} (f : X → List Event) (xs : List X) (i : ℕ) {a b : World} → length xs ≤ i → Did a b (acts (flat_map f (take i xs))) → Did a b (acts (flat_map f xs))
+pub did_all : {X : Type 0} (f : X → List Event) (xs : List X) (i : ℕ) {a b : World} → length xs ≤ i
+    → Did a b (acts (flat_map f (take i xs))) → Did a b (acts (flat_map f xs))
 did_all f xs i {a} {b} all p = subst (λ l. Did a b (acts (flat_map f l))) (take_all i xs all) p
 
 -- a list of one event

@@ -1,5 +1,5 @@
 -- Files that lie one after another in one buffer: what a file begun, given bytes or ended does to their list.
-use Rattle.std.proofs.Common.{ℕ, ◌≡◌, ◌≤◌, ◌<◌, ◌+◌, ◌-◌, ◌*◌, ◌/◌, ◌++◌, Bool, true, false, not, length, List, [], ◌∷◌, map, take, drop, get_or, zero, suc, Some, slice_get, option_map, refl, sym, ◌∙◌, ap, ap₂, subst, arith, length-drop, length-append}
+use Rattle.std.proofs.Common.{ℕ, ◌≡◌, ◌≤◌, ◌<◌, ◌+◌, ◌-◌, ◌++◌, true, false, length, List, [], ◌∷◌, map, take, drop, get_or, zero, suc, Some, slice_get, option_map, refl, sym, ◌∙◌, ap, ap₂, subst, arith, length-drop, length-append}
 use Rattle.std.proofs.lemmas.List.{take_all, take-append-le, drop-append-le, map-append}
 use Rattle.std.proofs.Math.Seq.{drop-append_seam}
 use Rattle.std.proofs.lemmas.Option.{slice_get-map, slice_get-get_or}
@@ -21,24 +21,29 @@ last_is n [] b e = e
 last_is n (g ∷ []) b e = e
 last_is n (g ∷ h ∷ front) b e = last_is n (h ∷ front) b e
 
-within_front : (buffer : List ℕ) (front : List FileBounds) (b : FileBounds) → AllWithin buffer (front ++ b ∷ []) → AllWithin buffer front × IsWithin buffer b
+within_front : (buffer : List ℕ) (front : List FileBounds) (b : FileBounds) → AllWithin buffer (front ++ b ∷ [])
+    → AllWithin buffer front × IsWithin buffer b
 within_front buffer [] b w = (tt, w.0)
 within_front buffer (g ∷ front) b w = let rest = within_front buffer front b w.1 in ((w.0, rest.0), rest.1)
 
-within_snoc : (buffer : List ℕ) (front : List FileBounds) (b : FileBounds) → AllWithin buffer front → IsWithin buffer b → AllWithin buffer (front ++ b ∷ [])
+within_snoc : (buffer : List ℕ) (front : List FileBounds) (b : FileBounds) → AllWithin buffer front → IsWithin buffer b
+    → AllWithin buffer (front ++ b ∷ [])
 within_snoc buffer [] b w here = (here, tt)
 within_snoc buffer (g ∷ front) b w here = (w.0, within_snoc buffer front b w.1 here)
 
-pub within_at : (buffer : List ℕ) (bounds : List FileBounds) (i : ℕ) (d : FileBounds) → AllWithin buffer bounds → i < length bounds → IsWithin buffer (get_or bounds i d)
+pub within_at : (buffer : List ℕ) (bounds : List FileBounds) (i : ℕ) (d : FileBounds) → AllWithin buffer bounds
+    → i < length bounds → IsWithin buffer (get_or bounds i d)
 within_at buffer [] i d w there = absurd (omega arith)
 within_at buffer (b ∷ bounds) zero d w there = w.0
 within_at buffer (b ∷ bounds) (suc i) d w there = within_at buffer bounds i d w.1 (omega arith)
 
 -- more bytes at the buffer's end leave the files that are there
-part_of_more : (buffer more : List ℕ) (from to : ℕ) → from ≤ to → to ≤ length buffer → take (to - from) (drop from (buffer ++ more)) ≡ take (to - from) (drop from buffer)
+part_of_more : (buffer more : List ℕ) (from to : ℕ) → from ≤ to → to ≤ length buffer
+    → take (to - from) (drop from (buffer ++ more)) ≡ take (to - from) (drop from buffer)
 part_of_more buffer more from to order inside =
     let left = length-drop from buffer in
-    ap (take (to - from)) (drop-append-le from buffer more (omega arith)) ∙ take-append-le (to - from) (drop from buffer) more (omega arith)
+    ap (take (to - from)) (drop-append-le from buffer more (omega arith))
+    ∙ take-append-le (to - from) (drop from buffer) more (omega arith)
 
 within_more : (buffer more : List ℕ) (b : FileBounds) → IsWithin buffer b → IsWithin (buffer ++ more) b
 within_more buffer more b w = record {
@@ -59,12 +64,14 @@ same_file buffer more b w =
     (part_of_more buffer more b.name b.content w.name (omega arith))
     (part_of_more buffer more b.content b.end w.content w.end)
 
-same_files : (buffer more : List ℕ) (bounds : List FileBounds) → AllWithin buffer bounds → map (file_at (buffer ++ more)) bounds ≡ map (file_at buffer) bounds
+same_files : (buffer more : List ℕ) (bounds : List FileBounds) → AllWithin buffer bounds
+    → map (file_at (buffer ++ more)) bounds ≡ map (file_at buffer) bounds
 same_files buffer more [] w = refl
 same_files buffer more (b ∷ bounds) w = ap₂ (λ (f : File) (l : List File). f ∷ l) (same_file buffer more b w.0) (same_files buffer more bounds w.1)
 
 -- a file begun: its name at the buffer's end
-module _ (buffer name : List ℕ) (bounds : List FileBounds) (from to : ℕ) (starts : from ≡ length buffer) (ends : to ≡ length (buffer ++ name)) (w : AllWithin buffer bounds) where
+module _ (buffer name : List ℕ) (bounds : List FileBounds) (from to : ℕ) (starts : from ≡ length buffer)
+    (ends : to ≡ length (buffer ++ name)) (w : AllWithin buffer bounds) where
   abbrev new : FileBounds
   new = record { name = from; content = to; end = to; ended = false }
 
@@ -78,7 +85,8 @@ module _ (buffer name : List ℕ) (bounds : List FileBounds) (from to : ℕ) (st
   no_content : take (to - to) (drop to (buffer ++ name)) ≡ []
   no_content = let none : to - to ≡ 0 = omega arith in ap (λ (n : ℕ). take n (drop to (buffer ++ name))) none
 
-  pub files_begun : map (file_at (buffer ++ name)) (bounds ++ new ∷ []) ≡ map (file_at buffer) bounds ++ record { name = name; content = []; ended = false } ∷ []
+  pub files_begun : map (file_at (buffer ++ name)) (bounds ++ new ∷ [])
+      ≡ map (file_at buffer) bounds ++ record { name = name; content = []; ended = false } ∷ []
   files_begun = map-append (file_at (buffer ++ name)) bounds (new ∷ [])
       ∙ ap₂ (λ (l : List File) (f : File). l ++ f ∷ []) (same_files buffer name bounds w)
       (ap₂ (λ (n c : List ℕ). record { name = n; content = c; ended = false }) named no_content)
@@ -91,7 +99,9 @@ module _ (buffer name : List ℕ) (bounds : List FileBounds) (from to : ℕ) (st
   })
 
 -- the last file given more bytes
-module _ (buffer more : List ℕ) (front : List FileBounds) (b : FileBounds) (to : ℕ) (ends : to ≡ length (buffer ++ more)) (w : AllWithin buffer (front ++ b ∷ [])) (at_end : b.end ≡ length buffer) where
+module _ (buffer more : List ℕ) (front : List FileBounds) (b : FileBounds) (to : ℕ)
+    (ends : to ≡ length (buffer ++ more)) (w : AllWithin buffer (front ++ b ∷ []))
+    (at_end : b.end ≡ length buffer) where
   abbrev longer : FileBounds
   longer = record { name = b.name; content = b.content; end = to; ended = b.ended }
 
@@ -112,15 +122,18 @@ module _ (buffer more : List ℕ) (front : List FileBounds) (b : FileBounds) (to
   abbrev fronts : List File
   fronts = map (file_at buffer) front
 
-  longer_is : map (file_at (buffer ++ more)) (front ++ longer ∷ []) ≡ fronts ++ record { name = (file_at buffer b).name; content = (file_at buffer b).content ++ more; ended = b.ended } ∷ []
+  longer_is : map (file_at (buffer ++ more)) (front ++ longer ∷ [])
+      ≡ fronts ++ record { name = (file_at buffer b).name; content = (file_at buffer b).content ++ more; ended = b.ended } ∷ []
   longer_is = map-append (file_at (buffer ++ more)) front (longer ∷ [])
       ∙ ap₂ (λ (l : List File) (f : File). l ++ f ∷ []) (same_files buffer more front (within_front buffer front b w).0)
       (ap₂ (λ (n c : List ℕ). record { name = n; content = c; ended = b.ended })
       (let content = here.content in let end = here.end in part_of_more buffer more b.name b.content here.name (omega arith))
       grown)
 
-  pub files_longer : map (file_at (buffer ++ more)) (front ++ longer ∷ []) ≡ shelved (map FileByte more) (map (file_at buffer) (front ++ b ∷ []))
-  files_longer = longer_is ∙ sym (shelved-content more fronts (file_at buffer b)) ∙ ap (shelved (map FileByte more)) (sym (map-append (file_at buffer) front (b ∷ [])))
+  pub files_longer : map (file_at (buffer ++ more)) (front ++ longer ∷ [])
+      ≡ shelved (map FileByte more) (map (file_at buffer) (front ++ b ∷ []))
+  files_longer = longer_is ∙ sym (shelved-content more fronts (file_at buffer b))
+      ∙ ap (shelved (map FileByte more)) (sym (map-append (file_at buffer) front (b ∷ [])))
 
   pub within_longer : AllWithin (buffer ++ more) (front ++ longer ∷ [])
   within_longer = within_snoc (buffer ++ more) front longer (all_within_more buffer more front (within_front buffer front b w).0) (record {
@@ -129,9 +142,11 @@ module _ (buffer more : List ℕ) (front : List FileBounds) (b : FileBounds) (to
     end = omega arith;
   })
 
-  pub room_longer : room_of (map (file_at (buffer ++ more)) (front ++ longer ∷ [])) ≡ room_of (map (file_at buffer) (front ++ b ∷ [])) + length more
+  pub room_longer : room_of (map (file_at (buffer ++ more)) (front ++ longer ∷ []))
+      ≡ room_of (map (file_at buffer) (front ++ b ∷ [])) + length more
   room_longer =
-      let new = ap room_of longer_is ∙ room_of-snoc fronts (record { name = (file_at buffer b).name; content = (file_at buffer b).content ++ more; ended = b.ended }) in
+      let new = ap room_of longer_is
+      ∙ room_of-snoc fronts (record { name = (file_at buffer b).name; content = (file_at buffer b).content ++ more; ended = b.ended }) in
       let old = ap room_of (map-append (file_at buffer) front (b ∷ [])) ∙ room_of-snoc fronts (file_at buffer b) in
       let long = length-append (file_at buffer b).content more in
       omega arith
@@ -144,7 +159,8 @@ module _ (buffer : List ℕ) (front : List FileBounds) (b : FileBounds) where
   closed_is : map (file_at buffer) (front ++ closed ∷ []) ≡ map (file_at buffer) front ++ as_ended (file_at buffer b) ∷ []
   closed_is = map-append (file_at buffer) front (closed ∷ [])
 
-  pub files_closed : map (file_at buffer) (front ++ closed ∷ []) ≡ shelved (EndFile ∷ []) (map (file_at buffer) (front ++ b ∷ []))
+  pub files_closed : map (file_at buffer) (front ++ closed ∷ [])
+      ≡ shelved (EndFile ∷ []) (map (file_at buffer) (front ++ b ∷ []))
   files_closed = closed_is
       ∙ sym (on_last-at as_ended (map (file_at buffer) front) (file_at buffer b))
       ∙ ap (shelved (EndFile ∷ [])) (sym (map-append (file_at buffer) front (b ∷ [])))
@@ -180,7 +196,8 @@ begin_keeps buffer name bytes bounds now from to buffer_before buffer_after boun
     let buffer_reserved = k.buffer_reserved in
     let bounds_fit = k.bounds_fit in
     let bounds_reserved = k.bounds_reserved in
-    let room_now = ap room_of (files_begun buffer name bounds from to starts ends k.within) ∙ room_of-snoc (map (file_at buffer) bounds) (record { name = name; content = []; ended = false }) in
+    let room_now = ap room_of (files_begun buffer name bounds from to starts ends k.within)
+    ∙ room_of-snoc (map (file_at buffer) bounds) (record { name = name; content = []; ended = false }) in
     rw (grown, more) (record {
       within = within_begun buffer name bounds from to starts ends k.within;
       last = last_is _ bounds _ ends;
@@ -246,14 +263,18 @@ end_keeps buffer bounds front now b buffer_room bounds_before bounds_after used 
     })
 
 -- the file whose bounds `b` stand at an index
-pub within_here : (buffer : List ℕ) (bounds : List FileBounds) (i : ℕ) (b : FileBounds) → AllWithin buffer bounds → i < length bounds → b ≡ get_or bounds i b → IsWithin buffer b
+pub within_here : (buffer : List ℕ) (bounds : List FileBounds) (i : ℕ) (b : FileBounds) → AllWithin buffer bounds
+    → i < length bounds → b ≡ get_or bounds i b → IsWithin buffer b
 within_here buffer bounds i b w there is = subst (IsWithin buffer) (sym is) (within_at buffer bounds i b w there)
 
-file_here : (buffer : List ℕ) (bounds : List FileBounds) (i : ℕ) (b : FileBounds) → i < length bounds → b ≡ get_or bounds i b → slice_get (map (file_at buffer) bounds) i ≡ Some (file_at buffer b)
+file_here : (buffer : List ℕ) (bounds : List FileBounds) (i : ℕ) (b : FileBounds) → i < length bounds
+    → b ≡ get_or bounds i b → slice_get (map (file_at buffer) bounds) i ≡ Some (file_at buffer b)
 file_here buffer bounds i b there is = slice_get-map (file_at buffer) bounds i
     ∙ ap (option_map (file_at buffer)) (slice_get-get_or bounds i b there ∙ ap Some (sym is))
 
 -- its name, its content, or whether it is ended
-pub part_here : {T : Type 0} (of : File → T) (buffer : List ℕ) (bounds : List FileBounds) (i : ℕ) (b : FileBounds) → i < length bounds → b ≡ get_or bounds i b
+pub part_here : {T : Type 0} (of : File → T) (buffer : List ℕ) (bounds : List FileBounds) (i : ℕ) (b : FileBounds)
+    → i < length bounds → b ≡ get_or bounds i b
     → slice_get (map of (map (file_at buffer) bounds)) i ≡ Some (of (file_at buffer b))
-part_here of buffer bounds i b there is = slice_get-map of (map (file_at buffer) bounds) i ∙ ap (option_map of) (file_here buffer bounds i b there is)
+part_here of buffer bounds i b there is = slice_get-map of (map (file_at buffer) bounds) i
+    ∙ ap (option_map of) (file_here buffer bounds i b there is)

@@ -1,5 +1,5 @@
 -- What acts do to the room that files take, and to whether a file is begun.
-use Rattle.std.proofs.Common.{ℕ, ◌≡◌, ◌≤◌, ◌+◌, ◌++◌, Bool, true, false, not, length, List, [], ◌∷◌, map, refl, sym, ◌∙◌, ap, subst, arith, length-append}
+use Rattle.std.proofs.Common.{ℕ, ◌≡◌, ◌≤◌, ◌+◌, ◌++◌, true, false, not, length, List, [], ◌∷◌, map, refl, ◌∙◌, ap, arith, length-append}
 use Rattle.fx_base.specs.Acts.{Act, ListByte, BeginFile, FileByte, EndFile, File, listed, shelved, on_last, with_byte, as_ended}
 use Rattle.fx_base.specs.Memory.{has_open, room_of}
 use Rattle.fx_base.proofs.Doing.{listed-append, shelved-append}
@@ -30,7 +30,8 @@ pub begun_bytes : (bytes : List ℕ) (files : List File) → has_open (shelved (
 begun_bytes [] files = refl
 begun_bytes (byte ∷ bytes) files = begun_bytes bytes (on_last (with_byte byte) files) ∙ begun_byte byte files
 
-pub room_bytes : (bytes : List ℕ) (files : List File) → has_open files ≡ true → room_of (shelved (map FileByte bytes) files) ≡ room_of files + length bytes
+pub room_bytes : (bytes : List ℕ) (files : List File) → has_open files ≡ true
+    → room_of (shelved (map FileByte bytes) files) ≡ room_of files + length bytes
 room_bytes [] files begun = omega arith
 room_bytes (byte ∷ bytes) files begun =
     let one = room_byte byte files begun in
@@ -79,7 +80,8 @@ front_listed done left all front =
     let same = ap (λ (l : List Act). length (listed l)) front in
     omega arith
 
-pub front_room : (done left all : List Act) (files : List File) → done ++ left ≡ all → room_of (shelved done files) ≤ room_of (shelved all files)
+pub front_room : (done left all : List Act) (files : List File) → done ++ left ≡ all
+    → room_of (shelved done files) ≤ room_of (shelved all files)
 front_room done left all files front =
     let more = room_grows left (shelved done files) in
     let two = ap room_of (shelved-append done left files) in

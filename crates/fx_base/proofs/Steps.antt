@@ -83,7 +83,8 @@ read_whole left mid now bytes buffer n limit a b none room within =
     }
 
 -- more bytes than the limit were read
-pub read_over : (left now : Option (List ℕ)) (bytes : List ℕ) (limit : ℕ) → HasRead left now bytes → limit < length bytes → IsOverLimit left limit
+pub read_over : (left now : Option (List ℕ)) (bytes : List ℕ) (limit : ℕ) → HasRead left now bytes
+    → limit < length bytes → IsOverLimit left limit
 read_over left now bytes limit a over = record { told = λ text e. let there = (a.told text e).some in omega arith }
 
 -- what is left after the bytes that were read, also after a call that took nothing

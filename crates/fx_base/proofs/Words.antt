@@ -1,16 +1,18 @@
 -- What acts come to in words: whole pieces and files, and a front part of the next.
 use Rattle.std.proofs.Common.{ℕ, ◌≡◌, ◌++◌, ◌⊎◌, inl, inr, false, length, List, [], ◌∷◌, map, take, refl, sym, ◌∙◌, ap, subst, append_assoc, arith}
 use Rattle.std.proofs.lemmas.List.{append-nil, take_all}
-use Rattle.fx_base.specs.Acts.{Act, ListByte, BeginFile, FileByte, EndFile, File, listed, on_last, with_byte, as_ended, shelved, Event, Piece, WholeFile, acts_of, acts, pieces, files_of, whole_file, HasCome, at_start, in_piece, in_file, past_piece, past_file}
+use Rattle.fx_base.specs.Acts.{Act, ListByte, BeginFile, FileByte, EndFile, File, listed, on_last, with_byte, as_ended, shelved, Event, Piece, WholeFile, acts_of, acts, pieces, files_of, whole_file, HasCome, AtStart, InPiece, InFile, PastPiece, PastFile}
 use Rattle.fx_base.proofs.Doing.{listed-append, shelved-append, listed-bytes, shelved-bytes, listed-file}
 
-pub on_last-at : (change : File → File) (files : List File) (f : File) → on_last change (files ++ f ∷ []) ≡ files ++ change f ∷ []
+pub on_last-at : (change : File → File) (files : List File) (f : File) → on_last change (files ++ f ∷ [])
+    ≡ files ++ change f ∷ []
 on_last-at change [] f = refl
 on_last-at change (g ∷ []) f = refl
 on_last-at change (g ∷ h ∷ files) f = ap (λ (l : List File). g ∷ l) (on_last-at change (h ∷ files) f)
 
 -- bytes given to the last file
-pub shelved-content : (bytes : List ℕ) (files : List File) (f : File) → shelved (map FileByte bytes) (files ++ f ∷ []) ≡ files ++ record { name = f.name; content = f.content ++ bytes; ended = f.ended } ∷ []
+pub shelved-content : (bytes : List ℕ) (files : List File) (f : File)
+    → shelved (map FileByte bytes) (files ++ f ∷ []) ≡ files ++ record { name = f.name; content = f.content ++ bytes; ended = f.ended } ∷ []
 shelved-content [] files f = ap (λ (c : List ℕ). files ++ record { name = f.name; content = c; ended = f.ended } ∷ []) (sym (append-nil f.content))
 shelved-content (b ∷ bytes) files f =
     ap (shelved (map FileByte bytes)) (on_last-at (with_byte b) files f)
@@ -18,7 +20,8 @@ shelved-content (b ∷ bytes) files f =
     ∙ ap (λ (c : List ℕ). files ++ record { name = f.name; content = c; ended = f.ended } ∷ []) (append_assoc f.content (b ∷ []) bytes)
 
 -- a whole file
-pub shelved-whole : (name content : List ℕ) (files : List File) → shelved (acts_of (WholeFile name content)) files ≡ files ++ whole_file name content ∷ []
+pub shelved-whole : (name content : List ℕ) (files : List File)
+    → shelved (acts_of (WholeFile name content)) files ≡ files ++ whole_file name content ∷ []
 shelved-whole name content files =
     let new : File = record { name = name; content = []; ended = false } in
     shelved-append (map FileByte content) (EndFile ∷ []) (files ++ new ∷ [])
@@ -27,19 +30,24 @@ shelved-whole name content files =
 
 pub listed-acts : (events : List Event) → listed (acts events) ≡ pieces events
 listed-acts [] = refl
-listed-acts (Piece bytes ∷ events) = listed-append (map ListByte bytes) (acts events) ∙ ap (λ (l : List ℕ). l ++ listed (acts events)) (listed-bytes bytes) ∙ ap (λ (l : List ℕ). bytes ++ l) (listed-acts events)
-listed-acts (WholeFile name content ∷ events) = listed-append (map FileByte content ++ EndFile ∷ []) (acts events) ∙ ap (λ (l : List ℕ). l ++ listed (acts events)) (listed-file content) ∙ listed-acts events
+listed-acts (Piece bytes ∷ events) = listed-append (map ListByte bytes) (acts events)
+    ∙ ap (λ (l : List ℕ). l ++ listed (acts events)) (listed-bytes bytes)
+    ∙ ap (λ (l : List ℕ). bytes ++ l) (listed-acts events)
+listed-acts (WholeFile name content ∷ events) = listed-append (map FileByte content ++ EndFile ∷ []) (acts events)
+    ∙ ap (λ (l : List ℕ). l ++ listed (acts events)) (listed-file content) ∙ listed-acts events
 
 pub shelved-acts : (events : List Event) (files : List File) → shelved (acts events) files ≡ files ++ files_of events
 shelved-acts [] files = sym (append-nil files)
-shelved-acts (Piece bytes ∷ events) files = shelved-append (map ListByte bytes) (acts events) files ∙ ap (shelved (acts events)) (shelved-bytes bytes files) ∙ shelved-acts events files
+shelved-acts (Piece bytes ∷ events) files = shelved-append (map ListByte bytes) (acts events) files
+    ∙ ap (shelved (acts events)) (shelved-bytes bytes files) ∙ shelved-acts events files
 shelved-acts (WholeFile name content ∷ events) files = shelved-append (acts_of (WholeFile name content)) (acts events) files
     ∙ ap (shelved (acts events)) (shelved-whole name content files)
     ∙ shelved-acts events (files ++ whole_file name content ∷ [])
     ∙ append_assoc files (whole_file name content ∷ []) (files_of events)
 
 -- a front part of a list that is two lists ends in the first, or takes it whole
-pub cut : (done left xs ys : List Act) → done ++ left ≡ xs ++ ys → ((rest : List Act) × (done ++ rest ≡ xs)) ⊎ ((more : List Act) × (done ≡ xs ++ more) × (more ++ left ≡ ys))
+pub cut : (done left xs ys : List Act) → done ++ left ≡ xs ++ ys
+    → ((rest : List Act) × (done ++ rest ≡ xs)) ⊎ ((more : List Act) × (done ≡ xs ++ more) × (more ++ left ≡ ys))
 cut done left [] ys e = inr (done, refl, e)
 cut [] left (x ∷ xs) ys e = inl (x ∷ xs, refl)
 cut (d ∷ done) left (x ∷ xs) ys e =
@@ -51,7 +59,8 @@ cut (d ∷ done) left (x ∷ xs) ys e =
     ]
 
 -- a front part of mapped bytes is the first bytes mapped
-pub front_of_map : (f : ℕ → Act) (bytes : List ℕ) (done rest : List Act) → done ++ rest ≡ map f bytes → done ≡ map f (take (length done) bytes)
+pub front_of_map : (f : ℕ → Act) (bytes : List ℕ) (done rest : List Act) → done ++ rest ≡ map f bytes
+    → done ≡ map f (take (length done) bytes)
 front_of_map f bytes [] rest e = refl
 front_of_map f [] (d ∷ done) rest e = cc
 front_of_map f (b ∷ bytes) (d ∷ done) rest e =
@@ -69,12 +78,12 @@ comes_as : (events : List Event) (done same : List Act) → done ≡ same → Co
 comes_as events done same e p = subst (λ (l : List Act). Comes events l) (sym e) p
 
 comes_none : (events : List Event) → Comes events []
-comes_none events = record { new = []; come = at_start; added = λ files. sym (append-nil files) }
+comes_none events = record { new = []; come = AtStart; added = λ files. sym (append-nil files) }
 
 comes_piece : (bytes : List ℕ) (events : List Event) (n : ℕ) → Comes (Piece bytes ∷ events) (map ListByte (take n bytes))
 comes_piece bytes events n = record {
   new = [];
-  come = subst (λ (l : List ℕ). HasCome (Piece bytes ∷ events) l []) (sym (listed-bytes (take n bytes))) (in_piece n);
+  come = subst (λ (l : List ℕ). HasCome (Piece bytes ∷ events) l []) (sym (listed-bytes (take n bytes))) (InPiece n);
   added = λ files. shelved-bytes (take n bytes) files ∙ sym (append-nil files);
 }
 
@@ -82,24 +91,28 @@ listed-content : (bytes : List ℕ) → listed (map FileByte bytes) ≡ []
 listed-content [] = refl
 listed-content (b ∷ bytes) = listed-content bytes
 
-comes_file : (name content : List ℕ) (events : List Event) (n : ℕ) → Comes (WholeFile name content ∷ events) (BeginFile name ∷ map FileByte (take n content))
+comes_file : (name content : List ℕ) (events : List Event) (n : ℕ)
+    → Comes (WholeFile name content ∷ events) (BeginFile name ∷ map FileByte (take n content))
 comes_file name content events n = record {
   new = record { name = name; content = take n content; ended = false } ∷ [];
-  come = subst (λ (l : List ℕ). HasCome (WholeFile name content ∷ events) l (record { name = name; content = take n content; ended = false } ∷ [])) (sym (listed-content (take n content))) (in_file n);
+  come = subst (λ (l : List ℕ). HasCome (WholeFile name content ∷ events) l (record { name = name; content = take n content; ended = false } ∷ [])) (sym (listed-content (take n content))) (InFile n);
   added = λ files. shelved-content (take n content) files (record { name = name; content = []; ended = false });
 }
 
-past_pieces : (bytes : List ℕ) (events : List Event) (more : List Act) → Comes events more → Comes (Piece bytes ∷ events) (acts_of (Piece bytes) ++ more)
+past_pieces : (bytes : List ℕ) (events : List Event) (more : List Act) → Comes events more
+    → Comes (Piece bytes ∷ events) (acts_of (Piece bytes) ++ more)
 past_pieces bytes events more p = record {
   new = p.new;
-  come = subst (λ (l : List ℕ). HasCome (Piece bytes ∷ events) l p.new) (sym (listed-append (map ListByte bytes) more ∙ ap (λ (l : List ℕ). l ++ listed more) (listed-bytes bytes))) (past_piece p.come);
-  added = λ files. shelved-append (map ListByte bytes) more files ∙ ap (shelved more) (shelved-bytes bytes files) ∙ p.added files;
+  come = subst (λ (l : List ℕ). HasCome (Piece bytes ∷ events) l p.new) (sym (listed-append (map ListByte bytes) more ∙ ap (λ (l : List ℕ). l ++ listed more) (listed-bytes bytes))) (PastPiece p.come);
+  added = λ files. shelved-append (map ListByte bytes) more files
+      ∙ ap (shelved more) (shelved-bytes bytes files) ∙ p.added files;
 }
 
-past_files : (name content : List ℕ) (events : List Event) (more : List Act) → Comes events more → Comes (WholeFile name content ∷ events) (acts_of (WholeFile name content) ++ more)
+past_files : (name content : List ℕ) (events : List Event) (more : List Act) → Comes events more
+    → Comes (WholeFile name content ∷ events) (acts_of (WholeFile name content) ++ more)
 past_files name content events more p = record {
   new = whole_file name content ∷ p.new;
-  come = subst (λ (l : List ℕ). HasCome (WholeFile name content ∷ events) l (whole_file name content ∷ p.new)) (sym (listed-append (map FileByte content ++ EndFile ∷ []) more ∙ ap (λ (l : List ℕ). l ++ listed more) (listed-file content))) (past_file p.come);
+  come = subst (λ (l : List ℕ). HasCome (WholeFile name content ∷ events) l (whole_file name content ∷ p.new)) (sym (listed-append (map FileByte content ++ EndFile ∷ []) more ∙ ap (λ (l : List ℕ). l ++ listed more) (listed-file content))) (PastFile p.come);
   added = λ files. shelved-append (acts_of (WholeFile name content)) more files
       ∙ ap (shelved more) (shelved-whole name content files)
       ∙ p.added (files ++ whole_file name content ∷ [])
@@ -107,7 +120,8 @@ past_files name content events more p = record {
 }
 
 -- what is left of the end of a file
-in_end : (name content : List ℕ) (events : List Event) (more rest : List Act) → more ++ rest ≡ EndFile ∷ [] → Comes (WholeFile name content ∷ events) (BeginFile name ∷ (map FileByte content ++ more))
+in_end : (name content : List ℕ) (events : List Event) (more rest : List Act) → more ++ rest ≡ EndFile ∷ []
+    → Comes (WholeFile name content ∷ events) (BeginFile name ∷ (map FileByte content ++ more))
 in_end name content events [] rest e = comes_as _ _ _
     (ap (λ (l : List Act). BeginFile name ∷ l) (append-nil (map FileByte content) ∙ ap (map FileByte) (sym (take_all (length content) content (omega arith)))))
     (comes_file name content events (length content))
@@ -117,7 +131,8 @@ in_end name content events (m ∷ []) rest e =
     (past_files name content events [] (comes_none events))
 in_end name content events (m ∷ o ∷ more) rest e = cc
 
-in_whole_file : (name content : List ℕ) (events : List Event) (done rest : List Act) → done ++ rest ≡ acts_of (WholeFile name content) → Comes (WholeFile name content ∷ events) done
+in_whole_file : (name content : List ℕ) (events : List Event) (done rest : List Act)
+    → done ++ rest ≡ acts_of (WholeFile name content) → Comes (WholeFile name content ∷ events) done
 in_whole_file name content events [] rest e = comes_none (WholeFile name content ∷ events)
 in_whole_file name content events (d ∷ done) rest e =
     let same : d ≡ BeginFile name = cc in

@@ -1,5 +1,5 @@
 -- Files that lie one after another in one buffer, each between its bounds.
-use Rattle.std.specs.Prelude.{ℕ, ◌≡◌, ◌≤◌, ◌+◌, ◌-◌, ◌*◌, ◌/◌, List, [], ◌∷◌, length, map, take, drop}
+use Rattle.std.specs.Prelude.{ℕ, ◌≡◌, ◌≤◌, ◌-◌, ◌*◌, ◌/◌, List, [], ◌∷◌, length, map, take, drop}
 use Rattle.fx_base.specs.Acts.{File}
 use Rattle.fx_base.specs.Memory.{room_of}
 use Rattle.fx_base.specs.declared.file_bounds.FileBounds.{FileBounds}

@@ -1,5 +1,5 @@
 -- What contracts see of the sources, sinks and shelves in memory.
-use Rattle.std.specs.Prelude.{ℕ, ◌≡◌, ◌<◌, ◌≤◌, ◌+◌, min, List, [], ◌∷◌, length, Bool, false, not, Contains}
+use Rattle.std.specs.Prelude.{ℕ, ◌≡◌, ◌<◌, ◌≤◌, ◌+◌, min, List, [], ◌∷◌, length, Bool, true, false, not, Option, Some, None, Contains}
 use Rattle.fx_base.specs.Faults.{raised}
 use Rattle.fx_base.specs.Acts.{File}
 
@@ -63,6 +63,16 @@ pub record CallsMade : Type 0 where
 -- the next call is one of those that are to fail
 abbrev pub IsListed : List ℕ → ℕ → Type 0
 IsListed failing made = Contains failing (raised made)
+
+-- no call is listed
+abbrev pub none_listed : List ℕ → Bool
+none_listed [] = true
+none_listed (call ∷ failing) = false
+
+-- the room, where no call is listed
+abbrev pub sure_room : List ℕ → ℕ → Option ℕ
+sure_room [] room = Some room
+sure_room (call ∷ failing) room = None
 
 -- a source in memory some of whose calls fail
 pub record FailingSource : Type 0 where

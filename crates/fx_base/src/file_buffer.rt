@@ -26,12 +26,17 @@ impl Model for FileBuffer {
 
     ghost Value = { FilesInMemory };
 
-    ghost view = { λ b. record { files = map (file_at b.bytes.items) b.bounds.items; room = b.room } };
+    ghost view = { λ b. record {
+      files = map (file_at b.bytes.items) b.bounds.items;
+      room = b.room;
+    } };
 
-    ghost invariant = { λ b. IsFileBuffer b.bytes.items b.bounds.items (vec_capacity b.bytes) (vec_capacity b.bounds) b.used b.room };
+    ghost invariant = { λ b. IsFileBuffer b.bytes.items b.bounds.items
+        (vec_capacity b.bytes) (vec_capacity b.bounds) b.used b.room };
 }
 
 impl FileBuffer {
+    /// An empty buffer with `room` bytes of room.
     pub fn new(alloc: Global, room: usize) -> Result<FileBuffer, NoMemory>
         ensures { IfOk result (λ b. b ≡ record { files = []; room = room }) }
     {
@@ -63,7 +68,8 @@ impl FileBuffer {
     pub fn begin(&mut self, name: &[u8])
         requires name { length name.now ≤ 64 }
         requires room { room_of self.old.files + 64 ≤ self.old.room }
-        ensures after { self.new ≡ record self.old { files = shelved (BeginFile name.now ∷ []) self.old.files } }
+        ensures after { self.new
+            ≡ record self.old { files = shelved (BeginFile name.now ∷ []) self.old.files } }
         ensures begun { has_open self.new.files ≡ true }
         ensures taken { room_of self.new.files ≡ room_of self.old.files + 64 }
     {
@@ -86,7 +92,8 @@ impl FileBuffer {
     pub fn append(&mut self, piece: &[u8])
         requires begun { has_open self.old.files ≡ true }
         requires room { room_of self.old.files + length piece.now ≤ self.old.room }
-        ensures after { self.new ≡ record self.old { files = shelved (map FileByte piece.now) self.old.files } }
+        ensures after { self.new
+            ≡ record self.old { files = shelved (map FileByte piece.now) self.old.files } }
         ensures begun { has_open self.new.files ≡ true }
         ensures taken { room_of self.new.files ≡ room_of self.old.files + length piece.now }
     {

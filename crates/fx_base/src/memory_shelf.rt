@@ -1,7 +1,7 @@
-ghost use Rattle.std.specs.Prelude.{◌≡◌, ◌<◌, ◌≤◌, ◌+◌, ◌-◌, ◌↔◌, ◌⊎◌, [], ◌∷◌, length, map, take, Some, true, false, IsErr, IfOk, OnErr, OnOk, slice_get};
+ghost use Rattle.std.specs.Prelude.{◌≡◌, ◌<◌, ◌≤◌, ◌+◌, ◌-◌, ◌↔◌, ◌⊎◌, ℕ, [], ◌∷◌, length, map, take, Some, true, false, IsErr, IfOk, OnErr, OnOk, slice_get};
 ghost use Rattle.fx_base.specs.Faults.{HasCause, raised};
 ghost use Rattle.fx_base.specs.Acts.{Shelves, shelved, BeginFile, FileByte, EndFile};
-ghost use Rattle.fx_base.specs.Memory.{FailingShelf, IsListed, has_open, room_of, portion};
+ghost use Rattle.fx_base.specs.Memory.{FailingShelf, IsListed, sure_room, has_open, room_of, portion};
 
 use crate::failed::Failed;
 use crate::listed_calls::ListedCalls;
@@ -24,9 +24,17 @@ pub struct MemoryShelf {
 impl Model for MemoryShelf {
     ghost Value = { FailingShelf };
 
-    ghost view = { λ s. record { files = s.shelf.files; step = s.shelf.step; room = s.shelf.room; failing = s.calls.failing; made = s.calls.made; faults = s.faults } };
+    ghost view = { λ s. record {
+      files = s.shelf.files;
+      step = s.shelf.step;
+      room = s.shelf.room;
+      failing = s.calls.failing;
+      made = s.calls.made;
+      faults = s.faults;
+    } };
 
-    ghost invariant = { λ s. s.calls.failing ≡ [] → room_of s.shelf.files + 64 ≤ s.shelf.room → s.faults ≡ 0 };
+    ghost invariant = { λ s. s.calls.failing ≡ []
+        → room_of s.shelf.files + 64 ≤ s.shelf.room → s.faults ≡ 0 };
 }
 
 impl MemoryShelf {
@@ -40,7 +48,8 @@ impl MemoryShelf {
         failing: Bytes,
     ) -> Result<MemoryShelf, NoMemory>
         requires { 0 < step }
-        ensures { IfOk result (λ s. s ≡ record { files = []; step = step; room = room; failing = failing; made = 0; faults = 0 }) }
+        ensures { IfOk result (λ s.
+            s ≡ record { files = []; step = step; room = room; failing = failing; made = 0; faults = 0 }) }
     {
         let shelf = SureShelf::new(alloc, step, room)?;
         Ok(MemoryShelf {
@@ -84,7 +93,8 @@ impl MemoryShelf {
     /// How many calls failed: none where none is listed and the files leave room for one more.
     pub fn faults(&self) -> u64
         ensures count { result ≡ self.now.faults }
-        ensures sure { self.now.failing ≡ [] → room_of self.now.files + 64 ≤ self.now.room → self.now.faults ≡ 0 }
+        ensures sure { (n : ℕ) → sure_room self.now.failing self.now.room ≡ Some n
+            → room_of self.now.files + 64 ≤ n → self.now.faults ≡ 0 }
     {
         self.faults
     }
@@ -97,18 +107,26 @@ impl Shelf for MemoryShelf {
 
     ghost faults = { λ s. s.faults };
 
+    ghost room = { λ s. sure_room s.failing s.room };
+
     fn begin(&mut self, name: &[u8]) -> Result<(), Failed>
         requires none { has_open self.old.files ≡ false }
         requires name { (1 ≤ length name.now) × (length name.now ≤ 64) }
-        ensures done { OnOk result (Shelves (Some self.old.files) (Some self.new.files) (BeginFile name.now ∷ [])) }
+        ensures done { OnOk result
+            (Shelves (Some self.old.files) (Some self.new.files) (BeginFile name.now ∷ [])) }
         ensures state { OnOk result (has_open self.new.files ≡ true) }
         ensures failed { OnErr result (Some self.new.files ≡ Some self.old.files) }
         ensures cause { HasCause self.old.faults self.new.faults result }
+        ensures kept { sure_room self.new.failing self.new.room ≡ sure_room self.old.failing self.old.room }
 
-        ensures full { IsErr result ↔ (IsListed self.old.failing self.old.made ⊎ (self.old.room < room_of self.old.files + 64)) }
-        ensures after { OnOk result (self.new ≡ record self.old { files = shelved (BeginFile name.now ∷ []) self.old.files; made = raised self.old.made }) }
+        ensures full { IsErr result
+            ↔ (IsListed self.old.failing self.old.made ⊎ (self.old.room < room_of self.old.files + 64)) }
+        ensures after { OnOk result
+            (self.new
+            ≡ record self.old { files = shelved (BeginFile name.now ∷ []) self.old.files; made = raised self.old.made }) }
         ensures room { OnOk result (room_of self.new.files ≡ room_of self.old.files + 64) }
-        ensures fault { OnErr result (self.new ≡ record self.old { made = raised self.old.made; faults = raised self.old.faults }) }
+        ensures fault { OnErr result
+            (self.new ≡ record self.old { made = raised self.old.made; faults = raised self.old.faults }) }
     {
         if self.calls.next_fails() {
             self.faults = self.faults.saturating_add(1);
@@ -127,16 +145,24 @@ impl Shelf for MemoryShelf {
         requires { has_open self.old.files ≡ true }
         ensures within { IfOk result (λ n. n ≤ length piece.now) }
         ensures some { IfOk result (λ n. 0 < length piece.now → 0 < n) }
-        ensures taken { IfOk result (λ n. Shelves (Some self.old.files) (Some self.new.files) (map FileByte (take n piece.now))) }
+        ensures taken { IfOk result (λ n.
+            Shelves (Some self.old.files) (Some self.new.files) (map FileByte (take n piece.now))) }
         ensures state { OnOk result (has_open self.new.files ≡ true) }
         ensures failed { OnErr result (Some self.new.files ≡ Some self.old.files) }
         ensures cause { HasCause self.old.faults self.new.faults result }
+        ensures kept { sure_room self.new.failing self.new.room ≡ sure_room self.old.failing self.old.room }
 
-        ensures full { IsErr result ↔ (IsListed self.old.failing self.old.made ⊎ ((0 < length piece.now) × (room_of self.old.files ≡ self.old.room))) }
-        ensures count { IfOk result (λ n. n ≡ portion self.old.step (self.old.room - room_of self.old.files) (length piece.now)) }
-        ensures after { IfOk result (λ n. self.new ≡ record self.old { files = shelved (map FileByte (take n piece.now)) self.old.files; made = raised self.old.made }) }
+        ensures full { IsErr result
+            ↔ (IsListed self.old.failing self.old.made
+            ⊎ ((0 < length piece.now) × (room_of self.old.files ≡ self.old.room))) }
+        ensures count { IfOk result (λ n.
+            n ≡ portion self.old.step (self.old.room - room_of self.old.files) (length piece.now)) }
+        ensures after { IfOk result (λ n.
+            self.new
+            ≡ record self.old { files = shelved (map FileByte (take n piece.now)) self.old.files; made = raised self.old.made }) }
         ensures room { IfOk result (λ n. room_of self.new.files ≡ room_of self.old.files + n) }
-        ensures fault { OnErr result (self.new ≡ record self.old { made = raised self.old.made; faults = raised self.old.faults }) }
+        ensures fault { OnErr result
+            (self.new ≡ record self.old { made = raised self.old.made; faults = raised self.old.faults }) }
     {
         if self.calls.next_fails() {
             self.faults = self.faults.saturating_add(1);
@@ -157,11 +183,15 @@ impl Shelf for MemoryShelf {
         ensures state { OnOk result (has_open self.new.files ≡ false) }
         ensures failed { OnErr result (Some self.new.files ≡ Some self.old.files) }
         ensures cause { HasCause self.old.faults self.new.faults result }
+        ensures kept { sure_room self.new.failing self.new.room ≡ sure_room self.old.failing self.old.room }
 
         ensures listed { IsErr result ↔ IsListed self.old.failing self.old.made }
-        ensures after { OnOk result (self.new ≡ record self.old { files = shelved (EndFile ∷ []) self.old.files; made = raised self.old.made }) }
+        ensures after { OnOk result
+            (self.new
+            ≡ record self.old { files = shelved (EndFile ∷ []) self.old.files; made = raised self.old.made }) }
         ensures room { room_of self.new.files ≡ room_of self.old.files }
-        ensures fault { OnErr result (self.new ≡ record self.old { made = raised self.old.made; faults = raised self.old.faults }) }
+        ensures fault { OnErr result
+            (self.new ≡ record self.old { made = raised self.old.made; faults = raised self.old.faults }) }
     {
         if self.calls.next_fails() {
             self.faults = self.faults.saturating_add(1);

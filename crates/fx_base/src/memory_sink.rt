@@ -1,7 +1,7 @@
-ghost use Rattle.std.specs.Prelude.{◌≡◌, ◌<◌, ◌≤◌, ◌-◌, ◌++◌, ◌↔◌, ◌⊎◌, [], length, take, Some, IsErr, IfOk, OnErr};
+ghost use Rattle.std.specs.Prelude.{◌≡◌, ◌<◌, ◌≤◌, ◌-◌, ◌++◌, ◌↔◌, ◌⊎◌, ℕ, [], length, take, Some, IsErr, IfOk, OnErr};
 ghost use Rattle.fx_base.specs.Faults.{HasCause, raised};
 ghost use Rattle.fx_base.specs.Writing.{Appends};
-ghost use Rattle.fx_base.specs.Memory.{FailingSink, IsListed, portion};
+ghost use Rattle.fx_base.specs.Memory.{FailingSink, IsListed, sure_room, portion};
 
 use crate::failed::Failed;
 use crate::listed_calls::ListedCalls;
@@ -23,7 +23,14 @@ pub struct MemorySink {
 impl Model for MemorySink {
     ghost Value = { FailingSink };
 
-    ghost view = { λ s. record { written = s.sink.written; step = s.sink.step; room = s.sink.room; failing = s.calls.failing; made = s.calls.made; faults = s.faults } };
+    ghost view = { λ s. record {
+      written = s.sink.written;
+      step = s.sink.step;
+      room = s.sink.room;
+      failing = s.calls.failing;
+      made = s.calls.made;
+      faults = s.faults;
+    } };
 
     ghost invariant = { λ s. s.calls.failing ≡ [] → length s.sink.written < s.sink.room → s.faults ≡ 0 };
 }
@@ -38,7 +45,8 @@ impl MemorySink {
         failing: Bytes,
     ) -> Result<MemorySink, NoMemory>
         requires { 0 < step }
-        ensures { IfOk result (λ s. s ≡ record { written = []; step = step; room = room; failing = failing; made = 0; faults = 0 }) }
+        ensures { IfOk result (λ s.
+            s ≡ record { written = []; step = step; room = room; failing = failing; made = 0; faults = 0 }) }
     {
         let sink = SureSink::new(alloc, step, room)?;
         Ok(MemorySink {
@@ -58,7 +66,8 @@ impl MemorySink {
     /// How many calls failed: none where none is listed and fewer bytes than the room are written.
     pub fn faults(&self) -> u64
         ensures count { result ≡ self.now.faults }
-        ensures sure { self.now.failing ≡ [] → length self.now.written < self.now.room → self.now.faults ≡ 0 }
+        ensures sure { (n : ℕ) → sure_room self.now.failing self.now.room ≡ Some n
+            → length self.now.written < n → self.now.faults ≡ 0 }
     {
         self.faults
     }
@@ -69,17 +78,27 @@ impl Sink for MemorySink {
 
     ghost faults = { λ s. s.faults };
 
+    ghost room = { λ s. sure_room s.failing s.room };
+
     fn write(&mut self, piece: &[u8]) -> Result<usize, Failed>
         ensures within { IfOk result (λ n. n ≤ length piece.now) }
         ensures some { IfOk result (λ n. 0 < length piece.now → 0 < n) }
-        ensures taken { IfOk result (λ n. Appends (Some self.old.written) (Some self.new.written) (take n piece.now)) }
+        ensures taken { IfOk result (λ n.
+            Appends (Some self.old.written) (Some self.new.written) (take n piece.now)) }
         ensures failed { OnErr result (Some self.new.written ≡ Some self.old.written) }
         ensures cause { HasCause self.old.faults self.new.faults result }
+        ensures kept { sure_room self.new.failing self.new.room ≡ sure_room self.old.failing self.old.room }
 
-        ensures full { IsErr result ↔ (IsListed self.old.failing self.old.made ⊎ ((0 < length piece.now) × (length self.old.written ≡ self.old.room))) }
-        ensures count { IfOk result (λ n. n ≡ portion self.old.step (self.old.room - length self.old.written) (length piece.now)) }
-        ensures after { IfOk result (λ n. self.new ≡ record self.old { written = self.old.written ++ take n piece.now; made = raised self.old.made }) }
-        ensures fault { OnErr result (self.new ≡ record self.old { made = raised self.old.made; faults = raised self.old.faults }) }
+        ensures full { IsErr result
+            ↔ (IsListed self.old.failing self.old.made
+            ⊎ ((0 < length piece.now) × (length self.old.written ≡ self.old.room))) }
+        ensures count { IfOk result (λ n.
+            n ≡ portion self.old.step (self.old.room - length self.old.written) (length piece.now)) }
+        ensures after { IfOk result (λ n.
+            self.new
+            ≡ record self.old { written = self.old.written ++ take n piece.now; made = raised self.old.made }) }
+        ensures fault { OnErr result
+            (self.new ≡ record self.old { made = raised self.old.made; faults = raised self.old.faults }) }
     {
         if self.calls.next_fails() {
             self.faults = self.faults.saturating_add(1);

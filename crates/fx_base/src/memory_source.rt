@@ -1,7 +1,7 @@
-ghost use Rattle.std.specs.Prelude.{◌≡◌, ◌<◌, ◌≤◌, ◌++◌, ◌↔◌, [], length, take, drop, Some, IsErr, IfOk, OnErr, OnOk};
+ghost use Rattle.std.specs.Prelude.{◌≡◌, ◌<◌, ◌≤◌, ◌++◌, ◌↔◌, true, length, take, drop, Some, IsErr, IfOk, OnErr, OnOk};
 ghost use Rattle.fx_base.specs.Faults.{HasCause, raised};
 ghost use Rattle.fx_base.specs.Reading.{Takes};
-ghost use Rattle.fx_base.specs.Memory.{FailingSource, IsListed, portion};
+ghost use Rattle.fx_base.specs.Memory.{FailingSource, IsListed, none_listed, portion};
 
 use crate::failed::Failed;
 use crate::listed_calls::ListedCalls;
@@ -21,9 +21,15 @@ pub struct MemorySource {
 impl Model for MemorySource {
     ghost Value = { FailingSource };
 
-    ghost view = { λ s. record { left = s.source.left; step = s.source.step; failing = s.calls.failing; made = s.calls.made; faults = s.faults } };
+    ghost view = { λ s. record {
+      left = s.source.left;
+      step = s.source.step;
+      failing = s.calls.failing;
+      made = s.calls.made;
+      faults = s.faults;
+    } };
 
-    ghost invariant = { λ s. s.calls.failing ≡ [] → s.faults ≡ 0 };
+    ghost invariant = { λ s. none_listed s.calls.failing ≡ true → s.faults ≡ 0 };
 }
 
 impl MemorySource {
@@ -43,7 +49,7 @@ impl MemorySource {
     /// How many calls failed: none where none is listed.
     pub fn faults(&self) -> u64
         ensures count { result ≡ self.now.faults }
-        ensures sure { self.now.failing ≡ [] → self.now.faults ≡ 0 }
+        ensures sure { none_listed self.now.failing ≡ true → self.now.faults ≡ 0 }
     {
         self.faults
     }
@@ -54,17 +60,24 @@ impl Source for MemorySource {
 
     ghost faults = { λ s. s.faults };
 
+    ghost sure = { λ s. none_listed s.failing };
+
     fn read(&mut self, to: &mut [u8]) -> Result<usize, Failed>
         ensures within { IfOk result (λ n. n ≤ length to.new) }
         ensures taken { IfOk result (λ n. Takes (Some self.old.left) (Some self.new.left) to.new n) }
         ensures failed { OnErr result (Some self.new.left ≡ Some self.old.left) }
         ensures cause { HasCause self.old.faults self.new.faults result }
+        ensures kept { none_listed self.new.failing ≡ none_listed self.old.failing }
 
         ensures listed { IsErr result ↔ IsListed self.old.failing self.old.made }
-        ensures count { IfOk result (λ n. n ≡ portion self.old.step (length self.old.left) (length to.old)) }
+        ensures count { IfOk result (λ n.
+            n ≡ portion self.old.step (length self.old.left) (length to.old)) }
         ensures given { IfOk result (λ n. to.new ≡ take n self.old.left ++ drop n to.old) }
-        ensures after { IfOk result (λ n. self.new ≡ record self.old { left = drop n self.old.left; made = raised self.old.made }) }
-        ensures fault { OnErr result (self.new ≡ record self.old { made = raised self.old.made; faults = raised self.old.faults }) }
+        ensures after { IfOk result (λ n.
+            self.new
+            ≡ record self.old { left = drop n self.old.left; made = raised self.old.made }) }
+        ensures fault { OnErr result
+            (self.new ≡ record self.old { made = raised self.old.made; faults = raised self.old.faults }) }
     {
         if self.calls.next_fails() {
             self.faults = self.faults.saturating_add(1);

@@ -1,4 +1,4 @@
-ghost use Rattle.std.specs.Prelude.{IfOk};
+ghost use Rattle.std.specs.Prelude.{◌≡◌, IfOk};
 ghost use Rattle.fx_base.specs.Reading.{ReadsAll, LeavesRest, HasReadCause};
 
 use crate::failed::Failed;
@@ -14,8 +14,10 @@ const BUFFER: usize = 4096;
 /// Why not all was read.
 #[derive(Debug, Clone, Copy, PartialEq, Eq, Error)]
 pub enum ReadStop {
+    /// Memory ran out.
     #[error("memory ran out")]
     NoMemory,
+    /// A call of the source failed.
     #[error("reading failed")]
     ReadFault,
 }
@@ -57,6 +59,7 @@ pub fn read_all<S: Source>(alloc: Global, source: &mut S, limit: usize) -> Resul
     ensures answer { IfOk result (λ taken. ReadsAll (S.left source.old) (S.left source.new) limit taken) }
     ensures rest { LeavesRest (S.left source.old) (S.left source.new) }
     ensures cause { HasReadCause (S.faults source.old) (S.faults source.new) result }
+    ensures kept { S.sure source.new ≡ S.sure source.old }
 {
     let mut bytes = Bytes::new(alloc);
     let mut buffer = [0u8; BUFFER];

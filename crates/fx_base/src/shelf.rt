@@ -1,4 +1,4 @@
-ghost use Rattle.std.specs.Prelude.{◌≡◌, ◌<◌, ◌≤◌, ℕ, List, [], ◌∷◌, length, map, take, Option, Bool, true, false, IfOk, OnErr, OnOk};
+ghost use Rattle.std.specs.Prelude.{◌≡◌, ◌<◌, ◌≤◌, ℕ, List, [], ◌∷◌, length, map, take, Option, None, Bool, true, false, IfOk, OnErr, OnOk};
 ghost use Rattle.fx_base.specs.Faults.{HasCause};
 ghost use Rattle.fx_base.specs.Acts.{File, Shelves, BeginFile, FileByte, EndFile};
 
@@ -15,14 +15,19 @@ pub trait Shelf {
     /// How many calls failed.
     ghost faults: { Self → ℕ };
 
+    /// The room for files, where it is known that calls fail for want of room alone.
+    ghost room: { Self → Option ℕ } = { λ _. None };
+
     /// Begins a file of this name, of 1 to 64 bytes, with no content.
     fn begin(&mut self, name: &[u8]) -> Result<(), Failed>
         requires none { begun self.old ≡ false }
         requires name { (1 ≤ length name.now) × (length name.now ≤ 64) }
-        ensures done { OnOk result (Shelves (files self.old) (files self.new) (BeginFile name.now ∷ [])) }
+        ensures done { OnOk result
+            (Shelves (files self.old) (files self.new) (BeginFile name.now ∷ [])) }
         ensures state { OnOk result (begun self.new ≡ true) }
         ensures failed { OnErr result (files self.new ≡ files self.old) }
-        ensures cause { HasCause (faults self.old) (faults self.new) result };
+        ensures cause { HasCause (faults self.old) (faults self.new) result }
+        ensures kept { room self.new ≡ room self.old };
 
     /// Appends bytes of the front of the piece to the file that is begun, and answers how many: at
     /// least one of a nonempty piece.
@@ -30,10 +35,12 @@ pub trait Shelf {
         requires { begun self.old ≡ true }
         ensures within { IfOk result (λ n. n ≤ length piece.now) }
         ensures some { IfOk result (λ n. 0 < length piece.now → 0 < n) }
-        ensures taken { IfOk result (λ n. Shelves (files self.old) (files self.new) (map FileByte (take n piece.now))) }
+        ensures taken { IfOk result (λ n.
+            Shelves (files self.old) (files self.new) (map FileByte (take n piece.now))) }
         ensures state { OnOk result (begun self.new ≡ true) }
         ensures failed { OnErr result (files self.new ≡ files self.old) }
-        ensures cause { HasCause (faults self.old) (faults self.new) result };
+        ensures cause { HasCause (faults self.old) (faults self.new) result }
+        ensures kept { room self.new ≡ room self.old };
 
     /// Ends the file that is begun.
     fn end(&mut self) -> Result<(), Failed>
@@ -41,5 +48,6 @@ pub trait Shelf {
         ensures done { OnOk result (Shelves (files self.old) (files self.new) (EndFile ∷ [])) }
         ensures state { OnOk result (begun self.new ≡ false) }
         ensures failed { OnErr result (files self.new ≡ files self.old) }
-        ensures cause { HasCause (faults self.old) (faults self.new) result };
+        ensures cause { HasCause (faults self.old) (faults self.new) result }
+        ensures kept { room self.new ≡ room self.old };
 }

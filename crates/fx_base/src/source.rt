@@ -1,4 +1,4 @@
-ghost use Rattle.std.specs.Prelude.{◌≡◌, ◌≤◌, ℕ, List, length, Option, IfOk, OnErr};
+ghost use Rattle.std.specs.Prelude.{◌≡◌, ◌≤◌, ℕ, List, length, Option, Bool, false, IfOk, OnErr};
 ghost use Rattle.fx_base.specs.Faults.{HasCause};
 ghost use Rattle.fx_base.specs.Reading.{Takes};
 
@@ -12,10 +12,14 @@ pub trait Source {
     /// How many calls failed.
     ghost faults: { Self → ℕ };
 
+    /// Whether it is known that no call fails.
+    ghost sure: { Self → Bool } = { λ _. false };
+
     /// Puts bytes at the front of `to`, and answers how many. None for a nonempty `to` is the end.
     fn read(&mut self, to: &mut [u8]) -> Result<usize, Failed>
         ensures within { IfOk result (λ n. n ≤ length to.new) }
         ensures taken { IfOk result (λ n. Takes (left self.old) (left self.new) to.new n) }
         ensures failed { OnErr result (left self.new ≡ left self.old) }
-        ensures cause { HasCause (faults self.old) (faults self.new) result };
+        ensures cause { HasCause (faults self.old) (faults self.new) result }
+        ensures kept { sure self.new ≡ sure self.old };
 }

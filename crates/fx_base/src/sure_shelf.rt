@@ -22,7 +22,12 @@ pub struct SureShelf {
 impl Model for SureShelf {
     ghost Value = { ShelfInMemory };
 
-    ghost view = { λ s. record { files = s.buffer.files; step = s.step; room = s.buffer.room; faults = s.faults } };
+    ghost view = { λ s. record {
+      files = s.buffer.files;
+      step = s.step;
+      room = s.buffer.room;
+      faults = s.faults;
+    } };
 
     ghost invariant = { λ s. IsSureShelf s.buffer.files s.step s.buffer.room s.faults };
 }
@@ -90,16 +95,21 @@ impl Shelf for SureShelf {
 
     ghost faults = { λ s. s.faults };
 
+    ghost room = { λ s. Some s.room };
+
     fn begin(&mut self, name: &[u8]) -> Result<(), Failed>
         requires none { has_open self.old.files ≡ false }
         requires name { (1 ≤ length name.now) × (length name.now ≤ 64) }
-        ensures done { OnOk result (Shelves (Some self.old.files) (Some self.new.files) (BeginFile name.now ∷ [])) }
+        ensures done { OnOk result
+            (Shelves (Some self.old.files) (Some self.new.files) (BeginFile name.now ∷ [])) }
         ensures state { OnOk result (has_open self.new.files ≡ true) }
         ensures failed { OnErr result (Some self.new.files ≡ Some self.old.files) }
         ensures cause { HasCause self.old.faults self.new.faults result }
+        ensures kept { Some self.new.room ≡ Some self.old.room }
 
         ensures full { IsErr result ↔ (self.old.room < room_of self.old.files + 64) }
-        ensures after { OnOk result (self.new ≡ record self.old { files = shelved (BeginFile name.now ∷ []) self.old.files }) }
+        ensures after { OnOk result
+            (self.new ≡ record self.old { files = shelved (BeginFile name.now ∷ []) self.old.files }) }
         ensures room { OnOk result (room_of self.new.files ≡ room_of self.old.files + 64) }
         ensures fault { OnErr result (self.new ≡ record self.old { faults = raised self.old.faults }) }
     {
@@ -115,14 +125,20 @@ impl Shelf for SureShelf {
         requires { has_open self.old.files ≡ true }
         ensures within { IfOk result (λ n. n ≤ length piece.now) }
         ensures some { IfOk result (λ n. 0 < length piece.now → 0 < n) }
-        ensures taken { IfOk result (λ n. Shelves (Some self.old.files) (Some self.new.files) (map FileByte (take n piece.now))) }
+        ensures taken { IfOk result (λ n.
+            Shelves (Some self.old.files) (Some self.new.files) (map FileByte (take n piece.now))) }
         ensures state { OnOk result (has_open self.new.files ≡ true) }
         ensures failed { OnErr result (Some self.new.files ≡ Some self.old.files) }
         ensures cause { HasCause self.old.faults self.new.faults result }
+        ensures kept { Some self.new.room ≡ Some self.old.room }
 
-        ensures full { IsErr result ↔ ((0 < length piece.now) × (room_of self.old.files ≡ self.old.room)) }
-        ensures count { IfOk result (λ n. n ≡ portion self.old.step (self.old.room - room_of self.old.files) (length piece.now)) }
-        ensures after { IfOk result (λ n. self.new ≡ record self.old { files = shelved (map FileByte (take n piece.now)) self.old.files }) }
+        ensures full { IsErr result
+            ↔ ((0 < length piece.now) × (room_of self.old.files ≡ self.old.room)) }
+        ensures count { IfOk result (λ n.
+            n ≡ portion self.old.step (self.old.room - room_of self.old.files) (length piece.now)) }
+        ensures after { IfOk result (λ n.
+            self.new
+            ≡ record self.old { files = shelved (map FileByte (take n piece.now)) self.old.files }) }
         ensures room { IfOk result (λ n. room_of self.new.files ≡ room_of self.old.files + n) }
         ensures fault { OnErr result (self.new ≡ record self.old { faults = raised self.old.faults }) }
     {
@@ -141,6 +157,7 @@ impl Shelf for SureShelf {
         ensures state { OnOk result (has_open self.new.files ≡ false) }
         ensures failed { OnErr result (Some self.new.files ≡ Some self.old.files) }
         ensures cause { HasCause self.old.faults self.new.faults result }
+        ensures kept { Some self.new.room ≡ Some self.old.room }
 
         ensures never { IsOk result }
         ensures after { self.new ≡ record self.old { files = shelved (EndFile ∷ []) self.old.files } }

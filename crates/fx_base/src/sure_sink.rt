@@ -21,7 +21,12 @@ pub struct SureSink {
 impl Model for SureSink {
     ghost Value = { SinkInMemory };
 
-    ghost view = { λ s. record { written = s.bytes.items; step = s.step; room = s.room; faults = s.faults } };
+    ghost view = { λ s. record {
+      written = s.bytes.items;
+      step = s.step;
+      room = s.room;
+      faults = s.faults;
+    } };
 
     ghost invariant = { λ s. IsSureSink (vec_len s.bytes) (vec_capacity s.bytes) s.step s.room s.faults };
 }
@@ -66,16 +71,23 @@ impl Sink for SureSink {
 
     ghost faults = { λ s. s.faults };
 
+    ghost room = { λ s. Some s.room };
+
     fn write(&mut self, piece: &[u8]) -> Result<usize, Failed>
         ensures within { IfOk result (λ n. n ≤ length piece.now) }
         ensures some { IfOk result (λ n. 0 < length piece.now → 0 < n) }
-        ensures taken { IfOk result (λ n. Appends (Some self.old.written) (Some self.new.written) (take n piece.now)) }
+        ensures taken { IfOk result (λ n.
+            Appends (Some self.old.written) (Some self.new.written) (take n piece.now)) }
         ensures failed { OnErr result (Some self.new.written ≡ Some self.old.written) }
         ensures cause { HasCause self.old.faults self.new.faults result }
+        ensures kept { Some self.new.room ≡ Some self.old.room }
 
-        ensures full { IsErr result ↔ ((0 < length piece.now) × (length self.old.written ≡ self.old.room)) }
-        ensures count { IfOk result (λ n. n ≡ portion self.old.step (self.old.room - length self.old.written) (length piece.now)) }
-        ensures after { IfOk result (λ n. self.new ≡ record self.old { written = self.old.written ++ take n piece.now }) }
+        ensures full { IsErr result
+            ↔ ((0 < length piece.now) × (length self.old.written ≡ self.old.room)) }
+        ensures count { IfOk result (λ n.
+            n ≡ portion self.old.step (self.old.room - length self.old.written) (length piece.now)) }
+        ensures after { IfOk result (λ n.
+            self.new ≡ record self.old { written = self.old.written ++ take n piece.now }) }
         ensures fault { OnErr result (self.new ≡ record self.old { faults = raised self.old.faults }) }
     {
         let there = self.room - self.bytes.len();

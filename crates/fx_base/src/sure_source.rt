@@ -1,4 +1,4 @@
-ghost use Rattle.std.specs.Prelude.{◌≡◌, ◌<◌, ◌≤◌, ◌++◌, length, take, drop, Some, IsOk, IfOk, OnErr};
+ghost use Rattle.std.specs.Prelude.{◌≡◌, ◌<◌, ◌≤◌, ◌++◌, length, take, drop, Some, true, IsOk, IfOk, OnErr};
 ghost use Rattle.fx_base.specs.Faults.{HasCause};
 ghost use Rattle.fx_base.specs.Reading.{Takes};
 ghost use Rattle.fx_base.specs.Memory.{SourceInMemory, portion};
@@ -46,6 +46,8 @@ impl Source for SureSource {
 
     ghost faults = { λ _. 0 };
 
+    ghost sure = { λ _. true };
+
     fn read(&mut self, to: &mut [u8]) -> Result<usize, Failed>
         ensures within { IfOk result (λ n. n ≤ length to.new) }
         ensures taken { IfOk result (λ n. Takes (Some self.old.left) (Some self.new.left) to.new n) }
@@ -53,7 +55,8 @@ impl Source for SureSource {
         ensures cause { HasCause 0 0 result }
 
         ensures never { IsOk result }
-        ensures count { IfOk result (λ n. n ≡ portion self.old.step (length self.old.left) (length to.old)) }
+        ensures count { IfOk result (λ n.
+            n ≡ portion self.old.step (length self.old.left) (length to.old)) }
         ensures given { IfOk result (λ n. to.new ≡ take n self.old.left ++ drop n to.old) }
         ensures after { IfOk result (λ n. self.new ≡ record self.old { left = drop n self.old.left }) }
     {

@@ -13,6 +13,7 @@ pub fn write_all<K: Sink>(sink: &mut K, piece: &[u8]) -> Result<(), Failed>
     ensures done { OnOk result (Appends (K.written sink.old) (K.written sink.new) piece.now) }
     ensures part { AppendsPart (K.written sink.old) (K.written sink.new) piece.now }
     ensures cause { HasCause (K.faults sink.old) (K.faults sink.new) result }
+    ensures kept { K.room sink.new ≡ K.room sink.old }
 {
     let mut from = 0;
     while from < piece.len() {
@@ -26,10 +27,13 @@ pub fn write_all<K: Sink>(sink: &mut K, piece: &[u8]) -> Result<(), Failed>
 pub fn shelve<F: Shelf>(shelf: &mut F, name: &[u8], content: &[u8]) -> Result<(), Failed>
     requires none { F.begun shelf.old ≡ false }
     requires name { (1 ≤ length name.now) × (length name.now ≤ 64) }
-    ensures done { OnOk result (Shelves (F.files shelf.old) (F.files shelf.new) (acts_of (WholeFile name.now content.now))) }
+    ensures done { OnOk result
+        (Shelves (F.files shelf.old) (F.files shelf.new) (acts_of (WholeFile name.now content.now))) }
     ensures state { OnOk result (F.begun shelf.new ≡ false) }
-    ensures part { ShelvesPart (F.files shelf.old) (F.files shelf.new) (acts_of (WholeFile name.now content.now)) }
+    ensures part { ShelvesPart (F.files shelf.old) (F.files shelf.new)
+        (acts_of (WholeFile name.now content.now)) }
     ensures cause { HasCause (F.faults shelf.old) (F.faults shelf.new) result }
+    ensures kept { F.room shelf.new ≡ F.room shelf.old }
 {
     shelf.begin(name)?;
     fill(shelf, content)?;
@@ -40,10 +44,12 @@ pub fn shelve<F: Shelf>(shelf: &mut F, name: &[u8], content: &[u8]) -> Result<()
 /// Gives the file that is begun these bytes.
 fn fill<F: Shelf>(shelf: &mut F, content: &[u8]) -> Result<(), Failed>
     requires { F.begun shelf.old ≡ true }
-    ensures done { OnOk result (Shelves (F.files shelf.old) (F.files shelf.new) (map FileByte content.now)) }
+    ensures done { OnOk result
+        (Shelves (F.files shelf.old) (F.files shelf.new) (map FileByte content.now)) }
     ensures state { OnOk result (F.begun shelf.new ≡ true) }
     ensures part { ShelvesPart (F.files shelf.old) (F.files shelf.new) (map FileByte content.now) }
     ensures cause { HasCause (F.faults shelf.old) (F.faults shelf.new) result }
+    ensures kept { F.room shelf.new ≡ F.room shelf.old }
 {
     let mut from = 0;
     while from < content.len() {

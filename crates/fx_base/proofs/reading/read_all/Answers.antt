@@ -26,5 +26,6 @@ pub reads-preserved : goal.reads-preserved
 reads-preserved g c = record {
   read = read_more _ _ _ _ _ _ _ c.reads.invariant.read c.in_ok-count.ensures.taken c.in_ok-count.ensures.within c.in_ok-extend_from_slice.ensures.ok;
   same = c.in_ok-count.ensures.cause.kept ∙ c.reads.invariant.same;
+  kept = c.in_ok-count.ensures.kept ∙ c.reads.invariant.kept;
   small = omega (arith, c.if-len-limit.false);
 }

@@ -14,6 +14,7 @@ loop-from-preserved g c =
       done = fill_more _ _ _ _ _ _ c.loop-from.invariant.done taken;
       state = c.in_ok-from.ensures.state;
       same = c.in_ok-from.ensures.cause.kept ∙ c.loop-from.invariant.same;
+      kept = c.in_ok-from.ensures.kept ∙ c.loop-from.invariant.kept;
     }
 
 pub returns-in_err-from-clause-part : goal.returns-in_err-from-clause-part

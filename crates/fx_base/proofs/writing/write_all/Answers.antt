@@ -1,6 +1,4 @@
-use Rattle.std.proofs.Common.{◌∙◌, arith, length-drop, subst, take, length, ◌≤◌, List, ℕ}
-use Rattle.std.proofs.lemmas.List.{take_all}
-use Rattle.fx_base.specs.Writing.{Appends}
+use Rattle.std.proofs.Common.{◌∙◌, arith, length-drop}
 use Rattle.fx_base.proofs.Steps.{appends_more, appends_part, slice_to_end}
 use Rattle.fx_base.proofs.writing.write_all.Goals as goal
 
@@ -14,6 +12,7 @@ loop-from-preserved g c =
       in_range = omega arith;
       done = appends_more _ _ _ _ _ _ c.loop-from.invariant.done taken;
       same = c.in_ok-from.ensures.cause.kept ∙ c.loop-from.invariant.same;
+      kept = c.in_ok-from.ensures.kept ∙ c.loop-from.invariant.kept;
     }
 
 pub returns-in_err-from-clause-part : goal.returns-in_err-from-clause-part

@@ -1,4 +1,4 @@
-use Rattle.std.proofs.Common.{◌≡◌, ◌≤◌, ◌+◌, ◌++◌, ◌∷◌, [], false, List, sym, ◌∙◌, ap, arith, rules}
+use Rattle.std.proofs.Common.{[], false, List, sym, ◌∙◌, ap, arith, rules}
 use Rattle.fx_base.specs.Acts.{File}
 use Rattle.fx_base.specs.Memory.{FilesInMemory, has_open, room_of}
 use Rattle.fx_base.proofs.Flat.{begin_keeps, files_begun}

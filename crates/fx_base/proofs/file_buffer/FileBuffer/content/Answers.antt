@@ -1,7 +1,5 @@
-use Rattle.std.proofs.Common.{◌≡◌, ◌≤◌, ◌<◌, length, List, sym, ◌∙◌, ap, arith, rules}
 use Rattle.std.proofs.lemmas.List.{length-map}
 use Rattle.fx_base.specs.Acts.{File}
-use Rattle.fx_base.specs.FileBounds.{file_at, IsWithin}
 use Rattle.fx_base.proofs.Flat.{within_here, part_here}
 use Rattle.fx_base.proofs.file_buffer.FileBuffer.content.Goals as goal
 

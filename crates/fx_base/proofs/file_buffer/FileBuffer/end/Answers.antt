@@ -1,4 +1,4 @@
-use Rattle.std.proofs.Common.{◌≡◌, ◌≤◌, ◌+◌, ◌++◌, ◌∷◌, [], List, sym, ◌∙◌, ap, arith, rules}
+use Rattle.std.proofs.Common.{List, sym, ◌∙◌, ap}
 use Rattle.fx_base.specs.Acts.{File}
 use Rattle.fx_base.specs.Memory.{FilesInMemory, has_open, room_of}
 use Rattle.fx_base.proofs.Flat.{end_keeps, files_closed}
