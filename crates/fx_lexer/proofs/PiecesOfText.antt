@@ -133,6 +133,7 @@ whole_of text (Err fault) h = record { pieces = h.pieces; flaw = h.flaw; joined 
 
 -- the tokens or the fault of a text are those of its pieces
 pub text_is : (text : List ℕ) → Whole text (lexed text)
+unfolding lexed
 text_is text = whole_of text (lexed text) (outcome (length text) [] text true (omega arith))
 
 pub made_of : (text : List ℕ) (tokens : List Token) → lexed text ≡ Ok tokens → IsMadeOf text tokens

@@ -66,6 +66,7 @@ text_in_two (p ∷ pieces) rest = ap (λ l. spelling p ++ l) (text_in_two pieces
 
 -- a text that is made of pieces has their tokens
 pub tokens_read : (text : List ℕ) (tokens : List Token) → IsMadeOf text tokens → lexed text ≡ Ok tokens
+unfolding lexed
 tokens_read text tokens h =
     ap (lexed_from text 0 true 0) h.joined ∙ pieces_read h.pieces [] [] text true h.formed h.joined
     ∙ ap (λ l. Ok l) (append-nil (tokens_among [] h.pieces) ∙ sym h.tokens_are)
@@ -89,6 +90,7 @@ fault_behind text start at flaw before (b ∷ bytes) joined all size form =
 
 -- a text that breaks off has the fault of its flaw
 pub fault_found : (text : List ℕ) (fault : LexFault) → BreaksOff text fault → lexed text ≡ Err fault
+unfolding lexed
 fault_found text fault h =
     let rest = flaw_text h.flaw in
     let start = starts_behind_all true h.pieces in

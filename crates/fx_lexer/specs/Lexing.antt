@@ -50,7 +50,7 @@ lexed_from text zero start at (b ∷ rest) =
     (item start (b ∷ rest))
 
 -- the tokens of the text, or its first fault
-abbrev pub lexed : List ℕ → Result (List Token) LexFault
+unfoldable pub lexed : List ℕ → Result (List Token) LexFault
 lexed text = lexed_from text 0 true 0 text
 
 -- the fault is the text's first; want of memory says nothing of the text
