@@ -35,7 +35,8 @@ in_front front (Ok tokens) = Ok (front ++ tokens)
 in_front front (Err fault) = Err fault
 
 -- what follows from an item, or from a fault
-abbrev pub at_item : (ℕ → LexFault) → (Item → Result (List Token) LexFault) → Result Item ℕ → Result (List Token) LexFault
+abbrev pub at_item : (ℕ → LexFault) → (Item → Result (List Token) LexFault) → Result Item ℕ
+    → Result (List Token) LexFault
 at_item fault next (Ok i) = next i
 at_item fault next (Err kind) = Err (fault kind)
 
