@@ -73,11 +73,13 @@ closes_nil h = nothing h.0 h.1 h.2
     nothing [] behind j = cc j
     nothing (x ∷ before) behind j = cc j
 
-pub ends_same : (b : ℕ) (inside rest : List ℕ) → ends_comment (b ∷ (inside ++ 42 ∷ rest)) ≡ ends_comment (b ∷ (inside ++ 42 ∷ []))
+pub ends_same : (b : ℕ) (inside rest : List ℕ)
+    → ends_comment (b ∷ (inside ++ 42 ∷ rest)) ≡ ends_comment (b ∷ (inside ++ 42 ∷ []))
 ends_same b [] rest = refl
 ends_same b (x ∷ inside) rest = refl
 
-closing_further : (b : ℕ) (bytes : List ℕ) (r : Option ℕ) → ends_comment (b ∷ bytes) ≡ false → ClosingIs bytes r → ClosingIs (b ∷ bytes) (option_map suc r)
+closing_further : (b : ℕ) (bytes : List ℕ) (r : Option ℕ) → ends_comment (b ∷ bytes) ≡ false → ClosingIs bytes r
+    → ClosingIs (b ∷ bytes) (option_map suc r)
 closing_further b bytes None e h = closes_cons b bytes e h
 closing_further b bytes (Some n) e h =
     record {
@@ -128,7 +130,8 @@ contains_cons c b bytes e later h = at_index h.0 h.1 h.2
     at_index zero within is = cc (e, eq-eqb b c is)
     at_index (suc k) within is = later (k, omega (arith, within), is)
 
-remark_further : (b : ℕ) (bytes : List ℕ) (r : Option ℕ) → (b == 59) ≡ false → RemarkIs bytes r → RemarkIs (b ∷ bytes) (option_map suc r)
+remark_further : (b : ℕ) (bytes : List ℕ) (r : Option ℕ) → (b == 59) ≡ false → RemarkIs bytes r
+    → RemarkIs (b ∷ bytes) (option_map suc r)
 remark_further b bytes None e h = contains_cons 59 b bytes e h
 remark_further b bytes (Some n) e h =
     record {
@@ -172,11 +175,16 @@ QuotedIs q bytes (Some n) = QuotedAs q bytes n
 itself : (q : ℕ) → (q == q) ≡ true
 itself q = eq-eqb q q refl
 
-pair_further : (q : ℕ) (bytes : List ℕ) (r : Option ℕ) → QuotedIs q bytes r → QuotedIs q (q ∷ q ∷ bytes) (option_map suc (option_map suc r))
+pair_further : (q : ℕ) (bytes : List ℕ) (r : Option ℕ) → QuotedIs q bytes r
+    → QuotedIs q (q ∷ q ∷ bytes) (option_map suc (option_map suc r))
 pair_further q bytes None later = λ h. at_front h.0 h.1 h.2 h.3
   where
-    at_front : (value rest : List ℕ) → q ∷ q ∷ bytes ≡ doubled q value ++ q ∷ rest → starts_with_byte q rest ≡ false → ⊥
-    at_front [] rest j e = let k : rest ≡ q ∷ bytes = cc j in let f : starts_with_byte q rest ≡ (q == q) = ap (starts_with_byte q) k in cc (itself q, f, e)
+    at_front : (value rest : List ℕ) → q ∷ q ∷ bytes ≡ doubled q value ++ q ∷ rest → starts_with_byte q rest ≡ false
+        → ⊥
+    at_front [] rest j e =
+        let k : rest ≡ q ∷ bytes = cc j in
+        let f : starts_with_byte q rest ≡ (q == q) = ap (starts_with_byte q) k in
+        cc (itself q, f, e)
     at_front (x ∷ value) rest j e =
         elim (test (x == q)) [
           | inl is ↦ later (value, rest, cc (rw is at j), e)
@@ -191,7 +199,8 @@ pair_further q bytes (Some n) h =
       ended = h.ended;
     }
 
-single_further : (q b : ℕ) (bytes : List ℕ) (r : Option ℕ) → (b == q) ≡ false → QuotedIs q bytes r → QuotedIs q (b ∷ bytes) (option_map suc r)
+single_further : (q b : ℕ) (bytes : List ℕ) (r : Option ℕ) → (b == q) ≡ false → QuotedIs q bytes r
+    → QuotedIs q (b ∷ bytes) (option_map suc r)
 single_further q b bytes None differs later = λ h. at_front h.0 h.1 h.2 h.3
   where
     at_front : (value rest : List ℕ) → b ∷ bytes ≡ doubled q value ++ q ∷ rest → starts_with_byte q rest ≡ false → ⊥
@@ -252,7 +261,8 @@ pub record Fraction (bytes : List ℕ) : Type 0 where
   pub all : IsTrue (list_all is_digit digits)
   pub ended : begins_with is_digit rest ≡ false
 
-none_passes : (sort : ℕ → Bool) (bytes : List ℕ) → nat_lt 0 (prefix_len sort bytes) ≡ false → begins_with sort bytes ≡ false
+none_passes : (sort : ℕ → Bool) (bytes : List ℕ) → nat_lt 0 (prefix_len sort bytes) ≡ false
+    → begins_with sort bytes ≡ false
 none_passes sort [] e = refl
 none_passes sort (b ∷ bytes) e = elim (test (sort b)) [ inl passes ↦ absurd (let k = rw passes at e in let l = ltb-false 0 (1 + prefix_len sort bytes) k in omega arith) | inr fails ↦ fails ]
 

@@ -25,7 +25,8 @@ either_of true y e = inl refl
 either_of false y e = inr e
 
 -- bytes of another sort are no white space
-no_white : (sort : ℕ → Bool) (b : ℕ) → sort b ≡ true → sort 32 ≡ false → sort 9 ≡ false → sort 10 ≡ false → sort 13 ≡ false → is_white b ≡ false
+no_white : (sort : ℕ → Bool) (b : ℕ) → sort b ≡ true → sort 32 ≡ false → sort 9 ≡ false → sort 10 ≡ false
+    → sort 13 ≡ false → is_white b ≡ false
 no_white sort b is blank tab feed back = rw (differs sort b 32 is blank, differs sort b 9 is tab, differs sort b 10 is feed, differs sort b 13 is back) refl
 
 module _ (start : Bool) (b : ℕ) (bytes : List ℕ) where
@@ -44,22 +45,31 @@ module _ (start : Bool) (b : ℕ) (bytes : List ℕ) where
       else (if is_sign b then token kind.Sign 1
       else Err 3)))
 
-  item_not_gap : (digits fraction : ℕ) → is_white b ≡ false → begins_comment (b ∷ bytes) ≡ false → begins_remark start (b ∷ bytes) ≡ false
+  item_not_gap : (digits fraction : ℕ) → is_white b ≡ false → begins_comment (b ∷ bytes) ≡ false
+      → begins_remark start (b ∷ bytes) ≡ false
       → prefix_len is_digit (b ∷ bytes) ≡ digits → fraction_len (drop digits (b ∷ bytes)) ≡ fraction → item start (b ∷ bytes) ≡ not_gap digits fraction
   unfolding not_gap
   item_not_gap digits fraction e f g count part =
-      let some : not_gap (prefix_len is_digit (b ∷ bytes)) (fraction_len (drop (prefix_len is_digit (b ∷ bytes)) (b ∷ bytes))) ≡ not_gap digits (fraction_len (drop digits (b ∷ bytes))) = ap (λ n. not_gap n (fraction_len (drop n (b ∷ bytes)))) count in
-      rw (e, f, g) (some ∙ ap (λ n. not_gap digits n) part)
+      let part_at : ℕ → ℕ = λ n. fraction_len (drop n (b ∷ bytes)) in
+      let here : not_gap (prefix_len is_digit (b ∷ bytes)) (part_at (prefix_len is_digit (b ∷ bytes))) ≡ not_gap digits (part_at digits) =
+      ap (λ n. not_gap n (part_at n)) count
+      in
+      rw (e, f, g) (here ∙ ap (λ n. not_gap digits n) part)
 
-  word_row : (digits fraction : ℕ) → begins_word b ≡ true → not_gap digits fraction ≡ limited kind.Word (prefix_len is_word_byte (b ∷ bytes)) 32 5
+  word_row : (digits fraction : ℕ) → begins_word b ≡ true
+      → not_gap digits fraction ≡ limited kind.Word (prefix_len is_word_byte (b ∷ bytes)) 32 5
   unfolding not_gap
   word_row digits fraction e = rw e refl
 
-  number_row : (digits fraction : ℕ) → begins_word b ≡ false → 0 < digits + fraction → not_gap digits fraction ≡ number digits fraction
+  number_row : (digits fraction : ℕ) → begins_word b ≡ false → 0 < digits + fraction
+      → not_gap digits fraction ≡ number digits fraction
   unfolding not_gap
-  number_row digits fraction e some = let f : begins_number digits fraction ≡ true = lt-ltb 0 (digits + fraction) some in rw (e, f) refl
+  number_row digits fraction e some =
+      let f : begins_number digits fraction ≡ true = lt-ltb 0 (digits + fraction) some in
+      rw (e, f) refl
 
-  quoted_row : begins_word b ≡ false → is_quote b ≡ true → not_gap 0 0 ≡ quoted_if_closed (option_map suc (quoted_len b false bytes))
+  quoted_row : begins_word b ≡ false → is_quote b ≡ true
+      → not_gap 0 0 ≡ quoted_if_closed (option_map suc (quoted_len b false bytes))
   unfolding not_gap
   quoted_row e f = rw (e, f) refl
 
@@ -75,7 +85,8 @@ module _ (start : Bool) (b : ℕ) (bytes : List ℕ) where
   no_digits e = rw e refl
 
 -- so many bytes pass
-prefix_all : (sort : ℕ → Bool) (front rest : List ℕ) → list_all sort front ≡ true → begins_with sort rest ≡ false → prefix_len sort (front ++ rest) ≡ length front
+prefix_all : (sort : ℕ → Bool) (front rest : List ℕ) → list_all sort front ≡ true → begins_with sort rest ≡ false
+    → prefix_len sort (front ++ rest) ≡ length front
 prefix_all sort [] [] all ended = refl
 prefix_all sort [] (b ∷ rest) all ended = rw ended refl
 prefix_all sort (x ∷ front) rest all ended =
@@ -90,7 +101,8 @@ no_fraction (b ∷ bytes) e =
       | inr other ↦ rw other refl
     ]
 
-a_fraction : (digits rest : List ℕ) → 0 < length digits → list_all is_digit digits ≡ true → begins_with is_digit rest ≡ false → fraction_len (46 ∷ (digits ++ rest)) ≡ 1 + length digits
+a_fraction : (digits rest : List ℕ) → 0 < length digits → list_all is_digit digits ≡ true
+    → begins_with is_digit rest ≡ false → fraction_len (46 ∷ (digits ++ rest)) ≡ 1 + length digits
 a_fraction digits rest some all ended = rw (prefix_all is_digit digits rest all ended, lt-ltb 0 (length digits) some) refl
 
 digit_no_word : (b : ℕ) → is_digit b ≡ true → begins_word b ≡ false
@@ -107,7 +119,8 @@ unfolding number_byte
 number_no_word b is = elim (either_of (is_digit b) (b == 46) is) [ inl d ↦ digit_no_word b d | inr p ↦ rw (eqb-true b 46 p) refl ]
 
 module _ (start : Bool) (b : ℕ) (bytes : List ℕ) where
-  number_item : (digits rest : List ℕ) (fraction : ℕ) → number_byte b ≡ true → b ∷ bytes ≡ digits ++ rest → list_all is_digit digits ≡ true → begins_with is_digit rest ≡ false
+  number_item : (digits rest : List ℕ) (fraction : ℕ) → number_byte b ≡ true → b ∷ bytes ≡ digits ++ rest
+      → list_all is_digit digits ≡ true → begins_with is_digit rest ≡ false
       → fraction_len rest ≡ fraction → 0 < length digits + fraction → item start (b ∷ bytes) ≡ number (length digits) fraction
   unfolding number_byte
   number_item digits rest fraction is joined all ended part some =
@@ -119,19 +132,24 @@ module _ (start : Bool) (b : ℕ) (bytes : List ℕ) where
       item_not_gap start b bytes (length digits) fraction white_not comment_not remark_not count (ap fraction_len behind ∙ part)
       ∙ number_row start b bytes (length digits) fraction (number_no_word b is) some
 
-  word_item : (name rest : List ℕ) → b ∷ bytes ≡ name ++ rest → begins_with begins_word name ≡ true → list_all is_word_byte name ≡ true → begins_with is_word_byte rest ≡ false
+  word_item : (name rest : List ℕ) → b ∷ bytes ≡ name ++ rest → begins_with begins_word name ≡ true
+      → list_all is_word_byte name ≡ true → begins_with is_word_byte rest ≡ false
       → item start (b ∷ bytes) ≡ limited kind.Word (length name) 32 5
   word_item [] rest joined begins all ended = absurd (cc begins)
   word_item (x ∷ name) rest joined begins all ended =
       let same : b ≡ x = cc joined in
       let is : begins_word b ≡ true = ap begins_word same ∙ begins in
       let count = ap (prefix_len is_word_byte) joined ∙ prefix_all is_word_byte (x ∷ name) rest all ended in
-      item_not_gap start b bytes _ _ (no_white begins_word b is refl refl refl refl) (no_comment start b bytes (differs begins_word b 47 is refl)) (no_remark start b bytes (differs begins_word b 42 is refl)) refl refl
+      let white_not = no_white begins_word b is refl refl refl refl in
+      let comment_not = no_comment start b bytes (differs begins_word b 47 is refl) in
+      let remark_not = no_remark start b bytes (differs begins_word b 42 is refl) in
+      item_not_gap start b bytes _ _ white_not comment_not remark_not refl refl
       ∙ word_row start b bytes _ _ is
       ∙ ap (λ n. limited kind.Word n 32 5) count
 
 -- the lengths of the items that are closed
-length_closing : (inside rest : List ℕ) → ¬ Closes (inside ++ 42 ∷ []) → closing_len (inside ++ 42 ∷ 47 ∷ rest) ≡ Some (length inside + 2)
+length_closing : (inside rest : List ℕ) → ¬ Closes (inside ++ 42 ∷ [])
+    → closing_len (inside ++ 42 ∷ 47 ∷ rest) ≡ Some (length inside + 2)
 length_closing [] rest first = refl
 length_closing (x ∷ inside) rest first =
     elim (test (ends_comment (x ∷ (inside ++ 42 ∷ 47 ∷ rest)))) [
@@ -146,7 +164,8 @@ length_closing (x ∷ inside) rest first =
           rw (goes_on, length_closing inside rest inner) (ap (λ n. Some n) more)
     ]
 
-length_remark : (inside rest : List ℕ) → ¬ Contains inside 59 → remark_len (inside ++ 59 ∷ rest) ≡ Some (length inside + 1)
+length_remark : (inside rest : List ℕ) → ¬ Contains inside 59
+    → remark_len (inside ++ 59 ∷ rest) ≡ Some (length inside + 1)
 length_remark [] rest first = refl
 length_remark (x ∷ inside) rest first =
     elim (test (x == 59)) [
@@ -157,7 +176,8 @@ length_remark (x ∷ inside) rest first =
           rw (other, length_remark inside rest inner) (ap (λ n. Some n) more)
     ]
 
-length_quoted : (q : ℕ) (value rest : List ℕ) → starts_with_byte q rest ≡ false → quoted_len q false (doubled q value ++ q ∷ rest) ≡ Some (length (doubled q value) + 1)
+length_quoted : (q : ℕ) (value rest : List ℕ) → starts_with_byte q rest ≡ false
+    → quoted_len q false (doubled q value ++ q ∷ rest) ≡ Some (length (doubled q value) + 1)
 length_quoted q [] rest ended = rw (eq-eqb q q refl, ended) refl
 length_quoted q (x ∷ value) rest ended =
     elim (test (x == q)) [
@@ -192,7 +212,8 @@ no_quoted_end q bytes none = by (quoted_len q false bytes) (quoted_is q bytes)
     by (Some n) h = absurd (none (h.value, h.rest, h.joined, h.ended))
 
 -- what holds of no byte of a list doesn't hold of one that is in it
-none_of : (list : List ℕ) (b : ℕ) (p : ℕ → Bool) → list_any (λ c. c == b) list ≡ true → list_all (λ c. not (p c)) list ≡ true → p b ≡ false
+none_of : (list : List ℕ) (b : ℕ) (p : ℕ → Bool) → list_any (λ c. c == b) list ≡ true
+    → list_all (λ c. not (p c)) list ≡ true → p b ≡ false
 none_of [] b p found none = absurd (cc found)
 none_of (c ∷ list) b p found none =
     let is = both (not (p c)) (list_all (λ c. not (p c)) list) none in
@@ -207,7 +228,8 @@ none_of (c ∷ list) b p found none =
 
 module _ (start : Bool) (b : ℕ) (bytes : List ℕ) where
   -- where the byte is no digit and no fraction begins
-  without_digits : is_white b ≡ false → begins_comment (b ∷ bytes) ≡ false → begins_remark start (b ∷ bytes) ≡ false → is_digit b ≡ false → begins_fraction (b ∷ bytes) ≡ false
+  without_digits : is_white b ≡ false → begins_comment (b ∷ bytes) ≡ false → begins_remark start (b ∷ bytes) ≡ false
+      → is_digit b ≡ false → begins_fraction (b ∷ bytes) ≡ false
       → item start (b ∷ bytes) ≡ not_gap start b bytes 0 0
   without_digits e f g d p = item_not_gap start b bytes 0 0 e f g (no_digits start b bytes d) (no_fraction (b ∷ bytes) p)
 
@@ -220,16 +242,21 @@ module _ (start : Bool) (b : ℕ) (bytes : List ℕ) where
   quote_no_digit : is_quote b ≡ true → is_digit b ≡ false
   quote_no_digit is = elim (either_of (b == 39) (b == 34) is) [ inl e ↦ rw (eqb-true b 39 e) refl | inr e ↦ rw (eqb-true b 34 e) refl ]
 
-  quoted_item : is_quote b ≡ true → item start (b ∷ bytes) ≡ quoted_if_closed (option_map suc (quoted_len b false bytes))
+  quoted_item : is_quote b ≡ true
+      → item start (b ∷ bytes) ≡ quoted_if_closed (option_map suc (quoted_len b false bytes))
   quoted_item is =
-      without_digits (no_white is_quote b is refl refl refl refl) (no_comment start b bytes (differs is_quote b 47 is refl)) (no_remark start b bytes (differs is_quote b 42 is refl))
-      (quote_no_digit is) (pointless (differs is_quote b 46 is refl))
+      let white_not = no_white is_quote b is refl refl refl refl in
+      let comment_not = no_comment start b bytes (differs is_quote b 47 is refl) in
+      let remark_not = no_remark start b bytes (differs is_quote b 42 is refl) in
+      without_digits white_not comment_not remark_not (quote_no_digit is) (pointless (differs is_quote b 46 is refl))
       ∙ quoted_row start b bytes (quote_no_word is) is
 
-  no_sign_is : (p : ℕ → Bool) → is_sign b ≡ true → list_all (λ c. not (p c)) (codes ";=()[]/*|@-") ≡ true → p b ≡ false
+  no_sign_is : (p : ℕ → Bool) → is_sign b ≡ true → list_all (λ c. not (p c)) (codes ";=()[]/*|@-") ≡ true
+      → p b ≡ false
   no_sign_is p is none = none_of (codes ";=()[]/*|@-") b p is none
 
-  sign_item : is_sign b ≡ true → begins_comment (b ∷ bytes) ≡ false → begins_remark start (b ∷ bytes) ≡ false → item start (b ∷ bytes) ≡ token kind.Sign 1
+  sign_item : is_sign b ≡ true → begins_comment (b ∷ bytes) ≡ false → begins_remark start (b ∷ bytes) ≡ false
+      → item start (b ∷ bytes) ≡ token kind.Sign 1
   sign_item is comment_not remark_not =
       without_digits (no_sign_is is_white is refl) comment_not remark_not (no_sign_is is_digit is refl) (pointless (no_sign_is (λ c. c == 46) is refl))
       ∙ sign_row start b bytes (no_sign_is begins_word is refl) (no_sign_is is_quote is refl) is
@@ -249,13 +276,16 @@ module _ (start : Bool) (b : ℕ) (bytes : List ℕ) where
       let fraction_not = neither_is (is_white b || begins_word b || is_digit b) (begins_fraction (b ∷ bytes)) quote_not.0 in
       let digit_not = neither_is (is_white b || begins_word b) (is_digit b) fraction_not.0 in
       let word_not = neither_is (is_white b) (begins_word b) digit_not.0 in
-      without_digits word_not.0 (no_comment start b bytes (sort_other is_sign 47 sign_not.1 refl)) (no_remark start b bytes (sort_other is_sign 42 sign_not.1 refl)) digit_not.1 fraction_not.1
+      let comment_not = no_comment start b bytes (sort_other is_sign 47 sign_not.1 refl) in
+      let remark_not = no_remark start b bytes (sort_other is_sign 42 sign_not.1 refl) in
+      without_digits word_not.0 comment_not remark_not digit_not.1 fraction_not.1
       ∙ stray_row start b bytes word_not.1 quote_not.1 sign_not.1
 
   white_item : is_white b ≡ true → item start (b ∷ bytes) ≡ gap 1
   white_item is = rw is refl
 
-pub comment_item : (start : Bool) (inner : List ℕ) → item start (47 ∷ 42 ∷ inner) ≡ comment_if_closed (option_map (λ n. 2 + n) (closing_len inner))
+pub comment_item : (start : Bool) (inner : List ℕ)
+    → item start (47 ∷ 42 ∷ inner) ≡ comment_if_closed (option_map (λ n. 2 + n) (closing_len inner))
 comment_item start inner = refl
 
 pub remark_item : (bytes : List ℕ) → item true (42 ∷ bytes) ≡ comment_if_closed (option_map suc (remark_len bytes))
@@ -272,7 +302,8 @@ not_zero : (n : ℕ) → 0 < n → (n == 0) ≡ false
 not_zero n some = elim (test (n == 0)) [ inl e ↦ absurd (let z = eqb-true n 0 e in omega arith) | inr e ↦ e ]
 
 module _ (start : Bool) (b : ℕ) (bytes : List ℕ) where
-  pub digit_first : (digits rest : List ℕ) → 0 < length digits → b ∷ bytes ≡ digits ++ rest → list_all is_digit digits ≡ true → number_byte b ≡ true
+  pub digit_first : (digits rest : List ℕ) → 0 < length digits → b ∷ bytes ≡ digits ++ rest
+      → list_all is_digit digits ≡ true → number_byte b ≡ true
   unfolding number_byte
   digit_first [] rest some joined all = absurd (omega (arith, some))
   digit_first (x ∷ digits) rest some joined all =
@@ -280,17 +311,21 @@ module _ (start : Bool) (b : ℕ) (bytes : List ℕ) where
       let is : is_digit b ≡ true = ap is_digit same ∙ (both (is_digit x) (list_all is_digit digits) all).0 in
       rw is refl
 
-  pub point_or_digit : (digits fraction : List ℕ) → b ∷ bytes ≡ digits ++ 46 ∷ fraction → list_all is_digit digits ≡ true → number_byte b ≡ true
+  pub point_or_digit : (digits fraction : List ℕ) → b ∷ bytes ≡ digits ++ 46 ∷ fraction
+      → list_all is_digit digits ≡ true → number_byte b ≡ true
   unfolding number_byte
   point_or_digit [] fraction joined all = let same : b ≡ 46 = cc joined in rw same refl
   point_or_digit (x ∷ digits) fraction joined all = digit_first (x ∷ digits) (46 ∷ fraction) (omega arith) joined all
 
-  whole_item : (digits rest : List ℕ) → 0 < length digits → b ∷ bytes ≡ digits ++ rest → list_all is_digit digits ≡ true → begins_with is_digit rest ≡ false → begins_fraction rest ≡ false
+  whole_item : (digits rest : List ℕ) → 0 < length digits → b ∷ bytes ≡ digits ++ rest
+      → list_all is_digit digits ≡ true → begins_with is_digit rest ≡ false → begins_fraction rest ≡ false
       → item start (b ∷ bytes) ≡ limited kind.Whole (length digits) 38 4
   whole_item digits rest some joined all ended pointless =
       number_item start b bytes digits rest 0 (digit_first digits rest some joined all) joined all ended (no_fraction rest pointless) (omega (arith, some))
 
-  decimal_item : (digits fraction rest : List ℕ) → b ∷ bytes ≡ (digits ++ 46 ∷ fraction) ++ rest → list_all is_digit digits ≡ true → 0 < length fraction → list_all is_digit fraction ≡ true → begins_with is_digit rest ≡ false
+  decimal_item : (digits fraction rest : List ℕ) → b ∷ bytes ≡ (digits ++ 46 ∷ fraction) ++ rest
+      → list_all is_digit digits ≡ true → 0 < length fraction → list_all is_digit fraction ≡ true
+      → begins_with is_digit rest ≡ false
       → item start (b ∷ bytes) ≡ limited kind.Decimal (length (digits ++ 46 ∷ fraction)) 38 4
   decimal_item digits fraction rest joined all some fraction_all ended =
       let joined' : b ∷ bytes ≡ digits ++ (46 ∷ (fraction ++ rest)) = joined ∙ append_assoc digits (46 ∷ fraction) rest in
@@ -304,10 +339,12 @@ module _ (start : Bool) (b : ℕ) (bytes : List ℕ) where
 abbrev pub item_of : Piece → Result Item ℕ
 item_of p = Ok (record { kind = kind_of p; length = length (spelling p) })
 
-at_front : (start : Bool) (b : ℕ) (bytes text : List ℕ) (r : Result Item ℕ) → b ∷ bytes ≡ text → item start text ≡ r → item start (b ∷ bytes) ≡ r
+at_front : (start : Bool) (b : ℕ) (bytes text : List ℕ) (r : Result Item ℕ) → b ∷ bytes ≡ text → item start text ≡ r
+    → item start (b ∷ bytes) ≡ r
 at_front start b bytes text r joined e = ap (item start) joined ∙ e
 
-pub piece_item : (start : Bool) (p : Piece) (rest : List ℕ) (b : ℕ) (bytes : List ℕ) → b ∷ bytes ≡ spelling p ++ rest → HasForm start p rest → IsShort p → item start (b ∷ bytes) ≡ item_of p
+pub piece_item : (start : Bool) (p : Piece) (rest : List ℕ) (b : ℕ) (bytes : List ℕ) → b ∷ bytes ≡ spelling p ++ rest
+    → HasForm start p rest → IsShort p → item start (b ∷ bytes) ≡ item_of p
 piece_item start (white w) rest b bytes joined form short = at_front start b bytes (w ∷ rest) _ joined (white_item start w rest form)
 piece_item start (comment inside) rest b bytes joined form short =
     let inner : (inside ++ 42 ∷ 47 ∷ []) ++ rest ≡ inside ++ 42 ∷ 47 ∷ rest = append_assoc inside (42 ∷ 47 ∷ []) rest in
@@ -319,11 +356,14 @@ piece_item start (remark inside) rest b bytes joined form short =
     let found = ap remark_len inner ∙ length_remark inside rest form.1 in
     let size : suc (length inside + 1) ≡ suc (length (inside ++ 59 ∷ [])) = omega (arith, length-append inside (59 ∷ [])) in
     at_front start b bytes _ _ joined (ap (λ s. item s (42 ∷ ((inside ++ 59 ∷ []) ++ rest))) form.0 ∙ remark_item ((inside ++ 59 ∷ []) ++ rest) ∙ ap (λ r. comment_if_closed (option_map suc r)) found ∙ ap gap size)
-piece_item start (word name) rest b bytes joined form short = word_item start b bytes name rest joined form.0 form.1 form.2 ∙ short_is kind.Word (length name) 32 5 short
+piece_item start (word name) rest b bytes joined form short = word_item start b bytes name rest joined form.0 form.1 form.2
+    ∙ short_is kind.Word (length name) 32 5 short
 piece_item start (whole digits) rest b bytes joined form short =
-    whole_item start b bytes digits rest form.0 joined form.1 form.2 form.3 ∙ short_is kind.Whole (length digits) 38 4 short
+    whole_item start b bytes digits rest form.0 joined form.1 form.2 form.3
+    ∙ short_is kind.Whole (length digits) 38 4 short
 piece_item start (decimal digits fraction) rest b bytes joined form short =
-    decimal_item start b bytes digits fraction rest joined form.0 form.1 form.2 form.3 ∙ short_is kind.Decimal (length (digits ++ 46 ∷ fraction)) 38 4 short
+    decimal_item start b bytes digits fraction rest joined form.0 form.1 form.2 form.3
+    ∙ short_is kind.Decimal (length (digits ++ 46 ∷ fraction)) 38 4 short
 piece_item start (quoted q value) rest b bytes joined form short =
     let inner : (doubled q value ++ q ∷ []) ++ rest ≡ doubled q value ++ q ∷ rest = append_assoc (doubled q value) (q ∷ []) rest in
     let found = ap (quoted_len q false) inner ∙ length_quoted q value rest form.1 in
@@ -332,7 +372,8 @@ piece_item start (quoted q value) rest b bytes joined form short =
 piece_item start (sign s) rest b bytes joined form short = at_front start b bytes (s ∷ rest) _ joined (sign_item start s rest form.0 form.1 form.2)
 
 -- the fault of a flaw at the front of a text
-pub flaw_item : (start : Bool) (flaw : Flaw) (b : ℕ) (bytes : List ℕ) → b ∷ bytes ≡ flaw_text flaw → IsFlaw start flaw → item start (b ∷ bytes) ≡ Err (fault_kind flaw)
+pub flaw_item : (start : Bool) (flaw : Flaw) (b : ℕ) (bytes : List ℕ) → b ∷ bytes ≡ flaw_text flaw → IsFlaw start flaw
+    → item start (b ∷ bytes) ≡ Err (fault_kind flaw)
 flaw_item start (open_comment inside) b bytes joined form =
     at_front start b bytes _ _ joined (comment_item start inside ∙ ap (λ r. comment_if_closed (option_map (λ n. 2 + n) r)) (no_closing inside form))
 flaw_item start (open_remark inside) b bytes joined form =
@@ -342,13 +383,17 @@ flaw_item start (open_quoted q inside) b bytes joined form =
 flaw_item start (stray s rest) b bytes joined form = at_front start b bytes _ _ joined (stray_item start s rest form)
 flaw_item start (long_piece p rest) b bytes joined form = too_long p joined form.0 form.1
   where
-    too_long : (p : Piece) → b ∷ bytes ≡ spelling p ++ rest → HasForm start p rest → ¬ IsShort p → item start (b ∷ bytes) ≡ Err (fault_kind (long_piece p rest))
+    too_long : (p : Piece) → b ∷ bytes ≡ spelling p ++ rest → HasForm start p rest → ¬ IsShort p
+        → item start (b ∷ bytes) ≡ Err (fault_kind (long_piece p rest))
     too_long (white w) joined form long = absurd (long tt)
     too_long (comment inside) joined form long = absurd (long tt)
     too_long (remark inside) joined form long = absurd (long tt)
-    too_long (word name) joined form long = word_item start b bytes name rest joined form.0 form.1 form.2 ∙ long_is kind.Word (length name) 32 5 long
-    too_long (whole digits) joined form long = whole_item start b bytes digits rest form.0 joined form.1 form.2 form.3 ∙ long_is kind.Whole (length digits) 38 4 long
-    too_long (decimal digits fraction) joined form long = decimal_item start b bytes digits fraction rest joined form.0 form.1 form.2 form.3 ∙ long_is kind.Decimal (length (digits ++ 46 ∷ fraction)) 38 4 long
+    too_long (word name) joined form long = word_item start b bytes name rest joined form.0 form.1 form.2
+        ∙ long_is kind.Word (length name) 32 5 long
+    too_long (whole digits) joined form long = whole_item start b bytes digits rest form.0 joined form.1 form.2 form.3
+        ∙ long_is kind.Whole (length digits) 38 4 long
+    too_long (decimal digits fraction) joined form long = decimal_item start b bytes digits fraction rest joined form.0 form.1 form.2 form.3
+        ∙ long_is kind.Decimal (length (digits ++ 46 ∷ fraction)) 38 4 long
     too_long (quoted q value) joined form long = absurd (long tt)
     too_long (sign s) joined form long = absurd (long tt)
 

@@ -16,17 +16,20 @@ column_by true n = refl
 column_by false n = omega arith
 
 module _ (text : List ℕ) (i : ℕ) where
-  pub line_next : i < length text → line_after (take (i + 1) text) ≡ line_after (take i text) + cond (get_or text i 0 == 10) 1 0
+  pub line_next : i < length text
+      → line_after (take (i + 1) text) ≡ line_after (take i text) + cond (get_or text i 0 == 10) 1 0
   line_next h =
       elim (test (get_or text i 0 == 10)) [
         | inl e ↦ rw e (let more = count_by_more_yes (λ b. b == 10) text i 0 h e in omega arith)
         | inr e ↦ rw e (let more = count_by_more_no (λ b. b == 10) text i 0 h e in omega arith)
       ]
 
-  pub column_next : i < length text → column_after (take (i + 1) text) ≡ cond (get_or text i 0 == 10) 1 (column_after (take i text) + 1)
+  pub column_next : i < length text
+      → column_after (take (i + 1) text) ≡ cond (get_or text i 0 == 10) 1 (column_after (take i text) + 1)
   column_next h = rw (add-one, take-suc text i 0 h, reverse-append) (column_by (get_or text i 0 == 10) _)
 
-  pub place_next : i < length text → place_after (take (i + 1) text) ≡ next_place (place_after (take i text)) (get_or text i 0)
+  pub place_next : i < length text
+      → place_after (take (i + 1) text) ≡ next_place (place_after (take i text)) (get_or text i 0)
   place_next h = let l = line_next h in let c = column_next h in cc
 
   pub line_small : i ≤ length text → line_after (take i text) ≤ i + 1

@@ -38,7 +38,8 @@ abbrev pub ItemIs : Bool → ℕ → List ℕ → Result Item ℕ → Type 0
 ItemIs start b bytes (Ok it) = IsPiece start b bytes it
 ItemIs start b bytes (Err k) = IsFlawed start b bytes k
 
-choose : (P : Result Item ℕ → Type 0) (b : Bool) (x y : Result Item ℕ) → (b ≡ true → P x) → (b ≡ false → P y) → P (if b then x else y)
+choose : (P : Result Item ℕ → Type 0) (b : Bool) (x y : Result Item ℕ) → (b ≡ true → P x) → (b ≡ false → P y)
+    → P (if b then x else y)
 choose P true x y f g = f refl
 choose P false x y f g = g refl
 
@@ -50,7 +51,8 @@ module _ (start : Bool) (b : ℕ) (bytes : List ℕ) where
   white_is : IsTrue (is_white b) → ItemIs start b bytes (gap 1)
   white_is h = record { piece = white b; rest = bytes; joined = refl; form = h; short = tt; kind = refl; long = refl; behind = refl }
 
-  comment_at : (inner : List ℕ) (r : Option ℕ) → ClosingIs inner r → ItemIs start 47 (42 ∷ inner) (comment_if_closed (option_map (λ n. 2 + n) r))
+  comment_at : (inner : List ℕ) (r : Option ℕ) → ClosingIs inner r
+      → ItemIs start 47 (42 ∷ inner) (comment_if_closed (option_map (λ n. 2 + n) r))
   comment_at inner None h = record { flaw = open_comment inner; joined = refl; form = h; kind = refl }
   comment_at inner (Some n) h =
       record {
@@ -64,21 +66,25 @@ module _ (start : Bool) (b : ℕ) (bytes : List ℕ) where
         behind = refl;
       }
 
-  comment_found : IsTrue (begins_comment (b ∷ bytes)) → ItemIs start b bytes (comment_if_closed (option_map (λ n. 2 + n) (closing_len (drop 1 bytes))))
+  comment_found : IsTrue (begins_comment (b ∷ bytes))
+      → ItemIs start b bytes (comment_if_closed (option_map (λ n. 2 + n) (closing_len (drop 1 bytes))))
   comment_found h =
       let is = both (b == 47) (starts_with_byte 42 bytes) h in
       let tail = first_byte 42 bytes is.1 in
       at_front b bytes tail.0 (eqb-true b 47 is.0) tail.1
     where
-      at_front : (b : ℕ) (bytes inner : List ℕ) → b ≡ 47 → bytes ≡ 42 ∷ inner → ItemIs start b bytes (comment_if_closed (option_map (λ n. 2 + n) (closing_len (drop 1 bytes))))
+      at_front : (b : ℕ) (bytes inner : List ℕ) → b ≡ 47 → bytes ≡ 42 ∷ inner
+          → ItemIs start b bytes (comment_if_closed (option_map (λ n. 2 + n) (closing_len (drop 1 bytes))))
       at_front b bytes inner e f = rw (e, f) (comment_at inner (closing_len inner) (closing_is inner))
 
-  remark_found : IsTrue (begins_remark start (b ∷ bytes)) → ItemIs start b bytes (comment_if_closed (remark_len (b ∷ bytes)))
+  remark_found : IsTrue (begins_remark start (b ∷ bytes))
+      → ItemIs start b bytes (comment_if_closed (remark_len (b ∷ bytes)))
   remark_found h =
       let is = both start (b == 42) h in
       rw (eqb-true b 42 is.1) (by (remark_len bytes) (remark_is bytes) is.0)
     where
-      by : (r : Option ℕ) → RemarkIs bytes r → IsTrue start → ItemIs start 42 bytes (comment_if_closed (option_map suc r))
+      by : (r : Option ℕ) → RemarkIs bytes r → IsTrue start
+          → ItemIs start 42 bytes (comment_if_closed (option_map suc r))
       by None h starts = record { flaw = open_remark bytes; joined = refl; form = (starts, h); kind = refl }
       by (Some n) h starts =
           record {
@@ -92,7 +98,8 @@ module _ (start : Bool) (b : ℕ) (bytes : List ℕ) where
             behind = refl;
           }
 
-  quoted_found : IsTrue (is_quote b) → ItemIs start b bytes (quoted_if_closed (option_map suc (quoted_len b false bytes)))
+  quoted_found : IsTrue (is_quote b)
+      → ItemIs start b bytes (quoted_if_closed (option_map suc (quoted_len b false bytes)))
   quoted_found h = by (quoted_len b false bytes) (quoted_is b bytes)
     where
       by : (r : Option ℕ) → QuotedIs b bytes r → ItemIs start b bytes (quoted_if_closed (option_map suc r))
@@ -110,7 +117,8 @@ module _ (start : Bool) (b : ℕ) (bytes : List ℕ) where
           }
 
   -- a word or a number, within its limit or above it
-  limited_is : (p : Piece) (rest : List ℕ) (k : Kind) (n limit fault : ℕ) → b ∷ bytes ≡ spelling p ++ rest → HasForm start p rest
+  limited_is : (p : Piece) (rest : List ℕ) (k : Kind) (n limit fault : ℕ) → b ∷ bytes ≡ spelling p ++ rest
+      → HasForm start p rest
       → Some k ≡ kind_of p → n ≡ length (spelling p) → (b == 59) ≡ starts_behind start p → fault ≡ fault_kind (long_piece p rest)
       → (n ≤ limit → IsShort p) → (limit < n → ¬ IsShort p) → ItemIs start b bytes (limited k n limit fault)
   limited_is p rest k n limit fault joined form is long behind cause short over =
@@ -118,11 +126,13 @@ module _ (start : Bool) (b : ℕ) (bytes : List ℕ) where
       (λ h. record { piece = p; rest = rest; joined = joined; form = form; short = short (leb-true n limit h); kind = is; long = long; behind = behind })
       (λ h. record { flaw = long_piece p rest; joined = joined; form = (form, over (leb-false n limit h)); kind = cause })
 
-  front_first : (sort : ℕ → Bool) → sort b ≡ true → (front rest : List ℕ) → b ∷ bytes ≡ front ++ rest → begins_with sort rest ≡ false → (tail : List ℕ) × (front ≡ b ∷ tail)
+  front_first : (sort : ℕ → Bool) → sort b ≡ true → (front rest : List ℕ) → b ∷ bytes ≡ front ++ rest
+      → begins_with sort rest ≡ false → (tail : List ℕ) × (front ≡ b ∷ tail)
   front_first sort is [] rest joined ended = absurd (let k : sort b ≡ begins_with sort rest = ap (begins_with sort) joined in cc)
   front_first sort is (x ∷ front) rest joined ended = (front, cc)
 
-  word_found : IsTrue (begins_word b) → ItemIs start b bytes (limited kind.Word (prefix_len is_word_byte (b ∷ bytes)) 32 5)
+  word_found : IsTrue (begins_word b)
+      → ItemIs start b bytes (limited kind.Word (prefix_len is_word_byte (b ∷ bytes)) 32 5)
   word_found h =
       let r = split is_word_byte (b ∷ bytes) in
       let first = front_first is_word_byte (rw h refl) r.front r.rest r.joined r.ended in
@@ -130,21 +140,27 @@ module _ (start : Bool) (b : ℕ) (bytes : List ℕ) where
       limited_is (word r.front) r.rest kind.Word (prefix_len is_word_byte (b ∷ bytes)) 32 5 r.joined (begins, r.all, r.ended) refl (sym r.long)
       (no_semicolon begins_word b h refl) refl (λ few. omega (arith, r.long, few)) (λ many short. omega (arith, r.long, many, short))
 
-  all_first : (sort : ℕ → Bool) (front rest : List ℕ) → b ∷ bytes ≡ front ++ rest → 0 < length front → list_all sort front ≡ true → sort b ≡ true
+  all_first : (sort : ℕ → Bool) (front rest : List ℕ) → b ∷ bytes ≡ front ++ rest → 0 < length front
+      → list_all sort front ≡ true → sort b ≡ true
   all_first sort [] rest joined some all = absurd (omega (arith, some))
-  all_first sort (x ∷ front) rest joined some all = let e : b ≡ x = cc in ap sort e ∙ (both (sort x) (list_all sort front) all).0
+  all_first sort (x ∷ front) rest joined some all =
+      let e : b ≡ x = cc in
+      ap sort e ∙ (both (sort x) (list_all sort front) all).0
 
-  decimal_first : (front digits rest : List ℕ) → b ∷ bytes ≡ front ++ (46 ∷ digits ++ rest) → list_all is_digit front ≡ true → (b == 59) ≡ false
+  decimal_first : (front digits rest : List ℕ) → b ∷ bytes ≡ front ++ (46 ∷ digits ++ rest)
+      → list_all is_digit front ≡ true → (b == 59) ≡ false
   decimal_first [] digits rest joined all = let e : b ≡ 46 = cc in rw e refl
   decimal_first (x ∷ front) digits rest joined all = no_semicolon is_digit b (all_first is_digit (x ∷ front) (46 ∷ digits ++ rest) joined (omega arith) all) refl
 
   module _ (front rest : List ℕ) (joined : b ∷ bytes ≡ front ++ rest) (all : IsTrue (list_all is_digit front)) (ended : begins_with is_digit rest ≡ false) where
-    whole_found : begins_fraction rest ≡ false → 0 < length front → ItemIs start b bytes (limited kind.Whole (length front) 38 4)
+    whole_found : begins_fraction rest ≡ false → 0 < length front
+        → ItemIs start b bytes (limited kind.Whole (length front) 38 4)
     whole_found pointless some =
         limited_is (whole front) rest kind.Whole (length front) 38 4 joined (some, all, ended, pointless) refl refl
         (no_semicolon is_digit b (all_first is_digit front rest joined some all) refl) refl (λ few. few) (λ many short. omega (arith, many, short))
 
-    decimal_found : (f : Fraction rest) (n : ℕ) → n ≡ length front + fraction_len rest → ItemIs start b bytes (limited kind.Decimal n 38 4)
+    decimal_found : (f : Fraction rest) (n : ℕ) → n ≡ length front + fraction_len rest
+        → ItemIs start b bytes (limited kind.Decimal n 38 4)
     decimal_found f n long =
         let is : b ∷ bytes ≡ front ++ (46 ∷ f.digits ++ f.rest) = joined ∙ ap (λ l. front ++ l) f.joined in
         let size : n ≡ length (front ++ 46 ∷ f.digits) = omega (arith, length-append front (46 ∷ f.digits), f.long) in
@@ -152,7 +168,8 @@ module _ (start : Bool) (b : ℕ) (bytes : List ℕ) where
         (all, f.some, f.all, f.ended) refl size (decimal_first front f.digits f.rest is all) refl
         (λ few. omega (arith, few, size)) (λ many short. omega (arith, many, short, size))
 
-    number_at : (n : ℕ) → n ≡ fraction_len rest → 0 < length front + n → ItemIs start b bytes (number (length front) n)
+    number_at : (n : ℕ) → n ≡ fraction_len rest → 0 < length front + n
+        → ItemIs start b bytes (number (length front) n)
     number_at n long some =
         choose (ItemIs start b bytes) (n == 0) (limited kind.Whole (length front) 38 4) (limited kind.Decimal (length front + n) 38 4)
         (λ e.
@@ -167,17 +184,29 @@ module _ (start : Bool) (b : ℕ) (bytes : List ℕ) where
           | inr f ↦ absurd (let zero_is = eq-eqb n 0 (omega arith) in cc)
         ])
 
-  number_found : IsTrue (begins_number (prefix_len is_digit (b ∷ bytes)) (fraction_len (drop (prefix_len is_digit (b ∷ bytes)) (b ∷ bytes))))
-      → ItemIs start b bytes (number (prefix_len is_digit (b ∷ bytes)) (fraction_len (drop (prefix_len is_digit (b ∷ bytes)) (b ∷ bytes))))
+  -- the digits in front, and the bytes from a point on behind them
+  abbrev whole_len : ℕ
+  whole_len = prefix_len is_digit (b ∷ bytes)
+
+  abbrev part_len : ℕ
+  part_len = fraction_len (drop whole_len (b ∷ bytes))
+
+  number_found : IsTrue (begins_number whole_len part_len)
+      → ItemIs start b bytes (number whole_len part_len)
   number_found h =
       let r = split is_digit (b ∷ bytes) in
-      let after : drop (prefix_len is_digit (b ∷ bytes)) (b ∷ bytes) ≡ r.rest = ap (λ l. drop (prefix_len is_digit (b ∷ bytes)) l) r.joined ∙ ap (λ n. drop n (r.front ++ r.rest)) (sym r.long) ∙ drop-append_seam r.front r.rest in
+      let after : drop whole_len (b ∷ bytes) ≡ r.rest =
+      ap (λ l. drop whole_len l) r.joined
+      ∙ ap (λ n. drop n (r.front ++ r.rest)) (sym r.long)
+      ∙ drop-append_seam r.front r.rest
+      in
       let fraction = ap fraction_len after in
-      let some = ltb-true 0 (prefix_len is_digit (b ∷ bytes) + fraction_len (drop (prefix_len is_digit (b ∷ bytes)) (b ∷ bytes))) h in
-      let P : ℕ → Type 0 = λ n. ItemIs start b bytes (number n (fraction_len (drop (prefix_len is_digit (b ∷ bytes)) (b ∷ bytes)))) in
+      let some = ltb-true 0 (whole_len + part_len) h in
+      let P : ℕ → Type 0 = λ n. ItemIs start b bytes (number n part_len) in
       subst P r.long (number_at r.front r.rest r.joined r.all r.ended _ fraction (omega (arith, some, r.long)))
 
-  sign_found : begins_comment (b ∷ bytes) ≡ false → begins_remark start (b ∷ bytes) ≡ false → IsTrue (is_sign b) → ItemIs start b bytes (token kind.Sign 1)
+  sign_found : begins_comment (b ∷ bytes) ≡ false → begins_remark start (b ∷ bytes) ≡ false → IsTrue (is_sign b)
+      → ItemIs start b bytes (token kind.Sign 1)
   sign_found no_comment no_remark h =
       record {
         piece = sign b;
@@ -193,17 +222,34 @@ module _ (start : Bool) (b : ℕ) (bytes : List ℕ) where
   neither : (x y : Bool) → x ≡ false → y ≡ false → (x || y) ≡ false
   neither x y e f = rw (e, f) refl
 
-  no_digit : begins_number (prefix_len is_digit (b ∷ bytes)) (fraction_len (drop (prefix_len is_digit (b ∷ bytes)) (b ∷ bytes))) ≡ false → is_digit b ≡ false
+  no_digit : begins_number whole_len part_len ≡ false → is_digit b ≡ false
   no_digit h =
       elim (test (is_digit b)) [
-        | inl is ↦ absurd (let few = ltb-false 0 (prefix_len is_digit (b ∷ bytes) + fraction_len (drop (prefix_len is_digit (b ∷ bytes)) (b ∷ bytes))) h in let long : prefix_len is_digit (b ∷ bytes) ≡ 1 + prefix_len is_digit bytes = rw is refl in omega arith)
+        | inl is ↦
+            let few = ltb-false 0 (whole_len + part_len) h in
+            let long : whole_len ≡ 1 + prefix_len is_digit bytes = rw is refl in
+            absurd (omega arith)
         | inr e ↦ e
       ]
 
-  no_fraction : is_digit b ≡ false → begins_number (prefix_len is_digit (b ∷ bytes)) (fraction_len (drop (prefix_len is_digit (b ∷ bytes)) (b ∷ bytes))) ≡ false → begins_fraction (b ∷ bytes) ≡ false
+  no_fraction : is_digit b ≡ false → begins_number whole_len part_len ≡ false → begins_fraction (b ∷ bytes) ≡ false
   no_fraction other h =
       let few = ltb-false 0 (0 + fraction_len (b ∷ bytes)) (rw other at h) in
       elim (fraction_is (b ∷ bytes)) [ inl f ↦ absurd (omega (arith, f.long)) | inr f ↦ f.1 ]
+
+  stray_found : is_white b ≡ false → begins_word b ≡ false → begins_number whole_len part_len ≡ false
+      → is_quote b ≡ false
+      → is_sign b ≡ false → ItemIs start b bytes (Err 3)
+  stray_found no_white no_word no_number no_quote no_sign =
+      let digit = no_digit no_number in
+      let letter = neither (is_white b || begins_word b) (is_digit b) (neither (is_white b) (begins_word b) no_white no_word) digit in
+      let point = neither (is_white b || begins_word b || is_digit b) (begins_fraction (b ∷ bytes)) letter (no_fraction digit no_number) in
+      record {
+        flaw = stray b bytes;
+        joined = refl;
+        form = neither _ (is_sign b) (neither _ (is_quote b) point no_quote) no_sign;
+        kind = refl;
+      }
 
   pub item_is : ItemIs start b bytes (item start (b ∷ bytes))
   item_is =
@@ -211,7 +257,7 @@ module _ (start : Bool) (b : ℕ) (bytes : List ℕ) where
       choose (ItemIs start b bytes) (begins_comment (b ∷ bytes)) _ _ comment_found (λ no_comment.
       choose (ItemIs start b bytes) (begins_remark start (b ∷ bytes)) _ _ remark_found (λ no_remark.
       choose (ItemIs start b bytes) (begins_word b) _ _ word_found (λ no_word.
-      choose (ItemIs start b bytes) (begins_number (prefix_len is_digit (b ∷ bytes)) (fraction_len (drop (prefix_len is_digit (b ∷ bytes)) (b ∷ bytes)))) _ _ number_found (λ no_number.
+      choose (ItemIs start b bytes) (begins_number whole_len part_len) _ _ number_found (λ no_number.
       choose (ItemIs start b bytes) (is_quote b) _ _ quoted_found (λ no_quote.
       choose (ItemIs start b bytes) (is_sign b) _ _ (sign_found no_comment no_remark) (λ no_sign.
-      record { flaw = stray b bytes; joined = refl; form = neither _ _ (neither _ _ (neither _ _ (neither _ _ (neither _ _ no_white no_word) (no_digit no_number)) (no_fraction (no_digit no_number) no_number)) no_quote) no_sign; kind = refl })))))))
+      stray_found no_white no_word no_number no_quote no_sign)))))))

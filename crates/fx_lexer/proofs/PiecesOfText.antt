@@ -28,13 +28,15 @@ some_bytes start (quoted quote value) rest form = omega arith
 some_bytes start (sign b) rest form = omega arith
 
 -- the bytes of an item are passed over
-pub passed : (text : List ℕ) (start : Bool) (front rest : List ℕ) (at : ℕ) → lexed_from text (length front) start at (front ++ rest) ≡ lexed_from text 0 start (at + length front) rest
+pub passed : (text : List ℕ) (start : Bool) (front rest : List ℕ) (at : ℕ)
+    → lexed_from text (length front) start at (front ++ rest) ≡ lexed_from text 0 start (at + length front) rest
 passed text start [] rest at = rw add-zero refl
 passed text start (x ∷ front) rest at =
     let e : at + 1 + length front ≡ at + suc (length front) = omega arith in
     passed text start front rest (at + 1) ∙ ap (λ k. lexed_from text 0 start k rest) e
 
-pub item_passed : (text : List ℕ) (start : Bool) (front rest : List ℕ) (b : ℕ) (bytes : List ℕ) (n at : ℕ) → b ∷ bytes ≡ front ++ rest → 0 < length front → n ≡ length front
+pub item_passed : (text : List ℕ) (start : Bool) (front rest : List ℕ) (b : ℕ) (bytes : List ℕ) (n at : ℕ)
+    → b ∷ bytes ≡ front ++ rest → 0 < length front → n ≡ length front
     → lexed_from text (n - 1) start (at + 1) bytes ≡ lexed_from text 0 start (at + n) rest
 item_passed text start [] rest b bytes n at joined some long = absurd (omega (arith, some))
 item_passed text start (x ∷ front) rest b bytes n at joined some long =
@@ -64,7 +66,8 @@ Outcome before rest start (Ok tokens) = Taken before rest start tokens
 Outcome before rest start (Err fault) = Broken before rest start fault
 
 module _ (before : List ℕ) (start : Bool) (b : ℕ) (bytes : List ℕ) where
-  one_more : (it : Item) (h : IsPiece start b bytes it) (r : Result (List Token) LexFault) → Outcome (before ++ spelling h.piece) h.rest (starts_behind start h.piece) r
+  one_more : (it : Item) (h : IsPiece start b bytes it) (r : Result (List Token) LexFault)
+      → Outcome (before ++ spelling h.piece) h.rest (starts_behind start h.piece) r
       → Outcome before (b ∷ bytes) start (in_front (tokens_of (place_after before) (length before) it) r)
   one_more it h (Ok tokens) t =
       record {
@@ -113,7 +116,8 @@ module _ (before : List ℕ) (start : Bool) (b : ℕ) (bytes : List ℕ) where
       let past = item_passed (before ++ b ∷ bytes) (starts_behind start h.piece) (spelling h.piece) h.rest b bytes it.length (length before) h.joined some h.long in
       rw (h.behind, past) (one_more it h _ (rw (text, place) at then))
 
-pub outcome : (n : ℕ) (before rest : List ℕ) (start : Bool) → length rest ≤ n → Outcome before rest start (lexed_from (before ++ rest) 0 start (length before) rest)
+pub outcome : (n : ℕ) (before rest : List ℕ) (start : Bool) → length rest ≤ n
+    → Outcome before rest start (lexed_from (before ++ rest) 0 start (length before) rest)
 outcome n before [] start few = record { pieces = []; joined = refl; formed = tt; tokens_are = refl }
 outcome zero before (b ∷ bytes) start few = absurd (omega (arith, few))
 outcome (suc n) before (b ∷ bytes) start few =
@@ -129,10 +133,13 @@ whole_of text (Err fault) h = record { pieces = h.pieces; flaw = h.flaw; joined 
 
 -- the tokens or the fault of a text are those of its pieces
 pub text_is : (text : List ℕ) → Whole text (lexed text)
+unfolding lexed
 text_is text = whole_of text (lexed text) (outcome (length text) [] text true (omega arith))
 
 pub made_of : (text : List ℕ) (tokens : List Token) → lexed text ≡ Ok tokens → IsMadeOf text tokens
 made_of text tokens e = let P : Result (List Token) LexFault → Type 0 = λ r. Whole text r in subst P e (text_is text)
 
 pub breaks_off : (text : List ℕ) (fault : LexFault) → lexed text ≡ Err fault → BreaksOff text fault
-breaks_off text fault e = let P : Result (List Token) LexFault → Type 0 = λ r. Whole text r in subst P e (text_is text)
+breaks_off text fault e =
+    let P : Result (List Token) LexFault → Type 0 = λ r. Whole text r in
+    subst P e (text_is text)

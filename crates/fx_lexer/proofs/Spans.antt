@@ -27,7 +27,8 @@ module _ (before middle behind : List ℕ) (upto : ℕ) (end : upto ≡ length b
       rw (size, ← append_assoc) (drop-append_seam (before ++ middle) behind)
 
 module _ (before : List ℕ) (p : Piece) (rest : List ℕ) (start : Bool) (form : HasForm start p rest) (short : IsShort p) where
-  token_is : (k : Kind) → kind_of p ≡ Some k → IsToken (before ++ (spelling p ++ rest)) (token_at (place_after before) (length before) k (length (spelling p)))
+  token_is : (k : Kind) → kind_of p ≡ Some k
+      → IsToken (before ++ (spelling p ++ rest)) (token_at (place_after before) (length before) k (length (spelling p)))
   token_is k is =
       record {
         piece = p;
@@ -42,11 +43,13 @@ module _ (before : List ℕ) (p : Piece) (rest : List ℕ) (start : Bool) (form 
         short = short;
       }
 
-  its_token : (o : Option Kind) → kind_of p ≡ o → All (IsToken (before ++ (spelling p ++ rest))) (tokens_of_kind (place_after before) (length before) o (length (spelling p)))
+  its_token : (o : Option Kind) → kind_of p ≡ o
+      → All (IsToken (before ++ (spelling p ++ rest))) (tokens_of_kind (place_after before) (length before) o (length (spelling p)))
   its_token None is = All-nil (IsToken (before ++ (spelling p ++ rest)))
   its_token (Some k) is = All-cons (IsToken (before ++ (spelling p ++ rest))) _ [] (token_is k is) (All-nil (IsToken (before ++ (spelling p ++ rest))))
 
-pub each_token : (pieces : List Piece) (before : List ℕ) (start : Bool) → AreFormed start pieces [] → All (IsToken (before ++ text_of pieces [])) (tokens_among before pieces)
+pub each_token : (pieces : List Piece) (before : List ℕ) (start : Bool) → AreFormed start pieces []
+    → All (IsToken (before ++ text_of pieces [])) (tokens_among before pieces)
 each_token [] before start formed = All-nil (IsToken (before ++ []))
 each_token (p ∷ pieces) before start formed =
     let first = its_token before p (text_of pieces []) start formed.0 formed.1 (kind_of p) refl in
@@ -70,24 +73,28 @@ module _ (before : List ℕ) (p : Piece) (rest : List ℕ) where
   text_first (Some k) tokens texts e = ap₂ (λ x xs. x ∷ xs) (middle_range before (spelling p) rest (length before + length (spelling p)) refl) e
 
 -- the bytes of their spans are those of the pieces
-pub texts_among : (pieces : List Piece) (before : List ℕ) → map (λ (t : Token). slice_range (before ++ text_of pieces []) t.from t.upto) (tokens_among before pieces) ≡ filter_map token_text pieces
+pub texts_among : (pieces : List Piece) (before : List ℕ)
+    → map (λ (t : Token). slice_range (before ++ text_of pieces []) t.from t.upto) (tokens_among before pieces) ≡ filter_map token_text pieces
 texts_among [] before = refl
 texts_among (p ∷ pieces) before =
     text_first before p (text_of pieces []) (kind_of p) (tokens_among (before ++ spelling p) pieces) (filter_map token_text pieces)
     (rw append_assoc at (texts_among pieces (before ++ spelling p)))
 
-order_sooner : (tokens : List Token) (from sooner upto : ℕ) → sooner ≤ from → AreInOrder from upto tokens → AreInOrder sooner upto tokens
+order_sooner : (tokens : List Token) (from sooner upto : ℕ) → sooner ≤ from → AreInOrder from upto tokens
+    → AreInOrder sooner upto tokens
 order_sooner [] from sooner upto e h = omega (arith, e, h)
 order_sooner (t ∷ tokens) from sooner upto e h = (omega (arith, e, h.0), h.1, h.2)
 
-order_first : (before : List ℕ) (p : Piece) (upto : ℕ) (o : Option Kind) (tokens : List Token) → 0 < length (spelling p)
+order_first : (before : List ℕ) (p : Piece) (upto : ℕ) (o : Option Kind) (tokens : List Token)
+    → 0 < length (spelling p)
     → AreInOrder (length before + length (spelling p)) upto tokens
     → AreInOrder (length before) upto (tokens_of_kind (place_after before) (length before) o (length (spelling p)) ++ tokens)
 order_first before p upto None tokens some h = order_sooner tokens (length before + length (spelling p)) (length before) upto (omega arith) h
 order_first before p upto (Some k) tokens some h = (omega arith, omega (arith, some), h)
 
 -- they stand in order
-pub in_order : (pieces : List Piece) (before : List ℕ) (start : Bool) → AreFormed start pieces [] → AreInOrder (length before) (length (before ++ text_of pieces [])) (tokens_among before pieces)
+pub in_order : (pieces : List Piece) (before : List ℕ) (start : Bool) → AreFormed start pieces []
+    → AreInOrder (length before) (length (before ++ text_of pieces [])) (tokens_among before pieces)
 in_order [] before start formed = rw append-nil (omega arith)
 in_order (p ∷ pieces) before start formed =
     let later = in_order pieces (before ++ spelling p) (starts_behind start p) formed.2 in
@@ -101,5 +108,6 @@ in_order_of_text text = by (lexed text) (text_is text)
     by (Ok tokens) h = rw (h.joined, h.tokens_are) (in_order h.pieces [] true h.formed)
     by (Err fault) h = tt
 
-pub texts_of_text : (text : List ℕ) (pieces : List Piece) → text ≡ text_of pieces [] → map (λ (t : Token). slice_range text t.from t.upto) (tokens_among [] pieces) ≡ filter_map token_text pieces
+pub texts_of_text : (text : List ℕ) (pieces : List Piece) → text ≡ text_of pieces []
+    → map (λ (t : Token). slice_range text t.from t.upto) (tokens_among [] pieces) ≡ filter_map token_text pieces
 texts_of_text text pieces e = rw e (texts_among pieces [])

@@ -14,17 +14,22 @@ use Rattle.fx_lexer.proofs.NextItem.{in_front_twice}
 use Rattle.fx_lexer.proofs.ItemOfPiece.{differs, no_semicolon_number, digit_first, point_or_digit, piece_item, flaw_item}
 
 -- whether a statement starts behind a piece, by its first byte
-behind : (start : Bool) (p : Piece) (rest : List ℕ) (b : ℕ) (bytes : List ℕ) → b ∷ bytes ≡ spelling p ++ rest → HasForm start p rest
+behind : (start : Bool) (p : Piece) (rest : List ℕ) (b : ℕ) (bytes : List ℕ) → b ∷ bytes ≡ spelling p ++ rest
+    → HasForm start p rest
     → starts_after start (record { kind = kind_of p; length = length (spelling p) }) b ≡ starts_behind start p
 behind start (white w) rest b bytes joined form = refl
 behind start (comment inside) rest b bytes joined form = refl
 behind start (remark inside) rest b bytes joined form = refl
 behind start (word []) rest b bytes joined form = absurd (cc form.0)
-behind start (word (x ∷ name)) rest b bytes joined form = let same : b ≡ x = cc joined in differs begins_word b 59 (ap begins_word same ∙ form.0) refl
+behind start (word (x ∷ name)) rest b bytes joined form =
+    let same : b ≡ x = cc joined in
+    differs begins_word b 59 (ap begins_word same ∙ form.0) refl
 behind start (whole digits) rest b bytes joined form = no_semicolon_number b (digit_first start b bytes digits rest form.0 joined form.1)
 behind start (decimal digits fraction) rest b bytes joined form =
     no_semicolon_number b (point_or_digit start b bytes digits (fraction ++ rest) (joined ∙ append_assoc digits (46 ∷ fraction) rest) form.0)
-behind start (quoted q value) rest b bytes joined form = let same : b ≡ q = cc joined in differs is_quote b 59 (ap is_quote same ∙ form.0) refl
+behind start (quoted q value) rest b bytes joined form =
+    let same : b ≡ q = cc joined in
+    differs is_quote b 59 (ap is_quote same ∙ form.0) refl
 behind start (sign s) rest b bytes joined form = let same : b ≡ s = cc joined in ap (λ c. c == 59) same
 
 module _ (before : List ℕ) (start : Bool) (p : Piece) (rest : List ℕ) (form : HasForm start p rest) (short : IsShort p) where
@@ -42,7 +47,8 @@ none_in_front (Ok tokens) = refl
 none_in_front (Err fault) = refl
 
 -- the pieces are read, and then the rest
-pub pieces_read : (pieces : List Piece) (before rest text : List ℕ) (start : Bool) → AreFormed start pieces rest → text ≡ before ++ text_of pieces rest
+pub pieces_read : (pieces : List Piece) (before rest text : List ℕ) (start : Bool) → AreFormed start pieces rest
+    → text ≡ before ++ text_of pieces rest
     → lexed_from text 0 start (length before) (text_of pieces rest)
     ≡ in_front (tokens_among before pieces) (lexed_from text 0 (starts_behind_all start pieces) (length before + length (text_of pieces [])) rest)
 pieces_read [] before rest text start formed all = rw (none_in_front, add-zero) refl
@@ -55,14 +61,18 @@ pieces_read (p ∷ pieces) before rest text start formed all =
 
 text_in_two : (pieces : List Piece) (rest : List ℕ) → text_of pieces rest ≡ text_of pieces [] ++ rest
 text_in_two [] rest = refl
-text_in_two (p ∷ pieces) rest = ap (λ l. spelling p ++ l) (text_in_two pieces rest) ∙ sym (append_assoc (spelling p) (text_of pieces []) rest)
+text_in_two (p ∷ pieces) rest = ap (λ l. spelling p ++ l) (text_in_two pieces rest)
+    ∙ sym (append_assoc (spelling p) (text_of pieces []) rest)
 
 -- a text that is made of pieces has their tokens
 pub tokens_read : (text : List ℕ) (tokens : List Token) → IsMadeOf text tokens → lexed text ≡ Ok tokens
+unfolding lexed
 tokens_read text tokens h =
-    ap (lexed_from text 0 true 0) h.joined ∙ pieces_read h.pieces [] [] text true h.formed h.joined ∙ ap (λ l. Ok l) (append-nil (tokens_among [] h.pieces) ∙ sym h.tokens_are)
+    ap (lexed_from text 0 true 0) h.joined ∙ pieces_read h.pieces [] [] text true h.formed h.joined
+    ∙ ap (λ l. Ok l) (append-nil (tokens_among [] h.pieces) ∙ sym h.tokens_are)
 
-fault_behind : (text : List ℕ) (start : Bool) (at : ℕ) (flaw : Flaw) (before bytes : List ℕ) → bytes ≡ flaw_text flaw → text ≡ before ++ bytes → at ≡ length before → IsFlaw start flaw
+fault_behind : (text : List ℕ) (start : Bool) (at : ℕ) (flaw : Flaw) (before bytes : List ℕ) → bytes ≡ flaw_text flaw
+    → text ≡ before ++ bytes → at ≡ length before → IsFlaw start flaw
     → lexed_from text 0 start at bytes ≡ Err (fault_at (place_after before) (fault_kind flaw))
 fault_behind text start at flaw before [] joined all size form = absurd (some_flaw flaw form joined)
   where
@@ -71,16 +81,20 @@ fault_behind text start at flaw before [] joined all size form = absurd (some_fl
     some_flaw (open_remark inside) form e = cc e
     some_flaw (open_quoted q inside) form e = cc e
     some_flaw (stray s rest) form e = cc e
-    some_flaw (long_piece p rest) form e = let none = ap length e in omega (arith, some_bytes start p rest form.0, none, length-append (spelling p) rest)
+    some_flaw (long_piece p rest) form e =
+        let none = ap length e in
+        omega (arith, some_bytes start p rest form.0, none, length-append (spelling p) rest)
 fault_behind text start at flaw before (b ∷ bytes) joined all size form =
     let here = ap₂ take size all ∙ take-append_seam before (b ∷ bytes) in
     rw (flaw_item start flaw b bytes joined form) (ap (λ l. Err (fault_at (place_after l) (fault_kind flaw))) here)
 
 -- a text that breaks off has the fault of its flaw
 pub fault_found : (text : List ℕ) (fault : LexFault) → BreaksOff text fault → lexed text ≡ Err fault
+unfolding lexed
 fault_found text fault h =
     let rest = flaw_text h.flaw in
     let start = starts_behind_all true h.pieces in
     let first = pieces_read h.pieces [] rest text true h.formed h.joined in
     let then = fault_behind text start (0 + length (text_of h.pieces [])) h.flaw (text_of h.pieces []) rest refl (h.joined ∙ text_in_two h.pieces rest) (omega arith) h.form in
-    ap (lexed_from text 0 true 0) h.joined ∙ first ∙ ap (in_front (tokens_among [] h.pieces)) then ∙ ap (λ f. Err f) (sym h.fault_is)
+    ap (lexed_from text 0 true 0) h.joined ∙ first ∙ ap (in_front (tokens_among [] h.pieces)) then
+    ∙ ap (λ f. Err f) (sym h.fault_is)

@@ -51,4 +51,5 @@ quoted_len quote in_pair (b ∷ bytes) =
 -- a point and the digits behind it, or 0 where there are none
 abbrev pub fraction_len : List ℕ → ℕ
 fraction_len [] = 0
-fraction_len (b ∷ bytes) = if (b == 46) && nat_lt 0 (prefix_len is_digit bytes) then 1 + prefix_len is_digit bytes else 0
+fraction_len (b ∷ bytes) =
+    if (b == 46) && nat_lt 0 (prefix_len is_digit bytes) then 1 + prefix_len is_digit bytes else 0

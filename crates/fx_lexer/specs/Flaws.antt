@@ -6,8 +6,8 @@ use Rattle.fx_lexer.specs.Places.{place_after}
 use Rattle.fx_lexer.specs.Lexing.{fault_at}
 use Rattle.fx_lexer.specs.Pieces.{Piece, word, spelling, begins_fraction, Closes, EndsQuoted, HasForm, IsShort, text_of, AreFormed, starts_behind_all}
 
--- What isn't a piece, with the text that follows: a comment, a remark or a quoted text with no end; a byte that begins no item; a
--- piece that is too long.
+-- What isn't a piece, with all that follows: a comment, a remark or a quoted text with no end; a byte that begins no
+-- item; a piece that is too long.
 pub data Flaw : Type 0 where
   open_comment : List ℕ → Flaw
   open_remark : List ℕ → Flaw

@@ -35,7 +35,8 @@ begins_number whole fraction = nat_lt 0 (whole + fraction)
 
 -- a number of so many bytes before its point, and so many from the point on
 abbrev pub number : ℕ → ℕ → Result Item ℕ
-number whole fraction = if fraction == 0 then limited kind.Whole whole 38 4 else limited kind.Decimal (whole + fraction) 38 4
+number whole fraction =
+    if fraction == 0 then limited kind.Whole whole 38 4 else limited kind.Decimal (whole + fraction) 38 4
 
 -- the item that a text begins with, or the kind of its fault; `start`: a statement starts here
 abbrev pub item : Bool → List ℕ → Result Item ℕ

@@ -35,7 +35,8 @@ in_front front (Ok tokens) = Ok (front ++ tokens)
 in_front front (Err fault) = Err fault
 
 -- what follows from an item, or from a fault
-abbrev pub at_item : (ℕ → LexFault) → (Item → Result (List Token) LexFault) → Result Item ℕ → Result (List Token) LexFault
+abbrev pub at_item : (ℕ → LexFault) → (Item → Result (List Token) LexFault) → Result Item ℕ
+    → Result (List Token) LexFault
 at_item fault next (Ok i) = next i
 at_item fault next (Err kind) = Err (fault kind)
 
@@ -50,7 +51,7 @@ lexed_from text zero start at (b ∷ rest) =
     (item start (b ∷ rest))
 
 -- the tokens of the text, or its first fault
-abbrev pub lexed : List ℕ → Result (List Token) LexFault
+unfoldable pub lexed : List ℕ → Result (List Token) LexFault
 lexed text = lexed_from text 0 true 0 text
 
 -- the fault is the text's first; want of memory says nothing of the text

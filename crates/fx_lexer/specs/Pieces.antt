@@ -9,8 +9,8 @@ use Rattle.fx_lexer.specs.Extents.{begins_comment, begins_remark, starts_with_by
 use Rattle.fx_lexer.specs.Places.{place_after}
 use Rattle.fx_lexer.specs.Lexing.{tokens_of_kind}
 
--- A byte of white space; a comment or a remark by what it says; the tokens by what they are made of. A number has digits before its
--- point and behind it; a quoted text has its quote and its value.
+-- A byte of white space; a comment or a remark by what it says; the tokens by what they are made of. A number
+-- has digits before its point and behind it; a quoted text has its quote and its value.
 pub data Piece : Type 0 where
   white : ℕ → Piece
   comment : List ℕ → Piece
@@ -73,16 +73,19 @@ EndsQuoted quote bytes =
     (value : List ℕ) × (rest : List ℕ) × (bytes ≡ doubled quote value ++ quote ∷ rest)
     × (starts_with_byte quote rest ≡ false)
 
--- The form of a piece before the bytes `rest`, but for its length. A comment ends with its first `*/` and a remark with its first `;`.
--- Words and digits go on as long as they can. A quote that follows a quoted text would be one of a pair.
+-- The form of a piece before the bytes `rest`, but for its length. A comment ends with its first `*/`, and a remark,
+-- which stands only where a statement starts, with its first `;`. Words and digits go on as long as they can. A quote
+-- that follows a quoted text would be one of a pair. A `/` or `*` that begins a comment or a remark is no sign.
 abbrev pub HasForm : Bool → Piece → List ℕ → Type 0
 HasForm start (white b) rest = IsTrue (is_white b)
 HasForm start (comment inside) rest = ¬ Closes (inside ++ codes "*")
 HasForm start (remark inside) rest = IsTrue start × ¬ Contains inside 59
 HasForm start (word name) rest =
-    IsTrue (begins_with begins_word name) × IsTrue (list_all is_word_byte name) × (begins_with is_word_byte rest ≡ false)
+    IsTrue (begins_with begins_word name) × IsTrue (list_all is_word_byte name)
+    × (begins_with is_word_byte rest ≡ false)
 HasForm start (whole digits) rest =
-    (0 < length digits) × IsTrue (list_all is_digit digits) × (begins_with is_digit rest ≡ false) × (begins_fraction rest ≡ false)
+    (0 < length digits) × IsTrue (list_all is_digit digits)
+    × (begins_with is_digit rest ≡ false) × (begins_fraction rest ≡ false)
 HasForm start (decimal digits fraction) rest =
     IsTrue (list_all is_digit digits) × (0 < length fraction) × IsTrue (list_all is_digit fraction)
     × (begins_with is_digit rest ≡ false)
@@ -113,7 +116,8 @@ abbrev pub starts_behind_all : Bool → List Piece → Bool
 starts_behind_all start [] = start
 starts_behind_all start (p ∷ pieces) = starts_behind_all (starts_behind start p) pieces
 
--- the tokens among the pieces, each with the place of its first byte and the span of its bytes, where these bytes stand before
+-- the tokens among the pieces that follow the bytes `before`, each with the place of its first byte and the span of
+-- its bytes
 abbrev pub tokens_among : List ℕ → List Piece → List Token
 tokens_among before [] = []
 tokens_among before (p ∷ pieces) =

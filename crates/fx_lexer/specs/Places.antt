@@ -17,4 +17,8 @@ place_after bytes = record { line = line_after bytes; column = column_after byte
 
 -- the place one byte further
 abbrev pub next_place : Place → ℕ → Place
-next_place place b = record { line = place.line + (if b == 10 then 1 else 0); column = (if b == 10 then 1 else place.column + 1) }
+next_place place b =
+    record {
+      line = place.line + (if b == 10 then 1 else 0);
+      column = (if b == 10 then 1 else place.column + 1);
+    }

@@ -1,5 +1,5 @@
 -- What a token is, and how tokens stand in a text.
-use Rattle.std.specs.Prelude.{◌≡◌, ℕ, ◌<◌, ◌≤◌, Bool, List, [], ◌∷◌, length, take, drop, slice_range, Option, Some}
+use Rattle.std.specs.Prelude.{◌≡◌, ℕ, ◌<◌, ◌≤◌, Bool, List, [], ◌∷◌, length, map, take, drop, slice_range, Option, Some}
 use Rattle.std.specs.Option.{option_map}
 use Rattle.fx_lexer.specs.declared.token.Token.{Token}
 use Rattle.fx_lexer.specs.Places.{line_after, column_after}
@@ -8,6 +8,10 @@ use Rattle.fx_lexer.specs.Pieces.{Piece, spelling, kind_of, HasForm, IsShort}
 -- the bytes of a piece that is a token
 abbrev pub token_text : Piece → Option (List ℕ)
 token_text p = option_map (λ kind. spelling p) (kind_of p)
+
+-- the bytes in the spans of the tokens
+abbrev pub spans_of : List ℕ → List Token → List (List ℕ)
+spans_of text tokens = map (λ (t : Token). slice_range text t.from t.upto) tokens
 
 -- the token is a piece of the text, of its kind, with the place of its first byte and the span of its bytes
 pub record IsToken (text : List ℕ) (t : Token) : Type 0 where

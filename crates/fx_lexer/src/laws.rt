@@ -1,10 +1,10 @@
 // What the tokens and the fault of a text are, without a word on how they are found.
-ghost use Rattle.std.specs.Prelude.{◌≡◌, ◌↔◌, Ok, Err, List, [], map, filter_map, slice_range};
+ghost use Rattle.std.specs.Prelude.{◌≡◌, ◌↔◌, Ok, Err, List, [], filter_map};
 ghost use Rattle.fx_lexer.specs.declared.token.Token.{Token};
 ghost use Rattle.fx_lexer.specs.declared.token.LexFault.{LexFault};
 ghost use Rattle.fx_lexer.specs.Lexing.{lexed};
 ghost use Rattle.fx_lexer.specs.Pieces.{Piece, text_of, tokens_among, IsMadeOf};
-ghost use Rattle.fx_lexer.specs.Tokens.{token_text};
+ghost use Rattle.fx_lexer.specs.Tokens.{spans_of, token_text};
 ghost use Rattle.fx_lexer.specs.Flaws.{BreaksOff};
 
 /// A text has tokens exactly where it is white space, comments and these tokens, one after
@@ -17,5 +17,5 @@ pub fn text_is_pieces(text: &[u8])
 /// The spans of the tokens among pieces hold the bytes of the pieces that are tokens.
 pub fn spans_hold_the_pieces(text: &[u8])
     ensures { (pieces : List Piece) → text.now ≡ text_of pieces []
-        → map (λ (t : Token). slice_range text.now t.from t.upto) (tokens_among [] pieces) ≡ filter_map token_text pieces }
+        → spans_of text.now (tokens_among [] pieces) ≡ filter_map token_text pieces }
 {}

@@ -13,6 +13,7 @@ use std::alloc::Global;
 /// # Errors
 ///
 /// `Fault` with the first lexical fault of the text, exactly where it has one, and `NoMemory`.
+#[tactic(auto, unfolding(crate::specs::Lexing::lexed))]
 pub fn lex(alloc: Global, text: &[u8]) -> Result<Tokens, LexStop>
     requires { length text.now ≤ 1048576 }
     ensures tokens { IfOk result (λ tokens. lexed text.now ≡ Ok tokens) }
