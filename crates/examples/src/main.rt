@@ -39,7 +39,13 @@ fn ran(alloc: Global, text: Vec<u8>) -> Result<(u8, String), AllocError> {
     ) else {
         return Err(AllocError);
     };
-    let status = factex(alloc, words.as_slice(), &mut source, &mut listing, &mut shelf);
+    let status = factex(
+        alloc,
+        words.as_slice(),
+        &mut source,
+        &mut listing,
+        &mut shelf,
+    );
     let lines = String::from_utf8_lossy(alloc, listing.bytes())?;
     Ok((status, lines))
 }

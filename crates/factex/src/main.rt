@@ -6,11 +6,10 @@ mod edge;
 use edge::{StandardInput, StandardOutput};
 use fx_base::SureShelf;
 use fx_program::factex;
-use std::env;
-use std::io;
 use std::io::ErrorKind;
 use std::process::ExitCode;
 use std::rt::Env;
+use std::{env, io};
 
 /// The status where the system does not give the command line as text.
 const NO_TEXT: u8 = 6;

@@ -1,6 +1,6 @@
 -- The answer is the first design.
-use Rattle.std.proofs.Common.{ℕ, ◌≡◌, ◌<◌, ◌≤◌, ◌+◌, ◌^◌, ◌&&◌, ◌||◌, not, eqb, ltb, Bool, true, false, List, length, Option, Some, None, refl, sym, ap, ◌∙◌, subst, arith, ◌⊎◌, inl, inr}
-use Rattle.std.specs.List.{find, filter, All, AllByRecursion}
+use Rattle.std.proofs.Common.{ℕ, ◌≡◌, ◌<◌, ◌+◌, ◌^◌, ◌||◌, not, ltb, true, false, List, length, Some, None, sym, ap, ◌∙◌, subst, arith, inl, inr}
+use Rattle.std.specs.List.{find, AllByRecursion}
 use Rattle.std.proofs.lemmas.Bool.{and_parts, eqb-true, or_left, false_from_ne_true, both_ways}
 use Rattle.std.proofs.lemmas.List.Elements.{recursion_from_All}
 use Rattle.fx_designs.specs.Problems.{Problem}

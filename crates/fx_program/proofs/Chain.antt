@@ -1,8 +1,7 @@
 -- The parts of a step, one after another.
-use Rattle.std.proofs.Common.{ℕ, ◌≡◌, Bool, true, false, List, [], ◌∷◌, Option, Some, None, length, drop, refl, sym}
+use Rattle.std.proofs.Common.{ℕ, ◌≡◌, true, false, List, [], ◌∷◌, Some, None, length, drop, refl, sym}
 use Rattle.std.specs.Prelude.{codes}
 use Rattle.fx_program.specs.Texts.{after, names_in, sized, modelled, is_end, step_in}
-use Rattle.fx_program.specs.declared.reading.Step.{Step}
 
 abbrev head : List (List ℕ)
 head = codes "proc" ∷ codes "factex" ∷ codes ";" ∷ codes "factors" ∷ []

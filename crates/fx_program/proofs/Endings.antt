@@ -1,6 +1,6 @@
 -- How a command ends: all was done, or it stopped.
-use Rattle.std.proofs.Common.{ℕ, ◌≡◌, ◌<◌, ◌≤◌, List, [], ◌∷◌, Option, Some, None, Result, refl, sym, ◌∙◌, ap, subst, arith}
-use Rattle.fx_base.specs.Acts.{Event, Piece, acts, acts_of, World, Did, Begun}
+use Rattle.std.proofs.Common.{ℕ, ◌≡◌, ◌≤◌, List, Result, refl, sym, subst, arith}
+use Rattle.fx_base.specs.Acts.{Piece, acts, acts_of, World, Did, Begun}
 use Rattle.fx_base.proofs.Doing.{did_one, begun_one, begun_whole, begun_none}
 use Rattle.fx_program.specs.Words.{settings_of}
 use Rattle.fx_program.specs.declared.words.Settings.{Settings}

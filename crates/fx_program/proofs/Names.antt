@@ -1,5 +1,5 @@
 -- The names that stand before the first semicolon.
-use Rattle.std.proofs.Common.{ℕ, ◌≡◌, ◌-◌, Bool, true, false, List, Option, Some, None, map, take, drop, length, refl, sym, ap, ◌∙◌}
+use Rattle.std.proofs.Common.{ℕ, ◌≡◌, ◌-◌, true, false, List, Some, None, take, drop, length, sym, ap, ◌∙◌}
 use Rattle.std.proofs.lemmas.Bool.{cond-true, cond-false}
 use Rattle.std.proofs.lemmas.List.{take-map, drop-map, length-map, take_rest}
 use Rattle.fx_lexer.specs.declared.token.Token.{Token}

@@ -1,12 +1,11 @@
 -- The step of a text, by its tokens.
-use Rattle.std.proofs.Common.{ℕ, ◌≡◌, ◌<◌, ◌≤◌, Bool, true, false, ◌||◌, ◌&&◌, nat_lt, nat_le, List, Option, Some, None, Result, Ok, Err, length, map, refl, sym, ap, ◌∙◌, arith}
+use Rattle.std.proofs.Common.{ℕ, ◌≡◌, ◌≤◌, true, false, ◌||◌, nat_lt, List, None, Result, length, sym, ap, ◌∙◌}
 use Rattle.std.specs.Prelude.{IsTrue}
 use Rattle.std.proofs.lemmas.Bool.{le-ltb, or_from, or_right, and_parts, leb-true, cond-true, cond-false}
 use Rattle.fx_lexer.specs.declared.token.Token.{Token}
 use Rattle.fx_lexer.specs.declared.token.LexFault.{LexFault}
 use Rattle.fx_lexer.specs.Lexing.{lexed}
-use Rattle.fx_program.specs.Texts.{has_comment_sign, step_of, step_of_tokens, step_in, words_of, are_names}
-use Rattle.fx_program.specs.declared.reading.Step.{Step}
+use Rattle.fx_program.specs.Texts.{has_comment_sign, step_of, step_of_tokens, are_names}
 
 pub commented : (text : List ℕ) → has_comment_sign text ≡ true → None ≡ step_of text
 unfolding step_of

@@ -1,11 +1,9 @@
 -- What words of the command line come to.
-use Rattle.std.proofs.Common.{ℕ, ◌≡◌, ◌<◌, Bool, true, false, cond, List, [], ◌∷◌, map, length, get_or, Result, Ok, Err, Vec, Global, refl, sym, ap, ◌∙◌, arith}
+use Rattle.std.proofs.Common.{ℕ, ◌≡◌, true, false, List, [], ◌∷◌, map, length, get_or, Ok, Err, Vec, Global, refl, sym, ap, ◌∙◌, arith}
 use Rattle.std.specs.Prelude.{codes}
 use Rattle.std.specs.Str.{bytes_eq}
 use Rattle.fx_program.specs.Words.{are_run, settings_of}
-use Rattle.fx_program.specs.declared.words.Settings.{Settings}
 use Rattle.fx_program.specs.declared.words.Settings.TheVariants.{Run}
-use Rattle.fx_program.specs.declared.words.WordFault.{WordFault}
 
 abbrev pub texts : List (Vec ℕ Global) → List (List ℕ)
 texts words = map (λ w. w.items) words

@@ -1,5 +1,5 @@
 -- The listing of a step.
-use Rattle.std.specs.Prelude.{ℕ, ◌+◌, ◌^◌, ◌==◌, nat_le, if◌then◌else◌, List, [], ◌∷◌, ◌++◌, length, drop, Option, Some, None, codes, decimal, Bool, true, false}
+use Rattle.std.specs.Prelude.{ℕ, ◌^◌, ◌==◌, nat_le, if◌then◌else◌, List, [], ◌∷◌, ◌++◌, length, drop, Option, Some, None, codes, decimal, Bool, true, false}
 use Rattle.fx_designs.specs.Galois.{digits}
 
 -- a factor of a product: its name, and its coefficient where that is not 1

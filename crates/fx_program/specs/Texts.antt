@@ -1,5 +1,5 @@
 -- The texts that are read so far: one step of two-level factors with a fixed size and a resolution.
-use Rattle.std.specs.Prelude.{ℕ, ◌-◌, ◌+◌, ◌*◌, ◌==◌, ◌≤◌, ◌&&◌, ◌||◌, not, nat_lt, nat_le, Bool, true, false, if◌then◌else◌, List, [], ◌∷◌, map, length, take, drop, slice_range, Option, Some, None, is_some, Result, Ok, Err, codes}
+use Rattle.std.specs.Prelude.{ℕ, ◌-◌, ◌+◌, ◌*◌, ◌==◌, ◌&&◌, ◌||◌, not, nat_lt, nat_le, Bool, true, false, if◌then◌else◌, List, [], ◌∷◌, map, length, take, drop, slice_range, Option, Some, None, is_some, Result, Ok, Err, codes}
 use Rattle.std.specs.List.{list_any, list_all, prefix_len}
 use Rattle.std.specs.Str.{str_eq_ignore_ascii_case, bytes_eq}
 use Rattle.fx_lexer.specs.declared.token.Token.{Token}

@@ -1,5 +1,4 @@
-use Rattle.std.proofs.Common.{◌≡◌, ◌++◌, ◌≤◌, [], length, OnOk, refl, sym, ap, ◌∙◌, arith, subst, append-nil, true, false}
-use Rattle.fx_program.specs.Listing.{ending, terms}
+use Rattle.std.proofs.Common.{◌≡◌, OnOk, sym, ◌∙◌, arith, subst, append-nil}
 use Rattle.fx_program.proofs.Products.{no_terms}
 use Rattle.fx_program.proofs.listing.put_product.Goals as goal
 

@@ -1,4 +1,4 @@
-use Rattle.std.proofs.Common.{◌≡◌, ◌++◌, drop, true}
+use Rattle.std.proofs.Common.{◌≡◌, ◌++◌, drop}
 use Rattle.fx_program.specs.Listing.{ending, terms, product}
 use Rattle.fx_program.proofs.listing.put_product.Given as goal
 

@@ -1,6 +1,5 @@
-use Rattle.std.proofs.Common.{◌≡◌, ◌++◌, ◌^◌, OnOk, None, Some, Option, List, ℕ, length, refl, sym, ap, ap₂, ◌∙◌, subst}
+use Rattle.std.proofs.Common.{◌≡◌, ◌++◌, ◌^◌, OnOk, None, Some, Option, List, ℕ, length, sym, ap, ap₂, ◌∙◌, subst}
 use Rattle.std.specs.Option.{option_map}
-use Rattle.fx_vectors.specs.declared.shape.Shape.{Shape}
 use Rattle.fx_vectors.specs.Matrix.{MatrixView}
 use Rattle.fx_program.specs.Listing.{step_lines, heading, outcome, none_lines, design_lines}
 use Rattle.fx_program.proofs.Products.{behind}

@@ -1,4 +1,4 @@
-use Rattle.std.proofs.Common.{◌≡◌, All, map, length, drop}
+use Rattle.std.proofs.Common.{◌≡◌, All, map, drop}
 use Rattle.fx_lexer.specs.Tokens.{IsToken}
 use Rattle.fx_program.specs.Texts.{words_of, after}
 use Rattle.fx_program.proofs.reading.after.Given as goal

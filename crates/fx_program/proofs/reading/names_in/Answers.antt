@@ -1,5 +1,5 @@
-use Rattle.std.proofs.Common.{◌≡◌, ℕ, List, take, sym, ap, ◌∙◌}
-use Rattle.fx_program.specs.Texts.{words_of, are_names, before_semicolon}
+use Rattle.std.proofs.Common.{take, sym, ap, ◌∙◌}
+use Rattle.fx_program.specs.Texts.{words_of}
 use Rattle.fx_program.proofs.Names.{words-take, some_names, no_names}
 use Rattle.fx_program.proofs.reading.names_in.Goals as goal
 

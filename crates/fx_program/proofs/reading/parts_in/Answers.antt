@@ -1,6 +1,5 @@
-use Rattle.std.proofs.Common.{◌≡◌, ℕ, List, Some, None, length, drop, refl, sym, ap, ◌∙◌}
-use Rattle.std.proofs.lemmas.List.{length-map}
-use Rattle.fx_program.specs.Texts.{words_of, sized}
+use Rattle.std.proofs.Common.{refl, sym, ap, ◌∙◌}
+use Rattle.fx_program.specs.Texts.{sized}
 use Rattle.fx_program.proofs.Names.{behind_names}
 use Rattle.fx_program.proofs.Chain as chain
 use Rattle.fx_program.proofs.reading.parts_in.Goals as goal

@@ -1,7 +1,5 @@
-use Rattle.std.proofs.Common.{◌≡◌, ◌≤◌, ℕ, List, Some, None, Ok, Err, sym, ap, ◌∙◌, subst, length}
-use Rattle.fx_program.specs.Texts.{words_of, step_in, step_of, are_names}
-use Rattle.fx_program.specs.declared.reading.Step.{Step}
-use Rattle.fx_program.specs.Output.{IsStep}
+use Rattle.std.proofs.Common.{◌≤◌, ℕ, List, Some, sym, ap, ◌∙◌, subst, length}
+use Rattle.fx_program.specs.Texts.{words_of, step_in}
 use Rattle.fx_program.proofs.Stepping.{commented, by_tokens, names_count}
 use Rattle.fx_program.proofs.reading.read_step.Goals as goal
 

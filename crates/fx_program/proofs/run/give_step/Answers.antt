@@ -1,4 +1,4 @@
-use Rattle.std.proofs.Common.{◌≡◌, ℕ, List, Option, Some, None, IfSome, length, sym, ap, ap₂, ◌∙◌}
+use Rattle.std.proofs.Common.{◌≡◌, Option, Some, None, IfSome, length, sym, ap, ap₂, ◌∙◌}
 use Rattle.fx_designs.specs.Answers.{answer}
 use Rattle.fx_designs.specs.Problems.{Problem}
 use Rattle.fx_vectors.specs.Matrix.{MatrixView}

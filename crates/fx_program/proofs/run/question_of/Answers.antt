@@ -1,4 +1,4 @@
-use Rattle.std.proofs.Common.{◌≡◌, ◌≤◌, ◌^◌, ℕ, refl, arith, lit≤}
+use Rattle.std.proofs.Common.{◌≤◌, ◌^◌, refl, arith}
 use Rattle.std.proofs.Math.Nat.{pow-le-pow_right}
 use Rattle.fx_program.proofs.run.question_of.Goals as goal
 

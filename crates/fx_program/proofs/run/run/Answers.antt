@@ -1,8 +1,7 @@
-use Rattle.std.proofs.Common.{◌≡◌, ◌<◌, ℕ, List, Option, Some, None, length, sym, ap, ◌∙◌, refl}
+use Rattle.std.proofs.Common.{◌≡◌, ◌<◌, ℕ, List, None, length, sym, ap, ◌∙◌, refl}
 use Rattle.std.proofs.lemmas.Bool.{lt-ltb}
 use Rattle.fx_program.specs.Texts.{step_of}
 use Rattle.fx_program.specs.Output.{step_output}
-use Rattle.fx_program.specs.declared.reading.Step.{Step}
 use Rattle.fx_program.proofs.Endings.{ends_by}
 use Rattle.fx_program.proofs.run.run.Goals as goal
 

@@ -1,4 +1,4 @@
-use Rattle.std.proofs.Common.{◌≡◌, ◌<◌, length, arith, refl, sym, ◌∙◌, ap₂}
+use Rattle.std.proofs.Common.{arith, sym, ◌∙◌, ap₂}
 use Rattle.std.specs.Str.{bytes_eq}
 use Rattle.fx_program.proofs.Wording.{run_word, other_word, other_count}
 use Rattle.fx_program.proofs.words.read_words.Goals as goal
