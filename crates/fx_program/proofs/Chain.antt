@@ -3,7 +3,7 @@ use Rattle.std.proofs.Common.{ℕ, ◌≡◌, true, false, List, [], ◌∷◌, 
 use Rattle.std.specs.Prelude.{codes}
 use Rattle.fx_program.specs.Texts.{after, names_in, sized, modelled, is_end, step_in}
 
-abbrev head : List (List ℕ)
+abbrev pub head : List (List ℕ)
 head = codes "proc" ∷ codes "factex" ∷ codes ";" ∷ codes "factors" ∷ []
 
 module _ (words : List (List ℕ)) where

@@ -5,3 +5,4 @@ mod Chain
 mod Stepping
 mod Products
 mod Endings
+mod Steps

@@ -41,6 +41,7 @@ pub fn factex<S: Source, K: Sink, F: Shelf>(
         Ends (output_of (map (λ w. w.items) words.now) text) (world (K.written listing.old) (F.files shelf.old)) (world (K.written listing.new) (F.files shelf.new)) result }
     ensures fault { result ≡ 4 → Rose (S.faults source.old) (S.faults source.new) ⊎ (Rose (K.faults listing.old) (K.faults listing.new) ⊎ Rose (F.faults shelf.old) (F.faults shelf.new)) }
     ensures kept { result ≢ 4 → (S.faults source.new ≡ S.faults source.old) × (K.faults listing.new ≡ K.faults listing.old) × (F.faults shelf.new ≡ F.faults shelf.old) }
+    ensures rooms { (S.sure source.new ≡ S.sure source.old) × (K.room listing.new ≡ K.room listing.old) × (F.room shelf.new ≡ F.room shelf.old) }
 
     // Refused words take no memory, and leave the source unread.
     ensures unread { reads (settings_of (map (λ w. w.items) words.now)) ≡ false → source.new ≡ source.old }
@@ -62,6 +63,7 @@ fn run<S: Source, K: Sink>(alloc: Global, source: &mut S, listing: &mut K) -> u8
         Ends (step_output (step_of text)) (world (K.written listing.old) files) (world (K.written listing.new) files) result }
     ensures fault { result ≡ 4 → Rose (S.faults source.old) (S.faults source.new) ⊎ Rose (K.faults listing.old) (K.faults listing.new) }
     ensures kept { result ≢ 4 → (S.faults source.new ≡ S.faults source.old) × (K.faults listing.new ≡ K.faults listing.old) }
+    ensures rooms { (S.sure source.new ≡ S.sure source.old) × (K.room listing.new ≡ K.room listing.old) }
     ensures to_end { result < 3 → (text : List ℕ) → S.left source.old ≡ Some text → S.left source.new ≡ Some [] }
 {
     let text = match read_all(alloc, source, TEXT_LIMIT) {
@@ -85,6 +87,7 @@ fn give_step<K: Sink>(alloc: Global, step: &Step, listing: &mut K) -> u8
         Ends (step_output (Some step.now)) (world (K.written listing.old) files) (world (K.written listing.new) files) result }
     ensures fault { result ≡ 4 → Rose (K.faults listing.old) (K.faults listing.new) }
     ensures kept { result ≢ 4 → K.faults listing.new ≡ K.faults listing.old }
+    ensures room { K.room listing.new ≡ K.room listing.old }
 {
     let design = match first(&question_of(step)) {
         Ok(design) => design,
@@ -144,6 +147,7 @@ fn refuse<K: Sink>(listing: &mut K) -> u8
         Ends (step_output None) (world (K.written listing.old) files) (world (K.written listing.new) files) result }
     ensures fault { result ≡ 4 → Rose (K.faults listing.old) (K.faults listing.new) }
     ensures kept { result ≢ 4 → K.faults listing.new ≡ K.faults listing.old }
+    ensures room { K.room listing.new ≡ K.room listing.old }
 {
     say(listing, b"factex: E0 1:1 not built yet\n", 3)
 }
@@ -156,6 +160,7 @@ fn say<K: Sink>(listing: &mut K, bytes: &[u8], status: u8) -> u8
         Ends (message bytes.now status) (world (K.written listing.old) files) (world (K.written listing.new) files) result }
     ensures fault { result ≡ 4 → Rose (K.faults listing.old) (K.faults listing.new) }
     ensures kept { result ≢ 4 → K.faults listing.new ≡ K.faults listing.old }
+    ensures room { K.room listing.new ≡ K.room listing.old }
 {
     match write_all(listing, bytes) {
         Ok(()) => status,
