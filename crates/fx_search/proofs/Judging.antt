@@ -1,15 +1,13 @@
 -- Counting the runs.
-use Rattle.std.proofs.Common.{ℕ, ◌≡◌, ◌≢◌, zero-add, ◌<◌, ◌≤◌, ◌+◌, ◌-◌, ◌*◌, ◌^◌, zero, suc, Bool, true, false, eqb, cond, List, [], ◌∷◌, ◌++◌, map, length, take, set, get_or, get_or-set_other, get_or-set_same, refl, sym, ◌∙◌, ap, subst, arith, inl, inr}
+use Rattle.std.proofs.Common.{ℕ, ◌≡◌, ◌≢◌, zero-add, ◌<◌, ◌≤◌, ◌+◌, ◌^◌, zero, suc, eqb, cond, List, [], length, take, set, get_or, get_or-set_other, get_or-set_same, refl, sym, ◌∙◌, ap, subst, arith, inl, inr}
 use Rattle.std.specs.Prelude.{count_by, nat_lt}
-use Rattle.std.specs.List.{sum_by}
 use Rattle.std.proofs.lemmas.List.{get_or-map, length-map, take_all}
 use Rattle.std.proofs.Math.ListN.{length-set, length-take}
 use Rattle.std.proofs.Math.Nat.{zero-mod, zero-div, pow-le-pow_left, pow-le-pow_right}
 use Rattle.std.proofs.Common.{lit<}
 use Rattle.std.proofs.lemmas.List.Sums.{count_by_more_no, count_by_more_yes, count_by-le-length, sum_by-cons}
 use Rattle.std.proofs.lemmas.Bool.{cases_eq, eq-eqb}
-use Rattle.std.proofs.lemmas.Bool.Decides.{nat_tests}
-use Rattle.fx_designs.specs.Galois.{digits, number, IsField}
+use Rattle.fx_designs.specs.Galois.{digits, number}
 use Rattle.fx_designs.specs.Vectors.{IsVector, dot, weight, vectors_of}
 use Rattle.fx_designs.specs.Runs.{runs_of, points, levels_at}
 use Rattle.fx_laws.specs.Facts.{point_of, IsBalanced}

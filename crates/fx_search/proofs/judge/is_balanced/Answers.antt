@@ -1,12 +1,11 @@
-use Rattle.std.proofs.Common.{◌≡◌, ◌<◌, ◌≤◌, ◌+◌, ◌^◌, ℕ, List, [], length, get_or, arith, sym, subst, ◌∙◌, ap, refl}
+use Rattle.std.proofs.Common.{◌≡◌, ◌≤◌, ◌^◌, ℕ, List, [], get_or, arith, sym, subst, ◌∙◌, ap, refl}
 use Rattle.fx_designs.specs.Galois.{IsField}
 use Rattle.fx_laws.proofs.Tables.{is_order-field}
-use Rattle.fx_designs.specs.Vectors.{IsVector, dot, vectors_of}
+use Rattle.fx_designs.specs.Vectors.{dot, vectors_of}
 use Rattle.fx_search.proofs.Judging.{runs_by}
-use Rattle.fx_laws.specs.Facts.{IsBalanced}
 use Rattle.fx_designs.specs.Runs.{levels_at}
 use Rattle.fx_vectors.specs.declared.shape.Shape.{Shape}
-use Rattle.fx_search.proofs.Judging.{Counted, counted_more, counted_le, counted_same, counted_apart, length-runs, runs-at}
+use Rattle.fx_search.proofs.Judging.{counted_more, counted_same, counted_apart, length-runs, runs-at}
 use Rattle.fx_search.proofs.judge.is_balanced.Goals as goal
 
 pub loop-k-preserved : goal.loop-k-preserved

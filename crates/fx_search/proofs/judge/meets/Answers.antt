@@ -1,11 +1,11 @@
-use Rattle.std.proofs.Common.{◌≡◌, ◌<◌, ◌≤◌, ◌+◌, ◌^◌, ℕ, List, [], length, get_or, arith, sym, subst, ◌∙◌, ap, refl, Bool, false, IsTrue}
+use Rattle.std.proofs.Common.{◌≡◌, ◌<◌, ◌^◌, ℕ, List, arith, sym, subst, ◌∙◌, ap, refl, Bool, false, IsTrue}
 use Rattle.fx_designs.specs.Galois.{IsField, digits}
 use Rattle.fx_laws.proofs.Tables.{is_order-field}
-use Rattle.fx_designs.specs.Vectors.{IsVector, weight}
+use Rattle.fx_designs.specs.Vectors.{weight}
 use Rattle.fx_search.proofs.Judging.{runs_by}
 use Rattle.fx_laws.specs.Facts.{IsBalanced}
 use Rattle.fx_laws.specs.Meets.{MeetsResolution}
-use Rattle.fx_search.proofs.Judging.{vectors_fit, meets_one, meets_more, meets_all, meets_fails}
+use Rattle.fx_search.proofs.Judging.{vectors_fit, meets_more, meets_all, meets_fails}
 use Rattle.fx_search.proofs.judge.meets.Goals as goal
 use Rattle.fx_search.proofs.judge.meets.Goals.{else-weight-from-via-then-weight-from+else-not-is_balanced, else-weight-from-via-else-weight-from}
 
