@@ -18,8 +18,8 @@ loop-k-preserved c =
     let value : dot c.args.field c.args.u.now (get_or (runs_by c.args.field c.args.matrix.now.shape.m c.args.matrix.now.rows) c.loop-k.k []) ≡ c.from-value.result =
     ap (λ (x : List ℕ). dot c.args.field c.args.u.now x)
     (runs-at c.args.field c.args.matrix.now.shape.m c.args.matrix.now.rows c.loop-k.k (omega (arith, f.more_than_one)) (omega arith)
-    ∙ ap (λ (p : List ℕ). levels_at c.args.field (vectors_of c.args.field c.args.matrix.now.shape.m c.args.matrix.now.rows) p) (sym (rw m at c.point.ensures.entries))
-    ∙ sym c.levels-x.ensures.entries)
+    ∙ ap (λ (p : List ℕ). levels_at c.args.field (vectors_of c.args.field c.args.matrix.now.shape.m c.args.matrix.now.rows) p) (sym (rw m at c.point.ensures.indexes))
+    ∙ sym c.levels-x.ensures.levels)
     ∙ sym (c.from-value.ensures ∙ c.dot.ensures.product) in
     counted_more c.args.field c.args.u.now (runs_by c.args.field c.args.matrix.now.shape.m c.args.matrix.now.rows) c.loop-k.counts c.loop-k.k c.from-value.result
     (omega arith) value (omega (arith, c.dot.ensures.code)) c.loop-k.invariant
