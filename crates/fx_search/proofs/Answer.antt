@@ -5,6 +5,8 @@ use Rattle.std.proofs.lemmas.Bool.{and_parts, and_from, eqb-true, eq-eqb}
 use Rattle.std.proofs.lemmas.List.Elements.{recursion_from_All}
 use Rattle.fx_designs.specs.Galois.{IsField}
 use Rattle.fx_designs.specs.Problems.{Dimensions, AtResolution, Problem}
+use Rattle.fx_designs.specs.Demands.{is_met}
+use Rattle.fx_designs.specs.Canonical.{is_canonical}
 use Rattle.fx_designs.specs.Answers.{prefixes, is_design, designs, answer}
 use Rattle.fx_laws.proofs.CanonicalTest.{canonical_decides}
 use Rattle.fx_laws.proofs.Judging.{met_decides}
@@ -21,6 +23,7 @@ module _ (q : ℕ) (f : IsField q) (m s r : ℕ) where
   abbrev pub asked : Problem
   asked = record { dimensions = size; requirement = AtResolution r; least = false }
 
+  -- what passes the test of designs is a design
   pub design_from_test : (rows : List ℕ) → is_design asked rows ≡ true → IsDesign q m s r rows
   design_from_test rows e =
       let p = and_parts _ _ e in
@@ -32,14 +35,19 @@ module _ (q : ℕ) (f : IsField q) (m s r : ℕ) where
         meets = (met_decides size r rows (omega (arith, f.more_than_one)) refl).0 p'.1;
       }
 
+  -- a design passes the test of designs
   pub test_from_design : (rows : List ℕ) → IsDesign q m s r rows → is_design asked rows ≡ true
   test_from_design rows c =
-      and_from _ _ (eq-eqb _ _ (let e = c.complete in omega arith)) (and_from _ _ ((canonical_decides size f rows (AtResolution r)).1 c.canonical) ((met_decides size r rows (omega (arith, f.more_than_one)) refl).1 c.meets))
+      let canonical : is_canonical size (AtResolution r) rows ≡ true = (canonical_decides size f rows (AtResolution r)).1 c.canonical in
+      let met : is_met size (AtResolution r) rows ≡ true = (met_decides size r rows (omega (arith, f.more_than_one)) refl).1 c.meets in
+      and_from _ _ (eq-eqb _ _ (let e = c.complete in omega arith)) (and_from _ _ canonical met)
 
+  -- without a least pattern, the answer is the first list of rows that passes the test
   answer-find : answer asked ≡ find (is_design asked) (prefixes asked)
   unfolding answer designs
   answer-find = find-filter (is_design asked) (λ rows. true) (prefixes asked) (λ rows. refl)
 
+  -- a design is among the lists of rows
   there : 0 < s → (rows : List ℕ) → IsDesign q m s r rows → IsIn rows (prefixes asked)
   there some rows c = all_lists (q ^ m) (s + 0) rows (let e = c.complete in omega arith) (let e = c.complete in omega arith) (recursion_from_All (λ x. x < q ^ m) rows c.canonical.below)
 
@@ -52,7 +60,7 @@ module _ (q : ℕ) (f : IsField q) (m s r : ℕ) where
   pub answer-none : ((rows : List ℕ) → IsDesign q m s r rows → ⊥) → answer asked ≡ None
   answer-none none = answer-find ∙ none_found (is_design asked) (prefixes asked) (λ rows design. none rows (design_from_test rows design))
 
--- the problem of a question without blocks and without a least pattern
+-- the problem of a question without block factors and without a least pattern
 pub problem-asked : (question : Question) (r : ℕ) → (f : IsField question.shape.q) → question.shape.t ≡ 0 → requirement_of question.demands ≡ AtResolution r → question.least ≡ false
     → problem_of question ≡ asked question.shape.q f question.shape.m question.shape.s r
 problem-asked question r f none wanted not_least = rw (none, wanted, not_least) refl

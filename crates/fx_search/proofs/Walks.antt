@@ -1,4 +1,4 @@
--- What the walk over canonical matrices keeps, over lists of rows.
+-- What the walk over canonical matrices keeps, said of lists of rows.
 use Rattle.std.proofs.Common.{ℕ, ◌≡◌, ◌≢◌, ◌<◌, ◌≤◌, ◌+◌, ◌-◌, ◌*◌, ◌^◌, ◌⊎◌, List, [], ◌∷◌, ◌++◌, length, min, get_or, zero, suc, take, drop, inl, inr, refl, sym, ap, ◌∙◌, subst, arith, append_assoc, length-append, true, false, ltb, cond}
 use Rattle.std.specs.List.{AllByRecursion}
 use Rattle.std.proofs.lemmas.Grind.{same_number_lists}
@@ -115,16 +115,20 @@ module _ (q : ℕ) (f : IsField q) (m s r : ℕ) where
             let unit_is : row vs k ≡ unit m (rank_of q m (take k vs)) = design.canonical.canonical.new_is_unit k (omega arith) outside in
             let low' : rank_of q m (take k vs) < m = room size f d k h outside unit_is in
             absurd (design.canonical.ordered.no_unit k (rank_of q m (take k vs)) low here low'
-            (sym (number-digits q m (get_or d k 0) (omega (arith, f.more_than_one)) (design.canonical.below k 0 h)) ∙ ap (number q) (sym is ∙ unit_is) ∙ number-unit q m (rank_of q m (take k vs)) low'))
+            (sym (number-digits q m (get_or d k 0) (omega (arith, f.more_than_one)) (design.canonical.below k 0 h))
+            ∙ ap (number q) (sym is ∙ unit_is)
+            ∙ number-unit q m (rank_of q m (take k vs)) low'))
       ]
 
+  -- the rows of a design are tried
   pub design_tried : (d : List ℕ) → IsDesign q m s r d → IsTried q m s d
   design_tried d design = record {
     below = design.canonical.below;
     len = omega (arith, design.complete);
     enough = omega (arith, design.complete);
     units = λ j h. design.canonical.ordered.units j h (omega (arith, design.complete));
-    later = λ k low h. later_from_normal q m (get_or d k 0) (omega (arith, f.more_than_one)) (design.canonical.below k 0 h) (later_normal d design k low h) (λ i below. design.canonical.ordered.no_unit k i low (omega (arith, design.complete)) below);
+    later = λ k low h. later_from_normal q m (get_or d k 0) (omega (arith, f.more_than_one)) (design.canonical.below k 0 h) (later_normal d design k low h)
+        (λ i below. design.canonical.ordered.no_unit k i low (omega (arith, design.complete)) below);
     falls = λ k low h. design.canonical.ordered.falls k low (omega (arith, design.complete));
   }
 
@@ -135,7 +139,8 @@ module _ (q : ℕ) (f : IsField q) (m s r : ℕ) where
   short_whole (suc n) (a ∷ v) h = short_whole n v (omega arith)
 
   -- unit vectors from k on up to n, and then rows of the whole length
-  formed_units : (k n : ℕ) (rows : List (List ℕ)) → AreVectors q m rows → n ≤ m → k ≤ n → n ≤ k + length rows → (n < k + length rows → n ≡ m) → ((i : ℕ) → k + i < n → i < length rows → row rows i ≡ unit m (k + i)) → IsFormedTo m k rows n
+  formed_units : (k n : ℕ) (rows : List (List ℕ)) → AreVectors q m rows → n ≤ m → k ≤ n → n ≤ k + length rows → (n < k + length rows → n ≡ m)
+      → ((i : ℕ) → k + i < n → i < length rows → row rows i ≡ unit m (k + i)) → IsFormedTo m k rows n
   formed_units k n [] hr within low long past units = omega arith
   formed_units k n (x ∷ rows) hr within low long past units = elim (cases_lt k n) [
     | inl more ↦
@@ -186,7 +191,9 @@ module _ (q : ℕ) (f : IsField q) (m s r : ℕ) where
     canonical : IsCanonical q m s vectors
     canonical =
         let nil = append-nil vectors in
-        let all = formed-canonical q m f vectors [] (min s m) (rows-vectors q m f d) tt (subst (λ z. IsFormedTo m 0 z (min s m)) (sym nil) formed) (subst (λ z. AllByRecursion (λ r. (r ≡ zeros m) ⊎ IsNormal r) z) (sym nil) each_normal) rank in
+        let all = formed-canonical q m f vectors [] (min s m) (rows-vectors q m f d) tt
+        (subst (λ z. IsFormedTo m 0 z (min s m)) (sym nil) formed)
+        (subst (λ z. AllByRecursion (λ r. (r ≡ zeros m) ⊎ IsNormal r) z) (sym nil) each_normal) rank in
         subst (λ n. IsCanonical q m n vectors) (width ∙ full) (subst (λ z. IsCanonical q m (length vectors) z) nil all)
 
     falling : AreFalling q m s d
@@ -200,6 +207,7 @@ module _ (q : ℕ) (f : IsField q) (m s r : ℕ) where
       falls = λ k low h. tried.falls k low (omega arith);
     }
 
+    -- a whole list of tried rows is a design where it meets the resolution
     pub tried_design : MeetsResolution q m s r d → IsDesign q m s r d
     tried_design meets = record { canonical = record { len = omega arith; below = tried.below; canonical = canonical; ordered = falling }; complete = full; meets = meets }
 
@@ -239,6 +247,7 @@ split prefix other (x ∷ rest, e) more = record {
   is = e ∙ ap (λ (y : ℕ). prefix ++ y ∷ rest) (sym (at-append prefix x rest) ∙ ap (λ (l : List ℕ). get_or l (length prefix) 0) (sym e));
 }
 
+-- a whole list of tried rows that meets the resolution is the first of the designs that begin with it
 pub complete_first : (q : ℕ) (f : IsField q) (m s r : ℕ) (prefix : List ℕ) → IsTried q m s prefix → length prefix ≡ s → MeetsResolution q m s r prefix → IsFirstFrom q m s r prefix prefix
 complete_first q f m s r prefix tried full meets = record {
   holds = tried_design q f m s r prefix tried full meets;
@@ -246,23 +255,28 @@ complete_first q f m s r prefix tried full meets = record {
   none_before = λ other design begins earlier. both_ways _ (before-self prefix) (subst (λ (d : List ℕ). before d prefix ≡ true) (whole q m s r prefix other full design begins) earlier);
 }
 
+-- no design begins with a whole list of rows that does not meet the resolution
 pub complete_none : (q m s r : ℕ) (prefix : List ℕ) → length prefix ≡ s → (MeetsResolution q m s r prefix → ⊥) → NoneFrom q m s r prefix
 complete_none q m s r prefix full fails = record {
   none = λ other design begins. fails (subst (λ (d : List ℕ). MeetsResolution q m s r d) (whole q m s r prefix other full design begins) design.meets);
 }
 
+-- a design whose next row is this one begins with the prefix and this row
 longer : (prefix other : List ℕ) (row : ℕ) → Extends prefix other → length prefix < length other → get_or other (length prefix) 0 ≡ row → Extends (prefix ++ row ∷ []) other
 longer prefix other row begins more e =
     let parts : Split prefix other = split prefix other begins more in
     (parts.rest, parts.is ∙ ap (λ (x : ℕ). prefix ++ x ∷ parts.rest) e ∙ sym (append_assoc prefix (row ∷ []) parts.rest))
 
 -- the next row of a design
-next_later : (q : ℕ) (f : IsField q) (m s r : ℕ) (prefix other : List ℕ) → IsTried q m s prefix → length prefix < s → IsDesign q m s r other → Extends prefix other → IsLater q m (get_or other (length prefix) 0)
+next_later : (q : ℕ) (f : IsField q) (m s r : ℕ) (prefix other : List ℕ) → IsTried q m s prefix → length prefix < s → IsDesign q m s r other
+    → Extends prefix other → IsLater q m (get_or other (length prefix) 0)
 next_later q f m s r prefix other tried more design begins = (design_tried q f m s r other design).later (length prefix) tried.enough (omega (arith, design.complete))
 
+-- a list has the rows of the prefix that it begins with
 before_same : (prefix other : List ℕ) (k : ℕ) → Extends prefix other → k < length prefix → get_or other k 0 ≡ get_or prefix k 0
 before_same prefix other k (rest, e) h = ap (λ (l : List ℕ). get_or l k 0) e ∙ get_or_append_left prefix rest 0 k h
 
+-- before a row is tried, the next row is any below the bound
 pub next_init : (q : ℕ) (f : IsField q) (m s r : ℕ) (prefix : List ℕ) (upto : ℕ) → IsTried q m s prefix → length prefix < s → IsBound q m prefix upto → NextAtMost q m s r prefix (upto - 1)
 next_init q f m s r prefix upto tried more bound = record {
   at_most = λ other design begins.
@@ -283,7 +297,9 @@ next_init q f m s r prefix upto tried more bound = record {
       ];
 }
 
-pub next_step : (q : ℕ) (f : IsField q) (m s r : ℕ) (prefix : List ℕ) (row next : ℕ) → row ≤ next + 1 → IsTried q m s prefix → length prefix < s → NextAtMost q m s r prefix row → (IsLater q m row → NoneFrom q m s r (prefix ++ row ∷ [])) → NextAtMost q m s r prefix next
+-- once no design has this row next, the next row is less
+pub next_step : (q : ℕ) (f : IsField q) (m s r : ℕ) (prefix : List ℕ) (row next : ℕ) → row ≤ next + 1 → IsTried q m s prefix → length prefix < s
+    → NextAtMost q m s r prefix row → (IsLater q m row → NoneFrom q m s r (prefix ++ row ∷ [])) → NextAtMost q m s r prefix next
 next_step q f m s r prefix row next near tried more now none = record {
   at_most = λ other design begins.
       let here : get_or other (length prefix) 0 ≤ row = now.at_most other design begins in
@@ -294,6 +310,7 @@ next_step q f m s r prefix row next near tried more now none = record {
       ];
 }
 
+-- once no row is left, no design begins with the prefix
 pub next_none : (q : ℕ) (f : IsField q) (m s r : ℕ) (prefix : List ℕ) → IsTried q m s prefix → length prefix < s → NextAtMost q m s r prefix 0 → NoneFrom q m s r prefix
 next_none q f m s r prefix tried more now = record {
   none = λ other design begins.
@@ -302,7 +319,9 @@ next_none q f m s r prefix tried more now = record {
       later_not_zero q m (get_or other (length prefix) 0) later (omega arith);
 }
 
-pub first_push : (q m s r : ℕ) (prefix : List ℕ) (row : ℕ) (rows : List ℕ) → length prefix < s → NextAtMost q m s r prefix row → IsFirstFrom q m s r (prefix ++ row ∷ []) rows → IsFirstFrom q m s r prefix rows
+-- where no design has a greater row next, the first with this row next is the first of all
+pub first_push : (q m s r : ℕ) (prefix : List ℕ) (row : ℕ) (rows : List ℕ) → length prefix < s → NextAtMost q m s r prefix row
+    → IsFirstFrom q m s r (prefix ++ row ∷ []) rows → IsFirstFrom q m s r prefix rows
 first_push q m s r prefix row rows more now first = record {
   holds = first.holds;
   begins = (row ∷ first.begins.0, first.begins.1 ∙ append_assoc prefix (row ∷ []) first.begins.0);
@@ -322,6 +341,7 @@ first_push q m s r prefix row rows more now first = record {
 below_or_at : (P : ℕ → Type 0) (n k : ℕ) → k < n + 1 → (k < n → P k) → (k ≡ n → P k) → P k
 below_or_at P n k h below at = elim (cases_eq k n) [ inl e ↦ at e | inr ne ↦ below (omega arith) ]
 
+-- a later row below the bound may be added
 pub tried_push : (q m s : ℕ) (prefix : List ℕ) (row upto : ℕ) → IsTried q m s prefix → length prefix < s → IsBound q m prefix upto → row < upto → IsLater q m row → IsTried q m s (prefix ++ row ∷ [])
 tried_push q m s prefix row upto tried more bound under later =
     let n : ℕ = length prefix in
@@ -357,6 +377,7 @@ pub record IsUnits (q m s : ℕ) (rows : List ℕ) : Type 0 where
   pub len : length rows ≡ min s m
   pub each : (k : ℕ) → k < min s m → get_or rows k 0 ≡ q ^ k
 
+-- each design begins with the unit rows
 units_begin : (q : ℕ) (f : IsField q) (m s r : ℕ) (units other : List ℕ) → IsUnits q m s units → IsDesign q m s r other → Extends units other
 units_begin q f m s r units other u design =
     let tried : IsTried q m s other = design_tried q f m s r other design in
@@ -366,12 +387,14 @@ units_begin q f m s r units other u design =
     let front : take (length units) other ≡ units = same_number_lists (take (length units) other) units long (λ k h. same k (omega arith)) in
     (drop (length units) other, sym (take-append-drop (length units) other) ∙ ap (λ (l : List ℕ). l ++ drop (length units) other) front)
 
+-- so the first that begins with the unit rows is the first
 pub first_from_units : (q : ℕ) (f : IsField q) (m s r : ℕ) (units rows : List ℕ) → IsUnits q m s units → IsFirstFrom q m s r units rows → IsFirst q m s r rows
 first_from_units q f m s r units rows u first = record {
   holds = first.holds;
   none_before = λ other design earlier. first.none_before other design (units_begin q f m s r units other u design) earlier;
 }
 
+-- and where none begins with them there is none
 pub none_from_units : (q : ℕ) (f : IsField q) (m s r : ℕ) (units : List ℕ) → IsUnits q m s units → NoneFrom q m s r units → (rows : List ℕ) → IsDesign q m s r rows → ⊥
 none_from_units q f m s r units u none rows design = none.none rows design (units_begin q f m s r units rows u design)
 
@@ -383,6 +406,7 @@ pow_lt q i j big h =
     let e = pow-suc q i in
     omega arith
 
+-- the unit rows alone are tried
 pub units_tried : (q m s : ℕ) (units : List ℕ) → 1 < q → IsUnits q m s units → IsTried q m s units
 units_tried q m s units big u = record {
   below = All-from_get_or (λ x. x < q ^ m) units 0 (λ k h. rw (u.each k (omega (arith, u.len))) (pow_lt q k m big (omega (arith, u.len))));

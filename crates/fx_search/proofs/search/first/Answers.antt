@@ -24,7 +24,8 @@ walk-requires-clause-tried c =
     let units : IsUnits q c.args.question.now.shape.m c.args.question.now.shape.s c.loop.matrix.rows =
     record { len = omega (arith, c.loop.invariant.len); each = λ k h. c.loop.invariant.units k (omega arith) } in
     let field : c.field-field.result ≡ q = c.field-field.ensures in
-    rw field (subst (λ (z : Shape). IsTried q z.m z.s c.loop.matrix.rows) (sym c.loop.invariant.shape) (units_tried q c.args.question.now.shape.m c.args.question.now.shape.s c.loop.matrix.rows f.more_than_one units))
+    rw field (subst (λ (z : Shape). IsTried q z.m z.s c.loop.matrix.rows) (sym c.loop.invariant.shape)
+    (units_tried q c.args.question.now.shape.m c.args.question.now.shape.s c.loop.matrix.rows f.more_than_one units))
 
 pub overflow_mul-unit : goal.overflow_mul-unit
 overflow_mul-unit c =

@@ -52,7 +52,8 @@ returns-then-walk-clause-found t c =
     (subst (λ (v : MatrixView). IsFirstFrom c.args.field v.shape.m v.shape.s c.args.r v.rows c.walk.new.prefix.rows) pushed c.if-walk.ensures.found)
 
 -- what is known of the next rows once none of the designs that begin with the old rows has this one next
-next_after : (q : ℕ) (f : IsField q) (r : ℕ) (old now : MatrixView) (row : ℕ) → now ≡ old → IsTried q old.shape.m old.shape.s old.rows → length old.rows < old.shape.s → NextAtMost q old.shape.m old.shape.s r old.rows row
+next_after : (q : ℕ) (f : IsField q) (r : ℕ) (old now : MatrixView) (row : ℕ) → now ≡ old → IsTried q old.shape.m old.shape.s old.rows
+    → length old.rows < old.shape.s → NextAtMost q old.shape.m old.shape.s r old.rows row
     → (IsLater q old.shape.m row → NoneFrom q old.shape.m old.shape.s r (old.rows ++ row ∷ []))
     → record { same : now ≡ old; next : NextAtMost q now.shape.m now.shape.s r now.rows (row - 1) }
 next_after q f r old now row back tried more at_most none = record {
