@@ -1,15 +1,13 @@
 -- Counting the runs.
-use Rattle.std.proofs.Common.{ℕ, ◌≡◌, ◌≢◌, zero-add, ◌<◌, ◌≤◌, ◌+◌, ◌-◌, ◌*◌, ◌^◌, zero, suc, Bool, true, false, eqb, cond, List, [], ◌∷◌, ◌++◌, map, length, take, set, get_or, get_or-set_other, get_or-set_same, refl, sym, ◌∙◌, ap, subst, arith, inl, inr}
+use Rattle.std.proofs.Common.{ℕ, ◌≡◌, ◌≢◌, zero-add, ◌<◌, ◌≤◌, ◌+◌, ◌^◌, zero, suc, eqb, cond, List, [], length, take, set, get_or, get_or-set_other, get_or-set_same, refl, sym, ◌∙◌, ap, subst, arith, inl, inr}
 use Rattle.std.specs.Prelude.{count_by, nat_lt}
-use Rattle.std.specs.List.{sum_by}
 use Rattle.std.proofs.lemmas.List.{get_or-map, length-map, take_all}
 use Rattle.std.proofs.Math.ListN.{length-set, length-take}
 use Rattle.std.proofs.Math.Nat.{zero-mod, zero-div, pow-le-pow_left, pow-le-pow_right}
 use Rattle.std.proofs.Common.{lit<}
 use Rattle.std.proofs.lemmas.List.Sums.{count_by_more_no, count_by_more_yes, count_by-le-length, sum_by-cons}
 use Rattle.std.proofs.lemmas.Bool.{cases_eq, eq-eqb}
-use Rattle.std.proofs.lemmas.Bool.Decides.{nat_tests}
-use Rattle.fx_designs.specs.Galois.{digits, number, IsField}
+use Rattle.fx_designs.specs.Galois.{digits, number}
 use Rattle.fx_designs.specs.Vectors.{IsVector, dot, weight, vectors_of}
 use Rattle.fx_designs.specs.Runs.{runs_of, points, levels_at}
 use Rattle.fx_laws.specs.Facts.{point_of, IsBalanced}
@@ -21,10 +19,12 @@ use Rattle.fx_laws.proofs.Sums.{ne-eqb}
 abbrev pub runs_by : ℕ → ℕ → List ℕ → List (List ℕ)
 runs_by q m rows = runs_of q m (vectors_of q m rows)
 
+-- there is a run for each point
 pub length-runs : (q m : ℕ) (rows : List ℕ) → length (runs_by q m rows) ≡ q ^ m
 unfolding runs_of
 length-runs q m rows = length-map (points q m) (λ p. levels_at q (vectors_of q m rows) p) ∙ length-points q m
 
+-- run k has the levels at point k
 pub runs-at : (q m : ℕ) (rows : List ℕ) (k : ℕ) → 0 < q → k < q ^ m → get_or (runs_by q m rows) k [] ≡ levels_at q (vectors_of q m rows) (point_of q m k)
 unfolding runs_of
 runs-at q m rows k some below =
@@ -37,10 +37,13 @@ pub record Counted (q : ℕ) (u : List ℕ) (runs : List (List ℕ)) (counts : L
   pub len : length counts ≡ 9
   pub each : (y : ℕ) → y < 9 → get_or counts y 0 ≡ count_by (λ x. eqb (dot q u x) y) (take k runs)
 
+-- before the first run
 pub counted_none : (q : ℕ) (u : List ℕ) (runs : List (List ℕ)) (counts : List ℕ) → length counts ≡ 9 → ((y : ℕ) → get_or counts y 0 ≡ 0) → Counted q u runs counts 0
 counted_none q u runs counts len none = record { len = len; each = λ y h. none y }
 
-pub counted_more : (q : ℕ) (u : List ℕ) (runs : List (List ℕ)) (counts : List ℕ) (k v : ℕ) → k < length runs → dot q u (get_or runs k []) ≡ v → v < 9 → Counted q u runs counts k → Counted q u runs (set counts v (get_or counts v 0 + 1)) (k + 1)
+-- one more run, on which the value is v
+pub counted_more : (q : ℕ) (u : List ℕ) (runs : List (List ℕ)) (counts : List ℕ) (k v : ℕ) → k < length runs → dot q u (get_or runs k []) ≡ v → v < 9
+    → Counted q u runs counts k → Counted q u runs (set counts v (get_or counts v 0 + 1)) (k + 1)
 counted_more q u runs counts k v h is code c = record {
   len = simp length-set c.len;
   each = λ y small. elim (cases_eq y v) [
@@ -56,6 +59,7 @@ counted_more q u runs counts k v h is code c = record {
   ];
 }
 
+-- no count is above the number of runs
 pub counted_le : (q : ℕ) (u : List ℕ) (runs : List (List ℕ)) (counts : List ℕ) (k v : ℕ) → Counted q u runs counts k → v < 9 → get_or counts v 0 ≤ length runs
 counted_le q u runs counts k v c h =
     let le = count_by-le-length (λ x. eqb (dot q u x) v) (take k runs) in
@@ -63,7 +67,9 @@ counted_le q u runs counts k v c h =
     let short = length-take k runs in
     omega arith
 
-pub counted_same : (q : ℕ) (u : List ℕ) (runs : List (List ℕ)) (counts : List ℕ) (k : ℕ) → q ≤ 9 → length runs ≤ k → Counted q u runs counts k → ((z : ℕ) → z < q → get_or counts z 0 ≡ get_or counts 0 0) → IsBalanced q u runs
+-- after all runs: equal counts are balance, and unequal ones are not
+pub counted_same : (q : ℕ) (u : List ℕ) (runs : List (List ℕ)) (counts : List ℕ) (k : ℕ) → q ≤ 9 → length runs ≤ k → Counted q u runs counts k
+    → ((z : ℕ) → z < q → get_or counts z 0 ≡ get_or counts 0 0) → IsBalanced q u runs
 counted_same q u runs counts k small past c same = record {
   same = λ y z hy hz.
       let whole : take k runs ≡ runs = take_all k runs past in
@@ -72,7 +78,8 @@ counted_same q u runs counts k small past c same = record {
       sym at_y ∙ same y hy ∙ sym (same z hz) ∙ at_z;
 }
 
-pub counted_apart : (q : ℕ) (u : List ℕ) (runs : List (List ℕ)) (counts : List ℕ) (k y : ℕ) → q ≤ 9 → length runs ≤ k → Counted q u runs counts k → y < q → (get_or counts y 0 ≡ get_or counts 0 0 → ⊥) → IsBalanced q u runs → ⊥
+pub counted_apart : (q : ℕ) (u : List ℕ) (runs : List (List ℕ)) (counts : List ℕ) (k y : ℕ) → q ≤ 9 → length runs ≤ k → Counted q u runs counts k
+    → y < q → (get_or counts y 0 ≡ get_or counts 0 0 → ⊥) → IsBalanced q u runs → ⊥
 counted_apart q u runs counts k y small past c h apart balanced =
     let whole : take k runs ≡ runs = take_all k runs past in
     let at_y = rw whole at (c.each y (omega arith)) in
@@ -83,9 +90,11 @@ counted_apart q u runs counts k y small past c h apart balanced =
 pub record MeetsBelow (q m s r : ℕ) (rows : List ℕ) (n : ℕ) : Type 0 where
   pub balanced : (k : ℕ) → 0 < k → k < n → weight (digits q s k) < r → IsBalanced q (digits q s k) (runs_by q m rows)
 
+-- no vector stands before number 1
 pub meets_one : (q m s r : ℕ) (rows : List ℕ) → MeetsBelow q m s r rows 1
 meets_one q m s r rows = record { balanced = λ k some below. absurd (omega arith) }
 
+-- one more vector
 pub meets_more : (q m s r : ℕ) (rows : List ℕ) (n : ℕ) → MeetsBelow q m s r rows n → (weight (digits q s n) < r → IsBalanced q (digits q s n) (runs_by q m rows)) → MeetsBelow q m s r rows (n + 1)
 meets_more q m s r rows n before here = record {
   balanced = λ k some below. elim (cases_eq k n) [
@@ -110,6 +119,7 @@ heavy_digits q s n some positive small = elim (cases_eq (weight (digits q s n)) 
   | inr ne ↦ omega arith
 ]
 
+-- each vector over the factors has a number below q^s
 pub meets_all : (q m s r : ℕ) (rows : List ℕ) (n : ℕ) → q ^ s ≤ n → 0 < q → MeetsBelow q m s r rows n → MeetsResolution q m s r rows
 meets_all q m s r rows n past some below = record {
   balanced = λ u v heavy light.
@@ -120,7 +130,9 @@ meets_all q m s r rows n past some below = record {
       (below.balanced (number q u) positive (omega arith) (subst (λ (w : List ℕ). weight w < r) (sym back) light));
 }
 
-pub meets_fails : (q m s r : ℕ) (rows : List ℕ) (n : ℕ) → 0 < q → 0 < n → n < q ^ s → weight (digits q s n) < r → (IsBalanced q (digits q s n) (runs_by q m rows) → ⊥) → MeetsResolution q m s r rows → ⊥
+-- one vector of small weight that is not balanced is enough
+pub meets_fails : (q m s r : ℕ) (rows : List ℕ) (n : ℕ) → 0 < q → 0 < n → n < q ^ s → weight (digits q s n) < r
+    → (IsBalanced q (digits q s n) (runs_by q m rows) → ⊥) → MeetsResolution q m s r rows → ⊥
 meets_fails q m s r rows n some positive small light apart meets =
     apart (meets.balanced (digits q s n) (digits-vector q s n some) (heavy_digits q s n some positive small) light)
 

@@ -1,10 +1,10 @@
 -- Steps of the loops over points.
-use Rattle.std.proofs.Common.{ℕ, ◌≡◌, ◌<◌, ◌≤◌, ◌+◌, ◌-◌, ◌*◌, ◌/◌, ◌%◌, ◌^◌, suc, List, [], ◌∷◌, ◌++◌, length, take, set, get_or, refl, sym, ◌∙◌, ap, arith, append_assoc, subst, IsTrue}
+use Rattle.std.proofs.Common.{ℕ, ◌≡◌, ◌<◌, ◌+◌, ◌-◌, ◌/◌, ◌%◌, ◌^◌, suc, List, [], ◌∷◌, ◌++◌, length, take, set, refl, ap, arith, append_assoc, subst}
 use Rattle.std.proofs.Math.Nat.{pow-suc, mul-div_left}
 use Rattle.std.proofs.lemmas.List.{take_more_set, length-map}
 use Rattle.fx_laws.specs.Facts.{point_of}
 use Rattle.fx_designs.specs.Runs.{levels_at}
-use Rattle.fx_designs.specs.Galois.{IsField, digits, is_order}
+use Rattle.fx_designs.specs.Galois.{IsField, digits}
 use Rattle.fx_designs.specs.Vectors.{IsVector, vectors_of}
 use Rattle.fx_laws.proofs.Linear.{dot_code}
 

@@ -1,8 +1,7 @@
--- What the walk over canonical matrices keeps, over lists of rows.
-use Rattle.std.proofs.Common.{ℕ, ◌≡◌, ◌≢◌, ◌<◌, ◌≤◌, ◌+◌, ◌-◌, ◌*◌, ◌^◌, ◌⊎◌, List, [], ◌∷◌, ◌++◌, length, min, get_or, zero, suc, take, drop, inl, inr, refl, sym, ap, ◌∙◌, subst, arith, append_assoc, length-append, Bool, true, false, ltb, cond, zero-add, add-one}
-use Rattle.std.specs.Prelude.{All}
+-- What the walk over canonical matrices keeps, said of lists of rows.
+use Rattle.std.proofs.Common.{ℕ, ◌≡◌, ◌≢◌, ◌<◌, ◌≤◌, ◌+◌, ◌-◌, ◌*◌, ◌^◌, ◌⊎◌, List, [], ◌∷◌, ◌++◌, length, min, get_or, zero, suc, take, drop, inl, inr, refl, sym, ap, ◌∙◌, subst, arith, append_assoc, length-append, true, false, ltb, cond}
 use Rattle.std.specs.List.{AllByRecursion}
-use Rattle.std.proofs.lemmas.Grind.{common_steps, same_number_lists}
+use Rattle.std.proofs.lemmas.Grind.{same_number_lists}
 use Rattle.std.proofs.lemmas.List.Elements.{All-push, All-from_get_or, recursion_from_All}
 use Rattle.std.proofs.Math.Nat.{zero-div, zero-mod, pow-le-pow_right, pow-zero, pow-suc, pow-succ', one-le-pow, mul-le-mul_left}
 use Rattle.std.proofs.lemmas.List.Sums.{sum_by-cons}
@@ -26,7 +25,7 @@ use Rattle.fx_laws.proofs.Prefixes.{number-unit, digits-unit}
 use Rattle.fx_laws.proofs.Falling.{weight-none, weight-some, weight-zeros}
 use Rattle.fx_laws.proofs.CanonicalTest.{row-is, zero_row, room, rows-vectors}
 use Rattle.fx_laws.proofs.Order.{before-self}
-use Rattle.fx_search.specs.Plain.{IsLater, IsPlain, IsBound, Extends, IsFirstFrom, NoneFrom, IsFirst, IsCandidate}
+use Rattle.fx_search.specs.Designs.{IsLater, IsTried, IsBound, Extends, IsFirstFrom, NoneFrom, IsDesign}
 
 no_last : (q m : ℕ) → last_nonzero (digits q m 0) ≡ 0
 no_last q zero = refl
@@ -101,32 +100,36 @@ module _ (q : ℕ) (f : IsField q) (m s r : ℕ) where
   size = record { q = q; m = m; s = s; t = 0 }
 
   -- a later row of a candidate is normal: it is in the span of the rows before it, else it were a unit vector
-  later_normal : (d : List ℕ) → IsCandidate q m s r d → (k : ℕ) → min s m ≤ k → k < length d → IsNormal (digits q m (get_or d k 0))
-  later_normal d cand k low h =
+  later_normal : (d : List ℕ) → IsDesign q m s r d → (k : ℕ) → min s m ≤ k → k < length d → IsNormal (digits q m (get_or d k 0))
+  later_normal d design k low h =
       let vs : List (List ℕ) = vectors_of q m d in
       let width : length vs ≡ length d = length-map d (λ r. digits q m r) in
-      let here : k < min s (length d) = omega (arith, cand.complete) in
+      let here : k < min s (length d) = omega (arith, design.complete) in
       let is : row vs k ≡ digits q m (get_or d k 0) = row-is size f d k h in
       elim (cases_Bool (in_span q m (take k vs) (row vs k))) [
-        | inl inside ↦ elim (cand.canonical.canonical.old_is_normal k (omega arith) inside) [
-          | inl none ↦ absurd (cand.canonical.ordered.no_zero k low here (zero_row size f d k h (cand.canonical.below k 0 h) none))
+        | inl inside ↦ elim (design.canonical.canonical.old_is_normal k (omega arith) inside) [
+          | inl none ↦ absurd (design.canonical.ordered.no_zero k low here (zero_row size f d k h (design.canonical.below k 0 h) none))
           | inr normal ↦ subst IsNormal is normal
         ]
         | inr outside ↦
-            let unit_is : row vs k ≡ unit m (rank_of q m (take k vs)) = cand.canonical.canonical.new_is_unit k (omega arith) outside in
+            let unit_is : row vs k ≡ unit m (rank_of q m (take k vs)) = design.canonical.canonical.new_is_unit k (omega arith) outside in
             let low' : rank_of q m (take k vs) < m = room size f d k h outside unit_is in
-            absurd (cand.canonical.ordered.no_unit k (rank_of q m (take k vs)) low here low'
-            (sym (number-digits q m (get_or d k 0) (omega (arith, f.more_than_one)) (cand.canonical.below k 0 h)) ∙ ap (number q) (sym is ∙ unit_is) ∙ number-unit q m (rank_of q m (take k vs)) low'))
+            absurd (design.canonical.ordered.no_unit k (rank_of q m (take k vs)) low here low'
+            (sym (number-digits q m (get_or d k 0) (omega (arith, f.more_than_one)) (design.canonical.below k 0 h))
+            ∙ ap (number q) (sym is ∙ unit_is)
+            ∙ number-unit q m (rank_of q m (take k vs)) low'))
       ]
 
-  pub candidate_plain : (d : List ℕ) → IsCandidate q m s r d → IsPlain q m s d
-  candidate_plain d cand = record {
-    below = cand.canonical.below;
-    len = omega (arith, cand.complete);
-    enough = omega (arith, cand.complete);
-    units = λ j h. cand.canonical.ordered.units j h (omega (arith, cand.complete));
-    later = λ k low h. later_from_normal q m (get_or d k 0) (omega (arith, f.more_than_one)) (cand.canonical.below k 0 h) (later_normal d cand k low h) (λ i below. cand.canonical.ordered.no_unit k i low (omega (arith, cand.complete)) below);
-    falls = λ k low h. cand.canonical.ordered.falls k low (omega (arith, cand.complete));
+  -- the rows of a design are tried
+  pub design_tried : (d : List ℕ) → IsDesign q m s r d → IsTried q m s d
+  design_tried d design = record {
+    below = design.canonical.below;
+    len = omega (arith, design.complete);
+    enough = omega (arith, design.complete);
+    units = λ j h. design.canonical.ordered.units j h (omega (arith, design.complete));
+    later = λ k low h. later_from_normal q m (get_or d k 0) (omega (arith, f.more_than_one)) (design.canonical.below k 0 h) (later_normal d design k low h)
+        (λ i below. design.canonical.ordered.no_unit k i low (omega (arith, design.complete)) below);
+    falls = λ k low h. design.canonical.ordered.falls k low (omega (arith, design.complete));
   }
 
   short_whole : (n : ℕ) (v : List ℕ) → length v ≡ n → IsShort n v
@@ -136,7 +139,8 @@ module _ (q : ℕ) (f : IsField q) (m s r : ℕ) where
   short_whole (suc n) (a ∷ v) h = short_whole n v (omega arith)
 
   -- unit vectors from k on up to n, and then rows of the whole length
-  formed_units : (k n : ℕ) (rows : List (List ℕ)) → AreVectors q m rows → n ≤ m → k ≤ n → n ≤ k + length rows → (n < k + length rows → n ≡ m) → ((i : ℕ) → k + i < n → i < length rows → row rows i ≡ unit m (k + i)) → IsFormedTo m k rows n
+  formed_units : (k n : ℕ) (rows : List (List ℕ)) → AreVectors q m rows → n ≤ m → k ≤ n → n ≤ k + length rows → (n < k + length rows → n ≡ m)
+      → ((i : ℕ) → k + i < n → i < length rows → row rows i ≡ unit m (k + i)) → IsFormedTo m k rows n
   formed_units k n [] hr within low long past units = omega arith
   formed_units k n (x ∷ rows) hr within low long past units = elim (cases_lt k n) [
     | inl more ↦
@@ -154,7 +158,7 @@ module _ (q : ℕ) (f : IsField q) (m s r : ℕ) where
         inl (subst (λ z. IsShort z x) at (short_whole m x hr.0.len), formed_units k n rows hr.1 within low (omega arith) (λ h. whole) (λ i h h'. absurd (omega arith)))
   ]
 
-  module _ (d : List ℕ) (plain : IsPlain q m s d) (full : length d ≡ s) where
+  module _ (d : List ℕ) (tried : IsTried q m s d) (full : length d ≡ s) where
     abbrev vectors : List (List ℕ)
     vectors = vectors_of q m d
 
@@ -162,7 +166,7 @@ module _ (q : ℕ) (f : IsField q) (m s r : ℕ) where
     width = length-map d (λ r. digits q m r)
 
     unit_is : (k : ℕ) → k < min s m → row vectors k ≡ unit m k
-    unit_is k h = row-is size f d k (omega arith) ∙ ap (digits q m) (plain.units k h) ∙ digits-unit q m k f (omega arith)
+    unit_is k h = row-is size f d k (omega arith) ∙ ap (digits q m) (tried.units k h) ∙ digits-unit q m k f (omega arith)
 
     formed : IsFormedTo m 0 vectors (min s m)
     formed =
@@ -175,7 +179,7 @@ module _ (q : ℕ) (f : IsField q) (m s r : ℕ) where
         let len = width in
         recursion_from_All (λ r. (r ≡ zeros m) ⊎ IsNormal r) vectors (All-from_get_or (λ r. (r ≡ zeros m) ⊎ IsNormal r) vectors [] (λ k h. inr (elim (cases_lt k (min s m)) [
           | inl low ↦ subst IsNormal (sym (unit_is k low)) (last-unit q m f m k (omega arith))
-          | inr high ↦ subst IsNormal (sym (row-is size f d k (omega arith))) (plain.later k high (omega arith)).normal
+          | inr high ↦ subst IsNormal (sym (row-is size f d k (omega arith))) (tried.later k high (omega arith)).normal
         ])))
 
     rank : min (length vectors) m ≤ rank_of q m vectors
@@ -187,26 +191,29 @@ module _ (q : ℕ) (f : IsField q) (m s r : ℕ) where
     canonical : IsCanonical q m s vectors
     canonical =
         let nil = append-nil vectors in
-        let all = formed-canonical q m f vectors [] (min s m) (rows-vectors q m f d) tt (subst (λ z. IsFormedTo m 0 z (min s m)) (sym nil) formed) (subst (λ z. AllByRecursion (λ r. (r ≡ zeros m) ⊎ IsNormal r) z) (sym nil) each_normal) rank in
+        let all = formed-canonical q m f vectors [] (min s m) (rows-vectors q m f d) tt
+        (subst (λ z. IsFormedTo m 0 z (min s m)) (sym nil) formed)
+        (subst (λ z. AllByRecursion (λ r. (r ≡ zeros m) ⊎ IsNormal r) z) (sym nil) each_normal) rank in
         subst (λ n. IsCanonical q m n vectors) (width ∙ full) (subst (λ z. IsCanonical q m (length vectors) z) nil all)
 
     falling : AreFalling q m s d
     falling = record {
-      units = λ k h long. plain.units k h;
-      no_zero = λ k low h. later_not_zero q m (get_or d k 0) (plain.later k low (omega arith));
+      units = λ k h long. tried.units k h;
+      no_zero = λ k low h. later_not_zero q m (get_or d k 0) (tried.later k low (omega arith));
       no_unit = λ k i low h below e.
-          let heavy : 1 < weight (digits q m (get_or d k 0)) = (plain.later k low (omega arith)).entries in
+          let heavy : 1 < weight (digits q m (get_or d k 0)) = (tried.later k low (omega arith)).entries in
           let one : weight (digits q m (get_or d k 0)) ≡ 1 = ap (λ (x : ℕ). weight (digits q m x)) e ∙ unit_weight q m i f below in
           omega arith;
-      falls = λ k low h. plain.falls k low (omega arith);
+      falls = λ k low h. tried.falls k low (omega arith);
     }
 
-    pub plain_candidate : MeetsResolution q m s r d → IsCandidate q m s r d
-    plain_candidate meets = record { canonical = record { len = omega arith; below = plain.below; canonical = canonical; ordered = falling }; complete = full; meets = meets }
+    -- a whole list of tried rows is a design where it meets the resolution
+    pub tried_design : MeetsResolution q m s r d → IsDesign q m s r d
+    tried_design meets = record { canonical = record { len = omega arith; below = tried.below; canonical = canonical; ordered = falling }; complete = full; meets = meets }
 
--- the next row of each candidate that begins with the prefix is at most this
+-- the next row of each design that begins with the prefix is at most this
 pub record NextAtMost (q m s r : ℕ) (prefix : List ℕ) (most : ℕ) : Type 0 where
-  pub at_most : (other : List ℕ) → IsCandidate q m s r other → Extends prefix other → get_or other (length prefix) 0 ≤ most
+  pub at_most : (other : List ℕ) → IsDesign q m s r other → Extends prefix other → get_or other (length prefix) 0 ≤ most
 
 before-append : (p xs ys : List ℕ) → before (p ++ xs) (p ++ ys) ≡ true → before xs ys ≡ true
 before-append [] xs ys b = b
@@ -224,9 +231,9 @@ whole_rest [] [] same = refl
 whole_rest [] (x ∷ rest) same = absurd (omega arith)
 whole_rest (y ∷ prefix) rest same = ap (λ (l : List ℕ). y ∷ l) (whole_rest prefix rest (omega arith))
 
--- a whole candidate that begins with a prefix of its own length is that prefix
-whole : (q m s r : ℕ) (prefix other : List ℕ) → length prefix ≡ s → IsCandidate q m s r other → Extends prefix other → other ≡ prefix
-whole q m s r prefix other full cand (rest, e) = e ∙ whole_rest prefix rest (ap length (sym e) ∙ cand.complete ∙ sym full)
+-- a whole design that begins with a prefix of its own length is that prefix
+whole : (q m s r : ℕ) (prefix other : List ℕ) → length prefix ≡ s → IsDesign q m s r other → Extends prefix other → other ≡ prefix
+whole q m s r prefix other full design (rest, e) = e ∙ whole_rest prefix rest (ap length (sym e) ∙ design.complete ∙ sym full)
 
 -- the next row of a longer list
 pub record Split (prefix other : List ℕ) : Type 0 where
@@ -240,38 +247,44 @@ split prefix other (x ∷ rest, e) more = record {
   is = e ∙ ap (λ (y : ℕ). prefix ++ y ∷ rest) (sym (at-append prefix x rest) ∙ ap (λ (l : List ℕ). get_or l (length prefix) 0) (sym e));
 }
 
-pub complete_first : (q : ℕ) (f : IsField q) (m s r : ℕ) (prefix : List ℕ) → IsPlain q m s prefix → length prefix ≡ s → MeetsResolution q m s r prefix → IsFirstFrom q m s r prefix prefix
-complete_first q f m s r prefix plain full meets = record {
-  holds = plain_candidate q f m s r prefix plain full meets;
+-- a whole list of tried rows that meets the resolution is the first of the designs that begin with it
+pub complete_first : (q : ℕ) (f : IsField q) (m s r : ℕ) (prefix : List ℕ) → IsTried q m s prefix → length prefix ≡ s → MeetsResolution q m s r prefix → IsFirstFrom q m s r prefix prefix
+complete_first q f m s r prefix tried full meets = record {
+  holds = tried_design q f m s r prefix tried full meets;
   begins = ([], sym (append-nil prefix));
-  none_before = λ other cand begins earlier. both_ways _ (before-self prefix) (subst (λ (d : List ℕ). before d prefix ≡ true) (whole q m s r prefix other full cand begins) earlier);
+  none_before = λ other design begins earlier. both_ways _ (before-self prefix) (subst (λ (d : List ℕ). before d prefix ≡ true) (whole q m s r prefix other full design begins) earlier);
 }
 
+-- no design begins with a whole list of rows that does not meet the resolution
 pub complete_none : (q m s r : ℕ) (prefix : List ℕ) → length prefix ≡ s → (MeetsResolution q m s r prefix → ⊥) → NoneFrom q m s r prefix
 complete_none q m s r prefix full fails = record {
-  none = λ other cand begins. fails (subst (λ (d : List ℕ). MeetsResolution q m s r d) (whole q m s r prefix other full cand begins) cand.meets);
+  none = λ other design begins. fails (subst (λ (d : List ℕ). MeetsResolution q m s r d) (whole q m s r prefix other full design begins) design.meets);
 }
 
+-- a design whose next row is this one begins with the prefix and this row
 longer : (prefix other : List ℕ) (row : ℕ) → Extends prefix other → length prefix < length other → get_or other (length prefix) 0 ≡ row → Extends (prefix ++ row ∷ []) other
 longer prefix other row begins more e =
     let parts : Split prefix other = split prefix other begins more in
     (parts.rest, parts.is ∙ ap (λ (x : ℕ). prefix ++ x ∷ parts.rest) e ∙ sym (append_assoc prefix (row ∷ []) parts.rest))
 
--- the next row of a candidate
-next_later : (q : ℕ) (f : IsField q) (m s r : ℕ) (prefix other : List ℕ) → IsPlain q m s prefix → length prefix < s → IsCandidate q m s r other → Extends prefix other → IsLater q m (get_or other (length prefix) 0)
-next_later q f m s r prefix other plain more cand begins = (candidate_plain q f m s r other cand).later (length prefix) plain.enough (omega (arith, cand.complete))
+-- the next row of a design
+next_later : (q : ℕ) (f : IsField q) (m s r : ℕ) (prefix other : List ℕ) → IsTried q m s prefix → length prefix < s → IsDesign q m s r other
+    → Extends prefix other → IsLater q m (get_or other (length prefix) 0)
+next_later q f m s r prefix other tried more design begins = (design_tried q f m s r other design).later (length prefix) tried.enough (omega (arith, design.complete))
 
+-- a list has the rows of the prefix that it begins with
 before_same : (prefix other : List ℕ) (k : ℕ) → Extends prefix other → k < length prefix → get_or other k 0 ≡ get_or prefix k 0
 before_same prefix other k (rest, e) h = ap (λ (l : List ℕ). get_or l k 0) e ∙ get_or_append_left prefix rest 0 k h
 
-pub next_init : (q : ℕ) (f : IsField q) (m s r : ℕ) (prefix : List ℕ) (upto : ℕ) → IsPlain q m s prefix → length prefix < s → IsBound q m prefix upto → NextAtMost q m s r prefix (upto - 1)
-next_init q f m s r prefix upto plain more bound = record {
-  at_most = λ other cand begins.
-      let whole' : IsPlain q m s other = candidate_plain q f m s r other cand in
-      let long : length other ≡ s = cand.complete in
+-- before a row is tried, the next row is any below the bound
+pub next_init : (q : ℕ) (f : IsField q) (m s r : ℕ) (prefix : List ℕ) (upto : ℕ) → IsTried q m s prefix → length prefix < s → IsBound q m prefix upto → NextAtMost q m s r prefix (upto - 1)
+next_init q f m s r prefix upto tried more bound = record {
+  at_most = λ other design begins.
+      let whole' : IsTried q m s other = design_tried q f m s r other design in
+      let long : length other ≡ s = design.complete in
       elim (cases_lt m (length prefix)) [
         | inl lt ↦
-            let fall : get_or other (length prefix - 1 + 1) 0 < get_or other (length prefix - 1) 0 = whole'.falls (length prefix - 1) (omega (arith, plain.enough)) (omega arith) in
+            let fall : get_or other (length prefix - 1 + 1) 0 < get_or other (length prefix - 1) 0 = whole'.falls (length prefix - 1) (omega (arith, tried.enough)) (omega arith) in
             let at : length prefix - 1 + 1 ≡ length prefix = omega arith in
             let fall' = rw at at fall in
             let same = before_same prefix other (length prefix - 1) begins (omega arith) in
@@ -284,38 +297,43 @@ next_init q f m s r prefix upto plain more bound = record {
       ];
 }
 
-pub next_step : (q : ℕ) (f : IsField q) (m s r : ℕ) (prefix : List ℕ) (row next : ℕ) → row ≤ next + 1 → IsPlain q m s prefix → length prefix < s → NextAtMost q m s r prefix row → (IsLater q m row → NoneFrom q m s r (prefix ++ row ∷ [])) → NextAtMost q m s r prefix next
-next_step q f m s r prefix row next near plain more now none = record {
-  at_most = λ other cand begins.
-      let here : get_or other (length prefix) 0 ≤ row = now.at_most other cand begins in
+-- once no design has this row next, the next row is less
+pub next_step : (q : ℕ) (f : IsField q) (m s r : ℕ) (prefix : List ℕ) (row next : ℕ) → row ≤ next + 1 → IsTried q m s prefix → length prefix < s
+    → NextAtMost q m s r prefix row → (IsLater q m row → NoneFrom q m s r (prefix ++ row ∷ [])) → NextAtMost q m s r prefix next
+next_step q f m s r prefix row next near tried more now none = record {
+  at_most = λ other design begins.
+      let here : get_or other (length prefix) 0 ≤ row = now.at_most other design begins in
       elim (cases_eq (get_or other (length prefix) 0) row) [
-        | inl e ↦ absurd ((none (subst (λ (x : ℕ). IsLater q m x) e (next_later q f m s r prefix other plain more cand begins))).none other cand
-            (longer prefix other row begins (omega (arith, cand.complete)) e))
+        | inl e ↦ absurd ((none (subst (λ (x : ℕ). IsLater q m x) e (next_later q f m s r prefix other tried more design begins))).none other design
+            (longer prefix other row begins (omega (arith, design.complete)) e))
         | inr ne ↦ omega arith
       ];
 }
 
-pub next_none : (q : ℕ) (f : IsField q) (m s r : ℕ) (prefix : List ℕ) → IsPlain q m s prefix → length prefix < s → NextAtMost q m s r prefix 0 → NoneFrom q m s r prefix
-next_none q f m s r prefix plain more now = record {
-  none = λ other cand begins.
-      let none : get_or other (length prefix) 0 ≤ 0 = now.at_most other cand begins in
-      let later : IsLater q m (get_or other (length prefix) 0) = next_later q f m s r prefix other plain more cand begins in
+-- once no row is left, no design begins with the prefix
+pub next_none : (q : ℕ) (f : IsField q) (m s r : ℕ) (prefix : List ℕ) → IsTried q m s prefix → length prefix < s → NextAtMost q m s r prefix 0 → NoneFrom q m s r prefix
+next_none q f m s r prefix tried more now = record {
+  none = λ other design begins.
+      let none : get_or other (length prefix) 0 ≤ 0 = now.at_most other design begins in
+      let later : IsLater q m (get_or other (length prefix) 0) = next_later q f m s r prefix other tried more design begins in
       later_not_zero q m (get_or other (length prefix) 0) later (omega arith);
 }
 
-pub first_push : (q m s r : ℕ) (prefix : List ℕ) (row : ℕ) (rows : List ℕ) → length prefix < s → NextAtMost q m s r prefix row → IsFirstFrom q m s r (prefix ++ row ∷ []) rows → IsFirstFrom q m s r prefix rows
+-- where no design has a greater row next, the first with this row next is the first of all
+pub first_push : (q m s r : ℕ) (prefix : List ℕ) (row : ℕ) (rows : List ℕ) → length prefix < s → NextAtMost q m s r prefix row
+    → IsFirstFrom q m s r (prefix ++ row ∷ []) rows → IsFirstFrom q m s r prefix rows
 first_push q m s r prefix row rows more now first = record {
   holds = first.holds;
   begins = (row ∷ first.begins.0, first.begins.1 ∙ append_assoc prefix (row ∷ []) first.begins.0);
-  none_before = λ other cand begins earlier.
-      let parts : Split prefix other = split prefix other begins (omega (arith, cand.complete)) in
-      let here : get_or other (length prefix) 0 ≤ row = now.at_most other cand begins in
+  none_before = λ other design begins earlier.
+      let parts : Split prefix other = split prefix other begins (omega (arith, design.complete)) in
+      let here : get_or other (length prefix) 0 ≤ row = now.at_most other design begins in
       let tails : before (get_or other (length prefix) 0 ∷ parts.rest) (row ∷ first.begins.0) ≡ true =
       before-append prefix _ _ (subst (λ (l : List ℕ). before l (prefix ++ row ∷ first.begins.0) ≡ true) parts.is
       (subst (λ (l : List ℕ). before other l ≡ true) (first.begins.1 ∙ append_assoc prefix (row ∷ []) first.begins.0) earlier)) in
       elim (or_cases (ltb row (get_or other (length prefix) 0)) _ tails) [
         | inl lt ↦ (let bad : row < get_or other (length prefix) 0 = ltb-true _ _ lt in absurd (omega arith))
-        | inr same ↦ first.none_before other cand (longer prefix other row begins (omega (arith, cand.complete)) (eqb-true _ _ (and_parts _ _ same).0)) earlier
+        | inr same ↦ first.none_before other design (longer prefix other row begins (omega (arith, design.complete)) (eqb-true _ _ (and_parts _ _ same).0)) earlier
       ];
 }
 
@@ -323,20 +341,21 @@ first_push q m s r prefix row rows more now first = record {
 below_or_at : (P : ℕ → Type 0) (n k : ℕ) → k < n + 1 → (k < n → P k) → (k ≡ n → P k) → P k
 below_or_at P n k h below at = elim (cases_eq k n) [ inl e ↦ at e | inr ne ↦ below (omega arith) ]
 
-pub plain_push : (q m s : ℕ) (prefix : List ℕ) (row upto : ℕ) → IsPlain q m s prefix → length prefix < s → IsBound q m prefix upto → row < upto → IsLater q m row → IsPlain q m s (prefix ++ row ∷ [])
-plain_push q m s prefix row upto plain more bound under later =
+-- a later row below the bound may be added
+pub tried_push : (q m s : ℕ) (prefix : List ℕ) (row upto : ℕ) → IsTried q m s prefix → length prefix < s → IsBound q m prefix upto → row < upto → IsLater q m row → IsTried q m s (prefix ++ row ∷ [])
+tried_push q m s prefix row upto tried more bound under later =
     let n : ℕ = length prefix in
     let grown : length (prefix ++ row ∷ []) ≡ n + 1 = length-append prefix (row ∷ []) in
     let last : get_or (prefix ++ row ∷ []) n 0 ≡ row = at-append prefix row [] in
     let old : (k : ℕ) → k < n → get_or (prefix ++ row ∷ []) k 0 ≡ get_or prefix k 0 = λ k h. get_or_append_left prefix (row ∷ []) 0 k h in
     record {
-      below = All-push (λ x. x < q ^ m) prefix row plain.below (omega (arith, bound.below));
+      below = All-push (λ x. x < q ^ m) prefix row tried.below (omega (arith, bound.below));
       len = omega arith;
-      enough = omega (arith, plain.enough);
-      units = λ k h. rw (old k (omega (arith, plain.enough))) (plain.units k h);
+      enough = omega (arith, tried.enough);
+      units = λ k h. rw (old k (omega (arith, tried.enough))) (tried.units k h);
       later = λ k low h. elim (cases_eq k n) [
         | inl e ↦ rw (e, last) later
-        | inr ne ↦ rw (old k (omega arith)) (plain.later k low (omega arith))
+        | inr ne ↦ rw (old k (omega arith)) (tried.later k low (omega arith))
       ];
       falls = λ k low h. elim (cases_eq (k + 1) n) [
         | inl e ↦
@@ -344,32 +363,40 @@ plain_push q m s prefix row upto plain more bound under later =
             let there : k ≡ n - 1 = omega arith in
             let is = bound.after (omega arith) in
             rw (e, last, here, there) (omega arith)
-        | inr ne ↦ rw (old k (omega arith), old (k + 1) (omega arith)) (plain.falls k low (omega arith))
+        | inr ne ↦ rw (old k (omega arith), old (k + 1) (omega arith)) (tried.falls k low (omega arith))
       ];
     }
+
+-- of all designs, rows is the first
+pub record IsFirst (q m s r : ℕ) (rows : List ℕ) : Type 0 where
+  pub holds : IsDesign q m s r rows
+  pub none_before : (other : List ℕ) → IsDesign q m s r other → before other rows ≡ true → ⊥
 
 -- the unit rows
 pub record IsUnits (q m s : ℕ) (rows : List ℕ) : Type 0 where
   pub len : length rows ≡ min s m
   pub each : (k : ℕ) → k < min s m → get_or rows k 0 ≡ q ^ k
 
-units_begin : (q : ℕ) (f : IsField q) (m s r : ℕ) (units other : List ℕ) → IsUnits q m s units → IsCandidate q m s r other → Extends units other
-units_begin q f m s r units other u cand =
-    let plain : IsPlain q m s other = candidate_plain q f m s r other cand in
-    let long : length (take (length units) other) ≡ length units = length-take-le (length units) other (omega (arith, plain.enough, u.len)) in
+-- each design begins with the unit rows
+units_begin : (q : ℕ) (f : IsField q) (m s r : ℕ) (units other : List ℕ) → IsUnits q m s units → IsDesign q m s r other → Extends units other
+units_begin q f m s r units other u design =
+    let tried : IsTried q m s other = design_tried q f m s r other design in
+    let long : length (take (length units) other) ≡ length units = length-take-le (length units) other (omega (arith, tried.enough, u.len)) in
     let same : (k : ℕ) → k < length units → get_or (take (length units) other) k 0 ≡ get_or units k 0 =
-    λ k h. get_or-take (length units) other k 0 h ∙ plain.units k (omega (arith, u.len)) ∙ sym (u.each k (omega (arith, u.len))) in
+    λ k h. get_or-take (length units) other k 0 h ∙ tried.units k (omega (arith, u.len)) ∙ sym (u.each k (omega (arith, u.len))) in
     let front : take (length units) other ≡ units = same_number_lists (take (length units) other) units long (λ k h. same k (omega arith)) in
     (drop (length units) other, sym (take-append-drop (length units) other) ∙ ap (λ (l : List ℕ). l ++ drop (length units) other) front)
 
+-- so the first that begins with the unit rows is the first
 pub first_from_units : (q : ℕ) (f : IsField q) (m s r : ℕ) (units rows : List ℕ) → IsUnits q m s units → IsFirstFrom q m s r units rows → IsFirst q m s r rows
 first_from_units q f m s r units rows u first = record {
   holds = first.holds;
-  none_before = λ other cand earlier. first.none_before other cand (units_begin q f m s r units other u cand) earlier;
+  none_before = λ other design earlier. first.none_before other design (units_begin q f m s r units other u design) earlier;
 }
 
-pub none_from_units : (q : ℕ) (f : IsField q) (m s r : ℕ) (units : List ℕ) → IsUnits q m s units → NoneFrom q m s r units → (rows : List ℕ) → IsCandidate q m s r rows → ⊥
-none_from_units q f m s r units u none rows cand = none.none rows cand (units_begin q f m s r units rows u cand)
+-- and where none begins with them there is none
+pub none_from_units : (q : ℕ) (f : IsField q) (m s r : ℕ) (units : List ℕ) → IsUnits q m s units → NoneFrom q m s r units → (rows : List ℕ) → IsDesign q m s r rows → ⊥
+none_from_units q f m s r units u none rows design = none.none rows design (units_begin q f m s r units rows u design)
 
 pub pow_lt : (q i j : ℕ) → 1 < q → i < j → q ^ i < q ^ j
 pow_lt q i j big h =
@@ -379,8 +406,9 @@ pow_lt q i j big h =
     let e = pow-suc q i in
     omega arith
 
-pub units_plain : (q m s : ℕ) (units : List ℕ) → 1 < q → IsUnits q m s units → IsPlain q m s units
-units_plain q m s units big u = record {
+-- the unit rows alone are tried
+pub units_tried : (q m s : ℕ) (units : List ℕ) → 1 < q → IsUnits q m s units → IsTried q m s units
+units_tried q m s units big u = record {
   below = All-from_get_or (λ x. x < q ^ m) units 0 (λ k h. rw (u.each k (omega (arith, u.len))) (pow_lt q k m big (omega (arith, u.len))));
   len = omega (arith, u.len);
   enough = omega (arith, u.len);

@@ -32,6 +32,7 @@ fn is_balanced(field: Field, u: &Vector, matrix: &Matrix) -> bool
     let shape = matrix.shape();
     let q = usize::from(shape.q);
     let runs = u16::from(field.q()).pow(u32::from(shape.m));
+    // No field has more than nine values.
     let mut counts = [0u16; 9];
     for k in 0..runs {
         let x = levels(field, matrix, &point(field, shape.m, k));
@@ -50,7 +51,7 @@ fn is_balanced(field: Field, u: &Vector, matrix: &Matrix) -> bool
 fn levels(field: Field, matrix: &Matrix, p: &Vector) -> Vector
     requires order { field ≡ matrix.now.shape.q }
     requires point { IsVector field matrix.now.shape.m p.now }
-    ensures entries { result ≡ levels_at field (vectors_of field matrix.now.shape.m matrix.now.rows) p.now }
+    ensures levels { result ≡ levels_at field (vectors_of field matrix.now.shape.m matrix.now.rows) p.now }
     ensures vector { IsVector field (length matrix.now.rows) result }
 {
     let m = usize::from(matrix.shape().m);
@@ -65,13 +66,14 @@ fn levels(field: Field, matrix: &Matrix, p: &Vector) -> Vector
 /// The run indexes of run k, counted from 0.
 fn point(field: Field, m: u8, k: u16) -> Vector
     requires room { m ≤ 40 }
-    requires small { field ^ m ≤ 1024 }
+    requires runs { field ^ m ≤ 1024 }
     requires below { k < field ^ m }
-    ensures entries { result ≡ point_of field m k }
+    ensures indexes { result ≡ point_of field m k }
     ensures vector { IsVector field m result }
 {
     let q = u16::from(field.q());
     let len = usize::from(m);
+    // As many runs have the same first indexes, and `rest` is the place of run k among them.
     let mut size = q.pow(u32::from(m));
     let mut rest = k;
     let mut point = Vector::zero(len);

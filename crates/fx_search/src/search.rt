@@ -10,9 +10,11 @@ use fx_base::NoMemory;
 use fx_galois::Field;
 use fx_vectors::{Demands, Matrix, Question};
 
-/// The first canonical matrix that meets the demands, or none where none does. Takes no memory.
+/// The first canonical matrix that meets the demands, or none where none does.
 ///
-/// Each canonical matrix is tried in order, and judged by counting its runs.
+/// The question is small: a resolution of at most eight factors in at most sixteen runs, without
+/// block factors and without a least pattern. Each canonical matrix is tried in order, and judged by
+/// counting its runs, which takes no memory.
 pub fn first(question: &Question) -> Result<Option<Matrix>, NoMemory>
     requires { IsSmall question.now }
     ensures answer { IfOk result (λ found. option_map (λ x. x.rows) found ≡ answer (problem_of question.now)) }

@@ -1,16 +1,16 @@
 ghost use Rattle.std.specs.Prelude.{◌≡◌, ◌^◌, ◌<◌, ◌≤◌, ◌↔◌, IsTrue, length};
 ghost use Rattle.std.specs.Bool.{OnTrue, OnFalse};
-ghost use Rattle.fx_search.specs.Plain.{IsLater, IsPlain, IsBound, IsFirstFrom, NoneFrom};
+ghost use Rattle.fx_search.specs.Designs.{IsLater, IsTried, IsBound, IsFirstFrom, NoneFrom};
 
 use crate::judge::meets;
 use fx_galois::Field;
 use fx_vectors::{Matrix, Vector};
 
-/// Adds rows to a prefix until it is the first of its extensions that meets the resolution.
-/// Where none does, the prefix is as before.
+/// Makes the prefix the first of the designs that begin with it. Where there is none, the prefix
+/// stays as it is.
 pub(crate) fn walk(field: Field, r: u8, prefix: &mut Matrix) -> bool
     requires order { field ≡ prefix.old.shape.q }
-    requires plain { IsPlain field prefix.old.shape.m prefix.old.shape.s prefix.old.rows }
+    requires tried { IsTried field prefix.old.shape.m prefix.old.shape.s prefix.old.rows }
     ensures shape { prefix.new.shape ≡ prefix.old.shape }
     ensures found { OnTrue result (IsFirstFrom field prefix.old.shape.m prefix.old.shape.s r prefix.old.rows prefix.new.rows) }
     ensures none { OnFalse result (NoneFrom field prefix.old.shape.m prefix.old.shape.s r prefix.old.rows) }
@@ -22,8 +22,7 @@ pub(crate) fn walk(field: Field, r: u8, prefix: &mut Matrix) -> bool
         return meets(field, r, prefix);
     }
     let upto = bound(field, prefix);
-    for i in 1..upto {
-        let row = upto - i;
+    for row in (1..upto).rev() {
         if is_later(field, shape.m, row) {
             prefix.push(row);
             if walk(field, r, prefix) {
@@ -38,8 +37,8 @@ pub(crate) fn walk(field: Field, r: u8, prefix: &mut Matrix) -> bool
 /// The number below which the next row of a prefix stands.
 fn bound(field: Field, prefix: &Matrix) -> u16
     requires order { field ≡ prefix.now.shape.q }
-    requires plain { IsPlain field prefix.now.shape.m prefix.now.shape.s prefix.now.rows }
-    requires more { length prefix.now.rows < prefix.now.shape.s }
+    requires tried { IsTried field prefix.now.shape.m prefix.now.shape.s prefix.now.rows }
+    requires incomplete { length prefix.now.rows < prefix.now.shape.s }
     ensures { IsBound field prefix.now.shape.m prefix.now.rows result }
 {
     let m = prefix.shape().m;

@@ -1,11 +1,11 @@
-use Rattle.std.proofs.Common.{◌≡◌, ◌<◌, ◌≤◌, ◌+◌, ◌^◌, ℕ, List, [], length, get_or, arith, sym, subst, ◌∙◌, ap, refl, Bool, false, IsTrue}
+use Rattle.std.proofs.Common.{◌≡◌, ◌<◌, ◌^◌, ℕ, List, arith, sym, subst, ◌∙◌, ap, refl, Bool, false, IsTrue}
 use Rattle.fx_designs.specs.Galois.{IsField, digits}
 use Rattle.fx_laws.proofs.Tables.{is_order-field}
-use Rattle.fx_designs.specs.Vectors.{IsVector, weight}
+use Rattle.fx_designs.specs.Vectors.{weight}
 use Rattle.fx_search.proofs.Judging.{runs_by}
 use Rattle.fx_laws.specs.Facts.{IsBalanced}
 use Rattle.fx_laws.specs.Meets.{MeetsResolution}
-use Rattle.fx_search.proofs.Judging.{vectors_fit, meets_one, meets_more, meets_all, meets_fails}
+use Rattle.fx_search.proofs.Judging.{vectors_fit, meets_more, meets_all, meets_fails}
 use Rattle.fx_search.proofs.judge.meets.Goals as goal
 use Rattle.fx_search.proofs.judge.meets.Goals.{else-weight-from-via-then-weight-from+else-not-is_balanced, else-weight-from-via-else-weight-from}
 
@@ -27,7 +27,8 @@ returns-then-not-is_balanced c =
       (λ never. cc never),
       (λ meets. absurd (meets_fails c.args.field c.args.matrix.now.shape.m c.len-len.result c.args.r c.args.matrix.now.rows c.loop-n.n
           (omega (arith, f.more_than_one)) (omega arith) (omega arith) light
-          (λ balanced. fails c.is_balanced.result c.if-not-is_balanced.true (c.is_balanced.ensures.1 (subst (λ (u : List ℕ). IsBalanced c.args.field u (runs_by c.args.field c.args.matrix.now.shape.m c.args.matrix.now.rows)) (sym c.of_number-u.ensures.digits) balanced)))
+          (λ balanced. fails c.is_balanced.result c.if-not-is_balanced.true (c.is_balanced.ensures.1
+          (subst (λ (u : List ℕ). IsBalanced c.args.field u (runs_by c.args.field c.args.matrix.now.shape.m c.args.matrix.now.rows)) (sym c.of_number-u.ensures.digits) balanced)))
           (subst (λ (s : ℕ). MeetsResolution c.args.field c.args.matrix.now.shape.m s c.args.r c.args.matrix.now.rows) (sym c.len-len.ensures.count) meets))),
     )
 
@@ -35,7 +36,8 @@ pub loop-n-preserved : goal.loop-n-preserved
 loop-n-preserved c = meets_more c.args.field c.args.matrix.now.shape.m c.len-len.result c.args.r c.args.matrix.now.rows c.loop-n.n c.loop-n.invariant (λ light.
     elim c.else-weight-from.branch [
       | else-weight-from-via-then-weight-from+else-not-is_balanced w ↦
-          subst (λ (u : List ℕ). IsBalanced c.args.field u (runs_by c.args.field c.args.matrix.now.shape.m c.args.matrix.now.rows)) c.of_number-u.ensures.digits (w.is_balanced.ensures.0 w.if-not-is_balanced.false)
+          subst (λ (u : List ℕ). IsBalanced c.args.field u (runs_by c.args.field c.args.matrix.now.shape.m c.args.matrix.now.rows)) c.of_number-u.ensures.digits
+          (w.is_balanced.ensures.0 w.if-not-is_balanced.false)
       | else-weight-from-via-else-weight-from w ↦ absurd (let e = ap weight c.of_number-u.ensures.digits in omega arith)
     ])
 

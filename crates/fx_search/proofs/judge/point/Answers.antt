@@ -1,4 +1,4 @@
-use Rattle.std.proofs.Common.{◌≡◌, ◌<◌, ◌≤◌, ◌+◌, ◌-◌, ◌/◌, ◌^◌, ℕ, length, arith, sym, subst, ◌∙◌, ap}
+use Rattle.std.proofs.Common.{◌≡◌, ◌<◌, ◌≤◌, ◌+◌, ◌-◌, ◌/◌, ◌^◌, ℕ, arith, sym, subst, ◌∙◌, ap}
 use Rattle.std.proofs.Math.Nat.{mod-lt, one-le-pow}
 use Rattle.std.proofs.lemmas.Grind.{common_steps}
 use Rattle.fx_designs.specs.Galois.{IsField}
@@ -35,7 +35,8 @@ loop-i-preserved c =
       len = grind (arith, common_steps);
       size = size;
       rest = rw size (mod-lt c.loop-i.rest (one-le-pow (c.from-len.result - (c.loop-i.i + 1)) c.from-q.result some));
-      so_far = rw (c.set.ensures.codes, size) (point_more c.from-q.result c.from-len.result c.loop-i.i c.loop-i.rest c.loop-i.point (omega arith) (omega (arith, c.loop-i.invariant.len)) ∙ c.loop-i.invariant.so_far);
+      so_far = rw (c.set.ensures.codes, size) (point_more c.from-q.result c.from-len.result c.loop-i.i c.loop-i.rest c.loop-i.point (omega arith) (omega (arith, c.loop-i.invariant.len))
+          ∙ c.loop-i.invariant.so_far);
     }
 
 pub returns-clause-vector : goal.returns-clause-vector
@@ -46,5 +47,6 @@ returns-clause-vector c =
     let whole : c.loop-i.point ≡ point_of c.from-q.result c.from-len.result c.args.k =
     sym (take_all c.loop-i.i c.loop-i.point (omega (arith, c.loop-i.invariant.len))) ∙ sym (append-nil (take c.loop-i.i c.loop-i.point))
     ∙ ap (λ (j : ℕ). take c.loop-i.i c.loop-i.point ++ point_of c.from-q.result j c.loop-i.rest) (sym n) ∙ c.loop-i.invariant.so_far in
-    let there : c.loop-i.point ≡ point_of c.args.field c.args.m c.args.k = whole ∙ ap (λ (q : ℕ). point_of q c.from-len.result c.args.k) order ∙ ap (λ (j : ℕ). point_of c.args.field j c.args.k) c.from-len.ensures in
+    let there : c.loop-i.point ≡ point_of c.args.field c.args.m c.args.k =
+    whole ∙ ap (λ (q : ℕ). point_of q c.from-len.result c.args.k) order ∙ ap (λ (j : ℕ). point_of c.args.field j c.args.k) c.from-len.ensures in
     subst (λ (v : List ℕ). IsVector c.args.field c.args.m v) (sym there) (point-vector c.args.field c.args.m c.args.k (omega (arith, f.more_than_one)) c.requires.below)

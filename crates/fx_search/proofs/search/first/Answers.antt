@@ -1,17 +1,13 @@
-use Rattle.std.proofs.Common.{◌*◌, ◌≡◌, ◌<◌, ◌≤◌, ◌^◌, ℕ, List, length, min, get_or, arith, sym, subst, ◌∙◌, ap}
+use Rattle.std.proofs.Common.{◌*◌, ◌≡◌, ◌<◌, ◌≤◌, ◌^◌, ℕ, arith, sym, subst, ◌∙◌, ap}
 use Rattle.fx_designs.specs.Galois.{IsField}
 use Rattle.fx_laws.proofs.Tables.{is_order-field}
-use Rattle.fx_search.specs.Plain.{IsPlain, IsFirstFrom, NoneFrom}
+use Rattle.fx_search.specs.Designs.{IsTried, IsFirstFrom, NoneFrom}
 use Rattle.fx_vectors.specs.declared.shape.Shape.{Shape}
-use Rattle.fx_vectors.specs.Matrix.{MatrixView}
-use Rattle.fx_search.proofs.Walks.{IsUnits, pow_lt, units_plain, first_from_units, none_from_units}
+use Rattle.fx_search.proofs.Walks.{IsUnits, pow_lt, units_tried, first_from_units, none_from_units}
 use Rattle.fx_search.proofs.Answer.{answer-first, answer-none, problem-asked}
 use Rattle.fx_vectors.proofs.Limits.{order-bounds}
 use Rattle.std.proofs.Math.Nat.{mul-le-mul}
-use Rattle.std.specs.Option.{option_map}
-use Rattle.fx_designs.specs.Problems.{AtResolution}
 use Rattle.fx_designs.specs.Answers.{answer}
-use Rattle.fx_vectors.specs.Question.{problem_of}
 use Rattle.fx_search.proofs.search.first.Goals as goal
 
 pub push-requires-clause-below : goal.push-requires-clause-below
@@ -21,14 +17,15 @@ push-requires-clause-below c =
     let low : c.loop.unit < q ^ c.args.question.now.shape.m = rw c.loop.invariant.unit (pow_lt q c.loop.counter c.args.question.now.shape.m f.more_than_one (omega arith)) in
     subst (λ (z : Shape). c.loop.unit < z.q ^ z.m) (sym c.loop.invariant.shape) low
 
-pub walk-requires-clause-plain : goal.walk-requires-clause-plain
-walk-requires-clause-plain c =
+pub walk-requires-clause-tried : goal.walk-requires-clause-tried
+walk-requires-clause-tried c =
     let q : ℕ = c.args.question.now.shape.q in
     let f : IsField q = is_order-field q c.requires.valid.shaped.order in
     let units : IsUnits q c.args.question.now.shape.m c.args.question.now.shape.s c.loop.matrix.rows =
     record { len = omega (arith, c.loop.invariant.len); each = λ k h. c.loop.invariant.units k (omega arith) } in
     let field : c.field-field.result ≡ q = c.field-field.ensures in
-    rw field (subst (λ (z : Shape). IsPlain q z.m z.s c.loop.matrix.rows) (sym c.loop.invariant.shape) (units_plain q c.args.question.now.shape.m c.args.question.now.shape.s c.loop.matrix.rows f.more_than_one units))
+    rw field (subst (λ (z : Shape). IsTried q z.m z.s c.loop.matrix.rows) (sym c.loop.invariant.shape)
+    (units_tried q c.args.question.now.shape.m c.args.question.now.shape.s c.loop.matrix.rows f.more_than_one units))
 
 pub overflow_mul-unit : goal.overflow_mul-unit
 overflow_mul-unit c =
