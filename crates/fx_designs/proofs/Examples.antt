@@ -4,7 +4,7 @@ use Rattle.fx_designs.specs.Galois.{prime_of, degree_of, reduction_of, add, mul,
 use Rattle.fx_designs.specs.Runs.{runs_of, is_constant, is_balanced, are_blocks_even, is_balanced_in_blocks, is_constant_in_blocks}
 use Rattle.fx_designs.specs.Spans.{in_span}
 use Rattle.fx_designs.specs.Problems.{Dimensions, Requirement, AtResolution, ForEffects, Problem}
-use Rattle.fx_designs.specs.Demands.{is_barred, is_estimated, is_met, is_allowed}
+use Rattle.fx_designs.specs.Demands.{must_balance, is_estimated, is_met, is_allowed}
 use Rattle.fx_designs.specs.Patterns.{constant_words, pattern_of, resolution_of, is_less}
 use Rattle.fx_designs.specs.Canonical.{is_canonical}
 use Rattle.fx_designs.specs.Answers.{before, lists, designs, answer}
@@ -26,7 +26,7 @@ half :
     × (resolution_of (pattern_of (size 2 3 4 0) (1 ∷ 2 ∷ 4 ∷ 6 ∷ [])) ≡ 3)
     × (is_less (pattern_of (size 2 3 4 0) (1 ∷ 2 ∷ 4 ∷ 7 ∷ [])) (pattern_of (size 2 3 4 0) (1 ∷ 2 ∷ 4 ∷ 6 ∷ [])) ≡ true)
     × (answer (problem (size 2 3 4 0) (AtResolution 4) false) ≡ Some (1 ∷ 2 ∷ 4 ∷ 7 ∷ []))
-unfolding prime_of degree_of reduction_of add mul neg inv runs_of is_constant is_balanced are_blocks_even is_balanced_in_blocks is_constant_in_blocks in_span is_barred is_estimated is_met is_allowed constant_words pattern_of is_canonical lists designs answer
+unfolding prime_of degree_of reduction_of add mul neg inv runs_of is_constant is_balanced are_blocks_even is_balanced_in_blocks is_constant_in_blocks in_span must_balance is_estimated is_met is_allowed constant_words pattern_of is_canonical lists designs answer
 half = (refl, refl, refl, refl, refl, refl, refl, refl, refl)
 
 -- canonical rows: no repeated unit vector, unit vectors in order, no row that is zero, later rows fall
@@ -39,7 +39,7 @@ canonical_rows :
     × (is_canonical (size 2 3 4 0) (AtResolution 3) (1 ∷ 2 ∷ 4 ∷ 7 ∷ 6 ∷ []) ≡ false)
     × (is_canonical (size 2 3 4 0) (AtResolution 3) (1 ∷ 2 ∷ []) ≡ true)
     × (is_canonical (size 2 3 4 0) (AtResolution 3) (1 ∷ 2 ∷ 8 ∷ []) ≡ false)
-unfolding prime_of degree_of reduction_of add mul neg inv runs_of is_constant is_balanced are_blocks_even is_balanced_in_blocks is_constant_in_blocks in_span is_barred is_estimated is_met is_allowed constant_words pattern_of is_canonical lists designs answer
+unfolding prime_of degree_of reduction_of add mul neg inv runs_of is_constant is_balanced are_blocks_even is_balanced_in_blocks is_constant_in_blocks in_span must_balance is_estimated is_met is_allowed constant_words pattern_of is_canonical lists designs answer
 canonical_rows = (refl, refl, refl, refl, refl, refl, refl, refl)
 
 -- five factors in eight runs at resolution 4: the first four rows are allowed, and no fifth is
@@ -51,7 +51,7 @@ five_factors :
     × (is_met (size 2 3 5 0) (AtResolution 4) (1 ∷ 2 ∷ 4 ∷ 7 ∷ 5 ∷ []) ≡ false)
     × (is_allowed (size 2 3 5 0) (AtResolution 4) (1 ∷ 2 ∷ 4 ∷ 7 ∷ 3 ∷ []) ≡ false)
     × (is_met (size 2 3 5 0) (AtResolution 4) (1 ∷ 2 ∷ 4 ∷ 7 ∷ 3 ∷ []) ≡ false)
-unfolding prime_of degree_of reduction_of add mul neg inv runs_of is_constant is_balanced are_blocks_even is_balanced_in_blocks is_constant_in_blocks in_span is_barred is_estimated is_met is_allowed constant_words pattern_of is_canonical lists designs answer
+unfolding prime_of degree_of reduction_of add mul neg inv runs_of is_constant is_balanced are_blocks_even is_balanced_in_blocks is_constant_in_blocks in_span must_balance is_estimated is_met is_allowed constant_words pattern_of is_canonical lists designs answer
 five_factors = (refl, refl, refl, refl, refl, refl, refl)
 
 -- four three-level factors in nine runs: C = A^2*B, D = A*B
@@ -61,7 +61,7 @@ three_levels :
     × (is_met (size 3 2 4 0) (AtResolution 3) (1 ∷ 3 ∷ 5 ∷ 4 ∷ []) ≡ true)
     × (pattern_of (size 3 2 4 0) (1 ∷ 3 ∷ 5 ∷ 4 ∷ []) ≡ (0 ∷ 0 ∷ 4 ∷ 0 ∷ []))
     × (answer (problem (size 3 2 3 0) (AtResolution 3) false) ≡ Some (1 ∷ 3 ∷ 5 ∷ []))
-unfolding prime_of degree_of reduction_of add mul neg inv runs_of is_constant is_balanced are_blocks_even is_balanced_in_blocks is_constant_in_blocks in_span is_barred is_estimated is_met is_allowed constant_words pattern_of is_canonical lists designs answer
+unfolding prime_of degree_of reduction_of add mul neg inv runs_of is_constant is_balanced are_blocks_even is_balanced_in_blocks is_constant_in_blocks in_span must_balance is_estimated is_met is_allowed constant_words pattern_of is_canonical lists designs answer
 three_levels = (refl, refl, refl, refl, refl)
 
 -- three factors in eight runs in two and four blocks: interactions of block rules count as block effects
@@ -78,7 +78,7 @@ in_blocks :
     × (is_canonical (size 2 3 2 1) (AtResolution 3) (1 ∷ 2 ∷ 7 ∷ []) ≡ false)
     × (is_allowed (size 2 3 3 1) (AtResolution 3) (1 ∷ 2 ∷ 4 ∷ 7 ∷ []) ≡ true)
     × (is_allowed (size 2 3 3 1) (AtResolution 3) (1 ∷ 2 ∷ 4 ∷ 4 ∷ []) ≡ false)
-unfolding prime_of degree_of reduction_of add mul neg inv runs_of is_constant is_balanced are_blocks_even is_balanced_in_blocks is_constant_in_blocks in_span is_barred is_estimated is_met is_allowed constant_words pattern_of is_canonical lists designs answer
+unfolding prime_of degree_of reduction_of add mul neg inv runs_of is_constant is_balanced are_blocks_even is_balanced_in_blocks is_constant_in_blocks in_span must_balance is_estimated is_met is_allowed constant_words pattern_of is_canonical lists designs answer
 in_blocks = (refl, refl, refl, refl, refl, refl, refl, refl, refl, refl, refl, refl)
 
 -- effects: of A, B, C and A*B, nothing is asked of D; two main effects in two runs are aliased
@@ -92,14 +92,16 @@ for_effects :
     × (answer (problem (size 2 1 1 0) (AtResolution 3) false) ≡ Some (1 ∷ []))
     × (is_canonical (size 2 2 2 0) (ForEffects (1 ∷ []) ([])) (0 ∷ []) ≡ false)
     × (is_canonical (size 2 1 2 0) (ForEffects (1 ∷ []) ([])) (0 ∷ []) ≡ true)
-unfolding prime_of degree_of reduction_of add mul neg inv runs_of is_constant is_balanced are_blocks_even is_balanced_in_blocks is_constant_in_blocks in_span is_barred is_estimated is_met is_allowed constant_words pattern_of is_canonical lists designs answer
+unfolding prime_of degree_of reduction_of add mul neg inv runs_of is_constant is_balanced are_blocks_even is_balanced_in_blocks is_constant_in_blocks in_span must_balance is_estimated is_met is_allowed constant_words pattern_of is_canonical lists designs answer
 for_effects = (refl, refl, refl, refl, refl, refl, refl, refl, refl)
 
--- a least pattern, and the order of lists of rows
+-- a least pattern, which may come later in the order than the first design, and the order of lists of rows
 in_order :
     (answer (problem (size 2 2 3 0) (AtResolution 3) true) ≡ Some (1 ∷ 2 ∷ 3 ∷ []))
+    × (answer (problem (size 2 2 4 0) (ForEffects (7 ∷ 10 ∷ []) ([])) false) ≡ Some (1 ∷ 2 ∷ 2 ∷ 1 ∷ []))
+    × (answer (problem (size 2 2 4 0) (ForEffects (7 ∷ 10 ∷ []) ([])) true) ≡ Some (1 ∷ 2 ∷ 1 ∷ 3 ∷ []))
     × (before (1 ∷ 2 ∷ 4 ∷ []) (1 ∷ 2 ∷ 3 ∷ []) ≡ true)
     × (before (1 ∷ 2 ∷ []) (1 ∷ 2 ∷ 3 ∷ []) ≡ true)
     × (before (1 ∷ 2 ∷ []) (1 ∷ 2 ∷ []) ≡ false)
-unfolding prime_of degree_of reduction_of add mul neg inv runs_of is_constant is_balanced are_blocks_even is_balanced_in_blocks is_constant_in_blocks in_span is_barred is_estimated is_met is_allowed constant_words pattern_of is_canonical lists designs answer
-in_order = (refl, refl, refl, refl)
+unfolding prime_of degree_of reduction_of add mul neg inv runs_of is_constant is_balanced are_blocks_even is_balanced_in_blocks is_constant_in_blocks in_span must_balance is_estimated is_met is_allowed constant_words pattern_of is_canonical lists designs answer
+in_order = (refl, refl, refl, refl, refl, refl)

@@ -17,12 +17,12 @@ abbrev pub falling : ℕ → List ℕ
 falling zero = []
 falling (suc n) = n ∷ falling n
 
--- all lists of one to k rows below n, in this order
+-- all lists of one to k rows below n, in the order of `before`
 unfoldable pub lists : ℕ → ℕ → List (List ℕ)
 lists n zero = []
 lists n (suc k) = flat_map (λ r. map (λ rest. r ∷ rest) ([] ∷ lists n k)) (falling n)
 
--- the lists of one to s + t rows, in order
+-- the lists of one to s + t rows below q^m, in the order of `before`
 abbrev pub prefixes : Problem → List (List ℕ)
 prefixes p = lists (p.dimensions.q ^ p.dimensions.m) (p.dimensions.s + p.dimensions.t)
 

@@ -1,5 +1,6 @@
--- Canonical prefixes: of the rule matrices that differ by a change of the run indexes, by multiples of rows and, under a
--- resolution, by the order of the factors, the lists that are tried. A row is named by its number.
+-- Canonical prefixes: the lists of rows that are tried. A rule matrix that meets a requirement can be brought to one by a
+-- change of the run indexes, by multiples of rows, under a resolution by the order of the factors, and by raising a rank
+-- that is low. A row is named by its number.
 use Rattle.std.specs.Prelude.{ℕ, ◌==◌, ◌+◌, ◌-◌, ◌^◌, ◌&&◌, ◌||◌, not, nat_lt, nat_le, Bool, true, if◌then◌else◌, List, length, take, min, slice_index}
 use Rattle.std.specs.List.{list_all, list_any, range_with_len}
 use Rattle.fx_designs.specs.Galois.{digits}
@@ -24,7 +25,8 @@ reaches_at d rows k = nat_le (min d.s d.m) (rank_at d rows k + (d.s - k))
 abbrev pub is_unit : Dimensions → ℕ → Bool
 is_unit d r = list_any (λ i. r == d.q ^ i) (range_with_len 0 d.m)
 
--- row k is a unit vector in its place, or a later row: not zero, no unit vector, and of less number than a later row before it
+-- row k is the unit vector in its place, or a later row: not zero, no unit vector, and of less number than the row just
+-- before it, where that too is a later row
 abbrev pub falls_at : Dimensions → List ℕ → ℕ → Bool
 falls_at d rows k =
     let r = slice_index rows k in
@@ -36,7 +38,7 @@ abbrev pub is_falling : Dimensions → Requirement → List ℕ → Bool
 is_falling d (AtResolution r) rows = list_all (λ k. falls_at d rows k) (range_with_len 0 (min d.s (length rows)))
 is_falling d (ForEffects estimate besides) rows = true
 
--- whether a list of at most s + t rows is a canonical prefix
+-- whether a list of rows is a canonical prefix: at most s + t rows, each below q^m
 unfoldable pub is_canonical : Dimensions → Requirement → List ℕ → Bool
 is_canonical d wanted rows =
     nat_le (length rows) (d.s + d.t)

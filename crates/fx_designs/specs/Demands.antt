@@ -1,4 +1,4 @@
--- What it is that a rule matrix meets a requirement, judged from its runs, and the vectors that the requirement forbids.
+-- What it is that runs meet a requirement, and the vectors that the requirement forbids.
 use Rattle.std.specs.Prelude.{ℕ, ◌==◌, ◌+◌, ◌-◌, ◌/◌, ◌^◌, ◌&&◌, ◌||◌, not, nat_lt, nat_le, Bool, if◌then◌else◌, List, ◌++◌, map, length, take, drop}
 use Rattle.std.specs.List.{list_all, list_any}
 use Rattle.fx_designs.specs.Galois.{number}
@@ -23,26 +23,30 @@ abbrev pub is_told_from : List ℕ → List ℕ → List ℕ → List ℕ → Bo
 is_told_from estimate besides u v = is_of estimate u && ((is_of estimate v || (is_of besides v || is_zero v)) && not (same u v))
 
 -- whether f, a vector over the factors, has to be balanced: it is of weight 1 to r-1, or a difference of vectors to be told apart
-unfoldable pub is_barred : Dimensions → Requirement → List ℕ → Bool
-is_barred d (AtResolution r) f = nat_lt 0 (weight f) && nat_lt (weight f) r
-is_barred d (ForEffects estimate besides) f = list_any (λ u. list_any (λ v. is_told_from estimate besides u v && same f (minus d.q u v)) (points d.q d.s)) (points d.q d.s)
+unfoldable pub must_balance : Dimensions → Requirement → List ℕ → Bool
+must_balance d (AtResolution r) f = nat_lt 0 (weight f) && nat_lt (weight f) r
+must_balance d (ForEffects estimate besides) f = list_any (λ u. list_any (λ v. is_told_from estimate besides u v && same f (minus d.q u v)) (points d.q d.s)) (points d.q d.s)
 
--- whether u is a vector of an effect to be estimated: under a resolution r, of one with at most (r-1)/2 factors
+-- whether u is a vector of an effect to be estimated: under a resolution r, of one with at most (r-1)/2 factors, rounded down
 unfoldable pub is_estimated : Requirement → List ℕ → Bool
 is_estimated (AtResolution r) u = nat_lt 0 (weight u) && nat_le (weight u) ((r - 1) / 2)
 is_estimated (ForEffects estimate besides) u = is_of estimate u
 
--- whether the rows of a whole matrix meet the requirement
-unfoldable pub is_met : Dimensions → Requirement → List ℕ → Bool
-is_met d wanted rows =
-    list_all (λ f. not (is_barred d wanted f) || is_balanced d.q f (runs d rows)) (points d.q d.s)
+-- whether runs, each of s levels and t block values, meet the requirement
+abbrev pub do_runs_meet : Dimensions → Requirement → List (List ℕ) → Bool
+do_runs_meet d wanted xs =
+    list_all (λ f. not (must_balance d wanted f) || is_balanced d.q f xs) (points d.q d.s)
     && ((d.t == 0)
-    || (are_blocks_even d.q d.s (d.q ^ d.t) (runs d rows)
-    && list_all (λ u. not (is_estimated wanted u) || is_balanced_in_blocks d.q d.s (d.q ^ d.t) u (runs d rows)) (points d.q d.s)))
+    || (are_blocks_even d.q d.s (d.q ^ d.t) xs
+    && list_all (λ u. not (is_estimated wanted u) || is_balanced_in_blocks d.q d.s (d.q ^ d.t) u xs) (points d.q d.s)))
+
+-- whether the rows of a whole matrix meet it: whether their runs do
+unfoldable pub is_met : Dimensions → Requirement → List ℕ → Bool
+is_met d wanted rows = do_runs_meet d wanted (runs d rows)
 
 -- whether the vector (f, b) over the factors and the block factors is forbidden
 abbrev pub is_forbidden : Dimensions → Requirement → List ℕ → List ℕ → Bool
-is_forbidden d wanted f b = (if is_zero b then is_barred d wanted f else is_zero f || is_estimated wanted f)
+is_forbidden d wanted f b = (if is_zero b then must_balance d wanted f else is_zero f || is_estimated wanted f)
 
 -- a vector over some first rows, with zeros for the rows to come
 abbrev pub padded : Dimensions → List ℕ → List ℕ

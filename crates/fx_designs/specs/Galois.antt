@@ -1,9 +1,10 @@
--- The field GF(q) on the codes 0 to q-1. To the base p, a code's digits are the coefficients of a polynomial over GF(p),
--- the lowest first. Each operation reads its arguments modulo q, so that its laws hold for all numbers.
+-- The field GF(q) on the codes 0 to q-1, where q = p^n and p is prime. To the base p, a code's digits are the coefficients
+-- of a polynomial over GF(p), the lowest first. Each operation reads its arguments modulo q and answers a code.
 use Rattle.std.specs.Prelude.{ℕ, ◌≡◌, ◌<◌, ◌+◌, ◌-◌, ◌*◌, ◌/◌, ◌%◌, ◌==◌, Bool, if◌then◌else◌, List, [], ◌∷◌, map, zero, suc, unwrap_or}
 use Rattle.std.specs.List.{range_with_len, find, list_any}
 
--- the prime below q, how many digits a code has, and what x to that power is reduced to
+-- of q = p^n the prime p, the degree n, and the coefficients of what x^n is reduced to, the lowest first;
+-- where n is 1 nothing has to be reduced
 unfoldable pub prime_of : ℕ → ℕ
 prime_of q = (if q == 4 then 2 else (if q == 8 then 2 else (if q == 9 then 3 else q)))
 
@@ -69,7 +70,7 @@ inv q a = unwrap_or (find (λ b. mul q a b == 1) (range_with_len 0 q)) 0
 abbrev pub codes_of : ℕ → List ℕ
 codes_of q = range_with_len 0 q
 
--- the laws of a field; each operation answers a code, whatever its arguments
+-- the laws of a field; three of them ask for a code
 pub record IsField (q : ℕ) : Type 0 where
   pub more_than_one : 1 < q
   pub add_code : (a b : ℕ) → add q a b < q

@@ -1,4 +1,4 @@
--- What is asked of a design: its dimensions, what it is to separate, and whether its pattern is to be least.
+-- What is asked of a design: its dimensions, what it is to separate, and whether its word-length pattern is to be least.
 use Rattle.std.specs.Prelude.{ℕ, Bool, List}
 
 -- q levels; q^m runs; s factors; t block factors
@@ -8,7 +8,7 @@ pub record Dimensions : Type 0 where
   pub s : ℕ
   pub t : ℕ
 
--- A resolution, or the effects to be estimated and those that may be there besides.
+-- A resolution, or the effects to be estimated and the others that are not negligible.
 -- An effect, a set of factors, is the sum of 2^(i-1) over its factors i.
 pub data Requirement : Type 0 where
   AtResolution : ℕ → Requirement

@@ -32,6 +32,8 @@ same [] (b ∷ w) = false
 same (a ∷ v) [] = false
 same (a ∷ v) (b ∷ w) = (a == b) && same v w
 
+-- entries past the end of the shorter vector count as zeros: a vector over the factors leaves out the block values behind
+-- the levels
 abbrev pub dot : ℕ → List ℕ → List ℕ → ℕ
 dot q [] w = 0
 dot q (a ∷ v) [] = 0
@@ -52,7 +54,7 @@ minus q u v = plus q u (scale q (neg q 1) v)
 abbrev pub zeros : ℕ → List ℕ
 zeros n = replicate n 0
 
--- the sum of u_i times row i, of rows of length m
+-- the sum of u_i times row i, of rows of length m; entries and rows that are missing count as zeros
 abbrev pub combination : ℕ → ℕ → List ℕ → List (List ℕ) → List ℕ
 combination q m [] rows = zeros m
 combination q m (a ∷ u) [] = zeros m

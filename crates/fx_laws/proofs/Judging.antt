@@ -6,7 +6,7 @@ use Rattle.std.proofs.lemmas.Bool.{and_parts, and_from, or_left, eqb-true, eq-eq
 use Rattle.fx_designs.specs.Vectors.{weight}
 use Rattle.fx_designs.specs.Runs.{is_balanced, count_of}
 use Rattle.fx_designs.specs.Problems.{Dimensions, AtResolution}
-use Rattle.fx_designs.specs.Demands.{is_met, is_barred, runs}
+use Rattle.fx_designs.specs.Demands.{is_met, must_balance, runs}
 use Rattle.fx_laws.specs.Facts.{IsBalanced}
 use Rattle.fx_laws.specs.Meets.{MeetsResolution}
 use Rattle.fx_laws.proofs.Tests.{range_decides, points_decides, implies_decides}
@@ -21,7 +21,7 @@ balanced_decides q u xs =
     )
 
 pub met_decides : (d : Dimensions) (r : ℕ) (rows : List ℕ) → 0 < d.q → d.t ≡ 0 → Decides (is_met d (AtResolution r) rows) (MeetsResolution d.q d.m d.s r rows)
-unfolding is_met is_barred
+unfolding is_met must_balance
 met_decides d r rows some none =
     let test = λ (u : List ℕ). not (ltb 0 (weight u) && ltb (weight u) r) || is_balanced d.q u (runs d rows) in
     let each = points_decides d.q d.s some test in

@@ -6,7 +6,7 @@ use Rattle.fx_vectors.specs.declared.effect.Effect.{Effect}
 abbrev pub numbers_of : List Effect → List ℕ
 numbers_of effects = map (λ e. e.0) effects
 
--- whether factor i is in the effect
+-- whether factor i, counted from 1, is in the effect
 abbrev pub has_factor : ℕ → ℕ → Bool
 has_factor e i = e / 2 ^ (i - 1) % 2 == 1
 

@@ -15,7 +15,8 @@ requirement_of (Effects estimate nonnegligible) = ForEffects (numbers_of estimat
 abbrev pub problem_of : Question → Problem
 problem_of question = record { dimensions = dimensions_of question.shape; requirement = requirement_of question.demands; least = question.least }
 
--- effects of s factors that may be asked for: some to be estimated, and no effect in both lists
+-- effects of s factors that may be asked for: some to be estimated, no effect in both lists, and at most 2,000,000 pairs of
+-- vectors to be told apart
 pub record CanBeTold (q s : ℕ) (estimate besides : List ℕ) : Type 0 where
   pub some : 0 < length estimate
   pub estimated : AreEffects s estimate
