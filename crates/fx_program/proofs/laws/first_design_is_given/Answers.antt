@@ -1,11 +1,10 @@
-use Rattle.std.proofs.Common.{ℕ, ◌≡◌, ◌<◌, ◌+◌, List, length, Option, Some, None, true, false, refl, sym, ap, ◌∙◌, arith}
+use Rattle.std.proofs.Common.{ℕ, ◌≡◌, ◌<◌, ◌+◌, List, length, Option, Some, None, refl, sym, ap, ◌∙◌, arith}
 use Rattle.std.proofs.lemmas.Bool.{true≢false}
-use Rattle.fx_designs.specs.Answers.{answer, is_design}
-use Rattle.fx_laws.specs.First.{IsFirstDesign}
+use Rattle.fx_designs.specs.Answers.{answer}
 use Rattle.fx_laws.proofs.FirstDesign.{first-answer, answer-first, none-design, none-answer}
 use Rattle.fx_program.specs.declared.reading.Step.{Step}
 use Rattle.fx_program.specs.Texts.{step_of}
-use Rattle.fx_program.specs.Output.{IsStep, problem_of, status_of, step_output, answered}
+use Rattle.fx_program.specs.Output.{problem_of, status_of, step_output, answered}
 use Rattle.fx_program.proofs.Steps.{step_of-is}
 use Rattle.fx_program.proofs.laws.first_design_is_given.Goals as goal
 
