@@ -79,7 +79,7 @@ fn other_texts_are_refused(rt: HostRuntime) -> Result<(), Fail> {
     let words = run_words(alloc)?;
     let cases = [
         "",
-        "/* half */ proc factex; factors A; size design=2; model resolution=3; run;",
+        "/* five */ proc factex; factors A B C D E; size design=8; model resolution=4; run;",
         "proc factex; factors A a; size design=2; model resolution=3; run;",
         "proc factex; factors A B C D E F G H I; size design=16; model resolution=3; run;",
         "proc factex; factors ; size design=2; model resolution=3; run;",
