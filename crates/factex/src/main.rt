@@ -1,11 +1,11 @@
 //! The program `factex`: standard input, standard output and the command line over `fx_program`.
 #![tactic(auto)]
 
-mod edge;
+mod standard;
 
-use edge::{StandardInput, StandardOutput};
 use fx_base::SureShelf;
 use fx_program::factex;
+use standard::{StandardInput, StandardOutput};
 use std::io::ErrorKind;
 use std::process::ExitCode;
 use std::rt::Env;
@@ -18,11 +18,11 @@ const NO_TEXT: u8 = 6;
 const NO_MEMORY: u8 = 5;
 
 fn main(rt: HostRuntime) -> ExitCode {
-    ExitCode::from(status_of(&rt))
+    ExitCode::from(run(&rt))
 }
 
 /// Runs the program over the real objects, and answers its status.
-fn status_of(rt: &HostRuntime) -> u8 {
+fn run(rt: &HostRuntime) -> u8 {
     let alloc = rt.alloc();
     let words = match words_of(rt) {
         Ok(words) => words,

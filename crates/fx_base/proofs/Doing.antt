@@ -5,7 +5,7 @@ use Rattle.std.proofs.Math.Seq.{take-add, take-suc}
 use Rattle.std.specs.List.{flat_map}
 use Rattle.std.proofs.lemmas.Grind.{flat_map-append}
 use Rattle.fx_base.specs.Writing.{Appends, AppendsPart}
-use Rattle.fx_base.specs.Acts.{Act, ListByte, BeginFile, FileByte, EndFile, File, listed, shelved, Shelves, ShelvesPart, Event, Piece, WholeFile, acts_of, acts, World, Did, Begun}
+use Rattle.fx_base.specs.Acts.{Act, ListByte, BeginFile, FileByte, EndFile, File, listed, shelved, Shelves, ShelvesPart, Event, Piece, WholeFile, acts_of, acts, World, Did, DidPart}
 
 pub listed-append : (xs ys : List Act) → listed (xs ++ ys) ≡ listed xs ++ listed ys
 listed-append [] ys = refl
@@ -89,22 +89,22 @@ did_more {a} {b} {c} {xs} {ys} p q = record {
   shelf = shelves_more a.files b.files c.files xs ys p.shelf q.shelf;
 }
 
-pub begun_whole : {a b : World} {xs : List Act} → Did a b xs → Begun a b xs
-begun_whole {a} {b} {xs} p = record { done = xs; left = []; front = append-nil xs; did = p }
+pub part_whole : {a b : World} {xs : List Act} → Did a b xs → DidPart a b xs
+part_whole {a} {b} {xs} p = record { done = xs; left = []; front = append-nil xs; did = p }
 
-pub begun_none : (w : World) (xs : List Act) → Begun w w xs
-begun_none w xs = record { done = []; left = xs; front = refl; did = did_none w }
+pub part_none : (w : World) (xs : List Act) → DidPart w w xs
+part_none w xs = record { done = []; left = xs; front = refl; did = did_none w }
 
-pub begun_more : {a b c : World} {xs ys : List Act} → Did a b xs → Begun b c ys → Begun a c (xs ++ ys)
-begun_more {a} {b} {c} {xs} {ys} p q = record {
+pub part_more : {a b c : World} {xs ys : List Act} → Did a b xs → DidPart b c ys → DidPart a c (xs ++ ys)
+part_more {a} {b} {c} {xs} {ys} p q = record {
   done = xs ++ q.done;
   left = q.left;
   front = append_assoc xs q.done q.left ∙ ap (λ (l : List Act). xs ++ l) q.front;
   did = did_more p q.did;
 }
 
-pub begun_first : {a b : World} {xs : List Act} (ys : List Act) → Begun a b xs → Begun a b (xs ++ ys)
-begun_first {a} {b} {xs} ys p = record {
+pub part_first : {a b : World} {xs : List Act} (ys : List Act) → DidPart a b xs → DidPart a b (xs ++ ys)
+part_first {a} {b} {xs} ys p = record {
   done = p.done;
   left = p.left ++ ys;
   front = sym (append_assoc p.done p.left ys) ∙ ap (λ (l : List Act). l ++ ys) p.front;
@@ -119,9 +119,9 @@ did_piece old new files bytes a = record {
   shelf = record { told = λ held e. e ∙ ap Some (sym (shelved-bytes bytes held)) };
 }
 
-pub begun_piece : (old new : Option (List ℕ)) (files : Option (List File)) (bytes : List ℕ) → AppendsPart old new bytes
-    → Begun (record { written = old; files = files }) (record { written = new; files = files }) (acts_of (Piece bytes))
-begun_piece old new files bytes a = record {
+pub part_piece : (old new : Option (List ℕ)) (files : Option (List File)) (bytes : List ℕ) → AppendsPart old new bytes
+    → DidPart (record { written = old; files = files }) (record { written = new; files = files }) (acts_of (Piece bytes))
+part_piece old new files bytes a = record {
   done = map ListByte (take a.part bytes);
   left = map ListByte (drop a.part bytes);
   front = sym (map-append ListByte (take a.part bytes) (drop a.part bytes))
@@ -163,10 +163,10 @@ did_file old new written name content a = record {
   shelf = a;
 }
 
-pub begun_file : (old new : Option (List File)) (written : Option (List ℕ)) (name content : List ℕ)
+pub part_file : (old new : Option (List File)) (written : Option (List ℕ)) (name content : List ℕ)
     → ShelvesPart old new (acts_of (WholeFile name content))
-    → Begun (record { written = written; files = old }) (record { written = written; files = new }) (acts_of (WholeFile name content))
-begun_file old new written name content a =
+    → DidPart (record { written = written; files = old }) (record { written = written; files = new }) (acts_of (WholeFile name content))
+part_file old new written name content a =
     let none : listed a.done ≡ [] = front_nil (listed a.done) (listed a.left)
     (sym (listed-append a.done a.left) ∙ ap listed a.front ∙ listed-file content) in
     record {
@@ -201,19 +201,19 @@ module _ {X : Type 0} (f : X → List Event) (xs : List X) (i : ℕ) (d : X) (th
       → Did a c (acts (flat_map f (take (i + 1) xs)))
   did_next {a} {b} {c} p q = subst (λ (l : List Act). Did a c l) (sym events_next) (did_more p q)
 
-  pub begun_next : {a b c : World} → Did a b (acts (flat_map f (take i xs))) → Begun b c (acts (f (get_or xs i d)))
-      → Begun a c (acts (flat_map f xs))
-  begun_next {a} {b} {c} p q = subst (λ (l : List Act). Begun a c l) events_split
-      (begun_first (acts (flat_map f (drop (i + 1) xs))) (subst (λ (l : List Act). Begun a c l) (sym events_next) (begun_more p q)))
+  pub part_next : {a b c : World} → Did a b (acts (flat_map f (take i xs))) → DidPart b c (acts (f (get_or xs i d)))
+      → DidPart a c (acts (flat_map f xs))
+  part_next {a} {b} {c} p q = subst (λ (l : List Act). DidPart a c l) events_split
+      (part_first (acts (flat_map f (drop (i + 1) xs))) (subst (λ (l : List Act). DidPart a c l) (sym events_next) (part_more p q)))
 
 -- the things so far
-pub begun_so_far : {X : Type 0} (f : X → List Event) (xs : List X) (i : ℕ) {a b : World}
-    → Did a b (acts (flat_map f (take i xs))) → Begun a b (acts (flat_map f xs))
-begun_so_far f xs i {a} {b} p = subst (λ (l : List Act). Begun a b l)
+pub part_so_far : {X : Type 0} (f : X → List Event) (xs : List X) (i : ℕ) {a b : World}
+    → Did a b (acts (flat_map f (take i xs))) → DidPart a b (acts (flat_map f xs))
+part_so_far f xs i {a} {b} p = subst (λ (l : List Act). DidPart a b l)
     (sym (acts-append (flat_map f (take i xs)) (flat_map f (drop i xs)))
     ∙ ap acts (sym (flat_map-append f (take i xs) (drop i xs)))
     ∙ ap (λ l. acts (flat_map f l)) (take-append-drop i xs))
-    (begun_first (acts (flat_map f (drop i xs))) (begun_whole p))
+    (part_first (acts (flat_map f (drop i xs))) (part_whole p))
 
 -- all the things
 pub did_all : {X : Type 0} (f : X → List Event) (xs : List X) (i : ℕ) {a b : World} → length xs ≤ i
@@ -224,15 +224,15 @@ did_all f xs i {a} {b} all p = subst (λ l. Did a b (acts (flat_map f l))) (take
 pub did_one : {a b : World} (e : Event) → Did a b (acts_of e) → Did a b (acts (e ∷ []))
 did_one {a} {b} e p = subst (λ (l : List Act). Did a b l) (sym (append-nil (acts_of e))) p
 
-pub begun_one : {a b : World} (e : Event) → Begun a b (acts_of e) → Begun a b (acts (e ∷ []))
-begun_one {a} {b} e p = subst (λ (l : List Act). Begun a b l) (sym (append-nil (acts_of e))) p
+pub part_one : {a b : World} (e : Event) → DidPart a b (acts_of e) → DidPart a b (acts (e ∷ []))
+part_one {a} {b} e p = subst (λ (l : List Act). DidPart a b l) (sym (append-nil (acts_of e))) p
 
 -- lists of events one after another
 pub did_then : {a b c : World} (xs ys : List Event) → Did a b (acts xs) → Did b c (acts ys) → Did a c (acts (xs ++ ys))
 did_then {a} {b} {c} xs ys p q = subst (λ (l : List Act). Did a c l) (sym (acts-append xs ys)) (did_more p q)
 
-pub begun_then : {a b c : World} (xs ys : List Event) → Did a b (acts xs) → Begun b c (acts ys) → Begun a c (acts (xs ++ ys))
-begun_then {a} {b} {c} xs ys p q = subst (λ (l : List Act). Begun a c l) (sym (acts-append xs ys)) (begun_more p q)
+pub part_then : {a b c : World} (xs ys : List Event) → Did a b (acts xs) → DidPart b c (acts ys) → DidPart a c (acts (xs ++ ys))
+part_then {a} {b} {c} xs ys p q = subst (λ (l : List Act). DidPart a c l) (sym (acts-append xs ys)) (part_more p q)
 
-pub begun_before : {a b : World} (xs ys : List Event) → Begun a b (acts xs) → Begun a b (acts (xs ++ ys))
-begun_before {a} {b} xs ys p = subst (λ (l : List Act). Begun a b l) (sym (acts-append xs ys)) (begun_first (acts ys) p)
+pub part_before : {a b : World} (xs ys : List Event) → DidPart a b (acts xs) → DidPart a b (acts (xs ++ ys))
+part_before {a} {b} xs ys p = subst (λ (l : List Act). DidPart a b l) (sym (acts-append xs ys)) (part_first (acts ys) p)

@@ -15,27 +15,27 @@ has_open-snoc (g ∷ []) f = refl
 has_open-snoc (g ∷ h ∷ files) f = has_open-snoc (h ∷ files) f
 
 -- the last file given bytes, or ended
-begun_byte : (byte : ℕ) (files : List File) → has_open (on_last (with_byte byte) files) ≡ has_open files
-begun_byte byte [] = refl
-begun_byte byte (f ∷ []) = refl
-begun_byte byte (f ∷ g ∷ []) = refl
-begun_byte byte (f ∷ g ∷ h ∷ files) = begun_byte byte (g ∷ h ∷ files)
+part_byte : (byte : ℕ) (files : List File) → has_open (on_last (with_byte byte) files) ≡ has_open files
+part_byte byte [] = refl
+part_byte byte (f ∷ []) = refl
+part_byte byte (f ∷ g ∷ []) = refl
+part_byte byte (f ∷ g ∷ h ∷ files) = part_byte byte (g ∷ h ∷ files)
 
 room_byte : (byte : ℕ) (files : List File) → has_open files ≡ true → room_of (on_last (with_byte byte) files) ≡ room_of files + 1
 room_byte byte [] begun = cc
 room_byte byte (f ∷ []) begun = let long = length-append f.content (byte ∷ []) in omega arith
 room_byte byte (f ∷ g ∷ files) begun = let rest = room_byte byte (g ∷ files) begun in omega arith
 
-pub begun_bytes : (bytes : List ℕ) (files : List File) → has_open (shelved (map FileByte bytes) files) ≡ has_open files
-begun_bytes [] files = refl
-begun_bytes (byte ∷ bytes) files = begun_bytes bytes (on_last (with_byte byte) files) ∙ begun_byte byte files
+pub part_bytes : (bytes : List ℕ) (files : List File) → has_open (shelved (map FileByte bytes) files) ≡ has_open files
+part_bytes [] files = refl
+part_bytes (byte ∷ bytes) files = part_bytes bytes (on_last (with_byte byte) files) ∙ part_byte byte files
 
 pub room_bytes : (bytes : List ℕ) (files : List File) → has_open files ≡ true
     → room_of (shelved (map FileByte bytes) files) ≡ room_of files + length bytes
 room_bytes [] files begun = omega arith
 room_bytes (byte ∷ bytes) files begun =
     let one = room_byte byte files begun in
-    let rest = room_bytes bytes (on_last (with_byte byte) files) (begun_byte byte files ∙ begun) in
+    let rest = room_bytes bytes (on_last (with_byte byte) files) (part_byte byte files ∙ begun) in
     omega arith
 
 pub open_ended : (files : List File) → has_open (on_last as_ended files) ≡ false

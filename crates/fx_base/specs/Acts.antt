@@ -82,7 +82,7 @@ pub record Did (old new : World) (done : List Act) : Type 0 where
   pub shelf : Shelves old.files new.files done
 
 -- a front part of these acts was done, and nothing else
-pub record Begun (old new : World) (all : List Act) : Type 0 where
+pub record DidPart (old new : World) (all : List Act) : Type 0 where
   pub done : List Act
   pub left : List Act
   pub front : done ++ left ≡ all

@@ -1,5 +1,5 @@
 ghost use Rattle.std.specs.Prelude.{◌≡◌, ◌++◌, ℕ, List, Some};
-ghost use Rattle.fx_base.specs.Acts.{File, Event, World, Did, Begun, Stands, acts, pieces, files_of};
+ghost use Rattle.fx_base.specs.Acts.{File, Event, World, Did, DidPart, Stands, acts, pieces, files_of};
 
 /// All acts of events append their pieces to the listing, and their files to the shelf.
 pub fn all_acts_in_words()
@@ -15,6 +15,6 @@ pub fn front_part_in_words()
     ensures { (events : List Event) (text : List ℕ) (files : List File) (old now : World)
         → old.written ≡ Some text
         → old.files ≡ Some files
-        → Begun old now (acts events)
+        → DidPart old now (acts events)
         → Stands events text files now }
 {}

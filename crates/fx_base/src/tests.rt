@@ -77,6 +77,10 @@ fn a_fault_is_handed_on(rt: HostRuntime) -> Result<(), Fail> {
     let mut source = MemorySource::new(list(rt.alloc(), b"abcde")?, 2, list(rt.alloc(), &[2])?);
     let read = read_all(rt.alloc(), &mut source, 9);
     assert!(rt; matches!(read, Err(ReadStop::ReadFault)));
+    // The next bytes are still there: no call followed the failed one.
+    let mut buffer = [0; 4];
+    assert_eq!(rt; source.read(&mut buffer).ok(), Some(2));
+    assert_eq!(rt; buffer.as_slice(), b"cd\0\0".as_slice());
     Ok(())
 }
 
@@ -138,7 +142,7 @@ fn errors_are_told_in_words(rt: HostRuntime) -> Result<(), Fail> {
     )?;
     assert_eq!(rt;
         text.as_str(),
-        "a call on an object outside failed; memory ran out; memory ran out; reading failed"
+        "a call on an object outside the program failed; memory ran out; memory ran out; reading failed"
     );
     Ok(())
 }

@@ -10,6 +10,7 @@ use Rattle.fx_designs.specs.Vectors.{dot, plus, scale, zeros, combination, IsVec
 use Rattle.fx_designs.specs.Runs.{points, levels_at, runs_of, block}
 use Rattle.fx_laws.specs.Facts.{IsConstantInBlocks, IsBalancedInBlocks}
 use Rattle.fx_laws.specs.Spans.{InSpan, Separates}
+use Rattle.fx_laws.proofs.Codes.{number-zeros}
 use Rattle.fx_laws.proofs.Linear.{zero-add-code, dot_code, dot_comm, dot-plus, dot-scale, dot-zeros, dot-levels, levels-plus, levels-scale, levels-zeros}
 use Rattle.fx_laws.proofs.Codes.{digits-number}
 use Rattle.fx_laws.proofs.Sums.{sum_by_map, sum_by-ext}
@@ -67,10 +68,6 @@ tested q f x y z hx hy hz =
 pub plus-none : (q : ℕ) (f : IsField q) (n c : ℕ) (v : List ℕ) → IsVector q n v → plus q v (scale q c (zeros n)) ≡ v
 plus-none q f n c v h = ext q n f _ v (plus-vector q n f v (scale q c (zeros n)) h (scale-vector q n f c (zeros n) (zeros-vector q n f))) h
     (λ p. dot-plus q f v (scale q c (zeros n)) p ∙ (rw (dot-scale q f c (zeros n) p, dot-zeros q f n p, f.mul_zero c) (f.add_zero (dot q v p) (dot_code q f v p))))
-
-number-zeros : (q n : ℕ) → number q (zeros n) ≡ 0
-number-zeros q zero = refl
-number-zeros q (suc n) = rw (number-zeros q n) (omega arith)
 
 pub levels-vector : (q : ℕ) (f : IsField q) (rows : List (List ℕ)) (p : List ℕ) → IsVector q (length rows) (levels_at q rows p)
 levels-vector q f [] p = record { len = refl; codes = tt }

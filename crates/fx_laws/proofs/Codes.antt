@@ -10,7 +10,7 @@ use Rattle.std.proofs.lemmas.List.Sums.{sum_by-cons}
 use Rattle.std.proofs.lemmas.Nat.{div-add-mod'}
 use Rattle.std.proofs.lemmas.Bool.Decides.{nat_tests}
 use Rattle.fx_designs.specs.Galois.{digits, number, codes_of}
-use Rattle.fx_designs.specs.Vectors.{IsVector, weight}
+use Rattle.fx_designs.specs.Vectors.{IsVector, weight, zeros}
 use Rattle.fx_designs.specs.Runs.{points}
 use Rattle.fx_laws.specs.Facts.{point_of}
 
@@ -19,6 +19,10 @@ digits-vector q zero k some = record { len = refl; codes = tt }
 digits-vector q (suc n) k some =
     let rest : IsVector q n (digits q n (k / q)) = digits-vector q n (k / q) some in
     record { len = (let e = rest.len in omega arith); codes = (mod-lt k some, rest.codes) }
+
+pub number-zeros : (q n : ℕ) → number q (zeros n) ≡ 0
+number-zeros q zero = refl
+number-zeros q (suc n) = rw (number-zeros q n) (omega arith)
 
 pub number-below : (q n : ℕ) (v : List ℕ) → IsVector q n v → number q v < q ^ n
 number-below q zero [] v = rw (pow-zero q) (omega arith)

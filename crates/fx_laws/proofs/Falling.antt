@@ -1,4 +1,4 @@
--- Under Resolution the rows can be put in falling order.
+-- Under a resolution the rows can be put in falling order.
 use Rattle.std.proofs.Common.{ℕ, ◌≡◌, ◌<◌, ◌≤◌, ◌+◌, ◌-◌, min, zero, suc, true, cond, List, [], ◌∷◌, ◌++◌, map, length, append_assoc, length-append, zero-add, refl, sym, subst, ◌∙◌, ap, ap₂, arith, inl, inr, ◌⊎◌}
 use Rattle.std.specs.Prelude.{nat_lt}
 use Rattle.std.specs.List.{AllByRecursion}

@@ -78,7 +78,7 @@ module _ (q m : ℕ) (f : IsField q) where
   each-weaker P Q [] h hx hp = tt
   each-weaker P Q (x ∷ xs) h hx hp = (h x hx.0 hp.0, each-weaker P Q xs h hx.1 hp.1)
 
-  -- law 1
+  -- a change of the run indexes keeps what is allowed
   pub change_follows : (Forbidden : List ℕ → List ℕ → Type 0) (a : List ℕ → List ℕ) → IsChange q m a → (xs ys : List (List ℕ)) → AreVectors q m xs → AreVectors q m ys → Follows q m Forbidden xs ys (map a xs) (map a ys)
   change_follows Forbidden a h xs ys hx hy = record {
     factors = length-map xs a;
@@ -130,7 +130,8 @@ module _ (q m : ℕ) (f : IsField q) where
   pub follows-same : (Forbidden : List ℕ → List ℕ → Type 0) (xs ys : List (List ℕ)) → AreVectors q m xs → AreVectors q m ys → Follows q m Forbidden xs ys xs ys
   follows-same Forbidden xs ys hx hy = record { factors = refl; blocks = refl; factor_vectors = hx; block_vectors = hy; allowed = λ a. a; fewer = λ k. omega arith }
 
-  -- law 4: w, which is 1 where the factor rows are 0, is added to a dependent factor row; the block rows are 0 there, or w is spanned by them
+  -- so does adding w, which is 1 at a point where the factor rows are 0, to a dependent factor row, where the block rows
+  -- are 0 at the point or span w
   pub raise_follows : (Forbidden : List ℕ → List ℕ → Type 0) (w p : List ℕ) (xs zs ys : List (List ℕ)) → IsVector q m w → dot q w p ≡ 1 → ZeroAt q m f p xs → AreVectors q m xs → AreVectors q m ys → RaisesAt q m w [] xs zs
       → ZeroAt q m f p ys ⊎ (InSpan q m ys w × IsBlind q (length xs) (length ys) Forbidden) → Follows q m Forbidden xs ys zs ys
   raise_follows Forbidden w p xs zs ys hw one zx hx hy at case =

@@ -21,14 +21,14 @@ use Rattle.fx_laws.proofs.Ranks.{append-each, spans-none, spans-old, spans-new, 
 false-true : {A : Type 0} (b : Bool) → b ≡ true → b ≡ false → A
 false-true b e e' = absurd (cc)
 
-inv-positive : (q : ℕ) (f : IsField q) (a : ℕ) → 0 < a → a < q → 0 < inv q a
+pub inv-positive : (q : ℕ) (f : IsField q) (a : ℕ) → 0 < a → a < q → 0 < inv q a
 inv-positive q f a some h =
     elim (cases_eq (inv q a) 0) [
       | inl e ↦ absurd (let bad : 1 ≡ 0 = sym (f.mul_inv a some h) ∙ ap (mul q a) e ∙ f.mul_zero a in omega arith)
       | inr ne ↦ omega arith
     ]
 
-last-code : (q : ℕ) (f : IsField q) (r : List ℕ) → AllByRecursion (λ a. a < q) r → last_nonzero r < q
+pub last-code : (q : ℕ) (f : IsField q) (r : List ℕ) → AllByRecursion (λ a. a < q) r → last_nonzero r < q
 last-code q f [] h = omega (arith, f.more_than_one)
 last-code q f (a ∷ r) h =
     elim (cases_eq (last_nonzero r) 0) [

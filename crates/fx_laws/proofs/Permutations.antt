@@ -34,7 +34,7 @@ pub by_neighbours : {X : Type 0} (xs ys : List X) → IsPermutation xs ys → (k
 by_neighbours xs ys h = IsPermutation-keeps xs (λ l. (ks : List ℕ) × (reordered ks xs ≡ l)) ([], refl)
     (λ l i j hi hj at. (let r = swapped_by l i j hi hj in (at.0 ++ r.0, reordered-append at.0 r.0 xs ∙ ap (reordered r.0) at.1 ∙ r.1))) ys h
 
--- law 3 in std's words
+-- and so does each other order of the factors, in std's words
 pub permutation_follows : (q m : ℕ) (f : IsField q) (Forbidden : List ℕ → List ℕ → Type 0) (xs zs ys : List (List ℕ)) → IsReorderable q Forbidden → AreVectors q m xs → AreVectors q m ys → IsPermutation xs zs → Follows q m Forbidden xs ys zs ys
 permutation_follows q m f Forbidden xs zs ys free hx hy h =
     let r = by_neighbours xs zs h in

@@ -4,7 +4,7 @@ use Rattle.std.specs.List.{AllByRecursion}
 use Rattle.std.proofs.lemmas.Bool.{cases_lt, cases_Bool, lt-ltb, le-ltb}
 use Rattle.std.proofs.Math.Nat.{pow-zero, pow-succ', mul-le-mul_left, one-le-pow, lt_of_mul-lt-mul_left}
 use Rattle.fx_designs.specs.Galois.{IsField, number, digits}
-use Rattle.fx_laws.proofs.Raises.{number-zeros}
+use Rattle.fx_laws.proofs.Codes.{number-zeros}
 use Rattle.fx_laws.proofs.Changes.{unit-vector}
 use Rattle.fx_laws.proofs.Codes.{digits-number}
 use Rattle.fx_designs.specs.Vectors.{zeros, IsVector}

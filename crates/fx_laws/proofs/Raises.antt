@@ -10,6 +10,7 @@ use Rattle.fx_designs.specs.Runs.{levels_at, points}
 use Rattle.fx_laws.specs.Spans.{InSpan}
 use Rattle.fx_designs.specs.Spans.{in_span, rank_after}
 use Rattle.fx_laws.specs.Raises.{RaisesAt, RaisedBy, IsAllowed, words, IsBlind}
+use Rattle.fx_laws.proofs.Codes.{number-zeros}
 use Rattle.fx_laws.proofs.Linear.{zero-mul, zero-add-code, dot_code, dot-plus, dot-scale, dot-zeros, dot-levels}
 use Rattle.fx_laws.proofs.Space.{ext, zeros-vector, plus-vector, scale-vector, combination-vector, AreVectors}
 use Rattle.fx_laws.proofs.Shift.{all-points}
@@ -220,10 +221,6 @@ sum_by-le g h (x ∷ xs) all =
 pub sum_by-each : {X : Type 0} (g h : X → ℕ) (xs : List X) → AllByRecursion (λ x. g x ≡ h x) xs → sum_by g xs ≡ sum_by h xs
 sum_by-each g h [] all = refl
 sum_by-each g h (x ∷ xs) all = rw (sum_by-cons g x xs, sum_by-cons h x xs, all.0, sum_by-each g h xs all.1) refl
-
-pub number-zeros : (q n : ℕ) → number q (zeros n) ≡ 0
-number-zeros q zero = refl
-number-zeros q (suc n) = rw (number-zeros q n) (omega arith)
 
 implied : (a b c : Bool) → (a ≡ true → b ≡ true) → cond (a && c) 1 0 ≤ cond (b && c) 1 0
 implied true b c h = (let e = h refl in rw e (omega arith))

@@ -1,4 +1,4 @@
--- Law 4 in the words of spans.
+-- A vector added to a dependent factor row, in the words of spans.
 use Rattle.std.proofs.Common.{ℕ, ◌≡◌, ◌≤◌, ◌+◌, List, [], ◌∷◌, length, sym, ◌∙◌, ap, inl, inr, ◌⊎◌}
 use Rattle.std.specs.List.{AllByRecursion}
 use Rattle.fx_designs.specs.Galois.{IsField}

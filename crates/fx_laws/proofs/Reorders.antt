@@ -100,7 +100,7 @@ module _ (q m : ℕ) (f : IsField q) where
       (λ u hu. ap (λ v. test v u) (swapped-combination k u rows hu.len) ∙ ap (λ x. cond (eqb (number q (combination q m (swapped k u) rows)) 0 && eqb x n) 1 0) (sym (swapped-weight k u)))))
       ∙ points-swapped k s (λ u. test (combination q m u rows) u))
 
-  -- law 3
+  -- a swap of neighbouring factors keeps what is allowed
   pub swap_follows : (Forbidden : List ℕ → List ℕ → Type 0) (k : ℕ) (xs ys : List (List ℕ)) → IsReorderable q Forbidden → AreVectors q m xs → AreVectors q m ys → Follows q m Forbidden xs ys (swapped k xs) ys
   swap_follows Forbidden k xs ys closed hx hy = record {
     factors = length-swapped k xs;

@@ -1,4 +1,4 @@
--- For every matrix that meets the demands there is a canonical one that meets them.
+-- For rows that are allowed there are canonical ones that are allowed, with no more words.
 use Rattle.std.proofs.Common.{ℕ, ◌≡◌, ◌≤◌, ◌+◌, min, List, [], ◌∷◌, ◌++◌, map, length, refl, sym, subst, ◌∙◌, ap, arith, ◌⊎◌}
 use Rattle.std.specs.List.{AllByRecursion}
 use Rattle.std.proofs.lemmas.List.{length-map, map-append}
@@ -18,7 +18,7 @@ use Rattle.fx_laws.proofs.Follows.{Follows, follows-trans, formed-append, change
 use Rattle.fx_laws.proofs.Forms.{normal_factor, factors-scalars, formed-scaled, each_normal, formed-canonical}
 
 module _ (q m : ℕ) (f : IsField q) where
-  -- law 2
+  -- nonzero multiples of rows keep what is allowed
   pub scale_follows : (Forbidden : List ℕ → List ℕ → Type 0) (cs ds : List ℕ) (xs ys : List (List ℕ)) → IsScalable q (length xs) (length ys) Forbidden → AreScalars q cs → AreScalars q ds → length cs ≡ length xs → length ds ≡ length ys
       → AreVectors q m xs → AreVectors q m ys → Follows q m Forbidden xs ys (scaled q cs xs) (scaled q ds ys)
   scale_follows Forbidden cs ds xs ys closed hc hd e e' hx hy = record {

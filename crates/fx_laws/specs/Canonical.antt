@@ -17,7 +17,7 @@ pub record IsCanonical (q m s : ℕ) (rows : List (List ℕ)) : Type 0 where
   pub old_is_normal : (k : ℕ) → k < length rows → in_span q m (take k rows) (row rows k) ≡ true → (row rows k ≡ zeros m) ⊎ IsNormal (row rows k)
   pub reach : (k : ℕ) → k ≤ s → k ≤ length rows → min s m ≤ rank_of q m (take k rows) + (s - k)
 
--- under Resolution the first rows are the unit vectors, and the later ones are not 0, no unit vectors, and fall
+-- under a resolution the first rows are the unit vectors, and the later ones are not 0, no unit vectors, and fall
 pub record IsFalling (q m s : ℕ) (rows : List (List ℕ)) : Type 0 where
   pub units : (k : ℕ) → k < min s m → k < length rows → row rows k ≡ unit m k
   pub no_zero : (k : ℕ) → min s m ≤ k → k < min s (length rows) → row rows k ≡ zeros m → ⊥

@@ -8,13 +8,13 @@ use Rattle.fx_lexer.specs.Bytes.{is_digit}
 use Rattle.fx_lexer.specs.Extents.{starts_with_byte, closing_len, ends_comment, remark_len, fraction_len, quoted_len}
 use Rattle.fx_lexer.specs.Pieces.{begins_with, begins_fraction, Closes, EndsQuoted, doubled}
 
-pub test : (b : Bool) → (b ≡ true) ⊎ (b ≡ false)
-test true = inl refl
-test false = inr refl
+pub cases_Bool : (b : Bool) → (b ≡ true) ⊎ (b ≡ false)
+cases_Bool true = inl refl
+cases_Bool false = inr refl
 
-pub both : (a b : Bool) → (a && b) ≡ true → (a ≡ true) × (b ≡ true)
-both true b e = (refl, e)
-both false b e = absurd (cc e)
+pub and_parts : (a b : Bool) → (a && b) ≡ true → (a ≡ true) × (b ≡ true)
+and_parts true b e = (refl, e)
+and_parts false b e = absurd (cc e)
 
 -- the first byte, where it is known
 pub first_byte : (c : ℕ) (bytes : List ℕ) → starts_with_byte c bytes ≡ true → (rest : List ℕ) × (bytes ≡ c ∷ rest)
@@ -33,7 +33,7 @@ pub record Split (sort : ℕ → Bool) (bytes : List ℕ) : Type 0 where
 pub split : (sort : ℕ → Bool) (bytes : List ℕ) → Split sort bytes
 split sort [] = record { front = []; rest = []; joined = refl; long = refl; all = refl; ended = refl }
 split sort (b ∷ bytes) =
-    elim (test (sort b)) [
+    elim (cases_Bool (sort b)) [
       | inl passes ↦
           let r = split sort bytes in
           record {
@@ -93,9 +93,9 @@ closing_further b bytes (Some n) e h =
 pub closing_is : (bytes : List ℕ) → ClosingIs bytes (closing_len bytes)
 closing_is [] = closes_nil
 closing_is (b ∷ bytes) =
-    elim (test (ends_comment (b ∷ bytes))) [
+    elim (cases_Bool (ends_comment (b ∷ bytes))) [
       | inl passes ↦
-          let is = both (b == 42) (starts_with_byte 47 bytes) passes in
+          let is = and_parts (b == 42) (starts_with_byte 47 bytes) passes in
           let tail = first_byte 47 bytes is.1 in
           rw passes (record {
             inside = [];
@@ -148,7 +148,7 @@ contains_nil c h = omega (arith, h.1)
 pub remark_is : (bytes : List ℕ) → RemarkIs bytes (remark_len bytes)
 remark_is [] = contains_nil 59
 remark_is (b ∷ bytes) =
-    elim (test (b == 59)) [
+    elim (cases_Bool (b == 59)) [
       | inl is ↦
           rw is (record {
             inside = [];
@@ -186,7 +186,7 @@ pair_further q bytes None later = λ h. at_front h.0 h.1 h.2 h.3
         let f : starts_with_byte q rest ≡ (q == q) = ap (starts_with_byte q) k in
         cc (itself q, f, e)
     at_front (x ∷ value) rest j e =
-        elim (test (x == q)) [
+        elim (cases_Bool (x == q)) [
           | inl is ↦ later (value, rest, cc (rw is at j), e)
           | inr other ↦ let k = rw other at j in cc (other, eq-eqb x q (cc k))
         ]
@@ -206,7 +206,7 @@ single_further q b bytes None differs later = λ h. at_front h.0 h.1 h.2 h.3
     at_front : (value rest : List ℕ) → b ∷ bytes ≡ doubled q value ++ q ∷ rest → starts_with_byte q rest ≡ false → ⊥
     at_front [] rest j e = cc (differs, eq-eqb b q (cc j))
     at_front (x ∷ value) rest j e =
-        elim (test (x == q)) [
+        elim (cases_Bool (x == q)) [
           | inl is ↦ let k = rw is at j in cc (differs, eq-eqb b q (cc k))
           | inr other ↦ later (value, rest, cc (rw other at j), e)
         ]
@@ -228,13 +228,13 @@ quoted_from q false [] = λ h. nothing h.0 h.1 h.2
   where
     nothing : (value rest : List ℕ) → [] ≡ doubled q value ++ q ∷ rest → ⊥
     nothing [] rest j = cc j
-    nothing (x ∷ value) rest j = elim (test (x == q)) [ inl is ↦ cc (rw is at j) | inr other ↦ cc (rw other at j) ]
+    nothing (x ∷ value) rest j = elim (cases_Bool (x == q)) [ inl is ↦ cc (rw is at j) | inr other ↦ cc (rw other at j) ]
 quoted_from q true [] = λ e. absurd (cc e)
 quoted_from q true (b ∷ bytes) = λ e. rw (eqb-true b q e) (pair_further q bytes (quoted_len q false bytes) (quoted_from q false bytes))
 quoted_from q false (b ∷ bytes) =
-    elim (test (b == q)) [
+    elim (cases_Bool (b == q)) [
       | inl is ↦
-          elim (test (starts_with_byte q bytes)) [
+          elim (cases_Bool (starts_with_byte q bytes)) [
             | inl again ↦ rw (is, again, eqb-true b q is) (quoted_from q true bytes again)
             | inr alone ↦
                 rw (is, alone) (record {
@@ -264,14 +264,14 @@ pub record Fraction (bytes : List ℕ) : Type 0 where
 none_passes : (sort : ℕ → Bool) (bytes : List ℕ) → nat_lt 0 (prefix_len sort bytes) ≡ false
     → begins_with sort bytes ≡ false
 none_passes sort [] e = refl
-none_passes sort (b ∷ bytes) e = elim (test (sort b)) [ inl passes ↦ absurd (let k = rw passes at e in let l = ltb-false 0 (1 + prefix_len sort bytes) k in omega arith) | inr fails ↦ fails ]
+none_passes sort (b ∷ bytes) e = elim (cases_Bool (sort b)) [ inl passes ↦ absurd (let k = rw passes at e in let l = ltb-false 0 (1 + prefix_len sort bytes) k in omega arith) | inr fails ↦ fails ]
 
 pub fraction_is : (bytes : List ℕ) → Fraction bytes ⊎ ((fraction_len bytes ≡ 0) × (begins_fraction bytes ≡ false))
 fraction_is [] = inr (refl, refl)
 fraction_is (b ∷ bytes) =
-    elim (test (b == 46)) [
+    elim (cases_Bool (b == 46)) [
       | inl point ↦
-          elim (test (nat_lt 0 (prefix_len is_digit bytes))) [
+          elim (cases_Bool (nat_lt 0 (prefix_len is_digit bytes))) [
             | inl digit ↦
                 let r = split is_digit bytes in
                 let positive = ltb-true 0 (prefix_len is_digit bytes) digit in

@@ -14,11 +14,11 @@ use Rattle.fx_lexer.specs.Extents.{begins_comment, begins_remark, starts_with_by
 use Rattle.fx_lexer.specs.Items.{item, token, gap, comment_if_closed, quoted_if_closed, limited, number, begins_number}
 use Rattle.fx_lexer.specs.Pieces.{Piece, white, comment, remark, word, whole, decimal, quoted, sign, begins_with, begins_fraction, doubled, spelling, kind_of, HasForm, IsShort, Closes, EndsQuoted}
 use Rattle.fx_lexer.specs.Flaws.{begins_item, Flaw, open_comment, open_remark, open_quoted, stray, long_piece, flaw_text, fault_kind, IsFlaw}
-use Rattle.fx_lexer.proofs.Ends.{test, both, first_byte, ends_same, ClosingIs, closing_is, RemarkIs, remark_is, QuotedIs, quoted_is}
+use Rattle.fx_lexer.proofs.Ends.{cases_Bool, and_parts, first_byte, ends_same, ClosingIs, closing_is, RemarkIs, remark_is, QuotedIs, quoted_is}
 
 -- a sort of bytes that c isn't of
 pub differs : (sort : ℕ → Bool) (b c : ℕ) → sort b ≡ true → sort c ≡ false → (b == c) ≡ false
-differs sort b c is other = elim (test (b == c)) [ inl e ↦ (let k = ap sort (eqb-true b c e) in cc) | inr e ↦ e ]
+differs sort b c is other = elim (cases_Bool (b == c)) [ inl e ↦ (let k = ap sort (eqb-true b c e) in cc) | inr e ↦ e ]
 
 either_of : (x y : Bool) → (x || y) ≡ true → (x ≡ true) ⊎ (y ≡ true)
 either_of true y e = inl refl
@@ -90,13 +90,13 @@ prefix_all : (sort : ℕ → Bool) (front rest : List ℕ) → list_all sort fro
 prefix_all sort [] [] all ended = refl
 prefix_all sort [] (b ∷ rest) all ended = rw ended refl
 prefix_all sort (x ∷ front) rest all ended =
-    let is = both (sort x) (list_all sort front) all in
+    let is = and_parts (sort x) (list_all sort front) all in
     rw is.0 (omega (arith, prefix_all sort front rest is.1 ended))
 
 no_fraction : (bytes : List ℕ) → begins_fraction bytes ≡ false → fraction_len bytes ≡ 0
 no_fraction [] e = refl
 no_fraction (b ∷ bytes) e =
-    elim (test (b == 46)) [
+    elim (cases_Bool (b == 46)) [
       | inl point ↦ (let f = rw point at e in let none : prefix_len is_digit bytes ≡ 0 = prefix_all is_digit [] bytes refl f in rw (point, none) refl)
       | inr other ↦ rw other refl
     ]
@@ -107,7 +107,7 @@ a_fraction digits rest some all ended = rw (prefix_all is_digit digits rest all 
 
 digit_no_word : (b : ℕ) → is_digit b ≡ true → begins_word b ≡ false
 digit_no_word b is =
-    let most = leb-true b 57 (both (nat_le 48 b) (nat_le b 57) is).1 in
+    let most = leb-true b 57 (and_parts (nat_le 48 b) (nat_le b 57) is).1 in
     rw (lt-leb 65 b (omega (arith, most)), lt-leb 97 b (omega (arith, most)), differs is_digit b 95 is refl) refl
 
 -- a digit or a point
@@ -152,10 +152,10 @@ length_closing : (inside rest : List ℕ) → ¬ Closes (inside ++ 42 ∷ [])
     → closing_len (inside ++ 42 ∷ 47 ∷ rest) ≡ Some (length inside + 2)
 length_closing [] rest first = refl
 length_closing (x ∷ inside) rest first =
-    elim (test (ends_comment (x ∷ (inside ++ 42 ∷ 47 ∷ rest)))) [
+    elim (cases_Bool (ends_comment (x ∷ (inside ++ 42 ∷ 47 ∷ rest)))) [
       | inl ends ↦
           let ends' = sym (ends_same x inside (47 ∷ rest)) ∙ ends in
-          let is = both (x == 42) (starts_with_byte 47 (inside ++ 42 ∷ [])) ends' in
+          let is = and_parts (x == 42) (starts_with_byte 47 (inside ++ 42 ∷ [])) ends' in
           let tail = first_byte 47 (inside ++ 42 ∷ []) is.1 in
           absurd (first ([], tail.0, ap₂ (λ a l. a ∷ l) (eqb-true x 42 is.0) tail.1))
       | inr goes_on ↦
@@ -168,7 +168,7 @@ length_remark : (inside rest : List ℕ) → ¬ Contains inside 59
     → remark_len (inside ++ 59 ∷ rest) ≡ Some (length inside + 1)
 length_remark [] rest first = refl
 length_remark (x ∷ inside) rest first =
-    elim (test (x == 59)) [
+    elim (cases_Bool (x == 59)) [
       | inl is ↦ absurd (first (0, omega arith, eqb-true x 59 is))
       | inr other ↦
           let inner : ¬ Contains inside 59 = λ h. first (suc h.0, omega (arith, h.1), h.2) in
@@ -180,7 +180,7 @@ length_quoted : (q : ℕ) (value rest : List ℕ) → starts_with_byte q rest �
     → quoted_len q false (doubled q value ++ q ∷ rest) ≡ Some (length (doubled q value) + 1)
 length_quoted q [] rest ended = rw (eq-eqb q q refl, ended) refl
 length_quoted q (x ∷ value) rest ended =
-    elim (test (x == q)) [
+    elim (cases_Bool (x == q)) [
       | inl is ↦
           let more : suc (suc (length (doubled q value) + 1)) ≡ suc (suc (length (doubled q value))) + 1 = omega arith in
           rw (is, eq-eqb q q refl, length_quoted q value rest ended) (ap (λ n. Some n) more)
@@ -216,7 +216,7 @@ none_of : (list : List ℕ) (b : ℕ) (p : ℕ → Bool) → list_any (λ c. c =
     → list_all (λ c. not (p c)) list ≡ true → p b ≡ false
 none_of [] b p found none = absurd (cc found)
 none_of (c ∷ list) b p found none =
-    let is = both (not (p c)) (list_all (λ c. not (p c)) list) none in
+    let is = and_parts (not (p c)) (list_all (λ c. not (p c)) list) none in
     elim (either_of (c == b) (list_any (λ c. c == b) list) found) [
       | inl here ↦ (let e = ap p (eqb-true c b here) in let f = negated (p c) is.0 in cc)
       | inr later ↦ none_of list b p later is.1
@@ -263,7 +263,7 @@ module _ (start : Bool) (b : ℕ) (bytes : List ℕ) where
 
   -- a byte of a sort isn't one that isn't of it
   sort_other : (sort : ℕ → Bool) (c : ℕ) → sort b ≡ false → sort c ≡ true → (b == c) ≡ false
-  sort_other sort c other is = elim (test (b == c)) [ inl e ↦ (let k = ap sort (eqb-true b c e) in cc) | inr e ↦ e ]
+  sort_other sort c other is = elim (cases_Bool (b == c)) [ inl e ↦ (let k = ap sort (eqb-true b c e) in cc) | inr e ↦ e ]
 
   neither_is : (x y : Bool) → (x || y) ≡ false → (x ≡ false) × (y ≡ false)
   neither_is true y e = absurd (cc e)
@@ -299,7 +299,7 @@ long_is : (k : Kind) (n limit fault : ℕ) → ¬ (n ≤ limit) → limited k n 
 long_is k n limit fault h = rw (lt-leb n limit (omega (arith, h))) refl
 
 not_zero : (n : ℕ) → 0 < n → (n == 0) ≡ false
-not_zero n some = elim (test (n == 0)) [ inl e ↦ absurd (let z = eqb-true n 0 e in omega arith) | inr e ↦ e ]
+not_zero n some = elim (cases_Bool (n == 0)) [ inl e ↦ absurd (let z = eqb-true n 0 e in omega arith) | inr e ↦ e ]
 
 module _ (start : Bool) (b : ℕ) (bytes : List ℕ) where
   pub digit_first : (digits rest : List ℕ) → 0 < length digits → b ∷ bytes ≡ digits ++ rest
@@ -308,7 +308,7 @@ module _ (start : Bool) (b : ℕ) (bytes : List ℕ) where
   digit_first [] rest some joined all = absurd (omega (arith, some))
   digit_first (x ∷ digits) rest some joined all =
       let same : b ≡ x = cc joined in
-      let is : is_digit b ≡ true = ap is_digit same ∙ (both (is_digit x) (list_all is_digit digits) all).0 in
+      let is : is_digit b ≡ true = ap is_digit same ∙ (and_parts (is_digit x) (list_all is_digit digits) all).0 in
       rw is refl
 
   pub point_or_digit : (digits fraction : List ℕ) → b ∷ bytes ≡ digits ++ 46 ∷ fraction

@@ -7,9 +7,9 @@ use Rattle.std.proofs.lemmas.List.{reverse-append, length-take, length-reverse}
 use Rattle.std.proofs.lemmas.List.Sums.{count_by_more_yes, count_by_more_no, count_by-le-length, prefix_len-le-length}
 use Rattle.fx_lexer.specs.Places.{line_after, column_after, place_after, next_place}
 
-test : (b : Bool) → (b ≡ true) ⊎ (b ≡ false)
-test true = inl refl
-test false = inr refl
+cases_Bool : (b : Bool) → (b ≡ true) ⊎ (b ≡ false)
+cases_Bool true = inl refl
+cases_Bool false = inr refl
 
 column_by : (b : Bool) (n : ℕ) → 1 + cond (not b) (1 + n) 0 ≡ cond b 1 (1 + n + 1)
 column_by true n = refl
@@ -19,7 +19,7 @@ module _ (text : List ℕ) (i : ℕ) where
   pub line_next : i < length text
       → line_after (take (i + 1) text) ≡ line_after (take i text) + cond (get_or text i 0 == 10) 1 0
   line_next h =
-      elim (test (get_or text i 0 == 10)) [
+      elim (cases_Bool (get_or text i 0 == 10)) [
         | inl e ↦ rw e (let more = count_by_more_yes (λ b. b == 10) text i 0 h e in omega arith)
         | inr e ↦ rw e (let more = count_by_more_no (λ b. b == 10) text i 0 h e in omega arith)
       ]

@@ -14,7 +14,7 @@ use Rattle.fx_lexer.specs.Items.{item, token, gap, comment_if_closed, quoted_if_
 use Rattle.fx_lexer.specs.Lexing.{starts_after}
 use Rattle.fx_lexer.specs.Pieces.{Piece, white, comment, remark, word, whole, decimal, quoted, sign, begins_with, begins_fraction, doubled, spelling, kind_of, starts_behind, HasForm, IsShort}
 use Rattle.fx_lexer.specs.Flaws.{Flaw, open_comment, open_remark, open_quoted, stray, long_piece, flaw_text, fault_kind, IsFlaw}
-use Rattle.fx_lexer.proofs.Ends.{test, both, first_byte, split, ClosingIs, closing_is, RemarkIs, remark_is, QuotedIs, quoted_is, Fraction, fraction_is}
+use Rattle.fx_lexer.proofs.Ends.{cases_Bool, and_parts, first_byte, split, ClosingIs, closing_is, RemarkIs, remark_is, QuotedIs, quoted_is, Fraction, fraction_is}
 
 -- the item is this piece
 pub record IsPiece (start : Bool) (b : ℕ) (bytes : List ℕ) (it : Item) : Type 0 where
@@ -45,7 +45,7 @@ choose P false x y f g = g refl
 
 -- a sort of bytes that `;` isn't of
 no_semicolon : (sort : ℕ → Bool) (b : ℕ) → sort b ≡ true → sort 59 ≡ false → (b == 59) ≡ false
-no_semicolon sort b is other = elim (test (b == 59)) [ inl e ↦ (let k = ap sort (eqb-true b 59 e) in cc) | inr e ↦ e ]
+no_semicolon sort b is other = elim (cases_Bool (b == 59)) [ inl e ↦ (let k = ap sort (eqb-true b 59 e) in cc) | inr e ↦ e ]
 
 module _ (start : Bool) (b : ℕ) (bytes : List ℕ) where
   white_is : IsTrue (is_white b) → ItemIs start b bytes (gap 1)
@@ -69,7 +69,7 @@ module _ (start : Bool) (b : ℕ) (bytes : List ℕ) where
   comment_found : IsTrue (begins_comment (b ∷ bytes))
       → ItemIs start b bytes (comment_if_closed (option_map (λ n. 2 + n) (closing_len (drop 1 bytes))))
   comment_found h =
-      let is = both (b == 47) (starts_with_byte 42 bytes) h in
+      let is = and_parts (b == 47) (starts_with_byte 42 bytes) h in
       let tail = first_byte 42 bytes is.1 in
       at_front b bytes tail.0 (eqb-true b 47 is.0) tail.1
     where
@@ -80,7 +80,7 @@ module _ (start : Bool) (b : ℕ) (bytes : List ℕ) where
   remark_found : IsTrue (begins_remark start (b ∷ bytes))
       → ItemIs start b bytes (comment_if_closed (remark_len (b ∷ bytes)))
   remark_found h =
-      let is = both start (b == 42) h in
+      let is = and_parts start (b == 42) h in
       rw (eqb-true b 42 is.1) (by (remark_len bytes) (remark_is bytes) is.0)
     where
       by : (r : Option ℕ) → RemarkIs bytes r → IsTrue start
@@ -145,7 +145,7 @@ module _ (start : Bool) (b : ℕ) (bytes : List ℕ) where
   all_first sort [] rest joined some all = absurd (omega (arith, some))
   all_first sort (x ∷ front) rest joined some all =
       let e : b ≡ x = cc in
-      ap sort e ∙ (both (sort x) (list_all sort front) all).0
+      ap sort e ∙ (and_parts (sort x) (list_all sort front) all).0
 
   decimal_first : (front digits rest : List ℕ) → b ∷ bytes ≡ front ++ (46 ∷ digits ++ rest)
       → list_all is_digit front ≡ true → (b == 59) ≡ false
@@ -224,7 +224,7 @@ module _ (start : Bool) (b : ℕ) (bytes : List ℕ) where
 
   no_digit : begins_number whole_len part_len ≡ false → is_digit b ≡ false
   no_digit h =
-      elim (test (is_digit b)) [
+      elim (cases_Bool (is_digit b)) [
         | inl is ↦
             let few = ltb-false 0 (whole_len + part_len) h in
             let long : whole_len ≡ 1 + prefix_len is_digit bytes = rw is refl in

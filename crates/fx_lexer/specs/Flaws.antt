@@ -31,7 +31,7 @@ fault_kind (stray b rest) = 3
 fault_kind (long_piece (word name) rest) = 5
 fault_kind (long_piece _ rest) = 4
 
--- the byte is that of some row, where these bytes follow
+-- whether an item begins with this byte, where these bytes follow it
 abbrev pub begins_item : ℕ → List ℕ → Bool
 begins_item b rest = is_white b || begins_word b || is_digit b || begins_fraction (b ∷ rest) || is_quote b || is_sign b
 

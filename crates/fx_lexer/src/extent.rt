@@ -1,4 +1,4 @@
-// How far an item reaches: each function here looks at the front of the bytes that it is given.
+//! How far an item reaches: each function here looks at the front of the bytes that it is given.
 ghost use Rattle.std.specs.Prelude.{◌≡◌, ◌<◌, ◌≤◌, true, false, length, IfSome};
 ghost use Rattle.std.specs.List.{prefix_len};
 ghost use Rattle.fx_lexer.specs.Bytes.{is_digit, is_word_byte};

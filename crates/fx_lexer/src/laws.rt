@@ -1,4 +1,4 @@
-// What the tokens and the fault of a text are, without a word on how they are found.
+//! What the tokens and the fault of a text are, without a word on how they are found.
 ghost use Rattle.std.specs.Prelude.{◌≡◌, ◌↔◌, Ok, Err, List, [], filter_map};
 ghost use Rattle.fx_lexer.specs.declared.token.Token.{Token};
 ghost use Rattle.fx_lexer.specs.declared.token.LexFault.{LexFault};

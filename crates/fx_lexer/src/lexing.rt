@@ -12,7 +12,7 @@ use std::alloc::Global;
 ///
 /// # Errors
 ///
-/// `Fault` with the first lexical fault of the text, exactly where it has one, and `NoMemory`.
+/// `Fault` with the first lexical fault of the text, only where it has one, and `NoMemory`.
 #[tactic(auto, unfolding(crate::specs::Lexing::lexed))]
 pub fn lex(alloc: Global, text: &[u8]) -> Result<Tokens, LexStop>
     requires { length text.now ≤ 1048576 }

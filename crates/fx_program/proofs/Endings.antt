@@ -1,7 +1,7 @@
 -- How a command ends: all was done, or it stopped.
 use Rattle.std.proofs.Common.{ℕ, ◌≡◌, ◌≤◌, List, Result, refl, sym, subst, arith}
-use Rattle.fx_base.specs.Acts.{Piece, acts, acts_of, World, Did, Begun}
-use Rattle.fx_base.proofs.Doing.{did_one, begun_one, begun_whole, begun_none}
+use Rattle.fx_base.specs.Acts.{Piece, acts, acts_of, World, Did, DidPart}
+use Rattle.fx_base.proofs.Doing.{did_one, part_one, part_whole, part_none}
 use Rattle.fx_program.specs.Words.{settings_of}
 use Rattle.fx_program.specs.declared.words.Settings.{Settings}
 use Rattle.fx_program.specs.declared.words.WordFault.{WordFault}
@@ -9,21 +9,21 @@ use Rattle.fx_program.specs.Output.{Output, Ends, message, output_for, output_of
 
 -- a command that did all, and one that stopped
 pub ends_whole : {a b : World} (output : Output) (status : ℕ) → status ≡ output.status → Did a b (acts output.events) → Ends output a b status
-ends_whole output status e p = record { same = λ low. e; whole = λ low. p; begun = begun_whole p }
+ends_whole output status e p = record { same = λ low. e; whole = λ low. p; part = part_whole p }
 
-pub ends_stopped : {a b : World} (output : Output) (status : ℕ) → 4 ≤ status → Begun a b (acts output.events) → Ends output a b status
-ends_stopped output status high p = record { same = λ low. absurd (omega arith); whole = λ low. absurd (omega arith); begun = p }
+pub ends_stopped : {a b : World} (output : Output) (status : ℕ) → 4 ≤ status → DidPart a b (acts output.events) → Ends output a b status
+ends_stopped output status high p = record { same = λ low. absurd (omega arith); whole = λ low. absurd (omega arith); part = p }
 
 -- nothing was done
 pub ends_none : {a : World} (output : Output) (status : ℕ) → 4 ≤ status → Ends output a a status
-ends_none {a} output status high = ends_stopped output status high (begun_none a (acts output.events))
+ends_none {a} output status high = ends_stopped output status high (part_none a (acts output.events))
 
 -- one piece was written, or a front part of it
 pub ends_said : {a b : World} (bytes : List ℕ) (status : ℕ) → Did a b (acts_of (Piece bytes)) → Ends (message bytes status) a b status
 ends_said bytes status p = ends_whole (message bytes status) status refl (did_one (Piece bytes) p)
 
-pub ends_cut : {a b : World} (bytes : List ℕ) (status : ℕ) → Begun a b (acts_of (Piece bytes)) → Ends (message bytes status) a b 4
-ends_cut bytes status p = ends_stopped (message bytes status) 4 (omega arith) (begun_one (Piece bytes) p)
+pub ends_cut : {a b : World} (bytes : List ℕ) (status : ℕ) → DidPart a b (acts_of (Piece bytes)) → Ends (message bytes status) a b 4
+ends_cut bytes status p = ends_stopped (message bytes status) 4 (omega arith) (part_one (Piece bytes) p)
 
 -- the same output under another name
 pub ends_by : {a b : World} (output same : Output) (status : ℕ) → output ≡ same → Ends same a b status → Ends output a b status

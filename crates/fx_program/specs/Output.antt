@@ -1,6 +1,6 @@
 -- What the program gives, for its words and its text: pieces of listing and files, and a status.
 use Rattle.std.specs.Prelude.{ℕ, ◌≡◌, ◌<◌, ◌≤◌, List, [], ◌∷◌, length, Option, Some, None, Result, Ok, Err, Bool, true, false, codes}
-use Rattle.fx_base.specs.Acts.{Event, Piece, acts, World, File, Did, Begun}
+use Rattle.fx_base.specs.Acts.{Event, Piece, acts, World, File, Did, DidPart}
 use Rattle.fx_designs.specs.Problems.{Problem, AtResolution}
 use Rattle.fx_designs.specs.Answers.{answer}
 use Rattle.fx_program.specs.Words.{settings_of}
@@ -74,4 +74,4 @@ world written files = record { written = written; files = files }
 pub record Ends (output : Output) (old new : World) (status : ℕ) : Type 0 where
   pub same : status < 4 → status ≡ output.status
   pub whole : status < 4 → Did old new (acts output.events)
-  pub begun : Begun old new (acts output.events)
+  pub part : DidPart old new (acts output.events)

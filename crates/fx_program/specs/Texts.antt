@@ -1,7 +1,9 @@
 -- The texts that are read so far: one step of two-level factors with a fixed size and a resolution.
 use Rattle.std.specs.Prelude.{ℕ, ◌-◌, ◌+◌, ◌*◌, ◌==◌, ◌&&◌, ◌||◌, not, nat_lt, nat_le, Bool, true, false, if◌then◌else◌, List, [], ◌∷◌, map, length, take, drop, slice_range, Option, Some, None, is_some, Result, Ok, Err, codes}
 use Rattle.std.specs.List.{list_any, list_all, prefix_len}
+use Rattle.std.specs.Option.{option_and_then}
 use Rattle.std.specs.Str.{str_eq_ignore_ascii_case, bytes_eq}
+use Rattle.fx_lexer.specs.Bytes.{begins_word}
 use Rattle.fx_lexer.specs.declared.token.Token.{Token}
 use Rattle.fx_lexer.specs.declared.token.LexFault.{LexFault}
 use Rattle.fx_lexer.specs.Lexing.{lexed}
@@ -14,10 +16,10 @@ word_of text t = slice_range text t.from t.upto
 abbrev pub words_of : List ℕ → List Token → List (List ℕ)
 words_of text tokens = map (λ t. word_of text t) tokens
 
+-- what comes next, where there is a first
 infixl 10 ◌>>=◌
 abbrev pub ◌>>=◌ : {A B : Type 0} → Option A → (A → Option B) → Option B
-(Some x) >>= f = f x
-None >>= f = None
+x >>= f = option_and_then f x
 
 -- the words behind these keywords, where the words begin with them, in capitals or small letters
 abbrev pub after : List (List ℕ) → List (List ℕ) → Option (List (List ℕ))
@@ -25,13 +27,10 @@ after [] words = Some words
 after (k ∷ keywords) [] = None
 after (k ∷ keywords) (w ∷ words) = if str_eq_ignore_ascii_case w k then after keywords words else None
 
--- a name begins with a letter or `_`
-abbrev pub begins_name : ℕ → Bool
-begins_name b = (nat_le 65 b && nat_le b 90) || ((nat_le 97 b && nat_le b 122) || (b == 95))
-
+-- a name begins as a word does, with a letter or `_`
 abbrev pub is_name : List ℕ → Bool
 is_name [] = false
-is_name (b ∷ w) = begins_name b
+is_name (b ∷ w) = begins_word b
 
 -- no two of the words are the same, in capitals or small letters
 abbrev pub are_different : List (List ℕ) → Bool

@@ -2,8 +2,9 @@ ghost use Rattle.std.specs.Prelude.{◌≡◌, ◌≤◌, ℕ, List, [], ◌∷�
 ghost use Rattle.std.specs.List.{list_all, list_any};
 ghost use Rattle.std.specs.Option.{option_map};
 ghost use Rattle.std.specs.Str.{str_eq_ignore_ascii_case};
+ghost use Rattle.fx_lexer.specs.Bytes.{begins_word};
 ghost use Rattle.fx_lexer.specs.Tokens.{IsToken};
-ghost use Rattle.fx_program.specs.Texts.{word_of, words_of, after, is_name, are_different, are_names, begins_name, before_semicolon, names_in, run_indexes, resolution, sized, modelled, is_end, step_in, has_comment_sign, step_of};
+ghost use Rattle.fx_program.specs.Texts.{word_of, words_of, after, is_name, are_different, are_names, before_semicolon, names_in, run_indexes, resolution, sized, modelled, is_end, step_in, has_comment_sign, step_of};
 ghost use Rattle.fx_program.specs.Output.{IsStep};
 
 use fx_base::{Bytes, Items, NoMemory};
@@ -24,7 +25,7 @@ pub struct Step {
     pub r: u8,
 }
 
-/// The same, its names still tokens of the text.
+/// A step whose names are still tokens of the text.
 #[derive(Drop)]
 struct Parts<'a> {
     names: &'a [Token],
@@ -197,16 +198,16 @@ fn is_name(word: &[u8]) -> bool
     ensures { result ≡ is_name word.now }
 {
     match word.first() {
-        Some(first) => begins_name(*first),
+        Some(first) => begins_word(*first),
         None => false,
     }
 }
 
 /// A letter or `_`.
-fn begins_name(b: u8) -> bool
-    ensures { result ≡ begins_name b }
+fn begins_word(b: u8) -> bool
+    ensures { result ≡ begins_word b }
 {
-    (65 <= b && b <= 90) || ((97 <= b && b <= 122) || b == 95)
+    (b'A' <= b && b <= b'Z') || (b'a' <= b && b <= b'z') || b == b'_'
 }
 
 /// Whether no two tokens are the same word, in capitals or small letters.
@@ -310,9 +311,9 @@ fn resolution(word: &[u8]) -> Option<u8>
     ensures limits { IfSome result (λ r. (3 ≤ r) × (r ≤ 99)) }
 {
     match word {
-        [a] if 51 <= *a && *a <= 57 => Some(*a - 48),
-        [a, b] if (49 <= *a && *a <= 57) && (48 <= *b && *b <= 57) => {
-            Some((*a - 48) * 10 + (*b - 48))
+        [a] if b'3' <= *a && *a <= b'9' => Some(*a - b'0'),
+        [a, b] if (b'1' <= *a && *a <= b'9') && (b'0' <= *b && *b <= b'9') => {
+            Some((*a - b'0') * 10 + (*b - b'0'))
         }
         _ => None,
     }

@@ -37,18 +37,32 @@ pub fn factex<S: Source, K: Sink, F: Shelf>(
     ensures known { result ≤ 5 }
 
     // What is given is exactly the defined output, or, after a failed call or want of memory, a front part of it.
-    ensures ends { (text : List ℕ) → IsTextOf (map (λ w. w.items) words.now) (S.left source.old) text →
-        Ends (output_of (map (λ w. w.items) words.now) text) (world (K.written listing.old) (F.files shelf.old)) (world (K.written listing.new) (F.files shelf.new)) result }
-    ensures fault { result ≡ 4 → Rose (S.faults source.old) (S.faults source.new) ⊎ (Rose (K.faults listing.old) (K.faults listing.new) ⊎ Rose (F.faults shelf.old) (F.faults shelf.new)) }
-    ensures kept { result ≢ 4 → (S.faults source.new ≡ S.faults source.old) × (K.faults listing.new ≡ K.faults listing.old) × (F.faults shelf.new ≡ F.faults shelf.old) }
-    ensures rooms { (S.sure source.new ≡ S.sure source.old) × (K.room listing.new ≡ K.room listing.old) × (F.room shelf.new ≡ F.room shelf.old) }
+    ensures ends { (text : List ℕ)
+        → IsTextOf (map (λ w. w.items) words.now) (S.left source.old) text
+        → Ends (output_of (map (λ w. w.items) words.now) text)
+        (world (K.written listing.old) (F.files shelf.old))
+        (world (K.written listing.new) (F.files shelf.new)) result }
+    ensures fault { result ≡ 4 → Rose (S.faults source.old) (S.faults source.new)
+        ⊎ (Rose (K.faults listing.old) (K.faults listing.new)
+        ⊎ Rose (F.faults shelf.old) (F.faults shelf.new)) }
+    ensures kept { result ≢ 4 → (S.faults source.new ≡ S.faults source.old)
+        × (K.faults listing.new ≡ K.faults listing.old)
+        × (F.faults shelf.new ≡ F.faults shelf.old) }
+    ensures rooms { (S.sure source.new ≡ S.sure source.old)
+        × (K.room listing.new ≡ K.room listing.old)
+        × (F.room shelf.new ≡ F.room shelf.old) }
+    ensures closed { result < 4 → F.begun shelf.new ≡ false }
 
     // Refused words take no memory, and leave the source unread.
-    ensures unread { reads (settings_of (map (λ w. w.items) words.now)) ≡ false → source.new ≡ source.old }
-    ensures refused { reads (settings_of (map (λ w. w.items) words.now)) ≡ false → (result ≡ 3) ⊎ (result ≡ 4) }
+    ensures unread { reads (settings_of (map (λ w. w.items) words.now)) ≡ false
+        → source.new ≡ source.old }
+    ensures refused { reads (settings_of (map (λ w. w.items) words.now)) ≡ false
+        → (result ≡ 3) ⊎ (result ≡ 4) }
 
     // A design, or that there is none, comes only with the source read to its end.
-    ensures to_end { result < 3 → (text : List ℕ) → S.left source.old ≡ Some text → S.left source.new ≡ Some [] }
+    ensures to_end { result < 3 → (text : List ℕ)
+        → S.left source.old ≡ Some text
+        → S.left source.new ≡ Some [] }
 {
     match read_words(words) {
         Ok(Settings::Run { .. }) => run(alloc, source, listing),
@@ -59,12 +73,18 @@ pub fn factex<S: Source, K: Sink, F: Shelf>(
 /// The command `run`.
 fn run<S: Source, K: Sink>(alloc: Global, source: &mut S, listing: &mut K) -> u8
     ensures known { result ≤ 5 }
-    ensures ends { (text : List ℕ) (files : Option (List File)) → S.left source.old ≡ Some text →
-        Ends (step_output (step_of text)) (world (K.written listing.old) files) (world (K.written listing.new) files) result }
-    ensures fault { result ≡ 4 → Rose (S.faults source.old) (S.faults source.new) ⊎ Rose (K.faults listing.old) (K.faults listing.new) }
-    ensures kept { result ≢ 4 → (S.faults source.new ≡ S.faults source.old) × (K.faults listing.new ≡ K.faults listing.old) }
+    ensures ends { (text : List ℕ) (files : Option (List File))
+        → S.left source.old ≡ Some text
+        → Ends (step_output (step_of text))
+        (world (K.written listing.old) files) (world (K.written listing.new) files) result }
+    ensures fault { result ≡ 4 → Rose (S.faults source.old) (S.faults source.new)
+        ⊎ Rose (K.faults listing.old) (K.faults listing.new) }
+    ensures kept { result ≢ 4 → (S.faults source.new ≡ S.faults source.old)
+        × (K.faults listing.new ≡ K.faults listing.old) }
     ensures rooms { (S.sure source.new ≡ S.sure source.old) × (K.room listing.new ≡ K.room listing.old) }
-    ensures to_end { result < 3 → (text : List ℕ) → S.left source.old ≡ Some text → S.left source.new ≡ Some [] }
+    ensures to_end { result < 3 → (text : List ℕ)
+        → S.left source.old ≡ Some text
+        → S.left source.new ≡ Some [] }
 {
     let text = match read_all(alloc, source, TEXT_LIMIT) {
         Ok(Taken::Whole(text)) => text,
@@ -83,8 +103,9 @@ fn run<S: Source, K: Sink>(alloc: Global, source: &mut S, listing: &mut K) -> u8
 fn give_step<K: Sink>(alloc: Global, step: &Step, listing: &mut K) -> u8
     requires { IsStep step.now }
     ensures known { result ≤ 5 }
-    ensures ends { (files : Option (List File)) →
-        Ends (step_output (Some step.now)) (world (K.written listing.old) files) (world (K.written listing.new) files) result }
+    ensures ends { (files : Option (List File))
+        → Ends (step_output (Some step.now))
+        (world (K.written listing.old) files) (world (K.written listing.new) files) result }
     ensures fault { result ≡ 4 → Rose (K.faults listing.old) (K.faults listing.new) }
     ensures kept { result ≢ 4 → K.faults listing.new ≡ K.faults listing.old }
     ensures room { K.room listing.new ≡ K.room listing.old }
@@ -132,8 +153,11 @@ fn status_of(design: &Option<Matrix>) -> u8
 /// All lines of the step.
 fn lines_of(alloc: Global, step: &Step, design: &Option<Matrix>) -> Result<Bytes, NoMemory>
     requires step { IsStep step.now }
-    requires same { IfSome design.now (λ x. (x.shape.q ≡ 2) × (x.shape.m ≡ step.now.m) × (length x.rows ≡ length step.now.factors)) }
-    ensures { IfOk result (λ lines. lines ≡ step_lines 1 2 step.now.m step.now.factors (option_map (λ x. x.rows) design.now)) }
+    requires same { IfSome design.now (λ x. (x.shape.q ≡ 2)
+        × (x.shape.m ≡ step.now.m)
+        × (length x.rows ≡ length step.now.factors)) }
+    ensures { IfOk result (λ lines. lines ≡ step_lines 1 2 step.now.m step.now.factors
+        (option_map (λ x. x.rows) design.now)) }
 {
     let mut lines = Bytes::new(alloc);
     put_step(&mut lines, 1, 2, step.m, &step.factors, design)?;
@@ -143,8 +167,9 @@ fn lines_of(alloc: Global, step: &Step, design: &Option<Matrix>) -> Result<Bytes
 /// Refuses a text of a form that is not read so far.
 fn refuse<K: Sink>(listing: &mut K) -> u8
     ensures known { (result ≡ 3) ⊎ (result ≡ 4) }
-    ensures ends { (files : Option (List File)) →
-        Ends (step_output None) (world (K.written listing.old) files) (world (K.written listing.new) files) result }
+    ensures ends { (files : Option (List File))
+        → Ends (step_output None)
+        (world (K.written listing.old) files) (world (K.written listing.new) files) result }
     ensures fault { result ≡ 4 → Rose (K.faults listing.old) (K.faults listing.new) }
     ensures kept { result ≢ 4 → K.faults listing.new ≡ K.faults listing.old }
     ensures room { K.room listing.new ≡ K.room listing.old }
@@ -156,8 +181,9 @@ fn refuse<K: Sink>(listing: &mut K) -> u8
 fn say<K: Sink>(listing: &mut K, bytes: &[u8], status: u8) -> u8
     requires { status < 4 }
     ensures known { (result ≡ status) ⊎ (result ≡ 4) }
-    ensures ends { (files : Option (List File)) →
-        Ends (message bytes.now status) (world (K.written listing.old) files) (world (K.written listing.new) files) result }
+    ensures ends { (files : Option (List File))
+        → Ends (message bytes.now status)
+        (world (K.written listing.old) files) (world (K.written listing.new) files) result }
     ensures fault { result ≡ 4 → Rose (K.faults listing.old) (K.faults listing.new) }
     ensures kept { result ≢ 4 → K.faults listing.new ≡ K.faults listing.old }
     ensures room { K.room listing.new ≡ K.room listing.old }

@@ -122,14 +122,19 @@ fn other_words_are_refused(rt: HostRuntime) -> Result<(), Fail> {
     Ok(())
 }
 
-/// No call follows a failed one: a further call on the listing would append to what it holds.
+/// No call follows a failed one: after a failed read nothing is listed, and a further call on the
+/// listing would append to what it holds.
 #[test]
 fn failed_calls_end_the_run(rt: HostRuntime) -> Result<(), Fail> {
     let alloc = rt.alloc();
     let words = run_words(alloc)?;
-    let (ended, listed) = ran(alloc, words.as_slice(), HALF.as_bytes(), 1, 0)?;
-    assert_eq!(rt; ended, 4);
-    assert!(rt; listed.is_empty());
+    for text in [HALF, "no step of any form"] {
+        for call in 1..=text.len().div_ceil(STEP) + 1 {
+            let (ended, listed) = ran(alloc, words.as_slice(), text.as_bytes(), call as u8, 0)?;
+            assert_eq!(rt; ended, 4);
+            assert!(rt; listed.is_empty());
+        }
+    }
     let calls = HALF_LISTING.len().div_ceil(STEP);
     for call in 1..=calls {
         let (ended, listed) = ran(alloc, words.as_slice(), HALF.as_bytes(), 0, call as u8)?;

@@ -1,10 +1,16 @@
 ghost use Rattle.std.specs.Prelude.{◌≡◌, map};
+ghost use Rattle.fx_program.specs.Words.{settings_of};
 
 /// What the words of the command line ask for.
 #[derive(Debug, Clone, Copy, PartialEq, Eq)]
 pub enum Settings {
     /// Runs the program text that is read.
-    Run { threads: u8, seed: u64 },
+    Run {
+        /// How many threads search; 1 so far.
+        threads: u8,
+        /// What random numbers start from; 0 so far.
+        seed: u64,
+    },
 }
 
 /// Why the words are refused.
@@ -15,8 +21,6 @@ pub struct WordFault {
     /// Which word, counted from 1.
     pub word: u32,
 }
-
-ghost use Rattle.fx_program.specs.Words.{settings_of};
 
 /// The settings that the words ask for, or the first fault. Takes no memory.
 pub fn read_words(words: &[Vec<u8>]) -> Result<Settings, WordFault>

@@ -12,6 +12,7 @@ use Rattle.fx_designs.specs.Vectors.{IsVector, dot, weight, vectors_of}
 use Rattle.fx_designs.specs.Runs.{runs_of, points, levels_at}
 use Rattle.fx_laws.specs.Facts.{point_of, IsBalanced}
 use Rattle.fx_laws.specs.Meets.{MeetsResolution}
+use Rattle.fx_search.specs.Counts.{AreCounts}
 use Rattle.fx_laws.proofs.Codes.{length-points, points-at, digits-number, number-below, number-digits, number-weight, digits-vector}
 use Rattle.fx_laws.proofs.Sums.{ne-eqb}
 
@@ -67,24 +68,23 @@ counted_le q u runs counts k v c h =
     let short = length-take k runs in
     omega arith
 
--- after all runs: equal counts are balance, and unequal ones are not
-pub counted_same : (q : ℕ) (u : List ℕ) (runs : List (List ℕ)) (counts : List ℕ) (k : ℕ) → q ≤ 9 → length runs ≤ k → Counted q u runs counts k
+-- after all runs
+pub counted_all : (q : ℕ) (u : List ℕ) (runs : List (List ℕ)) (counts : List ℕ) (k : ℕ) → length runs ≤ k → Counted q u runs counts k → AreCounts q u runs counts
+counted_all q u runs counts k past c =
+    let whole : take k runs ≡ runs = take_all k runs past in
+    record { len = c.len; each = λ y h. rw whole at (c.each y h) }
+
+-- equal counts are balance, and unequal ones are not
+pub counts_same : (q : ℕ) (u : List ℕ) (runs : List (List ℕ)) (counts : List ℕ) → q ≤ 9 → AreCounts q u runs counts
     → ((z : ℕ) → z < q → get_or counts z 0 ≡ get_or counts 0 0) → IsBalanced q u runs
-counted_same q u runs counts k small past c same = record {
-  same = λ y z hy hz.
-      let whole : take k runs ≡ runs = take_all k runs past in
-      let at_y = rw whole at (c.each y (omega arith)) in
-      let at_z = rw whole at (c.each z (omega arith)) in
-      sym at_y ∙ same y hy ∙ sym (same z hz) ∙ at_z;
+counts_same q u runs counts small c same = record {
+  same = λ y z hy hz. sym (c.each y (omega arith)) ∙ same y hy ∙ sym (same z hz) ∙ c.each z (omega arith);
 }
 
-pub counted_apart : (q : ℕ) (u : List ℕ) (runs : List (List ℕ)) (counts : List ℕ) (k y : ℕ) → q ≤ 9 → length runs ≤ k → Counted q u runs counts k
+pub counts_apart : (q : ℕ) (u : List ℕ) (runs : List (List ℕ)) (counts : List ℕ) (y : ℕ) → q ≤ 9 → AreCounts q u runs counts
     → y < q → (get_or counts y 0 ≡ get_or counts 0 0 → ⊥) → IsBalanced q u runs → ⊥
-counted_apart q u runs counts k y small past c h apart balanced =
-    let whole : take k runs ≡ runs = take_all k runs past in
-    let at_y = rw whole at (c.each y (omega arith)) in
-    let at_z = rw whole at (c.each 0 (omega arith)) in
-    apart (at_y ∙ balanced.same y 0 h (omega arith) ∙ sym at_z)
+counts_apart q u runs counts y small c h apart balanced =
+    apart (c.each y (omega arith) ∙ balanced.same y 0 h (omega arith) ∙ sym (c.each 0 (omega arith)))
 
 -- the vectors of number 1 to n-1 and of weight below r are balanced
 pub record MeetsBelow (q m s r : ℕ) (rows : List ℕ) (n : ℕ) : Type 0 where

@@ -3,6 +3,7 @@ ghost use Rattle.fx_designs.specs.Vectors.{IsVector, vectors_of};
 ghost use Rattle.fx_designs.specs.Runs.{levels_at, runs_of};
 ghost use Rattle.fx_laws.specs.Facts.{point_of, IsBalanced};
 ghost use Rattle.fx_laws.specs.Meets.{MeetsResolution};
+ghost use Rattle.fx_search.specs.Counts.{AreCounts};
 
 use fx_galois::Field;
 use fx_vectors::{Matrix, Vector};
@@ -29,22 +30,30 @@ fn is_balanced(field: Field, u: &Vector, matrix: &Matrix) -> bool
     requires vector { IsVector field (length matrix.now.rows) u.now }
     ensures { IsTrue result ↔ IsBalanced field u.now (runs_of field matrix.now.shape.m (vectors_of field matrix.now.shape.m matrix.now.rows)) }
 {
-    let shape = matrix.shape();
-    let q = usize::from(shape.q);
-    let runs = u16::from(field.q()).pow(u32::from(shape.m));
-    // No field has more than nine values.
-    let mut counts = [0u16; 9];
-    for k in 0..runs {
-        let x = levels(field, matrix, &point(field, shape.m, k));
-        let value = usize::from(u.dot(field, &x));
-        counts[value] += 1;
-    }
-    for y in 1..q {
+    let counts = counts_of(field, u, matrix);
+    for y in 1..usize::from(field.q()) {
         if counts[y] != counts[0] {
             return false;
         }
     }
     true
+}
+
+/// On how many runs x u.x is each value. No field has more than nine values.
+fn counts_of(field: Field, u: &Vector, matrix: &Matrix) -> [u16; 9]
+    requires order { field ≡ matrix.now.shape.q }
+    requires vector { IsVector field (length matrix.now.rows) u.now }
+    ensures { AreCounts field u.now (runs_of field matrix.now.shape.m (vectors_of field matrix.now.shape.m matrix.now.rows)) result }
+{
+    let m = matrix.shape().m;
+    let runs = u16::from(field.q()).pow(u32::from(m));
+    let mut counts = [0u16; 9];
+    for k in 0..runs {
+        let x = levels(field, matrix, &point(field, m, k));
+        let value = usize::from(u.dot(field, &x));
+        counts[value] += 1;
+    }
+    counts
 }
 
 /// The levels of the rows at the point p.

@@ -3,7 +3,8 @@ use Rattle.std.proofs.Common.{◌≡◌, ◌<◌, ◌^◌, true, false, [], ◌�
 use Rattle.std.specs.Int.Count.{ones}
 use Rattle.std.proofs.lemmas.List.Elements.{All-from_recursion}
 use Rattle.fx_vectors.specs.Effects.{factors_of, are_in_order, vector_count, pair_count}
-use Rattle.fx_vectors.specs.Question.{CanBeTold}
+use Rattle.fx_vectors.specs.Question.{CanBeTold, IsValid}
+use Rattle.fx_vectors.specs.declared.question.Demands.TheVariants.{Resolution}
 
 -- A, C and D
 positions : factors_of 13 ≡ 1 ∷ 3 ∷ 4 ∷ []
@@ -50,4 +51,13 @@ askable =
       };
       apart = refl;
       pairs = lit≤ tt;
+    }
+
+-- of the half fractions of four two-level factors the one of least pattern may be asked for
+least_half_fraction : IsValid (record { shape = record { q = 2; m = 3; s = 4; t = 0 }; demands = Resolution 4; least = true })
+least_half_fraction =
+    record {
+      shaped = record { order = refl; some_indexes = omega arith; runs = omega arith; some_factors = omega arith; factors = omega arith; block_factors = omega arith; factors_in_blocks = λ h. absurd (omega arith) };
+      asked = (omega arith, omega arith);
+      least = λ h. (refl, refl);
     }

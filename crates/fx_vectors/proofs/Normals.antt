@@ -8,22 +8,8 @@ use Rattle.std.proofs.lemmas.List.Sums.{sum_by-cons}
 use Rattle.fx_designs.specs.Galois.{mul, inv, IsField}
 use Rattle.fx_designs.specs.Vectors.{scale, weight, last_nonzero}
 use Rattle.fx_laws.proofs.Changes.{mul-zero-either}
+use Rattle.fx_laws.proofs.Forms.{inv-positive, last-code}
 use Rattle.fx_laws.proofs.Separation.{inv-mul}
-
-pub inverse-positive : (q : ℕ) (f : IsField q) (a : ℕ) → 0 < a → a < q → 0 < inv q a
-inverse-positive q f a some h =
-    elim (cases_eq (inv q a) 0) [
-      | inl e ↦ absurd (let bad : 1 ≡ 0 = sym (f.mul_inv a some h) ∙ ap (mul q a) e ∙ f.mul_zero a in omega arith)
-      | inr ne ↦ omega arith
-    ]
-
-pub last_nonzero-code : (q : ℕ) (f : IsField q) (v : List ℕ) → AllByRecursion (λ a. a < q) v → last_nonzero v < q
-last_nonzero-code q f [] h = omega (arith, f.more_than_one)
-last_nonzero-code q f (a ∷ v) h =
-    elim (cases_eq (last_nonzero v) 0) [
-      | inl e ↦ rw (eq-eqb _ _ e) h.0
-      | inr ne ↦ rw (ne_eqb _ _ ne) (last_nonzero-code q f v h.1)
-    ]
 
 -- a vector that is not zero has a last nonzero code
 pub last_nonzero-positive : (v : List ℕ) → 0 < weight v → 0 < last_nonzero v
@@ -49,12 +35,12 @@ last_nonzero-scale q f c (a ∷ v) some hc h =
           rw (none, e) refl
       | inr ne ↦
           let some' : last_nonzero (scale q c v) ≡ 0 → ⊥ =
-          λ z. ne (mul-zero-either q f (last_nonzero v) c (last_nonzero-code q f v h.1) hc some (f.mul_comm (last_nonzero v) c ∙ sym rest ∙ z)) in
+          λ z. ne (mul-zero-either q f (last_nonzero v) c (last-code q f v h.1) hc some (f.mul_comm (last_nonzero v) c ∙ sym rest ∙ z)) in
           rw (ne_eqb _ _ some', ne_eqb _ _ ne) rest
     ]
 
 pub normal-scale : (q : ℕ) (f : IsField q) (v : List ℕ) → AllByRecursion (λ a. a < q) v → 0 < last_nonzero v → last_nonzero (scale q (inv q (last_nonzero v)) v) ≡ 1
 normal-scale q f v h some =
-    let code = last_nonzero-code q f v h in
-    last_nonzero-scale q f (inv q (last_nonzero v)) v (inverse-positive q f (last_nonzero v) some code) (f.inv_code (last_nonzero v)) h
+    let code = last-code q f v h in
+    last_nonzero-scale q f (inv q (last_nonzero v)) v (inv-positive q f (last_nonzero v) some code) (f.inv_code (last_nonzero v)) h
     ∙ inv-mul q f (last_nonzero v) some code

@@ -6,7 +6,7 @@ use crate::shape::Shape;
 /// What a design is to separate.
 #[derive(Debug, Drop)]
 pub enum Demands {
-    /// Every vector over the factors of less weight than `r`, from 3 to 99, is balanced.
+    /// Every vector over the factors of weight 1 to `r` - 1 is balanced; `r` is from 3 to 99.
     Resolution {
         r: u8,
     },
@@ -26,30 +26,4 @@ pub struct Question {
     /// Whether the word-length pattern is to be least, which is asked only under a resolution and
     /// without block factors.
     pub least: bool,
-}
-
-#[cfg(test)]
-mod tests {
-    use super::*;
-
-    /// The half fraction of four factors of two levels, with the least pattern.
-    fn half_fraction() -> Question
-        ensures { IsValid result }
-    {
-        Question {
-            shape: Shape {
-                q: 2,
-                m: 3,
-                s: 4,
-                t: 0,
-            },
-            demands: Demands::Resolution { r: 4 },
-            least: true,
-        }
-    }
-
-    #[test]
-    fn a_least_pattern_may_be_asked_under_a_resolution(rt: HostRuntime) {
-        assert!(rt; half_fraction().least);
-    }
 }

@@ -2,7 +2,7 @@ use Rattle.std.proofs.Common.{List, sym, ◌∙◌, ap, arith, rules}
 use Rattle.fx_base.specs.Acts.{File}
 use Rattle.fx_base.specs.Memory.{FilesInMemory, has_open, room_of}
 use Rattle.fx_base.proofs.Flat.{append_keeps, files_longer, last_of}
-use Rattle.fx_base.proofs.Room.{begun_bytes, room_bytes}
+use Rattle.fx_base.proofs.Room.{part_bytes, room_bytes}
 use Rattle.fx_base.proofs.file_buffer.FileBuffer.append.Goals as goal
 
 pub invariant_of-self : goal.invariant_of-self
@@ -20,7 +20,7 @@ returns-clause-after c = rw (← c.self.view_is, c.in-Ok.ensures.items, c.in-Som
 
 pub returns-clause-begun : goal.returns-clause-begun
 returns-clause-begun c = ap (λ (s : FilesInMemory). has_open s.files) (returns-clause-after c)
-    ∙ begun_bytes c.args.piece.now c.args.self.now.files
+    ∙ part_bytes c.args.piece.now c.args.self.now.files
     ∙ c.requires.begun
 
 pub returns-clause-taken : goal.returns-clause-taken
