@@ -1,4 +1,4 @@
-use Rattle.std.proofs.Common.{◌≡◌, ◌≤◌, ◌^◌, ℕ, List, [], get_or, arith, sym, subst, ◌∙◌, ap, refl}
+use Rattle.std.proofs.Common.{◌≡◌, ◌≤◌, ◌^◌, ℕ, List, [], get_or, arith, sym, subst, ◌∙◌, ap}
 use Rattle.fx_designs.specs.Galois.{IsField}
 use Rattle.fx_laws.proofs.Tables.{is_order-field}
 use Rattle.fx_designs.specs.Vectors.{dot, vectors_of}
