@@ -1,0 +1,7 @@
+mod Derivatives
+mod Solid
+mod NoFaults
+mod Ends
+mod StepEnds
+mod Prefixes
+mod SameTexts

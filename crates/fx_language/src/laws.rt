@@ -1,0 +1,19 @@
+// What the grammar refuses and accepts, without a word on how a symbol is judged.
+ghost use Rattle.std.specs.Prelude.{ℕ, List};
+ghost use Rattle.fx_language.specs.declared.symbol.Symbol.{Symbol};
+ghost use Rattle.fx_language.specs.Laws.{RefusesTheFirst, AcceptsPrograms, HasSameTexts};
+
+/// The symbol that the grammar refuses is exactly the first with which the text begins no program.
+pub fn refused_is_the_first()
+    ensures { (symbols : List Symbol) (i : ℕ) → RefusesTheFirst symbols i }
+{}
+
+/// A text of which the grammar refuses no symbol, nor the end, is a program, and conversely.
+pub fn accepted_is_a_program()
+    ensures { (symbols : List Symbol) → AcceptsPrograms symbols }
+{}
+
+/// The grammar stands for the same texts without its codes, and without its rule where a step ends.
+pub fn codes_change_no_text()
+    ensures { (text : List Symbol) → HasSameTexts text }
+{}
