@@ -5,3 +5,4 @@ mod Ends
 mod StepEnds
 mod Prefixes
 mod SameTexts
+mod Table

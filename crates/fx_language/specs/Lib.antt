@@ -1,4 +1,6 @@
 pub mod Symbols
+pub mod Keywords
+pub mod Spellings
 pub mod Shapes
 pub mod Grammar
 pub mod Literal

@@ -1,8 +1,11 @@
 //! The language of programs: its symbols, its grammar, and where a text is refused.
 #![tactic(auto)]
 
+mod keyword;
 mod laws;
 mod symbol;
+mod token;
 
 pub use laws::{accepted_is_a_program, codes_change_no_text, refused_is_the_first};
 pub use symbol::{Symbol, Symbols};
+pub use token::symbols;
