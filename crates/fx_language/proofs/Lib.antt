@@ -6,3 +6,4 @@ mod StepEnds
 mod Prefixes
 mod SameTexts
 mod Table
+mod Pass

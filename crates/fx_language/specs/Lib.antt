@@ -5,5 +5,6 @@ pub mod Shapes
 pub mod Grammar
 pub mod Literal
 pub mod Repeats
+pub mod Pasts
 pub mod Refusals
 pub mod Laws

@@ -45,8 +45,9 @@ has_option option (s ∷ seen) =
 
 -- the symbol is NODES in a PROC statement, or an option in an OUTPUT statement
 abbrev pub is_option_in : List Symbol → Symbol → Bool
-is_option_in seen s = (is_in Proc seen && is Nodes s) || (is_in Output seen && is_output_option s)
+is_option_in seen s = if is Nodes s then is_in Proc seen else is_output_option s && is_in Output seen
 
+-- the rest begins with this symbol
 abbrev pub begins_with : Symbol → List Symbol → Bool
 begins_with want [] = false
 begins_with want (s ∷ rest) = is want s

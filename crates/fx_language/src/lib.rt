@@ -3,9 +3,11 @@
 
 mod keyword;
 mod laws;
+mod repeated;
 mod symbol;
 mod token;
 
 pub use laws::{accepted_is_a_program, codes_change_no_text, refused_is_the_first};
+pub use repeated::first_repeated;
 pub use symbol::{Symbol, Symbols};
 pub use token::symbols;

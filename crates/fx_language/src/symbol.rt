@@ -1,3 +1,5 @@
+ghost use Rattle.std.specs.Prelude.{◌≡◌};
+
 use fx_base::Values;
 
 /// A token as the grammar sees it. Keywords stand for each of their spellings.
@@ -74,6 +76,40 @@ pub enum Symbol {
     Minus,
     /// The end of the text.
     End,
+}
+
+impl Symbol {
+    ghost use Rattle.fx_language.specs.Symbols.{index, is, is_word, is_once};
+
+    /// Whether they are the same.
+    pub fn is(self, other: Symbol) -> bool
+        ensures { result ≡ is self other }
+    {
+        self.index() == other.index()
+    }
+
+    /// Whether it is a word, a keyword or not.
+    pub fn is_word(self) -> bool
+        ensures { result ≡ is_word self }
+    {
+        self.index() <= Symbol::Name.index()
+    }
+
+    /// Whether it begins a statement that a step has at most once, before its RUN.
+    pub fn is_once(self) -> bool
+        ensures { result ≡ is_once self }
+    {
+        matches!(
+            self,
+            Symbol::Factors | Symbol::Size | Symbol::Model | Symbol::Blocks
+        )
+    }
+
+    fn index(self) -> u8
+        ensures { result ≡ index self }
+    {
+        self as u8
+    }
 }
 
 /// The symbols of a text in order, without its end.
