@@ -7,3 +7,4 @@ mod Prefixes
 mod SameTexts
 mod Table
 mod Pass
+mod Examples
