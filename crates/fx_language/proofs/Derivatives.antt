@@ -52,8 +52,11 @@ pub empty_in : (a : Shape) → may_be_empty a ≡ true → Matches a []
 empty_in Never h = absurd (let f : false ≡ true = h in cc)
 empty_in Empty h = refl
 empty_in (One test) h = absurd (let f : false ≡ true = h in cc)
-empty_in (Before a b) h = let p = both (may_be_empty a) (may_be_empty b) h in ([], [], empty_in a p.0, empty_in b p.1, refl)
-empty_in (Either a b) h = ⊎_elim (λ p. inl (empty_in a p)) (λ p. inr (empty_in b p)) (any_of (may_be_empty a) (may_be_empty b) h)
+empty_in (Before a b) h =
+    let p = both (may_be_empty a) (may_be_empty b) h in
+    ([], [], empty_in a p.0, empty_in b p.1, refl)
+empty_in (Either a b) h =
+    ⊎_elim (λ p. inl (empty_in a p)) (λ p. inr (empty_in b p)) (any_of (may_be_empty a) (may_be_empty b) h)
 empty_in (Many a) h = ([], tt, refl)
 empty_in (Fault code test) h = absurd (let f : false ≡ true = h in cc)
 
@@ -79,14 +82,22 @@ one_sound : (b : Bool) (t : List Symbol) → Matches (cond b Empty Never) t → 
 one_sound true t h = (refl, h)
 one_sound false t h = absurd h
 
-front_sound : (s : Symbol) (a b : Shape) (t : List Symbol) (e : Bool) → may_be_empty a ≡ e → ((x : List Symbol) → Matches (after s a) x → Matches a (s ∷ x)) → (Matches (after s b) t → Matches b (s ∷ t)) → Matches (cond e (or_else (after s a ▸ b) (after s b)) (after s a ▸ b)) t → Matches (Before a b) (s ∷ t)
+front_sound : (s : Symbol) (a b : Shape) (t : List Symbol) (e : Bool) → may_be_empty a ≡ e
+    → ((x : List Symbol) → Matches (after s a) x → Matches a (s ∷ x))
+    → (Matches (after s b) t → Matches b (s ∷ t))
+    → Matches (cond e (or_else (after s a ▸ b) (after s b)) (after s a ▸ b)) t → Matches (Before a b) (s ∷ t)
 front_sound s a b t e is in_a in_b h = go e is h
   where
     first : Matches (after s a ▸ b) t → Matches (Before a b) (s ∷ t)
-    first h = let r = parts_of (after s a) b t h in (s ∷ r.0, r.1, in_a r.0 r.2, r.3, ap (λ (l : List Symbol). s ∷ l) r.4)
+    first h =
+        let r = parts_of (after s a) b t h in
+        (s ∷ r.0, r.1, in_a r.0 r.2, r.3, ap (λ (l : List Symbol). s ∷ l) r.4)
 
-    go : (e : Bool) → may_be_empty a ≡ e → Matches (cond e (or_else (after s a ▸ b) (after s b)) (after s a ▸ b)) t → Matches (Before a b) (s ∷ t)
-    go true e h = ⊎_elim first (λ q. ([], s ∷ t, empty_in a e, in_b q, refl)) (or_else_to (after s a ▸ b) (after s b) t h)
+    go : (e : Bool) → may_be_empty a ≡ e
+        → Matches (cond e (or_else (after s a ▸ b) (after s b)) (after s a ▸ b)) t
+        → Matches (Before a b) (s ∷ t)
+    go true e h =
+        ⊎_elim first (λ q. ([], s ∷ t, empty_in a e, in_b q, refl)) (or_else_to (after s a ▸ b) (after s b) t h)
     go false e h = first h
 
 -- a text behind the symbol
@@ -96,7 +107,8 @@ after_sound s Empty t h = absurd h
 after_sound s (One test) t h = let p = one_sound (test s) t h in (s, p.0, ap (λ (l : List Symbol). s ∷ l) p.1)
 after_sound s (Before a b) t h =
     front_sound s a b t (may_be_empty a) refl (λ x p. after_sound s a x p) (λ q. after_sound s b t q) h
-after_sound s (Either a b) t h = ⊎_elim (λ p. inl (after_sound s a t p)) (λ p. inr (after_sound s b t p)) (or_else_to (after s a) (after s b) t h)
+after_sound s (Either a b) t h =
+    ⊎_elim (λ p. inl (after_sound s a t p)) (λ p. inr (after_sound s b t p)) (or_else_to (after s a) (after s b) t h)
 after_sound s (Many a) t h =
     let r = parts_of (after s a) (Many a) t h in
     ((s ∷ r.0) ∷ r.3.0, (after_sound s a r.0 r.2, r.3.1), ap (λ (l : List Symbol). s ∷ l) (r.4 ∙ ap (λ (l : List Symbol). r.0 ++ l) r.3.2))
@@ -106,18 +118,22 @@ one_complete : (b : Bool) → b ≡ true → Matches (cond b Empty Never) []
 one_complete true h = refl
 one_complete false h = absurd (let f : false ≡ true = h in cc)
 
-front_left : (s : Symbol) (a b : Shape) (t : List Symbol) (e : Bool) → Matches (after s a ▸ b) t → Matches (cond e (or_else (after s a ▸ b) (after s b)) (after s a ▸ b)) t
+front_left : (s : Symbol) (a b : Shape) (t : List Symbol) (e : Bool) → Matches (after s a ▸ b) t
+    → Matches (cond e (or_else (after s a ▸ b) (after s b)) (after s a ▸ b)) t
 front_left s a b t true h = or_else_from (after s a ▸ b) (after s b) t (inl h)
 front_left s a b t false h = h
 
-front_right : (s : Symbol) (a b : Shape) (t : List Symbol) (e : Bool) → e ≡ true → Matches (after s b) t → Matches (cond e (or_else (after s a ▸ b) (after s b)) (after s a ▸ b)) t
+front_right : (s : Symbol) (a b : Shape) (t : List Symbol) (e : Bool) → e ≡ true → Matches (after s b) t
+    → Matches (cond e (or_else (after s a ▸ b) (after s b)) (after s a ▸ b)) t
 front_right s a b t true is h = or_else_from (after s a ▸ b) (after s b) t (inr h)
 front_right s a b t false is h = absurd (let f : false ≡ true = is in cc)
 
 head_is : (s r : Symbol) (t x : List Symbol) → (s ∷ t) ≡ (r ∷ x) → (s ≡ r) × (t ≡ x)
 head_is s r t x e = (cc, cc)
 
-many_complete : (s : Symbol) (a : Shape) (t : List Symbol) → ((x : List Symbol) → Matches a (s ∷ x) → Matches (after s a) x) → (parts : List (List Symbol)) → AllByRecursion (Matches a) parts → s ∷ t ≡ flat_map (λ part. part) parts → Matches (after s a ▸ Many a) t
+many_complete : (s : Symbol) (a : Shape) (t : List Symbol)
+    → ((x : List Symbol) → Matches a (s ∷ x) → Matches (after s a) x) → (parts : List (List Symbol))
+    → AllByRecursion (Matches a) parts → s ∷ t ≡ flat_map (λ part. part) parts → Matches (after s a ▸ Many a) t
 many_complete s a t in_a [] each e = absurd (let f : s ∷ t ≡ [] = e in cc)
 many_complete s a t in_a ([] ∷ parts) each e = many_complete s a t in_a parts each.1 e
 many_complete s a t in_a ((r ∷ x) ∷ parts) each e =

@@ -1,5 +1,5 @@
 -- Nothing stands behind the end of a text.
-use Rattle.std.proofs.Common.{◌≡◌, Bool, true, false, cond, ◌&&◌, not, ◌⊎◌, List, [], ◌∷◌, refl, inl, inr, ⊎_elim}
+use Rattle.std.proofs.Common.{◌≡◌, Bool, true, false, cond, ◌&&◌, not, List, [], refl, ⊎_elim}
 use Rattle.fx_language.specs.declared.symbol.Symbol.{Symbol}
 use Rattle.fx_language.specs.declared.symbol.Symbol.TheVariants.{End}
 use Rattle.fx_language.specs.Shapes.{Shape, Never, Empty, One, Before, Either, Many, Fault, ◌▸◌, or_else, may_be_empty, after, Matches}
@@ -42,7 +42,9 @@ lacks_sequence : (a b : Shape) → lacks_end a ≡ true → lacks_end b ≡ true
 lacks_sequence Never b h k = refl
 lacks_sequence Empty b h k = k
 lacks_sequence (One test) b h k = and_of _ _ h k
-lacks_sequence (Before a c) b h k = let p = both (lacks_end a) (lacks_end c) h in and_of _ _ p.0 (lacks_sequence c b p.1 k)
+lacks_sequence (Before a c) b h k =
+    let p = both (lacks_end a) (lacks_end c) h in
+    and_of _ _ p.0 (lacks_sequence c b p.1 k)
 lacks_sequence (Either a c) b h k = and_of _ _ h k
 lacks_sequence (Many a) b h k = and_of _ _ h k
 lacks_sequence (Fault code test) b h k = k
@@ -60,7 +62,9 @@ lacks_after s (Before a b) h =
     let p = both (lacks_end a) (lacks_end b) h in
     let first = lacks_sequence (after s a) b (lacks_after s a p.0) p.1 in
     choice (λ x. lacks_end x ≡ true) (may_be_empty a) (or_else (after s a ▸ b) (after s b)) (after s a ▸ b) (lacks_either (after s a ▸ b) (after s b) first (lacks_after s b p.1)) first
-lacks_after s (Either a b) h = let p = both (lacks_end a) (lacks_end b) h in lacks_either (after s a) (after s b) (lacks_after s a p.0) (lacks_after s b p.1)
+lacks_after s (Either a b) h =
+    let p = both (lacks_end a) (lacks_end b) h in
+    lacks_either (after s a) (after s b) (lacks_after s a p.0) (lacks_after s b p.1)
 lacks_after s (Many a) h = lacks_sequence (after s a) (Many a) (lacks_after s a h) h
 lacks_after s (Fault code test) h = refl
 
@@ -68,7 +72,9 @@ ends_sequence : (a b : Shape) → lacks_end a ≡ true → ends_last b ≡ true 
 ends_sequence Never b h k = refl
 ends_sequence Empty b h k = k
 ends_sequence (One test) b h k = and_of _ _ h k
-ends_sequence (Before a c) b h k = let p = both (lacks_end a) (lacks_end c) h in and_of _ _ p.0 (ends_sequence c b p.1 k)
+ends_sequence (Before a c) b h k =
+    let p = both (lacks_end a) (lacks_end c) h in
+    and_of _ _ p.0 (ends_sequence c b p.1 k)
 ends_sequence (Either a c) b h k = and_of _ _ h k
 ends_sequence (Many a) b h k = and_of _ _ h k
 ends_sequence (Fault code test) b h k = k
@@ -87,7 +93,9 @@ ends_after s (Before a b) h =
     let p = both (lacks_end a) (ends_last b) h in
     let first = ends_sequence (after s a) b (lacks_after s a p.0) p.1 in
     choice (λ x. ends_last x ≡ true) (may_be_empty a) (or_else (after s a ▸ b) (after s b)) (after s a ▸ b) (ends_either (after s a ▸ b) (after s b) first (ends_after s b p.1)) first
-ends_after s (Either a b) h = let p = both (ends_last a) (ends_last b) h in ends_either (after s a) (after s b) (ends_after s a p.0) (ends_after s b p.1)
+ends_after s (Either a b) h =
+    let p = both (ends_last a) (ends_last b) h in
+    ends_either (after s a) (after s b) (ends_after s a p.0) (ends_after s b p.1)
 ends_after s (Many a) h = ends_sequence (after s a) (Many a) (lacks_after s a h) h
 ends_after s (Fault code test) h = refl
 
@@ -95,8 +103,12 @@ never_after_end : (a : Shape) → lacks_end a ≡ true → after End a ≡ Never
 never_after_end Never h = refl
 never_after_end Empty h = refl
 never_after_end (One test) h = rw (not_true (test End) h) refl
-never_after_end (Before a b) h = let p = both (lacks_end a) (lacks_end b) h in rw (never_after_end a p.0, never_after_end b p.1) (choice (λ x. x ≡ Never) (may_be_empty a) Never Never refl refl)
-never_after_end (Either a b) h = let p = both (lacks_end a) (lacks_end b) h in rw (never_after_end a p.0, never_after_end b p.1) refl
+never_after_end (Before a b) h =
+    let p = both (lacks_end a) (lacks_end b) h in
+    rw (never_after_end a p.0, never_after_end b p.1) (choice (λ x. x ≡ Never) (may_be_empty a) Never Never refl refl)
+never_after_end (Either a b) h =
+    let p = both (lacks_end a) (lacks_end b) h in
+    rw (never_after_end a p.0, never_after_end b p.1) refl
 never_after_end (Many a) h = rw (never_after_end a h) refl
 never_after_end (Fault code test) h = refl
 
@@ -115,6 +127,8 @@ empty_after_end (One test) h = choice OnlyEmpty (test End) Empty Never (λ t m. 
 empty_after_end (Before a b) h =
     let p = both (lacks_end a) (ends_last b) h in
     rw (never_after_end a p.0) (choice OnlyEmpty (may_be_empty a) (after End b) Never (empty_after_end b p.1) (λ t m. absurd m))
-empty_after_end (Either a b) h = let p = both (ends_last a) (ends_last b) h in either_empty (after End a) (after End b) (empty_after_end a p.0) (empty_after_end b p.1)
+empty_after_end (Either a b) h =
+    let p = both (ends_last a) (ends_last b) h in
+    either_empty (after End a) (after End b) (empty_after_end a p.0) (empty_after_end b p.1)
 empty_after_end (Many a) h = rw (never_after_end a h) (λ t m. absurd m)
 empty_after_end (Fault code test) h = λ t m. absurd m

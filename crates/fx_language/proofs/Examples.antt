@@ -1,5 +1,5 @@
 -- Texts, and the first symbol of each that is refused: its code, and its index from 0.
-use Rattle.std.proofs.Common.{◌≡◌, ℕ, List, [], ◌∷◌, Option, Some, None, Result, Ok, Err, refl}
+use Rattle.std.proofs.Common.{◌≡◌, ℕ, List, [], ◌∷◌, ◌++◌, Option, Some, None, Result, Ok, Err, refl}
 use Rattle.std.specs.Prelude.{codes, flat_map, replicate}
 use Rattle.fx_lexer.specs.declared.token.Token.{Token}
 use Rattle.fx_lexer.specs.declared.token.LexFault.{LexFault}
@@ -20,7 +20,13 @@ unfolding refused lexed
 refusal text = first_refusal (symbols_among text (lexed text))
 
 -- a program with each statement
-accepted : refusal (codes "proc factex nodes=9;factors A B D1-D3/nlev=2;size design=16;model est=(A B|D1@2 D1-D2)n=(A*B);blocks size=min;examine aliasing blocked confounding design aberration;output out=p pointrep=2 designrep=3 randomize(7)novalran blockname=b nvals=(-1 .5)A cvals=('l' 'h');run;quit;") ≡ None
+accepted : refusal (
+    codes "proc factex nodes=9;factors A B D1-D3/nlev=2;size design=16;"
+    ++ codes "model est=(A B|D1@2 D1-D2)n=(A*B);blocks size=min;"
+    ++ codes "examine aliasing blocked confounding design aberration;"
+    ++ codes "output out=p pointrep=2 designrep=3 randomize(7)novalran blockname=b nvals=(-1 .5)A cvals=('l' 'h');"
+    ++ codes "run;quit;"
+    ) ≡ None
 unfolding refusal
 accepted = refl
 

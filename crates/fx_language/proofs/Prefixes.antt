@@ -1,10 +1,10 @@
 -- What the grammar refuses first is the first symbol with which a text begins no program.
-use Rattle.std.proofs.Common.{◌≡◌, ℕ, zero, suc, ◌+◌, ◌<◌, ◌≤◌, ◌⊎◌, Bool, true, false, List, [], ◌∷◌, ◌++◌, take, drop, Option, Some, None, refl, sym, ap, subst, ◌∙◌, append_assoc, arith, inl, inr}
+use Rattle.std.proofs.Common.{◌≡◌, ℕ, zero, suc, ◌+◌, ◌≤◌, true, List, [], ◌∷◌, ◌++◌, take, drop, Option, Some, None, refl, sym, ap, subst, arith, inl, inr}
 use Rattle.std.proofs.lemmas.List.{take-append-drop}
 use Rattle.std.proofs.lemmas.Bool.{cases_lt}
 use Rattle.fx_language.specs.declared.symbol.Symbol.{Symbol}
 use Rattle.fx_language.specs.declared.symbol.Symbol.TheVariants.{End}
-use Rattle.fx_language.specs.Shapes.{Shape, Never, Matches, Begins, after, is_never}
+use Rattle.fx_language.specs.Shapes.{Shape, Never, Matches, Begins, after}
 use Rattle.fx_language.specs.Grammar.{program}
 use Rattle.fx_language.specs.Refusals.{refused, code_of}
 use Rattle.fx_language.specs.Laws.{ended, IsFirstRefused}
@@ -21,17 +21,26 @@ begins_less a s text h = (h.0, after_complete s a (text ++ h.0) h.1)
 no_text : (a : Shape) (text : List Symbol) → a ≡ Never → Begins a text → ⊥
 no_text a text e h = subst (λ (x : Shape). Matches x (text ++ h.0)) e h.1
 
-at_first : (a : Shape) (s : Symbol) (text : List Symbol) → is_solid a ≡ true → after s a ≡ Never → IsFirstRefused a (s ∷ text) 0
-at_first a s text h e = record { before = inhabited a h; with_it = λ b. no_text (after s a) [] e (begins_less a s [] b) }
+at_first : (a : Shape) (s : Symbol) (text : List Symbol) → is_solid a ≡ true → after s a ≡ Never
+    → IsFirstRefused a (s ∷ text) 0
+at_first a s text h e = record {
+  before = inhabited a h;
+  with_it = λ b. no_text (after s a) [] e (begins_less a s [] b);
+}
 
-one_later : (a : Shape) (s : Symbol) (text : List Symbol) (j : ℕ) → IsFirstRefused (after s a) text j → IsFirstRefused a (s ∷ text) (suc j)
-one_later a s text j r = record { before = begins_more a s (take j text) r.before; with_it = λ b. r.with_it (begins_less a s (take (suc j) text) b) }
+one_later : (a : Shape) (s : Symbol) (text : List Symbol) (j : ℕ) → IsFirstRefused (after s a) text j
+    → IsFirstRefused a (s ∷ text) (suc j)
+one_later a s text j r = record {
+  before = begins_more a s (take j text) r.before;
+  with_it = λ b. r.with_it (begins_less a s (take (suc j) text) b);
+}
 
 same_place : (p q : ℕ × ℕ) → Some p ≡ Some q → q.1 ≡ p.1 + 0
 same_place p q e = let f : p ≡ q = cc in omega (arith, ap (λ (x : ℕ × ℕ). x.1) f)
 
 -- what is refused is the first
-pub refused_first : (a : Shape) (symbols : List Symbol) (k code i : ℕ) → is_solid a ≡ true → refused k a symbols ≡ Some (code, i) → (j : ℕ) × (i ≡ k + j) × IsFirstRefused a (ended symbols) j
+pub refused_first : (a : Shape) (symbols : List Symbol) (k code i : ℕ) → is_solid a ≡ true
+    → refused k a symbols ≡ Some (code, i) → (j : ℕ) × (i ≡ k + j) × IsFirstRefused a (ended symbols) j
 unfolding refused
 refused_first a [] k code i h e =
     elim (after_fine End a h) [
@@ -49,7 +58,8 @@ refused_first a (s ∷ rest) k code i h e =
     ]
 
 -- where none is refused, the text with its end is one of the description's
-pub accepted_matches : (a : Shape) (symbols : List Symbol) (k : ℕ) → is_solid a ≡ true → ends_last a ≡ true → refused k a symbols ≡ None → Matches a (ended symbols)
+pub accepted_matches : (a : Shape) (symbols : List Symbol) (k : ℕ) → is_solid a ≡ true → ends_last a ≡ true
+    → refused k a symbols ≡ None → Matches a (ended symbols)
 unfolding refused
 accepted_matches a [] k h last e =
     elim (after_fine End a h) [
@@ -70,9 +80,11 @@ shorter : (a : Shape) (text : List Symbol) (m n : ℕ) → m ≤ n → Begins a 
 shorter a text zero n h b = (take n text ++ b.0, b.1)
 shorter a text (suc m) zero h b = absurd (omega arith)
 shorter a [] (suc m) (suc n) h b = b
-shorter a (s ∷ text) (suc m) (suc n) h b = begins_more a s (take m text) (shorter (after s a) text m n (omega arith) (begins_less a s (take n text) b))
+shorter a (s ∷ text) (suc m) (suc n) h b =
+    begins_more a s (take m text) (shorter (after s a) text m n (omega arith) (begins_less a s (take n text) b))
 
-one_place : (a : Shape) (text : List Symbol) (i j : ℕ) → IsFirstRefused a text i → IsFirstRefused a text j → i ≡ j
+one_place : (a : Shape) (text : List Symbol) (i j : ℕ) → IsFirstRefused a text i → IsFirstRefused a text j
+    → i ≡ j
 one_place a text i j p q =
     elim (cases_lt i j) [
       | inl less ↦ absurd (p.with_it (shorter a text (suc i) j (omega arith) q.before))
@@ -85,7 +97,8 @@ one_place a text i j p q =
 
 -- a text that is one of the description's has no such symbol
 none_in_match : (a : Shape) (text : List Symbol) (i : ℕ) → Matches a text → IsFirstRefused a text i → ⊥
-none_in_match a text i m r = r.with_it (drop (suc i) text, subst (Matches a) (sym (take-append-drop (suc i) text)) m)
+none_in_match a text i m r =
+    r.with_it (drop (suc i) text, subst (Matches a) (sym (take-append-drop (suc i) text)) m)
 
 -- the grammar is such a description
 program_solid : is_solid program ≡ true
@@ -104,14 +117,17 @@ module _ (symbols : List Symbol) where
       let same : r.0 ≡ i = omega (arith, r.1) in
       subst (λ n. IsFirstRefused program (ended symbols) n) same r.2
 
-  pub refused_to_first : (i : ℕ) → ((code : ℕ) × (outcome ≡ Some (code, i))) → IsFirstRefused program (ended symbols) i
+  pub refused_to_first : (i : ℕ) → ((code : ℕ) × (outcome ≡ Some (code, i)))
+      → IsFirstRefused program (ended symbols) i
   refused_to_first i h = first_of_refused h.0 i h.1
 
-  pub first_to_refused : (i : ℕ) → IsFirstRefused program (ended symbols) i → (code : ℕ) × (outcome ≡ Some (code, i))
+  pub first_to_refused : (i : ℕ) → IsFirstRefused program (ended symbols) i
+      → (code : ℕ) × (outcome ≡ Some (code, i))
   first_to_refused i h = go outcome refl
     where
       go : (o : Option (ℕ × ℕ)) → outcome ≡ o → (code : ℕ) × (outcome ≡ Some (code, i))
-      go None e = absurd (none_in_match program (ended symbols) i (accepted_matches program symbols 0 program_solid program_ends e) h)
+      go None e =
+          absurd (none_in_match program (ended symbols) i (accepted_matches program symbols 0 program_solid program_ends e) h)
       go (Some r) e =
           let same : r.1 ≡ i = one_place program (ended symbols) r.1 i (first_of_refused r.0 r.1 e) h in
           (r.0, subst (λ n. outcome ≡ Some (r.0, n)) same e)

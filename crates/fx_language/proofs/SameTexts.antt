@@ -11,7 +11,9 @@ bare_written : bare written ≡ literal_program
 bare_written = refl
 
 pub to_literal : (text : List Symbol) → Matches program text → Matches literal_program text
-to_literal text m = subst (λ (a : Shape). Matches a text) bare_written (to_bare written text (program_is_written text m))
+to_literal text m =
+    subst (λ (a : Shape). Matches a text) bare_written (to_bare written text (program_is_written text m))
 
 pub from_literal : (text : List Symbol) → Matches literal_program text → Matches program text
-from_literal text m = written_is_program text (from_bare written text (subst (λ (a : Shape). Matches a text) (sym bare_written) m))
+from_literal text m =
+    written_is_program text (from_bare written text (subst (λ (a : Shape). Matches a text) (sym bare_written) m))

@@ -9,7 +9,12 @@ use Rattle.fx_language.proofs.Derivatives.{both, any_of}
 -- each symbol
 abbrev pub everything : List Symbol
 everything =
-    Proc ∷ Factex ∷ Nodes ∷ Run ∷ Quit ∷ Factors ∷ Nlev ∷ Size ∷ Design ∷ Fraction ∷ Nrunfacs ∷ Minimum ∷ Maximum ∷ Model ∷ Estimate ∷ Nonnegligible ∷ Resolution ∷ Minabs ∷ Blocks ∷ Nblkfacs ∷ Nblocks ∷ Examine ∷ Aliasing ∷ Blocked ∷ Confounding ∷ Aberration ∷ Output ∷ Out ∷ Pointrep ∷ Designrep ∷ Randomize ∷ Novalran ∷ Blockname ∷ Nvals ∷ Cvals ∷ Time ∷ Nocheck ∷ Namelen ∷ Uniteffect ∷ Name ∷ Whole ∷ Decimal ∷ Quoted ∷ Semicolon ∷ Equals ∷ Open ∷ Close ∷ OpenBracket ∷ CloseBracket ∷ Slash ∷ Star ∷ Bar ∷ At ∷ Minus ∷ End ∷ []
+    Proc ∷ Factex ∷ Nodes ∷ Run ∷ Quit ∷ Factors ∷ Nlev ∷ Size ∷ Design ∷ Fraction ∷ Nrunfacs ∷
+    Minimum ∷ Maximum ∷ Model ∷ Estimate ∷ Nonnegligible ∷ Resolution ∷ Minabs ∷ Blocks ∷ Nblkfacs ∷
+    Nblocks ∷ Examine ∷ Aliasing ∷ Blocked ∷ Confounding ∷ Aberration ∷ Output ∷ Out ∷ Pointrep ∷
+    Designrep ∷ Randomize ∷ Novalran ∷ Blockname ∷ Nvals ∷ Cvals ∷ Time ∷ Nocheck ∷ Namelen ∷
+    Uniteffect ∷ Name ∷ Whole ∷ Decimal ∷ Quoted ∷ Semicolon ∷ Equals ∷ Open ∷ Close ∷ OpenBracket ∷
+    CloseBracket ∷ Slash ∷ Star ∷ Bar ∷ At ∷ Minus ∷ End ∷ []
 
 -- a description that only names codes
 abbrev pub is_fault : Shape → Bool
@@ -57,7 +62,9 @@ never_after s Never h = absurd (let f : false ≡ true = h in cc)
 never_after s Empty h = absurd (let f : false ≡ true = h in cc)
 never_after s (One test) h = absurd (let f : false ≡ true = h in cc)
 never_after s (Before a b) h = absurd (let f : false ≡ true = h in cc)
-never_after s (Either a b) h = let p = both (is_fault a) (is_fault b) h in rw (never_after s a p.0, never_after s b p.1) refl
+never_after s (Either a b) h =
+    let p = both (is_fault a) (is_fault b) h in
+    rw (never_after s a p.0, never_after s b p.1) refl
 never_after s (Many a) h = absurd (let f : false ≡ true = h in cc)
 never_after s (Fault code test) h = refl
 
@@ -65,7 +72,9 @@ sequence_solid : (a b : Shape) → is_solid a ≡ true → is_solid b ≡ true �
 sequence_solid Never b h k = absurd (let f : false ≡ true = h in cc)
 sequence_solid Empty b h k = k
 sequence_solid (One test) b h k = rw h k
-sequence_solid (Before a c) b h k = let p = both (is_solid a) (is_solid c) h in rw p.0 (sequence_solid c b p.1 k)
+sequence_solid (Before a c) b h k =
+    let p = both (is_solid a) (is_solid c) h in
+    rw p.0 (sequence_solid c b p.1 k)
 sequence_solid (Either a c) b h k = rw h k
 sequence_solid (Many a) b h k = rw h k
 sequence_solid (Fault code test) b h k = absurd (let f : false ≡ true = h in cc)

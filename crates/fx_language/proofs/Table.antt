@@ -1,5 +1,5 @@
 -- A word among the rows of a table.
-use Rattle.std.proofs.Common.{◌≡◌, ℕ, List, map, refl, Bool, true, false, [], ◌∷◌, drop, get_or, length, ◌<◌, ◌+◌, sym, ◌&&◌}
+use Rattle.std.proofs.Common.{◌≡◌, ℕ, List, map, refl, Bool, true, false, [], ◌∷◌, drop, get_or, length, ◌<◌, ◌+◌, sym}
 use Rattle.std.specs.Prelude.{◌==◌}
 use Rattle.std.proofs.lemmas.Bool.{eqb-true, eq-eqb}
 use Rattle.std.specs.Char.{to_ascii_lowercase}
@@ -36,8 +36,11 @@ not_same x y h = go (is_same x y) refl
     go false e = e
 
 module _ (rows : List Spelling) (i : ℕ) (d : Spelling) (h : i < length rows) (word : List ℕ) where
-  pub here : map to_ascii_lowercase word ≡ map to_ascii_lowercase (get_or rows i d).letters.now → listed_in (map row_of (drop i rows)) word ≡ (get_or rows i d).symbol
+  pub here : map to_ascii_lowercase word ≡ map to_ascii_lowercase (get_or rows i d).letters.now
+      → listed_in (map row_of (drop i rows)) word ≡ (get_or rows i d).symbol
   here e = rw (drop-cons rows i d h, e, same_self (map to_ascii_lowercase (get_or rows i d).letters.now)) refl
 
-  pub further : (map to_ascii_lowercase word ≡ map to_ascii_lowercase (get_or rows i d).letters.now → ⊥) → listed_in (map row_of (drop i rows)) word ≡ listed_in (map row_of (drop (i + 1) rows)) word
-  further other = rw (drop-cons rows i d h, not_same (map to_ascii_lowercase (get_or rows i d).letters.now) (map to_ascii_lowercase word) (λ e. other (sym e)), add-one) refl
+  pub further : (map to_ascii_lowercase word ≡ map to_ascii_lowercase (get_or rows i d).letters.now → ⊥)
+      → listed_in (map row_of (drop i rows)) word ≡ listed_in (map row_of (drop (i + 1) rows)) word
+  further other =
+      rw (drop-cons rows i d h, not_same (map to_ascii_lowercase (get_or rows i d).letters.now) (map to_ascii_lowercase word) (λ e. other (sym e)), add-one) refl

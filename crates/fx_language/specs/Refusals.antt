@@ -1,5 +1,5 @@
 -- The first symbol of a text that is refused, and its code.
-use Rattle.std.specs.Prelude.{ℕ, zero, suc, Bool, not, ◌&&◌, nat_lt, unwrap_or, List, [], ◌∷◌, Option, Some, None, if◌then◌else◌}
+use Rattle.std.specs.Prelude.{ℕ, suc, Bool, not, ◌&&◌, nat_lt, unwrap_or, List, [], ◌∷◌, Option, Some, None, if◌then◌else◌}
 use Rattle.std.specs.List.{list_any}
 use Rattle.fx_language.specs.declared.symbol.Symbol.{Symbol}
 use Rattle.fx_language.specs.declared.symbol.Symbol.TheVariants.{Nodes, Nlev, Size, Design, Fraction, Nrunfacs, Estimate, Nonnegligible, Resolution, Minabs, Nblkfacs, Nblocks, Aliasing, Out, Nvals, Cvals, End}

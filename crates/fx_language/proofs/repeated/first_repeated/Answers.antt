@@ -1,9 +1,8 @@
-use Rattle.std.proofs.Common.{◌≡◌, ◌+◌, ◌∙◌, sym, ap, arith, get_or, take, drop, reverse}
+use Rattle.std.proofs.Common.{◌+◌, ◌∙◌, sym, ap, arith, get_or, take, drop, reverse}
 use Rattle.std.proofs.lemmas.List.{take_rest}
-use Rattle.fx_language.specs.declared.symbol.Symbol.TheVariants.{Proc, Factex}
+use Rattle.fx_language.specs.declared.symbol.Symbol.TheVariants.{Proc}
 use Rattle.fx_language.specs.declared.repeated.Past.{Past}
-use Rattle.fx_language.specs.Repeats.{begins_with}
-use Rattle.fx_language.specs.Pasts.{past_after, rule_of}
+use Rattle.fx_language.specs.Pasts.{past_after}
 use Rattle.fx_language.proofs.Pass.{past_here, rule_is, repeated_here, repeated_later}
 use Rattle.fx_language.proofs.repeated.first_repeated.Goals as goal
 
