@@ -13,10 +13,11 @@ key a = One (is a)
 abbrev pub name : Shape
 name = One is_word
 
+-- a number without a point
 abbrev pub n : Shape
 n = key Whole
 
--- a number or this word
+-- such a number or this word
 abbrev pub n_or : Symbol → Shape
 n_or word = One (λ s. is Whole s || is word s)
 
@@ -24,6 +25,7 @@ n_or word = One (λ s. is Whole s || is word s)
 abbrev pub no_open : Shape
 no_open = Empty ∣ Fault 24 (is Open)
 
+-- factors: a name, or a range of names
 abbrev pub item : Shape
 item = name ▸ maybe (key Minus ▸ name)
 
@@ -45,12 +47,15 @@ size_rest =
 abbrev pub size : Shape
 size = key Size ▸ size_rest
 
+-- an effect of several factors
 abbrev pub star : Shape
 star = name ▸ Many (key Star ▸ name)
 
+-- the main effects of a range; or effects, crossed by bars, of at most so many factors
 abbrev pub effect : Shape
 effect = name ▸ key Minus ▸ name ∣ star ▸ Many (key Bar ▸ star) ▸ maybe (key At ▸ n)
 
+-- effects
 abbrev pub list : Shape
 list = key Open ▸ effect ▸ Many effect ▸ key Close
 
@@ -78,6 +83,7 @@ blocks_rest =
 abbrev pub blocks : Shape
 blocks = key Blocks ▸ blocks_rest
 
+-- a section of the listing
 abbrev pub examine_word : Shape
 examine_word = key Aliasing ▸ no_open ∣ key Blocked ∣ key Confounding ∣ key Design ∣ key Aberration ▸ no_open
 
@@ -88,9 +94,11 @@ examine_rest = Many examine_word ▸ key Semicolon
 abbrev pub examine : Shape
 examine = key Examine ▸ examine_rest
 
+-- a value of a level
 abbrev pub value : Shape
 value = maybe (key Minus) ▸ (n ∣ key Decimal)
 
+-- values in the place of the levels' own
 abbrev pub values : Shape
 values =
     key Nvals ▸ key Equals ▸ key Open ▸ value ▸ Many value ▸ key Close
@@ -104,6 +112,7 @@ recoded = One (λ s. is_word s && not (is_output_option s))
 abbrev pub replication : Shape
 replication = n ∣ Fault 24 is_word
 
+-- an option of OUTPUT
 abbrev pub option : Shape
 option =
     key Pointrep ▸ key Equals ▸ replication
@@ -124,6 +133,7 @@ output = key Output ▸ output_rest
 abbrev pub unknown : Shape
 unknown = Fault 24 (is Uniteffect) ∣ Fault 1 is_word
 
+-- a statement of a step
 abbrev pub statement : Shape
 statement =
     key Semicolon ∣ key Run ▸ key Semicolon ∣ factors ∣ size ∣ model ∣ blocks ∣ examine ∣ output
@@ -137,6 +147,7 @@ proc_rest =
 abbrev pub proc : Shape
 proc = key Proc ▸ proc_rest
 
+-- a step, up to what no longer belongs to it
 abbrev pub step : Shape
 step = proc ▸ Many statement
 

@@ -58,6 +58,7 @@ keywords =
     (codes "max", Maximum) ∷
     (codes "min", Minimum) ∷ []
 
+-- the same bytes
 abbrev pub is_same : List ℕ → List ℕ → Bool
 is_same [] [] = true
 is_same [] (b ∷ y) = false
@@ -74,7 +75,7 @@ listed_in (row ∷ table) word =
 abbrev pub keyword : List ℕ → Symbol
 keyword word = listed_in keywords word
 
--- the symbol of a sign, by its byte
+-- the symbol of a sign, by its byte: `;` `=` `(` `)` `[` `]` `/` `*` `|` `@`, and else `-`
 abbrev pub sign : ℕ → Symbol
 sign b =
     if b == 59 then Semicolon

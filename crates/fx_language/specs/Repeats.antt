@@ -33,6 +33,7 @@ abbrev pub is_in : Symbol → List Symbol → Bool
 is_in word [] = false
 is_in word (s ∷ seen) = not (is Semicolon s) && (if is_start seen then is word s else is_in word seen)
 
+-- `=` was seen last
 abbrev pub is_behind_equals : List Symbol → Bool
 is_behind_equals [] = false
 is_behind_equals (s ∷ seen) = is Equals s
@@ -63,6 +64,7 @@ rule_at seen s rest =
     else (if not (is_behind_equals seen) && is_option_in seen s && has_option s seen then Some 28
     else None)))
 
+-- the code of a symbol at i, or the refusal of a later one
 abbrev pub or_later : ℕ → Option ℕ → Option (ℕ × ℕ) → Option (ℕ × ℕ)
 or_later i None later = later
 or_later i (Some code) later = Some (code, i)

@@ -82,6 +82,7 @@ abbrev pub is_never : Shape → Bool
 is_never Never = true
 is_never a = false
 
+-- the first of two codes, where there is one
 abbrev pub first_of : Option ℕ → Option ℕ → Option ℕ
 first_of None b = b
 first_of (Some code) b = Some code

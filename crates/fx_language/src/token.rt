@@ -9,7 +9,11 @@ use fx_base::NoMemory;
 use fx_lexer::{Kind, Token, Tokens};
 use std::alloc::Global;
 
-/// The symbols of the tokens of a text.
+/// The symbols of the tokens of a text, keywords without regard to case.
+///
+/// # Errors
+///
+/// `NoMemory`.
 pub fn symbols(alloc: Global, text: &[u8], tokens: &Tokens) -> Result<Symbols, NoMemory>
     requires { All (IsToken text.now) tokens.now }
     ensures { IfOk result (λ symbols. symbols ≡ symbols_of text.now tokens.now) }
