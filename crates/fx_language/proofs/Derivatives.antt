@@ -1,0 +1,159 @@
+-- What is left behind a symbol is what the description stands for behind it.
+use Rattle.std.proofs.Common.{◌≡◌, Bool, true, false, cond, ◌&&◌, ◌||◌, ◌⊎◌, List, [], ◌∷◌, ◌++◌, refl, sym, ap, subst, ◌∙◌, append_assoc, inl, inr, ⊎_elim}
+use Rattle.std.specs.List.{flat_map, AllByRecursion}
+use Rattle.fx_language.specs.declared.symbol.Symbol.{Symbol}
+use Rattle.fx_language.specs.Shapes.{Shape, Never, Empty, One, Before, Either, Many, Fault, ◌▸◌, or_else, may_be_empty, after, Matches}
+
+pub append-nil : (xs : List Symbol) → xs ++ [] ≡ xs
+append-nil [] = refl
+append-nil (x ∷ xs) = ap (λ (l : List Symbol). x ∷ l) (append-nil xs)
+
+-- a sequence is one text before another
+pub parts_of : (a b : Shape) (t : List Symbol) → Matches (a ▸ b) t → Matches (Before a b) t
+parts_of Never b t h = absurd h
+parts_of Empty b t h = ([], t, refl, h, refl)
+parts_of (One test) b t h = h
+parts_of (Either a c) b t h = h
+parts_of (Many a) b t h = h
+parts_of (Fault code test) b t h = h
+parts_of (Before a c) b t (x, y, p, q, e) =
+    let r = parts_of c b y q in
+    (x ++ r.0, r.1, (x, r.0, p, r.2, refl), r.3, e ∙ ap (λ (l : List Symbol). x ++ l) r.4 ∙ sym (append_assoc x r.0 r.1))
+
+pub sequence_of : (a b : Shape) (t : List Symbol) → Matches (Before a b) t → Matches (a ▸ b) t
+sequence_of Never b t (x, y, p, q, e) = absurd p
+sequence_of Empty b t (x, y, p, q, e) = subst (Matches b) (sym (e ∙ ap (λ (l : List Symbol). l ++ y) p)) q
+sequence_of (One test) b t h = h
+sequence_of (Either a c) b t h = h
+sequence_of (Many a) b t h = h
+sequence_of (Fault code test) b t h = h
+sequence_of (Before a c) b t (x, y, (u, v, p, r, f), q, e) =
+    (u, v ++ y, p, sequence_of c b (v ++ y) (v, y, r, q, refl), e ∙ ap (λ (l : List Symbol). l ++ y) f ∙ append_assoc u v y)
+
+pub or_else_to : (a b : Shape) (t : List Symbol) → Matches (or_else a b) t → Matches a t ⊎ Matches b t
+or_else_to Never b t h = inr h
+or_else_to a Never t h = inl h
+or_else_to a b t h = h
+
+pub or_else_from : (a b : Shape) (t : List Symbol) → Matches a t ⊎ Matches b t → Matches (or_else a b) t
+or_else_from Never b t h = ⊎_elim (λ x. absurd x) (λ x. x) h
+or_else_from a Never t h = ⊎_elim (λ x. x) (λ x. absurd x) h
+or_else_from a b t h = h
+
+pub both : (a b : Bool) → (a && b) ≡ true → (a ≡ true) × (b ≡ true)
+both true b h = (refl, h)
+both false b h = absurd (let f : false ≡ true = h in cc)
+
+pub any_of : (a b : Bool) → (a || b) ≡ true → (a ≡ true) ⊎ (b ≡ true)
+any_of true b h = inl refl
+any_of false b h = inr h
+
+pub empty_in : (a : Shape) → may_be_empty a ≡ true → Matches a []
+empty_in Never h = absurd (let f : false ≡ true = h in cc)
+empty_in Empty h = refl
+empty_in (One test) h = absurd (let f : false ≡ true = h in cc)
+empty_in (Before a b) h =
+    let p = both (may_be_empty a) (may_be_empty b) h in
+    ([], [], empty_in a p.0, empty_in b p.1, refl)
+empty_in (Either a b) h =
+    ⊎_elim (λ p. inl (empty_in a p)) (λ p. inr (empty_in b p)) (any_of (may_be_empty a) (may_be_empty b) h)
+empty_in (Many a) h = ([], tt, refl)
+empty_in (Fault code test) h = absurd (let f : false ≡ true = h in cc)
+
+no_cons : {A : Type 0} (x : A) (xs ys : List A) → [] ≡ (x ∷ xs) ++ ys → ⊥
+no_cons x xs ys e = cc
+
+pub empty_out : (a : Shape) → Matches a [] → may_be_empty a ≡ true
+empty_out Never h = absurd h
+empty_out Empty h = refl
+empty_out (One test) (s, p, e) = absurd (let f : [] ≡ s ∷ [] = e in cc)
+empty_out (Before a b) ([], y, p, q, e) = rw (empty_out a p) (empty_out b (subst (Matches b) (sym e) q))
+empty_out (Before a b) (s ∷ x, y, p, q, e) = absurd (no_cons s x y e)
+empty_out (Either a b) (inl h) = rw (empty_out a h) refl
+empty_out (Either a b) (inr h) = rw (empty_out b h) (or_true (may_be_empty a))
+  where
+    or_true : (x : Bool) → (x || true) ≡ true
+    or_true true = refl
+    or_true false = refl
+empty_out (Many a) h = refl
+empty_out (Fault code test) h = absurd h
+
+one_sound : (b : Bool) (t : List Symbol) → Matches (cond b Empty Never) t → (b ≡ true) × (t ≡ [])
+one_sound true t h = (refl, h)
+one_sound false t h = absurd h
+
+front_sound : (s : Symbol) (a b : Shape) (t : List Symbol) (e : Bool) → may_be_empty a ≡ e
+    → ((x : List Symbol) → Matches (after s a) x → Matches a (s ∷ x))
+    → (Matches (after s b) t → Matches b (s ∷ t))
+    → Matches (cond e (or_else (after s a ▸ b) (after s b)) (after s a ▸ b)) t → Matches (Before a b) (s ∷ t)
+front_sound s a b t e is in_a in_b h = go e is h
+  where
+    first : Matches (after s a ▸ b) t → Matches (Before a b) (s ∷ t)
+    first h =
+        let r = parts_of (after s a) b t h in
+        (s ∷ r.0, r.1, in_a r.0 r.2, r.3, ap (λ (l : List Symbol). s ∷ l) r.4)
+
+    go : (e : Bool) → may_be_empty a ≡ e
+        → Matches (cond e (or_else (after s a ▸ b) (after s b)) (after s a ▸ b)) t
+        → Matches (Before a b) (s ∷ t)
+    go true e h =
+        ⊎_elim first (λ q. ([], s ∷ t, empty_in a e, in_b q, refl)) (or_else_to (after s a ▸ b) (after s b) t h)
+    go false e h = first h
+
+-- a text behind the symbol
+pub after_sound : (s : Symbol) (a : Shape) (t : List Symbol) → Matches (after s a) t → Matches a (s ∷ t)
+after_sound s Never t h = h
+after_sound s Empty t h = absurd h
+after_sound s (One test) t h = let p = one_sound (test s) t h in (s, p.0, ap (λ (l : List Symbol). s ∷ l) p.1)
+after_sound s (Before a b) t h =
+    front_sound s a b t (may_be_empty a) refl (λ x p. after_sound s a x p) (λ q. after_sound s b t q) h
+after_sound s (Either a b) t h =
+    ⊎_elim (λ p. inl (after_sound s a t p)) (λ p. inr (after_sound s b t p)) (or_else_to (after s a) (after s b) t h)
+after_sound s (Many a) t h =
+    let r = parts_of (after s a) (Many a) t h in
+    ((s ∷ r.0) ∷ r.3.0, (after_sound s a r.0 r.2, r.3.1), ap (λ (l : List Symbol). s ∷ l) (r.4 ∙ ap (λ (l : List Symbol). r.0 ++ l) r.3.2))
+after_sound s (Fault code test) t h = h
+
+one_complete : (b : Bool) → b ≡ true → Matches (cond b Empty Never) []
+one_complete true h = refl
+one_complete false h = absurd (let f : false ≡ true = h in cc)
+
+front_left : (s : Symbol) (a b : Shape) (t : List Symbol) (e : Bool) → Matches (after s a ▸ b) t
+    → Matches (cond e (or_else (after s a ▸ b) (after s b)) (after s a ▸ b)) t
+front_left s a b t true h = or_else_from (after s a ▸ b) (after s b) t (inl h)
+front_left s a b t false h = h
+
+front_right : (s : Symbol) (a b : Shape) (t : List Symbol) (e : Bool) → e ≡ true → Matches (after s b) t
+    → Matches (cond e (or_else (after s a ▸ b) (after s b)) (after s a ▸ b)) t
+front_right s a b t true is h = or_else_from (after s a ▸ b) (after s b) t (inr h)
+front_right s a b t false is h = absurd (let f : false ≡ true = is in cc)
+
+head_is : (s r : Symbol) (t x : List Symbol) → (s ∷ t) ≡ (r ∷ x) → (s ≡ r) × (t ≡ x)
+head_is s r t x e = (cc, cc)
+
+many_complete : (s : Symbol) (a : Shape) (t : List Symbol)
+    → ((x : List Symbol) → Matches a (s ∷ x) → Matches (after s a) x) → (parts : List (List Symbol))
+    → AllByRecursion (Matches a) parts → s ∷ t ≡ flat_map (λ part. part) parts → Matches (after s a ▸ Many a) t
+many_complete s a t in_a [] each e = absurd (let f : s ∷ t ≡ [] = e in cc)
+many_complete s a t in_a ([] ∷ parts) each e = many_complete s a t in_a parts each.1 e
+many_complete s a t in_a ((r ∷ x) ∷ parts) each e =
+    let f = head_is s r t (x ++ flat_map (λ part. part) parts) e in
+    sequence_of (after s a) (Many a) t (x, flat_map (λ part. part) parts, in_a x (subst (λ (z : Symbol). Matches a (z ∷ x)) (sym f.0) each.0), (parts, each.1, refl), f.1)
+
+-- every text with the symbol in front
+pub after_complete : (s : Symbol) (a : Shape) (t : List Symbol) → Matches a (s ∷ t) → Matches (after s a) t
+after_complete s Never t h = h
+after_complete s Empty t h = absurd (let f : s ∷ t ≡ [] = h in cc)
+after_complete s (One test) t (r, p, e) =
+    let q = head_is s r t [] e in
+    subst (λ (l : List Symbol). Matches (after s (One test)) l) (sym q.1) (one_complete (test s) (ap test q.0 ∙ p))
+after_complete s (Before a b) t ([], y, p, q, e) =
+    front_right s a b t (may_be_empty a) (empty_out a p) (after_complete s b t (subst (Matches b) (sym e) q))
+after_complete s (Before a b) t (r ∷ x, y, p, q, e) =
+    let f = head_is s r t (x ++ y) e in
+    front_left s a b t (may_be_empty a) (sequence_of (after s a) b t (x, y, after_complete s a x (subst (λ (z : Symbol). Matches a (z ∷ x)) (sym f.0) p), q, f.1))
+after_complete s (Either a b) t (inl h) = or_else_from (after s a) (after s b) t (inl (after_complete s a t h))
+after_complete s (Either a b) t (inr h) = or_else_from (after s a) (after s b) t (inr (after_complete s b t h))
+after_complete s (Many a) t (parts, each, e) =
+    many_complete s a t (λ x p. after_complete s a x p) parts each e
+after_complete s (Fault code test) t h = h

@@ -1,0 +1,10 @@
+mod Derivatives
+mod Solid
+mod NoFaults
+mod Ends
+mod StepEnds
+mod Prefixes
+mod SameTexts
+mod Table
+mod Pass
+mod Examples

@@ -1,0 +1,10 @@
+pub mod Symbols
+pub mod Keywords
+pub mod Spellings
+pub mod Shapes
+pub mod Grammar
+pub mod Literal
+pub mod Repeats
+pub mod Pasts
+pub mod Refusals
+pub mod Laws

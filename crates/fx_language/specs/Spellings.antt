@@ -1,0 +1,7 @@
+-- A row of a table of spellings, without where its letters lie in memory.
+use Rattle.std.specs.Prelude.{ℕ, List}
+use Rattle.fx_language.specs.declared.keyword.Spelling.{Spelling}
+use Rattle.fx_language.specs.declared.symbol.Symbol.{Symbol}
+
+abbrev pub row_of : Spelling → List ℕ × Symbol
+row_of s = (s.letters.now, s.symbol)

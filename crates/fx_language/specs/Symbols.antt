@@ -1,0 +1,82 @@
+-- Symbols, and the classes of symbols that the grammar speaks of.
+use Rattle.std.specs.Prelude.{ℕ, Bool, ◌==◌, ◌||◌, nat_le}
+use Rattle.fx_language.specs.declared.symbol.Symbol.{Symbol}
+use Rattle.fx_language.specs.declared.symbol.Symbol.TheVariants.{Proc, Factex, Nodes, Run, Quit, Factors, Nlev, Size, Design, Fraction, Nrunfacs, Minimum, Maximum, Model, Estimate, Nonnegligible, Resolution, Minabs, Blocks, Nblkfacs, Nblocks, Examine, Aliasing, Blocked, Confounding, Aberration, Output, Out, Pointrep, Designrep, Randomize, Novalran, Blockname, Nvals, Cvals, Time, Nocheck, Namelen, Uniteffect, Name, Whole, Decimal, Quoted, Semicolon, Equals, Open, Close, OpenBracket, CloseBracket, Slash, Star, Bar, At, Minus, End}
+
+-- the number of a symbol, in the order of the enum: keywords, other words, numbers and texts, signs, the end
+abbrev pub index : Symbol → ℕ
+index Proc = 0
+index Factex = 1
+index Nodes = 2
+index Run = 3
+index Quit = 4
+index Factors = 5
+index Nlev = 6
+index Size = 7
+index Design = 8
+index Fraction = 9
+index Nrunfacs = 10
+index Minimum = 11
+index Maximum = 12
+index Model = 13
+index Estimate = 14
+index Nonnegligible = 15
+index Resolution = 16
+index Minabs = 17
+index Blocks = 18
+index Nblkfacs = 19
+index Nblocks = 20
+index Examine = 21
+index Aliasing = 22
+index Blocked = 23
+index Confounding = 24
+index Aberration = 25
+index Output = 26
+index Out = 27
+index Pointrep = 28
+index Designrep = 29
+index Randomize = 30
+index Novalran = 31
+index Blockname = 32
+index Nvals = 33
+index Cvals = 34
+index Time = 35
+index Nocheck = 36
+index Namelen = 37
+index Uniteffect = 38
+index Name = 39
+index Whole = 40
+index Decimal = 41
+index Quoted = 42
+index Semicolon = 43
+index Equals = 44
+index Open = 45
+index Close = 46
+index OpenBracket = 47
+index CloseBracket = 48
+index Slash = 49
+index Star = 50
+index Bar = 51
+index At = 52
+index Minus = 53
+index End = 54
+
+-- it is this symbol
+abbrev pub is : Symbol → Symbol → Bool
+is a b = index a == index b
+
+-- a word of any spelling, keyword or not
+abbrev pub is_word : Symbol → Bool
+is_word s = nat_le (index s) 39
+
+-- the words that are an option of OUTPUT wherever an option may begin
+abbrev pub is_output_option : Symbol → Bool
+is_output_option s = is Pointrep s || is Designrep s || is Randomize s || is Novalran s || is Blockname s
+
+-- the statements that a step has at most once, before its RUN
+abbrev pub is_once : Symbol → Bool
+is_once s = is Factors s || is Size s || is Model s || is Blocks s
+
+-- the words of PROC that this product doesn't keep
+abbrev pub is_left_out : Symbol → Bool
+is_left_out s = is Time s || is Nocheck s || is Namelen s
