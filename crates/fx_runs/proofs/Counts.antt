@@ -1,14 +1,13 @@
 -- How often each value comes over the first runs, and balance.
-use Rattle.std.proofs.Common.{ℕ, ◌≡◌, ◌≢◌, ◌<◌, ◌≤◌, ◌+◌, Bool, true, false, eqb, List, [], length, take, set, get_or, get_or-set_other, get_or-set_same, sym, ◌∙◌, ap, arith, inl, inr}
+use Rattle.std.proofs.Common.{ℕ, ◌≡◌, ◌≢◌, ◌<◌, ◌≤◌, ◌+◌, true, false, eqb, List, [], length, take, set, get_or, get_or-set_other, get_or-set_same, sym, ◌∙◌, ap, arith, inl, inr}
 use Rattle.std.specs.Prelude.{count_by}
 use Rattle.std.proofs.lemmas.List.{take_all}
-use Rattle.std.proofs.Math.ListN.{length-set, length-take}
-use Rattle.std.proofs.lemmas.List.Sums.{count_by_more_no, count_by_more_yes, count_by-le-length}
+use Rattle.std.proofs.Math.ListN.{length-set}
+use Rattle.std.proofs.lemmas.List.Sums.{count_by_more_no, count_by_more_yes}
 use Rattle.std.proofs.lemmas.Bool.{cases_eq, eq-eqb, both_ways}
 use Rattle.fx_designs.specs.Galois.{IsField}
 use Rattle.fx_designs.specs.Vectors.{dot, vectors_of}
 use Rattle.fx_designs.specs.Runs.{is_constant, is_balanced, runs_of}
-use Rattle.fx_laws.specs.Facts.{IsBalanced}
 use Rattle.fx_laws.proofs.Bridge.{zero_constant, other_balanced}
 use Rattle.fx_laws.proofs.Sums.{ne-eqb}
 use Rattle.fx_laws.proofs.Judging.{balanced_decides}

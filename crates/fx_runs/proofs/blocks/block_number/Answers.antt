@@ -1,4 +1,4 @@
-use Rattle.std.proofs.Common.{◌≡◌, ◌≤◌, ◌<◌, ◌+◌, ◌*◌, ◌-◌, ◌^◌, ◌∙◌, sym, ap, arith, List, ℕ, drop, get_or}
+use Rattle.std.proofs.Common.{◌≡◌, ◌<◌, ◌+◌, ◌*◌, ◌-◌, ◌^◌, ◌∙◌, ap, arith, List, ℕ, drop, get_or}
 use Rattle.fx_designs.specs.Galois.{number}
 use Rattle.fx_vectors.specs.declared.shape.Shape.{Shape}
 use Rattle.fx_vectors.proofs.Limits.{order-bounds}
