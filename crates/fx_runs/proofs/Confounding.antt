@@ -79,18 +79,18 @@ module _ (q s : ℕ) (u : List ℕ) (rows : List (List ℕ)) where
     agree_constant h z =
         elim (passing (is_in z) rows []) [
           | inl none ↦ (
-              0,
-              All-from_recursion (λ x. dot q u x ≡ 0) (block q s z rows)
-                  (held (λ x. dot q u x ≡ 0) (is_in z) rows (each-weaker (λ x. is_in z x ≡ false) (λ x. is_in z x ≡ true → dot q u x ≡ 0) rows (λ x no_z in_z. absurd (cc)) none)),
-            )
+            0,
+            All-from_recursion (λ x. dot q u x ≡ 0) (block q s z rows)
+                (held (λ x. dot q u x ≡ 0) (is_in z) rows (each-weaker (λ x. is_in z x ≡ false) (λ x. is_in z x ≡ true → dot q u x ≡ 0) rows (λ x no_z in_z. absurd (cc)) none)),
+          )
           | inr at ↦ (
-              value at.0,
-              All-from_recursion (λ x. dot q u x ≡ value at.0) (block q s z rows)
-                  (held (λ x. dot q u x ≡ value at.0) (is_in z) rows
-                  (recursion_from_All (λ x. is_in z x ≡ true → dot q u x ≡ value at.0) rows
-                  (All-from_get_or (λ x. is_in z x ≡ true → dot q u x ≡ value at.0) rows []
-                  (λ k hk in_z. h.same k at.0 hk at.1 (eqb-true _ _ in_z ∙ sym (eqb-true _ _ at.2)))))),
-            )
+            value at.0,
+            All-from_recursion (λ x. dot q u x ≡ value at.0) (block q s z rows)
+                (held (λ x. dot q u x ≡ value at.0) (is_in z) rows
+                (recursion_from_All (λ x. is_in z x ≡ true → dot q u x ≡ value at.0) rows
+                (All-from_get_or (λ x. is_in z x ≡ true → dot q u x ≡ value at.0) rows []
+                (λ k hk in_z. h.same k at.0 hk at.1 (eqb-true _ _ in_z ∙ sym (eqb-true _ _ at.2)))))),
+          )
         ]
 
     pub constant_test : (n : ℕ) → IsConstantInBlocks q s u rows → is_constant_in_blocks q s n u rows ≡ true
@@ -152,13 +152,13 @@ module _ (q m s t : ℕ) (f : IsField q) (rows u : List ℕ) (all : length rows 
   pub constant_in_span : (is_constant_in_blocks q s (q ^ t) u (runs_of q m rules) ≡ true) ↔ (in_span q m (drop s rules) (combination q m u (take s rules)) ≡ true)
   constant_in_span = elim (constant_or_balanced q m s f rules u hu factors blocks) [
     | inl both ↦ (
-        λ e. in_span-holds q m f (drop s rules) (combination q m u (take s rules)) both.0,
-        λ e. constant_test q s u (runs_of q m rules) f (q ^ t) both.1,
-      )
+      λ e. in_span-holds q m f (drop s rules) (combination q m u (take s rules)) both.0,
+      λ e. constant_test q s u (runs_of q m rules) f (q ^ t) both.1,
+    )
     | inr other ↦ (
-        λ e. absurd (other.2 (in_blocks e)),
-        λ e. absurd (other.0 (in_span-true q m f (drop s rules) (combination q m u (take s rules)) blocks (combination-vector q m f u (take s rules) factors) e)),
-      )
+      λ e. absurd (other.2 (in_blocks e)),
+      λ e. absurd (other.0 (in_span-true q m f (drop s rules) (combination q m u (take s rules)) blocks (combination-vector q m f u (take s rules) factors) e)),
+    )
   ]
 
   pub else_balanced : is_constant_in_blocks q s (q ^ t) u (runs_of q m rules) ≡ false → is_balanced_in_blocks q s (q ^ t) u (runs_of q m rules) ≡ true
