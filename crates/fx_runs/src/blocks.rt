@@ -1,5 +1,5 @@
 ghost use Rattle.std.specs.Prelude.{◌≡◌, ℕ, ◌+◌, ◌^◌, ◌<◌, ◌≤◌, ◌↔◌, ◌⊎◌, IsTrue, MatchBool, MatchOption, length};
-ghost use Rattle.fx_designs.specs.Vectors.{IsVector, dot};
+ghost use Rattle.fx_designs.specs.Vectors.{IsVector};
 ghost use Rattle.fx_designs.specs.Runs.{is_constant_in_blocks};
 ghost use Rattle.fx_runs.specs.Blocks.{block_of, IsBeforeInBlock, IsFirstInBlock, Agrees, Differs};
 

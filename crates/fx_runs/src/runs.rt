@@ -1,7 +1,7 @@
-ghost use Rattle.std.specs.Prelude.{◌≡◌, ◌+◌, ◌<◌, ◌≤◌, ◌↔◌, [], ◌∷◌, ◌++◌, IsTrue, OnErr, OnOk, length, slice_index_or};
-ghost use Rattle.fx_designs.specs.Vectors.{IsVector, dot};
+ghost use Rattle.std.specs.Prelude.{◌≡◌, ◌+◌, ◌<◌, ◌↔◌, [], ◌∷◌, ◌++◌, IsTrue, OnErr, OnOk, length, slice_index_or};
+ghost use Rattle.fx_designs.specs.Vectors.{IsVector};
 ghost use Rattle.fx_vectors.specs.Shape.{IsShape};
-ghost use Rattle.fx_runs.specs.Runs.{RunsView, AreRuns};
+ghost use Rattle.fx_runs.specs.Runs.{AreRuns};
 
 use fx_base::{Items, NoMemory};
 use fx_vectors::{Shape, Vector};
@@ -70,7 +70,7 @@ impl Runs {
         self.rows.get(i)
     }
 
-    /// Adds a row of s levels and t block values at the end.
+    /// Adds a row of s levels and t block values at the end. After an error the rows are as before.
     pub fn push(&mut self, row: Vector) -> Result<(), NoMemory>
         requires { IsVector self.old.shape.q (self.old.shape.s + self.old.shape.t) row }
         ensures ok { OnOk result (self.new ≡ record self.old { rows = self.old.rows ++ row ∷ [] }) }
