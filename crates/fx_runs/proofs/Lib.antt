@@ -1,0 +1,5 @@
+pub mod Constant
+pub mod Counts
+pub mod Confounding
+mod Points
+mod Steps

@@ -1,0 +1,16 @@
+//! Runs: what a rule matrix lists, and which vectors are constant or balanced over them.
+#![tactic(auto)]
+
+mod balance;
+mod blocks;
+mod laws;
+mod rule_runs;
+mod runs;
+#[cfg(test)]
+mod tests;
+
+pub use balance::{is_balanced, is_constant};
+pub use blocks::{block_number, constant_in_blocks};
+pub use laws::{constant_or_balanced_in_blocks, zero_sum_or_balanced};
+pub use rule_runs::list_runs;
+pub use runs::Runs;
