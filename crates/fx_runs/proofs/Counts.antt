@@ -12,6 +12,7 @@ use Rattle.fx_laws.proofs.Bridge.{zero_constant, other_balanced}
 use Rattle.fx_laws.proofs.Sums.{ne-eqb}
 use Rattle.fx_laws.proofs.Judging.{balanced_decides}
 use Rattle.fx_vectors.proofs.Steps.{are_vectors}
+use Rattle.fx_runs.specs.Counts.{AreCounts}
 use Rattle.fx_runs.proofs.Constant.{not_true, constant_decides}
 
 -- counts has how often each value came in the first k runs
@@ -37,24 +38,23 @@ counted_more q u runs counts k v h is code c = record {
   ];
 }
 
--- after all runs: equal counts are balance, and unequal ones are not
-pub counted_same : (q : ℕ) (u : List ℕ) (runs : List (List ℕ)) (counts : List ℕ) (k : ℕ) → q ≤ 9 → length runs ≤ k → Counted q u runs counts k
+-- after all runs
+pub counted_all : (q : ℕ) (u : List ℕ) (runs : List (List ℕ)) (counts : List ℕ) (k : ℕ) → length runs ≤ k → Counted q u runs counts k → AreCounts q u runs counts
+counted_all q u runs counts k past c =
+    let whole : take k runs ≡ runs = take_all k runs past in
+    record { len = c.len; each = λ y h. rw whole at (c.each y h) }
+
+-- equal counts are balance, and unequal ones are not
+pub counts_same : (q : ℕ) (u : List ℕ) (runs : List (List ℕ)) (counts : List ℕ) → q ≤ 9 → AreCounts q u runs counts
     → ((z : ℕ) → z < q → get_or counts z 0 ≡ get_or counts 0 0) → is_balanced q u runs ≡ true
-counted_same q u runs counts k small past c same = (balanced_decides q u runs).1 (record {
-  same = λ y z hy hz.
-      let whole : take k runs ≡ runs = take_all k runs past in
-      let at_y = rw whole at (c.each y (omega arith)) in
-      let at_z = rw whole at (c.each z (omega arith)) in
-      sym at_y ∙ same y hy ∙ sym (same z hz) ∙ at_z;
+counts_same q u runs counts small c same = (balanced_decides q u runs).1 (record {
+  same = λ y z hy hz. sym (c.each y (omega arith)) ∙ same y hy ∙ sym (same z hz) ∙ c.each z (omega arith);
 })
 
-pub counted_apart : (q : ℕ) (u : List ℕ) (runs : List (List ℕ)) (counts : List ℕ) (k y : ℕ) → q ≤ 9 → length runs ≤ k → Counted q u runs counts k
+pub counts_apart : (q : ℕ) (u : List ℕ) (runs : List (List ℕ)) (counts : List ℕ) (y : ℕ) → q ≤ 9 → AreCounts q u runs counts
     → y < q → (get_or counts y 0 ≡ get_or counts 0 0 → ⊥) → is_balanced q u runs ≡ false
-counted_apart q u runs counts k y small past c h apart =
-    let whole : take k runs ≡ runs = take_all k runs past in
-    let at_y = rw whole at (c.each y (omega arith)) in
-    let at_z = rw whole at (c.each 0 (omega arith)) in
-    not_true (is_balanced q u runs) (λ e. apart (at_y ∙ ((balanced_decides q u runs).0 e).same y 0 h (omega arith) ∙ sym at_z))
+counts_apart q u runs counts y small c h apart =
+    not_true (is_balanced q u runs) (λ e. apart (c.each y (omega arith) ∙ ((balanced_decides q u runs).0 e).same y 0 h (omega arith) ∙ sym (c.each 0 (omega arith))))
 
 -- over the runs of rules, a vector that is not constant
 pub other_vectors : (q : ℕ) (f : IsField q) (u : List ℕ) (m : ℕ) (rows : List ℕ) → is_constant q u (runs_of q m (vectors_of q m rows)) ≡ false → is_balanced q u (runs_of q m (vectors_of q m rows)) ≡ true

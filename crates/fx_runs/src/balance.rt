@@ -1,6 +1,7 @@
 ghost use Rattle.std.specs.Prelude.{◌≡◌, ℕ, ◌+◌, ◌<◌, ◌≤◌, ◌↔◌, [], List, IsTrue, length, slice_index_or};
 ghost use Rattle.fx_designs.specs.Vectors.{IsVector, dot, combination, vectors_of, zeros};
 ghost use Rattle.fx_designs.specs.Runs.{runs_of, is_constant, is_balanced};
+ghost use Rattle.fx_runs.specs.Counts.{AreCounts};
 
 use crate::runs::Runs;
 use fx_vectors::Vector;
@@ -33,19 +34,26 @@ pub fn is_balanced(u: &Vector, runs: &Runs) -> bool
     requires { IsVector runs.now.shape.q (runs.now.shape.s + runs.now.shape.t) u.now }
     ensures { result ≡ is_balanced runs.now.shape.q u.now runs.now.rows }
 {
-    let q = usize::from(runs.shape().q);
-    // No field has more than nine values.
-    let mut counts = [0usize; 9];
-    for i in 0..runs.len() {
-        let value = usize::from(value_at(u, runs, i));
-        counts[value] += 1;
-    }
-    for y in 1..q {
+    let counts = counts_of(u, runs);
+    for y in 1..usize::from(runs.shape().q) {
         if counts[y] != counts[0] {
             return false;
         }
     }
     true
+}
+
+/// On how many runs x u.x is each value. No field has more than nine values.
+fn counts_of(u: &Vector, runs: &Runs) -> [usize; 9]
+    requires { IsVector runs.now.shape.q (runs.now.shape.s + runs.now.shape.t) u.now }
+    ensures { AreCounts runs.now.shape.q u.now runs.now.rows result }
+{
+    let mut counts = [0usize; 9];
+    for i in 0..runs.len() {
+        let value = usize::from(value_at(u, runs, i));
+        counts[value] += 1;
+    }
+    counts
 }
 
 /// The field value u.x at the run at `i`.

@@ -1,9 +1,5 @@
 use Rattle.std.proofs.Common.{◌<◌, get_or, ℕ, ◌≡◌}
-use Rattle.fx_runs.proofs.Counts.{Counted}
 use Rattle.fx_runs.proofs.balance.is_balanced.Given as goal
-
-abbrev pub invariant-loop-i : goal.invariant-loop-i
-invariant-loop-i l = Counted l.runs.shape.q l.u l.runs.rows l.counts l.i
 
 abbrev pub invariant-loop-y : goal.invariant-loop-y
 invariant-loop-y l = (z : ℕ) → z < l.y → get_or l.counts z 0 ≡ get_or l.counts 0 0
