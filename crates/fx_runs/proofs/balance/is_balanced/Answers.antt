@@ -1,4 +1,4 @@
-use Rattle.std.proofs.Common.{◌≡◌, ◌≤◌, ◌∙◌, sym, ap, arith}
+use Rattle.std.proofs.Common.{◌≡◌, ◌∙◌, sym, ap, arith}
 use Rattle.fx_vectors.specs.declared.shape.Shape.{Shape}
 use Rattle.fx_vectors.proofs.Limits.{order-bounds}
 use Rattle.fx_runs.proofs.Counts.{counts_same, counts_apart}
