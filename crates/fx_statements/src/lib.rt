@@ -1,0 +1,10 @@
+//! The descent over the grammar, statement by statement. Each reader takes a statement from the
+//! cursor on, or says which symbol of it is refused first, and by which code.
+#![tactic(auto)]
+
+mod cursor;
+
+pub use cursor::{Cursor, Refusal};
+
+#[cfg(test)]
+mod tests;
