@@ -3,8 +3,10 @@
 #![tactic(auto)]
 
 mod cursor;
+mod size;
 
 pub use cursor::{Cursor, Refusal};
+pub use size::{SizeStatement, SizeWord};
 
 #[cfg(test)]
 mod tests;

@@ -1,4 +1,4 @@
-use crate::{Cursor, Refusal};
+use crate::{Cursor, Refusal, SizeStatement, SizeWord};
 use fx_language::Symbol;
 
 fn start(symbols: &[Symbol]) -> Cursor<'_> {
@@ -16,4 +16,45 @@ fn one_symbol_is_read_or_refused(rt: HostRuntime) {
     let mut option = start(&symbols);
     assert_eq!(rt; option.expect(Symbol::Nlev), Err(Refusal { code: 3, at: 0 }));
     assert_eq!(rt; option.expect(Symbol::Slash), Err(Refusal { code: 2, at: 0 }));
+}
+
+#[test]
+fn size_is_read_or_refused(rt: HostRuntime) {
+    let cases: [(&[Symbol], Result<SizeStatement, Refusal>); 9] = [
+        (
+            &[Symbol::Design, Symbol::Equals, Symbol::Whole, Symbol::Semicolon],
+            read(SizeWord::Design),
+        ),
+        (
+            &[Symbol::Fraction, Symbol::Equals, Symbol::Maximum, Symbol::Semicolon],
+            read(SizeWord::Fraction),
+        ),
+        (
+            &[Symbol::Nrunfacs, Symbol::Equals, Symbol::Minimum, Symbol::Semicolon],
+            read(SizeWord::Nrunfacs),
+        ),
+        (&[Symbol::Name, Symbol::Equals], refused(3, 0)),
+        (&[Symbol::Semicolon], refused(2, 0)),
+        (&[Symbol::Design, Symbol::Whole], refused(2, 1)),
+        (
+            &[Symbol::Fraction, Symbol::Equals, Symbol::Minimum, Symbol::Semicolon],
+            refused(2, 2),
+        ),
+        (&[Symbol::Design, Symbol::Equals, Symbol::Decimal], refused(2, 2)),
+        (
+            &[Symbol::Design, Symbol::Equals, Symbol::Whole, Symbol::Fraction],
+            refused(2, 3),
+        ),
+    ];
+    for (symbols, want) in cases {
+        assert_eq!(rt; start(symbols).size_statement(), want);
+    }
+}
+
+fn read(word: SizeWord) -> Result<SizeStatement, Refusal> {
+    Ok(SizeStatement { word, value: 2 })
+}
+
+fn refused<T>(code: u8, at: usize) -> Result<T, Refusal> {
+    Err(Refusal { code, at })
 }
