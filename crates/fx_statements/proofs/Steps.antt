@@ -1,5 +1,5 @@
 -- One symbol further.
-use Rattle.std.proofs.Common.{◌≡◌, ℕ, ◌+◌, ◌<◌, Bool, true, false, List, length, drop, Some, refl, ap, ◌∙◌, inl, inr}
+use Rattle.std.proofs.Common.{◌≡◌, ℕ, ◌+◌, ◌<◌, true, false, List, length, Some, refl, ap, ◌∙◌, inl, inr}
 use Rattle.std.proofs.Math.Seq.{drop-cons}
 use Rattle.std.proofs.Math.ListN.{drop_of_length-le}
 use Rattle.std.proofs.Math.Numerals.{add-one}
@@ -48,7 +48,7 @@ module _ (symbols : List Symbol) (i : ℕ) where
   reads left next s at not_end to live =
       let h : i < length symbols = inside (rw at not_end) in
       goes left h (rw (at, to, live) refl)
-          ∙ ap (λ x. refused_from symbols (i + 1) x) (ap (λ x. after x left) at ∙ to)
+      ∙ ap (λ x. refused_from symbols (i + 1) x) (ap (λ x. after x left) at ∙ to)
 
   -- a refused symbol, by its code
   pub refuses : (left : Shape) (code : ℕ) → allows left (symbol_at symbols i) ≡ false

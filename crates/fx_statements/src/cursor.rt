@@ -24,7 +24,7 @@ pub struct Refusal {
 
 impl Cursor<'_> {
     /// The next symbol, or the end.
-    pub fn peek(&self) -> Symbol
+    pub(crate) fn peek(&self) -> Symbol
         ensures { result ≡ next self.now }
     {
         if self.at < self.symbols.len() {
@@ -39,7 +39,7 @@ impl Cursor<'_> {
     /// # Errors
     ///
     /// Another symbol comes.
-    pub fn expect(&mut self, want: Symbol) -> Result<(), Refusal>
+    pub(crate) fn expect(&mut self, want: Symbol) -> Result<(), Refusal>
         requires { is want Symbol.End ≡ false }
         ensures read { OnOk result (next self.old ≡ want) }
         ensures moved { OnOk result ((self.new.at ≡ self.old.at + 1) × (self.new.at ≤ length self.new.symbols.now)) }
@@ -58,7 +58,7 @@ impl Cursor<'_> {
     /// # Errors
     ///
     /// No word comes.
-    pub fn name(&mut self) -> Result<(), Refusal>
+    pub(crate) fn name(&mut self) -> Result<(), Refusal>
         ensures moved { OnOk result ((self.new.at ≡ self.old.at + 1) × (self.new.at ≤ length self.new.symbols.now)) }
         ensures grammar { Reads self.old self.new name result }
     {
@@ -75,7 +75,7 @@ impl Cursor<'_> {
     /// # Errors
     ///
     /// Another symbol comes.
-    pub fn number_or(&mut self, word: Symbol) -> Result<(), Refusal>
+    pub(crate) fn number_or(&mut self, word: Symbol) -> Result<(), Refusal>
         requires { is word Symbol.End ≡ false }
         ensures read { OnOk result ((next self.old ≡ Symbol.Whole) ⊎ (next self.old ≡ word)) }
         ensures moved { OnOk result ((self.new.at ≡ self.old.at + 1) × (self.new.at ≤ length self.new.symbols.now)) }
@@ -90,7 +90,7 @@ impl Cursor<'_> {
     }
 
     /// The refusal of the next symbol, where an option may stand in its place or not.
-    pub fn refused(&self, optional: bool) -> Refusal
+    pub(crate) fn refused(&self, optional: bool) -> Refusal
         ensures code { result.code ≡ code_here (next self.now) optional }
         ensures at { result.at ≡ self.now.at }
     {

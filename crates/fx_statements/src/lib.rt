@@ -3,6 +3,7 @@
 #![tactic(auto)]
 
 mod cursor;
+mod factors;
 mod size;
 
 pub use cursor::{Cursor, Refusal};

@@ -11,9 +11,9 @@ returns-in_default c = record {
   read = tt;
   moved = tt;
   grammar = λ rest live.
-    let e = c.peek.ensures in
-    let none = no_size_word (next c.args.self.now) rest (rw e at c.in_default.not-Design) (rw e at c.in_default.not-Fraction) (rw e at c.in_default.not-Nrunfacs) in
-    refuses _ _ _ _ none.0 none.1 ∙ ap₂ (λ x y. Some (x, y)) (sym c.refused.ensures.code) (sym c.refused.ensures.at);
+      let e = c.peek.ensures in
+      let none = no_size_word (next c.args.self.now) rest (rw e at c.in_default.not-Design) (rw e at c.in_default.not-Fraction) (rw e at c.in_default.not-Nrunfacs) in
+      refuses _ _ _ _ none.0 none.1 ∙ ap₂ (λ x y. Some (x, y)) (sym c.refused.ensures.code) (sym c.refused.ensures.at);
 }
 
 pub returns-clause-grammar : goal.returns-clause-grammar
