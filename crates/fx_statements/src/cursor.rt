@@ -5,7 +5,7 @@ ghost use Rattle.fx_statements.specs.Reading.{code_here, is_option, next, Reads}
 
 use fx_language::Symbol;
 
-/// A place in a text of symbols.
+/// A place in a text of symbols. Its readers take a statement each, and move it behind that.
 #[derive(Clone, Copy, Debug)]
 pub struct Cursor<'a> {
     pub symbols: &'a [Symbol],

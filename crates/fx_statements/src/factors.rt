@@ -7,11 +7,11 @@ use crate::cursor::{Cursor, Refusal};
 use fx_language::Symbol;
 
 impl Cursor<'_> {
-    /// Reads what stands behind the word FACTORS, up to its semicolon.
+    /// Reads what stands behind the word FACTORS, with its semicolon.
     ///
     /// # Errors
     ///
-    /// The first symbol that the grammar doesn't allow.
+    /// The first symbol that the grammar doesn't allow. The cursor is then of no more use.
     pub fn factors_statement(&mut self) -> Result<(), Refusal>
         ensures moved { OnOk result ((self.old.at < self.new.at) × (self.new.at ≤ length self.new.symbols.now)) }
         ensures grammar { Reads self.old self.new factors_rest result }

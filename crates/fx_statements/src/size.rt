@@ -6,11 +6,14 @@ ghost use Rattle.fx_statements.specs.Sizes.{behind_word, extreme_of, symbol_of};
 use crate::cursor::{Cursor, Refusal};
 use fx_language::Symbol;
 
-/// What a SIZE statement gives: the number of runs, of which fraction, or of run factors.
+/// What a SIZE statement says the size by.
 #[derive(Clone, Copy, Debug, PartialEq, Eq)]
 pub enum SizeWord {
+    /// The number of runs.
     Design,
+    /// One of how many parts of all runs.
     Fraction,
+    /// The number of run factors.
     Nrunfacs,
 }
 
@@ -18,16 +21,16 @@ pub enum SizeWord {
 #[derive(Clone, Copy, Debug, PartialEq, Eq)]
 pub struct SizeStatement {
     pub word: SizeWord,
-    /// The index of its value: a number, or MINIMUM or MAXIMUM.
+    /// The index of its value: a number, or MAXIMUM for a fraction and else MINIMUM.
     pub value: usize,
 }
 
 impl Cursor<'_> {
-    /// Reads what stands behind the word SIZE, up to its semicolon.
+    /// Reads what stands behind the word SIZE, with its semicolon.
     ///
     /// # Errors
     ///
-    /// The first symbol that the grammar doesn't allow.
+    /// The first symbol that the grammar doesn't allow. The cursor is then of no more use.
     pub fn size_statement(&mut self) -> Result<SizeStatement, Refusal>
         ensures read { IfOk result (λ size. (next self.old ≡ symbol_of size.word) × (size.value ≡ self.old.at + 2)) }
         ensures moved { IfOk result (λ _. (self.new.at ≡ self.old.at + 4) × (self.new.at ≤ length self.new.symbols.now)) }
