@@ -1,0 +1,13 @@
+//! The descent over the grammar, statement by statement. Each reader takes a statement from the
+//! cursor on, or says which symbol of it is refused first, and by which code.
+#![tactic(auto)]
+
+mod cursor;
+mod factors;
+mod size;
+
+pub use cursor::{Cursor, Refusal};
+pub use size::{SizeStatement, SizeWord};
+
+#[cfg(test)]
+mod tests;
