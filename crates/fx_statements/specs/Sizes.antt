@@ -1,10 +1,10 @@
 -- What stands behind each word of SIZE.
 use Rattle.fx_language.specs.declared.symbol.Symbol.{Symbol}
 use Rattle.fx_language.specs.declared.symbol.Symbol.TheVariants as symbol
-use Rattle.fx_language.specs.Shapes.{Shape, ◌▸◌}
-use Rattle.fx_language.specs.Grammar.{key, n_or}
+use Rattle.fx_language.specs.Shapes.{Shape}
 use Rattle.fx_statements.specs.declared.size.SizeWord.{SizeWord}
 use Rattle.fx_statements.specs.declared.size.SizeWord.TheVariants as word
+use Rattle.fx_statements.specs.Settings.{setting}
 
 -- its symbol
 abbrev pub symbol_of : SizeWord → Symbol
@@ -20,4 +20,4 @@ extreme_of word.Nrunfacs = symbol.Minimum
 
 -- the rest of the statement
 abbrev pub behind_word : SizeWord → Shape
-behind_word w = key symbol.Equals ▸ n_or (extreme_of w) ▸ key symbol.Semicolon
+behind_word w = setting (extreme_of w)

@@ -1,6 +1,7 @@
-ghost use Rattle.std.specs.Prelude.{◌≡◌, ◌+◌, ◌≤◌, ◌⊎◌, false, ◌||◌, length, OnOk};
+ghost use Rattle.std.specs.Prelude.{◌≡◌, ◌+◌, ◌≤◌, ◌⊎◌, false, ◌||◌, length, IfOk, OnOk};
 ghost use Rattle.fx_language.specs.Symbols.{is};
 ghost use Rattle.fx_language.specs.Grammar.{key, name, n_or};
+ghost use Rattle.fx_statements.specs.Settings.{setting};
 ghost use Rattle.fx_statements.specs.Reading.{code_here, is_option, next, Reads};
 
 use fx_language::Symbol;
@@ -87,6 +88,25 @@ impl Cursor<'_> {
         } else {
             Err(self.refused(is_option(word)))
         }
+    }
+
+    /// Reads `=`, a number without a point or this word, and `;`. Returns the place of the number
+    /// or word.
+    ///
+    /// # Errors
+    ///
+    /// Another symbol comes.
+    pub(crate) fn setting(&mut self, word: Symbol) -> Result<usize, Refusal>
+        requires { is word Symbol.End ≡ false }
+        ensures read { IfOk result (λ value. value ≡ self.old.at + 1) }
+        ensures moved { IfOk result (λ _. (self.new.at ≡ self.old.at + 3) × (self.new.at ≤ length self.new.symbols.now)) }
+        ensures grammar { Reads self.old self.new (setting word) result }
+    {
+        self.expect(Symbol::Equals)?;
+        let value = self.at;
+        self.number_or(word)?;
+        self.expect(Symbol::Semicolon)?;
+        Ok(value)
     }
 
     /// The refusal of the next symbol, where an option may stand in its place or not.

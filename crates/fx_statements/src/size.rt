@@ -11,7 +11,7 @@ use fx_language::Symbol;
 pub enum SizeWord {
     /// The number of runs.
     Design,
-    /// One of how many parts of all runs.
+    /// The number of parts into which all runs are divided. The design is one of them.
     Fraction,
     /// The number of run factors.
     Nrunfacs,
@@ -37,10 +37,7 @@ impl Cursor<'_> {
         ensures grammar { Reads self.old self.new size_rest result }
     {
         let word = self.size_word()?;
-        self.expect(Symbol::Equals)?;
-        let value = self.at;
-        self.number_or(extreme_of(word))?;
-        self.expect(Symbol::Semicolon)?;
+        let value = self.setting(extreme_of(word))?;
         Ok(SizeStatement { word, value })
     }
 

@@ -1,4 +1,4 @@
-use crate::{Cursor, Refusal, SizeStatement, SizeWord};
+use crate::{BlocksStatement, BlocksWord, Cursor, Refusal, SizeStatement, SizeWord};
 use fx_language::Symbol;
 
 fn start(symbols: &[Symbol]) -> Cursor<'_> {
@@ -85,6 +85,60 @@ fn size_is_read_or_refused(rt: HostRuntime) {
     ];
     for (symbols, want) in cases {
         assert_eq!(rt; start(symbols).size_statement(), want);
+    }
+}
+
+#[test]
+fn blocks_are_read_or_refused(rt: HostRuntime) {
+    let cases: [(&[Symbol], Result<BlocksStatement, Refusal>); 6] = [
+        (
+            &[
+                Symbol::Nblkfacs,
+                Symbol::Equals,
+                Symbol::Whole,
+                Symbol::Semicolon,
+            ],
+            Ok(BlocksStatement {
+                word: BlocksWord::Nblkfacs,
+                value: 2,
+            }),
+        ),
+        (
+            &[
+                Symbol::Nblocks,
+                Symbol::Equals,
+                Symbol::Maximum,
+                Symbol::Semicolon,
+            ],
+            Ok(BlocksStatement {
+                word: BlocksWord::Nblocks,
+                value: 2,
+            }),
+        ),
+        (
+            &[
+                Symbol::Size,
+                Symbol::Equals,
+                Symbol::Minimum,
+                Symbol::Semicolon,
+            ],
+            Ok(BlocksStatement {
+                word: BlocksWord::Size,
+                value: 2,
+            }),
+        ),
+        (&[Symbol::Design, Symbol::Equals], refused(3, 0)),
+        (
+            &[Symbol::Size, Symbol::Equals, Symbol::Maximum],
+            refused(2, 2),
+        ),
+        (
+            &[Symbol::Nblocks, Symbol::Equals, Symbol::Whole],
+            refused(2, 3),
+        ),
+    ];
+    for (symbols, want) in cases {
+        assert_eq!(rt; start(symbols).blocks_statement(), want);
     }
 }
 
