@@ -1,7 +1,7 @@
 -- Constant inside blocks: any two runs of a block agree. The laws of spans and blocks.
 use Rattle.std.proofs.Common.{ℕ, ◌≡◌, ◌≢◌, ◌<◌, ◌≤◌, ◌+◌, ◌-◌, ◌^◌, ◌↔◌, ◌⊎◌, suc, Bool, true, false, eqb, List, [], ◌∷◌, length, take, drop, get_or, refl, sym, subst, ◌∙◌, ap, arith, inl, inr}
 use Rattle.std.specs.List.{All, AllByRecursion}
-use Rattle.std.proofs.lemmas.Bool.{cases_eq, eq-eqb, eqb-true, both_ways}
+use Rattle.std.proofs.lemmas.Bool.{cases_eq, eq-eqb, eqb-true, both_ways, false_from_ne_true}
 use Rattle.std.proofs.lemmas.List.{drop-map, take-map, length-map}
 use Rattle.std.proofs.lemmas.List.Elements.{All-get_or, All-from_get_or, All-map, All-from_recursion, recursion_from_All}
 use Rattle.fx_designs.specs.Galois.{IsField, number, digits}
@@ -18,7 +18,7 @@ use Rattle.fx_laws.proofs.Shift.{all-points}
 use Rattle.fx_laws.proofs.Space.{AreVectors, combination-vector}
 use Rattle.fx_laws.proofs.Tests.{range_decides}
 use Rattle.fx_vectors.proofs.Steps.{are_vectors, drop-vector}
-use Rattle.fx_runs.proofs.Constant.{not_true, constant_decides}
+use Rattle.fx_runs.proofs.Constant.{constant_decides}
 
 -- none passes, or the one at some place does
 passing : {X : Type 0} (g : X → Bool) (xs : List X) (d : X) → AllByRecursion (λ x. g x ≡ false) xs ⊎ ((i : ℕ) × (i < length xs) × (g (get_or xs i d) ≡ true))
@@ -120,7 +120,7 @@ module _ (q s : ℕ) (u : List ℕ) (rows : List (List ℕ)) where
     -- a run that is another than an earlier one of its block
     pub differ_test : (t j i : ℕ) → All (λ x. IsVector q (s + t) x) rows → j < i → i < length rows → block_at j ≡ block_at i → value j ≢ value i → is_constant_in_blocks q s (q ^ t) u rows ≡ false
     differ_test t j i hv low high one apart =
-        not_true (is_constant_in_blocks q s (q ^ t) u rows) (λ e. apart ((test_agree t hv e).same j i (omega arith) high one))
+        false_from_ne_true (is_constant_in_blocks q s (q ^ t) u rows) (λ e. apart ((test_agree t hv e).same j i (omega arith) high one))
 
     pub agree_test : (t n : ℕ) → length rows ≤ n → AgreeTo q s u rows n → is_constant_in_blocks q s (q ^ t) u rows ≡ true
     agree_test t n past h = constant_test (q ^ t) (agree_constant (record { same = λ a b ha hb e. h.same a b (omega arith) (omega arith) e }))

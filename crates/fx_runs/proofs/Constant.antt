@@ -2,7 +2,7 @@
 use Rattle.std.proofs.Common.{ℕ, ◌≡◌, ◌<◌, ◌↔◌, Bool, true, false, IsTrue, eqb, ◌||◌, List, [], ◌∷◌, length, get_or, refl, sym, subst, ◌∙◌, arith, zero-add}
 use Rattle.std.specs.Bool.{Decides}
 use Rattle.std.specs.List.{All, list_all, list_any}
-use Rattle.std.proofs.lemmas.Bool.{eq-eqb, eqb-true}
+use Rattle.std.proofs.lemmas.Bool.{eq-eqb, eqb-true, false_from_ne_true}
 use Rattle.std.proofs.lemmas.List.Folds.{list_any_at}
 use Rattle.std.proofs.lemmas.List.FromFn.{length-range_with_len, get_or-range_with_len}
 use Rattle.std.proofs.lemmas.List.Elements.{All-get_or, All-from_get_or}
@@ -14,11 +14,6 @@ use Rattle.fx_laws.proofs.Linear.{dot_code}
 use Rattle.fx_laws.proofs.Tests.{all_decides}
 use Rattle.fx_laws.proofs.Bridge.{zero_constant, constant_zero}
 use Rattle.fx_vectors.proofs.Steps.{are_vectors}
-
--- what a test answers that cannot hold
-pub not_true : (b : Bool) → (b ≡ true → ⊥) → b ≡ false
-not_true true none = absurd (none refl)
-not_true false none = refl
 
 some_item : {X : Type 0} (p : X → Bool) (xs : List X) → list_any p xs ≡ true → (x : X) × (p x ≡ true)
 some_item p [] e = absurd (cc)
@@ -59,7 +54,7 @@ module _ (q : ℕ) (f : IsField q) (u : List ℕ) where
   -- another value on one run than on the first
   pub constant_apart : (xs : List (List ℕ)) (i : ℕ) → i < length xs → (dot q u (get_or xs i []) ≡ dot q u (get_or xs 0 []) → ⊥) → is_constant q u xs ≡ false
   constant_apart xs i h apart =
-      not_true (is_constant q u xs) (λ e.
+      false_from_ne_true (is_constant q u xs) (λ e.
       let s = (constant_decides xs).0 e in
       apart (All-get_or (λ x. dot q u x ≡ s.0) xs i [] h s.1 ∙ sym (All-get_or (λ x. dot q u x ≡ s.0) xs 0 [] (omega arith) s.1)))
 

@@ -4,7 +4,7 @@ use Rattle.std.specs.Prelude.{count_by}
 use Rattle.std.proofs.lemmas.List.{take_all}
 use Rattle.std.proofs.Math.ListN.{length-set}
 use Rattle.std.proofs.lemmas.List.Sums.{count_by_more_no, count_by_more_yes}
-use Rattle.std.proofs.lemmas.Bool.{cases_eq, eq-eqb, both_ways}
+use Rattle.std.proofs.lemmas.Bool.{cases_eq, eq-eqb, both_ways, false_from_ne_true}
 use Rattle.fx_designs.specs.Galois.{IsField}
 use Rattle.fx_designs.specs.Vectors.{dot, vectors_of}
 use Rattle.fx_designs.specs.Runs.{is_constant, is_balanced, runs_of}
@@ -13,7 +13,7 @@ use Rattle.fx_laws.proofs.Sums.{ne-eqb}
 use Rattle.fx_laws.proofs.Judging.{balanced_decides}
 use Rattle.fx_vectors.proofs.Steps.{are_vectors}
 use Rattle.fx_runs.specs.Counts.{AreCounts}
-use Rattle.fx_runs.proofs.Constant.{not_true, constant_decides}
+use Rattle.fx_runs.proofs.Constant.{constant_decides}
 
 -- counts has how often each value came in the first k runs
 pub record Counted (q : ℕ) (u : List ℕ) (runs : List (List ℕ)) (counts : List ℕ) (k : ℕ) : Type 0 where
@@ -54,7 +54,7 @@ counts_same q u runs counts small c same = (balanced_decides q u runs).1 (record
 pub counts_apart : (q : ℕ) (u : List ℕ) (runs : List (List ℕ)) (counts : List ℕ) (y : ℕ) → q ≤ 9 → AreCounts q u runs counts
     → y < q → (get_or counts y 0 ≡ get_or counts 0 0 → ⊥) → is_balanced q u runs ≡ false
 counts_apart q u runs counts y small c h apart =
-    not_true (is_balanced q u runs) (λ e. apart (c.each y (omega arith) ∙ ((balanced_decides q u runs).0 e).same y 0 h (omega arith) ∙ sym (c.each 0 (omega arith))))
+    false_from_ne_true (is_balanced q u runs) (λ e. apart (c.each y (omega arith) ∙ ((balanced_decides q u runs).0 e).same y 0 h (omega arith) ∙ sym (c.each 0 (omega arith))))
 
 -- over the runs of rules, a vector that is not constant
 pub other_vectors : (q : ℕ) (f : IsField q) (u : List ℕ) (m : ℕ) (rows : List ℕ) → is_constant q u (runs_of q m (vectors_of q m rows)) ≡ false → is_balanced q u (runs_of q m (vectors_of q m rows)) ≡ true

@@ -1,12 +1,12 @@
 -- Steps of the loops over points.
-use Rattle.std.proofs.Common.{ℕ, ◌≡◌, ◌<◌, ◌+◌, ◌-◌, ◌/◌, ◌%◌, ◌^◌, suc, List, [], ◌∷◌, ◌++◌, length, take, set, refl, ap, arith, append_assoc, subst}
+use Rattle.std.proofs.Common.{ℕ, ◌≡◌, ◌<◌, ◌+◌, ◌-◌, ◌/◌, ◌%◌, ◌^◌, suc, List, [], ◌∷◌, ◌++◌, length, take, set, refl, arith, append_assoc, subst}
 use Rattle.std.proofs.Math.Nat.{pow-suc, mul-div_left}
 use Rattle.std.proofs.lemmas.List.{take_more_set, length-map}
 use Rattle.fx_laws.specs.Facts.{point_of}
 use Rattle.fx_designs.specs.Runs.{levels_at}
 use Rattle.fx_designs.specs.Galois.{IsField, digits}
 use Rattle.fx_designs.specs.Vectors.{IsVector, vectors_of}
-use Rattle.fx_laws.proofs.Linear.{dot_code}
+use Rattle.fx_laws.proofs.Blocks.{levels-vector}
 
 pub size_more : (q n i : ℕ) → 0 < q → i < n → q ^ (n - i) / q ≡ q ^ (n - (i + 1))
 size_more q n i some h =
@@ -18,12 +18,6 @@ pub point_more : (q n i rest : ℕ) (done : List ℕ) → i < n → i < length d
 point_more q n i rest done h within =
     let e : n - i ≡ suc (n - (i + 1)) = omega arith in
     rw (take_more_set done i (rest / q ^ (n - (i + 1))) within, append_assoc, e) refl
-
-pub levels-vector : (q : ℕ) (f : IsField q) (rows : List (List ℕ)) (p : List ℕ) → IsVector q (length rows) (levels_at q rows p)
-levels-vector q f [] p = record { len = refl; codes = tt }
-levels-vector q f (r ∷ rows) p =
-    let rest : IsVector q (length rows) (levels_at q rows p) = levels-vector q f rows p in
-    record { len = ap suc rest.len; codes = (dot_code q f r p, rest.codes) }
 
 pub rows-vector : (q : ℕ) (f : IsField q) (m : ℕ) (rows p : List ℕ) → IsVector q (length rows) (levels_at q (vectors_of q m rows) p)
 rows-vector q f m rows p = subst (λ (n : ℕ). IsVector q n (levels_at q (vectors_of q m rows) p)) (length-map rows (λ r. digits q m r)) (levels-vector q f (vectors_of q m rows) p)
