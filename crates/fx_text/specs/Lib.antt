@@ -1,0 +1,5 @@
+pub mod Written
+pub mod Numbers
+pub mod Statements
+pub mod Names
+pub mod Refusals

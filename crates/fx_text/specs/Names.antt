@@ -1,0 +1,11 @@
+-- Names, which are compared without regard to case.
+use Rattle.std.specs.Prelude.{ℕ, Bool, List, Option, position}
+use Rattle.std.specs.Str.{str_eq_ignore_ascii_case}
+
+-- the same name, without regard to case
+abbrev pub is_same_name : List ℕ → List ℕ → Bool
+is_same_name a b = str_eq_ignore_ascii_case a b
+
+-- the index at which a name stands among others
+abbrev pub place_of : List ℕ → List (List ℕ) → Option ℕ
+place_of name names = position (is_same_name name) names

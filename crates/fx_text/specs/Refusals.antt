@@ -1,0 +1,21 @@
+-- A text that is refused, and the place at which it is.
+use Rattle.std.specs.Prelude.{◌≡◌, ℕ, Result, Ok, Err}
+use Rattle.fx_text.specs.declared.refusal.Refusal.{Refusal}
+use Rattle.fx_text.specs.declared.refusal.ParseStop.{ParseStop}
+use Rattle.fx_text.specs.declared.refusal.ParseStop.TheVariants as stop
+use Rattle.fx_text.specs.Written.{Written}
+
+-- the refusal at what is written, by this code
+abbrev pub refusal_at : ℕ → Written → Refusal
+refusal_at code w = record { code = code; line = w.line; column = w.column }
+
+infixl 10 ◌>>=◌
+-- What follows from a value, where none is refused before it.
+abbrev pub ◌>>=◌ : {A B : Type 0} → Result A Refusal → (A → Result B Refusal) → Result B Refusal
+(Ok x) >>= f = f x
+(Err refusal) >>= f = Err refusal
+
+-- the text's meaning is this refusal; want of memory says nothing of the text
+abbrev pub IsRefused : {A : Type 0} → Result A Refusal → ParseStop → Type 0
+IsRefused meaning (stop.Refused refusal) = meaning ≡ Err refusal
+IsRefused meaning stop.NoMemory = Unit {0}

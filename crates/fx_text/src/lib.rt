@@ -1,0 +1,13 @@
+//! What is written in a program text: words, numbers and signs with their places, statements and
+//! steps. And the places at which a text is refused.
+#![tactic(auto)]
+
+mod lexeme;
+mod name;
+mod refusal;
+mod statement;
+
+pub use lexeme::{Lexeme, Lexemes, lexemes};
+pub use name::{Names, is_same_name, place_of};
+pub use refusal::{ParseStop, Refusal};
+pub use statement::{Statement, Statements, find, statements};
