@@ -1,13 +1,22 @@
 -- A text that is refused, and the place at which it is.
 use Rattle.std.specs.Prelude.{◌≡◌, ℕ, Result, Ok, Err}
+use Rattle.fx_text.specs.declared.refusal.Place.{Place}
 use Rattle.fx_text.specs.declared.refusal.Refusal.{Refusal}
 use Rattle.fx_text.specs.declared.refusal.ParseStop.{ParseStop}
 use Rattle.fx_text.specs.declared.refusal.ParseStop.TheVariants as stop
 use Rattle.fx_text.specs.Written.{Written}
 
+-- the place of what is written
+abbrev pub place_at : Written → Place
+place_at w = record { line = w.line; column = w.column }
+
+-- the refusal at a place, by this code
+abbrev pub refused_at : ℕ → Place → Refusal
+refused_at code place = record { code = code; line = place.line; column = place.column }
+
 -- the refusal at what is written, by this code
 abbrev pub refusal_at : ℕ → Written → Refusal
-refusal_at code w = record { code = code; line = w.line; column = w.column }
+refusal_at code w = refused_at code (place_at w)
 
 infixl 10 ◌>>=◌
 -- What follows from a value, where none is refused before it.

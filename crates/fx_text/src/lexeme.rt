@@ -5,9 +5,9 @@ ghost use Rattle.fx_language.specs.Symbols.{is};
 ghost use Rattle.fx_language.specs.Keywords.{symbols_of};
 ghost use Rattle.fx_text.specs.Written.{written, written_at};
 ghost use Rattle.fx_text.specs.Numbers.{number_of, IsNumber, IsRead};
-ghost use Rattle.fx_text.specs.Refusals.{refusal_at};
+ghost use Rattle.fx_text.specs.Refusals.{place_at, refusal_at};
 
-use crate::refusal::Refusal;
+use crate::refusal::{Place, Refusal};
 use fx_base::{Items, NoMemory};
 use fx_language::Symbol;
 use fx_lexer::{Token, Tokens};
@@ -70,15 +70,21 @@ impl<'a> Lexeme<'a> {
         }
     }
 
+    /// The place of its first byte.
+    pub fn place(&self) -> Place
+        ensures { result ≡ place_at self.now }
+    {
+        Place {
+            line: self.line,
+            column: self.column,
+        }
+    }
+
     /// The refusal of the text at it, by this code.
     pub fn refused(&self, code: u8) -> Refusal
         ensures { result ≡ refusal_at code self.now }
     {
-        Refusal {
-            code,
-            line: self.line,
-            column: self.column,
-        }
+        self.place().refused(code)
     }
 }
 

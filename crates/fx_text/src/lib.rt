@@ -9,5 +9,5 @@ mod statement;
 
 pub use lexeme::{Lexeme, Lexemes, lexemes};
 pub use name::{Names, is_same_name, place_of};
-pub use refusal::{ParseStop, Refusal};
+pub use refusal::{ParseStop, Place, Refusal};
 pub use statement::{Statement, Statements, find, statements};

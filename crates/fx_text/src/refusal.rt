@@ -3,6 +3,30 @@ ghost use Rattle.fx_text.specs.declared.refusal.ParseStop.TheVariants as stop;
 
 use fx_base::NoMemory;
 
+/// A place of a text.
+#[derive(Clone, Copy, Debug, PartialEq, Eq)]
+pub struct Place {
+    /// Its line, from 1.
+    pub line: u32,
+    /// Its column, which counts the bytes of the line from 1.
+    pub column: u32,
+}
+
+impl Place {
+    ghost use Rattle.fx_text.specs.Refusals.{refused_at};
+
+    /// The refusal of the text at it, by this code.
+    pub fn refused(self, code: u8) -> Refusal
+        ensures { result ≡ refused_at code self }
+    {
+        Refusal {
+            code,
+            line: self.line,
+            column: self.column,
+        }
+    }
+}
+
 /// Where a text is refused, and why.
 #[derive(Clone, Copy, Debug, PartialEq, Eq)]
 pub struct Refusal {
@@ -10,7 +34,7 @@ pub struct Refusal {
     pub code: u8,
     /// The line of what is refused, from 1.
     pub line: u32,
-    /// Its column, which counts the bytes of the line from 1.
+    /// Its column, from 1.
     pub column: u32,
 }
 
