@@ -1,0 +1,44 @@
+-- The settings of a step, in the order in which what is wrong with them is told.
+use Rattle.std.specs.Prelude.{ℕ, ◌==◌, nat_le, ◌&&◌, Bool, [], ◌∷◌, Option, Some, None, Result, Ok, Err, if◌then◌else◌}
+use Rattle.std.specs.List.{list_any}
+use Rattle.fx_text.specs.declared.refusal.Refusal.{Refusal}
+use Rattle.fx_text.specs.declared.refusal.Place.{Place}
+use Rattle.fx_text.specs.Refusals.{refused_at, ◌>>=◌}
+use Rattle.fx_settings.specs.declared.said.StepSaid.{StepSaid}
+use Rattle.fx_settings.specs.declared.said.Value.{Value}
+use Rattle.fx_settings.specs.declared.settings.Settings.{Settings}
+use Rattle.fx_settings.specs.Sizes.{size_of}
+use Rattle.fx_settings.specs.Models.{wanted_of, least_of}
+use Rattle.fx_settings.specs.Blocks.{blocks_allowed, minimum_allowed, blocks_of}
+
+-- the number that is said where it passes, and the usual one where none is said
+abbrev pub number_by : ℕ → ℕ → (ℕ → Bool) → Place → Option ℕ → Result ℕ Refusal
+number_by usual code passes place None = Ok usual
+number_by usual code passes place (Some n) = if passes n then Ok n else Err (refused_at code place)
+
+abbrev pub number_said : ℕ → ℕ → (ℕ → Bool) → Option Value → Result ℕ Refusal
+number_said usual code passes None = Ok usual
+number_said usual code passes (Some said) = number_by usual code passes said.place said.number
+
+abbrev pub is_level : ℕ → Bool
+is_level n = list_any (λ q. q == n) (2 ∷ 3 ∷ 4 ∷ 5 ∷ 7 ∷ 8 ∷ 9 ∷ [])
+
+-- NLEV: two levels where it isn't given
+unfoldable pub levels_of : Option Value → Result ℕ Refusal
+levels_of said = number_said 2 6 is_level said
+
+-- NODES: 1,000,000 where it isn't given
+unfoldable pub budget_of : Option Value → Result ℕ Refusal
+budget_of said = number_said 1000000 29 (λ n. nat_le 1 n && nat_le n 5000000) said
+
+-- the settings of a step of s factors
+abbrev pub settings_of : ℕ → StepSaid → Result Settings Refusal
+settings_of s said = do
+  q ← levels_of said.levels
+  budget ← budget_of said.nodes
+  size ← size_of q s said.factors said.size
+  wanted ← wanted_of said.model
+  allowed ← blocks_allowed wanted (least_of said.model) said.blocks
+  least ← minimum_allowed size wanted (least_of said.model) said.blocks said.size
+  blocks ← blocks_of q size said.blocks
+  Ok (record { q = q; budget = budget; size = size; wanted = wanted; least = least_of said.model; blocks = blocks })

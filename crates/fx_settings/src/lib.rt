@@ -1,0 +1,13 @@
+//! The settings of a step: its numbers of levels, runs and blocks, its budget, and what it wants.
+//! First what the statements say, then what is wrong with it.
+#![tactic(auto)]
+
+mod block;
+mod model;
+mod power;
+mod said;
+mod settings;
+mod size;
+
+pub use said::{BlocksSaid, BlocksWord, ModelSaid, SizeSaid, SizeWord, StepSaid, Value, step_said};
+pub use settings::{Blocks, Settings, Size, Wanted, settings_of};

@@ -1,0 +1,133 @@
+ghost use Rattle.std.specs.Prelude.{◌≡◌, ◌≤◌, ℕ, Bool, IfOk};
+ghost use Rattle.fx_settings.specs.Settings.{budget_of, is_level, levels_of, settings_of};
+
+use crate::block::{blocks_allowed, blocks_of, minimum_allowed};
+use crate::model::{least_of, wanted_of};
+use crate::said::{StepSaid, Value};
+use crate::size::size_of;
+use fx_text::Refusal;
+
+/// How many runs a step has.
+#[derive(Clone, Copy, Debug, PartialEq, Eq)]
+pub enum Size {
+    /// q^m runs, m from 1 to 10.
+    Runs { m: u8 },
+    /// The fewest with which there is a design.
+    Minimum,
+}
+
+/// What a step wants of its design.
+#[derive(Clone, Copy, Debug, PartialEq, Eq)]
+pub enum Wanted {
+    /// At least this resolution, from 3 to 99.
+    Resolution { r: u8 },
+    /// The highest resolution.
+    Highest,
+}
+
+/// The blocks of a step.
+#[derive(Clone, Copy, Debug, PartialEq, Eq)]
+pub enum Blocks {
+    Without,
+    /// q^t blocks, t from 1 to 10.
+    Factors { t: u8 },
+    /// Blocks of q^k runs. Stands only with the least size.
+    PerBlock { k: u8 },
+    /// As many as can be.
+    Most,
+}
+
+/// The settings of a step.
+#[derive(Clone, Copy, Debug, PartialEq, Eq)]
+pub struct Settings {
+    /// The number of levels: 2, 3, 4, 5, 7, 8 or 9.
+    pub q: u8,
+    /// The greatest number of nodes, from 1 to 5,000,000.
+    pub budget: u64,
+    pub size: Size,
+    pub wanted: Wanted,
+    /// Whether least aberration is wanted.
+    pub least: bool,
+    pub blocks: Blocks,
+}
+
+/// The settings of a step of `s` factors that says this.
+///
+/// # Errors
+///
+/// The first of these, in this order: E6, E29 for NODES, E8, E9, E11, E13, E14, E15, E16.
+pub fn settings_of(s: u8, said: StepSaid) -> Result<Settings, Refusal>
+    ensures { result ≡ settings_of s said }
+{
+    let q = levels_of(said.levels)?;
+    let budget = budget_of(said.nodes)?;
+    let size = size_of(q, s, said.factors, said.size)?;
+    let wanted = wanted_of(said.model)?;
+    let least = least_of(said.model);
+    blocks_allowed(wanted, least, said.blocks)?;
+    minimum_allowed(size, wanted, least, said.blocks, said.size)?;
+    let blocks = blocks_of(q, size, said.blocks)?;
+    Ok(Settings {
+        q,
+        budget,
+        size,
+        wanted,
+        least,
+        blocks,
+    })
+}
+
+/// The number of levels.
+///
+/// # Errors
+///
+/// E6: it is none of the seven.
+#[tactic(auto, unfolding(crate::specs::Settings::levels_of))]
+fn levels_of(said: Option<Value>) -> Result<u8, Refusal>
+    ensures value { result ≡ levels_of said }
+    ensures bound { IfOk result (λ q. 2 ≤ q) }
+{
+    match said {
+        None => Ok(2),
+        Some(said) => match said.number {
+            None => Ok(2),
+            Some(n) => {
+                if is_level(n) {
+                    Ok(n as u8)
+                } else {
+                    Err(said.place.refused(6))
+                }
+            }
+        },
+    }
+}
+
+fn is_level(n: u128) -> bool
+    ensures { result ≡ is_level n }
+{
+    matches!(n, 2 | 3 | 4 | 5 | 7 | 8 | 9)
+}
+
+/// The budget of nodes.
+///
+/// # Errors
+///
+/// E29: it is not from 1 to 5,000,000.
+#[tactic(auto, unfolding(crate::specs::Settings::budget_of))]
+fn budget_of(said: Option<Value>) -> Result<u64, Refusal>
+    ensures { result ≡ budget_of said }
+{
+    match said {
+        None => Ok(1_000_000),
+        Some(said) => match said.number {
+            None => Ok(1_000_000),
+            Some(n) => {
+                if 1 <= n && n <= 5_000_000 {
+                    Ok(n as u64)
+                } else {
+                    Err(said.place.refused(29))
+                }
+            }
+        },
+    }
+}
