@@ -64,7 +64,7 @@ impl<'a> Lexeme<'a> {
         ensures { result ≡ number_of self.now }
     {
         if Symbol::Whole.is(self.symbol) {
-            number(self.text)
+            Some(number(self.text))
         } else {
             None
         }
@@ -125,13 +125,13 @@ fn lexeme_at<'a>(text: &'a [u8], token: Token, symbol: Symbol) -> Lexeme<'a>
     }
 }
 
-/// The number that digits write.
-fn number(digits: &[u8]) -> Option<u128>
+/// The number that 1 to 38 digits write.
+pub fn number(digits: &[u8]) -> u128
     requires { IsNumber digits.now }
-    ensures { result ≡ Some (digits_value 10 digits.now) }
+    ensures { result ≡ digits_value 10 digits.now }
 {
     match str::from_utf8(digits) {
-        Ok(text) => text.parse::<u128>().ok(),
-        Err(_) => None,
+        Ok(text) => text.parse::<u128>().unwrap_or(0),
+        Err(_) => 0,
     }
 }

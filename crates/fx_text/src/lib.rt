@@ -7,7 +7,7 @@ mod name;
 mod refusal;
 mod statement;
 
-pub use lexeme::{Lexeme, Lexemes, lexemes};
+pub use lexeme::{Lexeme, Lexemes, lexemes, number};
 pub use name::{Names, is_same_name, place_of};
 pub use refusal::{ParseStop, Place, Refusal};
 pub use statement::{Statement, Statements, find, statements};

@@ -1,0 +1,56 @@
+-- The items of a FACTORS statement.
+use Rattle.std.specs.Prelude.{ℕ, Bool, true, false, not, ◌||◌, List, [], ◌∷◌, take, drop, Option, Some, None, if◌then◌else◌}
+use Rattle.std.specs.List.{prefix_len}
+use Rattle.fx_language.specs.declared.symbol.Symbol.TheVariants.{Slash, Minus}
+use Rattle.fx_language.specs.Symbols.{is}
+use Rattle.fx_text.specs.Written.{Written}
+use Rattle.fx_factors.specs.Ranges.{is_range, names_between}
+
+-- a name, or the first and the last name of a range
+pub record Item : Type 0 where
+  pub first : Written
+  pub last : Option Written
+
+abbrev pub item : Written → Option Written → Item
+item first last = record { first = first; last = last }
+
+-- the first of some
+abbrev pub first_of : List Written → Option Written
+first_of [] = None
+first_of (w ∷ rest) = Some w
+
+-- the last name of a range, where `-` stands behind the first
+abbrev pub last_behind : List Written → Option Written
+last_behind [] = None
+last_behind (w ∷ rest) = if is Minus w.symbol then first_of rest else None
+
+-- the items, where `-` stands before the first lexeme or not: all that is neither `-` nor behind one begins an item
+abbrev pub items_from : Bool → List Written → List Item
+items_from behind_minus [] = []
+items_from behind_minus (w ∷ rest) =
+    if behind_minus || is Minus w.symbol then items_from (is Minus w.symbol) rest
+    else item w (last_behind rest) ∷ items_from (is Minus w.symbol) rest
+
+-- what stands before a `/`
+abbrev pub before_slash : List Written → List Written
+before_slash written = take (prefix_len (λ w. not (is Slash w.symbol)) written) written
+
+-- the items of a FACTORS statement
+abbrev pub items_of : List Written → List Item
+items_of statement = items_from false (before_slash (drop 1 statement))
+
+-- one name is regular, and a range has to be one
+abbrev pub is_regular_from : Written → Option Written → Bool
+is_regular_from first None = true
+is_regular_from first (Some last) = is_range first.text last.text
+
+abbrev pub is_regular : Item → Bool
+is_regular item = is_regular_from item.first item.last
+
+abbrev pub names_from : Written → Option Written → List (List ℕ)
+names_from first None = first.text ∷ []
+names_from first (Some last) = names_between first.text last.text
+
+-- the names that an item stands for
+abbrev pub names_of : Item → List (List ℕ)
+names_of item = names_from item.first item.last

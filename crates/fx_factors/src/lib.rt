@@ -1,0 +1,7 @@
+//! The factors that a FACTORS statement names, one by one or in ranges.
+#![tactic(auto)]
+
+mod factors;
+mod range;
+
+pub use factors::factors_of;
