@@ -1,0 +1,40 @@
+ghost use Rattle.std.specs.Prelude.{◌≡◌};
+ghost use Rattle.fx_language.specs.Shapes.{after};
+ghost use Rattle.fx_syntax.specs.Places.{examine_left, shape_left};
+
+use crate::state::State;
+use fx_language::Symbol;
+
+/// A place in an EXAMINE statement. Behind it comes a section of the listing, or `;`.
+#[derive(Clone, Copy, Debug, PartialEq, Eq)]
+pub enum ExaminePlace {
+    /// Behind EXAMINE or a section.
+    Sections,
+    /// Behind ALIASING or ABERRATION, where `(` has a code of its own.
+    NoOpen,
+}
+
+impl ExaminePlace {
+    /// The place behind the symbol, or None where the grammar refuses it.
+    pub(crate) fn next(self, symbol: Symbol) -> Option<State>
+        ensures { after symbol (examine_left self) ≡ shape_left result }
+    {
+        match self {
+            ExaminePlace::Sections => behind_section(symbol),
+            ExaminePlace::NoOpen => behind_section(symbol),
+        }
+    }
+}
+
+fn behind_section(symbol: Symbol) -> Option<State>
+    ensures { after symbol (examine_left ExaminePlace.Sections) ≡ shape_left result }
+{
+    match symbol {
+        Symbol::Aliasing | Symbol::Aberration => Some(State::Examine(ExaminePlace::NoOpen)),
+        Symbol::Blocked | Symbol::Confounding | Symbol::Design => {
+            Some(State::Examine(ExaminePlace::Sections))
+        }
+        Symbol::Semicolon => Some(State::Step),
+        _ => None,
+    }
+}

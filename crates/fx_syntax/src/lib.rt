@@ -1,0 +1,12 @@
+//! Where a program is first refused, by a finite automaton that passes once over its symbols.
+#![tactic(auto)]
+
+mod effects;
+mod examine;
+mod factors;
+mod model;
+mod output;
+mod proc;
+mod setting;
+mod state;
+mod values;

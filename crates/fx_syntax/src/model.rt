@@ -1,0 +1,66 @@
+ghost use Rattle.std.specs.Prelude.{◌≡◌};
+ghost use Rattle.fx_language.specs.Shapes.{after};
+ghost use Rattle.fx_syntax.specs.Places.{model_left, shape_left};
+
+use crate::effects::{EffectList, EffectPlace};
+use crate::state::{State, only};
+use fx_language::Symbol;
+
+/// A place in a MODEL statement, outside of its lists of effects.
+#[derive(Clone, Copy, Debug, PartialEq, Eq)]
+pub enum ModelPlace {
+    /// Behind MODEL: ESTIMATE or RESOLUTION.
+    Word,
+    /// Behind the list of ESTIMATE: NONNEGLIGIBLE, `/` or `;`.
+    Nonnegligible,
+    /// Behind RESOLUTION: `=`.
+    Equals,
+    /// Behind that: a number or MAXIMUM.
+    Resolution,
+    /// Behind all but the option: `/` or `;`.
+    Slash,
+    /// Behind `/`: MINABS.
+    Option,
+    /// Behind MINABS: `;`.
+    End,
+}
+
+impl ModelPlace {
+    /// The place behind the symbol, or None where the grammar refuses it.
+    pub(crate) fn next(self, symbol: Symbol) -> Option<State>
+        ensures { after symbol (model_left self) ≡ shape_left result }
+    {
+        match self {
+            ModelPlace::Word => match symbol {
+                Symbol::Estimate => Some(State::Effects(EffectList::Estimate, EffectPlace::Equals)),
+                Symbol::Resolution => Some(State::Model(ModelPlace::Equals)),
+                _ => None,
+            },
+            ModelPlace::Nonnegligible => match symbol {
+                Symbol::Nonnegligible => Some(State::Effects(
+                    EffectList::Nonnegligible,
+                    EffectPlace::Equals,
+                )),
+                Symbol::Slash => Some(State::Model(ModelPlace::Option)),
+                Symbol::Semicolon => Some(State::Step),
+                _ => None,
+            },
+            ModelPlace::Equals => only(
+                Symbol::Equals,
+                symbol,
+                State::Model(ModelPlace::Resolution),
+            ),
+            ModelPlace::Resolution => match symbol {
+                Symbol::Whole | Symbol::Maximum => Some(State::Model(ModelPlace::Slash)),
+                _ => None,
+            },
+            ModelPlace::Slash => match symbol {
+                Symbol::Slash => Some(State::Model(ModelPlace::Option)),
+                Symbol::Semicolon => Some(State::Step),
+                _ => None,
+            },
+            ModelPlace::Option => only(Symbol::Minabs, symbol, State::Model(ModelPlace::End)),
+            ModelPlace::End => only(Symbol::Semicolon, symbol, State::Step),
+        }
+    }
+}

@@ -1,0 +1,126 @@
+ghost use Rattle.std.specs.Prelude.{◌≡◌};
+ghost use Rattle.fx_language.specs.Shapes.{after};
+ghost use Rattle.fx_syntax.specs.Places.{output_left, shape_left};
+
+use crate::state::{State, any_word, only};
+use crate::values::{ValueKind, ValuesPlace};
+use fx_language::Symbol;
+
+/// A place in an OUTPUT statement, outside of its lists of values.
+#[derive(Clone, Copy, Debug, PartialEq, Eq)]
+pub enum OutputPlace {
+    /// Behind OUTPUT: OUT.
+    Out,
+    /// Behind OUT: `=`.
+    Equals,
+    /// Behind that: the name of the data set.
+    DataSet,
+    /// Behind an option: another one, or `;`.
+    Options,
+    /// Behind POINTREP or DESIGNREP: `=`.
+    ReplicationEquals,
+    /// Behind that: a number.
+    Replication,
+    /// Behind RANDOMIZE: `(`, an option or `;`.
+    Randomize,
+    /// Behind `(`: a number.
+    Seed,
+    /// Behind that: `)`.
+    SeedEnd,
+    /// Behind BLOCKNAME: `=`.
+    BlocknameEquals,
+    /// Behind that: the name of the block column.
+    BlockColumn,
+    /// Behind that: its values, an option or `;`.
+    BlockValues,
+    /// Behind NVALS or CVALS there: the rest of the column's values, or the values of a factor of that name.
+    ValuesOrFactor(ValueKind),
+    /// Behind the name of a factor: its values.
+    Factor,
+}
+
+impl OutputPlace {
+    /// The place behind the symbol, or None where the grammar refuses it.
+    pub(crate) fn next(self, symbol: Symbol) -> Option<State>
+        ensures { after symbol (output_left self) ≡ shape_left result }
+    {
+        match self {
+            OutputPlace::Out => only(Symbol::Out, symbol, State::Output(OutputPlace::Equals)),
+            OutputPlace::Equals => {
+                only(Symbol::Equals, symbol, State::Output(OutputPlace::DataSet))
+            }
+            OutputPlace::DataSet => any_word(symbol, State::Output(OutputPlace::Options)),
+            OutputPlace::Options => option(symbol),
+            OutputPlace::ReplicationEquals => {
+                only(
+                    Symbol::Equals,
+                    symbol,
+                    State::Output(OutputPlace::Replication),
+                )
+            }
+            OutputPlace::Replication => {
+                only(Symbol::Whole, symbol, State::Output(OutputPlace::Options))
+            }
+            OutputPlace::Randomize => match symbol {
+                Symbol::Open => Some(State::Output(OutputPlace::Seed)),
+                _ => option(symbol),
+            },
+            OutputPlace::Seed => only(Symbol::Whole, symbol, State::Output(OutputPlace::SeedEnd)),
+            OutputPlace::SeedEnd => {
+                only(Symbol::Close, symbol, State::Output(OutputPlace::Options))
+            }
+            OutputPlace::BlocknameEquals => {
+                only(
+                    Symbol::Equals,
+                    symbol,
+                    State::Output(OutputPlace::BlockColumn),
+                )
+            }
+            OutputPlace::BlockColumn => any_word(symbol, State::Output(OutputPlace::BlockValues)),
+            OutputPlace::BlockValues => values_or_option(symbol),
+            OutputPlace::ValuesOrFactor(kind) => match symbol {
+                Symbol::Equals => Some(State::Values(ValuesPlace::Open(kind))),
+                _ => values(symbol),
+            },
+            OutputPlace::Factor => values(symbol),
+        }
+    }
+}
+
+/// The place behind the first word of an option, or behind `;`.
+fn option(symbol: Symbol) -> Option<State>
+    ensures { after symbol (output_left OutputPlace.Options) ≡ shape_left result }
+{
+    match symbol {
+        Symbol::Pointrep | Symbol::Designrep => {
+            Some(State::Output(OutputPlace::ReplicationEquals))
+        }
+        Symbol::Randomize => Some(State::Output(OutputPlace::Randomize)),
+        Symbol::Novalran => Some(State::Output(OutputPlace::Options)),
+        Symbol::Blockname => Some(State::Output(OutputPlace::BlocknameEquals)),
+        Symbol::Semicolon => Some(State::Step),
+        _ => any_word(symbol, State::Output(OutputPlace::Factor)),
+    }
+}
+
+/// The place behind the word that begins the values of a factor.
+fn values(symbol: Symbol) -> Option<State>
+    ensures { after symbol (output_left OutputPlace.Factor) ≡ shape_left result }
+{
+    match symbol {
+        Symbol::Nvals => Some(State::Values(ValuesPlace::Equals(ValueKind::Numbers))),
+        Symbol::Cvals => Some(State::Values(ValuesPlace::Equals(ValueKind::Texts))),
+        _ => None,
+    }
+}
+
+/// The place behind the first word of the block column's values, of an option, or behind `;`.
+fn values_or_option(symbol: Symbol) -> Option<State>
+    ensures { after symbol (output_left OutputPlace.BlockValues) ≡ shape_left result }
+{
+    match symbol {
+        Symbol::Nvals => Some(State::Output(OutputPlace::ValuesOrFactor(ValueKind::Numbers))),
+        Symbol::Cvals => Some(State::Output(OutputPlace::ValuesOrFactor(ValueKind::Texts))),
+        _ => option(symbol),
+    }
+}

@@ -1,0 +1,92 @@
+ghost use Rattle.std.specs.Prelude.{◌≡◌};
+ghost use Rattle.fx_language.specs.Shapes.{after};
+ghost use Rattle.fx_syntax.specs.Places.{shape_left, values_left};
+
+use crate::output::OutputPlace;
+use crate::state::{State, only};
+use fx_language::Symbol;
+
+/// What a list of values has.
+#[derive(Clone, Copy, Debug, PartialEq, Eq)]
+pub enum ValueKind {
+    Numbers,
+    Texts,
+}
+
+/// A place in the values of a factor or of the block column, behind NVALS or CVALS.
+#[derive(Clone, Copy, Debug, PartialEq, Eq)]
+pub enum ValuesPlace {
+    /// Behind that word: `=`.
+    Equals(ValueKind),
+    /// Behind `=`: `(`.
+    Open(ValueKind),
+    /// Behind `(`: a number, or `-` and one.
+    Number,
+    /// Behind `-`: a number.
+    Unsigned,
+    /// Behind a number: another one, or `)`.
+    MoreNumbers,
+    /// Behind `(`: a text.
+    Text,
+    /// Behind a text: another one, or `)`.
+    MoreTexts,
+}
+
+impl ValuesPlace {
+    /// The place behind the symbol, or None where the grammar refuses it.
+    pub(crate) fn next(self, symbol: Symbol) -> Option<State>
+        ensures { after symbol (values_left self) ≡ shape_left result }
+    {
+        match self {
+            ValuesPlace::Equals(kind) => {
+                only(
+                    Symbol::Equals,
+                    symbol,
+                    State::Values(ValuesPlace::Open(kind)),
+                )
+            }
+            ValuesPlace::Open(ValueKind::Numbers) => {
+                only(Symbol::Open, symbol, State::Values(ValuesPlace::Number))
+            }
+            ValuesPlace::Open(ValueKind::Texts) => {
+                only(Symbol::Open, symbol, State::Values(ValuesPlace::Text))
+            }
+            ValuesPlace::Number => signed(symbol),
+            ValuesPlace::Unsigned => unsigned(symbol),
+            ValuesPlace::MoreNumbers => match symbol {
+                Symbol::Close => Some(State::Output(OutputPlace::Options)),
+                _ => signed(symbol),
+            },
+            ValuesPlace::Text => only(
+                Symbol::Quoted,
+                symbol,
+                State::Values(ValuesPlace::MoreTexts),
+            ),
+            ValuesPlace::MoreTexts => match symbol {
+                Symbol::Quoted => Some(State::Values(ValuesPlace::MoreTexts)),
+                Symbol::Close => Some(State::Output(OutputPlace::Options)),
+                _ => None,
+            },
+        }
+    }
+}
+
+/// The place behind the first symbol of a number.
+fn signed(symbol: Symbol) -> Option<State>
+    ensures { after symbol (values_left ValuesPlace.Number) ≡ shape_left result }
+{
+    match symbol {
+        Symbol::Minus => Some(State::Values(ValuesPlace::Unsigned)),
+        _ => unsigned(symbol),
+    }
+}
+
+/// The place behind a number without its sign.
+fn unsigned(symbol: Symbol) -> Option<State>
+    ensures { after symbol (values_left ValuesPlace.Unsigned) ≡ shape_left result }
+{
+    match symbol {
+        Symbol::Whole | Symbol::Decimal => Some(State::Values(ValuesPlace::MoreNumbers)),
+        _ => None,
+    }
+}
