@@ -1,5 +1,5 @@
 ghost use Rattle.std.specs.Prelude.{◌≡◌};
-ghost use Rattle.fx_language.specs.Shapes.{after};
+ghost use Rattle.fx_language.specs.Shapes.{after, fault_at};
 ghost use Rattle.fx_syntax.specs.Places.{examine_left, shape_left};
 
 use crate::state::State;
@@ -22,6 +22,16 @@ impl ExaminePlace {
         match self {
             ExaminePlace::Sections => behind_section(symbol),
             ExaminePlace::NoOpen => behind_section(symbol),
+        }
+    }
+
+    /// The code that the grammar names for the symbol here.
+    pub(crate) fn own_code(self, symbol: Symbol) -> Option<u8>
+        ensures { result ≡ fault_at symbol (examine_left self) }
+    {
+        match (self, symbol) {
+            (ExaminePlace::NoOpen, Symbol::Open) => Some(24),
+            _ => None,
         }
     }
 }

@@ -1,5 +1,5 @@
 ghost use Rattle.std.specs.Prelude.{◌≡◌};
-ghost use Rattle.fx_language.specs.Shapes.{after};
+ghost use Rattle.fx_language.specs.Shapes.{after, fault_at};
 ghost use Rattle.fx_syntax.specs.Places.{model_left, shape_left};
 
 use crate::effects::{EffectList, EffectPlace};
@@ -61,6 +61,16 @@ impl ModelPlace {
             },
             ModelPlace::Option => only(Symbol::Minabs, symbol, State::Model(ModelPlace::End)),
             ModelPlace::End => only(Symbol::Semicolon, symbol, State::Step),
+        }
+    }
+
+    /// The code that the grammar names for the symbol here.
+    pub(crate) fn own_code(self, symbol: Symbol) -> Option<u8>
+        ensures { result ≡ fault_at symbol (model_left self) }
+    {
+        match (self, symbol) {
+            (ModelPlace::End, Symbol::Open) => Some(24),
+            _ => None,
         }
     }
 }

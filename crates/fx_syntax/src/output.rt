@@ -1,8 +1,8 @@
 ghost use Rattle.std.specs.Prelude.{◌≡◌};
-ghost use Rattle.fx_language.specs.Shapes.{after};
+ghost use Rattle.fx_language.specs.Shapes.{after, fault_at};
 ghost use Rattle.fx_syntax.specs.Places.{output_left, shape_left};
 
-use crate::state::{State, any_word, only};
+use crate::state::{State, any_word, if_word, only};
 use crate::values::{ValueKind, ValuesPlace};
 use fx_language::Symbol;
 
@@ -83,6 +83,19 @@ impl OutputPlace {
                 _ => values(symbol),
             },
             OutputPlace::Factor => values(symbol),
+        }
+    }
+
+    /// The code that the grammar names for the symbol here.
+    pub(crate) fn own_code(self, symbol: Symbol) -> Option<u8>
+        ensures { result ≡ fault_at symbol (output_left self) }
+    {
+        match symbol {
+            Symbol::OpenBracket => Some(24),
+            _ => match self {
+                OutputPlace::Replication => if_word(symbol, 24),
+                _ => None,
+            },
         }
     }
 }

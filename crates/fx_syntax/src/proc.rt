@@ -1,8 +1,8 @@
 ghost use Rattle.std.specs.Prelude.{◌≡◌};
-ghost use Rattle.fx_language.specs.Shapes.{after};
+ghost use Rattle.fx_language.specs.Shapes.{after, fault_at};
 ghost use Rattle.fx_syntax.specs.Places.{proc_left, shape_left};
 
-use crate::state::{State, only};
+use crate::state::{State, if_word, only};
 use fx_language::Symbol;
 
 /// A place in a PROC statement.
@@ -32,6 +32,19 @@ impl ProcPlace {
             },
             ProcPlace::Equals => only(Symbol::Equals, symbol, State::Proc(ProcPlace::Nodes)),
             ProcPlace::Nodes => only(Symbol::Whole, symbol, State::Proc(ProcPlace::Options)),
+        }
+    }
+
+    /// The code that the grammar names for the symbol here.
+    pub(crate) fn own_code(self, symbol: Symbol) -> Option<u8>
+        ensures { result ≡ fault_at symbol (proc_left self) }
+    {
+        match symbol {
+            Symbol::Time | Symbol::Nocheck | Symbol::Namelen => Some(24),
+            _ => match self {
+                ProcPlace::Procedure => if_word(symbol, 1),
+                _ => None,
+            },
         }
     }
 }

@@ -1,7 +1,8 @@
-ghost use Rattle.std.specs.Prelude.{◌≡◌, Some, None, if◌then◌else◌};
+ghost use Rattle.std.specs.Prelude.{◌≡◌, Some, None, if◌then◌else◌, ◌&&◌};
 ghost use Rattle.fx_language.specs.Symbols.{is, is_word};
-ghost use Rattle.fx_language.specs.Shapes.{after};
-ghost use Rattle.fx_language.specs.Grammar.{program};
+ghost use Rattle.fx_language.specs.Shapes.{after, fault_at};
+ghost use Rattle.fx_language.specs.Refusals.{allows, allows_option, code_of};
+ghost use Rattle.fx_language.specs.Grammar.{program, unknown};
 ghost use Rattle.fx_syntax.specs.Places.{in_step, shape_left, shape_of};
 
 use crate::effects::{EffectList, EffectPlace};
@@ -58,6 +59,97 @@ impl State {
             State::Values(place) => place.next(symbol),
         }
     }
+
+    /// The code of a symbol that the grammar refuses here.
+    pub(crate) fn code(self, symbol: Symbol) -> u8
+        ensures { result ≡ code_of (shape_of self) symbol }
+    {
+        match self.own_code(symbol) {
+            Some(code) => code,
+            None => self.common_code(symbol),
+        }
+    }
+
+    /// The code of a symbol that has none of its own here.
+    fn common_code(self, symbol: Symbol) -> u8
+        ensures { result ≡ if is_word symbol && allows_option (shape_of self) then 3 else 2 }
+    {
+        if symbol.is_word() && self.allows_option() {
+            3
+        } else {
+            2
+        }
+    }
+
+    /// The code that the grammar names for the symbol here.
+    fn own_code(self, symbol: Symbol) -> Option<u8>
+        ensures { result ≡ fault_at symbol (shape_of self) }
+    {
+        match self {
+            State::Between => unknown_statement(symbol),
+            State::Step => unknown_statement(symbol),
+            State::Proc(place) => place.own_code(symbol),
+            State::Model(place) => place.own_code(symbol),
+            State::Examine(place) => place.own_code(symbol),
+            State::Output(place) => place.own_code(symbol),
+            State::Values(place) => place.own_code(symbol),
+            State::Closing => None,
+            State::Ended => None,
+            State::StatementEnd => None,
+            State::Factors(_) => None,
+            State::Setting(_) => None,
+            State::Effects(_, _) => None,
+        }
+    }
+
+    /// Whether an option may stand here.
+    fn allows_option(self) -> bool
+        ensures { result ≡ allows_option (shape_of self) }
+    {
+        let options = [
+            Symbol::Nodes,
+            Symbol::Nlev,
+            Symbol::Design,
+            Symbol::Fraction,
+            Symbol::Nrunfacs,
+            Symbol::Estimate,
+            Symbol::Nonnegligible,
+            Symbol::Resolution,
+            Symbol::Minabs,
+            Symbol::Nblkfacs,
+            Symbol::Nblocks,
+            Symbol::Size,
+            Symbol::Aliasing,
+            Symbol::Out,
+            Symbol::Nvals,
+            Symbol::Cvals,
+        ];
+        options.iter().any(|option| self.allows(*option))
+    }
+
+    #[tactic(auto, using(crate::proofs::Places::never_left))]
+    fn allows(self, symbol: Symbol) -> bool
+        ensures { result ≡ allows (shape_of self) symbol }
+    {
+        self.next(symbol).is_some()
+    }
+}
+
+/// The code of a word that begins no statement.
+fn unknown_statement(symbol: Symbol) -> Option<u8>
+    ensures { result ≡ fault_at symbol unknown }
+{
+    match symbol {
+        Symbol::Uniteffect => Some(24),
+        _ => if_word(symbol, 1),
+    }
+}
+
+/// This code for any word.
+pub(crate) fn if_word(symbol: Symbol, code: u8) -> Option<u8>
+    ensures { result ≡ if is_word symbol then Some code else None }
+{
+    if symbol.is_word() { Some(code) } else { None }
 }
 
 fn outside_step(symbol: Symbol) -> Option<State>

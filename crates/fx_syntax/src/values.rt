@@ -1,5 +1,5 @@
 ghost use Rattle.std.specs.Prelude.{◌≡◌};
-ghost use Rattle.fx_language.specs.Shapes.{after};
+ghost use Rattle.fx_language.specs.Shapes.{after, fault_at};
 ghost use Rattle.fx_syntax.specs.Places.{shape_left, values_left};
 
 use crate::output::OutputPlace;
@@ -67,6 +67,16 @@ impl ValuesPlace {
                 Symbol::Close => Some(State::Output(OutputPlace::Options)),
                 _ => None,
             },
+        }
+    }
+
+    /// The code that the grammar names for the symbol here.
+    pub(crate) fn own_code(self, symbol: Symbol) -> Option<u8>
+        ensures { result ≡ fault_at symbol (values_left self) }
+    {
+        match symbol {
+            Symbol::OpenBracket => Some(24),
+            _ => None,
         }
     }
 }
