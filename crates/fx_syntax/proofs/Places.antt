@@ -55,7 +55,7 @@ in_values : (p : ValuesPlace) → is_never (values_left p) ≡ false
 in_values listed.Number = refl
 in_values p = refl
 
-at_place : (p : State) → is_never (shape_of p) ≡ false
+pub at_place : (p : State) → is_never (shape_of p) ≡ false
 at_place state.Between = refl
 at_place state.Closing = refl
 at_place state.Ended = refl

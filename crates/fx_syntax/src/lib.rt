@@ -7,6 +7,9 @@ mod factors;
 mod model;
 mod output;
 mod proc;
+mod refusal;
 mod setting;
 mod state;
 mod values;
+
+pub use refusal::{first_refusal, first_refused};
