@@ -46,6 +46,7 @@ ending = key Semicolon ▸ in_step
 abbrev pub in_proc : Shape → Shape
 in_proc a = guarded 24 is_left_out (a ▸ Many (key Nodes ▸ key Equals ▸ n) ▸ key Semicolon) ▸ in_step
 
+-- at a place in a PROC statement
 abbrev pub proc_left : ProcPlace → Shape
 proc_left proc.Procedure = proc_rest ▸ in_step
 proc_left proc.Options = in_proc Empty
@@ -56,6 +57,7 @@ proc_left proc.Nodes = in_proc n
 abbrev pub levels : Shape
 levels = maybe (key Slash ▸ key Nlev ▸ key Equals ▸ n) ▸ ending
 
+-- at a place in a FACTORS statement
 abbrev pub factors_left : FactorsPlace → Shape
 factors_left factors.First = factors_rest ▸ in_step
 factors_left factors.Name = maybe (key Minus ▸ name) ▸ Many item ▸ levels
@@ -70,6 +72,7 @@ abbrev pub word_of : Extreme → Symbol
 word_of extreme.Minimum = Minimum
 word_of extreme.Maximum = Maximum
 
+-- at a place in a SIZE or BLOCKS statement
 abbrev pub setting_left : SettingPlace → Shape
 setting_left setting.SizeWord = size_rest ▸ in_step
 setting_left setting.BlocksWord = blocks_rest ▸ in_step
@@ -80,6 +83,7 @@ setting_left (setting.Value e) = n_or (word_of e) ▸ ending
 abbrev pub model_option : Shape
 model_option = maybe (key Slash ▸ key Minabs ▸ no_open) ▸ ending
 
+-- at a place in a MODEL statement, outside of its lists
 abbrev pub model_left : ModelPlace → Shape
 model_left model.Word = model_rest ▸ in_step
 model_left model.Nonnegligible = maybe (key Nonnegligible ▸ key Equals ▸ list) ▸ model_option
@@ -102,6 +106,7 @@ more_effects l = Many effect ▸ key Close ▸ list_left l
 abbrev pub crossed : Shape
 crossed = Many (key Bar ▸ star) ▸ maybe (key At ▸ n)
 
+-- at a place in a list of effects
 abbrev pub effects_left : EffectList → EffectPlace → Shape
 effects_left l place.Equals = key Equals ▸ list ▸ list_left l
 effects_left l place.Open = list ▸ list_left l
@@ -113,6 +118,7 @@ effects_left l place.Product = Many (key Star ▸ name) ▸ crossed ▸ more_eff
 effects_left l place.Bound = n ▸ more_effects l
 effects_left l place.More = more_effects l
 
+-- at a place in an EXAMINE statement
 abbrev pub examine_left : ExaminePlace → Shape
 examine_left examine.Sections = Many examine_word ▸ ending
 examine_left examine.NoOpen = no_open ▸ Many examine_word ▸ ending
@@ -126,6 +132,7 @@ abbrev pub listed_values : ValueKind → Shape
 listed_values kind.Numbers = value ▸ Many value ▸ key Close
 listed_values kind.Texts = key Quoted ▸ Many (key Quoted) ▸ key Close
 
+-- at a place in an OUTPUT statement, outside of its lists
 abbrev pub output_left : OutputPlace → Shape
 output_left output.Out = output_rest ▸ in_step
 output_left output.Equals = in_output (key Equals ▸ name)
@@ -142,6 +149,7 @@ output_left output.BlockValues = in_output (maybe values)
 output_left (output.ValuesOrFactor k) = in_output (key Equals ▸ key Open ▸ listed_values k) ∣ in_output values
 output_left output.Factor = in_output values
 
+-- at a place in a list of values
 abbrev pub values_left : ValuesPlace → Shape
 values_left (listed.Equals k) = in_output (key Equals ▸ key Open ▸ listed_values k)
 values_left (listed.Open k) = in_output (key Open ▸ listed_values k)
@@ -151,6 +159,7 @@ values_left listed.MoreNumbers = in_output (Many value ▸ key Close)
 values_left listed.Text = in_output (key Quoted ▸ Many (key Quoted) ▸ key Close)
 values_left listed.MoreTexts = in_output (Many (key Quoted) ▸ key Close)
 
+-- at a place
 abbrev pub shape_of : State → Shape
 shape_of state.Between = program
 shape_of state.Closing = key Semicolon ▸ program

@@ -42,48 +42,40 @@ impl EffectPlace {
         ensures { after symbol (effects_left list self) ≡ shape_left result }
     {
         match self {
-            EffectPlace::Equals => {
-                only(
-                    Symbol::Equals,
-                    symbol,
-                    State::Effects(list, EffectPlace::Open),
-                )
-            }
-            EffectPlace::Open => {
-                only(
-                    Symbol::Open,
-                    symbol,
-                    State::Effects(list, EffectPlace::First),
-                )
-            }
-            EffectPlace::First => any_word(symbol, State::Effects(list, EffectPlace::Name)),
-            EffectPlace::Name => match symbol {
-                Symbol::Minus => Some(State::Effects(list, EffectPlace::Range)),
-                Symbol::Star | Symbol::Bar => Some(State::Effects(list, EffectPlace::Factor)),
-                Symbol::At => Some(State::Effects(list, EffectPlace::Bound)),
-                Symbol::Close => Some(list.behind()),
-                _ => any_word(symbol, State::Effects(list, EffectPlace::Name)),
+            Self::Equals => only(Symbol::Equals, symbol, State::Effects(list, Self::Open)),
+            Self::Open => only(Symbol::Open, symbol, State::Effects(list, Self::First)),
+            Self::First => any_word(symbol, State::Effects(list, Self::Name)),
+            Self::Name => match symbol {
+                Symbol::Minus => Some(State::Effects(list, Self::Range)),
+                _ => behind_product(list, symbol),
             },
-            EffectPlace::Range => any_word(symbol, State::Effects(list, EffectPlace::More)),
-            EffectPlace::Factor => any_word(symbol, State::Effects(list, EffectPlace::Product)),
-            EffectPlace::Product => match symbol {
-                Symbol::Star | Symbol::Bar => Some(State::Effects(list, EffectPlace::Factor)),
-                Symbol::At => Some(State::Effects(list, EffectPlace::Bound)),
-                Symbol::Close => Some(list.behind()),
-                _ => any_word(symbol, State::Effects(list, EffectPlace::Name)),
-            },
-            EffectPlace::Bound => {
-                only(
-                    Symbol::Whole,
-                    symbol,
-                    State::Effects(list, EffectPlace::More),
-                )
-            }
-            EffectPlace::More => match symbol {
-                Symbol::Close => Some(list.behind()),
-                _ => any_word(symbol, State::Effects(list, EffectPlace::Name)),
-            },
+            Self::Range => any_word(symbol, State::Effects(list, Self::More)),
+            Self::Factor => any_word(symbol, State::Effects(list, Self::Product)),
+            Self::Product => behind_product(list, symbol),
+            Self::Bound => only(Symbol::Whole, symbol, State::Effects(list, Self::More)),
+            Self::More => behind_effect(list, symbol),
         }
+    }
+}
+
+/// The place behind a symbol that stands behind a name of a product.
+fn behind_product(list: EffectList, symbol: Symbol) -> Option<State>
+    ensures { after symbol (effects_left list EffectPlace.Product) ≡ shape_left result }
+{
+    match symbol {
+        Symbol::Star | Symbol::Bar => Some(State::Effects(list, EffectPlace::Factor)),
+        Symbol::At => Some(State::Effects(list, EffectPlace::Bound)),
+        _ => behind_effect(list, symbol),
+    }
+}
+
+/// The place behind a symbol that stands behind a whole effect.
+fn behind_effect(list: EffectList, symbol: Symbol) -> Option<State>
+    ensures { after symbol (effects_left list EffectPlace.More) ≡ shape_left result }
+{
+    match symbol {
+        Symbol::Close => Some(list.behind()),
+        _ => any_word(symbol, State::Effects(list, EffectPlace::Name)),
     }
 }
 

@@ -19,32 +19,23 @@ impl ExaminePlace {
     pub(crate) fn next(self, symbol: Symbol) -> Option<State>
         ensures { after symbol (examine_left self) ≡ shape_left result }
     {
-        match self {
-            ExaminePlace::Sections => behind_section(symbol),
-            ExaminePlace::NoOpen => behind_section(symbol),
+        match symbol {
+            Symbol::Aliasing | Symbol::Aberration => Some(State::Examine(Self::NoOpen)),
+            Symbol::Blocked | Symbol::Confounding | Symbol::Design => {
+                Some(State::Examine(Self::Sections))
+            }
+            Symbol::Semicolon => Some(State::Step),
+            _ => None,
         }
     }
 
     /// The code that the grammar names for the symbol here.
-    pub(crate) fn own_code(self, symbol: Symbol) -> Option<u8>
+    pub(crate) fn named_code(self, symbol: Symbol) -> Option<u8>
         ensures { result ≡ fault_at symbol (examine_left self) }
     {
         match (self, symbol) {
-            (ExaminePlace::NoOpen, Symbol::Open) => Some(24),
+            (Self::NoOpen, Symbol::Open) => Some(24),
             _ => None,
         }
-    }
-}
-
-fn behind_section(symbol: Symbol) -> Option<State>
-    ensures { after symbol (examine_left ExaminePlace.Sections) ≡ shape_left result }
-{
-    match symbol {
-        Symbol::Aliasing | Symbol::Aberration => Some(State::Examine(ExaminePlace::NoOpen)),
-        Symbol::Blocked | Symbol::Confounding | Symbol::Design => {
-            Some(State::Examine(ExaminePlace::Sections))
-        }
-        Symbol::Semicolon => Some(State::Step),
-        _ => None,
     }
 }

@@ -30,30 +30,27 @@ impl FactorsPlace {
         ensures { after symbol (factors_left self) ≡ shape_left result }
     {
         match self {
-            FactorsPlace::First => any_word(symbol, State::Factors(FactorsPlace::Name)),
-            FactorsPlace::Name => match symbol {
-                Symbol::Minus => Some(State::Factors(FactorsPlace::Range)),
-                Symbol::Slash => Some(State::Factors(FactorsPlace::Option)),
-                Symbol::Semicolon => Some(State::Step),
-                _ => any_word(symbol, State::Factors(FactorsPlace::Name)),
+            Self::First => any_word(symbol, State::Factors(Self::Name)),
+            Self::Name => match symbol {
+                Symbol::Minus => Some(State::Factors(Self::Range)),
+                _ => behind_item(symbol),
             },
-            FactorsPlace::Range => any_word(symbol, State::Factors(FactorsPlace::More)),
-            FactorsPlace::More => match symbol {
-                Symbol::Slash => Some(State::Factors(FactorsPlace::Option)),
-                Symbol::Semicolon => Some(State::Step),
-                _ => any_word(symbol, State::Factors(FactorsPlace::Name)),
-            },
-            FactorsPlace::Option => only(
-                Symbol::Nlev,
-                symbol,
-                State::Factors(FactorsPlace::Equals),
-            ),
-            FactorsPlace::Equals => only(
-                Symbol::Equals,
-                symbol,
-                State::Factors(FactorsPlace::Levels),
-            ),
-            FactorsPlace::Levels => only(Symbol::Whole, symbol, State::StatementEnd),
+            Self::Range => any_word(symbol, State::Factors(Self::More)),
+            Self::More => behind_item(symbol),
+            Self::Option => only(Symbol::Nlev, symbol, State::Factors(Self::Equals)),
+            Self::Equals => only(Symbol::Equals, symbol, State::Factors(Self::Levels)),
+            Self::Levels => only(Symbol::Whole, symbol, State::StatementEnd),
         }
+    }
+}
+
+/// The place behind a symbol that stands behind a name or a range.
+fn behind_item(symbol: Symbol) -> Option<State>
+    ensures { after symbol (factors_left FactorsPlace.More) ≡ shape_left result }
+{
+    match symbol {
+        Symbol::Slash => Some(State::Factors(FactorsPlace::Option)),
+        Symbol::Semicolon => Some(State::Step),
+        _ => any_word(symbol, State::Factors(FactorsPlace::Name)),
     }
 }

@@ -13,3 +13,6 @@ mod state;
 mod values;
 
 pub use refusal::{first_refusal, first_refused};
+
+#[cfg(test)]
+mod tests;

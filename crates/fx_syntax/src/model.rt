@@ -31,46 +31,47 @@ impl ModelPlace {
         ensures { after symbol (model_left self) ≡ shape_left result }
     {
         match self {
-            ModelPlace::Word => match symbol {
+            Self::Word => match symbol {
                 Symbol::Estimate => Some(State::Effects(EffectList::Estimate, EffectPlace::Equals)),
-                Symbol::Resolution => Some(State::Model(ModelPlace::Equals)),
+                Symbol::Resolution => Some(State::Model(Self::Equals)),
                 _ => None,
             },
-            ModelPlace::Nonnegligible => match symbol {
+            Self::Nonnegligible => match symbol {
                 Symbol::Nonnegligible => Some(State::Effects(
                     EffectList::Nonnegligible,
                     EffectPlace::Equals,
                 )),
-                Symbol::Slash => Some(State::Model(ModelPlace::Option)),
-                Symbol::Semicolon => Some(State::Step),
+                _ => option_or_end(symbol),
+            },
+            Self::Equals => only(Symbol::Equals, symbol, State::Model(Self::Resolution)),
+            Self::Resolution => match symbol {
+                Symbol::Whole | Symbol::Maximum => Some(State::Model(Self::Slash)),
                 _ => None,
             },
-            ModelPlace::Equals => only(
-                Symbol::Equals,
-                symbol,
-                State::Model(ModelPlace::Resolution),
-            ),
-            ModelPlace::Resolution => match symbol {
-                Symbol::Whole | Symbol::Maximum => Some(State::Model(ModelPlace::Slash)),
-                _ => None,
-            },
-            ModelPlace::Slash => match symbol {
-                Symbol::Slash => Some(State::Model(ModelPlace::Option)),
-                Symbol::Semicolon => Some(State::Step),
-                _ => None,
-            },
-            ModelPlace::Option => only(Symbol::Minabs, symbol, State::Model(ModelPlace::End)),
-            ModelPlace::End => only(Symbol::Semicolon, symbol, State::Step),
+            Self::Slash => option_or_end(symbol),
+            Self::Option => only(Symbol::Minabs, symbol, State::Model(Self::End)),
+            Self::End => only(Symbol::Semicolon, symbol, State::Step),
         }
     }
 
     /// The code that the grammar names for the symbol here.
-    pub(crate) fn own_code(self, symbol: Symbol) -> Option<u8>
+    pub(crate) fn named_code(self, symbol: Symbol) -> Option<u8>
         ensures { result ≡ fault_at symbol (model_left self) }
     {
         match (self, symbol) {
-            (ModelPlace::End, Symbol::Open) => Some(24),
+            (Self::End, Symbol::Open) => Some(24),
             _ => None,
         }
+    }
+}
+
+/// The place behind the `/` before the option, or behind `;`.
+fn option_or_end(symbol: Symbol) -> Option<State>
+    ensures { after symbol (model_left ModelPlace.Slash) ≡ shape_left result }
+{
+    match symbol {
+        Symbol::Slash => Some(State::Model(ModelPlace::Option)),
+        Symbol::Semicolon => Some(State::Step),
+        _ => None,
     }
 }

@@ -33,7 +33,8 @@ pub enum OutputPlace {
     BlockColumn,
     /// Behind that: its values, an option or `;`.
     BlockValues,
-    /// Behind NVALS or CVALS there: the rest of the column's values, or the values of a factor of that name.
+    /// Behind NVALS or CVALS there: the rest of the column's values, or the values of a factor of
+    /// that name.
     ValuesOrFactor(ValueKind),
     /// Behind the name of a factor: its values.
     Factor,
@@ -45,55 +46,41 @@ impl OutputPlace {
         ensures { after symbol (output_left self) ≡ shape_left result }
     {
         match self {
-            OutputPlace::Out => only(Symbol::Out, symbol, State::Output(OutputPlace::Equals)),
-            OutputPlace::Equals => {
-                only(Symbol::Equals, symbol, State::Output(OutputPlace::DataSet))
+            Self::Out => only(Symbol::Out, symbol, State::Output(Self::Equals)),
+            Self::Equals => only(Symbol::Equals, symbol, State::Output(Self::DataSet)),
+            Self::DataSet => any_word(symbol, State::Output(Self::Options)),
+            Self::Options => option(symbol),
+            Self::ReplicationEquals => {
+                only(Symbol::Equals, symbol, State::Output(Self::Replication))
             }
-            OutputPlace::DataSet => any_word(symbol, State::Output(OutputPlace::Options)),
-            OutputPlace::Options => option(symbol),
-            OutputPlace::ReplicationEquals => {
-                only(
-                    Symbol::Equals,
-                    symbol,
-                    State::Output(OutputPlace::Replication),
-                )
-            }
-            OutputPlace::Replication => {
-                only(Symbol::Whole, symbol, State::Output(OutputPlace::Options))
-            }
-            OutputPlace::Randomize => match symbol {
-                Symbol::Open => Some(State::Output(OutputPlace::Seed)),
+            Self::Replication => only(Symbol::Whole, symbol, State::Output(Self::Options)),
+            Self::Randomize => match symbol {
+                Symbol::Open => Some(State::Output(Self::Seed)),
                 _ => option(symbol),
             },
-            OutputPlace::Seed => only(Symbol::Whole, symbol, State::Output(OutputPlace::SeedEnd)),
-            OutputPlace::SeedEnd => {
-                only(Symbol::Close, symbol, State::Output(OutputPlace::Options))
+            Self::Seed => only(Symbol::Whole, symbol, State::Output(Self::SeedEnd)),
+            Self::SeedEnd => only(Symbol::Close, symbol, State::Output(Self::Options)),
+            Self::BlocknameEquals => {
+                only(Symbol::Equals, symbol, State::Output(Self::BlockColumn))
             }
-            OutputPlace::BlocknameEquals => {
-                only(
-                    Symbol::Equals,
-                    symbol,
-                    State::Output(OutputPlace::BlockColumn),
-                )
-            }
-            OutputPlace::BlockColumn => any_word(symbol, State::Output(OutputPlace::BlockValues)),
-            OutputPlace::BlockValues => values_or_option(symbol),
-            OutputPlace::ValuesOrFactor(kind) => match symbol {
+            Self::BlockColumn => any_word(symbol, State::Output(Self::BlockValues)),
+            Self::BlockValues => values_or_option(symbol),
+            Self::ValuesOrFactor(kind) => match symbol {
                 Symbol::Equals => Some(State::Values(ValuesPlace::Open(kind))),
                 _ => values(symbol),
             },
-            OutputPlace::Factor => values(symbol),
+            Self::Factor => values(symbol),
         }
     }
 
     /// The code that the grammar names for the symbol here.
-    pub(crate) fn own_code(self, symbol: Symbol) -> Option<u8>
+    pub(crate) fn named_code(self, symbol: Symbol) -> Option<u8>
         ensures { result ≡ fault_at symbol (output_left self) }
     {
         match symbol {
             Symbol::OpenBracket => Some(24),
             _ => match self {
-                OutputPlace::Replication => if_word(symbol, 24),
+                Self::Replication => if_word(symbol, 24),
                 _ => None,
             },
         }

@@ -24,25 +24,25 @@ impl ProcPlace {
         ensures { after symbol (proc_left self) ≡ shape_left result }
     {
         match self {
-            ProcPlace::Procedure => only(Symbol::Factex, symbol, State::Proc(ProcPlace::Options)),
-            ProcPlace::Options => match symbol {
-                Symbol::Nodes => Some(State::Proc(ProcPlace::Equals)),
+            Self::Procedure => only(Symbol::Factex, symbol, State::Proc(Self::Options)),
+            Self::Options => match symbol {
+                Symbol::Nodes => Some(State::Proc(Self::Equals)),
                 Symbol::Semicolon => Some(State::Step),
                 _ => None,
             },
-            ProcPlace::Equals => only(Symbol::Equals, symbol, State::Proc(ProcPlace::Nodes)),
-            ProcPlace::Nodes => only(Symbol::Whole, symbol, State::Proc(ProcPlace::Options)),
+            Self::Equals => only(Symbol::Equals, symbol, State::Proc(Self::Nodes)),
+            Self::Nodes => only(Symbol::Whole, symbol, State::Proc(Self::Options)),
         }
     }
 
     /// The code that the grammar names for the symbol here.
-    pub(crate) fn own_code(self, symbol: Symbol) -> Option<u8>
+    pub(crate) fn named_code(self, symbol: Symbol) -> Option<u8>
         ensures { result ≡ fault_at symbol (proc_left self) }
     {
         match symbol {
             Symbol::Time | Symbol::Nocheck | Symbol::Namelen => Some(24),
             _ => match self {
-                ProcPlace::Procedure => if_word(symbol, 1),
+                Self::Procedure => if_word(symbol, 1),
                 _ => None,
             },
         }

@@ -31,26 +31,26 @@ impl SettingPlace {
         ensures { after symbol (setting_left self) ≡ shape_left result }
     {
         match self {
-            SettingPlace::SizeWord => match symbol {
+            Self::SizeWord => match symbol {
                 Symbol::Design | Symbol::Nrunfacs => {
-                    Some(State::Setting(SettingPlace::Equals(Extreme::Minimum)))
+                    Some(State::Setting(Self::Equals(Extreme::Minimum)))
                 }
-                Symbol::Fraction => Some(State::Setting(SettingPlace::Equals(Extreme::Maximum))),
+                Symbol::Fraction => Some(State::Setting(Self::Equals(Extreme::Maximum))),
                 _ => None,
             },
-            SettingPlace::BlocksWord => match symbol {
+            Self::BlocksWord => match symbol {
                 Symbol::Nblkfacs | Symbol::Nblocks => {
-                    Some(State::Setting(SettingPlace::Equals(Extreme::Maximum)))
+                    Some(State::Setting(Self::Equals(Extreme::Maximum)))
                 }
-                Symbol::Size => Some(State::Setting(SettingPlace::Equals(Extreme::Minimum))),
+                Symbol::Size => Some(State::Setting(Self::Equals(Extreme::Minimum))),
                 _ => None,
             },
-            SettingPlace::Equals(extreme) => only(
+            Self::Equals(extreme) => only(
                 Symbol::Equals,
                 symbol,
-                State::Setting(SettingPlace::Value(extreme)),
+                State::Setting(Self::Value(extreme)),
             ),
-            SettingPlace::Value(extreme) => match symbol {
+            Self::Value(extreme) => match symbol {
                 Symbol::Whole => Some(State::StatementEnd),
                 _ => only(extreme.word(), symbol, State::StatementEnd),
             },
@@ -63,8 +63,8 @@ impl Extreme {
         ensures { result ≡ word_of self }
     {
         match self {
-            Extreme::Minimum => Symbol::Minimum,
-            Extreme::Maximum => Symbol::Maximum,
+            Self::Minimum => Symbol::Minimum,
+            Self::Maximum => Symbol::Maximum,
         }
     }
 }

@@ -64,14 +64,14 @@ impl State {
     pub(crate) fn code(self, symbol: Symbol) -> u8
         ensures { result ≡ code_of (shape_of self) symbol }
     {
-        match self.own_code(symbol) {
+        match self.named_code(symbol) {
             Some(code) => code,
-            None => self.common_code(symbol),
+            None => self.general_code(symbol),
         }
     }
 
-    /// The code of a symbol that has none of its own here.
-    fn common_code(self, symbol: Symbol) -> u8
+    /// The code of a symbol for which the grammar names none here.
+    fn general_code(self, symbol: Symbol) -> u8
         ensures { result ≡ if is_word symbol && allows_option (shape_of self) then 3 else 2 }
     {
         if symbol.is_word() && self.allows_option() {
@@ -82,23 +82,18 @@ impl State {
     }
 
     /// The code that the grammar names for the symbol here.
-    fn own_code(self, symbol: Symbol) -> Option<u8>
+    fn named_code(self, symbol: Symbol) -> Option<u8>
         ensures { result ≡ fault_at symbol (shape_of self) }
     {
         match self {
-            State::Between => unknown_statement(symbol),
-            State::Step => unknown_statement(symbol),
-            State::Proc(place) => place.own_code(symbol),
-            State::Model(place) => place.own_code(symbol),
-            State::Examine(place) => place.own_code(symbol),
-            State::Output(place) => place.own_code(symbol),
-            State::Values(place) => place.own_code(symbol),
-            State::Closing => None,
-            State::Ended => None,
-            State::StatementEnd => None,
-            State::Factors(_) => None,
-            State::Setting(_) => None,
-            State::Effects(_, _) => None,
+            State::Between | State::Step => unknown_statement(symbol),
+            State::Proc(place) => place.named_code(symbol),
+            State::Model(place) => place.named_code(symbol),
+            State::Examine(place) => place.named_code(symbol),
+            State::Output(place) => place.named_code(symbol),
+            State::Values(place) => place.named_code(symbol),
+            State::Closing | State::Ended | State::StatementEnd => None,
+            State::Factors(_) | State::Setting(_) | State::Effects(_, _) => None,
         }
     }
 

@@ -38,32 +38,22 @@ impl ValuesPlace {
         ensures { after symbol (values_left self) ≡ shape_left result }
     {
         match self {
-            ValuesPlace::Equals(kind) => {
-                only(
-                    Symbol::Equals,
-                    symbol,
-                    State::Values(ValuesPlace::Open(kind)),
-                )
+            Self::Equals(kind) => { only(Symbol::Equals, symbol, State::Values(Self::Open(kind))) }
+            Self::Open(ValueKind::Numbers) => {
+                only(Symbol::Open, symbol, State::Values(Self::Number))
             }
-            ValuesPlace::Open(ValueKind::Numbers) => {
-                only(Symbol::Open, symbol, State::Values(ValuesPlace::Number))
+            Self::Open(ValueKind::Texts) => {
+                only(Symbol::Open, symbol, State::Values(Self::Text))
             }
-            ValuesPlace::Open(ValueKind::Texts) => {
-                only(Symbol::Open, symbol, State::Values(ValuesPlace::Text))
-            }
-            ValuesPlace::Number => signed(symbol),
-            ValuesPlace::Unsigned => unsigned(symbol),
-            ValuesPlace::MoreNumbers => match symbol {
+            Self::Number => signed(symbol),
+            Self::Unsigned => unsigned(symbol),
+            Self::MoreNumbers => match symbol {
                 Symbol::Close => Some(State::Output(OutputPlace::Options)),
                 _ => signed(symbol),
             },
-            ValuesPlace::Text => only(
-                Symbol::Quoted,
-                symbol,
-                State::Values(ValuesPlace::MoreTexts),
-            ),
-            ValuesPlace::MoreTexts => match symbol {
-                Symbol::Quoted => Some(State::Values(ValuesPlace::MoreTexts)),
+            Self::Text => only(Symbol::Quoted, symbol, State::Values(Self::MoreTexts)),
+            Self::MoreTexts => match symbol {
+                Symbol::Quoted => Some(State::Values(Self::MoreTexts)),
                 Symbol::Close => Some(State::Output(OutputPlace::Options)),
                 _ => None,
             },
@@ -71,7 +61,7 @@ impl ValuesPlace {
     }
 
     /// The code that the grammar names for the symbol here.
-    pub(crate) fn own_code(self, symbol: Symbol) -> Option<u8>
+    pub(crate) fn named_code(self, symbol: Symbol) -> Option<u8>
         ensures { result ≡ fault_at symbol (values_left self) }
     {
         match symbol {
