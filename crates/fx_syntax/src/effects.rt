@@ -7,14 +7,14 @@ use crate::state::{State, any_word, only};
 use fx_language::Symbol;
 
 /// A list of effects in a MODEL statement, by the word before it.
-#[derive(Clone, Copy, Debug, PartialEq, Eq)]
+#[derive(Clone, Copy, Debug)]
 pub enum EffectList {
     Estimate,
     Nonnegligible,
 }
 
 /// A place in a list of effects.
-#[derive(Clone, Copy, Debug, PartialEq, Eq)]
+#[derive(Clone, Copy, Debug)]
 pub enum EffectPlace {
     /// Behind the word before the list: `=`.
     Equals,

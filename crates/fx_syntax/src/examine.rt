@@ -6,7 +6,7 @@ use crate::state::State;
 use fx_language::Symbol;
 
 /// A place in an EXAMINE statement. Behind it comes a section of the listing, or `;`.
-#[derive(Clone, Copy, Debug, PartialEq, Eq)]
+#[derive(Clone, Copy, Debug)]
 pub enum ExaminePlace {
     /// Behind EXAMINE or a section.
     Sections,

@@ -6,7 +6,7 @@ use crate::state::{State, any_word, only};
 use fx_language::Symbol;
 
 /// A place in a FACTORS statement.
-#[derive(Clone, Copy, Debug, PartialEq, Eq)]
+#[derive(Clone, Copy, Debug)]
 pub enum FactorsPlace {
     /// Behind FACTORS: a name.
     First,

@@ -7,7 +7,7 @@ use crate::values::{ValueKind, ValuesPlace};
 use fx_language::Symbol;
 
 /// A place in an OUTPUT statement, outside of its lists of values.
-#[derive(Clone, Copy, Debug, PartialEq, Eq)]
+#[derive(Clone, Copy, Debug)]
 pub enum OutputPlace {
     /// Behind OUTPUT: OUT.
     Out,

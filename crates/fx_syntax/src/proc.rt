@@ -6,7 +6,7 @@ use crate::state::{State, if_word, only};
 use fx_language::Symbol;
 
 /// A place in a PROC statement.
-#[derive(Clone, Copy, Debug, PartialEq, Eq)]
+#[derive(Clone, Copy, Debug)]
 pub enum ProcPlace {
     /// Behind PROC: FACTEX.
     Procedure,

@@ -6,7 +6,7 @@ use crate::state::{State, only};
 use fx_language::Symbol;
 
 /// A place in a SIZE or BLOCKS statement.
-#[derive(Clone, Copy, Debug, PartialEq, Eq)]
+#[derive(Clone, Copy, Debug)]
 pub enum SettingPlace {
     /// Behind SIZE: the word that says what is set.
     SizeWord,
@@ -19,7 +19,7 @@ pub enum SettingPlace {
 }
 
 /// The value that may be asked for in place of a number.
-#[derive(Clone, Copy, Debug, PartialEq, Eq)]
+#[derive(Clone, Copy, Debug)]
 pub enum Extreme {
     Minimum,
     Maximum,

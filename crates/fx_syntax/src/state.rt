@@ -16,7 +16,7 @@ use crate::values::ValuesPlace;
 use fx_language::Symbol;
 
 /// A place in the grammar.
-#[derive(Clone, Copy, Debug, PartialEq, Eq)]
+#[derive(Clone, Copy, Debug)]
 pub enum State {
     /// Outside of steps: a statement, PROC or the end.
     Between,
