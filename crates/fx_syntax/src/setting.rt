@@ -45,11 +45,9 @@ impl SettingPlace {
                 Symbol::Size => Some(State::Setting(Self::Equals(Extreme::Minimum))),
                 _ => None,
             },
-            Self::Equals(extreme) => only(
-                Symbol::Equals,
-                symbol,
-                State::Setting(Self::Value(extreme)),
-            ),
+            Self::Equals(extreme) => {
+                only(Symbol::Equals, symbol, State::Setting(Self::Value(extreme)))
+            }
             Self::Value(extreme) => match symbol {
                 Symbol::Whole => Some(State::StatementEnd),
                 _ => only(extreme.word(), symbol, State::StatementEnd),
