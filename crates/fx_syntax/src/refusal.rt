@@ -8,6 +8,8 @@ use fx_language::{Symbol, first_repeated};
 
 /// The first symbol of a program that is refused, with its code, and its index from 0: by the
 /// grammar, or by the rules on words that stand twice or too late. The end counts as a symbol.
+///
+/// The codes are those of `first_refused` and of `fx_language::first_repeated`.
 pub fn first_refusal(symbols: &[Symbol]) -> Option<(u8, usize)>
     ensures { result ≡ first_refusal symbols.now }
 {
@@ -35,7 +37,7 @@ fn earlier(grammar: Option<(u8, usize)>, rules: Option<(u8, usize)>) -> Option<(
 /// counts as a symbol.
 ///
 /// 1: a word that begins no statement, or another procedure than FACTEX. 3: a word in the place of
-/// an option. 24: a part of the statement language that isn't built. 2: any other symbol.
+/// an option. 24: a part of the statement language that this product leaves out. 2: any other.
 pub fn first_refused(symbols: &[Symbol]) -> Option<(u8, usize)>
     ensures { result ≡ refused 0 program symbols.now }
 {
