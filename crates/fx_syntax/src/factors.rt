@@ -1,0 +1,56 @@
+ghost use Rattle.std.specs.Prelude.{◌≡◌};
+ghost use Rattle.fx_language.specs.Shapes.{after};
+ghost use Rattle.fx_syntax.specs.Places.{factors_left, shape_left};
+
+use crate::state::{State, any_word, only};
+use fx_language::Symbol;
+
+/// A place in a FACTORS statement.
+#[derive(Clone, Copy, Debug)]
+pub enum FactorsPlace {
+    /// Behind FACTORS: a name.
+    First,
+    /// Behind a name: `-`, another name, `/` or `;`.
+    Name,
+    /// Behind `-`: the last name of the range.
+    Range,
+    /// Behind a range: a name, `/` or `;`.
+    More,
+    /// Behind `/`: NLEV.
+    Option,
+    /// Behind NLEV: `=`.
+    Equals,
+    /// Behind that: a number.
+    Levels,
+}
+
+impl FactorsPlace {
+    /// The place behind the symbol, or None where the grammar refuses it.
+    pub(crate) fn next(self, symbol: Symbol) -> Option<State>
+        ensures { after symbol (factors_left self) ≡ shape_left result }
+    {
+        match self {
+            Self::First => any_word(symbol, State::Factors(Self::Name)),
+            Self::Name => match symbol {
+                Symbol::Minus => Some(State::Factors(Self::Range)),
+                _ => behind_item(symbol),
+            },
+            Self::Range => any_word(symbol, State::Factors(Self::More)),
+            Self::More => behind_item(symbol),
+            Self::Option => only(Symbol::Nlev, symbol, State::Factors(Self::Equals)),
+            Self::Equals => only(Symbol::Equals, symbol, State::Factors(Self::Levels)),
+            Self::Levels => only(Symbol::Whole, symbol, State::StatementEnd),
+        }
+    }
+}
+
+/// The place behind a symbol that stands behind a name or a range.
+fn behind_item(symbol: Symbol) -> Option<State>
+    ensures { after symbol (factors_left FactorsPlace.More) ≡ shape_left result }
+{
+    match symbol {
+        Symbol::Slash => Some(State::Factors(FactorsPlace::Option)),
+        Symbol::Semicolon => Some(State::Step),
+        _ => any_word(symbol, State::Factors(FactorsPlace::Name)),
+    }
+}

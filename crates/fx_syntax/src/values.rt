@@ -1,0 +1,92 @@
+ghost use Rattle.std.specs.Prelude.{◌≡◌};
+ghost use Rattle.fx_language.specs.Shapes.{after, fault_at};
+ghost use Rattle.fx_syntax.specs.Places.{shape_left, values_left};
+
+use crate::output::OutputPlace;
+use crate::state::{State, only};
+use fx_language::Symbol;
+
+/// What a list of values has.
+#[derive(Clone, Copy, Debug)]
+pub enum ValueKind {
+    Numbers,
+    Texts,
+}
+
+/// A place in the values of a factor or of the block column, behind NVALS or CVALS.
+#[derive(Clone, Copy, Debug)]
+pub enum ValuesPlace {
+    /// Behind that word: `=`.
+    Equals(ValueKind),
+    /// Behind `=`: `(`.
+    Open(ValueKind),
+    /// Behind `(`: a number, or `-` and one.
+    Number,
+    /// Behind `-`: a number.
+    Unsigned,
+    /// Behind a number: another one, or `)`.
+    MoreNumbers,
+    /// Behind `(`: a text.
+    Text,
+    /// Behind a text: another one, or `)`.
+    MoreTexts,
+}
+
+impl ValuesPlace {
+    /// The place behind the symbol, or None where the grammar refuses it.
+    pub(crate) fn next(self, symbol: Symbol) -> Option<State>
+        ensures { after symbol (values_left self) ≡ shape_left result }
+    {
+        match self {
+            Self::Equals(kind) => { only(Symbol::Equals, symbol, State::Values(Self::Open(kind))) }
+            Self::Open(ValueKind::Numbers) => {
+                only(Symbol::Open, symbol, State::Values(Self::Number))
+            }
+            Self::Open(ValueKind::Texts) => {
+                only(Symbol::Open, symbol, State::Values(Self::Text))
+            }
+            Self::Number => signed(symbol),
+            Self::Unsigned => unsigned(symbol),
+            Self::MoreNumbers => match symbol {
+                Symbol::Close => Some(State::Output(OutputPlace::Options)),
+                _ => signed(symbol),
+            },
+            Self::Text => only(Symbol::Quoted, symbol, State::Values(Self::MoreTexts)),
+            Self::MoreTexts => match symbol {
+                Symbol::Quoted => Some(State::Values(Self::MoreTexts)),
+                Symbol::Close => Some(State::Output(OutputPlace::Options)),
+                _ => None,
+            },
+        }
+    }
+
+    /// The code that the grammar names for the symbol here.
+    pub(crate) fn named_code(self, symbol: Symbol) -> Option<u8>
+        ensures { result ≡ fault_at symbol (values_left self) }
+    {
+        match symbol {
+            Symbol::OpenBracket => Some(24),
+            _ => None,
+        }
+    }
+}
+
+/// The place behind the first symbol of a number.
+fn signed(symbol: Symbol) -> Option<State>
+    ensures { after symbol (values_left ValuesPlace.Number) ≡ shape_left result }
+{
+    match symbol {
+        Symbol::Minus => Some(State::Values(ValuesPlace::Unsigned)),
+        _ => unsigned(symbol),
+    }
+}
+
+/// The place behind a number without its sign.
+fn unsigned(symbol: Symbol) -> Option<State>
+    ensures { after symbol (values_left ValuesPlace.Unsigned) ≡ shape_left result }
+{
+    match symbol {
+        Symbol::Whole | Symbol::Decimal => Some(State::Values(ValuesPlace::MoreNumbers)),
+        _ => None,
+    }
+}
