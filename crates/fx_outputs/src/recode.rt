@@ -39,9 +39,10 @@ pub fn recodes(
 {
     let mut recodes = Recodes::new(alloc);
     for i in 2..lexemes.len() {
+        let before = &lexemes[i - 2];
         let name = &lexemes[i - 1];
-        if is_recoded(&lexemes[i - 2], name, &lexemes[i]) {
-            let word = &lexemes[i];
+        let word = &lexemes[i];
+        if is_recoded(before, name, word) {
             let rest = &lexemes[i + 1..];
             let recode = recode_at(alloc, setting, recodes.as_slice(), name, word, rest)?;
             recodes.push(recode)?;
