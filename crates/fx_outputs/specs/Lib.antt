@@ -4,3 +4,4 @@ pub mod Shuffles
 pub mod Values
 pub mod Blocks
 pub mod Recodes
+pub mod Outputs

@@ -21,9 +21,7 @@ replication_at (Some w) = replication_in_range w (number_of w)
 abbrev pub replication_of : Symbol → List Written → Result ℕ Refusal
 replication_of option s = replication_at (slice_get (from_option option s) 2)
 
--- how many rows the file has at most, or E21 at the OUT name
-abbrev pub rows_of : ℕ → ℕ → ℕ → Written → Result ℕ Refusal
-rows_of runs pointrep designrep name =
-    if nat_le (runs * pointrep * designrep) 200000
-    then Ok (runs * pointrep * designrep)
-    else Err (refusal_at 21 name)
+-- at most 200,000 rows, or E21 at the OUT name
+abbrev pub rows_in_range : ℕ → ℕ → ℕ → Written → Result (Unit {0}) Refusal
+rows_in_range runs pointrep designrep name =
+    if nat_le (runs * pointrep * designrep) 200000 then Ok tt else Err (refusal_at 21 name)

@@ -3,12 +3,14 @@
 
 mod block;
 mod option;
+mod output;
 mod recode;
 mod replication;
 mod setting;
 mod shuffle;
 mod value;
 
+pub use output::{OutputSpec, Outputs, outputs};
 pub use recode::{Recode, Recodes};
 pub use setting::{BlockCount, Setting};
 pub use shuffle::Shuffle;

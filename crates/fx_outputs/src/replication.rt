@@ -1,5 +1,5 @@
-ghost use Rattle.std.specs.Prelude.{◌≡◌, ◌≤◌, IfOk};
-ghost use Rattle.fx_outputs.specs.Replications.{replication_at, replication_of, rows_of};
+ghost use Rattle.std.specs.Prelude.{◌≡◌, Some};
+ghost use Rattle.fx_outputs.specs.Replications.{replication_at, replication_of, rows_in_range};
 
 use crate::option::{at, from_option};
 use fx_language::Symbol;
@@ -30,18 +30,22 @@ fn in_range(number: &Lexeme<'_>) -> Result<u32, Refusal>
     }
 }
 
-/// How many rows a file has at most.
+/// Whether a file has at most 200,000 rows.
 ///
 /// # Errors
 ///
-/// E21 at the OUT name, where they are more than 200,000.
-pub fn rows(runs: u32, pointrep: u32, designrep: u32, name: &Lexeme<'_>) -> Result<u32, Refusal>
-    ensures { result ≡ rows_of runs pointrep designrep name.now }
+/// E21 at the OUT name, where it has more.
+pub fn rows_in_range(
+    runs: u32,
+    pointrep: u32,
+    designrep: u32,
+    name: &Lexeme<'_>,
+) -> Result<(), Refusal>
+    ensures { result ≡ rows_in_range runs pointrep designrep name.now }
 {
     let rows = u128::from(runs) * u128::from(pointrep) * u128::from(designrep);
     if rows <= 200_000 {
-        Ok(rows as u32)
-    } else {
-        Err(name.refused(21))
+        return Ok(());
     }
+    Err(name.refused(21))
 }
