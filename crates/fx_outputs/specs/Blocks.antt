@@ -1,6 +1,6 @@
 -- The column of blocks: its name, and the values that stand in it.
-use Rattle.std.specs.Prelude.{ℕ, Bool, true, false, ◌&&◌, ◌||◌, is_some, codes, List, [], ◌∷◌, drop, slice_get, Option, Some, None, Result, Ok, Err, if◌then◌else◌}
-use Rattle.fx_language.specs.declared.symbol.Symbol.TheVariants.{Blockname, Nvals, Cvals, Equals}
+use Rattle.std.specs.Prelude.{ℕ, Bool, true, false, ◌&&◌, ◌||◌, is_some, codes, List, [], Option, Some, None, Result, Ok, Err, if◌then◌else◌}
+use Rattle.fx_language.specs.declared.symbol.Symbol.TheVariants.{Nvals, Cvals, Equals}
 use Rattle.fx_language.specs.Symbols.{is}
 use Rattle.fx_text.specs.declared.refusal.Refusal.{Refusal}
 use Rattle.fx_text.specs.Written.{Written, begins}

@@ -24,24 +24,24 @@ abbrev pub output_of : Setting → List (List ℕ) → Written → Written → L
 output_of setting earlier word name s =
     let blockname = from_option Blockname s in
     do
-    _ ← is_new_name earlier name
-    pointrep ← replication_of Pointrep s
-    designrep ← replication_of Designrep s
-    _ ← rows_in_range setting.runs pointrep designrep name
-    shuffle ← shuffle_of s
-    _ ← may_name_blocks setting.blocks (slice_get blockname 0)
-    _ ← column_is_free setting word (slice_get blockname 2)
-    values ← block_values setting.blocks (slice_get blockname 3) (drop 4 blockname)
-    recodes ← recodes_of setting s
-    Ok (record {
-      name = name.text;
-      pointrep = pointrep;
-      designrep = designrep;
-      shuffle = shuffle;
-      recodes = recodes;
-      block_name = name_or_empty (slice_get blockname 2);
-      block_values = values;
-    })
+      _ ← is_new_name earlier name
+      pointrep ← replication_of Pointrep s
+      designrep ← replication_of Designrep s
+      _ ← rows_in_range setting.runs pointrep designrep name
+      shuffle ← shuffle_of s
+      _ ← may_name_blocks setting.blocks (slice_get blockname 0)
+      _ ← column_is_free setting word (slice_get blockname 2)
+      values ← block_values setting.blocks (slice_get blockname 3) (drop 4 blockname)
+      recodes ← recodes_of setting s
+      Ok (record {
+        name = name.text;
+        pointrep = pointrep;
+        designrep = designrep;
+        shuffle = shuffle;
+        recodes = recodes;
+        block_name = name_or_empty (slice_get blockname 2);
+        block_values = values;
+      })
 
 -- The OUTPUT statements among these, in order, behind the outputs that were read before. `earlier` are the OUT names
 -- that stand before in the program. An OUTPUT statement begins `OUTPUT OUT = name`.
@@ -50,7 +50,7 @@ outputs_behind setting earlier outputs [] = Ok outputs
 outputs_behind setting earlier outputs ((word ∷ out ∷ equals ∷ name ∷ options) ∷ rest) =
     if is Output word.symbol
     then (output_of setting earlier word name (name ∷ options)
-      >>= λ output. outputs_behind setting (earlier ++ output.name ∷ []) (outputs ++ output ∷ []) rest)
+    >>= λ output. outputs_behind setting (earlier ++ output.name ∷ []) (outputs ++ output ∷ []) rest)
     else outputs_behind setting earlier outputs rest
 outputs_behind setting earlier outputs (s ∷ rest) = outputs_behind setting earlier outputs rest
 

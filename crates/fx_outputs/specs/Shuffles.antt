@@ -1,5 +1,5 @@
 -- RANDOMIZE and NOVALRAN: what is shuffled, and from which seed.
-use Rattle.std.specs.Prelude.{ℕ, Bool, true, false, not, nat_lt, ◌^◌, List, drop, slice_get, Option, Some, None, Result, Ok, Err, if◌then◌else◌}
+use Rattle.std.specs.Prelude.{ℕ, Bool, not, nat_lt, ◌^◌, List, drop, slice_get, Option, Some, None, Result, Ok, Err, if◌then◌else◌}
 use Rattle.fx_language.specs.declared.symbol.Symbol.TheVariants.{Randomize, Novalran, Open}
 use Rattle.fx_text.specs.declared.refusal.Refusal.{Refusal}
 use Rattle.fx_text.specs.Written.{Written, begins}

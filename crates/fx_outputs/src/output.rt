@@ -60,7 +60,14 @@ pub fn outputs(
             let lexemes = statement.lexemes();
             let word = &lexemes[0];
             let name = &lexemes[3];
-            let output = output(alloc, setting, earlier.as_slice(), word, name, &lexemes[3..])?;
+            let output = output(
+                alloc,
+                setting,
+                earlier.as_slice(),
+                word,
+                name,
+                &lexemes[3..],
+            )?;
             earlier.push(copy(alloc, output.name.as_slice())?)?;
             outputs.push(output)?;
         }

@@ -1,5 +1,4 @@
-use Rattle.std.proofs.Common.{◌≡◌, ◌+◌, ◌-◌, ◌∷◌, ◌++◌, [], length, drop, ap, subst, sym, arith, ◌∙◌}
-use Rattle.std.specs.Result.{IfErr}
+use Rattle.std.proofs.Common.{◌+◌, ◌-◌, drop, ap, arith, ◌∙◌}
 use Rattle.std.proofs.lemmas.List.{take_rest, length-drop}
 use Rattle.std.proofs.lemmas.Result.{err_from_is_err_and}
 use Rattle.fx_text.specs.Refusals.{IsRefused}
