@@ -1,0 +1,96 @@
+-- OUTPUT statements are read one after another.
+use Rattle.std.proofs.Common.{◌≡◌, ℕ, suc, ◌<◌, Bool, true, false, ◌&&◌, List, [], ◌∷◌, ◌++◌, length, drop, Ok, refl, sym, subst, arith}
+use Rattle.std.specs.Prelude.{nat_lt, slice_index_or}
+use Rattle.std.proofs.lemmas.Bool.{ltb-true, lt-ltb}
+use Rattle.std.proofs.lemmas.List.{map-append, append_assoc}
+use Rattle.fx_lexer.proofs.Ends.{and_parts}
+use Rattle.fx_language.specs.declared.symbol.Symbol.TheVariants.{Output}
+use Rattle.fx_language.specs.Symbols.{is}
+use Rattle.fx_text.specs.declared.refusal.ParseStop.{ParseStop}
+use Rattle.fx_text.specs.declared.refusal.ParseStop.TheVariants as stop
+use Rattle.fx_text.specs.Written.{Written, begins}
+use Rattle.fx_text.specs.Refusals.{IsRefused}
+use Rattle.fx_outputs.specs.declared.output.OutputSpec.{OutputSpec}
+use Rattle.fx_outputs.specs.declared.setting.Setting.{Setting}
+use Rattle.fx_outputs.specs.Outputs.{output_of, outputs_behind, names_of}
+
+abbrev pub is_output : List Written → Bool
+is_output s = begins Output s && nat_lt 3 (length s)
+
+module _ (setting : Setting) (earlier : List (List ℕ)) (outputs : List OutputSpec) (rest : List (List Written)) where
+  first_refused : (a b c d : Written) (options : List Written) (reason : ParseStop) → is Output a.symbol ≡ true
+      → IsRefused (output_of setting earlier a d (d ∷ options)) reason
+      → IsRefused (outputs_behind setting earlier outputs ((a ∷ b ∷ c ∷ d ∷ options) ∷ rest)) reason
+  first_refused a b c d options (stop.Refused refusal) begun h = rw (begun, h) refl
+  first_refused a b c d options stop.NoMemory begun h = tt
+
+  first_read : (a b c d : Written) (options : List Written) (output : OutputSpec) → is Output a.symbol ≡ true
+      → output_of setting earlier a d (d ∷ options) ≡ Ok output
+      → outputs_behind setting earlier outputs ((a ∷ b ∷ c ∷ d ∷ options) ∷ rest) ≡ outputs_behind setting (earlier ++ output.name ∷ []) (outputs ++ output ∷ []) rest
+  first_read a b c d options output begun h = rw (begun, h) refl
+
+  refused_long : (s : List Written) (word name : Written) (reason : ParseStop) → begins Output s ≡ true → 3 < length s
+      → word ≡ slice_index_or s 0 word → name ≡ slice_index_or s 3 name
+      → IsRefused (output_of setting earlier word name (drop 3 s)) reason
+      → IsRefused (outputs_behind setting earlier outputs (s ∷ rest)) reason
+  refused_long [] word name reason begun long w n h = absurd (omega arith)
+  refused_long (a ∷ []) word name reason begun long w n h = absurd (omega arith)
+  refused_long (a ∷ b ∷ []) word name reason begun long w n h = absurd (omega arith)
+  refused_long (a ∷ b ∷ c ∷ []) word name reason begun long w n h = absurd (omega arith)
+  refused_long (a ∷ b ∷ c ∷ d ∷ options) word name reason begun long w n h =
+      first_refused a b c d options reason begun
+      (subst (λ v. IsRefused (output_of setting earlier a v (d ∷ options)) reason) n
+      (subst (λ v. IsRefused (output_of setting earlier v name (d ∷ options)) reason) w h))
+
+  read_long : (s : List Written) (word name : Written) (output : OutputSpec) → begins Output s ≡ true → 3 < length s
+      → word ≡ slice_index_or s 0 word → name ≡ slice_index_or s 3 name
+      → output_of setting earlier word name (drop 3 s) ≡ Ok output
+      → outputs_behind setting earlier outputs (s ∷ rest) ≡ outputs_behind setting (earlier ++ output.name ∷ []) (outputs ++ output ∷ []) rest
+  read_long [] word name output begun long w n h = absurd (omega arith)
+  read_long (a ∷ []) word name output begun long w n h = absurd (omega arith)
+  read_long (a ∷ b ∷ []) word name output begun long w n h = absurd (omega arith)
+  read_long (a ∷ b ∷ c ∷ []) word name output begun long w n h = absurd (omega arith)
+  read_long (a ∷ b ∷ c ∷ d ∷ options) word name output begun long w n h =
+      first_read a b c d options output begun
+      (subst (λ v. output_of setting earlier a v (d ∷ options) ≡ Ok output) n
+      (subst (λ v. output_of setting earlier v name (d ∷ options) ≡ Ok output) w h))
+
+  pub refused : (s : List Written) (word name : Written) (reason : ParseStop) → true ≡ is_output s
+      → word ≡ slice_index_or s 0 word → name ≡ slice_index_or s 3 name
+      → IsRefused (output_of setting earlier word name (drop 3 s)) reason
+      → IsRefused (outputs_behind setting earlier outputs (s ∷ rest)) reason
+  refused s word name reason t w n h =
+      let both = and_parts (begins Output s) (nat_lt 3 (length s)) (sym t) in
+      refused_long s word name reason both.0 (ltb-true 3 (length s) both.1) w n h
+
+  pub read : (s : List Written) (word name : Written) (output : OutputSpec) → true ≡ is_output s
+      → word ≡ slice_index_or s 0 word → name ≡ slice_index_or s 3 name
+      → output_of setting earlier word name (drop 3 s) ≡ Ok output
+      → outputs_behind setting earlier outputs (s ∷ rest) ≡ outputs_behind setting (earlier ++ output.name ∷ []) (outputs ++ output ∷ []) rest
+  read s word name output t w n h =
+      let both = and_parts (begins Output s) (nat_lt 3 (length s)) (sym t) in
+      read_long s word name output both.0 (ltb-true 3 (length s) both.1) w n h
+
+  other_word : (a b c d : Written) (options : List Written) → (is Output a.symbol && true) ≡ false
+      → outputs_behind setting earlier outputs ((a ∷ b ∷ c ∷ d ∷ options) ∷ rest) ≡ outputs_behind setting earlier outputs rest
+  other_word a b c d options e = let begun : is Output a.symbol ≡ false = no_word (is Output a.symbol) e in rw begun refl
+    where
+      no_word : (x : Bool) → (x && true) ≡ false → x ≡ false
+      no_word true e = e
+      no_word false e = refl
+
+  long_enough : (begun : Bool) (n : ℕ) → (begun && nat_lt 3 (suc (suc (suc (suc n))))) ≡ false → (begun && true) ≡ false
+  long_enough begun n e = rw (lt-ltb 3 (suc (suc (suc (suc n)))) (omega arith)) at e
+
+  pub passed : (s : List Written) → false ≡ is_output s
+      → outputs_behind setting earlier outputs (s ∷ rest) ≡ outputs_behind setting earlier outputs rest
+  passed [] t = refl
+  passed (a ∷ []) t = refl
+  passed (a ∷ b ∷ []) t = refl
+  passed (a ∷ b ∷ c ∷ []) t = refl
+  passed (a ∷ b ∷ c ∷ d ∷ options) t = other_word a b c d options (long_enough (is Output a.symbol) (length options) (sym t))
+
+-- the name of one more output stands last
+pub one_more_name : (before earlier : List (List ℕ)) (outputs : List OutputSpec) (output : OutputSpec) → earlier ≡ before ++ names_of outputs
+    → earlier ++ output.name ∷ [] ≡ before ++ names_of (outputs ++ output ∷ [])
+one_more_name before earlier outputs output e = rw (e, map-append, append_assoc) refl

@@ -1,0 +1,56 @@
+-- The column of blocks: its name, and the values that stand in it.
+use Rattle.std.specs.Prelude.{ℕ, Bool, true, false, ◌&&◌, ◌||◌, is_some, codes, List, [], Option, Some, None, Result, Ok, Err, if◌then◌else◌}
+use Rattle.fx_language.specs.declared.symbol.Symbol.TheVariants.{Nvals, Cvals, Equals}
+use Rattle.fx_language.specs.Symbols.{is}
+use Rattle.fx_text.specs.declared.refusal.Refusal.{Refusal}
+use Rattle.fx_text.specs.Written.{Written, begins}
+use Rattle.fx_text.specs.Names.{place_of}
+use Rattle.fx_text.specs.Refusals.{refusal_at}
+use Rattle.fx_outputs.specs.declared.setting.Setting.{Setting}
+use Rattle.fx_outputs.specs.declared.setting.BlockCount.{BlockCount}
+use Rattle.fx_outputs.specs.declared.setting.BlockCount.TheVariants as blocks
+use Rattle.fx_outputs.specs.Values.{values_of, counted}
+
+-- the step has blocks
+abbrev pub has_blocks : BlockCount → Bool
+has_blocks blocks.Without = false
+has_blocks (blocks.Fixed count) = true
+has_blocks blocks.Open = true
+
+-- how many values the block column may have in the place of its numbers
+abbrev pub values_wanted : BlockCount → Option ℕ
+values_wanted blocks.Without = None
+values_wanted (blocks.Fixed count) = Some count
+values_wanted blocks.Open = None
+
+-- E31 at the word BLOCKNAME, where a step without blocks has it
+abbrev pub may_name_blocks : BlockCount → Option Written → Result (Unit {0}) Refusal
+may_name_blocks count None = Ok tt
+may_name_blocks count (Some word) = if has_blocks count then Ok tt else Err (refusal_at 31 word)
+
+-- no factor has this name, or E5 at w
+abbrev pub is_free : List (List ℕ) → List ℕ → Written → Result (Unit {0}) Refusal
+is_free factors name w = if is_some (place_of name factors) then Err (refusal_at 5 w) else Ok tt
+
+-- The column's name is no factor's: BLOCKNAME's name, or else BLOCK. `output` is the word OUTPUT. A step without
+-- blocks has no such column.
+abbrev pub column_is_free : Setting → Written → Option Written → Result (Unit {0}) Refusal
+column_is_free setting output (Some name) = is_free setting.factors.now name.text name
+column_is_free setting output None =
+    if has_blocks setting.blocks then is_free setting.factors.now (codes "BLOCK") output else Ok tt
+
+-- BLOCKNAME's name, empty where there is none
+abbrev pub name_or_empty : Option Written → List ℕ
+name_or_empty None = []
+name_or_empty (Some name) = name.text
+
+-- NVALS or CVALS, with `=` behind it
+abbrev pub begins_values : Written → List Written → Bool
+begins_values word rest = (is Nvals word.symbol || is Cvals word.symbol) && begins Equals rest
+
+-- The values of the column: none, or as many as there are blocks, whose number is to be known. `word` stands behind
+-- BLOCKNAME's name, and `rest` behind it.
+abbrev pub block_values : BlockCount → Option Written → List Written → Result (List (List ℕ)) Refusal
+block_values count None rest = Ok []
+block_values count (Some word) rest =
+    if begins_values word rest then counted (values_wanted count) word (values_of rest) else Ok []

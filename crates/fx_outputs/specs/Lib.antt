@@ -1,0 +1,7 @@
+pub mod Options
+pub mod Replications
+pub mod Shuffles
+pub mod Values
+pub mod Blocks
+pub mod Recodes
+pub mod Outputs

@@ -1,0 +1,53 @@
+-- The factors that have values of their own.
+use Rattle.std.specs.Prelude.{ℕ, ◌+◌, ◌==◌, Bool, not, ◌&&◌, List, [], ◌∷◌, ◌++◌, Option, Some, None, Result, Ok, Err, if◌then◌else◌}
+use Rattle.std.specs.List.{list_any}
+use Rattle.fx_language.specs.declared.symbol.Symbol.TheVariants.{Equals}
+use Rattle.fx_language.specs.Symbols.{is, is_word, is_output_option}
+use Rattle.fx_text.specs.declared.refusal.Refusal.{Refusal}
+use Rattle.fx_text.specs.Written.{Written}
+use Rattle.fx_text.specs.Names.{place_of}
+use Rattle.fx_text.specs.Refusals.{refusal_at, ◌>>=◌}
+use Rattle.fx_outputs.specs.declared.recode.Recode.{Recode}
+use Rattle.fx_outputs.specs.declared.setting.Setting.{Setting}
+use Rattle.fx_outputs.specs.Values.{values_of, counted}
+
+-- a recoded factor's name: a word that is no option, and `=` stands neither in front of it nor behind it
+abbrev pub is_recoded : Written → Written → Written → Bool
+is_recoded before name word =
+    is_word name.symbol && not (is_output_option name.symbol)
+    && not (is Equals before.symbol) && not (is Equals word.symbol)
+
+-- the place of a factor among the step's, from 1, or E4 at the name
+abbrev pub factor_at : Written → Option ℕ → Result ℕ Refusal
+factor_at name None = Err (refusal_at 4 name)
+factor_at name (Some i) = Ok (i + 1)
+
+-- the factor at this place has values already
+abbrev pub has_values : List Recode → ℕ → Bool
+has_values earlier place = list_any (λ (r : Recode). r.place == place) earlier
+
+-- a factor that has no values yet, or E28 at the name
+abbrev pub first_time : List Recode → Written → ℕ → Result ℕ Refusal
+first_time earlier name place = if has_values earlier place then Err (refusal_at 28 name) else Ok place
+
+-- A factor and its values, behind those of the same statement that stand earlier. `word` is NVALS or CVALS, `rest` is
+-- what stands behind it.
+abbrev pub recode_of : Setting → List Recode → Written → Written → List Written → Result Recode Refusal
+recode_of setting earlier name word rest = do
+  factor ← factor_at name (place_of name.text setting.factors.now)
+  place ← first_time earlier name factor
+  values ← counted (Some setting.q) word (values_of rest)
+  Ok (record { place = place; values = values })
+
+-- the recoded factors from left to right, behind those that stand earlier; each name has something in front of it
+abbrev pub recodes_behind : Setting → List Recode → List Written → Result (List Recode) Refusal
+recodes_behind setting earlier (before ∷ name ∷ word ∷ rest) =
+    if is_recoded before name word
+    then (recode_of setting earlier name word rest
+    >>= λ recode. recodes_behind setting (earlier ++ recode ∷ []) (name ∷ word ∷ rest))
+    else recodes_behind setting earlier (name ∷ word ∷ rest)
+recodes_behind setting earlier _ = Ok earlier
+
+-- the recoded factors of what stands behind `OUT =`, the OUT name first
+abbrev pub recodes_of : Setting → List Written → Result (List Recode) Refusal
+recodes_of setting s = recodes_behind setting [] s

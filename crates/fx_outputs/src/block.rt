@@ -1,0 +1,136 @@
+ghost use Rattle.std.specs.Prelude.{◌≡◌, drop, slice_get, IfOk, IfErr, Some};
+ghost use Rattle.fx_text.specs.Refusals.{IsRefused};
+ghost use Rattle.fx_outputs.specs.Blocks.{begins_values, block_values, column_is_free, has_blocks, is_free, may_name_blocks, name_or_empty, values_wanted};
+
+use crate::option::{at, begins, from};
+use crate::setting::{BlockCount, Setting};
+use crate::value::{copy, counted_values};
+use fx_base::{Bytes, NoMemory};
+use fx_language::Symbol;
+use fx_text::{Lexeme, Names, ParseStop, Refusal, place_of};
+use std::alloc::Global;
+
+/// Whether BLOCKNAME may stand in this step. `blockname` is what stands from that word on, if anything.
+///
+/// # Errors
+///
+/// E31 at BLOCKNAME in a step without blocks.
+pub fn may_name_blocks(blocks: BlockCount, blockname: &[Lexeme<'_>]) -> Result<(), Refusal>
+    ensures { result ≡ may_name_blocks blocks (slice_get blockname.now 0) }
+{
+    match at(blockname, 0) {
+        None => Ok(()),
+        Some(word) => {
+            if has_blocks(blocks) {
+                return Ok(());
+            }
+            Err(word.refused(31))
+        }
+    }
+}
+
+/// Whether the name of the block column, if there is one, is no factor's.
+///
+/// # Errors
+///
+/// E5 at BLOCKNAME's name, or at the word OUTPUT where the column is called BLOCK.
+pub fn column_is_free(
+    setting: &Setting<'_>,
+    output: &Lexeme<'_>,
+    blockname: &[Lexeme<'_>],
+) -> Result<(), Refusal>
+    ensures { result ≡ column_is_free setting.now output.now (slice_get blockname.now 2) }
+{
+    match at(blockname, 2) {
+        Some(name) => is_free(setting.factors, name.text(), name),
+        None => {
+            if has_blocks(setting.blocks) {
+                return is_free(setting.factors, b"BLOCK", output);
+            }
+            Ok(())
+        }
+    }
+}
+
+/// BLOCKNAME's name, empty where there is none.
+pub fn block_name(alloc: Global, blockname: &[Lexeme<'_>]) -> Result<Bytes, NoMemory>
+    ensures { IfOk result (λ name. name ≡ name_or_empty (slice_get blockname.now 2)) }
+{
+    match at(blockname, 2) {
+        Some(name) => copy(alloc, name.text()),
+        None => Ok(Bytes::new(alloc)),
+    }
+}
+
+/// The values of the block column, if BLOCKNAME has any.
+///
+/// # Errors
+///
+/// E17 at NVALS or CVALS, where there are not as many as blocks, or the number of blocks is not known; `NoMemory`.
+pub fn block_values(
+    alloc: Global,
+    blocks: BlockCount,
+    blockname: &[Lexeme<'_>],
+) -> Result<Names, ParseStop>
+    ensures ok { IfOk result (λ values. block_values blocks (slice_get blockname.now 3) (drop 4 blockname.now) ≡ Ok values) }
+    ensures err { IfErr result (IsRefused (block_values blocks (slice_get blockname.now 3) (drop 4 blockname.now))) }
+{
+    match at(blockname, 3) {
+        None => Ok(Names::new(alloc)),
+        Some(word) => values_if_begun(alloc, blocks, word, from(blockname, 4)),
+    }
+}
+
+/// The values behind `word`, which may begin them.
+fn values_if_begun(
+    alloc: Global,
+    blocks: BlockCount,
+    word: &Lexeme<'_>,
+    rest: &[Lexeme<'_>],
+) -> Result<Names, ParseStop>
+    ensures ok { IfOk result (λ values. block_values blocks (Some word.now) rest.now ≡ Ok values) }
+    ensures err { IfErr result (IsRefused (block_values blocks (Some word.now) rest.now)) }
+{
+    if begins_values(word, rest) {
+        return counted_values(alloc, values_wanted(blocks), word, rest);
+    }
+    Ok(Names::new(alloc))
+}
+
+/// Whether the word is NVALS or CVALS with `=` behind it.
+fn begins_values(word: &Lexeme<'_>, rest: &[Lexeme<'_>]) -> bool
+    ensures { result ≡ begins_values word.now rest.now }
+{
+    (word.is(Symbol::Nvals) || word.is(Symbol::Cvals)) && begins(Symbol::Equals, rest)
+}
+
+/// Whether no factor has this name.
+fn is_free(factors: &[Bytes], name: &[u8], at: &Lexeme<'_>) -> Result<(), Refusal>
+    ensures { result ≡ is_free factors.now name.now at.now }
+{
+    if place_of(name, factors).is_some() {
+        return Err(at.refused(5));
+    }
+    Ok(())
+}
+
+fn has_blocks(blocks: BlockCount) -> bool
+    ensures { result ≡ has_blocks blocks }
+{
+    match blocks {
+        BlockCount::Without => false,
+        BlockCount::Fixed(_) => true,
+        BlockCount::Open => true,
+    }
+}
+
+/// How many values the block column may have in the place of its numbers.
+fn values_wanted(blocks: BlockCount) -> Option<u32>
+    ensures { result ≡ values_wanted blocks }
+{
+    match blocks {
+        BlockCount::Without => None,
+        BlockCount::Fixed(count) => Some(count),
+        BlockCount::Open => None,
+    }
+}

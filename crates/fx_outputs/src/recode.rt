@@ -1,0 +1,107 @@
+ghost use Rattle.std.specs.Prelude.{◌≡◌, ◌<◌, IfOk, IfErr};
+ghost use Rattle.fx_text.specs.Refusals.{IsRefused};
+ghost use Rattle.fx_text.specs.Names.{place_of};
+ghost use Rattle.fx_outputs.specs.Recodes.{factor_at, first_time, has_values, is_recoded, recode_of, recodes_of};
+
+use crate::option::is_option;
+use crate::setting::Setting;
+use crate::value::counted_values;
+use fx_base::{Bytes, Items};
+use fx_language::Symbol;
+use fx_text::{Lexeme, Names, ParseStop, Refusal, place_of};
+use std::alloc::Global;
+
+/// A factor that has values of its own.
+#[derive(Debug, Drop)]
+pub struct Recode {
+    /// Its place among the step's factors, from 1.
+    pub place: u8,
+    /// A value for each level, in order.
+    pub values: Names,
+}
+
+/// The recoded factors of a statement, in its order.
+pub type Recodes = Items<Recode>;
+
+/// The recoded factors of what stands behind `OUT =`, the OUT name first.
+///
+/// # Errors
+///
+/// For the first that is refused: E4 at a name that is no factor's, E28 at a factor that has values already, E17 at
+/// NVALS or CVALS for another number of values than levels; `NoMemory`.
+pub fn recodes(
+    alloc: Global,
+    setting: &Setting<'_>,
+    lexemes: &[Lexeme<'_>],
+) -> Result<Recodes, ParseStop>
+    ensures ok { IfOk result (λ recodes. recodes_of setting.now lexemes.now ≡ Ok recodes) }
+    ensures err { IfErr result (IsRefused (recodes_of setting.now lexemes.now)) }
+{
+    let mut recodes = Recodes::new(alloc);
+    for i in 2..lexemes.len() {
+        let before = &lexemes[i - 2];
+        let name = &lexemes[i - 1];
+        let word = &lexemes[i];
+        if is_recoded(before, name, word) {
+            let rest = &lexemes[i + 1..];
+            let recode = recode_at(alloc, setting, recodes.as_slice(), name, word, rest)?;
+            recodes.push(recode)?;
+        }
+    }
+    Ok(recodes)
+}
+
+/// Whether `name` is a recoded factor's.
+fn is_recoded(before: &Lexeme<'_>, name: &Lexeme<'_>, word: &Lexeme<'_>) -> bool
+    ensures { result ≡ is_recoded before.now name.now word.now }
+{
+    name.symbol().is_word()
+        && !is_option(name.symbol())
+        && !before.is(Symbol::Equals)
+        && !word.is(Symbol::Equals)
+}
+
+/// A factor and its values, which stand behind `word`.
+fn recode_at(
+    alloc: Global,
+    setting: &Setting<'_>,
+    earlier: &[Recode],
+    name: &Lexeme<'_>,
+    word: &Lexeme<'_>,
+    rest: &[Lexeme<'_>],
+) -> Result<Recode, ParseStop>
+    ensures ok { IfOk result (λ recode. recode_of setting.now earlier.now name.now word.now rest.now ≡ Ok recode) }
+    ensures err { IfErr result (IsRefused (recode_of setting.now earlier.now name.now word.now rest.now)) }
+{
+    let factor = factor_at(setting, name)?;
+    let place = first_time(earlier, name, factor)?;
+    let values = counted_values(alloc, Some(u32::from(setting.q)), word, rest)?;
+    Ok(Recode { place, values })
+}
+
+/// The place of the factor of this name, from 1.
+fn factor_at(setting: &Setting<'_>, name: &Lexeme<'_>) -> Result<u8, Refusal>
+    ensures { result ≡ factor_at name.now (place_of name.now.text setting.now.factors.now) }
+{
+    match place_of(name.text(), setting.factors) {
+        Some(i) => Ok(i as u8 + 1),
+        None => Err(name.refused(4)),
+    }
+}
+
+/// The place of a factor that has no values yet.
+fn first_time(earlier: &[Recode], name: &Lexeme<'_>, place: u8) -> Result<u8, Refusal>
+    ensures { result ≡ first_time earlier.now name.now place }
+{
+    if has_values(earlier, place) {
+        return Err(name.refused(28));
+    }
+    Ok(place)
+}
+
+/// Whether the factor at this place has values already.
+fn has_values(earlier: &[Recode], place: u8) -> bool
+    ensures { result ≡ has_values earlier.now place }
+{
+    earlier.iter().any(|recode| recode.place == place)
+}

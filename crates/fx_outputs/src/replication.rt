@@ -1,0 +1,51 @@
+ghost use Rattle.std.specs.Prelude.{◌≡◌, Some};
+ghost use Rattle.fx_outputs.specs.Replications.{replication_at, replication_of, rows_in_range};
+
+use crate::option::{at, from_option};
+use fx_language::Symbol;
+use fx_text::{Lexeme, Refusal};
+
+/// The number of POINTREP or DESIGNREP, or 1.
+///
+/// # Errors
+///
+/// E20 at a number that is not from 1 to 200,000.
+pub fn replication(option: Symbol, lexemes: &[Lexeme<'_>]) -> Result<u32, Refusal>
+    ensures { result ≡ replication_of option lexemes.now }
+{
+    match at(from_option(option, lexemes), 2) {
+        None => Ok(1),
+        Some(number) => in_range(number),
+    }
+}
+
+/// A number from 1 to 200,000.
+fn in_range(number: &Lexeme<'_>) -> Result<u32, Refusal>
+    ensures { result ≡ replication_at (Some number.now) }
+{
+    match number.number() {
+        Some(n) if (1..=200_000).contains(&n) => Ok(n as u32),
+        Some(_) => Err(number.refused(20)),
+        None => Err(number.refused(20)),
+    }
+}
+
+/// Whether a file has at most 200,000 rows.
+///
+/// # Errors
+///
+/// E21 at the OUT name, where it has more.
+pub fn rows_in_range(
+    runs: u32,
+    pointrep: u32,
+    designrep: u32,
+    name: &Lexeme<'_>,
+) -> Result<(), Refusal>
+    ensures { result ≡ rows_in_range runs pointrep designrep name.now }
+{
+    let rows = u128::from(runs) * u128::from(pointrep) * u128::from(designrep);
+    if rows <= 200_000 {
+        return Ok(());
+    }
+    Err(name.refused(21))
+}

@@ -1,0 +1,59 @@
+ghost use Rattle.std.specs.Prelude.{◌≡◌, MatchOption, None, Some};
+ghost use Rattle.fx_outputs.specs.Shuffles.{seed_written, seeded, shuffle_of};
+
+use crate::option::{at, begins, from, from_option, has_option};
+use fx_language::Symbol;
+use fx_text::{Lexeme, Refusal};
+
+/// What of a plan is shuffled.
+#[derive(Clone, Copy, Debug, PartialEq, Eq)]
+pub enum Shuffle {
+    /// Nothing.
+    Kept,
+    /// The rows, and the values of the factors where `values` is set, by the program's seed.
+    Default { values: bool },
+    /// The same, by a seed of their own.
+    Seed { seed: u64, values: bool },
+}
+
+/// What RANDOMIZE and NOVALRAN ask for.
+///
+/// # Errors
+///
+/// E19 at a seed of more than 64 bits.
+pub fn shuffle_asked(lexemes: &[Lexeme<'_>]) -> Result<Shuffle, Refusal>
+    ensures { result ≡ shuffle_of lexemes.now }
+{
+    if !has_option(Symbol::Randomize, lexemes) {
+        return Ok(Shuffle::Kept);
+    }
+    let values = !has_option(Symbol::Novalran, lexemes);
+    match seed_written(from_option(Symbol::Randomize, lexemes)) {
+        None => Ok(Shuffle::Default { values }),
+        Some(seed) => seeded(seed, values),
+    }
+}
+
+/// The number in parentheses behind RANDOMIZE, which stands first.
+fn seed_written<'b, 'a>(lexemes: &'b [Lexeme<'a>]) -> Option<&'b Lexeme<'a>>
+    ensures { MatchOption result (seed_written lexemes.now ≡ None) (λ w. seed_written lexemes.now ≡ Some w.now) }
+{
+    if begins(Symbol::Open, from(lexemes, 1)) {
+        return at(lexemes, 2);
+    }
+    None
+}
+
+/// Shuffled by this seed.
+fn seeded(seed: &Lexeme<'_>, values: bool) -> Result<Shuffle, Refusal>
+    ensures { result ≡ seeded values (Some seed.now) }
+{
+    match seed.number() {
+        Some(n) if n <= u128::from(u64::MAX) => Ok(Shuffle::Seed {
+            seed: n as u64,
+            values,
+        }),
+        Some(_) => Err(seed.refused(19)),
+        None => Err(seed.refused(19)),
+    }
+}

@@ -1,0 +1,109 @@
+ghost use Rattle.std.specs.Prelude.{◌≡◌, ◌∷◌, IfOk, IfErr};
+ghost use Rattle.fx_text.specs.Refusals.{IsRefused};
+ghost use Rattle.fx_outputs.specs.Values.{counted, inside, value_of, values_of};
+
+use crate::option::from;
+use fx_base::{Bytes, NoMemory};
+use fx_language::Symbol;
+use fx_text::{Lexeme, Names, ParseStop};
+use std::alloc::Global;
+
+/// The values behind `word`, which is NVALS or CVALS, where they are to be so many.
+///
+/// # Errors
+///
+/// E17 at `word` for another number of them, or where none is wanted, and `NoMemory`.
+pub fn counted_values(
+    alloc: Global,
+    wanted: Option<u32>,
+    word: &Lexeme<'_>,
+    rest: &[Lexeme<'_>],
+) -> Result<Names, ParseStop>
+    ensures ok { IfOk result (λ values. counted wanted word.now (values_of rest.now) ≡ Ok values) }
+    ensures err { IfErr result (IsRefused (counted wanted word.now (values_of rest.now))) }
+{
+    match wanted {
+        None => Err(ParseStop::Refused(word.refused(17))),
+        Some(wanted) => {
+            let values = values(alloc, rest)?;
+            if values.len() == wanted as usize {
+                Ok(values)
+            } else {
+                Err(ParseStop::Refused(word.refused(17)))
+            }
+        }
+    }
+}
+
+/// The values behind NVALS or CVALS.
+fn values(alloc: Global, rest: &[Lexeme<'_>]) -> Result<Names, NoMemory>
+    ensures { IfOk result (λ values. values ≡ values_of rest.now) }
+{
+    let mut values = Names::new(alloc);
+    let mut signed = false;
+    for w in from(rest, 2) {
+        if w.is(Symbol::Close) {
+            return Ok(values);
+        }
+        if w.is(Symbol::Minus) {
+            signed = true;
+        } else {
+            values.push(value(alloc, signed, w)?)?;
+            signed = false;
+        }
+    }
+    Ok(values)
+}
+
+/// The value that a number or a quoted text gives, with a sign in front or not.
+fn value(alloc: Global, signed: bool, w: &Lexeme<'_>) -> Result<Bytes, NoMemory>
+    ensures { IfOk result (λ value. value ≡ value_of signed w.now) }
+{
+    if w.is(Symbol::Quoted) {
+        return inside(alloc, w.text());
+    }
+    if signed {
+        return with_sign(alloc, w.text());
+    }
+    copy(alloc, w.text())
+}
+
+/// The inside of a quoted text, each doubled quote once.
+fn inside(alloc: Global, text: &[u8]) -> Result<Bytes, NoMemory>
+    ensures { IfOk result (λ bytes. bytes ≡ inside text.now) }
+{
+    let mut bytes = Bytes::new(alloc);
+    if text.is_empty() {
+        return Ok(bytes);
+    }
+    let quote = text[0];
+    let mut met = false;
+    for b in &text[1..] {
+        if *b == quote && !met {
+            met = true;
+        } else {
+            bytes.push(*b)?;
+            met = false;
+        }
+    }
+    Ok(bytes)
+}
+
+/// The text behind a `-`.
+fn with_sign(alloc: Global, text: &[u8]) -> Result<Bytes, NoMemory>
+    ensures { IfOk result (λ bytes. bytes ≡ 45 ∷ text.now) }
+{
+    let mut bytes = Bytes::new(alloc);
+    bytes.push(b'-')?;
+    bytes.extend_from_slice(text)?;
+    Ok(bytes)
+}
+
+/// The same bytes.
+pub fn copy(alloc: Global, text: &[u8]) -> Result<Bytes, NoMemory>
+    ensures { IfOk result (λ bytes. bytes ≡ text.now) }
+{
+    let mut bytes = Bytes::new(alloc);
+    bytes.extend_from_slice(text)?;
+    Ok(bytes)
+}
