@@ -14,3 +14,6 @@ pub use output::{OutputSpec, Outputs, outputs};
 pub use recode::{Recode, Recodes};
 pub use setting::{BlockCount, Setting};
 pub use shuffle::Shuffle;
+
+#[cfg(test)]
+mod tests;
