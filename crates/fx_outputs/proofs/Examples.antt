@@ -1,5 +1,5 @@
 -- Statements, and what they give.
-use Rattle.std.proofs.Common.{◌≡◌, ℕ, List, [], ◌∷◌, ◌++◌, Option, Some, None, Result, Ok, Err, true, false, refl, arith}
+use Rattle.std.proofs.Common.{◌≡◌, ℕ, List, [], ◌∷◌, ◌++◌, Result, Ok, Err, true, false, refl}
 use Rattle.std.specs.Prelude.{codes}
 use Rattle.fx_lexer.specs.declared.token.Token.{Token}
 use Rattle.fx_lexer.specs.declared.token.LexFault.{LexFault}
@@ -8,22 +8,15 @@ use Rattle.fx_text.specs.declared.refusal.Refusal.{Refusal}
 use Rattle.fx_text.specs.Written.{Written, written}
 use Rattle.fx_text.specs.Statements.{statements_of}
 use Rattle.fx_outputs.specs.declared.output.OutputSpec.{OutputSpec}
-use Rattle.fx_outputs.specs.declared.recode.Recode.{Recode}
-use Rattle.fx_outputs.specs.declared.setting.Setting.{Setting}
+use Rattle.fx_outputs.specs.Contexts.{Context}
 use Rattle.fx_outputs.specs.declared.setting.BlockCount.{BlockCount}
 use Rattle.fx_outputs.specs.declared.setting.BlockCount.TheVariants as blocks
 use Rattle.fx_outputs.specs.declared.shuffle.Shuffle.TheVariants as shuffle
 use Rattle.fx_outputs.specs.Outputs.{outputs_of}
 
 -- a step with the factors A and nvals, with two levels and 16 runs
-step : BlockCount → Setting
-step count = record {
-  factors = record { ref_ptr = (0, 0); now = codes "A" ∷ codes "nvals" ∷ [] };
-  q = 2;
-  runs = 16;
-  blocks = count;
-  few = omega arith;
-}
+step : BlockCount → Context
+step count = record { factors = codes "A" ∷ codes "nvals" ∷ []; q = 2; runs = 16; blocks = count }
 
 among : List ℕ → Result (List Token) LexFault → List (List Written)
 among text (Ok tokens) = statements_of (written text tokens)

@@ -8,7 +8,7 @@ use Rattle.fx_text.specs.declared.refusal.ParseStop.TheVariants as stop
 use Rattle.fx_text.specs.Written.{Written}
 use Rattle.fx_text.specs.Refusals.{IsRefused}
 use Rattle.fx_outputs.specs.declared.recode.Recode.{Recode}
-use Rattle.fx_outputs.specs.declared.setting.Setting.{Setting}
+use Rattle.fx_outputs.specs.Contexts.{Context}
 use Rattle.fx_outputs.specs.Recodes.{is_recoded, recode_of, recodes_behind}
 
 -- what stands at an index stands first in what is left from there on
@@ -42,13 +42,13 @@ three_left xs i before name word h low b n w =
     ∙ ap (λ l. before ∷ l) (two_left xs i name word h low n w)
 
 -- behind the last name there is none
-pub none_left : (setting : Setting) (earlier : List Recode) (xs : List Written) → length xs ≤ 2 → recodes_behind setting earlier xs ≡ Ok earlier
+pub none_left : (setting : Context) (earlier : List Recode) (xs : List Written) → length xs ≤ 2 → recodes_behind setting earlier xs ≡ Ok earlier
 none_left setting earlier [] h = refl
 none_left setting earlier (a ∷ []) h = refl
 none_left setting earlier (a ∷ b ∷ []) h = refl
 none_left setting earlier (a ∷ b ∷ w ∷ rest) h = absurd (omega arith)
 
-module _ (setting : Setting) (earlier : List Recode) (before name word : Written) (rest : List Written) where
+module _ (setting : Context) (earlier : List Recode) (before name word : Written) (rest : List Written) where
   pub refused : (reason : ParseStop) → true ≡ is_recoded before name word → IsRefused (recode_of setting earlier name word rest) reason
       → IsRefused (recodes_behind setting earlier (before ∷ name ∷ word ∷ rest)) reason
   refused (stop.Refused refusal) t h = rw (← t, h) refl

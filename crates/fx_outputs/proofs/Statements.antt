@@ -11,13 +11,13 @@ use Rattle.fx_text.specs.declared.refusal.ParseStop.TheVariants as stop
 use Rattle.fx_text.specs.Written.{Written, begins}
 use Rattle.fx_text.specs.Refusals.{IsRefused}
 use Rattle.fx_outputs.specs.declared.output.OutputSpec.{OutputSpec}
-use Rattle.fx_outputs.specs.declared.setting.Setting.{Setting}
+use Rattle.fx_outputs.specs.Contexts.{Context}
 use Rattle.fx_outputs.specs.Outputs.{output_of, outputs_behind, names_of}
 
 abbrev pub is_output : List Written → Bool
 is_output s = begins Output s && nat_lt 3 (length s)
 
-module _ (setting : Setting) (earlier : List (List ℕ)) (outputs : List OutputSpec) (rest : List (List Written)) where
+module _ (setting : Context) (earlier : List (List ℕ)) (outputs : List OutputSpec) (rest : List (List Written)) where
   first_refused : (a b c d : Written) (options : List Written) (reason : ParseStop) → is Output a.symbol ≡ true
       → IsRefused (output_of setting earlier a d (d ∷ options)) reason
       → IsRefused (outputs_behind setting earlier outputs ((a ∷ b ∷ c ∷ d ∷ options) ∷ rest)) reason

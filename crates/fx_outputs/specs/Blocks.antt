@@ -6,7 +6,7 @@ use Rattle.fx_text.specs.declared.refusal.Refusal.{Refusal}
 use Rattle.fx_text.specs.Written.{Written, begins}
 use Rattle.fx_text.specs.Names.{place_of}
 use Rattle.fx_text.specs.Refusals.{refusal_at}
-use Rattle.fx_outputs.specs.declared.setting.Setting.{Setting}
+use Rattle.fx_outputs.specs.Contexts.{Context}
 use Rattle.fx_outputs.specs.declared.setting.BlockCount.{BlockCount}
 use Rattle.fx_outputs.specs.declared.setting.BlockCount.TheVariants as blocks
 use Rattle.fx_outputs.specs.Values.{values_of, counted}
@@ -34,10 +34,10 @@ is_free factors name w = if is_some (place_of name factors) then Err (refusal_at
 
 -- The column's name is no factor's: BLOCKNAME's name, or else BLOCK. `output` is the word OUTPUT. A step without
 -- blocks has no such column.
-abbrev pub column_is_free : Setting → Written → Option Written → Result (Unit {0}) Refusal
-column_is_free setting output (Some name) = is_free setting.factors.now name.text name
+abbrev pub column_is_free : Context → Written → Option Written → Result (Unit {0}) Refusal
+column_is_free setting output (Some name) = is_free setting.factors name.text name
 column_is_free setting output None =
-    if has_blocks setting.blocks then is_free setting.factors.now (codes "BLOCK") output else Ok tt
+    if has_blocks setting.blocks then is_free setting.factors (codes "BLOCK") output else Ok tt
 
 -- BLOCKNAME's name, empty where there is none
 abbrev pub name_or_empty : Option Written → List ℕ

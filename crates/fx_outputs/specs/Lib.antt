@@ -1,3 +1,4 @@
+pub mod Contexts
 pub mod Options
 pub mod Replications
 pub mod Shuffles

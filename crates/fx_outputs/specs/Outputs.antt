@@ -7,7 +7,7 @@ use Rattle.fx_text.specs.Written.{Written}
 use Rattle.fx_text.specs.Names.{place_of}
 use Rattle.fx_text.specs.Refusals.{refusal_at, ◌>>=◌}
 use Rattle.fx_outputs.specs.declared.output.OutputSpec.{OutputSpec}
-use Rattle.fx_outputs.specs.declared.setting.Setting.{Setting}
+use Rattle.fx_outputs.specs.Contexts.{Context}
 use Rattle.fx_outputs.specs.Options.{from_option}
 use Rattle.fx_outputs.specs.Replications.{replication_of, rows_in_range}
 use Rattle.fx_outputs.specs.Shuffles.{shuffle_of}
@@ -20,7 +20,7 @@ is_new_name earlier name = if is_some (place_of name.text earlier) then Err (ref
 
 -- An OUTPUT statement behind these OUT names: `word` is the word OUTPUT, `name` the OUT name, and `s` what stands
 -- behind `OUT =`, the name first.
-abbrev pub output_of : Setting → List (List ℕ) → Written → Written → List Written → Result OutputSpec Refusal
+abbrev pub output_of : Context → List (List ℕ) → Written → Written → List Written → Result OutputSpec Refusal
 output_of setting earlier word name s =
     let blockname = from_option Blockname s in
     do
@@ -45,7 +45,7 @@ output_of setting earlier word name s =
 
 -- The OUTPUT statements among these, in order, behind the outputs that were read before. `earlier` are the OUT names
 -- that stand before in the program. An OUTPUT statement begins `OUTPUT OUT = name`.
-abbrev pub outputs_behind : Setting → List (List ℕ) → List OutputSpec → List (List Written) → Result (List OutputSpec) Refusal
+abbrev pub outputs_behind : Context → List (List ℕ) → List OutputSpec → List (List Written) → Result (List OutputSpec) Refusal
 outputs_behind setting earlier outputs [] = Ok outputs
 outputs_behind setting earlier outputs ((word ∷ out ∷ equals ∷ name ∷ options) ∷ rest) =
     if is Output word.symbol
@@ -55,7 +55,7 @@ outputs_behind setting earlier outputs ((word ∷ out ∷ equals ∷ name ∷ op
 outputs_behind setting earlier outputs (s ∷ rest) = outputs_behind setting earlier outputs rest
 
 -- the OUTPUT statements among the statements of a step
-abbrev pub outputs_of : Setting → List (List ℕ) → List (List Written) → Result (List OutputSpec) Refusal
+abbrev pub outputs_of : Context → List (List ℕ) → List (List Written) → Result (List OutputSpec) Refusal
 outputs_of setting earlier statements = outputs_behind setting earlier [] statements
 
 -- the names that OUTPUT statements give to their files

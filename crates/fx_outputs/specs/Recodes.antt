@@ -8,7 +8,7 @@ use Rattle.fx_text.specs.Written.{Written}
 use Rattle.fx_text.specs.Names.{place_of}
 use Rattle.fx_text.specs.Refusals.{refusal_at, ◌>>=◌}
 use Rattle.fx_outputs.specs.declared.recode.Recode.{Recode}
-use Rattle.fx_outputs.specs.declared.setting.Setting.{Setting}
+use Rattle.fx_outputs.specs.Contexts.{Context}
 use Rattle.fx_outputs.specs.Values.{values_of, counted}
 
 -- a recoded factor's name: a word that is no option, and `=` stands neither in front of it nor behind it
@@ -32,15 +32,15 @@ first_time earlier name place = if has_values earlier place then Err (refusal_at
 
 -- A factor and its values, behind those of the same statement that stand earlier. `word` is NVALS or CVALS, `rest` is
 -- what stands behind it.
-abbrev pub recode_of : Setting → List Recode → Written → Written → List Written → Result Recode Refusal
+abbrev pub recode_of : Context → List Recode → Written → Written → List Written → Result Recode Refusal
 recode_of setting earlier name word rest = do
-  factor ← factor_at name (place_of name.text setting.factors.now)
+  factor ← factor_at name (place_of name.text setting.factors)
   place ← first_time earlier name factor
   values ← counted (Some setting.q) word (values_of rest)
   Ok (record { place = place; values = values })
 
 -- the recoded factors from left to right, behind those that stand earlier; each name has something in front of it
-abbrev pub recodes_behind : Setting → List Recode → List Written → Result (List Recode) Refusal
+abbrev pub recodes_behind : Context → List Recode → List Written → Result (List Recode) Refusal
 recodes_behind setting earlier (before ∷ name ∷ word ∷ rest) =
     if is_recoded before name word
     then (recode_of setting earlier name word rest
@@ -49,5 +49,5 @@ recodes_behind setting earlier (before ∷ name ∷ word ∷ rest) =
 recodes_behind setting earlier _ = Ok earlier
 
 -- the recoded factors of what stands behind `OUT =`, the OUT name first
-abbrev pub recodes_of : Setting → List Written → Result (List Recode) Refusal
+abbrev pub recodes_of : Context → List Written → Result (List Recode) Refusal
 recodes_of setting s = recodes_behind setting [] s

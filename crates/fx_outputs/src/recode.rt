@@ -81,7 +81,7 @@ fn recode_at(
 
 /// The place of the factor of this name, from 1.
 fn factor_at(setting: &Setting<'_>, name: &Lexeme<'_>) -> Result<u8, Refusal>
-    ensures { result ≡ factor_at name.now (place_of name.now.text setting.now.factors.now) }
+    ensures { result ≡ factor_at name.now (place_of name.now.text setting.now.factors) }
 {
     match place_of(name.text(), setting.factors) {
         Some(i) => Ok(i as u8 + 1),

@@ -32,12 +32,7 @@ fn read(
     let factors = names(alloc, [b"A", b"Block"])?;
     let mut earlier = names(alloc, [b"old"])?;
     assert!(rt; factors.len() < 256);
-    let setting = Setting {
-        factors: factors.as_slice(),
-        q: 2,
-        runs: 16,
-        blocks,
-    };
+    let setting = Setting::new(factors.as_slice(), 2, 16, blocks);
     Ok(outputs(alloc, &setting, &mut earlier, statements.as_slice()))
 }
 

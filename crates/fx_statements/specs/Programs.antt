@@ -1,0 +1,48 @@
+-- What a text means: a list of steps, or the first refusal.
+use Rattle.std.specs.Prelude.{ℕ, zero, suc, ◌++◌, ◌&&◌, Bool, List, [], ◌∷◌, drop, Option, Some, None, Result, Ok, Err, if◌then◌else◌}
+use Rattle.std.specs.List.{list_any}
+use Rattle.fx_lexer.specs.declared.token.Token.{Token}
+use Rattle.fx_lexer.specs.Places.{line_after, column_after}
+use Rattle.fx_language.specs.declared.symbol.Symbol.TheVariants.{Model, Estimate}
+use Rattle.fx_language.specs.Keywords.{symbols_of}
+use Rattle.fx_language.specs.Refusals.{first_refusal}
+use Rattle.fx_text.specs.declared.refusal.Place.{Place}
+use Rattle.fx_text.specs.declared.refusal.Refusal.{Refusal}
+use Rattle.fx_text.specs.Written.{Written, begins, written}
+use Rattle.fx_text.specs.Statements.{statements_of, steps_of}
+use Rattle.fx_text.specs.Refusals.{refused_at, ◌>>=◌}
+use Rattle.fx_outputs.specs.Outputs.{names_of}
+use Rattle.fx_statements.specs.Steps.{Meaning, step_of}
+
+-- the meanings of some steps, behind these OUT names
+abbrev pub steps_mean : List (List ℕ) → List (List (List Written)) → Result (List Meaning) Refusal
+steps_mean earlier [] = Ok []
+steps_mean earlier (step ∷ steps) = do
+  meaning ← step_of earlier step
+  others ← steps_mean (earlier ++ names_of meaning.outputs) steps
+  Ok (meaning ∷ others)
+
+-- a MODEL statement that names effects
+abbrev pub names_effects : List Written → Bool
+names_effects s = begins Model s && begins Estimate (drop 1 s)
+
+-- The meaning of what is written in an accepted text. Models of effects are not built yet.
+abbrev pub meaning_of_all : List (List Written) → Result (List Meaning) Refusal
+meaning_of_all statements =
+    if list_any names_effects statements then Err (refused_at 0 (record { line = 1; column = 1 }))
+    else steps_mean [] (steps_of statements)
+
+-- the place of a token, and behind the last one that of the end
+abbrev pub place_of_index : List ℕ → List Token → ℕ → Place
+place_of_index text [] i = record { line = line_after text; column = column_after text }
+place_of_index text (t ∷ tokens) zero = record { line = t.line; column = t.column }
+place_of_index text (t ∷ tokens) (suc i) = place_of_index text tokens i
+
+-- the first symbol that the grammar or a rule on repeated words refuses comes before what the steps mean
+abbrev pub accepted : List ℕ → List Token → Option (ℕ × ℕ) → Result (List Meaning) Refusal
+accepted text tokens (Some refused) = Err (refused_at refused.0 (place_of_index text tokens refused.1))
+accepted text tokens None = meaning_of_all (statements_of (written text tokens))
+
+-- the program of a text with these tokens
+unfoldable pub program_of : List ℕ → List Token → Result (List Meaning) Refusal
+program_of text tokens = accepted text tokens (first_refusal (symbols_of text tokens))

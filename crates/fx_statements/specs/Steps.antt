@@ -1,0 +1,105 @@
+-- What a step means.
+use Rattle.std.specs.Prelude.{ℕ, ◌^◌, ◌&&◌, Bool, List, [], ◌∷◌, length, drop, is_some, Option, Some, None, Result, Ok, Err, if◌then◌else◌}
+use Rattle.std.specs.List.{list_any}
+use Rattle.fx_language.specs.declared.symbol.Symbol.{Symbol}
+use Rattle.fx_language.specs.declared.symbol.Symbol.TheVariants as word
+use Rattle.fx_language.specs.Symbols.{is}
+use Rattle.fx_text.specs.declared.refusal.Refusal.{Refusal}
+use Rattle.fx_text.specs.declared.refusal.Place.{Place}
+use Rattle.fx_text.specs.Written.{Written, begins}
+use Rattle.fx_text.specs.Statements.{statement_of}
+use Rattle.fx_text.specs.Refusals.{refused_at, ◌>>=◌}
+use Rattle.fx_factors.specs.Factors.{factors_of}
+use Rattle.fx_settings.specs.declared.settings.Settings.{Settings}
+use Rattle.fx_settings.specs.declared.settings.Size.{Size}
+use Rattle.fx_settings.specs.declared.settings.Size.TheVariants.{Runs, Minimum}
+use Rattle.fx_settings.specs.declared.settings.Blocks.{Blocks}
+use Rattle.fx_settings.specs.declared.settings.Blocks.TheVariants as given
+use Rattle.fx_settings.specs.Powers.{greatest}
+use Rattle.fx_settings.specs.Said.{start_of, step_said}
+use Rattle.fx_settings.specs.Settings.{settings_of}
+use Rattle.fx_outputs.specs.declared.output.OutputSpec.{OutputSpec}
+use Rattle.fx_outputs.specs.declared.setting.BlockCount.{BlockCount}
+use Rattle.fx_outputs.specs.declared.setting.BlockCount.TheVariants as count
+use Rattle.fx_outputs.specs.Contexts.{Context}
+use Rattle.fx_outputs.specs.Outputs.{outputs_of}
+use Rattle.fx_statements.specs.declared.step.Examine.{Examine}
+use Rattle.fx_statements.specs.declared.step.Step.{Step}
+
+-- a step, without where its parts lie in memory
+pub record Meaning : Type 0 where
+  pub factors : List (List ℕ)
+  pub settings : Settings
+  pub examine : Examine
+  pub outputs : List OutputSpec
+
+-- how many factors a step may have: fewer with blocks
+abbrev pub most_factors : List (List Written) → ℕ
+most_factors statements = if is_some (statement_of word.Blocks statements) then 30 else 40
+
+-- E7 where there are none: `proc` is the place of PROC
+abbrev pub some_factors : Place → List (List ℕ) → Result (List (List ℕ)) Refusal
+some_factors proc [] = Err (refused_at 7 proc)
+some_factors proc (name ∷ names) = Ok (name ∷ names)
+
+-- an EXAMINE statement has this word
+abbrev pub asks : Symbol → List (List Written) → Bool
+asks section statements = list_any (λ s. begins word.Examine s && list_any (λ (w : Written). is section w.symbol) s) statements
+
+-- the sections that are asked for
+abbrev pub examine_of : List (List Written) → Examine
+examine_of statements = record {
+  aliasing = asks word.Aliasing statements;
+  blocked = asks word.Blocked statements;
+  design = asks word.Design statements;
+  aberration = asks word.Aberration statements;
+}
+
+-- the greatest number of runs
+abbrev pub most_runs : ℕ → Size → ℕ
+most_runs q (Runs m) = q ^ m
+most_runs q Minimum = q ^ greatest q
+
+-- the number of blocks, where it is fixed
+abbrev pub block_count : ℕ → Blocks → BlockCount
+block_count q given.Without = count.Without
+block_count q (given.Factors t) = count.Fixed (q ^ t)
+block_count q (given.PerBlock k) = count.Open
+block_count q given.Most = count.Open
+
+-- what the OUTPUT statements of the step are read against
+abbrev pub context : List (List ℕ) → Settings → Context
+context factors settings = record {
+  factors = factors;
+  q = settings.q;
+  runs = most_runs settings.q settings.size;
+  blocks = block_count settings.q settings.blocks;
+}
+
+-- the first of some statements
+abbrev pub head_of : List (List Written) → List Written
+head_of [] = []
+head_of (s ∷ statements) = s
+
+-- The meaning of a step, behind these OUT names, by its FACTORS statement where it has one.
+abbrev pub step_by : List (List ℕ) → List (List Written) → Option (List Written) → Result Meaning Refusal
+step_by earlier statements None = Err (refused_at 7 (start_of (head_of statements)))
+step_by earlier statements (Some named) = do
+  names ← factors_of (most_factors statements) named
+  factors ← some_factors (start_of (head_of statements)) names
+  settings ← settings_of (length factors) (step_said (head_of statements) named statements)
+  outputs ← outputs_of (context factors settings) earlier statements
+  Ok (record { factors = factors; settings = settings; examine = examine_of statements; outputs = outputs })
+
+-- the meaning of a step, whose PROC statement stands first
+abbrev pub step_of : List (List ℕ) → List (List Written) → Result Meaning Refusal
+step_of earlier statements = step_by earlier statements (statement_of word.Factors statements)
+
+-- what of a step it is
+abbrev pub meaning_of : Step → Meaning
+meaning_of step = record {
+  factors = step.factors;
+  settings = record { q = step.q; budget = step.budget; size = step.size; wanted = step.wanted; least = step.least; blocks = step.blocks };
+  examine = step.examine;
+  outputs = step.outputs;
+}

@@ -1,0 +1,11 @@
+//! The program that a text says: its steps, or the first refusal.
+#![tactic(auto)]
+
+
+mod step;
+
+pub use fx_outputs::{OutputSpec, Outputs, Recode, Recodes, Shuffle};
+pub use fx_settings::{Blocks, Size, Wanted};
+pub use fx_text::{Names, ParseStop, Refusal};
+
+pub use step::{Examine, Step};

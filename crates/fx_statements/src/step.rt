@@ -1,0 +1,33 @@
+ghost use Rattle.std.specs.Prelude.{nat_le, ◌&&◌, length, IsTrue};
+
+use fx_outputs::Outputs;
+use fx_settings::{Blocks, Size, Wanted};
+use fx_text::Names;
+
+/// The sections of the listing that are asked for besides the rules.
+#[derive(Clone, Copy, Debug, PartialEq, Eq)]
+pub struct Examine {
+    pub aliasing: bool,
+    pub blocked: bool,
+    pub design: bool,
+    pub aberration: bool,
+}
+
+/// A step of a program.
+#[derive(Debug, Drop)]
+pub struct Step {
+    /// The names of its factors, 1 to 40, and at most 30 with blocks.
+    pub factors: Names,
+    /// The number of levels of each factor: 2, 3, 4, 5, 7, 8 or 9.
+    pub q: u8,
+    pub size: Size,
+    pub wanted: Wanted,
+    /// Whether least aberration is wanted.
+    pub least: bool,
+    pub blocks: Blocks,
+    pub examine: Examine,
+    pub outputs: Outputs,
+    /// The greatest number of nodes, from 1 to 5,000,000.
+    pub budget: u64,
+    ghost named: { IsTrue (nat_le 1 (length factors) && nat_le (length factors) 40) },
+}
