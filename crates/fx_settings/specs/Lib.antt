@@ -4,3 +4,4 @@ pub mod Sizes
 pub mod Models
 pub mod Blocks
 pub mod Settings
+pub mod Valid

@@ -9,5 +9,8 @@ mod said;
 mod settings;
 mod size;
 
-pub use said::{BlocksSaid, BlocksWord, ModelSaid, SizeSaid, SizeWord, StepSaid, Value, step_said};
+pub use power::greatest;
+pub use said::{
+    BlocksSaid, BlocksWord, ModelSaid, SizeSaid, SizeWord, StepSaid, Value, start_of, step_said,
+};
 pub use settings::{Blocks, Settings, Size, Wanted, settings_of};

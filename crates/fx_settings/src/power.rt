@@ -35,7 +35,7 @@ pub(crate) fn is_within(q: u8, m: u128) -> bool
 }
 
 /// The greatest m with at most 1,024 runs.
-pub(crate) fn greatest(q: u8) -> u8
+pub fn greatest(q: u8) -> u8
     requires { 2 ≤ q }
     ensures value { result ≡ greatest q }
     ensures bound { result ≤ 10 }

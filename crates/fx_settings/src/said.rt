@@ -146,7 +146,7 @@ fn blocks_word(statement: &[Lexeme<'_>]) -> BlocksWord
 }
 
 /// The place of a statement's first word.
-fn start_of(statement: &[Lexeme<'_>]) -> Place
+pub fn start_of(statement: &[Lexeme<'_>]) -> Place
     ensures { result ≡ start_of statement.now }
 {
     if statement.is_empty() {

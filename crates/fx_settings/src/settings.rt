@@ -1,5 +1,6 @@
-ghost use Rattle.std.specs.Prelude.{◌≡◌, ◌≤◌, ℕ, Bool, IfOk};
+ghost use Rattle.std.specs.Prelude.{◌≡◌, ◌≤◌, true, IfOk};
 ghost use Rattle.fx_settings.specs.Settings.{budget_of, is_level, levels_of, settings_of};
+ghost use Rattle.fx_settings.specs.Valid.{are_valid};
 
 use crate::block::{blocks_allowed, blocks_of, minimum_allowed};
 use crate::model::{least_of, wanted_of};
@@ -57,6 +58,13 @@ pub struct Settings {
 ///
 /// The first of these, in this order: E6, E29 for NODES, E8, E9, E11, E13, E14, E15, E16.
 pub fn settings_of(s: u8, said: StepSaid) -> Result<Settings, Refusal>
+    ensures value { result ≡ settings_of s said }
+    ensures valid { IfOk result (λ settings. 1 ≤ s → are_valid settings ≡ true) }
+{
+    judged(s, said)
+}
+
+fn judged(s: u8, said: StepSaid) -> Result<Settings, Refusal>
     ensures { result ≡ settings_of s said }
 {
     let q = levels_of(said.levels)?;

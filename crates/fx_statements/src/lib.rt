@@ -1,11 +1,13 @@
 //! The program that a text says: its steps, or the first refusal.
 #![tactic(auto)]
 
-
+mod examine;
+mod parse;
 mod step;
 
+pub use examine::Examine;
 pub use fx_outputs::{OutputSpec, Outputs, Recode, Recodes, Shuffle};
 pub use fx_settings::{Blocks, Size, Wanted};
 pub use fx_text::{Names, ParseStop, Refusal};
-
-pub use step::{Examine, Step};
+pub use parse::{Program, parse};
+pub use step::Step;

@@ -1,17 +1,14 @@
-ghost use Rattle.std.specs.Prelude.{nat_le, ◌&&◌, length, IsTrue};
+ghost use Rattle.std.specs.Prelude.{◌≡◌, ◌++◌, ◌≤◌, ◌^◌, nat_le, ◌&&◌, Ok, length, IfOk, IfErr, IsTrue};
+ghost use Rattle.fx_text.specs.Refusals.{IsRefused};
+ghost use Rattle.fx_outputs.specs.Outputs.{names_of};
 
-use fx_outputs::Outputs;
-use fx_settings::{Blocks, Size, Wanted};
-use fx_text::Names;
-
-/// The sections of the listing that are asked for besides the rules.
-#[derive(Clone, Copy, Debug, PartialEq, Eq)]
-pub struct Examine {
-    pub aliasing: bool,
-    pub blocked: bool,
-    pub design: bool,
-    pub aberration: bool,
-}
+use crate::examine::{Examine, examine_of};
+use fx_language::Symbol;
+use fx_factors::factors_of;
+use fx_outputs::{BlockCount, Outputs, Setting, outputs};
+use fx_settings::{Blocks, Settings, Size, Wanted, greatest, settings_of, start_of, step_said};
+use fx_text::{Lexeme, Names, ParseStop, Statement, find};
+use std::alloc::Global;
 
 /// A step of a program.
 #[derive(Debug, Drop)]
@@ -29,5 +26,4 @@ pub struct Step {
     pub outputs: Outputs,
     /// The greatest number of nodes, from 1 to 5,000,000.
     pub budget: u64,
-    ghost named: { IsTrue (nat_le 1 (length factors) && nat_le (length factors) 40) },
 }

@@ -1,0 +1,196 @@
+-- Settings that no rule refuses are valid.
+use Rattle.std.proofs.Common.{◌≡◌, ℕ, ◌-◌, ◌^◌, ◌≤◌, Bool, true, false, not, ◌&&◌, ◌||◌, Option, Some, None, Result, Ok, Err, refl, sym, ap, subst, ◌∙◌, arith}
+use Rattle.std.specs.Prelude.{nat_le, nat_lt, if◌then◌else◌, is_some, IfOk}
+use Rattle.std.proofs.lemmas.Bool.{leb-true, le-leb, ltb-true, le-ltb, and_from}
+use Rattle.fx_text.specs.declared.refusal.Refusal.{Refusal}
+use Rattle.fx_text.specs.declared.refusal.Place.{Place}
+use Rattle.fx_text.specs.Refusals.{refused_at, ◌>>=◌}
+use Rattle.fx_settings.specs.declared.said.Value.{Value}
+use Rattle.fx_settings.specs.declared.said.SizeSaid.{SizeSaid}
+use Rattle.fx_settings.specs.declared.said.SizeWord.{SizeWord}
+use Rattle.fx_settings.specs.declared.said.SizeWord.TheVariants as size
+use Rattle.fx_settings.specs.declared.said.ModelSaid.{ModelSaid}
+use Rattle.fx_settings.specs.declared.said.BlocksSaid.{BlocksSaid}
+use Rattle.fx_settings.specs.declared.said.BlocksWord.{BlocksWord}
+use Rattle.fx_settings.specs.declared.said.BlocksWord.TheVariants as word
+use Rattle.fx_settings.specs.declared.said.StepSaid.{StepSaid}
+use Rattle.fx_settings.specs.declared.settings.Settings.{Settings}
+use Rattle.fx_settings.specs.declared.settings.Size.{Size}
+use Rattle.fx_settings.specs.declared.settings.Size.TheVariants.{Runs, Minimum}
+use Rattle.fx_settings.specs.declared.settings.Wanted.{Wanted}
+use Rattle.fx_settings.specs.declared.settings.Wanted.TheVariants.{Resolution, Highest}
+use Rattle.fx_settings.specs.declared.settings.Blocks.{Blocks}
+use Rattle.fx_settings.specs.declared.settings.Blocks.TheVariants as blocks
+use Rattle.fx_settings.specs.Powers.{exponent}
+use Rattle.fx_settings.specs.Sizes.{passed, by_design, by_fraction, run_factors, runs_at, size_by, size_of}
+use Rattle.fx_settings.specs.Models.{resolution_by, wanted_of, least_of, is_highest}
+use Rattle.fx_settings.specs.Blocks.{blocks_allowed, are_most, is_minimum, minimum_allowed, is_too_many, factors_at, by_number, most_run_factors, of_runs, by_size, blocks_by, blocks_by_value, blocks_of}
+use Rattle.fx_settings.specs.Settings.{number_by, number_said, is_level, levels_of, budget_of, settings_of}
+use Rattle.fx_settings.specs.Valid.{is_size, is_wanted, are_blocks, has_blocks, has_most, is_budget, stand_together, are_valid}
+
+-- a chain that gives a value has one behind its first part
+pub bind_ok : {A B : Type 0} (r : Result A Refusal) (f : A → Result B Refusal) (x : B) → (r >>= f) ≡ Ok x → (a : A) × (r ≡ Ok a) × (f a ≡ Ok x)
+bind_ok (Ok a) f x e = (a, refl, e)
+bind_ok (Err refusal) f x e = absurd (cc e)
+
+same_ok : {A : Type 0} (x y : A) → ◌≡◌ {A = Result A Refusal} (Ok x) (Ok y) → x ≡ y
+same_ok x y e = cc
+
+if_ok : {A : Type 0} (b : Bool) (y x : A) (refusal : Refusal) → ◌≡◌ {A = Result A Refusal} (if b then Ok y else Err refusal) (Ok x) → (b ≡ true) × (y ≡ x)
+if_ok true y x refusal e = (refl, same_ok y x e)
+if_ok false y x refusal e = absurd (cc e)
+
+unless_ok : {A : Type 0} (b : Bool) (y x : A) (refusal : Refusal) → ◌≡◌ {A = Result A Refusal} (if b then Err refusal else Ok y) (Ok x) → (b ≡ false) × (y ≡ x)
+unless_ok true y x refusal e = absurd (cc e)
+unless_ok false y x refusal e = (refl, same_ok y x e)
+
+number_passes : (usual code : ℕ) (passes : ℕ → Bool) (said : Option Value) (x : ℕ) → passes usual ≡ true → number_said usual code passes said ≡ Ok x → passes x ≡ true
+number_passes usual code passes None x u e = subst (λ n. passes n ≡ true) (same_ok usual x e) u
+number_passes usual code passes (Some said) x u e = go said.number e
+  where
+    go : (n : Option ℕ) → number_by usual code passes said.place n ≡ Ok x → passes x ≡ true
+    go None e = subst (λ n. passes n ≡ true) (same_ok usual x e) u
+    go (Some n) e = let both = if_ok (passes n) n x (refused_at code said.place) e in subst (λ n. passes n ≡ true) both.1 both.0
+
+-- the size
+
+at_least_one : (place : Place) (n m : ℕ) (code : ℕ) → passed (nat_le 1 n) code place n ≡ Ok m → 1 ≤ m
+at_least_one place n m code e = let both = if_ok (nat_le 1 n) n m (refused_at code place) e in omega (arith, leb-true 1 n both.0, both.1)
+
+some_runs : (q s : ℕ) (w : SizeWord) (place : Place) (n m : ℕ) → run_factors q s w place n ≡ Ok m → 1 ≤ m
+some_runs q s size.Design place n m e = go (exponent q n) e
+  where
+    go : (x : Option ℕ) → by_design place x ≡ Ok m → 1 ≤ m
+    go None e = absurd (cc e)
+    go (Some k) e = at_least_one place k m 8 e
+some_runs q s size.Fraction place n m e = go (exponent q n) e
+  where
+    go : (x : Option ℕ) → by_fraction s place x ≡ Ok m → 1 ≤ m
+    go None e = absurd (cc e)
+    go (Some f) e = let both = if_ok (nat_lt f s) (s - f) m (refused_at 8 place) e in omega (arith, ltb-true f s both.0, both.1)
+some_runs q s size.Nrunfacs place n m e = at_least_one place n m 8 e
+
+runs_fit : (q : ℕ) (place : Place) (m : ℕ) (x : Size) → 1 ≤ m → runs_at q place m ≡ Ok x → is_size q x ≡ true
+runs_fit q place m x one e =
+    let both = if_ok (nat_le (q ^ m) 1024) (Runs m) x (refused_at 9 place) e in
+    subst (λ x. is_size q x ≡ true) both.1 (and_from (nat_le 1 m) (nat_le (q ^ m) 1024) (le-leb 1 m one) both.0)
+
+size_valid : (q s : ℕ) (factors : Place) (said : Option SizeSaid) (x : Size) → 1 ≤ s → size_of q s factors said ≡ Ok x → is_size q x ≡ true
+unfolding size_of
+size_valid q s factors None x one e = runs_fit q factors s x one e
+size_valid q s factors (Some said) x one e = go said.value.number e
+  where
+    go : (n : Option ℕ) → size_by q s said.word said.value.place n ≡ Ok x → is_size q x ≡ true
+    go None e = subst (λ x. is_size q x ≡ true) (same_ok Minimum x e) refl
+    go (Some n) e =
+        let b = bind_ok (run_factors q s said.word said.value.place n) (runs_at q said.value.place) x e in
+        runs_fit q said.value.place b.0 x (some_runs q s said.word said.value.place n b.0 b.1) b.2
+
+wanted_valid : (said : Option ModelSaid) (x : Wanted) → wanted_of said ≡ Ok x → is_wanted x ≡ true
+unfolding wanted_of
+wanted_valid None x e = subst (λ x. is_wanted x ≡ true) (same_ok Highest x e) refl
+wanted_valid (Some said) x e = go said.resolution.number e
+  where
+    go : (n : Option ℕ) → resolution_by said.resolution.place n ≡ Ok x → is_wanted x ≡ true
+    go None e = subst (λ x. is_wanted x ≡ true) (same_ok Highest x e) refl
+    go (Some r) e = let both = if_ok (nat_le 3 r && nat_le r 99) (Resolution r) x (refused_at 11 said.resolution.place) e in subst (λ x. is_wanted x ≡ true) both.1 both.0
+
+-- the blocks
+
+record Kept (q : ℕ) (size : Size) (most : Bool) (x : Blocks) : Type 0 where
+  fits : are_blocks q size x ≡ true
+  same : has_most x ≡ most
+
+factors_fit : (q : ℕ) (size : Size) (place : Place) (t : ℕ) (x : Blocks) → 1 ≤ t → factors_at q size place t ≡ Ok x → Kept q size false x
+factors_fit q size place t x one e =
+    let both = unless_ok (is_too_many q size t) (blocks.Factors t) x (refused_at 16 place) e in
+    subst (Kept q size false) both.1 (record { fits = and_from (nat_le 1 t) (not (is_too_many q size t)) (le-leb 1 t one) (ap not both.0); same = refl })
+
+sized_fit : (q : ℕ) (size : Size) (k : ℕ) → nat_lt k (most_run_factors q size) ≡ true → Kept q size false (of_runs size k)
+sized_fit q (Runs m) k h =
+    let less = ltb-true k m h in
+    record { fits = and_from (nat_le 1 (m - k)) (not (nat_lt m (m - k))) (le-leb 1 (m - k) (omega (arith, less))) (ap not (le-ltb m (m - k) (omega arith))); same = refl }
+sized_fit q Minimum k h = record { fits = h; same = refl }
+
+by_fit : (q : ℕ) (size : Size) (w : BlocksWord) (place : Place) (n : ℕ) (x : Blocks) → blocks_by q size w place n ≡ Ok x → Kept q size false x
+by_fit q size word.Nblkfacs place n x e =
+    let b = bind_ok (passed (nat_le 1 n) 15 place n) (factors_at q size place) x e in
+    factors_fit q size place b.0 x (at_least_one place n b.0 15 b.1) b.2
+by_fit q size word.Nblocks place n x e =
+    let b = bind_ok (by_number place (exponent q n)) (factors_at q size place) x e in
+    factors_fit q size place b.0 x (go (exponent q n) b.0 b.1) b.2
+  where
+    go : (y : Option ℕ) (t : ℕ) → by_number place y ≡ Ok t → 1 ≤ t
+    go None t e = absurd (cc e)
+    go (Some k) t e = at_least_one place k t 15 e
+by_fit q size word.Size place n x e = go (exponent q n) e
+  where
+    go : (y : Option ℕ) → by_size q size place y ≡ Ok x → Kept q size false x
+    go None e = absurd (cc e)
+    go (Some k) e =
+        let both = if_ok (nat_lt k (most_run_factors q size)) (of_runs size k) x (refused_at 15 place) e in
+        subst (Kept q size false) both.1 (sized_fit q size k both.0)
+
+blocks_kept : (q : ℕ) (size : Size) (said : BlocksSaid) (x : Blocks) → blocks_of q size (Some said) ≡ Ok x → Kept q size (are_most (Some said)) x
+unfolding blocks_of
+blocks_kept q size said x e = go said.value.number e
+  where
+    go : (n : Option ℕ) → blocks_by_value q size said.word said.value.place n ≡ Ok x → Kept q size (not (is_some n)) x
+    go None e = subst (Kept q size true) (same_ok blocks.Most x e) (record { fits = refl; same = refl })
+    go (Some n) e = by_fit q size said.word said.value.place n x e
+
+-- what stands together
+
+minimum_kept : (q s : ℕ) (factors : Place) (size : Size) (wanted : Wanted) (least : Bool) (given : Option BlocksSaid) (said : Option SizeSaid) (u : Unit {0})
+    → size_of q s factors said ≡ Ok size → minimum_allowed size wanted least given said ≡ Ok u
+    → (is_minimum size && (is_highest wanted || least || are_most given)) ≡ false
+unfolding size_of minimum_allowed
+minimum_kept q s factors size wanted least given None u is e =
+    let both = if_ok (nat_le (q ^ s) 1024) (Runs s) size (refused_at 9 factors) is in
+    subst (λ x. (is_minimum x && (is_highest wanted || least || are_most given)) ≡ false) both.1 refl
+minimum_kept q s factors size wanted least given (Some said) u is e =
+    (unless_ok (is_minimum size && (is_highest wanted || least || are_most given)) tt u (refused_at 14 said.value.place) e).0
+
+nothing_more : (b : Bool) → not (b && false) ≡ true
+nothing_more true = refl
+nothing_more false = refl
+
+together : (q s : ℕ) (factors : Place) (size : Size) (wanted : Wanted) (least : Bool) (given : Option BlocksSaid) (said : Option SizeSaid) (u v : Unit {0}) (x : Blocks)
+    → size_of q s factors said ≡ Ok size → blocks_allowed wanted least given ≡ Ok u → minimum_allowed size wanted least given said ≡ Ok v → blocks_of q size given ≡ Ok x
+    → (are_blocks q size x ≡ true) × (stand_together size wanted least x ≡ true)
+unfolding blocks_of blocks_allowed
+together q s factors size wanted least None said u v x is allowed minimum e =
+    let none = same_ok blocks.Without x e in
+    let kept = minimum_kept q s factors size wanted least None said v is minimum in
+    subst (λ x. (are_blocks q size x ≡ true) × (stand_together size wanted least x ≡ true)) none (refl, ap not kept)
+together q s factors size wanted least (Some given) said u v x is allowed minimum e =
+    let kept = blocks_kept q size given x e in
+    let apart = (unless_ok (least || is_highest wanted) tt u (refused_at 13 given.place) allowed).0 in
+    let small = minimum_kept q s factors size wanted least (Some given) said v is minimum in
+    (kept.fits, and_from _ _ (ap (λ b. not (has_blocks x && b)) apart ∙ nothing_more (has_blocks x)) (ap (λ b. not (is_minimum size && (is_highest wanted || least || b))) kept.same ∙ ap not small))
+
+pub valid : (s : ℕ) (said : StepSaid) (x : Settings) → 1 ≤ s → settings_of s said ≡ Ok x → are_valid x ≡ true
+unfolding levels_of budget_of
+valid s said x one e =
+    let q = bind_ok (levels_of said.levels) _ x e in
+    let budget = bind_ok (budget_of said.nodes) _ x q.2 in
+    let size = bind_ok (size_of q.0 s said.factors said.size) _ x budget.2 in
+    let wanted = bind_ok (wanted_of said.model) _ x size.2 in
+    let allowed = bind_ok (blocks_allowed wanted.0 (least_of said.model) said.blocks) _ x wanted.2 in
+    let minimum = bind_ok (minimum_allowed size.0 wanted.0 (least_of said.model) said.blocks said.size) _ x allowed.2 in
+    let given = bind_ok (blocks_of q.0 size.0 said.blocks) _ x minimum.2 in
+    let all = together q.0 s said.factors size.0 wanted.0 (least_of said.model) said.blocks said.size allowed.0 minimum.0 given.0 size.1 allowed.1 minimum.1 given.1 in
+    subst (λ x. are_valid x ≡ true) (same_ok _ x given.2)
+    (and_from _ _
+    (and_from _ _
+    (and_from _ _
+    (and_from _ _
+    (and_from _ _ (number_passes 2 6 is_level said.levels q.0 refl q.1) (number_passes 1000000 29 is_budget said.nodes budget.0 refl budget.1))
+    (size_valid q.0 s said.factors said.size size.0 one size.1))
+    (wanted_valid said.model wanted.0 wanted.1))
+    all.0)
+    all.1)
+
+pub all_valid : (s : ℕ) (said : StepSaid) (r : Result Settings Refusal) → r ≡ settings_of s said → IfOk r (λ x. 1 ≤ s → are_valid x ≡ true)
+all_valid s said (Ok x) e = λ one. valid s said x one (sym e)
+all_valid s said (Err refusal) e = tt

@@ -1,0 +1,56 @@
+-- Which settings a step may have.
+use Rattle.std.specs.Prelude.{ℕ, ◌^◌, nat_le, nat_lt, not, ◌&&◌, ◌||◌, Bool, true, false}
+use Rattle.fx_settings.specs.declared.settings.Settings.{Settings}
+use Rattle.fx_settings.specs.declared.settings.Size.{Size}
+use Rattle.fx_settings.specs.declared.settings.Size.TheVariants.{Runs, Minimum}
+use Rattle.fx_settings.specs.declared.settings.Wanted.{Wanted}
+use Rattle.fx_settings.specs.declared.settings.Wanted.TheVariants.{Resolution, Highest}
+use Rattle.fx_settings.specs.declared.settings.Blocks.{Blocks}
+use Rattle.fx_settings.specs.declared.settings.Blocks.TheVariants as blocks
+use Rattle.fx_settings.specs.Powers.{greatest}
+use Rattle.fx_settings.specs.Models.{is_highest}
+use Rattle.fx_settings.specs.Blocks.{is_minimum, is_too_many}
+use Rattle.fx_settings.specs.Settings.{is_level}
+
+-- at least one run factor, and at most 1,024 runs
+abbrev pub is_size : ℕ → Size → Bool
+is_size q (Runs m) = nat_le 1 m && nat_le (q ^ m) 1024
+is_size q Minimum = true
+
+abbrev pub is_wanted : Wanted → Bool
+is_wanted (Resolution r) = nat_le 3 r && nat_le r 99
+is_wanted Highest = true
+
+-- at least one block factor, and no more blocks than runs; blocks of so many runs stand only with the least size
+abbrev pub are_blocks : ℕ → Size → Blocks → Bool
+are_blocks q size blocks.Without = true
+are_blocks q size (blocks.Factors t) = nat_le 1 t && not (is_too_many q size t)
+are_blocks q size (blocks.PerBlock k) = is_minimum size && nat_lt k (greatest q)
+are_blocks q size blocks.Most = true
+
+abbrev pub has_blocks : Blocks → Bool
+has_blocks blocks.Without = false
+has_blocks (blocks.Factors t) = true
+has_blocks (blocks.PerBlock k) = true
+has_blocks blocks.Most = true
+
+abbrev pub has_most : Blocks → Bool
+has_most blocks.Without = false
+has_most (blocks.Factors t) = false
+has_most (blocks.PerBlock k) = false
+has_most blocks.Most = true
+
+abbrev pub is_budget : ℕ → Bool
+is_budget n = nat_le 1 n && nat_le n 5000000
+
+-- what stands together: blocks neither with least aberration nor with the highest resolution, and the least size with none
+-- of these and not with the most blocks
+abbrev pub stand_together : Size → Wanted → Bool → Blocks → Bool
+stand_together size wanted least given =
+    not (has_blocks given && (least || is_highest wanted))
+    && not (is_minimum size && (is_highest wanted || least || has_most given))
+
+abbrev pub are_valid : Settings → Bool
+are_valid x =
+    is_level x.q && is_budget x.budget && is_size x.q x.size && is_wanted x.wanted
+    && are_blocks x.q x.size x.blocks && stand_together x.size x.wanted x.least x.blocks

@@ -1,0 +1,115 @@
+ghost use Rattle.std.specs.Prelude.{◌≡◌, ◌++◌, ◌≤◌, Ok, length, IfOk, IfErr};
+ghost use Rattle.fx_text.specs.Refusals.{IsRefused};
+ghost use Rattle.fx_outputs.specs.Outputs.{names_of};
+ghost use Rattle.fx_statements.specs.Steps.{block_count, context, head_of, meaning_of, most_factors, most_runs, step_by, step_of};
+
+use crate::examine::examine_of;
+use crate::step::Step;
+use fx_base::Bytes;
+use fx_factors::factors_of;
+use fx_language::Symbol;
+use fx_outputs::{BlockCount, Setting, outputs};
+use fx_settings::{Blocks, Settings, Size, greatest, settings_of, start_of, step_said};
+use fx_text::{Lexeme, Names, ParseStop, Statement, find};
+use std::alloc::Global;
+
+/// The step of some statements, the first of which is its PROC statement. `earlier` are the OUT
+/// names that stand before in the program; those of this step are added.
+///
+/// # Errors
+///
+/// The first refusal: E7; those of the factors, of the settings, and of each OUTPUT statement in
+/// order. And `NoMemory`.
+pub(crate) fn step_of(alloc: Global, earlier: &mut Names, statements: &[Statement<'_>]) -> Result<Step, ParseStop>
+    ensures step { IfOk result (λ step. step_of earlier.old statements.now ≡ Ok (meaning_of step)) }
+    ensures names { IfOk result (λ step. earlier.new ≡ earlier.old ++ names_of step.outputs) }
+    ensures refused { IfErr result (IsRefused (step_of earlier.old statements.now)) }
+{
+    match find(Symbol::Factors, statements) {
+        None => Err(ParseStop::Refused(start_of(head_of(statements)).refused(7))),
+        Some(named) => step_by(alloc, earlier, statements, named),
+    }
+}
+
+fn step_by(alloc: Global, earlier: &mut Names, statements: &[Statement<'_>], named: &[Lexeme<'_>]) -> Result<Step, ParseStop>
+    ensures step { IfOk result (λ step. step_by earlier.old statements.now (Some named.now) ≡ Ok (meaning_of step)) }
+    ensures names { IfOk result (λ step. earlier.new ≡ earlier.old ++ names_of step.outputs) }
+    ensures refused { IfErr result (IsRefused (step_by earlier.old statements.now (Some named.now))) }
+{
+    let proc = head_of(statements);
+    let factors = factors_of(alloc, named, most_factors(statements))?;
+    if factors.is_empty() {
+        return Err(ParseStop::Refused(start_of(proc).refused(7)));
+    }
+    let settings = settings_of(factors.len() as u8, step_said(proc, named, statements))?;
+    let setting = setting_of(factors.as_slice(), settings);
+    let outputs = outputs(alloc, &setting, earlier, statements)?;
+    Ok(Step {
+        factors,
+        q: settings.q,
+        size: settings.size,
+        wanted: settings.wanted,
+        least: settings.least,
+        blocks: settings.blocks,
+        examine: examine_of(statements),
+        outputs,
+        budget: settings.budget,
+    })
+}
+
+/// The first of some statements.
+fn head_of<'b, 'a>(statements: &'b [Statement<'a>]) -> &'b [Lexeme<'a>]
+    ensures { result.now ≡ head_of statements.now }
+{
+    if statements.is_empty() {
+        &[]
+    } else {
+        statements[0].lexemes()
+    }
+}
+
+/// How many factors a step may have: fewer with blocks.
+fn most_factors(statements: &[Statement<'_>]) -> usize
+    ensures value { result ≡ most_factors statements.now }
+    ensures bound { result ≤ 40 }
+{
+    if find(Symbol::Blocks, statements).is_some() {
+        30
+    } else {
+        40
+    }
+}
+
+/// What the OUTPUT statements of the step are read against.
+fn setting_of<'a>(factors: &'a [Bytes], settings: Settings) -> Setting<'a>
+    requires few { length factors.now ≤ 40 }
+    ensures { result ≡ context factors.now settings }
+{
+    Setting::new(
+        factors,
+        settings.q,
+        most_runs(settings.q, settings.size),
+        block_count(settings.q, settings.blocks),
+    )
+}
+
+/// The greatest number of runs.
+fn most_runs(q: u8, size: Size) -> u32
+    ensures { result ≡ most_runs q size }
+{
+    match size {
+        Size::Runs { m } => u32::from(q).pow(u32::from(m)),
+        Size::Minimum => u32::from(q).pow(u32::from(greatest(q))),
+    }
+}
+
+/// The number of blocks, where it is fixed.
+fn block_count(q: u8, blocks: Blocks) -> BlockCount
+    ensures { result ≡ block_count q blocks }
+{
+    match blocks {
+        Blocks::Without => BlockCount::Without,
+        Blocks::Factors { t } => BlockCount::Fixed(u32::from(q).pow(u32::from(t))),
+        Blocks::PerBlock { .. } | Blocks::Most => BlockCount::Open,
+    }
+}
