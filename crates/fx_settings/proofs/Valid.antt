@@ -33,7 +33,7 @@ pub bind_ok : {A B : Type 0} (r : Result A Refusal) (f : A → Result B Refusal)
 bind_ok (Ok a) f x e = (a, refl, e)
 bind_ok (Err refusal) f x e = absurd (cc e)
 
-same_ok : {A : Type 0} (x y : A) → ◌≡◌ {A = Result A Refusal} (Ok x) (Ok y) → x ≡ y
+pub same_ok : {A : Type 0} (x y : A) → ◌≡◌ {A = Result A Refusal} (Ok x) (Ok y) → x ≡ y
 same_ok x y e = cc
 
 if_ok : {A : Type 0} (b : Bool) (y x : A) (refusal : Refusal) → ◌≡◌ {A = Result A Refusal} (if b then Ok y else Err refusal) (Ok x) → (b ≡ true) × (y ≡ x)

@@ -1,5 +1,5 @@
 -- What a text means: a list of steps, or the first refusal.
-use Rattle.std.specs.Prelude.{ℕ, zero, suc, ◌++◌, ◌&&◌, Bool, List, [], ◌∷◌, drop, Option, Some, None, Result, Ok, Err, if◌then◌else◌}
+use Rattle.std.specs.Prelude.{ℕ, ◌++◌, ◌&&◌, Bool, List, [], ◌∷◌, drop, slice_get, Option, Some, None, Result, Ok, Err, if◌then◌else◌}
 use Rattle.std.specs.List.{list_any}
 use Rattle.fx_lexer.specs.declared.token.Token.{Token}
 use Rattle.fx_lexer.specs.Places.{line_after, column_after}
@@ -14,13 +14,12 @@ use Rattle.fx_text.specs.Refusals.{refused_at, ◌>>=◌}
 use Rattle.fx_outputs.specs.Outputs.{names_of}
 use Rattle.fx_statements.specs.Steps.{Meaning, step_of}
 
--- the meanings of some steps, behind these OUT names
-abbrev pub steps_mean : List (List ℕ) → List (List (List Written)) → Result (List Meaning) Refusal
-steps_mean earlier [] = Ok []
-steps_mean earlier (step ∷ steps) = do
-  meaning ← step_of earlier step
-  others ← steps_mean (earlier ++ names_of meaning.outputs) steps
-  Ok (meaning ∷ others)
+-- the meanings of some steps, behind these OUT names and these meanings
+abbrev pub steps_behind : List (List ℕ) → List Meaning → List (List (List Written)) → Result (List Meaning) Refusal
+steps_behind earlier done [] = Ok done
+steps_behind earlier done (step ∷ steps) =
+    step_of earlier step
+    >>= (λ (meaning : Meaning). steps_behind (earlier ++ names_of meaning.outputs) (done ++ meaning ∷ []) steps)
 
 -- a MODEL statement that names effects
 abbrev pub names_effects : List Written → Bool
@@ -30,17 +29,16 @@ names_effects s = begins Model s && begins Estimate (drop 1 s)
 abbrev pub meaning_of_all : List (List Written) → Result (List Meaning) Refusal
 meaning_of_all statements =
     if list_any names_effects statements then Err (refused_at 0 (record { line = 1; column = 1 }))
-    else steps_mean [] (steps_of statements)
+    else steps_behind [] [] (steps_of statements)
 
--- the place of a token, and behind the last one that of the end
-abbrev pub place_of_index : List ℕ → List Token → ℕ → Place
-place_of_index text [] i = record { line = line_after text; column = column_after text }
-place_of_index text (t ∷ tokens) zero = record { line = t.line; column = t.column }
-place_of_index text (t ∷ tokens) (suc i) = place_of_index text tokens i
+-- the place of a token, and behind the last one that of the end of the text
+abbrev pub place_in : List ℕ → Option Token → Place
+place_in text None = record { line = line_after text; column = column_after text }
+place_in text (Some t) = record { line = t.line; column = t.column }
 
 -- the first symbol that the grammar or a rule on repeated words refuses comes before what the steps mean
 abbrev pub accepted : List ℕ → List Token → Option (ℕ × ℕ) → Result (List Meaning) Refusal
-accepted text tokens (Some refused) = Err (refused_at refused.0 (place_of_index text tokens refused.1))
+accepted text tokens (Some refused) = Err (refused_at refused.0 (place_in text (slice_get tokens refused.1)))
 accepted text tokens None = meaning_of_all (statements_of (written text tokens))
 
 -- the program of a text with these tokens

@@ -1,5 +1,5 @@
 -- What a step means.
-use Rattle.std.specs.Prelude.{ℕ, ◌^◌, ◌&&◌, Bool, List, [], ◌∷◌, length, drop, is_some, Option, Some, None, Result, Ok, Err, if◌then◌else◌}
+use Rattle.std.specs.Prelude.{ℕ, ◌^◌, ◌&&◌, Bool, List, [], ◌∷◌, length, is_some, Option, Some, None, Result, Ok, Err, if◌then◌else◌}
 use Rattle.std.specs.List.{list_any}
 use Rattle.fx_language.specs.declared.symbol.Symbol.{Symbol}
 use Rattle.fx_language.specs.declared.symbol.Symbol.TheVariants as word
@@ -23,8 +23,9 @@ use Rattle.fx_outputs.specs.declared.setting.BlockCount.{BlockCount}
 use Rattle.fx_outputs.specs.declared.setting.BlockCount.TheVariants as count
 use Rattle.fx_outputs.specs.Contexts.{Context}
 use Rattle.fx_outputs.specs.Outputs.{outputs_of}
-use Rattle.fx_statements.specs.declared.step.Examine.{Examine}
+use Rattle.fx_statements.specs.declared.examine.Examine.{Examine}
 use Rattle.fx_statements.specs.declared.step.Step.{Step}
+use Rattle.fx_statements.specs.Valid.{settings_in}
 
 -- a step, without where its parts lie in memory
 pub record Meaning : Type 0 where
@@ -42,9 +43,17 @@ abbrev pub some_factors : Place → List (List ℕ) → Result (List (List ℕ))
 some_factors proc [] = Err (refused_at 7 proc)
 some_factors proc (name ∷ names) = Ok (name ∷ names)
 
+-- this stands in a statement
+abbrev pub has : Symbol → List Written → Bool
+has symbol s = list_any (λ (w : Written). is symbol w.symbol) s
+
+-- the factors by a FACTORS statement, at most so many
+abbrev pub factors_by : Place → ℕ → List Written → Result (List (List ℕ)) Refusal
+factors_by proc most named = factors_of most named >>= some_factors proc
+
 -- an EXAMINE statement has this word
 abbrev pub asks : Symbol → List (List Written) → Bool
-asks section statements = list_any (λ s. begins word.Examine s && list_any (λ (w : Written). is section w.symbol) s) statements
+asks section statements = list_any (λ s. begins word.Examine s && has section s) statements
 
 -- the sections that are asked for
 abbrev pub examine_of : List (List Written) → Examine
@@ -85,8 +94,7 @@ head_of (s ∷ statements) = s
 abbrev pub step_by : List (List ℕ) → List (List Written) → Option (List Written) → Result Meaning Refusal
 step_by earlier statements None = Err (refused_at 7 (start_of (head_of statements)))
 step_by earlier statements (Some named) = do
-  names ← factors_of (most_factors statements) named
-  factors ← some_factors (start_of (head_of statements)) names
+  factors ← factors_by (start_of (head_of statements)) (most_factors statements) named
   settings ← settings_of (length factors) (step_said (head_of statements) named statements)
   outputs ← outputs_of (context factors settings) earlier statements
   Ok (record { factors = factors; settings = settings; examine = examine_of statements; outputs = outputs })
@@ -99,7 +107,7 @@ step_of earlier statements = step_by earlier statements (statement_of word.Facto
 abbrev pub meaning_of : Step → Meaning
 meaning_of step = record {
   factors = step.factors;
-  settings = record { q = step.q; budget = step.budget; size = step.size; wanted = step.wanted; least = step.least; blocks = step.blocks };
+  settings = settings_in step.q step.budget step.size step.wanted step.least step.blocks;
   examine = step.examine;
   outputs = step.outputs;
 }

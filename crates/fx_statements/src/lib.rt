@@ -2,12 +2,13 @@
 #![tactic(auto)]
 
 mod examine;
-mod parse;
+mod parsing;
 mod step;
+mod stepping;
 
 pub use examine::Examine;
 pub use fx_outputs::{OutputSpec, Outputs, Recode, Recodes, Shuffle};
 pub use fx_settings::{Blocks, Size, Wanted};
 pub use fx_text::{Names, ParseStop, Refusal};
-pub use parse::{Program, parse};
+pub use parsing::{Program, parse};
 pub use step::Step;

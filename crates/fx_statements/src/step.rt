@@ -1,14 +1,11 @@
-ghost use Rattle.std.specs.Prelude.{◌≡◌, ◌++◌, ◌≤◌, ◌^◌, nat_le, ◌&&◌, Ok, length, IfOk, IfErr, IsTrue};
-ghost use Rattle.fx_text.specs.Refusals.{IsRefused};
-ghost use Rattle.fx_outputs.specs.Outputs.{names_of};
+ghost use Rattle.std.specs.Prelude.{length, IsTrue};
+ghost use Rattle.fx_settings.specs.Valid.{are_valid};
+ghost use Rattle.fx_statements.specs.Valid.{is_count, settings_in};
 
-use crate::examine::{Examine, examine_of};
-use fx_language::Symbol;
-use fx_factors::factors_of;
-use fx_outputs::{BlockCount, Outputs, Setting, outputs};
-use fx_settings::{Blocks, Settings, Size, Wanted, greatest, settings_of, start_of, step_said};
-use fx_text::{Lexeme, Names, ParseStop, Statement, find};
-use std::alloc::Global;
+use crate::examine::Examine;
+use fx_outputs::Outputs;
+use fx_settings::{Blocks, Size, Wanted};
+use fx_text::Names;
 
 /// A step of a program.
 #[derive(Debug, Drop)]
@@ -26,4 +23,6 @@ pub struct Step {
     pub outputs: Outputs,
     /// The greatest number of nodes, from 1 to 5,000,000.
     pub budget: u64,
+    ghost named: { IsTrue (is_count (length factors) blocks) },
+    ghost valid: { IsTrue (are_valid (settings_in q budget size wanted least blocks)) },
 }

@@ -1,7 +1,10 @@
-ghost use Rattle.std.specs.Prelude.{◌≡◌, ◌++◌, ◌≤◌, Ok, length, IfOk, IfErr};
+ghost use Rattle.std.specs.Prelude.{◌≡◌, ℕ, ◌++◌, ◌≤◌, ◌^◌, true, Some, Ok, length, IfOk, IfErr};
+ghost use Rattle.fx_settings.specs.declared.settings.Blocks.TheVariants.{Factors};
+ghost use Rattle.fx_settings.specs.Settings.{is_level};
+ghost use Rattle.fx_settings.specs.Valid.{are_valid, is_size};
 ghost use Rattle.fx_text.specs.Refusals.{IsRefused};
 ghost use Rattle.fx_outputs.specs.Outputs.{names_of};
-ghost use Rattle.fx_statements.specs.Steps.{block_count, context, head_of, meaning_of, most_factors, most_runs, step_by, step_of};
+ghost use Rattle.fx_statements.specs.Steps.{block_count, context, factors_by, head_of, meaning_of, most_factors, most_runs, step_by, step_of};
 
 use crate::examine::examine_of;
 use crate::step::Step;
@@ -10,7 +13,7 @@ use fx_factors::factors_of;
 use fx_language::Symbol;
 use fx_outputs::{BlockCount, Setting, outputs};
 use fx_settings::{Blocks, Settings, Size, greatest, settings_of, start_of, step_said};
-use fx_text::{Lexeme, Names, ParseStop, Statement, find};
+use fx_text::{Lexeme, Names, ParseStop, Place, Statement, find};
 use std::alloc::Global;
 
 /// The step of some statements, the first of which is its PROC statement. `earlier` are the OUT
@@ -20,7 +23,11 @@ use std::alloc::Global;
 ///
 /// The first refusal: E7; those of the factors, of the settings, and of each OUTPUT statement in
 /// order. And `NoMemory`.
-pub(crate) fn step_of(alloc: Global, earlier: &mut Names, statements: &[Statement<'_>]) -> Result<Step, ParseStop>
+pub(crate) fn step_of(
+    alloc: Global,
+    earlier: &mut Names,
+    statements: &[Statement<'_>],
+) -> Result<Step, ParseStop>
     ensures step { IfOk result (λ step. step_of earlier.old statements.now ≡ Ok (meaning_of step)) }
     ensures names { IfOk result (λ step. earlier.new ≡ earlier.old ++ names_of step.outputs) }
     ensures refused { IfErr result (IsRefused (step_of earlier.old statements.now)) }
@@ -31,16 +38,18 @@ pub(crate) fn step_of(alloc: Global, earlier: &mut Names, statements: &[Statemen
     }
 }
 
-fn step_by(alloc: Global, earlier: &mut Names, statements: &[Statement<'_>], named: &[Lexeme<'_>]) -> Result<Step, ParseStop>
+fn step_by(
+    alloc: Global,
+    earlier: &mut Names,
+    statements: &[Statement<'_>],
+    named: &[Lexeme<'_>],
+) -> Result<Step, ParseStop>
     ensures step { IfOk result (λ step. step_by earlier.old statements.now (Some named.now) ≡ Ok (meaning_of step)) }
     ensures names { IfOk result (λ step. earlier.new ≡ earlier.old ++ names_of step.outputs) }
     ensures refused { IfErr result (IsRefused (step_by earlier.old statements.now (Some named.now))) }
 {
     let proc = head_of(statements);
-    let factors = factors_of(alloc, named, most_factors(statements))?;
-    if factors.is_empty() {
-        return Err(ParseStop::Refused(start_of(proc).refused(7)));
-    }
+    let factors = factors_by(alloc, start_of(proc), most_factors(statements), named)?;
     let settings = settings_of(factors.len() as u8, step_said(proc, named, statements))?;
     let setting = setting_of(factors.as_slice(), settings);
     let outputs = outputs(alloc, &setting, earlier, statements)?;
@@ -55,6 +64,24 @@ fn step_by(alloc: Global, earlier: &mut Names, statements: &[Statement<'_>], nam
         outputs,
         budget: settings.budget,
     })
+}
+
+/// The factors by a FACTORS statement, at most so many. `proc` is the place of PROC.
+fn factors_by(
+    alloc: Global,
+    proc: Place,
+    most: usize,
+    named: &[Lexeme<'_>],
+) -> Result<Names, ParseStop>
+    ensures factors { IfOk result (λ factors. factors_by proc most named.now ≡ Ok factors) }
+    ensures bounds { IfOk result (λ factors. (1 ≤ length factors) × (length factors ≤ most)) }
+    ensures refused { IfErr result (IsRefused (factors_by proc most named.now)) }
+{
+    let factors = factors_of(alloc, named, most)?;
+    if factors.is_empty() {
+        return Err(ParseStop::Refused(proc.refused(7)));
+    }
+    Ok(factors)
 }
 
 /// The first of some statements.
@@ -83,6 +110,7 @@ fn most_factors(statements: &[Statement<'_>]) -> usize
 /// What the OUTPUT statements of the step are read against.
 fn setting_of<'a>(factors: &'a [Bytes], settings: Settings) -> Setting<'a>
     requires few { length factors.now ≤ 40 }
+    requires valid { are_valid settings ≡ true }
     ensures { result ≡ context factors.now settings }
 {
     Setting::new(
@@ -95,6 +123,8 @@ fn setting_of<'a>(factors: &'a [Bytes], settings: Settings) -> Setting<'a>
 
 /// The greatest number of runs.
 fn most_runs(q: u8, size: Size) -> u32
+    requires levels { is_level q ≡ true }
+    requires size { is_size q size ≡ true }
     ensures { result ≡ most_runs q size }
 {
     match size {
@@ -105,6 +135,7 @@ fn most_runs(q: u8, size: Size) -> u32
 
 /// The number of blocks, where it is fixed.
 fn block_count(q: u8, blocks: Blocks) -> BlockCount
+    requires { (t : ℕ) → blocks ≡ Factors t → q ^ t ≤ 1024 }
     ensures { result ≡ block_count q blocks }
 {
     match blocks {

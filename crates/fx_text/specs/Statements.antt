@@ -1,5 +1,6 @@
 -- The statements and steps of a text.
-use Rattle.std.specs.Prelude.{Bool, ◌||◌, List, [], ◌∷◌, Option, Some, None, if◌then◌else◌}
+use Rattle.std.specs.Prelude.{Bool, not, ◌||◌, List, [], ◌∷◌, take, Option, Some, None, if◌then◌else◌}
+use Rattle.std.specs.List.{prefix_len}
 use Rattle.fx_language.specs.declared.symbol.Symbol.{Symbol}
 use Rattle.fx_language.specs.declared.symbol.Symbol.TheVariants.{Proc, Quit, Semicolon}
 use Rattle.fx_language.specs.Symbols.{is}
@@ -21,8 +22,7 @@ ends_step s = begins Proc s || begins Quit s
 
 -- the statements that belong to a step, from behind its PROC statement on
 abbrev pub rest_of_step : List (List Written) → List (List Written)
-rest_of_step [] = []
-rest_of_step (s ∷ rest) = if ends_step s then [] else s ∷ rest_of_step rest
+rest_of_step statements = take (prefix_len (λ s. not (ends_step s)) statements) statements
 
 -- the steps, each with its statements from its PROC statement on
 abbrev pub steps_of : List (List Written) → List (List (List Written))
