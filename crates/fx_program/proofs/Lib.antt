@@ -1,8 +1,7 @@
 mod Wording
-mod Keywords
-mod Names
-mod Chain
-mod Stepping
+mod Reading
 mod Products
 mod Endings
-mod Steps
+mod SoFar
+mod Given
+mod Built

@@ -1,4 +1,7 @@
 pub mod Words
+pub mod Refusals
+pub mod Reasons
+pub mod Problems
 pub mod Texts
 pub mod Listing
 pub mod Output

@@ -1,15 +1,18 @@
 -- What the program gives, for its words and its text: pieces of listing and files, and a status.
-use Rattle.std.specs.Prelude.{ℕ, ◌≡◌, ◌<◌, ◌≤◌, List, [], ◌∷◌, length, Option, Some, None, Result, Ok, Err, Bool, true, false, codes}
+use Rattle.std.specs.Prelude.{ℕ, ◌≡◌, ◌+◌, ◌<◌, nat_le, if◌then◌else◌, List, [], ◌∷◌, ◌++◌, Option, Some, None, Result, Ok, Err, Bool, true, false}
 use Rattle.fx_base.specs.Acts.{Event, Piece, acts, World, File, Did, DidPart}
-use Rattle.fx_designs.specs.Problems.{Problem, AtResolution}
+use Rattle.fx_designs.specs.Problems.{Dimensions, Problem}
 use Rattle.fx_designs.specs.Answers.{answer}
-use Rattle.fx_program.specs.Words.{settings_of}
-use Rattle.fx_program.specs.Texts.{step_of}
+use Rattle.fx_statements.specs.Steps.{Meaning}
+use Rattle.fx_program.specs.Words.{settings_of, word_line}
+use Rattle.fx_program.specs.Refusals.{fault_line}
+use Rattle.fx_program.specs.Problems.{problem_of}
+use Rattle.fx_program.specs.Texts.{program_in}
 use Rattle.fx_program.specs.Listing.{step_lines}
 use Rattle.fx_program.specs.declared.words.Settings.{Settings}
 use Rattle.fx_program.specs.declared.words.Settings.TheVariants.{Run}
 use Rattle.fx_program.specs.declared.words.WordFault.{WordFault}
-use Rattle.fx_program.specs.declared.reading.Step.{Step}
+use Rattle.fx_program.specs.declared.text.TextFault.{TextFault}
 
 pub record Output : Type 0 where
   pub events : List Event
@@ -19,40 +22,47 @@ pub record Output : Type 0 where
 abbrev pub message : List ℕ → ℕ → Output
 message bytes status = record { events = Piece bytes ∷ []; status = status }
 
--- a step's factors, its levels and size, and what is within the limits
-pub record IsStep (step : Step) : Type 0 where
-  pub some_factors : 1 ≤ length step.factors
-  pub factors : length step.factors ≤ 8
-  pub some_indexes : 1 ≤ step.m
-  pub indexes : step.m ≤ 4
-  pub least : 3 ≤ step.r
-  pub most : step.r ≤ 99
-
--- what a step asks for: a design of two-level factors in 2^m runs, of the resolution r at least
-abbrev pub problem_of : Step → Problem
-problem_of step = record { dimensions = record { q = 2; m = step.m; s = length step.factors; t = 0 }; requirement = AtResolution step.r; least = false }
-
 -- 0 for a design, 1 for none
 abbrev pub status_of : Option (List ℕ) → ℕ
 status_of None = 1
 status_of (Some rows) = 0
 
--- the lines of a step with this answer, and its status
-abbrev pub answered : Step → Option (List ℕ) → Output
-answered step found = message (step_lines 1 2 step.m step.factors found) (status_of found)
+-- the lines of the step of this number, with this answer of its problem
+abbrev pub lines_of : ℕ → Meaning → Dimensions → Option (List ℕ) → List ℕ
+lines_of number step d found = step_lines number d.q d.m step.factors found
 
-abbrev pub refusal : List ℕ
-refusal = codes "factex: E0 1:1 not built yet\n"
+-- what is given for a step that states this problem: its lines, and its status
+abbrev pub step_given : ℕ → Meaning → Problem → Output
+step_given number step p = message (lines_of number step p.dimensions (answer p)) (status_of (answer p))
 
--- the answer of the problem decides
-abbrev pub step_output : Option Step → Output
-step_output None = message refusal 3
-step_output (Some step) = answered step (answer (problem_of step))
+abbrev pub given_by : ℕ → Meaning → Option Problem → Output
+given_by number step None = record { events = []; status = 0 }
+given_by number step (Some p) = step_given number step p
+
+-- the same, and nothing for a step of a form that isn't built
+abbrev pub step_output : ℕ → Meaning → Output
+step_output number step = given_by number step (problem_of step)
+
+-- the greater of two statuses
+abbrev pub worse : ℕ → ℕ → ℕ
+worse a b = if nat_le a b then b else a
+
+-- the steps in order from this number on, behind these events and this status; the greatest status decides
+abbrev pub steps_output : ℕ → List Event → ℕ → List Meaning → Output
+steps_output number events status [] = record { events = events; status = status }
+steps_output number events status (step ∷ steps) =
+    let given = step_output number step in
+    steps_output (number + 1) (events ++ given.events) (worse status given.status) steps
+
+-- what is given for a program, or for a text that has none
+abbrev pub program_output : Result (List Meaning) TextFault → Output
+program_output (Ok steps) = steps_output 1 [] 0 steps
+program_output (Err fault) = message (fault_line fault) 3
 
 -- what settings give for a text
 abbrev pub output_for : Result Settings WordFault → List ℕ → Output
-output_for (Err fault) text = message (codes "factex: C2 word 1\n") 3
-output_for (Ok (Run threads seed)) text = step_output (step_of text)
+output_for (Err fault) text = message (word_line fault) 3
+output_for (Ok (Run threads seed)) text = program_output (program_in text)
 
 abbrev pub output_of : List (List ℕ) → List ℕ → Output
 output_of words text = output_for (settings_of words) text

@@ -1,16 +1,25 @@
 -- What the words of the command line ask for.
-use Rattle.std.specs.Prelude.{ℕ, List, [], ◌∷◌, Bool, false, if◌then◌else◌, Result, Ok, Err, codes}
+use Rattle.std.specs.Prelude.{ℕ, ◌==◌, List, [], ◌∷◌, if◌then◌else◌, Result, Ok, Err, codes}
 use Rattle.std.specs.Str.{bytes_eq}
 use Rattle.fx_program.specs.declared.words.Settings.{Settings}
 use Rattle.fx_program.specs.declared.words.Settings.TheVariants.{Run}
 use Rattle.fx_program.specs.declared.words.WordFault.{WordFault}
 
--- whether the words are the one word `run`
-abbrev pub are_run : List (List ℕ) → Bool
-are_run [] = false
-are_run (word ∷ []) = bytes_eq word (codes "run")
-are_run (word ∷ other ∷ words) = false
+abbrev pub word_fault : ℕ → ℕ → Result Settings WordFault
+word_fault code word = Err (record { code = code; word = word })
 
--- `run` alone is a command so far; of all other words the first is refused
+-- `run` takes no option so far
+abbrev pub run_with : List (List ℕ) → Result Settings WordFault
+run_with [] = Ok (Run 1 0)
+run_with (option ∷ options) = word_fault 3 2
+
+-- 1: there is no word. 2: the first word is no command. 3: the word behind the command is no option of it.
 unfoldable pub settings_of : List (List ℕ) → Result Settings WordFault
-settings_of words = if are_run words then Ok (Run 1 0) else Err (record { code = 2; word = 1 })
+settings_of [] = word_fault 1 1
+settings_of (word ∷ options) = if bytes_eq word (codes "run") then run_with options else word_fault 2 1
+
+-- the line that tells the fault
+abbrev pub word_line : WordFault → List ℕ
+word_line fault =
+    if fault.code == 1 then codes "factex: C1 word 1\n"
+    else (if fault.code == 2 then codes "factex: C2 word 1\n" else codes "factex: C3 word 2\n")

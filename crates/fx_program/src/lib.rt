@@ -3,13 +3,13 @@
 
 mod laws;
 mod listing;
-mod reading;
+mod question;
+mod refusal;
 mod run;
-#[cfg(test)]
-mod tests;
+mod text;
 mod words;
 
 pub use laws::first_design_is_given;
-pub use reading::{Names, Step, read_step};
 pub use run::factex;
+pub use text::{TextFault, TextStop, read_program};
 pub use words::{Settings, WordFault, read_words};

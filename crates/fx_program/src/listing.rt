@@ -2,15 +2,15 @@ ghost use Rattle.std.specs.Prelude.{◌≡◌, ℕ, ◌++◌, ◌∷◌, [], ◌
 ghost use Rattle.std.specs.Option.{option_map};
 ghost use Rattle.fx_program.specs.Listing.{term, ending, product, rule_of, rule_lines, heading, none_lines, design_lines, step_lines};
 
-use crate::reading::Names;
 use fx_base::{Bytes, NoMemory, put, put_number};
+use fx_text::Names;
 use fx_vectors::{Matrix, Vector};
 
 /// Appends all lines of the step of this number, which has these factors of `q` levels, the size
 /// q^m, and this design or none.
 pub fn put_step(
     out: &mut Bytes,
-    number: u32,
+    number: usize,
     q: u8,
     m: u8,
     names: &Names,
@@ -28,11 +28,11 @@ pub fn put_step(
     }
 }
 
-fn put_heading(out: &mut Bytes, number: u32, s: usize, q: u8) -> Result<(), NoMemory>
+fn put_heading(out: &mut Bytes, number: usize, s: usize, q: u8) -> Result<(), NoMemory>
     ensures { OnOk result (out.new ≡ out.old ++ heading number s q) }
 {
     put(out, b"step ")?;
-    put_number(out, u128::from(number))?;
+    put_number(out, number as u128)?;
     put(out, b"\nfactors ")?;
     put_number(out, s as u128)?;
     put(out, b" levels ")?;

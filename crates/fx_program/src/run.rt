@@ -1,21 +1,23 @@
-ghost use Rattle.std.specs.Prelude.{◌≡◌, ◌≢◌, ◌<◌, ◌≤◌, ◌⊎◌, ◌++◌, [], ℕ, List, Option, Some, false, Result, Ok, Err, map, length, IfOk, IfSome, IsErr};
+ghost use Rattle.std.specs.Prelude.{◌≡◌, ◌≢◌, ◌<◌, ◌≤◌, ◌^◌, ◌⊎◌, ◌++◌, [], ℕ, List, Option, Some, true, false, Result, Ok, Err, map, length, IfOk, IfSome};
+ghost use Rattle.std.specs.List.{list_all};
 ghost use Rattle.std.specs.Option.{option_map};
 ghost use Rattle.fx_base.specs.Faults.{Rose};
 ghost use Rattle.fx_base.specs.Acts.{File};
-ghost use Rattle.fx_designs.specs.Answers.{answer};
-ghost use Rattle.fx_vectors.specs.Question.{problem_of as question_problem};
-ghost use Rattle.fx_search.specs.Small.{IsSmall};
+ghost use Rattle.fx_vectors.specs.Shape.{dimensions_of};
+ghost use Rattle.fx_statements.specs.Steps.{meaning_of};
 ghost use Rattle.fx_program.specs.Words.{settings_of};
-ghost use Rattle.fx_program.specs.Texts.{step_of};
-ghost use Rattle.fx_program.specs.Listing.{step_lines};
-ghost use Rattle.fx_program.specs.Output.{IsStep, problem_of, status_of, message, answered, step_output, output_of, reads, IsTextOf, world, Ends};
+ghost use Rattle.fx_program.specs.Texts.{is_built, program_in};
+ghost use Rattle.fx_program.specs.Output.{lines_of, status_of, message, step_output, program_output, output_of, reads, worse, IsTextOf, world, Ends};
 
 use crate::listing::put_step;
-use crate::reading::{Step, read_step};
-use crate::words::{Settings, read_words};
+use crate::question::question_of;
+use crate::refusal::put_fault;
+use crate::text::{TextFault, TextStop, at_front, read_program};
+use crate::words::{Settings, read_words, word_line};
 use fx_base::{Bytes, NoMemory, ReadStop, Shelf, Sink, Source, Taken, read_all, write_all};
 use fx_search::first;
-use fx_vectors::{Demands, Matrix, Question, Shape};
+use fx_statements::Step;
+use fx_vectors::{Matrix, Shape};
 use std::alloc::Global;
 
 /// The greatest number of bytes of a program text.
@@ -24,8 +26,8 @@ const TEXT_LIMIT: usize = 1048576;
 /// Does all that the program does, for the words of the command line without the program's name,
 /// and answers its exit status.
 ///
-/// 0: the step has a design. 1: it has none. 3: the words or the text are refused. 4: a call on the
-/// source, the listing or the shelf failed. 5: memory ran out.
+/// 0: each step has a design, or there is no step. 1: some step has none. 3: the words or the text
+/// are refused. 4: a call on the source, the listing or the shelf failed. 5: memory ran out.
 pub fn factex<S: Source, K: Sink, F: Shelf>(
     alloc: Global,
     words: &[Vec<u8>],
@@ -53,7 +55,7 @@ pub fn factex<S: Source, K: Sink, F: Shelf>(
         × (F.room shelf.new ≡ F.room shelf.old) }
     ensures closed { result < 4 → F.begun shelf.new ≡ false }
 
-    // Refused words take no memory, and leave the source unread.
+    // Refused words leave the source unread, and are never answered by want of memory.
     ensures unread { reads (settings_of (map (λ w. w.items) words.now)) ≡ false
         → source.new ≡ source.old }
     ensures refused { reads (settings_of (map (λ w. w.items) words.now)) ≡ false
@@ -66,7 +68,7 @@ pub fn factex<S: Source, K: Sink, F: Shelf>(
 {
     match read_words(words) {
         Ok(Settings::Run { .. }) => run(alloc, source, listing),
-        Err(_) => say(listing, b"factex: C2 word 1\n", 3),
+        Err(fault) => say(listing, word_line(fault), 3),
     }
 }
 
@@ -75,7 +77,7 @@ fn run<S: Source, K: Sink>(alloc: Global, source: &mut S, listing: &mut K) -> u8
     ensures known { result ≤ 5 }
     ensures ends { (text : List ℕ) (files : Option (List File))
         → S.left source.old ≡ Some text
-        → Ends (step_output (step_of text))
+        → Ends (program_output (program_in text))
         (world (K.written listing.old) files) (world (K.written listing.new) files) result }
     ensures fault { result ≡ 4 → Rose (S.faults source.old) (S.faults source.new)
         ⊎ Rose (K.faults listing.old) (K.faults listing.new) }
@@ -88,54 +90,66 @@ fn run<S: Source, K: Sink>(alloc: Global, source: &mut S, listing: &mut K) -> u8
 {
     let text = match read_all(alloc, source, TEXT_LIMIT) {
         Ok(Taken::Whole(text)) => text,
-        Ok(Taken::TooLong) => return refuse(listing),
+        Ok(Taken::TooLong) => return refuse(alloc, at_front(25), listing),
         Err(ReadStop::ReadFault) => return 4,
         Err(ReadStop::NoMemory) => return 5,
     };
-    match read_step(alloc, text.as_slice()) {
-        Ok(Some(step)) => give_step(alloc, &step, listing),
-        Ok(None) => refuse(listing),
-        Err(_) => 5,
+    match read_program(alloc, text.as_slice()) {
+        Ok(program) => give_steps(alloc, program.as_slice(), listing),
+        Err(TextStop::Fault(fault)) => refuse(alloc, fault, listing),
+        Err(TextStop::NoMemory) => 5,
     }
 }
 
-/// Answers a step: its design, or that there is none.
-fn give_step<K: Sink>(alloc: Global, step: &Step, listing: &mut K) -> u8
-    requires { IsStep step.now }
+/// Answers the steps of a program in order. The greatest of their statuses is the program's.
+fn give_steps<K: Sink>(alloc: Global, steps: &[Step], listing: &mut K) -> u8
+    requires { list_all (λ step. is_built (meaning_of step)) steps.now ≡ true }
     ensures known { result ≤ 5 }
     ensures ends { (files : Option (List File))
-        → Ends (step_output (Some step.now))
+        → Ends (program_output (Ok (map meaning_of steps.now)))
         (world (K.written listing.old) files) (world (K.written listing.new) files) result }
     ensures fault { result ≡ 4 → Rose (K.faults listing.old) (K.faults listing.new) }
     ensures kept { result ≢ 4 → K.faults listing.new ≡ K.faults listing.old }
     ensures room { K.room listing.new ≡ K.room listing.old }
 {
-    let design = match first(&question_of(step)) {
+    let mut status = 0;
+    for (i, step) in steps.iter().enumerate() {
+        let given = give_step(alloc, i + 1, step, listing);
+        if given > 3 {
+            return given;
+        }
+        status = worse(status, given);
+    }
+    status
+}
+
+/// The greater of two statuses.
+fn worse(a: u8, b: u8) -> u8
+    ensures { result ≡ worse a b }
+{
+    if a <= b { b } else { a }
+}
+
+/// Answers the step of this number: its design, or that there is none.
+fn give_step<K: Sink>(alloc: Global, number: usize, step: &Step, listing: &mut K) -> u8
+    requires { is_built (meaning_of step.now) ≡ true }
+    ensures known { result ≤ 5 }
+    ensures ends { (files : Option (List File))
+        → Ends (step_output number (meaning_of step.now))
+        (world (K.written listing.old) files) (world (K.written listing.new) files) result }
+    ensures fault { result ≡ 4 → Rose (K.faults listing.old) (K.faults listing.new) }
+    ensures kept { result ≢ 4 → K.faults listing.new ≡ K.faults listing.old }
+    ensures room { K.room listing.new ≡ K.room listing.old }
+{
+    let question = question_of(step).unwrap();
+    let design = match first(&question) {
         Ok(design) => design,
         Err(_) => return 5,
     };
     let status = status_of(&design);
-    match lines_of(alloc, step, &design) {
+    match lines_of(alloc, number, step, question.shape, &design) {
         Ok(lines) => say(listing, lines.as_slice(), status),
         Err(_) => 5,
-    }
-}
-
-/// The question that a step asks.
-fn question_of(step: &Step) -> Question
-    requires { IsStep step.now }
-    ensures problem { question_problem result ≡ problem_of step.now }
-    ensures small { IsSmall result }
-{
-    Question {
-        shape: Shape {
-            q: 2,
-            m: step.m,
-            s: step.factors.len() as u8,
-            t: 0,
-        },
-        demands: Demands::Resolution { r: step.r },
-        least: false,
     }
 }
 
@@ -150,31 +164,39 @@ fn status_of(design: &Option<Matrix>) -> u8
     }
 }
 
-/// All lines of the step.
-fn lines_of(alloc: Global, step: &Step, design: &Option<Matrix>) -> Result<Bytes, NoMemory>
-    requires step { IsStep step.now }
-    requires same { IfSome design.now (λ x. (x.shape.q ≡ 2)
-        × (x.shape.m ≡ step.now.m)
-        × (length x.rows ≡ length step.now.factors)) }
-    ensures { IfOk result (λ lines. lines ≡ step_lines 1 2 step.now.m step.now.factors
+/// All lines of the step of this number, with this design of the shape, or none.
+fn lines_of(
+    alloc: Global,
+    number: usize,
+    step: &Step,
+    shape: Shape,
+    design: &Option<Matrix>,
+) -> Result<Bytes, NoMemory>
+    requires size { shape.q ^ shape.m ≤ 1024 }
+    requires same { IfSome design.now (λ x. (x.shape ≡ shape) × (length x.rows ≡ length step.now.factors)) }
+    ensures { IfOk result (λ lines. lines ≡ lines_of number (meaning_of step.now) (dimensions_of shape)
         (option_map (λ x. x.rows) design.now)) }
 {
     let mut lines = Bytes::new(alloc);
-    put_step(&mut lines, 1, 2, step.m, &step.factors, design)?;
+    put_step(&mut lines, number, shape.q, shape.m, &step.factors, design)?;
     Ok(lines)
 }
 
-/// Refuses a text of a form that is not read so far.
-fn refuse<K: Sink>(listing: &mut K) -> u8
-    ensures known { (result ≡ 3) ⊎ (result ≡ 4) }
+/// Tells where the text is refused, and why.
+fn refuse<K: Sink>(alloc: Global, fault: TextFault, listing: &mut K) -> u8
+    ensures known { (result ≡ 3) ⊎ ((result ≡ 4) ⊎ (result ≡ 5)) }
     ensures ends { (files : Option (List File))
-        → Ends (step_output None)
+        → Ends (program_output (Err fault))
         (world (K.written listing.old) files) (world (K.written listing.new) files) result }
     ensures fault { result ≡ 4 → Rose (K.faults listing.old) (K.faults listing.new) }
     ensures kept { result ≢ 4 → K.faults listing.new ≡ K.faults listing.old }
     ensures room { K.room listing.new ≡ K.room listing.old }
 {
-    say(listing, b"factex: E0 1:1 not built yet\n", 3)
+    let mut line = Bytes::new(alloc);
+    match put_fault(&mut line, fault) {
+        Ok(()) => say(listing, line.as_slice(), 3),
+        Err(_) => 5,
+    }
 }
 
 /// Writes a piece and answers the status, or 4 where the listing failed.

@@ -1,5 +1,6 @@
-ghost use Rattle.std.specs.Prelude.{◌≡◌, map};
-ghost use Rattle.fx_program.specs.Words.{settings_of};
+ghost use Rattle.std.specs.Prelude.{◌≡◌, codes, map};
+ghost use Rattle.std.specs.Str.{bytes_eq};
+ghost use Rattle.fx_program.specs.Words.{settings_of, word_line};
 
 /// What the words of the command line ask for.
 #[derive(Debug, Clone, Copy, PartialEq, Eq)]
@@ -16,7 +17,8 @@ pub enum Settings {
 /// Why the words are refused.
 #[derive(Debug, Clone, Copy, PartialEq, Eq)]
 pub struct WordFault {
-    /// 2: the first word is no command.
+    /// 1: there is no word. 2: the first word is no command. 3: the word behind the command is no
+    /// option of it.
     pub code: u8,
     /// Which word, counted from 1.
     pub word: u32,
@@ -26,11 +28,34 @@ pub struct WordFault {
 pub fn read_words(words: &[Vec<u8>]) -> Result<Settings, WordFault>
     ensures { result ≡ settings_of (map (λ w. w.items) words.now) }
 {
-    match words {
-        [word] if word.as_slice() == b"run".as_slice() => Ok(Settings::Run {
-            threads: 1,
-            seed: 0,
-        }),
-        _ => Err(WordFault { code: 2, word: 1 }),
+    if words.is_empty() {
+        return Err(WordFault { code: 1, word: 1 });
+    }
+    if !is_run(words[0].as_slice()) {
+        return Err(WordFault { code: 2, word: 1 });
+    }
+    if words.len() > 1 {
+        return Err(WordFault { code: 3, word: 2 });
+    }
+    Ok(Settings::Run {
+        threads: 1,
+        seed: 0,
+    })
+}
+
+fn is_run(word: &[u8]) -> bool
+    ensures { result ≡ bytes_eq word.now (codes "run") }
+{
+    word == b"run".as_slice()
+}
+
+/// The line that tells the fault.
+pub(crate) fn word_line(fault: WordFault) -> &'static [u8]
+    ensures { result.now ≡ word_line fault }
+{
+    match fault.code {
+        1 => b"factex: C1 word 1\n",
+        2 => b"factex: C2 word 1\n",
+        _ => b"factex: C3 word 2\n",
     }
 }

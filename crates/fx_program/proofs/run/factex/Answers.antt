@@ -1,13 +1,13 @@
-use Rattle.std.proofs.Common.{◌≡◌, ℕ, List, Ok, Err, true, refl, ap, sym, ◌∙◌}
-use Rattle.fx_program.specs.Texts.{step_of}
-use Rattle.fx_program.specs.Output.{reads, output_for, step_output}
+use Rattle.std.proofs.Common.{◌≡◌, ℕ, List, Ok, Err, true, refl, sym, ap, ◌∙◌}
 use Rattle.fx_program.specs.declared.words.Settings.{Settings}
 use Rattle.fx_program.specs.declared.words.Settings.TheVariants.{Run}
+use Rattle.fx_program.specs.Texts.{program_in}
+use Rattle.fx_program.specs.Output.{message, output_for, program_output, reads}
 use Rattle.fx_program.proofs.Endings.{ends_for, ends_by}
 use Rattle.fx_program.proofs.run.factex.Goals as goal
 
 -- `run` is the only command so far
-run_output : (settings : Settings) (text : List ℕ) → output_for (Ok settings) text ≡ step_output (step_of text)
+run_output : (settings : Settings) (text : List ℕ) → output_for (Ok settings) text ≡ program_output (program_in text)
 run_output (Run threads seed) text = refl
 
 run_reads : (settings : Settings) → reads (Ok settings) ≡ true
@@ -20,4 +20,6 @@ returns-in-Ok-Run-clause-ends g c = λ text is.
     (ends_by _ _ _ (run_output settings text) (c.run.ensures.ends text _ (is.told (ap reads (sym c.in-Ok-Run.ensures) ∙ run_reads settings))))
 
 pub returns-in-Err-clause-ends : goal.returns-in-Err-clause-ends
-returns-in-Err-clause-ends g c = λ text is. ends_for _ text (Err c.in-Err.field-0) _ c.in-Err.ensures (c.say.ensures.ends _)
+returns-in-Err-clause-ends g c = λ text is.
+    ends_for _ text (Err c.in-Err.fault) _ c.in-Err.ensures
+    (ends_by _ _ _ (ap (λ l. message l 3) (sym c.word_line.ensures)) (c.say.ensures.ends _))

@@ -1,0 +1,6 @@
+-- A row of a table of reasons, without where its letters lie in memory.
+use Rattle.std.specs.Prelude.{ℕ, List}
+use Rattle.fx_program.specs.declared.refusal.Reason.{Reason}
+
+abbrev pub row_of : Reason → ℕ × List ℕ
+row_of reason = (reason.code, reason.text.now)

@@ -1,0 +1,75 @@
+-- The line that tells where a text is refused, and why.
+use Rattle.std.specs.Prelude.{ℕ, ◌==◌, nat_lt, List, [], ◌∷◌, ◌++◌, if◌then◌else◌, codes, decimal}
+use Rattle.fx_program.specs.declared.text.TextFault.{TextFault}
+use Rattle.fx_program.specs.declared.text.TextFault.TheVariants.{Lexical, Refused}
+
+-- what the rules say, by their numbers: below 12, from 12 to 23, and from 24 on
+abbrev pub first_reasons : List (ℕ × List ℕ)
+first_reasons =
+    (0, codes "not built yet") ∷
+    (1, codes "statement is not known") ∷
+    (2, codes "unexpected word or end") ∷
+    (3, codes "option is not known") ∷
+    (4, codes "factor is not known") ∷
+    (5, codes "name is repeated") ∷
+    (6, codes "number of levels is not 2, 3, 4, 5, 7, 8 or 9") ∷
+    (7, codes "step has no FACTORS statement") ∷
+    (8, codes "size is not a power of the number of levels") ∷
+    (9, codes "more than 1024 runs") ∷
+    (10, codes "too many factors") ∷
+    (11, codes "resolution is not from 3 to 99") ∷ []
+
+abbrev pub middle_reasons : List (ℕ × List ℕ)
+middle_reasons =
+    (12, codes "MINABS with ESTIMATE") ∷
+    (13, codes "MINABS or RESOLUTION=MAX with BLOCKS") ∷
+    (14, codes "minimum size with a maximum or MINABS") ∷
+    (15, codes "blocks are not a power of the number of levels") ∷
+    (16, codes "more blocks than runs") ∷
+    (17, codes "number of values differs from number of levels") ∷
+    (18, codes "OUT name is repeated") ∷
+    (19, codes "seed is too large") ∷
+    (20, codes "replication is not from 1 to 200000") ∷
+    (21, codes "more than 200000 rows") ∷
+    (22, codes "more than 2000000 demands") ∷
+    (23, codes "more than 100000 effects") ∷ []
+
+abbrev pub last_reasons : List (ℕ × List ℕ)
+last_reasons =
+    (24, codes "not kept in this profile") ∷
+    (25, codes "text is over 1048576 bytes") ∷
+    (26, codes "statement is repeated in the step") ∷
+    (27, codes "statement after RUN") ∷
+    (28, codes "option is repeated") ∷
+    (29, codes "number is out of range") ∷
+    (30, codes "range of names is not regular") ∷
+    (31, codes "BLOCKNAME without BLOCKS") ∷
+    (32, codes "more than 100 steps") ∷ []
+
+-- what the lexical rules say
+abbrev pub lexical_reasons : List (ℕ × List ℕ)
+lexical_reasons =
+    (1, codes "comment is not closed") ∷
+    (2, codes "string is not closed") ∷
+    (3, codes "character is not allowed") ∷
+    (4, codes "number is too long") ∷
+    (5, codes "name is too long") ∷ []
+
+-- what stands beside a number in a table
+abbrev pub listed_at : List (ℕ × List ℕ) → ℕ → List ℕ
+listed_at [] code = []
+listed_at (row ∷ table) code = if row.0 == code then row.1 else listed_at table code
+
+abbrev pub reason_of : ℕ → List ℕ
+reason_of code =
+    if nat_lt code 12 then listed_at first_reasons code
+    else (if nat_lt code 24 then listed_at middle_reasons code else listed_at last_reasons code)
+
+-- `factex: `, the rule by its letter and number, the place, and what the rule says
+abbrev pub line_at : List ℕ → ℕ → ℕ → ℕ → List ℕ → List ℕ
+line_at letter code line column reason =
+    codes "factex: " ++ letter ++ decimal code ++ codes " " ++ decimal line ++ codes ":" ++ decimal column ++ codes " " ++ reason ++ codes "\n"
+
+abbrev pub fault_line : TextFault → List ℕ
+fault_line (Lexical fault) = line_at (codes "L") fault.kind fault.line fault.column (listed_at lexical_reasons fault.kind)
+fault_line (Refused refusal) = line_at (codes "E") refusal.code refusal.line refusal.column (reason_of refusal.code)
