@@ -1,5 +1,5 @@
 -- Statements, and what they give.
-use Rattle.std.proofs.Common.{◌≡◌, ℕ, List, [], ◌∷◌, ◌++◌, Option, Some, None, Result, Ok, Err, true, false, refl, arith}
+use Rattle.std.proofs.Common.{◌≡◌, ℕ, List, [], ◌∷◌, ◌++◌, Result, Ok, Err, true, false, refl, arith}
 use Rattle.std.specs.Prelude.{codes}
 use Rattle.fx_lexer.specs.declared.token.Token.{Token}
 use Rattle.fx_lexer.specs.declared.token.LexFault.{LexFault}
@@ -8,7 +8,6 @@ use Rattle.fx_text.specs.declared.refusal.Refusal.{Refusal}
 use Rattle.fx_text.specs.Written.{Written, written}
 use Rattle.fx_text.specs.Statements.{statements_of}
 use Rattle.fx_outputs.specs.declared.output.OutputSpec.{OutputSpec}
-use Rattle.fx_outputs.specs.declared.recode.Recode.{Recode}
 use Rattle.fx_outputs.specs.declared.setting.Setting.{Setting}
 use Rattle.fx_outputs.specs.declared.setting.BlockCount.{BlockCount}
 use Rattle.fx_outputs.specs.declared.setting.BlockCount.TheVariants as blocks
