@@ -17,6 +17,11 @@ use Rattle.fx_outputs.specs.Outputs.{output_of, outputs_behind, names_of}
 abbrev pub is_output : List Written → Bool
 is_output s = begins Output s && nat_lt 3 (length s)
 
+-- a statement that is long enough, and none of these, begins with another word
+other_word : (begun : Bool) (n : ℕ) → (begun && nat_lt 3 (suc (suc (suc (suc n))))) ≡ false → begun ≡ false
+other_word true n e = absurd (let long = lt-ltb 3 (suc (suc (suc (suc n)))) (omega arith) in cc)
+other_word false n e = refl
+
 module _ (setting : Context) (earlier : List (List ℕ)) (outputs : List OutputSpec) (rest : List (List Written)) where
   first_refused : (a b c d : Written) (options : List Written) (reason : ParseStop) → is Output a.symbol ≡ true
       → IsRefused (output_of setting earlier a d (d ∷ options)) reason
@@ -71,16 +76,9 @@ module _ (setting : Context) (earlier : List (List ℕ)) (outputs : List OutputS
       let both = and_parts (begins Output s) (nat_lt 3 (length s)) (sym t) in
       read_long s word name output both.0 (ltb-true 3 (length s) both.1) w n h
 
-  other_word : (a b c d : Written) (options : List Written) → (is Output a.symbol && true) ≡ false
+  first_passed : (a b c d : Written) (options : List Written) → is Output a.symbol ≡ false
       → outputs_behind setting earlier outputs ((a ∷ b ∷ c ∷ d ∷ options) ∷ rest) ≡ outputs_behind setting earlier outputs rest
-  other_word a b c d options e = let begun : is Output a.symbol ≡ false = no_word (is Output a.symbol) e in rw begun refl
-    where
-      no_word : (x : Bool) → (x && true) ≡ false → x ≡ false
-      no_word true e = e
-      no_word false e = refl
-
-  long_enough : (begun : Bool) (n : ℕ) → (begun && nat_lt 3 (suc (suc (suc (suc n))))) ≡ false → (begun && true) ≡ false
-  long_enough begun n e = rw (lt-ltb 3 (suc (suc (suc (suc n)))) (omega arith)) at e
+  first_passed a b c d options begun = rw begun refl
 
   pub passed : (s : List Written) → false ≡ is_output s
       → outputs_behind setting earlier outputs (s ∷ rest) ≡ outputs_behind setting earlier outputs rest
@@ -88,7 +86,7 @@ module _ (setting : Context) (earlier : List (List ℕ)) (outputs : List OutputS
   passed (a ∷ []) t = refl
   passed (a ∷ b ∷ []) t = refl
   passed (a ∷ b ∷ c ∷ []) t = refl
-  passed (a ∷ b ∷ c ∷ d ∷ options) t = other_word a b c d options (long_enough (is Output a.symbol) (length options) (sym t))
+  passed (a ∷ b ∷ c ∷ d ∷ options) t = first_passed a b c d options (other_word (is Output a.symbol) (length options) (sym t))
 
 -- the name of one more output stands last
 pub one_more_name : (before earlier : List (List ℕ)) (outputs : List OutputSpec) (output : OutputSpec) → earlier ≡ before ++ names_of outputs

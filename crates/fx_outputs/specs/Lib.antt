@@ -6,3 +6,4 @@ pub mod Values
 pub mod Blocks
 pub mod Recodes
 pub mod Outputs
+pub mod Validity

@@ -1,8 +1,9 @@
-ghost use Rattle.std.specs.Prelude.{◌≡◌, ◌++◌, ◌&&◌, nat_lt, length, IfOk, IfErr};
+ghost use Rattle.std.specs.Prelude.{◌≡◌, ◌++◌, ◌&&◌, nat_lt, length, IfOk, IfErr, All};
 ghost use Rattle.fx_language.specs.declared.symbol.Symbol.TheVariants.{Output};
 ghost use Rattle.fx_text.specs.Written.{begins};
 ghost use Rattle.fx_text.specs.Refusals.{IsRefused};
 ghost use Rattle.fx_outputs.specs.Outputs.{is_new_name, names_of, output_of, outputs_of};
+ghost use Rattle.fx_outputs.specs.Validity.{IsWithinLimits};
 
 use crate::block::{block_name, block_values, column_is_free, may_name_blocks};
 use crate::option::from_option;
@@ -52,6 +53,7 @@ pub fn outputs(
 ) -> Result<Outputs, ParseStop>
     ensures ok { IfOk result (λ outputs. outputs_of setting.now earlier.old statements.now ≡ Ok outputs) }
     ensures names { IfOk result (λ outputs. earlier.new ≡ earlier.old ++ names_of outputs) }
+    ensures within { IfOk result (All (IsWithinLimits setting.now)) }
     ensures err { IfErr result (IsRefused (outputs_of setting.now earlier.old statements.now)) }
 {
     let mut outputs = Outputs::new(alloc);

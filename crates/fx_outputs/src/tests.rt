@@ -7,11 +7,11 @@ use std::alloc::Global;
 use std::process::Abort;
 use std::test::Fail;
 
-fn names<const N: usize>(alloc: Global, texts: [&[u8]; N]) -> Result<Names, NoMemory> {
+fn names(alloc: Global, texts: &[&[u8]]) -> Result<Names, NoMemory> {
     let mut names = Names::new(alloc);
     for text in texts {
         let mut name = Bytes::new(alloc);
-        name.extend_from_slice(text)?;
+        name.extend_from_slice(*text)?;
         names.push(name)?;
     }
     Ok(names)
@@ -29,8 +29,8 @@ fn read(
     let symbols = symbols(alloc, text, &tokens)?;
     let lexemes = lexemes(alloc, text, &tokens, symbols.as_slice())?;
     let statements = statements(alloc, lexemes.as_slice())?;
-    let factors = names(alloc, [b"A", b"Block"])?;
-    let mut earlier = names(alloc, [b"old"])?;
+    let factors = names(alloc, &[b"A", b"Block"])?;
+    let mut earlier = names(alloc, &[b"old"])?;
     assert!(rt; factors.len() < 256);
     let setting = Setting::new(factors.as_slice(), 2, 16, blocks);
     Ok(outputs(alloc, &setting, &mut earlier, statements.as_slice()))

@@ -1,10 +1,11 @@
 use Rattle.std.proofs.Common.{◌≡◌, ◌∷◌, ◌++◌, [], suc, drop, ap, sym, ◌∙◌, arith}
-use Rattle.std.proofs.lemmas.List.{take_rest}
+use Rattle.std.proofs.lemmas.List.{take_rest, drop_all}
 use Rattle.std.proofs.lemmas.Result.{err_from_is_err_and}
 use Rattle.std.proofs.Math.Numerals.{add-one}
 use Rattle.std.proofs.Math.Seq.{drop-cons}
 use Rattle.fx_text.specs.Refusals.{IsRefused}
 use Rattle.fx_outputs.specs.Outputs.{outputs_of, outputs_behind}
+use Rattle.fx_outputs.proofs.Limits.{all_within}
 use Rattle.fx_outputs.proofs.Statements.{refused, read, passed, one_more_name}
 use Rattle.fx_outputs.proofs.output.outputs.Goals as goal
 use Rattle.fx_outputs.proofs.output.outputs.Goals.{then-is_output+in_ok-output+in_ok-copy+in_ok-push+in_ok-push-2, else-is_output}
@@ -53,3 +54,10 @@ loop-statement-preserved c =
             names = rw (w.earlier-is, w.outputs-is) c.loop-statement.invariant.names;
           }
     ]
+
+pub returns-clause-within : goal.returns-clause-within
+returns-clause-within c =
+    let setting = c.args.setting.now in
+    let none_left : drop c.loop-statement.statement-index c.args.statements.now ≡ [] = drop_all c.loop-statement.statement-index c.args.statements.now c.loop-statement-test.false in
+    let whole = rw none_left at c.loop-statement.invariant.meaning in
+    all_within setting c.args.earlier.now c.args.statements.now c.loop-statement.outputs whole
