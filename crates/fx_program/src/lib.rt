@@ -6,6 +6,8 @@ mod listing;
 mod question;
 mod refusal;
 mod run;
+#[cfg(test)]
+mod tests;
 mod text;
 mod words;
 

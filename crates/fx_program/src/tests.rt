@@ -1,0 +1,232 @@
+use super::*;
+use fx_base::{Bytes, MemorySink, MemorySource, SureShelf};
+use std::alloc::Global;
+use std::test::Fail;
+
+/// How many bytes a source or a sink moves at a call.
+const STEP: usize = 7;
+
+/// The words `run`.
+fn run_words(alloc: Global) -> Result<Vec<Vec<u8>>, Fail> {
+    let mut words = Vec::new(alloc);
+    words.push(b"run".to_vec(alloc)?)?;
+    Ok(words)
+}
+
+/// What `factex` answers for a text, and what it lists; the call `source_fails` of the source and
+/// `listing_fails` of the listing fail, counted from 1.
+fn ran(
+    alloc: Global,
+    words: &[Vec<u8>],
+    text: &[u8],
+    source_fails: u8,
+    listing_fails: u8,
+) -> Result<(u8, Vec<u8>), Fail> {
+    let content = Bytes::from_vec(text.to_vec(alloc)?);
+    let mut source = MemorySource::new(
+        content,
+        STEP,
+        Bytes::from_vec([source_fails].to_vec(alloc)?),
+    );
+    let mut listing = MemorySink::new(
+        alloc,
+        STEP,
+        1000,
+        Bytes::from_vec([listing_fails].to_vec(alloc)?),
+    )?;
+    let mut shelf = SureShelf::new(alloc, 1, 0)?;
+    let status = factex(alloc, words, &mut source, &mut listing, &mut shelf);
+    Ok((status, listing.bytes().to_vec(alloc)?))
+}
+
+const HALF: &str = "proc factex;\nfactors A B C D;\nsize design=8;\nmodel resolution=4;\nrun;\n";
+
+const HALF_LISTING: &str = "step 1\nfactors 4 levels 2\ndesign 8 runs\nrules\n  D = A*B*C\n";
+
+/// Each text with its listing and status.
+const PROGRAMS: [(&str, &str, u8); 9] = [
+    (HALF, HALF_LISTING, 0),
+    (
+        "PROC Factex ;factors A B C D E;\tsize\ndesign = 8;model res=4;run;",
+        "step 1\nfactors 5 levels 2\nno design in 8 runs\n",
+        1,
+    ),
+    (
+        "proc factex;factors A;model r=3;",
+        "step 1\nfactors 1 levels 2\ndesign 2 runs\nrules\n  none\n",
+        0,
+    ),
+    (
+        "proc factex;factors A B C D E F G;size fraction=8;model resolution=4;run;",
+        "step 1\nfactors 7 levels 2\ndesign 16 runs\nrules\n  E = B*C*D\n  F = A*C*D\n  G = A*B*D\n",
+        0,
+    ),
+    (
+        "proc factex;factors A B C D / nlev=3;size design=9;model resolution=3;",
+        "step 1\nfactors 4 levels 3\ndesign 9 runs\nrules\n  C = A^2*B\n  D = A*B\n",
+        0,
+    ),
+    (
+        "proc factex;factors A B C D E / nlev=3;size design=9;model resolution=3;",
+        "step 1\nfactors 5 levels 3\nno design in 9 runs\n",
+        1,
+    ),
+    (
+        "/* two */ proc factex; factors X1-X2; size nrunfacs=2; model res=3; examine confounding; quit;
+        * the second; proc factex; factors A B C; size design=2; model res=3; run;",
+        "step 1\nfactors 2 levels 2\ndesign 4 runs\nrules\n  none\nstep 2\nfactors 3 levels 2\nno design in 2 runs\n",
+        1,
+    ),
+    ("", "", 0),
+    ("; run; quit;", "", 0),
+];
+
+#[test]
+fn programs_have_their_listing(rt: HostRuntime) -> Result<(), Fail> {
+    let alloc = rt.alloc();
+    let words = run_words(alloc)?;
+    for (text, listing, status) in PROGRAMS {
+        let (ended, listed) = ran(alloc, words.as_slice(), text.as_bytes(), 0, 0)?;
+        assert_eq!(rt; ended, status, "{text}");
+        assert!(rt; listed.as_slice() == listing.as_bytes(), "{text}");
+    }
+    Ok(())
+}
+
+/// Each text that is refused, with its message.
+const REFUSED: [(&str, &str); 14] = [
+    (
+        "proc factex;\nfactors A B C;\nsize design=8;\nsize design=8;\nrun;\n",
+        "E26 4:1 statement is repeated in the step",
+    ),
+    (
+        "proc factex;\nfactors X1-X3 X2;\nrun;\n",
+        "E5 2:15 name is repeated",
+    ),
+    (
+        "proc factex;\nrun;\n",
+        "E7 1:1 step has no FACTORS statement",
+    ),
+    (
+        "proc factex;\ntitle x;\nrun;\n",
+        "E1 2:1 statement is not known",
+    ),
+    (
+        "proc factex nodes=0;\nfactors A;\nrun;\n",
+        "E29 1:19 number is out of range",
+    ),
+    (
+        "proc factex;\nfactors A B / nlev=6;\nrun;\n",
+        "E6 2:20 number of levels is not 2, 3, 4, 5, 7, 8 or 9",
+    ),
+    (
+        "proc factex;\nfactors A B C;\nsize design=12;\nrun;\n",
+        "E8 3:13 size is not a power of the number of levels",
+    ),
+    (
+        "proc factex time=60;\nfactors A B;\nrun;\n",
+        "E24 1:13 not kept in this profile",
+    ),
+    (
+        "proc factex;\nfactors A B;\nsize design=min;\nrun;\n",
+        "E14 3:13 minimum size with a maximum or MINABS",
+    ),
+    ("proc factex;\nfactors A 'b", "L2 2:11 string is not closed"),
+    (
+        "proc factex; factors A B C; size design=8; model estimate=(A B Z);",
+        "E0 1:1 not built yet",
+    ),
+    (
+        "proc factex; factors A B C; size design=8;",
+        "E0 1:1 not built yet",
+    ),
+    (
+        "proc factex; factors A; size design=32; model resolution=3;",
+        "E0 1:1 not built yet",
+    ),
+    (
+        "proc factex; factors A B C; model resolution=3; examine design;",
+        "E0 1:1 not built yet",
+    ),
+];
+
+#[test]
+fn faults_of_a_text_are_told(rt: HostRuntime) -> Result<(), Fail> {
+    let alloc = rt.alloc();
+    let words = run_words(alloc)?;
+    for (text, message) in REFUSED {
+        let (ended, listed) = ran(alloc, words.as_slice(), text.as_bytes(), 0, 0)?;
+        assert_eq!(rt; ended, 3, "{text}");
+        assert!(rt; is_message(listed.as_slice(), message.as_bytes()), "{text}");
+    }
+    Ok(())
+}
+
+/// Whether what was listed is the one line of this message.
+fn is_message(listed: &[u8], message: &[u8]) -> bool {
+    match listed.strip_prefix(b"factex: ".as_slice()) {
+        Some(line) => line.strip_suffix(b"\n".as_slice()) == Some(message),
+        None => false,
+    }
+}
+
+#[test]
+fn words_other_than_run_are_refused(rt: HostRuntime) -> Result<(), Fail> {
+    let alloc = rt.alloc();
+    let none = Vec::new(alloc);
+    let mut two = run_words(alloc)?;
+    two.push(b"x".to_vec(alloc)?)?;
+    let mut capitals = Vec::new(alloc);
+    capitals.push(b"RUN".to_vec(alloc)?)?;
+    for (words, message) in [
+        (none, "C1 word 1"),
+        (two, "C3 word 2"),
+        (capitals, "C2 word 1"),
+    ] {
+        let (ended, listed) = ran(alloc, words.as_slice(), HALF.as_bytes(), 1, 0)?;
+        assert_eq!(rt; ended, 3);
+        assert!(rt; is_message(listed.as_slice(), message.as_bytes()));
+    }
+    Ok(())
+}
+
+/// No call follows a failed one: after a failed read nothing is listed, and a further call on the
+/// listing would append to what it holds.
+#[test]
+fn failed_calls_end_the_run(rt: HostRuntime) -> Result<(), Fail> {
+    let alloc = rt.alloc();
+    let words = run_words(alloc)?;
+    for text in [HALF, "no program"] {
+        for call in 1..=text.len().div_ceil(STEP) + 1 {
+            let (ended, listed) = ran(alloc, words.as_slice(), text.as_bytes(), call as u8, 0)?;
+            assert_eq!(rt; ended, 4);
+            assert!(rt; listed.is_empty());
+        }
+    }
+    let calls = HALF_LISTING.len().div_ceil(STEP);
+    for call in 1..=calls {
+        let (ended, listed) = ran(alloc, words.as_slice(), HALF.as_bytes(), 0, call as u8)?;
+        assert_eq!(rt; ended, 4);
+        assert_eq!(rt; listed.len(), (call - 1) * STEP);
+        assert!(rt; HALF_LISTING.as_bytes().starts_with(listed.as_slice()));
+    }
+    let (ended, _) = ran(alloc, words.as_slice(), HALF.as_bytes(), 0, calls as u8 + 1)?;
+    assert_eq!(rt; ended, 0);
+    Ok(())
+}
+
+#[test]
+fn long_texts_are_read(rt: HostRuntime) -> Result<(), Fail> {
+    let alloc = rt.alloc();
+    let words = run_words(alloc)?;
+    let mut text = vec![in alloc; b' '; 1048576 - HALF.len()]?;
+    text.extend_from_slice(HALF.as_bytes())?;
+    let (ended, listed) = ran(alloc, words.as_slice(), text.as_slice(), 0, 0)?;
+    assert_eq!(rt; ended, 0);
+    assert!(rt; listed.as_slice() == HALF_LISTING.as_bytes());
+    text.push(b' ')?;
+    let (ended, listed) = ran(alloc, words.as_slice(), text.as_slice(), 0, 0)?;
+    assert_eq!(rt; ended, 3);
+    assert!(rt; is_message(listed.as_slice(), b"E25 1:1 text is over 1048576 bytes"));
+    Ok(())
+}
