@@ -36,6 +36,30 @@ fn refusal(
     }
 }
 
+/// Tests that each text behind the front is refused by this code, in this line and column.
+fn are_refused(
+    rt: &impl Abort,
+    alloc: Global,
+    front: &[u8],
+    cases: &[(&[u8], u8, u32, u32)],
+) -> Result<(), Fail> {
+    for (text, code, line, column) in cases {
+        assert_eq!(rt;
+            refusal(rt, alloc, front, text)?,
+            Some((*code, *line, *column))
+        );
+    }
+    Ok(())
+}
+
+/// Tests that each text behind the front is accepted.
+fn are_accepted(rt: &impl Abort, alloc: Global, front: &[u8], texts: &[&[u8]]) -> Result<(), Fail> {
+    for text in texts {
+        assert_eq!(rt; refusal(rt, alloc, front, text)?, None);
+    }
+    Ok(())
+}
+
 #[test]
 fn words_and_signs_are_refused_by_the_grammar(rt: HostRuntime) -> Result<(), Fail> {
     let cases: [(&[u8], u8, u32, u32); 18] = [
@@ -58,13 +82,7 @@ fn words_and_signs_are_refused_by_the_grammar(rt: HostRuntime) -> Result<(), Fai
         (b"proc factex;\noutput out=a designrep=b;", 24, 2, 24),
         (b"proc factex;\noutput out=a [A];", 24, 2, 14),
     ];
-    for (text, code, line, column) in cases {
-        assert_eq!(rt;
-            refusal(&rt, rt.alloc(), b"", text)?,
-            Some((code, line, column))
-        );
-    }
-    Ok(())
+    are_refused(&rt, rt.alloc(), b"", &cases)
 }
 
 #[test]
@@ -102,13 +120,7 @@ fn what_stands_twice_or_too_late_is_refused(rt: HostRuntime) -> Result<(), Fail>
             25,
         ),
     ];
-    for (text, code, line, column) in cases {
-        assert_eq!(rt;
-            refusal(&rt, rt.alloc(), b"", text)?,
-            Some((code, line, column))
-        );
-    }
-    Ok(())
+    are_refused(&rt, rt.alloc(), b"", &cases)
 }
 
 #[test]
@@ -127,42 +139,29 @@ fn models_of_effects_are_refused_before_their_meaning(rt: HostRuntime) -> Result
             1,
         ),
     ];
-    for (text, code, line, column) in cases {
-        assert_eq!(rt;
-            refusal(&rt, rt.alloc(), b"", text)?,
-            Some((code, line, column))
-        );
-    }
-    Ok(())
+    are_refused(&rt, rt.alloc(), b"", &cases)
 }
 
 #[test]
 fn factors_are_refused_at_their_items(rt: HostRuntime) -> Result<(), Fail> {
-    let front = b"proc factex;\n";
-    let cases: [(&[u8], u8, u32); 15] = [
-        (b"factors X1-X3 X2;", 5, 15),
-        (b"factors A b a;", 5, 13),
-        (b"factors X2 x1-x3;", 5, 12),
-        (b"factors X2-Y5;", 30, 9),
-        (b"factors X5-X2;", 30, 9),
-        (b"factors X01-X3;", 30, 9),
-        (b"factors X1-X03;", 30, 9),
-        (b"factors X00-X1;", 30, 9),
-        (b"factors X-X3;", 30, 9),
-        (b"factors A X1-X;", 30, 11),
-        (b"factors X1-X41;", 10, 9),
-        (b"factors X1-X40 Y;", 10, 16),
-        (b"factors Y X1-X40 Z;", 10, 11),
-        (b"factors X1-X30 Y;blocks nblkfacs=1;", 10, 16),
-        (b"blocks nblkfacs=1;factors X1-X31;", 10, 27),
+    let cases: [(&[u8], u8, u32, u32); 15] = [
+        (b"factors X1-X3 X2;", 5, 2, 15),
+        (b"factors A b a;", 5, 2, 13),
+        (b"factors X2 x1-x3;", 5, 2, 12),
+        (b"factors X2-Y5;", 30, 2, 9),
+        (b"factors X5-X2;", 30, 2, 9),
+        (b"factors X01-X3;", 30, 2, 9),
+        (b"factors X1-X03;", 30, 2, 9),
+        (b"factors X00-X1;", 30, 2, 9),
+        (b"factors X-X3;", 30, 2, 9),
+        (b"factors A X1-X;", 30, 2, 11),
+        (b"factors X1-X41;", 10, 2, 9),
+        (b"factors X1-X40 Y;", 10, 2, 16),
+        (b"factors Y X1-X40 Z;", 10, 2, 11),
+        (b"factors X1-X30 Y;blocks nblkfacs=1;", 10, 2, 16),
+        (b"blocks nblkfacs=1;factors X1-X31;", 10, 2, 27),
     ];
-    for (rest, code, column) in cases {
-        assert_eq!(rt;
-            refusal(&rt, rt.alloc(), front, rest)?,
-            Some((code, 2, column))
-        );
-    }
-    Ok(())
+    are_refused(&rt, rt.alloc(), b"proc factex;\n", &cases)
 }
 
 #[test]
@@ -178,13 +177,7 @@ fn a_step_without_factors_is_refused_at_proc(rt: HostRuntime) -> Result<(), Fail
         ),
         (b"\n proc factex;\nproc factex;factors A;", 7, 2, 2),
     ];
-    for (text, code, line, column) in cases {
-        assert_eq!(rt;
-            refusal(&rt, rt.alloc(), b"", text)?,
-            Some((code, line, column))
-        );
-    }
-    Ok(())
+    are_refused(&rt, rt.alloc(), b"", &cases)
 }
 
 #[test]
@@ -204,36 +197,23 @@ fn levels_and_budgets_are_refused_at_their_numbers(rt: HostRuntime) -> Result<()
             19,
         ),
     ];
-    for (text, code, line, column) in cases {
-        assert_eq!(rt;
-            refusal(&rt, rt.alloc(), b"", text)?,
-            Some((code, line, column))
-        );
-    }
-    Ok(())
+    are_refused(&rt, rt.alloc(), b"", &cases)
 }
 
 #[test]
 fn sizes_are_refused_at_their_numbers(rt: HostRuntime) -> Result<(), Fail> {
-    let front = b"proc factex;factors A B C D;\n";
-    let cases: [(&[u8], u8, u32); 9] = [
-        (b"size design=12;", 8, 13),
-        (b"size design=1;", 8, 13),
-        (b"size design=0;", 8, 13),
-        (b"size fraction=3;", 8, 15),
-        (b"size fraction=16;", 8, 15),
-        (b"size fraction=0;", 8, 15),
-        (b"size nrunfacs=0;", 8, 15),
-        (b"size design=2048;", 9, 13),
-        (b"size nrunfacs=11;", 9, 15),
+    let cases: [(&[u8], u8, u32, u32); 9] = [
+        (b"size design=12;", 8, 2, 13),
+        (b"size design=1;", 8, 2, 13),
+        (b"size design=0;", 8, 2, 13),
+        (b"size fraction=3;", 8, 2, 15),
+        (b"size fraction=16;", 8, 2, 15),
+        (b"size fraction=0;", 8, 2, 15),
+        (b"size nrunfacs=0;", 8, 2, 15),
+        (b"size design=2048;", 9, 2, 13),
+        (b"size nrunfacs=11;", 9, 2, 15),
     ];
-    for (rest, code, column) in cases {
-        assert_eq!(rt;
-            refusal(&rt, rt.alloc(), front, rest)?,
-            Some((code, 2, column))
-        );
-    }
-    Ok(())
+    are_refused(&rt, rt.alloc(), b"proc factex;factors A B C D;\n", &cases)
 }
 
 #[test]
@@ -255,153 +235,123 @@ fn more_than_1024_runs_are_refused(rt: HostRuntime) -> Result<(), Fail> {
             36,
         ),
     ];
-    for (text, code, line, column) in cases {
-        assert_eq!(rt;
-            refusal(&rt, rt.alloc(), b"", text)?,
-            Some((code, line, column))
-        );
-    }
-    Ok(())
+    are_refused(&rt, rt.alloc(), b"", &cases)
 }
 
 #[test]
 fn resolutions_are_refused_at_their_numbers(rt: HostRuntime) -> Result<(), Fail> {
-    let front = b"proc factex;factors A B C D;\n";
-    let cases: [(&[u8], u8, u32); 4] = [
-        (b"model resolution=2;", 11, 18),
-        (b"model res=0/minabs;", 11, 11),
-        (b"model r=100;", 11, 9),
-        (b"model r=259;", 11, 9),
+    let cases: [(&[u8], u8, u32, u32); 4] = [
+        (b"model resolution=2;", 11, 2, 18),
+        (b"model res=0/minabs;", 11, 2, 11),
+        (b"model r=100;", 11, 2, 9),
+        (b"model r=259;", 11, 2, 9),
     ];
-    for (rest, code, column) in cases {
-        assert_eq!(rt;
-            refusal(&rt, rt.alloc(), front, rest)?,
-            Some((code, 2, column))
-        );
-    }
-    Ok(())
+    are_refused(&rt, rt.alloc(), b"proc factex;factors A B C D;\n", &cases)
 }
 
 #[test]
 fn what_cannot_stand_together_is_refused(rt: HostRuntime) -> Result<(), Fail> {
-    let front = b"proc factex;factors A B C D;\n";
-    let cases: [(&[u8], u8, u32); 10] = [
-        (b"blocks nblkfacs=1;", 13, 1),
-        (b"model r=max;blocks nblocks=2;", 13, 13),
-        (b"model r=4/minabs;blocks size=2;", 13, 18),
-        (b"blocks nblkfacs=max;model r=max / minabs;", 13, 1),
-        (b"size design=min;", 14, 13),
-        (b"size fraction=max;model r=max;", 14, 15),
-        (b"size nrunfacs=minimum;model r=3/minabs;", 14, 15),
-        (b"size design=min;model r=3;blocks nblkfacs=max;", 14, 13),
-        (b"size design=min;model r=3;blocks nblocks=max;", 14, 13),
-        (b"size design=min;model r=3;blocks size=min;", 14, 13),
+    let cases: [(&[u8], u8, u32, u32); 10] = [
+        (b"blocks nblkfacs=1;", 13, 2, 1),
+        (b"model r=max;blocks nblocks=2;", 13, 2, 13),
+        (b"model r=4/minabs;blocks size=2;", 13, 2, 18),
+        (b"blocks nblkfacs=max;model r=max / minabs;", 13, 2, 1),
+        (b"size design=min;", 14, 2, 13),
+        (b"size fraction=max;model r=max;", 14, 2, 15),
+        (b"size nrunfacs=minimum;model r=3/minabs;", 14, 2, 15),
+        (b"size design=min;model r=3;blocks nblkfacs=max;", 14, 2, 13),
+        (b"size design=min;model r=3;blocks nblocks=max;", 14, 2, 13),
+        (b"size design=min;model r=3;blocks size=min;", 14, 2, 13),
     ];
-    for (rest, code, column) in cases {
-        assert_eq!(rt;
-            refusal(&rt, rt.alloc(), front, rest)?,
-            Some((code, 2, column))
-        );
-    }
-    Ok(())
+    are_refused(&rt, rt.alloc(), b"proc factex;factors A B C D;\n", &cases)
 }
 
 #[test]
 fn blocks_are_refused_at_their_numbers(rt: HostRuntime) -> Result<(), Fail> {
-    let front = b"proc factex;factors A B C D;size design=8;model r=3;\n";
-    let cases: [(&[u8], u8, u32); 9] = [
-        (b"blocks nblkfacs=0;", 15, 17),
-        (b"blocks nblocks=3;", 15, 16),
-        (b"blocks nblocks=1;", 15, 16),
-        (b"blocks nblocks=0;", 15, 16),
-        (b"blocks size=3;", 15, 13),
-        (b"blocks size=8;", 15, 13),
-        (b"blocks nblkfacs=4;", 16, 17),
-        (b"blocks nblkfacs=257;", 16, 17),
-        (b"blocks nblocks=16;", 16, 16),
+    let cases: [(&[u8], u8, u32, u32); 9] = [
+        (b"blocks nblkfacs=0;", 15, 2, 17),
+        (b"blocks nblocks=3;", 15, 2, 16),
+        (b"blocks nblocks=1;", 15, 2, 16),
+        (b"blocks nblocks=0;", 15, 2, 16),
+        (b"blocks size=3;", 15, 2, 13),
+        (b"blocks size=8;", 15, 2, 13),
+        (b"blocks nblkfacs=4;", 16, 2, 17),
+        (b"blocks nblkfacs=257;", 16, 2, 17),
+        (b"blocks nblocks=16;", 16, 2, 16),
     ];
-    for (rest, code, column) in cases {
-        assert_eq!(rt;
-            refusal(&rt, rt.alloc(), front, rest)?,
-            Some((code, 2, column))
-        );
-    }
-    Ok(())
+    are_refused(
+        &rt,
+        rt.alloc(),
+        b"proc factex;factors A B C D;size design=8;model r=3;\n",
+        &cases,
+    )
 }
 
 #[test]
 fn blocks_of_a_least_size_are_refused_at_their_numbers(rt: HostRuntime) -> Result<(), Fail> {
-    let front = b"proc factex;factors A B C D;size design=min;model r=3;\n";
-    let cases: [(&[u8], u8, u32); 5] = [
-        (b"blocks nblkfacs=0;", 15, 17),
-        (b"blocks nblocks=6;", 15, 16),
-        (b"blocks size=1024;", 15, 13),
-        (b"blocks nblkfacs=11;", 16, 17),
-        (b"blocks nblocks=2048;", 16, 16),
+    let cases: [(&[u8], u8, u32, u32); 5] = [
+        (b"blocks nblkfacs=0;", 15, 2, 17),
+        (b"blocks nblocks=6;", 15, 2, 16),
+        (b"blocks size=1024;", 15, 2, 13),
+        (b"blocks nblkfacs=11;", 16, 2, 17),
+        (b"blocks nblocks=2048;", 16, 2, 16),
     ];
-    for (rest, code, column) in cases {
-        assert_eq!(rt;
-            refusal(&rt, rt.alloc(), front, rest)?,
-            Some((code, 2, column))
-        );
-    }
-    Ok(())
+    are_refused(
+        &rt,
+        rt.alloc(),
+        b"proc factex;factors A B C D;size design=min;model r=3;\n",
+        &cases,
+    )
 }
 
 #[test]
 fn plans_are_refused(rt: HostRuntime) -> Result<(), Fail> {
-    let front = b"proc factex;factors A B C D;\n";
-    let cases: [(&[u8], u8, u32); 12] = [
-        (b"output out=a;output out=A;", 18, 25),
-        (b"output out=a pointrep=0;", 20, 23),
-        (b"output out=a designrep=200001;", 20, 24),
-        (b"output out=a pointrep=200000;", 21, 12),
-        (b"output out=a pointrep=2 designrep=6251;", 21, 12),
-        (b"output out=a randomize(18446744073709551616);", 19, 24),
-        (b"output out=a blockname=day;", 31, 14),
-        (b"output out=a A nvals=(1 2 3);", 17, 16),
-        (b"output out=a a cvals=('x');", 17, 16),
-        (b"output out=a A cvals=('x' 'y') Z nvals=(1 2);", 4, 32),
-        (b"output out=a A cvals=('x' 'y') a nvals=(1 2);", 28, 32),
+    let cases: [(&[u8], u8, u32, u32); 12] = [
+        (b"output out=a;output out=A;", 18, 2, 25),
+        (b"output out=a pointrep=0;", 20, 2, 23),
+        (b"output out=a designrep=200001;", 20, 2, 24),
+        (b"output out=a pointrep=200000;", 21, 2, 12),
+        (b"output out=a pointrep=2 designrep=6251;", 21, 2, 12),
+        (b"output out=a randomize(18446744073709551616);", 19, 2, 24),
+        (b"output out=a blockname=day;", 31, 2, 14),
+        (b"output out=a A nvals=(1 2 3);", 17, 2, 16),
+        (b"output out=a a cvals=('x');", 17, 2, 16),
+        (b"output out=a A cvals=('x' 'y') Z nvals=(1 2);", 4, 2, 32),
+        (b"output out=a A cvals=('x' 'y') a nvals=(1 2);", 28, 2, 32),
         (
             b"size design=min;model r=3;output out=a pointrep=196;",
             21,
+            2,
             38,
         ),
     ];
-    for (rest, code, column) in cases {
-        assert_eq!(rt;
-            refusal(&rt, rt.alloc(), front, rest)?,
-            Some((code, 2, column))
-        );
-    }
-    Ok(())
+    are_refused(&rt, rt.alloc(), b"proc factex;factors A B C D;\n", &cases)
 }
 
 #[test]
 fn columns_of_blocks_are_refused(rt: HostRuntime) -> Result<(), Fail> {
-    let front = b"proc factex;factors A Block;size design=4;model r=3;\n";
-    let cases: [(&[u8], u8, u32); 4] = [
-        (b"blocks nblkfacs=1;output out=a blockname=a;", 5, 42),
-        (b"blocks nblkfacs=1;output out=a;", 5, 19),
+    let cases: [(&[u8], u8, u32, u32); 4] = [
+        (b"blocks nblkfacs=1;output out=a blockname=a;", 5, 2, 42),
+        (b"blocks nblkfacs=1;output out=a;", 5, 2, 19),
         (
             b"blocks nblkfacs=2;output out=a blockname=b nvals=(1 2);",
             17,
+            2,
             44,
         ),
         (
             b"blocks nblkfacs=max;output out=a blockname=b cvals=('x' 'y');",
             17,
+            2,
             46,
         ),
     ];
-    for (rest, code, column) in cases {
-        assert_eq!(rt;
-            refusal(&rt, rt.alloc(), front, rest)?,
-            Some((code, 2, column))
-        );
-    }
-    Ok(())
+    are_refused(
+        &rt,
+        rt.alloc(),
+        b"proc factex;factors A Block;size design=4;model r=3;\n",
+        &cases,
+    )
 }
 
 #[test]
@@ -420,13 +370,7 @@ fn an_out_name_is_refused_in_a_later_step(rt: HostRuntime) -> Result<(), Fail> {
             51,
         ),
     ];
-    for (text, code, line, column) in cases {
-        assert_eq!(rt;
-            refusal(&rt, rt.alloc(), b"", text)?,
-            Some((code, line, column))
-        );
-    }
-    Ok(())
+    are_refused(&rt, rt.alloc(), b"", &cases)
 }
 
 #[test]
@@ -445,10 +389,7 @@ fn factors_within_the_limits_are_accepted(rt: HostRuntime) -> Result<(), Fail> {
         b"factors A / nlev=8;",
         b"factors A1-A3 / nlev=9;",
     ];
-    for text in texts {
-        assert_eq!(rt; refusal(&rt, rt.alloc(), b"proc factex;\n", text)?, None);
-    }
-    Ok(())
+    are_accepted(&rt, rt.alloc(), b"proc factex;\n", &texts)
 }
 
 #[test]
@@ -471,13 +412,7 @@ fn settings_within_the_limits_are_accepted(rt: HostRuntime) -> Result<(), Fail> 
         b"size design=min;model r=3;blocks nblocks=1024;",
         b"size design=min;model r=3;blocks size=512;",
     ];
-    for text in texts {
-        assert_eq!(rt;
-            refusal(&rt, rt.alloc(), b"proc factex;factors A B C D;\n", text)?,
-            None
-        );
-    }
-    Ok(())
+    are_accepted(&rt, rt.alloc(), b"proc factex;factors A B C D;\n", &texts)
 }
 
 #[test]
@@ -491,13 +426,7 @@ fn plans_within_the_limits_are_accepted(rt: HostRuntime) -> Result<(), Fail> {
         b"model r=3;blocks nblkfacs=2;output out=a blockname=day nvals=(1 2 -3 .5);",
         b"model r=3;blocks nblkfacs=max;output out=a blockname=day;",
     ];
-    for text in texts {
-        assert_eq!(rt;
-            refusal(&rt, rt.alloc(), b"proc factex;factors A Block;\n", text)?,
-            None
-        );
-    }
-    Ok(())
+    are_accepted(&rt, rt.alloc(), b"proc factex;factors A Block;\n", &texts)
 }
 
 #[test]
@@ -508,10 +437,7 @@ fn budgets_within_the_limits_are_accepted(rt: HostRuntime) -> Result<(), Fail> {
         b"",
         b" ;run;quit; /* ; */ * no step;",
     ];
-    for text in texts {
-        assert_eq!(rt; refusal(&rt, rt.alloc(), b"", text)?, None);
-    }
-    Ok(())
+    are_accepted(&rt, rt.alloc(), b"", &texts)
 }
 
 #[test]
@@ -538,13 +464,7 @@ fn the_grammar_is_judged_before_the_meaning(rt: HostRuntime) -> Result<(), Fail>
         ),
         (b"proc factex;factors A;model e=(A)/;", 2, 1, 35),
     ];
-    for (text, code, line, column) in cases {
-        assert_eq!(rt;
-            refusal(&rt, rt.alloc(), b"", text)?,
-            Some((code, line, column))
-        );
-    }
-    Ok(())
+    are_refused(&rt, rt.alloc(), b"", &cases)
 }
 
 #[test]
@@ -558,13 +478,7 @@ fn an_earlier_step_is_judged_first(rt: HostRuntime) -> Result<(), Fail> {
             45,
         ),
     ];
-    for (text, code, line, column) in cases {
-        assert_eq!(rt;
-            refusal(&rt, rt.alloc(), b"", text)?,
-            Some((code, line, column))
-        );
-    }
-    Ok(())
+    are_refused(&rt, rt.alloc(), b"", &cases)
 }
 
 #[test]
@@ -617,43 +531,37 @@ fn the_meaning_of_a_step_is_judged_in_its_order(rt: HostRuntime) -> Result<(), F
             73,
         ),
     ];
-    for (text, code, line, column) in cases {
-        assert_eq!(rt;
-            refusal(&rt, rt.alloc(), b"", text)?,
-            Some((code, line, column))
-        );
-    }
-    Ok(())
+    are_refused(&rt, rt.alloc(), b"", &cases)
 }
 
 #[test]
 fn a_plan_is_judged_in_its_order(rt: HostRuntime) -> Result<(), Fail> {
-    let front = b"proc factex;factors A;output out=a;\n";
-    let cases: [(&[u8], u8, u32); 8] = [
-        (b"output out=a designrep=0 pointrep=0;", 18, 12),
-        (b"output out=b designrep=0 pointrep=0;", 20, 35),
-        (b"output out=b pointrep=200000 designrep=0;", 20, 40),
+    let cases: [(&[u8], u8, u32, u32); 8] = [
+        (b"output out=a designrep=0 pointrep=0;", 18, 2, 12),
+        (b"output out=b designrep=0 pointrep=0;", 20, 2, 35),
+        (b"output out=b pointrep=200000 designrep=0;", 20, 2, 40),
         (
             b"output out=b pointrep=200000 randomize(18446744073709551616);",
             21,
+            2,
             12,
         ),
         (
             b"output out=b blockname=A randomize(18446744073709551616);",
             19,
+            2,
             36,
         ),
-        (b"output out=b Z nvals=(1) blockname=A;", 31, 26),
-        (b"output out=b A nvals=(1) Z nvals=(1);", 17, 16),
-        (b"output out=b pointrep=0;output out=a;", 20, 23),
+        (b"output out=b Z nvals=(1) blockname=A;", 31, 2, 26),
+        (b"output out=b A nvals=(1) Z nvals=(1);", 17, 2, 16),
+        (b"output out=b pointrep=0;output out=a;", 20, 2, 23),
     ];
-    for (rest, code, column) in cases {
-        assert_eq!(rt;
-            refusal(&rt, rt.alloc(), front, rest)?,
-            Some((code, 2, column))
-        );
-    }
-    Ok(())
+    are_refused(
+        &rt,
+        rt.alloc(),
+        b"proc factex;factors A;output out=a;\n",
+        &cases,
+    )
 }
 
 /// What the first step of a text gives by its SIZE, MODEL and BLOCKS statements.
