@@ -5,6 +5,8 @@ mod examine;
 mod parsing;
 mod step;
 mod stepping;
+#[cfg(test)]
+mod tests;
 
 pub use examine::Examine;
 pub use fx_outputs::{OutputSpec, Outputs, Recode, Recodes, Shuffle};
