@@ -1,0 +1,4 @@
+pub mod Positions
+pub mod Ordered
+pub mod Merging
+pub mod Stars

@@ -1,0 +1,4 @@
+pub use Rattle.fx_designs.specs.Galois
+pub use Rattle.fx_designs.specs.Vectors
+pub use Rattle.fx_designs.specs.Problems
+pub mod Bars

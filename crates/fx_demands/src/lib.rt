@@ -1,0 +1,12 @@
+//! What a design must separate: lists of effects that are joined by bars, how many pairs of vectors
+//! are to be told apart, and the words that are forbidden.
+#![tactic(auto)]
+
+mod effect_order;
+mod effect_stop;
+mod pairs;
+mod unions;
+
+pub use effect_stop::EffectStop;
+pub use pairs::pair_count;
+pub use unions::bars;
