@@ -2,11 +2,15 @@
 //! are to be told apart, and the words that are forbidden.
 #![tactic(auto)]
 
+mod closing;
 mod effect_order;
 mod effect_stop;
+mod forbidden;
 mod pairs;
+mod row_sums;
 mod unions;
 
 pub use effect_stop::EffectStop;
+pub use forbidden::Forbidden;
 pub use pairs::pair_count;
 pub use unions::bars;
