@@ -10,3 +10,4 @@ pub mod Widths
 pub mod Completing
 pub mod Closings
 pub mod Choice
+mod Examples

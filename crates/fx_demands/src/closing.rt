@@ -1,6 +1,7 @@
 ghost use Rattle.std.specs.Prelude.{ℕ, ◌≡◌, ◌+◌, ◌<◌, ◌≤◌, not, IfSome, length, take, drop};
 ghost use Rattle.std.specs.Bool.{OnTrue, OnFalse};
 ghost use Rattle.std.specs.Option.{IfNone, is_some};
+ghost use Rattle.fx_designs.specs.Vectors.{IsVector};
 ghost use Rattle.fx_designs.specs.Demands.{is_allowed};
 ghost use Rattle.fx_vectors.specs.Shape.{dimensions_of};
 ghost use Rattle.fx_vectors.specs.Question.{requirement_of};
@@ -27,6 +28,7 @@ impl Forbidden {
     pub fn closing_word(&self, prefix: &Matrix) -> Option<Vector>
         requires { prefix.now.shape ≡ self.now.shape }
         ensures word { result ≡ closing_word (dimensions_of self.now.shape) (requirement_of self.now.demands) prefix.now.rows }
+        ensures vector { IfSome result (IsVector self.now.shape.q (self.now.shape.s + self.now.shape.t)) }
         ensures allowed { is_some result ≡ not (is_allowed (dimensions_of self.now.shape) (requirement_of self.now.demands) prefix.now.rows) }
     {
         let blocks = usize::from(prefix.shape().t);

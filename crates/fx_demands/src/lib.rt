@@ -8,6 +8,8 @@ mod effect_stop;
 mod forbidden;
 mod pairs;
 mod row_sums;
+#[cfg(test)]
+mod tests;
 mod unions;
 
 pub use effect_stop::EffectStop;
