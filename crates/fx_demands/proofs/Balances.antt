@@ -1,21 +1,18 @@
 -- What is forbidden is told from supports.
-use Rattle.std.proofs.Common.{ℕ, ◌≡◌, ◌<◌, ◌≤◌, ◌+◌, ◌-◌, ◌*◌, ◌^◌, ◌⊎◌, zero, suc, Bool, true, false, cond, eqb, not, ◌&&◌, ◌||◌, List, [], ◌∷◌, take, drop, length, get_or, refl, sym, subst, ◌∙◌, ap, arith, inl, inr}
-use Rattle.std.specs.Prelude.{count_ones, nat_lt}
-use Rattle.std.specs.List.{list_any, list_all, All, AllByRecursion}
+use Rattle.std.proofs.Common.{ℕ, ◌≡◌, ◌<◌, ◌+◌, ◌-◌, ◌*◌, ◌^◌, ◌⊎◌, zero, suc, Bool, true, false, eqb, not, ◌&&◌, ◌||◌, List, [], ◌∷◌, take, drop, length, refl, sym, subst, ◌∙◌, ap, arith, inl, inr}
+use Rattle.std.specs.List.{list_any, list_all, AllByRecursion}
 use Rattle.std.proofs.lemmas.Bool.{cases_eq, eq-eqb, ne_eqb, eqb-true, both_ways, and_parts, and_from, or_left, or_right}
 use Rattle.std.proofs.lemmas.Bool.Decides.{nat_tests}
-use Rattle.std.proofs.lemmas.List.Elements.{recursion_from_All, All-get_or}
-use Rattle.std.proofs.lemmas.List.Folds.{Any-from_list_any}
+use Rattle.std.proofs.lemmas.List.Elements.{recursion_from_All}
 use Rattle.fx_designs.specs.Galois.{add, mul, neg, IsField}
-use Rattle.fx_designs.specs.Vectors.{IsVector, minus, plus, scale, weight, is_zero, same, zeros}
+use Rattle.fx_designs.specs.Vectors.{IsVector, minus, weight, is_zero, same}
 use Rattle.fx_designs.specs.Runs.{points}
 use Rattle.fx_designs.specs.Problems.{Dimensions, Requirement, AtResolution, ForEffects}
-use Rattle.fx_designs.specs.Demands.{effect_of, is_of, is_told_from, must_balance, is_estimated, is_forbidden_word, is_forbidden}
+use Rattle.fx_designs.specs.Demands.{effect_of, is_of, is_told_from, must_balance, is_estimated, is_forbidden_word}
 use Rattle.fx_laws.proofs.Linear.{zero-add-code}
 use Rattle.fx_laws.proofs.Shift.{all-points}
 use Rattle.fx_laws.proofs.Tests.{points_decides}
-use Rattle.fx_vectors.specs.Effects.{AreEffects}
-use Rattle.fx_vectors.specs.Question.{CanBeTold, CanBeAsked}
+use Rattle.fx_vectors.specs.Question.{CanBeAsked}
 use Rattle.fx_demands.specs.Supports.{differs, differs_from_some, balances, estimates, forbids}
 use Rattle.fx_demands.proofs.Supports.{bit, weight-ones, zero-effect, effect-zero, is_zero-effect}
 use Rattle.fx_demands.proofs.Differences.{difference_differs, split, Split, cancel}

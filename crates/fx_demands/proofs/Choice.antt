@@ -1,16 +1,18 @@
 -- The closing word by its definition: the best of a list of words.
-use Rattle.std.proofs.Common.{ℕ, ◌≡◌, ◌<◌, ◌≤◌, ◌+◌, ◌-◌, ◌⊎◌, zero, suc, Bool, true, false, cond, eqb, not, ◌&&◌, ◌||◌, List, [], ◌∷◌, ◌++◌, map, filter, take, drop, length, Option, Some, None, refl, sym, subst, ◌∙◌, ap, arith, inl, inr, length-append, length-take, take-append-drop}
-use Rattle.std.specs.Prelude.{find, nat_lt}
-use Rattle.std.specs.Option.{option_map, is_some}
+use Rattle.std.proofs.Common.{ℕ, ◌≡◌, ◌<◌, ◌≤◌, ◌+◌, ◌-◌, ◌⊎◌, zero, suc, Bool, true, false, cond, eqb, not, ◌&&◌, List, [], ◌∷◌, ◌++◌, filter, take, drop, length, Some, None, refl, sym, ◌∙◌, ap, arith, inl, inr, length-append, length-take, take-append-drop, subst, Option}
+use Rattle.std.specs.Prelude.{find}
+use Rattle.std.specs.Option.{option_map}
 use Rattle.std.specs.List.{list_all, list_any, AllByRecursion}
 use Rattle.std.specs.Int.Count.{ones}
-use Rattle.std.proofs.lemmas.Bool.{cases_eq, cases_lt, eq-eqb, ne_eqb, eqb-true, lt-ltb, ltb-true, both_ways, and_parts, and_from, or_left, or_right, false_from_ne_true}
+use Rattle.std.proofs.lemmas.Bool.{cases_eq, cases_lt, eq-eqb, ne_eqb, lt-ltb, both_ways, and_parts, and_from, or_left, or_right, false_from_ne_true}
 use Rattle.std.proofs.lemmas.Bool.Decides.{nat_tests}
 use Rattle.std.proofs.lemmas.List.{length-map, take-map, drop-map}
 use Rattle.std.proofs.lemmas.List.Elements.{recursion_from_All}
-use Rattle.fx_designs.specs.Galois.{number, digits, inv, mul, IsField}
+use Rattle.std.specs.Prelude.{IsTrue}
+use Rattle.fx_laws.proofs.Tables.{is_order-field}
+use Rattle.fx_designs.specs.Galois.{is_order, number, digits, inv, mul, IsField}
 use Rattle.fx_designs.specs.Vectors.{IsVector, weight, zeros, scale, dot, combination, vectors_of, same, last_nonzero, is_normal, is_zero}
-use Rattle.fx_designs.specs.Runs.{points, is_constant, runs_of}
+use Rattle.fx_designs.specs.Runs.{points, is_constant}
 use Rattle.fx_designs.specs.Problems.{Dimensions, Requirement, AtResolution, ForEffects}
 use Rattle.fx_designs.specs.Demands.{is_forbidden_word, padded, runs, is_allowed, effect_of}
 use Rattle.fx_laws.proofs.Changes.{mul-zero-either}
@@ -27,13 +29,13 @@ use Rattle.fx_runs.proofs.Constant.{constant_sum}
 use Rattle.fx_vectors.proofs.Normals.{normal-scale, last_nonzero-positive}
 use Rattle.fx_vectors.proofs.Steps.{are_vectors, drop-vector}
 use Rattle.fx_vectors.specs.Question.{CanBeAsked}
-use Rattle.fx_demands.specs.Supports.{forbids, balances}
+use Rattle.fx_demands.specs.Supports.{balances}
 use Rattle.fx_demands.specs.Closing.{closes, is_preferred, is_best, words_of, closing_word}
-use Rattle.fx_demands.specs.Completions.{IsHit, IsClosing, AreHeavy, IsGreatestOf}
+use Rattle.fx_demands.specs.Completions.{IsClosing, AreHeavy, IsGreatestOf}
 use Rattle.fx_demands.proofs.Supports.{bit, zero-effect, is_zero-effect}
 use Rattle.fx_demands.proofs.Balances.{forbids-is, take-vector, not-true, true-not, same-refl, same-true, either_true, point_some}
-use Rattle.fx_demands.proofs.Completing.{mark, weight-cons, weight-append, weight-zeros, weight-split}
-use Rattle.fx_demands.proofs.Closings.{drop-zeros, length-zeros, last-zeros}
+use Rattle.fx_demands.proofs.Completing.{weight-append, weight-zeros, weight-split}
+use Rattle.fx_demands.proofs.Closings.{length-zeros, last-zeros}
 
 -- a word among words
 abbrev pub Among : List ℕ → List (List ℕ) → Type 0
@@ -321,3 +323,53 @@ module _ (d : Dimensions) (f : IsField d.q) (wanted : Requirement) (rows : List 
         scale-zeros : (c i : ℕ) → scale q c (zeros i) ≡ zeros i
         scale-zeros c zero = refl
         scale-zeros c (suc i) = rw (f.mul_zero c, scale-zeros c i) refl
+
+-- what is found is among the items and passes
+found : (p : List ℕ → Bool) (P : List ℕ → Type 0) (xs : List (List ℕ)) (u : List ℕ) → AllByRecursion P xs → find p xs ≡ Some u → P u × (p u ≡ true)
+found p P [] u all e = absurd (cc)
+found p P (x ∷ xs) u all e =
+    let go : (b : Bool) → p x ≡ b → cond b (Some x) (find p xs) ≡ Some u → P u × (p u ≡ true) =
+    λ b. elim b as (λ b. p x ≡ b → cond b (Some x) (find p xs) ≡ Some u → P u × (p u ≡ true)) [
+      | true ↦ λ is h. (let same : x ≡ u = cc in (subst P same all.0, subst (λ y. p y ≡ true) same is))
+      | false ↦ λ is h. found p P xs u all.1 h
+    ] in
+    go (p x) refl e
+
+unpadded : (d : Dimensions) (o : Option (List ℕ)) (w : List ℕ) → option_map (padded d) o ≡ Some w → (u : List ℕ) × (o ≡ Some u) × (w ≡ padded d u)
+unpadded d None w e = absurd (cc)
+unpadded d (Some u) w e = let same : padded d u ≡ w = cc in (u, refl, sym same)
+
+pub chosen : (d : Dimensions) (wanted : Requirement) (rows w : List ℕ) → IsTrue (is_order d.q) → closing_word d wanted rows ≡ Some w
+    → (u : List ℕ) × IsVector d.q (length rows) u × (w ≡ padded d u) × (closes d wanted rows u ≡ true)
+    × ((v : List ℕ) → IsVector d.q (length rows) v → closes d wanted rows v ≡ true → (weight u < weight v) ⊎ ((weight u ≡ weight v) × (number d.q v ≤ number d.q u)))
+unfolding closing_word
+chosen d wanted rows w known e =
+    let f = is_order-field d.q known in
+    let q : ℕ = d.q in
+    let k : ℕ = length rows in
+    let some : 0 < q = omega (arith, f.more_than_one) in
+    let words : List (List ℕ) = words_of d wanted rows in
+    let o = unpadded d (find (is_best q words) words) w e in
+    let u : List ℕ = o.0 in
+    let each = kept (closes d wanted rows) (IsVector q k) (points q k) (recursion_from_All (IsVector q k) (points q k) (all-points q k some (IsVector q k) (λ u h. h))) in
+    let best = found (is_best q words) (λ u. IsVector q k u × (closes d wanted rows u ≡ true)) words u each o.1 in (
+      u,
+      best.0.0,
+      o.2,
+      best.0.1,
+      λ v hv cv.
+          (let there = among_filter (closes d wanted rows) v (points q k) (among_points q k some v hv) cv in
+          let test = all_at (λ x. not (is_preferred q x u)) v words best.1 there in
+          elim (cases_lt (weight u) (weight v)) [
+            | inl less ↦ inl less
+            | inr not_less ↦ elim (cases_lt (weight v) (weight u)) [
+              | inl lighter ↦ absurd (true-not (is_preferred q v u) test (or_left _ _ (lt-ltb (weight v) (weight u) lighter)))
+              | inr not_lighter ↦
+                  let same : weight v ≡ weight u = omega arith in
+                  elim (cases_lt (number q u) (number q v)) [
+                    | inl greater ↦ absurd (true-not (is_preferred q v u) test (or_right _ _ (and_from _ _ (eq-eqb (weight v) (weight u) same) (lt-ltb (number q u) (number q v) greater))))
+                    | inr le ↦ inr (sym same, le)
+                  ]
+            ]
+          ]),
+    )

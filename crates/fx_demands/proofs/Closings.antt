@@ -1,24 +1,22 @@
 -- Closing words by their last code: from the word with a single code on, and which weights they can have.
-use Rattle.std.proofs.Common.{ℕ, ◌≡◌, ◌<◌, ◌≤◌, ◌+◌, ◌-◌, ◌*◌, ◌^◌, ◌⊎◌, zero, suc, Bool, true, false, cond, eqb, ◌||◌, List, [], ◌∷◌, ◌++◌, take, drop, length, get_or, set, refl, sym, subst, ◌∙◌, ap, arith, inl, inr, add-one, drop-cons, length-take, length-drop, take-append-drop}
+use Rattle.std.proofs.Common.{ℕ, ◌≡◌, ◌<◌, ◌≤◌, ◌+◌, ◌-◌, ◌^◌, ◌⊎◌, zero, suc, true, eqb, ◌||◌, List, [], ◌∷◌, take, drop, length, get_or, set, refl, sym, subst, ◌∙◌, ap, arith, inl, inr, add-one, drop-cons, length-take, length-drop}
 use Rattle.std.specs.List.{AllByRecursion}
-use Rattle.std.proofs.lemmas.Bool.{cases_eq, cases_lt, eq-eqb, ne_eqb, eqb-true, both_ways}
-use Rattle.std.proofs.lemmas.Bool.Decides.{nat_tests}
-use Rattle.std.proofs.lemmas.List.{drop-set, take-set, drop-drop}
-use Rattle.std.proofs.Math.Nat.{mul-le-mul_left}
+use Rattle.std.proofs.lemmas.Bool.{cases_eq, eq-eqb, ne_eqb, eqb-true, both_ways}
+use Rattle.std.proofs.lemmas.List.{drop-set, take-set}
 use Rattle.fx_designs.specs.Galois.{number, digits, IsField}
-use Rattle.fx_designs.specs.Vectors.{IsVector, weight, zeros, plus, scale, combination, vectors_of, last_nonzero, is_normal}
+use Rattle.fx_designs.specs.Vectors.{IsVector, weight, zeros, plus, scale, vectors_of, last_nonzero, is_normal}
 use Rattle.fx_designs.specs.Problems.{Dimensions, Requirement}
-use Rattle.fx_designs.specs.Demands.{is_forbidden_word, effect_of}
-use Rattle.fx_laws.proofs.Codes.{digits-vector, digits-number, number-below, number-zeros, number-digits}
+use Rattle.fx_designs.specs.Demands.{effect_of}
+use Rattle.fx_laws.proofs.Codes.{digits-vector, number-digits}
 use Rattle.fx_laws.proofs.Forms.{scale-one}
 use Rattle.fx_laws.proofs.Ranks.{plus-zero}
 use Rattle.fx_vectors.proofs.Steps.{are_vectors}
 use Rattle.fx_vectors.specs.Question.{CanBeAsked}
 use Rattle.fx_demands.specs.Supports.{forbids, balances, estimates, IsMostAlone, IsMostBlocked}
-use Rattle.fx_demands.specs.Completions.{IsHit, IsPartial, IsCompletion, IsGreatestHit, IsNoHit, IsClosing, IsGreatestOf, IsNoneOf, AreShort, AreHeavy}
+use Rattle.fx_demands.specs.Completions.{IsPartial, IsCompletion, IsGreatestHit, IsNoHit, IsClosing, IsGreatestOf, IsNoneOf, AreShort, AreHeavy}
 use Rattle.fx_demands.proofs.Supports.{weight-ones, effect-zero}
-use Rattle.fx_demands.proofs.Balances.{take-vector, forbids-is, either_true}
-use Rattle.fx_demands.proofs.Completing.{mark, weight-cons, weight-split, weight-zeros, weight-length, weightless, number-split, number-by-code, no-combination, from, from-next, clear-before}
+use Rattle.fx_demands.proofs.Balances.{forbids-is, either_true}
+use Rattle.fx_demands.proofs.Completing.{weight-cons, weight-split, weight-zeros, weight-length, weightless, number-by-code, no-combination, from, from-next}
 
 pub drop-zeros : (k n : ℕ) → drop k (zeros n) ≡ zeros (n - k)
 drop-zeros zero n = let e : n - 0 ≡ n = omega arith in rw e refl

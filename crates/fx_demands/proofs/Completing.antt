@@ -1,15 +1,14 @@
 -- Words that are completed from the last row down: what becomes of completions and sums when one more code is chosen.
-use Rattle.std.proofs.Common.{ℕ, ◌≡◌, ◌<◌, ◌≤◌, ◌+◌, ◌-◌, ◌*◌, ◌^◌, ◌⊎◌, zero, suc, Bool, true, false, cond, eqb, ◌||◌, List, [], ◌∷◌, ◌++◌, take, drop, length, get_or, set, replicate, refl, sym, subst, ◌∙◌, ap, arith, inl, inr, add-one, drop-cons, zero-add, length-append, length-take, length-drop, take-append-drop}
+use Rattle.std.proofs.Common.{ℕ, ◌≡◌, ◌<◌, ◌≤◌, ◌+◌, ◌-◌, ◌*◌, ◌^◌, zero, suc, Bool, true, false, cond, eqb, ◌||◌, List, [], ◌∷◌, ◌++◌, take, drop, length, get_or, set, refl, sym, subst, ◌∙◌, ap, arith, inl, inr, add-one, drop-cons, length-take, take-append-drop}
 use Rattle.std.specs.Prelude.{nat_lt}
-use Rattle.std.specs.List.{count_by, AllByRecursion}
 use Rattle.std.specs.Bool.{OnTrue, OnFalse}
-use Rattle.std.proofs.lemmas.Bool.{cases_eq, eq-eqb, ne_eqb, eqb-true}
+use Rattle.std.proofs.lemmas.Bool.{cases_eq, ne_eqb, eqb-true}
 use Rattle.std.proofs.lemmas.Bool.Decides.{nat_tests}
 use Rattle.std.proofs.lemmas.List.{take_more, drop-set, take-set, drop-map, set-get_or}
 use Rattle.std.proofs.lemmas.List.Sums.{sum_by-cons, sum_by-append}
 use Rattle.std.proofs.Math.Nat.{pow-succ', pow-zero, mul-le-mul_left}
 use Rattle.fx_designs.specs.Galois.{number, digits, IsField}
-use Rattle.fx_designs.specs.Vectors.{IsVector, weight, zeros, plus, scale, combination, vectors_of, last_nonzero}
+use Rattle.fx_designs.specs.Vectors.{IsVector, weight, zeros, plus, scale, combination, vectors_of}
 use Rattle.fx_designs.specs.Problems.{Dimensions, Requirement}
 use Rattle.fx_designs.specs.Demands.{is_forbidden_word, effect_of}
 use Rattle.fx_vectors.specs.Question.{CanBeAsked}
@@ -20,8 +19,8 @@ use Rattle.fx_laws.proofs.Codes.{digits-vector, digits-number, number-below, num
 use Rattle.fx_laws.proofs.Ranks.{zeros-plus, number-same}
 use Rattle.fx_laws.proofs.Reorders.{plus-comm}
 use Rattle.fx_laws.proofs.Space.{AreVectors, combination-vector, zeros-vector}
-use Rattle.fx_vectors.proofs.Steps.{are_vectors, drop-vector}
-use Rattle.fx_demands.specs.Completions.{IsHit, IsPartial, IsCompletion, IsGreatestHit, IsNoHit, AreBelow}
+use Rattle.fx_vectors.proofs.Steps.{are_vectors}
+use Rattle.fx_demands.specs.Completions.{IsPartial, IsCompletion, IsGreatestHit, IsNoHit, AreBelow}
 use Rattle.fx_demands.proofs.Balances.{take-vector, forbids-is, either_true}
 use Rattle.fx_demands.proofs.Digits.{sum_of}
 

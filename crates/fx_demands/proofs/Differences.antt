@@ -1,11 +1,10 @@
 -- Which vectors are differences of vectors of two effects: those with the supports that `differs` tells.
-use Rattle.std.proofs.Common.{ℕ, ◌≡◌, ◌<◌, ◌≤◌, ◌+◌, ◌-◌, ◌*◌, ◌/◌, ◌%◌, ◌^◌, ◌⊎◌, zero, suc, Bool, true, false, cond, eqb, not, ◌&&◌, ◌||◌, List, [], ◌∷◌, map, length, refl, sym, subst, ◌∙◌, ap, arith, inl, inr, zero-add}
+use Rattle.std.proofs.Common.{ℕ, ◌≡◌, ◌<◌, ◌+◌, ◌*◌, ◌/◌, ◌%◌, ◌^◌, zero, suc, Bool, true, false, eqb, ◌&&◌, List, [], ◌∷◌, length, refl, sym, subst, ◌∙◌, ap, arith, inl, inr}
 use Rattle.std.specs.Prelude.{bit_or, bit_xor}
-use Rattle.std.proofs.lemmas.Bool.{cases_eq, eq-eqb, ne_eqb, eqb-true, both_ways, and_parts, and_from}
-use Rattle.std.proofs.lemmas.Bool.Decides.{nat_tests}
+use Rattle.std.proofs.lemmas.Bool.{cases_eq, eq-eqb, ne_eqb, both_ways, and_parts, and_from}
 use Rattle.std.proofs.lemmas.Nat.{or_lt, xor_lt, or_block, xor_block}
-use Rattle.fx_designs.specs.Galois.{add, mul, neg, IsField, prime_of, degree_of, reduction_of}
-use Rattle.fx_designs.specs.Vectors.{IsVector, minus, plus, scale}
+use Rattle.fx_designs.specs.Galois.{add, mul, neg, IsField}
+use Rattle.fx_designs.specs.Vectors.{IsVector, minus}
 use Rattle.fx_designs.specs.Demands.{effect_of}
 use Rattle.fx_laws.proofs.Linear.{zero-add-code}
 use Rattle.fx_laws.proofs.Changes.{mul-zero-either}
@@ -247,7 +246,7 @@ module _ (q : ℕ) (f : IsField q) where
   split (suc m) e g (y ∷ x) hx he hg d =
       let e_is : e ≡ e % 2 + 2 * (e / 2) = omega arith in
       let g_is : g ≡ g % 2 + 2 * (g / 2) = omega arith in
-      let parts = and_parts _ _ (sym (differs-cons q (e % 2) (g % 2) (bit y) (e / 2) (g / 2) (effect_of x) (omega arith) (omega arith) (bit-small y))
+      let parts = and_parts (differs q (e % 2) (g % 2) (bit y)) (differs q (e / 2) (g / 2) (effect_of x)) (sym (differs-cons q (e % 2) (g % 2) (bit y) (e / 2) (g / 2) (effect_of x) (omega arith) (omega arith) (bit-small y))
       ∙ subst (λ (k : ℕ). differs q (e % 2 + 2 * (e / 2)) k (bit y + 2 * effect_of x) ≡ true) g_is (subst (λ (k : ℕ). differs q k g (bit y + 2 * effect_of x) ≡ true) e_is d)) in
       let hx' : IsVector q m x = record { len = (let l = hx.len in omega arith); codes = hx.codes.1 } in
       let c = code_split (e % 2) (g % 2) y (omega arith) (omega arith) hx.codes.0 parts.0 in

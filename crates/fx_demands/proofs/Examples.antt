@@ -1,5 +1,5 @@
 -- Small cases of the definitions, computed.
-use Rattle.std.proofs.Common.{◌≡◌, true, false, [], ◌∷◌, refl, Some, None}
+use Rattle.std.proofs.Common.{◌≡◌, [], ◌∷◌, refl, Some, None}
 use Rattle.std.specs.Int.Count.{ones}
 use Rattle.fx_designs.specs.Galois.{add, mul, neg, prime_of, degree_of, reduction_of}
 use Rattle.fx_designs.specs.Runs.{runs_of, is_constant}

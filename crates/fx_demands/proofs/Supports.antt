@@ -1,12 +1,11 @@
 -- Supports: what the weight and the zero of a vector say of it, and lists of effects by their numbers.
-use Rattle.std.proofs.Common.{ℕ, ◌≡◌, ◌<◌, ◌≤◌, ◌+◌, ◌-◌, ◌*◌, ◌/◌, ◌%◌, ◌^◌, ◌⊎◌, zero, suc, Bool, true, false, cond, eqb, leb, ltb, not, ◌&&◌, ◌||◌, List, [], ◌∷◌, map, drop, take, length, get_or, refl, sym, subst, ◌∙◌, ap, arith, inl, inr}
+use Rattle.std.proofs.Common.{ℕ, ◌≡◌, ◌<◌, ◌+◌, ◌*◌, ◌^◌, zero, suc, Bool, cond, eqb, ◌||◌, List, [], ◌∷◌, map, length, refl, ◌∙◌, ap, arith, inl, inr}
 use Rattle.std.specs.Prelude.{count_ones, nat_lt}
-use Rattle.std.specs.List.{list_any, count_by}
+use Rattle.std.specs.List.{list_any}
 use Rattle.std.specs.Int.Count.{ones, ones_cat}
-use Rattle.std.proofs.lemmas.Bool.{cases_eq, eq-eqb, ne_eqb}
+use Rattle.std.proofs.lemmas.Bool.{cases_eq, ne_eqb}
 use Rattle.std.proofs.lemmas.Bool.Decides.{nat_tests}
 use Rattle.std.proofs.lemmas.List.Sums.{sum_by-cons}
-use Rattle.fx_designs.specs.Galois.{number}
 use Rattle.fx_designs.specs.Vectors.{weight, is_zero, IsVector}
 use Rattle.fx_designs.specs.Demands.{effect_of}
 use Rattle.fx_laws.proofs.Codes.{number-below}

@@ -1,8 +1,8 @@
 -- How many factors a forbidden vector can have.
-use Rattle.std.proofs.Common.{ℕ, ◌≡◌, ◌<◌, ◌≤◌, ◌+◌, ◌-◌, ◌*◌, ◌/◌, ◌%◌, ◌^◌, ◌⊎◌, zero, suc, Bool, true, false, cond, eqb, ltb, leb, not, ◌&&◌, ◌||◌, List, [], ◌∷◌, map, refl, sym, subst, ◌∙◌, ap, arith, inl, inr, lit≤}
+use Rattle.std.proofs.Common.{ℕ, ◌≡◌, ◌<◌, ◌≤◌, ◌+◌, ◌-◌, ◌*◌, ◌/◌, ◌%◌, ◌^◌, zero, suc, true, eqb, ltb, leb, not, List, [], ◌∷◌, refl, subst, ◌∙◌, ap, arith, inl, inr, lit≤}
 use Rattle.std.specs.Prelude.{count_ones, bit_or, bit_xor, All}
 use Rattle.std.specs.List.{list_any, AllByRecursion}
-use Rattle.std.specs.Int.Count.{ones, ones_cat, ones-le}
+use Rattle.std.specs.Int.Count.{ones, ones_cat}
 use Rattle.std.proofs.lemmas.Bool.{cases_eq, eq-eqb, ne_eqb, eqb-true, ltb-true, leb-true, and_parts}
 use Rattle.std.proofs.lemmas.Nat.{or_lt, xor_lt, or_block, xor_block}
 use Rattle.std.proofs.lemmas.List.Elements.{recursion_from_All}
@@ -12,7 +12,7 @@ use Rattle.fx_vectors.specs.declared.effect.Effect.{Effect}
 use Rattle.fx_designs.specs.Problems.{AtResolution, ForEffects}
 use Rattle.fx_demands.specs.Supports.{differs, differs_from_some, balances, estimates, IsMostAlone, IsMostBlocked}
 use Rattle.fx_demands.proofs.Positions.{halves}
-use Rattle.fx_demands.proofs.Balances.{some_item, some_member, either_true}
+use Rattle.fx_demands.proofs.Balances.{some_item, either_true}
 
 -- a number is below its power of two
 below-pow : (n : ℕ) → n < 2 ^ n

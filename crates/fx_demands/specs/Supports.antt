@@ -1,10 +1,9 @@
 -- What is forbidden, told from where a vector is not zero. The support of a vector over the factors is written as an effect:
 -- the sum of 2^(i-1) over the factors i where the vector is not zero.
-use Rattle.std.specs.Prelude.{ℕ, ◌≡◌, ◌≤◌, true, ◌==◌, ◌-◌, ◌/◌, ◌&&◌, ◌||◌, not, nat_lt, nat_le, Bool, if◌then◌else◌, List, take, drop, count_ones, bit_or, bit_xor}
+use Rattle.std.specs.Prelude.{ℕ, ◌≡◌, ◌≤◌, true, ◌==◌, ◌-◌, ◌/◌, ◌&&◌, ◌||◌, not, nat_lt, nat_le, Bool, if◌then◌else◌, List, count_ones, bit_or, bit_xor}
 use Rattle.std.specs.List.{list_any}
 use Rattle.fx_designs.specs.Vectors.{is_zero}
-use Rattle.fx_designs.specs.Problems.{Requirement, AtResolution, ForEffects, Dimensions}
-use Rattle.fx_designs.specs.Demands.{effect_of}
+use Rattle.fx_designs.specs.Problems.{Requirement, AtResolution, ForEffects}
 
 -- Whether a vector with the support x can be the difference of a vector of the effect u and one of the effect v, where 0
 -- stands for the zero vector. At two levels both are 1 on the factors that they share. Else they can have any two codes

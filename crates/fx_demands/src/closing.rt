@@ -1,3 +1,14 @@
+//! The closing word of a prefix, and whether there is one.
+//!
+//! The words are tried by weight, the lightest first. Of a weight the place of the last code is
+//! chosen first, from the last row down, and then the codes before it, each from the greatest down,
+//! so that the first hit is the greatest. For a prefix of k rows that makes at most C(k, w)
+//! (q-1)^(w-1) words of weight w, where w goes to the least closing word's weight, or else to the
+//! greatest weight of a forbidden word: under a resolution r, to r-1 without blocks; for effects, to
+//! the factors of the two widest. With a block part that is not zero, at most (r-1)/2 factors are
+//! tried, or those of the widest effect to be estimated. A word costs a sum of two rows, at two
+//! levels an exclusive or; one with the sum zero besides, for effects, a look at each pair of them.
+
 ghost use Rattle.std.specs.Prelude.{ℕ, ◌≡◌, ◌+◌, ◌<◌, ◌≤◌, not, IfSome, length, take, drop};
 ghost use Rattle.std.specs.Bool.{OnTrue, OnFalse};
 ghost use Rattle.std.specs.Option.{IfNone, is_some};

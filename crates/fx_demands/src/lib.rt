@@ -6,6 +6,7 @@ mod closing;
 mod effect_order;
 mod effect_stop;
 mod forbidden;
+mod laws;
 mod pairs;
 mod row_sums;
 #[cfg(test)]
@@ -14,5 +15,6 @@ mod unions;
 
 pub use effect_stop::EffectStop;
 pub use forbidden::Forbidden;
+pub use laws::{bars_in_words, closing_word_in_words};
 pub use pairs::pair_count;
 pub use unions::bars;

@@ -1,10 +1,6 @@
-use Rattle.std.proofs.Common.{◌≡◌, ◌<◌, ◌+◌, ◌-◌, ◌/◌, ◌%◌, ◌^◌, arith, refl, sym, ◌∙◌, zero-add}
-use Rattle.std.specs.Prelude.{nat_lt}
+use Rattle.std.proofs.Common.{◌≡◌, ◌+◌, ◌-◌, arith, refl, sym, ◌∙◌}
 use Rattle.std.proofs.lemmas.Bool.Decides.{nat_tests}
-use Rattle.std.proofs.lemmas.Bool.{eq-eqb}
-use Rattle.std.proofs.Math.Nat.{pow-suc}
-use Rattle.fx_vectors.specs.Effects.{is_earlier, factors_of}
-use Rattle.fx_demands.proofs.Positions.{positions, factors-positions, first_apart, first_apart-back, bit_alike, halves, no_bits}
+use Rattle.fx_demands.proofs.Positions.{factors-positions, first_apart, first_apart-back, bit_alike, halves, no_bits}
 use Rattle.fx_demands.proofs.effect_order.is_earlier.Goals as goal
 
 pub loop-init : goal.loop-init

@@ -1,5 +1,4 @@
-use Rattle.std.proofs.Common.{◌≡◌, ◌∙◌, sym, refl, true, false, ◌||◌, Bool, ap, ℕ}
-use Rattle.fx_vectors.specs.Effects.{numbers_of}
+use Rattle.std.proofs.Common.{◌∙◌, sym, refl, ℕ}
 use Rattle.fx_demands.specs.Supports.{differs}
 use Rattle.fx_demands.proofs.Supports.{any-numbers}
 use Rattle.fx_demands.proofs.forbidden.differs_from_some.Goals as goal

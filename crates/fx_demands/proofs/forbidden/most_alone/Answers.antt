@@ -1,7 +1,4 @@
-use Rattle.std.proofs.Common.{◌≡◌, ◌∙◌, ◌+◌, ◌-◌, ℕ, arith, sym, subst}
-use Rattle.fx_vectors.specs.declared.question.Demands.{Demands}
-use Rattle.fx_vectors.specs.Question.{requirement_of}
-use Rattle.fx_demands.specs.Supports.{IsMostAlone}
+use Rattle.std.proofs.Common.{◌+◌, arith}
 use Rattle.fx_demands.proofs.Widths.{alone_at_resolution, alone_for_effects}
 use Rattle.fx_demands.proofs.forbidden.most_alone.Goals as goal
 

@@ -1,4 +1,3 @@
-use Rattle.std.proofs.Common.{◌≡◌, ◌∙◌}
 use Rattle.fx_demands.proofs.Widths.{blocked_at_resolution, blocked_for_effects}
 use Rattle.fx_demands.proofs.forbidden.most_blocked.Goals as goal
 

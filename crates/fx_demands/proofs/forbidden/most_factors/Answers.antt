@@ -1,4 +1,4 @@
-use Rattle.std.proofs.Common.{◌≡◌, ◌<◌, ◌≤◌, ◌^◌, ℕ, List, arith, take, subst, ◌∙◌, get_or}
+use Rattle.std.proofs.Common.{◌≡◌, ◌<◌, ◌≤◌, ◌^◌, arith, take, subst, ◌∙◌, get_or}
 use Rattle.std.specs.Prelude.{All, count_ones}
 use Rattle.std.specs.Int.Count.{ones-le}
 use Rattle.std.proofs.lemmas.List.{take_all}

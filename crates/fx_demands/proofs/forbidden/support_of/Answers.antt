@@ -1,8 +1,7 @@
-use Rattle.std.proofs.Common.{◌≡◌, ◌<◌, ◌≤◌, ◌+◌, ◌-◌, ◌*◌, ◌^◌, ◌∙◌, ℕ, List, ◌∷◌, take, drop, length, get_or, arith, sym, ap, refl, inl, inr, eqb, not, suc, add-one, drop-cons, get_or-take, length-take}
+use Rattle.std.proofs.Common.{◌≡◌, ◌<◌, ◌≤◌, ◌+◌, ◌-◌, ◌*◌, ◌∙◌, ℕ, List, ◌∷◌, take, drop, length, get_or, arith, sym, ap, refl, inl, inr, eqb, not, suc, drop-cons, get_or-take, length-take}
 use mir.Val.{bool_byte}
 use Rattle.std.proofs.Math.Nat.{pow-suc}
 use Rattle.std.proofs.lemmas.Bool.{cases_eq, ne_eqb}
-use Rattle.std.proofs.lemmas.Bool.Decides.{nat_tests}
 use Rattle.fx_designs.specs.Demands.{effect_of}
 use Rattle.fx_demands.proofs.Supports.{bit, bit-small}
 use Rattle.fx_demands.proofs.forbidden.support_of.Goals as goal

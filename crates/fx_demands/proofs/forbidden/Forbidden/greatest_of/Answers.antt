@@ -1,4 +1,4 @@
-use Rattle.std.proofs.Common.{◌≡◌, ◌<◌, ◌≤◌, ◌+◌, ◌-◌, ◌∙◌, ℕ, List, ◌∷◌, length, take, drop, set, get_or, arith, sym, subst, ap, refl}
+use Rattle.std.proofs.Common.{◌≡◌, ◌<◌, ◌+◌, ◌-◌, ◌∙◌, ℕ, List, ◌∷◌, length, take, drop, set, arith, sym, subst, ap}
 use Rattle.fx_designs.specs.Galois.{IsField}
 use Rattle.fx_designs.specs.Vectors.{IsVector, zeros}
 use Rattle.fx_designs.specs.Problems.{Dimensions, Requirement}
@@ -9,7 +9,7 @@ use Rattle.fx_vectors.specs.Shape.{dimensions_of}
 use Rattle.fx_vectors.specs.Question.{requirement_of}
 use Rattle.fx_vectors.specs.declared.shape.Shape.{Shape}
 use Rattle.fx_demands.specs.Completions.{IsPartial, IsGreatestHit, IsNoHit, AreShort}
-use Rattle.fx_demands.proofs.Completing.{set-over, set-zero, clear-code}
+use Rattle.fx_demands.proofs.Completing.{set-over, set-zero}
 use Rattle.fx_demands.proofs.Closings.{short_first, first-begins, partial_first, greatest_closing, short_less, none_short, none_alone, take-zeros}
 use Rattle.fx_demands.proofs.forbidden.Forbidden.greatest_of.Goals as goal
 use Rattle.fx_demands.proofs.forbidden.Forbidden.greatest_of.Goals.{After-shape-shape, After-zero-word, After-set}

@@ -1,4 +1,4 @@
-use Rattle.std.proofs.Common.{◌≡◌, ◌∙◌, ◌+◌, ℕ, List, Bool, true, false, cond, eqb, ◌||◌, take, drop, sym, subst, refl, ap}
+use Rattle.std.proofs.Common.{◌≡◌, ◌∙◌, ◌+◌, ℕ, List, Bool, cond, eqb, ◌||◌, take, drop, sym, subst, ap}
 use Rattle.std.proofs.lemmas.Bool.{eq-eqb, ne_eqb}
 use Rattle.fx_designs.specs.Vectors.{IsVector, is_zero}
 use Rattle.fx_designs.specs.Demands.{effect_of, is_forbidden_word}
