@@ -1,0 +1,115 @@
+-- How many factors a forbidden vector can have.
+use Rattle.std.proofs.Common.{ℕ, ◌≡◌, ◌<◌, ◌≤◌, ◌+◌, ◌-◌, ◌*◌, ◌/◌, ◌%◌, ◌^◌, zero, suc, true, eqb, ltb, leb, not, List, [], ◌∷◌, refl, subst, ◌∙◌, ap, arith, inl, inr, lit≤}
+use Rattle.std.specs.Prelude.{count_ones, bit_or, bit_xor, All}
+use Rattle.std.specs.List.{list_any, AllByRecursion}
+use Rattle.std.specs.Int.Count.{ones, ones_cat}
+use Rattle.std.proofs.lemmas.Bool.{cases_eq, eq-eqb, ne_eqb, eqb-true, ltb-true, leb-true, and_parts}
+use Rattle.std.proofs.lemmas.Nat.{or_lt, xor_lt, or_block, xor_block}
+use Rattle.std.proofs.lemmas.List.Elements.{recursion_from_All}
+use Rattle.std.proofs.Math.Nat.{pow-suc, pow-le-pow_right}
+use Rattle.fx_vectors.specs.Effects.{numbers_of}
+use Rattle.fx_vectors.specs.declared.effect.Effect.{Effect}
+use Rattle.fx_designs.specs.Problems.{AtResolution, ForEffects}
+use Rattle.fx_demands.specs.Supports.{differs, differs_from_some, balances, estimates, IsMostAlone, IsMostBlocked}
+use Rattle.fx_demands.proofs.Positions.{halves}
+use Rattle.fx_demands.proofs.Balances.{some_item, either_true}
+
+-- a number is below its power of two
+below-pow : (n : ℕ) → n < 2 ^ n
+below-pow zero = omega arith
+below-pow (suc n) = let rest = below-pow n in rw (pow-suc 2 n) (omega arith)
+
+bits-or : (b c : ℕ) → b < 2 → c < 2 → (count_ones b ≤ count_ones (bit_or b c)) × (count_ones (bit_or b c) ≤ count_ones b + count_ones c) × (count_ones (bit_xor b c) ≤ count_ones b + count_ones c)
+unfolding ones
+bits-or zero zero hb hc = (lit≤ tt, lit≤ tt, lit≤ tt)
+bits-or zero (suc zero) hb hc = (lit≤ tt, lit≤ tt, lit≤ tt)
+bits-or zero (suc (suc c)) hb hc = absurd (omega arith)
+bits-or (suc zero) zero hb hc = (lit≤ tt, lit≤ tt, lit≤ tt)
+bits-or (suc zero) (suc zero) hb hc = (lit≤ tt, lit≤ tt, lit≤ tt)
+bits-or (suc zero) (suc (suc c)) hb hc = absurd (omega arith)
+bits-or (suc (suc b)) c hb hc = absurd (omega arith)
+
+-- a union has at least the factors of its first part, and at most those of both; so has what only one of them has
+ones-both : (k u v : ℕ) → u < 2 ^ k → v < 2 ^ k → (count_ones u ≤ count_ones (bit_or u v)) × (count_ones (bit_or u v) ≤ count_ones u + count_ones v) × (count_ones (bit_xor u v) ≤ count_ones u + count_ones v)
+unfolding ones
+ones-both zero u v hu hv =
+    let zu : u ≡ 0 = omega arith in
+    let zv : v ≡ 0 = omega arith in
+    rw (zu, zv) (lit≤ tt, lit≤ tt, lit≤ tt)
+ones-both (suc k) u v hu hv =
+    let rest = ones-both k (u / 2) (v / 2) (halves u (suc k) k refl hu) (halves v (suc k) k refl hv) in
+    let last = bits-or (u % 2) (v % 2) (omega arith) (omega arith) in
+    let u_is : u ≡ u / 2 * 2 ^ 1 + u % 2 = omega arith in
+    let v_is : v ≡ v / 2 * 2 ^ 1 + v % 2 = omega arith in
+    let or_is : bit_or u v ≡ bit_or (u / 2) (v / 2) * 2 ^ 1 + bit_or (u % 2) (v % 2) =
+    ap (λ (x : ℕ). bit_or x v) u_is ∙ ap (λ (x : ℕ). bit_or (u / 2 * 2 ^ 1 + u % 2) x) v_is ∙ or_block 1 (u / 2) (v / 2) (u % 2) (v % 2) (omega arith) (omega arith) in
+    let xor_is : bit_xor u v ≡ bit_xor (u / 2) (v / 2) * 2 ^ 1 + bit_xor (u % 2) (v % 2) =
+    ap (λ (x : ℕ). bit_xor x v) u_is ∙ ap (λ (x : ℕ). bit_xor (u / 2 * 2 ^ 1 + u % 2) x) v_is ∙ xor_block 1 (u / 2) (v / 2) (u % 2) (v % 2) (omega arith) (omega arith) in
+    let ones_u : count_ones u ≡ count_ones (u / 2) + count_ones (u % 2) = ap count_ones u_is ∙ ones_cat 1 (u / 2) (u % 2) (omega arith) in
+    let ones_v : count_ones v ≡ count_ones (v / 2) + count_ones (v % 2) = ap count_ones v_is ∙ ones_cat 1 (v / 2) (v % 2) (omega arith) in
+    let ones_or : count_ones (bit_or u v) ≡ count_ones (bit_or (u / 2) (v / 2)) + count_ones (bit_or (u % 2) (v % 2)) =
+    ap count_ones or_is ∙ ones_cat 1 (bit_or (u / 2) (v / 2)) (bit_or (u % 2) (v % 2)) (or_lt 1 (u % 2) (v % 2) (omega arith) (omega arith)) in
+    let ones_xor : count_ones (bit_xor u v) ≡ count_ones (bit_xor (u / 2) (v / 2)) + count_ones (bit_xor (u % 2) (v % 2)) =
+    ap count_ones xor_is ∙ ones_cat 1 (bit_xor (u / 2) (v / 2)) (bit_xor (u % 2) (v % 2)) (xor_lt 1 (u % 2) (v % 2) (omega arith) (omega arith)) in
+    (omega (arith, rest.0, last.0), omega (arith, rest.1, last.1), omega (arith, rest.2, last.2))
+
+-- of two numbers at any width
+both-at : (u v : ℕ) → (count_ones u ≤ count_ones (bit_or u v)) × (count_ones (bit_or u v) ≤ count_ones u + count_ones v) × (count_ones (bit_xor u v) ≤ count_ones u + count_ones v)
+both-at u v =
+    let hu : 2 ^ u ≤ 2 ^ (u + v) = pow-le-pow_right (omega arith) (omega arith) in
+    let hv : 2 ^ v ≤ 2 ^ (u + v) = pow-le-pow_right (omega arith) (omega arith) in
+    ones-both (u + v) u v (omega (arith, below-pow u)) (omega (arith, below-pow v))
+
+differs-width : (q u v x : ℕ) → differs q u v x ≡ true → count_ones x ≤ count_ones u + count_ones v
+differs-width q u v x e =
+    elim (cases_eq q 2) [
+      | inl two ↦
+          let is : x ≡ bit_xor u v = eqb-true x (bit_xor u v) (rw (eq-eqb q 2 two) at e) in
+          rw is (both-at u v).2
+      | inr more ↦
+          let parts = and_parts (eqb (bit_or x (bit_xor u v)) x) (eqb (bit_or x (bit_or u v)) (bit_or u v)) (rw (ne_eqb q 2 more) at e) in
+          let is : bit_or x (bit_or u v) ≡ bit_or u v = eqb-true _ _ parts.1 in
+          let same = ap count_ones is in
+          omega (arith, (both-at x (bit_or u v)).0, (both-at u v).1)
+    ]
+
+-- none of the effects has more than n factors
+few : (n : ℕ) (effects : List Effect) → All (λ e. count_ones e.0 ≤ n) effects → AllByRecursion (λ e. count_ones e ≤ n) (numbers_of effects)
+few n effects h = numbers n effects (recursion_from_All (λ (e : Effect). count_ones e.0 ≤ n) effects h)
+  where
+    numbers : (n : ℕ) (effects : List Effect) → AllByRecursion (λ (e : Effect). count_ones e.0 ≤ n) effects → AllByRecursion (λ e. count_ones e ≤ n) (numbers_of effects)
+    numbers n [] h = tt
+    numbers n (e ∷ effects) h = (h.0, numbers n effects h.1)
+
+pub alone_at_resolution : (r : ℕ) → IsMostAlone (AtResolution r) (r - 1)
+unfolding balances
+alone_at_resolution r = record { most = λ q x e. (let p = and_parts (ltb 0 (count_ones x)) (ltb (count_ones x) r) e in omega (arith, ltb-true _ _ p.1)) }
+
+pub blocked_at_resolution : (r : ℕ) → IsMostBlocked (AtResolution r) ((r - 1) / 2)
+unfolding estimates
+blocked_at_resolution r = record { most = λ x e. (let p = and_parts (ltb 0 (count_ones x)) (leb (count_ones x) ((r - 1) / 2)) e in leb-true _ _ p.1) }
+
+pub blocked_for_effects : (n : ℕ) (estimate besides : List Effect) → All (λ e. count_ones e.0 ≤ n) estimate → IsMostBlocked (ForEffects (numbers_of estimate) (numbers_of besides)) n
+unfolding estimates
+blocked_for_effects n estimate besides h = record {
+  most = λ x e.
+      let m = some_item (λ y. eqb y x) (λ y. count_ones y ≤ n) (numbers_of estimate) (few n estimate h) (and_parts (not (eqb x 0)) (list_any (λ y. eqb y x) (numbers_of estimate)) e).1 in
+      subst (λ (y : ℕ). count_ones y ≤ n) (eqb-true m.0 x m.2) m.1;
+}
+
+pub alone_for_effects : (n k : ℕ) (estimate besides : List Effect) → All (λ e. count_ones e.0 ≤ n) estimate → All (λ e. count_ones e.0 ≤ k) besides → (most : ℕ) → n + n ≤ most → n + k ≤ most
+    → IsMostAlone (ForEffects (numbers_of estimate) (numbers_of besides)) most
+unfolding balances ones
+alone_for_effects n k estimate besides he hb most wide wide' = record {
+  most = λ q x e.
+      let E : List ℕ = numbers_of estimate in
+      let B : List ℕ = numbers_of besides in
+      let m = some_item (λ u. differs_from_some q E B x u) (λ u. count_ones u ≤ n) E (few n estimate he) (and_parts (not (eqb x 0)) (list_any (λ u. differs_from_some q E B x u) E) e).1 in
+      elim (either_true (differs q m.0 0 x) _ m.2) [
+        | inl none ↦ let none' : count_ones 0 ≡ 0 = refl in omega (arith, differs-width q m.0 0 x none, m.1)
+        | inr others ↦ elim (either_true (list_any (λ v. differs q m.0 v x) E) (list_any (λ v. differs q m.0 v x) B) others) [
+          | inl in_estimate ↦ let g = some_item (λ v. differs q m.0 v x) (λ u. count_ones u ≤ n) E (few n estimate he) in_estimate in omega (arith, differs-width q m.0 g.0 x g.2, m.1, g.1)
+          | inr in_besides ↦ let g = some_item (λ v. differs q m.0 v x) (λ u. count_ones u ≤ k) B (few k besides hb) in_besides in omega (arith, differs-width q m.0 g.0 x g.2, m.1, g.1)
+        ]
+      ];
+}
