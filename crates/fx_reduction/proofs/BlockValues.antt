@@ -1,0 +1,76 @@
+-- How often each tuple of block values comes: equally often exactly where the block rows are independent.
+use Rattle.std.proofs.Common.{ℕ, ◌≡◌, ◌<◌, ◌≤◌, ◌^◌, cond, eqb, List, length, drop, sym, subst, ◌∙◌, ap, arith, inl, inr, le_trans}
+use Rattle.std.specs.List.{sum_by, count_by}
+use Rattle.std.proofs.lemmas.List.{drop-map}
+use Rattle.std.proofs.lemmas.Bool.{cases_eq, eq-eqb, ne_eqb}
+use Rattle.fx_designs.specs.Galois.{neg, IsField, number, digits}
+use Rattle.fx_designs.specs.Vectors.{dot, plus, scale, zeros, combination, IsVector}
+use Rattle.fx_designs.specs.Runs.{points, levels_at, runs_of}
+use Rattle.fx_laws.proofs.Linear.{dot-levels, dot-zeros, levels-plus, levels-zeros}
+use Rattle.fx_laws.proofs.Codes.{digits-vector, digits-number, number-digits, number-below, number-zeros}
+use Rattle.fx_laws.proofs.Sums.{sum_by_map, sum_by-ext}
+use Rattle.fx_laws.proofs.Space.{AreVectors, zeros-vector, plus-vector, scale-vector}
+use Rattle.fx_laws.proofs.Separation.{nonzero-point}
+use Rattle.fx_laws.proofs.Shift.{shift}
+use Rattle.fx_laws.proofs.Blocks.{levels-vector}
+use Rattle.fx_reduction.specs.Meets.{AreBlocksEven}
+use Rattle.fx_reduction.proofs.Cancelling.{plus-over, cancelled}
+use Rattle.fx_reduction.proofs.Independent.{AreIndependent, takes}
+use Rattle.fx_reduction.proofs.Terms.{term, no_terms}
+
+module _ (q m s t : ℕ) (f : IsField q) (rows : List (List ℕ)) (lb : length (drop s rows) ≡ t) (hb : AreVectors q m (drop s rows)) where
+  abbrev pub blocks_at : List ℕ → List ℕ
+  blocks_at p = levels_at q (drop s rows) p
+
+  block_count : (y : ℕ) → count_by (λ x. eqb (number q (drop s x)) y) (runs_of q m rows) ≡ sum_by (λ p. cond (eqb (number q (blocks_at p)) y) 1 0) (points q m)
+  unfolding runs_of
+  block_count y =
+      sum_by_map (λ x. cond (eqb (number q (drop s x)) y) 1 0) (λ p. levels_at q rows p) (points q m)
+      ∙ sum_by-ext _ _ (points q m) (λ p. ap (λ v. cond (eqb (number q v) y) 1 0) (drop-map (λ r. dot q r p) s rows))
+
+  pub blocks-vector : (p : List ℕ) → IsVector q t (blocks_at p)
+  blocks-vector p = subst (λ n. IsVector q n (blocks_at p)) lb (levels-vector q f (drop s rows) p)
+
+  pub even_blocks : AreIndependent q m f (drop s rows) → AreBlocksEven q s t (runs_of q m rows)
+  even_blocks free y z hy hz =
+      let some : 0 < q = omega (arith, f.more_than_one) in
+      let dy : List ℕ = digits q t y in
+      let dz : List ℕ = digits q t z in
+      let vy : IsVector q t dy = digits-vector q t y some in
+      let vz : IsVector q t dz = digits-vector q t z some in
+      let D : List ℕ = plus q dy (scale q (neg q 1) dz) in
+      let vD : IsVector q t D = plus-vector q t f dy _ vy (scale-vector q t f (neg q 1) dz vz) in
+      let found = takes q m f (drop s rows) D hb (subst (λ n. IsVector q n D) (sym lb) vD) free in
+      let turn : (L : List ℕ) → IsVector q t L → eqb (number q (plus q L D)) y ≡ eqb (number q L) z = λ L hL. elim (cases_eq (number q L) z) [
+        | inl e ↦
+            let is : L ≡ dz = sym (digits-number q t L hL) ∙ ap (digits q t) e in
+            eq-eqb _ y (ap (λ v. number q (plus q v D)) is ∙ ap (number q) (plus-over q f t dz dy vz vy) ∙ number-digits q t y some hy) ∙ sym (eq-eqb _ z e)
+        | inr ne ↦ ne_eqb _ y (λ e.
+            let is : plus q L D ≡ plus q dz D = sym (digits-number q t (plus q L D) (plus-vector q t f L D hL vD)) ∙ ap (digits q t) e ∙ sym (plus-over q f t dz dy vz vy) in
+            ne (ap (number q) (cancelled q f t L dz D hL vz vD is) ∙ number-digits q t z some hz)) ∙ sym (ne_eqb _ z ne)
+      ] in
+      block_count y
+      ∙ sym (shift q m f found.0 (λ p. cond (eqb (number q (blocks_at p)) y) 1 0) found.1)
+      ∙ sum_by-ext _ _ (points q m) (λ p. ap (λ v. cond (eqb (number q v) y) 1 0) (levels-plus q f (drop s rows) p found.0 ∙ ap (plus q (blocks_at p)) found.2) ∙ ap (λ b. cond b 1 0) (turn (blocks_at p) (blocks-vector p)))
+      ∙ sym (block_count z)
+
+  pub uneven : AreBlocksEven q s t (runs_of q m rows) → (b : List ℕ) → IsVector q t b → (b ≡ zeros t → ⊥) → combination q m b (drop s rows) ≡ zeros m → ⊥
+  uneven even b hbv some e =
+      elim (nonzero-point q t f b hbv) [
+        | inl z ↦ some z
+        | inr at ↦
+            let v : List ℕ = at.0 in
+            let hv : IsVector q t v = at.1 in
+            let z : ℕ = number q v in
+            let gz : List ℕ → ℕ = λ p. cond (eqb (number q (blocks_at p)) z) 1 0 in
+            let g0 : List ℕ → ℕ = λ p. cond (eqb (number q (blocks_at p)) 0) 1 0 in
+            let none : sum_by gz (points q m) ≡ 0 = no_terms q f m gz (λ p hp. ap (λ b. cond b 1 0) (ne_eqb _ z (λ same.
+            let is : blocks_at p ≡ v = sym (digits-number q t (blocks_at p) (blocks-vector p)) ∙ ap (digits q t) same ∙ digits-number q t v hv in
+            let bad : 0 ≡ 1 = sym (dot-levels q f m b (drop s rows) p ∙ ap (λ w. dot q w p) e ∙ dot-zeros q f m p) ∙ ap (dot q b) is ∙ at.2 in omega arith))) in
+            let one : g0 (zeros m) ≡ 1 = ap (λ v. cond (eqb (number q v) 0) 1 0) (levels-zeros q f (drop s rows) m) ∙ ap (λ n. cond (eqb n 0) 1 0) (number-zeros q (length (drop s rows))) in
+            let there : g0 (zeros m) ≤ sum_by g0 (points q m) = term q f m g0 (zeros m) (zeros-vector q m f) in
+            let wide : 0 < q ^ t = le_trans (omega arith) (number-below q t v hv) in
+            let same : sum_by g0 (points q m) ≡ sum_by gz (points q m) = sym (block_count 0) ∙ even 0 z wide (number-below q t v hv) ∙ block_count z in
+            absurd (omega arith)
+      ]
+

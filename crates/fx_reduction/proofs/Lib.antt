@@ -1,0 +1,6 @@
+pub mod Multiples
+pub mod Forbidden
+pub mod Cancelling
+pub mod Independent
+pub mod Terms
+pub mod BlockValues

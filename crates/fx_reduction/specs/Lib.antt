@@ -1,0 +1,2 @@
+pub mod Forbidden
+pub mod Meets
