@@ -18,18 +18,22 @@ use Rattle.fx_reduction.proofs.Cancelling.{plus-over, cancelled}
 use Rattle.fx_reduction.proofs.Independent.{AreIndependent, takes}
 use Rattle.fx_reduction.proofs.Terms.{term, no_terms}
 
-module _ (q m s t : ℕ) (f : IsField q) (rows : List (List ℕ)) (lb : length (drop s rows) ≡ t) (hb : AreVectors q m (drop s rows)) where
-  abbrev pub blocks_at : List ℕ → List ℕ
-  blocks_at p = levels_at q (drop s rows) p
+-- the block values at a point
+abbrev pub blocks_at : ℕ → ℕ → List (List ℕ) → List ℕ → List ℕ
+blocks_at q s rows p = levels_at q (drop s rows) p
 
-  block_count : (y : ℕ) → count_by (λ x. eqb (number q (drop s x)) y) (runs_of q m rows) ≡ sum_by (λ p. cond (eqb (number q (blocks_at p)) y) 1 0) (points q m)
+module _ (q m s t : ℕ) (f : IsField q) (rows : List (List ℕ)) (lb : length (drop s rows) ≡ t) (hb : AreVectors q m (drop s rows)) where
+  abbrev values : List ℕ → List ℕ
+  values p = blocks_at q s rows p
+
+  block_count : (y : ℕ) → count_by (λ x. eqb (number q (drop s x)) y) (runs_of q m rows) ≡ sum_by (λ p. cond (eqb (number q (values p)) y) 1 0) (points q m)
   unfolding runs_of
   block_count y =
       sum_by_map (λ x. cond (eqb (number q (drop s x)) y) 1 0) (λ p. levels_at q rows p) (points q m)
       ∙ sum_by-ext _ _ (points q m) (λ p. ap (λ v. cond (eqb (number q v) y) 1 0) (drop-map (λ r. dot q r p) s rows))
 
-  pub blocks-vector : (p : List ℕ) → IsVector q t (blocks_at p)
-  blocks-vector p = subst (λ n. IsVector q n (blocks_at p)) lb (levels-vector q f (drop s rows) p)
+  pub blocks-vector : (p : List ℕ) → IsVector q t (values p)
+  blocks-vector p = subst (λ n. IsVector q n (values p)) lb (levels-vector q f (drop s rows) p)
 
   pub even_blocks : AreIndependent q m f (drop s rows) → AreBlocksEven q s t (runs_of q m rows)
   even_blocks free y z hy hz =
@@ -50,8 +54,8 @@ module _ (q m s t : ℕ) (f : IsField q) (rows : List (List ℕ)) (lb : length (
             ne (ap (number q) (cancelled q f t L dz D hL vz vD is) ∙ number-digits q t z some hz)) ∙ sym (ne_eqb _ z ne)
       ] in
       block_count y
-      ∙ sym (shift q m f found.0 (λ p. cond (eqb (number q (blocks_at p)) y) 1 0) found.1)
-      ∙ sum_by-ext _ _ (points q m) (λ p. ap (λ v. cond (eqb (number q v) y) 1 0) (levels-plus q f (drop s rows) p found.0 ∙ ap (plus q (blocks_at p)) found.2) ∙ ap (λ b. cond b 1 0) (turn (blocks_at p) (blocks-vector p)))
+      ∙ sym (shift q m f found.0 (λ p. cond (eqb (number q (values p)) y) 1 0) found.1)
+      ∙ sum_by-ext _ _ (points q m) (λ p. ap (λ v. cond (eqb (number q v) y) 1 0) (levels-plus q f (drop s rows) p found.0 ∙ ap (plus q (values p)) found.2) ∙ ap (λ b. cond b 1 0) (turn (values p) (blocks-vector p)))
       ∙ sym (block_count z)
 
   pub uneven : AreBlocksEven q s t (runs_of q m rows) → (b : List ℕ) → IsVector q t b → (b ≡ zeros t → ⊥) → combination q m b (drop s rows) ≡ zeros m → ⊥
@@ -62,10 +66,10 @@ module _ (q m s t : ℕ) (f : IsField q) (rows : List (List ℕ)) (lb : length (
             let v : List ℕ = at.0 in
             let hv : IsVector q t v = at.1 in
             let z : ℕ = number q v in
-            let gz : List ℕ → ℕ = λ p. cond (eqb (number q (blocks_at p)) z) 1 0 in
-            let g0 : List ℕ → ℕ = λ p. cond (eqb (number q (blocks_at p)) 0) 1 0 in
+            let gz : List ℕ → ℕ = λ p. cond (eqb (number q (values p)) z) 1 0 in
+            let g0 : List ℕ → ℕ = λ p. cond (eqb (number q (values p)) 0) 1 0 in
             let none : sum_by gz (points q m) ≡ 0 = no_terms q f m gz (λ p hp. ap (λ b. cond b 1 0) (ne_eqb _ z (λ same.
-            let is : blocks_at p ≡ v = sym (digits-number q t (blocks_at p) (blocks-vector p)) ∙ ap (digits q t) same ∙ digits-number q t v hv in
+            let is : values p ≡ v = sym (digits-number q t (values p) (blocks-vector p)) ∙ ap (digits q t) same ∙ digits-number q t v hv in
             let bad : 0 ≡ 1 = sym (dot-levels q f m b (drop s rows) p ∙ ap (λ w. dot q w p) e ∙ dot-zeros q f m p) ∙ ap (dot q b) is ∙ at.2 in omega arith))) in
             let one : g0 (zeros m) ≡ 1 = ap (λ v. cond (eqb (number q v) 0) 1 0) (levels-zeros q f (drop s rows) m) ∙ ap (λ n. cond (eqb n 0) 1 0) (number-zeros q (length (drop s rows))) in
             let there : g0 (zeros m) ≤ sum_by g0 (points q m) = term q f m g0 (zeros m) (zeros-vector q m f) in

@@ -4,3 +4,5 @@ pub mod Cancelling
 pub mod Independent
 pub mod Terms
 pub mod BlockValues
+pub mod Balance
+pub mod Allowed
