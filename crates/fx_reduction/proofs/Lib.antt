@@ -6,3 +6,11 @@ pub mod Terms
 pub mod BlockValues
 pub mod Balance
 pub mod Allowed
+pub mod VectorTests
+pub mod ForbiddenTests
+pub mod MeetsTests
+pub mod ConstantTests
+pub mod Patterns
+pub mod Numbers
+pub mod Canonical
+pub mod Reduction

@@ -1,2 +1,4 @@
+pub mod Matrices
 pub mod Forbidden
 pub mod Meets
+pub mod Reduction
