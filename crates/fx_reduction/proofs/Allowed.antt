@@ -1,5 +1,5 @@
 -- Rows meet a requirement exactly where no forbidden vector has zero sum on them.
-use Rattle.std.proofs.Common.{ℕ, ◌≡◌, ◌<◌, ◌≤◌, ◌^◌, List, [], ◌∷◌, length, take, drop, refl, sym, subst, ◌∙◌, ap, ap₂, arith, inl, inr}
+use Rattle.std.proofs.Common.{ℕ, ◌≡◌, ◌<◌, ◌^◌, List, [], ◌∷◌, length, take, drop, refl, sym, subst, ◌∙◌, ap, ap₂, arith, inl, inr}
 use Rattle.std.proofs.lemmas.Bool.{cases_eq}
 use Rattle.fx_designs.specs.Galois.{neg, IsField}
 use Rattle.fx_designs.specs.Vectors.{plus, scale, zeros, combination, IsVector}
@@ -10,7 +10,6 @@ use Rattle.fx_laws.specs.Spans.{InSpan}
 use Rattle.fx_laws.specs.Raises.{IsAllowed}
 use Rattle.fx_laws.proofs.Linear.{dot-scale}
 use Rattle.fx_laws.proofs.Space.{AreVectors, ext, zeros-vector, scale-vector, combination-vector}
-use Rattle.fx_laws.proofs.Separation.{nonzero-point}
 use Rattle.fx_laws.proofs.Ranks.{plus-zero, zeros-plus}
 use Rattle.fx_laws.proofs.Raises.{none-combination, scale-combination}
 use Rattle.fx_laws.proofs.Codes.{number-below}

@@ -1,6 +1,6 @@
 -- A vector over the factors is balanced where its sum is not zero, and inside the blocks where its sum is outside the span
 -- of the block rows; else it is not.
-use Rattle.std.proofs.Common.{ℕ, ◌≡◌, ◌<◌, ◌≤◌, cond, eqb, List, [], ◌∷◌, length, take, drop, refl, sym, subst, ◌∙◌, ap, arith, inl, inr}
+use Rattle.std.proofs.Common.{ℕ, ◌≡◌, ◌≤◌, cond, eqb, List, [], ◌∷◌, length, take, drop, refl, sym, ◌∙◌, ap, arith, inl, inr}
 use Rattle.std.specs.List.{sum_by, count_by}
 use Rattle.std.proofs.lemmas.Bool.{cases_eq, ne_eqb}
 use Rattle.fx_designs.specs.Galois.{IsField, number, digits}
@@ -70,4 +70,3 @@ module _ (q m s t : ℕ) (f : IsField q) (rows : List (List ℕ)) (lb : length (
       let same : sum_by (g 0) (points q m) ≡ sum_by (g 1) (points q m) =
       sym (counted q m s f rows u hu 0 0) ∙ b.same 0 1 (omega (arith, f.more_than_one)) f.more_than_one ∙ counted q m s f rows u hu 0 1 in
       omega arith
-

@@ -77,4 +77,3 @@ module _ (q m s t : ℕ) (f : IsField q) (rows : List (List ℕ)) (lb : length (
             let same : sum_by g0 (points q m) ≡ sum_by gz (points q m) = sym (block_count 0) ∙ even 0 z wide (number-below q t v hv) ∙ block_count z in
             absurd (omega arith)
       ]
-

@@ -27,4 +27,3 @@ module _ (q : ℕ) (f : IsField q) where
   cancelled n v w d hv hw hd e =
       let off : (x : List ℕ) → IsVector q n x → plus q (plus q x d) (scale q (neg q 1) d) ≡ x = λ x hx. plus-assoc q f x d (scale q (neg q 1) d) ∙ ap (plus q x) (negated_twice n d hd) ∙ plus-zero q n f x hx in
       sym (off v hv) ∙ ap (λ x. plus q x (scale q (neg q 1) d)) e ∙ off w hw
-

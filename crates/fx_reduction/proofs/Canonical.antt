@@ -1,5 +1,5 @@
 -- The laws put together on vectors: rows on which no forbidden vector has zero sum can be brought to canonical ones.
-use Rattle.std.proofs.Common.{ℕ, ◌≡◌, ◌<◌, ◌≤◌, List, ◌++◌, length, sym, subst, ◌∙◌, ap, arith, inl}
+use Rattle.std.proofs.Common.{ℕ, ◌≡◌, List, ◌++◌, length, sym, subst, ◌∙◌, ap, arith, inl}
 use Rattle.fx_designs.specs.Galois.{IsField}
 use Rattle.fx_designs.specs.Vectors.{zeros}
 use Rattle.fx_designs.specs.Problems.{Dimensions, Requirement, AtResolution, ForEffects}

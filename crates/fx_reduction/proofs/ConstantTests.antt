@@ -1,7 +1,7 @@
 -- What the test of constant vectors says, and that the words of a pattern are zero sums.
-use Rattle.std.proofs.Common.{ℕ, ◌≡◌, ◌<◌, ◌&&◌, Bool, true, eqb, cond, List, [], ◌∷◌, length, refl, sym, subst, ◌∙◌, ap, ap₂, arith, zero-add}
+use Rattle.std.proofs.Common.{ℕ, ◌≡◌, ◌<◌, ◌&&◌, Bool, true, eqb, cond, List, [], ◌∷◌, length, sym, subst, ◌∙◌, ap, arith, zero-add}
 use Rattle.std.specs.Bool.{Decides}
-use Rattle.std.specs.List.{All, list_all, list_any, range_with_len}
+use Rattle.std.specs.List.{All, list_all}
 use Rattle.std.proofs.lemmas.Bool.{eq-eqb, eqb-true}
 use Rattle.std.proofs.lemmas.List.Folds.{list_any_at}
 use Rattle.std.proofs.lemmas.List.FromFn.{length-range_with_len, get_or-range_with_len}

@@ -1,5 +1,5 @@
 -- What a requirement forbids stays forbidden under the changes of the laws.
-use Rattle.std.proofs.Common.{ℕ, ◌≡◌, ◌<◌, zero, suc, eqb, List, [], ◌∷◌, length, refl, true, sym, subst, ◌∙◌, ap, arith, inl, inr, ◌⊎◌}
+use Rattle.std.proofs.Common.{ℕ, ◌≡◌, zero, suc, eqb, List, ◌∷◌, length, refl, true, sym, subst, ◌∙◌, ap, arith, inl, inr, ◌⊎◌}
 use Rattle.std.specs.List.{list_any}
 use Rattle.fx_designs.specs.Galois.{add, mul, neg, IsField}
 use Rattle.fx_designs.specs.Vectors.{dot, scale, zeros, minus, IsVector, weight}

@@ -1,10 +1,10 @@
 -- What the tests of forbidden vectors say.
-use Rattle.std.proofs.Common.{ℕ, ◌≡◌, ◌≢◌, ◌<◌, ◌≤◌, ◌-◌, ◌/◌, ◌⊎◌, ◌&&◌, ◌||◌, not, Bool, true, false, eqb, List, arith, refl, sym, subst, ◌∙◌, inl, inr}
+use Rattle.std.proofs.Common.{ℕ, ◌≡◌, ◌<◌, ◌-◌, ◌/◌, ◌⊎◌, ◌&&◌, ◌||◌, not, Bool, eqb, List, arith, sym, ◌∙◌, inl, inr}
 use Rattle.std.specs.Bool.{Decides}
 use Rattle.std.specs.Prelude.{nat_lt, nat_le}
 use Rattle.std.specs.List.{list_any}
 use Rattle.std.proofs.lemmas.Bool.{eqb-true, eq-eqb, leb-true, le-leb, cases_Bool, cond-true, cond-false}
-use Rattle.std.proofs.lemmas.Bool.Decides.{Decides-and, Decides-or, Decides-not, Decides-like, Decides-at, Decides-ltb, not_from_Decides}
+use Rattle.std.proofs.lemmas.Bool.Decides.{Decides-and, Decides-or, Decides-not, Decides-like, Decides-ltb, not_from_Decides}
 use Rattle.fx_designs.specs.Galois.{IsField}
 use Rattle.fx_designs.specs.Vectors.{IsVector, weight, is_zero, same, minus, zeros}
 use Rattle.fx_designs.specs.Runs.{points}
@@ -60,8 +60,15 @@ module _ (q s : ℕ) (f : IsField q) (estimate besides : List ℕ) where
         λ h.
             let hu = h.of_first.vector in
             let hv = second-vector q f s estimate besides x h in
-            outer.1 (h.first, hu, (inner h.first).1 (h.second, hv,
-            (both h.first h.second hu hv).1 (record { of_first = h.of_first; of_second = h.of_second; apart = h.apart }, h.is))),
+            outer.1 (
+              h.first,
+              hu,
+              (inner h.first).1 (
+                h.second,
+                hv,
+                (both h.first h.second hu hv).1 (record { of_first = h.of_first; of_second = h.of_second; apart = h.apart }, h.is),
+              ),
+            ),
       )
 
 module _ (d : Dimensions) (f : IsField d.q) where

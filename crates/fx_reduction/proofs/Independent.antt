@@ -42,4 +42,3 @@ module _ (q m : ℕ) (f : IsField q) where
             ∙ plus-none q f n c v (record { len = (let e = hv.len in omega arith); codes = hv.codes.1 }) in
             (p, plus-vector q m f p1 (scale q c p0) rest.1 (scale-vector q m f c p0 at.1.point), rw (first, others) refl)
       ]
-

@@ -13,4 +13,7 @@ pub mod ConstantTests
 pub mod Patterns
 pub mod Numbers
 pub mod Canonical
-pub mod Reduction
+pub mod NoWorse
+pub mod Kept
+pub mod Raised
+pub mod NoDesign

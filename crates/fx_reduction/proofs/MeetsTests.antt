@@ -1,5 +1,5 @@
 -- What the judging of runs says.
-use Rattle.std.proofs.Common.{ℕ, ◌≡◌, ◌<◌, ◌^◌, ◌&&◌, ◌||◌, not, true, eqb, List, drop, arith, inl, inr}
+use Rattle.std.proofs.Common.{ℕ, ◌≡◌, ◌<◌, ◌^◌, ◌||◌, not, eqb, List, drop, arith, inl, inr}
 use Rattle.std.specs.Bool.{Decides}
 use Rattle.std.specs.Prelude.{count_by}
 use Rattle.std.specs.List.{list_all, range_with_len}

@@ -4,7 +4,7 @@ use Rattle.std.specs.Prelude.{map}
 use Rattle.std.specs.List.{AllByRecursion}
 use Rattle.std.proofs.lemmas.Bool.{cases_eq, eq-eqb, ne_eqb, ltb-true, lt-ltb}
 use Rattle.fx_designs.specs.Galois.{add, mul, neg, inv, IsField, number}
-use Rattle.fx_designs.specs.Vectors.{scale, zeros, minus}
+use Rattle.fx_designs.specs.Vectors.{zeros, minus}
 use Rattle.fx_designs.specs.Demands.{effect_of}
 use Rattle.fx_laws.specs.Scalings.{AreScalars, times}
 use Rattle.fx_laws.proofs.Separation.{inv-mul, one-mul}

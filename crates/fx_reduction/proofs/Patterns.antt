@@ -1,5 +1,5 @@
 -- No more words of any weight: no entry of the pattern is greater, the pattern is not greater, and the resolution not lower.
-use Rattle.std.proofs.Common.{ℕ, ◌≡◌, ◌<◌, ◌≤◌, ◌+◌, ◌-◌, ◌*◌, ◌/◌, zero, suc, false, List, map, take, slice_index, refl, sym, arith, inl, inr, le_trans}
+use Rattle.std.proofs.Common.{ℕ, ◌≡◌, ◌<◌, ◌≤◌, ◌+◌, ◌-◌, ◌*◌, ◌/◌, zero, suc, false, List, map, take, slice_index, refl, arith, inl, inr, le_trans}
 use Rattle.std.specs.List.{range_with_len}
 use Rattle.std.proofs.lemmas.Bool.{cases_eq, eq-eqb, ne_eqb, le-ltb, or_from, and_right}
 use Rattle.std.proofs.Math.Nat.{div-lt_iff_lt-mul, lt-mul-div-succ, mul_comm}

@@ -22,4 +22,3 @@ module _ (q : ℕ) (f : IsField q) where
   -- no term, no sum
   pub no_terms : (n : ℕ) (g : List ℕ → ℕ) → ((p : List ℕ) → IsVector q n p → g p ≡ 0) → sum_by g (points q n) ≡ 0
   no_terms n g none = sum_by-each g (λ p. 0) (points q n) (recursion_from_All _ (points q n) (all-points q n (omega (arith, f.more_than_one)) (λ p. g p ≡ 0) none)) ∙ sum_by-zero (points q n)
-

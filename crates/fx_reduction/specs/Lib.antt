@@ -1,4 +1,5 @@
 pub mod Matrices
 pub mod Forbidden
 pub mod Meets
+pub mod Steps
 pub mod Reduction

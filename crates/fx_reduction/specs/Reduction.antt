@@ -1,11 +1,20 @@
--- What the reduction to canonical form gives.
-use Rattle.std.specs.Prelude.{ℕ, ◌≡◌, ◌≤◌, ◌+◌, true, false, List, length, slice_index}
-use Rattle.fx_designs.specs.Problems.{Dimensions, Requirement, AtResolution, ForEffects}
-use Rattle.fx_designs.specs.Demands.{is_met}
+-- What the reduction to canonical form gives, for all rule matrices.
+use Rattle.std.specs.Prelude.{ℕ, ◌≡◌, ◌≤◌, ◌+◌, ◌↔◌, true, false, List, ◌++◌, length, slice_index}
+use Rattle.fx_designs.specs.Runs.{runs_of}
+use Rattle.fx_designs.specs.Problems.{Dimensions, Requirement, AtResolution, ForEffects, Problem}
+use Rattle.fx_designs.specs.Demands.{do_runs_meet, is_met}
 use Rattle.fx_designs.specs.Patterns.{pattern_of, is_less, resolution_of}
 use Rattle.fx_designs.specs.Canonical.{is_canonical}
+use Rattle.fx_designs.specs.Answers.{is_design}
+use Rattle.fx_reduction.specs.Matrices.{IsRuleMatrix, IsNumberedMatrix, IsAllowedMatrix}
 
--- a resolution is at least 3, so that factors have different levels; effects may be any
+-- the runs of a rule matrix meet the requirement exactly where it is allowed
+abbrev pub MetWhereAllowed : Dimensions → Requirement → Type 0
+MetWhereAllowed d wanted = (factors blocks : List (List ℕ))
+    → IsRuleMatrix d factors blocks
+    → (do_runs_meet d wanted (runs_of d.q d.m (factors ++ blocks)) ≡ true) ↔ IsAllowedMatrix d wanted factors blocks
+
+-- a resolution is at least 3, so that no two factors have the same levels; effects may be any
 abbrev pub IsReducible : Requirement → Type 0
 IsReducible (AtResolution r) = 3 ≤ r
 IsReducible (ForEffects estimate besides) = Unit {0}
@@ -19,3 +28,20 @@ pub record IsNoWorse (d : Dimensions) (wanted : Requirement) (rows better : List
   pub entries : (k : ℕ) → slice_index (pattern_of d better) k ≤ slice_index (pattern_of d rows) k
   pub pattern : is_less (pattern_of d rows) (pattern_of d better) ≡ false
   pub resolution : resolution_of (pattern_of d rows) ≤ resolution_of (pattern_of d better)
+
+-- every rule matrix that meets the requirement has a canonical one that meets it and is no worse
+abbrev pub CanonicalForEvery : Dimensions → Requirement → Type 0
+CanonicalForEvery d wanted = (rows : List ℕ)
+    → IsNumberedMatrix d rows
+    → is_met d wanted rows ≡ true
+    → (better : List ℕ) × IsNoWorse d wanted rows better
+
+-- no rule matrix at all has runs that meet the requirement
+abbrev pub NoneMeets : Dimensions → Requirement → Type 0
+NoneMeets d wanted = (factors blocks : List (List ℕ))
+    → IsRuleMatrix d factors blocks
+    → do_runs_meet d wanted (runs_of d.q d.m (factors ++ blocks)) ≡ false
+
+-- no canonical matrix meets the requirement exactly where no rule matrix does
+abbrev pub NoneWhereNone : Problem → Type 0
+NoneWhereNone p = ((rows : List ℕ) → is_design p rows ≡ false) ↔ NoneMeets p.dimensions p.requirement

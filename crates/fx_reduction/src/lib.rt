@@ -1,2 +1,8 @@
-//! Laws on all rule matrices: what meets a requirement can be brought to canonical form and is then no worse.
+//! Laws on all rule matrices: what meets a requirement can be brought to canonical form, and is then no worse.
 #![tactic(auto)]
+
+mod reduction;
+mod steps;
+
+pub use reduction::{canonical_for_every_matrix, met_where_allowed, none_where_none_at_all};
+pub use steps::{change_keeps_zero_sums, raising_the_rank, reordering_factors, scaling_rows};

@@ -1,9 +1,9 @@
 -- Every rule matrix that meets a requirement has a canonical one that meets it and is no worse.
-use Rattle.std.proofs.Common.{ℕ, ◌≡◌, ◌<◌, ◌≤◌, ◌+◌, ◌-◌, ◌^◌, zero, suc, true, List, [], ◌∷◌, ◌++◌, map, length, take, drop, length-append, length-drop, refl, sym, subst, ◌∙◌, ap, ap₂, arith}
+use Rattle.std.proofs.Common.{ℕ, ◌≡◌, ◌<◌, ◌≤◌, ◌+◌, ◌^◌, zero, suc, true, List, [], ◌∷◌, ◌++◌, map, length, take, drop, length-append, length-drop, sym, subst, ◌∙◌, ap, ap₂, arith}
 use Rattle.std.specs.Bool.{Decides}
 use Rattle.std.specs.List.{AllByRecursion, All}
-use Rattle.std.proofs.lemmas.List.{length-map, length-take, take-map, drop-map}
-use Rattle.std.proofs.lemmas.List.Elements.{All-from_recursion, recursion_from_All}
+use Rattle.std.proofs.lemmas.List.{length-map, length-take}
+use Rattle.std.proofs.lemmas.List.Elements.{All-from_recursion}
 use Rattle.std.proofs.Math.Seq.{take-append_seam, drop-append_seam}
 use Rattle.fx_designs.specs.Galois.{IsField, number, digits}
 use Rattle.fx_designs.specs.Vectors.{IsVector, vectors_of}
@@ -12,14 +12,13 @@ use Rattle.fx_designs.specs.Problems.{Dimensions, Requirement, AtResolution, For
 use Rattle.fx_designs.specs.Demands.{do_runs_meet, is_met}
 use Rattle.fx_designs.specs.Patterns.{constant_words}
 use Rattle.fx_designs.specs.Canonical.{is_canonical}
-use Rattle.fx_laws.specs.Canonical.{IsCanonical, IsOrdered, IsCanonicalPrefix}
+use Rattle.fx_laws.specs.Canonical.{IsCanonical, IsOrdered}
 use Rattle.fx_laws.specs.Raises.{IsAllowed, words}
 use Rattle.fx_laws.proofs.Space.{AreVectors}
 use Rattle.fx_laws.proofs.Ranks.{append-each}
 use Rattle.fx_laws.proofs.CanonicalTest.{canonical_decides, rows-vectors, take-vectors}
 use Rattle.fx_reduction.specs.Forbidden.{IsForbidden}
 use Rattle.fx_reduction.specs.Matrices.{IsNumberedMatrix}
-use Rattle.fx_reduction.specs.Meets.{RunsMeet}
 use Rattle.fx_reduction.specs.Reduction.{IsReducible, IsNoWorse}
 use Rattle.fx_reduction.proofs.Allowed.{met_where_allowed, allowed_where_met}
 use Rattle.fx_reduction.proofs.MeetsTests.{meet_decides}
@@ -109,11 +108,11 @@ module _ (d : Dimensions) (f : IsField d.q) (wanted : Requirement) (rules : List
 
   better-canonical : is_canonical d wanted better ≡ true
   better-canonical = (canonical_decides d f better wanted).1 (record {
-      len = (let e = better-whole in omega arith);
-      below = low;
-      canonical = subst (IsCanonical d.q d.m d.s) (sym vectors) to.canonical;
-      ordered = falling_ordered d f wanted better low (subst (AreOrdered d wanted) (sym vectors) to.ordered);
-    })
+    len = (let e = better-whole in omega arith);
+    below = low;
+    canonical = subst (IsCanonical d.q d.m d.s) (sym vectors) to.canonical;
+    ordered = falling_ordered d f wanted better low (subst (AreOrdered d wanted) (sym vectors) to.ordered);
+  })
 
   still_allowed : Allowed d f wanted (xs ++ ys)
   still_allowed =

@@ -1,0 +1,22 @@
+//! Canonical matrices stand for all rule matrices.
+
+ghost use Rattle.std.specs.Prelude.{ℕ, IsTrue};
+ghost use Rattle.fx_designs.specs.Galois.{is_order};
+ghost use Rattle.fx_designs.specs.Problems.{Dimensions, Requirement, Problem};
+ghost use Rattle.fx_reduction.specs.Reduction.{MetWhereAllowed, IsReducible, CanonicalForEvery, NoneWhereNone};
+
+/// The runs of a rule matrix meet a requirement exactly where no forbidden vector is a zero sum.
+pub fn met_where_allowed()
+    ensures { (d : Dimensions) (wanted : Requirement) → IsTrue (is_order d.q) → MetWhereAllowed d wanted }
+{}
+
+/// For every rule matrix that meets a requirement there is a canonical one that meets it, whose
+/// pattern is not greater and whose resolution is not lower.
+pub fn canonical_for_every_matrix()
+    ensures { (d : Dimensions) (wanted : Requirement) → IsTrue (is_order d.q) → IsReducible wanted → CanonicalForEvery d wanted }
+{}
+
+/// No canonical matrix meets a requirement exactly where the runs of no rule matrix at all do.
+pub fn none_where_none_at_all()
+    ensures { (p : Problem) → IsTrue (is_order p.dimensions.q) → IsReducible p.requirement → NoneWhereNone p }
+{}
