@@ -17,3 +17,7 @@ pub mod NoWorse
 pub mod Kept
 pub mod Raised
 pub mod NoDesign
+pub mod Halves
+pub mod Weights
+pub mod Effects
+pub mod Extensions

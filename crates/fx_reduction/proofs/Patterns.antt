@@ -7,14 +7,14 @@ use Rattle.fx_designs.specs.Vectors.{vectors_of}
 use Rattle.fx_designs.specs.Problems.{Dimensions}
 use Rattle.fx_designs.specs.Patterns.{constant_words, pattern_of, is_less, resolution_of}
 
-div-le : (k x y : ℕ) → 0 < k → x ≤ y → x / k ≤ y / k
+pub div-le : (k x y : ℕ) → 0 < k → x ≤ y → x / k ≤ y / k
 div-le k x y some h =
     let wide : y < k * (y / k + 1) = lt-mul-div-succ y some in
     let low : x / k < y / k + 1 = (div-lt_iff_lt-mul some).1 (le_trans (omega arith) (rw (mul_comm k (y / k + 1)) at wide)) in
     omega arith
 
 module _ (g h : ℕ → ℕ) (few : (k : ℕ) → g k ≤ h k) where
-  entry_no_greater : (a n k : ℕ) → slice_index (map g (range_with_len a n)) k ≤ slice_index (map h (range_with_len a n)) k
+  pub entry_no_greater : (a n k : ℕ) → slice_index (map g (range_with_len a n)) k ≤ slice_index (map h (range_with_len a n)) k
   entry_no_greater a zero k = omega arith
   entry_no_greater a (suc n) zero = few a
   entry_no_greater a (suc n) (suc k) = entry_no_greater (a + 1) n k

@@ -3,3 +3,4 @@ pub mod Forbidden
 pub mod Meets
 pub mod Steps
 pub mod Reduction
+pub mod Strengths
