@@ -21,3 +21,5 @@ pub mod Halves
 pub mod Weights
 pub mod Effects
 pub mod Extensions
+pub mod LeastPattern
+pub mod Prefix

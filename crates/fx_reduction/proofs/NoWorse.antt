@@ -27,12 +27,12 @@ use Rattle.fx_reduction.proofs.Patterns.{pattern-entries, pattern-not_less, reso
 use Rattle.fx_reduction.proofs.Numbers.{back, below, falling-numbers}
 use Rattle.fx_reduction.proofs.Canonical.{AreOrdered, IsReduced, reduced_exists}
 
-each-take : {X : Type 0} (P : X → Type 0) (k : ℕ) (xs : List X) → AllByRecursion P xs → AllByRecursion P (take k xs)
+pub each-take : {X : Type 0} (P : X → Type 0) (k : ℕ) (xs : List X) → AllByRecursion P xs → AllByRecursion P (take k xs)
 each-take P zero xs h = tt
 each-take P (suc k) [] h = h
 each-take P (suc k) (x ∷ xs) h = (h.0, each-take P k xs h.1)
 
-each-drop : {X : Type 0} (P : X → Type 0) (k : ℕ) (xs : List X) → AllByRecursion P xs → AllByRecursion P (drop k xs)
+pub each-drop : {X : Type 0} (P : X → Type 0) (k : ℕ) (xs : List X) → AllByRecursion P xs → AllByRecursion P (drop k xs)
 each-drop P zero xs h = h
 each-drop P (suc k) [] h = h
 each-drop P (suc k) (x ∷ xs) h = each-drop P k xs h.1

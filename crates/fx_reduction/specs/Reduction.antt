@@ -1,11 +1,11 @@
 -- What the reduction to canonical form gives, for all rule matrices.
-use Rattle.std.specs.Prelude.{ℕ, ◌≡◌, ◌≤◌, ◌+◌, ◌↔◌, true, false, List, ◌++◌, length, slice_index}
+use Rattle.std.specs.Prelude.{ℕ, ◌≡◌, ◌≤◌, ◌+◌, ◌↔◌, true, false, List, ◌++◌, length, slice_index, None}
 use Rattle.fx_designs.specs.Runs.{runs_of}
 use Rattle.fx_designs.specs.Problems.{Dimensions, Requirement, AtResolution, ForEffects, Problem}
-use Rattle.fx_designs.specs.Demands.{do_runs_meet, is_met}
+use Rattle.fx_designs.specs.Demands.{do_runs_meet, is_met, is_allowed}
 use Rattle.fx_designs.specs.Patterns.{pattern_of, is_less, resolution_of}
 use Rattle.fx_designs.specs.Canonical.{is_canonical}
-use Rattle.fx_designs.specs.Answers.{is_design}
+use Rattle.fx_designs.specs.Answers.{is_design, answer}
 use Rattle.fx_reduction.specs.Matrices.{IsRuleMatrix, IsNumberedMatrix, IsAllowedMatrix}
 
 -- the runs of a rule matrix meet the requirement exactly where it is allowed
@@ -13,6 +13,10 @@ abbrev pub MetWhereAllowed : Dimensions → Requirement → Type 0
 MetWhereAllowed d wanted = (factors blocks : List (List ℕ))
     → IsRuleMatrix d factors blocks
     → (do_runs_meet d wanted (runs_of d.q d.m (factors ++ blocks)) ≡ true) ↔ IsAllowedMatrix d wanted factors blocks
+
+-- a matrix by its numbers meets the requirement exactly where it is allowed as a prefix
+abbrev pub MetAsPrefix : Dimensions → Requirement → Type 0
+MetAsPrefix d wanted = (rows : List ℕ) → length rows ≡ d.s + d.t → is_met d wanted rows ≡ is_allowed d wanted rows
 
 -- a resolution is at least 3, so that no two factors have the same levels; effects may be any
 abbrev pub IsReducible : Requirement → Type 0
@@ -45,3 +49,7 @@ NoneMeets d wanted = (factors blocks : List (List ℕ))
 -- no canonical matrix meets the requirement exactly where no rule matrix does
 abbrev pub NoneWhereNone : Problem → Type 0
 NoneWhereNone p = ((rows : List ℕ) → is_design p rows ≡ false) ↔ NoneMeets p.dimensions p.requirement
+
+-- a problem has no answer, with a least pattern or without, exactly where no rule matrix meets the requirement
+abbrev pub NoAnswerWhereNone : Problem → Type 0
+NoAnswerWhereNone p = (answer p ≡ None) ↔ NoneMeets p.dimensions p.requirement
