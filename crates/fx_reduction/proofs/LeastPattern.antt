@@ -1,42 +1,20 @@
 -- Some design has a least pattern, so that a problem has an answer where it has a design.
-use Rattle.std.proofs.Common.{ℕ, ◌≡◌, ◌<◌, ◌+◌, ◌↔◌, ◌||◌, not, Bool, true, false, List, [], ◌∷◌, filter, Some, None, refl, sym, subst, ◌∙◌, ap, arith, inl, inr}
-use Rattle.std.specs.List.{AllByRecursion, find}
-use Rattle.std.proofs.lemmas.Bool.{cases_Bool, cond-true, cond-false, both_ways, false_from_ne_true, or_cases, or_left, or_right, or_from, and_parts, and_from, and_right, eqb-true, eq-eqb, ltb-true, lt-ltb, le-ltb, not-true, not_from_false}
-use Rattle.std.proofs.lemmas.List.Elements.{All-from_recursion}
+use Rattle.std.proofs.Common.{ℕ, ◌≡◌, ◌<◌, ◌+◌, ◌^◌, ◌↔◌, ◌||◌, not, Bool, true, false, List, [], ◌∷◌, length, filter, Some, None, refl, sym, subst, ◌∙◌, ap, arith, inl, inr}
+use Rattle.std.specs.List.{AllByRecursion, find, range_with_len}
+use Rattle.std.proofs.lemmas.Bool.{cases_Bool, cases_lt, cond-true, cond-false, both_ways, false_from_ne_true, or_cases, or_right, and_from, eq-eqb, not-true, not_from_false}
+use Rattle.std.proofs.lemmas.List.Elements.{All-from_recursion, recursion_from_All}
+use Rattle.std.proofs.lemmas.List.{length-map}
+use Rattle.std.proofs.lemmas.List.FromFn.{length-range_with_len}
+use Rattle.fx_designs.specs.Galois.{IsField}
 use Rattle.fx_designs.specs.Problems.{Problem}
 use Rattle.fx_designs.specs.Patterns.{pattern_of, is_less}
-use Rattle.fx_designs.specs.Answers.{prefixes, is_design, is_of_least_pattern, designs, answer}
+use Rattle.fx_designs.specs.Answers.{lists, prefixes, is_design, is_of_least_pattern, designs, answer}
 use Rattle.fx_laws.proofs.Tests.{all_decides}
-use Rattle.fx_laws.proofs.Order.{IsIn, each-weaker}
+use Rattle.fx_laws.proofs.Order.{IsIn, each-weaker, found_passes}
+use Rattle.fx_reduction.proofs.PatternOrder.{less-self, less-trans, not_above}
+use Rattle.fx_reduction.specs.Reduction.{IsReducible, LeastOfAll}
+use Rattle.fx_reduction.proofs.NoWorse.{no_worse_exists}
 use Rattle.fx_laws.proofs.FirstDesign.{there}
-
-less-self : (a : List ℕ) → is_less a a ≡ false
-less-self [] = refl
-less-self (x ∷ a) = or_from _ _ (le-ltb x x (omega arith)) (and_right _ _ (less-self a))
-
-less-trans : (a b c : List ℕ) → is_less a b ≡ true → is_less b c ≡ true → is_less a c ≡ true
-less-trans [] b c h k = absurd (both_ways _ refl h)
-less-trans (x ∷ a) [] c h k = absurd (both_ways _ refl h)
-less-trans (x ∷ a) (y ∷ b) [] h k = absurd (both_ways _ refl k)
-less-trans (x ∷ a) (y ∷ b) (z ∷ c) h k =
-    elim (or_cases _ _ h) [
-      | inl low ↦
-          let l : x < y = ltb-true _ _ low in
-          or_left _ _ (lt-ltb x z (elim (or_cases _ _ k) [
-            | inl low' ↦ (let l' : y < z = ltb-true _ _ low' in omega arith)
-            | inr same' ↦ (let e : y ≡ z = eqb-true _ _ (and_parts _ _ same').0 in omega arith)
-          ]))
-      | inr same ↦
-          let s = and_parts _ _ same in
-          let e : x ≡ y = eqb-true _ _ s.0 in
-          elim (or_cases _ _ k) [
-            | inl low' ↦ (let l' : y < z = ltb-true _ _ low' in or_left _ _ (lt-ltb x z (omega arith)))
-            | inr same' ↦
-                let s' = and_parts _ _ same' in
-                let e' : y ≡ z = eqb-true _ _ s'.0 in
-                or_right _ _ (and_from _ _ (eq-eqb x z (e ∙ e')) (less-trans a b c s.1 s'.1))
-          ]
-    ]
 
 -- y is one of the items, and none has a less pattern
 record IsLeast (pattern : List ℕ → List ℕ) (xs : List (List ℕ)) (y : List ℕ) : Type 0 where
@@ -61,6 +39,11 @@ least pattern x (z ∷ zs) =
       )
       | inr other ↦ (r.0, record { inside = inr r.1.inside; none = (other, r.1.none) })
     ]
+
+each_in : (P : List ℕ → Type 0) (x : List ℕ) (xs : List (List ℕ)) → AllByRecursion P xs → IsIn x xs → P x
+each_in P x [] all h = absurd h
+each_in P x (y ∷ ys) all (inl e) = subst P e all.0
+each_in P x (y ∷ ys) all (inr h) = each_in P x ys all.1 h
 
 least_of : (pattern : List ℕ → List ℕ) (xs : List (List ℕ)) (x : List ℕ) → IsIn x xs → (y : List ℕ) × IsLeast pattern xs y
 least_of pattern [] x h = absurd h
@@ -106,3 +89,38 @@ module _ (p : Problem) where
         found_some (λ rows. not p.least || is_of_least_pattern p rows) y.0 (designs p) y.1.inside (or_right _ _ (least_passes y.0 y.1)) none),
     λ none. ap (find (λ rows. not p.least || is_of_least_pattern p rows)) (filter_none (is_design p) (prefixes p) none),
   )
+
+  answer_least : (rows other : List ℕ) → p.least ≡ true → answer p ≡ Some rows → 0 < p.dimensions.s + p.dimensions.t → is_design p other ≡ true
+      → is_less (pattern_of p.dimensions other) (pattern_of p.dimensions rows) ≡ false
+  unfolding answer
+  answer_least rows other asked is some h =
+      let passes = found_passes (λ rows. not p.least || is_of_least_pattern p rows) (designs p) rows is in
+      let of_least : is_of_least_pattern p rows ≡ true = elim (or_cases _ _ passes) [ inl out ↦ absurd (both_ways _ (not-true _ out) asked) | inr l ↦ l ] in
+      let each = (all_decides (λ other. not (is_less (pattern_of p.dimensions other) (pattern_of p.dimensions rows))) (λ other. is_less (pattern_of p.dimensions other) (pattern_of p.dimensions rows) ≡ false)
+      (λ other. (λ e. not-true _ e, λ e. not_from_false _ e)) (designs p)).0 of_least in
+      each_in (λ other. is_less (pattern_of p.dimensions other) (pattern_of p.dimensions rows) ≡ false) other (designs p)
+      (recursion_from_All (λ other. is_less (pattern_of p.dimensions other) (pattern_of p.dimensions rows) ≡ false) (designs p) each) (design_in some other h)
+
+  pattern-length : (rows : List ℕ) → length (pattern_of p.dimensions rows) ≡ p.dimensions.s
+  unfolding pattern_of
+  pattern-length rows = length-map (range_with_len 1 p.dimensions.s) _ ∙ length-range_with_len 1 p.dimensions.s
+
+  some_rows : (rows : List ℕ) → answer p ≡ Some rows → 0 < p.dimensions.s + p.dimensions.t
+  unfolding answer designs lists
+  some_rows rows h = elim (cases_lt 0 (p.dimensions.s + p.dimensions.t)) [
+    | inl some ↦ some
+    | inr none ↦
+        let zero_is : p.dimensions.s + p.dimensions.t ≡ 0 = omega arith in
+        let test = λ (rows : List ℕ). not p.least || is_of_least_pattern p rows in
+        let empty : find test (filter (is_design p) (prefixes p)) ≡ None = ap (λ n. find test (filter (is_design p) (lists (p.dimensions.q ^ p.dimensions.m) n))) zero_is in
+        let bad : Some rows ≡ None = sym h ∙ empty in
+        absurd cc
+  ]
+
+  module _ (f : IsField p.dimensions.q) (proper : IsReducible p.requirement) where
+    pub least-of_all : LeastOfAll p
+    least-of_all rows other asked is hm met =
+        let found = no_worse_exists p.dimensions f p.requirement proper other hm met in
+        let design : is_design p found.0 ≡ true = and_from _ _ (eq-eqb _ _ found.1.whole) (and_from _ _ found.1.canonical found.1.meets) in
+        not_above (pattern_of p.dimensions other) (pattern_of p.dimensions found.0) (pattern_of p.dimensions rows) (pattern-length other ∙ sym (pattern-length found.0)) found.1.pattern
+        (answer_least rows found.0 asked is (some_rows rows is) design)

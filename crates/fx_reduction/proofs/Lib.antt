@@ -21,5 +21,6 @@ pub mod Halves
 pub mod Weights
 pub mod Effects
 pub mod Extensions
+pub mod PatternOrder
 pub mod LeastPattern
 pub mod Prefix

@@ -34,6 +34,9 @@ in_blocks_decides q s n u xs =
       λ h. each.1 (λ z hz. (balanced_decides q u (block q s z xs)).1 (h z hz)),
     )
 
+none_and_some : (t : ℕ) → t ≡ 0 → 0 < t → ⊥
+none_and_some t z h = omega arith
+
 module _ (d : Dimensions) (f : IsField d.q) (wanted : Requirement) (xs : List (List ℕ)) where
   some : 0 < d.q
   some = omega (arith, f.more_than_one)
@@ -69,7 +72,7 @@ module _ (d : Dimensions) (f : IsField d.q) (wanted : Requirement) (xs : List (L
     λ e.
         let p = and_parts _ _ e in
         let blocks : 0 < d.t → AreBlocksEven d.q d.s d.t xs × Inside = λ there. elim (or_cases _ _ p.1) [
-          | inl none ↦ (let z : d.t ≡ 0 = eqb-true _ _ none in absurd (omega arith))
+          | inl none ↦ absurd (none_and_some d.t (eqb-true _ _ none) there)
           | inr b ↦ (let k = and_parts _ _ b in ((even_decides d.q d.s d.t xs).0 k.0, inside_decides.0 k.1))
         ] in
         record { told = told_decides.0 p.0; even = λ there. (blocks there).0; in_blocks = λ there. (blocks there).1 },

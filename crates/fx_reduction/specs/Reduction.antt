@@ -1,5 +1,5 @@
 -- What the reduction to canonical form gives, for all rule matrices.
-use Rattle.std.specs.Prelude.{ℕ, ◌≡◌, ◌≤◌, ◌+◌, ◌↔◌, true, false, List, ◌++◌, length, slice_index, None}
+use Rattle.std.specs.Prelude.{ℕ, ◌≡◌, ◌≤◌, ◌+◌, ◌↔◌, true, false, List, ◌++◌, length, slice_index, Some, None}
 use Rattle.fx_designs.specs.Runs.{runs_of}
 use Rattle.fx_designs.specs.Problems.{Dimensions, Requirement, AtResolution, ForEffects, Problem}
 use Rattle.fx_designs.specs.Demands.{do_runs_meet, is_met, is_allowed}
@@ -53,3 +53,12 @@ NoneWhereNone p = ((rows : List ℕ) → is_design p rows ≡ false) ↔ NoneMee
 -- a problem has no answer, with a least pattern or without, exactly where no rule matrix meets the requirement
 abbrev pub NoAnswerWhereNone : Problem → Type 0
 NoAnswerWhereNone p = (answer p ≡ None) ↔ NoneMeets p.dimensions p.requirement
+
+-- the answer of a problem that asks for a least pattern has the least of all rule matrices that meet the requirement
+abbrev pub LeastOfAll : Problem → Type 0
+LeastOfAll p = (rows other : List ℕ)
+    → p.least ≡ true
+    → answer p ≡ Some rows
+    → IsNumberedMatrix p.dimensions other
+    → is_met p.dimensions p.requirement other ≡ true
+    → is_less (pattern_of p.dimensions other) (pattern_of p.dimensions rows) ≡ false

@@ -3,7 +3,7 @@
 ghost use Rattle.std.specs.Prelude.{◌<◌, ◌+◌, IsTrue};
 ghost use Rattle.fx_designs.specs.Galois.{is_order};
 ghost use Rattle.fx_designs.specs.Problems.{Dimensions, Requirement, Problem};
-ghost use Rattle.fx_reduction.specs.Reduction.{MetWhereAllowed, MetAsPrefix, IsReducible, CanonicalForEvery, NoneWhereNone, NoAnswerWhereNone};
+ghost use Rattle.fx_reduction.specs.Reduction.{MetWhereAllowed, MetAsPrefix, IsReducible, CanonicalForEvery, NoneWhereNone, NoAnswerWhereNone, LeastOfAll};
 
 /// The runs of a rule matrix meet a requirement exactly where no forbidden vector is a zero sum, and
 /// a whole matrix meets it exactly where it is allowed as a prefix.
@@ -23,4 +23,10 @@ pub fn canonical_for_every_matrix()
 pub fn none_where_none_at_all()
     ensures design { (p : Problem) → IsTrue (is_order p.dimensions.q) → IsReducible p.requirement → NoneWhereNone p }
     ensures answer { (p : Problem) → IsTrue (is_order p.dimensions.q) → IsReducible p.requirement → 0 < p.dimensions.s + p.dimensions.t → NoAnswerWhereNone p }
+{}
+
+/// The answer of a problem that asks for a least pattern has the least pattern of all rule matrices
+/// that meet the requirement, canonical or not.
+pub fn least_pattern_of_all()
+    ensures { (p : Problem) → IsTrue (is_order p.dimensions.q) → IsReducible p.requirement → LeastOfAll p }
 {}
