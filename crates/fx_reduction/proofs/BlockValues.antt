@@ -50,7 +50,8 @@ module _ (q m s t : ℕ) (f : IsField q) (rows : List (List ℕ)) (lb : length (
             let is : L ≡ dz = sym (digits-number q t L hL) ∙ ap (digits q t) e in
             eq-eqb _ y (ap (λ v. number q (plus q v D)) is ∙ ap (number q) (plus-over q f t dz dy vz vy) ∙ number-digits q t y some hy) ∙ sym (eq-eqb _ z e)
         | inr ne ↦ ne_eqb _ y (λ e.
-            let is : plus q L D ≡ plus q dz D = sym (digits-number q t (plus q L D) (plus-vector q t f L D hL vD)) ∙ ap (digits q t) e ∙ sym (plus-over q f t dz dy vz vy) in
+            let is : plus q L D ≡ plus q dz D = sym (digits-number q t (plus q L D) (plus-vector q t f L D hL vD)) ∙ ap (digits q t) e
+            ∙ sym (plus-over q f t dz dy vz vy) in
             ne (ap (number q) (cancelled q f t L dz D hL vz vD is) ∙ number-digits q t z some hz)) ∙ sym (ne_eqb _ z ne)
       ] in
       block_count y
@@ -71,7 +72,8 @@ module _ (q m s t : ℕ) (f : IsField q) (rows : List (List ℕ)) (lb : length (
             let none : sum_by gz (points q m) ≡ 0 = no_terms q f m gz (λ p hp. ap (λ b. cond b 1 0) (ne_eqb _ z (λ same.
             let is : values p ≡ v = sym (digits-number q t (values p) (blocks-vector p)) ∙ ap (digits q t) same ∙ digits-number q t v hv in
             let bad : 0 ≡ 1 = sym (dot-levels q f m b (drop s rows) p ∙ ap (λ w. dot q w p) e ∙ dot-zeros q f m p) ∙ ap (dot q b) is ∙ at.2 in omega arith))) in
-            let one : g0 (zeros m) ≡ 1 = ap (λ v. cond (eqb (number q v) 0) 1 0) (levels-zeros q f (drop s rows) m) ∙ ap (λ n. cond (eqb n 0) 1 0) (number-zeros q (length (drop s rows))) in
+            let one : g0 (zeros m) ≡ 1 = ap (λ v. cond (eqb (number q v) 0) 1 0) (levels-zeros q f (drop s rows) m)
+            ∙ ap (λ n. cond (eqb n 0) 1 0) (number-zeros q (length (drop s rows))) in
             let there : g0 (zeros m) ≤ sum_by g0 (points q m) = term q f m g0 (zeros m) (zeros-vector q m f) in
             let wide : 0 < q ^ t = le_trans (omega arith) (number-below q t v hv) in
             let same : sum_by g0 (points q m) ≡ sum_by gz (points q m) = sym (block_count 0) ∙ even 0 z wide (number-below q t v hv) ∙ block_count z in

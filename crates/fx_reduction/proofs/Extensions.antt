@@ -30,7 +30,8 @@ use Rattle.fx_reduction.proofs.Patterns.{div-le, entry_no_greater}
 
 weight-end : (u : List ℕ) → weight (u ++ 0 ∷ []) ≡ weight u
 weight-end [] = weight-none []
-weight-end (a ∷ u) = sum_by-cons (λ c. cond (nat_lt 0 c) 1 0) a (u ++ 0 ∷ []) ∙ ap (λ n. cond (nat_lt 0 a) 1 0 + n) (weight-end u) ∙ sym (sum_by-cons (λ c. cond (nat_lt 0 c) 1 0) a u)
+weight-end (a ∷ u) = sum_by-cons (λ c. cond (nat_lt 0 c) 1 0) a (u ++ 0 ∷ []) ∙ ap (λ n. cond (nat_lt 0 a) 1 0 + n) (weight-end u)
+    ∙ sym (sum_by-cons (λ c. cond (nat_lt 0 c) 1 0) a u)
 
 zeros-end : (n : ℕ) → zeros n ++ 0 ∷ [] ≡ zeros (suc n)
 zeros-end zero = refl
@@ -53,7 +54,8 @@ module _ (q m : ℕ) (f : IsField q) where
       ∙ sum_by-ext _ _ (codes_of q) (λ c. points-last n (λ p. g (c ∷ p)))
       ∙ sym (points-sum q n (λ p. sum_by (λ c. g (p ++ c ∷ [])) (codes_of q)))
 
-  with-zero : (u : List ℕ) (xs : List (List ℕ)) (r : List ℕ) → length u ≡ length xs → AreVectors q m xs → IsVector q m r → combination q m (u ++ 0 ∷ []) (xs ++ r ∷ []) ≡ combination q m u xs
+  with-zero : (u : List ℕ) (xs : List (List ℕ)) (r : List ℕ) → length u ≡ length xs → AreVectors q m xs → IsVector q m r
+      → combination q m (u ++ 0 ∷ []) (xs ++ r ∷ []) ≡ combination q m u xs
   with-zero u xs r e hx hr =
       combination-append q m f u (0 ∷ []) xs (r ∷ []) e (hr, tt)
       ∙ ap (plus q (combination q m u xs)) (ap (λ v. plus q v (zeros m)) (scale-none q m f r hr) ∙ zeros-plus q m f (zeros m) (zeros-vector q m f))
@@ -80,7 +82,8 @@ module _ (q m : ℕ) (f : IsField q) where
       subst (λ z. z ≤ sum_by (λ c. test ys (p ++ c ∷ [])) (codes_of q)) same one)))))
 
   -- one block row less allows what more allowed
-  pub fewer_blocks : (s t : ℕ) (wanted : Requirement) (xs ys : List (List ℕ)) (r : List ℕ) → length ys ≡ t → AreVectors q m ys → IsVector q m r → IsAllowed q m (IsForbidden q s (t + 1) wanted) xs (ys ++ r ∷ []) → IsAllowed q m (IsForbidden q s t wanted) xs ys
+  pub fewer_blocks : (s t : ℕ) (wanted : Requirement) (xs ys : List (List ℕ)) (r : List ℕ) → length ys ≡ t → AreVectors q m ys → IsVector q m r
+      → IsAllowed q m (IsForbidden q s (t + 1) wanted) xs (ys ++ r ∷ []) → IsAllowed q m (IsForbidden q s t wanted) xs ys
   fewer_blocks s t wanted xs ys r len hy hr ok = record {
     none = λ u b hu hb bad e.
         ok.none u (b ++ 0 ∷ []) hu (subst (λ n. IsVector q n (b ++ 0 ∷ [])) (sym (length-append ys (r ∷ []))) (append-vector q (length ys) 1 b (0 ∷ []) hb (record { len = refl; codes = (omega (arith, f.more_than_one), tt) })))

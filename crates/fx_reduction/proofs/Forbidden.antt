@@ -68,7 +68,8 @@ module _ (q : ℕ) (f : IsField q) where
     | inr o ↦ elim o [ inl o' ↦ o'.vector | inr z ↦ subst (IsVector q s) (sym z) (zeros-vector q s f) ]
   ]
 
-  balanced-times : (s : ℕ) (wanted : Requirement) (cs u : List ℕ) → IsVector q s u → AreScalars q cs → length cs ≡ s → IsToBalance q s wanted u → IsToBalance q s wanted (times q cs u)
+  balanced-times : (s : ℕ) (wanted : Requirement) (cs u : List ℕ) → IsVector q s u → AreScalars q cs → length cs ≡ s → IsToBalance q s wanted u
+      → IsToBalance q s wanted (times q cs u)
   balanced-times s (AtResolution r) cs u hu hc e h = rw (times-weight q f cs u hc (e ∙ sym hu.len) hu.codes) h
   balanced-times s (ForEffects estimate besides) cs u hu hc e h =
       let hv : IsVector q s h.second = second-vector s estimate besides u h in
@@ -85,7 +86,8 @@ module _ (q : ℕ) (f : IsField q) where
         is = ap (times q cs) h.is ∙ times-minus q f cs h.first h.second (hu'.len ∙ sym e) (hv.len ∙ sym e);
       }
 
-  estimated-times : (s : ℕ) (wanted : Requirement) (cs u : List ℕ) → IsVector q s u → AreScalars q cs → length cs ≡ s → IsToEstimate q s wanted u → IsToEstimate q s wanted (times q cs u)
+  estimated-times : (s : ℕ) (wanted : Requirement) (cs u : List ℕ) → IsVector q s u → AreScalars q cs → length cs ≡ s → IsToEstimate q s wanted u
+      → IsToEstimate q s wanted (times q cs u)
   estimated-times s (AtResolution r) cs u hu hc e h = rw (times-weight q f cs u hc (e ∙ sym hu.len) hu.codes) h
   estimated-times s (ForEffects estimate besides) cs u hu hc e h = of-times s estimate cs u hc e h
 

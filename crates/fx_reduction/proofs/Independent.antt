@@ -17,7 +17,8 @@ module _ (q m : ℕ) (f : IsField q) where
   abbrev pub AreIndependent : List (List ℕ) → Type 0
   AreIndependent rows = (b : List ℕ) → IsVector q (length rows) b → (b ≡ zeros (length rows) → ⊥) → combination q m b rows ≡ zeros m → ⊥
 
-  pub takes : (rows : List (List ℕ)) (v : List ℕ) → AreVectors q m rows → IsVector q (length rows) v → AreIndependent rows → (p : List ℕ) × IsVector q m p × (levels_at q rows p ≡ v)
+  pub takes : (rows : List (List ℕ)) (v : List ℕ) → AreVectors q m rows → IsVector q (length rows) v → AreIndependent rows
+      → (p : List ℕ) × IsVector q m p × (levels_at q rows p ≡ v)
   takes [] [] hr hv free = (zeros m, zeros-vector q m f, refl)
   takes [] (a ∷ v) hr hv free = absurd (let e = hv.len in omega arith)
   takes (r ∷ rows) [] hr hv free = absurd (let e = hv.len in omega arith)
@@ -37,7 +38,9 @@ module _ (q m : ℕ) (f : IsField q) where
             let c : ℕ = add q a (mul q (neg q 1) (dot q r p1)) in
             let hc : c < q = f.add_code a (mul q (neg q 1) (dot q r p1)) in
             let p : List ℕ = plus q p1 (scale q c p0) in
-            let first : dot q r p ≡ a = dot-plus-right q f r p1 (scale q c p0) ∙ ap (add q (dot q r p1)) (dot-scale-right q f c r p0 ∙ ap (mul q c) at.1.one ∙ f.mul_one c hc) ∙ add-over q f (dot q r p1) a (dot_code q f r p1) hv.codes.0 in
+            let first : dot q r p ≡ a = dot-plus-right q f r p1 (scale q c p0)
+            ∙ ap (add q (dot q r p1)) (dot-scale-right q f c r p0 ∙ ap (mul q c) at.1.one ∙ f.mul_one c hc)
+            ∙ add-over q f (dot q r p1) a (dot_code q f r p1) hv.codes.0 in
             let others : levels_at q rows p ≡ v = levels-plus q f rows p1 (scale q c p0) ∙ ap₂ (plus q) rest.2 (levels-scale q f rows c p0 ∙ ap (scale q c) at.1.none)
             ∙ plus-none q f n c v (record { len = (let e = hv.len in omega arith); codes = hv.codes.1 }) in
             (p, plus-vector q m f p1 (scale q c p0) rest.1 (scale-vector q m f c p0 at.1.point), rw (first, others) refl)

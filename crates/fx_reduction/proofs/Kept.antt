@@ -44,7 +44,8 @@ module _ (d : Dimensions) (f : IsField d.q) where
     },
   )
 
-  pub kept : (wanted : Requirement) (xs ys xs' ys' : List (List ℕ)) → IsRuleMatrix d xs ys → Follows d.q d.m (IsForbidden d.q d.s d.t wanted) xs ys xs' ys' → IsKept d wanted xs ys xs' ys'
+  pub kept : (wanted : Requirement) (xs ys xs' ys' : List (List ℕ)) → IsRuleMatrix d xs ys
+      → Follows d.q d.m (IsForbidden d.q d.s d.t wanted) xs ys xs' ys' → IsKept d wanted xs ys xs' ys'
   kept wanted xs ys xs' ys' hm to =
       let lx : length xs' ≡ d.s = to.factors ∙ hm.factor_count in
       let ly : length ys' ≡ d.t = to.blocks ∙ hm.block_count in

@@ -64,7 +64,8 @@ module _ (d : Dimensions) (f : IsField d.q) (wanted : Requirement) (rows : List 
               let hu : IsVector d.q (length rows) u = subst (λ n. IsVector d.q n u) (sym len) (append-vector d.q d.s d.t x b hx hb) in
               let front : take d.s u ≡ x = subst (λ n. take n u ≡ x) hx.len (take-append_seam x b) in
               let rest : drop d.s u ≡ b = subst (λ n. drop n u ≡ b) hx.len (drop-append_seam x b) in
-              let word : is_forbidden_word d wanted (padded d u) ≡ true = ap (is_forbidden_word d wanted) (padded-whole u hu) ∙ ap₂ (is_forbidden d wanted) front rest ∙ bad in
+              let word : is_forbidden_word d wanted (padded d u) ≡ true = ap (is_forbidden_word d wanted) (padded-whole u hu)
+              ∙ ap₂ (is_forbidden d wanted) front rest ∙ bad in
               let sum : IsZeroSum d factors blocks (take d.s u) (drop d.s u) = subst (λ v. IsZeroSum d factors blocks v (drop d.s u)) (sym front) (subst (λ w. IsZeroSum d factors blocks x w) (sym rest) z) in
               both_ways _ (not-true _ (each.0 e u hu)) (and_from _ _ word ((constant_decides u hu).1 sum));
         },
