@@ -54,12 +54,14 @@ module _ (q m s t : ℕ) (f : IsField q) (rows : List (List ℕ)) (lb : length (
             ∙ sym (plus-over q f t dz dy vz vy) in
             ne (ap (number q) (cancelled q f t L dz D hL vz vD is) ∙ number-digits q t z some hz)) ∙ sym (ne_eqb _ z ne)
       ] in
+      let moved : (p : List ℕ) → values (plus q p found.0) ≡ plus q (values p) D = λ p. levels-plus q f (drop s rows) p found.0 ∙ ap (plus q (values p)) found.2 in
       block_count y
       ∙ sym (shift q m f found.0 (λ p. cond (eqb (number q (values p)) y) 1 0) found.1)
-      ∙ sum_by-ext _ _ (points q m) (λ p. ap (λ v. cond (eqb (number q v) y) 1 0) (levels-plus q f (drop s rows) p found.0 ∙ ap (plus q (values p)) found.2) ∙ ap (λ b. cond b 1 0) (turn (values p) (blocks-vector p)))
+      ∙ sum_by-ext _ _ (points q m) (λ p. ap (λ v. cond (eqb (number q v) y) 1 0) (moved p) ∙ ap (λ b. cond b 1 0) (turn (values p) (blocks-vector p)))
       ∙ sym (block_count z)
 
-  pub uneven : AreBlocksEven q s t (runs_of q m rows) → (b : List ℕ) → IsVector q t b → (b ≡ zeros t → ⊥) → combination q m b (drop s rows) ≡ zeros m → ⊥
+  pub uneven : AreBlocksEven q s t (runs_of q m rows) → (b : List ℕ) → IsVector q t b → (b ≡ zeros t → ⊥)
+      → combination q m b (drop s rows) ≡ zeros m → ⊥
   uneven even b hbv some e =
       elim (nonzero-point q t f b hbv) [
         | inl z ↦ some z
@@ -71,7 +73,8 @@ module _ (q m s t : ℕ) (f : IsField q) (rows : List (List ℕ)) (lb : length (
             let g0 : List ℕ → ℕ = λ p. cond (eqb (number q (values p)) 0) 1 0 in
             let none : sum_by gz (points q m) ≡ 0 = no_terms q f m gz (λ p hp. ap (λ b. cond b 1 0) (ne_eqb _ z (λ same.
             let is : values p ≡ v = sym (digits-number q t (values p) (blocks-vector p)) ∙ ap (digits q t) same ∙ digits-number q t v hv in
-            let bad : 0 ≡ 1 = sym (dot-levels q f m b (drop s rows) p ∙ ap (λ w. dot q w p) e ∙ dot-zeros q f m p) ∙ ap (dot q b) is ∙ at.2 in omega arith))) in
+            let bad : 0 ≡ 1 = sym (dot-levels q f m b (drop s rows) p ∙ ap (λ w. dot q w p) e ∙ dot-zeros q f m p)
+            ∙ ap (dot q b) is ∙ at.2 in omega arith))) in
             let one : g0 (zeros m) ≡ 1 = ap (λ v. cond (eqb (number q v) 0) 1 0) (levels-zeros q f (drop s rows) m)
             ∙ ap (λ n. cond (eqb n 0) 1 0) (number-zeros q (length (drop s rows))) in
             let there : g0 (zeros m) ≤ sum_by g0 (points q m) = term q f m g0 (zeros m) (zeros-vector q m f) in

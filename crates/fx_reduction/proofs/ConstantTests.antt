@@ -60,7 +60,8 @@ module _ (q m : ℕ) (f : IsField q) (rows : List (List ℕ)) (hr : AreVectors q
       let sum : List ℕ = combination q m u rows in
       bool_same q m f _ _
       (λ e. eq-eqb _ _ (ap (number q) ((zero_sum_decides u).0 e) ∙ number-zeros q m))
-      (λ e. (zero_sum_decides u).1 (number-same q m f sum (zeros m) (combination-vector q m f u rows hr) (zeros-vector q m f) (eqb-true _ _ e ∙ sym (number-zeros q m))))
+      (λ e. (zero_sum_decides u).1
+      (number-same q m f sum (zeros m) (combination-vector q m f u rows hr) (zeros-vector q m f) (eqb-true _ _ e ∙ sym (number-zeros q m))))
 
   swap_and : (a b : Bool) → (a && b) ≡ (b && a)
   swap_and a b = grind arith

@@ -33,7 +33,8 @@ module _ (d : Dimensions) (f : IsField d.q) where
         in_blocks = λ some u hu est. met.in_blocks some u hu (asks.estimate u hu est);
       })
 
-  pub meet_same : (one other : Requirement) (runs : List (List ℕ)) → Asks d one other → Asks d other one → do_runs_meet d one runs ≡ do_runs_meet d other runs
+  pub meet_same : (one other : Requirement) (runs : List (List ℕ)) → Asks d one other → Asks d other one
+      → do_runs_meet d one runs ≡ do_runs_meet d other runs
   meet_same one other runs there back_again = bool_same d.q d.m f _ _ (meet_less one other runs there) (meet_less other one runs back_again)
 
   pub lower-resolution : LowerResolution d
@@ -137,7 +138,8 @@ module _ (d : Dimensions) (f : IsField d.q) where
       let half : (r - 1) / 2 ≡ k = omega arith in
       let none : List ℕ = [] in
       let ns : (AreOfFactors d k k none × (k ≤ k) × (k ≤ k + 1)) ⊎ ((none ≡ []) × (k ≡ k)) = inr (refl, refl) in
-      meet_same (AtResolution r) (ForEffects estimate none) runs (asks_effects k k estimate none es ns r some (omega arith) is half) (effects_ask k k estimate none es ns r some (omega arith) is half)
+      meet_same (AtResolution r) (ForEffects estimate none) runs
+      (asks_effects k k estimate none es ns r some (omega arith) is half) (effects_ask k k estimate none es ns r some (omega arith) is half)
 
   pub even-effects : EvenAsEffects d
   even-effects k estimate besides runs some es bs =
@@ -148,4 +150,5 @@ module _ (d : Dimensions) (f : IsField d.q) where
       let pos : 0 < j = omega arith in
       let le : j ≤ k = omega arith in
       let ns : (AreOfFactors d k k besides × (j ≤ k) × (k ≤ j + 1)) ⊎ ((besides ≡ []) × (k ≡ j)) = inl (bs, le, omega arith) in
-      meet_same (AtResolution r) (ForEffects estimate besides) runs (asks_effects j k estimate besides es ns r pos le is half) (effects_ask j k estimate besides es ns r pos le is half)
+      meet_same (AtResolution r) (ForEffects estimate besides) runs
+      (asks_effects j k estimate besides es ns r pos le is half) (effects_ask j k estimate besides es ns r pos le is half)

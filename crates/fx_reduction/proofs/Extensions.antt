@@ -48,7 +48,8 @@ zeros-end-only (suc n) (a ∷ b) e h =
 
 module _ (q m : ℕ) (f : IsField q) where
   points-last : (n : ℕ) (g : List ℕ → ℕ) → sum_by g (points q (suc n)) ≡ sum_by (λ p. sum_by (λ c. g (p ++ c ∷ [])) (codes_of q)) (points q n)
-  points-last zero g = points-sum q zero g ∙ sum_by-ext _ _ (codes_of q) (λ c. zero-add (g (c ∷ []))) ∙ sym (zero-add (sum_by (λ c. g (c ∷ [])) (codes_of q)))
+  points-last zero g =
+      points-sum q zero g ∙ sum_by-ext _ _ (codes_of q) (λ c. zero-add (g (c ∷ []))) ∙ sym (zero-add (sum_by (λ c. g (c ∷ [])) (codes_of q)))
   points-last (suc n) g =
       points-sum q (suc n) g
       ∙ sum_by-ext _ _ (codes_of q) (λ c. points-last n (λ p. g (c ∷ p)))
@@ -86,7 +87,8 @@ module _ (q m : ℕ) (f : IsField q) where
       → IsAllowed q m (IsForbidden q s (t + 1) wanted) xs (ys ++ r ∷ []) → IsAllowed q m (IsForbidden q s t wanted) xs ys
   fewer_blocks s t wanted xs ys r len hy hr ok = record {
     none = λ u b hu hb bad e.
-        ok.none u (b ++ 0 ∷ []) hu (subst (λ n. IsVector q n (b ++ 0 ∷ [])) (sym (length-append ys (r ∷ []))) (append-vector q (length ys) 1 b (0 ∷ []) hb (record { len = refl; codes = (omega (arith, f.more_than_one), tt) })))
+        ok.none u (b ++ 0 ∷ []) hu
+        (subst (λ n. IsVector q n (b ++ 0 ∷ [])) (sym (length-append ys (r ∷ []))) (append-vector q (length ys) 1 b (0 ∷ []) hb (zeros-vector q 1 f)))
         (elim bad [
           | inl h ↦ inl (ap (λ v. v ++ 0 ∷ []) h.0 ∙ zeros-end t ∙ (let e : suc t ≡ t + 1 = omega arith in ap zeros e), h.1)
           | inr h ↦ inr ((λ z. h.0 (zeros-end-only t b (hb.len ∙ len) (z ∙ (let e : t + 1 ≡ suc t = omega arith in ap zeros e)))), h.1)
@@ -119,7 +121,8 @@ module _ (d : Dimensions) (f : IsField d.q) where
   longer_front (suc (suc s)) [] r = inr refl
   longer_front (suc s) (x ∷ rows) r = elim (longer_front s rows r) [ inl e ↦ inl (ap (λ v. x ∷ v) e) | inr e ↦ inr (ap (λ v. x ∷ v) e) ]
 
-  longer_words : (rows : List ℕ) (r k : ℕ) → constant_words d.q d.m (vectors_of d.q d.m (take d.s rows)) k ≤ constant_words d.q d.m (vectors_of d.q d.m (take d.s (rows ++ r ∷ []))) k
+  longer_words : (rows : List ℕ) (r k : ℕ) → constant_words d.q d.m (vectors_of d.q d.m (take d.s rows)) k
+      ≤ constant_words d.q d.m (vectors_of d.q d.m (take d.s (rows ++ r ∷ []))) k
   longer_words rows r k = elim (longer_front d.s rows r) [
     | inl e ↦ rw e (omega arith)
     | inr e ↦
@@ -128,9 +131,11 @@ module _ (d : Dimensions) (f : IsField d.q) where
         let v : List ℕ = digits d.q d.m r in
         let hx : AreVectors d.q d.m xs = rows-vectors d.q d.m f front in
         let hv = rows-vectors d.q d.m f (r ∷ []) in
-        let is : vectors_of d.q d.m (take d.s (rows ++ r ∷ [])) ≡ xs ++ v ∷ [] = ap (vectors_of d.q d.m) e ∙ map-append (λ r. digits d.q d.m r) front (r ∷ []) in
+        let is : vectors_of d.q d.m (take d.s (rows ++ r ∷ [])) ≡ xs ++ v ∷ [] =
+        ap (vectors_of d.q d.m) e ∙ map-append (λ r. digits d.q d.m r) front (r ∷ []) in
         let old = constant-words d.q d.m f xs hx k in
-        let new = ap (λ z. constant_words d.q d.m z k) is ∙ constant-words d.q d.m f (xs ++ v ∷ []) (append-each (λ r. IsVector d.q d.m r) xs (v ∷ []) hx hv) k in
+        let new =
+        ap (λ z. constant_words d.q d.m z k) is ∙ constant-words d.q d.m f (xs ++ v ∷ []) (append-each (λ r. IsVector d.q d.m r) xs (v ∷ []) hx hv) k in
         let more = more_words d.q d.m f xs v k hx hv.0 in
         rw (old, new) more
   ]

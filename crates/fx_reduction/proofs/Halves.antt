@@ -4,6 +4,7 @@ use Rattle.fx_designs.specs.Galois.{IsField}
 use Rattle.fx_designs.specs.Vectors.{plus, IsVector, weight}
 use Rattle.fx_laws.proofs.Linear.{zero-add-code}
 use Rattle.fx_laws.proofs.Falling.{weight-none, weight-some}
+use Rattle.fx_reduction.proofs.Entries.{others-vector, joined-vector}
 
 -- the first j nonzero entries, and the others
 pub front : ℕ → List ℕ → List ℕ
@@ -35,25 +36,25 @@ module _ (q : ℕ) (f : IsField q) where
   unfolding front
   front-vector n j [] h = h
   front-vector zero j (a ∷ v) h = absurd (let e = h.len in omega arith)
-  front-vector (suc n) j (zero ∷ v) h = (let r = front-vector n j v (record { len = (let e = h.len in omega arith); codes = h.codes.1 }) in record { len = (let e = r.len in omega arith); codes = (h.codes.0, r.codes) })
-  front-vector (suc n) zero (suc a ∷ v) h = (let r = front-vector n zero v (record { len = (let e = h.len in omega arith); codes = h.codes.1 }) in record { len = (let e = r.len in omega arith); codes = (omega (arith, f.more_than_one), r.codes) })
-  front-vector (suc n) (suc j) (suc a ∷ v) h = (let r = front-vector n j v (record { len = (let e = h.len in omega arith); codes = h.codes.1 }) in record { len = (let e = r.len in omega arith); codes = (h.codes.0, r.codes) })
+  front-vector (suc n) j (zero ∷ v) h = joined-vector q n 0 (front j v) h.codes.0 (front-vector n j v (others-vector q n 0 v h))
+  front-vector (suc n) zero (suc a ∷ v) h = joined-vector q n 0 (front zero v) (omega (arith, f.more_than_one)) (front-vector n zero v (others-vector q n (suc a) v h))
+  front-vector (suc n) (suc j) (suc a ∷ v) h = joined-vector q n (suc a) (front j v) h.codes.0 (front-vector n j v (others-vector q n (suc a) v h))
 
   pub back-vector : (n j : ℕ) (v : List ℕ) → IsVector q n v → IsVector q n (back j v)
   unfolding back
   back-vector n j [] h = h
   back-vector zero j (a ∷ v) h = absurd (let e = h.len in omega arith)
-  back-vector (suc n) j (zero ∷ v) h = (let r = back-vector n j v (record { len = (let e = h.len in omega arith); codes = h.codes.1 }) in record { len = (let e = r.len in omega arith); codes = (h.codes.0, r.codes) })
-  back-vector (suc n) zero (suc a ∷ v) h = (let r = back-vector n zero v (record { len = (let e = h.len in omega arith); codes = h.codes.1 }) in record { len = (let e = r.len in omega arith); codes = (h.codes.0, r.codes) })
-  back-vector (suc n) (suc j) (suc a ∷ v) h = (let r = back-vector n j v (record { len = (let e = h.len in omega arith); codes = h.codes.1 }) in record { len = (let e = r.len in omega arith); codes = (omega (arith, f.more_than_one), r.codes) })
+  back-vector (suc n) j (zero ∷ v) h = joined-vector q n 0 (back j v) h.codes.0 (back-vector n j v (others-vector q n 0 v h))
+  back-vector (suc n) zero (suc a ∷ v) h = joined-vector q n (suc a) (back zero v) h.codes.0 (back-vector n zero v (others-vector q n (suc a) v h))
+  back-vector (suc n) (suc j) (suc a ∷ v) h = joined-vector q n 0 (back j v) (omega (arith, f.more_than_one)) (back-vector n j v (others-vector q n (suc a) v h))
 
   pub joined : (n j : ℕ) (v : List ℕ) → IsVector q n v → plus q (front j v) (back j v) ≡ v
   unfolding front back
   joined n j [] h = refl
   joined zero j (a ∷ v) h = absurd (let e = h.len in omega arith)
-  joined (suc n) j (zero ∷ v) h = ap₂ (λ a v. a ∷ v) (f.add_zero 0 (omega (arith, f.more_than_one))) (joined n j v (record { len = (let e = h.len in omega arith); codes = h.codes.1 }))
-  joined (suc n) zero (suc a ∷ v) h = ap₂ (λ a v. a ∷ v) (zero-add-code q f (suc a) h.codes.0) (joined n zero v (record { len = (let e = h.len in omega arith); codes = h.codes.1 }))
-  joined (suc n) (suc j) (suc a ∷ v) h = ap₂ (λ a v. a ∷ v) (f.add_zero (suc a) h.codes.0) (joined n j v (record { len = (let e = h.len in omega arith); codes = h.codes.1 }))
+  joined (suc n) j (zero ∷ v) h = ap₂ (λ a v. a ∷ v) (f.add_zero 0 (omega (arith, f.more_than_one))) (joined n j v (others-vector q n 0 v h))
+  joined (suc n) zero (suc a ∷ v) h = ap₂ (λ a v. a ∷ v) (zero-add-code q f (suc a) h.codes.0) (joined n zero v (others-vector q n (suc a) v h))
+  joined (suc n) (suc j) (suc a ∷ v) h = ap₂ (λ a v. a ∷ v) (f.add_zero (suc a) h.codes.0) (joined n j v (others-vector q n (suc a) v h))
 
   pub total : (j : ℕ) (v : List ℕ) → weight (front j v) + weight (back j v) ≡ weight v
   unfolding front back

@@ -10,6 +10,7 @@ use Rattle.fx_laws.proofs.Changes.{dot-plus-right, dot-scale-right, scale-none, 
 use Rattle.fx_laws.proofs.Ranks.{zeros-plus}
 use Rattle.fx_laws.proofs.Blocks.{plus-none}
 use Rattle.fx_laws.proofs.Reorders.{plus-comm}
+use Rattle.fx_reduction.proofs.Entries.{others-vector, joined-vector}
 use Rattle.fx_reduction.proofs.Cancelling.{negated_twice}
 
 module _ (q m : ℕ) (f : IsField q) where
@@ -25,10 +26,11 @@ module _ (q m : ℕ) (f : IsField q) where
   takes (r ∷ rows) (a ∷ v) hr hv free =
       let n : ℕ = length rows in
       let free' : AreIndependent rows = λ b hb some e.
-      free (0 ∷ b) (record { len = (let e' = hb.len in omega arith); codes = (omega (arith, f.more_than_one), hb.codes) }) (λ z. (let z' : 0 ∷ b ≡ 0 ∷ zeros n = z in some cc)) (ap₂ (plus q) (scale-none q m f r hr.0) e ∙ zeros-plus q m f (zeros m) (zeros-vector q m f)) in
-      let rest = takes rows v hr.1 (record { len = (let e = hv.len in omega arith); codes = hv.codes.1 }) free' in
+      free (0 ∷ b) (joined-vector q n 0 b (omega (arith, f.more_than_one)) hb) (λ z. (let z' : 0 ∷ b ≡ 0 ∷ zeros n = z in some cc))
+      (ap₂ (plus q) (scale-none q m f r hr.0) e ∙ zeros-plus q m f (zeros m) (zeros-vector q m f)) in
+      let rest = takes rows v hr.1 (others-vector q n a v hv) free' in
       elim (separate q m f rows r hr.1 hr.0) [
-        | inl s ↦ absurd (free (neg q 1 ∷ s.by) (record { len = (let e = s.vector.len in omega arith); codes = (f.neg_code 1, s.vector.codes) })
+        | inl s ↦ absurd (free (neg q 1 ∷ s.by) (joined-vector q n (neg q 1) s.by (f.neg_code 1) s.vector)
             (λ z. (let z' : neg q 1 ∷ s.by ≡ 0 ∷ zeros n = z in let none : neg q 1 ≡ 0 = cc in
             let bad : 1 ≡ 0 = sym (f.add_zero 1 f.more_than_one) ∙ ap (add q 1) (sym none) ∙ f.add_neg 1 in omega arith))
             (ap (plus q (scale q (neg q 1) r)) s.gives ∙ plus-comm q f (scale q (neg q 1) r) r ∙ negated_twice q f m r hr.0))
@@ -41,7 +43,8 @@ module _ (q m : ℕ) (f : IsField q) where
             let first : dot q r p ≡ a = dot-plus-right q f r p1 (scale q c p0)
             ∙ ap (add q (dot q r p1)) (dot-scale-right q f c r p0 ∙ ap (mul q c) at.1.one ∙ f.mul_one c hc)
             ∙ add-over q f (dot q r p1) a (dot_code q f r p1) hv.codes.0 in
-            let others : levels_at q rows p ≡ v = levels-plus q f rows p1 (scale q c p0) ∙ ap₂ (plus q) rest.2 (levels-scale q f rows c p0 ∙ ap (scale q c) at.1.none)
-            ∙ plus-none q f n c v (record { len = (let e = hv.len in omega arith); codes = hv.codes.1 }) in
+            let others : levels_at q rows p ≡ v = levels-plus q f rows p1 (scale q c p0)
+            ∙ ap₂ (plus q) rest.2 (levels-scale q f rows c p0 ∙ ap (scale q c) at.1.none)
+            ∙ plus-none q f n c v (others-vector q n a v hv) in
             (p, plus-vector q m f p1 (scale q c p0) rest.1 (scale-vector q m f c p0 at.1.point), rw (first, others) refl)
       ]

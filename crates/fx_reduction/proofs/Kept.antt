@@ -30,7 +30,8 @@ module _ (d : Dimensions) (f : IsField d.q) where
 
   -- allowed by the tests is allowed by the facts
   pub allowed_facts : (wanted : Requirement) (xs ys : List (List ℕ)) → length xs ≡ d.s → length ys ≡ d.t
-      → (IsAllowedMatrix d wanted xs ys → IsAllowed d.q d.m (IsForbidden d.q d.s d.t wanted) xs ys) × (IsAllowed d.q d.m (IsForbidden d.q d.s d.t wanted) xs ys → IsAllowedMatrix d wanted xs ys)
+      → (IsAllowedMatrix d wanted xs ys → IsAllowed d.q d.m (IsForbidden d.q d.s d.t wanted) xs ys)
+      × (IsAllowed d.q d.m (IsForbidden d.q d.s d.t wanted) xs ys → IsAllowedMatrix d wanted xs ys)
   allowed_facts wanted xs ys lx ly = (
     λ ok. record {
       none = λ u b hu hb bad e.
@@ -80,12 +81,14 @@ module _ (d : Dimensions) (f : IsField d.q) where
 
   pub change-kept : (wanted : Requirement) → ChangeKeeps d wanted
   change-kept wanted a xs ys h hm =
-      kept wanted xs ys (map a xs) (map a ys) hm (change_follows d.q d.m f (IsForbidden d.q d.s d.t wanted) a h xs ys (factor-vectors xs ys hm) (block-vectors xs ys hm))
+      kept wanted xs ys (map a xs) (map a ys) hm
+      (change_follows d.q d.m f (IsForbidden d.q d.s d.t wanted) a h xs ys (factor-vectors xs ys hm) (block-vectors xs ys hm))
 
   -- multiples of rows
   pub scaling-sums : ScalingScalesSums d
   scaling-sums cs ds xs ys u b h hm hu hb =
-      let is : plus d.q (combination d.q d.m u (scaled d.q cs xs)) (combination d.q d.m b (scaled d.q ds ys)) ≡ plus d.q (combination d.q d.m (times d.q cs u) xs) (combination d.q d.m (times d.q ds b) ys) =
+      let is : plus d.q (combination d.q d.m u (scaled d.q cs xs)) (combination d.q d.m b (scaled d.q ds ys))
+      ≡ plus d.q (combination d.q d.m (times d.q cs u) xs) (combination d.q d.m (times d.q ds b) ys) =
       ap₂ (plus d.q) (scaled-combination d.q f d.m cs u xs (h.factor_count ∙ sym hm.factor_count) (hu.len ∙ sym hm.factor_count))
       (scaled-combination d.q f d.m ds b ys (h.block_count ∙ sym hm.block_count) (hb.len ∙ sym hm.block_count)) in
       (λ e. sym is ∙ e, λ e. is ∙ e)
@@ -103,7 +106,8 @@ module _ (d : Dimensions) (f : IsField d.q) where
       subst (λ n. IsScalable d.q n (length ys) (IsForbidden d.q d.s d.t wanted)) (sym hm.factor_count)
       (subst (λ n. IsScalable d.q d.s n (IsForbidden d.q d.s d.t wanted)) (sym hm.block_count) (forbidden-scalable d.q f d.s d.t wanted)) in
       kept wanted xs ys (scaled d.q cs xs) (scaled d.q ds ys) hm
-      (scale_follows d.q d.m f (IsForbidden d.q d.s d.t wanted) cs ds xs ys closed h.factors h.blocks (h.factor_count ∙ sym hm.factor_count) (h.block_count ∙ sym hm.block_count)
+      (scale_follows d.q d.m f (IsForbidden d.q d.s d.t wanted) cs ds xs ys closed h.factors h.blocks
+      (h.factor_count ∙ sym hm.factor_count) (h.block_count ∙ sym hm.block_count)
       (factor-vectors xs ys hm) (block-vectors xs ys hm))
 
   -- another order of the factors
@@ -117,11 +121,13 @@ module _ (d : Dimensions) (f : IsField d.q) where
   pub swap-sums : SwapSwapsSums d
   swap-sums k xs ys u b hm hu =
       let is : combination d.q d.m (swapped k u) (swapped k xs) ≡ combination d.q d.m u xs =
-      swapped-combination d.q d.m f k (swapped k u) xs (length-swapped k u ∙ hu.len ∙ sym hm.factor_count) ∙ ap (λ v. combination d.q d.m v xs) (swapped-twice k u) in
+      swapped-combination d.q d.m f k (swapped k u) xs (length-swapped k u ∙ hu.len ∙ sym hm.factor_count)
+      ∙ ap (λ v. combination d.q d.m v xs) (swapped-twice k u) in
       let whole = ap (λ v. plus d.q v (combination d.q d.m b ys)) is in
       (λ e. sym whole ∙ e, λ e. whole ∙ e)
 
   pub reorder-kept : (r : ℕ) → ReorderKeeps d r
   reorder-kept r xs zs ys h hm =
       kept (AtResolution r) xs ys zs ys hm
-      (permutation_follows d.q d.m f (IsForbidden d.q d.s d.t (AtResolution r)) xs zs ys (resolution-reorderable d.q f d.s d.t r) (factor-vectors xs ys hm) (block-vectors xs ys hm) h)
+      (permutation_follows d.q d.m f (IsForbidden d.q d.s d.t (AtResolution r)) xs zs ys (resolution-reorderable d.q f d.s d.t r)
+      (factor-vectors xs ys hm) (block-vectors xs ys hm) h)

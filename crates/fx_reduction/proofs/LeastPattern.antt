@@ -1,6 +1,7 @@
 -- Some design has a least pattern, so that a problem has an answer where it has a design.
 use Rattle.std.proofs.Common.{ℕ, ◌≡◌, ◌<◌, ◌+◌, ◌^◌, ◌↔◌, ◌||◌, not, Bool, true, false, List, [], ◌∷◌, length, filter, Some, None, refl, sym, subst, ◌∙◌, ap, arith, inl, inr}
-use Rattle.std.specs.List.{AllByRecursion, find, range_with_len}
+use Rattle.std.specs.Bool.{Decides}
+use Rattle.std.specs.List.{All, AllByRecursion, find, range_with_len}
 use Rattle.std.proofs.lemmas.Bool.{cases_Bool, cases_lt, cond-true, cond-false, both_ways, false_from_ne_true, or_cases, or_right, and_from, eq-eqb, not-true, not_from_false}
 use Rattle.std.proofs.lemmas.List.Elements.{All-from_recursion, recursion_from_All}
 use Rattle.std.proofs.lemmas.List.{length-map}
@@ -53,7 +54,8 @@ module _ (D : List ℕ → Bool) where
   in_filter : (x : List ℕ) (xs : List (List ℕ)) → IsIn x xs → D x ≡ true → IsIn x (filter D xs)
   in_filter x [] h passes = absurd h
   in_filter x (y ∷ ys) h passes = elim (cases_Bool (D y)) [
-    | inl holds ↦ subst (IsIn x) (sym (cond-true (D y) (y ∷ filter D ys) (filter D ys) holds)) (elim h [ inl e ↦ inl e | inr k ↦ inr (in_filter x ys k passes) ])
+    | inl holds ↦ subst (IsIn x) (sym (cond-true (D y) (y ∷ filter D ys) (filter D ys) holds))
+        (elim h [ inl e ↦ inl e | inr k ↦ inr (in_filter x ys k passes) ])
     | inr fails ↦ subst (IsIn x) (sym (cond-false (D y) (y ∷ filter D ys) (filter D ys) fails))
         (elim h [ inl e ↦ absurd (both_ways (D y) fails (ap D e ∙ passes)) | inr k ↦ in_filter x ys k passes ])
   ]
@@ -66,15 +68,20 @@ module _ (D : List ℕ → Bool) where
   found_some x [] h passes none = h
   found_some x (y ∷ ys) h passes none = elim (cases_Bool (D y)) [
     | inl holds ↦ (let bad : Some y ≡ None = sym (cond-true (D y) (Some y) (find D ys) holds) ∙ none in absurd cc)
-    | inr fails ↦ found_some x ys (elim h [ inl e ↦ absurd (both_ways (D y) fails (ap D e ∙ passes)) | inr k ↦ k ]) passes (sym (cond-false (D y) (Some y) (find D ys) fails) ∙ none)
+    | inr fails ↦ found_some x ys (elim h [ inl e ↦ absurd (both_ways (D y) fails (ap D e ∙ passes)) | inr k ↦ k ]) passes
+        (sym (cond-false (D y) (Some y) (find D ys) fails) ∙ none)
   ]
 
 module _ (p : Problem) where
+  none_less : (y : List ℕ) → Decides (is_of_least_pattern p y) (All (λ other. is_less (pattern_of p.dimensions other) (pattern_of p.dimensions y) ≡ false) (designs p))
+  none_less y =
+      all_decides (λ other. not (is_less (pattern_of p.dimensions other) (pattern_of p.dimensions y)))
+      (λ other. is_less (pattern_of p.dimensions other) (pattern_of p.dimensions y) ≡ false)
+      (λ other. (λ e. not-true _ e, λ e. not_from_false _ e)) (designs p)
+
   least_passes : (y : List ℕ) → IsLeast (pattern_of p.dimensions) (designs p) y → is_of_least_pattern p y ≡ true
   least_passes y h =
-      (all_decides (λ other. not (is_less (pattern_of p.dimensions other) (pattern_of p.dimensions y))) (λ other. is_less (pattern_of p.dimensions other) (pattern_of p.dimensions y) ≡ false)
-      (λ other. (λ e. not-true _ e, λ e. not_from_false _ e)) (designs p)).1
-      (All-from_recursion (λ other. is_less (pattern_of p.dimensions other) (pattern_of p.dimensions y) ≡ false) (designs p) h.none)
+      (none_less y).1 (All-from_recursion (λ other. is_less (pattern_of p.dimensions other) (pattern_of p.dimensions y) ≡ false) (designs p) h.none)
 
   design_in : 0 < p.dimensions.s + p.dimensions.t → (rows : List ℕ) → is_design p rows ≡ true → IsIn rows (designs p)
   unfolding designs
@@ -96,8 +103,7 @@ module _ (p : Problem) where
   answer_least rows other asked is some h =
       let passes = found_passes (λ rows. not p.least || is_of_least_pattern p rows) (designs p) rows is in
       let of_least : is_of_least_pattern p rows ≡ true = elim (or_cases _ _ passes) [ inl out ↦ absurd (both_ways _ (not-true _ out) asked) | inr l ↦ l ] in
-      let each = (all_decides (λ other. not (is_less (pattern_of p.dimensions other) (pattern_of p.dimensions rows))) (λ other. is_less (pattern_of p.dimensions other) (pattern_of p.dimensions rows) ≡ false)
-      (λ other. (λ e. not-true _ e, λ e. not_from_false _ e)) (designs p)).0 of_least in
+      let each = (none_less rows).0 of_least in
       each_in (λ other. is_less (pattern_of p.dimensions other) (pattern_of p.dimensions rows) ≡ false) other (designs p)
       (recursion_from_All (λ other. is_less (pattern_of p.dimensions other) (pattern_of p.dimensions rows) ≡ false) (designs p) each) (design_in some other h)
 
@@ -112,7 +118,8 @@ module _ (p : Problem) where
     | inr none ↦
         let zero_is : p.dimensions.s + p.dimensions.t ≡ 0 = omega arith in
         let test = λ (rows : List ℕ). not p.least || is_of_least_pattern p rows in
-        let empty : find test (filter (is_design p) (prefixes p)) ≡ None = ap (λ n. find test (filter (is_design p) (lists (p.dimensions.q ^ p.dimensions.m) n))) zero_is in
+        let empty : find test (filter (is_design p) (prefixes p)) ≡ None =
+        ap (λ n. find test (filter (is_design p) (lists (p.dimensions.q ^ p.dimensions.m) n))) zero_is in
         let bad : Some rows ≡ None = sym h ∙ empty in
         absurd cc
   ]
@@ -122,5 +129,6 @@ module _ (p : Problem) where
     least-of_all rows other asked is hm met =
         let found = no_worse_exists p.dimensions f p.requirement proper other hm met in
         let design : is_design p found.0 ≡ true = and_from _ _ (eq-eqb _ _ found.1.whole) (and_from _ _ found.1.canonical found.1.meets) in
-        not_above (pattern_of p.dimensions other) (pattern_of p.dimensions found.0) (pattern_of p.dimensions rows) (pattern-length other ∙ sym (pattern-length found.0)) found.1.pattern
+        not_above (pattern_of p.dimensions other) (pattern_of p.dimensions found.0) (pattern_of p.dimensions rows)
+        (pattern-length other ∙ sym (pattern-length found.0)) found.1.pattern
         (answer_least rows found.0 asked is (some_rows rows is) design)

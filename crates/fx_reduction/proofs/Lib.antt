@@ -1,3 +1,4 @@
+pub mod Entries
 pub mod Multiples
 pub mod Forbidden
 pub mod Cancelling

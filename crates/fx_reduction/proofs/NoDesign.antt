@@ -30,7 +30,8 @@ module _ (d : Dimensions) (f : IsField d.q) (wanted : Requirement) where
 
     same_allowed : Allowed d f wanted (xs ++ ys) ≡ IsAllowed d.q d.m (IsForbidden d.q d.s d.t wanted) xs ys
     same_allowed = ap₂ (λ a b. IsAllowed d.q d.m (IsForbidden d.q d.s d.t wanted) a b)
-        (subst (λ n. take n (xs ++ ys) ≡ xs) hm.factor_count (take-append_seam xs ys)) (subst (λ n. drop n (xs ++ ys) ≡ ys) hm.factor_count (drop-append_seam xs ys))
+        (subst (λ n. take n (xs ++ ys) ≡ xs) hm.factor_count (take-append_seam xs ys))
+        (subst (λ n. drop n (xs ++ ys) ≡ ys) hm.factor_count (drop-append_seam xs ys))
 
     -- the rows by their numbers
     pub numbers : List ℕ
@@ -74,12 +75,15 @@ module _ (p : Problem) (f : IsField p.dimensions.q) (proper : IsReducible p.requ
   none-exactly = (
     λ none xs ys hm. false_from_ne_true _ (λ e.
         let rows : List ℕ = numbers p.dimensions f p.requirement xs ys hm in
-        let found = no_worse_exists p.dimensions f p.requirement proper rows (numbered p.dimensions f p.requirement xs ys hm) (same_runs p.dimensions f p.requirement xs ys hm ∙ e) in
+        let found = no_worse_exists p.dimensions f p.requirement proper rows
+        (numbered p.dimensions f p.requirement xs ys hm) (same_runs p.dimensions f p.requirement xs ys hm ∙ e) in
         both_ways _ (none found.0) (and_from _ _ (eq-eqb _ _ found.1.whole) (and_from _ _ found.1.canonical found.1.meets))),
     λ none rows. false_from_ne_true _ (λ e.
         let parts = and_parts _ _ e in
-        let met : do_runs_meet p.dimensions p.requirement (runs_of p.dimensions.q p.dimensions.m (vectors_of p.dimensions.q p.dimensions.m rows)) ≡ true = (and_parts _ _ parts.1).1 in
         let rules : List (List ℕ) = vectors_of p.dimensions.q p.dimensions.m rows in
+        let met : do_runs_meet p.dimensions p.requirement (runs_of p.dimensions.q p.dimensions.m rules) ≡ true = (and_parts _ _ parts.1).1 in
         let not_met = none (take p.dimensions.s rules) (drop p.dimensions.s rules) (named_matrix p.dimensions f p.requirement rows (eqb-true _ _ parts.0)) in
-        both_ways _ (subst (λ v. do_runs_meet p.dimensions p.requirement (runs_of p.dimensions.q p.dimensions.m v) ≡ false) (take-append-drop p.dimensions.s rules) not_met) met),
+        both_ways _
+        (subst (λ v. do_runs_meet p.dimensions p.requirement (runs_of p.dimensions.q p.dimensions.m v) ≡ false) (take-append-drop p.dimensions.s rules) not_met)
+        met),
   )

@@ -124,7 +124,8 @@ module _ (d : Dimensions) (f : IsField d.q) (wanted : Requirement) (rules : List
   better-meets =
       subst (λ v. do_runs_meet d wanted (runs_of d.q d.m v) ≡ true) (sym vectors) ((allowed_decides d f wanted (xs ++ ys) whole all).1 still_allowed)
 
-  better-words : AreVectors d.q d.m rules → (k : ℕ) → constant_words d.q d.m (vectors_of d.q d.m (take d.s better)) k ≤ constant_words d.q d.m (take d.s rules) k
+  better-words : AreVectors d.q d.m rules → (k : ℕ)
+      → constant_words d.q d.m (vectors_of d.q d.m (take d.s better)) k ≤ constant_words d.q d.m (take d.s rules) k
   better-words hr k =
       let is : vectors_of d.q d.m (take d.s better) ≡ xs = sym (take-vectors d.q d.m d.s better) ∙ ap (take d.s) vectors ∙ front in
       let new : constant_words d.q d.m (vectors_of d.q d.m (take d.s better)) k ≡ words d.q d.m xs k =
@@ -141,9 +142,11 @@ module _ (d : Dimensions) (f : IsField d.q) (wanted : Requirement) (proper : IsR
       let len : length rules ≡ d.s + d.t = length-map rows (λ r. digits d.q d.m r) ∙ hm.len in
       let hr : AreVectors d.q d.m rules = rows-vectors d.q d.m f rows in
       let ok : Allowed d f wanted rules = (allowed_decides d f wanted rules len hr).0 met in
-      let found = reduced_exists d f (take d.s rules) (drop d.s rules) (front-length d rules len) (rest-length d rules len) (front-vectors d rules len hr) (rest-vectors d rules len hr) wanted proper ok in
+      let found = reduced_exists d f (take d.s rules) (drop d.s rules) (front-length d rules len) (rest-length d rules len)
+      (front-vectors d rules len hr) (rest-vectors d rules len hr) wanted proper ok in
       let better : List ℕ = map (number d.q) (found.0 ++ found.1) in
-      let few = λ (k : ℕ). subst (λ v. constant_words d.q d.m (vectors_of d.q d.m (take d.s better)) k ≤ constant_words d.q d.m v k) (take-vectors d.q d.m d.s rows)
+      let few = λ (k : ℕ).
+      subst (λ v. constant_words d.q d.m (vectors_of d.q d.m (take d.s better)) k ≤ constant_words d.q d.m v k) (take-vectors d.q d.m d.s rows)
       (better-words d f wanted rules len ok found.0 found.1 found.2 hr k) in (
         better,
         record {

@@ -44,12 +44,15 @@ module _ (d : Dimensions) (f : IsField d.q) (wanted : Requirement) (rows : List 
   padded-whole u hu = ap (λ n. u ++ zeros n) (let e = hu.len in let z : d.s + d.t - length u ≡ 0 = omega arith in z) ∙ append-nil u
 
   -- it is constant over the runs exactly where it is a zero sum
-  sum_of : (u : List ℕ) → IsVector d.q (length rows) u → combination d.q d.m u rules ≡ plus d.q (combination d.q d.m (take d.s u) factors) (combination d.q d.m (drop d.s u) blocks)
+  sum_of : (u : List ℕ) → IsVector d.q (length rows) u
+      → combination d.q d.m u rules ≡ plus d.q (combination d.q d.m (take d.s u) factors) (combination d.q d.m (drop d.s u) blocks)
   sum_of u hu =
       ap₂ (combination d.q d.m) (sym (take-append-drop d.s u)) (sym (take-append-drop d.s rules))
-      ∙ combination-append d.q d.m f (take d.s u) (drop d.s u) factors blocks ((front-part u hu).len ∙ sym matrix.factor_count) (block-vectors d f factors blocks matrix)
+      ∙ combination-append d.q d.m f (take d.s u) (drop d.s u) factors blocks
+      ((front-part u hu).len ∙ sym matrix.factor_count) (block-vectors d f factors blocks matrix)
 
-  constant_decides : (u : List ℕ) → IsVector d.q (length rows) u → Decides (is_constant d.q u (runs d rows)) (IsZeroSum d factors blocks (take d.s u) (drop d.s u))
+  constant_decides : (u : List ℕ) → IsVector d.q (length rows) u
+      → Decides (is_constant d.q u (runs d rows)) (IsZeroSum d factors blocks (take d.s u) (drop d.s u))
   constant_decides u hu =
       let test = zero_sum_decides d.q d.m f rules (rows-vectors d.q d.m f rows) u in
       (λ e. sym (sum_of u hu) ∙ test.0 e, λ z. test.1 (sum_of u hu ∙ z))
@@ -57,7 +60,8 @@ module _ (d : Dimensions) (f : IsField d.q) (wanted : Requirement) (rows : List 
   prefix_decides : Decides (is_allowed d wanted rows) (IsAllowedMatrix d wanted factors blocks)
   unfolding is_allowed
   prefix_decides =
-      let each = points_decides d.q (length rows) (omega (arith, f.more_than_one)) (λ u. not (is_forbidden_word d wanted (padded d u) && is_constant d.q u (runs d rows))) in (
+      let each = points_decides d.q (length rows) (omega (arith, f.more_than_one))
+      (λ u. not (is_forbidden_word d wanted (padded d u) && is_constant d.q u (runs d rows))) in (
         λ e. record {
           none = λ x b hx hb bad z.
               let u : List ℕ = x ++ b in
@@ -66,12 +70,14 @@ module _ (d : Dimensions) (f : IsField d.q) (wanted : Requirement) (rows : List 
               let rest : drop d.s u ≡ b = subst (λ n. drop n u ≡ b) hx.len (drop-append_seam x b) in
               let word : is_forbidden_word d wanted (padded d u) ≡ true = ap (is_forbidden_word d wanted) (padded-whole u hu)
               ∙ ap₂ (is_forbidden d wanted) front rest ∙ bad in
-              let sum : IsZeroSum d factors blocks (take d.s u) (drop d.s u) = subst (λ v. IsZeroSum d factors blocks v (drop d.s u)) (sym front) (subst (λ w. IsZeroSum d factors blocks x w) (sym rest) z) in
+              let sum : IsZeroSum d factors blocks (take d.s u) (drop d.s u) =
+              subst (λ v. IsZeroSum d factors blocks v (drop d.s u)) (sym front) (subst (λ w. IsZeroSum d factors blocks x w) (sym rest) z) in
               both_ways _ (not-true _ (each.0 e u hu)) (and_from _ _ word ((constant_decides u hu).1 sum));
         },
         λ ok. each.1 (λ u hu. not_from_false _ (false_from_ne_true _ (λ h.
             let parts = and_parts _ _ h in
-            ok.none (take d.s u) (drop d.s u) (front-part u hu) (rest-part u hu) (ap (is_forbidden_word d wanted) (sym (padded-whole u hu)) ∙ parts.0) ((constant_decides u hu).0 parts.1)))),
+            ok.none (take d.s u) (drop d.s u) (front-part u hu) (rest-part u hu)
+            (ap (is_forbidden_word d wanted) (sym (padded-whole u hu)) ∙ parts.0) ((constant_decides u hu).0 parts.1)))),
       )
 
   pub met-allowed : is_met d wanted rows ≡ is_allowed d wanted rows

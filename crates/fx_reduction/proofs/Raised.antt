@@ -23,12 +23,14 @@ module _ (d : Dimensions) (f : IsField d.q) where
   outside : (xs : List (List ℕ)) (w : List ℕ) → in_span d.q d.m xs w ≡ false → InSpan d.q d.m xs w → ⊥
   outside xs w out i = both_ways _ out (in_span-holds d.q d.m f xs w i)
 
-  zero_front : (p : List ℕ) (xs ys : List (List ℕ)) → levels_at d.q (xs ++ ys) p ≡ zeros (length (xs ++ ys)) → ZeroAt d.q d.m f p xs × ZeroAt d.q d.m f p ys
+  zero_front : (p : List ℕ) (xs ys : List (List ℕ)) → levels_at d.q (xs ++ ys) p ≡ zeros (length (xs ++ ys))
+      → ZeroAt d.q d.m f p xs × ZeroAt d.q d.m f p ys
   zero_front p [] [] e = (tt, tt)
   zero_front p [] (y ∷ ys) e = (tt, (cc, (zero_front p [] ys cc).1))
   zero_front p (x ∷ xs) ys e = (let r = zero_front p xs ys cc in ((cc, r.0), r.1))
 
-  spanned_row : (ys : List (List ℕ)) (w : List ℕ) (k : ℕ) → AreVectors d.q d.m ys → k < length ys → slice_index_or ys k w ≡ w → IsVector d.q d.m w × InSpan d.q d.m ys w
+  spanned_row : (ys : List (List ℕ)) (w : List ℕ) (k : ℕ) → AreVectors d.q d.m ys → k < length ys → slice_index_or ys k w ≡ w
+      → IsVector d.q d.m w × InSpan d.q d.m ys w
   spanned_row [] w k h low e = absurd (omega arith)
   spanned_row (y ∷ ys) w zero h low e = (subst (IsVector d.q d.m) e h.0, subst (InSpan d.q d.m (y ∷ ys)) e (span-head d.q d.m f y ys h.0 h.1))
   spanned_row (y ∷ ys) w (suc k) h low e =
@@ -60,6 +62,7 @@ module _ (d : Dimensions) (f : IsField d.q) where
             let up = rank-raised d.q d.m f w hw p.0 p.1.one [] xs zs at tt hx tt zero_at.0 in
             record {
               rank = omega (arith, up);
-              kept = kept d f wanted xs ys zs ys hm (raise_follows d.q d.m f (IsForbidden d.q d.s d.t wanted) w p.0 xs zs ys hw p.1.one zero_at.0 hx hy at (inl zero_at.1));
+              kept = kept d f wanted xs ys zs ys hm
+                  (raise_follows d.q d.m f (IsForbidden d.q d.s d.t wanted) w p.0 xs zs ys hw p.1.one zero_at.0 hx hy at (inl zero_at.1));
             }
       ]

@@ -34,11 +34,15 @@ same-itself (a ∷ u) = and_from _ _ (eq-eqb a a refl) (same-itself u)
 pub same_decides : (u v : List ℕ) → Decides (same u v) (u ≡ v)
 same_decides u v = (same_is u v, λ e. subst (λ w. same u w ≡ true) e (same-itself u))
 
-pub any_found : {X : Type 0} (P : X → Type 0) (p : X → Bool) (xs : List X) → AllByRecursion P xs → list_any p xs ≡ true → (x : X) × P x × (p x ≡ true)
+pub any_found : {X : Type 0} (P : X → Type 0) (p : X → Bool) (xs : List X) → AllByRecursion P xs → list_any p xs ≡ true
+    → (x : X) × P x × (p x ≡ true)
 any_found P p [] h e = absurd cc
 any_found {X} P p (x ∷ xs) h e =
     let go : (b : Bool) → p x ≡ b → (b || list_any p xs) ≡ true → (x : X) × P x × (p x ≡ true) =
-    λ b. elim b as (λ b. p x ≡ b → (b || list_any p xs) ≡ true → (x : X) × P x × (p x ≡ true)) [ true ↦ λ is t. (x, h.0, is) | false ↦ λ is t. any_found P p xs h.1 t ] in
+    λ b. elim b as (λ b. p x ≡ b → (b || list_any p xs) ≡ true → (x : X) × P x × (p x ≡ true)) [
+      | true ↦ λ is t. (x, h.0, is)
+      | false ↦ λ is t. any_found P p xs h.1 t
+    ] in
     go (p x) refl e
 
 -- some vector of length n passes

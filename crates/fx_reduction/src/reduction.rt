@@ -22,7 +22,9 @@ pub fn canonical_for_every_matrix()
 /// just there a problem with factors has no answer.
 pub fn none_where_none_at_all()
     ensures design { (p : Problem) → IsTrue (is_order p.dimensions.q) → IsReducible p.requirement → NoneWhereNone p }
-    ensures answer { (p : Problem) → IsTrue (is_order p.dimensions.q) → IsReducible p.requirement → 0 < p.dimensions.s + p.dimensions.t → NoAnswerWhereNone p }
+    ensures answer { (p : Problem) → IsTrue (is_order p.dimensions.q) → IsReducible p.requirement
+        → 0 < p.dimensions.s + p.dimensions.t
+        → NoAnswerWhereNone p }
 {}
 
 /// The answer of a problem that asks for a least pattern has the least pattern of all rule matrices

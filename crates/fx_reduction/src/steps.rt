@@ -3,7 +3,9 @@
 ghost use Rattle.std.specs.Prelude.{ℕ, IsTrue};
 ghost use Rattle.fx_designs.specs.Galois.{is_order};
 ghost use Rattle.fx_designs.specs.Problems.{Dimensions, Requirement};
-ghost use Rattle.fx_reduction.specs.Steps.{ChangeKeepsSums, ChangeKeeps, ScalingScalesSums, ScalingKeepsForbidden, ScalingKeeps, SwapSwapsSums, ReorderKeeps, RowToRaise, RaiseByBlockRow, RaiseByOther};
+ghost use Rattle.fx_reduction.specs.Steps.{ChangeKeepsSums, ChangeKeeps, SwapSwapsSums, ReorderKeeps};
+ghost use Rattle.fx_reduction.specs.Steps.{ScalingScalesSums, ScalingKeepsForbidden, ScalingKeeps};
+ghost use Rattle.fx_reduction.specs.Steps.{RowToRaise, RaiseByBlockRow, RaiseByOther};
 
 /// An invertible change of the run indexes leaves the zero sums of a rule matrix as they are, and so
 /// what is allowed and the pattern.
