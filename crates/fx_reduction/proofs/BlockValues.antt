@@ -54,7 +54,8 @@ module _ (q m s t : ℕ) (f : IsField q) (rows : List (List ℕ)) (lb : length (
             ∙ sym (plus-over q f t dz dy vz vy) in
             ne (ap (number q) (cancelled q f t L dz D hL vz vD is) ∙ number-digits q t z some hz)) ∙ sym (ne_eqb _ z ne)
       ] in
-      let moved : (p : List ℕ) → values (plus q p found.0) ≡ plus q (values p) D = λ p. levels-plus q f (drop s rows) p found.0 ∙ ap (plus q (values p)) found.2 in
+      let moved : (p : List ℕ) → values (plus q p found.0) ≡ plus q (values p) D =
+      λ p. levels-plus q f (drop s rows) p found.0 ∙ ap (plus q (values p)) found.2 in
       block_count y
       ∙ sym (shift q m f found.0 (λ p. cond (eqb (number q (values p)) y) 1 0) found.1)
       ∙ sum_by-ext _ _ (points q m) (λ p. ap (λ v. cond (eqb (number q v) y) 1 0) (moved p) ∙ ap (λ b. cond b 1 0) (turn (values p) (blocks-vector p)))

@@ -37,7 +37,8 @@ module _ (q : ℕ) (f : IsField q) where
   front-vector n j [] h = h
   front-vector zero j (a ∷ v) h = absurd (let e = h.len in omega arith)
   front-vector (suc n) j (zero ∷ v) h = joined-vector q n 0 (front j v) h.codes.0 (front-vector n j v (others-vector q n 0 v h))
-  front-vector (suc n) zero (suc a ∷ v) h = joined-vector q n 0 (front zero v) (omega (arith, f.more_than_one)) (front-vector n zero v (others-vector q n (suc a) v h))
+  front-vector (suc n) zero (suc a ∷ v) h =
+      joined-vector q n 0 (front zero v) (omega (arith, f.more_than_one)) (front-vector n zero v (others-vector q n (suc a) v h))
   front-vector (suc n) (suc j) (suc a ∷ v) h = joined-vector q n (suc a) (front j v) h.codes.0 (front-vector n j v (others-vector q n (suc a) v h))
 
   pub back-vector : (n j : ℕ) (v : List ℕ) → IsVector q n v → IsVector q n (back j v)

@@ -73,7 +73,8 @@ module _ (D : List ℕ → Bool) where
   ]
 
 module _ (p : Problem) where
-  none_less : (y : List ℕ) → Decides (is_of_least_pattern p y) (All (λ other. is_less (pattern_of p.dimensions other) (pattern_of p.dimensions y) ≡ false) (designs p))
+  none_less : (y : List ℕ)
+      → Decides (is_of_least_pattern p y) (All (λ other. is_less (pattern_of p.dimensions other) (pattern_of p.dimensions y) ≡ false) (designs p))
   none_less y =
       all_decides (λ other. not (is_less (pattern_of p.dimensions other) (pattern_of p.dimensions y)))
       (λ other. is_less (pattern_of p.dimensions other) (pattern_of p.dimensions y) ≡ false)
