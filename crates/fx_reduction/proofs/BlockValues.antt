@@ -22,6 +22,34 @@ use Rattle.fx_reduction.proofs.Terms.{term, no_terms}
 abbrev pub blocks_at : ℕ → ℕ → List (List ℕ) → List ℕ → List ℕ
 blocks_at q s rows p = levels_at q (drop s rows) p
 
+-- what leads from the vector with the number z to that with the number y
+abbrev apart_by : ℕ → ℕ → ℕ → ℕ → List ℕ
+apart_by q t y z = plus q (digits q t y) (scale q (neg q 1) (digits q t z))
+
+module _ (q t : ℕ) (f : IsField q) (y z : ℕ) where
+  some : 0 < q
+  some = omega (arith, f.more_than_one)
+
+  apart-vector : IsVector q t (apart_by q t y z)
+  apart-vector = plus-vector q t f (digits q t y) _ (digits-vector q t y some) (scale-vector q t f (neg q 1) (digits q t z) (digits-vector q t z some))
+
+  number-moved : y < q ^ t → z < q ^ t → (v : List ℕ) → IsVector q t v → eqb (number q (plus q v (apart_by q t y z))) y ≡ eqb (number q v) z
+  number-moved hy hz v hv =
+      let vy : IsVector q t (digits q t y) = digits-vector q t y some in
+      let vz : IsVector q t (digits q t z) = digits-vector q t z some in
+      let over : plus q (digits q t z) (apart_by q t y z) ≡ digits q t y = plus-over q f t (digits q t z) (digits q t y) vz vy in
+      elim (cases_eq (number q v) z) [
+        | inl e ↦
+            let is : v ≡ digits q t z = sym (digits-number q t v hv) ∙ ap (digits q t) e in
+            eq-eqb _ y (ap (λ v. number q (plus q v (apart_by q t y z))) is ∙ ap (number q) over ∙ number-digits q t y some hy) ∙ sym (eq-eqb _ z e)
+        | inr ne ↦
+            let out : number q (plus q v (apart_by q t y z)) ≡ y → ⊥ = λ e.
+            let is : plus q v (apart_by q t y z) ≡ plus q (digits q t z) (apart_by q t y z) =
+            sym (digits-number q t (plus q v (apart_by q t y z)) (plus-vector q t f v (apart_by q t y z) hv apart-vector)) ∙ ap (digits q t) e ∙ sym over in
+            ne (ap (number q) (cancelled q f t v (digits q t z) (apart_by q t y z) hv vz apart-vector is) ∙ number-digits q t z some hz) in
+            ne_eqb _ y out ∙ sym (ne_eqb _ z ne)
+      ]
+
 module _ (q m s t : ℕ) (f : IsField q) (rows : List (List ℕ)) (lb : length (drop s rows) ≡ t) (hb : AreVectors q m (drop s rows)) where
   abbrev values : List ℕ → List ℕ
   values p = blocks_at q s rows p
@@ -37,29 +65,16 @@ module _ (q m s t : ℕ) (f : IsField q) (rows : List (List ℕ)) (lb : length (
 
   pub even_blocks : AreIndependent q m f (drop s rows) → AreBlocksEven q s t (runs_of q m rows)
   even_blocks free y z hy hz =
-      let some : 0 < q = omega (arith, f.more_than_one) in
-      let dy : List ℕ = digits q t y in
-      let dz : List ℕ = digits q t z in
-      let vy : IsVector q t dy = digits-vector q t y some in
-      let vz : IsVector q t dz = digits-vector q t z some in
-      let D : List ℕ = plus q dy (scale q (neg q 1) dz) in
-      let vD : IsVector q t D = plus-vector q t f dy _ vy (scale-vector q t f (neg q 1) dz vz) in
-      let found = takes q m f (drop s rows) D hb (subst (λ n. IsVector q n D) (sym lb) vD) free in
-      let turn : (L : List ℕ) → IsVector q t L → eqb (number q (plus q L D)) y ≡ eqb (number q L) z = λ L hL. elim (cases_eq (number q L) z) [
-        | inl e ↦
-            let is : L ≡ dz = sym (digits-number q t L hL) ∙ ap (digits q t) e in
-            eq-eqb _ y (ap (λ v. number q (plus q v D)) is ∙ ap (number q) (plus-over q f t dz dy vz vy) ∙ number-digits q t y some hy) ∙ sym (eq-eqb _ z e)
-        | inr ne ↦ ne_eqb _ y (λ e.
-            let is : plus q L D ≡ plus q dz D = sym (digits-number q t (plus q L D) (plus-vector q t f L D hL vD)) ∙ ap (digits q t) e
-            ∙ sym (plus-over q f t dz dy vz vy) in
-            ne (ap (number q) (cancelled q f t L dz D hL vz vD is) ∙ number-digits q t z some hz)) ∙ sym (ne_eqb _ z ne)
-      ] in
-      let moved : (p : List ℕ) → values (plus q p found.0) ≡ plus q (values p) D =
+      let apart : List ℕ = apart_by q t y z in
+      let found = takes q m f (drop s rows) apart hb (subst (λ n. IsVector q n apart) (sym lb) (apart-vector q t f y z)) free in
+      let test : List ℕ → ℕ = λ v. cond (eqb (number q v) y) 1 0 in
+      let moved : (p : List ℕ) → values (plus q p found.0) ≡ plus q (values p) apart =
       λ p. levels-plus q f (drop s rows) p found.0 ∙ ap (plus q (values p)) found.2 in
-      block_count y
-      ∙ sym (shift q m f found.0 (λ p. cond (eqb (number q (values p)) y) 1 0) found.1)
-      ∙ sum_by-ext _ _ (points q m) (λ p. ap (λ v. cond (eqb (number q v) y) 1 0) (moved p) ∙ ap (λ b. cond b 1 0) (turn (values p) (blocks-vector p)))
-      ∙ sym (block_count z)
+      let each : (p : List ℕ) → test (values (plus q p found.0)) ≡ cond (eqb (number q (values p)) z) 1 0 =
+      λ p. ap test (moved p) ∙ ap (λ b. cond b 1 0) (number-moved q t f y z hy hz (values p) (blocks-vector p)) in
+      let turned : sum_by (λ p. test (values (plus q p found.0))) (points q m) ≡ sum_by (λ p. cond (eqb (number q (values p)) z) 1 0) (points q m) =
+      sum_by-ext _ _ (points q m) each in
+      block_count y ∙ sym (shift q m f found.0 (λ p. test (values p)) found.1) ∙ turned ∙ sym (block_count z)
 
   pub uneven : AreBlocksEven q s t (runs_of q m rows) → (b : List ℕ) → IsVector q t b → (b ≡ zeros t → ⊥)
       → combination q m b (drop s rows) ≡ zeros m → ⊥
