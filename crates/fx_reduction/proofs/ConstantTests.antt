@@ -19,8 +19,8 @@ use Rattle.fx_laws.proofs.Codes.{number-zeros}
 use Rattle.fx_laws.proofs.Ranks.{bool_same, number-same}
 use Rattle.fx_laws.proofs.Sums.{sum_by-ext}
 use Rattle.fx_laws.proofs.Space.{AreVectors, combination-vector, zeros-vector}
-use Rattle.fx_reduction.proofs.VectorTests.{any_found}
 use Rattle.fx_laws.proofs.Order.{each-all}
+use Rattle.fx_reduction.proofs.VectorTests.{any_found}
 
 module _ (q : ℕ) (f : IsField q) (u : List ℕ) where
   has_value : (xs : List (List ℕ)) (c : ℕ) → Decides (list_all (λ x. eqb (dot q u x) c) xs) (All (λ x. dot q u x ≡ c) xs)

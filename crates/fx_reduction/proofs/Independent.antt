@@ -64,5 +64,6 @@ module _ (q m : ℕ) (f : IsField q) where
             let c : ℕ = add q a (mul q (neg q 1) (dot q r rest.0)) in
             let first = moved_to r rest.0 at.0 a hv.codes.0 at.1.one in
             let others = unmoved_at rows rest.0 at.0 v c hv' rest.2 at.1.none in
-            (plus q rest.0 (scale q c at.0), plus-vector q m f rest.0 (scale q c at.0) rest.1 (scale-vector q m f c at.0 at.1.point), ap₂ (λ x w. x ∷ w) first others)
+            let p : List ℕ = plus q rest.0 (scale q c at.0) in
+            (p, plus-vector q m f rest.0 (scale q c at.0) rest.1 (scale-vector q m f c at.0 at.1.point), ap₂ (λ x w. x ∷ w) first others)
       ]

@@ -12,10 +12,10 @@ use Rattle.fx_designs.specs.Patterns.{pattern_of, is_less}
 use Rattle.fx_designs.specs.Answers.{lists, prefixes, is_design, is_of_least_pattern, designs, answer}
 use Rattle.fx_laws.proofs.Tests.{all_decides}
 use Rattle.fx_laws.proofs.Order.{IsIn, each-weaker, found_passes}
-use Rattle.fx_reduction.proofs.PatternOrder.{less-self, less-trans, not_above}
-use Rattle.fx_reduction.specs.Reduction.{IsReducible, LeastOfAll}
-use Rattle.fx_reduction.proofs.NoWorse.{no_worse_exists}
 use Rattle.fx_laws.proofs.FirstDesign.{there}
+use Rattle.fx_reduction.specs.Reduction.{IsReducible, LeastOfAll}
+use Rattle.fx_reduction.proofs.PatternOrder.{less-self, less-trans, not_above}
+use Rattle.fx_reduction.proofs.NoWorse.{no_worse_exists}
 
 -- y is one of the items, and none has a less pattern
 record IsLeast (pattern : List ℕ → List ℕ) (xs : List (List ℕ)) (y : List ℕ) : Type 0 where

@@ -16,6 +16,9 @@ pub mod Numbers
 pub mod Canonical
 pub mod NoWorse
 pub mod Kept
+pub mod Changed
+pub mod Scaled
+pub mod Reordered
 pub mod Raised
 pub mod NoDesign
 pub mod Halves

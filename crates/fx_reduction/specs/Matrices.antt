@@ -1,5 +1,5 @@
 -- Rule matrices: any factor rows and block rows of length m, canonical or not.
-use Rattle.std.specs.Prelude.{ℕ, ◌≡◌, ◌<◌, ◌≤◌, ◌+◌, ◌^◌, true, List, length, All}
+use Rattle.std.specs.Prelude.{ℕ, ◌≡◌, ◌<◌, ◌≤◌, ◌+◌, ◌^◌, ◌↔◌, true, List, length, All}
 use Rattle.fx_designs.specs.Vectors.{IsVector, plus, zeros, combination}
 use Rattle.fx_designs.specs.Problems.{Dimensions, Requirement}
 use Rattle.fx_designs.specs.Demands.{is_forbidden}
@@ -25,7 +25,13 @@ IsZeroSum d factors blocks f b = plus d.q (combination d.q d.m f factors) (combi
 pub record IsAllowedMatrix (d : Dimensions) (wanted : Requirement) (factors blocks : List (List ℕ)) : Type 0 where
   pub none : (f b : List ℕ) → IsVector d.q d.s f → IsVector d.q d.t b → is_forbidden d wanted f b ≡ true → IsZeroSum d factors blocks f b → ⊥
 
--- the second rule matrix is allowed where the first is, and has no more words of any weight, so that no A_k of its pattern is greater
+-- the second rule matrix is allowed exactly where the first is, and has as many words of each weight
+pub record IsEquivalent (d : Dimensions) (wanted : Requirement) (factors blocks factors' blocks' : List (List ℕ)) : Type 0 where
+  pub matrix : IsRuleMatrix d factors' blocks'
+  pub allowed : IsAllowedMatrix d wanted factors blocks ↔ IsAllowedMatrix d wanted factors' blocks'
+  pub words : (k : ℕ) → constant_words d.q d.m factors' k ≡ constant_words d.q d.m factors k
+
+-- the second is allowed where the first is, and has no more words of any weight, so that no A_k of its pattern is greater
 pub record IsKept (d : Dimensions) (wanted : Requirement) (factors blocks factors' blocks' : List (List ℕ)) : Type 0 where
   pub matrix : IsRuleMatrix d factors' blocks'
   pub allowed : IsAllowedMatrix d wanted factors blocks → IsAllowedMatrix d wanted factors' blocks'

@@ -8,7 +8,7 @@ use Rattle.fx_laws.specs.Changes.{IsChange}
 use Rattle.fx_laws.specs.Scalings.{AreScalars, scaled, times}
 use Rattle.fx_laws.specs.Reorders.{swapped}
 use Rattle.fx_laws.specs.Raises.{RaisesAt}
-use Rattle.fx_reduction.specs.Matrices.{IsRuleMatrix, IsZeroSum, IsKept}
+use Rattle.fx_reduction.specs.Matrices.{IsRuleMatrix, IsZeroSum, IsEquivalent, IsKept}
 
 -- an invertible change of the run indexes leaves the zero sums as they are
 abbrev pub ChangeKeepsSums : Dimensions → Type 0
@@ -17,11 +17,12 @@ ChangeKeepsSums d = (change : List ℕ → List ℕ) (factors blocks : List (Lis
     → IsRuleMatrix d factors blocks
     → IsZeroSum d (map change factors) (map change blocks) f b ↔ IsZeroSum d factors blocks f b
 
+-- and keeps what is allowed, and the pattern
 abbrev pub ChangeKeeps : Dimensions → Requirement → Type 0
 ChangeKeeps d wanted = (change : List ℕ → List ℕ) (factors blocks : List (List ℕ))
     → IsChange d.q d.m change
     → IsRuleMatrix d factors blocks
-    → IsKept d wanted factors blocks (map change factors) (map change blocks)
+    → IsEquivalent d wanted factors blocks (map change factors) (map change blocks)
 
 -- a nonzero code for each factor row and for each block row
 pub record AreScales (d : Dimensions) (cs ds : List ℕ) : Type 0 where
@@ -48,11 +49,12 @@ ScalingKeepsForbidden d wanted = (cs ds f b : List ℕ)
     → is_forbidden d wanted f b ≡ true
     → is_forbidden d wanted (times d.q cs f) (times d.q ds b) ≡ true
 
+-- multiples of rows keep what is allowed, and the pattern
 abbrev pub ScalingKeeps : Dimensions → Requirement → Type 0
 ScalingKeeps d wanted = (cs ds : List ℕ) (factors blocks : List (List ℕ))
     → AreScales d cs ds
     → IsRuleMatrix d factors blocks
-    → IsKept d wanted factors blocks (scaled d.q cs factors) (scaled d.q ds blocks)
+    → IsEquivalent d wanted factors blocks (scaled d.q cs factors) (scaled d.q ds blocks)
 
 -- where two neighbouring factor rows are swapped, so are the entries of each zero sum
 abbrev pub SwapSwapsSums : Dimensions → Type 0
@@ -61,12 +63,12 @@ SwapSwapsSums d = (k : ℕ) (factors blocks : List (List ℕ)) (f b : List ℕ)
     → IsVector d.q d.s f
     → IsZeroSum d (swapped k factors) blocks (swapped k f) b ↔ IsZeroSum d factors blocks f b
 
--- under a resolution any order of the factors keeps what is allowed
+-- under a resolution any order of the factors keeps what is allowed, and the pattern
 abbrev pub ReorderKeeps : Dimensions → ℕ → Type 0
 ReorderKeeps d r = (factors others blocks : List (List ℕ))
     → IsPermutation factors others
     → IsRuleMatrix d factors blocks
-    → IsKept d (AtResolution r) factors blocks others blocks
+    → IsEquivalent d (AtResolution r) factors blocks others blocks
 
 -- w is added to one factor row, which the factor rows before it span
 abbrev pub IsRaisedBy : Dimensions → List ℕ → List (List ℕ) → List (List ℕ) → Type 0

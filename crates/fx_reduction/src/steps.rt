@@ -15,15 +15,15 @@ pub fn change_keeps_zero_sums()
 {}
 
 /// Where each row is multiplied by a nonzero code, the entries of the zero sums are multiplied. The
-/// forbidden vectors are closed under that, so that a matrix stays allowed.
+/// forbidden vectors are closed under that, so that what is allowed is kept, and the pattern.
 pub fn scaling_rows()
     ensures sums { (d : Dimensions) → IsTrue (is_order d.q) → ScalingScalesSums d }
     ensures forbidden { (d : Dimensions) (wanted : Requirement) → IsTrue (is_order d.q) → ScalingKeepsForbidden d wanted }
     ensures kept { (d : Dimensions) (wanted : Requirement) → IsTrue (is_order d.q) → ScalingKeeps d wanted }
 {}
 
-/// Where the factors are reordered, the entries of the zero sums are. Under a resolution a matrix
-/// stays allowed.
+/// Where the factors are reordered, the entries of the zero sums are. Under a resolution that keeps
+/// what is allowed, and the pattern.
 pub fn reordering_factors()
     ensures sums { (d : Dimensions) → IsTrue (is_order d.q) → SwapSwapsSums d }
     ensures kept { (d : Dimensions) (r : ℕ) → IsTrue (is_order d.q) → ReorderKeeps d r }
