@@ -1,0 +1,6 @@
+pub mod Matrices
+pub mod Forbidden
+pub mod Meets
+pub mod Steps
+pub mod Reduction
+pub mod Strengths
