@@ -1,4 +1,6 @@
-ghost use Rattle.std.specs.Prelude.{◌≡◌, List, ℕ, Option, Some, None, false};
+ghost use Rattle.std.specs.Prelude.{◌≡◌, ◌↔◌, List, ℕ, Some, None, false, IsTrue};
+ghost use Rattle.fx_designs.specs.Galois.{is_order};
+ghost use Rattle.fx_reduction.specs.Reduction.{IsReducible, NoneMeets};
 ghost use Rattle.fx_designs.specs.Problems.{Problem};
 ghost use Rattle.fx_designs.specs.Answers.{is_design};
 ghost use Rattle.fx_laws.specs.First.{IsFirstDesign};
@@ -16,4 +18,14 @@ pub fn first_design_is_given()
     ensures none { (number : ℕ) (step : Meaning) (p : Problem) → problem_of step ≡ Some p
         → ((rows : List ℕ) → is_design p rows ≡ false)
         → step_output number step ≡ message (lines_of number step p.dimensions None) 1 }
+{}
+
+/// What status 1 says of a step of a form that is built: that the runs of no rule matrix at all,
+/// canonical or not, meet what is asked, and just then it comes. The number of levels is one of the
+/// seven, and the resolution at least 3, as they are for each step of a text.
+pub fn no_design_means_none_at_all()
+    ensures { (number : ℕ) (step : Meaning) (p : Problem) → problem_of step ≡ Some p
+        → IsTrue (is_order p.dimensions.q)
+        → IsReducible p.requirement
+        → ((step_output number step).status ≡ 1) ↔ NoneMeets p.dimensions p.requirement }
 {}
