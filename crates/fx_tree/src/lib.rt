@@ -1,0 +1,13 @@
+//! Canonical prefixes: which lists of rows are, by which rows each is extended, and their order.
+#![tactic(auto)]
+
+mod extension;
+mod following;
+mod laws;
+mod order;
+mod prefix;
+
+pub use extension::{children, Points};
+pub use laws::{front_of_a_canonical_prefix, no_rows_are_canonical, rows_that_follow};
+pub use order::before;
+pub use prefix::is_canonical;
