@@ -1,22 +1,22 @@
 -- A canonical prefix and one row more.
-use Rattle.std.proofs.Common.{ℕ, ◌≡◌, ◌<◌, ◌≤◌, ◌+◌, ◌-◌, ◌^◌, min, zero, suc, Bool, true, false, cond, not, ◌&&◌, ◌||◌, eqb, ltb, leb, List, [], ◌∷◌, ◌++◌, length, take, get_or, slice_index, length-append, refl, sym, subst, ◌∙◌, ap, arith, inl, inr}
+use Rattle.std.proofs.Common.{ℕ, ◌≡◌, ◌<◌, ◌≤◌, ◌+◌, ◌-◌, ◌^◌, min, zero, suc, Bool, true, false, cond, ◌&&◌, ltb, leb, List, [], ◌∷◌, ◌++◌, length, take, get_or, slice_index, length-append, refl, sym, subst, ◌∙◌, ap, arith, inl, inr}
 use Rattle.std.specs.Bool.{Decides}
 use Rattle.std.specs.List.{All}
 use Rattle.std.proofs.lemmas.List.{take-append-le, get_or_append_left, length-map}
 use Rattle.std.proofs.lemmas.List.Elements.{All-push, All-from_get_or}
-use Rattle.std.proofs.lemmas.Bool.{and_parts, and_from, or_left, or_right, or_cases, eqb-true, eq-eqb, ne_eqb, ltb-true, lt-ltb, le-ltb, leb-true, le-leb, cases_Bool, cases_eq, cases_lt, cond-true, cond-false}
+use Rattle.std.proofs.lemmas.Bool.{and_parts, and_from, or_left, or_right, or_cases, eq-eqb, ltb-true, lt-ltb, le-ltb, leb-true, le-leb, cases_eq, cases_lt}
 use Rattle.fx_designs.specs.Galois.{IsField, digits}
 use Rattle.fx_designs.specs.Vectors.{vectors_of}
 use Rattle.fx_designs.specs.Spans.{in_span, rank_of}
 use Rattle.fx_designs.specs.Problems.{Dimensions, Requirement, AtResolution, ForEffects}
-use Rattle.fx_designs.specs.Canonical.{rank_at, follows_at, reaches_at, falls_at, is_unit, is_falling, is_canonical}
+use Rattle.fx_designs.specs.Canonical.{rank_at, follows_at, reaches_at, falls_at, is_falling, is_canonical}
 use Rattle.fx_laws.proofs.Codes.{digits-vector, number-digits}
 use Rattle.fx_laws.proofs.CanonicalTest.{rows-vectors, take-vectors, canonical_decides}
 use Rattle.fx_laws.proofs.Forms.{rank-snoc}
 use Rattle.fx_laws.proofs.Prefixes.{canonical-in_span}
 use Rattle.fx_laws.proofs.Ranks.{bool_same}
 use Rattle.fx_laws.proofs.Tests.{all_decides, range_decides}
-use Rattle.fx_tree.specs.Following.{Front, front_of, raised, fits, can_reach, falls_after, keeps_order, follows}
+use Rattle.fx_tree.specs.Following.{front_of, raised, fits, can_reach, falls_after, keeps_order, follows}
 
 abbrev Ordered : Dimensions → Requirement → List ℕ → Type 0
 Ordered d (AtResolution r) rows = (k : ℕ) → k < min d.s (length rows) → falls_at d rows k ≡ true
@@ -54,11 +54,11 @@ add-cond : (b : Bool) (n : ℕ) → n + cond b 0 1 ≡ cond b n (n + 1)
 add-cond true n = omega arith
 add-cond false n = refl
 
-last_is : (rows : List ℕ) (row : ℕ) → get_or (rows ++ row ∷ []) (length rows) 0 ≡ row
+pub last_is : (rows : List ℕ) (row : ℕ) → get_or (rows ++ row ∷ []) (length rows) 0 ≡ row
 last_is [] row = refl
 last_is (r ∷ rows) row = last_is rows row
 
-take_whole : (rows : List ℕ) (k : ℕ) → length rows ≤ k → take k rows ≡ rows
+pub take_whole : (rows : List ℕ) (k : ℕ) → length rows ≤ k → take k rows ≡ rows
 take_whole [] zero h = refl
 take_whole [] (suc k) h = refl
 take_whole (r ∷ rows) zero h = absurd (omega arith)

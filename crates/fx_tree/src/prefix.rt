@@ -19,7 +19,8 @@ pub fn is_canonical(question: &Question, prefix: &Matrix) -> bool
 pub(crate) fn rank(question: &Question, prefix: &Matrix) -> Option<u8>
     requires valid { IsValid question.now }
     requires shape { prefix.now.shape ≡ question.now.shape }
-    ensures { result ≡ (if is_canonical (dimensions_of question.now.shape) (requirement_of question.now.demands) prefix.now.rows then Some (rank_at (dimensions_of question.now.shape) prefix.now.rows (length prefix.now.rows)) else None) }
+    ensures rank { result ≡ (if is_canonical (dimensions_of question.now.shape) (requirement_of question.now.demands) prefix.now.rows then Some (rank_at (dimensions_of question.now.shape) prefix.now.rows (length prefix.now.rows)) else None) }
+    ensures fits { IfSome result (λ rank. rank ≤ question.now.shape.m) }
 {
     let mut rank = 0;
     let mut last = 0;
