@@ -5,7 +5,7 @@ ghost use Rattle.fx_vectors.specs.Shape.{dimensions_of};
 ghost use Rattle.fx_vectors.specs.Question.{IsValid, requirement_of};
 
 use crate::following::may_follow;
-use crate::prefix::rank;
+use crate::prefix::front;
 use fx_base::{NoMemory, Values};
 use fx_vectors::{Matrix, Question};
 use std::alloc::Global;
@@ -14,35 +14,20 @@ use std::alloc::Global;
 pub type Points = Values<u16>;
 
 /// The rows by which a canonical prefix is extended to a canonical prefix, in falling order of
-/// number. The question is valid, and the prefix has its shape and is not complete.
+/// number. The question is valid, and the prefix has its shape. A complete prefix has none.
 pub fn children(alloc: Global, question: &Question, prefix: &Matrix) -> Result<Points, NoMemory>
     requires valid { IsValid question.now }
     requires shape { prefix.now.shape ≡ question.now.shape }
     requires canonical { IsTrue (is_canonical (dimensions_of question.now.shape) (requirement_of question.now.demands) prefix.now.rows) }
-    requires incomplete { length prefix.now.rows < question.now.shape.s + question.now.shape.t }
     ensures { IfOk result (λ points. points ≡ filter (λ row. is_canonical (dimensions_of question.now.shape) (requirement_of question.now.demands) (prefix.now.rows ++ row ∷ [])) (falling (question.now.shape.q ^ question.now.shape.m))) }
 {
     let shape = question.shape;
-    let count = prefix.len();
-    let rank = rank(question, prefix).unwrap();
-    let last = last_row(prefix);
+    let front = front(question, prefix).unwrap();
     let mut points = Points::new(alloc);
     for row in (0..u16::from(shape.q).pow(u32::from(shape.m))).rev() {
-        if may_follow(question, count, rank, last, row) {
+        if may_follow(question, front, row) {
             points.push(row)?;
         }
     }
     Ok(points)
-}
-
-/// The last row, or 0 where there is none.
-fn last_row(prefix: &Matrix) -> u16
-    ensures { result ≡ slice_index prefix.now.rows (length prefix.now.rows - 1) }
-{
-    let count = prefix.len();
-    if count == 0 {
-        0
-    } else {
-        prefix.row(count - 1)
-    }
 }

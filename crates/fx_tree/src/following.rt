@@ -4,23 +4,27 @@ ghost use Rattle.fx_designs.specs.Vectors.{is_normal};
 ghost use Rattle.fx_designs.specs.Canonical.{is_unit};
 ghost use Rattle.fx_vectors.specs.Shape.{dimensions_of, IsShape};
 ghost use Rattle.fx_vectors.specs.Question.{IsValid, requirement_of};
-ghost use Rattle.fx_tree.specs.Following.{Front, raised, fits, can_reach, falls_after, keeps_order, follows};
+ghost use Rattle.fx_tree.specs.Following.{raised, fits, can_reach, falls_after, keeps_order, follows};
 
+use crate::front::Front;
 use fx_vectors::{Demands, Question, Shape, Vector};
 
-/// Whether the row may follow `count` rows of the rank `rank`, of which `last` is the last.
-pub(crate) fn may_follow(question: &Question, count: usize, rank: u8, last: u16, row: u16) -> bool
+/// Whether the row may follow rows of this front.
+pub(crate) fn may_follow(question: &Question, front: Front, row: u16) -> bool
     requires valid { IsValid question.now }
-    requires count { count ≤ 40 }
-    requires rank { rank ≤ question.now.shape.m }
+    requires rank { front.rank ≤ question.now.shape.m }
     requires below { row < question.now.shape.q ^ question.now.shape.m }
-    ensures { result ≡ follows (dimensions_of question.now.shape) (requirement_of question.now.demands) (record { count = count; rank = rank; last = last }) row }
+    ensures { result ≡ follows (dimensions_of question.now.shape) (requirement_of question.now.demands) front row }
 {
     let shape = question.shape;
-    count < usize::from(shape.s) + usize::from(shape.t)
-        && fits(shape, rank, row)
-        && can_reach(shape, count + 1, rank_after(shape, rank, row))
-        && keeps_order(question, count, last, row)
+    front.count < usize::from(shape.s) + usize::from(shape.t)
+        && fits(shape, front.rank, row)
+        && can_reach(
+            shape,
+            front.count + 1,
+            rank_after(shape, front.rank, row),
+        )
+        && keeps_order(question, front.count, front.last, row)
 }
 
 /// The rank once the row has come.

@@ -3,11 +3,13 @@
 
 mod extension;
 mod following;
+mod front;
 mod laws;
 mod order;
 mod prefix;
 
 pub use extension::{children, Points};
+pub use front::Front;
 pub use laws::{front_of_a_canonical_prefix, no_rows_are_canonical, rows_that_follow};
 pub use order::before;
 pub use prefix::is_canonical;
