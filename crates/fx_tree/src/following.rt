@@ -19,11 +19,7 @@ pub(crate) fn may_follow(question: &Question, front: Front, row: u16) -> bool
     let shape = question.shape;
     front.count < usize::from(shape.s) + usize::from(shape.t)
         && fits(shape, front.rank, row)
-        && can_reach(
-            shape,
-            front.count + 1,
-            rank_after(shape, front.rank, row),
-        )
+        && can_reach(shape, front.count + 1, rank_after(shape, front.rank, row))
         && keeps_order(question, front.count, front.last, row)
 }
 
@@ -73,8 +69,7 @@ fn keeps_order(question: &Question, count: usize, last: u16, row: u16) -> bool
 {
     match question.demands {
         Demands::Resolution { .. } => {
-            count >= usize::from(question.shape.s)
-                || falls_after(question.shape, count, last, row)
+            count >= usize::from(question.shape.s) || falls_after(question.shape, count, last, row)
         }
         Demands::Effects { .. } => true,
     }

@@ -7,8 +7,10 @@ mod front;
 mod laws;
 mod order;
 mod prefix;
+#[cfg(test)]
+mod tests;
 
-pub use extension::{children, Points};
+pub use extension::{Points, children};
 pub use front::Front;
 pub use laws::{front_of_a_canonical_prefix, no_rows_are_canonical, rows_that_follow};
 pub use order::before;
