@@ -107,6 +107,10 @@ module _ (d : Dimensions) (f : IsField d.q) (wanted : Requirement) (rows : List 
       subst (λ z. in_span d.q d.m z (digits d.q d.m row) ≡ ltb row (d.q ^ rank_of d.q d.m z)) (take-vectors d.q d.m (length rows) rows)
       (subst (λ z. in_span d.q d.m (take (length rows) vs) (digits d.q d.m row) ≡ ltb z (d.q ^ rank_of d.q d.m (take (length rows) vs))) (number-digits d.q d.m row some low) there)
 
+  pub span-all : is_canonical d wanted rows ≡ true → row < d.q ^ d.m → in_span d.q d.m (vectors_of d.q d.m rows) (digits d.q d.m row) ≡ ltb row (d.q ^ rank_of d.q d.m (vectors_of d.q d.m rows))
+  span-all can low =
+      subst (λ z. in_span d.q d.m (vectors_of d.q d.m z) (digits d.q d.m row) ≡ ltb row (d.q ^ rank_of d.q d.m (vectors_of d.q d.m z))) (take_whole rows (length rows) (omega arith)) (span-new can low)
+
   follow-new : is_canonical d wanted rows ≡ true → row < d.q ^ d.m → follows_at d (rows ++ row ∷ []) (length rows) ≡ fits d (rank_at d rows (length rows)) row
   follow-new can low = rw (take-same (length rows) (omega arith), at-new, span-new can low) refl
 
@@ -114,9 +118,7 @@ module _ (d : Dimensions) (f : IsField d.q) (wanted : Requirement) (rows : List 
   rank-new can low =
       let whole : take (length rows + 1) (rows ++ row ∷ []) ≡ rows ++ row ∷ [] = take_whole (rows ++ row ∷ []) (length rows + 1) (omega (arith, grown)) in
       let old : take (length rows) rows ≡ rows = take_whole rows (length rows) (omega arith) in
-      let span : in_span d.q d.m (vectors_of d.q d.m rows) (digits d.q d.m row) ≡ ltb row (d.q ^ rank_of d.q d.m (vectors_of d.q d.m rows)) =
-      subst (λ z. in_span d.q d.m (vectors_of d.q d.m z) (digits d.q d.m row) ≡ ltb row (d.q ^ rank_of d.q d.m (vectors_of d.q d.m z))) old (span-new can low) in
-      let vs : List (List ℕ) = vectors_of d.q d.m rows in
+      let span = span-all can low in
       ap (λ z. rank_of d.q d.m (vectors_of d.q d.m z)) whole
       ∙ ap (λ z. rank_of d.q d.m z) (vectors-append d.q d.m rows row)
       ∙ rank-snoc d.q d.m f [] (vectors_of d.q d.m rows) (digits d.q d.m row)

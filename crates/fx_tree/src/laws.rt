@@ -1,5 +1,7 @@
-ghost use Rattle.std.specs.Prelude.{◌≡◌, [], ◌∷◌, ◌++◌, ℕ, List, IsTrue, true};
-ghost use Rattle.fx_designs.specs.Galois.{is_order};
+ghost use Rattle.std.specs.Prelude.{◌≡◌, ◌<◌, ◌^◌, [], ◌∷◌, ◌++◌, ℕ, List, IsTrue, true, nat_lt};
+ghost use Rattle.fx_designs.specs.Galois.{is_order, digits};
+ghost use Rattle.fx_designs.specs.Vectors.{vectors_of};
+ghost use Rattle.fx_designs.specs.Spans.{in_span, rank_of};
 ghost use Rattle.fx_designs.specs.Problems.{Dimensions, Requirement};
 ghost use Rattle.fx_designs.specs.Canonical.{is_canonical};
 ghost use Rattle.fx_tree.specs.Following.{front_of, follows};
@@ -18,4 +20,9 @@ pub fn front_of_a_canonical_prefix()
 /// The prefix without rows is canonical.
 pub fn no_rows_are_canonical()
     ensures { (d : Dimensions) (wanted : Requirement) → IsTrue (is_order d.q) → is_canonical d wanted [] ≡ true }
+{}
+
+/// The rows of a canonical prefix span the vectors of less number than the next unit vector.
+pub fn span_of_a_canonical_prefix()
+    ensures { (d : Dimensions) (wanted : Requirement) (rows : List ℕ) (row : ℕ) → IsTrue (is_order d.q) → is_canonical d wanted rows ≡ true → row < d.q ^ d.m → in_span d.q d.m (vectors_of d.q d.m rows) (digits d.q d.m row) ≡ nat_lt row (d.q ^ rank_of d.q d.m (vectors_of d.q d.m rows)) }
 {}

@@ -12,6 +12,9 @@ mod tests;
 
 pub use extension::{Points, children};
 pub use front::Front;
-pub use laws::{front_of_a_canonical_prefix, no_rows_are_canonical, rows_that_follow};
+pub use laws::{
+    front_of_a_canonical_prefix, no_rows_are_canonical, rows_that_follow,
+    span_of_a_canonical_prefix,
+};
 pub use order::before;
 pub use prefix::is_canonical;
