@@ -1,0 +1,5 @@
+pub mod Units
+pub mod Extensions
+pub mod Walks
+pub mod Lists
+pub mod Orders

@@ -1,0 +1,28 @@
+ghost use Rattle.std.specs.Prelude.{◌≡◌, ◌<◌, ◌^◌, [], ◌∷◌, ◌++◌, ℕ, List, IsTrue, true, nat_lt};
+ghost use Rattle.fx_designs.specs.Galois.{is_order, digits};
+ghost use Rattle.fx_designs.specs.Vectors.{vectors_of};
+ghost use Rattle.fx_designs.specs.Spans.{in_span, rank_of};
+ghost use Rattle.fx_designs.specs.Problems.{Dimensions, Requirement};
+ghost use Rattle.fx_designs.specs.Canonical.{is_canonical};
+ghost use Rattle.fx_tree.specs.Following.{front_of, follows};
+
+/// Which rows extend a canonical prefix to a canonical prefix is decided by the number of its rows,
+/// their rank, and the last of them.
+pub fn rows_that_follow()
+    ensures { (d : Dimensions) (wanted : Requirement) (rows : List ℕ) (row : ℕ) → IsTrue (is_order d.q) → is_canonical d wanted rows ≡ true → is_canonical d wanted (rows ++ row ∷ []) ≡ follows d wanted (front_of d rows) row }
+{}
+
+/// What a canonical prefix begins with is a canonical prefix.
+pub fn front_of_a_canonical_prefix()
+    ensures { (d : Dimensions) (wanted : Requirement) (rows : List ℕ) (row : ℕ) → IsTrue (is_order d.q) → is_canonical d wanted (rows ++ row ∷ []) ≡ true → is_canonical d wanted rows ≡ true }
+{}
+
+/// The prefix without rows is canonical.
+pub fn no_rows_are_canonical()
+    ensures { (d : Dimensions) (wanted : Requirement) → IsTrue (is_order d.q) → is_canonical d wanted [] ≡ true }
+{}
+
+/// The rows of a canonical prefix span the vectors of less number than the next unit vector.
+pub fn span_of_a_canonical_prefix()
+    ensures { (d : Dimensions) (wanted : Requirement) (rows : List ℕ) (row : ℕ) → IsTrue (is_order d.q) → is_canonical d wanted rows ≡ true → row < d.q ^ d.m → in_span d.q d.m (vectors_of d.q d.m rows) (digits d.q d.m row) ≡ nat_lt row (d.q ^ rank_of d.q d.m (vectors_of d.q d.m rows)) }
+{}

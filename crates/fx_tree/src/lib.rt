@@ -1,0 +1,20 @@
+//! Canonical prefixes: which lists of rows are, by which rows each is extended, and their order.
+#![tactic(auto)]
+
+mod extension;
+mod following;
+mod front;
+mod laws;
+mod order;
+mod prefix;
+#[cfg(test)]
+mod tests;
+
+pub use extension::{Points, children};
+pub use front::Front;
+pub use laws::{
+    front_of_a_canonical_prefix, no_rows_are_canonical, rows_that_follow,
+    span_of_a_canonical_prefix,
+};
+pub use order::before;
+pub use prefix::is_canonical;
