@@ -28,3 +28,4 @@ pub mod Extensions
 pub mod PatternOrder
 pub mod LeastPattern
 pub mod Prefix
+mod Examples

@@ -3,7 +3,8 @@
 ghost use Rattle.std.specs.Prelude.{◌<◌, ◌+◌, IsTrue};
 ghost use Rattle.fx_designs.specs.Galois.{is_order};
 ghost use Rattle.fx_designs.specs.Problems.{Dimensions, Requirement, Problem};
-ghost use Rattle.fx_reduction.specs.Reduction.{MetWhereAllowed, MetAsPrefix, IsReducible, CanonicalForEvery, NoneWhereNone, NoAnswerWhereNone, LeastOfAll};
+ghost use Rattle.fx_reduction.specs.Reduction.{MetWhereAllowed, MetAsPrefix, IsReducible};
+ghost use Rattle.fx_reduction.specs.Reduction.{CanonicalForEvery, NoneWhereNone, NoAnswerWhereNone, LeastOfAll};
 
 /// The runs of a rule matrix meet a requirement exactly where no forbidden vector is a zero sum, and
 /// a whole matrix meets it exactly where it is allowed as a prefix.
