@@ -4,6 +4,7 @@ ghost use Rattle.fx_language.specs.declared.symbol.Symbol.TheVariants.{At};
 ghost use Rattle.fx_language.specs.Symbols.{is};
 ghost use Rattle.fx_text.specs.Refusals.{IsRefused};
 ghost use Rattle.fx_vectors.specs.Effects.{numbers_of};
+ghost use Rattle.fx_demands.specs.Bars.{AreNumbers};
 ghost use Rattle.fx_effects.specs.Expressions.{at_most, bars_at, expression_at, most_factors, stars_len};
 
 use crate::range::range_at;
@@ -47,6 +48,7 @@ pub(crate) fn expression_at(
 ) -> Result<Expression, ParseStop>
     requires { length factors.now ≤ 40 }
     ensures ok { IfOk result (λ e. expression_at factors.now first.now rest.now ≡ Ok e) }
+    ensures numbers { IfOk result (λ e. AreNumbers e.stars) }
     ensures err { IfErr result (IsRefused (expression_at factors.now first.now rest.now)) }
 {
     match last_behind(rest) {
@@ -64,6 +66,7 @@ fn bars_at(
 ) -> Result<Expression, ParseStop>
     requires { length factors.now ≤ 40 }
     ensures ok { IfOk result (λ e. bars_at factors.now first.now rest.now ≡ Ok e) }
+    ensures numbers { IfOk result (λ e. AreNumbers e.stars) }
     ensures err { IfErr result (IsRefused (bars_at factors.now first.now rest.now)) }
 {
     let len = stars_len(rest);

@@ -1,5 +1,6 @@
 ghost use Rattle.std.specs.Prelude.{◌≡◌, ◌≤◌, false, length, take, Ok, IfOk, IfErr};
 ghost use Rattle.fx_text.specs.Refusals.{IsRefused};
+ghost use Rattle.fx_effects.specs.Lists.{AreSmall};
 ghost use Rattle.fx_effects.specs.Expressions.{begins_effect, effect_len, expressions_of, is_joining};
 
 use crate::expression::{Expression, expression_at};
@@ -23,6 +24,7 @@ pub(crate) fn expressions_of(
 ) -> Result<Expressions, ParseStop>
     requires { length factors.now ≤ 40 }
     ensures ok { IfOk result (λ all. expressions_of factors.now written.now ≡ Ok all) }
+    ensures numbers { IfOk result AreSmall }
     ensures err { IfErr result (IsRefused (expressions_of factors.now written.now)) }
 {
     let mut all = Expressions::new(alloc);

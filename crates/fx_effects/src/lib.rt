@@ -4,5 +4,9 @@
 mod expression;
 mod expressions;
 mod factor;
+mod lists;
+mod model;
 mod range;
 mod stars;
+
+pub use model::{ModelEffects, effects_of};

@@ -2,6 +2,7 @@ ghost use Rattle.std.specs.Prelude.{◌≡◌, ◌≤◌, ◌+◌, ◌^◌, leng
 ghost use Rattle.fx_text.specs.Refusals.{IsRefused};
 ghost use Rattle.fx_factors.specs.Ranges.{numbered, stem};
 ghost use Rattle.fx_vectors.specs.Effects.{numbers_of};
+ghost use Rattle.fx_demands.specs.Bars.{AreNumbers};
 ghost use Rattle.fx_effects.specs.Factors.{mains_from};
 ghost use Rattle.fx_effects.specs.Expressions.{range_at};
 
@@ -26,6 +27,7 @@ pub(crate) fn range_at(
 ) -> Result<Expression, ParseStop>
     requires { length factors.now ≤ 40 }
     ensures ok { IfOk result (λ e. range_at factors.now first.now last.now ≡ Ok e) }
+    ensures numbers { IfOk result (λ e. AreNumbers e.stars) }
     ensures err { IfErr result (IsRefused (range_at factors.now first.now last.now)) }
 {
     let (low, high) = (first.text(), last.text());
@@ -49,6 +51,7 @@ fn mains(
     requires few { length factors.now ≤ 40 }
     requires numbers { from + count ≤ 2 ^ 128 }
     ensures ok { IfOk result (λ mains. mains_from first.now factors.now [] (numbered (stem first.now.text) from count) ≡ Ok (numbers_of mains)) }
+    ensures numbers { IfOk result (λ mains. AreNumbers (numbers_of mains)) }
     ensures err { IfErr result (IsRefused (mains_from first.now factors.now [] (numbered (stem first.now.text) from count))) }
 {
     let mut mains = Effects::new(alloc);

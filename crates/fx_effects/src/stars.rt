@@ -1,6 +1,7 @@
 ghost use Rattle.std.specs.Prelude.{◌≡◌, ◌≤◌, length, [], Ok, Err, IfOk, IfErr, OnOk};
 ghost use Rattle.fx_text.specs.Refusals.{IsRefused};
 ghost use Rattle.fx_vectors.specs.Effects.{numbers_of};
+ghost use Rattle.fx_demands.specs.Bars.{AreNumbers};
 ghost use Rattle.fx_effects.specs.Expressions.{all_read, read, stars_of, with_name};
 
 use crate::factor::main_effect;
@@ -22,10 +23,13 @@ pub(crate) struct Stars {
 impl Model for Stars {
     ghost use Rattle.fx_vectors.specs.Effects.{numbers_of};
     ghost use Rattle.fx_effects.specs.Expressions.{Reading};
+    ghost use Rattle.fx_demands.specs.Bars.{AreNumbers};
 
     ghost Value = { Reading };
 
     ghost view = { λ s. record { stars = numbers_of s.whole; star = s.next.0 } };
+
+    ghost invariant = { λ s. AreNumbers (numbers_of s.whole) };
 }
 
 impl Stars {
@@ -89,13 +93,15 @@ impl Stars {
 
     /// The stars, with the last one.
     pub(crate) fn finish(mut self) -> Result<Effects, NoMemory>
-        ensures { IfOk result (λ stars. numbers_of stars ≡ stars_of self) }
+        ensures stars { IfOk result (λ stars. numbers_of stars ≡ stars_of self) }
+        ensures numbers { IfOk result (λ stars. AreNumbers (numbers_of stars)) }
     {
         self.end_star()?;
         Ok(self.whole)
     }
 
     /// Ends a star, where a factor of it was read.
+    #[tactic(auto, using(crate::proofs::Numbers::pushed))]
     fn end_star(&mut self) -> Result<(), NoMemory>
         ensures { OnOk result (self.new ≡ record { stars = stars_of self.old; star = 0 }) }
     {

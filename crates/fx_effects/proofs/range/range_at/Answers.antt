@@ -1,4 +1,4 @@
-use Rattle.std.proofs.Common.{◌≡◌, ◌≤◌, ◌<◌, ◌+◌, ◌-◌, ◌^◌, true, ap, ap₂, sym, ◌∙◌, arith, Fits}
+use Rattle.std.proofs.Common.{◌≡◌, ◌+◌, ◌-◌, true, ap, ap₂, sym, ◌∙◌, arith}
 use Rattle.fx_factors.specs.Ranges.{is_range, names_between, number_at_end, numbered, stem}
 use Rattle.fx_factors.proofs.Parts.{order}
 use Rattle.fx_vectors.specs.Effects.{numbers_of}
