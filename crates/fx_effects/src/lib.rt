@@ -10,3 +10,6 @@ mod range;
 mod stars;
 
 pub use model::{ModelEffects, effects_of};
+
+#[cfg(test)]
+mod tests;
