@@ -1,12 +1,12 @@
 -- What a MODEL statement with ESTIMATE asks for.
-use Rattle.std.specs.Prelude.{ℕ, ◌==◌, ◌+◌, nat_le, not, List, [], ◌∷◌, take, drop, filter, Option, Some, None, Result, Ok, Err, slice_get, if◌then◌else◌}
-use Rattle.std.specs.List.{list_any, prefix_len}
+use Rattle.std.specs.Prelude.{ℕ, ◌≤◌, ◌==◌, ◌+◌, IsTrue, nat_le, not, List, [], ◌∷◌, take, drop, filter, Option, Some, None, Result, Ok, Err, slice_get, if◌then◌else◌}
+use Rattle.std.specs.List.{list_all, list_any, prefix_len}
 use Rattle.fx_language.specs.declared.symbol.Symbol.TheVariants.{Close}
 use Rattle.fx_language.specs.Symbols.{is}
 use Rattle.fx_text.specs.declared.refusal.Refusal.{Refusal}
 use Rattle.fx_text.specs.Written.{Written}
 use Rattle.fx_text.specs.Refusals.{refusal_at, ◌>>=◌}
-use Rattle.fx_vectors.specs.Effects.{pair_count}
+use Rattle.fx_vectors.specs.Effects.{are_in_order, pair_count}
 use Rattle.fx_effects.specs.Expressions.{expressions_of}
 use Rattle.fx_effects.specs.Lists.{effects_of, at_most_100000}
 
@@ -14,6 +14,13 @@ use Rattle.fx_effects.specs.Lists.{effects_of, at_most_100000}
 pub record EffectLists : Type 0 where
   pub estimate : List ℕ
   pub nonnegligible : List ℕ
+
+-- lists in effect order, with no effect in both and at most 2,000,000 pairs
+pub record AreApart (q : ℕ) (lists : EffectLists) : Type 0 where
+  pub estimate : IsTrue (are_in_order lists.estimate)
+  pub nonnegligible : IsTrue (are_in_order lists.nonnegligible)
+  pub apart : IsTrue (list_all (λ e. not (list_any (λ n. n == e) lists.estimate)) lists.nonnegligible)
+  pub pairs : pair_count q lists.estimate lists.nonnegligible ≤ 2000000
 
 -- how much stands before `)`
 abbrev pub list_len : List Written → ℕ

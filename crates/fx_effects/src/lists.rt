@@ -25,6 +25,7 @@ pub(crate) fn list_of(
 ) -> Result<Effects, ParseStop>
     requires { AreSmall expressions.now }
     ensures ok { IfOk result (λ effects. at_most_100000 word.now (effects_of expressions.now) ≡ Ok (numbers_of effects)) }
+    ensures ordered { IfOk result (λ effects. AreOrdered (numbers_of effects)) }
     ensures err { IfErr result (IsRefused (at_most_100000 word.now (effects_of expressions.now))) }
 {
     match effects_of(alloc, expressions) {

@@ -2,7 +2,8 @@ ghost use Rattle.std.specs.Prelude.{◌≡◌, ◌≤◌, ◌==◌, not, filter,
 ghost use Rattle.std.specs.List.{list_any, prefix_len};
 ghost use Rattle.fx_text.specs.Refusals.{IsRefused};
 ghost use Rattle.fx_vectors.specs.Effects.{numbers_of};
-ghost use Rattle.fx_effects.specs.Models.{by_word, first_or, list_in, list_len, behind_list, lists_at, lists_behind, lists_of, told_apart, without};
+ghost use Rattle.fx_demands.specs.Bars.{AreOrdered};
+ghost use Rattle.fx_effects.specs.Models.{AreApart, by_word, first_or, list_in, list_len, behind_list, lists_at, lists_behind, lists_of, told_apart, without};
 
 use crate::expressions::expressions_of;
 use crate::lists::list_of;
@@ -52,6 +53,7 @@ pub fn effects_of(
 ) -> Result<ModelEffects, ParseStop>
     requires { length factors.now ≤ 40 }
     ensures ok { IfOk result (λ effects. lists_of field factors.now statement.now ≡ Ok effects) }
+    ensures apart { IfOk result (AreApart field) }
     ensures err { IfErr result (IsRefused (lists_of field factors.now statement.now)) }
 {
     match statement.get(1) {
@@ -73,6 +75,7 @@ fn effects_behind(
 ) -> Result<ModelEffects, ParseStop>
     requires { length factors.now ≤ 40 }
     ensures ok { IfOk result (λ effects. lists_behind field factors.now word.now written.now ≡ Ok effects) }
+    ensures apart { IfOk result (AreApart field) }
     ensures err { IfErr result (IsRefused (lists_behind field factors.now word.now written.now)) }
 {
     let behind = behind_list(written);
@@ -94,6 +97,7 @@ fn lists_at(
 ) -> Result<ModelEffects, ParseStop>
     requires { length factors.now ≤ 40 }
     ensures ok { IfOk result (λ effects. lists_at field factors.now word.now written.now other_word.now other_written.now ≡ Ok effects) }
+    ensures apart { IfOk result (AreApart field) }
     ensures err { IfErr result (IsRefused (lists_at field factors.now word.now written.now other_word.now other_written.now)) }
 {
     let estimate = expressions_of(alloc, factors, written)?;
@@ -111,7 +115,10 @@ fn told_apart(
     estimate: Effects,
     others: &Effects,
 ) -> Result<ModelEffects, ParseStop>
+    requires estimate { AreOrdered (numbers_of estimate) }
+    requires others { AreOrdered (numbers_of others.now) }
     ensures ok { IfOk result (λ effects. told_apart field word.now (numbers_of estimate) (numbers_of others.now) ≡ Ok effects) }
+    ensures apart { IfOk result (AreApart field) }
     ensures err { IfErr result (IsRefused (told_apart field word.now (numbers_of estimate) (numbers_of others.now))) }
 {
     // With more than 2,000,000 pairs in the first list alone, the others are not looked at: so there
