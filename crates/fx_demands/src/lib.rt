@@ -17,4 +17,4 @@ pub use effect_stop::EffectStop;
 pub use forbidden::Forbidden;
 pub use laws::{bars_in_words, closing_word_in_words};
 pub use pairs::pair_count;
-pub use unions::bars;
+pub use unions::{bars, merged};

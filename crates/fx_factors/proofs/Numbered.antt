@@ -22,7 +22,7 @@ module _ (stem : List ℕ) (from count i : ℕ) (h : i < count) where
   pub one_more : take (i + 1) all ≡ take i all ++ (stem ++ decimal (from + i)) ∷ []
   one_more = rw (add-one, take-suc all i [] inside, name_is) refl
 
-  from_here : drop i all ≡ (stem ++ decimal (from + i)) ∷ drop (i + 1) all
+  pub from_here : drop i all ≡ (stem ++ decimal (from + i)) ∷ drop (i + 1) all
   from_here = rw (add-one i) (drop-cons all i [] inside ∙ ap (λ name. name ∷ drop (suc i) all) name_is)
 
   pub known_here : (names : List (List ℕ)) → is_some (place_of (stem ++ decimal (from + i)) names) ≡ true → are_known (drop i all) names ≡ true

@@ -132,7 +132,7 @@ fn add_numbered(
 }
 
 /// A stem with a number behind it.
-fn numbered_name(alloc: Global, stem: &[u8], number: u128) -> Result<Bytes, NoMemory>
+pub fn numbered_name(alloc: Global, stem: &[u8], number: u128) -> Result<Bytes, NoMemory>
     ensures { IfOk result (λ name. name ≡ stem.now ++ decimal number) }
 {
     let mut name = Bytes::new(alloc);
@@ -156,7 +156,7 @@ fn before_slash_len(lexemes: &[Lexeme<'_>]) -> usize
 }
 
 /// The last name of a range, where `-` stands behind the first.
-fn last_behind<'b, 'a>(lexemes: &'b [Lexeme<'a>]) -> Option<&'b Lexeme<'a>>
+pub fn last_behind<'b, 'a>(lexemes: &'b [Lexeme<'a>]) -> Option<&'b Lexeme<'a>>
     ensures { MatchOption result (last_behind lexemes.now ≡ None) (λ w. last_behind lexemes.now ≡ Some w.now) }
 {
     if 1 < lexemes.len() && lexemes[0].is(Symbol::Minus) {

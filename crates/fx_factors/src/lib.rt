@@ -4,4 +4,5 @@
 mod factors;
 mod range;
 
-pub use factors::factors_of;
+pub use factors::{factors_of, last_behind, numbered_name};
+pub use range::{is_range, number_at_end, stem};

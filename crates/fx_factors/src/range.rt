@@ -8,7 +8,7 @@ use fx_text::{is_same_name, number};
 /// Whether these are the first and the last name of a range: they have one stem and end in numbers,
 /// the first not above the last.
 #[tactic(auto, using(crate::proofs::Parts::plain, crate::proofs::Parts::order))]
-pub(crate) fn is_range(first: &[u8], last: &[u8]) -> bool
+pub fn is_range(first: &[u8], last: &[u8]) -> bool
     ensures value { result ≡ is_range first.now last.now }
     ensures plain { result ≡ true → (is_plain (ending first.now) ≡ true) × (is_plain (ending last.now) ≡ true) }
     ensures order { result ≡ true → number_at_end first.now ≤ number_at_end last.now }
@@ -21,14 +21,14 @@ pub(crate) fn is_range(first: &[u8], last: &[u8]) -> bool
 }
 
 /// The name without the digits at its end.
-pub(crate) fn stem(name: &[u8]) -> &[u8]
+pub fn stem(name: &[u8]) -> &[u8]
     ensures { result.now ≡ stem name.now }
 {
     &name[..stem_len(name)]
 }
 
 /// The number at the end of a name.
-pub(crate) fn number_at_end(name: &[u8]) -> u128
+pub fn number_at_end(name: &[u8]) -> u128
     requires { is_plain (ending name.now) ≡ true }
     ensures { result ≡ number_at_end name.now }
 {

@@ -1,0 +1,4 @@
+pub mod Mains
+pub mod Numbers
+pub mod Joined
+pub mod Apart

@@ -1,0 +1,4 @@
+pub mod Factors
+pub mod Expressions
+pub mod Lists
+pub mod Models

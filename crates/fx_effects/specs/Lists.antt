@@ -1,0 +1,25 @@
+-- The set of effects that a list stands for.
+use Rattle.std.specs.Prelude.{ℕ, nat_le, List, [], ◌∷◌, ◌++◌, length, Result, Ok, Err, if◌then◌else◌}
+use Rattle.fx_text.specs.declared.refusal.Refusal.{Refusal}
+use Rattle.fx_text.specs.Written.{Written}
+use Rattle.fx_text.specs.Refusals.{refusal_at}
+use Rattle.fx_demands.specs.Bars.{bars_of, in_order, AreNumbers}
+use Rattle.fx_effects.specs.Expressions.{Expression}
+
+-- the effects that each of them stands for, one after another
+abbrev pub effects_written : List Expression → List ℕ
+effects_written [] = []
+effects_written (e ∷ rest) = bars_of e.stars e.upto ++ effects_written rest
+
+-- these effects in effect order, each once
+abbrev pub effects_of : List Expression → List ℕ
+effects_of expressions = in_order (effects_written expressions)
+
+-- at most 100,000 effects, or E23 at the list's word
+abbrev pub at_most_100000 : Written → List ℕ → Result (List ℕ) Refusal
+at_most_100000 word effects = if nat_le (length effects) 100000 then Ok effects else Err (refusal_at 23 word)
+
+-- stars that are numbers of 64 bits
+abbrev pub AreSmall : List Expression → Type 0
+AreSmall [] = Unit {0}
+AreSmall (e ∷ rest) = AreNumbers e.stars × AreSmall rest

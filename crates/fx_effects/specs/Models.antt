@@ -1,0 +1,73 @@
+-- What a MODEL statement with ESTIMATE asks for.
+use Rattle.std.specs.Prelude.{ℕ, ◌≤◌, ◌==◌, ◌+◌, IsTrue, nat_le, not, List, [], ◌∷◌, take, drop, filter, Option, Some, None, Result, Ok, Err, slice_get, if◌then◌else◌}
+use Rattle.std.specs.List.{list_all, list_any, prefix_len}
+use Rattle.fx_language.specs.declared.symbol.Symbol.TheVariants.{Close}
+use Rattle.fx_language.specs.Symbols.{is}
+use Rattle.fx_text.specs.declared.refusal.Refusal.{Refusal}
+use Rattle.fx_text.specs.Written.{Written}
+use Rattle.fx_text.specs.Refusals.{refusal_at, ◌>>=◌}
+use Rattle.fx_vectors.specs.Effects.{are_in_order, pair_count}
+use Rattle.fx_effects.specs.Expressions.{expressions_of}
+use Rattle.fx_effects.specs.Lists.{effects_of, at_most_100000}
+
+-- the effects to be estimated, and those that may not be negligible, in effect order
+pub record EffectLists : Type 0 where
+  pub estimate : List ℕ
+  pub nonnegligible : List ℕ
+
+-- lists in effect order, with no effect in both and at most 2,000,000 pairs
+pub record AreApart (q : ℕ) (lists : EffectLists) : Type 0 where
+  pub estimate : IsTrue (are_in_order lists.estimate)
+  pub nonnegligible : IsTrue (are_in_order lists.nonnegligible)
+  pub apart : IsTrue (list_all (λ e. not (list_any (λ n. n == e) lists.estimate)) lists.nonnegligible)
+  pub pairs : pair_count q lists.estimate lists.nonnegligible ≤ 2000000
+
+-- how much stands before `)`
+abbrev pub list_len : List Written → ℕ
+list_len written = prefix_len (λ w. not (is Close w.symbol)) written
+
+-- a list that begins behind its `(`
+abbrev pub list_in : List Written → List Written
+list_in written = take (list_len written) written
+
+-- what stands behind its `)`
+abbrev pub behind_list : List Written → List Written
+behind_list written = drop (list_len written + 1) written
+
+-- the effects without those of another list
+abbrev pub without : List ℕ → List ℕ → List ℕ
+without others effects = filter (λ e. not (list_any (λ f. f == e) others)) effects
+
+-- effects that may be told apart, where those to be estimated are no others, or E22 at the word ESTIMATE
+abbrev pub told_apart : ℕ → Written → List ℕ → List ℕ → Result EffectLists Refusal
+told_apart q word estimate others =
+    if nat_le (pair_count q estimate (without estimate others)) 2000000
+    then Ok (record { estimate = estimate; nonnegligible = without estimate others })
+    else Err (refusal_at 22 word)
+
+-- the first of some, or another where there is none
+abbrev pub first_or : Written → List Written → Written
+first_or other [] = other
+first_or other (w ∷ rest) = w
+
+-- Two lists, each behind its word. Where the second word is missing, its list has no effects.
+abbrev pub lists_at : ℕ → List (List ℕ) → Written → List Written → Written → List Written → Result EffectLists Refusal
+lists_at q factors word written other_word other_written =
+    expressions_of factors written >>= (λ estimate.
+    expressions_of factors other_written >>= (λ others.
+    at_most_100000 word (effects_of estimate) >>= (λ first.
+    at_most_100000 other_word (effects_of others) >>= (λ second.
+    told_apart q word first second))))
+
+-- what stands behind `MODEL ESTIMATE = (`, at the word ESTIMATE
+abbrev pub lists_behind : ℕ → List (List ℕ) → Written → List Written → Result EffectLists Refusal
+lists_behind q factors word written =
+    lists_at q factors word (list_in written) (first_or word (behind_list written)) (list_in (drop 3 (behind_list written)))
+
+abbrev pub by_word : ℕ → List (List ℕ) → Option Written → List Written → Result EffectLists Refusal
+by_word q factors None written = Ok (record { estimate = []; nonnegligible = [] })
+by_word q factors (Some word) written = lists_behind q factors word written
+
+-- the lists of a statement `MODEL ESTIMATE = ( .. )`, which may go on by `NONNEGLIGIBLE = ( .. )`
+abbrev pub lists_of : ℕ → List (List ℕ) → List Written → Result EffectLists Refusal
+lists_of q factors statement = by_word q factors (slice_get statement 1) (drop 4 statement)

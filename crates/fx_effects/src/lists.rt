@@ -1,0 +1,74 @@
+ghost use Rattle.std.specs.Prelude.{◌≡◌, ◌≤◌, length, Ok, IfOk, IfErr};
+ghost use Rattle.fx_text.specs.Refusals.{IsRefused};
+ghost use Rattle.fx_vectors.specs.Effects.{numbers_of};
+ghost use Rattle.fx_demands.specs.Bars.{AreOrdered, IsCause};
+ghost use Rattle.fx_effects.specs.Lists.{AreSmall, at_most_100000, effects_of};
+
+use crate::expression::Expression;
+use fx_demands::{EffectStop, bars, merged};
+use fx_text::{Lexeme, ParseStop};
+use fx_vectors::Effects;
+use std::alloc::Global;
+
+/// The most effects of a list.
+const MOST_EFFECTS: usize = 100_000;
+
+/// The set of effects of a list behind this word, in effect order.
+///
+/// # Errors
+///
+/// E23 at the word: there are more than 100,000. And `NoMemory`.
+pub(crate) fn list_of(
+    alloc: Global,
+    word: &Lexeme<'_>,
+    expressions: &[Expression],
+) -> Result<Effects, ParseStop>
+    requires { AreSmall expressions.now }
+    ensures ok { IfOk result (λ effects. at_most_100000 word.now (effects_of expressions.now) ≡ Ok (numbers_of effects)) }
+    ensures ordered { IfOk result (λ effects. AreOrdered (numbers_of effects)) }
+    ensures err { IfErr result (IsRefused (at_most_100000 word.now (effects_of expressions.now))) }
+{
+    match effects_of(alloc, expressions) {
+        Ok(effects) => Ok(effects),
+        Err(EffectStop::TooMany) => Err(ParseStop::Refused(word.refused(23))),
+        Err(EffectStop::NoMemory) => Err(ParseStop::NoMemory),
+    }
+}
+
+/// The set of effects that they stand for, in effect order. `TooMany` where there are more than
+/// 100,000. Halves are joined, so that an effect is moved as often as the list can be halved.
+fn effects_of(alloc: Global, expressions: &[Expression]) -> Result<Effects, EffectStop>
+    requires { AreSmall expressions.now }
+    ensures effects { IfOk result (λ effects. numbers_of effects ≡ effects_of expressions.now) }
+    ensures ordered { IfOk result (λ effects. AreOrdered (numbers_of effects)) }
+    ensures few { IfOk result (λ effects. length effects ≤ 100000) }
+    ensures many { IfErr result (IsCause (effects_of expressions.now)) }
+{
+    if expressions.len() <= 1 {
+        return effects_of_one(alloc, expressions);
+    }
+    let (front, back) = expressions.split_at(expressions.len() / 2);
+    let front = effects_of(alloc, front)?;
+    let back = effects_of(alloc, back)?;
+    let all = merged(alloc, &front, &back)?;
+    if all.len() > MOST_EFFECTS {
+        return Err(EffectStop::TooMany);
+    }
+    Ok(all)
+}
+
+/// The effects of one of them, or of none.
+fn effects_of_one(alloc: Global, expressions: &[Expression]) -> Result<Effects, EffectStop>
+    requires small { AreSmall expressions.now }
+    requires one { length expressions.now ≤ 1 }
+    ensures effects { IfOk result (λ effects. numbers_of effects ≡ effects_of expressions.now) }
+    ensures ordered { IfOk result (λ effects. AreOrdered (numbers_of effects)) }
+    ensures few { IfOk result (λ effects. length effects ≤ 100000) }
+    ensures many { IfErr result (IsCause (effects_of expressions.now)) }
+{
+    if expressions.len() == 0 {
+        return Ok(Effects::new(alloc));
+    }
+    let expression = &expressions[0];
+    bars(alloc, &expression.stars, expression.upto)
+}

@@ -1,0 +1,207 @@
+ghost use Rattle.std.specs.Prelude.{◌≡◌, ◌≤◌, ◌==◌, not, filter, length, Ok, Some, IfOk, IfErr, take, drop};
+ghost use Rattle.std.specs.List.{list_any, prefix_len};
+ghost use Rattle.fx_text.specs.Refusals.{IsRefused};
+ghost use Rattle.fx_vectors.specs.Effects.{numbers_of};
+ghost use Rattle.fx_demands.specs.Bars.{AreOrdered};
+ghost use Rattle.fx_effects.specs.Models.{AreApart, by_word, first_or, list_in, list_len, behind_list, lists_at, lists_behind, lists_of, told_apart, without};
+
+use crate::expressions::expressions_of;
+use crate::lists::list_of;
+use fx_base::{Bytes, NoMemory};
+use fx_demands::pair_count;
+use fx_galois::Field;
+use fx_language::Symbol;
+use fx_text::{Lexeme, ParseStop};
+use fx_vectors::{Effect, Effects};
+use std::alloc::Global;
+use std::marker::Model;
+
+/// The effects that a MODEL statement asks for, none in both lists. Clauses see the numbers of the
+/// effects.
+#[derive(Debug, Drop)]
+pub struct ModelEffects {
+    /// Those to be estimated, in effect order.
+    pub estimate: Effects,
+    /// Those besides them that are not negligible, in effect order.
+    pub nonnegligible: Effects,
+}
+
+impl Model for ModelEffects {
+    ghost use Rattle.fx_vectors.specs.Effects.{numbers_of};
+    ghost use Rattle.fx_effects.specs.Models.{EffectLists};
+
+    ghost Value = { EffectLists };
+
+    ghost view = { λ m. record { estimate = numbers_of m.estimate; nonnegligible = numbers_of m.nonnegligible } };
+}
+
+/// The effects of a statement `MODEL ESTIMATE = ( .. )`, which may go on by `NONNEGLIGIBLE = ( .. )`,
+/// in a step with these factors, of which there are at most 40. Both lists have no effects where
+/// nothing stands behind MODEL.
+///
+/// # Errors
+///
+/// At the first effect of ESTIMATE and then of NONNEGLIGIBLE with one of these, in this order: E30, a
+/// range is not regular; E4, a name is no factor's; E29, `@n` keeps no effect. Then E23 for ESTIMATE
+/// and then for NONNEGLIGIBLE, a list has more than 100,000 effects. Then E22, there are more than
+/// 2,000,000 pairs. And `NoMemory`.
+pub fn effects_of(
+    alloc: Global,
+    field: Field,
+    factors: &[Bytes],
+    statement: &[Lexeme<'_>],
+) -> Result<ModelEffects, ParseStop>
+    requires { length factors.now ≤ 40 }
+    ensures ok { IfOk result (λ effects. lists_of field factors.now statement.now ≡ Ok effects) }
+    ensures apart { IfOk result (AreApart field) }
+    ensures err { IfErr result (IsRefused (lists_of field factors.now statement.now)) }
+{
+    match statement.get(1) {
+        None => Ok(ModelEffects {
+            estimate: Effects::new(alloc),
+            nonnegligible: Effects::new(alloc),
+        }),
+        Some(word) => effects_behind(alloc, field, factors, word, from(statement, 4)),
+    }
+}
+
+/// The effects of what stands behind `MODEL ESTIMATE = (`.
+fn effects_behind(
+    alloc: Global,
+    field: Field,
+    factors: &[Bytes],
+    word: &Lexeme<'_>,
+    written: &[Lexeme<'_>],
+) -> Result<ModelEffects, ParseStop>
+    requires { length factors.now ≤ 40 }
+    ensures ok { IfOk result (λ effects. lists_behind field factors.now word.now written.now ≡ Ok effects) }
+    ensures apart { IfOk result (AreApart field) }
+    ensures err { IfErr result (IsRefused (lists_behind field factors.now word.now written.now)) }
+{
+    let behind = behind_list(written);
+    let others = list_in(from(behind, 3));
+    let other_word = first_or(word, behind);
+    let first = list_in(written);
+    lists_at(alloc, field, factors, word, first, other_word, others)
+}
+
+/// The effects of two lists, each behind its word.
+fn lists_at(
+    alloc: Global,
+    field: Field,
+    factors: &[Bytes],
+    word: &Lexeme<'_>,
+    written: &[Lexeme<'_>],
+    other_word: &Lexeme<'_>,
+    other_written: &[Lexeme<'_>],
+) -> Result<ModelEffects, ParseStop>
+    requires { length factors.now ≤ 40 }
+    ensures ok { IfOk result (λ effects. lists_at field factors.now word.now written.now other_word.now other_written.now ≡ Ok effects) }
+    ensures apart { IfOk result (AreApart field) }
+    ensures err { IfErr result (IsRefused (lists_at field factors.now word.now written.now other_word.now other_written.now)) }
+{
+    let estimate = expressions_of(alloc, factors, written)?;
+    let others = expressions_of(alloc, factors, other_written)?;
+    let estimate = list_of(alloc, word, estimate.as_slice())?;
+    let others = list_of(alloc, other_word, others.as_slice())?;
+    told_apart(alloc, field, word, estimate, &others)
+}
+
+/// Both lists, where those to be estimated are no others.
+fn told_apart(
+    alloc: Global,
+    field: Field,
+    word: &Lexeme<'_>,
+    estimate: Effects,
+    others: &Effects,
+) -> Result<ModelEffects, ParseStop>
+    requires estimate { AreOrdered (numbers_of estimate) }
+    requires others { AreOrdered (numbers_of others.now) }
+    ensures ok { IfOk result (λ effects. told_apart field word.now (numbers_of estimate) (numbers_of others.now) ≡ Ok effects) }
+    ensures apart { IfOk result (AreApart field) }
+    ensures err { IfErr result (IsRefused (told_apart field word.now (numbers_of estimate) (numbers_of others.now))) }
+{
+    // With more than 2,000,000 pairs in the first list alone, the others are not looked at: so there
+    // are at most 1,414 effects that each of them is compared with.
+    let none = Effects::new(alloc);
+    if pair_count(field, &estimate, &none).is_none() {
+        return Err(ParseStop::Refused(word.refused(22)));
+    }
+    let nonnegligible = without(alloc, &estimate, others)?;
+    if pair_count(field, &estimate, &nonnegligible).is_none() {
+        return Err(ParseStop::Refused(word.refused(22)));
+    }
+    Ok(ModelEffects {
+        estimate,
+        nonnegligible,
+    })
+}
+
+/// The effects without those to be estimated.
+fn without(alloc: Global, estimate: &Effects, effects: &Effects) -> Result<Effects, NoMemory>
+    ensures { IfOk result (λ others. numbers_of others ≡ without (numbers_of estimate.now) (numbers_of effects.now)) }
+{
+    let mut others = Effects::new(alloc);
+    for e in effects.as_slice() {
+        if !has(estimate, *e) {
+            others.push(*e)?;
+        }
+    }
+    Ok(others)
+}
+
+/// Whether the effect is one of them.
+fn has(effects: &Effects, effect: Effect) -> bool
+    ensures { result ≡ list_any (λ f. f == effect.0) (numbers_of effects.now) }
+{
+    is_among(effects.as_slice(), effect)
+}
+
+fn is_among(effects: &[Effect], effect: Effect) -> bool
+    ensures { result ≡ list_any (λ f. f.0 == effect.0) effects.now }
+{
+    effects.iter().any(|f| *f == effect)
+}
+
+/// A list that begins behind its `(`.
+fn list_in<'b, 'a>(written: &'b [Lexeme<'a>]) -> &'b [Lexeme<'a>]
+    ensures { result.now ≡ list_in written.now }
+{
+    &written[..list_len(written)]
+}
+
+/// What stands behind its `)`.
+fn behind_list<'b, 'a>(written: &'b [Lexeme<'a>]) -> &'b [Lexeme<'a>]
+    ensures { result.now ≡ behind_list written.now }
+{
+    from(written, list_len(written) + 1)
+}
+
+/// How much stands before `)`.
+fn list_len(written: &[Lexeme<'_>]) -> usize
+    ensures value { result ≡ list_len written.now }
+    ensures bound { result ≤ length written.now }
+{
+    written.iter().take_while(|w| !w.is(Symbol::Close)).count()
+}
+
+/// The first of some, or another where there is none.
+fn first_or<'b, 'a>(other: &'b Lexeme<'a>, written: &'b [Lexeme<'a>]) -> &'b Lexeme<'a>
+    ensures { result.now ≡ first_or other.now written.now }
+{
+    if written.is_empty() {
+        return other;
+    }
+    &written[0]
+}
+
+/// All from this index on.
+fn from<'b, 'a>(written: &'b [Lexeme<'a>], i: usize) -> &'b [Lexeme<'a>]
+    ensures { result.now ≡ drop i written.now }
+{
+    if i <= written.len() {
+        &written[i..]
+    } else {
+        &[]
+    }
+}
