@@ -3,3 +3,4 @@ pub mod Extensions
 pub mod Walks
 pub mod Lists
 pub mod Orders
+pub mod Multiples
