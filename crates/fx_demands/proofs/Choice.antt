@@ -30,7 +30,7 @@ use Rattle.fx_vectors.proofs.Normals.{normal-scale, last_nonzero-positive}
 use Rattle.fx_vectors.proofs.Steps.{are_vectors, drop-vector}
 use Rattle.fx_vectors.specs.Question.{CanBeAsked}
 use Rattle.fx_demands.specs.Supports.{balances}
-use Rattle.fx_demands.specs.Closing.{closes, is_preferred, is_best, words_of, closing_word}
+use Rattle.fx_designs.specs.Closing.{closes, is_preferred, is_best, words_of, closing_word}
 use Rattle.fx_demands.specs.Completions.{IsClosing, AreHeavy, IsGreatestOf}
 use Rattle.fx_demands.proofs.Supports.{bit, zero-effect, is_zero-effect}
 use Rattle.fx_demands.proofs.Balances.{forbids-is, take-vector, not-true, true-not, same-refl, same-true, either_true, point_some}

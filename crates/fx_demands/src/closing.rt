@@ -16,7 +16,7 @@ ghost use Rattle.fx_designs.specs.Vectors.{IsVector};
 ghost use Rattle.fx_designs.specs.Demands.{is_allowed};
 ghost use Rattle.fx_vectors.specs.Shape.{dimensions_of};
 ghost use Rattle.fx_vectors.specs.Question.{requirement_of};
-ghost use Rattle.fx_demands.specs.Closing.{closing_word};
+ghost use Rattle.fx_designs.specs.Closing.{closing_word};
 ghost use Rattle.fx_demands.specs.Completions.{IsPartial, IsGreatestHit, IsNoHit, IsGreatestOf, IsNoneOf};
 
 use crate::forbidden::Forbidden;

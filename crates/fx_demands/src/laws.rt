@@ -6,7 +6,7 @@ ghost use Rattle.fx_designs.specs.Demands.{padded};
 ghost use Rattle.fx_designs.specs.Problems.{Dimensions, Requirement};
 ghost use Rattle.fx_vectors.specs.Effects.{are_in_order};
 ghost use Rattle.fx_demands.specs.Bars.{bars_of, unions, AreNumbers};
-ghost use Rattle.fx_demands.specs.Closing.{closes, closing_word};
+ghost use Rattle.fx_designs.specs.Closing.{closes, closing_word};
 
 /// The bars of stars are exactly the unions of nonempty subsets of the stars that have at most
 /// `upto` factors, each before the next in effect order.

@@ -8,6 +8,8 @@ use Rattle.fx_designs.specs.Demands.{must_balance, is_estimated, is_met, is_allo
 use Rattle.fx_designs.specs.Patterns.{constant_words, pattern_of, resolution_of, is_less}
 use Rattle.fx_designs.specs.Canonical.{is_canonical}
 use Rattle.fx_designs.specs.Answers.{before, lists, designs, answer}
+use Rattle.fx_designs.specs.Closing.{closing_word}
+use Rattle.fx_designs.specs.Nodes.{counts, nodes, marks, word_of, Branch, Word, Worse}
 
 abbrev size : ℕ → ℕ → ℕ → ℕ → Dimensions
 size q m s t = record { q = q; m = m; s = s; t = t }
@@ -105,3 +107,41 @@ in_order :
     × (before (1 ∷ 2 ∷ []) (1 ∷ 2 ∷ []) ≡ false)
 unfolding prime_of degree_of reduction_of add mul neg inv runs_of is_constant is_balanced are_blocks_even is_balanced_in_blocks is_constant_in_blocks in_span must_balance is_estimated is_met is_allowed constant_words pattern_of is_canonical lists designs answer
 in_order = (refl, refl, refl, refl, refl, refl)
+
+-- two factors in two runs cannot both be estimated: B is refused as A, and as no factor; A as no factor
+marks_of_effects :
+    (nodes (problem (size 2 1 2 0) (ForEffects (1 ∷ 2 ∷ []) []) false) ≡ ((1 ∷ []) ∷ (1 ∷ 1 ∷ []) ∷ (1 ∷ 0 ∷ []) ∷ (0 ∷ []) ∷ []))
+    × (marks (problem (size 2 1 2 0) (ForEffects (1 ∷ 2 ∷ []) []) false) ≡ (Branch 1 ∷ Word 1 3 ∷ Word 0 2 ∷ Word 0 1 ∷ []))
+unfolding prime_of degree_of reduction_of add mul neg inv runs_of is_constant is_balanced are_blocks_even is_balanced_in_blocks is_constant_in_blocks in_span must_balance is_estimated is_met is_allowed constant_words pattern_of is_canonical lists designs answer closing_word word_of nodes marks
+marks_of_effects = (refl, refl)
+
+-- three factors in four runs: without a least pattern the nodes end with the design C = A*B
+marks_of_a_design :
+    (nodes (problem (size 2 2 3 0) (AtResolution 3) false) ≡ ((1 ∷ []) ∷ (1 ∷ 2 ∷ []) ∷ (1 ∷ 2 ∷ 3 ∷ []) ∷ []))
+    × (marks (problem (size 2 2 3 0) (AtResolution 3) false) ≡ (Branch 1 ∷ Branch 2 ∷ Worse 3 ∷ []))
+    × (marks (problem (size 2 2 3 0) (AtResolution 4) false) ≡ (Branch 1 ∷ Branch 2 ∷ Word 3 7 ∷ []))
+    × (marks (problem (size 2 2 3 0) (AtResolution 3) true) ≡ (Branch 1 ∷ Branch 2 ∷ Worse 3 ∷ []))
+unfolding prime_of degree_of reduction_of add mul neg inv runs_of is_constant is_balanced are_blocks_even is_balanced_in_blocks is_constant_in_blocks in_span must_balance is_estimated is_met is_allowed constant_words pattern_of is_canonical lists designs answer closing_word word_of nodes marks
+marks_of_a_design = (refl, refl, refl, refl)
+
+-- one factor in four runs in two blocks: the first block row that is tried is the second run index
+marks_in_blocks :
+    (nodes (problem (size 2 2 1 1) (AtResolution 3) false) ≡ ((1 ∷ []) ∷ (1 ∷ 2 ∷ []) ∷ []))
+    × (marks (problem (size 2 1 1 1) (AtResolution 3) false) ≡ (Branch 1 ∷ Word 1 3 ∷ Word 0 2 ∷ []))
+unfolding prime_of degree_of reduction_of add mul neg inv runs_of is_constant is_balanced are_blocks_even is_balanced_in_blocks is_constant_in_blocks in_span must_balance is_estimated is_met is_allowed constant_words pattern_of is_canonical lists designs answer closing_word word_of nodes marks
+marks_in_blocks = (refl, refl)
+
+-- matrices of another job of one's lot do not count
+counting :
+    (counts (size 2 1 4 0) (1 ∷ 1 ∷ 1 ∷ 1 ∷ []) (1 ∷ 1 ∷ 0 ∷ []) ≡ false)
+    × (counts (size 2 1 4 0) (1 ∷ 1 ∷ 1 ∷ 1 ∷ []) (1 ∷ 1 ∷ 1 ∷ 0 ∷ []) ≡ true)
+    × (counts (size 2 1 4 0) (1 ∷ 1 ∷ 1 ∷ 1 ∷ []) (1 ∷ 0 ∷ 1 ∷ []) ≡ true)
+    × (counts (size 2 1 4 0) (1 ∷ 1 ∷ 1 ∷ 1 ∷ []) (1 ∷ 0 ∷ []) ≡ true)
+    × (counts (size 2 1 4 0) (1 ∷ 0 ∷ 1 ∷ 1 ∷ []) (1 ∷ 1 ∷ []) ≡ false)
+counting = (refl, refl, refl, refl, refl)
+
+-- four factors in eight runs: the first design has the least pattern, and no other is better
+marks_of_a_least_pattern :
+    marks (problem (size 2 3 4 0) (AtResolution 3) true) ≡ (Branch 1 ∷ Branch 2 ∷ Branch 4 ∷ Worse 7 ∷ Worse 6 ∷ Worse 5 ∷ Worse 3 ∷ [])
+unfolding prime_of degree_of reduction_of add mul neg inv runs_of is_constant is_balanced are_blocks_even is_balanced_in_blocks is_constant_in_blocks in_span must_balance is_estimated is_met is_allowed constant_words pattern_of is_canonical lists designs answer closing_word word_of nodes marks
+marks_of_a_least_pattern = refl

@@ -4,6 +4,8 @@ pub mod Runs
 pub mod Spans
 pub mod Problems
 pub mod Demands
+pub mod Closing
 pub mod Patterns
 pub mod Canonical
 pub mod Answers
+pub mod Nodes

@@ -24,3 +24,6 @@ pub mod Forms
 pub mod Whole
 pub mod Falling
 pub mod Prefixes
+pub mod Through
+pub mod Candidates
+pub mod Nodes

@@ -7,3 +7,5 @@ pub mod Reorders
 pub mod Canonical
 pub mod Meets
 pub mod First
+pub mod Trees
+pub mod Walks

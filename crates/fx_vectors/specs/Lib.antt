@@ -5,3 +5,4 @@ pub mod Shape
 pub mod Matrix
 pub mod Effects
 pub mod Question
+pub mod Marks

@@ -1,13 +1,17 @@
 //! Vectors over GF(q), rule matrices of a shape, and questions: what is asked of a design.
 #![tactic(auto)]
 
+mod book;
 mod effect;
+mod mark;
 mod matrix;
 mod question;
 mod shape;
 mod vector;
 
+pub use book::{Book, Books, Head, NamedBook, Pattern};
 pub use effect::{Effect, Effects};
+pub use mark::{Mark, Marks};
 pub use matrix::Matrix;
 pub use question::{Demands, Question};
 pub use shape::Shape;

@@ -1,4 +1,4 @@
--- The closing word of a prefix.
+-- The closing word of a prefix: why it is not allowed.
 use Rattle.std.specs.Prelude.{ℕ, ◌==◌, ◌&&◌, ◌||◌, not, nat_lt, Bool, List, filter, length, Option, find}
 use Rattle.std.specs.Option.{option_map}
 use Rattle.std.specs.List.{list_all}
