@@ -28,7 +28,7 @@ use Rattle.fx_reduction.proofs.Kept.{factor-vectors, block-vectors, allowed_fact
 use Rattle.fx_reduction.proofs.NoDesign.{met_exactly}
 use Rattle.fx_reduction.proofs.Patterns.{div-le, entry_no_greater}
 
-weight-end : (u : List ℕ) → weight (u ++ 0 ∷ []) ≡ weight u
+pub weight-end : (u : List ℕ) → weight (u ++ 0 ∷ []) ≡ weight u
 weight-end [] = weight-none []
 weight-end (a ∷ u) = sum_by-cons (λ c. cond (nat_lt 0 c) 1 0) a (u ++ 0 ∷ []) ∙ ap (λ n. cond (nat_lt 0 a) 1 0 + n) (weight-end u)
     ∙ sym (sum_by-cons (λ c. cond (nat_lt 0 c) 1 0) a u)
@@ -55,7 +55,7 @@ module _ (q m : ℕ) (f : IsField q) where
       ∙ sum_by-ext _ _ (codes_of q) (λ c. points-last n (λ p. g (c ∷ p)))
       ∙ sym (points-sum q n (λ p. sum_by (λ c. g (p ++ c ∷ [])) (codes_of q)))
 
-  with-zero : (u : List ℕ) (xs : List (List ℕ)) (r : List ℕ) → length u ≡ length xs → AreVectors q m xs → IsVector q m r
+  pub with-zero : (u : List ℕ) (xs : List (List ℕ)) (r : List ℕ) → length u ≡ length xs → AreVectors q m xs → IsVector q m r
       → combination q m (u ++ 0 ∷ []) (xs ++ r ∷ []) ≡ combination q m u xs
   with-zero u xs r e hx hr =
       combination-append q m f u (0 ∷ []) xs (r ∷ []) e (hr, tt)

@@ -29,3 +29,4 @@ pub mod PatternOrder
 pub mod LeastPattern
 pub mod Prefix
 mod Examples
+pub mod AllowedFronts

@@ -9,4 +9,6 @@ pub use reduction::{
     canonical_for_every_matrix, least_pattern_of_all, met_where_allowed, none_where_none_at_all,
 };
 pub use steps::{change_keeps_zero_sums, raising_the_rank, reordering_factors, scaling_rows};
-pub use strengths::{less_asked_is_met, prefix_has_no_more_words, resolutions_as_effects};
+pub use strengths::{
+    front_of_an_allowed_prefix, less_asked_is_met, prefix_has_no_more_words, resolutions_as_effects,
+};

@@ -1,8 +1,9 @@
 //! Requirements in other words, and requirements that follow from stronger ones.
 
-ghost use Rattle.std.specs.Prelude.{IsTrue};
+ghost use Rattle.std.specs.Prelude.{ℕ, ◌≡◌, true, IsTrue, List, [], ◌∷◌, ◌++◌};
 ghost use Rattle.fx_designs.specs.Galois.{is_order};
 ghost use Rattle.fx_designs.specs.Problems.{Dimensions, Requirement};
+ghost use Rattle.fx_designs.specs.Demands.{is_allowed};
 ghost use Rattle.fx_reduction.specs.Strengths.{OddAsEffects, EvenAsEffects, LowerResolution, FewerBlocks, PrefixHasNoMoreWords};
 
 /// A resolution says which effects can be estimated: at 2k + 1 those of at most k factors where the
@@ -22,4 +23,9 @@ pub fn less_asked_is_met()
 /// The pattern of a prefix is at no place above the pattern of what extends it.
 pub fn prefix_has_no_more_words()
     ensures { (d : Dimensions) → IsTrue (is_order d.q) → PrefixHasNoMoreWords d }
+{}
+
+/// What an allowed prefix begins with is allowed.
+pub fn front_of_an_allowed_prefix()
+    ensures { (d : Dimensions) (wanted : Requirement) (rows : List ℕ) (row : ℕ) → IsTrue (is_order d.q) → is_allowed d wanted (rows ++ row ∷ []) ≡ true → is_allowed d wanted rows ≡ true }
 {}

@@ -4,3 +4,4 @@ pub mod Walks
 pub mod Lists
 pub mod Orders
 pub mod Multiples
+pub mod Nodes

@@ -1,8 +1,11 @@
-ghost use Rattle.std.specs.Prelude.{◌≡◌, ◌<◌, ◌^◌, [], ◌∷◌, ◌++◌, ℕ, List, IsTrue, true, nat_lt};
+ghost use Rattle.std.specs.Prelude.{◌≡◌, ◌<◌, ◌^◌, [], ◌∷◌, ◌++◌, ℕ, List, IsTrue, true, false, nat_lt};
 ghost use Rattle.fx_designs.specs.Galois.{is_order, digits, number};
 ghost use Rattle.fx_designs.specs.Vectors.{IsVector, is_normal, scale, vectors_of};
 ghost use Rattle.fx_designs.specs.Spans.{in_span, rank_of};
-ghost use Rattle.fx_designs.specs.Problems.{Dimensions, Requirement};
+ghost use Rattle.fx_designs.specs.Problems.{Dimensions, Requirement, Problem};
+ghost use Rattle.fx_designs.specs.Answers.{answer};
+ghost use Rattle.fx_designs.specs.Nodes.{nodes, marks};
+ghost use Rattle.fx_laws.specs.Trees.{IsTree, tree_of, answer as tree_answer, nodes as tree_nodes, marks as tree_marks};
 ghost use Rattle.fx_designs.specs.Canonical.{is_canonical};
 ghost use Rattle.fx_tree.specs.Following.{front_of, follows};
 
@@ -40,4 +43,14 @@ pub fn number_of_its_vector()
 /// A normal row stands for its multiples: by one factor alone a multiple of a vector is normal.
 pub fn one_normal_multiple()
     ensures { (q n : ℕ) (v : List ℕ) (c d : ℕ) → IsTrue (is_order q) → IsVector q n v → 0 < c → c < q → 0 < d → d < q → is_normal (scale q c v) ≡ true → is_normal (scale q d v) ≡ true → c ≡ d }
+{}
+
+/// The prefixes of a problem make a tree: what is canonical or allowed stays so without its last row.
+/// Where no least pattern is asked, the answer, the nodes and the marks of the problem are those of
+/// the tree.
+pub fn problems_are_trees()
+    ensures tree { (p : Problem) → IsTrue (is_order p.dimensions.q) → IsTree (tree_of p) }
+    ensures answer { (p : Problem) → IsTrue (is_order p.dimensions.q) → p.least ≡ false → answer p ≡ tree_answer (tree_of p) }
+    ensures nodes { (p : Problem) → IsTrue (is_order p.dimensions.q) → p.least ≡ false → nodes p ≡ tree_nodes (tree_of p) }
+    ensures marks { (p : Problem) → IsTrue (is_order p.dimensions.q) → p.least ≡ false → marks p ≡ tree_marks (tree_of p) }
 {}
