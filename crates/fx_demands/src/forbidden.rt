@@ -2,13 +2,13 @@ ghost use Rattle.std.specs.Prelude.{ℕ, ◌≡◌, ◌==◌, ◌+◌, ◌<◌, 
 ghost use Rattle.std.specs.List.{list_any};
 ghost use Rattle.fx_designs.specs.Vectors.{IsVector, is_zero};
 ghost use Rattle.fx_designs.specs.Demands.{effect_of, is_forbidden_word, is_allowed};
-ghost use Rattle.fx_vectors.specs.Shape.{dimensions_of};
+ghost use Rattle.fx_vectors.specs.Shape.{dimensions_of, IsShape};
 ghost use Rattle.fx_vectors.specs.Question.{requirement_of, IsValid};
 ghost use Rattle.fx_vectors.specs.Effects.{numbers_of};
 ghost use Rattle.fx_demands.specs.Supports.{balances, estimates, differs, differs_from_some, IsMostAlone, IsMostBlocked};
 
 use fx_base::NoMemory;
-use fx_vectors::{Demands, Effects, Question, Vector};
+use fx_vectors::{Demands, Effects, Question, Shape, Vector};
 use std::alloc::Global;
 use std::marker::Model;
 
@@ -68,6 +68,14 @@ impl Forbidden {
             most_alone,
             most_blocked,
         })
+    }
+
+    /// The shape of the question.
+    pub fn shape(&self) -> Shape
+        ensures shape { result ≡ self.now.shape }
+        ensures valid { IsShape result }
+    {
+        self.question.shape
     }
 
     /// A forbidden word with the block part zero has at most so many factors.

@@ -1,5 +1,2 @@
-pub mod Walks
-mod Answer
-mod Judging
-mod Points
 mod Steps
+mod Whole

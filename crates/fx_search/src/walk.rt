@@ -1,61 +1,109 @@
-ghost use Rattle.std.specs.Prelude.{◌≡◌, ◌^◌, ◌<◌, ◌≤◌, ◌↔◌, IsTrue, length};
-ghost use Rattle.std.specs.Bool.{OnTrue, OnFalse};
-ghost use Rattle.fx_search.specs.Designs.{IsLater, IsTried, IsBound, IsFirstFrom, NoneFrom};
+ghost use Rattle.std.specs.Prelude.{◌≡◌, ◌<◌, ◌≤◌, ◌-◌, ◌++◌, ◌⊎◌, [], ◌∷◌, ℕ, true, length, IfOk};
+ghost use Rattle.fx_vectors.specs.Question.{IsValid, problem_of};
+ghost use Rattle.fx_laws.specs.Trees.{tree_of};
+ghost use Rattle.fx_laws.specs.Walks.{under, subtree};
+ghost use Rattle.fx_search.specs.Pruning.{count_of_rows};
+ghost use Rattle.fx_search.specs.Ends.{Ends, IsBack};
 
-use crate::judge::meets;
-use fx_galois::Field;
-use fx_vectors::{Matrix, Vector};
+use crate::pruner::Pruner;
+use fx_base::NoMemory;
+use fx_tree::children;
+use fx_vectors::{Mark, Marks, Matrix, Question};
+use std::alloc::Global;
 
-/// Makes the prefix the first of the designs that begin with it. Where there is none, the prefix
-/// stays as it is.
-pub(crate) fn walk(field: Field, r: u8, prefix: &mut Matrix) -> bool
-    requires order { field ≡ prefix.old.shape.q }
-    requires tried { IsTried field prefix.old.shape.m prefix.old.shape.s prefix.old.rows }
-    ensures shape { prefix.new.shape ≡ prefix.old.shape }
-    ensures found { OnTrue result (IsFirstFrom field prefix.old.shape.m prefix.old.shape.s r prefix.old.rows prefix.new.rows) }
-    ensures none { OnFalse result (NoneFrom field prefix.old.shape.m prefix.old.shape.s r prefix.old.rows) }
-    ensures kept { OnFalse result (prefix.new ≡ prefix.old) }
+/// How a walk ended.
+#[derive(Clone, Copy, Debug, PartialEq, Eq)]
+pub(crate) enum End {
+    /// At the first design, which the prefix is now.
+    Found,
+    /// Without a design. The prefix is what it was.
+    Closed,
+    /// With as many marks as the limit, before the next node.
+    Spent,
+}
+
+/// Walks the prefixes below a prefix that is a branch or empty.
+#[cycle(walk)]
+pub(crate) fn walk<P: Pruner>(
+    alloc: Global,
+    question: &Question,
+    pruner: &mut P,
+    prefix: &mut Matrix,
+    marks: &mut Marks,
+    limit: usize,
+) -> Result<End, NoMemory>
+    requires valid { IsValid question.now }
+    requires shape { prefix.old.shape ≡ question.now.shape }
+    requires problem { P.problem pruner.old ≡ problem_of question.now }
+    requires prefix { P.prefix pruner.old ≡ prefix.old.rows }
+    requires part { length prefix.old.rows < (tree_of (problem_of question.now)).size }
+    requires canonical { (tree_of (problem_of question.now)).canonical prefix.old.rows ≡ true }
+    requires allowed { (length prefix.old.rows ≡ 0) ⊎ ((tree_of (problem_of question.now)).allowed prefix.old.rows ≡ true) }
+    requires limit { length marks.old ≤ limit }
+    ensures shape { IfOk result (λ end. prefix.new.shape ≡ question.now.shape) }
+    ensures back { IfOk result (λ end. IsBack end (P.problem pruner.new) (P.prefix pruner.new) (problem_of question.now) prefix.old.rows) }
+    ensures end { let p = prefix.old.rows in
+        let t = tree_of (problem_of question.now) in
+        IfOk result (λ end. Ends t limit (under t (t.size - length p) p) p end marks.old marks.new prefix.new.rows) }
 {
-    let shape = prefix.shape();
-    let len = prefix.len();
-    if len == usize::from(shape.s) {
-        return meets(field, r, prefix);
-    }
-    let upto = bound(field, prefix);
-    for row in (1..upto).rev() {
-        if is_later(field, shape.m, row) {
-            prefix.push(row);
-            if walk(field, r, prefix) {
-                return true;
-            }
-            prefix.pop();
+    let rows = children(alloc, question, prefix)?;
+    for row in rows.as_slice() {
+        match enter(alloc, question, pruner, prefix, *row, marks, limit)? {
+            End::Closed => {}
+            End::Found => return Ok(End::Found),
+            End::Spent => return Ok(End::Spent),
         }
     }
-    false
+    Ok(End::Closed)
 }
 
-/// The number below which the next row of a prefix stands.
-fn bound(field: Field, prefix: &Matrix) -> u16
-    requires order { field ≡ prefix.now.shape.q }
-    requires tried { IsTried field prefix.now.shape.m prefix.now.shape.s prefix.now.rows }
-    requires incomplete { length prefix.now.rows < prefix.now.shape.s }
-    ensures { IsBound field prefix.now.shape.m prefix.now.rows result }
+/// Marks the prefix with one row more, and walks what is below it.
+#[cycle(walk)]
+fn enter<P: Pruner>(
+    alloc: Global,
+    question: &Question,
+    pruner: &mut P,
+    prefix: &mut Matrix,
+    row: u16,
+    marks: &mut Marks,
+    limit: usize,
+) -> Result<End, NoMemory>
+    requires valid { IsValid question.now }
+    requires shape { prefix.old.shape ≡ question.now.shape }
+    requires problem { P.problem pruner.old ≡ problem_of question.now }
+    requires prefix { P.prefix pruner.old ≡ prefix.old.rows }
+    requires part { length prefix.old.rows < (tree_of (problem_of question.now)).size }
+    requires below { row < count_of_rows (problem_of question.now) }
+    requires canonical { (tree_of (problem_of question.now)).canonical (prefix.old.rows ++ row ∷ []) ≡ true }
+    requires limit { length marks.old ≤ limit }
+    ensures shape { IfOk result (λ end. prefix.new.shape ≡ question.now.shape) }
+    ensures back { IfOk result (λ end. IsBack end (P.problem pruner.new) (P.prefix pruner.new) (problem_of question.now) prefix.old.rows) }
+    ensures end { let c = prefix.old.rows ++ row ∷ [] in
+        let t = tree_of (problem_of question.now) in
+        IfOk result (λ end. Ends t limit (subtree t (t.size - length c) c) prefix.old.rows end marks.old marks.new prefix.new.rows) }
 {
-    let m = prefix.shape().m;
-    let len = prefix.len();
-    if len <= usize::from(m) {
-        u16::from(field.q()).pow(u32::from(m))
-    } else {
-        prefix.row(len - 1)
+    if marks.len() == limit {
+        return Ok(End::Spent);
     }
-}
-
-/// Whether a row may stand after the unit rows.
-fn is_later(field: Field, m: u8, row: u16) -> bool
-    requires room { m ≤ 40 }
-    requires below { row < field ^ m }
-    ensures { IsTrue result ↔ IsLater field m row }
-{
-    let vector = Vector::of_number(field, usize::from(m), u128::from(row));
-    vector.is_normal() && vector.weight() > 1
+    if pruner.closes(row) {
+        let word = pruner.word(row);
+        marks.push(Mark::Word { row, word })?;
+        return Ok(End::Closed);
+    }
+    prefix.push(row);
+    if prefix.len() == usize::from(question.shape.s) + usize::from(question.shape.t) {
+        marks.push(Mark::Worse { row })?;
+        return Ok(End::Found);
+    }
+    marks.push(Mark::Branch { row })?;
+    pruner.push(row)?;
+    match walk(alloc, question, pruner, prefix, marks, limit)? {
+        End::Closed => {
+            pruner.pop();
+            prefix.pop();
+            Ok(End::Closed)
+        }
+        End::Found => Ok(End::Found),
+        End::Spent => Ok(End::Spent),
+    }
 }

@@ -82,6 +82,27 @@ impl Matrix {
         self.rows.push(row);
     }
 
+    /// The same rows and one more at the end.
+    pub fn with_row(&self, row: u16) -> Matrix
+        requires room { length self.now.rows < self.now.shape.s + self.now.shape.t }
+        requires below { row < self.now.shape.q ^ self.now.shape.m }
+        ensures { result ≡ record self.now { rows = self.now.rows ++ row ∷ [] } }
+    {
+        let mut longer = self.copy();
+        longer.push(row);
+        longer
+    }
+
+    fn copy(&self) -> Matrix
+        ensures { result ≡ self.now }
+    {
+        let mut copy = Matrix::new(self.shape);
+        for i in 0..self.len() {
+            copy.push(self.row(i));
+        }
+        copy
+    }
+
     /// Takes the last row away.
     pub fn pop(&mut self)
         requires { 0 < length self.old.rows }

@@ -1,5 +1,0 @@
-use Rattle.std.proofs.Common.{◌<◌, get_or, ℕ, ◌≡◌}
-use Rattle.fx_search.proofs.judge.is_balanced.Given as goal
-
-abbrev pub invariant-loop-y : goal.invariant-loop-y
-invariant-loop-y l = (z : ℕ) → z < l.y → get_or l.counts z 0 ≡ get_or l.counts 0 0

@@ -1,0 +1,83 @@
+ghost use Rattle.std.specs.Prelude.{◌≡◌, ◌<◌, ◌≤◌, false, [], IfOk};
+ghost use Rattle.fx_vectors.specs.Question.{IsValid, problem_of};
+ghost use Rattle.fx_search.specs.Asked.{IsAnswer};
+
+use crate::pruner::{PlainPruner, Pruner};
+use crate::walk::{End, walk};
+use fx_base::NoMemory;
+use fx_demands::Forbidden;
+use fx_vectors::{Marks, Matrix, Question};
+use std::alloc::Global;
+
+/// What a search answers.
+#[derive(Debug, Drop)]
+pub enum Asked {
+    /// The first canonical matrix that meets the demands, the number of nodes and their marks.
+    Found {
+        matrix: Matrix,
+        nodes: u64,
+        marks: Marks,
+    },
+    /// No canonical matrix meets the demands.
+    Nothing {
+        nodes: u64,
+        marks: Marks,
+    },
+    /// There are more nodes than the budget allows.
+    Budget {
+        best: Option<Matrix>,
+    },
+}
+
+/// The answer of a valid question without a least pattern, by one thread: `Budget` exactly where the
+/// nodes are more than the budget, which is at most 5,000,000. It then has no matrix.
+///
+/// Besides the marks, which take 18 bytes a node, memory is taken for the children of each row of
+/// the prefix. The recursion is as deep as a matrix has rows, at most 40.
+pub fn ask_alone(alloc: Global, question: &Question, budget: u64) -> Result<Asked, NoMemory>
+    requires valid { IsValid question.now }
+    requires not_least { question.now.least ≡ false }
+    requires budget { budget ≤ 5000000 }
+    ensures { IfOk result (IsAnswer question.now budget) }
+{
+    let forbidden = Forbidden::of(alloc, question)?;
+    let mut pruner = PlainPruner::new(forbidden);
+    ask_with(alloc, question, &mut pruner, budget)
+}
+
+/// The same over a pruner that stands at the empty prefix of the question.
+fn ask_with<P: Pruner>(
+    alloc: Global,
+    question: &Question,
+    pruner: &mut P,
+    budget: u64,
+) -> Result<Asked, NoMemory>
+    requires valid { IsValid question.now }
+    requires not_least { question.now.least ≡ false }
+    requires budget { budget ≤ 5000000 }
+    requires problem { P.problem pruner.old ≡ problem_of question.now }
+    requires start { P.prefix pruner.old ≡ [] }
+    ensures { IfOk result (IsAnswer question.now budget) }
+{
+    let mut prefix = Matrix::new(question.shape);
+    let mut marks = Marks::new(alloc);
+    match walk(
+        alloc,
+        question,
+        pruner,
+        &mut prefix,
+        &mut marks,
+        budget as usize,
+    )? {
+        End::Found => Ok(Asked::Found {
+            matrix: prefix,
+            nodes: marks.len() as u64,
+            marks,
+        }),
+        End::Closed => Ok(Asked::Nothing {
+            nodes: marks.len() as u64,
+            marks,
+        }),
+        End::Spent => Ok(Asked::Budget { best: None }),
+    }
+}
