@@ -6,6 +6,8 @@
 
 mod asking;
 mod pruner;
+#[cfg(test)]
+mod tests;
 mod walk;
 
 pub use asking::{Asked, ask_alone};
