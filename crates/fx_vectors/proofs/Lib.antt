@@ -1,3 +1,4 @@
+pub mod Joined
 pub mod Limits
 pub mod Steps
 pub mod Normals

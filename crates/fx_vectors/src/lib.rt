@@ -5,6 +5,7 @@ mod book;
 mod effect;
 mod mark;
 mod matrix;
+mod pieces;
 mod question;
 mod shape;
 mod vector;
