@@ -145,3 +145,19 @@ marks_of_a_least_pattern :
     marks (problem (size 2 3 4 0) (AtResolution 3) true) ≡ (Branch 1 ∷ Branch 2 ∷ Branch 4 ∷ Worse 7 ∷ Worse 6 ∷ Worse 5 ∷ Worse 3 ∷ [])
 unfolding prime_of degree_of reduction_of add mul neg inv runs_of is_constant is_balanced are_blocks_even is_balanced_in_blocks is_constant_in_blocks in_span must_balance is_estimated is_met is_allowed constant_words pattern_of is_canonical lists designs answer closing_word word_of nodes marks
 marks_of_a_least_pattern = refl
+
+-- the nodes end with the first design, though more prefixes follow
+nodes_to_the_answer :
+    nodes (problem (size 2 3 4 0) (AtResolution 3) false) ≡ ((1 ∷ []) ∷ (1 ∷ 2 ∷ []) ∷ (1 ∷ 2 ∷ 4 ∷ []) ∷ (1 ∷ 2 ∷ 4 ∷ 7 ∷ []) ∷ [])
+unfolding prime_of degree_of reduction_of add mul neg inv runs_of is_constant is_balanced are_blocks_even is_balanced_in_blocks is_constant_in_blocks in_span must_balance is_estimated is_met is_allowed constant_words pattern_of is_canonical lists designs answer closing_word word_of nodes marks
+nodes_to_the_answer = refl
+
+-- of the words that close a prefix the lightest is told, and of these the one of greatest number: C*D before A*B*C and
+-- A*B*D, and A*D*E before B*C*E
+closing_words :
+    (closing_word (size 2 2 4 0) (AtResolution 4) (1 ∷ 2 ∷ 3 ∷ 3 ∷ []) ≡ Some (0 ∷ 0 ∷ 1 ∷ 1 ∷ []))
+    × (closing_word (size 2 3 5 0) (AtResolution 4) (1 ∷ 2 ∷ 4 ∷ 7 ∷ 6 ∷ []) ≡ Some (1 ∷ 0 ∷ 0 ∷ 1 ∷ 1 ∷ []))
+    × (closing_word (size 2 3 5 0) (AtResolution 4) (1 ∷ 2 ∷ 4 ∷ 7 ∷ []) ≡ None)
+    × (closing_word (size 3 2 3 0) (AtResolution 4) (1 ∷ 3 ∷ 5 ∷ []) ≡ Some (1 ∷ 2 ∷ 1 ∷ []))
+unfolding prime_of degree_of reduction_of add mul neg inv runs_of is_constant is_balanced are_blocks_even is_balanced_in_blocks is_constant_in_blocks in_span must_balance is_estimated is_met is_allowed constant_words pattern_of is_canonical lists designs answer closing_word word_of nodes marks
+closing_words = (refl, refl, refl, refl)

@@ -174,7 +174,13 @@ fn a_budget_ends_before_the_next_node(rt: HostRuntime) -> Result<(), Fail> {
     assert!(rt; is_nothing(&ask_alone(rt.alloc(), &none, 10)?, 10));
     let some = question(2, 4, 7, 0, 4);
     assert!(rt; is_budget(&ask_alone(rt.alloc(), &some, 18)?));
-    assert!(rt; is_found(&ask_alone(rt.alloc(), &some, 19)?, &[1, 2, 4, 8, 14, 13, 11], 19));
+    assert!(rt;
+        is_found(
+            &ask_alone(rt.alloc(), &some, 19)?,
+            &[1, 2, 4, 8, 14, 13, 11],
+            19
+        )
+    );
     Ok(())
 }
 

@@ -1,5 +1,5 @@
 -- Lists that are held in pieces.
-use Rattle.std.specs.Prelude.{ℕ, ◌≡◌, ◌<◌, ◌≤◌, List, [], ◌∷◌, ◌++◌, map, length}
+use Rattle.std.specs.Prelude.{◌≡◌, ◌<◌, ◌≤◌, List, [], ◌∷◌, ◌++◌, length}
 
 -- the pieces one after another
 abbrev pub joined : {T : Type 0} → List (List T) → List T

@@ -8,6 +8,8 @@ mod matrix;
 mod pieces;
 mod question;
 mod shape;
+#[cfg(test)]
+mod tests;
 mod vector;
 
 pub use book::{Book, Books, Head, NamedBook, Pattern};

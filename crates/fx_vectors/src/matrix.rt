@@ -155,6 +155,11 @@ mod tests {
         assert_eq!(rt; half.sum(&other), 3);
         half.pop();
         assert_eq!(rt; half.len(), 3);
+        let other = half.with_row(6);
+        assert_eq!(rt; half.len(), 3);
+        assert!(rt; other.len() == 4);
+        assert_eq!(rt; other.row(2), 4);
+        assert_eq!(rt; other.row(3), 6);
     }
 
     /// At nine levels the rows (1, 0), (0, 1) and (3, 1), times 8, 1 and 3.

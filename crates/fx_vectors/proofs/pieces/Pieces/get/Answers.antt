@@ -1,7 +1,6 @@
-use Rattle.std.proofs.Common.{◌≡◌, ◌<◌, ◌/◌, ◌%◌, [], length, get_or, sym, subst, ◌∙◌, ap, arith}
+use Rattle.std.proofs.Common.{◌<◌, ◌/◌, ◌%◌, [], length, get_or, sym, subst, ◌∙◌, ap, arith}
 use Rattle.std.proofs.lemmas.List.{get_or_default}
-use Rattle.fx_vectors.specs.Pieces.{joined}
-use Rattle.fx_vectors.proofs.Joined.{stands, StandsAt}
+use Rattle.fx_vectors.proofs.Joined.{stands}
 use Rattle.fx_vectors.proofs.pieces.Pieces.get.Goals as goal
 
 pub index-requires : goal.index-requires

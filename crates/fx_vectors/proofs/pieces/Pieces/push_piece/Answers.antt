@@ -1,4 +1,4 @@
-use Rattle.std.proofs.Common.{◌≡◌, [], ◌∷◌, ◌++◌, ap, ◌∙◌}
+use Rattle.std.proofs.Common.{[], ◌∷◌, ◌++◌, ap, ◌∙◌}
 use Rattle.fx_vectors.proofs.Joined.{begun}
 use Rattle.fx_vectors.proofs.pieces.Pieces.push_piece.Goals as goal
 
