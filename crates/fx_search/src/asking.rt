@@ -61,23 +61,16 @@ fn ask_with<P: Pruner>(
 {
     let mut prefix = Matrix::new(question.shape);
     let mut marks = Marks::new(alloc);
-    match walk(
-        alloc,
-        question,
-        pruner,
-        &mut prefix,
-        &mut marks,
-        budget as usize,
-    )? {
+    let limit = budget as usize;
+    let end = walk(alloc, question, pruner, &mut prefix, &mut marks, limit)?;
+    let nodes = marks.len() as u64;
+    match end {
         End::Found => Ok(Asked::Found {
             matrix: prefix,
-            nodes: marks.len() as u64,
+            nodes,
             marks,
         }),
-        End::Closed => Ok(Asked::Nothing {
-            nodes: marks.len() as u64,
-            marks,
-        }),
+        End::Closed => Ok(Asked::Nothing { nodes, marks }),
         End::Spent => Ok(Asked::Budget { best: None }),
     }
 }

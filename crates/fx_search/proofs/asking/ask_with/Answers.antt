@@ -20,20 +20,20 @@ returns-in-Found g c =
     let p = problem_of c.args.question.now in
     let f = is_order-field c.args.question.now.shape.q c.requires.valid.shaped.order in
     let plain = c.requires.not_least in
-    let h = rw (c.new-prefix.ensures, c.new-marks.ensures, c.in-Found.is, sub-zero) at c.in_ok-walk.ensures.end in
+    let h = rw (c.new-prefix.ensures, c.new-marks.ensures, c.in-Found.is, sub-zero) at c.in_ok-end.ensures.end in
     let r = ends_found (tree_of p) (is-tree p f) c.args.budget _ _ h in
-    let count = c.len.ensures ∙ r.1 in
+    let count = c.len-nodes.ensures ∙ r.1 in
     let fits = r.3 in
-    (answer-same p f plain ∙ r.0, c.in_ok-walk.ensures.shape, count ∙ ap length (sym (nodes-same p f plain)), r.2 ∙ sym (marks-same p f plain), omega arith)
+    (answer-same p f plain ∙ r.0, c.in_ok-end.ensures.shape, count ∙ ap length (sym (nodes-same p f plain)), r.2 ∙ sym (marks-same p f plain), omega arith)
 
 pub returns-in-Closed : goal.returns-in-Closed
 returns-in-Closed g c =
     let p = problem_of c.args.question.now in
     let f = is_order-field c.args.question.now.shape.q c.requires.valid.shaped.order in
     let plain = c.requires.not_least in
-    let h = rw (c.new-prefix.ensures, c.new-marks.ensures, c.in-Closed.is, sub-zero) at c.in_ok-walk.ensures.end in
+    let h = rw (c.new-prefix.ensures, c.new-marks.ensures, c.in-Closed.is, sub-zero) at c.in_ok-end.ensures.end in
     let r = ends_closed (tree_of p) (is-tree p f) c.args.budget _ _ h in
-    let count = c.len-in-Closed.ensures ∙ r.1 in
+    let count = c.len-nodes.ensures ∙ r.1 in
     let fits = r.3 in
     (answer-same p f plain ∙ r.0, count ∙ ap length (sym (nodes-same p f plain)), r.2 ∙ sym (marks-same p f plain), omega arith)
 
@@ -41,6 +41,6 @@ pub returns-in-Spent : goal.returns-in-Spent
 returns-in-Spent g c =
     let p = problem_of c.args.question.now in
     let f = is_order-field c.args.question.now.shape.q c.requires.valid.shaped.order in
-    let h = rw (c.new-prefix.ensures, c.new-marks.ensures, c.in-Spent.is, sub-zero) at c.in_ok-walk.ensures.end in
+    let h = rw (c.new-prefix.ensures, c.new-marks.ensures, c.in-Spent.is, sub-zero) at c.in_ok-end.ensures.end in
     let more = ends_spent (tree_of p) (is-tree p f) c.args.budget [] [] h in
     (subst (λ ns. c.args.budget < length ns) (sym (nodes-same p f c.requires.not_least)) more, refl)
