@@ -1,3 +1,4 @@
 pub mod Valid
+pub mod Contexts
 pub mod Steps
 pub mod Programs

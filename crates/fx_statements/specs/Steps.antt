@@ -1,5 +1,5 @@
 -- What a step means.
-use Rattle.std.specs.Prelude.{ℕ, ◌^◌, ◌&&◌, Bool, List, [], ◌∷◌, length, is_some, Option, Some, None, Result, Ok, Err, if◌then◌else◌}
+use Rattle.std.specs.Prelude.{ℕ, ◌&&◌, Bool, List, [], ◌∷◌, length, is_some, Option, Some, None, Result, Ok, Err, if◌then◌else◌}
 use Rattle.std.specs.List.{list_any}
 use Rattle.fx_language.specs.declared.symbol.Symbol.{Symbol}
 use Rattle.fx_language.specs.declared.symbol.Symbol.TheVariants as word
@@ -11,21 +11,14 @@ use Rattle.fx_text.specs.Statements.{statement_of}
 use Rattle.fx_text.specs.Refusals.{refused_at, ◌>>=◌}
 use Rattle.fx_factors.specs.Factors.{factors_of}
 use Rattle.fx_settings.specs.declared.settings.Settings.{Settings}
-use Rattle.fx_settings.specs.declared.settings.Size.{Size}
-use Rattle.fx_settings.specs.declared.settings.Size.TheVariants.{Runs, Minimum}
-use Rattle.fx_settings.specs.declared.settings.Blocks.{Blocks}
-use Rattle.fx_settings.specs.declared.settings.Blocks.TheVariants as given
-use Rattle.fx_settings.specs.Powers.{greatest}
 use Rattle.fx_settings.specs.Said.{start_of, step_said}
 use Rattle.fx_settings.specs.Settings.{settings_of}
 use Rattle.fx_outputs.specs.declared.output.OutputSpec.{OutputSpec}
-use Rattle.fx_outputs.specs.declared.setting.BlockCount.{BlockCount}
-use Rattle.fx_outputs.specs.declared.setting.BlockCount.TheVariants as count
-use Rattle.fx_outputs.specs.Contexts.{Context}
 use Rattle.fx_outputs.specs.Outputs.{outputs_of}
 use Rattle.fx_statements.specs.declared.examine.Examine.{Examine}
 use Rattle.fx_statements.specs.declared.step.Step.{Step}
 use Rattle.fx_statements.specs.Valid.{settings_in}
+use Rattle.fx_statements.specs.Contexts.{context}
 
 -- a step, without where its parts lie in memory
 pub record Meaning : Type 0 where
@@ -62,27 +55,6 @@ examine_of statements = record {
   blocked = asks word.Blocked statements;
   design = asks word.Design statements;
   aberration = asks word.Aberration statements;
-}
-
--- the greatest number of runs
-abbrev pub most_runs : ℕ → Size → ℕ
-most_runs q (Runs m) = q ^ m
-most_runs q Minimum = q ^ greatest q
-
--- the number of blocks, where it is fixed
-abbrev pub block_count : ℕ → Blocks → BlockCount
-block_count q given.Without = count.Without
-block_count q (given.Factors t) = count.Fixed (q ^ t)
-block_count q (given.PerBlock k) = count.Open
-block_count q given.Most = count.Open
-
--- what the OUTPUT statements of the step are read against
-abbrev pub context : List (List ℕ) → Settings → Context
-context factors settings = record {
-  factors = factors;
-  q = settings.q;
-  runs = most_runs settings.q settings.size;
-  blocks = block_count settings.q settings.blocks;
 }
 
 -- the first of some statements

@@ -4,7 +4,8 @@ ghost use Rattle.fx_settings.specs.Settings.{is_level};
 ghost use Rattle.fx_settings.specs.Valid.{are_valid, is_size};
 ghost use Rattle.fx_text.specs.Refusals.{IsRefused};
 ghost use Rattle.fx_outputs.specs.Outputs.{names_of};
-ghost use Rattle.fx_statements.specs.Steps.{block_count, context, factors_by, head_of, meaning_of, most_factors, most_runs, step_by, step_of};
+ghost use Rattle.fx_statements.specs.Contexts.{block_count, context, most_runs};
+ghost use Rattle.fx_statements.specs.Steps.{factors_by, head_of, meaning_of, most_factors, step_by, step_of};
 
 use crate::examine::examine_of;
 use crate::step::Step;

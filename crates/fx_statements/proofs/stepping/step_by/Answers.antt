@@ -1,6 +1,8 @@
-use Rattle.std.proofs.Common.{◌≡◌, Ok, length, sym, ap, ap₂, ◌∙◌, arith}
+use Rattle.std.proofs.Common.{◌≡◌, Ok, length, sym, ap, ap₂, subst, All, ◌∙◌, arith}
 use Rattle.fx_settings.specs.Said.{step_said}
 use Rattle.fx_settings.specs.Settings.{settings_of}
+use Rattle.fx_outputs.specs.Validity.{IsWithinLimits}
+use Rattle.fx_statements.specs.Contexts.{context}
 use Rattle.fx_statements.specs.Steps.{head_of}
 use Rattle.fx_statements.proofs.Bounds.{counted}
 use Rattle.fx_statements.proofs.stepping.step_by.Goals as goal
@@ -19,4 +21,8 @@ invariant_of-result c =
     record {
       named = counted (head_of statements) c.args.named.now statements (length c.in_ok-factors.factors) c.in_ok-settings.settings is bounds.0 (omega (arith, bounds.1, c.most_factors.ensures.value));
       valid = c.in_ok-settings.ensures.valid (omega (arith, c.len.ensures, bounds.0));
+      within =
+          subst (λ setting. All (IsWithinLimits setting) c.in_ok-outputs.outputs)
+          (c.setting_of-setting.ensures ∙ ap (λ factors. context factors c.in_ok-settings.settings) c.as_slice.ensures)
+          c.in_ok-outputs.ensures.within;
     }
