@@ -11,12 +11,15 @@ use Rattle.fx_text.specs.Statements.{statement_of}
 use Rattle.fx_text.specs.Refusals.{refused_at, ◌>>=◌}
 use Rattle.fx_factors.specs.Factors.{factors_of}
 use Rattle.fx_settings.specs.declared.settings.Settings.{Settings}
+use Rattle.fx_settings.specs.declared.said.StepSaid.{StepSaid}
 use Rattle.fx_settings.specs.Said.{start_of, step_said}
-use Rattle.fx_settings.specs.Settings.{settings_of}
+use Rattle.fx_settings.specs.Settings.{settings_of, unblocked_of}
 use Rattle.fx_outputs.specs.declared.output.OutputSpec.{OutputSpec}
 use Rattle.fx_outputs.specs.Outputs.{outputs_of}
 use Rattle.fx_statements.specs.declared.examine.Examine.{Examine}
 use Rattle.fx_statements.specs.declared.step.Step.{Step}
+use Rattle.fx_statements.specs.Goals.{Goal, goal_by, goal_of}
+use Rattle.fx_statements.specs.Listings.{listing_allowed, listing_place}
 use Rattle.fx_statements.specs.Valid.{settings_in}
 use Rattle.fx_statements.specs.Contexts.{context}
 
@@ -24,6 +27,7 @@ use Rattle.fx_statements.specs.Contexts.{context}
 pub record Meaning : Type 0 where
   pub factors : List (List ℕ)
   pub settings : Settings
+  pub goal : Goal
   pub examine : Examine
   pub outputs : List OutputSpec
 
@@ -62,14 +66,23 @@ abbrev pub head_of : List (List Written) → List Written
 head_of [] = []
 head_of (s ∷ statements) = s
 
+-- the settings of a step with these factors, and what it wants, by what its statements say
+abbrev pub asked_by : List (List ℕ) → StepSaid → List (List Written) → Result (Settings × Goal) Refusal
+asked_by factors said statements = do
+  unblocked ← unblocked_of (length factors) said
+  goal ← goal_by unblocked.q factors statements unblocked.criterion
+  settings ← settings_of unblocked said
+  listed ← listing_allowed unblocked.q (length factors) goal (listing_place statements)
+  Ok (settings, goal)
+
 -- The meaning of a step, behind these OUT names, by its FACTORS statement where it has one.
 abbrev pub step_by : List (List ℕ) → List (List Written) → Option (List Written) → Result Meaning Refusal
 step_by earlier statements None = Err (refused_at 7 (start_of (head_of statements)))
 step_by earlier statements (Some named) = do
   factors ← factors_by (start_of (head_of statements)) (most_factors statements) named
-  settings ← settings_of (length factors) (step_said (head_of statements) named statements)
-  outputs ← outputs_of (context factors settings) earlier statements
-  Ok (record { factors = factors; settings = settings; examine = examine_of statements; outputs = outputs })
+  asked ← asked_by factors (step_said (head_of statements) named statements) statements
+  outputs ← outputs_of (context factors asked.0) earlier statements
+  Ok (record { factors = factors; settings = asked.0; goal = asked.1; examine = examine_of statements; outputs = outputs })
 
 -- the meaning of a step, whose PROC statement stands first
 abbrev pub step_of : List (List ℕ) → List (List Written) → Result Meaning Refusal
@@ -80,6 +93,7 @@ abbrev pub meaning_of : Step → Meaning
 meaning_of step = record {
   factors = step.factors;
   settings = settings_in step.q step.budget step.size step.wanted step.least step.blocks;
+  goal = goal_of step.wanted;
   examine = step.examine;
   outputs = step.outputs;
 }

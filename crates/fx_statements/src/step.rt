@@ -1,16 +1,17 @@
 ghost use Rattle.std.specs.Prelude.{length, All, IsTrue};
 ghost use Rattle.fx_settings.specs.Valid.{are_valid};
 ghost use Rattle.fx_outputs.specs.Validity.{IsWithinLimits};
-ghost use Rattle.fx_statements.specs.Valid.{is_count, settings_in};
+ghost use Rattle.fx_statements.specs.Valid.{CanBeWanted, is_count, settings_in};
 ghost use Rattle.fx_statements.specs.Contexts.{context};
 
 use crate::examine::Examine;
+use crate::wanted::Wanted;
 use fx_outputs::Outputs;
-use fx_settings::{Blocks, Size, Wanted};
+use fx_settings::{Blocks, Size};
 use fx_text::Names;
 
-/// A step of a program. Its settings are valid, and its outputs are within the limits of the step in
-/// which they stand.
+/// A step of a program. Its settings are valid, effects that it names can be told apart, and its
+/// outputs are within the limits of the step in which they stand.
 #[derive(Debug, Drop)]
 pub struct Step {
     /// The names of its factors, 1 to 40, and at most 30 with blocks.
@@ -28,5 +29,6 @@ pub struct Step {
     pub budget: u64,
     ghost named: { IsTrue (is_count (length factors) blocks) },
     ghost valid: { IsTrue (are_valid (settings_in q budget size wanted least blocks)) },
+    ghost told: { CanBeWanted q (length factors) wanted },
     ghost within: { All (IsWithinLimits (context factors (settings_in q budget size wanted least blocks))) outputs },
 }
