@@ -20,6 +20,7 @@ invariant_of-result c =
     ∙ sym c.in_ok-settings.ensures.value in
     record {
       named = counted (head_of statements) c.args.named.now statements (length c.in_ok-factors.factors) c.in_ok-settings.settings is bounds.0 (omega (arith, bounds.1, c.most_factors.ensures.value));
+      distinct = c.in_ok-factors.ensures.distinct;
       valid = c.in_ok-settings.ensures.valid (omega (arith, c.len.ensures, bounds.0));
       within =
           subst (λ setting. All (IsWithinLimits setting) c.in_ok-outputs.outputs)
