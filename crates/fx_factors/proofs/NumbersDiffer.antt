@@ -1,10 +1,10 @@
 -- A stem with different numbers makes different names.
-use Rattle.std.proofs.Common.{◌≡◌, ℕ, zero, suc, ◌+◌, ◌^◌, ◌<◌, ◌≤◌, true, false, List, [], ◌∷◌, ◌++◌, map, refl, sym, ap, ap₂, ◌∙◌, inl, inr, arith}
+use Rattle.std.proofs.Common.{◌≡◌, ℕ, zero, suc, ◌+◌, ◌^◌, ◌<◌, ◌≤◌, false, List, [], ◌∷◌, ◌++◌, map, refl, sym, ap, ap₂, ◌∙◌, inl, inr, arith}
 use Rattle.std.specs.Prelude.{decimal}
 use Rattle.std.specs.Char.{to_ascii_lowercase}
-use Rattle.std.specs.List.{list_any}
+use Rattle.std.specs.List.{AllByRecursion, IsDistinct}
 use Rattle.std.specs.Str.Parse.{AllDigits, digits_value}
-use Rattle.std.proofs.lemmas.Bool.{cases_Bool, not_from_false, and_from, or_from}
+use Rattle.std.proofs.lemmas.Bool.{cases_Bool}
 use Rattle.std.proofs.lemmas.Fmt.{decimal_is_IsNumeral_wide}
 use Rattle.std.proofs.lemmas.List.{append_cancel_left, map-append}
 use Rattle.std.proofs.lemmas.Slice.Eq.{bytes_eq-Decides}
@@ -12,7 +12,6 @@ use Rattle.std.proofs.lemmas.Str.Ascii.{lowercase_is}
 use Rattle.std.proofs.lemmas.Str.Parse.{digit_from_value}
 use Rattle.fx_text.specs.Names.{is_same_name}
 use Rattle.fx_factors.specs.Ranges.{numbered}
-use Rattle.fx_factors.specs.Factors.{are_distinct}
 
 -- digits have no case
 no_case : (ds : List ℕ) → AllDigits 10 ds → map to_ascii_lowercase ds ≡ ds
@@ -36,14 +35,13 @@ differ stem m n less small = elim (cases_Bool (is_same_name (stem ++ decimal m) 
 ]
 
 differ_from_later : (stem : List ℕ) (m from count : ℕ) → m < from → from + count ≤ 10 ^ 64
-    → list_any (is_same_name (stem ++ decimal m)) (numbered stem from count) ≡ false
-differ_from_later stem m from zero less small = refl
+    → AllByRecursion (λ name. is_same_name (stem ++ decimal m) name ≡ false) (numbered stem from count)
+differ_from_later stem m from zero less small = tt
 differ_from_later stem m from (suc count) less small =
-    or_from _ _ (differ stem m from less (omega (arith, small)))
-    (differ_from_later stem m (from + 1) count (omega (arith, less)) (omega (arith, small)))
+    (differ stem m from less (omega (arith, small)), differ_from_later stem m (from + 1) count (omega (arith, less)) (omega (arith, small)))
 
-pub numbered_differ : (stem : List ℕ) (from count : ℕ) → from + count ≤ 10 ^ 64 → are_distinct (numbered stem from count) ≡ true
-numbered_differ stem from zero small = refl
+pub numbered_differ : (stem : List ℕ) (from count : ℕ) → from + count ≤ 10 ^ 64 → IsDistinct is_same_name (numbered stem from count)
+unfolding IsDistinct
+numbered_differ stem from zero small = tt
 numbered_differ stem from (suc count) small =
-    and_from _ _ (not_from_false _ (differ_from_later stem from (from + 1) count (omega arith) (omega (arith, small))))
-    (numbered_differ stem (from + 1) count (omega (arith, small)))
+    (differ_from_later stem from (from + 1) count (omega arith) (omega (arith, small)), numbered_differ stem (from + 1) count (omega (arith, small)))

@@ -1,20 +1,15 @@
 -- The factors that a FACTORS statement names.
-use Rattle.std.specs.Prelude.{ℕ, ◌+◌, nat_lt, not, ◌&&◌, Bool, true, List, [], ◌∷◌, ◌++◌, length, is_some, Result, Ok, Err, if◌then◌else◌}
+use Rattle.std.specs.Prelude.{ℕ, ◌+◌, nat_lt, not, Bool, List, [], ◌∷◌, ◌++◌, length, is_some, Result, Ok, Err, if◌then◌else◌}
 use Rattle.std.specs.List.{list_any}
 use Rattle.fx_text.specs.declared.refusal.Refusal.{Refusal}
 use Rattle.fx_text.specs.Written.{Written}
-use Rattle.fx_text.specs.Names.{is_same_name, place_of}
+use Rattle.fx_text.specs.Names.{place_of}
 use Rattle.fx_text.specs.Refusals.{refusal_at, ◌>>=◌}
 use Rattle.fx_factors.specs.Items.{Item, items_of, is_regular, names_of}
 
 -- some of the new names stands among the others
 abbrev pub are_known : List (List ℕ) → List (List ℕ) → Bool
 are_known new names = list_any (λ name. is_some (place_of name names)) new
-
--- the names differ from one another: none is the same as one behind it, without regard to case
-abbrev pub are_distinct : List (List ℕ) → Bool
-are_distinct [] = true
-are_distinct (name ∷ names) = not (list_any (is_same_name name) names) && are_distinct names
 
 -- a name at this place is known, or not
 abbrev pub known_at : Written → Bool → Result (Unit {0}) Refusal

@@ -1,5 +1,7 @@
 ghost use Rattle.std.specs.Prelude.{length, All, IsTrue};
-ghost use Rattle.fx_factors.specs.Factors.{are_distinct};
+ghost use Rattle.std.specs.List.{IsDistinct};
+ghost use Rattle.std.proofs.Props.{props};
+ghost use Rattle.fx_text.specs.Names.{is_same_name};
 ghost use Rattle.fx_settings.specs.Valid.{are_valid};
 ghost use Rattle.fx_outputs.specs.Validity.{IsWithinLimits};
 ghost use Rattle.fx_statements.specs.Valid.{is_count, settings_in};
@@ -29,7 +31,7 @@ pub struct Step {
     /// The greatest number of nodes, from 1 to 5,000,000.
     pub budget: u64,
     ghost named: { IsTrue (is_count (length factors) blocks) },
-    ghost distinct: { IsTrue (are_distinct factors) },
+    ghost distinct: { IsDistinct is_same_name factors } by { Prim.hlevel props },
     ghost valid: { IsTrue (are_valid (settings_in q budget size wanted least blocks)) },
     ghost within: { All (IsWithinLimits (context factors (settings_in q budget size wanted least blocks))) outputs },
 }

@@ -1,8 +1,9 @@
 ghost use Rattle.std.specs.Prelude.{◌≡◌, ℕ, ◌++◌, ◌≤◌, ◌^◌, true, Some, Ok, length, IfOk, IfErr};
-ghost use Rattle.fx_factors.specs.Factors.{are_distinct};
+ghost use Rattle.std.specs.List.{IsDistinct};
 ghost use Rattle.fx_settings.specs.declared.settings.Blocks.TheVariants.{Factors};
 ghost use Rattle.fx_settings.specs.Settings.{is_level};
 ghost use Rattle.fx_settings.specs.Valid.{are_valid, is_size};
+ghost use Rattle.fx_text.specs.Names.{is_same_name};
 ghost use Rattle.fx_text.specs.Refusals.{IsRefused};
 ghost use Rattle.fx_outputs.specs.Outputs.{names_of};
 ghost use Rattle.fx_statements.specs.Contexts.{block_count, context, most_runs};
@@ -77,7 +78,7 @@ fn factors_by(
 ) -> Result<Names, ParseStop>
     ensures factors { IfOk result (λ factors. factors_by proc most named.now ≡ Ok factors) }
     ensures bounds { IfOk result (λ factors. (1 ≤ length factors) × (length factors ≤ most)) }
-    ensures distinct { IfOk result (λ factors. are_distinct factors ≡ true) }
+    ensures distinct { IfOk result (IsDistinct is_same_name) }
     ensures refused { IfErr result (IsRefused (factors_by proc most named.now)) }
 {
     let factors = factors_of(alloc, named, most)?;
