@@ -1,7 +1,9 @@
 ghost use Rattle.std.specs.Prelude.{◌≡◌, ℕ, ◌++◌, ◌≤◌, ◌^◌, true, false, Some, None, Ok, length, IfOk, IfErr};
+ghost use Rattle.std.specs.List.{IsDistinct};
 ghost use Rattle.fx_settings.specs.declared.settings.Blocks.TheVariants.{Factors};
 ghost use Rattle.fx_settings.specs.Settings.{is_level};
 ghost use Rattle.fx_settings.specs.Valid.{are_valid, has_blocks, is_size};
+ghost use Rattle.fx_text.specs.Names.{is_same_name};
 ghost use Rattle.fx_text.specs.Refusals.{IsRefused};
 ghost use Rattle.fx_outputs.specs.Outputs.{names_of};
 ghost use Rattle.fx_statements.specs.Contexts.{block_count, context, most_runs};
@@ -83,6 +85,7 @@ fn factors_by(
 ) -> Result<Names, ParseStop>
     ensures factors { IfOk result (λ factors. factors_by proc most named.now ≡ Ok factors) }
     ensures bounds { IfOk result (λ factors. (1 ≤ length factors) × (length factors ≤ most)) }
+    ensures distinct { IfOk result (IsDistinct is_same_name) }
     ensures refused { IfErr result (IsRefused (factors_by proc most named.now)) }
 {
     let factors = factors_of(alloc, named, most)?;
@@ -110,7 +113,7 @@ fn asked_by(
     ensures valid { IfOk result (λ asked. are_valid asked.0 ≡ true) }
     ensures kind { IfOk result (λ asked. criterion_of asked.1 ≡ asked.0.criterion) }
     ensures told { IfOk result (λ asked. CanBeWanted asked.0.q (length factors.now) asked.1) }
-    ensures blocks { IfOk result (λ asked. said.blocks ≡ None → has_blocks asked.0.blocks ≡ false) }
+    ensures unblocked { IfOk result (λ asked. said.blocks ≡ None → has_blocks asked.0.blocks ≡ false) }
     ensures refused { IfErr result (IsRefused (asked_by factors.now said statements.now)) }
 {
     let s = factors.len() as u8;

@@ -10,5 +10,5 @@ returns-clause-told c =
     λ estimate nonnegligible is.
     subst (λ q. CanBeTold q (length c.args.factors.now) (numbers_of estimate) (numbers_of nonnegligible)) (sym same.1) (c.in_ok-wanted.ensures.told estimate nonnegligible is)
 
-pub returns-clause-blocks : goal.returns-clause-blocks
-returns-clause-blocks c = λ none. without c.in_ok-unblocked.unblocked c.args.said c.in_ok-settings.settings none (sym c.in_ok-settings.ensures.value)
+pub returns-clause-unblocked : goal.returns-clause-unblocked
+returns-clause-unblocked c = λ none. without c.in_ok-unblocked.unblocked c.args.said c.in_ok-settings.settings none (sym c.in_ok-settings.ensures.value)

@@ -23,8 +23,9 @@ invariant_of-result c =
     record {
       named =
           counted statements (length c.in_ok-factors.factors) _
-          (λ none. c.in_ok-settings.ensures.blocks (ap (λ (x : StepSaid). x.blocks) c.step_said-said.ensures ∙ ap (option_and_then blocks_said) none))
+          (λ none. c.in_ok-settings.ensures.unblocked (ap (λ (x : StepSaid). x.blocks) c.step_said-said.ensures ∙ ap (option_and_then blocks_said) none))
           bounds.0 (omega (arith, bounds.1, c.most_factors.ensures.value));
+      distinct = c.in_ok-factors.ensures.distinct;
       valid = subst (λ x. are_valid x ≡ true) (sym same) c.in_ok-settings.ensures.valid;
       told = subst (λ s. CanBeWanted settings.q s wanted) (ap length c.as_slice.ensures) c.in_ok-settings.ensures.told;
       within =
