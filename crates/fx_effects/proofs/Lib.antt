@@ -2,3 +2,4 @@ pub mod Mains
 pub mod Numbers
 pub mod Joined
 pub mod Apart
+pub mod Within

@@ -1,11 +1,11 @@
 -- What a MODEL statement with ESTIMATE asks for.
-use Rattle.std.specs.Prelude.{ℕ, ◌≤◌, ◌==◌, ◌+◌, IsTrue, nat_le, not, List, [], ◌∷◌, take, drop, filter, Option, Some, None, Result, Ok, Err, slice_get, if◌then◌else◌}
+use Rattle.std.specs.Prelude.{ℕ, ◌≤◌, ◌==◌, ◌+◌, IsTrue, nat_le, not, List, [], ◌∷◌, length, take, drop, filter, Option, Some, None, Result, Ok, Err, slice_get, if◌then◌else◌}
 use Rattle.std.specs.List.{list_all, list_any, prefix_len}
 use Rattle.fx_language.specs.declared.symbol.Symbol.TheVariants.{Close}
 use Rattle.fx_language.specs.Symbols.{is}
 use Rattle.fx_text.specs.declared.refusal.Refusal.{Refusal}
 use Rattle.fx_text.specs.Written.{Written}
-use Rattle.fx_text.specs.Refusals.{refusal_at, ◌>>=◌}
+use Rattle.fx_text.specs.Refusals.{refusal_at, refused_at, ◌>>=◌}
 use Rattle.fx_vectors.specs.Effects.{are_in_order, pair_count}
 use Rattle.fx_effects.specs.Expressions.{expressions_of}
 use Rattle.fx_effects.specs.Lists.{effects_of, at_most_100000}
@@ -45,6 +45,10 @@ told_apart q word estimate others =
     then Ok (record { estimate = estimate; nonnegligible = without estimate others })
     else Err (refusal_at 22 word)
 
+-- There are effects in a list, or E2 at its word. The grammar lets no list be empty, so no text that it accepts is refused here.
+abbrev pub some_effects : Written → List ℕ → Result (Unit {0}) Refusal
+some_effects word effects = if length effects == 0 then Err (refusal_at 2 word) else Ok tt
+
 -- the first of some, or another where there is none
 abbrev pub first_or : Written → List Written → Written
 first_or other [] = other
@@ -57,15 +61,17 @@ lists_at q factors word written other_word other_written =
     expressions_of factors other_written >>= (λ others.
     at_most_100000 word (effects_of estimate) >>= (λ first.
     at_most_100000 other_word (effects_of others) >>= (λ second.
-    told_apart q word first second))))
+    some_effects word first >>= (λ some.
+    told_apart q word first second)))))
 
 -- what stands behind `MODEL ESTIMATE = (`, at the word ESTIMATE
 abbrev pub lists_behind : ℕ → List (List ℕ) → Written → List Written → Result EffectLists Refusal
 lists_behind q factors word written =
     lists_at q factors word (list_in written) (first_or word (behind_list written)) (list_in (drop 3 (behind_list written)))
 
+-- where nothing stands behind MODEL, which the grammar refuses too, there is no word to be named
 abbrev pub by_word : ℕ → List (List ℕ) → Option Written → List Written → Result EffectLists Refusal
-by_word q factors None written = Ok (record { estimate = []; nonnegligible = [] })
+by_word q factors None written = Err (refused_at 2 (record { line = 1; column = 1 }))
 by_word q factors (Some word) written = lists_behind q factors word written
 
 -- the lists of a statement `MODEL ESTIMATE = ( .. )`, which may go on by `NONNEGLIGIBLE = ( .. )`

@@ -2,8 +2,9 @@ ghost use Rattle.std.specs.Prelude.{◌≡◌, ◌≤◌, ◌==◌, not, filter,
 ghost use Rattle.std.specs.List.{list_any, prefix_len};
 ghost use Rattle.fx_text.specs.Refusals.{IsRefused};
 ghost use Rattle.fx_vectors.specs.Effects.{numbers_of};
+ghost use Rattle.fx_vectors.specs.Question.{CanBeTold};
 ghost use Rattle.fx_demands.specs.Bars.{AreOrdered};
-ghost use Rattle.fx_effects.specs.Models.{AreApart, by_word, first_or, list_in, list_len, behind_list, lists_at, lists_behind, lists_of, told_apart, without};
+ghost use Rattle.fx_effects.specs.Models.{AreApart, by_word, first_or, list_in, list_len, behind_list, lists_at, lists_behind, lists_of, some_effects, told_apart, without};
 
 use crate::expressions::expressions_of;
 use crate::lists::list_of;
@@ -11,7 +12,7 @@ use fx_base::{Bytes, NoMemory};
 use fx_demands::pair_count;
 use fx_galois::Field;
 use fx_language::Symbol;
-use fx_text::{Lexeme, ParseStop};
+use fx_text::{Lexeme, ParseStop, Place, Refusal};
 use fx_vectors::{Effect, Effects};
 use std::alloc::Global;
 use std::marker::Model;
@@ -36,15 +37,15 @@ impl Model for ModelEffects {
 }
 
 /// The effects of a statement `MODEL ESTIMATE = ( .. )`, which may go on by `NONNEGLIGIBLE = ( .. )`,
-/// in a step with these factors, of which there are at most 40. Both lists have no effects where
-/// nothing stands behind MODEL.
+/// in a step with these factors, of which there are at most 40.
 ///
 /// # Errors
 ///
 /// At the first effect of ESTIMATE and then of NONNEGLIGIBLE with one of these, in this order: E30, a
 /// range is not regular; E4, a name is no factor's; E29, `@n` keeps no effect. Then E23 for ESTIMATE
 /// and then for NONNEGLIGIBLE, a list has more than 100,000 effects. Then E22, there are more than
-/// 2,000,000 pairs. And `NoMemory`.
+/// 2,000,000 pairs. And `NoMemory`. A statement without an effect in ESTIMATE, which the grammar
+/// refuses, is refused here by E2.
 pub fn effects_of(
     alloc: Global,
     field: Field,
@@ -53,14 +54,11 @@ pub fn effects_of(
 ) -> Result<ModelEffects, ParseStop>
     requires { length factors.now ≤ 40 }
     ensures ok { IfOk result (λ effects. lists_of field factors.now statement.now ≡ Ok effects) }
-    ensures apart { IfOk result (AreApart field) }
+    ensures told { IfOk result (λ effects. CanBeTold field (length factors.now) effects.estimate effects.nonnegligible) }
     ensures err { IfErr result (IsRefused (lists_of field factors.now statement.now)) }
 {
     match statement.get(1) {
-        None => Ok(ModelEffects {
-            estimate: Effects::new(alloc),
-            nonnegligible: Effects::new(alloc),
-        }),
+        None => Err(ParseStop::Refused(Place { line: 1, column: 1 }.refused(2))),
         Some(word) => effects_behind(alloc, field, factors, word, from(statement, 4)),
     }
 }
@@ -104,7 +102,22 @@ fn lists_at(
     let others = expressions_of(alloc, factors, other_written)?;
     let estimate = list_of(alloc, word, estimate.as_slice())?;
     let others = list_of(alloc, other_word, others.as_slice())?;
+    some_effects(word, &estimate)?;
     told_apart(alloc, field, word, estimate, &others)
+}
+
+/// Tests that there are effects in a list.
+///
+/// # Errors
+///
+/// E2 at its word: there are none.
+fn some_effects(word: &Lexeme<'_>, effects: &Effects) -> Result<(), Refusal>
+    ensures { result ≡ some_effects word.now (numbers_of effects.now) }
+{
+    if effects.len() == 0 {
+        return Err(word.refused(2));
+    }
+    Ok(())
 }
 
 /// Both lists, where those to be estimated are no others.

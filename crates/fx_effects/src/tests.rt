@@ -64,13 +64,15 @@ fn both_lists_are_sets_in_effect_order(rt: HostRuntime) -> Result<(), Fail> {
 
 #[test]
 fn refused_where_the_rule_is_broken(rt: HostRuntime) -> Result<(), Fail> {
-    let cases: [(&[u8], u8, u32); 6] = [
+    let cases: [(&[u8], u8, u32); 8] = [
         (b"model estimate=(a c@0 x3-x1)", 4, 19),
         (b"model estimate=(a x3-x1 c)", 30, 19),
         (b"model estimate=(x1-x4)", 4, 17),
         (b"model estimate=(a*b|x1*x2@1)", 29, 27),
         (b"model estimate=(a) nonneg=(b@0)", 29, 30),
         (b"model estimate=(a) n=(c)", 4, 23),
+        (b"model estimate=() n=(a)", 2, 7),
+        (b"model", 2, 1),
     ];
     let factors: [&[u8]; 5] = [b"A", b"B", b"X1", b"X2", b"X3"];
     are_refused(&rt, rt.alloc(), &factors, &cases)

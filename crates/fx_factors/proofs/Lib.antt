@@ -1,3 +1,5 @@
 pub mod Parts
 pub mod Numbered
 pub mod Added
+pub mod NumbersDiffer
+pub mod Distinct

@@ -1,8 +1,9 @@
 ghost use Rattle.std.specs.Prelude.{◌≡◌, ◌≤◌, ◌<◌, ◌+◌, ◌^◌, ◌++◌, Ok, false, decimal, not, length, IfOk, IfErr, OnOk, MatchOption, None, Some};
-ghost use Rattle.std.specs.List.{prefix_len};
+ghost use Rattle.std.specs.List.{IsDistinct, prefix_len};
 ghost use Rattle.std.specs.Option.{option_map};
 ghost use Rattle.fx_language.specs.declared.symbol.Symbol.TheVariants.{Slash};
 ghost use Rattle.fx_language.specs.Symbols.{is};
+ghost use Rattle.fx_text.specs.Names.{is_same_name};
 ghost use Rattle.fx_text.specs.Refusals.{IsRefused};
 ghost use Rattle.fx_factors.specs.Ranges.{numbered, stem};
 ghost use Rattle.fx_factors.specs.Items.{before_slash, item, last_behind};
@@ -24,6 +25,7 @@ pub fn factors_of(alloc: Global, statement: &[Lexeme<'_>], limit: usize) -> Resu
     ensures names { IfOk result (λ names. factors_of limit statement.now ≡ Ok names) }
     ensures refused { IfErr result (IsRefused (factors_of limit statement.now)) }
     ensures bound { IfOk result (λ names. length names ≤ limit) }
+    ensures distinct { IfOk result (IsDistinct is_same_name) }
 {
     let mut names = Names::new(alloc);
     if statement.is_empty() {

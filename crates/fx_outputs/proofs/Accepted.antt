@@ -1,5 +1,5 @@
 -- An accepted output keeps the limits of its step.
-use Rattle.std.proofs.Common.{◌≡◌, ◌≢◌, ◌⊎◌, inl, inr, ℕ, ◌+◌, ◌≤◌, Bool, true, false, ◌&&◌, List, [], ◌∷◌, ◌++◌, length, get_or, Option, Some, None, Result, Ok, Err, refl, sym, ap, subst, ◌∙◌, arith}
+use Rattle.std.proofs.Common.{◌≡◌, ◌≢◌, ℕ, ◌+◌, ◌≤◌, Bool, true, false, ◌&&◌, List, [], ◌∷◌, ◌++◌, length, get_or, Option, Some, None, Result, Ok, Err, refl, sym, ap, subst, ◌∙◌, arith}
 use Rattle.std.specs.Prelude.{◌==◌, nat_le, if◌then◌else◌}
 use Rattle.std.specs.List.{list_any}
 use Rattle.std.proofs.lemmas.Bool.{leb-true, eqb-true, eq-eqb}
@@ -52,21 +52,23 @@ as_many n word all values e =
     let kept = kept_if (length all == n) all values (refusal_at 17 word) e in
     sym (ap length kept.1) ∙ eqb-true (length all) n kept.0
 
-of_blocks : (count : BlockCount) (word : Written) (all values : List (List ℕ)) → counted (values_wanted count) word all ≡ Ok values
-    → (values ≡ []) ⊎ (count ≡ blocks.Fixed (length values))
+-- where there are values, the number of blocks is fixed, and they are as many
+abbrev AreForBlocks : BlockCount → List (List ℕ) → Type 0
+AreForBlocks count values = values ≢ [] → count ≡ blocks.Fixed (length values)
+
+of_blocks : (count : BlockCount) (word : Written) (all values : List (List ℕ)) → counted (values_wanted count) word all ≡ Ok values → AreForBlocks count values
 of_blocks blocks.Without word all values e = absurd (cc e)
 of_blocks blocks.Open word all values e = absurd (cc e)
-of_blocks (blocks.Fixed n) word all values e = inr (ap blocks.Fixed (sym (as_many n word all values e)))
+of_blocks (blocks.Fixed n) word all values e = λ _. ap blocks.Fixed (sym (as_many n word all values e))
 
 either_values : (b : Bool) (count : BlockCount) (word : Written) (all values : List (List ℕ))
-    → (if b then counted (values_wanted count) word all else Ok []) ≡ Ok values
-    → (values ≡ []) ⊎ (count ≡ blocks.Fixed (length values))
+    → (if b then counted (values_wanted count) word all else Ok []) ≡ Ok values → AreForBlocks count values
 either_values true count word all values e = of_blocks count word all values e
-either_values false count word all values e = let none : [] ≡ values = cc e in inl (sym none)
+either_values false count word all values e = let none : [] ≡ values = cc e in λ some. absurd (some (sym none))
 
 pub values_of_blocks : (count : BlockCount) (word : Option Written) (rest : List Written) (values : List (List ℕ)) → block_values count word rest ≡ Ok values
-    → (values ≡ []) ⊎ (count ≡ blocks.Fixed (length values))
-values_of_blocks count None rest values e = let none : [] ≡ values = cc e in inl (sym none)
+    → values ≢ [] → count ≡ blocks.Fixed (length values)
+values_of_blocks count None rest values e = let none : [] ≡ values = cc e in λ some. absurd (some (sym none))
 values_of_blocks count (Some word) rest values e = either_values (begins_values word rest) count word (values_of rest) values e
 
 is_factor : (name : Written) (place : Option ℕ) (p : ℕ) → factor_at name place ≡ Ok p → (i : ℕ) × (place ≡ Some i) × (i + 1 ≡ p)

@@ -1,5 +1,5 @@
 -- What holds of every output that is accepted, without a word on how it is read.
-use Rattle.std.specs.Prelude.{◌≡◌, ◌≢◌, ◌⊎◌, ◌*◌, ◌≤◌, List, [], length, All}
+use Rattle.std.specs.Prelude.{◌≡◌, ◌≢◌, ◌*◌, ◌≤◌, List, [], length, All}
 use Rattle.std.specs.List.{AllPairs}
 use Rattle.fx_outputs.specs.declared.output.OutputSpec.{OutputSpec}
 use Rattle.fx_outputs.specs.declared.recode.Recode.{Recode}
@@ -17,10 +17,10 @@ pub record AreRecodes (setting : Context) (recodes : List Recode) : Type 0 where
   pub each : All (IsRecode setting) recodes
   pub once : AllPairs (λ (a b : Recode). a.place ≢ b.place) recodes
 
--- an output that keeps the limits of its step
+-- an output that keeps the limits of its step; values of the block column are as many as there are blocks
 pub record IsWithinLimits (setting : Context) (output : OutputSpec) : Type 0 where
   pub pointrep : 1 ≤ output.pointrep
   pub designrep : 1 ≤ output.designrep
   pub rows : setting.runs * output.pointrep * output.designrep ≤ 200000
   pub recodes : AreRecodes setting output.recodes
-  pub block_values : (output.block_values ≡ []) ⊎ (setting.blocks ≡ blocks.Fixed (length output.block_values))
+  pub block_values : output.block_values ≢ [] → setting.blocks ≡ blocks.Fixed (length output.block_values)

@@ -9,24 +9,27 @@ use Rattle.fx_settings.specs.declared.said.Value.{Value}
 use Rattle.fx_settings.specs.declared.said.SizeSaid.{SizeSaid}
 use Rattle.fx_settings.specs.declared.said.SizeWord.{SizeWord}
 use Rattle.fx_settings.specs.declared.said.SizeWord.TheVariants as size
+use Rattle.fx_settings.specs.declared.said.Asked.{Asked}
+use Rattle.fx_settings.specs.declared.said.Asked.TheVariants as asked
 use Rattle.fx_settings.specs.declared.said.ModelSaid.{ModelSaid}
 use Rattle.fx_settings.specs.declared.said.BlocksSaid.{BlocksSaid}
 use Rattle.fx_settings.specs.declared.said.BlocksWord.{BlocksWord}
 use Rattle.fx_settings.specs.declared.said.BlocksWord.TheVariants as word
 use Rattle.fx_settings.specs.declared.said.StepSaid.{StepSaid}
 use Rattle.fx_settings.specs.declared.settings.Settings.{Settings}
+use Rattle.fx_settings.specs.declared.settings.Unblocked.{Unblocked}
 use Rattle.fx_settings.specs.declared.settings.Size.{Size}
 use Rattle.fx_settings.specs.declared.settings.Size.TheVariants.{Runs, Minimum}
-use Rattle.fx_settings.specs.declared.settings.Wanted.{Wanted}
-use Rattle.fx_settings.specs.declared.settings.Wanted.TheVariants.{Resolution, Highest}
+use Rattle.fx_settings.specs.declared.settings.Criterion.{Criterion}
+use Rattle.fx_settings.specs.declared.settings.Criterion.TheVariants.{Resolution, Highest, Effects}
 use Rattle.fx_settings.specs.declared.settings.Blocks.{Blocks}
 use Rattle.fx_settings.specs.declared.settings.Blocks.TheVariants as blocks
 use Rattle.fx_settings.specs.Powers.{exponent}
 use Rattle.fx_settings.specs.Sizes.{passed, by_design, by_fraction, run_factors, runs_at, size_by, size_of}
-use Rattle.fx_settings.specs.Models.{resolution_by, wanted_of, least_of, is_highest}
+use Rattle.fx_settings.specs.Models.{resolution_by, effects_by, criterion_by, criterion_of, least_of, is_effects, is_highest}
 use Rattle.fx_settings.specs.Blocks.{blocks_allowed, are_most, is_minimum, minimum_allowed, is_too_many, factors_at, by_number, most_run_factors, of_runs, by_size, blocks_by, blocks_by_value, blocks_of}
-use Rattle.fx_settings.specs.Settings.{number_by, number_said, is_level, levels_of, budget_of, settings_of}
-use Rattle.fx_settings.specs.Valid.{is_size, is_wanted, are_blocks, has_blocks, has_most, is_budget, stand_together, are_valid}
+use Rattle.fx_settings.specs.Settings.{number_by, number_said, is_level, levels_of, budget_of, unblocked_of, with_blocks, settings_of}
+use Rattle.fx_settings.specs.Valid.{is_size, is_criterion, are_blocks, has_blocks, has_most, is_budget, stand_together, are_valid}
 
 -- a chain that gives a value has one behind its first part
 pub bind_ok : {A B : Type 0} (r : Result A Refusal) (f : A → Result B Refusal) (x : B) → (r >>= f) ≡ Ok x → (a : A) × (r ≡ Ok a) × (f a ≡ Ok x)
@@ -86,14 +89,34 @@ size_valid q s factors (Some said) x one e = go said.value.number e
         let b = bind_ok (run_factors q s said.word said.value.place n) (runs_at q said.value.place) x e in
         runs_fit q said.value.place b.0 x (some_runs q s said.word said.value.place n b.0 b.1) b.2
 
-wanted_valid : (said : Option ModelSaid) (x : Wanted) → wanted_of said ≡ Ok x → is_wanted x ≡ true
-unfolding wanted_of
-wanted_valid None x e = subst (λ x. is_wanted x ≡ true) (same_ok Highest x e) refl
-wanted_valid (Some said) x e = go said.resolution.number e
+-- what is wanted
+
+record Wanted (least : Bool) (x : Criterion) : Type 0 where
+  fits : is_criterion x ≡ true
+  apart : (least && is_effects x) ≡ false
+
+no_effects : (least : Bool) (x : Criterion) → is_effects x ≡ false → (least && is_effects x) ≡ false
+no_effects true x none = none
+no_effects false x none = refl
+
+resolution_kept : (least : Bool) (place : Place) (n : Option ℕ) (x : Criterion) → resolution_by place n ≡ Ok x → Wanted least x
+resolution_kept least place None x e = subst (Wanted least) (same_ok Highest x e) (record { fits = refl; apart = no_effects least Highest refl })
+resolution_kept least place (Some r) x e =
+    let both = if_ok (nat_le 3 r && nat_le r 99) (Resolution r) x (refused_at 11 place) e in
+    subst (Wanted least) both.1 (record { fits = both.0; apart = no_effects least (Resolution r) refl })
+
+effects_kept : (minabs : Option Place) (x : Criterion) → effects_by minabs ≡ Ok x → Wanted (is_some minabs) x
+effects_kept None x e = subst (Wanted false) (same_ok Effects x e) (record { fits = refl; apart = refl })
+effects_kept (Some place) x e = absurd (cc e)
+
+criterion_kept : (said : Option ModelSaid) (x : Criterion) → criterion_of said ≡ Ok x → Wanted (least_of said) x
+unfolding criterion_of
+criterion_kept None x e = subst (Wanted false) (same_ok Highest x e) (record { fits = refl; apart = refl })
+criterion_kept (Some said) x e = go said.asked e
   where
-    go : (n : Option ℕ) → resolution_by said.resolution.place n ≡ Ok x → is_wanted x ≡ true
-    go None e = subst (λ x. is_wanted x ≡ true) (same_ok Highest x e) refl
-    go (Some r) e = let both = if_ok (nat_le 3 r && nat_le r 99) (Resolution r) x (refused_at 11 said.resolution.place) e in subst (λ x. is_wanted x ≡ true) both.1 both.0
+    go : (a : Asked) → criterion_by a said.minabs ≡ Ok x → Wanted (is_some said.minabs) x
+    go (asked.Resolution value) e = resolution_kept (is_some said.minabs) value.place value.number x e
+    go asked.Effects e = effects_kept said.minabs x e
 
 -- the blocks
 
@@ -141,56 +164,77 @@ blocks_kept q size said x e = go said.value.number e
 
 -- what stands together
 
-minimum_kept : (q s : ℕ) (factors : Place) (size : Size) (wanted : Wanted) (least : Bool) (given : Option BlocksSaid) (said : Option SizeSaid) (u : Unit {0})
-    → size_of q s factors said ≡ Ok size → minimum_allowed size wanted least given said ≡ Ok u
-    → (is_minimum size && (is_highest wanted || least || are_most given)) ≡ false
+minimum_kept : (q s : ℕ) (factors : Place) (size : Size) (criterion : Criterion) (least : Bool) (given : Option BlocksSaid) (said : Option SizeSaid) (u : Unit {0})
+    → size_of q s factors said ≡ Ok size → minimum_allowed size criterion least given said ≡ Ok u
+    → (is_minimum size && (is_highest criterion || least || are_most given)) ≡ false
 unfolding size_of minimum_allowed
-minimum_kept q s factors size wanted least given None u is e =
+minimum_kept q s factors size criterion least given None u is e =
     let both = if_ok (nat_le (q ^ s) 1024) (Runs s) size (refused_at 9 factors) is in
-    subst (λ x. (is_minimum x && (is_highest wanted || least || are_most given)) ≡ false) both.1 refl
-minimum_kept q s factors size wanted least given (Some said) u is e =
-    (unless_ok (is_minimum size && (is_highest wanted || least || are_most given)) tt u (refused_at 14 said.value.place) e).0
+    subst (λ x. (is_minimum x && (is_highest criterion || least || are_most given)) ≡ false) both.1 refl
+minimum_kept q s factors size criterion least given (Some said) u is e =
+    (unless_ok (is_minimum size && (is_highest criterion || least || are_most given)) tt u (refused_at 14 said.value.place) e).0
 
 nothing_more : (b : Bool) → not (b && false) ≡ true
 nothing_more true = refl
 nothing_more false = refl
 
-together : (q s : ℕ) (factors : Place) (size : Size) (wanted : Wanted) (least : Bool) (given : Option BlocksSaid) (said : Option SizeSaid) (u v : Unit {0}) (x : Blocks)
-    → size_of q s factors said ≡ Ok size → blocks_allowed wanted least given ≡ Ok u → minimum_allowed size wanted least given said ≡ Ok v → blocks_of q size given ≡ Ok x
-    → (are_blocks q size x ≡ true) × (stand_together size wanted least x ≡ true)
+together : (q s : ℕ) (factors : Place) (size : Size) (criterion : Criterion) (least : Bool) (given : Option BlocksSaid) (said : Option SizeSaid) (u v : Unit {0}) (x : Blocks)
+    → Wanted least criterion → size_of q s factors said ≡ Ok size → blocks_allowed criterion least given ≡ Ok u → minimum_allowed size criterion least given said ≡ Ok v → blocks_of q size given ≡ Ok x
+    → (are_blocks q size x ≡ true) × (stand_together size criterion least x ≡ true)
 unfolding blocks_of blocks_allowed
-together q s factors size wanted least None said u v x is allowed minimum e =
+together q s factors size criterion least None said u v x kind is allowed minimum e =
     let none = same_ok blocks.Without x e in
-    let kept = minimum_kept q s factors size wanted least None said v is minimum in
-    subst (λ x. (are_blocks q size x ≡ true) × (stand_together size wanted least x ≡ true)) none (refl, ap not kept)
-together q s factors size wanted least (Some given) said u v x is allowed minimum e =
+    let kept = minimum_kept q s factors size criterion least None said v is minimum in
+    subst (λ x. (are_blocks q size x ≡ true) × (stand_together size criterion least x ≡ true)) none
+    (refl, and_from _ _ (and_from _ true (ap not kind.apart) refl) (ap not kept))
+together q s factors size criterion least (Some given) said u v x kind is allowed minimum e =
     let kept = blocks_kept q size given x e in
-    let apart = (unless_ok (least || is_highest wanted) tt u (refused_at 13 given.place) allowed).0 in
-    let small = minimum_kept q s factors size wanted least (Some given) said v is minimum in
-    (kept.fits, and_from _ _ (ap (λ b. not (has_blocks x && b)) apart ∙ nothing_more (has_blocks x)) (ap (λ b. not (is_minimum size && (is_highest wanted || least || b))) kept.same ∙ ap not small))
+    let apart = (unless_ok (least || is_highest criterion) tt u (refused_at 13 given.place) allowed).0 in
+    let small = minimum_kept q s factors size criterion least (Some given) said v is minimum in (
+      kept.fits,
+      and_from _ _
+          (and_from _ _ (ap not kind.apart) (ap (λ b. not (has_blocks x && b)) apart ∙ nothing_more (has_blocks x)))
+          (ap (λ b. not (is_minimum size && (is_highest criterion || least || b))) kept.same ∙ ap not small),
+    )
 
-pub valid : (s : ℕ) (said : StepSaid) (x : Settings) → 1 ≤ s → settings_of s said ≡ Ok x → are_valid x ≡ true
-unfolding levels_of budget_of
-valid s said x one e =
-    let q = bind_ok (levels_of said.levels) _ x e in
-    let budget = bind_ok (budget_of said.nodes) _ x q.2 in
-    let size = bind_ok (size_of q.0 s said.factors said.size) _ x budget.2 in
-    let wanted = bind_ok (wanted_of said.model) _ x size.2 in
-    let allowed = bind_ok (blocks_allowed wanted.0 (least_of said.model) said.blocks) _ x wanted.2 in
-    let minimum = bind_ok (minimum_allowed size.0 wanted.0 (least_of said.model) said.blocks said.size) _ x allowed.2 in
-    let given = bind_ok (blocks_of q.0 size.0 said.blocks) _ x minimum.2 in
-    let all = together q.0 s said.factors size.0 wanted.0 (least_of said.model) said.blocks said.size allowed.0 minimum.0 given.0 size.1 allowed.1 minimum.1 given.1 in
-    subst (λ x. are_valid x ≡ true) (same_ok _ x given.2)
-    (and_from _ _
-    (and_from _ _
-    (and_from _ _
-    (and_from _ _
-    (and_from _ _ (number_passes 2 6 is_level said.levels q.0 refl q.1) (number_passes 1000000 29 is_budget said.nodes budget.0 refl budget.1))
-    (size_valid q.0 s said.factors said.size size.0 one size.1))
-    (wanted_valid said.model wanted.0 wanted.1))
-    all.0)
-    all.1)
+module _ (s : ℕ) (said : StepSaid) (x : Unblocked) (is : unblocked_of s said ≡ Ok x) where
+  pub level : is_level x.q ≡ true
+  unfolding levels_of
+  level =
+      let q = bind_ok (levels_of said.levels) _ x is in
+      let budget = bind_ok (budget_of said.nodes) _ x q.2 in
+      let size = bind_ok (size_of q.0 s said.factors said.size) _ x budget.2 in
+      let criterion = bind_ok (criterion_of said.model) _ x size.2 in
+      let allowed = bind_ok (blocks_allowed criterion.0 (least_of said.model) said.blocks) _ x criterion.2 in
+      let minimum = bind_ok (minimum_allowed size.0 criterion.0 (least_of said.model) said.blocks said.size) _ x allowed.2 in
+      subst (λ (x : Unblocked). is_level x.q ≡ true) (same_ok _ x minimum.2) (number_passes 2 6 is_level said.levels q.0 refl q.1)
 
-pub all_valid : (s : ℕ) (said : StepSaid) (r : Result Settings Refusal) → r ≡ settings_of s said → IfOk r (λ x. 1 ≤ s → are_valid x ≡ true)
-all_valid s said (Ok x) e = λ one. valid s said x one (sym e)
-all_valid s said (Err refusal) e = tt
+  pub valid : (settings : Settings) → 1 ≤ s → settings_of x said ≡ Ok settings → are_valid settings ≡ true
+  unfolding levels_of budget_of
+  valid settings one e =
+      let q = bind_ok (levels_of said.levels) _ x is in
+      let budget = bind_ok (budget_of said.nodes) _ x q.2 in
+      let size = bind_ok (size_of q.0 s said.factors said.size) _ x budget.2 in
+      let criterion = bind_ok (criterion_of said.model) _ x size.2 in
+      let allowed = bind_ok (blocks_allowed criterion.0 (least_of said.model) said.blocks) _ x criterion.2 in
+      let minimum = bind_ok (minimum_allowed size.0 criterion.0 (least_of said.model) said.blocks said.size) _ x allowed.2 in
+      let first : Unblocked = record { q = q.0; budget = budget.0; size = size.0; criterion = criterion.0; least = least_of said.model } in
+      let same : first ≡ x = same_ok first x minimum.2 in
+      let given = bind_ok (blocks_of q.0 size.0 said.blocks) _ settings (subst (λ (x : Unblocked). settings_of x said ≡ Ok settings) (sym same) e) in
+      let kind = criterion_kept said.model criterion.0 criterion.1 in
+      let all = together q.0 s said.factors size.0 criterion.0 (least_of said.model) said.blocks said.size allowed.0 minimum.0 given.0 kind size.1 allowed.1 minimum.1 given.1 in
+      subst (λ y. are_valid y ≡ true) (same_ok (with_blocks first given.0) settings given.2)
+      (and_from _ _
+      (and_from _ _
+      (and_from _ _
+      (and_from _ _
+      (and_from _ _ (number_passes 2 6 is_level said.levels q.0 refl q.1) (number_passes 1000000 29 is_budget said.nodes budget.0 refl budget.1))
+      (size_valid q.0 s said.factors said.size size.0 one size.1))
+      kind.fits)
+      all.0)
+      all.1)
+
+pub all_valid : (said : StepSaid) (x : Unblocked) (r : Result Settings Refusal) → r ≡ settings_of x said
+    → IfOk r (λ settings. (s : ℕ) → 1 ≤ s → unblocked_of s said ≡ Ok x → are_valid settings ≡ true)
+all_valid said x (Ok settings) e = λ s one is. valid s said x is settings one (sym e)
+all_valid said x (Err refusal) e = tt

@@ -11,15 +11,15 @@ use Rattle.fx_settings.specs.declared.settings.Size.{Size}
 use Rattle.fx_settings.specs.declared.settings.Size.TheVariants.{Runs, Minimum}
 use Rattle.fx_settings.specs.declared.settings.Blocks.{Blocks}
 use Rattle.fx_settings.specs.declared.settings.Blocks.TheVariants as is
-use Rattle.fx_settings.specs.declared.settings.Wanted.{Wanted}
+use Rattle.fx_settings.specs.declared.settings.Criterion.{Criterion}
 use Rattle.fx_settings.specs.Models.{is_highest}
 use Rattle.fx_settings.specs.Powers.{exponent, greatest}
 use Rattle.fx_settings.specs.Sizes.{passed}
 
 -- BLOCKS stands neither with MINABS nor with the highest resolution
-unfoldable pub blocks_allowed : Wanted → Bool → Option BlocksSaid → Result (Unit {0}) Refusal
-blocks_allowed wanted least None = Ok tt
-blocks_allowed wanted least (Some said) = if least || is_highest wanted then Err (refused_at 13 said.place) else Ok tt
+unfoldable pub blocks_allowed : Criterion → Bool → Option BlocksSaid → Result (Unit {0}) Refusal
+blocks_allowed criterion least None = Ok tt
+blocks_allowed criterion least (Some said) = if least || is_highest criterion then Err (refused_at 13 said.place) else Ok tt
 
 -- whether as many blocks as can be are wanted
 abbrev pub are_most : Option BlocksSaid → Bool
@@ -31,9 +31,9 @@ is_minimum Minimum = true
 is_minimum (Runs m) = false
 
 -- the least size stands neither with the highest resolution, nor with MINABS, nor with the most blocks
-unfoldable pub minimum_allowed : Size → Wanted → Bool → Option BlocksSaid → Option SizeSaid → Result (Unit {0}) Refusal
-minimum_allowed size wanted least blocks None = Ok tt
-minimum_allowed size wanted least blocks (Some said) = if is_minimum size && (is_highest wanted || least || are_most blocks) then Err (refused_at 14 said.value.place) else Ok tt
+unfoldable pub minimum_allowed : Size → Criterion → Bool → Option BlocksSaid → Option SizeSaid → Result (Unit {0}) Refusal
+minimum_allowed size criterion least blocks None = Ok tt
+minimum_allowed size criterion least blocks (Some said) = if is_minimum size && (is_highest criterion || least || are_most blocks) then Err (refused_at 14 said.value.place) else Ok tt
 
 -- at most as many blocks as runs, or as the most runs where the size is the least
 abbrev pub is_too_many : ℕ → Size → ℕ → Bool

@@ -1,27 +1,45 @@
--- What a step wants of its design, where it names no effects.
-use Rattle.std.specs.Prelude.{ℕ, nat_le, ◌&&◌, Bool, true, false, Option, Some, None, Result, Ok, Err, if◌then◌else◌}
+-- By what the designs of a step are judged.
+use Rattle.std.specs.Prelude.{ℕ, nat_le, ◌&&◌, Bool, true, false, Option, Some, None, is_some, Result, Ok, Err, if◌then◌else◌}
 use Rattle.fx_text.specs.declared.refusal.Refusal.{Refusal}
 use Rattle.fx_text.specs.declared.refusal.Place.{Place}
 use Rattle.fx_text.specs.Refusals.{refused_at}
+use Rattle.fx_settings.specs.declared.said.Asked.{Asked}
+use Rattle.fx_settings.specs.declared.said.Asked.TheVariants as asked
 use Rattle.fx_settings.specs.declared.said.ModelSaid.{ModelSaid}
-use Rattle.fx_settings.specs.declared.settings.Wanted.{Wanted}
-use Rattle.fx_settings.specs.declared.settings.Wanted.TheVariants.{Resolution, Highest}
+use Rattle.fx_settings.specs.declared.settings.Criterion.{Criterion}
+use Rattle.fx_settings.specs.declared.settings.Criterion.TheVariants.{Resolution, Highest, Effects}
 
 -- the resolution by a value: a number from 3 to 99, or the highest
-abbrev pub resolution_by : Place → Option ℕ → Result Wanted Refusal
+abbrev pub resolution_by : Place → Option ℕ → Result Criterion Refusal
 resolution_by place None = Ok Highest
 resolution_by place (Some r) = if nat_le 3 r && nat_le r 99 then Ok (Resolution r) else Err (refused_at 11 place)
 
+-- effects, with which MINABS does not stand
+abbrev pub effects_by : Option Place → Result Criterion Refusal
+effects_by None = Ok Effects
+effects_by (Some minabs) = Err (refused_at 12 minabs)
+
+-- by what a MODEL statement asks for, where MINABS stands at this place
+abbrev pub criterion_by : Asked → Option Place → Result Criterion Refusal
+criterion_by (asked.Resolution value) minabs = resolution_by value.place value.number
+criterion_by asked.Effects minabs = effects_by minabs
+
 -- without MODEL, the highest resolution
-unfoldable pub wanted_of : Option ModelSaid → Result Wanted Refusal
-wanted_of None = Ok Highest
-wanted_of (Some said) = resolution_by said.resolution.place said.resolution.number
+unfoldable pub criterion_of : Option ModelSaid → Result Criterion Refusal
+criterion_of None = Ok Highest
+criterion_of (Some said) = criterion_by said.asked said.minabs
 
 -- whether least aberration is wanted
 abbrev pub least_of : Option ModelSaid → Bool
 least_of None = false
-least_of (Some said) = said.minabs
+least_of (Some said) = is_some said.minabs
 
-abbrev pub is_highest : Wanted → Bool
+abbrev pub is_highest : Criterion → Bool
 is_highest Highest = true
 is_highest (Resolution r) = false
+is_highest Effects = false
+
+abbrev pub is_effects : Criterion → Bool
+is_effects Effects = true
+is_effects (Resolution r) = false
+is_effects Highest = false

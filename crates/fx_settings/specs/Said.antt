@@ -2,7 +2,7 @@
 use Rattle.std.specs.Prelude.{◌-◌, Bool, List, [], ◌∷◌, length, drop, Option, Some, None, if◌then◌else◌}
 use Rattle.std.specs.Option.{option_map, option_and_then}
 use Rattle.fx_language.specs.declared.symbol.Symbol.{Symbol}
-use Rattle.fx_language.specs.declared.symbol.Symbol.TheVariants.{Size, Design, Fraction, Model, Minabs, Blocks, Nblkfacs, Nblocks, Equals}
+use Rattle.fx_language.specs.declared.symbol.Symbol.TheVariants.{Size, Design, Fraction, Model, Estimate, Minabs, Blocks, Nblkfacs, Nblocks, Equals}
 use Rattle.fx_language.specs.Symbols.{is}
 use Rattle.fx_text.specs.declared.refusal.Place.{Place}
 use Rattle.fx_text.specs.Written.{Written, begins}
@@ -13,6 +13,8 @@ use Rattle.fx_settings.specs.declared.said.Value.{Value}
 use Rattle.fx_settings.specs.declared.said.SizeSaid.{SizeSaid}
 use Rattle.fx_settings.specs.declared.said.SizeWord.{SizeWord}
 use Rattle.fx_settings.specs.declared.said.SizeWord.TheVariants as size
+use Rattle.fx_settings.specs.declared.said.Asked.{Asked}
+use Rattle.fx_settings.specs.declared.said.Asked.TheVariants as asked
 use Rattle.fx_settings.specs.declared.said.ModelSaid.{ModelSaid}
 use Rattle.fx_settings.specs.declared.said.BlocksSaid.{BlocksSaid}
 use Rattle.fx_settings.specs.declared.said.BlocksWord.{BlocksWord}
@@ -38,9 +40,14 @@ abbrev pub start_of : List Written → Place
 start_of [] = record { line = 1; column = 1 }
 start_of (w ∷ rest) = place_at w
 
--- it ends with this word
-abbrev pub ends : Symbol → List Written → Bool
-ends word s = begins word (drop (length s - 1) s)
+-- the place of the first of some, where it is this word
+abbrev pub first_place : Symbol → List Written → Option Place
+first_place word [] = None
+first_place word (w ∷ rest) = if is word w.symbol then Some (place_at w) else None
+
+-- the place of the last word of a statement, where it is this one
+abbrev pub last_place : Symbol → List Written → Option Place
+last_place word s = first_place word (drop (length s - 1) s)
 
 -- which size a SIZE statement gives: its second word
 abbrev pub size_word : List Written → SizeWord
@@ -53,9 +60,13 @@ blocks_word s = if begins Nblkfacs (drop 1 s) then blocks.Nblkfacs else (if begi
 abbrev pub size_said : List Written → Option SizeSaid
 size_said s = option_map (λ value. record { word = size_word s; value = value }) (value_of s)
 
+-- effects, where ESTIMATE is the second word of a MODEL statement, and else a resolution
+abbrev pub asked_by : List Written → Option Asked
+asked_by s = if begins Estimate (drop 1 s) then Some asked.Effects else option_map asked.Resolution (value_of s)
+
 -- MINABS is the last word of its statement
 abbrev pub model_said : List Written → Option ModelSaid
-model_said s = option_map (λ value. record { resolution = value; minabs = ends Minabs s }) (value_of s)
+model_said s = option_map (λ a. record { asked = a; minabs = last_place Minabs s }) (asked_by s)
 
 abbrev pub blocks_said : List Written → Option BlocksSaid
 blocks_said s = option_map (λ value. record { place = start_of s; word = blocks_word s; value = value }) (value_of s)

@@ -6,9 +6,11 @@ use Rattle.fx_text.specs.declared.refusal.Place.{Place}
 use Rattle.fx_text.specs.Refusals.{refused_at, ◌>>=◌}
 use Rattle.fx_settings.specs.declared.said.StepSaid.{StepSaid}
 use Rattle.fx_settings.specs.declared.said.Value.{Value}
+use Rattle.fx_settings.specs.declared.settings.Blocks.{Blocks}
 use Rattle.fx_settings.specs.declared.settings.Settings.{Settings}
+use Rattle.fx_settings.specs.declared.settings.Unblocked.{Unblocked}
 use Rattle.fx_settings.specs.Sizes.{size_of}
-use Rattle.fx_settings.specs.Models.{wanted_of, least_of}
+use Rattle.fx_settings.specs.Models.{criterion_of, least_of}
 use Rattle.fx_settings.specs.Blocks.{blocks_allowed, minimum_allowed, blocks_of}
 
 -- the number that is said where it passes, and the usual one where none is said
@@ -31,14 +33,20 @@ levels_of said = number_said 2 6 is_level said
 unfoldable pub budget_of : Option Value → Result ℕ Refusal
 budget_of said = number_said 1000000 29 (λ n. nat_le 1 n && nat_le n 5000000) said
 
--- the settings of a step of s factors
-abbrev pub settings_of : ℕ → StepSaid → Result Settings Refusal
-settings_of s said = do
+-- the settings of a step of s factors, but for its blocks
+abbrev pub unblocked_of : ℕ → StepSaid → Result Unblocked Refusal
+unblocked_of s said = do
   q ← levels_of said.levels
   budget ← budget_of said.nodes
   size ← size_of q s said.factors said.size
-  wanted ← wanted_of said.model
-  allowed ← blocks_allowed wanted (least_of said.model) said.blocks
-  least ← minimum_allowed size wanted (least_of said.model) said.blocks said.size
-  blocks ← blocks_of q size said.blocks
-  Ok (record { q = q; budget = budget; size = size; wanted = wanted; least = least_of said.model; blocks = blocks })
+  criterion ← criterion_of said.model
+  allowed ← blocks_allowed criterion (least_of said.model) said.blocks
+  least ← minimum_allowed size criterion (least_of said.model) said.blocks said.size
+  Ok (record { q = q; budget = budget; size = size; criterion = criterion; least = least_of said.model })
+
+-- and with them
+abbrev pub with_blocks : Unblocked → Blocks → Settings
+with_blocks x blocks = record { q = x.q; budget = x.budget; size = x.size; criterion = x.criterion; least = x.least; blocks = blocks }
+
+abbrev pub settings_of : Unblocked → StepSaid → Result Settings Refusal
+settings_of x said = blocks_of x.q x.size said.blocks >>= (λ blocks. Ok (with_blocks x blocks))

@@ -3,12 +3,12 @@ use Rattle.std.specs.Prelude.{ℕ, ◌^◌, nat_le, nat_lt, not, ◌&&◌, ◌||
 use Rattle.fx_settings.specs.declared.settings.Settings.{Settings}
 use Rattle.fx_settings.specs.declared.settings.Size.{Size}
 use Rattle.fx_settings.specs.declared.settings.Size.TheVariants.{Runs, Minimum}
-use Rattle.fx_settings.specs.declared.settings.Wanted.{Wanted}
-use Rattle.fx_settings.specs.declared.settings.Wanted.TheVariants.{Resolution, Highest}
+use Rattle.fx_settings.specs.declared.settings.Criterion.{Criterion}
+use Rattle.fx_settings.specs.declared.settings.Criterion.TheVariants.{Resolution, Highest, Effects}
 use Rattle.fx_settings.specs.declared.settings.Blocks.{Blocks}
 use Rattle.fx_settings.specs.declared.settings.Blocks.TheVariants as blocks
 use Rattle.fx_settings.specs.Powers.{greatest}
-use Rattle.fx_settings.specs.Models.{is_highest}
+use Rattle.fx_settings.specs.Models.{is_effects, is_highest}
 use Rattle.fx_settings.specs.Blocks.{is_minimum, is_too_many}
 use Rattle.fx_settings.specs.Settings.{is_level}
 
@@ -17,9 +17,10 @@ abbrev pub is_size : ℕ → Size → Bool
 is_size q (Runs m) = nat_le 1 m && nat_le (q ^ m) 1024
 is_size q Minimum = true
 
-abbrev pub is_wanted : Wanted → Bool
-is_wanted (Resolution r) = nat_le 3 r && nat_le r 99
-is_wanted Highest = true
+abbrev pub is_criterion : Criterion → Bool
+is_criterion (Resolution r) = nat_le 3 r && nat_le r 99
+is_criterion Highest = true
+is_criterion Effects = true
 
 -- at least one block factor, and no more blocks than runs; blocks of so many runs stand only with the least size
 abbrev pub are_blocks : ℕ → Size → Blocks → Bool
@@ -43,14 +44,15 @@ has_most blocks.Most = true
 abbrev pub is_budget : ℕ → Bool
 is_budget n = nat_le 1 n && nat_le n 5000000
 
--- what stands together: blocks neither with least aberration nor with the highest resolution, and the least size with none
--- of these and not with the most blocks
-abbrev pub stand_together : Size → Wanted → Bool → Blocks → Bool
-stand_together size wanted least given =
-    not (has_blocks given && (least || is_highest wanted))
-    && not (is_minimum size && (is_highest wanted || least || has_most given))
+-- What stands together: least aberration not with effects; blocks neither with least aberration nor with the highest
+-- resolution; and the least size with none of these and not with the most blocks.
+abbrev pub stand_together : Size → Criterion → Bool → Blocks → Bool
+stand_together size criterion least given =
+    not (least && is_effects criterion)
+    && not (has_blocks given && (least || is_highest criterion))
+    && not (is_minimum size && (is_highest criterion || least || has_most given))
 
 abbrev pub are_valid : Settings → Bool
 are_valid x =
-    is_level x.q && is_budget x.budget && is_size x.q x.size && is_wanted x.wanted
-    && are_blocks x.q x.size x.blocks && stand_together x.size x.wanted x.least x.blocks
+    is_level x.q && is_budget x.budget && is_size x.q x.size && is_criterion x.criterion
+    && are_blocks x.q x.size x.blocks && stand_together x.size x.criterion x.least x.blocks

@@ -5,7 +5,7 @@ ghost use Rattle.fx_settings.specs.Blocks.{are_most, blocks_allowed, blocks_by, 
 use crate::model::is_highest;
 use crate::power::{exponent, greatest, is_within};
 use crate::said::{BlocksSaid, BlocksWord, SizeSaid};
-use crate::settings::{Blocks, Size, Wanted};
+use crate::settings::{Blocks, Criterion, Size};
 use fx_text::{Place, Refusal};
 
 /// Tests that BLOCKS stands neither with MINABS nor with the highest resolution.
@@ -15,16 +15,16 @@ use fx_text::{Place, Refusal};
 /// E13: it does.
 #[tactic(auto, unfolding(crate::specs::Blocks::blocks_allowed))]
 pub(crate) fn blocks_allowed(
-    wanted: Wanted,
+    criterion: Criterion,
     least: bool,
     said: Option<BlocksSaid>,
 ) -> Result<(), Refusal>
-    ensures { result ≡ blocks_allowed wanted least said }
+    ensures { result ≡ blocks_allowed criterion least said }
 {
     match said {
         None => Ok(()),
         Some(said) => {
-            if least || is_highest(wanted) {
+            if least || is_highest(criterion) {
                 Err(said.place.refused(13))
             } else {
                 Ok(())
@@ -42,17 +42,17 @@ pub(crate) fn blocks_allowed(
 #[tactic(auto, unfolding(crate::specs::Blocks::minimum_allowed))]
 pub(crate) fn minimum_allowed(
     size: Size,
-    wanted: Wanted,
+    criterion: Criterion,
     least: bool,
     blocks: Option<BlocksSaid>,
     said: Option<SizeSaid>,
 ) -> Result<(), Refusal>
-    ensures { result ≡ minimum_allowed size wanted least blocks said }
+    ensures { result ≡ minimum_allowed size criterion least blocks said }
 {
     match said {
         None => Ok(()),
         Some(said) => {
-            if is_minimum(size) && (is_highest(wanted) || least || are_most(blocks)) {
+            if is_minimum(size) && (is_highest(criterion) || least || are_most(blocks)) {
                 Err(said.value.place.refused(14))
             } else {
                 Ok(())

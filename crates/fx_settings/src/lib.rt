@@ -11,6 +11,7 @@ mod size;
 
 pub use power::greatest;
 pub use said::{
-    BlocksSaid, BlocksWord, ModelSaid, SizeSaid, SizeWord, StepSaid, Value, start_of, step_said,
+    Asked, BlocksSaid, BlocksWord, ModelSaid, SizeSaid, SizeWord, StepSaid, Value, start_of,
+    step_said,
 };
-pub use settings::{Blocks, Settings, Size, Wanted, settings_of};
+pub use settings::{Blocks, Criterion, Settings, Size, Unblocked, settings_of, unblocked_of};

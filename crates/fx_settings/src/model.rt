@@ -1,37 +1,55 @@
 ghost use Rattle.std.specs.Prelude.{◌≡◌};
-ghost use Rattle.fx_settings.specs.Models.{is_highest, least_of, resolution_by, wanted_of};
+ghost use Rattle.fx_settings.specs.Models.{criterion_by, criterion_of, effects_by, is_highest, least_of, resolution_by};
 
-use crate::said::ModelSaid;
-use crate::settings::Wanted;
+use crate::said::{Asked, ModelSaid};
+use crate::settings::Criterion;
 use fx_text::{Place, Refusal};
 
-/// What a step wants.
+/// By what the designs of a step are judged.
 ///
 /// # Errors
 ///
-/// E11: the resolution is not from 3 to 99.
-#[tactic(auto, unfolding(crate::specs::Models::wanted_of))]
-pub(crate) fn wanted_of(said: Option<ModelSaid>) -> Result<Wanted, Refusal>
-    ensures { result ≡ wanted_of said }
+/// E11: the resolution is not from 3 to 99. E12: MINABS stands with effects.
+#[tactic(auto, unfolding(crate::specs::Models::criterion_of))]
+pub(crate) fn criterion_of(said: Option<ModelSaid>) -> Result<Criterion, Refusal>
+    ensures { result ≡ criterion_of said }
 {
     match said {
-        None => Ok(Wanted::Highest),
-        Some(said) => resolution_by(said.resolution.place, said.resolution.number),
+        None => Ok(Criterion::Highest),
+        Some(said) => criterion_by(said.asked, said.minabs),
     }
 }
 
-fn resolution_by(place: Place, number: Option<u128>) -> Result<Wanted, Refusal>
+fn criterion_by(asked: Asked, minabs: Option<Place>) -> Result<Criterion, Refusal>
+    ensures { result ≡ criterion_by asked minabs }
+{
+    match asked {
+        Asked::Resolution(value) => resolution_by(value.place, value.number),
+        Asked::Effects => effects_by(minabs),
+    }
+}
+
+fn resolution_by(place: Place, number: Option<u128>) -> Result<Criterion, Refusal>
     ensures { result ≡ resolution_by place number }
 {
     match number {
-        None => Ok(Wanted::Highest),
+        None => Ok(Criterion::Highest),
         Some(r) => {
             if 3 <= r && r <= 99 {
-                Ok(Wanted::Resolution { r: r as u8 })
+                Ok(Criterion::Resolution { r: r as u8 })
             } else {
                 Err(place.refused(11))
             }
         }
+    }
+}
+
+fn effects_by(minabs: Option<Place>) -> Result<Criterion, Refusal>
+    ensures { result ≡ effects_by minabs }
+{
+    match minabs {
+        None => Ok(Criterion::Effects),
+        Some(place) => Err(place.refused(12)),
     }
 }
 
@@ -41,15 +59,15 @@ pub(crate) fn least_of(said: Option<ModelSaid>) -> bool
 {
     match said {
         None => false,
-        Some(said) => said.minabs,
+        Some(said) => said.minabs.is_some(),
     }
 }
 
-pub(crate) fn is_highest(wanted: Wanted) -> bool
-    ensures { result ≡ is_highest wanted }
+pub(crate) fn is_highest(criterion: Criterion) -> bool
+    ensures { result ≡ is_highest criterion }
 {
-    match wanted {
-        Wanted::Highest => true,
-        Wanted::Resolution { .. } => false,
+    match criterion {
+        Criterion::Highest => true,
+        Criterion::Resolution { .. } | Criterion::Effects => false,
     }
 }

@@ -1,6 +1,6 @@
 ghost use Rattle.std.specs.Prelude.{◌≡◌, drop};
 ghost use Rattle.fx_text.specs.Written.{begins};
-ghost use Rattle.fx_settings.specs.Said.{blocks_said, blocks_word, ends, model_said, size_said, size_word, start_of, step_said, value_first, value_of};
+ghost use Rattle.fx_settings.specs.Said.{asked_by, blocks_said, blocks_word, last_place, model_said, size_said, size_word, start_of, step_said, value_first, value_of};
 
 use fx_language::Symbol;
 use fx_text::{Lexeme, Place, Statement, find};
@@ -31,12 +31,21 @@ pub struct SizeSaid {
     pub value: Value,
 }
 
-/// What a MODEL statement without effects says.
+/// What a MODEL statement asks for.
+#[derive(Clone, Copy, Debug, PartialEq, Eq)]
+pub enum Asked {
+    /// A resolution, by this value.
+    Resolution(Value),
+    /// That effects can be told apart. Which effects is read elsewhere.
+    Effects,
+}
+
+/// What a MODEL statement says.
 #[derive(Clone, Copy, Debug, PartialEq, Eq)]
 pub struct ModelSaid {
-    pub resolution: Value,
-    /// Whether least aberration is asked.
-    pub minabs: bool,
+    pub asked: Asked,
+    /// The place of the word MINABS, which asks for least aberration, where it stands.
+    pub minabs: Option<Place>,
 }
 
 /// What BLOCKS gives the blocks by.
@@ -115,11 +124,21 @@ fn size_word(statement: &[Lexeme<'_>]) -> SizeWord
 fn model_said(statement: &[Lexeme<'_>]) -> Option<ModelSaid>
     ensures { result ≡ model_said statement.now }
 {
-    let resolution = value_of(statement)?;
+    let asked = asked_by(statement)?;
     Some(ModelSaid {
-        resolution,
-        minabs: ends(Symbol::Minabs, statement),
+        asked,
+        minabs: last_place(Symbol::Minabs, statement),
     })
+}
+
+fn asked_by(statement: &[Lexeme<'_>]) -> Option<Asked>
+    ensures { result ≡ asked_by statement.now }
+{
+    if is_second(Symbol::Estimate, statement) {
+        return Some(Asked::Effects);
+    }
+    let value = value_of(statement)?;
+    Some(Asked::Resolution(value))
 }
 
 fn blocks_said(statement: &[Lexeme<'_>]) -> Option<BlocksSaid>
@@ -188,9 +207,16 @@ fn is_second(word: Symbol, statement: &[Lexeme<'_>]) -> bool
     1 < statement.len() && statement[1].is(word)
 }
 
-/// Whether a statement ends with this word.
-fn ends(word: Symbol, statement: &[Lexeme<'_>]) -> bool
-    ensures { result ≡ ends word statement.now }
+/// The place of the last word of a statement, where it is this one.
+fn last_place(word: Symbol, statement: &[Lexeme<'_>]) -> Option<Place>
+    ensures { result ≡ last_place word statement.now }
 {
-    !statement.is_empty() && statement[statement.len() - 1].is(word)
+    if statement.is_empty() {
+        return None;
+    }
+    let last = &statement[statement.len() - 1];
+    if last.is(word) {
+        return Some(last.place());
+    }
+    None
 }

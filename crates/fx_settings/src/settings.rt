@@ -1,9 +1,9 @@
-ghost use Rattle.std.specs.Prelude.{◌≡◌, ◌≤◌, true, IfOk};
-ghost use Rattle.fx_settings.specs.Settings.{budget_of, is_level, levels_of, settings_of};
+ghost use Rattle.std.specs.Prelude.{◌≡◌, ℕ, ◌≤◌, true, Ok, IfOk};
+ghost use Rattle.fx_settings.specs.Settings.{budget_of, is_level, levels_of, settings_of, unblocked_of};
 ghost use Rattle.fx_settings.specs.Valid.{are_valid};
 
 use crate::block::{blocks_allowed, blocks_of, minimum_allowed};
-use crate::model::{least_of, wanted_of};
+use crate::model::{criterion_of, least_of};
 use crate::said::{StepSaid, Value};
 use crate::size::size_of;
 use fx_text::Refusal;
@@ -17,13 +17,15 @@ pub enum Size {
     Minimum,
 }
 
-/// What a step wants of its design.
+/// By what the designs of a step are judged.
 #[derive(Clone, Copy, Debug, PartialEq, Eq)]
-pub enum Wanted {
+pub enum Criterion {
     /// At least this resolution, from 3 to 99.
     Resolution { r: u8 },
     /// The highest resolution.
     Highest,
+    /// That the effects of the MODEL statement can be told apart.
+    Effects,
 }
 
 /// The blocks of a step.
@@ -38,6 +40,19 @@ pub enum Blocks {
     Most,
 }
 
+/// The settings of a step that are judged before its effects are: all but its blocks.
+#[derive(Clone, Copy, Debug, PartialEq, Eq)]
+pub struct Unblocked {
+    /// The number of levels: 2, 3, 4, 5, 7, 8 or 9.
+    pub q: u8,
+    /// The greatest number of nodes, from 1 to 5,000,000.
+    pub budget: u64,
+    pub size: Size,
+    pub criterion: Criterion,
+    /// Whether least aberration is wanted.
+    pub least: bool,
+}
+
 /// The settings of a step.
 #[derive(Clone, Copy, Debug, PartialEq, Eq)]
 pub struct Settings {
@@ -46,41 +61,62 @@ pub struct Settings {
     /// The greatest number of nodes, from 1 to 5,000,000.
     pub budget: u64,
     pub size: Size,
-    pub wanted: Wanted,
+    pub criterion: Criterion,
     /// Whether least aberration is wanted.
     pub least: bool,
     pub blocks: Blocks,
 }
 
-/// The settings of a step of `s` factors that says this.
+/// The settings of a step of `s` factors that says this, but for its blocks.
 ///
 /// # Errors
 ///
-/// The first of these, in this order: E6, E29 for NODES, E8, E9, E11, E13, E14, E15, E16.
-pub fn settings_of(s: u8, said: StepSaid) -> Result<Settings, Refusal>
-    ensures value { result ≡ settings_of s said }
-    ensures valid { IfOk result (λ settings. 1 ≤ s → are_valid settings ≡ true) }
-{
-    judged(s, said)
-}
-
-fn judged(s: u8, said: StepSaid) -> Result<Settings, Refusal>
-    ensures { result ≡ settings_of s said }
+/// The first of these, in this order: E6, E29 for NODES, E8, E9, E11, E12, E13, E14.
+pub fn unblocked_of(s: u8, said: StepSaid) -> Result<Unblocked, Refusal>
+    ensures value { result ≡ unblocked_of s said }
+    ensures level { IfOk result (λ unblocked. is_level unblocked.q ≡ true) }
+    ensures bound { IfOk result (λ unblocked. 2 ≤ unblocked.q) }
 {
     let q = levels_of(said.levels)?;
     let budget = budget_of(said.nodes)?;
     let size = size_of(q, s, said.factors, said.size)?;
-    let wanted = wanted_of(said.model)?;
+    let criterion = criterion_of(said.model)?;
     let least = least_of(said.model);
-    blocks_allowed(wanted, least, said.blocks)?;
-    minimum_allowed(size, wanted, least, said.blocks, said.size)?;
-    let blocks = blocks_of(q, size, said.blocks)?;
-    Ok(Settings {
+    blocks_allowed(criterion, least, said.blocks)?;
+    minimum_allowed(size, criterion, least, said.blocks, said.size)?;
+    Ok(Unblocked {
         q,
         budget,
         size,
-        wanted,
+        criterion,
         least,
+    })
+}
+
+/// The settings of a step that says this, by those that were judged before.
+///
+/// # Errors
+///
+/// The first of these, in this order: E15, E16.
+pub fn settings_of(unblocked: Unblocked, said: StepSaid) -> Result<Settings, Refusal>
+    requires { 2 ≤ unblocked.q }
+    ensures value { result ≡ settings_of unblocked said }
+    ensures valid { IfOk result (λ settings. (s : ℕ) → 1 ≤ s → unblocked_of s said ≡ Ok unblocked → are_valid settings ≡ true) }
+{
+    with_blocks(unblocked, said)
+}
+
+fn with_blocks(unblocked: Unblocked, said: StepSaid) -> Result<Settings, Refusal>
+    requires { 2 ≤ unblocked.q }
+    ensures { result ≡ settings_of unblocked said }
+{
+    let blocks = blocks_of(unblocked.q, unblocked.size, said.blocks)?;
+    Ok(Settings {
+        q: unblocked.q,
+        budget: unblocked.budget,
+        size: unblocked.size,
+        criterion: unblocked.criterion,
+        least: unblocked.least,
         blocks,
     })
 }
@@ -93,6 +129,7 @@ fn judged(s: u8, said: StepSaid) -> Result<Settings, Refusal>
 #[tactic(auto, unfolding(crate::specs::Settings::levels_of))]
 fn levels_of(said: Option<Value>) -> Result<u8, Refusal>
     ensures value { result ≡ levels_of said }
+    ensures level { IfOk result (λ q. is_level q ≡ true) }
     ensures bound { IfOk result (λ q. 2 ≤ q) }
 {
     match said {

@@ -1,30 +1,30 @@
 -- What the settings of a step leave of its numbers.
 use Rattle.std.proofs.Common.{◌≡◌, ℕ, ◌^◌, ◌≤◌, Bool, true, false, not, ◌&&◌, ◌||◌, List, [], ◌∷◌, Option, Some, None, Result, Ok, refl, sym, ap, subst, ◌∙◌, inl, inr, ◌⊎◌, arith}
 use Rattle.std.specs.Prelude.{nat_le, nat_lt, ◌==◌, is_some, if◌then◌else◌}
-use Rattle.std.specs.Option.{option_and_then}
 use Rattle.std.specs.List.{list_all, list_any}
 use Rattle.std.proofs.lemmas.Bool.{leb-true, le-leb, ltb-false, eqb-true, not-true, and_from}
 use Rattle.std.proofs.Math.Nat.{pow-le-pow_right}
 use Rattle.fx_lexer.proofs.Ends.{and_parts}
 use Rattle.fx_settings.specs.declared.settings.Settings.{Settings}
+use Rattle.fx_settings.specs.declared.settings.Unblocked.{Unblocked}
 use Rattle.fx_settings.specs.declared.settings.Size.{Size}
 use Rattle.fx_settings.specs.declared.settings.Size.TheVariants.{Runs, Minimum}
 use Rattle.fx_settings.specs.declared.settings.Blocks.{Blocks}
+use Rattle.fx_settings.specs.declared.settings.Criterion.{Criterion}
 use Rattle.fx_settings.specs.declared.settings.Blocks.TheVariants.{Factors}
 use Rattle.fx_settings.specs.declared.settings.Blocks.TheVariants as blocks
-use Rattle.fx_settings.specs.Blocks.{blocks_allowed, minimum_allowed, blocks_of}
-use Rattle.fx_settings.specs.Settings.{is_level, levels_of, budget_of, settings_of}
+use Rattle.fx_settings.specs.Blocks.{blocks_of}
+use Rattle.fx_settings.specs.Settings.{is_level, settings_of, with_blocks}
 use Rattle.fx_settings.specs.Valid.{are_valid, is_size, are_blocks, has_blocks}
-use Rattle.fx_settings.specs.Said.{blocks_said, step_said}
 use Rattle.fx_settings.specs.declared.said.StepSaid.{StepSaid}
-use Rattle.fx_settings.specs.Sizes.{size_of}
-use Rattle.fx_settings.specs.Models.{wanted_of, least_of}
 use Rattle.fx_settings.proofs.Valid.{bind_ok, same_ok}
 use Rattle.fx_text.specs.declared.refusal.Refusal.{Refusal}
 use Rattle.fx_text.specs.Written.{Written}
 use Rattle.fx_text.specs.Statements.{statement_of}
 use Rattle.fx_language.specs.declared.symbol.Symbol.TheVariants as word
-use Rattle.fx_statements.specs.Valid.{is_count}
+use Rattle.fx_statements.specs.declared.wanted.Wanted.{Wanted}
+use Rattle.fx_statements.specs.Goals.{criterion_of}
+use Rattle.fx_statements.specs.Valid.{is_count, settings_in}
 use Rattle.fx_statements.specs.Steps.{most_factors}
 
 either_way : (b : Bool) → (b ≡ true) ⊎ (b ≡ false)
@@ -42,7 +42,7 @@ among (x ∷ levels) q all some =
       | inr other ↦ among levels q both.1 (ap (λ b. b || list_any (λ x. x == q) levels) (sym other) ∙ some)
     ]
 
-no_more_than_9 : (q : ℕ) → is_level q ≡ true → (2 ≤ q) × (q ≤ 9)
+pub no_more_than_9 : (q : ℕ) → is_level q ≡ true → (2 ≤ q) × (q ≤ 9)
 no_more_than_9 q h = among (2 ∷ 3 ∷ 4 ∷ 5 ∷ 7 ∷ 8 ∷ 9 ∷ []) q refl h
 
 module _ (x : Settings) (valid : are_valid x ≡ true) where
@@ -67,18 +67,12 @@ pub few_blocks : (x : Settings) → are_valid x ≡ true → (t : ℕ) → x.blo
 few_blocks x valid t is = blocks_fit x.q x.size t (no_more_than_9 x.q (level x valid)).0 (size x valid) (subst (λ b. are_blocks x.q x.size b ≡ true) is (given x valid))
 
 -- without BLOCKS there are no blocks
-without : (s : ℕ) (said : StepSaid) (x : Settings) → said.blocks ≡ None → settings_of s said ≡ Ok x → has_blocks x.blocks ≡ false
+pub without : (first : Unblocked) (said : StepSaid) (x : Settings) → said.blocks ≡ None → settings_of first said ≡ Ok x → has_blocks x.blocks ≡ false
 unfolding blocks_of
-without s said x none e =
-    let q = bind_ok (levels_of said.levels) _ x e in
-    let budget = bind_ok (budget_of said.nodes) _ x q.2 in
-    let size = bind_ok (size_of q.0 s said.factors said.size) _ x budget.2 in
-    let wanted = bind_ok (wanted_of said.model) _ x size.2 in
-    let allowed = bind_ok (blocks_allowed wanted.0 (least_of said.model) said.blocks) _ x wanted.2 in
-    let minimum = bind_ok (minimum_allowed size.0 wanted.0 (least_of said.model) said.blocks said.size) _ x allowed.2 in
-    let given = bind_ok (blocks_of q.0 size.0 said.blocks) _ x minimum.2 in
-    let is : ◌≡◌ {A = Result Blocks Refusal} (Ok blocks.Without) (Ok given.0) = sym (ap (blocks_of q.0 size.0) none) ∙ given.1 in
-    subst (λ (y : Settings). has_blocks y.blocks ≡ false) (same_ok _ x given.2) (subst (λ b. has_blocks b ≡ false) (same_ok blocks.Without given.0 is) refl)
+without first said x none e =
+    let given = bind_ok (blocks_of first.q first.size said.blocks) (λ blocks. Ok (with_blocks first blocks)) x e in
+    let is : ◌≡◌ {A = Result Blocks Refusal} (Ok blocks.Without) (Ok given.0) = sym (ap (blocks_of first.q first.size) none) ∙ given.1 in
+    subst (λ (y : Settings). has_blocks y.blocks ≡ false) (same_ok (with_blocks first given.0) x given.2) (subst (λ b. has_blocks b ≡ false) (same_ok blocks.Without given.0 is) refl)
 
 no_more : (b : Bool) (found : Option (List Written)) (n : ℕ) → (found ≡ None → b ≡ false) → 1 ≤ n → n ≤ (if is_some found then 30 else 40)
     → (nat_le 1 n && nat_le n (if b then 30 else 40)) ≡ true
@@ -87,9 +81,16 @@ no_more true (Some s) n h one few = and_from (nat_le 1 n) (nat_le n 30) (le-leb 
 no_more false None n h one few = and_from (nat_le 1 n) (nat_le n 40) (le-leb 1 n one) (le-leb n 40 few)
 no_more false (Some s) n h one few = and_from (nat_le 1 n) (nat_le n 40) (le-leb 1 n one) (le-leb n 40 (omega (arith, few)))
 
-pub counted : (proc named : List Written) (statements : List (List Written)) (s : ℕ) (x : Settings)
-    → settings_of s (step_said proc named statements) ≡ Ok x → 1 ≤ s → s ≤ most_factors statements → is_count s x.blocks ≡ true
-counted proc named statements s x e one few =
-    no_more (has_blocks x.blocks) (statement_of word.Blocks statements) s
-    (λ none. without s (step_said proc named statements) x (ap (option_and_then blocks_said) none) e)
-    one few
+pub counted : (statements : List (List Written)) (s : ℕ) (given : Blocks) → (statement_of word.Blocks statements ≡ None → has_blocks given ≡ false)
+    → 1 ≤ s → s ≤ most_factors statements → is_count s given ≡ true
+counted statements s given without one few = no_more (has_blocks given) (statement_of word.Blocks statements) s without one few
+
+-- what blocks leave of the other settings
+pub kept : (first : Unblocked) (said : StepSaid) (x : Settings) → settings_of first said ≡ Ok x → (x.criterion ≡ first.criterion) × (x.q ≡ first.q)
+kept first said x e =
+    let given = bind_ok (blocks_of first.q first.size said.blocks) (λ blocks. Ok (with_blocks first blocks)) x e in
+    subst (λ (y : Settings). (y.criterion ≡ first.criterion) × (y.q ≡ first.q)) (same_ok (with_blocks first given.0) x given.2) (refl, refl)
+
+-- the settings that a step keeps
+pub same_settings : (x : Settings) (wanted : Wanted) → criterion_of wanted ≡ x.criterion → settings_in x.q x.budget x.size wanted x.least x.blocks ≡ x
+same_settings x wanted kind = ap (λ (k : Criterion). record { q = x.q; budget = x.budget; size = x.size; criterion = k; least = x.least; blocks = x.blocks }) kind

@@ -1,3 +1,6 @@
+pub mod Goals
+pub mod Listings
 pub mod Valid
+pub mod Contexts
 pub mod Steps
 pub mod Programs

@@ -1,14 +1,12 @@
 -- What a text means: a list of steps, or the first refusal.
-use Rattle.std.specs.Prelude.{ℕ, ◌++◌, ◌&&◌, Bool, List, [], ◌∷◌, drop, slice_get, Option, Some, None, Result, Ok, Err, if◌then◌else◌}
-use Rattle.std.specs.List.{list_any}
+use Rattle.std.specs.Prelude.{ℕ, ◌++◌, List, [], ◌∷◌, slice_get, Option, Some, None, Result, Ok, Err}
 use Rattle.fx_lexer.specs.declared.token.Token.{Token}
 use Rattle.fx_lexer.specs.Places.{line_after, column_after}
-use Rattle.fx_language.specs.declared.symbol.Symbol.TheVariants.{Model, Estimate}
 use Rattle.fx_language.specs.Keywords.{symbols_of}
 use Rattle.fx_language.specs.Refusals.{first_refusal}
 use Rattle.fx_text.specs.declared.refusal.Place.{Place}
 use Rattle.fx_text.specs.declared.refusal.Refusal.{Refusal}
-use Rattle.fx_text.specs.Written.{Written, begins, written}
+use Rattle.fx_text.specs.Written.{Written, written}
 use Rattle.fx_text.specs.Statements.{statements_of, steps_of}
 use Rattle.fx_text.specs.Refusals.{refused_at, ◌>>=◌}
 use Rattle.fx_outputs.specs.Outputs.{names_of}
@@ -21,15 +19,9 @@ steps_behind earlier done (step ∷ steps) =
     step_of earlier step
     >>= (λ (meaning : Meaning). steps_behind (earlier ++ names_of meaning.outputs) (done ++ meaning ∷ []) steps)
 
--- a MODEL statement that names effects
-abbrev pub names_effects : List Written → Bool
-names_effects s = begins Model s && begins Estimate (drop 1 s)
-
--- The meaning of what is written in an accepted text. Models of effects are not built yet.
+-- the meaning of what is written in an accepted text
 abbrev pub meaning_of_all : List (List Written) → Result (List Meaning) Refusal
-meaning_of_all statements =
-    if list_any names_effects statements then Err (refused_at 0 (record { line = 1; column = 1 }))
-    else steps_behind [] [] (steps_of statements)
+meaning_of_all statements = steps_behind [] [] (steps_of statements)
 
 -- the place of a token, and behind the last one that of the end of the text
 abbrev pub place_in : List ℕ → Option Token → Place

@@ -1,5 +1,5 @@
 -- What a step means.
-use Rattle.std.specs.Prelude.{ℕ, ◌^◌, ◌&&◌, Bool, List, [], ◌∷◌, length, is_some, Option, Some, None, Result, Ok, Err, if◌then◌else◌}
+use Rattle.std.specs.Prelude.{ℕ, ◌&&◌, Bool, List, [], ◌∷◌, length, is_some, Option, Some, None, Result, Ok, Err, if◌then◌else◌}
 use Rattle.std.specs.List.{list_any}
 use Rattle.fx_language.specs.declared.symbol.Symbol.{Symbol}
 use Rattle.fx_language.specs.declared.symbol.Symbol.TheVariants as word
@@ -11,26 +11,23 @@ use Rattle.fx_text.specs.Statements.{statement_of}
 use Rattle.fx_text.specs.Refusals.{refused_at, ◌>>=◌}
 use Rattle.fx_factors.specs.Factors.{factors_of}
 use Rattle.fx_settings.specs.declared.settings.Settings.{Settings}
-use Rattle.fx_settings.specs.declared.settings.Size.{Size}
-use Rattle.fx_settings.specs.declared.settings.Size.TheVariants.{Runs, Minimum}
-use Rattle.fx_settings.specs.declared.settings.Blocks.{Blocks}
-use Rattle.fx_settings.specs.declared.settings.Blocks.TheVariants as given
-use Rattle.fx_settings.specs.Powers.{greatest}
+use Rattle.fx_settings.specs.declared.said.StepSaid.{StepSaid}
 use Rattle.fx_settings.specs.Said.{start_of, step_said}
-use Rattle.fx_settings.specs.Settings.{settings_of}
+use Rattle.fx_settings.specs.Settings.{settings_of, unblocked_of}
 use Rattle.fx_outputs.specs.declared.output.OutputSpec.{OutputSpec}
-use Rattle.fx_outputs.specs.declared.setting.BlockCount.{BlockCount}
-use Rattle.fx_outputs.specs.declared.setting.BlockCount.TheVariants as count
-use Rattle.fx_outputs.specs.Contexts.{Context}
 use Rattle.fx_outputs.specs.Outputs.{outputs_of}
 use Rattle.fx_statements.specs.declared.examine.Examine.{Examine}
 use Rattle.fx_statements.specs.declared.step.Step.{Step}
+use Rattle.fx_statements.specs.Goals.{Goal, goal_by, goal_of}
+use Rattle.fx_statements.specs.Listings.{listing_allowed, listing_place}
 use Rattle.fx_statements.specs.Valid.{settings_in}
+use Rattle.fx_statements.specs.Contexts.{context}
 
 -- a step, without where its parts lie in memory
 pub record Meaning : Type 0 where
   pub factors : List (List ℕ)
   pub settings : Settings
+  pub goal : Goal
   pub examine : Examine
   pub outputs : List OutputSpec
 
@@ -64,40 +61,28 @@ examine_of statements = record {
   aberration = asks word.Aberration statements;
 }
 
--- the greatest number of runs
-abbrev pub most_runs : ℕ → Size → ℕ
-most_runs q (Runs m) = q ^ m
-most_runs q Minimum = q ^ greatest q
-
--- the number of blocks, where it is fixed
-abbrev pub block_count : ℕ → Blocks → BlockCount
-block_count q given.Without = count.Without
-block_count q (given.Factors t) = count.Fixed (q ^ t)
-block_count q (given.PerBlock k) = count.Open
-block_count q given.Most = count.Open
-
--- what the OUTPUT statements of the step are read against
-abbrev pub context : List (List ℕ) → Settings → Context
-context factors settings = record {
-  factors = factors;
-  q = settings.q;
-  runs = most_runs settings.q settings.size;
-  blocks = block_count settings.q settings.blocks;
-}
-
 -- the first of some statements
 abbrev pub head_of : List (List Written) → List Written
 head_of [] = []
 head_of (s ∷ statements) = s
+
+-- the settings of a step with these factors, and what it wants, by what its statements say
+abbrev pub asked_by : List (List ℕ) → StepSaid → List (List Written) → Result (Settings × Goal) Refusal
+asked_by factors said statements = do
+  unblocked ← unblocked_of (length factors) said
+  goal ← goal_by unblocked.q factors statements unblocked.criterion
+  settings ← settings_of unblocked said
+  listed ← listing_allowed unblocked.q (length factors) goal (listing_place statements)
+  Ok (settings, goal)
 
 -- The meaning of a step, behind these OUT names, by its FACTORS statement where it has one.
 abbrev pub step_by : List (List ℕ) → List (List Written) → Option (List Written) → Result Meaning Refusal
 step_by earlier statements None = Err (refused_at 7 (start_of (head_of statements)))
 step_by earlier statements (Some named) = do
   factors ← factors_by (start_of (head_of statements)) (most_factors statements) named
-  settings ← settings_of (length factors) (step_said (head_of statements) named statements)
-  outputs ← outputs_of (context factors settings) earlier statements
-  Ok (record { factors = factors; settings = settings; examine = examine_of statements; outputs = outputs })
+  asked ← asked_by factors (step_said (head_of statements) named statements) statements
+  outputs ← outputs_of (context factors asked.0) earlier statements
+  Ok (record { factors = factors; settings = asked.0; goal = asked.1; examine = examine_of statements; outputs = outputs })
 
 -- the meaning of a step, whose PROC statement stands first
 abbrev pub step_of : List (List ℕ) → List (List Written) → Result Meaning Refusal
@@ -108,6 +93,7 @@ abbrev pub meaning_of : Step → Meaning
 meaning_of step = record {
   factors = step.factors;
   settings = settings_in step.q step.budget step.size step.wanted step.least step.blocks;
+  goal = goal_of step.wanted;
   examine = step.examine;
   outputs = step.outputs;
 }

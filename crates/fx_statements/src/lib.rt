@@ -2,15 +2,18 @@
 #![tactic(auto)]
 
 mod examine;
+mod listing;
 mod parsing;
 mod step;
 mod stepping;
 #[cfg(test)]
 mod tests;
+mod wanted;
 
 pub use examine::Examine;
 pub use fx_outputs::{OutputSpec, Outputs, Recode, Recodes, Shuffle};
-pub use fx_settings::{Blocks, Size, Wanted};
+pub use fx_settings::{Blocks, Size};
 pub use fx_text::{Names, ParseStop, Refusal};
 pub use parsing::{Program, parse};
 pub use step::Step;
+pub use wanted::Wanted;

@@ -1,12 +1,12 @@
 ghost use Rattle.std.specs.Prelude.{◌≡◌, ◌+◌, ◌≤◌, ◌==◌, not, [], map, slice_get, reverse, count_by, length, Ok, IfOk, IfErr, All};
-ghost use Rattle.std.specs.List.{list_any, prefix_len};
+ghost use Rattle.std.specs.List.{prefix_len};
 ghost use Rattle.std.specs.Option.{option_map};
 ghost use Rattle.fx_lexer.specs.Tokens.{IsToken};
 ghost use Rattle.fx_lexer.specs.Places.{column_after, line_after};
 ghost use Rattle.fx_text.specs.Refusals.{IsRefused};
 ghost use Rattle.fx_text.specs.Statements.{ends_step, steps_of};
 ghost use Rattle.fx_statements.specs.Steps.{meaning_of};
-ghost use Rattle.fx_statements.specs.Programs.{meaning_of_all, names_effects, place_in, program_of, steps_behind};
+ghost use Rattle.fx_statements.specs.Programs.{meaning_of_all, place_in, program_of};
 
 use crate::step::Step;
 use crate::stepping::step_of;
@@ -25,8 +25,7 @@ pub type Program = Items<Step>;
 /// # Errors
 ///
 /// The first refusal: of the grammar and of words that stand twice or too late, from left to right;
-/// then E0 at 1:1 where a MODEL names effects, which is not built yet; then of the meaning, step by
-/// step. And `NoMemory`.
+/// then of the meaning, step by step. And `NoMemory`.
 #[tactic(auto, unfolding(crate::specs::Programs::program_of))]
 pub fn parse(alloc: Global, text: &[u8], tokens: &Tokens) -> Result<Program, ParseStop>
     requires length { length text.now ≤ 1048576 }
@@ -41,7 +40,7 @@ pub fn parse(alloc: Global, text: &[u8], tokens: &Tokens) -> Result<Program, Par
     }
     let lexemes = lexemes(alloc, text, tokens, symbols.as_slice())?;
     let statements = statements(alloc, lexemes.as_slice())?;
-    meaning_of_all(alloc, statements.as_slice())
+    steps(alloc, statements.as_slice())
 }
 
 /// The place of a token, or that of the end of the text.
@@ -89,37 +88,10 @@ fn is_line_feed(b: u8) -> bool
     b == b'\n'
 }
 
-/// The meaning of the statements of an accepted text.
-fn meaning_of_all(alloc: Global, statements: &[Statement<'_>]) -> Result<Program, ParseStop>
-    ensures program { IfOk result (λ program. meaning_of_all statements.now ≡ Ok (map meaning_of program)) }
-    ensures refused { IfErr result (IsRefused (meaning_of_all statements.now)) }
-{
-    if name_effects(statements) {
-        let front = Place { line: 1, column: 1 };
-        return Err(ParseStop::Refused(front.refused(0)));
-    }
-    steps(alloc, statements)
-}
-
-/// Whether a MODEL statement names effects.
-fn name_effects(statements: &[Statement<'_>]) -> bool
-    ensures { result ≡ list_any names_effects statements.now }
-{
-    statements.iter().any(|s| names_effects(s))
-}
-
-fn names_effects(statement: &Statement<'_>) -> bool
-    ensures { result ≡ names_effects statement.now }
-{
-    statement.begins(Symbol::Model)
-        && statement.lexemes().len() > 1
-        && statement.lexemes()[1].is(Symbol::Estimate)
-}
-
 /// The steps among the statements of a text.
 fn steps(alloc: Global, statements: &[Statement<'_>]) -> Result<Program, ParseStop>
-    ensures program { IfOk result (λ program. steps_behind [] [] (steps_of statements.now) ≡ Ok (map meaning_of program)) }
-    ensures refused { IfErr result (IsRefused (steps_behind [] [] (steps_of statements.now))) }
+    ensures program { IfOk result (λ program. meaning_of_all statements.now ≡ Ok (map meaning_of program)) }
+    ensures refused { IfErr result (IsRefused (meaning_of_all statements.now)) }
 {
     let mut earlier = Names::new(alloc);
     let mut program = Program::new(alloc);

@@ -1,16 +1,24 @@
-ghost use Rattle.std.specs.Prelude.{length, IsTrue};
+ghost use Rattle.std.specs.Prelude.{length, All, IsTrue};
+ghost use Rattle.std.specs.List.{IsDistinct};
+ghost use Rattle.std.proofs.Props.{props};
+ghost use Rattle.fx_text.specs.Names.{is_same_name};
 ghost use Rattle.fx_settings.specs.Valid.{are_valid};
-ghost use Rattle.fx_statements.specs.Valid.{is_count, settings_in};
+ghost use Rattle.fx_outputs.specs.Validity.{IsWithinLimits};
+ghost use Rattle.fx_statements.specs.Valid.{CanBeWanted, is_count, settings_in};
+ghost use Rattle.fx_statements.specs.Contexts.{context};
 
 use crate::examine::Examine;
+use crate::wanted::Wanted;
 use fx_outputs::Outputs;
-use fx_settings::{Blocks, Size, Wanted};
+use fx_settings::{Blocks, Size};
 use fx_text::Names;
 
-/// A step of a program.
+/// A step of a program. No two of its factors have the same name, its settings are valid, effects
+/// that it names can be told apart, and its outputs are within its limits.
 #[derive(Debug, Drop)]
 pub struct Step {
-    /// The names of its factors, 1 to 40, and at most 30 with blocks.
+    /// The names of its factors, 1 to 40, and at most 30 with blocks. They differ without regard to
+    /// case.
     pub factors: Names,
     /// The number of levels of each factor: 2, 3, 4, 5, 7, 8 or 9.
     pub q: u8,
@@ -24,5 +32,8 @@ pub struct Step {
     /// The greatest number of nodes, from 1 to 5,000,000.
     pub budget: u64,
     ghost named: { IsTrue (is_count (length factors) blocks) },
+    ghost distinct: { IsDistinct is_same_name factors } by { Prim.hlevel props },
     ghost valid: { IsTrue (are_valid (settings_in q budget size wanted least blocks)) },
+    ghost told: { CanBeWanted q (length factors) wanted },
+    ghost within: { All (IsWithinLimits (context factors (settings_in q budget size wanted least blocks))) outputs },
 }

@@ -1,18 +1,27 @@
-ghost use Rattle.std.specs.Prelude.{◌≡◌, ℕ, ◌++◌, ◌≤◌, ◌^◌, true, Some, Ok, length, IfOk, IfErr};
+ghost use Rattle.std.specs.Prelude.{◌≡◌, ℕ, ◌++◌, ◌≤◌, ◌^◌, true, false, Some, None, Ok, length, IfOk, IfErr};
+ghost use Rattle.std.specs.List.{IsDistinct};
 ghost use Rattle.fx_settings.specs.declared.settings.Blocks.TheVariants.{Factors};
 ghost use Rattle.fx_settings.specs.Settings.{is_level};
-ghost use Rattle.fx_settings.specs.Valid.{are_valid, is_size};
+ghost use Rattle.fx_settings.specs.Valid.{are_valid, has_blocks, is_size};
+ghost use Rattle.fx_text.specs.Names.{is_same_name};
 ghost use Rattle.fx_text.specs.Refusals.{IsRefused};
 ghost use Rattle.fx_outputs.specs.Outputs.{names_of};
-ghost use Rattle.fx_statements.specs.Steps.{block_count, context, factors_by, head_of, meaning_of, most_factors, most_runs, step_by, step_of};
+ghost use Rattle.fx_statements.specs.Contexts.{block_count, context, most_runs};
+ghost use Rattle.fx_statements.specs.Goals.{criterion_of, goal_of};
+ghost use Rattle.fx_statements.specs.Valid.{CanBeWanted};
+ghost use Rattle.fx_statements.specs.Steps.{asked_by, factors_by, head_of, meaning_of, most_factors, step_by, step_of};
 
 use crate::examine::examine_of;
+use crate::listing::listing_allowed;
 use crate::step::Step;
+use crate::wanted::{Wanted, wanted_by};
 use fx_base::Bytes;
 use fx_factors::factors_of;
 use fx_language::Symbol;
 use fx_outputs::{BlockCount, Setting, outputs};
-use fx_settings::{Blocks, Settings, Size, greatest, settings_of, start_of, step_said};
+use fx_settings::{
+    Blocks, Settings, Size, StepSaid, greatest, settings_of, start_of, step_said, unblocked_of,
+};
 use fx_text::{Lexeme, Names, ParseStop, Place, Statement, find};
 use std::alloc::Global;
 
@@ -21,8 +30,8 @@ use std::alloc::Global;
 ///
 /// # Errors
 ///
-/// The first refusal: E7; those of the factors, of the settings, and of each OUTPUT statement in
-/// order. And `NoMemory`.
+/// The first refusal: E7; those of the factors, of the settings without blocks, of the effects, and
+/// of the blocks; E23 for a listing; those of each OUTPUT statement in order. And `NoMemory`.
 pub(crate) fn step_of(
     alloc: Global,
     earlier: &mut Names,
@@ -50,14 +59,15 @@ fn step_by(
 {
     let proc = head_of(statements);
     let factors = factors_by(alloc, start_of(proc), most_factors(statements), named)?;
-    let settings = settings_of(factors.len() as u8, step_said(proc, named, statements))?;
+    let said = step_said(proc, named, statements);
+    let (settings, wanted) = asked_by(alloc, factors.as_slice(), said, statements)?;
     let setting = setting_of(factors.as_slice(), settings);
     let outputs = outputs(alloc, &setting, earlier, statements)?;
     Ok(Step {
         factors,
         q: settings.q,
         size: settings.size,
-        wanted: settings.wanted,
+        wanted,
         least: settings.least,
         blocks: settings.blocks,
         examine: examine_of(statements),
@@ -75,6 +85,7 @@ fn factors_by(
 ) -> Result<Names, ParseStop>
     ensures factors { IfOk result (λ factors. factors_by proc most named.now ≡ Ok factors) }
     ensures bounds { IfOk result (λ factors. (1 ≤ length factors) × (length factors ≤ most)) }
+    ensures distinct { IfOk result (IsDistinct is_same_name) }
     ensures refused { IfErr result (IsRefused (factors_by proc most named.now)) }
 {
     let factors = factors_of(alloc, named, most)?;
@@ -82,6 +93,35 @@ fn factors_by(
         return Err(ParseStop::Refused(proc.refused(7)));
     }
     Ok(factors)
+}
+
+/// The settings of a step with these factors, and what it wants, by what its statements say.
+///
+/// # Errors
+///
+/// The first refusal: of the settings but for the blocks, of the effects, of the blocks; E23 for a
+/// listing. And `NoMemory`.
+fn asked_by(
+    alloc: Global,
+    factors: &[Bytes],
+    said: StepSaid,
+    statements: &[Statement<'_>],
+) -> Result<(Settings, Wanted), ParseStop>
+    requires some { 1 ≤ length factors.now }
+    requires few { length factors.now ≤ 40 }
+    ensures asked { IfOk result (λ asked. asked_by factors.now said statements.now ≡ Ok (asked.0, goal_of asked.1)) }
+    ensures valid { IfOk result (λ asked. are_valid asked.0 ≡ true) }
+    ensures kind { IfOk result (λ asked. criterion_of asked.1 ≡ asked.0.criterion) }
+    ensures told { IfOk result (λ asked. CanBeWanted asked.0.q (length factors.now) asked.1) }
+    ensures unblocked { IfOk result (λ asked. said.blocks ≡ None → has_blocks asked.0.blocks ≡ false) }
+    ensures refused { IfErr result (IsRefused (asked_by factors.now said statements.now)) }
+{
+    let s = factors.len() as u8;
+    let unblocked = unblocked_of(s, said)?;
+    let wanted = wanted_by(alloc, unblocked.q, factors, statements, unblocked.criterion)?;
+    let settings = settings_of(unblocked, said)?;
+    listing_allowed(unblocked.q, s, &wanted, statements)?;
+    Ok((settings, wanted))
 }
 
 /// The first of some statements.

@@ -1,6 +1,8 @@
 use crate::{Blocks, Examine, ParseStop, Program, Shuffle, Size, Step, Wanted, parse};
 use fx_lexer::lex;
+use fx_settings::Criterion;
 use fx_text::Names;
+use fx_vectors::Effects;
 use std::alloc::Global;
 use std::process::Abort;
 use std::test::Fail;
@@ -124,22 +126,99 @@ fn what_stands_twice_or_too_late_is_refused(rt: HostRuntime) -> Result<(), Fail>
 }
 
 #[test]
-fn models_of_effects_are_refused_before_their_meaning(rt: HostRuntime) -> Result<(), Fail> {
-    let cases: [(&[u8], u8, u32, u32); 2] = [
+fn effects_are_refused_at_their_names_and_numbers(rt: HostRuntime) -> Result<(), Fail> {
+    let cases: [(&[u8], u8, u32, u32); 8] = [
+        (b"size design=4; model estimate=(A B Z);", 4, 2, 36),
+        (b"model e=(A) n=(B Z@1);", 4, 2, 18),
+        (b"model e=(A X2-X1);", 30, 2, 12),
+        (b"model e=(A) nonneg=(B-A);", 30, 2, 21),
+        (b"model e=(A*B|C*A@1);", 29, 2, 18),
+        (b"model e=(A) n=(B@0);", 29, 2, 18),
+        (b"model estimate=(A) / minabs;", 12, 2, 22),
+        (b"model e=(A) n=(B)/minabs;", 12, 2, 19),
+    ];
+    are_refused(&rt, rt.alloc(), b"proc factex;factors A B C;\n", &cases)
+}
+
+#[test]
+fn too_many_effects_are_refused_at_their_words(rt: HostRuntime) -> Result<(), Fail> {
+    let front = b"proc factex;factors X1-X17;size design=4;\n";
+    let seventeen = b"X1|X2|X3|X4|X5|X6|X7|X8|X9|X10|X11|X12|X13|X14|X15|X16|X17";
+    let mut first = Vec::new(rt.alloc());
+    first.extend_from_slice(b"model e=(")?;
+    first.extend_from_slice(seventeen)?;
+    first.extend_from_slice(b");")?;
+    let mut second = Vec::new(rt.alloc());
+    second.extend_from_slice(b"model e=(X1) n=(")?;
+    second.extend_from_slice(seventeen)?;
+    second.extend_from_slice(b");")?;
+    assert_eq!(rt; refusal(&rt, rt.alloc(), front, &first)?, Some((23, 2, 7)));
+    assert_eq!(rt;
+        refusal(&rt, rt.alloc(), front, &second)?,
+        Some((23, 2, 14))
+    );
+    let cases: [(&[u8], u8, u32, u32); 1] = [(
+        b"model e=(X1|X2|X3|X4|X5|X6|X7|X8|X9|X10|X11);",
+        22,
+        2,
+        7,
+    )];
+    are_refused(&rt, rt.alloc(), front, &cases)?;
+    let texts: [&[u8]; 2] = [
+        b"model e=(X1|X2|X3|X4|X5|X6|X7|X8|X9|X10);",
+        b"model e=(X1) n=(X1|X2|X3|X4|X5|X6|X7|X8|X9|X10|X11|X12|X13|X14|X15|X16);",
+    ];
+    are_accepted(&rt, rt.alloc(), front, &texts)
+}
+
+#[test]
+fn long_listings_are_refused_at_their_first_word(rt: HostRuntime) -> Result<(), Fail> {
+    let cases: [(&[u8], u8, u32, u32); 5] = [
         (
-            b"proc factex;factors A B C;size design=4;model estimate=(A B Z);run;",
-            0,
-            1,
-            1,
+            b"proc factex;factors X1-X40;size design=4;\nmodel e=(X1*X2*X3*X4);examine aliasing;",
+            23,
+            2,
+            31,
         ),
         (
-            b"proc factex;proc factex;factors A A;\nmodel e=(A) n=(B) / minabs;",
-            0,
-            1,
-            1,
+            b"proc factex;factors X1-X35/nlev=5;size design=25;\nmodel e=(X1) n=(X1*X2*X3);examine design blocked aliasing;",
+            23,
+            2,
+            42,
+        ),
+        (
+            b"proc factex;factors X1-X22/nlev=9;size design=81;examine design;\nmodel e=(X1*X2*X3);run;examine blocked;examine aliasing;",
+            23,
+            2,
+            32,
+        ),
+        (
+            b"proc factex;factors X1-X27;size design=4;model e=(X1-X27 X1|X2|X3*X4*X5);\noutput out=a pointrep=0;examine aliasing;",
+            23,
+            2,
+            33,
+        ),
+        (
+            b"proc factex;factors X1-X27;size design=4;model e=(X1*X2*X3*X4*X5);\nexamine aliasing;blocks nblocks=8;",
+            16,
+            2,
+            33,
         ),
     ];
     are_refused(&rt, rt.alloc(), b"", &cases)
+}
+
+#[test]
+fn listings_within_the_limit_are_accepted(rt: HostRuntime) -> Result<(), Fail> {
+    let texts: [&[u8]; 6] = [
+        b"factors X1-X39;size design=4;model e=(X1*X2*X3*X4);examine aliasing blocked;",
+        b"factors X1-X34/nlev=5;size design=25;model e=(X1) n=(X1*X2*X3);examine aliasing;",
+        b"factors X1-X12/nlev=3;size design=9;model e=(X1*X2*X3*X4*X5*X6*X7);examine blocked;",
+        b"factors X1-X40;size design=4;model e=(X1*X2*X3*X4*X5);examine design aberration;",
+        b"factors X1-X40/nlev=9;size design=9;model r=3;examine aliasing;",
+        b"factors X1-X40/nlev=9;size design=9;model e=(X1-X40);examine blocked;",
+    ];
+    are_accepted(&rt, rt.alloc(), b"proc factex;", &texts)
 }
 
 #[test]
@@ -483,7 +562,7 @@ fn an_earlier_step_is_judged_first(rt: HostRuntime) -> Result<(), Fail> {
 
 #[test]
 fn the_meaning_of_a_step_is_judged_in_its_order(rt: HostRuntime) -> Result<(), Fail> {
-    let cases: [(&[u8], u8, u32, u32); 16] = [
+    let cases: [(&[u8], u8, u32, u32); 23] = [
         (b"proc factex nodes=0;size design=3;", 7, 1, 1),
         (b"proc factex;factors A A X2-X1;", 5, 1, 23),
         (b"proc factex;factors A X2-X1 A;", 30, 1, 23),
@@ -530,6 +609,48 @@ fn the_meaning_of_a_step_is_judged_in_its_order(rt: HostRuntime) -> Result<(), F
             1,
             73,
         ),
+        (
+            b"proc factex;factors A;model e=(A)/minabs;size design=2048;",
+            9,
+            1,
+            54,
+        ),
+        (
+            b"proc factex;factors A;blocks nblkfacs=1;model e=(A)/minabs;",
+            12,
+            1,
+            53,
+        ),
+        (
+            b"proc factex;factors A;size design=min;model e=(A) / minabs;",
+            12,
+            1,
+            53,
+        ),
+        (
+            b"proc factex;factors A;model e=(Z);blocks nblkfacs=max;size design=min;",
+            14,
+            1,
+            67,
+        ),
+        (
+            b"proc factex;factors A;blocks nblkfacs=0;model e=(Z);",
+            4,
+            1,
+            50,
+        ),
+        (
+            b"proc factex;factors A B C D E F G/nlev=3;blocks nblkfacs=0;model e=(A|B|C|D|E|F|G);",
+            22,
+            1,
+            66,
+        ),
+        (
+            b"proc factex;factors A;output out=a pointrep=0;model e=(A) n=(B);",
+            4,
+            1,
+            62,
+        ),
     ];
     are_refused(&rt, rt.alloc(), b"", &cases)
 }
@@ -564,28 +685,37 @@ fn a_plan_is_judged_in_its_order(rt: HostRuntime) -> Result<(), Fail> {
     )
 }
 
+/// By what the designs of a step are judged.
+fn criterion(wanted: &Wanted) -> Criterion {
+    match wanted {
+        Wanted::Resolution { r } => Criterion::Resolution { r: *r },
+        Wanted::Highest => Criterion::Highest,
+        Wanted::Effects { .. } => Criterion::Effects,
+    }
+}
+
 /// What the first step of a text gives by its SIZE, MODEL and BLOCKS statements.
 fn settings(
     rt: &impl Abort,
     alloc: Global,
     rest: &[u8],
-) -> Result<Option<(Size, Wanted, bool, Blocks)>, Fail> {
+) -> Result<Option<(Size, Criterion, bool, Blocks)>, Fail> {
     let program = read(rt, alloc, b"proc factex;factors A B C D;", rest)??;
     match program.as_slice().first() {
-        Some(step) => Ok(Some((step.size, step.wanted, step.least, step.blocks))),
+        Some(step) => Ok(Some((step.size, criterion(&step.wanted), step.least, step.blocks))),
         None => Ok(None),
     }
 }
 
 #[test]
 fn sizes_and_models_have_their_meanings(rt: HostRuntime) -> Result<(), Fail> {
-    let three = Wanted::Resolution { r: 3 };
-    let cases: [(&[u8], Size, Wanted, bool); 6] = [
-        (b"", Size::Runs { m: 4 }, Wanted::Highest, false),
+    let three = Criterion::Resolution { r: 3 };
+    let cases: [(&[u8], Size, Criterion, bool); 8] = [
+        (b"", Size::Runs { m: 4 }, Criterion::Highest, false),
         (
             b"size design=8;model r=max/minabs;",
             Size::Runs { m: 3 },
-            Wanted::Highest,
+            Criterion::Highest,
             true,
         ),
         (
@@ -597,7 +727,7 @@ fn sizes_and_models_have_their_meanings(rt: HostRuntime) -> Result<(), Fail> {
         (
             b"size nrunfacs=5;",
             Size::Runs { m: 5 },
-            Wanted::Highest,
+            Criterion::Highest,
             false,
         ),
         (
@@ -610,6 +740,18 @@ fn sizes_and_models_have_their_meanings(rt: HostRuntime) -> Result<(), Fail> {
             b"size fraction=maximum;model resolution=3;",
             Size::Minimum,
             three,
+            false,
+        ),
+        (
+            b"model estimate=(A|B);size design=8;",
+            Size::Runs { m: 3 },
+            Criterion::Effects,
+            false,
+        ),
+        (
+            b"size design=min;model e=(A) nonnegligible=(B);",
+            Size::Minimum,
+            Criterion::Effects,
             false,
         ),
     ];
@@ -654,8 +796,86 @@ fn blocks_have_their_meanings(rt: HostRuntime) -> Result<(), Fail> {
     for (text, size, blocks) in cases {
         assert_eq!(rt;
             settings(&rt, rt.alloc(), text)?,
-            Some((size, Wanted::Resolution { r: 5 }, false, blocks))
+            Some((size, Criterion::Resolution { r: 5 }, false, blocks))
         );
+    }
+    Ok(())
+}
+
+#[test]
+fn blocks_stand_with_effects(rt: HostRuntime) -> Result<(), Fail> {
+    let cases: [(&[u8], Size, Blocks); 3] = [
+        (
+            b"model e=(A);blocks nblkfacs=2;",
+            Size::Runs { m: 4 },
+            Blocks::Factors { t: 2 },
+        ),
+        (
+            b"model e=(A);blocks size=min;",
+            Size::Runs { m: 4 },
+            Blocks::Most,
+        ),
+        (
+            b"model e=(A);size design=min;blocks size=4;",
+            Size::Minimum,
+            Blocks::PerBlock { k: 2 },
+        ),
+    ];
+    for (text, size, blocks) in cases {
+        assert_eq!(rt;
+            settings(&rt, rt.alloc(), text)?,
+            Some((size, Criterion::Effects, false, blocks))
+        );
+    }
+    Ok(())
+}
+
+/// Whether these are the effects, in order.
+fn are_effects(effects: &Effects, numbers: &[u64]) -> bool {
+    if effects.len() != numbers.len() {
+        return false;
+    }
+    for (effect, number) in effects.as_slice().iter().zip(numbers) {
+        if effect.0 != *number {
+            return false;
+        }
+    }
+    true
+}
+
+#[test]
+fn effects_are_those_of_the_lists(rt: HostRuntime) -> Result<(), Fail> {
+    let cases: [(&[u8], &[u64], &[u64]); 4] = [
+        (
+            b"size design=4;model estimate=(A|B|C @2) nonneg=(A*B*C);",
+            &[1, 2, 4, 3, 5, 6],
+            &[7],
+        ),
+        (
+            b"model e=(A B) nonnegligible=(A|B|C);",
+            &[1, 2],
+            &[4, 3, 5, 6, 7],
+        ),
+        (
+            b"examine aliasing;model estimate=(B*A*A C) n=(B);",
+            &[4, 3],
+            &[2],
+        ),
+        (b"model est=(C);", &[4], &[]),
+    ];
+    for (text, estimate, nonnegligible) in cases {
+        let program = read(&rt, rt.alloc(), b"proc factex;factors A B C;", text)??;
+        assert!(rt; program.len() == 1);
+        match &program.get(0).wanted {
+            Wanted::Effects {
+                estimate: first,
+                nonnegligible: second,
+            } => {
+                assert!(rt; are_effects(first, estimate));
+                assert!(rt; are_effects(second, nonnegligible));
+            }
+            Wanted::Resolution { .. } | Wanted::Highest => assert!(rt; false),
+        }
     }
     Ok(())
 }
@@ -685,8 +905,8 @@ fn steps_have_what_is_written(rt: HostRuntime) -> Result<(), Fail> {
     assert!(rt; are(&first.factors, &[b"Pressure", b"x9", b"x10", b"x11"]));
     assert_eq!(rt; (first.q, first.budget), (3, 20000));
     assert_eq!(rt;
-        (first.size, first.wanted),
-        (Size::Runs { m: 2 }, Wanted::Resolution { r: 3 })
+        (first.size, criterion(&first.wanted)),
+        (Size::Runs { m: 2 }, Criterion::Resolution { r: 3 })
     );
     let listed = Examine {
         aliasing: true,
@@ -713,8 +933,8 @@ fn steps_have_what_is_written(rt: HostRuntime) -> Result<(), Fail> {
     assert!(rt; are(&second.factors, &[b"Size"]));
     assert_eq!(rt; (second.q, second.budget), (2, 1_000_000));
     assert_eq!(rt;
-        (second.size, second.wanted),
-        (Size::Runs { m: 1 }, Wanted::Resolution { r: 4 })
+        (second.size, criterion(&second.wanted)),
+        (Size::Runs { m: 1 }, Criterion::Resolution { r: 4 })
     );
     let listed = Examine {
         aliasing: false,

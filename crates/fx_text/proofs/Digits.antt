@@ -37,5 +37,8 @@ is_text bytes h = IsUtf8-from_ascii bytes (are_ascii bytes h.0)
 fits : (n : ℕ) → n < 10 ^ 38 → n < 2 ^ 128
 fits n h = omega (arith, h)
 
+pub is_below : (bytes : List ℕ) → IsNumber bytes → digits_value 10 bytes < 10 ^ 38
+is_below bytes h = digits_value_short digits bytes 38 h.0 h.2
+
 pub is_read : {E : Type 0} (bytes : List ℕ) (r : Result ℕ E) → ParsesUnsigned 128 10 bytes r → IsNumber bytes → r ≡ Ok (digits_value 10 bytes)
-is_read bytes r reads h = parse_gives digits 128 bytes r reads h.0 h.1 (fits (digits_value 10 bytes) (digits_value_short digits bytes 38 h.0 h.2))
+is_read bytes r reads h = parse_gives digits 128 bytes r reads h.0 h.1 (fits (digits_value 10 bytes) (is_below bytes h))

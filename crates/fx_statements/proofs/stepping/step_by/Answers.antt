@@ -1,22 +1,52 @@
-use Rattle.std.proofs.Common.{◌≡◌, Ok, length, sym, ap, ap₂, ◌∙◌, arith}
-use Rattle.fx_settings.specs.Said.{step_said}
-use Rattle.fx_settings.specs.Settings.{settings_of}
-use Rattle.fx_statements.specs.Steps.{head_of}
-use Rattle.fx_statements.proofs.Bounds.{counted}
+use Rattle.std.proofs.Common.{◌≡◌, true, Ok, length, sym, ap, ap₂, subst, All, ◌∙◌, arith}
+use Rattle.std.specs.Option.{option_and_then}
+use Rattle.fx_settings.specs.declared.said.StepSaid.{StepSaid}
+use Rattle.fx_settings.specs.Said.{blocks_said, start_of, step_said}
+use Rattle.fx_settings.specs.Valid.{are_valid}
+use Rattle.fx_outputs.specs.Outputs.{outputs_of}
+use Rattle.fx_outputs.specs.Validity.{IsWithinLimits}
+use Rattle.fx_statements.specs.Contexts.{context}
+use Rattle.fx_statements.specs.Goals.{goal_of}
+use Rattle.fx_statements.specs.Valid.{CanBeWanted}
+use Rattle.fx_statements.specs.Steps.{asked_by, factors_by, head_of, most_factors}
+use Rattle.fx_statements.proofs.Bounds.{counted, same_settings}
+use Rattle.fx_statements.proofs.StepByStep.{step_is}
 use Rattle.fx_statements.proofs.stepping.step_by.Goals as goal
-
-pub setting_of-setting-requires-clause-valid : goal.setting_of-setting-requires-clause-valid
-setting_of-setting-requires-clause-valid c =
-    c.in_ok-settings.ensures.valid (omega (arith, c.len.ensures, c.in_ok-factors.ensures.bounds.0))
 
 pub invariant_of-result : goal.invariant_of-result
 invariant_of-result c =
     let statements = c.args.statements.now in
+    let settings = c.in_ok-settings.settings in
+    let wanted = c.in_ok-settings.wanted in
     let bounds = c.in_ok-factors.ensures.bounds in
-    let is : settings_of (length c.in_ok-factors.factors) (step_said (head_of statements) c.args.named.now statements) ≡ Ok c.in_ok-settings.settings =
-    ap₂ settings_of (sym c.len.ensures) (sym (c.step_said.ensures ∙ ap (λ p. step_said p c.args.named.now statements) c.head_of-proc.ensures))
-    ∙ sym c.in_ok-settings.ensures.value in
+    let same = same_settings settings wanted c.in_ok-settings.ensures.kind in
     record {
-      named = counted (head_of statements) c.args.named.now statements (length c.in_ok-factors.factors) c.in_ok-settings.settings is bounds.0 (omega (arith, bounds.1, c.most_factors.ensures.value));
-      valid = c.in_ok-settings.ensures.valid (omega (arith, c.len.ensures, bounds.0));
+      named =
+          counted statements (length c.in_ok-factors.factors) _
+          (λ none. c.in_ok-settings.ensures.unblocked (ap (λ (x : StepSaid). x.blocks) c.step_said-said.ensures ∙ ap (option_and_then blocks_said) none))
+          bounds.0 (omega (arith, bounds.1, c.most_factors.ensures.value));
+      distinct = c.in_ok-factors.ensures.distinct;
+      valid = subst (λ x. are_valid x ≡ true) (sym same) c.in_ok-settings.ensures.valid;
+      told = subst (λ s. CanBeWanted settings.q s wanted) (ap length c.as_slice.ensures) c.in_ok-settings.ensures.told;
+      within =
+          subst (λ setting. All (IsWithinLimits setting) c.in_ok-outputs.outputs)
+          (c.setting_of-setting.ensures ∙ ap (λ factors. context factors settings) c.as_slice-2.ensures ∙ ap (context c.in_ok-factors.factors) (sym same))
+          c.in_ok-outputs.ensures.within;
     }
+
+pub returns-clause-step : goal.returns-clause-step
+returns-clause-step c =
+    let statements = c.args.statements.now in
+    let named = c.args.named.now in
+    let factors = c.in_ok-factors.factors in
+    let settings = c.in_ok-settings.settings in
+    let wanted = c.in_ok-settings.wanted in
+    let is_named : factors_by (start_of (head_of statements)) (most_factors statements) named ≡ Ok factors =
+    ap₂ (λ place most. factors_by place most named) (sym (c.start_of.ensures ∙ ap start_of c.head_of-proc.ensures)) (sym c.most_factors.ensures.value) ∙ c.in_ok-factors.ensures.factors in
+    let is_asked : asked_by factors (step_said (head_of statements) named statements) statements ≡ Ok (settings, goal_of wanted) =
+    ap₂ (λ names said. asked_by names said statements) (sym c.as_slice.ensures) (sym (c.step_said-said.ensures ∙ ap (λ p. step_said p named statements) c.head_of-proc.ensures))
+    ∙ c.in_ok-settings.ensures.asked in
+    let are_outputs : outputs_of (context factors settings) c.args.earlier.now statements ≡ Ok c.in_ok-outputs.outputs =
+    ap (λ setting. outputs_of setting c.args.earlier.now statements) (sym (c.setting_of-setting.ensures ∙ ap (λ names. context names settings) c.as_slice-2.ensures))
+    ∙ c.in_ok-outputs.ensures.ok in
+    step_is c.args.earlier.now statements named factors settings wanted c.in_ok-outputs.outputs is_named is_asked are_outputs c.examine_of.result c.examine_of.ensures c.in_ok-settings.ensures.kind

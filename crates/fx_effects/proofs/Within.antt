@@ -1,0 +1,220 @@
+-- The effects of a statement are effects of the factors of its step.
+use Rattle.std.proofs.Common.{◌≡◌, ◌<◌, ◌^◌, ℕ, Bool, true, false, not, List, [], ◌∷◌, ◌++◌, map, take, drop, length, Option, Some, None, Result, Ok, Err, refl, sym, subst, ◌∙◌, arith, inl, inr, ◌⊎◌}
+use Rattle.std.specs.Prelude.{◌==◌, bit_or, count_ones, nat_le, if◌then◌else◌, slice_get}
+use Rattle.std.specs.List.{AllByRecursion}
+use Rattle.std.specs.Result.{IfOk}
+use Rattle.std.proofs.lemmas.Bool.{cases_eq, eq-eqb, ne_eqb}
+use Rattle.std.proofs.lemmas.List.Elements.{All-from_recursion}
+use Rattle.std.proofs.lemmas.List.Quantifiers.{position-Some}
+use Rattle.std.proofs.lemmas.Nat.{le_or_l, or_lt, pow_pos}
+use Rattle.std.proofs.Math.Pow.{pow-lt}
+use Rattle.fx_language.specs.declared.symbol.Symbol.TheVariants.{Bar}
+use Rattle.fx_language.specs.Symbols.{is, is_word}
+use Rattle.fx_text.specs.declared.refusal.Refusal.{Refusal}
+use Rattle.fx_text.specs.declared.refusal.ParseStop.{ParseStop}
+use Rattle.fx_text.specs.Written.{Written}
+use Rattle.fx_text.specs.Names.{is_same_name, place_of}
+use Rattle.fx_text.specs.Refusals.{refusal_at, ◌>>=◌}
+use Rattle.fx_factors.specs.Items.{last_behind}
+use Rattle.fx_factors.specs.Ranges.{is_range, names_between}
+use Rattle.fx_laws.proofs.Order.{each-append, each-map, each-weaker}
+use Rattle.fx_vectors.specs.Effects.{pair_count}
+use Rattle.fx_vectors.specs.Question.{CanBeTold}
+use Rattle.fx_demands.specs.Bars.{bars_of, in_order, unions, within}
+use Rattle.fx_demands.proofs.Ordered.{Has, has-unfilter, in_order-only}
+use Rattle.fx_effects.specs.Factors.{main_of, mains_from}
+use Rattle.fx_effects.specs.Expressions.{Expression, Reading, stars_of, with_name, read, all_read, stars_len, most_factors, expression, bars_at, range_at, by_last, expression_at, begins_effect, effect_len, is_joining, expressions_from, expressions_of}
+use Rattle.fx_effects.specs.Lists.{effects_of, effects_written, at_most_100000}
+use Rattle.fx_effects.specs.Models.{EffectLists, AreApart, list_in, behind_list, first_or, lists_at, lists_behind, some_effects, without}
+
+-- a chain that gives a value has one behind its first part
+bind_ok : {A B : Type 0} (r : Result A Refusal) (f : A → Result B Refusal) (x : B) → (r >>= f) ≡ Ok x → (a : A) × (r ≡ Ok a) × (f a ≡ Ok x)
+bind_ok (Ok a) f x e = (a, refl, e)
+bind_ok (Err refusal) f x e = absurd (cc e)
+
+same_ok : {A : Type 0} (x y : A) → ◌≡◌ {A = Result A Refusal} (Ok x) (Ok y) → x ≡ y
+same_ok x y e = cc
+
+if_ok : {A : Type 0} (b : Bool) (y x : A) (refusal : Refusal) → ◌≡◌ {A = Result A Refusal} (if b then Ok y else Err refusal) (Ok x) → (b ≡ true) × (y ≡ x)
+if_ok true y x refusal e = (refl, same_ok y x e)
+if_ok false y x refusal e = absurd (cc e)
+
+unless_ok : {A : Type 0} (b : Bool) (r : Result A Refusal) (x : A) (refusal : Refusal) → (if b then Err refusal else r) ≡ Ok x → (b ≡ false) × (r ≡ Ok x)
+unless_ok true r x refusal e = absurd (cc e)
+unless_ok false r x refusal e = (refl, e)
+
+either : (b : Bool) → (b ≡ true) ⊎ (b ≡ false)
+either true = inl refl
+either false = inr refl
+
+-- what holds of each of some numbers
+member : (P : ℕ → Type 0) (u : ℕ) (xs : List ℕ) → AllByRecursion P xs → Has u xs → P u
+member P u [] all h = absurd h
+member P u (x ∷ xs) all (inl e) = subst P (sym e) all.0
+member P u (x ∷ xs) all (inr h) = member P u xs all.1 h
+
+each-member : (P : ℕ → Type 0) (xs : List ℕ) → ((u : ℕ) → Has u xs → P u) → AllByRecursion P xs
+each-member P [] each = tt
+each-member P (x ∷ xs) each = (each x (inl refl), each-member P xs (λ u h. each u (inr h)))
+
+-- effects of s factors
+module _ (s : ℕ) where
+  abbrev IsOf : ℕ → Type 0
+  IsOf e = (0 < e) × (e < 2 ^ s)
+
+  abbrev AreOf : List ℕ → Type 0
+  AreOf effects = AllByRecursion IsOf effects
+
+  unions-of : (stars : List ℕ) → AreOf stars → AreOf (unions stars)
+  unions-of [] h = tt
+  unions-of (star ∷ stars) h =
+      let rest = unions-of stars h.1 in (
+        h.0,
+        each-append IsOf (map (λ u. bit_or star u) (unions stars)) (unions stars)
+            (each-map IsOf (λ u. bit_or star u) (unions stars)
+            (each-weaker IsOf (λ u. IsOf (bit_or star u)) (unions stars) (λ u k. (omega (arith, h.0.0, le_or_l star u), or_lt s star u h.0.1 k.1)) rest))
+            rest,
+      )
+
+  bars-of : (stars : List ℕ) (upto : ℕ) → AreOf stars → AreOf (bars_of stars upto)
+  unfolding bars_of
+  bars-of stars upto h =
+      each-member IsOf (in_order (within upto (unions stars))) (λ u there.
+      member IsOf u (unions stars) (unions-of stars h) (has-unfilter (λ u. nat_le (count_ones u) upto) u (unions stars) (in_order-only u (within upto (unions stars)) there)).0)
+
+  -- the stars that are read, and the factors of the next one
+  record ReadingOf (r : Reading) : Type 0 where
+    stars : AreOf r.stars
+    star : r.star < 2 ^ s
+
+  stars-of : (r : Reading) → ReadingOf r → AreOf (stars_of r)
+  stars-of r h =
+      elim (cases_eq r.star 0) [
+        | inl none ↦ rw (eq-eqb r.star 0 none) h.stars
+        | inr some ↦ rw (ne_eqb r.star 0 some) (each-append IsOf r.stars (r.star ∷ []) h.stars ((omega (arith, some), h.star), tt))
+      ]
+
+  abbrev AreAllOf : List Expression → Type 0
+  AreAllOf all = AllByRecursion (λ (e : Expression). AreOf e.stars) all
+
+  written-of : (all : List Expression) → AreAllOf all → AreOf (effects_written all)
+  written-of [] h = tt
+  written-of (e ∷ all) h = each-append IsOf (bars_of e.stars e.upto) (effects_written all) (bars-of e.stars e.upto h.0) (written-of all h.1)
+
+  set-of : (all : List Expression) → AreAllOf all → AreOf (effects_of all)
+  set-of all h = each-member IsOf (effects_of all) (λ u there. member IsOf u (effects_written all) (written-of all h) (in_order-only u (effects_written all) there))
+
+  without-of : (others effects : List ℕ) → AreOf effects → AreOf (without others effects)
+  without-of others effects h = each-member IsOf (without others effects) (λ u there. member IsOf u effects h (has-unfilter _ u effects there).0)
+
+module _ (factors : List (List ℕ)) where
+  abbrev s : ℕ
+  s = length factors
+
+  main-of : (w : Written) (name : List ℕ) (e : ℕ) → main_of w (place_of name factors) ≡ Ok e → IsOf s e
+  main-of w name e is = go (place_of name factors) refl is
+    where
+      go : (found : Option ℕ) → place_of name factors ≡ found → main_of w found ≡ Ok e → IsOf s e
+      go None at is = absurd (cc is)
+      go (Some i) at is = subst (IsOf s) (same_ok (2 ^ i) e is) (pow_pos i, pow-lt (position-Some (is_same_name name) factors i [] at).0)
+
+  mains-of : (w : Written) (mains : List ℕ) (names : List (List ℕ)) (all : List ℕ) → AreOf s mains → mains_from w factors mains names ≡ Ok all → AreOf s all
+  mains-of w mains [] all h is = subst (AreOf s) (same_ok mains all is) h
+  mains-of w mains (name ∷ names) all h is =
+      let b = bind_ok (main_of w (place_of name factors)) (λ e. mains_from w factors (mains ++ e ∷ []) names) all is in
+      mains-of w (mains ++ b.0 ∷ []) names all (each-append (IsOf s) mains (b.0 ∷ []) h (main-of w name b.0 b.1, tt)) b.2
+
+  read-of : (r : Reading) (w : Written) (next : Reading) → ReadingOf s r → read factors r w ≡ Ok next → ReadingOf s next
+  read-of r w next h e = go (is Bar w.symbol) (is_word w.symbol) e
+    where
+      go : (bar word : Bool) → (if bar then Ok (record { stars = stars_of r; star = 0 }) else (if word then with_name factors r w else Ok r)) ≡ Ok next → ReadingOf s next
+      go true word e = subst (ReadingOf s) (same_ok (record { stars = stars_of r; star = 0 }) next e) (record { stars = stars-of s r h; star = pow_pos s })
+      go false true e =
+          let b = bind_ok (main_of w (place_of w.text factors)) _ next e in
+          subst (ReadingOf s) (same_ok (record { stars = r.stars; star = bit_or r.star b.0 }) next b.2)
+          (record { stars = h.stars; star = or_lt s r.star b.0 h.star (main-of w w.text b.0 b.1).1 })
+      go false false e = subst (ReadingOf s) (same_ok r next e) h
+
+  all_read-of : (written : List Written) (r all : Reading) → ReadingOf s r → all_read factors r written ≡ Ok all → ReadingOf s all
+  all_read-of [] r all h is = subst (ReadingOf s) (same_ok r all is) h
+  all_read-of (w ∷ rest) r all h is =
+      let b = bind_ok (read factors r w) (λ next. all_read factors next rest) all is in
+      all_read-of rest b.0 all (read-of r w b.0 h b.1) b.2
+
+  bars_at-of : (first : Written) (rest : List Written) (e : Expression) → bars_at factors first rest ≡ Ok e → AreOf s e.stars
+  bars_at-of first rest e is =
+      let none : Reading = record { stars = []; star = 0 } in
+      let r = bind_ok (all_read factors none (first ∷ take (stars_len rest) rest)) _ e is in
+      let upto = bind_ok (most_factors (stars_of r.0) (slice_get (drop (stars_len rest) rest) 1)) _ e r.2 in
+      let of = all_read-of (first ∷ take (stars_len rest) rest) none r.0 (record { stars = tt; star = pow_pos s }) r.1 in
+      subst (λ (e : Expression). AreOf s e.stars) (same_ok (expression (stars_of r.0) upto.0) e upto.2) (stars-of s r.0 of)
+
+  range_at-of : (first last : Written) (e : Expression) → range_at factors first last ≡ Ok e → AreOf s e.stars
+  range_at-of first last e is =
+      let mains = bind_ok (mains_from first factors [] (names_between first.text last.text)) (λ mains. Ok (expression mains 1)) e
+      (unless_ok (not (is_range first.text last.text)) _ e (refusal_at 30 first) is).1 in
+      subst (λ (e : Expression). AreOf s e.stars) (same_ok (expression mains.0 1) e mains.2) (mains-of first [] (names_between first.text last.text) mains.0 tt mains.1)
+
+  expression-of : (first : Written) (rest : List Written) (e : Expression) → expression_at factors first rest ≡ Ok e → AreOf s e.stars
+  expression-of first rest e is = go (last_behind rest) is
+    where
+      go : (last : Option Written) → by_last factors first rest last ≡ Ok e → AreOf s e.stars
+      go None is = bars_at-of first rest e is
+      go (Some last) is = range_at-of first last e is
+
+  expressions-of : (written : List Written) (all : List Expression) (joined : Bool) (every : List Expression) → AreAllOf s all → expressions_from factors all joined written ≡ Ok every → AreAllOf s every
+  expressions-of [] all joined every h is = subst (AreAllOf s) (same_ok all every is) h
+  expressions-of (w ∷ rest) all joined every h is =
+      elim (either (begins_effect joined w)) [
+        | inl begins ↦
+            let read = rw begins at is in
+            let e = bind_ok (expression_at factors w (take (effect_len false rest) rest)) (λ e. expressions_from factors (all ++ e ∷ []) (is_joining w.symbol) rest) every read in
+            expressions-of rest (all ++ e.0 ∷ []) (is_joining w.symbol) every
+            (each-append (λ (e : Expression). AreOf s e.stars) all (e.0 ∷ []) h (expression-of w (take (effect_len false rest) rest) e.0 e.1, tt)) e.2
+        | inr joins ↦ expressions-of rest all (is_joining w.symbol) every h (rw joins at is)
+      ]
+
+  record AreListsOf (lists : EffectLists) : Type 0 where
+    some : 0 < length lists.estimate
+    estimate : AreOf s lists.estimate
+    nonnegligible : AreOf s lists.nonnegligible
+
+  lists_at-of : (q : ℕ) (word : Written) (written : List Written) (other_word : Written) (other_written : List Written) (lists : EffectLists)
+      → lists_at q factors word written other_word other_written ≡ Ok lists → AreListsOf lists
+  lists_at-of q word written other_word other_written lists is =
+      let estimate = bind_ok (expressions_of factors written) _ lists is in
+      let others = bind_ok (expressions_of factors other_written) _ lists estimate.2 in
+      let first = bind_ok (at_most_100000 word (effects_of estimate.0)) _ lists others.2 in
+      let second = bind_ok (at_most_100000 other_word (effects_of others.0)) _ lists first.2 in
+      let some = bind_ok (some_effects word first.0) _ lists second.2 in
+      let told = if_ok (nat_le (pair_count q first.0 (without first.0 second.0)) 2000000) (record { estimate = first.0; nonnegligible = without first.0 second.0 }) lists (refusal_at 22 word) some.2 in
+      let first_is = (if_ok (nat_le (length (effects_of estimate.0)) 100000) (effects_of estimate.0) first.0 (refusal_at 23 word) first.1).1 in
+      let second_is = (if_ok (nat_le (length (effects_of others.0)) 100000) (effects_of others.0) second.0 (refusal_at 23 other_word) second.1).1 in
+      let first_of = subst (AreOf s) first_is (set-of s estimate.0 (expressions-of written [] false estimate.0 tt estimate.1)) in
+      let second_of = subst (AreOf s) second_is (set-of s others.0 (expressions-of other_written [] false others.0 tt others.1)) in
+      let none = (unless_ok (length first.0 == 0) (Ok tt) some.0 (refusal_at 2 word) some.1).0 in
+      subst AreListsOf told.1 (record {
+        some = positive (length first.0) none;
+        estimate = first_of;
+        nonnegligible = without-of s first.0 second.0 second_of;
+      })
+    where
+      positive : (n : ℕ) → (n == 0) ≡ false → 0 < n
+      positive n h = elim (cases_eq n 0) [ inl e ↦ absurd (let same : true ≡ false = sym (eq-eqb n 0 e) ∙ h in cc) | inr some ↦ omega (arith, some) ]
+
+  can_be_told : (q : ℕ) (lists : EffectLists) → AreListsOf lists → AreApart q lists → CanBeTold q s lists.estimate lists.nonnegligible
+  can_be_told q lists of apart = record {
+    some = of.some;
+    estimated = record { each = All-from_recursion (IsOf s) lists.estimate of.estimate; in_order = apart.estimate };
+    others = record { each = All-from_recursion (IsOf s) lists.nonnegligible of.nonnegligible; in_order = apart.nonnegligible };
+    apart = apart.apart;
+    pairs = apart.pairs;
+  }
+
+  pub all_told : (q : ℕ) (word : Written) (written : List Written) (r : Result EffectLists ParseStop)
+      → IfOk r (λ lists. lists_behind q factors word written ≡ Ok lists) → IfOk r (AreApart q)
+      → IfOk r (λ lists. CanBeTold q (length factors) lists.estimate lists.nonnegligible)
+  all_told q word written (Ok lists) is apart =
+      let behind = behind_list written in
+      can_be_told q lists (lists_at-of q word (list_in written) (first_or word behind) (list_in (drop 3 behind)) lists is) apart
+  all_told q word written (Err stop) is apart = tt

@@ -1,0 +1,99 @@
+-- How many components there are, from one number of factors to the next.
+use Rattle.std.proofs.Common.{◌≡◌, ℕ, zero, suc, ◌+◌, ◌-◌, ◌*◌, ◌/◌, ◌^◌, ◌<◌, ◌≤◌, true, List, length, drop, get_or, sym, ap, ap₂, subst, ◌∙◌, arith, inl, inr}
+use Rattle.std.specs.Prelude.{nat_lt, max, count_ones}
+use Rattle.std.proofs.lemmas.Bool.{cases_lt, lt-ltb}
+use Rattle.std.proofs.Math.Nat.{div-eq_of_eq-mul_left, div-le_self, mul-le-mul, pow-suc, pow-zero}
+use Rattle.std.proofs.Math.Numerals.{add-one}
+use Rattle.std.proofs.Math.Seq.{drop-cons}
+use Rattle.fx_vectors.specs.declared.effect.Effect.{Effect}
+use Rattle.fx_vectors.specs.Effects.{numbers_of}
+use Rattle.fx_statements.specs.Listings.{choose, component_count, listed_count, most_factors_of}
+
+-- a set of k and one more, in k + 1 ways
+choose_next : (n k : ℕ) → suc k * choose n (suc k) ≡ (n - k) * choose n k
+choose_next zero k = let none : zero - k ≡ 0 = omega arith in rw none (omega arith)
+choose_next (suc n) zero = let h = choose_next n zero in omega (arith, h)
+choose_next (suc n) (suc j) =
+    let one = choose_next n j in
+    let two = choose_next n (suc j) in
+    elim (cases_lt j n) [
+      | inl below ↦
+          let r : ℕ = n - suc j in
+          let a : n - j ≡ r + 1 = omega (arith, below) in
+          let b : suc n - suc j ≡ r + 1 = omega (arith, below) in
+          let first = rw a at one in
+          rw b (omega (arith, first, two))
+      | inr over ↦
+          let a : n - j ≡ 0 = omega (arith, over) in
+          let b : n - suc j ≡ 0 = omega (arith, over) in
+          let c : suc n - suc j ≡ 0 = omega (arith, over) in
+          let first = rw a at one in
+          let second = rw b at two in
+          rw c (omega (arith, first, second))
+    ]
+
+module _ (q s k : ℕ) where
+  one_more : component_count q s (k + 1) ≡ choose s (suc k) * (q - 1) ^ k
+  one_more =
+      let less : k + 1 - 1 ≡ k = omega arith in
+      ap₂ (λ i j. choose s i * (q - 1) ^ j) (add-one k) less
+
+  two_more : component_count q s (k + 2) ≡ choose s (suc (suc k)) * ((q - 1) ^ k * (q - 1))
+  two_more =
+      let more : k + 2 ≡ suc (suc k) = omega arith in
+      let less : k + 2 - 1 ≡ suc k = omega arith in
+      ap₂ (λ i j. choose s i * (q - 1) ^ j) more less ∙ ap (λ p. choose s (suc (suc k)) * p) (pow-suc (q - 1) k)
+
+  regroup : (c d p x r : ℕ) → suc (suc k) * d ≡ r * c → c * p * r * x ≡ d * (p * x) * (k + 2)
+  regroup c d p x r h = let m : suc (suc k) * d * (p * x) ≡ r * c * (p * x) = ap (λ z. z * (p * x)) h in omega (arith, m)
+
+  pub next_count : (next : ℕ) → next ≡ component_count q s (k + 1) → next * (s - k - 1) * (q - 1) / (k + 2) ≡ component_count q s (k + 2)
+  next_count next is =
+      let left : s - k - 1 ≡ s - suc k = omega arith in
+      let all : next * (s - k - 1) * (q - 1) ≡ component_count q s (k + 2) * (k + 2) =
+      ap₂ (λ n r. n * r * (q - 1)) (is ∙ one_more) left
+      ∙ regroup (choose s (suc k)) (choose s (suc (suc k))) ((q - 1) ^ k) (q - 1) (s - suc k) (choose_next s (suc k))
+      ∙ ap (λ n. n * (k + 2)) (sym two_more) in
+      let some : zero < k + 2 = omega arith in
+      div-eq_of_eq-mul_left some all
+
+  pub count_more : listed_count q s (k + 1) ≡ listed_count q s k + component_count q s (k + 1)
+  count_more = ap (listed_count q s) (add-one k) ∙ ap (λ i. listed_count q s k + component_count q s i) (sym (add-one k))
+
+pub count_first : (q s : ℕ) → component_count q s 1 ≡ s
+count_first q s =
+    let one = choose_next s zero in
+    let none : 1 - 1 ≡ 0 = omega arith in
+    let plain : component_count q s 1 ≡ choose s 1 * 1 = ap (λ j. choose s 1 * (q - 1) ^ j) none ∙ ap (λ p. choose s 1 * p) (pow-zero (q - 1)) in
+    omega (arith, one, plain)
+
+-- with more factors there are no fewer
+grows : (q s k n : ℕ) → listed_count q s k ≤ listed_count q s (n + k)
+grows q s k zero = let e : zero + k ≡ k = omega arith in rw e (omega arith)
+grows q s k (suc n) =
+    let h = grows q s k n in
+    let e : suc n + k ≡ suc (n + k) = omega arith in
+    rw e (omega (arith, h))
+
+pub are_many : (q s k d : ℕ) → k < d → 100000 < listed_count q s (k + 1) → nat_lt 100000 (listed_count q s d) ≡ true
+are_many q s k d below many =
+    let e : d - (k + 1) + (k + 1) ≡ d = omega (arith, below) in
+    let h : listed_count q s (k + 1) ≤ listed_count q s d = subst (λ i. listed_count q s (k + 1) ≤ listed_count q s i) e (grows q s (k + 1) (d - (k + 1))) in
+    lt-ltb 100000 (listed_count q s d) (omega (arith, h, many))
+
+-- a number that stays small
+pub small_next : (next r x k n : ℕ) → n ≡ next * r * x / (k + 2) → next ≤ 100000 → r ≤ 40 → x ≤ 8 → n ≤ 32000000
+small_next next r x k n is few left levels =
+    let a : next * r ≤ 100000 * 40 = mul-le-mul few left in
+    let b : next * r * x ≤ 100000 * 40 * 8 = mul-le-mul a levels in
+    let c : next * r * x / (k + 2) ≤ next * r * x = div-le_self (next * r * x) (k + 2) in
+    omega (arith, is, b, c)
+
+-- the most factors of the effects from some place on
+pub most_from : (effects items : List Effect) (i : ℕ) (d : Effect) → items ≡ effects → i < length items
+    → most_factors_of (numbers_of (drop i effects)) ≡ max (count_ones (get_or items i d).0) (most_factors_of (numbers_of (drop (i + 1) effects)))
+most_from effects items i d same below =
+    let here = drop-cons effects i d (subst (λ (l : List Effect). i < length l) same below) in
+    rw (add-one i)
+    (ap (λ (l : List Effect). most_factors_of (numbers_of l)) here
+    ∙ ap (λ (l : List Effect). max (count_ones (get_or l i d).0) (most_factors_of (numbers_of (drop (suc i) effects)))) (sym same))

@@ -1,0 +1,63 @@
+-- Listings of components, which EXAMINE asks for by ALIASING and BLOCKED: which components are listed, and how many they are.
+-- A component is a normal vector over the factors: its last nonzero code is 1.
+use Rattle.std.specs.Prelude.{ℕ, zero, suc, ◌+◌, ◌-◌, ◌*◌, ◌^◌, ◌||◌, nat_lt, min, max, Bool, List, [], ◌∷◌, count_ones, Option, Some, None, Result, Ok, Err, if◌then◌else◌}
+use Rattle.fx_text.specs.declared.refusal.Refusal.{Refusal}
+use Rattle.fx_text.specs.declared.refusal.Place.{Place}
+use Rattle.fx_text.specs.Written.{Written, begins}
+use Rattle.fx_text.specs.Refusals.{place_at, refused_at}
+use Rattle.fx_language.specs.declared.symbol.Symbol.TheVariants.{Aliasing, Blocked, Examine}
+use Rattle.fx_language.specs.Symbols.{is}
+use Rattle.fx_statements.specs.Goals.{Goal, AtLeast, Highest, ForEffects}
+
+-- how many sets of k there are among n
+abbrev pub choose : ℕ → ℕ → ℕ
+choose n zero = 1
+choose zero (suc k) = 0
+choose (suc n) (suc k) = choose n k + choose n (suc k)
+
+-- how many components over s factors have k of them
+abbrev pub component_count : ℕ → ℕ → ℕ → ℕ
+component_count q s k = choose s k * (q - 1) ^ (k - 1)
+
+-- how many have 1 to d of them
+abbrev pub listed_count : ℕ → ℕ → ℕ → ℕ
+listed_count q s zero = 0
+listed_count q s (suc d) = listed_count q s d + component_count q s (suc d)
+
+-- the most factors that one of the effects has
+abbrev pub most_factors_of : List ℕ → ℕ
+most_factors_of [] = 0
+most_factors_of (e ∷ effects) = max (count_ones e) (most_factors_of effects)
+
+-- Components of one and two factors are listed, and those of as many as an effect that is named has.
+abbrev pub listed_factors : Goal → ℕ
+listed_factors (AtLeast r) = 2
+listed_factors Highest = 2
+listed_factors (ForEffects estimate nonnegligible) = max 2 (max (most_factors_of estimate) (most_factors_of nonnegligible))
+
+-- the word asks for a listing of components
+abbrev pub is_listing : Written → Bool
+is_listing w = is Aliasing w.symbol || is Blocked w.symbol
+
+-- the place of the first such word among some
+abbrev pub first_listing : List Written → Option Place
+first_listing [] = None
+first_listing (w ∷ rest) = if is_listing w then Some (place_at w) else first_listing rest
+
+-- and of an EXAMINE statement
+abbrev pub listing_asked : List Written → Option Place
+listing_asked s = if begins Examine s then first_listing s else None
+
+abbrev pub place_or : Option Place → Option Place → Option Place
+place_or (Some place) other = Some place
+place_or None other = other
+
+-- and of a step
+abbrev pub listing_place : List (List Written) → Option Place
+listing_place [] = None
+listing_place (s ∷ statements) = place_or (listing_asked s) (listing_place statements)
+
+-- at most 100,000 components may be listed in a step of s factors, or E23 at the word that asks for them
+abbrev pub listing_allowed : ℕ → ℕ → Goal → Option Place → Result (Unit {0}) Refusal
+listing_allowed q s goal None = Ok tt
+listing_allowed q s goal (Some place) = if nat_lt 100000 (listed_count q s (min s (listed_factors goal))) then Err (refused_at 23 place) else Ok tt

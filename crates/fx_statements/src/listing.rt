@@ -1,0 +1,128 @@
+ghost use Rattle.std.specs.Prelude.{◌≡◌, ◌≤◌, true, min, nat_lt};
+ghost use Rattle.fx_settings.specs.Settings.{is_level};
+ghost use Rattle.fx_vectors.specs.Effects.{numbers_of};
+ghost use Rattle.fx_statements.specs.Goals.{goal_of};
+ghost use Rattle.fx_statements.specs.Listings.{first_listing, is_listing, listed_count, listed_factors, listing_allowed, listing_asked, listing_place, most_factors_of};
+
+use crate::wanted::Wanted;
+use fx_language::Symbol;
+use fx_text::{Lexeme, Place, Refusal, Statement};
+use fx_vectors::Effects;
+
+/// The most components of a listing.
+const MOST_COMPONENTS: u64 = 100_000;
+
+/// Tests that no EXAMINE statement of a step with `s` factors of `q` levels asks for a listing of
+/// more than 100,000 components.
+///
+/// # Errors
+///
+/// E23, at the first word ALIASING or BLOCKED: one does.
+pub(crate) fn listing_allowed(
+    q: u8,
+    s: u8,
+    wanted: &Wanted,
+    statements: &[Statement<'_>],
+) -> Result<(), Refusal>
+    requires level { is_level q ≡ true }
+    requires few { s ≤ 40 }
+    ensures { result ≡ listing_allowed q s (goal_of wanted.now) (listing_place statements.now) }
+{
+    match listing_place(statements) {
+        None => Ok(()),
+        Some(place) => {
+            if are_too_many(q, s, s.min(listed_factors(wanted))) {
+                Err(place.refused(23))
+            } else {
+                Ok(())
+            }
+        }
+    }
+}
+
+/// The place of the first word of a step that asks for a listing of components.
+fn listing_place(statements: &[Statement<'_>]) -> Option<Place>
+    ensures { result ≡ listing_place statements.now }
+{
+    for statement in statements {
+        let place = listing_asked(statement);
+        if place.is_some() {
+            return place;
+        }
+    }
+    None
+}
+
+/// That of an EXAMINE statement.
+fn listing_asked(statement: &Statement<'_>) -> Option<Place>
+    ensures { result ≡ listing_asked statement.now }
+{
+    if statement.begins(Symbol::Examine) {
+        first_listing(statement.lexemes())
+    } else {
+        None
+    }
+}
+
+fn first_listing(lexemes: &[Lexeme<'_>]) -> Option<Place>
+    ensures { result ≡ first_listing lexemes.now }
+{
+    for w in lexemes {
+        if is_listing(w) {
+            return Some(w.place());
+        }
+    }
+    None
+}
+
+fn is_listing(w: &Lexeme<'_>) -> bool
+    ensures { result ≡ is_listing w.now }
+{
+    w.is(Symbol::Aliasing) || w.is(Symbol::Blocked)
+}
+
+/// The most factors of a component that is listed, where there are as many.
+fn listed_factors(wanted: &Wanted) -> u8
+    ensures { result ≡ listed_factors (goal_of wanted.now) }
+{
+    match wanted {
+        Wanted::Resolution { .. } | Wanted::Highest => 2,
+        Wanted::Effects {
+            estimate,
+            nonnegligible,
+        } => most_factors_of(estimate)
+            .max(most_factors_of(nonnegligible))
+            .max(2),
+    }
+}
+
+/// The most factors that one of the effects has.
+fn most_factors_of(effects: &Effects) -> u8
+    ensures { result ≡ most_factors_of (numbers_of effects.now) }
+{
+    let mut most = 0u8;
+    for e in effects.as_slice() {
+        most = most.max(e.0.count_ones() as u8);
+    }
+    most
+}
+
+/// Whether more than 100,000 components have 1 to `d` of the `s` factors.
+fn are_too_many(q: u8, s: u8, d: u8) -> bool
+    requires level { is_level q ≡ true }
+    requires few { s ≤ 40 }
+    requires some { d ≤ s }
+    ensures { result ≡ nat_lt 100000 (listed_count q s d) }
+{
+    let mut count = 0;
+    // How many have k + 1 factors.
+    let mut next = u64::from(s);
+    for k in 0..d {
+        count += next;
+        if count > MOST_COMPONENTS {
+            return true;
+        }
+        next = next * u64::from(s - k - 1) * u64::from(q - 1) / (u64::from(k) + 2);
+    }
+    false
+}
