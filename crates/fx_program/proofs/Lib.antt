@@ -5,3 +5,4 @@ mod Endings
 mod SoFar
 mod Given
 mod Built
+mod None

@@ -1,6 +1,10 @@
 -- The listing of a step.
-use Rattle.std.specs.Prelude.{ℕ, ◌^◌, ◌==◌, nat_le, if◌then◌else◌, List, [], ◌∷◌, ◌++◌, length, drop, Option, Some, None, codes, decimal, Bool, true, false}
+use Rattle.std.specs.Prelude.{ℕ, ◌≡◌, ◌^◌, ◌==◌, if◌then◌else◌, List, [], ◌∷◌, ◌++◌, length, codes, decimal, Bool, true, false}
 use Rattle.fx_designs.specs.Galois.{digits}
+use Rattle.fx_vectors.specs.declared.shape.Shape.{Shape}
+use Rattle.fx_search.specs.declared.asking.Asked.{Asked}
+use Rattle.fx_search.specs.declared.asking.Asked.TheVariants.{Found, Nothing, Budget}
+use Rattle.fx_program.specs.Outcomes.{Outcome, Design, NoDesign, BudgetEnded}
 
 -- a factor of a product: its name, and its coefficient where that is not 1
 abbrev pub term : List ℕ → ℕ → List ℕ
@@ -23,35 +27,45 @@ ending false (t ∷ ts) = codes "*" ++ (t ++ ending false ts)
 abbrev pub product : List (List ℕ) → List ℕ → List ℕ
 product names u = ending true (terms names u)
 
--- the rule of a factor: its row is a vector over the first m factors, which run through all combinations of their levels
+-- the rule of a factor: its row is a vector over the factors that introduced the run indexes
 abbrev pub rule_of : List (List ℕ) → List ℕ → List ℕ → List ℕ
-rule_of names name u = codes "  " ++ name ++ codes " = " ++ product names u ++ 10 ∷ []
+rule_of introduced name u = codes "  " ++ name ++ codes " = " ++ product introduced u ++ 10 ∷ []
 
--- the rules of factors with these names and rows
+-- The rules of factors with these names and rows. A row that is the next unit vector introduces a run index, and has no
+-- rule; the others are combinations of those before.
 abbrev pub rule_lines : ℕ → ℕ → List (List ℕ) → List (List ℕ) → List ℕ → List ℕ
-rule_lines q m names [] rows = []
-rule_lines q m names (name ∷ later) [] = []
-rule_lines q m names (name ∷ later) (row ∷ rows) = rule_of names name (digits q m row) ++ rule_lines q m names later rows
+rule_lines q m introduced [] rows = []
+rule_lines q m introduced (name ∷ names) [] = []
+rule_lines q m introduced (name ∷ names) (row ∷ rows) =
+    (if row == q ^ length introduced then rule_lines q m (introduced ++ name ∷ []) names rows else rule_of introduced name (digits q m row) ++ rule_lines q m introduced names rows)
 
--- the rules of a design: the first m factors introduce the m run indexes, and have none
+abbrev pub or_none : List ℕ → List ℕ
+or_none [] = codes "  none\n"
+or_none (b ∷ lines) = b ∷ lines
+
+-- the rules of a design
 abbrev pub rules : ℕ → ℕ → List (List ℕ) → List ℕ → List ℕ
-rules q m names rows = if nat_le (length names) m then codes "  none\n" else rule_lines q m names (drop m names) (drop m rows)
+rules q m names rows = or_none (rule_lines q m [] names rows)
 
 -- the first lines of a step: its number, its factors and their levels
 abbrev pub heading : ℕ → ℕ → ℕ → List ℕ
 heading number s q = codes "step " ++ decimal number ++ codes "\nfactors " ++ decimal s ++ codes " levels " ++ decimal q ++ codes "\n"
 
-abbrev pub none_lines : ℕ → List ℕ
-none_lines runs = codes "no design in " ++ decimal runs ++ codes " runs\n"
+abbrev pub nodes_line : ℕ → List ℕ
+nodes_line count = codes "nodes " ++ decimal count ++ codes "\n"
 
-abbrev pub design_lines : ℕ → ℕ → ℕ → List (List ℕ) → List ℕ → List ℕ
-design_lines runs q m names rows = codes "design " ++ decimal runs ++ codes " runs\nrules\n" ++ rules q m names rows
-
--- the outcome and, for a design, its rules
-abbrev pub outcome : ℕ → ℕ → List (List ℕ) → Option (List ℕ) → List ℕ
-outcome q m names None = none_lines (q ^ m)
-outcome q m names (Some rows) = design_lines (q ^ m) q m names rows
+-- the outcome, the number of nodes and, for a design, its rules
+abbrev pub outcome_lines : ℕ → ℕ → List (List ℕ) → Outcome → List ℕ
+outcome_lines q m names (Design rows count) = codes "design " ++ decimal (q ^ m) ++ codes " runs\n" ++ nodes_line count ++ codes "rules\n" ++ rules q m names rows
+outcome_lines q m names (NoDesign count) = codes "no design in " ++ decimal (q ^ m) ++ codes " runs\n" ++ nodes_line count
+outcome_lines q m names (BudgetEnded budget) = codes "budget ended after " ++ decimal budget ++ codes " nodes\n"
 
 -- all lines of a step
-unfoldable pub step_lines : ℕ → ℕ → ℕ → List (List ℕ) → Option (List ℕ) → List ℕ
-step_lines number q m names answer = heading number (length names) q ++ outcome q m names answer
+unfoldable pub step_lines : ℕ → ℕ → ℕ → List (List ℕ) → Outcome → List ℕ
+step_lines number q m names outcome = heading number (length names) q ++ outcome_lines q m names outcome
+
+-- a design is of the shape, and has a row for each of s factors
+abbrev pub IsListable : Shape → ℕ → Asked → Type 0
+IsListable shape s (Found matrix count marks) = (matrix.shape ≡ shape) × (length matrix.rows ≡ s)
+IsListable shape s (Nothing count marks) = Unit {0}
+IsListable shape s (Budget best) = Unit {0}

@@ -1,13 +1,13 @@
 -- What the program gives, for its words and its text: pieces of listing and files, and a status.
 use Rattle.std.specs.Prelude.{ℕ, ◌≡◌, ◌+◌, ◌<◌, nat_le, if◌then◌else◌, List, [], ◌∷◌, ◌++◌, Option, Some, None, Result, Ok, Err, Bool, true, false}
 use Rattle.fx_base.specs.Acts.{Event, Piece, acts, World, File, Did, DidPart}
-use Rattle.fx_designs.specs.Problems.{Dimensions, Problem}
-use Rattle.fx_designs.specs.Answers.{answer}
+use Rattle.fx_designs.specs.Problems.{Problem}
 use Rattle.fx_statements.specs.Steps.{Meaning}
 use Rattle.fx_program.specs.Words.{settings_of, word_line}
 use Rattle.fx_program.specs.Refusals.{fault_line}
 use Rattle.fx_program.specs.Problems.{problem_of}
 use Rattle.fx_program.specs.Texts.{program_in}
+use Rattle.fx_program.specs.Outcomes.{outcome_of, status_of}
 use Rattle.fx_program.specs.Listing.{step_lines}
 use Rattle.fx_program.specs.declared.words.Settings.{Settings}
 use Rattle.fx_program.specs.declared.words.Settings.TheVariants.{Run}
@@ -22,18 +22,11 @@ pub record Output : Type 0 where
 abbrev pub message : List ℕ → ℕ → Output
 message bytes status = record { events = Piece bytes ∷ []; status = status }
 
--- 0 for a design, 1 for none
-abbrev pub status_of : Option (List ℕ) → ℕ
-status_of None = 1
-status_of (Some rows) = 0
-
--- the lines of the step of this number, with this answer of its problem
-abbrev pub lines_of : ℕ → Meaning → Dimensions → Option (List ℕ) → List ℕ
-lines_of number step d found = step_lines number d.q d.m step.factors found
-
 -- what is given for a step that states this problem: its lines, and its status
 abbrev pub step_given : ℕ → Meaning → Problem → Output
-step_given number step p = message (lines_of number step p.dimensions (answer p)) (status_of (answer p))
+step_given number step p =
+    let outcome = outcome_of p step.settings.budget in
+    message (step_lines number p.dimensions.q p.dimensions.m step.factors outcome) (status_of outcome)
 
 abbrev pub given_by : ℕ → Meaning → Option Problem → Output
 given_by number step None = record { events = []; status = 0 }

@@ -1,31 +1,52 @@
-ghost use Rattle.std.specs.Prelude.{◌≡◌, ◌↔◌, List, ℕ, Some, None, false, IsTrue};
+ghost use Rattle.std.specs.Prelude.{◌≡◌, ◌↔◌, ◌<◌, ◌≤◌, List, ℕ, Some, false, length, IsTrue};
 ghost use Rattle.fx_designs.specs.Galois.{is_order};
 ghost use Rattle.fx_reduction.specs.Reduction.{IsReducible, NoneMeets};
 ghost use Rattle.fx_designs.specs.Problems.{Problem};
 ghost use Rattle.fx_designs.specs.Answers.{is_design};
+ghost use Rattle.fx_designs.specs.Nodes.{nodes};
 ghost use Rattle.fx_laws.specs.First.{IsFirstDesign};
 ghost use Rattle.fx_statements.specs.Steps.{Meaning};
 ghost use Rattle.fx_program.specs.Problems.{problem_of};
-ghost use Rattle.fx_program.specs.Output.{lines_of, message, step_output};
+ghost use Rattle.fx_program.specs.Outcomes.{Design, NoDesign};
+ghost use Rattle.fx_program.specs.Listing.{step_lines};
+ghost use Rattle.fx_program.specs.Output.{message, step_output};
 
-/// What is given for a step of a form that is built: status 0 and the lines of the first design of
-/// the canonical list that meets its demand, or status 1 and the lines that say that there is no
-/// design, where no matrix of the list meets it.
+/// What is given for a step of a form that is built, where the nodes of its problem are within its
+/// budget: status 0 and the lines of the first design of the canonical list that meets its demands,
+/// or status 1 and the lines that say that there is no design, where no matrix of the list meets
+/// them.
 pub fn first_design_is_given()
     ensures design { (number : ℕ) (step : Meaning) (p : Problem) (rows : List ℕ) → problem_of step ≡ Some p
+        → length (nodes p) ≤ step.settings.budget
         → IsFirstDesign p rows
-        → step_output number step ≡ message (lines_of number step p.dimensions (Some rows)) 0 }
+        → step_output number step ≡ message (step_lines number p.dimensions.q p.dimensions.m step.factors (Design rows (length (nodes p)))) 0 }
     ensures none { (number : ℕ) (step : Meaning) (p : Problem) → problem_of step ≡ Some p
+        → length (nodes p) ≤ step.settings.budget
         → ((rows : List ℕ) → is_design p rows ≡ false)
-        → step_output number step ≡ message (lines_of number step p.dimensions None) 1 }
+        → step_output number step ≡ message (step_lines number p.dimensions.q p.dimensions.m step.factors (NoDesign (length (nodes p)))) 1 }
+{}
+
+/// Status 2 comes of a step of a form that is built exactly where the nodes of its problem are more
+/// than its budget.
+pub fn budget_ends_where_nodes_pass_it()
+    ensures { (number : ℕ) (step : Meaning) (p : Problem) → problem_of step ≡ Some p
+        → ((step_output number step).status ≡ 2) ↔ (step.settings.budget < length (nodes p)) }
 {}
 
 /// What status 1 says of a step of a form that is built: that the runs of no rule matrix at all,
-/// canonical or not, meet what is asked, and just then it comes. The number of levels is one of the
-/// seven, and the resolution at least 3, as they are for each step of a text.
+/// canonical or not, meet what is asked; and where the nodes are within the budget, just then it
+/// comes. The number of levels is one of the seven, and the resolution at least 3, as they are for
+/// each step of a text.
 pub fn no_design_means_none_at_all()
-    ensures { (number : ℕ) (step : Meaning) (p : Problem) → problem_of step ≡ Some p
+    ensures told { (number : ℕ) (step : Meaning) (p : Problem) → problem_of step ≡ Some p
         → IsTrue (is_order p.dimensions.q)
         → IsReducible p.requirement
-        → ((step_output number step).status ≡ 1) ↔ NoneMeets p.dimensions p.requirement }
+        → (step_output number step).status ≡ 1
+        → NoneMeets p.dimensions p.requirement }
+    ensures comes { (number : ℕ) (step : Meaning) (p : Problem) → problem_of step ≡ Some p
+        → IsTrue (is_order p.dimensions.q)
+        → IsReducible p.requirement
+        → length (nodes p) ≤ step.settings.budget
+        → NoneMeets p.dimensions p.requirement
+        → (step_output number step).status ≡ 1 }
 {}

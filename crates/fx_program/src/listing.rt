@@ -1,30 +1,36 @@
-ghost use Rattle.std.specs.Prelude.{◌≡◌, ℕ, ◌++◌, ◌∷◌, [], ◌==◌, ◌<◌, ◌≤◌, ◌^◌, List, length, drop, if◌then◌else◌, OnOk, IfOk, IfSome, Some, None};
-ghost use Rattle.std.specs.Option.{option_map};
-ghost use Rattle.fx_program.specs.Listing.{term, ending, product, rule_of, rule_lines, heading, none_lines, design_lines, step_lines};
+ghost use Rattle.std.specs.Prelude.{◌≡◌, ℕ, ◌++◌, ◌∷◌, [], ◌==◌, ◌<◌, ◌≤◌, ◌^◌, List, map, length, if◌then◌else◌, OnOk, IfOk};
+ghost use Rattle.fx_designs.specs.Galois.{digits};
+ghost use Rattle.fx_vectors.specs.Shape.{IsShape};
+ghost use Rattle.fx_program.specs.Outcomes.{Design, NoDesign, BudgetEnded, outcome_in};
+ghost use Rattle.fx_program.specs.Listing.{IsListable, term, ending, product, rule_of, rule_lines, rules, heading, nodes_line, outcome_lines, step_lines};
 
 use fx_base::{Bytes, NoMemory, put, put_number};
+use fx_search::Asked;
 use fx_text::Names;
-use fx_vectors::{Matrix, Vector};
+use fx_vectors::{Matrix, Shape, Vector};
+use std::alloc::Global;
 
-/// Appends all lines of the step of this number, which has these factors of `q` levels, the size
-/// q^m, and this design or none.
+/// Appends all lines of the step of this number, which has these factors, asks for a design of this
+/// shape, and got this answer within the budget.
 pub fn put_step(
+    alloc: Global,
     out: &mut Bytes,
     number: usize,
-    q: u8,
-    m: u8,
+    shape: Shape,
     names: &Names,
-    design: &Option<Matrix>,
+    asked: &Asked,
+    budget: u64,
 ) -> Result<(), NoMemory>
-    requires size { q ^ m ≤ 1024 }
-    requires same { IfSome design.now (λ x. (x.shape.q ≡ q) × (x.shape.m ≡ m) × (length x.rows ≡ length names.now)) }
-    ensures { OnOk result (out.new ≡ out.old ++ step_lines number q m names.now (option_map (λ x. x.rows) design.now)) }
+    requires size { shape.q ^ shape.m ≤ 1024 }
+    requires same { IsListable shape (length names.now) asked.now }
+    ensures { OnOk result (out.new ≡ out.old ++ step_lines number shape.q shape.m names.now (outcome_in budget asked.now)) }
 {
-    put_heading(out, number, names.len(), q)?;
-    let runs = u128::from(q).pow(u32::from(m));
-    match design {
-        None => put_none(out, runs),
-        Some(matrix) => put_design(out, runs, names, matrix),
+    put_heading(out, number, names.len(), shape.q)?;
+    let runs = u128::from(shape.q).pow(u32::from(shape.m));
+    match asked {
+        Asked::Found { matrix, nodes, .. } => put_design(alloc, out, runs, *nodes, names, matrix),
+        Asked::Nothing { nodes, .. } => put_none(out, runs, *nodes),
+        Asked::Budget { .. } => put_budget(out, budget),
     }
 }
 
@@ -40,64 +46,132 @@ fn put_heading(out: &mut Bytes, number: usize, s: usize, q: u8) -> Result<(), No
     put(out, b"\n")
 }
 
-fn put_none(out: &mut Bytes, runs: u128) -> Result<(), NoMemory>
-    ensures { OnOk result (out.new ≡ out.old ++ none_lines runs) }
+fn put_budget(out: &mut Bytes, budget: u64) -> Result<(), NoMemory>
+    ensures { (q m : ℕ) (names : List (List ℕ)) → OnOk result (out.new ≡ out.old ++ outcome_lines q m names (BudgetEnded budget)) }
+{
+    put(out, b"budget ended after ")?;
+    put_number(out, u128::from(budget))?;
+    put(out, b" nodes\n")
+}
+
+fn put_none(out: &mut Bytes, runs: u128, nodes: u64) -> Result<(), NoMemory>
+    ensures { (q m : ℕ) (names : List (List ℕ)) → runs ≡ q ^ m → OnOk result (out.new ≡ out.old ++ outcome_lines q m names (NoDesign nodes)) }
 {
     put(out, b"no design in ")?;
     put_number(out, runs)?;
-    put(out, b" runs\n")
+    put(out, b" runs\n")?;
+    put_nodes(out, nodes)
 }
 
-fn put_design(out: &mut Bytes, runs: u128, names: &Names, matrix: &Matrix) -> Result<(), NoMemory>
-    requires { length matrix.now.rows ≡ length names.now }
-    ensures { OnOk result (out.new ≡ out.old ++ design_lines runs matrix.now.shape.q matrix.now.shape.m names.now matrix.now.rows) }
+fn put_nodes(out: &mut Bytes, nodes: u64) -> Result<(), NoMemory>
+    ensures { OnOk result (out.new ≡ out.old ++ nodes_line nodes) }
+{
+    put(out, b"nodes ")?;
+    put_number(out, u128::from(nodes))?;
+    put(out, b"\n")
+}
+
+fn put_design(
+    alloc: Global,
+    out: &mut Bytes,
+    runs: u128,
+    nodes: u64,
+    names: &Names,
+    matrix: &Matrix,
+) -> Result<(), NoMemory>
+    requires same { length matrix.now.rows ≡ length names.now }
+    requires runs { runs ≡ matrix.now.shape.q ^ matrix.now.shape.m }
+    ensures { OnOk result (out.new ≡ out.old ++ outcome_lines matrix.now.shape.q matrix.now.shape.m names.now (Design matrix.now.rows nodes)) }
 {
     put(out, b"design ")?;
     put_number(out, runs)?;
-    put(out, b" runs\nrules\n")?;
-    let m = usize::from(matrix.shape().m);
-    if names.len() <= m {
-        return put(out, b"  none\n");
-    }
-    put_rules(out, names, matrix)
+    put(out, b" runs\n")?;
+    put_nodes(out, nodes)?;
+    put(out, b"rules\n")?;
+    put_rules(alloc, out, names, matrix)
 }
 
-/// Appends the rules of the factors after the first m.
-fn put_rules(out: &mut Bytes, names: &Names, matrix: &Matrix) -> Result<(), NoMemory>
-    requires same { length matrix.now.rows ≡ length names.now }
-    requires later { matrix.now.shape.m < length names.now }
-    ensures { let m = matrix.now.shape.m in
-        OnOk result (out.new ≡ out.old ++ rule_lines matrix.now.shape.q m names.now (drop m names.now) (drop m matrix.now.rows)) }
+/// Appends the rules of a design, or that there are none.
+fn put_rules(
+    alloc: Global,
+    out: &mut Bytes,
+    names: &Names,
+    matrix: &Matrix,
+) -> Result<(), NoMemory>
+    requires { length matrix.now.rows ≡ length names.now }
+    ensures { OnOk result (out.new ≡ out.old ++ rules matrix.now.shape.q matrix.now.shape.m names.now matrix.now.rows) }
 {
-    let shape = matrix.shape();
-    let field = shape.field();
-    let m = usize::from(shape.m);
-    for k in m..names.len() {
-        let row = Vector::of_number(field, m, u128::from(matrix.row(k)));
-        put_rule(out, names, names.get(k), &row)?;
+    let before = out.len();
+    put_rule_lines(alloc, out, names, matrix)?;
+    if out.len() == before {
+        return put(out, b"  none\n");
     }
     Ok(())
 }
 
-fn put_rule(out: &mut Bytes, names: &Names, name: &Bytes, row: &Vector) -> Result<(), NoMemory>
-    requires { length row.now ≤ length names.now }
-    ensures { OnOk result (out.new ≡ out.old ++ rule_of names.now name.now row.now) }
+/// Appends the rules of the factors that introduce no run index.
+fn put_rule_lines(
+    alloc: Global,
+    out: &mut Bytes,
+    names: &Names,
+    matrix: &Matrix,
+) -> Result<(), NoMemory>
+    requires { length matrix.now.rows ≡ length names.now }
+    ensures { OnOk result (out.new ≡ out.old ++ rule_lines matrix.now.shape.q matrix.now.shape.m [] names.now matrix.now.rows) }
 {
+    let shape = matrix.shape();
+    let mut introduced: Vec<&Bytes> = Vec::new(alloc);
+    for k in 0..matrix.len() {
+        let name = names.get(k);
+        let row = matrix.row(k);
+        if is_next_unit(shape, introduced.len(), row) {
+            if introduced.push(name).is_err() {
+                return Err(NoMemory);
+            }
+            continue;
+        }
+        put_rule(out, introduced.as_slice(), name, shape, row)?;
+    }
+    Ok(())
+}
+
+/// Whether the row is the next unit vector, where `count` run indexes are introduced.
+fn is_next_unit(shape: Shape, count: usize, row: u16) -> bool
+    requires shaped { IsShape shape }
+    requires count { count ≤ shape.m }
+    ensures { result ≡ (row == shape.q ^ count) }
+{
+    u32::from(row) == u32::from(shape.q).pow(count as u32)
+}
+
+fn put_rule(
+    out: &mut Bytes,
+    introduced: &[&Bytes],
+    name: &Bytes,
+    shape: Shape,
+    row: u16,
+) -> Result<(), NoMemory>
+    requires shaped { IsShape shape }
+    requires below { row < shape.q ^ shape.m }
+    requires few { length introduced.now ≤ shape.m }
+    ensures { OnOk result (out.new ≡ out.old ++ rule_of (map (λ n. n.now) introduced.now) name.now (digits shape.q shape.m row)) }
+{
+    let row = Vector::of_number(shape.field(), usize::from(shape.m), u128::from(row));
     put(out, b"  ")?;
     put(out, name.as_slice())?;
     put(out, b" = ")?;
-    put_product(out, names, row)?;
+    put_product(out, introduced, &row)?;
     put(out, b"\n")
 }
 
-/// Appends the product of a vector over the first of the named factors.
-fn put_product(out: &mut Bytes, names: &Names, u: &Vector) -> Result<(), NoMemory>
-    requires { length u.now ≤ length names.now }
-    ensures { OnOk result (out.new ≡ out.old ++ product names.now u.now) }
+/// Appends the product of a vector over the named factors.
+fn put_product(out: &mut Bytes, names: &[&Bytes], u: &Vector) -> Result<(), NoMemory>
+    requires { length names.now ≤ length u.now }
+    ensures { OnOk result (out.new ≡ out.old ++ product (map (λ n. n.now) names.now) u.now) }
 {
     let mut is_first = true;
-    for i in 0..u.len() {
-        is_first = put_entry(out, names.get(i), u.code(i), is_first)?;
+    for i in 0..names.len() {
+        is_first = put_entry(out, names[i], u.code(i), is_first)?;
     }
     if is_first {
         return put(out, b"0");

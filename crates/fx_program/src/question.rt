@@ -1,82 +1,107 @@
-ghost use Rattle.std.specs.Prelude.{◌≡◌, ◌≤◌, true, IfSome, Some, None, if◌then◌else◌};
-ghost use Rattle.std.specs.Option.{option_map};
-ghost use Rattle.fx_vectors.specs.Question.{problem_of as question_problem};
-ghost use Rattle.fx_search.specs.Small.{IsSmall};
-ghost use Rattle.fx_settings.specs.declared.settings.Size.TheVariants.{Runs};
-ghost use Rattle.fx_settings.specs.declared.settings.Wanted.TheVariants.{Resolution};
-ghost use Rattle.fx_settings.specs.Settings.{is_level};
-ghost use Rattle.fx_settings.specs.Valid.{has_blocks, is_size, is_wanted};
+ghost use Rattle.std.specs.Prelude.{◌≡◌, true, false, IfOk, Some, None, length};
+ghost use Rattle.std.specs.Option.{is_some};
+ghost use Rattle.fx_vectors.specs.Question.{IsValid, problem_of as question_problem, requirement_of as demanded};
+ghost use Rattle.fx_settings.specs.Valid.{has_blocks};
+ghost use Rattle.fx_statements.specs.Goals.{goal_of};
 ghost use Rattle.fx_statements.specs.Steps.{meaning_of};
-ghost use Rattle.fx_program.specs.Problems.{asks_nothing, at_resolution, is_plain, is_simple, is_small, problem_of};
+ghost use Rattle.fx_program.specs.Problems.{asks_nothing, has_runs, is_plain, problem_of, requirement_of};
 ghost use Rattle.fx_program.specs.Texts.{is_built};
 
+use fx_base::NoMemory;
 use fx_statements::{Blocks, Examine, Size, Step, Wanted};
-use fx_vectors::{Demands, Question, Shape};
+use fx_vectors::{Demands, Effects, Question, Shape};
+use std::alloc::Global;
 
-/// The question that a step asks, where its form is built.
-pub(crate) fn question_of(step: &Step) -> Option<Question>
-    ensures problem { option_map question_problem result ≡ problem_of (meaning_of step.now) }
-    ensures small { IfSome result IsSmall }
+/// The question that a step of a form that is built asks.
+pub(crate) fn question_of(alloc: Global, step: &Step) -> Result<Question, NoMemory>
+    requires { is_built (meaning_of step.now) ≡ true }
+    ensures problem { IfOk result (λ question. problem_of (meaning_of step.now) ≡ Some (question_problem question)) }
+    ensures valid { IfOk result IsValid }
+    ensures not_least { IfOk result (λ question. question.least ≡ false) }
+    ensures factors { IfOk result (λ question. question.shape.s ≡ length step.now.factors) }
+    ensures no_blocks { IfOk result (λ question. question.shape.t ≡ 0) }
 {
-    if !is_plain(step) {
-        return None;
+    match step.size {
+        Size::Runs { m } => {
+            let shape = Shape {
+                q: step.q,
+                m,
+                s: step.factors.len() as u8,
+                t: 0,
+            };
+            Ok(Question {
+                shape,
+                demands: demands_of(alloc, &step.wanted)?,
+                least: false,
+            })
+        }
+        Size::Minimum => unreachable!(),
     }
-    let s = step.factors.len() as u8;
-    match (step.size, step.wanted) {
-        (Size::Runs { m }, Wanted::Resolution { r }) => small_question(step.q, m, s, r),
-        (Size::Runs { .. }, Wanted::Highest) | (Size::Minimum, _) => None,
+}
+
+/// What is demanded of one design.
+fn demands_of(alloc: Global, wanted: &Wanted) -> Result<Demands, NoMemory>
+    requires { is_some (requirement_of (goal_of wanted.now)) ≡ true }
+    ensures { IfOk result (λ demands. requirement_of (goal_of wanted.now) ≡ Some (demanded demands)) }
+{
+    match wanted {
+        Wanted::Resolution { r } => Ok(Demands::Resolution { r: *r }),
+        Wanted::Highest => unreachable!(),
+        Wanted::Effects {
+            estimate,
+            nonnegligible,
+        } => Ok(Demands::Effects {
+            estimate: copy(alloc, estimate)?,
+            nonnegligible: copy(alloc, nonnegligible)?,
+        }),
     }
+}
+
+/// The same effects.
+fn copy(alloc: Global, effects: &Effects) -> Result<Effects, NoMemory>
+    ensures { IfOk result (λ copied. copied ≡ effects.now) }
+{
+    let mut copied = Effects::new(alloc);
+    copied.extend_from_slice(effects.as_slice())?;
+    Ok(copied)
 }
 
 /// Whether a step is of a form that is built.
 pub(crate) fn is_built(step: &Step) -> bool
     ensures { result ≡ is_built (meaning_of step.now) }
 {
-    question_of(step).is_some()
+    is_plain(step) && has_runs(step.size) && asks_for_one(&step.wanted)
 }
 
-/// The question for a design of `s` factors in q^m runs, of the resolution `r` at least, where it
-/// has at most 16 runs and 8 factors.
-fn small_question(q: u8, m: u8, s: u8, r: u8) -> Option<Question>
-    requires levels { is_level q ≡ true }
-    requires size { is_size q (Runs m) ≡ true }
-    requires factors { 1 ≤ s }
-    requires resolution { is_wanted (Resolution r) ≡ true }
-    ensures problem { option_map question_problem result ≡ (if is_small q m s then Some (at_resolution q m s r) else None) }
-    ensures small { IfSome result IsSmall }
+/// Whether the number of runs is fixed.
+fn has_runs(size: Size) -> bool
+    ensures { result ≡ has_runs size }
 {
-    if !is_small(q, m, s) {
-        return None;
+    match size {
+        Size::Runs { .. } => true,
+        Size::Minimum => false,
     }
-    Some(Question {
-        shape: Shape { q, m, s, t: 0 },
-        demands: Demands::Resolution { r },
-        least: false,
-    })
 }
 
-/// At most 16 runs, and 1 to 8 factors.
-fn is_small(q: u8, m: u8, s: u8) -> bool
-    requires levels { is_level q ≡ true }
-    requires size { is_size q (Runs m) ≡ true }
-    ensures { result ≡ is_small q m s }
+/// Whether one design is asked for, and not the best.
+fn asks_for_one(wanted: &Wanted) -> bool
+    ensures { result ≡ is_some (requirement_of (goal_of wanted.now)) }
 {
-    u32::from(q).pow(u32::from(m)) <= 16 && 1 <= s && s <= 8
+    match wanted {
+        Wanted::Resolution { .. } | Wanted::Effects { .. } => true,
+        Wanted::Highest => false,
+    }
 }
 
-/// Whether nothing is asked that is not built: no blocks, no least aberration, no other budget, no
-/// section and no file.
+/// Whether nothing is asked that is not built: no blocks, no least aberration, no section and no
+/// file.
 fn is_plain(step: &Step) -> bool
     ensures { result ≡ is_plain (meaning_of step.now) }
 {
-    is_simple(step) && asks_nothing(step.examine) && step.outputs.is_empty()
-}
-
-/// No blocks, no least aberration, and the usual budget.
-fn is_simple(step: &Step) -> bool
-    ensures { result ≡ is_simple (meaning_of step.now) }
-{
-    !has_blocks(step.blocks) && !step.least && step.budget == 1_000_000
+    !has_blocks(step.blocks)
+        && !step.least
+        && asks_nothing(step.examine)
+        && step.outputs.is_empty()
 }
 
 fn has_blocks(blocks: Blocks) -> bool

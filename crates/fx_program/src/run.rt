@@ -7,7 +7,9 @@ ghost use Rattle.fx_vectors.specs.Shape.{dimensions_of};
 ghost use Rattle.fx_statements.specs.Steps.{meaning_of};
 ghost use Rattle.fx_program.specs.Words.{settings_of};
 ghost use Rattle.fx_program.specs.Texts.{is_built, program_in};
-ghost use Rattle.fx_program.specs.Output.{lines_of, status_of, message, step_output, program_output, output_of, reads, worse, IsTextOf, world, Ends};
+ghost use Rattle.fx_program.specs.Outcomes.{outcome_in, status_of};
+ghost use Rattle.fx_program.specs.Listing.{IsListable, step_lines};
+ghost use Rattle.fx_program.specs.Output.{message, step_output, program_output, output_of, reads, worse, IsTextOf, world, Ends};
 
 use crate::listing::put_step;
 use crate::question::question_of;
@@ -15,9 +17,9 @@ use crate::refusal::put_fault;
 use crate::text::{TextFault, TextStop, at_front, read_program};
 use crate::words::{Settings, read_words, word_line};
 use fx_base::{Bytes, NoMemory, ReadStop, Shelf, Sink, Source, Taken, read_all, write_all};
-use fx_search::first;
+use fx_search::{Asked, ask_alone};
 use fx_statements::Step;
-use fx_vectors::{Matrix, Shape};
+use fx_vectors::Shape;
 use std::alloc::Global;
 
 /// The greatest number of bytes of a program text.
@@ -26,8 +28,8 @@ const TEXT_LIMIT: usize = 1048576;
 /// Does all that the program does, for the words of the command line without the program's name,
 /// and answers its exit status.
 ///
-/// 0: each step has a design, or there is no step. 1: some step has none. 3: the words or the text
-/// are refused. 4: a call on the source, the listing or the shelf failed. 5: memory ran out.
+/// 0: each step has a design, or there is no step. 1: some step has none. 2: the budget of some step
+/// ended. 3: the words or the text are refused. 4: a call on the source, the listing or the shelf failed. 5: memory ran out.
 pub fn factex<S: Source, K: Sink, F: Shelf>(
     alloc: Global,
     words: &[Vec<u8>],
@@ -141,44 +143,47 @@ fn give_step<K: Sink>(alloc: Global, number: usize, step: &Step, listing: &mut K
     ensures kept { result ≢ 4 → K.faults listing.new ≡ K.faults listing.old }
     ensures room { K.room listing.new ≡ K.room listing.old }
 {
-    let question = question_of(step).unwrap();
-    let design = match first(&question) {
-        Ok(design) => design,
+    let question = match question_of(alloc, step) {
+        Ok(question) => question,
         Err(_) => return 5,
     };
-    let status = status_of(&design);
-    match lines_of(alloc, number, step, question.shape, &design) {
+    let asked = match ask_alone(alloc, &question, step.budget) {
+        Ok(asked) => asked,
+        Err(_) => return 5,
+    };
+    let status = status_of(&asked);
+    match lines_of(alloc, number, step, question.shape, &asked) {
         Ok(lines) => say(listing, lines.as_slice(), status),
         Err(_) => 5,
     }
 }
 
-/// 0 for a design, 1 for none.
-fn status_of(design: &Option<Matrix>) -> u8
-    ensures status { result ≡ status_of (option_map (λ x. x.rows) design.now) }
+/// 0 for a design, 1 for none, 2 where the budget ended.
+fn status_of(asked: &Asked) -> u8
+    ensures status { (budget : ℕ) → result ≡ status_of (outcome_in budget asked.now) }
     ensures low { result < 4 }
 {
-    match design {
-        Some(_) => 0,
-        None => 1,
+    match asked {
+        Asked::Found { .. } => 0,
+        Asked::Nothing { .. } => 1,
+        Asked::Budget { .. } => 2,
     }
 }
 
-/// All lines of the step of this number, with this design of the shape, or none.
+/// All lines of the step of this number, which asks for a design of this shape, with the answer.
 fn lines_of(
     alloc: Global,
     number: usize,
     step: &Step,
     shape: Shape,
-    design: &Option<Matrix>,
+    asked: &Asked,
 ) -> Result<Bytes, NoMemory>
     requires size { shape.q ^ shape.m ≤ 1024 }
-    requires same { IfSome design.now (λ x. (x.shape ≡ shape) × (length x.rows ≡ length step.now.factors)) }
-    ensures { IfOk result (λ lines. lines ≡ lines_of number (meaning_of step.now) (dimensions_of shape)
-        (option_map (λ x. x.rows) design.now)) }
+    requires same { IsListable shape (length step.now.factors) asked.now }
+    ensures { IfOk result (λ lines. lines ≡ step_lines number shape.q shape.m step.now.factors (outcome_in step.now.budget asked.now)) }
 {
     let mut lines = Bytes::new(alloc);
-    put_step(&mut lines, number, shape.q, shape.m, &step.factors, design)?;
+    put_step(alloc, &mut lines, number, shape, &step.factors, asked, step.budget)?;
     Ok(lines)
 }
 

@@ -1,15 +1,14 @@
-use Rattle.std.proofs.Common.{◌≡◌, OnOk, sym, ◌∙◌, arith, subst, append-nil}
-use Rattle.fx_program.proofs.Products.{no_terms}
+use Rattle.std.proofs.Common.{ℕ, ◌≡◌, ◌+◌, List, [], ◌∷◌, ◌++◌, map, drop, get_or, suc, sym, ap, ◌∙◌, arith}
+use Rattle.fx_program.specs.Listing.{ending, terms}
+use Rattle.fx_program.proofs.Products.{next_entry}
 use Rattle.fx_program.proofs.listing.put_product.Goals as goal
 
-pub returns-then-is_first : goal.returns-then-is_first
-returns-then-is_first c =
-    let none = no_terms c.args.names.now c.args.u.now c.loop-i.i (omega arith) in
-    let h = rw (none, c.if-is_first.true) at c.loop-i.invariant in
-    subst (λ z. OnOk c.put.result (c.put.new.out ≡ z)) h c.put.ensures.ok
-
-pub returns : goal.returns
-returns c =
-    let none = no_terms c.args.names.now c.args.u.now c.loop-i.i (omega arith) in
-    let h = rw (none, c.if-is_first.false) at c.loop-i.invariant in
-    sym (append-nil c.loop-i.out) ∙ h
+pub loop-i-preserved : goal.loop-i-preserved
+loop-i-preserved c =
+    let names = map (λ n. n.now) c.args.names.now in
+    let one : c.loop-i.i + 1 ≡ suc c.loop-i.i = omega arith in
+    let rest : List (List ℕ) = terms (drop (suc c.loop-i.i) names) (drop (suc c.loop-i.i) c.args.u.now) in
+    let next = next_entry (λ n. n.now) c.args.names.now c.index-names-i.result c.args.u.now c.loop-i.i c.loop-i-test.true (omega (arith, c.requires)) in
+    let step = rw (c.index-names-i.is, c.code.ensures) at (c.in_ok-is_first.ensures rest) in
+    ap (λ k. c.put_entry.new.out ++ ending c.in_ok-is_first.is_first (terms (drop k names) (drop k c.args.u.now))) one
+    ∙ step ∙ ap (λ ts. c.loop-i.out ++ ending c.loop-i.is_first ts) (sym next) ∙ c.loop-i.invariant
