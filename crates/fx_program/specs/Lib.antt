@@ -6,3 +6,4 @@ pub mod Texts
 pub mod Outcomes
 pub mod Listing
 pub mod Output
+pub mod Claims

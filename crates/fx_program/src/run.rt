@@ -8,6 +8,7 @@ ghost use Rattle.fx_statements.specs.Steps.{meaning_of};
 ghost use Rattle.fx_program.specs.Words.{settings_of};
 ghost use Rattle.fx_program.specs.Texts.{is_built, program_in};
 ghost use Rattle.fx_program.specs.Outcomes.{outcome_in, status_of};
+ghost use Rattle.fx_program.specs.Claims.{NoDesignMeansNone};
 ghost use Rattle.fx_program.specs.Listing.{IsListable, step_lines};
 ghost use Rattle.fx_program.specs.Output.{message, step_output, program_output, output_of, reads, worse, IsTextOf, world, Ends};
 
@@ -63,6 +64,12 @@ pub fn factex<S: Source, K: Sink, F: Shelf>(
     ensures refused { reads (settings_of (map (λ w. w.items) words.now)) ≡ false
         → (result ≡ 3) ⊎ (result ≡ 4) }
 
+    // Where a step of the text is told to have no design, no rule matrix at all meets what it asks.
+    ensures none_at_all { result < 4 → (text : List ℕ)
+        → reads (settings_of (map (λ w. w.items) words.now)) ≡ true
+        → S.left source.old ≡ Some text
+        → NoDesignMeansNone (program_in text) }
+
     // A design, or that there is none, comes only with the source read to its end.
     ensures to_end { result < 3 → (text : List ℕ)
         → S.left source.old ≡ Some text
@@ -86,6 +93,9 @@ fn run<S: Source, K: Sink>(alloc: Global, source: &mut S, listing: &mut K) -> u8
     ensures kept { result ≢ 4 → (S.faults source.new ≡ S.faults source.old)
         × (K.faults listing.new ≡ K.faults listing.old) }
     ensures rooms { (S.sure source.new ≡ S.sure source.old) × (K.room listing.new ≡ K.room listing.old) }
+    ensures none_at_all { result < 4 → (text : List ℕ)
+        → S.left source.old ≡ Some text
+        → NoDesignMeansNone (program_in text) }
     ensures to_end { result < 3 → (text : List ℕ)
         → S.left source.old ≡ Some text
         → S.left source.new ≡ Some [] }
