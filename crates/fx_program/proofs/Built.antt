@@ -112,8 +112,7 @@ module _ (step : Step) where
   -- the levels are those of a field, and the requirement can be brought to canonical form
   pub step_reducible : (p : Problem) → problem_of (meaning_of step) ≡ Some p → IsTrue (is_order p.dimensions.q) × IsReducible p.requirement
   step_reducible p e =
-      let built = is_built (meaning_of step) p e in
-      (
+      let built = is_built (meaning_of step) p e in (
         subst (λ q. IsTrue (is_order q)) (sym built.levels) (order_of_levels step.q level),
         reducible (record { q = step.q; m = 0; s = length step.factors; t = 0 }) p.requirement (can_be_asked step.q 0 (length step.factors) step.wanted p.requirement built.asked criterion step.told),
       )
@@ -136,6 +135,6 @@ module _ (step : Step) where
           factors_in_blocks = λ h. absurd (omega (arith, h));
         };
         asked = subst (λ n. CanBeAsked (record { q = step.q; m = m; s = n; t = 0 }) (questions.requirement_of demands)) (sym count)
-        (can_be_asked step.q m (length step.factors) step.wanted (questions.requirement_of demands) asked criterion step.told);
+            (can_be_asked step.q m (length step.factors) step.wanted (questions.requirement_of demands) asked criterion step.told);
         least = λ h. absurd (cc h);
       }

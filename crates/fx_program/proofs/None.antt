@@ -48,13 +48,12 @@ module _ (number : ℕ) (step : Meaning) (p : Problem) (is : problem_of step ≡
 -- each step that is read from a text states a problem whose matrices can be brought to canonical form
 steps_of : (steps : List Step) → AllByRecursion HasNoneAtAll (map meaning_of steps)
 steps_of [] = tt
-steps_of (step ∷ steps) =
-    (
-      λ number p is one.
-          let h = step_reducible step p is in
-          none_told number (meaning_of step) p is h.0 h.1 one,
-      steps_of steps,
-    )
+steps_of (step ∷ steps) = (
+  λ number p is one.
+      let h = step_reducible step p is in
+      none_told number (meaning_of step) p is h.0 h.1 one,
+  steps_of steps,
+)
 
 pub none_of_steps : (steps : List Step) → NoDesignMeansNone (Ok (map meaning_of steps))
 none_of_steps steps = All-from_recursion HasNoneAtAll (map meaning_of steps) (steps_of steps)

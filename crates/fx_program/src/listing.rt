@@ -92,12 +92,7 @@ fn put_design(
 }
 
 /// Appends the rules of a design, or that there are none.
-fn put_rules(
-    alloc: Global,
-    out: &mut Bytes,
-    names: &Names,
-    matrix: &Matrix,
-) -> Result<(), NoMemory>
+fn put_rules(alloc: Global, out: &mut Bytes, names: &Names, matrix: &Matrix) -> Result<(), NoMemory>
     requires { length matrix.now.rows ≡ length names.now }
     ensures { OnOk result (out.new ≡ out.old ++ rules matrix.now.shape.q matrix.now.shape.m names.now matrix.now.rows) }
 {

@@ -98,10 +98,7 @@ fn asks_for_one(wanted: &Wanted) -> bool
 fn is_plain(step: &Step) -> bool
     ensures { result ≡ is_plain (meaning_of step.now) }
 {
-    !has_blocks(step.blocks)
-        && !step.least
-        && asks_nothing(step.examine)
-        && step.outputs.is_empty()
+    !has_blocks(step.blocks) && !step.least && asks_nothing(step.examine) && step.outputs.is_empty()
 }
 
 fn has_blocks(blocks: Blocks) -> bool

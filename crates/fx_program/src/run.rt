@@ -193,7 +193,15 @@ fn lines_of(
     ensures { IfOk result (λ lines. lines ≡ step_lines number shape.q shape.m step.now.factors (outcome_in step.now.budget asked.now)) }
 {
     let mut lines = Bytes::new(alloc);
-    put_step(alloc, &mut lines, number, shape, &step.factors, asked, step.budget)?;
+    put_step(
+        alloc,
+        &mut lines,
+        number,
+        shape,
+        &step.factors,
+        asked,
+        step.budget,
+    )?;
     Ok(lines)
 }
 

@@ -41,40 +41,82 @@ fn ran(
 
 const HALF: &str = "proc factex;\nfactors A B C D;\nsize design=8;\nmodel resolution=4;\nrun;\n";
 
-const HALF_LISTING: &str = "step 1\nfactors 4 levels 2\ndesign 8 runs\nrules\n  D = A*B*C\n";
+const HALF_LISTING: &str =
+    "step 1\nfactors 4 levels 2\ndesign 8 runs\nnodes 4\nrules\n  D = A*B*C\n";
 
 /// Each text with its listing and status.
-const PROGRAMS: [(&str, &str, u8); 9] = [
+const PROGRAMS: [(&str, &str, u8); 17] = [
     (HALF, HALF_LISTING, 0),
     (
         "PROC Factex ;factors A B C D E;\tsize\ndesign = 8;model res=4;run;",
-        "step 1\nfactors 5 levels 2\nno design in 8 runs\n",
+        "step 1\nfactors 5 levels 2\nno design in 8 runs\nnodes 10\n",
         1,
     ),
     (
         "proc factex;factors A;model r=3;",
-        "step 1\nfactors 1 levels 2\ndesign 2 runs\nrules\n  none\n",
+        "step 1\nfactors 1 levels 2\ndesign 2 runs\nnodes 1\nrules\n  none\n",
         0,
     ),
     (
         "proc factex;factors A B C D E F G;size fraction=8;model resolution=4;run;",
-        "step 1\nfactors 7 levels 2\ndesign 16 runs\nrules\n  E = B*C*D\n  F = A*C*D\n  G = A*B*D\n",
+        "step 1\nfactors 7 levels 2\ndesign 16 runs\nnodes 19\nrules\n  E = B*C*D\n  F = A*C*D\n  G = A*B*D\n",
+        0,
+    ),
+    (
+        "proc factex;factors X1-X8;size design=8;model resolution=3;",
+        "step 1\nfactors 8 levels 2\nno design in 8 runs\nnodes 18\n",
+        1,
+    ),
+    (
+        "proc factex;factors A;size design=1024;model resolution=99;",
+        "step 1\nfactors 1 levels 2\ndesign 1024 runs\nnodes 1\nrules\n  none\n",
         0,
     ),
     (
         "proc factex;factors A B C D / nlev=3;size design=9;model resolution=3;",
-        "step 1\nfactors 4 levels 3\ndesign 9 runs\nrules\n  C = A^2*B\n  D = A*B\n",
+        "step 1\nfactors 4 levels 3\ndesign 9 runs\nnodes 4\nrules\n  C = A^2*B\n  D = A*B\n",
         0,
     ),
     (
         "proc factex;factors A B C D E / nlev=3;size design=9;model resolution=3;",
-        "step 1\nfactors 5 levels 3\nno design in 9 runs\n",
+        "step 1\nfactors 5 levels 3\nno design in 9 runs\nnodes 5\n",
         1,
+    ),
+    (
+        "proc factex;factors A B C D;size design=8;model estimate=(A B C A*B);",
+        "step 1\nfactors 4 levels 2\ndesign 8 runs\nnodes 4\nrules\n  D = A*B*C\n",
+        0,
+    ),
+    (
+        "proc factex;factors A B;size design=2;model estimate=(A B);",
+        "step 1\nfactors 2 levels 2\nno design in 2 runs\nnodes 4\n",
+        1,
+    ),
+    (
+        "proc factex;factors A B;size design=2;model estimate=(A) nonnegligible=(B);",
+        "step 1\nfactors 2 levels 2\ndesign 2 runs\nnodes 3\nrules\n  B = 0\n",
+        0,
+    ),
+    (
+        "proc factex;factors A B;size design=2;model estimate=(B);",
+        "step 1\nfactors 2 levels 2\ndesign 2 runs\nnodes 2\nrules\n  B = A\n",
+        0,
+    ),
+    (
+        "proc factex nodes=1;factors A B;size design=4;model resolution=3;",
+        "step 1\nfactors 2 levels 2\nbudget ended after 1 nodes\n",
+        2,
+    ),
+    (
+        "proc factex nodes=9;factors A B C D E;size design=8;model resolution=4;
+        proc factex nodes=10;factors A B C D E;size design=8;model resolution=4;",
+        "step 1\nfactors 5 levels 2\nbudget ended after 9 nodes\nstep 2\nfactors 5 levels 2\nno design in 8 runs\nnodes 10\n",
+        2,
     ),
     (
         "/* two */ proc factex; factors X1-X2; size nrunfacs=2; model res=3; examine confounding; quit;
         * the second; proc factex; factors A B C; size design=2; model res=3; run;",
-        "step 1\nfactors 2 levels 2\ndesign 4 runs\nrules\n  none\nstep 2\nfactors 3 levels 2\nno design in 2 runs\n",
+        "step 1\nfactors 2 levels 2\ndesign 4 runs\nnodes 2\nrules\n  none\nstep 2\nfactors 3 levels 2\nno design in 2 runs\nnodes 1\n",
         1,
     ),
     ("", "", 0),
@@ -94,7 +136,7 @@ fn programs_have_their_listing(rt: HostRuntime) -> Result<(), Fail> {
 }
 
 /// Each text that is refused, with its message.
-const REFUSED: [(&str, &str); 14] = [
+const REFUSED: [(&str, &str); 18] = [
     (
         "proc factex;\nfactors A B C;\nsize design=8;\nsize design=8;\nrun;\n",
         "E26 4:1 statement is repeated in the step",
@@ -134,14 +176,30 @@ const REFUSED: [(&str, &str); 14] = [
     ("proc factex;\nfactors A 'b", "L2 2:11 string is not closed"),
     (
         "proc factex; factors A B C; size design=8; model estimate=(A B Z);",
-        "E0 1:1 not built yet",
+        "E4 1:64 factor is not known",
+    ),
+    (
+        "proc factex; factors A B C; size design=8; model estimate=(A) / minabs;",
+        "E12 1:65 MINABS with ESTIMATE",
     ),
     (
         "proc factex; factors A B C; size design=8;",
         "E0 1:1 not built yet",
     ),
     (
-        "proc factex; factors A; size design=32; model resolution=3;",
+        "proc factex; factors A B C; model resolution=3 / minabs;",
+        "E0 1:1 not built yet",
+    ),
+    (
+        "proc factex; factors A B C; size design=min; model resolution=3;",
+        "E0 1:1 not built yet",
+    ),
+    (
+        "proc factex; factors A B C; model resolution=3; blocks nblocks=2;",
+        "E0 1:1 not built yet",
+    ),
+    (
+        "proc factex; factors A B C; model resolution=3; output out=plan;",
         "E0 1:1 not built yet",
     ),
     (
