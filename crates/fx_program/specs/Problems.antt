@@ -3,11 +3,10 @@ use Rattle.std.specs.Prelude.{ℕ, ◌^◌, ◌==◌, nat_le, not, ◌&&◌, ◌
 use Rattle.fx_designs.specs.Problems.{Problem, AtResolution}
 use Rattle.fx_settings.specs.declared.settings.Size.{Size}
 use Rattle.fx_settings.specs.declared.settings.Size.TheVariants.{Runs, Minimum}
-use Rattle.fx_settings.specs.declared.settings.Wanted.{Wanted}
-use Rattle.fx_settings.specs.declared.settings.Wanted.TheVariants.{Resolution, Highest}
 use Rattle.fx_settings.specs.Valid.{has_blocks}
 use Rattle.fx_outputs.specs.declared.output.OutputSpec.{OutputSpec}
 use Rattle.fx_statements.specs.declared.examine.Examine.{Examine}
+use Rattle.fx_statements.specs.Goals.{Goal, AtLeast, Highest, ForEffects}
 use Rattle.fx_statements.specs.Steps.{Meaning}
 
 -- no section of the listing is asked for besides the rules
@@ -26,10 +25,12 @@ at_resolution q m s r = record { dimensions = record { q = q; m = m; s = s; t = 
 abbrev pub is_small : ℕ → ℕ → ℕ → Bool
 is_small q m s = nat_le (q ^ m) 16 && nat_le 1 s && nat_le s 8
 
-abbrev pub problem_by : ℕ → ℕ → Size → Wanted → Option Problem
-problem_by q s (Runs m) (Resolution r) = if is_small q m s then Some (at_resolution q m s r) else None
+-- that of s factors in q levels, where the size and what is wanted are built
+abbrev pub problem_by : ℕ → ℕ → Size → Goal → Option Problem
+problem_by q s (Runs m) (AtLeast r) = if is_small q m s then Some (at_resolution q m s r) else None
 problem_by q s (Runs m) Highest = None
-problem_by q s Minimum wanted = None
+problem_by q s (Runs m) (ForEffects estimate nonnegligible) = None
+problem_by q s Minimum goal = None
 
 -- no blocks, no least aberration, and the usual budget
 abbrev pub is_simple : Meaning → Bool
@@ -42,4 +43,4 @@ is_plain step = is_simple step && asks_nothing step.examine && is_empty step.out
 -- the problem that a step states, where its form is built
 abbrev pub problem_of : Meaning → Option Problem
 problem_of step =
-    if is_plain step then problem_by step.settings.q (length step.factors) step.settings.size step.settings.wanted else None
+    if is_plain step then problem_by step.settings.q (length step.factors) step.settings.size step.goal else None

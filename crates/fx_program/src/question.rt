@@ -3,9 +3,9 @@ ghost use Rattle.std.specs.Option.{option_map};
 ghost use Rattle.fx_vectors.specs.Question.{problem_of as question_problem};
 ghost use Rattle.fx_search.specs.Small.{IsSmall};
 ghost use Rattle.fx_settings.specs.declared.settings.Size.TheVariants.{Runs};
-ghost use Rattle.fx_settings.specs.declared.settings.Wanted.TheVariants.{Resolution};
+ghost use Rattle.fx_settings.specs.declared.settings.Criterion.TheVariants.{Resolution};
 ghost use Rattle.fx_settings.specs.Settings.{is_level};
-ghost use Rattle.fx_settings.specs.Valid.{has_blocks, is_size, is_wanted};
+ghost use Rattle.fx_settings.specs.Valid.{has_blocks, is_criterion, is_size};
 ghost use Rattle.fx_statements.specs.Steps.{meaning_of};
 ghost use Rattle.fx_program.specs.Problems.{asks_nothing, at_resolution, is_plain, is_simple, is_small, problem_of};
 ghost use Rattle.fx_program.specs.Texts.{is_built};
@@ -22,9 +22,9 @@ pub(crate) fn question_of(step: &Step) -> Option<Question>
         return None;
     }
     let s = step.factors.len() as u8;
-    match (step.size, step.wanted) {
-        (Size::Runs { m }, Wanted::Resolution { r }) => small_question(step.q, m, s, r),
-        (Size::Runs { .. }, Wanted::Highest) | (Size::Minimum, _) => None,
+    match (step.size, &step.wanted) {
+        (Size::Runs { m }, Wanted::Resolution { r }) => small_question(step.q, m, s, *r),
+        (Size::Runs { .. }, Wanted::Highest | Wanted::Effects { .. }) | (Size::Minimum, _) => None,
     }
 }
 
@@ -41,7 +41,7 @@ fn small_question(q: u8, m: u8, s: u8, r: u8) -> Option<Question>
     requires levels { is_level q ≡ true }
     requires size { is_size q (Runs m) ≡ true }
     requires factors { 1 ≤ s }
-    requires resolution { is_wanted (Resolution r) ≡ true }
+    requires resolution { is_criterion (Resolution r) ≡ true }
     ensures problem { option_map question_problem result ≡ (if is_small q m s then Some (at_resolution q m s r) else None) }
     ensures small { IfSome result IsSmall }
 {

@@ -94,7 +94,7 @@ fn programs_have_their_listing(rt: HostRuntime) -> Result<(), Fail> {
 }
 
 /// Each text that is refused, with its message.
-const REFUSED: [(&str, &str); 14] = [
+const REFUSED: [(&str, &str); 16] = [
     (
         "proc factex;\nfactors A B C;\nsize design=8;\nsize design=8;\nrun;\n",
         "E26 4:1 statement is repeated in the step",
@@ -134,7 +134,15 @@ const REFUSED: [(&str, &str); 14] = [
     ("proc factex;\nfactors A 'b", "L2 2:11 string is not closed"),
     (
         "proc factex; factors A B C; size design=8; model estimate=(A B Z);",
+        "E4 1:64 factor is not known",
+    ),
+    (
+        "proc factex; factors A B C; size design=8; model estimate=(A B C) nonneg=(A*B);",
         "E0 1:1 not built yet",
+    ),
+    (
+        "proc factex; factors A B C; size design=8; model estimate=(A) / minabs;",
+        "E12 1:65 MINABS with ESTIMATE",
     ),
     (
         "proc factex; factors A B C; size design=8;",
