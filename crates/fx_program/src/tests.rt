@@ -183,10 +183,6 @@ const REFUSED: [(&str, &str); 18] = [
         "E12 1:65 MINABS with ESTIMATE",
     ),
     (
-        "proc factex; factors A B C; size design=8; model estimate=(A) / minabs;",
-        "E12 1:65 MINABS with ESTIMATE",
-    ),
-    (
         "proc factex; factors A B C; size design=8;",
         "E0 1:1 not built yet",
     ),
