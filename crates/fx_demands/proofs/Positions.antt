@@ -163,9 +163,6 @@ positions-connected i (suc n) x y hx hy =
       ]
     ]
 
-pub halves : (x k n : ℕ) → k ≡ suc n → x < 2 ^ k → x / 2 < 2 ^ n
-halves x k n e below = let two : 2 ^ k ≡ 2 ^ n * 2 = ap (λ (j : ℕ). 2 ^ j) e ∙ pow-suc 2 n in omega arith
-
 pub no_bits : (i n x y : ℕ) → n ≡ 0 → is_earlier (positions i n x) (positions i n y) ≡ false
 unfolding positions
 no_bits i n x y e = rw e refl

@@ -1,5 +1,8 @@
 pub mod Constant
 pub mod Counts
 pub mod Confounding
+pub mod Supports
+pub mod Differences
+pub mod Balances
 mod Points
 mod Steps

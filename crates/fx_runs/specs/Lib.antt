@@ -1,3 +1,4 @@
 pub mod Runs
 pub mod Blocks
 pub mod Counts
+pub mod Supports

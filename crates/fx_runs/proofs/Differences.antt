@@ -8,9 +8,8 @@ use Rattle.fx_designs.specs.Vectors.{IsVector, minus}
 use Rattle.fx_designs.specs.Demands.{effect_of}
 use Rattle.fx_laws.proofs.Linear.{zero-add-code}
 use Rattle.fx_laws.proofs.Changes.{mul-zero-either}
-use Rattle.fx_demands.specs.Supports.{differs}
-use Rattle.fx_demands.proofs.Positions.{halves}
-use Rattle.fx_demands.proofs.Supports.{bit, bit-small}
+use Rattle.fx_runs.specs.Supports.{differs}
+use Rattle.fx_runs.proofs.Supports.{bit, bit-small, halves}
 
 -- a test of numbers with one more bit
 eqb-bit : (r s m k : ℕ) → r < 2 → s < 2 → eqb (r + 2 * m) (s + 2 * k) ≡ (eqb r s && eqb m k)
