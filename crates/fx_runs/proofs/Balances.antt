@@ -1,5 +1,5 @@
 -- What has to be balanced is told from supports.
-use Rattle.std.proofs.Common.{ℕ, ◌≡◌, ◌<◌, ◌+◌, ◌-◌, ◌*◌, ◌^◌, ◌⊎◌, zero, suc, Bool, true, false, eqb, not, ◌&&◌, ◌||◌, List, [], ◌∷◌, take, drop, length, refl, sym, subst, ◌∙◌, ap, arith, inl, inr}
+use Rattle.std.proofs.Common.{ℕ, ◌≡◌, ◌<◌, ◌+◌, ◌*◌, ◌^◌, ◌⊎◌, Bool, true, false, eqb, not, ◌&&◌, ◌||◌, List, [], ◌∷◌, length, refl, sym, subst, ◌∙◌, ap, arith, inl, inr}
 use Rattle.std.specs.List.{list_any, list_all, AllByRecursion}
 use Rattle.std.proofs.lemmas.Bool.{cases_eq, eq-eqb, ne_eqb, eqb-true, both_ways, and_parts, and_from, or_left, or_right}
 use Rattle.std.proofs.lemmas.Bool.Decides.{nat_tests}
@@ -8,7 +8,7 @@ use Rattle.fx_designs.specs.Galois.{add, mul, neg, IsField}
 use Rattle.fx_designs.specs.Vectors.{IsVector, minus, weight, is_zero, same}
 use Rattle.fx_designs.specs.Runs.{points}
 use Rattle.fx_designs.specs.Problems.{Dimensions, Requirement, AtResolution, ForEffects}
-use Rattle.fx_designs.specs.Demands.{effect_of, is_of, is_told_from, must_balance, is_estimated, is_forbidden_word}
+use Rattle.fx_designs.specs.Demands.{effect_of, is_of, is_told_from, must_balance, is_estimated}
 use Rattle.fx_laws.proofs.Linear.{zero-add-code}
 use Rattle.fx_laws.proofs.Shift.{all-points}
 use Rattle.fx_laws.proofs.Tests.{points_decides}

@@ -6,3 +6,5 @@ pub mod Differences
 pub mod Balances
 mod Points
 mod Steps
+pub mod Walks
+pub mod BlockCounts

@@ -2,3 +2,4 @@ pub mod Runs
 pub mod Blocks
 pub mod Counts
 pub mod Supports
+pub mod Walks
