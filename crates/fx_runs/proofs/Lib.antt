@@ -8,3 +8,4 @@ mod Points
 mod Steps
 pub mod Walks
 pub mod BlockCounts
+mod Examples
