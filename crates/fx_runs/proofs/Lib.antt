@@ -4,8 +4,8 @@ pub mod Confounding
 pub mod Supports
 pub mod Differences
 pub mod Balances
-mod Points
-mod Steps
+pub mod Points
+pub mod Steps
 pub mod Walks
 pub mod BlockCounts
 mod Examples

@@ -77,7 +77,11 @@ pub fn value_at(u: &Vector, runs: &Runs, i: usize) -> u8
     let x = runs.row(i);
     let mut sum = 0;
     for k in 0..u.len() {
-        sum = field.add(sum, field.mul(u.code(k), x.code(k)));
+        let c = u.code(k);
+        // Most vectors that are tried have few codes that are not zero.
+        if c != 0 {
+            sum = field.add(sum, field.mul(c, x.code(k)));
+        }
     }
     sum
 }
