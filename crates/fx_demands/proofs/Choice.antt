@@ -29,11 +29,12 @@ use Rattle.fx_runs.proofs.Constant.{constant_sum}
 use Rattle.fx_vectors.proofs.Normals.{normal-scale, last_nonzero-positive}
 use Rattle.fx_vectors.proofs.Steps.{are_vectors, drop-vector}
 use Rattle.fx_vectors.specs.Question.{CanBeAsked}
-use Rattle.fx_demands.specs.Supports.{balances}
+use Rattle.fx_runs.specs.Supports.{balances}
 use Rattle.fx_designs.specs.Closing.{closes, is_preferred, is_best, words_of, closing_word}
 use Rattle.fx_demands.specs.Completions.{IsClosing, AreHeavy, IsGreatestOf}
-use Rattle.fx_demands.proofs.Supports.{bit, zero-effect, is_zero-effect}
-use Rattle.fx_demands.proofs.Balances.{forbids-is, take-vector, not-true, true-not, same-refl, same-true, either_true, point_some}
+use Rattle.fx_runs.proofs.Supports.{bit, zero-effect, is_zero-effect}
+use Rattle.fx_runs.proofs.Balances.{not-true, true-not, same-refl, same-true, either_true, point_some}
+use Rattle.fx_demands.proofs.Supports.{forbids-is, take-vector}
 use Rattle.fx_demands.proofs.Completing.{weight-append, weight-zeros, weight-split}
 use Rattle.fx_demands.proofs.Closings.{length-zeros, last-zeros}
 

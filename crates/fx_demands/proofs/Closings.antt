@@ -12,10 +12,12 @@ use Rattle.fx_laws.proofs.Forms.{scale-one}
 use Rattle.fx_laws.proofs.Ranks.{plus-zero}
 use Rattle.fx_vectors.proofs.Steps.{are_vectors}
 use Rattle.fx_vectors.specs.Question.{CanBeAsked}
-use Rattle.fx_demands.specs.Supports.{forbids, balances, estimates, IsMostAlone, IsMostBlocked}
+use Rattle.fx_runs.specs.Supports.{balances, estimates}
+use Rattle.fx_demands.specs.Supports.{forbids, IsMostAlone, IsMostBlocked}
 use Rattle.fx_demands.specs.Completions.{IsPartial, IsCompletion, IsGreatestHit, IsNoHit, IsClosing, IsGreatestOf, IsNoneOf, AreShort, AreHeavy}
-use Rattle.fx_demands.proofs.Supports.{weight-ones, effect-zero}
-use Rattle.fx_demands.proofs.Balances.{forbids-is, either_true}
+use Rattle.fx_runs.proofs.Supports.{weight-ones, effect-zero}
+use Rattle.fx_runs.proofs.Balances.{either_true}
+use Rattle.fx_demands.proofs.Supports.{forbids-is}
 use Rattle.fx_demands.proofs.Completing.{weight-cons, weight-split, weight-zeros, weight-length, weightless, number-by-code, no-combination, from, from-next}
 
 pub drop-zeros : (k n : ℕ) → drop k (zeros n) ≡ zeros (n - k)

@@ -6,7 +6,7 @@ use Rattle.fx_designs.specs.Galois.{number, digits, add, mul, prime_of, degree_o
 use Rattle.fx_designs.specs.Vectors.{plus, scale}
 use Rattle.fx_laws.proofs.Codes.{number-below, digits-vector}
 use Rattle.fx_laws.proofs.Space.{scale-vector, plus-vector}
-use Rattle.fx_demands.proofs.Positions.{halves}
+use Rattle.fx_runs.proofs.Supports.{halves}
 
 -- the number of a row and c times another
 abbrev pub sum_of : ℕ → ℕ → ℕ → ℕ → ℕ → ℕ

@@ -10,9 +10,10 @@ use Rattle.std.proofs.Math.Nat.{pow-suc, pow-le-pow_right}
 use Rattle.fx_vectors.specs.Effects.{numbers_of}
 use Rattle.fx_vectors.specs.declared.effect.Effect.{Effect}
 use Rattle.fx_designs.specs.Problems.{AtResolution, ForEffects}
-use Rattle.fx_demands.specs.Supports.{differs, differs_from_some, balances, estimates, IsMostAlone, IsMostBlocked}
-use Rattle.fx_demands.proofs.Positions.{halves}
-use Rattle.fx_demands.proofs.Balances.{some_item, either_true}
+use Rattle.fx_runs.specs.Supports.{differs, differs_from_some, balances, estimates}
+use Rattle.fx_demands.specs.Supports.{IsMostAlone, IsMostBlocked}
+use Rattle.fx_runs.proofs.Supports.{halves}
+use Rattle.fx_runs.proofs.Balances.{some_item, either_true}
 
 -- a number is below its power of two
 below-pow : (n : ℕ) → n < 2 ^ n

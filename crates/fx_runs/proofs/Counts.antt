@@ -1,10 +1,10 @@
 -- How often each value comes over the first runs, and balance.
-use Rattle.std.proofs.Common.{ℕ, ◌≡◌, ◌≢◌, ◌<◌, ◌≤◌, ◌+◌, true, false, eqb, List, [], length, take, set, get_or, get_or-set_other, get_or-set_same, sym, ◌∙◌, ap, arith, inl, inr}
+use Rattle.std.proofs.Common.{ℕ, ◌≡◌, ◌≢◌, ◌<◌, ◌≤◌, ◌↔◌, ◌+◌, Bool, true, false, IsTrue, eqb, List, [], length, take, set, get_or, get_or-set_other, get_or-set_same, sym, ◌∙◌, ap, arith, inl, inr}
 use Rattle.std.specs.Prelude.{count_by}
 use Rattle.std.proofs.lemmas.List.{take_all}
 use Rattle.std.proofs.Math.ListN.{length-set}
 use Rattle.std.proofs.lemmas.List.Sums.{count_by_more_no, count_by_more_yes}
-use Rattle.std.proofs.lemmas.Bool.{cases_eq, eq-eqb, both_ways, false_from_ne_true}
+use Rattle.std.proofs.lemmas.Bool.{cases_eq, eq-eqb, both_ways}
 use Rattle.fx_designs.specs.Galois.{IsField}
 use Rattle.fx_designs.specs.Vectors.{dot, vectors_of}
 use Rattle.fx_designs.specs.Runs.{is_constant, is_balanced, runs_of}
@@ -12,8 +12,9 @@ use Rattle.fx_laws.proofs.Bridge.{zero_constant, other_balanced}
 use Rattle.fx_laws.proofs.Sums.{ne-eqb}
 use Rattle.fx_laws.proofs.Judging.{balanced_decides}
 use Rattle.fx_vectors.proofs.Steps.{are_vectors}
-use Rattle.fx_runs.specs.Counts.{AreCounts}
+use Rattle.fx_runs.specs.Counts.{AreCounts, AreEqual}
 use Rattle.fx_runs.proofs.Constant.{constant_decides}
+use Rattle.fx_runs.proofs.Balances.{bool-same}
 
 -- counts has how often each value came in the first k runs
 pub record Counted (q : ℕ) (u : List ℕ) (runs : List (List ℕ)) (counts : List ℕ) (k : ℕ) : Type 0 where
@@ -44,17 +45,13 @@ counted_all q u runs counts k past c =
     let whole : take k runs ≡ runs = take_all k runs past in
     record { len = c.len; each = λ y h. rw whole at (c.each y h) }
 
--- equal counts are balance, and unequal ones are not
-pub counts_same : (q : ℕ) (u : List ℕ) (runs : List (List ℕ)) (counts : List ℕ) → q ≤ 9 → AreCounts q u runs counts
-    → ((z : ℕ) → z < q → get_or counts z 0 ≡ get_or counts 0 0) → is_balanced q u runs ≡ true
-counts_same q u runs counts small c same = (balanced_decides q u runs).1 (record {
-  same = λ y z hy hz. sym (c.each y (omega arith)) ∙ same y hy ∙ sym (same z hz) ∙ c.each z (omega arith);
-})
-
-pub counts_apart : (q : ℕ) (u : List ℕ) (runs : List (List ℕ)) (counts : List ℕ) (y : ℕ) → q ≤ 9 → AreCounts q u runs counts
-    → y < q → (get_or counts y 0 ≡ get_or counts 0 0 → ⊥) → is_balanced q u runs ≡ false
-counts_apart q u runs counts y small c h apart =
-    false_from_ne_true (is_balanced q u runs) (λ e. apart (c.each y (omega arith) ∙ ((balanced_decides q u runs).0 e).same y 0 h (omega arith) ∙ sym (c.each 0 (omega arith))))
+-- equal counts are balance
+pub counts_tell : (q : ℕ) (u : List ℕ) (runs : List (List ℕ)) (counts : List ℕ) (b : Bool) → q ≤ 9 → AreCounts q u runs counts → IsTrue b ↔ AreEqual q counts → b ≡ is_balanced q u runs
+counts_tell q u runs counts b small c told =
+    let balanced = balanced_decides q u runs in
+    bool-same b (is_balanced q u runs)
+    (λ e. balanced.1 (record { same = λ y z hy hz. sym (c.each y (omega arith)) ∙ told.0 e y hy ∙ sym (told.0 e z hz) ∙ c.each z (omega arith) }))
+    (λ e. told.1 (λ y h. c.each y (omega arith) ∙ (balanced.0 e).same y 0 h (omega arith) ∙ sym (c.each 0 (omega arith))))
 
 -- over the runs of rules, a vector that is not constant
 pub other_vectors : (q : ℕ) (f : IsField q) (u : List ℕ) (m : ℕ) (rows : List ℕ) → is_constant q u (runs_of q m (vectors_of q m rows)) ≡ false → is_balanced q u (runs_of q m (vectors_of q m rows)) ≡ true

@@ -1,5 +1,11 @@
 pub mod Constant
 pub mod Counts
 pub mod Confounding
-mod Points
-mod Steps
+pub mod Supports
+pub mod Differences
+pub mod Balances
+pub mod Points
+pub mod Steps
+pub mod Walks
+pub mod BlockCounts
+mod Examples

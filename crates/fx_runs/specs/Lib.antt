@@ -1,3 +1,5 @@
 pub mod Runs
 pub mod Blocks
 pub mod Counts
+pub mod Supports
+pub mod Walks

@@ -1,7 +1,7 @@
 ghost use Rattle.std.specs.Prelude.{◌≡◌, ℕ, ◌+◌, ◌<◌, ◌≤◌, ◌↔◌, [], List, IsTrue, length, slice_index_or};
 ghost use Rattle.fx_designs.specs.Vectors.{IsVector, dot, combination, vectors_of, zeros};
 ghost use Rattle.fx_designs.specs.Runs.{runs_of, is_constant, is_balanced};
-ghost use Rattle.fx_runs.specs.Counts.{AreCounts};
+ghost use Rattle.fx_runs.specs.Counts.{AreCounts, AreEqual};
 
 use crate::runs::Runs;
 use fx_vectors::Vector;
@@ -29,13 +29,21 @@ pub fn is_constant(u: &Vector, runs: &Runs) -> bool
 }
 
 /// Whether each field value comes equally often as u.x over the runs x, as it does where there is
-/// none.
+/// none. A vector over the factors may leave out the block values.
 pub fn is_balanced(u: &Vector, runs: &Runs) -> bool
-    requires { IsVector runs.now.shape.q (runs.now.shape.s + runs.now.shape.t) u.now }
+    requires vector { IsVector runs.now.shape.q (length u.now) u.now }
+    requires within { length u.now ≤ runs.now.shape.s + runs.now.shape.t }
     ensures { result ≡ is_balanced runs.now.shape.q u.now runs.now.rows }
 {
-    let counts = counts_of(u, runs);
-    for y in 1..usize::from(runs.shape().q) {
+    are_equal(&counts_of(u, runs), runs.shape().q)
+}
+
+/// Whether the counts of the values below `q` are equal.
+pub(crate) fn are_equal(counts: &[usize; 9], q: u8) -> bool
+    requires { q ≤ 9 }
+    ensures { IsTrue result ↔ AreEqual q counts.now }
+{
+    for y in 1..usize::from(q) {
         if counts[y] != counts[0] {
             return false;
         }
@@ -45,7 +53,8 @@ pub fn is_balanced(u: &Vector, runs: &Runs) -> bool
 
 /// On how many runs x u.x is each value. No field has more than nine values.
 fn counts_of(u: &Vector, runs: &Runs) -> [usize; 9]
-    requires { IsVector runs.now.shape.q (runs.now.shape.s + runs.now.shape.t) u.now }
+    requires vector { IsVector runs.now.shape.q (length u.now) u.now }
+    requires within { length u.now ≤ runs.now.shape.s + runs.now.shape.t }
     ensures { AreCounts runs.now.shape.q u.now runs.now.rows result }
 {
     let mut counts = [0usize; 9];
@@ -68,7 +77,11 @@ pub fn value_at(u: &Vector, runs: &Runs, i: usize) -> u8
     let x = runs.row(i);
     let mut sum = 0;
     for k in 0..u.len() {
-        sum = field.add(sum, field.mul(u.code(k), x.code(k)));
+        let c = u.code(k);
+        // Most vectors that are tried have few codes that are not zero.
+        if c != 0 {
+            sum = field.add(sum, field.mul(c, x.code(k)));
+        }
     }
     sum
 }

@@ -1,16 +1,21 @@
-//! Runs: what a rule matrix lists, and which vectors are constant or balanced over them.
+//! Runs: what a rule matrix lists, which vectors are constant or balanced over them, and whether they
+//! meet what is asked.
 #![tactic(auto)]
 
 mod balance;
+mod block_balance;
 mod blocks;
+mod judge;
 mod laws;
 mod rule_runs;
 mod runs;
 #[cfg(test)]
 mod tests;
+mod walk;
 
 pub use balance::{is_balanced, is_constant};
 pub use blocks::{block_number, constant_in_blocks};
+pub use judge::meets;
 pub use laws::{constant_or_balanced_in_blocks, zero_sum_or_balanced};
 pub use rule_runs::list_runs;
 pub use runs::Runs;

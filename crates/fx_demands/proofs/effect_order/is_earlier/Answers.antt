@@ -1,6 +1,7 @@
 use Rattle.std.proofs.Common.{◌≡◌, ◌+◌, ◌-◌, arith, refl, sym, ◌∙◌}
 use Rattle.std.proofs.lemmas.Bool.Decides.{nat_tests}
-use Rattle.fx_demands.proofs.Positions.{factors-positions, first_apart, first_apart-back, bit_alike, halves, no_bits}
+use Rattle.fx_runs.proofs.Supports.{halves}
+use Rattle.fx_demands.proofs.Positions.{factors-positions, first_apart, first_apart-back, bit_alike, no_bits}
 use Rattle.fx_demands.proofs.effect_order.is_earlier.Goals as goal
 
 pub loop-init : goal.loop-init

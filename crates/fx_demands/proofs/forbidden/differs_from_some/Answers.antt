@@ -1,5 +1,5 @@
 use Rattle.std.proofs.Common.{◌∙◌, sym, refl, ℕ}
-use Rattle.fx_demands.specs.Supports.{differs}
+use Rattle.fx_runs.specs.Supports.{differs}
 use Rattle.fx_demands.proofs.Supports.{any-numbers}
 use Rattle.fx_demands.proofs.forbidden.differs_from_some.Goals as goal
 

@@ -1,7 +1,7 @@
 use Rattle.std.proofs.Common.{◌∙◌, arith, refl, eqb}
 use Rattle.std.proofs.lemmas.Bool.{ne_eqb, lt-ltb}
 use Rattle.std.proofs.lemmas.Bool.Decides.{nat_tests}
-use Rattle.fx_demands.specs.Supports.{estimates}
+use Rattle.fx_runs.specs.Supports.{estimates}
 use Rattle.fx_demands.proofs.Supports.{any-numbers}
 use Rattle.fx_demands.proofs.forbidden.is_estimated.Goals as goal
 

@@ -2,7 +2,7 @@ use Rattle.std.proofs.Common.{◌∙◌, arith, refl}
 use Rattle.std.proofs.lemmas.Bool.{ne_eqb}
 use Rattle.std.proofs.lemmas.Bool.Decides.{nat_tests}
 use Rattle.fx_vectors.specs.Effects.{numbers_of}
-use Rattle.fx_demands.specs.Supports.{balances, differs_from_some}
+use Rattle.fx_runs.specs.Supports.{balances, differs_from_some}
 use Rattle.fx_demands.proofs.Supports.{any-numbers}
 use Rattle.fx_demands.proofs.forbidden.must_balance.Goals as goal
 

@@ -3,7 +3,7 @@ use mir.Val.{bool_byte}
 use Rattle.std.proofs.Math.Nat.{pow-suc}
 use Rattle.std.proofs.lemmas.Bool.{cases_eq, ne_eqb}
 use Rattle.fx_designs.specs.Demands.{effect_of}
-use Rattle.fx_demands.proofs.Supports.{bit, bit-small}
+use Rattle.fx_runs.proofs.Supports.{bit, bit-small}
 use Rattle.fx_demands.proofs.forbidden.support_of.Goals as goal
 
 next : (w : List ℕ) (s i : ℕ) → 0 < i → i ≤ s → s ≤ length w → drop (i - 1) (take s w) ≡ get_or w (i - 1) 0 ∷ drop i (take s w)

@@ -6,8 +6,9 @@ use Rattle.fx_laws.proofs.Tables.{is_order-field}
 use Rattle.fx_vectors.specs.Shape.{dimensions_of}
 use Rattle.fx_vectors.specs.Question.{requirement_of, IsValid}
 use Rattle.fx_vectors.specs.declared.question.Question.{Question}
-use Rattle.fx_demands.specs.Supports.{forbids, balances, estimates}
-use Rattle.fx_demands.proofs.Balances.{forbids-is}
+use Rattle.fx_runs.specs.Supports.{balances, estimates}
+use Rattle.fx_demands.specs.Supports.{forbids}
+use Rattle.fx_demands.proofs.Supports.{forbids-is}
 use Rattle.fx_demands.proofs.forbidden.Forbidden.holds.Goals as goal
 use Rattle.fx_demands.proofs.forbidden.Forbidden.holds.Goals.{After-is_zero_from}
 

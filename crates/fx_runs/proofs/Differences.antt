@@ -8,9 +8,8 @@ use Rattle.fx_designs.specs.Vectors.{IsVector, minus}
 use Rattle.fx_designs.specs.Demands.{effect_of}
 use Rattle.fx_laws.proofs.Linear.{zero-add-code}
 use Rattle.fx_laws.proofs.Changes.{mul-zero-either}
-use Rattle.fx_demands.specs.Supports.{differs}
-use Rattle.fx_demands.proofs.Positions.{halves}
-use Rattle.fx_demands.proofs.Supports.{bit, bit-small}
+use Rattle.fx_runs.specs.Supports.{differs}
+use Rattle.fx_runs.proofs.Supports.{bit, bit-small, halves}
 
 -- a test of numbers with one more bit
 eqb-bit : (r s m k : ℕ) → r < 2 → s < 2 → eqb (r + 2 * m) (s + 2 * k) ≡ (eqb r s && eqb m k)
@@ -23,14 +22,14 @@ eqb-bit r s m k hr hs =
       | inr e ↦ let apart : r + 2 * m ≡ s + 2 * k → ⊥ = λ z. e (omega arith) in rw (ne_eqb r s e, ne_eqb _ _ apart) refl
     ]
 
-or-bit : (r s m k : ℕ) → r < 2 → s < 2 → bit_or (r + 2 * m) (s + 2 * k) ≡ bit_or r s + 2 * bit_or m k
+pub or-bit : (r s m k : ℕ) → r < 2 → s < 2 → bit_or (r + 2 * m) (s + 2 * k) ≡ bit_or r s + 2 * bit_or m k
 or-bit r s m k hr hs =
     let a : r + 2 * m ≡ m * 2 ^ 1 + r = omega arith in
     let b : s + 2 * k ≡ k * 2 ^ 1 + s = omega arith in
     let parts = or_block 1 m k r s hr hs in
     ap (λ (x : ℕ). bit_or x (s + 2 * k)) a ∙ ap (λ (x : ℕ). bit_or (m * 2 ^ 1 + r) x) b ∙ parts ∙ (omega arith)
 
-xor-bit : (r s m k : ℕ) → r < 2 → s < 2 → bit_xor (r + 2 * m) (s + 2 * k) ≡ bit_xor r s + 2 * bit_xor m k
+pub xor-bit : (r s m k : ℕ) → r < 2 → s < 2 → bit_xor (r + 2 * m) (s + 2 * k) ≡ bit_xor r s + 2 * bit_xor m k
 xor-bit r s m k hr hs =
     let a : r + 2 * m ≡ m * 2 ^ 1 + r = omega arith in
     let b : s + 2 * k ≡ k * 2 ^ 1 + s = omega arith in

@@ -1,5 +1,5 @@
--- What is forbidden is told from supports.
-use Rattle.std.proofs.Common.{ℕ, ◌≡◌, ◌<◌, ◌+◌, ◌-◌, ◌*◌, ◌^◌, ◌⊎◌, zero, suc, Bool, true, false, eqb, not, ◌&&◌, ◌||◌, List, [], ◌∷◌, take, drop, length, refl, sym, subst, ◌∙◌, ap, arith, inl, inr}
+-- What has to be balanced is told from supports.
+use Rattle.std.proofs.Common.{ℕ, ◌≡◌, ◌<◌, ◌+◌, ◌*◌, ◌^◌, ◌⊎◌, Bool, true, false, eqb, not, ◌&&◌, ◌||◌, List, [], ◌∷◌, length, refl, sym, subst, ◌∙◌, ap, arith, inl, inr}
 use Rattle.std.specs.List.{list_any, list_all, AllByRecursion}
 use Rattle.std.proofs.lemmas.Bool.{cases_eq, eq-eqb, ne_eqb, eqb-true, both_ways, and_parts, and_from, or_left, or_right}
 use Rattle.std.proofs.lemmas.Bool.Decides.{nat_tests}
@@ -8,14 +8,14 @@ use Rattle.fx_designs.specs.Galois.{add, mul, neg, IsField}
 use Rattle.fx_designs.specs.Vectors.{IsVector, minus, weight, is_zero, same}
 use Rattle.fx_designs.specs.Runs.{points}
 use Rattle.fx_designs.specs.Problems.{Dimensions, Requirement, AtResolution, ForEffects}
-use Rattle.fx_designs.specs.Demands.{effect_of, is_of, is_told_from, must_balance, is_estimated, is_forbidden_word}
+use Rattle.fx_designs.specs.Demands.{effect_of, is_of, is_told_from, must_balance, is_estimated}
 use Rattle.fx_laws.proofs.Linear.{zero-add-code}
 use Rattle.fx_laws.proofs.Shift.{all-points}
 use Rattle.fx_laws.proofs.Tests.{points_decides}
 use Rattle.fx_vectors.specs.Question.{CanBeAsked}
-use Rattle.fx_demands.specs.Supports.{differs, differs_from_some, balances, estimates, forbids}
-use Rattle.fx_demands.proofs.Supports.{bit, weight-ones, zero-effect, effect-zero, is_zero-effect}
-use Rattle.fx_demands.proofs.Differences.{difference_differs, split, Split, cancel}
+use Rattle.fx_runs.specs.Supports.{differs, differs_from_some, balances, estimates}
+use Rattle.fx_runs.proofs.Supports.{bit, weight-ones, zero-effect, effect-zero, is_zero-effect}
+use Rattle.fx_runs.proofs.Differences.{difference_differs, split, Split, cancel}
 
 pub bool-same : (a b : Bool) → (a ≡ true → b ≡ true) → (b ≡ true → a ≡ true) → a ≡ b
 bool-same true b to from = sym (to refl)
@@ -213,18 +213,3 @@ pub estimates-is : (wanted : Requirement) (x : List ℕ) → is_estimated wanted
 unfolding is_estimated estimates
 estimates-is (AtResolution r) x = rw (weight-ones x) refl
 estimates-is (ForEffects estimate besides) x = ap (λ (b : Bool). not b && list_any (λ e. eqb e (effect_of x)) estimate) (is_zero-effect x)
-
-pub take-vector : (q n m k : ℕ) (w : List ℕ) → IsVector q n w → n ≡ m + k → IsVector q m (take m w)
-take-vector q n zero k w h e = record { len = refl; codes = tt }
-take-vector q n (suc m) k [] h e = absurd (omega (arith, h.len))
-take-vector q n (suc m) k (a ∷ w) h e =
-    let rest : IsVector q (n - 1) w = record { len = omega (arith, h.len); codes = h.codes.1 } in
-    let r = take-vector q (n - 1) m k w rest (omega arith) in
-    record { len = (let l = r.len in omega arith); codes = (h.codes.0, r.codes) }
-
--- whether a word is forbidden
-pub forbids-is : (d : Dimensions) (f : IsField d.q) (wanted : Requirement) → CanBeAsked d wanted → (w : List ℕ) → IsVector d.q (d.s + d.t) w
-    → is_forbidden_word d wanted w ≡ forbids d.q wanted (effect_of (take d.s w)) (drop d.s w)
-forbids-is d f wanted asked w h =
-    let x : List ℕ = take d.s w in
-    rw (balances-is d f wanted asked x (take-vector d.q (d.s + d.t) d.s d.t w h refl), estimates-is wanted x, is_zero-effect x) refl
