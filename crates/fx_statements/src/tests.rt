@@ -640,7 +640,7 @@ fn the_meaning_of_a_step_is_judged_in_its_order(rt: HostRuntime) -> Result<(), F
             50,
         ),
         (
-            b"proc factex;factors A B C D E F G/nlev=3;blocks nblkfacs=0;model e=(A|B|C|D|E|F|G);",
+            b"proc factex;factors A B C D E F G/nlev=3;blocks nblkfacs=0;model e=(A|B|C|D|E|F|G);size design=27;",
             22,
             1,
             66,
