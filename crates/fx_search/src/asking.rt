@@ -1,6 +1,6 @@
 ghost use Rattle.std.specs.Prelude.{◌≡◌, ◌<◌, ◌≤◌, false, [], IfOk};
 ghost use Rattle.fx_vectors.specs.Question.{IsValid, problem_of};
-ghost use Rattle.fx_search.specs.Asked.{IsAnswer};
+ghost use Rattle.fx_search.specs.Asked.{IsAnswer, IsNoneAtAll};
 
 use crate::pruner::{PlainPruner, Pruner};
 use crate::walk::{End, walk};
@@ -30,7 +30,8 @@ pub enum Asked {
 }
 
 /// The answer of a valid question without a least pattern, by one thread: `Budget` exactly where the
-/// nodes are more than the budget, which is at most 5,000,000. It then has no matrix.
+/// nodes are more than the budget, which is at most 5,000,000. It then has no matrix. `Nothing` speaks
+/// of all rule matrices, canonical or not.
 ///
 /// Besides the marks, which take 18 bytes a node, memory is taken for the children of each row of
 /// the prefix. The recursion is as deep as a matrix has rows, at most 40.
@@ -38,7 +39,8 @@ pub fn ask_alone(alloc: Global, question: &Question, budget: u64) -> Result<Aske
     requires valid { IsValid question.now }
     requires not_least { question.now.least ≡ false }
     requires budget { budget ≤ 5000000 }
-    ensures { IfOk result (IsAnswer question.now budget) }
+    ensures answer { IfOk result (IsAnswer question.now budget) }
+    ensures none_at_all { IfOk result (IsNoneAtAll question.now) }
 {
     let forbidden = Forbidden::of(alloc, question)?;
     let mut pruner = PlainPruner::new(forbidden);
@@ -57,7 +59,8 @@ fn ask_with<P: Pruner>(
     requires budget { budget ≤ 5000000 }
     requires problem { P.problem pruner.old ≡ problem_of question.now }
     requires start { P.prefix pruner.old ≡ [] }
-    ensures { IfOk result (IsAnswer question.now budget) }
+    ensures answer { IfOk result (IsAnswer question.now budget) }
+    ensures none_at_all { IfOk result (IsNoneAtAll question.now) }
 {
     let mut prefix = Matrix::new(question.shape);
     let mut marks = Marks::new(alloc);

@@ -208,3 +208,22 @@ fn closed_prefixes_are_left_out(rt: HostRuntime) -> Result<(), Fail> {
     assert!(rt; is_nothing(&asked, 11133));
     Ok(())
 }
+
+fn has_design(asked: &Asked) -> bool {
+    matches!(asked, Asked::Found { .. })
+}
+
+/// The most factors that a number of runs separates, and one more.
+#[test]
+fn designs_at_the_limits(rt: HostRuntime) -> Result<(), Fail> {
+    let alloc = rt.alloc();
+    assert!(rt; has_design(&ask_alone(alloc, &question(2, 4, 8, 0, 3), 1_000_000)?));
+    assert!(rt; has_design(&ask_alone(alloc, &question(2, 4, 8, 0, 4), 1_000_000)?));
+    assert!(rt; !has_design(&ask_alone(alloc, &question(2, 4, 8, 0, 5), 1_000_000)?));
+    assert!(rt; !has_design(&ask_alone(alloc, &question(2, 4, 8, 0, 99), 1_000_000)?));
+    assert!(rt; has_design(&ask_alone(alloc, &question(4, 2, 5, 0, 3), 1_000_000)?));
+    assert!(rt; !has_design(&ask_alone(alloc, &question(4, 2, 6, 0, 3), 1_000_000)?));
+    assert!(rt; has_design(&ask_alone(alloc, &question(9, 1, 1, 0, 99), 1_000_000)?));
+    assert!(rt; !has_design(&ask_alone(alloc, &question(9, 1, 2, 0, 3), 1_000_000)?));
+    Ok(())
+}

@@ -17,4 +17,5 @@ pub use laws::{
     problems_are_trees, rows_that_follow, span_of_a_canonical_prefix, vector_of_its_number,
 };
 pub use order::before;
+pub use fx_vectors::Mark;
 pub use prefix::is_canonical;
