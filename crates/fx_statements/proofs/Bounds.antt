@@ -2,6 +2,7 @@
 use Rattle.std.proofs.Common.{◌≡◌, ℕ, ◌^◌, ◌≤◌, Bool, true, false, not, ◌&&◌, ◌||◌, List, [], ◌∷◌, Option, Some, None, Result, Ok, refl, sym, ap, subst, ◌∙◌, inl, inr, ◌⊎◌, arith}
 use Rattle.std.specs.Prelude.{nat_le, nat_lt, ◌==◌, is_some, if◌then◌else◌}
 use Rattle.std.specs.List.{list_all, list_any}
+use Rattle.std.specs.Option.{option_and_then}
 use Rattle.std.proofs.lemmas.Bool.{leb-true, le-leb, ltb-false, eqb-true, not-true, and_from}
 use Rattle.std.proofs.Math.Nat.{pow-le-pow_right}
 use Rattle.fx_lexer.proofs.Ends.{and_parts}
@@ -17,6 +18,7 @@ use Rattle.fx_settings.specs.Blocks.{blocks_of}
 use Rattle.fx_settings.specs.Settings.{is_level, settings_of, with_blocks}
 use Rattle.fx_settings.specs.Valid.{are_valid, is_size, are_blocks, has_blocks}
 use Rattle.fx_settings.specs.declared.said.StepSaid.{StepSaid}
+use Rattle.fx_settings.specs.Said.{blocks_said, step_said}
 use Rattle.fx_settings.proofs.Valid.{bind_ok, same_ok}
 use Rattle.fx_text.specs.declared.refusal.Refusal.{Refusal}
 use Rattle.fx_text.specs.Written.{Written}
@@ -73,6 +75,9 @@ without first said x none e =
     let given = bind_ok (blocks_of first.q first.size said.blocks) (λ blocks. Ok (with_blocks first blocks)) x e in
     let is : ◌≡◌ {A = Result Blocks Refusal} (Ok blocks.Without) (Ok given.0) = sym (ap (blocks_of first.q first.size) none) ∙ given.1 in
     subst (λ (y : Settings). has_blocks y.blocks ≡ false) (same_ok (with_blocks first given.0) x given.2) (subst (λ b. has_blocks b ≡ false) (same_ok blocks.Without given.0 is) refl)
+
+pub unsaid : (proc named : List Written) (statements : List (List Written)) (said : StepSaid) → said ≡ step_said proc named statements → statement_of word.Blocks statements ≡ None → said.blocks ≡ None
+unsaid proc named statements said is none = ap (λ (x : StepSaid). x.blocks) is ∙ ap (option_and_then blocks_said) none
 
 no_more : (b : Bool) (found : Option (List Written)) (n : ℕ) → (found ≡ None → b ≡ false) → 1 ≤ n → n ≤ (if is_some found then 30 else 40)
     → (nat_le 1 n && nat_le n (if b then 30 else 40)) ≡ true

@@ -1,7 +1,5 @@
 use Rattle.std.proofs.Common.{◌≡◌, true, Ok, length, sym, ap, ap₂, subst, All, ◌∙◌, arith}
-use Rattle.std.specs.Option.{option_and_then}
-use Rattle.fx_settings.specs.declared.said.StepSaid.{StepSaid}
-use Rattle.fx_settings.specs.Said.{blocks_said, start_of, step_said}
+use Rattle.fx_settings.specs.Said.{start_of, step_said}
 use Rattle.fx_settings.specs.Valid.{are_valid}
 use Rattle.fx_outputs.specs.Outputs.{outputs_of}
 use Rattle.fx_outputs.specs.Validity.{IsWithinLimits}
@@ -9,7 +7,7 @@ use Rattle.fx_statements.specs.Contexts.{context}
 use Rattle.fx_statements.specs.Goals.{goal_of}
 use Rattle.fx_statements.specs.Valid.{CanBeWanted}
 use Rattle.fx_statements.specs.Steps.{asked_by, factors_by, head_of, most_factors}
-use Rattle.fx_statements.proofs.Bounds.{counted, same_settings}
+use Rattle.fx_statements.proofs.Bounds.{counted, same_settings, unsaid}
 use Rattle.fx_statements.proofs.StepByStep.{step_is}
 use Rattle.fx_statements.proofs.stepping.step_by.Goals as goal
 
@@ -23,7 +21,7 @@ invariant_of-result c =
     record {
       named =
           counted statements (length c.in_ok-factors.factors) _
-          (λ none. c.in_ok-settings.ensures.unblocked (ap (λ (x : StepSaid). x.blocks) c.step_said-said.ensures ∙ ap (option_and_then blocks_said) none))
+          (λ none. c.in_ok-settings.ensures.unblocked (unsaid c.head_of-proc.result.now c.args.named.now statements c.step_said-said.result c.step_said-said.ensures none))
           bounds.0 (omega (arith, bounds.1, c.most_factors.ensures.value));
       distinct = c.in_ok-factors.ensures.distinct;
       valid = subst (λ x. are_valid x ≡ true) (sym same) c.in_ok-settings.ensures.valid;
