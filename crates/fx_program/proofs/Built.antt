@@ -1,5 +1,5 @@
 -- What problems of steps have, and the questions that state them.
-use Rattle.std.proofs.Common.{ℕ, ◌≡◌, ◌<◌, ◌≤◌, ◌+◌, ◌^◌, ◌&&◌, ◌||◌, Bool, true, false, List, [], ◌∷◌, length, Option, Some, None, refl, sym, ap, ◌∙◌, subst, arith, inl, inr, IsTrue, eqb, eq-eqb, eqb-true}
+use Rattle.std.proofs.Common.{ℕ, ◌≡◌, ◌<◌, ◌≤◌, ◌+◌, ◌^◌, ◌||◌, Bool, true, false, List, [], ◌∷◌, length, Option, Some, None, refl, sym, ap, ◌∙◌, subst, arith, inl, inr, IsTrue, eqb, eq-eqb, eqb-true}
 use Rattle.std.specs.Prelude.{nat_le, if◌then◌else◌}
 use Rattle.std.specs.List.{list_any}
 use Rattle.std.specs.Option.{option_map}
@@ -10,19 +10,18 @@ use Rattle.fx_designs.specs.Problems.{Problem, Requirement}
 use Rattle.fx_designs.specs.Problems as problems
 use Rattle.fx_reduction.specs.Reduction.{IsReducible}
 use Rattle.fx_vectors.specs.declared.question.Demands.{Demands}
-use Rattle.fx_vectors.specs.declared.question.Question.{Question}
 use Rattle.fx_vectors.specs.Question.{CanBeAsked, IsValid}
 use Rattle.fx_vectors.specs.Question as questions
 use Rattle.fx_vectors.specs.Effects.{numbers_of}
 use Rattle.fx_settings.specs.declared.settings.Size.{Size}
 use Rattle.fx_settings.specs.declared.settings.Size.TheVariants.{Runs, Minimum}
 use Rattle.fx_settings.specs.Settings.{is_level}
-use Rattle.fx_settings.specs.Valid.{are_valid, is_criterion, is_size, has_blocks}
+use Rattle.fx_settings.specs.Valid.{is_criterion, is_size, has_blocks}
 use Rattle.fx_statements.specs.declared.step.Step.{Step}
 use Rattle.fx_statements.specs.declared.wanted.Wanted.{Wanted}
 use Rattle.fx_statements.specs.declared.wanted.Wanted.TheVariants as wanted
-use Rattle.fx_statements.specs.Goals.{Goal, goal_of, criterion_of}
-use Rattle.fx_statements.specs.Valid.{CanBeWanted, is_count, settings_in}
+use Rattle.fx_statements.specs.Goals.{goal_of, criterion_of}
+use Rattle.fx_statements.specs.Valid.{CanBeWanted}
 use Rattle.fx_statements.specs.Steps.{Meaning, meaning_of}
 use Rattle.fx_program.specs.Problems.{in_runs, is_plain, problem_by, problem_of, requirement_of}
 

@@ -1,5 +1,5 @@
 -- What is given for a step, by what the search for its design answers.
-use Rattle.std.proofs.Common.{ℕ, ◌≡◌, ◌<◌, ◌≤◌, ◌+◌, false, ltb, length, List, Some, None, sym, ap, ap₂, ◌∙◌, subst, lt-ltb, le-ltb, arith}
+use Rattle.std.proofs.Common.{ℕ, ◌≡◌, ◌<◌, ◌≤◌, false, length, List, Some, sym, ap, ap₂, ◌∙◌, subst, lt-ltb, le-ltb, arith}
 use Rattle.std.specs.Prelude.{if◌then◌else◌}
 use Rattle.fx_designs.specs.Answers.{answer}
 use Rattle.fx_designs.specs.Nodes.{nodes}
@@ -12,9 +12,9 @@ use Rattle.fx_search.specs.Asked.{IsAnswer}
 use Rattle.fx_laws.proofs.FirstDesign.{answer-first, design-rows}
 use Rattle.fx_statements.specs.Steps.{Meaning}
 use Rattle.fx_program.specs.Problems.{problem_of}
-use Rattle.fx_program.specs.Outcomes.{Outcome, Design, NoDesign, BudgetEnded, finished, outcome_of, outcome_in, status_of}
+use Rattle.fx_program.specs.Outcomes.{Design, NoDesign, BudgetEnded, finished, outcome_of, outcome_in, status_of}
 use Rattle.fx_program.specs.Listing.{IsListable, step_lines}
-use Rattle.fx_program.specs.Output.{given_by, message, step_given, step_output}
+use Rattle.fx_program.specs.Output.{given_by, message, step_output}
 
 -- within the budget the search finishes
 pub within : (p : Problem) (budget : ℕ) → length (nodes p) ≤ budget → outcome_of p budget ≡ finished (answer p) (length (nodes p))

@@ -34,6 +34,7 @@ pub fn put_step(
     }
 }
 
+/// Appends the number of the step, its factors and their levels.
 fn put_heading(out: &mut Bytes, number: usize, s: usize, q: u8) -> Result<(), NoMemory>
     ensures { OnOk result (out.new ≡ out.old ++ heading number s q) }
 {
@@ -46,6 +47,7 @@ fn put_heading(out: &mut Bytes, number: usize, s: usize, q: u8) -> Result<(), No
     put(out, b"\n")
 }
 
+/// Appends that the budget ended.
 fn put_budget(out: &mut Bytes, budget: u64) -> Result<(), NoMemory>
     ensures { (q m : ℕ) (names : List (List ℕ)) → OnOk result (out.new ≡ out.old ++ outcome_lines q m names (BudgetEnded budget)) }
 {
@@ -54,6 +56,7 @@ fn put_budget(out: &mut Bytes, budget: u64) -> Result<(), NoMemory>
     put(out, b" nodes\n")
 }
 
+/// Appends that there is no design in so many runs.
 fn put_none(out: &mut Bytes, runs: u128, nodes: u64) -> Result<(), NoMemory>
     ensures { (q m : ℕ) (names : List (List ℕ)) → runs ≡ q ^ m → OnOk result (out.new ≡ out.old ++ outcome_lines q m names (NoDesign nodes)) }
 {
@@ -63,6 +66,7 @@ fn put_none(out: &mut Bytes, runs: u128, nodes: u64) -> Result<(), NoMemory>
     put_nodes(out, nodes)
 }
 
+/// Appends the number of nodes.
 fn put_nodes(out: &mut Bytes, nodes: u64) -> Result<(), NoMemory>
     ensures { OnOk result (out.new ≡ out.old ++ nodes_line nodes) }
 {
@@ -71,6 +75,7 @@ fn put_nodes(out: &mut Bytes, nodes: u64) -> Result<(), NoMemory>
     put(out, b"\n")
 }
 
+/// Appends the size of the design, the number of nodes and the rules.
 fn put_design(
     alloc: Global,
     out: &mut Bytes,
@@ -139,6 +144,7 @@ fn is_next_unit(shape: Shape, count: usize, row: u16) -> bool
     u32::from(row) == u32::from(shape.q).pow(count as u32)
 }
 
+/// Appends the rule of a factor with this row, over the factors that introduced the run indexes.
 fn put_rule(
     out: &mut Bytes,
     introduced: &[&Bytes],
@@ -188,6 +194,7 @@ fn put_entry(out: &mut Bytes, name: &Bytes, c: u8, is_first: bool) -> Result<boo
     Ok(false)
 }
 
+/// Appends a factor's name, with its coefficient where that is not 1.
 fn put_term(out: &mut Bytes, name: &Bytes, c: u8) -> Result<(), NoMemory>
     ensures { OnOk result (out.new ≡ out.old ++ term name.now c) }
 {

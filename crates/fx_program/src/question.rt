@@ -35,6 +35,7 @@ pub(crate) fn question_of(alloc: Global, step: &Step) -> Result<Question, NoMemo
                 least: false,
             })
         }
+        // No step of a form that is built asks for this.
         Size::Minimum => unreachable!(),
     }
 }
@@ -46,6 +47,7 @@ fn demands_of(alloc: Global, wanted: &Wanted) -> Result<Demands, NoMemory>
 {
     match wanted {
         Wanted::Resolution { r } => Ok(Demands::Resolution { r: *r }),
+        // No step of a form that is built asks for this.
         Wanted::Highest => unreachable!(),
         Wanted::Effects {
             estimate,
@@ -101,6 +103,7 @@ fn is_plain(step: &Step) -> bool
     !has_blocks(step.blocks) && !step.least && asks_nothing(step.examine) && step.outputs.is_empty()
 }
 
+/// Whether the runs are divided into blocks.
 fn has_blocks(blocks: Blocks) -> bool
     ensures { result ≡ has_blocks blocks }
 {

@@ -29,8 +29,9 @@ const TEXT_LIMIT: usize = 1048576;
 /// Does all that the program does, for the words of the command line without the program's name,
 /// and answers its exit status.
 ///
-/// 0: each step has a design, or there is no step. 1: some step has none. 2: the budget of some step
-/// ended. 3: the words or the text are refused. 4: a call on the source, the listing or the shelf failed. 5: memory ran out.
+/// The greatest status of the steps: 0, a design, or no step; 1, no design; 2, the budget ended. Else
+/// 3, the words or the text are refused; 4, a call on the source, the listing or the shelf failed;
+/// 5, memory ran out.
 pub fn factex<S: Source, K: Sink, F: Shelf>(
     alloc: Global,
     words: &[Vec<u8>],
@@ -142,7 +143,7 @@ fn worse(a: u8, b: u8) -> u8
     if a <= b { b } else { a }
 }
 
-/// Answers the step of this number: its design, or that there is none.
+/// Answers the step of this number: its design, that there is none, or that its budget ended.
 fn give_step<K: Sink>(alloc: Global, number: usize, step: &Step, listing: &mut K) -> u8
     requires { is_built (meaning_of step.now) ≡ true }
     ensures known { result ≤ 5 }

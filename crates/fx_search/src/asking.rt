@@ -18,23 +18,27 @@ pub enum Asked {
         nodes: u64,
         marks: Marks,
     },
-    /// No canonical matrix meets the demands.
+    /// No rule matrix meets the demands.
     Nothing {
         nodes: u64,
         marks: Marks,
     },
-    /// There are more nodes than the budget allows.
+    /// There are more nodes than the budget allows. `best` is None, as no least pattern is asked.
     Budget {
         best: Option<Matrix>,
     },
 }
 
-/// The answer of a valid question without a least pattern, by one thread: `Budget` exactly where the
-/// nodes are more than the budget, which is at most 5,000,000. It then has no matrix. `Nothing` speaks
-/// of all rule matrices, canonical or not.
+/// The answer of a valid question without a least pattern, by one thread. The budget is at most
+/// 5,000,000. `Budget`, without a matrix, exactly where the nodes are more than the budget. `Nothing`
+/// speaks of all rule matrices, canonical or not.
 ///
-/// Besides the marks, which take 18 bytes a node, memory is taken for the children of each row of
-/// the prefix. The recursion is as deep as a matrix has rows, at most 40.
+/// Besides the marks, which take 18 bytes a node, memory is taken for a copy of the effects and for
+/// the children of each row of the prefix. The recursion is as deep as a matrix has rows, at most 40.
+///
+/// # Errors
+///
+/// `NoMemory`.
 pub fn ask_alone(alloc: Global, question: &Question, budget: u64) -> Result<Asked, NoMemory>
     requires valid { IsValid question.now }
     requires not_least { question.now.least ≡ false }

@@ -14,7 +14,8 @@ pub trait Pruner {
 
     ghost prefix: { Self → List ℕ };
 
-    /// Adds a row that does not close the prefix.
+    /// Adds a row, below q^m, that does not close the prefix, which is not whole. After an error the
+    /// prefix is as before.
     fn push(&mut self, row: u16) -> Result<(), NoMemory>
         requires part { length (prefix self.old) < size_of (problem self.old) }
         requires below { row < count_of_rows (problem self.old) }
@@ -23,13 +24,13 @@ pub trait Pruner {
         ensures ok { OnOk result (prefix self.new ≡ prefix self.old ++ row ∷ []) }
         ensures err { OnErr result (prefix self.new ≡ prefix self.old) };
 
-    /// Takes the last row away.
+    /// Takes the last row away, where there is one.
     fn pop(&mut self)
         requires { 0 < length (prefix self.old) }
         ensures problem { problem self.new ≡ problem self.old }
         ensures prefix { prefix self.new ≡ parent (prefix self.old) };
 
-    /// Whether the prefix is not allowed with this row added.
+    /// Whether the prefix, which is not whole, is not allowed with this row added, below q^m.
     fn closes(&self, row: u16) -> bool
         requires part { length (prefix self.now) < size_of (problem self.now) }
         requires below { row < count_of_rows (problem self.now) }
@@ -83,6 +84,7 @@ impl Pruner for PlainPruner {
     #[tactic(auto, unfolding(fx_designs::specs::Nodes::word_of))]
     fn word(&self, row: u16) -> u128 {
         let word = self.forbidden.closing_word(&self.prefix.with_row(row));
+        // The row closes the prefix, so there is a word.
         word.unwrap().number(self.prefix.shape().field())
     }
 }

@@ -22,7 +22,13 @@ pub(crate) enum End {
     Spent,
 }
 
-/// Walks the prefixes below a prefix that is a branch or empty.
+/// Walks the prefixes below a canonical prefix that is empty or allowed, and not whole, and adds
+/// their marks, until there are `limit` of them. The pruner stands at the prefix. After `Closed` the
+/// pruner and the prefix are as before; after `Found` the prefix is the design.
+///
+/// # Errors
+///
+/// `NoMemory`.
 #[cycle(walk)]
 pub(crate) fn walk<P: Pruner>(
     alloc: Global,
@@ -57,7 +63,7 @@ pub(crate) fn walk<P: Pruner>(
     Ok(End::Closed)
 }
 
-/// Marks the prefix with one row more, and walks what is below it.
+/// Marks the prefix with one row more, and walks what is below it, with the same ends and errors.
 #[cycle(walk)]
 fn enter<P: Pruner>(
     alloc: Global,
@@ -92,6 +98,7 @@ fn enter<P: Pruner>(
     }
     prefix.push(row);
     if prefix.len() == usize::from(question.shape.s) + usize::from(question.shape.t) {
+        // The first design is allowed and no branch, since nothing is below it.
         marks.push(Mark::Worse { row })?;
         return Ok(End::Found);
     }

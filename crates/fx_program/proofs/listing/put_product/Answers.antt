@@ -1,4 +1,4 @@
-use Rattle.std.proofs.Common.{ℕ, ◌≡◌, ◌+◌, List, [], ◌∷◌, ◌++◌, map, drop, get_or, suc, sym, ap, ◌∙◌, arith}
+use Rattle.std.proofs.Common.{ℕ, ◌≡◌, ◌+◌, List, ◌++◌, map, drop, suc, sym, ap, ◌∙◌, arith}
 use Rattle.fx_program.specs.Listing.{ending, terms}
 use Rattle.fx_program.proofs.Products.{next_entry}
 use Rattle.fx_program.proofs.listing.put_product.Goals as goal

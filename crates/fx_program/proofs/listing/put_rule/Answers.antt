@@ -1,4 +1,4 @@
-use Rattle.std.proofs.Common.{◌≡◌, ◌≤◌, arith}
+use Rattle.std.proofs.Common.{arith}
 use Rattle.fx_vectors.proofs.Limits.{indexes_fit}
 use Rattle.fx_program.proofs.listing.put_rule.Goals as goal
 

@@ -1,7 +1,7 @@
 use Rattle.std.proofs.Common.{◌≡◌, ◌++◌, ◌^◌, OnOk, List, ℕ, length, refl, sym, ap, ap₂, ◌∙◌, subst}
 use Rattle.fx_vectors.specs.Matrix.{MatrixView}
 use Rattle.fx_vectors.specs.declared.shape.Shape.{Shape}
-use Rattle.fx_program.specs.Outcomes.{Outcome, Design, NoDesign, BudgetEnded, outcome_in}
+use Rattle.fx_program.specs.Outcomes.{Outcome, Design, outcome_in}
 use Rattle.fx_program.specs.Listing.{step_lines, heading, outcome_lines}
 use Rattle.fx_program.proofs.Products.{behind}
 use Rattle.fx_program.proofs.listing.put_step.Goals as goal
