@@ -3,15 +3,7 @@ use crate::{
     Source, SureShelf, SureSink, SureSource, Taken, Values, put, put_number, read_all, shelve,
     write_all,
 };
-use std::alloc::Global;
 use std::test::Fail;
-
-/// A list of these bytes.
-fn list(alloc: Global, text: &[u8]) -> Result<Bytes, NoMemory> {
-    let mut bytes = Bytes::new(alloc);
-    put(&mut bytes, text)?;
-    Ok(bytes)
-}
 
 #[test]
 fn lists_grow_at_the_end(rt: HostRuntime) -> Result<(), Fail> {
@@ -23,12 +15,14 @@ fn lists_grow_at_the_end(rt: HostRuntime) -> Result<(), Fail> {
     values.push(7u32)?;
     values.extend_from_slice(&[8, 9])?;
     assert_eq!(rt; values.as_slice(), [7, 8, 9].as_slice());
+    let given = Values::from_slice(rt.alloc(), &[7u32, 8, 9])?;
+    assert_eq!(rt; given.as_slice(), [7, 8, 9].as_slice());
     Ok(())
 }
 
 #[test]
 fn text_and_numbers_are_appended(rt: HostRuntime) -> Result<(), Fail> {
-    let mut out = list(rt.alloc(), b"m = ")?;
+    let mut out = Bytes::from_slice(rt.alloc(), b"m = ")?;
     put_number(&mut out, 0)?;
     put(&mut out, b", most = ")?;
     put_number(&mut out, u128::MAX)?;
@@ -48,7 +42,7 @@ fn more_than_the_limit_is_too_long(rt: HostRuntime) -> Result<(), Fail> {
         (6, true),
         (usize::MAX, true),
     ] {
-        let mut source = SureSource::new(list(rt.alloc(), b"abcde")?, 2);
+        let mut source = SureSource::new(Bytes::from_slice(rt.alloc(), b"abcde")?, 2);
         match read_all(rt.alloc(), &mut source, limit)? {
             Taken::Whole(bytes) => {
                 assert!(rt; fits, "at {limit}");
@@ -62,7 +56,7 @@ fn more_than_the_limit_is_too_long(rt: HostRuntime) -> Result<(), Fail> {
 
 #[test]
 fn a_source_fails_at_its_second_call(rt: HostRuntime) -> Result<(), Fail> {
-    let mut source = MemorySource::new(list(rt.alloc(), b"abcde")?, 2, list(rt.alloc(), &[2])?);
+    let mut source = MemorySource::new(Bytes::from_slice(rt.alloc(), b"abcde")?, 2, Bytes::from_slice(rt.alloc(), &[2])?);
     let mut buffer = [0; 4];
     for given in [Some(2), None, Some(2), Some(1), Some(0)] {
         assert_eq!(rt; source.read(&mut buffer).ok(), given);
@@ -74,7 +68,7 @@ fn a_source_fails_at_its_second_call(rt: HostRuntime) -> Result<(), Fail> {
 
 #[test]
 fn a_fault_is_handed_on(rt: HostRuntime) -> Result<(), Fail> {
-    let mut source = MemorySource::new(list(rt.alloc(), b"abcde")?, 2, list(rt.alloc(), &[2])?);
+    let mut source = MemorySource::new(Bytes::from_slice(rt.alloc(), b"abcde")?, 2, Bytes::from_slice(rt.alloc(), &[2])?);
     let read = read_all(rt.alloc(), &mut source, 9);
     assert!(rt; matches!(read, Err(ReadStop::ReadFault)));
     // The next bytes are still there: no call followed the failed one.
@@ -86,7 +80,7 @@ fn a_fault_is_handed_on(rt: HostRuntime) -> Result<(), Fail> {
 
 #[test]
 fn a_sink_fails_where_its_room_is_used_up(rt: HostRuntime) -> Result<(), Fail> {
-    let mut sink = MemorySink::new(rt.alloc(), 3, 5, list(rt.alloc(), &[2])?)?;
+    let mut sink = MemorySink::new(rt.alloc(), 3, 5, Bytes::from_slice(rt.alloc(), &[2])?)?;
     for taken in [Some(3), None, Some(2), None] {
         assert_eq!(rt; sink.write(b"abcd").ok(), taken);
     }
@@ -121,7 +115,7 @@ fn a_shelf_holds_two_files(rt: HostRuntime) -> Result<(), Fail> {
 
 #[test]
 fn a_shelf_fails_amid_its_second_file(rt: HostRuntime) -> Result<(), Fail> {
-    let mut shelf = MemoryShelf::new(rt.alloc(), 3, 1000, list(rt.alloc(), &[6])?)?;
+    let mut shelf = MemoryShelf::new(rt.alloc(), 3, 1000, Bytes::from_slice(rt.alloc(), &[6])?)?;
     shelve(&mut shelf, b"runs.csv", b"A,B\n")?;
     assert!(rt; shelve(&mut shelf, b"blocks.csv", b"BLOCK\n").is_err());
     assert_eq!(rt; shelf.files(), 2);

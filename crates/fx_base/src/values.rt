@@ -1,4 +1,4 @@
-ghost use Rattle.std.specs.Prelude.{◌≡◌, ◌<◌, ◌↔◌, [], ◌∷◌, ◌++◌, length, slice_index_or, IsTrue, OnErr, OnOk};
+ghost use Rattle.std.specs.Prelude.{◌≡◌, ◌<◌, ◌↔◌, [], ◌∷◌, ◌++◌, length, slice_index_or, IsTrue, IfOk, OnErr, OnOk};
 
 use crate::memory::NoMemory;
 use std::alloc::Global;
@@ -26,6 +26,17 @@ impl<T> Values<T> {
         Values {
             inner: Vec::new(alloc),
         }
+    }
+
+    /// A list of these items.
+    pub fn from_slice(alloc: Global, items: &[T]) -> Result<Values<T>, NoMemory>
+    where
+        T: Copy,
+        ensures { IfOk result (λ values. values ≡ items.now) }
+    {
+        let mut values = Values::new(alloc);
+        values.extend_from_slice(items)?;
+        Ok(values)
     }
 
     /// The list of a vector's items.

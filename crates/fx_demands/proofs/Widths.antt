@@ -1,14 +1,12 @@
 -- How many factors a forbidden vector can have.
 use Rattle.std.proofs.Common.{ℕ, ◌≡◌, ◌<◌, ◌≤◌, ◌+◌, ◌-◌, ◌*◌, ◌/◌, ◌%◌, ◌^◌, zero, suc, true, eqb, ltb, leb, not, List, [], ◌∷◌, refl, subst, ◌∙◌, ap, arith, inl, inr, lit≤}
-use Rattle.std.specs.Prelude.{count_ones, bit_or, bit_xor, All}
+use Rattle.std.specs.Prelude.{count_ones, bit_or, bit_xor, max}
 use Rattle.std.specs.List.{list_any, AllByRecursion}
 use Rattle.std.specs.Int.Count.{ones, ones_cat}
 use Rattle.std.proofs.lemmas.Bool.{cases_eq, eq-eqb, ne_eqb, eqb-true, ltb-true, leb-true, and_parts}
 use Rattle.std.proofs.lemmas.Nat.{or_lt, xor_lt, or_block, xor_block}
-use Rattle.std.proofs.lemmas.List.Elements.{recursion_from_All}
 use Rattle.std.proofs.Math.Nat.{pow-suc, pow-le-pow_right}
-use Rattle.fx_vectors.specs.Effects.{numbers_of}
-use Rattle.fx_vectors.specs.declared.effect.Effect.{Effect}
+use Rattle.fx_vectors.specs.Effects.{most_factors}
 use Rattle.fx_designs.specs.Problems.{AtResolution, ForEffects}
 use Rattle.fx_runs.specs.Supports.{differs, differs_from_some, balances, estimates}
 use Rattle.fx_demands.specs.Supports.{IsMostAlone, IsMostBlocked}
@@ -74,13 +72,10 @@ differs-width q u v x e =
           omega (arith, (both-at x (bit_or u v)).0, (both-at u v).1)
     ]
 
--- none of the effects has more than n factors
-few : (n : ℕ) (effects : List Effect) → All (λ e. count_ones e.0 ≤ n) effects → AllByRecursion (λ e. count_ones e ≤ n) (numbers_of effects)
-few n effects h = numbers n effects (recursion_from_All (λ (e : Effect). count_ones e.0 ≤ n) effects h)
-  where
-    numbers : (n : ℕ) (effects : List Effect) → AllByRecursion (λ (e : Effect). count_ones e.0 ≤ n) effects → AllByRecursion (λ e. count_ones e ≤ n) (numbers_of effects)
-    numbers n [] h = tt
-    numbers n (e ∷ effects) h = (h.0, numbers n effects h.1)
+-- none of the effects has more factors than the most
+few : (n : ℕ) (effects : List ℕ) → most_factors effects ≤ n → AllByRecursion (λ e. count_ones e ≤ n) effects
+few n [] h = tt
+few n (e ∷ effects) h = (omega arith, few n effects (omega arith))
 
 pub alone_at_resolution : (r : ℕ) → IsMostAlone (AtResolution r) (r - 1)
 unfolding balances
@@ -90,27 +85,29 @@ pub blocked_at_resolution : (r : ℕ) → IsMostBlocked (AtResolution r) ((r - 1
 unfolding estimates
 blocked_at_resolution r = record { most = λ x e. (let p = and_parts (ltb 0 (count_ones x)) (leb (count_ones x) ((r - 1) / 2)) e in leb-true _ _ p.1) }
 
-pub blocked_for_effects : (n : ℕ) (estimate besides : List Effect) → All (λ e. count_ones e.0 ≤ n) estimate → IsMostBlocked (ForEffects (numbers_of estimate) (numbers_of besides)) n
+pub blocked_for_effects : (estimate besides : List ℕ) → IsMostBlocked (ForEffects estimate besides) (most_factors estimate)
 unfolding estimates
-blocked_for_effects n estimate besides h = record {
-  most = λ x e.
-      let m = some_item (λ y. eqb y x) (λ y. count_ones y ≤ n) (numbers_of estimate) (few n estimate h) (and_parts (not (eqb x 0)) (list_any (λ y. eqb y x) (numbers_of estimate)) e).1 in
-      subst (λ (y : ℕ). count_ones y ≤ n) (eqb-true m.0 x m.2) m.1;
-}
+blocked_for_effects estimate besides =
+    let n : ℕ = most_factors estimate in
+    record {
+      most = λ x e.
+          let m = some_item (λ y. eqb y x) (λ y. count_ones y ≤ n) estimate (few n estimate (omega arith)) (and_parts (not (eqb x 0)) (list_any (λ y. eqb y x) estimate) e).1 in
+          subst (λ (y : ℕ). count_ones y ≤ n) (eqb-true m.0 x m.2) m.1;
+    }
 
-pub alone_for_effects : (n k : ℕ) (estimate besides : List Effect) → All (λ e. count_ones e.0 ≤ n) estimate → All (λ e. count_ones e.0 ≤ k) besides → (most : ℕ) → n + n ≤ most → n + k ≤ most
-    → IsMostAlone (ForEffects (numbers_of estimate) (numbers_of besides)) most
+pub alone_for_effects : (estimate besides : List ℕ) → IsMostAlone (ForEffects estimate besides) (most_factors estimate + max (most_factors estimate) (most_factors besides))
 unfolding balances ones
-alone_for_effects n k estimate besides he hb most wide wide' = record {
-  most = λ q x e.
-      let E : List ℕ = numbers_of estimate in
-      let B : List ℕ = numbers_of besides in
-      let m = some_item (λ u. differs_from_some q E B x u) (λ u. count_ones u ≤ n) E (few n estimate he) (and_parts (not (eqb x 0)) (list_any (λ u. differs_from_some q E B x u) E) e).1 in
-      elim (either_true (differs q m.0 0 x) _ m.2) [
-        | inl none ↦ let none' : count_ones 0 ≡ 0 = refl in omega (arith, differs-width q m.0 0 x none, m.1)
-        | inr others ↦ elim (either_true (list_any (λ v. differs q m.0 v x) E) (list_any (λ v. differs q m.0 v x) B) others) [
-          | inl in_estimate ↦ let g = some_item (λ v. differs q m.0 v x) (λ u. count_ones u ≤ n) E (few n estimate he) in_estimate in omega (arith, differs-width q m.0 g.0 x g.2, m.1, g.1)
-          | inr in_besides ↦ let g = some_item (λ v. differs q m.0 v x) (λ u. count_ones u ≤ k) B (few k besides hb) in_besides in omega (arith, differs-width q m.0 g.0 x g.2, m.1, g.1)
-        ]
-      ];
-}
+alone_for_effects estimate besides =
+    let n : ℕ = most_factors estimate in
+    let k : ℕ = most_factors besides in
+    record {
+      most = λ q x e.
+          let m = some_item (λ u. differs_from_some q estimate besides x u) (λ u. count_ones u ≤ n) estimate (few n estimate (omega arith)) (and_parts (not (eqb x 0)) (list_any (λ u. differs_from_some q estimate besides x u) estimate) e).1 in
+          elim (either_true (differs q m.0 0 x) _ m.2) [
+            | inl none ↦ let none' : count_ones 0 ≡ 0 = refl in omega (arith, differs-width q m.0 0 x none, m.1)
+            | inr others ↦ elim (either_true (list_any (λ v. differs q m.0 v x) estimate) (list_any (λ v. differs q m.0 v x) besides) others) [
+              | inl in_estimate ↦ let g = some_item (λ v. differs q m.0 v x) (λ u. count_ones u ≤ n) estimate (few n estimate (omega arith)) in_estimate in omega (arith, differs-width q m.0 g.0 x g.2, m.1, g.1)
+              | inr in_besides ↦ let g = some_item (λ v. differs q m.0 v x) (λ u. count_ones u ≤ k) besides (few k besides (omega arith)) in_besides in omega (arith, differs-width q m.0 g.0 x g.2, m.1, g.1)
+            ]
+          ];
+    }

@@ -1,4 +1,4 @@
-ghost use Rattle.std.specs.Prelude.{ℕ, ◌≡◌, ◌==◌, ◌+◌, ◌<◌, ◌≤◌, All, IfOk, IsTrue, length, take, drop, count_ones};
+ghost use Rattle.std.specs.Prelude.{ℕ, ◌≡◌, ◌==◌, ◌+◌, ◌<◌, ◌≤◌, IfOk, IsTrue, length, take, drop};
 ghost use Rattle.std.specs.List.{list_any};
 ghost use Rattle.fx_designs.specs.Vectors.{IsVector, is_zero};
 ghost use Rattle.fx_designs.specs.Demands.{effect_of, is_forbidden_word, is_allowed};
@@ -9,7 +9,7 @@ ghost use Rattle.fx_runs.specs.Supports.{balances, estimates, differs, differs_f
 ghost use Rattle.fx_demands.specs.Supports.{IsMostAlone, IsMostBlocked};
 
 use fx_base::NoMemory;
-use fx_vectors::{Demands, Effects, Question, Shape, Vector};
+use fx_vectors::{Demands, Effects, Question, Shape, Vector, most_factors};
 use std::alloc::Global;
 use std::marker::Model;
 
@@ -54,8 +54,8 @@ impl Forbidden {
                 estimate,
                 nonnegligible,
             } => Demands::Effects {
-                estimate: copy(alloc, estimate)?,
-                nonnegligible: copy(alloc, nonnegligible)?,
+                estimate: Effects::from_slice(alloc, estimate.as_slice())?,
+                nonnegligible: Effects::from_slice(alloc, nonnegligible.as_slice())?,
             },
         };
         let most_alone = most_alone(&demands);
@@ -111,15 +111,6 @@ impl Forbidden {
     }
 }
 
-/// The same effects.
-fn copy(alloc: Global, effects: &Effects) -> Result<Effects, NoMemory>
-    ensures { IfOk result (λ copied. copied ≡ effects.now) }
-{
-    let mut copied = Effects::new(alloc);
-    copied.extend_from_slice(effects.as_slice())?;
-    Ok(copied)
-}
-
 /// The most factors that a vector which has to be balanced can have.
 fn most_alone(demands: &Demands) -> usize
     ensures { IsMostAlone (requirement_of demands.now) result }
@@ -130,8 +121,8 @@ fn most_alone(demands: &Demands) -> usize
             estimate,
             nonnegligible,
         } => {
-            let most = most_factors(estimate);
-            most + most.max(most_factors(nonnegligible))
+            let most = usize::from(most_factors(estimate));
+            most + most.max(usize::from(most_factors(nonnegligible)))
         }
     }
 }
@@ -143,20 +134,8 @@ fn most_blocked(demands: &Demands) -> usize
 {
     match demands {
         Demands::Resolution { r } => usize::from(r.saturating_sub(1) / 2),
-        Demands::Effects { estimate, .. } => most_factors(estimate),
+        Demands::Effects { estimate, .. } => usize::from(most_factors(estimate)),
     }
-}
-
-/// The most factors that one of the effects has.
-fn most_factors(effects: &Effects) -> usize
-    ensures most { All (λ e. count_ones e.0 ≤ result) effects.now }
-    ensures fits { result ≤ 64 }
-{
-    let mut most = 0usize;
-    for e in effects.as_slice() {
-        most = most.max(e.0.count_ones() as usize);
-    }
-    most
 }
 
 /// Where the first `s` codes are not zero, as an effect.

@@ -47,9 +47,7 @@ fn two_effects(alloc: Global) -> Result<Question, NoMemory>
     ensures valid { IfOk result IsValid }
     ensures shape { IfOk result (λ question. question.shape ≡ record { q = 2; m = 1; s = 2; t = 0 }) }
 {
-    let mut estimate = Effects::new(alloc);
-    estimate.push(Effect(1))?;
-    estimate.push(Effect(2))?;
+    let estimate = Effects::from_slice(alloc, &[Effect(1), Effect(2)])?;
     Ok(Question {
         shape: Shape {
             q: 2,
@@ -68,10 +66,7 @@ fn two_effects(alloc: Global) -> Result<Question, NoMemory>
 /// BC, AD and BC again: AD stands before BC, and their union is ABCD.
 #[test]
 fn unions_come_once_and_in_order(rt: HostRuntime) -> Result<(), Fail> {
-    let mut stars = Effects::new(rt.alloc());
-    stars.push(Effect(6))?;
-    stars.push(Effect(9))?;
-    stars.push(Effect(6))?;
+    let stars = Effects::from_slice(rt.alloc(), &[Effect(6), Effect(9), Effect(6)])?;
     let unions = bars(rt.alloc(), &stars, 4)?;
     assert!(rt; unions.as_slice() == [Effect(9), Effect(6), Effect(15)].as_slice());
     let pairs = bars(rt.alloc(), &stars, 2)?;
@@ -100,11 +95,8 @@ fn pairs_are_counted(rt: HostRuntime) -> Result<(), Fail> {
         s: 3,
         t: 0,
     };
-    let mut estimate = Effects::new(rt.alloc());
-    estimate.push(Effect(1))?;
-    estimate.push(Effect(3))?;
-    let mut others = Effects::new(rt.alloc());
-    others.push(Effect(4))?;
+    let estimate = Effects::from_slice(rt.alloc(), &[Effect(1), Effect(3)])?;
+    let mut others = Effects::from_slice(rt.alloc(), &[Effect(4)])?;
     assert!(rt; pair_count(shape.field(), &estimate, &others) == Some(48));
     others.push(Effect(u64::MAX))?;
     assert!(rt; pair_count(shape.field(), &estimate, &others).is_none());

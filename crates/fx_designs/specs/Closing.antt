@@ -21,7 +21,7 @@ is_preferred q u v = nat_lt (weight u) (weight v) || ((weight u == weight v) && 
 abbrev pub is_best : ℕ → List (List ℕ) → List ℕ → Bool
 is_best q words u = list_all (λ v. not (is_preferred q v u)) words
 
--- the words that close a prefix
+-- all words that close a prefix
 abbrev pub words_of : Dimensions → Requirement → List ℕ → List (List ℕ)
 words_of d wanted rows = filter (closes d wanted rows) (points d.q (length rows))
 

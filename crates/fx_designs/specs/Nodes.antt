@@ -19,12 +19,13 @@ parent rows = take (length rows - 1) rows
 abbrev pub last_row : List ℕ → ℕ
 last_row rows = slice_index rows (length rows - 1)
 
+-- whether no row is missing
 abbrev pub is_whole : Problem → List ℕ → Bool
 is_whole p rows = length rows == p.dimensions.s + p.dimensions.t
 
--- a complete allowed matrix: a canonical matrix that is allowed
-abbrev pub is_complete : Problem → List ℕ → Bool
-is_complete p rows = is_whole p rows && (is_canonical p.dimensions p.requirement rows && is_allowed p.dimensions p.requirement rows)
+-- a complete allowed matrix: a canonical prefix with all its rows that is allowed
+abbrev pub is_complete_allowed : Problem → List ℕ → Bool
+is_complete_allowed p rows = is_whole p rows && (is_canonical p.dimensions p.requirement rows && is_allowed p.dimensions p.requirement rows)
 
 -- Prefixes with the same first m + 1 rows are in one lot, and with the same first m + 2 rows in one job.
 abbrev pub lot_of : Dimensions → List ℕ → List ℕ
@@ -53,7 +54,7 @@ abbrev pub is_branch : Problem → List ℕ → Bool
 is_branch p rows =
     is_allowed p.dimensions p.requirement rows
     && (nat_lt (length rows) (p.dimensions.s + p.dimensions.t)
-    && not (list_any (λ matrix. is_complete p matrix && excludes p matrix rows) (prefixes p)))
+    && not (list_any (λ matrix. is_complete_allowed p matrix && excludes p matrix rows) (prefixes p)))
 
 -- whether the answer, where there is one, does not stand before the rows
 abbrev pub is_not_after : Option (List ℕ) → List ℕ → Bool
@@ -68,6 +69,7 @@ is_node p rows =
     && (((length (parent rows) == 0) || is_branch p (parent rows))
     && (p.least || is_not_after (answer p) rows))
 
+-- all nodes, in the order of the list of prefixes
 unfoldable pub nodes : Problem → List (List ℕ)
 nodes p = filter (is_node p) (prefixes p)
 

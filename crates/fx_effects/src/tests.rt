@@ -12,9 +12,7 @@ use std::test::Fail;
 fn names(alloc: Global, texts: &[&[u8]]) -> Result<Names, NoMemory> {
     let mut names = Names::new(alloc);
     for text in texts {
-        let mut name = Bytes::new(alloc);
-        name.extend_from_slice(*text)?;
-        names.push(name)?;
+        names.push(Bytes::from_slice(alloc, *text)?)?;
     }
     Ok(names)
 }

@@ -10,7 +10,7 @@ ghost use Rattle.fx_factors.specs.Items.{before_slash, item, last_behind};
 ghost use Rattle.fx_factors.specs.Factors.{added, are_known, factors_of, known_at};
 
 use crate::range::{is_range, number_at_end, stem};
-use fx_base::{Bytes, NoMemory, put, put_number};
+use fx_base::{Bytes, NoMemory, put_number};
 use fx_language::Symbol;
 use fx_text::{Lexeme, Names, ParseStop, place_of};
 use std::alloc::Global;
@@ -79,9 +79,7 @@ fn add_name(
     if place_of(name.text(), names.as_slice()).is_some() {
         return Err(ParseStop::Refused(name.refused(5)));
     }
-    let mut copy = Bytes::new(alloc);
-    put(&mut copy, name.text())?;
-    names.push(copy)?;
+    names.push(Bytes::from_slice(alloc, name.text())?)?;
     Ok(())
 }
 
@@ -137,8 +135,7 @@ fn add_numbered(
 pub fn numbered_name(alloc: Global, stem: &[u8], number: u128) -> Result<Bytes, NoMemory>
     ensures { IfOk result (λ name. name ≡ stem.now ++ decimal number) }
 {
-    let mut name = Bytes::new(alloc);
-    put(&mut name, stem)?;
+    let mut name = Bytes::from_slice(alloc, stem)?;
     put_number(&mut name, number)?;
     Ok(name)
 }

@@ -36,6 +36,20 @@ last-code q f (a ∷ r) h =
       | inr ne ↦ rw (ne_eqb _ _ ne) (last-code q f r h.1)
     ]
 
+-- the last nonzero code of a multiple
+pub last-scale : (q : ℕ) (f : IsField q) (c : ℕ) (r : List ℕ) → 0 < c → c < q → AllByRecursion (λ a. a < q) r → last_nonzero (scale q c r) ≡ mul q c (last_nonzero r)
+last-scale q f c [] some hc h = sym (f.mul_zero c)
+last-scale q f c (a ∷ r) some hc h =
+    let rest = last-scale q f c r some hc h.1 in
+    elim (cases_eq (last_nonzero r) 0) [
+      | inl e ↦
+          let none : last_nonzero (scale q c r) ≡ 0 = rest ∙ ap (mul q c) e ∙ f.mul_zero c in
+          rw (none, e) refl
+      | inr ne ↦
+          let some' : last_nonzero (scale q c r) ≡ 0 → ⊥ = λ z. ne (mul-zero-either q f (last_nonzero r) c (last-code q f r h.1) hc some (f.mul_comm (last_nonzero r) c ∙ sym rest ∙ z)) in
+          rw (ne_eqb _ _ some', ne_eqb _ _ ne) rest
+    ]
+
 module _ (q m : ℕ) (f : IsField q) where
   pub rank-snoc : (bs xs : List (List ℕ)) (r : List ℕ) → rank_after q m bs (xs ++ r ∷ []) ≡ rank_after q m bs xs + cond (in_span q m (bs ++ xs) r) 0 1
   rank-snoc bs [] r = ap (λ z. cond (in_span q m z r) 0 1 + 0) (sym (append-nil bs)) ∙ omega arith
@@ -83,19 +97,6 @@ module _ (q m : ℕ) (f : IsField q) where
   abbrev pub normal_factor : List ℕ → ℕ
   normal_factor r = cond (eqb (last_nonzero r) 0) 1 (inv q (last_nonzero r))
 
-  last-scale : (c : ℕ) (r : List ℕ) → 0 < c → c < q → AllByRecursion (λ a. a < q) r → last_nonzero (scale q c r) ≡ mul q c (last_nonzero r)
-  last-scale c [] some hc h = sym (f.mul_zero c)
-  last-scale c (a ∷ r) some hc h =
-      let rest = last-scale c r some hc h.1 in
-      elim (cases_eq (last_nonzero r) 0) [
-        | inl e ↦
-            let none : last_nonzero (scale q c r) ≡ 0 = rest ∙ ap (mul q c) e ∙ f.mul_zero c in
-            rw (none, e) refl
-        | inr ne ↦
-            let some' : last_nonzero (scale q c r) ≡ 0 → ⊥ = λ z. ne (mul-zero-either q f (last_nonzero r) c (last-code q f r h.1) hc some (f.mul_comm (last_nonzero r) c ∙ sym rest ∙ z)) in
-            rw (ne_eqb _ _ some', ne_eqb _ _ ne) rest
-      ]
-
   last-zero : (n : ℕ) (r : List ℕ) → length r ≡ n → last_nonzero r ≡ 0 → r ≡ zeros n
   last-zero zero [] e h = refl
   last-zero (suc n) [] e h = absurd (omega arith)
@@ -129,7 +130,7 @@ module _ (q m : ℕ) (f : IsField q) where
         | inl e ↦ inl (let z = last-zero m r h.len e in ap (scale q (normal_factor r)) z ∙ ext q m f _ _ (scale-vector q m f (normal_factor r) (zeros m) (zeros-vector q m f)) (zeros-vector q m f) (λ p. dot-scale q f (normal_factor r) (zeros m) p ∙ (rw (dot-zeros q f m p) (f.mul_zero (normal_factor r)))))
         | inr ne ↦
             let c = normal_factor-code r h.codes in
-            inr (last-scale (normal_factor r) r c.0 c.1 h.codes ∙ (rw (ne_eqb _ _ ne) (inv-mul q f (last_nonzero r) (omega arith) (last-code q f r h.codes))))
+            inr (last-scale q f (normal_factor r) r c.0 c.1 h.codes ∙ (rw (ne_eqb _ _ ne) (inv-mul q f (last_nonzero r) (omega arith) (last-code q f r h.codes))))
       ]
 
   pub scale-one : (r : List ℕ) → IsVector q m r → scale q 1 r ≡ r

@@ -4,7 +4,7 @@ ghost use Rattle.fx_outputs.specs.Blocks.{begins_values, block_values, column_is
 
 use crate::option::{at, begins, from};
 use crate::setting::{BlockCount, Setting};
-use crate::value::{copy, counted_values};
+use crate::value::counted_values;
 use fx_base::{Bytes, NoMemory};
 use fx_language::Symbol;
 use fx_text::{Lexeme, Names, ParseStop, Refusal, place_of};
@@ -57,7 +57,7 @@ pub fn block_name(alloc: Global, blockname: &[Lexeme<'_>]) -> Result<Bytes, NoMe
     ensures { IfOk result (λ name. name ≡ name_or_empty (slice_get blockname.now 2)) }
 {
     match at(blockname, 2) {
-        Some(name) => copy(alloc, name.text()),
+        Some(name) => Bytes::from_slice(alloc, name.text()),
         None => Ok(Bytes::new(alloc)),
     }
 }

@@ -11,7 +11,6 @@ use crate::recode::{Recodes, recodes};
 use crate::replication::{replication, rows_in_range};
 use crate::setting::Setting;
 use crate::shuffle::{Shuffle, shuffle_asked};
-use crate::value::copy;
 use fx_base::{Bytes, Items};
 use fx_language::Symbol;
 use fx_text::{Lexeme, Names, ParseStop, Refusal, Statement, place_of};
@@ -70,7 +69,7 @@ pub fn outputs(
                 name,
                 &lexemes[3..],
             )?;
-            earlier.push(copy(alloc, output.name.as_slice())?)?;
+            earlier.push(Bytes::from_slice(alloc, output.name.as_slice())?)?;
             outputs.push(output)?;
         }
     }
@@ -107,7 +106,7 @@ fn output(
     let block_values = block_values(alloc, setting.blocks, blockname)?;
     let recodes = recodes(alloc, setting, lexemes)?;
     Ok(OutputSpec {
-        name: copy(alloc, name.text())?,
+        name: Bytes::from_slice(alloc, name.text())?,
         pointrep,
         designrep,
         shuffle,

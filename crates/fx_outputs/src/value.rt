@@ -65,7 +65,7 @@ fn value(alloc: Global, signed: bool, w: &Lexeme<'_>) -> Result<Bytes, NoMemory>
     if signed {
         return with_sign(alloc, w.text());
     }
-    copy(alloc, w.text())
+    Bytes::from_slice(alloc, w.text())
 }
 
 /// The inside of a quoted text, each doubled quote once.
@@ -95,15 +95,6 @@ fn with_sign(alloc: Global, text: &[u8]) -> Result<Bytes, NoMemory>
 {
     let mut bytes = Bytes::new(alloc);
     bytes.push(b'-')?;
-    bytes.extend_from_slice(text)?;
-    Ok(bytes)
-}
-
-/// The same bytes.
-pub fn copy(alloc: Global, text: &[u8]) -> Result<Bytes, NoMemory>
-    ensures { IfOk result (λ bytes. bytes ≡ text.now) }
-{
-    let mut bytes = Bytes::new(alloc);
     bytes.extend_from_slice(text)?;
     Ok(bytes)
 }

@@ -53,19 +53,10 @@ fn demands_of(alloc: Global, wanted: &Wanted) -> Result<Demands, NoMemory>
             estimate,
             nonnegligible,
         } => Ok(Demands::Effects {
-            estimate: copy(alloc, estimate)?,
-            nonnegligible: copy(alloc, nonnegligible)?,
+            estimate: Effects::from_slice(alloc, estimate.as_slice())?,
+            nonnegligible: Effects::from_slice(alloc, nonnegligible.as_slice())?,
         }),
     }
-}
-
-/// The same effects.
-fn copy(alloc: Global, effects: &Effects) -> Result<Effects, NoMemory>
-    ensures { IfOk result (λ copied. copied ≡ effects.now) }
-{
-    let mut copied = Effects::new(alloc);
-    copied.extend_from_slice(effects.as_slice())?;
-    Ok(copied)
 }
 
 /// Whether a step is of a form that is built.

@@ -22,6 +22,8 @@ use Rattle.fx_vectors.specs.Effects.{numbers_of}
 use Rattle.fx_vectors.specs.declared.effect.Effect.{Effect}
 use Rattle.fx_runs.specs.Runs.{RunsView}
 use Rattle.fx_runs.specs.Supports.{differs, differs_from_some, balances}
+use Rattle.fx_runs.specs.declared.walk.Within.{Within}
+use Rattle.fx_runs.specs.declared.walk.Within.TheVariants.{AllRuns, EachBlock}
 use Rattle.fx_runs.specs.Walks.{bit_of, is_among, is_balanced_over, each_balanced, AreBalancedFrom}
 use Rattle.fx_runs.proofs.Supports.{bit-small, is_zero-effect}
 use Rattle.fx_runs.proofs.Differences.{or-bit, xor-bit, differs-cons}
@@ -143,7 +145,7 @@ among-effect e most f h =
     turn : (a b : ℕ) → eqb a b ≡ eqb b a
     turn a b = grind (arith, nat_tests)
 
-module _ (runs : RunsView) (in_blocks : Bool) where
+module _ (runs : RunsView) (within : Within) where
   abbrev q : ℕ
   q = runs.shape.q
 
@@ -156,20 +158,20 @@ module _ (runs : RunsView) (in_blocks : Bool) where
 
   -- all codes are chosen
   pub whole : (inner outer most : ℕ) (start : List ℕ) → length start ≡ s
-      → (inner ≡ 0 → 0 < weight start → is_balanced_over runs in_blocks start ≡ true) → AreBalancedFrom runs in_blocks inner outer most start
+      → (inner ≡ 0 → 0 < weight start → is_balanced_over runs within start ≡ true) → AreBalancedFrom runs within inner outer most start
   whole inner outer most start all balanced = record { each = each }
     where
-      each : (rest : List ℕ) → IsVector q s (start ++ rest) → is_among inner outer most rest ≡ true → 0 < weight (start ++ rest) → is_balanced_over runs in_blocks (start ++ rest) ≡ true
+      each : (rest : List ℕ) → IsVector q s (start ++ rest) → is_among inner outer most rest ≡ true → 0 < weight (start ++ rest) → is_balanced_over runs within (start ++ rest) ≡ true
       each [] h among heavy =
           let e : start ++ [] ≡ start = append-nil start in
-          subst (λ (f : List ℕ). is_balanced_over runs in_blocks f ≡ true) (sym e) (balanced (eqb-true inner 0 among) (subst (λ (f : List ℕ). 0 < weight f) e heavy))
+          subst (λ (f : List ℕ). is_balanced_over runs within f ≡ true) (sym e) (balanced (eqb-true inner 0 among) (subst (λ (f : List ℕ). 0 < weight f) e heavy))
       each (c ∷ rest) h among heavy = absurd (omega (arith, h.len, length-append start (c ∷ rest)))
 
-  pub whole-tells : (inner outer most : ℕ) (start : List ℕ) → IsVector q s start → AreBalancedFrom runs in_blocks inner outer most start
-      → inner ≡ 0 → 0 < weight start → is_balanced_over runs in_blocks start ≡ true
+  pub whole-tells : (inner outer most : ℕ) (start : List ℕ) → IsVector q s start → AreBalancedFrom runs within inner outer most start
+      → inner ≡ 0 → 0 < weight start → is_balanced_over runs within start ≡ true
   whole-tells inner outer most start h all none heavy =
       let e : start ≡ start ++ [] = sym (append-nil start) in
-      subst (λ (f : List ℕ). is_balanced_over runs in_blocks f ≡ true) (sym e)
+      subst (λ (f : List ℕ). is_balanced_over runs within f ≡ true) (sym e)
       (all.each [] (subst (IsVector q s) e h) (eq-eqb inner 0 none) (subst (λ (f : List ℕ). 0 < weight f) e heavy))
 
   -- the codes that may come next
@@ -177,11 +179,11 @@ module _ (runs : RunsView) (in_blocks : Bool) where
   codes_of outer most = cond (eqb (min (outer % 2) most) 0) 1 q
 
   pub each-code : (inner outer most : ℕ) (start : List ℕ) → length start < s
-      → ((c : ℕ) → inner % 2 ≤ c → c < codes_of outer most → AreBalancedFrom runs in_blocks (inner / 2) (outer / 2) (most - bit_of c) (start ++ c ∷ []))
-      → AreBalancedFrom runs in_blocks inner outer most start
+      → ((c : ℕ) → inner % 2 ≤ c → c < codes_of outer most → AreBalancedFrom runs within (inner / 2) (outer / 2) (most - bit_of c) (start ++ c ∷ []))
+      → AreBalancedFrom runs within inner outer most start
   each-code inner outer most start more all = record { each = each }
     where
-      each : (rest : List ℕ) → IsVector q s (start ++ rest) → is_among inner outer most rest ≡ true → 0 < weight (start ++ rest) → is_balanced_over runs in_blocks (start ++ rest) ≡ true
+      each : (rest : List ℕ) → IsVector q s (start ++ rest) → is_among inner outer most rest ≡ true → 0 < weight (start ++ rest) → is_balanced_over runs within (start ++ rest) ≡ true
       each [] h among heavy = absurd (omega (arith, h.len, length-append start []))
       each (c ∷ rest) h among heavy =
           let parts = and_parts (nat_le (inner % 2) (bit_of c)) (nat_le (bit_of c) (min (outer % 2) most) && is_among (inner / 2) (outer / 2) (most - bit_of c) rest) among in
@@ -192,36 +194,36 @@ module _ (runs : RunsView) (in_blocks : Bool) where
           let least : inner % 2 ≤ c = grind (arith, nat_tests) in
           let below : c < codes_of outer most = grind (arith, nat_tests) in
           let e : start ++ c ∷ rest ≡ (start ++ c ∷ []) ++ rest = sym (append_assoc start (c ∷ []) rest) in
-          subst (λ (f : List ℕ). is_balanced_over runs in_blocks f ≡ true) (sym e)
+          subst (λ (f : List ℕ). is_balanced_over runs within f ≡ true) (sym e)
           ((all c least below).each rest (subst (IsVector q s) e h) parts'.1 (subst (λ (f : List ℕ). 0 < weight f) e heavy))
 
-  pub one-code : (inner outer most : ℕ) (start : List ℕ) (c : ℕ) → inner % 2 ≤ c → c < codes_of outer most → AreBalancedFrom runs in_blocks inner outer most start
-      → AreBalancedFrom runs in_blocks (inner / 2) (outer / 2) (most - bit_of c) (start ++ c ∷ [])
+  pub one-code : (inner outer most : ℕ) (start : List ℕ) (c : ℕ) → inner % 2 ≤ c → c < codes_of outer most → AreBalancedFrom runs within inner outer most start
+      → AreBalancedFrom runs within (inner / 2) (outer / 2) (most - bit_of c) (start ++ c ∷ [])
   one-code inner outer most start c least below all = record {
     each = λ rest h among heavy.
         let e : (start ++ c ∷ []) ++ rest ≡ start ++ c ∷ rest = append_assoc start (c ∷ []) rest in
         let low : nat_le (inner % 2) (bit_of c) ≡ true = le-leb _ _ (grind (arith, nat_tests)) in
         let high : nat_le (bit_of c) (min (outer % 2) most) ≡ true = le-leb _ _ (grind (arith, nat_tests)) in
-        subst (λ (f : List ℕ). is_balanced_over runs in_blocks f ≡ true) (sym e)
+        subst (λ (f : List ℕ). is_balanced_over runs within f ≡ true) (sym e)
         (all.each (c ∷ rest) (subst (IsVector q s) e h) (and_from _ _ low (and_from _ _ high among)) (subst (λ (f : List ℕ). 0 < weight f) e heavy));
   }
 
   module _ (some : 0 < runs.shape.q) where
     pub each_decides : (test : List ℕ → Bool)
-        → Decides (each_balanced runs in_blocks test) ((f : List ℕ) → IsVector q s f → test f ≡ true → is_balanced_over runs in_blocks f ≡ true)
+        → Decides (each_balanced runs within test) ((f : List ℕ) → IsVector q s f → test f ≡ true → is_balanced_over runs within f ≡ true)
     unfolding each_balanced
     each_decides test =
-        let both = points_decides q s some (λ f. not (test f) || is_balanced_over runs in_blocks f) in (
-          λ e f h. (implies_decides (test f) (is_balanced_over runs in_blocks f)).0 (both.0 e f h),
-          λ all. both.1 (λ f h. (implies_decides (test f) (is_balanced_over runs in_blocks f)).1 (all f h)),
+        let both = points_decides q s some (λ f. not (test f) || is_balanced_over runs within f) in (
+          λ e f h. (implies_decides (test f) (is_balanced_over runs within f)).0 (both.0 e f h),
+          λ all. both.1 (λ f h. (implies_decides (test f) (is_balanced_over runs within f)).1 (all f h)),
         )
 
     -- from no code on
-    pub from_none : (b : Bool) (inner outer most : ℕ) → IsTrue b ↔ AreBalancedFrom runs in_blocks inner outer most []
-        → b ≡ each_balanced runs in_blocks (λ f. not (is_zero f) && is_among inner outer most f)
+    pub from_none : (b : Bool) (inner outer most : ℕ) → IsTrue b ↔ AreBalancedFrom runs within inner outer most []
+        → b ≡ each_balanced runs within (λ f. not (is_zero f) && is_among inner outer most f)
     from_none b inner outer most told =
         let both = each_decides (λ f. not (is_zero f) && is_among inner outer most f) in
-        bool-same b (each_balanced runs in_blocks (λ f. not (is_zero f) && is_among inner outer most f))
+        bool-same b (each_balanced runs within (λ f. not (is_zero f) && is_among inner outer most f))
         (λ e. both.1 (λ f h among.
         let parts = and_parts (not (is_zero f)) (is_among inner outer most f) among in
         (told.0 e).each f h parts.1 (heavy f parts.0)))
@@ -234,7 +236,7 @@ module _ (runs : RunsView) (in_blocks : Bool) where
         not-zero f h = grind (arith, nat_tests)
 
     -- two tests that say the same of each vector
-    pub each-same : (test other : List ℕ → Bool) → ((f : List ℕ) → IsVector q s f → test f ≡ other f) → each_balanced runs in_blocks test ≡ each_balanced runs in_blocks other
+    pub each-same : (test other : List ℕ → Bool) → ((f : List ℕ) → IsVector q s f → test f ≡ other f) → each_balanced runs within test ≡ each_balanced runs within other
     each-same test other same =
         let one = each_decides test in
         let two = each_decides other in
@@ -242,7 +244,7 @@ module _ (runs : RunsView) (in_blocks : Bool) where
 
     -- vectors that are not zero and pass one test or another
     pub each-either : (a b : List ℕ → Bool)
-        → each_balanced runs in_blocks (λ f. not (is_zero f) && (a f || b f)) ≡ (each_balanced runs in_blocks (λ f. not (is_zero f) && a f) && each_balanced runs in_blocks (λ f. not (is_zero f) && b f))
+        → each_balanced runs within (λ f. not (is_zero f) && (a f || b f)) ≡ (each_balanced runs within (λ f. not (is_zero f) && a f) && each_balanced runs within (λ f. not (is_zero f) && b f))
     each-either a b =
         let whole = each_decides (λ f. not (is_zero f) && (a f || b f)) in
         let one = each_decides (λ f. not (is_zero f) && a f) in
@@ -252,7 +254,7 @@ module _ (runs : RunsView) (in_blocks : Bool) where
         (one.1 (λ f h t. let p = and_parts (not (is_zero f)) (a f) t in whole.0 e f h (and_from _ _ p.0 (or_left (a f) (b f) p.1))))
         (two.1 (λ f h t. let p = and_parts (not (is_zero f)) (b f) t in whole.0 e f h (and_from _ _ p.0 (or_right (a f) (b f) p.1)))))
         (λ e.
-        let both = and_parts (each_balanced runs in_blocks (λ f. not (is_zero f) && a f)) (each_balanced runs in_blocks (λ f. not (is_zero f) && b f)) e in
+        let both = and_parts (each_balanced runs within (λ f. not (is_zero f) && a f)) (each_balanced runs within (λ f. not (is_zero f) && b f)) e in
         whole.1 (λ f h t.
         let p = and_parts (not (is_zero f)) (a f || b f) t in
         elim (either_true (a f) (b f) p.1) [
@@ -262,23 +264,23 @@ module _ (runs : RunsView) (in_blocks : Bool) where
 
     -- vectors that are not zero and pass the test of one of some effects
     pub each-any : (test : ℕ → List ℕ → Bool) (effects : List Effect)
-        → list_all (λ e. each_balanced runs in_blocks (λ f. not (is_zero f) && test e.0 f)) effects ≡ each_balanced runs in_blocks (λ f. not (is_zero f) && list_any (λ e. test e f) (numbers_of effects))
+        → list_all (λ e. each_balanced runs within (λ f. not (is_zero f) && test e.0 f)) effects ≡ each_balanced runs within (λ f. not (is_zero f) && list_any (λ e. test e f) (numbers_of effects))
     each-any test [] = sym ((each_decides (λ f. not (is_zero f) && false)).1 (λ f h t. absurd (both_ways false refl (and_parts (not (is_zero f)) false t).1)))
     each-any test (e ∷ effects) =
-        ap (λ (b : Bool). each_balanced runs in_blocks (λ f. not (is_zero f) && test e.0 f) && b) (each-any test effects)
+        ap (λ (b : Bool). each_balanced runs within (λ f. not (is_zero f) && test e.0 f) && b) (each-any test effects)
         ∙ sym (each-either (test e.0) (λ f. list_any (λ e. test e f) (numbers_of effects)))
 
     -- the differences of vectors of one effect and of others or zero
     pub each-told : (estimate besides : List Effect) (u : ℕ)
-        → (each_balanced runs in_blocks (λ f. not (is_zero f) && differs q u 0 (effect_of f))
-        && (list_all (λ v. each_balanced runs in_blocks (λ f. not (is_zero f) && differs q u v.0 (effect_of f))) estimate
-        && list_all (λ v. each_balanced runs in_blocks (λ f. not (is_zero f) && differs q u v.0 (effect_of f))) besides))
-        ≡ each_balanced runs in_blocks (λ f. not (is_zero f) && differs_from_some q (numbers_of estimate) (numbers_of besides) (effect_of f) u)
+        → (each_balanced runs within (λ f. not (is_zero f) && differs q u 0 (effect_of f))
+        && (list_all (λ v. each_balanced runs within (λ f. not (is_zero f) && differs q u v.0 (effect_of f))) estimate
+        && list_all (λ v. each_balanced runs within (λ f. not (is_zero f) && differs q u v.0 (effect_of f))) besides))
+        ≡ each_balanced runs within (λ f. not (is_zero f) && differs_from_some q (numbers_of estimate) (numbers_of besides) (effect_of f) u)
     each-told estimate besides u =
         let one = λ (v : ℕ) (f : List ℕ). differs q u v (effect_of f) in
         let any = λ (effects : List Effect) (f : List ℕ). list_any (λ v. differs q u v (effect_of f)) (numbers_of effects) in
-        ap₂ (λ (a b : Bool). each_balanced runs in_blocks (λ f. not (is_zero f) && one 0 f) && (a && b)) (each-any one estimate) (each-any one besides)
-        ∙ ap (λ (b : Bool). each_balanced runs in_blocks (λ f. not (is_zero f) && one 0 f) && b) (sym (each-either (any estimate) (any besides)))
+        ap₂ (λ (a b : Bool). each_balanced runs within (λ f. not (is_zero f) && one 0 f) && (a && b)) (each-any one estimate) (each-any one besides)
+        ∙ ap (λ (b : Bool). each_balanced runs within (λ f. not (is_zero f) && one 0 f) && b) (sym (each-either (any estimate) (any besides)))
         ∙ sym (each-either (one 0) (λ f. any estimate f || any besides f))
 
   module _ (f : IsField runs.shape.q) where
@@ -290,8 +292,8 @@ module _ (runs : RunsView) (in_blocks : Bool) where
 
     -- vectors that have to be balanced
     pub each-demanded : (estimate besides : List Effect) → CanBeAsked d (ForEffects (numbers_of estimate) (numbers_of besides))
-        → list_all (λ u. each_balanced runs in_blocks (λ x. not (is_zero x) && differs_from_some q (numbers_of estimate) (numbers_of besides) (effect_of x) u.0)) estimate
-        ≡ each_balanced runs in_blocks (must_balance d (ForEffects (numbers_of estimate) (numbers_of besides)))
+        → list_all (λ u. each_balanced runs within (λ x. not (is_zero x) && differs_from_some q (numbers_of estimate) (numbers_of besides) (effect_of x) u.0)) estimate
+        ≡ each_balanced runs within (must_balance d (ForEffects (numbers_of estimate) (numbers_of besides)))
     unfolding balances
     each-demanded estimate besides asked =
         each-any some_code (λ u x. differs_from_some q (numbers_of estimate) (numbers_of besides) (effect_of x) u) estimate
@@ -300,7 +302,7 @@ module _ (runs : RunsView) (in_blocks : Bool) where
         ∙ sym (balances-is d f (ForEffects (numbers_of estimate) (numbers_of besides)) asked x h))
 
     pub each-light : (r : ℕ) (among : List ℕ → Bool) → s ≤ 40 → ((x : List ℕ) → length x ≤ 40 → among x ≡ nat_le (weight x) (r - 1)) → 3 ≤ r
-        → each_balanced runs in_blocks (λ x. not (is_zero x) && among x) ≡ each_balanced runs in_blocks (must_balance d (AtResolution r))
+        → each_balanced runs within (λ x. not (is_zero x) && among x) ≡ each_balanced runs within (must_balance d (AtResolution r))
     unfolding must_balance
     each-light r among few told more = each-same some_code _ (must_balance d (AtResolution r)) (λ x h.
         let is = told x (omega (arith, h.len)) in
@@ -308,12 +310,12 @@ module _ (runs : RunsView) (in_blocks : Bool) where
 
     -- vectors of effects to be estimated
     pub each-estimated : (estimate besides : List Effect)
-        → list_all (λ e. each_balanced runs in_blocks (λ x. not (is_zero x) && eqb e.0 (effect_of x))) estimate ≡ each_balanced runs in_blocks (is_estimated (ForEffects (numbers_of estimate) (numbers_of besides)))
+        → list_all (λ e. each_balanced runs within (λ x. not (is_zero x) && eqb e.0 (effect_of x))) estimate ≡ each_balanced runs within (is_estimated (ForEffects (numbers_of estimate) (numbers_of besides)))
     unfolding is_estimated
     each-estimated estimate besides = each-any some_code (λ e x. eqb e (effect_of x)) estimate
 
     pub each-few : (r : ℕ) (among : List ℕ → Bool) → s ≤ 40 → ((x : List ℕ) → length x ≤ 40 → among x ≡ nat_le (weight x) ((r - 1) / 2))
-        → each_balanced runs in_blocks (λ x. not (is_zero x) && among x) ≡ each_balanced runs in_blocks (is_estimated (AtResolution r))
+        → each_balanced runs within (λ x. not (is_zero x) && among x) ≡ each_balanced runs within (is_estimated (AtResolution r))
     unfolding is_estimated
     each-few r among few told = each-same some_code _ (is_estimated (AtResolution r)) (λ x h.
         let is = told x (omega (arith, h.len)) in
@@ -322,13 +324,13 @@ module _ (runs : RunsView) (in_blocks : Bool) where
 -- what it is that runs meet the demands
 module _ (runs : RunsView) (question : Question) (same : runs.shape ≡ question.shape) where
   abbrev balanced : Bool
-  balanced = each_balanced runs false (must_balance (dimensions_of runs.shape) (requirement_of question.demands))
+  balanced = each_balanced runs AllRuns (must_balance (dimensions_of runs.shape) (requirement_of question.demands))
 
   abbrev even : Bool
   even = are_blocks_even runs.shape.q runs.shape.s (runs.shape.q ^ runs.shape.t) runs.rows
 
   abbrev estimable : Bool
-  estimable = each_balanced runs true (is_estimated (requirement_of question.demands))
+  estimable = each_balanced runs EachBlock (is_estimated (requirement_of question.demands))
 
   abbrev met : Bool
   met = do_runs_meet (dimensions_of question.shape) (requirement_of question.demands) runs.rows

@@ -7,11 +7,12 @@ ghost use Rattle.fx_vectors.specs.Effects.{numbers_of};
 ghost use Rattle.fx_vectors.specs.Question.{requirement_of, CanBeAsked, IsValid};
 ghost use Rattle.fx_runs.specs.Runs.{AreRuns};
 ghost use Rattle.fx_runs.specs.Supports.{differs, differs_from_some};
+ghost use Rattle.fx_runs.specs.declared.walk.Within.TheVariants.{AllRuns, EachBlock};
 ghost use Rattle.fx_runs.specs.Walks.{each_balanced};
 
 use crate::block_balance::are_blocks_even;
 use crate::runs::Runs;
-use crate::walk::Supports;
+use crate::walk::{Supports, Within};
 use fx_vectors::{Demands, Effects, Question};
 
 /// Whether the runs meet the question's demands, judged from the runs alone.
@@ -40,11 +41,11 @@ pub fn meets(question: &Question, runs: &Runs) -> bool
 fn are_balanced(demands: &Demands, runs: &Runs) -> bool
     requires shaped { IsShape runs.now.shape }
     requires asked { CanBeAsked (dimensions_of runs.now.shape) (requirement_of demands.now) }
-    ensures { result ≡ each_balanced runs.now false (must_balance (dimensions_of runs.now.shape) (requirement_of demands.now)) }
+    ensures { result ≡ each_balanced runs.now AllRuns (must_balance (dimensions_of runs.now.shape) (requirement_of demands.now)) }
 {
     match demands {
         Demands::Resolution { r } => {
-            Supports::of_at_most(usize::from(r.saturating_sub(1))).are_balanced(runs, false)
+            Supports::of_at_most(usize::from(r.saturating_sub(1))).are_balanced(runs, Within::AllRuns)
         }
         Demands::Effects {
             estimate,
@@ -56,11 +57,11 @@ fn are_balanced(demands: &Demands, runs: &Runs) -> bool
 /// Whether each vector of an effect to be estimated is balanced inside each block.
 fn are_balanced_in_blocks(demands: &Demands, runs: &Runs) -> bool
     requires { IsShape runs.now.shape }
-    ensures { result ≡ each_balanced runs.now true (is_estimated (requirement_of demands.now)) }
+    ensures { result ≡ each_balanced runs.now EachBlock (is_estimated (requirement_of demands.now)) }
 {
     match demands {
         Demands::Resolution { r } => {
-            Supports::of_at_most(usize::from(r.saturating_sub(1) / 2)).are_balanced(runs, true)
+            Supports::of_at_most(usize::from(r.saturating_sub(1) / 2)).are_balanced(runs, Within::EachBlock)
         }
         Demands::Effects { estimate, .. } => are_apart_from_blocks(estimate, runs),
     }
@@ -68,7 +69,7 @@ fn are_balanced_in_blocks(demands: &Demands, runs: &Runs) -> bool
 
 /// Whether each vector of one of the effects is balanced inside each block.
 fn are_apart_from_blocks(effects: &Effects, runs: &Runs) -> bool
-    ensures { result ≡ list_all (λ e. each_balanced runs.now true (λ f. not (is_zero f) && (e.0 == effect_of f))) effects.now }
+    ensures { result ≡ list_all (λ e. each_balanced runs.now EachBlock (λ f. not (is_zero f) && (e.0 == effect_of f))) effects.now }
 {
     effects
         .as_slice()
@@ -78,15 +79,15 @@ fn are_apart_from_blocks(effects: &Effects, runs: &Runs) -> bool
 
 /// Whether each vector of the effect `e` is balanced inside each block.
 fn is_apart_from_blocks(e: u64, runs: &Runs) -> bool
-    ensures { result ≡ each_balanced runs.now true (λ f. not (is_zero f) && (e == effect_of f)) }
+    ensures { result ≡ each_balanced runs.now EachBlock (λ f. not (is_zero f) && (e == effect_of f)) }
 {
-    Supports::of_effect(e).are_balanced(runs, true)
+    Supports::of_effect(e).are_balanced(runs, Within::EachBlock)
 }
 
 /// Whether each vector that is the difference of a vector of an effect to be estimated and one of
 /// either list or zero is balanced.
 fn are_told_apart(estimate: &Effects, nonnegligible: &Effects, runs: &Runs) -> bool
-    ensures { result ≡ list_all (λ u. each_balanced runs.now false (λ f. not (is_zero f) && differs_from_some runs.now.shape.q (numbers_of estimate.now) (numbers_of nonnegligible.now) (effect_of f) u.0)) estimate.now }
+    ensures { result ≡ list_all (λ u. each_balanced runs.now AllRuns (λ f. not (is_zero f) && differs_from_some runs.now.shape.q (numbers_of estimate.now) (numbers_of nonnegligible.now) (effect_of f) u.0)) estimate.now }
 {
     estimate
         .as_slice()
@@ -97,7 +98,7 @@ fn are_told_apart(estimate: &Effects, nonnegligible: &Effects, runs: &Runs) -> b
 /// Whether each vector that is the difference of a vector of the effect `u` and one of either list
 /// or zero is balanced.
 fn is_told_from_all(u: u64, estimate: &Effects, nonnegligible: &Effects, runs: &Runs) -> bool
-    ensures { result ≡ each_balanced runs.now false (λ f. not (is_zero f) && differs_from_some runs.now.shape.q (numbers_of estimate.now) (numbers_of nonnegligible.now) (effect_of f) u) }
+    ensures { result ≡ each_balanced runs.now AllRuns (λ f. not (is_zero f) && differs_from_some runs.now.shape.q (numbers_of estimate.now) (numbers_of nonnegligible.now) (effect_of f) u) }
 {
     if !is_told_from(u, 0, runs) {
         return false;
@@ -108,7 +109,7 @@ fn is_told_from_all(u: u64, estimate: &Effects, nonnegligible: &Effects, runs: &
 /// Whether each vector that is the difference of a vector of the effect `u` and one of the others is
 /// balanced.
 fn is_told_from_each(u: u64, others: &Effects, runs: &Runs) -> bool
-    ensures { result ≡ list_all (λ v. each_balanced runs.now false (λ f. not (is_zero f) && differs runs.now.shape.q u v.0 (effect_of f))) others.now }
+    ensures { result ≡ list_all (λ v. each_balanced runs.now AllRuns (λ f. not (is_zero f) && differs runs.now.shape.q u v.0 (effect_of f))) others.now }
 {
     others.as_slice().iter().all(|v| is_told_from(u, v.0, runs))
 }
@@ -116,8 +117,8 @@ fn is_told_from_each(u: u64, others: &Effects, runs: &Runs) -> bool
 /// Whether each vector that is the difference of a vector of the effect `u` and one of the effect
 /// `v`, where 0 stands for the zero vector, is balanced.
 fn is_told_from(u: u64, v: u64, runs: &Runs) -> bool
-    ensures balanced { result ≡ each_balanced runs.now false (λ f. not (is_zero f) && differs runs.now.shape.q u v (effect_of f)) }
+    ensures balanced { result ≡ each_balanced runs.now AllRuns (λ f. not (is_zero f) && differs runs.now.shape.q u v (effect_of f)) }
     ensures valid { AreRuns runs.now.shape runs.now.rows }
 {
-    Supports::of_differences(runs.shape().q, u, v).are_balanced(runs, false)
+    Supports::of_differences(runs.shape().q, u, v).are_balanced(runs, Within::AllRuns)
 }

@@ -210,15 +210,11 @@ fn for_effects(
     ensures valid { IfOk result IsValid }
     ensures shape { IfOk result (λ question. question.shape ≡ shape) }
 {
-    let mut estimated = Effects::new(alloc);
-    estimated.extend_from_slice(estimate)?;
-    let mut others = Effects::new(alloc);
-    others.extend_from_slice(nonnegligible)?;
     Ok(Question {
         shape,
         demands: Demands::Effects {
-            estimate: estimated,
-            nonnegligible: others,
+            estimate: Effects::from_slice(alloc, estimate)?,
+            nonnegligible: Effects::from_slice(alloc, nonnegligible)?,
         },
         least: false,
     })

@@ -13,6 +13,15 @@ use fx_vectors::Vector;
 /// No vector has more codes.
 const MOST_FACTORS: usize = 40;
 
+/// Where a vector is to be balanced.
+#[derive(Clone, Copy, Debug)]
+pub(crate) enum Within {
+    /// Over all runs together.
+    AllRuns,
+    /// Inside each block.
+    EachBlock,
+}
+
 /// The sets of factors that have all those of `inner`, none outside `outer`, and at most `most` in
 /// all. Bit i-1 stands for factor i.
 #[derive(Clone, Copy, Debug)]
@@ -59,31 +68,30 @@ impl Supports {
         }
     }
 
-    /// Whether each vector over the factors that has such a support and is not zero is balanced:
-    /// over all runs, or inside each block.
-    pub(crate) fn are_balanced(self, runs: &Runs, in_blocks: bool) -> bool
-        ensures balanced { result ≡ each_balanced runs.now in_blocks (λ f. not (is_zero f) && is_among self.inner self.outer self.most f) }
+    /// Whether each vector over the factors that has such a support and is not zero is balanced.
+    pub(crate) fn are_balanced(self, runs: &Runs, within: Within) -> bool
+        ensures balanced { result ≡ each_balanced runs.now within (λ f. not (is_zero f) && is_among self.inner self.outer self.most f) }
         ensures valid { AreRuns runs.now.shape runs.now.rows }
     {
         let mut f = Vector::zero(usize::from(runs.shape().s));
-        self.are_balanced_from(runs, in_blocks, &mut f, 0)
+        self.are_balanced_from(runs, within, &mut f, 0)
     }
 
     /// Whether this holds of the vectors that have their first `i` codes from `f`, where the
     /// supports are those of the codes from `i` on.
-    fn are_balanced_from(self, runs: &Runs, in_blocks: bool, f: &mut Vector, i: usize) -> bool
+    fn are_balanced_from(self, runs: &Runs, within: Within, f: &mut Vector, i: usize) -> bool
         requires vector { IsVector runs.now.shape.q runs.now.shape.s f.old }
         requires place { i ≤ runs.now.shape.s }
-        ensures each { IsTrue result ↔ AreBalancedFrom runs.now in_blocks self.inner self.outer self.most (take i f.old) }
+        ensures each { IsTrue result ↔ AreBalancedFrom runs.now within self.inner self.outer self.most (take i f.old) }
         ensures kept { take i f.new ≡ take i f.old }
         ensures vector { IsVector runs.now.shape.q runs.now.shape.s f.new }
     {
         if i == f.len() {
-            return self.inner != 0 || f.weight() == 0 || is_balanced_over(f, runs, in_blocks);
+            return self.inner != 0 || f.weight() == 0 || is_balanced_over(f, runs, within);
         }
         for c in self.least_code()..self.codes(runs.shape().q) {
             f.set(i, c);
-            if !self.behind(c).are_balanced_from(runs, in_blocks, f, i + 1) {
+            if !self.behind(c).are_balanced_from(runs, within, f, i + 1) {
                 return false;
             }
         }
@@ -122,14 +130,13 @@ impl Supports {
     }
 }
 
-/// Whether `f`, a vector over the factors, is balanced: over all runs, or inside each block.
-fn is_balanced_over(f: &Vector, runs: &Runs, in_blocks: bool) -> bool
+/// Whether `f`, a vector over the factors, is balanced.
+fn is_balanced_over(f: &Vector, runs: &Runs, within: Within) -> bool
     requires { IsVector runs.now.shape.q runs.now.shape.s f.now }
-    ensures { result ≡ is_balanced_over runs.now in_blocks f.now }
+    ensures { result ≡ is_balanced_over runs.now within f.now }
 {
-    if in_blocks {
-        is_balanced_in_blocks(f, runs)
-    } else {
-        is_balanced(f, runs)
+    match within {
+        Within::AllRuns => is_balanced(f, runs),
+        Within::EachBlock => is_balanced_in_blocks(f, runs),
     }
 }

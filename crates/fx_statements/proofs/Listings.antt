@@ -1,13 +1,10 @@
 -- How many components there are, from one number of factors to the next.
-use Rattle.std.proofs.Common.{◌≡◌, ℕ, zero, suc, ◌+◌, ◌-◌, ◌*◌, ◌/◌, ◌^◌, ◌<◌, ◌≤◌, true, List, length, drop, get_or, sym, ap, ap₂, subst, ◌∙◌, arith, inl, inr}
-use Rattle.std.specs.Prelude.{nat_lt, max, count_ones}
+use Rattle.std.proofs.Common.{◌≡◌, ℕ, zero, suc, ◌+◌, ◌-◌, ◌*◌, ◌/◌, ◌^◌, ◌<◌, ◌≤◌, true, sym, ap, ap₂, subst, ◌∙◌, arith, inl, inr}
+use Rattle.std.specs.Prelude.{nat_lt}
 use Rattle.std.proofs.lemmas.Bool.{cases_lt, lt-ltb}
 use Rattle.std.proofs.Math.Nat.{div-eq_of_eq-mul_left, div-le_self, mul-le-mul, pow-suc, pow-zero}
 use Rattle.std.proofs.Math.Numerals.{add-one}
-use Rattle.std.proofs.Math.Seq.{drop-cons}
-use Rattle.fx_vectors.specs.declared.effect.Effect.{Effect}
-use Rattle.fx_vectors.specs.Effects.{numbers_of}
-use Rattle.fx_statements.specs.Listings.{choose, component_count, listed_count, most_factors_of}
+use Rattle.fx_statements.specs.Listings.{choose, component_count, listed_count}
 
 -- a set of k and one more, in k + 1 ways
 choose_next : (n k : ℕ) → suc k * choose n (suc k) ≡ (n - k) * choose n k
@@ -88,12 +85,3 @@ small_next next r x k n is few left levels =
     let b : next * r * x ≤ 100000 * 40 * 8 = mul-le-mul a levels in
     let c : next * r * x / (k + 2) ≤ next * r * x = div-le_self (next * r * x) (k + 2) in
     omega (arith, is, b, c)
-
--- the most factors of the effects from some place on
-pub most_from : (effects items : List Effect) (i : ℕ) (d : Effect) → items ≡ effects → i < length items
-    → most_factors_of (numbers_of (drop i effects)) ≡ max (count_ones (get_or items i d).0) (most_factors_of (numbers_of (drop (i + 1) effects)))
-most_from effects items i d same below =
-    let here = drop-cons effects i d (subst (λ (l : List Effect). i < length l) same below) in
-    rw (add-one i)
-    (ap (λ (l : List Effect). most_factors_of (numbers_of l)) here
-    ∙ ap (λ (l : List Effect). max (count_ones (get_or l i d).0) (most_factors_of (numbers_of (drop (suc i) effects)))) (sym same))

@@ -1,12 +1,13 @@
 -- Listings of components, which EXAMINE asks for by ALIASING and BLOCKED: which components are listed, and how many they are.
 -- A component is a normal vector over the factors: its last nonzero code is 1.
-use Rattle.std.specs.Prelude.{ℕ, zero, suc, ◌+◌, ◌-◌, ◌*◌, ◌^◌, ◌||◌, nat_lt, min, max, Bool, List, [], ◌∷◌, count_ones, Option, Some, None, Result, Ok, Err, if◌then◌else◌}
+use Rattle.std.specs.Prelude.{ℕ, zero, suc, ◌+◌, ◌-◌, ◌*◌, ◌^◌, ◌||◌, nat_lt, min, max, Bool, List, [], ◌∷◌, Option, Some, None, Result, Ok, Err, if◌then◌else◌}
 use Rattle.fx_text.specs.declared.refusal.Refusal.{Refusal}
 use Rattle.fx_text.specs.declared.refusal.Place.{Place}
 use Rattle.fx_text.specs.Written.{Written, begins}
 use Rattle.fx_text.specs.Refusals.{place_at, refused_at}
 use Rattle.fx_language.specs.declared.symbol.Symbol.TheVariants.{Aliasing, Blocked, Examine}
 use Rattle.fx_language.specs.Symbols.{is}
+use Rattle.fx_vectors.specs.Effects.{most_factors}
 use Rattle.fx_statements.specs.Goals.{Goal, AtLeast, Highest, ForEffects}
 
 -- how many sets of k there are among n
@@ -24,16 +25,11 @@ abbrev pub listed_count : ℕ → ℕ → ℕ → ℕ
 listed_count q s zero = 0
 listed_count q s (suc d) = listed_count q s d + component_count q s (suc d)
 
--- the most factors that one of the effects has
-abbrev pub most_factors_of : List ℕ → ℕ
-most_factors_of [] = 0
-most_factors_of (e ∷ effects) = max (count_ones e) (most_factors_of effects)
-
 -- Components of one and two factors are listed, and those of as many as an effect that is named has.
 abbrev pub listed_factors : Goal → ℕ
 listed_factors (AtLeast r) = 2
 listed_factors Highest = 2
-listed_factors (ForEffects estimate nonnegligible) = max 2 (max (most_factors_of estimate) (most_factors_of nonnegligible))
+listed_factors (ForEffects estimate nonnegligible) = max 2 (max (most_factors estimate) (most_factors nonnegligible))
 
 -- the word asks for a listing of components
 abbrev pub is_listing : Written → Bool

@@ -1,13 +1,12 @@
 ghost use Rattle.std.specs.Prelude.{◌≡◌, ◌≤◌, true, min, nat_lt};
 ghost use Rattle.fx_settings.specs.Settings.{is_level};
-ghost use Rattle.fx_vectors.specs.Effects.{numbers_of};
 ghost use Rattle.fx_statements.specs.Goals.{goal_of};
-ghost use Rattle.fx_statements.specs.Listings.{first_listing, is_listing, listed_count, listed_factors, listing_allowed, listing_asked, listing_place, most_factors_of};
+ghost use Rattle.fx_statements.specs.Listings.{first_listing, is_listing, listed_count, listed_factors, listing_allowed, listing_asked, listing_place};
 
 use crate::wanted::Wanted;
 use fx_language::Symbol;
 use fx_text::{Lexeme, Place, Refusal, Statement};
-use fx_vectors::Effects;
+use fx_vectors::most_factors;
 
 /// The most components of a listing.
 const MOST_COMPONENTS: u64 = 100_000;
@@ -40,7 +39,7 @@ pub(crate) fn listing_allowed(
     }
 }
 
-/// The place of the first word of a step that asks for a listing of components.
+/// The place of the first word of a step, ALIASING or BLOCKED, that asks for a listing of components.
 fn listing_place(statements: &[Statement<'_>]) -> Option<Place>
     ensures { result ≡ listing_place statements.now }
 {
@@ -53,7 +52,7 @@ fn listing_place(statements: &[Statement<'_>]) -> Option<Place>
     None
 }
 
-/// That of an EXAMINE statement.
+/// The place of the first such word of a statement, where it is an EXAMINE statement.
 fn listing_asked(statement: &Statement<'_>) -> Option<Place>
     ensures { result ≡ listing_asked statement.now }
 {
@@ -81,7 +80,7 @@ fn is_listing(w: &Lexeme<'_>) -> bool
     w.is(Symbol::Aliasing) || w.is(Symbol::Blocked)
 }
 
-/// The most factors of a component that is listed, where there are as many.
+/// The most factors that a listed component has, in a step that has as many.
 fn listed_factors(wanted: &Wanted) -> u8
     ensures { result ≡ listed_factors (goal_of wanted.now) }
 {
@@ -90,24 +89,14 @@ fn listed_factors(wanted: &Wanted) -> u8
         Wanted::Effects {
             estimate,
             nonnegligible,
-        } => most_factors_of(estimate)
-            .max(most_factors_of(nonnegligible))
+        } => most_factors(estimate)
+            .max(most_factors(nonnegligible))
             .max(2),
     }
 }
 
-/// The most factors that one of the effects has.
-fn most_factors_of(effects: &Effects) -> u8
-    ensures { result ≡ most_factors_of (numbers_of effects.now) }
-{
-    let mut most = 0u8;
-    for e in effects.as_slice() {
-        most = most.max(e.0.count_ones() as u8);
-    }
-    most
-}
-
-/// Whether more than 100,000 components have 1 to `d` of the `s` factors.
+/// Whether more than 100,000 components have 1 to `d` of the `s` factors: normal vectors, whose last
+/// nonzero code is 1.
 fn are_too_many(q: u8, s: u8, d: u8) -> bool
     requires level { is_level q ≡ true }
     requires few { s ≤ 40 }

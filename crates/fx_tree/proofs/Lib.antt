@@ -3,5 +3,4 @@ pub mod Extensions
 pub mod Walks
 pub mod Lists
 pub mod Orders
-pub mod Multiples
 pub mod Nodes

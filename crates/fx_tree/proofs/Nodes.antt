@@ -54,7 +54,7 @@ module _ (p : Problem) (f : IsField p.dimensions.q) where
     branch-same rows =
         ap (λ b. is_allowed p.dimensions p.requirement rows
         && (ltb (length rows) (p.dimensions.s + p.dimensions.t)
-        && not (list_any (λ d. nodes.is_complete p d
+        && not (list_any (λ d. nodes.is_complete_allowed p d
         && (if b then counts p.dimensions d rows && not (is_less (pattern_of p.dimensions rows) (pattern_of p.dimensions d)) else answers.before d rows)) (prefixes (tree_of p))))) plain
 
     node-same : (rows : List ℕ) → nodes.is_node p rows ≡ is_node (tree_of p) rows

@@ -1,6 +1,6 @@
 ghost use Rattle.std.specs.Prelude.{◌≡◌, ◌<◌, ◌^◌, [], ◌∷◌, ◌++◌, ℕ, List, IsTrue, true, false, nat_lt};
-ghost use Rattle.fx_designs.specs.Galois.{is_order, digits, number};
-ghost use Rattle.fx_designs.specs.Vectors.{IsVector, is_normal, scale, vectors_of};
+ghost use Rattle.fx_designs.specs.Galois.{is_order, digits};
+ghost use Rattle.fx_designs.specs.Vectors.{vectors_of};
 ghost use Rattle.fx_designs.specs.Spans.{in_span, rank_of};
 ghost use Rattle.fx_designs.specs.Problems.{Dimensions, Requirement, Problem};
 ghost use Rattle.fx_designs.specs.Answers.{answer};
@@ -28,21 +28,6 @@ pub fn no_rows_are_canonical()
 /// The rows of a canonical prefix span the vectors of less number than the next unit vector.
 pub fn span_of_a_canonical_prefix()
     ensures { (d : Dimensions) (wanted : Requirement) (rows : List ℕ) (row : ℕ) → IsTrue (is_order d.q) → is_canonical d wanted rows ≡ true → row < d.q ^ d.m → in_span d.q d.m (vectors_of d.q d.m rows) (digits d.q d.m row) ≡ nat_lt row (d.q ^ rank_of d.q d.m (vectors_of d.q d.m rows)) }
-{}
-
-/// A row is told by its number: a vector is the digits of its number.
-pub fn vector_of_its_number()
-    ensures { (q n : ℕ) (v : List ℕ) → IsVector q n v → digits q n (number q v) ≡ v }
-{}
-
-/// A number is that of its digits.
-pub fn number_of_its_vector()
-    ensures { (q n k : ℕ) → 0 < q → k < q ^ n → number q (digits q n k) ≡ k }
-{}
-
-/// A normal row stands for its multiples: by one factor alone a multiple of a vector is normal.
-pub fn one_normal_multiple()
-    ensures { (q n : ℕ) (v : List ℕ) (c d : ℕ) → IsTrue (is_order q) → IsVector q n v → 0 < c → c < q → 0 < d → d < q → is_normal (scale q c v) ≡ true → is_normal (scale q d v) ≡ true → c ≡ d }
 {}
 
 /// The prefixes of a problem make a tree: what is canonical or allowed stays so without its last row.

@@ -14,8 +14,8 @@ pub use extension::{Points, children};
 pub use front::Front;
 pub use fx_vectors::Mark;
 pub use laws::{
-    front_of_a_canonical_prefix, no_rows_are_canonical, number_of_its_vector, one_normal_multiple,
-    problems_are_trees, rows_that_follow, span_of_a_canonical_prefix, vector_of_its_number,
+    front_of_a_canonical_prefix, no_rows_are_canonical, problems_are_trees, rows_that_follow,
+    span_of_a_canonical_prefix,
 };
 pub use order::before;
 pub use prefix::is_canonical;

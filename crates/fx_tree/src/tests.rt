@@ -46,9 +46,7 @@ fn two_effects(alloc: Global) -> Result<Question, NoMemory>
     ensures valid { IfOk result IsValid }
     ensures shape { IfOk result (λ question. question.shape ≡ record { q = 3; m = 2; s = 3; t = 0 }) }
 {
-    let mut estimate = Effects::new(alloc);
-    estimate.push(Effect(1))?;
-    estimate.push(Effect(2))?;
+    let estimate = Effects::from_slice(alloc, &[Effect(1), Effect(2)])?;
     Ok(Question {
         shape: Shape {
             q: 3,

@@ -1,4 +1,4 @@
--- The multiple of a vector by the inverse of its last nonzero code is normal.
+-- The multiple of a vector by the inverse of its last nonzero code is normal, and no other is.
 use Rattle.std.proofs.Common.{ℕ, ◌≡◌, ◌<◌, cond, List, [], ◌∷◌, refl, sym, ◌∙◌, ap, arith, inl, inr}
 use Rattle.std.specs.Prelude.{nat_lt}
 use Rattle.std.specs.List.{AllByRecursion}
@@ -7,8 +7,7 @@ use Rattle.std.proofs.lemmas.Bool.Decides.{nat_tests}
 use Rattle.std.proofs.lemmas.List.Sums.{sum_by-cons}
 use Rattle.fx_designs.specs.Galois.{mul, inv, IsField}
 use Rattle.fx_designs.specs.Vectors.{scale, weight, last_nonzero}
-use Rattle.fx_laws.proofs.Changes.{mul-zero-either}
-use Rattle.fx_laws.proofs.Forms.{inv-positive, last-code}
+use Rattle.fx_laws.proofs.Forms.{inv-positive, last-code, last-scale}
 use Rattle.fx_laws.proofs.Separation.{inv-mul}
 
 -- a vector that is not zero has a last nonzero code
@@ -25,22 +24,24 @@ last_nonzero-positive (a ∷ v) some =
       | inr ne ↦ rw (ne_eqb _ _ ne) (omega arith)
     ]
 
-last_nonzero-scale : (q : ℕ) (f : IsField q) (c : ℕ) (v : List ℕ) → 0 < c → c < q → AllByRecursion (λ a. a < q) v → last_nonzero (scale q c v) ≡ mul q c (last_nonzero v)
-last_nonzero-scale q f c [] some hc h = sym (f.mul_zero c)
-last_nonzero-scale q f c (a ∷ v) some hc h =
-    let rest = last_nonzero-scale q f c v some hc h.1 in
-    elim (cases_eq (last_nonzero v) 0) [
-      | inl e ↦
-          let none : last_nonzero (scale q c v) ≡ 0 = rest ∙ ap (mul q c) e ∙ f.mul_zero c in
-          rw (none, e) refl
-      | inr ne ↦
-          let some' : last_nonzero (scale q c v) ≡ 0 → ⊥ =
-          λ z. ne (mul-zero-either q f (last_nonzero v) c (last-code q f v h.1) hc some (f.mul_comm (last_nonzero v) c ∙ sym rest ∙ z)) in
-          rw (ne_eqb _ _ some', ne_eqb _ _ ne) rest
-    ]
-
 pub normal-scale : (q : ℕ) (f : IsField q) (v : List ℕ) → AllByRecursion (λ a. a < q) v → 0 < last_nonzero v → last_nonzero (scale q (inv q (last_nonzero v)) v) ≡ 1
 normal-scale q f v h some =
     let code = last-code q f v h in
-    last_nonzero-scale q f (inv q (last_nonzero v)) v (inv-positive q f (last_nonzero v) some code) (f.inv_code (last_nonzero v)) h
+    last-scale q f (inv q (last_nonzero v)) v (inv-positive q f (last_nonzero v) some code) (f.inv_code (last_nonzero v)) h
     ∙ inv-mul q f (last_nonzero v) some code
+
+module _ (q : ℕ) (f : IsField q) where
+  -- two factors that give 1 with the same code are the same
+  one-factor : (c d l : ℕ) → c < q → d < q → mul q c l ≡ 1 → mul q d l ≡ 1 → c ≡ d
+  one-factor c d l hc hd ec ed =
+      sym (f.mul_one c hc)
+      ∙ ap (mul q c) (sym ed)
+      ∙ sym (f.mul_assoc c d l)
+      ∙ ap (λ (x : ℕ). mul q x l) (f.mul_comm c d)
+      ∙ f.mul_assoc d c l
+      ∙ ap (mul q d) ec
+      ∙ f.mul_one d hd
+
+  pub one-normal : (v : List ℕ) (c d : ℕ) → AllByRecursion (λ a. a < q) v → 0 < c → c < q → 0 < d → d < q → last_nonzero (scale q c v) ≡ 1 → last_nonzero (scale q d v) ≡ 1 → c ≡ d
+  one-normal v c d h c1 cq d1 dq ec ed =
+      one-factor c d (last_nonzero v) cq dq (sym (last-scale q f c v c1 cq h) ∙ ec) (sym (last-scale q f d v d1 dq h) ∙ ed)

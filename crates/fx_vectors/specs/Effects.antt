@@ -1,5 +1,5 @@
 -- Effects as numbers: the sum of 2^(i-1) over the factors i. Their order, and how many vectors they have.
-use Rattle.std.specs.Prelude.{ℕ, ◌==◌, ◌+◌, ◌-◌, ◌*◌, ◌/◌, ◌%◌, ◌^◌, ◌<◌, ◌&&◌, ◌||◌, nat_lt, Bool, true, false, IsTrue, List, [], ◌∷◌, map, filter, sum_by, count_ones, All}
+use Rattle.std.specs.Prelude.{ℕ, ◌==◌, ◌+◌, ◌-◌, ◌*◌, ◌/◌, ◌%◌, ◌^◌, ◌<◌, ◌&&◌, ◌||◌, nat_lt, Bool, true, false, IsTrue, List, [], ◌∷◌, map, filter, sum_by, count_ones, max, All}
 use Rattle.std.specs.List.{range_with_len}
 use Rattle.fx_vectors.specs.declared.effect.Effect.{Effect}
 
@@ -34,6 +34,11 @@ are_in_order (e ∷ f ∷ effects) = stands_before e f && are_in_order (f ∷ ef
 pub record AreEffects (s : ℕ) (effects : List ℕ) : Type 0 where
   pub each : All (λ e. (0 < e) × (e < 2 ^ s)) effects
   pub in_order : IsTrue (are_in_order effects)
+
+-- the most factors that one of the effects has
+abbrev pub most_factors : List ℕ → ℕ
+most_factors [] = 0
+most_factors (e ∷ effects) = max (count_ones e) (most_factors effects)
 
 -- how many vectors the effects have: (q-1)^n for one of n factors
 abbrev pub vector_count : ℕ → List ℕ → ℕ

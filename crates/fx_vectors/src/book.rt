@@ -2,7 +2,8 @@ use crate::mark::Marks;
 use crate::question::Question;
 use fx_base::{Items, Values};
 
-/// The word-length pattern of a design of s factors: the counts A_1 to A_s.
+/// The word-length pattern of a design of s factors (Fries and Hunter): A_1 to A_s, where A_k counts
+/// the defining words of weight k, a word and its multiples once.
 pub type Pattern = Values<u128>;
 
 /// What a book is about.

@@ -1,3 +1,6 @@
+ghost use Rattle.std.specs.Prelude.{◌≡◌, ◌≤◌};
+ghost use Rattle.fx_vectors.specs.Effects.{most_factors, numbers_of};
+
 use fx_base::Values;
 
 /// An effect: a set of factors that is not empty. Bit i-1 stands for factor i.
@@ -6,3 +9,15 @@ pub struct Effect(pub u64);
 
 /// Effects in order.
 pub type Effects = Values<Effect>;
+
+/// The most factors that one of the effects has, or 0 where there is no effect.
+pub fn most_factors(effects: &Effects) -> u8
+    ensures most { result ≡ most_factors (numbers_of effects.now) }
+    ensures fits { result ≤ 64 }
+{
+    let mut most = 0u8;
+    for e in effects.as_slice() {
+        most = most.max(e.0.count_ones() as u8);
+    }
+    most
+}

@@ -3,6 +3,7 @@
 
 mod book;
 mod effect;
+mod laws;
 mod mark;
 mod matrix;
 mod pieces;
@@ -13,7 +14,8 @@ mod tests;
 mod vector;
 
 pub use book::{Book, Books, Head, NamedBook, Pattern};
-pub use effect::{Effect, Effects};
+pub use effect::{Effect, Effects, most_factors};
+pub use laws::{number_of_its_vector, one_normal_multiple, vector_of_its_number};
 pub use mark::{Mark, Marks};
 pub use matrix::Matrix;
 pub use question::{Demands, Question};

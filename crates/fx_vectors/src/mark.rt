@@ -7,12 +7,14 @@ use fx_base::NoMemory;
 use std::alloc::Global;
 use std::marker::Model;
 
-/// What a search finds at a node, with the node's last row.
+/// What a search finds at a node. `row` is the number of the node's last row, below the number of
+/// runs and so below 1,024.
 #[derive(Clone, Copy, Debug, PartialEq, Eq)]
 pub enum Mark {
     /// The prefix is allowed and has to be extended.
     Branch { row: u16 },
-    /// The prefix is not allowed: the word of this number is forbidden and has the sum zero.
+    /// The prefix is not allowed: a forbidden word has the sum zero. `word` is its number, that of a
+    /// vector over all rows of a whole matrix.
     Word { row: u16, word: u128 },
     /// The prefix is allowed, and nothing better can be below it.
     Worse { row: u16 },
@@ -26,7 +28,8 @@ struct Kept {
     word: [u16; 8],
 }
 
-/// Marks in order, which take 18 bytes each. Clauses see the list.
+/// Marks in order, which take 18 bytes each: of a search there may be five million. Clauses see the
+/// list.
 #[derive(Debug, Drop)]
 pub struct Marks {
     kept: Pieces<Kept>,
@@ -74,7 +77,11 @@ impl Marks {
         mark_from(self.kept.get(i))
     }
 
-    /// Adds a mark at the end. Its row is below 1,024.
+    /// Adds a mark at the end.
+    ///
+    /// # Errors
+    ///
+    /// `NoMemory`; the marks are then as before.
     pub fn push(&mut self, mark: Mark) -> Result<(), NoMemory>
         requires { row_of mark < 1024 }
         ensures ok { OnOk result (self.new ≡ self.old ++ meaning_of mark ∷ []) }

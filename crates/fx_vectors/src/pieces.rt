@@ -7,7 +7,8 @@ use std::marker::Model;
 /// How many values a piece has room for.
 const PIECE: usize = 65536;
 
-/// Values in order, held in pieces that stay where they are as the list grows. Clauses see the list.
+/// Values in order, held in pieces that stay where they are: a list of millions grows without being
+/// copied, and never needs twice its memory. Clauses see the list.
 #[derive(Debug, Drop)]
 pub(crate) struct Pieces<T> {
     pieces: Vec<Values<T>>,
@@ -55,7 +56,7 @@ impl<T> Pieces<T> {
         self.pieces[i / PIECE].get(i % PIECE)
     }
 
-    /// Adds a value at the end.
+    /// Adds a value at the end, or leaves the list as it is where memory ran out.
     pub(crate) fn push(&mut self, value: T) -> Result<(), NoMemory>
     where
         T: Drop,

@@ -8,7 +8,7 @@ use Rattle.fx_outputs.specs.Outputs.{outputs_of, outputs_behind}
 use Rattle.fx_outputs.proofs.Limits.{all_within}
 use Rattle.fx_outputs.proofs.Statements.{refused, read, passed, one_more_name}
 use Rattle.fx_outputs.proofs.output.outputs.Goals as goal
-use Rattle.fx_outputs.proofs.output.outputs.Goals.{then-is_output+in_ok-output+in_ok-copy+in_ok-push+in_ok-push-2, else-is_output}
+use Rattle.fx_outputs.proofs.output.outputs.Goals.{then-is_output+in_ok-output+in_ok-from_slice+in_ok-push+in_ok-push-2, else-is_output}
 
 pub returns-in_err-output-clause-err : goal.returns-in_err-output-clause-err
 returns-in_err-output-clause-err c =
@@ -37,12 +37,12 @@ loop-statement-preserved c =
     let left = drop-cons all i s (omega arith) ∙ ap (λ v. v ∷ drop (suc i) all) (sym c.statement-item.is) in
     let so_far = c.loop-statement.invariant.meaning ∙ ap (outputs_behind setting earlier outputs) left in
     elim c.if-is_output.branch [
-      | then-is_output+in_ok-output+in_ok-copy+in_ok-push+in_ok-push-2 w ↦
+      | then-is_output+in_ok-output+in_ok-from_slice+in_ok-push+in_ok-push-2 w ↦
           let one = rw (take_rest w.lexemes-lexemes.result.now 3, w.lexemes-lexemes.ensures, w.as_slice.ensures) at w.in_ok-output.ensures.ok in
           let first = rw w.lexemes-lexemes.ensures at w.index-lexemes-0.is in
           let third = rw w.lexemes-lexemes.ensures at w.index-lexemes-3.is in
           let more = read setting earlier outputs (drop (suc i) all) s w.index-lexemes-0.result w.index-lexemes-3.result w.in_ok-output.output w.if-is_output.ensures first third one in
-          let names : c.if-is_output.earlier ≡ earlier ++ w.in_ok-output.output.name ∷ [] = w.earlier-is ∙ w.in_ok-push.ensures.ok ∙ ap (λ n. earlier ++ n ∷ []) (w.in_ok-copy.ensures ∙ w.as_slice-then-is_output.ensures) in
+          let names : c.if-is_output.earlier ≡ earlier ++ w.in_ok-output.output.name ∷ [] = w.earlier-is ∙ w.in_ok-push.ensures.ok ∙ ap (λ n. earlier ++ n ∷ []) (w.in_ok-from_slice.ensures ∙ w.as_slice-then-is_output.ensures) in
           let files : c.if-is_output.outputs ≡ outputs ++ w.in_ok-output.output ∷ [] = w.outputs-is ∙ w.in_ok-push-2.ensures.ok in
           record {
             meaning = rw (add-one, names, files) (so_far ∙ more);

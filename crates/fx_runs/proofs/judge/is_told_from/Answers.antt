@@ -1,8 +1,9 @@
-use Rattle.std.proofs.Common.{◌≤◌, ◌&&◌, Bool, false, not, length, ◌∙◌, ap, arith}
+use Rattle.std.proofs.Common.{◌≤◌, ◌&&◌, Bool, not, length, ◌∙◌, ap, arith}
 use Rattle.fx_designs.specs.Vectors.{is_zero}
 use Rattle.fx_designs.specs.Demands.{effect_of}
 use Rattle.fx_vectors.specs.declared.shape.Shape.{Shape}
 use Rattle.fx_vectors.proofs.Limits.{order-bounds}
+use Rattle.fx_runs.specs.declared.walk.Within.TheVariants.{AllRuns}
 use Rattle.fx_runs.specs.Supports.{differs}
 use Rattle.fx_runs.specs.Walks.{is_among}
 use Rattle.fx_runs.proofs.Walks.{each-same}
@@ -14,7 +15,7 @@ returns-clause-balanced c =
     let valid = c.are_balanced.ensures.valid in
     let two = (order-bounds shape.q valid.shaped.order).0 in
     c.are_balanced.ensures.balanced
-    ∙ each-same c.args.runs.now false (omega arith) (λ f. not (is_zero f) && is_among c.of_differences.result.inner c.of_differences.result.outer c.of_differences.result.most f)
+    ∙ each-same c.args.runs.now AllRuns (omega arith) (λ f. not (is_zero f) && is_among c.of_differences.result.inner c.of_differences.result.outer c.of_differences.result.most f)
     (λ f. not (is_zero f) && differs shape.q c.args.u c.args.v (effect_of f))
     (λ f h.
     let few : length f ≤ 40 = omega (arith, h.len, valid.shaped.factors) in

@@ -31,13 +31,13 @@ pub returns-else-weight-eq0-clause-each : goal.returns-else-weight-eq0-clause-ea
 returns-else-weight-eq0-clause-each t c =
     let at = (goal.at.returns-else-weight-eq0-clause-each t c).After-is_balanced_over in
     let all : take c.args.i c.args.f.now ≡ c.args.f.now = take_all c.args.i c.args.f.now (omega arith) in
-    subst (λ (start : List ℕ). IsTrue c.is_balanced_over.result ↔ AreBalancedFrom c.args.runs.now c.args.in_blocks c.args.self.inner c.args.self.outer c.args.self.most start) (sym all) (
-      λ e. whole c.args.runs.now c.args.in_blocks c.args.self.inner c.args.self.outer c.args.self.most c.args.f.now c.requires.vector.len (λ none some. sym c.is_balanced_over.ensures ∙ e),
-      λ each. c.is_balanced_over.ensures ∙ whole-tells c.args.runs.now c.args.in_blocks c.args.self.inner c.args.self.outer c.args.self.most c.args.f.now c.requires.vector each (no_inner t at) (heavy t at),
+    subst (λ (start : List ℕ). IsTrue c.is_balanced_over.result ↔ AreBalancedFrom c.args.runs.now c.args.within c.args.self.inner c.args.self.outer c.args.self.most start) (sym all) (
+      λ e. whole c.args.runs.now c.args.within c.args.self.inner c.args.self.outer c.args.self.most c.args.f.now c.requires.vector.len (λ none some. sym c.is_balanced_over.ensures ∙ e),
+      λ each. c.is_balanced_over.ensures ∙ whole-tells c.args.runs.now c.args.within c.args.self.inner c.args.self.outer c.args.self.most c.args.f.now c.requires.vector each (no_inner t at) (heavy t at),
     )
 
 -- the codes that may come next
-codes_are : (t : ℕ) (c : After-codes-c-end t) → c.codes-c-end.result ≡ codes_of c.args.runs.now c.args.in_blocks c.args.self.outer c.args.self.most
+codes_are : (t : ℕ) (c : After-codes-c-end t) → c.codes-c-end.result ≡ codes_of c.args.runs.now c.args.within c.args.self.outer c.args.self.most
 codes_are t c = c.codes-c-end.ensures ∙ ap (λ (z : Shape). cond (eqb (min (c.args.self.outer % 2) c.args.self.most) 0) 1 z.q) c.shape.ensures.shape
 
 -- the first codes, and the next
@@ -48,7 +48,7 @@ chosen t c =
 
 -- what the call says of these
 called : (t : ℕ) (c : After-are_balanced_from t)
-    → IsTrue c.are_balanced_from.result ↔ AreBalancedFrom c.args.runs.now c.args.in_blocks (c.args.self.inner / 2) (c.args.self.outer / 2) (c.args.self.most - bit_of c.loop-c.c) (take c.args.i c.args.f.now ++ c.loop-c.c ∷ [])
+    → IsTrue c.are_balanced_from.result ↔ AreBalancedFrom c.args.runs.now c.args.within (c.args.self.inner / 2) (c.args.self.outer / 2) (c.args.self.most - bit_of c.loop-c.c) (take c.args.i c.args.f.now ++ c.loop-c.c ∷ [])
 called t c = rw (c.behind.ensures.inner, c.behind.ensures.outer, c.behind.ensures.most, chosen t c) at c.are_balanced_from.ensures.each
 
 kept : (t : ℕ) (c : After-are_balanced_from t) → take c.args.i c.are_balanced_from.new.f ≡ take c.args.i c.args.f.now
@@ -61,11 +61,11 @@ pub returns-then-not-are_balanced_from-clause-each : goal.returns-then-not-are_b
 returns-then-not-are_balanced_from-clause-each t c =
     let told = called t (goal.at.returns-then-not-are_balanced_from-clause-each t c).After-are_balanced_from in
     let low : c.args.self.inner % 2 ≤ c.loop-c.c = omega arith in
-    let high : c.loop-c.c < codes_of c.args.runs.now c.args.in_blocks c.args.self.outer c.args.self.most = subst (λ (n : ℕ). c.loop-c.c < n) (codes_are t (goal.at.returns-then-not-are_balanced_from-clause-each t c).After-codes-c-end) c.loop-c-test.true in (
+    let high : c.loop-c.c < codes_of c.args.runs.now c.args.within c.args.self.outer c.args.self.most = subst (λ (n : ℕ). c.loop-c.c < n) (codes_are t (goal.at.returns-then-not-are_balanced_from-clause-each t c).After-codes-c-end) c.loop-c-test.true in (
       λ never. cc never,
       λ all.
           absurd (both_ways _ c.if-not-are_balanced_from.true
-          (told.1 (one-code c.args.runs.now c.args.in_blocks c.args.self.inner c.args.self.outer c.args.self.most (take c.args.i c.args.f.now) c.loop-c.c low high all))),
+          (told.1 (one-code c.args.runs.now c.args.within c.args.self.inner c.args.self.outer c.args.self.most (take c.args.i c.args.f.now) c.loop-c.c low high all))),
     )
 
 pub returns-then-not-are_balanced_from-clause-kept : goal.returns-then-not-are_balanced_from-clause-kept
@@ -79,7 +79,7 @@ loop-c-preserved t c =
       kept = kept t at;
       each = λ x low high. elim (cases_eq x c.loop-c.c) [
         | inl e ↦
-            subst (λ (k : ℕ). AreBalancedFrom c.args.runs.now c.args.in_blocks (c.args.self.inner / 2) (c.args.self.outer / 2) (c.args.self.most - bit_of k) (take c.args.i c.args.f.now ++ k ∷ [])) (sym e)
+            subst (λ (k : ℕ). AreBalancedFrom c.args.runs.now c.args.within (c.args.self.inner / 2) (c.args.self.outer / 2) (c.args.self.most - bit_of k) (take c.args.i c.args.f.now ++ k ∷ [])) (sym e)
             ((called t at).0 c.if-not-are_balanced_from.false)
         | inr ne ↦ c.loop-c.invariant.each x low (omega arith)
       ];
@@ -88,7 +88,7 @@ loop-c-preserved t c =
 pub returns-clause-each : goal.returns-clause-each
 returns-clause-each t c =
     let more : length (take c.args.i c.args.f.now) < c.args.runs.now.shape.s = omega (arith, length-take c.args.i c.args.f.now, c.requires.vector.len) in
-    let past : codes_of c.args.runs.now c.args.in_blocks c.args.self.outer c.args.self.most ≤ c.loop-c.c = subst (λ (n : ℕ). n ≤ c.loop-c.c) (codes_are t (goal.at.returns-clause-each t c).After-codes-c-end) c.loop-c-test.false in (
-      λ e. each-code c.args.runs.now c.args.in_blocks c.args.self.inner c.args.self.outer c.args.self.most (take c.args.i c.args.f.now) more (λ x low high. c.loop-c.invariant.each x low (omega arith)),
+    let past : codes_of c.args.runs.now c.args.within c.args.self.outer c.args.self.most ≤ c.loop-c.c = subst (λ (n : ℕ). n ≤ c.loop-c.c) (codes_are t (goal.at.returns-clause-each t c).After-codes-c-end) c.loop-c-test.false in (
+      λ e. each-code c.args.runs.now c.args.within c.args.self.inner c.args.self.outer c.args.self.most (take c.args.i c.args.f.now) more (λ x low high. c.loop-c.invariant.each x low (omega arith)),
       λ all. refl,
     )

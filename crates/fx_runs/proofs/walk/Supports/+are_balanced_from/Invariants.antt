@@ -10,5 +10,5 @@ abbrev pub invariant-loop-c : goal.invariant-loop-c
 invariant-loop-c l = record {
   vector : IsVector l.runs.shape.q l.runs.shape.s l.f;
   kept : take l.i l.f ≡ take l.i l.fn.f;
-  each : (c : ℕ) → l.self.inner % 2 ≤ c → c < l.c → AreBalancedFrom l.runs l.in_blocks (l.self.inner / 2) (l.self.outer / 2) (l.self.most - bit_of c) (take l.i l.fn.f ++ c ∷ []);
+  each : (c : ℕ) → l.self.inner % 2 ≤ c → c < l.c → AreBalancedFrom l.runs l.within (l.self.inner / 2) (l.self.outer / 2) (l.self.most - bit_of c) (take l.i l.fn.f ++ c ∷ []);
 }
