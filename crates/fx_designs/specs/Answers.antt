@@ -28,14 +28,18 @@ prefixes p = lists (p.dimensions.q ^ p.dimensions.m) (p.dimensions.s + p.dimensi
 
 -- a canonical matrix that meets the requirement
 abbrev pub is_design : Problem → List ℕ → Bool
-is_design p rows = (length rows == p.dimensions.s + p.dimensions.t) && (is_canonical p.dimensions p.requirement rows && is_met p.dimensions p.requirement rows)
+is_design p rows =
+    (length rows == p.dimensions.s + p.dimensions.t)
+    && (is_canonical p.dimensions p.requirement rows && is_met p.dimensions p.requirement rows)
 
+-- the designs of a problem, in the order of `before`
 unfoldable pub designs : Problem → List (List ℕ)
 designs p = filter (is_design p) (prefixes p)
 
 -- whether no design has a less pattern than this one
 abbrev pub is_of_least_pattern : Problem → List ℕ → Bool
-is_of_least_pattern p rows = list_all (λ other. not (is_less (pattern_of p.dimensions other) (pattern_of p.dimensions rows))) (designs p)
+is_of_least_pattern p rows =
+    list_all (λ other. not (is_less (pattern_of p.dimensions other) (pattern_of p.dimensions rows))) (designs p)
 
 -- the first design, where a least pattern is asked the first of those of least pattern
 unfoldable pub answer : Problem → Option (List ℕ)

@@ -16,12 +16,15 @@ rank_at d rows k = rank_of d.q d.m (vectors_of d.q d.m (take k rows))
 abbrev pub follows_at : Dimensions → List ℕ → ℕ → Bool
 follows_at d rows k =
     let r = slice_index rows k in
-    (if in_span d.q d.m (vectors_of d.q d.m (take k rows)) (digits d.q d.m r) then (r == 0) || is_normal (digits d.q d.m r) else r == d.q ^ rank_at d rows k)
+    (if in_span d.q d.m (vectors_of d.q d.m (take k rows)) (digits d.q d.m r)
+    then (r == 0) || is_normal (digits d.q d.m r)
+    else r == d.q ^ rank_at d rows k)
 
 -- with the factor rows after the first k, the rank can still become the lesser of s and m
 abbrev pub reaches_at : Dimensions → List ℕ → ℕ → Bool
 reaches_at d rows k = nat_le (min d.s d.m) (rank_at d rows k + (d.s - k))
 
+-- whether the row of this number is a unit vector
 abbrev pub is_unit : Dimensions → ℕ → Bool
 is_unit d r = list_any (λ i. r == d.q ^ i) (range_with_len 0 d.m)
 
@@ -31,7 +34,9 @@ abbrev pub falls_at : Dimensions → List ℕ → ℕ → Bool
 falls_at d rows k =
     let r = slice_index rows k in
     let units = min d.s d.m in
-    (if nat_lt k units then r == d.q ^ k else nat_lt 0 r && (not (is_unit d r) && ((k == units) || nat_lt r (slice_index rows (k - 1)))))
+    (if nat_lt k units
+    then r == d.q ^ k
+    else nat_lt 0 r && (not (is_unit d r) && ((k == units) || nat_lt r (slice_index rows (k - 1)))))
 
 -- under a resolution the factor rows begin with the unit vectors in order, and then fall
 abbrev pub is_falling : Dimensions → Requirement → List ℕ → Bool

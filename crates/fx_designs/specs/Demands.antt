@@ -14,18 +14,23 @@ runs d rows = runs_of d.q d.m (vectors_of d.q d.m rows)
 abbrev pub effect_of : List ℕ → ℕ
 effect_of u = number 2 (map (λ a. if a == 0 then 0 else 1) u)
 
--- whether u is a vector of one of the effects
+-- whether u is a vector of one of the effects: a component of it
 abbrev pub is_of : List ℕ → List ℕ → Bool
 is_of effects u = not (is_zero u) && list_any (λ e. e == effect_of u) effects
 
--- whether u, a vector of an effect to be estimated, has to be told from v
+-- whether u, a vector of an effect to be estimated, has to be told from v: another vector of such an effect, the same effect
+-- included, one of an effect that is not negligible, or the zero vector, which stands for the mean
 abbrev pub is_told_from : List ℕ → List ℕ → List ℕ → List ℕ → Bool
-is_told_from estimate besides u v = is_of estimate u && ((is_of estimate v || (is_of besides v || is_zero v)) && not (same u v))
+is_told_from estimate besides u v =
+    is_of estimate u && ((is_of estimate v || (is_of besides v || is_zero v)) && not (same u v))
 
 -- whether f, a vector over the factors, has to be balanced: it is of weight 1 to r-1, or a difference of vectors to be told apart
 unfoldable pub must_balance : Dimensions → Requirement → List ℕ → Bool
 must_balance d (AtResolution r) f = nat_lt 0 (weight f) && nat_lt (weight f) r
-must_balance d (ForEffects estimate besides) f = list_any (λ u. list_any (λ v. is_told_from estimate besides u v && same f (minus d.q u v)) (points d.q d.s)) (points d.q d.s)
+must_balance d (ForEffects estimate besides) f =
+    list_any (λ u. list_any (λ v.
+      is_told_from estimate besides u v && same f (minus d.q u v))
+    (points d.q d.s)) (points d.q d.s)
 
 -- whether u is a vector of an effect to be estimated: under a resolution r, of one with at most (r-1)/2 factors, rounded down
 unfoldable pub is_estimated : Requirement → List ℕ → Bool
@@ -58,4 +63,5 @@ is_forbidden_word d wanted w = is_forbidden d wanted (take d.s w) (drop d.s w)
 
 -- whether no forbidden vector that is zero past the rows of a prefix is constant over the runs of these rows
 unfoldable pub is_allowed : Dimensions → Requirement → List ℕ → Bool
-is_allowed d wanted rows = list_all (λ u. not (is_forbidden_word d wanted (padded d u) && is_constant d.q u (runs d rows))) (points d.q (length rows))
+is_allowed d wanted rows =
+    list_all (λ u. not (is_forbidden_word d wanted (padded d u) && is_constant d.q u (runs d rows))) (points d.q (length rows))

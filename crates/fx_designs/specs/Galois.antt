@@ -51,18 +51,23 @@ abbrev pub poly_mul : ℕ → List ℕ → List ℕ → List ℕ → List ℕ
 poly_mul p reduction [] w = poly_scale p 0 w
 poly_mul p reduction (a ∷ v) w = poly_add p (poly_scale p a w) (times_x p reduction (poly_mul p reduction v w))
 
+-- the polynomial that a code stands for
 abbrev pub poly_of : ℕ → ℕ → List ℕ
 poly_of q a = digits (prime_of q) (degree_of q) (a % q)
 
+-- the sum of two codes: digit by digit modulo p
 unfoldable pub add : ℕ → ℕ → ℕ → ℕ
 add q a b = number (prime_of q) (poly_add (prime_of q) (poly_of q a) (poly_of q b))
 
+-- the product of two codes: that of their polynomials, reduced
 unfoldable pub mul : ℕ → ℕ → ℕ → ℕ
 mul q a b = number (prime_of q) (poly_mul (prime_of q) (reduction_of q) (poly_of q a) (poly_of q b))
 
+-- what gives 0 when a is added to it
 unfoldable pub neg : ℕ → ℕ → ℕ
 neg q a = number (prime_of q) (map (λ d. (prime_of q - d) % prime_of q) (poly_of q a))
 
+-- what gives 1 when it is multiplied by a; 0 for 0
 unfoldable pub inv : ℕ → ℕ → ℕ
 inv q a = unwrap_or (find (λ b. mul q a b == 1) (range_with_len 0 q)) 0
 

@@ -47,7 +47,9 @@ counts d matrix rows = before matrix rows && not (is_beside d matrix rows)
 -- asked it counts for the prefix and its pattern is not greater than that of the prefix
 abbrev pub excludes : Problem → List ℕ → List ℕ → Bool
 excludes p matrix rows =
-    (if p.least then counts p.dimensions matrix rows && not (is_less (pattern_of p.dimensions rows) (pattern_of p.dimensions matrix)) else before matrix rows)
+    (if p.least
+    then counts p.dimensions matrix rows && not (is_less (pattern_of p.dimensions rows) (pattern_of p.dimensions matrix))
+    else before matrix rows)
 
 -- a branch: an allowed prefix, not yet whole, that no complete allowed matrix excludes
 abbrev pub is_branch : Problem → List ℕ → Bool
@@ -84,10 +86,13 @@ pub data Mark : Type 0 where
 unfoldable pub word_of : Problem → List ℕ → ℕ
 word_of p rows = number p.dimensions.q (unwrap_or (closing_word p.dimensions p.requirement rows) [])
 
+-- the mark of a node
 abbrev pub mark_of : Problem → List ℕ → Mark
 mark_of p rows =
-    (if is_allowed p.dimensions p.requirement rows then (if is_branch p rows then Branch (last_row rows) else Worse (last_row rows)) else Word (last_row rows) (word_of p rows))
+    (if is_allowed p.dimensions p.requirement rows
+    then (if is_branch p rows then Branch (last_row rows) else Worse (last_row rows))
+    else Word (last_row rows) (word_of p rows))
 
--- the marks of all nodes, in order
+-- the marks of all nodes, in the order of the nodes
 unfoldable pub marks : Problem → List Mark
 marks p = map (mark_of p) (nodes p)

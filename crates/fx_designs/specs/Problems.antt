@@ -14,6 +14,7 @@ pub data Requirement : Type 0 where
   AtResolution : ℕ → Requirement
   ForEffects : List ℕ → List ℕ → Requirement
 
+-- what a search is asked for: designs of these dimensions that meet the requirement, and whether of least pattern among them
 pub record Problem : Type 0 where
   pub dimensions : Dimensions
   pub requirement : Requirement

@@ -9,7 +9,7 @@ abbrev pub points : ℕ → ℕ → List (List ℕ)
 points q zero = [] ∷ []
 points q (suc n) = flat_map (λ c. map (λ p. c ∷ p) (points q n)) (codes_of q)
 
--- the levels, and behind them the block values, that the rows give at the point p
+-- the levels, and after them the block values, that the rows give at the point p
 abbrev pub levels_at : ℕ → List (List ℕ) → List ℕ → List ℕ
 levels_at q rows p = map (λ r. dot q r p) rows
 
@@ -29,13 +29,16 @@ count_of q u y runs = count_by (λ x. dot q u x == y) runs
 unfoldable pub is_balanced : ℕ → List ℕ → List (List ℕ) → Bool
 is_balanced q u runs = list_all (λ y. list_all (λ z. count_of q u y runs == count_of q u z runs) (codes_of q)) (codes_of q)
 
--- the runs whose block values b, which stand behind s levels, have the number z = b_1 + b_2 q + ..
+-- the runs whose block values b, which stand after s levels, have the number z = b_1 + b_2 q + ..
 abbrev pub block : ℕ → ℕ → ℕ → List (List ℕ) → List (List ℕ)
 block q s z runs = filter (λ x. number q (drop s x) == z) runs
 
 -- each of n blocks, where n is q^t, has equally many runs
 unfoldable pub are_blocks_even : ℕ → ℕ → ℕ → List (List ℕ) → Bool
-are_blocks_even q s n runs = list_all (λ y. list_all (λ z. count_by (λ x. number q (drop s x) == y) runs == count_by (λ x. number q (drop s x) == z) runs) (range_with_len 0 n)) (range_with_len 0 n)
+are_blocks_even q s n runs =
+    list_all (λ y. list_all (λ z.
+      count_by (λ x. number q (drop s x) == y) runs == count_by (λ x. number q (drop s x) == z) runs)
+    (range_with_len 0 n)) (range_with_len 0 n)
 
 -- constant inside each of n blocks
 unfoldable pub is_constant_in_blocks : ℕ → ℕ → ℕ → List ℕ → List (List ℕ) → Bool

@@ -14,5 +14,6 @@ abbrev pub rank_after : ℕ → ℕ → List (List ℕ) → List (List ℕ) → 
 rank_after q m before [] = 0
 rank_after q m before (r ∷ rows) = (if in_span q m before r then 0 else 1) + rank_after q m (before ++ r ∷ []) rows
 
+-- the rank of the rows: the dimension of their span
 abbrev pub rank_of : ℕ → ℕ → List (List ℕ) → ℕ
 rank_of q m rows = rank_after q m [] rows

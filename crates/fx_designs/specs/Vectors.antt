@@ -21,7 +21,7 @@ last_nonzero (a ∷ v) = (if last_nonzero v == 0 then a else last_nonzero v)
 abbrev pub is_normal : List ℕ → Bool
 is_normal v = last_nonzero v == 1
 
--- no entry is other than zero
+-- each entry is zero
 abbrev pub is_zero : List ℕ → Bool
 is_zero v = weight v == 0
 
@@ -32,25 +32,28 @@ same [] (b ∷ w) = false
 same (a ∷ v) [] = false
 same (a ∷ v) (b ∷ w) = (a == b) && same v w
 
--- entries past the end of the shorter vector count as zeros: a vector over the factors leaves out the block values behind
--- the levels
+-- the dot product; entries past the end of the shorter vector count as zeros, so that a vector over the factors leaves out
+-- the block values, which stand after the levels
 abbrev pub dot : ℕ → List ℕ → List ℕ → ℕ
 dot q [] w = 0
 dot q (a ∷ v) [] = 0
 dot q (a ∷ v) (b ∷ w) = add q (mul q a b) (dot q v w)
 
--- a shorter vector counts as one with zeros at its end
+-- the sum of two vectors; a shorter one counts as one with zeros at its end
 abbrev pub plus : ℕ → List ℕ → List ℕ → List ℕ
 plus q [] w = w
 plus q (a ∷ v) [] = a ∷ v
 plus q (a ∷ v) (b ∷ w) = add q a b ∷ plus q v w
 
+-- c times v
 abbrev pub scale : ℕ → ℕ → List ℕ → List ℕ
 scale q c v = map (λ a. mul q c a) v
 
+-- u - v
 abbrev pub minus : ℕ → List ℕ → List ℕ → List ℕ
 minus q u v = plus q u (scale q (neg q 1) v)
 
+-- the vector of n zeros
 abbrev pub zeros : ℕ → List ℕ
 zeros n = replicate n 0
 

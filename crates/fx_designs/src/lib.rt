@@ -1,3 +1,3 @@
 //! The mathematics of regular fractional factorial designs, as definitions: what a reader has to believe.
-//! There is no code here. Each definition is a file of `specs/`.
+//! There is no code here. Each notion has a file in `specs/`.
 #![tactic(auto)]

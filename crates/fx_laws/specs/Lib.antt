@@ -5,7 +5,6 @@ pub mod Raises
 pub mod Scalings
 pub mod Reorders
 pub mod Canonical
-pub mod Meets
 pub mod First
 pub mod Trees
 pub mod Walks

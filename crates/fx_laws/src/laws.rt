@@ -1,11 +1,9 @@
 ghost use Rattle.std.specs.Prelude.{◌≡◌, ◌↔◌, ◌+◌, ◌<◌, ℕ, List, Some, None, IsTrue, true, false};
 ghost use Rattle.fx_designs.specs.Galois.{is_order};
-ghost use Rattle.fx_designs.specs.Problems.{Dimensions, Requirement, AtResolution, Problem};
-ghost use Rattle.fx_designs.specs.Demands.{is_met};
+ghost use Rattle.fx_designs.specs.Problems.{Dimensions, Requirement, Problem};
 ghost use Rattle.fx_designs.specs.Canonical.{is_canonical};
 ghost use Rattle.fx_designs.specs.Answers.{answer, is_design};
 ghost use Rattle.fx_laws.specs.Canonical.{IsCanonicalPrefix};
-ghost use Rattle.fx_laws.specs.Meets.{MeetsResolution};
 ghost use Rattle.fx_laws.specs.First.{IsFirstDesign};
 
 /// Where no least pattern is asked, the answer of a problem is its first design: the answer, where
@@ -22,10 +20,4 @@ pub fn answer_is_the_first_design()
 /// resolution, on unit vectors and falling numbers.
 pub fn canonical_prefix_in_words()
     ensures { (d : Dimensions) (wanted : Requirement) (rows : List ℕ) → IsTrue (is_order d.q) → (is_canonical d wanted rows ≡ true) ↔ IsCanonicalPrefix d wanted rows }
-{}
-
-/// Without blocks a matrix meets a resolution exactly where each vector over the factors of less
-/// weight, but for the zero vector, is balanced over its runs.
-pub fn resolution_met_in_words()
-    ensures { (d : Dimensions) (r : ℕ) (rows : List ℕ) → 0 < d.q → d.t ≡ 0 → (is_met d (AtResolution r) rows ≡ true) ↔ MeetsResolution d.q d.m d.s r rows }
 {}

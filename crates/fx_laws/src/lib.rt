@@ -3,4 +3,4 @@
 
 mod laws;
 
-pub use laws::{answer_is_the_first_design, canonical_prefix_in_words, resolution_met_in_words};
+pub use laws::{answer_is_the_first_design, canonical_prefix_in_words};

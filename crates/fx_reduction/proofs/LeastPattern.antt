@@ -13,9 +13,11 @@ use Rattle.fx_designs.specs.Answers.{lists, prefixes, is_design, is_of_least_pat
 use Rattle.fx_laws.proofs.Tests.{all_decides}
 use Rattle.fx_laws.proofs.Order.{IsIn, each-weaker, found_passes}
 use Rattle.fx_laws.proofs.FirstDesign.{there}
+use Rattle.fx_reduction.specs.Matrices.{row_numbers}
 use Rattle.fx_reduction.specs.Reduction.{IsReducible, LeastOfAll}
 use Rattle.fx_reduction.proofs.PatternOrder.{less-self, less-trans, not_above}
 use Rattle.fx_reduction.proofs.NoWorse.{no_worse_exists}
+use Rattle.fx_reduction.proofs.NoDesign.{numbered, same_runs}
 
 -- y is one of the items, and none has a less pattern
 record IsLeast (pattern : List ℕ → List ℕ) (xs : List (List ℕ)) (y : List ℕ) : Type 0 where
@@ -127,8 +129,10 @@ module _ (p : Problem) where
 
   module _ (f : IsField p.dimensions.q) (proper : IsReducible p.requirement) where
     pub least-of_all : LeastOfAll p
-    least-of_all rows other asked is hm met =
-        let found = no_worse_exists p.dimensions f p.requirement proper other hm met in
+    least-of_all rows factors blocks asked is matrix met =
+        let other : List ℕ = row_numbers p.dimensions factors blocks in
+        let found = no_worse_exists p.dimensions f p.requirement proper other
+        (numbered p.dimensions f p.requirement factors blocks matrix) (same_runs p.dimensions f p.requirement factors blocks matrix ∙ met) in
         let design : is_design p found.0 ≡ true = and_from _ _ (eq-eqb _ _ found.1.whole) (and_from _ _ found.1.canonical found.1.meets) in
         not_above (pattern_of p.dimensions other) (pattern_of p.dimensions found.0) (pattern_of p.dimensions rows)
         (pattern-length other ∙ sym (pattern-length found.0)) found.1.pattern

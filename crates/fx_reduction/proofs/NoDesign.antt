@@ -14,7 +14,7 @@ use Rattle.fx_laws.proofs.Space.{AreVectors}
 use Rattle.fx_laws.proofs.Ranks.{append-each}
 use Rattle.fx_laws.proofs.CanonicalTest.{rows-vectors}
 use Rattle.fx_reduction.specs.Forbidden.{IsForbidden}
-use Rattle.fx_reduction.specs.Matrices.{IsRuleMatrix, IsNumberedMatrix}
+use Rattle.fx_reduction.specs.Matrices.{IsRuleMatrix, IsNumberedMatrix, row_numbers}
 use Rattle.fx_reduction.specs.Reduction.{MetWhereAllowed, IsReducible, NoneWhereNone}
 use Rattle.fx_reduction.proofs.Kept.{factor-vectors, block-vectors, allowed_facts}
 use Rattle.fx_reduction.proofs.Numbers.{back, below}
@@ -33,19 +33,14 @@ module _ (d : Dimensions) (f : IsField d.q) (wanted : Requirement) where
         (subst (λ n. take n (xs ++ ys) ≡ xs) hm.factor_count (take-append_seam xs ys))
         (subst (λ n. drop n (xs ++ ys) ≡ ys) hm.factor_count (drop-append_seam xs ys))
 
-    -- the rows by their numbers
-    pub numbers : List ℕ
-    numbers = map (number d.q) (xs ++ ys)
-
-    pub numbered : IsNumberedMatrix d numbers
-    unfolding numbers
+    pub numbered : IsNumberedMatrix d (row_numbers d xs ys)
     numbered = record {
       len = length-map (xs ++ ys) (number d.q) ∙ whole;
       below = All-from_recursion (λ r. r < d.q ^ d.m) (map (number d.q) (xs ++ ys)) (below d.q d.m f (xs ++ ys) all);
     }
 
-    pub same_runs : is_met d wanted numbers ≡ do_runs_meet d wanted (runs_of d.q d.m (xs ++ ys))
-    unfolding numbers is_met
+    pub same_runs : is_met d wanted (row_numbers d xs ys) ≡ do_runs_meet d wanted (runs_of d.q d.m (xs ++ ys))
+    unfolding is_met
     same_runs = ap (λ v. do_runs_meet d wanted (runs_of d.q d.m v)) (back d.q d.m f (xs ++ ys) all)
 
   pub met_exactly : MetWhereAllowed d wanted
@@ -74,7 +69,7 @@ module _ (p : Problem) (f : IsField p.dimensions.q) (proper : IsReducible p.requ
   unfolding is_met
   none-exactly = (
     λ none xs ys hm. false_from_ne_true _ (λ e.
-        let rows : List ℕ = numbers p.dimensions f p.requirement xs ys hm in
+        let rows : List ℕ = row_numbers p.dimensions xs ys in
         let found = no_worse_exists p.dimensions f p.requirement proper rows
         (numbered p.dimensions f p.requirement xs ys hm) (same_runs p.dimensions f p.requirement xs ys hm ∙ e) in
         both_ways _ (none found.0) (and_from _ _ (eq-eqb _ _ found.1.whole) (and_from _ _ found.1.canonical found.1.meets))),

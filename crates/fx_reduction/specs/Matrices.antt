@@ -1,5 +1,6 @@
 -- Rule matrices: any factor rows and block rows of length m, canonical or not.
-use Rattle.std.specs.Prelude.{ℕ, ◌≡◌, ◌<◌, ◌≤◌, ◌+◌, ◌^◌, ◌↔◌, true, List, length, All}
+use Rattle.std.specs.Prelude.{ℕ, ◌≡◌, ◌<◌, ◌≤◌, ◌+◌, ◌^◌, ◌↔◌, true, List, ◌++◌, map, length, All}
+use Rattle.fx_designs.specs.Galois.{number}
 use Rattle.fx_designs.specs.Vectors.{IsVector, plus, zeros, combination}
 use Rattle.fx_designs.specs.Problems.{Dimensions, Requirement}
 use Rattle.fx_designs.specs.Demands.{is_forbidden}
@@ -16,6 +17,10 @@ pub record IsRuleMatrix (d : Dimensions) (factors blocks : List (List ℕ)) : Ty
 pub record IsNumberedMatrix (d : Dimensions) (rows : List ℕ) : Type 0 where
   pub len : length rows ≡ d.s + d.t
   pub below : All (λ r. r < d.q ^ d.m) rows
+
+-- the numbers of a rule matrix's rows, the factor rows first
+abbrev pub row_numbers : Dimensions → List (List ℕ) → List (List ℕ) → List ℕ
+row_numbers d factors blocks = map (number d.q) (factors ++ blocks)
 
 -- the vector (f, b), with an entry for each factor row and for each block row, is a zero sum: so weighted, the rows add up to zero
 abbrev pub IsZeroSum : Dimensions → List (List ℕ) → List (List ℕ) → List ℕ → List ℕ → Type 0

@@ -6,7 +6,7 @@ use Rattle.fx_designs.specs.Demands.{do_runs_meet, is_met, is_allowed}
 use Rattle.fx_designs.specs.Patterns.{pattern_of, is_less, resolution_of}
 use Rattle.fx_designs.specs.Canonical.{is_canonical}
 use Rattle.fx_designs.specs.Answers.{is_design, answer}
-use Rattle.fx_reduction.specs.Matrices.{IsRuleMatrix, IsNumberedMatrix, IsAllowedMatrix}
+use Rattle.fx_reduction.specs.Matrices.{IsRuleMatrix, IsAllowedMatrix, row_numbers}
 
 -- the runs of a rule matrix meet the requirement exactly where it is allowed
 abbrev pub MetWhereAllowed : Dimensions → Requirement → Type 0
@@ -35,10 +35,10 @@ pub record IsNoWorse (d : Dimensions) (wanted : Requirement) (rows better : List
 
 -- every rule matrix that meets the requirement has a canonical one that meets it and is no worse
 abbrev pub CanonicalForEvery : Dimensions → Requirement → Type 0
-CanonicalForEvery d wanted = (rows : List ℕ)
-    → IsNumberedMatrix d rows
-    → is_met d wanted rows ≡ true
-    → (better : List ℕ) × IsNoWorse d wanted rows better
+CanonicalForEvery d wanted = (factors blocks : List (List ℕ))
+    → IsRuleMatrix d factors blocks
+    → do_runs_meet d wanted (runs_of d.q d.m (factors ++ blocks)) ≡ true
+    → (better : List ℕ) × IsNoWorse d wanted (row_numbers d factors blocks) better
 
 -- no rule matrix at all has runs that meet the requirement
 abbrev pub NoneMeets : Dimensions → Requirement → Type 0
@@ -56,9 +56,9 @@ NoAnswerWhereNone p = (answer p ≡ None) ↔ NoneMeets p.dimensions p.requireme
 
 -- the answer of a problem that asks for a least pattern has the least of all rule matrices that meet the requirement
 abbrev pub LeastOfAll : Problem → Type 0
-LeastOfAll p = (rows other : List ℕ)
+LeastOfAll p = (rows : List ℕ) (factors blocks : List (List ℕ))
     → p.least ≡ true
     → answer p ≡ Some rows
-    → IsNumberedMatrix p.dimensions other
-    → is_met p.dimensions p.requirement other ≡ true
-    → is_less (pattern_of p.dimensions other) (pattern_of p.dimensions rows) ≡ false
+    → IsRuleMatrix p.dimensions factors blocks
+    → do_runs_meet p.dimensions p.requirement (runs_of p.dimensions.q p.dimensions.m (factors ++ blocks)) ≡ true
+    → is_less (pattern_of p.dimensions (row_numbers p.dimensions factors blocks)) (pattern_of p.dimensions rows) ≡ false

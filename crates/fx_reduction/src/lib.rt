@@ -10,5 +10,6 @@ pub use reduction::{
 };
 pub use steps::{change_keeps_zero_sums, raising_the_rank, reordering_factors, scaling_rows};
 pub use strengths::{
-    front_of_an_allowed_prefix, less_asked_is_met, prefix_has_no_more_words, resolutions_as_effects,
+    allowed_without_the_last_row, less_asked_is_met, prefix_has_no_more_words,
+    resolutions_as_effects, runs_met_in_words,
 };

@@ -22,16 +22,17 @@ pub fn scaling_rows()
     ensures kept { (d : Dimensions) (wanted : Requirement) → IsTrue (is_order d.q) → ScalingKeeps d wanted }
 {}
 
-/// Where the factors are reordered, the entries of the zero sums are. Under a resolution that keeps
-/// what is allowed, and the pattern.
+/// Where two neighbouring factors are swapped, so are the entries of the zero sums. Under a
+/// resolution every other order of the factors keeps what is allowed, and the pattern.
 pub fn reordering_factors()
     ensures sums { (d : Dimensions) → IsTrue (is_order d.q) → SwapSwapsSums d }
     ensures kept { (d : Dimensions) (r : ℕ) → IsTrue (is_order d.q) → ReorderKeeps d r }
 {}
 
-/// Where the factor rows are dependent, a vector can be added to one of them that raises their rank:
-/// a block row outside their span, or a vector outside the span of all rows. The matrix stays
-/// allowed, and no A_k of its pattern rises.
+/// Where the factor rows are dependent, one of them is spanned by those before it (`row`). Where a
+/// block row outside the span of the factor rows is added to it (`block_row`), or a vector outside
+/// the span of all rows (`other`), their rank rises, the matrix stays allowed, and no A_k of its
+/// pattern rises.
 pub fn raising_the_rank()
     ensures row { (d : Dimensions) → IsTrue (is_order d.q) → RowToRaise d }
     ensures block_row { (d : Dimensions) (wanted : Requirement) → IsTrue (is_order d.q) → RaiseByBlockRow d wanted }

@@ -1,10 +1,19 @@
 //! Requirements in other words, and requirements that follow from stronger ones.
 
-ghost use Rattle.std.specs.Prelude.{ℕ, ◌≡◌, true, IsTrue, List, [], ◌∷◌, ◌++◌};
+ghost use Rattle.std.specs.Prelude.{ℕ, ◌≡◌, ◌↔◌, true, IsTrue, List, [], ◌∷◌, ◌++◌};
 ghost use Rattle.fx_designs.specs.Galois.{is_order};
 ghost use Rattle.fx_designs.specs.Problems.{Dimensions, Requirement};
-ghost use Rattle.fx_designs.specs.Demands.{is_allowed};
+ghost use Rattle.fx_designs.specs.Demands.{do_runs_meet, is_allowed};
+ghost use Rattle.fx_reduction.specs.Meets.{RunsMeet};
 ghost use Rattle.fx_reduction.specs.Strengths.{OddAsEffects, EvenAsEffects, LowerResolution, FewerBlocks, PrefixHasNoMoreWords};
+
+/// Runs meet a requirement exactly where what has to be balanced is balanced over them and, with
+/// block factors, the blocks are even and what is to be estimated is balanced inside each.
+pub fn runs_met_in_words()
+    ensures { (d : Dimensions) (wanted : Requirement) (runs : List (List ℕ))
+        → IsTrue (is_order d.q)
+        → (do_runs_meet d wanted runs ≡ true) ↔ RunsMeet d wanted runs }
+{}
 
 /// A resolution says which effects can be estimated: at 2k + 1 those of at most k factors where the
 /// others are negligible, at 2k those of at most k - 1 factors where those of k factors are not. Any
@@ -25,7 +34,10 @@ pub fn prefix_has_no_more_words()
     ensures { (d : Dimensions) → IsTrue (is_order d.q) → PrefixHasNoMoreWords d }
 {}
 
-/// What an allowed prefix begins with is allowed.
-pub fn front_of_an_allowed_prefix()
-    ensures { (d : Dimensions) (wanted : Requirement) (rows : List ℕ) (row : ℕ) → IsTrue (is_order d.q) → is_allowed d wanted (rows ++ row ∷ []) ≡ true → is_allowed d wanted rows ≡ true }
+/// An allowed prefix stays one without its last row.
+pub fn allowed_without_the_last_row()
+    ensures { (d : Dimensions) (wanted : Requirement) (rows : List ℕ) (row : ℕ)
+        → IsTrue (is_order d.q)
+        → is_allowed d wanted (rows ++ row ∷ []) ≡ true
+        → is_allowed d wanted rows ≡ true }
 {}

@@ -15,8 +15,8 @@ pub fn rows_that_follow()
     ensures { (d : Dimensions) (wanted : Requirement) (rows : List ℕ) (row : ℕ) → IsTrue (is_order d.q) → is_canonical d wanted rows ≡ true → is_canonical d wanted (rows ++ row ∷ []) ≡ follows d wanted (front_of d rows) row }
 {}
 
-/// What a canonical prefix begins with is a canonical prefix.
-pub fn front_of_a_canonical_prefix()
+/// A canonical prefix stays one without its last row.
+pub fn canonical_without_the_last_row()
     ensures { (d : Dimensions) (wanted : Requirement) (rows : List ℕ) (row : ℕ) → IsTrue (is_order d.q) → is_canonical d wanted (rows ++ row ∷ []) ≡ true → is_canonical d wanted rows ≡ true }
 {}
 

@@ -14,7 +14,7 @@ pub use extension::{Points, children};
 pub use front::Front;
 pub use fx_vectors::Mark;
 pub use laws::{
-    front_of_a_canonical_prefix, no_rows_are_canonical, problems_are_trees, rows_that_follow,
+    canonical_without_the_last_row, no_rows_are_canonical, problems_are_trees, rows_that_follow,
     span_of_a_canonical_prefix,
 };
 pub use order::before;
