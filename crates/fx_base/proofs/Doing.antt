@@ -1,11 +1,9 @@
 -- Acts done one after another: acts and front parts of acts compose, over loops too.
-use Rattle.std.proofs.Common.{ℕ, ◌≡◌, ◌<◌, ◌≤◌, get_or, add-one, ◌+◌, ◌++◌, length, List, [], ◌∷◌, map, take, drop, Option, Some, refl, sym, ◌∙◌, ap, subst, append_assoc}
+use Rattle.std.proofs.Common.{ℕ, ◌≡◌, ◌≤◌, ◌+◌, ◌++◌, length, List, [], ◌∷◌, map, take, drop, Option, Some, refl, sym, ◌∙◌, ap, subst, append_assoc}
 use Rattle.std.proofs.lemmas.List.{append-nil, take_all, map-append, take-append-drop}
-use Rattle.std.proofs.Math.Seq.{take-add, take-suc}
-use Rattle.std.specs.List.{flat_map}
-use Rattle.std.proofs.lemmas.Grind.{flat_map-append}
+use Rattle.std.proofs.Math.Seq.{take-add}
 use Rattle.fx_base.specs.Writing.{Appends, AppendsPart}
-use Rattle.fx_base.specs.Acts.{Act, ListByte, BeginFile, FileByte, EndFile, File, listed, shelved, Shelves, ShelvesPart, Event, Piece, WholeFile, acts_of, acts, World, Did, DidPart}
+use Rattle.fx_base.specs.Acts.{Act, ListByte, BeginFile, FileByte, EndFile, File, listed, shelved, Shelves, ShelvesPart, Event, Piece, acts_of, acts, World, Did, DidPart}
 
 pub listed-append : (xs ys : List Act) → listed (xs ++ ys) ≡ listed xs ++ listed ys
 listed-append [] ys = refl
@@ -147,78 +145,9 @@ pub fill_whole : (old new : Option (List File)) (bytes : List ℕ) (from : ℕ) 
     → Shelves old new (map FileByte (take from bytes)) → Shelves old new (map FileByte bytes)
 fill_whole old new bytes from all a = subst (λ (l : List ℕ). Shelves old new (map FileByte l)) (take_all from bytes all) a
 
-pub front_nil : (xs ys : List ℕ) → xs ++ ys ≡ [] → xs ≡ []
-front_nil [] ys e = refl
-front_nil (x ∷ xs) ys e = cc
-
 pub listed-file : (bytes : List ℕ) → listed (map FileByte bytes ++ EndFile ∷ []) ≡ []
 listed-file [] = refl
 listed-file (b ∷ bytes) = listed-file bytes
-
-pub did_file : (old new : Option (List File)) (written : Option (List ℕ)) (name content : List ℕ)
-    → Shelves old new (acts_of (WholeFile name content))
-    → Did (record { written = written; files = old }) (record { written = written; files = new }) (acts_of (WholeFile name content))
-did_file old new written name content a = record {
-  listing = record { told = λ text e. e ∙ ap Some (sym (ap (λ (l : List ℕ). text ++ l) (listed-file content) ∙ append-nil text)) };
-  shelf = a;
-}
-
-pub part_file : (old new : Option (List File)) (written : Option (List ℕ)) (name content : List ℕ)
-    → ShelvesPart old new (acts_of (WholeFile name content))
-    → DidPart (record { written = written; files = old }) (record { written = written; files = new }) (acts_of (WholeFile name content))
-part_file old new written name content a =
-    let none : listed a.done ≡ [] = front_nil (listed a.done) (listed a.left)
-    (sym (listed-append a.done a.left) ∙ ap listed a.front ∙ listed-file content) in
-    record {
-      done = a.done;
-      left = a.left;
-      front = a.front;
-      did = record {
-        listing = record { told = λ text e. e ∙ ap Some (sym (ap (λ (l : List ℕ). text ++ l) none ∙ append-nil text)) };
-        shelf = a.did;
-      };
-    }
-
--- a list of things, each with its events, done one after another
-module _ {X : Type 0} (f : X → List Event) (xs : List X) (i : ℕ) (d : X) (there : i < length xs) where
-  abbrev x : X
-  x = get_or xs i d
-
-  front_is : take (i + 1) xs ≡ take i xs ++ x ∷ []
-  front_is = rw (add-one i) (take-suc xs i d there)
-
-  events_next : acts (flat_map f (take (i + 1) xs)) ≡ acts (flat_map f (take i xs)) ++ acts (f x)
-  events_next = ap (λ (l : List X). acts (flat_map f l)) front_is
-      ∙ ap acts (flat_map-append f (take i xs) (x ∷ []) ∙ ap (λ (l : List Event). flat_map f (take i xs) ++ l) (append-nil (f x)))
-      ∙ acts-append (flat_map f (take i xs)) (f x)
-
-  events_split : acts (flat_map f (take (i + 1) xs)) ++ acts (flat_map f (drop (i + 1) xs)) ≡ acts (flat_map f xs)
-  events_split = sym (acts-append (flat_map f (take (i + 1) xs)) (flat_map f (drop (i + 1) xs)))
-      ∙ ap acts (sym (flat_map-append f (take (i + 1) xs) (drop (i + 1) xs)))
-      ∙ ap (λ (l : List X). acts (flat_map f l)) (take-append-drop (i + 1) xs)
-
-  pub did_next : {a b c : World} → Did a b (acts (flat_map f (take i xs))) → Did b c (acts (f (get_or xs i d)))
-      → Did a c (acts (flat_map f (take (i + 1) xs)))
-  did_next {a} {b} {c} p q = subst (λ (l : List Act). Did a c l) (sym events_next) (did_more p q)
-
-  pub part_next : {a b c : World} → Did a b (acts (flat_map f (take i xs))) → DidPart b c (acts (f (get_or xs i d)))
-      → DidPart a c (acts (flat_map f xs))
-  part_next {a} {b} {c} p q = subst (λ (l : List Act). DidPart a c l) events_split
-      (part_first (acts (flat_map f (drop (i + 1) xs))) (subst (λ (l : List Act). DidPart a c l) (sym events_next) (part_more p q)))
-
--- the things so far
-pub part_so_far : {X : Type 0} (f : X → List Event) (xs : List X) (i : ℕ) {a b : World}
-    → Did a b (acts (flat_map f (take i xs))) → DidPart a b (acts (flat_map f xs))
-part_so_far f xs i {a} {b} p = subst (λ (l : List Act). DidPart a b l)
-    (sym (acts-append (flat_map f (take i xs)) (flat_map f (drop i xs)))
-    ∙ ap acts (sym (flat_map-append f (take i xs) (drop i xs)))
-    ∙ ap (λ l. acts (flat_map f l)) (take-append-drop i xs))
-    (part_first (acts (flat_map f (drop i xs))) (part_whole p))
-
--- all the things
-pub did_all : {X : Type 0} (f : X → List Event) (xs : List X) (i : ℕ) {a b : World} → length xs ≤ i
-    → Did a b (acts (flat_map f (take i xs))) → Did a b (acts (flat_map f xs))
-did_all f xs i {a} {b} all p = subst (λ l. Did a b (acts (flat_map f l))) (take_all i xs all) p
 
 -- a list of one event
 pub did_one : {a b : World} (e : Event) → Did a b (acts_of e) → Did a b (acts (e ∷ []))

@@ -1,8 +1,7 @@
 -- What acts do to the room that files take, and to whether a file is begun.
-use Rattle.std.proofs.Common.{ℕ, ◌≡◌, ◌≤◌, ◌+◌, ◌++◌, true, false, not, length, List, [], ◌∷◌, map, refl, ◌∙◌, ap, arith, length-append}
-use Rattle.fx_base.specs.Acts.{Act, ListByte, BeginFile, FileByte, EndFile, File, listed, shelved, on_last, with_byte, as_ended}
+use Rattle.std.proofs.Common.{ℕ, ◌≡◌, ◌+◌, ◌++◌, true, false, not, length, List, [], ◌∷◌, map, refl, ◌∙◌, arith, length-append}
+use Rattle.fx_base.specs.Acts.{FileByte, File, shelved, on_last, with_byte, as_ended}
 use Rattle.fx_base.specs.Memory.{has_open, room_of}
-use Rattle.fx_base.proofs.Doing.{listed-append, shelved-append}
 
 -- lists of files with one more at the end
 pub room_of-snoc : (files : List File) (f : File) → room_of (files ++ f ∷ []) ≡ room_of files + (64 + length f.content)
@@ -48,42 +47,3 @@ pub room_ended : (files : List File) → room_of (on_last as_ended files) ≡ ro
 room_ended [] = refl
 room_ended (f ∷ []) = refl
 room_ended (f ∷ g ∷ files) = let rest = room_ended (g ∷ files) in omega arith
-
--- no act makes the room less that files take
-room_grows_byte : (byte : ℕ) (files : List File) → room_of files ≤ room_of (on_last (with_byte byte) files)
-room_grows_byte byte [] = omega arith
-room_grows_byte byte (f ∷ []) = let long = length-append f.content (byte ∷ []) in omega arith
-room_grows_byte byte (f ∷ g ∷ files) = let rest = room_grows_byte byte (g ∷ files) in omega arith
-
-pub room_grows : (done : List Act) (files : List File) → room_of files ≤ room_of (shelved done files)
-room_grows [] files = omega arith
-room_grows (ListByte byte ∷ done) files = room_grows done files
-room_grows (BeginFile name ∷ done) files =
-    let new : File = record { name = name; content = []; ended = false } in
-    let one = room_of-snoc files new in
-    let rest = room_grows done (files ++ new ∷ []) in
-    omega arith
-room_grows (FileByte byte ∷ done) files =
-    let one = room_grows_byte byte files in
-    let rest = room_grows done (on_last (with_byte byte) files) in
-    omega arith
-room_grows (EndFile ∷ done) files =
-    let same = room_ended files in
-    let rest = room_grows done (on_last as_ended files) in
-    omega arith
-
--- a front part of acts lists no more bytes, and takes no more room, than all of them
-pub front_listed : (done left all : List Act) → done ++ left ≡ all → length (listed done) ≤ length (listed all)
-front_listed done left all front =
-    let two = ap length (listed-append done left) in
-    let both = length-append (listed done) (listed left) in
-    let same = ap (λ (l : List Act). length (listed l)) front in
-    omega arith
-
-pub front_room : (done left all : List Act) (files : List File) → done ++ left ≡ all
-    → room_of (shelved done files) ≤ room_of (shelved all files)
-front_room done left all files front =
-    let more = room_grows left (shelved done files) in
-    let two = ap room_of (shelved-append done left files) in
-    let same = ap (λ (l : List Act). room_of (shelved l files)) front in
-    omega arith

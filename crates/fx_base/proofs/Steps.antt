@@ -1,13 +1,9 @@
 -- Steps of reading to the end and of writing a whole piece.
 use Rattle.std.proofs.Common.{ℕ, ◌≡◌, ◌<◌, ◌≤◌, ◌+◌, ◌-◌, ◌++◌, List, [], length, take, drop, Option, Some, zero, suc, refl, sym, ◌∙◌, ap, arith, append_assoc, length-append, length-drop}
-use Rattle.std.proofs.lemmas.List.{append-nil, take_all, length-take-le, drop-drop}
+use Rattle.std.proofs.lemmas.List.{take_all, length-take-le, drop-drop}
 use Rattle.std.proofs.Math.Seq.{take-add}
 use Rattle.fx_base.specs.Reading.{Takes, TakesFrom, IsAllLeft, IsOverLimit, LeavesRest}
 use Rattle.fx_base.specs.Writing.{Appends, AppendsPart}
-
--- nothing was appended
-pub appends_none : (old : Option (List ℕ)) → Appends old old []
-appends_none old = record { told = λ text e. e ∙ ap Some (sym (append-nil text)) }
 
 -- a front part of the piece, and then a front part of the rest
 pub appends_more : (old mid new : Option (List ℕ)) (piece : List ℕ) (from n : ℕ)
@@ -35,9 +31,6 @@ pub record ReadFrom (text : List ℕ) (now : Option (List ℕ)) (bytes : List �
 -- these bytes were read so far
 pub record HasRead (left now : Option (List ℕ)) (bytes : List ℕ) : Type 0 where
   pub told : (text : List ℕ) → left ≡ Some text → ReadFrom text now bytes
-
-pub read_none : (left : Option (List ℕ)) → HasRead left left []
-read_none left = record { told = λ text e. record { some = omega arith; front = refl; rest = e } }
 
 pub read_more : (left mid now : Option (List ℕ)) (bytes buffer grown : List ℕ) (n : ℕ)
     → HasRead left mid bytes → Takes mid now buffer n → n ≤ length buffer → grown ≡ bytes ++ take n buffer → HasRead left now grown
@@ -87,15 +80,11 @@ pub read_over : (left now : Option (List ℕ)) (bytes : List ℕ) (limit : ℕ) 
     → limit < length bytes → IsOverLimit left limit
 read_over left now bytes limit a over = record { told = λ text e. let there = (a.told text e).some in omega arith }
 
--- what is left after the bytes that were read, also after a call that took nothing
-pub read_rest : (left mid now : Option (List ℕ)) (bytes : List ℕ) → HasRead left mid bytes → now ≡ mid → LeavesRest left now
-read_rest left mid now bytes a same = record { taken = length bytes; told = λ text e. same ∙ (a.told text e).rest }
-
 -- a slice from an index to the end
 pub slice_to_end : (xs : List ℕ) (from : ℕ) → take (length xs - from) (drop from xs) ≡ drop from xs
 slice_to_end xs from = take_all (length xs - from) (drop from xs) (let left = length-drop from xs in omega arith)
 
--- the same after a call that took bytes
+-- what is left after the bytes that were read and a call that took more
 pub read_rest_more : (left mid now : Option (List ℕ)) (bytes buffer : List ℕ) (n : ℕ)
     → HasRead left mid bytes → Takes mid now buffer n → LeavesRest left now
 read_rest_more left mid now bytes buffer n a b = record {

@@ -41,6 +41,10 @@ impl MemoryShelf {
     /// An empty shelf with `room` bytes of room, which takes at most `step` bytes in a call, and
     /// fails at the calls whose numbers, counted from 1, stand in `failing`. All its memory is taken
     /// here.
+    ///
+    /// # Errors
+    ///
+    /// `NoMemory`: so much memory is not there.
     pub fn new(
         alloc: Global,
         step: usize,

@@ -38,6 +38,10 @@ impl Model for MemorySink {
 impl MemorySink {
     /// An empty sink for `room` bytes, which takes at most `step` of them in a call, and fails at the
     /// calls whose numbers, counted from 1, stand in `failing`. All its memory is taken here.
+    ///
+    /// # Errors
+    ///
+    /// `NoMemory`: so much memory is not there.
     pub fn new(
         alloc: Global,
         step: usize,

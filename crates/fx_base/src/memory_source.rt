@@ -1,4 +1,4 @@
-ghost use Rattle.std.specs.Prelude.{◌≡◌, ◌<◌, ◌≤◌, ◌++◌, ◌↔◌, true, length, take, drop, Some, IsErr, IfOk, OnErr, OnOk};
+ghost use Rattle.std.specs.Prelude.{◌≡◌, ◌<◌, ◌≤◌, ◌++◌, ◌↔◌, true, length, take, drop, Some, IsErr, IfOk, OnErr};
 ghost use Rattle.fx_base.specs.Faults.{HasCause, raised};
 ghost use Rattle.fx_base.specs.Reading.{Takes};
 ghost use Rattle.fx_base.specs.Memory.{FailingSource, IsListed, none_listed, portion};
@@ -76,6 +76,7 @@ impl Source for MemorySource {
         ensures after { IfOk result (λ n.
             self.new
             ≡ record self.old { left = drop n self.old.left; made = raised self.old.made }) }
+        ensures untouched { OnErr result (to.new ≡ to.old) }
         ensures fault { OnErr result
             (self.new ≡ record self.old { made = raised self.old.made; faults = raised self.old.faults }) }
     {

@@ -35,6 +35,10 @@ impl Model for SureShelf {
 impl SureShelf {
     /// An empty shelf with `room` bytes of room, which takes at most `step` bytes in a call. All its
     /// memory is taken here.
+    ///
+    /// # Errors
+    ///
+    /// `NoMemory`: so much memory is not there.
     pub fn new(alloc: Global, step: usize, room: usize) -> Result<SureShelf, NoMemory>
         requires { 0 < step }
         ensures { IfOk result (λ s. s ≡ record { files = []; step = step; room = room; faults = 0 }) }

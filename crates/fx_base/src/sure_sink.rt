@@ -34,6 +34,10 @@ impl Model for SureSink {
 impl SureSink {
     /// An empty sink for `room` bytes, which takes at most `step` of them in a call. All its memory
     /// is taken here.
+    ///
+    /// # Errors
+    ///
+    /// `NoMemory`: so much memory is not there.
     pub fn new(alloc: Global, step: usize, room: usize) -> Result<SureSink, NoMemory>
         requires { 0 < step }
         ensures { IfOk result (λ s. s ≡ record { written = []; step = step; room = room; faults = 0 }) }

@@ -81,7 +81,7 @@ impl<T> Values<T> {
         self.inner[i]
     }
 
-    /// Adds an item at the end.
+    /// Adds an item at the end, or leaves the list as it is where memory ran out.
     pub fn push(&mut self, item: T) -> Result<(), NoMemory>
     where
         T: Drop,

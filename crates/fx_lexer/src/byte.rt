@@ -10,7 +10,7 @@ pub fn is_white(b: u8) -> bool
 pub fn is_digit(b: u8) -> bool
     ensures { result ≡ is_digit b }
 {
-    b'0' <= b && b <= b'9'
+    b.is_ascii_digit()
 }
 
 pub fn begins_word(b: u8) -> bool

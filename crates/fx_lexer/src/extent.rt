@@ -6,12 +6,14 @@ ghost use Rattle.fx_lexer.specs.Extents.{begins_comment, begins_remark, closing_
 
 use crate::byte::{is_digit, is_word_byte};
 
+/// Whether `b` is the first byte.
 pub fn starts_with_byte(b: u8, bytes: &[u8]) -> bool
     ensures { result ≡ starts_with_byte b bytes.now }
 {
     !bytes.is_empty() && bytes[0] == b
 }
 
+/// Whether a comment from `/*` to `*/` begins here.
 pub fn begins_comment(bytes: &[u8]) -> bool
     ensures value { result ≡ begins_comment bytes.now }
     ensures two { result ≡ true → 2 ≤ length bytes.now }
@@ -19,12 +21,14 @@ pub fn begins_comment(bytes: &[u8]) -> bool
     starts_with_byte(b'/', bytes) && starts_with_byte(b'*', &bytes[1..])
 }
 
+/// Whether a comment from `*` to `;` begins here, which it does only where a statement may start.
 pub fn begins_remark(start: bool, bytes: &[u8]) -> bool
     ensures { result ≡ begins_remark start bytes.now }
 {
     start && starts_with_byte(b'*', bytes)
 }
 
+/// A word, or 0 where none begins here.
 pub fn word_len(bytes: &[u8]) -> usize
     ensures value { result ≡ prefix_len is_word_byte bytes.now }
     ensures bound { result ≤ length bytes.now }
@@ -32,6 +36,7 @@ pub fn word_len(bytes: &[u8]) -> usize
     bytes.iter().take_while(|b| is_word_byte(**b)).count()
 }
 
+/// Decimal digits, or 0 where there are none.
 pub fn digits_len(bytes: &[u8]) -> usize
     ensures value { result ≡ prefix_len is_digit bytes.now }
     ensures bound { result ≤ length bytes.now }
@@ -39,7 +44,7 @@ pub fn digits_len(bytes: &[u8]) -> usize
     bytes.iter().take_while(|b| is_digit(**b)).count()
 }
 
-/// A point and the digits behind it, or 0 where there are none.
+/// A point and the digits after it, or 0 where there are none.
 pub fn fraction_len(bytes: &[u8]) -> usize
     ensures value { result ≡ fraction_len bytes.now }
     ensures bound { result ≤ length bytes.now }

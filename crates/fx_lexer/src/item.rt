@@ -8,6 +8,23 @@ use crate::extent::{
 };
 use crate::token::Kind;
 
+// What a fault is, as `LexFault` tells it.
+const OPEN_COMMENT: u8 = 1;
+
+const OPEN_QUOTED: u8 = 2;
+
+const STRAY_BYTE: u8 = 3;
+
+const LONG_NUMBER: u8 = 4;
+
+const LONG_WORD: u8 = 5;
+
+/// The most bytes of a word.
+const MOST_WORD_BYTES: usize = 32;
+
+/// The most bytes of a number.
+const MOST_NUMBER_BYTES: usize = 38;
+
 /// What a text begins with: a token, or a byte of white space or a comment, which have no kind.
 #[derive(Clone, Copy, Debug)]
 pub struct Item {
@@ -17,7 +34,7 @@ pub struct Item {
 
 /// The item that a text begins with, or the kind of its fault. `start` is whether a statement
 /// starts here.
-pub fn front(start: bool, bytes: &[u8]) -> Result<Item, u8>
+pub fn first_item(start: bool, bytes: &[u8]) -> Result<Item, u8>
     requires { 0 < length bytes.now }
     ensures value { result ≡ item start bytes.now }
     ensures bound { IfOk result (λ i. (0 < i.length) × (i.length ≤ length bytes.now)) }
@@ -29,17 +46,17 @@ pub fn front(start: bool, bytes: &[u8]) -> Result<Item, u8>
     if begins_comment(bytes) {
         return match closing_len(&bytes[2..]) {
             Some(n) => Ok(gap(2 + n)),
-            None => Err(1),
+            None => Err(OPEN_COMMENT),
         };
     }
     if begins_remark(start, bytes) {
         return match remark_len(bytes) {
             Some(n) => Ok(gap(n)),
-            None => Err(1),
+            None => Err(OPEN_COMMENT),
         };
     }
     if begins_word(b) {
-        return limited(Kind::Word, word_len(bytes), 32, 5);
+        return limited_item(Kind::Word, word_len(bytes), MOST_WORD_BYTES, LONG_WORD);
     }
     let whole = digits_len(bytes);
     let fraction = fraction_len(&bytes[whole..]);
@@ -49,13 +66,13 @@ pub fn front(start: bool, bytes: &[u8]) -> Result<Item, u8>
     if is_quote(b) {
         return match quoted_len(b, &bytes[1..]) {
             Some(n) => Ok(token(Kind::Quoted, n + 1)),
-            None => Err(2),
+            None => Err(OPEN_QUOTED),
         };
     }
     if is_sign(b) {
         Ok(token(Kind::Sign, 1))
     } else {
-        Err(3)
+        Err(STRAY_BYTE)
     }
 }
 
@@ -74,7 +91,8 @@ fn token(kind: Kind, length: usize) -> Item
     }
 }
 
-fn limited(kind: Kind, length: usize, limit: usize, fault: u8) -> Result<Item, u8>
+/// A token of this kind and length, or the fault that it is too long.
+fn limited_item(kind: Kind, length: usize, limit: usize, fault: u8) -> Result<Item, u8>
     ensures { result ≡ limited kind length limit fault }
 {
     if length <= limit {
@@ -96,8 +114,13 @@ fn number(whole: usize, fraction: usize) -> Result<Item, u8>
     ensures { result ≡ number whole fraction }
 {
     if fraction == 0 {
-        limited(Kind::Whole, whole, 38, 4)
+        limited_item(Kind::Whole, whole, MOST_NUMBER_BYTES, LONG_NUMBER)
     } else {
-        limited(Kind::Decimal, whole + fraction, 38, 4)
+        limited_item(
+            Kind::Decimal,
+            whole + fraction,
+            MOST_NUMBER_BYTES,
+            LONG_NUMBER,
+        )
     }
 }

@@ -2,8 +2,8 @@ ghost use Rattle.std.specs.Prelude.{◌≡◌, ◌+◌, ◌<◌, ◌≤◌, ◌^
 ghost use Rattle.fx_lexer.specs.Tokens.{AreInOrder, IsToken};
 ghost use Rattle.fx_lexer.specs.Lexing.{lexed, starts_after, tokens_of, IsFirstFault};
 
-use crate::item::{Item, front};
-use crate::place::{Place, moved};
+use crate::item::{Item, first_item};
+use crate::place::{Place, place_at};
 use crate::token::{LexFault, LexStop, Token, Tokens};
 use fx_base::NoMemory;
 use std::alloc::Global;
@@ -28,7 +28,7 @@ pub fn lex(alloc: Global, text: &[u8]) -> Result<Tokens, LexStop>
     let mut start = true;
     let mut place = Place { line: 1, column: 1 };
     while at < text.len() {
-        match front(start, &text[at..]) {
+        match first_item(start, &text[at..]) {
             Err(kind) => {
                 return Err(LexStop::Fault(LexFault {
                     kind,
@@ -39,7 +39,7 @@ pub fn lex(alloc: Global, text: &[u8]) -> Result<Tokens, LexStop>
             Ok(item) => {
                 keep(&mut tokens, at, item, place)?;
                 start = starts_after(start, item, text[at]);
-                place = moved(text, at, at + item.length, place);
+                place = place_at(text, at, at + item.length, place);
                 at += item.length;
             }
         }
@@ -65,7 +65,7 @@ fn keep(tokens: &mut Tokens, at: usize, item: Item, place: Place) -> Result<(), 
     })
 }
 
-/// Whether a statement starts behind an item whose first byte is `b`.
+/// Whether a statement starts after an item whose first byte is `b`.
 fn starts_after(start: bool, item: Item, b: u8) -> bool
     ensures { result ≡ starts_after start item b }
 {

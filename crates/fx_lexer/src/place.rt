@@ -9,7 +9,7 @@ pub struct Place {
 }
 
 /// The place at `upto`, from that at `from`.
-pub fn moved(text: &[u8], from: usize, upto: usize, place: Place) -> Place
+pub fn place_at(text: &[u8], from: usize, upto: usize, place: Place) -> Place
     requires short { length text.now ≤ 1048576 }
     requires order { (from ≤ upto) × (upto ≤ length text.now) }
     requires place { place ≡ place_after (take from text.now) }

@@ -1,4 +1,5 @@
 use crate::{Kind, LexFault, LexStop, Token, lex};
+use fx_base::NoMemory;
 use std::alloc::Global;
 use std::process::Abort;
 use std::test::Fail;
@@ -13,12 +14,13 @@ fn token(kind: Kind, line: u32, column: u32, from: usize, upto: usize) -> Token 
     }
 }
 
-fn fault(rt: &impl Abort, alloc: Global, text: &[u8]) -> Option<(u8, u32, u32)> {
+/// The kind, line and column of a text's first fault, or None where it has none.
+fn fault(rt: &impl Abort, alloc: Global, text: &[u8]) -> Result<Option<(u8, u32, u32)>, NoMemory> {
     assert!(rt; text.len() <= 1048576);
     match lex(alloc, text) {
-        Err(LexStop::Fault(LexFault { kind, line, column })) => Some((kind, line, column)),
-        Err(LexStop::NoMemory) => None,
-        Ok(_) => None,
+        Err(LexStop::Fault(LexFault { kind, line, column })) => Ok(Some((kind, line, column))),
+        Err(LexStop::NoMemory) => Err(NoMemory),
+        Ok(_) => Ok(None),
     }
 }
 
@@ -64,23 +66,24 @@ fn program_has_its_tokens(rt: HostRuntime) -> Result<(), Fail> {
 }
 
 #[test]
-fn each_fault_has_its_place(rt: HostRuntime) {
+fn each_fault_has_its_place(rt: HostRuntime) -> Result<(), Fail> {
     let alloc = rt.alloc();
-    assert_eq!(rt; fault(&rt, alloc, b"a;\n /*;"), Some((1, 2, 2)));
-    assert_eq!(rt; fault(&rt, alloc, b"a;\n *b"), Some((1, 2, 2)));
+    assert_eq!(rt; fault(&rt, alloc, b"a;\n /*;")?, Some((1, 2, 2)));
+    assert_eq!(rt; fault(&rt, alloc, b"a;\n *b")?, Some((1, 2, 2)));
     assert_eq!(rt;
-        fault(&rt, alloc, b"proc factex;\nfactors A 'b"),
+        fault(&rt, alloc, b"proc factex;\nfactors A 'b")?,
         Some((2, 2, 11))
     );
-    assert_eq!(rt; fault(&rt, alloc, b"a \"b'"), Some((2, 1, 3)));
-    assert_eq!(rt; fault(&rt, alloc, b"a = #"), Some((3, 1, 5)));
-    assert_eq!(rt; fault(&rt, alloc, b"\n\n1.;"), Some((3, 3, 2)));
-    assert_eq!(rt; fault(&rt, alloc, b"caf\xc3\xa9"), Some((3, 1, 4)));
+    assert_eq!(rt; fault(&rt, alloc, b"a \"b'")?, Some((2, 1, 3)));
+    assert_eq!(rt; fault(&rt, alloc, b"a = #")?, Some((3, 1, 5)));
+    assert_eq!(rt; fault(&rt, alloc, b"\n\n1.;")?, Some((3, 3, 2)));
+    assert_eq!(rt; fault(&rt, alloc, b"caf\xc3\xa9")?, Some((3, 1, 4)));
     assert_eq!(rt;
-        fault(&rt, alloc, b"# '"),
+        fault(&rt, alloc, b"# '")?,
         Some((3, 1, 1)),
         "the first of two"
     );
+    Ok(())
 }
 
 #[test]
@@ -91,11 +94,11 @@ fn limits_are_kept_on_both_sides(rt: HostRuntime) -> Result<(), Fail> {
         1
     );
     assert_eq!(rt;
-        fault(&rt, alloc, b" 123456789012345678901234567890123456789"),
+        fault(&rt, alloc, b" 123456789012345678901234567890123456789")?,
         Some((4, 1, 2))
     );
     assert_eq!(rt;
-        fault(&rt, alloc, b"1234567890123456789012345678901234567.9"),
+        fault(&rt, alloc, b"1234567890123456789012345678901234567.9")?,
         Some((4, 1, 1))
     );
     assert_eq!(rt;
@@ -104,7 +107,7 @@ fn limits_are_kept_on_both_sides(rt: HostRuntime) -> Result<(), Fail> {
     );
     assert_eq!(rt; count(&rt, alloc, b" _bcdefghijklmnopqrstuvwxyzABCD12")?, 1);
     assert_eq!(rt;
-        fault(&rt, alloc, b" _bcdefghijklmnopqrstuvwxyzABCD123"),
+        fault(&rt, alloc, b" _bcdefghijklmnopqrstuvwxyzABCD123")?,
         Some((5, 1, 2))
     );
     Ok(())

@@ -26,7 +26,9 @@ pub struct Token {
     pub line: u32,
     /// The column of its first byte, which counts the bytes of the line from 1.
     pub column: u32,
+    /// The index of its first byte, from 0.
     pub from: usize,
+    /// The index after its last byte.
     pub upto: usize,
 }
 

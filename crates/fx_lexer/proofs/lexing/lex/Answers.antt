@@ -14,7 +14,7 @@ loop-at-preserved c =
     let inside = rw (take_rest text at, length-drop) at c.in-Ok.ensures.bound.1 in
     let fits : at + it.length ≤ length text = omega arith in (
       fits,
-      c.moved-place.ensures,
+      c.place_at-place.ensures,
       c.loop-at.invariant.2
           ∙ ap (λ r. in_front c.loop-at.tokens r) (item_read text c.loop-at.start at it is c.in-Ok.ensures.bound.0 fits)
           ∙ in_front_twice c.loop-at.tokens _ _

@@ -1,6 +1,6 @@
 use Rattle.std.proofs.Common.{◌≡◌, take}
 use Rattle.fx_lexer.specs.Places.{place_after}
-use Rattle.fx_lexer.proofs.place.moved.Given as goal
+use Rattle.fx_lexer.proofs.place.place_at.Given as goal
 
 abbrev pub invariant-loop-i : goal.invariant-loop-i
 invariant-loop-i l = l.place ≡ place_after (take l.i l.text)

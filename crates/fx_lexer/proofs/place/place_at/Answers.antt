@@ -1,7 +1,7 @@
 use Rattle.std.proofs.Common.{◌≤◌, ap, arith}
 use Rattle.fx_lexer.specs.declared.place.Place.{Place}
 use Rattle.fx_lexer.proofs.NextPlace.{line_small, column_small}
-use Rattle.fx_lexer.proofs.place.moved.Goals as goal
+use Rattle.fx_lexer.proofs.place.place_at.Goals as goal
 
 pub next_place-place-requires : goal.next_place-place-requires
 next_place-place-requires c =
