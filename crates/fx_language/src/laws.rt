@@ -1,4 +1,4 @@
-// What the grammar refuses and accepts, without a word on how a symbol is judged.
+//! What the grammar refuses and accepts, without a word on how a symbol is judged.
 ghost use Rattle.std.specs.Prelude.{◌↔◌, ◌∷◌, ℕ, List};
 ghost use Rattle.fx_language.specs.declared.symbol.Symbol.{Symbol};
 ghost use Rattle.fx_language.specs.Shapes.{Shape, Before, Matches, after, ◌▸◌};

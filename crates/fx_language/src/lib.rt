@@ -11,7 +11,7 @@ pub use laws::{
     accepted_is_a_program, after_is_what_follows, codes_change_no_text, refused_is_the_first,
     sequence_is_one_before_another,
 };
-pub use repeated::first_repeated;
+pub use repeated::first_by_rules;
 pub use symbol::{Symbol, Symbols};
 pub use token::symbols;
 

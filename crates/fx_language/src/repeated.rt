@@ -4,11 +4,12 @@ ghost use Rattle.fx_language.specs.Pasts.{begun_after, in_after, option_after, p
 
 use crate::symbol::Symbol;
 
-/// The first symbol that stands twice or too late, with its code, and its index from 0.
+/// The first symbol that a rule on words that stand twice or too late refuses, with its code, and its
+/// index from 0.
 ///
-/// 26: a statement that its step has already. 27: a statement behind a RUN of its step. 28: an
-/// option that its statement has already. 32: the PROC of the 101st step.
-pub fn first_repeated(symbols: &[Symbol]) -> Option<(u8, usize)>
+/// 26: a statement that its step has already. 27: a statement after a RUN of its step. 28: an option
+/// that its statement has already. 32: the PROC of the 101st step.
+pub fn first_by_rules(symbols: &[Symbol]) -> Option<(u8, usize)>
     ensures { result ≡ repeated [] 0 symbols.now }
 {
     let mut past = Past::at_the_front();

@@ -1,4 +1,4 @@
-use crate::{Symbol, first_repeated, symbols};
+use crate::{Symbol, first_by_rules, symbols};
 use fx_lexer::lex;
 use std::test::Fail;
 
@@ -97,15 +97,8 @@ fn step_101_is_refused(rt: HostRuntime) -> Result<(), Fail> {
     for _step in 0..100 {
         program.extend_from_slice(&[Symbol::Proc, Symbol::Factex, Symbol::Semicolon])?;
     }
-    assert_eq!(rt; first_repeated(&program), None);
+    assert_eq!(rt; first_by_rules(&program), None);
     program.extend_from_slice(&[Symbol::Proc, Symbol::Factex])?;
-    assert_eq!(rt; first_repeated(&program), Some((32, 300)));
+    assert_eq!(rt; first_by_rules(&program), Some((32, 300)));
     Ok(())
-}
-
-#[test]
-fn words_are_known(rt: HostRuntime) {
-    assert!(rt; Symbol::Proc.is_word() && Symbol::Name.is_word() && !Symbol::Whole.is_word());
-    assert!(rt; Symbol::Blocks.is_once() && !Symbol::Examine.is_once());
-    assert!(rt; Symbol::End.is(Symbol::End) && !Symbol::End.is(Symbol::Minus));
 }

@@ -16,7 +16,7 @@ mod setting;
 mod state;
 mod values;
 
-pub use refusal::{first_refusal, first_refused};
+pub use refusal::{first_by_grammar, first_refusal};
 
 #[cfg(test)]
 mod tests;

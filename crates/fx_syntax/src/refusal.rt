@@ -4,16 +4,16 @@ ghost use Rattle.fx_language.specs.Refusals.{earlier, first_refusal, refused};
 ghost use Rattle.fx_syntax.specs.Places.{shape_of};
 
 use crate::state::State;
-use fx_language::{Symbol, first_repeated};
+use fx_language::{Symbol, first_by_rules};
 
 /// The first symbol of a program that is refused, with its code, and its index from 0: by the
 /// grammar, or by the rules on words that stand twice or too late. The end counts as a symbol.
 ///
-/// The codes are those of `first_refused` and of `fx_language::first_repeated`.
+/// The codes are those of `first_by_grammar` and of `fx_language::first_by_rules`.
 pub fn first_refusal(symbols: &[Symbol]) -> Option<(u8, usize)>
     ensures { result ≡ first_refusal symbols.now }
 {
-    earlier(first_refused(symbols), first_repeated(symbols))
+    earlier(first_by_grammar(symbols), first_by_rules(symbols))
 }
 
 /// The earlier of the refusals by the grammar and by the other rules, at one symbol the grammar's.
@@ -38,7 +38,7 @@ fn earlier(grammar: Option<(u8, usize)>, rules: Option<(u8, usize)>) -> Option<(
 ///
 /// 1: a word that begins no statement, or another procedure than FACTEX. 3: a word in the place of
 /// an option. 24: a part of the statement language that this product leaves out. 2: any other.
-pub fn first_refused(symbols: &[Symbol]) -> Option<(u8, usize)>
+pub fn first_by_grammar(symbols: &[Symbol]) -> Option<(u8, usize)>
     ensures { result ≡ refused 0 program symbols.now }
 {
     let mut state = State::Between;

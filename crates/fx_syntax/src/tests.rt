@@ -1,4 +1,4 @@
-use crate::{first_refusal, first_refused};
+use crate::{first_by_grammar, first_refusal};
 use fx_language::{Symbol, symbols};
 use fx_lexer::lex;
 use std::alloc::Global;
@@ -119,7 +119,7 @@ fn step_101_is_refused_by_a_rule_alone(rt: HostRuntime) -> Result<(), Fail> {
     for _step in 0..101 {
         program.extend_from_slice(&[Symbol::Proc, Symbol::Factex, Symbol::Semicolon])?;
     }
-    assert_eq!(rt; first_refused(&program), None);
+    assert_eq!(rt; first_by_grammar(&program), None);
     assert_eq!(rt; first_refusal(&program), Some((32, 300)));
     Ok(())
 }

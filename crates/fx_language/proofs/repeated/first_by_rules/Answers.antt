@@ -4,7 +4,7 @@ use Rattle.fx_language.specs.declared.symbol.Symbol.TheVariants.{Proc}
 use Rattle.fx_language.specs.declared.repeated.Past.{Past}
 use Rattle.fx_language.specs.Pasts.{past_after}
 use Rattle.fx_language.proofs.Pass.{past_here, rule_is, repeated_here, repeated_later}
-use Rattle.fx_language.proofs.repeated.first_repeated.Goals as goal
+use Rattle.fx_language.proofs.repeated.first_by_rules.Goals as goal
 
 pub returns-in-Some : goal.returns-in-Some
 returns-in-Some c =

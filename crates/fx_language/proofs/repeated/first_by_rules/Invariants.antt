@@ -1,7 +1,7 @@
 use Rattle.std.proofs.Common.{◌≡◌, ◌≤◌, [], take, drop, reverse}
 use Rattle.fx_language.specs.Repeats.{repeated}
 use Rattle.fx_language.specs.Pasts.{past_of}
-use Rattle.fx_language.proofs.repeated.first_repeated.Given as goal
+use Rattle.fx_language.proofs.repeated.first_by_rules.Given as goal
 
 abbrev pub invariant-loop-i : goal.invariant-loop-i
 invariant-loop-i l =

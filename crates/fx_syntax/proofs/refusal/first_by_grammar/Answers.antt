@@ -2,7 +2,7 @@ use Rattle.std.proofs.Common.{sym, ◌∙◌}
 use Rattle.fx_syntax.specs.Places.{shape_of}
 use Rattle.fx_syntax.proofs.Places.{at_place}
 use Rattle.fx_syntax.proofs.Steps.{next_refused, next_allowed}
-use Rattle.fx_syntax.proofs.refusal.first_refused.Goals as goal
+use Rattle.fx_syntax.proofs.refusal.first_by_grammar.Goals as goal
 
 pub returns-in-None : goal.returns-in-None
 returns-in-None c =
