@@ -1,18 +1,14 @@
 -- The main effects of a range, one by one, and the numbers of its names.
 use Rattle.std.proofs.Common.{◌≡◌, ℕ, ◌^◌, ◌+◌, ◌<◌, ◌≤◌, true, List, [], ◌∷◌, ◌++◌, drop, length, Result, Ok, Err, refl, ap, ◌∙◌}
 use Rattle.std.specs.Prelude.{decimal}
-use Rattle.std.specs.List.{list_all}
-use Rattle.std.specs.Str.Parse.{digits_value}
-use Rattle.std.proofs.lemmas.Bool.{leb-true, le-leb, and_from}
+use Rattle.std.proofs.lemmas.Bool.{leb-true, and_parts}
 use Rattle.std.proofs.lemmas.List.{drop_all}
 use Rattle.std.proofs.lemmas.List.FromFn.{length-map-range_with_len}
-use Rattle.std.proofs.lemmas.Str.Parse.{IsDigitsTest, IsNumeralModel, numerals_by_value, digits_value_short}
-use Rattle.fx_lexer.specs.Bytes.{is_digit}
-use Rattle.fx_lexer.proofs.Ends.{and_parts}
 use Rattle.fx_text.specs.declared.refusal.Refusal.{Refusal}
 use Rattle.fx_text.specs.Written.{Written}
 use Rattle.fx_text.specs.Names.{place_of}
 use Rattle.fx_text.specs.Refusals.{◌>>=◌}
+use Rattle.fx_text.proofs.Digits.{is_below}
 use Rattle.fx_factors.specs.Ranges.{ending, is_plain, is_range, names_between, number_at_end, numbered}
 use Rattle.fx_factors.proofs.Numbered.{from_here}
 use Rattle.fx_effects.specs.Factors.{main_of, mains_from}
@@ -41,26 +37,10 @@ pub whole : (factors : List (List ℕ)) (first last : Written) (mains : List ℕ
     → mains_from first factors [] (names_between first.text last.text) ≡ Ok mains → range_at factors first last ≡ Ok (expression mains 1)
 whole factors first last mains range is = rw (range, is) refl
 
-abbrev AreDigits : List ℕ → Type 0
-AreDigits bytes = list_all is_digit bytes ≡ true
-
-tells : IsDigitsTest AreDigits
-tells = record {
-  empty = refl;
-  parts = λ c cs all.
-      let both = and_parts (is_digit c) (list_all is_digit cs) all in
-      let ends = and_parts _ _ both.0 in
-      ((leb-true 48 c ends.0, leb-true c 57 ends.1), both.1);
-  more = λ c cs digit all. and_from _ _ (and_from _ _ (le-leb 48 c digit.0) (le-leb c 57 digit.1)) all;
-}
-
-digits : IsNumeralModel AreDigits (digits_value 10)
-digits = numerals_by_value AreDigits tells
-
 -- a number at the end of a name has at most 38 digits
 pub number_is_short : (name : List ℕ) → is_plain (ending name) ≡ true → number_at_end name < 10 ^ 38
 number_is_short name plain =
     let a = and_parts _ _ plain in
     let b = and_parts _ _ a.0 in
     let c = and_parts _ _ b.0 in
-    digits_value_short digits (ending name) 38 c.0 (leb-true (length (ending name)) 38 b.1)
+    is_below (ending name) (c.0, leb-true 1 (length (ending name)) c.1, leb-true (length (ending name)) 38 b.1)

@@ -1,9 +1,9 @@
 -- The effects of a statement are effects of the factors of its step.
-use Rattle.std.proofs.Common.{◌≡◌, ◌<◌, ◌^◌, ℕ, Bool, true, false, not, List, [], ◌∷◌, ◌++◌, map, take, drop, length, Option, Some, None, Result, Ok, Err, refl, sym, subst, ◌∙◌, arith, inl, inr, ◌⊎◌}
+use Rattle.std.proofs.Common.{◌≡◌, ◌<◌, ◌^◌, ℕ, Bool, true, false, not, List, [], ◌∷◌, ◌++◌, map, take, drop, length, Option, Some, None, Result, Ok, Err, refl, sym, subst, ◌∙◌, arith, inl, inr}
 use Rattle.std.specs.Prelude.{◌==◌, bit_or, count_ones, nat_le, if◌then◌else◌, slice_get}
 use Rattle.std.specs.List.{AllByRecursion}
 use Rattle.std.specs.Result.{IfOk}
-use Rattle.std.proofs.lemmas.Bool.{cases_eq, eq-eqb, ne_eqb}
+use Rattle.std.proofs.lemmas.Bool.{cases_eq, eq-eqb, ne_eqb, cases_Bool}
 use Rattle.std.proofs.lemmas.List.Elements.{All-from_recursion}
 use Rattle.std.proofs.lemmas.List.Quantifiers.{position-Some}
 use Rattle.std.proofs.lemmas.Nat.{le_or_l, or_lt, pow_pos}
@@ -42,10 +42,6 @@ if_ok false y x refusal e = absurd (cc e)
 unless_ok : {A : Type 0} (b : Bool) (r : Result A Refusal) (x : A) (refusal : Refusal) → (if b then Err refusal else r) ≡ Ok x → (b ≡ false) × (r ≡ Ok x)
 unless_ok true r x refusal e = absurd (cc e)
 unless_ok false r x refusal e = (refl, e)
-
-either : (b : Bool) → (b ≡ true) ⊎ (b ≡ false)
-either true = inl refl
-either false = inr refl
 
 -- what holds of each of some numbers
 member : (P : ℕ → Type 0) (u : ℕ) (xs : List ℕ) → AllByRecursion P xs → Has u xs → P u
@@ -165,7 +161,7 @@ module _ (factors : List (List ℕ)) where
   expressions-of : (written : List Written) (all : List Expression) (joined : Bool) (every : List Expression) → AreAllOf s all → expressions_from factors all joined written ≡ Ok every → AreAllOf s every
   expressions-of [] all joined every h is = subst (AreAllOf s) (same_ok all every is) h
   expressions-of (w ∷ rest) all joined every h is =
-      elim (either (begins_effect joined w)) [
+      elim (cases_Bool (begins_effect joined w)) [
         | inl begins ↦
             let read = rw begins at is in
             let e = bind_ok (expression_at factors w (take (effect_len false rest) rest)) (λ e. expressions_from factors (all ++ e ∷ []) (is_joining w.symbol) rest) every read in

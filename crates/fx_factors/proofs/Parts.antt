@@ -1,7 +1,6 @@
 -- What a range tells of its two names.
 use Rattle.std.proofs.Common.{◌≡◌, ℕ, ◌≤◌, true, List}
-use Rattle.std.proofs.lemmas.Bool.{leb-true}
-use Rattle.fx_lexer.proofs.Ends.{and_parts}
+use Rattle.std.proofs.lemmas.Bool.{leb-true, and_parts}
 use Rattle.fx_factors.specs.Ranges.{ending, is_plain, is_range, number_at_end}
 
 module _ (first last : List ℕ) (range : is_range first last ≡ true) where

@@ -1,12 +1,9 @@
 -- What is left behind a symbol is what the description stands for behind it.
-use Rattle.std.proofs.Common.{◌≡◌, Bool, true, false, cond, ◌&&◌, ◌||◌, ◌⊎◌, List, [], ◌∷◌, ◌++◌, refl, sym, ap, subst, ◌∙◌, append_assoc, inl, inr, ⊎_elim}
+use Rattle.std.proofs.Common.{◌≡◌, Bool, true, false, cond, ◌||◌, ◌⊎◌, List, [], ◌∷◌, ◌++◌, refl, sym, ap, subst, ◌∙◌, append_assoc, inl, inr, ⊎_elim}
 use Rattle.std.specs.List.{flat_map, AllByRecursion}
+use Rattle.std.proofs.lemmas.Bool.{and_parts, or_cases}
 use Rattle.fx_language.specs.declared.symbol.Symbol.{Symbol}
 use Rattle.fx_language.specs.Shapes.{Shape, Never, Empty, One, Before, Either, Many, Fault, ◌▸◌, or_else, may_be_empty, after, Matches}
-
-pub append-nil : (xs : List Symbol) → xs ++ [] ≡ xs
-append-nil [] = refl
-append-nil (x ∷ xs) = ap (λ (l : List Symbol). x ∷ l) (append-nil xs)
 
 -- a sequence is one text before another
 pub parts_of : (a b : Shape) (t : List Symbol) → Matches (a ▸ b) t → Matches (Before a b) t
@@ -40,23 +37,15 @@ or_else_from Never b t h = ⊎_elim (λ x. absurd x) (λ x. x) h
 or_else_from a Never t h = ⊎_elim (λ x. x) (λ x. absurd x) h
 or_else_from a b t h = h
 
-pub both : (a b : Bool) → (a && b) ≡ true → (a ≡ true) × (b ≡ true)
-both true b h = (refl, h)
-both false b h = absurd (let f : false ≡ true = h in cc)
-
-pub any_of : (a b : Bool) → (a || b) ≡ true → (a ≡ true) ⊎ (b ≡ true)
-any_of true b h = inl refl
-any_of false b h = inr h
-
 pub empty_in : (a : Shape) → may_be_empty a ≡ true → Matches a []
 empty_in Never h = absurd (let f : false ≡ true = h in cc)
 empty_in Empty h = refl
 empty_in (One test) h = absurd (let f : false ≡ true = h in cc)
 empty_in (Before a b) h =
-    let p = both (may_be_empty a) (may_be_empty b) h in
+    let p = and_parts (may_be_empty a) (may_be_empty b) h in
     ([], [], empty_in a p.0, empty_in b p.1, refl)
 empty_in (Either a b) h =
-    ⊎_elim (λ p. inl (empty_in a p)) (λ p. inr (empty_in b p)) (any_of (may_be_empty a) (may_be_empty b) h)
+    ⊎_elim (λ p. inl (empty_in a p)) (λ p. inr (empty_in b p)) (or_cases (may_be_empty a) (may_be_empty b) h)
 empty_in (Many a) h = ([], tt, refl)
 empty_in (Fault code test) h = absurd (let f : false ≡ true = h in cc)
 

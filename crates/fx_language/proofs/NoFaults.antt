@@ -1,9 +1,10 @@
 -- A description without its faults stands for the same texts.
 use Rattle.std.proofs.Common.{List, [], ◌∷◌, ◌++◌, refl, sym, ap, subst, ◌∙◌, inl, inr, ⊎_elim}
 use Rattle.std.specs.List.{AllByRecursion}
+use Rattle.std.proofs.lemmas.List.{append-nil}
 use Rattle.fx_language.specs.declared.symbol.Symbol.{Symbol}
 use Rattle.fx_language.specs.Shapes.{Shape, Never, Empty, One, Before, Either, Many, Fault, ◌▸◌, or_else, Matches}
-use Rattle.fx_language.proofs.Derivatives.{append-nil, parts_of, sequence_of, or_else_to, or_else_from}
+use Rattle.fx_language.proofs.Derivatives.{parts_of, sequence_of, or_else_to, or_else_from}
 
 -- one before the other, where an empty one is left out
 abbrev pub in_turn : Shape → Shape → Shape

@@ -1,10 +1,10 @@
 -- A description each of whose parts stands for some text: what it leaves behind a symbol is Never or such again.
 use Rattle.std.proofs.Common.{◌≡◌, Bool, true, false, cond, ◌&&◌, ◌||◌, ◌⊎◌, List, [], ◌∷◌, ◌++◌, refl, inl, inr, ⊎_elim}
 use Rattle.std.specs.List.{list_any}
+use Rattle.std.proofs.lemmas.Bool.{and_parts, or_cases}
 use Rattle.fx_language.specs.declared.symbol.Symbol.{Symbol}
 use Rattle.fx_language.specs.declared.symbol.Symbol.TheVariants.{Proc, Factex, Nodes, Run, Quit, Factors, Nlev, Size, Design, Fraction, Nrunfacs, Minimum, Maximum, Model, Estimate, Nonnegligible, Resolution, Minabs, Blocks, Nblkfacs, Nblocks, Examine, Aliasing, Blocked, Confounding, Aberration, Output, Out, Pointrep, Designrep, Randomize, Novalran, Blockname, Nvals, Cvals, Time, Nocheck, Namelen, Uniteffect, Name, Whole, Decimal, Quoted, Semicolon, Equals, Open, Close, OpenBracket, CloseBracket, Slash, Star, Bar, At, Minus, End}
 use Rattle.fx_language.specs.Shapes.{Shape, Never, Empty, One, Before, Either, Many, Fault, ◌▸◌, or_else, may_be_empty, after, is_never, Matches}
-use Rattle.fx_language.proofs.Derivatives.{both, any_of}
 
 -- each symbol
 abbrev pub everything : List Symbol
@@ -34,7 +34,7 @@ is_solid (Fault code test) = false
 
 some_of : (test : Symbol → Bool) (xs : List Symbol) → list_any test xs ≡ true → (s : Symbol) × (test s ≡ true)
 some_of test [] h = absurd (let f : false ≡ true = h in cc)
-some_of test (x ∷ xs) h = ⊎_elim (λ a. (x, a)) (λ a. some_of test xs a) (any_of (test x) (list_any test xs) h)
+some_of test (x ∷ xs) h = ⊎_elim (λ a. (x, a)) (λ a. some_of test xs a) (or_cases (test x) (list_any test xs) h)
 
 -- a solid description stands for some text
 pub inhabited : (a : Shape) → is_solid a ≡ true → (t : List Symbol) × Matches a t
@@ -42,15 +42,15 @@ inhabited Never h = absurd (let f : false ≡ true = h in cc)
 inhabited Empty h = ([], refl)
 inhabited (One test) h = let r = some_of test everything h in (r.0 ∷ [], (r.0, r.1, refl))
 inhabited (Before a b) h =
-    let p = both (is_solid a) (is_solid b) h in
+    let p = and_parts (is_solid a) (is_solid b) h in
     let x = inhabited a p.0 in
     let y = inhabited b p.1 in
     (x.0 ++ y.0, (x.0, y.0, x.1, y.1, refl))
 inhabited (Either a b) h =
     ⊎_elim
-    (λ p. let x = inhabited a (both (is_solid a) (is_solid b || is_fault b) p).0 in (x.0, inl x.1))
-    (λ p. let y = inhabited b (both (is_fault a) (is_solid b) p).1 in (y.0, inr y.1))
-    (any_of (is_solid a && (is_solid b || is_fault b)) (is_fault a && is_solid b) h)
+    (λ p. let x = inhabited a (and_parts (is_solid a) (is_solid b || is_fault b) p).0 in (x.0, inl x.1))
+    (λ p. let y = inhabited b (and_parts (is_fault a) (is_solid b) p).1 in (y.0, inr y.1))
+    (or_cases (is_solid a && (is_solid b || is_fault b)) (is_fault a && is_solid b) h)
 inhabited (Many a) h = ([], ([], tt, refl))
 inhabited (Fault code test) h = absurd (let f : false ≡ true = h in cc)
 
@@ -63,7 +63,7 @@ never_after s Empty h = absurd (let f : false ≡ true = h in cc)
 never_after s (One test) h = absurd (let f : false ≡ true = h in cc)
 never_after s (Before a b) h = absurd (let f : false ≡ true = h in cc)
 never_after s (Either a b) h =
-    let p = both (is_fault a) (is_fault b) h in
+    let p = and_parts (is_fault a) (is_fault b) h in
     rw (never_after s a p.0, never_after s b p.1) refl
 never_after s (Many a) h = absurd (let f : false ≡ true = h in cc)
 never_after s (Fault code test) h = refl
@@ -73,7 +73,7 @@ sequence_solid Never b h k = absurd (let f : false ≡ true = h in cc)
 sequence_solid Empty b h k = k
 sequence_solid (One test) b h k = rw h k
 sequence_solid (Before a c) b h k =
-    let p = both (is_solid a) (is_solid c) h in
+    let p = and_parts (is_solid a) (is_solid c) h in
     rw p.0 (sequence_solid c b p.1 k)
 sequence_solid (Either a c) b h k = rw h k
 sequence_solid (Many a) b h k = rw h k
@@ -112,16 +112,16 @@ after_fine s Never h = inl refl
 after_fine s Empty h = inl refl
 after_fine s (One test) h = cond_fine (test s) Empty Never (inr refl) (inl refl)
 after_fine s (Before a b) h =
-    let p = both (is_solid a) (is_solid b) h in
+    let p = and_parts (is_solid a) (is_solid b) h in
     let first = sequence_fine (after s a) b (after_fine s a p.0) p.1 in
     cond_fine (may_be_empty a) (or_else (after s a ▸ b) (after s b)) (after s a ▸ b) (or_else_fine (after s a ▸ b) (after s b) first (after_fine s b p.1)) first
 after_fine s (Either a b) h =
     ⊎_elim
-    (λ p. let q = both (is_solid a) (is_solid b || is_fault b) p in
-    or_else_fine (after s a) (after s b) (after_fine s a q.0) (⊎_elim (λ x. after_fine s b x) (λ x. inl (never_after s b x)) (any_of (is_solid b) (is_fault b) q.1)))
-    (λ p. let q = both (is_fault a) (is_solid b) p in
+    (λ p. let q = and_parts (is_solid a) (is_solid b || is_fault b) p in
+    or_else_fine (after s a) (after s b) (after_fine s a q.0) (⊎_elim (λ x. after_fine s b x) (λ x. inl (never_after s b x)) (or_cases (is_solid b) (is_fault b) q.1)))
+    (λ p. let q = and_parts (is_fault a) (is_solid b) p in
     or_else_fine (after s a) (after s b) (inl (never_after s a q.0)) (after_fine s b q.1))
-    (any_of (is_solid a && (is_solid b || is_fault b)) (is_fault a && is_solid b) h)
+    (or_cases (is_solid a && (is_solid b || is_fault b)) (is_fault a && is_solid b) h)
 after_fine s (Many a) h = sequence_fine (after s a) (Many a) (after_fine s a h) h
 after_fine s (Fault code test) h = inl refl
 

@@ -1,7 +1,7 @@
 -- A word among the rows of a table.
 use Rattle.std.proofs.Common.{◌≡◌, ℕ, List, map, refl, Bool, true, false, [], ◌∷◌, drop, get_or, length, ◌<◌, ◌+◌, sym}
 use Rattle.std.specs.Prelude.{◌==◌}
-use Rattle.std.proofs.lemmas.Bool.{eqb-true, eq-eqb}
+use Rattle.std.proofs.lemmas.Bool.{eqb-true, eq-eqb, and_parts}
 use Rattle.std.specs.Char.{to_ascii_lowercase}
 use Rattle.std.proofs.Math.Seq.{drop-cons}
 use Rattle.std.proofs.Math.Numerals.{add-one}
@@ -9,7 +9,6 @@ use Rattle.fx_language.specs.declared.keyword.Spelling.{Spelling}
 use Rattle.fx_language.specs.declared.symbol.Symbol.TheVariants.{Proc}
 use Rattle.fx_language.specs.Keywords.{is_same, listed_in}
 use Rattle.fx_language.specs.Spellings.{row_of}
-use Rattle.fx_language.proofs.Derivatives.{both}
 
 -- what a list gives behind its end
 abbrev pub any : Spelling
@@ -20,7 +19,7 @@ same_is [] [] h = refl
 same_is [] (b ∷ y) h = absurd (let f : false ≡ true = h in cc)
 same_is (a ∷ x) [] h = absurd (let f : false ≡ true = h in cc)
 same_is (a ∷ x) (b ∷ y) h =
-    let p = both (a == b) (is_same x y) h in
+    let p = and_parts (a == b) (is_same x y) h in
     let e = eqb-true a b p.0 in
     let f = same_is x y p.1 in cc
 

@@ -1,20 +1,12 @@
 -- What the lengths of items mean.
-use Rattle.std.proofs.Common.{◌≡◌, ℕ, zero, suc, ◌+◌, ◌<◌, Bool, true, false, ◌&&◌, List, [], ◌∷◌, ◌++◌, length, Option, Some, None, refl, sym, ap, ◌∙◌, inl, inr, ◌⊎◌, arith}
+use Rattle.std.proofs.Common.{◌≡◌, ℕ, zero, suc, ◌+◌, ◌<◌, Bool, true, false, List, [], ◌∷◌, ◌++◌, length, Option, Some, None, refl, sym, ap, ◌∙◌, inl, inr, ◌⊎◌, arith}
 use Rattle.std.specs.Prelude.{◌==◌, nat_lt, IsTrue, Contains, slice_index_or}
 use Rattle.std.specs.List.{prefix_len, list_all}
 use Rattle.std.specs.Option.{option_map}
-use Rattle.std.proofs.lemmas.Bool.{eqb-true, eq-eqb, ltb-true, ltb-false}
+use Rattle.std.proofs.lemmas.Bool.{eqb-true, eq-eqb, ltb-true, ltb-false, cases_Bool, and_parts}
 use Rattle.fx_lexer.specs.Bytes.{is_digit}
 use Rattle.fx_lexer.specs.Extents.{starts_with_byte, closing_len, ends_comment, remark_len, fraction_len, quoted_len}
 use Rattle.fx_lexer.specs.Pieces.{begins_with, begins_fraction, Closes, EndsQuoted, doubled}
-
-pub cases_Bool : (b : Bool) → (b ≡ true) ⊎ (b ≡ false)
-cases_Bool true = inl refl
-cases_Bool false = inr refl
-
-pub and_parts : (a b : Bool) → (a && b) ≡ true → (a ≡ true) × (b ≡ true)
-and_parts true b e = (refl, e)
-and_parts false b e = absurd (cc e)
 
 -- the first byte, where it is known
 pub first_byte : (c : ℕ) (bytes : List ℕ) → starts_with_byte c bytes ≡ true → (rest : List ℕ) × (bytes ≡ c ∷ rest)

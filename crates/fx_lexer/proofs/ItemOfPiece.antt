@@ -3,7 +3,7 @@ use Rattle.std.proofs.Common.{◌≡◌, ℕ, suc, ◌+◌, ◌<◌, ◌≤◌, 
 use Rattle.std.specs.Prelude.{◌==◌, nat_le, if◌then◌else◌, Contains, codes}
 use Rattle.std.specs.List.{prefix_len, list_all, list_any}
 use Rattle.std.specs.Option.{option_map}
-use Rattle.std.proofs.lemmas.Bool.{eqb-true, eq-eqb, leb-true, le-leb, lt-leb, lt-ltb}
+use Rattle.std.proofs.lemmas.Bool.{eqb-true, eq-eqb, leb-true, le-leb, lt-leb, lt-ltb, cases_Bool, and_parts}
 use Rattle.std.proofs.Math.Seq.{drop-append_seam}
 use Rattle.std.proofs.lemmas.List.Elements.{Contains-append_right}
 use Rattle.fx_lexer.specs.declared.token.Kind.{Kind}
@@ -14,7 +14,7 @@ use Rattle.fx_lexer.specs.Extents.{begins_comment, begins_remark, starts_with_by
 use Rattle.fx_lexer.specs.Items.{item, token, gap, comment_if_closed, quoted_if_closed, limited, number, begins_number}
 use Rattle.fx_lexer.specs.Pieces.{Piece, white, comment, remark, word, whole, decimal, quoted, sign, begins_with, begins_fraction, doubled, spelling, kind_of, HasForm, IsShort, Closes, EndsQuoted}
 use Rattle.fx_lexer.specs.Flaws.{begins_item, Flaw, open_comment, open_remark, open_quoted, stray, long_piece, flaw_text, fault_kind, IsFlaw}
-use Rattle.fx_lexer.proofs.Ends.{cases_Bool, and_parts, first_byte, ends_same, ClosingIs, closing_is, RemarkIs, remark_is, QuotedIs, quoted_is}
+use Rattle.fx_lexer.proofs.Ends.{first_byte, ends_same, ClosingIs, closing_is, RemarkIs, remark_is, QuotedIs, quoted_is}
 
 -- a sort of bytes that c isn't of
 pub differs : (sort : ℕ → Bool) (b c : ℕ) → sort b ≡ true → sort c ≡ false → (b == c) ≡ false

@@ -1,15 +1,12 @@
 -- One byte further: its line and column.
-use Rattle.std.proofs.Common.{◌≡◌, ℕ, ◌+◌, ◌<◌, ◌≤◌, Bool, true, false, cond, not, List, length, get_or, take, reverse, refl, arith, inl, inr, ◌⊎◌}
+use Rattle.std.proofs.Common.{◌≡◌, ℕ, ◌+◌, ◌<◌, ◌≤◌, Bool, true, false, cond, not, List, length, get_or, take, reverse, refl, arith, inl, inr}
 use Rattle.std.specs.Prelude.{◌==◌}
 use Rattle.std.proofs.Math.Seq.{take-suc}
 use Rattle.std.proofs.Math.Numerals.{add-one}
 use Rattle.std.proofs.lemmas.List.{reverse-append, length-take, length-reverse}
 use Rattle.std.proofs.lemmas.List.Sums.{count_by_more_yes, count_by_more_no, count_by-le-length, prefix_len-le-length}
+use Rattle.std.proofs.lemmas.Bool.{cases_Bool}
 use Rattle.fx_lexer.specs.Places.{line_after, column_after, place_after, next_place}
-
-cases_Bool : (b : Bool) → (b ≡ true) ⊎ (b ≡ false)
-cases_Bool true = inl refl
-cases_Bool false = inr refl
 
 column_by : (b : Bool) (n : ℕ) → 1 + cond (not b) (1 + n) 0 ≡ cond b 1 (1 + n + 1)
 column_by true n = refl

@@ -3,7 +3,7 @@ use Rattle.std.proofs.Common.{◌≡◌, ℕ, suc, ◌+◌, ◌<◌, ◌≤◌, 
 use Rattle.std.specs.Prelude.{◌==◌, nat_le, if◌then◌else◌, IsTrue}
 use Rattle.std.specs.List.{prefix_len, list_all}
 use Rattle.std.specs.Option.{option_map}
-use Rattle.std.proofs.lemmas.Bool.{eqb-true, eq-eqb, leb-true, leb-false, ltb-false, ltb-true}
+use Rattle.std.proofs.lemmas.Bool.{eqb-true, eq-eqb, leb-true, leb-false, ltb-false, ltb-true, or_from, cases_Bool, and_parts}
 use Rattle.std.proofs.Math.Seq.{drop-append_seam}
 use Rattle.fx_lexer.specs.declared.token.Kind.{Kind}
 use Rattle.fx_lexer.specs.declared.token.Kind.TheVariants as kind
@@ -14,7 +14,7 @@ use Rattle.fx_lexer.specs.Items.{item, token, gap, comment_if_closed, quoted_if_
 use Rattle.fx_lexer.specs.Lexing.{starts_after}
 use Rattle.fx_lexer.specs.Pieces.{Piece, white, comment, remark, word, whole, decimal, quoted, sign, begins_with, begins_fraction, doubled, spelling, kind_of, starts_behind, HasForm, IsShort}
 use Rattle.fx_lexer.specs.Flaws.{Flaw, open_comment, open_remark, open_quoted, stray, long_piece, flaw_text, fault_kind, IsFlaw}
-use Rattle.fx_lexer.proofs.Ends.{cases_Bool, and_parts, first_byte, split, ClosingIs, closing_is, RemarkIs, remark_is, QuotedIs, quoted_is, Fraction, fraction_is}
+use Rattle.fx_lexer.proofs.Ends.{first_byte, split, ClosingIs, closing_is, RemarkIs, remark_is, QuotedIs, quoted_is, Fraction, fraction_is}
 
 -- the item is this piece
 pub record IsPiece (start : Bool) (b : ℕ) (bytes : List ℕ) (it : Item) : Type 0 where
@@ -219,9 +219,6 @@ module _ (start : Bool) (b : ℕ) (bytes : List ℕ) where
         behind = refl;
       }
 
-  neither : (x y : Bool) → x ≡ false → y ≡ false → (x || y) ≡ false
-  neither x y e f = rw (e, f) refl
-
   no_digit : begins_number whole_len part_len ≡ false → is_digit b ≡ false
   no_digit h =
       elim (cases_Bool (is_digit b)) [
@@ -242,12 +239,12 @@ module _ (start : Bool) (b : ℕ) (bytes : List ℕ) where
       → is_sign b ≡ false → ItemIs start b bytes (Err 3)
   stray_found no_white no_word no_number no_quote no_sign =
       let digit = no_digit no_number in
-      let letter = neither (is_white b || begins_word b) (is_digit b) (neither (is_white b) (begins_word b) no_white no_word) digit in
-      let point = neither (is_white b || begins_word b || is_digit b) (begins_fraction (b ∷ bytes)) letter (no_fraction digit no_number) in
+      let letter = or_from (is_white b || begins_word b) (is_digit b) (or_from (is_white b) (begins_word b) no_white no_word) digit in
+      let point = or_from (is_white b || begins_word b || is_digit b) (begins_fraction (b ∷ bytes)) letter (no_fraction digit no_number) in
       record {
         flaw = stray b bytes;
         joined = refl;
-        form = neither _ (is_sign b) (neither _ (is_quote b) point no_quote) no_sign;
+        form = or_from _ (is_sign b) (or_from _ (is_quote b) point no_quote) no_sign;
         kind = refl;
       }
 

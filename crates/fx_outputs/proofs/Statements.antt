@@ -1,9 +1,8 @@
 -- OUTPUT statements are read one after another.
 use Rattle.std.proofs.Common.{◌≡◌, ℕ, suc, ◌<◌, Bool, true, false, ◌&&◌, List, [], ◌∷◌, ◌++◌, length, drop, Ok, refl, sym, subst, arith}
 use Rattle.std.specs.Prelude.{nat_lt, slice_index_or}
-use Rattle.std.proofs.lemmas.Bool.{ltb-true, lt-ltb}
+use Rattle.std.proofs.lemmas.Bool.{ltb-true, lt-ltb, and_parts}
 use Rattle.std.proofs.lemmas.List.{map-append, append_assoc}
-use Rattle.fx_lexer.proofs.Ends.{and_parts}
 use Rattle.fx_language.specs.declared.symbol.Symbol.TheVariants.{Output}
 use Rattle.fx_language.specs.Symbols.{is}
 use Rattle.fx_text.specs.declared.refusal.ParseStop.{ParseStop}

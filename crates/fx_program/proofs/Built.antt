@@ -3,8 +3,7 @@ use Rattle.std.proofs.Common.{ℕ, ◌≡◌, ◌<◌, ◌≤◌, ◌+◌, ◌^�
 use Rattle.std.specs.Prelude.{nat_le, if◌then◌else◌}
 use Rattle.std.specs.List.{list_any}
 use Rattle.std.specs.Option.{option_map}
-use Rattle.std.proofs.lemmas.Bool.{leb-true, cases_Bool}
-use Rattle.fx_lexer.proofs.Ends.{and_parts}
+use Rattle.std.proofs.lemmas.Bool.{leb-true, cases_Bool, and_parts}
 use Rattle.fx_designs.specs.Galois.{is_order}
 use Rattle.fx_designs.specs.Problems.{Problem, Requirement}
 use Rattle.fx_designs.specs.Problems as problems

@@ -1,8 +1,9 @@
 -- A text is its first statement, a semicolon, and the statements behind it.
-use Rattle.std.proofs.Common.{◌≡◌, ℕ, suc, ◌+◌, ◌<◌, Bool, true, false, not, List, [], ◌∷◌, ◌++◌, length, take, drop, refl, sym, ap, subst, ◌∙◌, inl, inr, ◌⊎◌, arith}
+use Rattle.std.proofs.Common.{◌≡◌, ℕ, suc, ◌+◌, ◌<◌, Bool, false, not, List, [], ◌∷◌, ◌++◌, length, take, drop, refl, sym, ap, subst, ◌∙◌, inl, inr, arith}
 use Rattle.std.specs.List.{prefix_len}
 use Rattle.std.proofs.Math.Numerals.{add-one}
 use Rattle.std.proofs.lemmas.List.{append_assoc}
+use Rattle.std.proofs.lemmas.Bool.{cases_Bool}
 use Rattle.fx_language.specs.declared.symbol.Symbol.TheVariants.{Semicolon}
 use Rattle.fx_language.specs.Symbols.{is}
 use Rattle.fx_text.specs.Written.{Written}
@@ -10,10 +11,6 @@ use Rattle.fx_text.specs.Statements.{in_front, statements_of}
 
 abbrev pub goes_on : Written → Bool
 goes_on w = not (is Semicolon w.symbol)
-
-either_way : (b : Bool) → (b ≡ true) ⊎ (b ≡ false)
-either_way true = inl refl
-either_way false = inr refl
 
 -- the text up to i is a statement, and the others stand behind the semicolon at i
 abbrev IsCut : List Written → ℕ → Type 0
@@ -26,11 +23,11 @@ len_further : (w : Written) (rest : List Written) → is Semicolon w.symbol ≡ 
 len_further w rest e = rw e (omega arith)
 
 cut : (w : Written) (rest : List Written) → IsCut (w ∷ rest) (prefix_len goes_on (w ∷ rest))
-cut w [] = elim (either_way (is Semicolon w.symbol)) [
+cut w [] = elim (cases_Bool (is Semicolon w.symbol)) [
   | inl e ↦ rw e refl
   | inr e ↦ rw e refl
 ]
-cut w (x ∷ rest) = elim (either_way (is Semicolon w.symbol)) [
+cut w (x ∷ rest) = elim (cases_Bool (is Semicolon w.symbol)) [
   | inl e ↦ rw e refl
   | inr e ↦ subst (IsCut (w ∷ x ∷ rest)) (len_further w (x ∷ rest) e) (one_more w x rest (prefix_len goes_on (x ∷ rest)) e (cut x rest))
 ]

@@ -5,9 +5,8 @@ use Rattle.std.specs.Str.{IsAscii, IsUtf8}
 use Rattle.std.specs.Str.Parse.{digits_value, ParsesUnsigned}
 use Rattle.std.proofs.lemmas.Str.{IsUtf8-from_ascii}
 use Rattle.std.proofs.lemmas.Str.Parse.{IsDigitsTest, IsNumeralModel, numerals_by_value, digits_value_short, parse_gives}
-use Rattle.std.proofs.lemmas.Bool.{leb-true, le-leb, and_from}
+use Rattle.std.proofs.lemmas.Bool.{leb-true, le-leb, and_from, and_parts}
 use Rattle.fx_lexer.specs.Bytes.{is_digit}
-use Rattle.fx_lexer.proofs.Ends.{and_parts}
 use Rattle.fx_text.specs.Numbers.{IsNumber}
 
 abbrev AreDigits : List ℕ → Type 0

@@ -3,12 +3,12 @@ use Rattle.std.proofs.Common.{◌≡◌, ℕ, Bool, true, false, not, List, [], 
 use Rattle.std.specs.Prelude.{if◌then◌else◌, ◌==◌, slice_index, slice_range}
 use Rattle.std.specs.List.{list_all}
 use Rattle.std.specs.Char.{to_ascii_lowercase}
+use Rattle.std.proofs.lemmas.Bool.{and_parts, not-true}
 use Rattle.fx_lexer.specs.declared.token.Kind.{Kind}
 use Rattle.fx_lexer.specs.declared.token.Kind.TheVariants as kind
 use Rattle.fx_lexer.specs.declared.token.Token.{Token}
 use Rattle.fx_lexer.specs.Pieces.{Piece, whole, kind_of, spelling, HasForm, IsShort}
 use Rattle.fx_lexer.specs.Tokens.{IsToken}
-use Rattle.fx_lexer.proofs.Ends.{and_parts}
 use Rattle.fx_language.specs.declared.symbol.Symbol.{Symbol}
 use Rattle.fx_language.specs.declared.symbol.Symbol.TheVariants.{Whole, Semicolon, Equals, Open, Close, OpenBracket, CloseBracket, Slash, Star, Bar, At, Minus}
 use Rattle.fx_language.specs.Symbols.{is}
@@ -25,11 +25,7 @@ unlisted : (table : List (List ℕ × Symbol)) (word : List ℕ) → list_all (�
 unlisted [] word all = refl
 unlisted (row ∷ table) word all =
     let both = and_parts (not (is Whole row.1)) _ all in
-    either (is_same (map to_ascii_lowercase row.0) (map to_ascii_lowercase word)) row.1 (listed_in table word) (not_true (is Whole row.1) both.0) (unlisted table word both.1)
-  where
-    not_true : (b : Bool) → not b ≡ true → b ≡ false
-    not_true true e = sym e
-    not_true false e = refl
+    either (is_same (map to_ascii_lowercase row.0) (map to_ascii_lowercase word)) row.1 (listed_in table word) (not-true (is Whole row.1) both.0) (unlisted table word both.1)
 
 word_is_none : (word : List ℕ) → is Whole (keyword word) ≡ false
 word_is_none word = unlisted keywords word refl
