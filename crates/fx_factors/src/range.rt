@@ -68,7 +68,7 @@ fn is_plain(digits: &[u8]) -> bool
 fn is_numeral(digits: &[u8]) -> bool
     ensures { result ≡ is_numeral digits.now }
 {
-    are_digits(digits) && 1 <= digits.len() && digits.len() <= 38
+    are_digits(digits) && (1..=38).contains(&digits.len())
 }
 
 fn are_digits(bytes: &[u8]) -> bool
@@ -87,5 +87,5 @@ fn has_leading_zero(digits: &[u8]) -> bool
 fn begins_with_zero(digits: &[u8]) -> bool
     ensures { result ≡ begins_with_zero digits.now }
 {
-    !digits.is_empty() && digits[0] == b'0'
+    digits.first() == Some(&b'0')
 }

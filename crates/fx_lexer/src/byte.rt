@@ -16,7 +16,7 @@ pub fn is_digit(b: u8) -> bool
 pub fn begins_word(b: u8) -> bool
     ensures { result ≡ begins_word b }
 {
-    (b'A' <= b && b <= b'Z') || (b'a' <= b && b <= b'z') || b == b'_'
+    b.is_ascii_alphabetic() || b == b'_'
 }
 
 pub fn is_word_byte(b: u8) -> bool

@@ -10,7 +10,7 @@ use crate::byte::{is_digit, is_word_byte};
 pub fn starts_with_byte(b: u8, bytes: &[u8]) -> bool
     ensures { result ≡ starts_with_byte b bytes.now }
 {
-    !bytes.is_empty() && bytes[0] == b
+    bytes.first() == Some(&b)
 }
 
 /// Whether a comment from `/*` to `*/` begins here.
