@@ -18,6 +18,7 @@ pub record IsWithin (buffer : List ℕ) (b : FileBounds) : Type 0 where
   pub content : b.content ≤ b.end
   pub end : b.end ≤ length buffer
 
+-- each file within these bytes
 abbrev pub AllWithin : List ℕ → List FileBounds → Type 0
 AllWithin buffer [] = Unit {0}
 AllWithin buffer (b ∷ bounds) = IsWithin buffer b × AllWithin buffer bounds

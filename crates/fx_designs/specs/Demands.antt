@@ -29,7 +29,7 @@ unfoldable pub must_balance : Dimensions → Requirement → List ℕ → Bool
 must_balance d (AtResolution r) f = nat_lt 0 (weight f) && nat_lt (weight f) r
 must_balance d (ForEffects estimate besides) f =
     list_any (λ u. list_any (λ v.
-      is_told_from estimate besides u v && same f (minus d.q u v))
+    is_told_from estimate besides u v && same f (minus d.q u v))
     (points d.q d.s)) (points d.q d.s)
 
 -- whether u is a vector of an effect to be estimated: under a resolution r, of one with at most (r-1)/2 factors, rounded down

@@ -27,10 +27,11 @@ is_whole p rows = length rows == p.dimensions.s + p.dimensions.t
 abbrev pub is_complete_allowed : Problem → List ℕ → Bool
 is_complete_allowed p rows = is_whole p rows && (is_canonical p.dimensions p.requirement rows && is_allowed p.dimensions p.requirement rows)
 
--- Prefixes with the same first m + 1 rows are in one lot, and with the same first m + 2 rows in one job.
+-- Prefixes with the same first m + 1 rows are in one lot,
 abbrev pub lot_of : Dimensions → List ℕ → List ℕ
 lot_of d rows = take (d.m + 1) rows
 
+-- and those with the same first m + 2 rows in one job.
 abbrev pub job_of : Dimensions → List ℕ → List ℕ
 job_of d rows = take (d.m + 2) rows
 

@@ -37,7 +37,7 @@ block q s z runs = filter (λ x. number q (drop s x) == z) runs
 unfoldable pub are_blocks_even : ℕ → ℕ → ℕ → List (List ℕ) → Bool
 are_blocks_even q s n runs =
     list_all (λ y. list_all (λ z.
-      count_by (λ x. number q (drop s x) == y) runs == count_by (λ x. number q (drop s x) == z) runs)
+    count_by (λ x. number q (drop s x) == y) runs == count_by (λ x. number q (drop s x) == z) runs)
     (range_with_len 0 n)) (range_with_len 0 n)
 
 -- constant inside each of n blocks

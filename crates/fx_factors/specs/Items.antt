@@ -11,6 +11,7 @@ pub record Item : Type 0 where
   pub first : Written
   pub last : Option Written
 
+-- an item by its parts
 abbrev pub item : Written → Option Written → Item
 item first last = record { first = first; last = last }
 
@@ -44,9 +45,11 @@ abbrev pub is_regular_from : Written → Option Written → Bool
 is_regular_from first None = true
 is_regular_from first (Some last) = is_range first.text last.text
 
+-- whether an item can stand for names
 abbrev pub is_regular : Item → Bool
 is_regular item = is_regular_from item.first item.last
 
+-- one name, or those of a range
 abbrev pub names_from : Written → Option Written → List (List ℕ)
 names_from first None = first.text ∷ []
 names_from first (Some last) = names_between first.text last.text

@@ -9,6 +9,7 @@ use Rattle.fx_text.specs.Names.{is_same_name}
 abbrev pub stem_len : List ℕ → ℕ
 stem_len name = length name - prefix_len is_digit (reverse name)
 
+-- a name without the digits at its end
 abbrev pub stem : List ℕ → List ℕ
 stem name = take (stem_len name) name
 
@@ -33,6 +34,7 @@ has_leading_zero digits = begins_with_zero digits && not (length digits == 1)
 abbrev pub is_plain : List ℕ → Bool
 is_plain digits = is_numeral digits && not (has_leading_zero digits)
 
+-- the number that they write
 abbrev pub number_at_end : List ℕ → ℕ
 number_at_end name = digits_value 10 (ending name)
 

@@ -33,6 +33,7 @@ item = name ▸ maybe (key Minus ▸ name)
 abbrev pub factors_rest : Shape
 factors_rest = item ▸ Many item ▸ maybe (key Slash ▸ key Nlev ▸ key Equals ▸ n) ▸ key Semicolon
 
+-- the FACTORS statement
 abbrev pub factors : Shape
 factors = key Factors ▸ factors_rest
 
@@ -44,6 +45,7 @@ size_rest =
     ∣ key Nrunfacs ▸ key Equals ▸ n_or Minimum)
     ▸ key Semicolon
 
+-- the SIZE statement
 abbrev pub size : Shape
 size = key Size ▸ size_rest
 
@@ -69,6 +71,7 @@ model_word =
 abbrev pub model_rest : Shape
 model_rest = model_word ▸ maybe (key Slash ▸ key Minabs ▸ no_open) ▸ key Semicolon
 
+-- the MODEL statement
 abbrev pub model : Shape
 model = key Model ▸ model_rest
 
@@ -80,6 +83,7 @@ blocks_rest =
     ∣ key Size ▸ key Equals ▸ n_or Minimum)
     ▸ key Semicolon
 
+-- the BLOCKS statement
 abbrev pub blocks : Shape
 blocks = key Blocks ▸ blocks_rest
 
@@ -91,6 +95,7 @@ examine_word = key Aliasing ▸ no_open ∣ key Blocked ∣ key Confounding ∣ 
 abbrev pub examine_rest : Shape
 examine_rest = Many examine_word ▸ key Semicolon
 
+-- the EXAMINE statement
 abbrev pub examine : Shape
 examine = key Examine ▸ examine_rest
 
@@ -126,6 +131,7 @@ option =
 abbrev pub output_rest : Shape
 output_rest = guarded 24 (is OpenBracket) (key Out ▸ key Equals ▸ name ▸ Many option ▸ key Semicolon)
 
+-- the OUTPUT statement
 abbrev pub output : Shape
 output = key Output ▸ output_rest
 
@@ -144,6 +150,7 @@ proc_rest =
     guarded 24 is_left_out
     ((key Factex ∣ Fault 1 is_word) ▸ Many (key Nodes ▸ key Equals ▸ n) ▸ key Semicolon)
 
+-- the PROC statement
 abbrev pub proc : Shape
 proc = key Proc ▸ proc_rest
 

@@ -64,6 +64,7 @@ rule_of p s factex_follows =
 abbrev pub begun_after : Bool → Symbol → Symbol → Bool → Bool
 begun_after start s word had = if start then not (is Proc s || is Quit s) && (is word s || had) else had
 
+-- what is kept of the step, after one more symbol
 abbrev pub step_after : Bool → Symbol → StepPast → StepPast
 step_after start s p = record {
   run = begun_after start s Run p.run;
@@ -81,6 +82,7 @@ in_after start s word had = not (is Semicolon s) && (if start then is word s els
 abbrev pub option_after : Bool → Symbol → Symbol → Bool → Bool
 option_after behind_equals s option had = not (is Semicolon s) && ((is option s && not behind_equals) || had)
 
+-- what is kept of the statement, after one more symbol
 abbrev pub statement_after : Bool → Bool → Symbol → StatementPast → StatementPast
 statement_after start behind_equals s p = record {
   proc = in_after start s Proc p.proc;

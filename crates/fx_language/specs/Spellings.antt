@@ -3,5 +3,6 @@ use Rattle.std.specs.Prelude.{ℕ, List}
 use Rattle.fx_language.specs.declared.keyword.Spelling.{Spelling}
 use Rattle.fx_language.specs.declared.symbol.Symbol.{Symbol}
 
+-- the row of the table for a spelling
 abbrev pub row_of : Spelling → List ℕ × Symbol
 row_of s = (s.letters.now, s.symbol)

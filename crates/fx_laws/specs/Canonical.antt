@@ -31,6 +31,7 @@ pub record AreFalling (q m s : ℕ) (rows : List ℕ) : Type 0 where
   pub no_unit : (k i : ℕ) → min s m ≤ k → k < min s (length rows) → i < m → slice_index rows k ≡ q ^ i → ⊥
   pub falls : (k : ℕ) → min s m ≤ k → k + 1 < min s (length rows) → slice_index rows (k + 1) < slice_index rows k
 
+-- under a resolution the factor rows are units, and then fall; for effects nothing is asked
 abbrev pub IsOrdered : Dimensions → Requirement → List ℕ → Type 0
 IsOrdered d (AtResolution r) rows = AreFalling d.q d.m d.s rows
 IsOrdered d (ForEffects estimate besides) rows = Unit {0}

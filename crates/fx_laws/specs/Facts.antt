@@ -15,9 +15,11 @@ IsConstant q u runs = (c : ℕ) × All (λ x. dot q u x ≡ c) runs
 pub record IsBalanced (q : ℕ) (u : List ℕ) (runs : List (List ℕ)) : Type 0 where
   pub same : (y z : ℕ) → y < q → z < q → count_by (λ x. dot q u x == y) runs ≡ count_by (λ x. dot q u x == z) runs
 
+-- constant inside each block
 abbrev pub IsConstantInBlocks : ℕ → ℕ → List ℕ → List (List ℕ) → Type 0
 IsConstantInBlocks q s u runs = (z : ℕ) → IsConstant q u (block q s z runs)
 
+-- balanced inside each block
 abbrev pub IsBalancedInBlocks : ℕ → ℕ → List ℕ → List (List ℕ) → Type 0
 IsBalancedInBlocks q s u runs = (z : ℕ) → IsBalanced q u (block q s z runs)
 

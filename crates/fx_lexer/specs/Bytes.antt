@@ -14,6 +14,7 @@ is_digit b = nat_le 48 b && nat_le b 57
 abbrev pub begins_word : ℕ → Bool
 begins_word b = (nat_le 65 b && nat_le b 90) || (nat_le 97 b && nat_le b 122) || (b == 95)
 
+-- what a word goes on with
 abbrev pub is_word_byte : ℕ → Bool
 is_word_byte b = begins_word b || is_digit b
 
@@ -21,5 +22,6 @@ is_word_byte b = begins_word b || is_digit b
 abbrev pub is_quote : ℕ → Bool
 is_quote b = (b == 39) || (b == 34)
 
+-- one of the signs of the language
 abbrev pub is_sign : ℕ → Bool
 is_sign b = list_any (λ sign. sign == b) (codes ";=()[]/*|@-")

@@ -4,6 +4,7 @@ use Rattle.std.specs.List.{prefix_len}
 use Rattle.std.specs.Option.{option_map}
 use Rattle.fx_lexer.specs.Bytes.{is_digit}
 
+-- whether b is the first byte
 abbrev pub starts_with_byte : ℕ → List ℕ → Bool
 starts_with_byte c [] = false
 starts_with_byte c (b ∷ bytes) = b == c

@@ -30,6 +30,7 @@ abbrev pub quoted_if_closed : Option ℕ → Result Item ℕ
 quoted_if_closed None = Err 2
 quoted_if_closed (Some n) = token kind.Quoted n
 
+-- whether there are digits, before a point or after it
 abbrev pub begins_number : ℕ → ℕ → Bool
 begins_number whole fraction = nat_lt 0 (whole + fraction)
 

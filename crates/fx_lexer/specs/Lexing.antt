@@ -14,9 +14,11 @@ use Rattle.fx_lexer.specs.Places.{place_after}
 abbrev pub token_at : Place → ℕ → Kind → ℕ → Token
 token_at place at k n = record { kind = k; line = place.line; column = place.column; from = at; upto = at + n }
 
+-- the fault of this kind at a place
 abbrev pub fault_at : Place → ℕ → LexFault
 fault_at place kind = record { kind = kind; line = place.line; column = place.column }
 
+-- the token of n bytes, where it has a kind
 abbrev pub tokens_of_kind : Place → ℕ → Option Kind → ℕ → List Token
 tokens_of_kind place at None n = []
 tokens_of_kind place at (Some k) n = token_at place at k n ∷ []

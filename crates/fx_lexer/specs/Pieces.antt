@@ -36,6 +36,7 @@ spelling (decimal digits fraction) = digits ++ (codes "." ++ fraction)
 spelling (quoted quote value) = quote ∷ doubled quote value ++ quote ∷ []
 spelling (sign b) = b ∷ []
 
+-- what token a piece is; white space and comments are none
 abbrev pub kind_of : Piece → Option Kind
 kind_of (white b) = None
 kind_of (comment inside) = None
