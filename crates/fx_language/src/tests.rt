@@ -107,5 +107,6 @@ fn step_101_is_refused(rt: HostRuntime) -> Result<(), Fail> {
 fn words_are_known(rt: HostRuntime) {
     assert!(rt; Symbol::Proc.is_word() && Symbol::Name.is_word() && !Symbol::Whole.is_word());
     assert!(rt; Symbol::Blocks.is_once() && !Symbol::Examine.is_once());
+    assert!(rt; Symbol::Novalran.is_output_option() && !Symbol::Nvals.is_output_option());
     assert!(rt; Symbol::End.is(Symbol::End) && !Symbol::End.is(Symbol::Minus));
 }
