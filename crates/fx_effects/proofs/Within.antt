@@ -23,7 +23,7 @@ use Rattle.fx_vectors.specs.Question.{CanBeTold}
 use Rattle.fx_demands.specs.Bars.{bars_of, in_order, unions, within}
 use Rattle.fx_demands.proofs.Ordered.{Has, has-unfilter, in_order-only}
 use Rattle.fx_effects.specs.Factors.{main_of, mains_from}
-use Rattle.fx_effects.specs.Expressions.{Expression, Reading, stars_of, with_name, read, all_read, stars_len, most_factors, expression, bars_at, range_at, by_last, expression_at, begins_effect, effect_len, is_joining, expressions_from, expressions_of}
+use Rattle.fx_effects.specs.Expressions.{Expression, Reading, stars_of, with_name, read, all_read, stars_len, upto_of, expression, bars_at, range_at, by_last, expression_at, begins_effect, effect_len, is_joining, expressions_from, expressions_of}
 use Rattle.fx_effects.specs.Lists.{effects_of, effects_written, at_most_100000}
 use Rattle.fx_effects.specs.Models.{EffectLists, AreApart, list_in, behind_list, first_or, lists_at, lists_behind, some_effects, without}
 
@@ -141,7 +141,7 @@ module _ (factors : List (List ℕ)) where
   bars_at-of first rest e is =
       let none : Reading = record { stars = []; star = 0 } in
       let r = bind_ok (all_read factors none (first ∷ take (stars_len rest) rest)) _ e is in
-      let upto = bind_ok (most_factors (stars_of r.0) (slice_get (drop (stars_len rest) rest) 1)) _ e r.2 in
+      let upto = bind_ok (upto_of (stars_of r.0) (slice_get (drop (stars_len rest) rest) 1)) _ e r.2 in
       let of = all_read-of (first ∷ take (stars_len rest) rest) none r.0 (record { stars = tt; star = pow_pos s }) r.1 in
       subst (λ (e : Expression). AreOf s e.stars) (same_ok (expression (stars_of r.0) upto.0) e upto.2) (stars-of s r.0 of)
 

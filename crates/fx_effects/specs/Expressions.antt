@@ -53,9 +53,9 @@ at_most stars w None = Err (refusal_at 29 w)
 at_most stars w (Some n) = if list_any (λ e. nat_le (count_ones e) n) stars then Ok (min n 64) else Err (refusal_at 29 w)
 
 -- the most factors of a union, by the number behind `@`, or as many as there are
-abbrev pub most_factors : List ℕ → Option Written → Result ℕ Refusal
-most_factors stars None = Ok 64
-most_factors stars (Some w) = at_most stars w (number_of w)
+abbrev pub upto_of : List ℕ → Option Written → Result ℕ Refusal
+upto_of stars None = Ok 64
+upto_of stars (Some w) = at_most stars w (number_of w)
 
 abbrev pub expression : List ℕ → ℕ → Expression
 expression stars upto = record { stars = stars; upto = upto }
@@ -64,7 +64,7 @@ expression stars upto = record { stars = stars; upto = upto }
 abbrev pub bars_at : List (List ℕ) → Written → List Written → Result Expression Refusal
 bars_at factors first rest =
     all_read factors (record { stars = []; star = 0 }) (first ∷ take (stars_len rest) rest)
-    >>= (λ r. most_factors (stars_of r) (slice_get (drop (stars_len rest) rest) 1)
+    >>= (λ r. upto_of (stars_of r) (slice_get (drop (stars_len rest) rest) 1)
     >>= (λ upto. Ok (expression (stars_of r) upto)))
 
 -- The main effects of a range. 30: it is not regular. 4: a name of it is no factor's.

@@ -5,7 +5,7 @@ ghost use Rattle.fx_language.specs.Symbols.{is};
 ghost use Rattle.fx_text.specs.Refusals.{IsRefused};
 ghost use Rattle.fx_vectors.specs.Effects.{numbers_of};
 ghost use Rattle.fx_demands.specs.Bars.{AreNumbers};
-ghost use Rattle.fx_effects.specs.Expressions.{at_most, bars_at, expression_at, most_factors, stars_len};
+ghost use Rattle.fx_effects.specs.Expressions.{at_most, bars_at, expression_at, upto_of, stars_len};
 
 use crate::range::range_at;
 use crate::stars::Stars;
@@ -74,7 +74,7 @@ fn bars_at(
     stars.read(factors, first)?;
     stars.read_all(factors, &rest[..len])?;
     let stars = stars.finish()?;
-    let upto = most_factors(&stars, &rest[len..])?;
+    let upto = upto_of(&stars, &rest[len..])?;
     Ok(Expression { stars, upto })
 }
 
@@ -87,8 +87,8 @@ fn stars_len(written: &[Lexeme<'_>]) -> usize
 }
 
 /// The most factors of a union, by the number behind `@`, or as many as there are.
-fn most_factors(stars: &Effects, behind: &[Lexeme<'_>]) -> Result<u8, Refusal>
-    ensures { result ≡ most_factors (numbers_of stars.now) (slice_get behind.now 1) }
+fn upto_of(stars: &Effects, behind: &[Lexeme<'_>]) -> Result<u8, Refusal>
+    ensures { result ≡ upto_of (numbers_of stars.now) (slice_get behind.now 1) }
 {
     match behind.get(1) {
         None => Ok(64),

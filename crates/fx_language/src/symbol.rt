@@ -79,7 +79,7 @@ pub enum Symbol {
 }
 
 impl Symbol {
-    ghost use Rattle.fx_language.specs.Symbols.{index, is, is_word, is_once};
+    ghost use Rattle.fx_language.specs.Symbols.{index, is, is_once, is_output_option, is_word};
 
     /// Whether they are the same.
     pub fn is(self, other: Symbol) -> bool
@@ -102,6 +102,20 @@ impl Symbol {
         matches!(
             self,
             Symbol::Factors | Symbol::Size | Symbol::Model | Symbol::Blocks
+        )
+    }
+
+    /// Whether it is an option wherever an option of OUTPUT may stand.
+    pub fn is_output_option(self) -> bool
+        ensures { result ≡ is_output_option self }
+    {
+        matches!(
+            self,
+            Symbol::Pointrep
+                | Symbol::Designrep
+                | Symbol::Randomize
+                | Symbol::Novalran
+                | Symbol::Blockname
         )
     }
 

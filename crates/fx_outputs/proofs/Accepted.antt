@@ -13,12 +13,12 @@ use Rattle.fx_text.specs.Numbers.{number_of}
 use Rattle.fx_text.specs.Refusals.{refusal_at, ◌>>=◌}
 use Rattle.fx_outputs.specs.declared.recode.Recode.{Recode}
 use Rattle.fx_outputs.specs.Contexts.{Context}
-use Rattle.fx_outputs.specs.declared.setting.BlockCount.{BlockCount}
-use Rattle.fx_outputs.specs.declared.setting.BlockCount.TheVariants as blocks
+use Rattle.fx_outputs.specs.declared.context.BlockCount.{BlockCount}
+use Rattle.fx_outputs.specs.declared.context.BlockCount.TheVariants as blocks
 use Rattle.fx_outputs.specs.Replications.{replication_in_range, replication_at}
 use Rattle.fx_outputs.specs.Values.{values_of, counted}
 use Rattle.fx_outputs.specs.Blocks.{begins_values, values_wanted, block_values}
-use Rattle.fx_outputs.specs.Recodes.{is_recoded, factor_at, has_values, first_time, recode_of, recodes_behind}
+use Rattle.fx_outputs.specs.Recodes.{is_recoded, factor_at, has_values, unused_place, recode_of, recodes_behind}
 use Rattle.fx_outputs.specs.Validity.{IsRecode, AreRecodes}
 
 -- What a chain of checks gives is what its last part makes of what its first part gives.
@@ -74,20 +74,20 @@ is_factor : (name : Written) (place : Option ℕ) (p : ℕ) → factor_at name p
 is_factor name None p e = absurd (cc e)
 is_factor name (Some i) p e = (i, refl, cc e)
 
-module _ (setting : Context) where
+module _ (context : Context) where
   -- a recoded factor that is accepted, and that had no values before
   abbrev pub IsNext : List Recode → Recode → Type 0
-  IsNext earlier recode = IsRecode setting recode × (has_values earlier recode.place ≡ false)
+  IsNext earlier recode = IsRecode context recode × (has_values earlier recode.place ≡ false)
 
   next : (earlier : List Recode) (name word : Written) (rest : List Written) (recode : Recode)
-      → recode_of setting earlier name word rest ≡ Ok recode → IsNext earlier recode
+      → recode_of context earlier name word rest ≡ Ok recode → IsNext earlier recode
   next earlier name word rest recode e =
-      let place = place_of name.text setting.factors in
+      let place = place_of name.text context.factors in
       through (factor_at name place) _ recode (IsNext earlier recode) e (λ factor told e.
-      through (first_time earlier name factor) _ recode (IsNext earlier recode) e (λ new fresh e.
-      through (counted (Some setting.q) word (values_of rest)) _ recode (IsNext earlier recode) e (λ values enough e.
+      through (unused_place earlier name factor) _ recode (IsNext earlier recode) e (λ new fresh e.
+      through (counted (Some context.q) word (values_of rest)) _ recode (IsNext earlier recode) e (λ values enough e.
       let at = is_factor name place factor told in
-      let inside = (position-Some (is_same_name name.text) setting.factors at.0 [] at.1).0 in
+      let inside = (position-Some (is_same_name name.text) context.factors at.0 [] at.1).0 in
       let first = kept_unless (has_values earlier factor) factor new (refusal_at 28 name) fresh in
       let made : Recode = record { place = new; values = values } in
       let same : made ≡ recode = cc e in
@@ -95,18 +95,18 @@ module _ (setting : Context) where
         record {
           from_1 = omega (arith, at.2, first.1);
           a_factor = omega (arith, at.2, first.1, inside);
-          each_level = as_many setting.q word (values_of rest) values enough;
+          each_level = as_many context.q word (values_of rest) values enough;
         },
         subst (λ n. has_values earlier n ≡ false) first.1 first.0,
       ) in
       subst (IsNext earlier) same sure)))
 
-  nothing : AreRecodes setting []
-  nothing = record { each = All-nil (IsRecode setting); once = λ i j d low high. absurd (omega arith) }
+  nothing : AreRecodes context []
+  nothing = record { each = All-nil (IsRecode context); once = λ i j d low high. absurd (omega arith) }
 
-  one_more : (earlier : List Recode) (recode : Recode) → AreRecodes setting earlier → IsNext earlier recode → AreRecodes setting (earlier ++ recode ∷ [])
+  one_more : (earlier : List Recode) (recode : Recode) → AreRecodes context earlier → IsNext earlier recode → AreRecodes context (earlier ++ recode ∷ [])
   one_more earlier recode h is_next = record {
-    each = All-push (IsRecode setting) earlier recode h.each is_next.0;
+    each = All-push (IsRecode context) earlier recode h.each is_next.0;
     once = all_pairs_push (λ (a b : Recode). a.place ≢ b.place) earlier recode h.once (λ k d low same.
         let found : list_any (λ (r : Recode). r.place == recode.place) earlier ≡ true = list_any_at (λ (r : Recode). r.place == recode.place) earlier k d low (eq-eqb (get_or earlier k d).place recode.place same) in
         let none : has_values earlier recode.place ≡ false = is_next.1 in
@@ -116,20 +116,20 @@ module _ (setting : Context) where
   -- what holds behind the first factor, whether it is recoded or not
   first : (earlier all : List Recode) (flag : Bool) (read : Result Recode Refusal) (later : List Recode → Result (List Recode) Refusal)
       → ((recode : Recode) → read ≡ Ok recode → IsNext earlier recode)
-      → ((before : List Recode) → AreRecodes setting before → later before ≡ Ok all → AreRecodes setting all)
-      → AreRecodes setting earlier
-      → (if flag then (read >>= λ recode. later (earlier ++ recode ∷ [])) else later earlier) ≡ Ok all → AreRecodes setting all
+      → ((before : List Recode) → AreRecodes context before → later before ≡ Ok all → AreRecodes context all)
+      → AreRecodes context earlier
+      → (if flag then (read >>= λ recode. later (earlier ++ recode ∷ [])) else later earlier) ≡ Ok all → AreRecodes context all
   first earlier all false read later is_next go h e = go earlier h e
   first earlier all true (Err refusal) later is_next go h e = absurd (cc e)
   first earlier all true (Ok recode) later is_next go h e = go (earlier ++ recode ∷ []) (one_more earlier recode h (is_next recode refl)) e
 
-  recoded : (xs : List Written) (earlier all : List Recode) → AreRecodes setting earlier → recodes_behind setting earlier xs ≡ Ok all → AreRecodes setting all
-  recoded [] earlier all h e = let same : earlier ≡ all = cc e in subst (AreRecodes setting) same h
-  recoded (a ∷ []) earlier all h e = let same : earlier ≡ all = cc e in subst (AreRecodes setting) same h
-  recoded (a ∷ b ∷ []) earlier all h e = let same : earlier ≡ all = cc e in subst (AreRecodes setting) same h
+  recoded : (xs : List Written) (earlier all : List Recode) → AreRecodes context earlier → recodes_behind context earlier xs ≡ Ok all → AreRecodes context all
+  recoded [] earlier all h e = let same : earlier ≡ all = cc e in subst (AreRecodes context) same h
+  recoded (a ∷ []) earlier all h e = let same : earlier ≡ all = cc e in subst (AreRecodes context) same h
+  recoded (a ∷ b ∷ []) earlier all h e = let same : earlier ≡ all = cc e in subst (AreRecodes context) same h
   recoded (a ∷ b ∷ c ∷ rest) earlier all h e =
-      first earlier all (is_recoded a b c) (recode_of setting earlier b c rest) (λ before. recodes_behind setting before (b ∷ c ∷ rest))
+      first earlier all (is_recoded a b c) (recode_of context earlier b c rest) (λ before. recodes_behind context before (b ∷ c ∷ rest))
       (next earlier b c rest) (λ before good more. recoded (b ∷ c ∷ rest) before all good more) h e
 
-  pub all_recoded : (xs : List Written) (all : List Recode) → recodes_behind setting [] xs ≡ Ok all → AreRecodes setting all
+  pub all_recoded : (xs : List Written) (all : List Recode) → recodes_behind context [] xs ≡ Ok all → AreRecodes context all
   all_recoded xs all e = recoded xs [] all nothing e

@@ -9,8 +9,8 @@ use Rattle.fx_text.specs.Written.{Written, written}
 use Rattle.fx_text.specs.Statements.{statements_of}
 use Rattle.fx_outputs.specs.declared.output.OutputSpec.{OutputSpec}
 use Rattle.fx_outputs.specs.Contexts.{Context}
-use Rattle.fx_outputs.specs.declared.setting.BlockCount.{BlockCount}
-use Rattle.fx_outputs.specs.declared.setting.BlockCount.TheVariants as blocks
+use Rattle.fx_outputs.specs.declared.context.BlockCount.{BlockCount}
+use Rattle.fx_outputs.specs.declared.context.BlockCount.TheVariants as blocks
 use Rattle.fx_outputs.specs.declared.shuffle.Shuffle.TheVariants as shuffle
 use Rattle.fx_outputs.specs.Outputs.{outputs_of}
 

@@ -42,22 +42,22 @@ three_left xs i before name word h low b n w =
     ∙ ap (λ l. before ∷ l) (two_left xs i name word h low n w)
 
 -- behind the last name there is none
-pub none_left : (setting : Context) (earlier : List Recode) (xs : List Written) → length xs ≤ 2 → recodes_behind setting earlier xs ≡ Ok earlier
-none_left setting earlier [] h = refl
-none_left setting earlier (a ∷ []) h = refl
-none_left setting earlier (a ∷ b ∷ []) h = refl
-none_left setting earlier (a ∷ b ∷ w ∷ rest) h = absurd (omega arith)
+pub none_left : (context : Context) (earlier : List Recode) (xs : List Written) → length xs ≤ 2 → recodes_behind context earlier xs ≡ Ok earlier
+none_left context earlier [] h = refl
+none_left context earlier (a ∷ []) h = refl
+none_left context earlier (a ∷ b ∷ []) h = refl
+none_left context earlier (a ∷ b ∷ w ∷ rest) h = absurd (omega arith)
 
-module _ (setting : Context) (earlier : List Recode) (before name word : Written) (rest : List Written) where
-  pub refused : (reason : ParseStop) → true ≡ is_recoded before name word → IsRefused (recode_of setting earlier name word rest) reason
-      → IsRefused (recodes_behind setting earlier (before ∷ name ∷ word ∷ rest)) reason
+module _ (context : Context) (earlier : List Recode) (before name word : Written) (rest : List Written) where
+  pub refused : (reason : ParseStop) → true ≡ is_recoded before name word → IsRefused (recode_of context earlier name word rest) reason
+      → IsRefused (recodes_behind context earlier (before ∷ name ∷ word ∷ rest)) reason
   refused (stop.Refused refusal) t h = rw (← t, h) refl
   refused stop.NoMemory t h = tt
 
-  pub read : (recode : Recode) → true ≡ is_recoded before name word → recode_of setting earlier name word rest ≡ Ok recode
-      → recodes_behind setting earlier (before ∷ name ∷ word ∷ rest) ≡ recodes_behind setting (earlier ++ recode ∷ []) (name ∷ word ∷ rest)
+  pub read : (recode : Recode) → true ≡ is_recoded before name word → recode_of context earlier name word rest ≡ Ok recode
+      → recodes_behind context earlier (before ∷ name ∷ word ∷ rest) ≡ recodes_behind context (earlier ++ recode ∷ []) (name ∷ word ∷ rest)
   read recode t h = rw (← t, h) refl
 
   pub passed : false ≡ is_recoded before name word
-      → recodes_behind setting earlier (before ∷ name ∷ word ∷ rest) ≡ recodes_behind setting earlier (name ∷ word ∷ rest)
+      → recodes_behind context earlier (before ∷ name ∷ word ∷ rest) ≡ recodes_behind context earlier (name ∷ word ∷ rest)
   passed t = rw (← t) refl

@@ -11,28 +11,28 @@ use Rattle.fx_text.specs.Refusals.{refusal_at, ◌>>=◌}
 use Rattle.fx_outputs.specs.declared.output.OutputSpec.{OutputSpec}
 use Rattle.fx_outputs.specs.Contexts.{Context}
 use Rattle.fx_outputs.specs.Options.{from_option}
-use Rattle.fx_outputs.specs.Replications.{replication_of, rows_in_range}
+use Rattle.fx_outputs.specs.Replications.{replication_of, check_rows}
 use Rattle.fx_outputs.specs.Shuffles.{shuffle_of}
-use Rattle.fx_outputs.specs.Blocks.{may_name_blocks, column_is_free, name_or_empty, block_values}
+use Rattle.fx_outputs.specs.Blocks.{check_blockname, check_column, name_or_empty, block_values}
 use Rattle.fx_outputs.specs.Recodes.{recodes_of}
-use Rattle.fx_outputs.specs.Outputs.{is_new_name, output_of, outputs_behind, outputs_of}
+use Rattle.fx_outputs.specs.Outputs.{check_new_name, output_of, outputs_behind, outputs_of}
 use Rattle.fx_outputs.specs.Validity.{IsWithinLimits}
 use Rattle.fx_outputs.proofs.Accepted.{through, kept_if, repeated, values_of_blocks, all_recoded}
 
-module _ (setting : Context) where
+module _ (context : Context) where
   output_within : (earlier : List (List ℕ)) (word name : Written) (s : List Written) (output : OutputSpec)
-      → output_of setting earlier word name s ≡ Ok output → IsWithinLimits setting output
+      → output_of context earlier word name s ≡ Ok output → IsWithinLimits context output
   output_within earlier word name s output e =
       let blockname = from_option Blockname s in
-      through (is_new_name earlier name) _ output (IsWithinLimits setting output) e (λ u fresh e.
-      through (replication_of Pointrep s) _ output (IsWithinLimits setting output) e (λ pointrep by_point e.
-      through (replication_of Designrep s) _ output (IsWithinLimits setting output) e (λ designrep by_design e.
-      through (rows_in_range setting.runs pointrep designrep name) _ output (IsWithinLimits setting output) e (λ u few e.
-      through (shuffle_of s) _ output (IsWithinLimits setting output) e (λ shuffle asked e.
-      through (may_name_blocks setting.blocks (slice_get blockname 0)) _ output (IsWithinLimits setting output) e (λ u named e.
-      through (column_is_free setting word (slice_get blockname 2)) _ output (IsWithinLimits setting output) e (λ u free e.
-      through (block_values setting.blocks (slice_get blockname 3) (drop 4 blockname)) _ output (IsWithinLimits setting output) e (λ values given e.
-      through (recodes_of setting s) _ output (IsWithinLimits setting output) e (λ recodes read e.
+      through (check_new_name earlier name) _ output (IsWithinLimits context output) e (λ u fresh e.
+      through (replication_of Pointrep s) _ output (IsWithinLimits context output) e (λ pointrep by_point e.
+      through (replication_of Designrep s) _ output (IsWithinLimits context output) e (λ designrep by_design e.
+      through (check_rows context.runs pointrep designrep name) _ output (IsWithinLimits context output) e (λ u few e.
+      through (shuffle_of s) _ output (IsWithinLimits context output) e (λ shuffle asked e.
+      through (check_blockname context.blocks (slice_get blockname 0)) _ output (IsWithinLimits context output) e (λ u named e.
+      through (check_column context word (slice_get blockname 2)) _ output (IsWithinLimits context output) e (λ u free e.
+      through (block_values context.blocks (slice_get blockname 3) (drop 4 blockname)) _ output (IsWithinLimits context output) e (λ values given e.
+      through (recodes_of context s) _ output (IsWithinLimits context output) e (λ recodes read e.
       let made : OutputSpec = record {
         name = name.text;
         pointrep = pointrep;
@@ -43,41 +43,41 @@ module _ (setting : Context) where
         block_values = values;
       } in
       let same : made ≡ output = cc e in
-      let rows = kept_if (nat_le (setting.runs * pointrep * designrep) 200000) tt u (refusal_at 21 name) few in
-      let sure : IsWithinLimits setting made = record {
+      let rows = kept_if (nat_le (context.runs * pointrep * designrep) 200000) tt u (refusal_at 21 name) few in
+      let sure : IsWithinLimits context made = record {
         pointrep = repeated (slice_get (from_option Pointrep s) 2) pointrep by_point;
         designrep = repeated (slice_get (from_option Designrep s) 2) designrep by_design;
-        rows = leb-true (setting.runs * pointrep * designrep) 200000 rows.0;
-        recodes = all_recoded setting s recodes read;
-        block_values = values_of_blocks setting.blocks (slice_get blockname 3) (drop 4 blockname) values given;
+        rows = leb-true (context.runs * pointrep * designrep) 200000 rows.0;
+        recodes = all_recoded context s recodes read;
+        block_values = values_of_blocks context.blocks (slice_get blockname 3) (drop 4 blockname) values given;
       } in
-      subst (IsWithinLimits setting) same sure)))))))))
+      subst (IsWithinLimits context) same sure)))))))))
 
   first : (outputs all : List OutputSpec) (flag : Bool) (read : Result OutputSpec Refusal)
       (later : OutputSpec → Result (List OutputSpec) Refusal) (passed : Result (List OutputSpec) Refusal)
-      → ((output : OutputSpec) → read ≡ Ok output → IsWithinLimits setting output)
-      → ((output : OutputSpec) → All (IsWithinLimits setting) (outputs ++ output ∷ []) → later output ≡ Ok all → All (IsWithinLimits setting) all)
-      → (passed ≡ Ok all → All (IsWithinLimits setting) all)
-      → All (IsWithinLimits setting) outputs
-      → (if flag then (read >>= later) else passed) ≡ Ok all → All (IsWithinLimits setting) all
+      → ((output : OutputSpec) → read ≡ Ok output → IsWithinLimits context output)
+      → ((output : OutputSpec) → All (IsWithinLimits context) (outputs ++ output ∷ []) → later output ≡ Ok all → All (IsWithinLimits context) all)
+      → (passed ≡ Ok all → All (IsWithinLimits context) all)
+      → All (IsWithinLimits context) outputs
+      → (if flag then (read >>= later) else passed) ≡ Ok all → All (IsWithinLimits context) all
   first outputs all false read later passed within go pass h e = pass e
   first outputs all true (Err refusal) later passed within go pass h e = absurd (cc e)
-  first outputs all true (Ok output) later passed within go pass h e = go output (All-push (IsWithinLimits setting) outputs output h (within output refl)) e
+  first outputs all true (Ok output) later passed within go pass h e = go output (All-push (IsWithinLimits context) outputs output h (within output refl)) e
 
-  within : (statements : List (List Written)) (earlier : List (List ℕ)) (outputs all : List OutputSpec) → All (IsWithinLimits setting) outputs
-      → outputs_behind setting earlier outputs statements ≡ Ok all → All (IsWithinLimits setting) all
-  within [] earlier outputs all h e = let same : outputs ≡ all = cc e in subst (All (IsWithinLimits setting)) same h
+  within : (statements : List (List Written)) (earlier : List (List ℕ)) (outputs all : List OutputSpec) → All (IsWithinLimits context) outputs
+      → outputs_behind context earlier outputs statements ≡ Ok all → All (IsWithinLimits context) all
+  within [] earlier outputs all h e = let same : outputs ≡ all = cc e in subst (All (IsWithinLimits context)) same h
   within ([] ∷ rest) earlier outputs all h e = within rest earlier outputs all h e
   within ((a ∷ []) ∷ rest) earlier outputs all h e = within rest earlier outputs all h e
   within ((a ∷ b ∷ []) ∷ rest) earlier outputs all h e = within rest earlier outputs all h e
   within ((a ∷ b ∷ c ∷ []) ∷ rest) earlier outputs all h e = within rest earlier outputs all h e
   within ((a ∷ b ∷ c ∷ d ∷ options) ∷ rest) earlier outputs all h e =
-      first outputs all (is Output a.symbol) (output_of setting earlier a d (d ∷ options))
-      (λ output. outputs_behind setting (earlier ++ output.name ∷ []) (outputs ++ output ∷ []) rest) (outputs_behind setting earlier outputs rest)
+      first outputs all (is Output a.symbol) (output_of context earlier a d (d ∷ options))
+      (λ output. outputs_behind context (earlier ++ output.name ∷ []) (outputs ++ output ∷ []) rest) (outputs_behind context earlier outputs rest)
       (output_within earlier a d (d ∷ options))
       (λ output good more. within rest (earlier ++ output.name ∷ []) (outputs ++ output ∷ []) all good more)
       (λ more. within rest earlier outputs all h more) h e
 
   pub all_within : (earlier : List (List ℕ)) (statements : List (List Written)) (all : List OutputSpec)
-      → outputs_of setting earlier statements ≡ Ok all → All (IsWithinLimits setting) all
-  all_within earlier statements all e = within statements earlier [] all (All-nil (IsWithinLimits setting)) e
+      → outputs_of context earlier statements ≡ Ok all → All (IsWithinLimits context) all
+  all_within earlier statements all e = within statements earlier [] all (All-nil (IsWithinLimits context)) e

@@ -21,66 +21,66 @@ other_word : (begun : Bool) (n : ℕ) → (begun && nat_lt 3 (suc (suc (suc (suc
 other_word true n e = absurd (let long = lt-ltb 3 (suc (suc (suc (suc n)))) (omega arith) in cc)
 other_word false n e = refl
 
-module _ (setting : Context) (earlier : List (List ℕ)) (outputs : List OutputSpec) (rest : List (List Written)) where
+module _ (context : Context) (earlier : List (List ℕ)) (outputs : List OutputSpec) (rest : List (List Written)) where
   first_refused : (a b c d : Written) (options : List Written) (reason : ParseStop) → is Output a.symbol ≡ true
-      → IsRefused (output_of setting earlier a d (d ∷ options)) reason
-      → IsRefused (outputs_behind setting earlier outputs ((a ∷ b ∷ c ∷ d ∷ options) ∷ rest)) reason
+      → IsRefused (output_of context earlier a d (d ∷ options)) reason
+      → IsRefused (outputs_behind context earlier outputs ((a ∷ b ∷ c ∷ d ∷ options) ∷ rest)) reason
   first_refused a b c d options (stop.Refused refusal) begun h = rw (begun, h) refl
   first_refused a b c d options stop.NoMemory begun h = tt
 
   first_read : (a b c d : Written) (options : List Written) (output : OutputSpec) → is Output a.symbol ≡ true
-      → output_of setting earlier a d (d ∷ options) ≡ Ok output
-      → outputs_behind setting earlier outputs ((a ∷ b ∷ c ∷ d ∷ options) ∷ rest) ≡ outputs_behind setting (earlier ++ output.name ∷ []) (outputs ++ output ∷ []) rest
+      → output_of context earlier a d (d ∷ options) ≡ Ok output
+      → outputs_behind context earlier outputs ((a ∷ b ∷ c ∷ d ∷ options) ∷ rest) ≡ outputs_behind context (earlier ++ output.name ∷ []) (outputs ++ output ∷ []) rest
   first_read a b c d options output begun h = rw (begun, h) refl
 
   refused_long : (s : List Written) (word name : Written) (reason : ParseStop) → begins Output s ≡ true → 3 < length s
       → word ≡ slice_index_or s 0 word → name ≡ slice_index_or s 3 name
-      → IsRefused (output_of setting earlier word name (drop 3 s)) reason
-      → IsRefused (outputs_behind setting earlier outputs (s ∷ rest)) reason
+      → IsRefused (output_of context earlier word name (drop 3 s)) reason
+      → IsRefused (outputs_behind context earlier outputs (s ∷ rest)) reason
   refused_long [] word name reason begun long w n h = absurd (omega arith)
   refused_long (a ∷ []) word name reason begun long w n h = absurd (omega arith)
   refused_long (a ∷ b ∷ []) word name reason begun long w n h = absurd (omega arith)
   refused_long (a ∷ b ∷ c ∷ []) word name reason begun long w n h = absurd (omega arith)
   refused_long (a ∷ b ∷ c ∷ d ∷ options) word name reason begun long w n h =
       first_refused a b c d options reason begun
-      (subst (λ v. IsRefused (output_of setting earlier a v (d ∷ options)) reason) n
-      (subst (λ v. IsRefused (output_of setting earlier v name (d ∷ options)) reason) w h))
+      (subst (λ v. IsRefused (output_of context earlier a v (d ∷ options)) reason) n
+      (subst (λ v. IsRefused (output_of context earlier v name (d ∷ options)) reason) w h))
 
   read_long : (s : List Written) (word name : Written) (output : OutputSpec) → begins Output s ≡ true → 3 < length s
       → word ≡ slice_index_or s 0 word → name ≡ slice_index_or s 3 name
-      → output_of setting earlier word name (drop 3 s) ≡ Ok output
-      → outputs_behind setting earlier outputs (s ∷ rest) ≡ outputs_behind setting (earlier ++ output.name ∷ []) (outputs ++ output ∷ []) rest
+      → output_of context earlier word name (drop 3 s) ≡ Ok output
+      → outputs_behind context earlier outputs (s ∷ rest) ≡ outputs_behind context (earlier ++ output.name ∷ []) (outputs ++ output ∷ []) rest
   read_long [] word name output begun long w n h = absurd (omega arith)
   read_long (a ∷ []) word name output begun long w n h = absurd (omega arith)
   read_long (a ∷ b ∷ []) word name output begun long w n h = absurd (omega arith)
   read_long (a ∷ b ∷ c ∷ []) word name output begun long w n h = absurd (omega arith)
   read_long (a ∷ b ∷ c ∷ d ∷ options) word name output begun long w n h =
       first_read a b c d options output begun
-      (subst (λ v. output_of setting earlier a v (d ∷ options) ≡ Ok output) n
-      (subst (λ v. output_of setting earlier v name (d ∷ options) ≡ Ok output) w h))
+      (subst (λ v. output_of context earlier a v (d ∷ options) ≡ Ok output) n
+      (subst (λ v. output_of context earlier v name (d ∷ options) ≡ Ok output) w h))
 
   pub refused : (s : List Written) (word name : Written) (reason : ParseStop) → true ≡ is_output s
       → word ≡ slice_index_or s 0 word → name ≡ slice_index_or s 3 name
-      → IsRefused (output_of setting earlier word name (drop 3 s)) reason
-      → IsRefused (outputs_behind setting earlier outputs (s ∷ rest)) reason
+      → IsRefused (output_of context earlier word name (drop 3 s)) reason
+      → IsRefused (outputs_behind context earlier outputs (s ∷ rest)) reason
   refused s word name reason t w n h =
       let both = and_parts (begins Output s) (nat_lt 3 (length s)) (sym t) in
       refused_long s word name reason both.0 (ltb-true 3 (length s) both.1) w n h
 
   pub read : (s : List Written) (word name : Written) (output : OutputSpec) → true ≡ is_output s
       → word ≡ slice_index_or s 0 word → name ≡ slice_index_or s 3 name
-      → output_of setting earlier word name (drop 3 s) ≡ Ok output
-      → outputs_behind setting earlier outputs (s ∷ rest) ≡ outputs_behind setting (earlier ++ output.name ∷ []) (outputs ++ output ∷ []) rest
+      → output_of context earlier word name (drop 3 s) ≡ Ok output
+      → outputs_behind context earlier outputs (s ∷ rest) ≡ outputs_behind context (earlier ++ output.name ∷ []) (outputs ++ output ∷ []) rest
   read s word name output t w n h =
       let both = and_parts (begins Output s) (nat_lt 3 (length s)) (sym t) in
       read_long s word name output both.0 (ltb-true 3 (length s) both.1) w n h
 
   first_passed : (a b c d : Written) (options : List Written) → is Output a.symbol ≡ false
-      → outputs_behind setting earlier outputs ((a ∷ b ∷ c ∷ d ∷ options) ∷ rest) ≡ outputs_behind setting earlier outputs rest
+      → outputs_behind context earlier outputs ((a ∷ b ∷ c ∷ d ∷ options) ∷ rest) ≡ outputs_behind context earlier outputs rest
   first_passed a b c d options begun = rw begun refl
 
   pub passed : (s : List Written) → false ≡ is_output s
-      → outputs_behind setting earlier outputs (s ∷ rest) ≡ outputs_behind setting earlier outputs rest
+      → outputs_behind context earlier outputs (s ∷ rest) ≡ outputs_behind context earlier outputs rest
   passed [] t = refl
   passed (a ∷ []) t = refl
   passed (a ∷ b ∷ []) t = refl

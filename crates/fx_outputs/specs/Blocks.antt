@@ -7,8 +7,8 @@ use Rattle.fx_text.specs.Written.{Written, begins}
 use Rattle.fx_text.specs.Names.{place_of}
 use Rattle.fx_text.specs.Refusals.{refusal_at}
 use Rattle.fx_outputs.specs.Contexts.{Context}
-use Rattle.fx_outputs.specs.declared.setting.BlockCount.{BlockCount}
-use Rattle.fx_outputs.specs.declared.setting.BlockCount.TheVariants as blocks
+use Rattle.fx_outputs.specs.declared.context.BlockCount.{BlockCount}
+use Rattle.fx_outputs.specs.declared.context.BlockCount.TheVariants as blocks
 use Rattle.fx_outputs.specs.Values.{values_of, counted}
 
 -- the step has blocks
@@ -24,20 +24,20 @@ values_wanted (blocks.Fixed count) = Some count
 values_wanted blocks.Open = None
 
 -- E31 at the word BLOCKNAME, where a step without blocks has it
-abbrev pub may_name_blocks : BlockCount → Option Written → Result (Unit {0}) Refusal
-may_name_blocks count None = Ok tt
-may_name_blocks count (Some word) = if has_blocks count then Ok tt else Err (refusal_at 31 word)
+abbrev pub check_blockname : BlockCount → Option Written → Result (Unit {0}) Refusal
+check_blockname count None = Ok tt
+check_blockname count (Some word) = if has_blocks count then Ok tt else Err (refusal_at 31 word)
 
 -- no factor has this name, or E5 at w
-abbrev pub is_free : List (List ℕ) → List ℕ → Written → Result (Unit {0}) Refusal
-is_free factors name w = if is_some (place_of name factors) then Err (refusal_at 5 w) else Ok tt
+abbrev pub check_free : List (List ℕ) → List ℕ → Written → Result (Unit {0}) Refusal
+check_free factors name w = if is_some (place_of name factors) then Err (refusal_at 5 w) else Ok tt
 
 -- The column's name is no factor's: BLOCKNAME's name, or else BLOCK. `output` is the word OUTPUT. A step without
 -- blocks has no such column.
-abbrev pub column_is_free : Context → Written → Option Written → Result (Unit {0}) Refusal
-column_is_free setting output (Some name) = is_free setting.factors name.text name
-column_is_free setting output None =
-    if has_blocks setting.blocks then is_free setting.factors (codes "BLOCK") output else Ok tt
+abbrev pub check_column : Context → Written → Option Written → Result (Unit {0}) Refusal
+check_column context output (Some name) = check_free context.factors name.text name
+check_column context output None =
+    if has_blocks context.blocks then check_free context.factors (codes "BLOCK") output else Ok tt
 
 -- BLOCKNAME's name, empty where there is none
 abbrev pub name_or_empty : Option Written → List ℕ

@@ -9,30 +9,30 @@ use Rattle.fx_text.specs.Refusals.{refusal_at, ◌>>=◌}
 use Rattle.fx_outputs.specs.declared.output.OutputSpec.{OutputSpec}
 use Rattle.fx_outputs.specs.Contexts.{Context}
 use Rattle.fx_outputs.specs.Options.{from_option}
-use Rattle.fx_outputs.specs.Replications.{replication_of, rows_in_range}
+use Rattle.fx_outputs.specs.Replications.{replication_of, check_rows}
 use Rattle.fx_outputs.specs.Shuffles.{shuffle_of}
-use Rattle.fx_outputs.specs.Blocks.{may_name_blocks, column_is_free, name_or_empty, block_values}
+use Rattle.fx_outputs.specs.Blocks.{check_blockname, check_column, name_or_empty, block_values}
 use Rattle.fx_outputs.specs.Recodes.{recodes_of}
 
 -- the OUT name does not stand before, or E18 at the name
-abbrev pub is_new_name : List (List ℕ) → Written → Result (Unit {0}) Refusal
-is_new_name earlier name = if is_some (place_of name.text earlier) then Err (refusal_at 18 name) else Ok tt
+abbrev pub check_new_name : List (List ℕ) → Written → Result (Unit {0}) Refusal
+check_new_name earlier name = if is_some (place_of name.text earlier) then Err (refusal_at 18 name) else Ok tt
 
 -- An OUTPUT statement behind these OUT names: `word` is the word OUTPUT, `name` the OUT name, and `s` what stands
 -- behind `OUT =`, the name first.
 abbrev pub output_of : Context → List (List ℕ) → Written → Written → List Written → Result OutputSpec Refusal
-output_of setting earlier word name s =
+output_of context earlier word name s =
     let blockname = from_option Blockname s in
     do
-      _ ← is_new_name earlier name
+      _ ← check_new_name earlier name
       pointrep ← replication_of Pointrep s
       designrep ← replication_of Designrep s
-      _ ← rows_in_range setting.runs pointrep designrep name
+      _ ← check_rows context.runs pointrep designrep name
       shuffle ← shuffle_of s
-      _ ← may_name_blocks setting.blocks (slice_get blockname 0)
-      _ ← column_is_free setting word (slice_get blockname 2)
-      values ← block_values setting.blocks (slice_get blockname 3) (drop 4 blockname)
-      recodes ← recodes_of setting s
+      _ ← check_blockname context.blocks (slice_get blockname 0)
+      _ ← check_column context word (slice_get blockname 2)
+      values ← block_values context.blocks (slice_get blockname 3) (drop 4 blockname)
+      recodes ← recodes_of context s
       Ok (record {
         name = name.text;
         pointrep = pointrep;
@@ -46,17 +46,17 @@ output_of setting earlier word name s =
 -- The OUTPUT statements among these, in order, behind the outputs that were read before. `earlier` are the OUT names
 -- that stand before in the program. An OUTPUT statement begins `OUTPUT OUT = name`.
 abbrev pub outputs_behind : Context → List (List ℕ) → List OutputSpec → List (List Written) → Result (List OutputSpec) Refusal
-outputs_behind setting earlier outputs [] = Ok outputs
-outputs_behind setting earlier outputs ((word ∷ out ∷ equals ∷ name ∷ options) ∷ rest) =
+outputs_behind context earlier outputs [] = Ok outputs
+outputs_behind context earlier outputs ((word ∷ out ∷ equals ∷ name ∷ options) ∷ rest) =
     if is Output word.symbol
-    then (output_of setting earlier word name (name ∷ options)
-    >>= λ output. outputs_behind setting (earlier ++ output.name ∷ []) (outputs ++ output ∷ []) rest)
-    else outputs_behind setting earlier outputs rest
-outputs_behind setting earlier outputs (s ∷ rest) = outputs_behind setting earlier outputs rest
+    then (output_of context earlier word name (name ∷ options)
+    >>= λ output. outputs_behind context (earlier ++ output.name ∷ []) (outputs ++ output ∷ []) rest)
+    else outputs_behind context earlier outputs rest
+outputs_behind context earlier outputs (s ∷ rest) = outputs_behind context earlier outputs rest
 
 -- the OUTPUT statements among the statements of a step
 abbrev pub outputs_of : Context → List (List ℕ) → List (List Written) → Result (List OutputSpec) Refusal
-outputs_of setting earlier statements = outputs_behind setting earlier [] statements
+outputs_of context earlier statements = outputs_behind context earlier [] statements
 
 -- the names that OUTPUT statements give to their files
 abbrev pub names_of : List OutputSpec → List (List ℕ)

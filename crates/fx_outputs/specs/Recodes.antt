@@ -26,28 +26,28 @@ factor_at name (Some i) = Ok (i + 1)
 abbrev pub has_values : List Recode → ℕ → Bool
 has_values earlier place = list_any (λ (r : Recode). r.place == place) earlier
 
--- a factor that has no values yet, or E28 at the name
-abbrev pub first_time : List Recode → Written → ℕ → Result ℕ Refusal
-first_time earlier name place = if has_values earlier place then Err (refusal_at 28 name) else Ok place
+-- the place of a factor that has no values yet, or E28 at the name
+abbrev pub unused_place : List Recode → Written → ℕ → Result ℕ Refusal
+unused_place earlier name place = if has_values earlier place then Err (refusal_at 28 name) else Ok place
 
 -- A factor and its values, behind those of the same statement that stand earlier. `word` is NVALS or CVALS, `rest` is
 -- what stands behind it.
 abbrev pub recode_of : Context → List Recode → Written → Written → List Written → Result Recode Refusal
-recode_of setting earlier name word rest = do
-  factor ← factor_at name (place_of name.text setting.factors)
-  place ← first_time earlier name factor
-  values ← counted (Some setting.q) word (values_of rest)
+recode_of context earlier name word rest = do
+  factor ← factor_at name (place_of name.text context.factors)
+  place ← unused_place earlier name factor
+  values ← counted (Some context.q) word (values_of rest)
   Ok (record { place = place; values = values })
 
 -- the recoded factors from left to right, behind those that stand earlier; each name has something in front of it
 abbrev pub recodes_behind : Context → List Recode → List Written → Result (List Recode) Refusal
-recodes_behind setting earlier (before ∷ name ∷ word ∷ rest) =
+recodes_behind context earlier (before ∷ name ∷ word ∷ rest) =
     if is_recoded before name word
-    then (recode_of setting earlier name word rest
-    >>= λ recode. recodes_behind setting (earlier ++ recode ∷ []) (name ∷ word ∷ rest))
-    else recodes_behind setting earlier (name ∷ word ∷ rest)
-recodes_behind setting earlier _ = Ok earlier
+    then (recode_of context earlier name word rest
+    >>= λ recode. recodes_behind context (earlier ++ recode ∷ []) (name ∷ word ∷ rest))
+    else recodes_behind context earlier (name ∷ word ∷ rest)
+recodes_behind context earlier _ = Ok earlier
 
 -- the recoded factors of what stands behind `OUT =`, the OUT name first
 abbrev pub recodes_of : Context → List Written → Result (List Recode) Refusal
-recodes_of setting s = recodes_behind setting [] s
+recodes_of context s = recodes_behind context [] s

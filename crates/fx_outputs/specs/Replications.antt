@@ -22,6 +22,6 @@ abbrev pub replication_of : Symbol → List Written → Result ℕ Refusal
 replication_of option s = replication_at (slice_get (from_option option s) 2)
 
 -- at most 200,000 rows, or E21 at the OUT name
-abbrev pub rows_in_range : ℕ → ℕ → ℕ → Written → Result (Unit {0}) Refusal
-rows_in_range runs pointrep designrep name =
+abbrev pub check_rows : ℕ → ℕ → ℕ → Written → Result (Unit {0}) Refusal
+check_rows runs pointrep designrep name =
     if nat_le (runs * pointrep * designrep) 200000 then Ok tt else Err (refusal_at 21 name)

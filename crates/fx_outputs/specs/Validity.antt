@@ -4,23 +4,23 @@ use Rattle.std.specs.List.{AllPairs}
 use Rattle.fx_outputs.specs.declared.output.OutputSpec.{OutputSpec}
 use Rattle.fx_outputs.specs.declared.recode.Recode.{Recode}
 use Rattle.fx_outputs.specs.Contexts.{Context}
-use Rattle.fx_outputs.specs.declared.setting.BlockCount.TheVariants as blocks
+use Rattle.fx_outputs.specs.declared.context.BlockCount.TheVariants as blocks
 
 -- a factor of the step, with a value for each level
-pub record IsRecode (setting : Context) (recode : Recode) : Type 0 where
+pub record IsRecode (context : Context) (recode : Recode) : Type 0 where
   pub from_1 : 1 ≤ recode.place
-  pub a_factor : recode.place ≤ length setting.factors
-  pub each_level : length recode.values ≡ setting.q
+  pub a_factor : recode.place ≤ length context.factors
+  pub each_level : length recode.values ≡ context.q
 
 -- recoded factors, each once
-pub record AreRecodes (setting : Context) (recodes : List Recode) : Type 0 where
-  pub each : All (IsRecode setting) recodes
+pub record AreRecodes (context : Context) (recodes : List Recode) : Type 0 where
+  pub each : All (IsRecode context) recodes
   pub once : AllPairs (λ (a b : Recode). a.place ≢ b.place) recodes
 
 -- an output that keeps the limits of its step; values of the block column are as many as there are blocks
-pub record IsWithinLimits (setting : Context) (output : OutputSpec) : Type 0 where
+pub record IsWithinLimits (context : Context) (output : OutputSpec) : Type 0 where
   pub pointrep : 1 ≤ output.pointrep
   pub designrep : 1 ≤ output.designrep
-  pub rows : setting.runs * output.pointrep * output.designrep ≤ 200000
-  pub recodes : AreRecodes setting output.recodes
-  pub block_values : output.block_values ≢ [] → setting.blocks ≡ blocks.Fixed (length output.block_values)
+  pub rows : context.runs * output.pointrep * output.designrep ≤ 200000
+  pub recodes : AreRecodes context output.recodes
+  pub block_values : output.block_values ≢ [] → context.blocks ≡ blocks.Fixed (length output.block_values)

@@ -1,22 +1,26 @@
+// `blockname` is `BLOCKNAME = name NVALS = ( ..`: the word itself has index 0, the name 2, NVALS or
+// CVALS 3, and what stands behind it begins at 4.
+
 ghost use Rattle.std.specs.Prelude.{◌≡◌, drop, slice_get, IfOk, IfErr, Some};
 ghost use Rattle.fx_text.specs.Refusals.{IsRefused};
-ghost use Rattle.fx_outputs.specs.Blocks.{begins_values, block_values, column_is_free, has_blocks, is_free, may_name_blocks, name_or_empty, values_wanted};
+ghost use Rattle.fx_outputs.specs.Blocks.{begins_values, block_values, check_column, has_blocks, check_free, check_blockname, name_or_empty, values_wanted};
 
+use crate::context::{BlockCount, OutputContext};
 use crate::option::{at, begins, from};
-use crate::setting::{BlockCount, Setting};
 use crate::value::counted_values;
 use fx_base::{Bytes, NoMemory};
 use fx_language::Symbol;
 use fx_text::{Lexeme, Names, ParseStop, Refusal, place_of};
 use std::alloc::Global;
 
-/// Whether BLOCKNAME may stand in this step. `blockname` is what stands from that word on, if anything.
+/// Tests that BLOCKNAME may stand in this step. `blockname` is what stands from that word on, if
+/// anything.
 ///
 /// # Errors
 ///
 /// E31 at BLOCKNAME in a step without blocks.
-pub fn may_name_blocks(blocks: BlockCount, blockname: &[Lexeme<'_>]) -> Result<(), Refusal>
-    ensures { result ≡ may_name_blocks blocks (slice_get blockname.now 0) }
+pub fn check_blockname(blocks: BlockCount, blockname: &[Lexeme<'_>]) -> Result<(), Refusal>
+    ensures { result ≡ check_blockname blocks (slice_get blockname.now 0) }
 {
     match at(blockname, 0) {
         None => Ok(()),
@@ -29,23 +33,23 @@ pub fn may_name_blocks(blocks: BlockCount, blockname: &[Lexeme<'_>]) -> Result<(
     }
 }
 
-/// Whether the name of the block column, if there is one, is no factor's.
+/// Tests that the name of the block column, if there is one, is no factor's.
 ///
 /// # Errors
 ///
 /// E5 at BLOCKNAME's name, or at the word OUTPUT where the column is called BLOCK.
-pub fn column_is_free(
-    setting: &Setting<'_>,
+pub fn check_column(
+    context: &OutputContext<'_>,
     output: &Lexeme<'_>,
     blockname: &[Lexeme<'_>],
 ) -> Result<(), Refusal>
-    ensures { result ≡ column_is_free setting.now output.now (slice_get blockname.now 2) }
+    ensures { result ≡ check_column context.now output.now (slice_get blockname.now 2) }
 {
     match at(blockname, 2) {
-        Some(name) => is_free(setting.factors, name.text(), name),
+        Some(name) => check_free(context.factors, name.text(), name),
         None => {
-            if has_blocks(setting.blocks) {
-                return is_free(setting.factors, b"BLOCK", output);
+            if has_blocks(context.blocks) {
+                return check_free(context.factors, b"BLOCK", output);
             }
             Ok(())
         }
@@ -66,14 +70,17 @@ pub fn block_name(alloc: Global, blockname: &[Lexeme<'_>]) -> Result<Bytes, NoMe
 ///
 /// # Errors
 ///
-/// E17 at NVALS or CVALS, where there are not as many as blocks, or the number of blocks is not known; `NoMemory`.
+/// E17 at NVALS or CVALS, where there are not as many as blocks, or the number of blocks is not
+/// known; `NoMemory`.
 pub fn block_values(
     alloc: Global,
     blocks: BlockCount,
     blockname: &[Lexeme<'_>],
 ) -> Result<Names, ParseStop>
-    ensures ok { IfOk result (λ values. block_values blocks (slice_get blockname.now 3) (drop 4 blockname.now) ≡ Ok values) }
-    ensures err { IfErr result (IsRefused (block_values blocks (slice_get blockname.now 3) (drop 4 blockname.now))) }
+    ensures ok { IfOk result (λ values.
+        block_values blocks (slice_get blockname.now 3) (drop 4 blockname.now) ≡ Ok values) }
+    ensures err { IfErr result
+        (IsRefused (block_values blocks (slice_get blockname.now 3) (drop 4 blockname.now))) }
 {
     match at(blockname, 3) {
         None => Ok(Names::new(alloc)),
@@ -104,9 +111,13 @@ fn begins_values(word: &Lexeme<'_>, rest: &[Lexeme<'_>]) -> bool
     (word.is(Symbol::Nvals) || word.is(Symbol::Cvals)) && begins(Symbol::Equals, rest)
 }
 
-/// Whether no factor has this name.
-fn is_free(factors: &[Bytes], name: &[u8], at: &Lexeme<'_>) -> Result<(), Refusal>
-    ensures { result ≡ is_free factors.now name.now at.now }
+/// Tests that no factor has this name.
+///
+/// # Errors
+///
+/// E5 at this place: a factor has it.
+fn check_free(factors: &[Bytes], name: &[u8], at: &Lexeme<'_>) -> Result<(), Refusal>
+    ensures { result ≡ check_free factors.now name.now at.now }
 {
     if place_of(name, factors).is_some() {
         return Err(at.refused(5));

@@ -2,17 +2,17 @@
 #![tactic(auto)]
 
 mod block;
+mod context;
 mod option;
 mod output;
 mod recode;
 mod replication;
-mod setting;
 mod shuffle;
 mod value;
 
+pub use context::{BlockCount, OutputContext};
 pub use output::{OutputSpec, Outputs, outputs};
 pub use recode::{Recode, Recodes};
-pub use setting::{BlockCount, Setting};
 pub use shuffle::Shuffle;
 
 #[cfg(test)]

@@ -1,6 +1,5 @@
 ghost use Rattle.std.specs.Prelude.{◌≡◌, drop, slice_get, MatchOption, None, Some};
 ghost use Rattle.fx_text.specs.Written.{begins};
-ghost use Rattle.fx_language.specs.Symbols.{is_output_option};
 ghost use Rattle.fx_outputs.specs.Options.{from_option, has_option};
 
 use fx_language::Symbol;
@@ -26,17 +25,6 @@ pub fn has_option(option: Symbol, lexemes: &[Lexeme<'_>]) -> bool
     begins(option, from_option(option, lexemes))
 }
 
-/// Whether the word is an option wherever an option may stand.
-pub fn is_option(symbol: Symbol) -> bool
-    ensures { result ≡ is_output_option symbol }
-{
-    Symbol::Pointrep.is(symbol)
-        || Symbol::Designrep.is(symbol)
-        || Symbol::Randomize.is(symbol)
-        || Symbol::Novalran.is(symbol)
-        || Symbol::Blockname.is(symbol)
-}
-
 /// Whether this symbol stands first.
 pub fn begins(symbol: Symbol, lexemes: &[Lexeme<'_>]) -> bool
     ensures { result ≡ begins symbol lexemes.now }
@@ -46,7 +34,8 @@ pub fn begins(symbol: Symbol, lexemes: &[Lexeme<'_>]) -> bool
 
 /// What stands at index `i`.
 pub fn at<'b, 'a>(lexemes: &'b [Lexeme<'a>], i: usize) -> Option<&'b Lexeme<'a>>
-    ensures { MatchOption result (slice_get lexemes.now i ≡ None) (λ w. slice_get lexemes.now i ≡ Some w.now) }
+    ensures { MatchOption result (slice_get lexemes.now i ≡ None)
+        (λ w. slice_get lexemes.now i ≡ Some w.now) }
 {
     lexemes.get(i)
 }

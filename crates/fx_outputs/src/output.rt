@@ -2,14 +2,14 @@ ghost use Rattle.std.specs.Prelude.{◌≡◌, ◌++◌, ◌&&◌, nat_lt, lengt
 ghost use Rattle.fx_language.specs.declared.symbol.Symbol.TheVariants.{Output};
 ghost use Rattle.fx_text.specs.Written.{begins};
 ghost use Rattle.fx_text.specs.Refusals.{IsRefused};
-ghost use Rattle.fx_outputs.specs.Outputs.{is_new_name, names_of, output_of, outputs_of};
+ghost use Rattle.fx_outputs.specs.Outputs.{check_new_name, names_of, output_of, outputs_of};
 ghost use Rattle.fx_outputs.specs.Validity.{IsWithinLimits};
 
-use crate::block::{block_name, block_values, column_is_free, may_name_blocks};
+use crate::block::{block_name, block_values, check_blockname, check_column};
+use crate::context::OutputContext;
 use crate::option::from_option;
 use crate::recode::{Recodes, recodes};
-use crate::replication::{replication, rows_in_range};
-use crate::setting::Setting;
+use crate::replication::{check_rows, replication};
 use crate::shuffle::{Shuffle, shuffle_asked};
 use fx_base::{Bytes, Items};
 use fx_language::Symbol;
@@ -25,6 +25,7 @@ pub struct OutputSpec {
     pub pointrep: u32,
     /// How often the whole design stands, from 1 to 200,000.
     pub designrep: u32,
+    /// What of the plan is shuffled, and from which seed.
     pub shuffle: Shuffle,
     /// The factors that have values of their own, in the order of the text.
     pub recodes: Recodes,
@@ -37,23 +38,25 @@ pub struct OutputSpec {
 /// The files that a step writes, in order.
 pub type Outputs = Items<OutputSpec>;
 
-/// The OUTPUT statements among the statements of a step, in order. `earlier` are the OUT names that stand before in
-/// the program; those of this step are added. After an error some of them may be.
+/// The OUTPUT statements among the statements of a step, in order. `earlier` are the OUT names that
+/// stand before in the program; those of this step are added. After an error some of them may be.
 ///
 /// # Errors
 ///
-/// The first refusal, statement by statement, each by E18, E20 for POINTREP and DESIGNREP, E21, E19, E31, E5, E17 for
-/// BLOCKNAME, and its recoded factors from left to right, each by E4, E28, E17; `NoMemory`.
+/// The first refusal, statement by statement, each by E18, E20 for POINTREP and DESIGNREP, E21,
+/// E19, E31, E5, E17 for BLOCKNAME, and its recoded factors from left to right, each by E4, E28,
+/// E17; `NoMemory`.
 pub fn outputs(
     alloc: Global,
-    setting: &Setting<'_>,
+    context: &OutputContext<'_>,
     earlier: &mut Names,
     statements: &[Statement<'_>],
 ) -> Result<Outputs, ParseStop>
-    ensures ok { IfOk result (λ outputs. outputs_of setting.now earlier.old statements.now ≡ Ok outputs) }
+    ensures ok { IfOk result (λ outputs.
+        outputs_of context.now earlier.old statements.now ≡ Ok outputs) }
     ensures names { IfOk result (λ outputs. earlier.new ≡ earlier.old ++ names_of outputs) }
-    ensures within { IfOk result (All (IsWithinLimits setting.now)) }
-    ensures err { IfErr result (IsRefused (outputs_of setting.now earlier.old statements.now)) }
+    ensures within { IfOk result (All (IsWithinLimits context.now)) }
+    ensures err { IfErr result (IsRefused (outputs_of context.now earlier.old statements.now)) }
 {
     let mut outputs = Outputs::new(alloc);
     for statement in statements {
@@ -63,7 +66,7 @@ pub fn outputs(
             let name = &lexemes[3];
             let output = output(
                 alloc,
-                setting,
+                context,
                 earlier.as_slice(),
                 word,
                 name,
@@ -83,28 +86,31 @@ fn is_output(statement: &Statement<'_>) -> bool
     statement.begins(Symbol::Output) && statement.lexemes().len() > 3
 }
 
-/// An OUTPUT statement: `word` is the word OUTPUT, `name` the OUT name, and `lexemes` what stands behind `OUT =`.
+/// An OUTPUT statement: `word` is the word OUTPUT, `name` the OUT name, and `lexemes` what stands
+/// behind `OUT =`.
 fn output(
     alloc: Global,
-    setting: &Setting<'_>,
+    context: &OutputContext<'_>,
     earlier: &[Bytes],
     word: &Lexeme<'_>,
     name: &Lexeme<'_>,
     lexemes: &[Lexeme<'_>],
 ) -> Result<OutputSpec, ParseStop>
-    ensures ok { IfOk result (λ output. output_of setting.now earlier.now word.now name.now lexemes.now ≡ Ok output) }
-    ensures err { IfErr result (IsRefused (output_of setting.now earlier.now word.now name.now lexemes.now)) }
+    ensures ok { IfOk result (λ output.
+        output_of context.now earlier.now word.now name.now lexemes.now ≡ Ok output) }
+    ensures err { IfErr result
+        (IsRefused (output_of context.now earlier.now word.now name.now lexemes.now)) }
 {
     let blockname = from_option(Symbol::Blockname, lexemes);
-    is_new_name(earlier, name)?;
+    check_new_name(earlier, name)?;
     let pointrep = replication(Symbol::Pointrep, lexemes)?;
     let designrep = replication(Symbol::Designrep, lexemes)?;
-    rows_in_range(setting.runs, pointrep, designrep, name)?;
+    check_rows(context.runs, pointrep, designrep, name)?;
     let shuffle = shuffle_asked(lexemes)?;
-    may_name_blocks(setting.blocks, blockname)?;
-    column_is_free(setting, word, blockname)?;
-    let block_values = block_values(alloc, setting.blocks, blockname)?;
-    let recodes = recodes(alloc, setting, lexemes)?;
+    check_blockname(context.blocks, blockname)?;
+    check_column(context, word, blockname)?;
+    let block_values = block_values(alloc, context.blocks, blockname)?;
+    let recodes = recodes(alloc, context, lexemes)?;
     Ok(OutputSpec {
         name: Bytes::from_slice(alloc, name.text())?,
         pointrep,
@@ -116,9 +122,13 @@ fn output(
     })
 }
 
-/// Whether the OUT name does not stand before.
-fn is_new_name(earlier: &[Bytes], name: &Lexeme<'_>) -> Result<(), Refusal>
-    ensures { result ≡ is_new_name earlier.now name.now }
+/// Tests that the OUT name does not stand before.
+///
+/// # Errors
+///
+/// E18 at the name: it does.
+fn check_new_name(earlier: &[Bytes], name: &Lexeme<'_>) -> Result<(), Refusal>
+    ensures { result ≡ check_new_name earlier.now name.now }
 {
     if place_of(name.text(), earlier).is_some() {
         return Err(name.refused(18));

@@ -1,12 +1,11 @@
 ghost use Rattle.std.specs.Prelude.{◌≡◌, ◌<◌, IfOk, IfErr};
 ghost use Rattle.fx_text.specs.Refusals.{IsRefused};
 ghost use Rattle.fx_text.specs.Names.{place_of};
-ghost use Rattle.fx_outputs.specs.Recodes.{factor_at, first_time, has_values, is_recoded, recode_of, recodes_of};
+ghost use Rattle.fx_outputs.specs.Recodes.{factor_at, unused_place, has_values, is_recoded, recode_of, recodes_of};
 
-use crate::option::is_option;
-use crate::setting::Setting;
+use crate::context::OutputContext;
 use crate::value::counted_values;
-use fx_base::{Bytes, Items};
+use fx_base::Items;
 use fx_language::Symbol;
 use fx_text::{Lexeme, Names, ParseStop, Refusal, place_of};
 use std::alloc::Global;
@@ -27,15 +26,15 @@ pub type Recodes = Items<Recode>;
 ///
 /// # Errors
 ///
-/// For the first that is refused: E4 at a name that is no factor's, E28 at a factor that has values already, E17 at
-/// NVALS or CVALS for another number of values than levels; `NoMemory`.
+/// For the first that is refused: E4 at a name that is no factor's, E28 at a factor that has values
+/// already, E17 at NVALS or CVALS for another number of values than levels; `NoMemory`.
 pub fn recodes(
     alloc: Global,
-    setting: &Setting<'_>,
+    context: &OutputContext<'_>,
     lexemes: &[Lexeme<'_>],
 ) -> Result<Recodes, ParseStop>
-    ensures ok { IfOk result (λ recodes. recodes_of setting.now lexemes.now ≡ Ok recodes) }
-    ensures err { IfErr result (IsRefused (recodes_of setting.now lexemes.now)) }
+    ensures ok { IfOk result (λ recodes. recodes_of context.now lexemes.now ≡ Ok recodes) }
+    ensures err { IfErr result (IsRefused (recodes_of context.now lexemes.now)) }
 {
     let mut recodes = Recodes::new(alloc);
     for i in 2..lexemes.len() {
@@ -44,7 +43,7 @@ pub fn recodes(
         let word = &lexemes[i];
         if is_recoded(before, name, word) {
             let rest = &lexemes[i + 1..];
-            let recode = recode_at(alloc, setting, recodes.as_slice(), name, word, rest)?;
+            let recode = recode_at(alloc, context, recodes.as_slice(), name, word, rest)?;
             recodes.push(recode)?;
         }
     }
@@ -56,7 +55,7 @@ fn is_recoded(before: &Lexeme<'_>, name: &Lexeme<'_>, word: &Lexeme<'_>) -> bool
     ensures { result ≡ is_recoded before.now name.now word.now }
 {
     name.symbol().is_word()
-        && !is_option(name.symbol())
+        && !name.symbol().is_output_option()
         && !before.is(Symbol::Equals)
         && !word.is(Symbol::Equals)
 }
@@ -64,34 +63,44 @@ fn is_recoded(before: &Lexeme<'_>, name: &Lexeme<'_>, word: &Lexeme<'_>) -> bool
 /// A factor and its values, which stand behind `word`.
 fn recode_at(
     alloc: Global,
-    setting: &Setting<'_>,
+    context: &OutputContext<'_>,
     earlier: &[Recode],
     name: &Lexeme<'_>,
     word: &Lexeme<'_>,
     rest: &[Lexeme<'_>],
 ) -> Result<Recode, ParseStop>
-    ensures ok { IfOk result (λ recode. recode_of setting.now earlier.now name.now word.now rest.now ≡ Ok recode) }
-    ensures err { IfErr result (IsRefused (recode_of setting.now earlier.now name.now word.now rest.now)) }
+    ensures ok { IfOk result (λ recode.
+        recode_of context.now earlier.now name.now word.now rest.now ≡ Ok recode) }
+    ensures err { IfErr result
+        (IsRefused (recode_of context.now earlier.now name.now word.now rest.now)) }
 {
-    let factor = factor_at(setting, name)?;
-    let place = first_time(earlier, name, factor)?;
-    let values = counted_values(alloc, Some(u32::from(setting.q)), word, rest)?;
+    let factor = factor_at(context, name)?;
+    let place = unused_place(earlier, name, factor)?;
+    let values = counted_values(alloc, Some(u32::from(context.q)), word, rest)?;
     Ok(Recode { place, values })
 }
 
 /// The place of the factor of this name, from 1.
-fn factor_at(setting: &Setting<'_>, name: &Lexeme<'_>) -> Result<u8, Refusal>
-    ensures { result ≡ factor_at name.now (place_of name.now.text setting.now.factors) }
+///
+/// # Errors
+///
+/// E4 at the name: no factor has it.
+fn factor_at(context: &OutputContext<'_>, name: &Lexeme<'_>) -> Result<u8, Refusal>
+    ensures { result ≡ factor_at name.now (place_of name.now.text context.now.factors) }
 {
-    match place_of(name.text(), setting.factors) {
+    match place_of(name.text(), context.factors) {
         Some(i) => Ok(i as u8 + 1),
         None => Err(name.refused(4)),
     }
 }
 
 /// The place of a factor that has no values yet.
-fn first_time(earlier: &[Recode], name: &Lexeme<'_>, place: u8) -> Result<u8, Refusal>
-    ensures { result ≡ first_time earlier.now name.now place }
+///
+/// # Errors
+///
+/// E28 at the name: it has values already.
+fn unused_place(earlier: &[Recode], name: &Lexeme<'_>, place: u8) -> Result<u8, Refusal>
+    ensures { result ≡ unused_place earlier.now name.now place }
 {
     if has_values(earlier, place) {
         return Err(name.refused(28));

@@ -1,5 +1,7 @@
+// What stands from an option on is `POINTREP = n ..` or `DESIGNREP = n ..`: the number has index 2.
+
 ghost use Rattle.std.specs.Prelude.{◌≡◌, Some};
-ghost use Rattle.fx_outputs.specs.Replications.{replication_at, replication_of, rows_in_range};
+ghost use Rattle.fx_outputs.specs.Replications.{replication_at, replication_of, check_rows};
 
 use crate::option::{at, from_option};
 use fx_language::Symbol;
@@ -30,18 +32,18 @@ fn in_range(number: &Lexeme<'_>) -> Result<u32, Refusal>
     }
 }
 
-/// Whether a file has at most 200,000 rows.
+/// Tests that a file has at most 200,000 rows.
 ///
 /// # Errors
 ///
 /// E21 at the OUT name, where it has more.
-pub fn rows_in_range(
+pub fn check_rows(
     runs: u32,
     pointrep: u32,
     designrep: u32,
     name: &Lexeme<'_>,
 ) -> Result<(), Refusal>
-    ensures { result ≡ rows_in_range runs pointrep designrep name.now }
+    ensures { result ≡ check_rows runs pointrep designrep name.now }
 {
     let rows = u128::from(runs) * u128::from(pointrep) * u128::from(designrep);
     if rows <= 200_000 {

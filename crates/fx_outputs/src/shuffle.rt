@@ -12,7 +12,7 @@ pub enum Shuffle {
     Kept,
     /// The rows, and the values of the factors where `values` is set, by the program's seed.
     Default { values: bool },
-    /// The same, by a seed of their own.
+    /// The same, by a seed of its own.
     Seed { seed: u64, values: bool },
 }
 
@@ -36,7 +36,8 @@ pub fn shuffle_asked(lexemes: &[Lexeme<'_>]) -> Result<Shuffle, Refusal>
 
 /// The number in parentheses behind RANDOMIZE, which stands first.
 fn seed_written<'b, 'a>(lexemes: &'b [Lexeme<'a>]) -> Option<&'b Lexeme<'a>>
-    ensures { MatchOption result (seed_written lexemes.now ≡ None) (λ w. seed_written lexemes.now ≡ Some w.now) }
+    ensures { MatchOption result (seed_written lexemes.now ≡ None)
+        (λ w. seed_written lexemes.now ≡ Some w.now) }
 {
     if begins(Symbol::Open, from(lexemes, 1)) {
         return at(lexemes, 2);

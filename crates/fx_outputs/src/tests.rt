@@ -1,4 +1,4 @@
-use crate::{BlockCount, Outputs, Setting, Shuffle, outputs};
+use crate::{BlockCount, OutputContext, Outputs, Shuffle, outputs};
 use fx_base::{Bytes, NoMemory};
 use fx_language::symbols;
 use fx_lexer::lex;
@@ -30,8 +30,8 @@ fn read(
     let factors = names(alloc, &[b"A", b"Block"])?;
     let mut earlier = names(alloc, &[b"old"])?;
     assert!(rt; factors.len() < 256);
-    let setting = Setting::new(factors.as_slice(), 2, 16, blocks);
-    Ok(outputs(alloc, &setting, &mut earlier, statements.as_slice()))
+    let context = OutputContext::new(factors.as_slice(), 2, 16, blocks);
+    Ok(outputs(alloc, &context, &mut earlier, statements.as_slice()))
 }
 
 /// The code of a refusal, and its column in the first line.

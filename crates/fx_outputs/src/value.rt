@@ -1,3 +1,5 @@
+// `rest` is what stands behind NVALS or CVALS, `= ( value ..`: the first value has index 2.
+
 ghost use Rattle.std.specs.Prelude.{◌≡◌, ◌∷◌, IfOk, IfErr};
 ghost use Rattle.fx_text.specs.Refusals.{IsRefused};
 ghost use Rattle.fx_outputs.specs.Values.{counted, inside, value_of, values_of};

@@ -1,14 +1,13 @@
 ghost use Rattle.std.specs.Prelude.{◌≡◌, true, false, IfOk, Some, None, length};
 ghost use Rattle.std.specs.Option.{is_some};
 ghost use Rattle.fx_vectors.specs.Question.{IsValid, problem_of as question_problem, requirement_of as demanded};
-ghost use Rattle.fx_settings.specs.Valid.{has_blocks};
 ghost use Rattle.fx_statements.specs.Goals.{goal_of};
 ghost use Rattle.fx_statements.specs.Steps.{meaning_of};
 ghost use Rattle.fx_program.specs.Problems.{asks_nothing, has_runs, is_plain, problem_of, requirement_of};
 ghost use Rattle.fx_program.specs.Texts.{is_built};
 
 use fx_base::NoMemory;
-use fx_statements::{Blocks, Examine, Size, Step, Wanted};
+use fx_statements::{Examine, Size, Step, Wanted};
 use fx_vectors::{Demands, Effects, Question, Shape};
 use std::alloc::Global;
 
@@ -91,17 +90,7 @@ fn asks_for_one(wanted: &Wanted) -> bool
 fn is_plain(step: &Step) -> bool
     ensures { result ≡ is_plain (meaning_of step.now) }
 {
-    !has_blocks(step.blocks) && !step.least && asks_nothing(step.examine) && step.outputs.is_empty()
-}
-
-/// Whether the runs are divided into blocks.
-fn has_blocks(blocks: Blocks) -> bool
-    ensures { result ≡ has_blocks blocks }
-{
-    match blocks {
-        Blocks::Without => false,
-        Blocks::Factors { .. } | Blocks::PerBlock { .. } | Blocks::Most => true,
-    }
+    !step.blocks.are_there() && !step.least && asks_nothing(step.examine) && step.outputs.is_empty()
 }
 
 /// Whether no section of the listing is asked for besides the rules.

@@ -9,14 +9,14 @@ use Rattle.fx_settings.specs.declared.said.Value.{Value}
 use Rattle.fx_settings.specs.declared.said.SizeSaid.{SizeSaid}
 use Rattle.fx_settings.specs.declared.said.SizeWord.{SizeWord}
 use Rattle.fx_settings.specs.declared.said.SizeWord.TheVariants as size
-use Rattle.fx_settings.specs.declared.said.Asked.{Asked}
-use Rattle.fx_settings.specs.declared.said.Asked.TheVariants as asked
+use Rattle.fx_settings.specs.declared.said.ModelGoal.{ModelGoal}
+use Rattle.fx_settings.specs.declared.said.ModelGoal.TheVariants as asked
 use Rattle.fx_settings.specs.declared.said.ModelSaid.{ModelSaid}
 use Rattle.fx_settings.specs.declared.said.BlocksSaid.{BlocksSaid}
 use Rattle.fx_settings.specs.declared.said.BlocksWord.{BlocksWord}
 use Rattle.fx_settings.specs.declared.said.BlocksWord.TheVariants as word
 use Rattle.fx_settings.specs.declared.said.StepSaid.{StepSaid}
-use Rattle.fx_settings.specs.declared.settings.Settings.{Settings}
+use Rattle.fx_settings.specs.declared.settings.StepSettings.{StepSettings}
 use Rattle.fx_settings.specs.declared.settings.Unblocked.{Unblocked}
 use Rattle.fx_settings.specs.declared.settings.Size.{Size}
 use Rattle.fx_settings.specs.declared.settings.Size.TheVariants.{Runs, Minimum}
@@ -28,7 +28,7 @@ use Rattle.fx_settings.specs.Powers.{exponent}
 use Rattle.fx_settings.specs.Sizes.{passed, by_design, by_fraction, run_factors, runs_at, size_by, size_of}
 use Rattle.fx_settings.specs.Models.{resolution_by, effects_by, criterion_by, criterion_of, least_of, is_effects, is_highest}
 use Rattle.fx_settings.specs.Blocks.{blocks_allowed, are_most, is_minimum, minimum_allowed, is_too_many, factors_at, by_number, most_run_factors, of_runs, by_size, blocks_by, blocks_by_value, blocks_of}
-use Rattle.fx_settings.specs.Settings.{number_by, number_said, is_level, levels_of, budget_of, unblocked_of, with_blocks, settings_of}
+use Rattle.fx_settings.specs.Settings.{number_by, number_said, is_level, levels_of, budget_of, unblocked_of, with_blocks, step_settings_of}
 use Rattle.fx_settings.specs.Valid.{is_size, is_criterion, are_blocks, has_blocks, has_most, is_budget, stand_together, are_valid}
 
 -- a chain that gives a value has one behind its first part
@@ -114,7 +114,7 @@ unfolding criterion_of
 criterion_kept None x e = subst (Wanted false) (same_ok Highest x e) (record { fits = refl; apart = refl })
 criterion_kept (Some said) x e = go said.asked e
   where
-    go : (a : Asked) → criterion_by a said.minabs ≡ Ok x → Wanted (is_some said.minabs) x
+    go : (a : ModelGoal) → criterion_by a said.minabs ≡ Ok x → Wanted (is_some said.minabs) x
     go (asked.Resolution value) e = resolution_kept (is_some said.minabs) value.place value.number x e
     go asked.Effects e = effects_kept said.minabs x e
 
@@ -209,7 +209,7 @@ module _ (s : ℕ) (said : StepSaid) (x : Unblocked) (is : unblocked_of s said �
       let minimum = bind_ok (minimum_allowed size.0 criterion.0 (least_of said.model) said.blocks said.size) _ x allowed.2 in
       subst (λ (x : Unblocked). is_level x.q ≡ true) (same_ok _ x minimum.2) (number_passes 2 6 is_level said.levels q.0 refl q.1)
 
-  pub valid : (settings : Settings) → 1 ≤ s → settings_of x said ≡ Ok settings → are_valid settings ≡ true
+  pub valid : (settings : StepSettings) → 1 ≤ s → step_settings_of x said ≡ Ok settings → are_valid settings ≡ true
   unfolding levels_of budget_of
   valid settings one e =
       let q = bind_ok (levels_of said.levels) _ x is in
@@ -220,7 +220,7 @@ module _ (s : ℕ) (said : StepSaid) (x : Unblocked) (is : unblocked_of s said �
       let minimum = bind_ok (minimum_allowed size.0 criterion.0 (least_of said.model) said.blocks said.size) _ x allowed.2 in
       let first : Unblocked = record { q = q.0; budget = budget.0; size = size.0; criterion = criterion.0; least = least_of said.model } in
       let same : first ≡ x = same_ok first x minimum.2 in
-      let given = bind_ok (blocks_of q.0 size.0 said.blocks) _ settings (subst (λ (x : Unblocked). settings_of x said ≡ Ok settings) (sym same) e) in
+      let given = bind_ok (blocks_of q.0 size.0 said.blocks) _ settings (subst (λ (x : Unblocked). step_settings_of x said ≡ Ok settings) (sym same) e) in
       let kind = criterion_kept said.model criterion.0 criterion.1 in
       let all = together q.0 s said.factors size.0 criterion.0 (least_of said.model) said.blocks said.size allowed.0 minimum.0 given.0 kind size.1 allowed.1 minimum.1 given.1 in
       subst (λ y. are_valid y ≡ true) (same_ok (with_blocks first given.0) settings given.2)
@@ -234,7 +234,7 @@ module _ (s : ℕ) (said : StepSaid) (x : Unblocked) (is : unblocked_of s said �
       all.0)
       all.1)
 
-pub all_valid : (said : StepSaid) (x : Unblocked) (r : Result Settings Refusal) → r ≡ settings_of x said
+pub all_valid : (said : StepSaid) (x : Unblocked) (r : Result StepSettings Refusal) → r ≡ step_settings_of x said
     → IfOk r (λ settings. (s : ℕ) → 1 ≤ s → unblocked_of s said ≡ Ok x → are_valid settings ≡ true)
 all_valid said x (Ok settings) e = λ s one is. valid s said x is settings one (sym e)
 all_valid said x (Err refusal) e = tt

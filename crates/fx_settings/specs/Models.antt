@@ -3,8 +3,8 @@ use Rattle.std.specs.Prelude.{ℕ, nat_le, ◌&&◌, Bool, true, false, Option, 
 use Rattle.fx_text.specs.declared.refusal.Refusal.{Refusal}
 use Rattle.fx_text.specs.declared.refusal.Place.{Place}
 use Rattle.fx_text.specs.Refusals.{refused_at}
-use Rattle.fx_settings.specs.declared.said.Asked.{Asked}
-use Rattle.fx_settings.specs.declared.said.Asked.TheVariants as asked
+use Rattle.fx_settings.specs.declared.said.ModelGoal.{ModelGoal}
+use Rattle.fx_settings.specs.declared.said.ModelGoal.TheVariants as asked
 use Rattle.fx_settings.specs.declared.said.ModelSaid.{ModelSaid}
 use Rattle.fx_settings.specs.declared.settings.Criterion.{Criterion}
 use Rattle.fx_settings.specs.declared.settings.Criterion.TheVariants.{Resolution, Highest, Effects}
@@ -20,7 +20,7 @@ effects_by None = Ok Effects
 effects_by (Some minabs) = Err (refused_at 12 minabs)
 
 -- by what a MODEL statement asks for, where MINABS stands at this place
-abbrev pub criterion_by : Asked → Option Place → Result Criterion Refusal
+abbrev pub criterion_by : ModelGoal → Option Place → Result Criterion Refusal
 criterion_by (asked.Resolution value) minabs = resolution_by value.place value.number
 criterion_by asked.Effects minabs = effects_by minabs
 

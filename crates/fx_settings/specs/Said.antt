@@ -1,5 +1,5 @@
 -- What the statements of a step say of its numbers, before any of it is judged.
-use Rattle.std.specs.Prelude.{◌-◌, Bool, List, [], ◌∷◌, length, drop, Option, Some, None, if◌then◌else◌}
+use Rattle.std.specs.Prelude.{◌-◌, List, [], ◌∷◌, length, drop, Option, Some, None, if◌then◌else◌}
 use Rattle.std.specs.Option.{option_map, option_and_then}
 use Rattle.fx_language.specs.declared.symbol.Symbol.{Symbol}
 use Rattle.fx_language.specs.declared.symbol.Symbol.TheVariants.{Size, Design, Fraction, Model, Estimate, Minabs, Blocks, Nblkfacs, Nblocks, Equals}
@@ -13,8 +13,8 @@ use Rattle.fx_settings.specs.declared.said.Value.{Value}
 use Rattle.fx_settings.specs.declared.said.SizeSaid.{SizeSaid}
 use Rattle.fx_settings.specs.declared.said.SizeWord.{SizeWord}
 use Rattle.fx_settings.specs.declared.said.SizeWord.TheVariants as size
-use Rattle.fx_settings.specs.declared.said.Asked.{Asked}
-use Rattle.fx_settings.specs.declared.said.Asked.TheVariants as asked
+use Rattle.fx_settings.specs.declared.said.ModelGoal.{ModelGoal}
+use Rattle.fx_settings.specs.declared.said.ModelGoal.TheVariants as asked
 use Rattle.fx_settings.specs.declared.said.ModelSaid.{ModelSaid}
 use Rattle.fx_settings.specs.declared.said.BlocksSaid.{BlocksSaid}
 use Rattle.fx_settings.specs.declared.said.BlocksWord.{BlocksWord}
@@ -61,7 +61,7 @@ abbrev pub size_said : List Written → Option SizeSaid
 size_said s = option_map (λ value. record { word = size_word s; value = value }) (value_of s)
 
 -- effects, where ESTIMATE is the second word of a MODEL statement, and else a resolution
-abbrev pub asked_by : List Written → Option Asked
+abbrev pub asked_by : List Written → Option ModelGoal
 asked_by s = if begins Estimate (drop 1 s) then Some asked.Effects else option_map asked.Resolution (value_of s)
 
 -- MINABS is the last word of its statement

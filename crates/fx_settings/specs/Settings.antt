@@ -7,7 +7,7 @@ use Rattle.fx_text.specs.Refusals.{refused_at, ◌>>=◌}
 use Rattle.fx_settings.specs.declared.said.StepSaid.{StepSaid}
 use Rattle.fx_settings.specs.declared.said.Value.{Value}
 use Rattle.fx_settings.specs.declared.settings.Blocks.{Blocks}
-use Rattle.fx_settings.specs.declared.settings.Settings.{Settings}
+use Rattle.fx_settings.specs.declared.settings.StepSettings.{StepSettings}
 use Rattle.fx_settings.specs.declared.settings.Unblocked.{Unblocked}
 use Rattle.fx_settings.specs.Sizes.{size_of}
 use Rattle.fx_settings.specs.Models.{criterion_of, least_of}
@@ -45,8 +45,8 @@ unblocked_of s said = do
   Ok (record { q = q; budget = budget; size = size; criterion = criterion; least = least_of said.model })
 
 -- and with them
-abbrev pub with_blocks : Unblocked → Blocks → Settings
+abbrev pub with_blocks : Unblocked → Blocks → StepSettings
 with_blocks x blocks = record { q = x.q; budget = x.budget; size = x.size; criterion = x.criterion; least = x.least; blocks = blocks }
 
-abbrev pub settings_of : Unblocked → StepSaid → Result Settings Refusal
-settings_of x said = blocks_of x.q x.size said.blocks >>= (λ blocks. Ok (with_blocks x blocks))
+abbrev pub step_settings_of : Unblocked → StepSaid → Result StepSettings Refusal
+step_settings_of x said = blocks_of x.q x.size said.blocks >>= (λ blocks. Ok (with_blocks x blocks))

@@ -1,6 +1,6 @@
 -- Which settings a step may have.
 use Rattle.std.specs.Prelude.{ℕ, ◌^◌, nat_le, nat_lt, not, ◌&&◌, ◌||◌, Bool, true, false}
-use Rattle.fx_settings.specs.declared.settings.Settings.{Settings}
+use Rattle.fx_settings.specs.declared.settings.StepSettings.{StepSettings}
 use Rattle.fx_settings.specs.declared.settings.Size.{Size}
 use Rattle.fx_settings.specs.declared.settings.Size.TheVariants.{Runs, Minimum}
 use Rattle.fx_settings.specs.declared.settings.Criterion.{Criterion}
@@ -52,7 +52,7 @@ stand_together size criterion least given =
     && not (has_blocks given && (least || is_highest criterion))
     && not (is_minimum size && (is_highest criterion || least || has_most given))
 
-abbrev pub are_valid : Settings → Bool
+abbrev pub are_valid : StepSettings → Bool
 are_valid x =
     is_level x.q && is_budget x.budget && is_size x.q x.size && is_criterion x.criterion
     && are_blocks x.q x.size x.blocks && stand_together x.size x.criterion x.least x.blocks

@@ -11,7 +11,9 @@ mod size;
 
 pub use power::greatest;
 pub use said::{
-    Asked, BlocksSaid, BlocksWord, ModelSaid, SizeSaid, SizeWord, StepSaid, Value, start_of,
+    BlocksSaid, BlocksWord, ModelGoal, ModelSaid, SizeSaid, SizeWord, StepSaid, Value, start_of,
     step_said,
 };
-pub use settings::{Blocks, Criterion, Settings, Size, Unblocked, settings_of, unblocked_of};
+pub use settings::{
+    Blocks, Criterion, Size, StepSettings, Unblocked, step_settings_of, unblocked_of,
+};

@@ -1,7 +1,7 @@
 ghost use Rattle.std.specs.Prelude.{◌≡◌};
 ghost use Rattle.fx_settings.specs.Models.{criterion_by, criterion_of, effects_by, is_highest, least_of, resolution_by};
 
-use crate::said::{Asked, ModelSaid};
+use crate::said::{ModelGoal, ModelSaid};
 use crate::settings::Criterion;
 use fx_text::{Place, Refusal};
 
@@ -20,12 +20,12 @@ pub(crate) fn criterion_of(said: Option<ModelSaid>) -> Result<Criterion, Refusal
     }
 }
 
-fn criterion_by(asked: Asked, minabs: Option<Place>) -> Result<Criterion, Refusal>
+fn criterion_by(asked: ModelGoal, minabs: Option<Place>) -> Result<Criterion, Refusal>
     ensures { result ≡ criterion_by asked minabs }
 {
     match asked {
-        Asked::Resolution(value) => resolution_by(value.place, value.number),
-        Asked::Effects => effects_by(minabs),
+        ModelGoal::Resolution(value) => resolution_by(value.place, value.number),
+        ModelGoal::Effects => effects_by(minabs),
     }
 }
 

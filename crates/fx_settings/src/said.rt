@@ -33,7 +33,7 @@ pub struct SizeSaid {
 
 /// What a MODEL statement asks for.
 #[derive(Clone, Copy, Debug, PartialEq, Eq)]
-pub enum Asked {
+pub enum ModelGoal {
     /// A resolution, by this value.
     Resolution(Value),
     /// That effects can be told apart. Which effects is read elsewhere.
@@ -43,7 +43,7 @@ pub enum Asked {
 /// What a MODEL statement says.
 #[derive(Clone, Copy, Debug, PartialEq, Eq)]
 pub struct ModelSaid {
-    pub asked: Asked,
+    pub asked: ModelGoal,
     /// The place of the word MINABS, which asks for least aberration, where it stands.
     pub minabs: Option<Place>,
 }
@@ -131,14 +131,14 @@ fn model_said(statement: &[Lexeme<'_>]) -> Option<ModelSaid>
     })
 }
 
-fn asked_by(statement: &[Lexeme<'_>]) -> Option<Asked>
+fn asked_by(statement: &[Lexeme<'_>]) -> Option<ModelGoal>
     ensures { result ≡ asked_by statement.now }
 {
     if is_second(Symbol::Estimate, statement) {
-        return Some(Asked::Effects);
+        return Some(ModelGoal::Effects);
     }
     let value = value_of(statement)?;
-    Some(Asked::Resolution(value))
+    Some(ModelGoal::Resolution(value))
 }
 
 fn blocks_said(statement: &[Lexeme<'_>]) -> Option<BlocksSaid>

@@ -1,5 +1,5 @@
 ghost use Rattle.std.specs.Prelude.{◌≡◌, ℕ, ◌≤◌, true, Ok, IfOk};
-ghost use Rattle.fx_settings.specs.Settings.{budget_of, is_level, levels_of, settings_of, unblocked_of};
+ghost use Rattle.fx_settings.specs.Settings.{budget_of, is_level, levels_of, step_settings_of, unblocked_of};
 ghost use Rattle.fx_settings.specs.Valid.{are_valid};
 
 use crate::block::{blocks_allowed, blocks_of, minimum_allowed};
@@ -31,6 +31,7 @@ pub enum Criterion {
 /// The blocks of a step.
 #[derive(Clone, Copy, Debug, PartialEq, Eq)]
 pub enum Blocks {
+    /// No blocks.
     Without,
     /// q^t blocks, t from 1 to 10.
     Factors { t: u8 },
@@ -38,6 +39,20 @@ pub enum Blocks {
     PerBlock { k: u8 },
     /// As many as can be.
     Most,
+}
+
+impl Blocks {
+    ghost use Rattle.fx_settings.specs.Valid.{has_blocks};
+
+    /// Whether the runs are divided into blocks.
+    pub fn are_there(self) -> bool
+        ensures { result ≡ has_blocks self }
+    {
+        match self {
+            Blocks::Without => false,
+            Blocks::Factors { .. } | Blocks::PerBlock { .. } | Blocks::Most => true,
+        }
+    }
 }
 
 /// The settings of a step that are judged before its effects are: all but its blocks.
@@ -55,7 +70,7 @@ pub struct Unblocked {
 
 /// The settings of a step.
 #[derive(Clone, Copy, Debug, PartialEq, Eq)]
-pub struct Settings {
+pub struct StepSettings {
     /// The number of levels: 2, 3, 4, 5, 7, 8 or 9.
     pub q: u8,
     /// The greatest number of nodes, from 1 to 5,000,000.
@@ -98,20 +113,21 @@ pub fn unblocked_of(s: u8, said: StepSaid) -> Result<Unblocked, Refusal>
 /// # Errors
 ///
 /// The first of these, in this order: E15, E16.
-pub fn settings_of(unblocked: Unblocked, said: StepSaid) -> Result<Settings, Refusal>
+pub fn step_settings_of(unblocked: Unblocked, said: StepSaid) -> Result<StepSettings, Refusal>
     requires { 2 ≤ unblocked.q }
-    ensures value { result ≡ settings_of unblocked said }
-    ensures valid { IfOk result (λ settings. (s : ℕ) → 1 ≤ s → unblocked_of s said ≡ Ok unblocked → are_valid settings ≡ true) }
+    ensures value { result ≡ step_settings_of unblocked said }
+    ensures valid { IfOk result (λ settings. (s : ℕ) → 1 ≤ s →
+        unblocked_of s said ≡ Ok unblocked → are_valid settings ≡ true) }
 {
     with_blocks(unblocked, said)
 }
 
-fn with_blocks(unblocked: Unblocked, said: StepSaid) -> Result<Settings, Refusal>
+fn with_blocks(unblocked: Unblocked, said: StepSaid) -> Result<StepSettings, Refusal>
     requires { 2 ≤ unblocked.q }
-    ensures { result ≡ settings_of unblocked said }
+    ensures { result ≡ step_settings_of unblocked said }
 {
     let blocks = blocks_of(unblocked.q, unblocked.size, said.blocks)?;
-    Ok(Settings {
+    Ok(StepSettings {
         q: unblocked.q,
         budget: unblocked.budget,
         size: unblocked.size,

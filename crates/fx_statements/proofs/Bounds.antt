@@ -5,7 +5,7 @@ use Rattle.std.specs.List.{list_all, list_any}
 use Rattle.std.specs.Option.{option_and_then}
 use Rattle.std.proofs.lemmas.Bool.{leb-true, le-leb, ltb-false, eqb-true, not-true, and_from, and_parts}
 use Rattle.std.proofs.Math.Nat.{pow-le-pow_right}
-use Rattle.fx_settings.specs.declared.settings.Settings.{Settings}
+use Rattle.fx_settings.specs.declared.settings.StepSettings.{StepSettings}
 use Rattle.fx_settings.specs.declared.settings.Unblocked.{Unblocked}
 use Rattle.fx_settings.specs.declared.settings.Size.{Size}
 use Rattle.fx_settings.specs.declared.settings.Size.TheVariants.{Runs, Minimum}
@@ -14,7 +14,7 @@ use Rattle.fx_settings.specs.declared.settings.Criterion.{Criterion}
 use Rattle.fx_settings.specs.declared.settings.Blocks.TheVariants.{Factors}
 use Rattle.fx_settings.specs.declared.settings.Blocks.TheVariants as blocks
 use Rattle.fx_settings.specs.Blocks.{blocks_of}
-use Rattle.fx_settings.specs.Settings.{is_level, settings_of, with_blocks}
+use Rattle.fx_settings.specs.Settings.{is_level, step_settings_of, with_blocks}
 use Rattle.fx_settings.specs.Valid.{are_valid, is_size, are_blocks, has_blocks}
 use Rattle.fx_settings.specs.declared.said.StepSaid.{StepSaid}
 use Rattle.fx_settings.specs.Said.{blocks_said, step_said}
@@ -26,7 +26,7 @@ use Rattle.fx_language.specs.declared.symbol.Symbol.TheVariants as word
 use Rattle.fx_statements.specs.declared.wanted.Wanted.{Wanted}
 use Rattle.fx_statements.specs.Goals.{criterion_of}
 use Rattle.fx_statements.specs.Valid.{is_count, settings_in}
-use Rattle.fx_statements.specs.Steps.{most_factors}
+use Rattle.fx_statements.specs.Steps.{factor_limit}
 
 either_way : (b : Bool) → (b ≡ true) ⊎ (b ≡ false)
 either_way true = inl refl
@@ -46,7 +46,7 @@ among (x ∷ levels) q all some =
 pub no_more_than_9 : (q : ℕ) → is_level q ≡ true → (2 ≤ q) × (q ≤ 9)
 no_more_than_9 q h = among (2 ∷ 3 ∷ 4 ∷ 5 ∷ 7 ∷ 8 ∷ 9 ∷ []) q refl h
 
-module _ (x : Settings) (valid : are_valid x ≡ true) where
+module _ (x : StepSettings) (valid : are_valid x ≡ true) where
   pub level : is_level x.q ≡ true
   level = (and_parts _ _ (and_parts _ _ (and_parts _ _ (and_parts _ _ (and_parts _ _ valid).0).0).0).0).0
 
@@ -64,16 +64,16 @@ blocks_fit q (Runs m) t two fits given =
 blocks_fit q Minimum t two fits given =
     omega (arith, ltb-false 1024 (q ^ t) (not-true (nat_lt 1024 (q ^ t)) (and_parts (nat_le 1 t) (not (nat_lt 1024 (q ^ t))) given).1))
 
-pub few_blocks : (x : Settings) → are_valid x ≡ true → (t : ℕ) → x.blocks ≡ Factors t → x.q ^ t ≤ 1024
+pub few_blocks : (x : StepSettings) → are_valid x ≡ true → (t : ℕ) → x.blocks ≡ Factors t → x.q ^ t ≤ 1024
 few_blocks x valid t is = blocks_fit x.q x.size t (no_more_than_9 x.q (level x valid)).0 (size x valid) (subst (λ b. are_blocks x.q x.size b ≡ true) is (given x valid))
 
 -- without BLOCKS there are no blocks
-pub without : (first : Unblocked) (said : StepSaid) (x : Settings) → said.blocks ≡ None → settings_of first said ≡ Ok x → has_blocks x.blocks ≡ false
+pub without : (first : Unblocked) (said : StepSaid) (x : StepSettings) → said.blocks ≡ None → step_settings_of first said ≡ Ok x → has_blocks x.blocks ≡ false
 unfolding blocks_of
 without first said x none e =
     let given = bind_ok (blocks_of first.q first.size said.blocks) (λ blocks. Ok (with_blocks first blocks)) x e in
     let is : ◌≡◌ {A = Result Blocks Refusal} (Ok blocks.Without) (Ok given.0) = sym (ap (blocks_of first.q first.size) none) ∙ given.1 in
-    subst (λ (y : Settings). has_blocks y.blocks ≡ false) (same_ok (with_blocks first given.0) x given.2) (subst (λ b. has_blocks b ≡ false) (same_ok blocks.Without given.0 is) refl)
+    subst (λ (y : StepSettings). has_blocks y.blocks ≡ false) (same_ok (with_blocks first given.0) x given.2) (subst (λ b. has_blocks b ≡ false) (same_ok blocks.Without given.0 is) refl)
 
 pub unsaid : (proc named : List Written) (statements : List (List Written)) (said : StepSaid) → said ≡ step_said proc named statements → statement_of word.Blocks statements ≡ None → said.blocks ≡ None
 unsaid proc named statements said is none = ap (λ (x : StepSaid). x.blocks) is ∙ ap (option_and_then blocks_said) none
@@ -86,15 +86,15 @@ no_more false None n h one few = and_from (nat_le 1 n) (nat_le n 40) (le-leb 1 n
 no_more false (Some s) n h one few = and_from (nat_le 1 n) (nat_le n 40) (le-leb 1 n one) (le-leb n 40 (omega (arith, few)))
 
 pub counted : (statements : List (List Written)) (s : ℕ) (given : Blocks) → (statement_of word.Blocks statements ≡ None → has_blocks given ≡ false)
-    → 1 ≤ s → s ≤ most_factors statements → is_count s given ≡ true
+    → 1 ≤ s → s ≤ factor_limit statements → is_count s given ≡ true
 counted statements s given without one few = no_more (has_blocks given) (statement_of word.Blocks statements) s without one few
 
 -- what blocks leave of the other settings
-pub kept : (first : Unblocked) (said : StepSaid) (x : Settings) → settings_of first said ≡ Ok x → (x.criterion ≡ first.criterion) × (x.q ≡ first.q)
+pub kept : (first : Unblocked) (said : StepSaid) (x : StepSettings) → step_settings_of first said ≡ Ok x → (x.criterion ≡ first.criterion) × (x.q ≡ first.q)
 kept first said x e =
     let given = bind_ok (blocks_of first.q first.size said.blocks) (λ blocks. Ok (with_blocks first blocks)) x e in
-    subst (λ (y : Settings). (y.criterion ≡ first.criterion) × (y.q ≡ first.q)) (same_ok (with_blocks first given.0) x given.2) (refl, refl)
+    subst (λ (y : StepSettings). (y.criterion ≡ first.criterion) × (y.q ≡ first.q)) (same_ok (with_blocks first given.0) x given.2) (refl, refl)
 
 -- the settings that a step keeps
-pub same_settings : (x : Settings) (wanted : Wanted) → criterion_of wanted ≡ x.criterion → settings_in x.q x.budget x.size wanted x.least x.blocks ≡ x
+pub same_settings : (x : StepSettings) (wanted : Wanted) → criterion_of wanted ≡ x.criterion → settings_in x.q x.budget x.size wanted x.least x.blocks ≡ x
 same_settings x wanted kind = ap (λ (k : Criterion). record { q = x.q; budget = x.budget; size = x.size; criterion = k; least = x.least; blocks = x.blocks }) kind

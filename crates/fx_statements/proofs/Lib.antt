@@ -1,4 +1,4 @@
 pub mod Bounds
-pub mod Listings
+pub mod ComponentCounts
 pub mod StepByStep
 mod Examples

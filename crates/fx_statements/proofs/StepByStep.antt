@@ -10,14 +10,14 @@ use Rattle.fx_text.specs.Statements.{ends_step, rest_of_step, steps_of}
 use Rattle.fx_text.specs.Refusals.{◌>>=◌}
 use Rattle.fx_outputs.specs.Outputs.{names_of, outputs_of}
 use Rattle.fx_outputs.specs.declared.output.OutputSpec.{OutputSpec}
-use Rattle.fx_settings.specs.declared.settings.Settings.{Settings}
+use Rattle.fx_settings.specs.declared.settings.StepSettings.{StepSettings}
 use Rattle.fx_settings.specs.Said.{start_of, step_said}
 use Rattle.fx_statements.specs.declared.examine.Examine.{Examine}
 use Rattle.fx_statements.specs.declared.wanted.Wanted.{Wanted}
 use Rattle.fx_statements.specs.Contexts.{context}
 use Rattle.fx_statements.specs.Goals.{criterion_of, goal_of}
 use Rattle.fx_statements.specs.Valid.{settings_in}
-use Rattle.fx_statements.specs.Steps.{Meaning, asked_by, examine_of, factors_by, head_of, most_factors, step_by, step_of}
+use Rattle.fx_statements.specs.Steps.{Meaning, asked_by, examine_of, factors_by, head_of, factor_limit, step_by, step_of}
 use Rattle.fx_statements.proofs.Bounds.{same_settings}
 use Rattle.fx_statements.specs.Programs.{steps_behind}
 
@@ -47,8 +47,8 @@ module _ (statements : List (List Written)) (i len : ℕ) (d : List Written) (h 
       ∙ ap (λ r. r >>= (λ (m : Meaning). steps_behind (earlier ++ names_of m.outputs) (done ++ m ∷ []) (steps_of rest))) (ap (step_of earlier) (sym (slice long)) ∙ is)
 
 -- one step, from its parts
-module _ (earlier : List (List ℕ)) (statements : List (List Written)) (named : List Written) (factors : List (List ℕ)) (settings : Settings) (wanted : Wanted) (outputs : List OutputSpec)
-    (is_named : factors_by (start_of (head_of statements)) (most_factors statements) named ≡ Ok factors)
+module _ (earlier : List (List ℕ)) (statements : List (List Written)) (named : List Written) (factors : List (List ℕ)) (settings : StepSettings) (wanted : Wanted) (outputs : List OutputSpec)
+    (is_named : factors_by (start_of (head_of statements)) (factor_limit statements) named ≡ Ok factors)
     (is_asked : asked_by factors (step_said (head_of statements) named statements) statements ≡ Ok (settings, goal_of wanted))
     (are_outputs : outputs_of (context factors settings) earlier statements ≡ Ok outputs) where
   whole : step_by earlier statements (Some named) ≡ Ok (record { factors = factors; settings = settings; goal = goal_of wanted; examine = examine_of statements; outputs = outputs })
@@ -58,4 +58,4 @@ module _ (earlier : List (List ℕ)) (statements : List (List Written)) (named :
       → step_by earlier statements (Some named) ≡ Ok (record { factors = factors; settings = settings_in settings.q settings.budget settings.size wanted settings.least settings.blocks; goal = goal_of wanted; examine = examine; outputs = outputs })
   step_is examine listed kind =
       whole
-      ∙ ap₂ (λ (x : Settings) (e : Examine). Ok (record { factors = factors; settings = x; goal = goal_of wanted; examine = e; outputs = outputs })) (sym (same_settings settings wanted kind)) (sym listed)
+      ∙ ap₂ (λ (x : StepSettings) (e : Examine). Ok (record { factors = factors; settings = x; goal = goal_of wanted; examine = e; outputs = outputs })) (sym (same_settings settings wanted kind)) (sym listed)

@@ -1,13 +1,13 @@
 -- What the OUTPUT statements of a step are read against.
 use Rattle.std.specs.Prelude.{ℕ, ◌^◌, List}
-use Rattle.fx_settings.specs.declared.settings.Settings.{Settings}
+use Rattle.fx_settings.specs.declared.settings.StepSettings.{StepSettings}
 use Rattle.fx_settings.specs.declared.settings.Size.{Size}
 use Rattle.fx_settings.specs.declared.settings.Size.TheVariants.{Runs, Minimum}
 use Rattle.fx_settings.specs.declared.settings.Blocks.{Blocks}
 use Rattle.fx_settings.specs.declared.settings.Blocks.TheVariants as given
 use Rattle.fx_settings.specs.Powers.{greatest}
-use Rattle.fx_outputs.specs.declared.setting.BlockCount.{BlockCount}
-use Rattle.fx_outputs.specs.declared.setting.BlockCount.TheVariants as count
+use Rattle.fx_outputs.specs.declared.context.BlockCount.{BlockCount}
+use Rattle.fx_outputs.specs.declared.context.BlockCount.TheVariants as count
 use Rattle.fx_outputs.specs.Contexts.{Context}
 
 -- the greatest number of runs
@@ -23,7 +23,7 @@ block_count q (given.PerBlock k) = count.Open
 block_count q given.Most = count.Open
 
 -- what the OUTPUT statements of the step are read against
-abbrev pub context : List (List ℕ) → Settings → Context
+abbrev pub context : List (List ℕ) → StepSettings → Context
 context factors settings = record {
   factors = factors;
   q = settings.q;

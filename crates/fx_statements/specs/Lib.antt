@@ -1,5 +1,5 @@
 pub mod Goals
-pub mod Listings
+pub mod Components
 pub mod Valid
 pub mod Contexts
 pub mod Steps

@@ -10,30 +10,30 @@ use Rattle.fx_text.specs.Written.{Written, begins}
 use Rattle.fx_text.specs.Statements.{statement_of}
 use Rattle.fx_text.specs.Refusals.{refused_at, ◌>>=◌}
 use Rattle.fx_factors.specs.Factors.{factors_of}
-use Rattle.fx_settings.specs.declared.settings.Settings.{Settings}
+use Rattle.fx_settings.specs.declared.settings.StepSettings.{StepSettings}
 use Rattle.fx_settings.specs.declared.said.StepSaid.{StepSaid}
 use Rattle.fx_settings.specs.Said.{start_of, step_said}
-use Rattle.fx_settings.specs.Settings.{settings_of, unblocked_of}
+use Rattle.fx_settings.specs.Settings.{step_settings_of, unblocked_of}
 use Rattle.fx_outputs.specs.declared.output.OutputSpec.{OutputSpec}
 use Rattle.fx_outputs.specs.Outputs.{outputs_of}
 use Rattle.fx_statements.specs.declared.examine.Examine.{Examine}
 use Rattle.fx_statements.specs.declared.step.Step.{Step}
 use Rattle.fx_statements.specs.Goals.{Goal, goal_by, goal_of}
-use Rattle.fx_statements.specs.Listings.{listing_allowed, listing_place}
+use Rattle.fx_statements.specs.Components.{components_allowed, components_place}
 use Rattle.fx_statements.specs.Valid.{settings_in}
 use Rattle.fx_statements.specs.Contexts.{context}
 
 -- a step, without where its parts lie in memory
 pub record Meaning : Type 0 where
   pub factors : List (List ℕ)
-  pub settings : Settings
+  pub settings : StepSettings
   pub goal : Goal
   pub examine : Examine
   pub outputs : List OutputSpec
 
 -- how many factors a step may have: fewer with blocks
-abbrev pub most_factors : List (List Written) → ℕ
-most_factors statements = if is_some (statement_of word.Blocks statements) then 30 else 40
+abbrev pub factor_limit : List (List Written) → ℕ
+factor_limit statements = if is_some (statement_of word.Blocks statements) then 30 else 40
 
 -- E7 where there are none: `proc` is the place of PROC
 abbrev pub some_factors : Place → List (List ℕ) → Result (List (List ℕ)) Refusal
@@ -67,19 +67,19 @@ head_of [] = []
 head_of (s ∷ statements) = s
 
 -- the settings of a step with these factors, and what it wants, by what its statements say
-abbrev pub asked_by : List (List ℕ) → StepSaid → List (List Written) → Result (Settings × Goal) Refusal
+abbrev pub asked_by : List (List ℕ) → StepSaid → List (List Written) → Result (StepSettings × Goal) Refusal
 asked_by factors said statements = do
   unblocked ← unblocked_of (length factors) said
   goal ← goal_by unblocked.q factors statements unblocked.criterion
-  settings ← settings_of unblocked said
-  listed ← listing_allowed unblocked.q (length factors) goal (listing_place statements)
+  settings ← step_settings_of unblocked said
+  listed ← components_allowed unblocked.q (length factors) goal (components_place statements)
   Ok (settings, goal)
 
 -- The meaning of a step, behind these OUT names, by its FACTORS statement where it has one.
 abbrev pub step_by : List (List ℕ) → List (List Written) → Option (List Written) → Result Meaning Refusal
 step_by earlier statements None = Err (refused_at 7 (start_of (head_of statements)))
 step_by earlier statements (Some named) = do
-  factors ← factors_by (start_of (head_of statements)) (most_factors statements) named
+  factors ← factors_by (start_of (head_of statements)) (factor_limit statements) named
   asked ← asked_by factors (step_said (head_of statements) named statements) statements
   outputs ← outputs_of (context factors asked.0) earlier statements
   Ok (record { factors = factors; settings = asked.0; goal = asked.1; examine = examine_of statements; outputs = outputs })

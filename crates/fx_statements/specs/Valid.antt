@@ -1,6 +1,6 @@
 -- Which steps there may be.
 use Rattle.std.specs.Prelude.{ℕ, ◌≡◌, nat_le, ◌&&◌, Bool, List, if◌then◌else◌}
-use Rattle.fx_settings.specs.declared.settings.Settings.{Settings}
+use Rattle.fx_settings.specs.declared.settings.StepSettings.{StepSettings}
 use Rattle.fx_settings.specs.declared.settings.Size.{Size}
 use Rattle.fx_settings.specs.declared.settings.Blocks.{Blocks}
 use Rattle.fx_settings.specs.Valid.{has_blocks}
@@ -16,7 +16,7 @@ abbrev pub is_count : ℕ → Blocks → Bool
 is_count s blocks = nat_le 1 s && nat_le s (if has_blocks blocks then 30 else 40)
 
 -- the settings of a step, by what it keeps of them
-abbrev pub settings_in : ℕ → ℕ → Size → Wanted → Bool → Blocks → Settings
+abbrev pub settings_in : ℕ → ℕ → Size → Wanted → Bool → Blocks → StepSettings
 settings_in q budget size wanted least blocks =
     record { q = q; budget = budget; size = size; criterion = criterion_of wanted; least = least; blocks = blocks }
 

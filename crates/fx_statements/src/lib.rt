@@ -1,8 +1,8 @@
 //! The program that a text says: its steps, or the first refusal.
 #![tactic(auto)]
 
+mod components;
 mod examine;
-mod listing;
 mod parsing;
 mod step;
 mod stepping;

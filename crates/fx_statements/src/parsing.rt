@@ -1,10 +1,10 @@
-ghost use Rattle.std.specs.Prelude.{◌≡◌, ◌+◌, ◌≤◌, ◌==◌, not, [], map, slice_get, reverse, count_by, length, Ok, IfOk, IfErr, All};
+ghost use Rattle.std.specs.Prelude.{◌≡◌, ◌+◌, ◌≤◌, ◌==◌, not, [], map, reverse, length, Ok, IfOk, IfErr, All};
 ghost use Rattle.std.specs.List.{prefix_len};
 ghost use Rattle.std.specs.Option.{option_map};
 ghost use Rattle.fx_lexer.specs.Tokens.{IsToken};
 ghost use Rattle.fx_lexer.specs.Places.{column_after, line_after};
 ghost use Rattle.fx_text.specs.Refusals.{IsRefused};
-ghost use Rattle.fx_text.specs.Statements.{ends_step, steps_of};
+ghost use Rattle.fx_text.specs.Statements.{ends_step};
 ghost use Rattle.fx_statements.specs.Steps.{meaning_of};
 ghost use Rattle.fx_statements.specs.Programs.{meaning_of_all, place_in, program_of};
 
@@ -30,7 +30,8 @@ pub type Program = Items<Step>;
 pub fn parse(alloc: Global, text: &[u8], tokens: &Tokens) -> Result<Program, ParseStop>
     requires length { length text.now ≤ 1048576 }
     requires tokens { All (IsToken text.now) tokens.now }
-    ensures program { IfOk result (λ program. program_of text.now tokens.now ≡ Ok (map meaning_of program)) }
+    ensures program { IfOk result (λ program.
+        program_of text.now tokens.now ≡ Ok (map meaning_of program)) }
     ensures refused { IfErr result (IsRefused (program_of text.now tokens.now)) }
 {
     let symbols = symbols(alloc, text, tokens)?;
@@ -90,7 +91,8 @@ fn is_line_feed(b: u8) -> bool
 
 /// The steps among the statements of a text.
 fn steps(alloc: Global, statements: &[Statement<'_>]) -> Result<Program, ParseStop>
-    ensures program { IfOk result (λ program. meaning_of_all statements.now ≡ Ok (map meaning_of program)) }
+    ensures program { IfOk result (λ program.
+        meaning_of_all statements.now ≡ Ok (map meaning_of program)) }
     ensures refused { IfErr result (IsRefused (meaning_of_all statements.now)) }
 {
     let mut earlier = Names::new(alloc);

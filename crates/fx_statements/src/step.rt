@@ -13,8 +13,9 @@ use fx_outputs::Outputs;
 use fx_settings::{Blocks, Size};
 use fx_text::Names;
 
-/// A step of a program. No two of its factors have the same name, its settings are valid, effects
-/// that it names can be told apart, and its outputs are within its limits.
+/// A step of a program. No two of its factors have the same name, its settings are valid, the
+/// effects that it names may be asked for (at least one to estimate, both lists in effect order,
+/// none in both, at most 2,000,000 pairs), and its outputs are within its limits.
 #[derive(Debug, Drop)]
 pub struct Step {
     /// The names of its factors, 1 to 40, and at most 30 with blocks. They differ without regard to
@@ -22,12 +23,17 @@ pub struct Step {
     pub factors: Names,
     /// The number of levels of each factor: 2, 3, 4, 5, 7, 8 or 9.
     pub q: u8,
+    /// How many runs the design has.
     pub size: Size,
+    /// What is wanted of the design.
     pub wanted: Wanted,
     /// Whether least aberration is wanted.
     pub least: bool,
+    /// Into which blocks the runs are divided, if into any.
     pub blocks: Blocks,
+    /// The sections of the listing that are asked for.
     pub examine: Examine,
+    /// The files that the step writes, in order.
     pub outputs: Outputs,
     /// The greatest number of nodes, from 1 to 5,000,000.
     pub budget: u64,
@@ -35,5 +41,7 @@ pub struct Step {
     ghost distinct: { IsDistinct is_same_name factors } by { Prim.hlevel props },
     ghost valid: { IsTrue (are_valid (settings_in q budget size wanted least blocks)) },
     ghost told: { CanBeWanted q (length factors) wanted },
-    ghost within: { All (IsWithinLimits (context factors (settings_in q budget size wanted least blocks))) outputs },
+    ghost within: { All
+        (IsWithinLimits (context factors (settings_in q budget size wanted least blocks)))
+        outputs },
 }

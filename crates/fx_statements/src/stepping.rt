@@ -9,18 +9,19 @@ ghost use Rattle.fx_outputs.specs.Outputs.{names_of};
 ghost use Rattle.fx_statements.specs.Contexts.{block_count, context, most_runs};
 ghost use Rattle.fx_statements.specs.Goals.{criterion_of, goal_of};
 ghost use Rattle.fx_statements.specs.Valid.{CanBeWanted};
-ghost use Rattle.fx_statements.specs.Steps.{asked_by, factors_by, head_of, meaning_of, most_factors, step_by, step_of};
+ghost use Rattle.fx_statements.specs.Steps.{asked_by, factor_limit, factors_by, head_of, meaning_of, step_by, step_of};
 
+use crate::components::components_allowed;
 use crate::examine::examine_of;
-use crate::listing::listing_allowed;
 use crate::step::Step;
 use crate::wanted::{Wanted, wanted_by};
 use fx_base::Bytes;
 use fx_factors::factors_of;
 use fx_language::Symbol;
-use fx_outputs::{BlockCount, Setting, outputs};
+use fx_outputs::{BlockCount, OutputContext, outputs};
 use fx_settings::{
-    Blocks, Settings, Size, StepSaid, greatest, settings_of, start_of, step_said, unblocked_of,
+    Blocks, Size, StepSaid, StepSettings, greatest, start_of, step_said, step_settings_of,
+    unblocked_of,
 };
 use fx_text::{Lexeme, Names, ParseStop, Place, Statement, find};
 use std::alloc::Global;
@@ -53,16 +54,18 @@ fn step_by(
     statements: &[Statement<'_>],
     named: &[Lexeme<'_>],
 ) -> Result<Step, ParseStop>
-    ensures step { IfOk result (λ step. step_by earlier.old statements.now (Some named.now) ≡ Ok (meaning_of step)) }
+    ensures step { IfOk result (λ step.
+        step_by earlier.old statements.now (Some named.now) ≡ Ok (meaning_of step)) }
     ensures names { IfOk result (λ step. earlier.new ≡ earlier.old ++ names_of step.outputs) }
-    ensures refused { IfErr result (IsRefused (step_by earlier.old statements.now (Some named.now))) }
+    ensures refused { IfErr result
+        (IsRefused (step_by earlier.old statements.now (Some named.now))) }
 {
     let proc = head_of(statements);
-    let factors = factors_by(alloc, start_of(proc), most_factors(statements), named)?;
+    let factors = factors_by(alloc, start_of(proc), factor_limit(statements), named)?;
     let said = step_said(proc, named, statements);
     let (settings, wanted) = asked_by(alloc, factors.as_slice(), said, statements)?;
-    let setting = setting_of(factors.as_slice(), settings);
-    let outputs = outputs(alloc, &setting, earlier, statements)?;
+    let context = context_of(factors.as_slice(), settings);
+    let outputs = outputs(alloc, &context, earlier, statements)?;
     Ok(Step {
         factors,
         q: settings.q,
@@ -106,21 +109,23 @@ fn asked_by(
     factors: &[Bytes],
     said: StepSaid,
     statements: &[Statement<'_>],
-) -> Result<(Settings, Wanted), ParseStop>
+) -> Result<(StepSettings, Wanted), ParseStop>
     requires some { 1 ≤ length factors.now }
     requires few { length factors.now ≤ 40 }
-    ensures asked { IfOk result (λ asked. asked_by factors.now said statements.now ≡ Ok (asked.0, goal_of asked.1)) }
+    ensures asked { IfOk result (λ asked.
+        asked_by factors.now said statements.now ≡ Ok (asked.0, goal_of asked.1)) }
     ensures valid { IfOk result (λ asked. are_valid asked.0 ≡ true) }
     ensures kind { IfOk result (λ asked. criterion_of asked.1 ≡ asked.0.criterion) }
     ensures told { IfOk result (λ asked. CanBeWanted asked.0.q (length factors.now) asked.1) }
-    ensures unblocked { IfOk result (λ asked. said.blocks ≡ None → has_blocks asked.0.blocks ≡ false) }
+    ensures unblocked { IfOk result (λ asked.
+        said.blocks ≡ None → has_blocks asked.0.blocks ≡ false) }
     ensures refused { IfErr result (IsRefused (asked_by factors.now said statements.now)) }
 {
     let s = factors.len() as u8;
     let unblocked = unblocked_of(s, said)?;
     let wanted = wanted_by(alloc, unblocked.q, factors, statements, unblocked.criterion)?;
-    let settings = settings_of(unblocked, said)?;
-    listing_allowed(unblocked.q, s, &wanted, statements)?;
+    let settings = step_settings_of(unblocked, said)?;
+    components_allowed(unblocked.q, s, &wanted, statements)?;
     Ok((settings, wanted))
 }
 
@@ -136,8 +141,8 @@ fn head_of<'b, 'a>(statements: &'b [Statement<'a>]) -> &'b [Lexeme<'a>]
 }
 
 /// How many factors a step may have: fewer with blocks.
-fn most_factors(statements: &[Statement<'_>]) -> usize
-    ensures value { result ≡ most_factors statements.now }
+fn factor_limit(statements: &[Statement<'_>]) -> usize
+    ensures value { result ≡ factor_limit statements.now }
     ensures bound { result ≤ 40 }
 {
     if find(Symbol::Blocks, statements).is_some() {
@@ -148,12 +153,12 @@ fn most_factors(statements: &[Statement<'_>]) -> usize
 }
 
 /// What the OUTPUT statements of the step are read against.
-fn setting_of<'a>(factors: &'a [Bytes], settings: Settings) -> Setting<'a>
+fn context_of<'a>(factors: &'a [Bytes], settings: StepSettings) -> OutputContext<'a>
     requires few { length factors.now ≤ 40 }
     requires valid { are_valid settings ≡ true }
     ensures { result ≡ context factors.now settings }
 {
-    Setting::new(
+    OutputContext::new(
         factors,
         settings.q,
         most_runs(settings.q, settings.size),

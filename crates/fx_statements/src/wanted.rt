@@ -47,7 +47,8 @@ pub(crate) fn wanted_by(
 ) -> Result<Wanted, ParseStop>
     requires level { is_level q ≡ true }
     requires few { length factors.now ≤ 40 }
-    ensures goal { IfOk result (λ wanted. goal_by q factors.now statements.now criterion ≡ Ok (goal_of wanted)) }
+    ensures goal { IfOk result (λ wanted.
+        goal_by q factors.now statements.now criterion ≡ Ok (goal_of wanted)) }
     ensures kind { IfOk result (λ wanted. criterion_of wanted ≡ criterion) }
     ensures told { IfOk result (CanBeWanted q (length factors.now)) }
     ensures refused { IfErr result (IsRefused (goal_by q factors.now statements.now criterion)) }
@@ -68,10 +69,12 @@ fn effects_wanted(
 ) -> Result<Wanted, ParseStop>
     requires level { is_level q ≡ true }
     requires few { length factors.now ≤ 40 }
-    ensures goal { IfOk result (λ wanted. effects_wanted q factors.now (statement_of Model statements.now) ≡ Ok (goal_of wanted)) }
+    ensures goal { IfOk result (λ wanted.
+        effects_wanted q factors.now (statement_of Model statements.now) ≡ Ok (goal_of wanted)) }
     ensures kind { IfOk result (λ wanted. criterion_of wanted ≡ criterion.Effects) }
     ensures told { IfOk result (CanBeWanted q (length factors.now)) }
-    ensures refused { IfErr result (IsRefused (effects_wanted q factors.now (statement_of Model statements.now))) }
+    ensures refused { IfErr result
+        (IsRefused (effects_wanted q factors.now (statement_of Model statements.now))) }
 {
     match find(Symbol::Model, statements) {
         None => effects_in(alloc, q, factors, &[]),
@@ -87,7 +90,8 @@ fn effects_in(
 ) -> Result<Wanted, ParseStop>
     requires level { is_level q ≡ true }
     requires few { length factors.now ≤ 40 }
-    ensures goal { IfOk result (λ wanted. effects_in q factors.now statement.now ≡ Ok (goal_of wanted)) }
+    ensures goal { IfOk result (λ wanted.
+        effects_in q factors.now statement.now ≡ Ok (goal_of wanted)) }
     ensures kind { IfOk result (λ wanted. criterion_of wanted ≡ criterion.Effects) }
     ensures told { IfOk result (CanBeWanted q (length factors.now)) }
     ensures refused { IfErr result (IsRefused (effects_in q factors.now statement.now)) }

@@ -14,15 +14,15 @@ pub returns-in_err-output-clause-err : goal.returns-in_err-output-clause-err
 returns-in_err-output-clause-err c =
     let all = c.args.statements.now in
     let i = c.loop-statement.statement-index in
-    let setting = c.args.setting.now in
+    let context = c.args.context.now in
     let s = c.statement-item.result in
     let reason = c.in_err-output.field-0.0 in
     let left = drop-cons all i s (omega arith) ∙ ap (λ v. v ∷ drop (suc i) all) (sym c.statement-item.is) in
     let one = rw (take_rest c.lexemes-lexemes.result.now 3, c.lexemes-lexemes.ensures, c.as_slice.ensures) at c.in_err-output.ensures.err in
     let first = rw c.lexemes-lexemes.ensures at c.index-lexemes-0.is in
     let third = rw c.lexemes-lexemes.ensures at c.index-lexemes-3.is in
-    let more = refused setting c.loop-statement.earlier c.loop-statement.outputs (drop (suc i) all) s c.index-lexemes-0.result c.index-lexemes-3.result reason c.if-is_output.ensures first third one in
-    let whole : IsRefused (outputs_of setting c.args.earlier.now all) reason = rw (c.loop-statement.invariant.meaning, left) more in
+    let more = refused context c.loop-statement.earlier c.loop-statement.outputs (drop (suc i) all) s c.index-lexemes-0.result c.index-lexemes-3.result reason c.if-is_output.ensures first third one in
+    let whole : IsRefused (outputs_of context c.args.earlier.now all) reason = rw (c.loop-statement.invariant.meaning, left) more in
     let p = err_from_is_err_and c.from_residual.result c.from_residual.ensures.1 in
     rw (p.1, p.2) whole
 
@@ -30,18 +30,18 @@ pub loop-statement-preserved : goal.loop-statement-preserved
 loop-statement-preserved c =
     let all = c.args.statements.now in
     let i = c.loop-statement.statement-index in
-    let setting = c.args.setting.now in
+    let context = c.args.context.now in
     let s = c.statement-item.result in
     let earlier = c.loop-statement.earlier in
     let outputs = c.loop-statement.outputs in
     let left = drop-cons all i s (omega arith) ∙ ap (λ v. v ∷ drop (suc i) all) (sym c.statement-item.is) in
-    let so_far = c.loop-statement.invariant.meaning ∙ ap (outputs_behind setting earlier outputs) left in
+    let so_far = c.loop-statement.invariant.meaning ∙ ap (outputs_behind context earlier outputs) left in
     elim c.if-is_output.branch [
       | then-is_output+in_ok-output+in_ok-from_slice+in_ok-push+in_ok-push-2 w ↦
           let one = rw (take_rest w.lexemes-lexemes.result.now 3, w.lexemes-lexemes.ensures, w.as_slice.ensures) at w.in_ok-output.ensures.ok in
           let first = rw w.lexemes-lexemes.ensures at w.index-lexemes-0.is in
           let third = rw w.lexemes-lexemes.ensures at w.index-lexemes-3.is in
-          let more = read setting earlier outputs (drop (suc i) all) s w.index-lexemes-0.result w.index-lexemes-3.result w.in_ok-output.output w.if-is_output.ensures first third one in
+          let more = read context earlier outputs (drop (suc i) all) s w.index-lexemes-0.result w.index-lexemes-3.result w.in_ok-output.output w.if-is_output.ensures first third one in
           let names : c.if-is_output.earlier ≡ earlier ++ w.in_ok-output.output.name ∷ [] = w.earlier-is ∙ w.in_ok-push.ensures.ok ∙ ap (λ n. earlier ++ n ∷ []) (w.in_ok-from_slice.ensures ∙ w.as_slice-then-is_output.ensures) in
           let files : c.if-is_output.outputs ≡ outputs ++ w.in_ok-output.output ∷ [] = w.outputs-is ∙ w.in_ok-push-2.ensures.ok in
           record {
@@ -50,14 +50,14 @@ loop-statement-preserved c =
           }
       | else-is_output w ↦
           record {
-            meaning = rw (add-one, w.earlier-is, w.outputs-is) (so_far ∙ passed setting earlier outputs (drop (suc i) all) s w.if-is_output.ensures);
+            meaning = rw (add-one, w.earlier-is, w.outputs-is) (so_far ∙ passed context earlier outputs (drop (suc i) all) s w.if-is_output.ensures);
             names = rw (w.earlier-is, w.outputs-is) c.loop-statement.invariant.names;
           }
     ]
 
 pub returns-clause-within : goal.returns-clause-within
 returns-clause-within c =
-    let setting = c.args.setting.now in
+    let context = c.args.context.now in
     let none_left : drop c.loop-statement.statement-index c.args.statements.now ≡ [] = drop_all c.loop-statement.statement-index c.args.statements.now c.loop-statement-test.false in
     let whole = rw none_left at c.loop-statement.invariant.meaning in
-    all_within setting c.args.earlier.now c.args.statements.now c.loop-statement.outputs whole
+    all_within context c.args.earlier.now c.args.statements.now c.loop-statement.outputs whole

@@ -6,7 +6,7 @@ use Rattle.fx_outputs.specs.Validity.{IsWithinLimits}
 use Rattle.fx_statements.specs.Contexts.{context}
 use Rattle.fx_statements.specs.Goals.{goal_of}
 use Rattle.fx_statements.specs.Valid.{CanBeWanted}
-use Rattle.fx_statements.specs.Steps.{asked_by, factors_by, head_of, most_factors}
+use Rattle.fx_statements.specs.Steps.{asked_by, factors_by, head_of, factor_limit}
 use Rattle.fx_statements.proofs.Bounds.{counted, same_settings, unsaid}
 use Rattle.fx_statements.proofs.StepByStep.{step_is}
 use Rattle.fx_statements.proofs.stepping.step_by.Goals as goal
@@ -22,13 +22,13 @@ invariant_of-result c =
       named =
           counted statements (length c.in_ok-factors.factors) _
           (λ none. c.in_ok-settings.ensures.unblocked (unsaid c.head_of-proc.result.now c.args.named.now statements c.step_said-said.result c.step_said-said.ensures none))
-          bounds.0 (omega (arith, bounds.1, c.most_factors.ensures.value));
+          bounds.0 (omega (arith, bounds.1, c.factor_limit.ensures.value));
       distinct = c.in_ok-factors.ensures.distinct;
       valid = subst (λ x. are_valid x ≡ true) (sym same) c.in_ok-settings.ensures.valid;
       told = subst (λ s. CanBeWanted settings.q s wanted) (ap length c.as_slice.ensures) c.in_ok-settings.ensures.told;
       within =
-          subst (λ setting. All (IsWithinLimits setting) c.in_ok-outputs.outputs)
-          (c.setting_of-setting.ensures ∙ ap (λ factors. context factors settings) c.as_slice-2.ensures ∙ ap (context c.in_ok-factors.factors) (sym same))
+          subst (λ x. All (IsWithinLimits x) c.in_ok-outputs.outputs)
+          (c.context_of-context.ensures ∙ ap (λ factors. context factors settings) c.as_slice-2.ensures ∙ ap (context c.in_ok-factors.factors) (sym same))
           c.in_ok-outputs.ensures.within;
     }
 
@@ -39,12 +39,12 @@ returns-clause-step c =
     let factors = c.in_ok-factors.factors in
     let settings = c.in_ok-settings.settings in
     let wanted = c.in_ok-settings.wanted in
-    let is_named : factors_by (start_of (head_of statements)) (most_factors statements) named ≡ Ok factors =
-    ap₂ (λ place most. factors_by place most named) (sym (c.start_of.ensures ∙ ap start_of c.head_of-proc.ensures)) (sym c.most_factors.ensures.value) ∙ c.in_ok-factors.ensures.factors in
+    let is_named : factors_by (start_of (head_of statements)) (factor_limit statements) named ≡ Ok factors =
+    ap₂ (λ place most. factors_by place most named) (sym (c.start_of.ensures ∙ ap start_of c.head_of-proc.ensures)) (sym c.factor_limit.ensures.value) ∙ c.in_ok-factors.ensures.factors in
     let is_asked : asked_by factors (step_said (head_of statements) named statements) statements ≡ Ok (settings, goal_of wanted) =
     ap₂ (λ names said. asked_by names said statements) (sym c.as_slice.ensures) (sym (c.step_said-said.ensures ∙ ap (λ p. step_said p named statements) c.head_of-proc.ensures))
     ∙ c.in_ok-settings.ensures.asked in
     let are_outputs : outputs_of (context factors settings) c.args.earlier.now statements ≡ Ok c.in_ok-outputs.outputs =
-    ap (λ setting. outputs_of setting c.args.earlier.now statements) (sym (c.setting_of-setting.ensures ∙ ap (λ names. context names settings) c.as_slice-2.ensures))
+    ap (λ x. outputs_of x c.args.earlier.now statements) (sym (c.context_of-context.ensures ∙ ap (λ names. context names settings) c.as_slice-2.ensures))
     ∙ c.in_ok-outputs.ensures.ok in
     step_is c.args.earlier.now statements named factors settings wanted c.in_ok-outputs.outputs is_named is_asked are_outputs c.examine_of.result c.examine_of.ensures c.in_ok-settings.ensures.kind

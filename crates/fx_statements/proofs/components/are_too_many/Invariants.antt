@@ -1,6 +1,6 @@
 use Rattle.std.proofs.Common.{◌≡◌, ◌+◌, ◌≤◌}
-use Rattle.fx_statements.specs.Listings.{component_count, listed_count}
-use Rattle.fx_statements.proofs.listing.are_too_many.Given as goal
+use Rattle.fx_statements.specs.Components.{component_count, listed_count}
+use Rattle.fx_statements.proofs.components.are_too_many.Given as goal
 
 abbrev pub invariant-loop-k : goal.invariant-loop-k
 invariant-loop-k l = record {

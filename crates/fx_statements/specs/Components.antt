@@ -32,28 +32,28 @@ listed_factors Highest = 2
 listed_factors (ForEffects estimate nonnegligible) = max 2 (max (most_factors estimate) (most_factors nonnegligible))
 
 -- the word asks for a listing of components
-abbrev pub is_listing : Written → Bool
-is_listing w = is Aliasing w.symbol || is Blocked w.symbol
+abbrev pub is_for_components : Written → Bool
+is_for_components w = is Aliasing w.symbol || is Blocked w.symbol
 
 -- the place of the first such word among some
-abbrev pub first_listing : List Written → Option Place
-first_listing [] = None
-first_listing (w ∷ rest) = if is_listing w then Some (place_at w) else first_listing rest
+abbrev pub first_components : List Written → Option Place
+first_components [] = None
+first_components (w ∷ rest) = if is_for_components w then Some (place_at w) else first_components rest
 
 -- and of an EXAMINE statement
-abbrev pub listing_asked : List Written → Option Place
-listing_asked s = if begins Examine s then first_listing s else None
+abbrev pub components_asked : List Written → Option Place
+components_asked s = if begins Examine s then first_components s else None
 
 abbrev pub place_or : Option Place → Option Place → Option Place
 place_or (Some place) other = Some place
 place_or None other = other
 
 -- and of a step
-abbrev pub listing_place : List (List Written) → Option Place
-listing_place [] = None
-listing_place (s ∷ statements) = place_or (listing_asked s) (listing_place statements)
+abbrev pub components_place : List (List Written) → Option Place
+components_place [] = None
+components_place (s ∷ statements) = place_or (components_asked s) (components_place statements)
 
 -- at most 100,000 components may be listed in a step of s factors, or E23 at the word that asks for them
-abbrev pub listing_allowed : ℕ → ℕ → Goal → Option Place → Result (Unit {0}) Refusal
-listing_allowed q s goal None = Ok tt
-listing_allowed q s goal (Some place) = if nat_lt 100000 (listed_count q s (min s (listed_factors goal))) then Err (refused_at 23 place) else Ok tt
+abbrev pub components_allowed : ℕ → ℕ → Goal → Option Place → Result (Unit {0}) Refusal
+components_allowed q s goal None = Ok tt
+components_allowed q s goal (Some place) = if nat_lt 100000 (listed_count q s (min s (listed_factors goal))) then Err (refused_at 23 place) else Ok tt

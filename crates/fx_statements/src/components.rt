@@ -1,7 +1,7 @@
 ghost use Rattle.std.specs.Prelude.{◌≡◌, ◌≤◌, true, min, nat_lt};
 ghost use Rattle.fx_settings.specs.Settings.{is_level};
 ghost use Rattle.fx_statements.specs.Goals.{goal_of};
-ghost use Rattle.fx_statements.specs.Listings.{first_listing, is_listing, listed_count, listed_factors, listing_allowed, listing_asked, listing_place};
+ghost use Rattle.fx_statements.specs.Components.{components_allowed, components_asked, components_place, first_components, is_for_components, listed_count, listed_factors};
 
 use crate::wanted::Wanted;
 use fx_language::Symbol;
@@ -17,7 +17,7 @@ const MOST_COMPONENTS: u64 = 100_000;
 /// # Errors
 ///
 /// E23, at the first word ALIASING or BLOCKED: one does.
-pub(crate) fn listing_allowed(
+pub(crate) fn components_allowed(
     q: u8,
     s: u8,
     wanted: &Wanted,
@@ -25,9 +25,10 @@ pub(crate) fn listing_allowed(
 ) -> Result<(), Refusal>
     requires level { is_level q ≡ true }
     requires few { s ≤ 40 }
-    ensures { result ≡ listing_allowed q s (goal_of wanted.now) (listing_place statements.now) }
+    ensures { result
+        ≡ components_allowed q s (goal_of wanted.now) (components_place statements.now) }
 {
-    match listing_place(statements) {
+    match components_place(statements) {
         None => Ok(()),
         Some(place) => {
             if are_too_many(q, s, s.min(listed_factors(wanted))) {
@@ -39,12 +40,13 @@ pub(crate) fn listing_allowed(
     }
 }
 
-/// The place of the first word of a step, ALIASING or BLOCKED, that asks for a listing of components.
-fn listing_place(statements: &[Statement<'_>]) -> Option<Place>
-    ensures { result ≡ listing_place statements.now }
+/// The place of the first word of a step, ALIASING or BLOCKED, that asks for a listing of
+/// components.
+fn components_place(statements: &[Statement<'_>]) -> Option<Place>
+    ensures { result ≡ components_place statements.now }
 {
     for statement in statements {
-        let place = listing_asked(statement);
+        let place = components_asked(statement);
         if place.is_some() {
             return place;
         }
@@ -53,29 +55,29 @@ fn listing_place(statements: &[Statement<'_>]) -> Option<Place>
 }
 
 /// The place of the first such word of a statement, where it is an EXAMINE statement.
-fn listing_asked(statement: &Statement<'_>) -> Option<Place>
-    ensures { result ≡ listing_asked statement.now }
+fn components_asked(statement: &Statement<'_>) -> Option<Place>
+    ensures { result ≡ components_asked statement.now }
 {
     if statement.begins(Symbol::Examine) {
-        first_listing(statement.lexemes())
+        first_components(statement.lexemes())
     } else {
         None
     }
 }
 
-fn first_listing(lexemes: &[Lexeme<'_>]) -> Option<Place>
-    ensures { result ≡ first_listing lexemes.now }
+fn first_components(lexemes: &[Lexeme<'_>]) -> Option<Place>
+    ensures { result ≡ first_components lexemes.now }
 {
     for w in lexemes {
-        if is_listing(w) {
+        if is_for_components(w) {
             return Some(w.place());
         }
     }
     None
 }
 
-fn is_listing(w: &Lexeme<'_>) -> bool
-    ensures { result ≡ is_listing w.now }
+fn is_for_components(w: &Lexeme<'_>) -> bool
+    ensures { result ≡ is_for_components w.now }
 {
     w.is(Symbol::Aliasing) || w.is(Symbol::Blocked)
 }
@@ -95,8 +97,8 @@ fn listed_factors(wanted: &Wanted) -> u8
     }
 }
 
-/// Whether more than 100,000 components have 1 to `d` of the `s` factors: normal vectors, whose last
-/// nonzero code is 1.
+/// Whether more than 100,000 components have 1 to `d` of the `s` factors: normal vectors, whose
+/// last nonzero code is 1.
 fn are_too_many(q: u8, s: u8, d: u8) -> bool
     requires level { is_level q ≡ true }
     requires few { s ≤ 40 }
