@@ -7,7 +7,6 @@ use Rattle.std.proofs.lemmas.Bool.{leb-true, cases_Bool, and_parts}
 use Rattle.fx_designs.specs.Galois.{is_order}
 use Rattle.fx_designs.specs.Problems.{Problem, Requirement}
 use Rattle.fx_designs.specs.Problems as problems
-use Rattle.fx_reduction.specs.Reduction.{IsReducible}
 use Rattle.fx_vectors.specs.declared.question.Demands.{Demands}
 use Rattle.fx_vectors.specs.Question.{CanBeAsked, IsValid}
 use Rattle.fx_vectors.specs.Question as questions
@@ -21,7 +20,7 @@ use Rattle.fx_statements.specs.declared.wanted.Wanted.{Wanted}
 use Rattle.fx_statements.specs.declared.wanted.Wanted.TheVariants as wanted
 use Rattle.fx_statements.specs.Goals.{goal_of, criterion_of}
 use Rattle.fx_statements.specs.Valid.{CanBeWanted}
-use Rattle.fx_statements.specs.Steps.{Meaning, meaning_of}
+use Rattle.fx_statements.specs.Steps.{Meaning}
 use Rattle.fx_program.specs.Problems.{in_runs, is_plain, problem_by, problem_of, requirement_of}
 
 -- no least aberration, some factors, and the requirement of the step's goal
@@ -83,10 +82,6 @@ module _ (q m s : ℕ) where
   can_be_asked (wanted.Effects estimate others) asked e valid told =
       subst (CanBeAsked (record { q = q; m = m; s = s; t = 0 })) (same_some (problems.ForEffects (numbers_of estimate) (numbers_of others)) asked e) (told estimate others refl)
 
-reducible : (d : problems.Dimensions) (asked : Requirement) → CanBeAsked d asked → IsReducible asked
-reducible d (problems.AtResolution r) h = h.0
-reducible d (problems.ForEffects estimate besides) h = tt
-
 module _ (step : Step) where
   level : is_level step.q ≡ true
   level = (and_parts _ _ (and_parts _ _ (and_parts _ _ (and_parts _ _ (and_parts _ _ step.valid).0).0).0).0).0
@@ -101,19 +96,11 @@ module _ (step : Step) where
   most true h = let few = leb-true (length step.factors) 30 h in omega arith
   most false h = leb-true (length step.factors) 40 h
 
-  pub some_factors : 1 ≤ length step.factors
+  some_factors : 1 ≤ length step.factors
   some_factors = leb-true 1 (length step.factors) (and_parts _ _ step.named).0
 
   few_factors : length step.factors ≤ 40
   few_factors = most (has_blocks step.blocks) (and_parts _ _ step.named).1
-
-  -- the levels are those of a field, and the requirement can be brought to canonical form
-  pub step_reducible : (p : Problem) → problem_of (meaning_of step) ≡ Some p → IsTrue (is_order p.dimensions.q) × IsReducible p.requirement
-  step_reducible p e =
-      let built = is_built (meaning_of step) p e in (
-        subst (λ q. IsTrue (is_order q)) (sym built.levels) (order_of_levels step.q level),
-        reducible (record { q = step.q; m = 0; s = length step.factors; t = 0 }) p.requirement (can_be_asked step.q 0 (length step.factors) step.wanted p.requirement built.asked criterion step.told),
-      )
 
   -- the question that the step asks is valid
   pub valid_question : (m s : ℕ) (demands : Demands) → step.size ≡ Runs m → s ≡ length step.factors → requirement_of (goal_of step.wanted) ≡ Some (questions.requirement_of demands)

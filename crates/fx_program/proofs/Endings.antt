@@ -1,7 +1,7 @@
 -- How a command ends: all was done, or it stopped.
 use Rattle.std.proofs.Common.{ℕ, ◌≡◌, ◌≤◌, List, Result, refl, sym, subst, arith}
 use Rattle.fx_base.specs.Acts.{Piece, acts, acts_of, World, Did, DidPart}
-use Rattle.fx_base.proofs.Doing.{did_one, part_one, part_whole, part_none}
+use Rattle.fx_base.proofs.Doing.{did_one, part_one, part_whole}
 use Rattle.fx_program.specs.Words.{settings_of}
 use Rattle.fx_program.specs.declared.words.Settings.{Settings}
 use Rattle.fx_program.specs.declared.words.WordFault.{WordFault}
@@ -13,10 +13,6 @@ ends_whole output status e p = record { same = λ low. e; whole = λ low. p; par
 
 pub ends_stopped : {a b : World} (output : Output) (status : ℕ) → 4 ≤ status → DidPart a b (acts output.events) → Ends output a b status
 ends_stopped output status high p = record { same = λ low. absurd (omega arith); whole = λ low. absurd (omega arith); part = p }
-
--- nothing was done
-pub ends_none : {a : World} (output : Output) (status : ℕ) → 4 ≤ status → Ends output a a status
-ends_none {a} output status high = ends_stopped output status high (part_none a (acts output.events))
 
 -- one piece was written, or a front part of it
 pub ends_said : {a b : World} (bytes : List ℕ) (status : ℕ) → Did a b (acts_of (Piece bytes)) → Ends (message bytes status) a b status

@@ -6,3 +6,4 @@ mod SoFar
 mod Given
 mod Built
 mod None
+mod AnyText

@@ -1,8 +1,6 @@
 -- What status 1 says of a step: no rule matrix at all meets what it asks.
-use Rattle.std.proofs.Common.{ℕ, ◌≡◌, ◌≤◌, List, [], ◌∷◌, map, Option, Some, None, Ok, length, refl, sym, ap, ◌∙◌, arith, inl, inr, IsTrue}
-use Rattle.std.specs.List.{AllByRecursion}
+use Rattle.std.proofs.Common.{ℕ, ◌≡◌, ◌≤◌, List, Option, Some, None, length, refl, sym, ap, ◌∙◌, arith, inl, inr, IsTrue}
 use Rattle.std.proofs.lemmas.Bool.{cases_lt}
-use Rattle.std.proofs.lemmas.List.Elements.{All-from_recursion}
 use Rattle.fx_designs.specs.Galois.{is_order}
 use Rattle.fx_designs.specs.Problems.{Problem}
 use Rattle.fx_designs.specs.Answers.{answer}
@@ -11,13 +9,11 @@ use Rattle.fx_laws.proofs.Tables.{is_order-field}
 use Rattle.fx_reduction.specs.Reduction.{IsReducible, NoneMeets}
 use Rattle.fx_reduction.proofs.NoDesign.{none-exactly}
 use Rattle.fx_reduction.proofs.LeastPattern.{no_answer}
-use Rattle.fx_statements.specs.declared.step.Step.{Step}
-use Rattle.fx_statements.specs.Steps.{Meaning, meaning_of}
+use Rattle.fx_statements.specs.Steps.{Meaning}
 use Rattle.fx_program.specs.Problems.{problem_of}
 use Rattle.fx_program.specs.Outcomes.{finished, status_of}
 use Rattle.fx_program.specs.Output.{Output, given_by, step_output}
-use Rattle.fx_program.specs.Claims.{HasNoneAtAll, NoDesignMeansNone}
-use Rattle.fx_program.proofs.Built.{is_built, step_reducible}
+use Rattle.fx_program.proofs.Built.{is_built}
 use Rattle.fx_program.proofs.Given.{within, passed}
 
 none_at_one : (found : Option (List ℕ)) (count : ℕ) → status_of (finished found count) ≡ 1 → found ≡ None
@@ -44,16 +40,3 @@ module _ (number : ℕ) (step : Meaning) (p : Problem) (is : problem_of step ≡
   none_comes few none =
       let found = (no_answer p (is_built step p is).some).1 ((none-exactly p (is_order-field p.dimensions.q order) reducible).1 none) in
       status ∙ ap status_of (within p budget few ∙ ap (λ a. finished a (length (nodes p))) found)
-
--- each step that is read from a text states a problem whose matrices can be brought to canonical form
-steps_of : (steps : List Step) → AllByRecursion HasNoneAtAll (map meaning_of steps)
-steps_of [] = tt
-steps_of (step ∷ steps) = (
-  λ number p is one.
-      let h = step_reducible step p is in
-      none_told number (meaning_of step) p is h.0 h.1 one,
-  steps_of steps,
-)
-
-pub none_of_steps : (steps : List Step) → NoDesignMeansNone (Ok (map meaning_of steps))
-none_of_steps steps = All-from_recursion HasNoneAtAll (map meaning_of steps) (steps_of steps)

@@ -1,11 +1,11 @@
 -- The line that tells where a text is refused, and why.
-use Rattle.std.specs.Prelude.{ℕ, ◌==◌, nat_lt, List, [], ◌∷◌, ◌++◌, if◌then◌else◌, codes, decimal}
+use Rattle.std.specs.Prelude.{ℕ, ◌==◌, List, [], ◌∷◌, ◌++◌, if◌then◌else◌, codes, decimal}
 use Rattle.fx_program.specs.declared.text.TextFault.{TextFault}
 use Rattle.fx_program.specs.declared.text.TextFault.TheVariants.{Lexical, Refused}
 
--- what the rules say, by their numbers: below 12, from 12 to 23, and from 24 on
-abbrev pub first_reasons : List (ℕ × List ℕ)
-first_reasons =
+-- what the rules on grammar and meaning say, by their numbers
+abbrev pub reasons : List (ℕ × List ℕ)
+reasons =
     (0, codes "not built yet") ∷
     (1, codes "statement is not known") ∷
     (2, codes "unexpected word or end") ∷
@@ -17,10 +17,7 @@ first_reasons =
     (8, codes "size is not a power of the number of levels") ∷
     (9, codes "more than 1024 runs") ∷
     (10, codes "too many factors") ∷
-    (11, codes "resolution is not from 3 to 99") ∷ []
-
-abbrev pub middle_reasons : List (ℕ × List ℕ)
-middle_reasons =
+    (11, codes "resolution is not from 3 to 99") ∷
     (12, codes "MINABS with ESTIMATE") ∷
     (13, codes "MINABS or RESOLUTION=MAX with BLOCKS") ∷
     (14, codes "minimum size with a maximum or MINABS") ∷
@@ -32,10 +29,7 @@ middle_reasons =
     (20, codes "replication is not from 1 to 200000") ∷
     (21, codes "more than 200000 rows") ∷
     (22, codes "more than 2000000 demands") ∷
-    (23, codes "more than 100000 effects") ∷ []
-
-abbrev pub last_reasons : List (ℕ × List ℕ)
-last_reasons =
+    (23, codes "more than 100000 effects") ∷
     (24, codes "not kept in this profile") ∷
     (25, codes "text is over 1048576 bytes") ∷
     (26, codes "statement is repeated in the step") ∷
@@ -60,10 +54,9 @@ abbrev pub listed_at : List (ℕ × List ℕ) → ℕ → List ℕ
 listed_at [] code = []
 listed_at (row ∷ table) code = if row.0 == code then row.1 else listed_at table code
 
+-- what the rule of this number says
 abbrev pub reason_of : ℕ → List ℕ
-reason_of code =
-    if nat_lt code 12 then listed_at first_reasons code
-    else (if nat_lt code 24 then listed_at middle_reasons code else listed_at last_reasons code)
+reason_of code = listed_at reasons code
 
 -- `factex: `, the rule by its letter and number, the place, and what the rule says
 abbrev pub line_at : List ℕ → ℕ → ℕ → ℕ → List ℕ → List ℕ

@@ -7,23 +7,30 @@ ghost use Rattle.fx_designs.specs.Nodes.{nodes};
 ghost use Rattle.fx_laws.specs.First.{IsFirstDesign};
 ghost use Rattle.fx_statements.specs.Steps.{Meaning};
 ghost use Rattle.fx_program.specs.Problems.{problem_of};
+ghost use Rattle.fx_program.specs.Texts.{program_in};
 ghost use Rattle.fx_program.specs.Outcomes.{Design, NoDesign};
 ghost use Rattle.fx_program.specs.Listing.{step_lines};
 ghost use Rattle.fx_program.specs.Output.{message, step_output};
+ghost use Rattle.fx_program.specs.Claims.{NoDesignMeansNone};
 
 /// What is given for a step of a form that is built, where the nodes of its problem are within its
 /// budget: status 0 and the lines of the first design of the canonical list that meets its demands,
 /// or status 1 and the lines that say that there is no design, where no matrix of the list meets
 /// them.
 pub fn first_design_is_given()
-    ensures design { (number : ℕ) (step : Meaning) (p : Problem) (rows : List ℕ) → problem_of step ≡ Some p
+    ensures design { (number : ℕ) (step : Meaning) (p : Problem) (rows : List ℕ)
+        → problem_of step ≡ Some p
         → length (nodes p) ≤ step.settings.budget
         → IsFirstDesign p rows
-        → step_output number step ≡ message (step_lines number p.dimensions.q p.dimensions.m step.factors (Design rows (length (nodes p)))) 0 }
+        → step_output number step
+        ≡ message (step_lines number p.dimensions.q p.dimensions.m step.factors
+        (Design rows (length (nodes p)))) 0 }
     ensures none { (number : ℕ) (step : Meaning) (p : Problem) → problem_of step ≡ Some p
         → length (nodes p) ≤ step.settings.budget
         → ((rows : List ℕ) → is_design p rows ≡ false)
-        → step_output number step ≡ message (step_lines number p.dimensions.q p.dimensions.m step.factors (NoDesign (length (nodes p)))) 1 }
+        → step_output number step
+        ≡ message (step_lines number p.dimensions.q p.dimensions.m step.factors
+        (NoDesign (length (nodes p)))) 1 }
 {}
 
 /// Status 2 comes of a step of a form that is built exactly where the nodes of its problem are more
@@ -49,4 +56,10 @@ pub fn no_design_means_none_at_all()
         → length (nodes p) ≤ step.settings.budget
         → NoneMeets p.dimensions p.requirement
         → (step_output number step).status ≡ 1 }
+{}
+
+/// Whatever a text says: where a step of its program is told to have no design, the runs of no rule
+/// matrix at all meet what it asks.
+pub fn no_design_in_any_text()
+    ensures { (text : List ℕ) → NoDesignMeansNone (program_in text) }
 {}

@@ -23,7 +23,9 @@ pub fn put_step(
 ) -> Result<(), NoMemory>
     requires size { shape.q ^ shape.m ≤ 1024 }
     requires same { IsListable shape (length names.now) asked.now }
-    ensures { OnOk result (out.new ≡ out.old ++ step_lines number shape.q shape.m names.now (outcome_in budget asked.now)) }
+    ensures { OnOk result
+        (out.new
+        ≡ out.old ++ step_lines number shape.q shape.m names.now (outcome_in budget asked.now)) }
 {
     put_heading(out, number, names.len(), shape.q)?;
     let runs = u128::from(shape.q).pow(u32::from(shape.m));
@@ -49,7 +51,8 @@ fn put_heading(out: &mut Bytes, number: usize, s: usize, q: u8) -> Result<(), No
 
 /// Appends that the budget ended.
 fn put_budget(out: &mut Bytes, budget: u64) -> Result<(), NoMemory>
-    ensures { (q m : ℕ) (names : List (List ℕ)) → OnOk result (out.new ≡ out.old ++ outcome_lines q m names (BudgetEnded budget)) }
+    ensures { (q m : ℕ) (names : List (List ℕ))
+        → OnOk result (out.new ≡ out.old ++ outcome_lines q m names (BudgetEnded budget)) }
 {
     put(out, b"budget ended after ")?;
     put_number(out, u128::from(budget))?;
@@ -58,7 +61,9 @@ fn put_budget(out: &mut Bytes, budget: u64) -> Result<(), NoMemory>
 
 /// Appends that there is no design in so many runs.
 fn put_none(out: &mut Bytes, runs: u128, nodes: u64) -> Result<(), NoMemory>
-    ensures { (q m : ℕ) (names : List (List ℕ)) → runs ≡ q ^ m → OnOk result (out.new ≡ out.old ++ outcome_lines q m names (NoDesign nodes)) }
+    ensures { (q m : ℕ) (names : List (List ℕ))
+        → runs ≡ q ^ m
+        → OnOk result (out.new ≡ out.old ++ outcome_lines q m names (NoDesign nodes)) }
 {
     put(out, b"no design in ")?;
     put_number(out, runs)?;
@@ -86,7 +91,10 @@ fn put_design(
 ) -> Result<(), NoMemory>
     requires same { length matrix.now.rows ≡ length names.now }
     requires runs { runs ≡ matrix.now.shape.q ^ matrix.now.shape.m }
-    ensures { OnOk result (out.new ≡ out.old ++ outcome_lines matrix.now.shape.q matrix.now.shape.m names.now (Design matrix.now.rows nodes)) }
+    ensures { OnOk result
+        (out.new
+        ≡ out.old ++ outcome_lines matrix.now.shape.q matrix.now.shape.m names.now
+        (Design matrix.now.rows nodes)) }
 {
     put(out, b"design ")?;
     put_number(out, runs)?;
@@ -99,7 +107,9 @@ fn put_design(
 /// Appends the rules of a design, or that there are none.
 fn put_rules(alloc: Global, out: &mut Bytes, names: &Names, matrix: &Matrix) -> Result<(), NoMemory>
     requires { length matrix.now.rows ≡ length names.now }
-    ensures { OnOk result (out.new ≡ out.old ++ rules matrix.now.shape.q matrix.now.shape.m names.now matrix.now.rows) }
+    ensures { OnOk result
+        (out.new
+        ≡ out.old ++ rules matrix.now.shape.q matrix.now.shape.m names.now matrix.now.rows) }
 {
     let before = out.len();
     put_rule_lines(alloc, out, names, matrix)?;
@@ -117,7 +127,9 @@ fn put_rule_lines(
     matrix: &Matrix,
 ) -> Result<(), NoMemory>
     requires { length matrix.now.rows ≡ length names.now }
-    ensures { OnOk result (out.new ≡ out.old ++ rule_lines matrix.now.shape.q matrix.now.shape.m [] names.now matrix.now.rows) }
+    ensures { OnOk result
+        (out.new
+        ≡ out.old ++ rule_lines matrix.now.shape.q matrix.now.shape.m [] names.now matrix.now.rows) }
 {
     let shape = matrix.shape();
     let mut introduced: Vec<&Bytes> = Vec::new(alloc);
@@ -155,7 +167,10 @@ fn put_rule(
     requires shaped { IsShape shape }
     requires below { row < shape.q ^ shape.m }
     requires few { length introduced.now ≤ shape.m }
-    ensures { OnOk result (out.new ≡ out.old ++ rule_of (map (λ n. n.now) introduced.now) name.now (digits shape.q shape.m row)) }
+    ensures { OnOk result
+        (out.new
+        ≡ out.old ++ rule_of (map (λ n. n.now) introduced.now) name.now
+        (digits shape.q shape.m row)) }
 {
     let row = Vector::of_number(shape.field(), usize::from(shape.m), u128::from(row));
     put(out, b"  ")?;
@@ -180,9 +195,12 @@ fn put_product(out: &mut Bytes, names: &[&Bytes], u: &Vector) -> Result<(), NoMe
     Ok(())
 }
 
-/// Appends an entry of a product, where it is not 0, and answers whether the next term is the first.
+/// Appends an entry of a product, where it is not 0, and answers whether the next term is the
+/// first.
 fn put_entry(out: &mut Bytes, name: &Bytes, c: u8, is_first: bool) -> Result<bool, NoMemory>
-    ensures { IfOk result (λ next. (ts : List (List ℕ)) → out.new ++ ending next ts ≡ out.old ++ ending is_first (if c == 0 then ts else term name.now c ∷ ts)) }
+    ensures { IfOk result (λ next. (ts : List (List ℕ))
+        → out.new ++ ending next ts
+        ≡ out.old ++ ending is_first (if c == 0 then ts else term name.now c ∷ ts)) }
 {
     if c == 0 {
         return Ok(is_first);

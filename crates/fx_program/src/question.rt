@@ -1,4 +1,4 @@
-ghost use Rattle.std.specs.Prelude.{◌≡◌, true, false, IfOk, Some, None, length};
+ghost use Rattle.std.specs.Prelude.{◌≡◌, true, false, IfOk, Some, length};
 ghost use Rattle.std.specs.Option.{is_some};
 ghost use Rattle.fx_vectors.specs.Question.{IsValid, problem_of as question_problem, requirement_of as demanded};
 ghost use Rattle.fx_statements.specs.Goals.{goal_of};
@@ -14,7 +14,8 @@ use std::alloc::Global;
 /// The question that a step of a form that is built asks.
 pub(crate) fn question_of(alloc: Global, step: &Step) -> Result<Question, NoMemory>
     requires { is_built (meaning_of step.now) ≡ true }
-    ensures problem { IfOk result (λ question. problem_of (meaning_of step.now) ≡ Some (question_problem question)) }
+    ensures problem { IfOk result (λ question.
+        problem_of (meaning_of step.now) ≡ Some (question_problem question)) }
     ensures valid { IfOk result IsValid }
     ensures not_least { IfOk result (λ question. question.least ≡ false) }
     ensures factors { IfOk result (λ question. question.shape.s ≡ length step.now.factors) }
@@ -42,7 +43,8 @@ pub(crate) fn question_of(alloc: Global, step: &Step) -> Result<Question, NoMemo
 /// What is demanded of one design.
 fn demands_of(alloc: Global, wanted: &Wanted) -> Result<Demands, NoMemory>
     requires { is_some (requirement_of (goal_of wanted.now)) ≡ true }
-    ensures { IfOk result (λ demands. requirement_of (goal_of wanted.now) ≡ Some (demanded demands)) }
+    ensures { IfOk result (λ demands.
+        requirement_of (goal_of wanted.now) ≡ Some (demanded demands)) }
 {
     match wanted {
         Wanted::Resolution { r } => Ok(Demands::Resolution { r: *r }),

@@ -1,6 +1,6 @@
-ghost use Rattle.std.specs.Prelude.{◌≡◌, ◌++◌, ℕ, List, map, codes, OnOk};
+ghost use Rattle.std.specs.Prelude.{◌≡◌, ◌++◌, map, OnOk};
 ghost use Rattle.fx_program.specs.Reasons.{row_of};
-ghost use Rattle.fx_program.specs.Refusals.{fault_line, first_reasons, last_reasons, lexical_reasons, line_at, listed_at, middle_reasons, reason_of};
+ghost use Rattle.fx_program.specs.Refusals.{fault_line, lexical_reasons, line_at, listed_at, reason_of, reasons};
 
 use crate::text::TextFault;
 use fx_base::{Bytes, NoMemory, put, put_number};
@@ -8,7 +8,9 @@ use fx_base::{Bytes, NoMemory, put, put_number};
 /// A row of a table of reasons: the number of a rule, and what it says.
 #[derive(Clone, Copy, Debug)]
 pub struct Reason {
+    /// The number of the rule.
     pub code: u8,
+    /// What it says, in one line without its end.
     pub text: &'static [u8],
 }
 
@@ -62,13 +64,7 @@ fn put_line(
 fn reason_of(code: u8) -> &'static [u8]
     ensures { result.now ≡ reason_of code }
 {
-    if code < 12 {
-        return listed_at(&first_reasons(), code);
-    }
-    if code < 24 {
-        return listed_at(&middle_reasons(), code);
-    }
-    listed_at(&last_reasons(), code)
+    listed_at(&reasons(), code)
 }
 
 /// What stands beside the number in a table, or nothing.
@@ -102,9 +98,9 @@ fn lexical_reasons() -> [Reason; 5]
     ]
 }
 
-/// What the rules with numbers below 12 say.
-fn first_reasons() -> [Reason; 12]
-    ensures { map row_of result ≡ first_reasons }
+/// What the rules on grammar and meaning say.
+fn reasons() -> [Reason; 33]
+    ensures { map row_of result ≡ reasons }
 {
     [
         row(0, b"not built yet"),
@@ -119,14 +115,6 @@ fn first_reasons() -> [Reason; 12]
         row(9, b"more than 1024 runs"),
         row(10, b"too many factors"),
         row(11, b"resolution is not from 3 to 99"),
-    ]
-}
-
-/// What those from 12 to 23 say.
-fn middle_reasons() -> [Reason; 12]
-    ensures { map row_of result ≡ middle_reasons }
-{
-    [
         row(12, b"MINABS with ESTIMATE"),
         row(13, b"MINABS or RESOLUTION=MAX with BLOCKS"),
         row(14, b"minimum size with a maximum or MINABS"),
@@ -139,14 +127,6 @@ fn middle_reasons() -> [Reason; 12]
         row(21, b"more than 200000 rows"),
         row(22, b"more than 2000000 demands"),
         row(23, b"more than 100000 effects"),
-    ]
-}
-
-/// What those from 24 on say.
-fn last_reasons() -> [Reason; 9]
-    ensures { map row_of result ≡ last_reasons }
-{
-    [
         row(24, b"not kept in this profile"),
         row(25, b"text is over 1048576 bytes"),
         row(26, b"statement is repeated in the step"),

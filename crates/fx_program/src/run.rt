@@ -1,9 +1,7 @@
-ghost use Rattle.std.specs.Prelude.{◌≡◌, ◌≢◌, ◌<◌, ◌≤◌, ◌^◌, ◌⊎◌, ◌++◌, [], ℕ, List, Option, Some, true, false, Result, Ok, Err, map, length, IfOk, IfSome};
+ghost use Rattle.std.specs.Prelude.{◌≡◌, ◌≢◌, ◌<◌, ◌≤◌, ◌^◌, ◌⊎◌, ◌++◌, [], ℕ, List, Option, Some, true, false, Result, Ok, Err, map, length, IfOk};
 ghost use Rattle.std.specs.List.{list_all};
-ghost use Rattle.std.specs.Option.{option_map};
 ghost use Rattle.fx_base.specs.Faults.{Rose};
 ghost use Rattle.fx_base.specs.Acts.{File};
-ghost use Rattle.fx_vectors.specs.Shape.{dimensions_of};
 ghost use Rattle.fx_statements.specs.Steps.{meaning_of};
 ghost use Rattle.fx_program.specs.Words.{settings_of};
 ghost use Rattle.fx_program.specs.Texts.{is_built, program_in};
@@ -29,9 +27,16 @@ const TEXT_LIMIT: usize = 1048576;
 /// Does all that the program does, for the words of the command line without the program's name,
 /// and answers its exit status.
 ///
-/// The greatest status of the steps: 0, a design, or no step; 1, no design; 2, the budget ended. Else
-/// 3, the words or the text are refused; 4, a call on the source, the listing or the shelf failed;
-/// 5, memory ran out.
+/// The shelf must not have a file that is begun and not ended.
+///
+/// The exit status:
+///
+/// - 0: each step has a design, or there is no step;
+/// - 1: some step has none, and no budget ended;
+/// - 2: the budget of some step ended;
+/// - 3: the words or the text are refused;
+/// - 4: a call on the source, the listing or the shelf failed;
+/// - 5: memory ran out.
 pub fn factex<S: Source, K: Sink, F: Shelf>(
     alloc: Global,
     words: &[Vec<u8>],
@@ -42,7 +47,8 @@ pub fn factex<S: Source, K: Sink, F: Shelf>(
     requires { F.begun shelf.old ≡ false }
     ensures known { result ≤ 5 }
 
-    // What is given is exactly the defined output, or, after a failed call or want of memory, a front part of it.
+    // What is given is exactly the defined output, or, after a failed call or want of memory, a
+    // front part of it.
     ensures ends { (text : List ℕ)
         → IsTextOf (map (λ w. w.items) words.now) (S.left source.old) text
         → Ends (output_of (map (λ w. w.items) words.now) text)
@@ -93,7 +99,8 @@ fn run<S: Source, K: Sink>(alloc: Global, source: &mut S, listing: &mut K) -> u8
         ⊎ Rose (K.faults listing.old) (K.faults listing.new) }
     ensures kept { result ≢ 4 → (S.faults source.new ≡ S.faults source.old)
         × (K.faults listing.new ≡ K.faults listing.old) }
-    ensures rooms { (S.sure source.new ≡ S.sure source.old) × (K.room listing.new ≡ K.room listing.old) }
+    ensures rooms { (S.sure source.new ≡ S.sure source.old)
+        × (K.room listing.new ≡ K.room listing.old) }
     ensures none_at_all { result < 4 → (text : List ℕ)
         → S.left source.old ≡ Some text
         → NoDesignMeansNone (program_in text) }
@@ -191,7 +198,9 @@ fn lines_of(
 ) -> Result<Bytes, NoMemory>
     requires size { shape.q ^ shape.m ≤ 1024 }
     requires same { IsListable shape (length step.now.factors) asked.now }
-    ensures { IfOk result (λ lines. lines ≡ step_lines number shape.q shape.m step.now.factors (outcome_in step.now.budget asked.now)) }
+    ensures { IfOk result (λ lines.
+        lines
+        ≡ step_lines number shape.q shape.m step.now.factors (outcome_in step.now.budget asked.now)) }
 {
     let mut lines = Bytes::new(alloc);
     put_step(

@@ -13,30 +13,46 @@ fn run_words(alloc: Global) -> Result<Vec<Vec<u8>>, Fail> {
     Ok(words)
 }
 
-/// What `factex` answers for a text, and what it lists; the call `source_fails` of the source and
-/// `listing_fails` of the listing fail, counted from 1.
+/// What a call of `factex` came to.
+#[derive(Drop)]
+struct Ended {
+    status: u8,
+    listed: Vec<u8>,
+    failed_reads: u64,
+    failed_writes: u64,
+}
+
+/// The numbers of all calls from this one on, counted from 1, or of none. No test makes as many
+/// calls as there are numbers.
+fn calls_from(alloc: Global, first: Option<usize>) -> Result<Bytes, Fail> {
+    let mut calls = Vec::new(alloc);
+    if let Some(first) = first {
+        for call in first..=255 {
+            calls.push(call as u8)?;
+        }
+    }
+    Ok(Bytes::from_vec(calls))
+}
+
+/// What `factex` comes to for a text, where each read and each write from these on fails.
 fn ran(
     alloc: Global,
     words: &[Vec<u8>],
     text: &[u8],
-    source_fails: u8,
-    listing_fails: u8,
-) -> Result<(u8, Vec<u8>), Fail> {
+    first_failed_read: Option<usize>,
+    first_failed_write: Option<usize>,
+) -> Result<Ended, Fail> {
     let content = Bytes::from_vec(text.to_vec(alloc)?);
-    let mut source = MemorySource::new(
-        content,
-        STEP,
-        Bytes::from_vec([source_fails].to_vec(alloc)?),
-    );
-    let mut listing = MemorySink::new(
-        alloc,
-        STEP,
-        1000,
-        Bytes::from_vec([listing_fails].to_vec(alloc)?),
-    )?;
+    let mut source = MemorySource::new(content, STEP, calls_from(alloc, first_failed_read)?);
+    let mut listing = MemorySink::new(alloc, STEP, 1000, calls_from(alloc, first_failed_write)?)?;
     let mut shelf = SureShelf::new(alloc, 1, 0)?;
     let status = factex(alloc, words, &mut source, &mut listing, &mut shelf);
-    Ok((status, listing.bytes().to_vec(alloc)?))
+    Ok(Ended {
+        status,
+        listed: listing.bytes().to_vec(alloc)?,
+        failed_reads: source.faults(),
+        failed_writes: listing.faults(),
+    })
 }
 
 const HALF: &str = "proc factex;\nfactors A B C D;\nsize design=8;\nmodel resolution=4;\nrun;\n";
@@ -128,9 +144,9 @@ fn programs_have_their_listing(rt: HostRuntime) -> Result<(), Fail> {
     let alloc = rt.alloc();
     let words = run_words(alloc)?;
     for (text, listing, status) in PROGRAMS {
-        let (ended, listed) = ran(alloc, words.as_slice(), text.as_bytes(), 0, 0)?;
-        assert_eq!(rt; ended, status, "{text}");
-        assert!(rt; listed.as_slice() == listing.as_bytes(), "{text}");
+        let ended = ran(alloc, words.as_slice(), text.as_bytes(), None, None)?;
+        assert_eq!(rt; ended.status, status, "{text}");
+        assert!(rt; ended.listed.as_slice() == listing.as_bytes(), "{text}");
     }
     Ok(())
 }
@@ -213,9 +229,12 @@ fn faults_of_a_text_are_told(rt: HostRuntime) -> Result<(), Fail> {
     let alloc = rt.alloc();
     let words = run_words(alloc)?;
     for (text, message) in REFUSED {
-        let (ended, listed) = ran(alloc, words.as_slice(), text.as_bytes(), 0, 0)?;
-        assert_eq!(rt; ended, 3, "{text}");
-        assert!(rt; is_message(listed.as_slice(), message.as_bytes()), "{text}");
+        let ended = ran(alloc, words.as_slice(), text.as_bytes(), None, None)?;
+        assert_eq!(rt; ended.status, 3, "{text}");
+        assert!(rt;
+            is_message(ended.listed.as_slice(), message.as_bytes()),
+            "{text}"
+        );
     }
     Ok(())
 }
@@ -241,35 +260,69 @@ fn words_other_than_run_are_refused(rt: HostRuntime) -> Result<(), Fail> {
         (two, "C3 word 2"),
         (capitals, "C2 word 1"),
     ] {
-        let (ended, listed) = ran(alloc, words.as_slice(), HALF.as_bytes(), 1, 0)?;
-        assert_eq!(rt; ended, 3);
-        assert!(rt; is_message(listed.as_slice(), message.as_bytes()));
+        let ended = ran(alloc, words.as_slice(), HALF.as_bytes(), Some(1), None)?;
+        assert_eq!(rt; ended.status, 3);
+        assert_eq!(rt; ended.failed_reads, 0);
+        assert!(rt; is_message(ended.listed.as_slice(), message.as_bytes()));
     }
     Ok(())
 }
 
-/// No call follows a failed one: after a failed read nothing is listed, and a further call on the
-/// listing would append to what it holds.
+/// After a failed read nothing is read again and nothing is written: each further call would fail
+/// too, and be counted.
 #[test]
-fn failed_calls_end_the_run(rt: HostRuntime) -> Result<(), Fail> {
+fn no_call_follows_a_failed_read(rt: HostRuntime) -> Result<(), Fail> {
     let alloc = rt.alloc();
     let words = run_words(alloc)?;
     for text in [HALF, "no program"] {
+        // The last read finds the end.
         for call in 1..=text.len().div_ceil(STEP) + 1 {
-            let (ended, listed) = ran(alloc, words.as_slice(), text.as_bytes(), call as u8, 0)?;
-            assert_eq!(rt; ended, 4);
-            assert!(rt; listed.is_empty());
+            let ended = ran(
+                alloc,
+                words.as_slice(),
+                text.as_bytes(),
+                Some(call),
+                Some(1),
+            )?;
+            assert_eq!(rt; ended.status, 4);
+            assert_eq!(rt; ended.failed_reads, 1);
+            assert_eq!(rt; ended.failed_writes, 0);
+            assert!(rt; ended.listed.is_empty());
         }
     }
+    Ok(())
+}
+
+/// After a failed write nothing is written again, and nothing is read that was not needed before.
+#[test]
+fn no_call_follows_a_failed_write(rt: HostRuntime) -> Result<(), Fail> {
+    let alloc = rt.alloc();
+    let words = run_words(alloc)?;
+    let reads = HALF.len().div_ceil(STEP) + 1;
+    let unneeded = Some(reads + 1);
     let calls = HALF_LISTING.len().div_ceil(STEP);
     for call in 1..=calls {
-        let (ended, listed) = ran(alloc, words.as_slice(), HALF.as_bytes(), 0, call as u8)?;
-        assert_eq!(rt; ended, 4);
-        assert_eq!(rt; listed.len(), (call - 1) * STEP);
-        assert!(rt; HALF_LISTING.as_bytes().starts_with(listed.as_slice()));
+        let ended = ran(
+            alloc,
+            words.as_slice(),
+            HALF.as_bytes(),
+            unneeded,
+            Some(call),
+        )?;
+        assert_eq!(rt; ended.status, 4);
+        assert_eq!(rt; ended.failed_writes, 1);
+        assert_eq!(rt; ended.failed_reads, 0);
+        assert_eq!(rt; ended.listed.len(), (call - 1) * STEP);
+        assert!(rt; HALF_LISTING.as_bytes().starts_with(ended.listed.as_slice()));
     }
-    let (ended, _) = ran(alloc, words.as_slice(), HALF.as_bytes(), 0, calls as u8 + 1)?;
-    assert_eq!(rt; ended, 0);
+    let ended = ran(
+        alloc,
+        words.as_slice(),
+        HALF.as_bytes(),
+        unneeded,
+        Some(calls + 1),
+    )?;
+    assert_eq!(rt; ended.status, 0);
     Ok(())
 }
 
@@ -279,12 +332,17 @@ fn long_texts_are_read(rt: HostRuntime) -> Result<(), Fail> {
     let words = run_words(alloc)?;
     let mut text = vec![in alloc; b' '; 1048576 - HALF.len()]?;
     text.extend_from_slice(HALF.as_bytes())?;
-    let (ended, listed) = ran(alloc, words.as_slice(), text.as_slice(), 0, 0)?;
-    assert_eq!(rt; ended, 0);
-    assert!(rt; listed.as_slice() == HALF_LISTING.as_bytes());
+    let whole = ran(alloc, words.as_slice(), text.as_slice(), None, None)?;
+    assert_eq!(rt; whole.status, 0);
+    assert!(rt; whole.listed.as_slice() == HALF_LISTING.as_bytes());
     text.push(b' ')?;
-    let (ended, listed) = ran(alloc, words.as_slice(), text.as_slice(), 0, 0)?;
-    assert_eq!(rt; ended, 3);
-    assert!(rt; is_message(listed.as_slice(), b"E25 1:1 text is over 1048576 bytes"));
+    let longer = ran(alloc, words.as_slice(), text.as_slice(), None, None)?;
+    assert_eq!(rt; longer.status, 3);
+    assert!(rt;
+        is_message(
+            longer.listed.as_slice(),
+            b"E25 1:1 text is over 1048576 bytes"
+        )
+    );
     Ok(())
 }

@@ -20,6 +20,7 @@ pub enum TextFault {
 /// Why no program is read.
 #[derive(Clone, Copy, Debug, PartialEq, Eq)]
 pub enum TextStop {
+    /// The text has none, for this reason.
     Fault(TextFault),
     /// Memory ran out.
     NoMemory,
@@ -45,7 +46,8 @@ pub(crate) fn at_front(code: u8) -> TextFault
 pub fn read_program(alloc: Global, text: &[u8]) -> Result<Program, TextStop>
     requires { length text.now ≤ 1048576 }
     ensures program { IfOk result (λ program. program_in text.now ≡ Ok (map meaning_of program)) }
-    ensures built { IfOk result (λ program. list_all (λ step. is_built (meaning_of step)) program ≡ true) }
+    ensures built { IfOk result (λ program.
+        list_all (λ step. is_built (meaning_of step)) program ≡ true) }
     ensures fault { IfErr result (IsFault (program_in text.now)) }
 {
     let tokens = match lex(alloc, text) {

@@ -1,6 +1,6 @@
 ghost use Rattle.std.specs.Prelude.{◌≡◌, codes, map};
 ghost use Rattle.std.specs.Str.{bytes_eq};
-ghost use Rattle.fx_program.specs.Words.{settings_of, word_line};
+ghost use Rattle.fx_program.specs.Words.{IsWordFault, settings_of, word_line};
 
 /// What the words of the command line ask for.
 #[derive(Debug, Clone, Copy, PartialEq, Eq)]
@@ -49,8 +49,9 @@ fn is_run(word: &[u8]) -> bool
     word == b"run".as_slice()
 }
 
-/// The line that tells the fault.
+/// The line that tells a fault. Takes no memory, so that refused words are told where there is none.
 pub(crate) fn word_line(fault: WordFault) -> &'static [u8]
+    requires { IsWordFault fault }
     ensures { result.now ≡ word_line fault }
 {
     match fault.code {

@@ -1,9 +1,10 @@
-use Rattle.std.proofs.Common.{◌≡◌, ℕ, List, Ok, Err, true, refl, sym, ap, ◌∙◌}
+use Rattle.std.proofs.Common.{◌≡◌, ℕ, List, Ok, Err, true, map, refl, sym, ap, ◌∙◌}
 use Rattle.fx_program.specs.declared.words.Settings.{Settings}
 use Rattle.fx_program.specs.declared.words.Settings.TheVariants.{Run}
 use Rattle.fx_program.specs.Texts.{program_in}
 use Rattle.fx_program.specs.Output.{message, output_for, program_output, reads}
 use Rattle.fx_program.proofs.Endings.{ends_for, ends_by}
+use Rattle.fx_program.proofs.Wording.{fault_of_words}
 use Rattle.fx_program.proofs.run.factex.Goals as goal
 
 -- `run` is the only command so far
@@ -23,3 +24,6 @@ pub returns-in-Err-clause-ends : goal.returns-in-Err-clause-ends
 returns-in-Err-clause-ends g c = λ text is.
     ends_for _ text (Err c.in-Err.fault) _ c.in-Err.ensures
     (ends_by _ _ _ (ap (λ l. message l 3) (sym c.word_line.ensures)) (c.say.ensures.ends _))
+
+pub word_line-requires : goal.word_line-requires
+word_line-requires g c = fault_of_words (map (λ w. w.items) c.args.words.now) c.in-Err.fault (sym c.in-Err.ensures)

@@ -1,11 +1,10 @@
-use Rattle.std.proofs.Common.{◌≡◌, ◌<◌, ℕ, List, map, Ok, Err, length, sym, ap, subst, ◌∙◌, refl}
+use Rattle.std.proofs.Common.{◌≡◌, ◌<◌, ℕ, List, map, Ok, Err, length, sym, ap, ◌∙◌, refl}
 use Rattle.std.proofs.lemmas.Bool.{lt-ltb}
 use Rattle.fx_statements.specs.Steps.{meaning_of}
 use Rattle.fx_program.specs.Texts.{at_front, program_in}
 use Rattle.fx_program.specs.Output.{program_output}
-use Rattle.fx_program.specs.Claims.{NoDesignMeansNone}
 use Rattle.fx_program.proofs.Endings.{ends_by}
-use Rattle.fx_program.proofs.None.{none_of_steps}
+use Rattle.fx_program.proofs.AnyText.{none_in_any_text}
 use Rattle.fx_program.proofs.run.run.Goals as goal
 
 too_long : (text : List ℕ) → 1048576 < length text → program_in text ≡ Err (at_front 25)
@@ -32,17 +31,10 @@ returns-in-Err-Fault-clause-ends g c = λ text files e.
     ends_by _ _ _ (ap program_output (sym (ap program_in (c.as_slice.ensures ∙ read.all text e)) ∙ found)) (c.refuse-in-Err-Fault.ensures.ends files)
 
 pub returns-in-Ok-TooLong-clause-none_at_all : goal.returns-in-Ok-TooLong-clause-none_at_all
-returns-in-Ok-TooLong-clause-none_at_all g c = λ low text e.
-    let read = rw c.in-Ok-TooLong.field-0-is at c.in-Ok-TooLong.ensures.answer in
-    subst NoDesignMeansNone (sym (too_long text (read.told text e))) tt
+returns-in-Ok-TooLong-clause-none_at_all g c = λ low text e. none_in_any_text text
 
 pub returns-in-Ok-clause-none_at_all : goal.returns-in-Ok-clause-none_at_all
-returns-in-Ok-clause-none_at_all g c = λ low text e.
-    let read = rw c.in-Ok-Whole.field-0-is at c.in-Ok-Whole.ensures.answer in
-    subst NoDesignMeansNone (sym (sym (ap program_in (c.as_slice.ensures ∙ read.all text e)) ∙ c.in-Ok.ensures.program)) (none_of_steps c.in-Ok.program)
+returns-in-Ok-clause-none_at_all g c = λ low text e. none_in_any_text text
 
 pub returns-in-Err-Fault-clause-none_at_all : goal.returns-in-Err-Fault-clause-none_at_all
-returns-in-Err-Fault-clause-none_at_all g c = λ low text e.
-    let read = rw c.in-Ok-Whole.field-0-is at c.in-Ok-Whole.ensures.answer in
-    let found = rw c.in-Err-Fault.field-0-is at c.in-Err-Fault.ensures.fault in
-    subst NoDesignMeansNone (sym (sym (ap program_in (c.as_slice.ensures ∙ read.all text e)) ∙ found)) tt
+returns-in-Err-Fault-clause-none_at_all g c = λ low text e. none_in_any_text text
