@@ -56,7 +56,11 @@ fn more_than_the_limit_is_too_long(rt: HostRuntime) -> Result<(), Fail> {
 
 #[test]
 fn a_source_fails_at_its_second_call(rt: HostRuntime) -> Result<(), Fail> {
-    let mut source = MemorySource::new(Bytes::from_slice(rt.alloc(), b"abcde")?, 2, Bytes::from_slice(rt.alloc(), &[2])?);
+    let mut source = MemorySource::new(
+        Bytes::from_slice(rt.alloc(), b"abcde")?,
+        2,
+        Bytes::from_slice(rt.alloc(), &[2])?,
+    );
     let mut buffer = [0; 4];
     for given in [Some(2), None, Some(2), Some(1), Some(0)] {
         assert_eq!(rt; source.read(&mut buffer).ok(), given);
@@ -68,7 +72,11 @@ fn a_source_fails_at_its_second_call(rt: HostRuntime) -> Result<(), Fail> {
 
 #[test]
 fn a_fault_is_handed_on(rt: HostRuntime) -> Result<(), Fail> {
-    let mut source = MemorySource::new(Bytes::from_slice(rt.alloc(), b"abcde")?, 2, Bytes::from_slice(rt.alloc(), &[2])?);
+    let mut source = MemorySource::new(
+        Bytes::from_slice(rt.alloc(), b"abcde")?,
+        2,
+        Bytes::from_slice(rt.alloc(), &[2])?,
+    );
     let read = read_all(rt.alloc(), &mut source, 9);
     assert!(rt; matches!(read, Err(ReadStop::ReadFault)));
     // The next bytes are still there: no call followed the failed one.

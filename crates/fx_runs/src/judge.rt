@@ -45,7 +45,10 @@ fn are_balanced(demands: &Demands, runs: &Runs) -> bool
 {
     match demands {
         Demands::Resolution { r } => {
-            Supports::of_at_most(usize::from(r.saturating_sub(1))).are_balanced(runs, Within::AllRuns)
+            Supports::of_at_most(usize::from(r.saturating_sub(1))).are_balanced(
+                runs,
+                Within::AllRuns,
+            )
         }
         Demands::Effects {
             estimate,
@@ -61,7 +64,10 @@ fn are_balanced_in_blocks(demands: &Demands, runs: &Runs) -> bool
 {
     match demands {
         Demands::Resolution { r } => {
-            Supports::of_at_most(usize::from(r.saturating_sub(1) / 2)).are_balanced(runs, Within::EachBlock)
+            Supports::of_at_most(usize::from(r.saturating_sub(1) / 2)).are_balanced(
+                runs,
+                Within::EachBlock,
+            )
         }
         Demands::Effects { estimate, .. } => are_apart_from_blocks(estimate, runs),
     }
