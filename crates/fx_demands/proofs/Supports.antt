@@ -1,21 +1,13 @@
 -- Lists of effects by their numbers, and whether a word is forbidden, told from its support.
-use Rattle.std.proofs.Common.{ℕ, ◌≡◌, ◌+◌, ◌-◌, zero, suc, Bool, ◌||◌, List, [], ◌∷◌, take, drop, refl, ap, arith}
-use Rattle.std.specs.List.{list_any}
+use Rattle.std.proofs.Common.{ℕ, ◌≡◌, ◌+◌, ◌-◌, zero, suc, List, [], ◌∷◌, take, drop, refl, arith}
 use Rattle.fx_designs.specs.Galois.{IsField}
 use Rattle.fx_designs.specs.Vectors.{IsVector}
 use Rattle.fx_designs.specs.Problems.{Dimensions, Requirement}
 use Rattle.fx_designs.specs.Demands.{effect_of, is_forbidden_word}
 use Rattle.fx_vectors.specs.Question.{CanBeAsked}
-use Rattle.fx_vectors.specs.Effects.{numbers_of}
-use Rattle.fx_vectors.specs.declared.effect.Effect.{Effect}
 use Rattle.fx_runs.proofs.Supports.{is_zero-effect}
 use Rattle.fx_runs.proofs.Balances.{balances-is, estimates-is}
 use Rattle.fx_demands.specs.Supports.{forbids}
-
--- a list of effects, by its numbers
-pub any-numbers : (p : ℕ → Bool) (effects : List Effect) → list_any (λ e. p e.0) effects ≡ list_any p (numbers_of effects)
-any-numbers p [] = refl
-any-numbers p (e ∷ effects) = ap (λ (b : Bool). p e.0 || b) (any-numbers p effects)
 
 pub take-vector : (q n m k : ℕ) (w : List ℕ) → IsVector q n w → n ≡ m + k → IsVector q m (take m w)
 take-vector q n zero k w h e = record { len = refl; codes = tt }

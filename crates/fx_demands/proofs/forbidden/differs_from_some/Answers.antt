@@ -1,6 +1,6 @@
 use Rattle.std.proofs.Common.{◌∙◌, sym, refl, ℕ}
 use Rattle.fx_runs.specs.Supports.{differs}
-use Rattle.fx_demands.proofs.Supports.{any-numbers}
+use Rattle.fx_vectors.proofs.Effects.{any-numbers}
 use Rattle.fx_demands.proofs.forbidden.differs_from_some.Goals as goal
 
 pub returns-then-differs : goal.returns-then-differs

@@ -1,8 +1,7 @@
-use Rattle.std.proofs.Common.{◌∙◌, arith, refl, eqb}
+use Rattle.std.proofs.Common.{arith, refl}
 use Rattle.std.proofs.lemmas.Bool.{ne_eqb, lt-ltb}
 use Rattle.std.proofs.lemmas.Bool.Decides.{nat_tests}
 use Rattle.fx_runs.specs.Supports.{estimates}
-use Rattle.fx_demands.proofs.Supports.{any-numbers}
 use Rattle.fx_demands.proofs.forbidden.is_estimated.Goals as goal
 
 pub returns-then-weight-gt0 : goal.returns-then-weight-gt0
@@ -16,7 +15,7 @@ returns-else-weight-gt0 c = rw c.in-Resolution.is (grind (arith, nat_tests))
 pub returns-then-support-ne0 : goal.returns-then-support-ne0
 unfolding estimates
 returns-then-support-ne0 c =
-    rw (c.in-Effects.is, ne_eqb c.args.support 0 c.if-support-ne0.true) (c.has.ensures ∙ any-numbers (λ e. eqb e c.args.support) c.in-Effects.estimate)
+    rw (c.in-Effects.is, ne_eqb c.args.support 0 c.if-support-ne0.true) c.contains.ensures
 
 pub returns-else-support-ne0 : goal.returns-else-support-ne0
 unfolding estimates

@@ -3,7 +3,7 @@ use Rattle.std.proofs.lemmas.Bool.{ne_eqb}
 use Rattle.std.proofs.lemmas.Bool.Decides.{nat_tests}
 use Rattle.fx_vectors.specs.Effects.{numbers_of}
 use Rattle.fx_runs.specs.Supports.{balances, differs_from_some}
-use Rattle.fx_demands.proofs.Supports.{any-numbers}
+use Rattle.fx_vectors.proofs.Effects.{any-numbers}
 use Rattle.fx_demands.proofs.forbidden.must_balance.Goals as goal
 
 pub returns-then-weight-gt0 : goal.returns-then-weight-gt0
