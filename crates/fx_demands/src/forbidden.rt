@@ -5,7 +5,7 @@ ghost use Rattle.fx_designs.specs.Demands.{effect_of, is_forbidden_word, is_allo
 ghost use Rattle.fx_vectors.specs.Shape.{dimensions_of, IsShape};
 ghost use Rattle.fx_vectors.specs.Question.{requirement_of, IsValid};
 ghost use Rattle.fx_vectors.specs.Effects.{numbers_of};
-ghost use Rattle.fx_runs.specs.Supports.{balances, estimates, differs, differs_from_some};
+ghost use Rattle.fx_vectors.specs.Supports.{balances, estimates, differs, differs_from_some};
 ghost use Rattle.fx_demands.specs.Supports.{IsMostAlone, IsMostBlocked};
 
 use fx_base::NoMemory;

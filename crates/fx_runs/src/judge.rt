@@ -6,9 +6,9 @@ ghost use Rattle.fx_vectors.specs.Shape.{dimensions_of, IsShape};
 ghost use Rattle.fx_vectors.specs.Effects.{numbers_of};
 ghost use Rattle.fx_vectors.specs.Question.{requirement_of, CanBeAsked, IsValid};
 ghost use Rattle.fx_runs.specs.Runs.{AreRuns};
-ghost use Rattle.fx_runs.specs.Supports.{differs, differs_from_some};
+ghost use Rattle.fx_vectors.specs.Supports.{differs, differs_from_some};
 ghost use Rattle.fx_runs.specs.declared.walk.Within.TheVariants.{AllRuns, EachBlock};
-ghost use Rattle.fx_runs.specs.Walks.{each_balanced};
+ghost use Rattle.fx_runs.specs.Supports.{each_balanced};
 
 use crate::block_balance::are_blocks_even;
 use crate::runs::Runs;
