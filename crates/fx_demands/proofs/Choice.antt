@@ -25,15 +25,15 @@ use Rattle.fx_laws.proofs.Ranks.{number-same}
 use Rattle.fx_laws.proofs.Shift.{all-points}
 use Rattle.fx_laws.proofs.Space.{ext, AreVectors, combination-vector, zeros-vector, scale-vector}
 use Rattle.fx_laws.proofs.Tests.{points_decides}
-use Rattle.fx_runs.proofs.Constant.{constant_sum}
+use Rattle.fx_laws.proofs.Constant.{constant_sum}
 use Rattle.fx_vectors.proofs.Normals.{normal-scale, last_nonzero-positive}
 use Rattle.fx_vectors.proofs.Steps.{are_vectors, drop-vector}
 use Rattle.fx_vectors.specs.Question.{CanBeAsked}
-use Rattle.fx_runs.specs.Supports.{balances}
+use Rattle.fx_vectors.specs.Supports.{balances}
 use Rattle.fx_designs.specs.Closing.{closes, is_preferred, is_best, words_of, closing_word}
 use Rattle.fx_demands.specs.Completions.{IsClosing, AreHeavy, IsGreatestOf}
-use Rattle.fx_runs.proofs.Supports.{bit, zero-effect, is_zero-effect}
-use Rattle.fx_runs.proofs.Balances.{not-true, true-not, same-refl, same-true, either_true, point_some}
+use Rattle.fx_vectors.proofs.Supports.{bit, zero-effect, is_zero-effect}
+use Rattle.fx_vectors.proofs.Balances.{not-true, true-not, same-refl, same-true, either_true, point_some}
 use Rattle.fx_demands.proofs.Supports.{forbids-is, take-vector}
 use Rattle.fx_demands.proofs.Completing.{weight-append, weight-zeros, weight-split}
 use Rattle.fx_demands.proofs.Closings.{length-zeros, last-zeros}

@@ -12,9 +12,9 @@ use Rattle.fx_designs.specs.Vectors.{IsVector, weight, zeros, plus, scale, combi
 use Rattle.fx_designs.specs.Problems.{Dimensions, Requirement}
 use Rattle.fx_designs.specs.Demands.{is_forbidden_word, effect_of}
 use Rattle.fx_vectors.specs.Question.{CanBeAsked}
-use Rattle.fx_runs.specs.Supports.{estimates}
+use Rattle.fx_vectors.specs.Supports.{estimates}
 use Rattle.fx_demands.specs.Supports.{forbids, IsMostBlocked}
-use Rattle.fx_runs.proofs.Supports.{weight-ones, effect-zero}
+use Rattle.fx_vectors.proofs.Supports.{weight-ones, effect-zero}
 use Rattle.fx_laws.proofs.Changes.{scale-none}
 use Rattle.fx_laws.proofs.Codes.{digits-vector, digits-number, number-below, number-zeros}
 use Rattle.fx_laws.proofs.Ranks.{zeros-plus, number-same}
@@ -22,7 +22,7 @@ use Rattle.fx_laws.proofs.Reorders.{plus-comm}
 use Rattle.fx_laws.proofs.Space.{AreVectors, combination-vector, zeros-vector}
 use Rattle.fx_vectors.proofs.Steps.{are_vectors}
 use Rattle.fx_demands.specs.Completions.{IsPartial, IsCompletion, IsGreatestHit, IsNoHit, AreBelow}
-use Rattle.fx_runs.proofs.Balances.{either_true}
+use Rattle.fx_vectors.proofs.Balances.{either_true}
 use Rattle.fx_demands.proofs.Supports.{take-vector, forbids-is}
 use Rattle.fx_demands.proofs.Digits.{sum_of}
 

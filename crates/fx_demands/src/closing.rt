@@ -63,7 +63,7 @@ impl Forbidden {
     {
         let shape = prefix.shape();
         let factors = usize::from(shape.s);
-        let mut word = Vector::zero(factors + usize::from(shape.t));
+        let mut word = Vector::zero(shape.rows());
         for last in (weight - 1..prefix.len()).rev() {
             if last < factors && weight > self.most_alone() {
                 return None;

@@ -1,15 +1,15 @@
-ghost use Rattle.std.specs.Prelude.{ℕ, ◌≡◌, ◌==◌, ◌+◌, ◌<◌, ◌≤◌, IfOk, IsTrue, length, take, drop};
+ghost use Rattle.std.specs.Prelude.{ℕ, ◌≡◌, ◌+◌, ◌<◌, ◌≤◌, IfOk, IsTrue, length, take, drop};
 ghost use Rattle.std.specs.List.{list_any};
 ghost use Rattle.fx_designs.specs.Vectors.{IsVector, is_zero};
 ghost use Rattle.fx_designs.specs.Demands.{effect_of, is_forbidden_word, is_allowed};
 ghost use Rattle.fx_vectors.specs.Shape.{dimensions_of, IsShape};
 ghost use Rattle.fx_vectors.specs.Question.{requirement_of, IsValid};
 ghost use Rattle.fx_vectors.specs.Effects.{numbers_of};
-ghost use Rattle.fx_runs.specs.Supports.{balances, estimates, differs, differs_from_some};
+ghost use Rattle.fx_vectors.specs.Supports.{balances, estimates, differs, differs_from_some};
 ghost use Rattle.fx_demands.specs.Supports.{IsMostAlone, IsMostBlocked};
 
 use fx_base::NoMemory;
-use fx_vectors::{Demands, Effects, Question, Shape, Vector, most_factors};
+use fx_vectors::{Demands, Effect, Effects, Question, Shape, Vector, contains, most_factors};
 use std::alloc::Global;
 use std::marker::Model;
 
@@ -188,15 +188,8 @@ fn is_estimated(demands: &Demands, support: u64) -> bool
             let weight = support.count_ones();
             0 < weight && weight <= u32::from(r.saturating_sub(1) / 2)
         }
-        Demands::Effects { estimate, .. } => support != 0 && has(estimate, support),
+        Demands::Effects { estimate, .. } => { support != 0 && contains(estimate, Effect(support)) }
     }
-}
-
-/// Whether the effect that is written so is one of the effects.
-fn has(effects: &Effects, support: u64) -> bool
-    ensures { result ≡ list_any (λ e. e.0 == support) effects.now }
-{
-    effects.as_slice().iter().any(|e| e.0 == support)
 }
 
 /// Whether a vector with this support is the difference of a vector of an effect to be estimated and

@@ -15,6 +15,7 @@ mod unions;
 
 pub use effect_stop::EffectStop;
 pub use forbidden::Forbidden;
+pub use fx_vectors::{Demands, Effect, Effects, Question};
 pub use laws::{bars_in_words, closing_word_in_words};
 pub use pairs::pair_count;
 pub use unions::{bars, merged};

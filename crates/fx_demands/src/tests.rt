@@ -2,7 +2,7 @@ ghost use Rattle.std.specs.Prelude.{◌≡◌, ◌^◌, ◌<◌, ◌≤◌, IsTr
 ghost use Rattle.fx_designs.specs.Galois.{is_order};
 ghost use Rattle.fx_vectors.specs.Question.{IsValid};
 
-use crate::{Forbidden, bars, pair_count};
+use crate::{EffectStop, Forbidden, bars, pair_count};
 use fx_base::NoMemory;
 use fx_vectors::{Demands, Effect, Effects, Matrix, Question, Shape};
 use std::alloc::Global;
@@ -81,7 +81,7 @@ fn too_many_unions_are_refused(rt: HostRuntime) -> Result<(), Fail> {
     for i in 0u32..17 {
         stars.push(Effect(1 << i))?;
     }
-    assert!(rt; bars(rt.alloc(), &stars, 17).is_err());
+    assert!(rt; matches!(bars(rt.alloc(), &stars, 17), Err(EffectStop::TooMany)));
     assert_eq!(rt; bars(rt.alloc(), &stars, 1)?.len(), 17);
     Ok(())
 }

@@ -5,8 +5,8 @@ use Rattle.std.proofs.Math.Seq.{drop-cons}
 use Rattle.std.proofs.Math.Numerals.{add-one}
 use Rattle.fx_text.specs.Written.{Written}
 use Rattle.fx_laws.proofs.Order.{each-append}
-use Rattle.fx_demands.specs.Bars.{bars_of, in_order, AreNumbers, AreOrdered}
-use Rattle.fx_demands.proofs.Ordered.{has-left, has-right, in_order-has, in_order-only, in_order-sorted, sorted-shorter, in_order-ordered}
+use Rattle.fx_demands.specs.Bars.{bars_of, in_order, AreNumbers}
+use Rattle.fx_demands.proofs.Ordered.{has-left, has-right, in_order-has, in_order-only, in_order-sorted, sorted-shorter}
 use Rattle.fx_demands.proofs.Merging.{in_order-parts}
 use Rattle.fx_demands.specs.Bars.{IsCause}
 use Rattle.fx_demands.specs.declared.effect_stop.EffectStop.{EffectStop}
@@ -101,6 +101,3 @@ module _ (all front back : List Expression) (k : ℕ) (hf : front ≡ take k all
 
   pub back_few : length (effects_of back) ≤ length (effects_of all)
   back_few = subst (λ (l : List ℕ). length (effects_of back) ≤ length (in_order l)) parts (back_shorter (effects_written front) (effects_written back) (written_small front small_front) (written_small back small_back))
-
-  pub are_ordered : AreOrdered (effects_of all)
-  are_ordered = in_order-ordered (effects_written all) (written_small all small)

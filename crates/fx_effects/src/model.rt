@@ -1,5 +1,5 @@
-ghost use Rattle.std.specs.Prelude.{◌≡◌, ◌≤◌, ◌==◌, not, filter, length, Ok, Some, IfOk, IfErr, take, drop};
-ghost use Rattle.std.specs.List.{list_any, prefix_len};
+ghost use Rattle.std.specs.Prelude.{◌≡◌, ◌≤◌, length, Ok, Some, IfOk, IfErr, take, drop};
+ghost use Rattle.std.specs.List.{prefix_len};
 ghost use Rattle.fx_text.specs.Refusals.{IsRefused};
 ghost use Rattle.fx_vectors.specs.Effects.{numbers_of};
 ghost use Rattle.fx_vectors.specs.Question.{CanBeTold};
@@ -13,7 +13,7 @@ use fx_demands::pair_count;
 use fx_galois::Field;
 use fx_language::Symbol;
 use fx_text::{Lexeme, ParseStop, Place, Refusal};
-use fx_vectors::{Effect, Effects};
+use fx_vectors::{Effects, contains};
 use std::alloc::Global;
 use std::marker::Model;
 
@@ -156,24 +156,11 @@ fn without(alloc: Global, estimate: &Effects, effects: &Effects) -> Result<Effec
 {
     let mut others = Effects::new(alloc);
     for e in effects.as_slice() {
-        if !has(estimate, *e) {
+        if !contains(estimate, *e) {
             others.push(*e)?;
         }
     }
     Ok(others)
-}
-
-/// Whether the effect is one of them.
-fn has(effects: &Effects, effect: Effect) -> bool
-    ensures { result ≡ list_any (λ f. f == effect.0) (numbers_of effects.now) }
-{
-    is_among(effects.as_slice(), effect)
-}
-
-fn is_among(effects: &[Effect], effect: Effect) -> bool
-    ensures { result ≡ list_any (λ f. f.0 == effect.0) effects.now }
-{
-    effects.iter().any(|f| *f == effect)
 }
 
 /// A list that begins behind its `(`.

@@ -20,12 +20,13 @@ use Rattle.fx_laws.proofs.Linear.{zero-mul, dot-plus, dot-scale, dot-zeros}
 use Rattle.fx_laws.proofs.Space.{ext, zeros-vector, plus-vector, scale-vector, combination-vector, AreVectors}
 use Rattle.fx_laws.proofs.Separation.{add-mul}
 use Rattle.fx_laws.proofs.Changes.{to_form, scale-none}
-use Rattle.fx_laws.proofs.Ranks.{append-each, rank-formed, rank-change, spans-none, zeros-plus, plus-zero, number-same}
+use Rattle.fx_laws.proofs.Ranks.{rank-formed, rank-change, spans-none, zeros-plus, plus-zero, number-same}
 use Rattle.fx_laws.proofs.Raises.{none-combination}
 use Rattle.fx_laws.proofs.Reorders.{units_from, Parted, part, FallsWeakly, sort_falling, reorder_behind, reordered-append, reorder_follows, each-reordered}
 use Rattle.fx_laws.proofs.Follows.{Follows, follows-trans, formed-append, change_follows, raise_rank}
 use Rattle.fx_laws.proofs.Forms.{normal_factor, factors-scalars, formed-scaled, each_normal, formed-canonical, scale-one}
 use Rattle.fx_laws.proofs.Whole.{scale_follows, scaled-append}
+use Rattle.fx_laws.proofs.Order.{each-append}
 
 pub weight-none : (u : List ℕ) → weight (0 ∷ u) ≡ weight u
 weight-none u = sum_by-cons (λ c. cond (nat_lt 0 c) 1 0) 0 u ∙ zero-add (weight u)
@@ -200,7 +201,7 @@ module _ (q m : ℕ) (f : IsField q) where
       let x1 : List (List ℕ) = up.0 in
       let y1 : List (List ℕ) = up.1 in
       let first : Follows q m Forbidden xs ys x1 y1 = up.2.follows in
-      let made = to_form q m f (x1 ++ y1) (append-each (λ r. IsVector q m r) x1 y1 first.factor_vectors first.block_vectors) in
+      let made = to_form q m f (x1 ++ y1) (each-append (λ r. IsVector q m r) x1 y1 first.factor_vectors first.block_vectors) in
       let a : List ℕ → List ℕ = made.0 in
       let x2 : List (List ℕ) = map a x1 in
       let y2 : List (List ℕ) = map a y1 in
@@ -216,7 +217,7 @@ module _ (q m : ℕ) (f : IsField q) where
       let third : Follows q m Forbidden x2 y2 x3 y3 = scale_follows q m f Forbidden cs ds x2 y2 closed' (factors-scalars q m f x2 second.factor_vectors) (factors-scalars q m f y2 second.block_vectors)
       (length-map x2 (normal_factor q m f)) (length-map y2 (normal_factor q m f)) second.factor_vectors second.block_vectors in
       let formed' : IsFormedTo m 0 (x3 ++ y3) made.1.rank = subst (λ r. IsFormedTo m 0 r made.1.rank) (scaled-append q m f x2 y2) (formed-scaled q m f 0 made.1.rank (x2 ++ y2) formed) in
-      let normal = each-left (λ v. (v ≡ zeros m) ⊎ IsNormal v) x3 y3 (subst (λ r. AllByRecursion (λ v. (v ≡ zeros m) ⊎ IsNormal v) r) (scaled-append q m f x2 y2) (each_normal q m f (x2 ++ y2) (append-each (λ r. IsVector q m r) x2 y2 second.factor_vectors second.block_vectors))) in
+      let normal = each-left (λ v. (v ≡ zeros m) ⊎ IsNormal v) x3 y3 (subst (λ r. AllByRecursion (λ v. (v ≡ zeros m) ⊎ IsNormal v) r) (scaled-append q m f x2 y2) (each_normal q m f (x2 ++ y2) (each-append (λ r. IsVector q m r) x2 y2 second.factor_vectors second.block_vectors))) in
       let split = formed-append m 0 made.1.rank x2 y2 formed in
       let n : ℕ = split.0 in
       let formed_x : IsFormedTo m 0 x3 n = formed-scaled q m f 0 n x2 split.1 in
@@ -250,7 +251,7 @@ module _ (q m : ℕ) (f : IsField q) where
         record {
           follows = all;
           canonical = formed-canonical q m f (us ++ os) y3 made.1.rank all.factor_vectors all.block_vectors (formed-join m 0 n made.1.rank (us ++ os) y3 formed_4 formed_y)
-              (append-each (λ v. (v ≡ zeros m) ⊎ IsNormal v) (us ++ os) y3 normal_4 normal.1) (omega arith);
+              (each-append (λ v. (v ≡ zeros m) ⊎ IsNormal v) (us ++ os) y3 normal_4 normal.1) (omega arith);
           falling = falling_rows parts.count (length (us ++ os)) os y3 refl rank_is all.factor_vectors word_free sorted.1;
         },
       )

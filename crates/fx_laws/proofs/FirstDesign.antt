@@ -1,6 +1,6 @@
 -- The answer is the first design.
 use Rattle.std.proofs.Common.{ℕ, ◌≡◌, ◌<◌, ◌+◌, ◌^◌, ◌||◌, not, ltb, true, false, List, length, Some, None, sym, ap, ◌∙◌, subst, arith, inl, inr}
-use Rattle.std.specs.List.{find, AllByRecursion}
+use Rattle.std.specs.List.{find, filter, AllByRecursion}
 use Rattle.std.proofs.lemmas.Bool.{and_parts, eqb-true, or_left, false_from_ne_true, both_ways}
 use Rattle.std.proofs.lemmas.List.Elements.{recursion_from_All}
 use Rattle.fx_designs.specs.Problems.{Problem}
@@ -27,6 +27,20 @@ module _ (p : Problem) where
       let len = d.0 in
       all_lists (p.dimensions.q ^ p.dimensions.m) (p.dimensions.s + p.dimensions.t) rows (omega arith) (omega arith) d.1
 
+  -- where there is an answer, there is a row
+  pub some_rows : (rows : List ℕ) → answer p ≡ Some rows → 0 < p.dimensions.s + p.dimensions.t
+  unfolding answer designs lists
+  some_rows rows h = elim (cases_lt 0 (p.dimensions.s + p.dimensions.t)) [
+    | inl some ↦ some
+    | inr none ↦
+        let zero_is : p.dimensions.s + p.dimensions.t ≡ 0 = omega arith in
+        let test = λ (rows : List ℕ). not p.least || is_of_least_pattern p rows in
+        let empty : find test (filter (is_design p) (prefixes p)) ≡ None =
+        ap (λ n. find test (filter (is_design p) (lists (p.dimensions.q ^ p.dimensions.m) n))) zero_is in
+        let bad : Some rows ≡ None = sym h ∙ empty in
+        absurd (cc)
+  ]
+
   module _ (plain : p.least ≡ false) where
     pub answer-find : answer p ≡ find (is_design p) (prefixes p)
     unfolding answer designs
@@ -43,17 +57,6 @@ module _ (p : Problem) where
 
     pub none-answer : ((rows : List ℕ) → is_design p rows ≡ true → ⊥) → answer p ≡ None
     none-answer none = answer-find ∙ none_found (is_design p) (prefixes p) none
-
-    some_rows : (rows : List ℕ) → answer p ≡ Some rows → 0 < p.dimensions.s + p.dimensions.t
-    unfolding lists
-    some_rows rows h = elim (cases_lt 0 (p.dimensions.s + p.dimensions.t)) [
-      | inl some ↦ some
-      | inr none ↦
-          let zero_is : p.dimensions.s + p.dimensions.t ≡ 0 = omega arith in
-          let empty : find (is_design p) (prefixes p) ≡ None = ap (λ n. find (is_design p) (lists (p.dimensions.q ^ p.dimensions.m) n)) zero_is in
-          let bad : Some rows ≡ None = sym h ∙ answer-find ∙ empty in
-          absurd (cc)
-    ]
 
     pub answer-first : (rows : List ℕ) → answer p ≡ Some rows → IsFirstDesign p rows
     answer-first rows h =

@@ -13,8 +13,9 @@ use Rattle.fx_laws.proofs.Linear.{zero-mul, zero-add-code, dot_code, dot_comm, d
 use Rattle.fx_laws.proofs.Space.{zeros-vector, plus-vector, combination-vector, AreVectors}
 use Rattle.fx_laws.proofs.Separation.{inv-mul, one-mul, more_span}
 use Rattle.fx_laws.proofs.Changes.{unit-vector, change-combination, change_keeps_back, to_form, short_more, unit_short, dot-scale-right}
-use Rattle.fx_laws.proofs.Ranks.{append-each, map-vectors, rank-formed, rank-change, spans-none, in_span-true}
+use Rattle.fx_laws.proofs.Ranks.{map-vectors, rank-formed, rank-change, spans-none, in_span-true}
 use Rattle.fx_laws.proofs.Raises.{ZeroAt, fewer_words, raised_by, raised-length, raised-vectors, rank-raised, words_old, allowed_by_block, allowed_by_other, none-combination}
+use Rattle.fx_laws.proofs.Order.{each-append}
 
 -- the second matrix has the shape of the first, is allowed if it is, and has no more words of any weight
 pub record Follows (q m : ℕ) (Forbidden : List ℕ → List ℕ → Type 0) (f b f' b' : List (List ℕ)) : Type 0 where
@@ -102,7 +103,7 @@ module _ (q m : ℕ) (f : IsField q) where
         | inl e ↦ (plus q x w ∷ xs, inr (in_span-true q m f bs x hb hx.0 e, refl, refl))
         | inr e ↦
             let fewer : rank_after q m (bs ++ x ∷ []) xs < length xs = (let h' = rw e at h in omega arith) in
-            let rest = raise_some w (bs ++ x ∷ []) xs (append-each (λ r. IsVector q m r) bs (x ∷ []) hb (hx.0, tt)) hx.1 fewer in
+            let rest = raise_some w (bs ++ x ∷ []) xs (each-append (λ r. IsVector q m r) bs (x ∷ []) hb (hx.0, tt)) hx.1 fewer in
             (x ∷ rest.0, inl (refl, rest.1))
       ]
 
@@ -160,7 +161,7 @@ module _ (q m : ℕ) (f : IsField q) where
       elim (cases_lt (rank_of q m xs) (min s m)) [
         | inr enough ↦ (xs, ys, record { follows = follows-same Forbidden xs ys hx hy; rank = enough })
         | inl low ↦
-            let made = to_form q m f (xs ++ ys) (append-each (λ r. IsVector q m r) xs ys hx hy) in
+            let made = to_form q m f (xs ++ ys) (each-append (λ r. IsVector q m r) xs ys hx hy) in
             let a : List ℕ → List ℕ = made.0 in
             let x1 : List (List ℕ) = map a xs in
             let y1 : List (List ℕ) = map a ys in

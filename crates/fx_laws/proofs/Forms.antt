@@ -16,7 +16,8 @@ use Rattle.fx_laws.proofs.Linear.{dot_code, dot-scale, dot-zeros}
 use Rattle.fx_laws.proofs.Space.{ext, zeros-vector, scale-vector, AreVectors}
 use Rattle.fx_laws.proofs.Separation.{inv-mul, one-mul}
 use Rattle.fx_laws.proofs.Changes.{unit-vector, mul-zero-either}
-use Rattle.fx_laws.proofs.Ranks.{append-each, spans-none, spans-old, spans-new, spans-short, unit-long, in_span-holds, in_span-none, short-scale, Spans}
+use Rattle.fx_laws.proofs.Ranks.{spans-none, spans-old, spans-new, spans-short, unit-long, in_span-holds, in_span-none, short-scale, Spans}
+use Rattle.fx_laws.proofs.Order.{each-append}
 
 false-true : {A : Type 0} (b : Bool) → b ≡ true → b ≡ false → A
 false-true b e e' = absurd (cc)
@@ -141,9 +142,6 @@ module _ (q m : ℕ) (f : IsField q) where
       let one : inv q 1 ≡ 1 = sym (one-mul q f (inv q 1) (f.inv_code 1)) ∙ f.mul_inv 1 (omega arith) f.more_than_one in
       rw (last-unit m k h, one) (scale-one (unit m k) (unit-vector q m k f))
 
-  pub normal_factors : List (List ℕ) → List ℕ
-  normal_factors rows = map normal_factor rows
-
   pub factors-scalars : (rows : List (List ℕ)) → AreVectors q m rows → AreScalars q (map normal_factor rows)
   factors-scalars [] h = tt
   factors-scalars (r ∷ rows) h = (normal_factor-code r h.0.codes, factors-scalars rows h.1)
@@ -163,7 +161,7 @@ module _ (q m : ℕ) (f : IsField q) where
   pub formed-canonical : (xs ys : List (List ℕ)) (n : ℕ) → AreVectors q m xs → AreVectors q m ys → IsFormedTo m 0 (xs ++ ys) n → AllByRecursion (λ r. (r ≡ zeros m) ⊎ IsNormal r) (xs ++ ys)
       → min (length xs) m ≤ rank_of q m xs → IsCanonical q m (length xs) (xs ++ ys)
   formed-canonical xs ys n hx hy formed normal enough = record {
-    new_is_unit = λ k below out. new_at [] (xs ++ ys) 0 n k (spans-none q m f) refl (append-each (λ r. IsVector q m r) xs ys hx hy) formed below out;
+    new_is_unit = λ k below out. new_at [] (xs ++ ys) 0 n k (spans-none q m f) refl (each-append (λ r. IsVector q m r) xs ys hx hy) formed below out;
     old_is_normal = λ k below is. All-get_or (λ r. (r ≡ zeros m) ⊎ IsNormal r) (xs ++ ys) k [] below (All-from_recursion _ (xs ++ ys) normal);
     reach = λ k low below. (let h = rank-reach [] xs k low in let e = take-append-le k xs ys low in rw e (omega arith));
   }

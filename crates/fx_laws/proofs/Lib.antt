@@ -10,6 +10,7 @@ pub mod CanonicalTest
 pub mod Order
 pub mod FirstDesign
 pub mod Bridge
+pub mod Constant
 pub mod Separation
 pub mod Blocks
 pub mod Changes

@@ -149,7 +149,8 @@ all_lists b (suc k) [] some short low = absurd (omega arith)
 all_lists b (suc k) (r ∷ []) some short low = in_begin b k r b [] low.0 (inl refl)
 all_lists b (suc k) (r ∷ s ∷ x) some short low = in_begin b k r b (s ∷ x) low.0 (inr (all_lists b k (s ∷ x) (omega arith) (omega arith) low.1))
 
-each_in : (P : List ℕ → Type 0) (d : List ℕ) (xs : List (List ℕ)) → AllByRecursion P xs → IsIn d xs → P d
+-- what holds of each list holds of one that is among them
+pub each_in : (P : List ℕ → Type 0) (d : List ℕ) (xs : List (List ℕ)) → AllByRecursion P xs → IsIn d xs → P d
 each_in P d [] all h = absurd h
 each_in P d (x ∷ xs) all (inl e) = subst P e all.0
 each_in P d (x ∷ xs) all (inr h) = each_in P d xs all.1 h

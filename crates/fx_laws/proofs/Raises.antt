@@ -14,7 +14,8 @@ use Rattle.fx_laws.proofs.Codes.{number-zeros}
 use Rattle.fx_laws.proofs.Linear.{zero-mul, zero-add-code, dot_code, dot-plus, dot-scale, dot-zeros, dot-levels}
 use Rattle.fx_laws.proofs.Space.{ext, zeros-vector, plus-vector, scale-vector, combination-vector, AreVectors}
 use Rattle.fx_laws.proofs.Shift.{all-points}
-use Rattle.fx_laws.proofs.Ranks.{append-each, in_span-true, in_span-holds, in_span-none, plus-zero, number-same}
+use Rattle.fx_laws.proofs.Ranks.{in_span-true, in_span-holds, in_span-none, plus-zero, number-same}
+use Rattle.fx_laws.proofs.Order.{each-append}
 
 module _ (q m : ℕ) (f : IsField q) where
   -- the rows are 0 at p
@@ -130,7 +131,7 @@ module _ (q m : ℕ) (f : IsField q) where
           let none : sum.0 ≡ 0 = no_factor sum.0 (combination q m s.by bs) r sum.1 (zero-combination p0 s.by bs zb) zr.0 (is p0) in
           in_span-holds q m f bs r (record { by = s.by; vector = hu; gives = sym (unraised sum.0 (combination q m s.by bs) r (combination-vector q m f s.by bs hb) hr.0 none is) }) in
           let first = less_new _ _ old in
-          let rest = rank-later (bs ++ r ∷ []) (bs' ++ r ∷ []) rows (raised-snoc bs bs' r h) (append-each (λ r. IsVector q m r) bs (r ∷ []) hb (hr.0, tt)) hr.1 (append-each (λ r. dot q r p0 ≡ 0) bs (r ∷ []) zb (zr.0, tt)) zr.1 in
+          let rest = rank-later (bs ++ r ∷ []) (bs' ++ r ∷ []) rows (raised-snoc bs bs' r h) (each-append (λ r. IsVector q m r) bs (r ∷ []) hb (hr.0, tt)) hr.1 (each-append (λ r. dot q r p0 ≡ 0) bs (r ∷ []) zb (zr.0, tt)) zr.1 in
           omega (arith, first, rest)
 
       -- the rank rises
@@ -138,8 +139,8 @@ module _ (q m : ℕ) (f : IsField q) where
       rank-raised bs [] ys h hb hx zb zx = absurd h
       rank-raised bs (x ∷ xs) [] h hb hx zb zx = absurd h
       rank-raised bs (x ∷ xs) (y ∷ ys) h hb hx zb zx =
-          let hb' = append-each (λ r. IsVector q m r) bs (x ∷ []) hb (hx.0, tt) in
-          let zb' = append-each (λ r. dot q r p0 ≡ 0) bs (x ∷ []) zb (zx.0, tt) in
+          let hb' = each-append (λ r. IsVector q m r) bs (x ∷ []) hb (hx.0, tt) in
+          let zb' = each-append (λ r. dot q r p0 ≡ 0) bs (x ∷ []) zb (zx.0, tt) in
           elim h [
             | inl s ↦
                 let rest = rank-raised (bs ++ x ∷ []) xs ys s.1 hb' hx.1 zb' zx.1 in

@@ -17,6 +17,8 @@ use Rattle.fx_laws.proofs.Space.{ext, zeros-vector, plus-vector, scale-vector, c
 use Rattle.fx_laws.proofs.Changes.{unit-vector, short-zeros, zeros-short, change-combination, scale-none, short_more, unit_short, add-over}
 use Rattle.fx_laws.proofs.Separation.{add-mul, one-mul}
 use Rattle.std.proofs.lemmas.List.{length-map}
+use Rattle.fx_laws.proofs.Order.{each-append}
+use Rattle.fx_laws.proofs.Tests.{bool_same}
 
 pub plus-assoc : (q : ℕ) (f : IsField q) (v w x : List ℕ) → plus q (plus q v w) x ≡ plus q v (plus q w x)
 plus-assoc q f [] w x = refl
@@ -32,12 +34,8 @@ pub plus-zero : (q m : ℕ) (f : IsField q) (x : List ℕ) → IsVector q m x �
 plus-zero q m f x h = ext q m f (plus q x (zeros m)) x (plus-vector q m f x (zeros m) h (zeros-vector q m f)) h
     (λ p. dot-plus q f x (zeros m) p ∙ (rw (dot-zeros q f m p) (f.add_zero (dot q x p) (dot_code q f x p))))
 
-pub append-each : {X : Type 0} (P : X → Type 0) (xs ys : List X) → AllByRecursion P xs → AllByRecursion P ys → AllByRecursion P (xs ++ ys)
-append-each P [] ys h k = k
-append-each P (x ∷ xs) ys h k = (h.0, append-each P xs ys h.1 k)
-
 pub append-vector : (q n k : ℕ) (v w : List ℕ) → IsVector q n v → IsVector q k w → IsVector q (n + k) (v ++ w)
-append-vector q n k v w hv hw = record { len = length-append v w ∙ ap₂ (λ (x y : ℕ). x + y) hv.len hw.len; codes = append-each (λ c. c < q) v w hv.codes hw.codes }
+append-vector q n k v w hv hw = record { len = length-append v w ∙ ap₂ (λ (x y : ℕ). x + y) hv.len hw.len; codes = each-append (λ c. c < q) v w hv.codes hw.codes }
 
 module _ (q m : ℕ) (f : IsField q) where
   pub combination-append : (u v : List ℕ) (xs ys : List (List ℕ)) → length u ≡ length xs → AreVectors q m ys → combination q m (u ++ v) (xs ++ ys) ≡ plus q (combination q m u xs) (combination q m v ys)
@@ -160,8 +158,8 @@ module _ (q m : ℕ) (f : IsField q) where
 
   pub spans-old : (k : ℕ) (bs : List (List ℕ)) (r : List ℕ) → IsVector q m r → Spans q m k bs → IsShort k r → Spans q m k (bs ++ r ∷ [])
   spans-old k bs r hr h s = record {
-    vectors = append-each (λ r. IsVector q m r) bs (r ∷ []) h.vectors (hr, tt);
-    short = append-each (λ r. IsShort k r) bs (r ∷ []) h.short (s, tt);
+    vectors = each-append (λ r. IsVector q m r) bs (r ∷ []) h.vectors (hr, tt);
+    short = each-append (λ r. IsShort k r) bs (r ∷ []) h.short (s, tt);
     all = λ v hv sv. span-snoc q m f bs r v v 0 (omega (arith, f.more_than_one)) hr (h.all v hv sv) (sym (ap (plus q v) (scale-none q m f r hr) ∙ plus-zero q m f v hv));
   }
 
@@ -173,8 +171,8 @@ module _ (q m : ℕ) (f : IsField q) where
   spans-new k bs room h =
       let hu = unit-vector q m k f in
       record {
-        vectors = append-each (λ r. IsVector q m r) bs (unit m k ∷ []) h.vectors (hu, tt);
-        short = append-each (λ r. IsShort (suc k) r) bs (unit m k ∷ []) (more-short k bs h.short) (unit_short m k, tt);
+        vectors = each-append (λ r. IsVector q m r) bs (unit m k ∷ []) h.vectors (hu, tt);
+        short = each-append (λ r. IsShort (suc k) r) bs (unit m k ∷ []) (more-short k bs h.short) (unit_short m k, tt);
         all = λ v hv sv. (let r = short_split q m k f v hv room sv in span-snoc q m f bs (unit m k) r.first v r.factor r.code hu (h.all r.first r.vector r.short) r.is);
       }
 
@@ -208,11 +206,6 @@ module _ (q m : ℕ) (f : IsField q) where
       let one : add q (dot q v p) (mul q (neg q 1) (dot q w p)) ≡ 0 = sym (ap (add q (dot q v p)) (dot-scale q f (neg q 1) w p)) ∙ sym (dot-plus q f v w' p) ∙ ap (λ x. dot q x p) gone ∙ dot-zeros q f m p in
       sym (add-over q f (dot q w p) (dot q v p) (dot_code q f w p) (dot_code q f v p)) ∙ ap (add q (dot q w p)) one ∙ f.add_zero (dot q w p) (dot_code q f w p))
 
-  pub bool_same : (b c : Bool) → (b ≡ true → c ≡ true) → (c ≡ true → b ≡ true) → b ≡ c
-  bool_same true c h k = sym (h refl)
-  bool_same false true h k = k refl
-  bool_same false false h k = refl
-
   pub map-snoc : (a : List ℕ → List ℕ) (bs : List (List ℕ)) (r : List ℕ) → map a (bs ++ r ∷ []) ≡ map a bs ++ a r ∷ []
   map-snoc a [] r = refl
   map-snoc a (b ∷ bs) r = rw (map-snoc a bs r) refl
@@ -242,4 +235,4 @@ module _ (q m : ℕ) (f : IsField q) where
   rank-change a h bs [] hb hr = refl
   rank-change a h bs (r ∷ rows) hb hr =
       ap₂ (λ (x y : ℕ). x + y) (ap (λ b. cond b 0 1) (in_span-change a h bs r hb hr.0))
-      (ap (λ x. rank_after q m x (map a rows)) (sym (map-snoc a bs r)) ∙ rank-change a h (bs ++ r ∷ []) rows (append-each (λ r. IsVector q m r) bs (r ∷ []) hb (hr.0, tt)) hr.1)
+      (ap (λ x. rank_after q m x (map a rows)) (sym (map-snoc a bs r)) ∙ rank-change a h (bs ++ r ∷ []) rows (each-append (λ r. IsVector q m r) bs (r ∷ []) hb (hr.0, tt)) hr.1)

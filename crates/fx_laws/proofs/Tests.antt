@@ -1,7 +1,7 @@
 -- What tests of lists say: of every number below a bound, of every vector.
-use Rattle.std.proofs.Common.{ℕ, ◌≡◌, ◌<◌, Bool, true, false, not, ◌||◌, List, refl, sym, subst, ◌∙◌, zero-add}
+use Rattle.std.proofs.Common.{ℕ, ◌≡◌, ◌<◌, Bool, true, false, not, ◌||◌, List, [], ◌∷◌, refl, sym, subst, ◌∙◌, zero-add}
 use Rattle.std.specs.Bool.{Decides}
-use Rattle.std.specs.List.{list_all, range_with_len, All}
+use Rattle.std.specs.List.{list_all, list_any, range_with_len, All, AllByRecursion}
 use Rattle.std.proofs.lemmas.Bool.{both_ways}
 use Rattle.std.proofs.lemmas.Bool.Decides.{Decides-by_and}
 use Rattle.std.proofs.lemmas.List.Elements.{All-get_or, All-from_get_or}
@@ -43,3 +43,17 @@ points_decides q n some p =
 pub implies_decides : (a b : Bool) → Decides (not a || b) (a ≡ true → b ≡ true)
 implies_decides true b = (λ e h. e, λ e. e refl)
 implies_decides false b = (λ e h. absurd (both_ways false refl h), λ e. refl)
+
+-- tests that are passed together are the same
+pub bool_same : (a b : Bool) → (a ≡ true → b ≡ true) → (b ≡ true → a ≡ true) → a ≡ b
+bool_same true b to from = sym (to refl)
+bool_same false true to from = from refl
+bool_same false false to from = refl
+
+-- some item of a list passes
+pub some_item : {X : Type 0} (p : X → Bool) (P : X → Type 0) (xs : List X) → AllByRecursion P xs → list_any p xs ≡ true → (x : X) × P x × (p x ≡ true)
+some_item p P [] all e = absurd (both_ways false refl e)
+some_item {X} p P (x ∷ xs) all e =
+    let go : (b : Bool) → p x ≡ b → (b || list_any p xs) ≡ true → (y : X) × P y × (p y ≡ true) =
+    λ b. elim b as (λ b. p x ≡ b → (b || list_any p xs) ≡ true → (y : X) × P y × (p y ≡ true)) [ true ↦ λ is t. (x, all.0, is) | false ↦ λ is t. some_item p P xs all.1 t ] in
+    go (p x) refl e

@@ -12,10 +12,11 @@ use Rattle.fx_laws.specs.Raises.{IsBlind}
 use Rattle.fx_laws.specs.Scalings.{AreScalars, scaled, IsScalable}
 use Rattle.fx_laws.proofs.Space.{AreVectors}
 use Rattle.fx_laws.proofs.Changes.{to_form}
-use Rattle.fx_laws.proofs.Ranks.{append-each, rank-formed, rank-change, spans-none}
+use Rattle.fx_laws.proofs.Ranks.{rank-formed, rank-change, spans-none}
 use Rattle.fx_laws.proofs.Scalings.{scaled-length, scaled-vectors, scaled_words, scaled_allowed}
 use Rattle.fx_laws.proofs.Follows.{Follows, follows-trans, formed-append, change_follows, raise_rank}
 use Rattle.fx_laws.proofs.Forms.{normal_factor, factors-scalars, formed-scaled, each_normal, formed-canonical}
+use Rattle.fx_laws.proofs.Order.{each-append}
 
 module _ (q m : ℕ) (f : IsField q) where
   -- nonzero multiples of rows keep what is allowed
@@ -48,7 +49,7 @@ module _ (q m : ℕ) (f : IsField q) where
       let x1 : List (List ℕ) = up.0 in
       let y1 : List (List ℕ) = up.1 in
       let first : Follows q m Forbidden xs ys x1 y1 = up.2.follows in
-      let made = to_form q m f (x1 ++ y1) (append-each (λ r. IsVector q m r) x1 y1 first.factor_vectors first.block_vectors) in
+      let made = to_form q m f (x1 ++ y1) (each-append (λ r. IsVector q m r) x1 y1 first.factor_vectors first.block_vectors) in
       let a : List ℕ → List ℕ = made.0 in
       let x2 : List (List ℕ) = map a x1 in
       let y2 : List (List ℕ) = map a y1 in
@@ -64,7 +65,7 @@ module _ (q m : ℕ) (f : IsField q) where
       let third : Follows q m Forbidden x2 y2 x3 y3 = scale_follows Forbidden cs ds x2 y2 closed' (factors-scalars q m f x2 second.factor_vectors) (factors-scalars q m f y2 second.block_vectors)
       (length-map x2 (normal_factor q m f)) (length-map y2 (normal_factor q m f)) second.factor_vectors second.block_vectors in
       let formed' : IsFormedTo m 0 (x3 ++ y3) made.1.rank = subst (λ r. IsFormedTo m 0 r made.1.rank) (scaled-append x2 y2) (formed-scaled q m f 0 made.1.rank (x2 ++ y2) formed) in
-      let normal = subst (λ r. AllByRecursion (λ v. (v ≡ zeros m) ⊎ IsNormal v) r) (scaled-append x2 y2) (each_normal q m f (x2 ++ y2) (append-each (λ r. IsVector q m r) x2 y2 second.factor_vectors second.block_vectors)) in
+      let normal = subst (λ r. AllByRecursion (λ v. (v ≡ zeros m) ⊎ IsNormal v) r) (scaled-append x2 y2) (each_normal q m f (x2 ++ y2) (each-append (λ r. IsVector q m r) x2 y2 second.factor_vectors second.block_vectors)) in
       let split = formed-append m 0 made.1.rank x2 y2 formed in
       let split' = formed-append m 0 made.1.rank x3 y3 formed' in
       let rank_1 : rank_of q m x2 ≡ rank_of q m x1 = rank-change q m f a made.1.change [] x1 tt first.factor_vectors in

@@ -16,7 +16,7 @@ use Rattle.fx_laws.proofs.Sums.{sum_by-ext}
 use Rattle.fx_laws.proofs.Space.{AreVectors, zeros-vector, combination-vector}
 use Rattle.fx_laws.proofs.Shift.{all-points, points-sum}
 use Rattle.fx_laws.proofs.Changes.{scale-none}
-use Rattle.fx_laws.proofs.Ranks.{append-each, combination-append, append-vector, zeros-plus, plus-zero}
+use Rattle.fx_laws.proofs.Ranks.{combination-append, append-vector, zeros-plus, plus-zero}
 use Rattle.fx_laws.proofs.Raises.{sum_by-le}
 use Rattle.fx_laws.proofs.Falling.{weight-none}
 use Rattle.fx_laws.proofs.CanonicalTest.{rows-vectors}
@@ -27,6 +27,7 @@ use Rattle.fx_reduction.proofs.ConstantTests.{constant-words}
 use Rattle.fx_reduction.proofs.Kept.{factor-vectors, block-vectors, allowed_facts}
 use Rattle.fx_reduction.proofs.NoDesign.{met_exactly}
 use Rattle.fx_reduction.proofs.Patterns.{div-le, entry_no_greater}
+use Rattle.fx_laws.proofs.Order.{each-append}
 
 pub weight-end : (u : List ℕ) → weight (u ++ 0 ∷ []) ≡ weight u
 weight-end [] = weight-none []
@@ -102,7 +103,7 @@ module _ (d : Dimensions) (f : IsField d.q) where
       let hx = factor-vectors d f xs ys hm in
       let hy = block-vectors d f xs ys hm in
       let more : Dimensions = with_block d in
-      let all : AreVectors d.q d.m (ys ++ w ∷ []) = append-each (λ r. IsVector d.q d.m r) ys (w ∷ []) hy (hw, tt) in
+      let all : AreVectors d.q d.m (ys ++ w ∷ []) = each-append (λ r. IsVector d.q d.m r) ys (w ∷ []) hy (hw, tt) in
       let count : length (ys ++ w ∷ []) ≡ d.t + 1 = length-append ys (w ∷ []) ∙ ap (λ (n : ℕ). n + 1) hm.block_count in
       let hm' : IsRuleMatrix more xs (ys ++ w ∷ []) = record {
         factor_count = hm.factor_count;
@@ -135,7 +136,7 @@ module _ (d : Dimensions) (f : IsField d.q) where
         ap (vectors_of d.q d.m) e ∙ map-append (λ r. digits d.q d.m r) front (r ∷ []) in
         let old = constant-words d.q d.m f xs hx k in
         let new =
-        ap (λ z. constant_words d.q d.m z k) is ∙ constant-words d.q d.m f (xs ++ v ∷ []) (append-each (λ r. IsVector d.q d.m r) xs (v ∷ []) hx hv) k in
+        ap (λ z. constant_words d.q d.m z k) is ∙ constant-words d.q d.m f (xs ++ v ∷ []) (each-append (λ r. IsVector d.q d.m r) xs (v ∷ []) hx hv) k in
         let more = more_words d.q d.m f xs v k hx hv.0 in
         rw (old, new) more
   ]

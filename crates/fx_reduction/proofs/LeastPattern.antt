@@ -1,18 +1,18 @@
 -- Some design has a least pattern, so that a problem has an answer where it has a design.
-use Rattle.std.proofs.Common.{ℕ, ◌≡◌, ◌<◌, ◌+◌, ◌^◌, ◌↔◌, ◌||◌, not, Bool, true, false, List, [], ◌∷◌, length, filter, Some, None, refl, sym, subst, ◌∙◌, ap, arith, inl, inr}
+use Rattle.std.proofs.Common.{ℕ, ◌≡◌, ◌<◌, ◌+◌, ◌↔◌, ◌||◌, not, Bool, true, false, List, [], ◌∷◌, length, filter, Some, None, refl, sym, subst, ◌∙◌, ap, inl, inr}
 use Rattle.std.specs.Bool.{Decides}
 use Rattle.std.specs.List.{All, AllByRecursion, find, range_with_len}
-use Rattle.std.proofs.lemmas.Bool.{cases_Bool, cases_lt, cond-true, cond-false, both_ways, false_from_ne_true, or_cases, or_right, and_from, eq-eqb, not-true, not_from_false}
+use Rattle.std.proofs.lemmas.Bool.{cases_Bool, cond-true, cond-false, both_ways, false_from_ne_true, or_cases, or_right, and_from, eq-eqb, not-true, not_from_false}
 use Rattle.std.proofs.lemmas.List.Elements.{All-from_recursion, recursion_from_All}
 use Rattle.std.proofs.lemmas.List.{length-map}
 use Rattle.std.proofs.lemmas.List.FromFn.{length-range_with_len}
 use Rattle.fx_designs.specs.Galois.{IsField}
 use Rattle.fx_designs.specs.Problems.{Problem}
 use Rattle.fx_designs.specs.Patterns.{pattern_of, is_less}
-use Rattle.fx_designs.specs.Answers.{lists, prefixes, is_design, is_of_least_pattern, designs, answer}
+use Rattle.fx_designs.specs.Answers.{prefixes, is_design, is_of_least_pattern, designs, answer}
 use Rattle.fx_laws.proofs.Tests.{all_decides}
-use Rattle.fx_laws.proofs.Order.{IsIn, each-weaker, found_passes}
-use Rattle.fx_laws.proofs.FirstDesign.{there}
+use Rattle.fx_laws.proofs.Order.{IsIn, each-weaker, found_passes, each_in}
+use Rattle.fx_laws.proofs.FirstDesign.{there, some_rows}
 use Rattle.fx_reduction.specs.Matrices.{row_numbers}
 use Rattle.fx_reduction.specs.Reduction.{IsReducible, LeastOfAll}
 use Rattle.fx_reduction.proofs.PatternOrder.{less-self, less-trans, not_above}
@@ -42,11 +42,6 @@ least pattern x (z ∷ zs) =
       )
       | inr other ↦ (r.0, record { inside = inr r.1.inside; none = (other, r.1.none) })
     ]
-
-each_in : (P : List ℕ → Type 0) (x : List ℕ) (xs : List (List ℕ)) → AllByRecursion P xs → IsIn x xs → P x
-each_in P x [] all h = absurd h
-each_in P x (y ∷ ys) all (inl e) = subst P e all.0
-each_in P x (y ∷ ys) all (inr h) = each_in P x ys all.1 h
 
 least_of : (pattern : List ℕ → List ℕ) (xs : List (List ℕ)) (x : List ℕ) → IsIn x xs → (y : List ℕ) × IsLeast pattern xs y
 least_of pattern [] x h = absurd h
@@ -114,19 +109,6 @@ module _ (p : Problem) where
   unfolding pattern_of
   pattern-length rows = length-map (range_with_len 1 p.dimensions.s) _ ∙ length-range_with_len 1 p.dimensions.s
 
-  some_rows : (rows : List ℕ) → answer p ≡ Some rows → 0 < p.dimensions.s + p.dimensions.t
-  unfolding answer designs lists
-  some_rows rows h = elim (cases_lt 0 (p.dimensions.s + p.dimensions.t)) [
-    | inl some ↦ some
-    | inr none ↦
-        let zero_is : p.dimensions.s + p.dimensions.t ≡ 0 = omega arith in
-        let test = λ (rows : List ℕ). not p.least || is_of_least_pattern p rows in
-        let empty : find test (filter (is_design p) (prefixes p)) ≡ None =
-        ap (λ n. find test (filter (is_design p) (lists (p.dimensions.q ^ p.dimensions.m) n))) zero_is in
-        let bad : Some rows ≡ None = sym h ∙ empty in
-        absurd cc
-  ]
-
   module _ (f : IsField p.dimensions.q) (proper : IsReducible p.requirement) where
     pub least-of_all : LeastOfAll p
     least-of_all rows factors blocks asked is matrix met =
@@ -136,4 +118,4 @@ module _ (p : Problem) where
         let design : is_design p found.0 ≡ true = and_from _ _ (eq-eqb _ _ found.1.whole) (and_from _ _ found.1.canonical found.1.meets) in
         not_above (pattern_of p.dimensions other) (pattern_of p.dimensions found.0) (pattern_of p.dimensions rows)
         (pattern-length other ∙ sym (pattern-length found.0)) found.1.pattern
-        (answer_least rows found.0 asked is (some_rows rows is) design)
+        (answer_least rows found.0 asked is (some_rows p rows is) design)

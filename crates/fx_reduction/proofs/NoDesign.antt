@@ -11,7 +11,6 @@ use Rattle.fx_designs.specs.Problems.{Dimensions, Requirement, Problem}
 use Rattle.fx_designs.specs.Demands.{do_runs_meet, is_met}
 use Rattle.fx_laws.specs.Raises.{IsAllowed}
 use Rattle.fx_laws.proofs.Space.{AreVectors}
-use Rattle.fx_laws.proofs.Ranks.{append-each}
 use Rattle.fx_laws.proofs.CanonicalTest.{rows-vectors}
 use Rattle.fx_reduction.specs.Forbidden.{IsForbidden}
 use Rattle.fx_reduction.specs.Matrices.{IsRuleMatrix, IsNumberedMatrix, row_numbers}
@@ -19,6 +18,7 @@ use Rattle.fx_reduction.specs.Reduction.{MetWhereAllowed, IsReducible, NoneWhere
 use Rattle.fx_reduction.proofs.Kept.{factor-vectors, block-vectors, allowed_facts}
 use Rattle.fx_reduction.proofs.Numbers.{back, below}
 use Rattle.fx_reduction.proofs.NoWorse.{Allowed, allowed_decides, front-length, rest-length, front-vectors, rest-vectors, no_worse_exists}
+use Rattle.fx_laws.proofs.Order.{each-append}
 
 module _ (d : Dimensions) (f : IsField d.q) (wanted : Requirement) where
   module _ (xs ys : List (List ℕ)) (hm : IsRuleMatrix d xs ys) where
@@ -26,7 +26,7 @@ module _ (d : Dimensions) (f : IsField d.q) (wanted : Requirement) where
     whole = length-append xs ys ∙ ap₂ (λ (a b : ℕ). a + b) hm.factor_count hm.block_count
 
     all : AreVectors d.q d.m (xs ++ ys)
-    all = append-each (λ r. IsVector d.q d.m r) xs ys (factor-vectors d f xs ys hm) (block-vectors d f xs ys hm)
+    all = each-append (λ r. IsVector d.q d.m r) xs ys (factor-vectors d f xs ys hm) (block-vectors d f xs ys hm)
 
     same_allowed : Allowed d f wanted (xs ++ ys) ≡ IsAllowed d.q d.m (IsForbidden d.q d.s d.t wanted) xs ys
     same_allowed = ap₂ (λ a b. IsAllowed d.q d.m (IsForbidden d.q d.s d.t wanted) a b)

@@ -15,7 +15,6 @@ use Rattle.fx_designs.specs.Canonical.{is_canonical}
 use Rattle.fx_laws.specs.Canonical.{IsCanonical, IsOrdered}
 use Rattle.fx_laws.specs.Raises.{IsAllowed, words}
 use Rattle.fx_laws.proofs.Space.{AreVectors}
-use Rattle.fx_laws.proofs.Ranks.{append-each}
 use Rattle.fx_laws.proofs.CanonicalTest.{canonical_decides, rows-vectors, take-vectors}
 use Rattle.fx_reduction.specs.Forbidden.{IsForbidden}
 use Rattle.fx_reduction.specs.Matrices.{IsNumberedMatrix}
@@ -26,6 +25,7 @@ use Rattle.fx_reduction.proofs.ConstantTests.{constant-words}
 use Rattle.fx_reduction.proofs.Patterns.{pattern-entries, pattern-not_less, resolution-not_lower}
 use Rattle.fx_reduction.proofs.Numbers.{back, below, falling-numbers}
 use Rattle.fx_reduction.proofs.Canonical.{AreOrdered, IsReduced, reduced_exists}
+use Rattle.fx_laws.proofs.Order.{each-append}
 
 pub each-take : {X : Type 0} (P : X → Type 0) (k : ℕ) (xs : List X) → AllByRecursion P xs → AllByRecursion P (take k xs)
 each-take P zero xs h = tt
@@ -86,7 +86,7 @@ module _ (d : Dimensions) (f : IsField d.q) (wanted : Requirement) (rules : List
   ly = to.follows.blocks ∙ rest-length d rules len
 
   all : AreVectors d.q d.m (xs ++ ys)
-  all = append-each (λ r. IsVector d.q d.m r) xs ys to.follows.factor_vectors to.follows.block_vectors
+  all = each-append (λ r. IsVector d.q d.m r) xs ys to.follows.factor_vectors to.follows.block_vectors
 
   vectors : vectors_of d.q d.m better ≡ xs ++ ys
   vectors = back d.q d.m f (xs ++ ys) all

@@ -9,12 +9,12 @@ use Rattle.fx_designs.specs.Vectors.{IsVector, combination, plus, zeros, vectors
 use Rattle.fx_designs.specs.Runs.{is_constant}
 use Rattle.fx_designs.specs.Problems.{Dimensions, Requirement}
 use Rattle.fx_designs.specs.Demands.{runs, padded, is_forbidden, is_forbidden_word, is_met, is_allowed}
-use Rattle.fx_laws.proofs.Ranks.{bool_same, combination-append, append-vector}
-use Rattle.fx_laws.proofs.Tests.{points_decides}
+use Rattle.fx_laws.proofs.Ranks.{combination-append, append-vector}
+use Rattle.fx_laws.proofs.Tests.{points_decides, bool_same}
 use Rattle.fx_laws.proofs.CanonicalTest.{rows-vectors}
 use Rattle.fx_reduction.specs.Matrices.{IsRuleMatrix, IsZeroSum, IsAllowedMatrix}
 use Rattle.fx_reduction.specs.Reduction.{MetAsPrefix}
-use Rattle.fx_reduction.proofs.ConstantTests.{zero_sum_decides}
+use Rattle.fx_laws.proofs.Constant.{zero_sum_decides}
 use Rattle.fx_reduction.proofs.Kept.{block-vectors}
 use Rattle.fx_reduction.proofs.NoDesign.{met_exactly, named_matrix}
 use Rattle.fx_reduction.proofs.NoWorse.{each-take, each-drop}
@@ -85,7 +85,7 @@ module _ (d : Dimensions) (f : IsField d.q) (wanted : Requirement) (rows : List 
   met-allowed =
       let met = met_exactly d f wanted factors blocks matrix in
       let whole : factors ++ blocks ≡ rules = take-append-drop d.s rules in
-      bool_same d.q d.m f _ _
+      bool_same _ _
       (λ e. prefix_decides.1 (met.0 (rw whole e)))
       (λ e. rw whole at (met.1 (prefix_decides.0 e)))
 

@@ -4,7 +4,7 @@ use Rattle.fx_designs.specs.Galois.{add, mul, neg, prime_of, degree_of, reductio
 use Rattle.fx_designs.specs.Runs.{is_balanced, are_blocks_even, is_balanced_in_blocks}
 use Rattle.fx_designs.specs.Problems.{Dimensions, AtResolution, ForEffects}
 use Rattle.fx_designs.specs.Demands.{must_balance, is_estimated, do_runs_meet}
-use Rattle.fx_runs.specs.Walks.{is_among}
+use Rattle.fx_runs.specs.Supports.{is_among}
 
 -- three columns of the twelve runs of Plackett and Burman, which are those of no rule matrix
 twelve_runs : List (List ℕ)

@@ -1,9 +1,6 @@
 pub mod Constant
 pub mod Counts
 pub mod Confounding
-pub mod Supports
-pub mod Differences
-pub mod Balances
 pub mod Points
 pub mod Steps
 pub mod Walks

@@ -14,20 +14,20 @@ use Rattle.fx_designs.specs.Problems.{Dimensions, AtResolution, ForEffects}
 use Rattle.fx_designs.specs.Vectors.{IsVector, weight, is_zero}
 use Rattle.fx_designs.specs.Runs.{are_blocks_even}
 use Rattle.fx_designs.specs.Demands.{effect_of, must_balance, is_estimated, do_runs_meet}
-use Rattle.fx_laws.proofs.Tests.{points_decides, implies_decides}
+use Rattle.fx_laws.proofs.Tests.{points_decides, implies_decides, bool_same}
 use Rattle.fx_vectors.specs.Shape.{dimensions_of}
 use Rattle.fx_vectors.specs.Question.{CanBeAsked, requirement_of}
 use Rattle.fx_vectors.specs.declared.question.Question.{Question}
 use Rattle.fx_vectors.specs.Effects.{numbers_of}
 use Rattle.fx_vectors.specs.declared.effect.Effect.{Effect}
 use Rattle.fx_runs.specs.Runs.{RunsView}
-use Rattle.fx_runs.specs.Supports.{differs, differs_from_some, balances}
+use Rattle.fx_vectors.specs.Supports.{differs, differs_from_some, balances}
 use Rattle.fx_runs.specs.declared.walk.Within.{Within}
 use Rattle.fx_runs.specs.declared.walk.Within.TheVariants.{AllRuns, EachBlock}
-use Rattle.fx_runs.specs.Walks.{bit_of, is_among, is_balanced_over, each_balanced, AreBalancedFrom}
-use Rattle.fx_runs.proofs.Supports.{bit-small, is_zero-effect}
-use Rattle.fx_runs.proofs.Differences.{or-bit, xor-bit, differs-cons}
-use Rattle.fx_runs.proofs.Balances.{bool-same, either_true, balances-is}
+use Rattle.fx_runs.specs.Supports.{bit_of, is_among, is_balanced_over, each_balanced, AreBalancedFrom}
+use Rattle.fx_vectors.proofs.Supports.{bit-small, is_zero-effect}
+use Rattle.fx_vectors.proofs.Differences.{or-bit, xor-bit, differs-cons}
+use Rattle.fx_vectors.proofs.Balances.{either_true, balances-is}
 
 -- supports of at most some factors
 pub among-light : (n most : ℕ) (f : List ℕ) → length f ≤ n → is_among 0 (2 ^ n - 1) most f ≡ nat_le (weight f) most
@@ -223,7 +223,7 @@ module _ (runs : RunsView) (within : Within) where
         → b ≡ each_balanced runs within (λ f. not (is_zero f) && is_among inner outer most f)
     from_none b inner outer most told =
         let both = each_decides (λ f. not (is_zero f) && is_among inner outer most f) in
-        bool-same b (each_balanced runs within (λ f. not (is_zero f) && is_among inner outer most f))
+        bool_same b (each_balanced runs within (λ f. not (is_zero f) && is_among inner outer most f))
         (λ e. both.1 (λ f h among.
         let parts = and_parts (not (is_zero f)) (is_among inner outer most f) among in
         (told.0 e).each f h parts.1 (heavy f parts.0)))
@@ -240,7 +240,7 @@ module _ (runs : RunsView) (within : Within) where
     each-same test other same =
         let one = each_decides test in
         let two = each_decides other in
-        bool-same _ _ (λ e. two.1 (λ f h t. one.0 e f h (same f h ∙ t))) (λ e. one.1 (λ f h t. two.0 e f h (sym (same f h) ∙ t)))
+        bool_same _ _ (λ e. two.1 (λ f h t. one.0 e f h (same f h ∙ t))) (λ e. one.1 (λ f h t. two.0 e f h (sym (same f h) ∙ t)))
 
     -- vectors that are not zero and pass one test or another
     pub each-either : (a b : List ℕ → Bool)
@@ -249,7 +249,7 @@ module _ (runs : RunsView) (within : Within) where
         let whole = each_decides (λ f. not (is_zero f) && (a f || b f)) in
         let one = each_decides (λ f. not (is_zero f) && a f) in
         let two = each_decides (λ f. not (is_zero f) && b f) in
-        bool-same _ _
+        bool_same _ _
         (λ e. and_from _ _
         (one.1 (λ f h t. let p = and_parts (not (is_zero f)) (a f) t in whole.0 e f h (and_from _ _ p.0 (or_left (a f) (b f) p.1))))
         (two.1 (λ f h t. let p = and_parts (not (is_zero f)) (b f) t in whole.0 e f h (and_from _ _ p.0 (or_right (a f) (b f) p.1)))))

@@ -2,4 +2,3 @@ pub mod Runs
 pub mod Blocks
 pub mod Counts
 pub mod Supports
-pub mod Walks

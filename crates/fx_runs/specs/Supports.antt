@@ -1,26 +1,31 @@
--- What has to be balanced, told from where a vector is not zero. The support of a vector over the factors is written as an
--- effect: the sum of 2^(i-1) over the factors i where the vector is not zero.
-use Rattle.std.specs.Prelude.{ℕ, ◌==◌, ◌-◌, ◌/◌, ◌&&◌, ◌||◌, not, nat_lt, nat_le, Bool, if◌then◌else◌, List, count_ones, bit_or, bit_xor}
-use Rattle.std.specs.List.{list_any}
-use Rattle.fx_designs.specs.Problems.{Requirement, AtResolution, ForEffects}
+-- Vectors with given supports, and whether each of them is balanced.
+use Rattle.std.specs.Prelude.{ℕ, ◌≡◌, ◌<◌, ◌-◌, ◌/◌, ◌%◌, ◌^◌, ◌==◌, ◌&&◌, ◌||◌, not, nat_le, Bool, true, if◌then◌else◌, List, [], ◌∷◌, ◌++◌, min}
+use Rattle.std.specs.List.{list_all}
+use Rattle.fx_designs.specs.Vectors.{IsVector, weight}
+use Rattle.fx_designs.specs.Runs.{points, is_balanced, is_balanced_in_blocks}
+use Rattle.fx_runs.specs.Runs.{RunsView}
+use Rattle.fx_runs.specs.declared.walk.Within.{Within}
+use Rattle.fx_runs.specs.declared.walk.Within.TheVariants.{AllRuns, EachBlock}
 
--- Whether a vector with the support x can be the difference of a vector of the effect u and one of the effect v, where 0
--- stands for the zero vector. At two levels both are 1 on the factors that they share. Else they can have any two codes
--- there that are not zero, so that the difference is anything on these factors, and not zero on those of one effect alone.
-abbrev pub differs : ℕ → ℕ → ℕ → ℕ → Bool
-differs q u v x = (if q == 2 then x == bit_xor u v else (bit_or x (bit_xor u v) == x) && (bit_or x (bit_or u v) == bit_or u v))
+-- 1 where a code is not zero
+abbrev pub bit_of : ℕ → ℕ
+bit_of c = (if c == 0 then 0 else 1)
 
--- whether some vector with the support x is the difference of a vector of the effect u, which is to be estimated, and one of
--- another effect or zero
-abbrev pub differs_from_some : ℕ → List ℕ → List ℕ → ℕ → ℕ → Bool
-differs_from_some q estimate besides x u = differs q u 0 x || (list_any (λ v. differs q u v x) estimate || list_any (λ v. differs q u v x) besides)
+-- whether a vector is not zero on each factor of `inner`, zero outside `outer`, and has at most `most` codes that are not
+-- zero; bit i-1 stands for factor i
+abbrev pub is_among : ℕ → ℕ → ℕ → List ℕ → Bool
+is_among inner outer most [] = inner == 0
+is_among inner outer most (c ∷ f) = nat_le (inner % 2) (bit_of c) && (nat_le (bit_of c) (min (outer % 2) most) && is_among (inner / 2) (outer / 2) (most - bit_of c) f)
 
--- whether the vectors with the support x have to be balanced
-unfoldable pub balances : ℕ → Requirement → ℕ → Bool
-balances q (AtResolution r) x = nat_lt 0 (count_ones x) && nat_lt (count_ones x) r
-balances q (ForEffects estimate besides) x = not (x == 0) && list_any (λ u. differs_from_some q estimate besides x u) estimate
+-- whether a vector over the factors is balanced: over all runs, or inside each block
+abbrev pub is_balanced_over : RunsView → Within → List ℕ → Bool
+is_balanced_over runs AllRuns f = is_balanced runs.shape.q f runs.rows
+is_balanced_over runs EachBlock f = is_balanced_in_blocks runs.shape.q runs.shape.s (runs.shape.q ^ runs.shape.t) f runs.rows
 
--- whether the vectors with the support x are those of an effect to be estimated
-unfoldable pub estimates : Requirement → ℕ → Bool
-estimates (AtResolution r) x = nat_lt 0 (count_ones x) && nat_le (count_ones x) ((r - 1) / 2)
-estimates (ForEffects estimate besides) x = not (x == 0) && list_any (λ e. e == x) estimate
+-- whether each vector over the factors that passes a test is balanced
+unfoldable pub each_balanced : RunsView → Within → (List ℕ → Bool) → Bool
+each_balanced runs within test = list_all (λ f. not (test f) || is_balanced_over runs within f) (points runs.shape.q runs.shape.s)
+
+-- each vector over the factors that begins with some codes, is not zero, and goes on with such a support is balanced
+pub record AreBalancedFrom (runs : RunsView) (within : Within) (inner outer most : ℕ) (start : List ℕ) : Type 0 where
+  pub each : (rest : List ℕ) → IsVector runs.shape.q runs.shape.s (start ++ rest) → is_among inner outer most rest ≡ true → 0 < weight (start ++ rest) → is_balanced_over runs within (start ++ rest) ≡ true

@@ -66,7 +66,7 @@ fn counts_of(u: &Vector, runs: &Runs) -> [usize; 9]
 }
 
 /// The field value u.x at the run at `i`.
-pub fn value_at(u: &Vector, runs: &Runs, i: usize) -> u8
+pub(crate) fn value_at(u: &Vector, runs: &Runs, i: usize) -> u8
     requires there { i < length runs.now.rows }
     requires vector { IsVector runs.now.shape.q (length u.now) u.now }
     requires within { length u.now ≤ runs.now.shape.s + runs.now.shape.t }

@@ -6,9 +6,9 @@ ghost use Rattle.fx_vectors.specs.Shape.{dimensions_of, IsShape};
 ghost use Rattle.fx_vectors.specs.Effects.{numbers_of};
 ghost use Rattle.fx_vectors.specs.Question.{requirement_of, CanBeAsked, IsValid};
 ghost use Rattle.fx_runs.specs.Runs.{AreRuns};
-ghost use Rattle.fx_runs.specs.Supports.{differs, differs_from_some};
+ghost use Rattle.fx_vectors.specs.Supports.{differs, differs_from_some};
 ghost use Rattle.fx_runs.specs.declared.walk.Within.TheVariants.{AllRuns, EachBlock};
-ghost use Rattle.fx_runs.specs.Walks.{each_balanced};
+ghost use Rattle.fx_runs.specs.Supports.{each_balanced};
 
 use crate::block_balance::are_blocks_even;
 use crate::runs::Runs;
@@ -45,7 +45,10 @@ fn are_balanced(demands: &Demands, runs: &Runs) -> bool
 {
     match demands {
         Demands::Resolution { r } => {
-            Supports::of_at_most(usize::from(r.saturating_sub(1))).are_balanced(runs, Within::AllRuns)
+            Supports::of_at_most(usize::from(r.saturating_sub(1))).are_balanced(
+                runs,
+                Within::AllRuns,
+            )
         }
         Demands::Effects {
             estimate,
@@ -61,7 +64,10 @@ fn are_balanced_in_blocks(demands: &Demands, runs: &Runs) -> bool
 {
     match demands {
         Demands::Resolution { r } => {
-            Supports::of_at_most(usize::from(r.saturating_sub(1) / 2)).are_balanced(runs, Within::EachBlock)
+            Supports::of_at_most(usize::from(r.saturating_sub(1) / 2)).are_balanced(
+                runs,
+                Within::EachBlock,
+            )
         }
         Demands::Effects { estimate, .. } => are_apart_from_blocks(estimate, runs),
     }

@@ -21,9 +21,8 @@ pub fn list_runs(alloc: Global, matrix: &Matrix) -> Result<Runs, NoMemory>
     let shape = matrix.shape();
     let field = shape.field();
     let rules = rules_of(alloc, field, matrix)?;
-    let count = u16::from(field.q()).pow(u32::from(shape.m));
     let mut runs = Runs::new(alloc, shape);
-    for k in 0..count {
+    for k in 0..shape.runs() {
         runs.push(levels(field, &rules, &point(field, shape.m, k)))?;
     }
     Ok(runs)

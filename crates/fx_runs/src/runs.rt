@@ -76,9 +76,6 @@ impl Runs {
         ensures ok { OnOk result (self.new ≡ record self.old { rows = self.old.rows ++ row ∷ [] }) }
         ensures err { OnErr result (self.new ≡ self.old) }
     {
-        match self.rows.push(row) {
-            Ok(()) => Ok(()),
-            Err(NoMemory) => Err(NoMemory),
-        }
+        self.rows.push(row)
     }
 }

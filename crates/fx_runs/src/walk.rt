@@ -2,8 +2,8 @@ ghost use Rattle.std.specs.Prelude.{◌≡◌, ℕ, ◌+◌, ◌-◌, ◌/◌, �
 ghost use Rattle.fx_designs.specs.Vectors.{IsVector, is_zero, weight};
 ghost use Rattle.fx_designs.specs.Demands.{effect_of};
 ghost use Rattle.fx_runs.specs.Runs.{AreRuns};
-ghost use Rattle.fx_runs.specs.Supports.{differs};
-ghost use Rattle.fx_runs.specs.Walks.{bit_of, is_among, each_balanced, is_balanced_over, AreBalancedFrom};
+ghost use Rattle.fx_vectors.specs.Supports.{differs};
+ghost use Rattle.fx_runs.specs.Supports.{bit_of, is_among, each_balanced, is_balanced_over, AreBalancedFrom};
 
 use crate::balance::is_balanced;
 use crate::block_balance::is_balanced_in_blocks;

@@ -11,4 +11,4 @@ mod tests;
 mod walk;
 
 pub use asking::{Asked, ask_alone};
-pub use pruner::{PlainPruner, Pruner};
+pub use pruner::Pruner;

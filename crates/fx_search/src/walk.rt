@@ -97,7 +97,7 @@ fn enter<P: Pruner>(
         return Ok(End::Closed);
     }
     prefix.push(row);
-    if prefix.len() == usize::from(question.shape.s) + usize::from(question.shape.t) {
+    if prefix.len() == question.shape.rows() {
         // The first design is allowed and no branch, since nothing is below it.
         marks.push(Mark::Worse { row })?;
         return Ok(End::Found);

@@ -24,7 +24,7 @@ pub fn children(alloc: Global, question: &Question, prefix: &Matrix) -> Result<P
     let shape = question.shape;
     let front = front(question, prefix).unwrap();
     let mut points = Points::new(alloc);
-    for row in (0..u16::from(shape.q).pow(u32::from(shape.m))).rev() {
+    for row in (0..shape.runs()).rev() {
         if may_follow(question, front, row) {
             points.push(row)?;
         }

@@ -17,7 +17,7 @@ pub(crate) fn may_follow(question: &Question, front: Front, row: u16) -> bool
     ensures { result ≡ follows (dimensions_of question.now.shape) (requirement_of question.now.demands) front row }
 {
     let shape = question.shape;
-    front.count < usize::from(shape.s) + usize::from(shape.t)
+    front.count < shape.rows()
         && fits(shape, front.rank, row)
         && can_reach(shape, front.count + 1, rank_after(shape, front.rank, row))
         && keeps_order(question, front.count, front.last, row)

@@ -3,4 +3,7 @@ pub mod Limits
 pub mod Steps
 pub mod Normals
 pub mod Effects
+pub mod Supports
+pub mod Differences
+pub mod Balances
 mod Examples

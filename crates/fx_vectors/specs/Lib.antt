@@ -7,3 +7,4 @@ pub mod Effects
 pub mod Question
 pub mod Marks
 pub mod Pieces
+pub mod Supports

@@ -1,4 +1,5 @@
-ghost use Rattle.std.specs.Prelude.{◌≡◌, ◌≤◌};
+ghost use Rattle.std.specs.Prelude.{◌≡◌, ◌≤◌, ◌==◌};
+ghost use Rattle.std.specs.List.{list_any};
 ghost use Rattle.fx_vectors.specs.Effects.{most_factors, numbers_of};
 
 use fx_base::Values;
@@ -20,4 +21,17 @@ pub fn most_factors(effects: &Effects) -> u8
         most = most.max(e.0.count_ones() as u8);
     }
     most
+}
+
+/// Whether the effect is one of the effects.
+pub fn contains(effects: &Effects, effect: Effect) -> bool
+    ensures { result ≡ list_any (λ e. e == effect.0) (numbers_of effects.now) }
+{
+    is_among(effects.as_slice(), effect)
+}
+
+fn is_among(effects: &[Effect], effect: Effect) -> bool
+    ensures { result ≡ list_any (λ e. e.0 == effect.0) effects.now }
+{
+    effects.iter().any(|e| *e == effect)
 }

@@ -14,7 +14,7 @@ mod tests;
 mod vector;
 
 pub use book::{Book, Books, Head, NamedBook, Pattern};
-pub use effect::{Effect, Effects, most_factors};
+pub use effect::{Effect, Effects, contains, most_factors};
 pub use laws::{number_of_its_vector, one_normal_multiple, vector_of_its_number};
 pub use mark::{Mark, Marks};
 pub use matrix::Matrix;

@@ -1,4 +1,4 @@
-ghost use Rattle.std.specs.Prelude.{◌≡◌, IsTrue};
+ghost use Rattle.std.specs.Prelude.{◌≡◌, ◌+◌, ◌^◌, ◌≤◌, IsTrue};
 ghost use Rattle.fx_designs.specs.Galois.{is_order};
 
 use fx_galois::Field;
@@ -18,11 +18,29 @@ pub struct Shape {
 }
 
 impl Shape {
+    ghost use Rattle.fx_vectors.specs.Shape.{IsShape};
+
     /// The field of the levels.
     pub fn field(&self) -> Field
         requires { IsTrue (is_order self.now.q) }
         ensures { result ≡ self.now.q }
     {
         Field::of(self.q).unwrap()
+    }
+
+    /// The number of runs.
+    pub fn runs(&self) -> u16
+        requires { IsShape self.now }
+        ensures runs { result ≡ self.now.q ^ self.now.m }
+        ensures few { result ≤ 1024 }
+    {
+        u16::from(self.q).pow(u32::from(self.m))
+    }
+
+    /// The number of rows of a rule matrix: one for each factor and for each block factor.
+    pub fn rows(&self) -> usize
+        ensures { result ≡ self.now.s + self.now.t }
+    {
+        usize::from(self.s) + usize::from(self.t)
     }
 }

@@ -1,7 +1,7 @@
 ghost use Rattle.std.specs.Prelude.{◌≡◌, ◌≤◌, ◌<◌, IfOk, length};
 ghost use Rattle.fx_vectors.specs.Marks.{row_of};
 
-use crate::{Mark, Marks};
+use crate::{Effect, Effects, Mark, Marks, contains};
 use fx_base::NoMemory;
 use std::alloc::Global;
 use std::test::Fail;
@@ -43,5 +43,13 @@ fn marks_are_kept_past_the_end_of_a_piece(rt: HostRuntime) -> Result<(), Fail> {
     assert_eq!(rt; marks.len(), 131073);
     let places = [0, 1, 2, 65535, 65536, 65537, 131071, 131072];
     assert!(rt; stand_at(&marks, &places));
+    Ok(())
+}
+
+#[test]
+fn an_effect_is_among_others_or_not(rt: HostRuntime) -> Result<(), Fail> {
+    let effects = Effects::from_slice(rt.alloc(), &[Effect(1), Effect(6)])?;
+    assert!(rt; contains(&effects, Effect(6)));
+    assert!(rt; !contains(&effects, Effect(2)));
     Ok(())
 }

@@ -2,7 +2,7 @@ use Rattle.std.proofs.Common.{ap, ◌∙◌, nat_le, List}
 use Rattle.std.specs.Prelude.{count_ones}
 use Rattle.std.specs.List.{list_any}
 use Rattle.fx_vectors.specs.declared.effect.Effect.{Effect}
-use Rattle.fx_demands.proofs.Supports.{any-numbers}
+use Rattle.fx_vectors.proofs.Effects.{any-numbers}
 use Rattle.fx_effects.proofs.expression.has_within.Goals as goal
 
 pub returns : goal.returns

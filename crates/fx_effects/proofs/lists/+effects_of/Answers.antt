@@ -1,11 +1,10 @@
-use Rattle.std.proofs.Common.{◌≡◌, ◌/◌, List, ℕ, length, arith, sym, subst, ap}
+use Rattle.std.proofs.Common.{◌≡◌, ◌/◌, List, ℕ, length, arith, ap}
 use Rattle.std.proofs.lemmas.List.{length-map}
 use Rattle.std.proofs.lemmas.Result.{err_from_is_err_and}
 use Rattle.fx_vectors.specs.declared.effect.Effect.{Effect}
 use Rattle.fx_vectors.specs.Effects.{numbers_of}
-use Rattle.fx_demands.specs.Bars.{AreOrdered}
 use Rattle.fx_effects.specs.Lists.{effects_of}
-use Rattle.fx_effects.proofs.Joined.{small_front, small_back, joined_is, front_few, back_few, are_ordered, cause_more}
+use Rattle.fx_effects.proofs.Joined.{small_front, small_back, joined_is, front_few, back_few, cause_more}
 use Rattle.fx_effects.proofs.lists.+effects_of.Goals as goal
 
 pub effects_of-requires : goal.effects_of-requires
@@ -26,14 +25,9 @@ returns-in_err-back-clause-many t c =
 
 pub returns-then-len-gt-MOST_EFFECTS-clause-many : goal.returns-then-len-gt-MOST_EFFECTS-clause-many
 returns-then-len-gt-MOST_EFFECTS-clause-many t c =
-    let is : numbers_of c.in_ok-all.all ≡ effects_of c.args.expressions.now = joined_is c.args.expressions.now c.split_at.result.0.now c.split_at.result.1.now (length c.args.expressions.now / 2) c.split_at.ensures.front c.split_at.ensures.back c.requires (numbers_of c.in_ok-front.front) (numbers_of c.in_ok-back.back) (numbers_of c.in_ok-all.all) c.in_ok-front.ensures.effects c.in_ok-back.ensures.effects c.in_ok-all.ensures in
+    let is : numbers_of c.in_ok-all.all ≡ effects_of c.args.expressions.now = joined_is c.args.expressions.now c.split_at.result.0.now c.split_at.result.1.now (length c.args.expressions.now / 2) c.split_at.ensures.front c.split_at.ensures.back c.requires (numbers_of c.in_ok-front.front) (numbers_of c.in_ok-back.back) (numbers_of c.in_ok-all.all) c.in_ok-front.ensures.effects c.in_ok-back.ensures.effects c.in_ok-all.ensures.effects in
     let same = ap (λ (l : List ℕ). length l) is in
     omega (arith, same, length-map c.in_ok-all.all (λ (e : Effect). e.0))
 
 pub returns-clause-effects : goal.returns-clause-effects
-returns-clause-effects t c = joined_is c.args.expressions.now c.split_at.result.0.now c.split_at.result.1.now (length c.args.expressions.now / 2) c.split_at.ensures.front c.split_at.ensures.back c.requires (numbers_of c.in_ok-front.front) (numbers_of c.in_ok-back.back) (numbers_of c.in_ok-all.all) c.in_ok-front.ensures.effects c.in_ok-back.ensures.effects c.in_ok-all.ensures
-
-pub returns-clause-ordered : goal.returns-clause-ordered
-returns-clause-ordered t c =
-    let is : numbers_of c.in_ok-all.all ≡ effects_of c.args.expressions.now = joined_is c.args.expressions.now c.split_at.result.0.now c.split_at.result.1.now (length c.args.expressions.now / 2) c.split_at.ensures.front c.split_at.ensures.back c.requires (numbers_of c.in_ok-front.front) (numbers_of c.in_ok-back.back) (numbers_of c.in_ok-all.all) c.in_ok-front.ensures.effects c.in_ok-back.ensures.effects c.in_ok-all.ensures in
-    subst AreOrdered (sym is) (are_ordered c.args.expressions.now c.split_at.result.0.now c.split_at.result.1.now (length c.args.expressions.now / 2) c.split_at.ensures.front c.split_at.ensures.back c.requires)
+returns-clause-effects t c = joined_is c.args.expressions.now c.split_at.result.0.now c.split_at.result.1.now (length c.args.expressions.now / 2) c.split_at.ensures.front c.split_at.ensures.back c.requires (numbers_of c.in_ok-front.front) (numbers_of c.in_ok-back.back) (numbers_of c.in_ok-all.all) c.in_ok-front.ensures.effects c.in_ok-back.ensures.effects c.in_ok-all.ensures.effects

@@ -3,7 +3,7 @@ use Rattle.fx_designs.specs.Vectors.{is_zero}
 use Rattle.fx_designs.specs.Demands.{effect_of}
 use Rattle.fx_vectors.proofs.Limits.{order-bounds}
 use Rattle.fx_runs.specs.declared.walk.Within.TheVariants.{EachBlock}
-use Rattle.fx_runs.specs.Walks.{is_among}
+use Rattle.fx_runs.specs.Supports.{is_among}
 use Rattle.fx_runs.proofs.Walks.{each-same}
 use Rattle.fx_runs.proofs.judge.is_apart_from_blocks.Goals as goal
 

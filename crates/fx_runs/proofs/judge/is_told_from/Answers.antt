@@ -4,8 +4,8 @@ use Rattle.fx_designs.specs.Demands.{effect_of}
 use Rattle.fx_vectors.specs.declared.shape.Shape.{Shape}
 use Rattle.fx_vectors.proofs.Limits.{order-bounds}
 use Rattle.fx_runs.specs.declared.walk.Within.TheVariants.{AllRuns}
-use Rattle.fx_runs.specs.Supports.{differs}
-use Rattle.fx_runs.specs.Walks.{is_among}
+use Rattle.fx_vectors.specs.Supports.{differs}
+use Rattle.fx_runs.specs.Supports.{is_among}
 use Rattle.fx_runs.proofs.Walks.{each-same}
 use Rattle.fx_runs.proofs.judge.is_told_from.Goals as goal
 
