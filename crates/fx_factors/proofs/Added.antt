@@ -20,7 +20,7 @@ module _ (limit : ℕ) (names : List (List ℕ)) (first last : Written) (regular
   abbrev all : List (List ℕ)
   all = names_between first.text last.text
 
-  -- all of it, behind the test of the range
+  -- all of it, after the test of the range
   abbrev by_count : Bool → Result (List (List ℕ)) Refusal
   by_count many = if many then Err (refusal_at 10 first) else (if are_known all names then Err (refusal_at 5 first) else Ok (names ++ all))
 

@@ -46,7 +46,7 @@ are_new names (name ∷ new) e =
     let parts = or_parts (is_some (place_of name names)) (are_known new names) e in
     (not_found names name parts.0, are_new names new parts.1)
 
--- what differs from a name and from those behind it
+-- what differs from a name and from those after it
 apart : (x : List ℕ) (names new : List (List ℕ)) → AllByRecursion (IsNew (x ∷ names)) new → IsNew new x × AllByRecursion (IsNew names) new
 apart x names [] h = (tt, tt)
 apart x names (name ∷ new) h =

@@ -20,12 +20,12 @@ abbrev pub first_of : List Written → Option Written
 first_of [] = None
 first_of (w ∷ rest) = Some w
 
--- the last name of a range, where `-` stands behind the first
+-- the last name of a range, where `-` stands after the first
 abbrev pub last_behind : List Written → Option Written
 last_behind [] = None
 last_behind (w ∷ rest) = if is Minus w.symbol then first_of rest else None
 
--- the items, where `-` stands before the first lexeme or not: all that is neither `-` nor behind one begins an item
+-- the items, where `-` stands before the first lexeme or not: all that is neither `-` nor after one begins an item
 abbrev pub items_from : Bool → List Written → List Item
 items_from behind_minus [] = []
 items_from behind_minus (w ∷ rest) =

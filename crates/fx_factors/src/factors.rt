@@ -131,7 +131,7 @@ fn add_numbered(
     Ok(())
 }
 
-/// A stem with a number behind it.
+/// A stem with a number after it.
 pub fn numbered_name(alloc: Global, stem: &[u8], number: u128) -> Result<Bytes, NoMemory>
     ensures { IfOk result (λ name. name ≡ stem.now ++ decimal number) }
 {
@@ -154,7 +154,7 @@ fn before_slash_len(lexemes: &[Lexeme<'_>]) -> usize
     lexemes.iter().take_while(|w| !w.is(Symbol::Slash)).count()
 }
 
-/// The last name of a range, where `-` stands behind the first.
+/// The last name of a range, where `-` stands after the first.
 pub fn last_behind<'b, 'a>(lexemes: &'b [Lexeme<'a>]) -> Option<&'b Lexeme<'a>>
     ensures { MatchOption result (last_behind lexemes.now ≡ None) (λ w. last_behind lexemes.now ≡ Some w.now) }
 {

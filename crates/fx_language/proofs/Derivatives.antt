@@ -1,4 +1,4 @@
--- What is left behind a symbol is what the description stands for behind it.
+-- What is left after a symbol is what the description stands for after it.
 use Rattle.std.proofs.Common.{◌≡◌, Bool, true, false, cond, ◌||◌, ◌⊎◌, List, [], ◌∷◌, ◌++◌, refl, sym, ap, subst, ◌∙◌, append_assoc, inl, inr, ⊎_elim}
 use Rattle.std.specs.List.{flat_map, AllByRecursion}
 use Rattle.std.proofs.lemmas.Bool.{and_parts, or_cases}
@@ -89,7 +89,7 @@ front_sound s a b t e is in_a in_b h = go e is h
         ⊎_elim first (λ q. ([], s ∷ t, empty_in a e, in_b q, refl)) (or_else_to (after s a ▸ b) (after s b) t h)
     go false e h = first h
 
--- a text behind the symbol
+-- a text after the symbol
 pub after_sound : (s : Symbol) (a : Shape) (t : List Symbol) → Matches (after s a) t → Matches a (s ∷ t)
 after_sound s Never t h = h
 after_sound s Empty t h = absurd h

@@ -1,4 +1,4 @@
--- Nothing stands behind the end of a text.
+-- Nothing stands after the end of a text.
 use Rattle.std.proofs.Common.{◌≡◌, Bool, true, false, cond, ◌&&◌, not, List, [], refl, ⊎_elim}
 use Rattle.std.proofs.lemmas.Bool.{and_parts, not-true}
 use Rattle.fx_language.specs.declared.symbol.Symbol.{Symbol}
@@ -81,7 +81,7 @@ ends_either Never b h k = k
 ends_either a Never h k = h
 ends_either a b h k = and_of (ends_last a) (ends_last b) h k
 
--- it holds of what is left behind a symbol
+-- it holds of what is left after a symbol
 pub ends_after : (s : Symbol) (a : Shape) → ends_last a ≡ true → ends_last (after s a) ≡ true
 ends_after s Never h = refl
 ends_after s Empty h = refl
@@ -116,7 +116,7 @@ OnlyEmpty a = (t : List Symbol) → Matches a t → t ≡ []
 either_empty : (a b : Shape) → OnlyEmpty a → OnlyEmpty b → OnlyEmpty (or_else a b)
 either_empty a b f g t h = ⊎_elim (λ p. f t p) (λ p. g t p) (or_else_to a b t h)
 
--- behind the end nothing is left
+-- after the end nothing is left
 pub empty_after_end : (a : Shape) → ends_last a ≡ true → OnlyEmpty (after End a)
 empty_after_end Never h = λ t m. absurd m
 empty_after_end Empty h = λ t m. absurd m

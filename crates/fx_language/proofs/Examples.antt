@@ -44,7 +44,7 @@ unknown_procedure : refusal (codes "proc means;") ≡ Some (1, 1)
 unfolding refusal
 unknown_procedure = refl
 
--- behind QUIT no step is open
+-- after QUIT no step is open
 outside_a_step : refusal (codes "proc factex;run;quit;factors A;") ≡ Some (1, 7)
 unfolding refusal
 outside_a_step = refl
@@ -89,7 +89,7 @@ aberration_of : refusal (codes "proc factex;examine aliasing aberration(4);") �
 unfolding refusal
 aberration_of = refl
 
--- but not so behind other words
+-- but not so after other words
 blocked_of : refusal (codes "proc factex;examine blocked(4);") ≡ Some (2, 5)
 unfolding refusal
 blocked_of = refl
@@ -102,7 +102,7 @@ derived : refusal (codes "proc factex;output[A]=B;") ≡ Some (24, 4)
 unfolding refusal
 derived = refl
 
--- NVALS behind a block column's name: its values, a factor of that name, or neither
+-- NVALS after a block column's name: its values, a factor of that name, or neither
 nvals_of_blocks : refusal (codes "proc factex;output out=a blockname=b nvals=(1 -2);") ≡ None
 unfolding refusal
 nvals_of_blocks = refl
@@ -119,7 +119,7 @@ nvals_and_a_sign : refusal (codes "proc factex;output out=a blockname=b nvals;")
 unfolding refusal
 nvals_and_a_sign = refl
 
--- a statement twice; behind RUN it is too late, and that comes first
+-- a statement twice; after RUN it is too late, and that comes first
 statement_twice : refusal (codes "proc factex;size design=4;size foo;") ≡ Some (26, 8)
 unfolding refusal
 statement_twice = refl
@@ -141,7 +141,7 @@ option_twice : refusal (codes "proc factex;output out=novalran novalran randomiz
 unfolding refusal
 option_twice = refl
 
--- PROC FACTEX behind 100 steps, and behind 99; another procedure is refused at its own name
+-- PROC FACTEX after 100 steps, and after 99; another procedure is refused at its own name
 steps : ℕ → List Symbol
 steps n = flat_map (λ (x : Symbol). Semicolon ∷ Factex ∷ Proc ∷ []) (replicate n Proc)
 

@@ -12,7 +12,7 @@ use Rattle.fx_language.specs.Symbols.{is, is_once}
 use Rattle.fx_language.specs.Repeats.{is_start, is_behind_equals, first_words, step_words, has_statement, procs, has_option, is_option_in, begins_with, rule_at, repeated, or_later}
 use Rattle.fx_language.specs.Pasts.{past_of, past_after, begun_after, rule_of, step_has, statement_has}
 
--- a word of the step, behind one more symbol
+-- a word of the step, after one more symbol
 begun : (start ends : Bool) (word s : Symbol) (words : List Symbol) → (is Proc s || is Quit s) ≡ ends
     → list_any (is word) (step_words (if start then s ∷ words else words)) ≡ (if start then not ends && (is word s || list_any (is word) (step_words words)) else list_any (is word) (step_words words))
 begun false ends word s words e = refl
@@ -35,7 +35,7 @@ counted : (start proc : Bool) (s : Symbol) (words : List Symbol) → is Proc s �
 counted false proc s words e = refl
 counted true proc s words e = count_next proc s words e
 
--- what is kept behind one more symbol
+-- what is kept after one more symbol
 pub past_next : (s : Symbol) (seen : List Symbol) → past_of (s ∷ seen) ≡ past_after (past_of seen) s
 past_next s seen =
     let run = begun_next Run s seen in

@@ -1,4 +1,4 @@
--- A description each of whose parts stands for some text: what it leaves behind a symbol is Never or such again.
+-- A description each of whose parts stands for some text: what it leaves after a symbol is Never or such again.
 use Rattle.std.proofs.Common.{◌≡◌, Bool, true, false, cond, ◌&&◌, ◌||◌, ◌⊎◌, List, [], ◌∷◌, ◌++◌, refl, inl, inr, ⊎_elim}
 use Rattle.std.specs.List.{list_any}
 use Rattle.std.proofs.lemmas.Bool.{and_parts, or_cases}

@@ -10,7 +10,7 @@ use Rattle.fx_language.specs.declared.symbol.Symbol.TheVariants.{Proc}
 use Rattle.fx_language.specs.Keywords.{is_same, listed_in}
 use Rattle.fx_language.specs.Spellings.{row_of}
 
--- what a list gives behind its end
+-- what a list gives after its end
 abbrev pub any : Spelling
 any = record { letters = record { ref_ptr = (0, 0); now = [] }; symbol = Proc }
 

@@ -21,7 +21,7 @@ n = key Whole
 abbrev pub n_or : Symbol → Shape
 n_or word = One (λ s. is Whole s || is word s)
 
--- `(` has a code of its own behind some words
+-- `(` has a code of its own after some words
 abbrev pub no_open : Shape
 no_open = Empty ∣ Fault 24 (is Open)
 
@@ -29,7 +29,7 @@ no_open = Empty ∣ Fault 24 (is Open)
 abbrev pub item : Shape
 item = name ▸ maybe (key Minus ▸ name)
 
--- behind the word FACTORS
+-- after the word FACTORS
 abbrev pub factors_rest : Shape
 factors_rest = item ▸ Many item ▸ maybe (key Slash ▸ key Nlev ▸ key Equals ▸ n) ▸ key Semicolon
 
@@ -37,7 +37,7 @@ factors_rest = item ▸ Many item ▸ maybe (key Slash ▸ key Nlev ▸ key Equa
 abbrev pub factors : Shape
 factors = key Factors ▸ factors_rest
 
--- behind the word SIZE
+-- after the word SIZE
 abbrev pub size_rest : Shape
 size_rest =
     (key Design ▸ key Equals ▸ n_or Minimum
@@ -61,13 +61,13 @@ effect = name ▸ key Minus ▸ name ∣ star ▸ Many (key Bar ▸ star) ▸ ma
 abbrev pub list : Shape
 list = key Open ▸ effect ▸ Many effect ▸ key Close
 
--- behind the word MODEL, up to its options
+-- after the word MODEL, up to its options
 abbrev pub model_word : Shape
 model_word =
     key Estimate ▸ key Equals ▸ list ▸ maybe (key Nonnegligible ▸ key Equals ▸ list)
     ∣ key Resolution ▸ key Equals ▸ n_or Maximum
 
--- behind the word MODEL
+-- after the word MODEL
 abbrev pub model_rest : Shape
 model_rest = model_word ▸ maybe (key Slash ▸ key Minabs ▸ no_open) ▸ key Semicolon
 
@@ -75,7 +75,7 @@ model_rest = model_word ▸ maybe (key Slash ▸ key Minabs ▸ no_open) ▸ key
 abbrev pub model : Shape
 model = key Model ▸ model_rest
 
--- behind the word BLOCKS
+-- after the word BLOCKS
 abbrev pub blocks_rest : Shape
 blocks_rest =
     (key Nblkfacs ▸ key Equals ▸ n_or Maximum
@@ -91,7 +91,7 @@ blocks = key Blocks ▸ blocks_rest
 abbrev pub examine_word : Shape
 examine_word = key Aliasing ▸ no_open ∣ key Blocked ∣ key Confounding ∣ key Design ∣ key Aberration ▸ no_open
 
--- behind the word EXAMINE
+-- after the word EXAMINE
 abbrev pub examine_rest : Shape
 examine_rest = Many examine_word ▸ key Semicolon
 
@@ -127,7 +127,7 @@ option =
     ∣ key Blockname ▸ key Equals ▸ name ▸ maybe values
     ∣ recoded ▸ values
 
--- behind the word OUTPUT, where `[` has a code of its own
+-- after the word OUTPUT, where `[` has a code of its own
 abbrev pub output_rest : Shape
 output_rest = guarded 24 (is OpenBracket) (key Out ▸ key Equals ▸ name ▸ Many option ▸ key Semicolon)
 
@@ -144,7 +144,7 @@ abbrev pub statement : Shape
 statement =
     key Semicolon ∣ key Run ▸ key Semicolon ∣ factors ∣ size ∣ model ∣ blocks ∣ examine ∣ output
 
--- behind the word PROC, where the options that are left out have a code of their own
+-- after the word PROC, where the options that are left out have a code of their own
 abbrev pub proc_rest : Shape
 proc_rest =
     guarded 24 is_left_out

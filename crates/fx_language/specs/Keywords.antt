@@ -7,7 +7,7 @@ use Rattle.fx_lexer.specs.declared.token.Token.{Token}
 use Rattle.fx_language.specs.declared.symbol.Symbol.{Symbol}
 use Rattle.fx_language.specs.declared.symbol.Symbol.TheVariants.{Proc, Factex, Nodes, Run, Quit, Factors, Nlev, Size, Design, Fraction, Nrunfacs, Minimum, Maximum, Model, Estimate, Nonnegligible, Resolution, Minabs, Blocks, Nblkfacs, Nblocks, Examine, Aliasing, Blocked, Confounding, Aberration, Output, Out, Pointrep, Designrep, Randomize, Novalran, Blockname, Nvals, Cvals, Time, Nocheck, Namelen, Uniteffect, Name, Whole, Decimal, Quoted, Semicolon, Equals, Open, Close, OpenBracket, CloseBracket, Slash, Star, Bar, At, Minus}
 
--- the keywords in small letters, and behind them the short forms
+-- the keywords in small letters, and after them the short forms
 abbrev pub keywords : List (List ℕ × Symbol)
 keywords =
     (codes "proc", Proc) ∷

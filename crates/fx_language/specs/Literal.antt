@@ -1,4 +1,4 @@
--- The grammar without any code, and without a word on where a step ends: `;` and `RUN ;` behind a step belong to it
+-- The grammar without any code, and without a word on where a step ends: `;` and `RUN ;` after a step belong to it
 -- or to the program, as one likes. Its texts are those of the grammar with codes.
 use Rattle.fx_language.specs.declared.symbol.Symbol.TheVariants.{Proc, Factex, Nodes, Run, Quit, Design, Model, Minabs, Examine, Aliasing, Blocked, Confounding, Aberration, Output, Out, Pointrep, Designrep, Randomize, Novalran, Blockname, Semicolon, Equals, Open, Close, Slash, End}
 use Rattle.fx_language.specs.Shapes.{Shape, Many, maybe, ◌▸◌, ◌∣◌}

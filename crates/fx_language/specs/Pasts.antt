@@ -60,7 +60,7 @@ rule_of p s factex_follows =
     else (if not p.behind_equals && statement_has p.statement s then Some 28
     else None)))
 
--- whether the step has a statement that begins with this word, behind one more symbol
+-- whether the step has a statement that begins with this word, after one more symbol
 abbrev pub begun_after : Bool → Symbol → Symbol → Bool → Bool
 begun_after start s word had = if start then not (is Proc s || is Quit s) && (is word s || had) else had
 
@@ -74,11 +74,11 @@ step_after start s p = record {
   blocks = begun_after start s Blocks p.blocks;
 }
 
--- whether the statement begins with this word, behind one more symbol
+-- whether the statement begins with this word, after one more symbol
 abbrev pub in_after : Bool → Symbol → Symbol → Bool → Bool
 in_after start s word had = not (is Semicolon s) && (if start then is word s else had)
 
--- whether the statement has the option, behind one more symbol
+-- whether the statement has the option, after one more symbol
 abbrev pub option_after : Bool → Symbol → Symbol → Bool → Bool
 option_after behind_equals s option had = not (is Semicolon s) && ((is option s && not behind_equals) || had)
 
@@ -95,7 +95,7 @@ statement_after start behind_equals s p = record {
   blockname = option_after behind_equals s Blockname p.blockname;
 }
 
--- what is kept behind one more symbol
+-- what is kept after one more symbol
 abbrev pub past_after : Past → Symbol → Past
 past_after p s = record {
   start = is Semicolon s;

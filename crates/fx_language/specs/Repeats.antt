@@ -5,7 +5,7 @@ use Rattle.fx_language.specs.declared.symbol.Symbol.{Symbol}
 use Rattle.fx_language.specs.declared.symbol.Symbol.TheVariants.{Proc, Factex, Nodes, Run, Quit, Output, Semicolon, Equals}
 use Rattle.fx_language.specs.Symbols.{is, is_once, is_output_option}
 
--- What was seen stands with its last symbol first. A statement starts at the front of the text and behind each `;`.
+-- What was seen stands with its last symbol first. A statement starts at the front of the text and after each `;`.
 abbrev pub is_start : List Symbol → Bool
 is_start [] = true
 is_start (s ∷ seen) = is Semicolon s
@@ -15,7 +15,7 @@ abbrev pub first_words : List Symbol → List Symbol
 first_words [] = []
 first_words (s ∷ seen) = if is_start seen then s ∷ first_words seen else first_words seen
 
--- those of the step: the words behind the last PROC or QUIT
+-- those of the step: the words after the last PROC or QUIT
 abbrev pub step_words : List Symbol → List Symbol
 step_words [] = []
 step_words (word ∷ words) = if is Proc word || is Quit word then [] else word ∷ step_words words
@@ -38,7 +38,7 @@ abbrev pub is_behind_equals : List Symbol → Bool
 is_behind_equals [] = false
 is_behind_equals (s ∷ seen) = is Equals s
 
--- the statement that was begun has this option; behind `=` its word is a name
+-- the statement that was begun has this option; after `=` its word is a name
 abbrev pub has_option : Symbol → List Symbol → Bool
 has_option option [] = false
 has_option option (s ∷ seen) =
@@ -53,8 +53,8 @@ abbrev pub begins_with : Symbol → List Symbol → Bool
 begins_with want [] = false
 begins_with want (s ∷ rest) = is want s
 
--- The code by which a rule refuses the symbol s behind what was seen, and before the rest. 27: a statement behind
--- a RUN of its step. 26: a statement that its step has already. 32: PROC FACTEX behind 100 steps. 28: an option that
+-- The code by which a rule refuses the symbol s after what was seen, and before the rest. 27: a statement after
+-- a RUN of its step. 26: a statement that its step has already. 32: PROC FACTEX after 100 steps. 28: an option that
 -- its statement has already.
 abbrev pub rule_at : List Symbol → Symbol → List Symbol → Option ℕ
 rule_at seen s rest =

@@ -1,4 +1,4 @@
--- Descriptions of texts of symbols: which texts a description stands for, and what it leaves behind a symbol.
+-- Descriptions of texts of symbols: which texts a description stands for, and what it leaves after a symbol.
 use Rattle.std.specs.Prelude.{◌≡◌, ℕ, Bool, true, false, ◌&&◌, ◌||◌, cond, ◌⊎◌, List, [], ◌∷◌, ◌++◌, Option, Some, None}
 use Rattle.std.specs.List.{flat_map, AllByRecursion}
 use Rattle.fx_language.specs.declared.symbol.Symbol.{Symbol}
@@ -32,8 +32,8 @@ Begins a text = (rest : List Symbol) × Matches a (text ++ rest)
 
 infixr 35 ◌▸◌
 infixr 30 ◌∣◌
--- The texts of a and behind each one of b, as Before a b. Never and Empty are left out, and sequences group to the
--- right, so that what is left behind a symbol stays small.
+-- The texts of a and after each one of b, as Before a b. Never and Empty are left out, and sequences group to the
+-- right, so that what is left after a symbol stays small.
 abbrev pub ◌▸◌ : Shape → Shape → Shape
 Never ▸ b = Never
 Empty ▸ b = b

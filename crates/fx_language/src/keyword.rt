@@ -17,7 +17,7 @@ fn row(letters: &'static [u8], symbol: Symbol) -> Spelling
     Spelling { letters, symbol }
 }
 
-/// Each keyword, and behind them the short forms of some.
+/// Each keyword, and after them the short forms of some.
 pub fn spellings() -> [Spelling; 47]
     ensures { map row_of result ≡ keywords }
 {

@@ -19,12 +19,12 @@ pub fn codes_change_no_text()
     ensures { (text : List Symbol) → HasSameTexts text }
 {}
 
-/// A sequence stands for the texts of its first part, each with one of its second part behind it.
+/// A sequence stands for the texts of its first part, each with one of its second part after it.
 pub fn sequence_is_one_before_another()
     ensures { (a b : Shape) (text : List Symbol) → Matches (a ▸ b) text ↔ Matches (Before a b) text }
 {}
 
-/// What a description leaves behind a symbol are its texts that begin with the symbol, without it.
+/// What a description leaves after a symbol are its texts that begin with the symbol, without it.
 pub fn after_is_what_follows()
     ensures { (s : Symbol) (a : Shape) (text : List Symbol)
         → Matches (after s a) text ↔ Matches a (s ∷ text) }

@@ -111,7 +111,7 @@ impl Past {
         None
     }
 
-    /// What is kept behind the symbol `s`.
+    /// What is kept after the symbol `s`.
     fn after(self, s: Symbol) -> Past
         requires { self.procs + 1 < 2 ^ 64 }
         ensures value { result ≡ past_after self s }
@@ -166,7 +166,7 @@ impl StepPast {
     }
 }
 
-/// Whether the step has a statement that begins with this word, behind the symbol `s`.
+/// Whether the step has a statement that begins with this word, after the symbol `s`.
 fn begun_after(start: bool, s: Symbol, word: Symbol, had: bool) -> bool
     ensures { result ≡ begun_after start s word had }
 {
@@ -209,14 +209,14 @@ impl StatementPast {
     }
 }
 
-/// Whether the statement begins with this word, behind the symbol `s`.
+/// Whether the statement begins with this word, after the symbol `s`.
 fn in_after(start: bool, s: Symbol, word: Symbol, had: bool) -> bool
     ensures { result ≡ in_after start s word had }
 {
     !Symbol::Semicolon.is(s) && (if start { word.is(s) } else { had })
 }
 
-/// Whether the statement has the option, behind the symbol `s`.
+/// Whether the statement has the option, after the symbol `s`.
 fn option_after(behind_equals: bool, s: Symbol, option: Symbol, had: bool) -> bool
     ensures { result ≡ option_after behind_equals s option had }
 {

@@ -18,7 +18,7 @@ comments : lexed (codes "a=1.5;*x;/*y*/.5") ≡ Ok (token Word 1 1 0 1 ∷ token
 unfolding lexed
 comments = refl
 
--- a statement still starts behind a comment
+-- a statement still starts after a comment
 two_remarks : lexed (codes "*a;*b; c*d") ≡ Ok (token Word 1 8 7 8 ∷ token Sign 1 9 8 9 ∷ token Word 1 10 9 10 ∷ [])
 unfolding lexed
 two_remarks = refl
@@ -49,7 +49,7 @@ shortest_comment : lexed (codes "/**/") ≡ Ok []
 unfolding lexed
 shortest_comment = refl
 
--- a point needs a digit behind it
+-- a point needs a digit after it
 last_point : lexed (codes "1.") ≡ fault 3 1 2
 unfolding lexed
 last_point = refl

@@ -184,7 +184,7 @@ module _ (start : Bool) (b : ℕ) (bytes : List ℕ) where
           | inr f ↦ absurd (let zero_is = eq-eqb n 0 (omega arith) in cc)
         ])
 
-  -- the digits in front, and the bytes from a point on behind them
+  -- the digits in front, and the bytes from a point on after them
   abbrev whole_len : ℕ
   whole_len = prefix_len is_digit (b ∷ bytes)
 

@@ -45,7 +45,7 @@ item_passed text start (x ∷ front) rest b bytes n at joined some long =
     let g : at + 1 + length front ≡ at + n = omega (arith, long) in
     rw (e, f) (passed text start front rest (at + 1) ∙ ap (λ k. lexed_from text 0 start k rest) g)
 
--- behind the bytes `before`, the rest is pieces with these tokens
+-- after the bytes `before`, the rest is pieces with these tokens
 pub record Taken (before rest : List ℕ) (start : Bool) (tokens : List Token) : Type 0 where
   pub pieces : List Piece
   pub joined : rest ≡ text_of pieces []

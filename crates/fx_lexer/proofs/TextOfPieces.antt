@@ -13,7 +13,7 @@ use Rattle.fx_lexer.proofs.PiecesOfText.{some_bytes, item_passed}
 use Rattle.fx_lexer.proofs.NextItem.{in_front_twice}
 use Rattle.fx_lexer.proofs.ItemOfPiece.{differs, no_semicolon_number, digit_first, point_or_digit, piece_item, flaw_item}
 
--- whether a statement starts behind a piece, by its first byte
+-- whether a statement starts after a piece, by its first byte
 behind : (start : Bool) (p : Piece) (rest : List ℕ) (b : ℕ) (bytes : List ℕ) → b ∷ bytes ≡ spelling p ++ rest
     → HasForm start p rest
     → starts_after start (record { kind = kind_of p; length = length (spelling p) }) b ≡ starts_behind start p

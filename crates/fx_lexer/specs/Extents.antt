@@ -49,7 +49,7 @@ quoted_len quote in_pair (b ∷ bytes) =
     if ends_quoted quote in_pair (b ∷ bytes) then Some 1
     else option_map suc (quoted_len quote (opens_pair quote in_pair b) bytes)
 
--- a point and the digits behind it, or 0 where there are none
+-- a point and the digits after it, or 0 where there are none
 abbrev pub fraction_len : List ℕ → ℕ
 fraction_len [] = 0
 fraction_len (b ∷ bytes) =

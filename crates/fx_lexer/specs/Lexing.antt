@@ -27,7 +27,7 @@ tokens_of_kind place at (Some k) n = token_at place at k n ∷ []
 abbrev pub tokens_of : Place → ℕ → Item → List Token
 tokens_of place at i = tokens_of_kind place at i.kind i.length
 
--- whether a statement starts behind an item whose first byte is b: behind a `;` token, until the next token
+-- whether a statement starts after an item whose first byte is b: after a `;` token, until the next token
 abbrev pub starts_after : Bool → Item → ℕ → Bool
 starts_after start i b = if is_some i.kind then b == 59 else start
 

@@ -10,7 +10,7 @@ use Rattle.fx_lexer.specs.Places.{place_after}
 use Rattle.fx_lexer.specs.Lexing.{tokens_of_kind}
 
 -- A byte of white space; a comment or a remark by what it says; the tokens by what they are made of. A number
--- has digits before its point and behind it; a quoted text has its quote and its value.
+-- has digits before its point and after it; a quoted text has its quote and its value.
 pub data Piece : Type 0 where
   white : ℕ → Piece
   comment : List ℕ → Piece
@@ -47,7 +47,7 @@ kind_of (decimal digits fraction) = Some kind.Decimal
 kind_of (quoted quote value) = Some kind.Quoted
 kind_of (sign b) = Some kind.Sign
 
--- whether a statement starts behind the piece: behind a `;` token, and so on until the next token
+-- whether a statement starts after the piece: after a `;` token, and so on until the next token
 abbrev pub starts_behind : Bool → Piece → Bool
 starts_behind start (white b) = start
 starts_behind start (comment inside) = start
@@ -68,7 +68,7 @@ begins_fraction bytes = starts_with_byte 46 bytes && begins_with is_digit (drop 
 abbrev pub Closes : List ℕ → Type 0
 Closes bytes = (before : List ℕ) × (behind : List ℕ) × (bytes ≡ before ++ (codes "*/" ++ behind))
 
--- the bytes behind a quote reach its end: a value with its quotes doubled, and a quote that isn't the first of a pair
+-- the bytes after a quote reach its end: a value with its quotes doubled, and a quote that isn't the first of a pair
 abbrev pub EndsQuoted : ℕ → List ℕ → Type 0
 EndsQuoted quote bytes =
     (value : List ℕ) × (rest : List ℕ) × (bytes ≡ doubled quote value ++ quote ∷ rest)
@@ -112,7 +112,7 @@ AreFormed start [] rest = Unit {0}
 AreFormed start (p ∷ pieces) rest =
     HasForm start p (text_of pieces rest) × IsShort p × AreFormed (starts_behind start p) pieces rest
 
--- whether a statement starts behind all of them
+-- whether a statement starts after all of them
 abbrev pub starts_behind_all : Bool → List Piece → Bool
 starts_behind_all start [] = start
 starts_behind_all start (p ∷ pieces) = starts_behind_all (starts_behind start p) pieces

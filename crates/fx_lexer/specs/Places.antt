@@ -3,11 +3,11 @@ use Rattle.std.specs.Prelude.{ℕ, ◌+◌, ◌==◌, not, List, reverse, count_
 use Rattle.std.specs.List.{prefix_len}
 use Rattle.fx_lexer.specs.declared.place.Place.{Place}
 
--- the line of the place behind these bytes: a line feed ends a line
+-- the line of the place after these bytes: a line feed ends a line
 abbrev pub line_after : List ℕ → ℕ
 line_after bytes = 1 + count_by (λ b. b == 10) bytes
 
--- the column of that place: one more than the bytes behind the last line feed
+-- the column of that place: one more than the bytes after the last line feed
 abbrev pub column_after : List ℕ → ℕ
 column_after bytes = 1 + prefix_len (λ b. not (b == 10)) (reverse bytes)
 

@@ -26,7 +26,7 @@ pub record IsToken (text : List ℕ) (t : Token) : Type 0 where
   pub form : HasForm start piece (drop t.upto text)
   pub short : IsShort piece
 
--- the tokens lie between these places, one behind another
+-- the tokens lie between these places, one after another
 abbrev pub AreInOrder : ℕ → ℕ → List Token → Type 0
 AreInOrder from upto [] = from ≤ upto
 AreInOrder from upto (t ∷ tokens) = (from ≤ t.from) × (t.from < t.upto) × AreInOrder t.upto upto tokens

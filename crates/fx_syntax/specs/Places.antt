@@ -38,11 +38,11 @@ in_step =
     ▸ Many (step ▸ maybe (key Quit ▸ key Semicolon ▸ between))
     ▸ (key End ∣ unknown)
 
--- the end of a statement of a step, and what is left behind it
+-- the end of a statement of a step, and what is left after it
 abbrev pub ending : Shape
 ending = key Semicolon ▸ in_step
 
--- a, and behind it options and the end of a PROC statement
+-- a, and after it options and the end of a PROC statement
 abbrev pub in_proc : Shape → Shape
 in_proc a = guarded 24 is_left_out (a ▸ Many (key Nodes ▸ key Equals ▸ n) ▸ key Semicolon) ▸ in_step
 
@@ -93,7 +93,7 @@ model_left model.Slash = model_option
 model_left model.Option = key Minabs ▸ no_open ▸ ending
 model_left model.End = no_open ▸ ending
 
--- what is left behind a list of effects
+-- what is left after a list of effects
 abbrev pub list_left : EffectList → Shape
 list_left effects.Estimate = model_left model.Nonnegligible
 list_left effects.Nonnegligible = model_option
@@ -102,7 +102,7 @@ list_left effects.Nonnegligible = model_option
 abbrev pub more_effects : EffectList → Shape
 more_effects l = Many effect ▸ key Close ▸ list_left l
 
--- further products behind bars, and the greatest number of factors
+-- further products after bars, and the greatest number of factors
 abbrev pub crossed : Shape
 crossed = Many (key Bar ▸ star) ▸ maybe (key At ▸ n)
 
@@ -123,7 +123,7 @@ abbrev pub examine_left : ExaminePlace → Shape
 examine_left examine.Sections = Many examine_word ▸ ending
 examine_left examine.NoOpen = no_open ▸ Many examine_word ▸ ending
 
--- a, and behind it options and the end of an OUTPUT statement
+-- a, and after it options and the end of an OUTPUT statement
 abbrev pub in_output : Shape → Shape
 in_output a = guarded 24 (is OpenBracket) (a ▸ Many option ▸ key Semicolon) ▸ in_step
 

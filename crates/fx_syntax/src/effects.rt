@@ -16,28 +16,28 @@ pub enum EffectList {
 /// A place in a list of effects.
 #[derive(Clone, Copy, Debug)]
 pub enum EffectPlace {
-    /// Behind the word before the list: `=`.
+    /// After the word before the list: `=`.
     Equals,
-    /// Behind that: `(`.
+    /// After that: `(`.
     Open,
-    /// Behind `(`: the first name.
+    /// After `(`: the first name.
     First,
-    /// Behind the first name of an effect: `-`, `*`, `|`, `@`, another effect or `)`.
+    /// After the first name of an effect: `-`, `*`, `|`, `@`, another effect or `)`.
     Name,
-    /// Behind `-`: the last name of the range.
+    /// After `-`: the last name of the range.
     Range,
-    /// Behind `*` or `|`: a name.
+    /// After `*` or `|`: a name.
     Factor,
-    /// Behind that: `*`, `|`, `@`, another effect or `)`.
+    /// After that: `*`, `|`, `@`, another effect or `)`.
     Product,
-    /// Behind `@`: a number.
+    /// After `@`: a number.
     Bound,
-    /// Behind a range or a bound: another effect or `)`.
+    /// After a range or a bound: another effect or `)`.
     More,
 }
 
 impl EffectPlace {
-    /// The place behind the symbol, or None where the grammar refuses it.
+    /// The place after the symbol, or None where the grammar refuses it.
     pub(crate) fn next(self, list: EffectList, symbol: Symbol) -> Option<State>
         ensures { after symbol (effects_left list self) ≡ shape_left result }
     {
@@ -58,7 +58,7 @@ impl EffectPlace {
     }
 }
 
-/// The place behind a symbol that stands behind a name of a product.
+/// The place after a symbol that stands after a name of a product.
 fn behind_product(list: EffectList, symbol: Symbol) -> Option<State>
     ensures { after symbol (effects_left list EffectPlace.Product) ≡ shape_left result }
 {
@@ -69,7 +69,7 @@ fn behind_product(list: EffectList, symbol: Symbol) -> Option<State>
     }
 }
 
-/// The place behind a symbol that stands behind a whole effect.
+/// The place after a symbol that stands after a whole effect.
 fn behind_effect(list: EffectList, symbol: Symbol) -> Option<State>
     ensures { after symbol (effects_left list EffectPlace.More) ≡ shape_left result }
 {
@@ -80,7 +80,7 @@ fn behind_effect(list: EffectList, symbol: Symbol) -> Option<State>
 }
 
 impl EffectList {
-    /// The place behind the list.
+    /// The place after the list.
     fn behind(self) -> State
         ensures { shape_of result ≡ list_left self }
     {

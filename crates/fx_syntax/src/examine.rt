@@ -5,17 +5,17 @@ ghost use Rattle.fx_syntax.specs.Places.{examine_left, shape_left};
 use crate::state::State;
 use fx_language::Symbol;
 
-/// A place in an EXAMINE statement. Behind it comes a section of the listing, or `;`.
+/// A place in an EXAMINE statement. After it comes a section of the listing, or `;`.
 #[derive(Clone, Copy, Debug)]
 pub enum ExaminePlace {
-    /// Behind EXAMINE or a section.
+    /// After EXAMINE or a section.
     Sections,
-    /// Behind ALIASING or ABERRATION, where `(` has a code of its own.
+    /// After ALIASING or ABERRATION, where `(` has a code of its own.
     NoOpen,
 }
 
 impl ExaminePlace {
-    /// The place behind the symbol, or None where the grammar refuses it.
+    /// The place after the symbol, or None where the grammar refuses it.
     pub(crate) fn next(self, symbol: Symbol) -> Option<State>
         ensures { after symbol (examine_left self) ≡ shape_left result }
     {

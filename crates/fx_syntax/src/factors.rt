@@ -8,24 +8,24 @@ use fx_language::Symbol;
 /// A place in a FACTORS statement.
 #[derive(Clone, Copy, Debug)]
 pub enum FactorsPlace {
-    /// Behind FACTORS: a name.
+    /// After FACTORS: a name.
     First,
-    /// Behind a name: `-`, another name, `/` or `;`.
+    /// After a name: `-`, another name, `/` or `;`.
     Name,
-    /// Behind `-`: the last name of the range.
+    /// After `-`: the last name of the range.
     Range,
-    /// Behind a range: a name, `/` or `;`.
+    /// After a range: a name, `/` or `;`.
     More,
-    /// Behind `/`: NLEV.
+    /// After `/`: NLEV.
     Option,
-    /// Behind NLEV: `=`.
+    /// After NLEV: `=`.
     Equals,
-    /// Behind that: a number.
+    /// After that: a number.
     Levels,
 }
 
 impl FactorsPlace {
-    /// The place behind the symbol, or None where the grammar refuses it.
+    /// The place after the symbol, or None where the grammar refuses it.
     pub(crate) fn next(self, symbol: Symbol) -> Option<State>
         ensures { after symbol (factors_left self) ≡ shape_left result }
     {
@@ -44,7 +44,7 @@ impl FactorsPlace {
     }
 }
 
-/// The place behind a symbol that stands behind a name or a range.
+/// The place after a symbol that stands after a name or a range.
 fn behind_item(symbol: Symbol) -> Option<State>
     ensures { after symbol (factors_left FactorsPlace.More) ≡ shape_left result }
 {

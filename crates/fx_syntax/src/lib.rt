@@ -1,7 +1,7 @@
 //! Where a program is first refused, by a finite automaton that passes once over its symbols.
 //!
 //! A state is a place in the grammar, and stands for what of the grammar is left there. Each move is
-//! proved to lead to a place where that is left which the grammar leaves behind the symbol. The
+//! proved to lead to a place where that is left which the grammar leaves after the symbol. The
 //! grammar nests nothing, so some sixty places are enough.
 #![tactic(auto)]
 

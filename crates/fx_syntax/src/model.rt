@@ -9,24 +9,24 @@ use fx_language::Symbol;
 /// A place in a MODEL statement, outside of its lists of effects.
 #[derive(Clone, Copy, Debug)]
 pub enum ModelPlace {
-    /// Behind MODEL: ESTIMATE or RESOLUTION.
+    /// After MODEL: ESTIMATE or RESOLUTION.
     Word,
-    /// Behind the list of ESTIMATE: NONNEGLIGIBLE, `/` or `;`.
+    /// After the list of ESTIMATE: NONNEGLIGIBLE, `/` or `;`.
     Nonnegligible,
-    /// Behind RESOLUTION: `=`.
+    /// After RESOLUTION: `=`.
     Equals,
-    /// Behind that: a number or MAXIMUM.
+    /// After that: a number or MAXIMUM.
     Resolution,
-    /// Behind all but the option: `/` or `;`.
+    /// After all but the option: `/` or `;`.
     Slash,
-    /// Behind `/`: MINABS.
+    /// After `/`: MINABS.
     Option,
-    /// Behind MINABS: `;`.
+    /// After MINABS: `;`.
     End,
 }
 
 impl ModelPlace {
-    /// The place behind the symbol, or None where the grammar refuses it.
+    /// The place after the symbol, or None where the grammar refuses it.
     pub(crate) fn next(self, symbol: Symbol) -> Option<State>
         ensures { after symbol (model_left self) ≡ shape_left result }
     {
@@ -65,7 +65,7 @@ impl ModelPlace {
     }
 }
 
-/// The place behind the `/` before the option, or behind `;`.
+/// The place after the `/` before the option, or after `;`.
 fn option_or_end(symbol: Symbol) -> Option<State>
     ensures { after symbol (model_left ModelPlace.Slash) ≡ shape_left result }
 {

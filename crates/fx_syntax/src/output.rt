@@ -9,39 +9,39 @@ use fx_language::Symbol;
 /// A place in an OUTPUT statement, outside of its lists of values.
 #[derive(Clone, Copy, Debug)]
 pub enum OutputPlace {
-    /// Behind OUTPUT: OUT.
+    /// After OUTPUT: OUT.
     Out,
-    /// Behind OUT: `=`.
+    /// After OUT: `=`.
     Equals,
-    /// Behind that: the name of the data set.
+    /// After that: the name of the data set.
     DataSet,
-    /// Behind an option: another one, or `;`.
+    /// After an option: another one, or `;`.
     Options,
-    /// Behind POINTREP or DESIGNREP: `=`.
+    /// After POINTREP or DESIGNREP: `=`.
     ReplicationEquals,
-    /// Behind that: a number.
+    /// After that: a number.
     Replication,
-    /// Behind RANDOMIZE: `(`, an option or `;`.
+    /// After RANDOMIZE: `(`, an option or `;`.
     Randomize,
-    /// Behind `(`: a number.
+    /// After `(`: a number.
     Seed,
-    /// Behind that: `)`.
+    /// After that: `)`.
     SeedEnd,
-    /// Behind BLOCKNAME: `=`.
+    /// After BLOCKNAME: `=`.
     BlocknameEquals,
-    /// Behind that: the name of the block column.
+    /// After that: the name of the block column.
     BlockColumn,
-    /// Behind that: its values, an option or `;`.
+    /// After that: its values, an option or `;`.
     BlockValues,
-    /// Behind NVALS or CVALS there: the rest of the column's values, or the values of a factor of
+    /// After NVALS or CVALS there: the rest of the column's values, or the values of a factor of
     /// that name.
     ValuesOrFactor(ValueKind),
-    /// Behind the name of a factor: its values.
+    /// After the name of a factor: its values.
     Factor,
 }
 
 impl OutputPlace {
-    /// The place behind the symbol, or None where the grammar refuses it.
+    /// The place after the symbol, or None where the grammar refuses it.
     pub(crate) fn next(self, symbol: Symbol) -> Option<State>
         ensures { after symbol (output_left self) ≡ shape_left result }
     {
@@ -87,7 +87,7 @@ impl OutputPlace {
     }
 }
 
-/// The place behind the first word of an option, or behind `;`.
+/// The place after the first word of an option, or after `;`.
 fn option(symbol: Symbol) -> Option<State>
     ensures { after symbol (output_left OutputPlace.Options) ≡ shape_left result }
 {
@@ -103,7 +103,7 @@ fn option(symbol: Symbol) -> Option<State>
     }
 }
 
-/// The place behind the word that begins the values of a factor.
+/// The place after the word that begins the values of a factor.
 fn values(symbol: Symbol) -> Option<State>
     ensures { after symbol (output_left OutputPlace.Factor) ≡ shape_left result }
 {
@@ -114,7 +114,7 @@ fn values(symbol: Symbol) -> Option<State>
     }
 }
 
-/// The place behind the first word of the block column's values, of an option, or behind `;`.
+/// The place after the first word of the block column's values, of an option, or after `;`.
 fn values_or_option(symbol: Symbol) -> Option<State>
     ensures { after symbol (output_left OutputPlace.BlockValues) ≡ shape_left result }
 {

@@ -8,18 +8,18 @@ use fx_language::Symbol;
 /// A place in a PROC statement.
 #[derive(Clone, Copy, Debug)]
 pub enum ProcPlace {
-    /// Behind PROC: FACTEX.
+    /// After PROC: FACTEX.
     Procedure,
-    /// Behind FACTEX or an option: NODES or `;`.
+    /// After FACTEX or an option: NODES or `;`.
     Options,
-    /// Behind NODES: `=`.
+    /// After NODES: `=`.
     Equals,
-    /// Behind that: a number.
+    /// After that: a number.
     Nodes,
 }
 
 impl ProcPlace {
-    /// The place behind the symbol, or None where the grammar refuses it.
+    /// The place after the symbol, or None where the grammar refuses it.
     pub(crate) fn next(self, symbol: Symbol) -> Option<State>
         ensures { after symbol (proc_left self) ≡ shape_left result }
     {

@@ -8,13 +8,13 @@ use fx_language::Symbol;
 /// A place in a SIZE or BLOCKS statement.
 #[derive(Clone, Copy, Debug)]
 pub enum SettingPlace {
-    /// Behind SIZE: the word that says what is set.
+    /// After SIZE: the word that says what is set.
     SizeWord,
-    /// Behind BLOCKS: the word that says what is set.
+    /// After BLOCKS: the word that says what is set.
     BlocksWord,
-    /// Behind that word: `=`.
+    /// After that word: `=`.
     Equals(Extreme),
-    /// Behind `=`: a number, or the word for the extreme.
+    /// After `=`: a number, or the word for the extreme.
     Value(Extreme),
 }
 
@@ -26,7 +26,7 @@ pub enum Extreme {
 }
 
 impl SettingPlace {
-    /// The place behind the symbol, or None where the grammar refuses it.
+    /// The place after the symbol, or None where the grammar refuses it.
     pub(crate) fn next(self, symbol: Symbol) -> Option<State>
         ensures { after symbol (setting_left self) ≡ shape_left result }
     {

@@ -20,13 +20,13 @@ use fx_language::Symbol;
 pub enum State {
     /// Outside of steps: a statement, PROC or the end.
     Between,
-    /// Behind RUN or QUIT outside of steps, and behind the QUIT that ends one: `;`.
+    /// After RUN or QUIT outside of steps, and after the QUIT that ends one: `;`.
     Closing,
-    /// Behind the end: nothing.
+    /// After the end: nothing.
     Ended,
     /// In a step: a statement, or what ends the step.
     Step,
-    /// Behind all of a statement of a step but its `;`.
+    /// After all of a statement of a step but its `;`.
     StatementEnd,
     Proc(ProcPlace),
     Factors(FactorsPlace),
@@ -39,7 +39,7 @@ pub enum State {
 }
 
 impl State {
-    /// The place behind the symbol, or None where the grammar refuses it.
+    /// The place after the symbol, or None where the grammar refuses it.
     pub(crate) fn next(self, symbol: Symbol) -> Option<State>
         ensures { after symbol (shape_of self) ≡ shape_left result }
     {
@@ -178,14 +178,14 @@ fn inside_step(symbol: Symbol) -> Option<State>
     }
 }
 
-/// The place behind this symbol alone.
+/// The place after this symbol alone.
 pub(crate) fn only(want: Symbol, symbol: Symbol, behind: State) -> Option<State>
     ensures { result ≡ if is want symbol then Some behind else None }
 {
     if want.is(symbol) { Some(behind) } else { None }
 }
 
-/// The place behind any word.
+/// The place after any word.
 pub(crate) fn any_word(symbol: Symbol, behind: State) -> Option<State>
     ensures { result ≡ if is_word symbol then Some behind else None }
 {

@@ -5,7 +5,7 @@ use std::alloc::Global;
 use std::process::Abort;
 use std::test::Fail;
 
-/// The refusal of a text behind `proc factex;`, which has the symbols 0 to 2.
+/// The refusal of a text after `proc factex;`, which has the symbols 0 to 2.
 fn in_step(rt: &impl Abort, alloc: Global, rest: &[u8]) -> Result<Option<(u8, usize)>, Fail> {
     let mut text = Vec::new(alloc);
     text.extend_from_slice(b"proc factex;")?;

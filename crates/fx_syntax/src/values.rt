@@ -13,27 +13,27 @@ pub enum ValueKind {
     Texts,
 }
 
-/// A place in the values of a factor or of the block column, behind NVALS or CVALS.
+/// A place in the values of a factor or of the block column, after NVALS or CVALS.
 #[derive(Clone, Copy, Debug)]
 pub enum ValuesPlace {
-    /// Behind that word: `=`.
+    /// After that word: `=`.
     Equals(ValueKind),
-    /// Behind `=`: `(`.
+    /// After `=`: `(`.
     Open(ValueKind),
-    /// Behind `(`: a number, or `-` and one.
+    /// After `(`: a number, or `-` and one.
     Number,
-    /// Behind `-`: a number.
+    /// After `-`: a number.
     Unsigned,
-    /// Behind a number: another one, or `)`.
+    /// After a number: another one, or `)`.
     MoreNumbers,
-    /// Behind `(`: a text.
+    /// After `(`: a text.
     Text,
-    /// Behind a text: another one, or `)`.
+    /// After a text: another one, or `)`.
     MoreTexts,
 }
 
 impl ValuesPlace {
-    /// The place behind the symbol, or None where the grammar refuses it.
+    /// The place after the symbol, or None where the grammar refuses it.
     pub(crate) fn next(self, symbol: Symbol) -> Option<State>
         ensures { after symbol (values_left self) ≡ shape_left result }
     {
@@ -71,7 +71,7 @@ impl ValuesPlace {
     }
 }
 
-/// The place behind the first symbol of a number.
+/// The place after the first symbol of a number.
 fn signed(symbol: Symbol) -> Option<State>
     ensures { after symbol (values_left ValuesPlace.Number) ≡ shape_left result }
 {
@@ -81,7 +81,7 @@ fn signed(symbol: Symbol) -> Option<State>
     }
 }
 
-/// The place behind a number without its sign.
+/// The place after a number without its sign.
 fn unsigned(symbol: Symbol) -> Option<State>
     ensures { after symbol (values_left ValuesPlace.Unsigned) ≡ shape_left result }
 {

@@ -1,4 +1,4 @@
--- A text is its first statement, a semicolon, and the statements behind it.
+-- A text is its first statement, a semicolon, and the statements after it.
 use Rattle.std.proofs.Common.{◌≡◌, ℕ, suc, ◌+◌, ◌<◌, Bool, false, not, List, [], ◌∷◌, ◌++◌, length, take, drop, refl, sym, ap, subst, ◌∙◌, inl, inr, arith}
 use Rattle.std.specs.List.{prefix_len}
 use Rattle.std.proofs.Math.Numerals.{add-one}
@@ -12,7 +12,7 @@ use Rattle.fx_text.specs.Statements.{in_front, statements_of}
 abbrev pub goes_on : Written → Bool
 goes_on w = not (is Semicolon w.symbol)
 
--- the text up to i is a statement, and the others stand behind the semicolon at i
+-- the text up to i is a statement, and the others stand after the semicolon at i
 abbrev IsCut : List Written → ℕ → Type 0
 IsCut xs i = statements_of xs ≡ take i xs ∷ statements_of (drop (suc i) xs)
 
@@ -37,7 +37,7 @@ pub cut_at : (xs : List Written) → 0 < length xs
 cut_at [] h = absurd (omega (arith, h))
 cut_at (w ∷ rest) h = rw add-one (cut w rest)
 
--- behind some statements, the next one
+-- after some statements, the next one
 pub cut_behind : (before : List (List Written)) (all xs : List Written) → 0 < length xs → statements_of all ≡ before ++ statements_of xs
     → statements_of all ≡ (before ++ take (prefix_len goes_on xs) xs ∷ []) ++ statements_of (drop (prefix_len goes_on xs + 1) xs)
 cut_behind before all xs h e = e ∙ ap (λ l. before ++ l) (cut_at xs h) ∙ sym (append_assoc before _ _)

@@ -11,7 +11,7 @@ abbrev pub in_front : Written → List (List Written) → List (List Written)
 in_front w [] = (w ∷ []) ∷ []
 in_front w (s ∷ rest) = (w ∷ s) ∷ rest
 
--- the statements: what stands before each semicolon, and what is left behind the last one
+-- the statements: what stands before each semicolon, and what is left after the last one
 abbrev pub statements_of : List Written → List (List Written)
 statements_of [] = []
 statements_of (w ∷ rest) = if is Semicolon w.symbol then [] ∷ statements_of rest else in_front w (statements_of rest)
@@ -20,7 +20,7 @@ statements_of (w ∷ rest) = if is Semicolon w.symbol then [] ∷ statements_of 
 abbrev pub ends_step : List Written → Bool
 ends_step s = begins Proc s || begins Quit s
 
--- the statements that belong to a step, from behind its PROC statement on
+-- the statements that belong to a step, from after its PROC statement on
 abbrev pub rest_of_step : List (List Written) → List (List Written)
 rest_of_step statements = take (prefix_len (λ s. not (ends_step s)) statements) statements
 
