@@ -4,7 +4,7 @@ use Rattle.std.specs.List.{filter, list_any, find, AllByRecursion}
 use Rattle.std.proofs.lemmas.Bool.{cond-true, cond-false, cases_Bool, and_from, and_left, and_right, or_left, or_right, or_from, and_parts, or_parts, false_from_ne_true, not_from_true, not_from_false}
 use Rattle.fx_designs.specs.Answers.{before}
 use Rattle.fx_designs.specs.Nodes.{parent, is_not_after}
-use Rattle.fx_laws.specs.Trees.{Tree, IsTree, prefixes, is_design, answer, is_branch, is_node, nodes, mark_of, marks}
+use Rattle.fx_laws.specs.Trees.{Tree, IsTree, tree_prefixes, is_tree_design, tree_answer, is_tree_branch, is_tree_node, tree_nodes, tree_mark, tree_marks}
 use Rattle.fx_laws.specs.Walks.{through, is_candidate, under, mark_at}
 use Rattle.fx_laws.proofs.Through.{filter-none}
 use Rattle.fx_laws.proofs.Candidates.{closed-append}
@@ -118,30 +118,30 @@ module _ (D : List ℕ → Bool) where
 
 module _ (t : Tree) (law : IsTree t) where
   abbrev any_before : List ℕ → Bool
-  any_before p = list_any (λ d. is_design t d && before d p) (prefixes t)
+  any_before p = list_any (λ d. is_tree_design t d && before d p) (tree_prefixes t)
 
-  after_is : (p : List ℕ) → is_not_after (answer t) p ≡ not (any_before p)
+  after_is : (p : List ℕ) → is_not_after (tree_answer t) p ≡ not (any_before p)
   after_is p =
-      let h = first_decides (is_design t) (prefixes t) (lists-sorted t.rows t.size) p in
-      go (answer t) refl h
+      let h = first_decides (is_tree_design t) (tree_prefixes t) (lists-sorted t.rows t.size) p in
+      go (tree_answer t) refl h
     where
-      go : (o : Option (List ℕ)) → answer t ≡ o → (find (is_design t) (prefixes t) ≡ None → any_before p ≡ false) × ((d : List ℕ) → find (is_design t) (prefixes t) ≡ Some d → any_before p ≡ before d p) → is_not_after (answer t) p ≡ not (any_before p)
+      go : (o : Option (List ℕ)) → tree_answer t ≡ o → (find (is_tree_design t) (tree_prefixes t) ≡ None → any_before p ≡ false) × ((d : List ℕ) → find (is_tree_design t) (tree_prefixes t) ≡ Some d → any_before p ≡ before d p) → is_not_after (tree_answer t) p ≡ not (any_before p)
       go None e h = ap (λ o. is_not_after o p) e ∙ sym (ap not (h.0 e))
       go (Some d) e h = ap (λ o. is_not_after o p) e ∙ sym (ap not (h.1 d e))
 
-  is_cut : (p : List ℕ) → 0 < length p → length p ≤ t.size → is_node t p ≡ (is_candidate t p && not (any_before p))
+  is_cut : (p : List ℕ) → 0 < length p → length p ≤ t.size → is_tree_node t p ≡ (is_candidate t p && not (any_before p))
   is_cut p some short =
       elim (cases_Bool (any_before p)) [
         | inl a ↦
-            let e : is_not_after (answer t) p ≡ false = after_is p ∙ not_from_true _ a in
+            let e : is_not_after (tree_answer t) p ≡ false = after_is p ∙ not_from_true _ a in
             and_right _ _ (and_right _ _ e) ∙ sym (and_right _ _ (not_from_true _ a))
         | inr a ↦
-            let e : is_not_after (answer t) p ≡ true = after_is p ∙ not_from_false _ a in
-            let up : any_before (parent p) ≡ false = any-less (λ d. is_design t d && before d p) (λ d. is_design t d && before d (parent p))
-            (λ d z. let parts = and_parts (is_design t d) (before d (parent p)) z in and_from _ _ parts.0 (before-trans d (parent p) p parts.1 (parent-before p some))) (prefixes t) a in
+            let e : is_not_after (tree_answer t) p ≡ true = after_is p ∙ not_from_false _ a in
+            let up : any_before (parent p) ≡ false = any-less (λ d. is_tree_design t d && before d p) (λ d. is_tree_design t d && before d (parent p))
+            (λ d z. let parts = and_parts (is_tree_design t d) (before d (parent p)) z in and_from _ _ parts.0 (before-trans d (parent p) p parts.1 (parent-before p some))) (tree_prefixes t) a in
             let low : ltb (length (parent p)) t.size ≡ true = lt-ltb _ _ (omega (arith, length-take (length p - 1) p)) in
-            let branch : is_branch t (parent p) ≡ t.allowed (parent p) = unit (t.allowed (parent p)) _ (and_from _ _ low (not_from_false _ up)) in
-            ap (λ b. t.canonical p && ((eqb (length (parent p)) 0 || b) && is_not_after (answer t) p)) branch
+            let branch : is_tree_branch t (parent p) ≡ t.allowed (parent p) = unit (t.allowed (parent p)) _ (and_from _ _ low (not_from_false _ up)) in
+            ap (λ b. t.canonical p && ((eqb (length (parent p)) 0 || b) && is_not_after (tree_answer t) p)) branch
             ∙ ap (λ b. t.canonical p && b) (unit _ _ e)
             ∙ sym (unit (is_candidate t p) _ (not_from_false _ a))
       ]
@@ -150,40 +150,40 @@ module _ (t : Tree) (law : IsTree t) where
       unit true b h = h
       unit false b h = refl
 
-  pub design-candidate : (d : List ℕ) → is_design t d ≡ true → is_candidate t d ≡ true
+  pub design-candidate : (d : List ℕ) → is_tree_design t d ≡ true → is_candidate t d ≡ true
   design-candidate d h =
       let parts = and_parts _ _ (and_parts (eqb (length d) t.size) (t.canonical d && t.allowed d) h).1 in
       let whole : parent d ++ drop (length d - 1) d ≡ d = take-append-drop (length d - 1) d in
       let allowed : t.allowed (parent d) ≡ true = closed-append t.allowed law.allowed (parent d) (drop (length d - 1) d) (subst (λ l. t.allowed l ≡ true) (sym whole) parts.1) in
       and_from _ _ parts.0 (or_right _ _ allowed)
 
-  pub nodes_are : nodes t ≡ through (is_design t) (under t t.size [])
-  unfolding nodes under
+  pub nodes_are : tree_nodes t ≡ through (is_tree_design t) (under t t.size [])
+  unfolding tree_nodes under
   nodes_are =
-      filter_same (is_node t) (λ p. is_candidate t p && not (any_before p)) (prefixes t)
-      (each-weaker (λ p. (0 < length p) × (length p ≤ t.size)) _ (prefixes t) (λ p h. is_cut p h.0 h.1) (each-both _ _ (prefixes t) (nonempty t.rows t.size) (lists-short t.rows t.size)))
-      ∙ cut (is_design t) (is_candidate t) design-candidate any_before (prefixes t) (lists-sorted t.rows t.size) (each-all _ (prefixes t) (λ p. refl))
-      ∙ ap (λ l. through (is_design t) (filter (is_candidate t) l)) (sym (map-id (prefixes t)))
+      filter_same (is_tree_node t) (λ p. is_candidate t p && not (any_before p)) (tree_prefixes t)
+      (each-weaker (λ p. (0 < length p) × (length p ≤ t.size)) _ (tree_prefixes t) (λ p h. is_cut p h.0 h.1) (each-both _ _ (tree_prefixes t) (nonempty t.rows t.size) (lists-short t.rows t.size)))
+      ∙ cut (is_tree_design t) (is_candidate t) design-candidate any_before (tree_prefixes t) (lists-sorted t.rows t.size) (each-all _ (tree_prefixes t) (λ p. refl))
+      ∙ ap (λ l. through (is_tree_design t) (filter (is_candidate t) l)) (sym (map-id (tree_prefixes t)))
 
-  pub answer_is : answer t ≡ find (is_design t) (under t t.size [])
+  pub answer_is : tree_answer t ≡ find (is_tree_design t) (under t t.size [])
   unfolding under
-  answer_is = sym (find-candidates (is_design t) (is_candidate t) design-candidate (prefixes t)) ∙ ap (λ l. find (is_design t) (filter (is_candidate t) l)) (sym (map-id (prefixes t)))
+  answer_is = sym (find-candidates (is_tree_design t) (is_candidate t) design-candidate (tree_prefixes t)) ∙ ap (λ l. find (is_tree_design t) (filter (is_candidate t) l)) (sym (map-id (tree_prefixes t)))
 
-  go : (p : List ℕ) (a : Bool) → t.allowed p ≡ a → (b : Bool) → ltb (length p) t.size ≡ b → not (any_before p) ≡ true → mark_of t p ≡ mark_at t p
+  go : (p : List ℕ) (a : Bool) → t.allowed p ≡ a → (b : Bool) → ltb (length p) t.size ≡ b → not (any_before p) ≡ true → tree_mark t p ≡ mark_at t p
   go p true e true f n =
-      let branch : is_branch t p ≡ true = and_from _ _ e (and_from _ _ f n) in
-      cond-true (t.allowed p) _ _ e ∙ cond-true (is_branch t p) _ _ branch ∙ sym (cond-true (t.allowed p) _ _ e ∙ cond-true (ltb (length p) t.size) _ _ f)
+      let branch : is_tree_branch t p ≡ true = and_from _ _ e (and_from _ _ f n) in
+      cond-true (t.allowed p) _ _ e ∙ cond-true (is_tree_branch t p) _ _ branch ∙ sym (cond-true (t.allowed p) _ _ e ∙ cond-true (ltb (length p) t.size) _ _ f)
   go p true e false f n =
-      let branch : is_branch t p ≡ false = and_right _ _ (and_left _ _ f) in
-      cond-true (t.allowed p) _ _ e ∙ cond-false (is_branch t p) _ _ branch ∙ sym (cond-true (t.allowed p) _ _ e ∙ cond-false (ltb (length p) t.size) _ _ f)
+      let branch : is_tree_branch t p ≡ false = and_right _ _ (and_left _ _ f) in
+      cond-true (t.allowed p) _ _ e ∙ cond-false (is_tree_branch t p) _ _ branch ∙ sym (cond-true (t.allowed p) _ _ e ∙ cond-false (ltb (length p) t.size) _ _ f)
   go p false e b f n = cond-false (t.allowed p) _ _ e ∙ sym (cond-false (t.allowed p) _ _ e)
 
-  mark-same : (p : List ℕ) → is_node t p ≡ true → mark_of t p ≡ mark_at t p
+  mark-same : (p : List ℕ) → is_tree_node t p ≡ true → tree_mark t p ≡ mark_at t p
   mark-same p h =
-      let last : is_not_after (answer t) p ≡ true = (and_parts (eqb (length (parent p)) 0 || is_branch t (parent p)) (is_not_after (answer t) p) (and_parts (t.canonical p) _ h).1).1 in
+      let last : is_not_after (tree_answer t) p ≡ true = (and_parts (eqb (length (parent p)) 0 || is_tree_branch t (parent p)) (is_not_after (tree_answer t) p) (and_parts (t.canonical p) _ h).1).1 in
       let none : not (any_before p) ≡ true = sym (after_is p) ∙ last in
       go p (t.allowed p) refl (ltb (length p) t.size) refl none
 
-  pub marks_are : marks t ≡ map (mark_at t) (nodes t)
-  unfolding marks nodes
-  marks_are = map_same (mark_of t) (mark_at t) (is_node t) mark-same (prefixes t)
+  pub marks_are : tree_marks t ≡ map (mark_at t) (tree_nodes t)
+  unfolding tree_marks tree_nodes
+  marks_are = map_same (tree_mark t) (mark_at t) (is_tree_node t) mark-same (tree_prefixes t)

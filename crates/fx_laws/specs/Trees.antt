@@ -32,32 +32,36 @@ tree_of p = record {
 }
 
 -- the lists of one to `size` rows, in order
-abbrev pub prefixes : Tree → List (List ℕ)
-prefixes t = lists t.rows t.size
+abbrev pub tree_prefixes : Tree → List (List ℕ)
+tree_prefixes t = lists t.rows t.size
 
-abbrev pub is_design : Tree → List ℕ → Bool
-is_design t d = (length d == t.size) && (t.canonical d && t.allowed d)
+-- a canonical allowed list of that size
+abbrev pub is_tree_design : Tree → List ℕ → Bool
+is_tree_design t d = (length d == t.size) && (t.canonical d && t.allowed d)
 
 -- the first design
-abbrev pub answer : Tree → Option (List ℕ)
-answer t = find (is_design t) (prefixes t)
+abbrev pub tree_answer : Tree → Option (List ℕ)
+tree_answer t = find (is_tree_design t) (tree_prefixes t)
 
 -- allowed, not whole, and no design stands before it
-abbrev pub is_branch : Tree → List ℕ → Bool
-is_branch t p = t.allowed p && (nat_lt (length p) t.size && not (list_any (λ d. is_design t d && before d p) (prefixes t)))
+abbrev pub is_tree_branch : Tree → List ℕ → Bool
+is_tree_branch t p = t.allowed p && (nat_lt (length p) t.size && not (list_any (λ d. is_tree_design t d && before d p) (tree_prefixes t)))
 
 -- canonical, and without its last row empty or a branch, and not after the answer
-abbrev pub is_node : Tree → List ℕ → Bool
-is_node t p = t.canonical p && (((length (parent p) == 0) || is_branch t (parent p)) && is_not_after (answer t) p)
+abbrev pub is_tree_node : Tree → List ℕ → Bool
+is_tree_node t p = t.canonical p && (((length (parent p) == 0) || is_tree_branch t (parent p)) && is_not_after (tree_answer t) p)
 
-unfoldable pub nodes : Tree → List (List ℕ)
-nodes t = filter (is_node t) (prefixes t)
+-- the nodes of a tree, in order
+unfoldable pub tree_nodes : Tree → List (List ℕ)
+tree_nodes t = filter (is_tree_node t) (tree_prefixes t)
 
-abbrev pub mark_of : Tree → List ℕ → Mark
-mark_of t p = (if t.allowed p then (if is_branch t p then Branch (last_row p) else Worse (last_row p)) else Word (last_row p) (t.word p))
+-- the mark of a node
+abbrev pub tree_mark : Tree → List ℕ → Mark
+tree_mark t p = (if t.allowed p then (if is_tree_branch t p then Branch (last_row p) else Worse (last_row p)) else Word (last_row p) (t.word p))
 
-unfoldable pub marks : Tree → List Mark
-marks t = map (mark_of t) (nodes t)
+-- the marks of all nodes, in order
+unfoldable pub tree_marks : Tree → List Mark
+tree_marks t = map (tree_mark t) (tree_nodes t)
 
 -- the rows by which a prefix is longer and canonical, the greatest first
 abbrev pub children_of : Tree → List ℕ → List ℕ

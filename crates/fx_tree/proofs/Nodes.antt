@@ -8,11 +8,9 @@ use Rattle.fx_designs.specs.Problems.{Problem}
 use Rattle.fx_designs.specs.Demands.{is_allowed}
 use Rattle.fx_designs.specs.Canonical.{is_canonical}
 use Rattle.fx_designs.specs.Patterns.{pattern_of, is_less}
-use Rattle.fx_designs.specs.Answers as answers
-use Rattle.fx_designs.specs.Nodes as nodes
-use Rattle.fx_designs.specs.Nodes.{Mark, Branch, Word, Worse, last_row, parent, counts, is_not_after, word_of}
-use Rattle.fx_laws.specs.Trees.{Tree, IsTree, tree_of, prefixes, is_design, answer, is_branch, is_node, mark_of}
-use Rattle.fx_laws.specs.Trees as trees
+use Rattle.fx_designs.specs.Answers.{answer, before, is_design}
+use Rattle.fx_designs.specs.Nodes.{Mark, Branch, Word, Worse, counts, is_branch, is_complete_allowed, is_node, is_not_after, last_row, mark_of, marks, nodes, parent, word_of}
+use Rattle.fx_laws.specs.Trees.{Tree, IsTree, tree_of, tree_answer, tree_mark, tree_marks, tree_nodes, tree_prefixes, is_tree_branch, is_tree_design, is_tree_node}
 use Rattle.fx_laws.proofs.FirstDesign.{answer-find}
 use Rattle.fx_reduction.proofs.Prefix.{met-prefix}
 use Rattle.fx_reduction.proofs.AllowedFronts.{front-allowed}
@@ -37,7 +35,7 @@ module _ (p : Problem) (f : IsField p.dimensions.q) where
     allowed = λ rows row h. front-allowed p.dimensions f p.requirement rows row h;
   }
 
-  design-same : (rows : List ℕ) → answers.is_design p rows ≡ is_design (tree_of p) rows
+  design-same : (rows : List ℕ) → is_design p rows ≡ is_tree_design (tree_of p) rows
   design-same rows =
       elim (cases_Bool (eqb (length rows) (p.dimensions.s + p.dimensions.t))) [
         | inl whole ↦
@@ -47,32 +45,32 @@ module _ (p : Problem) (f : IsField p.dimensions.q) where
       ]
 
   module _ (plain : p.least ≡ false) where
-    pub answer-same : answers.answer p ≡ answer (tree_of p)
-    answer-same = answer-find p plain ∙ find-same (answers.is_design p) (is_design (tree_of p)) design-same (prefixes (tree_of p))
+    pub answer-same : answer p ≡ tree_answer (tree_of p)
+    answer-same = answer-find p plain ∙ find-same (is_design p) (is_tree_design (tree_of p)) design-same (tree_prefixes (tree_of p))
 
-    branch-same : (rows : List ℕ) → nodes.is_branch p rows ≡ is_branch (tree_of p) rows
+    branch-same : (rows : List ℕ) → is_branch p rows ≡ is_tree_branch (tree_of p) rows
     branch-same rows =
         ap (λ b. is_allowed p.dimensions p.requirement rows
         && (ltb (length rows) (p.dimensions.s + p.dimensions.t)
-        && not (list_any (λ d. nodes.is_complete_allowed p d
-        && (if b then counts p.dimensions d rows && not (is_less (pattern_of p.dimensions rows) (pattern_of p.dimensions d)) else answers.before d rows)) (prefixes (tree_of p))))) plain
+        && not (list_any (λ d. is_complete_allowed p d
+        && (if b then counts p.dimensions d rows && not (is_less (pattern_of p.dimensions rows) (pattern_of p.dimensions d)) else before d rows)) (tree_prefixes (tree_of p))))) plain
 
-    node-same : (rows : List ℕ) → nodes.is_node p rows ≡ is_node (tree_of p) rows
+    node-same : (rows : List ℕ) → is_node p rows ≡ is_tree_node (tree_of p) rows
     node-same rows =
         ap (λ b. is_canonical p.dimensions p.requirement rows
-        && ((eqb (length (parent rows)) 0 || b) && (p.least || is_not_after (answers.answer p) rows))) (branch-same (parent rows))
+        && ((eqb (length (parent rows)) 0 || b) && (p.least || is_not_after (answer p) rows))) (branch-same (parent rows))
         ∙ ap (λ b. is_canonical p.dimensions p.requirement rows
-        && ((eqb (length (parent rows)) 0 || is_branch (tree_of p) (parent rows)) && (b || is_not_after (answers.answer p) rows))) plain
+        && ((eqb (length (parent rows)) 0 || is_tree_branch (tree_of p) (parent rows)) && (b || is_not_after (answer p) rows))) plain
         ∙ ap (λ o. is_canonical p.dimensions p.requirement rows
-        && ((eqb (length (parent rows)) 0 || is_branch (tree_of p) (parent rows)) && is_not_after o rows)) answer-same
+        && ((eqb (length (parent rows)) 0 || is_tree_branch (tree_of p) (parent rows)) && is_not_after o rows)) answer-same
 
-    pub nodes-same : nodes.nodes p ≡ trees.nodes (tree_of p)
-    unfolding nodes.nodes trees.nodes
-    nodes-same = filter-same (nodes.is_node p) (is_node (tree_of p)) node-same (prefixes (tree_of p))
+    pub nodes-same : nodes p ≡ tree_nodes (tree_of p)
+    unfolding nodes tree_nodes
+    nodes-same = filter-same (is_node p) (is_tree_node (tree_of p)) node-same (tree_prefixes (tree_of p))
 
-    mark-same : (rows : List ℕ) → nodes.mark_of p rows ≡ mark_of (tree_of p) rows
+    mark-same : (rows : List ℕ) → mark_of p rows ≡ tree_mark (tree_of p) rows
     mark-same rows = ap (λ b. (if is_allowed p.dimensions p.requirement rows then (if b then Branch (last_row rows) else Worse (last_row rows)) else Word (last_row rows) (word_of p rows))) (branch-same rows)
 
-    pub marks-same : nodes.marks p ≡ trees.marks (tree_of p)
-    unfolding nodes.marks trees.marks
-    marks-same = map-same (nodes.mark_of p) (mark_of (tree_of p)) mark-same (nodes.nodes p) ∙ ap (map (mark_of (tree_of p))) nodes-same
+    pub marks-same : marks p ≡ tree_marks (tree_of p)
+    unfolding marks tree_marks
+    marks-same = map-same (mark_of p) (tree_mark (tree_of p)) mark-same (nodes p) ∙ ap (map (tree_mark (tree_of p))) nodes-same

@@ -5,7 +5,7 @@ ghost use Rattle.fx_designs.specs.Spans.{in_span, rank_of};
 ghost use Rattle.fx_designs.specs.Problems.{Dimensions, Requirement, Problem};
 ghost use Rattle.fx_designs.specs.Answers.{answer};
 ghost use Rattle.fx_designs.specs.Nodes.{nodes, marks};
-ghost use Rattle.fx_laws.specs.Trees.{IsTree, tree_of, answer as tree_answer, nodes as tree_nodes, marks as tree_marks};
+ghost use Rattle.fx_laws.specs.Trees.{IsTree, tree_of, tree_answer, tree_marks, tree_nodes};
 ghost use Rattle.fx_designs.specs.Canonical.{is_canonical};
 ghost use Rattle.fx_tree.specs.Following.{front_of, follows};
 

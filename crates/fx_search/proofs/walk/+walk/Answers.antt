@@ -1,6 +1,6 @@
 use Rattle.std.proofs.Common.{◌≡◌, ◌≢◌, ℕ, ◌<◌, ◌≤◌, true, length, List, [], ◌∷◌, ◌++◌, slice_index_or, arith, sym, ap, ◌∙◌, subst, map, take_all}
 use Rattle.std.specs.List.{list_any}
-use Rattle.fx_laws.specs.Trees.{Tree, IsTree, tree_of, children_of, is_design}
+use Rattle.fx_laws.specs.Trees.{Tree, IsTree, tree_of, children_of, is_tree_design}
 use Rattle.fx_laws.specs.Walks.{mark_at}
 use Rattle.fx_laws.proofs.Tables.{is_order-field}
 use Rattle.fx_tree.proofs.Nodes.{is-tree}
@@ -69,4 +69,4 @@ walk-returns-clause-end g t c =
     let all = under-children tr (law_of question c.requires.valid) p c.requires.allowed c.requires.part in
     let none = rw take_all at c.loop-row.invariant.none in
     let marks = rw take_all at c.loop-row.invariant.marks in
-    (ap (list_any (is_design tr)) all ∙ none, marks ∙ ap (λ l. c.args.marks.now ++ map (mark_at tr) l) (sym all), c.loop-row.invariant.limit, c.loop-row.invariant.rows)
+    (ap (list_any (is_tree_design tr)) all ∙ none, marks ∙ ap (λ l. c.args.marks.now ++ map (mark_at tr) l) (sym all), c.loop-row.invariant.limit, c.loop-row.invariant.rows)

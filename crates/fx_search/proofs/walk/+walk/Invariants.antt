@@ -1,7 +1,7 @@
 use Rattle.std.proofs.Common.{◌≡◌, ◌+◌, ◌-◌, ◌*◌, ◌≤◌, false, [], ◌∷◌, ◌++◌, map, take, length}
 use Rattle.std.specs.List.{list_any, flat_map}
 use Rattle.fx_vectors.specs.Question.{problem_of}
-use Rattle.fx_laws.specs.Trees.{tree_of, children_of, is_design}
+use Rattle.fx_laws.specs.Trees.{tree_of, children_of, is_tree_design}
 use Rattle.fx_laws.specs.Walks.{subtree, mark_at}
 use Rattle.fx_search.proofs.walk.+walk.Given as goal
 
@@ -22,6 +22,6 @@ invariant-walk-loop-row g l =
       shape : l.prefix.shape ≡ l.fn.question.shape;
       rows : l.prefix.rows ≡ p;
       marks : l.marks ≡ l.fn.marks ++ map (mark_at t) done;
-      none : list_any (is_design t) done ≡ false;
+      none : list_any (is_tree_design t) done ≡ false;
       limit : length l.marks ≤ l.limit;
     }
