@@ -1,4 +1,4 @@
-ghost use Rattle.std.specs.Prelude.{None};
+ghost use Rattle.std.specs.Prelude.{◌≡◌, None};
 
 use fx_base::{Failed, Sink, Source};
 use std::io::{Read, Stdin, Stdout, Write};
@@ -11,7 +11,10 @@ pub struct StandardInput {
 }
 
 impl StandardInput {
-    pub fn new(input: Stdin) -> StandardInput {
+    /// Takes hold of the input, of which no call failed so far.
+    pub fn new(input: Stdin) -> StandardInput
+        ensures { result.faults ≡ 0 }
+    {
         StandardInput { input, faults: 0 }
     }
 }
@@ -40,7 +43,10 @@ pub struct StandardOutput {
 }
 
 impl StandardOutput {
-    pub fn new(output: Stdout) -> StandardOutput {
+    /// Takes hold of the output, of which no call failed so far.
+    pub fn new(output: Stdout) -> StandardOutput
+        ensures { result.faults ≡ 0 }
+    {
         StandardOutput { output, faults: 0 }
     }
 }

@@ -1,10 +1,14 @@
 -- How a command ends: all was done, or it stopped.
-use Rattle.std.proofs.Common.{ℕ, ◌≡◌, ◌≤◌, List, Result, refl, sym, subst, arith}
+use Rattle.std.proofs.Common.{ℕ, ◌≡◌, ◌≤◌, List, Result, Ok, Err, refl, sym, subst, arith}
+use Rattle.std.specs.Prelude.{IsErr, IsErrAnd}
 use Rattle.fx_base.specs.Acts.{Piece, acts, acts_of, World, Did, DidPart}
-use Rattle.fx_base.proofs.Doing.{did_one, part_one, part_whole}
+use Rattle.fx_base.proofs.Doing.{did_one, part_one, part_whole, part_none}
 use Rattle.fx_program.specs.Words.{settings_of}
 use Rattle.fx_program.specs.declared.words.Settings.{Settings}
 use Rattle.fx_program.specs.declared.words.WordFault.{WordFault}
+use Rattle.fx_program.specs.declared.stop.Stop.{Stop}
+use Rattle.fx_program.specs.declared.stop.Stop.TheVariants as stop
+use Rattle.fx_program.specs.Stops.{exit_status}
 use Rattle.fx_program.specs.Output.{Output, Ends, message, output_for, output_of}
 
 -- a command that did all, and one that stopped
@@ -28,3 +32,19 @@ ends_by {a} {b} output same status e p = subst (λ (o : Output). Ends o a b stat
 -- from a command to the words
 pub ends_for : {a b : World} (words : List (List ℕ)) (text : List ℕ) (settings : Result Settings WordFault) (status : ℕ) → settings ≡ settings_of words → Ends (output_for settings text) a b status → Ends (output_of words text) a b status
 ends_for {a} {b} words text settings status e p = subst (λ s. Ends (output_for s text) a b status) e p
+
+-- the exit status of a stop
+pub stopped_high : (why : Stop) → 4 ≤ exit_status (Err why)
+stopped_high stop.Failed = omega arith
+stopped_high stop.NoMemory = omega arith
+
+-- it is stopped where nothing was done
+pub ends_none : {a : World} (output : Output) (ended : Result ℕ Stop) → IsErr ended → Ends output a a (exit_status ended)
+ends_none output (Ok status) h = absurd (cc h)
+ends_none {a} output (Err why) h = ends_stopped output (exit_status (Err why)) (stopped_high why) (part_none a (acts output.events))
+
+-- and where this is the reason
+pub ends_by_stop : {a b : World} (output : Output) (ended : Result ℕ Stop) (why : Stop) → IsErrAnd ended (λ e. e ≡ why) → Ends output a b (exit_status (Err why))
+    → Ends output a b (exit_status ended)
+ends_by_stop output (Ok status) why h p = absurd h
+ends_by_stop {a} {b} output (Err e) why h p = subst (λ (w : Stop). Ends output a b (exit_status (Err w))) (sym h) p

@@ -3,6 +3,7 @@ pub mod Refusals
 pub mod Reasons
 pub mod Problems
 pub mod Texts
+pub mod Stops
 pub mod Outcomes
 pub mod Listing
 pub mod Output

@@ -6,6 +6,7 @@ mod listing;
 mod question;
 mod refusal;
 mod run;
+mod stop;
 #[cfg(test)]
 mod tests;
 mod text;
@@ -16,5 +17,6 @@ pub use laws::{
     no_design_means_none_at_all,
 };
 pub use run::factex;
+pub use stop::NO_MEMORY;
 pub use text::{TextFault, TextStop, read_program};
 pub use words::{Settings, WordFault, read_words};

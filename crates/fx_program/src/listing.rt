@@ -129,7 +129,8 @@ fn put_rule_lines(
     requires { length matrix.now.rows ≡ length names.now }
     ensures { OnOk result
         (out.new
-        ≡ out.old ++ rule_lines matrix.now.shape.q matrix.now.shape.m [] names.now matrix.now.rows) }
+        ≡ out.old ++ rule_lines matrix.now.shape.q matrix.now.shape.m [] names.now
+        matrix.now.rows) }
 {
     let shape = matrix.shape();
     let mut introduced: Vec<&Bytes> = Vec::new(alloc);

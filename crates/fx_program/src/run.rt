@@ -7,12 +7,15 @@ ghost use Rattle.fx_program.specs.Words.{settings_of};
 ghost use Rattle.fx_program.specs.Texts.{is_built, program_in};
 ghost use Rattle.fx_program.specs.Outcomes.{outcome_in, status_of};
 ghost use Rattle.fx_program.specs.Claims.{NoDesignMeansNone};
+ghost use Rattle.fx_program.specs.Stops.{exit_status};
+ghost use Rattle.fx_program.specs.declared.stop.Stop.TheVariants as stop;
 ghost use Rattle.fx_program.specs.Listing.{IsListable, step_lines};
 ghost use Rattle.fx_program.specs.Output.{message, step_output, program_output, output_of, reads, worse, IsTextOf, world, Ends};
 
 use crate::listing::put_step;
 use crate::question::question_of;
 use crate::refusal::put_fault;
+use crate::stop::{REFUSED, Stop, exit_status};
 use crate::text::{TextFault, TextStop, at_front, read_program};
 use crate::words::{Settings, read_words, word_line};
 use fx_base::{Bytes, NoMemory, ReadStop, Shelf, Sink, Source, Taken, read_all, write_all};
@@ -83,64 +86,63 @@ pub fn factex<S: Source, K: Sink, F: Shelf>(
         → S.left source.new ≡ Some [] }
 {
     match read_words(words) {
-        Ok(Settings::Run { .. }) => run(alloc, source, listing),
-        Err(fault) => say(listing, word_line(fault), 3),
+        Ok(Settings::Run { .. }) => exit_status(run(alloc, source, listing)),
+        Err(fault) => exit_status(say(listing, word_line(fault), REFUSED)),
     }
 }
 
 /// The command `run`.
-fn run<S: Source, K: Sink>(alloc: Global, source: &mut S, listing: &mut K) -> u8
-    ensures known { result ≤ 5 }
+fn run<S: Source, K: Sink>(alloc: Global, source: &mut S, listing: &mut K) -> Result<u8, Stop>
+    ensures known { IfOk result (λ status. status < 4) }
     ensures ends { (text : List ℕ) (files : Option (List File))
         → S.left source.old ≡ Some text
         → Ends (program_output (program_in text))
-        (world (K.written listing.old) files) (world (K.written listing.new) files) result }
-    ensures fault { result ≡ 4 → Rose (S.faults source.old) (S.faults source.new)
+        (world (K.written listing.old) files) (world (K.written listing.new) files)
+        (exit_status result) }
+    ensures fault { result ≡ Err stop.Failed → Rose (S.faults source.old) (S.faults source.new)
         ⊎ Rose (K.faults listing.old) (K.faults listing.new) }
-    ensures kept { result ≢ 4 → (S.faults source.new ≡ S.faults source.old)
+    ensures kept { result ≢ Err stop.Failed → (S.faults source.new ≡ S.faults source.old)
         × (K.faults listing.new ≡ K.faults listing.old) }
     ensures rooms { (S.sure source.new ≡ S.sure source.old)
         × (K.room listing.new ≡ K.room listing.old) }
-    ensures none_at_all { result < 4 → (text : List ℕ)
+    ensures none_at_all { exit_status result < 4 → (text : List ℕ)
         → S.left source.old ≡ Some text
         → NoDesignMeansNone (program_in text) }
-    ensures to_end { result < 3 → (text : List ℕ)
+    ensures to_end { exit_status result < 3 → (text : List ℕ)
         → S.left source.old ≡ Some text
         → S.left source.new ≡ Some [] }
 {
     let text = match read_all(alloc, source, TEXT_LIMIT) {
         Ok(Taken::Whole(text)) => text,
         Ok(Taken::TooLong) => return refuse(alloc, at_front(25), listing),
-        Err(ReadStop::ReadFault) => return 4,
-        Err(ReadStop::NoMemory) => return 5,
+        Err(ReadStop::ReadFault) => return Err(Stop::Failed),
+        Err(ReadStop::NoMemory) => return Err(Stop::NoMemory),
     };
     match read_program(alloc, text.as_slice()) {
         Ok(program) => give_steps(alloc, program.as_slice(), listing),
         Err(TextStop::Fault(fault)) => refuse(alloc, fault, listing),
-        Err(TextStop::NoMemory) => 5,
+        Err(TextStop::NoMemory) => Err(Stop::NoMemory),
     }
 }
 
 /// Answers the steps of a program in order. The greatest of their statuses is the program's.
-fn give_steps<K: Sink>(alloc: Global, steps: &[Step], listing: &mut K) -> u8
+fn give_steps<K: Sink>(alloc: Global, steps: &[Step], listing: &mut K) -> Result<u8, Stop>
     requires { list_all (λ step. is_built (meaning_of step)) steps.now ≡ true }
-    ensures known { result ≤ 5 }
+    ensures known { IfOk result (λ status. status < 4) }
     ensures ends { (files : Option (List File))
         → Ends (program_output (Ok (map meaning_of steps.now)))
-        (world (K.written listing.old) files) (world (K.written listing.new) files) result }
-    ensures fault { result ≡ 4 → Rose (K.faults listing.old) (K.faults listing.new) }
-    ensures kept { result ≢ 4 → K.faults listing.new ≡ K.faults listing.old }
+        (world (K.written listing.old) files) (world (K.written listing.new) files)
+        (exit_status result) }
+    ensures fault { result ≡ Err stop.Failed → Rose (K.faults listing.old) (K.faults listing.new) }
+    ensures kept { result ≢ Err stop.Failed → K.faults listing.new ≡ K.faults listing.old }
     ensures room { K.room listing.new ≡ K.room listing.old }
 {
     let mut status = 0;
     for (i, step) in steps.iter().enumerate() {
-        let given = give_step(alloc, i + 1, step, listing);
-        if given > 3 {
-            return given;
-        }
+        let given = give_step(alloc, i + 1, step, listing)?;
         status = worse(status, given);
     }
-    status
+    Ok(status)
 }
 
 /// The greater of two statuses.
@@ -151,29 +153,26 @@ fn worse(a: u8, b: u8) -> u8
 }
 
 /// Answers the step of this number: its design, that there is none, or that its budget ended.
-fn give_step<K: Sink>(alloc: Global, number: usize, step: &Step, listing: &mut K) -> u8
+fn give_step<K: Sink>(
+    alloc: Global,
+    number: usize,
+    step: &Step,
+    listing: &mut K,
+) -> Result<u8, Stop>
     requires { is_built (meaning_of step.now) ≡ true }
-    ensures known { result ≤ 5 }
+    ensures known { IfOk result (λ status. status < 4) }
     ensures ends { (files : Option (List File))
         → Ends (step_output number (meaning_of step.now))
-        (world (K.written listing.old) files) (world (K.written listing.new) files) result }
-    ensures fault { result ≡ 4 → Rose (K.faults listing.old) (K.faults listing.new) }
-    ensures kept { result ≢ 4 → K.faults listing.new ≡ K.faults listing.old }
+        (world (K.written listing.old) files) (world (K.written listing.new) files)
+        (exit_status result) }
+    ensures fault { result ≡ Err stop.Failed → Rose (K.faults listing.old) (K.faults listing.new) }
+    ensures kept { result ≢ Err stop.Failed → K.faults listing.new ≡ K.faults listing.old }
     ensures room { K.room listing.new ≡ K.room listing.old }
 {
-    let question = match question_of(alloc, step) {
-        Ok(question) => question,
-        Err(_) => return 5,
-    };
-    let asked = match ask_alone(alloc, &question, step.budget) {
-        Ok(asked) => asked,
-        Err(_) => return 5,
-    };
-    let status = status_of(&asked);
-    match lines_of(alloc, number, step, question.shape, &asked) {
-        Ok(lines) => say(listing, lines.as_slice(), status),
-        Err(_) => 5,
-    }
+    let question = question_of(alloc, step)?;
+    let asked = ask_alone(alloc, &question, step.budget)?;
+    let lines = lines_of(alloc, number, step, question.shape, &asked)?;
+    say(listing, lines.as_slice(), status_of(&asked))
 }
 
 /// 0 for a design, 1 for none, 2 where the budget ended.
@@ -200,7 +199,8 @@ fn lines_of(
     requires same { IsListable shape (length step.now.factors) asked.now }
     ensures { IfOk result (λ lines.
         lines
-        ≡ step_lines number shape.q shape.m step.now.factors (outcome_in step.now.budget asked.now)) }
+        ≡ step_lines number shape.q shape.m step.now.factors
+        (outcome_in step.now.budget asked.now)) }
 {
     let mut lines = Bytes::new(alloc);
     put_step(
@@ -216,35 +216,33 @@ fn lines_of(
 }
 
 /// Tells where the text is refused, and why.
-fn refuse<K: Sink>(alloc: Global, fault: TextFault, listing: &mut K) -> u8
-    ensures known { (result ≡ 3) ⊎ ((result ≡ 4) ⊎ (result ≡ 5)) }
+fn refuse<K: Sink>(alloc: Global, fault: TextFault, listing: &mut K) -> Result<u8, Stop>
+    ensures known { (result ≡ Ok 3) ⊎ ((result ≡ Err stop.Failed) ⊎ (result ≡ Err stop.NoMemory)) }
     ensures ends { (files : Option (List File))
         → Ends (program_output (Err fault))
-        (world (K.written listing.old) files) (world (K.written listing.new) files) result }
-    ensures fault { result ≡ 4 → Rose (K.faults listing.old) (K.faults listing.new) }
-    ensures kept { result ≢ 4 → K.faults listing.new ≡ K.faults listing.old }
+        (world (K.written listing.old) files) (world (K.written listing.new) files)
+        (exit_status result) }
+    ensures fault { result ≡ Err stop.Failed → Rose (K.faults listing.old) (K.faults listing.new) }
+    ensures kept { result ≢ Err stop.Failed → K.faults listing.new ≡ K.faults listing.old }
     ensures room { K.room listing.new ≡ K.room listing.old }
 {
     let mut line = Bytes::new(alloc);
-    match put_fault(&mut line, fault) {
-        Ok(()) => say(listing, line.as_slice(), 3),
-        Err(_) => 5,
-    }
+    put_fault(&mut line, fault)?;
+    say(listing, line.as_slice(), REFUSED)
 }
 
-/// Writes a piece and answers the status, or 4 where the listing failed.
-fn say<K: Sink>(listing: &mut K, bytes: &[u8], status: u8) -> u8
+/// Writes a piece and answers the status.
+fn say<K: Sink>(listing: &mut K, bytes: &[u8], status: u8) -> Result<u8, Stop>
     requires { status < 4 }
-    ensures known { (result ≡ status) ⊎ (result ≡ 4) }
+    ensures known { (result ≡ Ok status) ⊎ (result ≡ Err stop.Failed) }
     ensures ends { (files : Option (List File))
         → Ends (message bytes.now status)
-        (world (K.written listing.old) files) (world (K.written listing.new) files) result }
-    ensures fault { result ≡ 4 → Rose (K.faults listing.old) (K.faults listing.new) }
-    ensures kept { result ≢ 4 → K.faults listing.new ≡ K.faults listing.old }
+        (world (K.written listing.old) files) (world (K.written listing.new) files)
+        (exit_status result) }
+    ensures fault { result ≡ Err stop.Failed → Rose (K.faults listing.old) (K.faults listing.new) }
+    ensures kept { result ≢ Err stop.Failed → K.faults listing.new ≡ K.faults listing.old }
     ensures room { K.room listing.new ≡ K.room listing.old }
 {
-    match write_all(listing, bytes) {
-        Ok(()) => status,
-        Err(_) => 4,
-    }
+    write_all(listing, bytes)?;
+    Ok(status)
 }

@@ -49,7 +49,8 @@ fn is_run(word: &[u8]) -> bool
     word == b"run".as_slice()
 }
 
-/// The line that tells a fault. Takes no memory, so that refused words are told where there is none.
+/// The line that tells a fault. Takes no memory, so that refused words are told where there is
+/// none.
 pub(crate) fn word_line(fault: WordFault) -> &'static [u8]
     requires { IsWordFault fault }
     ensures { result.now ≡ word_line fault }

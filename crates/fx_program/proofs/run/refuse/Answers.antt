@@ -4,8 +4,8 @@ use Rattle.fx_program.specs.Output.{message}
 use Rattle.fx_program.proofs.Endings.{ends_by}
 use Rattle.fx_program.proofs.run.refuse.Goals as goal
 
-pub returns-in-Ok-clause-ends : goal.returns-in-Ok-clause-ends
-returns-in-Ok-clause-ends g c = λ files.
+pub returns-clause-ends : goal.returns-clause-ends
+returns-clause-ends g c = λ files.
     ends_by _ _ _
-    (ap (λ l. message l 3) (sym (c.as_slice.ensures ∙ c.in-Ok.ensures ∙ ap (λ l. l ++ fault_line c.args.fault) c.new-line.ensures)))
+    (ap (λ l. message l 3) (sym (c.as_slice.ensures ∙ c.in_ok-put_fault.ensures ∙ ap (λ l. l ++ fault_line c.args.fault) c.new-line.ensures)))
     (c.say.ensures.ends files)

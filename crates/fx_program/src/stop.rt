@@ -1,0 +1,56 @@
+ghost use Rattle.std.specs.Prelude.{◌≡◌};
+ghost use Rattle.fx_program.specs.Stops.{exit_status};
+
+use fx_base::{Failed, NoMemory};
+
+/// The exit status where the words or the text are refused.
+pub(crate) const REFUSED: u8 = 3;
+
+/// The exit status where a call on an object outside failed.
+const FAILED: u8 = 4;
+
+/// The exit status where memory ran out.
+pub const NO_MEMORY: u8 = 5;
+
+/// Why the program ends before its end.
+#[derive(Debug, Clone, Copy, PartialEq, Eq)]
+pub enum Stop {
+    /// A call on the source, the listing or the shelf failed.
+    Failed,
+    /// Memory ran out.
+    NoMemory,
+}
+
+impl From<Failed> for Stop {
+    ghost use Rattle.std.specs.Prelude.{◌≡◌};
+    ghost use Rattle.fx_program.specs.declared.stop.Stop.TheVariants as stop;
+
+    ghost from_gives = { λ _ e. e ≡ stop.Failed };
+
+    fn from(_e: Failed) -> Stop {
+        Stop::Failed
+    }
+}
+
+impl From<NoMemory> for Stop {
+    ghost use Rattle.std.specs.Prelude.{◌≡◌};
+    ghost use Rattle.fx_program.specs.declared.stop.Stop.TheVariants as stop;
+
+    ghost from_gives = { λ _ e. e ≡ stop.NoMemory };
+
+    fn from(_e: NoMemory) -> Stop {
+        Stop::NoMemory
+    }
+}
+
+/// The exit status of a program that ended with this status of its steps or of a refusal, or was
+/// stopped.
+pub(crate) fn exit_status(ended: Result<u8, Stop>) -> u8
+    ensures { result ≡ exit_status ended }
+{
+    match ended {
+        Ok(status) => status,
+        Err(Stop::Failed) => FAILED,
+        Err(Stop::NoMemory) => NO_MEMORY,
+    }
+}
