@@ -1,11 +1,11 @@
-ghost use Rattle.std.specs.Prelude.{◌≡◌, ◌≤◌, not, nat_le, count_ones, length, drop, Ok, Some, None, IfOk, IfErr, slice_get, MatchOption};
-ghost use Rattle.std.specs.List.{prefix_len, list_any};
+ghost use Rattle.std.specs.Prelude.{◌≡◌, ◌≤◌, not, nat_le, count_ones, length, Ok, Some, None, IfOk, IfErr, slice_get};
+ghost use Rattle.std.specs.List.{list_any};
 ghost use Rattle.fx_language.specs.declared.symbol.Symbol.TheVariants.{At};
 ghost use Rattle.fx_language.specs.Symbols.{is};
 ghost use Rattle.fx_text.specs.Refusals.{IsRefused};
 ghost use Rattle.fx_vectors.specs.Effects.{numbers_of};
 ghost use Rattle.fx_demands.specs.Bars.{AreNumbers};
-ghost use Rattle.fx_effects.specs.Expressions.{at_most, bars_at, expression_at, upto_of, stars_len};
+ghost use Rattle.fx_effects.specs.Expressions.{at_most, bars_at, expression_at, stars_len, upto_of};
 
 use crate::range::range_at;
 use crate::stars::Stars;

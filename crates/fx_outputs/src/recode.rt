@@ -1,7 +1,7 @@
 ghost use Rattle.std.specs.Prelude.{◌≡◌, ◌<◌, IfOk, IfErr};
 ghost use Rattle.fx_text.specs.Refusals.{IsRefused};
 ghost use Rattle.fx_text.specs.Names.{place_of};
-ghost use Rattle.fx_outputs.specs.Recodes.{factor_at, unused_place, has_values, is_recoded, recode_of, recodes_of};
+ghost use Rattle.fx_outputs.specs.Recodes.{factor_at, has_values, is_recoded, recode_of, recodes_of, unused_place};
 
 use crate::context::OutputContext;
 use crate::value::counted_values;

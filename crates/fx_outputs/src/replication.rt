@@ -1,7 +1,7 @@
 // What stands from an option on is `POINTREP = n ..` or `DESIGNREP = n ..`: the number has index 2.
 
 ghost use Rattle.std.specs.Prelude.{◌≡◌, Some};
-ghost use Rattle.fx_outputs.specs.Replications.{replication_at, replication_of, check_rows};
+ghost use Rattle.fx_outputs.specs.Replications.{check_rows, replication_at, replication_of};
 
 use crate::option::{at, from_option};
 use fx_language::Symbol;

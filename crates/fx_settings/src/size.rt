@@ -1,4 +1,4 @@
-ghost use Rattle.std.specs.Prelude.{◌≡◌, ◌≤◌, ◌<◌, ◌^◌, IfOk};
+ghost use Rattle.std.specs.Prelude.{◌≡◌, ◌≤◌, ◌<◌, ◌^◌};
 ghost use Rattle.fx_settings.specs.Sizes.{by_design, by_fraction, run_factors, runs_at, size_by, size_of};
 
 use crate::power::{exponent, is_within};
