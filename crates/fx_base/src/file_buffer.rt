@@ -112,7 +112,8 @@ impl FileBuffer {
     /// Ends the file that is begun.
     pub fn end(&mut self)
         requires { has_open self.old.files ≡ true }
-        ensures after { self.new ≡ record self.old { files = shelved (EndFile ∷ []) self.old.files } }
+        ensures after { self.new
+            ≡ record self.old { files = shelved (EndFile ∷ []) self.old.files } }
         ensures ended { has_open self.new.files ≡ false }
         ensures taken { room_of self.new.files ≡ room_of self.old.files }
     {

@@ -121,7 +121,8 @@ impl Shelf for MemoryShelf {
         ensures state { OnOk result (has_open self.new.files ≡ true) }
         ensures failed { OnErr result (Some self.new.files ≡ Some self.old.files) }
         ensures cause { HasCause self.old.faults self.new.faults result }
-        ensures kept { sure_room self.new.failing self.new.room ≡ sure_room self.old.failing self.old.room }
+        ensures kept { sure_room self.new.failing self.new.room
+            ≡ sure_room self.old.failing self.old.room }
 
         ensures full { IsErr result
             ↔ (IsListed self.old.failing self.old.made ⊎ (self.old.room < room_of self.old.files + 64)) }
@@ -154,7 +155,8 @@ impl Shelf for MemoryShelf {
         ensures state { OnOk result (has_open self.new.files ≡ true) }
         ensures failed { OnErr result (Some self.new.files ≡ Some self.old.files) }
         ensures cause { HasCause self.old.faults self.new.faults result }
-        ensures kept { sure_room self.new.failing self.new.room ≡ sure_room self.old.failing self.old.room }
+        ensures kept { sure_room self.new.failing self.new.room
+            ≡ sure_room self.old.failing self.old.room }
 
         ensures full { IsErr result
             ↔ (IsListed self.old.failing self.old.made
@@ -183,11 +185,13 @@ impl Shelf for MemoryShelf {
 
     fn end(&mut self) -> Result<(), Failed>
         requires { has_open self.old.files ≡ true }
-        ensures done { OnOk result (Shelves (Some self.old.files) (Some self.new.files) (EndFile ∷ [])) }
+        ensures done { OnOk result
+            (Shelves (Some self.old.files) (Some self.new.files) (EndFile ∷ [])) }
         ensures state { OnOk result (has_open self.new.files ≡ false) }
         ensures failed { OnErr result (Some self.new.files ≡ Some self.old.files) }
         ensures cause { HasCause self.old.faults self.new.faults result }
-        ensures kept { sure_room self.new.failing self.new.room ≡ sure_room self.old.failing self.old.room }
+        ensures kept { sure_room self.new.failing self.new.room
+            ≡ sure_room self.old.failing self.old.room }
 
         ensures listed { IsErr result ↔ IsListed self.old.failing self.old.made }
         ensures after { OnOk result

@@ -91,7 +91,8 @@ impl Sink for MemorySink {
             Appends (Some self.old.written) (Some self.new.written) (take n piece.now)) }
         ensures failed { OnErr result (Some self.new.written ≡ Some self.old.written) }
         ensures cause { HasCause self.old.faults self.new.faults result }
-        ensures kept { sure_room self.new.failing self.new.room ≡ sure_room self.old.failing self.old.room }
+        ensures kept { sure_room self.new.failing self.new.room
+            ≡ sure_room self.old.failing self.old.room }
 
         ensures full { IsErr result
             ↔ (IsListed self.old.failing self.old.made

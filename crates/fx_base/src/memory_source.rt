@@ -37,7 +37,9 @@ impl MemorySource {
     /// whose numbers, counted from 1, stand in `failing`.
     pub fn new(content: Bytes, step: usize, failing: Bytes) -> MemorySource
         requires { 0 < step }
-        ensures { result ≡ record { left = content; step = step; failing = failing; made = 0; faults = 0 } }
+        ensures { result
+            ≡ record
+                { left = content; step = step; failing = failing; made = 0; faults = 0 } }
     {
         MemorySource {
             source: SureSource::new(content, step),
@@ -64,7 +66,8 @@ impl Source for MemorySource {
 
     fn read(&mut self, to: &mut [u8]) -> Result<usize, Failed>
         ensures within { IfOk result (λ n. n ≤ length to.new) }
-        ensures taken { IfOk result (λ n. Takes (Some self.old.left) (Some self.new.left) to.new n) }
+        ensures taken { IfOk result (λ n.
+            Takes (Some self.old.left) (Some self.new.left) to.new n) }
         ensures failed { OnErr result (Some self.new.left ≡ Some self.old.left) }
         ensures cause { HasCause self.old.faults self.new.faults result }
         ensures kept { none_listed self.new.failing ≡ none_listed self.old.failing }

@@ -56,7 +56,8 @@ pub enum Taken {
 /// All bytes that are left, where these are at most `limit`. A failed call answers `ReadFault`,
 /// whatever was read before it.
 pub fn read_all<S: Source>(alloc: Global, source: &mut S, limit: usize) -> Result<Taken, ReadStop>
-    ensures answer { IfOk result (λ taken. ReadsAll (S.left source.old) (S.left source.new) limit taken) }
+    ensures answer { IfOk result (λ taken.
+        ReadsAll (S.left source.old) (S.left source.new) limit taken) }
     ensures rest { LeavesRest (S.left source.old) (S.left source.new) }
     ensures cause { HasReadCause (S.faults source.old) (S.faults source.new) result }
     ensures kept { S.sure source.new ≡ S.sure source.old }

@@ -41,7 +41,8 @@ impl SureShelf {
     /// `NoMemory`: so much memory is not there.
     pub fn new(alloc: Global, step: usize, room: usize) -> Result<SureShelf, NoMemory>
         requires { 0 < step }
-        ensures { IfOk result (λ s. s ≡ record { files = []; step = step; room = room; faults = 0 }) }
+        ensures { IfOk result (λ s.
+            s ≡ record { files = []; step = step; room = room; faults = 0 }) }
     {
         let buffer = FileBuffer::new(alloc, room)?;
         Ok(SureShelf {
@@ -115,7 +116,8 @@ impl Shelf for SureShelf {
         ensures after { OnOk result
             (self.new ≡ record self.old { files = shelved (BeginFile name.now ∷ []) self.old.files }) }
         ensures room { OnOk result (room_of self.new.files ≡ room_of self.old.files + 64) }
-        ensures fault { OnErr result (self.new ≡ record self.old { faults = raised self.old.faults }) }
+        ensures fault { OnErr result
+            (self.new ≡ record self.old { faults = raised self.old.faults }) }
     {
         if self.buffer.left() < FILE_ROOM {
             self.faults = self.faults.saturating_add(1);
@@ -144,7 +146,8 @@ impl Shelf for SureShelf {
             self.new
             ≡ record self.old { files = shelved (map FileByte (take n piece.now)) self.old.files }) }
         ensures room { IfOk result (λ n. room_of self.new.files ≡ room_of self.old.files + n) }
-        ensures fault { OnErr result (self.new ≡ record self.old { faults = raised self.old.faults }) }
+        ensures fault { OnErr result
+            (self.new ≡ record self.old { faults = raised self.old.faults }) }
     {
         let count = self.step.min(self.buffer.left()).min(piece.len());
         if count == 0 && !piece.is_empty() {
@@ -157,14 +160,16 @@ impl Shelf for SureShelf {
 
     fn end(&mut self) -> Result<(), Failed>
         requires { has_open self.old.files ≡ true }
-        ensures done { OnOk result (Shelves (Some self.old.files) (Some self.new.files) (EndFile ∷ [])) }
+        ensures done { OnOk result
+            (Shelves (Some self.old.files) (Some self.new.files) (EndFile ∷ [])) }
         ensures state { OnOk result (has_open self.new.files ≡ false) }
         ensures failed { OnErr result (Some self.new.files ≡ Some self.old.files) }
         ensures cause { HasCause self.old.faults self.new.faults result }
         ensures kept { Some self.new.room ≡ Some self.old.room }
 
         ensures never { IsOk result }
-        ensures after { self.new ≡ record self.old { files = shelved (EndFile ∷ []) self.old.files } }
+        ensures after { self.new
+            ≡ record self.old { files = shelved (EndFile ∷ []) self.old.files } }
         ensures room { room_of self.new.files ≡ room_of self.old.files }
     {
         self.buffer.end();

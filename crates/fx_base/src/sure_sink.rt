@@ -40,7 +40,8 @@ impl SureSink {
     /// `NoMemory`: so much memory is not there.
     pub fn new(alloc: Global, step: usize, room: usize) -> Result<SureSink, NoMemory>
         requires { 0 < step }
-        ensures { IfOk result (λ s. s ≡ record { written = []; step = step; room = room; faults = 0 }) }
+        ensures { IfOk result (λ s.
+            s ≡ record { written = []; step = step; room = room; faults = 0 }) }
     {
         match Vec::with_capacity(alloc, room) {
             Ok(bytes) => Ok(SureSink {
@@ -92,7 +93,8 @@ impl Sink for SureSink {
             n ≡ portion self.old.step (self.old.room - length self.old.written) (length piece.now)) }
         ensures after { IfOk result (λ n.
             self.new ≡ record self.old { written = self.old.written ++ take n piece.now }) }
-        ensures fault { OnErr result (self.new ≡ record self.old { faults = raised self.old.faults }) }
+        ensures fault { OnErr result
+            (self.new ≡ record self.old { faults = raised self.old.faults }) }
     {
         let there = self.room - self.bytes.len();
         let count = self.step.min(there).min(piece.len());

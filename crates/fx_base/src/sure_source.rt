@@ -50,7 +50,8 @@ impl Source for SureSource {
 
     fn read(&mut self, to: &mut [u8]) -> Result<usize, Failed>
         ensures within { IfOk result (λ n. n ≤ length to.new) }
-        ensures taken { IfOk result (λ n. Takes (Some self.old.left) (Some self.new.left) to.new n) }
+        ensures taken { IfOk result (λ n.
+            Takes (Some self.old.left) (Some self.new.left) to.new n) }
         ensures failed { OnErr result (Some self.new.left ≡ Some self.old.left) }
         ensures cause { HasCause 0 0 result }
 
@@ -58,7 +59,8 @@ impl Source for SureSource {
         ensures count { IfOk result (λ n.
             n ≡ portion self.old.step (length self.old.left) (length to.old)) }
         ensures given { IfOk result (λ n. to.new ≡ take n self.old.left ++ drop n to.old) }
-        ensures after { IfOk result (λ n. self.new ≡ record self.old { left = drop n self.old.left }) }
+        ensures after { IfOk result (λ n.
+            self.new ≡ record self.old { left = drop n self.old.left }) }
     {
         let there = self.content.len() - self.at;
         let count = self.step.min(there).min(to.len());

@@ -28,7 +28,9 @@ impl Forbidden {
     /// rows to come.
     pub fn allows(&self, prefix: &Matrix) -> bool
         requires { prefix.now.shape ≡ self.now.shape }
-        ensures { result ≡ is_allowed (dimensions_of self.now.shape) (requirement_of self.now.demands) prefix.now.rows }
+        ensures { result
+            ≡ is_allowed (dimensions_of self.now.shape)
+                (requirement_of self.now.demands) prefix.now.rows }
     {
         self.closing_word(prefix).is_none()
     }
@@ -38,9 +40,15 @@ impl Forbidden {
     /// exactly where the prefix is allowed.
     pub fn closing_word(&self, prefix: &Matrix) -> Option<Vector>
         requires { prefix.now.shape ≡ self.now.shape }
-        ensures word { result ≡ closing_word (dimensions_of self.now.shape) (requirement_of self.now.demands) prefix.now.rows }
-        ensures vector { IfSome result (IsVector self.now.shape.q (self.now.shape.s + self.now.shape.t)) }
-        ensures allowed { is_some result ≡ not (is_allowed (dimensions_of self.now.shape) (requirement_of self.now.demands) prefix.now.rows) }
+        ensures word { result
+            ≡ closing_word (dimensions_of self.now.shape)
+                (requirement_of self.now.demands) prefix.now.rows }
+        ensures vector { IfSome result
+            (IsVector self.now.shape.q (self.now.shape.s + self.now.shape.t)) }
+        ensures allowed { is_some result
+            ≡ not
+                (is_allowed (dimensions_of self.now.shape)
+                    (requirement_of self.now.demands) prefix.now.rows) }
     {
         let blocks = usize::from(prefix.shape().t);
         let heaviest = self.most_alone().max(self.most_blocked() + blocks);
@@ -58,8 +66,12 @@ impl Forbidden {
         requires shape { prefix.now.shape ≡ self.now.shape }
         requires some { 1 ≤ weight }
         requires within { weight ≤ length prefix.now.rows }
-        ensures some { IfSome result (IsGreatestOf (dimensions_of self.now.shape) (requirement_of self.now.demands) prefix.now.rows weight) }
-        ensures none { IfNone result (IsNoneOf (dimensions_of self.now.shape) (requirement_of self.now.demands) prefix.now.rows weight) }
+        ensures some { IfSome result
+            (IsGreatestOf (dimensions_of self.now.shape)
+                (requirement_of self.now.demands) prefix.now.rows weight) }
+        ensures none { IfNone result
+            (IsNoneOf (dimensions_of self.now.shape)
+                (requirement_of self.now.demands) prefix.now.rows weight) }
     {
         let shape = prefix.shape();
         let factors = usize::from(shape.s);
@@ -82,8 +94,14 @@ impl Forbidden {
     fn complete(&self, prefix: &Matrix, word: &mut Vector, i: usize, left: usize, sum: u16) -> bool
         requires shape { prefix.now.shape ≡ self.now.shape }
         requires partial { IsPartial (dimensions_of self.now.shape) prefix.now.rows i word.old sum }
-        ensures found { OnTrue result (IsGreatestHit (dimensions_of self.now.shape) (requirement_of self.now.demands) prefix.now.rows i left (drop i word.old) word.new) }
-        ensures none { OnFalse result (IsNoHit (dimensions_of self.now.shape) (requirement_of self.now.demands) prefix.now.rows i left (drop i word.old)) }
+        ensures found { OnTrue result
+            (IsGreatestHit (dimensions_of self.now.shape)
+                (requirement_of self.now.demands) prefix.now.rows i left
+                (drop i word.old) word.new) }
+        ensures none { OnFalse result
+            (IsNoHit (dimensions_of self.now.shape)
+                (requirement_of self.now.demands) prefix.now.rows i left
+                (drop i word.old)) }
         ensures kept { OnFalse result (word.new ≡ word.old) }
     {
         let shape = prefix.shape();

@@ -99,7 +99,9 @@ impl Forbidden {
     /// Whether a word, which has a code for each factor and each block factor, is forbidden.
     pub fn holds(&self, word: &Vector) -> bool
         requires { IsVector self.now.shape.q (self.now.shape.s + self.now.shape.t) word.now }
-        ensures { result ≡ is_forbidden_word (dimensions_of self.now.shape) (requirement_of self.now.demands) word.now }
+        ensures { result
+            ≡ is_forbidden_word (dimensions_of self.now.shape)
+                (requirement_of self.now.demands) word.now }
     {
         let s = usize::from(self.question.shape.s);
         let support = support_of(word, s);
@@ -195,7 +197,10 @@ fn is_estimated(demands: &Demands, support: u64) -> bool
 /// Whether a vector with this support is the difference of a vector of an effect to be estimated and
 /// one of either list or zero.
 fn is_difference(q: u8, estimate: &Effects, nonnegligible: &Effects, support: u64) -> bool
-    ensures { result ≡ list_any (λ u. differs_from_some q (numbers_of estimate.now) (numbers_of nonnegligible.now) support u.0) estimate.now }
+    ensures { result
+        ≡ list_any
+            (λ u. differs_from_some q (numbers_of estimate.now)
+                (numbers_of nonnegligible.now) support u.0) estimate.now }
 {
     estimate.as_slice().iter().any(|u| differs_from_some(q, u.0, estimate, nonnegligible, support))
 }
@@ -209,7 +214,9 @@ fn differs_from_some(
     nonnegligible: &Effects,
     support: u64,
 ) -> bool
-    ensures { result ≡ differs_from_some q (numbers_of estimate.now) (numbers_of nonnegligible.now) support u }
+    ensures { result
+        ≡ differs_from_some q (numbers_of estimate.now) (numbers_of nonnegligible.now)
+            support u }
 {
     if differs(q, u, 0, support) {
         return true;

@@ -11,7 +11,9 @@ pub(crate) fn sum_with(field: Field, m: u8, sum: u16, row: u16, c: u8) -> u16
     requires row { row < field ^ m }
     requires some { 0 < c }
     requires code { c < field }
-    ensures total { result ≡ number field (plus field (digits field m sum) (scale field c (digits field m row))) }
+    ensures total { result
+        ≡ number field
+            (plus field (digits field m sum) (scale field c (digits field m row))) }
     ensures below { result < field ^ m }
 {
     if field.q() == 2 {

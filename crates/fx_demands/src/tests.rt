@@ -45,7 +45,8 @@ fn in_blocks() -> Question
 /// Asks for the main effects of two factors of two levels in two runs.
 fn two_effects(alloc: Global) -> Result<Question, NoMemory>
     ensures valid { IfOk result IsValid }
-    ensures shape { IfOk result (λ question. question.shape ≡ record { q = 2; m = 1; s = 2; t = 0 }) }
+    ensures shape { IfOk result (λ question.
+        question.shape ≡ record { q = 2; m = 1; s = 2; t = 0 }) }
 {
     let estimate = Effects::from_slice(alloc, &[Effect(1), Effect(2)])?;
     Ok(Question {

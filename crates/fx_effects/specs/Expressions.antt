@@ -57,6 +57,7 @@ abbrev pub upto_of : List ℕ → Option Written → Result ℕ Refusal
 upto_of stars None = Ok 64
 upto_of stars (Some w) = at_most stars w (number_of w)
 
+-- an effect as it is written, by its parts
 abbrev pub expression : List ℕ → ℕ → Expression
 expression stars upto = record { stars = stars; upto = upto }
 
@@ -73,6 +74,7 @@ range_at factors first last =
     if not (is_range first.text last.text) then Err (refusal_at 30 first)
     else mains_from first factors [] (names_between first.text last.text) >>= (λ mains. Ok (expression mains 1))
 
+-- a range, where there is a last name, and else stars
 abbrev pub by_last : List (List ℕ) → Written → List Written → Option Written → Result Expression Refusal
 by_last factors first rest None = bars_at factors first rest
 by_last factors first rest (Some last) = range_at factors first last

@@ -24,7 +24,9 @@ pub(crate) fn list_of(
     expressions: &[Expression],
 ) -> Result<Effects, ParseStop>
     requires { AreSmall expressions.now }
-    ensures ok { IfOk result (λ effects. at_most_100000 word.now (effects_of expressions.now) ≡ Ok (numbers_of effects)) }
+    ensures ok { IfOk result (λ effects.
+        at_most_100000 word.now (effects_of expressions.now)
+            ≡ Ok (numbers_of effects)) }
     ensures ordered { IfOk result (λ effects. AreOrdered (numbers_of effects)) }
     ensures err { IfErr result (IsRefused (at_most_100000 word.now (effects_of expressions.now))) }
 {

@@ -54,7 +54,9 @@ pub fn effects_of(
 ) -> Result<ModelEffects, ParseStop>
     requires { length factors.now ≤ 40 }
     ensures ok { IfOk result (λ effects. lists_of field factors.now statement.now ≡ Ok effects) }
-    ensures told { IfOk result (λ effects. CanBeTold field (length factors.now) effects.estimate effects.nonnegligible) }
+    ensures told { IfOk result (λ effects.
+        CanBeTold field (length factors.now) effects.estimate
+            effects.nonnegligible) }
     ensures err { IfErr result (IsRefused (lists_of field factors.now statement.now)) }
 {
     match statement.get(1) {
@@ -72,7 +74,8 @@ fn effects_behind(
     written: &[Lexeme<'_>],
 ) -> Result<ModelEffects, ParseStop>
     requires { length factors.now ≤ 40 }
-    ensures ok { IfOk result (λ effects. lists_behind field factors.now word.now written.now ≡ Ok effects) }
+    ensures ok { IfOk result (λ effects.
+        lists_behind field factors.now word.now written.now ≡ Ok effects) }
     ensures apart { IfOk result (AreApart field) }
     ensures err { IfErr result (IsRefused (lists_behind field factors.now word.now written.now)) }
 {
@@ -94,9 +97,15 @@ fn lists_at(
     other_written: &[Lexeme<'_>],
 ) -> Result<ModelEffects, ParseStop>
     requires { length factors.now ≤ 40 }
-    ensures ok { IfOk result (λ effects. lists_at field factors.now word.now written.now other_word.now other_written.now ≡ Ok effects) }
+    ensures ok { IfOk result (λ effects.
+        lists_at field factors.now word.now written.now other_word.now
+            other_written.now
+            ≡ Ok effects) }
     ensures apart { IfOk result (AreApart field) }
-    ensures err { IfErr result (IsRefused (lists_at field factors.now word.now written.now other_word.now other_written.now)) }
+    ensures err { IfErr result
+        (IsRefused
+            (lists_at field factors.now word.now written.now other_word.now
+                other_written.now)) }
 {
     let estimate = expressions_of(alloc, factors, written)?;
     let others = expressions_of(alloc, factors, other_written)?;
@@ -130,9 +139,13 @@ fn told_apart(
 ) -> Result<ModelEffects, ParseStop>
     requires estimate { AreOrdered (numbers_of estimate) }
     requires others { AreOrdered (numbers_of others.now) }
-    ensures ok { IfOk result (λ effects. told_apart field word.now (numbers_of estimate) (numbers_of others.now) ≡ Ok effects) }
+    ensures ok { IfOk result (λ effects.
+        told_apart field word.now (numbers_of estimate) (numbers_of others.now)
+            ≡ Ok effects) }
     ensures apart { IfOk result (AreApart field) }
-    ensures err { IfErr result (IsRefused (told_apart field word.now (numbers_of estimate) (numbers_of others.now))) }
+    ensures err { IfErr result
+        (IsRefused
+            (told_apart field word.now (numbers_of estimate) (numbers_of others.now))) }
 {
     // With more than 2,000,000 pairs in the first list alone, the others are not looked at: so there
     // are at most 1,414 effects that each of them is compared with.
@@ -152,7 +165,8 @@ fn told_apart(
 
 /// The effects without those to be estimated.
 fn without(alloc: Global, estimate: &Effects, effects: &Effects) -> Result<Effects, NoMemory>
-    ensures { IfOk result (λ others. numbers_of others ≡ without (numbers_of estimate.now) (numbers_of effects.now)) }
+    ensures { IfOk result (λ others.
+        numbers_of others ≡ without (numbers_of estimate.now) (numbers_of effects.now)) }
 {
     let mut others = Effects::new(alloc);
     for e in effects.as_slice() {

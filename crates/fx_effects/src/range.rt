@@ -50,9 +50,15 @@ fn mains(
 ) -> Result<Effects, ParseStop>
     requires few { length factors.now ≤ 40 }
     requires numbers { from + count ≤ 2 ^ 128 }
-    ensures ok { IfOk result (λ mains. mains_from first.now factors.now [] (numbered (stem first.now.text) from count) ≡ Ok (numbers_of mains)) }
+    ensures ok { IfOk result (λ mains.
+        mains_from first.now factors.now []
+            (numbered (stem first.now.text) from count)
+            ≡ Ok (numbers_of mains)) }
     ensures numbers { IfOk result (λ mains. AreNumbers (numbers_of mains)) }
-    ensures err { IfErr result (IsRefused (mains_from first.now factors.now [] (numbered (stem first.now.text) from count))) }
+    ensures err { IfErr result
+        (IsRefused
+            (mains_from first.now factors.now []
+                (numbered (stem first.now.text) from count))) }
 {
     let mut mains = Effects::new(alloc);
     for i in 0..count {

@@ -52,8 +52,14 @@ fn add(
     last: Option<&Lexeme<'_>>,
 ) -> Result<(), ParseStop>
     requires { length names.old ≤ limit }
-    ensures added { OnOk result (added limit names.old (item first.now (option_map (λ w. w.now) last.entry)) ≡ Ok names.new) }
-    ensures refused { IfErr result (IsRefused (added limit names.old (item first.now (option_map (λ w. w.now) last.entry)))) }
+    ensures added { OnOk result
+        (added limit names.old
+            (item first.now (option_map (λ w. w.now) last.entry))
+            ≡ Ok names.new) }
+    ensures refused { IfErr result
+        (IsRefused
+            (added limit names.old
+                (item first.now (option_map (λ w. w.now) last.entry)))) }
     ensures bound { OnOk result (length names.new ≤ limit) }
 {
     match last {
@@ -91,8 +97,10 @@ fn add_range(
     last: &Lexeme<'_>,
 ) -> Result<(), ParseStop>
     requires { length names.old ≤ limit }
-    ensures added { OnOk result (added limit names.old (item first.now (Some last.now)) ≡ Ok names.new) }
-    ensures refused { IfErr result (IsRefused (added limit names.old (item first.now (Some last.now)))) }
+    ensures added { OnOk result
+        (added limit names.old (item first.now (Some last.now)) ≡ Ok names.new) }
+    ensures refused { IfErr result
+        (IsRefused (added limit names.old (item first.now (Some last.now)))) }
     ensures bound { OnOk result (length names.new ≤ limit) }
 {
     let (low, high) = (first.text(), last.text());
@@ -116,9 +124,14 @@ fn add_numbered(
     count: usize,
 ) -> Result<(), ParseStop>
     requires { from + count ≤ 2 ^ 128 }
-    ensures added { OnOk result (names.new ≡ names.old ++ numbered (stem first.now.text) from count) }
-    ensures new { OnOk result (are_known (numbered (stem first.now.text) from count) names.old ≡ false) }
-    ensures known { IfErr result (IsRefused (known_at first.now (are_known (numbered (stem first.now.text) from count) names.old))) }
+    ensures added { OnOk result
+        (names.new ≡ names.old ++ numbered (stem first.now.text) from count) }
+    ensures new { OnOk result
+        (are_known (numbered (stem first.now.text) from count) names.old ≡ false) }
+    ensures known { IfErr result
+        (IsRefused
+            (known_at first.now
+                (are_known (numbered (stem first.now.text) from count) names.old))) }
 {
     let known = names.len();
     for i in 0..count {
@@ -156,7 +169,8 @@ fn before_slash_len(lexemes: &[Lexeme<'_>]) -> usize
 
 /// The last name of a range, where `-` stands after the first.
 pub fn last_behind<'b, 'a>(lexemes: &'b [Lexeme<'a>]) -> Option<&'b Lexeme<'a>>
-    ensures { MatchOption result (last_behind lexemes.now ≡ None) (λ w. last_behind lexemes.now ≡ Some w.now) }
+    ensures { MatchOption result (last_behind lexemes.now ≡ None)
+        (λ w. last_behind lexemes.now ≡ Some w.now) }
 {
     if 1 < lexemes.len() && lexemes[0].is(Symbol::Minus) {
         Some(&lexemes[1])

@@ -21,7 +21,8 @@ pub fn codes_change_no_text()
 
 /// A sequence stands for the texts of its first part, each with one of its second part after it.
 pub fn sequence_is_one_before_another()
-    ensures { (a b : Shape) (text : List Symbol) → Matches (a ▸ b) text ↔ Matches (Before a b) text }
+    ensures { (a b : Shape) (text : List Symbol)
+        → Matches (a ▸ b) text ↔ Matches (Before a b) text }
 {}
 
 /// What a description leaves after a symbol are its texts that begin with the symbol, without it.

@@ -10,7 +10,8 @@ ghost use Rattle.fx_lexer.specs.Flaws.{BreaksOff};
 /// A text has tokens exactly where it is white space, comments and these tokens, one after
 /// another, and a fault exactly where it is such pieces up to what is at fault.
 pub fn text_is_pieces(text: &[u8])
-    ensures tokens { (tokens : List Token) → (lexed text.now ≡ Ok tokens) ↔ IsMadeOf text.now tokens }
+    ensures tokens { (tokens : List Token)
+        → (lexed text.now ≡ Ok tokens) ↔ IsMadeOf text.now tokens }
     ensures fault { (fault : LexFault) → (lexed text.now ≡ Err fault) ↔ BreaksOff text.now fault }
 {}
 

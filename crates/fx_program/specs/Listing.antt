@@ -39,6 +39,7 @@ rule_lines q m introduced (name ∷ names) [] = []
 rule_lines q m introduced (name ∷ names) (row ∷ rows) =
     (if row == q ^ length introduced then rule_lines q m (introduced ++ name ∷ []) names rows else rule_of introduced name (digits q m row) ++ rule_lines q m introduced names rows)
 
+-- the lines, or a line that says that there are none
 abbrev pub or_none : List ℕ → List ℕ
 or_none [] = codes "  none\n"
 or_none (b ∷ lines) = b ∷ lines
@@ -51,6 +52,7 @@ rules q m names rows = or_none (rule_lines q m [] names rows)
 abbrev pub heading : ℕ → ℕ → ℕ → List ℕ
 heading number s q = codes "step " ++ decimal number ++ codes "\nfactors " ++ decimal s ++ codes " levels " ++ decimal q ++ codes "\n"
 
+-- the number of nodes
 abbrev pub nodes_line : ℕ → List ℕ
 nodes_line count = codes "nodes " ++ decimal count ++ codes "\n"
 

@@ -12,6 +12,7 @@ pub data Outcome : Type 0 where
   NoDesign : ℕ → Outcome
   BudgetEnded : ℕ → Outcome
 
+-- the outcome of a search that was finished
 abbrev pub finished : Option (List ℕ) → ℕ → Outcome
 finished (Some rows) count = Design rows count
 finished None count = NoDesign count

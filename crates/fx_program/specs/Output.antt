@@ -14,6 +14,7 @@ use Rattle.fx_program.specs.declared.words.Settings.TheVariants.{Run}
 use Rattle.fx_program.specs.declared.words.WordFault.{WordFault}
 use Rattle.fx_program.specs.declared.text.TextFault.{TextFault}
 
+-- what is done outside, and the status
 pub record Output : Type 0 where
   pub events : List Event
   pub status : ℕ
@@ -28,6 +29,7 @@ step_given number step p =
     let outcome = outcome_of p step.settings.budget in
     message (step_lines number p.dimensions.q p.dimensions.m step.factors outcome) (status_of outcome)
 
+-- what is given for a step that states a problem; else nothing
 abbrev pub given_by : ℕ → Meaning → Option Problem → Output
 given_by number step None = record { events = []; status = 0 }
 given_by number step (Some p) = step_given number step p
@@ -57,6 +59,7 @@ abbrev pub output_for : Result Settings WordFault → List ℕ → Output
 output_for (Err fault) text = message (word_line fault) 3
 output_for (Ok (Run threads seed)) text = program_output (program_in text)
 
+-- the output of words and a text
 abbrev pub output_of : List (List ℕ) → List ℕ → Output
 output_of words text = output_for (settings_of words) text
 
@@ -69,6 +72,7 @@ reads (Ok (Run threads seed)) = true
 pub record IsTextOf (words : List (List ℕ)) (left : Option (List ℕ)) (text : List ℕ) : Type 0 where
   pub told : reads (settings_of words) ≡ true → left ≡ Some text
 
+-- what stands outside: the listing and the files
 abbrev pub world : Option (List ℕ) → Option (List File) → World
 world written files = record { written = written; files = files }
 

@@ -15,6 +15,7 @@ use Rattle.fx_statements.specs.Steps.{Meaning}
 abbrev pub asks_nothing : Examine → Bool
 asks_nothing examine = not (examine.aliasing || examine.blocked || examine.design || examine.aberration)
 
+-- no file is asked for
 abbrev pub is_empty : List OutputSpec → Bool
 is_empty [] = true
 is_empty (output ∷ outputs) = false

@@ -63,6 +63,7 @@ abbrev pub line_at : List ℕ → ℕ → ℕ → ℕ → List ℕ → List ℕ
 line_at letter code line column reason =
     codes "factex: " ++ letter ++ decimal code ++ codes " " ++ decimal line ++ codes ":" ++ decimal column ++ codes " " ++ reason ++ codes "\n"
 
+-- the line of a fault: a lexical rule has the letter L, every other the letter E
 abbrev pub fault_line : TextFault → List ℕ
 fault_line (Lexical fault) = line_at (codes "L") fault.kind fault.line fault.column (listed_at lexical_reasons fault.kind)
 fault_line (Refused refusal) = line_at (codes "E") refusal.code refusal.line refusal.column (reason_of refusal.code)

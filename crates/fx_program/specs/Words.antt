@@ -5,6 +5,7 @@ use Rattle.fx_program.specs.declared.words.Settings.{Settings}
 use Rattle.fx_program.specs.declared.words.Settings.TheVariants.{Run}
 use Rattle.fx_program.specs.declared.words.WordFault.{WordFault}
 
+-- the fault of this code at a word
 abbrev pub word_fault : ℕ → ℕ → Result Settings WordFault
 word_fault code word = Err (record { code = code; word = word })
 

@@ -12,7 +12,9 @@ use fx_vectors::Vector;
 /// Whether each of the q^t blocks has equally many runs: each tuple of block values comes equally
 /// often.
 pub(crate) fn are_blocks_even(runs: &Runs) -> bool
-    ensures { result ≡ are_blocks_even runs.now.shape.q runs.now.shape.s (runs.now.shape.q ^ runs.now.shape.t) runs.now.rows }
+    ensures { result
+        ≡ are_blocks_even runs.now.shape.q runs.now.shape.s
+            (runs.now.shape.q ^ runs.now.shape.t) runs.now.rows }
 {
     if runs.is_empty() {
         return true;
@@ -32,7 +34,9 @@ pub(crate) fn are_blocks_even(runs: &Runs) -> bool
 /// over the blocks, and so for runs of which there are as many or more.
 pub(crate) fn is_balanced_in_blocks(u: &Vector, runs: &Runs) -> bool
     requires { IsVector runs.now.shape.q runs.now.shape.s u.now }
-    ensures { result ≡ is_balanced_in_blocks runs.now.shape.q runs.now.shape.s (runs.now.shape.q ^ runs.now.shape.t) u.now runs.now.rows }
+    ensures { result
+        ≡ is_balanced_in_blocks runs.now.shape.q runs.now.shape.s
+            (runs.now.shape.q ^ runs.now.shape.t) u.now runs.now.rows }
 {
     if runs.is_empty() {
         return true;
@@ -55,7 +59,9 @@ fn block_count(runs: &Runs) -> u32
 
 /// How many runs are in block `z`.
 fn block_size(runs: &Runs, z: u32) -> usize
-    ensures { result ≡ count_by (λ x. number runs.now.shape.q (drop runs.now.shape.s x) == z) runs.now.rows }
+    ensures { result
+        ≡ count_by (λ x. number runs.now.shape.q (drop runs.now.shape.s x) == z)
+            runs.now.rows }
 {
     let mut size = 0usize;
     for i in 0..runs.len() {
@@ -69,7 +75,8 @@ fn block_size(runs: &Runs, z: u32) -> usize
 /// On how many runs x of block `z` u.x is each value.
 fn counts_in_block(u: &Vector, runs: &Runs, z: u32) -> [usize; 9]
     requires { IsVector runs.now.shape.q runs.now.shape.s u.now }
-    ensures { AreCounts runs.now.shape.q u.now (block runs.now.shape.q runs.now.shape.s z runs.now.rows) result }
+    ensures { AreCounts runs.now.shape.q u.now
+        (block runs.now.shape.q runs.now.shape.s z runs.now.rows) result }
 {
     let mut counts = [0usize; 9];
     for i in 0..runs.len() {

@@ -18,15 +18,17 @@ use fx_vectors::{Demands, Effects, Question};
 /// Whether the runs meet the question's demands, judged from the runs alone.
 ///
 /// Each vector that has to be balanced is counted over the runs: under a resolution r those of weight
-/// below r, and for effects the differences of vectors of an effect to be estimated and of another
-/// effect or zero. With block factors each tuple of their values has to come equally often besides,
+/// below r, and for effects the differences, other than zero, of a vector of an effect to be
+/// estimated and one of any effect of either list, the same one included, or zero. With block factors each tuple of their values has to come equally often besides,
 /// and each vector of an effect to be estimated is counted inside each block. No other vectors are
 /// walked through, and no memory is taken. Some 36,000 vectors over 31 factors took 1.2 seconds in
 /// 1,024 runs.
 pub fn meets(question: &Question, runs: &Runs) -> bool
     requires valid { IsValid question.now }
     requires shape { runs.now.shape ≡ question.now.shape }
-    ensures { result ≡ do_runs_meet (dimensions_of question.now.shape) (requirement_of question.now.demands) runs.now.rows }
+    ensures { result
+        ≡ do_runs_meet (dimensions_of question.now.shape)
+            (requirement_of question.now.demands) runs.now.rows }
 {
     if !are_balanced(&question.demands, runs) {
         return false;
@@ -41,7 +43,9 @@ pub fn meets(question: &Question, runs: &Runs) -> bool
 fn are_balanced(demands: &Demands, runs: &Runs) -> bool
     requires shaped { IsShape runs.now.shape }
     requires asked { CanBeAsked (dimensions_of runs.now.shape) (requirement_of demands.now) }
-    ensures { result ≡ each_balanced runs.now AllRuns (must_balance (dimensions_of runs.now.shape) (requirement_of demands.now)) }
+    ensures { result
+        ≡ each_balanced runs.now AllRuns
+            (must_balance (dimensions_of runs.now.shape) (requirement_of demands.now)) }
 {
     match demands {
         Demands::Resolution { r } => {
@@ -60,7 +64,8 @@ fn are_balanced(demands: &Demands, runs: &Runs) -> bool
 /// Whether each vector of an effect to be estimated is balanced inside each block.
 fn are_balanced_in_blocks(demands: &Demands, runs: &Runs) -> bool
     requires { IsShape runs.now.shape }
-    ensures { result ≡ each_balanced runs.now EachBlock (is_estimated (requirement_of demands.now)) }
+    ensures { result
+        ≡ each_balanced runs.now EachBlock (is_estimated (requirement_of demands.now)) }
 {
     match demands {
         Demands::Resolution { r } => {
@@ -75,7 +80,10 @@ fn are_balanced_in_blocks(demands: &Demands, runs: &Runs) -> bool
 
 /// Whether each vector of one of the effects is balanced inside each block.
 fn are_apart_from_blocks(effects: &Effects, runs: &Runs) -> bool
-    ensures { result ≡ list_all (λ e. each_balanced runs.now EachBlock (λ f. not (is_zero f) && (e.0 == effect_of f))) effects.now }
+    ensures { result
+        ≡ list_all
+            (λ e. each_balanced runs.now EachBlock
+                (λ f. not (is_zero f) && (e.0 == effect_of f))) effects.now }
 {
     effects
         .as_slice()
@@ -85,7 +93,8 @@ fn are_apart_from_blocks(effects: &Effects, runs: &Runs) -> bool
 
 /// Whether each vector of the effect `e` is balanced inside each block.
 fn is_apart_from_blocks(e: u64, runs: &Runs) -> bool
-    ensures { result ≡ each_balanced runs.now EachBlock (λ f. not (is_zero f) && (e == effect_of f)) }
+    ensures { result
+        ≡ each_balanced runs.now EachBlock (λ f. not (is_zero f) && (e == effect_of f)) }
 {
     Supports::of_effect(e).are_balanced(runs, Within::EachBlock)
 }
@@ -93,7 +102,13 @@ fn is_apart_from_blocks(e: u64, runs: &Runs) -> bool
 /// Whether each vector that is the difference of a vector of an effect to be estimated and one of
 /// either list or zero is balanced.
 fn are_told_apart(estimate: &Effects, nonnegligible: &Effects, runs: &Runs) -> bool
-    ensures { result ≡ list_all (λ u. each_balanced runs.now AllRuns (λ f. not (is_zero f) && differs_from_some runs.now.shape.q (numbers_of estimate.now) (numbers_of nonnegligible.now) (effect_of f) u.0)) estimate.now }
+    ensures { result
+        ≡ list_all
+            (λ u. each_balanced runs.now AllRuns
+                (λ f. not (is_zero f)
+                    && differs_from_some runs.now.shape.q (numbers_of estimate.now)
+                        (numbers_of nonnegligible.now) (effect_of f) u.0))
+            estimate.now }
 {
     estimate
         .as_slice()
@@ -104,7 +119,11 @@ fn are_told_apart(estimate: &Effects, nonnegligible: &Effects, runs: &Runs) -> b
 /// Whether each vector that is the difference of a vector of the effect `u` and one of either list
 /// or zero is balanced.
 fn is_told_from_all(u: u64, estimate: &Effects, nonnegligible: &Effects, runs: &Runs) -> bool
-    ensures { result ≡ each_balanced runs.now AllRuns (λ f. not (is_zero f) && differs_from_some runs.now.shape.q (numbers_of estimate.now) (numbers_of nonnegligible.now) (effect_of f) u) }
+    ensures { result
+        ≡ each_balanced runs.now AllRuns
+            (λ f. not (is_zero f)
+                && differs_from_some runs.now.shape.q (numbers_of estimate.now)
+                    (numbers_of nonnegligible.now) (effect_of f) u) }
 {
     if !is_told_from(u, 0, runs) {
         return false;
@@ -115,7 +134,11 @@ fn is_told_from_all(u: u64, estimate: &Effects, nonnegligible: &Effects, runs: &
 /// Whether each vector that is the difference of a vector of the effect `u` and one of the others is
 /// balanced.
 fn is_told_from_each(u: u64, others: &Effects, runs: &Runs) -> bool
-    ensures { result ≡ list_all (λ v. each_balanced runs.now AllRuns (λ f. not (is_zero f) && differs runs.now.shape.q u v.0 (effect_of f))) others.now }
+    ensures { result
+        ≡ list_all
+            (λ v. each_balanced runs.now AllRuns
+                (λ f. not (is_zero f) && differs runs.now.shape.q u v.0 (effect_of f)))
+            others.now }
 {
     others.as_slice().iter().all(|v| is_told_from(u, v.0, runs))
 }
@@ -123,7 +146,9 @@ fn is_told_from_each(u: u64, others: &Effects, runs: &Runs) -> bool
 /// Whether each vector that is the difference of a vector of the effect `u` and one of the effect
 /// `v`, where 0 stands for the zero vector, is balanced.
 fn is_told_from(u: u64, v: u64, runs: &Runs) -> bool
-    ensures balanced { result ≡ each_balanced runs.now AllRuns (λ f. not (is_zero f) && differs runs.now.shape.q u v (effect_of f)) }
+    ensures balanced { result
+        ≡ each_balanced runs.now AllRuns
+            (λ f. not (is_zero f) && differs runs.now.shape.q u v (effect_of f)) }
     ensures valid { AreRuns runs.now.shape runs.now.rows }
 {
     Supports::of_differences(runs.shape().q, u, v).are_balanced(runs, Within::AllRuns)

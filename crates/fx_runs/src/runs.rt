@@ -65,7 +65,8 @@ impl Runs {
     pub fn row(&self, i: usize) -> &Vector
         requires { i < length self.now.rows }
         ensures row { result.now ≡ slice_index_or self.now.rows i [] }
-        ensures vector { IsVector self.now.shape.q (self.now.shape.s + self.now.shape.t) result.now }
+        ensures vector { IsVector self.now.shape.q (self.now.shape.s + self.now.shape.t)
+            result.now }
     {
         self.rows.get(i)
     }

@@ -206,7 +206,8 @@ fn for_effects(
     nonnegligible: &[Effect],
 ) -> Result<Question, NoMemory>
     requires shaped { IsShape shape }
-    requires told { CanBeTold shape.q shape.s (numbers_of estimate.now) (numbers_of nonnegligible.now) }
+    requires told { CanBeTold shape.q shape.s (numbers_of estimate.now)
+        (numbers_of nonnegligible.now) }
     ensures valid { IfOk result IsValid }
     ensures shape { IfOk result (λ question. question.shape ≡ shape) }
 {

@@ -34,7 +34,9 @@ pub(crate) struct Supports {
 impl Supports {
     /// The sets of at most `most` factors.
     pub(crate) fn of_at_most(most: usize) -> Supports
-        ensures { (f : List ℕ) → length f ≤ 40 → is_among result.inner result.outer result.most f ≡ nat_le (weight f) most }
+        ensures { (f : List ℕ)
+            → length f ≤ 40
+            → is_among result.inner result.outer result.most f ≡ nat_le (weight f) most }
     {
         Supports {
             inner: 0,
@@ -45,7 +47,9 @@ impl Supports {
 
     /// The effect `e` alone.
     pub(crate) fn of_effect(e: u64) -> Supports
-        ensures { (f : List ℕ) → length f ≤ 40 → is_among result.inner result.outer result.most f ≡ (e == effect_of f) }
+        ensures { (f : List ℕ)
+            → length f ≤ 40
+            → is_among result.inner result.outer result.most f ≡ (e == effect_of f) }
     {
         Supports {
             inner: e,
@@ -57,7 +61,10 @@ impl Supports {
     /// The supports of the differences of a vector of the effect `u` and one of the effect `v`,
     /// where 0 stands for the zero vector.
     pub(crate) fn of_differences(q: u8, u: u64, v: u64) -> Supports
-        ensures { (f : List ℕ) → length f ≤ 40 → is_among result.inner result.outer result.most f ≡ differs q u v (effect_of f) }
+        ensures { (f : List ℕ)
+            → length f ≤ 40
+            → is_among result.inner result.outer result.most f
+                ≡ differs q u v (effect_of f) }
     {
         let apart = u ^ v;
         Supports {
@@ -70,7 +77,10 @@ impl Supports {
 
     /// Whether each vector over the factors that has such a support and is not zero is balanced.
     pub(crate) fn are_balanced(self, runs: &Runs, within: Within) -> bool
-        ensures balanced { result ≡ each_balanced runs.now within (λ f. not (is_zero f) && is_among self.inner self.outer self.most f) }
+        ensures balanced { result
+            ≡ each_balanced runs.now within
+                (λ f. not (is_zero f)
+                    && is_among self.inner self.outer self.most f) }
         ensures valid { AreRuns runs.now.shape runs.now.rows }
     {
         let mut f = Vector::zero(usize::from(runs.shape().s));
@@ -82,7 +92,9 @@ impl Supports {
     fn are_balanced_from(self, runs: &Runs, within: Within, f: &mut Vector, i: usize) -> bool
         requires vector { IsVector runs.now.shape.q runs.now.shape.s f.old }
         requires place { i ≤ runs.now.shape.s }
-        ensures each { IsTrue result ↔ AreBalancedFrom runs.now within self.inner self.outer self.most (take i f.old) }
+        ensures each { IsTrue result
+            ↔ AreBalancedFrom runs.now within self.inner self.outer self.most
+                (take i f.old) }
         ensures kept { take i f.new ≡ take i f.old }
         ensures vector { IsVector runs.now.shape.q runs.now.shape.s f.new }
     {

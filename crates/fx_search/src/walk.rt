@@ -44,10 +44,13 @@ pub(crate) fn walk<P: Pruner>(
     requires prefix { P.prefix pruner.old ≡ prefix.old.rows }
     requires part { length prefix.old.rows < (tree_of (problem_of question.now)).size }
     requires canonical { (tree_of (problem_of question.now)).canonical prefix.old.rows ≡ true }
-    requires allowed { (length prefix.old.rows ≡ 0) ⊎ ((tree_of (problem_of question.now)).allowed prefix.old.rows ≡ true) }
+    requires allowed { (length prefix.old.rows ≡ 0)
+        ⊎ ((tree_of (problem_of question.now)).allowed prefix.old.rows ≡ true) }
     requires limit { length marks.old ≤ limit }
     ensures shape { IfOk result (λ end. prefix.new.shape ≡ question.now.shape) }
-    ensures back { IfOk result (λ end. IsBack end (P.problem pruner.new) (P.prefix pruner.new) (problem_of question.now) prefix.old.rows) }
+    ensures back { IfOk result (λ end.
+        IsBack end (P.problem pruner.new) (P.prefix pruner.new)
+            (problem_of question.now) prefix.old.rows) }
     ensures end { let p = prefix.old.rows in
         let t = tree_of (problem_of question.now) in
         IfOk result (λ end. Ends t limit (under t (t.size - length p) p) p end marks.old marks.new prefix.new.rows) }
@@ -80,10 +83,14 @@ fn enter<P: Pruner>(
     requires prefix { P.prefix pruner.old ≡ prefix.old.rows }
     requires part { length prefix.old.rows < (tree_of (problem_of question.now)).size }
     requires below { row < count_of_rows (problem_of question.now) }
-    requires canonical { (tree_of (problem_of question.now)).canonical (prefix.old.rows ++ row ∷ []) ≡ true }
+    requires canonical { (tree_of (problem_of question.now)).canonical
+        (prefix.old.rows ++ row ∷ [])
+        ≡ true }
     requires limit { length marks.old ≤ limit }
     ensures shape { IfOk result (λ end. prefix.new.shape ≡ question.now.shape) }
-    ensures back { IfOk result (λ end. IsBack end (P.problem pruner.new) (P.prefix pruner.new) (problem_of question.now) prefix.old.rows) }
+    ensures back { IfOk result (λ end.
+        IsBack end (P.problem pruner.new) (P.prefix pruner.new)
+            (problem_of question.now) prefix.old.rows) }
     ensures end { let c = prefix.old.rows ++ row ∷ [] in
         let t = tree_of (problem_of question.now) in
         IfOk result (λ end. Ends t limit (subtree t (t.size - length c) c) prefix.old.rows end marks.old marks.new prefix.new.rows) }

@@ -26,6 +26,7 @@ abbrev pub are_most : Option BlocksSaid → Bool
 are_most None = false
 are_most (Some said) = not (is_some said.value.number)
 
+-- the least size is asked
 abbrev pub is_minimum : Size → Bool
 is_minimum Minimum = true
 is_minimum (Runs m) = false
@@ -40,6 +41,7 @@ abbrev pub is_too_many : ℕ → Size → ℕ → Bool
 is_too_many q (Runs m) t = nat_lt m t
 is_too_many q Minimum t = nat_lt 1024 (q ^ t)
 
+-- t block factors, if there are not too many blocks
 abbrev pub factors_at : ℕ → Size → Place → ℕ → Result Blocks Refusal
 factors_at q size place t = if is_too_many q size t then Err (refused_at 16 place) else Ok (is.Factors t)
 
@@ -74,6 +76,7 @@ abbrev pub blocks_by_value : ℕ → Size → BlocksWord → Place → Option �
 blocks_by_value q size word place None = Ok is.Most
 blocks_by_value q size word place (Some n) = blocks_by q size word place n
 
+-- the blocks of a step, or why they are refused
 unfoldable pub blocks_of : ℕ → Size → Option BlocksSaid → Result Blocks Refusal
 blocks_of q size None = Ok is.Without
 blocks_of q size (Some said) = blocks_by_value q size said.word said.value.place said.value.number

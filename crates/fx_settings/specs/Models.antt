@@ -34,11 +34,13 @@ abbrev pub least_of : Option ModelSaid → Bool
 least_of None = false
 least_of (Some said) = is_some said.minabs
 
+-- the highest resolution is asked
 abbrev pub is_highest : Criterion → Bool
 is_highest Highest = true
 is_highest (Resolution r) = false
 is_highest Effects = false
 
+-- effects are to be estimated
 abbrev pub is_effects : Criterion → Bool
 is_effects Effects = true
 is_effects (Resolution r) = false

@@ -57,6 +57,7 @@ size_word s = if begins Design (drop 1 s) then size.Design else (if begins Fract
 abbrev pub blocks_word : List Written → BlocksWord
 blocks_word s = if begins Nblkfacs (drop 1 s) then blocks.Nblkfacs else (if begins Nblocks (drop 1 s) then blocks.Nblocks else blocks.Size)
 
+-- what a SIZE statement says
 abbrev pub size_said : List Written → Option SizeSaid
 size_said s = option_map (λ value. record { word = size_word s; value = value }) (value_of s)
 
@@ -68,6 +69,7 @@ asked_by s = if begins Estimate (drop 1 s) then Some asked.Effects else option_m
 abbrev pub model_said : List Written → Option ModelSaid
 model_said s = option_map (λ a. record { asked = a; minabs = last_place Minabs s }) (asked_by s)
 
+-- what a BLOCKS statement says
 abbrev pub blocks_said : List Written → Option BlocksSaid
 blocks_said s = option_map (λ value. record { place = start_of s; word = blocks_word s; value = value }) (value_of s)
 

@@ -18,10 +18,12 @@ abbrev pub number_by : ℕ → ℕ → (ℕ → Bool) → Place → Option ℕ �
 number_by usual code passes place None = Ok usual
 number_by usual code passes place (Some n) = if passes n then Ok n else Err (refused_at code place)
 
+-- the same of a number that may not be given
 abbrev pub number_said : ℕ → ℕ → (ℕ → Bool) → Option Value → Result ℕ Refusal
 number_said usual code passes None = Ok usual
 number_said usual code passes (Some said) = number_by usual code passes said.place said.number
 
+-- the numbers of levels that a field has
 abbrev pub is_level : ℕ → Bool
 is_level n = list_any (λ q. q == n) (2 ∷ 3 ∷ 4 ∷ 5 ∷ 7 ∷ 8 ∷ 9 ∷ [])
 
@@ -48,5 +50,6 @@ unblocked_of s said = do
 abbrev pub with_blocks : Unblocked → Blocks → StepSettings
 with_blocks x blocks = record { q = x.q; budget = x.budget; size = x.size; criterion = x.criterion; least = x.least; blocks = blocks }
 
+-- the settings of a step, by those that were judged before its effects
 abbrev pub step_settings_of : Unblocked → StepSaid → Result StepSettings Refusal
 step_settings_of x said = blocks_of x.q x.size said.blocks >>= (λ blocks. Ok (with_blocks x blocks))

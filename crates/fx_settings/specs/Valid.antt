@@ -17,6 +17,7 @@ abbrev pub is_size : ℕ → Size → Bool
 is_size q (Runs m) = nat_le 1 m && nat_le (q ^ m) 1024
 is_size q Minimum = true
 
+-- a resolution is from 3 to 99
 abbrev pub is_criterion : Criterion → Bool
 is_criterion (Resolution r) = nat_le 3 r && nat_le r 99
 is_criterion Highest = true
@@ -29,18 +30,21 @@ are_blocks q size (blocks.Factors t) = nat_le 1 t && not (is_too_many q size t)
 are_blocks q size (blocks.PerBlock k) = is_minimum size && nat_lt k (greatest q)
 are_blocks q size blocks.Most = true
 
+-- the runs are divided into blocks
 abbrev pub has_blocks : Blocks → Bool
 has_blocks blocks.Without = false
 has_blocks (blocks.Factors t) = true
 has_blocks (blocks.PerBlock k) = true
 has_blocks blocks.Most = true
 
+-- as many blocks as can be are asked
 abbrev pub has_most : Blocks → Bool
 has_most blocks.Without = false
 has_most (blocks.Factors t) = false
 has_most (blocks.PerBlock k) = false
 has_most blocks.Most = true
 
+-- from 1 to 5,000,000 nodes
 abbrev pub is_budget : ℕ → Bool
 is_budget n = nat_le 1 n && nat_le n 5000000
 
@@ -52,6 +56,7 @@ stand_together size criterion least given =
     && not (has_blocks given && (least || is_highest criterion))
     && not (is_minimum size && (is_highest criterion || least || has_most given))
 
+-- the settings keep every rule that speaks of them alone
 abbrev pub are_valid : StepSettings → Bool
 are_valid x =
     is_level x.q && is_budget x.budget && is_size x.q x.size && is_criterion x.criterion

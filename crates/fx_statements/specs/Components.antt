@@ -44,6 +44,7 @@ first_components (w ∷ rest) = if is_for_components w then Some (place_at w) el
 abbrev pub components_asked : List Written → Option Place
 components_asked s = if begins Examine s then first_components s else None
 
+-- the first place, or else the other
 abbrev pub place_or : Option Place → Option Place → Option Place
 place_or (Some place) other = Some place
 place_or None other = other

@@ -85,7 +85,8 @@ fn statement_len(lexemes: &[Lexeme<'_>]) -> usize
 
 /// The first statement that begins with this word.
 pub fn find<'b, 'a>(word: Symbol, statements: &'b [Statement<'a>]) -> Option<&'a [Lexeme<'a>]>
-    ensures { MatchOption result (statement_of word statements.now ≡ None) (λ s. statement_of word statements.now ≡ Some s.now) }
+    ensures { MatchOption result (statement_of word statements.now ≡ None)
+        (λ s. statement_of word statements.now ≡ Some s.now) }
 {
     for statement in statements {
         if statement.begins(word) {

@@ -18,8 +18,16 @@ pub type Points = Values<u16>;
 pub fn children(alloc: Global, question: &Question, prefix: &Matrix) -> Result<Points, NoMemory>
     requires valid { IsValid question.now }
     requires shape { prefix.now.shape ≡ question.now.shape }
-    requires canonical { IsTrue (is_canonical (dimensions_of question.now.shape) (requirement_of question.now.demands) prefix.now.rows) }
-    ensures { IfOk result (λ points. points ≡ filter (λ row. is_canonical (dimensions_of question.now.shape) (requirement_of question.now.demands) (prefix.now.rows ++ row ∷ [])) (falling (question.now.shape.q ^ question.now.shape.m))) }
+    requires canonical { IsTrue
+        (is_canonical (dimensions_of question.now.shape)
+            (requirement_of question.now.demands) prefix.now.rows) }
+    ensures { IfOk result (λ points.
+        points
+            ≡ filter
+                (λ row. is_canonical (dimensions_of question.now.shape)
+                    (requirement_of question.now.demands)
+                    (prefix.now.rows ++ row ∷ []))
+                (falling (question.now.shape.q ^ question.now.shape.m))) }
 {
     let shape = question.shape;
     let front = front(question, prefix).unwrap();

@@ -14,7 +14,9 @@ pub(crate) fn may_follow(question: &Question, front: Front, row: u16) -> bool
     requires valid { IsValid question.now }
     requires rank { front.rank ≤ question.now.shape.m }
     requires below { row < question.now.shape.q ^ question.now.shape.m }
-    ensures { result ≡ follows (dimensions_of question.now.shape) (requirement_of question.now.demands) front row }
+    ensures { result
+        ≡ follows (dimensions_of question.now.shape)
+            (requirement_of question.now.demands) front row }
 {
     let shape = question.shape;
     front.count < shape.rows()
@@ -65,7 +67,9 @@ fn can_reach(shape: Shape, count: usize, rank: u8) -> bool
 /// Whether the row keeps the order that a resolution asks of the factor rows.
 fn keeps_order(question: &Question, count: usize, last: u16, row: u16) -> bool
     requires valid { IsValid question.now }
-    ensures { result ≡ keeps_order (dimensions_of question.now.shape) (requirement_of question.now.demands) count last row }
+    ensures { result
+        ≡ keeps_order (dimensions_of question.now.shape)
+            (requirement_of question.now.demands) count last row }
 {
     match question.demands {
         Demands::Resolution { .. } => {

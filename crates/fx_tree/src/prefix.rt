@@ -12,7 +12,9 @@ use fx_vectors::{Matrix, Question};
 pub fn is_canonical(question: &Question, prefix: &Matrix) -> bool
     requires valid { IsValid question.now }
     requires shape { prefix.now.shape ≡ question.now.shape }
-    ensures { result ≡ is_canonical (dimensions_of question.now.shape) (requirement_of question.now.demands) prefix.now.rows }
+    ensures { result
+        ≡ is_canonical (dimensions_of question.now.shape)
+            (requirement_of question.now.demands) prefix.now.rows }
 {
     front(question, prefix).is_some()
 }
@@ -21,7 +23,11 @@ pub fn is_canonical(question: &Question, prefix: &Matrix) -> bool
 pub(crate) fn front(question: &Question, prefix: &Matrix) -> Option<Front>
     requires valid { IsValid question.now }
     requires shape { prefix.now.shape ≡ question.now.shape }
-    ensures front { result ≡ (if is_canonical (dimensions_of question.now.shape) (requirement_of question.now.demands) prefix.now.rows then Some (front_of (dimensions_of question.now.shape) prefix.now.rows) else None) }
+    ensures front { result
+        ≡ (if is_canonical (dimensions_of question.now.shape)
+            (requirement_of question.now.demands) prefix.now.rows
+        then Some (front_of (dimensions_of question.now.shape) prefix.now.rows)
+        else None) }
     ensures rank { IfSome result (λ front. front.rank ≤ question.now.shape.m) }
 {
     let mut front = Front {

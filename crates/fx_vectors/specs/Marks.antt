@@ -6,11 +6,13 @@ use Rattle.fx_vectors.specs.declared.mark.Mark.{Mark}
 use Rattle.fx_vectors.specs.declared.mark.Mark.TheVariants.{Branch, Word, Worse}
 use Rattle.fx_vectors.specs.declared.mark.Kept.{Kept}
 
+-- the mark of the definitions
 abbrev pub meaning_of : Mark → nodes.Mark
 meaning_of (Branch row) = nodes.Branch row
 meaning_of (Word row word) = nodes.Word row word
 meaning_of (Worse row) = nodes.Worse row
 
+-- the last row of the node
 abbrev pub row_of : Mark → ℕ
 row_of (Branch row) = row
 row_of (Word row word) = row

@@ -8,10 +8,12 @@ use Rattle.fx_vectors.specs.declared.question.Demands.{Demands}
 use Rattle.fx_vectors.specs.declared.question.Demands.TheVariants.{Resolution, Effects}
 use Rattle.fx_vectors.specs.declared.question.Question.{Question}
 
+-- what the demands require
 abbrev pub requirement_of : Demands → Requirement
 requirement_of (Resolution r) = AtResolution r
 requirement_of (Effects estimate nonnegligible) = ForEffects (numbers_of estimate) (numbers_of nonnegligible)
 
+-- the problem that a question poses
 abbrev pub problem_of : Question → Problem
 problem_of question = record { dimensions = dimensions_of question.shape; requirement = requirement_of question.demands; least = question.least }
 
@@ -29,6 +31,7 @@ abbrev pub CanBeAsked : Dimensions → Requirement → Type 0
 CanBeAsked d (AtResolution r) = (3 ≤ r) × (r ≤ 99)
 CanBeAsked d (ForEffects estimate besides) = CanBeTold d.q d.s estimate besides
 
+-- a resolution is asked, and no effects
 abbrev pub is_resolution : Requirement → Bool
 is_resolution (AtResolution r) = true
 is_resolution (ForEffects estimate besides) = false

@@ -4,6 +4,7 @@ use Rattle.fx_designs.specs.Galois.{is_order}
 use Rattle.fx_designs.specs.Problems.{Dimensions}
 use Rattle.fx_vectors.specs.declared.shape.Shape.{Shape}
 
+-- the dimensions of a shape
 abbrev pub dimensions_of : Shape → Dimensions
 dimensions_of shape = record { q = shape.q; m = shape.m; s = shape.s; t = shape.t }
 

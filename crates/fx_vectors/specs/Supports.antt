@@ -11,7 +11,7 @@ abbrev pub differs : ℕ → ℕ → ℕ → ℕ → Bool
 differs q u v x = (if q == 2 then x == bit_xor u v else (bit_or x (bit_xor u v) == x) && (bit_or x (bit_or u v) == bit_or u v))
 
 -- whether some vector with the support x is the difference of a vector of the effect u, which is to be estimated, and one of
--- another effect or zero
+-- any effect of either list, u among them, or zero
 abbrev pub differs_from_some : ℕ → List ℕ → List ℕ → ℕ → ℕ → Bool
 differs_from_some q estimate besides x u = differs q u 0 x || (list_any (λ v. differs q u v x) estimate || list_any (λ v. differs q u v x) besides)
 

@@ -14,5 +14,14 @@ pub fn number_of_its_vector()
 
 /// A normal vector stands for its multiples: by at most one factor a multiple of a vector is normal.
 pub fn one_normal_multiple()
-    ensures { (q n : ℕ) (v : List ℕ) (c d : ℕ) → IsTrue (is_order q) → IsVector q n v → 0 < c → c < q → 0 < d → d < q → is_normal (scale q c v) ≡ true → is_normal (scale q d v) ≡ true → c ≡ d }
+    ensures { (q n : ℕ) (v : List ℕ) (c d : ℕ)
+        → IsTrue (is_order q)
+        → IsVector q n v
+        → 0 < c
+        → c < q
+        → 0 < d
+        → d < q
+        → is_normal (scale q c v) ≡ true
+        → is_normal (scale q d v) ≡ true
+        → c ≡ d }
 {}

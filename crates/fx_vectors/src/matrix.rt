@@ -106,7 +106,8 @@ impl Matrix {
     /// Takes the last row away.
     pub fn pop(&mut self)
         requires { 0 < length self.old.rows }
-        ensures { self.new ≡ record self.old { rows = take (length self.old.rows - 1) self.old.rows } }
+        ensures { self.new
+            ≡ record self.old { rows = take (length self.old.rows - 1) self.old.rows } }
     {
         let _ = self.rows.pop();
     }
