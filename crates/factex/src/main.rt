@@ -4,7 +4,7 @@
 mod standard;
 
 use fx_base::SureShelf;
-use fx_program::factex;
+use fx_program::{NO_MEMORY, factex};
 use standard::{StandardInput, StandardOutput};
 use std::io::ErrorKind;
 use std::process::ExitCode;
@@ -13,9 +13,6 @@ use std::{env, io};
 
 /// The status where the system does not give the command line as text.
 const NO_TEXT: u8 = 6;
-
-/// The status where memory ran out.
-const NO_MEMORY: u8 = 5;
 
 fn main(rt: HostRuntime) -> ExitCode {
     ExitCode::from(run(&rt))
