@@ -39,7 +39,7 @@ impl MemorySource {
         requires { 0 < step }
         ensures { result
             ≡ record
-                { left = content; step = step; failing = failing; made = 0; faults = 0 } }
+            { left = content; step = step; failing = failing; made = 0; faults = 0 } }
     {
         MemorySource {
             source: SureSource::new(content, step),

@@ -13,7 +13,7 @@ pub(crate) fn sum_with(field: Field, m: u8, sum: u16, row: u16, c: u8) -> u16
     requires code { c < field }
     ensures total { result
         ≡ number field
-            (plus field (digits field m sum) (scale field c (digits field m row))) }
+        (plus field (digits field m sum) (scale field c (digits field m row))) }
     ensures below { result < field ^ m }
 {
     if field.q() == 2 {

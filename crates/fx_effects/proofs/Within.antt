@@ -10,11 +10,11 @@ use Rattle.std.proofs.lemmas.Nat.{le_or_l, or_lt, pow_pos}
 use Rattle.std.proofs.Math.Pow.{pow-lt}
 use Rattle.fx_language.specs.declared.symbol.Symbol.TheVariants.{Bar}
 use Rattle.fx_language.specs.Symbols.{is, is_word}
-use Rattle.fx_text.specs.declared.refusal.Refusal.{Refusal}
 use Rattle.fx_text.specs.declared.refusal.ParseStop.{ParseStop}
 use Rattle.fx_text.specs.Written.{Written}
 use Rattle.fx_text.specs.Names.{is_same_name, place_of}
-use Rattle.fx_text.specs.Refusals.{refusal_at, ◌>>=◌}
+use Rattle.fx_text.specs.Refusals.{refusal_at}
+use Rattle.fx_text.proofs.Chains.{bind_ok, same_ok, if_ok, unless_ok}
 use Rattle.fx_factors.specs.Items.{last_behind}
 use Rattle.fx_factors.specs.Ranges.{is_range, names_between}
 use Rattle.fx_laws.proofs.Order.{each-append, each-map, each-weaker}
@@ -25,23 +25,7 @@ use Rattle.fx_demands.proofs.Ordered.{Has, has-unfilter, in_order-only}
 use Rattle.fx_effects.specs.Factors.{main_of, mains_from}
 use Rattle.fx_effects.specs.Expressions.{Expression, Reading, stars_of, with_name, read, all_read, stars_len, upto_of, expression, bars_at, range_at, by_last, expression_at, begins_effect, effect_len, is_joining, expressions_from, expressions_of}
 use Rattle.fx_effects.specs.Lists.{effects_of, effects_written, at_most_100000}
-use Rattle.fx_effects.specs.Models.{EffectLists, AreApart, list_in, behind_list, first_or, lists_at, lists_behind, some_effects, without}
-
--- a chain that gives a value has one behind its first part
-bind_ok : {A B : Type 0} (r : Result A Refusal) (f : A → Result B Refusal) (x : B) → (r >>= f) ≡ Ok x → (a : A) × (r ≡ Ok a) × (f a ≡ Ok x)
-bind_ok (Ok a) f x e = (a, refl, e)
-bind_ok (Err refusal) f x e = absurd (cc e)
-
-same_ok : {A : Type 0} (x y : A) → ◌≡◌ {A = Result A Refusal} (Ok x) (Ok y) → x ≡ y
-same_ok x y e = cc
-
-if_ok : {A : Type 0} (b : Bool) (y x : A) (refusal : Refusal) → ◌≡◌ {A = Result A Refusal} (if b then Ok y else Err refusal) (Ok x) → (b ≡ true) × (y ≡ x)
-if_ok true y x refusal e = (refl, same_ok y x e)
-if_ok false y x refusal e = absurd (cc e)
-
-unless_ok : {A : Type 0} (b : Bool) (r : Result A Refusal) (x : A) (refusal : Refusal) → (if b then Err refusal else r) ≡ Ok x → (b ≡ false) × (r ≡ Ok x)
-unless_ok true r x refusal e = absurd (cc e)
-unless_ok false r x refusal e = (refl, e)
+use Rattle.fx_effects.specs.Models.{EffectLists, AreApart, list_in, behind_list, first_or, lists_at, lists_behind, check_some_effects, without}
 
 -- what holds of each of some numbers
 member : (P : ℕ → Type 0) (u : ℕ) (xs : List ℕ) → AllByRecursion P xs → Has u xs → P u
@@ -182,7 +166,7 @@ module _ (factors : List (List ℕ)) where
       let others = bind_ok (expressions_of factors other_written) _ lists estimate.2 in
       let first = bind_ok (at_most_100000 word (effects_of estimate.0)) _ lists others.2 in
       let second = bind_ok (at_most_100000 other_word (effects_of others.0)) _ lists first.2 in
-      let some = bind_ok (some_effects word first.0) _ lists second.2 in
+      let some = bind_ok (check_some_effects word first.0) _ lists second.2 in
       let told = if_ok (nat_le (pair_count q first.0 (without first.0 second.0)) 2000000) (record { estimate = first.0; nonnegligible = without first.0 second.0 }) lists (refusal_at 22 word) some.2 in
       let first_is = (if_ok (nat_le (length (effects_of estimate.0)) 100000) (effects_of estimate.0) first.0 (refusal_at 23 word) first.1).1 in
       let second_is = (if_ok (nat_le (length (effects_of others.0)) 100000) (effects_of others.0) second.0 (refusal_at 23 other_word) second.1).1 in

@@ -24,7 +24,7 @@ pub record Reading : Type 0 where
   pub stars : List ℕ
   pub star : ℕ
 
--- and the next one behind them, where a factor of it was read
+-- and the next one after them, where a factor of it was read
 abbrev pub stars_of : Reading → List ℕ
 stars_of r = if r.star == 0 then r.stars else r.stars ++ r.star ∷ []
 
@@ -52,7 +52,7 @@ abbrev pub at_most : List ℕ → Written → Option ℕ → Result ℕ Refusal
 at_most stars w None = Err (refusal_at 29 w)
 at_most stars w (Some n) = if list_any (λ e. nat_le (count_ones e) n) stars then Ok (min n 64) else Err (refusal_at 29 w)
 
--- the most factors of a union, by the number behind `@`, or as many as there are
+-- the most factors of a union, by the number after `@`, or as many as there are
 abbrev pub upto_of : List ℕ → Option Written → Result ℕ Refusal
 upto_of stars None = Ok 64
 upto_of stars (Some w) = at_most stars w (number_of w)
@@ -96,7 +96,7 @@ abbrev pub effect_len : Bool → List Written → ℕ
 effect_len joined [] = 0
 effect_len joined (w ∷ rest) = if begins_effect joined w then 0 else suc (effect_len (is_joining w.symbol) rest)
 
--- the effects of a list behind others, from left to right
+-- the effects of a list after others, from left to right
 abbrev pub expressions_from : List (List ℕ) → List Expression → Bool → List Written → Result (List Expression) Refusal
 expressions_from factors all joined [] = Ok all
 expressions_from factors all joined (w ∷ rest) =

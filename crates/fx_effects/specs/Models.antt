@@ -26,11 +26,11 @@ pub record AreApart (q : ℕ) (lists : EffectLists) : Type 0 where
 abbrev pub list_len : List Written → ℕ
 list_len written = prefix_len (λ w. not (is Close w.symbol)) written
 
--- a list that begins behind its `(`
+-- a list that begins after its `(`
 abbrev pub list_in : List Written → List Written
 list_in written = take (list_len written) written
 
--- what stands behind its `)`
+-- what stands after its `)`
 abbrev pub behind_list : List Written → List Written
 behind_list written = drop (list_len written + 1) written
 
@@ -46,30 +46,30 @@ told_apart q word estimate others =
     else Err (refusal_at 22 word)
 
 -- There are effects in a list, or E2 at its word. The grammar lets no list be empty, so no text that it accepts is refused here.
-abbrev pub some_effects : Written → List ℕ → Result (Unit {0}) Refusal
-some_effects word effects = if length effects == 0 then Err (refusal_at 2 word) else Ok tt
+abbrev pub check_some_effects : Written → List ℕ → Result (Unit {0}) Refusal
+check_some_effects word effects = if length effects == 0 then Err (refusal_at 2 word) else Ok tt
 
 -- the first of some, or another where there is none
 abbrev pub first_or : Written → List Written → Written
 first_or other [] = other
 first_or other (w ∷ rest) = w
 
--- Two lists, each behind its word. Where the second word is missing, its list has no effects.
+-- Two lists, each after its word. Where the second word is missing, its list has no effects.
 abbrev pub lists_at : ℕ → List (List ℕ) → Written → List Written → Written → List Written → Result EffectLists Refusal
 lists_at q factors word written other_word other_written =
     expressions_of factors written >>= (λ estimate.
     expressions_of factors other_written >>= (λ others.
     at_most_100000 word (effects_of estimate) >>= (λ first.
     at_most_100000 other_word (effects_of others) >>= (λ second.
-    some_effects word first >>= (λ some.
+    check_some_effects word first >>= (λ some.
     told_apart q word first second)))))
 
--- what stands behind `MODEL ESTIMATE = (`, at the word ESTIMATE
+-- what stands after `MODEL ESTIMATE = (`, at the word ESTIMATE
 abbrev pub lists_behind : ℕ → List (List ℕ) → Written → List Written → Result EffectLists Refusal
 lists_behind q factors word written =
     lists_at q factors word (list_in written) (first_or word (behind_list written)) (list_in (drop 3 (behind_list written)))
 
--- where nothing stands behind MODEL, which the grammar refuses too, there is no word to be named
+-- where nothing stands after MODEL, which the grammar refuses too, there is no word to be named
 abbrev pub by_word : ℕ → List (List ℕ) → Option Written → List Written → Result EffectLists Refusal
 by_word q factors None written = Err (refused_at 2 (record { line = 1; column = 1 }))
 by_word q factors (Some word) written = lists_behind q factors word written

@@ -1,4 +1,4 @@
-ghost use Rattle.std.specs.Prelude.{◌≡◌, ◌≤◌, not, nat_le, count_ones, length, Ok, Some, None, IfOk, IfErr, slice_get};
+ghost use Rattle.std.specs.Prelude.{◌≡◌, ◌≤◌, nat_le, count_ones, length, Ok, Some, None, IfOk, IfErr, slice_get};
 ghost use Rattle.std.specs.List.{list_any};
 ghost use Rattle.fx_language.specs.declared.symbol.Symbol.TheVariants.{At};
 ghost use Rattle.fx_language.specs.Symbols.{is};
@@ -34,7 +34,7 @@ impl Model for Expression {
     ghost view = { λ e. record { stars = numbers_of e.stars; upto = e.upto } };
 }
 
-/// The effect that begins with this name, where `rest` stands behind it.
+/// The effect that begins with this name, where `rest` stands after it.
 ///
 /// # Errors
 ///
@@ -86,7 +86,7 @@ fn stars_len(written: &[Lexeme<'_>]) -> usize
     written.iter().take_while(|w| !w.is(Symbol::At)).count()
 }
 
-/// The most factors of a union, by the number behind `@`, or as many as there are.
+/// The most factors of a union, by the number after `@`, or as many as there are.
 fn upto_of(stars: &Effects, behind: &[Lexeme<'_>]) -> Result<u8, Refusal>
     ensures { result ≡ upto_of (numbers_of stars.now) (slice_get behind.now 1) }
 {

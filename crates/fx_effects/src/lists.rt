@@ -13,7 +13,7 @@ use std::alloc::Global;
 /// The most effects of a list.
 const MOST_EFFECTS: usize = 100_000;
 
-/// The set of effects of a list behind this word, in effect order.
+/// The set of effects of a list after this word, in effect order.
 ///
 /// # Errors
 ///
@@ -26,7 +26,7 @@ pub(crate) fn list_of(
     requires { AreSmall expressions.now }
     ensures ok { IfOk result (λ effects.
         at_most_100000 word.now (effects_of expressions.now)
-            ≡ Ok (numbers_of effects)) }
+        ≡ Ok (numbers_of effects)) }
     ensures ordered { IfOk result (λ effects. AreOrdered (numbers_of effects)) }
     ensures err { IfErr result (IsRefused (at_most_100000 word.now (effects_of expressions.now))) }
 {

@@ -1,10 +1,9 @@
-ghost use Rattle.std.specs.Prelude.{◌≡◌, ◌≤◌, length, Ok, Some, IfOk, IfErr, take, drop};
-ghost use Rattle.std.specs.List.{prefix_len};
+ghost use Rattle.std.specs.Prelude.{◌≡◌, ◌≤◌, length, Ok, Some, IfOk, IfErr, drop};
 ghost use Rattle.fx_text.specs.Refusals.{IsRefused};
 ghost use Rattle.fx_vectors.specs.Effects.{numbers_of};
 ghost use Rattle.fx_vectors.specs.Question.{CanBeTold};
 ghost use Rattle.fx_demands.specs.Bars.{AreOrdered};
-ghost use Rattle.fx_effects.specs.Models.{AreApart, by_word, first_or, list_in, list_len, behind_list, lists_at, lists_behind, lists_of, some_effects, told_apart, without};
+ghost use Rattle.fx_effects.specs.Models.{AreApart, first_or, list_in, list_len, behind_list, lists_at, lists_behind, lists_of, check_some_effects, told_apart, without};
 
 use crate::expressions::expressions_of;
 use crate::lists::list_of;
@@ -56,7 +55,7 @@ pub fn effects_of(
     ensures ok { IfOk result (λ effects. lists_of field factors.now statement.now ≡ Ok effects) }
     ensures told { IfOk result (λ effects.
         CanBeTold field (length factors.now) effects.estimate
-            effects.nonnegligible) }
+        effects.nonnegligible) }
     ensures err { IfErr result (IsRefused (lists_of field factors.now statement.now)) }
 {
     match statement.get(1) {
@@ -65,7 +64,7 @@ pub fn effects_of(
     }
 }
 
-/// The effects of what stands behind `MODEL ESTIMATE = (`.
+/// The effects of what stands after `MODEL ESTIMATE = (`.
 fn effects_behind(
     alloc: Global,
     field: Field,
@@ -86,7 +85,7 @@ fn effects_behind(
     lists_at(alloc, field, factors, word, first, other_word, others)
 }
 
-/// The effects of two lists, each behind its word.
+/// The effects of two lists, each after its word.
 fn lists_at(
     alloc: Global,
     field: Field,
@@ -99,19 +98,19 @@ fn lists_at(
     requires { length factors.now ≤ 40 }
     ensures ok { IfOk result (λ effects.
         lists_at field factors.now word.now written.now other_word.now
-            other_written.now
-            ≡ Ok effects) }
+        other_written.now
+        ≡ Ok effects) }
     ensures apart { IfOk result (AreApart field) }
     ensures err { IfErr result
         (IsRefused
-            (lists_at field factors.now word.now written.now other_word.now
-                other_written.now)) }
+        (lists_at field factors.now word.now written.now other_word.now
+        other_written.now)) }
 {
     let estimate = expressions_of(alloc, factors, written)?;
     let others = expressions_of(alloc, factors, other_written)?;
     let estimate = list_of(alloc, word, estimate.as_slice())?;
     let others = list_of(alloc, other_word, others.as_slice())?;
-    some_effects(word, &estimate)?;
+    check_some_effects(word, &estimate)?;
     told_apart(alloc, field, word, estimate, &others)
 }
 
@@ -120,8 +119,8 @@ fn lists_at(
 /// # Errors
 ///
 /// E2 at its word: there are none.
-fn some_effects(word: &Lexeme<'_>, effects: &Effects) -> Result<(), Refusal>
-    ensures { result ≡ some_effects word.now (numbers_of effects.now) }
+fn check_some_effects(word: &Lexeme<'_>, effects: &Effects) -> Result<(), Refusal>
+    ensures { result ≡ check_some_effects word.now (numbers_of effects.now) }
 {
     if effects.len() == 0 {
         return Err(word.refused(2));
@@ -141,11 +140,11 @@ fn told_apart(
     requires others { AreOrdered (numbers_of others.now) }
     ensures ok { IfOk result (λ effects.
         told_apart field word.now (numbers_of estimate) (numbers_of others.now)
-            ≡ Ok effects) }
+        ≡ Ok effects) }
     ensures apart { IfOk result (AreApart field) }
     ensures err { IfErr result
         (IsRefused
-            (told_apart field word.now (numbers_of estimate) (numbers_of others.now))) }
+        (told_apart field word.now (numbers_of estimate) (numbers_of others.now))) }
 {
     // With more than 2,000,000 pairs in the first list alone, the others are not looked at: so there
     // are at most 1,414 effects that each of them is compared with.
@@ -177,14 +176,14 @@ fn without(alloc: Global, estimate: &Effects, effects: &Effects) -> Result<Effec
     Ok(others)
 }
 
-/// A list that begins behind its `(`.
+/// A list that begins after its `(`.
 fn list_in<'b, 'a>(written: &'b [Lexeme<'a>]) -> &'b [Lexeme<'a>]
     ensures { result.now ≡ list_in written.now }
 {
     &written[..list_len(written)]
 }
 
-/// What stands behind its `)`.
+/// What stands after its `)`.
 fn behind_list<'b, 'a>(written: &'b [Lexeme<'a>]) -> &'b [Lexeme<'a>]
     ensures { result.now ≡ behind_list written.now }
 {

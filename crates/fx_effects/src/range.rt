@@ -52,13 +52,13 @@ fn mains(
     requires numbers { from + count ≤ 2 ^ 128 }
     ensures ok { IfOk result (λ mains.
         mains_from first.now factors.now []
-            (numbered (stem first.now.text) from count)
-            ≡ Ok (numbers_of mains)) }
+        (numbered (stem first.now.text) from count)
+        ≡ Ok (numbers_of mains)) }
     ensures numbers { IfOk result (λ mains. AreNumbers (numbers_of mains)) }
     ensures err { IfErr result
         (IsRefused
-            (mains_from first.now factors.now []
-                (numbered (stem first.now.text) from count))) }
+        (mains_from first.now factors.now []
+        (numbered (stem first.now.text) from count))) }
 {
     let mut mains = Effects::new(alloc);
     for i in 0..count {

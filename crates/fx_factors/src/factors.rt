@@ -1,4 +1,4 @@
-ghost use Rattle.std.specs.Prelude.{◌≡◌, ◌≤◌, ◌<◌, ◌+◌, ◌^◌, ◌++◌, Ok, false, decimal, not, length, IfOk, IfErr, OnOk, MatchOption, None, Some};
+ghost use Rattle.std.specs.Prelude.{◌≡◌, ◌≤◌, ◌+◌, ◌^◌, ◌++◌, Ok, false, decimal, not, length, IfOk, IfErr, OnOk, MatchOption, None, Some};
 ghost use Rattle.std.specs.List.{IsDistinct, prefix_len};
 ghost use Rattle.std.specs.Option.{option_map};
 ghost use Rattle.fx_language.specs.declared.symbol.Symbol.TheVariants.{Slash};
@@ -54,12 +54,12 @@ fn add(
     requires { length names.old ≤ limit }
     ensures added { OnOk result
         (added limit names.old
-            (item first.now (option_map (λ w. w.now) last.entry))
-            ≡ Ok names.new) }
+        (item first.now (option_map (λ w. w.now) last.entry))
+        ≡ Ok names.new) }
     ensures refused { IfErr result
         (IsRefused
-            (added limit names.old
-                (item first.now (option_map (λ w. w.now) last.entry)))) }
+        (added limit names.old
+        (item first.now (option_map (λ w. w.now) last.entry)))) }
     ensures bound { OnOk result (length names.new ≤ limit) }
 {
     match last {
@@ -130,8 +130,8 @@ fn add_numbered(
         (are_known (numbered (stem first.now.text) from count) names.old ≡ false) }
     ensures known { IfErr result
         (IsRefused
-            (known_at first.now
-                (are_known (numbered (stem first.now.text) from count) names.old))) }
+        (known_at first.now
+        (are_known (numbered (stem first.now.text) from count) names.old))) }
 {
     let known = names.len();
     for i in 0..count {

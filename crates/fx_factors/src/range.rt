@@ -12,7 +12,7 @@ pub fn is_range(first: &[u8], last: &[u8]) -> bool
     ensures value { result ≡ is_range first.now last.now }
     ensures plain { result ≡ true
         → (is_plain (ending first.now) ≡ true)
-            × (is_plain (ending last.now) ≡ true) }
+        × (is_plain (ending last.now) ≡ true) }
     ensures order { result ≡ true → number_at_end first.now ≤ number_at_end last.now }
 {
     1 <= stem_len(first)

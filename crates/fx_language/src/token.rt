@@ -1,4 +1,4 @@
-ghost use Rattle.std.specs.Prelude.{◌≡◌, ◌≤◌, ◌<◌, map, length, slice_index, slice_range, IfOk, OnOk, All};
+ghost use Rattle.std.specs.Prelude.{◌≡◌, ◌<◌, map, length, IfOk, All};
 ghost use Rattle.fx_lexer.specs.Tokens.{IsToken};
 ghost use Rattle.fx_language.specs.Keywords.{keywords, sign, symbol_of, symbols_of};
 ghost use Rattle.fx_language.specs.Spellings.{row_of};

@@ -159,7 +159,7 @@ module _ (q m : ℕ) (f : IsField q) where
       let here = (each-left (λ y. unit m k ≡ y → ⊥) (units_from m (suc k) j) zs (free-differs (unit m k) (units_from m (suc k) j ++ zs) h free)).1 in
       (rest.0, λ i low high. elim (cases_eq k i) [ inl e ↦ subst (λ z. AllByRecursion (λ y. unit m z ≡ y → ⊥) zs) e here | inr ne ↦ rest.1 i (omega arith) (omega arith) ])
 
-  -- falling rows behind the units
+  -- falling rows after the units
   falling_rows : (n s : ℕ) (os ys : List (List ℕ)) → length (units_from m 0 n ++ os) ≡ s → min s m ≡ n → AreVectors q m (units_from m 0 n ++ os) → IsWordFree (units_from m 0 n ++ os) → FallsWeakly q os → IsFalling q m s ((units_from m 0 n ++ os) ++ ys)
   falling_rows n s os ys len is h free w =
       let split = free-units 0 n os h free in

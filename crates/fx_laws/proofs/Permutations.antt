@@ -7,7 +7,7 @@ use Rattle.fx_laws.proofs.Space.{AreVectors}
 use Rattle.fx_laws.proofs.Follows.{Follows}
 use Rattle.fx_laws.proofs.Reorders.{reordered-inside, reordered-append, reorder_follows}
 
--- the first element against the one at j behind it
+-- the first element against the one at j after it
 first : {X : Type 0} (j : ℕ) (x : X) (xs : List X) (d : X) → j < length xs → (ks : List ℕ) × (reordered ks (x ∷ xs) ≡ get_or xs j d ∷ set xs j x)
 first j x [] d h = absurd (omega arith)
 first zero x (y ∷ ys) d h = (0 ∷ [], refl)

@@ -129,12 +129,12 @@ pub reordered-append : {X : Type 0} (ks js : List ℕ) (xs : List X) → reorder
 reordered-append [] js xs = refl
 reordered-append (k ∷ ks) js xs = reordered-append ks js (swapped k xs)
 
--- the first element moved behind some others
+-- the first element moved after some others
 pub move_back : {X : Type 0} (x : X) (us xs : List X) → (ks : List ℕ) × (reordered ks (x ∷ us ++ xs) ≡ us ++ x ∷ xs)
 move_back x [] xs = ([], refl)
 move_back x (u ∷ us) xs = (let r = move_back x us xs in (0 ∷ map (λ k. suc k) r.0, reordered-inside u r.0 (x ∷ us ++ xs) ∙ ap (λ z. u ∷ z) r.1))
 
--- a reordering behind some elements
+-- a reordering after some elements
 pub reorder_behind : {X : Type 0} (us xs : List X) (ks : List ℕ) → (js : List ℕ) × (reordered js (us ++ xs) ≡ us ++ reordered ks xs)
 reorder_behind [] xs ks = (ks, refl)
 reorder_behind (u ∷ us) xs ks = (let r = reorder_behind us xs ks in (map (λ k. suc k) r.0, reordered-inside u r.0 (us ++ xs) ∙ ap (λ z. u ∷ z) r.1))

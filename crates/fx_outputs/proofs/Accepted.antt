@@ -113,7 +113,7 @@ module _ (context : Context) where
         cc);
   }
 
-  -- what holds behind the first factor, whether it is recoded or not
+  -- what holds after the first factor, whether it is recoded or not
   first : (earlier all : List Recode) (flag : Bool) (read : Result Recode Refusal) (later : List Recode → Result (List Recode) Refusal)
       → ((recode : Recode) → read ≡ Ok recode → IsNext earlier recode)
       → ((before : List Recode) → AreRecodes context before → later before ≡ Ok all → AreRecodes context all)

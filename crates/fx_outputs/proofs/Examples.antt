@@ -22,7 +22,7 @@ among : List ℕ → Result (List Token) LexFault → List (List Written)
 among text (Ok tokens) = statements_of (written text tokens)
 among text (Err fault) = []
 
--- the outputs of these statements, behind the OUT name `old`
+-- the outputs of these statements, after the OUT name `old`
 outputs : BlockCount → List ℕ → Result (List OutputSpec) Refusal
 unfolding lexed among step
 outputs count text = outputs_of (step count) (codes "old" ∷ []) (among text (lexed text))

@@ -41,7 +41,7 @@ three_left xs i before name word h low b n w =
     ∙ ap (λ k. before ∷ drop k xs) at
     ∙ ap (λ l. before ∷ l) (two_left xs i name word h low n w)
 
--- behind the last name there is none
+-- after the last name there is none
 pub none_left : (context : Context) (earlier : List Recode) (xs : List Written) → length xs ≤ 2 → recodes_behind context earlier xs ≡ Ok earlier
 none_left context earlier [] h = refl
 none_left context earlier (a ∷ []) h = refl

@@ -44,12 +44,12 @@ abbrev pub name_or_empty : Option Written → List ℕ
 name_or_empty None = []
 name_or_empty (Some name) = name.text
 
--- NVALS or CVALS, with `=` behind it
+-- NVALS or CVALS, with `=` after it
 abbrev pub begins_values : Written → List Written → Bool
 begins_values word rest = (is Nvals word.symbol || is Cvals word.symbol) && begins Equals rest
 
--- The values of the column: none, or as many as there are blocks, whose number is to be known. `word` stands behind
--- BLOCKNAME's name, and `rest` behind it.
+-- The values of the column: none, or as many as there are blocks, whose number is to be known. `word` stands after
+-- BLOCKNAME's name, and `rest` after it.
 abbrev pub block_values : BlockCount → Option Written → List Written → Result (List (List ℕ)) Refusal
 block_values count None rest = Ok []
 block_values count (Some word) rest =

@@ -1,11 +1,11 @@
--- The options of an OUTPUT statement. They are looked for in what stands behind `OUT =`, where the OUT name is first.
+-- The options of an OUTPUT statement. They are looked for in what stands after `OUT =`, where the OUT name is first.
 use Rattle.std.specs.Prelude.{Bool, not, ◌&&◌, List, [], ◌∷◌, if◌then◌else◌}
 use Rattle.fx_language.specs.declared.symbol.Symbol.{Symbol}
 use Rattle.fx_language.specs.declared.symbol.Symbol.TheVariants.{Equals}
 use Rattle.fx_language.specs.Symbols.{is}
 use Rattle.fx_text.specs.Written.{Written, begins}
 
--- what stands from an option's word on; behind `=` any word is a name
+-- what stands from an option's word on; after `=` any word is a name
 abbrev pub from_option : Symbol → List Written → List Written
 from_option option [] = []
 from_option option (before ∷ rest) =

@@ -18,8 +18,8 @@ use Rattle.fx_outputs.specs.Recodes.{recodes_of}
 abbrev pub check_new_name : List (List ℕ) → Written → Result (Unit {0}) Refusal
 check_new_name earlier name = if is_some (place_of name.text earlier) then Err (refusal_at 18 name) else Ok tt
 
--- An OUTPUT statement behind these OUT names: `word` is the word OUTPUT, `name` the OUT name, and `s` what stands
--- behind `OUT =`, the name first.
+-- An OUTPUT statement after these OUT names: `word` is the word OUTPUT, `name` the OUT name, and `s` what stands
+-- after `OUT =`, the name first.
 abbrev pub output_of : Context → List (List ℕ) → Written → Written → List Written → Result OutputSpec Refusal
 output_of context earlier word name s =
     let blockname = from_option Blockname s in
@@ -43,7 +43,7 @@ output_of context earlier word name s =
         block_values = values;
       })
 
--- The OUTPUT statements among these, in order, behind the outputs that were read before. `earlier` are the OUT names
+-- The OUTPUT statements among these, in order, after the outputs that were read before. `earlier` are the OUT names
 -- that stand before in the program. An OUTPUT statement begins `OUTPUT OUT = name`.
 abbrev pub outputs_behind : Context → List (List ℕ) → List OutputSpec → List (List Written) → Result (List OutputSpec) Refusal
 outputs_behind context earlier outputs [] = Ok outputs

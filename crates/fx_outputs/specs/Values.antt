@@ -6,7 +6,7 @@ use Rattle.fx_text.specs.declared.refusal.Refusal.{Refusal}
 use Rattle.fx_text.specs.Written.{Written}
 use Rattle.fx_text.specs.Refusals.{refusal_at}
 
--- What stands behind a text's first quote, without its last one, and of each two quotes the second. `met` says that
+-- What stands after a text's first quote, without its last one, and of each two quotes the second. `met` says that
 -- a quote stands in front that is no second one.
 abbrev pub unquoted : ℕ → Bool → List ℕ → List ℕ
 unquoted quote met [] = []
@@ -32,7 +32,7 @@ values_from signed (w ∷ rest) =
     else (if is Minus w.symbol then values_from true rest
     else value_of signed w ∷ values_from false rest)
 
--- the values of what stands behind NVALS or CVALS, whose first two are `=` and `(`
+-- the values of what stands after NVALS or CVALS, whose first two are `=` and `(`
 abbrev pub values_of : List Written → List (List ℕ)
 values_of rest = values_from false (drop 2 rest)
 

@@ -1,5 +1,5 @@
 // `blockname` is `BLOCKNAME = name NVALS = ( ..`: the word itself has index 0, the name 2, NVALS or
-// CVALS 3, and what stands behind it begins at 4.
+// CVALS 3, and what stands after it begins at 4.
 
 ghost use Rattle.std.specs.Prelude.{◌≡◌, drop, slice_get, IfOk, IfErr, Some};
 ghost use Rattle.fx_text.specs.Refusals.{IsRefused};
@@ -88,7 +88,7 @@ pub fn block_values(
     }
 }
 
-/// The values behind `word`, which may begin them.
+/// The values after `word`, which may begin them.
 fn values_if_begun(
     alloc: Global,
     blocks: BlockCount,
@@ -104,7 +104,7 @@ fn values_if_begun(
     Ok(Names::new(alloc))
 }
 
-/// Whether the word is NVALS or CVALS with `=` behind it.
+/// Whether the word is NVALS or CVALS with `=` after it.
 fn begins_values(word: &Lexeme<'_>, rest: &[Lexeme<'_>]) -> bool
     ensures { result ≡ begins_values word.now rest.now }
 {

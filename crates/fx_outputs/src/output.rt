@@ -87,7 +87,7 @@ fn is_output(statement: &Statement<'_>) -> bool
 }
 
 /// An OUTPUT statement: `word` is the word OUTPUT, `name` the OUT name, and `lexemes` what stands
-/// behind `OUT =`.
+/// after `OUT =`.
 fn output(
     alloc: Global,
     context: &OutputContext<'_>,

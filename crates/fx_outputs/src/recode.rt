@@ -1,4 +1,4 @@
-ghost use Rattle.std.specs.Prelude.{◌≡◌, ◌<◌, IfOk, IfErr};
+ghost use Rattle.std.specs.Prelude.{◌≡◌, IfOk, IfErr};
 ghost use Rattle.fx_text.specs.Refusals.{IsRefused};
 ghost use Rattle.fx_text.specs.Names.{place_of};
 ghost use Rattle.fx_outputs.specs.Recodes.{factor_at, has_values, is_recoded, recode_of, recodes_of, unused_place};
@@ -22,7 +22,7 @@ pub struct Recode {
 /// The recoded factors of a statement, in its order.
 pub type Recodes = Items<Recode>;
 
-/// The recoded factors of what stands behind `OUT =`, the OUT name first.
+/// The recoded factors of what stands after `OUT =`, the OUT name first.
 ///
 /// # Errors
 ///
@@ -60,7 +60,7 @@ fn is_recoded(before: &Lexeme<'_>, name: &Lexeme<'_>, word: &Lexeme<'_>) -> bool
         && !word.is(Symbol::Equals)
 }
 
-/// A factor and its values, which stand behind `word`.
+/// A factor and its values, which stand after `word`.
 fn recode_at(
     alloc: Global,
     context: &OutputContext<'_>,

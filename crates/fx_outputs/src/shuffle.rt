@@ -34,7 +34,7 @@ pub fn shuffle_asked(lexemes: &[Lexeme<'_>]) -> Result<Shuffle, Refusal>
     }
 }
 
-/// The number in parentheses behind RANDOMIZE, which stands first.
+/// The number in parentheses after RANDOMIZE, which stands first.
 fn seed_written<'b, 'a>(lexemes: &'b [Lexeme<'a>]) -> Option<&'b Lexeme<'a>>
     ensures { MatchOption result (seed_written lexemes.now ≡ None)
         (λ w. seed_written lexemes.now ≡ Some w.now) }

@@ -15,7 +15,7 @@ fn names(alloc: Global, texts: &[&[u8]]) -> Result<Names, NoMemory> {
     Ok(names)
 }
 
-/// What a text gives behind the OUT name `old`, in a step with the factors A and Block, with two levels and 16 runs.
+/// What a text gives after the OUT name `old`, in a step with the factors A and Block, with two levels and 16 runs.
 fn read(
     rt: &impl Abort,
     alloc: Global,

@@ -1,4 +1,4 @@
-// `rest` is what stands behind NVALS or CVALS, `= ( value ..`: the first value has index 2.
+// `rest` is what stands after NVALS or CVALS, `= ( value ..`: the first value has index 2.
 
 ghost use Rattle.std.specs.Prelude.{◌≡◌, ◌∷◌, IfOk, IfErr};
 ghost use Rattle.fx_text.specs.Refusals.{IsRefused};
@@ -10,7 +10,7 @@ use fx_language::Symbol;
 use fx_text::{Lexeme, Names, ParseStop};
 use std::alloc::Global;
 
-/// The values behind `word`, which is NVALS or CVALS, where they are to be so many.
+/// The values after `word`, which is NVALS or CVALS, where they are to be so many.
 ///
 /// # Errors
 ///
@@ -37,7 +37,7 @@ pub fn counted_values(
     }
 }
 
-/// The values behind NVALS or CVALS.
+/// The values after NVALS or CVALS.
 fn values(alloc: Global, rest: &[Lexeme<'_>]) -> Result<Names, NoMemory>
     ensures { IfOk result (λ values. values ≡ values_of rest.now) }
 {
@@ -91,7 +91,7 @@ fn inside(alloc: Global, text: &[u8]) -> Result<Bytes, NoMemory>
     Ok(bytes)
 }
 
-/// The text behind a `-`.
+/// The text after a `-`.
 fn with_sign(alloc: Global, text: &[u8]) -> Result<Bytes, NoMemory>
     ensures { IfOk result (λ bytes. bytes ≡ 45 ∷ text.now) }
 {

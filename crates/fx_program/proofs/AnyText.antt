@@ -3,9 +3,8 @@
 use Rattle.std.proofs.Common.{◌≡◌, ◌≤◌, ◌++◌, Bool, true, false, ℕ, List, [], ◌∷◌, length, Option, Some, None, Result, Ok, Err, refl, sym, subst, arith, IsTrue, All}
 use Rattle.std.specs.Prelude.{nat_le, nat_lt, if◌then◌else◌}
 use Rattle.std.specs.List.{list_all}
-use Rattle.std.proofs.lemmas.Bool.{leb-true}
+use Rattle.std.proofs.lemmas.Bool.{and_parts, leb-true}
 use Rattle.std.proofs.lemmas.List.Elements.{All-nil, All-push}
-use Rattle.fx_lexer.proofs.Ends.{and_parts}
 use Rattle.fx_lexer.specs.declared.token.Token.{Token}
 use Rattle.fx_lexer.specs.declared.token.LexFault.{LexFault}
 use Rattle.fx_lexer.specs.Lexing.{lexed}
@@ -16,25 +15,26 @@ use Rattle.fx_text.specs.declared.refusal.Place.{Place}
 use Rattle.fx_text.specs.declared.refusal.Refusal.{Refusal}
 use Rattle.fx_text.specs.Written.{Written, written}
 use Rattle.fx_text.specs.Statements.{statement_of, statements_of, steps_of}
+use Rattle.fx_text.proofs.Chains.{bind_ok, same_ok}
 use Rattle.fx_designs.specs.Galois.{is_order}
 use Rattle.fx_designs.specs.Problems.{Problem, Requirement}
 use Rattle.fx_designs.specs.Problems as problems
 use Rattle.fx_reduction.specs.Reduction.{IsReducible}
 use Rattle.fx_factors.specs.Factors as named
 use Rattle.fx_outputs.specs.Outputs.{names_of, outputs_of}
-use Rattle.fx_settings.specs.declared.settings.Settings.{Settings}
+use Rattle.fx_settings.specs.declared.settings.StepSettings.{StepSettings}
 use Rattle.fx_settings.specs.declared.settings.Criterion.{Criterion}
 use Rattle.fx_settings.specs.declared.settings.Criterion.TheVariants as criterion
 use Rattle.fx_settings.specs.declared.said.StepSaid.{StepSaid}
 use Rattle.fx_settings.specs.Said.{start_of, step_said}
-use Rattle.fx_settings.specs.Settings.{is_level, settings_of, unblocked_of}
+use Rattle.fx_settings.specs.Settings.{is_level, step_settings_of, unblocked_of}
 use Rattle.fx_settings.specs.Valid.{is_criterion}
-use Rattle.fx_settings.proofs.Valid.{bind_ok, level, same_ok, valid}
+use Rattle.fx_settings.proofs.Valid.{level, valid}
 use Rattle.fx_effects.specs.Models.{lists_of}
 use Rattle.fx_statements.specs.Contexts.{context}
-use Rattle.fx_statements.specs.Listings.{listing_allowed, listing_place}
+use Rattle.fx_statements.specs.Components.{check_components, components_place}
 use Rattle.fx_statements.specs.Goals.{Goal, AtLeast, Highest, ForEffects, effects_in, effects_wanted, goal_by}
-use Rattle.fx_statements.specs.Steps.{Meaning, asked_by, examine_of, factors_by, head_of, most_factors, some_factors, step_by, step_of}
+use Rattle.fx_statements.specs.Steps.{Meaning, asked_by, examine_of, factors_by, head_of, factor_limit, some_factors, step_by, step_of}
 use Rattle.fx_statements.specs.Programs.{accepted, program_of, steps_behind}
 use Rattle.fx_statements.proofs.Bounds.{kept}
 use Rattle.fx_program.specs.Problems.{requirement_of}
@@ -72,16 +72,16 @@ module _ (q : ℕ) (factors : List (List ℕ)) where
   goal_reducible statements criterion.Effects goal fits e = wanted_effects (statement_of word.Model statements) goal e
 
 -- what is read of a step: levels of a field, and a goal that can be brought to canonical form
-abbrev IsRead : Settings × Goal → Type 0
+abbrev IsRead : StepSettings × Goal → Type 0
 IsRead asked = (is_level asked.0.q ≡ true) × CanBeReduced asked.1
 
-asked_read : (factors : List (List ℕ)) (said : StepSaid) (statements : List (List Written)) (asked : Settings × Goal) → 1 ≤ length factors
+asked_read : (factors : List (List ℕ)) (said : StepSaid) (statements : List (List Written)) (asked : StepSettings × Goal) → 1 ≤ length factors
     → asked_by factors said statements ≡ Ok asked → IsRead asked
 asked_read factors said statements asked one e =
     let first = bind_ok (unblocked_of (length factors) said) _ asked e in
     let goal = bind_ok (goal_by first.0.q factors statements first.0.criterion) _ asked first.2 in
-    let settings = bind_ok (settings_of first.0 said) _ asked goal.2 in
-    let listed = bind_ok (listing_allowed first.0.q (length factors) goal.0 (listing_place statements)) _ asked settings.2 in
+    let settings = bind_ok (step_settings_of first.0 said) _ asked goal.2 in
+    let listed = bind_ok (check_components first.0.q (length factors) goal.0 (components_place statements)) _ asked settings.2 in
     let same = kept first.0 said settings.0 settings.1 in
     let all = valid (length factors) said first.0 first.1 settings.0 one settings.1 in
     let fits = (and_parts _ _ (and_parts _ _ (and_parts _ _ all).0).0).1 in
@@ -105,8 +105,8 @@ step_read : (earlier : List (List ℕ)) (statements : List (List Written)) (fact
 step_read earlier statements None step e = absurd (cc e)
 step_read earlier statements (Some given) step e =
     let proc = start_of (head_of statements) in
-    let factors = bind_ok (factors_by proc (most_factors statements) given) _ step e in
-    let found = bind_ok (named.factors_of (most_factors statements) given) (some_factors proc) factors.0 factors.1 in
+    let factors = bind_ok (factors_by proc (factor_limit statements) given) _ step e in
+    let found = bind_ok (named.factors_of (factor_limit statements) given) (some_factors proc) factors.0 factors.1 in
     let asked = bind_ok (asked_by factors.0 (step_said (head_of statements) given statements) statements) _ step factors.2 in
     let outputs = bind_ok (outputs_of (context factors.0 asked.0.0) earlier statements) _ step asked.2 in
     let whole : Meaning = record { factors = factors.0; settings = asked.0.0; goal = asked.0.1; examine = examine_of statements; outputs = outputs.0 } in

@@ -42,7 +42,7 @@ step_output number step = given_by number step (problem_of step)
 abbrev pub worse : ℕ → ℕ → ℕ
 worse a b = if nat_le a b then b else a
 
--- the steps in order from this number on, behind these events and this status; the greatest status decides
+-- the steps in order from this number on, after these events and this status; the greatest status decides
 abbrev pub steps_output : ℕ → List Event → ℕ → List Meaning → Output
 steps_output number events status [] = record { events = events; status = status }
 steps_output number events status (step ∷ steps) =

@@ -14,7 +14,7 @@ abbrev pub run_with : List (List ℕ) → Result Settings WordFault
 run_with [] = Ok (Run 1 0)
 run_with (option ∷ options) = word_fault 3 2
 
--- 1: there is no word. 2: the first word is no command. 3: the word behind the command is no option of it.
+-- 1: there is no word. 2: the first word is no command. 3: the word after the command is no option of it.
 unfoldable pub settings_of : List (List ℕ) → Result Settings WordFault
 settings_of [] = word_fault 1 1
 settings_of (word ∷ options) = if bytes_eq word (codes "run") then run_with options else word_fault 2 1

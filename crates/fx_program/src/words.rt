@@ -17,7 +17,7 @@ pub enum Settings {
 /// Why the words are refused.
 #[derive(Debug, Clone, Copy, PartialEq, Eq)]
 pub struct WordFault {
-    /// 1: there is no word. 2: the first word is no command. 3: the word behind the command is no
+    /// 1: there is no word. 2: the first word is no command. 3: the word after the command is no
     /// option of it.
     pub code: u8,
     /// Which word, counted from 1.

@@ -28,7 +28,7 @@ pub fn meets(question: &Question, runs: &Runs) -> bool
     requires shape { runs.now.shape ≡ question.now.shape }
     ensures { result
         ≡ do_runs_meet (dimensions_of question.now.shape)
-            (requirement_of question.now.demands) runs.now.rows }
+        (requirement_of question.now.demands) runs.now.rows }
 {
     if !are_balanced(&question.demands, runs) {
         return false;
@@ -45,7 +45,7 @@ fn are_balanced(demands: &Demands, runs: &Runs) -> bool
     requires asked { CanBeAsked (dimensions_of runs.now.shape) (requirement_of demands.now) }
     ensures { result
         ≡ each_balanced runs.now AllRuns
-            (must_balance (dimensions_of runs.now.shape) (requirement_of demands.now)) }
+        (must_balance (dimensions_of runs.now.shape) (requirement_of demands.now)) }
 {
     match demands {
         Demands::Resolution { r } => {
@@ -82,8 +82,8 @@ fn are_balanced_in_blocks(demands: &Demands, runs: &Runs) -> bool
 fn are_apart_from_blocks(effects: &Effects, runs: &Runs) -> bool
     ensures { result
         ≡ list_all
-            (λ e. each_balanced runs.now EachBlock
-                (λ f. not (is_zero f) && (e.0 == effect_of f))) effects.now }
+        (λ e. each_balanced runs.now EachBlock
+        (λ f. not (is_zero f) && (e.0 == effect_of f))) effects.now }
 {
     effects
         .as_slice()
@@ -104,11 +104,11 @@ fn is_apart_from_blocks(e: u64, runs: &Runs) -> bool
 fn are_told_apart(estimate: &Effects, nonnegligible: &Effects, runs: &Runs) -> bool
     ensures { result
         ≡ list_all
-            (λ u. each_balanced runs.now AllRuns
-                (λ f. not (is_zero f)
-                    && differs_from_some runs.now.shape.q (numbers_of estimate.now)
-                        (numbers_of nonnegligible.now) (effect_of f) u.0))
-            estimate.now }
+        (λ u. each_balanced runs.now AllRuns
+        (λ f. not (is_zero f)
+        && differs_from_some runs.now.shape.q (numbers_of estimate.now)
+        (numbers_of nonnegligible.now) (effect_of f) u.0))
+        estimate.now }
 {
     estimate
         .as_slice()
@@ -121,9 +121,9 @@ fn are_told_apart(estimate: &Effects, nonnegligible: &Effects, runs: &Runs) -> b
 fn is_told_from_all(u: u64, estimate: &Effects, nonnegligible: &Effects, runs: &Runs) -> bool
     ensures { result
         ≡ each_balanced runs.now AllRuns
-            (λ f. not (is_zero f)
-                && differs_from_some runs.now.shape.q (numbers_of estimate.now)
-                    (numbers_of nonnegligible.now) (effect_of f) u) }
+        (λ f. not (is_zero f)
+        && differs_from_some runs.now.shape.q (numbers_of estimate.now)
+        (numbers_of nonnegligible.now) (effect_of f) u) }
 {
     if !is_told_from(u, 0, runs) {
         return false;
@@ -136,9 +136,9 @@ fn is_told_from_all(u: u64, estimate: &Effects, nonnegligible: &Effects, runs: &
 fn is_told_from_each(u: u64, others: &Effects, runs: &Runs) -> bool
     ensures { result
         ≡ list_all
-            (λ v. each_balanced runs.now AllRuns
-                (λ f. not (is_zero f) && differs runs.now.shape.q u v.0 (effect_of f)))
-            others.now }
+        (λ v. each_balanced runs.now AllRuns
+        (λ f. not (is_zero f) && differs runs.now.shape.q u v.0 (effect_of f)))
+        others.now }
 {
     others.as_slice().iter().all(|v| is_told_from(u, v.0, runs))
 }
@@ -148,7 +148,7 @@ fn is_told_from_each(u: u64, others: &Effects, runs: &Runs) -> bool
 fn is_told_from(u: u64, v: u64, runs: &Runs) -> bool
     ensures balanced { result
         ≡ each_balanced runs.now AllRuns
-            (λ f. not (is_zero f) && differs runs.now.shape.q u v (effect_of f)) }
+        (λ f. not (is_zero f) && differs runs.now.shape.q u v (effect_of f)) }
     ensures valid { AreRuns runs.now.shape runs.now.rows }
 {
     Supports::of_differences(runs.shape().q, u, v).are_balanced(runs, Within::AllRuns)

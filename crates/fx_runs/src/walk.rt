@@ -1,4 +1,4 @@
-ghost use Rattle.std.specs.Prelude.{◌≡◌, ℕ, ◌+◌, ◌-◌, ◌/◌, ◌%◌, ◌<◌, ◌≤◌, ◌==◌, ◌&&◌, ◌↔◌, if◌then◌else◌, not, nat_le, List, IsTrue, length, take, min};
+ghost use Rattle.std.specs.Prelude.{◌≡◌, ℕ, ◌-◌, ◌/◌, ◌%◌, ◌≤◌, ◌==◌, ◌&&◌, ◌↔◌, if◌then◌else◌, not, nat_le, List, IsTrue, length, take, min};
 ghost use Rattle.fx_designs.specs.Vectors.{IsVector, is_zero, weight};
 ghost use Rattle.fx_designs.specs.Demands.{effect_of};
 ghost use Rattle.fx_runs.specs.Runs.{AreRuns};
@@ -64,7 +64,7 @@ impl Supports {
         ensures { (f : List ℕ)
             → length f ≤ 40
             → is_among result.inner result.outer result.most f
-                ≡ differs q u v (effect_of f) }
+            ≡ differs q u v (effect_of f) }
     {
         let apart = u ^ v;
         Supports {
@@ -79,8 +79,8 @@ impl Supports {
     pub(crate) fn are_balanced(self, runs: &Runs, within: Within) -> bool
         ensures balanced { result
             ≡ each_balanced runs.now within
-                (λ f. not (is_zero f)
-                    && is_among self.inner self.outer self.most f) }
+            (λ f. not (is_zero f)
+            && is_among self.inner self.outer self.most f) }
         ensures valid { AreRuns runs.now.shape runs.now.rows }
     {
         let mut f = Vector::zero(usize::from(runs.shape().s));
@@ -94,7 +94,7 @@ impl Supports {
         requires place { i ≤ runs.now.shape.s }
         ensures each { IsTrue result
             ↔ AreBalancedFrom runs.now within self.inner self.outer self.most
-                (take i f.old) }
+            (take i f.old) }
         ensures kept { take i f.new ≡ take i f.old }
         ensures vector { IsVector runs.now.shape.q runs.now.shape.s f.new }
     {

@@ -1,4 +1,4 @@
-ghost use Rattle.std.specs.Prelude.{◌≡◌, ◌<◌, ◌≤◌, false, [], IfOk};
+ghost use Rattle.std.specs.Prelude.{◌≡◌, ◌≤◌, false, [], IfOk};
 ghost use Rattle.fx_vectors.specs.Question.{IsValid, problem_of};
 ghost use Rattle.fx_search.specs.Asked.{IsAnswer, IsNoneAtAll};
 

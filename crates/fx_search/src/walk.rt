@@ -1,4 +1,4 @@
-ghost use Rattle.std.specs.Prelude.{◌≡◌, ◌<◌, ◌≤◌, ◌-◌, ◌++◌, ◌⊎◌, [], ◌∷◌, ℕ, true, length, IfOk};
+ghost use Rattle.std.specs.Prelude.{◌≡◌, ◌<◌, ◌≤◌, ◌-◌, ◌++◌, ◌⊎◌, [], ◌∷◌, true, length, IfOk};
 ghost use Rattle.fx_vectors.specs.Question.{IsValid, problem_of};
 ghost use Rattle.fx_laws.specs.Trees.{tree_of};
 ghost use Rattle.fx_laws.specs.Walks.{under, subtree};
@@ -50,7 +50,7 @@ pub(crate) fn walk<P: Pruner>(
     ensures shape { IfOk result (λ end. prefix.new.shape ≡ question.now.shape) }
     ensures back { IfOk result (λ end.
         IsBack end (P.problem pruner.new) (P.prefix pruner.new)
-            (problem_of question.now) prefix.old.rows) }
+        (problem_of question.now) prefix.old.rows) }
     ensures end { let p = prefix.old.rows in
         let t = tree_of (problem_of question.now) in
         IfOk result (λ end. Ends t limit (under t (t.size - length p) p) p end marks.old marks.new prefix.new.rows) }
@@ -90,7 +90,7 @@ fn enter<P: Pruner>(
     ensures shape { IfOk result (λ end. prefix.new.shape ≡ question.now.shape) }
     ensures back { IfOk result (λ end.
         IsBack end (P.problem pruner.new) (P.prefix pruner.new)
-            (problem_of question.now) prefix.old.rows) }
+        (problem_of question.now) prefix.old.rows) }
     ensures end { let c = prefix.old.rows ++ row ∷ [] in
         let t = tree_of (problem_of question.now) in
         IfOk result (λ end. Ends t limit (subtree t (t.size - length c) c) prefix.old.rows end marks.old marks.new prefix.new.rows) }

@@ -1,10 +1,11 @@
 -- Settings that no rule refuses are valid.
 use Rattle.std.proofs.Common.{◌≡◌, ℕ, ◌-◌, ◌^◌, ◌≤◌, Bool, true, false, not, ◌&&◌, ◌||◌, Option, Some, None, Result, Ok, Err, refl, sym, ap, subst, ◌∙◌, arith}
-use Rattle.std.specs.Prelude.{nat_le, nat_lt, if◌then◌else◌, is_some, IfOk}
+use Rattle.std.specs.Prelude.{nat_le, nat_lt, is_some, IfOk}
 use Rattle.std.proofs.lemmas.Bool.{leb-true, le-leb, ltb-true, le-ltb, and_from}
 use Rattle.fx_text.specs.declared.refusal.Refusal.{Refusal}
 use Rattle.fx_text.specs.declared.refusal.Place.{Place}
-use Rattle.fx_text.specs.Refusals.{refused_at, ◌>>=◌}
+use Rattle.fx_text.specs.Refusals.{refused_at}
+use Rattle.fx_text.proofs.Chains.{bind_ok, same_ok, if_ok, unless_ok}
 use Rattle.fx_settings.specs.declared.said.Value.{Value}
 use Rattle.fx_settings.specs.declared.said.SizeSaid.{SizeSaid}
 use Rattle.fx_settings.specs.declared.said.SizeWord.{SizeWord}
@@ -27,25 +28,9 @@ use Rattle.fx_settings.specs.declared.settings.Blocks.TheVariants as blocks
 use Rattle.fx_settings.specs.Powers.{exponent}
 use Rattle.fx_settings.specs.Sizes.{passed, by_design, by_fraction, run_factors, runs_at, size_by, size_of}
 use Rattle.fx_settings.specs.Models.{resolution_by, effects_by, criterion_by, criterion_of, least_of, is_effects, is_highest}
-use Rattle.fx_settings.specs.Blocks.{blocks_allowed, are_most, is_minimum, minimum_allowed, is_too_many, factors_at, by_number, most_run_factors, of_runs, by_size, blocks_by, blocks_by_value, blocks_of}
+use Rattle.fx_settings.specs.Blocks.{check_blocks, are_most, is_minimum, check_minimum, is_too_many, factors_at, by_number, most_run_factors, of_runs, by_size, blocks_by, blocks_by_value, blocks_of}
 use Rattle.fx_settings.specs.Settings.{number_by, number_said, is_level, levels_of, budget_of, unblocked_of, with_blocks, step_settings_of}
 use Rattle.fx_settings.specs.Valid.{is_size, is_criterion, are_blocks, has_blocks, has_most, is_budget, stand_together, are_valid}
-
--- a chain that gives a value has one behind its first part
-pub bind_ok : {A B : Type 0} (r : Result A Refusal) (f : A → Result B Refusal) (x : B) → (r >>= f) ≡ Ok x → (a : A) × (r ≡ Ok a) × (f a ≡ Ok x)
-bind_ok (Ok a) f x e = (a, refl, e)
-bind_ok (Err refusal) f x e = absurd (cc e)
-
-pub same_ok : {A : Type 0} (x y : A) → ◌≡◌ {A = Result A Refusal} (Ok x) (Ok y) → x ≡ y
-same_ok x y e = cc
-
-if_ok : {A : Type 0} (b : Bool) (y x : A) (refusal : Refusal) → ◌≡◌ {A = Result A Refusal} (if b then Ok y else Err refusal) (Ok x) → (b ≡ true) × (y ≡ x)
-if_ok true y x refusal e = (refl, same_ok y x e)
-if_ok false y x refusal e = absurd (cc e)
-
-unless_ok : {A : Type 0} (b : Bool) (y x : A) (refusal : Refusal) → ◌≡◌ {A = Result A Refusal} (if b then Err refusal else Ok y) (Ok x) → (b ≡ false) × (y ≡ x)
-unless_ok true y x refusal e = absurd (cc e)
-unless_ok false y x refusal e = (refl, same_ok y x e)
 
 number_passes : (usual code : ℕ) (passes : ℕ → Bool) (said : Option Value) (x : ℕ) → passes usual ≡ true → number_said usual code passes said ≡ Ok x → passes x ≡ true
 number_passes usual code passes None x u e = subst (λ n. passes n ≡ true) (same_ok usual x e) u
@@ -126,8 +111,8 @@ record Kept (q : ℕ) (size : Size) (most : Bool) (x : Blocks) : Type 0 where
 
 factors_fit : (q : ℕ) (size : Size) (place : Place) (t : ℕ) (x : Blocks) → 1 ≤ t → factors_at q size place t ≡ Ok x → Kept q size false x
 factors_fit q size place t x one e =
-    let both = unless_ok (is_too_many q size t) (blocks.Factors t) x (refused_at 16 place) e in
-    subst (Kept q size false) both.1 (record { fits = and_from (nat_le 1 t) (not (is_too_many q size t)) (le-leb 1 t one) (ap not both.0); same = refl })
+    let both = unless_ok (is_too_many q size t) (Ok (blocks.Factors t)) x (refused_at 16 place) e in
+    subst (Kept q size false) (same_ok (blocks.Factors t) x both.1) (record { fits = and_from (nat_le 1 t) (not (is_too_many q size t)) (le-leb 1 t one) (ap not both.0); same = refl })
 
 sized_fit : (q : ℕ) (size : Size) (k : ℕ) → nat_lt k (most_run_factors q size) ≡ true → Kept q size false (of_runs size k)
 sized_fit q (Runs m) k h =
@@ -165,23 +150,23 @@ blocks_kept q size said x e = go said.value.number e
 -- what stands together
 
 minimum_kept : (q s : ℕ) (factors : Place) (size : Size) (criterion : Criterion) (least : Bool) (given : Option BlocksSaid) (said : Option SizeSaid) (u : Unit {0})
-    → size_of q s factors said ≡ Ok size → minimum_allowed size criterion least given said ≡ Ok u
+    → size_of q s factors said ≡ Ok size → check_minimum size criterion least given said ≡ Ok u
     → (is_minimum size && (is_highest criterion || least || are_most given)) ≡ false
-unfolding size_of minimum_allowed
+unfolding size_of check_minimum
 minimum_kept q s factors size criterion least given None u is e =
     let both = if_ok (nat_le (q ^ s) 1024) (Runs s) size (refused_at 9 factors) is in
     subst (λ x. (is_minimum x && (is_highest criterion || least || are_most given)) ≡ false) both.1 refl
 minimum_kept q s factors size criterion least given (Some said) u is e =
-    (unless_ok (is_minimum size && (is_highest criterion || least || are_most given)) tt u (refused_at 14 said.value.place) e).0
+    (unless_ok (is_minimum size && (is_highest criterion || least || are_most given)) (Ok tt) u (refused_at 14 said.value.place) e).0
 
 nothing_more : (b : Bool) → not (b && false) ≡ true
 nothing_more true = refl
 nothing_more false = refl
 
 together : (q s : ℕ) (factors : Place) (size : Size) (criterion : Criterion) (least : Bool) (given : Option BlocksSaid) (said : Option SizeSaid) (u v : Unit {0}) (x : Blocks)
-    → Wanted least criterion → size_of q s factors said ≡ Ok size → blocks_allowed criterion least given ≡ Ok u → minimum_allowed size criterion least given said ≡ Ok v → blocks_of q size given ≡ Ok x
+    → Wanted least criterion → size_of q s factors said ≡ Ok size → check_blocks criterion least given ≡ Ok u → check_minimum size criterion least given said ≡ Ok v → blocks_of q size given ≡ Ok x
     → (are_blocks q size x ≡ true) × (stand_together size criterion least x ≡ true)
-unfolding blocks_of blocks_allowed
+unfolding blocks_of check_blocks
 together q s factors size criterion least None said u v x kind is allowed minimum e =
     let none = same_ok blocks.Without x e in
     let kept = minimum_kept q s factors size criterion least None said v is minimum in
@@ -189,7 +174,7 @@ together q s factors size criterion least None said u v x kind is allowed minimu
     (refl, and_from _ _ (and_from _ true (ap not kind.apart) refl) (ap not kept))
 together q s factors size criterion least (Some given) said u v x kind is allowed minimum e =
     let kept = blocks_kept q size given x e in
-    let apart = (unless_ok (least || is_highest criterion) tt u (refused_at 13 given.place) allowed).0 in
+    let apart = (unless_ok (least || is_highest criterion) (Ok tt) u (refused_at 13 given.place) allowed).0 in
     let small = minimum_kept q s factors size criterion least (Some given) said v is minimum in (
       kept.fits,
       and_from _ _
@@ -205,8 +190,8 @@ module _ (s : ℕ) (said : StepSaid) (x : Unblocked) (is : unblocked_of s said �
       let budget = bind_ok (budget_of said.nodes) _ x q.2 in
       let size = bind_ok (size_of q.0 s said.factors said.size) _ x budget.2 in
       let criterion = bind_ok (criterion_of said.model) _ x size.2 in
-      let allowed = bind_ok (blocks_allowed criterion.0 (least_of said.model) said.blocks) _ x criterion.2 in
-      let minimum = bind_ok (minimum_allowed size.0 criterion.0 (least_of said.model) said.blocks said.size) _ x allowed.2 in
+      let allowed = bind_ok (check_blocks criterion.0 (least_of said.model) said.blocks) _ x criterion.2 in
+      let minimum = bind_ok (check_minimum size.0 criterion.0 (least_of said.model) said.blocks said.size) _ x allowed.2 in
       subst (λ (x : Unblocked). is_level x.q ≡ true) (same_ok _ x minimum.2) (number_passes 2 6 is_level said.levels q.0 refl q.1)
 
   pub valid : (settings : StepSettings) → 1 ≤ s → step_settings_of x said ≡ Ok settings → are_valid settings ≡ true
@@ -216,8 +201,8 @@ module _ (s : ℕ) (said : StepSaid) (x : Unblocked) (is : unblocked_of s said �
       let budget = bind_ok (budget_of said.nodes) _ x q.2 in
       let size = bind_ok (size_of q.0 s said.factors said.size) _ x budget.2 in
       let criterion = bind_ok (criterion_of said.model) _ x size.2 in
-      let allowed = bind_ok (blocks_allowed criterion.0 (least_of said.model) said.blocks) _ x criterion.2 in
-      let minimum = bind_ok (minimum_allowed size.0 criterion.0 (least_of said.model) said.blocks said.size) _ x allowed.2 in
+      let allowed = bind_ok (check_blocks criterion.0 (least_of said.model) said.blocks) _ x criterion.2 in
+      let minimum = bind_ok (check_minimum size.0 criterion.0 (least_of said.model) said.blocks said.size) _ x allowed.2 in
       let first : Unblocked = record { q = q.0; budget = budget.0; size = size.0; criterion = criterion.0; least = least_of said.model } in
       let same : first ≡ x = same_ok first x minimum.2 in
       let given = bind_ok (blocks_of q.0 size.0 said.blocks) _ settings (subst (λ (x : Unblocked). step_settings_of x said ≡ Ok settings) (sym same) e) in

@@ -17,9 +17,9 @@ use Rattle.fx_settings.specs.Powers.{exponent, greatest}
 use Rattle.fx_settings.specs.Sizes.{passed}
 
 -- BLOCKS stands neither with MINABS nor with the highest resolution
-unfoldable pub blocks_allowed : Criterion → Bool → Option BlocksSaid → Result (Unit {0}) Refusal
-blocks_allowed criterion least None = Ok tt
-blocks_allowed criterion least (Some said) = if least || is_highest criterion then Err (refused_at 13 said.place) else Ok tt
+unfoldable pub check_blocks : Criterion → Bool → Option BlocksSaid → Result (Unit {0}) Refusal
+check_blocks criterion least None = Ok tt
+check_blocks criterion least (Some said) = if least || is_highest criterion then Err (refused_at 13 said.place) else Ok tt
 
 -- whether as many blocks as can be are wanted
 abbrev pub are_most : Option BlocksSaid → Bool
@@ -32,9 +32,9 @@ is_minimum Minimum = true
 is_minimum (Runs m) = false
 
 -- the least size stands neither with the highest resolution, nor with MINABS, nor with the most blocks
-unfoldable pub minimum_allowed : Size → Criterion → Bool → Option BlocksSaid → Option SizeSaid → Result (Unit {0}) Refusal
-minimum_allowed size criterion least blocks None = Ok tt
-minimum_allowed size criterion least blocks (Some said) = if is_minimum size && (is_highest criterion || least || are_most blocks) then Err (refused_at 14 said.value.place) else Ok tt
+unfoldable pub check_minimum : Size → Criterion → Bool → Option BlocksSaid → Option SizeSaid → Result (Unit {0}) Refusal
+check_minimum size criterion least blocks None = Ok tt
+check_minimum size criterion least blocks (Some said) = if is_minimum size && (is_highest criterion || least || are_most blocks) then Err (refused_at 14 said.value.place) else Ok tt
 
 -- at most as many blocks as runs, or as the most runs where the size is the least
 abbrev pub is_too_many : ℕ → Size → ℕ → Bool
@@ -65,7 +65,7 @@ abbrev pub by_size : ℕ → Size → Place → Option ℕ → Result Blocks Ref
 by_size q size place None = Err (refused_at 15 place)
 by_size q size place (Some k) = if nat_lt k (most_run_factors q size) then Ok (of_runs size k) else Err (refused_at 15 place)
 
--- the blocks by the number n behind this word; NBLKFACS=n: t = n, at least 1
+-- the blocks by the number n after this word; NBLKFACS=n: t = n, at least 1
 abbrev pub blocks_by : ℕ → Size → BlocksWord → Place → ℕ → Result Blocks Refusal
 blocks_by q size blocks.Nblkfacs place n = passed (nat_le 1 n) 15 place n >>= factors_at q size place
 blocks_by q size blocks.Nblocks place n = by_number place (exponent q n) >>= factors_at q size place

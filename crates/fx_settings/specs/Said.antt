@@ -30,7 +30,7 @@ abbrev pub value_first : List Written → Option Value
 value_first [] = None
 value_first (w ∷ rest) = Some (value_at w)
 
--- the value behind the first `=` of a statement
+-- the value after the first `=` of a statement
 abbrev pub value_of : List Written → Option Value
 value_of [] = None
 value_of (w ∷ rest) = if is Equals w.symbol then value_first rest else value_of rest

@@ -11,7 +11,7 @@ use Rattle.fx_settings.specs.declared.settings.StepSettings.{StepSettings}
 use Rattle.fx_settings.specs.declared.settings.Unblocked.{Unblocked}
 use Rattle.fx_settings.specs.Sizes.{size_of}
 use Rattle.fx_settings.specs.Models.{criterion_of, least_of}
-use Rattle.fx_settings.specs.Blocks.{blocks_allowed, minimum_allowed, blocks_of}
+use Rattle.fx_settings.specs.Blocks.{check_blocks, check_minimum, blocks_of}
 
 -- the number that is said where it passes, and the usual one where none is said
 abbrev pub number_by : ℕ → ℕ → (ℕ → Bool) → Place → Option ℕ → Result ℕ Refusal
@@ -42,8 +42,8 @@ unblocked_of s said = do
   budget ← budget_of said.nodes
   size ← size_of q s said.factors said.size
   criterion ← criterion_of said.model
-  allowed ← blocks_allowed criterion (least_of said.model) said.blocks
-  least ← minimum_allowed size criterion (least_of said.model) said.blocks said.size
+  allowed ← check_blocks criterion (least_of said.model) said.blocks
+  least ← check_minimum size criterion (least_of said.model) said.blocks said.size
   Ok (record { q = q; budget = budget; size = size; criterion = criterion; least = least_of said.model })
 
 -- and with them

@@ -24,7 +24,7 @@ abbrev pub by_fraction : ℕ → Place → Option ℕ → Result ℕ Refusal
 by_fraction s place None = Err (refused_at 8 place)
 by_fraction s place (Some f) = if nat_lt f s then Ok (s - f) else Err (refused_at 8 place)
 
--- By the number n behind this word; NRUNFACS=n: m = n, at least 1.
+-- By the number n after this word; NRUNFACS=n: m = n, at least 1.
 abbrev pub run_factors : ℕ → ℕ → SizeWord → Place → ℕ → Result ℕ Refusal
 run_factors q s size.Design place n = by_design place (exponent q n)
 run_factors q s size.Fraction place n = by_fraction s place (exponent q n)

@@ -1,6 +1,6 @@
 ghost use Rattle.std.specs.Prelude.{◌≡◌, ℕ, ◌≤◌, ◌<◌, false};
 ghost use Rattle.fx_settings.specs.declared.settings.Size.TheVariants.{Runs};
-ghost use Rattle.fx_settings.specs.Blocks.{are_most, blocks_allowed, blocks_by, blocks_by_value, blocks_of, by_number, by_size, factors_at, is_minimum, is_too_many, minimum_allowed, most_run_factors, of_runs};
+ghost use Rattle.fx_settings.specs.Blocks.{are_most, blocks_by, blocks_by_value, blocks_of, by_number, by_size, check_blocks, check_minimum, factors_at, is_minimum, is_too_many, most_run_factors, of_runs};
 
 use crate::model::is_highest;
 use crate::power::{exponent, greatest, is_within};
@@ -13,13 +13,13 @@ use fx_text::{Place, Refusal};
 /// # Errors
 ///
 /// E13: it does.
-#[tactic(auto, unfolding(crate::specs::Blocks::blocks_allowed))]
-pub(crate) fn blocks_allowed(
+#[tactic(auto, unfolding(crate::specs::Blocks::check_blocks))]
+pub(crate) fn check_blocks(
     criterion: Criterion,
     least: bool,
     said: Option<BlocksSaid>,
 ) -> Result<(), Refusal>
-    ensures { result ≡ blocks_allowed criterion least said }
+    ensures { result ≡ check_blocks criterion least said }
 {
     match said {
         None => Ok(()),
@@ -39,15 +39,15 @@ pub(crate) fn blocks_allowed(
 /// # Errors
 ///
 /// E14: it does.
-#[tactic(auto, unfolding(crate::specs::Blocks::minimum_allowed))]
-pub(crate) fn minimum_allowed(
+#[tactic(auto, unfolding(crate::specs::Blocks::check_minimum))]
+pub(crate) fn check_minimum(
     size: Size,
     criterion: Criterion,
     least: bool,
     blocks: Option<BlocksSaid>,
     said: Option<SizeSaid>,
 ) -> Result<(), Refusal>
-    ensures { result ≡ minimum_allowed size criterion least blocks said }
+    ensures { result ≡ check_minimum size criterion least blocks said }
 {
     match said {
         None => Ok(()),
@@ -112,7 +112,7 @@ fn blocks_by_value(
     }
 }
 
-/// The blocks by the number behind this word.
+/// The blocks by the number after this word.
 fn blocks_by(q: u8, size: Size, word: BlocksWord, place: Place, n: u128) -> Result<Blocks, Refusal>
     requires { 2 ≤ q }
     ensures { result ≡ blocks_by q size word place n }

@@ -175,7 +175,7 @@ pub fn start_of(statement: &[Lexeme<'_>]) -> Place
     }
 }
 
-/// The value behind the first `=` of a statement.
+/// The value after the first `=` of a statement.
 fn value_of(statement: &[Lexeme<'_>]) -> Option<Value>
     ensures { result ≡ value_of statement.now }
 {

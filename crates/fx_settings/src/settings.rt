@@ -2,7 +2,7 @@ ghost use Rattle.std.specs.Prelude.{◌≡◌, ℕ, ◌≤◌, true, Ok, IfOk};
 ghost use Rattle.fx_settings.specs.Settings.{budget_of, is_level, levels_of, step_settings_of, unblocked_of};
 ghost use Rattle.fx_settings.specs.Valid.{are_valid};
 
-use crate::block::{blocks_allowed, blocks_of, minimum_allowed};
+use crate::block::{blocks_of, check_blocks, check_minimum};
 use crate::model::{criterion_of, least_of};
 use crate::said::{StepSaid, Value};
 use crate::size::size_of;
@@ -97,8 +97,8 @@ pub fn unblocked_of(s: u8, said: StepSaid) -> Result<Unblocked, Refusal>
     let size = size_of(q, s, said.factors, said.size)?;
     let criterion = criterion_of(said.model)?;
     let least = least_of(said.model);
-    blocks_allowed(criterion, least, said.blocks)?;
-    minimum_allowed(size, criterion, least, said.blocks, said.size)?;
+    check_blocks(criterion, least, said.blocks)?;
+    check_minimum(size, criterion, least, said.blocks, said.size)?;
     Ok(Unblocked {
         q,
         budget,

@@ -1,4 +1,4 @@
-ghost use Rattle.std.specs.Prelude.{◌≡◌, ◌≤◌, ◌<◌, ◌^◌};
+ghost use Rattle.std.specs.Prelude.{◌≡◌, ◌≤◌};
 ghost use Rattle.fx_settings.specs.Sizes.{by_design, by_fraction, run_factors, runs_at, size_by, size_of};
 
 use crate::power::{exponent, is_within};
@@ -42,7 +42,7 @@ fn size_by(
     }
 }
 
-/// The number of run factors by the number behind this word.
+/// The number of run factors by the number after this word.
 fn run_factors(q: u8, s: u8, word: SizeWord, place: Place, n: u128) -> Result<u128, Refusal>
     ensures { result ≡ run_factors q s word place n }
 {

@@ -18,10 +18,10 @@ use Rattle.fx_settings.specs.Settings.{is_level, step_settings_of, with_blocks}
 use Rattle.fx_settings.specs.Valid.{are_valid, is_size, are_blocks, has_blocks}
 use Rattle.fx_settings.specs.declared.said.StepSaid.{StepSaid}
 use Rattle.fx_settings.specs.Said.{blocks_said, step_said}
-use Rattle.fx_settings.proofs.Valid.{bind_ok, same_ok}
 use Rattle.fx_text.specs.declared.refusal.Refusal.{Refusal}
 use Rattle.fx_text.specs.Written.{Written}
 use Rattle.fx_text.specs.Statements.{statement_of}
+use Rattle.fx_text.proofs.Chains.{bind_ok, same_ok}
 use Rattle.fx_language.specs.declared.symbol.Symbol.TheVariants as word
 use Rattle.fx_statements.specs.declared.wanted.Wanted.{Wanted}
 use Rattle.fx_statements.specs.Goals.{criterion_of}

@@ -55,6 +55,6 @@ components_place [] = None
 components_place (s ∷ statements) = place_or (components_asked s) (components_place statements)
 
 -- at most 100,000 components may be listed in a step of s factors, or E23 at the word that asks for them
-abbrev pub components_allowed : ℕ → ℕ → Goal → Option Place → Result (Unit {0}) Refusal
-components_allowed q s goal None = Ok tt
-components_allowed q s goal (Some place) = if nat_lt 100000 (listed_count q s (min s (listed_factors goal))) then Err (refused_at 23 place) else Ok tt
+abbrev pub check_components : ℕ → ℕ → Goal → Option Place → Result (Unit {0}) Refusal
+check_components q s goal None = Ok tt
+check_components q s goal (Some place) = if nat_lt 100000 (listed_count q s (min s (listed_factors goal))) then Err (refused_at 23 place) else Ok tt

@@ -12,7 +12,7 @@ use Rattle.fx_text.specs.Refusals.{refused_at, ◌>>=◌}
 use Rattle.fx_outputs.specs.Outputs.{names_of}
 use Rattle.fx_statements.specs.Steps.{Meaning, step_of}
 
--- the meanings of some steps, behind these OUT names and these meanings
+-- the meanings of some steps, after these OUT names and these meanings
 abbrev pub steps_behind : List (List ℕ) → List Meaning → List (List (List Written)) → Result (List Meaning) Refusal
 steps_behind earlier done [] = Ok done
 steps_behind earlier done (step ∷ steps) =
@@ -23,7 +23,7 @@ steps_behind earlier done (step ∷ steps) =
 abbrev pub meaning_of_all : List (List Written) → Result (List Meaning) Refusal
 meaning_of_all statements = steps_behind [] [] (steps_of statements)
 
--- the place of a token, and behind the last one that of the end of the text
+-- the place of a token, and after the last one that of the end of the text
 abbrev pub place_in : List ℕ → Option Token → Place
 place_in text None = record { line = line_after text; column = column_after text }
 place_in text (Some t) = record { line = t.line; column = t.column }

@@ -19,7 +19,7 @@ use Rattle.fx_outputs.specs.Outputs.{outputs_of}
 use Rattle.fx_statements.specs.declared.examine.Examine.{Examine}
 use Rattle.fx_statements.specs.declared.step.Step.{Step}
 use Rattle.fx_statements.specs.Goals.{Goal, goal_by, goal_of}
-use Rattle.fx_statements.specs.Components.{components_allowed, components_place}
+use Rattle.fx_statements.specs.Components.{check_components, components_place}
 use Rattle.fx_statements.specs.Valid.{settings_in}
 use Rattle.fx_statements.specs.Contexts.{context}
 
@@ -72,10 +72,10 @@ asked_by factors said statements = do
   unblocked ← unblocked_of (length factors) said
   goal ← goal_by unblocked.q factors statements unblocked.criterion
   settings ← step_settings_of unblocked said
-  listed ← components_allowed unblocked.q (length factors) goal (components_place statements)
+  listed ← check_components unblocked.q (length factors) goal (components_place statements)
   Ok (settings, goal)
 
--- The meaning of a step, behind these OUT names, by its FACTORS statement where it has one.
+-- The meaning of a step, after these OUT names, by its FACTORS statement where it has one.
 abbrev pub step_by : List (List ℕ) → List (List Written) → Option (List Written) → Result Meaning Refusal
 step_by earlier statements None = Err (refused_at 7 (start_of (head_of statements)))
 step_by earlier statements (Some named) = do

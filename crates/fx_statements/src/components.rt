@@ -1,7 +1,7 @@
 ghost use Rattle.std.specs.Prelude.{◌≡◌, ◌≤◌, true, min, nat_lt};
 ghost use Rattle.fx_settings.specs.Settings.{is_level};
 ghost use Rattle.fx_statements.specs.Goals.{goal_of};
-ghost use Rattle.fx_statements.specs.Components.{components_allowed, components_asked, components_place, first_components, is_for_components, listed_count, listed_factors};
+ghost use Rattle.fx_statements.specs.Components.{check_components, components_asked, components_place, first_components, is_for_components, listed_count, listed_factors};
 
 use crate::wanted::Wanted;
 use fx_language::Symbol;
@@ -17,7 +17,7 @@ const MOST_COMPONENTS: u64 = 100_000;
 /// # Errors
 ///
 /// E23, at the first word ALIASING or BLOCKED: one does.
-pub(crate) fn components_allowed(
+pub(crate) fn check_components(
     q: u8,
     s: u8,
     wanted: &Wanted,
@@ -26,7 +26,7 @@ pub(crate) fn components_allowed(
     requires level { is_level q ≡ true }
     requires few { s ≤ 40 }
     ensures { result
-        ≡ components_allowed q s (goal_of wanted.now) (components_place statements.now) }
+        ≡ check_components q s (goal_of wanted.now) (components_place statements.now) }
 {
     match components_place(statements) {
         None => Ok(()),

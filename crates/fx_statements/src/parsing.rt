@@ -1,4 +1,4 @@
-ghost use Rattle.std.specs.Prelude.{◌≡◌, ◌+◌, ◌≤◌, ◌==◌, not, map, reverse, length, Ok, IfOk, IfErr, All};
+ghost use Rattle.std.specs.Prelude.{◌≡◌, ◌≤◌, ◌==◌, not, map, reverse, length, Ok, IfOk, IfErr, All};
 ghost use Rattle.std.specs.List.{prefix_len};
 ghost use Rattle.std.specs.Option.{option_map};
 ghost use Rattle.fx_lexer.specs.Tokens.{IsToken};
@@ -75,7 +75,7 @@ fn column_after(text: &[u8]) -> u32
     1 + last_line_len(text) as u32
 }
 
-/// How many bytes stand behind the last line feed.
+/// How many bytes stand after the last line feed.
 fn last_line_len(text: &[u8]) -> usize
     ensures value { result ≡ prefix_len (λ b. not (b == 10)) (reverse text.now) }
     ensures bound { result ≤ length text.now }

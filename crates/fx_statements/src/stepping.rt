@@ -11,7 +11,7 @@ ghost use Rattle.fx_statements.specs.Goals.{criterion_of, goal_of};
 ghost use Rattle.fx_statements.specs.Valid.{CanBeWanted};
 ghost use Rattle.fx_statements.specs.Steps.{asked_by, factor_limit, factors_by, head_of, meaning_of, step_by, step_of};
 
-use crate::components::components_allowed;
+use crate::components::check_components;
 use crate::examine::examine_of;
 use crate::step::Step;
 use crate::wanted::{Wanted, wanted_by};
@@ -125,7 +125,7 @@ fn asked_by(
     let unblocked = unblocked_of(s, said)?;
     let wanted = wanted_by(alloc, unblocked.q, factors, statements, unblocked.criterion)?;
     let settings = step_settings_of(unblocked, said)?;
-    components_allowed(unblocked.q, s, &wanted, statements)?;
+    check_components(unblocked.q, s, &wanted, statements)?;
     Ok((settings, wanted))
 }
 

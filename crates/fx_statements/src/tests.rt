@@ -43,7 +43,7 @@ fn refusal(
     }
 }
 
-/// Tests that each text behind the front is refused by this code, in this line and column.
+/// Tests that each text after the front is refused by this code, in this line and column.
 fn are_refused(
     rt: &impl Abort,
     alloc: Global,
@@ -59,7 +59,7 @@ fn are_refused(
     Ok(())
 }
 
-/// Tests that each text behind the front is accepted.
+/// Tests that each text after the front is accepted.
 fn are_accepted(rt: &impl Abort, alloc: Global, front: &[u8], texts: &[&[u8]]) -> Result<(), Fail> {
     for text in texts {
         assert_eq!(rt; refusal(rt, alloc, front, text)?, None);

@@ -1,4 +1,4 @@
-ghost use Rattle.std.specs.Prelude.{◌≡◌, ℕ, ◌≤◌, length, IfOk, OnOk, All, Some};
+ghost use Rattle.std.specs.Prelude.{◌≡◌, IfOk, All, Some};
 ghost use Rattle.std.specs.Str.Parse.{digits_value};
 ghost use Rattle.fx_lexer.specs.Tokens.{IsToken};
 ghost use Rattle.fx_language.specs.Symbols.{is};

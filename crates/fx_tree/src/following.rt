@@ -1,4 +1,4 @@
-ghost use Rattle.std.specs.Prelude.{◌≡◌, ◌≤◌, ◌<◌, ◌^◌, ◌+◌, IsTrue};
+ghost use Rattle.std.specs.Prelude.{◌≡◌, ◌≤◌, ◌<◌, ◌^◌};
 ghost use Rattle.fx_designs.specs.Galois.{digits};
 ghost use Rattle.fx_designs.specs.Vectors.{is_normal};
 ghost use Rattle.fx_designs.specs.Canonical.{is_unit};
@@ -16,7 +16,7 @@ pub(crate) fn may_follow(question: &Question, front: Front, row: u16) -> bool
     requires below { row < question.now.shape.q ^ question.now.shape.m }
     ensures { result
         ≡ follows (dimensions_of question.now.shape)
-            (requirement_of question.now.demands) front row }
+        (requirement_of question.now.demands) front row }
 {
     let shape = question.shape;
     front.count < shape.rows()
@@ -69,7 +69,7 @@ fn keeps_order(question: &Question, count: usize, last: u16, row: u16) -> bool
     requires valid { IsValid question.now }
     ensures { result
         ≡ keeps_order (dimensions_of question.now.shape)
-            (requirement_of question.now.demands) count last row }
+        (requirement_of question.now.demands) count last row }
 {
     match question.demands {
         Demands::Resolution { .. } => {
@@ -79,7 +79,7 @@ fn keeps_order(question: &Question, count: usize, last: u16, row: u16) -> bool
     }
 }
 
-/// Whether the row is the unit vector in its place, or falls behind the unit vectors.
+/// Whether the row is the unit vector in its place, or falls after the unit vectors.
 fn falls_after(shape: Shape, count: usize, last: u16, row: u16) -> bool
     requires shaped { IsShape shape }
     ensures { result ≡ falls_after (dimensions_of shape) count last row }

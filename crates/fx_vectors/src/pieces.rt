@@ -1,4 +1,4 @@
-ghost use Rattle.std.specs.Prelude.{◌≡◌, ◌<◌, ◌≤◌, ◌%◌, ◌≢◌, ◌++◌, [], ◌∷◌, length, slice_index_or, OnErr, OnOk};
+ghost use Rattle.std.specs.Prelude.{◌≡◌, ◌<◌, ◌%◌, ◌≢◌, ◌++◌, [], ◌∷◌, length, slice_index_or, OnErr, OnOk};
 
 use fx_base::{NoMemory, Values};
 use std::alloc::Global;

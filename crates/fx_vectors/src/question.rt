@@ -1,5 +1,3 @@
-ghost use Rattle.fx_vectors.specs.Question.{IsValid};
-
 use crate::effect::Effects;
 use crate::shape::Shape;
 

@@ -1,4 +1,4 @@
-ghost use Rattle.std.specs.Prelude.{◌≡◌, ◌≤◌, ◌<◌, IfOk, length};
+ghost use Rattle.std.specs.Prelude.{◌<◌};
 ghost use Rattle.fx_vectors.specs.Marks.{row_of};
 
 use crate::{Effect, Effects, Mark, Marks, contains};
