@@ -38,8 +38,7 @@ impl MemorySource {
     pub fn new(content: Bytes, step: usize, failing: Bytes) -> MemorySource
         requires { 0 < step }
         ensures { result
-            ≡ record
-            { left = content; step = step; failing = failing; made = 0; faults = 0 } }
+            ≡ record { left = content; step = step; failing = failing; made = 0; faults = 0 } }
     {
         MemorySource {
             source: SureSource::new(content, step),

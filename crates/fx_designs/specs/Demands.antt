@@ -14,7 +14,7 @@ runs d rows = runs_of d.q d.m (vectors_of d.q d.m rows)
 abbrev pub effect_of : List ℕ → ℕ
 effect_of u = number 2 (map (λ a. if a == 0 then 0 else 1) u)
 
--- whether u is a vector of one of the effects: a component of it
+-- whether u is a vector of one of the effects: not zero on just the factors of it
 abbrev pub is_of : List ℕ → List ℕ → Bool
 is_of effects u = not (is_zero u) && list_any (λ e. e == effect_of u) effects
 

@@ -96,7 +96,7 @@ abbrev pub effect_len : Bool → List Written → ℕ
 effect_len joined [] = 0
 effect_len joined (w ∷ rest) = if begins_effect joined w then 0 else suc (effect_len (is_joining w.symbol) rest)
 
--- the effects of a list after others, from left to right
+-- others, and after them the effects of a list, from left to right
 abbrev pub expressions_from : List (List ℕ) → List Expression → Bool → List Written → Result (List Expression) Refusal
 expressions_from factors all joined [] = Ok all
 expressions_from factors all joined (w ∷ rest) =

@@ -10,7 +10,7 @@ abbrev pub main_of : Written → Option ℕ → Result ℕ Refusal
 main_of w None = Err (refusal_at 4 w)
 main_of w (Some i) = Ok (2 ^ i)
 
--- those of the factors with these names, after others, or E4 where one is no factor's
+-- others, and after them those of the factors with these names, or E4 where one is no factor's
 abbrev pub mains_from : Written → List (List ℕ) → List ℕ → List (List ℕ) → Result (List ℕ) Refusal
 mains_from w factors mains [] = Ok mains
 mains_from w factors mains (name ∷ names) = main_of w (place_of name factors) >>= (λ e. mains_from w factors (mains ++ e ∷ []) names)

@@ -34,7 +34,7 @@ has_leading_zero digits = begins_with_zero digits && not (length digits == 1)
 abbrev pub is_plain : List ℕ → Bool
 is_plain digits = is_numeral digits && not (has_leading_zero digits)
 
--- the number that they write
+-- the number that the digits at its end write
 abbrev pub number_at_end : List ℕ → ℕ
 number_at_end name = digits_value 10 (ending name)
 

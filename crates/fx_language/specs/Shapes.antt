@@ -32,7 +32,7 @@ Begins a text = (rest : List Symbol) × Matches a (text ++ rest)
 
 infixr 35 ◌▸◌
 infixr 30 ◌∣◌
--- The texts of a and after each one of b, as Before a b. Never and Empty are left out, and sequences group to the
+-- The texts of a, each with one of b after it, as Before a b. Never and Empty are left out, and sequences group to the
 -- right, so that what is left after a symbol stays small.
 abbrev pub ◌▸◌ : Shape → Shape → Shape
 Never ▸ b = Never

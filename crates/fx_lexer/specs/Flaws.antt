@@ -36,7 +36,8 @@ fault_kind (long_piece _ rest) = 4
 abbrev pub begins_item : ℕ → List ℕ → Bool
 begins_item b rest = is_white b || begins_word b || is_digit b || begins_fraction (b ∷ rest) || is_quote b || is_sign b
 
--- that it is a flaw, where a statement starts here or not: nothing ends what was begun, no item begins here, or the piece is longer than its kind may be
+-- that it is a flaw, where a statement starts here or not: nothing ends what was begun, no item begins here, or the piece
+-- is longer than its kind may be
 abbrev pub IsFlaw : Bool → Flaw → Type 0
 IsFlaw start (open_comment inside) = ¬ Closes inside
 IsFlaw start (open_remark inside) = IsTrue start × ¬ Contains inside 59

@@ -28,7 +28,7 @@ pub fn begins_remark(start: bool, bytes: &[u8]) -> bool
     start && starts_with_byte(b'*', bytes)
 }
 
-/// A word, or 0 where none begins here.
+/// Letters, digits and `_`, or 0 where none is first.
 pub fn word_len(bytes: &[u8]) -> usize
     ensures value { result ≡ prefix_len is_word_byte bytes.now }
     ensures bound { result ≤ length bytes.now }

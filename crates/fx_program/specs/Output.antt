@@ -34,7 +34,7 @@ abbrev pub given_by : ℕ → Meaning → Option Problem → Output
 given_by number step None = record { events = []; status = 0 }
 given_by number step (Some p) = step_given number step p
 
--- the same, and nothing for a step of a form that isn't built
+-- what is given for a step; nothing for one of a form that isn't built
 abbrev pub step_output : ℕ → Meaning → Output
 step_output number step = given_by number step (problem_of step)
 

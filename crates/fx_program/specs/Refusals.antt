@@ -3,7 +3,7 @@ use Rattle.std.specs.Prelude.{ℕ, ◌==◌, List, [], ◌∷◌, ◌++◌, if�
 use Rattle.fx_program.specs.declared.text.TextFault.{TextFault}
 use Rattle.fx_program.specs.declared.text.TextFault.TheVariants.{Lexical, Refused}
 
--- what the rules on grammar and meaning say, by their numbers
+-- what the rules with the letter E say, by their numbers
 abbrev pub reasons : List (ℕ × List ℕ)
 reasons =
     (0, codes "not built yet") ∷

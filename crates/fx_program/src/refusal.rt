@@ -98,7 +98,7 @@ fn lexical_reasons() -> [Reason; 5]
     ]
 }
 
-/// What the rules on grammar and meaning say.
+/// What the rules with the letter E say.
 fn reasons() -> [Reason; 33]
     ensures { map row_of result ≡ reasons }
 {

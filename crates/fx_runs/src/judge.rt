@@ -19,10 +19,10 @@ use fx_vectors::{Demands, Effects, Question};
 ///
 /// Each vector that has to be balanced is counted over the runs: under a resolution r those of weight
 /// below r, and for effects the differences, other than zero, of a vector of an effect to be
-/// estimated and one of any effect of either list, the same one included, or zero. With block factors each tuple of their values has to come equally often besides,
-/// and each vector of an effect to be estimated is counted inside each block. No other vectors are
-/// walked through, and no memory is taken. Some 36,000 vectors over 31 factors took 1.2 seconds in
-/// 1,024 runs.
+/// estimated and one of any effect of either list, the same one included, or zero. With block
+/// factors each tuple of their values has to come equally often besides, and each vector of an
+/// effect to be estimated is counted inside each block. No other vectors are walked through, and no
+/// memory is taken. Some 36,000 vectors over 31 factors took 1.2 seconds in 1,024 runs.
 pub fn meets(question: &Question, runs: &Runs) -> bool
     requires valid { IsValid question.now }
     requires shape { runs.now.shape ≡ question.now.shape }

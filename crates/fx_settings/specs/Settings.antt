@@ -18,12 +18,12 @@ abbrev pub number_by : ℕ → ℕ → (ℕ → Bool) → Place → Option ℕ �
 number_by usual code passes place None = Ok usual
 number_by usual code passes place (Some n) = if passes n then Ok n else Err (refused_at code place)
 
--- the same of a number that may not be given
+-- the same of a value that need not be given
 abbrev pub number_said : ℕ → ℕ → (ℕ → Bool) → Option Value → Result ℕ Refusal
 number_said usual code passes None = Ok usual
 number_said usual code passes (Some said) = number_by usual code passes said.place said.number
 
--- the numbers of levels that a field has
+-- whether there is a field of so many levels
 abbrev pub is_level : ℕ → Bool
 is_level n = list_any (λ q. q == n) (2 ∷ 3 ∷ 4 ∷ 5 ∷ 7 ∷ 8 ∷ 9 ∷ [])
 

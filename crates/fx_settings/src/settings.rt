@@ -116,8 +116,10 @@ pub fn unblocked_of(s: u8, said: StepSaid) -> Result<Unblocked, Refusal>
 pub fn step_settings_of(unblocked: Unblocked, said: StepSaid) -> Result<StepSettings, Refusal>
     requires { 2 ≤ unblocked.q }
     ensures value { result ≡ step_settings_of unblocked said }
-    ensures valid { IfOk result (λ settings. (s : ℕ) → 1 ≤ s →
-        unblocked_of s said ≡ Ok unblocked → are_valid settings ≡ true) }
+    ensures valid { IfOk result (λ settings. (s : ℕ)
+        → 1 ≤ s
+        → unblocked_of s said ≡ Ok unblocked
+        → are_valid settings ≡ true) }
 {
     with_blocks(unblocked, said)
 }

@@ -9,13 +9,13 @@ use fx_text::{Lexeme, Statement};
 /// The sections of the listing that are asked for besides the rules.
 #[derive(Clone, Copy, Debug, PartialEq, Eq)]
 pub struct Examine {
-    /// The effects that are aliased with each other.
+    /// The components that are aliased with each other.
     pub aliasing: bool,
-    /// The effects that are confounded with blocks.
+    /// The components that are confounded with blocks.
     pub blocked: bool,
     /// The runs.
     pub design: bool,
-    /// The pattern of word lengths.
+    /// The word-length pattern.
     pub aberration: bool,
 }
 

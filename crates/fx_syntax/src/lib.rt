@@ -2,7 +2,7 @@
 //!
 //! A state is a place in the grammar, and stands for what of the grammar is left there. Each move is
 //! proved to lead to a place where that is left which the grammar leaves after the symbol. The
-//! grammar nests nothing, so some sixty places are enough.
+//! grammar nests nothing, so some seventy places are enough.
 #![tactic(auto)]
 
 mod effects;

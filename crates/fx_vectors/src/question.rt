@@ -11,7 +11,7 @@ pub enum Demands {
     /// The components of the effects of `estimate`, of which there are some, can be told from one
     /// another, from those of `nonnegligible` and from the mean. Both lists are in effect order:
     /// fewer factors first, then by the factors' positions. No effect is in both, and there are at
-    /// most 2,000,000 pairs of components to be told apart.
+    /// most 2,000,000 pairs of vectors to be told apart.
     Effects {
         estimate: Effects,
         nonnegligible: Effects,
