@@ -10,7 +10,7 @@ use Rattle.fx_designs.specs.Patterns.{constant_words, pattern_of, resolution_of,
 use Rattle.fx_designs.specs.Canonical.{is_canonical}
 use Rattle.fx_designs.specs.Answers.{before, lists, designs, answer}
 use Rattle.fx_designs.specs.Closing.{closing_word}
-use Rattle.fx_designs.specs.Nodes.{counts, excludes, nodes, marks, word_of, Branch, Word, Worse}
+use Rattle.fx_designs.specs.Nodes.{is_beside, counts, excludes, nodes, marks, word_of, Branch, Word, Worse}
 
 abbrev size : ℕ → ℕ → ℕ → ℕ → Dimensions
 size q m s t = record { q = q; m = m; s = s; t = t }
@@ -18,7 +18,7 @@ size q m s t = record { q = q; m = m; s = s; t = t }
 abbrev problem : Dimensions → Requirement → Bool → Problem
 problem d wanted least = record { dimensions = d; requirement = wanted; least = least }
 
--- FIELDS
+-- Fields
 
 -- the powers of x, each x times the one before it: the tables of the fields of 4, 8 and 9 codes
 powers_of_x :
@@ -59,7 +59,7 @@ digits_and_orders :
     × (map is_order (0 ∷ 1 ∷ 2 ∷ 3 ∷ 4 ∷ 5 ∷ 6 ∷ 7 ∷ 8 ∷ 9 ∷ 10 ∷ 11 ∷ []) ≡ false ∷ false ∷ true ∷ true ∷ true ∷ true ∷ false ∷ true ∷ true ∷ true ∷ false ∷ false ∷ [])
 digits_and_orders = (refl, refl, refl)
 
--- VECTORS
+-- Vectors
 
 -- weight, the last entry that is not zero, normal vectors
 weights :
@@ -72,7 +72,8 @@ weights :
     × (is_zero (0 ∷ 2 ∷ []) ≡ false)
     × (same (1 ∷ 2 ∷ []) (1 ∷ 2 ∷ []) ≡ true)
     × (same (1 ∷ 2 ∷ []) (1 ∷ 2 ∷ 0 ∷ []) ≡ false)
-weights = (refl, refl, refl, refl, refl, refl, refl, refl, refl)
+    × (same (1 ∷ 2 ∷ 0 ∷ []) (1 ∷ 2 ∷ []) ≡ false)
+weights = (refl, refl, refl, refl, refl, refl, refl, refl, refl, refl)
 
 -- dot products, sums and differences; what is missing counts as zeros
 products :
@@ -87,7 +88,7 @@ products :
 unfolding prime_of degree_of reduction_of add mul neg
 products = (refl, refl, refl, refl, refl, refl, refl, refl)
 
--- RUNS
+-- Runs
 
 -- the first run index changes slowest
 order_of_points :
@@ -146,7 +147,7 @@ confounded_with_blocks :
 unfolding prime_of degree_of reduction_of add mul neg runs_of is_constant is_balanced are_blocks_even is_balanced_in_blocks is_constant_in_blocks
 confounded_with_blocks = (refl, refl, refl, refl)
 
--- SPANS
+-- Spans
 
 -- sums and multiples of rows are in their span, and add nothing to the rank
 spans :
@@ -161,7 +162,7 @@ spans :
 unfolding prime_of degree_of reduction_of add mul neg in_span
 spans = (refl, refl, refl, refl, refl, refl, refl, refl)
 
--- WHAT IS ASKED, OF RUNS AND OF VECTORS
+-- What is asked of runs and of vectors
 
 -- the effect A*C is the number 5; the mean is of no effect
 effects :
@@ -305,7 +306,7 @@ effects_in_blocks :
 unfolding prime_of degree_of reduction_of add mul neg runs_of is_constant is_balanced are_blocks_even is_balanced_in_blocks is_constant_in_blocks must_balance is_estimated is_met
 effects_in_blocks = (refl, refl, refl, refl)
 
--- PATTERNS
+-- Patterns
 
 -- four two-level factors in eight runs: D = A*B*C is of resolution 4, D = B*C of resolution 3
 half :
@@ -356,7 +357,7 @@ less_patterns :
     × (is_less (0 ∷ 1 ∷ []) (0 ∷ 1 ∷ []) ≡ false)
 less_patterns = (refl, refl, refl)
 
--- CANONICAL PREFIXES
+-- Canonical prefixes
 
 -- canonical rows: no repeated unit vector, unit vectors in order, no row that is zero, later rows fall
 canonical_rows :
@@ -377,14 +378,16 @@ rows_that_follow :
     (is_canonical (size 2 2 2 0) (ForEffects (1 ∷ []) []) (1 ∷ 3 ∷ []) ≡ false)
     × (is_canonical (size 2 2 3 0) (ForEffects (1 ∷ []) []) (1 ∷ 2 ∷ 0 ∷ []) ≡ true)
     × (is_canonical (size 2 2 3 0) (ForEffects (1 ∷ []) []) (1 ∷ 2 ∷ 4 ∷ []) ≡ false)
+    × (is_canonical (size 2 2 3 0) (ForEffects (1 ∷ []) []) (1 ∷ 2 ∷ 5 ∷ []) ≡ false)
     × (is_canonical (size 2 2 2 0) (ForEffects (1 ∷ []) []) (1 ∷ 2 ∷ 0 ∷ []) ≡ false)
     × (is_canonical (size 3 1 2 0) (ForEffects (1 ∷ []) []) (1 ∷ 1 ∷ []) ≡ true)
     × (is_canonical (size 3 1 2 0) (ForEffects (1 ∷ []) []) (1 ∷ 2 ∷ []) ≡ false)
     × (is_canonical (size 2 2 3 0) (ForEffects (1 ∷ []) []) (1 ∷ 0 ∷ 2 ∷ []) ≡ true)
     × (is_canonical (size 2 2 3 0) (AtResolution 3) (1 ∷ 0 ∷ 2 ∷ []) ≡ false)
+    × (is_canonical (size 2 3 5 0) (AtResolution 3) (1 ∷ 2 ∷ 4 ∷ 7 ∷ 7 ∷ []) ≡ false)
     × (is_canonical (size 2 2 3 0) (ForEffects (1 ∷ []) []) [] ≡ true)
 unfolding prime_of degree_of reduction_of add mul neg inv runs_of is_constant is_balanced are_blocks_even is_balanced_in_blocks is_constant_in_blocks in_span must_balance is_estimated is_met is_allowed constant_words pattern_of is_canonical lists designs answer
-rows_that_follow = (refl, refl, refl, refl, refl, refl, refl, refl, refl)
+rows_that_follow = (refl, refl, refl, refl, refl, refl, refl, refl, refl, refl, refl)
 
 -- block rows need not fall, and do not have to reach the rank
 block_rows_that_follow :
@@ -394,7 +397,7 @@ block_rows_that_follow :
 unfolding prime_of degree_of reduction_of add mul neg inv runs_of is_constant is_balanced are_blocks_even is_balanced_in_blocks is_constant_in_blocks in_span must_balance is_estimated is_met is_allowed constant_words pattern_of is_canonical lists designs answer
 block_rows_that_follow = (refl, refl, refl)
 
--- ANSWERS
+-- Answers
 
 -- lists of rows, the greatest first, a prefix before what begins with it
 order_of_lists :
@@ -420,7 +423,7 @@ first_of_the_least :
 unfolding prime_of degree_of reduction_of add mul neg inv runs_of is_constant is_balanced are_blocks_even is_balanced_in_blocks is_constant_in_blocks in_span must_balance is_estimated is_met is_allowed constant_words pattern_of is_canonical lists designs answer
 first_of_the_least = (refl, refl)
 
--- CLOSING WORDS, NODES AND MARKS
+-- Closing words, nodes and marks
 
 -- of the words that close a prefix the lightest is told, and of these the one of greatest number: C*D before A*B*C and
 -- A*B*D, and A*D*E before B*C*E
@@ -488,7 +491,9 @@ lots_and_jobs :
     (counts (size 2 3 6 0) (1 ∷ 2 ∷ 4 ∷ 7 ∷ 6 ∷ 5 ∷ []) (1 ∷ 2 ∷ 4 ∷ 7 ∷ 5 ∷ []) ≡ false)
     × (counts (size 2 3 6 0) (1 ∷ 2 ∷ 4 ∷ 7 ∷ 6 ∷ 5 ∷ []) (1 ∷ 2 ∷ 4 ∷ 7 ∷ 6 ∷ 3 ∷ []) ≡ true)
     × (counts (size 2 3 6 0) (1 ∷ 2 ∷ 4 ∷ 7 ∷ 6 ∷ 5 ∷ []) (1 ∷ 2 ∷ 4 ∷ 6 ∷ []) ≡ true)
-lots_and_jobs = (refl, refl, refl)
+    × (is_beside (size 2 1 4 0) (1 ∷ 1 ∷ 1 ∷ 1 ∷ []) (1 ∷ 1 ∷ []) ≡ true)
+    × (is_beside (size 2 1 4 0) (1 ∷ 1 ∷ 1 ∷ 1 ∷ []) (1 ∷ []) ≡ false)
+lots_and_jobs = (refl, refl, refl, refl, refl)
 
 -- where a least pattern is asked, a matrix of the same pattern that stands before excludes, one of a greater pattern
 -- does not, and none of another job of the lot; else each that stands before does
