@@ -1,9 +1,7 @@
 mod Wording
 mod Reading
-mod Products
 mod Endings
 mod SoFar
 mod Given
-mod Built
 mod None
 mod AnyText
