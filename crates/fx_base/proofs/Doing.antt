@@ -2,6 +2,7 @@
 use Rattle.std.proofs.Common.{ℕ, ◌≡◌, ◌≤◌, ◌+◌, ◌++◌, length, List, [], ◌∷◌, map, take, drop, Option, Some, refl, sym, ◌∙◌, ap, subst, append_assoc}
 use Rattle.std.proofs.lemmas.List.{append-nil, take_all, map-append, take-append-drop}
 use Rattle.std.proofs.Math.Seq.{take-add}
+use Rattle.fx_base.specs.Faults.{IsUnchanged}
 use Rattle.fx_base.specs.Writing.{Appends, AppendsPart}
 use Rattle.fx_base.specs.Acts.{Act, ListByte, BeginFile, FileByte, EndFile, File, listed, shelved, Shelves, ShelvesPart, Event, Piece, acts_of, acts, World, Did, DidPart}
 
@@ -60,12 +61,12 @@ shelves_part_first old new xs ys a = record {
   did = a.did;
 }
 
-pub shelves_part_none : (old new : Option (List File)) (xs : List Act) → new ≡ old → ShelvesPart old new xs
+pub shelves_part_none : (old new : Option (List File)) (xs : List Act) → IsUnchanged old new → ShelvesPart old new xs
 shelves_part_none old new xs same = record {
   done = [];
   left = xs;
   front = refl;
-  did = record { told = λ files e. same ∙ e };
+  did = record { told = λ files e. same.exposed files e };
 }
 
 pub shelves_part_whole : (old new : Option (List File)) (xs : List Act) → Shelves old new xs → ShelvesPart old new xs
@@ -136,7 +137,7 @@ fill_more old mid new bytes from n a b = subst (λ (l : List Act). Shelves old n
     (shelves_more old mid new _ _ a b)
 
 pub fill_part : (old mid new : Option (List File)) (bytes : List ℕ) (from : ℕ)
-    → Shelves old mid (map FileByte (take from bytes)) → new ≡ mid → ShelvesPart old new (map FileByte bytes)
+    → Shelves old mid (map FileByte (take from bytes)) → IsUnchanged mid new → ShelvesPart old new (map FileByte bytes)
 fill_part old mid new bytes from a same = subst (λ (l : List Act). ShelvesPart old new l)
     (sym (map-append FileByte (take from bytes) (drop from bytes)) ∙ ap (map FileByte) (take-append-drop from bytes))
     (shelves_part_more old mid new (map FileByte (take from bytes)) (map FileByte (drop from bytes)) a (shelves_part_none mid new _ same))

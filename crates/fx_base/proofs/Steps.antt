@@ -3,6 +3,7 @@ use Rattle.std.proofs.Common.{ℕ, ◌≡◌, ◌<◌, ◌≤◌, ◌+◌, ◌-�
 use Rattle.std.proofs.lemmas.List.{take_all, length-take-le, drop-drop}
 use Rattle.std.proofs.Math.Seq.{take-add}
 use Rattle.fx_base.specs.Reading.{Takes, TakesFrom, IsAllLeft, IsOverLimit, LeavesRest}
+use Rattle.fx_base.specs.Faults.{IsUnchanged}
 use Rattle.fx_base.specs.Writing.{Appends, AppendsPart}
 
 -- a front part of the piece, and then a front part of the rest
@@ -16,10 +17,10 @@ appends_more old mid new piece from n a b = record {
 
 -- a front part of the piece, and then a call that appended nothing
 pub appends_part : (old mid new : Option (List ℕ)) (piece : List ℕ) (from : ℕ)
-    → Appends old mid (take from piece) → new ≡ mid → AppendsPart old new piece
+    → Appends old mid (take from piece) → IsUnchanged mid new → AppendsPart old new piece
 appends_part old mid new piece from a same = record {
   part = from;
-  told = record { told = λ text e. same ∙ a.told text e };
+  told = record { told = λ text e. same.exposed (text ++ take from piece) (a.told text e) };
 }
 
 -- what stands after these bytes of the text were read

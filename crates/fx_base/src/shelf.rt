@@ -1,5 +1,5 @@
 ghost use Rattle.std.specs.Prelude.{◌≡◌, ◌<◌, ◌≤◌, ℕ, List, [], ◌∷◌, length, map, take, Option, None, Bool, true, false, IfOk, OnErr, OnOk};
-ghost use Rattle.fx_base.specs.Faults.{HasCause};
+ghost use Rattle.fx_base.specs.Faults.{HasCause, IsUnchanged};
 ghost use Rattle.fx_base.specs.Acts.{File, Shelves, BeginFile, FileByte, EndFile};
 
 use crate::failed::Failed;
@@ -25,7 +25,7 @@ pub trait Shelf {
         ensures done { OnOk result
             (Shelves (files self.old) (files self.new) (BeginFile name.now ∷ [])) }
         ensures state { OnOk result (begun self.new ≡ true) }
-        ensures failed { OnErr result (files self.new ≡ files self.old) }
+        ensures failed { OnErr result (IsUnchanged (files self.old) (files self.new)) }
         ensures cause { HasCause (faults self.old) (faults self.new) result }
         ensures kept { room self.new ≡ room self.old };
 
@@ -38,7 +38,7 @@ pub trait Shelf {
         ensures taken { IfOk result (λ n.
             Shelves (files self.old) (files self.new) (map FileByte (take n piece.now))) }
         ensures state { OnOk result (begun self.new ≡ true) }
-        ensures failed { OnErr result (files self.new ≡ files self.old) }
+        ensures failed { OnErr result (IsUnchanged (files self.old) (files self.new)) }
         ensures cause { HasCause (faults self.old) (faults self.new) result }
         ensures kept { room self.new ≡ room self.old };
 
@@ -47,7 +47,7 @@ pub trait Shelf {
         requires { begun self.old ≡ true }
         ensures done { OnOk result (Shelves (files self.old) (files self.new) (EndFile ∷ [])) }
         ensures state { OnOk result (begun self.new ≡ false) }
-        ensures failed { OnErr result (files self.new ≡ files self.old) }
+        ensures failed { OnErr result (IsUnchanged (files self.old) (files self.new)) }
         ensures cause { HasCause (faults self.old) (faults self.new) result }
         ensures kept { room self.new ≡ room self.old };
 }

@@ -1,5 +1,5 @@
 ghost use Rattle.std.specs.Prelude.{◌≡◌, ◌<◌, ◌≤◌, ℕ, List, length, take, Option, None, IfOk, OnErr};
-ghost use Rattle.fx_base.specs.Faults.{HasCause};
+ghost use Rattle.fx_base.specs.Faults.{HasCause, IsUnchanged};
 ghost use Rattle.fx_base.specs.Writing.{Appends};
 
 use crate::failed::Failed;
@@ -21,7 +21,7 @@ pub trait Sink {
         ensures some { IfOk result (λ n. 0 < length piece.now → 0 < n) }
         ensures taken { IfOk result (λ n.
             Appends (written self.old) (written self.new) (take n piece.now)) }
-        ensures failed { OnErr result (written self.new ≡ written self.old) }
+        ensures failed { OnErr result (IsUnchanged (written self.old) (written self.new)) }
         ensures cause { HasCause (faults self.old) (faults self.new) result }
         ensures kept { room self.new ≡ room self.old };
 }

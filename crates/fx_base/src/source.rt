@@ -1,5 +1,5 @@
 ghost use Rattle.std.specs.Prelude.{◌≡◌, ◌≤◌, ℕ, List, length, Option, Bool, false, IfOk, OnErr};
-ghost use Rattle.fx_base.specs.Faults.{HasCause};
+ghost use Rattle.fx_base.specs.Faults.{HasCause, IsUnchanged};
 ghost use Rattle.fx_base.specs.Reading.{Takes};
 
 use crate::failed::Failed;
@@ -19,7 +19,7 @@ pub trait Source {
     fn read(&mut self, to: &mut [u8]) -> Result<usize, Failed>
         ensures within { IfOk result (λ n. n ≤ length to.new) }
         ensures taken { IfOk result (λ n. Takes (left self.old) (left self.new) to.new n) }
-        ensures failed { OnErr result (left self.new ≡ left self.old) }
+        ensures failed { OnErr result (IsUnchanged (left self.old) (left self.new)) }
         ensures cause { HasCause (faults self.old) (faults self.new) result }
         ensures kept { sure self.new ≡ sure self.old };
 }

@@ -156,3 +156,70 @@ step_100 = refl
 no_step : rule_at (steps 100) Proc (Semicolon ∷ []) ≡ None
 unfolding steps
 no_step = refl
+
+-- a word that is no option there, in each statement that has options
+unknown_options :
+    (refusal (codes "proc factex foo=3;") ≡ Some (3, 2))
+    × (refusal (codes "proc factex;factors A/foo=3;") ≡ Some (3, 6))
+    × (refusal (codes "proc factex;size runs=8;") ≡ Some (3, 4))
+    × (refusal (codes "proc factex;model foo=3;") ≡ Some (3, 4))
+    × (refusal (codes "proc factex;model r=3/foo;") ≡ Some (3, 8))
+    × (refusal (codes "proc factex;model e=(A)foo=(B);") ≡ Some (3, 9))
+    × (refusal (codes "proc factex;blocks foo=2;") ≡ Some (3, 4))
+    × (refusal (codes "proc factex;examine foo;") ≡ Some (3, 4))
+    × (refusal (codes "proc factex;output foo=a;") ≡ Some (3, 4))
+    × (refusal (codes "proc factex;output out=a A foo;") ≡ Some (3, 8))
+unfolding refusal
+unknown_options = (refl, refl, refl, refl, refl, refl, refl, refl, refl, refl)
+
+-- a word where none may stand: the value of SIZE, of NODES, of a resolution; the words for the least and for the most
+no_options :
+    (refusal (codes "proc factex nodes=max;") ≡ Some (2, 4))
+    × (refusal (codes "proc factex;size design=max;") ≡ Some (2, 6))
+    × (refusal (codes "proc factex;size fraction=min;") ≡ Some (2, 6))
+    × (refusal (codes "proc factex;size nrunfacs=max;") ≡ Some (2, 6))
+    × (refusal (codes "proc factex;model r=min;") ≡ Some (2, 6))
+    × (refusal (codes "proc factex;blocks nblkfacs=min;") ≡ Some (2, 6))
+    × (refusal (codes "proc factex;blocks nblocks=min;") ≡ Some (2, 6))
+    × (refusal (codes "proc factex;blocks size=max;") ≡ Some (2, 6))
+    × (refusal (codes "proc factex;size design=1.5;") ≡ Some (2, 6))
+unfolding refusal
+no_options = (refl, refl, refl, refl, refl, refl, refl, refl, refl)
+
+-- each option of OUTPUT a second time
+repeated_options :
+    (refusal (codes "proc factex;output out=a pointrep=1 pointrep=1;") ≡ Some (28, 10))
+    × (refusal (codes "proc factex;output out=a designrep=1 designrep=1;") ≡ Some (28, 10))
+    × (refusal (codes "proc factex;output out=a blockname=b blockname=b;") ≡ Some (28, 10))
+    × (refusal (codes "proc factex;output out=a randomize randomize;") ≡ Some (28, 8))
+    × (refusal (codes "proc factex;output out=a randomize(1)randomize;") ≡ Some (28, 11))
+    × (refusal (codes "proc factex;output out=a novalran pointrep=1 novalran;") ≡ Some (28, 11))
+    × (refusal (codes "proc factex;output out=a novalran;output out=b novalran;") ≡ None)
+    × (refusal (codes "proc factex;output out=a blockname=blockname;") ≡ None)
+unfolding refusal
+repeated_options = (refl, refl, refl, refl, refl, refl, refl, refl)
+
+-- each of FACTORS, SIZE, MODEL and BLOCKS a second time, and after RUN; EXAMINE and OUTPUT may stand so
+repeated_statements :
+    (refusal (codes "proc factex;factors A;factors B;") ≡ Some (26, 6))
+    × (refusal (codes "proc factex;size design=4;size design=4;") ≡ Some (26, 8))
+    × (refusal (codes "proc factex;model r=3;model r=3;") ≡ Some (26, 8))
+    × (refusal (codes "proc factex;blocks size=2;blocks size=2;") ≡ Some (26, 8))
+    × (refusal (codes "proc factex;run;factors A;") ≡ Some (27, 5))
+    × (refusal (codes "proc factex;run;model r=3;") ≡ Some (27, 5))
+    × (refusal (codes "proc factex;run;blocks size=2;") ≡ Some (27, 5))
+    × (refusal (codes "proc factex;run;examine;examine;output out=a;output out=b;run;") ≡ None)
+    × (refusal (codes "proc factex;examine design design;") ≡ None)
+unfolding refusal
+repeated_statements = (refl, refl, refl, refl, refl, refl, refl, refl, refl)
+
+-- capitals and short forms; a longer word is another word
+spellings :
+    (refusal (codes "PROC FacTex;SIZE Design=MIN;model E=(A)N=(B);") ≡ None)
+    × (refusal (codes "proc factex;model est=(A)nonneg=(B);") ≡ None)
+    × (refusal (codes "proc factex;model estimate=(A)nonnegligible=(B);") ≡ None)
+    × (refusal (codes "proc factex;model res=maximum/minabs;size design=minimum;") ≡ None)
+    × (refusal (codes "proc factex;factor A;") ≡ Some (1, 3))
+    × (refusal (codes "proc factex;model resolutions=3;") ≡ Some (3, 4))
+unfolding refusal
+spellings = (refl, refl, refl, refl, refl, refl)

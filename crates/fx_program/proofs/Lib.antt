@@ -1,3 +1,4 @@
+mod Examples
 mod Wording
 mod Reading
 mod Endings
