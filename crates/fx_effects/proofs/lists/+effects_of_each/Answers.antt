@@ -5,13 +5,13 @@ use Rattle.fx_vectors.specs.declared.effect.Effect.{Effect}
 use Rattle.fx_vectors.specs.Effects.{numbers_of}
 use Rattle.fx_effects.specs.Lists.{effects_of}
 use Rattle.fx_effects.proofs.Joined.{small_front, small_back, joined_is, front_few, back_few, cause_more}
-use Rattle.fx_effects.proofs.lists.+effects_of.Goals as goal
+use Rattle.fx_effects.proofs.lists.+effects_of_each.Goals as goal
 
-pub effects_of-requires : goal.effects_of-requires
-effects_of-requires t c = (omega (arith, c.decreases, c.split_at.ensures.front_len), small_front c.args.expressions.now c.split_at.result.0.now c.split_at.result.1.now (length c.args.expressions.now / 2) c.split_at.ensures.front c.split_at.ensures.back c.requires)
+pub effects_of_each-requires : goal.effects_of_each-requires
+effects_of_each-requires t c = (omega (arith, c.decreases, c.split_at.ensures.front_len), small_front c.args.expressions.now c.split_at.result.0.now c.split_at.result.1.now (length c.args.expressions.now / 2) c.split_at.ensures.front c.split_at.ensures.back c.requires)
 
-pub effects_of-requires-2 : goal.effects_of-requires-2
-effects_of-requires-2 t c = (omega (arith, c.decreases, c.split_at.ensures.back_len), small_back c.args.expressions.now c.split_at.result.0.now c.split_at.result.1.now (length c.args.expressions.now / 2) c.split_at.ensures.front c.split_at.ensures.back c.requires)
+pub effects_of_each-requires-2 : goal.effects_of_each-requires-2
+effects_of_each-requires-2 t c = (omega (arith, c.decreases, c.split_at.ensures.back_len), small_back c.args.expressions.now c.split_at.result.0.now c.split_at.result.1.now (length c.args.expressions.now / 2) c.split_at.ensures.front c.split_at.ensures.back c.requires)
 
 pub returns-in_err-front-clause-many : goal.returns-in_err-front-clause-many
 returns-in_err-front-clause-many t c =
