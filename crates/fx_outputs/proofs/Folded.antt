@@ -1,5 +1,5 @@
 -- Names that are found by their lowercase forms.
-use Rattle.std.proofs.Common.{◌≡◌, ◌≤◌, ◌<◌, ◌||◌, ◌++◌, ◌∷◌, [], ℕ, Bool, true, false, not, cond, List, Vec, length, map, Option, Some, None, refl, sym, ap, ap₂, suc, arith, ◌∙◌}
+use Rattle.std.proofs.Common.{◌≡◌, ◌≤◌, ◌<◌, ◌+◌, ◌||◌, ◌++◌, ◌∷◌, [], ℕ, Bool, true, false, not, cond, List, Vec, length, map, Option, Some, None, refl, sym, ap, ap₂, suc, arith, ◌∙◌}
 use Rattle.std.specs.Prelude.{is_some, nat_lt}
 use Rattle.std.specs.List.{list_any, position_or_len, prefix_len}
 use Rattle.std.proofs.lemmas.Bool.{lt-ltb}
@@ -52,19 +52,19 @@ module _ {A : Type 0} (form : List ℕ) (key : Vec ℕ A) where
   inserted [] = refl
   inserted (x ∷ keys) = by_order x keys (order key x) refl (inserted keys)
 
+next : (m n : ℕ) → nat_lt (1 + m) (suc n) ≡ nat_lt m n
+next m n = grind (arith, nat_tests)
+
 -- whether a name has a place, and whether it is one of the names
 found : (p : List ℕ → Bool) (xs : List (List ℕ)) → nat_lt (prefix_len (λ x. not (p x)) xs) (length xs) ≡ list_any p xs
 found p [] = refl
 found p (x ∷ xs) =
-    let go : (b : Bool) → nat_lt (cond (not b) (suc (prefix_len (λ x. not (p x)) xs)) 0) (suc (length xs)) ≡ (b || list_any p xs) =
-    λ b. elim b as (λ b. nat_lt (cond (not b) (suc (prefix_len (λ x. not (p x)) xs)) 0) (suc (length xs)) ≡ (b || list_any p xs)) [
+    let go : (b : Bool) → nat_lt (cond (not b) (1 + prefix_len (λ x. not (p x)) xs) 0) (suc (length xs)) ≡ (b || list_any p xs) =
+    λ b. elim b as (λ b. nat_lt (cond (not b) (1 + prefix_len (λ x. not (p x)) xs) 0) (suc (length xs)) ≡ (b || list_any p xs)) [
       | true ↦ lt-ltb 0 (suc (length xs)) (omega arith)
       | false ↦ next (prefix_len (λ x. not (p x)) xs) (length xs) ∙ found p xs
     ] in
     go (p x)
-  where
-    next : (m n : ℕ) → nat_lt (suc m) (suc n) ≡ nat_lt m n
-    next m n = grind (arith, nat_tests)
 
 pub place-any : (name : List ℕ) (names : List (List ℕ)) → is_some (place_of name names) ≡ list_any (is_same_name name) names
 place-any name names = some (nat_lt (position_or_len (is_same_name name) names) (length names)) _ ∙ found (is_same_name name) names

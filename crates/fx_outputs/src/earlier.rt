@@ -50,16 +50,16 @@ impl EarlierNames {
             return Ok(false);
         }
         let name = Bytes::from_slice(alloc, name)?;
-        if self.names.push(name).is_err() {
-            return Err(NoMemory);
+        match self.names.push(name) {
+            Ok(()) => {}
+            Err(_) => return Err(NoMemory),
         }
         match self.folded.insert(key) {
-            Ok(_) => Ok(true),
-            Err(_) => {
-                self.names.pop();
-                Err(NoMemory)
-            }
+            Ok(_) => return Ok(true),
+            Err(_) => {}
         }
+        self.names.pop();
+        Err(NoMemory)
     }
 }
 

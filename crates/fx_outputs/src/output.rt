@@ -121,11 +121,7 @@ fn output(
 /// # Errors
 ///
 /// E18 at the name: it is one of them. And `NoMemory`.
-fn add_name(
-    alloc: Global,
-    earlier: &mut EarlierNames,
-    name: &Lexeme<'_>,
-) -> Result<(), ParseStop>
+fn add_name(alloc: Global, earlier: &mut EarlierNames, name: &Lexeme<'_>) -> Result<(), ParseStop>
     ensures ok { OnOk result (check_new_name earlier.old name.now ≡ Ok tt) }
     ensures name { OnOk result (earlier.new ≡ earlier.old ++ name.now.text ∷ []) }
     ensures err { IfErr result (IsRefused (check_new_name earlier.old name.now)) }
