@@ -18,4 +18,4 @@ pub use forbidden::Forbidden;
 pub use fx_vectors::{Demands, Effect, Effects, Question};
 pub use laws::{bars_in_words, closing_word_in_words};
 pub use pairs::pair_count;
-pub use unions::{bars, merged};
+pub use unions::{bars, in_order, merged};
