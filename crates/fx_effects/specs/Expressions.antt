@@ -9,8 +9,8 @@ use Rattle.fx_text.specs.Written.{Written}
 use Rattle.fx_text.specs.Numbers.{number_of}
 use Rattle.fx_text.specs.Names.{place_of}
 use Rattle.fx_text.specs.Refusals.{refusal_at, ◌>>=◌}
-use Rattle.fx_factors.specs.Ranges.{is_range, names_between}
-use Rattle.fx_factors.specs.Items.{last_behind}
+use Rattle.fx_text.specs.Ranges.{is_range, names_between}
+use Rattle.fx_text.specs.Ranges.{range_end}
 use Rattle.fx_effects.specs.Factors.{main_of, mains_from}
 
 -- Stars that are joined by bars, and how many factors their unions may have. Factors with no more than one in a union are a
@@ -81,7 +81,7 @@ by_last factors first rest (Some last) = range_at factors first last
 
 -- an effect that begins with this name
 abbrev pub expression_at : List (List ℕ) → Written → List Written → Result Expression Refusal
-expression_at factors first rest = by_last factors first rest (last_behind rest)
+expression_at factors first rest = by_last factors first rest (range_end rest)
 
 -- the signs that join the names of one effect
 abbrev pub is_joining : Symbol → Bool

@@ -10,9 +10,8 @@ ghost use Rattle.fx_effects.specs.Expressions.{at_most, bars_at, expression_at, 
 use crate::range::range_at;
 use crate::stars::Stars;
 use fx_base::Bytes;
-use fx_factors::last_behind;
 use fx_language::Symbol;
-use fx_text::{Lexeme, ParseStop, Refusal};
+use fx_text::{Lexeme, ParseStop, Refusal, range_end};
 use fx_vectors::{Effect, Effects};
 use std::alloc::Global;
 use std::marker::Model;
@@ -51,7 +50,7 @@ pub(crate) fn expression_at(
     ensures numbers { IfOk result (λ e. AreNumbers e.stars) }
     ensures err { IfErr result (IsRefused (expression_at factors.now first.now rest.now)) }
 {
-    match last_behind(rest) {
+    match range_end(rest) {
         None => bars_at(alloc, factors, first, rest),
         Some(last) => range_at(alloc, factors, first, last),
     }

@@ -5,14 +5,15 @@ ghost use Rattle.fx_language.specs.declared.symbol.Symbol.TheVariants.{Slash};
 ghost use Rattle.fx_language.specs.Symbols.{is};
 ghost use Rattle.fx_text.specs.Names.{is_same_name};
 ghost use Rattle.fx_text.specs.Refusals.{IsRefused};
-ghost use Rattle.fx_factors.specs.Ranges.{numbered, stem};
-ghost use Rattle.fx_factors.specs.Items.{before_slash, item, last_behind};
+ghost use Rattle.fx_text.specs.Ranges.{numbered, range_end, stem};
+ghost use Rattle.fx_factors.specs.Items.{before_slash, item};
 ghost use Rattle.fx_factors.specs.Factors.{added, are_known, factors_of, known_at};
 
-use crate::range::{is_range, number_at_end, stem};
-use fx_base::{Bytes, NoMemory, put_number};
+use fx_base::{Bytes, NoMemory};
 use fx_language::Symbol;
-use fx_text::{Lexeme, Names, ParseStop, place_of};
+use fx_text::{
+    Lexeme, Names, ParseStop, is_range, number_at_end, numbered_name, place_of, range_end, stem,
+};
 use std::alloc::Global;
 
 /// The names of a step's factors by its FACTORS statement, where at most `limit` may be.
@@ -36,7 +37,7 @@ pub fn factors_of(alloc: Global, statement: &[Lexeme<'_>], limit: usize) -> Resu
     for (i, w) in items.iter().enumerate() {
         let minus = w.is(Symbol::Minus);
         if !(behind_minus || minus) {
-            add(alloc, &mut names, limit, w, last_behind(&items[i + 1..]))?;
+            add(alloc, &mut names, limit, w, range_end(&items[i + 1..]))?;
         }
         behind_minus = minus;
     }
@@ -144,15 +145,6 @@ fn add_numbered(
     Ok(())
 }
 
-/// A stem with a number after it.
-pub fn numbered_name(alloc: Global, stem: &[u8], number: u128) -> Result<Bytes, NoMemory>
-    ensures { IfOk result (λ name. name ≡ stem.now ++ decimal number) }
-{
-    let mut name = Bytes::from_slice(alloc, stem)?;
-    put_number(&mut name, number)?;
-    Ok(name)
-}
-
 /// What stands before a `/`.
 fn before_slash<'b, 'a>(lexemes: &'b [Lexeme<'a>]) -> &'b [Lexeme<'a>]
     ensures { result.now ≡ before_slash lexemes.now }
@@ -165,16 +157,4 @@ fn before_slash_len(lexemes: &[Lexeme<'_>]) -> usize
     ensures bound { result ≤ length lexemes.now }
 {
     lexemes.iter().take_while(|w| !w.is(Symbol::Slash)).count()
-}
-
-/// The last name of a range, where `-` stands after the first.
-pub fn last_behind<'b, 'a>(lexemes: &'b [Lexeme<'a>]) -> Option<&'b Lexeme<'a>>
-    ensures { MatchOption result (last_behind lexemes.now ≡ None)
-        (λ w. last_behind lexemes.now ≡ Some w.now) }
-{
-    if 1 < lexemes.len() && lexemes[0].is(Symbol::Minus) {
-        Some(&lexemes[1])
-    } else {
-        None
-    }
 }

@@ -7,7 +7,7 @@ use Rattle.std.proofs.lemmas.List.{drop_all}
 use Rattle.fx_base.specs.Acts.{Event, acts, File, Did, DidPart}
 use Rattle.fx_base.proofs.Doing.{did_none, did_then, part_then, part_before}
 use Rattle.fx_statements.specs.Steps.{Meaning}
-use Rattle.fx_program.specs.Output.{Output, Ends, world, step_output, steps_output, worse}
+use Rattle.fx_program.specs.Output.{Output, Gives, world, step_output, steps_output, worse}
 use Rattle.fx_program.proofs.Endings.{ends_whole, ends_stopped}
 
 -- the events of all steps begin with those before them
@@ -29,13 +29,13 @@ pub at_front : (old : Option (List ℕ)) (steps : List Meaning) → SoFar old ol
 at_front old steps = record { done = []; left = refl; did = λ files. did_none (world old files) }
 
 module _ {old new : Option (List ℕ)} {whole : Output} {number status : ℕ} where
-  pub all_given : SoFar old new whole number status [] → (files : Option (List File)) → Ends whole (world old files) (world new files) status
+  pub all_given : SoFar old new whole number status [] → (files : Option (List File)) → Gives whole (world old files) (world new files) status
   all_given s files =
-      subst (λ (o : Output). Ends o (world old files) (world new files) status) (sym s.left)
+      subst (λ (o : Output). Gives o (world old files) (world new files) status) (sym s.left)
       (ends_whole (record { events = s.done; status = status }) status refl (s.did files))
 
   module _ {step : Meaning} {steps : List Meaning} {now : Option (List ℕ)} {given : ℕ} (s : SoFar old new whole number status (step ∷ steps))
-      (ends : (files : Option (List File)) → Ends (step_output number step) (world new files) (world now files) given) where
+      (ends : (files : Option (List File)) → Gives (step_output number step) (world new files) (world now files) given) where
     pub one_more : given < 4 → SoFar old now whole (number + 1) (worse status given) steps
     one_more low = record {
       done = s.done ++ (step_output number step).events;
@@ -43,7 +43,7 @@ module _ {old new : Option (List ℕ)} {whole : Output} {number status : ℕ} wh
       did = λ files. did_then s.done (step_output number step).events (s.did files) ((ends files).whole low);
     }
 
-    pub stopped : 4 ≤ given → (files : Option (List File)) → Ends whole (world old files) (world now files) given
+    pub stopped : 4 ≤ given → (files : Option (List File)) → Gives whole (world old files) (world now files) given
     stopped high files =
         let events = (step_output number step).events in
         let later = more_events (number + 1) (s.done ++ events) (worse status (step_output number step).status) steps in

@@ -2,26 +2,28 @@ ghost use Rattle.std.specs.Prelude.{◌≡◌, ◌≢◌, ◌<◌, ◌≤◌, �
 ghost use Rattle.std.specs.List.{list_all};
 ghost use Rattle.fx_base.specs.Faults.{Rose};
 ghost use Rattle.fx_base.specs.Acts.{File};
+ghost use Rattle.fx_vectors.specs.Matrix.{MatrixView};
 ghost use Rattle.fx_statements.specs.Steps.{meaning_of};
+ghost use Rattle.fx_statements.specs.Outcomes.{ending_by, ending_in};
+ghost use Rattle.fx_alias.specs.Rules.{step_lines};
+ghost use Rattle.fx_answer.specs.Outcomes.{IsOutcome};
 ghost use Rattle.fx_program.specs.Words.{settings_of};
-ghost use Rattle.fx_program.specs.Texts.{is_built, program_in};
-ghost use Rattle.fx_program.specs.Outcomes.{outcome_in, status_of};
+ghost use Rattle.fx_program.specs.Forms.{is_built};
+ghost use Rattle.fx_program.specs.Texts.{program_in};
+ghost use Rattle.fx_program.specs.Statuses.{status_of};
 ghost use Rattle.fx_program.specs.Claims.{NoDesignMeansNone};
 ghost use Rattle.fx_program.specs.Stops.{exit_status};
 ghost use Rattle.fx_program.specs.declared.stop.Stop.TheVariants as stop;
-ghost use Rattle.fx_program.specs.Listing.{IsListable, step_lines};
-ghost use Rattle.fx_program.specs.Output.{message, step_output, program_output, output_of, reads, worse, IsTextOf, world, Ends};
+ghost use Rattle.fx_program.specs.Output.{message, step_output, program_output, output_of, reads, worse, IsTextOf, world, Gives};
 
-use crate::listing::put_step;
-use crate::question::question_of;
 use crate::refusal::put_fault;
 use crate::stop::{REFUSED, Stop, exit_status};
 use crate::text::{TextFault, TextStop, at_front, read_program};
 use crate::words::{Settings, read_words, word_line};
+use fx_alias::{head_listing, rules_listing};
+use fx_answer::answer;
 use fx_base::{Bytes, NoMemory, ReadStop, Shelf, Sink, Source, Taken, read_all, write_all};
-use fx_search::{Asked, ask_alone};
-use fx_statements::Step;
-use fx_vectors::Shape;
+use fx_statements::{End, Outcome, Step};
 use std::alloc::Global;
 
 /// The greatest number of bytes of a program text.
@@ -54,7 +56,7 @@ pub fn factex<S: Source, K: Sink, F: Shelf>(
     // front part of it.
     ensures ends { (text : List ℕ)
         → IsTextOf (map (λ w. w.items) words.now) (S.left source.old) text
-        → Ends (output_of (map (λ w. w.items) words.now) text)
+        → Gives (output_of (map (λ w. w.items) words.now) text)
         (world (K.written listing.old) (F.files shelf.old))
         (world (K.written listing.new) (F.files shelf.new)) result }
     ensures fault { result ≡ 4 → Rose (S.faults source.old) (S.faults source.new)
@@ -96,7 +98,7 @@ fn run<S: Source, K: Sink>(alloc: Global, source: &mut S, listing: &mut K) -> Re
     ensures known { IfOk result (λ status. status < 4) }
     ensures ends { (text : List ℕ) (files : Option (List File))
         → S.left source.old ≡ Some text
-        → Ends (program_output (program_in text))
+        → Gives (program_output (program_in text))
         (world (K.written listing.old) files) (world (K.written listing.new) files)
         (exit_status result) }
     ensures fault { result ≡ Err stop.Failed → Rose (S.faults source.old) (S.faults source.new)
@@ -130,7 +132,7 @@ fn give_steps<K: Sink>(alloc: Global, steps: &[Step], listing: &mut K) -> Result
     requires { list_all (λ step. is_built (meaning_of step)) steps.now ≡ true }
     ensures known { IfOk result (λ status. status < 4) }
     ensures ends { (files : Option (List File))
-        → Ends (program_output (Ok (map meaning_of steps.now)))
+        → Gives (program_output (Ok (map meaning_of steps.now)))
         (world (K.written listing.old) files) (world (K.written listing.new) files)
         (exit_status result) }
     ensures fault { result ≡ Err stop.Failed → Rose (K.faults listing.old) (K.faults listing.new) }
@@ -162,64 +164,55 @@ fn give_step<K: Sink>(
     requires { is_built (meaning_of step.now) ≡ true }
     ensures known { IfOk result (λ status. status < 4) }
     ensures ends { (files : Option (List File))
-        → Ends (step_output number (meaning_of step.now))
+        → Gives (step_output number (meaning_of step.now))
         (world (K.written listing.old) files) (world (K.written listing.new) files)
         (exit_status result) }
     ensures fault { result ≡ Err stop.Failed → Rose (K.faults listing.old) (K.faults listing.new) }
     ensures kept { result ≢ Err stop.Failed → K.faults listing.new ≡ K.faults listing.old }
     ensures room { K.room listing.new ≡ K.room listing.old }
 {
-    let question = question_of(alloc, step)?;
-    let asked = ask_alone(alloc, &question, step.budget)?;
-    let lines = lines_of(alloc, number, step, question.shape, &asked)?;
-    say(listing, lines.as_slice(), status_of(&asked))
+    let outcome = answer(alloc, step)?;
+    let lines = lines_of(alloc, number, step, &outcome)?;
+    say(listing, lines.as_slice(), status_of(outcome.end))
 }
 
 /// 0 for a design, 1 for none, 2 where the budget ended.
-fn status_of(asked: &Asked) -> u8
-    ensures status { (budget : ℕ) → result ≡ status_of (outcome_in budget asked.now) }
+fn status_of(end: End) -> u8
+    ensures status { (matrix : Option MatrixView) (count : ℕ)
+        → result ≡ status_of (ending_by end matrix count) }
     ensures low { result < 4 }
 {
-    match asked {
-        Asked::Found { .. } => 0,
-        Asked::Nothing { .. } => 1,
-        Asked::Budget { .. } => 2,
+    match end {
+        End::Design => 0,
+        End::NoDesign => 1,
+        End::Budget => 2,
     }
 }
 
-/// All lines of the step of this number, which asks for a design of this shape, with the answer.
-fn lines_of(
-    alloc: Global,
-    number: usize,
-    step: &Step,
-    shape: Shape,
-    asked: &Asked,
-) -> Result<Bytes, NoMemory>
-    requires size { shape.q ^ shape.m ≤ 1024 }
-    requires same { IsListable shape (length step.now.factors) asked.now }
+/// All lines of the step of this number, by its outcome.
+fn lines_of(alloc: Global, number: usize, step: &Step, outcome: &Outcome) -> Result<Bytes, NoMemory>
+    requires { IsOutcome (meaning_of step.now) outcome.now }
     ensures { IfOk result (λ lines.
         lines
-        ≡ step_lines number shape.q shape.m step.now.factors
-        (outcome_in step.now.budget asked.now)) }
+        ≡ step_lines number outcome.now.shape.q outcome.now.shape.m step.now.factors
+        (ending_in outcome.now)) }
 {
     let mut lines = Bytes::new(alloc);
-    put_step(
-        alloc,
-        &mut lines,
-        number,
-        shape,
-        &step.factors,
-        asked,
-        step.budget,
-    )?;
-    Ok(lines)
+    head_listing(number, step, outcome, &mut lines)?;
+    match &outcome.matrix {
+        Some(matrix) => {
+            rules_listing(alloc, step, matrix, &mut lines)?;
+            Ok(lines)
+        }
+        None => Ok(lines),
+    }
 }
 
 /// Tells where the text is refused, and why.
 fn refuse<K: Sink>(alloc: Global, fault: TextFault, listing: &mut K) -> Result<u8, Stop>
     ensures known { (result ≡ Ok 3) ⊎ ((result ≡ Err stop.Failed) ⊎ (result ≡ Err stop.NoMemory)) }
     ensures ends { (files : Option (List File))
-        → Ends (program_output (Err fault))
+        → Gives (program_output (Err fault))
         (world (K.written listing.old) files) (world (K.written listing.new) files)
         (exit_status result) }
     ensures fault { result ≡ Err stop.Failed → Rose (K.faults listing.old) (K.faults listing.new) }
@@ -236,7 +229,7 @@ fn say<K: Sink>(listing: &mut K, bytes: &[u8], status: u8) -> Result<u8, Stop>
     requires { status < 4 }
     ensures known { (result ≡ Ok status) ⊎ (result ≡ Err stop.Failed) }
     ensures ends { (files : Option (List File))
-        → Ends (message bytes.now status)
+        → Gives (message bytes.now status)
         (world (K.written listing.old) files) (world (K.written listing.new) files)
         (exit_status result) }
     ensures fault { result ≡ Err stop.Failed → Rose (K.faults listing.old) (K.faults listing.new) }

@@ -2,11 +2,13 @@ ghost use Rattle.std.specs.Prelude.{◌≡◌, ◌≤◌, false, [], IfOk};
 ghost use Rattle.fx_vectors.specs.Question.{IsValid, problem_of};
 ghost use Rattle.fx_search.specs.Asked.{IsAnswer, IsNoneAtAll};
 
+use crate::barred::Barred;
 use crate::pruner::{PlainPruner, Pruner};
 use crate::walk::{End, walk};
 use fx_base::NoMemory;
 use fx_demands::Forbidden;
-use fx_vectors::{Marks, Matrix, Question};
+use fx_tree::{Candidates, Front};
+use fx_vectors::{Demands, Marks, Matrix, Question};
 use std::alloc::Global;
 
 /// What a search answers.
@@ -33,8 +35,9 @@ pub enum Asked {
 /// 5,000,000. `Budget`, without a matrix, exactly where the nodes are more than the budget. `Nothing`
 /// speaks of all rule matrices, canonical or not.
 ///
-/// Besides the marks, which take 18 bytes a node, memory is taken for a copy of the effects and for
-/// the children of each row of the prefix. The recursion is as deep as a matrix has rows, at most 40.
+/// Besides the marks, which take 18 bytes a node, memory is taken at the start alone: under a
+/// resolution for the points that are reached, else for a copy of the effects. The recursion is as
+/// deep as a matrix has rows, at most 40.
 ///
 /// # Errors
 ///
@@ -46,6 +49,12 @@ pub fn ask_alone(alloc: Global, question: &Question, budget: u64) -> Result<Aske
     ensures answer { IfOk result (IsAnswer question.now budget) }
     ensures none_at_all { IfOk result (IsNoneAtAll question.now) }
 {
+    if let Demands::Resolution { r } = question.demands {
+        if question.shape.t == 0 {
+            let mut pruner = Barred::of(alloc, question.shape, r, question.least)?;
+            return ask_with(alloc, question, &mut pruner, budget);
+        }
+    }
     let forbidden = Forbidden::of(alloc, question)?;
     let mut pruner = PlainPruner::new(forbidden);
     ask_with(alloc, question, &mut pruner, budget)
@@ -69,7 +78,21 @@ fn ask_with<P: Pruner>(
     let mut prefix = Matrix::new(question.shape);
     let mut marks = Marks::new(alloc);
     let limit = budget as usize;
-    let end = walk(alloc, question, pruner, &mut prefix, &mut marks, limit)?;
+    let candidates = Candidates::of(question.shape);
+    let front = Front {
+        count: 0,
+        rank: 0,
+        last: 0,
+    };
+    let end = walk(
+        question,
+        &candidates,
+        front,
+        pruner,
+        &mut prefix,
+        &mut marks,
+        limit,
+    )?;
     let nodes = marks.len() as u64;
     match end {
         End::Found => Ok(Asked::Found {

@@ -1,6 +1,7 @@
--- Listings of components, which EXAMINE asks for by ALIASING and BLOCKED: which components are listed, and how many they are.
--- A component is a normal vector over the factors: its last nonzero code is 1.
-use Rattle.std.specs.Prelude.{ℕ, zero, suc, ◌+◌, ◌-◌, ◌*◌, ◌^◌, ◌||◌, nat_lt, min, max, Bool, List, [], ◌∷◌, Option, Some, None, Result, Ok, Err, if◌then◌else◌}
+-- Listings of components, which EXAMINE asks for by ALIASING and BLOCKED: of how many factors components are listed, and which
+-- listings are too long.
+use Rattle.std.specs.Prelude.{ℕ, ◌||◌, nat_lt, min, max, Bool, List, [], ◌∷◌, Option, Some, None, Result, Ok, Err, if◌then◌else◌}
+use Rattle.fx_designs.specs.Components.{listed_count}
 use Rattle.fx_text.specs.declared.refusal.Refusal.{Refusal}
 use Rattle.fx_text.specs.declared.refusal.Place.{Place}
 use Rattle.fx_text.specs.Written.{Written, begins}
@@ -9,21 +10,6 @@ use Rattle.fx_language.specs.declared.symbol.Symbol.TheVariants.{Aliasing, Block
 use Rattle.fx_language.specs.Symbols.{is}
 use Rattle.fx_vectors.specs.Effects.{most_factors}
 use Rattle.fx_statements.specs.Goals.{Goal, AtLeast, Highest, ForEffects}
-
--- how many sets of k there are among n
-abbrev pub choose : ℕ → ℕ → ℕ
-choose n zero = 1
-choose zero (suc k) = 0
-choose (suc n) (suc k) = choose n k + choose n (suc k)
-
--- how many components over s factors have k of them
-abbrev pub component_count : ℕ → ℕ → ℕ → ℕ
-component_count q s k = choose s k * (q - 1) ^ (k - 1)
-
--- how many have 1 to d of them
-abbrev pub listed_count : ℕ → ℕ → ℕ → ℕ
-listed_count q s zero = 0
-listed_count q s (suc d) = listed_count q s d + component_count q s (suc d)
 
 -- Components of one and two factors are listed, and those of as many as an effect that is named has.
 abbrev pub listed_factors : Goal → ℕ

@@ -1,7 +1,8 @@
 ghost use Rattle.std.specs.Prelude.{◌≡◌, ◌≤◌, true, min, nat_lt};
+ghost use Rattle.fx_designs.specs.Components.{listed_count};
 ghost use Rattle.fx_settings.specs.Settings.{is_level};
 ghost use Rattle.fx_statements.specs.Goals.{goal_of};
-ghost use Rattle.fx_statements.specs.Components.{check_components, components_asked, components_place, first_components, is_for_components, listed_count, listed_factors};
+ghost use Rattle.fx_statements.specs.Components.{check_components, components_asked, components_place, first_components, is_for_components, listed_factors};
 
 use crate::wanted::Wanted;
 use fx_language::Symbol;

@@ -18,7 +18,7 @@ use crate::wanted::{Wanted, wanted_by};
 use fx_base::Bytes;
 use fx_factors::factors_of;
 use fx_language::Symbol;
-use fx_outputs::{BlockCount, OutputContext, outputs};
+use fx_outputs::{BlockCount, EarlierNames, OutputContext, outputs};
 use fx_settings::{
     Blocks, Size, StepSaid, StepSettings, greatest, start_of, step_said, step_settings_of,
     unblocked_of,
@@ -35,7 +35,7 @@ use std::alloc::Global;
 /// of the blocks; E23 for a listing; those of each OUTPUT statement in order. And `NoMemory`.
 pub(crate) fn step_of(
     alloc: Global,
-    earlier: &mut Names,
+    earlier: &mut EarlierNames,
     statements: &[Statement<'_>],
 ) -> Result<Step, ParseStop>
     ensures step { IfOk result (λ step. step_of earlier.old statements.now ≡ Ok (meaning_of step)) }
@@ -50,7 +50,7 @@ pub(crate) fn step_of(
 
 fn step_by(
     alloc: Global,
-    earlier: &mut Names,
+    earlier: &mut EarlierNames,
     statements: &[Statement<'_>],
     named: &[Lexeme<'_>],
 ) -> Result<Step, ParseStop>

@@ -1,6 +1,7 @@
 //! Canonical prefixes: which lists of rows are, by which rows each is extended, and their order.
 #![tactic(auto)]
 
+mod candidates;
 mod extension;
 mod following;
 mod front;
@@ -10,8 +11,10 @@ mod prefix;
 #[cfg(test)]
 mod tests;
 
+pub use candidates::Candidates;
 pub use extension::{Points, children};
 pub use front::Front;
+pub use fx_points::PointSet;
 pub use fx_vectors::Mark;
 pub use laws::{
     canonical_without_the_last_row, no_rows_are_canonical, problems_are_trees, rows_that_follow,
