@@ -39,6 +39,10 @@ given_by number step (Some p) = step_given number step p
 abbrev pub step_output : ℕ → Meaning → Output
 step_output number step = given_by number step (problem_of step)
 
+-- the status of a step, whatever its number
+abbrev pub step_status : Meaning → ℕ
+step_status step = (step_output 1 step).status
+
 -- the greater of two statuses
 abbrev pub worse : ℕ → ℕ → ℕ
 worse a b = if nat_le a b then b else a

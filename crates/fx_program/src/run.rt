@@ -11,7 +11,7 @@ ghost use Rattle.fx_program.specs.Words.{settings_of};
 ghost use Rattle.fx_program.specs.Forms.{is_built};
 ghost use Rattle.fx_program.specs.Texts.{program_in};
 ghost use Rattle.fx_program.specs.Statuses.{status_of};
-ghost use Rattle.fx_program.specs.Claims.{NoDesignMeansNone};
+ghost use Rattle.fx_program.specs.Claims.{SomeHasNone};
 ghost use Rattle.fx_program.specs.Stops.{exit_status};
 ghost use Rattle.fx_program.specs.declared.stop.Stop.TheVariants as stop;
 ghost use Rattle.fx_program.specs.Output.{message, step_output, program_output, output_of, reads, worse, IsTextOf, world, Gives};
@@ -76,11 +76,10 @@ pub fn factex<S: Source, K: Sink, F: Shelf>(
     ensures refused { reads (settings_of (map (λ w. w.items) words.now)) ≡ false
         → (result ≡ 3) ⊎ (result ≡ 4) }
 
-    // Where a step of the text is told to have no design, no rule matrix at all meets what it asks.
-    ensures none_at_all { result < 4 → (text : List ℕ)
-        → reads (settings_of (map (λ w. w.items) words.now)) ≡ true
+    // Status 1 comes only where the runs of no rule matrix at all meet what some step of the text asks.
+    ensures none_at_all { result ≡ 1 → (text : List ℕ)
         → S.left source.old ≡ Some text
-        → NoDesignMeansNone (program_in text) }
+        → SomeHasNone (program_in text) }
 
     // A design, or that there is none, comes only with the source read to its end.
     ensures to_end { result < 3 → (text : List ℕ)
@@ -107,9 +106,9 @@ fn run<S: Source, K: Sink>(alloc: Global, source: &mut S, listing: &mut K) -> Re
         × (K.faults listing.new ≡ K.faults listing.old) }
     ensures rooms { (S.sure source.new ≡ S.sure source.old)
         × (K.room listing.new ≡ K.room listing.old) }
-    ensures none_at_all { exit_status result < 4 → (text : List ℕ)
+    ensures none_at_all { exit_status result ≡ 1 → (text : List ℕ)
         → S.left source.old ≡ Some text
-        → NoDesignMeansNone (program_in text) }
+        → SomeHasNone (program_in text) }
     ensures to_end { exit_status result < 3 → (text : List ℕ)
         → S.left source.old ≡ Some text
         → S.left source.new ≡ Some [] }

@@ -1,10 +1,12 @@
-use Rattle.std.proofs.Common.{◌≡◌, ◌<◌, ℕ, List, map, Ok, Err, length, sym, ap, ◌∙◌, refl}
+use Rattle.std.proofs.Common.{◌≡◌, ◌<◌, ℕ, List, map, Ok, Err, length, None, sym, ap, ◌∙◌, arith, refl}
 use Rattle.std.proofs.lemmas.Bool.{lt-ltb}
 use Rattle.fx_statements.specs.Steps.{meaning_of}
 use Rattle.fx_program.specs.Texts.{at_front, program_in}
-use Rattle.fx_program.specs.Output.{program_output}
+use Rattle.fx_base.specs.Acts.{World}
+use Rattle.fx_program.specs.Output.{Gives, program_output}
+use Rattle.fx_program.specs.Claims.{SomeHasNone}
 use Rattle.fx_program.proofs.Endings.{ends_by}
-use Rattle.fx_program.proofs.AnyText.{none_in_any_text}
+use Rattle.fx_program.proofs.Statuses.{none_where_one}
 use Rattle.fx_program.proofs.run.run.Goals as goal
 
 too_long : (text : List ℕ) → 1048576 < length text → program_in text ≡ Err (at_front 25)
@@ -30,11 +32,15 @@ returns-in-Err-Fault-clause-ends g c = λ text files e.
     let found = rw c.in-Err-Fault.field-0-is at c.in-Err-Fault.ensures.fault in
     ends_by _ _ _ (ap program_output (sym (ap program_in (c.as_slice.ensures ∙ read.all text e)) ∙ found)) (c.refuse-in-Err-Fault.ensures.ends files)
 
+-- the output of the text has the status of the call
+one_told : {a b : World} (text : List ℕ) (status : ℕ) → Gives (program_output (program_in text)) a b status → status ≡ 1 → SomeHasNone (program_in text)
+one_told text status given one = none_where_one text (sym (given.same (omega (arith, one))) ∙ one)
+
 pub returns-in-Ok-TooLong-clause-none_at_all : goal.returns-in-Ok-TooLong-clause-none_at_all
-returns-in-Ok-TooLong-clause-none_at_all g c = λ low text e. none_in_any_text text
+returns-in-Ok-TooLong-clause-none_at_all g c = λ one text e. one_told text _ (returns-in-Ok-TooLong-clause-ends g c text None e) one
 
 pub returns-in-Ok-clause-none_at_all : goal.returns-in-Ok-clause-none_at_all
-returns-in-Ok-clause-none_at_all g c = λ low text e. none_in_any_text text
+returns-in-Ok-clause-none_at_all g c = λ one text e. one_told text _ (returns-in-Ok-clause-ends g c text None e) one
 
 pub returns-in-Err-Fault-clause-none_at_all : goal.returns-in-Err-Fault-clause-none_at_all
-returns-in-Err-Fault-clause-none_at_all g c = λ low text e. none_in_any_text text
+returns-in-Err-Fault-clause-none_at_all g c = λ one text e. one_told text _ (returns-in-Err-Fault-clause-ends g c text None e) one
