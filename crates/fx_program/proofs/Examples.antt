@@ -26,8 +26,8 @@ use Rattle.fx_program.specs.Words.{settings_of}
 use Rattle.fx_program.specs.Refusals.{fault_line}
 use Rattle.fx_program.specs.Texts.{program_in, at_front}
 use Rattle.fx_program.specs.declared.text.TextFault.TheVariants.{Refused}
-use Rattle.fx_program.specs.Listing.{step_lines, rules}
-use Rattle.fx_program.specs.Output.{Output, message, output_of, IsTextOf, Ends, world}
+use Rattle.fx_alias.specs.Rules.{step_lines}
+use Rattle.fx_program.specs.Output.{Output, message, output_of, IsTextOf, Gives, world}
 
 -- what is given for the word `run` and a text
 given : List ℕ → Output
@@ -163,16 +163,6 @@ five_levels :
 unfolding given
 five_levels = refl
 
--- coefficients and products of up to nine levels; a row that is zero, and rows that all introduce a run index
-rules_of_rows :
-    (rules 7 3 (codes "A" ∷ codes "B" ∷ codes "C" ∷ codes "D" ∷ []) (1 ∷ 7 ∷ 49 ∷ 69 ∷ []) ≡ codes "  D = A^6*B^2*C\n")
-    × (rules 8 2 (codes "A" ∷ codes "B" ∷ codes "C" ∷ codes "D" ∷ []) (1 ∷ 8 ∷ 15 ∷ 12 ∷ []) ≡ codes "  C = A^7*B\n  D = A^4*B\n")
-    × (rules 9 2 (codes "A" ∷ codes "B" ∷ codes "C" ∷ codes "D" ∷ []) (1 ∷ 9 ∷ 17 ∷ 9 ∷ []) ≡ codes "  C = A^8*B\n  D = B\n")
-    × (rules 2 2 (codes "Speed" ∷ codes "Feed" ∷ codes "C" ∷ []) (1 ∷ 0 ∷ 2 ∷ []) ≡ codes "  Feed = 0\n")
-    × (rules 2 2 (codes "A" ∷ codes "B" ∷ []) (1 ∷ 2 ∷ []) ≡ codes "  none\n")
-unfolding digits
-rules_of_rows = (refl, refl, refl, refl, refl)
-
 -- three steps, of which the second needs more nodes than it is allowed, and the third has no design: the greatest
 -- status decides
 three_steps :
@@ -224,7 +214,7 @@ one_and_two = record {
 }
 
 -- a status below 4 comes with the whole output, a higher one with a prefix of it
-whole_output : Ends (message (1 ∷ 2 ∷ []) 1) (world (Some (7 ∷ [])) None) (world (Some (7 ∷ 1 ∷ 2 ∷ [])) None) 1
+whole_output : Gives (message (1 ∷ 2 ∷ []) 1) (world (Some (7 ∷ [])) None) (world (Some (7 ∷ 1 ∷ 2 ∷ [])) None) 1
 whole_output = record {
   same = λ low. refl;
   whole = λ low. one_and_two;

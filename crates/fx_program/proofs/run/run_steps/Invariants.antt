@@ -2,7 +2,7 @@ use Rattle.std.proofs.Common.{◌≡◌, ◌+◌, ◌<◌, [], map, drop}
 use Rattle.fx_statements.specs.Steps.{meaning_of}
 use Rattle.fx_program.specs.Output.{steps_output}
 use Rattle.fx_program.proofs.SoFar.{SoFar}
-use Rattle.fx_program.proofs.run.give_steps.Given as goal
+use Rattle.fx_program.proofs.run.run_steps.Given as goal
 
 abbrev pub invariant-loop-i : goal.invariant-loop-i
 invariant-loop-i g l =
