@@ -10,7 +10,7 @@ ghost use Rattle.fx_effects.specs.Expressions.{at_most, bars_at, expression_at, 
 use crate::range::range_at;
 use crate::stars::Stars;
 use fx_base::Bytes;
-use fx_language::Symbol;
+use fx_language::{Symbol, code};
 use fx_text::{Lexeme, ParseStop, Refusal, range_end};
 use fx_vectors::{Effect, Effects};
 use std::alloc::Global;
@@ -100,12 +100,12 @@ fn at_most(stars: &Effects, number: &Lexeme<'_>, n: Option<u128>) -> Result<u8, 
     ensures { result ≡ at_most (numbers_of stars.now) number.now n }
 {
     match n {
-        None => Err(number.refused(29)),
+        None => Err(number.refused(code::NUMBER_OUT_OF_RANGE)),
         Some(n) => {
             if has_within(stars, n) {
                 Ok(n.min(64) as u8)
             } else {
-                Err(number.refused(29))
+                Err(number.refused(code::NUMBER_OUT_OF_RANGE))
             }
         }
     }

@@ -6,13 +6,11 @@ ghost use Rattle.fx_effects.specs.Lists.{AreSmall, at_most_100000, effects_of};
 
 use crate::distinct::distinct;
 use crate::expression::Expression;
-use fx_demands::{EffectStop, bars, merged};
+use fx_demands::{EffectStop, MOST_EFFECTS, bars, merged};
+use fx_language::code;
 use fx_text::{Lexeme, ParseStop};
 use fx_vectors::Effects;
 use std::alloc::Global;
-
-/// The most effects of a list.
-const MOST_EFFECTS: usize = 100_000;
 
 /// The set of effects of a list after this word, in effect order.
 ///
@@ -33,7 +31,7 @@ pub(crate) fn list_of(
 {
     match effects_of(alloc, expressions) {
         Ok(effects) => Ok(effects),
-        Err(EffectStop::TooMany) => Err(ParseStop::Refused(word.refused(23))),
+        Err(EffectStop::TooMany) => Err(ParseStop::Refused(word.refused(code::TOO_MANY_EFFECTS))),
         Err(EffectStop::NoMemory) => Err(ParseStop::NoMemory),
     }
 }

@@ -9,6 +9,7 @@ ghost use Rattle.fx_effects.specs.Expressions.{range_at};
 use crate::expression::Expression;
 use crate::factor::main_effect;
 use fx_base::Bytes;
+use fx_language::code;
 use fx_text::{Lexeme, ParseStop, is_range, number_at_end, numbered_name, stem};
 use fx_vectors::Effects;
 use std::alloc::Global;
@@ -31,7 +32,7 @@ pub(crate) fn range_at(
 {
     let (low, high) = (first.text(), last.text());
     if !is_range(low, high) {
-        return Err(ParseStop::Refused(first.refused(30)));
+        return Err(ParseStop::Refused(first.refused(code::IRREGULAR_RANGE)));
     }
     let from = number_at_end(low);
     let upto = number_at_end(high);

@@ -10,7 +10,7 @@ ghost use Rattle.fx_factors.specs.Items.{before_slash, item};
 ghost use Rattle.fx_factors.specs.Factors.{added, are_known, factors_of, known_at};
 
 use fx_base::{Bytes, NoMemory};
-use fx_language::Symbol;
+use fx_language::{Symbol, code};
 use fx_text::{
     Lexeme, Names, ParseStop, is_range, number_at_end, numbered_name, place_of, range_end, stem,
 };
@@ -81,10 +81,10 @@ fn add_name(
     ensures bound { OnOk result (length names.new ≤ limit) }
 {
     if limit <= names.len() {
-        return Err(ParseStop::Refused(name.refused(10)));
+        return Err(ParseStop::Refused(name.refused(code::TOO_MANY_FACTORS)));
     }
     if place_of(name.text(), names.as_slice()).is_some() {
-        return Err(ParseStop::Refused(name.refused(5)));
+        return Err(ParseStop::Refused(name.refused(code::REPEATED_NAME)));
     }
     names.push(Bytes::from_slice(alloc, name.text())?)?;
     Ok(())
@@ -106,12 +106,12 @@ fn add_range(
 {
     let (low, high) = (first.text(), last.text());
     if !is_range(low, high) {
-        return Err(ParseStop::Refused(first.refused(30)));
+        return Err(ParseStop::Refused(first.refused(code::IRREGULAR_RANGE)));
     }
     let from = number_at_end(low);
     let upto = number_at_end(high);
     if (limit - names.len()) as u128 <= upto - from {
-        return Err(ParseStop::Refused(first.refused(10)));
+        return Err(ParseStop::Refused(first.refused(code::TOO_MANY_FACTORS)));
     }
     add_numbered(alloc, names, first, from, (upto - from + 1) as usize)
 }
@@ -138,7 +138,7 @@ fn add_numbered(
     for i in 0..count {
         let name = numbered_name(alloc, stem(first.text()), from + i as u128)?;
         if place_of(name.as_slice(), &names.as_slice()[..known]).is_some() {
-            return Err(ParseStop::Refused(first.refused(5)));
+            return Err(ParseStop::Refused(first.refused(code::REPEATED_NAME)));
         }
         names.push(name)?;
     }

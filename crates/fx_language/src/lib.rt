@@ -1,6 +1,7 @@
 //! The language of programs: its symbols, its grammar, and where the grammar refuses a text.
 #![tactic(auto)]
 
+pub mod code;
 mod keyword;
 mod laws;
 mod symbol;

@@ -13,7 +13,7 @@ use crate::recode::{Recodes, recodes};
 use crate::replication::{check_rows, replication};
 use crate::shuffle::{Shuffle, shuffle_asked};
 use fx_base::{Bytes, Items};
-use fx_language::Symbol;
+use fx_language::{Symbol, code};
 use fx_text::{Lexeme, Names, ParseStop, Statement};
 use std::alloc::Global;
 
@@ -129,5 +129,5 @@ fn add_name(alloc: Global, earlier: &mut EarlierNames, name: &Lexeme<'_>) -> Res
     if earlier.add(alloc, name.text())? {
         return Ok(());
     }
-    Err(ParseStop::Refused(name.refused(18)))
+    Err(ParseStop::Refused(name.refused(code::REPEATED_OUT_NAME)))
 }

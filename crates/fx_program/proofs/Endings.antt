@@ -1,5 +1,5 @@
 -- How a command ends: all was done, or it stopped.
-use Rattle.std.proofs.Common.{ℕ, ◌≡◌, ◌≤◌, List, Result, Ok, Err, refl, sym, subst, arith}
+use Rattle.std.proofs.Common.{ℕ, ◌≡◌, ◌≤◌, List, Option, Result, Ok, Err, refl, sym, subst, arith}
 use Rattle.std.specs.Prelude.{IsErr, IsErrAnd}
 use Rattle.fx_base.specs.Acts.{Piece, acts, acts_of, World, Did, DidPart}
 use Rattle.fx_base.proofs.Doing.{did_one, part_one, part_whole, part_none}
@@ -9,7 +9,7 @@ use Rattle.fx_program.specs.declared.words.WordFault.{WordFault}
 use Rattle.fx_program.specs.declared.stop.Stop.{Stop}
 use Rattle.fx_program.specs.declared.stop.Stop.TheVariants as stop
 use Rattle.fx_program.specs.Stops.{exit_status}
-use Rattle.fx_program.specs.Output.{Output, Gives, message, output_for, output_of}
+use Rattle.fx_program.specs.Output.{Output, Gives, Lists, message, output_for, output_of}
 
 -- a command that did all, and one that stopped
 pub ends_whole : {a b : World} (output : Output) (status : ℕ) → status ≡ output.status → Did a b (acts output.events) → Gives output a b status
@@ -48,3 +48,14 @@ pub ends_by_stop : {a b : World} (output : Output) (ended : Result ℕ Stop) (wh
     → Gives output a b (exit_status ended)
 ends_by_stop output (Ok status) why h p = absurd h
 ends_by_stop {a} {b} output (Err e) why h p = subst (λ (w : Stop). Gives output a b (exit_status (Err w))) (sym h) p
+
+-- the same of calls that have no shelf
+pub lists_by : {old new : Option (List ℕ)} (output same : Output) (status : ℕ) → output ≡ same → Lists same old new status → Lists output old new status
+lists_by {old} {new} output same status e p = subst (λ (o : Output). Lists o old new status) (sym e) p
+
+pub lists_none : {old : Option (List ℕ)} (output : Output) (ended : Result ℕ Stop) → IsErr ended → Lists output old old (exit_status ended)
+lists_none output ended h = record { whatever = λ files. ends_none output ended h }
+
+pub lists_by_stop : {old new : Option (List ℕ)} (output : Output) (ended : Result ℕ Stop) (why : Stop) → IsErrAnd ended (λ e. e ≡ why) → Lists output old new (exit_status (Err why))
+    → Lists output old new (exit_status ended)
+lists_by_stop output ended why h p = record { whatever = λ files. ends_by_stop output ended why h (p.whatever files) }

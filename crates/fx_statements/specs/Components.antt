@@ -2,8 +2,9 @@
 -- listings are too long.
 use Rattle.std.specs.Prelude.{ℕ, ◌||◌, nat_lt, min, max, Bool, List, [], ◌∷◌, Option, Some, None, Result, Ok, Err, if◌then◌else◌}
 use Rattle.fx_designs.specs.Components.{listed_count}
+use Rattle.fx_language.specs.declared.code.TheConstants.{TOO_MANY_EFFECTS}
 use Rattle.fx_text.specs.declared.refusal.Refusal.{Refusal}
-use Rattle.fx_text.specs.declared.refusal.Place.{Place}
+use Rattle.fx_lexer.specs.declared.place.Place.{Place}
 use Rattle.fx_text.specs.Written.{Written, begins}
 use Rattle.fx_text.specs.Refusals.{place_at, refused_at}
 use Rattle.fx_language.specs.declared.symbol.Symbol.TheVariants.{Aliasing, Blocked, Examine}
@@ -43,4 +44,4 @@ components_place (s ∷ statements) = place_or (components_asked s) (components_
 -- at most 100,000 components may be listed in a step of s factors, or E23 at the word that asks for them
 abbrev pub check_components : ℕ → ℕ → Goal → Option Place → Result (Unit {0}) Refusal
 check_components q s goal None = Ok tt
-check_components q s goal (Some place) = if nat_lt 100000 (listed_count q s (min s (listed_factors goal))) then Err (refused_at 23 place) else Ok tt
+check_components q s goal (Some place) = if nat_lt 100000 (listed_count q s (min s (listed_factors goal))) then Err (refused_at TOO_MANY_EFFECTS place) else Ok tt

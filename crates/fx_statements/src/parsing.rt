@@ -15,7 +15,7 @@ use fx_language::{Symbol, symbols};
 use fx_lexer::{Token, Tokens};
 use fx_outputs::EarlierNames;
 use fx_syntax::first_refusal;
-use fx_text::{ParseStop, Place, Statement, lexemes, statements};
+use fx_text::{ParseStop, Place, Refusal, Statement, lexemes, statements};
 use std::alloc::Global;
 
 /// The steps of a program, in order.
@@ -38,7 +38,7 @@ pub fn parse(alloc: Global, text: &[u8], tokens: &Tokens) -> Result<Program, Par
     let symbols = symbols(alloc, text, tokens)?;
     if let Some((code, at)) = first_refusal(symbols.as_slice()) {
         let place = place_in(text, tokens.as_slice().get(at));
-        return Err(ParseStop::Refused(place.refused(code)));
+        return Err(ParseStop::Refused(Refusal::at(place, code)));
     }
     let lexemes = lexemes(alloc, text, tokens, symbols.as_slice())?;
     let statements = statements(alloc, lexemes.as_slice())?;

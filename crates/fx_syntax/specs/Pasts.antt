@@ -1,5 +1,7 @@
 -- What a pass over symbols keeps of those that it has seen, so that it need not look back.
 use Rattle.std.specs.Prelude.{ℕ, ◌+◌, nat_le, not, ◌&&◌, ◌||◌, Bool, false, List, Option, Some, None, if◌then◌else◌}
+use Rattle.fx_language.specs.declared.code.TheConstants.{REPEATED_OPTION, REPEATED_STATEMENT, STATEMENT_AFTER_RUN, TOO_MANY_STEPS}
+use Rattle.fx_syntax.specs.declared.repeated.TheConstants.{MOST_STEPS}
 use Rattle.fx_language.specs.declared.symbol.Symbol.{Symbol}
 use Rattle.fx_language.specs.declared.symbol.Symbol.TheVariants.{Proc, Nodes, Run, Quit, Factors, Size, Model, Blocks, Output, Pointrep, Designrep, Randomize, Novalran, Blockname, Semicolon, Equals}
 use Rattle.fx_syntax.specs.declared.repeated.Past.{Past}
@@ -54,10 +56,10 @@ statement_has p s = false
 -- the code by which a rule refuses the symbol
 abbrev pub rule_of : Past → Symbol → Bool → Option ℕ
 rule_of p s factex_follows =
-    if p.start && is_once s && p.step.run then Some 27
-    else (if p.start && step_has p.step s then Some 26
-    else (if p.start && is Proc s && factex_follows && nat_le 100 p.procs then Some 32
-    else (if not p.behind_equals && statement_has p.statement s then Some 28
+    if p.start && is_once s && p.step.run then Some STATEMENT_AFTER_RUN
+    else (if p.start && step_has p.step s then Some REPEATED_STATEMENT
+    else (if p.start && is Proc s && factex_follows && nat_le MOST_STEPS p.procs then Some TOO_MANY_STEPS
+    else (if not p.behind_equals && statement_has p.statement s then Some REPEATED_OPTION
     else None)))
 
 -- whether the step has a statement that begins with this word, after one more symbol

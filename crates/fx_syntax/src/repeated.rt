@@ -2,7 +2,10 @@ ghost use Rattle.std.specs.Prelude.{◌≡◌, ◌≤◌, ◌<◌, ◌+◌, ◌^
 ghost use Rattle.fx_syntax.specs.Repeats.{begins_with, repeated};
 ghost use Rattle.fx_syntax.specs.Pasts.{begun_after, in_after, option_after, past_after, past_of, rule_of, statement_after, statement_has, step_after, step_has};
 
-use fx_language::Symbol;
+use fx_language::{Symbol, code};
+
+/// The most steps of a program.
+const MOST_STEPS: usize = 100;
 
 /// The first symbol that a rule on words that stand twice or too late refuses, with its code, and its
 /// index from 0.
@@ -97,16 +100,16 @@ impl Past {
         ensures { result ≡ rule_of self s factex_follows }
     {
         if self.start && s.is_once() && self.step.run {
-            return Some(27);
+            return Some(code::STATEMENT_AFTER_RUN);
         }
         if self.start && self.step.has(s) {
-            return Some(26);
+            return Some(code::REPEATED_STATEMENT);
         }
-        if self.start && Symbol::Proc.is(s) && factex_follows && 100 <= self.procs {
-            return Some(32);
+        if self.start && Symbol::Proc.is(s) && factex_follows && MOST_STEPS <= self.procs {
+            return Some(code::TOO_MANY_STEPS);
         }
         if !self.behind_equals && self.statement.has(s) {
-            return Some(28);
+            return Some(code::REPEATED_OPTION);
         }
         None
     }

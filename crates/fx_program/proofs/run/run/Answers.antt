@@ -2,10 +2,9 @@ use Rattle.std.proofs.Common.{◌≡◌, ◌<◌, ℕ, List, map, Ok, Err, lengt
 use Rattle.std.proofs.lemmas.Bool.{lt-ltb}
 use Rattle.fx_statements.specs.Steps.{meaning_of}
 use Rattle.fx_program.specs.Texts.{at_front, program_in}
-use Rattle.fx_base.specs.Acts.{World}
-use Rattle.fx_program.specs.Output.{Gives, program_output}
+use Rattle.fx_program.specs.Output.{Lists, program_output}
 use Rattle.fx_program.specs.Claims.{SomeHasNone}
-use Rattle.fx_program.proofs.Endings.{ends_by}
+use Rattle.fx_program.proofs.Endings.{lists_by}
 use Rattle.fx_program.proofs.Statuses.{none_where_one}
 use Rattle.fx_program.proofs.run.run.Goals as goal
 
@@ -13,34 +12,34 @@ too_long : (text : List ℕ) → 1048576 < length text → program_in text ≡ E
 unfolding program_in
 too_long text long = rw (lt-ltb 1048576 (length text) long) refl
 
-pub returns-in-Ok-TooLong-clause-ends : goal.returns-in-Ok-TooLong-clause-ends
-returns-in-Ok-TooLong-clause-ends g c = λ text files e.
+pub returns-in-Ok-TooLong-clause-output : goal.returns-in-Ok-TooLong-clause-output
+returns-in-Ok-TooLong-clause-output g c = λ text e.
     let read = rw c.in-Ok-TooLong.field-0-is at c.in-Ok-TooLong.ensures.answer in
-    ends_by _ _ _ (ap program_output (too_long text (read.told text e) ∙ ap Err (sym c.at_front.ensures))) (c.refuse.ensures.ends files)
+    lists_by _ _ _ (ap program_output (too_long text (read.told text e) ∙ ap Err (sym c.at_front.ensures))) c.refuse.ensures.output
 
-pub returns-in-Ok-clause-ends : goal.returns-in-Ok-clause-ends
-returns-in-Ok-clause-ends g c = λ text files e.
+pub returns-in-Ok-clause-output : goal.returns-in-Ok-clause-output
+returns-in-Ok-clause-output g c = λ text e.
     let read = rw c.in-Ok-Whole.field-0-is at c.in-Ok-Whole.ensures.answer in
-    ends_by _ _ _
+    lists_by _ _ _
     (ap program_output (sym (ap program_in (c.as_slice.ensures ∙ read.all text e)) ∙ c.in-Ok.ensures.program)
     ∙ ap (λ steps. program_output (Ok (map meaning_of steps))) (sym c.as_slice-in-Ok.ensures))
-    (c.give_steps.ensures.ends files)
+    c.run_steps.ensures.output
 
-pub returns-in-Err-Fault-clause-ends : goal.returns-in-Err-Fault-clause-ends
-returns-in-Err-Fault-clause-ends g c = λ text files e.
+pub returns-in-Err-Fault-clause-output : goal.returns-in-Err-Fault-clause-output
+returns-in-Err-Fault-clause-output g c = λ text e.
     let read = rw c.in-Ok-Whole.field-0-is at c.in-Ok-Whole.ensures.answer in
     let found = rw c.in-Err-Fault.field-0-is at c.in-Err-Fault.ensures.fault in
-    ends_by _ _ _ (ap program_output (sym (ap program_in (c.as_slice.ensures ∙ read.all text e)) ∙ found)) (c.refuse-in-Err-Fault.ensures.ends files)
+    lists_by _ _ _ (ap program_output (sym (ap program_in (c.as_slice.ensures ∙ read.all text e)) ∙ found)) c.refuse-in-Err-Fault.ensures.output
 
 -- the output of the text has the status of the call
-one_told : {a b : World} (text : List ℕ) (status : ℕ) → Gives (program_output (program_in text)) a b status → status ≡ 1 → SomeHasNone (program_in text)
-one_told text status given one = none_where_one text (sym (given.same (omega (arith, one))) ∙ one)
+one_told : {a b : Option (List ℕ)} (text : List ℕ) (status : ℕ) → Lists (program_output (program_in text)) a b status → status ≡ 1 → SomeHasNone (program_in text)
+one_told text status given one = none_where_one text (sym ((given.whatever None).same (omega (arith, one))) ∙ one)
 
 pub returns-in-Ok-TooLong-clause-none_at_all : goal.returns-in-Ok-TooLong-clause-none_at_all
-returns-in-Ok-TooLong-clause-none_at_all g c = λ one text e. one_told text _ (returns-in-Ok-TooLong-clause-ends g c text None e) one
+returns-in-Ok-TooLong-clause-none_at_all g c = λ one text e. one_told text _ (returns-in-Ok-TooLong-clause-output g c text e) one
 
 pub returns-in-Ok-clause-none_at_all : goal.returns-in-Ok-clause-none_at_all
-returns-in-Ok-clause-none_at_all g c = λ one text e. one_told text _ (returns-in-Ok-clause-ends g c text None e) one
+returns-in-Ok-clause-none_at_all g c = λ one text e. one_told text _ (returns-in-Ok-clause-output g c text e) one
 
 pub returns-in-Err-Fault-clause-none_at_all : goal.returns-in-Err-Fault-clause-none_at_all
-returns-in-Err-Fault-clause-none_at_all g c = λ one text e. one_told text _ (returns-in-Err-Fault-clause-ends g c text None e) one
+returns-in-Err-Fault-clause-none_at_all g c = λ one text e. one_told text _ (returns-in-Err-Fault-clause-output g c text e) one
