@@ -12,7 +12,7 @@ ghost use Rattle.fx_program.specs.Statuses.{status_of};
 ghost use Rattle.fx_program.specs.Claims.{SomeHasNone};
 ghost use Rattle.fx_program.specs.Stops.{HasCause, HasStatusCause, exit_status};
 ghost use Rattle.fx_program.specs.declared.stop.Stop.TheVariants as stop;
-ghost use Rattle.fx_program.specs.Output.{message, step_output, program_output, output_of, reads, worse, IsTextOf, world, Gives, Lists};
+ghost use Rattle.fx_program.specs.Output.{message, step_output, program_output, reads, worse, world, Lists, GivesForSome, ListsForSome};
 
 use crate::refusal::put_fault;
 use crate::stop::{REFUSED, Stop, exit_status};
@@ -50,10 +50,9 @@ pub fn factex<S: Source, K: Sink, F: Shelf>(
     requires { F.begun shelf.old ≡ false }
     ensures status_range { result ≤ 5 }
 
-    // With a status below 4 the output is exactly the defined one, else a prefix of it.
-    ensures output { (text : List ℕ)
-        → IsTextOf (bytes_of words.now) (S.left source.old) text
-        → Gives (output_of (bytes_of words.now) text)
+    // With a status below 4 the output is exactly the defined one, else a prefix of it: that of the text of
+    // the source, where the source exposes it, and of some text where it exposes nothing.
+    ensures output { GivesForSome (bytes_of words.now) (S.left source.old)
         (world (K.written listing.old) (F.files shelf.old))
         (world (K.written listing.new) (F.files shelf.new)) result }
     ensures cause { HasStatusCause
@@ -89,8 +88,7 @@ pub fn factex<S: Source, K: Sink, F: Shelf>(
 /// The command `run`.
 fn run<S: Source, K: Sink>(alloc: Global, source: &mut S, listing: &mut K) -> Result<u8, Stop>
     ensures status_range { IfOk result (λ status. status < 4) }
-    ensures output { (text : List ℕ) → S.left source.old ≡ Some text
-        → Lists (program_output (program_in text))
+    ensures output { ListsForSome (S.left source.old)
         (K.written listing.old) (K.written listing.new) (exit_status result) }
     ensures cause { HasCause (S.faults source.old ∷ K.faults listing.old ∷ [])
         (S.faults source.new ∷ K.faults listing.new ∷ []) result }
