@@ -133,7 +133,7 @@ third_of_three_levels :
 unfolding given
 third_of_three_levels = refl
 
--- the components of A*B cannot be told apart in three runs
+-- the components of A*B cannot be exposed apart in three runs
 components :
     given (codes "proc factex;factors A B / nlev=3;size design=3;model estimate=(A*B);") ≡ message (codes "step 1\nfactors 2 levels 3\nno design in 3 runs\nnodes 4\n") 1
 unfolding given
@@ -196,21 +196,21 @@ long_texts = (refl, refl)
 
 -- the text of a source that exposes it is that one, and no other; where the source is not read, each text serves
 text_of_a_source : (words : List (List ℕ)) (text : List ℕ) → IsTextOf words (Some text) text
-text_of_a_source words text = record { told = λ read. refl }
+text_of_a_source words text = record { exposed = λ read. refl }
 
 no_other_text : (text other : List ℕ) → IsTextOf (codes "run" ∷ []) (Some text) other → text ≡ other
 unfolding settings_of
-no_other_text text other is = cc (is.told refl)
+no_other_text text other is = cc (is.exposed refl)
 
 unread_source : (left : Option (List ℕ)) (text : List ℕ) → IsTextOf [] left text
 unfolding settings_of
-unread_source left text = record { told = λ read. absurd (false≢true read) }
+unread_source left text = record { exposed = λ read. absurd (false≢true read) }
 
 -- the two bytes are appended, and nothing is said of a shelf that exposes nothing
 one_and_two : Did (world (Some (7 ∷ [])) None) (world (Some (7 ∷ 1 ∷ 2 ∷ [])) None) (ListByte 1 ∷ ListByte 2 ∷ [])
 one_and_two = record {
-  listing = record { told = λ text e. ap (λ (o : Option (List ℕ)). option_map (λ (t : List ℕ). t ++ 1 ∷ 2 ∷ []) o) e };
-  shelf = record { told = λ files e. absurd (none-some files e) };
+  listing = record { exposed = λ text e. ap (λ (o : Option (List ℕ)). option_map (λ (t : List ℕ). t ++ 1 ∷ 2 ∷ []) o) e };
+  shelf = record { exposed = λ files e. absurd (none-some files e) };
 }
 
 -- a status below 4 comes with the whole output, a higher one with a prefix of it

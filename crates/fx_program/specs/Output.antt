@@ -71,7 +71,7 @@ reads (Ok (Run threads seed)) = true
 
 -- the text is all that the source had left; where the source is not read, any text serves
 pub record IsTextOf (words : List (List ℕ)) (left : Option (List ℕ)) (text : List ℕ) : Type 0 where
-  pub told : reads (settings_of words) ≡ true → left ≡ Some text
+  pub exposed : reads (settings_of words) ≡ true → left ≡ Some text
 
 -- what stands outside: the listing and the files
 abbrev pub world : Option (List ℕ) → Option (List File) → World

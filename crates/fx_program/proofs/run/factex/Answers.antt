@@ -19,7 +19,7 @@ returns-in-Ok-Run-clause-output g c = λ text is.
     let settings = c.in-Ok-Run.field-0 in
     rw c.exit_status.ensures
     (ends_for _ text (Ok settings) _ c.in-Ok-Run.ensures
-    (ends_by _ _ _ (run_output settings text) ((c.run.ensures.output text (is.told (ap reads (sym c.in-Ok-Run.ensures) ∙ run_reads settings))).whatever _)))
+    (ends_by _ _ _ (run_output settings text) ((c.run.ensures.output text (is.exposed (ap reads (sym c.in-Ok-Run.ensures) ∙ run_reads settings))).whatever _)))
 
 pub returns-in-Err-clause-output : goal.returns-in-Err-clause-output
 returns-in-Err-clause-output g c = λ text is.

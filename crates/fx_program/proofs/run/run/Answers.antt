@@ -14,7 +14,7 @@ too_long text long = rw (lt-ltb 1048576 (length text) long) refl
 pub returns-in-Ok-TooLong-clause-output : goal.returns-in-Ok-TooLong-clause-output
 returns-in-Ok-TooLong-clause-output g c = λ text e.
     let read = rw c.in-Ok-TooLong.field-0-is at c.in-Ok-TooLong.ensures.answer in
-    lists_by _ _ _ (ap program_output (too_long text (read.told text e) ∙ ap Err (sym c.at_front.ensures))) c.refuse.ensures.output
+    lists_by _ _ _ (ap program_output (too_long text (read.exposed text e) ∙ ap Err (sym c.at_front.ensures))) c.refuse.ensures.output
 
 pub returns-in-Ok-clause-output : goal.returns-in-Ok-clause-output
 returns-in-Ok-clause-output g c = λ text e.
