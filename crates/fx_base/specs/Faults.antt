@@ -13,7 +13,7 @@ Rose before now = raised before ≤ now
 pub record HasCause {T E : Type 0} (before now : ℕ) (result : Result T E) : Type 0 where
   pub later : before ≤ now
   pub failed : OnErr result (Rose before now)
-  pub kept : OnOk result (now ≡ before)
+  pub unchanged : OnOk result (now ≡ before)
 
 -- what the object exposed of its content is unchanged; nothing is said where it exposed nothing
 pub record IsUnchanged {T : Type 0} (old new : Option T) : Type 0 where

@@ -121,7 +121,7 @@ impl Shelf for MemoryShelf {
         ensures state { OnOk result (has_open self.new.files ≡ true) }
         ensures failed { OnErr result (IsUnchanged (Some self.old.files) (Some self.new.files)) }
         ensures cause { HasCause self.old.faults self.new.faults result }
-        ensures kept { sure_room self.new.failing self.new.room
+        ensures unchanged { sure_room self.new.failing self.new.room
             ≡ sure_room self.old.failing self.old.room }
 
         ensures full { IsErr result
@@ -155,7 +155,7 @@ impl Shelf for MemoryShelf {
         ensures state { OnOk result (has_open self.new.files ≡ true) }
         ensures failed { OnErr result (IsUnchanged (Some self.old.files) (Some self.new.files)) }
         ensures cause { HasCause self.old.faults self.new.faults result }
-        ensures kept { sure_room self.new.failing self.new.room
+        ensures unchanged { sure_room self.new.failing self.new.room
             ≡ sure_room self.old.failing self.old.room }
 
         ensures full { IsErr result
@@ -190,7 +190,7 @@ impl Shelf for MemoryShelf {
         ensures state { OnOk result (has_open self.new.files ≡ false) }
         ensures failed { OnErr result (IsUnchanged (Some self.old.files) (Some self.new.files)) }
         ensures cause { HasCause self.old.faults self.new.faults result }
-        ensures kept { sure_room self.new.failing self.new.room
+        ensures unchanged { sure_room self.new.failing self.new.room
             ≡ sure_room self.old.failing self.old.room }
 
         ensures listed { IsErr result ↔ IsListed self.old.failing self.old.made }

@@ -91,7 +91,7 @@ impl Sink for MemorySink {
             Appends (Some self.old.written) (Some self.new.written) (take n piece.now)) }
         ensures failed { OnErr result (IsUnchanged (Some self.old.written) (Some self.new.written)) }
         ensures cause { HasCause self.old.faults self.new.faults result }
-        ensures kept { sure_room self.new.failing self.new.room
+        ensures unchanged { sure_room self.new.failing self.new.room
             ≡ sure_room self.old.failing self.old.room }
 
         ensures full { IsErr result

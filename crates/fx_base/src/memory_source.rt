@@ -69,7 +69,7 @@ impl Source for MemorySource {
             Takes (Some self.old.left) (Some self.new.left) to.new n) }
         ensures failed { OnErr result (IsUnchanged (Some self.old.left) (Some self.new.left)) }
         ensures cause { HasCause self.old.faults self.new.faults result }
-        ensures kept { none_listed self.new.failing ≡ none_listed self.old.failing }
+        ensures unchanged { none_listed self.new.failing ≡ none_listed self.old.failing }
 
         ensures listed { IsErr result ↔ IsListed self.old.failing self.old.made }
         ensures count { IfOk result (λ n.

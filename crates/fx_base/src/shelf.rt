@@ -6,7 +6,7 @@ use crate::failed::Failed;
 
 /// Files that are made one after another.
 pub trait Shelf {
-    /// The files, where the shelf tells them.
+    /// The files, if the shelf exposes them.
     ghost files: { Self → Option (List File) };
 
     /// Whether a file is begun and not ended.
@@ -27,9 +27,9 @@ pub trait Shelf {
         ensures state { OnOk result (begun self.new ≡ true) }
         ensures failed { OnErr result (IsUnchanged (files self.old) (files self.new)) }
         ensures cause { HasCause (faults self.old) (faults self.new) result }
-        ensures kept { room self.new ≡ room self.old };
+        ensures unchanged { room self.new ≡ room self.old };
 
-    /// Appends bytes of the front of the piece to the file that is begun, and answers how many: at
+    /// Appends bytes of the front of the piece to the file that is begun, and returns how many: at
     /// least one of a nonempty piece.
     fn write(&mut self, piece: &[u8]) -> Result<usize, Failed>
         requires { begun self.old ≡ true }
@@ -40,7 +40,7 @@ pub trait Shelf {
         ensures state { OnOk result (begun self.new ≡ true) }
         ensures failed { OnErr result (IsUnchanged (files self.old) (files self.new)) }
         ensures cause { HasCause (faults self.old) (faults self.new) result }
-        ensures kept { room self.new ≡ room self.old };
+        ensures unchanged { room self.new ≡ room self.old };
 
     /// Ends the file that is begun.
     fn end(&mut self) -> Result<(), Failed>
@@ -49,5 +49,5 @@ pub trait Shelf {
         ensures state { OnOk result (begun self.new ≡ false) }
         ensures failed { OnErr result (IsUnchanged (files self.old) (files self.new)) }
         ensures cause { HasCause (faults self.old) (faults self.new) result }
-        ensures kept { room self.new ≡ room self.old };
+        ensures unchanged { room self.new ≡ room self.old };
 }

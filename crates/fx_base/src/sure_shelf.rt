@@ -110,7 +110,7 @@ impl Shelf for SureShelf {
         ensures state { OnOk result (has_open self.new.files ≡ true) }
         ensures failed { OnErr result (IsUnchanged (Some self.old.files) (Some self.new.files)) }
         ensures cause { HasCause self.old.faults self.new.faults result }
-        ensures kept { Some self.new.room ≡ Some self.old.room }
+        ensures unchanged { Some self.new.room ≡ Some self.old.room }
 
         ensures full { IsErr result ↔ (self.old.room < room_of self.old.files + 64) }
         ensures after { OnOk result
@@ -136,7 +136,7 @@ impl Shelf for SureShelf {
         ensures state { OnOk result (has_open self.new.files ≡ true) }
         ensures failed { OnErr result (IsUnchanged (Some self.old.files) (Some self.new.files)) }
         ensures cause { HasCause self.old.faults self.new.faults result }
-        ensures kept { Some self.new.room ≡ Some self.old.room }
+        ensures unchanged { Some self.new.room ≡ Some self.old.room }
 
         ensures full { IsErr result
             ↔ ((0 < length piece.now) × (room_of self.old.files ≡ self.old.room)) }
@@ -165,7 +165,7 @@ impl Shelf for SureShelf {
         ensures state { OnOk result (has_open self.new.files ≡ false) }
         ensures failed { OnErr result (IsUnchanged (Some self.old.files) (Some self.new.files)) }
         ensures cause { HasCause self.old.faults self.new.faults result }
-        ensures kept { Some self.new.room ≡ Some self.old.room }
+        ensures unchanged { Some self.new.room ≡ Some self.old.room }
 
         ensures never { IsOk result }
         ensures after { self.new

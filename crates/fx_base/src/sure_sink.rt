@@ -85,7 +85,7 @@ impl Sink for SureSink {
             Appends (Some self.old.written) (Some self.new.written) (take n piece.now)) }
         ensures failed { OnErr result (IsUnchanged (Some self.old.written) (Some self.new.written)) }
         ensures cause { HasCause self.old.faults self.new.faults result }
-        ensures kept { Some self.new.room ≡ Some self.old.room }
+        ensures unchanged { Some self.new.room ≡ Some self.old.room }
 
         ensures full { IsErr result
             ↔ ((0 < length piece.now) × (length self.old.written ≡ self.old.room)) }

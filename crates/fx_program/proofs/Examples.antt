@@ -196,14 +196,14 @@ long_texts = (refl, refl)
 -- the two bytes are appended, and nothing is said of a shelf that exposes nothing
 one_and_two : Did (world (Some (7 ∷ [])) None) (world (Some (7 ∷ 1 ∷ 2 ∷ [])) None) (ListByte 1 ∷ ListByte 2 ∷ [])
 one_and_two = record {
-  listing = record { told = λ text e. ap (λ (o : Option (List ℕ)). option_map (λ (t : List ℕ). t ++ 1 ∷ 2 ∷ []) o) e };
-  shelf = record { told = λ files e. absurd (none-some files e) };
+  listing = record { exposed = λ text e. ap (λ (o : Option (List ℕ)). option_map (λ (t : List ℕ). t ++ 1 ∷ 2 ∷ []) o) e };
+  shelf = record { exposed = λ files e. absurd (none-some files e) };
 }
 
 nothing_done : Did (world (Some []) None) (world (Some []) None) []
 nothing_done = record {
-  listing = record { told = λ text e. ap (λ (o : Option (List ℕ)). option_map (λ (t : List ℕ). t ++ []) o) e };
-  shelf = record { told = λ files e. absurd (none-some files e) };
+  listing = record { exposed = λ text e. ap (λ (o : Option (List ℕ)). option_map (λ (t : List ℕ). t ++ []) o) e };
+  shelf = record { exposed = λ files e. absurd (none-some files e) };
 }
 
 -- a status below 4 comes with the whole output, a higher one with a prefix of it

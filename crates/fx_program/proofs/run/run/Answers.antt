@@ -22,7 +22,7 @@ over_limit left = unwrap_or left (replicate 1048577 0)
 is_over_limit : (left : Option (List ℕ)) → IsOverLimit left 1048576 → 1048576 < length (over_limit left)
 unfolding over_limit
 is_over_limit None over = subst (λ (n : ℕ). 1048576 < n) (sym (length-replicate {A = ℕ} 1048577 0)) (omega arith)
-is_over_limit (Some text) over = over.told text refl
+is_over_limit (Some text) over = over.exposed text refl
 
 same_over_limit : (left : Option (List ℕ)) (known : List ℕ) → left ≡ Some known → known ≡ over_limit left
 unfolding over_limit
