@@ -1,8 +1,27 @@
--- Rules of designs, computed from their rows.
-use Rattle.std.proofs.Common.{◌≡◌, [], ◌∷◌, refl}
+-- Lines of a listing.
+use Rattle.std.proofs.Common.{◌≡◌, ℕ, List, [], ◌∷◌, refl}
 use Rattle.std.specs.Prelude.{codes}
 use Rattle.std.specs.Fmt.{digits}
+use Rattle.fx_designs.specs.Outcomes.{Design, NoDesign, BudgetEnded}
+use Rattle.fx_alias.specs.Heads.{head_lines}
+use Rattle.fx_alias.specs.Products.{product}
 use Rattle.fx_alias.specs.Rules.{rules}
+
+-- the step's number, the factors and their levels, and how the search ended
+heads :
+    (head_lines 12 40 3 4 (Design (1 ∷ 3 ∷ []) 100) ≡ codes "step 12\nfactors 40 levels 3\ndesign 81 runs\nnodes 100\n")
+    × (head_lines 1 2 4 5 (NoDesign 7) ≡ codes "step 1\nfactors 2 levels 4\nno design in 1024 runs\nnodes 7\n")
+    × (head_lines 100 3 9 1 (BudgetEnded 5000000) ≡ codes "step 100\nfactors 3 levels 9\nbudget ended after 5000000 nodes\n")
+unfolding digits
+heads = (refl, refl, refl)
+
+-- names in the order of the factors, each with its coefficient unless that is 1
+products :
+    (product (codes "A" ∷ codes "Bc" ∷ codes "D" ∷ []) (1 ∷ 0 ∷ 8 ∷ []) ≡ codes "A*D^8")
+    × (product (codes "A" ∷ codes "Bc" ∷ codes "D" ∷ []) (2 ∷ 3 ∷ 1 ∷ []) ≡ codes "A^2*Bc^3*D")
+    × (product (codes "A" ∷ codes "Bc" ∷ codes "D" ∷ []) (0 ∷ 0 ∷ 0 ∷ []) ≡ codes "0")
+unfolding digits
+products = (refl, refl, refl)
 
 -- coefficients and products of up to nine levels; a row that is zero, and rows that all introduce a run index
 rules_of_rows :

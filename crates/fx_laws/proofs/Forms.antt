@@ -1,12 +1,15 @@
 -- Formed rows, each 0 or normal, are canonical.
 use Rattle.std.proofs.Common.{ℕ, ◌≡◌, ◌<◌, ◌≤◌, ◌+◌, ◌-◌, min, zero, suc, Bool, true, false, cond, eqb, List, [], ◌∷◌, ◌++◌, map, length, take, append_assoc, refl, sym, subst, ◌∙◌, ap, arith, inl, inr, ◌⊎◌}
+use Rattle.std.specs.Prelude.{nat_lt}
 use Rattle.std.specs.List.{AllByRecursion}
 use Rattle.std.proofs.lemmas.List.{append-nil}
 use Rattle.std.proofs.lemmas.List.{take-append-le}
 use Rattle.std.proofs.lemmas.List.Elements.{All-get_or, All-from_recursion}
 use Rattle.std.proofs.lemmas.Bool.{cases_eq, eq-eqb, ne_eqb}
+use Rattle.std.proofs.lemmas.Bool.Decides.{nat_tests}
+use Rattle.std.proofs.lemmas.List.Sums.{sum_by-cons}
 use Rattle.fx_designs.specs.Galois.{mul, inv, IsField}
-use Rattle.fx_designs.specs.Vectors.{dot, scale, zeros, IsVector, last_nonzero}
+use Rattle.fx_designs.specs.Vectors.{dot, scale, zeros, IsVector, weight, last_nonzero}
 use Rattle.fx_laws.specs.Facts.{IsNormal}
 use Rattle.fx_designs.specs.Spans.{in_span, rank_after, rank_of}
 use Rattle.fx_laws.specs.Changes.{unit, IsShort, IsFormedTo}
@@ -35,6 +38,20 @@ last-code q f (a ∷ r) h =
     elim (cases_eq (last_nonzero r) 0) [
       | inl e ↦ rw (eq-eqb _ _ e) h.0
       | inr ne ↦ rw (ne_eqb _ _ ne) (last-code q f r h.1)
+    ]
+
+-- a vector that is not zero has a last nonzero code
+pub last_nonzero-positive : (v : List ℕ) → 0 < weight v → 0 < last_nonzero v
+last_nonzero-positive [] some = absurd (omega arith)
+last_nonzero-positive (a ∷ v) some =
+    let parts = sum_by-cons (λ c. cond (nat_lt 0 c) 1 0) a v in
+    elim (cases_eq (last_nonzero v) 0) [
+      | inl e ↦
+          rw (eq-eqb _ _ e) (elim (cases_eq (weight v) 0) [
+            | inl none ↦ let one : 0 < cond (nat_lt 0 a) 1 0 = omega arith in grind (arith, nat_tests)
+            | inr more ↦ absurd (omega (arith, last_nonzero-positive v (omega arith)))
+          ])
+      | inr ne ↦ rw (ne_eqb _ _ ne) (omega arith)
     ]
 
 -- the last nonzero code of a multiple

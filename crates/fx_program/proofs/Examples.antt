@@ -1,11 +1,10 @@
 -- Words and texts, with all that is given for them: the definitions, computed from the bytes of a text to those of its listing.
-use Rattle.std.proofs.Common.{◌≡◌, ℕ, List, [], ◌∷◌, ◌++◌, Option, Some, None, false, true, ap, refl}
-use Rattle.std.proofs.lemmas.Bool.{false≢true}
+use Rattle.std.proofs.Common.{◌≡◌, ℕ, List, [], ◌∷◌, ◌++◌, Option, Some, None, ap, refl}
 use Rattle.std.proofs.lemmas.Option.{none-some}
 use Rattle.std.specs.Prelude.{codes}
 use Rattle.std.specs.Fmt.{digits}
 use Rattle.std.specs.Option.{option_map}
-use Rattle.fx_base.specs.Acts.{Piece, ListByte, Did}
+use Rattle.fx_base.specs.Acts.{Piece, ListByte, Did, World}
 use Rattle.fx_designs.specs.Galois.{prime_of, degree_of, reduction_of, add, mul, neg, inv}
 use Rattle.fx_designs.specs.Runs.{runs_of, is_constant, is_balanced}
 use Rattle.fx_designs.specs.Spans.{in_span}
@@ -22,12 +21,12 @@ use Rattle.fx_settings.specs.Settings.{levels_of, budget_of}
 use Rattle.fx_demands.specs.Bars.{bars_of}
 use Rattle.fx_vectors.specs.Effects.{factors_of}
 use Rattle.fx_statements.specs.Programs.{program_of}
+use Rattle.fx_alias.specs.Rules.{step_lines}
 use Rattle.fx_program.specs.Words.{settings_of}
 use Rattle.fx_program.specs.Refusals.{fault_line}
 use Rattle.fx_program.specs.Texts.{program_in, at_front}
 use Rattle.fx_program.specs.declared.text.TextFault.TheVariants.{Refused}
-use Rattle.fx_alias.specs.Rules.{step_lines}
-use Rattle.fx_program.specs.Output.{Output, message, output_of, IsTextOf, Gives, world}
+use Rattle.fx_program.specs.Output.{Output, message, output_of, Gives, GivesForSome, world}
 
 -- what is given for the word `run` and a text
 given : List ℕ → Output
@@ -133,7 +132,7 @@ third_of_three_levels :
 unfolding given
 third_of_three_levels = refl
 
--- the components of A*B cannot be exposed apart in three runs
+-- the components of A*B cannot be told apart in three runs
 components :
     given (codes "proc factex;factors A B / nlev=3;size design=3;model estimate=(A*B);") ≡ message (codes "step 1\nfactors 2 levels 3\nno design in 3 runs\nnodes 4\n") 1
 unfolding given
@@ -194,22 +193,16 @@ long_texts :
 unfolding digits
 long_texts = (refl, refl)
 
--- the text of a source that exposes it is that one, and no other; where the source is not read, each text serves
-text_of_a_source : (words : List (List ℕ)) (text : List ℕ) → IsTextOf words (Some text) text
-text_of_a_source words text = record { exposed = λ read. refl }
-
-no_other_text : (text other : List ℕ) → IsTextOf (codes "run" ∷ []) (Some text) other → text ≡ other
-unfolding settings_of
-no_other_text text other is = cc (is.exposed refl)
-
-unread_source : (left : Option (List ℕ)) (text : List ℕ) → IsTextOf [] left text
-unfolding settings_of
-unread_source left text = record { exposed = λ read. absurd (false≢true read) }
-
 -- the two bytes are appended, and nothing is said of a shelf that exposes nothing
 one_and_two : Did (world (Some (7 ∷ [])) None) (world (Some (7 ∷ 1 ∷ 2 ∷ [])) None) (ListByte 1 ∷ ListByte 2 ∷ [])
 one_and_two = record {
   listing = record { exposed = λ text e. ap (λ (o : Option (List ℕ)). option_map (λ (t : List ℕ). t ++ 1 ∷ 2 ∷ []) o) e };
+  shelf = record { exposed = λ files e. absurd (none-some files e) };
+}
+
+nothing_done : Did (world (Some []) None) (world (Some []) None) []
+nothing_done = record {
+  listing = record { exposed = λ text e. ap (λ (o : Option (List ℕ)). option_map (λ (t : List ℕ). t ++ []) o) e };
   shelf = record { exposed = λ files e. absurd (none-some files e) };
 }
 
@@ -219,4 +212,22 @@ whole_output = record {
   same = λ low. refl;
   whole = λ low. one_and_two;
   part = record { done = ListByte 1 ∷ ListByte 2 ∷ []; left = []; front = refl; did = one_and_two };
+}
+
+-- where the source exposes its text, the output is that of this text, and of no other
+own_text : (left : List ℕ) (old new : World) (status : ℕ) (some : GivesForSome (codes "run" ∷ []) (Some left) old new status) → left ≡ some.text
+unfolding settings_of
+own_text left old new status some = some.exposed refl left refl
+
+-- a source without a text, of which nothing is listed; and one that exposes nothing
+empty_source : (left : Option (List ℕ)) → ((known : List ℕ) → left ≡ Some known → known ≡ []) → GivesForSome (codes "run" ∷ []) left (world (Some []) None) (world (Some []) None) 0
+unfolding given
+empty_source left none = record {
+  text = [];
+  exposed = λ read. none;
+  gives = record {
+    same = λ low. refl;
+    whole = λ low. nothing_done;
+    part = record { done = []; left = []; front = refl; did = nothing_done };
+  };
 }

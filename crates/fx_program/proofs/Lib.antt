@@ -6,3 +6,4 @@ mod SoFar
 mod Given
 mod None
 mod AnyText
+mod Statuses

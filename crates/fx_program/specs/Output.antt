@@ -39,6 +39,10 @@ given_by number step (Some p) = step_given number step p
 abbrev pub step_output : ℕ → Meaning → Output
 step_output number step = given_by number step (problem_of step)
 
+-- the status of a step, whatever its number
+abbrev pub step_status : Meaning → ℕ
+step_status step = (step_output 1 step).status
+
 -- the greater of two statuses
 abbrev pub worse : ℕ → ℕ → ℕ
 worse a b = if nat_le a b then b else a
@@ -69,10 +73,6 @@ abbrev pub reads : Result Settings WordFault → Bool
 reads (Err fault) = false
 reads (Ok (Run threads seed)) = true
 
--- the text is all that the source had left; where the source is not read, any text serves
-pub record IsTextOf (words : List (List ℕ)) (left : Option (List ℕ)) (text : List ℕ) : Type 0 where
-  pub exposed : reads (settings_of words) ≡ true → left ≡ Some text
-
 -- what stands outside: the listing and the files
 abbrev pub world : Option (List ℕ) → Option (List File) → World
 world written files = record { written = written; files = files }
@@ -87,3 +87,16 @@ pub record Gives (output : Output) (old new : World) (status : ℕ) : Type 0 whe
 -- the same of a call that has no shelf: whatever files there are, they stay as they are
 pub record Lists (output : Output) (old new : Option (List ℕ)) (status : ℕ) : Type 0 where
   pub whatever : (files : Option (List File)) → Gives output (world old files) (world new files) status
+
+-- What is given for some text: that of the source, where the source is read and exposes it. A source that exposes nothing had some
+-- text all the same.
+pub record GivesForSome (words : List (List ℕ)) (left : Option (List ℕ)) (old new : World) (status : ℕ) : Type 0 where
+  pub text : List ℕ
+  pub exposed : reads (settings_of words) ≡ true → (known : List ℕ) → left ≡ Some known → known ≡ text
+  pub gives : Gives (output_of words text) old new status
+
+-- the same of the command `run`, which has no shelf
+pub record ListsForSome (left old new : Option (List ℕ)) (status : ℕ) : Type 0 where
+  pub text : List ℕ
+  pub exposed : (known : List ℕ) → left ≡ Some known → known ≡ text
+  pub lists : Lists (program_output (program_in text)) old new status

@@ -1,4 +1,4 @@
-ghost use Rattle.std.specs.Prelude.{◌≡◌, ◌↔◌, ◌<◌, ◌≤◌, List, ℕ, Some, false, length, IsTrue};
+ghost use Rattle.std.specs.Prelude.{◌≡◌, ◌↔◌, ◌<◌, ◌≤◌, List, ℕ, Some, Ok, false, length, IsTrue};
 ghost use Rattle.fx_designs.specs.Galois.{is_order};
 ghost use Rattle.fx_designs.specs.Matrices.{NoneMeets};
 ghost use Rattle.fx_reduction.specs.Reduction.{IsReducible};
@@ -11,8 +11,8 @@ ghost use Rattle.fx_answer.specs.Questions.{problem_of};
 ghost use Rattle.fx_program.specs.Texts.{program_in};
 ghost use Rattle.fx_designs.specs.Outcomes.{Design, NoDesign};
 ghost use Rattle.fx_alias.specs.Rules.{step_lines};
-ghost use Rattle.fx_program.specs.Output.{message, step_output};
-ghost use Rattle.fx_program.specs.Claims.{NoDesignMeansNone};
+ghost use Rattle.fx_program.specs.Output.{message, program_output, step_output};
+ghost use Rattle.fx_program.specs.Claims.{IsGreatest, NoDesignMeansNone};
 
 /// What is given for a step of a form that is built, where the nodes of its problem are within its
 /// budget: status 0 and the lines of the first design of the canonical list that meets its demands,
@@ -63,4 +63,10 @@ pub fn no_design_means_none_at_all()
 /// matrix at all meet what it asks.
 pub fn no_design_in_any_text()
     ensures { (text : List ℕ) → NoDesignMeansNone (program_in text) }
+{}
+
+/// What the status of a program says: 0 that each step has a design or that there is no step, 1 that
+/// some step has none and no budget ended, 2 that the budget of some step ended.
+pub fn greatest_status_decides()
+    ensures { (steps : List Meaning) → IsGreatest (program_output (Ok steps)).status steps }
 {}

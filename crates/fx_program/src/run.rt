@@ -9,10 +9,10 @@ ghost use Rattle.fx_program.specs.Words.{bytes_of, settings_of};
 ghost use Rattle.fx_program.specs.Forms.{is_built};
 ghost use Rattle.fx_program.specs.Texts.{program_in};
 ghost use Rattle.fx_program.specs.Statuses.{status_of};
-ghost use Rattle.fx_program.specs.Claims.{NoDesignMeansNone};
+ghost use Rattle.fx_program.specs.Claims.{SomeHasNone};
 ghost use Rattle.fx_program.specs.Stops.{HasCause, HasStatusCause, exit_status};
 ghost use Rattle.fx_program.specs.declared.stop.Stop.TheVariants as stop;
-ghost use Rattle.fx_program.specs.Output.{message, step_output, program_output, output_of, reads, worse, IsTextOf, world, Gives, Lists};
+ghost use Rattle.fx_program.specs.Output.{message, step_output, program_output, reads, worse, world, Lists, GivesForSome, ListsForSome};
 
 use crate::refusal::put_fault;
 use crate::stop::{REFUSED, Stop, exit_status};
@@ -50,10 +50,9 @@ pub fn factex<S: Source, K: Sink, F: Shelf>(
     requires { F.begun shelf.old ≡ false }
     ensures status_range { result ≤ 5 }
 
-    // With a status below 4 the output is exactly the defined one, else a prefix of it.
-    ensures output { (text : List ℕ)
-        → IsTextOf (bytes_of words.now) (S.left source.old) text
-        → Gives (output_of (bytes_of words.now) text)
+    // With a status below 4 the output is exactly the defined one, else a prefix of it: that of the text of
+    // the source, where the source exposes it, and of some text where it exposes nothing.
+    ensures output { GivesForSome (bytes_of words.now) (S.left source.old)
         (world (K.written listing.old) (F.files shelf.old))
         (world (K.written listing.new) (F.files shelf.new)) result }
     ensures cause { HasStatusCause
@@ -70,11 +69,10 @@ pub fn factex<S: Source, K: Sink, F: Shelf>(
     ensures refused { reads (settings_of (bytes_of words.now)) ≡ false
         → (result ≡ 3) ⊎ (result ≡ 4) }
 
-    // Where a step of the text ends without a design, no rule matrix at all meets what it asks.
-    ensures none_at_all { result < 4 → (text : List ℕ)
-        → reads (settings_of (bytes_of words.now)) ≡ true
+    // Status 1 comes only where the runs of no rule matrix at all meet what some step of the text asks.
+    ensures none_at_all { result ≡ 1 → (text : List ℕ)
         → S.left source.old ≡ Some text
-        → NoDesignMeansNone (program_in text) }
+        → SomeHasNone (program_in text) }
 
     // The statuses of steps come only with the source read to its end.
     ensures read_to_end { result < 3 → (text : List ℕ)
@@ -90,16 +88,15 @@ pub fn factex<S: Source, K: Sink, F: Shelf>(
 /// The command `run`.
 fn run<S: Source, K: Sink>(alloc: Global, source: &mut S, listing: &mut K) -> Result<u8, Stop>
     ensures status_range { IfOk result (λ status. status < 4) }
-    ensures output { (text : List ℕ) → S.left source.old ≡ Some text
-        → Lists (program_output (program_in text))
+    ensures output { ListsForSome (S.left source.old)
         (K.written listing.old) (K.written listing.new) (exit_status result) }
     ensures cause { HasCause (S.faults source.old ∷ K.faults listing.old ∷ [])
         (S.faults source.new ∷ K.faults listing.new ∷ []) result }
     ensures rooms { (S.sure source.new ≡ S.sure source.old)
         × (K.room listing.new ≡ K.room listing.old) }
-    ensures none_at_all { exit_status result < 4 → (text : List ℕ)
+    ensures none_at_all { exit_status result ≡ 1 → (text : List ℕ)
         → S.left source.old ≡ Some text
-        → NoDesignMeansNone (program_in text) }
+        → SomeHasNone (program_in text) }
     ensures read_to_end { exit_status result < 3 → (text : List ℕ)
         → S.left source.old ≡ Some text
         → S.left source.new ≡ Some [] }

@@ -61,7 +61,7 @@ const HALF_LISTING: &str =
     "step 1\nfactors 4 levels 2\ndesign 8 runs\nnodes 4\nrules\n  D = A*B*C\n";
 
 /// Each text with its listing and status.
-const PROGRAMS: [(&str, &str, u8); 17] = [
+const PROGRAMS: [(&str, &str, u8); 27] = [
     (HALF, HALF_LISTING, 0),
     (
         "PROC Factex ;factors A B C D E;\tsize\ndesign = 8;model res=4;run;",
@@ -97,6 +97,56 @@ const PROGRAMS: [(&str, &str, u8); 17] = [
         "proc factex;factors A B C D E / nlev=3;size design=9;model resolution=3;",
         "step 1\nfactors 5 levels 3\nno design in 9 runs\nnodes 5\n",
         1,
+    ),
+    (
+        "proc factex;factors A B C D E/nlev=4;size design=16;model r=3;",
+        "step 1\nfactors 5 levels 4\ndesign 16 runs\nnodes 5\nrules\n  C = A^3*B\n  D = A^2*B\n  E = A*B\n",
+        0,
+    ),
+    (
+        "proc factex;factors A B C D E F/nlev=5;size design=25;model r=3;",
+        "step 1\nfactors 6 levels 5\ndesign 25 runs\nnodes 6\nrules\n  C = A^4*B\n  D = A^3*B\n  E = A^2*B\n  F = A*B\n",
+        0,
+    ),
+    (
+        "proc factex;factors A B C D E F G H/nlev=7;size design=49;model r=3;",
+        "step 1\nfactors 8 levels 7\ndesign 49 runs\nnodes 8\nrules\n  C = A^6*B\n  D = A^5*B\n  E = A^4*B\n  F = A^3*B\n  G = A^2*B\n  H = A*B\n",
+        0,
+    ),
+    (
+        "proc factex;factors A B C D E F G H I/nlev=8;size design=64;model r=3;",
+        "step 1\nfactors 9 levels 8\ndesign 64 runs\nnodes 9\nrules\n  C = A^7*B\n  D = A^6*B\n  E = A^5*B\n  F = A^4*B\n  G = A^3*B\n  H = A^2*B\n  I = A*B\n",
+        0,
+    ),
+    (
+        "proc factex;factors A B C D E F G H I J/nlev=9;size design=81;model r=3;",
+        "step 1\nfactors 10 levels 9\ndesign 81 runs\nnodes 10\nrules\n  C = A^8*B\n  D = A^7*B\n  E = A^6*B\n  F = A^5*B\n  G = A^4*B\n  H = A^3*B\n  I = A^2*B\n  J = A*B\n",
+        0,
+    ),
+    (
+        "proc factex;factors A B C D E F/nlev=4;size design=16;model r=3;",
+        "step 1\nfactors 6 levels 4\nno design in 16 runs\nnodes 9\n",
+        1,
+    ),
+    (
+        "proc factex;factors A B C/nlev=3;size fraction=3;model resolution=3;",
+        "step 1\nfactors 3 levels 3\ndesign 9 runs\nnodes 3\nrules\n  C = A^2*B\n",
+        0,
+    ),
+    (
+        "proc factex;factors A B/nlev=3;size design=3;model estimate=(A*B);",
+        "step 1\nfactors 2 levels 3\nno design in 3 runs\nnodes 4\n",
+        1,
+    ),
+    (
+        "proc factex;factors A B C D;size nrunfacs=2;model estimate=(A*B C A*C);",
+        "step 1\nfactors 4 levels 2\ndesign 4 runs\nnodes 10\nrules\n  B = 0\n  D = A*C\n",
+        0,
+    ),
+    (
+        "proc factex;factors A;model r=3;proc factex nodes=1;factors A B;model r=3;proc factex;factors A B C;size design=2;model r=3;",
+        "step 1\nfactors 1 levels 2\ndesign 2 runs\nnodes 1\nrules\n  none\nstep 2\nfactors 2 levels 2\nbudget ended after 1 nodes\nstep 3\nfactors 3 levels 2\nno design in 2 runs\nnodes 1\n",
+        2,
     ),
     (
         "proc factex;factors A B C D;size design=8;model estimate=(A B C A*B);",
@@ -151,76 +201,219 @@ fn programs_have_their_listing(rt: HostRuntime) -> Result<(), Fail> {
     Ok(())
 }
 
-/// Each text that is refused, with its message.
-const REFUSED: [(&str, &str); 18] = [
+/// The examples of docs/LANGUAGE.md and further texts that are refused, each with its message.
+const REFUSED: [(&str, &str); 56] = [
     (
-        "proc factex;\nfactors A B C;\nsize design=8;\nsize design=8;\nrun;\n",
-        "E26 4:1 statement is repeated in the step",
+        "proc factex; factors A B C; /* run;",
+        "L1 1:29 comment is not closed",
     ),
     (
-        "proc factex;\nfactors X1-X3 X2;\nrun;\n",
-        "E5 2:15 name is repeated",
-    ),
-    (
-        "proc factex;\nrun;\n",
-        "E7 1:1 step has no FACTORS statement",
-    ),
-    (
-        "proc factex;\ntitle x;\nrun;\n",
-        "E1 2:1 statement is not known",
-    ),
-    (
-        "proc factex nodes=0;\nfactors A;\nrun;\n",
-        "E29 1:19 number is out of range",
-    ),
-    (
-        "proc factex;\nfactors A B / nlev=6;\nrun;\n",
-        "E6 2:20 number of levels is not 2, 3, 4, 5, 7, 8 or 9",
-    ),
-    (
-        "proc factex;\nfactors A B C;\nsize design=12;\nrun;\n",
-        "E8 3:13 size is not a power of the number of levels",
-    ),
-    (
-        "proc factex time=60;\nfactors A B;\nrun;\n",
-        "E24 1:13 not kept in this profile",
-    ),
-    (
-        "proc factex;\nfactors A B;\nsize design=min;\nrun;\n",
-        "E14 3:13 minimum size with a maximum or MINABS",
+        "proc factex; factors A B C; output out=a A cvals=('x);",
+        "L2 1:51 string is not closed",
     ),
     ("proc factex;\nfactors A 'b", "L2 2:11 string is not closed"),
     (
-        "proc factex; factors A B C; size design=8; model estimate=(A B Z);",
-        "E4 1:64 factor is not known",
+        "proc factex; factors A B C; size design=8%;",
+        "L3 1:42 character is not allowed",
     ),
     (
-        "proc factex; factors A B C; size design=8; model estimate=(A) / minabs;",
-        "E12 1:65 MINABS with ESTIMATE",
+        "proc factex; factors A B C; size design=000000000000000000000000000000000000008;",
+        "L4 1:41 number is too long",
+    ),
+    (
+        "proc factex; factors a23456789012345678901234567890123;",
+        "L5 1:22 name is too long",
     ),
     (
         "proc factex; factors A B C; size design=8;",
         "E0 1:1 not built yet",
     ),
     (
-        "proc factex; factors A B C; model resolution=3 / minabs;",
+        "proc factex; factors A B C; model r=max;",
         "E0 1:1 not built yet",
     ),
     (
-        "proc factex; factors A B C; size design=min; model resolution=3;",
+        "proc factex; factors A B C; model r=3/minabs;",
         "E0 1:1 not built yet",
     ),
     (
-        "proc factex; factors A B C; model resolution=3; blocks nblocks=2;",
+        "proc factex; factors A B C; model r=3; size design=min;",
         "E0 1:1 not built yet",
     ),
     (
-        "proc factex; factors A B C; model resolution=3; output out=plan;",
+        "proc factex; factors A B C; model r=3; blocks nblocks=2;",
         "E0 1:1 not built yet",
     ),
     (
-        "proc factex; factors A B C; model resolution=3; examine design;",
+        "proc factex; factors A B C; model r=3; output out=a;",
         "E0 1:1 not built yet",
+    ),
+    (
+        "proc factex; factors A B C; model r=3; examine design;",
+        "E0 1:1 not built yet",
+    ),
+    (
+        "proc factex; factors A B C; model r=3; examine aliasing;",
+        "E0 1:1 not built yet",
+    ),
+    (
+        "proc factex; factors A B C; model r=3; examine blocked;",
+        "E0 1:1 not built yet",
+    ),
+    (
+        "proc factex; factors A B C; model r=3; examine aberration;",
+        "E0 1:1 not built yet",
+    ),
+    (
+        "proc factex; factors X1-X39; size design=4; model e=(X1) n=(X1|X2|X3|X4|X5|X6|X7|X8|X9|X10|X11|X12|X13|X14|X15|X16|X17|X18|X19|X20|X21|X22|X23|X24|X25|X26|X27|X28|X29|X30|X31|X32|X33|X34|X35|X36|X37|X38|X39@4); examine design;",
+        "E0 1:1 not built yet",
+    ),
+    (
+        "proc factex; factors A B C; title x;",
+        "E1 1:29 statement is not known",
+    ),
+    (
+        "proc factex; factors A B C; size design=max;",
+        "E2 1:41 unexpected word or end",
+    ),
+    (
+        "proc factex; factors A B C; size runs=8;",
+        "E3 1:34 option is not known",
+    ),
+    (
+        "proc factex; factors A B C; model e=(A B*Z);",
+        "E4 1:42 factor is not known",
+    ),
+    (
+        "proc factex; factors A B C; output out=a Z nvals=(1 2);",
+        "E4 1:42 factor is not known",
+    ),
+    (
+        "proc factex; factors X1-X17; size design=4; model e=(X1|X2|X3|X4|X5|X6|X7|X8|X9|X10|X11|X12|X13|X14|X15|X16|X17) n=(Z);",
+        "E4 1:117 factor is not known",
+    ),
+    ("proc factex; factors X1-X3 X2;", "E5 1:28 name is repeated"),
+    (
+        "proc factex; factors A B C; model r=3; blocks nblkfacs=1; output out=a blockname=B;",
+        "E5 1:82 name is repeated",
+    ),
+    (
+        "proc factex; factors A B / nlev=6;",
+        "E6 1:33 number of levels is not 2, 3, 4, 5, 7, 8 or 9",
+    ),
+    ("proc factex; run;", "E7 1:1 step has no FACTORS statement"),
+    (
+        "proc factex; factors A B C; size design=12;",
+        "E8 1:41 size is not a power of the number of levels",
+    ),
+    (
+        "proc factex; factors A B C; size design=2048;",
+        "E9 1:41 more than 1024 runs",
+    ),
+    (
+        "proc factex; factors X1-X11;",
+        "E9 1:14 more than 1024 runs",
+    ),
+    (
+        "proc factex; factors A X1-X40;",
+        "E10 1:24 too many factors",
+    ),
+    (
+        "proc factex; factors A B C; model resolution=2;",
+        "E11 1:46 resolution is not from 3 to 99",
+    ),
+    (
+        "proc factex; factors A B C; model e=(A) / minabs;",
+        "E12 1:43 MINABS with ESTIMATE",
+    ),
+    (
+        "proc factex; factors A B C; blocks nblkfacs=1;",
+        "E13 1:29 MINABS or RESOLUTION=MAX with BLOCKS",
+    ),
+    (
+        "proc factex; factors A B C; size design=min;",
+        "E14 1:41 minimum size with a maximum or MINABS",
+    ),
+    (
+        "proc factex; factors A B C; model r=3; blocks nblocks=3;",
+        "E15 1:55 blocks are not a power of the number of levels",
+    ),
+    (
+        "proc factex; factors A B C; model r=3; blocks nblkfacs=4;",
+        "E16 1:56 more blocks than runs",
+    ),
+    (
+        "proc factex; factors A B C; output out=a A nvals=(1 2 3);",
+        "E17 1:44 number of values differs from number of levels",
+    ),
+    (
+        "proc factex; factors A B C; output out=a; output out=A;",
+        "E18 1:54 OUT name is repeated",
+    ),
+    (
+        "proc factex; factors A B C; output out=a randomize(18446744073709551616);",
+        "E19 1:52 seed is too large",
+    ),
+    (
+        "proc factex; factors A B C; output out=a pointrep=0;",
+        "E20 1:51 replication is not from 1 to 200000",
+    ),
+    (
+        "proc factex; factors A B C; output out=a pointrep=30000;",
+        "E21 1:40 more than 200000 rows",
+    ),
+    (
+        "proc factex; factors A B C D / nlev=9; size design=81; model e=(A*B*C*D);",
+        "E22 1:62 more than 2000000 demands",
+    ),
+    (
+        "proc factex; factors X1-X40; size design=4; model e=(X1*X2*X3*X4); examine aliasing;",
+        "E23 1:76 more than 100000 effects",
+    ),
+    (
+        "proc factex; factors X1-X17; size design=4; model e=(X1|X2|X3|X4|X5|X6|X7|X8|X9|X10|X11|X12|X13|X14|X15|X16|X17);",
+        "E23 1:51 more than 100000 effects",
+    ),
+    (
+        "proc factex; factors X1-X27; size design=4; model e=(X1) n=(X1|X2|X3|X4|X5|X6|X7|X8|X9|X10|X11|X12|X13|X14|X15|X16|X17|X18|X19|X20|X21|X22|X23|X24|X25|X26|X27@5);",
+        "E23 1:58 more than 100000 effects",
+    ),
+    ("proc factex time=60;", "E24 1:13 not kept in this profile"),
+    (
+        "proc factex; factors A B C; size design=8; size design=8;",
+        "E26 1:44 statement is repeated in the step",
+    ),
+    (
+        "proc factex;\nfactors A B C;\nsize design=8;\nsize design=8;\nrun;\n",
+        "E26 4:1 statement is repeated in the step",
+    ),
+    (
+        "proc factex; factors A B C; run; size design=8;",
+        "E27 1:34 statement after RUN",
+    ),
+    (
+        "proc factex nodes=1 nodes=2;",
+        "E28 1:21 option is repeated",
+    ),
+    (
+        "proc factex; factors A B C; output out=a A nvals=(1 2) a nvals=(1 2);",
+        "E28 1:56 option is repeated",
+    ),
+    (
+        "proc factex nodes=0; factors A;",
+        "E29 1:19 number is out of range",
+    ),
+    (
+        "proc factex; factors A B C; model e=(A*B@1);",
+        "E29 1:42 number is out of range",
+    ),
+    (
+        "proc factex; factors X5-X2;",
+        "E30 1:22 range of names is not regular",
+    ),
+    (
+        "proc factex; factors A B C; output out=a blockname=day;",
+        "E31 1:42 BLOCKNAME without BLOCKS",
     ),
 ];
 
@@ -255,8 +448,12 @@ fn words_other_than_run_are_refused(rt: HostRuntime) -> Result<(), Fail> {
     two.push(b"x".to_vec(alloc)?)?;
     let mut capitals = Vec::new(alloc);
     capitals.push(b"RUN".to_vec(alloc)?)?;
+    let mut other = Vec::new(alloc);
+    other.push(b"x".to_vec(alloc)?)?;
+    other.push(b"y".to_vec(alloc)?)?;
     for (words, message) in [
         (none, "C1 word 1"),
+        (other, "C2 word 1"),
         (two, "C3 word 2"),
         (capitals, "C2 word 1"),
     ] {

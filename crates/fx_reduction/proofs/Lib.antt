@@ -31,3 +31,4 @@ pub mod Prefix
 mod Examples
 mod Limits
 pub mod AllowedFronts
+mod NormalWords

@@ -4,3 +4,4 @@ pub mod Meets
 pub mod Steps
 pub mod Reduction
 pub mod Strengths
+pub mod Words

@@ -4,6 +4,7 @@
 mod reduction;
 mod steps;
 mod strengths;
+mod words;
 
 pub use reduction::{
     canonical_for_every_matrix, least_pattern_of_all, met_where_allowed, none_where_none_at_all,
@@ -13,3 +14,4 @@ pub use strengths::{
     allowed_without_the_last_row, less_asked_is_met, prefix_has_no_more_words,
     resolutions_as_effects, runs_met_in_words,
 };
+pub use words::pattern_counts_zero_sums;

@@ -1,4 +1,5 @@
-use Rattle.std.proofs.Common.{◌≡◌, ℕ, List, Ok, Err, true, map, refl, sym, ap, ◌∙◌}
+use Rattle.std.proofs.Common.{◌≡◌, ℕ, List, Ok, Err, true, map, refl, sym, ap, ◌∙◌, []}
+use Rattle.std.proofs.lemmas.Bool.{false≢true}
 use Rattle.fx_program.specs.declared.words.Settings.{Settings}
 use Rattle.fx_program.specs.declared.words.Settings.TheVariants.{Run}
 use Rattle.fx_program.specs.Texts.{program_in}
@@ -11,21 +12,25 @@ use Rattle.fx_program.proofs.run.factex.Goals as goal
 run_output : (settings : Settings) (text : List ℕ) → output_for (Ok settings) text ≡ program_output (program_in text)
 run_output (Run threads seed) text = refl
 
-run_reads : (settings : Settings) → reads (Ok settings) ≡ true
-run_reads (Run threads seed) = refl
-
 pub returns-in-Ok-Run-clause-output : goal.returns-in-Ok-Run-clause-output
-returns-in-Ok-Run-clause-output g c = λ text is.
+returns-in-Ok-Run-clause-output g c =
     let settings = c.in-Ok-Run.field-0 in
+    let some = c.run.ensures.output in
     rw c.exit_status.ensures
-    (ends_for _ text (Ok settings) _ c.in-Ok-Run.ensures
-    (ends_by _ _ _ (run_output settings text) ((c.run.ensures.output text (is.exposed (ap reads (sym c.in-Ok-Run.ensures) ∙ run_reads settings))).whatever _)))
+    (record {
+      text = some.text;
+      exposed = λ read. some.exposed;
+      gives = ends_for _ some.text (Ok settings) _ c.in-Ok-Run.ensures (ends_by _ _ _ (run_output settings some.text) (some.lists.whatever _));
+    })
 
 pub returns-in-Err-clause-output : goal.returns-in-Err-clause-output
-returns-in-Err-clause-output g c = λ text is.
+returns-in-Err-clause-output g c =
     rw c.exit_status-in-Err.ensures
-    (ends_for _ text (Err c.in-Err.fault) _ c.in-Err.ensures
-    (ends_by _ _ _ (ap (λ l. message l 3) (sym c.word_line.ensures)) (c.list.ensures.output.whatever _)))
+    (record {
+      text = [];
+      exposed = λ read. absurd (false≢true (ap reads c.in-Err.ensures ∙ read));
+      gives = ends_for _ [] (Err c.in-Err.fault) _ c.in-Err.ensures (ends_by _ _ _ (ap (λ l. message l 3) (sym c.word_line.ensures)) (c.list.ensures.output.whatever _));
+    })
 
 pub word_line-requires : goal.word_line-requires
 word_line-requires g c = fault_of_words (map (λ w. w.items) c.args.words.now) c.in-Err.fault (sym c.in-Err.ensures)

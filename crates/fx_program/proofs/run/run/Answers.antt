@@ -1,40 +1,75 @@
-use Rattle.std.proofs.Common.{◌≡◌, ◌<◌, ℕ, List, map, Ok, Err, length, sym, ap, ◌∙◌, refl}
+use Rattle.std.proofs.Common.{◌≡◌, ◌<◌, ℕ, List, map, Ok, Err, length, None, sym, ap, ◌∙◌, arith, refl, Option, Some, subst}
+use Rattle.std.specs.Prelude.{replicate, unwrap_or}
+use Rattle.std.proofs.lemmas.List.{length-replicate}
+use Rattle.fx_base.specs.Reading.{IsOverLimit}
 use Rattle.std.proofs.lemmas.Bool.{lt-ltb}
 use Rattle.fx_statements.specs.Steps.{meaning_of}
 use Rattle.fx_program.specs.Texts.{at_front, program_in}
-use Rattle.fx_program.specs.Output.{program_output}
+use Rattle.fx_program.specs.Output.{ListsForSome, program_output}
+use Rattle.fx_program.specs.Claims.{SomeHasNone}
 use Rattle.fx_program.proofs.Endings.{lists_by}
-use Rattle.fx_program.proofs.AnyText.{none_in_any_text}
+use Rattle.fx_program.proofs.Statuses.{none_where_one}
 use Rattle.fx_program.proofs.run.run.Goals as goal
 
 too_long : (text : List ℕ) → 1048576 < length text → program_in text ≡ Err (at_front 25)
 unfolding program_in
 too_long text long = rw (lt-ltb 1048576 (length text) long) refl
 
+-- a text above the limit: the one that is exposed, or else some one
+over_limit : Option (List ℕ) → List ℕ
+over_limit left = unwrap_or left (replicate 1048577 0)
+
+is_over_limit : (left : Option (List ℕ)) → IsOverLimit left 1048576 → 1048576 < length (over_limit left)
+unfolding over_limit
+is_over_limit None over = subst (λ (n : ℕ). 1048576 < n) (sym (length-replicate {A = ℕ} 1048577 0)) (omega arith)
+is_over_limit (Some text) over = over.exposed text refl
+
+same_over_limit : (left : Option (List ℕ)) (known : List ℕ) → left ≡ Some known → known ≡ over_limit left
+unfolding over_limit
+same_over_limit left known e = sym (ap (λ (o : Option (List ℕ)). unwrap_or o (replicate 1048577 0)) e)
+
 pub returns-in-Ok-TooLong-clause-output : goal.returns-in-Ok-TooLong-clause-output
-returns-in-Ok-TooLong-clause-output g c = λ text e.
+returns-in-Ok-TooLong-clause-output g c =
     let read = rw c.in-Ok-TooLong.field-0-is at c.in-Ok-TooLong.ensures.answer in
-    lists_by _ _ _ (ap program_output (too_long text (read.exposed text e) ∙ ap Err (sym c.at_front.ensures))) c.refuse.ensures.output
+    let left = g.S.Source.left c.args.source.now in
+    record {
+      text = over_limit left;
+      exposed = same_over_limit left;
+      lists = lists_by _ _ _ (ap program_output (too_long (over_limit left) (is_over_limit left read) ∙ ap Err (sym c.at_front.ensures))) c.refuse.ensures.output;
+    }
 
 pub returns-in-Ok-clause-output : goal.returns-in-Ok-clause-output
-returns-in-Ok-clause-output g c = λ text e.
+returns-in-Ok-clause-output g c =
     let read = rw c.in-Ok-Whole.field-0-is at c.in-Ok-Whole.ensures.answer in
-    lists_by _ _ _
-    (ap program_output (sym (ap program_in (c.as_slice.ensures ∙ read.all text e)) ∙ c.in-Ok.ensures.program)
-    ∙ ap (λ steps. program_output (Ok (map meaning_of steps))) (sym c.as_slice-in-Ok.ensures))
-    c.run_steps.ensures.output
+    record {
+      text = c.as_slice.result.now;
+      exposed = λ known e. sym (c.as_slice.ensures ∙ read.all known e);
+      lists = lists_by _ _ _
+      (ap program_output c.in-Ok.ensures.program ∙ ap (λ steps. program_output (Ok (map meaning_of steps))) (sym c.as_slice-in-Ok.ensures))
+      c.run_steps.ensures.output;
+    }
 
 pub returns-in-Err-Fault-clause-output : goal.returns-in-Err-Fault-clause-output
-returns-in-Err-Fault-clause-output g c = λ text e.
+returns-in-Err-Fault-clause-output g c =
     let read = rw c.in-Ok-Whole.field-0-is at c.in-Ok-Whole.ensures.answer in
     let found = rw c.in-Err-Fault.field-0-is at c.in-Err-Fault.ensures.fault in
-    lists_by _ _ _ (ap program_output (sym (ap program_in (c.as_slice.ensures ∙ read.all text e)) ∙ found)) c.refuse-in-Err-Fault.ensures.output
+    record {
+      text = c.as_slice.result.now;
+      exposed = λ known e. sym (c.as_slice.ensures ∙ read.all known e);
+      lists = lists_by _ _ _ (ap program_output found) c.refuse-in-Err-Fault.ensures.output;
+    }
+
+-- status 1 says so of the text that the source exposes
+one_told : {left a b : Option (List ℕ)} (status : ℕ) → ListsForSome left a b status → status ≡ 1 → (text : List ℕ) → left ≡ Some text → SomeHasNone (program_in text)
+one_told status some one text e =
+    subst (λ (t : List ℕ). SomeHasNone (program_in t)) (sym (some.exposed text e))
+    (none_where_one some.text (sym ((some.lists.whatever None).same (omega (arith, one))) ∙ one))
 
 pub returns-in-Ok-TooLong-clause-none_at_all : goal.returns-in-Ok-TooLong-clause-none_at_all
-returns-in-Ok-TooLong-clause-none_at_all g c = λ low text e. none_in_any_text text
+returns-in-Ok-TooLong-clause-none_at_all g c = one_told _ (returns-in-Ok-TooLong-clause-output g c)
 
 pub returns-in-Ok-clause-none_at_all : goal.returns-in-Ok-clause-none_at_all
-returns-in-Ok-clause-none_at_all g c = λ low text e. none_in_any_text text
+returns-in-Ok-clause-none_at_all g c = one_told _ (returns-in-Ok-clause-output g c)
 
 pub returns-in-Err-Fault-clause-none_at_all : goal.returns-in-Err-Fault-clause-none_at_all
-returns-in-Err-Fault-clause-none_at_all g c = λ low text e. none_in_any_text text
+returns-in-Err-Fault-clause-none_at_all g c = one_told _ (returns-in-Err-Fault-clause-output g c)
