@@ -10,10 +10,7 @@ mod settings;
 mod size;
 
 pub use power::greatest;
-pub use said::{
-    BlocksSaid, BlocksWord, ModelGoal, ModelSaid, SizeSaid, SizeWord, StepSaid, Value, start_of,
-    step_said,
-};
+pub use said::{BlocksSaid, BlocksWord, ModelSaid, SizeSaid, SizeWord, StepSaid, Value, step_said};
 pub use settings::{
     Blocks, Criterion, Size, StepSettings, Unblocked, step_settings_of, unblocked_of,
 };
