@@ -1,3 +1,4 @@
 mod Examples
 pub mod Powers
 pub mod Valid
+pub mod Readings
