@@ -111,6 +111,10 @@ module _ (q m : ℕ) (rows : List ℕ) (words : List ForbiddenVector) (i : ℕ) 
         some = h.some;
       }
 
+  -- once each sum has its vector
+  pub first-full : (b first : ℕ) (tables : List ℕ) → ((y : ℕ) → y < q ^ m → slice_index tables (first + y) ≢ 0) → AreFirst q m rows words i b first tables → AreFirst q m rows words i (length words) first tables
+  first-full b first tables full h = record { none = λ y low z. absurd (full y low z); some = h.some }
+
 -- what a class says of the last factor
 pub last-of-class : (q s : ℕ) (words : List ForbiddenVector) (k : ℕ) (d : ForbiddenVector) → AreWords q s words → s ≤ 40 → k < length words
     → (64 * last_factor (vector_at words k) ≤ (slice_index_or words k d).class) × ((slice_index_or words k d).class < 64 * last_factor (vector_at words k) + 64)

@@ -1,5 +1,6 @@
 ghost use Rattle.std.specs.Prelude.{◌≡◌, ◌+◌, ◌-◌, ◌*◌, ◌^◌, ◌<◌, ◌≤◌, ◌≢◌, ◌++◌, [], ◌∷◌, ℕ, List, IfOk, IfSome, length, map, take, slice_index, slice_index_or, slice_set, ◌==◌, if◌then◌else◌};
 ghost use Rattle.std.specs.Option.{IfNone};
+ghost use Rattle.std.specs.Bool.{OnTrue};
 ghost use Rattle.std.specs.List.{AllByRecursion};
 ghost use Rattle.fx_designs.specs.Galois.{neg};
 ghost use Rattle.fx_demands.specs.declared.forbidden_list.ForbiddenVector.{ForbiddenVector};
@@ -146,9 +147,26 @@ fn fill(reached: &Reached, words: &[ForbiddenVector], tables: &mut [usize])
     let first = n * size;
     clear(tables, first, size);
     for k in start_of(words, n + 1)..start_of(words, n + 2) {
+        // Once each sum has its vector, later ones change nothing.
+        if k % 1024 == 0 && is_full(tables, first, size) {
+            return;
+        }
         let sum = reached.sum(&words[k].vector);
         put_first(tables, first + usize::from(sum), k);
     }
+}
+
+/// Whether there is no zero.
+fn is_full(tables: &[usize], first: usize, size: usize) -> bool
+    requires { first + size ≤ length tables.now }
+    ensures { OnTrue result ((y : ℕ) → y < size → slice_index tables.now (first + y) ≢ 0) }
+{
+    for y in 0..size {
+        if tables[first + y] == 0 {
+            return false;
+        }
+    }
+    true
 }
 
 /// Puts in zeros.

@@ -2,6 +2,7 @@
 use Rattle.std.proofs.Common.{ℕ, ◌≡◌, ◌≤◌, ◌+◌, ◌++◌, length, List, [], ◌∷◌, map, take, drop, Option, Some, refl, sym, ◌∙◌, ap, subst, append_assoc}
 use Rattle.std.proofs.lemmas.List.{append-nil, take_all, map-append, take-append-drop}
 use Rattle.std.proofs.Math.Seq.{take-add}
+use Rattle.fx_base.specs.Faults.{IsUnchanged}
 use Rattle.fx_base.specs.Writing.{Appends, AppendsPart}
 use Rattle.fx_base.specs.Acts.{Act, ListByte, BeginFile, FileByte, EndFile, File, listed, shelved, Shelves, ShelvesPart, Event, Piece, acts_of, acts, World, Did, DidPart}
 
@@ -34,12 +35,12 @@ shelved-bytes (b ∷ bytes) files = shelved-bytes bytes files
 
 -- on the shelf alone
 pub shelves_none : (old : Option (List File)) → Shelves old old []
-shelves_none old = record { told = λ files e. e }
+shelves_none old = record { exposed = λ files e. e }
 
 pub shelves_more : (old mid new : Option (List File)) (xs ys : List Act) → Shelves old mid xs → Shelves mid new ys
     → Shelves old new (xs ++ ys)
 shelves_more old mid new xs ys a b = record {
-  told = λ files e. b.told (shelved xs files) (a.told files e) ∙ ap Some (sym (shelved-append xs ys files));
+  exposed = λ files e. b.exposed (shelved xs files) (a.exposed files e) ∙ ap Some (sym (shelved-append xs ys files));
 }
 
 pub shelves_part_more : (old mid new : Option (List File)) (xs ys : List Act) → Shelves old mid xs
@@ -60,12 +61,12 @@ shelves_part_first old new xs ys a = record {
   did = a.did;
 }
 
-pub shelves_part_none : (old new : Option (List File)) (xs : List Act) → new ≡ old → ShelvesPart old new xs
+pub shelves_part_none : (old new : Option (List File)) (xs : List Act) → IsUnchanged old new → ShelvesPart old new xs
 shelves_part_none old new xs same = record {
   done = [];
   left = xs;
   front = refl;
-  did = record { told = λ files e. same ∙ e };
+  did = record { exposed = λ files e. same.exposed files e };
 }
 
 pub shelves_part_whole : (old new : Option (List File)) (xs : List Act) → Shelves old new xs → ShelvesPart old new xs
@@ -74,14 +75,14 @@ shelves_part_whole old new xs a = record { done = xs; left = []; front = append-
 -- on listing and shelf
 pub did_none : (w : World) → Did w w []
 did_none w = record {
-  listing = record { told = λ text e. e ∙ ap Some (sym (append-nil text)) };
+  listing = record { exposed = λ text e. e ∙ ap Some (sym (append-nil text)) };
   shelf = shelves_none w.files;
 }
 
 pub did_more : {a b c : World} {xs ys : List Act} → Did a b xs → Did b c ys → Did a c (xs ++ ys)
 did_more {a} {b} {c} {xs} {ys} p q = record {
   listing = record {
-    told = λ text e. q.listing.told (text ++ listed xs) (p.listing.told text e)
+    exposed = λ text e. q.listing.exposed (text ++ listed xs) (p.listing.exposed text e)
         ∙ ap Some (append_assoc text (listed xs) (listed ys) ∙ ap (λ (l : List ℕ). text ++ l) (sym (listed-append xs ys)));
   };
   shelf = shelves_more a.files b.files c.files xs ys p.shelf q.shelf;
@@ -114,7 +115,7 @@ pub did_piece : (old new : Option (List ℕ)) (files : Option (List File)) (byte
     → Did (record { written = old; files = files }) (record { written = new; files = files }) (acts_of (Piece bytes))
 did_piece old new files bytes a = record {
   listing = subst (λ (l : List ℕ). Appends old new l) (sym (listed-bytes bytes)) a;
-  shelf = record { told = λ held e. e ∙ ap Some (sym (shelved-bytes bytes held)) };
+  shelf = record { exposed = λ held e. e ∙ ap Some (sym (shelved-bytes bytes held)) };
 }
 
 pub part_piece : (old new : Option (List ℕ)) (files : Option (List File)) (bytes : List ℕ) → AppendsPart old new bytes
@@ -124,7 +125,7 @@ part_piece old new files bytes a = record {
   left = map ListByte (drop a.part bytes);
   front = sym (map-append ListByte (take a.part bytes) (drop a.part bytes))
       ∙ ap (map ListByte) (take-append-drop a.part bytes);
-  did = did_piece old new files (take a.part bytes) a.told;
+  did = did_piece old new files (take a.part bytes) a.appended;
 }
 
 -- the loop that fills a file
@@ -136,7 +137,7 @@ fill_more old mid new bytes from n a b = subst (λ (l : List Act). Shelves old n
     (shelves_more old mid new _ _ a b)
 
 pub fill_part : (old mid new : Option (List File)) (bytes : List ℕ) (from : ℕ)
-    → Shelves old mid (map FileByte (take from bytes)) → new ≡ mid → ShelvesPart old new (map FileByte bytes)
+    → Shelves old mid (map FileByte (take from bytes)) → IsUnchanged mid new → ShelvesPart old new (map FileByte bytes)
 fill_part old mid new bytes from a same = subst (λ (l : List Act). ShelvesPart old new l)
     (sym (map-append FileByte (take from bytes) (drop from bytes)) ∙ ap (map FileByte) (take-append-drop from bytes))
     (shelves_part_more old mid new (map FileByte (take from bytes)) (map FileByte (drop from bytes)) a (shelves_part_none mid new _ same))

@@ -3,23 +3,24 @@ use Rattle.std.proofs.Common.{ℕ, ◌≡◌, ◌<◌, ◌≤◌, ◌+◌, ◌-�
 use Rattle.std.proofs.lemmas.List.{take_all, length-take-le, drop-drop}
 use Rattle.std.proofs.Math.Seq.{take-add}
 use Rattle.fx_base.specs.Reading.{Takes, TakesFrom, IsAllLeft, IsOverLimit, LeavesRest}
+use Rattle.fx_base.specs.Faults.{IsUnchanged}
 use Rattle.fx_base.specs.Writing.{Appends, AppendsPart}
 
 -- a front part of the piece, and then a front part of the rest
 pub appends_more : (old mid new : Option (List ℕ)) (piece : List ℕ) (from n : ℕ)
     → Appends old mid (take from piece) → Appends mid new (take n (drop from piece)) → Appends old new (take (from + n) piece)
 appends_more old mid new piece from n a b = record {
-  told = λ text e. b.told (text ++ take from piece) (a.told text e)
+  exposed = λ text e. b.exposed (text ++ take from piece) (a.exposed text e)
       ∙ ap Some (append_assoc text (take from piece) (take n (drop from piece))
       ∙ ap (λ (l : List ℕ). text ++ l) (sym (take-add from n piece)));
 }
 
 -- a front part of the piece, and then a call that appended nothing
 pub appends_part : (old mid new : Option (List ℕ)) (piece : List ℕ) (from : ℕ)
-    → Appends old mid (take from piece) → new ≡ mid → AppendsPart old new piece
+    → Appends old mid (take from piece) → IsUnchanged mid new → AppendsPart old new piece
 appends_part old mid new piece from a same = record {
   part = from;
-  told = record { told = λ text e. same ∙ a.told text e };
+  appended = record { exposed = λ text e. same.exposed (text ++ take from piece) (a.exposed text e) };
 }
 
 -- what stands after these bytes of the text were read
@@ -30,14 +31,14 @@ pub record ReadFrom (text : List ℕ) (now : Option (List ℕ)) (bytes : List �
 
 -- these bytes were read so far
 pub record HasRead (left now : Option (List ℕ)) (bytes : List ℕ) : Type 0 where
-  pub told : (text : List ℕ) → left ≡ Some text → ReadFrom text now bytes
+  pub exposed : (text : List ℕ) → left ≡ Some text → ReadFrom text now bytes
 
 pub read_more : (left mid now : Option (List ℕ)) (bytes buffer grown : List ℕ) (n : ℕ)
     → HasRead left mid bytes → Takes mid now buffer n → n ≤ length buffer → grown ≡ bytes ++ take n buffer → HasRead left now grown
 read_more left mid now bytes buffer grown n a b within is = record {
-  told = λ text e.
-      let old : ReadFrom text mid bytes = a.told text e in
-      let new : TakesFrom (drop (length bytes) text) now buffer n = b.told (drop (length bytes) text) old.rest in
+  exposed = λ text e.
+      let old : ReadFrom text mid bytes = a.exposed text e in
+      let new : TakesFrom (drop (length bytes) text) now buffer n = b.exposed (drop (length bytes) text) old.rest in
       let there = new.some in
       let left_over = length-drop (length bytes) text in
       let got : length (take n buffer) ≡ n = length-take-le n buffer within in
@@ -63,22 +64,22 @@ pub read_whole : (left mid now : Option (List ℕ)) (bytes buffer : List ℕ) (n
     → HasRead left mid bytes → Takes mid now buffer n → n ≡ 0 → 0 < length buffer → length bytes ≤ limit → IsAllLeft left now limit bytes
 read_whole left mid now bytes buffer n limit a b none room within =
     let at_end : (text : List ℕ) → left ≡ Some text → drop (length bytes) text ≡ [] =
-    λ text e. (b.told (drop (length bytes) text) (a.told text e).rest).end none room in
+    λ text e. (b.exposed (drop (length bytes) text) (a.exposed text e).rest).end none room in
     record {
       within = within;
       all = λ text e.
           let left_over = length-drop (length bytes) text in
           let gone = ap length (at_end text e) in
-          (a.told text e).front ∙ take_all (length bytes) text (omega arith);
+          (a.exposed text e).front ∙ take_all (length bytes) text (omega arith);
       end = λ text e.
-          (b.told (drop (length bytes) text) (a.told text e).rest).rest
+          (b.exposed (drop (length bytes) text) (a.exposed text e).rest).rest
           ∙ ap Some (ap (drop n) (at_end text e) ∙ drop_nil n);
     }
 
 -- more bytes than the limit were read
 pub read_over : (left now : Option (List ℕ)) (bytes : List ℕ) (limit : ℕ) → HasRead left now bytes
     → limit < length bytes → IsOverLimit left limit
-read_over left now bytes limit a over = record { told = λ text e. let there = (a.told text e).some in omega arith }
+read_over left now bytes limit a over = record { exposed = λ text e. let there = (a.exposed text e).some in omega arith }
 
 -- a slice from an index to the end
 pub slice_to_end : (xs : List ℕ) (from : ℕ) → take (length xs - from) (drop from xs) ≡ drop from xs
@@ -89,5 +90,5 @@ pub read_rest_more : (left mid now : Option (List ℕ)) (bytes buffer : List ℕ
     → HasRead left mid bytes → Takes mid now buffer n → LeavesRest left now
 read_rest_more left mid now bytes buffer n a b = record {
   taken = length bytes + n;
-  told = λ text e. (b.told (drop (length bytes) text) (a.told text e).rest).rest ∙ ap Some (drop-drop n (length bytes) text);
+  exposed = λ text e. (b.exposed (drop (length bytes) text) (a.exposed text e).rest).rest ∙ ap Some (drop-drop n (length bytes) text);
 }

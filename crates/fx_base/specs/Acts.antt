@@ -45,11 +45,11 @@ shelved (BeginFile name ∷ acts) files = shelved acts (files ++ record { name =
 shelved (FileByte byte ∷ acts) files = shelved acts (on_last (with_byte byte) files)
 shelved (EndFile ∷ acts) files = shelved acts (on_last as_ended files)
 
--- the acts were done on the shelf, where it tells its files
+-- the acts were done on the shelf, where it exposes its files
 pub record Shelves (old new : Option (List File)) (acts : List Act) : Type 0 where
-  pub told : (files : List File) → old ≡ Some files → new ≡ Some (shelved acts files)
+  pub exposed : (files : List File) → old ≡ Some files → new ≡ Some (shelved acts files)
 
--- a front part of the acts was done on the shelf
+-- a prefix of the acts was done on the shelf
 pub record ShelvesPart (old new : Option (List File)) (all : List Act) : Type 0 where
   pub done : List Act
   pub left : List Act
@@ -71,7 +71,7 @@ abbrev pub acts : List Event → List Act
 acts [] = []
 acts (event ∷ events) = acts_of event ++ acts events
 
--- listing and shelf, where they tell what they hold
+-- listing and shelf, where they expose what they hold
 pub record World : Type 0 where
   pub written : Option (List ℕ)
   pub files : Option (List File)
@@ -81,7 +81,7 @@ pub record Did (old new : World) (done : List Act) : Type 0 where
   pub listing : Appends old.written new.written (listed done)
   pub shelf : Shelves old.files new.files done
 
--- a front part of these acts was done, and nothing else
+-- a prefix of these acts was done, and nothing else
 pub record DidPart (old new : World) (all : List Act) : Type 0 where
   pub done : List Act
   pub left : List Act

@@ -1,4 +1,4 @@
--- What a call that reads does to what is left, which a source may tell or not.
+-- What a call that reads does to what is left, which a source may expose or not.
 use Rattle.std.specs.Prelude.{ℕ, ◌≡◌, ◌<◌, ◌≤◌, List, [], length, take, drop, Option, Result, Some, Ok, Err}
 use Rattle.fx_base.specs.Faults.{Rose}
 use Rattle.fx_base.specs.declared.reading.Taken.{Taken}
@@ -13,9 +13,9 @@ pub record TakesFrom (text : List ℕ) (now : Option (List ℕ)) (buffer : List 
   pub rest : now ≡ Some (drop n text)
   pub end : n ≡ 0 → 0 < length buffer → text ≡ []
 
--- the same, where the source tells what was left
+-- the same, where the source exposed what was left
 pub record Takes (left now : Option (List ℕ)) (buffer : List ℕ) (n : ℕ) : Type 0 where
-  pub told : (text : List ℕ) → left ≡ Some text → TakesFrom text now buffer n
+  pub exposed : (text : List ℕ) → left ≡ Some text → TakesFrom text now buffer n
 
 -- the bytes are all that were left, they are within the limit, and nothing is left
 pub record IsAllLeft (left now : Option (List ℕ)) (limit : ℕ) (bytes : List ℕ) : Type 0 where
@@ -25,17 +25,17 @@ pub record IsAllLeft (left now : Option (List ℕ)) (limit : ℕ) (bytes : List 
 
 -- more bytes than the limit were left
 pub record IsOverLimit (left : Option (List ℕ)) (limit : ℕ) : Type 0 where
-  pub told : (text : List ℕ) → left ≡ Some text → limit < length text
+  pub exposed : (text : List ℕ) → left ≡ Some text → limit < length text
 
 -- all that was left was taken, or more than the limit was left
 abbrev pub ReadsAll : Option (List ℕ) → Option (List ℕ) → ℕ → Taken → Type 0
 ReadsAll left now limit (Whole bytes) = IsAllLeft left now limit bytes
 ReadsAll left now limit TooLong = IsOverLimit left limit
 
--- what is left is what was left but for a front part
+-- what is left is what was left but for a prefix
 pub record LeavesRest (left now : Option (List ℕ)) : Type 0 where
   pub taken : ℕ
-  pub told : (text : List ℕ) → left ≡ Some text → now ≡ Some (drop taken text)
+  pub exposed : (text : List ℕ) → left ≡ Some text → now ≡ Some (drop taken text)
 
 -- a fault comes only where the count rose, and every other answer leaves the count
 abbrev pub HasReadCause : ℕ → ℕ → Result Taken ReadStop → Type 0

@@ -10,7 +10,7 @@ pub fn all_acts_in_words()
         → (now.written ≡ Some (text ++ pieces events)) × (now.files ≡ Some (files ++ files_of events)) }
 {}
 
-/// A front part of the acts of events is some whole events and a front part of the next.
+/// A prefix of the acts of events is some whole events and a prefix of the next.
 pub fn front_part_in_words()
     ensures { (events : List Event) (text : List ℕ) (files : List File) (old now : World)
         → old.written ≡ Some text

@@ -26,7 +26,7 @@ impl ListedCalls {
         ListedCalls { failing, made: 0 }
     }
 
-    /// Counts a call, and answers whether it is to fail.
+    /// Counts a call, and returns whether it is to fail.
     pub fn next_fails(&mut self) -> bool
         ensures listed { IsTrue result ↔ IsListed self.old.failing self.old.made }
         ensures counted { self.new ≡ record self.old { made = raised self.old.made } }

@@ -1,5 +1,5 @@
 ghost use Rattle.std.specs.Prelude.{◌≡◌, ◌<◌, ◌≤◌, ◌+◌, ◌-◌, ◌↔◌, ◌⊎◌, ℕ, [], ◌∷◌, length, map, take, Some, true, false, IsErr, IfOk, OnErr, OnOk, slice_get};
-ghost use Rattle.fx_base.specs.Faults.{HasCause, raised};
+ghost use Rattle.fx_base.specs.Faults.{HasCause, IsUnchanged, raised};
 ghost use Rattle.fx_base.specs.Acts.{Shelves, shelved, BeginFile, FileByte, EndFile};
 ghost use Rattle.fx_base.specs.Memory.{FailingShelf, IsListed, sure_room, has_open, room_of, portion};
 
@@ -119,9 +119,9 @@ impl Shelf for MemoryShelf {
         ensures done { OnOk result
             (Shelves (Some self.old.files) (Some self.new.files) (BeginFile name.now ∷ [])) }
         ensures state { OnOk result (has_open self.new.files ≡ true) }
-        ensures failed { OnErr result (Some self.new.files ≡ Some self.old.files) }
+        ensures failed { OnErr result (IsUnchanged (Some self.old.files) (Some self.new.files)) }
         ensures cause { HasCause self.old.faults self.new.faults result }
-        ensures kept { sure_room self.new.failing self.new.room
+        ensures unchanged { sure_room self.new.failing self.new.room
             ≡ sure_room self.old.failing self.old.room }
 
         ensures full { IsErr result
@@ -153,9 +153,9 @@ impl Shelf for MemoryShelf {
         ensures taken { IfOk result (λ n.
             Shelves (Some self.old.files) (Some self.new.files) (map FileByte (take n piece.now))) }
         ensures state { OnOk result (has_open self.new.files ≡ true) }
-        ensures failed { OnErr result (Some self.new.files ≡ Some self.old.files) }
+        ensures failed { OnErr result (IsUnchanged (Some self.old.files) (Some self.new.files)) }
         ensures cause { HasCause self.old.faults self.new.faults result }
-        ensures kept { sure_room self.new.failing self.new.room
+        ensures unchanged { sure_room self.new.failing self.new.room
             ≡ sure_room self.old.failing self.old.room }
 
         ensures full { IsErr result
@@ -188,9 +188,9 @@ impl Shelf for MemoryShelf {
         ensures done { OnOk result
             (Shelves (Some self.old.files) (Some self.new.files) (EndFile ∷ [])) }
         ensures state { OnOk result (has_open self.new.files ≡ false) }
-        ensures failed { OnErr result (Some self.new.files ≡ Some self.old.files) }
+        ensures failed { OnErr result (IsUnchanged (Some self.old.files) (Some self.new.files)) }
         ensures cause { HasCause self.old.faults self.new.faults result }
-        ensures kept { sure_room self.new.failing self.new.room
+        ensures unchanged { sure_room self.new.failing self.new.room
             ≡ sure_room self.old.failing self.old.room }
 
         ensures listed { IsErr result ↔ IsListed self.old.failing self.old.made }

@@ -1,5 +1,5 @@
 ghost use Rattle.std.specs.Prelude.{◌≡◌, ◌<◌, ◌≤◌, ◌-◌, ◌++◌, ◌↔◌, ◌⊎◌, ℕ, [], length, take, Some, IsErr, IfOk, OnErr};
-ghost use Rattle.fx_base.specs.Faults.{HasCause, raised};
+ghost use Rattle.fx_base.specs.Faults.{HasCause, IsUnchanged, raised};
 ghost use Rattle.fx_base.specs.Writing.{Appends};
 ghost use Rattle.fx_base.specs.Memory.{FailingSink, IsListed, sure_room, portion};
 
@@ -89,9 +89,9 @@ impl Sink for MemorySink {
         ensures some { IfOk result (λ n. 0 < length piece.now → 0 < n) }
         ensures taken { IfOk result (λ n.
             Appends (Some self.old.written) (Some self.new.written) (take n piece.now)) }
-        ensures failed { OnErr result (Some self.new.written ≡ Some self.old.written) }
+        ensures failed { OnErr result (IsUnchanged (Some self.old.written) (Some self.new.written)) }
         ensures cause { HasCause self.old.faults self.new.faults result }
-        ensures kept { sure_room self.new.failing self.new.room
+        ensures unchanged { sure_room self.new.failing self.new.room
             ≡ sure_room self.old.failing self.old.room }
 
         ensures full { IsErr result

@@ -1,5 +1,5 @@
 ghost use Rattle.std.specs.Prelude.{◌≡◌, ◌<◌, ◌≤◌, ◌++◌, ◌↔◌, true, length, take, drop, Some, IsErr, IfOk, OnErr};
-ghost use Rattle.fx_base.specs.Faults.{HasCause, raised};
+ghost use Rattle.fx_base.specs.Faults.{HasCause, IsUnchanged, raised};
 ghost use Rattle.fx_base.specs.Reading.{Takes};
 ghost use Rattle.fx_base.specs.Memory.{FailingSource, IsListed, none_listed, portion};
 
@@ -67,9 +67,9 @@ impl Source for MemorySource {
         ensures within { IfOk result (λ n. n ≤ length to.new) }
         ensures taken { IfOk result (λ n.
             Takes (Some self.old.left) (Some self.new.left) to.new n) }
-        ensures failed { OnErr result (Some self.new.left ≡ Some self.old.left) }
+        ensures failed { OnErr result (IsUnchanged (Some self.old.left) (Some self.new.left)) }
         ensures cause { HasCause self.old.faults self.new.faults result }
-        ensures kept { none_listed self.new.failing ≡ none_listed self.old.failing }
+        ensures unchanged { none_listed self.new.failing ≡ none_listed self.old.failing }
 
         ensures listed { IsErr result ↔ IsListed self.old.failing self.old.made }
         ensures count { IfOk result (λ n.

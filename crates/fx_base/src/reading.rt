@@ -53,14 +53,14 @@ pub enum Taken {
     TooLong,
 }
 
-/// All bytes that are left, where these are at most `limit`. A failed call answers `ReadFault`,
+/// All bytes that are left, where these are at most `limit`. A failed call leads to `ReadFault`,
 /// whatever was read before it.
 pub fn read_all<S: Source>(alloc: Global, source: &mut S, limit: usize) -> Result<Taken, ReadStop>
     ensures answer { IfOk result (λ taken.
         ReadsAll (S.left source.old) (S.left source.new) limit taken) }
     ensures rest { LeavesRest (S.left source.old) (S.left source.new) }
     ensures cause { HasReadCause (S.faults source.old) (S.faults source.new) result }
-    ensures kept { S.sure source.new ≡ S.sure source.old }
+    ensures unchanged { S.sure source.new ≡ S.sure source.old }
 {
     let mut bytes = Bytes::new(alloc);
     let mut buffer = [0u8; BUFFER];

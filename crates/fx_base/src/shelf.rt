@@ -1,12 +1,12 @@
 ghost use Rattle.std.specs.Prelude.{◌≡◌, ◌<◌, ◌≤◌, ℕ, List, [], ◌∷◌, length, map, take, Option, None, Bool, true, false, IfOk, OnErr, OnOk};
-ghost use Rattle.fx_base.specs.Faults.{HasCause};
+ghost use Rattle.fx_base.specs.Faults.{HasCause, IsUnchanged};
 ghost use Rattle.fx_base.specs.Acts.{File, Shelves, BeginFile, FileByte, EndFile};
 
 use crate::failed::Failed;
 
 /// Files that are made one after another.
 pub trait Shelf {
-    /// The files, where the shelf tells them.
+    /// The files, if the shelf exposes them.
     ghost files: { Self → Option (List File) };
 
     /// Whether a file is begun and not ended.
@@ -25,11 +25,11 @@ pub trait Shelf {
         ensures done { OnOk result
             (Shelves (files self.old) (files self.new) (BeginFile name.now ∷ [])) }
         ensures state { OnOk result (begun self.new ≡ true) }
-        ensures failed { OnErr result (files self.new ≡ files self.old) }
+        ensures failed { OnErr result (IsUnchanged (files self.old) (files self.new)) }
         ensures cause { HasCause (faults self.old) (faults self.new) result }
-        ensures kept { room self.new ≡ room self.old };
+        ensures unchanged { room self.new ≡ room self.old };
 
-    /// Appends bytes of the front of the piece to the file that is begun, and answers how many: at
+    /// Appends bytes of the front of the piece to the file that is begun, and returns how many: at
     /// least one of a nonempty piece.
     fn write(&mut self, piece: &[u8]) -> Result<usize, Failed>
         requires { begun self.old ≡ true }
@@ -38,16 +38,16 @@ pub trait Shelf {
         ensures taken { IfOk result (λ n.
             Shelves (files self.old) (files self.new) (map FileByte (take n piece.now))) }
         ensures state { OnOk result (begun self.new ≡ true) }
-        ensures failed { OnErr result (files self.new ≡ files self.old) }
+        ensures failed { OnErr result (IsUnchanged (files self.old) (files self.new)) }
         ensures cause { HasCause (faults self.old) (faults self.new) result }
-        ensures kept { room self.new ≡ room self.old };
+        ensures unchanged { room self.new ≡ room self.old };
 
     /// Ends the file that is begun.
     fn end(&mut self) -> Result<(), Failed>
         requires { begun self.old ≡ true }
         ensures done { OnOk result (Shelves (files self.old) (files self.new) (EndFile ∷ [])) }
         ensures state { OnOk result (begun self.new ≡ false) }
-        ensures failed { OnErr result (files self.new ≡ files self.old) }
+        ensures failed { OnErr result (IsUnchanged (files self.old) (files self.new)) }
         ensures cause { HasCause (faults self.old) (faults self.new) result }
-        ensures kept { room self.new ≡ room self.old };
+        ensures unchanged { room self.new ≡ room self.old };
 }

@@ -1,5 +1,5 @@
 ghost use Rattle.std.specs.Prelude.{◌≡◌, ◌<◌, ◌≤◌, ◌+◌, ◌-◌, ◌↔◌, [], ◌∷◌, length, map, take, Some, true, false, IsErr, IsOk, IfOk, OnErr, OnOk, slice_get};
-ghost use Rattle.fx_base.specs.Faults.{HasCause, raised};
+ghost use Rattle.fx_base.specs.Faults.{HasCause, IsUnchanged, raised};
 ghost use Rattle.fx_base.specs.Acts.{Shelves, shelved, BeginFile, FileByte, EndFile};
 ghost use Rattle.fx_base.specs.Memory.{ShelfInMemory, IsSureShelf, has_open, room_of, portion};
 
@@ -108,9 +108,9 @@ impl Shelf for SureShelf {
         ensures done { OnOk result
             (Shelves (Some self.old.files) (Some self.new.files) (BeginFile name.now ∷ [])) }
         ensures state { OnOk result (has_open self.new.files ≡ true) }
-        ensures failed { OnErr result (Some self.new.files ≡ Some self.old.files) }
+        ensures failed { OnErr result (IsUnchanged (Some self.old.files) (Some self.new.files)) }
         ensures cause { HasCause self.old.faults self.new.faults result }
-        ensures kept { Some self.new.room ≡ Some self.old.room }
+        ensures unchanged { Some self.new.room ≡ Some self.old.room }
 
         ensures full { IsErr result ↔ (self.old.room < room_of self.old.files + 64) }
         ensures after { OnOk result
@@ -134,9 +134,9 @@ impl Shelf for SureShelf {
         ensures taken { IfOk result (λ n.
             Shelves (Some self.old.files) (Some self.new.files) (map FileByte (take n piece.now))) }
         ensures state { OnOk result (has_open self.new.files ≡ true) }
-        ensures failed { OnErr result (Some self.new.files ≡ Some self.old.files) }
+        ensures failed { OnErr result (IsUnchanged (Some self.old.files) (Some self.new.files)) }
         ensures cause { HasCause self.old.faults self.new.faults result }
-        ensures kept { Some self.new.room ≡ Some self.old.room }
+        ensures unchanged { Some self.new.room ≡ Some self.old.room }
 
         ensures full { IsErr result
             ↔ ((0 < length piece.now) × (room_of self.old.files ≡ self.old.room)) }
@@ -163,9 +163,9 @@ impl Shelf for SureShelf {
         ensures done { OnOk result
             (Shelves (Some self.old.files) (Some self.new.files) (EndFile ∷ [])) }
         ensures state { OnOk result (has_open self.new.files ≡ false) }
-        ensures failed { OnErr result (Some self.new.files ≡ Some self.old.files) }
+        ensures failed { OnErr result (IsUnchanged (Some self.old.files) (Some self.new.files)) }
         ensures cause { HasCause self.old.faults self.new.faults result }
-        ensures kept { Some self.new.room ≡ Some self.old.room }
+        ensures unchanged { Some self.new.room ≡ Some self.old.room }
 
         ensures never { IsOk result }
         ensures after { self.new

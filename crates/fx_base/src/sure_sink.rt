@@ -1,5 +1,5 @@
 ghost use Rattle.std.specs.Prelude.{◌≡◌, ◌<◌, ◌≤◌, ◌-◌, ◌++◌, ◌↔◌, [], length, take, vec_len, vec_capacity, Some, IsErr, IfOk, OnErr};
-ghost use Rattle.fx_base.specs.Faults.{HasCause, raised};
+ghost use Rattle.fx_base.specs.Faults.{HasCause, IsUnchanged, raised};
 ghost use Rattle.fx_base.specs.Writing.{Appends};
 ghost use Rattle.fx_base.specs.Memory.{SinkInMemory, IsSureSink, portion};
 
@@ -83,9 +83,9 @@ impl Sink for SureSink {
         ensures some { IfOk result (λ n. 0 < length piece.now → 0 < n) }
         ensures taken { IfOk result (λ n.
             Appends (Some self.old.written) (Some self.new.written) (take n piece.now)) }
-        ensures failed { OnErr result (Some self.new.written ≡ Some self.old.written) }
+        ensures failed { OnErr result (IsUnchanged (Some self.old.written) (Some self.new.written)) }
         ensures cause { HasCause self.old.faults self.new.faults result }
-        ensures kept { Some self.new.room ≡ Some self.old.room }
+        ensures unchanged { Some self.new.room ≡ Some self.old.room }
 
         ensures full { IsErr result
             ↔ ((0 < length piece.now) × (length self.old.written ≡ self.old.room)) }

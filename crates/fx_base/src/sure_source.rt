@@ -1,5 +1,5 @@
 ghost use Rattle.std.specs.Prelude.{◌≡◌, ◌<◌, ◌≤◌, ◌++◌, length, take, drop, Some, true, IsOk, IfOk, OnErr};
-ghost use Rattle.fx_base.specs.Faults.{HasCause};
+ghost use Rattle.fx_base.specs.Faults.{HasCause, IsUnchanged};
 ghost use Rattle.fx_base.specs.Reading.{Takes};
 ghost use Rattle.fx_base.specs.Memory.{SourceInMemory, portion};
 
@@ -52,7 +52,7 @@ impl Source for SureSource {
         ensures within { IfOk result (λ n. n ≤ length to.new) }
         ensures taken { IfOk result (λ n.
             Takes (Some self.old.left) (Some self.new.left) to.new n) }
-        ensures failed { OnErr result (Some self.new.left ≡ Some self.old.left) }
+        ensures failed { OnErr result (IsUnchanged (Some self.old.left) (Some self.new.left)) }
         ensures cause { HasCause 0 0 result }
 
         ensures never { IsOk result }

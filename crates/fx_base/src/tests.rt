@@ -134,7 +134,7 @@ fn a_shelf_fails_amid_its_second_file(rt: HostRuntime) -> Result<(), Fail> {
 }
 
 #[test]
-fn errors_are_told_in_words(rt: HostRuntime) -> Result<(), Fail> {
+fn errors_have_messages(rt: HostRuntime) -> Result<(), Fail> {
     let text = format!(in rt.alloc();
         "{}; {}; {}; {}",
         Failed,

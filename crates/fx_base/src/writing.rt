@@ -7,13 +7,13 @@ use crate::failed::Failed;
 use crate::shelf::Shelf;
 use crate::sink::Sink;
 
-/// Writes the whole piece. After a failed call a front part of it was appended, and no further call
+/// Writes the whole piece. After a failed call a prefix of it was appended, and no further call
 /// is made.
 pub fn write_all<K: Sink>(sink: &mut K, piece: &[u8]) -> Result<(), Failed>
     ensures done { OnOk result (Appends (K.written sink.old) (K.written sink.new) piece.now) }
     ensures part { AppendsPart (K.written sink.old) (K.written sink.new) piece.now }
     ensures cause { HasCause (K.faults sink.old) (K.faults sink.new) result }
-    ensures kept { K.room sink.new ≡ K.room sink.old }
+    ensures unchanged { K.room sink.new ≡ K.room sink.old }
 {
     let mut from = 0;
     while from < piece.len() {
@@ -22,7 +22,7 @@ pub fn write_all<K: Sink>(sink: &mut K, piece: &[u8]) -> Result<(), Failed>
     Ok(())
 }
 
-/// Shelves a whole file, ended. After a failed call a front part of its acts was done, and no
+/// Shelves a whole file, ended. After a failed call a prefix of its acts was done, and no
 /// further call is made.
 pub fn shelve<F: Shelf>(shelf: &mut F, name: &[u8], content: &[u8]) -> Result<(), Failed>
     requires none { F.begun shelf.old ≡ false }
@@ -33,7 +33,7 @@ pub fn shelve<F: Shelf>(shelf: &mut F, name: &[u8], content: &[u8]) -> Result<()
     ensures part { ShelvesPart (F.files shelf.old) (F.files shelf.new)
         (acts_of (WholeFile name.now content.now)) }
     ensures cause { HasCause (F.faults shelf.old) (F.faults shelf.new) result }
-    ensures kept { F.room shelf.new ≡ F.room shelf.old }
+    ensures unchanged { F.room shelf.new ≡ F.room shelf.old }
 {
     shelf.begin(name)?;
     fill(shelf, content)?;
@@ -49,7 +49,7 @@ fn fill<F: Shelf>(shelf: &mut F, content: &[u8]) -> Result<(), Failed>
     ensures state { OnOk result (F.begun shelf.new ≡ true) }
     ensures part { ShelvesPart (F.files shelf.old) (F.files shelf.new) (map FileByte content.now) }
     ensures cause { HasCause (F.faults shelf.old) (F.faults shelf.new) result }
-    ensures kept { F.room shelf.new ≡ F.room shelf.old }
+    ensures unchanged { F.room shelf.new ≡ F.room shelf.old }
 {
     let mut from = 0;
     while from < content.len() {

@@ -4,8 +4,13 @@ pub mod Runs
 pub mod Spans
 pub mod Problems
 pub mod Demands
+pub mod Matrices
 pub mod Closing
 pub mod Patterns
 pub mod Canonical
 pub mod Answers
+pub mod Children
+pub mod Outcomes
 pub mod Nodes
+pub mod Components
+pub mod Aliases

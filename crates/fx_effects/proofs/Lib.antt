@@ -1,5 +1,6 @@
 pub mod Mains
 pub mod Numbers
 pub mod Joined
+pub mod Covered
 pub mod Apart
 pub mod Within

@@ -9,8 +9,8 @@ use Rattle.fx_text.specs.Written.{Written}
 use Rattle.fx_text.specs.Names.{place_of}
 use Rattle.fx_text.specs.Refusals.{◌>>=◌}
 use Rattle.fx_text.proofs.Digits.{is_below}
-use Rattle.fx_factors.specs.Ranges.{ending, is_plain, is_range, names_between, number_at_end, numbered}
-use Rattle.fx_factors.proofs.Numbered.{from_here}
+use Rattle.fx_text.specs.Ranges.{ending, is_plain, is_range, names_between, number_at_end, numbered}
+use Rattle.fx_text.proofs.Numbered.{from_here}
 use Rattle.fx_effects.specs.Factors.{main_of, mains_from}
 use Rattle.fx_effects.specs.Expressions.{range_at, expression}
 

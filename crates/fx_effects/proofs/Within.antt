@@ -15,8 +15,8 @@ use Rattle.fx_text.specs.Written.{Written}
 use Rattle.fx_text.specs.Names.{is_same_name, place_of}
 use Rattle.fx_text.specs.Refusals.{refusal_at}
 use Rattle.fx_text.proofs.Chains.{bind_ok, same_ok, if_ok, unless_ok}
-use Rattle.fx_factors.specs.Items.{last_behind}
-use Rattle.fx_factors.specs.Ranges.{is_range, names_between}
+use Rattle.fx_text.specs.Ranges.{range_end}
+use Rattle.fx_text.specs.Ranges.{is_range, names_between}
 use Rattle.fx_laws.proofs.Order.{each-append, each-map, each-weaker}
 use Rattle.fx_vectors.specs.Effects.{pair_count}
 use Rattle.fx_vectors.specs.Question.{CanBeTold}
@@ -136,7 +136,7 @@ module _ (factors : List (List ℕ)) where
       subst (λ (e : Expression). AreOf s e.stars) (same_ok (expression mains.0 1) e mains.2) (mains-of first [] (names_between first.text last.text) mains.0 tt mains.1)
 
   expression-of : (first : Written) (rest : List Written) (e : Expression) → expression_at factors first rest ≡ Ok e → AreOf s e.stars
-  expression-of first rest e is = go (last_behind rest) is
+  expression-of first rest e is = go (range_end rest) is
     where
       go : (last : Option Written) → by_last factors first rest last ≡ Ok e → AreOf s e.stars
       go None is = bars_at-of first rest e is

@@ -1,6 +1,7 @@
 -- The effects that are written in a list: ranges of names, and stars joined by bars.
 use Rattle.std.specs.Prelude.{ℕ, ◌==◌, Bool, false, not, ◌&&◌, ◌||◌, nat_le, min, List, [], ◌∷◌, ◌++◌, suc, take, drop, slice_get, count_ones, bit_or, Option, Some, None, Result, Ok, Err, if◌then◌else◌}
 use Rattle.std.specs.List.{list_any, prefix_len}
+use Rattle.fx_language.specs.declared.code.TheConstants.{IRREGULAR_RANGE, NUMBER_OUT_OF_RANGE}
 use Rattle.fx_language.specs.declared.symbol.Symbol.{Symbol}
 use Rattle.fx_language.specs.declared.symbol.Symbol.TheVariants.{At, Bar, Minus, Star}
 use Rattle.fx_language.specs.Symbols.{is, is_word}
@@ -9,8 +10,8 @@ use Rattle.fx_text.specs.Written.{Written}
 use Rattle.fx_text.specs.Numbers.{number_of}
 use Rattle.fx_text.specs.Names.{place_of}
 use Rattle.fx_text.specs.Refusals.{refusal_at, ◌>>=◌}
-use Rattle.fx_factors.specs.Ranges.{is_range, names_between}
-use Rattle.fx_factors.specs.Items.{last_behind}
+use Rattle.fx_text.specs.Ranges.{is_range, names_between}
+use Rattle.fx_text.specs.Ranges.{range_end}
 use Rattle.fx_effects.specs.Factors.{main_of, mains_from}
 
 -- Stars that are joined by bars, and how many factors their unions may have. Factors with no more than one in a union are a
@@ -49,8 +50,8 @@ stars_len written = prefix_len (λ w. not (is At w.symbol)) written
 
 -- Unions of at most n factors, where 64 are as many as there can be. 29: all stars have more.
 abbrev pub at_most : List ℕ → Written → Option ℕ → Result ℕ Refusal
-at_most stars w None = Err (refusal_at 29 w)
-at_most stars w (Some n) = if list_any (λ e. nat_le (count_ones e) n) stars then Ok (min n 64) else Err (refusal_at 29 w)
+at_most stars w None = Err (refusal_at NUMBER_OUT_OF_RANGE w)
+at_most stars w (Some n) = if list_any (λ e. nat_le (count_ones e) n) stars then Ok (min n 64) else Err (refusal_at NUMBER_OUT_OF_RANGE w)
 
 -- the most factors of a union, by the number after `@`, or as many as there are
 abbrev pub upto_of : List ℕ → Option Written → Result ℕ Refusal
@@ -71,7 +72,7 @@ bars_at factors first rest =
 -- The main effects of a range. 30: it is not regular. 4: a name of it is no factor's.
 abbrev pub range_at : List (List ℕ) → Written → Written → Result Expression Refusal
 range_at factors first last =
-    if not (is_range first.text last.text) then Err (refusal_at 30 first)
+    if not (is_range first.text last.text) then Err (refusal_at IRREGULAR_RANGE first)
     else mains_from first factors [] (names_between first.text last.text) >>= (λ mains. Ok (expression mains 1))
 
 -- a range, where there is a last name, and else stars
@@ -81,7 +82,7 @@ by_last factors first rest (Some last) = range_at factors first last
 
 -- an effect that begins with this name
 abbrev pub expression_at : List (List ℕ) → Written → List Written → Result Expression Refusal
-expression_at factors first rest = by_last factors first rest (last_behind rest)
+expression_at factors first rest = by_last factors first rest (range_end rest)
 
 -- the signs that join the names of one effect
 abbrev pub is_joining : Symbol → Bool

@@ -1,5 +1,6 @@
 -- The set of effects that a list stands for.
 use Rattle.std.specs.Prelude.{ℕ, nat_le, List, [], ◌∷◌, ◌++◌, length, Result, Ok, Err, if◌then◌else◌}
+use Rattle.fx_language.specs.declared.code.TheConstants.{TOO_MANY_EFFECTS}
 use Rattle.fx_text.specs.declared.refusal.Refusal.{Refusal}
 use Rattle.fx_text.specs.Written.{Written}
 use Rattle.fx_text.specs.Refusals.{refusal_at}
@@ -17,7 +18,7 @@ effects_of expressions = in_order (effects_written expressions)
 
 -- at most 100,000 effects, or E23 at the list's word
 abbrev pub at_most_100000 : Written → List ℕ → Result (List ℕ) Refusal
-at_most_100000 word effects = if nat_le (length effects) 100000 then Ok effects else Err (refusal_at 23 word)
+at_most_100000 word effects = if nat_le (length effects) 100000 then Ok effects else Err (refusal_at TOO_MANY_EFFECTS word)
 
 -- stars that are numbers of 64 bits
 abbrev pub AreSmall : List Expression → Type 0

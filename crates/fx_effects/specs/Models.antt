@@ -1,6 +1,7 @@
 -- What a MODEL statement with ESTIMATE asks for.
 use Rattle.std.specs.Prelude.{ℕ, ◌≤◌, ◌==◌, ◌+◌, IsTrue, nat_le, not, List, [], ◌∷◌, length, take, drop, filter, Option, Some, None, Result, Ok, Err, slice_get, if◌then◌else◌}
 use Rattle.std.specs.List.{list_all, list_any, prefix_len}
+use Rattle.fx_language.specs.declared.code.TheConstants.{TOO_MANY_DEMANDS, UNEXPECTED_SYMBOL}
 use Rattle.fx_language.specs.declared.symbol.Symbol.TheVariants.{Close}
 use Rattle.fx_language.specs.Symbols.{is}
 use Rattle.fx_text.specs.declared.refusal.Refusal.{Refusal}
@@ -43,11 +44,11 @@ abbrev pub told_apart : ℕ → Written → List ℕ → List ℕ → Result Eff
 told_apart q word estimate others =
     if nat_le (pair_count q estimate (without estimate others)) 2000000
     then Ok (record { estimate = estimate; nonnegligible = without estimate others })
-    else Err (refusal_at 22 word)
+    else Err (refusal_at TOO_MANY_DEMANDS word)
 
 -- There are effects in a list, or E2 at its word. The grammar lets no list be empty, so no text that it accepts is refused here.
 abbrev pub check_some_effects : Written → List ℕ → Result (Unit {0}) Refusal
-check_some_effects word effects = if length effects == 0 then Err (refusal_at 2 word) else Ok tt
+check_some_effects word effects = if length effects == 0 then Err (refusal_at UNEXPECTED_SYMBOL word) else Ok tt
 
 -- the first of some, or another where there is none
 abbrev pub first_or : Written → List Written → Written
@@ -71,7 +72,7 @@ lists_behind q factors word written =
 
 -- where nothing stands after MODEL, which the grammar refuses too, there is no word to be named
 abbrev pub by_word : ℕ → List (List ℕ) → Option Written → List Written → Result EffectLists Refusal
-by_word q factors None written = Err (refused_at 2 (record { line = 1; column = 1 }))
+by_word q factors None written = Err (refused_at UNEXPECTED_SYMBOL (record { line = 1; column = 1 }))
 by_word q factors (Some word) written = lists_behind q factors word written
 
 -- the lists of a statement `MODEL ESTIMATE = ( .. )`, which may go on by `NONNEGLIGIBLE = ( .. )`

@@ -10,9 +10,8 @@ ghost use Rattle.fx_effects.specs.Expressions.{at_most, bars_at, expression_at, 
 use crate::range::range_at;
 use crate::stars::Stars;
 use fx_base::Bytes;
-use fx_factors::last_behind;
-use fx_language::Symbol;
-use fx_text::{Lexeme, ParseStop, Refusal};
+use fx_language::{Symbol, code};
+use fx_text::{Lexeme, ParseStop, Refusal, range_end};
 use fx_vectors::{Effect, Effects};
 use std::alloc::Global;
 use std::marker::Model;
@@ -51,7 +50,7 @@ pub(crate) fn expression_at(
     ensures numbers { IfOk result (λ e. AreNumbers e.stars) }
     ensures err { IfErr result (IsRefused (expression_at factors.now first.now rest.now)) }
 {
-    match last_behind(rest) {
+    match range_end(rest) {
         None => bars_at(alloc, factors, first, rest),
         Some(last) => range_at(alloc, factors, first, last),
     }
@@ -101,12 +100,12 @@ fn at_most(stars: &Effects, number: &Lexeme<'_>, n: Option<u128>) -> Result<u8, 
     ensures { result ≡ at_most (numbers_of stars.now) number.now n }
 {
     match n {
-        None => Err(number.refused(29)),
+        None => Err(number.refused(code::NUMBER_OUT_OF_RANGE)),
         Some(n) => {
             if has_within(stars, n) {
                 Ok(n.min(64) as u8)
             } else {
-                Err(number.refused(29))
+                Err(number.refused(code::NUMBER_OUT_OF_RANGE))
             }
         }
     }

@@ -3,6 +3,7 @@ ghost use Rattle.fx_text.specs.Names.{place_of};
 ghost use Rattle.fx_effects.specs.Factors.{main_of};
 
 use fx_base::Bytes;
+use fx_language::code;
 use fx_text::{Lexeme, Refusal, place_of};
 use fx_vectors::Effect;
 
@@ -23,7 +24,7 @@ pub(crate) fn main_effect(
 {
     match place_of(name, factors) {
         Some(i) => Ok(Effect(bit(i))),
-        None => Err(place.refused(4)),
+        None => Err(place.refused(code::UNKNOWN_FACTOR)),
     }
 }
 

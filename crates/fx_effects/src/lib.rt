@@ -1,6 +1,7 @@
 //! The effects that a MODEL statement names: products of factors, joined by bars, and ranges.
 #![tactic(auto)]
 
+mod distinct;
 mod expression;
 mod expressions;
 mod factor;

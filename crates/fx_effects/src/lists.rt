@@ -4,14 +4,13 @@ ghost use Rattle.fx_vectors.specs.Effects.{numbers_of};
 ghost use Rattle.fx_demands.specs.Bars.{AreOrdered, IsCause};
 ghost use Rattle.fx_effects.specs.Lists.{AreSmall, at_most_100000, effects_of};
 
+use crate::distinct::distinct;
 use crate::expression::Expression;
-use fx_demands::{EffectStop, bars, merged};
+use fx_demands::{EffectStop, MOST_EFFECTS, bars, merged};
+use fx_language::code;
 use fx_text::{Lexeme, ParseStop};
 use fx_vectors::Effects;
 use std::alloc::Global;
-
-/// The most effects of a list.
-const MOST_EFFECTS: usize = 100_000;
 
 /// The set of effects of a list after this word, in effect order.
 ///
@@ -32,14 +31,27 @@ pub(crate) fn list_of(
 {
     match effects_of(alloc, expressions) {
         Ok(effects) => Ok(effects),
-        Err(EffectStop::TooMany) => Err(ParseStop::Refused(word.refused(23))),
+        Err(EffectStop::TooMany) => Err(ParseStop::Refused(word.refused(code::TOO_MANY_EFFECTS))),
         Err(EffectStop::NoMemory) => Err(ParseStop::NoMemory),
     }
 }
 
 /// The set of effects that they stand for, in effect order. `TooMany` where there are more than
-/// 100,000. Halves are joined, so that an effect is moved as often as the list can be halved.
+/// 100,000.
 fn effects_of(alloc: Global, expressions: &[Expression]) -> Result<Effects, EffectStop>
+    requires { AreSmall expressions.now }
+    ensures effects { IfOk result (λ effects. numbers_of effects ≡ effects_of expressions.now) }
+    ensures ordered { IfOk result (λ effects. AreOrdered (numbers_of effects)) }
+    ensures few { IfOk result (λ effects. length effects ≤ 100000) }
+    ensures many { IfErr result (IsCause (effects_of expressions.now)) }
+{
+    let distinct = distinct(alloc, expressions)?;
+    effects_of_each(alloc, distinct.as_slice())
+}
+
+/// The same, each expression for itself. Halves are joined, so that an effect is moved as often as the
+/// list can be halved.
+fn effects_of_each(alloc: Global, expressions: &[Expression]) -> Result<Effects, EffectStop>
     requires { AreSmall expressions.now }
     ensures effects { IfOk result (λ effects. numbers_of effects ≡ effects_of expressions.now) }
     ensures ordered { IfOk result (λ effects. AreOrdered (numbers_of effects)) }
@@ -50,8 +62,8 @@ fn effects_of(alloc: Global, expressions: &[Expression]) -> Result<Effects, Effe
         return effects_of_one(alloc, expressions);
     }
     let (front, back) = expressions.split_at(expressions.len() / 2);
-    let front = effects_of(alloc, front)?;
-    let back = effects_of(alloc, back)?;
+    let front = effects_of_each(alloc, front)?;
+    let back = effects_of_each(alloc, back)?;
     let all = merged(alloc, &front, &back)?;
     if all.len() > MOST_EFFECTS {
         return Err(EffectStop::TooMany);

@@ -10,7 +10,7 @@ use crate::lists::list_of;
 use fx_base::{Bytes, NoMemory};
 use fx_demands::pair_count;
 use fx_galois::Field;
-use fx_language::Symbol;
+use fx_language::{Symbol, code};
 use fx_text::{Lexeme, ParseStop, Place, Refusal};
 use fx_vectors::{Effects, contains};
 use std::alloc::Global;
@@ -59,7 +59,10 @@ pub fn effects_of(
     ensures err { IfErr result (IsRefused (lists_of field factors.now statement.now)) }
 {
     match statement.get(1) {
-        None => Err(ParseStop::Refused(Place { line: 1, column: 1 }.refused(2))),
+        None => Err(ParseStop::Refused(Refusal::at(
+            Place { line: 1, column: 1 },
+            code::UNEXPECTED_SYMBOL,
+        ))),
         Some(word) => effects_behind(alloc, field, factors, word, from(statement, 4)),
     }
 }
@@ -123,7 +126,7 @@ fn check_some_effects(word: &Lexeme<'_>, effects: &Effects) -> Result<(), Refusa
     ensures { result ≡ check_some_effects word.now (numbers_of effects.now) }
 {
     if effects.len() == 0 {
-        return Err(word.refused(2));
+        return Err(word.refused(code::UNEXPECTED_SYMBOL));
     }
     Ok(())
 }
@@ -150,11 +153,11 @@ fn told_apart(
     // are at most 1,414 effects that each of them is compared with.
     let none = Effects::new(alloc);
     if pair_count(field, &estimate, &none).is_none() {
-        return Err(ParseStop::Refused(word.refused(22)));
+        return Err(ParseStop::Refused(word.refused(code::TOO_MANY_DEMANDS)));
     }
     let nonnegligible = without(alloc, &estimate, others)?;
     if pair_count(field, &estimate, &nonnegligible).is_none() {
-        return Err(ParseStop::Refused(word.refused(22)));
+        return Err(ParseStop::Refused(word.refused(code::TOO_MANY_DEMANDS)));
     }
     Ok(ModelEffects {
         estimate,

@@ -1,6 +1,6 @@
 ghost use Rattle.std.specs.Prelude.{◌≡◌, ◌≤◌, ◌+◌, ◌^◌, length, [], Ok, IfOk, IfErr};
 ghost use Rattle.fx_text.specs.Refusals.{IsRefused};
-ghost use Rattle.fx_factors.specs.Ranges.{numbered, stem};
+ghost use Rattle.fx_text.specs.Ranges.{numbered, stem};
 ghost use Rattle.fx_vectors.specs.Effects.{numbers_of};
 ghost use Rattle.fx_demands.specs.Bars.{AreNumbers};
 ghost use Rattle.fx_effects.specs.Factors.{mains_from};
@@ -9,8 +9,8 @@ ghost use Rattle.fx_effects.specs.Expressions.{range_at};
 use crate::expression::Expression;
 use crate::factor::main_effect;
 use fx_base::Bytes;
-use fx_factors::{is_range, number_at_end, numbered_name, stem};
-use fx_text::{Lexeme, ParseStop};
+use fx_language::code;
+use fx_text::{Lexeme, ParseStop, is_range, number_at_end, numbered_name, stem};
 use fx_vectors::Effects;
 use std::alloc::Global;
 
@@ -32,7 +32,7 @@ pub(crate) fn range_at(
 {
     let (low, high) = (first.text(), last.text());
     if !is_range(low, high) {
-        return Err(ParseStop::Refused(first.refused(30)));
+        return Err(ParseStop::Refused(first.refused(code::IRREGULAR_RANGE)));
     }
     let from = number_at_end(low);
     let upto = number_at_end(high);

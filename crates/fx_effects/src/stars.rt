@@ -7,7 +7,7 @@ ghost use Rattle.fx_effects.specs.Expressions.{all_read, read, stars_of, with_na
 use crate::factor::main_effect;
 use fx_base::{Bytes, NoMemory};
 use fx_language::Symbol;
-use fx_text::{Lexeme, ParseStop, Refusal};
+use fx_text::{Lexeme, ParseStop, Refusal, range_end};
 use fx_vectors::{Effect, Effects};
 use std::alloc::Global;
 use std::marker::Model;

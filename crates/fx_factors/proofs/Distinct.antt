@@ -15,10 +15,10 @@ use Rattle.fx_text.specs.Written.{Written}
 use Rattle.fx_text.specs.Names.{is_same_name, place_of}
 use Rattle.fx_text.specs.Refusals.{◌>>=◌}
 use Rattle.fx_text.proofs.Digits.{is_below}
-use Rattle.fx_factors.specs.Ranges.{is_range, is_numeral, is_plain, numbered, stem, ending, number_at_end}
+use Rattle.fx_text.specs.Ranges.{is_range, is_numeral, is_plain, numbered, stem, ending, number_at_end}
 use Rattle.fx_factors.specs.Items.{Item, is_regular, is_regular_from, names_of, names_from, items_of}
 use Rattle.fx_factors.specs.Factors.{are_known, added, all_added, factors_of}
-use Rattle.fx_factors.proofs.Parts.{plain, order}
+use Rattle.fx_text.proofs.RangeParts.{plain, order}
 use Rattle.fx_factors.proofs.NumbersDiffer.{numbered_differ}
 
 same_turned : (a b : List ℕ) → is_same_name a b ≡ is_same_name b a

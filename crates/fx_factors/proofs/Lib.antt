@@ -1,4 +1,3 @@
-pub mod Parts
 pub mod Numbered
 pub mod Added
 pub mod NumbersDiffer

@@ -1,45 +1,24 @@
--- The names of a range, one by one.
-use Rattle.std.proofs.Common.{◌≡◌, ℕ, suc, ◌+◌, ◌<◌, ◌≤◌, true, false, ◌||◌, List, [], ◌∷◌, ◌++◌, length, take, drop, get_or, refl, ap, ◌∙◌}
+-- Whether a name of a range is known, from one name on.
+use Rattle.std.proofs.Common.{◌≡◌, ℕ, ◌+◌, ◌<◌, ◌≤◌, true, false, ◌||◌, List, ◌++◌, length, take, drop, ap, ◌∙◌}
 use Rattle.std.specs.Prelude.{decimal, is_some}
-use Rattle.std.proofs.Math.Seq.{drop-cons, take-suc, take-append_seam}
-use Rattle.std.proofs.lemmas.List.{take_all, drop_all}
-use Rattle.std.proofs.Math.Numerals.{add-one}
-use Rattle.std.proofs.lemmas.List.FromFn.{length-map-range_with_len, get_or-map-range_with_len}
+use Rattle.std.proofs.Math.Seq.{take-append_seam}
 use Rattle.fx_text.specs.Names.{place_of}
-use Rattle.fx_factors.specs.Ranges.{numbered}
+use Rattle.fx_text.specs.Ranges.{numbered}
+use Rattle.fx_text.proofs.Numbered.{from_here, none_after}
 use Rattle.fx_factors.specs.Factors.{are_known}
 
 module _ (stem : List ℕ) (from count i : ℕ) (h : i < count) where
   abbrev all : List (List ℕ)
   all = numbered stem from count
 
-  inside : i < length all
-  inside = rw length-map-range_with_len h
-
-  name_is : get_or all i [] ≡ stem ++ decimal (from + i)
-  name_is = get_or-map-range_with_len (λ n. stem ++ decimal n) from count i (from + i) [] h refl
-
-  pub one_more : take (i + 1) all ≡ take i all ++ (stem ++ decimal (from + i)) ∷ []
-  one_more = rw (add-one, take-suc all i [] inside, name_is) refl
-
-  pub from_here : drop i all ≡ (stem ++ decimal (from + i)) ∷ drop (i + 1) all
-  from_here = rw (add-one i) (drop-cons all i [] inside ∙ ap (λ name. name ∷ drop (suc i) all) name_is)
-
   pub known_here : (names : List (List ℕ)) → is_some (place_of (stem ++ decimal (from + i)) names) ≡ true → are_known (drop i all) names ≡ true
-  known_here names e = ap (λ l. are_known l names) from_here ∙ ap (λ b. b || are_known (drop (i + 1) all) names) e
+  known_here names e = ap (λ l. are_known l names) (from_here stem from count i h) ∙ ap (λ b. b || are_known (drop (i + 1) all) names) e
 
   pub not_here : (names : List (List ℕ)) → is_some (place_of (stem ++ decimal (from + i)) names) ≡ false → are_known (drop i all) names ≡ are_known (drop (i + 1) all) names
-  not_here names e = ap (λ l. are_known l names) from_here ∙ ap (λ b. b || are_known (drop (i + 1) all) names) e
+  not_here names e = ap (λ l. are_known l names) (from_here stem from count i h) ∙ ap (λ b. b || are_known (drop (i + 1) all) names) e
 
-module _ (stem : List ℕ) (from count i : ℕ) (h : count ≤ i) where
-  over : length (numbered stem from count) ≤ i
-  over = rw length-map-range_with_len h
-
-  pub all_taken : take i (numbered stem from count) ≡ numbered stem from count
-  all_taken = take_all i (numbered stem from count) over
-
-  pub none_left : (names : List (List ℕ)) → are_known (drop i (numbered stem from count)) names ≡ false
-  none_left names = rw (drop_all i (numbered stem from count) over) refl
+pub none_left : (stem : List ℕ) (from count i : ℕ) → count ≤ i → (names : List (List ℕ)) → are_known (drop i (numbered stem from count)) names ≡ false
+none_left stem from count i h names = ap (λ l. are_known l names) (none_after stem from count i h)
 
 -- what stands in front
 pub behind : (old new : List (List ℕ)) → take (length old) (old ++ new) ≡ old

@@ -11,7 +11,7 @@ use Rattle.std.proofs.lemmas.Slice.Eq.{bytes_eq-Decides}
 use Rattle.std.proofs.lemmas.Str.Ascii.{lowercase_is}
 use Rattle.std.proofs.lemmas.Str.Parse.{digit_from_value}
 use Rattle.fx_text.specs.Names.{is_same_name}
-use Rattle.fx_factors.specs.Ranges.{numbered}
+use Rattle.fx_text.specs.Ranges.{numbered}
 
 -- digits have no case
 no_case : (ds : List ℕ) → AllDigits 10 ds → map to_ascii_lowercase ds ≡ ds

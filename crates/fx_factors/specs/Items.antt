@@ -4,7 +4,7 @@ use Rattle.std.specs.List.{prefix_len}
 use Rattle.fx_language.specs.declared.symbol.Symbol.TheVariants.{Slash, Minus}
 use Rattle.fx_language.specs.Symbols.{is}
 use Rattle.fx_text.specs.Written.{Written}
-use Rattle.fx_factors.specs.Ranges.{is_range, names_between}
+use Rattle.fx_text.specs.Ranges.{is_range, names_between, range_end}
 
 -- a name, or the first and the last name of a range
 pub record Item : Type 0 where
@@ -15,22 +15,12 @@ pub record Item : Type 0 where
 abbrev pub item : Written → Option Written → Item
 item first last = record { first = first; last = last }
 
--- the first of some
-abbrev pub first_of : List Written → Option Written
-first_of [] = None
-first_of (w ∷ rest) = Some w
-
--- the last name of a range, where `-` stands after the first
-abbrev pub last_behind : List Written → Option Written
-last_behind [] = None
-last_behind (w ∷ rest) = if is Minus w.symbol then first_of rest else None
-
 -- the items, where `-` stands before the first lexeme or not: all that is neither `-` nor after one begins an item
 abbrev pub items_from : Bool → List Written → List Item
 items_from behind_minus [] = []
 items_from behind_minus (w ∷ rest) =
     if behind_minus || is Minus w.symbol then items_from (is Minus w.symbol) rest
-    else item w (last_behind rest) ∷ items_from (is Minus w.symbol) rest
+    else item w (range_end rest) ∷ items_from (is Minus w.symbol) rest
 
 -- what stands before a `/`
 abbrev pub before_slash : List Written → List Written

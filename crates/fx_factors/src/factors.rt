@@ -5,14 +5,15 @@ ghost use Rattle.fx_language.specs.declared.symbol.Symbol.TheVariants.{Slash};
 ghost use Rattle.fx_language.specs.Symbols.{is};
 ghost use Rattle.fx_text.specs.Names.{is_same_name};
 ghost use Rattle.fx_text.specs.Refusals.{IsRefused};
-ghost use Rattle.fx_factors.specs.Ranges.{numbered, stem};
-ghost use Rattle.fx_factors.specs.Items.{before_slash, item, last_behind};
+ghost use Rattle.fx_text.specs.Ranges.{numbered, range_end, stem};
+ghost use Rattle.fx_factors.specs.Items.{before_slash, item};
 ghost use Rattle.fx_factors.specs.Factors.{added, are_known, factors_of, known_at};
 
-use crate::range::{is_range, number_at_end, stem};
-use fx_base::{Bytes, NoMemory, put_number};
-use fx_language::Symbol;
-use fx_text::{Lexeme, Names, ParseStop, place_of};
+use fx_base::{Bytes, NoMemory};
+use fx_language::{Symbol, code};
+use fx_text::{
+    Lexeme, Names, ParseStop, is_range, number_at_end, numbered_name, place_of, range_end, stem,
+};
 use std::alloc::Global;
 
 /// The names of a step's factors by its FACTORS statement, where at most `limit` may be.
@@ -36,7 +37,7 @@ pub fn factors_of(alloc: Global, statement: &[Lexeme<'_>], limit: usize) -> Resu
     for (i, w) in items.iter().enumerate() {
         let minus = w.is(Symbol::Minus);
         if !(behind_minus || minus) {
-            add(alloc, &mut names, limit, w, last_behind(&items[i + 1..]))?;
+            add(alloc, &mut names, limit, w, range_end(&items[i + 1..]))?;
         }
         behind_minus = minus;
     }
@@ -80,10 +81,10 @@ fn add_name(
     ensures bound { OnOk result (length names.new ≤ limit) }
 {
     if limit <= names.len() {
-        return Err(ParseStop::Refused(name.refused(10)));
+        return Err(ParseStop::Refused(name.refused(code::TOO_MANY_FACTORS)));
     }
     if place_of(name.text(), names.as_slice()).is_some() {
-        return Err(ParseStop::Refused(name.refused(5)));
+        return Err(ParseStop::Refused(name.refused(code::REPEATED_NAME)));
     }
     names.push(Bytes::from_slice(alloc, name.text())?)?;
     Ok(())
@@ -105,12 +106,12 @@ fn add_range(
 {
     let (low, high) = (first.text(), last.text());
     if !is_range(low, high) {
-        return Err(ParseStop::Refused(first.refused(30)));
+        return Err(ParseStop::Refused(first.refused(code::IRREGULAR_RANGE)));
     }
     let from = number_at_end(low);
     let upto = number_at_end(high);
     if (limit - names.len()) as u128 <= upto - from {
-        return Err(ParseStop::Refused(first.refused(10)));
+        return Err(ParseStop::Refused(first.refused(code::TOO_MANY_FACTORS)));
     }
     add_numbered(alloc, names, first, from, (upto - from + 1) as usize)
 }
@@ -137,20 +138,11 @@ fn add_numbered(
     for i in 0..count {
         let name = numbered_name(alloc, stem(first.text()), from + i as u128)?;
         if place_of(name.as_slice(), &names.as_slice()[..known]).is_some() {
-            return Err(ParseStop::Refused(first.refused(5)));
+            return Err(ParseStop::Refused(first.refused(code::REPEATED_NAME)));
         }
         names.push(name)?;
     }
     Ok(())
-}
-
-/// A stem with a number after it.
-pub fn numbered_name(alloc: Global, stem: &[u8], number: u128) -> Result<Bytes, NoMemory>
-    ensures { IfOk result (λ name. name ≡ stem.now ++ decimal number) }
-{
-    let mut name = Bytes::from_slice(alloc, stem)?;
-    put_number(&mut name, number)?;
-    Ok(name)
 }
 
 /// What stands before a `/`.
@@ -165,16 +157,4 @@ fn before_slash_len(lexemes: &[Lexeme<'_>]) -> usize
     ensures bound { result ≤ length lexemes.now }
 {
     lexemes.iter().take_while(|w| !w.is(Symbol::Slash)).count()
-}
-
-/// The last name of a range, where `-` stands after the first.
-pub fn last_behind<'b, 'a>(lexemes: &'b [Lexeme<'a>]) -> Option<&'b Lexeme<'a>>
-    ensures { MatchOption result (last_behind lexemes.now ≡ None)
-        (λ w. last_behind lexemes.now ≡ Some w.now) }
-{
-    if 1 < lexemes.len() && lexemes[0].is(Symbol::Minus) {
-        Some(&lexemes[1])
-    } else {
-        None
-    }
 }

@@ -2,7 +2,5 @@
 #![tactic(auto)]
 
 mod factors;
-mod range;
 
-pub use factors::{factors_of, last_behind, numbered_name};
-pub use range::{is_range, number_at_end, stem};
+pub use factors::factors_of;

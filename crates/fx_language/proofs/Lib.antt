@@ -6,5 +6,3 @@ mod StepEnds
 mod Prefixes
 mod SameTexts
 mod Table
-mod Pass
-mod Examples

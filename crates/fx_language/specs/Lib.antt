@@ -4,7 +4,5 @@ pub mod Spellings
 pub mod Shapes
 pub mod Grammar
 pub mod Literal
-pub mod Repeats
-pub mod Pasts
 pub mod Refusals
 pub mod Laws

@@ -1,9 +1,9 @@
-//! The language of programs: its symbols, its grammar, and where a text is refused.
+//! The language of programs: its symbols, its grammar, and where the grammar refuses a text.
 #![tactic(auto)]
 
+pub mod code;
 mod keyword;
 mod laws;
-mod repeated;
 mod symbol;
 mod token;
 
@@ -11,7 +11,6 @@ pub use laws::{
     accepted_is_a_program, after_is_what_follows, codes_change_no_text, refused_is_the_first,
     sequence_is_one_before_another,
 };
-pub use repeated::first_by_rules;
 pub use symbol::{Symbol, Symbols};
 pub use token::symbols;
 

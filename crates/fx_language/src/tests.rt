@@ -1,4 +1,4 @@
-use crate::{Symbol, first_by_rules, symbols};
+use crate::{Symbol, symbols};
 use fx_lexer::lex;
 use std::test::Fail;
 
@@ -88,17 +88,5 @@ fn other_tokens_have_their_symbols(rt: HostRuntime) -> Result<(), Fail> {
         Symbol::Minus,
     ];
     assert_eq!(rt; read.as_slice(), want.as_slice());
-    Ok(())
-}
-
-#[test]
-fn step_101_is_refused(rt: HostRuntime) -> Result<(), Fail> {
-    let mut program = Vec::new(rt.alloc());
-    for _step in 0..100 {
-        program.extend_from_slice(&[Symbol::Proc, Symbol::Factex, Symbol::Semicolon])?;
-    }
-    assert_eq!(rt; first_by_rules(&program), None);
-    program.extend_from_slice(&[Symbol::Proc, Symbol::Factex])?;
-    assert_eq!(rt; first_by_rules(&program), Some((32, 300)));
     Ok(())
 }

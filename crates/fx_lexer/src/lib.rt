@@ -11,6 +11,7 @@ mod token;
 
 pub use laws::{spans_hold_the_pieces, text_is_pieces};
 pub use lexing::lex;
+pub use place::Place;
 pub use token::{Kind, LexFault, LexStop, Token, Tokens};
 
 #[cfg(test)]

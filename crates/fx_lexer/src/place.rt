@@ -1,10 +1,12 @@
 ghost use Rattle.std.specs.Prelude.{◌≡◌, ◌^◌, ◌<◌, ◌≤◌, take, length};
 ghost use Rattle.fx_lexer.specs.Places.{next_place, place_after};
 
-/// A line and a column, both from 1.
-#[derive(Clone, Copy, Debug)]
+/// A place of a text.
+#[derive(Clone, Copy, Debug, PartialEq, Eq)]
 pub struct Place {
+    /// Its line, from 1.
     pub line: u32,
+    /// Its column, which counts the bytes of the line from 1.
     pub column: u32,
 }
 

@@ -1,5 +1,6 @@
 pub mod Accepted
 mod Examples
+pub mod Folded
 pub mod InOrder
 pub mod Limits
 pub mod Statements

@@ -1,5 +1,6 @@
 -- The column of blocks: its name, and the values that stand in it.
 use Rattle.std.specs.Prelude.{ℕ, Bool, true, false, ◌&&◌, ◌||◌, is_some, codes, List, [], Option, Some, None, Result, Ok, Err, if◌then◌else◌}
+use Rattle.fx_language.specs.declared.code.TheConstants.{BLOCKNAME_WITHOUT_BLOCKS, REPEATED_NAME}
 use Rattle.fx_language.specs.declared.symbol.Symbol.TheVariants.{Nvals, Cvals, Equals}
 use Rattle.fx_language.specs.Symbols.{is}
 use Rattle.fx_text.specs.declared.refusal.Refusal.{Refusal}
@@ -26,11 +27,11 @@ values_wanted blocks.Open = None
 -- E31 at the word BLOCKNAME, where a step without blocks has it
 abbrev pub check_blockname : BlockCount → Option Written → Result (Unit {0}) Refusal
 check_blockname count None = Ok tt
-check_blockname count (Some word) = if has_blocks count then Ok tt else Err (refusal_at 31 word)
+check_blockname count (Some word) = if has_blocks count then Ok tt else Err (refusal_at BLOCKNAME_WITHOUT_BLOCKS word)
 
 -- no factor has this name, or E5 at w
 abbrev pub check_free : List (List ℕ) → List ℕ → Written → Result (Unit {0}) Refusal
-check_free factors name w = if is_some (place_of name factors) then Err (refusal_at 5 w) else Ok tt
+check_free factors name w = if is_some (place_of name factors) then Err (refusal_at REPEATED_NAME w) else Ok tt
 
 -- The column's name is no factor's: BLOCKNAME's name, or else BLOCK. `output` is the word OUTPUT. A step without
 -- blocks has no such column.

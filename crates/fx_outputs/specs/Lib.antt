@@ -5,5 +5,6 @@ pub mod Shuffles
 pub mod Values
 pub mod Blocks
 pub mod Recodes
+pub mod Earlier
 pub mod Outputs
 pub mod Validity

@@ -1,5 +1,6 @@
 -- OUTPUT statements: the files that a step writes.
 use Rattle.std.specs.Prelude.{ℕ, is_some, List, [], ◌∷◌, ◌++◌, map, drop, slice_get, Result, Ok, Err, if◌then◌else◌}
+use Rattle.fx_language.specs.declared.code.TheConstants.{REPEATED_OUT_NAME}
 use Rattle.fx_language.specs.declared.symbol.Symbol.TheVariants.{Output, Pointrep, Designrep, Blockname}
 use Rattle.fx_language.specs.Symbols.{is}
 use Rattle.fx_text.specs.declared.refusal.Refusal.{Refusal}
@@ -16,7 +17,7 @@ use Rattle.fx_outputs.specs.Recodes.{recodes_of}
 
 -- the OUT name does not stand before, or E18 at the name
 abbrev pub check_new_name : List (List ℕ) → Written → Result (Unit {0}) Refusal
-check_new_name earlier name = if is_some (place_of name.text earlier) then Err (refusal_at 18 name) else Ok tt
+check_new_name earlier name = if is_some (place_of name.text earlier) then Err (refusal_at REPEATED_OUT_NAME name) else Ok tt
 
 -- An OUTPUT statement after these OUT names: `word` is the word OUTPUT, `name` the OUT name, and `s` what stands
 -- after `OUT =`, the name first.

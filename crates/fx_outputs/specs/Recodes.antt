@@ -1,6 +1,7 @@
 -- The factors that have values of their own.
 use Rattle.std.specs.Prelude.{ℕ, ◌+◌, ◌==◌, Bool, not, ◌&&◌, List, [], ◌∷◌, ◌++◌, Option, Some, None, Result, Ok, Err, if◌then◌else◌}
 use Rattle.std.specs.List.{list_any}
+use Rattle.fx_language.specs.declared.code.TheConstants.{REPEATED_OPTION, UNKNOWN_FACTOR}
 use Rattle.fx_language.specs.declared.symbol.Symbol.TheVariants.{Equals}
 use Rattle.fx_language.specs.Symbols.{is, is_word, is_output_option}
 use Rattle.fx_text.specs.declared.refusal.Refusal.{Refusal}
@@ -19,7 +20,7 @@ is_recoded before name word =
 
 -- the place of a factor among the step's, from 1, or E4 at the name
 abbrev pub factor_at : Written → Option ℕ → Result ℕ Refusal
-factor_at name None = Err (refusal_at 4 name)
+factor_at name None = Err (refusal_at UNKNOWN_FACTOR name)
 factor_at name (Some i) = Ok (i + 1)
 
 -- the factor at this place has values already
@@ -28,7 +29,7 @@ has_values earlier place = list_any (λ (r : Recode). r.place == place) earlier
 
 -- the place of a factor that has no values yet, or E28 at the name
 abbrev pub unused_place : List Recode → Written → ℕ → Result ℕ Refusal
-unused_place earlier name place = if has_values earlier place then Err (refusal_at 28 name) else Ok place
+unused_place earlier name place = if has_values earlier place then Err (refusal_at REPEATED_OPTION name) else Ok place
 
 -- A factor and its values, after those of the same statement that stand earlier. `word` is NVALS or CVALS, `rest` is
 -- what stands after it.

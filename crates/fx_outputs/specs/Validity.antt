@@ -1,6 +1,7 @@
 -- What holds of every output that is accepted, without a word on how it is read.
 use Rattle.std.specs.Prelude.{◌≡◌, ◌≢◌, ◌*◌, ◌≤◌, List, [], length, All}
 use Rattle.std.specs.List.{AllPairs}
+use Rattle.fx_outputs.specs.declared.replication.TheConstants.{MOST_ROWS}
 use Rattle.fx_outputs.specs.declared.output.OutputSpec.{OutputSpec}
 use Rattle.fx_outputs.specs.declared.recode.Recode.{Recode}
 use Rattle.fx_outputs.specs.Contexts.{Context}
@@ -21,6 +22,6 @@ pub record AreRecodes (context : Context) (recodes : List Recode) : Type 0 where
 pub record IsWithinLimits (context : Context) (output : OutputSpec) : Type 0 where
   pub pointrep : 1 ≤ output.pointrep
   pub designrep : 1 ≤ output.designrep
-  pub rows : context.runs * output.pointrep * output.designrep ≤ 200000
+  pub rows : context.runs * output.pointrep * output.designrep ≤ MOST_ROWS
   pub recodes : AreRecodes context output.recodes
   pub block_values : output.block_values ≢ [] → context.blocks ≡ blocks.Fixed (length output.block_values)

@@ -9,7 +9,7 @@ use crate::context::{BlockCount, OutputContext};
 use crate::option::{at, begins, from};
 use crate::value::counted_values;
 use fx_base::{Bytes, NoMemory};
-use fx_language::Symbol;
+use fx_language::{Symbol, code};
 use fx_text::{Lexeme, Names, ParseStop, Refusal, place_of};
 use std::alloc::Global;
 
@@ -28,7 +28,7 @@ pub fn check_blockname(blocks: BlockCount, blockname: &[Lexeme<'_>]) -> Result<(
             if has_blocks(blocks) {
                 return Ok(());
             }
-            Err(word.refused(31))
+            Err(word.refused(code::BLOCKNAME_WITHOUT_BLOCKS))
         }
     }
 }
@@ -120,7 +120,7 @@ fn check_free(factors: &[Bytes], name: &[u8], at: &Lexeme<'_>) -> Result<(), Ref
     ensures { result ≡ check_free factors.now name.now at.now }
 {
     if place_of(name, factors).is_some() {
-        return Err(at.refused(5));
+        return Err(at.refused(code::REPEATED_NAME));
     }
     Ok(())
 }

@@ -3,6 +3,7 @@
 
 mod block;
 mod context;
+mod earlier;
 mod option;
 mod output;
 mod recode;
@@ -11,6 +12,7 @@ mod shuffle;
 mod value;
 
 pub use context::{BlockCount, OutputContext};
+pub use earlier::EarlierNames;
 pub use output::{OutputSpec, Outputs, outputs};
 pub use recode::{Recode, Recodes};
 pub use shuffle::Shuffle;

@@ -1,4 +1,4 @@
-ghost use Rattle.std.specs.Prelude.{◌≡◌, ◌++◌, ◌&&◌, nat_lt, length, IfOk, IfErr, All};
+ghost use Rattle.std.specs.Prelude.{◌≡◌, ◌++◌, ◌∷◌, [], ◌&&◌, nat_lt, length, IfOk, IfErr, OnOk, All};
 ghost use Rattle.fx_language.specs.declared.symbol.Symbol.TheVariants.{Output};
 ghost use Rattle.fx_text.specs.Written.{begins};
 ghost use Rattle.fx_text.specs.Refusals.{IsRefused};
@@ -7,13 +7,14 @@ ghost use Rattle.fx_outputs.specs.Validity.{IsWithinLimits};
 
 use crate::block::{block_name, block_values, check_blockname, check_column};
 use crate::context::OutputContext;
+use crate::earlier::EarlierNames;
 use crate::option::from_option;
 use crate::recode::{Recodes, recodes};
 use crate::replication::{check_rows, replication};
 use crate::shuffle::{Shuffle, shuffle_asked};
 use fx_base::{Bytes, Items};
-use fx_language::Symbol;
-use fx_text::{Lexeme, Names, ParseStop, Refusal, Statement, place_of};
+use fx_language::{Symbol, code};
+use fx_text::{Lexeme, Names, ParseStop, Statement};
 use std::alloc::Global;
 
 /// A file that a step writes.
@@ -49,7 +50,7 @@ pub type Outputs = Items<OutputSpec>;
 pub fn outputs(
     alloc: Global,
     context: &OutputContext<'_>,
-    earlier: &mut Names,
+    earlier: &mut EarlierNames,
     statements: &[Statement<'_>],
 ) -> Result<Outputs, ParseStop>
     ensures ok { IfOk result (λ outputs.
@@ -64,15 +65,7 @@ pub fn outputs(
             let lexemes = statement.lexemes();
             let word = &lexemes[0];
             let name = &lexemes[3];
-            let output = output(
-                alloc,
-                context,
-                earlier.as_slice(),
-                word,
-                name,
-                &lexemes[3..],
-            )?;
-            earlier.push(Bytes::from_slice(alloc, output.name.as_slice())?)?;
+            let output = output(alloc, context, earlier, word, name, &lexemes[3..])?;
             outputs.push(output)?;
         }
     }
@@ -87,22 +80,23 @@ fn is_output(statement: &Statement<'_>) -> bool
 }
 
 /// An OUTPUT statement: `word` is the word OUTPUT, `name` the OUT name, and `lexemes` what stands
-/// after `OUT =`.
+/// after `OUT =`. The name is added to the earlier ones.
 fn output(
     alloc: Global,
     context: &OutputContext<'_>,
-    earlier: &[Bytes],
+    earlier: &mut EarlierNames,
     word: &Lexeme<'_>,
     name: &Lexeme<'_>,
     lexemes: &[Lexeme<'_>],
 ) -> Result<OutputSpec, ParseStop>
     ensures ok { IfOk result (λ output.
-        output_of context.now earlier.now word.now name.now lexemes.now ≡ Ok output) }
+        output_of context.now earlier.old word.now name.now lexemes.now ≡ Ok output) }
+    ensures name { IfOk result (λ output. earlier.new ≡ earlier.old ++ output.name ∷ []) }
     ensures err { IfErr result
-        (IsRefused (output_of context.now earlier.now word.now name.now lexemes.now)) }
+        (IsRefused (output_of context.now earlier.old word.now name.now lexemes.now)) }
 {
     let blockname = from_option(Symbol::Blockname, lexemes);
-    check_new_name(earlier, name)?;
+    add_name(alloc, earlier, name)?;
     let pointrep = replication(Symbol::Pointrep, lexemes)?;
     let designrep = replication(Symbol::Designrep, lexemes)?;
     check_rows(context.runs, pointrep, designrep, name)?;
@@ -122,16 +116,18 @@ fn output(
     })
 }
 
-/// Tests that the OUT name does not stand before.
+/// Adds the OUT name to the earlier ones.
 ///
 /// # Errors
 ///
-/// E18 at the name: it does.
-fn check_new_name(earlier: &[Bytes], name: &Lexeme<'_>) -> Result<(), Refusal>
-    ensures { result ≡ check_new_name earlier.now name.now }
+/// E18 at the name: it is one of them. And `NoMemory`.
+fn add_name(alloc: Global, earlier: &mut EarlierNames, name: &Lexeme<'_>) -> Result<(), ParseStop>
+    ensures ok { OnOk result (check_new_name earlier.old name.now ≡ Ok tt) }
+    ensures name { OnOk result (earlier.new ≡ earlier.old ++ name.now.text ∷ []) }
+    ensures err { IfErr result (IsRefused (check_new_name earlier.old name.now)) }
 {
-    if place_of(name.text(), earlier).is_some() {
-        return Err(name.refused(18));
+    if earlier.add(alloc, name.text())? {
+        return Ok(());
     }
-    Ok(())
+    Err(ParseStop::Refused(name.refused(code::REPEATED_OUT_NAME)))
 }

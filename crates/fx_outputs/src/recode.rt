@@ -6,7 +6,7 @@ ghost use Rattle.fx_outputs.specs.Recodes.{factor_at, has_values, is_recoded, re
 use crate::context::OutputContext;
 use crate::value::counted_values;
 use fx_base::Items;
-use fx_language::Symbol;
+use fx_language::{Symbol, code};
 use fx_text::{Lexeme, Names, ParseStop, Refusal, place_of};
 use std::alloc::Global;
 
@@ -90,7 +90,7 @@ fn factor_at(context: &OutputContext<'_>, name: &Lexeme<'_>) -> Result<u8, Refus
 {
     match place_of(name.text(), context.factors) {
         Some(i) => Ok(i as u8 + 1),
-        None => Err(name.refused(4)),
+        None => Err(name.refused(code::UNKNOWN_FACTOR)),
     }
 }
 
@@ -103,7 +103,7 @@ fn unused_place(earlier: &[Recode], name: &Lexeme<'_>, place: u8) -> Result<u8, 
     ensures { result ≡ unused_place earlier.now name.now place }
 {
     if has_values(earlier, place) {
-        return Err(name.refused(28));
+        return Err(name.refused(code::REPEATED_OPTION));
     }
     Ok(place)
 }

@@ -4,8 +4,11 @@ ghost use Rattle.std.specs.Prelude.{◌≡◌, Some};
 ghost use Rattle.fx_outputs.specs.Replications.{check_rows, replication_at, replication_of};
 
 use crate::option::{at, from_option};
-use fx_language::Symbol;
+use fx_language::{Symbol, code};
 use fx_text::{Lexeme, Refusal};
+
+/// The most rows of a file, and so the greatest replication.
+const MOST_ROWS: u128 = 200_000;
 
 /// The number of POINTREP or DESIGNREP, or 1.
 ///
@@ -26,9 +29,9 @@ fn in_range(number: &Lexeme<'_>) -> Result<u32, Refusal>
     ensures { result ≡ replication_at (Some number.now) }
 {
     match number.number() {
-        Some(n) if (1..=200_000).contains(&n) => Ok(n as u32),
-        Some(_) => Err(number.refused(20)),
-        None => Err(number.refused(20)),
+        Some(n) if (1..=MOST_ROWS).contains(&n) => Ok(n as u32),
+        Some(_) => Err(number.refused(code::INVALID_REPLICATION)),
+        None => Err(number.refused(code::INVALID_REPLICATION)),
     }
 }
 
@@ -46,8 +49,8 @@ pub fn check_rows(
     ensures { result ≡ check_rows runs pointrep designrep name.now }
 {
     let rows = u128::from(runs) * u128::from(pointrep) * u128::from(designrep);
-    if rows <= 200_000 {
+    if rows <= MOST_ROWS {
         return Ok(());
     }
-    Err(name.refused(21))
+    Err(name.refused(code::TOO_MANY_ROWS))
 }

@@ -2,7 +2,7 @@ ghost use Rattle.std.specs.Prelude.{◌≡◌, MatchOption, None, Some};
 ghost use Rattle.fx_outputs.specs.Shuffles.{seed_written, seeded, shuffle_of};
 
 use crate::option::{at, begins, from, from_option, has_option};
-use fx_language::Symbol;
+use fx_language::{Symbol, code};
 use fx_text::{Lexeme, Refusal};
 
 /// What of a plan is shuffled.
@@ -54,7 +54,7 @@ fn seeded(seed: &Lexeme<'_>, values: bool) -> Result<Shuffle, Refusal>
             seed: n as u64,
             values,
         }),
-        Some(_) => Err(seed.refused(19)),
-        None => Err(seed.refused(19)),
+        Some(_) => Err(seed.refused(code::SEED_TOO_LARGE)),
+        None => Err(seed.refused(code::SEED_TOO_LARGE)),
     }
 }

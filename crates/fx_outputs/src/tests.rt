@@ -1,4 +1,4 @@
-use crate::{BlockCount, OutputContext, Outputs, Shuffle, outputs};
+use crate::{BlockCount, EarlierNames, OutputContext, Outputs, Shuffle, outputs};
 use fx_base::{Bytes, NoMemory};
 use fx_language::symbols;
 use fx_lexer::lex;
@@ -28,7 +28,8 @@ fn read(
     let lexemes = lexemes(alloc, text, &tokens, symbols.as_slice())?;
     let statements = statements(alloc, lexemes.as_slice())?;
     let factors = names(alloc, &[b"A", b"Block"])?;
-    let mut earlier = names(alloc, &[b"old"])?;
+    let mut earlier = EarlierNames::new(alloc);
+    assert!(rt; earlier.add(alloc, b"old")?);
     assert!(rt; factors.len() < 256);
     let context = OutputContext::new(factors.as_slice(), 2, 16, blocks);
     Ok(outputs(alloc, &context, &mut earlier, statements.as_slice()))

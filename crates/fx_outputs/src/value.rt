@@ -6,7 +6,7 @@ ghost use Rattle.fx_outputs.specs.Values.{counted, inside, value_of, values_of};
 
 use crate::option::from;
 use fx_base::{Bytes, NoMemory};
-use fx_language::Symbol;
+use fx_language::{Symbol, code};
 use fx_text::{Lexeme, Names, ParseStop};
 use std::alloc::Global;
 
@@ -25,13 +25,13 @@ pub fn counted_values(
     ensures err { IfErr result (IsRefused (counted wanted word.now (values_of rest.now))) }
 {
     match wanted {
-        None => Err(ParseStop::Refused(word.refused(17))),
+        None => Err(ParseStop::Refused(word.refused(code::WRONG_NUMBER_OF_VALUES))),
         Some(wanted) => {
             let values = values(alloc, rest)?;
             if values.len() == wanted as usize {
                 Ok(values)
             } else {
-                Err(ParseStop::Refused(word.refused(17)))
+                Err(ParseStop::Refused(word.refused(code::WRONG_NUMBER_OF_VALUES)))
             }
         }
     }

@@ -9,9 +9,9 @@ use Rattle.fx_lexer.specs.declared.token.Token.{Token}
 use Rattle.fx_lexer.specs.declared.token.LexFault.{LexFault}
 use Rattle.fx_lexer.specs.Lexing.{lexed}
 use Rattle.fx_language.specs.Keywords.{symbols_of}
-use Rattle.fx_language.specs.Refusals.{first_refusal}
+use Rattle.fx_syntax.specs.Refusals.{first_refusal}
 use Rattle.fx_language.specs.declared.symbol.Symbol.TheVariants as word
-use Rattle.fx_text.specs.declared.refusal.Place.{Place}
+use Rattle.fx_lexer.specs.declared.place.Place.{Place}
 use Rattle.fx_text.specs.declared.refusal.Refusal.{Refusal}
 use Rattle.fx_text.specs.Written.{Written, written}
 use Rattle.fx_text.specs.Statements.{statement_of, statements_of, steps_of}
@@ -37,11 +37,12 @@ use Rattle.fx_statements.specs.Goals.{Goal, AtLeast, Highest, ForEffects, effect
 use Rattle.fx_statements.specs.Steps.{Meaning, asked_by, examine_of, factors_by, head_of, factor_limit, some_factors, step_by, step_of}
 use Rattle.fx_statements.specs.Programs.{accepted, program_of, steps_behind}
 use Rattle.fx_statements.proofs.Bounds.{kept}
-use Rattle.fx_program.specs.Problems.{requirement_of}
-use Rattle.fx_program.specs.Texts.{all_built, at_front, is_built, program_by, program_in}
+use Rattle.fx_answer.specs.Questions.{requirement_of}
+use Rattle.fx_program.specs.Forms.{is_built}
+use Rattle.fx_program.specs.Texts.{all_built, at_front, program_by, program_in}
 use Rattle.fx_program.specs.Claims.{HasNoneAtAll, NoDesignMeansNone}
-use Rattle.fx_program.proofs.Built.{order_of_levels, same_some}
-use Rattle.fx_program.proofs.Built as built
+use Rattle.fx_answer.proofs.Stated.{order_of_levels, same_some}
+use Rattle.fx_answer.proofs.Stated as stated
 use Rattle.fx_program.proofs.None.{none_told}
 
 -- what a goal requires can be brought to canonical form
@@ -97,7 +98,7 @@ some_named proc (name ∷ found) factors e = subst (λ (l : List (List ℕ)). 1 
 -- so that no design means that there is none at all
 none_at_all : (step : Meaning) → IsRead (step.settings, step.goal) → HasNoneAtAll step
 none_at_all step read number p is one =
-    let form = built.is_built step p is in
+    let form = stated.is_stated step p is in
     none_told number step p is (subst (λ q. IsTrue (is_order q)) (sym form.levels) (order_of_levels step.settings.q read.0)) (read.1 p.requirement form.asked) one
 
 step_read : (earlier : List (List ℕ)) (statements : List (List Written)) (factors : Option (List Written)) (step : Meaning)

@@ -1,5 +1,5 @@
 -- How a command ends: all was done, or it stopped.
-use Rattle.std.proofs.Common.{ℕ, ◌≡◌, ◌≤◌, List, Result, Ok, Err, refl, sym, subst, arith}
+use Rattle.std.proofs.Common.{ℕ, ◌≡◌, ◌≤◌, List, Option, Result, Ok, Err, refl, sym, subst, arith}
 use Rattle.std.specs.Prelude.{IsErr, IsErrAnd}
 use Rattle.fx_base.specs.Acts.{Piece, acts, acts_of, World, Did, DidPart}
 use Rattle.fx_base.proofs.Doing.{did_one, part_one, part_whole, part_none}
@@ -9,29 +9,29 @@ use Rattle.fx_program.specs.declared.words.WordFault.{WordFault}
 use Rattle.fx_program.specs.declared.stop.Stop.{Stop}
 use Rattle.fx_program.specs.declared.stop.Stop.TheVariants as stop
 use Rattle.fx_program.specs.Stops.{exit_status}
-use Rattle.fx_program.specs.Output.{Output, Ends, message, output_for, output_of}
+use Rattle.fx_program.specs.Output.{Output, Gives, Lists, message, output_for, output_of}
 
 -- a command that did all, and one that stopped
-pub ends_whole : {a b : World} (output : Output) (status : ℕ) → status ≡ output.status → Did a b (acts output.events) → Ends output a b status
+pub ends_whole : {a b : World} (output : Output) (status : ℕ) → status ≡ output.status → Did a b (acts output.events) → Gives output a b status
 ends_whole output status e p = record { same = λ low. e; whole = λ low. p; part = part_whole p }
 
-pub ends_stopped : {a b : World} (output : Output) (status : ℕ) → 4 ≤ status → DidPart a b (acts output.events) → Ends output a b status
+pub ends_stopped : {a b : World} (output : Output) (status : ℕ) → 4 ≤ status → DidPart a b (acts output.events) → Gives output a b status
 ends_stopped output status high p = record { same = λ low. absurd (omega arith); whole = λ low. absurd (omega arith); part = p }
 
 -- one piece was written, or a front part of it
-pub ends_said : {a b : World} (bytes : List ℕ) (status : ℕ) → Did a b (acts_of (Piece bytes)) → Ends (message bytes status) a b status
+pub ends_said : {a b : World} (bytes : List ℕ) (status : ℕ) → Did a b (acts_of (Piece bytes)) → Gives (message bytes status) a b status
 ends_said bytes status p = ends_whole (message bytes status) status refl (did_one (Piece bytes) p)
 
-pub ends_cut : {a b : World} (bytes : List ℕ) (status : ℕ) → DidPart a b (acts_of (Piece bytes)) → Ends (message bytes status) a b 4
+pub ends_cut : {a b : World} (bytes : List ℕ) (status : ℕ) → DidPart a b (acts_of (Piece bytes)) → Gives (message bytes status) a b 4
 ends_cut bytes status p = ends_stopped (message bytes status) 4 (omega arith) (part_one (Piece bytes) p)
 
 -- the same output under another name
-pub ends_by : {a b : World} (output same : Output) (status : ℕ) → output ≡ same → Ends same a b status → Ends output a b status
-ends_by {a} {b} output same status e p = subst (λ (o : Output). Ends o a b status) (sym e) p
+pub ends_by : {a b : World} (output same : Output) (status : ℕ) → output ≡ same → Gives same a b status → Gives output a b status
+ends_by {a} {b} output same status e p = subst (λ (o : Output). Gives o a b status) (sym e) p
 
 -- from a command to the words
-pub ends_for : {a b : World} (words : List (List ℕ)) (text : List ℕ) (settings : Result Settings WordFault) (status : ℕ) → settings ≡ settings_of words → Ends (output_for settings text) a b status → Ends (output_of words text) a b status
-ends_for {a} {b} words text settings status e p = subst (λ s. Ends (output_for s text) a b status) e p
+pub ends_for : {a b : World} (words : List (List ℕ)) (text : List ℕ) (settings : Result Settings WordFault) (status : ℕ) → settings ≡ settings_of words → Gives (output_for settings text) a b status → Gives (output_of words text) a b status
+ends_for {a} {b} words text settings status e p = subst (λ s. Gives (output_for s text) a b status) e p
 
 -- the exit status of a stop
 pub stopped_high : (why : Stop) → 4 ≤ exit_status (Err why)
@@ -39,12 +39,23 @@ stopped_high stop.Failed = omega arith
 stopped_high stop.NoMemory = omega arith
 
 -- it is stopped where nothing was done
-pub ends_none : {a : World} (output : Output) (ended : Result ℕ Stop) → IsErr ended → Ends output a a (exit_status ended)
+pub ends_none : {a : World} (output : Output) (ended : Result ℕ Stop) → IsErr ended → Gives output a a (exit_status ended)
 ends_none output (Ok status) h = absurd (cc h)
 ends_none {a} output (Err why) h = ends_stopped output (exit_status (Err why)) (stopped_high why) (part_none a (acts output.events))
 
 -- and where this is the reason
-pub ends_by_stop : {a b : World} (output : Output) (ended : Result ℕ Stop) (why : Stop) → IsErrAnd ended (λ e. e ≡ why) → Ends output a b (exit_status (Err why))
-    → Ends output a b (exit_status ended)
+pub ends_by_stop : {a b : World} (output : Output) (ended : Result ℕ Stop) (why : Stop) → IsErrAnd ended (λ e. e ≡ why) → Gives output a b (exit_status (Err why))
+    → Gives output a b (exit_status ended)
 ends_by_stop output (Ok status) why h p = absurd h
-ends_by_stop {a} {b} output (Err e) why h p = subst (λ (w : Stop). Ends output a b (exit_status (Err w))) (sym h) p
+ends_by_stop {a} {b} output (Err e) why h p = subst (λ (w : Stop). Gives output a b (exit_status (Err w))) (sym h) p
+
+-- the same of calls that have no shelf
+pub lists_by : {old new : Option (List ℕ)} (output same : Output) (status : ℕ) → output ≡ same → Lists same old new status → Lists output old new status
+lists_by {old} {new} output same status e p = subst (λ (o : Output). Lists o old new status) (sym e) p
+
+pub lists_none : {old : Option (List ℕ)} (output : Output) (ended : Result ℕ Stop) → IsErr ended → Lists output old old (exit_status ended)
+lists_none output ended h = record { whatever = λ files. ends_none output ended h }
+
+pub lists_by_stop : {old new : Option (List ℕ)} (output : Output) (ended : Result ℕ Stop) (why : Stop) → IsErrAnd ended (λ e. e ≡ why) → Lists output old new (exit_status (Err why))
+    → Lists output old new (exit_status ended)
+lists_by_stop output ended why h p = record { whatever = λ files. ends_by_stop output ended why h (p.whatever files) }

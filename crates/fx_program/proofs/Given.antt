@@ -1,61 +1,66 @@
--- What is given for a step, by what the search for its design answers.
-use Rattle.std.proofs.Common.{ℕ, ◌≡◌, ◌<◌, ◌≤◌, false, length, List, Some, sym, ap, ap₂, ◌∙◌, subst, lt-ltb, le-ltb, arith}
-use Rattle.std.specs.Prelude.{if◌then◌else◌}
-use Rattle.fx_designs.specs.Answers.{answer}
-use Rattle.fx_designs.specs.Nodes.{nodes}
-use Rattle.fx_designs.specs.Problems.{Problem}
-use Rattle.fx_vectors.specs.Question.{problem_of as question_problem}
-use Rattle.fx_vectors.specs.declared.question.Question.{Question}
-use Rattle.fx_search.specs.declared.asking.Asked.{Asked}
-use Rattle.fx_search.specs.declared.asking.Asked.TheVariants.{Found, Nothing, Budget}
-use Rattle.fx_search.specs.Asked.{IsAnswer}
-use Rattle.fx_laws.proofs.FirstDesign.{answer-first, design-rows}
+-- What is given for a step, by its outcome.
+use Rattle.std.proofs.Common.{ℕ, ◌≡◌, ◌+◌, true, length, List, [], ◌++◌, Option, Some, None, refl, sym, ap, ap₂, ◌∙◌}
+use Rattle.std.specs.Option.{is_some}
+use Rattle.fx_designs.specs.Problems.{Dimensions, Problem}
+use Rattle.fx_designs.specs.Outcomes.{Ending, Design, NoDesign, BudgetEnded, ending_of}
+use Rattle.fx_vectors.specs.declared.shape.Shape.{Shape}
+use Rattle.fx_vectors.specs.Matrix.{MatrixView}
+use Rattle.fx_vectors.specs.Shape.{dimensions_of}
+use Rattle.fx_statements.specs.declared.outcome.Outcome.{Outcome}
 use Rattle.fx_statements.specs.Steps.{Meaning}
-use Rattle.fx_program.specs.Problems.{problem_of}
-use Rattle.fx_program.specs.Outcomes.{Design, NoDesign, BudgetEnded, finished, outcome_of, outcome_in, status_of}
-use Rattle.fx_program.specs.Listing.{IsListable, step_lines}
+use Rattle.fx_statements.specs.Outcomes.{ending_in}
+use Rattle.fx_alias.specs.Heads.{head_lines}
+use Rattle.fx_alias.specs.Rules.{rules, sections, step_lines}
+use Rattle.fx_answer.specs.Questions.{problem_of}
+use Rattle.fx_answer.specs.Outcomes.{HasMatrix, IsOutcome}
+use Rattle.fx_program.specs.Statuses.{status_of}
 use Rattle.fx_program.specs.Output.{given_by, message, step_output}
 
--- within the budget the search finishes
-pub within : (p : Problem) (budget : ℕ) → length (nodes p) ≤ budget → outcome_of p budget ≡ finished (answer p) (length (nodes p))
-within p budget h = ap (λ b. if b then BudgetEnded budget else finished (answer p) (length (nodes p))) (le-ltb budget (length (nodes p)) h)
+same_some : {A : Type 0} (x y : A) → Some x ≡ Some y → x ≡ y
+same_some x y e = cc
 
--- and past it the budget ends
-pub passed : (p : Problem) (budget : ℕ) → budget < length (nodes p) → outcome_of p budget ≡ BudgetEnded budget
-passed p budget h = ap (λ b. if b then BudgetEnded budget else finished (answer p) (length (nodes p))) (lt-ltb budget (length (nodes p)) h)
+module _ (shape : Shape) where
+  -- a matrix has the rules of the ending's design
+  pub with_matrix : (names : List (List ℕ)) (ending : Ending) (matrix : MatrixView) → HasMatrix shape ending (Some matrix)
+      → rules matrix.shape.q matrix.shape.m names matrix.rows ≡ sections shape.q shape.m names ending
+  with_matrix names (Design rows count) matrix h =
+      ap (λ (x : MatrixView). rules x.shape.q x.shape.m names x.rows) (same_some matrix (record { shape = shape; rows = rows }) h.0)
+  with_matrix names (NoDesign count) matrix h = absurd (cc h)
+  with_matrix names (BudgetEnded budget) matrix h = absurd (cc h)
 
--- what the search answers is the outcome of its question
-pub is_outcome : (question : Question) (budget : ℕ) (asked : Asked) → IsAnswer question budget asked → outcome_in budget asked ≡ outcome_of (question_problem question) budget
-is_outcome question budget (Found matrix count marks) h =
-    let p = question_problem question in
-    let few = subst (λ n. n ≤ budget) h.2 h.4 in
-    ap (Design matrix.rows) h.2 ∙ ap (λ o. finished o (length (nodes p))) (sym h.0) ∙ sym (within p budget few)
-is_outcome question budget (Nothing count marks) h =
-    let p = question_problem question in
-    let few = subst (λ n. n ≤ budget) h.1 h.3 in
-    ap NoDesign h.1 ∙ ap (λ o. finished o (length (nodes p))) (sym h.0) ∙ sym (within p budget few)
-is_outcome question budget (Budget best) h = sym (passed (question_problem question) budget h.0)
+  -- and is whole
+  pub rows_are : (ending : Ending) (matrix : MatrixView) → HasMatrix shape ending (Some matrix) → length matrix.rows ≡ shape.s + shape.t
+  rows_are (Design rows count) matrix h =
+      ap (λ (x : MatrixView). length x.rows) (same_some matrix (record { shape = shape; rows = rows }) h.0) ∙ h.1
+  rows_are (NoDesign count) matrix h = absurd (cc h)
+  rows_are (BudgetEnded budget) matrix h = absurd (cc h)
 
--- so that its lines and its status are those of the step
-pub is_given : (number : ℕ) (step : Meaning) (question : Question) (asked : Asked) (lines : List ℕ) (status : ℕ)
-    → problem_of step ≡ Some (question_problem question)
-    → IsAnswer question step.settings.budget asked
-    → lines ≡ step_lines number question.shape.q question.shape.m step.factors (outcome_in step.settings.budget asked)
-    → status ≡ status_of (outcome_in step.settings.budget asked)
+  -- without a matrix there is no section
+  pub without_matrix : (names : List (List ℕ)) (ending : Ending) → HasMatrix shape ending None → sections shape.q shape.m names ending ≡ []
+  without_matrix names (Design rows count) h = absurd (cc h.0)
+  without_matrix names (NoDesign count) h = refl
+  without_matrix names (BudgetEnded budget) h = refl
+
+-- head and sections, one after the other
+pub all_lines : (number q m : ℕ) (names : List (List ℕ)) (ending : Ending) (lines after : List ℕ)
+    → lines ≡ [] ++ head_lines number (length names) q m ending → after ≡ sections q m names ending
+    → lines ++ after ≡ step_lines number q m names ending
+unfolding step_lines
+all_lines number q m names ending lines after head rest = ap₂ (λ (x y : List ℕ). x ++ y) head rest
+
+-- the lines and the status of a step's outcome are those that the step has by definition
+pub is_given : (number : ℕ) (step : Meaning) (outcome : Outcome) (lines : List ℕ) (status : ℕ)
+    → is_some (problem_of step) ≡ true
+    → IsOutcome step outcome
+    → lines ≡ step_lines number outcome.shape.q outcome.shape.m step.factors (ending_in outcome)
+    → status ≡ status_of (ending_in outcome)
     → step_output number step ≡ message lines status
-is_given number step question asked lines status states answered is_lines is_status =
-    let budget : ℕ = step.settings.budget in
-    ap (given_by number step) states
-    ∙ ap (λ o. message (step_lines number question.shape.q question.shape.m step.factors o) (status_of o)) (sym (is_outcome question budget asked answered))
-    ∙ ap₂ message (sym is_lines) (sym is_status)
-
--- the design that it finds has a row for each factor
-pub listable : (question : Question) (budget n : ℕ) (asked : Asked) → question.least ≡ false → question.shape.t ≡ 0 → question.shape.s ≡ n
-    → IsAnswer question budget asked → IsListable question.shape n asked
-listable question budget n (Found matrix count marks) plain none all h =
-    let p = question_problem question in
-    let first = answer-first p plain matrix.rows h.0 in
-    let whole = (design-rows p matrix.rows first.design).0 in
-    (h.1, omega arith)
-listable question budget n (Nothing count marks) plain none all h = tt
-listable question budget n (Budget best) plain none all h = tt
+is_given number step outcome lines status stated is lines_are status_is = given (problem_of step) refl stated
+  where
+    given : (found : Option Problem) → problem_of step ≡ found → is_some found ≡ true → given_by number step found ≡ message lines status
+    given None e h = absurd (cc h)
+    given (Some p) e h =
+        let line : Dimensions → Ending → List ℕ = λ d ending. step_lines number d.q d.m step.factors ending in
+        ap₂ message
+        (sym (lines_are ∙ ap₂ line (is.dimensions p e) (is.ending p e)))
+        (sym (status_is ∙ ap status_of (is.ending p e)))

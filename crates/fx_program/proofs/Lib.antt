@@ -1,9 +1,8 @@
+mod Examples
 mod Wording
 mod Reading
-mod Products
 mod Endings
 mod SoFar
 mod Given
-mod Built
 mod None
 mod AnyText

@@ -6,15 +6,17 @@ use Rattle.fx_designs.specs.Problems.{Problem}
 use Rattle.fx_designs.specs.Answers.{answer}
 use Rattle.fx_designs.specs.Nodes.{nodes}
 use Rattle.fx_laws.proofs.Tables.{is_order-field}
-use Rattle.fx_reduction.specs.Reduction.{IsReducible, NoneMeets}
+use Rattle.fx_designs.specs.Matrices.{NoneMeets}
+use Rattle.fx_reduction.specs.Reduction.{IsReducible}
 use Rattle.fx_reduction.proofs.NoDesign.{none-exactly}
 use Rattle.fx_reduction.proofs.LeastPattern.{no_answer}
 use Rattle.fx_statements.specs.Steps.{Meaning}
-use Rattle.fx_program.specs.Problems.{problem_of}
-use Rattle.fx_program.specs.Outcomes.{finished, status_of}
+use Rattle.fx_answer.specs.Questions.{problem_of}
+use Rattle.fx_designs.specs.Outcomes.{finished}
+use Rattle.fx_program.specs.Statuses.{status_of}
 use Rattle.fx_program.specs.Output.{Output, given_by, step_output}
-use Rattle.fx_program.proofs.Built.{is_built}
-use Rattle.fx_program.proofs.Given.{within, passed}
+use Rattle.fx_answer.proofs.Stated.{is_stated}
+use Rattle.fx_answer.proofs.Endings.{within, passed}
 
 none_at_one : (found : Option (List ℕ)) (count : ℕ) → status_of (finished found count) ≡ 1 → found ≡ None
 none_at_one None count e = refl
@@ -33,10 +35,10 @@ module _ (number : ℕ) (step : Meaning) (p : Problem) (is : problem_of step ≡
         | inl more ↦ absurd (omega (arith, sym (status ∙ ap status_of (passed p budget more)) ∙ one))
         | inr few ↦
             let found = none_at_one (answer p) (length (nodes p)) (sym (status ∙ ap status_of (within p budget few)) ∙ one) in
-            (none-exactly p (is_order-field p.dimensions.q order) reducible).0 ((no_answer p (is_built step p is).some).0 found)
+            (none-exactly p (is_order-field p.dimensions.q order) reducible).0 ((no_answer p (is_stated step p is).some).0 found)
       ]
 
   pub none_comes : length (nodes p) ≤ budget → NoneMeets p.dimensions p.requirement → (step_output number step).status ≡ 1
   none_comes few none =
-      let found = (no_answer p (is_built step p is).some).1 ((none-exactly p (is_order-field p.dimensions.q order) reducible).1 none) in
+      let found = (no_answer p (is_stated step p is).some).1 ((none-exactly p (is_order-field p.dimensions.q order) reducible).1 none) in
       status ∙ ap status_of (within p budget few ∙ ap (λ a. finished a (length (nodes p))) found)

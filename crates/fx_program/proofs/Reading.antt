@@ -12,7 +12,8 @@ use Rattle.fx_statements.specs.declared.step.Step.{Step}
 use Rattle.fx_statements.specs.Steps.{Meaning, meaning_of}
 use Rattle.fx_statements.specs.Programs.{program_of}
 use Rattle.fx_program.specs.declared.text.TextFault.TheVariants.{Lexical, Refused}
-use Rattle.fx_program.specs.Texts.{all_built, at_front, is_built, program_by, program_in}
+use Rattle.fx_program.specs.Forms.{is_built}
+use Rattle.fx_program.specs.Texts.{all_built, at_front, program_by, program_in}
 
 module _ (text : List ℕ) (short : length text ≤ 1048576) where
   by_tokens : (r : Result (List Token) LexFault) → lexed text ≡ r → program_in text ≡ program_by text r

@@ -7,7 +7,7 @@ use Rattle.std.proofs.lemmas.List.{drop_all}
 use Rattle.fx_base.specs.Acts.{Event, acts, File, Did, DidPart}
 use Rattle.fx_base.proofs.Doing.{did_none, did_then, part_then, part_before}
 use Rattle.fx_statements.specs.Steps.{Meaning}
-use Rattle.fx_program.specs.Output.{Output, Ends, world, step_output, steps_output, worse}
+use Rattle.fx_program.specs.Output.{Output, Gives, Lists, world, step_output, steps_output, worse}
 use Rattle.fx_program.proofs.Endings.{ends_whole, ends_stopped}
 
 -- the events of all steps begin with those before them
@@ -29,28 +29,33 @@ pub at_front : (old : Option (List ℕ)) (steps : List Meaning) → SoFar old ol
 at_front old steps = record { done = []; left = refl; did = λ files. did_none (world old files) }
 
 module _ {old new : Option (List ℕ)} {whole : Output} {number status : ℕ} where
-  pub all_given : SoFar old new whole number status [] → (files : Option (List File)) → Ends whole (world old files) (world new files) status
-  all_given s files =
-      subst (λ (o : Output). Ends o (world old files) (world new files) status) (sym s.left)
-      (ends_whole (record { events = s.done; status = status }) status refl (s.did files))
+  pub all_given : SoFar old new whole number status [] → Lists whole old new status
+  all_given s = record {
+    whatever = λ files.
+        subst (λ (o : Output). Gives o (world old files) (world new files) status) (sym s.left)
+        (ends_whole (record { events = s.done; status = status }) status refl (s.did files));
+  }
 
   module _ {step : Meaning} {steps : List Meaning} {now : Option (List ℕ)} {given : ℕ} (s : SoFar old new whole number status (step ∷ steps))
-      (ends : (files : Option (List File)) → Ends (step_output number step) (world new files) (world now files) given) where
+      (ends : Lists (step_output number step) new now given) where
     pub one_more : given < 4 → SoFar old now whole (number + 1) (worse status given) steps
     one_more low = record {
       done = s.done ++ (step_output number step).events;
-      left = s.left ∙ ap (λ n. steps_output (number + 1) (s.done ++ (step_output number step).events) (worse status n) steps) (sym ((ends None).same low));
-      did = λ files. did_then s.done (step_output number step).events (s.did files) ((ends files).whole low);
+      left = s.left ∙ ap (λ n. steps_output (number + 1) (s.done ++ (step_output number step).events) (worse status n) steps) (sym ((ends.whatever None).same low));
+      did = λ files. did_then s.done (step_output number step).events (s.did files) ((ends.whatever files).whole low);
     }
 
-    pub stopped : 4 ≤ given → (files : Option (List File)) → Ends whole (world old files) (world now files) given
-    stopped high files =
+    stopped_at : 4 ≤ given → (files : Option (List File)) → Gives whole (world old files) (world now files) given
+    stopped_at high files =
         let events = (step_output number step).events in
         let later = more_events (number + 1) (s.done ++ events) (worse status (step_output number step).status) steps in
         let whole_is : whole.events ≡ (s.done ++ events) ++ later.0 = ap (λ (o : Output). o.events) s.left ∙ later.1 in
         ends_stopped whole given high
         (subst (λ (l : List Event). DidPart (world old files) (world now files) (acts l)) (sym whole_is)
-        (part_before (s.done ++ events) later.0 (part_then s.done events (s.did files) (ends files).part)))
+        (part_before (s.done ++ events) later.0 (part_then s.done events (s.did files) (ends.whatever files).part)))
+
+    pub stopped : 4 ≤ given → Lists whole old now given
+    stopped high = record { whatever = stopped_at high }
 
 -- the next of the steps that are left
 pub next_step : {X : Type 0} (f : X → Meaning) (xs : List X) (i : ℕ) (d : X) → i < length xs → map f (drop i xs) ≡ f (get_or xs i d) ∷ map f (drop (i + 1) xs)
@@ -69,3 +74,7 @@ worse_low a b low other = go (nat_le a b)
     go : (c : Bool) → (if c then b else a) < 4
     go true = other
     go false = low
+
+-- one count is unchanged where the list of it is
+pub first_count : (a b : ℕ) → a ∷ [] ≡ b ∷ [] → a ≡ b
+first_count a b e = cc e

@@ -1,9 +1,9 @@
 -- What is claimed of a program's steps that are told to have no design.
 use Rattle.std.specs.Prelude.{ℕ, ◌≡◌, List, Some, Result, Ok, Err, All}
 use Rattle.fx_designs.specs.Problems.{Problem}
-use Rattle.fx_reduction.specs.Reduction.{NoneMeets}
+use Rattle.fx_designs.specs.Matrices.{NoneMeets}
 use Rattle.fx_statements.specs.Steps.{Meaning}
-use Rattle.fx_program.specs.Problems.{problem_of}
+use Rattle.fx_answer.specs.Questions.{problem_of}
 use Rattle.fx_program.specs.Output.{step_output}
 use Rattle.fx_program.specs.declared.text.TextFault.{TextFault}
 

@@ -1,10 +1,9 @@
 pub mod Words
 pub mod Refusals
 pub mod Reasons
-pub mod Problems
+pub mod Forms
 pub mod Texts
 pub mod Stops
-pub mod Outcomes
-pub mod Listing
+pub mod Statuses
 pub mod Output
 pub mod Claims

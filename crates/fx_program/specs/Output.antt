@@ -2,13 +2,14 @@
 use Rattle.std.specs.Prelude.{ℕ, ◌≡◌, ◌+◌, ◌<◌, nat_le, if◌then◌else◌, List, [], ◌∷◌, ◌++◌, Option, Some, None, Result, Ok, Err, Bool, true, false}
 use Rattle.fx_base.specs.Acts.{Event, Piece, acts, World, File, Did, DidPart}
 use Rattle.fx_designs.specs.Problems.{Problem}
+use Rattle.fx_designs.specs.Outcomes.{ending_of}
+use Rattle.fx_alias.specs.Rules.{step_lines}
+use Rattle.fx_answer.specs.Questions.{problem_of}
 use Rattle.fx_statements.specs.Steps.{Meaning}
 use Rattle.fx_program.specs.Words.{settings_of, word_line}
 use Rattle.fx_program.specs.Refusals.{fault_line}
-use Rattle.fx_program.specs.Problems.{problem_of}
 use Rattle.fx_program.specs.Texts.{program_in}
-use Rattle.fx_program.specs.Outcomes.{outcome_of, status_of}
-use Rattle.fx_program.specs.Listing.{step_lines}
+use Rattle.fx_program.specs.Statuses.{status_of}
 use Rattle.fx_program.specs.declared.words.Settings.{Settings}
 use Rattle.fx_program.specs.declared.words.Settings.TheVariants.{Run}
 use Rattle.fx_program.specs.declared.words.WordFault.{WordFault}
@@ -26,15 +27,15 @@ message bytes status = record { events = Piece bytes ∷ []; status = status }
 -- what is given for a step that states this problem: its lines, and its status
 abbrev pub step_given : ℕ → Meaning → Problem → Output
 step_given number step p =
-    let outcome = outcome_of p step.settings.budget in
-    message (step_lines number p.dimensions.q p.dimensions.m step.factors outcome) (status_of outcome)
+    let ending = ending_of p step.settings.budget in
+    message (step_lines number p.dimensions.q p.dimensions.m step.factors ending) (status_of ending)
 
 -- what is given for a step that states a problem; else nothing
 abbrev pub given_by : ℕ → Meaning → Option Problem → Output
 given_by number step None = record { events = []; status = 0 }
 given_by number step (Some p) = step_given number step p
 
--- what is given for a step; nothing for one of a form that isn't built
+-- what is given for a step; nothing for one that cannot be answered so far
 abbrev pub step_output : ℕ → Meaning → Output
 step_output number step = given_by number step (problem_of step)
 
@@ -70,15 +71,19 @@ reads (Ok (Run threads seed)) = true
 
 -- the text is all that the source had left; where the source is not read, any text serves
 pub record IsTextOf (words : List (List ℕ)) (left : Option (List ℕ)) (text : List ℕ) : Type 0 where
-  pub told : reads (settings_of words) ≡ true → left ≡ Some text
+  pub exposed : reads (settings_of words) ≡ true → left ≡ Some text
 
 -- what stands outside: the listing and the files
 abbrev pub world : Option (List ℕ) → Option (List File) → World
 world written files = record { written = written; files = files }
 
 -- A status below 4 is the output's, and comes with all of its events done.
--- Whatever the status, what was done is a front part of them.
-pub record Ends (output : Output) (old new : World) (status : ℕ) : Type 0 where
+-- Whatever the status, what was done is a prefix of them.
+pub record Gives (output : Output) (old new : World) (status : ℕ) : Type 0 where
   pub same : status < 4 → status ≡ output.status
   pub whole : status < 4 → Did old new (acts output.events)
   pub part : DidPart old new (acts output.events)
+
+-- the same of a call that has no shelf: whatever files there are, they stay as they are
+pub record Lists (output : Output) (old new : Option (List ℕ)) (status : ℕ) : Type 0 where
+  pub whatever : (files : Option (List File)) → Gives output (world old files) (world new files) status

@@ -1,5 +1,5 @@
 -- The program of a text, or why it has none.
-use Rattle.std.specs.Prelude.{◌≡◌, ℕ, nat_lt, Bool, List, length, is_some, Result, Ok, Err, if◌then◌else◌}
+use Rattle.std.specs.Prelude.{◌≡◌, ℕ, nat_lt, Bool, List, length, Result, Ok, Err, if◌then◌else◌}
 use Rattle.std.specs.List.{list_all}
 use Rattle.fx_lexer.specs.declared.token.Token.{Token}
 use Rattle.fx_lexer.specs.declared.token.LexFault.{LexFault}
@@ -7,7 +7,7 @@ use Rattle.fx_lexer.specs.Lexing.{lexed}
 use Rattle.fx_text.specs.declared.refusal.Refusal.{Refusal}
 use Rattle.fx_statements.specs.Steps.{Meaning}
 use Rattle.fx_statements.specs.Programs.{program_of}
-use Rattle.fx_program.specs.Problems.{problem_of}
+use Rattle.fx_program.specs.Forms.{is_built}
 use Rattle.fx_program.specs.declared.text.TextFault.{TextFault}
 use Rattle.fx_program.specs.declared.text.TextStop.{TextStop}
 use Rattle.fx_program.specs.declared.text.TextStop.TheVariants as stop
@@ -16,10 +16,6 @@ use Rattle.fx_program.specs.declared.text.TextFault.TheVariants.{Lexical, Refuse
 -- a refusal at the front of the text
 abbrev pub at_front : ℕ → TextFault
 at_front code = Refused (record { code = code; line = 1; column = 1 })
-
--- a step of a form that is built
-abbrev pub is_built : Meaning → Bool
-is_built step = is_some (problem_of step)
 
 -- an accepted program, where each step is of a form that is built
 abbrev pub all_built : Result (List Meaning) Refusal → Result (List Meaning) TextFault

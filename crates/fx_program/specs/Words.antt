@@ -1,9 +1,13 @@
 -- What the words of the command line ask for.
-use Rattle.std.specs.Prelude.{ℕ, ◌≡◌, ◌⊎◌, List, [], ◌∷◌, ◌++◌, if◌then◌else◌, Result, Ok, Err, codes, decimal}
+use Rattle.std.specs.Prelude.{ℕ, ◌≡◌, ◌⊎◌, List, [], ◌∷◌, ◌++◌, if◌then◌else◌, Result, Ok, Err, Vec, map, codes, decimal}
 use Rattle.std.specs.Str.{bytes_eq}
 use Rattle.fx_program.specs.declared.words.Settings.{Settings}
 use Rattle.fx_program.specs.declared.words.Settings.TheVariants.{Run}
 use Rattle.fx_program.specs.declared.words.WordFault.{WordFault}
+
+-- the bytes of each word
+abbrev pub bytes_of : {A : Type 0} → List (Vec ℕ A) → List (List ℕ)
+bytes_of words = map (λ word. word.items) words
 
 -- the fault of this code at a word
 abbrev pub word_fault : ℕ → ℕ → Result Settings WordFault

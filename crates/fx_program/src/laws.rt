@@ -1,15 +1,16 @@
 ghost use Rattle.std.specs.Prelude.{◌≡◌, ◌↔◌, ◌<◌, ◌≤◌, List, ℕ, Some, false, length, IsTrue};
 ghost use Rattle.fx_designs.specs.Galois.{is_order};
-ghost use Rattle.fx_reduction.specs.Reduction.{IsReducible, NoneMeets};
+ghost use Rattle.fx_designs.specs.Matrices.{NoneMeets};
+ghost use Rattle.fx_reduction.specs.Reduction.{IsReducible};
 ghost use Rattle.fx_designs.specs.Problems.{Problem};
 ghost use Rattle.fx_designs.specs.Answers.{is_design};
 ghost use Rattle.fx_designs.specs.Nodes.{nodes};
 ghost use Rattle.fx_laws.specs.First.{IsFirstDesign};
 ghost use Rattle.fx_statements.specs.Steps.{Meaning};
-ghost use Rattle.fx_program.specs.Problems.{problem_of};
+ghost use Rattle.fx_answer.specs.Questions.{problem_of};
 ghost use Rattle.fx_program.specs.Texts.{program_in};
-ghost use Rattle.fx_program.specs.Outcomes.{Design, NoDesign};
-ghost use Rattle.fx_program.specs.Listing.{step_lines};
+ghost use Rattle.fx_designs.specs.Outcomes.{Design, NoDesign};
+ghost use Rattle.fx_alias.specs.Rules.{step_lines};
 ghost use Rattle.fx_program.specs.Output.{message, step_output};
 ghost use Rattle.fx_program.specs.Claims.{NoDesignMeansNone};
 

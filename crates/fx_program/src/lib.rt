@@ -1,9 +1,8 @@
-//! The program: its words, its text, its listing, and the call that does it all.
+//! The program: its words, its text, its messages, and the call that does it all.
 #![tactic(auto)]
 
+mod forms;
 mod laws;
-mod listing;
-mod question;
 mod refusal;
 mod run;
 mod stop;

@@ -1,27 +1,27 @@
-ghost use Rattle.std.specs.Prelude.{◌≡◌, ◌≢◌, ◌<◌, ◌≤◌, ◌^◌, ◌⊎◌, ◌++◌, [], ℕ, List, Option, Some, true, false, Result, Ok, Err, map, length, IfOk};
+ghost use Rattle.std.specs.Prelude.{◌≡◌, ◌<◌, ◌≤◌, ◌⊎◌, [], ◌∷◌, ℕ, List, Option, Some, true, false, Ok, Err, map, IfOk};
 ghost use Rattle.std.specs.List.{list_all};
-ghost use Rattle.fx_base.specs.Faults.{Rose};
-ghost use Rattle.fx_base.specs.Acts.{File};
+ghost use Rattle.fx_vectors.specs.Matrix.{MatrixView};
 ghost use Rattle.fx_statements.specs.Steps.{meaning_of};
-ghost use Rattle.fx_program.specs.Words.{settings_of};
-ghost use Rattle.fx_program.specs.Texts.{is_built, program_in};
-ghost use Rattle.fx_program.specs.Outcomes.{outcome_in, status_of};
+ghost use Rattle.fx_statements.specs.Outcomes.{ending_by, ending_in};
+ghost use Rattle.fx_alias.specs.Rules.{step_lines};
+ghost use Rattle.fx_answer.specs.Outcomes.{IsOutcome};
+ghost use Rattle.fx_program.specs.Words.{bytes_of, settings_of};
+ghost use Rattle.fx_program.specs.Forms.{is_built};
+ghost use Rattle.fx_program.specs.Texts.{program_in};
+ghost use Rattle.fx_program.specs.Statuses.{status_of};
 ghost use Rattle.fx_program.specs.Claims.{NoDesignMeansNone};
-ghost use Rattle.fx_program.specs.Stops.{exit_status};
+ghost use Rattle.fx_program.specs.Stops.{HasCause, HasStatusCause, exit_status};
 ghost use Rattle.fx_program.specs.declared.stop.Stop.TheVariants as stop;
-ghost use Rattle.fx_program.specs.Listing.{IsListable, step_lines};
-ghost use Rattle.fx_program.specs.Output.{message, step_output, program_output, output_of, reads, worse, IsTextOf, world, Ends};
+ghost use Rattle.fx_program.specs.Output.{message, step_output, program_output, output_of, reads, worse, IsTextOf, world, Gives, Lists};
 
-use crate::listing::put_step;
-use crate::question::question_of;
 use crate::refusal::put_fault;
 use crate::stop::{REFUSED, Stop, exit_status};
 use crate::text::{TextFault, TextStop, at_front, read_program};
 use crate::words::{Settings, read_words, word_line};
+use fx_alias::{head_listing, rules_listing};
+use fx_answer::answer;
 use fx_base::{Bytes, NoMemory, ReadStop, Shelf, Sink, Source, Taken, read_all, write_all};
-use fx_search::{Asked, ask_alone};
-use fx_statements::Step;
-use fx_vectors::Shape;
+use fx_statements::{End, Outcome, Step};
 use std::alloc::Global;
 
 /// The greatest number of bytes of a program text.
@@ -48,67 +48,59 @@ pub fn factex<S: Source, K: Sink, F: Shelf>(
     shelf: &mut F,
 ) -> u8
     requires { F.begun shelf.old ≡ false }
-    ensures known { result ≤ 5 }
+    ensures status_range { result ≤ 5 }
 
-    // What is given is exactly the defined output, or, after a failed call or want of memory, a
-    // front part of it.
-    ensures ends { (text : List ℕ)
-        → IsTextOf (map (λ w. w.items) words.now) (S.left source.old) text
-        → Ends (output_of (map (λ w. w.items) words.now) text)
+    // With a status below 4 the output is exactly the defined one, else a prefix of it.
+    ensures output { (text : List ℕ)
+        → IsTextOf (bytes_of words.now) (S.left source.old) text
+        → Gives (output_of (bytes_of words.now) text)
         (world (K.written listing.old) (F.files shelf.old))
         (world (K.written listing.new) (F.files shelf.new)) result }
-    ensures fault { result ≡ 4 → Rose (S.faults source.old) (S.faults source.new)
-        ⊎ (Rose (K.faults listing.old) (K.faults listing.new)
-        ⊎ Rose (F.faults shelf.old) (F.faults shelf.new)) }
-    ensures kept { result ≢ 4 → (S.faults source.new ≡ S.faults source.old)
-        × (K.faults listing.new ≡ K.faults listing.old)
-        × (F.faults shelf.new ≡ F.faults shelf.old) }
+    ensures cause { HasStatusCause
+        (S.faults source.old ∷ K.faults listing.old ∷ F.faults shelf.old ∷ [])
+        (S.faults source.new ∷ K.faults listing.new ∷ F.faults shelf.new ∷ []) result }
     ensures rooms { (S.sure source.new ≡ S.sure source.old)
         × (K.room listing.new ≡ K.room listing.old)
         × (F.room shelf.new ≡ F.room shelf.old) }
     ensures closed { result < 4 → F.begun shelf.new ≡ false }
 
-    // Refused words leave the source unread, and are never answered by want of memory.
-    ensures unread { reads (settings_of (map (λ w. w.items) words.now)) ≡ false
+    // Refused words leave the source unread, and never lead to the status for want of memory.
+    ensures unread { reads (settings_of (bytes_of words.now)) ≡ false
         → source.new ≡ source.old }
-    ensures refused { reads (settings_of (map (λ w. w.items) words.now)) ≡ false
+    ensures refused { reads (settings_of (bytes_of words.now)) ≡ false
         → (result ≡ 3) ⊎ (result ≡ 4) }
 
-    // Where a step of the text is told to have no design, no rule matrix at all meets what it asks.
+    // Where a step of the text ends without a design, no rule matrix at all meets what it asks.
     ensures none_at_all { result < 4 → (text : List ℕ)
-        → reads (settings_of (map (λ w. w.items) words.now)) ≡ true
+        → reads (settings_of (bytes_of words.now)) ≡ true
         → S.left source.old ≡ Some text
         → NoDesignMeansNone (program_in text) }
 
-    // A design, or that there is none, comes only with the source read to its end.
-    ensures to_end { result < 3 → (text : List ℕ)
+    // The statuses of steps come only with the source read to its end.
+    ensures read_to_end { result < 3 → (text : List ℕ)
         → S.left source.old ≡ Some text
         → S.left source.new ≡ Some [] }
 {
     match read_words(words) {
         Ok(Settings::Run { .. }) => exit_status(run(alloc, source, listing)),
-        Err(fault) => exit_status(say(listing, word_line(fault), REFUSED)),
+        Err(fault) => exit_status(list(listing, word_line(fault), REFUSED)),
     }
 }
 
 /// The command `run`.
 fn run<S: Source, K: Sink>(alloc: Global, source: &mut S, listing: &mut K) -> Result<u8, Stop>
-    ensures known { IfOk result (λ status. status < 4) }
-    ensures ends { (text : List ℕ) (files : Option (List File))
-        → S.left source.old ≡ Some text
-        → Ends (program_output (program_in text))
-        (world (K.written listing.old) files) (world (K.written listing.new) files)
-        (exit_status result) }
-    ensures fault { result ≡ Err stop.Failed → Rose (S.faults source.old) (S.faults source.new)
-        ⊎ Rose (K.faults listing.old) (K.faults listing.new) }
-    ensures kept { result ≢ Err stop.Failed → (S.faults source.new ≡ S.faults source.old)
-        × (K.faults listing.new ≡ K.faults listing.old) }
+    ensures status_range { IfOk result (λ status. status < 4) }
+    ensures output { (text : List ℕ) → S.left source.old ≡ Some text
+        → Lists (program_output (program_in text))
+        (K.written listing.old) (K.written listing.new) (exit_status result) }
+    ensures cause { HasCause (S.faults source.old ∷ K.faults listing.old ∷ [])
+        (S.faults source.new ∷ K.faults listing.new ∷ []) result }
     ensures rooms { (S.sure source.new ≡ S.sure source.old)
         × (K.room listing.new ≡ K.room listing.old) }
     ensures none_at_all { exit_status result < 4 → (text : List ℕ)
         → S.left source.old ≡ Some text
         → NoDesignMeansNone (program_in text) }
-    ensures to_end { exit_status result < 3 → (text : List ℕ)
+    ensures read_to_end { exit_status result < 3 → (text : List ℕ)
         → S.left source.old ≡ Some text
         → S.left source.new ≡ Some [] }
 {
@@ -119,28 +111,25 @@ fn run<S: Source, K: Sink>(alloc: Global, source: &mut S, listing: &mut K) -> Re
         Err(ReadStop::NoMemory) => return Err(Stop::NoMemory),
     };
     match read_program(alloc, text.as_slice()) {
-        Ok(program) => give_steps(alloc, program.as_slice(), listing),
+        Ok(program) => run_steps(alloc, program.as_slice(), listing),
         Err(TextStop::Fault(fault)) => refuse(alloc, fault, listing),
         Err(TextStop::NoMemory) => Err(Stop::NoMemory),
     }
 }
 
-/// Answers the steps of a program in order. The greatest of their statuses is the program's.
-fn give_steps<K: Sink>(alloc: Global, steps: &[Step], listing: &mut K) -> Result<u8, Stop>
+/// Runs the steps of a program in order. The greatest of their statuses is the program's.
+fn run_steps<K: Sink>(alloc: Global, steps: &[Step], listing: &mut K) -> Result<u8, Stop>
     requires { list_all (λ step. is_built (meaning_of step)) steps.now ≡ true }
-    ensures known { IfOk result (λ status. status < 4) }
-    ensures ends { (files : Option (List File))
-        → Ends (program_output (Ok (map meaning_of steps.now)))
-        (world (K.written listing.old) files) (world (K.written listing.new) files)
-        (exit_status result) }
-    ensures fault { result ≡ Err stop.Failed → Rose (K.faults listing.old) (K.faults listing.new) }
-    ensures kept { result ≢ Err stop.Failed → K.faults listing.new ≡ K.faults listing.old }
+    ensures status_range { IfOk result (λ status. status < 4) }
+    ensures output { Lists (program_output (Ok (map meaning_of steps.now)))
+        (K.written listing.old) (K.written listing.new) (exit_status result) }
+    ensures cause { HasCause (K.faults listing.old ∷ []) (K.faults listing.new ∷ []) result }
     ensures room { K.room listing.new ≡ K.room listing.old }
 {
     let mut status = 0;
     for (i, step) in steps.iter().enumerate() {
-        let given = give_step(alloc, i + 1, step, listing)?;
-        status = worse(status, given);
+        let ended = run_step(alloc, i + 1, step, listing)?;
+        status = worse(status, ended);
     }
     Ok(status)
 }
@@ -152,95 +141,72 @@ fn worse(a: u8, b: u8) -> u8
     if a <= b { b } else { a }
 }
 
-/// Answers the step of this number: its design, that there is none, or that its budget ended.
-fn give_step<K: Sink>(
-    alloc: Global,
-    number: usize,
-    step: &Step,
-    listing: &mut K,
-) -> Result<u8, Stop>
+/// Runs the step of this number and lists its outcome.
+fn run_step<K: Sink>(alloc: Global, number: usize, step: &Step, listing: &mut K) -> Result<u8, Stop>
     requires { is_built (meaning_of step.now) ≡ true }
-    ensures known { IfOk result (λ status. status < 4) }
-    ensures ends { (files : Option (List File))
-        → Ends (step_output number (meaning_of step.now))
-        (world (K.written listing.old) files) (world (K.written listing.new) files)
-        (exit_status result) }
-    ensures fault { result ≡ Err stop.Failed → Rose (K.faults listing.old) (K.faults listing.new) }
-    ensures kept { result ≢ Err stop.Failed → K.faults listing.new ≡ K.faults listing.old }
+    ensures status_range { IfOk result (λ status. status < 4) }
+    ensures output { Lists (step_output number (meaning_of step.now))
+        (K.written listing.old) (K.written listing.new) (exit_status result) }
+    ensures cause { HasCause (K.faults listing.old ∷ []) (K.faults listing.new ∷ []) result }
     ensures room { K.room listing.new ≡ K.room listing.old }
 {
-    let question = question_of(alloc, step)?;
-    let asked = ask_alone(alloc, &question, step.budget)?;
-    let lines = lines_of(alloc, number, step, question.shape, &asked)?;
-    say(listing, lines.as_slice(), status_of(&asked))
+    let outcome = answer(alloc, step)?;
+    let lines = lines_of(alloc, number, step, &outcome)?;
+    list(listing, lines.as_slice(), status_of(outcome.end))
 }
 
 /// 0 for a design, 1 for none, 2 where the budget ended.
-fn status_of(asked: &Asked) -> u8
-    ensures status { (budget : ℕ) → result ≡ status_of (outcome_in budget asked.now) }
+fn status_of(end: End) -> u8
+    ensures status { (matrix : Option MatrixView) (count : ℕ)
+        → result ≡ status_of (ending_by end matrix count) }
     ensures low { result < 4 }
 {
-    match asked {
-        Asked::Found { .. } => 0,
-        Asked::Nothing { .. } => 1,
-        Asked::Budget { .. } => 2,
+    match end {
+        End::Design => 0,
+        End::NoDesign => 1,
+        End::Budget => 2,
     }
 }
 
-/// All lines of the step of this number, which asks for a design of this shape, with the answer.
-fn lines_of(
-    alloc: Global,
-    number: usize,
-    step: &Step,
-    shape: Shape,
-    asked: &Asked,
-) -> Result<Bytes, NoMemory>
-    requires size { shape.q ^ shape.m ≤ 1024 }
-    requires same { IsListable shape (length step.now.factors) asked.now }
+/// All lines of the step of this number, by its outcome.
+fn lines_of(alloc: Global, number: usize, step: &Step, outcome: &Outcome) -> Result<Bytes, NoMemory>
+    requires { IsOutcome (meaning_of step.now) outcome.now }
     ensures { IfOk result (λ lines.
         lines
-        ≡ step_lines number shape.q shape.m step.now.factors
-        (outcome_in step.now.budget asked.now)) }
+        ≡ step_lines number outcome.now.shape.q outcome.now.shape.m step.now.factors
+        (ending_in outcome.now)) }
 {
     let mut lines = Bytes::new(alloc);
-    put_step(
-        alloc,
-        &mut lines,
-        number,
-        shape,
-        &step.factors,
-        asked,
-        step.budget,
-    )?;
-    Ok(lines)
+    head_listing(number, step, outcome, &mut lines)?;
+    match &outcome.matrix {
+        Some(matrix) => {
+            rules_listing(alloc, step, matrix, &mut lines)?;
+            Ok(lines)
+        }
+        None => Ok(lines),
+    }
 }
 
-/// Tells where the text is refused, and why.
+/// Lists where the text is refused, and why.
 fn refuse<K: Sink>(alloc: Global, fault: TextFault, listing: &mut K) -> Result<u8, Stop>
-    ensures known { (result ≡ Ok 3) ⊎ ((result ≡ Err stop.Failed) ⊎ (result ≡ Err stop.NoMemory)) }
-    ensures ends { (files : Option (List File))
-        → Ends (program_output (Err fault))
-        (world (K.written listing.old) files) (world (K.written listing.new) files)
-        (exit_status result) }
-    ensures fault { result ≡ Err stop.Failed → Rose (K.faults listing.old) (K.faults listing.new) }
-    ensures kept { result ≢ Err stop.Failed → K.faults listing.new ≡ K.faults listing.old }
+    ensures refused { (result ≡ Ok 3) ⊎ ((result ≡ Err stop.Failed) ⊎ (result ≡ Err stop.NoMemory)) }
+    ensures output { Lists (program_output (Err fault))
+        (K.written listing.old) (K.written listing.new) (exit_status result) }
+    ensures cause { HasCause (K.faults listing.old ∷ []) (K.faults listing.new ∷ []) result }
     ensures room { K.room listing.new ≡ K.room listing.old }
 {
     let mut line = Bytes::new(alloc);
     put_fault(&mut line, fault)?;
-    say(listing, line.as_slice(), REFUSED)
+    list(listing, line.as_slice(), REFUSED)
 }
 
-/// Writes a piece and answers the status.
-fn say<K: Sink>(listing: &mut K, bytes: &[u8], status: u8) -> Result<u8, Stop>
+/// Writes a piece of the listing, and returns the status.
+fn list<K: Sink>(listing: &mut K, bytes: &[u8], status: u8) -> Result<u8, Stop>
     requires { status < 4 }
-    ensures known { (result ≡ Ok status) ⊎ (result ≡ Err stop.Failed) }
-    ensures ends { (files : Option (List File))
-        → Ends (message bytes.now status)
-        (world (K.written listing.old) files) (world (K.written listing.new) files)
-        (exit_status result) }
-    ensures fault { result ≡ Err stop.Failed → Rose (K.faults listing.old) (K.faults listing.new) }
-    ensures kept { result ≢ Err stop.Failed → K.faults listing.new ≡ K.faults listing.old }
+    ensures status { (result ≡ Ok status) ⊎ (result ≡ Err stop.Failed) }
+    ensures output { Lists (message bytes.now status)
+        (K.written listing.old) (K.written listing.new) (exit_status result) }
+    ensures cause { HasCause (K.faults listing.old ∷ []) (K.faults listing.new ∷ []) result }
     ensures room { K.room listing.new ≡ K.room listing.old }
 {
     write_all(listing, bytes)?;

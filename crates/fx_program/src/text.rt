@@ -1,9 +1,10 @@
 ghost use Rattle.std.specs.Prelude.{◌≡◌, ◌≤◌, length, Ok, Err, IfOk, IfErr, map, true};
 ghost use Rattle.std.specs.List.{list_all};
 ghost use Rattle.fx_statements.specs.Steps.{meaning_of};
-ghost use Rattle.fx_program.specs.Texts.{IsFault, at_front, is_built, program_in};
+ghost use Rattle.fx_program.specs.Forms.{is_built};
+ghost use Rattle.fx_program.specs.Texts.{IsFault, at_front, program_in};
 
-use crate::question::is_built;
+use crate::forms::is_built;
 use fx_lexer::{LexFault, LexStop, lex};
 use fx_statements::{ParseStop, Program, Refusal, parse};
 use std::alloc::Global;

@@ -1,6 +1,6 @@
-ghost use Rattle.std.specs.Prelude.{◌≡◌, codes, map};
+ghost use Rattle.std.specs.Prelude.{◌≡◌, codes};
 ghost use Rattle.std.specs.Str.{bytes_eq};
-ghost use Rattle.fx_program.specs.Words.{IsWordFault, settings_of, word_line};
+ghost use Rattle.fx_program.specs.Words.{IsWordFault, bytes_of, settings_of, word_line};
 
 /// What the words of the command line ask for.
 #[derive(Debug, Clone, Copy, PartialEq, Eq)]
@@ -26,7 +26,7 @@ pub struct WordFault {
 
 /// The settings that the words ask for, or the first fault. Takes no memory.
 pub fn read_words(words: &[Vec<u8>]) -> Result<Settings, WordFault>
-    ensures { result ≡ settings_of (map (λ w. w.items) words.now) }
+    ensures { result ≡ settings_of (bytes_of words.now) }
 {
     if words.is_empty() {
         return Err(WordFault { code: 1, word: 1 });

@@ -13,7 +13,7 @@ use Rattle.fx_designs.specs.Answers.{prefixes, is_design, is_of_least_pattern, d
 use Rattle.fx_laws.proofs.Tests.{all_decides}
 use Rattle.fx_laws.proofs.Order.{IsIn, each-weaker, found_passes, each_in}
 use Rattle.fx_laws.proofs.FirstDesign.{there, some_rows}
-use Rattle.fx_reduction.specs.Matrices.{row_numbers}
+use Rattle.fx_designs.specs.Matrices.{row_numbers}
 use Rattle.fx_reduction.specs.Reduction.{IsReducible, LeastOfAll}
 use Rattle.fx_reduction.proofs.PatternOrder.{less-self, less-trans, not_above}
 use Rattle.fx_reduction.proofs.NoWorse.{no_worse_exists}

@@ -29,4 +29,5 @@ pub mod PatternOrder
 pub mod LeastPattern
 pub mod Prefix
 mod Examples
+mod Limits
 pub mod AllowedFronts

@@ -1,2 +1,3 @@
+mod Examples
 pub mod Powers
 pub mod Valid

@@ -3,7 +3,7 @@ use Rattle.std.proofs.Common.{◌≡◌, ℕ, ◌-◌, ◌^◌, ◌≤◌, Bool,
 use Rattle.std.specs.Prelude.{nat_le, nat_lt, is_some, IfOk}
 use Rattle.std.proofs.lemmas.Bool.{leb-true, le-leb, ltb-true, le-ltb, and_from}
 use Rattle.fx_text.specs.declared.refusal.Refusal.{Refusal}
-use Rattle.fx_text.specs.declared.refusal.Place.{Place}
+use Rattle.fx_lexer.specs.declared.place.Place.{Place}
 use Rattle.fx_text.specs.Refusals.{refused_at}
 use Rattle.fx_text.proofs.Chains.{bind_ok, same_ok, if_ok, unless_ok}
 use Rattle.fx_settings.specs.declared.said.Value.{Value}

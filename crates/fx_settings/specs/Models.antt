@@ -1,7 +1,8 @@
 -- By what the designs of a step are judged.
 use Rattle.std.specs.Prelude.{ℕ, nat_le, ◌&&◌, Bool, true, false, Option, Some, None, is_some, Result, Ok, Err, if◌then◌else◌}
+use Rattle.fx_language.specs.declared.code.TheConstants.{INVALID_RESOLUTION, MINABS_WITH_ESTIMATE}
 use Rattle.fx_text.specs.declared.refusal.Refusal.{Refusal}
-use Rattle.fx_text.specs.declared.refusal.Place.{Place}
+use Rattle.fx_lexer.specs.declared.place.Place.{Place}
 use Rattle.fx_text.specs.Refusals.{refused_at}
 use Rattle.fx_settings.specs.declared.said.ModelGoal.{ModelGoal}
 use Rattle.fx_settings.specs.declared.said.ModelGoal.TheVariants as asked
@@ -12,12 +13,12 @@ use Rattle.fx_settings.specs.declared.settings.Criterion.TheVariants.{Resolution
 -- the resolution by a value: a number from 3 to 99, or the highest
 abbrev pub resolution_by : Place → Option ℕ → Result Criterion Refusal
 resolution_by place None = Ok Highest
-resolution_by place (Some r) = if nat_le 3 r && nat_le r 99 then Ok (Resolution r) else Err (refused_at 11 place)
+resolution_by place (Some r) = if nat_le 3 r && nat_le r 99 then Ok (Resolution r) else Err (refused_at INVALID_RESOLUTION place)
 
 -- effects, with which MINABS does not stand
 abbrev pub effects_by : Option Place → Result Criterion Refusal
 effects_by None = Ok Effects
-effects_by (Some minabs) = Err (refused_at 12 minabs)
+effects_by (Some minabs) = Err (refused_at MINABS_WITH_ESTIMATE minabs)
 
 -- by what a MODEL statement asks for, where MINABS stands at this place
 abbrev pub criterion_by : ModelGoal → Option Place → Result Criterion Refusal

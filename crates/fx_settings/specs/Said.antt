@@ -4,7 +4,7 @@ use Rattle.std.specs.Option.{option_map, option_and_then}
 use Rattle.fx_language.specs.declared.symbol.Symbol.{Symbol}
 use Rattle.fx_language.specs.declared.symbol.Symbol.TheVariants.{Size, Design, Fraction, Model, Estimate, Minabs, Blocks, Nblkfacs, Nblocks, Equals}
 use Rattle.fx_language.specs.Symbols.{is}
-use Rattle.fx_text.specs.declared.refusal.Place.{Place}
+use Rattle.fx_lexer.specs.declared.place.Place.{Place}
 use Rattle.fx_text.specs.Written.{Written, begins}
 use Rattle.fx_text.specs.Numbers.{number_of}
 use Rattle.fx_text.specs.Refusals.{place_at}

@@ -1,8 +1,10 @@
 -- The settings of a step, in the order in which what is wrong with them is told.
 use Rattle.std.specs.Prelude.{ℕ, ◌==◌, nat_le, ◌&&◌, Bool, [], ◌∷◌, Option, Some, None, Result, Ok, Err, if◌then◌else◌}
 use Rattle.std.specs.List.{list_any}
+use Rattle.fx_language.specs.declared.code.TheConstants.{INVALID_LEVELS, NUMBER_OUT_OF_RANGE}
+use Rattle.fx_settings.specs.declared.settings.TheConstants.{MOST_NODES}
 use Rattle.fx_text.specs.declared.refusal.Refusal.{Refusal}
-use Rattle.fx_text.specs.declared.refusal.Place.{Place}
+use Rattle.fx_lexer.specs.declared.place.Place.{Place}
 use Rattle.fx_text.specs.Refusals.{refused_at, ◌>>=◌}
 use Rattle.fx_settings.specs.declared.said.StepSaid.{StepSaid}
 use Rattle.fx_settings.specs.declared.said.Value.{Value}
@@ -29,11 +31,11 @@ is_level n = list_any (λ q. q == n) (2 ∷ 3 ∷ 4 ∷ 5 ∷ 7 ∷ 8 ∷ 9 ∷ 
 
 -- NLEV: two levels where it isn't given
 unfoldable pub levels_of : Option Value → Result ℕ Refusal
-levels_of said = number_said 2 6 is_level said
+levels_of said = number_said 2 INVALID_LEVELS is_level said
 
 -- NODES: 1,000,000 where it isn't given
 unfoldable pub budget_of : Option Value → Result ℕ Refusal
-budget_of said = number_said 1000000 29 (λ n. nat_le 1 n && nat_le n 5000000) said
+budget_of said = number_said 1000000 NUMBER_OUT_OF_RANGE (λ n. nat_le 1 n && nat_le n MOST_NODES) said
 
 -- the settings of a step of s factors, but for its blocks
 abbrev pub unblocked_of : ℕ → StepSaid → Result Unblocked Refusal

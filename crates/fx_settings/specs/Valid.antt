@@ -1,5 +1,7 @@
 -- Which settings a step may have.
 use Rattle.std.specs.Prelude.{ℕ, ◌^◌, nat_le, nat_lt, not, ◌&&◌, ◌||◌, Bool, true, false}
+use Rattle.fx_settings.specs.declared.settings.TheConstants.{MOST_NODES}
+use Rattle.fx_settings.specs.declared.power.TheConstants.{MOST_RUNS}
 use Rattle.fx_settings.specs.declared.settings.StepSettings.{StepSettings}
 use Rattle.fx_settings.specs.declared.settings.Size.{Size}
 use Rattle.fx_settings.specs.declared.settings.Size.TheVariants.{Runs, Minimum}
@@ -14,7 +16,7 @@ use Rattle.fx_settings.specs.Settings.{is_level}
 
 -- at least one run factor, and at most 1,024 runs
 abbrev pub is_size : ℕ → Size → Bool
-is_size q (Runs m) = nat_le 1 m && nat_le (q ^ m) 1024
+is_size q (Runs m) = nat_le 1 m && nat_le (q ^ m) MOST_RUNS
 is_size q Minimum = true
 
 -- a resolution is from 3 to 99
@@ -46,7 +48,7 @@ has_most blocks.Most = true
 
 -- from 1 to 5,000,000 nodes
 abbrev pub is_budget : ℕ → Bool
-is_budget n = nat_le 1 n && nat_le n 5000000
+is_budget n = nat_le 1 n && nat_le n MOST_NODES
 
 -- What stands together: least aberration not with effects; blocks neither with least aberration nor with the highest
 -- resolution; and the least size with none of these and not with the most blocks.

@@ -6,6 +6,7 @@ use crate::model::is_highest;
 use crate::power::{exponent, greatest, is_within};
 use crate::said::{BlocksSaid, BlocksWord, SizeSaid};
 use crate::settings::{Blocks, Criterion, Size};
+use fx_language::code;
 use fx_text::{Place, Refusal};
 
 /// Tests that BLOCKS stands neither with MINABS nor with the highest resolution.
@@ -25,7 +26,7 @@ pub(crate) fn check_blocks(
         None => Ok(()),
         Some(said) => {
             if least || is_highest(criterion) {
-                Err(said.place.refused(13))
+                Err(Refusal::at(said.place, code::MAXIMUM_WITH_BLOCKS))
             } else {
                 Ok(())
             }
@@ -53,7 +54,7 @@ pub(crate) fn check_minimum(
         None => Ok(()),
         Some(said) => {
             if is_minimum(size) && (is_highest(criterion) || least || are_most(blocks)) {
-                Err(said.value.place.refused(14))
+                Err(Refusal::at(said.value.place, code::MINIMUM_WITH_MAXIMUM))
             } else {
                 Ok(())
             }
@@ -122,7 +123,7 @@ fn blocks_by(q: u8, size: Size, word: BlocksWord, place: Place, n: u128) -> Resu
             if 1 <= n {
                 factors_at(q, size, place, n)
             } else {
-                Err(place.refused(15))
+                Err(Refusal::at(place, code::BLOCKS_NOT_A_POWER))
             }
         }
         BlocksWord::Nblocks => {
@@ -138,7 +139,7 @@ fn by_number(place: Place, exponent: Option<u32>) -> Result<u128, Refusal>
 {
     match exponent {
         Some(t) if 1 <= t => Ok(u128::from(t)),
-        _ => Err(place.refused(15)),
+        _ => Err(Refusal::at(place, code::BLOCKS_NOT_A_POWER)),
     }
 }
 
@@ -149,7 +150,7 @@ fn by_size(q: u8, size: Size, place: Place, exponent: Option<u32>) -> Result<Blo
 {
     match exponent {
         Some(k) if k < u32::from(most_run_factors(q, size)) => Ok(of_runs(size, k as u8)),
-        _ => Err(place.refused(15)),
+        _ => Err(Refusal::at(place, code::BLOCKS_NOT_A_POWER)),
     }
 }
 
@@ -180,7 +181,7 @@ fn factors_at(q: u8, size: Size, place: Place, t: u128) -> Result<Blocks, Refusa
     ensures { result ≡ factors_at q size place t }
 {
     if is_too_many(q, size, t) {
-        Err(place.refused(16))
+        Err(Refusal::at(place, code::TOO_MANY_BLOCKS))
     } else {
         Ok(Blocks::Factors { t: t as u8 })
     }

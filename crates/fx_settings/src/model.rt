@@ -3,6 +3,7 @@ ghost use Rattle.fx_settings.specs.Models.{criterion_by, criterion_of, effects_b
 
 use crate::said::{ModelGoal, ModelSaid};
 use crate::settings::Criterion;
+use fx_language::code;
 use fx_text::{Place, Refusal};
 
 /// By what the designs of a step are judged.
@@ -38,7 +39,7 @@ fn resolution_by(place: Place, number: Option<u128>) -> Result<Criterion, Refusa
             if 3 <= r && r <= 99 {
                 Ok(Criterion::Resolution { r: r as u8 })
             } else {
-                Err(place.refused(11))
+                Err(Refusal::at(place, code::INVALID_RESOLUTION))
             }
         }
     }
@@ -49,7 +50,7 @@ fn effects_by(minabs: Option<Place>) -> Result<Criterion, Refusal>
 {
     match minabs {
         None => Ok(Criterion::Effects),
-        Some(place) => Err(place.refused(12)),
+        Some(place) => Err(Refusal::at(place, code::MINABS_WITH_ESTIMATE)),
     }
 }
 

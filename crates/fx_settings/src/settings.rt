@@ -6,7 +6,11 @@ use crate::block::{blocks_of, check_blocks, check_minimum};
 use crate::model::{criterion_of, least_of};
 use crate::said::{StepSaid, Value};
 use crate::size::size_of;
+use fx_language::code;
 use fx_text::Refusal;
+
+/// The greatest number of nodes.
+const MOST_NODES: u128 = 5_000_000;
 
 /// How many runs a step has.
 #[derive(Clone, Copy, Debug, PartialEq, Eq)]
@@ -158,7 +162,7 @@ fn levels_of(said: Option<Value>) -> Result<u8, Refusal>
                 if is_level(n) {
                     Ok(n as u8)
                 } else {
-                    Err(said.place.refused(6))
+                    Err(Refusal::at(said.place, code::INVALID_LEVELS))
                 }
             }
         },
@@ -185,10 +189,10 @@ fn budget_of(said: Option<Value>) -> Result<u64, Refusal>
         Some(said) => match said.number {
             None => Ok(1_000_000),
             Some(n) => {
-                if 1 <= n && n <= 5_000_000 {
+                if 1 <= n && n <= MOST_NODES {
                     Ok(n as u64)
                 } else {
-                    Err(said.place.refused(29))
+                    Err(Refusal::at(said.place, code::NUMBER_OUT_OF_RANGE))
                 }
             }
         },

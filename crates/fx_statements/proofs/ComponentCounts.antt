@@ -4,7 +4,7 @@ use Rattle.std.specs.Prelude.{nat_lt}
 use Rattle.std.proofs.lemmas.Bool.{cases_lt, lt-ltb}
 use Rattle.std.proofs.Math.Nat.{div-eq_of_eq-mul_left, div-le_self, mul-le-mul, pow-suc, pow-zero}
 use Rattle.std.proofs.Math.Numerals.{add-one}
-use Rattle.fx_statements.specs.Components.{choose, component_count, listed_count}
+use Rattle.fx_designs.specs.Components.{choose, component_count, listed_count}
 
 -- a set of k and one more, in k + 1 ways
 choose_next : (n k : ℕ) → suc k * choose n (suc k) ≡ (n - k) * choose n k

@@ -3,7 +3,7 @@ use Rattle.std.proofs.Common.{◌≡◌, refl}
 use Rattle.std.specs.Prelude.{◌&&◌, nat_le, count_by}
 use Rattle.fx_designs.specs.Runs.{points}
 use Rattle.fx_designs.specs.Vectors.{is_normal, weight}
-use Rattle.fx_statements.specs.Components.{choose, listed_count}
+use Rattle.fx_designs.specs.Components.{choose, listed_count}
 
 ways : choose 5 2 ≡ 10
 ways = refl

@@ -1,29 +1,16 @@
--- Listings of components, which EXAMINE asks for by ALIASING and BLOCKED: which components are listed, and how many they are.
--- A component is a normal vector over the factors: its last nonzero code is 1.
-use Rattle.std.specs.Prelude.{ℕ, zero, suc, ◌+◌, ◌-◌, ◌*◌, ◌^◌, ◌||◌, nat_lt, min, max, Bool, List, [], ◌∷◌, Option, Some, None, Result, Ok, Err, if◌then◌else◌}
+-- Listings of components, which EXAMINE asks for by ALIASING and BLOCKED: of how many factors components are listed, and which
+-- listings are too long.
+use Rattle.std.specs.Prelude.{ℕ, ◌||◌, nat_lt, min, max, Bool, List, [], ◌∷◌, Option, Some, None, Result, Ok, Err, if◌then◌else◌}
+use Rattle.fx_designs.specs.Components.{listed_count}
+use Rattle.fx_language.specs.declared.code.TheConstants.{TOO_MANY_EFFECTS}
 use Rattle.fx_text.specs.declared.refusal.Refusal.{Refusal}
-use Rattle.fx_text.specs.declared.refusal.Place.{Place}
+use Rattle.fx_lexer.specs.declared.place.Place.{Place}
 use Rattle.fx_text.specs.Written.{Written, begins}
 use Rattle.fx_text.specs.Refusals.{place_at, refused_at}
 use Rattle.fx_language.specs.declared.symbol.Symbol.TheVariants.{Aliasing, Blocked, Examine}
 use Rattle.fx_language.specs.Symbols.{is}
 use Rattle.fx_vectors.specs.Effects.{most_factors}
 use Rattle.fx_statements.specs.Goals.{Goal, AtLeast, Highest, ForEffects}
-
--- how many sets of k there are among n
-abbrev pub choose : ℕ → ℕ → ℕ
-choose n zero = 1
-choose zero (suc k) = 0
-choose (suc n) (suc k) = choose n k + choose n (suc k)
-
--- how many components over s factors have k of them
-abbrev pub component_count : ℕ → ℕ → ℕ → ℕ
-component_count q s k = choose s k * (q - 1) ^ (k - 1)
-
--- how many have 1 to d of them
-abbrev pub listed_count : ℕ → ℕ → ℕ → ℕ
-listed_count q s zero = 0
-listed_count q s (suc d) = listed_count q s d + component_count q s (suc d)
 
 -- Components of one and two factors are listed, and those of as many as an effect that is named has.
 abbrev pub listed_factors : Goal → ℕ
@@ -57,4 +44,4 @@ components_place (s ∷ statements) = place_or (components_asked s) (components_
 -- at most 100,000 components may be listed in a step of s factors, or E23 at the word that asks for them
 abbrev pub check_components : ℕ → ℕ → Goal → Option Place → Result (Unit {0}) Refusal
 check_components q s goal None = Ok tt
-check_components q s goal (Some place) = if nat_lt 100000 (listed_count q s (min s (listed_factors goal))) then Err (refused_at 23 place) else Ok tt
+check_components q s goal (Some place) = if nat_lt 100000 (listed_count q s (min s (listed_factors goal))) then Err (refused_at TOO_MANY_EFFECTS place) else Ok tt

@@ -1,11 +1,12 @@
 -- What a step means.
 use Rattle.std.specs.Prelude.{ℕ, ◌&&◌, Bool, List, [], ◌∷◌, length, is_some, Option, Some, None, Result, Ok, Err, if◌then◌else◌}
 use Rattle.std.specs.List.{list_any}
+use Rattle.fx_language.specs.declared.code.TheConstants.{NO_FACTORS}
 use Rattle.fx_language.specs.declared.symbol.Symbol.{Symbol}
 use Rattle.fx_language.specs.declared.symbol.Symbol.TheVariants as word
 use Rattle.fx_language.specs.Symbols.{is}
 use Rattle.fx_text.specs.declared.refusal.Refusal.{Refusal}
-use Rattle.fx_text.specs.declared.refusal.Place.{Place}
+use Rattle.fx_lexer.specs.declared.place.Place.{Place}
 use Rattle.fx_text.specs.Written.{Written, begins}
 use Rattle.fx_text.specs.Statements.{statement_of}
 use Rattle.fx_text.specs.Refusals.{refused_at, ◌>>=◌}
@@ -37,7 +38,7 @@ factor_limit statements = if is_some (statement_of word.Blocks statements) then 
 
 -- E7 where there are none: `proc` is the place of PROC
 abbrev pub some_factors : Place → List (List ℕ) → Result (List (List ℕ)) Refusal
-some_factors proc [] = Err (refused_at 7 proc)
+some_factors proc [] = Err (refused_at NO_FACTORS proc)
 some_factors proc (name ∷ names) = Ok (name ∷ names)
 
 -- this stands in a statement
@@ -77,7 +78,7 @@ asked_by factors said statements = do
 
 -- The meaning of a step, after these OUT names, by its FACTORS statement where it has one.
 abbrev pub step_by : List (List ℕ) → List (List Written) → Option (List Written) → Result Meaning Refusal
-step_by earlier statements None = Err (refused_at 7 (start_of (head_of statements)))
+step_by earlier statements None = Err (refused_at NO_FACTORS (start_of (head_of statements)))
 step_by earlier statements (Some named) = do
   factors ← factors_by (start_of (head_of statements)) (factor_limit statements) named
   asked ← asked_by factors (step_said (head_of statements) named statements) statements

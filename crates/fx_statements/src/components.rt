@@ -1,10 +1,11 @@
 ghost use Rattle.std.specs.Prelude.{◌≡◌, ◌≤◌, true, min, nat_lt};
+ghost use Rattle.fx_designs.specs.Components.{listed_count};
 ghost use Rattle.fx_settings.specs.Settings.{is_level};
 ghost use Rattle.fx_statements.specs.Goals.{goal_of};
-ghost use Rattle.fx_statements.specs.Components.{check_components, components_asked, components_place, first_components, is_for_components, listed_count, listed_factors};
+ghost use Rattle.fx_statements.specs.Components.{check_components, components_asked, components_place, first_components, is_for_components, listed_factors};
 
 use crate::wanted::Wanted;
-use fx_language::Symbol;
+use fx_language::{Symbol, code};
 use fx_text::{Lexeme, Place, Refusal, Statement};
 use fx_vectors::most_factors;
 
@@ -32,7 +33,7 @@ pub(crate) fn check_components(
         None => Ok(()),
         Some(place) => {
             if are_too_many(q, s, s.min(listed_factors(wanted))) {
-                Err(place.refused(23))
+                Err(Refusal::at(place, code::TOO_MANY_EFFECTS))
             } else {
                 Ok(())
             }

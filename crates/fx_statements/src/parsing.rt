@@ -13,8 +13,9 @@ use crate::stepping::step_of;
 use fx_base::Items;
 use fx_language::{Symbol, symbols};
 use fx_lexer::{Token, Tokens};
+use fx_outputs::EarlierNames;
 use fx_syntax::first_refusal;
-use fx_text::{Names, ParseStop, Place, Statement, lexemes, statements};
+use fx_text::{ParseStop, Place, Refusal, Statement, lexemes, statements};
 use std::alloc::Global;
 
 /// The steps of a program, in order.
@@ -37,7 +38,7 @@ pub fn parse(alloc: Global, text: &[u8], tokens: &Tokens) -> Result<Program, Par
     let symbols = symbols(alloc, text, tokens)?;
     if let Some((code, at)) = first_refusal(symbols.as_slice()) {
         let place = place_in(text, tokens.as_slice().get(at));
-        return Err(ParseStop::Refused(place.refused(code)));
+        return Err(ParseStop::Refused(Refusal::at(place, code)));
     }
     let lexemes = lexemes(alloc, text, tokens, symbols.as_slice())?;
     let statements = statements(alloc, lexemes.as_slice())?;
@@ -95,7 +96,7 @@ fn steps(alloc: Global, statements: &[Statement<'_>]) -> Result<Program, ParseSt
         meaning_of_all statements.now ≡ Ok (map meaning_of program)) }
     ensures refused { IfErr result (IsRefused (meaning_of_all statements.now)) }
 {
-    let mut earlier = Names::new(alloc);
+    let mut earlier = EarlierNames::new(alloc);
     let mut program = Program::new(alloc);
     for (i, statement) in statements.iter().enumerate() {
         if !statement.begins(Symbol::Proc) {

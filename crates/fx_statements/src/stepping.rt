@@ -17,13 +17,13 @@ use crate::step::Step;
 use crate::wanted::{Wanted, wanted_by};
 use fx_base::Bytes;
 use fx_factors::factors_of;
-use fx_language::Symbol;
-use fx_outputs::{BlockCount, OutputContext, outputs};
+use fx_language::{Symbol, code};
+use fx_outputs::{BlockCount, EarlierNames, OutputContext, outputs};
 use fx_settings::{
     Blocks, Size, StepSaid, StepSettings, greatest, start_of, step_said, step_settings_of,
     unblocked_of,
 };
-use fx_text::{Lexeme, Names, ParseStop, Place, Statement, find};
+use fx_text::{Lexeme, Names, ParseStop, Place, Refusal, Statement, find};
 use std::alloc::Global;
 
 /// The step of some statements, the first of which is its PROC statement. `earlier` are the OUT
@@ -35,7 +35,7 @@ use std::alloc::Global;
 /// of the blocks; E23 for a listing; those of each OUTPUT statement in order. And `NoMemory`.
 pub(crate) fn step_of(
     alloc: Global,
-    earlier: &mut Names,
+    earlier: &mut EarlierNames,
     statements: &[Statement<'_>],
 ) -> Result<Step, ParseStop>
     ensures step { IfOk result (λ step. step_of earlier.old statements.now ≡ Ok (meaning_of step)) }
@@ -43,14 +43,17 @@ pub(crate) fn step_of(
     ensures refused { IfErr result (IsRefused (step_of earlier.old statements.now)) }
 {
     match find(Symbol::Factors, statements) {
-        None => Err(ParseStop::Refused(start_of(head_of(statements)).refused(7))),
+        None => Err(ParseStop::Refused(Refusal::at(
+            start_of(head_of(statements)),
+            code::NO_FACTORS,
+        ))),
         Some(named) => step_by(alloc, earlier, statements, named),
     }
 }
 
 fn step_by(
     alloc: Global,
-    earlier: &mut Names,
+    earlier: &mut EarlierNames,
     statements: &[Statement<'_>],
     named: &[Lexeme<'_>],
 ) -> Result<Step, ParseStop>
@@ -93,7 +96,7 @@ fn factors_by(
 {
     let factors = factors_of(alloc, named, most)?;
     if factors.is_empty() {
-        return Err(ParseStop::Refused(proc.refused(7)));
+        return Err(ParseStop::Refused(Refusal::at(proc, code::NO_FACTORS)));
     }
     Ok(factors)
 }

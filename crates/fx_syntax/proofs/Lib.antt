@@ -1,2 +1,4 @@
 pub mod Places
 mod Steps
+mod Pass
+mod Examples

@@ -1,1 +1,4 @@
 pub mod Places
+pub mod Repeats
+pub mod Pasts
+pub mod Refusals

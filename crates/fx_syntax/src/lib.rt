@@ -1,6 +1,7 @@
-//! Where a program is first refused, by a finite automaton that passes once over its symbols.
+//! Where a program is first refused: by the grammar, or by the rules on words that are repeated or
+//! too late. Each is a pass over its symbols, and the earlier refusal decides.
 //!
-//! A state is a place in the grammar, and stands for what of the grammar is left there. Each move is
+//! The grammar is a finite automaton. A state is a place in the grammar, and stands for what of the grammar is left there. Each move is
 //! proved to lead to a place where that is left which the grammar leaves after the symbol. The
 //! grammar nests nothing, so some seventy places are enough.
 #![tactic(auto)]
@@ -12,11 +13,13 @@ mod model;
 mod output;
 mod proc;
 mod refusal;
+mod repeated;
 mod setting;
 mod state;
 mod values;
 
 pub use refusal::{first_by_grammar, first_refusal};
+pub use repeated::first_by_rules;
 
 #[cfg(test)]
 mod tests;

@@ -1,15 +1,17 @@
 ghost use Rattle.std.specs.Prelude.{◌≡◌, []};
 ghost use Rattle.fx_language.specs.Grammar.{program};
-ghost use Rattle.fx_language.specs.Refusals.{earlier, first_refusal, refused};
+ghost use Rattle.fx_language.specs.Refusals.{refused};
+ghost use Rattle.fx_syntax.specs.Refusals.{earlier, first_refusal};
 ghost use Rattle.fx_syntax.specs.Places.{shape_of};
 
+use crate::repeated::first_by_rules;
 use crate::state::State;
-use fx_language::{Symbol, first_by_rules};
+use fx_language::Symbol;
 
 /// The first symbol of a program that is refused, with its code, and its index from 0: by the
 /// grammar, or by the rules on words that stand twice or too late. The end counts as a symbol.
 ///
-/// The codes are those of `first_by_grammar` and of `fx_language::first_by_rules`.
+/// The codes are those of `first_by_grammar` and of `first_by_rules`.
 pub fn first_refusal(symbols: &[Symbol]) -> Option<(u8, usize)>
     ensures { result ≡ first_refusal symbols.now }
 {

@@ -1,4 +1,4 @@
-use crate::{first_by_grammar, first_refusal};
+use crate::{first_by_grammar, first_by_rules, first_refusal};
 use fx_language::{Symbol, symbols};
 use fx_lexer::lex;
 use std::alloc::Global;
@@ -121,5 +121,17 @@ fn step_101_is_refused_by_a_rule_alone(rt: HostRuntime) -> Result<(), Fail> {
     }
     assert_eq!(rt; first_by_grammar(&program), None);
     assert_eq!(rt; first_refusal(&program), Some((32, 300)));
+    Ok(())
+}
+
+#[test]
+fn step_101_is_refused(rt: HostRuntime) -> Result<(), Fail> {
+    let mut program = Vec::new(rt.alloc());
+    for _step in 0..100 {
+        program.extend_from_slice(&[Symbol::Proc, Symbol::Factex, Symbol::Semicolon])?;
+    }
+    assert_eq!(rt; first_by_rules(&program), None);
+    program.extend_from_slice(&[Symbol::Proc, Symbol::Factex])?;
+    assert_eq!(rt; first_by_rules(&program), Some((32, 300)));
     Ok(())
 }

@@ -2,4 +2,5 @@ pub mod Written
 pub mod Numbers
 pub mod Statements
 pub mod Names
+pub mod Ranges
 pub mod Refusals

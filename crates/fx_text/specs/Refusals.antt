@@ -1,6 +1,6 @@
 -- A text that is refused, and the place at which it is.
 use Rattle.std.specs.Prelude.{◌≡◌, ℕ, Result, Ok, Err}
-use Rattle.fx_text.specs.declared.refusal.Place.{Place}
+use Rattle.fx_lexer.specs.declared.place.Place.{Place}
 use Rattle.fx_text.specs.declared.refusal.Refusal.{Refusal}
 use Rattle.fx_text.specs.declared.refusal.ParseStop.{ParseStop}
 use Rattle.fx_text.specs.declared.refusal.ParseStop.TheVariants as stop

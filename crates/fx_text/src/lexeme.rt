@@ -7,10 +7,10 @@ ghost use Rattle.fx_text.specs.Written.{written, written_at};
 ghost use Rattle.fx_text.specs.Numbers.{number_of, IsNumber, IsRead};
 ghost use Rattle.fx_text.specs.Refusals.{place_at, refusal_at};
 
-use crate::refusal::{Place, Refusal};
+use crate::refusal::Refusal;
 use fx_base::{Items, NoMemory};
 use fx_language::Symbol;
-use fx_lexer::{Token, Tokens};
+use fx_lexer::{Place, Token, Tokens};
 use std::alloc::Global;
 use std::marker::Model;
 
@@ -19,8 +19,7 @@ use std::marker::Model;
 pub struct Lexeme<'a> {
     symbol: Symbol,
     text: &'a [u8],
-    line: u32,
-    column: u32,
+    place: Place,
 }
 
 impl<'a> Model for Lexeme<'a> {
@@ -29,9 +28,9 @@ impl<'a> Model for Lexeme<'a> {
 
     ghost Value = { Written };
 
-    ghost view = { λ w. record { symbol = w.symbol; text = w.text.now; line = w.line; column = w.column } };
+    ghost view = { λ w. record { symbol = w.symbol; text = w.text.now; line = w.place.line; column = w.place.column } };
 
-    ghost invariant = { λ w. IsRead (record { symbol = w.symbol; text = w.text.now; line = w.line; column = w.column }) };
+    ghost invariant = { λ w. IsRead (record { symbol = w.symbol; text = w.text.now; line = w.place.line; column = w.place.column }) };
 }
 
 /// What is written in a text, in order.
@@ -74,17 +73,14 @@ impl<'a> Lexeme<'a> {
     pub fn place(&self) -> Place
         ensures { result ≡ place_at self.now }
     {
-        Place {
-            line: self.line,
-            column: self.column,
-        }
+        self.place
     }
 
     /// The refusal of the text at it, by this code.
     pub fn refused(&self, code: u8) -> Refusal
         ensures { result ≡ refusal_at code self.now }
     {
-        self.place().refused(code)
+        Refusal::at(self.place, code)
     }
 }
 
@@ -120,8 +116,10 @@ fn lexeme_at<'a>(text: &'a [u8], token: Token, symbol: Symbol) -> Lexeme<'a>
     Lexeme {
         symbol,
         text: &text[token.from..token.upto],
-        line: token.line,
-        column: token.column,
+        place: Place {
+            line: token.line,
+            column: token.column,
+        },
     }
 }
 

@@ -1,13 +1,16 @@
-//! What is written in a program text: words, numbers and signs with their places, statements and
-//! steps. And the places at which a text is refused.
+//! What is written in a program text: words, numbers and signs with their places, names and ranges
+//! of names, statements and steps. And the places at which a text is refused.
 #![tactic(auto)]
 
 mod lexeme;
 mod name;
+mod range;
 mod refusal;
 mod statement;
 
+pub use fx_lexer::Place;
 pub use lexeme::{Lexeme, Lexemes, lexemes, number};
 pub use name::{Names, is_same_name, place_of};
-pub use refusal::{ParseStop, Place, Refusal};
+pub use range::{is_range, number_at_end, numbered_name, range_end, stem};
+pub use refusal::{ParseStop, Refusal};
 pub use statement::{Statement, Statements, find, statements};

@@ -2,30 +2,7 @@ ghost use Rattle.std.specs.Prelude.{◌≡◌};
 ghost use Rattle.fx_text.specs.declared.refusal.ParseStop.TheVariants as stop;
 
 use fx_base::NoMemory;
-
-/// A place of a text.
-#[derive(Clone, Copy, Debug, PartialEq, Eq)]
-pub struct Place {
-    /// Its line, from 1.
-    pub line: u32,
-    /// Its column, which counts the bytes of the line from 1.
-    pub column: u32,
-}
-
-impl Place {
-    ghost use Rattle.fx_text.specs.Refusals.{refused_at};
-
-    /// The refusal of the text at it, by this code.
-    pub fn refused(self, code: u8) -> Refusal
-        ensures { result ≡ refused_at code self }
-    {
-        Refusal {
-            code,
-            line: self.line,
-            column: self.column,
-        }
-    }
-}
+use fx_lexer::Place;
 
 /// Where a text is refused, and why.
 #[derive(Clone, Copy, Debug, PartialEq, Eq)]
@@ -36,6 +13,21 @@ pub struct Refusal {
     pub line: u32,
     /// Its column, from 1.
     pub column: u32,
+}
+
+impl Refusal {
+    ghost use Rattle.fx_text.specs.Refusals.{refused_at};
+
+    /// The refusal of the text at a place, by this code.
+    pub fn at(place: Place, code: u8) -> Refusal
+        ensures { result ≡ refused_at code place }
+    {
+        Refusal {
+            code,
+            line: place.line,
+            column: place.column,
+        }
+    }
 }
 
 /// Why a text has no program.

@@ -1,4 +1,3 @@
-pub mod Joined
 pub mod Limits
 pub mod Steps
 pub mod Normals

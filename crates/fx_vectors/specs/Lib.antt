@@ -6,5 +6,4 @@ pub mod Matrix
 pub mod Effects
 pub mod Question
 pub mod Marks
-pub mod Pieces
 pub mod Supports

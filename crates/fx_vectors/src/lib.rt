@@ -6,7 +6,6 @@ mod effect;
 mod laws;
 mod mark;
 mod matrix;
-mod pieces;
 mod question;
 mod shape;
 #[cfg(test)]

@@ -2,8 +2,7 @@ ghost use Rattle.std.specs.Prelude.{◌≡◌, ◌<◌, ◌↔◌, [], ◌∷◌
 ghost use Rattle.fx_designs.specs.Galois.{digits, number};
 ghost use Rattle.fx_vectors.specs.Marks.{mark_from, meaning_of, row_of};
 
-use crate::pieces::Pieces;
-use fx_base::NoMemory;
+use fx_base::{NoMemory, Pieces};
 use std::alloc::Global;
 use std::marker::Model;
 

@@ -2,7 +2,7 @@ use Rattle.std.proofs.Common.{ℕ, ◌≡◌, ◌<◌, ◌≤◌, ◌+◌, ◌-�
 use Rattle.fx_demands.specs.declared.forbidden_list.ForbiddenVector.{ForbiddenVector}
 use Rattle.fx_demands.specs.EffectVectors.{last_factor}
 use Rattle.fx_barred.specs.FirstWords.{sum_to, vector_at, HasSum, AreFirst}
-use Rattle.fx_barred.proofs.Firsts.{first-start, first-more, first-end, last-of-class, vector-at}
+use Rattle.fx_barred.proofs.Firsts.{first-start, first-more, first-end, first-full, last-of-class, vector-at}
 use Rattle.fx_barred.proofs.first_words.fill.Goals as goal
 
 abbrev any : ForbiddenVector
@@ -55,3 +55,6 @@ returns-clause-first c =
     (first-end r.q r.m r.rows words (length r.rows) c.loop-k.k (c.len-n.result * c.from-size.result) c.loop-k.tables
     (λ k after low last. (let class = c.start_of-k-end.ensures.after k any (omega (arith, c.loop-k-test.false)) low in let at = last-of-class r.q r.room words k any c.requires.words small low in omega (arith, c.len-n.ensures.count)))
     c.loop-k.invariant.first)
+
+pub returns-then-k-eq0-is_full-clause-first : goal.returns-then-k-eq0-is_full-clause-first
+returns-then-k-eq0-is_full-clause-first c = ?

@@ -4,6 +4,6 @@ use Rattle.fx_base.proofs.laws.all_acts_in_words.Goals as goal
 
 pub returns : goal.returns
 returns c = λ events text files old now w f did. (
-  did.listing.told text w ∙ ap (λ (l : List ℕ). Some (text ++ l)) (listed-acts events),
-  did.shelf.told files f ∙ ap Some (shelved-acts events files),
+  did.listing.exposed text w ∙ ap (λ (l : List ℕ). Some (text ++ l)) (listed-acts events),
+  did.shelf.exposed files f ∙ ap Some (shelved-acts events files),
 )

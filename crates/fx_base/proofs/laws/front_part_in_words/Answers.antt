@@ -9,6 +9,6 @@ returns c = λ events text files old now w f begun.
       listing = _;
       added = come.new;
       come = come.come;
-      written = begun.did.listing.told text w;
-      shelf = begun.did.shelf.told files f ∙ ap Some (come.added files);
+      written = begun.did.listing.exposed text w;
+      shelf = begun.did.shelf.exposed files f ∙ ap Some (come.added files);
     }

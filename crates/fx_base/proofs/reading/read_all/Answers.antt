@@ -25,7 +25,7 @@ returns-then-len-limit-clause-rest g c = read_rest_more _ _ _ _ _ _ c.reads.inva
 pub reads-preserved : goal.reads-preserved
 reads-preserved g c = record {
   read = read_more _ _ _ _ _ _ _ c.reads.invariant.read c.in_ok-count.ensures.taken c.in_ok-count.ensures.within c.in_ok-extend_from_slice.ensures.ok;
-  same = c.in_ok-count.ensures.cause.kept ∙ c.reads.invariant.same;
-  kept = c.in_ok-count.ensures.kept ∙ c.reads.invariant.kept;
+  same = c.in_ok-count.ensures.cause.unchanged ∙ c.reads.invariant.same;
+  unchanged = c.in_ok-count.ensures.unchanged ∙ c.reads.invariant.unchanged;
   small = omega (arith, c.if-len-limit.false);
 }

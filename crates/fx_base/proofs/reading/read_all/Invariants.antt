@@ -6,7 +6,7 @@ abbrev pub invariant-reads : goal.invariant-reads
 invariant-reads g l = record {
   read : HasRead (g.S.Source.left l.initial.source) (g.S.Source.left l.source) l.bytes;
   same : g.S.Source.faults l.source ≡ g.S.Source.faults l.initial.source;
-  kept : g.S.Source.sure l.source ≡ g.S.Source.sure l.initial.source;
+  unchanged : g.S.Source.sure l.source ≡ g.S.Source.sure l.initial.source;
   small : length l.bytes ≤ l.limit;
 }
 

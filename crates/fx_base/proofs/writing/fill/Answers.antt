@@ -13,8 +13,8 @@ loop-from-preserved g c =
       in_range = omega arith;
       done = fill_more _ _ _ _ _ _ c.loop-from.invariant.done taken;
       state = c.in_ok-from.ensures.state;
-      same = c.in_ok-from.ensures.cause.kept ∙ c.loop-from.invariant.same;
-      kept = c.in_ok-from.ensures.kept ∙ c.loop-from.invariant.kept;
+      same = c.in_ok-from.ensures.cause.unchanged ∙ c.loop-from.invariant.same;
+      unchanged = c.in_ok-from.ensures.unchanged ∙ c.loop-from.invariant.unchanged;
     }
 
 pub returns-in_err-from-clause-part : goal.returns-in_err-from-clause-part

@@ -8,7 +8,7 @@ invariant-loop-from g l = record {
   done : Shelves (g.F.Shelf.files l.initial.shelf) (g.F.Shelf.files l.shelf) (map FileByte (take l.from l.content));
   state : g.F.Shelf.begun l.shelf ≡ true;
   same : g.F.Shelf.faults l.shelf ≡ g.F.Shelf.faults l.initial.shelf;
-  kept : g.F.Shelf.room l.shelf ≡ g.F.Shelf.room l.initial.shelf;
+  unchanged : g.F.Shelf.room l.shelf ≡ g.F.Shelf.room l.initial.shelf;
 }
 
 abbrev pub decreases-loop-from : goal.decreases-loop-from

@@ -11,12 +11,12 @@ loop-from-preserved g c =
     record {
       in_range = omega arith;
       done = appends_more _ _ _ _ _ _ c.loop-from.invariant.done taken;
-      same = c.in_ok-from.ensures.cause.kept ∙ c.loop-from.invariant.same;
-      kept = c.in_ok-from.ensures.kept ∙ c.loop-from.invariant.kept;
+      same = c.in_ok-from.ensures.cause.unchanged ∙ c.loop-from.invariant.same;
+      unchanged = c.in_ok-from.ensures.unchanged ∙ c.loop-from.invariant.unchanged;
     }
 
 pub returns-in_err-from-clause-part : goal.returns-in_err-from-clause-part
 returns-in_err-from-clause-part g c = appends_part _ _ _ _ _ c.loop-from.invariant.done c.in_err-from.ensures.failed
 
 pub returns-clause-part : goal.returns-clause-part
-returns-clause-part g c = record { part = _; told = c.loop-from.invariant.done }
+returns-clause-part g c = record { part = _; appended = c.loop-from.invariant.done }

@@ -7,7 +7,7 @@ invariant-loop-from g l = record {
   in_range : l.from ≤ length l.piece;
   done : Appends (g.K.Sink.written l.initial.sink) (g.K.Sink.written l.sink) (take l.from l.piece);
   same : g.K.Sink.faults l.sink ≡ g.K.Sink.faults l.initial.sink;
-  kept : g.K.Sink.room l.sink ≡ g.K.Sink.room l.initial.sink;
+  unchanged : g.K.Sink.room l.sink ≡ g.K.Sink.room l.initial.sink;
 }
 
 abbrev pub decreases-loop-from : goal.decreases-loop-from

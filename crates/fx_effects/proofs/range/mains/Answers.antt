@@ -2,7 +2,7 @@ use Rattle.std.proofs.Common.{◌≡◌, ◌+◌, ◌++◌, ℕ, List, drop, sym
 use Rattle.std.specs.Prelude.{decimal}
 use Rattle.std.proofs.lemmas.Result.{err_from_is_err_and}
 use Rattle.fx_text.specs.Names.{place_of}
-use Rattle.fx_factors.specs.Ranges.{numbered, stem}
+use Rattle.fx_text.specs.Ranges.{numbered, stem}
 use Rattle.fx_vectors.specs.Effects.{numbers_of}
 use Rattle.fx_demands.proofs.Merging.{numbers-push}
 use Rattle.fx_effects.specs.Factors.{main_of, mains_from}

@@ -1,5 +1,5 @@
 use Rattle.std.proofs.Common.{◌≡◌, [], drop}
-use Rattle.fx_factors.specs.Ranges.{numbered, stem}
+use Rattle.fx_text.specs.Ranges.{numbered, stem}
 use Rattle.fx_vectors.specs.Effects.{numbers_of}
 use Rattle.fx_demands.specs.Bars.{AreNumbers}
 use Rattle.fx_effects.specs.Factors.{mains_from}

@@ -1,6 +1,6 @@
 use Rattle.std.proofs.Common.{◌≡◌, ◌+◌, ◌-◌, true, ap, ap₂, sym, ◌∙◌, arith}
-use Rattle.fx_factors.specs.Ranges.{is_range, names_between, number_at_end, numbered, stem}
-use Rattle.fx_factors.proofs.Parts.{order}
+use Rattle.fx_text.specs.Ranges.{is_range, names_between, number_at_end, numbered, stem}
+use Rattle.fx_text.proofs.RangeParts.{order}
 use Rattle.fx_vectors.specs.Effects.{numbers_of}
 use Rattle.fx_effects.specs.Factors.{mains_from}
 use Rattle.fx_effects.proofs.Mains.{number_is_short, whole}

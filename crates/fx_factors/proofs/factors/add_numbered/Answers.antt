@@ -2,9 +2,10 @@ use Rattle.std.proofs.Common.{◌≡◌, ◌+◌, ◌++◌, ◌∷◌, [], take,
 use Rattle.std.specs.Prelude.{decimal, is_some}
 use Rattle.std.proofs.lemmas.List.{append_assoc}
 use Rattle.fx_text.specs.Names.{place_of}
-use Rattle.fx_factors.specs.Ranges.{stem}
+use Rattle.fx_text.specs.Ranges.{stem}
 use Rattle.fx_factors.specs.Factors.{known_at}
-use Rattle.fx_factors.proofs.Numbered.{one_more, known_here, not_here, none_left, all_taken, behind}
+use Rattle.fx_text.proofs.Numbered.{one_more, all_taken}
+use Rattle.fx_factors.proofs.Numbered.{known_here, not_here, none_left, behind}
 use Rattle.fx_factors.proofs.factors.add_numbered.Goals as goal
 
 pub returns-then-is_some-clause-known : goal.returns-then-is_some-clause-known

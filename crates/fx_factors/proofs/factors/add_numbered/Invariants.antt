@@ -1,5 +1,5 @@
 use Rattle.std.proofs.Common.{◌≡◌, ◌++◌, length, take, drop}
-use Rattle.fx_factors.specs.Ranges.{numbered, stem}
+use Rattle.fx_text.specs.Ranges.{numbered, stem}
 use Rattle.fx_factors.specs.Factors.{are_known}
 use Rattle.fx_factors.proofs.factors.add_numbered.Given as goal
 

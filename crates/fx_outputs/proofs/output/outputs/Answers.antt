@@ -8,7 +8,7 @@ use Rattle.fx_outputs.specs.Outputs.{outputs_of, outputs_behind}
 use Rattle.fx_outputs.proofs.Limits.{all_within}
 use Rattle.fx_outputs.proofs.Statements.{refused, read, passed, one_more_name}
 use Rattle.fx_outputs.proofs.output.outputs.Goals as goal
-use Rattle.fx_outputs.proofs.output.outputs.Goals.{then-is_output+in_ok-output+in_ok-from_slice+in_ok-push+in_ok-push-2, else-is_output}
+use Rattle.fx_outputs.proofs.output.outputs.Goals.{then-is_output+in_ok-output+in_ok-push, else-is_output}
 
 pub returns-in_err-output-clause-err : goal.returns-in_err-output-clause-err
 returns-in_err-output-clause-err c =
@@ -18,7 +18,7 @@ returns-in_err-output-clause-err c =
     let s = c.statement-item.result in
     let reason = c.in_err-output.field-0.0 in
     let left = drop-cons all i s (omega arith) ∙ ap (λ v. v ∷ drop (suc i) all) (sym c.statement-item.is) in
-    let one = rw (take_rest c.lexemes-lexemes.result.now 3, c.lexemes-lexemes.ensures, c.as_slice.ensures) at c.in_err-output.ensures.err in
+    let one = rw (take_rest c.lexemes-lexemes.result.now 3, c.lexemes-lexemes.ensures) at c.in_err-output.ensures.err in
     let first = rw c.lexemes-lexemes.ensures at c.index-lexemes-0.is in
     let third = rw c.lexemes-lexemes.ensures at c.index-lexemes-3.is in
     let more = refused context c.loop-statement.earlier c.loop-statement.outputs (drop (suc i) all) s c.index-lexemes-0.result c.index-lexemes-3.result reason c.if-is_output.ensures first third one in
@@ -37,13 +37,13 @@ loop-statement-preserved c =
     let left = drop-cons all i s (omega arith) ∙ ap (λ v. v ∷ drop (suc i) all) (sym c.statement-item.is) in
     let so_far = c.loop-statement.invariant.meaning ∙ ap (outputs_behind context earlier outputs) left in
     elim c.if-is_output.branch [
-      | then-is_output+in_ok-output+in_ok-from_slice+in_ok-push+in_ok-push-2 w ↦
-          let one = rw (take_rest w.lexemes-lexemes.result.now 3, w.lexemes-lexemes.ensures, w.as_slice.ensures) at w.in_ok-output.ensures.ok in
+      | then-is_output+in_ok-output+in_ok-push w ↦
+          let one = rw (take_rest w.lexemes-lexemes.result.now 3, w.lexemes-lexemes.ensures) at w.in_ok-output.ensures.ok in
           let first = rw w.lexemes-lexemes.ensures at w.index-lexemes-0.is in
           let third = rw w.lexemes-lexemes.ensures at w.index-lexemes-3.is in
           let more = read context earlier outputs (drop (suc i) all) s w.index-lexemes-0.result w.index-lexemes-3.result w.in_ok-output.output w.if-is_output.ensures first third one in
-          let names : c.if-is_output.earlier ≡ earlier ++ w.in_ok-output.output.name ∷ [] = w.earlier-is ∙ w.in_ok-push.ensures.ok ∙ ap (λ n. earlier ++ n ∷ []) (w.in_ok-from_slice.ensures ∙ w.as_slice-then-is_output.ensures) in
-          let files : c.if-is_output.outputs ≡ outputs ++ w.in_ok-output.output ∷ [] = w.outputs-is ∙ w.in_ok-push-2.ensures.ok in
+          let names : c.if-is_output.earlier ≡ earlier ++ w.in_ok-output.output.name ∷ [] = w.earlier-is ∙ w.in_ok-output.ensures.name in
+          let files : c.if-is_output.outputs ≡ outputs ++ w.in_ok-output.output ∷ [] = w.outputs-is ∙ w.in_ok-push.ensures.ok in
           record {
             meaning = rw (add-one, names, files) (so_far ∙ more);
             names = rw (names, files) (one_more_name c.args.earlier.now earlier outputs w.in_ok-output.output c.loop-statement.invariant.names);

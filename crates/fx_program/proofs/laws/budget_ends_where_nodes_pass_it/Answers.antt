@@ -2,9 +2,10 @@ use Rattle.std.proofs.Common.{ℕ, ◌≡◌, List, Option, Some, None, length, 
 use Rattle.std.proofs.lemmas.Bool.{cases_lt}
 use Rattle.fx_designs.specs.Answers.{answer}
 use Rattle.fx_designs.specs.Nodes.{nodes}
-use Rattle.fx_program.specs.Outcomes.{finished, status_of}
+use Rattle.fx_designs.specs.Outcomes.{finished}
+use Rattle.fx_program.specs.Statuses.{status_of}
 use Rattle.fx_program.specs.Output.{Output, given_by}
-use Rattle.fx_program.proofs.Given.{within, passed}
+use Rattle.fx_answer.proofs.Endings.{within, passed}
 use Rattle.fx_program.proofs.laws.budget_ends_where_nodes_pass_it.Goals as goal
 
 not_ended : (found : Option (List ℕ)) (count : ℕ) → status_of (finished found count) ≡ 2 → ⊥

@@ -14,18 +14,18 @@ run_output (Run threads seed) text = refl
 run_reads : (settings : Settings) → reads (Ok settings) ≡ true
 run_reads (Run threads seed) = refl
 
-pub returns-in-Ok-Run-clause-ends : goal.returns-in-Ok-Run-clause-ends
-returns-in-Ok-Run-clause-ends g c = λ text is.
+pub returns-in-Ok-Run-clause-output : goal.returns-in-Ok-Run-clause-output
+returns-in-Ok-Run-clause-output g c = λ text is.
     let settings = c.in-Ok-Run.field-0 in
     rw c.exit_status.ensures
     (ends_for _ text (Ok settings) _ c.in-Ok-Run.ensures
-    (ends_by _ _ _ (run_output settings text) (c.run.ensures.ends text _ (is.told (ap reads (sym c.in-Ok-Run.ensures) ∙ run_reads settings)))))
+    (ends_by _ _ _ (run_output settings text) ((c.run.ensures.output text (is.exposed (ap reads (sym c.in-Ok-Run.ensures) ∙ run_reads settings))).whatever _)))
 
-pub returns-in-Err-clause-ends : goal.returns-in-Err-clause-ends
-returns-in-Err-clause-ends g c = λ text is.
+pub returns-in-Err-clause-output : goal.returns-in-Err-clause-output
+returns-in-Err-clause-output g c = λ text is.
     rw c.exit_status-in-Err.ensures
     (ends_for _ text (Err c.in-Err.fault) _ c.in-Err.ensures
-    (ends_by _ _ _ (ap (λ l. message l 3) (sym c.word_line.ensures)) (c.say.ensures.ends _)))
+    (ends_by _ _ _ (ap (λ l. message l 3) (sym c.word_line.ensures)) (c.list.ensures.output.whatever _)))
 
 pub word_line-requires : goal.word_line-requires
 word_line-requires g c = fault_of_words (map (λ w. w.items) c.args.words.now) c.in-Err.fault (sym c.in-Err.ensures)

@@ -1,5 +1,5 @@
 use Rattle.std.proofs.Common.{◌≡◌, ◌+◌, ◌-◌, ◌*◌, ◌/◌, sym, ap, ap₂, ◌∙◌, arith}
-use Rattle.fx_statements.specs.Components.{component_count}
+use Rattle.fx_designs.specs.Components.{component_count}
 use Rattle.fx_statements.proofs.Bounds.{no_more_than_9}
 use Rattle.fx_statements.proofs.ComponentCounts.{are_many, count_first, count_more, next_count, small_next}
 use Rattle.fx_statements.proofs.components.are_too_many.Goals as goal

@@ -1,5 +1,5 @@
 use Rattle.std.proofs.Common.{◌≡◌, ◌+◌, ◌≤◌}
-use Rattle.fx_statements.specs.Components.{component_count, listed_count}
+use Rattle.fx_designs.specs.Components.{component_count, listed_count}
 use Rattle.fx_statements.proofs.components.are_too_many.Given as goal
 
 abbrev pub invariant-loop-k : goal.invariant-loop-k

@@ -1,0 +1,3 @@
+pub mod Heads
+pub mod Products
+pub mod Rules

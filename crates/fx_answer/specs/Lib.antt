@@ -1,0 +1,3 @@
+pub mod Questions
+pub mod Outcomes
+pub mod Claims

@@ -1,0 +1,18 @@
+//! The program over any reader and writer of the standard library, from the command line to the exit status.
+#![tactic(auto)]
+
+mod input;
+mod output;
+mod running;
+mod standard;
+mod starting;
+#[cfg(test)]
+mod tests;
+mod words;
+
+pub use input::Input;
+pub use output::Output;
+pub use running::{Ran, run};
+pub use standard::run_standard;
+pub use starting::{NO_TEXT, start, status_without_words};
+pub use words::words_after_name;

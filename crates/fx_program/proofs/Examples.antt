@@ -1,0 +1,222 @@
+-- Words and texts, with all that is given for them: the definitions, computed from the bytes of a text to those of its listing.
+use Rattle.std.proofs.Common.{◌≡◌, ℕ, List, [], ◌∷◌, ◌++◌, Option, Some, None, false, true, ap, refl}
+use Rattle.std.proofs.lemmas.Bool.{false≢true}
+use Rattle.std.proofs.lemmas.Option.{none-some}
+use Rattle.std.specs.Prelude.{codes}
+use Rattle.std.specs.Fmt.{digits}
+use Rattle.std.specs.Option.{option_map}
+use Rattle.fx_base.specs.Acts.{Piece, ListByte, Did}
+use Rattle.fx_designs.specs.Galois.{prime_of, degree_of, reduction_of, add, mul, neg, inv}
+use Rattle.fx_designs.specs.Runs.{runs_of, is_constant, is_balanced}
+use Rattle.fx_designs.specs.Spans.{in_span}
+use Rattle.fx_designs.specs.Demands.{must_balance, is_met, is_allowed}
+use Rattle.fx_designs.specs.Canonical.{is_canonical}
+use Rattle.fx_designs.specs.Answers.{lists, designs, answer}
+use Rattle.fx_designs.specs.Nodes.{nodes}
+use Rattle.fx_lexer.specs.Lexing.{lexed}
+use Rattle.fx_language.specs.Refusals.{refused}
+use Rattle.fx_settings.specs.Sizes.{size_of}
+use Rattle.fx_settings.specs.Models.{criterion_of}
+use Rattle.fx_settings.specs.Blocks.{check_blocks, check_minimum, blocks_of}
+use Rattle.fx_settings.specs.Settings.{levels_of, budget_of}
+use Rattle.fx_demands.specs.Bars.{bars_of}
+use Rattle.fx_vectors.specs.Effects.{factors_of}
+use Rattle.fx_statements.specs.Programs.{program_of}
+use Rattle.fx_program.specs.Words.{settings_of}
+use Rattle.fx_program.specs.Refusals.{fault_line}
+use Rattle.fx_program.specs.Texts.{program_in, at_front}
+use Rattle.fx_program.specs.declared.text.TextFault.TheVariants.{Refused}
+use Rattle.fx_alias.specs.Rules.{step_lines}
+use Rattle.fx_program.specs.Output.{Output, message, output_of, IsTextOf, Gives, world}
+
+-- what is given for the word `run` and a text
+given : List ℕ → Output
+unfolding digits prime_of degree_of reduction_of add mul neg inv runs_of is_constant is_balanced in_span must_balance is_met is_allowed is_canonical lists designs answer nodes lexed refused levels_of budget_of size_of criterion_of check_blocks check_minimum blocks_of bars_of factors_of program_of settings_of program_in step_lines lib.Count.ones
+given text = output_of (codes "run" ∷ []) text
+
+-- a text without steps
+nothing :
+    (given [] ≡ record { events = []; status = 0 })
+    × (given (codes "; run; quit;") ≡ record { events = []; status = 0 })
+unfolding given
+nothing = (refl, refl)
+
+-- refused: what is no token
+lexical :
+    (given (codes "proc factex; factors A B C; /* run;") ≡ message (codes "factex: L1 1:29 comment is not closed\n") 3)
+    × (given (codes "proc factex; factors A B C; output out=a A cvals=('x);") ≡ message (codes "factex: L2 1:51 string is not closed\n") 3)
+    × (given (codes "proc factex; factors A B C; size design=8%;") ≡ message (codes "factex: L3 1:42 character is not allowed\n") 3)
+    × (given (codes "proc factex; factors A B C; size design=000000000000000000000000000000000000008;") ≡ message (codes "factex: L4 1:41 number is too long\n") 3)
+    × (given (codes "proc factex; factors a23456789012345678901234567890123;") ≡ message (codes "factex: L5 1:22 name is too long\n") 3)
+unfolding given
+lexical = (refl, refl, refl, refl, refl)
+
+-- refused: what no program goes on with
+by_the_grammar :
+    (given (codes "proc factex; factors A B C; title x;") ≡ message (codes "factex: E1 1:29 statement is not known\n") 3)
+    × (given (codes "proc factex; factors A B C; size design=max;") ≡ message (codes "factex: E2 1:41 unexpected word or end\n") 3)
+    × (given (codes "proc factex; factors A B C; size runs=8;") ≡ message (codes "factex: E3 1:34 option is not known\n") 3)
+    × (given (codes "proc factex time=60;") ≡ message (codes "factex: E24 1:13 not kept in this profile\n") 3)
+    × (given (codes "proc factex; factors A B C; size design=8; size design=8;") ≡ message (codes "factex: E26 1:44 statement is repeated in the step\n") 3)
+    × (given (codes "proc factex; factors A B C; run; size design=8;") ≡ message (codes "factex: E27 1:34 statement after RUN\n") 3)
+    × (given (codes "proc factex nodes=1 nodes=2;") ≡ message (codes "factex: E28 1:21 option is repeated\n") 3)
+unfolding given
+by_the_grammar = (refl, refl, refl, refl, refl, refl, refl)
+
+-- refused: the factors of a step
+by_the_factors :
+    (given (codes "proc factex; factors X1-X3 X2;") ≡ message (codes "factex: E5 1:28 name is repeated\n") 3)
+    × (given (codes "proc factex; run;") ≡ message (codes "factex: E7 1:1 step has no FACTORS statement\n") 3)
+    × (given (codes "proc factex; factors A X1-X40;") ≡ message (codes "factex: E10 1:24 too many factors\n") 3)
+    × (given (codes "proc factex; factors X5-X2;") ≡ message (codes "factex: E30 1:22 range of names is not regular\n") 3)
+unfolding given
+by_the_factors = (refl, refl, refl, refl)
+
+-- refused: the settings of a step
+by_the_settings :
+    (given (codes "proc factex; factors A B / nlev=6;") ≡ message (codes "factex: E6 1:33 number of levels is not 2, 3, 4, 5, 7, 8 or 9\n") 3)
+    × (given (codes "proc factex; factors A B C; size design=12;") ≡ message (codes "factex: E8 1:41 size is not a power of the number of levels\n") 3)
+    × (given (codes "proc factex; factors A B C; size design=2048;") ≡ message (codes "factex: E9 1:41 more than 1024 runs\n") 3)
+    × (given (codes "proc factex; factors X1-X11;") ≡ message (codes "factex: E9 1:14 more than 1024 runs\n") 3)
+    × (given (codes "proc factex; factors A B C; model resolution=2;") ≡ message (codes "factex: E11 1:46 resolution is not from 3 to 99\n") 3)
+    × (given (codes "proc factex; factors A B C; model e=(A) / minabs;") ≡ message (codes "factex: E12 1:43 MINABS with ESTIMATE\n") 3)
+    × (given (codes "proc factex; factors A B C; blocks nblkfacs=1;") ≡ message (codes "factex: E13 1:29 MINABS or RESOLUTION=MAX with BLOCKS\n") 3)
+    × (given (codes "proc factex; factors A B C; size design=min;") ≡ message (codes "factex: E14 1:41 minimum size with a maximum or MINABS\n") 3)
+    × (given (codes "proc factex nodes=0; factors A;") ≡ message (codes "factex: E29 1:19 number is out of range\n") 3)
+    × (given (codes "proc factex; factors A B C; model r=3; blocks nblocks=3;") ≡ message (codes "factex: E15 1:55 blocks are not a power of the number of levels\n") 3)
+    × (given (codes "proc factex; factors A B C; model r=3; blocks nblkfacs=4;") ≡ message (codes "factex: E16 1:56 more blocks than runs\n") 3)
+unfolding given
+by_the_settings = (refl, refl, refl, refl, refl, refl, refl, refl, refl, refl, refl)
+
+-- refused: the effects of a step
+by_the_effects :
+    (given (codes "proc factex; factors A B C; model e=(A B*Z);") ≡ message (codes "factex: E4 1:42 factor is not known\n") 3)
+    × (given (codes "proc factex; factors A B C; model e=(A*B@1);") ≡ message (codes "factex: E29 1:42 number is out of range\n") 3)
+    × (given (codes "proc factex; factors A B C D / nlev=9; size design=81; model e=(A*B*C*D);") ≡ message (codes "factex: E22 1:62 more than 2000000 demands\n") 3)
+    × (given (codes "proc factex; factors X1-X40; size design=4; model e=(X1*X2*X3*X4); examine aliasing;") ≡ message (codes "factex: E23 1:76 more than 100000 effects\n") 3)
+unfolding given
+by_the_effects = (refl, refl, refl, refl)
+
+-- refused: the files of a step
+by_the_outputs :
+    (given (codes "proc factex; factors A B C; output out=a Z nvals=(1 2);") ≡ message (codes "factex: E4 1:42 factor is not known\n") 3)
+    × (given (codes "proc factex; factors A B C; model r=3; blocks nblkfacs=1; output out=a blockname=B;") ≡ message (codes "factex: E5 1:82 name is repeated\n") 3)
+    × (given (codes "proc factex; factors A B C; output out=a A nvals=(1 2 3);") ≡ message (codes "factex: E17 1:44 number of values differs from number of levels\n") 3)
+    × (given (codes "proc factex; factors A B C; output out=a; output out=A;") ≡ message (codes "factex: E18 1:54 OUT name is repeated\n") 3)
+    × (given (codes "proc factex; factors A B C; output out=a randomize(18446744073709551616);") ≡ message (codes "factex: E19 1:52 seed is too large\n") 3)
+    × (given (codes "proc factex; factors A B C; output out=a pointrep=0;") ≡ message (codes "factex: E20 1:51 replication is not from 1 to 200000\n") 3)
+    × (given (codes "proc factex; factors A B C; output out=a pointrep=30000;") ≡ message (codes "factex: E21 1:40 more than 200000 rows\n") 3)
+    × (given (codes "proc factex; factors A B C; output out=a A nvals=(1 2) a nvals=(1 2);") ≡ message (codes "factex: E28 1:56 option is repeated\n") 3)
+    × (given (codes "proc factex; factors A B C; output out=a blockname=day;") ≡ message (codes "factex: E31 1:42 BLOCKNAME without BLOCKS\n") 3)
+unfolding given
+by_the_outputs = (refl, refl, refl, refl, refl, refl, refl, refl, refl)
+
+-- refused: steps that are not run yet: each section of the listing but the rules, files, blocks, the highest
+-- resolution and the least size
+by_what_is_built :
+    (given (codes "proc factex; factors A B C; size design=8;") ≡ message (codes "factex: E0 1:1 not built yet\n") 3)
+    × (given (codes "proc factex; factors A B C; model r=max;") ≡ message (codes "factex: E0 1:1 not built yet\n") 3)
+    × (given (codes "proc factex; factors A B C; model r=3/minabs;") ≡ message (codes "factex: E0 1:1 not built yet\n") 3)
+    × (given (codes "proc factex; factors A B C; model r=3; size design=min;") ≡ message (codes "factex: E0 1:1 not built yet\n") 3)
+    × (given (codes "proc factex; factors A B C; model r=3; blocks nblocks=2;") ≡ message (codes "factex: E0 1:1 not built yet\n") 3)
+    × (given (codes "proc factex; factors A B C; model r=3; output out=a;") ≡ message (codes "factex: E0 1:1 not built yet\n") 3)
+    × (given (codes "proc factex; factors A B C; model r=3; examine design;") ≡ message (codes "factex: E0 1:1 not built yet\n") 3)
+    × (given (codes "proc factex; factors A B C; model r=3; examine aliasing;") ≡ message (codes "factex: E0 1:1 not built yet\n") 3)
+    × (given (codes "proc factex; factors A B C; model r=3; examine blocked;") ≡ message (codes "factex: E0 1:1 not built yet\n") 3)
+    × (given (codes "proc factex; factors A B C; model r=3; examine aberration;") ≡ message (codes "factex: E0 1:1 not built yet\n") 3)
+unfolding given
+by_what_is_built = (refl, refl, refl, refl, refl, refl, refl, refl, refl, refl)
+
+-- a third of three factors of three levels
+third_of_three_levels :
+    given (codes "proc factex;factors A B C / nlev=3;size fraction=3;model resolution=3;") ≡ message (codes "step 1\nfactors 3 levels 3\ndesign 9 runs\nnodes 3\nrules\n  C = A^2*B\n") 0
+unfolding given
+third_of_three_levels = refl
+
+-- the components of A*B cannot be exposed apart in three runs
+components :
+    given (codes "proc factex;factors A B / nlev=3;size design=3;model estimate=(A*B);") ≡ message (codes "step 1\nfactors 2 levels 3\nno design in 3 runs\nnodes 4\n") 1
+unfolding given
+components = refl
+
+-- B is constant, so that C introduces the second run index
+late_index :
+    given (codes "proc factex;factors A B C D;size nrunfacs=2;model estimate=(A*B C A*C);") ≡ message (codes "step 1\nfactors 4 levels 2\ndesign 4 runs\nnodes 10\nrules\n  B = 0\n  D = A*C\n") 0
+unfolding given
+late_index = refl
+
+-- four factors of two levels in eight runs
+half :
+    given (codes "proc factex;factors A B C D;size design=8;model resolution=4;") ≡ message (codes "step 1\nfactors 4 levels 2\ndesign 8 runs\nnodes 4\nrules\n  D = A*B*C\n") 0
+unfolding given
+half = refl
+
+-- three factors of four levels in 16 runs
+four_levels :
+    given (codes "proc factex;factors A B C/nlev=4;size design=16;model resolution=3;") ≡ message (codes "step 1\nfactors 3 levels 4\ndesign 16 runs\nnodes 3\nrules\n  C = A^3*B\n") 0
+unfolding given
+four_levels = refl
+
+-- three factors of five levels in 25 runs
+five_levels :
+    given (codes "proc factex;factors A B C/nlev=5;size design=25;model resolution=3;") ≡ message (codes "step 1\nfactors 3 levels 5\ndesign 25 runs\nnodes 3\nrules\n  C = A^4*B\n") 0
+unfolding given
+five_levels = refl
+
+-- three steps, of which the second needs more nodes than it is allowed, and the third has no design: the greatest
+-- status decides
+three_steps :
+    given (codes "proc factex;factors A;model r=3;proc factex nodes=1;factors A B;model r=3;proc factex;factors A B C;size design=2;model r=3;") ≡ record { events = Piece (codes "step 1\nfactors 1 levels 2\ndesign 2 runs\nnodes 1\nrules\n  none\n") ∷ Piece (codes "step 2\nfactors 2 levels 2\nbudget ended after 1 nodes\n") ∷ Piece (codes "step 3\nfactors 3 levels 2\nno design in 2 runs\nnodes 1\n") ∷ []; status = 2 }
+unfolding given
+three_steps = refl
+
+-- a step without a design, and one with a design after it
+none_and_design :
+    given (codes "proc factex;factors A B C;size design=2;model r=3;proc factex;factors A;model r=3;") ≡ record { events = Piece (codes "step 1\nfactors 3 levels 2\nno design in 2 runs\nnodes 1\n") ∷ Piece (codes "step 2\nfactors 1 levels 2\ndesign 2 runs\nnodes 1\nrules\n  none\n") ∷ []; status = 1 }
+unfolding given
+none_and_design = refl
+
+-- words: the first fault, whatever the text says
+refused_words :
+    (output_of [] (codes "proc") ≡ message (codes "factex: C1 word 1\n") 3)
+    × (output_of (codes "x" ∷ codes "y" ∷ []) (codes "proc") ≡ message (codes "factex: C2 word 1\n") 3)
+    × (output_of (codes "RUN" ∷ []) (codes "proc") ≡ message (codes "factex: C2 word 1\n") 3)
+    × (output_of (codes "runs" ∷ []) (codes "proc") ≡ message (codes "factex: C2 word 1\n") 3)
+    × (output_of (codes "run" ∷ codes "x" ∷ []) (codes "proc") ≡ message (codes "factex: C3 word 2\n") 3)
+    × (output_of (codes "run" ∷ codes "run" ∷ codes "y" ∷ []) (codes "proc") ≡ message (codes "factex: C3 word 2\n") 3)
+unfolding digits settings_of
+refused_words = (refl, refl, refl, refl, refl, refl)
+
+-- the messages of texts that are too long to be written here
+long_texts :
+    (fault_line (at_front 25) ≡ codes "factex: E25 1:1 text is over 1048576 bytes\n")
+    × (fault_line (Refused (record { code = 32; line = 101; column = 1 })) ≡ codes "factex: E32 101:1 more than 100 steps\n")
+unfolding digits
+long_texts = (refl, refl)
+
+-- the text of a source that exposes it is that one, and no other; where the source is not read, each text serves
+text_of_a_source : (words : List (List ℕ)) (text : List ℕ) → IsTextOf words (Some text) text
+text_of_a_source words text = record { exposed = λ read. refl }
+
+no_other_text : (text other : List ℕ) → IsTextOf (codes "run" ∷ []) (Some text) other → text ≡ other
+unfolding settings_of
+no_other_text text other is = cc (is.exposed refl)
+
+unread_source : (left : Option (List ℕ)) (text : List ℕ) → IsTextOf [] left text
+unfolding settings_of
+unread_source left text = record { exposed = λ read. absurd (false≢true read) }
+
+-- the two bytes are appended, and nothing is said of a shelf that exposes nothing
+one_and_two : Did (world (Some (7 ∷ [])) None) (world (Some (7 ∷ 1 ∷ 2 ∷ [])) None) (ListByte 1 ∷ ListByte 2 ∷ [])
+one_and_two = record {
+  listing = record { exposed = λ text e. ap (λ (o : Option (List ℕ)). option_map (λ (t : List ℕ). t ++ 1 ∷ 2 ∷ []) o) e };
+  shelf = record { exposed = λ files e. absurd (none-some files e) };
+}
+
+-- a status below 4 comes with the whole output, a higher one with a prefix of it
+whole_output : Gives (message (1 ∷ 2 ∷ []) 1) (world (Some (7 ∷ [])) None) (world (Some (7 ∷ 1 ∷ 2 ∷ [])) None) 1
+whole_output = record {
+  same = λ low. refl;
+  whole = λ low. one_and_two;
+  part = record { done = ListByte 1 ∷ ListByte 2 ∷ []; left = []; front = refl; did = one_and_two };
+}

@@ -1,0 +1,19 @@
+use Rattle.std.proofs.Common.{ℕ, length, ◌∙◌, ap}
+use Rattle.std.proofs.lemmas.Bool.{and_parts}
+use Rattle.fx_statements.specs.Steps.{meaning_of}
+use Rattle.fx_program.proofs.Given.{is_given}
+use Rattle.fx_program.proofs.Endings.{lists_by, lists_none}
+use Rattle.fx_program.proofs.run.run_step.Goals as goal
+
+pub answer-requires : goal.answer-requires
+answer-requires g c = (and_parts _ _ c.requires).0
+
+pub returns-clause-output : goal.returns-clause-output
+returns-clause-output g c =
+    lists_by _ _ _
+    (is_given c.args.number (meaning_of c.args.step.now) c.in_ok-outcome.outcome c.as_slice.result.now c.status_of.result
+    (and_parts _ _ c.requires).0 c.in_ok-outcome.ensures (c.as_slice.ensures ∙ c.in_ok-lines.ensures) (c.status_of.ensures.status c.in_ok-outcome.outcome.matrix c.in_ok-outcome.outcome.nodes))
+    c.list.ensures.output
+
+pub returns-in_err-lines-clause-output : goal.returns-in_err-lines-clause-output
+returns-in_err-lines-clause-output g c = lists_none _ c.from_residual-in_err-lines.result c.from_residual-in_err-lines.ensures.0
