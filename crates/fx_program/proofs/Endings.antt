@@ -1,5 +1,5 @@
 -- How a command ends: all was done, or it stopped.
-use Rattle.std.proofs.Common.{ℕ, ◌≡◌, ◌≤◌, List, Option, Result, Ok, Err, refl, sym, subst, arith, [], Some, ap}
+use Rattle.std.proofs.Common.{ℕ, ◌≡◌, ◌≤◌, List, Option, Result, Ok, Err, refl, sym, subst, arith, [], ap}
 use Rattle.std.specs.Prelude.{IsErr, IsErrAnd, unwrap_or}
 use Rattle.fx_base.specs.Acts.{Piece, acts, acts_of, World, Did, DidPart}
 use Rattle.fx_base.proofs.Doing.{did_one, part_one, part_whole, part_none}
@@ -10,7 +10,7 @@ use Rattle.fx_program.specs.declared.stop.Stop.{Stop}
 use Rattle.fx_program.specs.declared.stop.Stop.TheVariants as stop
 use Rattle.fx_program.specs.Stops.{exit_status}
 use Rattle.fx_program.specs.Texts.{program_in}
-use Rattle.fx_program.specs.Output.{Output, Gives, Lists, message, output_for, output_of, ListsForSome, program_output}
+use Rattle.fx_program.specs.Output.{Output, Gives, Lists, message, output_for, output_of, ListsForSome, program_output, world}
 
 -- a command that did all, and one that stopped
 pub ends_whole : {a b : World} (output : Output) (status : ℕ) → status ≡ output.status → Did a b (acts output.events) → Gives output a b status
@@ -62,9 +62,11 @@ pub lists_by_stop : {old new : Option (List ℕ)} (output : Output) (ended : Res
 lists_by_stop output ended why h p = record { whatever = λ files. ends_by_stop output ended why h (p.whatever files) }
 
 -- nothing was listed, whatever text the source had
-pub nothing_listed : {old : Option (List ℕ)} (left : Option (List ℕ)) (ended : Result ℕ Stop) → IsErr ended → ListsForSome left old old (exit_status ended)
-nothing_listed left ended h = record {
-  text = unwrap_or left [];
-  exposed = λ known e. sym (ap (λ (o : Option (List ℕ)). unwrap_or o []) e);
-  lists = lists_none (program_output (program_in (unwrap_or left []))) ended h;
-}
+pub nothing_listed : {old : Option (List ℕ)} (left : Option (List ℕ)) (status : ℕ) → 4 ≤ status → ListsForSome left old old status
+nothing_listed {old} left status high =
+    let output = program_output (program_in (unwrap_or left [])) in
+    record {
+      text = unwrap_or left [];
+      exposed = λ known e. sym (ap (λ (o : Option (List ℕ)). unwrap_or o []) e);
+      lists = record { whatever = λ files. ends_stopped output status high (part_none (world old files) (acts output.events)) };
+    }

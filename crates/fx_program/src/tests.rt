@@ -541,5 +541,12 @@ fn long_texts_are_read(rt: HostRuntime) -> Result<(), Fail> {
             b"E25 1:1 text is over 1048576 bytes"
         )
     );
+    let mut steps = Vec::new(alloc);
+    for _ in 0..101 {
+        steps.extend_from_slice(b"proc factex;".as_slice())?;
+    }
+    let more = ran(alloc, words.as_slice(), steps.as_slice(), None, None)?;
+    assert_eq!(rt; more.status, 3);
+    assert!(rt; is_message(more.listed.as_slice(), b"E32 1:1201 more than 100 steps"));
     Ok(())
 }

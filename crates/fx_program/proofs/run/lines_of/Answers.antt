@@ -1,5 +1,4 @@
-use Rattle.std.proofs.Common.{ℕ, ◌≡◌, List, ◌++◌, Option, Some, None, append-nil, length, sym, ap, subst, ◌∙◌}
-use Rattle.fx_vectors.specs.Matrix.{MatrixView}
+use Rattle.std.proofs.Common.{ℕ, List, ◌++◌, append-nil, length, sym, ap, subst, ◌∙◌}
 use Rattle.fx_statements.specs.Outcomes.{ending_in}
 use Rattle.fx_alias.specs.Heads.{head_lines}
 use Rattle.fx_answer.specs.Outcomes.{HasMatrix}

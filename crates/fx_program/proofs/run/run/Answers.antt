@@ -7,7 +7,7 @@ use Rattle.fx_statements.specs.Steps.{meaning_of}
 use Rattle.fx_program.specs.Texts.{at_front, program_in}
 use Rattle.fx_program.specs.Output.{ListsForSome, program_output}
 use Rattle.fx_program.specs.Claims.{SomeHasNone}
-use Rattle.fx_program.proofs.Endings.{lists_by}
+use Rattle.fx_program.proofs.Endings.{lists_by, nothing_listed}
 use Rattle.fx_program.proofs.Statuses.{none_where_one}
 use Rattle.fx_program.proofs.run.run.Goals as goal
 
@@ -38,6 +38,12 @@ returns-in-Ok-TooLong-clause-output g c =
       lists = lists_by _ _ _ (ap program_output (too_long (over_limit left) (is_over_limit left read) ∙ ap Err (sym c.at_front.ensures))) c.refuse.ensures.output;
     }
 
+pub returns-in-Err-ReadFault-clause-output : goal.returns-in-Err-ReadFault-clause-output
+returns-in-Err-ReadFault-clause-output g c = nothing_listed (g.S.Source.left c.args.source.now) 4 (omega arith)
+
+pub returns-in-Err-NoMemory-clause-output : goal.returns-in-Err-NoMemory-clause-output
+returns-in-Err-NoMemory-clause-output g c = nothing_listed (g.S.Source.left c.args.source.now) 5 (omega arith)
+
 pub returns-in-Ok-clause-output : goal.returns-in-Ok-clause-output
 returns-in-Ok-clause-output g c =
     let read = rw c.in-Ok-Whole.field-0-is at c.in-Ok-Whole.ensures.answer in
@@ -45,8 +51,8 @@ returns-in-Ok-clause-output g c =
       text = c.as_slice.result.now;
       exposed = λ known e. sym (c.as_slice.ensures ∙ read.all known e);
       lists = lists_by _ _ _
-      (ap program_output c.in-Ok.ensures.program ∙ ap (λ steps. program_output (Ok (map meaning_of steps))) (sym c.as_slice-in-Ok.ensures))
-      c.run_steps.ensures.output;
+          (ap program_output c.in-Ok.ensures.program ∙ ap (λ steps. program_output (Ok (map meaning_of steps))) (sym c.as_slice-in-Ok.ensures))
+          c.run_steps.ensures.output;
     }
 
 pub returns-in-Err-Fault-clause-output : goal.returns-in-Err-Fault-clause-output
