@@ -1,3 +1,5 @@
 pub mod Powers
 pub mod Valid
 pub mod Readings
+pub mod Lacking
+pub mod Levels
