@@ -1,14 +1,13 @@
 -- Statements of a first word, a word, `=` and a value.
-use Rattle.std.proofs.Common.{◌≡◌, ℕ, eqb, Bool, true, false, ◌||◌, List, [], ◌∷◌, ◌++◌, map, drop, Option, Some, None, refl, sym, ap, ap₂, subst, ◌∙◌, inl, inr}
-use Rattle.std.specs.Prelude.{if◌then◌else◌}
+use Rattle.std.proofs.Common.{◌≡◌, eqb, Bool, true, false, List, [], ◌∷◌, ◌++◌, map, Some, refl, sym, ap, ap₂, ◌∙◌, inl, inr}
 use Rattle.std.specs.Option.{option_map}
 use Rattle.std.proofs.lemmas.Bool.{eqb-true}
 use Rattle.fx_language.specs.declared.symbol.Symbol.{Symbol}
 use Rattle.fx_language.specs.declared.symbol.Symbol.TheVariants as symbol
 use Rattle.fx_language.specs.Symbols.{index, is}
-use Rattle.fx_language.specs.Shapes.{Shape, Matches, One, Before, Either}
+use Rattle.fx_language.specs.Shapes.{Matches, One, Before}
 use Rattle.fx_language.specs.Grammar as grammar
-use Rattle.fx_text.specs.Written.{Written, begins}
+use Rattle.fx_text.specs.Written.{Written}
 use Rattle.fx_text.specs.Refusals.{place_at}
 use Rattle.fx_text.specs.Phrases.{start_of}
 use Rattle.fx_settings.specs.declared.said.Value.{Value}
@@ -16,8 +15,8 @@ use Rattle.fx_settings.specs.declared.said.SizeWord.{SizeWord}
 use Rattle.fx_settings.specs.declared.said.SizeWord.TheVariants as size
 use Rattle.fx_settings.specs.declared.said.BlocksWord.{BlocksWord}
 use Rattle.fx_settings.specs.declared.said.BlocksWord.TheVariants as blocks
-use Rattle.fx_settings.specs.Said.{value_at, value_of, size_word, size_said, blocks_word, blocks_said}
-use Rattle.fx_settings.specs.Readings.{IsStatement, HasValue, IsSizeRead, IsBlocksRead, size_symbol, blocks_symbol}
+use Rattle.fx_settings.specs.Said.{value_at, value_of, size_word, blocks_word}
+use Rattle.fx_settings.specs.Readings.{IsStatement, IsSizeRead, IsBlocksRead, size_symbol, blocks_symbol}
 
 -- a symbol that is this one is no other
 pub turned : (a b c : Symbol) → is a c ≡ true → is b c ≡ is b a
@@ -73,7 +72,7 @@ statement s first word x y p q (f, tf, ef) set (m, tm, em) j i =
     (f, set.word_at, set.equals, set.value, tf, set.word_is, set.sign, four s f set.word_at set.equals set.value m whole)
 
 -- the value after the first `=`
-value_is : (a b c d : Written) → is symbol.Equals a.symbol ≡ false → is symbol.Equals b.symbol ≡ false → is symbol.Equals c.symbol ≡ true → value_of (a ∷ b ∷ c ∷ d ∷ []) ≡ Some (value_at d)
+pub value_is : (a b c d : Written) → is symbol.Equals a.symbol ≡ false → is symbol.Equals b.symbol ≡ false → is symbol.Equals c.symbol ≡ true → value_of (a ∷ b ∷ c ∷ d ∷ []) ≡ Some (value_at d)
 value_is a b c d ha hb hc = rw (ha, hb, hc) refl
 
 -- a SIZE statement with this word

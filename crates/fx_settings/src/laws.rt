@@ -4,7 +4,7 @@
 ghost use Rattle.std.specs.Prelude.{List};
 ghost use Rattle.fx_language.specs.Grammar as grammar;
 ghost use Rattle.fx_text.specs.Written.{Written};
-ghost use Rattle.fx_settings.specs.Readings.{IsBlocksRead, IsSizeRead, IsStatement};
+ghost use Rattle.fx_settings.specs.Readings.{IsBlocksRead, IsLevelsRead, IsSizeRead, IsStatement};
 
 /// What is read from a SIZE statement is what the grammar has there: the word after SIZE, and the
 /// value after `=`.
@@ -16,4 +16,10 @@ pub fn size_is_read_by_the_grammar()
 /// BLOCKS, and the value after `=`.
 pub fn blocks_are_read_by_the_grammar()
     ensures { (s : List Written) → IsStatement grammar.blocks s → IsBlocksRead s }
+{}
+
+/// What is read of the number of levels from a FACTORS statement is what the grammar has there:
+/// nothing where there is no `/`, and else the value of NLEV.
+pub fn levels_are_read_by_the_grammar()
+    ensures { (s : List Written) → IsStatement grammar.factors s → IsLevelsRead s }
 {}
