@@ -8,15 +8,15 @@ use Rattle.std.proofs.lemmas.List.Elements.{All-from_recursion}
 use Rattle.std.proofs.lemmas.List.Quantifiers.{position-Some}
 use Rattle.std.proofs.lemmas.Nat.{le_or_l, or_lt, pow_pos}
 use Rattle.std.proofs.Math.Pow.{pow-lt}
-use Rattle.fx_language.specs.declared.symbol.Symbol.TheVariants.{Bar}
+use Rattle.fx_language.specs.declared.symbol.Symbol.TheVariants.{Bar, Close, Open}
 use Rattle.fx_language.specs.Symbols.{is, is_word}
 use Rattle.fx_text.specs.declared.refusal.ParseStop.{ParseStop}
 use Rattle.fx_text.specs.Written.{Written}
 use Rattle.fx_text.specs.Names.{is_same_name, place_of}
 use Rattle.fx_text.specs.Refusals.{refusal_at}
 use Rattle.fx_text.proofs.Chains.{bind_ok, same_ok, if_ok, unless_ok}
-use Rattle.fx_text.specs.Ranges.{range_end}
-use Rattle.fx_text.specs.Ranges.{is_range, names_between}
+use Rattle.fx_text.specs.Phrases.{after, before}
+use Rattle.fx_text.specs.Ranges.{is_range, names_between, range_end}
 use Rattle.fx_laws.proofs.Order.{each-append, each-map, each-weaker}
 use Rattle.fx_vectors.specs.Effects.{pair_count}
 use Rattle.fx_vectors.specs.Question.{CanBeTold}
@@ -25,7 +25,7 @@ use Rattle.fx_demands.proofs.Ordered.{Has, has-unfilter, in_order-only}
 use Rattle.fx_effects.specs.Factors.{main_of, mains_from}
 use Rattle.fx_effects.specs.Expressions.{Expression, Reading, stars_of, with_name, read, all_read, stars_len, upto_of, expression, bars_at, range_at, by_last, expression_at, begins_effect, effect_len, is_joining, expressions_from, expressions_of}
 use Rattle.fx_effects.specs.Lists.{effects_of, effects_written, at_most_100000}
-use Rattle.fx_effects.specs.Models.{EffectLists, AreApart, list_in, behind_list, first_or, lists_at, lists_behind, check_some_effects, without}
+use Rattle.fx_effects.specs.Models.{EffectLists, AreApart, first_or, lists_at, lists_after, check_some_effects, without}
 
 -- what holds of each of some numbers
 member : (P : ℕ → Type 0) (u : ℕ) (xs : List ℕ) → AllByRecursion P xs → Has u xs → P u
@@ -192,9 +192,9 @@ module _ (factors : List (List ℕ)) where
   }
 
   pub all_told : (q : ℕ) (word : Written) (written : List Written) (r : Result EffectLists ParseStop)
-      → IfOk r (λ lists. lists_behind q factors word written ≡ Ok lists) → IfOk r (AreApart q)
+      → IfOk r (λ lists. lists_after q factors word written ≡ Ok lists) → IfOk r (AreApart q)
       → IfOk r (λ lists. CanBeTold q (length factors) lists.estimate lists.nonnegligible)
   all_told q word written (Ok lists) is apart =
-      let behind = behind_list written in
-      can_be_told q lists (lists_at-of q word (list_in written) (first_or word behind) (list_in (drop 3 behind)) lists is) apart
+      let rest = after Close written in
+      can_be_told q lists (lists_at-of q word (before Close written) (first_or word rest) (before Close (after Open rest)) lists is) apart
   all_told q word written (Err stop) is apart = tt

@@ -1,10 +1,10 @@
 -- What a MODEL statement with ESTIMATE asks for.
-use Rattle.std.specs.Prelude.{ℕ, ◌≤◌, ◌==◌, ◌+◌, IsTrue, nat_le, not, List, [], ◌∷◌, length, take, drop, filter, Option, Some, None, Result, Ok, Err, slice_get, if◌then◌else◌}
-use Rattle.std.specs.List.{list_all, list_any, prefix_len}
+use Rattle.std.specs.Prelude.{ℕ, ◌≤◌, ◌==◌, ◌+◌, IsTrue, nat_le, not, List, [], ◌∷◌, length, filter, Option, Some, None, Result, Ok, Err, slice_get, if◌then◌else◌}
+use Rattle.std.specs.List.{list_all, list_any}
 use Rattle.fx_language.specs.declared.code.TheConstants.{TOO_MANY_DEMANDS, UNEXPECTED_SYMBOL}
-use Rattle.fx_language.specs.declared.symbol.Symbol.TheVariants.{Close}
-use Rattle.fx_language.specs.Symbols.{is}
+use Rattle.fx_language.specs.declared.symbol.Symbol.TheVariants.{Close, Open}
 use Rattle.fx_text.specs.declared.refusal.Refusal.{Refusal}
+use Rattle.fx_text.specs.Phrases.{after, before}
 use Rattle.fx_text.specs.Written.{Written}
 use Rattle.fx_text.specs.Refusals.{refusal_at, refused_at, ◌>>=◌}
 use Rattle.fx_vectors.specs.Effects.{are_in_order, pair_count}
@@ -22,18 +22,6 @@ pub record AreApart (q : ℕ) (lists : EffectLists) : Type 0 where
   pub nonnegligible : IsTrue (are_in_order lists.nonnegligible)
   pub apart : IsTrue (list_all (λ e. not (list_any (λ n. n == e) lists.estimate)) lists.nonnegligible)
   pub pairs : pair_count q lists.estimate lists.nonnegligible ≤ 2000000
-
--- how much stands before `)`
-abbrev pub list_len : List Written → ℕ
-list_len written = prefix_len (λ w. not (is Close w.symbol)) written
-
--- a list that begins after its `(`
-abbrev pub list_in : List Written → List Written
-list_in written = take (list_len written) written
-
--- what stands after its `)`
-abbrev pub behind_list : List Written → List Written
-behind_list written = drop (list_len written + 1) written
 
 -- the effects without those of another list
 abbrev pub without : List ℕ → List ℕ → List ℕ
@@ -65,16 +53,16 @@ lists_at q factors word written other_word other_written =
     check_some_effects word first >>= (λ some.
     told_apart q word first second)))))
 
--- what stands after `MODEL ESTIMATE = (`, at the word ESTIMATE
-abbrev pub lists_behind : ℕ → List (List ℕ) → Written → List Written → Result EffectLists Refusal
-lists_behind q factors word written =
-    lists_at q factors word (list_in written) (first_or word (behind_list written)) (list_in (drop 3 (behind_list written)))
+-- what stands after `MODEL ESTIMATE = (`, at the word ESTIMATE: a list, and after its `)` the second word and its list
+abbrev pub lists_after : ℕ → List (List ℕ) → Written → List Written → Result EffectLists Refusal
+lists_after q factors word written =
+    lists_at q factors word (before Close written) (first_or word (after Close written)) (before Close (after Open (after Close written)))
 
 -- where nothing stands after MODEL, which the grammar refuses too, there is no word to be named
 abbrev pub by_word : ℕ → List (List ℕ) → Option Written → List Written → Result EffectLists Refusal
 by_word q factors None written = Err (refused_at UNEXPECTED_SYMBOL (record { line = 1; column = 1 }))
-by_word q factors (Some word) written = lists_behind q factors word written
+by_word q factors (Some word) written = lists_after q factors word written
 
 -- the lists of a statement `MODEL ESTIMATE = ( .. )`, which may go on by `NONNEGLIGIBLE = ( .. )`
 abbrev pub lists_of : ℕ → List (List ℕ) → List Written → Result EffectLists Refusal
-lists_of q factors statement = by_word q factors (slice_get statement 1) (drop 4 statement)
+lists_of q factors statement = by_word q factors (slice_get statement 1) (after Open statement)

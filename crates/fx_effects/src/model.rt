@@ -1,9 +1,9 @@
-ghost use Rattle.std.specs.Prelude.{◌≡◌, ◌≤◌, length, Ok, Some, IfOk, IfErr, drop};
+ghost use Rattle.std.specs.Prelude.{◌≡◌, ◌≤◌, length, Ok, IfOk, IfErr};
 ghost use Rattle.fx_text.specs.Refusals.{IsRefused};
 ghost use Rattle.fx_vectors.specs.Effects.{numbers_of};
 ghost use Rattle.fx_vectors.specs.Question.{CanBeTold};
 ghost use Rattle.fx_demands.specs.Bars.{AreOrdered};
-ghost use Rattle.fx_effects.specs.Models.{AreApart, first_or, list_in, list_len, behind_list, lists_at, lists_behind, lists_of, check_some_effects, told_apart, without};
+ghost use Rattle.fx_effects.specs.Models.{AreApart, first_or, lists_at, lists_after, lists_of, check_some_effects, told_apart, without};
 
 use crate::expressions::expressions_of;
 use crate::lists::list_of;
@@ -11,7 +11,7 @@ use fx_base::{Bytes, NoMemory};
 use fx_demands::pair_count;
 use fx_galois::Field;
 use fx_language::{Symbol, code};
-use fx_text::{Lexeme, ParseStop, Place, Refusal};
+use fx_text::{Lexeme, ParseStop, Phrase, Place, Refusal};
 use fx_vectors::{Effects, contains};
 use std::alloc::Global;
 use std::marker::Model;
@@ -49,7 +49,7 @@ pub fn effects_of(
     alloc: Global,
     field: Field,
     factors: &[Bytes],
-    statement: &[Lexeme<'_>],
+    statement: &Phrase<'_>,
 ) -> Result<ModelEffects, ParseStop>
     requires { length factors.now ≤ 40 }
     ensures ok { IfOk result (λ effects. lists_of field factors.now statement.now ≡ Ok effects) }
@@ -58,34 +58,42 @@ pub fn effects_of(
         effects.nonnegligible) }
     ensures err { IfErr result (IsRefused (lists_of field factors.now statement.now)) }
 {
-    match statement.get(1) {
+    match statement.at(1) {
         None => Err(ParseStop::Refused(Refusal::at(
             Place { line: 1, column: 1 },
             code::UNEXPECTED_SYMBOL,
         ))),
-        Some(word) => effects_behind(alloc, field, factors, word, from(statement, 4)),
+        Some(word) => effects_after(alloc, field, factors, word, &statement.after(Symbol::Open)),
     }
 }
 
 /// The effects of what stands after `MODEL ESTIMATE = (`.
-fn effects_behind(
+fn effects_after<'a>(
     alloc: Global,
     field: Field,
     factors: &[Bytes],
-    word: &Lexeme<'_>,
-    written: &[Lexeme<'_>],
+    word: &'a Lexeme<'a>,
+    written: &Phrase<'a>,
 ) -> Result<ModelEffects, ParseStop>
     requires { length factors.now ≤ 40 }
     ensures ok { IfOk result (λ effects.
-        lists_behind field factors.now word.now written.now ≡ Ok effects) }
+        lists_after field factors.now word.now written.now ≡ Ok effects) }
     ensures apart { IfOk result (AreApart field) }
-    ensures err { IfErr result (IsRefused (lists_behind field factors.now word.now written.now)) }
+    ensures err { IfErr result (IsRefused (lists_after field factors.now word.now written.now)) }
 {
-    let behind = behind_list(written);
-    let others = list_in(from(behind, 3));
-    let other_word = first_or(word, behind);
-    let first = list_in(written);
-    lists_at(alloc, field, factors, word, first, other_word, others)
+    let rest = written.after(Symbol::Close);
+    let other_word = first_or(word, &rest);
+    let first = written.before(Symbol::Close);
+    let others = rest.after(Symbol::Open).before(Symbol::Close);
+    lists_at(
+        alloc,
+        field,
+        factors,
+        word,
+        first.lexemes(),
+        other_word,
+        others.lexemes(),
+    )
 }
 
 /// The effects of two lists, each after its word.
@@ -179,45 +187,13 @@ fn without(alloc: Global, estimate: &Effects, effects: &Effects) -> Result<Effec
     Ok(others)
 }
 
-/// A list that begins after its `(`.
-fn list_in<'b, 'a>(written: &'b [Lexeme<'a>]) -> &'b [Lexeme<'a>]
-    ensures { result.now ≡ list_in written.now }
-{
-    &written[..list_len(written)]
-}
-
-/// What stands after its `)`.
-fn behind_list<'b, 'a>(written: &'b [Lexeme<'a>]) -> &'b [Lexeme<'a>]
-    ensures { result.now ≡ behind_list written.now }
-{
-    from(written, list_len(written) + 1)
-}
-
-/// How much stands before `)`.
-fn list_len(written: &[Lexeme<'_>]) -> usize
-    ensures value { result ≡ list_len written.now }
-    ensures bound { result ≤ length written.now }
-{
-    written.iter().take_while(|w| !w.is(Symbol::Close)).count()
-}
-
 /// The first of some, or another where there is none.
-fn first_or<'b, 'a>(other: &'b Lexeme<'a>, written: &'b [Lexeme<'a>]) -> &'b Lexeme<'a>
+fn first_or<'a>(other: &'a Lexeme<'a>, written: &Phrase<'a>) -> &'a Lexeme<'a>
     ensures { result.now ≡ first_or other.now written.now }
 {
-    if written.is_empty() {
+    let lexemes = written.lexemes();
+    if lexemes.is_empty() {
         return other;
     }
-    &written[0]
-}
-
-/// All from this index on.
-fn from<'b, 'a>(written: &'b [Lexeme<'a>], i: usize) -> &'b [Lexeme<'a>]
-    ensures { result.now ≡ drop i written.now }
-{
-    if i <= written.len() {
-        &written[i..]
-    } else {
-        &[]
-    }
+    &lexemes[0]
 }

@@ -3,7 +3,7 @@ use fx_base::{Bytes, NoMemory};
 use fx_galois::Field;
 use fx_language::symbols;
 use fx_lexer::lex;
-use fx_text::{Names, ParseStop, lexemes};
+use fx_text::{Names, ParseStop, Phrase, lexemes};
 use fx_vectors::Effects;
 use std::alloc::Global;
 use std::process::Abort;
@@ -31,7 +31,8 @@ fn read(
     let factors = names(alloc, factors)?;
     assert!(rt; factors.len() <= 40);
     let field = Field::of(3).expect(rt, "a number of levels");
-    Ok(effects_of(alloc, field, factors.as_slice(), lexemes.as_slice()))
+    let statement = Phrase::new(lexemes.as_slice());
+    Ok(effects_of(alloc, field, factors.as_slice(), &statement))
 }
 
 /// Whether these are the effects, in order.

@@ -4,6 +4,7 @@ use Rattle.std.specs.List.{prefix_len}
 use Rattle.fx_language.specs.declared.symbol.Symbol.TheVariants.{Slash, Minus}
 use Rattle.fx_language.specs.Symbols.{is}
 use Rattle.fx_text.specs.Written.{Written}
+use Rattle.fx_text.specs.Phrases.{before}
 use Rattle.fx_text.specs.Ranges.{is_range, names_between, range_end}
 
 -- a name, or the first and the last name of a range
@@ -22,13 +23,9 @@ items_from behind_minus (w ∷ rest) =
     if behind_minus || is Minus w.symbol then items_from (is Minus w.symbol) rest
     else item w (range_end rest) ∷ items_from (is Minus w.symbol) rest
 
--- what stands before a `/`
-abbrev pub before_slash : List Written → List Written
-before_slash written = take (prefix_len (λ w. not (is Slash w.symbol)) written) written
-
 -- the items of a FACTORS statement
 abbrev pub items_of : List Written → List Item
-items_of statement = items_from false (before_slash (drop 1 statement))
+items_of statement = items_from false (before Slash (drop 1 statement))
 
 -- one name is regular, and a range has to be one
 abbrev pub is_regular_from : Written → Option Written → Bool

@@ -6,13 +6,14 @@ ghost use Rattle.fx_language.specs.Symbols.{is};
 ghost use Rattle.fx_text.specs.Names.{is_same_name};
 ghost use Rattle.fx_text.specs.Refusals.{IsRefused};
 ghost use Rattle.fx_text.specs.Ranges.{numbered, range_end, stem};
-ghost use Rattle.fx_factors.specs.Items.{before_slash, item};
+ghost use Rattle.fx_factors.specs.Items.{item};
 ghost use Rattle.fx_factors.specs.Factors.{added, are_known, factors_of, known_at};
 
 use fx_base::{Bytes, NoMemory};
 use fx_language::{Symbol, code};
 use fx_text::{
-    Lexeme, Names, ParseStop, is_range, number_at_end, numbered_name, place_of, range_end, stem,
+    Lexeme, Names, ParseStop, Phrase, is_range, number_at_end, numbered_name, place_of, range_end,
+    stem,
 };
 use std::alloc::Global;
 
@@ -22,17 +23,14 @@ use std::alloc::Global;
 ///
 /// At the first item with one of these, in this order: E30, its range is not regular; E10, there are
 /// more than `limit` factors; E5, a name stands twice. And `NoMemory`.
-pub fn factors_of(alloc: Global, statement: &[Lexeme<'_>], limit: usize) -> Result<Names, ParseStop>
+pub fn factors_of(alloc: Global, statement: &Phrase<'_>, limit: usize) -> Result<Names, ParseStop>
     ensures names { IfOk result (λ names. factors_of limit statement.now ≡ Ok names) }
     ensures refused { IfErr result (IsRefused (factors_of limit statement.now)) }
     ensures bound { IfOk result (λ names. length names ≤ limit) }
     ensures distinct { IfOk result (IsDistinct is_same_name) }
 {
     let mut names = Names::new(alloc);
-    if statement.is_empty() {
-        return Ok(names);
-    }
-    let items = before_slash(&statement[1..]);
+    let items = statement.from(1).before(Symbol::Slash).lexemes();
     let mut behind_minus = false;
     for (i, w) in items.iter().enumerate() {
         let minus = w.is(Symbol::Minus);
@@ -143,18 +141,4 @@ fn add_numbered(
         names.push(name)?;
     }
     Ok(())
-}
-
-/// What stands before a `/`.
-fn before_slash<'b, 'a>(lexemes: &'b [Lexeme<'a>]) -> &'b [Lexeme<'a>]
-    ensures { result.now ≡ before_slash lexemes.now }
-{
-    &lexemes[..before_slash_len(lexemes)]
-}
-
-fn before_slash_len(lexemes: &[Lexeme<'_>]) -> usize
-    ensures value { result ≡ prefix_len (λ w. not (is Slash w.symbol)) lexemes.now }
-    ensures bound { result ≤ length lexemes.now }
-{
-    lexemes.iter().take_while(|w| !w.is(Symbol::Slash)).count()
 }

@@ -6,11 +6,10 @@ ghost use Rattle.fx_text.specs.Refusals.{IsRefused};
 ghost use Rattle.fx_outputs.specs.Blocks.{begins_values, block_values, check_blockname, check_column, check_free, has_blocks, name_or_empty, values_wanted};
 
 use crate::context::{BlockCount, OutputContext};
-use crate::option::{at, begins, from};
 use crate::value::counted_values;
 use fx_base::{Bytes, NoMemory};
 use fx_language::{Symbol, code};
-use fx_text::{Lexeme, Names, ParseStop, Refusal, place_of};
+use fx_text::{Lexeme, Names, ParseStop, Phrase, Refusal, place_of};
 use std::alloc::Global;
 
 /// Tests that BLOCKNAME may stand in this step. `blockname` is what stands from that word on, if
@@ -19,10 +18,10 @@ use std::alloc::Global;
 /// # Errors
 ///
 /// E31 at BLOCKNAME in a step without blocks.
-pub fn check_blockname(blocks: BlockCount, blockname: &[Lexeme<'_>]) -> Result<(), Refusal>
+pub fn check_blockname(blocks: BlockCount, blockname: &Phrase<'_>) -> Result<(), Refusal>
     ensures { result ≡ check_blockname blocks (slice_get blockname.now 0) }
 {
-    match at(blockname, 0) {
+    match blockname.at(0) {
         None => Ok(()),
         Some(word) => {
             if has_blocks(blocks) {
@@ -41,11 +40,11 @@ pub fn check_blockname(blocks: BlockCount, blockname: &[Lexeme<'_>]) -> Result<(
 pub fn check_column(
     context: &OutputContext<'_>,
     output: &Lexeme<'_>,
-    blockname: &[Lexeme<'_>],
+    blockname: &Phrase<'_>,
 ) -> Result<(), Refusal>
     ensures { result ≡ check_column context.now output.now (slice_get blockname.now 2) }
 {
-    match at(blockname, 2) {
+    match blockname.at(2) {
         Some(name) => check_free(context.factors, name.text(), name),
         None => {
             if has_blocks(context.blocks) {
@@ -57,10 +56,10 @@ pub fn check_column(
 }
 
 /// BLOCKNAME's name, empty where there is none.
-pub fn block_name(alloc: Global, blockname: &[Lexeme<'_>]) -> Result<Bytes, NoMemory>
+pub fn block_name(alloc: Global, blockname: &Phrase<'_>) -> Result<Bytes, NoMemory>
     ensures { IfOk result (λ name. name ≡ name_or_empty (slice_get blockname.now 2)) }
 {
-    match at(blockname, 2) {
+    match blockname.at(2) {
         Some(name) => Bytes::from_slice(alloc, name.text()),
         None => Ok(Bytes::new(alloc)),
     }
@@ -75,16 +74,16 @@ pub fn block_name(alloc: Global, blockname: &[Lexeme<'_>]) -> Result<Bytes, NoMe
 pub fn block_values(
     alloc: Global,
     blocks: BlockCount,
-    blockname: &[Lexeme<'_>],
+    blockname: &Phrase<'_>,
 ) -> Result<Names, ParseStop>
     ensures ok { IfOk result (λ values.
         block_values blocks (slice_get blockname.now 3) (drop 4 blockname.now) ≡ Ok values) }
     ensures err { IfErr result
         (IsRefused (block_values blocks (slice_get blockname.now 3) (drop 4 blockname.now))) }
 {
-    match at(blockname, 3) {
+    match blockname.at(3) {
         None => Ok(Names::new(alloc)),
-        Some(word) => values_if_begun(alloc, blocks, word, from(blockname, 4)),
+        Some(word) => values_if_begun(alloc, blocks, word, &blockname.from(4)),
     }
 }
 
@@ -93,7 +92,7 @@ fn values_if_begun(
     alloc: Global,
     blocks: BlockCount,
     word: &Lexeme<'_>,
-    rest: &[Lexeme<'_>],
+    rest: &Phrase<'_>,
 ) -> Result<Names, ParseStop>
     ensures ok { IfOk result (λ values. block_values blocks (Some word.now) rest.now ≡ Ok values) }
     ensures err { IfErr result (IsRefused (block_values blocks (Some word.now) rest.now)) }
@@ -105,10 +104,10 @@ fn values_if_begun(
 }
 
 /// Whether the word is NVALS or CVALS with `=` after it.
-fn begins_values(word: &Lexeme<'_>, rest: &[Lexeme<'_>]) -> bool
+fn begins_values(word: &Lexeme<'_>, rest: &Phrase<'_>) -> bool
     ensures { result ≡ begins_values word.now rest.now }
 {
-    (word.is(Symbol::Nvals) || word.is(Symbol::Cvals)) && begins(Symbol::Equals, rest)
+    (word.is(Symbol::Nvals) || word.is(Symbol::Cvals)) && rest.begins(Symbol::Equals)
 }
 
 /// Tests that no factor has this name.

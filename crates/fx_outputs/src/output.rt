@@ -14,7 +14,7 @@ use crate::replication::{check_rows, replication};
 use crate::shuffle::{Shuffle, shuffle_asked};
 use fx_base::{Bytes, Items};
 use fx_language::{Symbol, code};
-use fx_text::{Lexeme, Names, ParseStop, Statement};
+use fx_text::{Lexeme, Names, ParseStop, Phrase, Statement};
 use std::alloc::Global;
 
 /// A file that a step writes.
@@ -65,7 +65,7 @@ pub fn outputs(
             let lexemes = statement.lexemes();
             let word = &lexemes[0];
             let name = &lexemes[3];
-            let output = output(alloc, context, earlier, word, name, &lexemes[3..])?;
+            let output = output(alloc, context, earlier, word, name, &statement.from(3))?;
             outputs.push(output)?;
         }
     }
@@ -79,7 +79,7 @@ fn is_output(statement: &Statement<'_>) -> bool
     statement.begins(Symbol::Output) && statement.lexemes().len() > 3
 }
 
-/// An OUTPUT statement: `word` is the word OUTPUT, `name` the OUT name, and `lexemes` what stands
+/// An OUTPUT statement: `word` is the word OUTPUT, `name` the OUT name, and `phrase` what stands
 /// after `OUT =`. The name is added to the earlier ones.
 fn output(
     alloc: Global,
@@ -87,31 +87,31 @@ fn output(
     earlier: &mut EarlierNames,
     word: &Lexeme<'_>,
     name: &Lexeme<'_>,
-    lexemes: &[Lexeme<'_>],
+    phrase: &Phrase<'_>,
 ) -> Result<OutputSpec, ParseStop>
     ensures ok { IfOk result (λ output.
-        output_of context.now earlier.old word.now name.now lexemes.now ≡ Ok output) }
+        output_of context.now earlier.old word.now name.now phrase.now ≡ Ok output) }
     ensures name { IfOk result (λ output. earlier.new ≡ earlier.old ++ output.name ∷ []) }
     ensures err { IfErr result
-        (IsRefused (output_of context.now earlier.old word.now name.now lexemes.now)) }
+        (IsRefused (output_of context.now earlier.old word.now name.now phrase.now)) }
 {
-    let blockname = from_option(Symbol::Blockname, lexemes);
+    let blockname = from_option(Symbol::Blockname, phrase);
     add_name(alloc, earlier, name)?;
-    let pointrep = replication(Symbol::Pointrep, lexemes)?;
-    let designrep = replication(Symbol::Designrep, lexemes)?;
+    let pointrep = replication(Symbol::Pointrep, phrase)?;
+    let designrep = replication(Symbol::Designrep, phrase)?;
     check_rows(context.runs, pointrep, designrep, name)?;
-    let shuffle = shuffle_asked(lexemes)?;
-    check_blockname(context.blocks, blockname)?;
-    check_column(context, word, blockname)?;
-    let block_values = block_values(alloc, context.blocks, blockname)?;
-    let recodes = recodes(alloc, context, lexemes)?;
+    let shuffle = shuffle_asked(phrase)?;
+    check_blockname(context.blocks, &blockname)?;
+    check_column(context, word, &blockname)?;
+    let block_values = block_values(alloc, context.blocks, &blockname)?;
+    let recodes = recodes(alloc, context, phrase)?;
     Ok(OutputSpec {
         name: Bytes::from_slice(alloc, name.text())?,
         pointrep,
         designrep,
         shuffle,
         recodes,
-        block_name: block_name(alloc, blockname)?,
+        block_name: block_name(alloc, &blockname)?,
         block_values,
     })
 }

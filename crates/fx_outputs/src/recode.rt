@@ -7,7 +7,7 @@ use crate::context::OutputContext;
 use crate::value::counted_values;
 use fx_base::Items;
 use fx_language::{Symbol, code};
-use fx_text::{Lexeme, Names, ParseStop, Refusal, place_of};
+use fx_text::{Lexeme, Names, ParseStop, Phrase, Refusal, place_of};
 use std::alloc::Global;
 
 /// A factor that has values of its own.
@@ -31,19 +31,20 @@ pub type Recodes = Items<Recode>;
 pub fn recodes(
     alloc: Global,
     context: &OutputContext<'_>,
-    lexemes: &[Lexeme<'_>],
+    phrase: &Phrase<'_>,
 ) -> Result<Recodes, ParseStop>
-    ensures ok { IfOk result (λ recodes. recodes_of context.now lexemes.now ≡ Ok recodes) }
-    ensures err { IfErr result (IsRefused (recodes_of context.now lexemes.now)) }
+    ensures ok { IfOk result (λ recodes. recodes_of context.now phrase.now ≡ Ok recodes) }
+    ensures err { IfErr result (IsRefused (recodes_of context.now phrase.now)) }
 {
+    let lexemes = phrase.lexemes();
     let mut recodes = Recodes::new(alloc);
     for i in 2..lexemes.len() {
         let before = &lexemes[i - 2];
         let name = &lexemes[i - 1];
         let word = &lexemes[i];
         if is_recoded(before, name, word) {
-            let rest = &lexemes[i + 1..];
-            let recode = recode_at(alloc, context, recodes.as_slice(), name, word, rest)?;
+            let rest = phrase.from(i + 1);
+            let recode = recode_at(alloc, context, recodes.as_slice(), name, word, &rest)?;
             recodes.push(recode)?;
         }
     }
@@ -67,7 +68,7 @@ fn recode_at(
     earlier: &[Recode],
     name: &Lexeme<'_>,
     word: &Lexeme<'_>,
-    rest: &[Lexeme<'_>],
+    rest: &Phrase<'_>,
 ) -> Result<Recode, ParseStop>
     ensures ok { IfOk result (λ recode.
         recode_of context.now earlier.now name.now word.now rest.now ≡ Ok recode) }

@@ -3,9 +3,9 @@
 ghost use Rattle.std.specs.Prelude.{◌≡◌, Some};
 ghost use Rattle.fx_outputs.specs.Replications.{check_rows, replication_at, replication_of};
 
-use crate::option::{at, from_option};
+use crate::option::from_option;
 use fx_language::{Symbol, code};
-use fx_text::{Lexeme, Refusal};
+use fx_text::{Lexeme, Phrase, Refusal};
 
 /// The most rows of a file, and so the greatest replication.
 const MOST_ROWS: u128 = 200_000;
@@ -15,10 +15,10 @@ const MOST_ROWS: u128 = 200_000;
 /// # Errors
 ///
 /// E20 at a number that is not from 1 to 200,000.
-pub fn replication(option: Symbol, lexemes: &[Lexeme<'_>]) -> Result<u32, Refusal>
-    ensures { result ≡ replication_of option lexemes.now }
+pub fn replication(option: Symbol, phrase: &Phrase<'_>) -> Result<u32, Refusal>
+    ensures { result ≡ replication_of option phrase.now }
 {
-    match at(from_option(option, lexemes), 2) {
+    match from_option(option, phrase).at(2) {
         None => Ok(1),
         Some(number) => in_range(number),
     }

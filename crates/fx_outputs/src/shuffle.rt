@@ -1,9 +1,9 @@
 ghost use Rattle.std.specs.Prelude.{◌≡◌, MatchOption, None, Some};
 ghost use Rattle.fx_outputs.specs.Shuffles.{seed_written, seeded, shuffle_of};
 
-use crate::option::{at, begins, from, from_option, has_option};
+use crate::option::{from_option, has_option};
 use fx_language::{Symbol, code};
-use fx_text::{Lexeme, Refusal};
+use fx_text::{Lexeme, Phrase, Refusal};
 
 /// What of a plan is shuffled.
 #[derive(Clone, Copy, Debug, PartialEq, Eq)]
@@ -21,26 +21,26 @@ pub enum Shuffle {
 /// # Errors
 ///
 /// E19 at a seed of more than 64 bits.
-pub fn shuffle_asked(lexemes: &[Lexeme<'_>]) -> Result<Shuffle, Refusal>
-    ensures { result ≡ shuffle_of lexemes.now }
+pub fn shuffle_asked(phrase: &Phrase<'_>) -> Result<Shuffle, Refusal>
+    ensures { result ≡ shuffle_of phrase.now }
 {
-    if !has_option(Symbol::Randomize, lexemes) {
+    if !has_option(Symbol::Randomize, phrase) {
         return Ok(Shuffle::Kept);
     }
-    let values = !has_option(Symbol::Novalran, lexemes);
-    match seed_written(from_option(Symbol::Randomize, lexemes)) {
+    let values = !has_option(Symbol::Novalran, phrase);
+    match seed_written(&from_option(Symbol::Randomize, phrase)) {
         None => Ok(Shuffle::Default { values }),
         Some(seed) => seeded(seed, values),
     }
 }
 
 /// The number in parentheses after RANDOMIZE, which stands first.
-fn seed_written<'b, 'a>(lexemes: &'b [Lexeme<'a>]) -> Option<&'b Lexeme<'a>>
-    ensures { MatchOption result (seed_written lexemes.now ≡ None)
-        (λ w. seed_written lexemes.now ≡ Some w.now) }
+fn seed_written<'a>(phrase: &Phrase<'a>) -> Option<&'a Lexeme<'a>>
+    ensures { MatchOption result (seed_written phrase.now ≡ None)
+        (λ w. seed_written phrase.now ≡ Some w.now) }
 {
-    if begins(Symbol::Open, from(lexemes, 1)) {
-        return at(lexemes, 2);
+    if phrase.from(1).begins(Symbol::Open) {
+        return phrase.at(2);
     }
     None
 }

@@ -4,10 +4,9 @@ ghost use Rattle.std.specs.Prelude.{◌≡◌, ◌∷◌, IfOk, IfErr};
 ghost use Rattle.fx_text.specs.Refusals.{IsRefused};
 ghost use Rattle.fx_outputs.specs.Values.{counted, inside, value_of, values_of};
 
-use crate::option::from;
 use fx_base::{Bytes, NoMemory};
 use fx_language::{Symbol, code};
-use fx_text::{Lexeme, Names, ParseStop};
+use fx_text::{Lexeme, Names, ParseStop, Phrase};
 use std::alloc::Global;
 
 /// The values after `word`, which is NVALS or CVALS, where they are to be so many.
@@ -19,7 +18,7 @@ pub fn counted_values(
     alloc: Global,
     wanted: Option<u32>,
     word: &Lexeme<'_>,
-    rest: &[Lexeme<'_>],
+    rest: &Phrase<'_>,
 ) -> Result<Names, ParseStop>
     ensures ok { IfOk result (λ values. counted wanted word.now (values_of rest.now) ≡ Ok values) }
     ensures err { IfErr result (IsRefused (counted wanted word.now (values_of rest.now))) }
@@ -38,12 +37,12 @@ pub fn counted_values(
 }
 
 /// The values after NVALS or CVALS.
-fn values(alloc: Global, rest: &[Lexeme<'_>]) -> Result<Names, NoMemory>
+fn values(alloc: Global, rest: &Phrase<'_>) -> Result<Names, NoMemory>
     ensures { IfOk result (λ values. values ≡ values_of rest.now) }
 {
     let mut values = Names::new(alloc);
     let mut signed = false;
-    for w in from(rest, 2) {
+    for w in rest.from(2).lexemes() {
         if w.is(Symbol::Close) {
             return Ok(values);
         }

@@ -26,7 +26,8 @@ use Rattle.fx_settings.specs.declared.settings.StepSettings.{StepSettings}
 use Rattle.fx_settings.specs.declared.settings.Criterion.{Criterion}
 use Rattle.fx_settings.specs.declared.settings.Criterion.TheVariants as criterion
 use Rattle.fx_settings.specs.declared.said.StepSaid.{StepSaid}
-use Rattle.fx_settings.specs.Said.{start_of, step_said}
+use Rattle.fx_settings.specs.Said.{step_said}
+use Rattle.fx_text.specs.Phrases.{start_of}
 use Rattle.fx_settings.specs.Settings.{is_level, step_settings_of, unblocked_of}
 use Rattle.fx_settings.specs.Valid.{is_criterion}
 use Rattle.fx_settings.proofs.Valid.{level, valid}

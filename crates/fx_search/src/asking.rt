@@ -3,6 +3,7 @@ ghost use Rattle.fx_vectors.specs.Question.{IsValid, problem_of};
 ghost use Rattle.fx_search.specs.Asked.{IsAnswer, IsNoneAtAll};
 
 use crate::barred::Barred;
+use crate::effect_barred::BarredForEffects;
 use crate::pruner::{PlainPruner, Pruner};
 use crate::walk::{End, walk};
 use fx_base::NoMemory;
@@ -49,15 +50,36 @@ pub fn ask_alone(alloc: Global, question: &Question, budget: u64) -> Result<Aske
     ensures answer { IfOk result (IsAnswer question.now budget) }
     ensures none_at_all { IfOk result (IsNoneAtAll question.now) }
 {
-    if let Demands::Resolution { r } = question.demands {
-        if question.shape.t == 0 {
-            let mut pruner = Barred::of(alloc, question.shape, r, question.least)?;
-            return ask_with(alloc, question, &mut pruner, budget);
-        }
+    if question.shape.t == 0 {
+        return ask_without_blocks(alloc, question, budget);
     }
     let forbidden = Forbidden::of(alloc, question)?;
     let mut pruner = PlainPruner::new(forbidden);
     ask_with(alloc, question, &mut pruner, budget)
+}
+
+/// The same without blocks.
+fn ask_without_blocks(alloc: Global, question: &Question, budget: u64) -> Result<Asked, NoMemory>
+    requires valid { IsValid question.now }
+    requires not_least { question.now.least ≡ false }
+    requires unblocked { question.now.shape.t ≡ 0 }
+    requires budget { budget ≤ 5000000 }
+    ensures answer { IfOk result (IsAnswer question.now budget) }
+    ensures none_at_all { IfOk result (IsNoneAtAll question.now) }
+{
+    match &question.demands {
+        Demands::Resolution { r } => {
+            let mut pruner = Barred::of(alloc, question.shape, *r, question.least)?;
+            ask_with(alloc, question, &mut pruner, budget)
+        }
+        Demands::Effects {
+            estimate,
+            nonnegligible,
+        } => {
+            let mut pruner = BarredForEffects::of(alloc, question, estimate, nonnegligible)?;
+            ask_with(alloc, question, &mut pruner, budget)
+        }
+    }
 }
 
 /// The same over a pruner that stands at the empty prefix of the question.

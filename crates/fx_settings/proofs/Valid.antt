@@ -6,12 +6,10 @@ use Rattle.fx_text.specs.declared.refusal.Refusal.{Refusal}
 use Rattle.fx_lexer.specs.declared.place.Place.{Place}
 use Rattle.fx_text.specs.Refusals.{refused_at}
 use Rattle.fx_text.proofs.Chains.{bind_ok, same_ok, if_ok, unless_ok}
-use Rattle.fx_settings.specs.declared.said.Value.{Value}
 use Rattle.fx_settings.specs.declared.said.SizeSaid.{SizeSaid}
 use Rattle.fx_settings.specs.declared.said.SizeWord.{SizeWord}
 use Rattle.fx_settings.specs.declared.said.SizeWord.TheVariants as size
-use Rattle.fx_settings.specs.declared.said.ModelGoal.{ModelGoal}
-use Rattle.fx_settings.specs.declared.said.ModelGoal.TheVariants as asked
+use Rattle.fx_settings.specs.declared.said.Value.{Value}
 use Rattle.fx_settings.specs.declared.said.ModelSaid.{ModelSaid}
 use Rattle.fx_settings.specs.declared.said.BlocksSaid.{BlocksSaid}
 use Rattle.fx_settings.specs.declared.said.BlocksWord.{BlocksWord}
@@ -97,11 +95,11 @@ effects_kept (Some place) x e = absurd (cc e)
 criterion_kept : (said : Option ModelSaid) (x : Criterion) → criterion_of said ≡ Ok x → Wanted (least_of said) x
 unfolding criterion_of
 criterion_kept None x e = subst (Wanted false) (same_ok Highest x e) (record { fits = refl; apart = refl })
-criterion_kept (Some said) x e = go said.asked e
+criterion_kept (Some said) x e = go said.resolution e
   where
-    go : (a : ModelGoal) → criterion_by a said.minabs ≡ Ok x → Wanted (is_some said.minabs) x
-    go (asked.Resolution value) e = resolution_kept (is_some said.minabs) value.place value.number x e
-    go asked.Effects e = effects_kept said.minabs x e
+    go : (a : Option Value) → criterion_by a said.minabs ≡ Ok x → Wanted (is_some said.minabs) x
+    go (Some value) e = resolution_kept (is_some said.minabs) value.place value.number x e
+    go None e = effects_kept said.minabs x e
 
 -- the blocks
 

@@ -4,8 +4,7 @@ use Rattle.fx_language.specs.declared.code.TheConstants.{INVALID_RESOLUTION, MIN
 use Rattle.fx_text.specs.declared.refusal.Refusal.{Refusal}
 use Rattle.fx_lexer.specs.declared.place.Place.{Place}
 use Rattle.fx_text.specs.Refusals.{refused_at}
-use Rattle.fx_settings.specs.declared.said.ModelGoal.{ModelGoal}
-use Rattle.fx_settings.specs.declared.said.ModelGoal.TheVariants as asked
+use Rattle.fx_settings.specs.declared.said.Value.{Value}
 use Rattle.fx_settings.specs.declared.said.ModelSaid.{ModelSaid}
 use Rattle.fx_settings.specs.declared.settings.Criterion.{Criterion}
 use Rattle.fx_settings.specs.declared.settings.Criterion.TheVariants.{Resolution, Highest, Effects}
@@ -20,15 +19,15 @@ abbrev pub effects_by : Option Place → Result Criterion Refusal
 effects_by None = Ok Effects
 effects_by (Some minabs) = Err (refused_at MINABS_WITH_ESTIMATE minabs)
 
--- by what a MODEL statement asks for, where MINABS stands at this place
-abbrev pub criterion_by : ModelGoal → Option Place → Result Criterion Refusal
-criterion_by (asked.Resolution value) minabs = resolution_by value.place value.number
-criterion_by asked.Effects minabs = effects_by minabs
+-- by the resolution of a MODEL statement, or by its effects, where MINABS stands at this place
+abbrev pub criterion_by : Option Value → Option Place → Result Criterion Refusal
+criterion_by (Some value) minabs = resolution_by value.place value.number
+criterion_by None minabs = effects_by minabs
 
 -- without MODEL, the highest resolution
 unfoldable pub criterion_of : Option ModelSaid → Result Criterion Refusal
 criterion_of None = Ok Highest
-criterion_of (Some said) = criterion_by said.asked said.minabs
+criterion_of (Some said) = criterion_by said.resolution said.minabs
 
 -- whether least aberration is wanted
 abbrev pub least_of : Option ModelSaid → Bool

@@ -1,5 +1,5 @@
 -- What the statements of a step say of its numbers, before any of it is judged.
-use Rattle.std.specs.Prelude.{◌-◌, List, [], ◌∷◌, length, drop, Option, Some, None, if◌then◌else◌}
+use Rattle.std.specs.Prelude.{◌-◌, List, [], ◌∷◌, length, drop, slice_get, Option, Some, None, if◌then◌else◌}
 use Rattle.std.specs.Option.{option_map, option_and_then}
 use Rattle.fx_language.specs.declared.symbol.Symbol.{Symbol}
 use Rattle.fx_language.specs.declared.symbol.Symbol.TheVariants.{Size, Design, Fraction, Model, Estimate, Minabs, Blocks, Nblkfacs, Nblocks, Equals}
@@ -7,14 +7,13 @@ use Rattle.fx_language.specs.Symbols.{is}
 use Rattle.fx_lexer.specs.declared.place.Place.{Place}
 use Rattle.fx_text.specs.Written.{Written, begins}
 use Rattle.fx_text.specs.Numbers.{number_of}
+use Rattle.fx_text.specs.Phrases.{after, start_of}
 use Rattle.fx_text.specs.Refusals.{place_at}
 use Rattle.fx_text.specs.Statements.{statement_of}
 use Rattle.fx_settings.specs.declared.said.Value.{Value}
 use Rattle.fx_settings.specs.declared.said.SizeSaid.{SizeSaid}
 use Rattle.fx_settings.specs.declared.said.SizeWord.{SizeWord}
 use Rattle.fx_settings.specs.declared.said.SizeWord.TheVariants as size
-use Rattle.fx_settings.specs.declared.said.ModelGoal.{ModelGoal}
-use Rattle.fx_settings.specs.declared.said.ModelGoal.TheVariants as asked
 use Rattle.fx_settings.specs.declared.said.ModelSaid.{ModelSaid}
 use Rattle.fx_settings.specs.declared.said.BlocksSaid.{BlocksSaid}
 use Rattle.fx_settings.specs.declared.said.BlocksWord.{BlocksWord}
@@ -25,20 +24,9 @@ use Rattle.fx_settings.specs.declared.said.StepSaid.{StepSaid}
 abbrev pub value_at : Written → Value
 value_at w = record { number = number_of w; place = place_at w }
 
--- the first of some
-abbrev pub value_first : List Written → Option Value
-value_first [] = None
-value_first (w ∷ rest) = Some (value_at w)
-
 -- the value after the first `=` of a statement
 abbrev pub value_of : List Written → Option Value
-value_of [] = None
-value_of (w ∷ rest) = if is Equals w.symbol then value_first rest else value_of rest
-
--- the place of a statement's first word
-abbrev pub start_of : List Written → Place
-start_of [] = record { line = 1; column = 1 }
-start_of (w ∷ rest) = place_at w
+value_of s = option_map value_at (slice_get (after Equals s) 0)
 
 -- the place of the first of some, where it is this word
 abbrev pub first_place : Symbol → List Written → Option Place
@@ -61,13 +49,15 @@ blocks_word s = if begins Nblkfacs (drop 1 s) then blocks.Nblkfacs else (if begi
 abbrev pub size_said : List Written → Option SizeSaid
 size_said s = option_map (λ value. record { word = size_word s; value = value }) (value_of s)
 
--- effects, where ESTIMATE is the second word of a MODEL statement, and else a resolution
-abbrev pub asked_by : List Written → Option ModelGoal
-asked_by s = if begins Estimate (drop 1 s) then Some asked.Effects else option_map asked.Resolution (value_of s)
+-- what a MODEL statement says, where MINABS stands at this place: a resolution
+abbrev pub resolution_said : Option Place → Value → ModelSaid
+resolution_said minabs value = record { resolution = Some value; minabs = minabs }
 
--- MINABS is the last word of its statement
+-- What a MODEL statement says: effects, where ESTIMATE is its second word, and else a resolution. MINABS is its last word.
 abbrev pub model_said : List Written → Option ModelSaid
-model_said s = option_map (λ a. record { asked = a; minabs = last_place Minabs s }) (asked_by s)
+model_said s =
+    if begins Estimate (drop 1 s) then Some (record { resolution = None; minabs = last_place Minabs s })
+    else option_map (resolution_said (last_place Minabs s)) (value_of s)
 
 -- what a BLOCKS statement says
 abbrev pub blocks_said : List Written → Option BlocksSaid

@@ -1,7 +1,7 @@
 ghost use Rattle.std.specs.Prelude.{◌≡◌};
 ghost use Rattle.fx_settings.specs.Models.{criterion_by, criterion_of, effects_by, is_highest, least_of, resolution_by};
 
-use crate::said::{ModelGoal, ModelSaid};
+use crate::said::{ModelSaid, Value};
 use crate::settings::Criterion;
 use fx_language::code;
 use fx_text::{Place, Refusal};
@@ -17,16 +17,16 @@ pub(crate) fn criterion_of(said: Option<ModelSaid>) -> Result<Criterion, Refusal
 {
     match said {
         None => Ok(Criterion::Highest),
-        Some(said) => criterion_by(said.asked, said.minabs),
+        Some(said) => criterion_by(said.resolution, said.minabs),
     }
 }
 
-fn criterion_by(asked: ModelGoal, minabs: Option<Place>) -> Result<Criterion, Refusal>
-    ensures { result ≡ criterion_by asked minabs }
+fn criterion_by(resolution: Option<Value>, minabs: Option<Place>) -> Result<Criterion, Refusal>
+    ensures { result ≡ criterion_by resolution minabs }
 {
-    match asked {
-        ModelGoal::Resolution(value) => resolution_by(value.place, value.number),
-        ModelGoal::Effects => effects_by(minabs),
+    match resolution {
+        Some(value) => resolution_by(value.place, value.number),
+        None => effects_by(minabs),
     }
 }
 

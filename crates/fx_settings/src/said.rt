@@ -1,9 +1,9 @@
 ghost use Rattle.std.specs.Prelude.{◌≡◌, drop};
 ghost use Rattle.fx_text.specs.Written.{begins};
-ghost use Rattle.fx_settings.specs.Said.{asked_by, blocks_said, blocks_word, last_place, model_said, size_said, size_word, start_of, step_said, value_first, value_of};
+ghost use Rattle.fx_settings.specs.Said.{blocks_said, blocks_word, last_place, model_said, size_said, size_word, step_said, value_of};
 
 use fx_language::Symbol;
-use fx_text::{Lexeme, Place, Statement, find};
+use fx_text::{Phrase, Place, Statement, find};
 
 /// A value of an option: a number, or a word that stands for the least or the greatest.
 #[derive(Clone, Copy, Debug, PartialEq, Eq)]
@@ -31,19 +31,11 @@ pub struct SizeSaid {
     pub value: Value,
 }
 
-/// What a MODEL statement asks for.
-#[derive(Clone, Copy, Debug, PartialEq, Eq)]
-pub enum ModelGoal {
-    /// A resolution, by this value.
-    Resolution(Value),
-    /// That effects can be told apart. Which effects is read elsewhere.
-    Effects,
-}
-
 /// What a MODEL statement says.
 #[derive(Clone, Copy, Debug, PartialEq, Eq)]
 pub struct ModelSaid {
-    pub asked: ModelGoal,
+    /// The value of RESOLUTION. None for ESTIMATE, whose effects are read elsewhere.
+    pub resolution: Option<Value>,
     /// The place of the word MINABS, which asks for least aberration, where it stands.
     pub minabs: Option<Place>,
 }
@@ -82,24 +74,20 @@ pub struct StepSaid {
 
 /// What a step says, where these are its PROC statement, its FACTORS statement, and all of its
 /// statements.
-pub fn step_said(
-    proc: &[Lexeme<'_>],
-    factors: &[Lexeme<'_>],
-    statements: &[Statement<'_>],
-) -> StepSaid
+pub fn step_said(proc: &Phrase<'_>, factors: &Phrase<'_>, statements: &[Statement<'_>]) -> StepSaid
     ensures { result ≡ step_said proc.now factors.now statements.now }
 {
     StepSaid {
-        factors: start_of(factors),
+        factors: factors.place(),
         levels: value_of(factors),
         nodes: value_of(proc),
-        size: find(Symbol::Size, statements).and_then(|s| size_said(s)),
-        model: find(Symbol::Model, statements).and_then(|s| model_said(s)),
-        blocks: find(Symbol::Blocks, statements).and_then(|s| blocks_said(s)),
+        size: find(Symbol::Size, statements).and_then(|s| size_said(&s)),
+        model: find(Symbol::Model, statements).and_then(|s| model_said(&s)),
+        blocks: find(Symbol::Blocks, statements).and_then(|s| blocks_said(&s)),
     }
 }
 
-fn size_said(statement: &[Lexeme<'_>]) -> Option<SizeSaid>
+fn size_said(statement: &Phrase<'_>) -> Option<SizeSaid>
     ensures { result ≡ size_said statement.now }
 {
     let value = value_of(statement)?;
@@ -109,7 +97,7 @@ fn size_said(statement: &[Lexeme<'_>]) -> Option<SizeSaid>
     })
 }
 
-fn size_word(statement: &[Lexeme<'_>]) -> SizeWord
+fn size_word(statement: &Phrase<'_>) -> SizeWord
     ensures { result ≡ size_word statement.now }
 {
     if is_second(Symbol::Design, statement) {
@@ -121,38 +109,35 @@ fn size_word(statement: &[Lexeme<'_>]) -> SizeWord
     SizeWord::Nrunfacs
 }
 
-fn model_said(statement: &[Lexeme<'_>]) -> Option<ModelSaid>
+fn model_said(statement: &Phrase<'_>) -> Option<ModelSaid>
     ensures { result ≡ model_said statement.now }
 {
-    let asked = asked_by(statement)?;
+    let minabs = last_place(Symbol::Minabs, statement);
+    if is_second(Symbol::Estimate, statement) {
+        return Some(ModelSaid {
+            resolution: None,
+            minabs,
+        });
+    }
+    let value = value_of(statement)?;
     Some(ModelSaid {
-        asked,
-        minabs: last_place(Symbol::Minabs, statement),
+        resolution: Some(value),
+        minabs,
     })
 }
 
-fn asked_by(statement: &[Lexeme<'_>]) -> Option<ModelGoal>
-    ensures { result ≡ asked_by statement.now }
-{
-    if is_second(Symbol::Estimate, statement) {
-        return Some(ModelGoal::Effects);
-    }
-    let value = value_of(statement)?;
-    Some(ModelGoal::Resolution(value))
-}
-
-fn blocks_said(statement: &[Lexeme<'_>]) -> Option<BlocksSaid>
+fn blocks_said(statement: &Phrase<'_>) -> Option<BlocksSaid>
     ensures { result ≡ blocks_said statement.now }
 {
     let value = value_of(statement)?;
     Some(BlocksSaid {
-        place: start_of(statement),
+        place: statement.place(),
         word: blocks_word(statement),
         value,
     })
 }
 
-fn blocks_word(statement: &[Lexeme<'_>]) -> BlocksWord
+fn blocks_word(statement: &Phrase<'_>) -> BlocksWord
     ensures { result ≡ blocks_word statement.now }
 {
     if is_second(Symbol::Nblkfacs, statement) {
@@ -164,36 +149,11 @@ fn blocks_word(statement: &[Lexeme<'_>]) -> BlocksWord
     BlocksWord::Size
 }
 
-/// The place of a statement's first word.
-pub fn start_of(statement: &[Lexeme<'_>]) -> Place
-    ensures { result ≡ start_of statement.now }
-{
-    if statement.is_empty() {
-        Place { line: 1, column: 1 }
-    } else {
-        statement[0].place()
-    }
-}
-
 /// The value after the first `=` of a statement.
-fn value_of(statement: &[Lexeme<'_>]) -> Option<Value>
+fn value_of(statement: &Phrase<'_>) -> Option<Value>
     ensures { result ≡ value_of statement.now }
 {
-    for (i, w) in statement.iter().enumerate() {
-        if w.is(Symbol::Equals) {
-            return value_first(&statement[i + 1..]);
-        }
-    }
-    None
-}
-
-fn value_first(lexemes: &[Lexeme<'_>]) -> Option<Value>
-    ensures { result ≡ value_first lexemes.now }
-{
-    if lexemes.is_empty() {
-        return None;
-    }
-    let w = &lexemes[0];
+    let w = statement.after(Symbol::Equals).at(0)?;
     Some(Value {
         number: w.number(),
         place: w.place(),
@@ -201,20 +161,21 @@ fn value_first(lexemes: &[Lexeme<'_>]) -> Option<Value>
 }
 
 /// Whether this is the second word of a statement.
-fn is_second(word: Symbol, statement: &[Lexeme<'_>]) -> bool
+fn is_second(word: Symbol, statement: &Phrase<'_>) -> bool
     ensures { result ≡ begins word (drop 1 statement.now) }
 {
-    1 < statement.len() && statement[1].is(word)
+    statement.from(1).begins(word)
 }
 
 /// The place of the last word of a statement, where it is this one.
-fn last_place(word: Symbol, statement: &[Lexeme<'_>]) -> Option<Place>
+fn last_place(word: Symbol, statement: &Phrase<'_>) -> Option<Place>
     ensures { result ≡ last_place word statement.now }
 {
-    if statement.is_empty() {
+    let lexemes = statement.lexemes();
+    if lexemes.is_empty() {
         return None;
     }
-    let last = &statement[statement.len() - 1];
+    let last = &lexemes[lexemes.len() - 1];
     if last.is(word) {
         return Some(last.place());
     }

@@ -7,11 +7,14 @@ use Rattle.std.proofs.Math.Numerals.{add-one}
 use Rattle.fx_language.specs.declared.symbol.Symbol.TheVariants.{Proc}
 use Rattle.fx_text.specs.Written.{Written, begins}
 use Rattle.fx_text.specs.Statements.{ends_step, rest_of_step, steps_of}
-use Rattle.fx_text.specs.Refusals.{◌>>=◌}
+use Rattle.fx_text.specs.declared.refusal.ParseStop.{ParseStop}
+use Rattle.fx_text.specs.declared.refusal.ParseStop.TheVariants as stop
+use Rattle.fx_text.specs.Refusals.{IsRefused, ◌>>=◌}
 use Rattle.fx_outputs.specs.Outputs.{names_of, outputs_of}
 use Rattle.fx_outputs.specs.declared.output.OutputSpec.{OutputSpec}
 use Rattle.fx_settings.specs.declared.settings.StepSettings.{StepSettings}
-use Rattle.fx_settings.specs.Said.{start_of, step_said}
+use Rattle.fx_settings.specs.Said.{step_said}
+use Rattle.fx_text.specs.Phrases.{start_of}
 use Rattle.fx_statements.specs.declared.examine.Examine.{Examine}
 use Rattle.fx_statements.specs.declared.wanted.Wanted.{Wanted}
 use Rattle.fx_statements.specs.Contexts.{context}
@@ -59,3 +62,11 @@ module _ (earlier : List (List ℕ)) (statements : List (List Written)) (named :
   step_is examine listed kind =
       whole
       ∙ ap₂ (λ (x : StepSettings) (e : Examine). Ok (record { factors = factors; settings = x; goal = goal_of wanted; examine = e; outputs = outputs })) (sym (same_settings settings wanted kind)) (sym listed)
+
+-- a step whose outputs are refused
+module _ (earlier : List (List ℕ)) (statements : List (List Written)) (named : List Written) (factors : List (List ℕ)) (settings : StepSettings) (wanted : Wanted)
+    (is_named : factors_by (start_of (head_of statements)) (factor_limit statements) named ≡ Ok factors)
+    (is_asked : asked_by factors (step_said (head_of statements) named statements) statements ≡ Ok (settings, goal_of wanted)) where
+  pub outputs_refused : (reason : ParseStop) → IsRefused (outputs_of (context factors settings) earlier statements) reason → IsRefused (step_by earlier statements (Some named)) reason
+  outputs_refused (stop.Refused refusal) h = rw (is_named, is_asked, h) refl
+  outputs_refused stop.NoMemory h = tt

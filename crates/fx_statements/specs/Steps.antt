@@ -13,7 +13,8 @@ use Rattle.fx_text.specs.Refusals.{refused_at, ◌>>=◌}
 use Rattle.fx_factors.specs.Factors.{factors_of}
 use Rattle.fx_settings.specs.declared.settings.StepSettings.{StepSettings}
 use Rattle.fx_settings.specs.declared.said.StepSaid.{StepSaid}
-use Rattle.fx_settings.specs.Said.{start_of, step_said}
+use Rattle.fx_settings.specs.Said.{step_said}
+use Rattle.fx_text.specs.Phrases.{has, start_of}
 use Rattle.fx_settings.specs.Settings.{step_settings_of, unblocked_of}
 use Rattle.fx_outputs.specs.declared.output.OutputSpec.{OutputSpec}
 use Rattle.fx_outputs.specs.Outputs.{outputs_of}
@@ -40,10 +41,6 @@ factor_limit statements = if is_some (statement_of word.Blocks statements) then 
 abbrev pub some_factors : Place → List (List ℕ) → Result (List (List ℕ)) Refusal
 some_factors proc [] = Err (refused_at NO_FACTORS proc)
 some_factors proc (name ∷ names) = Ok (name ∷ names)
-
--- this stands in a statement
-abbrev pub has : Symbol → List Written → Bool
-has symbol s = list_any (λ (w : Written). is symbol w.symbol) s
 
 -- the factors by a FACTORS statement, at most so many
 abbrev pub factors_by : Place → ℕ → List Written → Result (List (List ℕ)) Refusal

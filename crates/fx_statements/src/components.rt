@@ -6,7 +6,7 @@ ghost use Rattle.fx_statements.specs.Components.{check_components, components_as
 
 use crate::wanted::Wanted;
 use fx_language::{Symbol, code};
-use fx_text::{Lexeme, Place, Refusal, Statement};
+use fx_text::{Lexeme, Phrase, Place, Refusal, Statement};
 use fx_vectors::most_factors;
 
 /// The most components of a listing.
@@ -60,16 +60,16 @@ fn components_asked(statement: &Statement<'_>) -> Option<Place>
     ensures { result ≡ components_asked statement.now }
 {
     if statement.begins(Symbol::Examine) {
-        first_components(statement.lexemes())
+        first_components(statement)
     } else {
         None
     }
 }
 
-fn first_components(lexemes: &[Lexeme<'_>]) -> Option<Place>
-    ensures { result ≡ first_components lexemes.now }
+fn first_components(phrase: &Phrase<'_>) -> Option<Place>
+    ensures { result ≡ first_components phrase.now }
 {
-    for w in lexemes {
+    for w in phrase.lexemes() {
         if is_for_components(w) {
             return Some(w.place());
         }

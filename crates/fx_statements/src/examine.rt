@@ -1,10 +1,11 @@
 ghost use Rattle.std.specs.Prelude.{◌≡◌, ◌&&◌};
 ghost use Rattle.fx_language.specs.declared.symbol.Symbol.TheVariants as word;
 ghost use Rattle.fx_text.specs.Written.{begins};
-ghost use Rattle.fx_statements.specs.Steps.{asks, examine_of, has};
+ghost use Rattle.fx_text.specs.Phrases.{has};
+ghost use Rattle.fx_statements.specs.Steps.{asks, examine_of};
 
 use fx_language::Symbol;
-use fx_text::{Lexeme, Statement};
+use fx_text::Statement;
 
 /// The sections of the listing that are asked for besides the rules.
 #[derive(Clone, Copy, Debug, PartialEq, Eq)]
@@ -41,12 +42,5 @@ fn asks(section: Symbol, statements: &[Statement<'_>]) -> bool
 fn has_section(section: Symbol, statement: &Statement<'_>) -> bool
     ensures { result ≡ (begins word.Examine statement.now && has section statement.now) }
 {
-    statement.begins(Symbol::Examine) && has(section, statement.lexemes())
-}
-
-/// Whether this stands among the lexemes.
-fn has(symbol: Symbol, lexemes: &[Lexeme<'_>]) -> bool
-    ensures { result ≡ has symbol lexemes.now }
-{
-    lexemes.iter().any(|w| w.is(symbol))
+    statement.begins(Symbol::Examine) && statement.has(section)
 }

@@ -20,10 +20,9 @@ use fx_factors::factors_of;
 use fx_language::{Symbol, code};
 use fx_outputs::{BlockCount, EarlierNames, OutputContext, outputs};
 use fx_settings::{
-    Blocks, Size, StepSaid, StepSettings, greatest, start_of, step_said, step_settings_of,
-    unblocked_of,
+    Blocks, Size, StepSaid, StepSettings, greatest, step_said, step_settings_of, unblocked_of,
 };
-use fx_text::{Lexeme, Names, ParseStop, Place, Refusal, Statement, find};
+use fx_text::{Names, ParseStop, Phrase, Place, Refusal, Statement, find};
 use std::alloc::Global;
 
 /// The step of some statements, the first of which is its PROC statement. `earlier` are the OUT
@@ -43,11 +42,8 @@ pub(crate) fn step_of(
     ensures refused { IfErr result (IsRefused (step_of earlier.old statements.now)) }
 {
     match find(Symbol::Factors, statements) {
-        None => Err(ParseStop::Refused(Refusal::at(
-            start_of(head_of(statements)),
-            code::NO_FACTORS,
-        ))),
-        Some(named) => step_by(alloc, earlier, statements, named),
+        None => Err(ParseStop::Refused(Refusal::at(head_of(statements).place(), code::NO_FACTORS))),
+        Some(named) => step_by(alloc, earlier, statements, &named),
     }
 }
 
@@ -55,7 +51,7 @@ fn step_by(
     alloc: Global,
     earlier: &mut EarlierNames,
     statements: &[Statement<'_>],
-    named: &[Lexeme<'_>],
+    named: &Phrase<'_>,
 ) -> Result<Step, ParseStop>
     ensures step { IfOk result (λ step.
         step_by earlier.old statements.now (Some named.now) ≡ Ok (meaning_of step)) }
@@ -64,8 +60,8 @@ fn step_by(
         (IsRefused (step_by earlier.old statements.now (Some named.now))) }
 {
     let proc = head_of(statements);
-    let factors = factors_by(alloc, start_of(proc), factor_limit(statements), named)?;
-    let said = step_said(proc, named, statements);
+    let factors = factors_by(alloc, proc.place(), factor_limit(statements), named)?;
+    let said = step_said(&proc, named, statements);
     let (settings, wanted) = asked_by(alloc, factors.as_slice(), said, statements)?;
     let context = context_of(factors.as_slice(), settings);
     let outputs = outputs(alloc, &context, earlier, statements)?;
@@ -87,7 +83,7 @@ fn factors_by(
     alloc: Global,
     proc: Place,
     most: usize,
-    named: &[Lexeme<'_>],
+    named: &Phrase<'_>,
 ) -> Result<Names, ParseStop>
     ensures factors { IfOk result (λ factors. factors_by proc most named.now ≡ Ok factors) }
     ensures bounds { IfOk result (λ factors. (1 ≤ length factors) × (length factors ≤ most)) }
@@ -133,13 +129,13 @@ fn asked_by(
 }
 
 /// The first of some statements.
-fn head_of<'b, 'a>(statements: &'b [Statement<'a>]) -> &'b [Lexeme<'a>]
-    ensures { result.now ≡ head_of statements.now }
+fn head_of<'a>(statements: &[Statement<'a>]) -> Statement<'a>
+    ensures { result ≡ head_of statements.now }
 {
     if statements.is_empty() {
-        &[]
+        Phrase::new(&[])
     } else {
-        statements[0].lexemes()
+        Phrase::new(statements[0].lexemes())
     }
 }
 

@@ -12,7 +12,7 @@ use fx_effects::effects_of;
 use fx_galois::Field;
 use fx_language::Symbol;
 use fx_settings::Criterion;
-use fx_text::{Lexeme, ParseStop, Statement, find};
+use fx_text::{ParseStop, Phrase, Statement, find};
 use fx_vectors::Effects;
 use std::alloc::Global;
 
@@ -77,8 +77,8 @@ fn effects_wanted(
         (IsRefused (effects_wanted q factors.now (statement_of Model statements.now))) }
 {
     match find(Symbol::Model, statements) {
-        None => effects_in(alloc, q, factors, &[]),
-        Some(statement) => effects_in(alloc, q, factors, statement),
+        None => effects_in(alloc, q, factors, &Phrase::new(&[])),
+        Some(statement) => effects_in(alloc, q, factors, &statement),
     }
 }
 
@@ -86,7 +86,7 @@ fn effects_in(
     alloc: Global,
     q: u8,
     factors: &[Bytes],
-    statement: &[Lexeme<'_>],
+    statement: &Phrase<'_>,
 ) -> Result<Wanted, ParseStop>
     requires level { is_level q ≡ true }
     requires few { length factors.now ≤ 40 }

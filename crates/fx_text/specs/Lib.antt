@@ -1,5 +1,6 @@
 pub mod Written
 pub mod Numbers
+pub mod Phrases
 pub mod Statements
 pub mod Names
 pub mod Ranges

@@ -4,6 +4,7 @@
 
 mod lexeme;
 mod name;
+mod phrase;
 mod range;
 mod refusal;
 mod statement;
@@ -11,6 +12,7 @@ mod statement;
 pub use fx_lexer::Place;
 pub use lexeme::{Lexeme, Lexemes, lexemes, number};
 pub use name::{Names, is_same_name, place_of};
+pub use phrase::Phrase;
 pub use range::{is_range, number_at_end, numbered_name, range_end, stem};
 pub use refusal::{ParseStop, Refusal};
 pub use statement::{Statement, Statements, find, statements};

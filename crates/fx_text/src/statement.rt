@@ -2,55 +2,19 @@ ghost use Rattle.std.specs.Prelude.{◌≡◌, not, IfOk, MatchOption, Some, Non
 ghost use Rattle.std.specs.List.{prefix_len};
 ghost use Rattle.fx_language.specs.declared.symbol.Symbol.TheVariants.{Semicolon};
 ghost use Rattle.fx_language.specs.Symbols.{is};
-ghost use Rattle.fx_text.specs.Written.{begins};
-ghost use Rattle.fx_text.specs.Statements.{statements_of, statement_of, ends_step};
+ghost use Rattle.fx_text.specs.Statements.{statements_of, statement_of};
 
 use crate::lexeme::Lexeme;
+use crate::phrase::Phrase;
 use fx_base::{Items, NoMemory};
 use fx_language::Symbol;
 use std::alloc::Global;
-use std::marker::Model;
 
-/// What stands before a semicolon. Clauses see what is written there.
-#[derive(Drop)]
-pub struct Statement<'a> {
-    lexemes: &'a [Lexeme<'a>],
-}
-
-impl<'a> Model for Statement<'a> {
-    ghost use Rattle.std.specs.Prelude.{List};
-    ghost use Rattle.fx_text.specs.Written.{Written};
-
-    ghost Value = { List Written };
-
-    ghost view = { λ s. s.lexemes.now };
-}
+/// The phrase before a semicolon.
+pub type Statement<'a> = Phrase<'a>;
 
 /// The statements of a text, in order.
 pub type Statements<'a> = Items<Statement<'a>>;
-
-impl<'a> Statement<'a> {
-    /// What is written in it.
-    pub fn lexemes(&self) -> &'a [Lexeme<'a>]
-        ensures { result.now ≡ self.now }
-    {
-        self.lexemes
-    }
-
-    /// Whether it begins with this word.
-    pub fn begins(&self, word: Symbol) -> bool
-        ensures { result ≡ begins word self.now }
-    {
-        !self.lexemes.is_empty() && self.lexemes[0].is(word)
-    }
-
-    /// Whether the step before it ends.
-    pub fn ends_step(&self) -> bool
-        ensures { result ≡ ends_step self.now }
-    {
-        self.begins(Symbol::Proc) || self.begins(Symbol::Quit)
-    }
-}
 
 /// The statements of a text.
 ///
@@ -65,9 +29,7 @@ pub fn statements<'a>(alloc: Global, lexemes: &'a [Lexeme<'a>]) -> Result<Statem
     while at < lexemes.len() {
         let rest = &lexemes[at..];
         let len = statement_len(rest);
-        statements.push(Statement {
-            lexemes: &rest[..len],
-        })?;
+        statements.push(Phrase::new(&rest[..len]))?;
         at += len + 1;
     }
     Ok(statements)
@@ -84,13 +46,12 @@ fn statement_len(lexemes: &[Lexeme<'_>]) -> usize
 }
 
 /// The first statement that begins with this word.
-pub fn find<'b, 'a>(word: Symbol, statements: &'b [Statement<'a>]) -> Option<&'a [Lexeme<'a>]>
-    ensures { MatchOption result (statement_of word statements.now ≡ None)
-        (λ s. statement_of word statements.now ≡ Some s.now) }
+pub fn find<'a>(word: Symbol, statements: &[Statement<'a>]) -> Option<Statement<'a>>
+    ensures { result ≡ statement_of word statements.now }
 {
     for statement in statements {
         if statement.begins(word) {
-            return Some(statement.lexemes());
+            return Some(Phrase::new(statement.lexemes()));
         }
     }
     None

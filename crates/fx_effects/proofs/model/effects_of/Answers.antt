@@ -3,4 +3,4 @@ use Rattle.fx_effects.proofs.model.effects_of.Goals as goal
 
 pub returns-in-Some-clause-told : goal.returns-in-Some-clause-told
 returns-in-Some-clause-told c =
-    all_told c.args.factors.now c.args.field c.in-Some.word.now c.from.result.now c.effects_behind.result c.effects_behind.ensures.ok c.effects_behind.ensures.apart
+    all_told c.args.factors.now c.args.field c.in-Some.word.now c.after.result c.effects_after.result c.effects_after.ensures.ok c.effects_after.ensures.apart

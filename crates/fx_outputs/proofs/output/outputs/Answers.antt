@@ -1,5 +1,5 @@
 use Rattle.std.proofs.Common.{◌≡◌, ◌∷◌, ◌++◌, [], suc, drop, ap, sym, ◌∙◌, arith}
-use Rattle.std.proofs.lemmas.List.{take_rest, drop_all}
+use Rattle.std.proofs.lemmas.List.{drop_all}
 use Rattle.std.proofs.lemmas.Result.{err_from_is_err_and}
 use Rattle.std.proofs.Math.Numerals.{add-one}
 use Rattle.std.proofs.Math.Seq.{drop-cons}
@@ -18,7 +18,7 @@ returns-in_err-output-clause-err c =
     let s = c.statement-item.result in
     let reason = c.in_err-output.field-0.0 in
     let left = drop-cons all i s (omega arith) ∙ ap (λ v. v ∷ drop (suc i) all) (sym c.statement-item.is) in
-    let one = rw (take_rest c.lexemes-lexemes.result.now 3, c.lexemes-lexemes.ensures) at c.in_err-output.ensures.err in
+    let one = rw c.from.ensures at c.in_err-output.ensures.err in
     let first = rw c.lexemes-lexemes.ensures at c.index-lexemes-0.is in
     let third = rw c.lexemes-lexemes.ensures at c.index-lexemes-3.is in
     let more = refused context c.loop-statement.earlier c.loop-statement.outputs (drop (suc i) all) s c.index-lexemes-0.result c.index-lexemes-3.result reason c.if-is_output.ensures first third one in
@@ -38,7 +38,7 @@ loop-statement-preserved c =
     let so_far = c.loop-statement.invariant.meaning ∙ ap (outputs_behind context earlier outputs) left in
     elim c.if-is_output.branch [
       | then-is_output+in_ok-output+in_ok-push w ↦
-          let one = rw (take_rest w.lexemes-lexemes.result.now 3, w.lexemes-lexemes.ensures) at w.in_ok-output.ensures.ok in
+          let one = rw w.from.ensures at w.in_ok-output.ensures.ok in
           let first = rw w.lexemes-lexemes.ensures at w.index-lexemes-0.is in
           let third = rw w.lexemes-lexemes.ensures at w.index-lexemes-3.is in
           let more = read context earlier outputs (drop (suc i) all) s w.index-lexemes-0.result w.index-lexemes-3.result w.in_ok-output.output w.if-is_output.ensures first third one in

@@ -3,4 +3,4 @@ use Rattle.fx_statements.specs.Components.{first_components}
 use Rattle.fx_statements.proofs.components.first_components.Given as goal
 
 abbrev pub invariant-loop-w : goal.invariant-loop-w
-invariant-loop-w l = first_components l.lexemes ≡ first_components (drop l.w-index l.lexemes)
+invariant-loop-w l = first_components l.phrase ≡ first_components (drop l.w-index l.phrase)

@@ -1,0 +1,11 @@
+use Rattle.std.proofs.Common.{◌≡◌, ◌∙◌, ◌<◌, ℕ, List, length, sym, subst, arith}
+use Rattle.std.specs.Prelude.{All}
+use Rattle.fx_designs.specs.Vectors.{IsVector}
+use Rattle.fx_demands.specs.EffectVectors.{vectors_to}
+use Rattle.fx_demands.proofs.EffectVectors.{all-vectors}
+use Rattle.fx_demands.proofs.vector_lists.effect_vectors.Goals as goal
+
+pub longer-requires-clause-vectors : goal.longer-requires-clause-vectors
+longer-requires-clause-vectors c =
+    let all : All (IsVector c.args.field c.loop-i.i) (vectors_to c.args.field c.args.effect.now.0 c.loop-i.i) = all-vectors c.args.field c.args.effect.now.0 c.loop-i.i (omega (arith, c.q-known.ensures.least, c.q-known.ensures.order)) in
+    subst (λ (n : ℕ). All (IsVector c.args.field n) c.loop-i.vectors) (sym c.from.ensures) (subst (λ (l : List (List ℕ)). All (IsVector c.args.field c.loop-i.i) l) (sym c.loop-i.invariant) all)

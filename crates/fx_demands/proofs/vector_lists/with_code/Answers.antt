@@ -1,0 +1,40 @@
+use Rattle.std.proofs.Common.{◌≡◌, ◌<◌, ◌≤◌, ◌^◌, ◌*◌, ◌+◌, ◌++◌, [], ◌∷◌, ℕ, List, length, IsTrue, arith, sym, ap, ◌∙◌}
+use Rattle.fx_designs.specs.Galois.{number, digits, IsField}
+use Rattle.fx_designs.specs.Vectors.{IsVector}
+use Rattle.fx_laws.proofs.Codes.{digits-number, number-below}
+use Rattle.fx_vectors.proofs.Limits.{numbers_fit}
+use Rattle.fx_demands.proofs.EffectVectors.{number-push, push-vector}
+use Rattle.fx_demands.proofs.vector_lists.with_code.Goals as goal
+use Rattle.fx_demands.proofs.vector_lists.with_code.Goals.{After-from-2}
+
+longer_vector : (c : After-from-2) → IsVector c.args.field (c.args.len + 1) (c.args.v.now ++ c.args.c ∷ [])
+longer_vector c = push-vector c.args.field c.args.len c.args.v.now c.args.c c.requires.vector c.requires.code
+
+-- the number of the longer vector
+sum_is : (c : After-from-2) → c.number.result + c.from-2.result * c.pow-power.result ≡ number c.args.field (c.args.v.now ++ c.args.c ∷ [])
+sum_is c =
+    rw (c.number.ensures.number, c.from-2.ensures, c.pow-power.ensures, c.from.ensures, c.q.ensures.order)
+    (ap (λ (n : ℕ). number c.args.field c.args.v.now + c.args.c * c.args.field ^ n) (sym c.requires.vector.len) ∙ sym (number-push c.args.field c.args.v.now c.args.c))
+
+total_fits : (c : After-from-2) → c.number.result + c.from-2.result * c.pow-power.result < 2 ^ 127
+total_fits c =
+    let below = number-below c.args.field (c.args.len + 1) (c.args.v.now ++ c.args.c ∷ []) (longer_vector c) in
+    let fits = numbers_fit c.args.field (c.args.len + 1) (omega arith) (omega arith) in
+    let is = sum_is c in
+    omega arith
+
+pub pow-power-requires : goal.pow-power-requires
+pow-power-requires c =
+    let fits = numbers_fit c.from.result c.args.len (omega arith) (omega arith) in
+    omega arith
+
+pub overflow_mul-from : goal.overflow_mul-from
+overflow_mul-from c = let fits = total_fits (goal.at.overflow_mul-from c).After-from-2 in omega arith
+
+pub overflow_add-number : goal.overflow_add-number
+overflow_add-number c = let fits = total_fits (goal.at.overflow_add-number c).After-from-2 in omega arith
+
+pub returns : goal.returns
+returns c =
+    let a = (goal.at.returns c).After-from-2 in
+    c.of_number.ensures.digits ∙ ap (digits c.args.field (c.args.len + 1)) (sum_is a) ∙ digits-number c.args.field (c.args.len + 1) (c.args.v.now ++ c.args.c ∷ []) (longer_vector a)
