@@ -1,5 +1,6 @@
 pub mod Powers
 pub mod Valid
 pub mod Readings
+pub mod Cut
 pub mod Lacking
 pub mod Levels

@@ -2,3 +2,4 @@ pub mod Bounds
 pub mod ComponentCounts
 pub mod StepByStep
 mod Examples
+pub mod Readings

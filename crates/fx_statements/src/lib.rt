@@ -3,6 +3,7 @@
 
 mod components;
 mod examine;
+mod laws;
 mod parsing;
 mod step;
 mod stepping;
@@ -14,6 +15,7 @@ pub use examine::Examine;
 pub use fx_outputs::{OutputSpec, Outputs, Recode, Recodes, Shuffle};
 pub use fx_settings::{Blocks, Size};
 pub use fx_text::{Names, ParseStop, Refusal};
+pub use laws::model_is_read_by_the_grammar;
 pub use parsing::{Program, parse};
 pub use step::Step;
 pub use wanted::Wanted;
