@@ -62,6 +62,19 @@ fn both_lists_are_sets_in_effect_order(rt: HostRuntime) -> Result<(), Fail> {
 }
 
 #[test]
+fn repeated_bars_are_read_once(rt: HostRuntime) -> Result<(), Fail> {
+    let text = b"model estimate=(A|B@1 B|A A|B A*B|B) nonneg=(A|X1 X1|A|A*X1)";
+    let factors: [&[u8]; 3] = [b"A", b"B", b"X1"];
+    let read = read(&rt, rt.alloc(), &factors, text)?;
+    assert!(rt; read.is_ok());
+    if let Ok(effects) = read {
+        assert!(rt; are(&effects.estimate, &[1, 2, 3]));
+        assert!(rt; are(&effects.nonnegligible, &[4, 5]));
+    }
+    Ok(())
+}
+
+#[test]
 fn refused_where_the_rule_is_broken(rt: HostRuntime) -> Result<(), Fail> {
     let cases: [(&[u8], u8, u32); 8] = [
         (b"model estimate=(a c@0 x3-x1)", 4, 19),

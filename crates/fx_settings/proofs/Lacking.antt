@@ -1,5 +1,5 @@
 -- Parts of a statement that lack a symbol.
-use Rattle.std.proofs.Common.{◌≡◌, Bool, true, false, not, ◌&&◌, ◌||◌, List, [], ◌∷◌, ◌++◌, map, refl, ap, ap₂, ◌∙◌, inl, inr}
+use Rattle.std.proofs.Common.{ℕ, suc, ◌+◌, arith, take, ◌≡◌, Bool, true, false, not, ◌&&◌, ◌||◌, List, [], ◌∷◌, ◌++◌, map, refl, ap, ap₂, ◌∙◌, inl, inr}
 use Rattle.std.specs.List.{AllByRecursion, flat_map, list_any}
 use Rattle.std.proofs.lemmas.Bool.{and_parts, or_parts, both_ways, cases_Bool, not-true}
 use Rattle.std.proofs.lemmas.List.Folds.{list_any-append}
@@ -8,7 +8,7 @@ use Rattle.fx_language.specs.declared.symbol.Symbol.TheVariants as symbol
 use Rattle.fx_language.specs.Symbols.{is}
 use Rattle.fx_language.specs.Shapes.{Shape, Never, Empty, One, Before, Either, Many, Fault, Matches}
 use Rattle.fx_text.specs.Written.{Written}
-use Rattle.fx_text.specs.Phrases.{after, has}
+use Rattle.fx_text.specs.Phrases.{after, before, has}
 
 -- no text of the description has this symbol
 abbrev pub lacks : Symbol → Shape → Bool
@@ -27,6 +27,14 @@ equals_alone s h = absurd (let f : false ≡ true = h in cc)
 pub slash_alone : (s : Symbol) → is symbol.Slash s ≡ true → symbol.Slash ≡ s
 slash_alone symbol.Slash h = refl
 slash_alone s h = absurd (let f : false ≡ true = h in cc)
+
+pub open_alone : (s : Symbol) → is symbol.Open s ≡ true → symbol.Open ≡ s
+open_alone symbol.Open h = refl
+open_alone s h = absurd (let f : false ≡ true = h in cc)
+
+pub close_alone : (s : Symbol) → is symbol.Close s ≡ true → symbol.Close ≡ s
+close_alone symbol.Close h = refl
+close_alone s h = absurd (let f : false ≡ true = h in cc)
 
 module _ (t : Symbol) (alone : (s : Symbol) → is t s ≡ true → t ≡ s) where
   other : (test : Symbol → Bool) (s : Symbol) → not (test t) ≡ true → test s ≡ true → is t s ≡ false
@@ -67,3 +75,13 @@ after_part t [] b h = refl
 after_part t (w ∷ a) b h =
     let parts = or_parts (is t w.symbol) (has t a) h in
     rw parts.0 (after_part t a b parts.1)
+
+take_more : (n : ℕ) (w : Written) (xs : List Written) → take (1 + n) (w ∷ xs) ≡ w ∷ take n xs
+take_more n w xs = let e : 1 + n ≡ suc n = omega arith in rw e refl
+
+-- what is before a symbol, in front of it
+pub before_part : (t : Symbol) (a : List Written) (c : Written) (b : List Written) → has t a ≡ false → is t c.symbol ≡ true → before t (a ++ c ∷ b) ≡ a
+before_part t [] c b h it = rw it refl
+before_part t (w ∷ a) c b h it =
+    let parts = or_parts (is t w.symbol) (has t a) h in
+    rw parts.0 (take_more _ w (a ++ c ∷ b) ∙ ap (λ l. w ∷ l) (before_part t a c b parts.1 it))

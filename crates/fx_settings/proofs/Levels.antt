@@ -14,36 +14,9 @@ use Rattle.fx_text.specs.Written.{Written}
 use Rattle.fx_text.specs.Phrases.{after, has}
 use Rattle.fx_settings.specs.Said.{value_at, value_of}
 use Rattle.fx_settings.specs.Readings.{IsStatement, IsLevelsRead}
+use Rattle.fx_settings.proofs.Cut.{Cut, cut, nothing}
 use Rattle.fx_settings.proofs.Lacking.{none, equals_alone, slash_alone, any_written, after_part}
 use Rattle.fx_settings.proofs.Readings.{turned, Setting, setting, four, value_is}
-
--- what is written, cut where its symbols are
-record Cut (s : List Written) (x z : List Symbol) (m : Symbol) : Type 0 where
-  front : List Written
-  rest : List Written
-  all : s ≡ front ++ rest
-  front_is : map (λ (w : Written). w.symbol) front ≡ x
-  rest_is : map (λ (w : Written). w.symbol) rest ++ symbol.Semicolon ∷ [] ≡ z ++ m ∷ []
-
--- the semicolon alone leaves nothing before it
-too_short : (c m : Symbol) (x z : List Symbol) → symbol.Semicolon ∷ [] ≡ c ∷ x ++ (z ++ m ∷ []) → ⊥
-too_short c m [] [] h = cc h
-too_short c m [] (d ∷ z) h = cc h
-too_short c m (d ∷ x) z h = cc h
-
-cut : (s : List Written) (x z : List Symbol) (m : Symbol) → map (λ (w : Written). w.symbol) s ++ symbol.Semicolon ∷ [] ≡ x ++ (z ++ m ∷ []) → Cut s x z m
-cut s [] z m h = record { front = []; rest = s; all = refl; front_is = refl; rest_is = h }
-cut [] (c ∷ x) z m h = absurd (too_short c m x z h)
-cut (w ∷ s) (c ∷ x) z m h =
-    let later = cut s x z m (cc h) in
-    let first : w.symbol ≡ c = cc h in
-    record { front = w ∷ later.front; rest = later.rest; all = ap (λ l. w ∷ l) later.all; front_is = ap₂ (λ (a : Symbol) (l : List Symbol). a ∷ l) first later.front_is; rest_is = later.rest_is }
-
--- what is left where there is no option
-nothing : (s : List Written) (m : Symbol) → map (λ (w : Written). w.symbol) s ++ symbol.Semicolon ∷ [] ≡ m ∷ [] → s ≡ []
-nothing [] m h = refl
-nothing (w ∷ []) m h = absurd (cc h)
-nothing (w ∷ v ∷ s) m h = absurd (cc h)
 
 front_lacks : (t : Symbol) (w x y z : List Symbol) → list_any (is t) w ≡ false → list_any (is t) x ≡ false → list_any (is t) y ≡ false → list_any (is t) z ≡ false
     → list_any (is t) (w ++ (x ++ (y ++ z))) ≡ false

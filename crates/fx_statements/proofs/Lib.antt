@@ -2,4 +2,5 @@ pub mod Bounds
 pub mod ComponentCounts
 pub mod StepByStep
 mod Examples
+pub mod Readings
 mod Texts

@@ -3,6 +3,7 @@
 
 mod components;
 mod examine;
+mod laws;
 mod outcome;
 mod parsing;
 mod step;
@@ -15,6 +16,7 @@ pub use examine::Examine;
 pub use fx_outputs::{OutputSpec, Outputs, Recode, Recodes, Shuffle};
 pub use fx_settings::{Blocks, Size};
 pub use fx_text::{Names, ParseStop, Refusal};
+pub use laws::model_is_read_by_the_grammar;
 pub use outcome::{End, Outcome};
 pub use parsing::{Program, parse};
 pub use step::Step;
