@@ -25,6 +25,9 @@ pub struct Sums {
     height: u16,
     low: Vec<u16>,
     high: Vec<u16>,
+    /// The lower and the upper part of each point.
+    lower: Vec<u16>,
+    upper: Vec<u16>,
 }
 
 impl Model for Sums {
@@ -34,7 +37,7 @@ impl Model for Sums {
 
     ghost view = { λ x. record { q = x.field; m = x.m } };
 
-    ghost invariant = { λ x. AreSums x.field x.m x.even x.size x.blocks x.half x.width x.height x.low.items x.high.items };
+    ghost invariant = { λ x. AreSums x.field x.m x.even x.size x.blocks x.half x.width x.height x.low.items x.high.items x.lower.items x.upper.items };
 }
 
 impl Sums {
@@ -57,6 +60,17 @@ impl Sums {
             table(alloc, field, rest)?
         };
         let size = power(field, m);
+        let width = power(field, half);
+        let lower = if even {
+            Vec::new(alloc)
+        } else {
+            remainders(alloc, size, width)?
+        };
+        let upper = if even {
+            Vec::new(alloc)
+        } else {
+            quotients(alloc, size, width)?
+        };
         Ok(Sums {
             field,
             m,
@@ -64,10 +78,12 @@ impl Sums {
             size,
             blocks: (usize::from(size) + 63) / 64,
             half,
-            width: power(field, half),
+            width,
             height: power(field, rest),
             low,
             high,
+            lower,
+            upper,
         })
     }
 
@@ -134,10 +150,10 @@ impl Sums {
         if self.even {
             return x ^ y;
         }
-        let low = self.low[usize::from(x % self.width) * usize::from(self.width)
-            + usize::from(y % self.width)];
-        let high = self.high[usize::from(x / self.width) * usize::from(self.height)
-            + usize::from(y / self.width)];
+        let low = self.low[usize::from(part(self.lower.as_slice(), x)) * usize::from(self.width)
+            + usize::from(part(self.lower.as_slice(), y))];
+        let high = self.high[usize::from(part(self.upper.as_slice(), x)) * usize::from(self.height)
+            + usize::from(part(self.upper.as_slice(), y))];
         low + self.width * high
     }
 }
@@ -162,6 +178,40 @@ fn table(alloc: Global, field: Field, n: u8) -> Result<Vec<u16>, NoMemory>
         sums.push(sum_with(field, n, (i / count) as u16, (i % count) as u16, 1))?;
     }
     Ok(sums.into_vec())
+}
+
+/// What the table has for the point.
+fn part(table: &[u16], x: u16) -> u16
+    requires { x < length table.now }
+    ensures { result ≡ slice_index table.now x }
+{
+    table[usize::from(x)]
+}
+
+/// The remainders of the first `count` numbers by `width`.
+fn remainders(alloc: Global, count: u16, width: u16) -> Result<Vec<u16>, NoMemory>
+    requires { 0 < width }
+    ensures len { IfOk result (λ parts. length parts.items ≡ count) }
+    ensures are { IfOk result (λ parts. (i : ℕ) → i < count → slice_index parts.items i ≡ i % width) }
+{
+    let mut parts = Values::new(alloc);
+    for x in 0..count {
+        parts.push(x % width)?;
+    }
+    Ok(parts.into_vec())
+}
+
+/// The quotients of the first `count` numbers by `width`.
+fn quotients(alloc: Global, count: u16, width: u16) -> Result<Vec<u16>, NoMemory>
+    requires { 0 < width }
+    ensures len { IfOk result (λ parts. length parts.items ≡ count) }
+    ensures are { IfOk result (λ parts. (i : ℕ) → i < count → slice_index parts.items i ≡ i / width) }
+{
+    let mut parts = Values::new(alloc);
+    for x in 0..count {
+        parts.push(x / width)?;
+    }
+    Ok(parts.into_vec())
 }
 
 /// Whether sums are taken bit by bit: at two, four and eight levels.

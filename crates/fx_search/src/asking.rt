@@ -36,9 +36,10 @@ pub enum Asked {
 /// 5,000,000. `Budget`, without a matrix, exactly where the nodes are more than the budget. `Nothing`
 /// speaks of all rule matrices, canonical or not.
 ///
-/// Besides the marks, which take 18 bytes a node, memory is taken at the start alone: under a
-/// resolution for the points that are reached, else for a copy of the effects. The recursion is as
-/// deep as a matrix has rows, at most 40.
+/// Besides the marks, which take 18 bytes a node, memory is taken at the start alone: for the points
+/// that are reached, or for a copy of the effects and, without blocks, for the forbidden vectors, at
+/// most one for each pair of vectors to be told apart. The recursion is as deep as a matrix has rows,
+/// at most 40.
 ///
 /// # Errors
 ///

@@ -1,4 +1,5 @@
-use Rattle.std.proofs.Common.{ℕ, ◌≡◌, ◌<◌, ◌≤◌, ◌+◌, ◌-◌, ◌*◌, ◌^◌, ◌∙◌, [], List, length, slice_index, slice_index_or, sym, subst, ap, arith}
+use Rattle.std.proofs.Common.{ℕ, Bool, true, ◌≡◌, ◌<◌, ◌≤◌, ◌+◌, ◌-◌, ◌*◌, ◌^◌, ◌∙◌, [], List, length, slice_index, slice_index_or, sym, subst, ap, arith}
+use Rattle.std.specs.Bool.{OnTrue}
 use Rattle.fx_demands.specs.declared.forbidden_list.ForbiddenVector.{ForbiddenVector}
 use Rattle.fx_demands.specs.EffectVectors.{last_factor}
 use Rattle.fx_barred.specs.FirstWords.{sum_to, vector_at, HasSum, AreFirst}
@@ -56,5 +57,14 @@ returns-clause-first c =
     (λ k after low last. (let class = c.start_of-k-end.ensures.after k any (omega (arith, c.loop-k-test.false)) low in let at = last-of-class r.q r.room words k any c.requires.words small low in omega (arith, c.len-n.ensures.count)))
     c.loop-k.invariant.first)
 
-pub returns-then-k-eq0-is_full-clause-first : goal.returns-then-k-eq0-is_full-clause-first
-returns-then-k-eq0-is_full-clause-first c = ?
+on-true : (b : Bool) (P : Type 0) → b ≡ true → OnTrue b P → P
+on-true b P e h = subst (λ (b : Bool). OnTrue b P) e h
+
+pub returns-then-is_full-clause-first : goal.returns-then-is_full-clause-first
+returns-then-is_full-clause-first c =
+    let r = c.args.reached.now in
+    let words : List ForbiddenVector = c.args.words.now in
+    let place : c.len-n.result * c.from-size.result ≡ length r.rows * r.q ^ r.m = ap (λ (n : ℕ). n * c.from-size.result) c.len-n.ensures.count ∙ ap (λ (n : ℕ). length r.rows * n) (c.from-size.ensures ∙ c.size.ensures.points) in
+    let full = on-true c.is_full.result _ c.if-is_full.true c.is_full.ensures in
+    subst (λ (p : ℕ). AreFirst r.q r.m r.rows words (length r.rows) (length words) p c.loop-k.tables) place
+    (first-full r.q r.m r.rows words (length r.rows) c.loop-k.k (c.len-n.result * c.from-size.result) c.loop-k.tables (λ y low. full y (omega (arith, c.from-size.ensures, c.size.ensures.points))) c.loop-k.invariant.first)
