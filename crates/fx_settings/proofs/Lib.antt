@@ -4,3 +4,4 @@ pub mod Readings
 pub mod Cut
 pub mod Lacking
 pub mod Levels
+pub mod Nodes
