@@ -5,3 +5,4 @@ pub mod Readings
 pub mod Cut
 pub mod Lacking
 pub mod Levels
+pub mod Nodes

@@ -1,5 +1,5 @@
 -- That the readers look where the grammar has what they read.
-use Rattle.std.specs.Prelude.{◌≡◌, ◌⊎◌, true, false, List, [], ◌∷◌, ◌++◌, map, Some, None}
+use Rattle.std.specs.Prelude.{◌≡◌, ◌⊎◌, true, false, List, [], ◌∷◌, ◌++◌, length, map, Some, None}
 use Rattle.fx_language.specs.declared.symbol.Symbol.{Symbol}
 use Rattle.fx_language.specs.declared.symbol.Symbol.TheVariants as symbol
 use Rattle.fx_language.specs.Symbols.{is}
@@ -67,3 +67,20 @@ pub record HasLevels (s : List Written) : Type 0 where
 -- what is read of the levels: nothing, where there is no `/`, or the value of NLEV
 abbrev pub IsLevelsRead : List Written → Type 0
 IsLevelsRead s = ((value_of s ≡ None) × (has symbol.Slash s ≡ false)) ⊎ HasLevels s
+
+-- a PROC statement with an option: two words, then `NODES = value`, and what may follow
+pub record HasNodes (s : List Written) : Type 0 where
+  pub first : Written
+  pub procedure : Written
+  pub word : Written
+  pub equals : Written
+  pub value : Written
+  pub others : List Written
+  pub statement : s ≡ first ∷ procedure ∷ word ∷ equals ∷ value ∷ others
+  pub word_is : is symbol.Nodes word.symbol ≡ true
+  pub sign : is symbol.Equals equals.symbol ≡ true
+  pub said : value_of s ≡ Some (value_at value)
+
+-- what is read of the budget: nothing from a statement of two words, or the value of the first option
+abbrev pub IsBudgetRead : List Written → Type 0
+IsBudgetRead s = ((value_of s ≡ None) × (length s ≡ 2)) ⊎ HasNodes s
