@@ -1,16 +1,14 @@
 -- The vectors of effects, listed, and the differences of listed vectors.
-use Rattle.std.proofs.Common.{ℕ, ◌≡◌, ◌<◌, ◌≤◌, ◌+◌, ◌-◌, ◌*◌, ◌/◌, ◌%◌, ◌^◌, zero, suc, Bool, true, false, cond, eqb, List, [], ◌∷◌, ◌++◌, map, filter, take, length, get_or, refl, sym, subst, ap, ◌∙◌, arith, length-append, append_assoc, if◌then◌else◌}
+use Rattle.std.proofs.Common.{ℕ, ◌≡◌, ◌<◌, ◌≤◌, ◌+◌, ◌-◌, ◌*◌, ◌/◌, ◌%◌, ◌^◌, zero, suc, Bool, true, false, cond, eqb, List, [], ◌∷◌, ◌++◌, map, length, refl, subst, ap, ◌∙◌, arith, length-append}
 use Rattle.std.proofs.Math.Nat.{pow-succ', pow-zero}
 use Rattle.std.specs.Prelude.{All}
 use Rattle.std.specs.List.{AllByRecursion, flat_map, range_with_len}
-use Rattle.std.proofs.lemmas.List.{take_more}
 use Rattle.std.proofs.lemmas.List.Concat.{flat_map-append}
-use Rattle.std.proofs.lemmas.List.Elements.{All-from_recursion, recursion_from_All, filter-append}
-use Rattle.fx_designs.specs.Galois.{number, digits, mul, IsField}
-use Rattle.fx_designs.specs.Vectors.{IsVector, is_normal, minus, plus, scale, zeros}
-use Rattle.fx_laws.proofs.Codes.{digits-number}
+use Rattle.std.proofs.lemmas.List.Elements.{All-from_recursion}
+use Rattle.fx_designs.specs.Galois.{number, IsField}
+use Rattle.fx_designs.specs.Vectors.{IsVector, scale}
 use Rattle.fx_laws.proofs.Order.{each-append}
-use Rattle.fx_demands.specs.EffectVectors.{codes_at, with_codes, vectors_to, vectors_of_all, differences_from, differences}
+use Rattle.fx_demands.specs.EffectVectors.{codes_at, with_codes, vectors_to, vectors_of_all}
 
 -- a code after a vector
 pub number-push : (q : ℕ) (v : List ℕ) (c : ℕ) → number q (v ++ c ∷ []) ≡ number q v + c * q ^ length v

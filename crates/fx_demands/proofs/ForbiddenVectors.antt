@@ -1,24 +1,24 @@
 -- The normal forbidden vectors of effects are the normal differences of listed vectors.
-use Rattle.std.proofs.Common.{ℕ, ◌≡◌, ◌<◌, ◌≤◌, ◌+◌, ◌-◌, ◌*◌, ◌/◌, ◌%◌, ◌^◌, ◌⊎◌, zero, suc, Bool, true, false, cond, eqb, not, ◌&&◌, ◌||◌, List, [], ◌∷◌, ◌++◌, map, filter, take, drop, length, get_or, refl, sym, subst, ap, ◌∙◌, arith, inl, inr, length-append, if◌then◌else◌}
-use Rattle.std.specs.Prelude.{All, Contains, slice_index_or}
+use Rattle.std.proofs.Common.{ℕ, ◌≡◌, ◌<◌, ◌≤◌, ◌+◌, ◌-◌, ◌*◌, ◌/◌, ◌%◌, ◌^◌, zero, suc, Bool, true, false, cond, eqb, not, ◌&&◌, ◌||◌, List, [], ◌∷◌, ◌++◌, map, filter, take, length, get_or, refl, sym, subst, ap, ◌∙◌, arith, inl, inr}
+use Rattle.std.specs.Prelude.{All, Any, Contains, slice_index_or}
+use Rattle.std.proofs.lemmas.List.Elements.{All-contains, Contains-get_or}
 use Rattle.std.specs.List.{AllByRecursion, flat_map, range_with_len, list_any}
-use Rattle.std.specs.List.Sorted.{IsPermutation, IsNonDecreasingBy}
-use Rattle.std.proofs.lemmas.Bool.{cases_eq, cases_lt, eq-eqb, ne_eqb, eqb-true, both_ways, and_parts, and_from, or_left, or_right}
+use Rattle.std.proofs.lemmas.Bool.{cases_eq, eq-eqb, ne_eqb, eqb-true, both_ways, and_parts, and_from, or_left, or_right}
 use Rattle.std.proofs.lemmas.Nat.{mod-pow-add}
 use Rattle.std.proofs.Math.Nat.{mod-eq_of_lt, pow-succ'}
 use Rattle.std.proofs.lemmas.List.{take_more, map-append}
-use Rattle.std.proofs.lemmas.List.Elements.{All-from_recursion, recursion_from_All}
 use Rattle.fx_designs.specs.Galois.{number, IsField, neg}
-use Rattle.fx_designs.specs.Vectors.{IsVector, is_normal, is_zero, last_nonzero, minus, plus, scale, same, weight, zeros}
+use Rattle.fx_designs.specs.Vectors.{IsVector, is_normal, is_zero, last_nonzero, minus, scale, same, weight, zeros}
 use Rattle.fx_designs.specs.Runs.{points}
 use Rattle.fx_designs.specs.Problems.{Dimensions, Requirement, ForEffects}
 use Rattle.fx_designs.specs.Demands.{effect_of, is_of, is_told_from, must_balance}
+use Rattle.fx_laws.proofs.Ranks.{number-same}
 use Rattle.fx_laws.proofs.Order.{each-append}
 use Rattle.fx_laws.proofs.Space.{zeros-vector, plus-vector, scale-vector}
-use Rattle.fx_vectors.proofs.Supports.{bit, bit-small, effect-cons, effect-below, effect-zero, zero-effect}
-use Rattle.fx_vectors.proofs.Balances.{some_point, point_some, either_true, same-refl, same-true, not-true, true-not}
+use Rattle.fx_vectors.proofs.Supports.{bit, bit-small, effect-cons, effect-below, zero-effect}
+use Rattle.fx_vectors.proofs.Balances.{some_point, point_some, either_true, same-refl, same-true, not-true}
 use Rattle.fx_demands.specs.declared.forbidden_list.ForbiddenVector.{ForbiddenVector}
-use Rattle.fx_demands.specs.EffectVectors.{codes_at, with_codes, vectors_to, vectors_of_all, class_of, ranked, differences_from, differences, all_differences, IsForbidden}
+use Rattle.fx_demands.specs.EffectVectors.{codes_at, with_codes, vectors_to, vectors_of_all, ranked, differences_from, differences, all_differences, IsForbidden}
 use Rattle.fx_demands.proofs.Choice.{Among}
 use Rattle.fx_demands.proofs.Completing.{weightless, weight-zeros}
 use Rattle.fx_vectors.proofs.Differences.{cancel}
@@ -341,3 +341,34 @@ module _ (d : Dimensions) (f : IsField d.q) (estimate besides : List ℕ) where
             | inr z ↦ among_right w (first ++ second) third (at mean (inl (weightless v d.s inner.1.len (eqb-true _ _ z))))
           ]
         ]))
+
+vector-at : (words : List ForbiddenVector) (k : ℕ) (w : List ℕ) (a : ForbiddenVector) → k < length words → slice_index_or (map (λ (x : ForbiddenVector). x.vector) words) k w ≡ (slice_index_or words k a).vector
+vector-at [] k w a low = absurd (omega arith)
+vector-at (x ∷ words) zero w a low = refl
+vector-at (x ∷ words) (suc k) w a low = vector-at words k w a (omega arith)
+
+length-vectors : (words : List ForbiddenVector) → length (map (λ (x : ForbiddenVector). x.vector) words) ≡ length words
+length-vectors [] = refl
+length-vectors (x ∷ words) = ap suc (length-vectors words)
+
+-- a vector stays listed where each number does
+pub still-listed : (d : Dimensions) (f : IsField d.q) (wanted : Requirement) (before after : List ForbiddenVector) → All (IsForbidden d wanted) before → All (IsForbidden d wanted) after
+    → ((x : ForbiddenVector) → Contains before x → Any (λ (y : ForbiddenVector). y.number ≡ x.number) after)
+    → (w : List ℕ) → Contains (map (λ (x : ForbiddenVector). x.vector) before) w → Contains (map (λ (x : ForbiddenVector). x.vector) after) w
+still-listed d f wanted before after hb ha kept w h =
+    let any : ForbiddenVector = record { vector = []; class = 0; number = 0 } in
+    let k : ℕ = h.0 in
+    let low : k < length before = omega (arith, h.1, length-vectors before) in
+    let x : ForbiddenVector = slice_index_or before k any in
+    let is : x.vector ≡ w = sym (vector-at before k w any low) ∙ h.2 in
+    let there = kept x (Contains-get_or before k any low) in
+    let j : ℕ = there.0 in
+    let y : ForbiddenVector = there.1 in
+    let hx = hb k any low in
+    let hy : IsForbidden d wanted y = All-contains (IsForbidden d wanted) after y ha (j, there.2, at-same after j y there.3 there.2) in
+    let numbers : number d.q y.vector ≡ number d.q x.vector = sym hy.number ∙ there.4 ∙ hx.number in
+    let same : y.vector ≡ x.vector = number-same d.q d.s f y.vector x.vector hy.vector hx.vector numbers in
+    (j, omega (arith, there.2, length-vectors after), vector-at after j w y there.2 ∙ ap (λ (z : ForbiddenVector). z.vector) (at-same after j y there.3 there.2) ∙ same ∙ is)
+  where
+    at-same : (words : List ForbiddenVector) (j : ℕ) (y : ForbiddenVector) → slice_index_or words j y ≡ y → j < length words → slice_index_or words j y ≡ y
+    at-same words j y e low = e

@@ -1,4 +1,4 @@
-use Rattle.std.proofs.Common.{◌≡◌, ◌∙◌, ℕ, List, sym, subst, arith}
+use Rattle.std.proofs.Common.{ℕ, List, sym, subst, arith}
 use Rattle.std.specs.Prelude.{All}
 use Rattle.fx_designs.specs.Vectors.{IsVector}
 use Rattle.fx_demands.proofs.EffectVectors.{all-vectors}

@@ -1,5 +1,5 @@
-use Rattle.std.proofs.Common.{◌≡◌, ◌<◌, ◌≤◌, ◌^◌, ◌*◌, ◌+◌, ◌++◌, [], ◌∷◌, ℕ, List, length, IsTrue, arith, sym, ap, ◌∙◌}
-use Rattle.fx_designs.specs.Galois.{number, digits, IsField}
+use Rattle.std.proofs.Common.{◌≡◌, ◌<◌, ◌^◌, ◌*◌, ◌+◌, ◌++◌, [], ◌∷◌, ℕ, arith, sym, ap, ◌∙◌}
+use Rattle.fx_designs.specs.Galois.{number, digits}
 use Rattle.fx_designs.specs.Vectors.{IsVector}
 use Rattle.fx_laws.proofs.Codes.{digits-number, number-below}
 use Rattle.fx_vectors.proofs.Limits.{numbers_fit}
