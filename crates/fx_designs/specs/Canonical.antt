@@ -41,7 +41,7 @@ falls_at d rows k =
 -- under a resolution the factor rows begin with the unit vectors in order, and then fall
 abbrev pub is_falling : Dimensions → Requirement → List ℕ → Bool
 is_falling d (AtResolution r) rows = list_all (λ k. falls_at d rows k) (range_with_len 0 (min d.s (length rows)))
-is_falling d (ForEffects estimate besides) rows = true
+is_falling d (ForEffects estimate nonnegligible) rows = true
 
 -- whether a list of rows is a canonical prefix: at most s + t rows, each below q^m
 unfoldable pub is_canonical : Dimensions → Requirement → List ℕ → Bool

@@ -21,21 +21,21 @@ is_of effects u = not (is_zero u) && list_any (λ e. e == effect_of u) effects
 -- whether u, a vector of an effect to be estimated, has to be told from v: another vector of such an effect, the same effect
 -- included, one of an effect that is not negligible, or the zero vector, which stands for the mean
 abbrev pub is_told_from : List ℕ → List ℕ → List ℕ → List ℕ → Bool
-is_told_from estimate besides u v =
-    is_of estimate u && ((is_of estimate v || (is_of besides v || is_zero v)) && not (same u v))
+is_told_from estimate nonnegligible u v =
+    is_of estimate u && ((is_of estimate v || (is_of nonnegligible v || is_zero v)) && not (same u v))
 
 -- whether f, a vector over the factors, has to be balanced: it is of weight 1 to r-1, or a difference of vectors to be told apart
 unfoldable pub must_balance : Dimensions → Requirement → List ℕ → Bool
 must_balance d (AtResolution r) f = nat_lt 0 (weight f) && nat_lt (weight f) r
-must_balance d (ForEffects estimate besides) f =
+must_balance d (ForEffects estimate nonnegligible) f =
     list_any (λ u. list_any (λ v.
-    is_told_from estimate besides u v && same f (minus d.q u v))
+    is_told_from estimate nonnegligible u v && same f (minus d.q u v))
     (points d.q d.s)) (points d.q d.s)
 
 -- whether u is a vector of an effect to be estimated: under a resolution r, of one with at most (r-1)/2 factors, rounded down
 unfoldable pub is_estimated : Requirement → List ℕ → Bool
 is_estimated (AtResolution r) u = nat_lt 0 (weight u) && nat_le (weight u) ((r - 1) / 2)
-is_estimated (ForEffects estimate besides) u = is_of estimate u
+is_estimated (ForEffects estimate nonnegligible) u = is_of estimate u
 
 -- whether runs, each of s levels and t block values, meet the requirement
 abbrev pub do_runs_meet : Dimensions → Requirement → List (List ℕ) → Bool

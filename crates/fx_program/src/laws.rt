@@ -46,12 +46,12 @@ pub fn budget_ends_where_nodes_pass_it()
 /// comes. The number of levels is one of the seven, and the resolution at least 3, as they are for
 /// each step of a text.
 pub fn no_design_means_none_at_all()
-    ensures told { (number : ℕ) (step : Meaning) (p : Problem) → problem_of step ≡ Some p
+    ensures claimed { (number : ℕ) (step : Meaning) (p : Problem) → problem_of step ≡ Some p
         → IsTrue (is_order p.dimensions.q)
         → IsReducible p.requirement
         → (step_output number step).status ≡ 1
         → NoneMeets p.dimensions p.requirement }
-    ensures comes { (number : ℕ) (step : Meaning) (p : Problem) → problem_of step ≡ Some p
+    ensures certain { (number : ℕ) (step : Meaning) (p : Problem) → problem_of step ≡ Some p
         → IsTrue (is_order p.dimensions.q)
         → IsReducible p.requirement
         → length (nodes p) ≤ step.settings.budget
@@ -59,8 +59,8 @@ pub fn no_design_means_none_at_all()
         → (step_output number step).status ≡ 1 }
 {}
 
-/// Whatever a text says: where a step of its program is told to have no design, the runs of no rule
-/// matrix at all meet what it asks.
+/// Whatever a text says: where a step of its program ends without a design, the runs of no rule matrix at
+/// all meet what it asks.
 pub fn no_design_in_any_text()
     ensures { (text : List ℕ) → NoDesignMeansNone (program_in text) }
 {}
