@@ -1,36 +1,34 @@
 -- Under effects, without blocks: which rows are barred, and the closing word of a barred row.
-use Rattle.std.proofs.Common.{ℕ, ◌≡◌, ◌<◌, ◌≤◌, ◌+◌, ◌-◌, ◌*◌, ◌^◌, ◌⊎◌, zero, suc, Bool, true, false, cond, eqb, not, ◌||◌, List, [], ◌∷◌, ◌++◌, map, take, drop, length, get_or, slice_index, slice_index_or, Some, length-append, length-take, take-append-drop, drop-cons, refl, sym, subst, ◌∙◌, ap, arith, inl, inr}
-use Rattle.std.specs.Prelude.{unwrap_or, Option, Contains}
+use Rattle.std.proofs.Common.{ℕ, ◌≡◌, ◌<◌, ◌≤◌, ◌+◌, ◌-◌, ◌*◌, ◌^◌, ◌⊎◌, zero, suc, Bool, true, false, cond, eqb, ◌||◌, List, [], ◌∷◌, ◌++◌, map, take, drop, length, get_or, slice_index, slice_index_or, Some, length-append, length-take, take-append-drop, drop-cons, refl, sym, subst, ◌∙◌, ap, arith, inl, inr}
+use Rattle.std.specs.Prelude.{unwrap_or, Option}
 use Rattle.std.specs.List.{AllByRecursion}
-use Rattle.std.proofs.lemmas.Bool.{cases_eq, cases_lt, eq-eqb, ne_eqb, eqb-true, both_ways}
+use Rattle.std.proofs.lemmas.Bool.{cases_eq, cases_lt, eq-eqb, ne_eqb, eqb-true}
 use Rattle.std.proofs.lemmas.List.{take_more, take_all, length-map, map-append}
 use Rattle.fx_designs.specs.Galois.{number, digits, neg, IsField}
 use Rattle.fx_designs.specs.Vectors.{IsVector, weight, zeros, is_zero, plus, scale, combination, vectors_of, is_normal, last_nonzero}
 use Rattle.fx_designs.specs.Problems.{Dimensions, Requirement}
 use Rattle.fx_designs.specs.Demands.{is_forbidden_word, is_allowed, must_balance, is_estimated}
 use Rattle.fx_designs.specs.Closing.{closing_word}
-use Rattle.fx_laws.proofs.Codes.{number-zeros, digits-vector, number-digits, digits-number, number-below}
+use Rattle.fx_laws.proofs.Codes.{number-zeros, digits-vector, number-digits, number-below}
 use Rattle.fx_laws.proofs.Forms.{scale-one}
 use Rattle.fx_laws.proofs.Ranks.{zeros-plus, plus-zero, combination-append, number-same}
-use Rattle.fx_laws.proofs.Order.{each-append}
-use Rattle.fx_laws.proofs.Space.{AreVectors, zeros-vector, plus-vector, scale-vector, combination-vector}
+use Rattle.fx_laws.proofs.Space.{zeros-vector, plus-vector, scale-vector, combination-vector}
 use Rattle.fx_vectors.proofs.Steps.{are_vectors, drop-vector}
 use Rattle.fx_vectors.proofs.Supports.{bit}
 use Rattle.fx_vectors.specs.Question.{CanBeAsked}
 use Rattle.fx_demands.specs.declared.forbidden_list.ForbiddenVector.{ForbiddenVector}
 use Rattle.fx_demands.specs.EffectVectors.{last_factor, class_of, IsForbidden, AreAllForbidden}
-use Rattle.fx_demands.specs.Completions.{IsClosing, IsGreatestOf, AreHeavy}
-use Rattle.fx_demands.proofs.Completing.{weight-cons, weight-split, weight-zeros, weightless, weight-length, mark-some}
-use Rattle.fx_demands.proofs.Closings.{length-zeros, last-top}
+use Rattle.fx_demands.specs.Completions.{IsClosing}
+use Rattle.fx_demands.proofs.Completing.{weight-zeros, weightless, weight-length}
+use Rattle.fx_demands.proofs.Closings.{last-top}
 use Rattle.fx_demands.proofs.Choice.{word_is, not_allowed, allowed}
 use Rattle.fx_demands.proofs.Lasts.{last-at}
 use Rattle.fx_points.specs.Sums.{sum_of}
 use Rattle.fx_points.proofs.Additions.{digits-zero, sum-digits, minus_of, there_and_back, back_and_there}
 use Rattle.fx_points.proofs.Halves.{power-some}
-use Rattle.fx_barred.specs.Reach.{with_row}
 use Rattle.fx_barred.specs.FirstWords.{sum_to, vector_at, HasSum, HasNone, IsFirst}
 use Rattle.fx_barred.proofs.Firsts.{vector-at}
-use Rattle.fx_barred.proofs.Longer.{not_before, vectors-longer, length-vectors}
+use Rattle.fx_barred.proofs.Longer.{not_before}
 use Rattle.fx_barred.proofs.Tables.{at-any}
 
 code-zero : (a : ℕ) → bit a ≡ 0 → a ≡ 0

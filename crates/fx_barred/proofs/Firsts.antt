@@ -1,9 +1,8 @@
 -- The tables of the first vectors, as rows come and go.
-use Rattle.std.proofs.Common.{ℕ, ◌≡◌, ◌≢◌, ◌<◌, ◌≤◌, ◌+◌, ◌-◌, ◌*◌, ◌^◌, zero, suc, Bool, true, false, cond, eqb, List, [], ◌∷◌, ◌++◌, map, take, length, length-append, length-take, mul-le-mul_right, slice_index, slice_index_or, refl, sym, subst, ap, ◌∙◌, arith, inl, inr, if◌then◌else◌}
-use Rattle.std.specs.Prelude.{All}
-use Rattle.std.proofs.lemmas.Bool.{cases_eq, cases_lt, eq-eqb, ne_eqb, eqb-true}
-use Rattle.fx_designs.specs.Galois.{number, digits, IsField, neg}
-use Rattle.fx_designs.specs.Vectors.{IsVector, plus, scale, weight, zeros}
+use Rattle.std.proofs.Common.{ℕ, ◌≡◌, ◌≢◌, ◌<◌, ◌≤◌, ◌+◌, ◌-◌, ◌*◌, ◌^◌, zero, suc, Bool, cond, eqb, List, [], ◌∷◌, ◌++◌, take, length, length-append, length-take, mul-le-mul_right, slice_index, slice_index_or, refl, sym, subst, ap, ◌∙◌, arith, inl, inr}
+use Rattle.std.proofs.lemmas.Bool.{cases_eq, cases_lt, eq-eqb, ne_eqb}
+use Rattle.fx_designs.specs.Galois.{number, digits, IsField}
+use Rattle.fx_designs.specs.Vectors.{plus, scale}
 use Rattle.fx_laws.proofs.Codes.{digits-vector, number-digits}
 use Rattle.fx_laws.proofs.Changes.{scale-none}
 use Rattle.fx_laws.proofs.Ranks.{plus-zero}
@@ -11,7 +10,7 @@ use Rattle.fx_demands.specs.declared.forbidden_list.ForbiddenVector.{ForbiddenVe
 use Rattle.fx_demands.specs.EffectVectors.{last_factor, class_of}
 use Rattle.fx_demands.proofs.Completing.{weight-length}
 use Rattle.fx_barred.specs.Reach.{with_row}
-use Rattle.fx_barred.specs.FirstWords.{sum_to, vector_at, HasSum, HasNone, IsFirst, AreFirst, AreWords, AreFirstWords}
+use Rattle.fx_barred.specs.FirstWords.{sum_to, vector_at, HasSum, IsFirst, AreFirst, AreWords, AreFirstWords}
 use Rattle.fx_barred.specs.Reached.{ReachedView}
 use Rattle.fx_barred.proofs.Tables.{all-but-last}
 use Rattle.fx_barred.proofs.Bars.{row-before}

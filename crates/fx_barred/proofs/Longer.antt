@@ -1,27 +1,17 @@
 -- One row more than the rows of an allowed prefix: no closing word is one of the rows before.
-use Rattle.std.proofs.Common.{ℕ, ◌≡◌, ◌<◌, ◌≤◌, ◌+◌, ◌-◌, ◌*◌, ◌^◌, ◌⊎◌, zero, suc, Bool, true, false, not, eqb, ltb, ◌&&◌, ◌||◌, List, [], ◌∷◌, ◌++◌, take, drop, length, get_or, set, slice_index, Some, length-append, refl, sym, subst, ◌∙◌, ap, arith, inl, inr, take-append-drop, length-take}
-use Rattle.std.specs.Prelude.{nat_lt, unwrap_or, Option}
-use Rattle.std.specs.List.{list_any, range_with_len, AllByRecursion}
-use Rattle.std.proofs.lemmas.Bool.{cases_eq, cases_lt, eq-eqb, ne_eqb, eqb-true, ltb-true, lt-ltb, both_ways, and_parts, and_from, false_from_ne_true}
-use Rattle.fx_designs.specs.Galois.{number, digits, codes_of, IsField}
-use Rattle.fx_designs.specs.Vectors.{IsVector, weight, zeros, is_zero, plus, scale, combination, vectors_of, is_normal}
-use Rattle.fx_designs.specs.Problems.{Dimensions, Requirement, AtResolution, ForEffects, Problem}
-use Rattle.fx_designs.specs.Demands.{is_forbidden_word, is_allowed, must_balance}
-use Rattle.fx_designs.specs.Closing.{closing_word}
-use Rattle.fx_designs.specs.Nodes.{word_of}
-use Rattle.fx_laws.proofs.Codes.{number-zeros, digits-vector}
-use Rattle.fx_laws.proofs.Changes.{scale-none}
-use Rattle.fx_laws.proofs.Ranks.{zeros-plus}
-use Rattle.fx_laws.proofs.Order.{each-append}
-use Rattle.fx_laws.proofs.Space.{AreVectors, zeros-vector}
+use Rattle.std.proofs.Common.{ℕ, ◌≡◌, ◌<◌, ◌+◌, ◌-◌, ◌^◌, zero, suc, true, List, [], ◌∷◌, ◌++◌, take, drop, length, refl, sym, ◌∙◌, ap, arith, take-append-drop, length-take}
+use Rattle.std.specs.List.{AllByRecursion}
+use Rattle.std.proofs.lemmas.Bool.{both_ways}
+use Rattle.fx_designs.specs.Galois.{digits, IsField}
+use Rattle.fx_designs.specs.Vectors.{IsVector, zeros, plus, scale, combination, vectors_of}
+use Rattle.fx_designs.specs.Problems.{Dimensions, Requirement}
+use Rattle.fx_designs.specs.Demands.{is_allowed}
+use Rattle.fx_laws.proofs.Codes.{digits-vector}
+use Rattle.fx_laws.proofs.Space.{AreVectors}
 use Rattle.fx_vectors.proofs.Steps.{are_vectors}
-use Rattle.fx_vectors.specs.Question.{CanBeAsked}
-use Rattle.fx_demands.specs.Completions.{IsPartial, IsCompletion, IsGreatestHit, IsNoHit, IsClosing, IsGreatestOf, IsNoneOf, AreShort, AreHeavy}
-use Rattle.fx_demands.proofs.Completing.{weight-cons, weight-split, weight-zeros, weight-append, no-combination}
-use Rattle.fx_demands.proofs.Closings.{drop-zeros, length-zeros, first-begins, partial_first, short_first, short_less, greatest_closing, heavy_first}
-use Rattle.fx_demands.proofs.Choice.{word_is, not_allowed, allowed}
-use Rattle.fx_barred.specs.Reach.{with_row, reaches, greatest_code, code_at, greatest_word}
-use Rattle.fx_barred.proofs.Reach.{none_reached, greatest_reached, number-set, vector-set}
+use Rattle.fx_demands.specs.Completions.{IsClosing}
+use Rattle.fx_demands.proofs.Completing.{no-combination}
+use Rattle.fx_demands.proofs.Choice.{not_allowed}
 
 module _ (d : Dimensions) (f : IsField d.q) (wanted : Requirement) (rows : List ℕ) (below : AllByRecursion (λ x. x < d.q ^ d.m) rows) (part : length rows < d.s) (allowed-so-far : is_allowed d wanted rows ≡ true) (x : ℕ) (x-below : x < d.q ^ d.m) where
   abbrev q : ℕ

@@ -1,10 +1,8 @@
 -- For each sum that a point can bring to zero, the first of the forbidden vectors that have it over the rows so far.
 use Rattle.std.specs.Prelude.{ℕ, zero, suc, ◌≡◌, ◌<◌, ◌≤◌, ◌+◌, ◌*◌, ◌^◌, List, [], map, length, slice_index, slice_index_or, All}
-use Rattle.fx_designs.specs.Galois.{neg}
 use Rattle.fx_designs.specs.Vectors.{IsVector}
 use Rattle.fx_demands.specs.declared.forbidden_list.ForbiddenVector.{ForbiddenVector}
 use Rattle.fx_demands.specs.EffectVectors.{last_factor, class_of, IsInOrder}
-use Rattle.fx_points.specs.Sums.{sum_of}
 use Rattle.fx_barred.specs.Reach.{with_row}
 use Rattle.fx_barred.specs.Reached.{ReachedView}
 

@@ -1,15 +1,15 @@
 -- Children, refuting words, alias sets and listed components, computed on small designs whose answers are known.
-use Rattle.std.proofs.Common.{ℕ, ◌≡◌, Bool, true, false, [], ◌∷◌, length, map, refl}
+use Rattle.std.proofs.Common.{ℕ, ◌≡◌, true, false, [], ◌∷◌, map, refl}
 use Rattle.fx_designs.specs.Galois.{prime_of, degree_of, reduction_of, add, mul, neg, inv, number}
 use Rattle.fx_designs.specs.Vectors.{vectors_of}
-use Rattle.fx_designs.specs.Runs.{runs_of, is_constant, is_constant_in_blocks}
+use Rattle.fx_designs.specs.Runs.{runs_of, is_constant}
 use Rattle.fx_designs.specs.Spans.{in_span}
 use Rattle.fx_designs.specs.Problems.{Dimensions, AtResolution, ForEffects}
 use Rattle.fx_designs.specs.Demands.{must_balance, is_estimated}
 use Rattle.fx_designs.specs.Canonical.{is_canonical}
 use Rattle.fx_designs.specs.Children.{next_rows, children}
 use Rattle.fx_designs.specs.Closing.{is_zero_sum, refutes}
-use Rattle.fx_designs.specs.Components.{supports, components, listed_count}
+use Rattle.fx_designs.specs.Components.{components, listed_count}
 use Rattle.fx_designs.specs.Aliases.{is_aliased}
 
 abbrev size : ℕ → ℕ → ℕ → ℕ → Dimensions

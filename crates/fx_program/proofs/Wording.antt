@@ -1,12 +1,9 @@
 -- What words ask for, by the first of them and by their number.
-use Rattle.std.proofs.Common.{ℕ, ◌≡◌, ◌≢◌, ◌<◌, Bool, true, false, List, [], ◌∷◌, map, length, get_or, Result, Ok, Err, refl, sym, ap, inl, inr, arith}
-use Rattle.std.specs.Prelude.{codes, if◌then◌else◌}
-use Rattle.std.specs.Fmt.{digits}
+use Rattle.std.proofs.Common.{ℕ, ◌≡◌, ◌<◌, true, false, List, [], ◌∷◌, map, length, get_or, Ok, refl, arith}
+use Rattle.std.specs.Prelude.{codes}
 use Rattle.std.specs.Str.{bytes_eq}
-use Rattle.fx_program.specs.Words.{IsWordFault, run_with, settings_of, word_fault, word_line}
-use Rattle.fx_program.specs.declared.words.Settings.{Settings}
+use Rattle.fx_program.specs.Words.{settings_of, word_fault}
 use Rattle.fx_program.specs.declared.words.Settings.TheVariants.{Run}
-use Rattle.fx_program.specs.declared.words.WordFault.{WordFault}
 
 module _ {X : Type 0} (f : X → List ℕ) where
   pub no_word : (xs : List X) → length xs ≡ 0 → settings_of (map f xs) ≡ word_fault 1 1
@@ -30,36 +27,3 @@ module _ {X : Type 0} (f : X → List ℕ) where
   one_word [] d h e = absurd (omega (arith, h))
   one_word (x ∷ []) d h e = rw e refl
   one_word (x ∷ y ∷ xs) d h e = absurd (omega (arith, h))
-
--- the fault of words is one of the three
-same_fault : (x y : WordFault) → ◌≡◌ {A = Result Settings WordFault} (Err x) (Err y) → y ≡ x
-same_fault x y e = cc
-
-pub fault_of_words : (words : List (List ℕ)) (fault : WordFault) → settings_of words ≡ Err fault → IsWordFault fault
-unfolding settings_of
-fault_of_words [] fault e = inl (same_fault _ fault e)
-fault_of_words (word ∷ options) fault e = go (bytes_eq word (codes "run")) options e
-  where
-    go : (b : Bool) (options : List (List ℕ)) → (if b then run_with options else word_fault 2 1) ≡ Err fault → IsWordFault fault
-    go false options e = inr (inl (same_fault _ fault e))
-    go true [] e = absurd (cc e)
-    go true (option ∷ options) e = inr (inr (same_fault _ fault e))
-
--- and each has its line
-pub first_line : (fault : WordFault) → IsWordFault fault → fault.code ≡ 1 → codes "factex: C1 word 1\n" ≡ word_line fault
-unfolding digits
-first_line fault (inl e) is = sym (ap word_line e)
-first_line fault (inr (inl e)) is = absurd (omega (arith, is, ap (λ (f : WordFault). f.code) e))
-first_line fault (inr (inr e)) is = absurd (omega (arith, is, ap (λ (f : WordFault). f.code) e))
-
-pub second_line : (fault : WordFault) → IsWordFault fault → fault.code ≡ 2 → codes "factex: C2 word 1\n" ≡ word_line fault
-unfolding digits
-second_line fault (inl e) is = absurd (omega (arith, is, ap (λ (f : WordFault). f.code) e))
-second_line fault (inr (inl e)) is = sym (ap word_line e)
-second_line fault (inr (inr e)) is = absurd (omega (arith, is, ap (λ (f : WordFault). f.code) e))
-
-pub third_line : (fault : WordFault) → IsWordFault fault → fault.code ≢ 1 → fault.code ≢ 2 → codes "factex: C3 word 2\n" ≡ word_line fault
-unfolding digits
-third_line fault (inl e) one two = absurd (one (ap (λ (f : WordFault). f.code) e))
-third_line fault (inr (inl e)) one two = absurd (two (ap (λ (f : WordFault). f.code) e))
-third_line fault (inr (inr e)) one two = sym (ap word_line e)

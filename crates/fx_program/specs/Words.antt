@@ -1,5 +1,5 @@
 -- What the words of the command line ask for.
-use Rattle.std.specs.Prelude.{ℕ, ◌≡◌, ◌⊎◌, List, [], ◌∷◌, ◌++◌, if◌then◌else◌, Result, Ok, Err, Vec, map, codes, decimal}
+use Rattle.std.specs.Prelude.{ℕ, List, [], ◌∷◌, ◌++◌, if◌then◌else◌, Result, Ok, Err, Vec, map, codes, decimal}
 use Rattle.std.specs.Str.{bytes_eq}
 use Rattle.fx_program.specs.declared.words.Settings.{Settings}
 use Rattle.fx_program.specs.declared.words.Settings.TheVariants.{Run}
@@ -26,8 +26,3 @@ settings_of (word ∷ options) = if bytes_eq word (codes "run") then run_with op
 -- the line that tells the fault: its code, and at which word
 abbrev pub word_line : WordFault → List ℕ
 word_line fault = codes "factex: C" ++ decimal fault.code ++ codes " word " ++ decimal fault.word ++ codes "\n"
-
--- the three faults that words have
-abbrev pub IsWordFault : WordFault → Type 0
-IsWordFault fault =
-    (fault ≡ record { code = 1; word = 1 }) ⊎ ((fault ≡ record { code = 2; word = 1 }) ⊎ (fault ≡ record { code = 3; word = 2 }))

@@ -28,7 +28,7 @@ use std::alloc::Global;
 const TEXT_LIMIT: usize = 1048576;
 
 /// Does all that the program does, for the words of the command line without the program's name,
-/// and answers its exit status.
+/// and returns its exit status.
 ///
 /// The shelf must not have a file that is begun and not ended.
 ///
@@ -81,7 +81,7 @@ pub fn factex<S: Source, K: Sink, F: Shelf>(
 {
     match read_words(words) {
         Ok(Settings::Run { .. }) => exit_status(run(alloc, source, listing)),
-        Err(fault) => exit_status(list(listing, word_line(fault), REFUSED)),
+        Err(fault) => exit_status(list(listing, word_line(fault).as_slice(), REFUSED)),
     }
 }
 

@@ -1,6 +1,12 @@
-ghost use Rattle.std.specs.Prelude.{◌≡◌, codes};
+ghost use Rattle.std.specs.Prelude.{◌≡◌, ◌≤◌, ◌+◌, ◌++◌, codes, length};
 ghost use Rattle.std.specs.Str.{bytes_eq};
-ghost use Rattle.fx_program.specs.Words.{IsWordFault, bytes_of, settings_of, word_line};
+ghost use Rattle.fx_program.specs.Words.{bytes_of, settings_of, word_line};
+
+use arrayvec::ArrayVec;
+use itoa::Buffer;
+
+/// The room of a line that reports a fault: its two numbers have at most 40 digits each.
+const LINE: usize = 128;
 
 /// What the words of the command line ask for.
 #[derive(Debug, Clone, Copy, PartialEq, Eq)]
@@ -49,15 +55,27 @@ fn is_run(word: &[u8]) -> bool
     word == b"run".as_slice()
 }
 
-/// The line that tells a fault. Takes no memory, so that refused words are told where there is
-/// none.
-pub(crate) fn word_line(fault: WordFault) -> &'static [u8]
-    requires { IsWordFault fault }
-    ensures { result.now ≡ word_line fault }
+/// The line that reports a fault. It takes no memory, so that refused words are reported even where
+/// there is none.
+pub(crate) fn word_line(fault: WordFault) -> ArrayVec<u8, LINE>
+    ensures { result.items ≡ word_line fault }
 {
-    match fault.code {
-        1 => b"factex: C1 word 1\n",
-        2 => b"factex: C2 word 1\n",
-        _ => b"factex: C3 word 2\n",
+    let mut code = Buffer::new();
+    let mut word = Buffer::new();
+    let mut line = ArrayVec::new();
+    append(&mut line, b"factex: C");
+    append(&mut line, code.format(fault.code).as_bytes());
+    append(&mut line, b" word ");
+    append(&mut line, word.format(fault.word).as_bytes());
+    append(&mut line, b"\n");
+    line
+}
+
+fn append(line: &mut ArrayVec<u8, LINE>, bytes: &[u8])
+    requires { length line.old.items + length bytes.now ≤ 128 }
+    ensures { line.new.items ≡ line.old.items ++ bytes.now }
+{
+    for byte in bytes {
+        line.push(*byte);
     }
 }

@@ -1,8 +1,8 @@
 -- Of the q - 1 multiples of a word one is normal.
-use Rattle.std.proofs.Common.{ℕ, ◌≡◌, ◌<◌, ◌≤◌, ◌+◌, ◌-◌, ◌*◌, ◌/◌, zero, suc, ◌&&◌, Bool, true, false, eqb, cond, List, [], ◌∷◌, map, length, take, refl, sym, ◌∙◌, ap, ap₂, arith, inl, inr}
+use Rattle.std.proofs.Common.{ℕ, ◌≡◌, ◌<◌, ◌≤◌, ◌+◌, ◌-◌, ◌*◌, ◌/◌, zero, suc, ◌&&◌, Bool, true, false, eqb, cond, List, [], ◌∷◌, map, length, take, refl, sym, ◌∙◌, ap, ap₂, arith}
 use Rattle.std.specs.Prelude.{replicate}
 use Rattle.std.specs.List.{AllByRecursion, range_with_len, sum_by}
-use Rattle.std.proofs.lemmas.Bool.{eq-eqb, and_parts, eqb-true, cases_eq}
+use Rattle.std.proofs.lemmas.Bool.{eq-eqb, and_parts, eqb-true}
 use Rattle.std.proofs.lemmas.List.{length-replicate}
 use Rattle.std.proofs.lemmas.List.Sums.{sum_by-cons}
 use Rattle.std.proofs.lemmas.Nat.{div-mul-add}
@@ -25,7 +25,7 @@ use Rattle.fx_laws.proofs.Ranks.{number-same}
 use Rattle.fx_laws.proofs.Scalings.{points-times}
 use Rattle.fx_laws.proofs.Separation.{inv-mul, one-mul}
 use Rattle.fx_laws.proofs.Shift.{all-points}
-use Rattle.fx_laws.proofs.Space.{AreVectors, combination-vector, ext, scale-vector, zeros-vector}
+use Rattle.fx_laws.proofs.Space.{AreVectors, combination-vector, ext, zeros-vector}
 use Rattle.fx_laws.proofs.Sums.{sum_by-ext, sum_by-pick, sum_by-same, sum_by-swap, sum_by-zero}
 use Rattle.fx_laws.proofs.Tests.{bool_same}
 use Rattle.fx_reduction.proofs.ConstantTests.{constant-words}

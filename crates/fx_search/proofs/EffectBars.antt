@@ -1,8 +1,7 @@
 -- Effects without blocks: which rows are barred, by what is found in the tables.
-use Rattle.std.proofs.Common.{ℕ, ◌≡◌, ◌<◌, ◌≤◌, ◌+◌, ◌-◌, ◌^◌, Bool, true, false, not, List, [], ◌∷◌, ◌++◌, length, take, slice_index, slice_index_or, refl, sym, subst, ap, ◌∙◌, arith}
-use Rattle.std.specs.Prelude.{unwrap_or}
+use Rattle.std.proofs.Common.{ℕ, ◌≡◌, ◌<◌, ◌+◌, ◌-◌, ◌^◌, true, false, List, [], ◌∷◌, ◌++◌, length, take, slice_index, slice_index_or, sym, subst, ap, ◌∙◌, arith}
 use Rattle.std.specs.List.{AllByRecursion}
-use Rattle.fx_designs.specs.Galois.{number, neg, IsField}
+use Rattle.fx_designs.specs.Galois.{neg, IsField}
 use Rattle.fx_designs.specs.Problems.{Dimensions, Requirement}
 use Rattle.fx_designs.specs.Demands.{is_allowed}
 use Rattle.fx_designs.specs.Nodes.{word_of}

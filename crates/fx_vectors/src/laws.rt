@@ -2,7 +2,7 @@ ghost use Rattle.std.specs.Prelude.{◌≡◌, ◌<◌, ◌^◌, ℕ, List, IsTr
 ghost use Rattle.fx_designs.specs.Galois.{is_order, digits, number};
 ghost use Rattle.fx_designs.specs.Vectors.{IsVector, is_normal, scale};
 
-/// A vector is told by its number: it is the digits of it.
+/// A vector is determined by its number: it is the digits of it.
 pub fn vector_of_its_number()
     ensures { (q n : ℕ) (v : List ℕ) → IsVector q n v → digits q n (number q v) ≡ v }
 {}

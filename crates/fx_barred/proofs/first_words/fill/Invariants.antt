@@ -1,4 +1,4 @@
-use Rattle.std.proofs.Common.{◌≡◌, ◌<◌, ◌*◌, ◌^◌, ℕ, length, slice_index}
+use Rattle.std.proofs.Common.{◌≡◌, ◌<◌, ℕ, length, slice_index}
 use Rattle.fx_barred.specs.FirstWords.{AreFirst}
 use Rattle.fx_barred.proofs.first_words.fill.Given as goal
 

@@ -1,6 +1,6 @@
-use Rattle.std.proofs.Common.{ℕ, ◌≡◌, ◌<◌, ◌≤◌, ◌*◌, ltb, List, length, slice_index_or, arith, rules, inl, inr}
+use Rattle.std.proofs.Common.{◌*◌, ltb, List, slice_index_or, arith, rules, inl, inr}
 use Rattle.std.specs.List.Sorted.{IsNonDecreasingBy}
-use Rattle.std.proofs.lemmas.Bool.{ltb-true, ltb-false, cases_lt, lt-ltb, both_ways}
+use Rattle.std.proofs.lemmas.Bool.{ltb-true, cases_lt, lt-ltb, both_ways}
 use Rattle.std.proofs.lemmas.List.Sorted.{IsPartitionPoint-from_clause, IsPartitionedBy-ltb}
 use Rattle.fx_demands.specs.declared.forbidden_list.ForbiddenVector.{ForbiddenVector}
 use Rattle.fx_demands.specs.EffectVectors.{IsInOrder}

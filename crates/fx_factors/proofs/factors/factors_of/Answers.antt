@@ -1,7 +1,5 @@
-use Rattle.std.proofs.Common.{◌≡◌, [], drop, Ok, sym, ap, subst, ◌∙◌}
-use Rattle.std.specs.List.{IsDistinct}
+use Rattle.std.proofs.Common.{◌≡◌, [], drop, Ok, ap, ◌∙◌}
 use Rattle.std.proofs.lemmas.List.{drop_all}
-use Rattle.fx_text.specs.Names.{is_same_name}
 use Rattle.fx_factors.specs.Items.{items_from}
 use Rattle.fx_factors.specs.Factors.{all_added, factors_of}
 use Rattle.fx_factors.proofs.Distinct.{factors_differ}

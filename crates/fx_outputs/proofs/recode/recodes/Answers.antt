@@ -1,5 +1,5 @@
 use Rattle.std.proofs.Common.{◌+◌, ◌-◌, drop, ap, sym, subst, arith, ◌∙◌}
-use Rattle.std.proofs.lemmas.List.{take_rest, length-drop}
+use Rattle.std.proofs.lemmas.List.{length-drop}
 use Rattle.std.proofs.lemmas.Result.{err_from_is_err_and}
 use Rattle.fx_text.specs.Refusals.{IsRefused}
 use Rattle.fx_outputs.specs.Recodes.{recodes_of, recodes_behind}

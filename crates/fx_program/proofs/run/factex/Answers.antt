@@ -5,7 +5,6 @@ use Rattle.fx_program.specs.declared.words.Settings.TheVariants.{Run}
 use Rattle.fx_program.specs.Texts.{program_in}
 use Rattle.fx_program.specs.Output.{message, output_for, program_output, reads}
 use Rattle.fx_program.proofs.Endings.{ends_for, ends_by}
-use Rattle.fx_program.proofs.Wording.{fault_of_words}
 use Rattle.fx_program.proofs.run.factex.Goals as goal
 
 -- `run` is the only command so far
@@ -29,8 +28,5 @@ returns-in-Err-clause-output g c =
     (record {
       text = [];
       exposed = λ read. absurd (false≢true (ap reads c.in-Err.ensures ∙ read));
-      gives = ends_for _ [] (Err c.in-Err.fault) _ c.in-Err.ensures (ends_by _ _ _ (ap (λ l. message l 3) (sym c.word_line.ensures)) (c.list.ensures.output.whatever _));
+      gives = ends_for _ [] (Err c.in-Err.fault) _ c.in-Err.ensures (ends_by _ _ _ (ap (λ l. message l 3) (sym (c.as_slice.ensures ∙ c.word_line.ensures))) (c.list.ensures.output.whatever _));
     })
-
-pub word_line-requires : goal.word_line-requires
-word_line-requires g c = fault_of_words (map (λ w. w.items) c.args.words.now) c.in-Err.fault (sym c.in-Err.ensures)

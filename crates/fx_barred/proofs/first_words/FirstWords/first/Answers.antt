@@ -1,8 +1,8 @@
-use Rattle.std.proofs.Common.{ℕ, ◌≡◌, ◌<◌, ◌≤◌, ◌+◌, ◌-◌, ◌*◌, ◌^◌, ◌∙◌, suc, List, length, slice_index, slice_index_or, mul-le-mul_right, sym, subst, ap, arith}
+use Rattle.std.proofs.Common.{ℕ, ◌≡◌, ◌<◌, ◌≤◌, ◌+◌, ◌-◌, ◌*◌, ◌^◌, ◌∙◌, suc, length, slice_index, slice_index_or, mul-le-mul_right, sym, subst, ap, arith}
 use Rattle.fx_designs.specs.Galois.{neg}
 use Rattle.fx_points.specs.Sums.{sum_of}
-use Rattle.fx_barred.specs.FirstWords.{FirstWordsView, AreFirst, IsFirst}
-use Rattle.fx_barred.proofs.Tables.{at-any, place-below}
+use Rattle.fx_barred.specs.FirstWords.{FirstWordsView, IsFirst}
+use Rattle.fx_barred.proofs.Tables.{at-any}
 use Rattle.fx_barred.proofs.first_words.FirstWords.first.Goals as goal
 
 pub returns-else-found-eq0-clause-some : goal.returns-else-found-eq0-clause-some

@@ -1,8 +1,7 @@
-use Rattle.std.proofs.Common.{ℕ, ◌≡◌, ◌<◌, ◌≤◌, ◌+◌, ◌-◌, ◌*◌, ◌^◌, ◌++◌, ◌∷◌, [], List, length, take, slice_index, length-take, sym, subst, ap, arith}
+use Rattle.std.proofs.Common.{◌<◌, length, sym, subst}
 use Rattle.fx_barred.specs.Reached.{ReachedView}
 use Rattle.fx_barred.specs.FirstWords.{AreFirstWords, FirstWordsView}
 use Rattle.fx_barred.proofs.Firsts.{words_pop}
-use Rattle.fx_barred.proofs.Tables.{all-but-last}
 use Rattle.fx_barred.proofs.first_words.FirstWords.pop.Goals as goal
 
 pub invariant_of-self : goal.invariant_of-self

@@ -1,7 +1,7 @@
-use Rattle.std.proofs.Common.{ℕ, ◌≡◌, ◌<◌, ◌≤◌, ◌+◌, ◌-◌, ◌*◌, ◌^◌, ◌++◌, ◌∷◌, [], ◌∙◌, List, length, length-append, take, drop, slice_index, refl, sym, subst, ap, arith}
+use Rattle.std.proofs.Common.{ℕ, ◌≡◌, ◌<◌, ◌≤◌, ◌+◌, ◌*◌, ◌^◌, ◌++◌, ◌∷◌, [], ◌∙◌, List, length, length-append, slice_index, refl, sym, subst, ap, arith}
 use Rattle.fx_demands.specs.declared.forbidden_list.ForbiddenVector.{ForbiddenVector}
 use Rattle.fx_barred.specs.Reached.{ReachedView}
-use Rattle.fx_barred.specs.FirstWords.{AreFirstWords, FirstWordsView, AreFirst}
+use Rattle.fx_barred.specs.FirstWords.{AreFirstWords, AreFirst}
 use Rattle.fx_barred.proofs.Firsts.{words_push}
 use Rattle.fx_barred.proofs.Tables.{written}
 use Rattle.fx_barred.proofs.first_words.FirstWords.push.Goals as goal

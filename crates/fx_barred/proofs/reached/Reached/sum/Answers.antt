@@ -1,4 +1,4 @@
-use Rattle.std.proofs.Common.{◌≡◌, ◌<◌, ◌^◌, ℕ, refl, subst, arith}
+use Rattle.std.proofs.Common.{◌<◌, ◌^◌, refl, subst, arith}
 use Rattle.fx_laws.proofs.Tables.{is_order-field}
 use Rattle.fx_points.proofs.Halves.{power-some}
 use Rattle.fx_barred.specs.Reached.{ReachedView}

@@ -1,4 +1,4 @@
-use Rattle.std.proofs.Common.{◌≡◌, ◌<◌, ◌≤◌, ◌+◌, ◌-◌, ◌*◌, ◌^◌, ◌∙◌, ℕ, [], List, length, slice_index, slice_index_or, sym, subst, ap, arith}
+use Rattle.std.proofs.Common.{◌≡◌, ◌<◌, ◌+◌, ◌*◌, ◌^◌, ◌∙◌, ℕ, length, slice_index, slice_index_or, sym, subst, ap, arith}
 use Rattle.fx_points.specs.Sums.{sum_of}
 use Rattle.fx_points.proofs.Additions.{sum_multiple}
 use Rattle.fx_laws.proofs.Tables.{is_order-field}

@@ -1,9 +1,8 @@
-use Rattle.std.proofs.Common.{◌≡◌, ◌++◌, ◌∷◌, [], Bool, true, false, not, List, ℕ, refl, ap, sym, subst, ◌∙◌}
+use Rattle.std.proofs.Common.{◌≡◌, ◌++◌, ◌∷◌, [], not, List, ℕ, ap, sym, ◌∙◌}
 use Rattle.std.specs.Prelude.{is_some}
 use Rattle.std.specs.List.{list_any}
 use Rattle.std.specs.Str.{bytes_eq, str_to_ascii_lowercase}
 use Rattle.fx_text.specs.Names.{place_of}
-use Rattle.fx_outputs.specs.Earlier.{AreFolded}
 use Rattle.fx_outputs.proofs.Folded.{folded-more, same_form}
 use Rattle.fx_outputs.proofs.earlier.EarlierNames.add.Goals as goal
 use Rattle.fx_outputs.proofs.earlier.EarlierNames.add.Goals.{After-contains}

@@ -1,10 +1,9 @@
-use Rattle.std.proofs.Common.{ℕ, ◌≡◌, ◌∙◌, List, refl, sym, subst, ap}
+use Rattle.std.proofs.Common.{ℕ, ◌∙◌, List, refl, sym, subst, ap}
 use Rattle.fx_designs.specs.Problems.{Dimensions, Requirement, ForEffects}
 use Rattle.fx_vectors.specs.Effects.{numbers_of}
 use Rattle.fx_vectors.specs.Shape.{dimensions_of}
 use Rattle.fx_vectors.specs.Question.{requirement_of}
 use Rattle.fx_vectors.specs.declared.question.Question.{Question}
-use Rattle.fx_vectors.specs.declared.question.Demands.{Demands}
 use Rattle.fx_demands.specs.declared.forbidden_list.ForbiddenVector.{ForbiddenVector}
 use Rattle.fx_demands.specs.EffectVectors.{AreAllForbidden}
 use Rattle.fx_barred.specs.FirstWords.{FirstWordsView, AreWords}

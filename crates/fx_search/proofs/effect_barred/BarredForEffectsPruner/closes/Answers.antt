@@ -1,9 +1,6 @@
-use Rattle.std.proofs.Common.{ℕ, ◌≡◌, ◌<◌, ◌∙◌, ◌++◌, ◌∷◌, [], Bool, true, false, not, Option, Some, None, length, refl, sym, subst, ap}
+use Rattle.std.proofs.Common.{ℕ, ◌≡◌, ◌<◌, ◌∙◌, Bool, true, false, not, Option, Some, None, length, sym, subst, ap}
 use Rattle.std.specs.Prelude.{IfSome}
 use Rattle.std.specs.Option.{IfNone, is_some}
-use Rattle.fx_designs.specs.Galois.{neg}
-use Rattle.fx_points.specs.Sums.{sum_of}
-use Rattle.fx_barred.specs.FirstWords.{IsFirst, HasNone}
 use Rattle.fx_search.specs.Barred.{BarredView}
 use Rattle.fx_search.specs.Pruning.{allows, size_of, count_of_rows}
 use Rattle.fx_search.proofs.EffectBars.{open_is, closed_is}
