@@ -1,14 +1,11 @@
 -- The ending of a problem, by what the search for its design found.
-use Rattle.std.proofs.Common.{ℕ, ◌≡◌, ◌<◌, ◌≤◌, ◌+◌, false, length, List, Some, refl, sym, ap, ◌∙◌, subst, lt-ltb, le-ltb, arith}
+use Rattle.std.proofs.Common.{ℕ, ◌≡◌, ◌<◌, ◌≤◌, ◌+◌, false, length, List, Some, sym, ap, ◌∙◌, subst, lt-ltb, le-ltb}
 use Rattle.std.specs.Prelude.{if◌then◌else◌}
 use Rattle.fx_designs.specs.Answers.{answer}
 use Rattle.fx_designs.specs.Nodes.{nodes}
 use Rattle.fx_designs.specs.Problems.{Problem}
-use Rattle.fx_designs.specs.Outcomes.{Ending, Design, NoDesign, BudgetEnded, finished, ending_of}
+use Rattle.fx_designs.specs.Outcomes.{Design, BudgetEnded, finished, ending_of}
 use Rattle.fx_laws.proofs.FirstDesign.{answer-first, design-rows}
-use Rattle.fx_vectors.specs.Question.{problem_of as question_problem}
-use Rattle.fx_vectors.specs.Matrix.{MatrixView}
-use Rattle.fx_vectors.specs.declared.question.Question.{Question}
 
 -- within the budget the search finishes
 pub within : (p : Problem) (budget : ℕ) → length (nodes p) ≤ budget → ending_of p budget ≡ finished (answer p) (length (nodes p))

@@ -1,4 +1,4 @@
-use Rattle.std.proofs.Common.{ℕ, ◌≡◌, Some, sym, ap}
+use Rattle.std.proofs.Common.{Some, sym, ap}
 use Rattle.fx_vectors.specs.Matrix.{MatrixView}
 use Rattle.fx_vectors.specs.Question.{problem_of as question_problem}
 use Rattle.fx_vectors.specs.declared.shape.Shape.{Shape}

@@ -1,4 +1,4 @@
-use Rattle.std.proofs.Common.{◌≡◌, ℕ, List, Ok, Err, map, refl, sym, ap, ◌∙◌, []}
+use Rattle.std.proofs.Common.{◌≡◌, ℕ, List, Ok, Err, refl, sym, ap, ◌∙◌, []}
 use Rattle.std.proofs.lemmas.Bool.{false≢true}
 use Rattle.fx_program.specs.declared.words.Settings.{Settings}
 use Rattle.fx_program.specs.declared.words.Settings.TheVariants.{Run}
@@ -28,5 +28,5 @@ returns-in-Err-clause-output g c =
     (record {
       text = [];
       exposed = λ read. absurd (false≢true (ap reads c.in-Err.ensures ∙ read));
-      gives = ends_for _ [] (Err c.in-Err.fault) _ c.in-Err.ensures (ends_by _ _ _ (ap (λ l. message l 3) (sym (c.as_slice.ensures ∙ c.word_line.ensures))) (c.list.ensures.output.whatever _));
+      gives = ends_for _ [] (Err c.in-Err.fault) _ c.in-Err.ensures (ends_by _ _ _ (ap (λ l. message l 3) (sym (c.as_slice.ensures.value ∙ c.word_line.ensures))) (c.list.ensures.output.whatever _));
     })
