@@ -75,32 +75,32 @@ order_of_levels q h = order_among (2 ∷ 3 ∷ 4 ∷ 5 ∷ 7 ∷ 8 ∷ 9 ∷ [])
 module _ (q m s : ℕ) where
   can_be_asked : (w : Wanted) (asked : Requirement) → requirement_of (goal_of w) ≡ Some asked → is_criterion (criterion_of w) ≡ true → CanBeWanted q s w
       → CanBeAsked (record { q = q; m = m; s = s; t = 0 }) asked
-  can_be_asked (wanted.Resolution r) asked e valid told =
+  can_be_asked (wanted.Resolution r) asked e valid askable =
       let both = and_parts (nat_le 3 r) (nat_le r 99) valid in
       subst (CanBeAsked (record { q = q; m = m; s = s; t = 0 })) (same_some (problems.AtResolution r) asked e) (leb-true 3 r both.0, leb-true r 99 both.1)
-  can_be_asked wanted.Highest asked e valid told = absurd (cc e)
-  can_be_asked (wanted.Effects estimate others) asked e valid told =
-      subst (CanBeAsked (record { q = q; m = m; s = s; t = 0 })) (same_some (problems.ForEffects (numbers_of estimate) (numbers_of others)) asked e) (told estimate others refl)
+  can_be_asked wanted.Highest asked e valid askable = absurd (cc e)
+  can_be_asked (wanted.Effects estimate others) asked e valid askable =
+      subst (CanBeAsked (record { q = q; m = m; s = s; t = 0 })) (same_some (problems.ForEffects (numbers_of estimate) (numbers_of others)) asked e) (askable estimate others refl)
 
 module _ (step : Step) where
   level : is_level step.q ≡ true
-  level = (and_parts _ _ (and_parts _ _ (and_parts _ _ (and_parts _ _ (and_parts _ _ step.valid).0).0).0).0).0
+  level = (and_parts _ _ (and_parts _ _ (and_parts _ _ (and_parts _ _ (and_parts _ _ step.settings_valid).0).0).0).0).0
 
   size : is_size step.q step.size ≡ true
-  size = (and_parts _ _ (and_parts _ _ (and_parts _ _ (and_parts _ _ step.valid).0).0).0).1
+  size = (and_parts _ _ (and_parts _ _ (and_parts _ _ (and_parts _ _ step.settings_valid).0).0).0).1
 
   criterion : is_criterion (criterion_of step.wanted) ≡ true
-  criterion = (and_parts _ _ (and_parts _ _ (and_parts _ _ step.valid).0).0).1
+  criterion = (and_parts _ _ (and_parts _ _ (and_parts _ _ step.settings_valid).0).0).1
 
   most : (b : Bool) → nat_le (length step.factors) (if b then 30 else 40) ≡ true → length step.factors ≤ 40
   most true h = let few = leb-true (length step.factors) 30 h in omega arith
   most false h = leb-true (length step.factors) 40 h
 
   some_factors : 1 ≤ length step.factors
-  some_factors = leb-true 1 (length step.factors) (and_parts _ _ step.named).0
+  some_factors = leb-true 1 (length step.factors) (and_parts _ _ step.factor_count).0
 
   few_factors : length step.factors ≤ 40
-  few_factors = most (has_blocks step.blocks) (and_parts _ _ step.named).1
+  few_factors = most (has_blocks step.blocks) (and_parts _ _ step.factor_count).1
 
   -- the question that the step asks is valid
   pub valid_question : (m s : ℕ) (demands : Demands) → step.size ≡ Runs m → s ≡ length step.factors → requirement_of (goal_of step.wanted) ≡ Some (questions.requirement_of demands)
@@ -120,6 +120,6 @@ module _ (step : Step) where
           factors_in_blocks = λ h. absurd (omega (arith, h));
         };
         asked = subst (λ n. CanBeAsked (record { q = step.q; m = m; s = n; t = 0 }) (questions.requirement_of demands)) (sym count)
-            (can_be_asked step.q m (length step.factors) step.wanted (questions.requirement_of demands) asked criterion step.told);
+            (can_be_asked step.q m (length step.factors) step.wanted (questions.requirement_of demands) asked criterion step.effects_askable);
         least = λ h. absurd (cc h);
       }

@@ -48,7 +48,7 @@ pub(crate) fn expression_at(
     requires { length factors.now ≤ 40 }
     ensures ok { IfOk result (λ e. expression_at factors.now first.now rest.now ≡ Ok e) }
     ensures numbers { IfOk result (λ e. AreNumbers e.stars) }
-    ensures err { IfErr result (IsRefused (expression_at factors.now first.now rest.now)) }
+    ensures refused { IfErr result (IsRefused (expression_at factors.now first.now rest.now)) }
 {
     match range_end(rest) {
         None => bars_at(alloc, factors, first, rest),
@@ -66,7 +66,7 @@ fn bars_at(
     requires { length factors.now ≤ 40 }
     ensures ok { IfOk result (λ e. bars_at factors.now first.now rest.now ≡ Ok e) }
     ensures numbers { IfOk result (λ e. AreNumbers e.stars) }
-    ensures err { IfErr result (IsRefused (bars_at factors.now first.now rest.now)) }
+    ensures refused { IfErr result (IsRefused (bars_at factors.now first.now rest.now)) }
 {
     let len = stars_len(rest);
     let mut stars = Stars::new(alloc);

@@ -25,7 +25,7 @@ pub(crate) fn expressions_of(
     requires { length factors.now ≤ 40 }
     ensures ok { IfOk result (λ all. expressions_of factors.now written.now ≡ Ok all) }
     ensures numbers { IfOk result AreSmall }
-    ensures err { IfErr result (IsRefused (expressions_of factors.now written.now)) }
+    ensures refused { IfErr result (IsRefused (expressions_of factors.now written.now)) }
 {
     let mut all = Expressions::new(alloc);
     let mut joined = false;

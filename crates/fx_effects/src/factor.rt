@@ -19,7 +19,7 @@ pub(crate) fn main_effect(
 ) -> Result<Effect, Refusal>
     requires { length factors.now ≤ 40 }
     ensures ok { IfOk result (λ e. main_of place.now (place_of name.now factors.now) ≡ Ok e.0) }
-    ensures err { IfErr result (λ refusal.
+    ensures refused { IfErr result (λ refusal.
         main_of place.now (place_of name.now factors.now) ≡ Err refusal) }
 {
     match place_of(name, factors) {

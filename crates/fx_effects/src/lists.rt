@@ -27,7 +27,7 @@ pub(crate) fn list_of(
         at_most_100000 word.now (effects_of expressions.now)
         ≡ Ok (numbers_of effects)) }
     ensures ordered { IfOk result (λ effects. AreOrdered (numbers_of effects)) }
-    ensures err { IfErr result (IsRefused (at_most_100000 word.now (effects_of expressions.now))) }
+    ensures refused { IfErr result (IsRefused (at_most_100000 word.now (effects_of expressions.now))) }
 {
     match effects_of(alloc, expressions) {
         Ok(effects) => Ok(effects),

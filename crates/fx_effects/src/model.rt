@@ -53,10 +53,10 @@ pub fn effects_of(
 ) -> Result<ModelEffects, ParseStop>
     requires { length factors.now ≤ 40 }
     ensures ok { IfOk result (λ effects. lists_of field factors.now statement.now ≡ Ok effects) }
-    ensures told { IfOk result (λ effects.
+    ensures askable { IfOk result (λ effects.
         CanBeTold field (length factors.now) effects.estimate
         effects.nonnegligible) }
-    ensures err { IfErr result (IsRefused (lists_of field factors.now statement.now)) }
+    ensures refused { IfErr result (IsRefused (lists_of field factors.now statement.now)) }
 {
     match statement.at(1) {
         None => Err(ParseStop::Refused(Refusal::at(
@@ -79,7 +79,7 @@ fn effects_after<'a>(
     ensures ok { IfOk result (λ effects.
         lists_after field factors.now word.now written.now ≡ Ok effects) }
     ensures apart { IfOk result (AreApart field) }
-    ensures err { IfErr result (IsRefused (lists_after field factors.now word.now written.now)) }
+    ensures refused { IfErr result (IsRefused (lists_after field factors.now word.now written.now)) }
 {
     let rest = written.after(Symbol::Close);
     let other_word = first_or(word, &rest);
@@ -112,7 +112,7 @@ fn lists_at(
         other_written.now
         ≡ Ok effects) }
     ensures apart { IfOk result (AreApart field) }
-    ensures err { IfErr result
+    ensures refused { IfErr result
         (IsRefused
         (lists_at field factors.now word.now written.now other_word.now
         other_written.now)) }
@@ -153,7 +153,7 @@ fn told_apart(
         told_apart field word.now (numbers_of estimate) (numbers_of others.now)
         ≡ Ok effects) }
     ensures apart { IfOk result (AreApart field) }
-    ensures err { IfErr result
+    ensures refused { IfErr result
         (IsRefused
         (told_apart field word.now (numbers_of estimate) (numbers_of others.now))) }
 {

@@ -28,7 +28,7 @@ pub(crate) fn range_at(
     requires { length factors.now ≤ 40 }
     ensures ok { IfOk result (λ e. range_at factors.now first.now last.now ≡ Ok e) }
     ensures numbers { IfOk result (λ e. AreNumbers e.stars) }
-    ensures err { IfErr result (IsRefused (range_at factors.now first.now last.now)) }
+    ensures refused { IfErr result (IsRefused (range_at factors.now first.now last.now)) }
 {
     let (low, high) = (first.text(), last.text());
     if !is_range(low, high) {
@@ -55,7 +55,7 @@ fn mains(
         (numbered (stem first.now.text) from count)
         ≡ Ok (numbers_of mains)) }
     ensures numbers { IfOk result (λ mains. AreNumbers (numbers_of mains)) }
-    ensures err { IfErr result
+    ensures refused { IfErr result
         (IsRefused
         (mains_from first.now factors.now []
         (numbered (stem first.now.text) from count))) }

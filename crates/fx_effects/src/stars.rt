@@ -55,7 +55,7 @@ impl Stars {
     ) -> Result<(), ParseStop>
         requires { length factors.now ≤ 40 }
         ensures ok { OnOk result (all_read factors.now self.old written.now ≡ Ok self.new) }
-        ensures err { IfErr result (IsRefused (all_read factors.now self.old written.now)) }
+        ensures refused { IfErr result (IsRefused (all_read factors.now self.old written.now)) }
     {
         for (_i, w) in written.iter().enumerate() {
             self.read(factors, w)?;
@@ -67,7 +67,7 @@ impl Stars {
     pub(crate) fn read(&mut self, factors: &[Bytes], w: &Lexeme<'_>) -> Result<(), ParseStop>
         requires { length factors.now ≤ 40 }
         ensures ok { OnOk result (read factors.now self.old w.now ≡ Ok self.new) }
-        ensures err { IfErr result (IsRefused (read factors.now self.old w.now)) }
+        ensures refused { IfErr result (IsRefused (read factors.now self.old w.now)) }
     {
         if w.is(Symbol::Bar) {
             self.end_star()?;
@@ -84,7 +84,7 @@ impl Stars {
     fn read_name(&mut self, factors: &[Bytes], w: &Lexeme<'_>) -> Result<(), Refusal>
         requires { length factors.now ≤ 40 }
         ensures ok { OnOk result (with_name factors.now self.old w.now ≡ Ok self.new) }
-        ensures err { IfErr result (λ refusal. with_name factors.now self.old w.now ≡ Err refusal) }
+        ensures refused { IfErr result (λ refusal. with_name factors.now self.old w.now ≡ Err refusal) }
     {
         let main = main_effect(factors, w, w.text())?;
         self.next = Effect(self.next.0 | main.0);

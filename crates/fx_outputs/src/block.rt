@@ -78,7 +78,7 @@ pub fn block_values(
 ) -> Result<Names, ParseStop>
     ensures ok { IfOk result (λ values.
         block_values blocks (slice_get blockname.now 3) (drop 4 blockname.now) ≡ Ok values) }
-    ensures err { IfErr result
+    ensures refused { IfErr result
         (IsRefused (block_values blocks (slice_get blockname.now 3) (drop 4 blockname.now))) }
 {
     match blockname.at(3) {
@@ -95,7 +95,7 @@ fn values_if_begun(
     rest: &Phrase<'_>,
 ) -> Result<Names, ParseStop>
     ensures ok { IfOk result (λ values. block_values blocks (Some word.now) rest.now ≡ Ok values) }
-    ensures err { IfErr result (IsRefused (block_values blocks (Some word.now) rest.now)) }
+    ensures refused { IfErr result (IsRefused (block_values blocks (Some word.now) rest.now)) }
 {
     if begins_values(word, rest) {
         return counted_values(alloc, values_wanted(blocks), word, rest);

@@ -56,8 +56,8 @@ pub fn outputs(
     ensures ok { IfOk result (λ outputs.
         outputs_of context.now earlier.old statements.now ≡ Ok outputs) }
     ensures names { IfOk result (λ outputs. earlier.new ≡ earlier.old ++ names_of outputs) }
-    ensures within { IfOk result (All (IsWithinLimits context.now)) }
-    ensures err { IfErr result (IsRefused (outputs_of context.now earlier.old statements.now)) }
+    ensures within_limits { IfOk result (All (IsWithinLimits context.now)) }
+    ensures refused { IfErr result (IsRefused (outputs_of context.now earlier.old statements.now)) }
 {
     let mut outputs = Outputs::new(alloc);
     for statement in statements {
@@ -92,7 +92,7 @@ fn output(
     ensures ok { IfOk result (λ output.
         output_of context.now earlier.old word.now name.now phrase.now ≡ Ok output) }
     ensures name { IfOk result (λ output. earlier.new ≡ earlier.old ++ output.name ∷ []) }
-    ensures err { IfErr result
+    ensures refused { IfErr result
         (IsRefused (output_of context.now earlier.old word.now name.now phrase.now)) }
 {
     let blockname = from_option(Symbol::Blockname, phrase);
@@ -124,7 +124,7 @@ fn output(
 fn add_name(alloc: Global, earlier: &mut EarlierNames, name: &Lexeme<'_>) -> Result<(), ParseStop>
     ensures ok { OnOk result (check_new_name earlier.old name.now ≡ Ok tt) }
     ensures name { OnOk result (earlier.new ≡ earlier.old ++ name.now.text ∷ []) }
-    ensures err { IfErr result (IsRefused (check_new_name earlier.old name.now)) }
+    ensures refused { IfErr result (IsRefused (check_new_name earlier.old name.now)) }
 {
     if earlier.add(alloc, name.text())? {
         return Ok(());

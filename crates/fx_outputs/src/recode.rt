@@ -34,7 +34,7 @@ pub fn recodes(
     phrase: &Phrase<'_>,
 ) -> Result<Recodes, ParseStop>
     ensures ok { IfOk result (λ recodes. recodes_of context.now phrase.now ≡ Ok recodes) }
-    ensures err { IfErr result (IsRefused (recodes_of context.now phrase.now)) }
+    ensures refused { IfErr result (IsRefused (recodes_of context.now phrase.now)) }
 {
     let lexemes = phrase.lexemes();
     let mut recodes = Recodes::new(alloc);
@@ -72,7 +72,7 @@ fn recode_at(
 ) -> Result<Recode, ParseStop>
     ensures ok { IfOk result (λ recode.
         recode_of context.now earlier.now name.now word.now rest.now ≡ Ok recode) }
-    ensures err { IfErr result
+    ensures refused { IfErr result
         (IsRefused (recode_of context.now earlier.now name.now word.now rest.now)) }
 {
     let factor = factor_at(context, name)?;

@@ -21,7 +21,7 @@ pub fn counted_values(
     rest: &Phrase<'_>,
 ) -> Result<Names, ParseStop>
     ensures ok { IfOk result (λ values. counted wanted word.now (values_of rest.now) ≡ Ok values) }
-    ensures err { IfErr result (IsRefused (counted wanted word.now (values_of rest.now))) }
+    ensures refused { IfErr result (IsRefused (counted wanted word.now (values_of rest.now))) }
 {
     match wanted {
         None => Err(ParseStop::Refused(word.refused(code::WRONG_NUMBER_OF_VALUES))),

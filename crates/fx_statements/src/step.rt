@@ -37,11 +37,11 @@ pub struct Step {
     pub outputs: Outputs,
     /// The greatest number of nodes, from 1 to 5,000,000.
     pub budget: u64,
-    ghost named: { IsTrue (is_count (length factors) blocks) },
+    ghost factor_count: { IsTrue (is_count (length factors) blocks) },
     ghost distinct: { IsDistinct is_same_name factors } by { Prim.hlevel props },
-    ghost valid: { IsTrue (are_valid (settings_in q budget size wanted least blocks)) },
-    ghost told: { CanBeWanted q (length factors) wanted },
-    ghost within: { All
+    ghost settings_valid: { IsTrue (are_valid (settings_in q budget size wanted least blocks)) },
+    ghost effects_askable: { CanBeWanted q (length factors) wanted },
+    ghost outputs_within_limits: { All
         (IsWithinLimits (context factors (settings_in q budget size wanted least blocks)))
         outputs },
 }

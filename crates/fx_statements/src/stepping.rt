@@ -113,9 +113,9 @@ fn asked_by(
     requires few { length factors.now ≤ 40 }
     ensures asked { IfOk result (λ asked.
         asked_by factors.now said statements.now ≡ Ok (asked.0, goal_of asked.1)) }
-    ensures valid { IfOk result (λ asked. are_valid asked.0 ≡ true) }
+    ensures settings_valid { IfOk result (λ asked. are_valid asked.0 ≡ true) }
     ensures kind { IfOk result (λ asked. criterion_of asked.1 ≡ asked.0.criterion) }
-    ensures told { IfOk result (λ asked. CanBeWanted asked.0.q (length factors.now) asked.1) }
+    ensures askable { IfOk result (λ asked. CanBeWanted asked.0.q (length factors.now) asked.1) }
     ensures unblocked { IfOk result (λ asked.
         said.blocks ≡ None → has_blocks asked.0.blocks ≡ false) }
     ensures refused { IfErr result (IsRefused (asked_by factors.now said statements.now)) }

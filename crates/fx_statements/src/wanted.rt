@@ -50,7 +50,7 @@ pub(crate) fn wanted_by(
     ensures goal { IfOk result (λ wanted.
         goal_by q factors.now statements.now criterion ≡ Ok (goal_of wanted)) }
     ensures kind { IfOk result (λ wanted. criterion_of wanted ≡ criterion) }
-    ensures told { IfOk result (CanBeWanted q (length factors.now)) }
+    ensures askable { IfOk result (CanBeWanted q (length factors.now)) }
     ensures refused { IfErr result (IsRefused (goal_by q factors.now statements.now criterion)) }
 {
     match criterion {
@@ -72,7 +72,7 @@ fn effects_wanted(
     ensures goal { IfOk result (λ wanted.
         effects_wanted q factors.now (statement_of Model statements.now) ≡ Ok (goal_of wanted)) }
     ensures kind { IfOk result (λ wanted. criterion_of wanted ≡ criterion.Effects) }
-    ensures told { IfOk result (CanBeWanted q (length factors.now)) }
+    ensures askable { IfOk result (CanBeWanted q (length factors.now)) }
     ensures refused { IfErr result
         (IsRefused (effects_wanted q factors.now (statement_of Model statements.now))) }
 {
@@ -93,7 +93,7 @@ fn effects_in(
     ensures goal { IfOk result (λ wanted.
         effects_in q factors.now statement.now ≡ Ok (goal_of wanted)) }
     ensures kind { IfOk result (λ wanted. criterion_of wanted ≡ criterion.Effects) }
-    ensures told { IfOk result (CanBeWanted q (length factors.now)) }
+    ensures askable { IfOk result (CanBeWanted q (length factors.now)) }
     ensures refused { IfErr result (IsRefused (effects_in q factors.now statement.now)) }
 {
     let field = Field::of(q).unwrap();

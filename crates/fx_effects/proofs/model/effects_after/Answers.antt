@@ -1,5 +1,5 @@
 use Rattle.fx_effects.proofs.model.effects_after.Goals as goal
 
-pub returns-clause-err : goal.returns-clause-err
-returns-clause-err c =
-    rw (c.lexemes.ensures, c.lexemes-2.ensures, c.before-first.ensures, c.before-others.ensures, c.after.ensures, c.first_or-other_word.ensures, c.after-rest.ensures) at c.lists_at.ensures.err
+pub returns-clause-refused : goal.returns-clause-refused
+returns-clause-refused c =
+    rw (c.lexemes.ensures, c.lexemes-2.ensures, c.before-first.ensures, c.before-others.ensures, c.after.ensures, c.first_or-other_word.ensures, c.after-rest.ensures) at c.lists_at.ensures.refused

@@ -10,14 +10,14 @@ use Rattle.fx_effects.proofs.Numbers.{pushed}
 use Rattle.fx_effects.proofs.Mains.{one_more, not_one, none_left}
 use Rattle.fx_effects.proofs.range.mains.Goals as goal
 
-pub returns-in_err-main_effect-clause-err : goal.returns-in_err-main_effect-clause-err
-returns-in_err-main_effect-clause-err c =
+pub returns-in_err-main_effect-clause-refused : goal.returns-in_err-main_effect-clause-refused
+returns-in_err-main_effect-clause-refused c =
     let first = c.args.first.now in
     let s = stem first.text in
     let refusal = c.in_err-main_effect.field-0.0 in
     let name : c.as_slice.result.now ≡ s ++ decimal (c.args.from + c.loop-i.i) =
     c.as_slice.ensures ∙ c.in_ok-name.ensures ∙ ap (λ l. l ++ decimal (c.args.from + c.loop-i.i)) (c.stem.ensures ∙ ap stem c.text.ensures) in
-    let main = ap (λ (n : List ℕ). main_of first (place_of n c.args.factors.now)) (sym name) ∙ c.in_err-main_effect.ensures.err in
+    let main = ap (λ (n : List ℕ). main_of first (place_of n c.args.factors.now)) (sym name) ∙ c.in_err-main_effect.ensures.refused in
     let none = c.loop-i.invariant.mains ∙ not_one first c.args.factors.now (numbers_of c.loop-i.mains) s c.args.from c.args.count c.loop-i.i c.loop-i-test.true refusal main in
     let p = err_from_is_err_and c.from_residual-in_err-main_effect.result c.from_residual-in_err-main_effect.ensures.1 in
     rw (p.1, p.2) none

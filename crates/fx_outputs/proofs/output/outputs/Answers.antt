@@ -10,15 +10,15 @@ use Rattle.fx_outputs.proofs.Statements.{refused, read, passed, one_more_name}
 use Rattle.fx_outputs.proofs.output.outputs.Goals as goal
 use Rattle.fx_outputs.proofs.output.outputs.Goals.{then-is_output+in_ok-output+in_ok-push, else-is_output}
 
-pub returns-in_err-output-clause-err : goal.returns-in_err-output-clause-err
-returns-in_err-output-clause-err c =
+pub returns-in_err-output-clause-refused : goal.returns-in_err-output-clause-refused
+returns-in_err-output-clause-refused c =
     let all = c.args.statements.now in
     let i = c.loop-statement.statement-index in
     let context = c.args.context.now in
     let s = c.statement-item.result in
     let reason = c.in_err-output.field-0.0 in
     let left = drop-cons all i s (omega arith) ∙ ap (λ v. v ∷ drop (suc i) all) (sym c.statement-item.is) in
-    let one = rw c.from.ensures at c.in_err-output.ensures.err in
+    let one = rw c.from.ensures at c.in_err-output.ensures.refused in
     let first = rw c.lexemes-lexemes.ensures at c.index-lexemes-0.is in
     let third = rw c.lexemes-lexemes.ensures at c.index-lexemes-3.is in
     let more = refused context c.loop-statement.earlier c.loop-statement.outputs (drop (suc i) all) s c.index-lexemes-0.result c.index-lexemes-3.result reason c.if-is_output.ensures first third one in
@@ -55,8 +55,8 @@ loop-statement-preserved c =
           }
     ]
 
-pub returns-clause-within : goal.returns-clause-within
-returns-clause-within c =
+pub returns-clause-within_limits : goal.returns-clause-within_limits
+returns-clause-within_limits c =
     let context = c.args.context.now in
     let none_left : drop c.loop-statement.statement-index c.args.statements.now ≡ [] = drop_all c.loop-statement.statement-index c.args.statements.now c.loop-statement-test.false in
     let whole = rw none_left at c.loop-statement.invariant.meaning in

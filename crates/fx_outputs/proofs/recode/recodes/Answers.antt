@@ -7,15 +7,15 @@ use Rattle.fx_outputs.proofs.InOrder.{none_left, two_left_next, three_left, refu
 use Rattle.fx_outputs.proofs.recode.recodes.Goals as goal
 use Rattle.fx_outputs.proofs.recode.recodes.Goals.{then-is_recoded+in_ok-recode+in_ok-push, else-is_recoded}
 
-pub returns-in_err-recode-clause-err : goal.returns-in_err-recode-clause-err
-returns-in_err-recode-clause-err c =
+pub returns-in_err-recode-clause-refused : goal.returns-in_err-recode-clause-refused
+returns-in_err-recode-clause-refused c =
     let all = c.lexemes-lexemes.result.now in
     let before = c.index-lexemes-i.result in
     let name = c.index-lexemes-i-in-loop-i.result in
     let word = c.index-lexemes-i-in-loop-i-2.result in
     let reason = c.in_err-recode.field-0.0 in
     let left = three_left all c.loop-i.i before name word (omega arith) (omega arith) c.index-lexemes-i.is c.index-lexemes-i-in-loop-i.is c.index-lexemes-i-in-loop-i-2.is in
-    let one = rw (c.from-rest.ensures, ← c.lexemes-lexemes.ensures, c.as_slice.ensures) at c.in_err-recode.ensures.err in
+    let one = rw (c.from-rest.ensures, ← c.lexemes-lexemes.ensures, c.as_slice.ensures) at c.in_err-recode.ensures.refused in
     let more = refused c.args.context.now c.loop-i.recodes before name word (drop (c.loop-i.i + 1) all) reason c.if-is_recoded.ensures one in
     let whole : IsRefused (recodes_of c.args.context.now all) reason = rw (c.loop-i.invariant, left) more in
     let p = err_from_is_err_and c.from_residual.result c.from_residual.ensures.1 in

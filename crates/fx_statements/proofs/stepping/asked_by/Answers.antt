@@ -4,11 +4,11 @@ use Rattle.fx_vectors.specs.Question.{CanBeTold}
 use Rattle.fx_statements.proofs.Bounds.{kept, without}
 use Rattle.fx_statements.proofs.stepping.asked_by.Goals as goal
 
-pub returns-clause-told : goal.returns-clause-told
-returns-clause-told c =
+pub returns-clause-askable : goal.returns-clause-askable
+returns-clause-askable c =
     let same = kept c.in_ok-unblocked.unblocked c.args.said c.in_ok-settings.settings (sym c.in_ok-settings.ensures.value) in
     λ estimate nonnegligible is.
-    subst (λ q. CanBeTold q (length c.args.factors.now) (numbers_of estimate) (numbers_of nonnegligible)) (sym same.1) (c.in_ok-wanted.ensures.told estimate nonnegligible is)
+    subst (λ q. CanBeTold q (length c.args.factors.now) (numbers_of estimate) (numbers_of nonnegligible)) (sym same.1) (c.in_ok-wanted.ensures.askable estimate nonnegligible is)
 
 pub returns-clause-unblocked : goal.returns-clause-unblocked
 returns-clause-unblocked c = λ none. without c.in_ok-unblocked.unblocked c.args.said c.in_ok-settings.settings none (sym c.in_ok-settings.ensures.value)

@@ -22,17 +22,17 @@ invariant_of-result c =
     let bounds = c.in_ok-factors.ensures.bounds in
     let same = same_settings settings wanted c.in_ok-settings.ensures.kind in
     record {
-      named =
+      factor_count =
           counted statements (length c.in_ok-factors.factors) _
           (λ none. c.in_ok-settings.ensures.unblocked (unsaid c.head_of-proc.result c.args.named.now statements c.step_said-said.result c.step_said-said.ensures none))
           bounds.0 (omega (arith, bounds.1, c.factor_limit.ensures.value));
       distinct = c.in_ok-factors.ensures.distinct;
-      valid = subst (λ x. are_valid x ≡ true) (sym same) c.in_ok-settings.ensures.valid;
-      told = subst (λ s. CanBeWanted settings.q s wanted) (ap length c.as_slice.ensures) c.in_ok-settings.ensures.told;
-      within =
+      settings_valid = subst (λ x. are_valid x ≡ true) (sym same) c.in_ok-settings.ensures.settings_valid;
+      effects_askable = subst (λ s. CanBeWanted settings.q s wanted) (ap length c.as_slice.ensures) c.in_ok-settings.ensures.askable;
+      outputs_within_limits =
           subst (λ x. All (IsWithinLimits x) c.in_ok-outputs.outputs)
           (c.context_of-context.ensures ∙ ap (λ factors. context factors settings) c.as_slice-2.ensures ∙ ap (context c.in_ok-factors.factors) (sym same))
-          c.in_ok-outputs.ensures.within;
+          c.in_ok-outputs.ensures.within_limits;
     }
 
 pub returns-clause-step : goal.returns-clause-step
@@ -65,6 +65,6 @@ returns-in_err-outputs-clause-refused c =
     ap₂ (λ names said. asked_by names said statements) (sym c.as_slice.ensures) (sym (c.step_said-said.ensures ∙ ap (λ p. step_said p named statements) c.head_of-proc.ensures))
     ∙ c.in_ok-settings.ensures.asked in
     let refused : IsRefused (outputs_of (context factors settings) c.args.earlier.now statements) reason =
-    subst (λ x. IsRefused (outputs_of x c.args.earlier.now statements) reason) (c.context_of-context.ensures ∙ ap (λ names. context names settings) c.as_slice-2.ensures) c.in_err-outputs.ensures.err in
+    subst (λ x. IsRefused (outputs_of x c.args.earlier.now statements) reason) (c.context_of-context.ensures ∙ ap (λ names. context names settings) c.as_slice-2.ensures) c.in_err-outputs.ensures.refused in
     let p = err_from_is_err_and c.from_residual-in_err-outputs.result c.from_residual-in_err-outputs.ensures.1 in
     rw (p.1, p.2) (outputs_refused c.args.earlier.now statements named factors settings c.in_ok-settings.wanted is_named is_asked reason refused)
