@@ -1,19 +1,44 @@
 -- Lines of a listing.
-use Rattle.std.proofs.Common.{◌≡◌, [], ◌∷◌, refl}
-use Rattle.std.specs.Prelude.{codes}
+use Rattle.std.proofs.Common.{ℕ, ◌≡◌, List, [], ◌∷◌, refl, true, false, Some, None}
+use Rattle.std.specs.Prelude.{codes, ◌==◌, if◌then◌else◌}
 use Rattle.std.specs.Fmt.{digits}
+use Rattle.fx_designs.specs.Galois.{add, mul, neg, prime_of, degree_of, reduction_of}
+use Rattle.fx_designs.specs.Vectors.{vectors_of}
+use Rattle.fx_designs.specs.Runs.{is_constant, is_constant_in_blocks, runs_of}
+use Rattle.fx_designs.specs.Aliases.{is_aliased}
+use Rattle.fx_designs.specs.Components.{components}
+use Rattle.fx_designs.specs.Problems.{Dimensions}
+use Rattle.fx_designs.specs.Patterns.{constant_words, pattern_of}
 use Rattle.fx_designs.specs.Outcomes.{Design, NoDesign, BudgetEnded}
+use Rattle.fx_runs.specs.Runs.{RunsView}
+use Rattle.fx_alias.specs.Aliasing.{alias_section}
+use Rattle.fx_alias.specs.Blocked.{blocked_section}
+use Rattle.fx_alias.specs.Points.{design_section}
 use Rattle.fx_alias.specs.Heads.{head_lines}
 use Rattle.fx_alias.specs.Products.{product}
 use Rattle.fx_alias.specs.Rules.{rules}
+use Rattle.fx_alias.specs.Patterns.{pattern_lines}
 
--- the step's number, the factors and their levels, and how the search ended
+abbrev size : ℕ → ℕ → ℕ → Dimensions
+size q m s = record { q = q; m = m; s = s; t = 0 }
+
+-- the step's number, the factors and their levels, how the search ended, and the resolution of its matrix
 heads :
-    (head_lines 12 40 3 4 (Design (1 ∷ 3 ∷ []) 100) ≡ codes "step 12\nfactors 40 levels 3\ndesign 81 runs\nnodes 100\n")
-    × (head_lines 1 2 4 5 (NoDesign 7) ≡ codes "step 1\nfactors 2 levels 4\nno design in 1024 runs\nnodes 7\n")
-    × (head_lines 100 3 9 1 (BudgetEnded 5000000) ≡ codes "step 100\nfactors 3 levels 9\nbudget ended after 5000000 nodes\n")
+    (head_lines 12 2 (size 3 2 2) false (Design (1 ∷ 3 ∷ []) 100) ≡ codes "step 12\nfactors 2 levels 3\ndesign 9 runs\nno defining words\nnodes 100\n")
+    × (head_lines 1 3 (size 2 2 3) true (Design (1 ∷ 2 ∷ 3 ∷ []) 3) ≡ codes "step 1\nfactors 3 levels 2\ndesign 4 runs\nresolution 3 least aberration\nnodes 3\n")
+    × (head_lines 1 3 (size 2 2 3) false (Design (1 ∷ 2 ∷ 3 ∷ []) 3) ≡ codes "step 1\nfactors 3 levels 2\ndesign 4 runs\nresolution 3\nnodes 3\n")
+    × (head_lines 1 2 (size 4 5 2) false (NoDesign 7) ≡ codes "step 1\nfactors 2 levels 4\nno design in 1024 runs\nnodes 7\n")
+    × (head_lines 100 3 (size 9 1 3) true (BudgetEnded None 5000000) ≡ codes "step 100\nfactors 3 levels 9\nbudget ended after 5000000 nodes\n")
+    × (head_lines 1 3 (size 2 2 3) true (BudgetEnded (Some (1 ∷ 2 ∷ 3 ∷ [])) 2) ≡ codes "step 1\nfactors 3 levels 2\nbudget ended after 2 nodes\ndesign 4 runs not proved best\nresolution 3\n")
+unfolding digits prime_of degree_of reduction_of add mul neg runs_of is_constant constant_words pattern_of
+heads = (refl, refl, refl, refl, refl, refl)
+
+-- the words of each weight that has some
+patterns :
+    (pattern_lines (0 ∷ 0 ∷ 7 ∷ 7 ∷ 0 ∷ 0 ∷ 1 ∷ []) ≡ codes "aberration\n  A3 7\n  A4 7\n  A7 1\n")
+    × (pattern_lines (0 ∷ 0 ∷ []) ≡ codes "aberration\n  none\n")
 unfolding digits
-heads = (refl, refl, refl)
+patterns = (refl, refl)
 
 -- names in the order of the factors, each with its coefficient unless that is 1
 products :
@@ -34,3 +59,31 @@ rules_of_rows :
     × (rules 2 2 (codes "A" ∷ codes "B" ∷ codes "C" ∷ codes "D" ∷ []) (1 ∷ 0 ∷ 2 ∷ 3 ∷ []) ≡ codes "rules\n  B = 0\n  D = A*C\n")
 unfolding digits
 rules_of_rows = (refl, refl, refl, refl, refl, refl)
+
+abbrev three_names : List (List ℕ)
+three_names = codes "A" ∷ codes "B" ∷ codes "C" ∷ []
+
+-- C = A*B; A and C with the same levels; and C = A*B at three levels
+aliases :
+    (alias_section three_names 2 (runs_of 2 2 (vectors_of 2 2 (1 ∷ 2 ∷ 3 ∷ []))) (components 2 3 2) ≡ codes "aliasing\n  A = B*C\n  B = A*C\n  C = A*B\n")
+    × (alias_section three_names 2 (runs_of 2 2 (vectors_of 2 2 (1 ∷ 2 ∷ 1 ∷ []))) (components 2 3 2) ≡ codes "aliasing\n  mean = A*C\n  A = C\n  B\n  A*B = B*C\n")
+    × (alias_section three_names 3 (runs_of 3 2 (vectors_of 3 2 (1 ∷ 3 ∷ 4 ∷ []))) (components 3 3 2) ≡ codes "aliasing\n  A = B^2*C\n  B = A^2*C\n  C = A*B\n  A^2*B = A*C = B*C\n")
+unfolding digits is_aliased is_constant runs_of add mul neg prime_of degree_of reduction_of
+aliases = (refl, refl, refl)
+
+abbrev two_factors : ℕ → RunsView
+two_factors t = record { shape = record { q = 2; m = 2; s = 2; t = t }; rows = runs_of 2 2 (vectors_of 2 2 (1 ∷ 2 ∷ (if t == 0 then [] else 3 ∷ []))) }
+
+-- blocks are numbered from 1
+points_of_runs :
+    (design_section (codes "A" ∷ codes "B" ∷ []) (two_factors 0) ≡ codes "points A B\n  1 -1 -1\n  2 -1 1\n  3 1 -1\n  4 1 1\n")
+    × (design_section (codes "A" ∷ codes "B" ∷ []) (two_factors 1) ≡ codes "points BLOCK A B\n  1 1 -1 -1\n  2 2 -1 1\n  3 2 1 -1\n  4 1 1 1\n")
+unfolding digits runs_of add mul prime_of degree_of reduction_of
+points_of_runs = (refl, refl)
+
+-- A*B is that of the blocks; without blocks none is confounded
+confounded :
+    (blocked_section (codes "A" ∷ codes "B" ∷ []) (two_factors 1) (components 2 2 2) ≡ codes "blocked\n  A*B\n")
+    × (blocked_section (codes "A" ∷ codes "B" ∷ []) (two_factors 0) (components 2 2 2) ≡ codes "blocked\n  none\n")
+unfolding digits is_constant is_constant_in_blocks runs_of add mul neg prime_of degree_of reduction_of
+confounded = (refl, refl)

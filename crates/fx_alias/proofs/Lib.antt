@@ -1,2 +1,12 @@
 mod Examples
 mod Products
+mod Members
+mod Numbered
+mod Once
+mod Same
+mod ClassNumbers
+mod Multiples
+mod Lengths
+mod Walk
+mod Enumerating
+mod Heads

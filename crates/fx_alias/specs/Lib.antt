@@ -1,3 +1,10 @@
 pub mod Heads
 pub mod Products
 pub mod Rules
+pub mod Classes
+pub mod Places
+pub mod Aliasing
+pub mod Points
+pub mod Blocked
+pub mod Patterns
+pub mod Sections

@@ -1,8 +1,6 @@
--- The rules that construct a design, and all lines of a step.
+-- The rules that construct a design.
 use Rattle.std.specs.Prelude.{ℕ, ◌^◌, ◌==◌, if◌then◌else◌, List, [], ◌∷◌, ◌++◌, length, codes}
 use Rattle.fx_designs.specs.Galois.{digits}
-use Rattle.fx_designs.specs.Outcomes.{Ending, Design, NoDesign, BudgetEnded}
-use Rattle.fx_alias.specs.Heads.{head_lines}
 use Rattle.fx_alias.specs.Products.{product}
 
 -- the rule of a factor: its row is a vector over the factors that introduced the run indexes
@@ -25,13 +23,3 @@ or_none (b ∷ lines) = b ∷ lines
 -- the section of the rules of a design
 abbrev pub rules : ℕ → ℕ → List (List ℕ) → List ℕ → List ℕ
 rules q m names rows = codes "rules\n" ++ or_none (rule_lines q m [] names rows)
-
--- the sections after the head: the rules of a design
-abbrev pub sections : ℕ → ℕ → List (List ℕ) → Ending → List ℕ
-sections q m names (Design rows count) = rules q m names rows
-sections q m names (NoDesign count) = []
-sections q m names (BudgetEnded budget) = []
-
--- all lines of the step of this number, with factors of these names and q levels, in q^m runs
-unfoldable pub step_lines : ℕ → ℕ → ℕ → List (List ℕ) → Ending → List ℕ
-step_lines number q m names ending = head_lines number (length names) q m ending ++ sections q m names ending

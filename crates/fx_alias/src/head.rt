@@ -1,14 +1,17 @@
-ghost use Rattle.std.specs.Prelude.{◌≡◌, ◌++◌, ◌^◌, length, OnOk};
-ghost use Rattle.fx_vectors.specs.Shape.{IsShape};
-ghost use Rattle.fx_statements.specs.Outcomes.{ending_in};
-ghost use Rattle.fx_alias.specs.Heads.{head_lines, heading, nodes_line, outcome_lines, runs_line};
+ghost use Rattle.std.specs.Prelude.{◌≡◌, ◌++◌, ◌^◌, false, length, OnOk};
+ghost use Rattle.fx_designs.specs.Patterns.{pattern_of};
+ghost use Rattle.fx_vectors.specs.Shape.{IsShape, dimensions_of};
+ghost use Rattle.fx_statements.specs.Outcomes.{ending_in, HasMatrix};
+ghost use Rattle.fx_alias.specs.Heads.{head_lines, heading, nodes_line, outcome_lines, left_lines, matrix_line, resolution_line, runs_line};
 
 use fx_base::{Bytes, NoMemory, put, put_number};
 use fx_statements::{End, Outcome, Step};
-use fx_vectors::Shape;
+use fx_vectors::{Matrix, Shape};
+use fx_words::{pattern_of, resolution};
+use std::alloc::Global;
 
-/// Appends the head of the listing of a step: its number, its factors and their levels, its outcome
-/// and, unless its budget ended, the number of nodes.
+/// Appends the head of the listing of a step: its number, its factors and their levels, its outcome,
+/// the resolution of its matrix and, unless its budget ended, the number of nodes.
 ///
 /// The outcome is that of the step, its shape within the limits.
 ///
@@ -16,20 +19,22 @@ use fx_vectors::Shape;
 ///
 /// `NoMemory`; `out` then holds some first bytes of the head after what it held.
 pub fn head_listing(
+    alloc: Global,
     number: usize,
     step: &Step,
     outcome: &Outcome,
     out: &mut Bytes,
 ) -> Result<(), NoMemory>
-    requires { IsShape outcome.now.shape }
+    requires shape { IsShape outcome.now.shape }
+    requires matrix { HasMatrix outcome.now.shape (ending_in outcome.now) outcome.now.matrix }
     ensures { OnOk result
         (out.new
         ≡ out.old
-        ++ head_lines number (length step.now.factors) outcome.now.shape.q outcome.now.shape.m
-        (ending_in outcome.now)) }
+        ++ head_lines number (length step.now.factors) (dimensions_of outcome.now.shape)
+        step.now.least (ending_in outcome.now)) }
 {
     put_heading(out, number, step.factors.len(), outcome.shape.q)?;
-    put_outcome(out, outcome)
+    put_outcome(alloc, out, step.least, outcome)
 }
 
 /// Appends the number of the step, its factors and their levels.
@@ -45,18 +50,26 @@ fn put_heading(out: &mut Bytes, number: usize, s: usize, q: u8) -> Result<(), No
     put(out, b"\n")
 }
 
-/// Appends how the search ended and, unless the budget ended, the number of nodes.
-fn put_outcome(out: &mut Bytes, outcome: &Outcome) -> Result<(), NoMemory>
-    requires { IsShape outcome.now.shape }
+/// Appends how the search ended, the resolution of its matrix and, unless the budget ended, the
+/// number of nodes.
+fn put_outcome(
+    alloc: Global,
+    out: &mut Bytes,
+    least: bool,
+    outcome: &Outcome,
+) -> Result<(), NoMemory>
+    requires shape { IsShape outcome.now.shape }
+    requires matrix { HasMatrix outcome.now.shape (ending_in outcome.now) outcome.now.matrix }
     ensures { OnOk result
         (out.new
         ≡ out.old
-        ++ outcome_lines outcome.now.shape.q outcome.now.shape.m (ending_in outcome.now)) }
+        ++ outcome_lines (dimensions_of outcome.now.shape) least (ending_in outcome.now)) }
 {
     match outcome.end {
         End::Design => {
             put(out, b"design ")?;
             put_runs(out, outcome.shape)?;
+            put_resolution_of(alloc, out, least, &outcome.matrix)?;
             put_nodes(out, outcome.nodes)
         }
         End::NoDesign => {
@@ -67,9 +80,66 @@ fn put_outcome(out: &mut Bytes, outcome: &Outcome) -> Result<(), NoMemory>
         End::Budget => {
             put(out, b"budget ended after ")?;
             put_number(out, u128::from(outcome.nodes))?;
-            put(out, b" nodes\n")
+            put(out, b" nodes\n")?;
+            put_left(alloc, out, &outcome.matrix)
         }
     }
+}
+
+/// Appends the resolution of a matrix, where there is one.
+fn put_resolution_of(
+    alloc: Global,
+    out: &mut Bytes,
+    least: bool,
+    matrix: &Option<Matrix>,
+) -> Result<(), NoMemory>
+    ensures { OnOk result (out.new ≡ out.old ++ matrix_line least matrix.now) }
+{
+    match matrix {
+        Some(matrix) => put_resolution(alloc, out, least, matrix),
+        None => Ok(()),
+    }
+}
+
+/// Appends the number of runs and the resolution of the matrix that is left where a budget ended.
+fn put_left(alloc: Global, out: &mut Bytes, matrix: &Option<Matrix>) -> Result<(), NoMemory>
+    ensures { OnOk result (out.new ≡ out.old ++ left_lines matrix.now) }
+{
+    let Some(matrix) = matrix else {
+        return Ok(());
+    };
+    put(out, b"design ")?;
+    put_number(out, u128::from(matrix.shape().runs()))?;
+    put(out, b" runs not proved best\n")?;
+    put_resolution(alloc, out, false, matrix)
+}
+
+/// Appends the resolution of a design, or that it has no defining words.
+fn put_resolution(
+    alloc: Global,
+    out: &mut Bytes,
+    least: bool,
+    matrix: &Matrix,
+) -> Result<(), NoMemory>
+    ensures { OnOk result
+        (out.new
+        ≡ out.old
+        ++ resolution_line least
+        (pattern_of (dimensions_of matrix.now.shape) matrix.now.rows)) }
+{
+    let pattern = pattern_of(alloc, matrix)?;
+    // A design has at most 40 factors.
+    let _shape = matrix.shape();
+    let r = resolution(&pattern);
+    if usize::from(r) > pattern.len() {
+        return put(out, b"no defining words\n");
+    }
+    put(out, b"resolution ")?;
+    put_number(out, u128::from(r))?;
+    if least {
+        return put(out, b" least aberration\n");
+    }
+    put(out, b"\n")
 }
 
 /// Appends the number of runs of a shape.

@@ -1,9 +1,30 @@
-//! The listing of a step: its head and the rules of its design.
+//! The listing of a step: its head, the rules of its design, and the sections that EXAMINE asks for.
 #![tactic(auto)]
 
+mod aliasing;
+mod blocked;
+mod class;
+mod components;
+mod design;
 mod head;
+mod laws;
+mod lines;
+mod listed;
+mod pattern;
 mod product;
 mod rules;
+mod sections;
+#[cfg(test)]
+mod tests;
 
+pub use aliasing::alias_listing;
+pub use blocked::blocked_listing;
+pub use design::design_listing;
 pub use head::head_listing;
+pub use laws::{
+    aliased_where_class_numbers_agree, aliased_where_sums_are_multiples, classes_by_number,
+    components_are_counted, each_component_once,
+};
+pub use pattern::pattern_listing;
 pub use rules::rules_listing;
+pub use sections::examine_listing;

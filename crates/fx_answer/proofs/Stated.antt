@@ -1,6 +1,6 @@
 -- What problems of steps have, and the questions that state them.
 use Rattle.std.proofs.Common.{ℕ, ◌≡◌, ◌<◌, ◌≤◌, ◌+◌, ◌^◌, ◌||◌, Bool, true, false, List, [], ◌∷◌, length, Option, Some, None, refl, sym, ap, ◌∙◌, subst, arith, inl, inr, IsTrue, eqb, eq-eqb, eqb-true}
-use Rattle.std.specs.Prelude.{nat_le, if◌then◌else◌}
+use Rattle.std.specs.Prelude.{nat_le, not, if◌then◌else◌}
 use Rattle.std.specs.List.{list_any}
 use Rattle.std.specs.Option.{option_map}
 use Rattle.std.proofs.lemmas.Bool.{leb-true, cases_Bool, and_parts}
@@ -8,7 +8,7 @@ use Rattle.fx_designs.specs.Galois.{is_order}
 use Rattle.fx_designs.specs.Problems.{Problem, Requirement}
 use Rattle.fx_designs.specs.Problems as problems
 use Rattle.fx_vectors.specs.declared.question.Demands.{Demands}
-use Rattle.fx_vectors.specs.Question.{CanBeAsked, IsValid}
+use Rattle.fx_vectors.specs.Question.{CanBeAsked, IsValid, is_resolution}
 use Rattle.fx_vectors.specs.Question as questions
 use Rattle.fx_vectors.specs.Effects.{numbers_of}
 use Rattle.fx_settings.specs.declared.settings.Size.{Size}
@@ -18,17 +18,17 @@ use Rattle.fx_settings.specs.Valid.{is_criterion, is_size, has_blocks}
 use Rattle.fx_statements.specs.declared.step.Step.{Step}
 use Rattle.fx_statements.specs.declared.wanted.Wanted.{Wanted}
 use Rattle.fx_statements.specs.declared.wanted.Wanted.TheVariants as wanted
-use Rattle.fx_statements.specs.Goals.{goal_of, criterion_of}
+use Rattle.fx_statements.specs.Goals.{Goal, AtLeast, Highest, ForEffects, goal_of, criterion_of}
 use Rattle.fx_statements.specs.Valid.{CanBeWanted}
 use Rattle.fx_statements.specs.Steps.{Meaning}
-use Rattle.fx_answer.specs.Questions.{in_runs, is_unblocked, problem_by, problem_of, requirement_of}
+use Rattle.fx_answer.specs.Questions.{in_runs, problem_by, problem_of, requirement_of}
 
--- no least aberration, some factors, and the requirement of the step's goal
+-- the step's least aberration, some factors, and the requirement of its goal
 pub record IsStated (step : Meaning) (p : Problem) : Type 0 where
-  pub least : p.least ≡ false
+  pub least : p.least ≡ step.settings.least
   pub some : 0 < p.dimensions.s + p.dimensions.t
   pub levels : p.dimensions.q ≡ step.settings.q
-  pub asked : requirement_of step.goal ≡ Some p.requirement
+  pub asked : requirement_of step.settings.least step.goal ≡ Some p.requirement
 
 pub same_some : {A : Type 0} (x y : A) → Some x ≡ Some y → x ≡ y
 same_some x y e = cc
@@ -41,17 +41,17 @@ of_map : {A B : Type 0} (f : A → B) (x : Option A) (y : B) → option_map f x 
 of_map f None y e = absurd (cc e)
 of_map f (Some a) y e = (a, refl, same_some (f a) y e)
 
-by_size : (step : Meaning) (size : Size) (p : Problem) → problem_by step.settings.q (length step.factors) size step.goal ≡ Some p → IsStated step p
+by_size : (step : Meaning) (size : Size) (p : Problem) → problem_by step.settings.q (length step.factors) step.settings.least size step.goal ≡ Some p → IsStated step p
 by_size step (Runs m) p e =
-    let few = of_choice (nat_le 1 (length step.factors)) (option_map (in_runs step.settings.q m (length step.factors)) (requirement_of step.goal)) p e in
+    let few = of_choice (nat_le 1 (length step.factors)) (option_map (in_runs step.settings.q m (length step.factors) step.settings.least) (requirement_of step.settings.least step.goal)) p e in
     let some = leb-true 1 (length step.factors) few.0 in
-    let asked = of_map (in_runs step.settings.q m (length step.factors)) (requirement_of step.goal) p few.1 in
+    let asked = of_map (in_runs step.settings.q m (length step.factors) step.settings.least) (requirement_of step.settings.least step.goal) p few.1 in
     subst (IsStated step) asked.2 (record { least = refl; some = omega (arith, some); levels = refl; asked = asked.1 })
 by_size step Minimum p e = absurd (cc e)
 
 pub is_stated : (step : Meaning) (p : Problem) → problem_of step ≡ Some p → IsStated step p
 is_stated step p e =
-    let plain = of_choice (is_unblocked step) (problem_by step.settings.q (length step.factors) step.settings.size step.goal) p e in
+    let plain = of_choice (not (has_blocks step.settings.blocks)) (problem_by step.settings.q (length step.factors) step.settings.least step.settings.size step.goal) p e in
     by_size step step.settings.size p plain.1
 
 -- the orders of fields are the levels that a step may have
@@ -73,14 +73,27 @@ order_of_levels q h = order_among (2 ∷ 3 ∷ 4 ∷ 5 ∷ 7 ∷ 8 ∷ 9 ∷ [])
 
 -- what a step wants may be asked for
 module _ (q m s : ℕ) where
-  can_be_asked : (w : Wanted) (asked : Requirement) → requirement_of (goal_of w) ≡ Some asked → is_criterion (criterion_of w) ≡ true → CanBeWanted q s w
+  can_be_asked : (least : Bool) (w : Wanted) (asked : Requirement) → requirement_of least (goal_of w) ≡ Some asked → is_criterion (criterion_of w) ≡ true → CanBeWanted q s w
       → CanBeAsked (record { q = q; m = m; s = s; t = 0 }) asked
-  can_be_asked (wanted.Resolution r) asked e valid askable =
+  can_be_asked least (wanted.Resolution r) asked e valid askable =
       let both = and_parts (nat_le 3 r) (nat_le r 99) valid in
       subst (CanBeAsked (record { q = q; m = m; s = s; t = 0 })) (same_some (problems.AtResolution r) asked e) (leb-true 3 r both.0, leb-true r 99 both.1)
-  can_be_asked wanted.Highest asked e valid askable = absurd (cc e)
-  can_be_asked (wanted.Effects estimate others) asked e valid askable =
+  can_be_asked true wanted.Highest asked e valid askable =
+      let low : 3 ≤ 3 = omega arith in
+      let high : 3 ≤ 99 = omega arith in
+      subst (CanBeAsked (record { q = q; m = m; s = s; t = 0 })) (same_some (problems.AtResolution 3) asked e) (low, high)
+  can_be_asked false wanted.Highest asked e valid askable = absurd (cc e)
+  can_be_asked true (wanted.Effects estimate others) asked e valid askable = absurd (cc e)
+  can_be_asked false (wanted.Effects estimate others) asked e valid askable =
       subst (CanBeAsked (record { q = q; m = m; s = s; t = 0 })) (same_some (problems.ForEffects (numbers_of estimate) (numbers_of others)) asked e) (askable estimate others refl)
+
+-- with least aberration a resolution is asked for
+least_resolution : (least : Bool) (goal : Goal) (asked : Requirement) → requirement_of least goal ≡ Some asked → IsTrue least → IsTrue (is_resolution asked)
+least_resolution least (AtLeast r) asked e h = subst (λ z. IsTrue (is_resolution z)) (same_some (problems.AtResolution r) asked e) refl
+least_resolution true Highest asked e h = subst (λ z. IsTrue (is_resolution z)) (same_some (problems.AtResolution 3) asked e) refl
+least_resolution false Highest asked e h = absurd (cc e)
+least_resolution true (ForEffects estimate besides) asked e h = absurd (cc e)
+least_resolution false (ForEffects estimate besides) asked e h = absurd (cc h)
 
 module _ (step : Step) where
   level : is_level step.q ≡ true
@@ -103,8 +116,8 @@ module _ (step : Step) where
   few_factors = most (has_blocks step.blocks) (and_parts _ _ step.factor_count).1
 
   -- the question that the step asks is valid
-  pub valid_question : (m s : ℕ) (demands : Demands) → step.size ≡ Runs m → s ≡ length step.factors → requirement_of (goal_of step.wanted) ≡ Some (questions.requirement_of demands)
-      → IsValid (record { shape = record { q = step.q; m = m; s = s; t = 0 }; demands = demands; least = false })
+  pub valid_question : (m s : ℕ) (demands : Demands) → step.size ≡ Runs m → s ≡ length step.factors → requirement_of step.least (goal_of step.wanted) ≡ Some (questions.requirement_of demands)
+      → IsValid (record { shape = record { q = step.q; m = m; s = s; t = 0 }; demands = demands; least = step.least })
   valid_question m s demands is count asked =
       let sized = and_parts (nat_le 1 m) (nat_le (step.q ^ m) 1024) (subst (λ z. is_size step.q z ≡ true) is size) in
       let some = some_factors in
@@ -120,6 +133,6 @@ module _ (step : Step) where
           factors_in_blocks = λ h. absurd (omega (arith, h));
         };
         asked = subst (λ n. CanBeAsked (record { q = step.q; m = m; s = n; t = 0 }) (questions.requirement_of demands)) (sym count)
-            (can_be_asked step.q m (length step.factors) step.wanted (questions.requirement_of demands) asked criterion step.effects_askable);
-        least = λ h. absurd (cc h);
+            (can_be_asked step.q m (length step.factors) step.least step.wanted (questions.requirement_of demands) asked criterion step.effects_askable);
+        least = λ h. (least_resolution step.least (goal_of step.wanted) (questions.requirement_of demands) asked h, refl);
       }

@@ -1,22 +1,15 @@
 -- The outcome of a step.
-use Rattle.std.specs.Prelude.{ℕ, ◌≡◌, ◌+◌, length, Option, Some, None}
+use Rattle.std.specs.Prelude.{ℕ, ◌≡◌, ◌+◌, length, Some}
 use Rattle.fx_designs.specs.Problems.{Problem}
-use Rattle.fx_designs.specs.Outcomes.{Ending, Design, NoDesign, BudgetEnded, ending_of}
+use Rattle.fx_designs.specs.Outcomes.{ending_of}
 use Rattle.fx_vectors.specs.declared.shape.Shape.{Shape}
 use Rattle.fx_vectors.specs.declared.question.Question.{Question}
 use Rattle.fx_vectors.specs.Shape.{IsShape, dimensions_of}
-use Rattle.fx_vectors.specs.Matrix.{MatrixView}
 use Rattle.fx_vectors.specs.Question.{problem_of as question_problem}
 use Rattle.fx_statements.specs.declared.outcome.Outcome.{Outcome}
 use Rattle.fx_statements.specs.Steps.{Meaning}
-use Rattle.fx_statements.specs.Outcomes.{ending_in}
+use Rattle.fx_statements.specs.Outcomes.{ending_in, HasMatrix}
 use Rattle.fx_answer.specs.Questions.{problem_of}
-
--- the matrix that comes with an ending: that of its design, whole and of this shape; else none
-abbrev pub HasMatrix : Shape → Ending → Option MatrixView → Type 0
-HasMatrix shape (Design rows count) matrix = (matrix ≡ Some (record { shape = shape; rows = rows })) × (length rows ≡ shape.s + shape.t)
-HasMatrix shape (NoDesign count) matrix = matrix ≡ None
-HasMatrix shape (BudgetEnded budget) matrix = matrix ≡ None
 
 -- the outcome of a question within a budget
 pub record IsOutcomeOf (question : Question) (budget : ℕ) (outcome : Outcome) : Type 0 where

@@ -1,4 +1,4 @@
-ghost use Rattle.std.specs.Prelude.{◌≡◌, false, true, IfOk};
+ghost use Rattle.std.specs.Prelude.{◌≡◌, true, IfOk};
 ghost use Rattle.std.specs.Option.{is_some};
 ghost use Rattle.fx_vectors.specs.declared.question.Question.{Question};
 ghost use Rattle.fx_search.specs.Asked.{IsAnswer};
@@ -13,9 +13,10 @@ use fx_statements::{End, Outcome, Step};
 use fx_vectors::{Books, Shape};
 use std::alloc::Global;
 
-/// The outcome of a step that can be answered: the first canonical matrix that meets what is asked;
-/// that no rule matrix at all does; or, exactly where the nodes of its question are more than its
-/// budget, that the budget ended.
+/// The outcome of a step that can be answered: the first canonical matrix that meets what is asked,
+/// where least aberration is asked of least pattern; that no rule matrix at all does; or, exactly where
+/// the nodes of its question are more than its budget, that the budget ended, with the matrix that the
+/// search is left with.
 ///
 /// # Errors
 ///
@@ -31,7 +32,7 @@ pub fn answer(alloc: Global, step: &Step) -> Result<Outcome, NoMemory>
 
 /// The outcome by what the search for matrices of this shape found within the budget.
 fn outcome_of(alloc: Global, shape: Shape, budget: u64, asked: Asked) -> Outcome
-    ensures { (question : Question) → question.shape ≡ shape → question.least ≡ false
+    ensures { (question : Question) → question.shape ≡ shape
         → IsAnswer question budget asked
         → IsOutcomeOf question budget result }
 {
@@ -58,10 +59,10 @@ fn outcome_of(alloc: Global, shape: Shape, budget: u64, asked: Asked) -> Outcome
             nodes,
             books,
         },
-        Asked::Budget { best: _best } => Outcome {
+        Asked::Budget { best } => Outcome {
             end: End::Budget,
             shape,
-            matrix: None,
+            matrix: best,
             nodes: budget,
             books,
         },

@@ -3,7 +3,7 @@ ghost use Rattle.std.specs.Option.{is_some};
 ghost use Rattle.fx_vectors.specs.Question.{IsValid, problem_of as question_problem, requirement_of as demanded};
 ghost use Rattle.fx_statements.specs.Goals.{goal_of};
 ghost use Rattle.fx_statements.specs.Steps.{meaning_of};
-ghost use Rattle.fx_answer.specs.Questions.{has_runs, is_unblocked, problem_of, requirement_of};
+ghost use Rattle.fx_answer.specs.Questions.{has_runs, problem_of, requirement_of};
 
 use fx_base::NoMemory;
 use fx_statements::{Size, Step, Wanted};
@@ -16,7 +16,6 @@ pub(crate) fn question_of(alloc: Global, step: &Step) -> Result<Question, NoMemo
     ensures problem { IfOk result (λ question.
         problem_of (meaning_of step.now) ≡ Some (question_problem question)) }
     ensures valid { IfOk result IsValid }
-    ensures not_least { IfOk result (λ question. question.least ≡ false) }
     ensures factors { IfOk result (λ question. question.shape.s ≡ length step.now.factors) }
     ensures no_blocks { IfOk result (λ question. question.shape.t ≡ 0) }
 {
@@ -30,8 +29,8 @@ pub(crate) fn question_of(alloc: Global, step: &Step) -> Result<Question, NoMemo
             };
             Ok(Question {
                 shape,
-                demands: demands_of(alloc, &step.wanted)?,
-                least: false,
+                demands: demands_of(alloc, &step.wanted, step.least)?,
+                least: step.least,
             })
         }
         // No step that can be answered so far asks for this.
@@ -39,16 +38,16 @@ pub(crate) fn question_of(alloc: Global, step: &Step) -> Result<Question, NoMemo
     }
 }
 
-/// What is demanded of one design.
-fn demands_of(alloc: Global, wanted: &Wanted) -> Result<Demands, NoMemory>
-    requires { is_some (requirement_of (goal_of wanted.now)) ≡ true }
+/// What is demanded of one design, with a least pattern or without.
+fn demands_of(alloc: Global, wanted: &Wanted, least: bool) -> Result<Demands, NoMemory>
+    requires { is_some (requirement_of least (goal_of wanted.now)) ≡ true }
     ensures { IfOk result (λ demands.
-        requirement_of (goal_of wanted.now) ≡ Some (demanded demands)) }
+        requirement_of least (goal_of wanted.now) ≡ Some (demanded demands)) }
 {
     match wanted {
         Wanted::Resolution { r } => Ok(Demands::Resolution { r: *r }),
-        // No step that can be answered so far asks for this.
-        Wanted::Highest => unreachable!(),
+        // Of the designs of least pattern each has the highest resolution.
+        Wanted::Highest => Ok(Demands::Resolution { r: 3 }),
         Wanted::Effects {
             estimate,
             nonnegligible,
@@ -60,18 +59,11 @@ fn demands_of(alloc: Global, wanted: &Wanted) -> Result<Demands, NoMemory>
 }
 
 /// Whether a step is of a form that can be answered so far: a fixed number of runs, without blocks,
-/// at least a resolution or effects, and no least aberration.
+/// and at least a resolution, effects, or least aberration.
 pub fn can_be_answered(step: &Step) -> bool
     ensures { result ≡ is_some (problem_of (meaning_of step.now)) }
 {
-    is_unblocked(step) && has_runs(step.size) && asks_for_one(&step.wanted)
-}
-
-/// Whether neither blocks nor least aberration are asked for.
-fn is_unblocked(step: &Step) -> bool
-    ensures { result ≡ is_unblocked (meaning_of step.now) }
-{
-    !step.blocks.are_there() && !step.least
+    !step.blocks.are_there() && has_runs(step.size) && asks_for_one(&step.wanted, step.least)
 }
 
 /// Whether the number of runs is fixed.
@@ -84,12 +76,14 @@ fn has_runs(size: Size) -> bool
     }
 }
 
-/// Whether one design is asked for, and not the best.
-fn asks_for_one(wanted: &Wanted) -> bool
-    ensures { result ≡ is_some (requirement_of (goal_of wanted.now)) }
+/// Whether one design is asked for, with a least pattern or without, and not one of several sizes or
+/// resolutions.
+fn asks_for_one(wanted: &Wanted, least: bool) -> bool
+    ensures { result ≡ is_some (requirement_of least (goal_of wanted.now)) }
 {
     match wanted {
-        Wanted::Resolution { .. } | Wanted::Effects { .. } => true,
-        Wanted::Highest => false,
+        Wanted::Resolution { .. } => true,
+        Wanted::Highest => least,
+        Wanted::Effects { .. } => !least,
     }
 }

@@ -1,4 +1,4 @@
--- Under effects, without blocks: which rows are barred, and the closing word of a barred row.
+-- Under effects, over the factor rows: which rows are barred, and the closing word of a barred row.
 use Rattle.std.proofs.Common.{ℕ, ◌≡◌, ◌<◌, ◌≤◌, ◌+◌, ◌-◌, ◌*◌, ◌^◌, ◌⊎◌, zero, suc, Bool, true, false, cond, eqb, ◌||◌, List, [], ◌∷◌, ◌++◌, map, take, drop, length, get_or, slice_index, slice_index_or, Some, length-append, length-take, take-append-drop, drop-cons, refl, sym, subst, ◌∙◌, ap, arith, inl, inr}
 use Rattle.std.specs.Prelude.{unwrap_or, Option}
 use Rattle.std.specs.List.{AllByRecursion}
@@ -11,7 +11,7 @@ use Rattle.fx_designs.specs.Demands.{is_forbidden_word, is_allowed, must_balance
 use Rattle.fx_designs.specs.Closing.{closing_word}
 use Rattle.fx_laws.proofs.Codes.{number-zeros, digits-vector, number-digits, number-below}
 use Rattle.fx_laws.proofs.Forms.{scale-one}
-use Rattle.fx_laws.proofs.Ranks.{zeros-plus, plus-zero, combination-append, number-same}
+use Rattle.fx_laws.proofs.Ranks.{zeros-plus, plus-zero, combination-append, append-vector, number-same}
 use Rattle.fx_laws.proofs.Space.{zeros-vector, plus-vector, scale-vector, combination-vector}
 use Rattle.fx_vectors.proofs.Steps.{are_vectors, drop-vector}
 use Rattle.fx_vectors.proofs.Supports.{bit}
@@ -19,16 +19,19 @@ use Rattle.fx_vectors.specs.Question.{CanBeAsked}
 use Rattle.fx_demands.specs.declared.forbidden_list.ForbiddenVector.{ForbiddenVector}
 use Rattle.fx_demands.specs.EffectVectors.{last_factor, class_of, IsForbidden, AreAllForbidden}
 use Rattle.fx_demands.specs.Completions.{IsClosing}
-use Rattle.fx_demands.proofs.Completing.{weight-zeros, weightless, weight-length}
-use Rattle.fx_demands.proofs.Closings.{last-top}
+use Rattle.fx_demands.proofs.Completing.{weight-zeros, weight-append, weightless}
+use Rattle.fx_demands.proofs.Closings.{last-top, last-zeros}
 use Rattle.fx_demands.proofs.Choice.{word_is, not_allowed, allowed}
-use Rattle.fx_demands.proofs.Lasts.{last-at}
+use Rattle.fx_demands.proofs.Lasts.{last-at, last-zero}
+use Rattle.fx_demands.proofs.Supports.{take-vector}
 use Rattle.fx_points.specs.Sums.{sum_of}
 use Rattle.fx_points.proofs.Additions.{digits-zero, sum-digits, minus_of, there_and_back, back_and_there}
 use Rattle.fx_points.proofs.Halves.{power-some}
 use Rattle.fx_barred.specs.FirstWords.{sum_to, vector_at, HasSum, HasNone, IsFirst}
 use Rattle.fx_barred.proofs.Firsts.{vector-at}
 use Rattle.fx_barred.proofs.Longer.{not_before}
+use Rattle.fx_barred.proofs.Bars.{later-zeros}
+use Rattle.fx_barred.specs.Reach.{with_row}
 use Rattle.fx_barred.proofs.Tables.{at-any}
 
 code-zero : (a : ℕ) → bit a ≡ 0 → a ≡ 0
@@ -159,7 +162,38 @@ module _ (d : Dimensions) (f : IsField d.q) (rows : List ℕ) (x : ℕ) (x-below
       number-same d.q d.m f _ _ (combination-vector d.q d.m f w _ (are_vectors d.q d.m (rows ++ x ∷ []) some)) (zeros-vector d.q d.m f)
       (ap (number d.q) total ∙ from-minus d.q d.m f s x x-below e ∙ sym (number-zeros d.q d.m))
 
-module _ (d : Dimensions) (f : IsField d.q) (wanted : Requirement) (words : List ForbiddenVector) (unblocked : d.t ≡ 0) (all : AreAllForbidden d wanted words) (rows : List ℕ) (below : AllByRecursion (λ x. x < d.q ^ d.m) rows) (part : length rows < d.s)
+-- codes that come after the first rows change nothing of a sum over these
+pub sum-front : (q m : ℕ) (rows v w : List ℕ) (i : ℕ) → i ≤ length v → sum_to q m rows (v ++ w) i ≡ sum_to q m rows v i
+sum-front q m rows v w zero low = refl
+sum-front q m rows v w (suc j) low = ap (with_row q m rows j (sum_to q m rows (v ++ w) j)) (code-front v w j (omega arith)) ∙ ap (λ (s : ℕ). with_row q m rows j s (slice_index v j)) (sum-front q m rows v w j (omega arith))
+  where
+    code-front : (v w : List ℕ) (j : ℕ) → j < length v → slice_index (v ++ w) j ≡ slice_index v j
+    code-front [] w j low = absurd (omega arith)
+    code-front (a ∷ v) w zero low = refl
+    code-front (a ∷ v) w (suc j) low = code-front v w j (omega arith)
+
+-- a vector over the factors, with zeros for the block factors
+last-padded : (v : List ℕ) (t : ℕ) → last_nonzero (v ++ zeros t) ≡ last_nonzero v
+last-padded [] t = last-zeros t
+last-padded (a ∷ v) t = rw (last-padded v t) refl
+
+factor-padded : (v : List ℕ) (t : ℕ) → last_factor (v ++ zeros t) ≡ last_factor v
+factor-padded [] t = last-zero (zeros t) (weight-zeros t)
+factor-padded (a ∷ v) t = rw (factor-padded v t) refl
+
+pub take-front : (v w : List ℕ) (i : ℕ) → i ≡ length v → take i (v ++ w) ≡ v
+take-front [] w i e = rw e refl
+take-front (a ∷ v) w i e = rw e (ap (λ (l : List ℕ). a ∷ l) (take-front v w (length v) refl))
+
+pub drop-front : (v w : List ℕ) (i : ℕ) → i ≡ length v → drop i (v ++ w) ≡ w
+drop-front [] w i e = rw e refl
+drop-front (a ∷ v) w i e = rw e (drop-front v w (length v) refl)
+
+pub number-padded : (q : ℕ) (v : List ℕ) (t : ℕ) → number q (v ++ zeros t) ≡ number q v
+number-padded q [] t = number-zeros q t
+number-padded q (a ∷ v) t = rw (number-padded q v t) refl
+
+module _ (d : Dimensions) (f : IsField d.q) (wanted : Requirement) (words : List ForbiddenVector) (all : AreAllForbidden d wanted words) (rows : List ℕ) (below : AllByRecursion (λ x. x < d.q ^ d.m) rows) (part : length rows < d.s)
     (allowed-so-far : is_allowed d wanted rows ≡ true) (x : ℕ) (x-below : x < d.q ^ d.m) where
   abbrev n : ℕ
   n = d.s + d.t
@@ -176,8 +210,8 @@ module _ (d : Dimensions) (f : IsField d.q) (wanted : Requirement) (words : List
   abbrev any : ForbiddenVector
   any = record { vector = []; class = 0; number = 0 }
 
-  places : n ≡ d.s
-  places = omega (arith, unblocked)
+  whole-part : length rows < d.s + d.t
+  whole-part = omega (arith, part)
 
   longer-length : length longer ≡ r + 1
   longer-length = length-append rows (x ∷ [])
@@ -185,32 +219,35 @@ module _ (d : Dimensions) (f : IsField d.q) (wanted : Requirement) (words : List
   longer-fits : length longer ≤ n
   longer-fits = omega (arith, longer-length, part)
 
-  -- without blocks a word is forbidden where its factor part has to be balanced
-  forbidden-is : (w : List ℕ) → IsVector d.q n w → is_forbidden_word d wanted w ≡ must_balance d wanted w
-  forbidden-is w h =
-      let whole : take d.s w ≡ w = take_all d.s w (omega (arith, h.len, places)) in
-      let len : length (drop d.s w) ≡ 0 = omega (arith, (drop-vector d.q n w d.s h).len, places) in
-      let gone = weight-length (drop d.s w) in
-      let none : is_zero (drop d.s w) ≡ true = eq-eqb (weight (drop d.s w)) 0 (omega arith) in
-      ap (λ (b : Bool). cond b (must_balance d wanted (take d.s w)) (is_zero (take d.s w) || is_estimated wanted (take d.s w))) none ∙ ap (must_balance d wanted) whole
-
-  -- a vector of the list that is found closes the longer prefix
-  abbrev word : ℕ → List ℕ
-  word k = vector_at words k
+  -- with zeros for the block factors a word is forbidden where its factor part has to be balanced
+  forbidden-is : (w : List ℕ) (j : ℕ) → drop d.s w ≡ zeros j → is_forbidden_word d wanted w ≡ must_balance d wanted (take d.s w)
+  forbidden-is w j block =
+      let none : is_zero (drop d.s w) ≡ true = eq-eqb (weight (drop d.s w)) 0 (ap weight block ∙ weight-zeros j) in
+      ap (λ (b : Bool). cond b (must_balance d wanted (take d.s w)) (is_zero (take d.s w) || is_estimated wanted (take d.s w))) none
 
   given : (k : ℕ) → k < length words → IsForbidden d wanted (slice_index_or words k any)
   given k low = all.each k any low
 
+  -- a vector of the list, as a word
+  abbrev word : ℕ → List ℕ
+  word k = vector_at words k ++ zeros d.t
+
+  listed-vector : (k : ℕ) → k < length words → IsVector d.q d.s (vector_at words k)
+  listed-vector k low = subst (λ (v : List ℕ). IsVector d.q d.s v) (sym (vector-at words k any low)) (given k low).vector
+
   word-vector : (k : ℕ) → k < length words → IsVector d.q n (word k)
-  word-vector k low = subst (λ (j : ℕ). IsVector d.q j (word k)) (sym places) (subst (λ (v : List ℕ). IsVector d.q d.s v) (sym (vector-at words k any low)) (given k low).vector)
+  word-vector k low = append-vector d.q d.s d.t (vector_at words k) (zeros d.t) (listed-vector k low) (zeros-vector d.q d.t f)
 
   word-normal : (k : ℕ) → k < length words → is_normal (word k) ≡ true
-  word-normal k low = ap is_normal (vector-at words k any low) ∙ (given k low).normal
+  word-normal k low = ap (λ (c : ℕ). eqb c 1) (last-padded (vector_at words k) d.t) ∙ ap is_normal (vector-at words k any low) ∙ (given k low).normal
+
+  word-weight : (k : ℕ) → weight (word k) ≡ weight (vector_at words k)
+  word-weight k = let parts = weight-append (vector_at words k) (zeros d.t) in let none = weight-zeros d.t in omega arith
 
   ends : (k : ℕ) → HasSum d.q d.m rows words r goal-sum k → (drop (r + 1) (word k) ≡ zeros (n - (r + 1))) × (get_or (word k) r 0 ≡ 1)
   ends k h =
       let vector = word-vector k h.there in
-      let last = last-is (word k) r h.last in
+      let last = last-is (word k) r (factor-padded (vector_at words k) d.t ∙ h.last) in
       let rest : drop (r + 1) (word k) ≡ zeros (n - (r + 1)) = weightless (drop (r + 1) (word k)) (n - (r + 1)) (drop-vector d.q n (word k) (r + 1) vector).len last.0 in
       let up : suc r ≡ r + 1 = omega arith in
       let tail : drop r (word k) ≡ get_or (word k) r 0 ∷ zeros (n - (r + 1)) = drop-cons (word k) r 0 last.2 ∙ ap (λ (l : List ℕ). get_or (word k) r 0 ∷ l) (ap (λ (j : ℕ). drop j (word k)) up ∙ rest) in
@@ -222,13 +259,14 @@ module _ (d : Dimensions) (f : IsField d.q) (wanted : Requirement) (words : List
       let vector = word-vector k h.there in
       let e = ends k h in
       let at = vector-at words k any h.there in
+      let len = (listed-vector k h.there).len in
       record {
         vector = vector;
         on_rows = subst (λ (j : ℕ). drop j (word k) ≡ zeros (n - j)) (sym longer-length) e.0;
         normal = word-normal k h.there;
         hit = record {
-          zero_sum = zero-from d f rows x x-below (word k) vector e.1 (ap weight e.0 ∙ weight-zeros (n - (r + 1))) (omega (arith, part)) h.sum;
-          forbidden = forbidden-is (word k) vector ∙ ap (must_balance d wanted) at ∙ (given k h.there).forbidden;
+          zero_sum = zero-from d f rows x x-below (word k) vector e.1 (ap weight e.0 ∙ weight-zeros (n - (r + 1))) whole-part (sum-front d.q d.m rows (vector_at words k) (zeros d.t) r (omega (arith, len, part)) ∙ h.sum);
+          forbidden = forbidden-is (word k) d.t (drop-front (vector_at words k) (zeros d.t) d.s (sym len)) ∙ ap (must_balance d wanted) (take-front (vector_at words k) (zeros d.t) d.s (sym len) ∙ at) ∙ (given k h.there).forbidden;
         };
       }
 
@@ -240,18 +278,25 @@ module _ (d : Dimensions) (f : IsField d.q) (wanted : Requirement) (words : List
       let up : suc r ≡ r + 1 = omega arith in
       let tail : drop r other ≡ get_or other r 0 ∷ zeros (n - (r + 1)) = drop-cons other r 0 low ∙ ap (λ (l : List ℕ). get_or other r 0 ∷ l) (ap (λ (j : ℕ). drop j other) up ∙ after) in
       let more : zeros (n - r) ≡ 0 ∷ zeros (n - (r + 1)) = let e : n - r ≡ suc (n - (r + 1)) = omega (arith, part) in ap zeros e in
-      let some : get_or other r 0 ≡ 0 → ⊥ = λ z. not_before d f wanted rows below part allowed-so-far x x-below other c (tail ∙ ap (λ (a : ℕ). a ∷ zeros (n - (r + 1))) z ∙ sym more) in
+      let some : get_or other r 0 ≡ 0 → ⊥ = λ z. not_before d f wanted rows below whole-part allowed-so-far x x-below other c (tail ∙ ap (λ (a : ℕ). a ∷ zeros (n - (r + 1))) z ∙ sym more) in
       let light : weight (drop (r + 1) other) ≡ 0 = ap weight after ∙ weight-zeros (n - (r + 1)) in
       let last = last-at other r low some light in
       let one : get_or other r 0 ≡ 1 = sym (last-top r other (get_or other r 0) (n - (r + 1)) tail some) ∙ eqb-true (last_nonzero other) 1 c.normal in
-      let vector : IsVector d.q d.s other = subst (λ (j : ℕ). IsVector d.q j other) places c.vector in
-      let listed = all.all other vector c.normal (sym (forbidden-is other c.vector) ∙ c.hit.forbidden) in
+      let block : drop d.s other ≡ zeros (n - d.s) = later-zeros n (r + 1) d.s other (omega (arith, part)) after in
+      let rest : n - d.s ≡ d.t = omega arith in
+      let v : List ℕ = take d.s other in
+      let whole : v ++ zeros d.t ≡ other = ap (λ (j : ℕ). v ++ zeros j) (sym rest) ∙ ap (λ (l : List ℕ). v ++ l) (sym block) ∙ take-append-drop d.s other in
+      let vector : IsVector d.q d.s v = take-vector d.q n d.s d.t other c.vector refl in
+      let normal : is_normal v ≡ true = ap (λ (c : ℕ). eqb c 1) (sym (last-padded v d.t)) ∙ ap is_normal whole ∙ c.normal in
+      let listed = all.all v vector normal (sym (forbidden-is other (n - d.s) block) ∙ c.hit.forbidden) in
       let k : ℕ = listed.0 in
       let len : length (map (λ (w : ForbiddenVector). w.vector) words) ≡ length words = length-map words (λ (w : ForbiddenVector). w.vector) in
       let there : k < length words = omega (arith, listed.1) in
-      let is : word k ≡ other = at-any (map (λ (w : ForbiddenVector). w.vector) words) k [] other listed.1 ∙ listed.2 in
-      let sum : sum_to d.q d.m rows other r ≡ goal-sum = zero-to d f rows x x-below other c.vector one light (omega (arith, part)) c.hit.zero_sum in
-      (k, record { there = there; last = ap last_factor is ∙ last; sum = ap (λ (v : List ℕ). sum_to d.q d.m rows v r) is ∙ sum }, is)
+      let at : vector_at words k ≡ v = at-any (map (λ (w : ForbiddenVector). w.vector) words) k [] v listed.1 ∙ listed.2 in
+      let is : word k ≡ other = ap (λ (v : List ℕ). v ++ zeros d.t) at ∙ whole in
+      let sum : sum_to d.q d.m rows other r ≡ goal-sum = zero-to d f rows x x-below other c.vector one light whole-part c.hit.zero_sum in
+      let front : sum_to d.q d.m rows v r ≡ goal-sum = sym (sum-front d.q d.m rows v (zeros d.t) r (omega (arith, vector.len, part))) ∙ ap (λ (w : List ℕ). sum_to d.q d.m rows w r) whole ∙ sum in
+      (k, record { there = there; last = ap last_factor at ∙ sym (factor-padded v d.t) ∙ ap last_factor whole ∙ last; sum = ap (λ (v : List ℕ). sum_to d.q d.m rows v r) at ∙ front }, is)
 
   pub open_row : CanBeAsked d wanted → HasNone d.q d.m rows words r goal-sum (length words) → is_allowed d wanted longer ≡ true
   open_row asked none = allowed d f wanted longer longer-fits asked (λ other c. (let w = found other c in none.none w.0 w.1.there w.1))
@@ -261,10 +306,10 @@ module _ (d : Dimensions) (f : IsField d.q) (wanted : Requirement) (words : List
     closing = closes k first.here
 
     class-at : (j : ℕ) → HasSum d.q d.m rows words r goal-sum j → (slice_index_or words j any).class ≡ 64 * (r + 1) + weight (word j)
-    class-at j h = (given j h.there).class ∙ ap class_of (sym (vector-at words j any h.there)) ∙ ap (λ (l : ℕ). 64 * l + weight (word j)) h.last
+    class-at j h = (given j h.there).class ∙ ap class_of (sym (vector-at words j any h.there)) ∙ ap (λ (l : ℕ). 64 * l + weight (vector_at words j)) h.last ∙ ap (λ (w : ℕ). 64 * (r + 1) + w) (sym (word-weight j))
 
     number-at : (j : ℕ) → j < length words → (slice_index_or words j any).number ≡ number d.q (word j)
-    number-at j low = (given j low).number ∙ ap (number d.q) (sym (vector-at words j any low))
+    number-at j low = (given j low).number ∙ ap (number d.q) (sym (vector-at words j any low)) ∙ sym (number-padded d.q (vector_at words j) d.t)
 
     -- no closing word is preferred to the first
     best : (other : List ℕ) → IsClosing d wanted longer other → (weight (word k) < weight other) ⊎ ((weight (word k) ≡ weight other) × (number d.q other ≤ number d.q (word k)))

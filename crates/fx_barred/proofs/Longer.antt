@@ -1,19 +1,65 @@
--- One row more than the rows of an allowed prefix: no closing word is one of the rows before.
-use Rattle.std.proofs.Common.{ℕ, ◌≡◌, ◌<◌, ◌+◌, ◌-◌, ◌^◌, zero, suc, true, List, [], ◌∷◌, ◌++◌, take, drop, length, refl, sym, ◌∙◌, ap, arith, take-append-drop, length-take}
+-- One row more than the rows of a prefix: the word with a single code, at the new row; and where the prefix is allowed, no closing
+-- word is one of the rows before.
+use Rattle.std.proofs.Common.{ℕ, ◌≡◌, ◌<◌, ◌≤◌, ◌+◌, ◌-◌, ◌^◌, zero, suc, true, List, [], ◌∷◌, ◌++◌, take, drop, set, get_or, slice_index, length, length-append, subst, refl, sym, ◌∙◌, ap, arith, take-append-drop, length-take}
 use Rattle.std.specs.List.{AllByRecursion}
 use Rattle.std.proofs.lemmas.Bool.{both_ways}
-use Rattle.fx_designs.specs.Galois.{digits, IsField}
+use Rattle.fx_designs.specs.Galois.{number, digits, IsField}
 use Rattle.fx_designs.specs.Vectors.{IsVector, zeros, plus, scale, combination, vectors_of}
 use Rattle.fx_designs.specs.Problems.{Dimensions, Requirement}
 use Rattle.fx_designs.specs.Demands.{is_allowed}
-use Rattle.fx_laws.proofs.Codes.{digits-vector}
+use Rattle.fx_laws.proofs.Codes.{digits-vector, number-zeros}
 use Rattle.fx_laws.proofs.Space.{AreVectors}
 use Rattle.fx_vectors.proofs.Steps.{are_vectors}
-use Rattle.fx_demands.specs.Completions.{IsClosing}
+use Rattle.fx_demands.specs.Completions.{IsPartial, IsClosing}
 use Rattle.fx_demands.proofs.Completing.{no-combination}
 use Rattle.fx_demands.proofs.Choice.{not_allowed}
+use Rattle.fx_demands.proofs.Closings.{length-zeros, first-begins, partial_first}
+use Rattle.fx_barred.proofs.Reach.{vector-set, number-set}
+use Rattle.fx_laws.proofs.Order.{each-append}
+use Rattle.fx_laws.proofs.Space.{zeros-vector}
 
-module _ (d : Dimensions) (f : IsField d.q) (wanted : Requirement) (rows : List ℕ) (below : AllByRecursion (λ x. x < d.q ^ d.m) rows) (part : length rows < d.s) (allowed-so-far : is_allowed d wanted rows ≡ true) (x : ℕ) (x-below : x < d.q ^ d.m) where
+-- the last of the rows
+pub row-last : (rows : List ℕ) (x : ℕ) → slice_index (rows ++ x ∷ []) (length rows) ≡ x
+row-last [] x = refl
+row-last (r ∷ rows) x = row-last rows x
+
+-- the word with a single code, which is 1, at the new row
+module _ (d : Dimensions) (f : IsField d.q) (rows : List ℕ) (below : AllByRecursion (λ x. x < d.q ^ d.m) rows) (part : length rows < d.s + d.t) (x : ℕ) (x-below : x < d.q ^ d.m) where
+  pub length-longer : length (rows ++ x ∷ []) ≡ length rows + 1
+  length-longer = length-append rows (x ∷ [])
+
+  pub fits-longer : length (rows ++ x ∷ []) ≤ d.s + d.t
+  fits-longer = omega (arith, length-longer, part)
+
+  pub below-longer : AllByRecursion (λ y. y < d.q ^ d.m) (rows ++ x ∷ [])
+  below-longer = each-append (λ y. y < d.q ^ d.m) rows (x ∷ []) below (x-below, tt)
+
+  abbrev pub single : List ℕ
+  single = set (zeros (d.s + d.t)) (length rows) 1
+
+  pub vector-single : IsVector d.q (d.s + d.t) single
+  vector-single = vector-set d.q (d.s + d.t) 1 (length rows) (zeros (d.s + d.t)) f.more_than_one (zeros-vector d.q (d.s + d.t) f)
+
+  pub front-single : drop (length rows) single ≡ 1 ∷ zeros (d.s + d.t - (length rows + 1))
+  front-single = first-begins d f (rows ++ x ∷ []) below-longer fits-longer (length rows) part
+
+  pub number-single : number d.q single ≡ d.q ^ length rows
+  number-single =
+      let n : ℕ = d.s + d.t in
+      let there : length rows < length (zeros n) = omega (arith, length-zeros n, part) in
+      let value = number-set d.q 1 (length rows) (zeros n) there (zero-at (length rows) n) in
+      let none = number-zeros d.q n in
+      omega arith
+    where
+      zero-at : (j n : ℕ) → get_or (zeros n) j 0 ≡ 0
+      zero-at j zero = refl
+      zero-at zero (suc n) = refl
+      zero-at (suc j) (suc n) = zero-at j n
+
+  pub partial-single : IsPartial d (rows ++ x ∷ []) (length rows) single x
+  partial-single = subst (λ (y : ℕ). IsPartial d (rows ++ x ∷ []) (length rows) single y) (row-last rows x) (partial_first d f (rows ++ x ∷ []) below-longer fits-longer (length rows) (omega (arith, length-longer)) vector-single)
+
+module _ (d : Dimensions) (f : IsField d.q) (wanted : Requirement) (rows : List ℕ) (below : AllByRecursion (λ x. x < d.q ^ d.m) rows) (part : length rows < d.s + d.t) (allowed-so-far : is_allowed d wanted rows ≡ true) (x : ℕ) (x-below : x < d.q ^ d.m) where
   abbrev q : ℕ
   q = d.q
 

@@ -1,17 +1,24 @@
-ghost use Rattle.std.specs.Prelude.{◌≡◌, ◌+◌, ◌-◌, ◌*◌, ◌^◌, ◌<◌, ◌≤◌, ◌≢◌, ◌++◌, [], ◌∷◌, ℕ, List, IfOk, IfSome, length, map, take, slice_index, slice_index_or, slice_set, ◌==◌, if◌then◌else◌};
+ghost use Rattle.std.specs.Prelude.{◌≡◌, ◌+◌, ◌-◌, ◌*◌, ◌^◌, ◌<◌, ◌≤◌, ◌≢◌, ◌++◌, [], ◌∷◌, ℕ, List, IfOk, IfSome, length, map, take, slice_index, slice_index_or, slice_set, ◌==◌, if◌then◌else◌, true, false, None, All};
 ghost use Rattle.std.specs.Option.{IfNone};
 ghost use Rattle.std.specs.Bool.{OnTrue};
 ghost use Rattle.std.specs.List.{AllByRecursion};
 ghost use Rattle.fx_designs.specs.Galois.{neg};
 ghost use Rattle.fx_demands.specs.declared.forbidden_list.ForbiddenVector.{ForbiddenVector};
-ghost use Rattle.fx_demands.specs.EffectVectors.{IsInOrder};
+ghost use Rattle.fx_designs.specs.Problems.{Dimensions, Requirement};
+ghost use Rattle.fx_designs.specs.Vectors.{IsVector};
+ghost use Rattle.fx_demands.specs.EffectVectors.{IsInOrder, AreFactorParts};
+ghost use Rattle.fx_points.specs.Points.{has};
+ghost use Rattle.fx_barred.specs.BestWords.{AreBest, AreWithin};
 ghost use Rattle.fx_points.specs.Sums.{sum_of};
 ghost use Rattle.fx_barred.specs.FirstWords.{FirstWordsView, AreFirstWords, AreWords, AreFirst, IsFirst, HasNone, vector_at};
 
+use crate::best_words::{Best, fill_listed};
 use crate::reached::{Reached, filled};
 use fx_base::NoMemory;
 use fx_demands::{ForbiddenVector, ForbiddenVectors};
 use fx_galois::Field;
+use fx_points::PointSet;
+use fx_vectors::Vector;
 use std::alloc::Global;
 use std::marker::Model;
 
@@ -94,6 +101,51 @@ impl FirstWords {
         if found == 0 { None } else { Some(found - 1) }
     }
 
+    /// The rows that a vector brings to zero, where another row may come.
+    pub fn barred(&self) -> PointSet
+        requires room { length self.now.rows < self.now.room }
+        ensures some { (x : ℕ) → x < self.now.q ^ self.now.m → has result x ≡ true
+            → (k : ℕ)
+            × IsFirst self.now.q self.now.m self.now.rows self.now.words (length self.now.rows)
+            (sum_of self.now.q (neg self.now.q 1) self.now.m 0 x) k }
+        ensures none { (x : ℕ) → x < self.now.q ^ self.now.m → has result x ≡ false
+            → HasNone self.now.q self.now.m self.now.rows self.now.words (length self.now.rows)
+            (sum_of self.now.q (neg self.now.q 1) self.now.m 0 x)
+            (length self.now.words) }
+    {
+        let mut set = PointSet::empty();
+        for x in 0..self.size() {
+            if self.first(x).is_some() {
+                set.insert(x);
+            }
+        }
+        set
+    }
+
+    /// How many points there are.
+    pub(crate) fn size(&self) -> u16
+        ensures points { result ≡ self.now.q ^ self.now.m }
+        ensures few { result ≤ 1024 }
+    {
+        self.reached.size()
+    }
+
+    /// Puts in for each point, from place `first` on, the best word for a block row that comes right
+    /// after the factor rows, of which these are the parts on the factors.
+    pub fn fill_listed(&self, parts: &[Vector], tables: &mut [Option<Best>], first: usize)
+        requires parts { All (λ v. IsVector self.now.q self.now.room v) parts.now }
+        requires all { length self.now.rows ≡ self.now.room }
+        requires there { first + self.now.q ^ self.now.m ≤ length tables.old }
+        ensures len { length tables.new ≡ length tables.old }
+        ensures kept { (k : ℕ) → k < first → slice_index_or tables.new k None ≡ slice_index_or tables.old k None }
+        ensures within { AreWithin self.now.q self.now.m (length self.now.rows) first tables.new }
+        ensures best { (d : Dimensions) (wanted : Requirement) → d.q ≡ self.now.q → d.m ≡ self.now.m
+            → length self.now.rows ≡ d.s → AreFactorParts d wanted parts.now
+            → AreBest d wanted self.now.rows first tables.new }
+    {
+        fill_listed(&self.reached, parts, tables, first);
+    }
+
     /// The number of the vector at this place.
     pub fn number(&self, k: usize) -> u128
         requires { k < length self.now.words }
@@ -148,7 +200,7 @@ fn fill(reached: &Reached, words: &[ForbiddenVector], tables: &mut [usize])
     clear(tables, first, size);
     for k in start_of(words, n + 1)..start_of(words, n + 2) {
         // Once each sum has its vector, later ones change nothing.
-        if k % 1024 == 0 && is_full(tables, first, size) {
+        if k % 64 == 0 && is_full(tables, first, size) {
             return;
         }
         let sum = reached.sum(&words[k].vector);

@@ -1,15 +1,17 @@
 //! Which rows are barred by the rows so far.
 #![tactic(auto)]
 
+mod best_words;
 mod first_words;
 mod laws;
 mod reached;
 #[cfg(test)]
 mod tests;
 
+pub use best_words::{Best, fill_light, fill_next, points_with_words};
 pub use first_words::FirstWords;
 pub use laws::{
     reached_at_zero, reached_before, reached_word, rows_barred_at_resolution,
-    rows_barred_for_effects,
+    rows_barred_for_effects, rows_barred_in_blocks,
 };
-pub use reached::Reached;
+pub use reached::{Reached, filled};

@@ -1,7 +1,7 @@
 -- The normal forbidden vectors of effects are the normal differences of listed vectors.
 use Rattle.std.proofs.Common.{ℕ, ◌≡◌, ◌<◌, ◌≤◌, ◌+◌, ◌-◌, ◌*◌, ◌/◌, ◌%◌, ◌^◌, zero, suc, Bool, true, false, cond, eqb, not, ◌&&◌, ◌||◌, List, [], ◌∷◌, ◌++◌, map, filter, take, length, get_or, refl, sym, subst, ap, ◌∙◌, arith, inl, inr}
 use Rattle.std.specs.Prelude.{All, Any, Contains, slice_index_or}
-use Rattle.std.proofs.lemmas.List.Elements.{All-contains, Contains-get_or}
+use Rattle.std.proofs.lemmas.List.Elements.{All-contains, All-from_recursion, Contains-get_or}
 use Rattle.std.specs.List.{AllByRecursion, flat_map, range_with_len, list_any}
 use Rattle.std.proofs.lemmas.Bool.{cases_eq, eq-eqb, ne_eqb, eqb-true, both_ways, and_parts, and_from, or_left, or_right}
 use Rattle.std.proofs.lemmas.Nat.{mod-pow-add}
@@ -11,14 +11,14 @@ use Rattle.fx_designs.specs.Galois.{number, IsField, neg}
 use Rattle.fx_designs.specs.Vectors.{IsVector, is_normal, is_zero, last_nonzero, minus, scale, same, weight, zeros}
 use Rattle.fx_designs.specs.Runs.{points}
 use Rattle.fx_designs.specs.Problems.{Dimensions, Requirement, ForEffects}
-use Rattle.fx_designs.specs.Demands.{effect_of, is_of, is_told_from, must_balance}
+use Rattle.fx_designs.specs.Demands.{effect_of, is_of, is_told_from, must_balance, is_estimated}
 use Rattle.fx_laws.proofs.Ranks.{number-same}
 use Rattle.fx_laws.proofs.Order.{each-append}
 use Rattle.fx_laws.proofs.Space.{zeros-vector, plus-vector, scale-vector}
 use Rattle.fx_vectors.proofs.Supports.{bit, bit-small, effect-cons, effect-below, zero-effect}
 use Rattle.fx_vectors.proofs.Balances.{some_point, point_some, either_true, same-refl, same-true, not-true}
 use Rattle.fx_demands.specs.declared.forbidden_list.ForbiddenVector.{ForbiddenVector}
-use Rattle.fx_demands.specs.EffectVectors.{codes_at, with_codes, vectors_to, vectors_of_all, ranked, differences_from, differences, all_differences, IsForbidden}
+use Rattle.fx_demands.specs.EffectVectors.{codes_at, with_codes, vectors_to, vectors_of_all, ranked, differences_from, differences, all_differences, IsForbidden, AreFactorParts}
 use Rattle.fx_demands.proofs.Choice.{Among}
 use Rattle.fx_demands.proofs.Completing.{weightless, weight-zeros}
 use Rattle.fx_vectors.proofs.Differences.{cancel}
@@ -206,7 +206,7 @@ of-all-each q s (e ∷ effects) two all =
         let nonzero : weight v ≡ 0 → ⊥ = λ z. (let none = zero-effect v z in let positive = all.0.0 in omega arith) in
         and_from _ _ (ap not (ne_eqb (weight v) 0 nonzero)) (or_left _ _ (eq-eqb e (effect_of v) (sym is)))
 
-listed-all : (q s : ℕ) (effects : List ℕ) (v : List ℕ) → AllByRecursion (λ e. (0 < e) × (e < 2 ^ s)) effects → IsVector q s v → list_any (λ e. eqb e (effect_of v)) effects ≡ true → Among v (vectors_of_all q s effects)
+pub listed-all : (q s : ℕ) (effects : List ℕ) (v : List ℕ) → AllByRecursion (λ e. (0 < e) × (e < 2 ^ s)) effects → IsVector q s v → list_any (λ e. eqb e (effect_of v)) effects ≡ true → Among v (vectors_of_all q s effects)
 listed-all q s [] v all h is = absurd (both_ways false refl is)
 listed-all q s (e ∷ effects) v all h is =
     elim (either_true (eqb e (effect_of v)) (list_any (λ e. eqb e (effect_of v)) effects) is) [
@@ -372,3 +372,21 @@ still-listed d f wanted before after hb ha kept w h =
   where
     at-same : (words : List ForbiddenVector) (j : ℕ) (y : ForbiddenVector) → slice_index_or words j y ≡ y → j < length words → slice_index_or words j y ≡ y
     at-same words j y e low = e
+
+-- zero and the vectors of the effects to be estimated
+pub factor-parts : (d : Dimensions) (f : IsField d.q) (estimate besides : List ℕ) → AllByRecursion (λ e. (0 < e) × (e < 2 ^ d.s)) estimate → AreFactorParts d (ForEffects estimate besides) (vectors_of_all d.q d.s estimate ++ zeros d.s ∷ [])
+unfolding is_estimated
+factor-parts d f estimate besides each =
+    let told : List (List ℕ) = vectors_of_all d.q d.s estimate in
+    record {
+      each = All-from_recursion (λ v. (is_zero v || is_of estimate v) ≡ true) (told ++ zeros d.s ∷ [])
+          (each-append (λ v. (is_zero v || is_of estimate v) ≡ true) told (zeros d.s ∷ [])
+          (each-as (λ v. IsVector d.q d.s v × (is_of estimate v ≡ true)) (λ v. (is_zero v || is_of estimate v) ≡ true) told (λ v h. or_right (is_zero v) _ h.1) (of-all-each d.q d.s estimate f.more_than_one each))
+          (or_left _ _ (eq-eqb (weight (zeros d.s)) 0 (weight-zeros d.s)), tt));
+      all = λ v h is.
+          among_contains v (told ++ zeros d.s ∷ [])
+          (elim (either_true (is_zero v) (is_of estimate v) is) [
+            | inl none ↦ among_right v told (zeros d.s ∷ []) (inl (weightless v d.s h.len (eqb-true (weight v) 0 none)))
+            | inr some ↦ among_left v told (zeros d.s ∷ []) (listed-all d.q d.s estimate v each h (and_parts (not (is_zero v)) (list_any (λ e. eqb e (effect_of v)) estimate) some).1)
+          ]);
+    }

@@ -1,10 +1,10 @@
 -- The vectors of effects, and those of their differences that are normal.
-use Rattle.std.specs.Prelude.{ℕ, zero, suc, ◌≡◌, ◌<◌, ◌≤◌, ◌+◌, ◌-◌, ◌*◌, ◌/◌, ◌%◌, ◌^◌, ◌==◌, ◌⊎◌, if◌then◌else◌, true, List, [], ◌∷◌, ◌++◌, map, filter, length, slice_index_or, All, Contains}
+use Rattle.std.specs.Prelude.{ℕ, zero, suc, ◌≡◌, ◌<◌, ◌≤◌, ◌+◌, ◌-◌, ◌*◌, ◌/◌, ◌%◌, ◌^◌, ◌==◌, ◌⊎◌, ◌||◌, if◌then◌else◌, true, List, [], ◌∷◌, ◌++◌, map, filter, length, slice_index_or, All, Contains}
 use Rattle.std.specs.List.{flat_map, range_with_len}
 use Rattle.fx_designs.specs.Galois.{number}
-use Rattle.fx_designs.specs.Vectors.{IsVector, is_normal, minus, weight, zeros}
+use Rattle.fx_designs.specs.Vectors.{IsVector, is_normal, minus, weight, zeros, is_zero}
 use Rattle.fx_designs.specs.Problems.{Dimensions, Requirement}
-use Rattle.fx_designs.specs.Demands.{must_balance}
+use Rattle.fx_designs.specs.Demands.{must_balance, is_estimated}
 use Rattle.fx_demands.specs.declared.forbidden_list.ForbiddenVector.{ForbiddenVector}
 
 -- the codes that the vectors of an effect have at factor i, counted from 0: those that are not zero where it has the factor
@@ -71,3 +71,8 @@ pub record AreAllForbidden (d : Dimensions) (wanted : Requirement) (words : List
   pub each : All (IsForbidden d wanted) words
   pub all : (w : List ℕ) → IsVector d.q d.s w → is_normal w ≡ true → must_balance d wanted w ≡ true → Contains (map (λ word. word.vector) words) w
   pub in_order : IsInOrder words
+
+-- the list has the vectors over the factors that are zero or to be estimated, and no others
+pub record AreFactorParts (d : Dimensions) (wanted : Requirement) (vectors : List (List ℕ)) : Type 0 where
+  pub each : All (λ v. (is_zero v || is_estimated wanted v) ≡ true) vectors
+  pub all : (v : List ℕ) → IsVector d.q d.s v → (is_zero v || is_estimated wanted v) ≡ true → Contains vectors v

@@ -1,8 +1,9 @@
-ghost use Rattle.std.specs.Prelude.{◌≡◌, ◌<◌, ◌≤◌, ◌^◌, ◌-◌, ◌++◌, [], ◌∷◌, if◌then◌else◌, IfOk, OnOk, length, map, All};
+ghost use Rattle.std.specs.Prelude.{◌≡◌, ◌<◌, ◌≤◌, ◌^◌, ◌-◌, ◌++◌, [], ◌∷◌, if◌then◌else◌, IfOk, OnOk, ℕ, List, length, map, All};
 ghost use Rattle.std.specs.List.{range_with_len};
 ghost use Rattle.fx_designs.specs.Vectors.{IsVector};
-ghost use Rattle.fx_vectors.specs.Effects.{numbers_of};
-ghost use Rattle.fx_demands.specs.EffectVectors.{vectors_to, vectors_of_all, with_codes};
+ghost use Rattle.fx_designs.specs.Problems.{Dimensions, ForEffects};
+ghost use Rattle.fx_vectors.specs.Effects.{numbers_of, AreEffects};
+ghost use Rattle.fx_demands.specs.EffectVectors.{vectors_to, vectors_of_all, with_codes, AreFactorParts};
 
 use fx_base::{Items, NoMemory};
 use fx_galois::Field;
@@ -111,6 +112,31 @@ fn with_code(field: Field, v: &Vector, len: usize, c: u8) -> Vector
     let _known = field.q();
     let power = u128::from(field.q()).pow(len as u32);
     Vector::of_number(field, len + 1, v.number(field) + u128::from(c) * power)
+}
+
+/// The vectors over `s` factors that are zero or of one of the effects: what a word that is not zero on
+/// the block factors may have on the factors where it is forbidden.
+///
+/// # Errors
+///
+/// `NoMemory`.
+pub fn factor_parts(
+    alloc: Global,
+    field: Field,
+    s: u8,
+    estimate: &Effects,
+) -> Result<Vectors, NoMemory>
+    requires factors { s ≤ 40 }
+    requires estimate { AreEffects s (numbers_of estimate.now) }
+    ensures vectors { IfOk result (All (λ v. IsVector field s v)) }
+    ensures lists { (d : Dimensions) (besides : List ℕ) → d.q ≡ field → d.s ≡ s
+        → IfOk result (AreFactorParts d (ForEffects (numbers_of estimate.now) besides)) }
+{
+    // Its order, once read, is known to be one of the seven.
+    let _known = field.q();
+    let mut vectors = vectors_of(alloc, field, s, estimate)?;
+    vectors.push(Vector::zero(usize::from(s)))?;
+    Ok(vectors)
 }
 
 /// The vectors of the effects over `s` factors, effect by effect.

@@ -12,10 +12,10 @@ use Rattle.fx_designs.specs.Answers.{before, lists, designs, answer}
 use Rattle.fx_designs.specs.Closing.{closing_word}
 use Rattle.fx_designs.specs.Nodes.{is_beside, counts, excludes, nodes, marks, word_of, Branch, Word, Worse}
 
-abbrev size : ℕ → ℕ → ℕ → ℕ → Dimensions
+abbrev pub size : ℕ → ℕ → ℕ → ℕ → Dimensions
 size q m s t = record { q = q; m = m; s = s; t = t }
 
-abbrev problem : Dimensions → Requirement → Bool → Problem
+abbrev pub problem : Dimensions → Requirement → Bool → Problem
 problem d wanted least = record { dimensions = d; requirement = wanted; least = least }
 
 -- Fields

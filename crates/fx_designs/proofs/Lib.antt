@@ -1,2 +1,3 @@
-mod Examples
+pub mod Examples
 mod Families
+mod JobExamples

@@ -10,7 +10,8 @@ pub mod Patterns
 pub mod Canonical
 pub mod Answers
 pub mod Children
-pub mod Outcomes
 pub mod Nodes
+pub mod Jobs
+pub mod Outcomes
 pub mod Components
 pub mod Aliases

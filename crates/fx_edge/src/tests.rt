@@ -5,7 +5,7 @@ use std::test::Fail;
 const HALF: &str = "proc factex;\nfactors A B C D;\nsize design=8;\nmodel resolution=4;\nrun;\n";
 
 const HALF_LISTING: &str =
-    "step 1\nfactors 4 levels 2\ndesign 8 runs\nnodes 4\nrules\n  D = A*B*C\n";
+    "step 1\nfactors 4 levels 2\ndesign 8 runs\nresolution 4\nnodes 4\nrules\n  D = A*B*C\n";
 
 #[test]
 fn runs_from_a_slice_to_a_vector(rt: HostRuntime) -> Result<(), Fail> {

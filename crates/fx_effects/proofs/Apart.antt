@@ -1,8 +1,9 @@
 -- Lists without the effects of others.
-use Rattle.std.proofs.Common.{◌≡◌, ◌≤◌, ℕ, Bool, true, false, not, cond, eqb, List, [], ◌∷◌, filter, refl, sym, subst}
+use Rattle.std.proofs.Common.{◌≡◌, ◌≤◌, ℕ, Bool, true, false, not, cond, eqb, List, [], ◌∷◌, length, filter, refl, sym, subst, suc, arith}
 use Rattle.std.specs.List.{list_all, list_any}
 use Rattle.std.proofs.lemmas.Bool.{and_from}
 use Rattle.fx_vectors.specs.Effects.{are_in_order, pair_count}
+use Rattle.fx_demands.specs.declared.unions.TheConstants.{MOST_EFFECTS}
 use Rattle.fx_demands.specs.Bars.{AreOrdered}
 use Rattle.fx_demands.proofs.Ordered.{Sorted, has-unfilter, ordered-sorted}
 use Rattle.fx_demands.proofs.Stars.{sorted-in_order}
@@ -17,6 +18,13 @@ module _ (p : ℕ → Bool) where
       λ b. elim b as (λ b. Sorted (cond b (x ∷ filter p xs) (filter p xs))) [ true ↦ ((λ u there. h.0 u (has-unfilter p u xs there).0), rest) | false ↦ rest ] in
       go (p x)
 
+  filter-short : (xs : List ℕ) → length (filter p xs) ≤ length xs
+  filter-short [] = omega arith
+  filter-short (x ∷ xs) =
+      let go : (b : Bool) → length (cond b (x ∷ filter p xs) (filter p xs)) ≤ suc (length xs) =
+      λ b. elim b as (λ b. length (cond b (x ∷ filter p xs) (filter p xs)) ≤ suc (length xs)) [ true ↦ omega (arith, filter-short xs) | false ↦ omega (arith, filter-short xs) ] in
+      go (p x)
+
   all-filter : (xs : List ℕ) → list_all p (filter p xs) ≡ true
   all-filter [] = refl
   all-filter (x ∷ xs) =
@@ -27,12 +35,14 @@ module _ (p : ℕ → Bool) where
 
 -- what is left of the others
 pub are_apart : (q : ℕ) (estimate others left : List ℕ) → AreOrdered estimate → AreOrdered others → left ≡ without estimate others
-    → pair_count q estimate left ≤ 2000000 → AreApart q (record { estimate = estimate; nonnegligible = left })
-are_apart q estimate others left he ho is few =
+    → pair_count q estimate left ≤ 2000000 → length estimate ≤ MOST_EFFECTS → length others ≤ MOST_EFFECTS → AreApart q (record { estimate = estimate; nonnegligible = left })
+are_apart q estimate others left he ho is few short short_others =
     let p : ℕ → Bool = λ e. not (list_any (λ f. eqb f e) estimate) in
     record {
       estimate = sorted-in_order estimate (ordered-sorted estimate he);
       nonnegligible = subst (λ (l : List ℕ). are_in_order l ≡ true) (sym is) (sorted-in_order (filter p others) (sorted-filter p others (ordered-sorted others ho)));
       apart = subst (λ (l : List ℕ). list_all p l ≡ true) (sym is) (all-filter p others);
       pairs = few;
+      few_estimate = short;
+      few_nonnegligible = subst (λ (l : List ℕ). length l ≤ MOST_EFFECTS) (sym is) (omega (arith, filter-short p others, short_others));
     }

@@ -24,7 +24,7 @@ use Rattle.fx_demands.specs.Bars.{bars_of, in_order, unions, within}
 use Rattle.fx_demands.proofs.Ordered.{Has, has-unfilter, in_order-only}
 use Rattle.fx_effects.specs.Factors.{main_of, mains_from}
 use Rattle.fx_effects.specs.Expressions.{Expression, Reading, stars_of, with_name, read, all_read, stars_len, upto_of, expression, bars_at, range_at, by_last, expression_at, begins_effect, effect_len, is_joining, expressions_from, expressions_of}
-use Rattle.fx_effects.specs.Lists.{effects_of, effects_written, at_most_100000}
+use Rattle.fx_effects.specs.Lists.{effects_of, effects_written, few_effects}
 use Rattle.fx_effects.specs.Models.{EffectLists, AreApart, first_or, lists_at, lists_after, check_some_effects, without}
 
 -- what holds of each of some numbers
@@ -164,8 +164,8 @@ module _ (factors : List (List ℕ)) where
   lists_at-of q word written other_word other_written lists is =
       let estimate = bind_ok (expressions_of factors written) _ lists is in
       let others = bind_ok (expressions_of factors other_written) _ lists estimate.2 in
-      let first = bind_ok (at_most_100000 word (effects_of estimate.0)) _ lists others.2 in
-      let second = bind_ok (at_most_100000 other_word (effects_of others.0)) _ lists first.2 in
+      let first = bind_ok (few_effects word (effects_of estimate.0)) _ lists others.2 in
+      let second = bind_ok (few_effects other_word (effects_of others.0)) _ lists first.2 in
       let some = bind_ok (check_some_effects word first.0) _ lists second.2 in
       let told = if_ok (nat_le (pair_count q first.0 (without first.0 second.0)) 2000000) (record { estimate = first.0; nonnegligible = without first.0 second.0 }) lists (refusal_at 22 word) some.2 in
       let first_is = (if_ok (nat_le (length (effects_of estimate.0)) 100000) (effects_of estimate.0) first.0 (refusal_at 23 word) first.1).1 in

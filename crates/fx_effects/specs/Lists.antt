@@ -4,6 +4,7 @@ use Rattle.fx_language.specs.declared.code.TheConstants.{TOO_MANY_EFFECTS}
 use Rattle.fx_text.specs.declared.refusal.Refusal.{Refusal}
 use Rattle.fx_text.specs.Written.{Written}
 use Rattle.fx_text.specs.Refusals.{refusal_at}
+use Rattle.fx_demands.specs.declared.unions.TheConstants.{MOST_EFFECTS}
 use Rattle.fx_demands.specs.Bars.{bars_of, in_order, AreNumbers}
 use Rattle.fx_effects.specs.Expressions.{Expression}
 
@@ -17,8 +18,8 @@ abbrev pub effects_of : List Expression → List ℕ
 effects_of expressions = in_order (effects_written expressions)
 
 -- at most 100,000 effects, or E23 at the list's word
-abbrev pub at_most_100000 : Written → List ℕ → Result (List ℕ) Refusal
-at_most_100000 word effects = if nat_le (length effects) 100000 then Ok effects else Err (refusal_at TOO_MANY_EFFECTS word)
+abbrev pub few_effects : Written → List ℕ → Result (List ℕ) Refusal
+few_effects word effects = if nat_le (length effects) MOST_EFFECTS then Ok effects else Err (refusal_at TOO_MANY_EFFECTS word)
 
 -- stars that are numbers of 64 bits
 abbrev pub AreSmall : List Expression → Type 0

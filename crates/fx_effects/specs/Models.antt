@@ -8,20 +8,23 @@ use Rattle.fx_text.specs.Phrases.{after, before}
 use Rattle.fx_text.specs.Written.{Written}
 use Rattle.fx_text.specs.Refusals.{refusal_at, refused_at, ◌>>=◌}
 use Rattle.fx_vectors.specs.Effects.{are_in_order, pair_count}
+use Rattle.fx_demands.specs.declared.unions.TheConstants.{MOST_EFFECTS}
 use Rattle.fx_effects.specs.Expressions.{expressions_of}
-use Rattle.fx_effects.specs.Lists.{effects_of, at_most_100000}
+use Rattle.fx_effects.specs.Lists.{effects_of, few_effects}
 
 -- the effects to be estimated, and those that may not be negligible, in effect order
 pub record EffectLists : Type 0 where
   pub estimate : List ℕ
   pub nonnegligible : List ℕ
 
--- lists in effect order, with no effect in both and at most 2,000,000 pairs
+-- lists in effect order of at most 100,000 effects each, with no effect in both and at most 2,000,000 pairs
 pub record AreApart (q : ℕ) (lists : EffectLists) : Type 0 where
   pub estimate : IsTrue (are_in_order lists.estimate)
   pub nonnegligible : IsTrue (are_in_order lists.nonnegligible)
   pub apart : IsTrue (list_all (λ e. not (list_any (λ n. n == e) lists.estimate)) lists.nonnegligible)
   pub pairs : pair_count q lists.estimate lists.nonnegligible ≤ 2000000
+  pub few_estimate : length lists.estimate ≤ MOST_EFFECTS
+  pub few_nonnegligible : length lists.nonnegligible ≤ MOST_EFFECTS
 
 -- the effects without those of another list
 abbrev pub without : List ℕ → List ℕ → List ℕ
@@ -48,8 +51,8 @@ abbrev pub lists_at : ℕ → List (List ℕ) → Written → List Written → W
 lists_at q factors word written other_word other_written =
     expressions_of factors written >>= (λ estimate.
     expressions_of factors other_written >>= (λ others.
-    at_most_100000 word (effects_of estimate) >>= (λ first.
-    at_most_100000 other_word (effects_of others) >>= (λ second.
+    few_effects word (effects_of estimate) >>= (λ first.
+    few_effects other_word (effects_of others) >>= (λ second.
     check_some_effects word first >>= (λ some.
     told_apart q word first second)))))
 

@@ -33,7 +33,7 @@ impl Model for Expression {
     ghost view = { λ e. record { stars = numbers_of e.stars; upto = e.upto } };
 }
 
-/// The effect that begins with this name, where `rest` stands after it.
+/// The effect that begins with this name, which `rest` follows.
 ///
 /// # Errors
 ///
@@ -77,7 +77,7 @@ fn bars_at(
     Ok(Expression { stars, upto })
 }
 
-/// How much stands before `@`.
+/// How many lexemes precede `@`.
 fn stars_len(written: &[Lexeme<'_>]) -> usize
     ensures value { result ≡ stars_len written.now }
     ensures bound { result ≤ length written.now }

@@ -12,7 +12,7 @@ use std::alloc::Global;
 /// Effects as they are written, from left to right.
 pub(crate) type Expressions = Items<Expression>;
 
-/// The effects of a list, which stand between its parentheses.
+/// The effects of a list, those between its parentheses.
 ///
 /// # Errors
 ///
@@ -54,14 +54,14 @@ fn is_joining(w: &Lexeme<'_>) -> bool
     w.is(Symbol::Star) || w.is(Symbol::Bar) || w.is(Symbol::Minus)
 }
 
-/// What belongs to the effect whose first name stands before it.
+/// What belongs to the effect whose first name precedes it.
 fn effect_rest<'b, 'a>(behind: &'b [Lexeme<'a>]) -> &'b [Lexeme<'a>]
     ensures { result.now ≡ take (effect_len false behind.now) behind.now }
 {
     &behind[..effect_len(behind)]
 }
 
-/// How much stands before the next effect.
+/// How many lexemes precede the next effect.
 fn effect_len(behind: &[Lexeme<'_>]) -> usize
     ensures value { result ≡ effect_len false behind.now }
     ensures bound { result ≤ length behind.now }

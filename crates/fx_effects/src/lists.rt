@@ -1,8 +1,9 @@
 ghost use Rattle.std.specs.Prelude.{◌≡◌, ◌≤◌, length, Ok, IfOk, IfErr};
 ghost use Rattle.fx_text.specs.Refusals.{IsRefused};
 ghost use Rattle.fx_vectors.specs.Effects.{numbers_of};
+ghost use Rattle.fx_demands.specs.declared.unions.TheConstants.{MOST_EFFECTS};
 ghost use Rattle.fx_demands.specs.Bars.{AreOrdered, IsCause};
-ghost use Rattle.fx_effects.specs.Lists.{AreSmall, at_most_100000, effects_of};
+ghost use Rattle.fx_effects.specs.Lists.{AreSmall, few_effects, effects_of};
 
 use crate::distinct::distinct;
 use crate::expression::Expression;
@@ -24,10 +25,11 @@ pub(crate) fn list_of(
 ) -> Result<Effects, ParseStop>
     requires { AreSmall expressions.now }
     ensures ok { IfOk result (λ effects.
-        at_most_100000 word.now (effects_of expressions.now)
+        few_effects word.now (effects_of expressions.now)
         ≡ Ok (numbers_of effects)) }
     ensures ordered { IfOk result (λ effects. AreOrdered (numbers_of effects)) }
-    ensures refused { IfErr result (IsRefused (at_most_100000 word.now (effects_of expressions.now))) }
+    ensures few { IfOk result (λ effects. length effects ≤ MOST_EFFECTS) }
+    ensures refused { IfErr result (IsRefused (few_effects word.now (effects_of expressions.now))) }
 {
     match effects_of(alloc, expressions) {
         Ok(effects) => Ok(effects),
@@ -36,13 +38,13 @@ pub(crate) fn list_of(
     }
 }
 
-/// The set of effects that they stand for, in effect order. `TooMany` where there are more than
+/// The set of effects that they denote, in effect order. `TooMany` where there are more than
 /// 100,000.
 fn effects_of(alloc: Global, expressions: &[Expression]) -> Result<Effects, EffectStop>
     requires { AreSmall expressions.now }
     ensures effects { IfOk result (λ effects. numbers_of effects ≡ effects_of expressions.now) }
     ensures ordered { IfOk result (λ effects. AreOrdered (numbers_of effects)) }
-    ensures few { IfOk result (λ effects. length effects ≤ 100000) }
+    ensures few { IfOk result (λ effects. length effects ≤ MOST_EFFECTS) }
     ensures many { IfErr result (IsCause (effects_of expressions.now)) }
 {
     let distinct = distinct(alloc, expressions)?;
@@ -55,7 +57,7 @@ fn effects_of_each(alloc: Global, expressions: &[Expression]) -> Result<Effects,
     requires { AreSmall expressions.now }
     ensures effects { IfOk result (λ effects. numbers_of effects ≡ effects_of expressions.now) }
     ensures ordered { IfOk result (λ effects. AreOrdered (numbers_of effects)) }
-    ensures few { IfOk result (λ effects. length effects ≤ 100000) }
+    ensures few { IfOk result (λ effects. length effects ≤ MOST_EFFECTS) }
     ensures many { IfErr result (IsCause (effects_of expressions.now)) }
 {
     if expressions.len() <= 1 {
@@ -77,7 +79,7 @@ fn effects_of_one(alloc: Global, expressions: &[Expression]) -> Result<Effects, 
     requires one { length expressions.now ≤ 1 }
     ensures effects { IfOk result (λ effects. numbers_of effects ≡ effects_of expressions.now) }
     ensures ordered { IfOk result (λ effects. AreOrdered (numbers_of effects)) }
-    ensures few { IfOk result (λ effects. length effects ≤ 100000) }
+    ensures few { IfOk result (λ effects. length effects ≤ MOST_EFFECTS) }
     ensures many { IfErr result (IsCause (effects_of expressions.now)) }
 {
     if expressions.len() == 0 {

@@ -2,6 +2,7 @@ ghost use Rattle.std.specs.Prelude.{◌≡◌, ◌≤◌, length, Ok, IfOk, IfEr
 ghost use Rattle.fx_text.specs.Refusals.{IsRefused};
 ghost use Rattle.fx_vectors.specs.Effects.{numbers_of};
 ghost use Rattle.fx_vectors.specs.Question.{CanBeTold};
+ghost use Rattle.fx_demands.specs.declared.unions.TheConstants.{MOST_EFFECTS};
 ghost use Rattle.fx_demands.specs.Bars.{AreOrdered};
 ghost use Rattle.fx_effects.specs.Models.{AreApart, first_or, lists_at, lists_after, lists_of, check_some_effects, told_apart, without};
 
@@ -56,6 +57,8 @@ pub fn effects_of(
     ensures askable { IfOk result (λ effects.
         CanBeTold field (length factors.now) effects.estimate
         effects.nonnegligible) }
+    ensures few { IfOk result (λ effects. (length effects.estimate ≤ MOST_EFFECTS)
+        × (length effects.nonnegligible ≤ MOST_EFFECTS)) }
     ensures refused { IfErr result (IsRefused (lists_of field factors.now statement.now)) }
 {
     match statement.at(1) {
@@ -67,7 +70,7 @@ pub fn effects_of(
     }
 }
 
-/// The effects of what stands after `MODEL ESTIMATE = (`.
+/// The effects of what follows `MODEL ESTIMATE = (`.
 fn effects_after<'a>(
     alloc: Global,
     field: Field,
@@ -149,6 +152,8 @@ fn told_apart(
 ) -> Result<ModelEffects, ParseStop>
     requires estimate { AreOrdered (numbers_of estimate) }
     requires others { AreOrdered (numbers_of others.now) }
+    requires few_estimate { length estimate ≤ MOST_EFFECTS }
+    requires few_others { length others.now ≤ MOST_EFFECTS }
     ensures ok { IfOk result (λ effects.
         told_apart field word.now (numbers_of estimate) (numbers_of others.now)
         ≡ Ok effects) }

@@ -40,7 +40,7 @@ pub(crate) fn range_at(
     Ok(Expression { stars, upto: 1 })
 }
 
-/// The main effects of the factors that the stem of a name gives with `count` numbers.
+/// The main effects of the factors whose names are the stem of a name with one of `count` numbers.
 fn mains(
     alloc: Global,
     factors: &[Bytes],

@@ -1,69 +1,27 @@
 -- The names of a step's factors differ from one another.
-use Rattle.std.proofs.Common.{◌≡◌, ℕ, ◌+◌, ◌-◌, ◌^◌, ◌<◌, Bool, true, false, not, cond, List, [], ◌∷◌, ◌++◌, length, map, Option, Some, None, Result, Ok, Err, refl, sym, subst, ◌∙◌, arith}
+use Rattle.std.proofs.Common.{◌≡◌, ℕ, ◌+◌, ◌-◌, ◌^◌, ◌<◌, Bool, true, false, not, List, [], ◌∷◌, ◌++◌, length, Option, Some, None, Result, Ok, Err, refl, subst, arith}
 use Rattle.std.specs.Prelude.{is_some, nat_lt, nat_le, ◌&&◌, if◌then◌else◌}
-use Rattle.std.specs.Bool.{one_answer}
-use Rattle.std.specs.Char.{to_ascii_lowercase}
-use Rattle.std.specs.List.{AllByRecursion, IsDistinct, list_all, position_or_len}
+use Rattle.std.specs.List.{AllByRecursion, IsDistinct, list_all}
 use Rattle.std.specs.Str.Parse.{digits_value}
-use Rattle.std.proofs.lemmas.Bool.{leb-true, ltb-false, not-true, not-false, and_parts, or_parts}
-use Rattle.std.proofs.lemmas.List.Elements.{recursion_from_All}
-use Rattle.std.proofs.lemmas.List.Sums.{prefix_len_passes}
-use Rattle.std.proofs.lemmas.Slice.Eq.{bytes_eq-Decides}
+use Rattle.std.proofs.lemmas.Bool.{leb-true, not-false, and_parts, or_parts}
 use Rattle.fx_lexer.specs.Bytes.{is_digit}
 use Rattle.fx_text.specs.declared.refusal.Refusal.{Refusal}
 use Rattle.fx_text.specs.Written.{Written}
 use Rattle.fx_text.specs.Names.{is_same_name, place_of}
 use Rattle.fx_text.specs.Refusals.{◌>>=◌}
 use Rattle.fx_text.proofs.Digits.{is_below}
+use Rattle.fx_text.proofs.Distinct.{IsNew, joined_differ, none_differ, not_found}
 use Rattle.fx_text.specs.Ranges.{is_range, is_numeral, is_plain, numbered, stem, ending, number_at_end}
 use Rattle.fx_factors.specs.Items.{Item, is_regular, is_regular_from, names_of, names_from, items_of}
 use Rattle.fx_factors.specs.Factors.{are_known, added, all_added, factors_of}
 use Rattle.fx_text.proofs.RangeParts.{plain, order}
 use Rattle.fx_factors.proofs.NumbersDiffer.{numbered_differ}
 
-same_turned : (a b : List ℕ) → is_same_name a b ≡ is_same_name b a
-same_turned a b =
-    let d = bytes_eq-Decides (map to_ascii_lowercase b) (map to_ascii_lowercase a) in
-    one_answer _ _ (bytes_eq-Decides (map to_ascii_lowercase a) (map to_ascii_lowercase b)) ((λ t. sym (d.0 t)), λ e. d.1 (sym e))
-
--- the name differs from each of the others
-abbrev IsNew : List (List ℕ) → List ℕ → Type 0
-IsNew names name = AllByRecursion (λ other. is_same_name name other ≡ false) names
-
-not_found : (names : List (List ℕ)) (name : List ℕ) → is_some (place_of name names) ≡ false → IsNew names name
-not_found names name e =
-    let far = ltb-false (position_or_len (is_same_name name) names) (length names) (no_place (nat_lt (position_or_len (is_same_name name) names) (length names)) _ e) in
-    recursion_from_All (λ other. is_same_name name other ≡ false) names
-    (λ i d h. not-true _ (prefix_len_passes (λ other. not (is_same_name name other)) names i d (omega (arith, h, far))))
-  where
-    no_place : (b : Bool) (n : ℕ) → is_some (cond b (Some n) None) ≡ false → b ≡ false
-    no_place true n e = e
-    no_place false n e = refl
-
 are_new : (names new : List (List ℕ)) → are_known new names ≡ false → AllByRecursion (IsNew names) new
 are_new names [] e = tt
 are_new names (name ∷ new) e =
     let parts = or_parts (is_some (place_of name names)) (are_known new names) e in
     (not_found names name parts.0, are_new names new parts.1)
-
--- what differs from a name and from those after it
-apart : (x : List ℕ) (names new : List (List ℕ)) → AllByRecursion (IsNew (x ∷ names)) new → IsNew new x × AllByRecursion (IsNew names) new
-apart x names [] h = (tt, tt)
-apart x names (name ∷ new) h =
-    let rest = apart x names new h.1 in
-    ((same_turned x name ∙ h.0.0, rest.0), (h.0.1, rest.1))
-
-both : {X : Type 0} (P : X → Type 0) (xs ys : List X) → AllByRecursion P xs → AllByRecursion P ys → AllByRecursion P (xs ++ ys)
-both P [] ys h k = k
-both P (x ∷ xs) ys h k = (h.0, both P xs ys h.1 k)
-
-joined_differ : (names new : List (List ℕ)) → IsDistinct is_same_name names → IsDistinct is_same_name new → AllByRecursion (IsNew names) new
-    → IsDistinct is_same_name (names ++ new)
-unfolding IsDistinct
-joined_differ [] new h k e = k
-joined_differ (x ∷ names) new h k e =
-    let each = apart x names new e in
-    (both (λ other. is_same_name x other ≡ false) names new h.0 each.0, joined_differ names new h.1 k each.1)
 
 plain_is_below : (digits : List ℕ) → is_plain digits ≡ true → digits_value 10 digits < 10 ^ 38
 plain_is_below digits e =
@@ -83,12 +41,12 @@ item_differs first None regular = (tt, tt)
 item_differs first (Some last) regular = range_differs first.text last.text regular
 
 -- what is accepted is not refused
-accepted : {A : Type 0} (b : Bool) (refusal : Refusal) (r : Result A Refusal) (x : A) → (if b then Err refusal else r) ≡ Ok x → (b ≡ false) × (r ≡ Ok x)
+pub accepted : {A : Type 0} (b : Bool) (refusal : Refusal) (r : Result A Refusal) (x : A) → (if b then Err refusal else r) ≡ Ok x → (b ≡ false) × (r ≡ Ok x)
 accepted true refusal r x e = absurd (cc e)
 accepted false refusal r x e = (refl, e)
 
 -- what is given on was read
-read : {A B : Type 0} (r : Result A Refusal) (f : A → Result B Refusal) (x : B) → (r >>= f) ≡ Ok x → (a : A) × (r ≡ Ok a) × (f a ≡ Ok x)
+pub read : {A B : Type 0} (r : Result A Refusal) (f : A → Result B Refusal) (x : B) → (r >>= f) ≡ Ok x → (a : A) × (r ≡ Ok a) × (f a ≡ Ok x)
 read (Ok a) f x e = (a, refl, e)
 read (Err refusal) f x e = absurd (cc e)
 
@@ -108,10 +66,6 @@ all_differ limit [] names all h e = let same : names ≡ all = cc e in subst (Is
 all_differ limit (item ∷ items) names all h e =
     let one = read (added limit names item) (λ more. all_added limit more items) all e in
     all_differ limit items one.0 all (added_differ limit names item one.0 h one.1) one.2
-
-pub none_differ : IsDistinct is_same_name []
-unfolding IsDistinct
-none_differ = tt
 
 pub factors_differ : (limit : ℕ) (statement : List Written) (names : List (List ℕ)) → factors_of limit statement ≡ Ok names → IsDistinct is_same_name names
 factors_differ limit statement names e = all_differ limit (items_of statement) [] names none_differ e

@@ -2,3 +2,5 @@ pub mod Numbered
 pub mod Added
 pub mod NumbersDiffer
 pub mod Distinct
+pub mod Readings
+pub mod Names

@@ -2,5 +2,7 @@
 #![tactic(auto)]
 
 mod factors;
+mod laws;
 
 pub use factors::factors_of;
+pub use laws::{factors_have_names, items_are_read_by_the_grammar};

@@ -1,8 +1,9 @@
 mod Derivatives
 mod Solid
-mod NoFaults
+pub mod NoFaults
 mod Ends
 mod StepEnds
-mod Prefixes
+pub mod Sentences
+pub mod Prefixes
 mod SameTexts
 mod Table

@@ -22,17 +22,17 @@ block = step ▸ maybe (key Quit ▸ key Semicolon ▸ between)
 abbrev Text : Type 0
 Text = List Symbol
 
-abbrev flat : List Text → Text
+abbrev pub flat : List Text → Text
 flat parts = flat_map (λ part. part) parts
 
 cat : (a b : Shape) (x y : Text) → Matches a x → Matches b y → Matches (a ▸ b) (x ++ y)
 cat a b x y p q = sequence_of a b (x ++ y) (x, y, p, q, refl)
 
-flat_cat : (a b : List Text) → flat (a ++ b) ≡ flat a ++ flat b
+pub flat_cat : (a b : List Text) → flat (a ++ b) ≡ flat a ++ flat b
 flat_cat [] b = refl
 flat_cat (p ∷ a) b = ap (λ (l : Text). p ++ l) (flat_cat a b) ∙ sym (append_assoc p (flat a) (flat b))
 
-all_cat : (S : Shape) (a b : List Text) → AllByRecursion (Matches S) a → AllByRecursion (Matches S) b
+pub all_cat : (S : Shape) (a b : List Text) → AllByRecursion (Matches S) a → AllByRecursion (Matches S) b
     → AllByRecursion (Matches S) (a ++ b)
 all_cat S [] b h k = k
 all_cat S (p ∷ a) b h k = (h.0, all_cat S a b h.1 k)

@@ -154,6 +154,10 @@ proc_rest =
 abbrev pub proc : Shape
 proc = key Proc ▸ proc_rest
 
+-- a statement of a program, within a step or between steps
+abbrev pub sentence : Shape
+sentence = key Quit ▸ key Semicolon ∣ proc ∣ statement
+
 -- a step, up to what no longer belongs to it
 abbrev pub step : Shape
 step = proc ▸ Many statement

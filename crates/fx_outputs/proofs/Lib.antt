@@ -3,4 +3,6 @@ mod Examples
 pub mod Folded
 pub mod InOrder
 pub mod Limits
+pub mod Readings
+pub mod Names
 pub mod Statements

@@ -8,3 +8,4 @@ pub mod Recodes
 pub mod Earlier
 pub mod Outputs
 pub mod Validity
+pub mod Readings

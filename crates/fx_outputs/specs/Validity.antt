@@ -1,10 +1,12 @@
 -- What holds of every output that is accepted, without a word on how it is read.
-use Rattle.std.specs.Prelude.{◌≡◌, ◌≢◌, ◌*◌, ◌≤◌, List, [], length, All}
+use Rattle.std.specs.Prelude.{◌≡◌, ◌≢◌, ◌*◌, ◌≤◌, ℕ, true, false, List, [], ◌∷◌, None, codes, length, All}
 use Rattle.std.specs.List.{AllPairs}
 use Rattle.fx_outputs.specs.declared.replication.TheConstants.{MOST_ROWS}
+use Rattle.fx_text.specs.Names.{IsName, place_of}
 use Rattle.fx_outputs.specs.declared.output.OutputSpec.{OutputSpec}
 use Rattle.fx_outputs.specs.declared.recode.Recode.{Recode}
 use Rattle.fx_outputs.specs.Contexts.{Context}
+use Rattle.fx_outputs.specs.Blocks.{has_blocks}
 use Rattle.fx_outputs.specs.declared.context.BlockCount.TheVariants as blocks
 
 -- a factor of the step, with a value for each level
@@ -25,3 +27,15 @@ pub record IsWithinLimits (context : Context) (output : OutputSpec) : Type 0 whe
   pub rows : context.runs * output.pointrep * output.designrep ≤ MOST_ROWS
   pub recodes : AreRecodes context output.recodes
   pub block_values : output.block_values ≢ [] → context.blocks ≡ blocks.Fixed (length output.block_values)
+
+-- the name of the column of blocks, BLOCK where the text gives none
+abbrev pub column_name : List ℕ → List ℕ
+column_name [] = codes "BLOCK"
+column_name (b ∷ name) = b ∷ name
+
+-- an output whose names have 1 to 32 bytes; with blocks no factor has the name of their column, and without blocks there is none
+pub record HasItsNames (context : Context) (output : OutputSpec) : Type 0 where
+  pub name : IsName output.name
+  pub block_name : output.block_name ≢ [] → IsName output.block_name
+  pub column : has_blocks context.blocks ≡ true → place_of (column_name output.block_name) context.factors ≡ None
+  pub no_column : has_blocks context.blocks ≡ false → output.block_name ≡ []

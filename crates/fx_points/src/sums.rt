@@ -28,6 +28,8 @@ pub struct Sums {
     /// The lower and the upper part of each point.
     lower: Vec<u16>,
     upper: Vec<u16>,
+    /// Minus each point.
+    opposite: Vec<u16>,
 }
 
 impl Model for Sums {
@@ -37,7 +39,7 @@ impl Model for Sums {
 
     ghost view = { λ x. record { q = x.field; m = x.m } };
 
-    ghost invariant = { λ x. AreSums x.field x.m x.even x.size x.blocks x.half x.width x.height x.low.items x.high.items x.lower.items x.upper.items };
+    ghost invariant = { λ x. AreSums x.field x.m x.even x.size x.blocks x.half x.width x.height x.low.items x.high.items x.lower.items x.upper.items x.opposite.items };
 }
 
 impl Sums {
@@ -71,6 +73,7 @@ impl Sums {
         } else {
             quotients(alloc, size, width)?
         };
+        let opposite = opposites(alloc, field, m, size)?;
         Ok(Sums {
             field,
             m,
@@ -84,7 +87,15 @@ impl Sums {
             high,
             lower,
             upper,
+            opposite,
         })
+    }
+
+    /// The field of the codes.
+    pub fn field(&self) -> Field
+        ensures { result ≡ self.now.q }
+    {
+        self.field
     }
 
     /// How many codes the field has.
@@ -137,7 +148,7 @@ impl Sums {
         ensures negative { result ≡ sum_of self.now.q (neg self.now.q 1) self.now.m 0 x }
         ensures below { result < self.now.q ^ self.now.m }
     {
-        self.times(x, self.field.neg(1))
+        part(self.opposite.as_slice(), x)
     }
 
     /// The number of the sum of two points.
@@ -178,6 +189,23 @@ fn table(alloc: Global, field: Field, n: u8) -> Result<Vec<u16>, NoMemory>
         sums.push(sum_with(field, n, (i / count) as u16, (i % count) as u16, 1))?;
     }
     Ok(sums.into_vec())
+}
+
+/// Minus each point.
+fn opposites(alloc: Global, field: Field, m: u8, size: u16) -> Result<Vec<u16>, NoMemory>
+    requires runs { field ^ m ≤ 1024 }
+    requires size { size ≡ field ^ m }
+    ensures len { IfOk result (λ points. length points.items ≡ field ^ m) }
+    ensures are { IfOk result (λ points. (i : ℕ) → i < field ^ m
+        → slice_index points.items i ≡ sum_of field (neg field 1) m 0 i) }
+{
+    let _known = field.q();
+    let minus = field.neg(1);
+    let mut points = Values::new(alloc);
+    for x in 0..size {
+        points.push(sum_with(field, m, 0, x, minus))?;
+    }
+    Ok(points.into_vec())
 }
 
 /// What the table has for the point.

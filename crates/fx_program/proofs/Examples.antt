@@ -6,12 +6,15 @@ use Rattle.std.specs.Fmt.{digits}
 use Rattle.std.specs.Option.{option_map}
 use Rattle.fx_base.specs.Acts.{Piece, ListByte, Did, World}
 use Rattle.fx_designs.specs.Galois.{prime_of, degree_of, reduction_of, add, mul, neg, inv}
-use Rattle.fx_designs.specs.Runs.{runs_of, is_constant, is_balanced}
+use Rattle.fx_designs.specs.Runs.{runs_of, is_constant, is_balanced, is_constant_in_blocks}
+use Rattle.fx_designs.specs.Aliases.{is_aliased}
 use Rattle.fx_designs.specs.Spans.{in_span}
 use Rattle.fx_designs.specs.Demands.{must_balance, is_met, is_allowed}
 use Rattle.fx_designs.specs.Canonical.{is_canonical}
 use Rattle.fx_designs.specs.Answers.{lists, designs, answer}
+use Rattle.fx_designs.specs.Patterns.{constant_words, pattern_of}
 use Rattle.fx_designs.specs.Nodes.{nodes}
+use Rattle.fx_designs.specs.Jobs.{first_least, best_before, carried}
 use Rattle.fx_lexer.specs.Lexing.{lexed}
 use Rattle.fx_language.specs.Refusals.{refused}
 use Rattle.fx_settings.specs.Sizes.{size_of}
@@ -21,7 +24,7 @@ use Rattle.fx_settings.specs.Settings.{levels_of, budget_of}
 use Rattle.fx_demands.specs.Bars.{bars_of}
 use Rattle.fx_vectors.specs.Effects.{factors_of}
 use Rattle.fx_statements.specs.Programs.{program_of}
-use Rattle.fx_alias.specs.Rules.{step_lines}
+use Rattle.fx_alias.specs.Sections.{step_lines}
 use Rattle.fx_program.specs.Words.{settings_of}
 use Rattle.fx_program.specs.Refusals.{fault_line}
 use Rattle.fx_program.specs.Texts.{program_in, at_front}
@@ -30,7 +33,7 @@ use Rattle.fx_program.specs.Output.{Output, message, output_of, Gives, GivesForS
 
 -- what is given for the word `run` and a text
 given : List ℕ → Output
-unfolding digits prime_of degree_of reduction_of add mul neg inv runs_of is_constant is_balanced in_span must_balance is_met is_allowed is_canonical lists designs answer nodes lexed refused levels_of budget_of size_of criterion_of check_blocks check_minimum blocks_of bars_of factors_of program_of settings_of program_in step_lines lib.Count.ones
+unfolding digits prime_of degree_of reduction_of add mul neg inv runs_of is_constant is_balanced in_span must_balance is_met is_allowed is_canonical lists designs answer nodes lexed refused levels_of budget_of size_of criterion_of check_blocks check_minimum blocks_of bars_of factors_of program_of settings_of program_in step_lines is_aliased is_constant_in_blocks lib.Count.ones constant_words pattern_of first_least best_before carried
 given text = output_of (codes "run" ∷ []) text
 
 -- a text without steps
@@ -110,27 +113,28 @@ by_the_outputs :
 unfolding given
 by_the_outputs = (refl, refl, refl, refl, refl, refl, refl, refl, refl)
 
--- refused: steps that are not run yet: each section of the listing but the rules, files, blocks, the highest
--- resolution and the least size
+-- refused: steps that are not run yet: files, blocks, the highest resolution and the least size
 by_what_is_built :
     (given (codes "proc factex; factors A B C; size design=8;") ≡ message (codes "factex: E0 1:1 not built yet\n") 3)
     × (given (codes "proc factex; factors A B C; model r=max;") ≡ message (codes "factex: E0 1:1 not built yet\n") 3)
-    × (given (codes "proc factex; factors A B C; model r=3/minabs;") ≡ message (codes "factex: E0 1:1 not built yet\n") 3)
     × (given (codes "proc factex; factors A B C; model r=3; size design=min;") ≡ message (codes "factex: E0 1:1 not built yet\n") 3)
     × (given (codes "proc factex; factors A B C; model r=3; blocks nblocks=2;") ≡ message (codes "factex: E0 1:1 not built yet\n") 3)
     × (given (codes "proc factex; factors A B C; model r=3; output out=a;") ≡ message (codes "factex: E0 1:1 not built yet\n") 3)
-    × (given (codes "proc factex; factors A B C; model r=3; examine design;") ≡ message (codes "factex: E0 1:1 not built yet\n") 3)
-    × (given (codes "proc factex; factors A B C; model r=3; examine aliasing;") ≡ message (codes "factex: E0 1:1 not built yet\n") 3)
-    × (given (codes "proc factex; factors A B C; model r=3; examine blocked;") ≡ message (codes "factex: E0 1:1 not built yet\n") 3)
-    × (given (codes "proc factex; factors A B C; model r=3; examine aberration;") ≡ message (codes "factex: E0 1:1 not built yet\n") 3)
 unfolding given
-by_what_is_built = (refl, refl, refl, refl, refl, refl, refl, refl, refl, refl)
+by_what_is_built = (refl, refl, refl, refl, refl)
 
 -- a third of three factors of three levels
 third_of_three_levels :
-    given (codes "proc factex;factors A B C / nlev=3;size fraction=3;model resolution=3;") ≡ message (codes "step 1\nfactors 3 levels 3\ndesign 9 runs\nnodes 3\nrules\n  C = A^2*B\n") 0
+    given (codes "proc factex;factors A B C / nlev=3;size fraction=3;model resolution=3;") ≡ message (codes "step 1\nfactors 3 levels 3\ndesign 9 runs\nresolution 3\nnodes 3\nrules\n  C = A^2*B\n") 0
 unfolding given
 third_of_three_levels = refl
+
+-- the sections come in their own order
+with_sections :
+    given (codes "proc factex;factors A B C;size design=4;model r=3;examine aliasing design;")
+    ≡ message (codes "step 1\nfactors 3 levels 2\ndesign 4 runs\nresolution 3\nnodes 3\nrules\n  C = A*B\npoints A B C\n  1 -1 -1 -1\n  2 -1 1 1\n  3 1 -1 1\n  4 1 1 -1\naliasing\n  A = B*C\n  B = A*C\n  C = A*B\n") 0
+unfolding given
+with_sections = refl
 
 -- the components of A*B cannot be told apart in three runs
 components :
@@ -140,38 +144,45 @@ components = refl
 
 -- B is constant, so that C introduces the second run index
 late_index :
-    given (codes "proc factex;factors A B C D;size nrunfacs=2;model estimate=(A*B C A*C);") ≡ message (codes "step 1\nfactors 4 levels 2\ndesign 4 runs\nnodes 10\nrules\n  B = 0\n  D = A*C\n") 0
+    given (codes "proc factex;factors A B C D;size nrunfacs=2;model estimate=(A*B C A*C);") ≡ message (codes "step 1\nfactors 4 levels 2\ndesign 4 runs\nresolution 1\nnodes 10\nrules\n  B = 0\n  D = A*C\n") 0
 unfolding given
 late_index = refl
 
 -- four factors of two levels in eight runs
 half :
-    given (codes "proc factex;factors A B C D;size design=8;model resolution=4;") ≡ message (codes "step 1\nfactors 4 levels 2\ndesign 8 runs\nnodes 4\nrules\n  D = A*B*C\n") 0
+    given (codes "proc factex;factors A B C D;size design=8;model resolution=4;") ≡ message (codes "step 1\nfactors 4 levels 2\ndesign 8 runs\nresolution 4\nnodes 4\nrules\n  D = A*B*C\n") 0
 unfolding given
 half = refl
 
+-- the least aberration, and the words of each weight; a budget that ends before a design is found
+least_aberration :
+    (given (codes "proc factex;factors A B C;size design=4;model resolution=max/minabs;examine aberration;") ≡ message (codes "step 1\nfactors 3 levels 2\ndesign 4 runs\nresolution 3 least aberration\nnodes 3\nrules\n  C = A*B\naberration\n  A3 1\n") 0)
+    × (given (codes "proc factex nodes=2;factors A B C;size design=4;model resolution=3/minabs;") ≡ message (codes "step 1\nfactors 3 levels 2\nbudget ended after 2 nodes\n") 2)
+unfolding given
+least_aberration = (refl, refl)
+
 -- three factors of four levels in 16 runs
 four_levels :
-    given (codes "proc factex;factors A B C/nlev=4;size design=16;model resolution=3;") ≡ message (codes "step 1\nfactors 3 levels 4\ndesign 16 runs\nnodes 3\nrules\n  C = A^3*B\n") 0
+    given (codes "proc factex;factors A B C/nlev=4;size design=16;model resolution=3;") ≡ message (codes "step 1\nfactors 3 levels 4\ndesign 16 runs\nresolution 3\nnodes 3\nrules\n  C = A^3*B\n") 0
 unfolding given
 four_levels = refl
 
 -- three factors of five levels in 25 runs
 five_levels :
-    given (codes "proc factex;factors A B C/nlev=5;size design=25;model resolution=3;") ≡ message (codes "step 1\nfactors 3 levels 5\ndesign 25 runs\nnodes 3\nrules\n  C = A^4*B\n") 0
+    given (codes "proc factex;factors A B C/nlev=5;size design=25;model resolution=3;") ≡ message (codes "step 1\nfactors 3 levels 5\ndesign 25 runs\nresolution 3\nnodes 3\nrules\n  C = A^4*B\n") 0
 unfolding given
 five_levels = refl
 
 -- three steps, of which the second needs more nodes than it is allowed, and the third has no design: the greatest
 -- status decides
 three_steps :
-    given (codes "proc factex;factors A;model r=3;proc factex nodes=1;factors A B;model r=3;proc factex;factors A B C;size design=2;model r=3;") ≡ record { events = Piece (codes "step 1\nfactors 1 levels 2\ndesign 2 runs\nnodes 1\nrules\n  none\n") ∷ Piece (codes "step 2\nfactors 2 levels 2\nbudget ended after 1 nodes\n") ∷ Piece (codes "step 3\nfactors 3 levels 2\nno design in 2 runs\nnodes 1\n") ∷ []; status = 2 }
+    given (codes "proc factex;factors A;model r=3;proc factex nodes=1;factors A B;model r=3;proc factex;factors A B C;size design=2;model r=3;") ≡ record { events = Piece (codes "step 1\nfactors 1 levels 2\ndesign 2 runs\nno defining words\nnodes 1\nrules\n  none\n") ∷ Piece (codes "step 2\nfactors 2 levels 2\nbudget ended after 1 nodes\n") ∷ Piece (codes "step 3\nfactors 3 levels 2\nno design in 2 runs\nnodes 1\n") ∷ []; status = 2 }
 unfolding given
 three_steps = refl
 
 -- a step without a design, and one with a design after it
 none_and_design :
-    given (codes "proc factex;factors A B C;size design=2;model r=3;proc factex;factors A;model r=3;") ≡ record { events = Piece (codes "step 1\nfactors 3 levels 2\nno design in 2 runs\nnodes 1\n") ∷ Piece (codes "step 2\nfactors 1 levels 2\ndesign 2 runs\nnodes 1\nrules\n  none\n") ∷ []; status = 1 }
+    given (codes "proc factex;factors A B C;size design=2;model r=3;proc factex;factors A;model r=3;") ≡ record { events = Piece (codes "step 1\nfactors 3 levels 2\nno design in 2 runs\nnodes 1\n") ∷ Piece (codes "step 2\nfactors 1 levels 2\ndesign 2 runs\nno defining words\nnodes 1\nrules\n  none\n") ∷ []; status = 1 }
 unfolding given
 none_and_design = refl
 

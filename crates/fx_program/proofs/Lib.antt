@@ -5,5 +5,6 @@ mod Endings
 mod SoFar
 mod Given
 mod None
+mod Least
 mod AnyText
 mod Statuses

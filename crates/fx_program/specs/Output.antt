@@ -3,7 +3,7 @@ use Rattle.std.specs.Prelude.{ℕ, ◌≡◌, ◌+◌, ◌<◌, nat_le, if◌the
 use Rattle.fx_base.specs.Acts.{Event, Piece, acts, World, File, Did, DidPart}
 use Rattle.fx_designs.specs.Problems.{Problem}
 use Rattle.fx_designs.specs.Outcomes.{ending_of}
-use Rattle.fx_alias.specs.Rules.{step_lines}
+use Rattle.fx_alias.specs.Sections.{step_lines}
 use Rattle.fx_answer.specs.Questions.{problem_of}
 use Rattle.fx_statements.specs.Steps.{Meaning}
 use Rattle.fx_program.specs.Words.{settings_of, word_line}
@@ -28,7 +28,7 @@ message bytes status = record { events = Piece bytes ∷ []; status = status }
 abbrev pub step_given : ℕ → Meaning → Problem → Output
 step_given number step p =
     let ending = ending_of p step.settings.budget in
-    message (step_lines number p.dimensions.q p.dimensions.m step.factors ending) (status_of ending)
+    message (step_lines number p.dimensions step ending) (status_of ending)
 
 -- what is given for a step that states a problem; else nothing
 abbrev pub given_by : ℕ → Meaning → Option Problem → Output

@@ -6,4 +6,4 @@ use Rattle.fx_designs.specs.Outcomes.{Ending, Design, NoDesign, BudgetEnded}
 abbrev pub status_of : Ending → ℕ
 status_of (Design rows count) = 0
 status_of (NoDesign count) = 1
-status_of (BudgetEnded budget) = 2
+status_of (BudgetEnded left budget) = 2

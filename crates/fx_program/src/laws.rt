@@ -1,4 +1,4 @@
-ghost use Rattle.std.specs.Prelude.{◌≡◌, ◌↔◌, ◌<◌, ◌≤◌, List, ℕ, Some, Ok, false, length, IsTrue};
+ghost use Rattle.std.specs.Prelude.{◌≡◌, ◌↔◌, ◌<◌, ◌≤◌, List, ℕ, Some, Ok, true, false, length, IsTrue};
 ghost use Rattle.fx_designs.specs.Galois.{is_order};
 ghost use Rattle.fx_designs.specs.Matrices.{NoneMeets};
 ghost use Rattle.fx_reduction.specs.Reduction.{IsReducible};
@@ -10,28 +10,36 @@ ghost use Rattle.fx_statements.specs.Steps.{Meaning};
 ghost use Rattle.fx_answer.specs.Questions.{problem_of};
 ghost use Rattle.fx_program.specs.Texts.{program_in};
 ghost use Rattle.fx_designs.specs.Outcomes.{Design, NoDesign};
-ghost use Rattle.fx_alias.specs.Rules.{step_lines};
+ghost use Rattle.fx_alias.specs.Sections.{step_lines};
 ghost use Rattle.fx_program.specs.Output.{message, program_output, step_output};
-ghost use Rattle.fx_program.specs.Claims.{IsGreatest, NoDesignMeansNone};
+ghost use Rattle.fx_jobs.specs.Laws.{IsFirstOfLeastPattern};
+ghost use Rattle.fx_program.specs.Claims.{IsGreatest, LeastMeansLeastOfAll, NoDesignMeansNone};
 
 /// What is given for a step of a form that is built, where the nodes of its problem are within its
 /// budget: status 0 and the lines of the first design of the canonical list that meets its demands,
-/// or status 1 and the lines that say that there is no design, where no matrix of the list meets
-/// them.
+/// where least aberration is asked of the first of least pattern; or status 1 and the lines that say
+/// that there is no design, where no matrix of the list meets them.
 pub fn first_design_is_given()
     ensures design { (number : ℕ) (step : Meaning) (p : Problem) (rows : List ℕ)
         → problem_of step ≡ Some p
+        → step.settings.least ≡ false
         → length (nodes p) ≤ step.settings.budget
         → IsFirstDesign p rows
         → step_output number step
-        ≡ message (step_lines number p.dimensions.q p.dimensions.m step.factors
+        ≡ message (step_lines number p.dimensions step (Design rows (length (nodes p)))) 0 }
+    ensures least { (number : ℕ) (step : Meaning) (p : Problem) (rows : List ℕ)
+        → problem_of step ≡ Some p
+        → step.settings.least ≡ true
+        → length (nodes p) ≤ step.settings.budget
+        → IsFirstOfLeastPattern p rows
+        → step_output number step
+        ≡ message (step_lines number p.dimensions step
         (Design rows (length (nodes p)))) 0 }
     ensures none { (number : ℕ) (step : Meaning) (p : Problem) → problem_of step ≡ Some p
         → length (nodes p) ≤ step.settings.budget
         → ((rows : List ℕ) → is_design p rows ≡ false)
         → step_output number step
-        ≡ message (step_lines number p.dimensions.q p.dimensions.m step.factors
-        (NoDesign (length (nodes p)))) 1 }
+        ≡ message (step_lines number p.dimensions step (NoDesign (length (nodes p)))) 1 }
 {}
 
 /// Status 2 comes of a step of a form that is built exactly where the nodes of its problem are more
@@ -63,6 +71,12 @@ pub fn no_design_means_none_at_all()
 /// all meet what it asks.
 pub fn no_design_in_any_text()
     ensures { (text : List ℕ) → NoDesignMeansNone (program_in text) }
+{}
+
+/// Whatever a text says: where a step of its program asks for least aberration and ends with a design,
+/// the pattern of no rule matrix at all that meets the resolution asked for, canonical or not, is less.
+pub fn least_pattern_in_any_text()
+    ensures { (text : List ℕ) → LeastMeansLeastOfAll (program_in text) }
 {}
 
 /// What the status of a program says: 0 that each step has a design or that there is no step, 1 that

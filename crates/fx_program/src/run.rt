@@ -1,9 +1,10 @@
-ghost use Rattle.std.specs.Prelude.{◌≡◌, ◌<◌, ◌≤◌, ◌⊎◌, [], ◌∷◌, ℕ, List, Option, Some, true, false, Ok, Err, map, IfOk};
+ghost use Rattle.std.specs.Prelude.{◌≡◌, ◌<◌, ◌≤◌, ◌⊎◌, [], ◌∷◌, ℕ, List, Option, Some, true, false, Ok, Err, map, length, ◌++◌, IfOk, OnOk};
 ghost use Rattle.std.specs.List.{list_all};
 ghost use Rattle.fx_vectors.specs.Matrix.{MatrixView};
+ghost use Rattle.fx_vectors.specs.Shape.{dimensions_of};
 ghost use Rattle.fx_statements.specs.Steps.{meaning_of};
 ghost use Rattle.fx_statements.specs.Outcomes.{ending_by, ending_in};
-ghost use Rattle.fx_alias.specs.Rules.{step_lines};
+ghost use Rattle.fx_alias.specs.Sections.{step_lines};
 ghost use Rattle.fx_answer.specs.Outcomes.{IsOutcome};
 ghost use Rattle.fx_program.specs.Words.{bytes_of, settings_of};
 ghost use Rattle.fx_program.specs.Forms.{is_built};
@@ -18,10 +19,11 @@ use crate::refusal::put_fault;
 use crate::stop::{REFUSED, Stop, exit_status};
 use crate::text::{TextFault, TextStop, at_front, read_program};
 use crate::words::{Settings, read_words, word_line};
-use fx_alias::{head_listing, rules_listing};
+use fx_alias::{examine_listing, head_listing, rules_listing};
 use fx_answer::answer;
 use fx_base::{Bytes, NoMemory, ReadStop, Shelf, Sink, Source, Taken, read_all, write_all};
 use fx_statements::{End, Outcome, Step};
+use fx_vectors::Matrix;
 use std::alloc::Global;
 
 /// The greatest number of bytes of a program text.
@@ -167,17 +169,19 @@ fn status_of(end: End) -> u8
 
 /// All lines of the step of this number, by its outcome.
 fn lines_of(alloc: Global, number: usize, step: &Step, outcome: &Outcome) -> Result<Bytes, NoMemory>
-    requires { IsOutcome (meaning_of step.now) outcome.now }
+    requires outcome { IsOutcome (meaning_of step.now) outcome.now }
+    requires unblocked { outcome.now.shape.t ≡ 0 }
     ensures { IfOk result (λ lines.
         lines
-        ≡ step_lines number outcome.now.shape.q outcome.now.shape.m step.now.factors
+        ≡ step_lines number (dimensions_of outcome.now.shape) (meaning_of step.now)
         (ending_in outcome.now)) }
 {
     let mut lines = Bytes::new(alloc);
-    head_listing(number, step, outcome, &mut lines)?;
+    head_listing(alloc, number, step, outcome, &mut lines)?;
     match &outcome.matrix {
         Some(matrix) => {
             rules_listing(alloc, step, matrix, &mut lines)?;
+            examine_listing(alloc, step, matrix, &mut lines)?;
             Ok(lines)
         }
         None => Ok(lines),

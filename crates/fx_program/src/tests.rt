@@ -58,10 +58,10 @@ fn ran(
 const HALF: &str = "proc factex;\nfactors A B C D;\nsize design=8;\nmodel resolution=4;\nrun;\n";
 
 const HALF_LISTING: &str =
-    "step 1\nfactors 4 levels 2\ndesign 8 runs\nnodes 4\nrules\n  D = A*B*C\n";
+    "step 1\nfactors 4 levels 2\ndesign 8 runs\nresolution 4\nnodes 4\nrules\n  D = A*B*C\n";
 
 /// Each text with its listing and status.
-const PROGRAMS: [(&str, &str, u8); 27] = [
+const PROGRAMS: [(&str, &str, u8); 36] = [
     (HALF, HALF_LISTING, 0),
     (
         "PROC Factex ;factors A B C D E;\tsize\ndesign = 8;model res=4;run;",
@@ -70,12 +70,12 @@ const PROGRAMS: [(&str, &str, u8); 27] = [
     ),
     (
         "proc factex;factors A;model r=3;",
-        "step 1\nfactors 1 levels 2\ndesign 2 runs\nnodes 1\nrules\n  none\n",
+        "step 1\nfactors 1 levels 2\ndesign 2 runs\nno defining words\nnodes 1\nrules\n  none\n",
         0,
     ),
     (
         "proc factex;factors A B C D E F G;size fraction=8;model resolution=4;run;",
-        "step 1\nfactors 7 levels 2\ndesign 16 runs\nnodes 19\nrules\n  E = B*C*D\n  F = A*C*D\n  G = A*B*D\n",
+        "step 1\nfactors 7 levels 2\ndesign 16 runs\nresolution 4\nnodes 19\nrules\n  E = B*C*D\n  F = A*C*D\n  G = A*B*D\n",
         0,
     ),
     (
@@ -85,12 +85,12 @@ const PROGRAMS: [(&str, &str, u8); 27] = [
     ),
     (
         "proc factex;factors A;size design=1024;model resolution=99;",
-        "step 1\nfactors 1 levels 2\ndesign 1024 runs\nnodes 1\nrules\n  none\n",
+        "step 1\nfactors 1 levels 2\ndesign 1024 runs\nno defining words\nnodes 1\nrules\n  none\n",
         0,
     ),
     (
         "proc factex;factors A B C D / nlev=3;size design=9;model resolution=3;",
-        "step 1\nfactors 4 levels 3\ndesign 9 runs\nnodes 4\nrules\n  C = A^2*B\n  D = A*B\n",
+        "step 1\nfactors 4 levels 3\ndesign 9 runs\nresolution 3\nnodes 4\nrules\n  C = A^2*B\n  D = A*B\n",
         0,
     ),
     (
@@ -100,27 +100,27 @@ const PROGRAMS: [(&str, &str, u8); 27] = [
     ),
     (
         "proc factex;factors A B C D E/nlev=4;size design=16;model r=3;",
-        "step 1\nfactors 5 levels 4\ndesign 16 runs\nnodes 5\nrules\n  C = A^3*B\n  D = A^2*B\n  E = A*B\n",
+        "step 1\nfactors 5 levels 4\ndesign 16 runs\nresolution 3\nnodes 5\nrules\n  C = A^3*B\n  D = A^2*B\n  E = A*B\n",
         0,
     ),
     (
         "proc factex;factors A B C D E F/nlev=5;size design=25;model r=3;",
-        "step 1\nfactors 6 levels 5\ndesign 25 runs\nnodes 6\nrules\n  C = A^4*B\n  D = A^3*B\n  E = A^2*B\n  F = A*B\n",
+        "step 1\nfactors 6 levels 5\ndesign 25 runs\nresolution 3\nnodes 6\nrules\n  C = A^4*B\n  D = A^3*B\n  E = A^2*B\n  F = A*B\n",
         0,
     ),
     (
         "proc factex;factors A B C D E F G H/nlev=7;size design=49;model r=3;",
-        "step 1\nfactors 8 levels 7\ndesign 49 runs\nnodes 8\nrules\n  C = A^6*B\n  D = A^5*B\n  E = A^4*B\n  F = A^3*B\n  G = A^2*B\n  H = A*B\n",
+        "step 1\nfactors 8 levels 7\ndesign 49 runs\nresolution 3\nnodes 8\nrules\n  C = A^6*B\n  D = A^5*B\n  E = A^4*B\n  F = A^3*B\n  G = A^2*B\n  H = A*B\n",
         0,
     ),
     (
         "proc factex;factors A B C D E F G H I/nlev=8;size design=64;model r=3;",
-        "step 1\nfactors 9 levels 8\ndesign 64 runs\nnodes 9\nrules\n  C = A^7*B\n  D = A^6*B\n  E = A^5*B\n  F = A^4*B\n  G = A^3*B\n  H = A^2*B\n  I = A*B\n",
+        "step 1\nfactors 9 levels 8\ndesign 64 runs\nresolution 3\nnodes 9\nrules\n  C = A^7*B\n  D = A^6*B\n  E = A^5*B\n  F = A^4*B\n  G = A^3*B\n  H = A^2*B\n  I = A*B\n",
         0,
     ),
     (
         "proc factex;factors A B C D E F G H I J/nlev=9;size design=81;model r=3;",
-        "step 1\nfactors 10 levels 9\ndesign 81 runs\nnodes 10\nrules\n  C = A^8*B\n  D = A^7*B\n  E = A^6*B\n  F = A^5*B\n  G = A^4*B\n  H = A^3*B\n  I = A^2*B\n  J = A*B\n",
+        "step 1\nfactors 10 levels 9\ndesign 81 runs\nresolution 3\nnodes 10\nrules\n  C = A^8*B\n  D = A^7*B\n  E = A^6*B\n  F = A^5*B\n  G = A^4*B\n  H = A^3*B\n  I = A^2*B\n  J = A*B\n",
         0,
     ),
     (
@@ -130,7 +130,7 @@ const PROGRAMS: [(&str, &str, u8); 27] = [
     ),
     (
         "proc factex;factors A B C/nlev=3;size fraction=3;model resolution=3;",
-        "step 1\nfactors 3 levels 3\ndesign 9 runs\nnodes 3\nrules\n  C = A^2*B\n",
+        "step 1\nfactors 3 levels 3\ndesign 9 runs\nresolution 3\nnodes 3\nrules\n  C = A^2*B\n",
         0,
     ),
     (
@@ -140,17 +140,17 @@ const PROGRAMS: [(&str, &str, u8); 27] = [
     ),
     (
         "proc factex;factors A B C D;size nrunfacs=2;model estimate=(A*B C A*C);",
-        "step 1\nfactors 4 levels 2\ndesign 4 runs\nnodes 10\nrules\n  B = 0\n  D = A*C\n",
+        "step 1\nfactors 4 levels 2\ndesign 4 runs\nresolution 1\nnodes 10\nrules\n  B = 0\n  D = A*C\n",
         0,
     ),
     (
         "proc factex;factors A;model r=3;proc factex nodes=1;factors A B;model r=3;proc factex;factors A B C;size design=2;model r=3;",
-        "step 1\nfactors 1 levels 2\ndesign 2 runs\nnodes 1\nrules\n  none\nstep 2\nfactors 2 levels 2\nbudget ended after 1 nodes\nstep 3\nfactors 3 levels 2\nno design in 2 runs\nnodes 1\n",
+        "step 1\nfactors 1 levels 2\ndesign 2 runs\nno defining words\nnodes 1\nrules\n  none\nstep 2\nfactors 2 levels 2\nbudget ended after 1 nodes\nstep 3\nfactors 3 levels 2\nno design in 2 runs\nnodes 1\n",
         2,
     ),
     (
         "proc factex;factors A B C D;size design=8;model estimate=(A B C A*B);",
-        "step 1\nfactors 4 levels 2\ndesign 8 runs\nnodes 4\nrules\n  D = A*B*C\n",
+        "step 1\nfactors 4 levels 2\ndesign 8 runs\nresolution 4\nnodes 4\nrules\n  D = A*B*C\n",
         0,
     ),
     (
@@ -160,12 +160,12 @@ const PROGRAMS: [(&str, &str, u8); 27] = [
     ),
     (
         "proc factex;factors A B;size design=2;model estimate=(A) nonnegligible=(B);",
-        "step 1\nfactors 2 levels 2\ndesign 2 runs\nnodes 3\nrules\n  B = 0\n",
+        "step 1\nfactors 2 levels 2\ndesign 2 runs\nresolution 1\nnodes 3\nrules\n  B = 0\n",
         0,
     ),
     (
         "proc factex;factors A B;size design=2;model estimate=(B);",
-        "step 1\nfactors 2 levels 2\ndesign 2 runs\nnodes 2\nrules\n  B = A\n",
+        "step 1\nfactors 2 levels 2\ndesign 2 runs\nresolution 2\nnodes 2\nrules\n  B = A\n",
         0,
     ),
     (
@@ -182,8 +182,54 @@ const PROGRAMS: [(&str, &str, u8); 27] = [
     (
         "/* two */ proc factex; factors X1-X2; size nrunfacs=2; model res=3; examine confounding; quit;
         * the second; proc factex; factors A B C; size design=2; model res=3; run;",
-        "step 1\nfactors 2 levels 2\ndesign 4 runs\nnodes 2\nrules\n  none\nstep 2\nfactors 3 levels 2\nno design in 2 runs\nnodes 1\n",
+        "step 1\nfactors 2 levels 2\ndesign 4 runs\nno defining words\nnodes 2\nrules\n  none\nstep 2\nfactors 3 levels 2\nno design in 2 runs\nnodes 1\n",
         1,
+    ),
+    (
+        "proc factex; factors A B C; size design=4; model r=3; examine blocked aliasing; examine design;",
+        "step 1\nfactors 3 levels 2\ndesign 4 runs\nresolution 3\nnodes 3\nrules\n  C = A*B\npoints A B C\n  1 -1 -1 -1\n  2 -1 1 1\n  3 1 -1 1\n  4 1 1 -1\naliasing\n  A = B*C\n  B = A*C\n  C = A*B\nblocked\n  none\n",
+        0,
+    ),
+    (
+        "proc factex; factors A B C / nlev=3; size design=9; model r=3; examine aliasing;
+        proc factex; factors A B C; size design=2; model res=3; examine design aliasing;",
+        "step 1\nfactors 3 levels 3\ndesign 9 runs\nresolution 3\nnodes 3\nrules\n  C = A^2*B\naliasing\n  A = B^2*C\n  B = A*C\n  C = A^2*B\n  A*B = A^2*C = B*C\nstep 2\nfactors 3 levels 2\nno design in 2 runs\nnodes 1\n",
+        1,
+    ),
+    (
+        "proc factex; factors A B C D; size design=8; model resolution=max / minabs;",
+        "step 1\nfactors 4 levels 2\ndesign 8 runs\nresolution 4 least aberration\nnodes 7\nrules\n  D = A*B*C\n",
+        0,
+    ),
+    (
+        "proc factex; factors A B C D E F G; size design=32; model resolution=max / minabs; examine aberration;",
+        "step 1\nfactors 7 levels 2\ndesign 32 runs\nresolution 4 least aberration\nnodes 282\nrules\n  F = B*C*D*E\n  G = A*C*D*E\naberration\n  A4 1\n  A5 2\n",
+        0,
+    ),
+    (
+        "proc factex nodes=30; factors A B C D E F G; size design=32; model resolution=max / minabs; examine aberration;",
+        "step 1\nfactors 7 levels 2\nbudget ended after 30 nodes\n",
+        2,
+    ),
+    (
+        "proc factex nodes=55; factors A B C D E F G; size design=32; model resolution=max / minabs; examine aberration;",
+        "step 1\nfactors 7 levels 2\nbudget ended after 55 nodes\ndesign 32 runs not proved best\nresolution 4\nrules\n  F = A*B*C*D*E\n  G = C*D*E\naberration\n  A4 2\n  A6 1\n",
+        2,
+    ),
+    (
+        "proc factex nodes=56; factors A B C D E F G; size design=32; model resolution=3 / minabs;",
+        "step 1\nfactors 7 levels 2\nbudget ended after 56 nodes\ndesign 32 runs not proved best\nresolution 4\nrules\n  F = B*C*D*E\n  G = A*C*D*E\n",
+        2,
+    ),
+    (
+        "proc factex; factors A B C D / nlev=3; size design=9; model resolution=3; examine aberration;",
+        "step 1\nfactors 4 levels 3\ndesign 9 runs\nresolution 3\nnodes 4\nrules\n  C = A^2*B\n  D = A*B\naberration\n  A3 4\n",
+        0,
+    ),
+    (
+        "proc factex; factors A / nlev=9; model resolution=max / minabs; examine aberration;",
+        "step 1\nfactors 1 levels 9\ndesign 9 runs\nno defining words\nnodes 1\nrules\n  none\naberration\n  none\n",
+        0,
     ),
     ("", "", 0),
     ("; run; quit;", "", 0),
@@ -202,7 +248,7 @@ fn programs_have_their_listing(rt: HostRuntime) -> Result<(), Fail> {
 }
 
 /// The examples of docs/LANGUAGE.md and further texts that are refused, each with its message.
-const REFUSED: [(&str, &str); 56] = [
+const REFUSED: [(&str, &str); 51] = [
     (
         "proc factex; factors A B C; /* run;",
         "L1 1:29 comment is not closed",
@@ -233,10 +279,6 @@ const REFUSED: [(&str, &str); 56] = [
         "E0 1:1 not built yet",
     ),
     (
-        "proc factex; factors A B C; model r=3/minabs;",
-        "E0 1:1 not built yet",
-    ),
-    (
         "proc factex; factors A B C; model r=3; size design=min;",
         "E0 1:1 not built yet",
     ),
@@ -249,23 +291,7 @@ const REFUSED: [(&str, &str); 56] = [
         "E0 1:1 not built yet",
     ),
     (
-        "proc factex; factors A B C; model r=3; examine design;",
-        "E0 1:1 not built yet",
-    ),
-    (
-        "proc factex; factors A B C; model r=3; examine aliasing;",
-        "E0 1:1 not built yet",
-    ),
-    (
-        "proc factex; factors A B C; model r=3; examine blocked;",
-        "E0 1:1 not built yet",
-    ),
-    (
-        "proc factex; factors A B C; model r=3; examine aberration;",
-        "E0 1:1 not built yet",
-    ),
-    (
-        "proc factex; factors X1-X39; size design=4; model e=(X1) n=(X1|X2|X3|X4|X5|X6|X7|X8|X9|X10|X11|X12|X13|X14|X15|X16|X17|X18|X19|X20|X21|X22|X23|X24|X25|X26|X27|X28|X29|X30|X31|X32|X33|X34|X35|X36|X37|X38|X39@4); examine design;",
+        "proc factex; factors X1-X39; size design=4; model e=(X1) n=(X1|X2|X3|X4|X5|X6|X7|X8|X9|X10|X11|X12|X13|X14|X15|X16|X17|X18|X19|X20|X21|X22|X23|X24|X25|X26|X27|X28|X29|X30|X31|X32|X33|X34|X35|X36|X37|X38|X39@4); output out=a;",
         "E0 1:1 not built yet",
     ),
     (

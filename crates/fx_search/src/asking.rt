@@ -1,21 +1,26 @@
-ghost use Rattle.std.specs.Prelude.{◌≡◌, ◌≤◌, false, [], IfOk};
+ghost use Rattle.std.specs.Prelude.{◌≡◌, ◌≤◌, false, [], None, IfOk};
 ghost use Rattle.fx_vectors.specs.Question.{IsValid, problem_of};
-ghost use Rattle.fx_search.specs.Asked.{IsAnswer, IsNoneAtAll};
+ghost use Rattle.fx_designs.specs.Problems.{Dimensions};
+ghost use Rattle.fx_search.specs.Standing.{StandAt, HasDimensions, rows_of};
+ghost use Rattle.fx_search.specs.Asked.{IsAnswer, IsNoneAtAll, closed_as, kept_of};
 
 use crate::barred::Barred;
-use crate::effect_barred::BarredForEffects;
-use crate::pruner::{PlainPruner, Pruner};
+use crate::cutter::NeverCut;
+use crate::incumbent::Incumbent;
+use crate::pruner::Pruner;
+use crate::ranked::Ranked;
+use crate::unranked::Unranked;
 use crate::walk::{End, walk};
 use fx_base::NoMemory;
-use fx_demands::Forbidden;
 use fx_tree::{Candidates, Front};
-use fx_vectors::{Demands, Marks, Matrix, Question};
+use fx_vectors::{Marks, Matrix, Question};
 use std::alloc::Global;
 
 /// What a search answers.
 #[derive(Debug, Drop)]
 pub enum Asked {
-    /// The first canonical matrix that meets the demands, the number of nodes and their marks.
+    /// The first canonical matrix that meets the demands, where asked of least pattern, the number of
+    /// nodes and their marks.
     Found {
         matrix: Matrix,
         nodes: u64,
@@ -26,78 +31,74 @@ pub enum Asked {
         nodes: u64,
         marks: Marks,
     },
-    /// There are more nodes than the budget allows. `best` is None, as no least pattern is asked.
+    /// There are more nodes than the budget allows. `best` is None where no least pattern is asked.
     Budget {
         best: Option<Matrix>,
     },
 }
 
-/// The answer of a valid question without a least pattern, by one thread. The budget is at most
-/// 5,000,000. `Budget`, without a matrix, exactly where the nodes are more than the budget. `Nothing`
-/// speaks of all rule matrices, canonical or not.
+/// The answer of a valid question, by one thread. The budget is at most 5,000,000. `Budget` exactly
+/// where the nodes are more than the budget; where a least pattern is asked it has the first matrix of
+/// least pattern of the lots before that of the node that passes the budget. `Nothing` speaks of all
+/// rule matrices, canonical or not.
 ///
 /// Besides the marks, which take 18 bytes a node, memory is taken at the start alone: for the points
-/// that are reached, or for a copy of the effects and, without blocks, for the forbidden vectors, at
-/// most one for each pair of vectors to be told apart. The recursion is as deep as a matrix has rows,
-/// at most 40.
+/// that are reached and the best words for block rows, or for a copy of the effects and for the
+/// forbidden vectors, at most one for each pair of vectors to be told apart; and where a least pattern
+/// is asked for at most 27 MB of counts. The recursion is as deep as a matrix has rows, at most 40.
 ///
 /// # Errors
 ///
 /// `NoMemory`.
 pub fn ask_alone(alloc: Global, question: &Question, budget: u64) -> Result<Asked, NoMemory>
     requires valid { IsValid question.now }
-    requires not_least { question.now.least ≡ false }
     requires budget { budget ≤ 5000000 }
     ensures answer { IfOk result (IsAnswer question.now budget) }
     ensures none_at_all { IfOk result (IsNoneAtAll question.now) }
 {
-    if question.shape.t == 0 {
-        return ask_without_blocks(alloc, question, budget);
-    }
-    let forbidden = Forbidden::of(alloc, question)?;
-    let mut pruner = PlainPruner::new(forbidden);
-    ask_with(alloc, question, &mut pruner, budget)
+    let mut pruner = Barred::of(alloc, question)?;
+    ask_by(alloc, question, &mut pruner, budget)
 }
 
-/// The same without blocks.
-fn ask_without_blocks(alloc: Global, question: &Question, budget: u64) -> Result<Asked, NoMemory>
-    requires valid { IsValid question.now }
-    requires not_least { question.now.least ≡ false }
-    requires unblocked { question.now.shape.t ≡ 0 }
-    requires budget { budget ≤ 5000000 }
-    ensures answer { IfOk result (IsAnswer question.now budget) }
-    ensures none_at_all { IfOk result (IsNoneAtAll question.now) }
-{
-    match &question.demands {
-        Demands::Resolution { r } => {
-            let mut pruner = Barred::of(alloc, question.shape, *r, question.least)?;
-            ask_with(alloc, question, &mut pruner, budget)
-        }
-        Demands::Effects {
-            estimate,
-            nonnegligible,
-        } => {
-            let mut pruner = BarredForEffects::of(alloc, question, estimate, nonnegligible)?;
-            ask_with(alloc, question, &mut pruner, budget)
-        }
-    }
-}
-
-/// The same over a pruner that stands at the empty prefix of the question.
-fn ask_with<P: Pruner>(
+/// The same over a pruner that is at the empty prefix of the question.
+pub(crate) fn ask_by<P: Pruner>(
     alloc: Global,
     question: &Question,
     pruner: &mut P,
     budget: u64,
 ) -> Result<Asked, NoMemory>
     requires valid { IsValid question.now }
-    requires not_least { question.now.least ≡ false }
     requires budget { budget ≤ 5000000 }
     requires problem { P.problem pruner.old ≡ problem_of question.now }
     requires start { P.prefix pruner.old ≡ [] }
     ensures answer { IfOk result (IsAnswer question.now budget) }
     ensures none_at_all { IfOk result (IsNoneAtAll question.now) }
 {
+    if question.least {
+        let mut incumbent = Ranked::new(alloc, question)?;
+        return ask_with(alloc, question, pruner, &mut incumbent, budget);
+    }
+    let mut incumbent = Unranked::new(question);
+    ask_with(alloc, question, pruner, &mut incumbent, budget)
+}
+
+/// The same over an incumbent, too, without a best.
+fn ask_with<P: Pruner, I: Incumbent>(
+    alloc: Global,
+    question: &Question,
+    pruner: &mut P,
+    incumbent: &mut I,
+    budget: u64,
+) -> Result<Asked, NoMemory>
+    requires valid { IsValid question.now }
+    requires budget { budget ≤ 5000000 }
+    requires at { StandAt (problem_of question.now) [] (P.problem pruner.old) (P.prefix pruner.old)
+        (I.standing incumbent.old) }
+    requires none { (I.standing incumbent.old).best ≡ None }
+    ensures answer { IfOk result (IsAnswer question.now budget) }
+    ensures none_at_all { IfOk result (IsNoneAtAll question.now) }
+{
+    let mut cutter = NeverCut;
     let mut prefix = Matrix::new(question.shape);
     let mut marks = Marks::new(alloc);
     let limit = budget as usize;
@@ -112,6 +113,8 @@ fn ask_with<P: Pruner>(
         &candidates,
         front,
         pruner,
+        incumbent,
+        &mut cutter,
         &mut prefix,
         &mut marks,
         limit,
@@ -123,7 +126,43 @@ fn ask_with<P: Pruner>(
             nodes,
             marks,
         }),
-        End::Closed => Ok(Asked::Nothing { nodes, marks }),
-        End::Spent => Ok(Asked::Budget { best: None }),
+        End::Closed => Ok(closed(question, incumbent.best_matrix(), nodes, marks)),
+        End::Spent => Ok(Asked::Budget {
+            best: kept(question, incumbent.best_matrix()),
+        }),
+        // It is never cut.
+        End::Cut => Ok(Asked::Budget { best: None }),
     }
+}
+
+/// What is answered after all nodes.
+fn closed(question: &Question, best: Option<Matrix>, nodes: u64, marks: Marks) -> Asked
+    ensures { result ≡ closed_as question.now.least best nodes marks }
+{
+    if !question.least {
+        return Asked::Nothing { nodes, marks };
+    }
+    match best {
+        None => Asked::Nothing { nodes, marks },
+        Some(matrix) => Asked::Found {
+            matrix,
+            nodes,
+            marks,
+        },
+    }
+}
+
+/// What is carried where the budget ends the search.
+fn kept(question: &Question, best: Option<Matrix>) -> Option<Matrix>
+    requires valid { IsValid question.now }
+    ensures rows { rows_of result ≡ kept_of question.now (rows_of best) }
+    ensures sized { (d : Dimensions) → HasDimensions d best → HasDimensions d result }
+{
+    if !question.least {
+        return None;
+    }
+    if question.shape.rows() <= usize::from(question.shape.m) {
+        return None;
+    }
+    best
 }

@@ -11,8 +11,8 @@ mod settings;
 mod size;
 
 pub use laws::{
-    blocks_are_read_by_the_grammar, budget_is_read_by_the_grammar, levels_are_read_by_the_grammar,
-    size_is_read_by_the_grammar,
+    blocks_are_read_by_the_grammar, budget_is_read_by_the_grammar, goal_is_read_by_the_grammar,
+    levels_are_read_by_the_grammar, size_is_read_by_the_grammar,
 };
 pub use power::greatest;
 pub use said::{BlocksSaid, BlocksWord, ModelSaid, SizeSaid, SizeWord, StepSaid, Value, step_said};

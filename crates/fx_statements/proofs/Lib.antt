@@ -3,4 +3,7 @@ pub mod ComponentCounts
 pub mod StepByStep
 mod Examples
 pub mod Readings
+pub mod Listed
+pub mod Sections
+pub mod Parts
 mod Texts

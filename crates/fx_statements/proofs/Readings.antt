@@ -11,9 +11,9 @@ use Rattle.fx_language.specs.Grammar as grammar
 use Rattle.fx_text.specs.Written.{Written, begins}
 use Rattle.fx_text.specs.Phrases.{after, before, has}
 use Rattle.fx_effects.specs.Models.{first_or, lists_at, lists_after, lists_of}
-use Rattle.fx_settings.specs.Readings.{IsStatement}
-use Rattle.fx_settings.proofs.Cut.{cut, nothing}
-use Rattle.fx_settings.proofs.Lacking.{none, open_alone, close_alone, any_written, after_part, before_part}
+use Rattle.fx_text.specs.Sentences.{IsStatement}
+use Rattle.fx_text.proofs.Cut.{cut, nothing}
+use Rattle.fx_text.proofs.Lacking.{none, open_alone, close_alone, any_written, after_part, before_part}
 use Rattle.fx_settings.proofs.Readings.{turned}
 use Rattle.fx_statements.specs.Readings.{HasList, IsSecondRead, IsModelRead}
 

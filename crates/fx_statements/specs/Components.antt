@@ -10,6 +10,7 @@ use Rattle.fx_text.specs.Refusals.{place_at, refused_at}
 use Rattle.fx_language.specs.declared.symbol.Symbol.TheVariants.{Aliasing, Blocked, Examine}
 use Rattle.fx_language.specs.Symbols.{is}
 use Rattle.fx_vectors.specs.Effects.{most_factors}
+use Rattle.fx_statements.specs.declared.components.TheConstants.{MOST_COMPONENTS}
 use Rattle.fx_statements.specs.Goals.{Goal, AtLeast, Highest, ForEffects}
 
 -- Components of one and two factors are listed, and those of as many as an effect that is named has.
@@ -44,4 +45,4 @@ components_place (s ∷ statements) = place_or (components_asked s) (components_
 -- at most 100,000 components may be listed in a step of s factors, or E23 at the word that asks for them
 abbrev pub check_components : ℕ → ℕ → Goal → Option Place → Result (Unit {0}) Refusal
 check_components q s goal None = Ok tt
-check_components q s goal (Some place) = if nat_lt 100000 (listed_count q s (min s (listed_factors goal))) then Err (refused_at TOO_MANY_EFFECTS place) else Ok tt
+check_components q s goal (Some place) = if nat_lt MOST_COMPONENTS (listed_count q s (min s (listed_factors goal))) then Err (refused_at TOO_MANY_EFFECTS place) else Ok tt

@@ -1,5 +1,6 @@
 -- What a text means: a list of steps, or the first refusal.
 use Rattle.std.specs.Prelude.{ℕ, ◌++◌, List, [], ◌∷◌, slice_get, Option, Some, None, Result, Ok, Err}
+use Rattle.std.specs.List.{flat_map}
 use Rattle.fx_lexer.specs.declared.token.Token.{Token}
 use Rattle.fx_lexer.specs.Places.{line_after, column_after}
 use Rattle.fx_language.specs.Keywords.{symbols_of}
@@ -10,6 +11,7 @@ use Rattle.fx_text.specs.Written.{Written, written}
 use Rattle.fx_text.specs.Statements.{statements_of, steps_of}
 use Rattle.fx_text.specs.Refusals.{refused_at, ◌>>=◌}
 use Rattle.fx_outputs.specs.Outputs.{names_of}
+use Rattle.fx_statements.specs.declared.step.Step.{Step}
 use Rattle.fx_statements.specs.Steps.{Meaning, step_of}
 
 -- the meanings of some steps, after these OUT names and these meanings
@@ -22,6 +24,10 @@ steps_behind earlier done (step ∷ steps) =
 -- the meaning of what is written in an accepted text
 abbrev pub meaning_of_all : List (List Written) → Result (List Meaning) Refusal
 meaning_of_all statements = steps_behind [] [] (steps_of statements)
+
+-- the OUT names of some steps
+abbrev pub out_names : List Step → List (List ℕ)
+out_names steps = flat_map (λ (step : Step). names_of step.outputs) steps
 
 -- the place of a token, and after the last one that of the end of the text
 abbrev pub place_in : List ℕ → Option Token → Place

@@ -1,5 +1,7 @@
--- That the lists of MODEL are read between the parentheses that the grammar has.
-use Rattle.std.specs.Prelude.{◌≡◌, ◌⊎◌, ℕ, true, false, List, [], ◌∷◌, ◌++◌}
+-- That the lists of MODEL are read between the parentheses that the grammar has, and the sections of EXAMINE where it has them.
+use Rattle.std.specs.Prelude.{◌≡◌, ◌⊎◌, ◌||◌, Bool, ℕ, true, false, List, [], ◌∷◌, ◌++◌}
+use Rattle.std.specs.List.{AllByRecursion}
+use Rattle.fx_language.specs.declared.symbol.Symbol.{Symbol}
 use Rattle.fx_language.specs.declared.symbol.Symbol.TheVariants as symbol
 use Rattle.fx_language.specs.Symbols.{is}
 use Rattle.fx_text.specs.Written.{Written}
@@ -35,3 +37,16 @@ pub record IsModelRead (s : List Written) : Type 0 where
   pub word : is symbol.Estimate first.word.symbol ≡ true
   pub second : IsSecondRead first.rest
   pub read : (q : ℕ) (factors : List (List ℕ)) → lists_of q factors s ≡ lists_at q factors first.word first.list (first_or first.word first.rest) (before symbol.Close (after symbol.Open first.rest))
+
+-- a word for a section of the listing
+abbrev pub is_section : Symbol → Bool
+is_section s = is symbol.Aliasing s || is symbol.Blocked s || is symbol.Confounding s || is symbol.Design s || is symbol.Aberration s
+
+-- what is read from an EXAMINE statement: its words after the first, each of which is a section
+pub record AreSectionsRead (s : List Written) : Type 0 where
+  pub first : Written
+  pub sections : List Written
+  pub statement : s ≡ first ∷ sections
+  pub word : is symbol.Examine first.symbol ≡ true
+  pub each : AllByRecursion (λ (w : Written). is_section w.symbol ≡ true) sections
+  pub asked : (section : Symbol) → is_section section ≡ true → has section s ≡ has section sections

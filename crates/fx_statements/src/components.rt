@@ -1,6 +1,7 @@
 ghost use Rattle.std.specs.Prelude.{◌≡◌, ◌≤◌, true, min, nat_lt};
 ghost use Rattle.fx_designs.specs.Components.{listed_count};
 ghost use Rattle.fx_settings.specs.Settings.{is_level};
+ghost use Rattle.fx_statements.specs.declared.components.TheConstants.{MOST_COMPONENTS};
 ghost use Rattle.fx_statements.specs.Goals.{goal_of};
 ghost use Rattle.fx_statements.specs.Components.{check_components, components_asked, components_place, first_components, is_for_components, listed_factors};
 
@@ -104,7 +105,7 @@ fn are_too_many(q: u8, s: u8, d: u8) -> bool
     requires level { is_level q ≡ true }
     requires few { s ≤ 40 }
     requires some { d ≤ s }
-    ensures { result ≡ nat_lt 100000 (listed_count q s d) }
+    ensures { result ≡ nat_lt MOST_COMPONENTS (listed_count q s d) }
 {
     let mut count = 0;
     // How many have k + 1 factors.

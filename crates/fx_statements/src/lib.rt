@@ -16,7 +16,7 @@ pub use examine::Examine;
 pub use fx_outputs::{OutputSpec, Outputs, Recode, Recodes, Shuffle};
 pub use fx_settings::{Blocks, Size};
 pub use fx_text::{Names, ParseStop, Refusal};
-pub use laws::model_is_read_by_the_grammar;
+pub use laws::{model_is_read_by_the_grammar, sections_are_read_by_the_grammar};
 pub use outcome::{End, Outcome};
 pub use parsing::{Program, parse};
 pub use step::Step;

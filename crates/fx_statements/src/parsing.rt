@@ -1,12 +1,14 @@
 ghost use Rattle.std.specs.Prelude.{◌≡◌, ◌≤◌, ◌==◌, not, map, reverse, length, Ok, IfOk, IfErr, All};
-ghost use Rattle.std.specs.List.{prefix_len};
+ghost use Rattle.std.specs.List.{AllByRecursion, IsDistinct, prefix_len};
 ghost use Rattle.std.specs.Option.{option_map};
 ghost use Rattle.fx_lexer.specs.Tokens.{IsToken};
 ghost use Rattle.fx_lexer.specs.Places.{column_after, line_after};
 ghost use Rattle.fx_text.specs.Refusals.{IsRefused};
+ghost use Rattle.fx_text.specs.Names.{is_same_name};
+ghost use Rattle.fx_text.specs.Sentences.{IsAccepted};
 ghost use Rattle.fx_text.specs.Statements.{ends_step};
 ghost use Rattle.fx_statements.specs.Steps.{meaning_of};
-ghost use Rattle.fx_statements.specs.Programs.{meaning_of_all, place_in, program_of};
+ghost use Rattle.fx_statements.specs.Programs.{meaning_of_all, out_names, place_in, program_of};
 
 use crate::step::Step;
 use crate::stepping::step_of;
@@ -21,11 +23,12 @@ use std::alloc::Global;
 /// The steps of a program, in order.
 pub type Program = Items<Step>;
 
-/// The program of a text of at most 1,048,576 bytes, whose tokens these are.
+/// The program of a text of at most 1,048,576 bytes, whose tokens these are. No two OUT names of its
+/// steps are the same, without regard to case.
 ///
 /// # Errors
 ///
-/// The first refusal: of the grammar and of words that stand twice or too late, from left to right;
+/// The first refusal: of the grammar and of words that are repeated or come too late, from left to right;
 /// then of the meaning, step by step. And `NoMemory`.
 #[tactic(auto, unfolding(crate::specs::Programs::program_of))]
 pub fn parse(alloc: Global, text: &[u8], tokens: &Tokens) -> Result<Program, ParseStop>
@@ -33,6 +36,7 @@ pub fn parse(alloc: Global, text: &[u8], tokens: &Tokens) -> Result<Program, Par
     requires tokens { All (IsToken text.now) tokens.now }
     ensures program { IfOk result (λ program.
         program_of text.now tokens.now ≡ Ok (map meaning_of program)) }
+    ensures out_names_differ { IfOk result (λ program. IsDistinct is_same_name (out_names program)) }
     ensures refused { IfErr result (IsRefused (program_of text.now tokens.now)) }
 {
     let symbols = symbols(alloc, text, tokens)?;
@@ -76,7 +80,7 @@ fn column_after(text: &[u8]) -> u32
     1 + last_line_len(text) as u32
 }
 
-/// How many bytes stand after the last line feed.
+/// How many bytes follow the last line feed.
 fn last_line_len(text: &[u8]) -> usize
     ensures value { result ≡ prefix_len (λ b. not (b == 10)) (reverse text.now) }
     ensures bound { result ≤ length text.now }
@@ -92,8 +96,10 @@ fn is_line_feed(b: u8) -> bool
 
 /// The steps among the statements of a text.
 fn steps(alloc: Global, statements: &[Statement<'_>]) -> Result<Program, ParseStop>
+    requires { AllByRecursion IsAccepted statements.now }
     ensures program { IfOk result (λ program.
         meaning_of_all statements.now ≡ Ok (map meaning_of program)) }
+    ensures differ { IfOk result (λ program. IsDistinct is_same_name (out_names program)) }
     ensures refused { IfErr result (IsRefused (meaning_of_all statements.now)) }
 {
     let mut earlier = EarlierNames::new(alloc);
@@ -109,7 +115,7 @@ fn steps(alloc: Global, statements: &[Statement<'_>]) -> Result<Program, ParseSt
     Ok(program)
 }
 
-/// How many statements stand before one that ends the step.
+/// How many statements precede one that ends the step.
 fn rest_len(statements: &[Statement<'_>]) -> usize
     ensures value { result ≡ prefix_len (λ s. not (ends_step s)) statements.now }
     ensures bound { result ≤ length statements.now }

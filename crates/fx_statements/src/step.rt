@@ -1,10 +1,12 @@
 ghost use Rattle.std.specs.Prelude.{length, All, IsTrue};
 ghost use Rattle.std.specs.List.{IsDistinct};
 ghost use Rattle.std.proofs.Props.{props};
-ghost use Rattle.fx_text.specs.Names.{is_same_name};
+ghost use Rattle.fx_text.specs.Names.{IsName, is_same_name};
 ghost use Rattle.fx_settings.specs.Valid.{are_valid};
-ghost use Rattle.fx_outputs.specs.Validity.{IsWithinLimits};
-ghost use Rattle.fx_statements.specs.Valid.{CanBeWanted, is_count, settings_in};
+ghost use Rattle.fx_outputs.specs.Outputs.{names_of};
+ghost use Rattle.fx_outputs.specs.Validity.{HasItsNames, IsWithinLimits};
+ghost use Rattle.fx_statements.specs.Valid.{CanBeWanted, HasFewComponents, HasFewEffects, is_count, settings_in};
+ghost use Rattle.fx_statements.specs.Goals.{goal_of};
 ghost use Rattle.fx_statements.specs.Contexts.{context};
 
 use crate::examine::Examine;
@@ -15,7 +17,9 @@ use fx_text::Names;
 
 /// A step of a program. No two of its factors have the same name, its settings are valid, the
 /// effects that it names may be asked for (at least one to estimate, both lists in effect order,
-/// none in both, at most 2,000,000 pairs), and its outputs are within its limits.
+/// none in both, at most 100,000 in each, at most 2,000,000 pairs), its listings have at most 100,000
+/// components, and its outputs are within its limits. Names have 1 to 32 bytes, no two OUT names are
+/// the same, and no factor has the name of the column of blocks.
 #[derive(Debug, Drop)]
 pub struct Step {
     /// The names of its factors, 1 to 40, and at most 30 with blocks. They differ without regard to
@@ -40,8 +44,15 @@ pub struct Step {
     ghost factor_count: { IsTrue (is_count (length factors) blocks) },
     ghost distinct: { IsDistinct is_same_name factors } by { Prim.hlevel props },
     ghost settings_valid: { IsTrue (are_valid (settings_in q budget size wanted least blocks)) },
+    ghost factor_names: { All IsName factors },
     ghost effects_askable: { CanBeWanted q (length factors) wanted },
+    ghost few_effects: { HasFewEffects wanted },
+    ghost few_components: { HasFewComponents q (length factors) (goal_of wanted) examine },
     ghost outputs_within_limits: { All
         (IsWithinLimits (context factors (settings_in q budget size wanted least blocks)))
         outputs },
+    ghost output_names: { All
+        (HasItsNames (context factors (settings_in q budget size wanted least blocks)))
+        outputs },
+    ghost out_names_differ: { IsDistinct is_same_name (names_of outputs) } by { Prim.hlevel props },
 }

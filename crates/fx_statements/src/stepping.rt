@@ -1,5 +1,7 @@
 ghost use Rattle.std.specs.Prelude.{◌≡◌, ℕ, ◌++◌, ◌≤◌, ◌^◌, true, false, Some, None, Ok, length, IfOk, IfErr};
-ghost use Rattle.std.specs.List.{IsDistinct};
+ghost use Rattle.std.specs.List.{AllByRecursion, IsDistinct};
+ghost use Rattle.fx_language.specs.Grammar as grammar;
+ghost use Rattle.fx_text.specs.Sentences.{HasNames, IsAccepted, IsStatement};
 ghost use Rattle.fx_settings.specs.declared.settings.Blocks.TheVariants.{Factors};
 ghost use Rattle.fx_settings.specs.Settings.{is_level};
 ghost use Rattle.fx_settings.specs.Valid.{are_valid, has_blocks, is_size};
@@ -8,8 +10,8 @@ ghost use Rattle.fx_text.specs.Refusals.{IsRefused};
 ghost use Rattle.fx_outputs.specs.Outputs.{names_of};
 ghost use Rattle.fx_statements.specs.Contexts.{block_count, context, most_runs};
 ghost use Rattle.fx_statements.specs.Goals.{criterion_of, goal_of};
-ghost use Rattle.fx_statements.specs.Valid.{CanBeWanted};
-ghost use Rattle.fx_statements.specs.Steps.{asked_by, factor_limit, factors_by, head_of, meaning_of, step_by, step_of};
+ghost use Rattle.fx_statements.specs.Valid.{CanBeWanted, HasFewComponents, HasFewEffects};
+ghost use Rattle.fx_statements.specs.Steps.{asked_by, examine_of, factor_limit, factors_by, head_of, meaning_of, step_by, step_of};
 
 use crate::components::check_components;
 use crate::examine::examine_of;
@@ -26,7 +28,7 @@ use fx_text::{Names, ParseStop, Phrase, Place, Refusal, Statement, find};
 use std::alloc::Global;
 
 /// The step of some statements, the first of which is its PROC statement. `earlier` are the OUT
-/// names that stand before in the program; those of this step are added.
+/// names of earlier steps of the program; those of this step are added.
 ///
 /// # Errors
 ///
@@ -37,8 +39,11 @@ pub(crate) fn step_of(
     earlier: &mut EarlierNames,
     statements: &[Statement<'_>],
 ) -> Result<Step, ParseStop>
+    requires accepted { AllByRecursion IsAccepted statements.now }
+    requires differ { IsDistinct is_same_name earlier.old }
     ensures step { IfOk result (λ step. step_of earlier.old statements.now ≡ Ok (meaning_of step)) }
     ensures names { IfOk result (λ step. earlier.new ≡ earlier.old ++ names_of step.outputs) }
+    ensures differ { IfOk result (λ step. IsDistinct is_same_name earlier.new) }
     ensures refused { IfErr result (IsRefused (step_of earlier.old statements.now)) }
 {
     match find(Symbol::Factors, statements) {
@@ -53,9 +58,14 @@ fn step_by(
     statements: &[Statement<'_>],
     named: &Phrase<'_>,
 ) -> Result<Step, ParseStop>
+    requires accepted { AllByRecursion IsAccepted statements.now }
+    requires differ { IsDistinct is_same_name earlier.old }
+    requires by_grammar { IsStatement grammar.factors named.now }
+    requires names { HasNames named.now }
     ensures step { IfOk result (λ step.
         step_by earlier.old statements.now (Some named.now) ≡ Ok (meaning_of step)) }
     ensures names { IfOk result (λ step. earlier.new ≡ earlier.old ++ names_of step.outputs) }
+    ensures differ { IfOk result (λ step. IsDistinct is_same_name earlier.new) }
     ensures refused { IfErr result
         (IsRefused (step_by earlier.old statements.now (Some named.now))) }
 {
@@ -116,6 +126,10 @@ fn asked_by(
     ensures settings_valid { IfOk result (λ asked. are_valid asked.0 ≡ true) }
     ensures kind { IfOk result (λ asked. criterion_of asked.1 ≡ asked.0.criterion) }
     ensures askable { IfOk result (λ asked. CanBeWanted asked.0.q (length factors.now) asked.1) }
+    ensures few_effects { IfOk result (λ asked. HasFewEffects asked.1) }
+    ensures few_components { IfOk result (λ asked.
+        HasFewComponents asked.0.q (length factors.now) (goal_of asked.1)
+        (examine_of statements.now)) }
     ensures unblocked { IfOk result (λ asked.
         said.blocks ≡ None → has_blocks asked.0.blocks ≡ false) }
     ensures refused { IfErr result (IsRefused (asked_by factors.now said statements.now)) }

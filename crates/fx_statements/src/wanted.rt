@@ -5,7 +5,7 @@ ghost use Rattle.fx_language.specs.declared.symbol.Symbol.TheVariants.{Model};
 ghost use Rattle.fx_settings.specs.declared.settings.Criterion.TheVariants as criterion;
 ghost use Rattle.fx_settings.specs.Settings.{is_level};
 ghost use Rattle.fx_statements.specs.Goals.{criterion_of, effects_in, effects_wanted, goal_by, goal_of};
-ghost use Rattle.fx_statements.specs.Valid.{CanBeWanted};
+ghost use Rattle.fx_statements.specs.Valid.{CanBeWanted, HasFewEffects};
 
 use fx_base::Bytes;
 use fx_effects::effects_of;
@@ -51,6 +51,7 @@ pub(crate) fn wanted_by(
         goal_by q factors.now statements.now criterion ≡ Ok (goal_of wanted)) }
     ensures kind { IfOk result (λ wanted. criterion_of wanted ≡ criterion) }
     ensures askable { IfOk result (CanBeWanted q (length factors.now)) }
+    ensures few { IfOk result HasFewEffects }
     ensures refused { IfErr result (IsRefused (goal_by q factors.now statements.now criterion)) }
 {
     match criterion {
@@ -73,6 +74,7 @@ fn effects_wanted(
         effects_wanted q factors.now (statement_of Model statements.now) ≡ Ok (goal_of wanted)) }
     ensures kind { IfOk result (λ wanted. criterion_of wanted ≡ criterion.Effects) }
     ensures askable { IfOk result (CanBeWanted q (length factors.now)) }
+    ensures few { IfOk result HasFewEffects }
     ensures refused { IfErr result
         (IsRefused (effects_wanted q factors.now (statement_of Model statements.now))) }
 {
@@ -94,6 +96,7 @@ fn effects_in(
         effects_in q factors.now statement.now ≡ Ok (goal_of wanted)) }
     ensures kind { IfOk result (λ wanted. criterion_of wanted ≡ criterion.Effects) }
     ensures askable { IfOk result (CanBeWanted q (length factors.now)) }
+    ensures few { IfOk result HasFewEffects }
     ensures refused { IfErr result (IsRefused (effects_in q factors.now statement.now)) }
 {
     let field = Field::of(q).unwrap();

@@ -22,7 +22,7 @@ tells = record {
   more = λ c cs digit all. and_from _ _ (and_from _ _ (le-leb 48 c digit.0) (le-leb c 57 digit.1)) all;
 }
 
-digits : IsNumeralModel AreDigits (digits_value 10)
+pub digits : IsNumeralModel AreDigits (digits_value 10)
 digits = numerals_by_value AreDigits tells
 
 are_ascii : (bytes : List ℕ) → AreDigits bytes → IsAscii bytes

@@ -1,5 +1,9 @@
+pub mod Cut
 pub mod Cuts
+pub mod Lacking
+pub mod Sentences
 pub mod Digits
+pub mod Distinct
 pub mod Wholes
 pub mod Chains
 pub mod Numbered

@@ -1,5 +1,5 @@
 -- Names, which are compared without regard to case.
-use Rattle.std.specs.Prelude.{ℕ, Bool, List, Option, position}
+use Rattle.std.specs.Prelude.{ℕ, ◌≤◌, Bool, List, length, Option, position}
 use Rattle.std.specs.Str.{str_eq_ignore_ascii_case}
 
 -- the same name, without regard to case
@@ -9,3 +9,7 @@ is_same_name a b = str_eq_ignore_ascii_case a b
 -- the index at which a name stands among others
 abbrev pub place_of : List ℕ → List (List ℕ) → Option ℕ
 place_of name names = position (is_same_name name) names
+
+-- a name of 1 to 32 bytes
+abbrev pub IsName : List ℕ → Type 0
+IsName name = (1 ≤ length name) × (length name ≤ 32)

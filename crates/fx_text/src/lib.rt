@@ -2,6 +2,7 @@
 //! of names, statements and steps. And the places at which a text is refused.
 #![tactic(auto)]
 
+mod laws;
 mod lexeme;
 mod name;
 mod phrase;
@@ -10,6 +11,7 @@ mod refusal;
 mod statement;
 
 pub use fx_lexer::Place;
+pub use laws::statements_are_those_of_the_grammar;
 pub use lexeme::{Lexeme, Lexemes, lexemes, number};
 pub use name::{Names, is_same_name, place_of};
 pub use phrase::Phrase;

@@ -17,8 +17,8 @@ pub use front::Front;
 pub use fx_points::PointSet;
 pub use fx_vectors::Mark;
 pub use laws::{
-    canonical_without_the_last_row, no_rows_are_canonical, problems_are_trees, rows_that_follow,
-    span_of_a_canonical_prefix,
+    canonical_without_the_last_row, introduced_where_outside_the_span, no_rows_are_canonical,
+    problems_are_trees, rows_that_follow, span_of_a_canonical_prefix,
 };
 pub use order::before;
-pub use prefix::is_canonical;
+pub use prefix::{front_of, is_canonical};

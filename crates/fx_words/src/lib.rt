@@ -9,5 +9,5 @@ mod tally;
 mod tests;
 
 pub use fx_vectors::Pattern;
-pub use order::{compare, resolution};
+pub use order::{compare, is_less, resolution};
 pub use tally::{Tally, pattern_of};

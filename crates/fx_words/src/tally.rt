@@ -1,9 +1,9 @@
-ghost use Rattle.std.specs.Prelude.{◌≡◌, ◌<◌, ◌≤◌, ◌-◌, ◌*◌, ◌+◌, ◌^◌, [], ◌∷◌, ◌++◌, length, take, IfOk};
+ghost use Rattle.std.specs.Prelude.{◌≡◌, ◌<◌, ◌≤◌, ◌-◌, ◌*◌, ◌+◌, ◌^◌, [], ◌∷◌, ◌++◌, length, take, slice_index, IfOk};
 ghost use Rattle.fx_designs.specs.Patterns.{pattern_of, is_less};
 ghost use Rattle.fx_designs.specs.Vectors.{vectors_of};
 ghost use Rattle.fx_vectors.specs.Matrix.{MatrixView};
 ghost use Rattle.fx_vectors.specs.Shape.{IsShape, dimensions_of};
-ghost use Rattle.fx_words.specs.Tables.{AreOf, IsLevel, AreCounts};
+ghost use Rattle.fx_words.specs.Tables.{AreOf, IsLevel, AreCounts, AreAdded};
 
 use crate::differences::Differences;
 use crate::level::{self, count_with};
@@ -88,7 +88,7 @@ impl Tally {
 
     /// Whether the pattern with this row added is less than another of s entries. The row is not pushed, and
     /// the first weight that decides ends the comparison.
-    pub fn less_with(&self, row: u16, other: &Pattern) -> bool
+    pub fn less_with(&self, row: u16, other: &[u128]) -> bool
         requires room { length self.now.rows < self.now.shape.s }
         requires below { row < self.now.shape.q ^ self.now.shape.m }
         requires entries { length other.now ≡ self.now.shape.s }
@@ -97,13 +97,21 @@ impl Tally {
             other.now }
     {
         let level = level_of(self.counts.as_slice(), &self.prefix);
-        level::less_with(
-            level,
-            &self.prefix,
-            &self.differences,
-            row,
-            other.as_slice(),
-        )
+        level::less_with(level, &self.prefix, &self.differences, row, other)
+    }
+
+    /// The entry at `i`, counted from 0, of the pattern with this row added.
+    pub fn words_with(&self, row: u16, i: usize) -> u128
+        requires room { length self.now.rows < self.now.shape.s }
+        requires below { row < self.now.shape.q ^ self.now.shape.m }
+        requires entry { i < self.now.shape.s }
+        ensures { result
+            ≡ slice_index
+            (pattern_of (dimensions_of self.now.shape) (self.now.rows ++ row ∷ []))
+            i }
+    {
+        let level = level_of(self.counts.as_slice(), &self.prefix);
+        level::words_with(level, &self.prefix, &self.differences, row, i)
     }
 
     /// Whether the pattern is less than another of s entries.
@@ -206,12 +214,35 @@ fn add_level(counts: &mut [u128], prefix: &Matrix, differences: &Differences, ro
     requires row { row < prefix.now.shape.q ^ prefix.now.shape.m }
     ensures { AreCounts prefix.now.shape (prefix.now.rows ++ row ∷ []) counts.new }
 {
-    let runs = usize::from(differences.size());
+    for weight in 0..usize::from(prefix.shape().s) + 1 {
+        add_weight(counts, prefix, differences, row, weight);
+    }
+}
+
+/// Adds those of one weight, after those of the lesser weights.
+fn add_weight(
+    counts: &mut [u128],
+    prefix: &Matrix,
+    differences: &Differences,
+    row: u16,
+    weight: usize,
+)
+    requires added { AreAdded prefix.now.shape prefix.now.rows row counts.old
+        (weight * prefix.now.shape.q ^ prefix.now.shape.m) }
+    requires differences { AreOf prefix.now.shape differences.now }
+    requires room { length prefix.now.rows < prefix.now.shape.s }
+    requires row { row < prefix.now.shape.q ^ prefix.now.shape.m }
+    requires weight { weight ≤ prefix.now.shape.s }
+    ensures { AreAdded prefix.now.shape prefix.now.rows row counts.new
+        ((weight + 1) * prefix.now.shape.q ^ prefix.now.shape.m) }
+{
     let size = level_size(prefix.shape());
-    let to = (prefix.len() + 1) * size;
-    for i in 0..size {
-        let level = level_of(counts, prefix);
-        let count = count_with(level, prefix, differences, row, i / runs, (i % runs) as u16);
-        counts[to + i] = count;
+    let from = prefix.len() * size;
+    let runs = differences.size();
+    let to = from + size + weight * usize::from(runs);
+    for sum in 0..runs {
+        let level = &counts[from..from + size];
+        let count = count_with(level, prefix, differences, row, weight, sum);
+        counts[to + usize::from(sum)] = count;
     }
 }

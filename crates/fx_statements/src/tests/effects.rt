@@ -1,5 +1,7 @@
 //! Which effects and listings of components are refused, and which accepted.
 use crate::tests::{are_accepted, are_refused, refusal};
+use std::alloc::Global;
+use std::process::Abort;
 use std::test::Fail;
 
 #[test]
@@ -46,6 +48,67 @@ fn too_many_effects_are_refused_at_their_words(rt: HostRuntime) -> Result<(), Fa
         b"model e=(X1) n=(X1|X2|X3|X4|X5|X6|X7|X8|X9|X10|X11|X12|X13|X14|X15|X16);",
     ];
     are_accepted(&rt, rt.alloc(), front, &texts)
+}
+
+/// `X1|X2|..` with so many factors, at most 99.
+fn bars(alloc: Global, count: u8) -> Result<Vec<u8>, Fail> {
+    let mut text = Vec::new(alloc);
+    for i in 1..=count {
+        if i > 1 {
+            text.push(b'|')?;
+        }
+        text.push(b'X')?;
+        if i > 9 {
+            text.push(b'0' + i / 10 % 10)?;
+        }
+        text.push(b'0' + i % 10)?;
+    }
+    Ok(text)
+}
+
+/// The code, line and column of the refusal of effects of 40 factors: `e=(` bars with the rest.
+fn bars_refusal(
+    rt: &impl Abort,
+    alloc: Global,
+    first: (u8, &[u8]),
+    second: (u8, &[u8]),
+) -> Result<Option<(u8, u32, u32)>, Fail> {
+    let mut text = Vec::new(alloc);
+    text.extend_from_slice(b"e=(")?;
+    text.extend_from_slice(&bars(alloc, first.0)?)?;
+    text.extend_from_slice(first.1)?;
+    text.extend_from_slice(b"n=(")?;
+    text.extend_from_slice(&bars(alloc, second.0)?)?;
+    text.extend_from_slice(second.1)?;
+    refusal(
+        rt,
+        alloc,
+        b"proc factex;factors X1-X40;size design=4;model\n",
+        &text,
+    )
+}
+
+#[test]
+fn limits_of_effects_and_pairs_are_exact_to_a_factor(rt: HostRuntime) -> Result<(), Fail> {
+    let alloc = rt.alloc();
+    // 2,031,554 pairs, and 1,834,952.
+    assert_eq!(rt;
+        bars_refusal(&rt, alloc, (6, b"@5)"), (15, b");"))?,
+        Some((22, 2, 1))
+    );
+    assert_eq!(rt; bars_refusal(&rt, alloc, (6, b"@4)"), (15, b");"))?, None);
+    // 101,583 effects, and 92,170.
+    assert_eq!(rt;
+        bars_refusal(&rt, alloc, (1, b")"), (27, b"@5);"))?,
+        Some((23, 2, 7))
+    );
+    assert_eq!(rt; bars_refusal(&rt, alloc, (1, b")"), (39, b"@4);"))?, None);
+    // Unknown names in the second list come before too many effects in the first.
+    assert_eq!(rt;
+        bars_refusal(&rt, alloc, (17, b")"), (2, b" Z);"))?,
+        Some((4, 2, 72))
+    );
+    Ok(())
 }
 
 #[test]

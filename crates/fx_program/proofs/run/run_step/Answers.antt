@@ -1,12 +1,15 @@
 use Rattle.std.proofs.Common.{◌∙◌}
 use Rattle.std.proofs.lemmas.Bool.{and_parts}
 use Rattle.fx_statements.specs.Steps.{meaning_of}
-use Rattle.fx_program.proofs.Given.{is_given}
+use Rattle.fx_program.proofs.Given.{is_given, without_blocks}
 use Rattle.fx_program.proofs.Endings.{lists_by, lists_none}
 use Rattle.fx_program.proofs.run.run_step.Goals as goal
 
 pub answer-requires : goal.answer-requires
 answer-requires g c = (and_parts _ _ c.requires).0
+
+pub lines_of-requires-clause-unblocked : goal.lines_of-requires-clause-unblocked
+lines_of-requires-clause-unblocked g c = without_blocks (meaning_of c.args.step.now) c.in_ok-outcome.outcome (and_parts _ _ c.requires).0 c.in_ok-outcome.ensures
 
 pub returns-clause-output : goal.returns-clause-output
 returns-clause-output g c =

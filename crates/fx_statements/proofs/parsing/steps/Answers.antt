@@ -1,11 +1,16 @@
-use Rattle.std.proofs.Common.{◌≡◌, ◌+◌, ◌∷◌, [], map, drop, sym, ap, ap₂, ◌∙◌, not}
-use Rattle.std.specs.List.{prefix_len}
+use Rattle.std.proofs.Common.{◌≡◌, ℕ, List, ◌+◌, ◌-◌, ◌++◌, ◌∷◌, [], map, drop, sym, ap, ap₂, subst, ◌∙◌, not}
+use Rattle.std.specs.List.{IsDistinct, prefix_len}
 use Rattle.std.proofs.lemmas.List.{take_rest, map-append}
 use Rattle.fx_language.specs.declared.symbol.Symbol.TheVariants.{Proc}
 use Rattle.fx_text.specs.Written.{begins}
 use Rattle.fx_text.specs.Statements.{ends_step, steps_of}
 use Rattle.fx_statements.specs.Steps.{meaning_of}
-use Rattle.fx_statements.specs.Programs.{steps_behind}
+use Rattle.fx_statements.specs.Programs.{out_names, steps_behind}
+use Rattle.fx_statements.proofs.Parts.{each_dropped, each_taken, names_of_more}
+use Rattle.fx_outputs.specs.Outputs.{names_of}
+use Rattle.fx_text.specs.Names.{is_same_name}
+use Rattle.fx_text.specs.Sentences.{IsAccepted}
+use Rattle.fx_text.proofs.Distinct.{none_differ}
 use Rattle.fx_statements.proofs.StepByStep.{one_step}
 use Rattle.fx_statements.proofs.parsing.steps.Goals as goal
 
@@ -16,8 +21,35 @@ loop-i-preserved c =
     let long : c.rest_len-len.result ≡ prefix_len (λ s. not (ends_step s)) (drop (i + 1) statements) =
     c.rest_len-len.ensures.value ∙ ap (prefix_len (λ s. not (ends_step s))) (take_rest statements (i + 1)) in
     let proc = ap (begins Proc) (sym c.index-statements-i.is) ∙ sym c.if-not-begins.ensures in
-    c.loop-i.invariant
-    ∙ one_step statements i c.rest_len-len.result c.index-statements-i.result c.loop-i-test.true c.loop-i.earlier (map meaning_of c.loop-i.program) (meaning_of c.in_ok-step.step) proc long c.in_ok-step.ensures.step
-    ∙ ap₂ (λ e p. steps_behind e p (steps_of (drop (i + 1) statements)))
-    (sym c.in_ok-step.ensures.names)
-    (sym (ap (map meaning_of) c.in_ok-push.ensures.ok ∙ map-append meaning_of c.loop-i.program (c.in_ok-step.step ∷ [])))
+    let step = c.in_ok-step.step in
+    record {
+      meaning =
+          c.loop-i.invariant.meaning
+          ∙ one_step statements i c.rest_len-len.result c.index-statements-i.result c.loop-i-test.true c.loop-i.earlier (map meaning_of c.loop-i.program) (meaning_of step) proc long c.in_ok-step.ensures.step
+          ∙ ap₂ (λ e p. steps_behind e p (steps_of (drop (i + 1) statements)))
+          (sym c.in_ok-step.ensures.names)
+          (sym (ap (map meaning_of) c.in_ok-push.ensures.ok ∙ map-append meaning_of c.loop-i.program (step ∷ [])));
+      names =
+          c.in_ok-step.ensures.names ∙ ap (λ (l : List (List ℕ)). l ++ names_of step.outputs) c.loop-i.invariant.names
+          ∙ sym (ap out_names c.in_ok-push.ensures.ok ∙ names_of_more c.loop-i.program step);
+      differ = c.in_ok-step.ensures.differ;
+    }
+
+pub loop-i-init : goal.loop-i-init
+loop-i-init c = record {
+  meaning = ap₂ (λ e p. steps_behind e (map meaning_of p) (steps_of c.args.statements.now)) (sym c.new-earlier.ensures) (sym c.new-program.ensures);
+  names = c.new-earlier.ensures ∙ ap out_names (sym c.new-program.ensures);
+  differ = subst (IsDistinct is_same_name) (sym c.new-earlier.ensures) none_differ;
+}
+
+pub step_of-requires-clause-accepted : goal.step_of-requires-clause-accepted
+step_of-requires-clause-accepted c =
+    let statements = c.args.statements.now in
+    let i = c.loop-i.i in
+    each_taken IsAccepted (i + (1 + c.rest_len-len.result) - i) (drop i statements) (each_dropped IsAccepted i statements c.requires)
+
+pub step_of-requires-clause-differ : goal.step_of-requires-clause-differ
+step_of-requires-clause-differ c = c.loop-i.invariant.differ
+
+pub returns-clause-differ : goal.returns-clause-differ
+returns-clause-differ c = subst (IsDistinct is_same_name) c.loop-i.invariant.names c.loop-i.invariant.differ

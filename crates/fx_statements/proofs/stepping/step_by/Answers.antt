@@ -1,15 +1,21 @@
 use Rattle.std.proofs.Common.{◌≡◌, true, Ok, length, sym, ap, ap₂, subst, All, ◌∙◌, arith}
 use Rattle.std.proofs.lemmas.Result.{err_from_is_err_and}
+use Rattle.std.specs.List.{IsDistinct}
+use Rattle.fx_text.specs.Names.{is_same_name}
 use Rattle.fx_text.specs.Refusals.{IsRefused}
 use Rattle.fx_settings.specs.Said.{step_said}
 use Rattle.fx_text.specs.Phrases.{start_of}
 use Rattle.fx_settings.specs.Valid.{are_valid}
 use Rattle.fx_outputs.specs.Outputs.{outputs_of}
-use Rattle.fx_outputs.specs.Validity.{IsWithinLimits}
+use Rattle.fx_outputs.specs.Outputs.{names_of}
+use Rattle.fx_outputs.specs.Validity.{HasItsNames, IsWithinLimits}
+use Rattle.fx_outputs.proofs.Names.{all_differ, all_have_names}
+use Rattle.fx_text.proofs.Distinct.{behind_differ}
+use Rattle.fx_statements.proofs.Parts.{named_factors}
 use Rattle.fx_statements.specs.Contexts.{context}
 use Rattle.fx_statements.specs.Goals.{goal_of}
-use Rattle.fx_statements.specs.Valid.{CanBeWanted}
-use Rattle.fx_statements.specs.Steps.{asked_by, factors_by, head_of, factor_limit}
+use Rattle.fx_statements.specs.Valid.{CanBeWanted, HasFewComponents}
+use Rattle.fx_statements.specs.Steps.{asked_by, examine_of, factors_by, head_of, factor_limit}
 use Rattle.fx_statements.proofs.Bounds.{counted, same_settings, unsaid}
 use Rattle.fx_statements.proofs.StepByStep.{step_is, outputs_refused}
 use Rattle.fx_statements.proofs.stepping.step_by.Goals as goal
@@ -21,6 +27,10 @@ invariant_of-result c =
     let wanted = c.in_ok-settings.wanted in
     let bounds = c.in_ok-factors.ensures.bounds in
     let same = same_settings settings wanted c.in_ok-settings.ensures.kind in
+    let factors = c.in_ok-factors.factors in
+    let s = ap length c.as_slice.ensures in
+    let read = c.context_of-context.ensures ∙ ap (λ factors. context factors settings) c.as_slice-2.ensures ∙ ap (context factors) (sym same) in
+    let outputs = c.in_ok-outputs.outputs in
     record {
       factor_count =
           counted statements (length c.in_ok-factors.factors) _
@@ -28,11 +38,17 @@ invariant_of-result c =
           bounds.0 (omega (arith, bounds.1, c.factor_limit.ensures.value));
       distinct = c.in_ok-factors.ensures.distinct;
       settings_valid = subst (λ x. are_valid x ≡ true) (sym same) c.in_ok-settings.ensures.settings_valid;
-      effects_askable = subst (λ s. CanBeWanted settings.q s wanted) (ap length c.as_slice.ensures) c.in_ok-settings.ensures.askable;
+      effects_askable = subst (λ s. CanBeWanted settings.q s wanted) s c.in_ok-settings.ensures.askable;
       outputs_within_limits =
-          subst (λ x. All (IsWithinLimits x) c.in_ok-outputs.outputs)
-          (c.context_of-context.ensures ∙ ap (λ factors. context factors settings) c.as_slice-2.ensures ∙ ap (context c.in_ok-factors.factors) (sym same))
-          c.in_ok-outputs.ensures.within_limits;
+          subst (λ x. All (IsWithinLimits x) outputs) read c.in_ok-outputs.ensures.within_limits;
+      factor_names = named_factors c.place.result c.factor_limit.result c.args.named.now factors c.requires.by_grammar c.requires.names c.in_ok-factors.ensures.factors;
+      few_effects = c.in_ok-settings.ensures.few_effects;
+      few_components =
+          subst (λ e. HasFewComponents settings.q (length factors) (goal_of wanted) e) (sym c.examine_of.ensures)
+          (subst (λ n. HasFewComponents settings.q n (goal_of wanted) (examine_of statements)) s c.in_ok-settings.ensures.few_components);
+      output_names =
+          subst (λ x. All (HasItsNames x) outputs) read (all_have_names c.context_of-context.result c.args.earlier.now statements outputs c.requires.accepted c.in_ok-outputs.ensures.ok);
+      out_names_differ = behind_differ c.args.earlier.now (names_of outputs) (all_differ c.context_of-context.result c.args.earlier.now statements outputs c.requires.differ c.in_ok-outputs.ensures.ok);
     }
 
 pub returns-clause-step : goal.returns-clause-step
@@ -68,3 +84,8 @@ returns-in_err-outputs-clause-refused c =
     subst (λ x. IsRefused (outputs_of x c.args.earlier.now statements) reason) (c.context_of-context.ensures ∙ ap (λ names. context names settings) c.as_slice-2.ensures) c.in_err-outputs.ensures.refused in
     let p = err_from_is_err_and c.from_residual-in_err-outputs.result c.from_residual-in_err-outputs.ensures.1 in
     rw (p.1, p.2) (outputs_refused c.args.earlier.now statements named factors settings c.in_ok-settings.wanted is_named is_asked reason refused)
+
+pub returns-clause-differ : goal.returns-clause-differ
+returns-clause-differ c =
+    subst (IsDistinct is_same_name) (sym c.in_ok-outputs.ensures.names)
+    (all_differ c.context_of-context.result c.args.earlier.now c.args.statements.now c.in_ok-outputs.outputs c.requires.differ c.in_ok-outputs.ensures.ok)

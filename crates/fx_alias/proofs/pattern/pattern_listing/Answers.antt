@@ -1,0 +1,12 @@
+use Rattle.std.proofs.Common.{◌≡◌, ◌++◌, ◌∙◌, List, ℕ, append_assoc, ap, subst}
+use Rattle.std.specs.Prelude.{OnOk, codes}
+use Rattle.fx_alias.specs.Patterns.{words_lines}
+use Rattle.fx_alias.specs.Rules.{or_none}
+use Rattle.fx_alias.proofs.pattern.pattern_listing.Goals as goal
+
+pub returns : goal.returns
+returns c =
+    let lines : List ℕ → List ℕ = λ a. or_none (words_lines 1 a) in
+    let e = ap (λ l. l ++ lines c.in_ok-pattern.pattern) c.in_ok-put.ensures.ok ∙ append_assoc c.args.out.now (codes "aberration\n") (lines c.in_ok-pattern.pattern)
+    ∙ ap (λ (a : List ℕ). c.args.out.now ++ (codes "aberration\n" ++ lines a)) c.in_ok-pattern.ensures in
+    subst (λ (l : List ℕ). OnOk c.put_pattern.result (c.put_pattern.new.out ≡ l)) e c.put_pattern.ensures

@@ -1,0 +1,43 @@
+-- The sections of a listing, and all lines of a step.
+use Rattle.std.specs.Prelude.{if◌then◌else◌, List, ℕ, [], ◌++◌, length, Some, None}
+use Rattle.fx_designs.specs.Problems.{Dimensions}
+use Rattle.fx_designs.specs.Patterns.{pattern_of}
+use Rattle.fx_designs.specs.Outcomes.{Ending, Design, NoDesign, BudgetEnded}
+use Rattle.fx_vectors.specs.Shape.{dimensions_of}
+use Rattle.fx_vectors.specs.Matrix.{MatrixView}
+use Rattle.fx_runs.specs.Runs.{design_of}
+use Rattle.fx_statements.specs.Steps.{Meaning}
+use Rattle.fx_alias.specs.Aliasing.{alias_section, listed}
+use Rattle.fx_alias.specs.Blocked.{blocked_section}
+use Rattle.fx_alias.specs.Heads.{head_lines}
+use Rattle.fx_alias.specs.Patterns.{pattern_lines}
+use Rattle.fx_alias.specs.Points.{design_section}
+use Rattle.fx_alias.specs.Rules.{rules}
+
+-- the sections of a design that the step asks for, in this order: its runs, its aliases, what is confounded with blocks, its
+-- word-length pattern
+abbrev pub examined : Meaning → MatrixView → List ℕ
+examined step matrix =
+    (if step.examine.design then design_section step.factors (design_of matrix) else [])
+    ++ (if step.examine.aliasing then alias_section step.factors matrix.shape.q (design_of matrix).rows (listed matrix.shape.q matrix.shape.s step.goal) else [])
+    ++ (if step.examine.blocked then blocked_section step.factors (design_of matrix) (listed matrix.shape.q matrix.shape.s step.goal) else [])
+    ++ (if step.examine.aberration then pattern_lines (pattern_of (dimensions_of matrix.shape) matrix.rows) else [])
+
+-- the rule matrix of these dimensions with these rows
+abbrev pub matrix_of : Dimensions → List ℕ → MatrixView
+matrix_of d rows = record { shape = record { q = d.q; m = d.m; s = d.s; t = d.t }; rows = rows }
+
+-- the sections of a matrix: its rules, and those that the step asks for
+abbrev pub matrix_sections : Dimensions → Meaning → List ℕ → List ℕ
+matrix_sections d step rows = rules d.q d.m step.factors rows ++ examined step (matrix_of d rows)
+
+-- the sections after the head, where there is a matrix
+abbrev pub sections : Dimensions → Meaning → Ending → List ℕ
+sections d step (Design rows count) = matrix_sections d step rows
+sections d step (NoDesign count) = []
+sections d step (BudgetEnded None budget) = []
+sections d step (BudgetEnded (Some rows) budget) = matrix_sections d step rows
+
+-- all lines of the step of this number, in these dimensions
+unfoldable pub step_lines : ℕ → Dimensions → Meaning → Ending → List ℕ
+step_lines number d step ending = head_lines number (length step.factors) d step.settings.least ending ++ sections d step ending

@@ -1,0 +1,129 @@
+ghost use Rattle.std.specs.Prelude.{◌≡◌, ◌≤◌, ◌+◌, [], ◌++◌, All, OnOk, if◌then◌else◌, filter, length, map};
+ghost use Rattle.std.specs.List.{flat_map};
+ghost use Rattle.fx_designs.specs.Vectors.{IsVector};
+ghost use Rattle.fx_runs.specs.Runs.{design_of};
+ghost use Rattle.fx_statements.specs.Goals.{goal_of};
+ghost use Rattle.fx_alias.specs.Aliasing.{listed};
+ghost use Rattle.fx_alias.specs.Blocked.{blocked_section, component_line, is_blocked};
+ghost use Rattle.fx_alias.specs.Rules.{or_none};
+
+use crate::class::class_number;
+use crate::lines::lent;
+use crate::listed::listed_components;
+use crate::product::put_product;
+use fx_base::{Bytes, Items, NoMemory, put};
+use fx_runs::{Runs, constant_in_blocks, list_runs};
+use fx_statements::Step;
+use fx_vectors::{Matrix, Vector};
+use std::alloc::Global;
+
+/// Appends the section with the components that are confounded with blocks: constant inside each
+/// block, and not over all runs. The components are those of the section on aliases.
+///
+/// The matrix has all rows of its shape, and a rule for each factor of the step.
+///
+/// # Errors
+///
+/// `NoMemory`; `out` then holds some first bytes of the section after what it held.
+pub fn blocked_listing(
+    alloc: Global,
+    step: &Step,
+    matrix: &Matrix,
+    out: &mut Bytes,
+) -> Result<(), NoMemory>
+    requires complete { length matrix.now.rows ≡ matrix.now.shape.s + matrix.now.shape.t }
+    requires factors { matrix.now.shape.s ≡ length step.now.factors }
+    ensures { OnOk result
+        (out.new
+        ≡ out.old ++ blocked_section step.now.factors (design_of matrix.now)
+        (listed matrix.now.shape.q matrix.now.shape.s (goal_of step.now.wanted))) }
+{
+    let components = listed_components(alloc, &step.wanted, matrix.shape())?;
+    let runs = list_runs(alloc, matrix)?;
+    let names = lent(alloc, &step.factors)?;
+    put(out, b"blocked\n")?;
+    put_blocked(out, names.as_slice(), matrix, &runs, &components)
+}
+
+/// Appends the lines of the components that are confounded, or that there is none.
+fn put_blocked(
+    out: &mut Bytes,
+    names: &[&Bytes],
+    matrix: &Matrix,
+    runs: &Runs,
+    components: &Items<Vector>,
+) -> Result<(), NoMemory>
+    requires design { runs.now ≡ design_of matrix.now }
+    requires each { All (λ u. IsVector matrix.now.shape.q matrix.now.shape.s u) components.now }
+    requires complete { matrix.now.shape.s ≤ length matrix.now.rows }
+    requires long { length names.now ≤ matrix.now.shape.s }
+    ensures { OnOk result
+        (out.new
+        ≡ out.old ++ or_none (flat_map (component_line (map (λ n. n.now) names.now))
+        (filter (is_blocked runs.now) components.now))) }
+{
+    let before = out.len();
+    put_lines(out, names, matrix, runs, components)?;
+    if out.len() == before {
+        return put(out, b"  none\n");
+    }
+    Ok(())
+}
+
+/// Appends the lines of the components that are confounded.
+fn put_lines(
+    out: &mut Bytes,
+    names: &[&Bytes],
+    matrix: &Matrix,
+    runs: &Runs,
+    components: &Items<Vector>,
+) -> Result<(), NoMemory>
+    requires design { runs.now ≡ design_of matrix.now }
+    requires each { All (λ u. IsVector matrix.now.shape.q matrix.now.shape.s u) components.now }
+    requires complete { matrix.now.shape.s ≤ length matrix.now.rows }
+    requires long { length names.now ≤ matrix.now.shape.s }
+    ensures { OnOk result
+        (out.new
+        ≡ out.old ++ flat_map (component_line (map (λ n. n.now) names.now))
+        (filter (is_blocked runs.now) components.now)) }
+{
+    for u in components.as_slice() {
+        put_where_blocked(out, names, matrix, runs, u)?;
+    }
+    Ok(())
+}
+
+/// Appends the line of the component, where it is confounded.
+fn put_where_blocked(
+    out: &mut Bytes,
+    names: &[&Bytes],
+    matrix: &Matrix,
+    runs: &Runs,
+    u: &Vector,
+) -> Result<(), NoMemory>
+    requires design { runs.now ≡ design_of matrix.now }
+    requires vector { IsVector matrix.now.shape.q matrix.now.shape.s u.now }
+    requires complete { matrix.now.shape.s ≤ length matrix.now.rows }
+    requires long { length names.now ≤ matrix.now.shape.s }
+    ensures { OnOk result
+        (out.new
+        ≡ out.old ++ (if is_blocked runs.now u.now
+        then component_line (map (λ n. n.now) names.now) u.now else [])) }
+{
+    if !is_blocked(matrix, runs, u) {
+        return Ok(());
+    }
+    put(out, b"  ")?;
+    put_product(out, names, u)?;
+    put(out, b"\n")
+}
+
+/// Whether the component is constant inside each block, and not over all runs.
+fn is_blocked(matrix: &Matrix, runs: &Runs, u: &Vector) -> bool
+    requires design { runs.now ≡ design_of matrix.now }
+    requires vector { IsVector matrix.now.shape.q matrix.now.shape.s u.now }
+    requires complete { matrix.now.shape.s ≤ length matrix.now.rows }
+    ensures { result ≡ is_blocked runs.now u.now }
+{
+    class_number(matrix, u) != 0 && constant_in_blocks(u, runs)
+}

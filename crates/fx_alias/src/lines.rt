@@ -1,0 +1,97 @@
+ghost use Rattle.std.specs.Prelude.{◌≡◌, ◌<◌, ◌≤◌, [], ◌++◌, All, OnOk, IfOk, true, if◌then◌else◌, length, map, codes};
+ghost use Rattle.fx_alias.specs.Places.{at_places};
+ghost use Rattle.fx_alias.specs.Products.{product};
+ghost use Rattle.fx_alias.specs.Aliasing.{class_line, joined, mean_line};
+
+use crate::product::put_product;
+use fx_base::{Bytes, Items, NoMemory, put};
+use fx_text::Names;
+use fx_vectors::Vector;
+use std::alloc::Global;
+
+/// The names, lent, as products take them.
+pub(crate) fn lent<'a>(alloc: Global, names: &'a Names) -> Result<Vec<&'a Bytes>, NoMemory>
+    ensures { IfOk result (λ lent. map (λ n. n.now) lent.items ≡ names.now) }
+{
+    let mut lent = Vec::new(alloc);
+    for name in names.as_slice() {
+        if lent.push(name).is_err() {
+            return Err(NoMemory);
+        }
+    }
+    Ok(lent)
+}
+
+/// Appends the line of the components that are constant, which are at these places.
+pub(crate) fn put_mean(
+    out: &mut Bytes,
+    names: &[&Bytes],
+    components: &Items<Vector>,
+    places: &[usize],
+) -> Result<(), NoMemory>
+    requires long { All (λ u. length names.now ≤ length u) components.now }
+    requires there { All (λ i. i < length components.now) places.now }
+    ensures { OnOk result
+        (out.new ≡ out.old
+        ++ mean_line (map (λ n. n.now) names.now) (at_places components.now places.now)) }
+{
+    if places.is_empty() {
+        return Ok(());
+    }
+    put(out, b"  mean = ")?;
+    put_members(out, names, components, places)?;
+    put(out, b"\n")
+}
+
+/// Appends the line of a class, whose members are at these places of the components.
+pub(crate) fn put_class(
+    out: &mut Bytes,
+    names: &[&Bytes],
+    components: &Items<Vector>,
+    places: &[usize],
+) -> Result<(), NoMemory>
+    requires long { All (λ u. length names.now ≤ length u) components.now }
+    requires there { All (λ i. i < length components.now) places.now }
+    ensures { OnOk result
+        (out.new ≡ out.old
+        ++ class_line (map (λ n. n.now) names.now) (at_places components.now places.now)) }
+{
+    put(out, b"  ")?;
+    put_members(out, names, components, places)?;
+    put(out, b"\n")
+}
+
+/// Appends the products of the components at these places, with ` = ` between them.
+fn put_members(
+    out: &mut Bytes,
+    names: &[&Bytes],
+    components: &Items<Vector>,
+    places: &[usize],
+) -> Result<(), NoMemory>
+    requires long { All (λ u. length names.now ≤ length u) components.now }
+    requires there { All (λ i. i < length components.now) places.now }
+    ensures { OnOk result
+        (out.new ≡ out.old
+        ++ joined (map (λ n. n.now) names.now) true (at_places components.now places.now)) }
+{
+    let mut is_first = true;
+    for i in places {
+        put_member(out, names, components.get(*i), is_first)?;
+        is_first = false;
+    }
+    Ok(())
+}
+
+/// Appends the product of a component, with ` = ` in front of it unless it is the first.
+fn put_member(out: &mut Bytes, names: &[&Bytes], u: &Vector, is_first: bool) -> Result<(), NoMemory>
+    requires { length names.now ≤ length u.now }
+    ensures { OnOk result
+        (out.new ≡ out.old ++ ((if is_first then [] else codes " = ")
+        ++ product (map (λ n. n.now) names.now) u.now)) }
+{
+    if is_first {
+        return put_product(out, names, u);
+    }
+    put(out, b" = ")?;
+    put_product(out, names, u)
+}

@@ -1,0 +1,17 @@
+pub mod Place
+pub mod Lots
+pub mod Best
+pub mod Branches
+pub mod Patterns
+pub mod Inside
+pub mod SearchTree
+pub mod Fronts
+pub mod Parts
+pub mod Jobs
+pub mod Lot
+pub mod Firsts
+pub mod Bests
+pub mod Found
+pub mod Turns
+pub mod Improvements
+pub mod JobLaws

@@ -1,0 +1,4 @@
+pub mod Ranked
+pub mod Search
+pub mod Inside
+pub mod Laws

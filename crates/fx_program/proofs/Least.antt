@@ -1,0 +1,79 @@
+-- The design of a step that asks for least aberration: the first of least pattern, and of the least of all rule matrices.
+use Rattle.std.proofs.Common.{if◌then◌else◌, ℕ, ◌≡◌, ◌<◌, ◌+◌, ◌&&◌, ◌||◌, not, Bool, true, List, [], ◌∷◌, filter, length, Option, Some, None, refl, sym, subst, ap, ◌∙◌, inl, inr, IsTrue}
+use Rattle.std.specs.List.{find, list_all}
+use Rattle.std.proofs.lemmas.Bool.{cases_Bool, cases_lt, cond-true, cond-false, and_parts, and_from, or_cases, or_right, both_ways, not-true, not_from_false}
+use Rattle.fx_designs.specs.Galois.{is_order}
+use Rattle.fx_designs.specs.Problems.{Problem}
+use Rattle.fx_designs.specs.Patterns.{pattern_of, is_less}
+use Rattle.fx_designs.specs.Answers.{answer, designs, is_design, is_of_least_pattern, prefixes}
+use Rattle.fx_designs.specs.Nodes.{nodes}
+use Rattle.fx_designs.specs.Outcomes.{Design, finished, ending_of}
+use Rattle.fx_laws.proofs.FirstDesign.{there}
+use Rattle.fx_laws.proofs.Order.{IsIn, first_found, lists-sorted}
+use Rattle.fx_laws.proofs.Tables.{is_order-field}
+use Rattle.fx_reduction.specs.Reduction.{IsReducible}
+use Rattle.fx_reduction.proofs.LeastPattern.{least-of_all}
+use Rattle.fx_answer.proofs.Endings.{within, passed}
+use Rattle.fx_jobs.specs.Laws.{IsFirstOfLeastPattern}
+use Rattle.fx_program.specs.Claims.{LeastAmongAll}
+
+-- a search among those that pass a test
+find-both : (E D : List ℕ → Bool) (xs : List (List ℕ)) → find E (filter D xs) ≡ find (λ x. D x && E x) xs
+find-both E D [] = refl
+find-both E D (x ∷ xs) = elim (cases_Bool (D x)) [
+  | inl holds ↦
+      ap (find E) (cond-true (D x) (x ∷ filter D xs) (filter D xs) holds)
+      ∙ ap (λ (o : Option (List ℕ)). if E x then Some x else o) (find-both E D xs)
+      ∙ ap (λ (b : Bool). if b && E x then Some x else find (λ x. D x && E x) xs) (sym holds)
+  | inr fails ↦
+      ap (find E) (cond-false (D x) (x ∷ filter D xs) (filter D xs) fails) ∙ find-both E D xs
+      ∙ ap (λ (b : Bool). if b && E x then Some x else find (λ x. D x && E x) xs) (sym fails)
+]
+
+-- what holds of all that pass a test
+all-kept : (P D : List ℕ → Bool) (xs : List (List ℕ)) → ((x : List ℕ) → D x ≡ true → P x ≡ true) → list_all P (filter D xs) ≡ true
+all-kept P D [] h = refl
+all-kept P D (x ∷ xs) h = elim (cases_Bool (D x)) [
+  | inl holds ↦ ap (list_all P) (cond-true (D x) (x ∷ filter D xs) (filter D xs) holds) ∙ and_from (P x) (list_all P (filter D xs)) (h x holds) (all-kept P D xs h)
+  | inr fails ↦ ap (list_all P) (cond-false (D x) (x ∷ filter D xs) (filter D xs) fails) ∙ all-kept P D xs h
+]
+
+of-all : (P D : List ℕ → Bool) (xs : List (List ℕ)) (y : List ℕ) → list_all P (filter D xs) ≡ true → IsIn y xs → D y ≡ true → P y ≡ true
+of-all P D [] y all inside passes = absurd inside
+of-all P D (x ∷ xs) y all inside passes = elim (cases_Bool (D x)) [
+  | inl holds ↦
+      let parts = and_parts (P x) (list_all P (filter D xs)) (sym (ap (list_all P) (cond-true (D x) (x ∷ filter D xs) (filter D xs) holds)) ∙ all) in
+      elim inside [ inl here ↦ subst (λ z. P z ≡ true) here parts.0 | inr later ↦ of-all P D xs y parts.1 later passes ]
+  | inr fails ↦
+      let rest = sym (ap (list_all P) (cond-false (D x) (x ∷ filter D xs) (filter D xs) fails)) ∙ all in
+      elim inside [ inl here ↦ absurd (both_ways (D x) fails (ap D here ∙ passes)) | inr later ↦ of-all P D xs y rest later passes ]
+]
+
+-- the first of least pattern is the answer
+pub first-least-answer : (p : Problem) → p.least ≡ true → 0 < p.dimensions.s + p.dimensions.t → (rows : List ℕ) → IsFirstOfLeastPattern p rows → answer p ≡ Some rows
+unfolding answer designs
+first-least-answer p least some rows first =
+    let E : List ℕ → Bool = λ rows. not p.least || is_of_least_pattern p rows in
+    let D : List ℕ → Bool = is_design p in
+    let is_least : E rows ≡ true =
+    or_right (not p.least) (is_of_least_pattern p rows) (all-kept (λ other. not (is_less (pattern_of p.dimensions other) (pattern_of p.dimensions rows))) D (prefixes p) (λ other h. not_from_false _ (first.least other h))) in
+    find-both E D (prefixes p)
+    ∙ first_found (λ x. D x && E x) (prefixes p) rows (lists-sorted _ _) (there p some rows first.design) (and_from (D rows) (E rows) first.design is_least) (λ other passes earlier.
+    let parts = and_parts (D other) (E other) passes in
+    let greater = first.first other parts.0 earlier in
+    let of_least : is_of_least_pattern p other ≡ true = elim (or_cases _ _ parts.1) [ inl out ↦ absurd (both_ways _ (not-true _ out) least) | inr l ↦ l ] in
+    let not_less = of-all (λ x. not (is_less (pattern_of p.dimensions x) (pattern_of p.dimensions other))) D (prefixes p) rows of_least (there p some rows first.design) first.design in
+    both_ways _ (not-true _ not_less) greater)
+
+-- where the search ends with a design, that is the answer
+design-answer : (found : Option (List ℕ)) (count n : ℕ) (rows : List ℕ) → finished found n ≡ Design rows count → found ≡ Some rows
+design-answer None count n rows e = absurd (cc e)
+design-answer (Some own) count n rows e = cc e
+
+pub least_told : (p : Problem) (budget : ℕ) → IsTrue (is_order p.dimensions.q) → IsReducible p.requirement → p.least ≡ true → (rows : List ℕ) (count : ℕ) → ending_of p budget ≡ Design rows count → LeastAmongAll p rows
+least_told p budget order reducible least rows count ends = elim (cases_lt budget (length (nodes p))) [
+  | inl more ↦ (let bad = sym (passed p budget more) ∙ ends in absurd (cc bad))
+  | inr few ↦
+      let is = design-answer (answer p) count (length (nodes p)) rows (sym (within p budget few) ∙ ends) in
+      λ factors blocks matrix met. least-of_all p (is_order-field p.dimensions.q order) reducible rows factors blocks least is matrix met
+]
