@@ -4,3 +4,4 @@ pub mod Joined
 pub mod Covered
 pub mod Apart
 pub mod Within
+pub mod Placed

@@ -4,3 +4,4 @@ pub mod NumbersDiffer
 pub mod Distinct
 pub mod Readings
 pub mod Names
+pub mod Placed

@@ -7,3 +7,4 @@ pub mod Sentences
 pub mod Prefixes
 mod SameTexts
 mod Table
+pub mod Rules

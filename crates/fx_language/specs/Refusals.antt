@@ -1,10 +1,14 @@
 -- The first symbol of a text that the grammar refuses, and its code.
-use Rattle.std.specs.Prelude.{ℕ, suc, Bool, not, ◌&&◌, unwrap_or, List, [], ◌∷◌, Option, Some, None, if◌then◌else◌}
+use Rattle.std.specs.Prelude.{ℕ, suc, nat_le, Bool, not, ◌&&◌, unwrap_or, List, [], ◌∷◌, Option, Some, None, if◌then◌else◌}
 use Rattle.std.specs.List.{list_any}
 use Rattle.fx_language.specs.declared.symbol.Symbol.{Symbol}
 use Rattle.fx_language.specs.declared.symbol.Symbol.TheVariants.{Nodes, Nlev, Size, Design, Fraction, Nrunfacs, Estimate, Nonnegligible, Resolution, Minabs, Nblkfacs, Nblocks, Aliasing, Out, Nvals, Cvals, End}
 use Rattle.fx_language.specs.Symbols.{is_word}
 use Rattle.fx_language.specs.Shapes.{Shape, after, is_never, fault_at}
+
+-- the number of a rule by which a text is refused
+abbrev pub is_rule : ℕ → Bool
+is_rule code = nat_le 1 code && nat_le code 32
 
 -- the grammar allows the symbol where it has come to this
 abbrev pub allows : Shape → Symbol → Bool

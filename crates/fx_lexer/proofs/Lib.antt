@@ -8,3 +8,4 @@ pub mod TextOfPieces
 pub mod NextByte
 pub mod NextPlace
 pub mod NextItem
+pub mod Placed

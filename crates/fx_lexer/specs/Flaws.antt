@@ -1,8 +1,8 @@
 -- What is at fault in a text that has no tokens.
-use Rattle.std.specs.Prelude.{◌≡◌, ℕ, ◌||◌, Bool, true, false, List, [], ◌∷◌, ◌++◌, Contains, IsTrue, codes}
+use Rattle.std.specs.Prelude.{◌≡◌, ℕ, nat_le, ◌&&◌, ◌||◌, Bool, true, false, List, [], ◌∷◌, ◌++◌, Contains, IsTrue, codes}
 use Rattle.fx_lexer.specs.declared.token.LexFault.{LexFault}
 use Rattle.fx_lexer.specs.Bytes.{is_white, is_digit, begins_word, is_sign, is_quote}
-use Rattle.fx_lexer.specs.Places.{place_after}
+use Rattle.fx_lexer.specs.Places.{place_after, IsPlaceIn}
 use Rattle.fx_lexer.specs.Lexing.{fault_at}
 use Rattle.fx_lexer.specs.Pieces.{Piece, word, spelling, begins_fraction, Closes, EndsQuoted, HasForm, IsShort, text_of, AreFormed, starts_behind_all}
 
@@ -53,3 +53,12 @@ pub record BreaksOff (text : List ℕ) (fault : LexFault) : Type 0 where
   pub formed : AreFormed true pieces (flaw_text flaw)
   pub form : IsFlaw (starts_behind_all true pieces) flaw
   pub fault_is : fault ≡ fault_at (place_after (text_of pieces [])) (fault_kind flaw)
+
+-- the number of a lexical rule
+abbrev pub is_lexical_rule : ℕ → Bool
+is_lexical_rule kind = nat_le 1 kind && nat_le kind 5
+
+-- the fault is by such a rule, at a place in the text
+pub record IsByLexicalRule (text : List ℕ) (fault : LexFault) : Type 0 where
+  pub rule : is_lexical_rule fault.kind ≡ true
+  pub place : IsPlaceIn text fault.line fault.column

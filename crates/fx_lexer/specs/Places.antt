@@ -1,5 +1,5 @@
 -- Lines and columns.
-use Rattle.std.specs.Prelude.{ℕ, ◌+◌, ◌==◌, not, List, reverse, count_by, if◌then◌else◌}
+use Rattle.std.specs.Prelude.{◌≡◌, ℕ, ◌+◌, ◌==◌, not, List, ◌++◌, reverse, count_by, if◌then◌else◌}
 use Rattle.std.specs.List.{prefix_len}
 use Rattle.fx_lexer.specs.declared.place.Place.{Place}
 
@@ -22,3 +22,11 @@ next_place place b =
       line = place.line + (if b == 10 then 1 else 0);
       column = (if b == 10 then 1 else place.column + 1);
     }
+
+-- a place in a text: that of one of its bytes, or of its end
+pub record IsPlaceIn (text : List ℕ) (line column : ℕ) : Type 0 where
+  pub before : List ℕ
+  pub after : List ℕ
+  pub joined : text ≡ before ++ after
+  pub line_is : line ≡ line_after before
+  pub column_is : column ≡ column_after before

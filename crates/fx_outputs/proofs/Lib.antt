@@ -6,3 +6,4 @@ pub mod Limits
 pub mod Readings
 pub mod Names
 pub mod Statements
+pub mod Placed

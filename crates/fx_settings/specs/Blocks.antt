@@ -50,7 +50,7 @@ factors_at q size place t = if is_too_many q size t then Err (refused_at TOO_MAN
 -- NBLOCKS=n: n = q^t, t at least 1
 abbrev pub by_number : Place → Option ℕ → Result ℕ Refusal
 by_number place None = Err (refused_at BLOCKS_NOT_A_POWER place)
-by_number place (Some t) = passed (nat_le 1 t) 15 place t
+by_number place (Some t) = passed (nat_le 1 t) BLOCKS_NOT_A_POWER place t
 
 -- the most run factors that the size may have
 abbrev pub most_run_factors : ℕ → Size → ℕ
@@ -69,7 +69,7 @@ by_size q size place (Some k) = if nat_lt k (most_run_factors q size) then Ok (o
 
 -- the blocks by the number n after this word; NBLKFACS=n: t = n, at least 1
 abbrev pub blocks_by : ℕ → Size → BlocksWord → Place → ℕ → Result Blocks Refusal
-blocks_by q size blocks.Nblkfacs place n = passed (nat_le 1 n) 15 place n >>= factors_at q size place
+blocks_by q size blocks.Nblkfacs place n = passed (nat_le 1 n) BLOCKS_NOT_A_POWER place n >>= factors_at q size place
 blocks_by q size blocks.Nblocks place n = by_number place (exponent q n) >>= factors_at q size place
 blocks_by q size blocks.Size place n = by_size q size place (exponent q n)
 

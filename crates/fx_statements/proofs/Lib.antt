@@ -7,3 +7,4 @@ pub mod Listed
 pub mod Sections
 pub mod Parts
 mod Texts
+pub mod Placed

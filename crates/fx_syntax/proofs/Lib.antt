@@ -2,3 +2,4 @@ pub mod Places
 mod Steps
 mod Pass
 mod Examples
+pub mod Rules

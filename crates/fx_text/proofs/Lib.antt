@@ -8,3 +8,4 @@ pub mod Wholes
 pub mod Chains
 pub mod Numbered
 pub mod RangeParts
+pub mod Placed

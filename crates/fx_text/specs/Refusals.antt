@@ -1,5 +1,6 @@
 -- A text that is refused, and the place at which it is.
-use Rattle.std.specs.Prelude.{◌≡◌, ℕ, Result, Ok, Err}
+use Rattle.std.specs.Prelude.{◌≡◌, ℕ, true, Result, Ok, Err}
+use Rattle.fx_language.specs.Refusals.{is_rule}
 use Rattle.fx_lexer.specs.declared.place.Place.{Place}
 use Rattle.fx_text.specs.declared.refusal.Refusal.{Refusal}
 use Rattle.fx_text.specs.declared.refusal.ParseStop.{ParseStop}
@@ -28,3 +29,8 @@ abbrev pub ◌>>=◌ : {A B : Type 0} → Result A Refusal → (A → Result B R
 abbrev pub IsRefused : {A : Type 0} → Result A Refusal → ParseStop → Type 0
 IsRefused meaning (stop.Refused refusal) = meaning ≡ Err refusal
 IsRefused meaning stop.NoMemory = Unit {0}
+
+-- a refusal by a rule, at one of these places
+pub record IsByRule (IsPlace : ℕ → ℕ → Type 0) (refusal : Refusal) : Type 0 where
+  pub rule : is_rule refusal.code ≡ true
+  pub place : IsPlace refusal.line refusal.column
