@@ -1,4 +1,4 @@
--- The section of a listing that says which components are aliased.
+-- The section of a listing for aliased components.
 use Rattle.std.specs.Prelude.{ℕ, Bool, true, false, if◌then◌else◌, List, [], ◌∷◌, ◌++◌, codes, min}
 use Rattle.std.specs.List.{flat_map}
 use Rattle.fx_designs.specs.Components.{components}

@@ -1,4 +1,4 @@
--- Classes of components that the runs of a design do not tell apart.
+-- Classes of components that the runs of a design do not distinguish.
 use Rattle.std.specs.Prelude.{ℕ, ◌≡◌, ◌<◌, ◌==◌, ◌||◌, if◌then◌else◌, List, [], ◌∷◌, ◌++◌, filter}
 use Rattle.std.specs.List.{list_any}
 use Rattle.fx_designs.specs.Galois.{number, inv}

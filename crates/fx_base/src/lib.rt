@@ -1,4 +1,4 @@
-//! What stands below every other crate: lists, and the objects outside the program.
+//! What every other crate uses: lists, and the objects outside the program.
 #![tactic(auto)]
 
 mod failed;

@@ -39,7 +39,7 @@ impl Model for MemoryShelf {
 
 impl MemoryShelf {
     /// An empty shelf with `room` bytes of room, which takes at most `step` bytes in a call, and
-    /// fails at the calls whose numbers, counted from 1, stand in `failing`. All its memory is taken
+    /// fails at the calls whose numbers, counted from 1, are in `failing`. All its memory is taken
     /// here.
     ///
     /// # Errors

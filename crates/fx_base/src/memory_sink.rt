@@ -37,7 +37,7 @@ impl Model for MemorySink {
 
 impl MemorySink {
     /// An empty sink for `room` bytes, which takes at most `step` of them in a call, and fails at the
-    /// calls whose numbers, counted from 1, stand in `failing`. All its memory is taken here.
+    /// calls whose numbers, counted from 1, are in `failing`. All its memory is taken here.
     ///
     /// # Errors
     ///

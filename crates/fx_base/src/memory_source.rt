@@ -33,8 +33,8 @@ impl Model for MemorySource {
 }
 
 impl MemorySource {
-    /// A source of these bytes, which gives at most `step` of them in a call, and fails at the calls
-    /// whose numbers, counted from 1, stand in `failing`.
+    /// A source of these bytes, which returns at most `step` of them in a call, and fails at the calls
+    /// whose numbers, counted from 1, are in `failing`.
     pub fn new(content: Bytes, step: usize, failing: Bytes) -> MemorySource
         requires { 0 < step }
         ensures { result

@@ -4,7 +4,7 @@ ghost use Rattle.fx_base.specs.Reading.{Takes};
 
 use crate::failed::Failed;
 
-/// Bytes that come in.
+/// Bytes that are read.
 pub trait Source {
     /// The bytes that are left, if the source exposes them.
     ghost left: { Self → Option (List ℕ) };

@@ -28,7 +28,7 @@ impl Model for SureSource {
 }
 
 impl SureSource {
-    /// A source of these bytes, which gives at most `step` of them in a call.
+    /// A source of these bytes, which returns at most `step` of them in a call.
     pub fn new(content: Bytes, step: usize) -> SureSource
         requires { 0 < step }
         ensures { result ≡ record { left = content; step = step } }

@@ -41,7 +41,7 @@ pub fn shelve<F: Shelf>(shelf: &mut F, name: &[u8], content: &[u8]) -> Result<()
     Ok(())
 }
 
-/// Gives the file that is begun these bytes.
+/// Appends these bytes to the file that is begun.
 fn fill<F: Shelf>(shelf: &mut F, content: &[u8]) -> Result<(), Failed>
     requires { F.begun shelf.old ≡ true }
     ensures done { OnOk result

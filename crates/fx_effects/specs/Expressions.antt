@@ -44,7 +44,7 @@ abbrev pub all_read : List (List ℕ) → Reading → List Written → Result Re
 all_read factors r [] = Ok r
 all_read factors r (w ∷ rest) = read factors r w >>= (λ next. all_read factors next rest)
 
--- how much stands before `@`
+-- how much precedes `@`
 abbrev pub stars_len : List Written → ℕ
 stars_len written = prefix_len (λ w. not (is At w.symbol)) written
 
@@ -88,11 +88,11 @@ expression_at factors first rest = by_last factors first rest (range_end rest)
 abbrev pub is_joining : Symbol → Bool
 is_joining s = is Star s || is Bar s || is Minus s
 
--- an effect begins at a name, unless a sign joins it to what stands before it
+-- an effect begins at a name, unless a sign joins it to what precedes it
 abbrev pub begins_effect : Bool → Written → Bool
 begins_effect joined w = is_word w.symbol && not joined
 
--- how much stands before the next effect
+-- how much precedes the next effect
 abbrev pub effect_len : Bool → List Written → ℕ
 effect_len joined [] = 0
 effect_len joined (w ∷ rest) = if begins_effect joined w then 0 else suc (effect_len (is_joining w.symbol) rest)

@@ -1,4 +1,4 @@
--- The set of effects that a list stands for.
+-- The set of effects that a list represents.
 use Rattle.std.specs.Prelude.{ℕ, nat_le, List, [], ◌∷◌, ◌++◌, length, Result, Ok, Err, if◌then◌else◌}
 use Rattle.fx_language.specs.declared.code.TheConstants.{TOO_MANY_EFFECTS}
 use Rattle.fx_text.specs.declared.refusal.Refusal.{Refusal}
@@ -8,7 +8,7 @@ use Rattle.fx_demands.specs.declared.unions.TheConstants.{MOST_EFFECTS}
 use Rattle.fx_demands.specs.Bars.{bars_of, in_order, AreNumbers}
 use Rattle.fx_effects.specs.Expressions.{Expression}
 
--- the effects that each of them stands for, one after another
+-- the effects that each of them represents, one after another
 abbrev pub effects_written : List Expression → List ℕ
 effects_written [] = []
 effects_written (e ∷ rest) = bars_of e.stars e.upto ++ effects_written rest

@@ -30,7 +30,7 @@ pub record AreApart (q : ℕ) (lists : EffectLists) : Type 0 where
 abbrev pub without : List ℕ → List ℕ → List ℕ
 without others effects = filter (λ e. not (list_any (λ f. f == e) others)) effects
 
--- effects that may be told apart, where those to be estimated are no others, or E22 at the word ESTIMATE
+-- effects that can be distinguished, where those to be estimated are no others, or E22 at the word ESTIMATE
 abbrev pub told_apart : ℕ → Written → List ℕ → List ℕ → Result EffectLists Refusal
 told_apart q word estimate others =
     if nat_le (pair_count q estimate (without estimate others)) 2000000
@@ -56,12 +56,12 @@ lists_at q factors word written other_word other_written =
     check_some_effects word first >>= (λ some.
     told_apart q word first second)))))
 
--- what stands after `MODEL ESTIMATE = (`, at the word ESTIMATE: a list, and after its `)` the second word and its list
+-- what follows `MODEL ESTIMATE = (`, at the word ESTIMATE: a list, and after its `)` the second word and its list
 abbrev pub lists_after : ℕ → List (List ℕ) → Written → List Written → Result EffectLists Refusal
 lists_after q factors word written =
     lists_at q factors word (before Close written) (first_or word (after Close written)) (before Close (after Open (after Close written)))
 
--- where nothing stands after MODEL, which the grammar refuses too, there is no word to be named
+-- where nothing follows MODEL, which the grammar refuses too, there is no word to be named
 abbrev pub by_word : ℕ → List (List ℕ) → Option Written → List Written → Result EffectLists Refusal
 by_word q factors None written = Err (refused_at UNEXPECTED_SYMBOL (record { line = 1; column = 1 }))
 by_word q factors (Some word) written = lists_after q factors word written

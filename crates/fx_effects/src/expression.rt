@@ -16,7 +16,7 @@ use fx_vectors::{Effect, Effects};
 use std::alloc::Global;
 use std::marker::Model;
 
-/// An effect as it is written. It stands for the unions of its stars that have at most `upto`
+/// An effect as it is written. It represents the unions of its stars that have at most `upto`
 /// factors.
 #[derive(Drop)]
 pub(crate) struct Expression {

@@ -8,7 +8,7 @@ use Rattle.fx_text.specs.Names.{place_of}
 use Rattle.fx_text.specs.Refusals.{refusal_at, ◌>>=◌}
 use Rattle.fx_factors.specs.Items.{Item, items_of, is_regular, names_of}
 
--- some of the new names stands among the others
+-- some of the new names is among the others
 abbrev pub are_known : List (List ℕ) → List (List ℕ) → Bool
 are_known new names = list_any (λ name. is_some (place_of name names)) new
 
@@ -16,8 +16,8 @@ are_known new names = list_any (λ name. is_some (place_of name names)) new
 abbrev pub known_at : Written → Bool → Result (Unit {0}) Refusal
 known_at first known = if known then Err (refusal_at REPEATED_NAME first) else Ok tt
 
--- The names with those of one more item, where at most `limit` may stand. 30: its range is not regular. 10: there are too
--- many. 5: a name stands twice.
+-- The names with those of one more item, where at most `limit` are allowed. 30: its range is not regular. 10: there are too
+-- many. 5: a name is repeated.
 abbrev pub added : ℕ → List (List ℕ) → Item → Result (List (List ℕ)) Refusal
 added limit names item =
     if not (is_regular item) then Err (refusal_at IRREGULAR_RANGE item.first)

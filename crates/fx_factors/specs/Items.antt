@@ -15,7 +15,7 @@ pub record Item : Type 0 where
 abbrev pub item : Written → Option Written → Item
 item first last = record { first = first; last = last }
 
--- the items, where `-` stands before the first lexeme or not: all that is neither `-` nor after one begins an item
+-- the items, where `-` precedes the first lexeme or not: all that is neither `-` nor after one begins an item
 abbrev pub items_from : Bool → List Written → List Item
 items_from behind_minus [] = []
 items_from behind_minus (w ∷ rest) =
@@ -31,7 +31,7 @@ abbrev pub is_regular_from : Written → Option Written → Bool
 is_regular_from first None = true
 is_regular_from first (Some last) = is_range first.text last.text
 
--- whether an item can stand for names
+-- whether an item can represent names
 abbrev pub is_regular : Item → Bool
 is_regular item = is_regular_from item.first item.last
 
@@ -40,6 +40,6 @@ abbrev pub names_from : Written → Option Written → List (List ℕ)
 names_from first None = first.text ∷ []
 names_from first (Some last) = names_between first.text last.text
 
--- the names that an item stands for
+-- the names that an item represents
 abbrev pub names_of : Item → List (List ℕ)
 names_of item = names_from item.first item.last

@@ -22,7 +22,7 @@ use std::alloc::Global;
 /// # Errors
 ///
 /// At the first item with one of these, in this order: E30, its range is not regular; E10, there are
-/// more than `limit` factors; E5, a name stands twice. And `NoMemory`.
+/// more than `limit` factors; E5, a name is repeated. And `NoMemory`.
 pub fn factors_of(alloc: Global, statement: &Phrase<'_>, limit: usize) -> Result<Names, ParseStop>
     ensures names { IfOk result (λ names. factors_of limit statement.now ≡ Ok names) }
     ensures refused { IfErr result (IsRefused (factors_of limit statement.now)) }

@@ -5,7 +5,7 @@ ghost use Rattle.fx_galois.specs.Places.{pair_place, code_place};
 use crate::tables::{INVERSES, NEGATIVES, PRODUCTS, SUMS};
 use std::marker::Model;
 
-/// A field GF(q). Its values are the codes 0 to q-1; for q = 4, 8 and 9 a code stands for the
+/// A field GF(q). Its values are the codes 0 to q-1; for q = 4, 8 and 9 a code represents the
 /// polynomial that has the code's digits in base 2 or 3 as coefficients.
 #[derive(Clone, Copy, Debug, PartialEq, Eq)]
 pub struct Field {
@@ -56,7 +56,7 @@ impl Field {
         SUMS[place_of_pair(self.q, a, b)]
     }
 
-    /// What gives 0 when it is added to `a`.
+    /// The additive inverse of `a`.
     pub fn neg(&self, a: u8) -> u8
         requires { a < self.now }
         ensures negative { result ≡ neg self.now a }
@@ -74,7 +74,7 @@ impl Field {
         PRODUCTS[place_of_pair(self.q, a, b)]
     }
 
-    /// What gives 1 when `a`, which is not 0, is multiplied by it.
+    /// The multiplicative inverse of `a`, which is not 0.
     pub fn inv(&self, a: u8) -> u8
         requires nonzero { 0 < a }
         requires code { a < self.now }

@@ -45,7 +45,7 @@ pub static PRODUCTS: [u8; 248] = [
     7, 5, 8, 3, 1, 4, 2, 6, 0, 8, 4, 2, 7, 3, 1, 6, 5,
 ];
 
-/// What gives 0 when it is added to each code.
+/// The additive inverse of each code.
 pub static NEGATIVES: [u8; 38] = [
     // q = 2
     0, 1,
@@ -63,7 +63,7 @@ pub static NEGATIVES: [u8; 38] = [
     0, 2, 1, 6, 8, 7, 3, 5, 4,
 ];
 
-/// What gives 1 when each code is multiplied by it; 0, which has none, stands for itself.
+/// The multiplicative inverse of each code, and 0 for 0, which has none.
 pub static INVERSES: [u8; 38] = [
     // q = 2
     0, 1,

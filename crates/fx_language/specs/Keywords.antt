@@ -65,7 +65,7 @@ is_same [] (b ∷ y) = false
 is_same (a ∷ x) [] = false
 is_same (a ∷ x) (b ∷ y) = (a == b) && is_same x y
 
--- what a word stands for in a table, without regard to case
+-- what a word represents in a table, without regard to case
 abbrev pub listed_in : List (List ℕ × Symbol) → List ℕ → Symbol
 listed_in [] word = Name
 listed_in (row ∷ table) word =

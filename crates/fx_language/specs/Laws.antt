@@ -25,6 +25,6 @@ RefusesTheFirst symbols i =
 abbrev pub AcceptsPrograms : List Symbol → Type 0
 AcceptsPrograms symbols = (refused 0 program symbols ≡ None) ↔ Matches program (ended symbols)
 
--- the grammar with codes stands for the same texts as the one without
+-- the grammar with codes represents the same texts as the one without
 abbrev pub HasSameTexts : List Symbol → Type 0
 HasSameTexts text = Matches program text ↔ Matches literal_program text

@@ -46,7 +46,7 @@ abbrev pub literal_step : Shape
 literal_step =
     key Proc ▸ key Factex ▸ Many (key Nodes ▸ key Equals ▸ n) ▸ key Semicolon ▸ Many literal_statement
 
--- a program: steps, and what may stand between them
+-- a program: steps, and what is allowed between them
 abbrev pub literal_program : Shape
 literal_program =
     Many (key Semicolon ∣ key Run ▸ key Semicolon ∣ key Quit ▸ key Semicolon ∣ literal_step) ▸ key End

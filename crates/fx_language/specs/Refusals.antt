@@ -10,7 +10,7 @@ use Rattle.fx_language.specs.Shapes.{Shape, after, is_never, fault_at}
 abbrev pub is_rule : ℕ → Bool
 is_rule code = nat_le 1 code && nat_le code 32
 
--- the grammar allows the symbol where it has come to this
+-- the grammar allows the symbol where it has reached this
 abbrev pub allows : Shape → Symbol → Bool
 allows left s = not (is_never (after s left))
 
@@ -20,7 +20,7 @@ options =
     Nodes ∷ Nlev ∷ Design ∷ Fraction ∷ Nrunfacs ∷ Estimate ∷ Nonnegligible ∷ Resolution ∷ Minabs
     ∷ Nblkfacs ∷ Nblocks ∷ Size ∷ Aliasing ∷ Out ∷ Nvals ∷ Cvals ∷ []
 
--- an option may stand where the grammar has come to this
+-- an option is allowed where the grammar has reached this
 abbrev pub allows_option : Shape → Bool
 allows_option left = list_any (λ option. allows left option) options
 
@@ -30,7 +30,7 @@ abbrev pub code_of : Shape → Symbol → ℕ
 code_of left s = unwrap_or (fault_at s left) (if is_word s && allows_option left then 3 else 2)
 
 -- The first symbol that the grammar doesn't allow: its code, and its index, where the first one has index i and the
--- grammar has come to `left`. The end of the text counts as a symbol.
+-- grammar has reached `left`. The end of the text counts as a symbol.
 unfoldable pub refused : ℕ → Shape → List Symbol → Option (ℕ × ℕ)
 refused i left [] = if allows left End then None else Some (code_of left End, i)
 refused i left (s ∷ rest) =

@@ -1,10 +1,10 @@
--- Descriptions of texts of symbols: which texts a description stands for, and what it leaves after a symbol.
+-- Descriptions of texts of symbols: which texts a description represents, and what it leaves after a symbol.
 use Rattle.std.specs.Prelude.{◌≡◌, ℕ, Bool, true, false, ◌&&◌, ◌||◌, cond, ◌⊎◌, List, [], ◌∷◌, ◌++◌, Option, Some, None}
 use Rattle.std.specs.List.{flat_map, AllByRecursion}
 use Rattle.fx_language.specs.declared.symbol.Symbol.{Symbol}
 
 -- A description of texts: no text, the empty one, one symbol of a sort, one description before another, either of
--- two, one any number of times. A fault stands for no text: it names the code of some symbols that are refused at
+-- two, one any number of times. A fault represents no text: it names the code of some symbols that are refused at
 -- its place.
 pub data Shape : Type 0 where
   Never : Shape
@@ -15,7 +15,7 @@ pub data Shape : Type 0 where
   Many : Shape → Shape
   Fault : ℕ → (Symbol → Bool) → Shape
 
--- the text is one of those that the description stands for
+-- the text is one of those that the description represents
 abbrev pub Matches : Shape → List Symbol → Type 0
 Matches Never text = ⊥
 Matches Empty text = text ≡ []
@@ -67,7 +67,7 @@ may_be_empty (Either a b) = may_be_empty a || may_be_empty b
 may_be_empty (Many a) = true
 may_be_empty (Fault code test) = false
 
--- what may follow the symbol, where it stands first in a text
+-- what may follow the symbol, where it is first in a text
 abbrev pub after : Symbol → Shape → Shape
 after s Never = Never
 after s Empty = Never
@@ -77,7 +77,7 @@ after s (Either a b) = or_else (after s a) (after s b)
 after s (Many a) = after s a ▸ Many a
 after s (Fault code test) = Never
 
--- it stands for no text
+-- it represents no text
 abbrev pub is_never : Shape → Bool
 is_never Never = true
 is_never a = false

@@ -72,7 +72,7 @@ pub fn spellings() -> [Spelling; 47]
     ]
 }
 
-/// What a word stands for among these spellings, without regard to case.
+/// What a word represents among these spellings, without regard to case.
 pub fn look_up(spellings: &[Spelling], word: &[u8]) -> Symbol
     ensures { result ≡ listed_in (map row_of spellings.now) word.now }
 {

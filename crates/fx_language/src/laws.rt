@@ -14,12 +14,12 @@ pub fn accepted_is_a_program()
     ensures { (symbols : List Symbol) → AcceptsPrograms symbols }
 {}
 
-/// The grammar stands for the same texts without its codes, and without its rule where a step ends.
+/// The grammar represents the same texts without its codes, and without its rule where a step ends.
 pub fn codes_change_no_text()
     ensures { (text : List Symbol) → HasSameTexts text }
 {}
 
-/// A sequence stands for the texts of its first part, each with one of its second part after it.
+/// A sequence represents the texts of its first part, each with one of its second part after it.
 pub fn sequence_is_one_before_another()
     ensures { (a b : Shape) (text : List Symbol)
         → Matches (a ▸ b) text ↔ Matches (Before a b) text }

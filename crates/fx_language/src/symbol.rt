@@ -2,7 +2,7 @@ ghost use Rattle.std.specs.Prelude.{◌≡◌};
 
 use fx_base::Values;
 
-/// A token as the grammar sees it. Keywords stand for each of their spellings.
+/// A token as the grammar sees it. Keywords represent each of their spellings.
 #[derive(Clone, Copy, Debug, PartialEq, Eq)]
 pub enum Symbol {
     Proc,
@@ -105,7 +105,7 @@ impl Symbol {
         )
     }
 
-    /// Whether it is an option wherever an option of OUTPUT may stand.
+    /// Whether it is an option wherever an option of OUTPUT is allowed.
     pub fn is_output_option(self) -> bool
         ensures { result ≡ is_output_option self }
     {

@@ -11,7 +11,7 @@ IsNormal v = last_nonzero v ≡ 1
 abbrev pub IsConstant : ℕ → List ℕ → List (List ℕ) → Type 0
 IsConstant q u runs = (c : ℕ) × All (λ x. dot q u x ≡ c) runs
 
--- each field value comes equally often as u.x
+-- each field value occurs equally often as u.x
 pub record IsBalanced (q : ℕ) (u : List ℕ) (runs : List (List ℕ)) : Type 0 where
   pub same : (y z : ℕ) → y < q → z < q → count_by (λ x. dot q u x == y) runs ≡ count_by (λ x. dot q u x == z) runs
 

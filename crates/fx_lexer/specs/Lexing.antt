@@ -10,7 +10,7 @@ use Rattle.fx_lexer.specs.declared.place.Place.{Place}
 use Rattle.fx_lexer.specs.Items.{item}
 use Rattle.fx_lexer.specs.Places.{place_after}
 
--- the token of n bytes that stands at `at`
+-- the token of n bytes at `at`
 abbrev pub token_at : Place → ℕ → Kind → ℕ → Token
 token_at place at k n = record { kind = k; line = place.line; column = place.column; from = at; upto = at + n }
 
@@ -31,7 +31,7 @@ tokens_of place at i = tokens_of_kind place at i.kind i.length
 abbrev pub starts_after : Bool → Item → ℕ → Bool
 starts_after start i b = if is_some i.kind then b == 59 else start
 
--- tokens before those that come later
+-- tokens before later ones
 abbrev pub in_front : List Token → Result (List Token) LexFault → Result (List Token) LexFault
 in_front front (Ok tokens) = Ok (front ++ tokens)
 in_front front (Err fault) = Err fault
@@ -56,7 +56,7 @@ lexed_from text zero start at (b ∷ rest) =
 unfoldable pub lexed : List ℕ → Result (List Token) LexFault
 lexed text = lexed_from text 0 true 0 text
 
--- the fault is the text's first; want of memory says nothing of the text
+-- the fault is the text's first; want of memory is no property of the text
 abbrev pub IsFirstFault : List ℕ → LexStop → Type 0
 IsFirstFault text (stop.Fault fault) = lexed text ≡ Err fault
 IsFirstFault text stop.NoMemory = Unit {0}

@@ -64,7 +64,7 @@ begins_with sort (b ∷ bytes) = sort b
 abbrev pub begins_fraction : List ℕ → Bool
 begins_fraction bytes = starts_with_byte 46 bytes && begins_with is_digit (drop 1 bytes)
 
--- `*/` stands somewhere in these bytes
+-- `*/` is somewhere in these bytes
 abbrev pub Closes : List ℕ → Type 0
 Closes bytes = (before : List ℕ) × (behind : List ℕ) × (bytes ≡ before ++ (codes "*/" ++ behind))
 
@@ -75,7 +75,7 @@ EndsQuoted quote bytes =
     × (starts_with_byte quote rest ≡ false)
 
 -- The form of a piece before the bytes `rest`, but for its length. A comment ends with its first `*/`, and a remark,
--- which stands only where a statement starts, with its first `;`. Words and digits go on as long as they can. A quote
+-- which is allowed only where a statement starts, with its first `;`. Words and digits go on as long as they can. A quote
 -- that follows a quoted text would be one of a pair. A `/` or `*` that begins a comment or a remark is no sign.
 abbrev pub HasForm : Bool → Piece → List ℕ → Type 0
 HasForm start (white b) rest = IsTrue (is_white b)
@@ -106,7 +106,7 @@ abbrev pub text_of : List Piece → List ℕ → List ℕ
 text_of [] rest = rest
 text_of (p ∷ pieces) rest = spelling p ++ text_of pieces rest
 
--- each piece has its form where it stands, and isn't too long; `start`: a statement starts with the first one
+-- each piece has its form in its place, and isn't too long; `start`: a statement starts with the first one
 abbrev pub AreFormed : Bool → List Piece → List ℕ → Type 0
 AreFormed start [] rest = Unit {0}
 AreFormed start (p ∷ pieces) rest =

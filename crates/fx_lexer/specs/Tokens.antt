@@ -1,4 +1,4 @@
--- What a token is, and how tokens stand in a text.
+-- What a token is, and how tokens lie in a text.
 use Rattle.std.specs.Prelude.{◌≡◌, ℕ, ◌<◌, ◌≤◌, Bool, List, [], ◌∷◌, length, map, take, drop, slice_range, Option, Some}
 use Rattle.std.specs.Option.{option_map}
 use Rattle.fx_lexer.specs.declared.token.Token.{Token}

@@ -8,7 +8,7 @@ use crate::extent::{
 };
 use crate::token::Kind;
 
-// What a fault is, as `LexFault` tells it.
+// The kinds of faults in a `LexFault`.
 const OPEN_COMMENT: u8 = 1;
 
 const OPEN_QUOTED: u8 = 2;

@@ -1,4 +1,4 @@
--- The column of blocks: its name, and the values that stand in it.
+-- The column of blocks: its name, and its values.
 use Rattle.std.specs.Prelude.{ℕ, Bool, true, false, ◌&&◌, ◌||◌, is_some, codes, List, [], Option, Some, None, Result, Ok, Err, if◌then◌else◌}
 use Rattle.fx_language.specs.declared.code.TheConstants.{BLOCKNAME_WITHOUT_BLOCKS, REPEATED_NAME}
 use Rattle.fx_language.specs.declared.symbol.Symbol.TheVariants.{Nvals, Cvals, Equals}
@@ -49,7 +49,7 @@ name_or_empty (Some name) = name.text
 abbrev pub begins_values : Written → List Written → Bool
 begins_values word rest = (is Nvals word.symbol || is Cvals word.symbol) && begins Equals rest
 
--- The values of the column: none, or as many as there are blocks, whose number is to be known. `word` stands after
+-- The values of the column: none, or as many as there are blocks, whose number is to be known. `word` follows
 -- BLOCKNAME's name, and `rest` after it.
 abbrev pub block_values : BlockCount → Option Written → List Written → Result (List (List ℕ)) Refusal
 block_values count None rest = Ok []

@@ -1,4 +1,4 @@
--- The options of an OUTPUT statement. They are looked for in what stands after `OUT =`, where the OUT name is first.
+-- The options of an OUTPUT statement. They are looked for in what follows `OUT =`, where the OUT name is first.
 use Rattle.std.specs.Prelude.{Bool, not, ◌&&◌, List, [], ◌∷◌, if◌then◌else◌}
 use Rattle.fx_language.specs.declared.symbol.Symbol.{Symbol}
 use Rattle.fx_language.specs.declared.symbol.Symbol.TheVariants.{Equals}

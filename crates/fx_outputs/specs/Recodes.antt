@@ -12,7 +12,7 @@ use Rattle.fx_outputs.specs.declared.recode.Recode.{Recode}
 use Rattle.fx_outputs.specs.Contexts.{Context}
 use Rattle.fx_outputs.specs.Values.{values_of, counted}
 
--- a recoded factor's name: a word that is no option, and `=` stands neither in front of it nor after it
+-- a recoded factor's name: a word that is no option, and `=` is neither in front of it nor after it
 abbrev pub is_recoded : Written → Written → Written → Bool
 is_recoded before name word =
     is_word name.symbol && not (is_output_option name.symbol)
@@ -31,8 +31,8 @@ has_values earlier place = list_any (λ (r : Recode). r.place == place) earlier
 abbrev pub unused_place : List Recode → Written → ℕ → Result ℕ Refusal
 unused_place earlier name place = if has_values earlier place then Err (refusal_at REPEATED_OPTION name) else Ok place
 
--- A factor and its values, after those of the same statement that stand earlier. `word` is NVALS or CVALS, `rest` is
--- what stands after it.
+-- A factor and its values, after those of the same statement that are earlier. `word` is NVALS or CVALS, `rest` is
+-- what follows it.
 abbrev pub recode_of : Context → List Recode → Written → Written → List Written → Result Recode Refusal
 recode_of context earlier name word rest = do
   factor ← factor_at name (place_of name.text context.factors)
@@ -40,7 +40,7 @@ recode_of context earlier name word rest = do
   values ← counted (Some context.q) word (values_of rest)
   Ok (record { place = place; values = values })
 
--- the recoded factors from left to right, after those that stand earlier; each name has something in front of it
+-- the recoded factors from left to right, after those that are earlier; each name has something in front of it
 abbrev pub recodes_behind : Context → List Recode → List Written → Result (List Recode) Refusal
 recodes_behind context earlier (before ∷ name ∷ word ∷ rest) =
     if is_recoded before name word
@@ -49,6 +49,6 @@ recodes_behind context earlier (before ∷ name ∷ word ∷ rest) =
     else recodes_behind context earlier (name ∷ word ∷ rest)
 recodes_behind context earlier _ = Ok earlier
 
--- the recoded factors of what stands after `OUT =`, the OUT name first
+-- the recoded factors of what follows `OUT =`, the OUT name first
 abbrev pub recodes_of : Context → List Written → Result (List Recode) Refusal
 recodes_of context s = recodes_behind context [] s

@@ -1,4 +1,4 @@
--- POINTREP and DESIGNREP: how often each run stands in the file, and how often the whole design.
+-- POINTREP and DESIGNREP: how often each run is repeated in the file, and how often the whole design.
 use Rattle.std.specs.Prelude.{ℕ, ◌*◌, nat_le, ◌&&◌, List, slice_get, Option, Some, None, Result, Ok, Err, if◌then◌else◌}
 use Rattle.fx_outputs.specs.declared.replication.TheConstants.{MOST_ROWS}
 use Rattle.fx_language.specs.declared.code.TheConstants.{INVALID_REPLICATION, TOO_MANY_ROWS}

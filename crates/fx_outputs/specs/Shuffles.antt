@@ -20,7 +20,7 @@ abbrev pub seeded : Bool → Option Written → Result Shuffle Refusal
 seeded values None = Ok (shuffle.Default values)
 seeded values (Some w) = seed_in_range values w (number_of w)
 
--- the number in parentheses after RANDOMIZE, which stands first
+-- the number in parentheses after RANDOMIZE, which is first
 abbrev pub seed_written : List Written → Option Written
 seed_written s = if begins Open (drop 1 s) then slice_get s 2 else None
 

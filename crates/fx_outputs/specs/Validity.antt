@@ -28,7 +28,7 @@ pub record IsWithinLimits (context : Context) (output : OutputSpec) : Type 0 whe
   pub recodes : AreRecodes context output.recodes
   pub block_values : output.block_values ≢ [] → context.blocks ≡ blocks.Fixed (length output.block_values)
 
--- the name of the column of blocks, BLOCK where the text gives none
+-- the name of the column of blocks, BLOCK where the text has none
 abbrev pub column_name : List ℕ → List ℕ
 column_name [] = codes "BLOCK"
 column_name (b ∷ name) = b ∷ name

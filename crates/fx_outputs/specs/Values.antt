@@ -7,8 +7,8 @@ use Rattle.fx_text.specs.declared.refusal.Refusal.{Refusal}
 use Rattle.fx_text.specs.Written.{Written}
 use Rattle.fx_text.specs.Refusals.{refusal_at}
 
--- What stands after a text's first quote, without its last one, and of each two quotes the second. `met` says that
--- a quote stands in front that is no second one.
+-- What follows a text's first quote, without its last one, and of each two quotes the second. `met` says that
+-- a quote is in front that is no second one.
 abbrev pub unquoted : ℕ → Bool → List ℕ → List ℕ
 unquoted quote met [] = []
 unquoted quote met (b ∷ rest) =
@@ -25,7 +25,7 @@ inside (quote ∷ rest) = unquoted quote false rest
 abbrev pub value_of : Bool → Written → List ℕ
 value_of signed w = if is Quoted w.symbol then inside w.text else (if signed then 45 ∷ w.text else w.text)
 
--- the values up to `)`, from left to right, where `signed` says that `-` stands in front
+-- the values up to `)`, from left to right, where `signed` says that `-` is in front
 abbrev pub values_from : Bool → List Written → List (List ℕ)
 values_from signed [] = []
 values_from signed (w ∷ rest) =
@@ -33,7 +33,7 @@ values_from signed (w ∷ rest) =
     else (if is Minus w.symbol then values_from true rest
     else value_of signed w ∷ values_from false rest)
 
--- the values of what stands after NVALS or CVALS, whose first two are `=` and `(`
+-- the values of what follows NVALS or CVALS, whose first two are `=` and `(`
 abbrev pub values_of : List Written → List (List ℕ)
 values_of rest = values_from false (drop 2 rest)
 

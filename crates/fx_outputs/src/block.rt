@@ -1,5 +1,5 @@
 // `blockname` is `BLOCKNAME = name NVALS = ( ..`: the word itself has index 0, the name 2, NVALS or
-// CVALS 3, and what stands after it begins at 4.
+// CVALS 3, and what follows it begins at 4.
 
 ghost use Rattle.std.specs.Prelude.{◌≡◌, drop, slice_get, IfOk, IfErr, Some};
 ghost use Rattle.fx_text.specs.Refusals.{IsRefused};
@@ -12,7 +12,7 @@ use fx_language::{Symbol, code};
 use fx_text::{Lexeme, Names, ParseStop, Phrase, Refusal, place_of};
 use std::alloc::Global;
 
-/// Tests that BLOCKNAME may stand in this step. `blockname` is what stands from that word on, if
+/// Tests that BLOCKNAME is allowed in this step. `blockname` is what stands from that word on, if
 /// anything.
 ///
 /// # Errors

@@ -4,7 +4,7 @@ ghost use Rattle.fx_outputs.specs.Options.{from_option, has_option};
 use fx_language::Symbol;
 use fx_text::Phrase;
 
-/// What stands from an option's word on. The OUT name stands first in what is searched.
+/// What stands from an option's word on. The OUT name is first in what is searched.
 pub fn from_option<'a>(option: Symbol, phrase: &Phrase<'a>) -> Phrase<'a>
     ensures { result ≡ from_option option phrase.now }
 {

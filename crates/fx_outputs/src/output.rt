@@ -22,17 +22,17 @@ use std::alloc::Global;
 pub struct OutputSpec {
     /// The OUT name, as it is written.
     pub name: Bytes,
-    /// How often each run stands in a row, from 1 to 200,000.
+    /// How often each run is repeated in a row, from 1 to 200,000.
     pub pointrep: u32,
-    /// How often the whole design stands, from 1 to 200,000.
+    /// How often the whole design is repeated, from 1 to 200,000.
     pub designrep: u32,
     /// What of the plan is shuffled, and from which seed.
     pub shuffle: Shuffle,
     /// The factors that have values of their own, in the order of the text.
     pub recodes: Recodes,
-    /// The name of the block column, empty where the text gives none.
+    /// The name of the block column, empty where the text has none.
     pub block_name: Bytes,
-    /// The values of the block column, empty where the text gives none.
+    /// The values of the block column, empty where the text has none.
     pub block_values: Names,
 }
 
@@ -40,7 +40,7 @@ pub struct OutputSpec {
 pub type Outputs = Items<OutputSpec>;
 
 /// The OUTPUT statements among the statements of a step, in order. `earlier` are the OUT names that
-/// stand before in the program; those of this step are added. After an error some of them may be.
+/// precede it in the program; those of this step are added. After an error some of them may be.
 ///
 /// # Errors
 ///

@@ -22,7 +22,7 @@ pub struct Recode {
 /// The recoded factors of a statement, in its order.
 pub type Recodes = Items<Recode>;
 
-/// The recoded factors of what stands after `OUT =`, the OUT name first.
+/// The recoded factors of what follows `OUT =`, the OUT name first.
 ///
 /// # Errors
 ///
@@ -61,7 +61,7 @@ fn is_recoded(before: &Lexeme<'_>, name: &Lexeme<'_>, word: &Lexeme<'_>) -> bool
         && !word.is(Symbol::Equals)
 }
 
-/// A factor and its values, which stand after `word`.
+/// A factor and its values, which follow `word`.
 fn recode_at(
     alloc: Global,
     context: &OutputContext<'_>,

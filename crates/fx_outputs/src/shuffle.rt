@@ -34,7 +34,7 @@ pub fn shuffle_asked(phrase: &Phrase<'_>) -> Result<Shuffle, Refusal>
     }
 }
 
-/// The number in parentheses after RANDOMIZE, which stands first.
+/// The number in parentheses after RANDOMIZE, which is first.
 fn seed_written<'a>(phrase: &Phrase<'a>) -> Option<&'a Lexeme<'a>>
     ensures { MatchOption result (seed_written phrase.now ≡ None)
         (λ w. seed_written phrase.now ≡ Some w.now) }

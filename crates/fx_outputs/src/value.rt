@@ -1,4 +1,4 @@
-// `rest` is what stands after NVALS or CVALS, `= ( value ..`: the first value has index 2.
+// `rest` is what follows NVALS or CVALS, `= ( value ..`: the first value has index 2.
 
 ghost use Rattle.std.specs.Prelude.{◌≡◌, ◌∷◌, IfOk, IfErr};
 ghost use Rattle.fx_text.specs.Refusals.{IsRefused};
@@ -56,7 +56,7 @@ fn values(alloc: Global, rest: &Phrase<'_>) -> Result<Names, NoMemory>
     Ok(values)
 }
 
-/// The value that a number or a quoted text gives, with a sign in front or not.
+/// The value of a number or a quoted text, with a sign in front or not.
 fn value(alloc: Global, signed: bool, w: &Lexeme<'_>) -> Result<Bytes, NoMemory>
     ensures { IfOk result (λ value. value ≡ value_of signed w.now) }
 {

@@ -8,3 +8,4 @@ mod None
 mod Least
 mod AnyText
 mod Statuses
+mod Messages

@@ -1,5 +1,7 @@
 -- The line that tells where a text is refused, and why.
-use Rattle.std.specs.Prelude.{ℕ, ◌==◌, List, [], ◌∷◌, ◌++◌, if◌then◌else◌, codes, decimal}
+use Rattle.std.specs.Prelude.{◌≡◌, ℕ, ◌==◌, Bool, true, List, [], ◌∷◌, ◌++◌, if◌then◌else◌, codes, decimal}
+use Rattle.std.specs.List.{list_any}
+use Rattle.fx_lexer.specs.Places.{IsPlaceIn}
 use Rattle.fx_program.specs.declared.text.TextFault.{TextFault}
 use Rattle.fx_program.specs.declared.text.TextFault.TheVariants.{Lexical, Refused}
 
@@ -67,3 +69,12 @@ line_at letter code line column reason =
 abbrev pub fault_line : TextFault → List ℕ
 fault_line (Lexical fault) = line_at (codes "L") fault.kind fault.line fault.column (listed_at lexical_reasons fault.kind)
 fault_line (Refused refusal) = line_at (codes "E") refusal.code refusal.line refusal.column (reason_of refusal.code)
+
+-- the table has a row for this number
+abbrev pub has_row : List (ℕ × List ℕ) → ℕ → Bool
+has_row table code = list_any (λ row. row.0 == code) table
+
+-- a fault with a row in its table of messages, at a place in the text
+abbrev pub HasItsMessage : List ℕ → TextFault → Type 0
+HasItsMessage text (Lexical fault) = (has_row lexical_reasons fault.kind ≡ true) × IsPlaceIn text fault.line fault.column
+HasItsMessage text (Refused refusal) = (has_row reasons refusal.code ≡ true) × IsPlaceIn text refusal.line refusal.column

@@ -1,4 +1,5 @@
-ghost use Rattle.std.specs.Prelude.{◌≡◌, ◌↔◌, ◌<◌, ◌≤◌, List, ℕ, Some, Ok, true, false, length, IsTrue};
+ghost use Rattle.std.specs.Prelude.{◌≡◌, ◌↔◌, ◌<◌, ◌≤◌, List, ℕ, Some, Ok, IfErr, true, false, length, IsTrue};
+ghost use Rattle.fx_program.specs.Refusals.{HasItsMessage};
 ghost use Rattle.fx_designs.specs.Galois.{is_order};
 ghost use Rattle.fx_designs.specs.Matrices.{NoneMeets};
 ghost use Rattle.fx_reduction.specs.Reduction.{IsReducible};
@@ -83,4 +84,10 @@ pub fn least_pattern_in_any_text()
 /// some step has none and no budget ended, 2 that the budget of some step ended.
 pub fn greatest_status_decides()
     ensures { (steps : List Meaning) → IsGreatest (program_output (Ok steps)).status steps }
+{}
+
+/// Each fault of a text has a row in the table of messages, so that its line names a reason, and a place
+/// in the text, that of one of its bytes or of its end.
+pub fn faults_have_a_message_and_a_place()
+    ensures { (text : List ℕ) → IfErr (program_in text) (HasItsMessage text) }
 {}

@@ -258,7 +258,7 @@ fn resolutions_are_met(rt: HostRuntime) -> Result<(), Fail> {
     Ok(())
 }
 
-/// With D = ABC, AB is told from A, B and C. With D = AB it is not, and neither is A from C = A.
+/// With D = ABC, AB is distinguished from A, B and C. With D = AB it is not, and neither is A from C = A.
 #[test]
 fn an_interaction_is_told_from_main_effects(rt: HostRuntime) -> Result<(), Fail> {
     let effects = [Effect(1), Effect(2), Effect(4), Effect(8), Effect(3)];
@@ -269,7 +269,7 @@ fn an_interaction_is_told_from_main_effects(rt: HostRuntime) -> Result<(), Fail>
     Ok(())
 }
 
-/// With D = ABC, AB is not told from CD; with D = AB it is.
+/// With D = ABC, AB is not distinguished from CD; with D = AB it is.
 #[test]
 fn an_effect_is_told_from_another_not_estimated(rt: HostRuntime) -> Result<(), Fail> {
     let question = for_effects(rt.alloc(), TWO_LEVELS, &[Effect(3)], &[Effect(12)])?;
@@ -295,7 +295,7 @@ fn two_factors_in_two_runs_are_not_told_apart(rt: HostRuntime) -> Result<(), Fai
     Ok(())
 }
 
-/// Over GF(3) AB is A + B and A + 2 B, up to multiples, and so not told from C = A + B or A + 2 B;
+/// Over GF(3) AB is A + B and A + 2 B, up to multiples, and so not distinguished from C = A + B or A + 2 B;
 /// from C = A it is.
 #[test]
 fn an_interaction_of_three_levels(rt: HostRuntime) -> Result<(), Fail> {

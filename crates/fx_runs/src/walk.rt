@@ -23,7 +23,7 @@ pub(crate) enum Within {
 }
 
 /// The sets of factors that have all those of `inner`, none outside `outer`, and at most `most` in
-/// all. Bit i-1 stands for factor i.
+/// all. Bit i-1 represents factor i.
 #[derive(Clone, Copy, Debug)]
 pub(crate) struct Supports {
     inner: u64,
@@ -59,7 +59,7 @@ impl Supports {
     }
 
     /// The supports of the differences of a vector of the effect `u` and one of the effect `v`,
-    /// where 0 stands for the zero vector.
+    /// where 0 represents the zero vector.
     pub(crate) fn of_differences(q: u8, u: u64, v: u64) -> Supports
         ensures { (f : List ℕ)
             → length f ≤ 40

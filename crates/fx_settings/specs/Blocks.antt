@@ -18,7 +18,7 @@ use Rattle.fx_settings.specs.Models.{is_highest}
 use Rattle.fx_settings.specs.Powers.{exponent, greatest}
 use Rattle.fx_settings.specs.Sizes.{passed}
 
--- BLOCKS stands neither with MINABS nor with the highest resolution
+-- BLOCKS is allowed neither with MINABS nor with the highest resolution
 unfoldable pub check_blocks : Criterion → Bool → Option BlocksSaid → Result (Unit {0}) Refusal
 check_blocks criterion least None = Ok tt
 check_blocks criterion least (Some said) = if least || is_highest criterion then Err (refused_at MAXIMUM_WITH_BLOCKS said.place) else Ok tt
@@ -33,7 +33,7 @@ abbrev pub is_minimum : Size → Bool
 is_minimum Minimum = true
 is_minimum (Runs m) = false
 
--- the least size stands neither with the highest resolution, nor with MINABS, nor with the most blocks
+-- the least size is allowed neither with the highest resolution, nor with MINABS, nor with the most blocks
 unfoldable pub check_minimum : Size → Criterion → Bool → Option BlocksSaid → Option SizeSaid → Result (Unit {0}) Refusal
 check_minimum size criterion least blocks None = Ok tt
 check_minimum size criterion least blocks (Some said) = if is_minimum size && (is_highest criterion || least || are_most blocks) then Err (refused_at MINIMUM_WITH_MAXIMUM said.value.place) else Ok tt

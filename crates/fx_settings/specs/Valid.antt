@@ -25,7 +25,7 @@ is_criterion (Resolution r) = nat_le 3 r && nat_le r 99
 is_criterion Highest = true
 is_criterion Effects = true
 
--- at least one block factor, and no more blocks than runs; blocks of so many runs stand only with the least size
+-- at least one block factor, and no more blocks than runs; blocks of so many runs are allowed only with the least size
 abbrev pub are_blocks : ℕ → Size → Blocks → Bool
 are_blocks q size blocks.Without = true
 are_blocks q size (blocks.Factors t) = nat_le 1 t && not (is_too_many q size t)
@@ -50,7 +50,7 @@ has_most blocks.Most = true
 abbrev pub is_budget : ℕ → Bool
 is_budget n = nat_le 1 n && nat_le n MOST_NODES
 
--- What stands together: least aberration not with effects; blocks neither with least aberration nor with the highest
+-- What goes together: least aberration not with effects; blocks neither with least aberration nor with the highest
 -- resolution; and the least size with none of these and not with the most blocks.
 abbrev pub stand_together : Size → Criterion → Bool → Blocks → Bool
 stand_together size criterion least given =

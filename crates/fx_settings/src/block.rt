@@ -9,7 +9,7 @@ use crate::settings::{Blocks, Criterion, Size};
 use fx_language::code;
 use fx_text::{Place, Refusal};
 
-/// Tests that BLOCKS stands neither with MINABS nor with the highest resolution.
+/// Tests that BLOCKS is allowed neither with MINABS nor with the highest resolution.
 ///
 /// # Errors
 ///
@@ -34,7 +34,7 @@ pub(crate) fn check_blocks(
     }
 }
 
-/// Tests that the least size stands neither with the highest resolution, nor with MINABS, nor with
+/// Tests that the least size is allowed neither with the highest resolution, nor with MINABS, nor with
 /// the most blocks.
 ///
 /// # Errors

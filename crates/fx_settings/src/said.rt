@@ -5,7 +5,7 @@ ghost use Rattle.fx_settings.specs.Said.{blocks_said, blocks_word, last_place, m
 use fx_language::Symbol;
 use fx_text::{Phrase, Place, Statement, find};
 
-/// A value of an option: a number, or a word that stands for the least or the greatest.
+/// A value of an option: a number, or a word that represents the least or the greatest.
 #[derive(Clone, Copy, Debug, PartialEq, Eq)]
 pub struct Value {
     /// None for such a word.
@@ -13,7 +13,7 @@ pub struct Value {
     pub place: Place,
 }
 
-/// What SIZE gives the size by.
+/// How SIZE specifies the size.
 #[derive(Clone, Copy, Debug, PartialEq, Eq)]
 pub enum SizeWord {
     /// The number of runs.
@@ -24,23 +24,23 @@ pub enum SizeWord {
     Nrunfacs,
 }
 
-/// What a SIZE statement says.
+/// The contents of a SIZE statement.
 #[derive(Clone, Copy, Debug, PartialEq, Eq)]
 pub struct SizeSaid {
     pub word: SizeWord,
     pub value: Value,
 }
 
-/// What a MODEL statement says.
+/// The contents of a MODEL statement.
 #[derive(Clone, Copy, Debug, PartialEq, Eq)]
 pub struct ModelSaid {
     /// The value of RESOLUTION. None for ESTIMATE, whose effects are read elsewhere.
     pub resolution: Option<Value>,
-    /// The place of the word MINABS, which asks for least aberration, where it stands.
+    /// The place of the word MINABS, which asks for least aberration, where it is present.
     pub minabs: Option<Place>,
 }
 
-/// What BLOCKS gives the blocks by.
+/// How BLOCKS specifies the blocks.
 #[derive(Clone, Copy, Debug, PartialEq, Eq)]
 pub enum BlocksWord {
     /// The number of block factors.
@@ -51,7 +51,7 @@ pub enum BlocksWord {
     Size,
 }
 
-/// What a BLOCKS statement says.
+/// The contents of a BLOCKS statement.
 #[derive(Clone, Copy, Debug, PartialEq, Eq)]
 pub struct BlocksSaid {
     /// The place of its first word.
@@ -60,7 +60,7 @@ pub struct BlocksSaid {
     pub value: Value,
 }
 
-/// What the statements of a step say of its numbers.
+/// The numbers in the statements of a step.
 #[derive(Clone, Copy, Debug, PartialEq, Eq)]
 pub struct StepSaid {
     /// The place of the word FACTORS.
@@ -72,7 +72,7 @@ pub struct StepSaid {
     pub blocks: Option<BlocksSaid>,
 }
 
-/// What a step says, where these are its PROC statement, its FACTORS statement, and all of its
+/// The numbers of a step, where these are its PROC statement, its FACTORS statement, and all of its
 /// statements.
 pub fn step_said(proc: &Phrase<'_>, factors: &Phrase<'_>, statements: &[Statement<'_>]) -> StepSaid
     ensures { result ≡ step_said proc.now factors.now statements.now }

@@ -28,7 +28,7 @@ pub enum Criterion {
     Resolution { r: u8 },
     /// The highest resolution.
     Highest,
-    /// That the effects of the MODEL statement can be told apart.
+    /// That the effects of the MODEL statement can be distinguished.
     Effects,
 }
 
@@ -39,7 +39,7 @@ pub enum Blocks {
     Without,
     /// q^t blocks, t from 1 to 10.
     Factors { t: u8 },
-    /// Blocks of q^k runs. Stands only with the least size.
+    /// Blocks of q^k runs. Only with the least size.
     PerBlock { k: u8 },
     /// As many as can be.
     Most,

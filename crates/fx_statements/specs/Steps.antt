@@ -81,7 +81,7 @@ step_by earlier statements (Some named) = do
   outputs ← outputs_of (context factors asked.0) earlier statements
   Ok (record { factors = factors; settings = asked.0; goal = asked.1; examine = examine_of statements; outputs = outputs })
 
--- the meaning of a step, whose PROC statement stands first
+-- the meaning of a step, whose PROC statement is first
 abbrev pub step_of : List (List ℕ) → List (List Written) → Result Meaning Refusal
 step_of earlier statements = step_by earlier statements (statement_of word.Factors statements)
 

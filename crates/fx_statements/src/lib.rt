@@ -1,4 +1,4 @@
-//! The program that a text says: its steps, or the first refusal.
+//! The program of a text: its steps, or the first refusal.
 #![tactic(auto)]
 
 mod components;

@@ -28,7 +28,7 @@ pub type Program = Items<Step>;
 ///
 /// # Errors
 ///
-/// The first refusal: of the grammar and of words that are repeated or come too late, from left to right;
+/// The first refusal: of the grammar and of words that are repeated or are too late, from left to right;
 /// then of the meaning, step by step. And `NoMemory`.
 #[tactic(auto, unfolding(crate::specs::Programs::program_of))]
 pub fn parse(alloc: Global, text: &[u8], tokens: &Tokens) -> Result<Program, ParseStop>

@@ -25,7 +25,7 @@ pub enum Wanted {
     },
     /// The highest resolution.
     Highest,
-    /// The effects of `estimate`, of which there are some, can be told from one another and from
+    /// The effects of `estimate`, of which there are some, can be distinguished from one another and from
     /// those of `nonnegligible`. Both lists are in effect order, and no effect is in both.
     Effects {
         estimate: Effects,

@@ -67,7 +67,7 @@ factors_left factors.Option = key Nlev ▸ key Equals ▸ n ▸ ending
 factors_left factors.Equals = key Equals ▸ n ▸ ending
 factors_left factors.Levels = n ▸ ending
 
--- the word that may stand in the place of a number
+-- the word that is allowed in the place of a number
 abbrev pub word_of : Extreme → Symbol
 word_of extreme.Minimum = Minimum
 word_of extreme.Maximum = Maximum

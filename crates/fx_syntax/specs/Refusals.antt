@@ -5,7 +5,7 @@ use Rattle.fx_language.specs.Grammar.{program}
 use Rattle.fx_language.specs.Refusals.{refused}
 use Rattle.fx_syntax.specs.Repeats.{repeated}
 
--- The earlier of two refusals: of the grammar, and of the rules on what stands before. A symbol that the grammar
+-- The earlier of two refusals: of the grammar, and of the rules on what precedes. A symbol that the grammar
 -- doesn't allow has the grammar's code.
 abbrev pub earlier : Option (ℕ × ℕ) → Option (ℕ × ℕ) → Option (ℕ × ℕ)
 earlier None rule = rule

@@ -1,4 +1,4 @@
--- The rules on words that stand twice or too late. They refuse symbols that the grammar allows.
+-- The rules on words that are repeated or too late. They refuse symbols that the grammar allows.
 use Rattle.std.specs.Prelude.{ℕ, ◌+◌, nat_le, not, ◌&&◌, ◌||◌, Bool, true, false, List, [], ◌∷◌, count_by, Option, Some, None, if◌then◌else◌}
 use Rattle.std.specs.List.{list_any}
 use Rattle.fx_language.specs.declared.code.TheConstants.{REPEATED_OPTION, REPEATED_STATEMENT, STATEMENT_AFTER_RUN, TOO_MANY_STEPS}
@@ -7,7 +7,7 @@ use Rattle.fx_language.specs.declared.symbol.Symbol.{Symbol}
 use Rattle.fx_language.specs.declared.symbol.Symbol.TheVariants.{Proc, Factex, Nodes, Run, Quit, Output, Semicolon, Equals}
 use Rattle.fx_language.specs.Symbols.{is, is_once, is_output_option}
 
--- What was seen stands with its last symbol first. A statement starts at the front of the text and after each `;`.
+-- What was seen is listed with its last symbol first. A statement starts at the front of the text and after each `;`.
 abbrev pub is_start : List Symbol → Bool
 is_start [] = true
 is_start (s ∷ seen) = is Semicolon s

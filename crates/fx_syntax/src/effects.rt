@@ -58,7 +58,7 @@ impl EffectPlace {
     }
 }
 
-/// The place after a symbol that stands after a name of a product.
+/// The place after a symbol that follows a name of a product.
 fn behind_product(list: EffectList, symbol: Symbol) -> Option<State>
     ensures { after symbol (effects_left list EffectPlace.Product) ≡ shape_left result }
 {
@@ -69,7 +69,7 @@ fn behind_product(list: EffectList, symbol: Symbol) -> Option<State>
     }
 }
 
-/// The place after a symbol that stands after a whole effect.
+/// The place after a symbol that follows a whole effect.
 fn behind_effect(list: EffectList, symbol: Symbol) -> Option<State>
     ensures { after symbol (effects_left list EffectPlace.More) ≡ shape_left result }
 {

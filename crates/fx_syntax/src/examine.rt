@@ -5,7 +5,7 @@ ghost use Rattle.fx_syntax.specs.Places.{examine_left, shape_left};
 use crate::state::State;
 use fx_language::Symbol;
 
-/// A place in an EXAMINE statement. After it comes a section of the listing, or `;`.
+/// A place in an EXAMINE statement. After it follows a section of the listing, or `;`.
 #[derive(Clone, Copy, Debug)]
 pub enum ExaminePlace {
     /// After EXAMINE or a section.

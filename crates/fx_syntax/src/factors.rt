@@ -44,7 +44,7 @@ impl FactorsPlace {
     }
 }
 
-/// The place after a symbol that stands after a name or a range.
+/// The place after a symbol that follows a name or a range.
 fn behind_item(symbol: Symbol) -> Option<State>
     ensures { after symbol (factors_left FactorsPlace.More) ≡ shape_left result }
 {

@@ -9,7 +9,7 @@ use crate::state::State;
 use fx_language::Symbol;
 
 /// The first symbol of a program that is refused, with its code, and its index from 0: by the
-/// grammar, or by the rules on words that stand twice or too late. The end counts as a symbol.
+/// grammar, or by the rules on words that are repeated or too late. The end counts as a symbol.
 ///
 /// The codes are those of `first_by_grammar` and of `first_by_rules`.
 pub fn first_refusal(symbols: &[Symbol]) -> Option<(u8, usize)>

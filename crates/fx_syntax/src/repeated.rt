@@ -7,7 +7,7 @@ use fx_language::{Symbol, code};
 /// The most steps of a program.
 const MOST_STEPS: usize = 100;
 
-/// The first symbol that a rule on words that stand twice or too late refuses, with its code, and its
+/// The first symbol that a rule on words that are repeated or too late refuses, with its code, and its
 /// index from 0.
 ///
 /// 26: a statement that its step has already. 27: a statement after a RUN of its step. 28: an option

@@ -8,9 +8,9 @@ use fx_language::Symbol;
 /// A place in a SIZE or BLOCKS statement.
 #[derive(Clone, Copy, Debug)]
 pub enum SettingPlace {
-    /// After SIZE: the word that says what is set.
+    /// After SIZE: the word for what is set.
     SizeWord,
-    /// After BLOCKS: the word that says what is set.
+    /// After BLOCKS: the word for what is set.
     BlocksWord,
     /// After that word: `=`.
     Equals(Extreme),

@@ -97,7 +97,7 @@ impl State {
         }
     }
 
-    /// Whether an option may stand here.
+    /// Whether an option is allowed here.
     fn allows_option(self) -> bool
         ensures { result ≡ allows_option (shape_of self) }
     {

@@ -6,7 +6,7 @@ use Rattle.std.specs.Str.{str_eq_ignore_ascii_case}
 abbrev pub is_same_name : List ℕ → List ℕ → Bool
 is_same_name a b = str_eq_ignore_ascii_case a b
 
--- the index at which a name stands among others
+-- the index of a name among others
 abbrev pub place_of : List ℕ → List (List ℕ) → Option ℕ
 place_of name names = position (is_same_name name) names
 

@@ -16,11 +16,11 @@ start_of (w ∷ rest) = place_at w
 abbrev pub has : Symbol → List Written → Bool
 has symbol written = list_any (λ w. is symbol w.symbol) written
 
--- what stands before the first such symbol
+-- what precedes the first such symbol
 abbrev pub before : Symbol → List Written → List Written
 before symbol written = take (prefix_len (λ w. not (is symbol w.symbol)) written) written
 
--- what stands after it
+-- what follows it
 abbrev pub after : Symbol → List Written → List Written
 after symbol [] = []
 after symbol (w ∷ rest) = if is symbol w.symbol then rest else after symbol rest

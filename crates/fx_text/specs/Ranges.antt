@@ -13,12 +13,12 @@ abbrev pub first_of : List Written → Option Written
 first_of [] = None
 first_of (w ∷ rest) = Some w
 
--- the last name of a range, where `-` stands after the first
+-- the last name of a range, where `-` follows the first
 abbrev pub range_end : List Written → Option Written
 range_end [] = None
 range_end (w ∷ rest) = if is Minus w.symbol then first_of rest else None
 
--- how much of a name stands before the longest run of digits at its end
+-- how much of a name precedes the longest run of digits at its end
 abbrev pub stem_len : List ℕ → ℕ
 stem_len name = length name - prefix_len is_digit (reverse name)
 
@@ -39,7 +39,7 @@ begins_with_zero (b ∷ bytes) = b == 48
 abbrev pub is_numeral : List ℕ → Bool
 is_numeral digits = list_all is_digit digits && nat_le 1 (length digits) && nat_le (length digits) 38
 
--- a zero that does not stand alone
+-- a zero that is not alone
 abbrev pub has_leading_zero : List ℕ → Bool
 has_leading_zero digits = begins_with_zero digits && not (length digits == 1)
 

@@ -25,7 +25,7 @@ abbrev pub ◌>>=◌ : {A B : Type 0} → Result A Refusal → (A → Result B R
 (Ok x) >>= f = f x
 (Err refusal) >>= f = Err refusal
 
--- the text's meaning is this refusal; want of memory says nothing of the text
+-- the text's meaning is this refusal; want of memory is no property of the text
 abbrev pub IsRefused : {A : Type 0} → Result A Refusal → ParseStop → Type 0
 IsRefused meaning (stop.Refused refusal) = meaning ≡ Err refusal
 IsRefused meaning stop.NoMemory = Unit {0}

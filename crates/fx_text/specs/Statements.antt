@@ -11,7 +11,7 @@ abbrev pub in_front : Written → List (List Written) → List (List Written)
 in_front w [] = (w ∷ []) ∷ []
 in_front w (s ∷ rest) = (w ∷ s) ∷ rest
 
--- the statements: what stands before each semicolon, and what is left after the last one
+-- the statements: what precedes each semicolon, and what is left after the last one
 abbrev pub statements_of : List Written → List (List Written)
 statements_of [] = []
 statements_of (w ∷ rest) = if is Semicolon w.symbol then [] ∷ statements_of rest else in_front w (statements_of rest)

@@ -20,7 +20,7 @@ written_at text t = record { symbol = symbol_of t.kind (slice_range text t.from 
 abbrev pub written : List ℕ → List Token → List Written
 written text tokens = map (written_at text) tokens
 
--- it stands first
+-- it is first
 abbrev pub begins : Symbol → List Written → Bool
 begins symbol [] = false
 begins symbol (w ∷ rest) = is symbol w.symbol

@@ -13,7 +13,7 @@ pub fn is_same_name(a: &[u8], b: &[u8]) -> bool
     a.eq_ignore_ascii_case(b)
 }
 
-/// The index from 0 at which a name stands among others, without regard to case.
+/// The index from 0 of a name among others, without regard to case.
 pub fn place_of(name: &[u8], names: &[Bytes]) -> Option<usize>
     ensures place { result ≡ place_of name.now names.now }
     ensures inside { IfSome result (λ i. i < length names.now) }

@@ -11,7 +11,7 @@ use fx_base::{Bytes, NoMemory, put_number};
 use fx_language::Symbol;
 use std::alloc::Global;
 
-/// The last name of a range, where `-` stands after the first.
+/// The last name of a range, where `-` follows the first.
 pub fn range_end<'b, 'a>(lexemes: &'b [Lexeme<'a>]) -> Option<&'b Lexeme<'a>>
     ensures { MatchOption result (range_end lexemes.now ≡ None)
         (λ w. range_end lexemes.now ≡ Some w.now) }
@@ -71,7 +71,7 @@ fn ending(name: &[u8]) -> &[u8]
     &name[stem_len(name)..]
 }
 
-/// How much of a name stands before the digits at its end.
+/// How much of a name precedes the digits at its end.
 fn stem_len(name: &[u8]) -> usize
     ensures value { result ≡ stem_len name.now }
     ensures bound { result ≤ length name.now }
@@ -106,7 +106,7 @@ fn are_digits(bytes: &[u8]) -> bool
     bytes.iter().all(|b| b.is_ascii_digit())
 }
 
-/// Whether a zero stands first, and not alone.
+/// Whether a zero is first, and not alone.
 fn has_leading_zero(digits: &[u8]) -> bool
     ensures { result ≡ has_leading_zero digits.now }
 {

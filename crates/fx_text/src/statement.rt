@@ -35,7 +35,7 @@ pub fn statements<'a>(alloc: Global, lexemes: &'a [Lexeme<'a>]) -> Result<Statem
     Ok(statements)
 }
 
-/// How much stands before the first semicolon.
+/// How much precedes the first semicolon.
 fn statement_len(lexemes: &[Lexeme<'_>]) -> usize
     ensures { result ≡ prefix_len (λ w. not (is Semicolon w.symbol)) lexemes.now }
 {

@@ -4,7 +4,7 @@ ghost use Rattle.fx_vectors.specs.Effects.{most_factors, numbers_of};
 
 use fx_base::Values;
 
-/// An effect: a set of factors that is not empty. Bit i-1 stands for factor i.
+/// An effect: a set of factors that is not empty. Bit i-1 represents factor i.
 #[derive(Clone, Copy, Debug, PartialEq, Eq)]
 pub struct Effect(pub u64);
 

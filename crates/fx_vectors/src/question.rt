@@ -8,10 +8,10 @@ pub enum Demands {
     Resolution {
         r: u8,
     },
-    /// The components of the effects of `estimate`, of which there are some, can be told from one
+    /// The components of the effects of `estimate`, of which there are some, can be distinguished from one
     /// another, from those of `nonnegligible` and from the mean. Both lists are in effect order:
     /// fewer factors first, then by the factors' positions. No effect is in both, and there are at
-    /// most 2,000,000 pairs of vectors to be told apart.
+    /// most 2,000,000 pairs of vectors to be distinguished.
     Effects {
         estimate: Effects,
         nonnegligible: Effects,

@@ -103,7 +103,7 @@ fn limits_of_effects_and_pairs_are_exact_to_a_factor(rt: HostRuntime) -> Result<
         Some((23, 2, 7))
     );
     assert_eq!(rt; bars_refusal(&rt, alloc, (1, b")"), (39, b"@4);"))?, None);
-    // Unknown names in the second list come before too many effects in the first.
+    // Unknown names in the second list are reported before too many effects in the first.
     assert_eq!(rt;
         bars_refusal(&rt, alloc, (17, b")"), (2, b" Z);"))?,
         Some((4, 2, 72))
