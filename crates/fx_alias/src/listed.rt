@@ -2,13 +2,12 @@ ghost use Rattle.std.specs.Prelude.{◌≡◌, All, IfOk};
 ghost use Rattle.fx_designs.specs.Vectors.{IsVector};
 ghost use Rattle.fx_vectors.specs.Shape.{IsShape};
 ghost use Rattle.fx_statements.specs.Goals.{goal_of};
-ghost use Rattle.fx_statements.specs.Components.{listed_factors};
 ghost use Rattle.fx_alias.specs.Aliasing.{listed};
 
 use crate::components::list_components;
 use fx_base::{Items, NoMemory};
-use fx_statements::Wanted;
-use fx_vectors::{Shape, Vector, most_factors};
+use fx_statements::{Wanted, listed_factors};
+use fx_vectors::{Shape, Vector};
 use std::alloc::Global;
 
 /// The components that the sections of a step list, by what it wants.
@@ -23,19 +22,4 @@ pub(crate) fn listed_components(
     ensures each { IfOk result (All (λ u. IsVector shape.q shape.s u)) }
 {
     list_components(alloc, shape.q, shape.s, listed_factors(wanted).min(shape.s))
-}
-
-/// The most factors of a listed component, in a step that has as many.
-fn listed_factors(wanted: &Wanted) -> u8
-    ensures { result ≡ listed_factors (goal_of wanted.now) }
-{
-    match wanted {
-        Wanted::Resolution { .. } | Wanted::Highest => 2,
-        Wanted::Effects {
-            estimate,
-            nonnegligible,
-        } => most_factors(estimate)
-            .max(most_factors(nonnegligible))
-            .max(2),
-    }
 }

@@ -9,7 +9,7 @@ mod lexing;
 mod place;
 mod token;
 
-pub use laws::{spans_hold_the_pieces, text_is_pieces};
+pub use laws::{spans_hold_the_pieces, text_is_pieces, tokens_and_faults_have_places};
 pub use lexing::lex;
 pub use place::Place;
 pub use token::{Kind, LexFault, LexStop, Token, Tokens};

@@ -12,8 +12,9 @@ mod text;
 mod words;
 
 pub use laws::{
-    budget_ends_where_nodes_pass_it, first_design_is_given, greatest_status_decides,
-    no_design_in_any_text, no_design_means_none_at_all,
+    budget_ends_where_nodes_pass_it, faults_have_a_message_and_a_place, first_design_is_given,
+    greatest_status_decides, least_pattern_in_any_text, no_design_in_any_text,
+    no_design_means_none_at_all,
 };
 pub use run::factex;
 pub use stop::NO_MEMORY;

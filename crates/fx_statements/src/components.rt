@@ -84,8 +84,9 @@ fn is_for_components(w: &Lexeme<'_>) -> bool
     w.is(Symbol::Aliasing) || w.is(Symbol::Blocked)
 }
 
-/// The most factors that a listed component has, in a step that has as many.
-fn listed_factors(wanted: &Wanted) -> u8
+/// The most factors of a listed component, in a step with as many factors: 2, or the number of factors
+/// of the largest effect that the step names.
+pub fn listed_factors(wanted: &Wanted) -> u8
     ensures { result ≡ listed_factors (goal_of wanted.now) }
 {
     match wanted {

@@ -12,11 +12,15 @@ mod stepping;
 mod tests;
 mod wanted;
 
+pub use components::listed_factors;
 pub use examine::Examine;
 pub use fx_outputs::{OutputSpec, Outputs, Recode, Recodes, Shuffle};
 pub use fx_settings::{Blocks, Size};
 pub use fx_text::{Names, ParseStop, Refusal};
-pub use laws::{model_is_read_by_the_grammar, sections_are_read_by_the_grammar};
+pub use laws::{
+    model_is_read_by_the_grammar, refusals_have_a_rule_and_a_place,
+    sections_are_read_by_the_grammar,
+};
 pub use outcome::{End, Outcome};
 pub use parsing::{Program, parse};
 pub use step::Step;
