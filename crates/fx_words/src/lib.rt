@@ -1,6 +1,7 @@
 //! Word-length patterns of designs (Fries and Hunter), and a tally that keeps that of a prefix as rows come and go.
 #![tactic(auto)]
 
+mod classes;
 mod differences;
 mod level;
 mod order;

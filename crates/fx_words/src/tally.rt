@@ -5,8 +5,8 @@ ghost use Rattle.fx_vectors.specs.Matrix.{MatrixView};
 ghost use Rattle.fx_vectors.specs.Shape.{IsShape, dimensions_of};
 ghost use Rattle.fx_words.specs.Tables.{AreOf, IsLevel, AreCounts, AreAdded};
 
-use crate::differences::Differences;
-use crate::level::{self, count_with};
+use crate::classes::Classes;
+use crate::level;
 use fx_base::NoMemory;
 use fx_vectors::{Matrix, Pattern, Shape};
 use std::alloc::Global;
@@ -17,8 +17,8 @@ use std::marker::Model;
 #[derive(Debug, Drop)]
 pub struct Tally {
     prefix: Matrix,
-    differences: Differences,
-    /// For each number of rows, and each weight, a count for each point.
+    classes: Classes,
+    /// For each number of rows, and each weight, a count for each point that is kept.
     counts: Vec<u128>,
 }
 
@@ -31,8 +31,8 @@ impl Model for Tally {
     ghost view = { λ x. x.prefix };
 
     ghost invariant = { λ x. record {
-      differences : AreOf x.prefix.shape x.differences;
-      counts : AreCounts x.prefix.shape x.prefix.rows x.counts.items;
+      classes : AreOf x.prefix.shape x.classes;
+      counts : AreCounts x.prefix.shape x.classes.points x.prefix.rows x.counts.items;
     } };
 }
 
@@ -46,11 +46,11 @@ impl Tally {
         requires { IsShape shape }
         ensures { IfOk result (λ tally. tally ≡ record { shape = shape; rows = [] }) }
     {
-        let differences = Differences::of(alloc, shape.field(), shape.m)?;
-        let counts = counts_of_no_rows(alloc, shape)?;
+        let classes = Classes::of(alloc, shape.field(), shape.m)?;
+        let counts = counts_of_no_rows(alloc, shape, &classes)?;
         Ok(Tally {
             prefix: Matrix::new(shape),
-            differences,
+            classes,
             counts,
         })
     }
@@ -68,12 +68,7 @@ impl Tally {
         requires below { row < self.old.shape.q ^ self.old.shape.m }
         ensures { self.new ≡ record self.old { rows = self.old.rows ++ row ∷ [] } }
     {
-        add_level(
-            self.counts.as_mut_slice(),
-            &self.prefix,
-            &self.differences,
-            row,
-        );
+        add_level(self.counts.as_mut_slice(), &self.prefix, &self.classes, row);
         self.prefix.push(row);
     }
 
@@ -96,8 +91,8 @@ impl Tally {
             ≡ is_less (pattern_of (dimensions_of self.now.shape) (self.now.rows ++ row ∷ []))
             other.now }
     {
-        let level = level_of(self.counts.as_slice(), &self.prefix);
-        level::less_with(level, &self.prefix, &self.differences, row, other)
+        let level = level_of(self.counts.as_slice(), &self.prefix, &self.classes);
+        level::less_with(level, &self.prefix, &self.classes, row, other)
     }
 
     /// The entry at `i`, counted from 0, of the pattern with this row added.
@@ -110,8 +105,8 @@ impl Tally {
             (pattern_of (dimensions_of self.now.shape) (self.now.rows ++ row ∷ []))
             i }
     {
-        let level = level_of(self.counts.as_slice(), &self.prefix);
-        level::words_with(level, &self.prefix, &self.differences, row, i)
+        let level = level_of(self.counts.as_slice(), &self.prefix, &self.classes);
+        level::words_with(level, &self.prefix, &self.classes, row, i)
     }
 
     /// Whether the pattern is less than another of s entries.
@@ -120,8 +115,8 @@ impl Tally {
         ensures { result
             ≡ is_less (pattern_of (dimensions_of self.now.shape) self.now.rows) other.now }
     {
-        let level = level_of(self.counts.as_slice(), &self.prefix);
-        level::less_than(level, &self.prefix, other.as_slice())
+        let level = level_of(self.counts.as_slice(), &self.prefix, &self.classes);
+        level::less_than(level, &self.prefix, &self.classes, other.as_slice())
     }
 
     /// The pattern: A_1 to A_s, where the rows to come have no words.
@@ -133,8 +128,8 @@ impl Tally {
         ensures { IfOk result (λ pattern.
             pattern ≡ pattern_of (dimensions_of self.now.shape) self.now.rows) }
     {
-        let level = level_of(self.counts.as_slice(), &self.prefix);
-        level::pattern(alloc, level, &self.prefix)
+        let level = level_of(self.counts.as_slice(), &self.prefix, &self.classes);
+        level::pattern(alloc, level, &self.prefix, &self.classes)
     }
 
     /// The pattern with this row added.
@@ -149,8 +144,8 @@ impl Tally {
             pattern
             ≡ pattern_of (dimensions_of self.now.shape) (self.now.rows ++ row ∷ [])) }
     {
-        let level = level_of(self.counts.as_slice(), &self.prefix);
-        level::pattern_with(alloc, level, &self.prefix, &self.differences, row)
+        let level = level_of(self.counts.as_slice(), &self.prefix, &self.classes);
+        level::pattern_with(alloc, level, &self.prefix, &self.classes, row)
     }
 }
 
@@ -173,76 +168,132 @@ pub fn pattern_of(alloc: Global, matrix: &Matrix) -> Result<Pattern, NoMemory>
 }
 
 /// The counts of all rows of the prefix.
-fn level_of<'a>(counts: &'a [u128], prefix: &Matrix) -> &'a [u128]
-    requires { AreCounts prefix.now.shape prefix.now.rows counts.now }
+fn level_of<'a>(counts: &'a [u128], prefix: &Matrix, classes: &Classes) -> &'a [u128]
+    requires { AreCounts prefix.now.shape classes.now.points prefix.now.rows counts.now }
     ensures { IsLevel prefix.now.shape.q prefix.now.shape.m prefix.now.shape.s
-        (vectors_of prefix.now.shape.q prefix.now.shape.m prefix.now.rows) result.now }
+        (vectors_of prefix.now.shape.q prefix.now.shape.m prefix.now.rows) classes.now.points result.now }
 {
-    let size = level_size(prefix.shape());
+    let size = level_size(prefix.shape(), classes);
     let from = prefix.len() * size;
     &counts[from..from + size]
 }
 
 /// How many counts there are for a number of rows.
-fn level_size(shape: Shape) -> usize
+fn level_size(shape: Shape, classes: &Classes) -> usize
     requires { IsShape shape }
-    ensures size { result ≡ (shape.s + 1) * shape.q ^ shape.m }
+    ensures size { result ≡ (shape.s + 1) * length classes.now.points }
     ensures fits { result ≤ 41984 }
 {
-    (usize::from(shape.s) + 1) * usize::from(shape.runs())
+    (usize::from(shape.s) + 1) * classes.len()
 }
 
-fn counts_of_no_rows(alloc: Global, shape: Shape) -> Result<Vec<u128>, NoMemory>
-    requires { IsShape shape }
-    ensures { IfOk result (λ counts. AreCounts shape [] counts.items) }
+fn counts_of_no_rows(alloc: Global, shape: Shape, classes: &Classes) -> Result<Vec<u128>, NoMemory>
+    requires shaped { IsShape shape }
+    requires classes { AreOf shape classes.now }
+    ensures { IfOk result (λ counts. AreCounts shape classes.now.points [] counts.items) }
 {
-    let count = (usize::from(shape.s) + 1) * level_size(shape);
+    // Zero alone is the sum of no rows, and it is kept first.
+    let kept = classes.len();
+    let count = (usize::from(shape.s) + 1) * ((usize::from(shape.s) + 1) * kept);
     let mut counts = match vec![in alloc; 0u128; count] {
         Ok(counts) => counts,
         Err(_) => return Err(NoMemory),
     };
-    // The sum of no rows is the point with the number 0.
     counts[0] = 1;
     Ok(counts)
 }
 
 /// Adds the counts of the prefix with one row more.
-fn add_level(counts: &mut [u128], prefix: &Matrix, differences: &Differences, row: u16)
-    requires counts { AreCounts prefix.now.shape prefix.now.rows counts.old }
-    requires differences { AreOf prefix.now.shape differences.now }
+fn add_level(counts: &mut [u128], prefix: &Matrix, classes: &Classes, row: u16)
+    requires counts { AreCounts prefix.now.shape classes.now.points prefix.now.rows counts.old }
+    requires classes { AreOf prefix.now.shape classes.now }
     requires room { length prefix.now.rows < prefix.now.shape.s }
     requires row { row < prefix.now.shape.q ^ prefix.now.shape.m }
-    ensures { AreCounts prefix.now.shape (prefix.now.rows ++ row ∷ []) counts.new }
+    ensures { AreCounts prefix.now.shape classes.now.points (prefix.now.rows ++ row ∷ []) counts.new }
 {
-    for weight in 0..usize::from(prefix.shape().s) + 1 {
-        add_weight(counts, prefix, differences, row, weight);
+    let _known = prefix.shape();
+    // No word over so many rows has a greater weight than their number.
+    for weight in 0..prefix.len() + 2 {
+        add_weight(counts, prefix, classes, row, weight);
     }
 }
 
 /// Adds those of one weight, after those of the lesser weights.
-fn add_weight(
-    counts: &mut [u128],
-    prefix: &Matrix,
-    differences: &Differences,
-    row: u16,
-    weight: usize,
-)
-    requires added { AreAdded prefix.now.shape prefix.now.rows row counts.old
-        (weight * prefix.now.shape.q ^ prefix.now.shape.m) }
-    requires differences { AreOf prefix.now.shape differences.now }
+fn add_weight(counts: &mut [u128], prefix: &Matrix, classes: &Classes, row: u16, weight: usize)
+    requires added { AreAdded prefix.now.shape classes.now.points prefix.now.rows row counts.old weight 0 0 0 }
+    requires classes { AreOf prefix.now.shape classes.now }
     requires room { length prefix.now.rows < prefix.now.shape.s }
     requires row { row < prefix.now.shape.q ^ prefix.now.shape.m }
-    requires weight { weight ≤ prefix.now.shape.s }
-    ensures { AreAdded prefix.now.shape prefix.now.rows row counts.new
-        ((weight + 1) * prefix.now.shape.q ^ prefix.now.shape.m) }
+    requires weight { weight ≤ length prefix.now.rows + 1 }
+    ensures { AreAdded prefix.now.shape classes.now.points prefix.now.rows row counts.new (weight + 1) 0 0 0 }
 {
-    let size = level_size(prefix.shape());
+    // The points that are kept are below q^m.
+    let _kept = classes.len();
+    let shape = prefix.shape();
+    if weight == 0 {
+        add_zeros(counts, prefix, classes, row);
+        return;
+    }
+    add_first(counts, prefix, classes, row, weight);
+    for c in 2..shape.q {
+        add_next(counts, prefix, classes, row, weight, c);
+    }
+}
+
+/// Adds those of weight 0, which are those of the rows before.
+fn add_zeros(counts: &mut [u128], prefix: &Matrix, classes: &Classes, row: u16)
+    requires added { AreAdded prefix.now.shape classes.now.points prefix.now.rows row counts.old 0 0 0 0 }
+    requires room { length prefix.now.rows < prefix.now.shape.s }
+    ensures { AreAdded prefix.now.shape classes.now.points prefix.now.rows row counts.new 0 1 0 (length classes.now.points) }
+{
+    let kept = classes.len();
+    let size = level_size(prefix.shape(), classes);
     let from = prefix.len() * size;
-    let runs = differences.size();
-    let to = from + size + weight * usize::from(runs);
-    for sum in 0..runs {
-        let level = &counts[from..from + size];
-        let count = count_with(level, prefix, differences, row, weight, sum);
-        counts[to + usize::from(sum)] = count;
+    let to = from + size;
+    for j in 0..kept {
+        counts[to + j] = counts[from + j];
+    }
+}
+
+/// Adds those of a weight above 0 with the entries 0 and 1 for the row.
+fn add_first(counts: &mut [u128], prefix: &Matrix, classes: &Classes, row: u16, weight: usize)
+    requires added { AreAdded prefix.now.shape classes.now.points prefix.now.rows row counts.old weight 0 0 0 }
+    requires classes { AreOf prefix.now.shape classes.now }
+    requires room { length prefix.now.rows < prefix.now.shape.s }
+    requires row { row < prefix.now.shape.q ^ prefix.now.shape.m }
+    requires some { 0 < weight }
+    requires weight { weight ≤ length prefix.now.rows + 1 }
+    ensures { AreAdded prefix.now.shape classes.now.points prefix.now.rows row counts.new weight 2 0 (length classes.now.points) }
+{
+    let kept = classes.len();
+    let size = level_size(prefix.shape(), classes);
+    let lighter = prefix.len() * size + (weight - 1) * kept;
+    let from = lighter + kept;
+    let to = from + size;
+    let moves = classes.moves(row, 1);
+    for j in 0..kept {
+        counts[to + j] = counts[from + j] + counts[lighter + usize::from(moves[j])];
+    }
+}
+
+/// Adds those with the entry c for the row, after those with the lesser entries.
+fn add_next(counts: &mut [u128], prefix: &Matrix, classes: &Classes, row: u16, weight: usize, c: u8)
+    requires added { AreAdded prefix.now.shape classes.now.points prefix.now.rows row counts.old weight c 0 (length classes.now.points) }
+    requires classes { AreOf prefix.now.shape classes.now }
+    requires room { length prefix.now.rows < prefix.now.shape.s }
+    requires row { row < prefix.now.shape.q ^ prefix.now.shape.m }
+    requires some { 0 < weight }
+    requires weight { weight ≤ length prefix.now.rows + 1 }
+    requires entry { 0 < c }
+    requires code { c < prefix.now.shape.q }
+    ensures { AreAdded prefix.now.shape classes.now.points prefix.now.rows row counts.new weight (c + 1) 0 (length classes.now.points) }
+{
+    let kept = classes.len();
+    let size = level_size(prefix.shape(), classes);
+    let lighter = prefix.len() * size + (weight - 1) * kept;
+    let to = lighter + kept + size;
+    let moves = classes.moves(row, c);
+    for j in 0..kept {
+        counts[to + j] += counts[lighter + usize::from(moves[j])];
     }
 }

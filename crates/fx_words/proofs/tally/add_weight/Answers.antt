@@ -1,43 +1,36 @@
-use Rattle.std.proofs.Common.{◌≡◌, ◌<◌, ◌+◌, ◌*◌, ◌^◌, ◌++◌, ◌∷◌, [], ◌∙◌, ℕ, List, set, subst, sym, ap, arith}
-use Rattle.fx_designs.specs.Vectors.{vectors_of}
-use Rattle.fx_points.specs.Sums.{SumsView}
+use Rattle.std.proofs.Common.{◌≡◌, ◌+◌, ◌∙◌, ℕ, List, length, slice_index, subst, sym, ap, arith}
+use Rattle.fx_laws.proofs.Tables.{is_order-field}
 use Rattle.fx_vectors.specs.declared.shape.Shape.{Shape}
-use Rattle.fx_words.specs.Spreads.{spread}
+use Rattle.fx_vectors.specs.Matrix.{IsMatrix}
+use Rattle.fx_words.specs.Spreads.{so_far}
 use Rattle.fx_words.specs.Tables.{AreAdded}
-use Rattle.fx_words.proofs.Counts.{add_at, place_at}
+use Rattle.fx_words.proofs.Counts.{weight_done}
+use Rattle.fx_words.proofs.Levels.{so_far-all, so_far-one, spread-none}
+use Rattle.fx_words.proofs.Steps.{runs_in_shape}
 use Rattle.fx_words.proofs.tally.add_weight.Goals as goal
 
-pub bounds-counts-to : goal.bounds-counts-to
-bounds-counts-to c =
+pub returns-then-weight-eq0 : goal.returns-then-weight-eq0
+returns-then-weight-eq0 c =
     let s : Shape = c.args.prefix.now.shape in
-    let v : SumsView = c.args.differences.now in
-    let size : ℕ = c.level_size-size.result in
-    let es : size ≡ (s.s + 1) * s.q ^ s.m = c.level_size-size.ensures.size ∙ ap (λ (z : Shape). (z.s + 1) * z.q ^ z.m) c.shape.ensures.shape in
-    let er : c.from.result ≡ s.q ^ s.m = c.from.ensures ∙ c.size-runs.ensures ∙ ap (λ k. k ^ v.m) c.requires.differences.levels ∙ ap (λ k. s.q ^ k) c.requires.differences.indexes in
-    let low : c.from-in-loop-sum.result < c.from.result = omega (arith, c.from-in-loop-sum.ensures, c.from.ensures, c.loop-sum-test.true) in
-    let there = place_at s c.args.prefix.now.rows c.loop-sum.counts c.loop-sum.invariant.before c.requires.room c.args.weight c.from-in-loop-sum.result c.from.result (c.len.result * size + size) size er es c.requires.weight low
-    (ap (λ k. k * size + size) c.len.ensures.count) in
-    omega (arith, there)
-
-pub loop-sum-preserved : goal.loop-sum-preserved
-loop-sum-preserved c =
-    let s : Shape = c.args.prefix.now.shape in
+    let points : List ℕ = c.args.classes.now.points in
     let rows : List ℕ = c.args.prefix.now.rows in
-    let v : SumsView = c.args.differences.now in
-    let size : ℕ = c.level_size-size.result in
-    let n : ℕ = s.q ^ s.m in
-    let x : ℕ = c.from-in-loop-sum.result in
-    let w : ℕ = c.args.weight in
-    let to : ℕ = c.len.result * size + size in
-    let es : size ≡ (s.s + 1) * n = c.level_size-size.ensures.size ∙ ap (λ (z : Shape). (z.s + 1) * z.q ^ z.m) c.shape.ensures.shape in
-    let er : c.from.result ≡ n = c.from.ensures ∙ c.size-runs.ensures ∙ ap (λ k. k ^ v.m) c.requires.differences.levels ∙ ap (λ k. s.q ^ k) c.requires.differences.indexes in
-    let sum : x ≡ c.loop-sum.sum = c.from-in-loop-sum.ensures in
-    let low : x < c.from.result = omega (arith, sum, c.from.ensures, c.loop-sum-test.true) in
-    let done : w * n + c.loop-sum.sum ≡ w * c.from.result + x = ap (λ k. w * k + c.loop-sum.sum) (sym er) ∙ ap (λ k. w * c.from.result + k) (sym sum) in
-    let now : AreAdded s rows c.args.row c.loop-sum.counts (w * c.from.result + x) = subst (AreAdded s rows c.args.row c.loop-sum.counts) done c.loop-sum.invariant in
-    let more = add_at s rows c.loop-sum.counts c.args.row w x c.from.result to size c.count_with-count.result now c.requires.room er es c.requires.weight low (ap (λ k. k * size + size) c.len.ensures.count)
-    (c.count_with-count.ensures ∙ ap (spread s.q s.m (vectors_of s.q s.m (rows ++ c.args.row ∷ [])) w) (sym sum)) in
-    let place : to + (w * c.from.result + x) ≡ to + w * c.from.result + x = omega arith in
-    let next : w * c.from.result + x + 1 ≡ w * n + (c.loop-sum.sum + 1) = let e = done in omega (arith, e) in
-    subst (λ k. AreAdded s rows c.args.row (set c.loop-sum.counts k c.count_with-count.result) (w * n + (c.loop-sum.sum + 1))) place
-    (subst (AreAdded s rows c.args.row (set c.loop-sum.counts (to + (w * c.from.result + x)) c.count_with-count.result)) next more)
+    let valid : IsMatrix s rows = c.shape-shape.ensures.valid in
+    let f = is_order-field s.q valid.shaped.order in
+    let none : c.args.weight ≡ 0 = c.if-weight-eq0.true in
+    subst (λ k. AreAdded s points rows c.args.row c.add_zeros.new.counts (k + 1) 0 0 0) (sym none)
+    (weight_done s points rows c.args.row c.add_zeros.new.counts 0 1 0 (length points) c.add_zeros.ensures (omega arith)
+    (λ j low. so_far-one s.q s.m rows c.args.row 0 (slice_index points j) ∙ spread-none s.q s.m f rows c.args.row 0 (slice_index points j) (omega arith)
+    (let below = c.len-kept.ensures.below j low in omega (arith, below, runs_in_shape s c.args.classes.now c.requires.classes))))
+
+pub returns : goal.returns
+returns c =
+    let s : Shape = c.args.prefix.now.shape in
+    let points : List ℕ = c.args.classes.now.points in
+    let rows : List ℕ = c.args.prefix.now.rows in
+    let valid : IsMatrix s rows = c.shape-shape.ensures.valid in
+    let f = is_order-field s.q valid.shaped.order in
+    let q : c.shape-shape.result.q ≡ s.q = ap (λ (z : Shape). z.q) c.shape-shape.ensures.shape in
+    let end : c.loop-c.c ≡ s.q = omega (arith, q, f.more_than_one, c.loop-c.auto.c, c.loop-c.auto.c-end, c.loop-c-test.false) in
+    weight_done s points rows c.args.row c.loop-c.counts c.args.weight c.loop-c.c 0 (length points) c.loop-c.invariant (omega arith)
+    (λ j low. ap (λ k. so_far s.q s.m rows c.args.row c.args.weight (slice_index points j) k) end ∙ so_far-all s.q s.m f rows c.args.row c.args.weight (slice_index points j)
+    (let below = c.len-kept.ensures.below j low in omega (arith, below, runs_in_shape s c.args.classes.now c.requires.classes)))
