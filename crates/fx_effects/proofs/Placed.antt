@@ -1,21 +1,19 @@
 -- The effects of a MODEL statement are refused by a rule, at the place of one of its words or numbers.
-use Rattle.std.proofs.Common.{◌≡◌, ℕ, ◌*◌, ◌+◌, Bool, true, false, not, List, [], ◌∷◌, ◌++◌, length, take, drop, Option, Some, None, Result, Ok, Err, refl}
-use Rattle.std.specs.Prelude.{nat_le, count_ones, IfSome, slice_get, ◌==◌, if◌then◌else◌}
+use Rattle.std.proofs.Common.{ℕ, Bool, false, not, List, [], ◌∷◌, ◌++◌, length, take, drop, Option, Some, None, refl}
+use Rattle.std.specs.Prelude.{nat_le, count_ones, IfSome, slice_get, ◌==◌}
 use Rattle.std.specs.List.{list_any}
 use Rattle.fx_language.specs.declared.symbol.Symbol.TheVariants as symbol
 use Rattle.fx_language.specs.Symbols.{is, is_word}
 use Rattle.fx_vectors.specs.Effects.{pair_count}
-use Rattle.fx_text.specs.declared.refusal.Refusal.{Refusal}
 use Rattle.fx_text.specs.Written.{Written}
 use Rattle.fx_text.specs.Names.{place_of}
 use Rattle.fx_text.specs.Numbers.{number_of}
 use Rattle.fx_text.specs.Phrases.{after, before}
 use Rattle.fx_text.specs.Ranges.{is_range, names_between, range_end}
-use Rattle.fx_text.specs.Refusals.{refusal_at, ◌>>=◌}
 use Rattle.fx_effects.specs.Factors.{main_of, mains_from}
-use Rattle.fx_effects.specs.Expressions.{Expression, Reading, stars_of, with_name, read, all_read, stars_len, at_most, upto_of, expression, bars_at, range_at, by_last, expression_at, is_joining, begins_effect, effect_len, expressions_from, expressions_of}
+use Rattle.fx_effects.specs.Expressions.{Expression, Reading, stars_of, read, all_read, stars_len, at_most, upto_of, bars_at, range_at, by_last, expression_at, is_joining, begins_effect, effect_len, expressions_from, expressions_of}
 use Rattle.fx_effects.specs.Lists.{effects_of, few_effects}
-use Rattle.fx_effects.specs.Models.{EffectLists, without, told_apart, check_some_effects, first_or, lists_at, lists_after, by_word, lists_of}
+use Rattle.fx_effects.specs.Models.{without, told_apart, check_some_effects, first_or, lists_at, by_word, lists_of}
 use Rattle.fx_text.proofs.Placed as placed
 use Rattle.fx_text.proofs.Placed.{IsPlaced, ArePlaced, Placed}
 

@@ -1,13 +1,11 @@
 -- A FACTORS statement is refused by a rule, at the place of one of its words.
-use Rattle.std.proofs.Common.{ℕ, ◌+◌, Bool, true, false, ◌||◌, not, List, [], ◌∷◌, ◌++◌, length, Option, Some, None, Result, Ok, Err, refl}
+use Rattle.std.proofs.Common.{ℕ, ◌+◌, Bool, true, false, ◌||◌, not, List, [], ◌∷◌, length, refl}
 use Rattle.std.specs.Prelude.{nat_lt, if◌then◌else◌}
 use Rattle.std.specs.List.{AllByRecursion}
 use Rattle.fx_language.specs.declared.symbol.Symbol.TheVariants.{Minus, Slash}
 use Rattle.fx_language.specs.Symbols.{is}
 use Rattle.fx_text.specs.Written.{Written}
 use Rattle.fx_text.specs.Ranges.{range_end}
-use Rattle.fx_text.specs.Refusals.{refusal_at}
-use Rattle.fx_language.specs.Refusals.{is_rule}
 use Rattle.fx_factors.specs.Items.{Item, item, items_from, items_of, is_regular, names_of}
 use Rattle.fx_factors.specs.Factors.{are_known, added, all_added, factors_of}
 use Rattle.fx_text.proofs.Placed as placed

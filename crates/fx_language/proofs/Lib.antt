@@ -8,3 +8,8 @@ pub mod Prefixes
 mod SameTexts
 mod Table
 pub mod Rules
+pub mod Named
+pub mod Codes
+pub mod Unknown
+pub mod Lacking
+pub mod LeftOut

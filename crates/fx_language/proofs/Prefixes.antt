@@ -12,13 +12,13 @@ use Rattle.fx_language.proofs.Derivatives.{after_sound, after_complete}
 use Rattle.fx_language.proofs.Solid.{is_solid, inhabited, after_fine, not_never}
 use Rattle.fx_language.proofs.Ends.{ends_last, ends_after, empty_after_end}
 
-begins_more : (a : Shape) (s : Symbol) (text : List Symbol) → Begins (after s a) text → Begins a (s ∷ text)
+pub begins_more : (a : Shape) (s : Symbol) (text : List Symbol) → Begins (after s a) text → Begins a (s ∷ text)
 begins_more a s text h = (h.0, after_sound s a (text ++ h.0) h.1)
 
-begins_less : (a : Shape) (s : Symbol) (text : List Symbol) → Begins a (s ∷ text) → Begins (after s a) text
+pub begins_less : (a : Shape) (s : Symbol) (text : List Symbol) → Begins a (s ∷ text) → Begins (after s a) text
 begins_less a s text h = (h.0, after_complete s a (text ++ h.0) h.1)
 
-no_text : (a : Shape) (text : List Symbol) → a ≡ Never → Begins a text → ⊥
+pub no_text : (a : Shape) (text : List Symbol) → a ≡ Never → Begins a text → ⊥
 no_text a text e h = subst (λ (x : Shape). Matches x (text ++ h.0)) e h.1
 
 at_first : (a : Shape) (s : Symbol) (text : List Symbol) → is_solid a ≡ true → after s a ≡ Never

@@ -1,8 +1,12 @@
 //! What the grammar refuses and accepts, without a word on how a symbol is judged.
-ghost use Rattle.std.specs.Prelude.{◌↔◌, ◌∷◌, ℕ, List};
+ghost use Rattle.std.specs.Prelude.{◌≡◌, ◌⊎◌, ◌↔◌, ◌∷◌, ℕ, true, Some, List, take, get_or};
 ghost use Rattle.fx_language.specs.declared.symbol.Symbol.{Symbol};
 ghost use Rattle.fx_language.specs.Shapes.{Shape, Before, Matches, after, ◌▸◌};
-ghost use Rattle.fx_language.specs.Laws.{AcceptsPrograms, HasSameTexts, RefusesTheFirst};
+ghost use Rattle.fx_language.specs.declared.symbol.Symbol.TheVariants.{End};
+ghost use Rattle.fx_language.specs.Grammar.{program};
+ghost use Rattle.fx_language.specs.Refusals.{refused};
+ghost use Rattle.fx_language.specs.Symbols.{is_word};
+ghost use Rattle.fx_language.specs.Laws.{AcceptsPrograms, AwaitsStatement, HasItsCode, HasSameTexts, IsLeftOut, Names, RefusesTheFirst, ended};
 
 /// The symbol that the grammar refuses is exactly the first with which the text begins no program.
 pub fn refused_is_the_first()
@@ -29,4 +33,22 @@ pub fn sequence_is_one_before_another()
 pub fn after_is_what_follows()
     ensures { (s : Symbol) (a : Shape) (text : List Symbol)
         → Matches (after s a) text ↔ Matches a (s ∷ text) }
+{}
+
+/// A symbol that the grammar refuses has the code that the grammar names for it there. Where it names
+/// none, the code is 3 for a word in the place of an option, and else 2.
+pub fn refused_by_its_code()
+    ensures { (symbols : List Symbol) (code i : ℕ) → refused 0 program symbols ≡ Some (code, i)
+        → HasItsCode program (take i symbols) (get_or (ended symbols) i End) code }
+{}
+
+/// The grammar names 1 for a word alone, where the word of a statement or the procedure that PROC calls
+/// is awaited; 24 for what is left out of the language alone; and no other code.
+pub fn named_codes_in_words()
+    ensures unknown { (text : List Symbol) (s : Symbol) → Names 1 program text s
+        → (is_word s ≡ true) × AwaitsStatement text }
+    ensures left_out { (text : List Symbol) (s : Symbol) → Names 24 program text s
+        → IsLeftOut text s }
+    ensures no_other { (code : ℕ) (text : List Symbol) (s : Symbol) → Names code program text s
+        → (code ≡ 1) ⊎ (code ≡ 24) }
 {}

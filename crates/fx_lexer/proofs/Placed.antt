@@ -1,13 +1,13 @@
 -- The tokens of a text and its first fault are at places of the text.
-use Rattle.std.proofs.Common.{◌≡◌, ℕ, true, List, [], ◌∷◌, ◌++◌, length, Option, Some, None, Result, Ok, Err, refl, sym, ap, subst, ◌∙◌, append_assoc}
+use Rattle.std.proofs.Common.{◌≡◌, ℕ, true, List, [], ◌∷◌, ◌++◌, length, Option, Some, None, Ok, Err, refl, sym, ap, subst, ◌∙◌, append_assoc}
 use Rattle.std.specs.List.{AllByRecursion}
 use Rattle.fx_lexer.specs.declared.token.Token.{Token}
 use Rattle.fx_lexer.specs.declared.token.Kind.{Kind}
 use Rattle.fx_lexer.specs.declared.token.LexFault.{LexFault}
 use Rattle.fx_lexer.specs.Places.{place_after, IsPlaceIn}
 use Rattle.fx_lexer.specs.Lexing.{tokens_of_kind, lexed}
-use Rattle.fx_lexer.specs.Pieces.{Piece, spelling, kind_of, text_of, tokens_among, IsMadeOf, word, whole, white, comment, remark, decimal, quoted, sign}
-use Rattle.fx_lexer.specs.Flaws.{Flaw, open_comment, open_remark, open_quoted, stray, long_piece, flaw_text, fault_kind, BreaksOff, is_lexical_rule, IsByLexicalRule}
+use Rattle.fx_lexer.specs.Pieces.{Piece, spelling, kind_of, text_of, tokens_among, word, whole, white, comment, remark, decimal, quoted, sign}
+use Rattle.fx_lexer.specs.Flaws.{Flaw, open_comment, open_remark, open_quoted, stray, long_piece, flaw_text, fault_kind, is_lexical_rule, IsByLexicalRule}
 use Rattle.fx_lexer.proofs.PiecesOfText.{made_of, breaks_off}
 
 pub joined : (pieces : List Piece) (rest : List ℕ) → text_of pieces rest ≡ text_of pieces [] ++ rest

@@ -1,15 +1,14 @@
 -- The settings of a step are refused by a rule, at the place of a word or number of the step.
-use Rattle.std.proofs.Common.{◌≡◌, ℕ, ◌-◌, ◌^◌, zero, suc, Bool, true, false, ◌&&◌, ◌||◌, List, [], ◌∷◌, length, drop, Option, Some, None, Result, Ok, Err, refl}
+use Rattle.std.proofs.Common.{◌≡◌, ℕ, ◌-◌, ◌^◌, Bool, true, false, ◌&&◌, ◌||◌, List, [], ◌∷◌, length, drop, Option, Some, None, Ok, refl}
 use Rattle.std.specs.Prelude.{nat_le, nat_lt, IfSome, slice_get, if◌then◌else◌}
 use Rattle.std.specs.Option.{option_map, option_and_then}
 use Rattle.fx_language.specs.declared.symbol.Symbol.{Symbol}
 use Rattle.fx_language.specs.declared.symbol.Symbol.TheVariants as symbol
 use Rattle.fx_language.specs.Symbols.{is}
 use Rattle.fx_lexer.specs.declared.place.Place.{Place}
-use Rattle.fx_text.specs.declared.refusal.Refusal.{Refusal}
 use Rattle.fx_text.specs.Written.{Written, begins}
 use Rattle.fx_text.specs.Phrases.{after, start_of}
-use Rattle.fx_text.specs.Refusals.{place_at, refused_at}
+use Rattle.fx_text.specs.Refusals.{place_at}
 use Rattle.fx_language.specs.Refusals.{is_rule}
 use Rattle.fx_text.specs.Statements.{statement_of}
 use Rattle.fx_settings.specs.declared.said.Value.{Value}
@@ -21,11 +20,9 @@ use Rattle.fx_settings.specs.declared.said.BlocksSaid.{BlocksSaid}
 use Rattle.fx_settings.specs.declared.said.BlocksWord.{BlocksWord}
 use Rattle.fx_settings.specs.declared.said.BlocksWord.TheVariants as blocks
 use Rattle.fx_settings.specs.declared.said.StepSaid.{StepSaid}
-use Rattle.fx_settings.specs.declared.settings.StepSettings.{StepSettings}
 use Rattle.fx_settings.specs.declared.settings.Unblocked.{Unblocked}
 use Rattle.fx_settings.specs.declared.settings.Size.{Size}
 use Rattle.fx_settings.specs.declared.settings.Criterion.{Criterion}
-use Rattle.fx_settings.specs.declared.settings.Blocks.{Blocks}
 use Rattle.fx_settings.specs.Powers.{exponent}
 use Rattle.fx_settings.specs.Said.{value_at, value_of, first_place, last_place, size_word, blocks_word, size_said, resolution_said, model_said, blocks_said, step_said}
 use Rattle.fx_settings.specs.Sizes.{passed, by_design, by_fraction, run_factors, runs_at, size_by, size_of}

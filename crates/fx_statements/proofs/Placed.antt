@@ -1,21 +1,20 @@
 -- A text that is no program is refused by a rule, at a place of the text.
-use Rattle.std.proofs.Common.{◌≡◌, ℕ, zero, suc, ◌+◌, Bool, true, false, List, [], ◌∷◌, ◌++◌, length, Option, Some, None, Result, Ok, Err, refl, sym, append-nil}
+use Rattle.std.proofs.Common.{◌≡◌, ℕ, zero, suc, Bool, true, false, List, [], ◌∷◌, ◌++◌, length, Option, Some, None, refl, sym, append-nil}
 use Rattle.std.specs.Prelude.{IfSome, nat_lt, min, slice_get, if◌then◌else◌}
 use Rattle.std.specs.List.{AllByRecursion}
 use Rattle.fx_designs.specs.Components.{listed_count}
 use Rattle.fx_lexer.specs.declared.place.Place.{Place}
 use Rattle.fx_lexer.specs.declared.token.Token.{Token}
-use Rattle.fx_lexer.specs.Places.{line_after, column_after, IsPlaceIn}
+use Rattle.fx_lexer.specs.Places.{IsPlaceIn}
 use Rattle.fx_language.specs.declared.symbol.Symbol.TheVariants as symbol
 use Rattle.fx_language.specs.Keywords.{symbols_of}
 use Rattle.fx_language.specs.Refusals.{is_rule}
 use Rattle.fx_syntax.specs.Refusals.{first_refusal}
 use Rattle.fx_syntax.proofs.Rules.{first_by_a_rule}
-use Rattle.fx_text.specs.declared.refusal.Refusal.{Refusal}
-use Rattle.fx_text.specs.Written.{Written, begins, written_at, written}
+use Rattle.fx_text.specs.Written.{Written, begins, written}
 use Rattle.fx_text.specs.Phrases.{start_of}
 use Rattle.fx_text.specs.Statements.{statements_of, steps_of, statement_of}
-use Rattle.fx_text.specs.Refusals.{place_at, refused_at, IsByRule, ◌>>=◌}
+use Rattle.fx_text.specs.Refusals.{place_at}
 use Rattle.fx_settings.specs.declared.settings.Criterion.{Criterion}
 use Rattle.fx_settings.specs.declared.settings.Criterion.TheVariants as criterion
 use Rattle.fx_settings.specs.declared.said.StepSaid.{StepSaid}
@@ -28,7 +27,7 @@ use Rattle.fx_statements.specs.Contexts.{context}
 use Rattle.fx_statements.specs.Goals.{Goal, effects_in, effects_wanted, goal_by}
 use Rattle.fx_statements.specs.Components.{listed_factors, is_for_components, first_components, components_asked, place_or, components_place, check_components}
 use Rattle.fx_statements.specs.Steps.{Meaning, factor_limit, some_factors, factors_by, head_of, asked_by, step_by, step_of}
-use Rattle.fx_statements.specs.Programs.{steps_behind, meaning_of_all, place_in, accepted, program_of}
+use Rattle.fx_statements.specs.Programs.{steps_behind, place_in, accepted, program_of}
 use Rattle.fx_text.proofs.Placed as placed
 use Rattle.fx_text.proofs.Placed.{IsPlaced, ArePlaced, AreAllPlaced, Placed}
 use Rattle.fx_factors.proofs.Placed as factors

@@ -1,5 +1,5 @@
 -- Refusals by a rule, at the places of what is written.
-use Rattle.std.proofs.Common.{◌≡◌, ℕ, zero, suc, Bool, true, false, List, [], ◌∷◌, ◌++◌, take, drop, Option, Some, None, Result, Ok, Err, refl}
+use Rattle.std.proofs.Common.{◌≡◌, ℕ, zero, suc, Bool, true, false, List, [], ◌∷◌, take, drop, Some, None, Result, Ok, Err}
 use Rattle.std.specs.Prelude.{IfErr, IfSome, slice_get, if◌then◌else◌}
 use Rattle.std.specs.List.{AllByRecursion}
 use Rattle.fx_language.specs.declared.symbol.Symbol.{Symbol}
@@ -11,7 +11,7 @@ use Rattle.fx_text.specs.Written.{Written, begins}
 use Rattle.fx_text.specs.Phrases.{start_of, before, after}
 use Rattle.fx_text.specs.Ranges.{first_of, range_end}
 use Rattle.fx_text.specs.Statements.{in_front, statements_of, rest_of_step, steps_of, statement_of}
-use Rattle.fx_text.specs.Refusals.{place_at, refused_at, refusal_at, IsByRule, ◌>>=◌}
+use Rattle.fx_text.specs.Refusals.{refused_at, refusal_at, IsByRule, ◌>>=◌}
 use Rattle.fx_language.specs.Refusals.{is_rule}
 
 -- what is written is at these places
