@@ -84,12 +84,12 @@ class Run:
             source.seek(0)
             start = time.perf_counter()
             child = subprocess.Popen([program, "run"], stdin=source, stdout=listing, stderr=subprocess.DEVNULL)
-            self.ended, status, usage = wait(child, start + limit)
+            self.ended, status, peak = wait(child, start + limit)
             self.seconds = time.perf_counter() - start
             listing.seek(0)
             found = re.search(rb"^nodes (\d+)", listing.read(), re.M)
         self.status = os.waitstatus_to_exitcode(status)
-        self.megabytes = usage.ru_maxrss / 1024
+        self.megabytes = peak / 1024
         budget = re.search(r"nodes=(\d+)", self.text)
         self.nodes = int(found.group(1)) if found else int(budget.group(1)) if budget else DEFAULT_NODES
         if self.status == 3:
@@ -111,17 +111,30 @@ class Run:
 
 
 def wait(child, deadline):
-    """Waits for the child, and kills it at the deadline. Returns whether it ended, its status and what it used."""
+    """Waits for the child, and kills it at the deadline. Returns whether it ended, its status and its peak memory in KB,
+    read while it ran: what the system keeps at its end counts the memory of this script, from which it was started."""
+    peak = 0
     while time.perf_counter() < deadline:
-        pid, status, usage = os.wait4(child.pid, os.WNOHANG)
+        peak = peak_memory(child.pid) or peak
+        pid, status = os.waitpid(child.pid, os.WNOHANG)
         if pid:
             child.returncode = 0
-            return True, status, usage
+            return True, status, peak
         time.sleep(0.0005)
     child.kill()
-    _, status, usage = os.wait4(child.pid, 0)
+    _, status = os.waitpid(child.pid, 0)
     child.returncode = 0
-    return False, status, usage
+    return False, status, peak
+
+
+def peak_memory(pid):
+    """The most memory that a running process has had, in KB, or None."""
+    try:
+        with open(f"/proc/{pid}/status") as status:
+            found = re.search(r"VmHWM:\s+(\d+)", status.read())
+    except OSError:
+        return None
+    return int(found.group(1)) if found else None
 
 
 def report(runs):

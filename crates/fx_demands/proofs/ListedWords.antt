@@ -1,18 +1,18 @@
 -- Without blocks the forbidden words are the forbidden vectors over the factors.
-use Rattle.std.proofs.Common.{ℕ, ◌≡◌, ◌<◌, ◌≤◌, ◌+◌, ◌^◌, ◌∙◌, zero, suc, Bool, true, cond, List, [], ◌∷◌, map, take, drop, length, refl, sym, subst, ap, arith, IsTrue}
+use Rattle.std.proofs.Common.{ℕ, ◌≡◌, ◌<◌, ◌≤◌, ◌+◌, ◌^◌, ◌∙◌, zero, suc, List, [], ◌∷◌, map, take, drop, length, refl, sym, subst, ap, arith, IsTrue}
 use Rattle.std.specs.Prelude.{All, Any, Contains, slice_index_or}
 use Rattle.std.proofs.Math.ListN.{drop_of_length-le}
 use Rattle.std.proofs.lemmas.List.Elements.{All-contains, All-from_recursion, Contains-get_or, recursion_from_All}
 use Rattle.fx_designs.specs.Galois.{number, IsField, is_order}
-use Rattle.fx_designs.specs.Vectors.{IsVector, is_normal, is_zero}
+use Rattle.fx_designs.specs.Vectors.{IsVector}
 use Rattle.fx_designs.specs.Problems.{Dimensions, Requirement}
-use Rattle.fx_designs.specs.Demands.{is_forbidden_word, must_balance, is_estimated}
+use Rattle.fx_designs.specs.Demands.{is_forbidden_word, must_balance}
 use Rattle.fx_laws.proofs.Codes.{number-below}
 use Rattle.fx_laws.proofs.Ranks.{number-same}
 use Rattle.fx_vectors.proofs.Limits.{numbers_fit, order-bounds}
 use Rattle.fx_demands.specs.declared.forbidden_list.ForbiddenVector.{ForbiddenVector}
 use Rattle.fx_demands.specs.EffectVectors.{IsForbidden}
-use Rattle.fx_demands.specs.Words.{weighed, IsNumbered, IsListed}
+use Rattle.fx_demands.specs.Words.{weighed, IsListed}
 use Rattle.fx_demands.proofs.EffectVectors.{each-map, each-as}
 
 whole : (n : ℕ) (v : List ℕ) → length v ≤ n → take n v ≡ v

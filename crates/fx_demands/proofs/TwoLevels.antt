@@ -1,7 +1,7 @@
 -- At two levels an effect has one vector, whose number is the effect, and a difference is an exclusive or.
 use Rattle.std.proofs.Common.{ℕ, ◌≡◌, ◌<◌, ◌+◌, ◌/◌, ◌%◌, ◌^◌, ◌⊎◌, zero, suc, Bool, true, false, cond, eqb, List, [], ◌∷◌, ◌++◌, map, filter, length, refl, sym, subst, ◌∙◌, ap, arith, inl, inr, bit_xor}
-use Rattle.std.specs.Prelude.{All, Contains, slice_index_or}
-use Rattle.std.specs.List.{AllByRecursion, flat_map, range_with_len}
+use Rattle.std.specs.Prelude.{Contains, slice_index_or}
+use Rattle.std.specs.List.{AllByRecursion, range_with_len}
 use Rattle.std.proofs.lemmas.Bool.{cases_eq, eq-eqb, eqb-true, both_ways}
 use Rattle.std.proofs.lemmas.List.{map-append}
 use Rattle.std.proofs.lemmas.List.Elements.{filter-append}
@@ -12,7 +12,7 @@ use Rattle.fx_laws.proofs.Codes.{digits-vector, digits-number}
 use Rattle.fx_laws.proofs.Order.{each-append}
 use Rattle.fx_laws.proofs.Space.{plus-vector, scale-vector}
 use Rattle.fx_demands.specs.declared.forbidden_list.ForbiddenVector.{ForbiddenVector}
-use Rattle.fx_demands.specs.EffectVectors.{codes_at, with_codes, vectors_to, vectors_of_all, ranked, differences_from, differences, all_differences}
+use Rattle.fx_demands.specs.EffectVectors.{codes_at, with_codes, vectors_to, vectors_of_all, ranked, differences, all_differences}
 use Rattle.fx_demands.specs.TwoLevels.{exclusive_ors, all_exclusive_ors, ranked_numbers}
 use Rattle.fx_demands.proofs.Digits.{sum_xor}
 use Rattle.fx_demands.proofs.EffectVectors.{each-map, each-flat, each-as}

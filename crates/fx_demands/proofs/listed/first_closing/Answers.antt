@@ -1,16 +1,14 @@
 use Rattle.std.proofs.Common.{ℕ, ◌≡◌, ◌<◌, ◌+◌, ◌^◌, ◌∙◌, List, [], length, arith, sym, subst, ap, not}
 use Rattle.std.specs.Prelude.{slice_index_or}
 use Rattle.fx_designs.specs.Galois.{IsField, number, digits}
-use Rattle.fx_designs.specs.Vectors.{IsVector}
-use Rattle.fx_designs.specs.Problems.{Dimensions, Requirement}
+use Rattle.fx_designs.specs.Problems.{Dimensions}
 use Rattle.fx_designs.specs.Closing.{is_zero_sum}
 use Rattle.fx_laws.proofs.Codes.{digits-number, number-below}
 use Rattle.fx_laws.proofs.Tables.{is_order-field}
 use Rattle.fx_vectors.specs.Shape.{dimensions_of}
-use Rattle.fx_vectors.specs.Question.{CanBeAsked}
 use Rattle.fx_vectors.specs.declared.shape.Shape.{Shape}
 use Rattle.fx_demands.specs.declared.forbidden_list.ForbiddenVector.{ForbiddenVector}
-use Rattle.fx_demands.specs.Words.{IsNumbered, AreAllWords}
+use Rattle.fx_demands.specs.Words.{IsNumbered}
 use Rattle.fx_demands.proofs.Choice.{word_is, no_word, not_allowed, allowed}
 use Rattle.fx_demands.proofs.ZeroSums.{AreOpen, closing-of, none_closes, greatest_at, heavy_at, same_at}
 use Rattle.fx_demands.proofs.listed.first_closing.Goals as goal

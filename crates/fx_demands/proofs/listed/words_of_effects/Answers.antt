@@ -1,4 +1,4 @@
-use Rattle.std.proofs.Common.{ℕ, ◌≡◌, ◌<◌, ◌∙◌, ◌^◌, List, length, map, refl, sym, subst, ap, arith, ◌+◌}
+use Rattle.std.proofs.Common.{ℕ, ◌≡◌, ◌∙◌, List, map, refl, sym, subst, ap, arith, ◌+◌}
 use Rattle.std.specs.Prelude.{All, Contains, slice_index_or}
 use Rattle.std.proofs.lemmas.List.Elements.{All-contains, Contains-get_or}
 use Rattle.fx_designs.specs.Galois.{IsField}
