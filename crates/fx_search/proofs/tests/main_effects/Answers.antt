@@ -8,6 +8,7 @@ use Rattle.std.proofs.Math.Nat.{pow-le-pow_right}
 use Rattle.fx_designs.specs.Galois.{is_order}
 use Rattle.fx_vectors.specs.Effects.{factors_of, numbers_of, pair_count}
 use Rattle.fx_vectors.specs.Question.{CanBeTold, IsValid}
+use Rattle.fx_vectors.specs.declared.shape.Shape.{Shape}
 use Rattle.fx_vectors.specs.Shape.{IsShape}
 use Rattle.fx_vectors.specs.declared.effect.Effect.{Effect}
 use Rattle.fx_vectors.specs.declared.question.Demands.TheVariants.{Effects}
@@ -59,11 +60,9 @@ askable q s two pairs =
       pairs = pairs;
     }
 
-valid : (q m s t : ℕ) (estimate others : List Effect) → IsShape (record { q = q; m = m; s = s; t = t }) → 2 ≤ s → pair_count q (1 ∷ 2 ∷ []) [] ≤ 2000000 → numbers_of estimate ≡ 1 ∷ 2 ∷ [] → numbers_of others ≡ [] → IsValid (record { shape = record { q = q; m = m; s = s; t = t }; demands = Effects estimate others; least = false })
-valid q m s t estimate others shaped two pairs e o = record { shaped = shaped; asked = rw (e, o) (askable q s two pairs); least = λ h. absurd (cc) }
+valid : (shape : Shape) (estimate others : List Effect) → IsShape shape → 2 ≤ shape.s → pair_count shape.q (1 ∷ 2 ∷ []) [] ≤ 2000000 → numbers_of estimate ≡ 1 ∷ 2 ∷ [] → numbers_of others ≡ [] → IsValid (record { shape = shape; demands = Effects estimate others; least = false })
+valid shape estimate others shaped two pairs e o = record { shaped = shaped; asked = rw (e, o) (askable shape.q shape.s two pairs); least = λ h. absurd (cc) }
 
 pub returns-clause-valid : goal.returns-clause-valid
 returns-clause-valid c =
-    valid c.args.q c.args.m c.args.s c.args.t c.in_ok-estimate.estimate c.new.result
-    (record { order = c.requires.levels; some_indexes = c.requires.indexes; runs = c.requires.runs; some_factors = omega (arith, c.requires.factors); factors = c.requires.factors.1; block_factors = c.requires.blocks; factors_in_blocks = c.requires.factors_in_blocks })
-    c.requires.factors.0 (few-pairs c.args.q c.requires.levels) (ap numbers_of c.in_ok-estimate.ensures) (ap numbers_of c.new.ensures)
+    valid c.args.shape c.in_ok-estimate.estimate c.new.result c.requires.shaped c.requires.factors (few-pairs c.args.shape.q c.requires.shaped.order) (ap numbers_of c.in_ok-estimate.ensures) (ap numbers_of c.new.ensures)
