@@ -113,15 +113,14 @@ by_the_outputs :
 unfolding given
 by_the_outputs = (refl, refl, refl, refl, refl, refl, refl, refl, refl)
 
--- refused: steps that are not run yet: files, blocks, the highest resolution and the least size
+-- refused: steps that are not run yet: blocks, the highest resolution and the least size
 by_what_is_built :
     (given (codes "proc factex; factors A B C; size design=8;") ≡ message (codes "factex: E0 1:1 not built yet\n") 3)
     × (given (codes "proc factex; factors A B C; model r=max;") ≡ message (codes "factex: E0 1:1 not built yet\n") 3)
     × (given (codes "proc factex; factors A B C; model r=3; size design=min;") ≡ message (codes "factex: E0 1:1 not built yet\n") 3)
     × (given (codes "proc factex; factors A B C; model r=3; blocks nblocks=2;") ≡ message (codes "factex: E0 1:1 not built yet\n") 3)
-    × (given (codes "proc factex; factors A B C; model r=3; output out=a;") ≡ message (codes "factex: E0 1:1 not built yet\n") 3)
 unfolding given
-by_what_is_built = (refl, refl, refl, refl, refl)
+by_what_is_built = (refl, refl, refl, refl)
 
 -- a third of three factors of three levels
 third_of_three_levels :

@@ -71,8 +71,9 @@ pub(crate) fn word_line(fault: WordFault) -> ArrayVec<u8, LINE>
     line
 }
 
-fn append(line: &mut ArrayVec<u8, LINE>, bytes: &[u8])
-    requires { length line.old.items + length bytes.now ≤ 128 }
+/// Appends bytes for which there is room.
+pub(crate) fn append<const N: usize>(line: &mut ArrayVec<u8, N>, bytes: &[u8])
+    requires { length line.old.items + length bytes.now ≤ N }
     ensures { line.new.items ≡ line.old.items ++ bytes.now }
 {
     for byte in bytes {
