@@ -464,6 +464,30 @@ fn is_message(listed: &[u8], message: &[u8]) -> bool {
     }
 }
 
+/// The seed of the command line is that of a plan that has none of its own.
+#[test]
+fn the_seed_of_the_words_shuffles(rt: HostRuntime) -> Result<(), Fail> {
+    let alloc = rt.alloc();
+    let text =
+        b"proc factex; factors A B; model r=3; output out=x randomize; output out=y randomize(7);";
+    for (word, plan) in [
+        ("--seed=0", "A,B\n-1,1\n-1,-1\n1,1\n1,-1\n"),
+        ("--seed=7", "A,B\n1,1\n-1,-1\n1,-1\n-1,1\n"),
+        (
+            "--seed=18446744073709551615",
+            "A,B\n1,-1\n1,1\n-1,-1\n-1,1\n",
+        ),
+    ] {
+        let mut words = run_words(alloc)?;
+        words.push(word.as_bytes().to_vec(alloc)?)?;
+        let (status, _listed, shelf) = planned(alloc, words.as_slice(), text, STEP, None)?;
+        assert_eq!(rt; status, 0);
+        assert!(rt; is_file(&shelf, 0, "x.csv", plan.as_bytes()));
+        assert!(rt; is_file(&shelf, 1, "y.csv", b"A,B\n1,1\n-1,-1\n1,-1\n-1,1\n"));
+    }
+    Ok(())
+}
+
 #[test]
 fn words_other_than_run_are_refused(rt: HostRuntime) -> Result<(), Fail> {
     let alloc = rt.alloc();
@@ -472,6 +496,11 @@ fn words_other_than_run_are_refused(rt: HostRuntime) -> Result<(), Fail> {
     two.push(b"x".to_vec(alloc)?)?;
     let mut capitals = Vec::new(alloc);
     capitals.push(b"RUN".to_vec(alloc)?)?;
+    let mut again = run_words(alloc)?;
+    again.push(b"--seed=1".to_vec(alloc)?)?;
+    again.push(b"--seed=2".to_vec(alloc)?)?;
+    let mut large = run_words(alloc)?;
+    large.push(b"--seed=18446744073709551616".to_vec(alloc)?)?;
     let mut other = Vec::new(alloc);
     other.push(b"x".to_vec(alloc)?)?;
     other.push(b"y".to_vec(alloc)?)?;
@@ -480,6 +509,8 @@ fn words_other_than_run_are_refused(rt: HostRuntime) -> Result<(), Fail> {
         (other, "C2 word 1"),
         (two, "C3 word 2"),
         (capitals, "C2 word 1"),
+        (again, "C5 word 3"),
+        (large, "C4 word 2"),
     ] {
         let ended = ran(alloc, words.as_slice(), HALF.as_bytes(), Some(1), None)?;
         assert_eq!(rt; ended.status, 3);
@@ -603,28 +634,22 @@ const PLANNED: [(&[u8], &[u8], &[(&str, &[u8])], u8); 6] = [
     ),
 ];
 
-/// The status of the word `run` for a text, its listing and its shelf, which takes `step` bytes in a
+/// The status of the words for a text, its listing and its shelf, which takes `step` bytes in a
 /// call and fails from this call on.
 fn planned(
     alloc: Global,
+    words: &[Vec<u8>],
     text: &[u8],
     step: usize,
     first_failed: Option<usize>,
 ) -> Result<(u8, Vec<u8>, MemoryShelf), Fail>
     requires { 0 < step }
 {
-    let words = run_words(alloc)?;
     let content = Bytes::from_vec(text.to_vec(alloc)?);
     let mut source = MemorySource::new(content, STEP, Bytes::new(alloc));
     let mut listing = MemorySink::new(alloc, STEP, 1000, Bytes::new(alloc))?;
     let mut shelf = MemoryShelf::new(alloc, step, 1000, calls_from(alloc, first_failed)?)?;
-    let status = factex(
-        alloc,
-        words.as_slice(),
-        &mut source,
-        &mut listing,
-        &mut shelf,
-    );
+    let status = factex(alloc, words, &mut source, &mut listing, &mut shelf);
     Ok((status, listing.bytes().to_vec(alloc)?, shelf))
 }
 
@@ -639,8 +664,9 @@ fn is_file(shelf: &MemoryShelf, i: usize, name: &str, content: &[u8]) -> bool {
 #[test]
 fn plans_are_shelved(rt: HostRuntime) -> Result<(), Fail> {
     let alloc = rt.alloc();
+    let words = run_words(alloc)?;
     for (text, listing, files, status) in PLANNED {
-        let (ended, listed, shelf) = planned(alloc, text, STEP, None)?;
+        let (ended, listed, shelf) = planned(alloc, words.as_slice(), text, STEP, None)?;
         assert_eq!(rt; ended, status);
         assert!(rt; listed.as_slice() == listing);
         assert_eq!(rt; shelf.files(), files.len());
@@ -657,15 +683,16 @@ fn plans_are_shelved(rt: HostRuntime) -> Result<(), Fail> {
 fn no_call_follows_a_failed_file(rt: HostRuntime) -> Result<(), Fail> {
     let alloc = rt.alloc();
     let text = b"proc factex; factors A; model r=3; output out=a;";
+    let words = run_words(alloc)?;
     for call in 1..5 {
-        let (status, listed, shelf) = planned(alloc, text, 4, Some(call))?;
+        let (status, listed, shelf) = planned(alloc, words.as_slice(), text, 4, Some(call))?;
         assert_eq!(rt; status, 4);
         assert_eq!(rt; shelf.faults(), 1);
         assert!(rt; listed.is_empty());
         assert_eq!(rt; shelf.files(), usize::from(call > 1));
         assert!(rt; !is_file(&shelf, 0, "a.csv", b"A\n-1\n1\n"));
     }
-    let (status, _listed, shelf) = planned(alloc, text, 4, Some(5))?;
+    let (status, _listed, shelf) = planned(alloc, words.as_slice(), text, 4, Some(5))?;
     assert_eq!(rt; status, 0);
     assert!(rt; is_file(&shelf, 0, "a.csv", b"A\n-1\n1\n"));
     Ok(())
