@@ -1,5 +1,5 @@
-//! Runs the example programs that it is given by name, and prints the listing and the status of each.
-//! The gate compares what it prints with `stdout`.
+//! Runs the example programs that it is given by name, and prints the listing, the files and the status
+//! of each. The gate compares what it prints with `stdout`.
 #![tactic(auto)]
 
 use fx_base::{Bytes, MemorySink, MemorySource, SureShelf};
@@ -8,11 +8,19 @@ use std::alloc::{AllocError, Global};
 use std::rt::{Env, Files};
 use std::{env, fs, io};
 
-/// How many bytes the source gives at a call, and the listing takes.
+/// How many bytes the source gives at a call, and the listing and the files take.
 const STEP: usize = 4096;
 
-/// How many bytes a listing has at most.
+/// How many bytes a listing has at most, and all files together.
 const ROOM: usize = 1048576;
+
+/// What an example came to.
+#[derive(Drop)]
+struct Ended {
+    status: u8,
+    listing: String,
+    shelf: SureShelf,
+}
 
 fn main(rt: HostRuntime) -> io::Result<()> {
     run_examples(&rt)
@@ -21,21 +29,33 @@ fn main(rt: HostRuntime) -> io::Result<()> {
 fn run_examples<R: Env + Files + Print + AllocGlobal>(rt: &R) -> io::Result<()> {
     for name in env::args(rt)?.skip(1) {
         let text = fs::read(rt, name.as_str())?;
-        let (status, listing) = ran(rt.alloc(), text)?;
+        let ended = ran(rt.alloc(), text)?;
         println!(rt; "== {name}")?;
-        rt.print(listing.as_str())?;
-        println!(rt; "status {status}")?;
+        rt.print(ended.listing.as_str())?;
+        print_files(rt, &ended.shelf)?;
+        println!(rt; "status {}", ended.status)?;
     }
     Ok(())
 }
 
-/// The status of the program under the word `run` for this text, and its listing.
-fn ran(alloc: Global, text: Vec<u8>) -> Result<(u8, String), AllocError> {
+/// Prints each file of the shelf, its name before it.
+fn print_files<R: Print + AllocGlobal>(rt: &R, shelf: &SureShelf) -> io::Result<()> {
+    for i in 0..shelf.files() {
+        let name = String::from_utf8_lossy(rt.alloc(), shelf.name(i))?;
+        let content = String::from_utf8_lossy(rt.alloc(), shelf.content(i))?;
+        println!(rt; "file {name}")?;
+        rt.print(content.as_str())?;
+    }
+    Ok(())
+}
+
+/// What the program under the word `run` comes to for this text.
+fn ran(alloc: Global, text: Vec<u8>) -> Result<Ended, AllocError> {
     let words = vec![in alloc; b"run".to_vec(alloc)?]?;
     let mut source = MemorySource::new(Bytes::from_vec(text), STEP, Bytes::new(alloc));
     let (Ok(mut listing), Ok(mut shelf)) = (
         MemorySink::new(alloc, STEP, ROOM, Bytes::new(alloc)),
-        SureShelf::new(alloc, 1, 0),
+        SureShelf::new(alloc, STEP, ROOM),
     ) else {
         return Err(AllocError);
     };
@@ -46,6 +66,10 @@ fn ran(alloc: Global, text: Vec<u8>) -> Result<(u8, String), AllocError> {
         &mut listing,
         &mut shelf,
     );
-    let lines = String::from_utf8_lossy(alloc, listing.bytes())?;
-    Ok((status, lines))
+    let listing = String::from_utf8_lossy(alloc, listing.bytes())?;
+    Ok(Ended {
+        status,
+        listing,
+        shelf,
+    })
 }

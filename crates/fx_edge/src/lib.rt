@@ -1,6 +1,9 @@
 //! The program over any reader and writer of the standard library, from the command line to the exit status.
 #![tactic(auto)]
 
+mod current_folder;
+mod folder;
+mod folder_shelf;
 mod input;
 mod output;
 mod running;
@@ -10,6 +13,9 @@ mod starting;
 mod tests;
 mod words;
 
+pub use current_folder::CurrentFolder;
+pub use folder::Folder;
+pub use folder_shelf::FolderShelf;
 pub use input::Input;
 pub use output::Output;
 pub use running::{Ran, run};

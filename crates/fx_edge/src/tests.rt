@@ -1,5 +1,8 @@
 use super::*;
 use fx_base::SureShelf;
+use std::alloc::Global;
+use std::env::Args;
+use std::fs;
 use std::test::Fail;
 
 const HALF: &str = "proc factex;\nfactors A B C D;\nsize design=8;\nmodel resolution=4;\nrun;\n";
@@ -7,21 +10,74 @@ const HALF: &str = "proc factex;\nfactors A B C D;\nsize design=8;\nmodel resolu
 const HALF_LISTING: &str =
     "step 1\nfactors 4 levels 2\ndesign 8 runs\nresolution 4\nnodes 4\nrules\n  D = A*B*C\n";
 
-#[test]
-fn runs_from_a_slice_to_a_vector(rt: HostRuntime) -> Result<(), Fail> {
-    let alloc = rt.alloc();
+const PLANNED: &str =
+    "proc factex; factors A B C; size design=4; model resolution=3; output out=Factex_Test C cvals=('lo,w' 'hi');";
+
+const PLAN: &str = "A,B,C\n-1,-1,\"lo,w\"\n-1,1,hi\n1,-1,hi\n1,1,\"lo,w\"\n";
+
+const BARRED: &str = "proc factex; factors A; model resolution=3; output out=Factex_Barred;";
+
+/// The command line `factex run`.
+fn run_args(alloc: Global) -> Result<Args, Fail> {
     let mut args = Vec::new(alloc);
     args.push(String::from_str(alloc, "factex")?)?;
     args.push(String::from_str(alloc, "run")?)?;
+    Ok(args.into_iter())
+}
+
+#[test]
+fn runs_from_a_slice_to_a_vector(rt: HostRuntime) -> Result<(), Fail> {
+    let alloc = rt.alloc();
     let mut shelf = SureShelf::new(alloc, 1, 0)?;
     let ran = start(
         alloc,
-        Ok(args.into_iter()),
+        Ok(run_args(alloc)?),
         HALF.as_bytes(),
         Vec::new(alloc),
         &mut shelf,
     );
     assert_eq!(rt; ran.status, 0);
     assert!(rt; ran.output.writer.as_slice() == HALF_LISTING.as_bytes());
+    Ok(())
+}
+
+/// The plan takes the place of a longer file of the same name.
+#[test]
+fn a_plan_is_written_to_the_folder(rt: HostRuntime) -> Result<(), Fail> {
+    let alloc = rt.alloc();
+    let args = run_args(alloc)?;
+    fs::write(&rt, "factex_test.csv", HALF_LISTING)?;
+    let mut shelf = FolderShelf::new(CurrentFolder::new(&rt));
+    let ran = start(
+        alloc,
+        Ok(args),
+        PLANNED.as_bytes(),
+        Vec::new(alloc),
+        &mut shelf,
+    );
+    let held = fs::read(&rt, "factex_test.csv")?;
+    fs::remove_file(&rt, "factex_test.csv")?;
+    assert_eq!(rt; ran.status, 0);
+    assert!(rt; held.as_slice() == PLAN.as_bytes());
+    Ok(())
+}
+
+/// A folder of the plan's name stands in the way.
+#[test]
+fn a_file_that_cannot_be_made_ends_the_run(rt: HostRuntime) -> Result<(), Fail> {
+    let alloc = rt.alloc();
+    let args = run_args(alloc)?;
+    fs::create_dir(&rt, "factex_barred.csv")?;
+    let mut shelf = FolderShelf::new(CurrentFolder::new(&rt));
+    let ran = start(
+        alloc,
+        Ok(args),
+        BARRED.as_bytes(),
+        Vec::new(alloc),
+        &mut shelf,
+    );
+    fs::remove_dir(&rt, "factex_barred.csv")?;
+    assert_eq!(rt; ran.status, 4);
+    assert!(rt; ran.output.writer.is_empty());
     Ok(())
 }

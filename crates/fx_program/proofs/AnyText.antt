@@ -104,9 +104,9 @@ some_named proc (name ∷ found) factors e = subst (λ (l : List (List ℕ)). 1 
 
 -- so that no design means that there is none at all
 none_at_all : (step : Meaning) → IsRead (step.settings, step.goal) → HasNoneAtAll step
-none_at_all step read number p is one =
+none_at_all step read seed number p is one =
     let form = stated.is_stated step p is in
-    none_told number step p is (subst (λ q. IsTrue (is_order q)) (sym form.levels) (order_of_levels step.settings.q read.0)) (read.1 step.settings.least p.requirement form.asked) one
+    none_told seed number step p is (subst (λ q. IsTrue (is_order q)) (sym form.levels) (order_of_levels step.settings.q read.0)) (read.1 step.settings.least p.requirement form.asked) one
 
 -- and that a design of least pattern has the least of all
 least_of_all : (step : Meaning) → IsRead (step.settings, step.goal) → HasLeastOfAll step

@@ -1,8 +1,8 @@
 -- How a command ends: all was done, or it stopped.
-use Rattle.std.proofs.Common.{ℕ, ◌≡◌, ◌≤◌, List, Option, Result, Ok, Err, refl, sym, subst, arith, [], ap}
+use Rattle.std.proofs.Common.{ℕ, ◌≡◌, ◌≤◌, ◌∷◌, List, Option, Result, Ok, Err, refl, sym, subst, arith, [], ap}
 use Rattle.std.specs.Prelude.{IsErr, IsErrAnd, unwrap_or}
-use Rattle.fx_base.specs.Acts.{Piece, acts, acts_of, World, Did, DidPart}
-use Rattle.fx_base.proofs.Doing.{did_one, part_one, part_whole, part_none}
+use Rattle.fx_base.specs.Acts.{Event, Piece, acts, acts_of, File, World, Did, DidPart}
+use Rattle.fx_base.proofs.Doing.{did_one, did_then, part_before, part_none, part_one, part_then, part_whole}
 use Rattle.fx_program.specs.Words.{settings_of}
 use Rattle.fx_program.specs.declared.words.Settings.{Settings}
 use Rattle.fx_program.specs.declared.words.WordFault.{WordFault}
@@ -10,7 +10,7 @@ use Rattle.fx_program.specs.declared.stop.Stop.{Stop}
 use Rattle.fx_program.specs.declared.stop.Stop.TheVariants as stop
 use Rattle.fx_program.specs.Stops.{exit_status}
 use Rattle.fx_program.specs.Texts.{program_in}
-use Rattle.fx_program.specs.Output.{Output, Gives, Lists, message, output_for, output_of, ListsForSome, program_output, world}
+use Rattle.fx_program.specs.Output.{Output, Gives, Lists, RunsForSome, message, output_for, output_of, program_output, with_files, world}
 
 -- a command that did all, and one that stopped
 pub ends_whole : {a b : World} (output : Output) (status : ℕ) → status ≡ output.status → Did a b (acts output.events) → Gives output a b status
@@ -61,12 +61,33 @@ pub lists_by_stop : {old new : Option (List ℕ)} (output : Output) (ended : Res
     → Lists output old new (exit_status ended)
 lists_by_stop output ended why h p = record { whatever = λ files. ends_by_stop output ended why h (p.whatever files) }
 
--- nothing was listed, whatever text the source had
-pub nothing_listed : {old : Option (List ℕ)} (left : Option (List ℕ)) (status : ℕ) → 4 ≤ status → ListsForSome left old old status
-nothing_listed {old} left status high =
-    let output = program_output (program_in (unwrap_or left [])) in
+-- a call that has no shelf, in a world
+pub gives_by : (files : Option (List File)) {old new : Option (List ℕ)} (output same : Output) (status : ℕ) → output ≡ same → Lists same old new status
+    → Gives output (world old files) (world new files) status
+gives_by files {old} {new} output same status e p = ends_by output same status e (p.whatever files)
+
+-- files, and then a piece
+module _ {a b : World} (files : List Event) (bytes : List ℕ) (status : ℕ) where
+  pub stopped_in_files : (given : ℕ) → 4 ≤ given → DidPart a b (acts files) → Gives (with_files files bytes status) a b given
+  stopped_in_files given high p = ends_stopped (with_files files bytes status) given high (part_before files (Piece bytes ∷ []) p)
+
+  pub stopped_after_files : (ended : Result ℕ Stop) → IsErr ended → Did a b (acts files) → Gives (with_files files bytes status) a b (exit_status ended)
+  stopped_after_files (Ok given) h did = absurd (cc h)
+  stopped_after_files (Err why) h did = stopped_in_files (exit_status (Err why)) (stopped_high why) (part_whole did)
+
+  pub after_files : {c : World} (given : ℕ) → Did a b (acts files) → Gives (message bytes status) b c given → Gives (with_files files bytes status) a c given
+  after_files given did p = record {
+    same = p.same;
+    whole = λ low. did_then files (Piece bytes ∷ []) did (p.whole low);
+    part = part_then files (Piece bytes ∷ []) did p.part;
+  }
+
+-- nothing was given, whatever text the source had
+pub nothing_given : {old : World} (seed : ℕ) (left : Option (List ℕ)) (status : ℕ) → 4 ≤ status → RunsForSome seed left old old status
+nothing_given {old} seed left status high =
+    let output = program_output seed (program_in (unwrap_or left [])) in
     record {
       text = unwrap_or left [];
       exposed = λ known e. sym (ap (λ (o : Option (List ℕ)). unwrap_or o []) e);
-      lists = record { whatever = λ files. ends_stopped output status high (part_none (world old files) (acts output.events)) };
+      gives = ends_stopped output status high (part_none old (acts output.events));
     }

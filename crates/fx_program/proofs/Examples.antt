@@ -1,5 +1,5 @@
 -- Words and texts, with all that is given for them: the definitions, computed from the bytes of a text to those of its listing.
-use Rattle.std.proofs.Common.{◌≡◌, ℕ, List, [], ◌∷◌, ◌++◌, Option, Some, None, ap, refl}
+use Rattle.std.proofs.Common.{◌≡◌, ℕ, List, [], ◌∷◌, ◌++◌, Option, Some, None, Ok, ap, refl}
 use Rattle.std.proofs.lemmas.Option.{none-some}
 use Rattle.std.specs.Prelude.{codes}
 use Rattle.std.specs.Fmt.{digits}
@@ -25,7 +25,8 @@ use Rattle.fx_demands.specs.Bars.{bars_of}
 use Rattle.fx_vectors.specs.Effects.{factors_of}
 use Rattle.fx_statements.specs.Programs.{program_of}
 use Rattle.fx_alias.specs.Sections.{step_lines}
-use Rattle.fx_program.specs.Words.{settings_of}
+use Rattle.fx_program.specs.Words.{settings_of, word_fault}
+use Rattle.fx_program.specs.declared.words.Settings.TheVariants.{Run}
 use Rattle.fx_program.specs.Refusals.{fault_line}
 use Rattle.fx_program.specs.Texts.{program_in, at_front}
 use Rattle.fx_program.specs.declared.text.TextFault.TheVariants.{Refused}
@@ -113,15 +114,14 @@ by_the_outputs :
 unfolding given
 by_the_outputs = (refl, refl, refl, refl, refl, refl, refl, refl, refl)
 
--- refused: steps that are not run yet: files, blocks, the highest resolution and the least size
+-- refused: steps that are not run yet: blocks, the highest resolution and the least size
 by_what_is_built :
     (given (codes "proc factex; factors A B C; size design=8;") ≡ message (codes "factex: E0 1:1 not built yet\n") 3)
     × (given (codes "proc factex; factors A B C; model r=max;") ≡ message (codes "factex: E0 1:1 not built yet\n") 3)
     × (given (codes "proc factex; factors A B C; model r=3; size design=min;") ≡ message (codes "factex: E0 1:1 not built yet\n") 3)
     × (given (codes "proc factex; factors A B C; model r=3; blocks nblocks=2;") ≡ message (codes "factex: E0 1:1 not built yet\n") 3)
-    × (given (codes "proc factex; factors A B C; model r=3; output out=a;") ≡ message (codes "factex: E0 1:1 not built yet\n") 3)
 unfolding given
-by_what_is_built = (refl, refl, refl, refl, refl)
+by_what_is_built = (refl, refl, refl, refl)
 
 -- a third of three factors of three levels
 third_of_three_levels :
@@ -196,6 +196,21 @@ refused_words :
     × (output_of (codes "run" ∷ codes "run" ∷ codes "y" ∷ []) (codes "proc") ≡ message (codes "factex: C3 word 2\n") 3)
 unfolding digits settings_of
 refused_words = (refl, refl, refl, refl, refl, refl)
+
+-- the seed of `run`: at most once, and at most 20 digits below 2^64
+seeds :
+    (settings_of (codes "run" ∷ []) ≡ Ok (Run 1 0))
+    × (settings_of (codes "run" ∷ codes "--seed=007" ∷ []) ≡ Ok (Run 1 7))
+    × (settings_of (codes "run" ∷ codes "--seed=18446744073709551615" ∷ []) ≡ Ok (Run 1 18446744073709551615))
+    × (settings_of (codes "run" ∷ codes "--seed=18446744073709551616" ∷ []) ≡ word_fault 4 2)
+    × (settings_of (codes "run" ∷ codes "--seed=000000000000000000000" ∷ []) ≡ word_fault 4 2)
+    × (settings_of (codes "run" ∷ codes "--seed=" ∷ []) ≡ word_fault 4 2)
+    × (settings_of (codes "run" ∷ codes "--seed=+1" ∷ codes "--seed=1" ∷ []) ≡ word_fault 4 2)
+    × (settings_of (codes "run" ∷ codes "--seed" ∷ []) ≡ word_fault 3 2)
+    × (settings_of (codes "run" ∷ codes "--seed=1" ∷ codes "--seed=x" ∷ []) ≡ word_fault 5 3)
+    × (settings_of (codes "run" ∷ codes "--seed=1" ∷ codes "--threads=2" ∷ []) ≡ word_fault 3 3)
+unfolding settings_of
+seeds = (refl, refl, refl, refl, refl, refl, refl, refl, refl, refl)
 
 -- the messages of texts that are too long to be written here
 long_texts :

@@ -3,6 +3,7 @@ mod Wording
 mod Reading
 mod Endings
 mod SoFar
+mod Filing
 mod Given
 mod None
 mod Least

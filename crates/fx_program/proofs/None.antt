@@ -22,14 +22,14 @@ none_at_one : (found : Option (List ℕ)) (count : ℕ) → status_of (finished 
 none_at_one None count e = refl
 none_at_one (Some rows) count e = absurd (omega (arith, e))
 
-module _ (number : ℕ) (step : Meaning) (p : Problem) (is : problem_of step ≡ Some p) (order : IsTrue (is_order p.dimensions.q)) (reducible : IsReducible p.requirement) where
+module _ (seed number : ℕ) (step : Meaning) (p : Problem) (is : problem_of step ≡ Some p) (order : IsTrue (is_order p.dimensions.q)) (reducible : IsReducible p.requirement) where
   abbrev budget : ℕ
   budget = step.settings.budget
 
-  status : (step_output number step).status ≡ (given_by number step (Some p)).status
-  status = ap (λ (o : Output). o.status) (ap (given_by number step) is)
+  status : (step_output seed number step).status ≡ (given_by seed number step (Some p)).status
+  status = ap (λ (o : Output). o.status) (ap (given_by seed number step) is)
 
-  pub none_told : (step_output number step).status ≡ 1 → NoneMeets p.dimensions p.requirement
+  pub none_told : (step_output seed number step).status ≡ 1 → NoneMeets p.dimensions p.requirement
   none_told one =
       elim (cases_lt budget (length (nodes p))) [
         | inl more ↦ absurd (omega (arith, sym (status ∙ ap status_of (passed p budget more)) ∙ one))
@@ -38,7 +38,7 @@ module _ (number : ℕ) (step : Meaning) (p : Problem) (is : problem_of step ≡
             (none-exactly p (is_order-field p.dimensions.q order) reducible).0 ((no_answer p (is_stated step p is).some).0 found)
       ]
 
-  pub none_comes : length (nodes p) ≤ budget → NoneMeets p.dimensions p.requirement → (step_output number step).status ≡ 1
+  pub none_comes : length (nodes p) ≤ budget → NoneMeets p.dimensions p.requirement → (step_output seed number step).status ≡ 1
   none_comes few none =
       let found = (no_answer p (is_stated step p is).some).1 ((none-exactly p (is_order-field p.dimensions.q order) reducible).1 none) in
       status ∙ ap status_of (within p budget few ∙ ap (λ a. finished a (length (nodes p))) found)

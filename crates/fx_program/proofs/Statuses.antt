@@ -13,11 +13,11 @@ use Rattle.fx_program.specs.Output.{given_by, program_output, step_output, step_
 use Rattle.fx_program.specs.Claims.{HasNoneAtAll, IsGreatest, NoDesignMeansNone, SomeEndsWith, SomeHasNone}
 use Rattle.fx_program.proofs.AnyText.{none_in_any_text}
 
--- a step's status does not depend on its number
-same_status : (number : ℕ) (step : Meaning) → (step_output number step).status ≡ step_status step
-same_status number step = go (problem_of step)
+-- a step's status does not depend on its number and the seed
+same_status : (seed number : ℕ) (step : Meaning) → (step_output seed number step).status ≡ step_status step
+same_status seed number step = go (problem_of step)
   where
-    go : (p : Option Problem) → (given_by number step p).status ≡ (given_by 1 step p).status
+    go : (p : Option Problem) → (given_by seed number step p).status ≡ (given_by 0 1 step p).status
     go None = refl
     go (Some p) = refl
 
@@ -39,66 +39,67 @@ one_of_both a b = go (nat_le a b)
 above_both : (a b : ℕ) → (a ≤ worse a b) × (b ≤ worse a b)
 above_both a b = grind (arith, worse)
 
--- what the steps from some one on add to a status
-pub final : ℕ → List Event → ℕ → List Meaning → ℕ
-final number events status steps = (steps_output number events status steps).status
-
-not_below : (number : ℕ) (events : List Event) (status : ℕ) (steps : List Meaning) → status ≤ final number events status steps
-unfolding final
-not_below number events status [] = omega arith
-not_below number events status (step ∷ steps) =
-    let given = step_output number step in
-    omega (arith, (above_both status given.status).0, not_below (number + 1) (events ++ given.events) (worse status given.status) steps)
-
-each_below : (number : ℕ) (events : List Event) (status : ℕ) (steps : List Meaning) → All (λ step. step_status step ≤ final number events status steps) steps
-unfolding final
-each_below number events status [] = All-nil (λ (x : Meaning). step_status x ≤ status)
-each_below number events status (step ∷ steps) =
-    let given = step_output number step in
-    All-cons (λ (x : Meaning). step_status x ≤ final number events status (step ∷ steps)) step steps
-    (omega (arith, same_status number step, (above_both status given.status).1, not_below (number + 1) (events ++ given.events) (worse status given.status) steps))
-    (each_below (number + 1) (events ++ given.events) (worse status given.status) steps)
-
 one_more : (step : Meaning) (steps : List Meaning) (status : ℕ) → SomeEndsWith status steps → SomeEndsWith status (step ∷ steps)
 one_more step steps status some = record { step = some.step; among = later step steps some.step some.among; ends = some.ends }
 
-reached : (number : ℕ) (events : List Event) (status : ℕ) (steps : List Meaning)
-    → (final number events status steps ≡ status) ⊎ SomeEndsWith (final number events status steps) steps
-unfolding final
-reached number events status [] = inl refl
-reached number events status (step ∷ steps) =
-    let given = step_output number step in
-    elim (reached (number + 1) (events ++ given.events) (worse status given.status) steps) [
-      | inl same ↦ elim (one_of_both status given.status) [
-        | inl before ↦ inl (same ∙ before)
-        | inr now ↦ inr (record { step = step; among = head step steps; ends = sym (same_status number step) ∙ sym now ∙ sym same })
-      ]
-      | inr some ↦ inr (one_more step steps _ some)
-    ]
+-- what the steps from some one on add to a status
+module _ (seed : ℕ) where
+  pub final : ℕ → List Event → ℕ → List Meaning → ℕ
+  final number events status steps = (steps_output seed number events status steps).status
 
-pub is_greatest : (steps : List Meaning) → IsGreatest (program_output (Ok steps)).status steps
-unfolding final
-is_greatest steps = record {
-  each = each_below 1 [] 0 steps;
-  some = λ above. elim (reached 1 [] 0 steps) [
-    | inl zero ↦ absurd (omega (arith, above, zero))
-    | inr some ↦ some
-  ];
-}
+  not_below : (number : ℕ) (events : List Event) (status : ℕ) (steps : List Meaning) → status ≤ final number events status steps
+  unfolding final
+  not_below number events status [] = omega arith
+  not_below number events status (step ∷ steps) =
+      let given = step_output seed number step in
+      omega (arith, (above_both status given.status).0, not_below (number + 1) (events ++ given.events) (worse status given.status) steps)
+
+  each_below : (number : ℕ) (events : List Event) (status : ℕ) (steps : List Meaning) → All (λ step. step_status step ≤ final number events status steps) steps
+  unfolding final
+  each_below number events status [] = All-nil (λ (x : Meaning). step_status x ≤ status)
+  each_below number events status (step ∷ steps) =
+      let given = step_output seed number step in
+      All-cons (λ (x : Meaning). step_status x ≤ final number events status (step ∷ steps)) step steps
+      (omega (arith, same_status seed number step, (above_both status given.status).1, not_below (number + 1) (events ++ given.events) (worse status given.status) steps))
+      (each_below (number + 1) (events ++ given.events) (worse status given.status) steps)
+
+  reached : (number : ℕ) (events : List Event) (status : ℕ) (steps : List Meaning)
+      → (final number events status steps ≡ status) ⊎ SomeEndsWith (final number events status steps) steps
+  unfolding final
+  reached number events status [] = inl refl
+  reached number events status (step ∷ steps) =
+      let given = step_output seed number step in
+      elim (reached (number + 1) (events ++ given.events) (worse status given.status) steps) [
+        | inl same ↦ elim (one_of_both status given.status) [
+          | inl before ↦ inl (same ∙ before)
+          | inr now ↦ inr (record { step = step; among = head step steps; ends = sym (same_status seed number step) ∙ sym now ∙ sym same })
+        ]
+        | inr some ↦ inr (one_more step steps _ some)
+      ]
+
+  pub is_greatest : (steps : List Meaning) → IsGreatest (program_output seed (Ok steps)).status steps
+  unfolding final
+  is_greatest steps = record {
+    each = each_below 1 [] 0 steps;
+    some = λ above. elim (reached 1 [] 0 steps) [
+      | inl zero ↦ absurd (omega (arith, above, zero))
+      | inr some ↦ some
+    ];
+  }
 
 -- so that status 1 of a text says of one of its steps that there is no design at all
 has_none : (steps : List Meaning) (step : Meaning) → Contains steps step → HasNoneAtAll step → step_status step ≡ 1 → SomeHasNone (Ok steps)
 has_none steps step among none one = go (problem_of step) refl
   where
     go : (p : Option Problem) → problem_of step ≡ p → SomeHasNone (Ok steps)
-    go None is = absurd (omega (arith, ap (λ (p : Option Problem). (given_by 1 step p).status) is, one))
-    go (Some p) is = record { steps = steps; accepted = refl; step = step; among = among; problem = p; stated = is; one = one; none = none 1 p is one }
+    go None is = absurd (omega (arith, ap (λ (p : Option Problem). (given_by 0 1 step p).status) is, one))
+    go (Some p) is = record { steps = steps; accepted = refl; step = step; among = among; problem = p; stated = is; one = one; none = none 0 1 p is one }
 
-some_has_none : (program : Result (List Meaning) TextFault) → NoDesignMeansNone program → (program_output program).status ≡ 1 → SomeHasNone program
-some_has_none (Err fault) none one = absurd (omega (arith, one))
-some_has_none (Ok steps) none one =
-    let some = (is_greatest steps).some (omega (arith, one)) in
+some_has_none : (seed : ℕ) (program : Result (List Meaning) TextFault) → NoDesignMeansNone program → (program_output seed program).status ≡ 1 → SomeHasNone program
+some_has_none seed (Err fault) none one = absurd (omega (arith, one))
+some_has_none seed (Ok steps) none one =
+    let some = (is_greatest seed steps).some (omega (arith, one)) in
     has_none steps some.step some.among (All-contains HasNoneAtAll steps some.step none some.among) (some.ends ∙ one)
 
-pub none_where_one : (text : List ℕ) → (program_output (program_in text)).status ≡ 1 → SomeHasNone (program_in text)
-none_where_one text one = some_has_none (program_in text) (none_in_any_text text) one
+pub none_where_one : (seed : ℕ) (text : List ℕ) → (program_output seed (program_in text)).status ≡ 1 → SomeHasNone (program_in text)
+none_where_one seed text one = some_has_none seed (program_in text) (none_in_any_text text) one

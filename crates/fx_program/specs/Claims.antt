@@ -21,9 +21,9 @@ LeastAmongAll p rows = (factors blocks : List (List ℕ))
 
 -- where the step ends with status 1, the runs of no rule matrix at all, canonical or not, meet what it asks
 abbrev pub HasNoneAtAll : Meaning → Type 0
-HasNoneAtAll step = (number : ℕ) (p : Problem)
+HasNoneAtAll step = (seed number : ℕ) (p : Problem)
     → problem_of step ≡ Some p
-    → (step_output number step).status ≡ 1
+    → (step_output seed number step).status ≡ 1
     → NoneMeets p.dimensions p.requirement
 
 -- a claim on each step of a program; a text that is refused has none

@@ -5,5 +5,6 @@ pub mod Forms
 pub mod Texts
 pub mod Stops
 pub mod Statuses
+pub mod Files
 pub mod Output
 pub mod Claims

@@ -1,8 +1,8 @@
 -- What the program gives, for its words and its text: pieces of listing and files, and a status.
 use Rattle.std.specs.Prelude.{ℕ, ◌≡◌, ◌+◌, ◌<◌, nat_le, if◌then◌else◌, List, [], ◌∷◌, ◌++◌, Option, Some, None, Result, Ok, Err, Bool, true, false}
 use Rattle.fx_base.specs.Acts.{Event, Piece, acts, World, File, Did, DidPart}
-use Rattle.fx_designs.specs.Problems.{Problem}
-use Rattle.fx_designs.specs.Outcomes.{ending_of}
+use Rattle.fx_designs.specs.Problems.{Dimensions, Problem}
+use Rattle.fx_designs.specs.Outcomes.{Ending, ending_of}
 use Rattle.fx_alias.specs.Sections.{step_lines}
 use Rattle.fx_answer.specs.Questions.{problem_of}
 use Rattle.fx_statements.specs.Steps.{Meaning}
@@ -10,6 +10,7 @@ use Rattle.fx_program.specs.Words.{settings_of, word_line}
 use Rattle.fx_program.specs.Refusals.{fault_line}
 use Rattle.fx_program.specs.Texts.{program_in}
 use Rattle.fx_program.specs.Statuses.{status_of}
+use Rattle.fx_program.specs.Files.{matrix_in, output_lines, plan_files}
 use Rattle.fx_program.specs.declared.words.Settings.{Settings}
 use Rattle.fx_program.specs.declared.words.Settings.TheVariants.{Run}
 use Rattle.fx_program.specs.declared.words.WordFault.{WordFault}
@@ -24,45 +25,55 @@ pub record Output : Type 0 where
 abbrev pub message : List ℕ → ℕ → Output
 message bytes status = record { events = Piece bytes ∷ []; status = status }
 
--- what is given for a step that states this problem: its lines, and its status
-abbrev pub step_given : ℕ → Meaning → Problem → Output
-step_given number step p =
-    let ending = ending_of p step.settings.budget in
-    message (step_lines number p.dimensions step ending) (status_of ending)
+-- files, and then one piece of listing
+abbrev pub with_files : List Event → List ℕ → ℕ → Output
+with_files files bytes status = record { events = files ++ Piece bytes ∷ []; status = status }
+
+-- what is given for the step of this number in these dimensions that ends so, by the program's seed: the files of its plans, then
+-- its lines with those that name the files, and its status
+abbrev pub ending_given : ℕ → ℕ → Dimensions → Meaning → Ending → Output
+ending_given seed number d step ending =
+    with_files (plan_files seed step (matrix_in d ending))
+    (step_lines number d step ending ++ output_lines seed step (matrix_in d ending))
+    (status_of ending)
+
+-- what is given for a step that states this problem
+abbrev pub step_given : ℕ → ℕ → Meaning → Problem → Output
+step_given seed number step p = ending_given seed number p.dimensions step (ending_of p step.settings.budget)
 
 -- what is given for a step that states a problem; else nothing
-abbrev pub given_by : ℕ → Meaning → Option Problem → Output
-given_by number step None = record { events = []; status = 0 }
-given_by number step (Some p) = step_given number step p
+abbrev pub given_by : ℕ → ℕ → Meaning → Option Problem → Output
+given_by seed number step None = record { events = []; status = 0 }
+given_by seed number step (Some p) = step_given seed number step p
 
 -- what is given for a step; nothing for one that cannot be answered so far
-abbrev pub step_output : ℕ → Meaning → Output
-step_output number step = given_by number step (problem_of step)
+abbrev pub step_output : ℕ → ℕ → Meaning → Output
+step_output seed number step = given_by seed number step (problem_of step)
 
--- the status of a step, whatever its number
+-- the status of a step, whatever its number and the seed
 abbrev pub step_status : Meaning → ℕ
-step_status step = (step_output 1 step).status
+step_status step = (step_output 0 1 step).status
 
 -- the greater of two statuses
 abbrev pub worse : ℕ → ℕ → ℕ
 worse a b = if nat_le a b then b else a
 
 -- the steps in order from this number on, after these events and this status; the greatest status decides
-abbrev pub steps_output : ℕ → List Event → ℕ → List Meaning → Output
-steps_output number events status [] = record { events = events; status = status }
-steps_output number events status (step ∷ steps) =
-    let given = step_output number step in
-    steps_output (number + 1) (events ++ given.events) (worse status given.status) steps
+abbrev pub steps_output : ℕ → ℕ → List Event → ℕ → List Meaning → Output
+steps_output seed number events status [] = record { events = events; status = status }
+steps_output seed number events status (step ∷ steps) =
+    let given = step_output seed number step in
+    steps_output seed (number + 1) (events ++ given.events) (worse status given.status) steps
 
 -- what is given for a program, or for a text that has none
-abbrev pub program_output : Result (List Meaning) TextFault → Output
-program_output (Ok steps) = steps_output 1 [] 0 steps
-program_output (Err fault) = message (fault_line fault) 3
+abbrev pub program_output : ℕ → Result (List Meaning) TextFault → Output
+program_output seed (Ok steps) = steps_output seed 1 [] 0 steps
+program_output seed (Err fault) = message (fault_line fault) 3
 
 -- what settings give for a text
 abbrev pub output_for : Result Settings WordFault → List ℕ → Output
 output_for (Err fault) text = message (word_line fault) 3
-output_for (Ok (Run threads seed)) text = program_output (program_in text)
+output_for (Ok (Run threads seed)) text = program_output seed (program_in text)
 
 -- the output of words and a text
 abbrev pub output_of : List (List ℕ) → List ℕ → Output
@@ -95,8 +106,16 @@ pub record GivesForSome (words : List (List ℕ)) (left : Option (List ℕ)) (ol
   pub exposed : reads (settings_of words) ≡ true → (known : List ℕ) → left ≡ Some known → known ≡ text
   pub gives : Gives (output_of words text) old new status
 
--- the same of the command `run`, which has no shelf
-pub record ListsForSome (left old new : Option (List ℕ)) (status : ℕ) : Type 0 where
+-- the same of the command `run` with this seed
+pub record RunsForSome (seed : ℕ) (left : Option (List ℕ)) (old new : World) (status : ℕ) : Type 0 where
   pub text : List ℕ
   pub exposed : (known : List ℕ) → left ≡ Some known → known ≡ text
-  pub lists : Lists (program_output (program_in text)) old new status
+  pub gives : Gives (program_output seed (program_in text)) old new status
+
+-- exactly these events were done by a call that has no listing: whatever was listed, it stays as it is
+pub record Shelved (events : List Event) (old new : Option (List File)) : Type 0 where
+  pub whatever : (written : Option (List ℕ)) → Did (world written old) (world written new) (acts events)
+
+-- a prefix of their acts was done
+pub record ShelvedPart (events : List Event) (old new : Option (List File)) : Type 0 where
+  pub whatever : (written : Option (List ℕ)) → DidPart (world written old) (world written new) (acts events)

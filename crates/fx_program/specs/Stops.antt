@@ -17,7 +17,7 @@ SomeRose (count ∷ before) [] = ⊥
 SomeRose (count ∷ before) (new ∷ now) = Rose count new ⊎ SomeRose before now
 
 -- stopped by a failed call only where a count of failed calls rose; with any other result all counts are as before
-pub record HasCause (before now : List ℕ) (result : Result ℕ Stop) : Type 0 where
+pub record HasCause {T : Type 0} (before now : List ℕ) (result : Result T Stop) : Type 0 where
   pub failed : result ≡ Err stop.Failed → SomeRose before now
   pub unchanged : result ≢ Err stop.Failed → now ≡ before
 

@@ -1,6 +1,9 @@
 -- What the words of the command line ask for.
-use Rattle.std.specs.Prelude.{ℕ, List, [], ◌∷◌, ◌++◌, if◌then◌else◌, Result, Ok, Err, Vec, map, codes, decimal}
+use Rattle.std.specs.Prelude.{ℕ, ◌^◌, nat_le, nat_lt, ◌&&◌, Bool, List, [], ◌∷◌, ◌++◌, if◌then◌else◌, Option, Some, None, Result, Ok, Err, Vec, map, take, drop, length, codes, decimal}
+use Rattle.std.specs.List.{list_all}
 use Rattle.std.specs.Str.{bytes_eq}
+use Rattle.std.specs.Str.Parse.{digits_value}
+use Rattle.fx_lexer.specs.Bytes.{is_digit}
 use Rattle.fx_program.specs.declared.words.Settings.{Settings}
 use Rattle.fx_program.specs.declared.words.Settings.TheVariants.{Run}
 use Rattle.fx_program.specs.declared.words.WordFault.{WordFault}
@@ -10,18 +13,56 @@ abbrev pub bytes_of : {A : Type 0} → List (Vec ℕ A) → List (List ℕ)
 bytes_of words = map (λ word. word.items) words
 
 -- the fault of this code at a word
-abbrev pub word_fault : ℕ → ℕ → Result Settings WordFault
+abbrev pub word_fault : {T : Type 0} → ℕ → ℕ → Result T WordFault
 word_fault code word = Err (record { code = code; word = word })
 
--- `run` takes no option so far
+-- what follows this beginning of a word, where the word begins so
+abbrev pub after : List ℕ → List ℕ → Option (List ℕ)
+after front word = if bytes_eq (take (length front) word) front then Some (drop (length front) word) else None
+
+-- 1 to 20 decimal digits
+abbrev pub is_number : List ℕ → Bool
+is_number digits = list_all is_digit digits && nat_le 1 (length digits) && nat_le (length digits) 20
+
+-- the seed that these digits write: a number below 2^64
+abbrev pub seed_of : List ℕ → Option ℕ
+seed_of digits = if is_number digits && nat_lt (digits_value 10 digits) (2 ^ 64) then Some (digits_value 10 digits) else None
+
+-- the value of an option of the word at this place, or 4 where there is none
+abbrev pub value_at : ℕ → Option ℕ → Result ℕ WordFault
+value_at place None = word_fault 4 place
+value_at place (Some n) = Ok n
+
+-- the seed of the word at this place, by what follows `--seed=` in it; 3 where the word does not begin so
+abbrev pub seed_at : ℕ → Option (List ℕ) → Result ℕ WordFault
+seed_at place None = word_fault 3 place
+seed_at place (Some digits) = value_at place (seed_of digits)
+
+-- a second option, by what follows `--seed=` in it: 5 where that option is repeated, 3 where it is no option
+abbrev pub second_option : Option (List ℕ) → Result Settings WordFault
+second_option None = word_fault 3 3
+second_option (Some digits) = word_fault 5 3
+
+-- the settings of `run` where the first option gives this seed, and these options follow
+abbrev pub seeded : List (List ℕ) → Result ℕ WordFault → Result Settings WordFault
+seeded options (Err fault) = Err fault
+seeded [] (Ok seed) = Ok (Run 1 seed)
+seeded (option ∷ options) (Ok seed) = second_option (after (codes "--seed=") option)
+
+-- the settings of `run` with these options: a seed, at most once, or else 0
 abbrev pub run_with : List (List ℕ) → Result Settings WordFault
 run_with [] = Ok (Run 1 0)
-run_with (option ∷ options) = word_fault 3 2
+run_with (option ∷ options) = seeded options (seed_at 2 (after (codes "--seed=") option))
 
--- 1: there is no word. 2: the first word is no command. 3: the word after the command is no option of it.
+-- the settings of a command with these options
+abbrev pub command_with : List ℕ → List (List ℕ) → Result Settings WordFault
+command_with word options = if bytes_eq word (codes "run") then run_with options else word_fault 2 1
+
+-- 1: there is no word. 2: the first word is no command. 3: a word is no option of the command. 4: its number is not one, or too
+-- large. 5: the option is repeated.
 unfoldable pub settings_of : List (List ℕ) → Result Settings WordFault
 settings_of [] = word_fault 1 1
-settings_of (word ∷ options) = if bytes_eq word (codes "run") then run_with options else word_fault 2 1
+settings_of (word ∷ options) = command_with word options
 
 -- the line that tells the fault: its code, and at which word
 abbrev pub word_line : WordFault → List ℕ

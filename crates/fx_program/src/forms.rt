@@ -9,5 +9,5 @@ use fx_statements::Step;
 pub(crate) fn is_built(step: &Step) -> bool
     ensures { result ≡ is_built (meaning_of step.now) }
 {
-    can_be_answered(step) && step.outputs.is_empty()
+    can_be_answered(step)
 }

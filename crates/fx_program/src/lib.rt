@@ -1,8 +1,10 @@
 //! The program: its words, its text, its messages, and the call that does it all.
 #![tactic(auto)]
 
+mod files;
 mod forms;
 mod laws;
+mod output_lines;
 mod refusal;
 mod run;
 mod stop;

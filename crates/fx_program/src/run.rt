@@ -13,8 +13,10 @@ ghost use Rattle.fx_program.specs.Statuses.{status_of};
 ghost use Rattle.fx_program.specs.Claims.{SomeHasNone};
 ghost use Rattle.fx_program.specs.Stops.{HasCause, HasStatusCause, exit_status};
 ghost use Rattle.fx_program.specs.declared.stop.Stop.TheVariants as stop;
-ghost use Rattle.fx_program.specs.Output.{message, step_output, program_output, reads, worse, world, Lists, GivesForSome, ListsForSome};
+ghost use Rattle.fx_program.specs.Output.{message, step_output, program_output, reads, worse, world, Gives, Lists, GivesForSome, RunsForSome};
 
+use crate::files::shelve_plans;
+use crate::output_lines::put_output_lines;
 use crate::refusal::put_fault;
 use crate::stop::{REFUSED, Stop, exit_status};
 use crate::text::{TextFault, TextStop, at_front, read_program};
@@ -82,20 +84,36 @@ pub fn factex<S: Source, K: Sink, F: Shelf>(
         → S.left source.new ≡ Some [] }
 {
     match read_words(words) {
-        Ok(Settings::Run { .. }) => exit_status(run(alloc, source, listing)),
+        Ok(settings) => match settings {
+            Settings::Run {
+                threads: _threads,
+                seed,
+            } => exit_status(run(alloc, seed, source, listing, shelf)),
+        },
         Err(fault) => exit_status(list(listing, word_line(fault).as_slice(), REFUSED)),
     }
 }
 
-/// The command `run`.
-fn run<S: Source, K: Sink>(alloc: Global, source: &mut S, listing: &mut K) -> Result<u8, Stop>
+/// The command `run`, with this seed.
+fn run<S: Source, K: Sink, F: Shelf>(
+    alloc: Global,
+    seed: u64,
+    source: &mut S,
+    listing: &mut K,
+    shelf: &mut F,
+) -> Result<u8, Stop>
+    requires { F.begun shelf.old ≡ false }
     ensures status_range { IfOk result (λ status. status < 4) }
-    ensures output { ListsForSome (S.left source.old)
-        (K.written listing.old) (K.written listing.new) (exit_status result) }
-    ensures cause { HasCause (S.faults source.old ∷ K.faults listing.old ∷ [])
-        (S.faults source.new ∷ K.faults listing.new ∷ []) result }
+    ensures output { RunsForSome seed (S.left source.old)
+        (world (K.written listing.old) (F.files shelf.old))
+        (world (K.written listing.new) (F.files shelf.new)) (exit_status result) }
+    ensures cause { HasCause
+        (S.faults source.old ∷ K.faults listing.old ∷ F.faults shelf.old ∷ [])
+        (S.faults source.new ∷ K.faults listing.new ∷ F.faults shelf.new ∷ []) result }
     ensures rooms { (S.sure source.new ≡ S.sure source.old)
-        × (K.room listing.new ≡ K.room listing.old) }
+        × (K.room listing.new ≡ K.room listing.old)
+        × (F.room shelf.new ≡ F.room shelf.old) }
+    ensures closed { OnOk result (F.begun shelf.new ≡ false) }
     ensures none_at_all { exit_status result ≡ 1 → (text : List ℕ)
         → S.left source.old ≡ Some text
         → SomeHasNone (program_in text) }
@@ -110,24 +128,35 @@ fn run<S: Source, K: Sink>(alloc: Global, source: &mut S, listing: &mut K) -> Re
         Err(ReadStop::NoMemory) => return Err(Stop::NoMemory),
     };
     match read_program(alloc, text.as_slice()) {
-        Ok(program) => run_steps(alloc, program.as_slice(), listing),
+        Ok(program) => run_steps(alloc, program.as_slice(), seed, listing, shelf),
         Err(TextStop::Fault(fault)) => refuse(alloc, fault, listing),
         Err(TextStop::NoMemory) => Err(Stop::NoMemory),
     }
 }
 
 /// Runs the steps of a program in order. The greatest of their statuses is the program's.
-fn run_steps<K: Sink>(alloc: Global, steps: &[Step], listing: &mut K) -> Result<u8, Stop>
-    requires { list_all (λ step. is_built (meaning_of step)) steps.now ≡ true }
+fn run_steps<K: Sink, F: Shelf>(
+    alloc: Global,
+    steps: &[Step],
+    seed: u64,
+    listing: &mut K,
+    shelf: &mut F,
+) -> Result<u8, Stop>
+    requires built { list_all (λ step. is_built (meaning_of step)) steps.now ≡ true }
+    requires ended { F.begun shelf.old ≡ false }
     ensures status_range { IfOk result (λ status. status < 4) }
-    ensures output { Lists (program_output (Ok (map meaning_of steps.now)))
-        (K.written listing.old) (K.written listing.new) (exit_status result) }
-    ensures cause { HasCause (K.faults listing.old ∷ []) (K.faults listing.new ∷ []) result }
-    ensures room { K.room listing.new ≡ K.room listing.old }
+    ensures output { Gives (program_output seed (Ok (map meaning_of steps.now)))
+        (world (K.written listing.old) (F.files shelf.old))
+        (world (K.written listing.new) (F.files shelf.new)) (exit_status result) }
+    ensures cause { HasCause (K.faults listing.old ∷ F.faults shelf.old ∷ [])
+        (K.faults listing.new ∷ F.faults shelf.new ∷ []) result }
+    ensures rooms { (K.room listing.new ≡ K.room listing.old)
+        × (F.room shelf.new ≡ F.room shelf.old) }
+    ensures closed { OnOk result (F.begun shelf.new ≡ false) }
 {
     let mut status = 0;
     for (i, step) in steps.iter().enumerate() {
-        let ended = run_step(alloc, i + 1, step, listing)?;
+        let ended = run_step(alloc, i + 1, step, seed, listing, shelf)?;
         status = worse(status, ended);
     }
     Ok(status)
@@ -140,17 +169,31 @@ fn worse(a: u8, b: u8) -> u8
     if a <= b { b } else { a }
 }
 
-/// Runs the step of this number and lists its outcome.
-fn run_step<K: Sink>(alloc: Global, number: usize, step: &Step, listing: &mut K) -> Result<u8, Stop>
-    requires { is_built (meaning_of step.now) ≡ true }
+/// Runs the step of this number: shelves its plans, and then lists its outcome.
+fn run_step<K: Sink, F: Shelf>(
+    alloc: Global,
+    number: usize,
+    step: &Step,
+    seed: u64,
+    listing: &mut K,
+    shelf: &mut F,
+) -> Result<u8, Stop>
+    requires built { is_built (meaning_of step.now) ≡ true }
+    requires ended { F.begun shelf.old ≡ false }
     ensures status_range { IfOk result (λ status. status < 4) }
-    ensures output { Lists (step_output number (meaning_of step.now))
-        (K.written listing.old) (K.written listing.new) (exit_status result) }
-    ensures cause { HasCause (K.faults listing.old ∷ []) (K.faults listing.new ∷ []) result }
-    ensures room { K.room listing.new ≡ K.room listing.old }
+    ensures output { Gives (step_output seed number (meaning_of step.now))
+        (world (K.written listing.old) (F.files shelf.old))
+        (world (K.written listing.new) (F.files shelf.new)) (exit_status result) }
+    ensures cause { HasCause (K.faults listing.old ∷ F.faults shelf.old ∷ [])
+        (K.faults listing.new ∷ F.faults shelf.new ∷ []) result }
+    ensures rooms { (K.room listing.new ≡ K.room listing.old)
+        × (F.room shelf.new ≡ F.room shelf.old) }
+    ensures closed { OnOk result (F.begun shelf.new ≡ false) }
 {
     let outcome = answer(alloc, step)?;
-    let lines = lines_of(alloc, number, step, &outcome)?;
+    shelve_plans(alloc, step, &outcome, seed, shelf)?;
+    let mut lines = lines_of(alloc, number, step, &outcome)?;
+    put_output_lines(&mut lines, step, &outcome, seed)?;
     list(listing, lines.as_slice(), status_of(outcome.end))
 }
 
@@ -167,7 +210,7 @@ fn status_of(end: End) -> u8
     }
 }
 
-/// All lines of the step of this number, by its outcome.
+/// The lines of the step of this number, by its outcome, but for those of its files.
 fn lines_of(alloc: Global, number: usize, step: &Step, outcome: &Outcome) -> Result<Bytes, NoMemory>
     requires outcome { IsOutcome (meaning_of step.now) outcome.now }
     requires unblocked { outcome.now.shape.t ≡ 0 }
@@ -191,7 +234,7 @@ fn lines_of(alloc: Global, number: usize, step: &Step, outcome: &Outcome) -> Res
 /// Lists where the text is refused, and why.
 fn refuse<K: Sink>(alloc: Global, fault: TextFault, listing: &mut K) -> Result<u8, Stop>
     ensures refused { (result ≡ Ok 3) ⊎ ((result ≡ Err stop.Failed) ⊎ (result ≡ Err stop.NoMemory)) }
-    ensures output { Lists (program_output (Err fault))
+    ensures output { (seed : ℕ) → Lists (program_output seed (Err fault))
         (K.written listing.old) (K.written listing.new) (exit_status result) }
     ensures cause { HasCause (K.faults listing.old ∷ []) (K.faults listing.new ∷ []) result }
     ensures room { K.room listing.new ≡ K.room listing.old }

@@ -1,5 +1,7 @@
+ghost use Rattle.std.specs.Prelude.{◌<◌};
+
 use super::*;
-use fx_base::{Bytes, MemorySink, MemorySource, SureShelf};
+use fx_base::{Bytes, MemoryShelf, MemorySink, MemorySource, SureShelf};
 use std::alloc::Global;
 use std::test::Fail;
 
@@ -248,7 +250,7 @@ fn programs_have_their_listing(rt: HostRuntime) -> Result<(), Fail> {
 }
 
 /// The examples of docs/LANGUAGE.md and further texts that are refused, each with its message.
-const REFUSED: [(&str, &str); 51] = [
+const REFUSED: [(&str, &str); 50] = [
     (
         "proc factex; factors A B C; /* run;",
         "L1 1:29 comment is not closed",
@@ -287,11 +289,7 @@ const REFUSED: [(&str, &str); 51] = [
         "E0 1:1 not built yet",
     ),
     (
-        "proc factex; factors A B C; model r=3; output out=a;",
-        "E0 1:1 not built yet",
-    ),
-    (
-        "proc factex; factors X1-X39; size design=4; model e=(X1) n=(X1|X2|X3|X4|X5|X6|X7|X8|X9|X10|X11|X12|X13|X14|X15|X16|X17|X18|X19|X20|X21|X22|X23|X24|X25|X26|X27|X28|X29|X30|X31|X32|X33|X34|X35|X36|X37|X38|X39@4); output out=a;",
+        "proc factex; factors X1-X39; size design=min; model e=(X1) n=(X1|X2|X3|X4|X5|X6|X7|X8|X9|X10|X11|X12|X13|X14|X15|X16|X17|X18|X19|X20|X21|X22|X23|X24|X25|X26|X27|X28|X29|X30|X31|X32|X33|X34|X35|X36|X37|X38|X39@4);",
         "E0 1:1 not built yet",
     ),
     (
@@ -466,6 +464,30 @@ fn is_message(listed: &[u8], message: &[u8]) -> bool {
     }
 }
 
+/// The seed of the command line is that of a plan that has none of its own.
+#[test]
+fn the_seed_of_the_words_shuffles(rt: HostRuntime) -> Result<(), Fail> {
+    let alloc = rt.alloc();
+    let text =
+        b"proc factex; factors A B; model r=3; output out=x randomize; output out=y randomize(7);";
+    for (word, plan) in [
+        ("--seed=0", "A,B\n-1,1\n-1,-1\n1,1\n1,-1\n"),
+        ("--seed=7", "A,B\n1,1\n-1,-1\n1,-1\n-1,1\n"),
+        (
+            "--seed=18446744073709551615",
+            "A,B\n1,-1\n1,1\n-1,-1\n-1,1\n",
+        ),
+    ] {
+        let mut words = run_words(alloc)?;
+        words.push(word.as_bytes().to_vec(alloc)?)?;
+        let (status, _listed, shelf) = planned(alloc, words.as_slice(), text, STEP, None)?;
+        assert_eq!(rt; status, 0);
+        assert!(rt; is_file(&shelf, 0, "x.csv", plan.as_bytes()));
+        assert!(rt; is_file(&shelf, 1, "y.csv", b"A,B\n1,1\n-1,-1\n1,-1\n-1,1\n"));
+    }
+    Ok(())
+}
+
 #[test]
 fn words_other_than_run_are_refused(rt: HostRuntime) -> Result<(), Fail> {
     let alloc = rt.alloc();
@@ -474,6 +496,11 @@ fn words_other_than_run_are_refused(rt: HostRuntime) -> Result<(), Fail> {
     two.push(b"x".to_vec(alloc)?)?;
     let mut capitals = Vec::new(alloc);
     capitals.push(b"RUN".to_vec(alloc)?)?;
+    let mut again = run_words(alloc)?;
+    again.push(b"--seed=1".to_vec(alloc)?)?;
+    again.push(b"--seed=2".to_vec(alloc)?)?;
+    let mut large = run_words(alloc)?;
+    large.push(b"--seed=18446744073709551616".to_vec(alloc)?)?;
     let mut other = Vec::new(alloc);
     other.push(b"x".to_vec(alloc)?)?;
     other.push(b"y".to_vec(alloc)?)?;
@@ -482,6 +509,8 @@ fn words_other_than_run_are_refused(rt: HostRuntime) -> Result<(), Fail> {
         (other, "C2 word 1"),
         (two, "C3 word 2"),
         (capitals, "C2 word 1"),
+        (again, "C5 word 3"),
+        (large, "C4 word 2"),
     ] {
         let ended = ran(alloc, words.as_slice(), HALF.as_bytes(), Some(1), None)?;
         assert_eq!(rt; ended.status, 3);
@@ -546,6 +575,126 @@ fn no_call_follows_a_failed_write(rt: HostRuntime) -> Result<(), Fail> {
         Some(calls + 1),
     )?;
     assert_eq!(rt; ended.status, 0);
+    Ok(())
+}
+
+/// Each text with its listing, its files by name and content, and its status.
+const PLANNED: [(&[u8], &[u8], &[(&str, &[u8])], u8); 6] = [
+    (
+        b"proc factex; factors A B; size design=4; model resolution=3; output out=Plan pointrep=2 designrep=2 B cvals=('lo,w' 'h\"i');",
+        b"step 1\nfactors 2 levels 2\ndesign 4 runs\nno defining words\nnodes 2\nrules\n  none\noutput plan.csv 16 rows\n",
+        &[(
+            "plan.csv",
+            b"A,B\n-1,\"lo,w\"\n-1,\"lo,w\"\n-1,\"h\"\"i\"\n-1,\"h\"\"i\"\n1,\"lo,w\"\n1,\"lo,w\"\n1,\"h\"\"i\"\n1,\"h\"\"i\"\n-1,\"lo,w\"\n-1,\"lo,w\"\n-1,\"h\"\"i\"\n-1,\"h\"\"i\"\n1,\"lo,w\"\n1,\"lo,w\"\n1,\"h\"\"i\"\n1,\"h\"\"i\"\n",
+        )],
+        0,
+    ),
+    (
+        b"proc factex; factors A B C; size fraction=2; model res=3; examine aliasing; output out=HALF A nvals=(10 -2.5) B cvals=('' '\xe9\n\r');",
+        b"step 1\nfactors 3 levels 2\ndesign 4 runs\nresolution 3\nnodes 3\nrules\n  C = A*B\naliasing\n  A = B*C\n  B = A*C\n  C = A*B\noutput half.csv 4 rows\n",
+        &[(
+            "half.csv",
+            b"A,B,C\n10,,-1\n10,\"\xe9\n\r\",1\n-2.5,,1\n-2.5,\"\xe9\n\r\",-1\n",
+        )],
+        0,
+    ),
+    (
+        b"proc factex; factors A B; model r=3; output out=z randomize(0) novalran; output out=y randomize(18446744073709551615); output out=x randomize novalran;",
+        b"step 1\nfactors 2 levels 2\ndesign 4 runs\nno defining words\nnodes 2\nrules\n  none\noutput z.csv 4 rows seed 0\noutput y.csv 4 rows seed 18446744073709551615\noutput x.csv 4 rows seed 0\n",
+        &[
+            ("z.csv", b"A,B\n1,1\n1,-1\n-1,1\n-1,-1\n"),
+            ("y.csv", b"A,B\n1,-1\n1,1\n-1,-1\n-1,1\n"),
+            ("x.csv", b"A,B\n1,1\n1,-1\n-1,1\n-1,-1\n"),
+        ],
+        0,
+    ),
+    (
+        b"proc factex; factors A B C; size design=2; model r=3; output out=a;",
+        b"step 1\nfactors 3 levels 2\nno design in 2 runs\nnodes 1\n",
+        &[],
+        1,
+    ),
+    (
+        b"proc factex; factors A; model r=3; output out=a23456789012345678901234567890ZZ; run; proc factex; factors B / nlev=3; model r=3; output out=b;",
+        b"step 1\nfactors 1 levels 2\ndesign 2 runs\nno defining words\nnodes 1\nrules\n  none\noutput a23456789012345678901234567890zz.csv 2 rows\nstep 2\nfactors 1 levels 3\ndesign 3 runs\nno defining words\nnodes 1\nrules\n  none\noutput b.csv 3 rows\n",
+        &[
+            ("a23456789012345678901234567890zz.csv", b"A\n-1\n1\n"),
+            ("b.csv", b"B\n-1\n0\n1\n"),
+        ],
+        0,
+    ),
+    (
+        b"proc factex nodes=6; factors A B C D; size design=8; model resolution=max / minabs; output out=a;",
+        b"step 1\nfactors 4 levels 2\nbudget ended after 6 nodes\ndesign 8 runs not proved best\nresolution 4\nrules\n  D = A*B*C\noutput a.csv 8 rows\n",
+        &[(
+            "a.csv",
+            b"A,B,C,D\n-1,-1,-1,-1\n-1,-1,1,1\n-1,1,-1,1\n-1,1,1,-1\n1,-1,-1,1\n1,-1,1,-1\n1,1,-1,-1\n1,1,1,1\n",
+        )],
+        2,
+    ),
+];
+
+/// The status of the words for a text, its listing and its shelf, which takes `step` bytes in a
+/// call and fails from this call on.
+fn planned(
+    alloc: Global,
+    words: &[Vec<u8>],
+    text: &[u8],
+    step: usize,
+    first_failed: Option<usize>,
+) -> Result<(u8, Vec<u8>, MemoryShelf), Fail>
+    requires { 0 < step }
+{
+    let content = Bytes::from_vec(text.to_vec(alloc)?);
+    let mut source = MemorySource::new(content, STEP, Bytes::new(alloc));
+    let mut listing = MemorySink::new(alloc, STEP, 1000, Bytes::new(alloc))?;
+    let mut shelf = MemoryShelf::new(alloc, step, 1000, calls_from(alloc, first_failed)?)?;
+    let status = factex(alloc, words, &mut source, &mut listing, &mut shelf);
+    Ok((status, listing.bytes().to_vec(alloc)?, shelf))
+}
+
+/// Whether a file of the shelf is whole, with this name and this content.
+fn is_file(shelf: &MemoryShelf, i: usize, name: &str, content: &[u8]) -> bool {
+    i < shelf.files()
+        && shelf.is_ended(i)
+        && shelf.name(i) == name.as_bytes()
+        && shelf.content(i) == content
+}
+
+#[test]
+fn plans_are_shelved(rt: HostRuntime) -> Result<(), Fail> {
+    let alloc = rt.alloc();
+    let words = run_words(alloc)?;
+    for (text, listing, files, status) in PLANNED {
+        let (ended, listed, shelf) = planned(alloc, words.as_slice(), text, STEP, None)?;
+        assert_eq!(rt; ended, status);
+        assert!(rt; listed.as_slice() == listing);
+        assert_eq!(rt; shelf.files(), files.len());
+        for (i, (name, content)) in files.iter().enumerate() {
+            assert!(rt; is_file(&shelf, i, name, content));
+        }
+    }
+    Ok(())
+}
+
+/// After a failed call on the shelf none is made again, and nothing is listed. The file is begun,
+/// written in two pieces, and ended.
+#[test]
+fn no_call_follows_a_failed_file(rt: HostRuntime) -> Result<(), Fail> {
+    let alloc = rt.alloc();
+    let text = b"proc factex; factors A; model r=3; output out=a;";
+    let words = run_words(alloc)?;
+    for call in 1..5 {
+        let (status, listed, shelf) = planned(alloc, words.as_slice(), text, 4, Some(call))?;
+        assert_eq!(rt; status, 4);
+        assert_eq!(rt; shelf.faults(), 1);
+        assert!(rt; listed.is_empty());
+        assert_eq!(rt; shelf.files(), usize::from(call > 1));
+        assert!(rt; !is_file(&shelf, 0, "a.csv", b"A\n-1\n1\n"));
+    }
+    let (status, _listed, shelf) = planned(alloc, words.as_slice(), text, 4, Some(5))?;
+    assert_eq!(rt; status, 0);
+    assert!(rt; is_file(&shelf, 0, "a.csv", b"A\n-1\n1\n"));
     Ok(())
 }
 

@@ -1,12 +1,18 @@
 ghost use Rattle.std.specs.Prelude.{◌≡◌, ◌≤◌, ◌+◌, ◌++◌, codes, length};
+ghost use Rattle.std.specs.List.{list_all};
 ghost use Rattle.std.specs.Str.{bytes_eq};
-ghost use Rattle.fx_program.specs.Words.{bytes_of, settings_of, word_line};
+ghost use Rattle.fx_lexer.specs.Bytes.{is_digit};
+ghost use Rattle.fx_program.specs.Words.{after, bytes_of, command_with, is_number, run_with, second_option, seed_at, seed_of, seeded, settings_of, word_line};
 
 use arrayvec::ArrayVec;
+use fx_text::number;
 use itoa::Buffer;
 
 /// The room of a line that reports a fault: its two numbers have at most 40 digits each.
 const LINE: usize = 128;
+
+/// How the option for the seed begins.
+const SEED: &[u8] = b"--seed=";
 
 /// What the words of the command line ask for.
 #[derive(Debug, Clone, Copy, PartialEq, Eq)]
@@ -15,7 +21,7 @@ pub enum Settings {
     Run {
         /// How many threads search; 1 so far.
         threads: u8,
-        /// What random numbers start from; 0 so far.
+        /// What random numbers start from, where a statement has no seed of its own.
         seed: u64,
     },
 }
@@ -23,8 +29,9 @@ pub enum Settings {
 /// Why the words are refused.
 #[derive(Debug, Clone, Copy, PartialEq, Eq)]
 pub struct WordFault {
-    /// 1: there is no word. 2: the first word is no command. 3: the word after the command is no
-    /// option of it.
+    /// 1: there is no word. 2: the first word is no command. 3: the word is no option of the command.
+    /// 4: the number of the option is not one of 1 to 20 digits, or is too large. 5: the option is
+    /// repeated.
     pub code: u8,
     /// Which word, counted from 1.
     pub word: u32,
@@ -34,25 +41,96 @@ pub struct WordFault {
 pub fn read_words(words: &[Vec<u8>]) -> Result<Settings, WordFault>
     ensures { result ≡ settings_of (bytes_of words.now) }
 {
-    if words.is_empty() {
-        return Err(WordFault { code: 1, word: 1 });
+    match words.split_first() {
+        Some((command, options)) => command_with(command.as_slice(), options),
+        None => Err(WordFault { code: 1, word: 1 }),
     }
-    if !is_run(words[0].as_slice()) {
-        return Err(WordFault { code: 2, word: 1 });
-    }
-    if words.len() > 1 {
-        return Err(WordFault { code: 3, word: 2 });
-    }
-    Ok(Settings::Run {
-        threads: 1,
-        seed: 0,
-    })
 }
 
-fn is_run(word: &[u8]) -> bool
-    ensures { result ≡ bytes_eq word.now (codes "run") }
+/// The settings of a command with these options.
+fn command_with(command: &[u8], options: &[Vec<u8>]) -> Result<Settings, WordFault>
+    ensures { result ≡ command_with command.now (bytes_of options.now) }
 {
-    word == b"run".as_slice()
+    if command == b"run".as_slice() {
+        return run_with(options);
+    }
+    Err(WordFault { code: 2, word: 1 })
+}
+
+/// The settings of `run` with these options: a seed, at most once, or else 0.
+fn run_with(options: &[Vec<u8>]) -> Result<Settings, WordFault>
+    ensures { result ≡ run_with (bytes_of options.now) }
+{
+    match options.split_first() {
+        Some((option, others)) => seeded(others, seed_at(2, option.as_slice())),
+        None => Ok(Settings::Run {
+            threads: 1,
+            seed: 0,
+        }),
+    }
+}
+
+/// The settings of `run` where the first option gives this seed, and these options follow.
+fn seeded(options: &[Vec<u8>], seed: Result<u64, WordFault>) -> Result<Settings, WordFault>
+    ensures { result ≡ seeded (bytes_of options.now) seed }
+{
+    let seed = seed?;
+    match options.first() {
+        Some(option) => Err(second_option(option.as_slice())),
+        None => Ok(Settings::Run { threads: 1, seed }),
+    }
+}
+
+/// Why a second option is refused.
+fn second_option(word: &[u8]) -> WordFault
+    ensures { second_option (after (codes "--seed=") word.now) ≡ Err result }
+{
+    match word.strip_prefix(SEED) {
+        Some(_digits) => WordFault { code: 5, word: 3 },
+        None => WordFault { code: 3, word: 3 },
+    }
+}
+
+/// The seed of the word at this place.
+fn seed_at(place: u32, word: &[u8]) -> Result<u64, WordFault>
+    ensures { result ≡ seed_at place (after (codes "--seed=") word.now) }
+{
+    let Some(digits) = word.strip_prefix(SEED) else {
+        return Err(WordFault {
+            code: 3,
+            word: place,
+        });
+    };
+    match seed_of(digits) {
+        Some(seed) => Ok(seed),
+        None => Err(WordFault {
+            code: 4,
+            word: place,
+        }),
+    }
+}
+
+/// The seed that these digits write.
+fn seed_of(digits: &[u8]) -> Option<u64>
+    ensures { result ≡ seed_of digits.now }
+{
+    if !is_number(digits) {
+        return None;
+    }
+    u64::try_from(number(digits)).ok()
+}
+
+/// Whether these are 1 to 20 decimal digits.
+fn is_number(digits: &[u8]) -> bool
+    ensures { result ≡ is_number digits.now }
+{
+    are_digits(digits) && 1 <= digits.len() && digits.len() <= 20
+}
+
+fn are_digits(bytes: &[u8]) -> bool
+    ensures { result ≡ list_all is_digit bytes.now }
+{
+    bytes.iter().all(|b| b.is_ascii_digit())
 }
 
 /// The line that reports a fault. It takes no memory, so that refused words are reported even where
@@ -71,8 +149,9 @@ pub(crate) fn word_line(fault: WordFault) -> ArrayVec<u8, LINE>
     line
 }
 
-fn append(line: &mut ArrayVec<u8, LINE>, bytes: &[u8])
-    requires { length line.old.items + length bytes.now ≤ 128 }
+/// Appends bytes for which there is room.
+pub(crate) fn append<const N: usize>(line: &mut ArrayVec<u8, N>, bytes: &[u8])
+    requires { length line.old.items + length bytes.now ≤ N }
     ensures { line.new.items ≡ line.old.items ++ bytes.now }
 {
     for byte in bytes {

@@ -13,8 +13,8 @@ not_ended None count e = omega (arith, e)
 not_ended (Some rows) count e = omega (arith, e)
 
 pub returns : goal.returns
-returns c number step p is =
-    let status = ap (λ (o : Output). o.status) (ap (given_by number step) is) in (
+returns c seed number step p is =
+    let status = ap (λ (o : Output). o.status) (ap (given_by seed number step) is) in (
       λ ended. elim (cases_lt step.settings.budget (length (nodes p))) [
         | inl more ↦ more
         | inr few ↦ absurd (not_ended (answer p) (length (nodes p)) (sym (status ∙ ap status_of (within p step.settings.budget few)) ∙ ended))

@@ -2,4 +2,4 @@ use Rattle.fx_program.proofs.Statuses.{is_greatest}
 use Rattle.fx_program.proofs.laws.greatest_status_decides.Goals as goal
 
 pub returns : goal.returns
-returns c = is_greatest
+returns c seed steps = is_greatest seed steps

@@ -7,21 +7,6 @@ use Rattle.fx_program.specs.Output.{message, output_for, program_output, reads}
 use Rattle.fx_program.proofs.Endings.{ends_for, ends_by}
 use Rattle.fx_program.proofs.run.factex.Goals as goal
 
--- `run` is the only command so far
-run_output : (settings : Settings) (text : List ℕ) → output_for (Ok settings) text ≡ program_output (program_in text)
-run_output (Run threads seed) text = refl
-
-pub returns-in-Ok-Run-clause-output : goal.returns-in-Ok-Run-clause-output
-returns-in-Ok-Run-clause-output g c =
-    let settings = c.in-Ok-Run.field-0 in
-    let some = c.run.ensures.output in
-    rw c.exit_status.ensures
-    (record {
-      text = some.text;
-      exposed = λ read. some.exposed;
-      gives = ends_for _ some.text (Ok settings) _ c.in-Ok-Run.ensures (ends_by _ _ _ (run_output settings some.text) (some.lists.whatever _));
-    })
-
 pub returns-in-Err-clause-output : goal.returns-in-Err-clause-output
 returns-in-Err-clause-output g c =
     rw c.exit_status-in-Err.ensures

@@ -1,13 +1,14 @@
 use Rattle.std.proofs.Common.{◌≡◌, ◌<◌, ℕ, List, map, Ok, Err, length, None, sym, ap, ◌∙◌, arith, refl, Option, Some, subst}
 use Rattle.std.specs.Prelude.{replicate, unwrap_or}
 use Rattle.std.proofs.lemmas.List.{length-replicate}
+use Rattle.fx_base.specs.Acts.{World}
 use Rattle.fx_base.specs.Reading.{IsOverLimit}
 use Rattle.std.proofs.lemmas.Bool.{lt-ltb}
 use Rattle.fx_statements.specs.Steps.{meaning_of}
 use Rattle.fx_program.specs.Texts.{at_front, program_in}
-use Rattle.fx_program.specs.Output.{ListsForSome, program_output}
+use Rattle.fx_program.specs.Output.{RunsForSome, program_output}
 use Rattle.fx_program.specs.Claims.{SomeHasNone}
-use Rattle.fx_program.proofs.Endings.{lists_by, nothing_listed}
+use Rattle.fx_program.proofs.Endings.{ends_by, gives_by, nothing_given}
 use Rattle.fx_program.proofs.Statuses.{none_where_one}
 use Rattle.fx_program.proofs.run.run.Goals as goal
 
@@ -35,14 +36,14 @@ returns-in-Ok-TooLong-clause-output g c =
     record {
       text = over_limit left;
       exposed = same_over_limit left;
-      lists = lists_by _ _ _ (ap program_output (too_long (over_limit left) (is_over_limit left read) ∙ ap Err (sym c.at_front.ensures))) c.refuse.ensures.output;
+      gives = gives_by _ _ _ _ (ap (program_output c.args.seed) (too_long (over_limit left) (is_over_limit left read) ∙ ap Err (sym c.at_front.ensures))) (c.refuse.ensures.output c.args.seed);
     }
 
 pub returns-in-Err-ReadFault-clause-output : goal.returns-in-Err-ReadFault-clause-output
-returns-in-Err-ReadFault-clause-output g c = nothing_listed (g.S.Source.left c.args.source.now) 4 (omega arith)
+returns-in-Err-ReadFault-clause-output g c = nothing_given c.args.seed (g.S.Source.left c.args.source.now) 4 (omega arith)
 
 pub returns-in-Err-NoMemory-clause-output : goal.returns-in-Err-NoMemory-clause-output
-returns-in-Err-NoMemory-clause-output g c = nothing_listed (g.S.Source.left c.args.source.now) 5 (omega arith)
+returns-in-Err-NoMemory-clause-output g c = nothing_given c.args.seed (g.S.Source.left c.args.source.now) 5 (omega arith)
 
 pub returns-in-Ok-clause-output : goal.returns-in-Ok-clause-output
 returns-in-Ok-clause-output g c =
@@ -50,8 +51,8 @@ returns-in-Ok-clause-output g c =
     record {
       text = c.as_slice.result.now;
       exposed = λ known e. sym (c.as_slice.ensures ∙ read.all known e);
-      lists = lists_by _ _ _
-          (ap program_output c.in-Ok.ensures.program ∙ ap (λ steps. program_output (Ok (map meaning_of steps))) (sym c.as_slice-in-Ok.ensures))
+      gives = ends_by _ _ _
+          (ap (program_output c.args.seed) c.in-Ok.ensures.program ∙ ap (λ steps. program_output c.args.seed (Ok (map meaning_of steps))) (sym c.as_slice-in-Ok.ensures))
           c.run_steps.ensures.output;
     }
 
@@ -62,20 +63,20 @@ returns-in-Err-Fault-clause-output g c =
     record {
       text = c.as_slice.result.now;
       exposed = λ known e. sym (c.as_slice.ensures ∙ read.all known e);
-      lists = lists_by _ _ _ (ap program_output found) c.refuse-in-Err-Fault.ensures.output;
+      gives = gives_by _ _ _ _ (ap (program_output c.args.seed) found) (c.refuse-in-Err-Fault.ensures.output c.args.seed);
     }
 
 -- status 1 says so of the text that the source exposes
-one_told : {left a b : Option (List ℕ)} (status : ℕ) → ListsForSome left a b status → status ≡ 1 → (text : List ℕ) → left ≡ Some text → SomeHasNone (program_in text)
-one_told status some one text e =
+one_told : (seed : ℕ) {left : Option (List ℕ)} {a b : World} (status : ℕ) → RunsForSome seed left a b status → status ≡ 1 → (text : List ℕ) → left ≡ Some text → SomeHasNone (program_in text)
+one_told seed status some one text e =
     subst (λ (t : List ℕ). SomeHasNone (program_in t)) (sym (some.exposed text e))
-    (none_where_one some.text (sym ((some.lists.whatever None).same (omega (arith, one))) ∙ one))
+    (none_where_one seed some.text (sym (some.gives.same (omega (arith, one))) ∙ one))
 
 pub returns-in-Ok-TooLong-clause-none_at_all : goal.returns-in-Ok-TooLong-clause-none_at_all
-returns-in-Ok-TooLong-clause-none_at_all g c = one_told _ (returns-in-Ok-TooLong-clause-output g c)
+returns-in-Ok-TooLong-clause-none_at_all g c = one_told c.args.seed _ (returns-in-Ok-TooLong-clause-output g c)
 
 pub returns-in-Ok-clause-none_at_all : goal.returns-in-Ok-clause-none_at_all
-returns-in-Ok-clause-none_at_all g c = one_told _ (returns-in-Ok-clause-output g c)
+returns-in-Ok-clause-none_at_all g c = one_told c.args.seed _ (returns-in-Ok-clause-output g c)
 
 pub returns-in-Err-Fault-clause-none_at_all : goal.returns-in-Err-Fault-clause-none_at_all
-returns-in-Err-Fault-clause-none_at_all g c = one_told _ (returns-in-Err-Fault-clause-output g c)
+returns-in-Err-Fault-clause-none_at_all g c = one_told c.args.seed _ (returns-in-Err-Fault-clause-output g c)

@@ -1,0 +1,52 @@
+-- The files of a step, and the lines of its listing that name them.
+use Rattle.std.specs.Prelude.{ℕ, ◌*◌, ◌^◌, List, [], ◌++◌, map, Option, Some, None, codes, decimal}
+use Rattle.std.specs.List.{flat_map}
+use Rattle.std.specs.Str.{str_to_ascii_lowercase}
+use Rattle.fx_base.specs.Acts.{Event, WholeFile}
+use Rattle.fx_designs.specs.Problems.{Dimensions}
+use Rattle.fx_designs.specs.Outcomes.{Ending, Design, NoDesign, BudgetEnded}
+use Rattle.fx_outputs.specs.declared.output.OutputSpec.{OutputSpec}
+use Rattle.fx_outputs.specs.declared.shuffle.Shuffle.{Shuffle}
+use Rattle.fx_outputs.specs.declared.shuffle.Shuffle.TheVariants.{Kept, Default, Seed}
+use Rattle.fx_vectors.specs.Matrix.{MatrixView}
+use Rattle.fx_runs.specs.Runs.{design_of}
+use Rattle.fx_statements.specs.Steps.{Meaning}
+use Rattle.fx_alias.specs.Sections.{matrix_of}
+use Rattle.fx_plan.specs.Tables.{plan_of}
+
+-- the name of a file: the OUT name in lowercase, and the ending of its format
+abbrev pub file_name : List ℕ → List ℕ
+file_name name = str_to_ascii_lowercase name ++ codes ".csv"
+
+-- the file that an OUTPUT statement asks for: the plan of a design, by the program's seed
+abbrev pub plan_file : ℕ → List (List ℕ) → MatrixView → OutputSpec → Event
+plan_file seed factors matrix output = WholeFile (file_name output.name) (plan_of factors (design_of matrix) output seed)
+
+-- the files of a step, in the order of its OUTPUT statements; none without a matrix
+abbrev pub plan_files : ℕ → Meaning → Option MatrixView → List Event
+plan_files seed step None = []
+plan_files seed step (Some matrix) = map (plan_file seed step.factors matrix) step.outputs
+
+-- the seed by which a plan is shuffled
+abbrev pub seed_note : ℕ → Shuffle → List ℕ
+seed_note seed Kept = []
+seed_note seed (Default values) = codes " seed " ++ decimal seed
+seed_note seed (Seed own values) = codes " seed " ++ decimal own
+
+-- the line of a plan of so many runs: its file, its rows, and its seed
+abbrev pub output_line : ℕ → ℕ → OutputSpec → List ℕ
+output_line seed runs output =
+    codes "output " ++ (file_name output.name ++ (codes " " ++ (decimal (runs * (output.pointrep * output.designrep))
+    ++ (codes " rows" ++ (seed_note seed output.shuffle ++ codes "\n")))))
+
+-- the lines of a step's plans, in the order of its OUTPUT statements; none without a matrix
+abbrev pub output_lines : ℕ → Meaning → Option MatrixView → List ℕ
+output_lines seed step None = []
+output_lines seed step (Some matrix) = flat_map (output_line seed (matrix.shape.q ^ matrix.shape.m)) step.outputs
+
+-- the rule matrix that comes with an ending in these dimensions
+abbrev pub matrix_in : Dimensions → Ending → Option MatrixView
+matrix_in d (Design rows count) = Some (matrix_of d rows)
+matrix_in d (NoDesign count) = None
+matrix_in d (BudgetEnded None budget) = None
+matrix_in d (BudgetEnded (Some rows) budget) = Some (matrix_of d rows)

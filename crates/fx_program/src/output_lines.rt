@@ -1,0 +1,87 @@
+ghost use Rattle.std.specs.Prelude.{◌≡◌, ◌≤◌, ◌*◌, ◌++◌, codes, decimal, length, Some, OnOk};
+ghost use Rattle.fx_statements.specs.Steps.{meaning_of};
+ghost use Rattle.fx_program.specs.Files.{output_line, output_lines, seed_note};
+
+use crate::files::file_name;
+use fx_base::{Bytes, NoMemory, put, put_number};
+use fx_statements::{Outcome, OutputSpec, Shuffle, Step};
+use fx_vectors::Matrix;
+
+/// Appends the lines of the plans of a step with this outcome, by the program's seed.
+///
+/// # Errors
+///
+/// `NoMemory`; `out` then holds some first bytes of the lines after what it held.
+pub(crate) fn put_output_lines(
+    out: &mut Bytes,
+    step: &Step,
+    outcome: &Outcome,
+    seed: u64,
+) -> Result<(), NoMemory>
+    ensures { OnOk result
+        (out.new ≡ out.old ++ output_lines seed (meaning_of step.now) outcome.now.matrix) }
+{
+    match &outcome.matrix {
+        Some(matrix) => put_each(out, step, matrix, seed),
+        None => Ok(()),
+    }
+}
+
+/// Appends the lines of the plans of a design of the step.
+fn put_each(out: &mut Bytes, step: &Step, matrix: &Matrix, seed: u64) -> Result<(), NoMemory>
+    ensures { OnOk result
+        (out.new ≡ out.old ++ output_lines seed (meaning_of step.now) (Some matrix.now)) }
+{
+    let runs = matrix.shape().runs();
+    for output in step.outputs.as_slice() {
+        put_output_line(out, output, runs, seed)?;
+    }
+    Ok(())
+}
+
+/// Appends the line of a plan: its file, its rows, and the seed by which it is shuffled.
+fn put_output_line(
+    out: &mut Bytes,
+    output: &OutputSpec,
+    runs: u16,
+    seed: u64,
+) -> Result<(), NoMemory>
+    requires { length output.now.name ≤ 32 }
+    ensures { OnOk result (out.new ≡ out.old ++ output_line seed runs output.now) }
+{
+    put(out, b"output ")?;
+    put(out, file_name(output.name.as_slice()).as_slice())?;
+    put(out, b" ")?;
+    put_number(out, rows(runs, output.pointrep, output.designrep))?;
+    put(out, b" rows")?;
+    put_seed_note(out, output.shuffle, seed)?;
+    put(out, b"\n")
+}
+
+/// The number of rows of a plan of so many runs.
+fn rows(runs: u16, pointrep: u32, designrep: u32) -> u128
+    ensures { result ≡ runs * (pointrep * designrep) }
+{
+    u128::from(runs) * u128::from(u64::from(pointrep) * u64::from(designrep))
+}
+
+/// Appends the seed of a plan that is shuffled: its own, or else the program's.
+fn put_seed_note(out: &mut Bytes, shuffle: Shuffle, seed: u64) -> Result<(), NoMemory>
+    ensures { OnOk result (out.new ≡ out.old ++ seed_note seed shuffle) }
+{
+    match shuffle {
+        Shuffle::Kept => Ok(()),
+        Shuffle::Default { values: _values } => put_seed(out, seed),
+        Shuffle::Seed {
+            seed: own,
+            values: _values,
+        } => put_seed(out, own),
+    }
+}
+
+fn put_seed(out: &mut Bytes, seed: u64) -> Result<(), NoMemory>
+    ensures { OnOk result (out.new ≡ out.old ++ (codes " seed " ++ decimal seed)) }
+{
+    put(out, b" seed ")?;
+    put_number(out, u128::from(seed))
+}
