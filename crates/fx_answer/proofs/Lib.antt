@@ -1,2 +1,2 @@
-pub mod Stated
-pub mod Endings
+pub mod Asking
+pub mod Valid

@@ -1,3 +1,2 @@
-pub mod Questions
 pub mod Outcomes
-pub mod Claims
+pub mod Standing

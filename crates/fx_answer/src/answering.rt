@@ -1,70 +1,158 @@
-ghost use Rattle.std.specs.Prelude.{◌≡◌, true, IfOk};
-ghost use Rattle.std.specs.Option.{is_some};
-ghost use Rattle.fx_vectors.specs.declared.question.Question.{Question};
-ghost use Rattle.fx_search.specs.Asked.{IsAnswer};
+ghost use Rattle.std.specs.Prelude.{◌≡◌, ◌≤◌, ◌+◌, ◌^◌, List, ℕ, Option, Bool, IfOk, is_some, length};
+ghost use Rattle.fx_designs.specs.Answers.{answer};
+ghost use Rattle.fx_designs.specs.Problems.{Problem};
+ghost use Rattle.fx_vectors.specs.Shape.{IsShape, dimensions_of};
 ghost use Rattle.fx_statements.specs.Steps.{meaning_of};
-ghost use Rattle.fx_answer.specs.Questions.{problem_of};
-ghost use Rattle.fx_answer.specs.Outcomes.{IsOutcome, IsOutcomeOf};
+ghost use Rattle.fx_statements.specs.Questions.{
+    concluded, conclusion_in, cut_short, ends_with, highest, last_found, lowest, nodes_of, question_for, until, Found,
+};
+ghost use Rattle.fx_answer.specs.Outcomes.{IsOutcome};
+ghost use Rattle.fx_answer.specs.Standing.{
+    IsOf, IsOutcomeOf, IsShapeOf, StandsFor, conclusion_from, conclusion_past,
+};
 
-use crate::question::question_of;
+use crate::question::{highest, lowest, question_for};
 use fx_base::NoMemory;
 use fx_search::{Asked, ask_alone};
-use fx_statements::{End, Outcome, Step};
-use fx_vectors::{Books, Shape};
+use fx_statements::{End, Outcome, Size, Step};
+use fx_vectors::{Books, Matrix, Shape};
 use std::alloc::Global;
 
-/// The outcome of a step that can be answered: the first canonical matrix that meets what is asked,
-/// where least aberration is asked of least pattern; that no rule matrix at all does; or, exactly where
-/// the nodes of its question are more than its budget, that the budget ended, with the matrix that the
-/// search is left with.
+/// The outcome of a step, by the answers of its questions, which are asked in order within its budget
+/// of nodes: the last design that is found; that no rule matrix at all meets what is asked; or,
+/// exactly where the questions have more nodes together than the budget, that the budget ended, with
+/// the best matrix so far, if there is one.
 ///
 /// # Errors
 ///
 /// `NoMemory`.
 pub fn answer(alloc: Global, step: &Step) -> Result<Outcome, NoMemory>
-    requires { is_some (problem_of (meaning_of step.now)) ≡ true }
     ensures { IfOk result (IsOutcome (meaning_of step.now)) }
 {
-    let question = question_of(alloc, step)?;
-    let asked = ask_alone(alloc, &question, step.budget)?;
-    Ok(outcome_of(alloc, question.shape, step.budget, asked))
+    ask_from(alloc, step, lowest(step), None, 0)
 }
 
-/// The outcome by what the search for matrices of this shape found within the budget.
-fn outcome_of(alloc: Global, shape: Shape, budget: u64, asked: Asked) -> Outcome
-    ensures { (question : Question) → question.shape ≡ shape
-        → IsAnswer question budget asked
-        → IsOutcomeOf question budget result }
+/// Asks the questions for the numbers from `n` on. `found` is the last design of those before, which
+/// have so many nodes together.
+#[cycle(asking)]
+fn ask_from(
+    alloc: Global,
+    step: &Step,
+    n: u8,
+    found: Option<Matrix>,
+    nodes: u64,
+) -> Result<Outcome, NoMemory>
+    requires low { lowest (meaning_of step.now) step.now.size ≤ n }
+    requires high { n ≤ highest (meaning_of step.now) step.now.size }
+    requires within { nodes ≤ step.now.budget }
+    requires found { IsOf (meaning_of step.now) found }
+    ensures of_step { IfOk result (IsOutcomeOf (meaning_of step.now)) }
+    ensures concluded { IfOk result (λ outcome. (earlier : List Problem)
+        → nodes ≡ nodes_of earlier
+        → StandsFor found (last_found None earlier)
+        → conclusion_in outcome ≡ conclusion_from (meaning_of step.now) earlier n) }
 {
-    let books = Books::new(alloc);
-    match asked {
+    let question = question_for(alloc, step, n)?;
+    match ask_alone(alloc, &question, step.budget - nodes)? {
         Asked::Found {
             matrix,
-            nodes,
+            nodes: count,
             marks: _marks,
-        } => Outcome {
+        } => go_on(alloc, step, n, question.shape, true, Some(matrix), nodes + count),
+        Asked::Nothing {
+            nodes: count,
+            marks: _marks,
+        } => go_on(alloc, step, n, question.shape, false, found, nodes + count),
+        Asked::Budget { best } => Ok(cut_short(alloc, question.shape, best.or(found), step.budget)),
+    }
+}
+
+/// Asks the questions for the numbers above `n`, unless that for `n`, which is finished, is the last.
+#[cycle(asking)]
+fn go_on(
+    alloc: Global,
+    step: &Step,
+    n: u8,
+    shape: Shape,
+    is_answered: bool,
+    found: Option<Matrix>,
+    nodes: u64,
+) -> Result<Outcome, NoMemory>
+    requires low { lowest (meaning_of step.now) step.now.size ≤ n }
+    requires high { n ≤ highest (meaning_of step.now) step.now.size }
+    requires within { nodes ≤ step.now.budget }
+    requires shape { IsShapeOf (meaning_of step.now) shape }
+    requires dimensions { (question_for (meaning_of step.now) n).dimensions ≡ dimensions_of shape }
+    requires answered { is_answered ≡ is_some (answer (question_for (meaning_of step.now) n)) }
+    requires found { IsOf (meaning_of step.now) found }
+    ensures of_step { IfOk result (IsOutcomeOf (meaning_of step.now)) }
+    ensures concluded { IfOk result (λ outcome. (finished : List Problem)
+        → nodes ≡ nodes_of finished
+        → StandsFor found (last_found None finished)
+        → conclusion_in outcome ≡ conclusion_past (meaning_of step.now) finished n) }
+{
+    if n == highest(step) || is_last(step.size, is_answered) {
+        return Ok(concluded(alloc, shape, found, nodes));
+    }
+    ask_from(alloc, step, n + 1, found, nodes)
+}
+
+/// Whether no further question is asked after one that has an answer, or has none.
+fn is_last(size: Size, is_answered: bool) -> bool
+    ensures { result ≡ ends_with (until size) is_answered }
+{
+    match size {
+        Size::Minimum => is_answered,
+        Size::Runs { .. } => !is_answered,
+    }
+}
+
+/// The outcome of finished questions, the last of which has this shape: the last design that was
+/// found, if any.
+fn concluded(alloc: Global, shape: Shape, found: Option<Matrix>, nodes: u64) -> Outcome
+    requires shape { IsShape shape }
+    ensures concluded { (p : Problem) (last : Option Found)
+        → p.dimensions ≡ dimensions_of shape
+        → StandsFor found last
+        → conclusion_in result ≡ concluded p last nodes }
+{
+    let books = Books::new(alloc);
+    match found {
+        Some(matrix) => Outcome {
             end: End::Design,
-            shape,
+            shape: matrix.shape(),
             matrix: Some(matrix),
             nodes,
             books,
         },
-        Asked::Nothing {
-            nodes,
-            marks: _marks,
-        } => Outcome {
+        None => Outcome {
             end: End::NoDesign,
             shape,
             matrix: None,
             nodes,
             books,
         },
-        Asked::Budget { best } => Outcome {
-            end: End::Budget,
-            shape,
-            matrix: best,
-            nodes: budget,
-            books,
-        },
+    }
+}
+
+/// The outcome where the budget ended in a question of this shape, with what was found by then.
+fn cut_short(alloc: Global, shape: Shape, found: Option<Matrix>, budget: u64) -> Outcome
+    requires shape { IsShape shape }
+    ensures concluded { (p : Problem) (left : Option Found)
+        → p.dimensions ≡ dimensions_of shape
+        → StandsFor found left
+        → conclusion_in result ≡ cut_short p left budget }
+{
+    let books = Books::new(alloc);
+    let shape = match &found {
+        Some(matrix) => matrix.shape(),
+        None => shape,
+    };
+    Outcome {
+        end: End::Budget,
+        shape,
+        matrix: found,
+        nodes: budget,
+        books,
     }
 }

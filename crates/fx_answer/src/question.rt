@@ -1,53 +1,134 @@
-ghost use Rattle.std.specs.Prelude.{◌≡◌, ◌&&◌, not, true, false, IfOk, Some, length};
-ghost use Rattle.std.specs.Option.{is_some};
-ghost use Rattle.fx_vectors.specs.Question.{IsValid, problem_of as question_problem, requirement_of as demanded};
+ghost use Rattle.std.specs.Prelude.{◌≡◌, ◌≤◌, ◌^◌, length, IfOk};
+ghost use Rattle.fx_vectors.specs.Question.{IsValid, problem_of, requirement_of};
+ghost use Rattle.fx_vectors.specs.Shape.{dimensions_of};
 ghost use Rattle.fx_statements.specs.Goals.{goal_of};
 ghost use Rattle.fx_statements.specs.Steps.{meaning_of};
-ghost use Rattle.fx_answer.specs.Questions.{has_runs, problem_of, requirement_of};
+ghost use Rattle.fx_statements.specs.Questions.{
+    block_factors, highest, least_exponent, lowest, question_for, requirement_for, run_factors, seeks_highest,
+};
 
 use fx_base::NoMemory;
-use fx_statements::{Size, Step, Wanted};
+use fx_settings::greatest;
+use fx_statements::{Blocks, Size, Step, Wanted};
 use fx_vectors::{Demands, Effects, Question, Shape};
 use std::alloc::Global;
 
-/// The question that a step asks.
-pub(crate) fn question_of(alloc: Global, step: &Step) -> Result<Question, NoMemory>
-    requires { is_some (problem_of (meaning_of step.now)) ≡ true }
-    ensures problem { IfOk result (λ question.
-        problem_of (meaning_of step.now) ≡ Some (question_problem question)) }
-    ensures valid { IfOk result IsValid }
-    ensures factors { IfOk result (λ question. question.shape.s ≡ length step.now.factors) }
-    ensures no_blocks { IfOk result (λ question. question.shape.t ≡ 0) }
+/// The first number for which a step asks a question: a size, a number of block factors or a
+/// resolution, whichever it leaves free.
+pub(crate) fn lowest(step: &Step) -> u8
+    ensures { result ≡ lowest (meaning_of step.now) step.now.size }
 {
     match step.size {
-        Size::Runs { m } => {
-            let shape = Shape {
-                q: step.q,
-                m,
-                s: step.factors.len() as u8,
-                t: 0,
-            };
-            Ok(Question {
-                shape,
-                demands: demands_of(alloc, &step.wanted, step.least)?,
-                least: step.least,
-            })
+        Size::Minimum => least_exponent(step.blocks),
+        Size::Runs { .. } => {
+            if step.blocks.are_most() {
+                1
+            } else {
+                3
+            }
         }
-        // No step that can be answered so far asks for this.
-        Size::Minimum => unreachable!(),
     }
 }
 
-/// What is demanded of one design, with a least pattern or without.
-fn demands_of(alloc: Global, wanted: &Wanted, least: bool) -> Result<Demands, NoMemory>
-    requires { is_some (requirement_of least (goal_of wanted.now)) ≡ true }
+/// The last number.
+pub(crate) fn highest(step: &Step) -> u8
+    ensures value { result ≡ highest (meaning_of step.now) step.now.size }
+    ensures bound { result ≤ 41 }
+{
+    match step.size {
+        Size::Minimum => greatest(step.q),
+        Size::Runs { m } => {
+            if step.blocks.are_most() {
+                m
+            } else if seeks_highest(&step.wanted, step.least) {
+                (step.factors.len() as u8 + 1).max(3)
+            } else {
+                3
+            }
+        }
+    }
+}
+
+/// The question of a step for the number `n`.
+pub(crate) fn question_for(alloc: Global, step: &Step, n: u8) -> Result<Question, NoMemory>
+    requires low { lowest (meaning_of step.now) step.now.size ≤ n }
+    requires high { n ≤ highest (meaning_of step.now) step.now.size }
+    ensures problem { IfOk result (λ question. problem_of question ≡ question_for (meaning_of step.now) n) }
+    ensures valid { IfOk result IsValid }
+    ensures few_blocks { IfOk result (λ question. question.shape.q ^ question.shape.t ≤ 1024) }
+{
+    Ok(Question {
+        shape: shape_for(step, n),
+        demands: demands_for(alloc, &step.wanted, step.least, n)?,
+        least: step.least,
+    })
+}
+
+/// The shape of the designs that the question for the number `n` is about.
+fn shape_for(step: &Step, n: u8) -> Shape
+    ensures { dimensions_of result ≡ (question_for (meaning_of step.now) n).dimensions }
+{
+    let m = run_factors(step.size, n);
+    Shape {
+        q: step.q,
+        m,
+        s: step.factors.len() as u8,
+        t: block_factors(step.blocks, m, n),
+    }
+}
+
+/// The m of q^m runs: that of a fixed size, or `n` for the least size.
+fn run_factors(size: Size, n: u8) -> u8
+    ensures { result ≡ run_factors size n }
+{
+    match size {
+        Size::Runs { m } => m,
+        Size::Minimum => n,
+    }
+}
+
+/// The number of block factors in q^m runs.
+fn block_factors(blocks: Blocks, m: u8, n: u8) -> u8
+    ensures { result ≡ block_factors blocks m n }
+{
+    match blocks {
+        Blocks::Without => 0,
+        Blocks::Factors { t } => t,
+        Blocks::PerBlock { k } => m.saturating_sub(k),
+        Blocks::Most => n,
+    }
+}
+
+/// The least m with which there is more than one run and more than one block.
+fn least_exponent(blocks: Blocks) -> u8
+    ensures { result ≡ least_exponent blocks }
+{
+    match blocks {
+        Blocks::Without | Blocks::Factors { .. } | Blocks::Most => 1,
+        Blocks::PerBlock { k } => k + 1,
+    }
+}
+
+/// Whether the resolution is free. With a least pattern each design has the highest.
+fn seeks_highest(wanted: &Wanted, least: bool) -> bool
+    ensures { result ≡ seeks_highest least (goal_of wanted.now) }
+{
+    match wanted {
+        Wanted::Highest => !least,
+        Wanted::Resolution { .. } | Wanted::Effects { .. } => false,
+    }
+}
+
+/// What is demanded of one design by the question for the number `n`.
+fn demands_for(alloc: Global, wanted: &Wanted, least: bool, n: u8) -> Result<Demands, NoMemory>
     ensures { IfOk result (λ demands.
-        requirement_of least (goal_of wanted.now) ≡ Some (demanded demands)) }
+        requirement_of demands ≡ requirement_for least (goal_of wanted.now) n) }
 {
     match wanted {
         Wanted::Resolution { r } => Ok(Demands::Resolution { r: *r }),
-        // Of the designs of least pattern each has the highest resolution.
-        Wanted::Highest => Ok(Demands::Resolution { r: 3 }),
+        Wanted::Highest => Ok(Demands::Resolution {
+            r: if least { 3 } else { n },
+        }),
         Wanted::Effects {
             estimate,
             nonnegligible,
@@ -55,35 +136,5 @@ fn demands_of(alloc: Global, wanted: &Wanted, least: bool) -> Result<Demands, No
             estimate: Effects::from_slice(alloc, estimate.as_slice())?,
             nonnegligible: Effects::from_slice(alloc, nonnegligible.as_slice())?,
         }),
-    }
-}
-
-/// Whether a step is of a form that can be answered so far: a fixed number of runs, without blocks,
-/// and at least a resolution, effects, or least aberration.
-pub fn can_be_answered(step: &Step) -> bool
-    ensures { result ≡ is_some (problem_of (meaning_of step.now)) }
-{
-    !step.blocks.are_there() && has_runs(step.size) && asks_for_one(&step.wanted, step.least)
-}
-
-/// Whether the number of runs is fixed.
-fn has_runs(size: Size) -> bool
-    ensures { result ≡ has_runs size }
-{
-    match size {
-        Size::Runs { .. } => true,
-        Size::Minimum => false,
-    }
-}
-
-/// Whether one design is asked for, with a least pattern or without, and not one of several sizes or
-/// resolutions.
-fn asks_for_one(wanted: &Wanted, least: bool) -> bool
-    ensures { result ≡ is_some (requirement_of least (goal_of wanted.now)) }
-{
-    match wanted {
-        Wanted::Resolution { .. } => true,
-        Wanted::Highest => least,
-        Wanted::Effects { .. } => !least,
     }
 }

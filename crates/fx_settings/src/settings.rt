@@ -46,7 +46,7 @@ pub enum Blocks {
 }
 
 impl Blocks {
-    ghost use Rattle.fx_settings.specs.Valid.{has_blocks};
+    ghost use Rattle.fx_settings.specs.Valid.{has_blocks, has_most};
 
     /// Whether the runs are divided into blocks.
     pub fn are_there(self) -> bool
@@ -55,6 +55,16 @@ impl Blocks {
         match self {
             Blocks::Without => false,
             Blocks::Factors { .. } | Blocks::PerBlock { .. } | Blocks::Most => true,
+        }
+    }
+
+    /// Whether there are to be as many blocks as can be.
+    pub fn are_most(self) -> bool
+        ensures { result ≡ has_most self }
+    {
+        match self {
+            Blocks::Most => true,
+            Blocks::Without | Blocks::Factors { .. } | Blocks::PerBlock { .. } => false,
         }
     }
 }

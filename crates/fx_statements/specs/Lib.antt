@@ -5,4 +5,5 @@ pub mod Valid
 pub mod Readings
 pub mod Contexts
 pub mod Steps
+pub mod Questions
 pub mod Programs
