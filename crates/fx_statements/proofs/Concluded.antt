@@ -3,14 +3,15 @@
 use Rattle.std.proofs.Common.{ℕ, ◌≡◌, ◌<◌, ◌≤◌, ◌+◌, ◌-◌, zero, suc, Bool, true, false, List, [], ◌∷◌, ◌++◌, length, map, All, Option, Some, None, refl, sym, subst, ◌∙◌, ap, arith, inl, inr, ◌⊎◌}
 use Rattle.std.specs.Prelude.{is_some, not, if◌then◌else◌, find}
 use Rattle.std.specs.List.{AllByRecursion, range_with_len}
-use Rattle.std.proofs.lemmas.Bool.{cases_eq, cases_lt, cond-true, cond-false, le-ltb, lt-ltb}
+use Rattle.std.proofs.lemmas.Bool.{cases_Bool, cases_eq, cases_lt, cond-true, cond-false, le-ltb, lt-ltb}
 use Rattle.std.proofs.lemmas.List.Elements.{All-from_recursion}
 use Rattle.std.proofs.lemmas.List.Sums.{sum_by-cons, sum_by_push}
 use Rattle.fx_designs.specs.Nodes.{nodes}
-use Rattle.fx_designs.specs.Problems.{Problem}
+use Rattle.fx_designs.specs.Problems.{Dimensions, Problem}
 use Rattle.fx_designs.specs.Answers.{answer}
 use Rattle.fx_designs.specs.Outcomes.{Ending, Design, NoDesign}
-use Rattle.fx_statements.specs.Questions.{Until, Answered, Unanswered, Questions, Conclusion, Found, Turn, asked, concluded, conclusion_by, conclusion_of, cut_short, found_by, is_last, last_found, last_of, left_at, nodes_of, passes, series, turns, up_to}
+use Rattle.fx_statements.specs.Steps.{Meaning}
+use Rattle.fx_statements.specs.Questions.{Answered, Conclusion, Found, Questions, Turn, Unanswered, Until, asked, concluded, conclusion_by, conclusion_of, cut_short, found_by, highest, is_last, last_found, last_of, left_at, lowest, nodes_of, outcome_of, passes, question_for, questions_of, series, turns, up_to}
 
 same_some : {A : Type 0} (x y : A) → Some x ≡ Some y → x ≡ y
 same_some x y e = cc
@@ -397,3 +398,99 @@ passed questions budget more =
     let none : nodes_of [] ≡ 0 = refl in
     let some = some_passes budget [] (asked questions) (omega (arith, none)) (omega (arith, more, none)) in
     (some.0, ap (conclusion_by (last_of questions.first (asked questions)) (asked questions) budget) some.1)
+
+-- What holds of each question holds of that whose dimensions an outcome has
+
+module _ (P : Problem → Type 0) where
+  -- of the question that was found, where one was
+  abbrev IfFound : Option Found → Type 0
+  IfFound None = Unit {0}
+  IfFound (Some found) = P found.question
+
+  -- of that of a turn, and of those before it
+  abbrev InTurn : Turn → Type 0
+  InTurn turn = AllByRecursion P turn.earlier × P turn.question
+
+  -- of one with these dimensions
+  abbrev pub OneWith : Dimensions → Type 0
+  OneWith d = (p : Problem) × P p × (d ≡ p.dimensions)
+
+  kept_up_to : (ends : Problem → Bool) (ps : List Problem) → AllByRecursion P ps → AllByRecursion P (up_to ends ps)
+  kept_up_to ends [] h = h
+  kept_up_to ends (p ∷ ps) h = elim (cases_Bool (ends p)) [
+    | inl last ↦ (h.0, subst (AllByRecursion P) (sym (cond-true (ends p) [] (up_to ends ps) last)) tt)
+    | inr more ↦ (h.0, subst (AllByRecursion P) (sym (cond-false (ends p) [] (up_to ends ps) more)) (kept_up_to ends ps h.1))
+  ]
+
+  kept_last : (p : Problem) (ps : List Problem) → P p → AllByRecursion P ps → P (last_of p ps)
+  kept_last p [] one all = one
+  kept_last p (next ∷ others) one all = kept_last next others all.0 all.1
+
+  kept_by_answer : (earlier : Option Found) (p : Problem) (own : Option (List ℕ)) → IfFound earlier → P p → IfFound (found_by earlier p own)
+  kept_by_answer earlier p None before one = before
+  kept_by_answer earlier p (Some rows) before one = one
+
+  kept_found : (earlier : Option Found) (ps : List Problem) → IfFound earlier → AllByRecursion P ps → IfFound (last_found earlier ps)
+  kept_found earlier [] before all = before
+  kept_found earlier (p ∷ ps) before all = kept_found (found_by earlier p (answer p)) ps (kept_by_answer earlier p (answer p) before all.0) all.1
+
+  kept_turn : (test : Turn → Bool) (earlier ps : List Problem) (turn : Turn) → AllByRecursion P earlier → AllByRecursion P ps
+      → find test (turns earlier ps) ≡ Some turn → InTurn turn
+  kept_turn test earlier [] turn before all e = absurd (cc e)
+  kept_turn test earlier (p ∷ ps) turn before all e =
+      let own : Turn = record { earlier = earlier; question = p } in
+      elim (cases_Bool (test own)) [
+        | inl here ↦ subst InTurn (same_some own turn (sym (cond-true (test own) _ _ here) ∙ e)) (before, all.0)
+        | inr later ↦ kept_turn test (earlier ++ p ∷ []) ps turn (each-and earlier p before all.0) all.1 (sym (cond-false (test own) _ _ later) ∙ e)
+      ]
+    where
+      each-and : (xs : List Problem) (p : Problem) → AllByRecursion P xs → P p → AllByRecursion P (xs ++ p ∷ [])
+      each-and [] p h one = (one, tt)
+      each-and (x ∷ xs) p h one = (h.0, each-and xs p h.1 one)
+
+  in_concluded : (p : Problem) (found : Option Found) (count : ℕ) → P p → IfFound found → OneWith (concluded p found count).dimensions
+  in_concluded p None count one before = (p, one, refl)
+  in_concluded p (Some found) count one before = (found.question, before, refl)
+
+  in_cut_short : (p : Problem) (left : Option Found) (budget : ℕ) → P p → IfFound left → OneWith (cut_short p left budget).dimensions
+  in_cut_short p None budget one before = (p, one, refl)
+  in_cut_short p (Some found) budget one before = (found.question, before, refl)
+
+  in_conclusion : (p : Problem) (ps : List Problem) (budget : ℕ) (turn : Option Turn) → P p → AllByRecursion P ps
+      → ((own : Turn) → turn ≡ Some own → InTurn own) → OneWith (conclusion_by p ps budget turn).dimensions
+  in_conclusion p ps budget None one all each = in_concluded p (last_found None ps) (nodes_of ps) one (kept_found None ps tt all)
+  in_conclusion p ps budget (Some turn) one all each =
+      let here = each turn refl in
+      in_cut_short turn.question (left_at budget turn) budget here.1
+      (kept_by_answer (last_found None turn.earlier) turn.question _ (kept_found None turn.earlier tt here.0) here.1)
+
+  pub dimensions-of : (questions : Questions) (budget : ℕ) → P questions.first → AllByRecursion P questions.others
+      → OneWith (conclusion_of questions budget).dimensions
+  unfolding conclusion_of
+  dimensions-of questions budget one others =
+      let all : AllByRecursion P (asked questions) = kept_up_to (is_last questions.until) (questions.first ∷ questions.others) (one, others) in
+      in_conclusion (last_of questions.first (asked questions)) (asked questions) budget (find (passes budget) (turns [] (asked questions)))
+      (kept_last questions.first (asked questions) one all) all (λ turn e. kept_turn (passes budget) [] (asked questions) turn tt all e)
+
+-- those of a step's outcome are those of one of its questions, for a number from the first to the last
+pub record IsForSome (question : ℕ → Problem) (low high : ℕ) (p : Problem) : Type 0 where
+  pub n : ℕ
+  pub from : low ≤ n
+  pub upto : (n ≤ high) ⊎ (n ≡ low)
+  pub is : p ≡ question n
+
+each_for : (question : ℕ → Problem) (low high a n : ℕ) → low ≤ a → (n ≡ 0) ⊎ (a + n ≤ high + 1)
+    → AllByRecursion (IsForSome question low high) (map question (range_with_len a n))
+each_for question low high a zero from upto = tt
+each_for question low high a (suc n) from upto =
+    let fits : a + suc n ≤ high + 1 = elim upto [ inl none ↦ absurd (omega (arith, none)) | inr fits ↦ fits ] in
+    (record { n = a; from = from; upto = inl (omega (arith, fits)); is = refl }, each_for question low high (a + 1) n (omega (arith, from)) (inr (omega (arith, fits))))
+
+pub step-question : (step : Meaning) → OneWith (IsForSome (question_for step) (lowest step step.settings.size) (highest step step.settings.size)) (outcome_of step).dimensions
+step-question step =
+    let low = lowest step step.settings.size in
+    let high = highest step step.settings.size in
+    dimensions-of (IsForSome (question_for step) low high) (questions_of step) step.settings.budget
+    (record { n = low; from = omega arith; upto = inr refl; is = refl })
+    (each_for (question_for step) low high (low + 1) (high - low) (omega arith)
+    (elim (cases_lt low high) [ inl less ↦ inr (omega (arith, less)) | inr over ↦ inl (omega (arith, over)) ]))
