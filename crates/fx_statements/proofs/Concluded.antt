@@ -231,6 +231,7 @@ module _ (question : ℕ → Problem) (low high budget : ℕ) where
   pub record IsOfFirst (rows : List ℕ) : Type 0 where
     pub n : ℕ
     pub from : low ≤ n
+    pub upto : low ≤ high → n ≤ high
     pub answers : IsAnswerOf question low high Answered budget rows n
     pub none_before : (k : ℕ) → low ≤ k → k < n → answer (question k) ≡ None
 
@@ -241,6 +242,7 @@ module _ (question : ℕ → Problem) (low high budget : ℕ) where
       record {
         n = first.0;
         from = first.1.from;
+        upto = λ some. omega (arith, some, first.1.below);
         answers = answer_of question low high Answered budget rows count first.0 last first.1.found_at;
         none_before = first.1.none_before;
       }
@@ -249,6 +251,7 @@ module _ (question : ℕ → Problem) (low high budget : ℕ) where
   pub record IsOfLast (rows : List ℕ) : Type 0 where
     pub n : ℕ
     pub from : low ≤ n
+    pub upto : low ≤ high → n ≤ high
     pub answers : IsAnswerOf question low high Unanswered budget rows n
     pub none_next : (high ≤ n) ⊎ (answer (question (n + 1)) ≡ None)
 
@@ -259,6 +262,7 @@ module _ (question : ℕ → Problem) (low high budget : ℕ) where
       record {
         n = last.0;
         from = last.1.from;
+        upto = λ some. omega (arith, some, last.1.below);
         answers = answer_of question low high Unanswered budget rows count last.0 found last.1.found_at;
         none_next = elim last.1.none_next [
           | inl end ↦ inl (omega (arith, end))
