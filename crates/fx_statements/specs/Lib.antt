@@ -1,4 +1,5 @@
 pub mod Goals
+pub mod Endings
 pub mod Outcomes
 pub mod Components
 pub mod Valid

@@ -1,3 +1,6 @@
+ghost use Rattle.fx_vectors.specs.Shape.{IsShape};
+ghost use Rattle.fx_statements.specs.Endings.{HasMatrix, HasMatrix-prop, ending_by};
+
 use fx_vectors::{Books, Matrix, Shape};
 
 /// How the search for a step's design ended.
@@ -11,7 +14,8 @@ pub enum End {
     Budget,
 }
 
-/// The outcome of a step.
+/// The outcome of a step. Its shape is within the limits. There is a matrix with `Design`, and there
+/// may be one with `Budget`; it has all rows of the shape.
 #[derive(Debug, Drop)]
 pub struct Outcome {
     pub end: End,
@@ -23,4 +27,6 @@ pub struct Outcome {
     pub nodes: u64,
     /// The books of the finished questions.
     pub books: Books,
+    ghost shaped: { IsShape shape },
+    ghost whole: { HasMatrix shape (ending_by end matrix nodes) matrix } by { HasMatrix-prop shape (ending_by end matrix nodes) matrix },
 }
