@@ -1,7 +1,6 @@
 -- Each fault of a text has its message and its place.
 use Rattle.std.proofs.Common.{◌≡◌, ℕ, zero, suc, ◌≤◌, Bool, true, false, ◌&&◌, List, [], ◌∷◌, ◌++◌, length, Result, Ok, Err, refl, sym, ap, subst, arith}
 use Rattle.std.specs.Prelude.{IfErr, nat_le, nat_lt, if◌then◌else◌}
-use Rattle.std.specs.List.{list_all}
 use Rattle.std.proofs.lemmas.Bool.{and_parts, leb-true, leb-false}
 use Rattle.fx_lexer.specs.declared.token.Token.{Token}
 use Rattle.fx_lexer.specs.declared.token.LexFault.{LexFault}
@@ -16,11 +15,10 @@ use Rattle.fx_statements.specs.Steps.{Meaning}
 use Rattle.fx_statements.specs.Programs.{program_of}
 use Rattle.fx_statements.proofs.Placed as placed
 use Rattle.fx_program.specs.declared.text.TextFault.{TextFault}
-use Rattle.fx_program.specs.Forms.{is_built}
-use Rattle.fx_program.specs.Texts.{at_front, all_built, program_by, program_in}
+use Rattle.fx_program.specs.Texts.{accepted, at_front, program_by, program_in}
 use Rattle.fx_program.specs.Refusals.{reasons, lexical_reasons, has_row, HasItsMessage}
 
--- each number up to this one has a row, but for 0
+-- each number from 1 to this one has a row
 abbrev all_rows : List (ℕ × List ℕ) → ℕ → Bool
 all_rows table zero = true
 all_rows table (suc n) = has_row table (suc n) && all_rows table n
@@ -48,12 +46,8 @@ lexical_row kind rule = let p = and_parts (nat_le 1 kind) (nat_le kind 5) rule i
 at_its_front : (text : List ℕ) → IsPlaceIn text 1 1
 at_its_front text = record { before = []; after = text; joined = refl; line_is = refl; column_is = refl }
 
-with_tokens : (text : List ℕ) (program : Result (List Meaning) Refusal) → IfErr program (IsByRule (IsPlaceIn text)) → IfErr (all_built program) (HasItsMessage text)
-with_tokens text (Ok steps) h = by_test (list_all is_built steps)
-  where
-    by_test : (b : Bool) → IfErr (if b then Ok steps else Err (at_front 0)) (HasItsMessage text)
-    by_test true = tt
-    by_test false = (refl, at_its_front text)
+with_tokens : (text : List ℕ) (program : Result (List Meaning) Refusal) → IfErr program (IsByRule (IsPlaceIn text)) → IfErr (accepted program) (HasItsMessage text)
+with_tokens text (Ok steps) h = tt
 with_tokens text (Err refusal) h = (row_of refusal.code h.rule, h.place)
 
 lexically : (text : List ℕ) (r : Result (List Token) LexFault) → lexed text ≡ r → IfErr (program_by text r) (HasItsMessage text)

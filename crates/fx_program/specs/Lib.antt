@@ -1,10 +1,10 @@
 pub mod Words
 pub mod Refusals
 pub mod Reasons
-pub mod Forms
 pub mod Texts
 pub mod Stops
 pub mod Statuses
 pub mod Files
 pub mod Output
+pub mod StepClaims
 pub mod Claims

@@ -1,10 +1,10 @@
 -- What the program gives, for its words and its text: pieces of listing and files, and a status.
 use Rattle.std.specs.Prelude.{ℕ, ◌≡◌, ◌+◌, ◌<◌, nat_le, if◌then◌else◌, List, [], ◌∷◌, ◌++◌, Option, Some, None, Result, Ok, Err, Bool, true, false}
 use Rattle.fx_base.specs.Acts.{Event, Piece, acts, World, File, Did, DidPart}
-use Rattle.fx_designs.specs.Problems.{Dimensions, Problem}
-use Rattle.fx_designs.specs.Outcomes.{Ending, ending_of}
+use Rattle.fx_designs.specs.Problems.{Dimensions}
+use Rattle.fx_designs.specs.Outcomes.{Ending}
 use Rattle.fx_alias.specs.Sections.{step_lines}
-use Rattle.fx_answer.specs.Questions.{problem_of}
+use Rattle.fx_statements.specs.Questions.{outcome_of}
 use Rattle.fx_statements.specs.Steps.{Meaning}
 use Rattle.fx_program.specs.Words.{settings_of, word_line}
 use Rattle.fx_program.specs.Refusals.{fault_line}
@@ -37,18 +37,9 @@ ending_given seed number d step ending =
     (step_lines number d step ending ++ output_lines seed step (matrix_in d ending))
     (status_of ending)
 
--- what is given for a step that states this problem
-abbrev pub step_given : ℕ → ℕ → Meaning → Problem → Output
-step_given seed number step p = ending_given seed number p.dimensions step (ending_of p step.settings.budget)
-
--- what is given for a step that states a problem; else nothing
-abbrev pub given_by : ℕ → ℕ → Meaning → Option Problem → Output
-given_by seed number step None = record { events = []; status = 0 }
-given_by seed number step (Some p) = step_given seed number step p
-
--- what is given for a step; nothing for one that cannot be answered so far
+-- what is given for a step, by its outcome
 abbrev pub step_output : ℕ → ℕ → Meaning → Output
-step_output seed number step = given_by seed number step (problem_of step)
+step_output seed number step = ending_given seed number (outcome_of step).dimensions step (outcome_of step).ending
 
 -- the status of a step, whatever its number and the seed
 abbrev pub step_status : Meaning → ℕ

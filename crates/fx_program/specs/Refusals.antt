@@ -8,7 +8,6 @@ use Rattle.fx_program.specs.declared.text.TextFault.TheVariants.{Lexical, Refuse
 -- what the rules with the letter E say, by their numbers
 abbrev pub reasons : List (ℕ × List ℕ)
 reasons =
-    (0, codes "not built yet") ∷
     (1, codes "statement is not known") ∷
     (2, codes "unexpected word or end") ∷
     (3, codes "option is not known") ∷

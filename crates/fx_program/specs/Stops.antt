@@ -1,8 +1,15 @@
 -- How the program ends: with a status below 4, or stopped before its end, and for what cause.
 use Rattle.std.specs.Prelude.{ℕ, ◌≡◌, ◌≢◌, ◌⊎◌, List, [], ◌∷◌, Result, Ok, Err}
 use Rattle.fx_base.specs.Faults.{Rose}
+use Rattle.fx_base.specs.declared.reading.ReadStop.{ReadStop}
+use Rattle.fx_base.specs.declared.reading.ReadStop.TheVariants as read
 use Rattle.fx_program.specs.declared.stop.Stop.{Stop}
 use Rattle.fx_program.specs.declared.stop.Stop.TheVariants as stop
+
+-- why the program stops where the text was not read
+abbrev pub stop_of : ReadStop → Stop
+stop_of read.ReadFault = stop.Failed
+stop_of read.NoMemory = stop.NoMemory
 
 -- the exit status
 abbrev pub exit_status : Result ℕ Stop → ℕ

@@ -1,13 +1,11 @@
 -- The program of a text, or why it has none.
 use Rattle.std.specs.Prelude.{◌≡◌, ℕ, nat_lt, List, length, Result, Ok, Err, if◌then◌else◌}
-use Rattle.std.specs.List.{list_all}
 use Rattle.fx_lexer.specs.declared.token.Token.{Token}
 use Rattle.fx_lexer.specs.declared.token.LexFault.{LexFault}
 use Rattle.fx_lexer.specs.Lexing.{lexed}
 use Rattle.fx_text.specs.declared.refusal.Refusal.{Refusal}
 use Rattle.fx_statements.specs.Steps.{Meaning}
 use Rattle.fx_statements.specs.Programs.{program_of}
-use Rattle.fx_program.specs.Forms.{is_built}
 use Rattle.fx_program.specs.declared.text.TextFault.{TextFault}
 use Rattle.fx_program.specs.declared.text.TextStop.{TextStop}
 use Rattle.fx_program.specs.declared.text.TextStop.TheVariants as stop
@@ -17,14 +15,14 @@ use Rattle.fx_program.specs.declared.text.TextFault.TheVariants.{Lexical, Refuse
 abbrev pub at_front : ℕ → TextFault
 at_front code = Refused (record { code = code; line = 1; column = 1 })
 
--- an accepted program, where each step is of a form that is built
-abbrev pub all_built : Result (List Meaning) Refusal → Result (List Meaning) TextFault
-all_built (Ok steps) = if list_all is_built steps then Ok steps else Err (at_front 0)
-all_built (Err refusal) = Err (Refused refusal)
+-- the steps of an accepted text, or the refusal as a fault
+abbrev pub accepted : Result (List Meaning) Refusal → Result (List Meaning) TextFault
+accepted (Ok steps) = Ok steps
+accepted (Err refusal) = Err (Refused refusal)
 
 -- the program of a text with these tokens
 abbrev pub program_by : List ℕ → Result (List Token) LexFault → Result (List Meaning) TextFault
-program_by text (Ok tokens) = all_built (program_of text tokens)
+program_by text (Ok tokens) = accepted (program_of text tokens)
 program_by text (Err fault) = Err (Lexical fault)
 
 -- the program of a text of at most 1,048,576 bytes

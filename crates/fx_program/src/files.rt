@@ -3,7 +3,6 @@ ghost use Rattle.fx_statements.specs.Steps.{meaning_of};
 ghost use Rattle.fx_answer.specs.Outcomes.{IsOutcome};
 ghost use Rattle.fx_plan.specs.Steps.{IsDesignOf};
 ghost use Rattle.fx_program.specs.Files.{file_name, plan_files};
-ghost use Rattle.fx_program.specs.Forms.{is_built};
 ghost use Rattle.fx_program.specs.Output.{Shelved, ShelvedPart};
 ghost use Rattle.fx_program.specs.Stops.{HasCause};
 
@@ -28,7 +27,6 @@ pub(crate) fn shelve_plans<F: Shelf>(
     seed: u64,
     shelf: &mut F,
 ) -> Result<(), Stop>
-    requires built { is_built (meaning_of step.now) ≡ true }
     requires outcome { IsOutcome (meaning_of step.now) outcome.now }
     requires ended { F.begun shelf.old ≡ false }
     ensures done { OnOk result

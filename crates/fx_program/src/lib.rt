@@ -2,7 +2,6 @@
 #![tactic(auto)]
 
 mod files;
-mod forms;
 mod laws;
 mod output_lines;
 mod refusal;

@@ -99,11 +99,10 @@ fn lexical_reasons() -> [Reason; 5]
 }
 
 /// What the rules with the letter E say.
-fn reasons() -> [Reason; 33]
+fn reasons() -> [Reason; 32]
     ensures { map row_of result ≡ reasons }
 {
     [
-        row(0, b"not built yet"),
         row(1, b"statement is not known"),
         row(2, b"unexpected word or end"),
         row(3, b"option is not known"),

@@ -1,5 +1,4 @@
 ghost use Rattle.std.specs.Prelude.{◌≡◌, ◌<◌, ◌≤◌, ◌⊎◌, [], ◌∷◌, ℕ, List, Option, Some, true, false, Ok, Err, map, length, ◌++◌, IfOk, OnOk};
-ghost use Rattle.std.specs.List.{list_all};
 ghost use Rattle.fx_vectors.specs.Matrix.{MatrixView};
 ghost use Rattle.fx_vectors.specs.Shape.{dimensions_of};
 ghost use Rattle.fx_statements.specs.Steps.{meaning_of};
@@ -7,7 +6,6 @@ ghost use Rattle.fx_statements.specs.Outcomes.{ending_by, ending_in};
 ghost use Rattle.fx_alias.specs.Sections.{step_lines};
 ghost use Rattle.fx_answer.specs.Outcomes.{IsOutcome};
 ghost use Rattle.fx_program.specs.Words.{bytes_of, settings_of};
-ghost use Rattle.fx_program.specs.Forms.{is_built};
 ghost use Rattle.fx_program.specs.Texts.{program_in};
 ghost use Rattle.fx_program.specs.Statuses.{status_of};
 ghost use Rattle.fx_program.specs.Claims.{SomeHasNone};
@@ -23,7 +21,7 @@ use crate::text::{TextFault, TextStop, at_front, read_program};
 use crate::words::{Settings, read_words, word_line};
 use fx_alias::{examine_listing, head_listing, rules_listing};
 use fx_answer::answer;
-use fx_base::{Bytes, NoMemory, ReadStop, Shelf, Sink, Source, Taken, read_all, write_all};
+use fx_base::{Bytes, NoMemory, Shelf, Sink, Source, Taken, read_all, write_all};
 use fx_statements::{End, Outcome, Step};
 use fx_vectors::Matrix;
 use std::alloc::Global;
@@ -121,11 +119,9 @@ fn run<S: Source, K: Sink, F: Shelf>(
         → S.left source.old ≡ Some text
         → S.left source.new ≡ Some [] }
 {
-    let text = match read_all(alloc, source, TEXT_LIMIT) {
-        Ok(Taken::Whole(text)) => text,
-        Ok(Taken::TooLong) => return refuse(alloc, at_front(25), listing),
-        Err(ReadStop::ReadFault) => return Err(Stop::Failed),
-        Err(ReadStop::NoMemory) => return Err(Stop::NoMemory),
+    let text = match read_all(alloc, source, TEXT_LIMIT)? {
+        Taken::Whole(text) => text,
+        Taken::TooLong => return refuse(alloc, at_front(25), listing),
     };
     match read_program(alloc, text.as_slice()) {
         Ok(program) => run_steps(alloc, program.as_slice(), seed, listing, shelf),
@@ -142,8 +138,7 @@ fn run_steps<K: Sink, F: Shelf>(
     listing: &mut K,
     shelf: &mut F,
 ) -> Result<u8, Stop>
-    requires built { list_all (λ step. is_built (meaning_of step)) steps.now ≡ true }
-    requires ended { F.begun shelf.old ≡ false }
+    requires { F.begun shelf.old ≡ false }
     ensures status_range { IfOk result (λ status. status < 4) }
     ensures output { Gives (program_output seed (Ok (map meaning_of steps.now)))
         (world (K.written listing.old) (F.files shelf.old))
@@ -178,8 +173,7 @@ fn run_step<K: Sink, F: Shelf>(
     listing: &mut K,
     shelf: &mut F,
 ) -> Result<u8, Stop>
-    requires built { is_built (meaning_of step.now) ≡ true }
-    requires ended { F.begun shelf.old ≡ false }
+    requires { F.begun shelf.old ≡ false }
     ensures status_range { IfOk result (λ status. status < 4) }
     ensures output { Gives (step_output seed number (meaning_of step.now))
         (world (K.written listing.old) (F.files shelf.old))
@@ -212,8 +206,7 @@ fn status_of(end: End) -> u8
 
 /// The lines of the step of this number, by its outcome, but for those of its files.
 fn lines_of(alloc: Global, number: usize, step: &Step, outcome: &Outcome) -> Result<Bytes, NoMemory>
-    requires outcome { IsOutcome (meaning_of step.now) outcome.now }
-    requires unblocked { outcome.now.shape.t ≡ 0 }
+    requires { IsOutcome (meaning_of step.now) outcome.now }
     ensures { IfOk result (λ lines.
         lines
         ≡ step_lines number (dimensions_of outcome.now.shape) (meaning_of step.now)

@@ -1,7 +1,7 @@
 ghost use Rattle.std.specs.Prelude.{◌≡◌};
 ghost use Rattle.fx_program.specs.Stops.{exit_status};
 
-use fx_base::{Failed, NoMemory};
+use fx_base::{Failed, NoMemory, ReadStop};
 
 /// The exit status where the words or the text are refused.
 pub(crate) const REFUSED: u8 = 3;
@@ -40,6 +40,20 @@ impl From<NoMemory> for Stop {
 
     fn from(_e: NoMemory) -> Stop {
         Stop::NoMemory
+    }
+}
+
+impl From<ReadStop> for Stop {
+    ghost use Rattle.std.specs.Prelude.{◌≡◌};
+    ghost use Rattle.fx_program.specs.Stops.{stop_of};
+
+    ghost from_gives = { λ why e. e ≡ stop_of why };
+
+    fn from(why: ReadStop) -> Stop {
+        match why {
+            ReadStop::ReadFault => Stop::Failed,
+            ReadStop::NoMemory => Stop::NoMemory,
+        }
     }
 }
 

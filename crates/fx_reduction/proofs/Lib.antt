@@ -31,4 +31,6 @@ pub mod Prefix
 mod Examples
 mod Limits
 pub mod AllowedFronts
-mod NormalWords
+pub mod NormalWords
+pub mod ShortWords
+pub mod BlockCounts

@@ -5,3 +5,5 @@ pub mod Steps
 pub mod Reduction
 pub mod Strengths
 pub mod Words
+pub mod Resolutions
+pub mod Blocks

@@ -8,3 +8,4 @@ pub mod Sections
 pub mod Parts
 mod Texts
 pub mod Placed
+pub mod Concluded

@@ -1,0 +1,101 @@
+-- What is claimed of a step that has a design, or has none, over all rule matrices, canonical or not.
+use Rattle.std.specs.Prelude.{ℕ, ◌≡◌, ◌<◌, ◌≤◌, ◌+◌, true, List, length}
+use Rattle.fx_designs.specs.Problems.{Dimensions, Requirement, AtResolution}
+use Rattle.fx_designs.specs.Problems as problems
+use Rattle.fx_designs.specs.Demands.{is_met}
+use Rattle.fx_designs.specs.Outcomes.{Design, NoDesign}
+use Rattle.fx_designs.specs.Matrices.{NoneMeets}
+use Rattle.fx_reduction.specs.Resolutions.{HasLeastPattern, HighestOfAll}
+use Rattle.fx_settings.specs.declared.settings.Size.TheVariants.{Minimum}
+use Rattle.fx_settings.specs.declared.settings.Blocks.TheVariants.{Most}
+use Rattle.fx_settings.specs.declared.settings.Criterion.{Criterion}
+use Rattle.fx_settings.specs.declared.settings.Criterion.TheVariants as criterion
+use Rattle.fx_settings.specs.Powers.{greatest}
+use Rattle.fx_settings.specs.Valid.{are_valid}
+use Rattle.fx_statements.specs.Goals.{Goal, AtLeast, Highest, ForEffects}
+use Rattle.fx_statements.specs.Questions.{block_factors, least_exponent, outcome_of, run_factors}
+use Rattle.fx_statements.specs.Steps.{Meaning}
+
+-- what is required of each design of a step; where the highest resolution is wanted, a resolution of at least 3
+abbrev pub required : Goal → Requirement
+required (AtLeast r) = AtResolution r
+required Highest = AtResolution 3
+required (ForEffects estimate besides) = problems.ForEffects estimate besides
+
+-- Dimensions that a step allows: its levels and factors; its runs, for the least size any number from the least that makes more than one
+-- run, and in blocks of q^k runs more than one block, to the greatest; its block factors, for the most blocks any number from 1.
+pub record Allows (step : Meaning) (d : Dimensions) : Type 0 where
+  pub levels : d.q ≡ step.settings.q
+  pub factors : d.s ≡ length step.factors
+  pub runs : d.m ≡ run_factors step.settings.size d.m
+  pub sizes : step.settings.size ≡ Minimum → (least_exponent step.settings.blocks ≤ d.m) × (d.m ≤ greatest d.q)
+  pub blocks : d.t ≡ block_factors step.settings.blocks d.m d.t
+  pub some_blocks : step.settings.blocks ≡ Most → 1 ≤ d.t
+
+-- a whole matrix, in dimensions that the step allows, whose runs meet what is required
+pub record IsAsItAsks (step : Meaning) (d : Dimensions) (rows : List ℕ) : Type 0 where
+  pub allowed : Allows step d
+  pub whole : length rows ≡ d.s + d.t
+  pub met : is_met d (required step.goal) rows ≡ true
+
+-- the design of a step is as it asks
+abbrev pub HasWhatItAsks : Meaning → Type 0
+HasWhatItAsks step = (rows : List ℕ) (count : ℕ)
+    → (outcome_of step).ending ≡ Design rows count
+    → IsAsItAsks step (outcome_of step).dimensions rows
+
+-- where the step ends without a design, the runs of no rule matrix at all meet what is required, in no dimensions that it allows
+abbrev pub HasNoneAtAll : Meaning → Type 0
+HasNoneAtAll step = (count : ℕ) (d : Dimensions)
+    → (outcome_of step).ending ≡ NoDesign count
+    → Allows step d
+    → NoneMeets d (required step.goal)
+
+-- where least aberration is asked, the pattern of no rule matrix that meets what is required is less than the design's
+abbrev pub HasLeastOfAll : Meaning → Type 0
+HasLeastOfAll step = (rows : List ℕ) (count : ℕ)
+    → step.settings.least ≡ true
+    → (outcome_of step).ending ≡ Design rows count
+    → HasLeastPattern (outcome_of step).dimensions (required step.goal) rows
+
+-- where the highest resolution is asked, no rule matrix has a higher one than the design
+abbrev pub HasHighestOfAll : Meaning → Type 0
+HasHighestOfAll step = (rows : List ℕ) (count : ℕ)
+    → step.goal ≡ Highest
+    → (outcome_of step).ending ≡ Design rows count
+    → HighestOfAll (outcome_of step).dimensions rows
+
+-- in fewer runs than the design's no rule matrix meets what is required, where the step allows them: with the least size, that is
+abbrev pub HasLeastSize : Meaning → Type 0
+HasLeastSize step = (rows : List ℕ) (count : ℕ) (d : Dimensions)
+    → (outcome_of step).ending ≡ Design rows count
+    → Allows step d
+    → d.m < (outcome_of step).dimensions.m
+    → NoneMeets d (required step.goal)
+
+-- where the most blocks are asked, no rule matrix with more block factors than the design's meets what is required
+abbrev pub HasMostBlocks : Meaning → Type 0
+HasMostBlocks step = (rows : List ℕ) (count : ℕ) (d : Dimensions)
+    → step.settings.blocks ≡ Most
+    → (outcome_of step).ending ≡ Design rows count
+    → Allows step d
+    → (outcome_of step).dimensions.t < d.t
+    → NoneMeets d (required step.goal)
+
+-- a goal of this kind
+abbrev pub IsOfKind : Criterion → Goal → Type 0
+IsOfKind (criterion.Resolution r) (AtLeast n) = n ≡ r
+IsOfKind (criterion.Resolution r) Highest = ⊥
+IsOfKind (criterion.Resolution r) (ForEffects estimate besides) = ⊥
+IsOfKind criterion.Highest (AtLeast n) = ⊥
+IsOfKind criterion.Highest Highest = Unit {0}
+IsOfKind criterion.Highest (ForEffects estimate besides) = ⊥
+IsOfKind criterion.Effects (AtLeast n) = ⊥
+IsOfKind criterion.Effects Highest = ⊥
+IsOfKind criterion.Effects (ForEffects estimate besides) = Unit {0}
+
+-- what each step of a text has: valid settings, a goal of the kind that they say, and some factors
+pub record IsValidStep (step : Meaning) : Type 0 where
+  pub settings : are_valid step.settings ≡ true
+  pub goal : IsOfKind step.settings.criterion step.goal
+  pub factors : 1 ≤ length step.factors
