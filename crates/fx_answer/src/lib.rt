@@ -3,5 +3,7 @@
 
 mod answering;
 mod question;
+#[cfg(test)]
+mod tests;
 
 pub use answering::answer;

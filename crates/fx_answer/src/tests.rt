@@ -1,0 +1,178 @@
+use crate::answer;
+use fx_base::{Bytes, put, put_number};
+use fx_lexer::lex;
+use fx_statements::{End, Outcome, ParseStop, Program, parse};
+use std::alloc::Global;
+use std::process::Abort;
+use std::test::Fail;
+
+// The questions of each step, their nodes and their answers were computed apart from this program, in
+// Python, from the definitions; those of the least pattern are of its documents.
+
+/// What a step ends with: how, the m of q^m runs, the number of block factors, the rows, if any, and
+/// the number of nodes.
+type Ended = (End, u8, u8, &'static [u16], u64);
+
+/// A step of fixed resolution: its question has 4 nodes.
+const FIXED: &str = ";factors A B C D;size design=8;model resolution=4;";
+
+/// Effects: 4 nodes.
+const EFFECTS: &str = ";factors A B C D;size design=8;model estimate=(A B C A*B);";
+
+/// The highest resolution: 5 nodes at resolution 3, which has a design, and 10 at 4, which has none.
+const HIGHEST: &str = ";factors A B C D E;size design=8;model resolution=max;";
+
+/// The least size: 1, 3, 10 and 17 nodes in 2, 4, 8 and 16 runs, of which only the last has a design.
+const LEAST_SIZE: &str = ";factors A B C D E F;size design=min;model resolution=4;";
+
+/// The least size in two blocks: 1, 7 and 4 nodes.
+const LEAST_IN_BLOCKS: &str = ";factors A B C;size design=min;model resolution=3;blocks nblocks=2;";
+
+/// The least size in blocks of two runs: 7 nodes in 4 runs, and 16 in 8.
+const LEAST_IN_PAIRS: &str = ";factors A B C;size design=min;model resolution=3;blocks size=2;";
+
+/// Two blocks: 4 nodes.
+const TWO_BLOCKS: &str = ";factors A B C;size design=8;model resolution=3;blocks nblocks=2;";
+
+/// The most blocks: 4, 16 and 91 nodes with 1, 2 and 3 block factors, of which the last has no design.
+const MOST_BLOCKS: &str = ";factors A B C;size design=8;model resolution=3;blocks nblkfacs=max;";
+
+/// The least pattern: 282 nodes. The first lot ends with its 24th, the second with the 55th.
+const LEAST_PATTERN: &str = ";factors A B C D E F G;size design=32;model resolution=max/minabs;";
+
+const STEPS: [(&str, u64, Ended); 46] = [
+    (FIXED, 3, (End::Budget, 3, 0, &[], 3)),
+    (FIXED, 4, (End::Design, 3, 0, &[1, 2, 4, 7], 4)),
+    (FIXED, 5, (End::Design, 3, 0, &[1, 2, 4, 7], 4)),
+    (EFFECTS, 3, (End::Budget, 3, 0, &[], 3)),
+    (EFFECTS, 4, (End::Design, 3, 0, &[1, 2, 4, 7], 4)),
+    (EFFECTS, 5, (End::Design, 3, 0, &[1, 2, 4, 7], 4)),
+    (HIGHEST, 4, (End::Budget, 3, 0, &[], 4)),
+    (HIGHEST, 5, (End::Budget, 3, 0, &[1, 2, 4, 7, 6], 5)),
+    (HIGHEST, 6, (End::Budget, 3, 0, &[1, 2, 4, 7, 6], 6)),
+    (HIGHEST, 14, (End::Budget, 3, 0, &[1, 2, 4, 7, 6], 14)),
+    (HIGHEST, 15, (End::Design, 3, 0, &[1, 2, 4, 7, 6], 15)),
+    (HIGHEST, 16, (End::Design, 3, 0, &[1, 2, 4, 7, 6], 15)),
+    (LEAST_SIZE, 1, (End::Budget, 2, 0, &[], 1)),
+    (LEAST_SIZE, 2, (End::Budget, 2, 0, &[], 2)),
+    (LEAST_SIZE, 3, (End::Budget, 2, 0, &[], 3)),
+    (LEAST_SIZE, 4, (End::Budget, 3, 0, &[], 4)),
+    (LEAST_SIZE, 5, (End::Budget, 3, 0, &[], 5)),
+    (LEAST_SIZE, 13, (End::Budget, 3, 0, &[], 13)),
+    (LEAST_SIZE, 14, (End::Budget, 4, 0, &[], 14)),
+    (LEAST_SIZE, 15, (End::Budget, 4, 0, &[], 15)),
+    (LEAST_SIZE, 30, (End::Budget, 4, 0, &[], 30)),
+    (
+        LEAST_SIZE,
+        31,
+        (End::Design, 4, 0, &[1, 2, 4, 8, 14, 13], 31),
+    ),
+    (
+        LEAST_SIZE,
+        32,
+        (End::Design, 4, 0, &[1, 2, 4, 8, 14, 13], 31),
+    ),
+    (LEAST_IN_BLOCKS, 11, (End::Budget, 3, 1, &[], 11)),
+    (LEAST_IN_BLOCKS, 12, (End::Design, 3, 1, &[1, 2, 4, 7], 12)),
+    (LEAST_IN_PAIRS, 6, (End::Budget, 2, 1, &[], 6)),
+    (LEAST_IN_PAIRS, 7, (End::Budget, 3, 2, &[], 7)),
+    (LEAST_IN_PAIRS, 22, (End::Budget, 3, 2, &[], 22)),
+    (
+        LEAST_IN_PAIRS,
+        23,
+        (End::Design, 3, 2, &[1, 2, 4, 6, 5], 23),
+    ),
+    (TWO_BLOCKS, 3, (End::Budget, 3, 1, &[], 3)),
+    (TWO_BLOCKS, 4, (End::Design, 3, 1, &[1, 2, 4, 7], 4)),
+    (TWO_BLOCKS, 5, (End::Design, 3, 1, &[1, 2, 4, 7], 4)),
+    (MOST_BLOCKS, 3, (End::Budget, 3, 1, &[], 3)),
+    (MOST_BLOCKS, 4, (End::Budget, 3, 1, &[1, 2, 4, 7], 4)),
+    (MOST_BLOCKS, 19, (End::Budget, 3, 1, &[1, 2, 4, 7], 19)),
+    (MOST_BLOCKS, 20, (End::Budget, 3, 2, &[1, 2, 4, 6, 5], 20)),
+    (MOST_BLOCKS, 21, (End::Budget, 3, 2, &[1, 2, 4, 6, 5], 21)),
+    (MOST_BLOCKS, 110, (End::Budget, 3, 2, &[1, 2, 4, 6, 5], 110)),
+    (MOST_BLOCKS, 111, (End::Design, 3, 2, &[1, 2, 4, 6, 5], 111)),
+    (MOST_BLOCKS, 112, (End::Design, 3, 2, &[1, 2, 4, 6, 5], 111)),
+    (LEAST_PATTERN, 30, (End::Budget, 5, 0, &[], 30)),
+    (
+        LEAST_PATTERN,
+        55,
+        (End::Budget, 5, 0, &[1, 2, 4, 8, 16, 31, 28], 55),
+    ),
+    (
+        LEAST_PATTERN,
+        56,
+        (End::Budget, 5, 0, &[1, 2, 4, 8, 16, 30, 29], 56),
+    ),
+    (
+        LEAST_PATTERN,
+        281,
+        (End::Budget, 5, 0, &[1, 2, 4, 8, 16, 30, 29], 281),
+    ),
+    (
+        LEAST_PATTERN,
+        282,
+        (End::Design, 5, 0, &[1, 2, 4, 8, 16, 30, 29], 282),
+    ),
+    (
+        ";factors A B C D E;size design=8;model resolution=4;",
+        10,
+        (End::NoDesign, 3, 0, &[], 10),
+    ),
+];
+
+/// The program of the text of a step with this budget.
+fn program_of(rt: &impl Abort, alloc: Global, budget: u64, step: &str) -> Result<Program, Fail> {
+    let mut text = Bytes::new(alloc);
+    put(&mut text, b"proc factex nodes=")?;
+    put_number(&mut text, u128::from(budget))?;
+    put(&mut text, step.as_bytes())?;
+    assert!(rt; text.len() <= 1_048_576);
+    let tokens = lex(alloc, text.as_slice())?;
+    match parse(alloc, text.as_slice(), &tokens) {
+        Ok(program) => Ok(program),
+        Err(ParseStop::Refused(_refusal)) => Err(Fail::new("the text is refused")),
+        Err(ParseStop::NoMemory) => Err(Fail::new("memory ran out")),
+    }
+}
+
+/// Tests that an outcome is this one.
+fn has_ended(rt: &impl Abort, outcome: &Outcome, expected: Ended) {
+    let (end, m, t, rows, nodes) = expected;
+    assert_eq!(rt; outcome.end, end);
+    assert_eq!(rt; outcome.shape.m, m);
+    assert_eq!(rt; outcome.shape.t, t);
+    assert_eq!(rt; outcome.nodes, nodes);
+    match &outcome.matrix {
+        Some(matrix) => {
+            assert_eq!(rt; matrix.len(), rows.len());
+            for i in 0..matrix.len() {
+                assert_eq!(rt; matrix.row(i), rows[i]);
+            }
+        }
+        None => assert!(rt; rows.is_empty()),
+    }
+}
+
+/// Tests that a step ends so within this budget.
+fn ends_so(
+    rt: &impl Abort,
+    alloc: Global,
+    step: &str,
+    budget: u64,
+    expected: Ended,
+) -> Result<(), Fail> {
+    let program = program_of(rt, alloc, budget, step)?;
+    assert_eq!(rt; program.as_slice().len(), 1);
+    let outcome = answer(alloc, &program.as_slice()[0])?;
+    has_ended(rt, &outcome, expected);
+    Ok(())
+}
+
+#[test]
+fn budgets_end_at_the_last_node_of_each_question(rt: HostRuntime) -> Result<(), Fail> {
+    for (step, budget, expected) in STEPS {
+        ends_so(&rt, rt.alloc(), step, budget, expected)?;
+    }
+    Ok(())
+}
