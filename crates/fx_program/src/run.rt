@@ -1,4 +1,4 @@
-ghost use Rattle.std.specs.Prelude.{◌≡◌, ◌<◌, ◌≤◌, ◌⊎◌, [], ◌∷◌, ℕ, List, Option, Some, true, false, Ok, Err, map, length, ◌++◌, IfOk, OnOk};
+ghost use Rattle.std.specs.Prelude.{◌≡◌, ◌<◌, ◌≤◌, ◌⊎◌, [], ◌∷◌, ℕ, List, Option, Some, false, Ok, Err, map, length, ◌++◌, IfOk, OnOk};
 ghost use Rattle.fx_vectors.specs.Matrix.{MatrixView};
 ghost use Rattle.fx_vectors.specs.Shape.{dimensions_of};
 ghost use Rattle.fx_statements.specs.Steps.{meaning_of};

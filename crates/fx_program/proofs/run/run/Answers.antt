@@ -29,9 +29,9 @@ same_over_limit : (left : Option (List ℕ)) (known : List ℕ) → left ≡ Som
 unfolding over_limit
 same_over_limit left known e = sym (ap (λ (o : Option (List ℕ)). unwrap_or o (replicate 1048577 0)) e)
 
-pub returns-in-Ok-TooLong-clause-output : goal.returns-in-Ok-TooLong-clause-output
-returns-in-Ok-TooLong-clause-output g c =
-    let read = rw c.in-Ok-TooLong.field-0-is at c.in-Ok-TooLong.ensures.answer in
+pub returns-in-TooLong-clause-output : goal.returns-in-TooLong-clause-output
+returns-in-TooLong-clause-output g c =
+    let read = rw c.in-TooLong.field-0-is at c.in-TooLong.ensures.answer in
     let left = g.S.Source.left c.args.source.now in
     record {
       text = over_limit left;
@@ -72,8 +72,8 @@ one_told seed status some one text e =
     subst (λ (t : List ℕ). SomeHasNone (program_in t)) (sym (some.exposed text e))
     (none_where_one seed some.text (sym (some.gives.same (omega (arith, one))) ∙ one))
 
-pub returns-in-Ok-TooLong-clause-none_at_all : goal.returns-in-Ok-TooLong-clause-none_at_all
-returns-in-Ok-TooLong-clause-none_at_all g c = one_told c.args.seed _ (returns-in-Ok-TooLong-clause-output g c)
+pub returns-in-TooLong-clause-none_at_all : goal.returns-in-TooLong-clause-none_at_all
+returns-in-TooLong-clause-none_at_all g c = one_told c.args.seed _ (returns-in-TooLong-clause-output g c)
 
 pub returns-in-Ok-clause-none_at_all : goal.returns-in-Ok-clause-none_at_all
 returns-in-Ok-clause-none_at_all g c = one_told c.args.seed _ (returns-in-Ok-clause-output g c)
