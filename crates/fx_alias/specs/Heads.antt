@@ -1,56 +1,78 @@
 -- The head of a step's listing.
-use Rattle.std.specs.Prelude.{ℕ, ◌^◌, nat_lt, Bool, false, if◌then◌else◌, List, [], ◌++◌, length, Option, Some, None, codes, decimal}
+use Rattle.std.specs.Prelude.{ℕ, ◌^◌, ◌==◌, nat_lt, if◌then◌else◌, List, [], ◌++◌, length, Option, Some, None, codes, decimal}
 use Rattle.fx_designs.specs.Problems.{Dimensions}
 use Rattle.fx_designs.specs.Patterns.{pattern_of, resolution_of}
+use Rattle.fx_designs.specs.Outcomes.{Ending, Design, NoDesign, BudgetEnded}
 use Rattle.fx_vectors.specs.Shape.{dimensions_of}
 use Rattle.fx_vectors.specs.Matrix.{MatrixView}
-use Rattle.fx_designs.specs.Outcomes.{Ending, Design, NoDesign, BudgetEnded}
+use Rattle.fx_settings.specs.declared.settings.Size.{Size}
+use Rattle.fx_settings.specs.declared.settings.Size.TheVariants.{Runs, Minimum}
+use Rattle.fx_settings.specs.Powers.{greatest}
+use Rattle.fx_statements.specs.Goals.{Goal, AtLeast, Highest, ForEffects}
+use Rattle.fx_statements.specs.Steps.{Meaning}
 
 -- the number of the step, its factors and their levels
 abbrev pub heading : ℕ → ℕ → ℕ → List ℕ
 heading number s q = codes "step " ++ decimal number ++ codes "\nfactors " ++ decimal s ++ codes " levels " ++ decimal q ++ codes "\n"
 
--- the number of runs
-abbrev pub runs_line : ℕ → ℕ → List ℕ
-runs_line q m = decimal (q ^ m) ++ codes " runs\n"
+-- a number of runs
+abbrev pub runs_words : ℕ → List ℕ
+runs_words runs = decimal runs ++ codes " runs"
 
--- the resolution of a design with this pattern, and whether its pattern is the least; or that there are no words at all
-abbrev pub resolution_line : Bool → List ℕ → List ℕ
-resolution_line least a =
-    (if nat_lt (length a) (resolution_of a)
-    then codes "no defining words\n"
-    else codes "resolution " ++ decimal (resolution_of a) ++ (if least then codes " least aberration\n" else codes "\n"))
+-- the number of blocks after this word, where there are blocks
+abbrev pub blocks_words : List ℕ → Dimensions → List ℕ
+blocks_words word d = if d.t == 0 then [] else word ++ (decimal (d.q ^ d.t) ++ codes " blocks")
 
--- that of a matrix, where there is one
-abbrev pub matrix_line : Bool → Option MatrixView → List ℕ
-matrix_line least None = []
-matrix_line least (Some matrix) = resolution_line least (pattern_of (dimensions_of matrix.shape) matrix.rows)
+-- the runs and the blocks of a design, with a caveat where there is one
+abbrev pub design_line : List ℕ → Dimensions → List ℕ
+design_line caveat d = codes "design " ++ (runs_words (d.q ^ d.m) ++ (blocks_words (codes " in ") d ++ (caveat ++ codes "\n")))
 
--- the number of nodes
-abbrev pub nodes_line : ℕ → List ℕ
-nodes_line count = codes "nodes " ++ decimal count ++ codes "\n"
+-- that there is no design with so many runs and blocks; or, where the fewest runs were looked for, with any number of runs
+abbrev pub no_design_line : Size → Dimensions → List ℕ
+no_design_line (Runs m) d = codes "no design in " ++ (runs_words (d.q ^ d.m) ++ (blocks_words (codes " with ") d ++ codes "\n"))
+no_design_line Minimum d = codes "no design in at most " ++ (runs_words (d.q ^ greatest d.q) ++ codes "\n")
 
 -- that the budget ended
 abbrev pub budget_line : ℕ → List ℕ
-budget_line budget = codes "budget ended after " ++ decimal budget ++ codes " nodes\n"
+budget_line budget = codes "budget ended after " ++ (decimal budget ++ codes " nodes\n")
 
--- the matrix that is left where a budget ended
-abbrev pub left_lines : Option MatrixView → List ℕ
-left_lines None = []
-left_lines (Some matrix) =
-    codes "design "
-    ++ (decimal (matrix.shape.q ^ matrix.shape.m)
-    ++ (codes " runs not proved best\n" ++ resolution_line false (pattern_of (dimensions_of matrix.shape) matrix.rows)))
+-- the resolution of a design with this pattern, and what is claimed of it; or that there are no words at all
+abbrev pub resolution_line : List ℕ → List ℕ → List ℕ
+resolution_line claim a =
+    (if nat_lt (length a) (resolution_of a)
+    then codes "no defining words\n"
+    else codes "resolution " ++ (decimal (resolution_of a) ++ (claim ++ codes "\n")))
 
--- how the search ended, with a least pattern or without; the resolution of its matrix; and the number of nodes of a finished search
-abbrev pub outcome_lines : Dimensions → Bool → Ending → List ℕ
-outcome_lines d least (Design rows count) =
-    codes "design " ++ (runs_line d.q d.m ++ (resolution_line least (pattern_of d rows) ++ nodes_line count))
-outcome_lines d least (NoDesign count) = codes "no design in " ++ (runs_line d.q d.m ++ nodes_line count)
-outcome_lines d least (BudgetEnded None budget) = budget_line budget
-outcome_lines d least (BudgetEnded (Some rows) budget) =
-    budget_line budget ++ (codes "design " ++ (decimal (d.q ^ d.m) ++ (codes " runs not proved best\n" ++ resolution_line false (pattern_of d rows))))
+-- the number of nodes
+abbrev pub nodes_line : ℕ → List ℕ
+nodes_line count = codes "nodes " ++ (decimal count ++ codes "\n")
 
--- the head of the step of this number, with s factors
-abbrev pub head_lines : ℕ → ℕ → Dimensions → Bool → Ending → List ℕ
-head_lines number s d least ending = heading number s d.q ++ outcome_lines d least ending
+-- that a resolution is the highest, where that is what is wanted
+abbrev pub highest_claim : Goal → List ℕ
+highest_claim (AtLeast r) = []
+highest_claim Highest = codes " highest"
+highest_claim (ForEffects estimate nonnegligible) = []
+
+-- what is claimed of the resolution of a step's design: that the pattern is the least, or that it is the highest
+abbrev pub claim_of : Meaning → List ℕ
+claim_of step = if step.settings.least then codes " least aberration" else highest_claim step.goal
+
+-- a design and its resolution, with a caveat on the one and a claim on the other
+abbrev pub design_lines : List ℕ → List ℕ → Dimensions → List ℕ → List ℕ
+design_lines caveat claim d rows = design_line caveat d ++ resolution_line claim (pattern_of d rows)
+
+-- those lines for a matrix, where there is one
+abbrev pub matrix_lines : List ℕ → List ℕ → Option MatrixView → List ℕ
+matrix_lines caveat claim None = []
+matrix_lines caveat claim (Some matrix) = design_lines caveat claim (dimensions_of matrix.shape) matrix.rows
+
+-- how the search of the step ended, with its design, if any; and the number of nodes of a finished search
+abbrev pub outcome_lines : Meaning → Dimensions → Ending → List ℕ
+outcome_lines step d (Design rows count) = design_lines [] (claim_of step) d rows ++ nodes_line count
+outcome_lines step d (NoDesign count) = no_design_line step.settings.size d ++ nodes_line count
+outcome_lines step d (BudgetEnded None budget) = budget_line budget
+outcome_lines step d (BudgetEnded (Some rows) budget) = budget_line budget ++ design_lines (codes " not proved best") [] d rows
+
+-- the head of the step of this number
+abbrev pub head_lines : ℕ → Meaning → Dimensions → Ending → List ℕ
+head_lines number step d ending = heading number (length step.factors) d.q ++ outcome_lines step d ending

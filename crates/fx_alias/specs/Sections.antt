@@ -1,5 +1,5 @@
 -- The sections of a listing, and all lines of a step.
-use Rattle.std.specs.Prelude.{if◌then◌else◌, List, ℕ, [], ◌++◌, length, Some, None}
+use Rattle.std.specs.Prelude.{if◌then◌else◌, List, ℕ, [], ◌++◌, Some, None}
 use Rattle.fx_designs.specs.Problems.{Dimensions}
 use Rattle.fx_designs.specs.Patterns.{pattern_of}
 use Rattle.fx_designs.specs.Outcomes.{Ending, Design, NoDesign, BudgetEnded}
@@ -40,4 +40,4 @@ sections d step (BudgetEnded (Some rows) budget) = matrix_sections d step rows
 
 -- all lines of the step of this number, in these dimensions
 unfoldable pub step_lines : ℕ → Dimensions → Meaning → Ending → List ℕ
-step_lines number d step ending = head_lines number (length step.factors) d step.settings.least ending ++ sections d step ending
+step_lines number d step ending = head_lines number step d ending ++ sections d step ending

@@ -1,11 +1,16 @@
-ghost use Rattle.std.specs.Prelude.{◌≡◌, ◌++◌, ◌^◌, false, length, OnOk};
+ghost use Rattle.std.specs.Prelude.{◌≡◌, ◌++◌, ◌^◌, OnOk, IsTrue};
+ghost use Rattle.fx_designs.specs.Galois.{is_order};
+ghost use Rattle.fx_settings.specs.Powers.{greatest};
 ghost use Rattle.fx_designs.specs.Patterns.{pattern_of};
 ghost use Rattle.fx_vectors.specs.Shape.{IsShape, dimensions_of};
-ghost use Rattle.fx_statements.specs.Outcomes.{ending_in, HasMatrix};
-ghost use Rattle.fx_alias.specs.Heads.{head_lines, heading, nodes_line, outcome_lines, left_lines, matrix_line, resolution_line, runs_line};
+ghost use Rattle.fx_statements.specs.Goals.{goal_of};
+ghost use Rattle.fx_statements.specs.Outcomes.{ending_in};
+ghost use Rattle.fx_statements.specs.Steps.{meaning_of};
+ghost use Rattle.fx_alias.specs.Heads.{blocks_words, budget_line, claim_of, design_line, head_lines, heading, highest_claim, matrix_lines, no_design_line, nodes_line, outcome_lines, resolution_line, runs_words};
 
 use fx_base::{Bytes, NoMemory, put, put_number};
-use fx_statements::{End, Outcome, Step};
+use fx_settings::greatest;
+use fx_statements::{End, Outcome, Size, Step, Wanted};
 use fx_vectors::{Matrix, Shape};
 use fx_words::{pattern_of, resolution};
 use std::alloc::Global;
@@ -13,7 +18,7 @@ use std::alloc::Global;
 /// Appends the head of the listing of a step: its number, its factors and their levels, its outcome,
 /// the resolution of its matrix and, unless its budget ended, the number of nodes.
 ///
-/// The outcome is that of the step, its shape within the limits.
+/// The outcome may be that of any step.
 ///
 /// # Errors
 ///
@@ -25,16 +30,14 @@ pub fn head_listing(
     outcome: &Outcome,
     out: &mut Bytes,
 ) -> Result<(), NoMemory>
-    requires shape { IsShape outcome.now.shape }
-    requires matrix { HasMatrix outcome.now.shape (ending_in outcome.now) outcome.now.matrix }
     ensures { OnOk result
         (out.new
         ≡ out.old
-        ++ head_lines number (length step.now.factors) (dimensions_of outcome.now.shape)
-        step.now.least (ending_in outcome.now)) }
+        ++ head_lines number (meaning_of step.now) (dimensions_of outcome.now.shape)
+        (ending_in outcome.now)) }
 {
     put_heading(out, number, step.factors.len(), outcome.shape.q)?;
-    put_outcome(alloc, out, step.least, outcome)
+    put_outcome(alloc, out, step, outcome)
 }
 
 /// Appends the number of the step, its factors and their levels.
@@ -50,81 +53,165 @@ fn put_heading(out: &mut Bytes, number: usize, s: usize, q: u8) -> Result<(), No
     put(out, b"\n")
 }
 
-/// Appends how the search ended, the resolution of its matrix and, unless the budget ended, the
-/// number of nodes.
+/// Appends how the search of a step ended, the resolution of its matrix and, unless the budget ended,
+/// the number of nodes.
 fn put_outcome(
     alloc: Global,
     out: &mut Bytes,
-    least: bool,
+    step: &Step,
     outcome: &Outcome,
 ) -> Result<(), NoMemory>
-    requires shape { IsShape outcome.now.shape }
-    requires matrix { HasMatrix outcome.now.shape (ending_in outcome.now) outcome.now.matrix }
     ensures { OnOk result
         (out.new
         ≡ out.old
-        ++ outcome_lines (dimensions_of outcome.now.shape) least (ending_in outcome.now)) }
+        ++ outcome_lines (meaning_of step.now) (dimensions_of outcome.now.shape)
+        (ending_in outcome.now)) }
 {
     match outcome.end {
         End::Design => {
-            put(out, b"design ")?;
-            put_runs(out, outcome.shape)?;
-            put_resolution_of(alloc, out, least, &outcome.matrix)?;
+            put_matrix(alloc, out, b"", claim_of(step), &outcome.matrix)?;
             put_nodes(out, outcome.nodes)
         }
         End::NoDesign => {
-            put(out, b"no design in ")?;
-            put_runs(out, outcome.shape)?;
+            put_no_design(out, step.size, outcome.shape)?;
             put_nodes(out, outcome.nodes)
         }
         End::Budget => {
-            put(out, b"budget ended after ")?;
-            put_number(out, u128::from(outcome.nodes))?;
-            put(out, b" nodes\n")?;
-            put_left(alloc, out, &outcome.matrix)
+            put_budget(out, outcome.nodes)?;
+            put_matrix(alloc, out, b" not proved best", b"", &outcome.matrix)
         }
     }
 }
 
-/// Appends the resolution of a matrix, where there is one.
-fn put_resolution_of(
-    alloc: Global,
-    out: &mut Bytes,
-    least: bool,
-    matrix: &Option<Matrix>,
-) -> Result<(), NoMemory>
-    ensures { OnOk result (out.new ≡ out.old ++ matrix_line least matrix.now) }
+/// Appends the runs and the blocks of a design, with a caveat where there is one.
+fn put_design(out: &mut Bytes, caveat: &[u8], shape: Shape) -> Result<(), NoMemory>
+    requires { IsShape shape }
+    ensures { OnOk result (out.new ≡ out.old ++ design_line caveat.now (dimensions_of shape)) }
 {
-    match matrix {
-        Some(matrix) => put_resolution(alloc, out, least, matrix),
-        None => Ok(()),
+    put(out, b"design ")?;
+    put_runs(out, shape.runs())?;
+    put_blocks(out, b" in ", shape)?;
+    put(out, caveat)?;
+    put(out, b"\n")
+}
+
+/// Appends that there is no design of a step of this size, where the search ended at this shape.
+fn put_no_design(out: &mut Bytes, size: Size, shape: Shape) -> Result<(), NoMemory>
+    requires { IsShape shape }
+    ensures { OnOk result (out.new ≡ out.old ++ no_design_line size (dimensions_of shape)) }
+{
+    match size {
+        Size::Runs { m: _m } => {
+            put(out, b"no design in ")?;
+            put_runs(out, shape.runs())?;
+            put_blocks(out, b" with ", shape)?;
+            put(out, b"\n")
+        }
+        Size::Minimum => {
+            put(out, b"no design in at most ")?;
+            put_runs(out, most_runs(shape.q))?;
+            put(out, b"\n")
+        }
     }
 }
 
-/// Appends the number of runs and the resolution of the matrix that is left where a budget ended.
-fn put_left(alloc: Global, out: &mut Bytes, matrix: &Option<Matrix>) -> Result<(), NoMemory>
-    ensures { OnOk result (out.new ≡ out.old ++ left_lines matrix.now) }
+/// The greatest number of runs.
+fn most_runs(q: u8) -> u16
+    requires { IsTrue (is_order q) }
+    ensures { result ≡ q ^ greatest q }
+{
+    u16::from(q).pow(u32::from(greatest(q)))
+}
+
+/// Appends a number of runs.
+fn put_runs(out: &mut Bytes, runs: u16) -> Result<(), NoMemory>
+    ensures { OnOk result (out.new ≡ out.old ++ runs_words runs) }
+{
+    put_number(out, u128::from(runs))?;
+    put(out, b" runs")
+}
+
+/// Appends the number of blocks after this word, where there are blocks.
+fn put_blocks(out: &mut Bytes, word: &[u8], shape: Shape) -> Result<(), NoMemory>
+    requires { IsShape shape }
+    ensures { OnOk result (out.new ≡ out.old ++ blocks_words word.now (dimensions_of shape)) }
+{
+    if shape.t == 0 {
+        return Ok(());
+    }
+    put(out, word)?;
+    put_number(out, u128::from(block_count(shape)))?;
+    put(out, b" blocks")
+}
+
+/// The number of blocks.
+fn block_count(shape: Shape) -> u32
+    requires { IsShape shape }
+    ensures { result ≡ shape.q ^ shape.t }
+{
+    u32::from(shape.q).pow(u32::from(shape.t))
+}
+
+/// Appends that the budget ended.
+fn put_budget(out: &mut Bytes, budget: u64) -> Result<(), NoMemory>
+    ensures { OnOk result (out.new ≡ out.old ++ budget_line budget) }
+{
+    put(out, b"budget ended after ")?;
+    put_number(out, u128::from(budget))?;
+    put(out, b" nodes\n")
+}
+
+/// Appends a design and its resolution, where there is one, with a caveat on the one and a claim on
+/// the other.
+fn put_matrix(
+    alloc: Global,
+    out: &mut Bytes,
+    caveat: &[u8],
+    claim: &[u8],
+    matrix: &Option<Matrix>,
+) -> Result<(), NoMemory>
+    ensures { OnOk result (out.new ≡ out.old ++ matrix_lines caveat.now claim.now matrix.now) }
 {
     let Some(matrix) = matrix else {
         return Ok(());
     };
-    put(out, b"design ")?;
-    put_number(out, u128::from(matrix.shape().runs()))?;
-    put(out, b" runs not proved best\n")?;
-    put_resolution(alloc, out, false, matrix)
+    put_design(out, caveat, matrix.shape())?;
+    put_resolution(alloc, out, claim, matrix)
 }
 
-/// Appends the resolution of a design, or that it has no defining words.
+/// What is claimed of the resolution of a design of the step: that no pattern is less, or that no
+/// resolution is higher.
+fn claim_of(step: &Step) -> &'static [u8]
+    ensures { result.now ≡ claim_of (meaning_of step.now) }
+{
+    if step.least {
+        b" least aberration"
+    } else {
+        highest_claim(&step.wanted)
+    }
+}
+
+/// That no resolution is higher, where the highest is wanted.
+fn highest_claim(wanted: &Wanted) -> &'static [u8]
+    ensures { result.now ≡ highest_claim (goal_of wanted.now) }
+{
+    match wanted {
+        Wanted::Highest => b" highest",
+        Wanted::Resolution { .. } | Wanted::Effects { .. } => b"",
+    }
+}
+
+/// Appends the resolution of a design and what is claimed of it, or that it has no defining words.
 fn put_resolution(
     alloc: Global,
     out: &mut Bytes,
-    least: bool,
+    claim: &[u8],
     matrix: &Matrix,
 ) -> Result<(), NoMemory>
     ensures { OnOk result
         (out.new
         ≡ out.old
-        ++ resolution_line least
+        ++ resolution_line claim.now
         (pattern_of (dimensions_of matrix.now.shape) matrix.now.rows)) }
 {
     let pattern = pattern_of(alloc, matrix)?;
@@ -136,19 +223,8 @@ fn put_resolution(
     }
     put(out, b"resolution ")?;
     put_number(out, u128::from(r))?;
-    if least {
-        return put(out, b" least aberration\n");
-    }
+    put(out, claim)?;
     put(out, b"\n")
-}
-
-/// Appends the number of runs of a shape.
-fn put_runs(out: &mut Bytes, shape: Shape) -> Result<(), NoMemory>
-    requires { IsShape shape }
-    ensures { OnOk result (out.new ≡ out.old ++ runs_line shape.q shape.m) }
-{
-    put_number(out, u128::from(shape.runs()))?;
-    put(out, b" runs\n")
 }
 
 /// Appends the number of nodes.

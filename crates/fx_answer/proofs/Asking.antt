@@ -1,14 +1,14 @@
 -- How the asking goes on from one question to the next.
-use Rattle.std.proofs.Common.{ℕ, ◌≡◌, ◌<◌, ◌≤◌, ◌+◌, ◌-◌, ◌==◌, ◌||◌, ⊥, Bool, true, false, List, [], ◌∷◌, ◌++◌, map, length, Option, Some, None, suc, refl, sym, ap, ◌∙◌, subst, arith, inl, inr, ◌⊎◌, append_assoc, lt-ltb, le-ltb, eqb, eqb-true, eq-eqb}
-use Rattle.std.specs.Prelude.{find, if◌then◌else◌}
+use Rattle.std.proofs.Common.{ℕ, ◌≡◌, ◌<◌, ◌≤◌, ◌+◌, ◌-◌, ◌||◌, true, false, List, [], ◌∷◌, ◌++◌, map, length, Option, None, suc, refl, sym, ap, ◌∙◌, arith, inl, inr, append_assoc, lt-ltb, le-ltb, eqb, eqb-true, eq-eqb}
+use Rattle.std.specs.Prelude.{find}
 use Rattle.std.specs.List.{range_with_len}
-use Rattle.std.proofs.lemmas.Bool.{cases_Bool, cond-true, cond-false, cases_eq}
+use Rattle.std.proofs.lemmas.Bool.{cases_Bool, cond-true, cond-false, cases_eq, or_right, or_from, false_from_ne_true}
 use Rattle.std.proofs.lemmas.List.Sums.{sum_by_push}
 use Rattle.fx_designs.specs.Problems.{Problem}
 use Rattle.fx_designs.specs.Answers.{answer}
 use Rattle.fx_designs.specs.Nodes.{nodes}
 use Rattle.fx_statements.specs.Steps.{Meaning}
-use Rattle.fx_statements.specs.Questions.{Until, Questions, Conclusion, Found, Turn, asked, concluded, conclusion_by, conclusion_of, cut_short, found_by, highest, is_last, last_found, last_of, left_at, nodes_of, passes, question_for, turns, until, up_to}
+use Rattle.fx_statements.specs.Questions.{Until, Found, Turn, concluded, conclusion_by, conclusion_of, cut_short, found_by, highest, is_last, last_found, last_of, left_at, lowest, nodes_of, outcome_of, passes, question_for, turns, until, up_to}
 use Rattle.fx_answer.specs.Standing.{conclusion_after, conclusion_from, conclusion_past, questions_above}
 
 -- with one question more there are its nodes more
@@ -38,7 +38,7 @@ module _ (budget : ℕ) (ends : Until) (earlier : List Problem) (p : Problem) wh
 
     alone : (rest : List Problem) → rest ≡ []
         → conclusion_by (last_of p (p ∷ rest)) (earlier ++ p ∷ rest) budget (find (passes budget) (turns earlier (p ∷ rest)))
-          ≡ concluded p (last_found None (earlier ++ p ∷ [])) (nodes_of (earlier ++ p ∷ []))
+        ≡ concluded p (last_found None (earlier ++ p ∷ [])) (nodes_of (earlier ++ p ∷ []))
     alone rest is =
         ap (λ rest. conclusion_by (last_of p (p ∷ rest)) (earlier ++ p ∷ rest) budget (find (passes budget) (turns earlier (p ∷ rest)))) is
         ∙ ap (conclusion_by p (earlier ++ p ∷ []) budget) (passed_by [])
@@ -63,7 +63,7 @@ module _ (budget : ℕ) (ends : Until) (earlier : List Problem) (p : Problem) wh
 
 -- the questions of a step
 module _ (step : Meaning) where
-  last : ℕ
+  abbrev last : ℕ
   last = highest step step.settings.size
 
   above : (n : ℕ) → n < last → questions_above step n ≡ question_for step (n + 1) ∷ questions_above step (n + 1)

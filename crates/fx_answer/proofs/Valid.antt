@@ -1,26 +1,16 @@
 -- The questions of a step are valid.
-use Rattle.std.proofs.Common.{ℕ, ◌≡◌, ◌<◌, ◌≤◌, ◌+◌, ◌-◌, ◌^◌, ◌||◌, ◌&&◌, ⊥, Bool, true, false, List, [], ◌∷◌, length, refl, sym, ap, ◌∙◌, subst, arith, inl, inr, IsTrue, eqb, eq-eqb, eqb-true}
-use Rattle.std.specs.Prelude.{nat_le, nat_lt, not, max, if◌then◌else◌}
+use Rattle.std.proofs.Common.{ℕ, ◌≡◌, ◌<◌, ◌≤◌, ◌+◌, ◌-◌, ◌^◌, ◌||◌, ◌&&◌, Bool, true, false, List, [], ◌∷◌, length, refl, sym, ap, ◌∙◌, subst, arith, inl, inr, IsTrue, eqb, eqb-true, lit≤}
+use Rattle.std.specs.Prelude.{nat_le, max, if◌then◌else◌}
 use Rattle.std.specs.List.{list_any, list_all}
-use Rattle.std.proofs.lemmas.Bool.{leb-true, leb-false, ltb-false, cases_Bool, and_parts, both_ways, cond-true, cond-false}
-use Rattle.std.proofs.Math.Nat.{pow-le-pow_left, pow-le-pow_right}
+use Rattle.std.proofs.lemmas.Bool.{leb-true, leb-false, ltb-true, ltb-false, cases_Bool, and_parts, both_ways, not-true, cond-true, cond-false}
+use Rattle.std.proofs.Math.Nat.{pow-le-pow_left, pow-le-pow_right, pow-zero}
 use Rattle.fx_designs.specs.Galois.{is_order}
-use Rattle.fx_designs.specs.Problems.{Requirement}
-use Rattle.fx_designs.specs.Problems as problems
-use Rattle.fx_vectors.specs.declared.shape.Shape.{Shape}
-use Rattle.fx_vectors.specs.declared.question.Question.{Question}
-use Rattle.fx_vectors.specs.declared.question.Demands.{Demands}
-use Rattle.fx_vectors.specs.Shape.{IsShape, dimensions_of}
-use Rattle.fx_vectors.specs.Question.{CanBeAsked, IsValid, is_resolution}
-use Rattle.fx_vectors.specs.Question as questions
-use Rattle.fx_vectors.specs.Effects.{numbers_of}
+use Rattle.fx_vectors.specs.Question.{CanBeAsked, is_resolution}
 use Rattle.fx_settings.specs.declared.settings.Size.{Size}
 use Rattle.fx_settings.specs.declared.settings.Size.TheVariants.{Runs, Minimum}
-use Rattle.fx_settings.specs.declared.settings.Criterion.{Criterion}
-use Rattle.fx_settings.specs.declared.settings.Criterion.TheVariants as criterion
 use Rattle.fx_settings.specs.declared.settings.Blocks.{Blocks}
 use Rattle.fx_settings.specs.declared.settings.Blocks.TheVariants as blocks
-use Rattle.fx_settings.specs.Blocks.{is_minimum, is_too_many}
+use Rattle.fx_settings.specs.Blocks.{is_minimum}
 use Rattle.fx_settings.specs.Models.{is_effects, is_highest}
 use Rattle.fx_settings.specs.Powers.{greatest}
 use Rattle.fx_settings.specs.Settings.{is_level}
@@ -28,15 +18,17 @@ use Rattle.fx_settings.specs.Valid.{are_blocks, is_criterion, is_size, has_block
 use Rattle.fx_statements.specs.declared.step.Step.{Step}
 use Rattle.fx_statements.specs.declared.wanted.Wanted.{Wanted}
 use Rattle.fx_statements.specs.declared.wanted.Wanted.TheVariants as wanted
-use Rattle.fx_statements.specs.Goals.{Goal, goal_of, criterion_of}
-use Rattle.fx_statements.specs.Valid.{CanBeWanted}
+use Rattle.fx_statements.specs.Goals.{goal_of, criterion_of}
+use Rattle.fx_statements.specs.Valid.{CanBeWanted, settings_in}
 use Rattle.fx_statements.specs.Steps.{Meaning, meaning_of}
 use Rattle.fx_statements.specs.Questions.{block_factors, highest, least_exponent, lowest, requirement_for, run_factors, seeks_highest}
+use Rattle.fx_statements.proofs.Bounds.{no_more_than_9}
+use Rattle.fx_statements.proofs.Bounds as bounds
 use Rattle.fx_answer.specs.Standing.{IsShapeOf}
 
 -- what holds at each of some numbers of levels holds at one of them
 at_level : (levels : List ℕ) (P : ℕ → Bool) (q : ℕ) → list_all P levels ≡ true → list_any (λ x. eqb x q) levels ≡ true → P q ≡ true
-at_level [] P q all among = absurd (both_ways _ among refl)
+at_level [] P q all among = absurd (both_ways _ refl among)
 at_level (x ∷ levels) P q all among =
     let both = and_parts (P x) (list_all P levels) all in
     elim (cases_Bool (eqb x q)) [
@@ -44,18 +36,18 @@ at_level (x ∷ levels) P q all among =
       | inr other ↦ at_level levels P q both.1 (ap (λ b. b || list_any (λ x. eqb x q) levels) (sym other) ∙ among)
     ]
 
-levels : List ℕ
+abbrev levels : List ℕ
 levels = 2 ∷ 3 ∷ 4 ∷ 5 ∷ 7 ∷ 8 ∷ 9 ∷ []
 
 -- the levels that a step may have are the orders of fields, at least 2, and the runs of the greatest size at most 1,024
 order_of : (q : ℕ) → is_level q ≡ true → IsTrue (is_order q)
 order_of q h = at_level levels is_order q refl h
 
-two : (q : ℕ) → is_level q ≡ true → 2 ≤ q
-two q h = leb-true 2 q (at_level levels (nat_le 2) q refl h)
-
 most_runs : (q : ℕ) → is_level q ≡ true → q ^ greatest q ≤ 1024
 most_runs q h = leb-true (q ^ greatest q) 1024 (at_level levels (λ q. nat_le (q ^ greatest q) 1024) q refl h)
+
+one : (q : ℕ) → is_level q ≡ true → 1 ≤ greatest q
+one q h = leb-true 1 (greatest q) (at_level levels (λ q. nat_le 1 (greatest q)) q refl h)
 
 power_up : (q i j : ℕ) → 2 ≤ q → i ≤ j → q ^ i ≤ q ^ j
 power_up q i j h le = pow-le-pow_right (omega (arith, h)) le
@@ -63,12 +55,12 @@ power_up q i j h le = pow-le-pow_right (omega (arith, h)) le
 -- as many block factors as 1,024 blocks have are at most ten
 few_factors : (q t : ℕ) → 2 ≤ q → q ^ t ≤ 1024 → t ≤ 10
 few_factors q t h few = elim (cases_Bool (nat_le t 10)) [
-    | inl le ↦ leb-true t 10 le
-    | inr more ↦
-        let many : 10 < t = leb-false t 10 more in
-        let low : 2 ^ 11 ≤ q ^ t = omega (arith, pow-le-pow_left {n = 2} {m = q} h 11, pow-le-pow_right {n = q} (omega (arith, h)) {i = 11} {j = t} (omega (arith, many))) in
-        absurd (omega (arith, low, few))
-  ]
+  | inl le ↦ leb-true t 10 le
+  | inr more ↦
+      let many : 10 < t = leb-false t 10 more in
+      let low : 2 ^ 11 ≤ q ^ t = omega (arith, pow-le-pow_left {n = 2} {m = q} h 11, pow-le-pow_right {n = q} (omega (arith, h)) {i = 11} {j = t} (omega (arith, many))) in
+      absurd (omega (arith, low, few))
+]
 
 -- the numbers of runs
 runs_fit : (size : Size) (q n : ℕ) → is_level q ≡ true → is_size q size ≡ true → (size ≡ Minimum → (1 ≤ n) × (n ≤ greatest q))
@@ -78,23 +70,19 @@ runs_fit (Runs m) q n level sized bounds =
     (leb-true 1 m both.0, leb-true (q ^ m) 1024 both.1)
 runs_fit Minimum q n level sized bounds =
     let b = bounds refl in
-    let up = power_up q n (greatest q) (two q level) b.1 in
+    let up = power_up q n (greatest q) (no_more_than_9 q level).0 b.1 in
     let most = most_runs q level in
     (b.0, omega (arith, up, most))
-
-unless : (b : Bool) → not b ≡ true → b ≡ false
-unless true h = absurd (both_ways _ refl h)
-unless false h = refl
 
 -- and of blocks
 blocks_fit : (size : Size) (given : Blocks) (q n : ℕ) → 2 ≤ q → are_blocks q size given ≡ true → q ^ run_factors size n ≤ 1024 → (has_most given ≡ true → n ≤ run_factors size n)
     → q ^ block_factors given (run_factors size n) n ≤ 1024
-blocks_fit size blocks.Without q n h are runs most = let one : q ^ 0 ≤ 1024 = lit≤ tt in one
+blocks_fit size blocks.Without q n h are runs most = let one : q ^ 0 ≡ 1 = pow-zero q in omega (arith, one)
 blocks_fit (Runs m) (blocks.Factors t) q n h are runs most =
-    let few : t ≤ m = ltb-false m t (unless _ (and_parts (nat_le 1 t) _ are).1) in
+    let few : t ≤ m = ltb-false m t (not-true _ (and_parts (nat_le 1 t) _ are).1) in
     let up = power_up q t m h few in
     omega (arith, up, runs)
-blocks_fit Minimum (blocks.Factors t) q n h are runs most = ltb-false 1024 (q ^ t) (unless _ (and_parts (nat_le 1 t) _ are).1)
+blocks_fit Minimum (blocks.Factors t) q n h are runs most = ltb-false 1024 (q ^ t) (not-true _ (and_parts (nat_le 1 t) _ are).1)
 blocks_fit size (blocks.PerBlock k) q n h are runs most =
     let up = power_up q (run_factors size n - k) (run_factors size n) h (omega arith) in
     omega (arith, up, runs)
@@ -115,9 +103,9 @@ few false s h = leb-true s 40 h
 
 most_has : (given : Blocks) → has_most given ≡ true → has_blocks given ≡ true
 most_has blocks.Most h = refl
-most_has blocks.Without h = absurd (both_ways _ h refl)
-most_has (blocks.Factors t) h = absurd (both_ways _ h refl)
-most_has (blocks.PerBlock k) h = absurd (both_ways _ h refl)
+most_has blocks.Without h = absurd (both_ways _ refl h)
+most_has (blocks.Factors t) h = absurd (both_ways _ refl h)
+most_has (blocks.PerBlock k) h = absurd (both_ways _ refl h)
 
 -- the numbers for which a step asks
 module _ (step : Meaning) (n : ℕ) where
@@ -136,7 +124,7 @@ module _ (step : Meaning) (n : ℕ) where
 
   resolutions : (size : Size) → is_minimum size ≡ false → has_most step.settings.blocks ≡ false → length step.factors ≤ 40 → lowest step size ≤ n → n ≤ highest step size
       → seeks_highest step.settings.least step.goal ≡ true → (3 ≤ n) × (n ≤ 99)
-  resolutions Minimum fixed one few low high seeks = absurd (both_ways _ refl fixed)
+  resolutions Minimum fixed one few low high seeks = absurd (both_ways _ fixed refl)
   resolutions (Runs m) fixed one few low high seeks =
       let from : 3 ≤ n = subst (λ k. k ≤ n) (cond-false _ _ _ one) low in
       let upto : n ≤ max 3 (length step.factors + 1) = subst (λ k. n ≤ k) (cond-false _ _ _ one ∙ cond-true _ _ _ seeks) high in
@@ -156,21 +144,133 @@ can_be_asked q m s t n least (wanted.Effects estimate others) valid askable boun
 -- with a least pattern a resolution is asked, and no blocks are
 module _ (size : Size) (given : Blocks) (w : Wanted) (together : stand_together size (criterion_of w) true given ≡ true) where
   resolution_asked : (n : ℕ) → IsTrue (is_resolution (requirement_for true (goal_of w) n))
-  resolution_asked n = go w (unless _ (and_parts _ _ (and_parts _ _ together).0).0)
+  resolution_asked n = go w (not-true _ (and_parts _ _ (and_parts _ _ together).0).0)
     where
       go : (w : Wanted) → is_effects (criterion_of w) ≡ false → IsTrue (is_resolution (requirement_for true (goal_of w) n))
       go (wanted.Resolution r) h = refl
       go wanted.Highest h = refl
-      go (wanted.Effects estimate others) h = absurd (both_ways _ refl h)
+      go (wanted.Effects estimate others) h = absurd (both_ways _ h refl)
 
   without_blocks : (m n : ℕ) → block_factors given m n ≡ 0
-  without_blocks m n = go given (and-false _ (unless _ (and_parts _ _ (and_parts _ _ together).0).1))
+  without_blocks m n = go given (and-false _ (not-true _ (and_parts _ _ (and_parts _ _ together).0).1))
     where
       and-false : (b : Bool) → (b && true) ≡ false → b ≡ false
-      and-false true h = absurd (both_ways _ refl h)
+      and-false true h = absurd (both_ways _ h refl)
       and-false false h = refl
+
       go : (given : Blocks) → has_blocks given ≡ false → block_factors given m n ≡ 0
       go blocks.Without h = refl
-      go (blocks.Factors t) h = absurd (both_ways _ refl h)
-      go (blocks.PerBlock k) h = absurd (both_ways _ refl h)
-      go blocks.Most h = absurd (both_ways _ refl h)
+      go (blocks.Factors t) h = absurd (both_ways _ h refl)
+      go (blocks.PerBlock k) h = absurd (both_ways _ h refl)
+      go blocks.Most h = absurd (both_ways _ h refl)
+
+-- the parts of what a step keeps
+module _ (step : Step) where
+  criterion_fits : is_criterion (criterion_of step.wanted) ≡ true
+  criterion_fits = (and_parts _ _ (and_parts _ _ (and_parts _ _ step.settings_valid).0).0).1
+
+  together : stand_together step.size (criterion_of step.wanted) step.least step.blocks ≡ true
+  together = (and_parts _ _ step.settings_valid).1
+
+  some_factors : 1 ≤ length step.factors
+  some_factors = leb-true 1 (length step.factors) (and_parts _ _ step.factor_count).0
+
+  few_factors_in : length step.factors ≤ 40
+  few_factors_in = few (has_blocks step.blocks) (length step.factors) (and_parts _ _ step.factor_count).1
+
+  -- where the highest resolution is sought, the size is fixed and there are no blocks
+  fixed : seeks_highest step.least (goal_of step.wanted) ≡ true → is_minimum step.size ≡ false
+  fixed seeks = go step.wanted step.size seeks (not-true _ (and_parts _ _ together).1)
+    where
+      go : (w : Wanted) (size : Size) → seeks_highest step.least (goal_of w) ≡ true
+          → (is_minimum size && (is_highest (criterion_of w) || step.least || has_most step.blocks)) ≡ false → is_minimum size ≡ false
+      go wanted.Highest Minimum h out = absurd (both_ways _ out refl)
+      go w (Runs m) h out = refl
+      go (wanted.Resolution r) Minimum h out = absurd (both_ways _ refl h)
+      go (wanted.Effects estimate others) Minimum h out = absurd (both_ways _ refl h)
+
+  unblocked : seeks_highest step.least (goal_of step.wanted) ≡ true → has_most step.blocks ≡ false
+  unblocked seeks = go step.wanted step.blocks step.least seeks (not-true _ (and_parts _ _ (and_parts _ _ together).0).1)
+    where
+      go : (w : Wanted) (given : Blocks) (least : Bool) → seeks_highest least (goal_of w) ≡ true
+          → (has_blocks given && (least || is_highest (criterion_of w))) ≡ false → has_most given ≡ false
+      go wanted.Highest blocks.Most false h out = absurd (both_ways _ out refl)
+      go w blocks.Without least h out = refl
+      go w (blocks.Factors t) least h out = refl
+      go w (blocks.PerBlock k) least h out = refl
+      go wanted.Highest blocks.Most true h out = absurd (both_ways _ refl h)
+      go (wanted.Resolution r) blocks.Most least h out = absurd (both_ways _ refl h)
+      go (wanted.Effects estimate others) blocks.Most least h out = absurd (both_ways _ refl h)
+
+  module _ (n : ℕ) (low : lowest (meaning_of step) step.size ≤ n) (high : n ≤ highest (meaning_of step) step.size) where
+    abbrev m : ℕ
+    m = run_factors step.size n
+
+    level : is_level step.q ≡ true
+    level = bounds.level (settings_in step.q step.budget step.size step.wanted step.least step.blocks) step.settings_valid
+
+    sized : is_size step.q step.size ≡ true
+    sized = bounds.size (settings_in step.q step.budget step.size step.wanted step.least step.blocks) step.settings_valid
+
+    given : are_blocks step.q step.size step.blocks ≡ true
+    given = bounds.given (settings_in step.q step.budget step.size step.wanted step.least step.blocks) step.settings_valid
+
+    minimum : step.size ≡ Minimum → (1 ≤ n) × (n ≤ greatest step.q)
+    minimum is = sizes (meaning_of step) n (subst (λ z. lowest (meaning_of step) z ≤ n) is low) (subst (λ z. n ≤ highest (meaning_of step) z) is high)
+
+    runs : (1 ≤ m) × (step.q ^ m ≤ 1024)
+    runs = runs_fit step.size step.q n level sized minimum
+
+    few_blocks : step.q ^ block_factors step.blocks m n ≤ 1024
+    few_blocks = blocks_fit step.size step.blocks step.q n (no_more_than_9 step.q level).0 given runs.1 (block_numbers (meaning_of step) n step.size high)
+
+    -- the shape of the question for n is one of the step
+    pub shape_valid : IsShapeOf (meaning_of step) (record { q = step.q; m = m; s = length step.factors; t = block_factors step.blocks m n })
+    shape_valid = record {
+      shaped = record {
+        order = order_of step.q level;
+        some_indexes = runs.0;
+        runs = runs.1;
+        some_factors = some_factors;
+        factors = few_factors_in;
+        block_factors = few_factors step.q (block_factors step.blocks m n) (no_more_than_9 step.q level).0 few_blocks;
+        factors_in_blocks = few_in_blocks step.blocks (length step.factors) m n (and_parts _ _ step.factor_count).1;
+      };
+      factors = refl;
+      few_blocks = few_blocks;
+    }
+
+    -- what it asks may be asked
+    pub requirement_valid : CanBeAsked (record { q = step.q; m = m; s = length step.factors; t = block_factors step.blocks m n }) (requirement_for step.least (goal_of step.wanted) n)
+    requirement_valid = can_be_asked step.q m (length step.factors) (block_factors step.blocks m n) n step.least step.wanted criterion_fits step.effects_askable
+        (λ seeks. resolutions (meaning_of step) n step.size (fixed seeks) (unblocked seeks) few_factors_in low high seeks)
+
+    pub least_valid : IsTrue step.least → IsTrue (is_resolution (requirement_for step.least (goal_of step.wanted) n)) × (block_factors step.blocks m n ≡ 0)
+    least_valid h =
+        let with : stand_together step.size (criterion_of step.wanted) true step.blocks ≡ true = subst (λ b. stand_together step.size (criterion_of step.wanted) b step.blocks ≡ true) h together in (
+          subst (λ b. IsTrue (is_resolution (requirement_for b (goal_of step.wanted) n))) (sym h) (resolution_asked step.size step.blocks step.wanted with n),
+          without_blocks step.size step.blocks step.wanted with m n,
+        )
+
+-- there is such a number
+module _ (step : Step) where
+  sizes_fit : (given : Blocks) → are_blocks step.q Minimum given ≡ true → least_exponent given ≤ greatest step.q
+  sizes_fit blocks.Without are = one step.q (bounds.level (settings_in step.q step.budget step.size step.wanted step.least step.blocks) step.settings_valid)
+  sizes_fit (blocks.Factors t) are = one step.q (bounds.level (settings_in step.q step.budget step.size step.wanted step.least step.blocks) step.settings_valid)
+  sizes_fit (blocks.PerBlock k) are = let fits : k < greatest step.q = ltb-true k (greatest step.q) (and_parts (is_minimum Minimum) _ are).1 in omega (arith, fits)
+  sizes_fit blocks.Most are = one step.q (bounds.level (settings_in step.q step.budget step.size step.wanted step.least step.blocks) step.settings_valid)
+
+  at_least_one : (size : Size) → step.size ≡ size → lowest (meaning_of step) size ≤ highest (meaning_of step) size
+  at_least_one Minimum is =
+      sizes_fit step.blocks (subst (λ z. are_blocks step.q z step.blocks ≡ true) is (bounds.given (settings_in step.q step.budget step.size step.wanted step.least step.blocks) step.settings_valid))
+  at_least_one (Runs m) is =
+      let fits = subst (λ z. is_size step.q z ≡ true) is (bounds.size (settings_in step.q step.budget step.size step.wanted step.least step.blocks) step.settings_valid) in
+      ordered (has_most step.blocks) (seeks_highest step.least (goal_of step.wanted)) (leb-true 1 m (and_parts (nat_le 1 m) (nat_le (step.q ^ m) 1024) fits).0)
+    where
+      ordered : (most seeks : Bool) → 1 ≤ m → (if most then 1 else 3) ≤ (if most then m else (if seeks then max 3 (length step.factors + 1) else 3))
+      ordered true seeks some = some
+      ordered false true some = omega arith
+      ordered false false some = omega arith
+
+  pub some_numbers : (n : ℕ) → n ≡ lowest (meaning_of step) step.size → n ≤ highest (meaning_of step) step.size
+  some_numbers n is = subst (λ k. k ≤ highest (meaning_of step) step.size) (sym is) (at_least_one step.size refl)

@@ -1,5 +1,5 @@
 -- Where the asking of a step's questions is.
-use Rattle.std.specs.Prelude.{ℕ, ◌≡◌, ◌≤◌, ◌+◌, ◌-◌, ◌^◌, ◌==◌, ◌||◌, ⊥, Bool, true, false, if◌then◌else◌, List, [], ◌∷◌, ◌++◌, map, length, Option, Some, None, find}
+use Rattle.std.specs.Prelude.{ℕ, ◌≡◌, ◌≤◌, ◌+◌, ◌-◌, ◌^◌, ◌==◌, ◌||◌, if◌then◌else◌, List, ◌∷◌, ◌++◌, map, length, Option, Some, None, find}
 use Rattle.std.specs.List.{range_with_len}
 use Rattle.fx_designs.specs.Problems.{Problem}
 use Rattle.fx_vectors.specs.Matrix.{MatrixView}
@@ -7,7 +7,7 @@ use Rattle.fx_vectors.specs.declared.shape.Shape.{Shape}
 use Rattle.fx_vectors.specs.Shape.{IsShape, dimensions_of}
 use Rattle.fx_statements.specs.declared.outcome.Outcome.{Outcome}
 use Rattle.fx_statements.specs.Steps.{Meaning}
-use Rattle.fx_statements.specs.Questions.{Until, Questions, Conclusion, Found, asked, concluded, conclusion_by, highest, is_last, last_found, last_of, nodes_of, passes, question_for, turns, until, up_to}
+use Rattle.fx_statements.specs.Questions.{Until, Conclusion, Found, concluded, conclusion_by, highest, is_last, last_found, last_of, nodes_of, passes, question_for, turns, until, up_to}
 
 -- a matrix is that of what was found, or there is neither
 abbrev pub StandsFor : Option MatrixView → Option Found → Type 0
@@ -22,11 +22,15 @@ pub record IsShapeOf (step : Meaning) (shape : Shape) : Type 0 where
   pub factors : shape.s ≡ length step.factors
   pub few_blocks : shape.q ^ shape.t ≤ 1024
 
--- a matrix, where there is one, has all rows of such a shape
+-- a matrix, where there is one, has all rows of its shape
+abbrev pub IsWhole : Option MatrixView → Type 0
+IsWhole None = Unit {0}
+IsWhole (Some matrix) = length matrix.rows ≡ matrix.shape.s + matrix.shape.t
+
+-- and the shape is of the step
 abbrev pub IsOf : Meaning → Option MatrixView → Type 0
 IsOf step None = Unit {0}
-IsOf step (Some matrix) =
-    (length matrix.rows ≡ matrix.shape.s + matrix.shape.t) × IsShapeOf step matrix.shape
+IsOf step (Some matrix) = IsShapeOf step matrix.shape
 
 -- an outcome with such a shape
 abbrev pub IsOutcomeOf : Meaning → Outcome → Type 0

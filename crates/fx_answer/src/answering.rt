@@ -2,13 +2,29 @@ ghost use Rattle.std.specs.Prelude.{◌≡◌, ◌≤◌, ◌+◌, ◌^◌, List
 ghost use Rattle.fx_designs.specs.Answers.{answer};
 ghost use Rattle.fx_designs.specs.Problems.{Problem};
 ghost use Rattle.fx_vectors.specs.Shape.{IsShape, dimensions_of};
-ghost use Rattle.fx_statements.specs.Steps.{meaning_of};
+ghost use Rattle.fx_statements.specs.Steps.{Meaning, meaning_of};
 ghost use Rattle.fx_statements.specs.Questions.{
-    concluded, conclusion_in, cut_short, ends_with, highest, last_found, lowest, nodes_of, question_for, until, Found,
+  concluded,
+  conclusion_in,
+  cut_short,
+  ends_with,
+  highest,
+  last_found,
+  lowest,
+  nodes_of,
+  question_for,
+  until,
+  Found,
 };
 ghost use Rattle.fx_answer.specs.Outcomes.{IsOutcome};
 ghost use Rattle.fx_answer.specs.Standing.{
-    IsOf, IsOutcomeOf, IsShapeOf, StandsFor, conclusion_from, conclusion_past,
+  IsOf,
+  IsOutcomeOf,
+  IsShapeOf,
+  IsWhole,
+  StandsFor,
+  conclusion_from,
+  conclusion_past,
 };
 
 use crate::question::{highest, lowest, question_for};
@@ -46,6 +62,7 @@ fn ask_from(
     requires high { n ≤ highest (meaning_of step.now) step.now.size }
     requires within { nodes ≤ step.now.budget }
     requires found { IsOf (meaning_of step.now) found }
+    requires whole { IsWhole found }
     ensures of_step { IfOk result (IsOutcomeOf (meaning_of step.now)) }
     ensures concluded { IfOk result (λ outcome. (earlier : List Problem)
         → nodes ≡ nodes_of earlier
@@ -58,7 +75,15 @@ fn ask_from(
             matrix,
             nodes: count,
             marks: _marks,
-        } => go_on(alloc, step, n, question.shape, true, Some(matrix), nodes + count),
+        } => go_on(
+            alloc,
+            step,
+            n,
+            question.shape,
+            true,
+            Some(matrix),
+            nodes + count,
+        ),
         Asked::Nothing {
             nodes: count,
             marks: _marks,
@@ -85,6 +110,7 @@ fn go_on(
     requires dimensions { (question_for (meaning_of step.now) n).dimensions ≡ dimensions_of shape }
     requires answered { is_answered ≡ is_some (answer (question_for (meaning_of step.now) n)) }
     requires found { IsOf (meaning_of step.now) found }
+    requires whole { IsWhole found }
     ensures of_step { IfOk result (IsOutcomeOf (meaning_of step.now)) }
     ensures concluded { IfOk result (λ outcome. (finished : List Problem)
         → nodes ≡ nodes_of finished
@@ -111,10 +137,12 @@ fn is_last(size: Size, is_answered: bool) -> bool
 /// found, if any.
 fn concluded(alloc: Global, shape: Shape, found: Option<Matrix>, nodes: u64) -> Outcome
     requires shape { IsShape shape }
+    requires whole { IsWhole found }
     ensures concluded { (p : Problem) (last : Option Found)
         → p.dimensions ≡ dimensions_of shape
         → StandsFor found last
         → conclusion_in result ≡ concluded p last nodes }
+    ensures of_step { (step : Meaning) → IsShapeOf step shape → IsOf step found → IsOutcomeOf step result }
 {
     let books = Books::new(alloc);
     match found {
@@ -138,10 +166,12 @@ fn concluded(alloc: Global, shape: Shape, found: Option<Matrix>, nodes: u64) -> 
 /// The outcome where the budget ended in a question of this shape, with what was found by then.
 fn cut_short(alloc: Global, shape: Shape, found: Option<Matrix>, budget: u64) -> Outcome
     requires shape { IsShape shape }
+    requires whole { IsWhole found }
     ensures concluded { (p : Problem) (left : Option Found)
         → p.dimensions ≡ dimensions_of shape
         → StandsFor found left
         → conclusion_in result ≡ cut_short p left budget }
+    ensures of_step { (step : Meaning) → IsShapeOf step shape → IsOf step found → IsOutcomeOf step result }
 {
     let books = Books::new(alloc);
     let shape = match &found {

@@ -1,11 +1,20 @@
-ghost use Rattle.std.specs.Prelude.{◌≡◌, ◌≤◌, ◌^◌, length, IfOk};
+ghost use Rattle.std.specs.Prelude.{◌≡◌, ◌≤◌, ◌<◌, ℕ, IfOk};
+ghost use Rattle.fx_settings.specs.declared.settings.Blocks.TheVariants.{PerBlock};
 ghost use Rattle.fx_vectors.specs.Question.{IsValid, problem_of, requirement_of};
 ghost use Rattle.fx_vectors.specs.Shape.{dimensions_of};
 ghost use Rattle.fx_statements.specs.Goals.{goal_of};
 ghost use Rattle.fx_statements.specs.Steps.{meaning_of};
 ghost use Rattle.fx_statements.specs.Questions.{
-    block_factors, highest, least_exponent, lowest, question_for, requirement_for, run_factors, seeks_highest,
+  block_factors,
+  highest,
+  least_exponent,
+  lowest,
+  question_for,
+  requirement_for,
+  run_factors,
+  seeks_highest,
 };
+ghost use Rattle.fx_answer.specs.Standing.{IsShapeOf};
 
 use fx_base::NoMemory;
 use fx_settings::greatest;
@@ -20,20 +29,13 @@ pub(crate) fn lowest(step: &Step) -> u8
 {
     match step.size {
         Size::Minimum => least_exponent(step.blocks),
-        Size::Runs { .. } => {
-            if step.blocks.are_most() {
-                1
-            } else {
-                3
-            }
-        }
+        Size::Runs { .. } => { if step.blocks.are_most() { 1 } else { 3 } }
     }
 }
 
 /// The last number.
 pub(crate) fn highest(step: &Step) -> u8
-    ensures value { result ≡ highest (meaning_of step.now) step.now.size }
-    ensures bound { result ≤ 41 }
+    ensures { result ≡ highest (meaning_of step.now) step.now.size }
 {
     match step.size {
         Size::Minimum => greatest(step.q),
@@ -55,7 +57,7 @@ pub(crate) fn question_for(alloc: Global, step: &Step, n: u8) -> Result<Question
     requires high { n ≤ highest (meaning_of step.now) step.now.size }
     ensures problem { IfOk result (λ question. problem_of question ≡ question_for (meaning_of step.now) n) }
     ensures valid { IfOk result IsValid }
-    ensures few_blocks { IfOk result (λ question. question.shape.q ^ question.shape.t ≤ 1024) }
+    ensures of_step { IfOk result (λ question. IsShapeOf (meaning_of step.now) question.shape) }
 {
     Ok(Question {
         shape: shape_for(step, n),
@@ -66,7 +68,10 @@ pub(crate) fn question_for(alloc: Global, step: &Step, n: u8) -> Result<Question
 
 /// The shape of the designs that the question for the number `n` is about.
 fn shape_for(step: &Step, n: u8) -> Shape
-    ensures { dimensions_of result ≡ (question_for (meaning_of step.now) n).dimensions }
+    requires low { lowest (meaning_of step.now) step.now.size ≤ n }
+    requires high { n ≤ highest (meaning_of step.now) step.now.size }
+    ensures dimensions { dimensions_of result ≡ (question_for (meaning_of step.now) n).dimensions }
+    ensures of_step { IsShapeOf (meaning_of step.now) result }
 {
     let m = run_factors(step.size, n);
     Shape {
@@ -101,6 +106,7 @@ fn block_factors(blocks: Blocks, m: u8, n: u8) -> u8
 
 /// The least m with which there is more than one run and more than one block.
 fn least_exponent(blocks: Blocks) -> u8
+    requires { (k : ℕ) → blocks ≡ PerBlock k → k < 10 }
     ensures { result ≡ least_exponent blocks }
 {
     match blocks {

@@ -22,4 +22,4 @@ returns-then-from-len c =
     let r : c.from.result ≡ resolution_of a = c.from.ensures ∙ c.resolution-r.ensures ∙ ap resolution_of is in
     let n : c.len.result ≡ length a = c.len.ensures ∙ ap length is in
     let none : length a < resolution_of a = omega (arith, r, n, c.if-from-len.true) in
-    subst (λ (l : List ℕ). OnOk c.put.result (c.put.new.out ≡ c.args.out.now ++ l)) (no-words c.args.least a none) c.put.ensures.ok
+    subst (λ (l : List ℕ). OnOk c.put.result (c.put.new.out ≡ c.args.out.now ++ l)) (no-words c.args.claim.now a none) c.put.ensures.ok
