@@ -31,13 +31,13 @@ module _ (shape : Shape) where
 
   -- a matrix has the sections of the ending's
   pub with_matrix : (step : Meaning) (ending : Ending) (matrix : MatrixView) → HasMatrix shape ending (Some matrix)
-      → rules matrix.shape.q matrix.shape.m step.factors matrix.rows ++ examined step matrix ≡ sections (dimensions_of shape) step ending
+      → rules (dimensions_of matrix.shape) step.factors matrix.rows ++ examined step matrix ≡ sections (dimensions_of shape) step ending
   with_matrix step (Design rows count) matrix h =
-      ap (λ (x : MatrixView). rules x.shape.q x.shape.m step.factors x.rows ++ examined step x) (same_some matrix (with_rows rows) h.0)
+      ap (λ (x : MatrixView). rules (dimensions_of x.shape) step.factors x.rows ++ examined step x) (same_some matrix (with_rows rows) h.0)
   with_matrix step (NoDesign count) matrix h = absurd (cc h)
   with_matrix step (BudgetEnded None budget) matrix h = absurd (cc h)
   with_matrix step (BudgetEnded (Some rows) budget) matrix h =
-      ap (λ (x : MatrixView). rules x.shape.q x.shape.m step.factors x.rows ++ examined step x) (same_some matrix (with_rows rows) h.0)
+      ap (λ (x : MatrixView). rules (dimensions_of x.shape) step.factors x.rows ++ examined step x) (same_some matrix (with_rows rows) h.0)
 
   -- and is whole
   pub rows_are : (ending : Ending) (matrix : MatrixView) → HasMatrix shape ending (Some matrix) → length matrix.rows ≡ shape.s + shape.t
@@ -62,7 +62,7 @@ module _ (shape : Shape) where
 
 -- head and sections, one after the other
 pub all_lines : (number : ℕ) (d : Dimensions) (step : Meaning) (ending : Ending) (lines after : List ℕ)
-    → lines ≡ [] ++ head_lines number (length step.factors) d step.settings.least ending → after ≡ sections d step ending
+    → lines ≡ [] ++ head_lines number step d ending → after ≡ sections d step ending
     → lines ++ after ≡ step_lines number d step ending
 unfolding step_lines
 all_lines number d step ending lines after head rest = ap₂ (λ (x y : List ℕ). x ++ y) head rest
@@ -106,10 +106,10 @@ again blocks.Most m n = refl
 of_step : (step : Meaning) → AreOfStep step (outcome_of step).dimensions
 of_step step =
     let one = step-question step in
-    let is : (outcome_of step).dimensions ≡ (question_for step one.1.0.n).dimensions = one.1.1 ∙ ap (λ (p : Problem). p.dimensions) one.1.0.is in
+    let is : (outcome_of step).dimensions ≡ (question_for step one.1.n).dimensions = one.2 ∙ ap (λ (p : Problem). p.dimensions) one.1.is in
     subst (AreOfStep step) (sym is) (record {
       levels = refl;
-      block_factors = again step.settings.blocks (run_factors step.settings.size one.1.0.n) one.1.0.n;
+      block_factors = again step.settings.blocks (run_factors step.settings.size one.1.n) one.1.n;
     })
 
 -- and its matrix, where it has one, is a design of the step
