@@ -3,8 +3,11 @@ use Rattle.fx_statements.specs.Steps.{meaning_of}
 use Rattle.fx_program.specs.Files.{output_lines, plan_files}
 use Rattle.fx_program.specs.Output.{with_files}
 use Rattle.fx_program.proofs.Given.{is_given}
-use Rattle.fx_program.proofs.Endings.{after_files, ends_by, ends_by_stop, stopped_after_files, stopped_high, stopped_in_files}
+use Rattle.fx_program.proofs.Endings.{after_files, ends_by, ends_by_stop, ends_none, stopped_after_files, stopped_high, stopped_in_files}
 use Rattle.fx_program.proofs.run.run_step.Goals as goal
+
+pub returns-in_err-outcome-clause-output : goal.returns-in_err-outcome-clause-output
+returns-in_err-outcome-clause-output g c = ends_none _ c.from_residual.result c.from_residual.ensures.0
 
 pub returns-in_err-shelve_plans-clause-output : goal.returns-in_err-shelve_plans-clause-output
 returns-in_err-shelve_plans-clause-output g c =
