@@ -10,3 +10,4 @@ mod Lengths
 mod Walk
 mod Enumerating
 mod Heads
+mod Subjects

@@ -1,25 +1,58 @@
 -- The rules that construct a design.
-use Rattle.std.specs.Prelude.{ℕ, ◌^◌, ◌==◌, if◌then◌else◌, List, [], ◌∷◌, ◌++◌, length, codes}
+use Rattle.std.specs.Prelude.{ℕ, ◌^◌, ◌+◌, ◌==◌, if◌then◌else◌, Bool, true, false, List, [], ◌∷◌, ◌++◌, length, map, codes, decimal}
+use Rattle.std.specs.List.{range_with_len}
 use Rattle.fx_designs.specs.Galois.{digits}
+use Rattle.fx_designs.specs.Problems.{Dimensions}
 use Rattle.fx_alias.specs.Products.{product}
 
--- the rule of a factor: its row is a vector over the factors that introduced the run indexes
-abbrev pub rule_of : List (List ℕ) → List ℕ → List ℕ → List ℕ
-rule_of introduced name u = codes "  " ++ name ++ codes " = " ++ product introduced u ++ 10 ∷ []
+-- whose rule a row is: that of the factor or of the block factor of this name
+pub record Subject : Type 0 where
+  pub name : List ℕ
+  pub is_block : Bool
 
--- The rules of factors with these names and rows. A row that is the next unit vector introduces a run index, and has no
--- rule; the others are combinations of those before.
-abbrev pub rule_lines : ℕ → ℕ → List (List ℕ) → List (List ℕ) → List ℕ → List ℕ
+-- the name of a block factor, by its number from 1
+abbrev pub block_name : ℕ → List ℕ
+block_name j = codes "[" ++ (decimal j ++ codes "]")
+
+-- the names of t block factors
+abbrev pub block_names : ℕ → List (List ℕ)
+block_names t = map block_name (range_with_len 1 t)
+
+-- the subjects of the rows of a matrix: the factors, and then the block factors
+abbrev pub subjects : List (List ℕ) → List (List ℕ) → List Subject
+subjects factors blocks = map (λ name. record { name = name; is_block = false }) factors ++ map (λ name. record { name = name; is_block = true }) blocks
+
+-- the left side of a rule
+abbrev pub left_side : List ℕ → List ℕ
+left_side name = codes "  " ++ (name ++ codes " = ")
+
+-- the rule of this name: its row is a vector over the names that introduced the run indexes
+abbrev pub rule_of : List (List ℕ) → List ℕ → List ℕ → List ℕ
+rule_of introduced name u = left_side name ++ (product introduced u ++ codes "\n")
+
+-- the rule of a block factor of this name that introduces the run index i
+abbrev pub run_factor_line : List ℕ → ℕ → List ℕ
+run_factor_line name i = left_side name ++ (codes "run factor " ++ (decimal i ++ codes "\n"))
+
+-- the rule of a subject that introduces the run index i: a factor has none
+abbrev pub introduction : Subject → ℕ → List ℕ
+introduction subject i = if subject.is_block then run_factor_line subject.name i else []
+
+-- The rules of these subjects by their rows, where these names introduced run indexes before. A row that is the next unit vector
+-- introduces a run index; the others are combinations of those before.
+abbrev pub rule_lines : ℕ → ℕ → List (List ℕ) → List Subject → List ℕ → List ℕ
 rule_lines q m introduced [] rows = []
-rule_lines q m introduced (name ∷ names) [] = []
-rule_lines q m introduced (name ∷ names) (row ∷ rows) =
-    (if row == q ^ length introduced then rule_lines q m (introduced ++ name ∷ []) names rows else rule_of introduced name (digits q m row) ++ rule_lines q m introduced names rows)
+rule_lines q m introduced (subject ∷ later) [] = []
+rule_lines q m introduced (subject ∷ later) (row ∷ rows) =
+    (if row == q ^ length introduced
+    then introduction subject (length introduced + 1) ++ rule_lines q m (introduced ++ subject.name ∷ []) later rows
+    else rule_of introduced subject.name (digits q m row) ++ rule_lines q m introduced later rows)
 
 -- the lines, or a line that says that there are none
 abbrev pub or_none : List ℕ → List ℕ
 or_none [] = codes "  none\n"
 or_none (b ∷ lines) = b ∷ lines
 
--- the section of the rules of a design
-abbrev pub rules : ℕ → ℕ → List (List ℕ) → List ℕ → List ℕ
-rules q m names rows = codes "rules\n" ++ or_none (rule_lines q m [] names rows)
+-- the section of the rules of a design of these dimensions, by the names of its factors and its rows
+abbrev pub rules : Dimensions → List (List ℕ) → List ℕ → List ℕ
+rules d factors rows = codes "rules\n" ++ or_none (rule_lines d.q d.m [] (subjects factors (block_names d.t)) rows)

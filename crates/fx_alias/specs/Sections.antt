@@ -29,7 +29,7 @@ matrix_of d rows = record { shape = record { q = d.q; m = d.m; s = d.s; t = d.t 
 
 -- the sections of a matrix: its rules, and those that the step asks for
 abbrev pub matrix_sections : Dimensions → Meaning → List ℕ → List ℕ
-matrix_sections d step rows = rules d.q d.m step.factors rows ++ examined step (matrix_of d rows)
+matrix_sections d step rows = rules d step.factors rows ++ examined step (matrix_of d rows)
 
 -- the sections after the head, where there is a matrix
 abbrev pub sections : Dimensions → Meaning → Ending → List ℕ

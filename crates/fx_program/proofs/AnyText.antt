@@ -1,9 +1,6 @@
--- Whatever a text says, each of its steps states a problem whose matrices can be brought to canonical form, so that
--- status 1 says of it that no rule matrix at all meets what it asks, and a design of least pattern that none is better.
+-- Whatever a text says, each of its steps is valid, so that what is claimed of valid steps holds of each.
 use Rattle.std.proofs.Common.{◌∙◌, ◌≡◌, ◌≤◌, ◌++◌, Bool, true, false, ℕ, List, [], ◌∷◌, length, Option, Some, None, Result, Ok, Err, refl, sym, subst, arith, IsTrue, All}
 use Rattle.std.specs.Prelude.{nat_le, nat_lt, if◌then◌else◌}
-use Rattle.std.specs.List.{list_all}
-use Rattle.std.proofs.lemmas.Bool.{and_parts, leb-true}
 use Rattle.std.proofs.lemmas.List.Elements.{All-nil, All-push}
 use Rattle.fx_lexer.specs.declared.token.Token.{Token}
 use Rattle.fx_lexer.specs.declared.token.LexFault.{LexFault}
@@ -16,10 +13,6 @@ use Rattle.fx_text.specs.declared.refusal.Refusal.{Refusal}
 use Rattle.fx_text.specs.Written.{Written, written}
 use Rattle.fx_text.specs.Statements.{statement_of, statements_of, steps_of}
 use Rattle.fx_text.proofs.Chains.{bind_ok, same_ok}
-use Rattle.fx_designs.specs.Galois.{is_order}
-use Rattle.fx_designs.specs.Problems.{Problem, Requirement}
-use Rattle.fx_designs.specs.Problems as problems
-use Rattle.fx_reduction.specs.Reduction.{IsReducible}
 use Rattle.fx_factors.specs.Factors as named
 use Rattle.fx_outputs.specs.Outputs.{names_of, outputs_of}
 use Rattle.fx_settings.specs.declared.settings.StepSettings.{StepSettings}
@@ -28,60 +21,41 @@ use Rattle.fx_settings.specs.declared.settings.Criterion.TheVariants as criterio
 use Rattle.fx_settings.specs.declared.said.StepSaid.{StepSaid}
 use Rattle.fx_settings.specs.Said.{step_said}
 use Rattle.fx_text.specs.Phrases.{start_of}
-use Rattle.fx_settings.specs.Settings.{is_level, step_settings_of, unblocked_of}
-use Rattle.fx_settings.specs.Valid.{is_criterion}
-use Rattle.fx_settings.proofs.Valid.{level, valid}
+use Rattle.fx_settings.specs.Settings.{step_settings_of, unblocked_of}
+use Rattle.fx_settings.specs.Valid.{are_valid}
+use Rattle.fx_settings.proofs.Valid.{valid}
 use Rattle.fx_effects.specs.Models.{lists_of}
 use Rattle.fx_statements.specs.Contexts.{context}
 use Rattle.fx_statements.specs.Components.{check_components, components_place}
 use Rattle.fx_statements.specs.Goals.{Goal, AtLeast, Highest, ForEffects, effects_in, effects_wanted, goal_by}
 use Rattle.fx_statements.specs.Steps.{Meaning, asked_by, examine_of, factors_by, head_of, factor_limit, some_factors, step_by, step_of}
+
 use Rattle.fx_statements.specs.Programs.{accepted, program_of, steps_behind}
 use Rattle.fx_statements.proofs.Bounds.{kept}
-use Rattle.fx_answer.specs.Questions.{requirement_of}
-use Rattle.fx_program.specs.Forms.{is_built}
-use Rattle.fx_program.specs.Texts.{all_built, at_front, program_by, program_in}
-use Rattle.fx_program.specs.Claims.{EachStep, HasLeastOfAll, HasNoneAtAll, LeastMeansLeastOfAll, NoDesignMeansNone}
-use Rattle.fx_answer.proofs.Stated.{order_of_levels, same_some}
-use Rattle.fx_answer.proofs.Stated as stated
-use Rattle.fx_program.proofs.None.{none_told}
-use Rattle.fx_program.proofs.Least.{least_told}
+use Rattle.fx_program.specs.Texts.{at_front, or_refused, program_by, program_in}
+use Rattle.fx_program.specs.Claims.{EachStep}
+use Rattle.fx_program.specs.StepClaims.{IsOfKind, IsValidStep}
 
--- what a goal requires can be brought to canonical form
-abbrev CanBeReduced : Goal → Type 0
-CanBeReduced goal = (least : Bool) (asked : Requirement) → requirement_of least goal ≡ Some asked → IsReducible asked
+-- the goal is of the kind that the settings say
+by_effects : (q : ℕ) (factors : List (List ℕ)) (s : List Written) (goal : Goal) → effects_in q factors s ≡ Ok goal → IsOfKind criterion.Effects goal
+by_effects q factors s goal e =
+    let lists = bind_ok (lists_of q factors s) _ goal e in
+    subst (IsOfKind criterion.Effects) (same_ok _ goal lists.2) tt
 
-at_least : (r : ℕ) → 3 ≤ r → CanBeReduced (AtLeast r)
-at_least r three least asked e = subst IsReducible (same_some (problems.AtResolution r) asked e) three
+effects_kind : (q : ℕ) (factors : List (List ℕ)) (model : Option (List Written)) (goal : Goal) → effects_wanted q factors model ≡ Ok goal
+    → IsOfKind criterion.Effects goal
+effects_kind q factors None goal e = by_effects q factors [] goal e
+effects_kind q factors (Some s) goal e = by_effects q factors s goal e
 
-for_effects : (estimate besides : List ℕ) → CanBeReduced (ForEffects estimate besides)
-for_effects estimate besides true asked e = absurd (cc e)
-for_effects estimate besides false asked e = subst IsReducible (same_some (problems.ForEffects estimate besides) asked e) tt
+goal_kind : (q : ℕ) (factors : List (List ℕ)) (statements : List (List Written)) (kind : Criterion) (goal : Goal) → goal_by q factors statements kind ≡ Ok goal
+    → IsOfKind kind goal
+goal_kind q factors statements (criterion.Resolution r) goal e = subst (IsOfKind (criterion.Resolution r)) (same_ok (AtLeast r) goal e) refl
+goal_kind q factors statements criterion.Highest goal e = subst (IsOfKind criterion.Highest) (same_ok Highest goal e) tt
+goal_kind q factors statements criterion.Effects goal e = effects_kind q factors (statement_of word.Model statements) goal e
 
-highest : CanBeReduced Highest
-highest true asked e = subst IsReducible (same_some (problems.AtResolution 3) asked e) (let three : 3 ≤ 3 = omega arith in three)
-highest false asked e = absurd (cc e)
-
-module _ (q : ℕ) (factors : List (List ℕ)) where
-  named_effects : (s : List Written) (goal : Goal) → effects_in q factors s ≡ Ok goal → CanBeReduced goal
-  named_effects s goal e =
-      let lists = bind_ok (lists_of q factors s) _ goal e in
-      subst CanBeReduced (same_ok _ goal lists.2) (for_effects lists.0.estimate lists.0.nonnegligible)
-
-  wanted_effects : (model : Option (List Written)) (goal : Goal) → effects_wanted q factors model ≡ Ok goal → CanBeReduced goal
-  wanted_effects None goal e = named_effects [] goal e
-  wanted_effects (Some s) goal e = named_effects s goal e
-
-  goal_reducible : (statements : List (List Written)) (kind : Criterion) (goal : Goal) → is_criterion kind ≡ true → goal_by q factors statements kind ≡ Ok goal
-      → CanBeReduced goal
-  goal_reducible statements (criterion.Resolution r) goal fits e =
-      subst CanBeReduced (same_ok (AtLeast r) goal e) (at_least r (leb-true 3 r (and_parts (nat_le 3 r) (nat_le r 99) fits).0))
-  goal_reducible statements criterion.Highest goal fits e = subst CanBeReduced (same_ok Highest goal e) highest
-  goal_reducible statements criterion.Effects goal fits e = wanted_effects (statement_of word.Model statements) goal e
-
--- what is read of a step: levels of a field, and a goal that can be brought to canonical form
+-- what is read of a step: valid settings, and a goal of their kind
 abbrev IsRead : StepSettings × Goal → Type 0
-IsRead asked = (is_level asked.0.q ≡ true) × CanBeReduced asked.1
+IsRead asked = (are_valid asked.0 ≡ true) × IsOfKind asked.0.criterion asked.1
 
 asked_read : (factors : List (List ℕ)) (said : StepSaid) (statements : List (List Written)) (asked : StepSettings × Goal) → 1 ≤ length factors
     → asked_by factors said statements ≡ Ok asked → IsRead asked
@@ -91,32 +65,17 @@ asked_read factors said statements asked one e =
     let settings = bind_ok (step_settings_of first.0 said) _ asked goal.2 in
     let listed = bind_ok (check_components first.0.q (length factors) goal.0 (components_place statements)) _ asked settings.2 in
     let same = kept first.0 said settings.0 settings.1 in
-    let all = valid (length factors) said first.0 first.1 settings.0 one settings.1 in
-    let fits = (and_parts _ _ (and_parts _ _ (and_parts _ _ all).0).0).1 in
     subst IsRead (same_ok (settings.0, goal.0) asked listed.2) (
-      subst (λ q. is_level q ≡ true) (sym same.1) (level (length factors) said first.0 first.1),
-      goal_reducible first.0.q factors statements first.0.criterion goal.0 (subst (λ k. is_criterion k ≡ true) same.0 fits) goal.1,
+      valid (length factors) said first.0 first.1 settings.0 one settings.1,
+      subst (λ kind. IsOfKind kind goal.0) (sym same.0) (goal_kind first.0.q factors statements first.0.criterion goal.0 goal.1),
     )
 
 some_named : (proc : Place) (found factors : List (List ℕ)) → some_factors proc found ≡ Ok factors → 1 ≤ length factors
 some_named proc [] factors e = absurd (cc e)
 some_named proc (name ∷ found) factors e = subst (λ (l : List (List ℕ)). 1 ≤ length l) (same_ok (name ∷ found) factors e) (omega arith)
 
--- so that no design means that there is none at all
-none_at_all : (step : Meaning) → IsRead (step.settings, step.goal) → HasNoneAtAll step
-none_at_all step read seed number p is one =
-    let form = stated.is_stated step p is in
-    none_told seed number step p is (subst (λ q. IsTrue (is_order q)) (sym form.levels) (order_of_levels step.settings.q read.0)) (read.1 step.settings.least p.requirement form.asked) one
-
--- and that a design of least pattern has the least of all
-least_of_all : (step : Meaning) → IsRead (step.settings, step.goal) → HasLeastOfAll step
-least_of_all step read p rows count is least ends =
-    let form = stated.is_stated step p is in
-    let order = subst (λ q. IsTrue (is_order q)) (sym form.levels) (order_of_levels step.settings.q read.0) in
-    least_told p step.settings.budget order (read.1 step.settings.least p.requirement form.asked) (form.least ∙ least) rows count ends
-
--- what holds of each step that is read holds of each step of a text
-module _ (Claimed : Meaning → Type 0) (claim : (step : Meaning) → IsRead (step.settings, step.goal) → Claimed step) where
+-- what holds of each valid step holds of each step of a text
+module _ (Claimed : Meaning → Type 0) (claim : (step : Meaning) → IsValidStep step → Claimed step) where
   step_read : (earlier : List (List ℕ)) (statements : List (List Written)) (factors : Option (List Written)) (step : Meaning)
       → step_by earlier statements factors ≡ Ok step → Claimed step
   step_read earlier statements None step e = absurd (cc e)
@@ -127,8 +86,9 @@ module _ (Claimed : Meaning → Type 0) (claim : (step : Meaning) → IsRead (st
       let asked = bind_ok (asked_by factors.0 (step_said (head_of statements) given statements) statements) _ step factors.2 in
       let outputs = bind_ok (outputs_of (context factors.0 asked.0.0) earlier statements) _ step asked.2 in
       let whole : Meaning = record { factors = factors.0; settings = asked.0.0; goal = asked.0.1; examine = examine_of statements; outputs = outputs.0 } in
-      subst Claimed (same_ok whole step outputs.2)
-      (claim whole (asked_read factors.0 (step_said (head_of statements) given statements) statements asked.0 (some_named proc found.0 factors.0 found.2) asked.1))
+      let one = some_named proc found.0 factors.0 found.2 in
+      let read = asked_read factors.0 (step_said (head_of statements) given statements) statements asked.0 one asked.1 in
+      subst Claimed (same_ok whole step outputs.2) (claim whole (record { settings = read.0; goal = read.1; factors = one }))
 
   -- step by step
   all_read : (earlier : List (List ℕ)) (done : List Meaning) (groups : List (List (List Written))) (steps : List Meaning) → All Claimed done
@@ -149,12 +109,8 @@ module _ (Claimed : Meaning → Type 0) (claim : (step : Meaning) → IsRead (st
   unfolding program_of
   program_read text tokens steps e = accepted_read text tokens (first_refusal (symbols_of text tokens)) steps e
 
-  built_told : (steps : List Meaning) (b : Bool) → All Claimed steps → EachStep Claimed (if b then Ok steps else Err (at_front 0))
-  built_told steps true all = all
-  built_told steps false all = tt
-
-  all_told : (program : Result (List Meaning) Refusal) → ((steps : List Meaning) → program ≡ Ok steps → All Claimed steps) → EachStep Claimed (all_built program)
-  all_told (Ok steps) all = built_told steps (list_all is_built steps) (all steps refl)
+  all_told : (program : Result (List Meaning) Refusal) → ((steps : List Meaning) → program ≡ Ok steps → All Claimed steps) → EachStep Claimed (or_refused program)
+  all_told (Ok steps) all = all steps refl
   all_told (Err refusal) all = tt
 
   lexed_told : (text : List ℕ) (tokens : Result (List Token) LexFault) → EachStep Claimed (program_by text tokens)
@@ -165,12 +121,6 @@ module _ (Claimed : Meaning → Type 0) (claim : (step : Meaning) → IsRead (st
   short_told text true = tt
   short_told text false = lexed_told text (lexed text)
 
-  any_text : (text : List ℕ) → EachStep Claimed (program_in text)
+  pub any_text : (text : List ℕ) → EachStep Claimed (program_in text)
   unfolding program_in
   any_text text = short_told text (nat_lt 1048576 (length text))
-
-pub none_in_any_text : (text : List ℕ) → NoDesignMeansNone (program_in text)
-none_in_any_text text = any_text HasNoneAtAll none_at_all text
-
-pub least_in_any_text : (text : List ℕ) → LeastMeansLeastOfAll (program_in text)
-least_in_any_text text = any_text HasLeastOfAll least_of_all text

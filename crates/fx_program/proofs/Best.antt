@@ -125,7 +125,7 @@ reducible_by criterion.Effects (ForEffects estimate besides) h e = tt
 exponent_fits : (q : ℕ) (size : Size) (b : Blocks) → is_level q ≡ true → are_blocks q size b ≡ true → least_exponent b ≤ greatest q
 exponent_fits q size blocks.Without level e = some_size q level
 exponent_fits q size (blocks.Factors t) level e = some_size q level
-exponent_fits q size (blocks.PerBlock k) level e = (let low = ltb-true k (greatest q) (and_parts _ _ e).1 in omega (arith, low))
+exponent_fits q size (blocks.PerBlock k) level e = (let low : k < greatest q = ltb-true k (greatest q) (and_parts _ _ e).1 in omega (arith, low))
 exponent_fits q size blocks.Most level e = some_size q level
 
 size_or : (size : Size) → (size ≡ Minimum) ⊎ ((m : ℕ) × (size ≡ Runs m))
@@ -155,7 +155,7 @@ module _ (step : Meaning) (valid : IsValidStep step) where
   level : is_level q ≡ true
   level = (and_parts _ _ (and_parts _ _ (and_parts _ _ (and_parts _ _ (and_parts _ _ valid.settings).0).0).0).0).0
 
-  field : IsField q
+  pub field : IsField q
   field = is_order-field q (order_of q level)
 
   given : are_blocks q step.settings.size step.settings.blocks ≡ true

@@ -24,6 +24,7 @@ use Rattle.fx_settings.specs.Settings.{levels_of, budget_of}
 use Rattle.fx_demands.specs.Bars.{bars_of}
 use Rattle.fx_vectors.specs.Effects.{factors_of}
 use Rattle.fx_statements.specs.Programs.{program_of}
+use Rattle.fx_statements.specs.Questions.{conclusion_of}
 use Rattle.fx_alias.specs.Sections.{step_lines}
 use Rattle.fx_program.specs.Words.{settings_of, word_fault}
 use Rattle.fx_program.specs.declared.words.Settings.TheVariants.{Run}
@@ -34,7 +35,7 @@ use Rattle.fx_program.specs.Output.{Output, message, output_of, Gives, GivesForS
 
 -- what is given for the word `run` and a text
 given : List ℕ → Output
-unfolding digits prime_of degree_of reduction_of add mul neg inv runs_of is_constant is_balanced in_span must_balance is_met is_allowed is_canonical lists designs answer nodes lexed refused levels_of budget_of size_of criterion_of check_blocks check_minimum blocks_of bars_of factors_of program_of settings_of program_in step_lines is_aliased is_constant_in_blocks lib.Count.ones constant_words pattern_of first_least best_before carried
+unfolding digits prime_of degree_of reduction_of add mul neg inv runs_of is_constant is_balanced in_span must_balance is_met is_allowed is_canonical lists designs answer nodes lexed refused levels_of budget_of size_of criterion_of check_blocks check_minimum blocks_of bars_of factors_of program_of settings_of program_in step_lines is_aliased is_constant_in_blocks lib.Count.ones constant_words pattern_of first_least best_before carried conclusion_of
 given text = output_of (codes "run" ∷ []) text
 
 -- a text without steps
@@ -113,15 +114,6 @@ by_the_outputs :
     × (given (codes "proc factex; factors A B C; output out=a blockname=day;") ≡ message (codes "factex: E31 1:42 BLOCKNAME without BLOCKS\n") 3)
 unfolding given
 by_the_outputs = (refl, refl, refl, refl, refl, refl, refl, refl, refl)
-
--- refused: steps that are not run yet: blocks, the highest resolution and the least size
-by_what_is_built :
-    (given (codes "proc factex; factors A B C; size design=8;") ≡ message (codes "factex: E0 1:1 not built yet\n") 3)
-    × (given (codes "proc factex; factors A B C; model r=max;") ≡ message (codes "factex: E0 1:1 not built yet\n") 3)
-    × (given (codes "proc factex; factors A B C; model r=3; size design=min;") ≡ message (codes "factex: E0 1:1 not built yet\n") 3)
-    × (given (codes "proc factex; factors A B C; model r=3; blocks nblocks=2;") ≡ message (codes "factex: E0 1:1 not built yet\n") 3)
-unfolding given
-by_what_is_built = (refl, refl, refl, refl)
 
 -- a third of three factors of three levels
 third_of_three_levels :

@@ -1,21 +1,13 @@
--- The design of a step that asks for least aberration: the first of least pattern, and of the least of all rule matrices.
+-- The first design of least pattern is the answer.
 use Rattle.std.proofs.Common.{if◌then◌else◌, ℕ, ◌≡◌, ◌<◌, ◌+◌, ◌&&◌, ◌||◌, not, Bool, true, List, [], ◌∷◌, filter, length, Option, Some, None, refl, sym, subst, ap, ◌∙◌, inl, inr, IsTrue}
 use Rattle.std.specs.List.{find, list_all}
 use Rattle.std.proofs.lemmas.Bool.{cases_Bool, cases_lt, cond-true, cond-false, and_parts, and_from, or_cases, or_right, both_ways, not-true, not_from_false}
-use Rattle.fx_designs.specs.Galois.{is_order}
 use Rattle.fx_designs.specs.Problems.{Problem}
 use Rattle.fx_designs.specs.Patterns.{pattern_of, is_less}
 use Rattle.fx_designs.specs.Answers.{answer, designs, is_design, is_of_least_pattern, prefixes}
-use Rattle.fx_designs.specs.Nodes.{nodes}
-use Rattle.fx_designs.specs.Outcomes.{Design, finished, ending_of}
 use Rattle.fx_laws.proofs.FirstDesign.{there}
 use Rattle.fx_laws.proofs.Order.{IsIn, first_found, lists-sorted}
-use Rattle.fx_laws.proofs.Tables.{is_order-field}
-use Rattle.fx_reduction.specs.Reduction.{IsReducible}
-use Rattle.fx_reduction.proofs.LeastPattern.{least-of_all}
-use Rattle.fx_answer.proofs.Endings.{within, passed}
 use Rattle.fx_jobs.specs.Laws.{IsFirstOfLeastPattern}
-use Rattle.fx_program.specs.Claims.{LeastAmongAll}
 
 -- a search among those that pass a test
 find-both : (E D : List ℕ → Bool) (xs : List (List ℕ)) → find E (filter D xs) ≡ find (λ x. D x && E x) xs
@@ -64,16 +56,3 @@ first-least-answer p least some rows first =
     let of_least : is_of_least_pattern p other ≡ true = elim (or_cases _ _ parts.1) [ inl out ↦ absurd (both_ways _ (not-true _ out) least) | inr l ↦ l ] in
     let not_less = of-all (λ x. not (is_less (pattern_of p.dimensions x) (pattern_of p.dimensions other))) D (prefixes p) rows of_least (there p some rows first.design) first.design in
     both_ways _ (not-true _ not_less) greater)
-
--- where the search ends with a design, that is the answer
-design-answer : (found : Option (List ℕ)) (count n : ℕ) (rows : List ℕ) → finished found n ≡ Design rows count → found ≡ Some rows
-design-answer None count n rows e = absurd (cc e)
-design-answer (Some own) count n rows e = cc e
-
-pub least_told : (p : Problem) (budget : ℕ) → IsTrue (is_order p.dimensions.q) → IsReducible p.requirement → p.least ≡ true → (rows : List ℕ) (count : ℕ) → ending_of p budget ≡ Design rows count → LeastAmongAll p rows
-least_told p budget order reducible least rows count ends = elim (cases_lt budget (length (nodes p))) [
-  | inl more ↦ (let bad = sym (passed p budget more) ∙ ends in absurd (cc bad))
-  | inr few ↦
-      let is = design-answer (answer p) count (length (nodes p)) rows (sym (within p budget few) ∙ ends) in
-      λ factors blocks matrix met. least-of_all p (is_order-field p.dimensions.q order) reducible rows factors blocks least is matrix met
-]

@@ -5,8 +5,10 @@ mod Endings
 mod SoFar
 mod Filing
 mod Given
+mod Best
 mod None
 mod Least
+mod First
 mod AnyText
 mod Statuses
 mod Messages

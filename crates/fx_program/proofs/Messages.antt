@@ -15,7 +15,7 @@ use Rattle.fx_statements.specs.Steps.{Meaning}
 use Rattle.fx_statements.specs.Programs.{program_of}
 use Rattle.fx_statements.proofs.Placed as placed
 use Rattle.fx_program.specs.declared.text.TextFault.{TextFault}
-use Rattle.fx_program.specs.Texts.{accepted, at_front, program_by, program_in}
+use Rattle.fx_program.specs.Texts.{at_front, or_refused, program_by, program_in}
 use Rattle.fx_program.specs.Refusals.{reasons, lexical_reasons, has_row, HasItsMessage}
 
 -- each number from 1 to this one has a row
@@ -46,7 +46,7 @@ lexical_row kind rule = let p = and_parts (nat_le 1 kind) (nat_le kind 5) rule i
 at_its_front : (text : List ℕ) → IsPlaceIn text 1 1
 at_its_front text = record { before = []; after = text; joined = refl; line_is = refl; column_is = refl }
 
-with_tokens : (text : List ℕ) (program : Result (List Meaning) Refusal) → IfErr program (IsByRule (IsPlaceIn text)) → IfErr (accepted program) (HasItsMessage text)
+with_tokens : (text : List ℕ) (program : Result (List Meaning) Refusal) → IfErr program (IsByRule (IsPlaceIn text)) → IfErr (or_refused program) (HasItsMessage text)
 with_tokens text (Ok steps) h = tt
 with_tokens text (Err refusal) h = (row_of refusal.code h.rule, h.place)
 

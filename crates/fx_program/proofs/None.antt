@@ -1,44 +1,75 @@
--- What status 1 says of a step: no rule matrix at all meets what it asks.
-use Rattle.std.proofs.Common.{ℕ, ◌≡◌, ◌≤◌, List, Option, Some, None, length, refl, sym, ap, ◌∙◌, arith, inl, inr, IsTrue}
-use Rattle.std.proofs.lemmas.Bool.{cases_lt}
-use Rattle.fx_designs.specs.Galois.{is_order}
-use Rattle.fx_designs.specs.Problems.{Problem}
-use Rattle.fx_designs.specs.Answers.{answer}
-use Rattle.fx_designs.specs.Nodes.{nodes}
-use Rattle.fx_laws.proofs.Tables.{is_order-field}
+-- What the statuses of a step say: 1 that no rule matrix at all meets what it asks, 2 that its nodes pass the budget.
+use Rattle.std.proofs.Common.{ℕ, ◌≡◌, ◌<◌, ◌≤◌, ◌+◌, ◌++◌, true, false, List, Option, Some, None, length, take, drop, refl, sym, subst, ap, ◌∙◌, arith, inl, inr}
+use Rattle.std.proofs.lemmas.Bool.{cases_lt, both_ways}
+use Rattle.std.proofs.lemmas.List.{take-append-drop}
+use Rattle.fx_designs.specs.Galois.{IsField}
+use Rattle.fx_designs.specs.Vectors.{vectors_of}
+use Rattle.fx_designs.specs.Runs.{runs_of}
+use Rattle.fx_designs.specs.Problems.{Dimensions, Problem, Requirement}
+use Rattle.fx_designs.specs.Demands.{do_runs_meet, is_met}
+use Rattle.fx_designs.specs.Outcomes.{Ending, Design, NoDesign, BudgetEnded}
 use Rattle.fx_designs.specs.Matrices.{NoneMeets}
-use Rattle.fx_reduction.specs.Reduction.{IsReducible}
-use Rattle.fx_reduction.proofs.NoDesign.{none-exactly}
-use Rattle.fx_reduction.proofs.LeastPattern.{no_answer}
+use Rattle.fx_reduction.proofs.NoDesign.{named_matrix}
 use Rattle.fx_statements.specs.Steps.{Meaning}
-use Rattle.fx_answer.specs.Questions.{problem_of}
-use Rattle.fx_designs.specs.Outcomes.{finished}
+use Rattle.fx_statements.specs.Questions.{Conclusion, Found, Turn, asked, concluded, cut_short, last_found, last_of, left_at, nodes_of, outcome_of, questions_of}
+use Rattle.fx_statements.proofs.Concluded.{finished_by, passed, within}
 use Rattle.fx_program.specs.Statuses.{status_of}
-use Rattle.fx_program.specs.Output.{Output, given_by, step_output}
-use Rattle.fx_answer.proofs.Stated.{is_stated}
-use Rattle.fx_answer.proofs.Endings.{within, passed}
+use Rattle.fx_program.specs.StepClaims.{Allows, IsValidStep, required}
+use Rattle.fx_program.proofs.Best.{field, none_at_all, what_it_asks}
 
-none_at_one : (found : Option (List ℕ)) (count : ℕ) → status_of (finished found count) ≡ 1 → found ≡ None
-none_at_one None count e = refl
-none_at_one (Some rows) count e = absurd (omega (arith, e))
+none_at_one : (ending : Ending) → status_of ending ≡ 1 → (count : ℕ) × (ending ≡ NoDesign count)
+none_at_one (Design rows count) e = absurd (omega (arith, e))
+none_at_one (NoDesign count) e = (count, refl)
+none_at_one (BudgetEnded left budget) e = absurd (omega (arith, e))
 
-module _ (seed number : ℕ) (step : Meaning) (p : Problem) (is : problem_of step ≡ Some p) (order : IsTrue (is_order p.dimensions.q)) (reducible : IsReducible p.requirement) where
+-- rows that meet a requirement are those of a rule matrix that does
+some_meets : (d : Dimensions) (f : IsField d.q) (wanted : Requirement) (rows : List ℕ) → length rows ≡ d.s + d.t → is_met d wanted rows ≡ true
+    → NoneMeets d wanted → ⊥
+unfolding is_met
+some_meets d f wanted rows len met none =
+    let rules : List (List ℕ) = vectors_of d.q d.m rows in
+    both_ways _ (none (take d.s rules) (drop d.s rules) (named_matrix d f wanted rows len))
+    (subst (λ v. do_runs_meet d wanted (runs_of d.q d.m v) ≡ true) (sym (take-append-drop d.s rules)) met)
+
+module _ (step : Meaning) where
+  abbrev ps : List Problem
+  ps = asked (questions_of step)
+
   abbrev budget : ℕ
   budget = step.settings.budget
 
-  status : (step_output seed number step).status ≡ (given_by seed number step (Some p)).status
-  status = ap (λ (o : Output). o.status) (ap (given_by seed number step) is)
+  cut : (p : Problem) (left : Option Found) → status_of (cut_short p left budget).ending ≡ 2
+  cut p None = refl
+  cut p (Some found) = refl
 
-  pub none_told : (step_output seed number step).status ≡ 1 → NoneMeets p.dimensions p.requirement
-  none_told one =
-      elim (cases_lt budget (length (nodes p))) [
-        | inl more ↦ absurd (omega (arith, sym (status ∙ ap status_of (passed p budget more)) ∙ one))
-        | inr few ↦
-            let found = none_at_one (answer p) (length (nodes p)) (sym (status ∙ ap status_of (within p budget few)) ∙ one) in
-            (none-exactly p (is_order-field p.dimensions.q order) reducible).0 ((no_answer p (is_stated step p is).some).0 found)
-      ]
+  not_cut : (p : Problem) (found : Option Found) (count : ℕ) → status_of (concluded p found count).ending ≡ 2 → ⊥
+  not_cut p None count e = omega (arith, e)
+  not_cut p (Some found) count e = omega (arith, e)
 
-  pub none_comes : length (nodes p) ≤ budget → NoneMeets p.dimensions p.requirement → (step_output seed number step).status ≡ 1
-  none_comes few none =
-      let found = (no_answer p (is_stated step p is).some).1 ((none-exactly p (is_order-field p.dimensions.q order) reducible).1 none) in
-      status ∙ ap status_of (within p budget few ∙ ap (λ a. finished a (length (nodes p))) found)
+  pub two_told : status_of (outcome_of step).ending ≡ 2 → budget < nodes_of ps
+  two_told two = elim (cases_lt budget (nodes_of ps)) [
+    | inl more ↦ more
+    | inr few ↦ absurd (not_cut (last_of (questions_of step).first ps) (last_found None ps) (nodes_of ps)
+        (sym (ap (λ (c : Conclusion). status_of c.ending) (within (questions_of step) budget few)) ∙ two))
+  ]
+
+  pub two_comes : budget < nodes_of ps → status_of (outcome_of step).ending ≡ 2
+  two_comes more =
+      let end = passed (questions_of step) budget more in
+      ap (λ (c : Conclusion). status_of c.ending) end.1 ∙ cut end.0.question (left_at budget end.0)
+
+  module _ (valid : IsValidStep step) where
+    pub one_told : status_of (outcome_of step).ending ≡ 1 → (d : Dimensions) → Allows step d → NoneMeets d (required step.goal)
+    one_told one d h = (let none = none_at_one (outcome_of step).ending one in none_at_all step valid none.0 d none.1 h)
+
+    by_found : (p : Problem) (found : Option Found) (count : ℕ) → outcome_of step ≡ concluded p found count
+        → ((d : Dimensions) → Allows step d → NoneMeets d (required step.goal)) → status_of (outcome_of step).ending ≡ 1
+    by_found p None count is none = ap (λ (c : Conclusion). status_of c.ending) is
+    by_found p (Some found) count is none =
+        let d : Dimensions = (outcome_of step).dimensions in
+        let own = what_it_asks step valid found.rows count (ap (λ (c : Conclusion). c.ending) is) in
+        let f : IsField d.q = subst IsField (sym own.allowed.levels) (field step valid) in
+        absurd (some_meets d f (required step.goal) found.rows own.whole own.met (none d own.allowed))
+
+    pub one_comes : nodes_of ps ≤ budget → ((d : Dimensions) → Allows step d → NoneMeets d (required step.goal)) → status_of (outcome_of step).ending ≡ 1
+    one_comes few none = by_found (last_of (questions_of step).first ps) (last_found None ps) (nodes_of ps) (within (questions_of step) budget few) none

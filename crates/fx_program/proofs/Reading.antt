@@ -9,7 +9,7 @@ use Rattle.fx_statements.specs.declared.step.Step.{Step}
 use Rattle.fx_statements.specs.Steps.{Meaning, meaning_of}
 use Rattle.fx_statements.specs.Programs.{program_of}
 use Rattle.fx_program.specs.declared.text.TextFault.TheVariants.{Lexical, Refused}
-use Rattle.fx_program.specs.Texts.{accepted, program_by, program_in}
+use Rattle.fx_program.specs.Texts.{or_refused, program_by, program_in}
 
 module _ (text : List ℕ) (short : length text ≤ 1048576) where
   by_tokens : (r : Result (List Token) LexFault) → lexed text ≡ r → program_in text ≡ program_by text r
@@ -20,8 +20,8 @@ module _ (text : List ℕ) (short : length text ≤ 1048576) where
   lexical fault e = by_tokens (Err fault) e
 
   module _ (tokens : List Token) (lexes : lexed text ≡ Ok tokens) where
-    by_meaning : (r : Result (List Meaning) Refusal) → program_of text tokens ≡ r → program_in text ≡ accepted r
-    by_meaning r e = by_tokens (Ok tokens) lexes ∙ ap accepted e
+    by_meaning : (r : Result (List Meaning) Refusal) → program_of text tokens ≡ r → program_in text ≡ or_refused r
+    by_meaning r e = by_tokens (Ok tokens) lexes ∙ ap or_refused e
 
     pub refused : (refusal : Refusal) → program_of text tokens ≡ Err refusal → program_in text ≡ Err (Refused refusal)
     refused refusal e = by_meaning (Err refusal) e

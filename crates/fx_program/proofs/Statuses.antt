@@ -1,25 +1,21 @@
 -- The status of a program: the greatest of those of its steps.
-use Rattle.std.proofs.Common.{ℕ, ◌≡◌, ◌≤◌, ◌+◌, Bool, true, false, List, [], ◌∷◌, ◌++◌, Option, Some, None, Result, Ok, Err, refl, sym, ap, ◌∙◌, ◌⊎◌, inl, inr, arith, All}
+use Rattle.std.proofs.Common.{ℕ, ◌≡◌, ◌≤◌, ◌+◌, Bool, true, false, List, [], ◌∷◌, ◌++◌, Result, Ok, Err, refl, sym, ap, ◌∙◌, ◌⊎◌, inl, inr, arith, All}
 use Rattle.std.specs.Prelude.{nat_le, if◌then◌else◌}
 use Rattle.std.specs.List.{Contains}
 use Rattle.std.proofs.lemmas.List.Elements.{All-nil, All-cons, All-contains, All-contains_itself, All-head, All-tail}
 use Rattle.fx_base.specs.Acts.{Event}
-use Rattle.fx_designs.specs.Problems.{Problem}
 use Rattle.fx_statements.specs.Steps.{Meaning}
-use Rattle.fx_answer.specs.Questions.{problem_of}
 use Rattle.fx_program.specs.Texts.{program_in}
 use Rattle.fx_program.specs.declared.text.TextFault.{TextFault}
-use Rattle.fx_program.specs.Output.{given_by, program_output, step_output, step_status, steps_output, worse}
-use Rattle.fx_program.specs.Claims.{HasNoneAtAll, IsGreatest, NoDesignMeansNone, SomeEndsWith, SomeHasNone}
-use Rattle.fx_program.proofs.AnyText.{none_in_any_text}
+use Rattle.fx_program.specs.Output.{program_output, step_output, step_status, steps_output, worse}
+use Rattle.fx_program.specs.Claims.{EachStep, IsGreatest, SomeEndsWith, SomeHasNone}
+use Rattle.fx_program.specs.StepClaims.{IsValidStep}
+use Rattle.fx_program.proofs.AnyText.{any_text}
+use Rattle.fx_program.proofs.None.{one_told}
 
 -- a step's status does not depend on its number and the seed
 same_status : (seed number : ℕ) (step : Meaning) → (step_output seed number step).status ≡ step_status step
-same_status seed number step = go (problem_of step)
-  where
-    go : (p : Option Problem) → (given_by seed number step p).status ≡ (given_by 0 1 step p).status
-    go None = refl
-    go (Some p) = refl
+same_status seed number step = refl
 
 head : (step : Meaning) (steps : List Meaning) → Contains (step ∷ steps) step
 head step steps = All-head (Contains (step ∷ steps)) step steps (All-contains_itself (step ∷ steps))
@@ -88,18 +84,20 @@ module _ (seed : ℕ) where
   }
 
 -- so that status 1 of a text says of one of its steps that there is no design at all
-has_none : (steps : List Meaning) (step : Meaning) → Contains steps step → HasNoneAtAll step → step_status step ≡ 1 → SomeHasNone (Ok steps)
-has_none steps step among none one = go (problem_of step) refl
-  where
-    go : (p : Option Problem) → problem_of step ≡ p → SomeHasNone (Ok steps)
-    go None is = absurd (omega (arith, ap (λ (p : Option Problem). (given_by 0 1 step p).status) is, one))
-    go (Some p) is = record { steps = steps; accepted = refl; step = step; among = among; problem = p; stated = is; one = one; none = none 0 1 p is one }
-
-some_has_none : (seed : ℕ) (program : Result (List Meaning) TextFault) → NoDesignMeansNone program → (program_output seed program).status ≡ 1 → SomeHasNone program
-some_has_none seed (Err fault) none one = absurd (omega (arith, one))
-some_has_none seed (Ok steps) none one =
+some_has_none : (seed : ℕ) (program : Result (List Meaning) TextFault) → EachStep IsValidStep program → (program_output seed program).status ≡ 1
+    → SomeHasNone program
+some_has_none seed (Err fault) valid one = absurd (omega (arith, one))
+some_has_none seed (Ok steps) valid one =
     let some = (is_greatest seed steps).some (omega (arith, one)) in
-    has_none steps some.step some.among (All-contains HasNoneAtAll steps some.step none some.among) (some.ends ∙ one)
+    let ends : step_status some.step ≡ 1 = some.ends ∙ one in
+    record {
+      steps = steps;
+      accepted = refl;
+      step = some.step;
+      among = some.among;
+      one = ends;
+      none = one_told some.step (All-contains IsValidStep steps some.step valid some.among) ends;
+    }
 
 pub none_where_one : (seed : ℕ) (text : List ℕ) → (program_output seed (program_in text)).status ≡ 1 → SomeHasNone (program_in text)
-none_where_one seed text one = some_has_none seed (program_in text) (none_in_any_text text) one
+none_where_one seed text one = some_has_none seed (program_in text) (any_text IsValidStep (λ step valid. valid) text) one

@@ -1,7 +1,8 @@
 -- What is claimed of a step that has a design, or has none, over all rule matrices, canonical or not.
-use Rattle.std.specs.Prelude.{ℕ, ◌≡◌, ◌<◌, ◌≤◌, ◌+◌, true, List, length}
-use Rattle.fx_designs.specs.Problems.{Dimensions, Requirement, AtResolution}
+use Rattle.std.specs.Prelude.{ℕ, ◌≡◌, ◌<◌, ◌≤◌, ◌+◌, true, false, List, ◌∷◌, ◌++◌, length, All}
+use Rattle.fx_designs.specs.Problems.{Dimensions, Problem, Requirement, AtResolution}
 use Rattle.fx_designs.specs.Problems as problems
+use Rattle.fx_designs.specs.Answers.{is_design}
 use Rattle.fx_designs.specs.Demands.{is_met}
 use Rattle.fx_designs.specs.Outcomes.{Design, NoDesign}
 use Rattle.fx_designs.specs.Matrices.{NoneMeets}
@@ -99,3 +100,14 @@ pub record IsValidStep (step : Meaning) : Type 0 where
   pub settings : are_valid step.settings ≡ true
   pub goal : IsOfKind step.settings.criterion step.goal
   pub factors : 1 ≤ length step.factors
+
+-- a problem without a canonical matrix that meets its requirement
+abbrev pub HasNoDesign : Problem → Type 0
+HasNoDesign p = (rows : List ℕ) → is_design p rows ≡ false
+
+-- of some questions this one is the last that has a design, if it has one
+pub record IsLastWithDesign (ps : List Problem) (p : Problem) : Type 0 where
+  pub earlier : List Problem
+  pub later : List Problem
+  pub among : ps ≡ earlier ++ p ∷ later
+  pub none_later : All HasNoDesign later

@@ -16,13 +16,13 @@ abbrev pub at_front : ℕ → TextFault
 at_front code = Refused (record { code = code; line = 1; column = 1 })
 
 -- the steps of an accepted text, or the refusal as a fault
-abbrev pub accepted : Result (List Meaning) Refusal → Result (List Meaning) TextFault
-accepted (Ok steps) = Ok steps
-accepted (Err refusal) = Err (Refused refusal)
+abbrev pub or_refused : Result (List Meaning) Refusal → Result (List Meaning) TextFault
+or_refused (Ok steps) = Ok steps
+or_refused (Err refusal) = Err (Refused refusal)
 
 -- the program of a text with these tokens
 abbrev pub program_by : List ℕ → Result (List Token) LexFault → Result (List Meaning) TextFault
-program_by text (Ok tokens) = accepted (program_of text tokens)
+program_by text (Ok tokens) = or_refused (program_of text tokens)
 program_by text (Err fault) = Err (Lexical fault)
 
 -- the program of a text of at most 1,048,576 bytes

@@ -1,81 +1,111 @@
-ghost use Rattle.std.specs.Prelude.{◌≡◌, ◌↔◌, ◌<◌, ◌≤◌, List, ℕ, Some, Ok, IfErr, true, false, length, IsTrue};
+ghost use Rattle.std.specs.Prelude.{◌≡◌, ◌↔◌, ◌<◌, ◌≤◌, List, ℕ, Ok, IfErr, true, false, length, All};
 ghost use Rattle.fx_program.specs.Refusals.{HasItsMessage};
-ghost use Rattle.fx_designs.specs.Galois.{is_order};
 ghost use Rattle.fx_designs.specs.Matrices.{NoneMeets};
-ghost use Rattle.fx_reduction.specs.Reduction.{IsReducible};
-ghost use Rattle.fx_designs.specs.Problems.{Problem};
-ghost use Rattle.fx_designs.specs.Answers.{is_design};
-ghost use Rattle.fx_designs.specs.Nodes.{nodes};
+ghost use Rattle.fx_designs.specs.Problems.{Dimensions, Problem};
 ghost use Rattle.fx_laws.specs.First.{IsFirstDesign};
 ghost use Rattle.fx_statements.specs.Steps.{Meaning};
-ghost use Rattle.fx_answer.specs.Questions.{problem_of};
+ghost use Rattle.fx_statements.specs.Questions.{asked, last_of, nodes_of, questions_of};
 ghost use Rattle.fx_program.specs.Texts.{program_in};
 ghost use Rattle.fx_designs.specs.Outcomes.{Design, NoDesign};
 ghost use Rattle.fx_program.specs.Output.{ending_given, program_output, step_output};
 ghost use Rattle.fx_jobs.specs.Laws.{IsFirstOfLeastPattern};
-ghost use Rattle.fx_program.specs.Claims.{IsGreatest, LeastMeansLeastOfAll, NoDesignMeansNone};
+ghost use Rattle.fx_program.specs.StepClaims.{
+    Allows, HasHighestOfAll, HasLeastOfAll, HasLeastSize, HasMostBlocks, HasNoDesign, HasNoneAtAll, HasWhatItAsks, IsLastWithDesign, IsValidStep, required,
+};
+ghost use Rattle.fx_program.specs.Claims.{EachStep, IsGreatest};
 
-/// What is given for a step of a form that is built, where the nodes of its problem are within its
-/// budget: status 0 with the files and the lines of the first design of the canonical list that meets
-/// its demands, where least aberration is asked of the first of least pattern; or status 1 and the
-/// lines that say that there is no design, where no matrix of the list meets them.
+/// What is given for a step with some factors, where the nodes of the questions that are asked for it
+/// are within its budget: status 0 with the files and the lines of the first design of the canonical
+/// list, where least aberration is asked the first of least pattern, of the last question that has
+/// one; or status 1 and the lines that say that there is no design, where no question has one.
 pub fn first_design_is_given()
     ensures design { (seed number : ℕ) (step : Meaning) (p : Problem) (rows : List ℕ)
-        → problem_of step ≡ Some p
+        → 1 ≤ length step.factors
+        → nodes_of (asked (questions_of step)) ≤ step.settings.budget
+        → IsLastWithDesign (asked (questions_of step)) p
         → step.settings.least ≡ false
-        → length (nodes p) ≤ step.settings.budget
         → IsFirstDesign p rows
         → step_output seed number step
-        ≡ ending_given seed number p.dimensions step (Design rows (length (nodes p))) }
+        ≡ ending_given seed number p.dimensions step
+        (Design rows (nodes_of (asked (questions_of step)))) }
     ensures least { (seed number : ℕ) (step : Meaning) (p : Problem) (rows : List ℕ)
-        → problem_of step ≡ Some p
+        → 1 ≤ length step.factors
+        → nodes_of (asked (questions_of step)) ≤ step.settings.budget
+        → IsLastWithDesign (asked (questions_of step)) p
         → step.settings.least ≡ true
-        → length (nodes p) ≤ step.settings.budget
         → IsFirstOfLeastPattern p rows
         → step_output seed number step
-        ≡ ending_given seed number p.dimensions step (Design rows (length (nodes p))) }
-    ensures none { (seed number : ℕ) (step : Meaning) (p : Problem) → problem_of step ≡ Some p
-        → length (nodes p) ≤ step.settings.budget
-        → ((rows : List ℕ) → is_design p rows ≡ false)
+        ≡ ending_given seed number p.dimensions step
+        (Design rows (nodes_of (asked (questions_of step)))) }
+    ensures none { (seed number : ℕ) (step : Meaning) → 1 ≤ length step.factors
+        → nodes_of (asked (questions_of step)) ≤ step.settings.budget
+        → All HasNoDesign (asked (questions_of step))
         → step_output seed number step
-        ≡ ending_given seed number p.dimensions step (NoDesign (length (nodes p))) }
+        ≡ ending_given seed number
+        (last_of (questions_of step).first (asked (questions_of step))).dimensions step
+        (NoDesign (nodes_of (asked (questions_of step)))) }
 {}
 
-/// Status 2 comes of a step of a form that is built exactly where the nodes of its problem are more
+/// Status 2 comes of a step exactly where the nodes of the questions that are asked for it are more
 /// than its budget.
 pub fn budget_ends_where_nodes_pass_it()
-    ensures { (seed number : ℕ) (step : Meaning) (p : Problem) → problem_of step ≡ Some p
-        → ((step_output seed number step).status ≡ 2) ↔ (step.settings.budget < length (nodes p)) }
+    ensures { (seed number : ℕ) (step : Meaning)
+        → ((step_output seed number step).status ≡ 2)
+        ↔ (step.settings.budget < nodes_of (asked (questions_of step))) }
 {}
 
-/// What status 1 says of a step of a form that is built: that the runs of no rule matrix at all,
-/// canonical or not, meet what is asked; and where the nodes are within the budget, just then it
-/// comes. The number of levels is one of the seven, and the resolution at least 3, as they are for
-/// each step of a text.
+/// What status 1 says of a valid step: that the runs of no rule matrix at all, canonical or not, meet
+/// what is required, in no dimensions that the step allows; and where the nodes of its questions are
+/// within the budget, just then it comes.
 pub fn no_design_means_none_at_all()
-    ensures claimed { (seed number : ℕ) (step : Meaning) (p : Problem) → problem_of step ≡ Some p
-        → IsTrue (is_order p.dimensions.q)
-        → IsReducible p.requirement
+    ensures claimed { (seed number : ℕ) (step : Meaning) → IsValidStep step
         → (step_output seed number step).status ≡ 1
-        → NoneMeets p.dimensions p.requirement }
-    ensures certain { (seed number : ℕ) (step : Meaning) (p : Problem) → problem_of step ≡ Some p
-        → IsTrue (is_order p.dimensions.q)
-        → IsReducible p.requirement
-        → length (nodes p) ≤ step.settings.budget
-        → NoneMeets p.dimensions p.requirement
+        → (d : Dimensions) → Allows step d → NoneMeets d (required step.goal) }
+    ensures certain { (seed number : ℕ) (step : Meaning) → IsValidStep step
+        → nodes_of (asked (questions_of step)) ≤ step.settings.budget
+        → ((d : Dimensions) → Allows step d → NoneMeets d (required step.goal))
         → (step_output seed number step).status ≡ 1 }
 {}
 
+/// Whatever a text says, each step of its program is valid.
+pub fn valid_steps_in_any_text()
+    ensures { (text : List ℕ) → EachStep IsValidStep (program_in text) }
+{}
+
+/// Whatever a text says: where a step of its program ends with a design, this has a row for each
+/// factor and block factor, in dimensions that the step allows, and its runs meet what is required.
+pub fn designs_meet_what_is_asked_in_any_text()
+    ensures { (text : List ℕ) → EachStep HasWhatItAsks (program_in text) }
+{}
+
 /// Whatever a text says: where a step of its program ends without a design, the runs of no rule matrix at
-/// all meet what it asks.
+/// all meet what is required, in no dimensions that the step allows.
 pub fn no_design_in_any_text()
-    ensures { (text : List ℕ) → NoDesignMeansNone (program_in text) }
+    ensures { (text : List ℕ) → EachStep HasNoneAtAll (program_in text) }
 {}
 
 /// Whatever a text says: where a step of its program asks for least aberration and ends with a design,
 /// the pattern of no rule matrix at all that meets the resolution asked for, canonical or not, is less.
 pub fn least_pattern_in_any_text()
-    ensures { (text : List ℕ) → LeastMeansLeastOfAll (program_in text) }
+    ensures { (text : List ℕ) → EachStep HasLeastOfAll (program_in text) }
+{}
+
+/// Whatever a text says: where a step of its program asks for the highest resolution and ends with a
+/// design, no rule matrix at all of as many runs, canonical or not, has a higher resolution.
+pub fn highest_resolution_in_any_text()
+    ensures { (text : List ℕ) → EachStep HasHighestOfAll (program_in text) }
+{}
+
+/// Whatever a text says: where a step of its program asks for the least size and ends with a design, the
+/// runs of no rule matrix at all of fewer runs meet what is required.
+pub fn least_size_in_any_text()
+    ensures { (text : List ℕ) → EachStep HasLeastSize (program_in text) }
+{}
+
+/// Whatever a text says: where a step of its program asks for the most blocks and ends with a design, the
+/// runs of no rule matrix at all with more block factors meet what is required.
+pub fn most_blocks_in_any_text()
+    ensures { (text : List ℕ) → EachStep HasMostBlocks (program_in text) }
 {}
 
 /// What the status of a program says: 0 that each step has a design or that there is no step, 1 that

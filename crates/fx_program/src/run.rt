@@ -1,8 +1,9 @@
-ghost use Rattle.std.specs.Prelude.{◌≡◌, ◌<◌, ◌≤◌, ◌⊎◌, [], ◌∷◌, ℕ, List, Option, Some, true, false, Ok, Err, map, length, ◌++◌, IfOk, OnOk};
+ghost use Rattle.std.specs.Prelude.{◌≡◌, ◌<◌, ◌≤◌, ◌⊎◌, [], ◌∷◌, ℕ, List, Option, Some, false, Ok, Err, map, length, ◌++◌, IfOk, OnOk};
 ghost use Rattle.fx_vectors.specs.Matrix.{MatrixView};
 ghost use Rattle.fx_vectors.specs.Shape.{dimensions_of};
 ghost use Rattle.fx_statements.specs.Steps.{meaning_of};
-ghost use Rattle.fx_statements.specs.Outcomes.{ending_by, ending_in};
+ghost use Rattle.fx_statements.specs.Endings.{ending_by};
+ghost use Rattle.fx_statements.specs.Outcomes.{ending_in};
 ghost use Rattle.fx_alias.specs.Sections.{step_lines};
 ghost use Rattle.fx_answer.specs.Outcomes.{IsOutcome};
 ghost use Rattle.fx_program.specs.Words.{bytes_of, settings_of};

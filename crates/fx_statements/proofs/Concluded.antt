@@ -468,11 +468,14 @@ module _ (P : Problem → Type 0) where
       in_cut_short turn.question (left_at budget turn) budget here.1
       (kept_by_answer (last_found None turn.earlier) turn.question _ (kept_found None turn.earlier tt here.0) here.1)
 
+  pub each_asked : (questions : Questions) → P questions.first → AllByRecursion P questions.others → AllByRecursion P (asked questions)
+  each_asked questions one others = kept_up_to (is_last questions.until) (questions.first ∷ questions.others) (one, others)
+
   pub dimensions-of : (questions : Questions) (budget : ℕ) → P questions.first → AllByRecursion P questions.others
       → OneWith (conclusion_of questions budget).dimensions
   unfolding conclusion_of
   dimensions-of questions budget one others =
-      let all : AllByRecursion P (asked questions) = kept_up_to (is_last questions.until) (questions.first ∷ questions.others) (one, others) in
+      let all = each_asked questions one others in
       in_conclusion (last_of questions.first (asked questions)) (asked questions) budget (find (passes budget) (turns [] (asked questions)))
       (kept_last questions.first (asked questions) one all) all (λ turn e. kept_turn (passes budget) [] (asked questions) turn tt all e)
 

@@ -1,5 +1,5 @@
-use Rattle.std.proofs.Common.{◌≡◌, ◌<◌, ℕ, List, map, Ok, Err, length, None, sym, ap, ◌∙◌, arith, refl, Option, Some, subst}
-use Rattle.std.specs.Prelude.{replicate, unwrap_or}
+use Rattle.std.proofs.Common.{◌≡◌, ◌<◌, ◌≤◌, ℕ, List, map, Result, Ok, Err, length, None, sym, ap, ◌∙◌, arith, refl, Option, Some, subst}
+use Rattle.std.specs.Prelude.{IsErr, replicate, unwrap_or}
 use Rattle.std.proofs.lemmas.List.{length-replicate}
 use Rattle.fx_base.specs.Acts.{World}
 use Rattle.fx_base.specs.Reading.{IsOverLimit}
@@ -8,7 +8,9 @@ use Rattle.fx_statements.specs.Steps.{meaning_of}
 use Rattle.fx_program.specs.Texts.{at_front, program_in}
 use Rattle.fx_program.specs.Output.{RunsForSome, program_output}
 use Rattle.fx_program.specs.Claims.{SomeHasNone}
-use Rattle.fx_program.proofs.Endings.{ends_by, gives_by, nothing_given}
+use Rattle.fx_program.specs.Stops.{exit_status}
+use Rattle.fx_program.specs.declared.stop.Stop.{Stop}
+use Rattle.fx_program.proofs.Endings.{ends_by, gives_by, nothing_given, stopped_high}
 use Rattle.fx_program.proofs.Statuses.{none_where_one}
 use Rattle.fx_program.proofs.run.run.Goals as goal
 
@@ -29,9 +31,9 @@ same_over_limit : (left : Option (List ℕ)) (known : List ℕ) → left ≡ Som
 unfolding over_limit
 same_over_limit left known e = sym (ap (λ (o : Option (List ℕ)). unwrap_or o (replicate 1048577 0)) e)
 
-pub returns-in-Ok-TooLong-clause-output : goal.returns-in-Ok-TooLong-clause-output
-returns-in-Ok-TooLong-clause-output g c =
-    let read = rw c.in-Ok-TooLong.field-0-is at c.in-Ok-TooLong.ensures.answer in
+pub returns-in-TooLong-clause-output : goal.returns-in-TooLong-clause-output
+returns-in-TooLong-clause-output g c =
+    let read = rw c.in-TooLong.is at c.in_ok-text.ensures.answer in
     let left = g.S.Source.left c.args.source.now in
     record {
       text = over_limit left;
@@ -39,15 +41,18 @@ returns-in-Ok-TooLong-clause-output g c =
       gives = gives_by _ _ _ _ (ap (program_output c.args.seed) (too_long (over_limit left) (is_over_limit left read) ∙ ap Err (sym c.at_front.ensures))) (c.refuse.ensures.output c.args.seed);
     }
 
-pub returns-in-Err-ReadFault-clause-output : goal.returns-in-Err-ReadFault-clause-output
-returns-in-Err-ReadFault-clause-output g c = nothing_given c.args.seed (g.S.Source.left c.args.source.now) 4 (omega arith)
+-- nothing is given where the program is stopped
+stopped_above : (ended : Result ℕ Stop) → IsErr ended → 4 ≤ exit_status ended
+stopped_above (Ok status) h = absurd (cc h)
+stopped_above (Err why) h = stopped_high why
 
-pub returns-in-Err-NoMemory-clause-output : goal.returns-in-Err-NoMemory-clause-output
-returns-in-Err-NoMemory-clause-output g c = nothing_given c.args.seed (g.S.Source.left c.args.source.now) 5 (omega arith)
+pub returns-in_err-text-clause-output : goal.returns-in_err-text-clause-output
+returns-in_err-text-clause-output g c =
+    nothing_given c.args.seed (g.S.Source.left c.args.source.now) (exit_status c.from_residual.result) (stopped_above c.from_residual.result c.from_residual.ensures.0)
 
 pub returns-in-Ok-clause-output : goal.returns-in-Ok-clause-output
 returns-in-Ok-clause-output g c =
-    let read = rw c.in-Ok-Whole.field-0-is at c.in-Ok-Whole.ensures.answer in
+    let read = rw c.in-Whole.is at c.in_ok-text.ensures.answer in
     record {
       text = c.as_slice.result.now;
       exposed = λ known e. sym (c.as_slice.ensures ∙ read.all known e);
@@ -58,7 +63,7 @@ returns-in-Ok-clause-output g c =
 
 pub returns-in-Err-Fault-clause-output : goal.returns-in-Err-Fault-clause-output
 returns-in-Err-Fault-clause-output g c =
-    let read = rw c.in-Ok-Whole.field-0-is at c.in-Ok-Whole.ensures.answer in
+    let read = rw c.in-Whole.is at c.in_ok-text.ensures.answer in
     let found = rw c.in-Err-Fault.field-0-is at c.in-Err-Fault.ensures.fault in
     record {
       text = c.as_slice.result.now;
@@ -72,8 +77,8 @@ one_told seed status some one text e =
     subst (λ (t : List ℕ). SomeHasNone (program_in t)) (sym (some.exposed text e))
     (none_where_one seed some.text (sym (some.gives.same (omega (arith, one))) ∙ one))
 
-pub returns-in-Ok-TooLong-clause-none_at_all : goal.returns-in-Ok-TooLong-clause-none_at_all
-returns-in-Ok-TooLong-clause-none_at_all g c = one_told c.args.seed _ (returns-in-Ok-TooLong-clause-output g c)
+pub returns-in-TooLong-clause-none_at_all : goal.returns-in-TooLong-clause-none_at_all
+returns-in-TooLong-clause-none_at_all g c = one_told c.args.seed _ (returns-in-TooLong-clause-output g c)
 
 pub returns-in-Ok-clause-none_at_all : goal.returns-in-Ok-clause-none_at_all
 returns-in-Ok-clause-none_at_all g c = one_told c.args.seed _ (returns-in-Ok-clause-output g c)

@@ -11,6 +11,6 @@ returns-in-Err-Refused-clause-fault c =
     refused c.args.text.now c.requires c.in-Ok.tokens c.in-Ok.ensures.tokens c.in-Err-Refused.refusal
     (rw c.in-Err-Refused.field-0-is at c.in-Err-Refused.ensures.refused)
 
-pub returns-in-Ok-clause-program : goal.returns-in-Ok-clause-program
-returns-in-Ok-clause-program c =
+pub returns-in-Ok-parse-clause-program : goal.returns-in-Ok-parse-clause-program
+returns-in-Ok-parse-clause-program c =
     read c.args.text.now c.requires c.in-Ok.tokens c.in-Ok.ensures.tokens c.in-Ok-parse.program c.in-Ok-parse.ensures.program
