@@ -29,7 +29,6 @@ use Rattle.fx_statements.specs.Contexts.{context}
 use Rattle.fx_statements.specs.Components.{check_components, components_place}
 use Rattle.fx_statements.specs.Goals.{Goal, AtLeast, Highest, ForEffects, effects_in, effects_wanted, goal_by}
 use Rattle.fx_statements.specs.Steps.{Meaning, asked_by, examine_of, factors_by, head_of, factor_limit, some_factors, step_by, step_of}
-
 use Rattle.fx_statements.specs.Programs.{accepted, program_of, steps_behind}
 use Rattle.fx_statements.proofs.Bounds.{kept}
 use Rattle.fx_program.specs.Texts.{at_front, or_refused, program_by, program_in}
