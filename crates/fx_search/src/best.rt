@@ -19,12 +19,13 @@ pub(crate) struct Best {
 
 impl Best {
     /// The matrix of the tally's rows and one more, which is then whole.
-    pub(crate) fn of(tally: &Tally, row: u16) -> Best
-        requires whole { length tally.now.rows + 1 ≡ tally.now.shape.s }
-        requires unblocked { tally.now.shape.t ≡ 0 }
-        requires below { row < tally.now.shape.q ^ tally.now.shape.m }
-        ensures shape { result.shape ≡ tally.now.shape }
-        ensures rows { take result.shape.s result.rows ≡ tally.now.rows ++ row ∷ [] }
+    pub(crate) fn of(tally: &mut Tally, row: u16) -> Best
+        requires whole { length tally.old.rows + 1 ≡ tally.old.shape.s }
+        requires unblocked { tally.old.shape.t ≡ 0 }
+        requires below { row < tally.old.shape.q ^ tally.old.shape.m }
+        ensures shape { result.shape ≡ tally.old.shape }
+        ensures rows { take result.shape.s result.rows ≡ tally.old.rows ++ row ∷ [] }
+        ensures same { tally.new ≡ tally.old }
     {
         let shape = tally.prefix().shape();
         Best {
@@ -69,13 +70,14 @@ fn rows_of(tally: &Tally, row: u16) -> [u16; 40]
 }
 
 /// The pattern of these rows.
-fn pattern_of(tally: &Tally, row: u16) -> [u128; 40]
-    requires room { length tally.now.rows < tally.now.shape.s }
-    requires below { row < tally.now.shape.q ^ tally.now.shape.m }
-    requires few { tally.now.shape.s ≤ 40 }
-    ensures pattern { take tally.now.shape.s result
-        ≡ pattern_of (dimensions_of tally.now.shape) (tally.now.rows ++ row ∷ []) }
+fn pattern_of(tally: &mut Tally, row: u16) -> [u128; 40]
+    requires room { length tally.old.rows < tally.old.shape.s }
+    requires below { row < tally.old.shape.q ^ tally.old.shape.m }
+    requires few { tally.old.shape.s ≤ 40 }
+    ensures pattern { take tally.old.shape.s result
+        ≡ pattern_of (dimensions_of tally.old.shape) (tally.old.rows ++ row ∷ []) }
     ensures places { length result ≡ 40 }
+    ensures same { tally.new ≡ tally.old }
 {
     let mut pattern = [0u128; 40];
     for i in 0..usize::from(tally.prefix().shape().s) {

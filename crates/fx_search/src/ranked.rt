@@ -68,7 +68,7 @@ impl Incumbent for Ranked {
         self.tally.pop();
     }
 
-    fn beats(&self, row: u16) -> bool {
+    fn beats(&mut self, row: u16) -> bool {
         match &self.best {
             None => false,
             Some(best) => !self.tally.less_with(row, best.pattern()),
@@ -76,7 +76,7 @@ impl Incumbent for Ranked {
     }
 
     fn keep(&mut self, row: u16) {
-        self.best = Some(Best::of(&self.tally, row));
+        self.best = Some(Best::of(&mut self.tally, row));
     }
 
     fn best(&self) -> Option<Best> {

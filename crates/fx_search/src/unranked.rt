@@ -45,7 +45,7 @@ impl<'a> Incumbent for Unranked<'a> {
         self.prefix.pop();
     }
 
-    fn beats(&self, _row: u16) -> bool {
+    fn beats(&mut self, _row: u16) -> bool {
         false
     }
 

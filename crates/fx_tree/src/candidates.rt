@@ -1,4 +1,4 @@
-ghost use Rattle.std.specs.Prelude.{◌+◌, ◌≢◌, ◌≡◌, ◌≤◌, ◌<◌, ◌^◌, ◌==◌, ◌||◌, ℕ, false, slice_index};
+ghost use Rattle.std.specs.Prelude.{◌+◌, ◌≢◌, ◌≡◌, ◌≤◌, ◌<◌, ◌^◌, ◌==◌, ◌||◌, ℕ, true, false, slice_index};
 ghost use Rattle.fx_vectors.specs.Shape.{dimensions_of, IsShape};
 ghost use Rattle.fx_vectors.specs.Question.{IsValid, requirement_of};
 ghost use Rattle.fx_points.specs.Points.{has};
@@ -21,6 +21,8 @@ pub struct Candidates {
     shape: Shape,
     normal: PointSet,
     units: PointSet,
+    /// The least row that is neither zero nor a unit vector, or the number of runs.
+    least: u16,
     /// The numbers of the unit vectors, and of the runs.
     powers: [u16; 11],
 }
@@ -33,7 +35,7 @@ impl Model for Candidates {
 
     ghost view = { λ x. x.shape };
 
-    ghost invariant = { λ x. AreCandidates x.shape x.normal x.units x.powers };
+    ghost invariant = { λ x. AreCandidates x.shape x.normal x.units x.least x.powers };
 }
 
 impl Candidates {
@@ -52,6 +54,7 @@ impl Candidates {
             shape,
             normal,
             units,
+            least: least_beside(&units, shape.runs()),
             powers: powers(shape),
         }
     }
@@ -150,6 +153,29 @@ impl Candidates {
         }
     }
 
+    /// No row below this number may follow rows of this front.
+    pub fn first_row(&self, question: &Question, front: Front) -> u16
+        requires valid { IsValid question.now }
+        requires shape { self.now ≡ question.now.shape }
+        ensures { (row : ℕ) → row < result
+            → follows (dimensions_of question.now.shape)
+            (requirement_of question.now.demands) front row
+            ≡ false }
+    {
+        let shape = self.shape;
+        match question.demands {
+            Demands::Resolution { .. } => {
+                let units = usize::from(shape.s.min(shape.m));
+                if units <= front.count && front.count < usize::from(shape.s) {
+                    self.least
+                } else {
+                    0
+                }
+            }
+            Demands::Effects { .. } => 0,
+        }
+    }
+
     /// No row from this number on may follow rows of this front.
     pub fn row_bound(&self, question: &Question, front: Front) -> u16
         requires valid { IsValid question.now }
@@ -177,6 +203,20 @@ impl Candidates {
             Demands::Effects { .. } => first,
         }
     }
+}
+
+/// The least row above 0 that is not in the set, or the number of runs.
+fn least_beside(units: &PointSet, runs: u16) -> u16
+    requires { runs ≤ 1024 }
+    ensures inside { (x : ℕ) → 0 < x → x < result → has units.now x ≡ true }
+    ensures most { result ≤ runs }
+{
+    for row in 1..runs {
+        if !units.contains(row) {
+            return row;
+        }
+    }
+    runs
 }
 
 /// Whether the row is zero or normal.

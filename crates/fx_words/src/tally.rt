@@ -1,9 +1,9 @@
-ghost use Rattle.std.specs.Prelude.{◌≡◌, ◌<◌, ◌≤◌, ◌-◌, ◌*◌, ◌+◌, ◌^◌, [], ◌∷◌, ◌++◌, length, take, slice_index, IfOk};
+ghost use Rattle.std.specs.Prelude.{◌≡◌, ◌<◌, ◌≤◌, ◌-◌, ◌*◌, ◌+◌, ◌^◌, ℕ, List, [], ◌∷◌, ◌++◌, length, take, slice_index, IfOk};
 ghost use Rattle.fx_designs.specs.Patterns.{pattern_of, is_less};
 ghost use Rattle.fx_designs.specs.Vectors.{vectors_of};
 ghost use Rattle.fx_vectors.specs.Matrix.{MatrixView};
 ghost use Rattle.fx_vectors.specs.Shape.{IsShape, dimensions_of};
-ghost use Rattle.fx_words.specs.Tables.{AreOf, IsLevel, AreCounts, AreAdded};
+ghost use Rattle.fx_words.specs.Tables.{AreOf, IsLevel, AreCounts, AreAdded, IsAdded};
 
 use crate::classes::Classes;
 use crate::level;
@@ -21,6 +21,9 @@ pub struct Tally {
     classes: Classes,
     /// For each number of rows, and each weight, a count for each point that is kept.
     counts: Vec<u128>,
+    /// For each number of rows of how many weights, from 0 on, the counts are made: most prefixes are
+    /// told from the best design by the least weights.
+    made: [usize; 41],
 }
 
 impl Model for Tally {
@@ -33,7 +36,7 @@ impl Model for Tally {
 
     ghost invariant = { λ x. record {
       classes : AreOf x.prefix.shape x.classes;
-      counts : AreCounts x.prefix.shape x.classes.points x.prefix.rows x.counts.items;
+      counts : AreCounts x.prefix.shape x.classes.points x.prefix.rows x.counts.items x.made;
     } };
 }
 
@@ -53,6 +56,7 @@ impl Tally {
             prefix: Matrix::new(shape),
             classes,
             counts,
+            made: [usize::from(shape.s) + 1; 41],
         })
     }
 
@@ -69,7 +73,7 @@ impl Tally {
         requires below { row < self.old.shape.q ^ self.old.shape.m }
         ensures { self.new ≡ record self.old { rows = self.old.rows ++ row ∷ [] } }
     {
-        add_level(self.counts.as_mut_slice(), &self.prefix, &self.classes, row);
+        self.made[self.prefix.len() + 1] = 0;
         self.prefix.push(row);
     }
 
@@ -84,39 +88,52 @@ impl Tally {
 
     /// Whether the pattern with this row added is less than another of s entries. The row is not pushed, and
     /// the first weight that decides ends the comparison.
-    pub fn less_with(&self, row: u16, other: &[u128]) -> bool
-        requires room { length self.now.rows < self.now.shape.s }
-        requires below { row < self.now.shape.q ^ self.now.shape.m }
-        requires entries { length other.now ≡ self.now.shape.s }
-        ensures { result
-            ≡ is_less (pattern_of (dimensions_of self.now.shape) (self.now.rows ++ row ∷ []))
+    pub fn less_with(&mut self, row: u16, other: &[u128]) -> bool
+        requires room { length self.old.rows < self.old.shape.s }
+        requires below { row < self.old.shape.q ^ self.old.shape.m }
+        requires entries { length other.now ≡ self.old.shape.s }
+        ensures less { result
+            ≡ is_less (pattern_of (dimensions_of self.old.shape) (self.old.rows ++ row ∷ []))
             other.now }
+        ensures same { self.new ≡ self.old }
     {
-        let level = level_of(self.counts.as_slice(), &self.prefix, &self.classes);
-        level::less_with(level, &self.prefix, &self.classes, row, other)
+        for i in 0..other.len() {
+            let words = self.words_with(row, i);
+            if words != other[i] {
+                return words < other[i];
+            }
+        }
+        false
     }
 
     /// The entry at `i`, counted from 0, of the pattern with this row added.
-    pub fn words_with(&self, row: u16, i: usize) -> u128
-        requires room { length self.now.rows < self.now.shape.s }
-        requires below { row < self.now.shape.q ^ self.now.shape.m }
-        requires entry { i < self.now.shape.s }
-        ensures { result
+    pub fn words_with(&mut self, row: u16, i: usize) -> u128
+        requires room { length self.old.rows < self.old.shape.s }
+        requires below { row < self.old.shape.q ^ self.old.shape.m }
+        requires entry { i < self.old.shape.s }
+        ensures words { result
             ≡ slice_index
-            (pattern_of (dimensions_of self.now.shape) (self.now.rows ++ row ∷ []))
+            (pattern_of (dimensions_of self.old.shape) (self.old.rows ++ row ∷ []))
             i }
+        ensures same { self.new ≡ self.old }
     {
-        let level = level_of(self.counts.as_slice(), &self.prefix, &self.classes);
+        let counts = self.counts.as_mut_slice();
+        make(counts, &mut self.made, &self.prefix, &self.classes, i + 2);
+        let level = level_of(counts, &self.made, &self.prefix, &self.classes);
         level::words_with(level, &self.prefix, &self.classes, row, i)
     }
 
     /// Whether the pattern is less than another of s entries.
-    pub fn less_than(&self, other: &Pattern) -> bool
-        requires entries { length other.now ≡ self.now.shape.s }
-        ensures { result
-            ≡ is_less (pattern_of (dimensions_of self.now.shape) self.now.rows) other.now }
+    pub fn less_than(&mut self, other: &Pattern) -> bool
+        requires entries { length other.now ≡ self.old.shape.s }
+        ensures less { result
+            ≡ is_less (pattern_of (dimensions_of self.old.shape) self.old.rows) other.now }
+        ensures same { self.new ≡ self.old }
     {
-        let level = level_of(self.counts.as_slice(), &self.prefix, &self.classes);
+        let weights = usize::from(self.prefix.shape().s) + 1;
+        let counts = self.counts.as_mut_slice();
+        make(counts, &mut self.made, &self.prefix, &self.classes, weights);
+        let level = level_of(counts, &self.made, &self.prefix, &self.classes);
         level::less_than(level, &self.prefix, &self.classes, other.as_slice())
     }
 
@@ -125,11 +142,15 @@ impl Tally {
     /// # Errors
     ///
     /// `NoMemory`.
-    pub fn pattern(&self, alloc: Global) -> Result<Pattern, NoMemory>
-        ensures { IfOk result (λ pattern.
-            pattern ≡ pattern_of (dimensions_of self.now.shape) self.now.rows) }
+    pub fn pattern(&mut self, alloc: Global) -> Result<Pattern, NoMemory>
+        ensures pattern { IfOk result (λ pattern.
+            pattern ≡ pattern_of (dimensions_of self.old.shape) self.old.rows) }
+        ensures same { self.new ≡ self.old }
     {
-        let level = level_of(self.counts.as_slice(), &self.prefix, &self.classes);
+        let weights = usize::from(self.prefix.shape().s) + 1;
+        let counts = self.counts.as_mut_slice();
+        make(counts, &mut self.made, &self.prefix, &self.classes, weights);
+        let level = level_of(counts, &self.made, &self.prefix, &self.classes);
         level::pattern(alloc, level, &self.prefix, &self.classes)
     }
 
@@ -138,14 +159,18 @@ impl Tally {
     /// # Errors
     ///
     /// `NoMemory`.
-    pub fn pattern_with(&self, alloc: Global, row: u16) -> Result<Pattern, NoMemory>
-        requires room { length self.now.rows < self.now.shape.s }
-        requires below { row < self.now.shape.q ^ self.now.shape.m }
-        ensures { IfOk result (λ pattern.
+    pub fn pattern_with(&mut self, alloc: Global, row: u16) -> Result<Pattern, NoMemory>
+        requires room { length self.old.rows < self.old.shape.s }
+        requires below { row < self.old.shape.q ^ self.old.shape.m }
+        ensures pattern { IfOk result (λ pattern.
             pattern
-            ≡ pattern_of (dimensions_of self.now.shape) (self.now.rows ++ row ∷ [])) }
+            ≡ pattern_of (dimensions_of self.old.shape) (self.old.rows ++ row ∷ [])) }
+        ensures same { self.new ≡ self.old }
     {
-        let level = level_of(self.counts.as_slice(), &self.prefix, &self.classes);
+        let weights = usize::from(self.prefix.shape().s) + 1;
+        let counts = self.counts.as_mut_slice();
+        make(counts, &mut self.made, &self.prefix, &self.classes, weights);
+        let level = level_of(counts, &self.made, &self.prefix, &self.classes);
         level::pattern_with(alloc, level, &self.prefix, &self.classes, row)
     }
 }
@@ -168,15 +193,20 @@ pub fn pattern_of(alloc: Global, matrix: &Matrix) -> Result<Pattern, NoMemory>
     tally.pattern(alloc)
 }
 
-/// The counts of all rows of the prefix.
-fn level_of<'a>(counts: &'a [u128], prefix: &Matrix, classes: &Classes) -> &'a [u128]
-    requires { AreCounts prefix.now.shape classes.now.points prefix.now.rows counts.now }
-    ensures { IsLevel prefix.now.shape.q prefix.now.shape.m prefix.now.shape.s
+/// The counts of all rows of the prefix, as far as they are made.
+fn level_of<'a>(
+    counts: &'a [u128],
+    made: &[usize],
+    prefix: &Matrix,
+    classes: &Classes,
+) -> &'a [u128]
+    requires { AreCounts prefix.now.shape classes.now.points prefix.now.rows counts.now made.now }
+    ensures { IsLevel prefix.now.shape.q prefix.now.shape.m (slice_index made.now (length prefix.now.rows))
         (vectors_of prefix.now.shape.q prefix.now.shape.m prefix.now.rows) classes.now.points result.now }
 {
-    let size = level_size(prefix.shape(), classes);
-    let from = prefix.len() * size;
-    &counts[from..from + size]
+    let len = prefix.len();
+    let from = len * level_size(prefix.shape(), classes);
+    &counts[from..from + made[len] * classes.len()]
 }
 
 /// How many counts there are for a number of rows.
@@ -191,7 +221,10 @@ fn level_size(shape: Shape, classes: &Classes) -> usize
 fn counts_of_no_rows(alloc: Global, shape: Shape, classes: &Classes) -> Result<Vec<u128>, NoMemory>
     requires shaped { IsShape shape }
     requires classes { AreOf shape classes.now }
-    ensures { IfOk result (λ counts. AreCounts shape classes.now.points [] counts.items) }
+    ensures { IfOk result (λ counts.
+        (made : List ℕ) → shape.s < length made
+        → ((k : ℕ) → k ≤ shape.s → slice_index made k ≡ shape.s + 1)
+        → AreCounts shape classes.now.points [] counts.items made) }
 {
     // Zero alone is the sum of no rows, and it is kept first.
     let kept = classes.len();
@@ -204,52 +237,90 @@ fn counts_of_no_rows(alloc: Global, shape: Shape, classes: &Classes) -> Result<V
     Ok(counts)
 }
 
-/// Adds the counts of the prefix with one row more.
-fn add_level(counts: &mut [u128], prefix: &Matrix, classes: &Classes, row: u16)
-    requires counts { AreCounts prefix.now.shape classes.now.points prefix.now.rows counts.old }
+/// Makes the counts of the first `weights` weights, as far as they are not made.
+fn make(counts: &mut [u128], made: &mut [usize], prefix: &Matrix, classes: &Classes, weights: usize)
+    requires counts { AreCounts prefix.now.shape classes.now.points prefix.now.rows counts.old made.old }
     requires classes { AreOf prefix.now.shape classes.now }
-    requires room { length prefix.now.rows < prefix.now.shape.s }
-    requires row { row < prefix.now.shape.q ^ prefix.now.shape.m }
-    ensures { AreCounts prefix.now.shape classes.now.points (prefix.now.rows ++ row ∷ []) counts.new }
+    requires weights { weights ≤ prefix.now.shape.s + 1 }
+    ensures counts { AreCounts prefix.now.shape classes.now.points prefix.now.rows counts.new made.new }
+    ensures made { weights ≤ slice_index made.new (length prefix.now.rows) }
 {
-    let _known = prefix.shape();
-    // No word over so many rows has a greater weight than their number.
-    for weight in 0..prefix.len() + 2 {
-        add_weight(counts, prefix, classes, row, weight);
+    let len = prefix.len();
+    if made[len] >= weights {
+        return;
+    }
+    for k in 0..len {
+        make_next(counts, made, prefix, classes, k, weights);
     }
 }
 
-/// Adds those of one weight, after those of the lesser weights.
-fn add_weight(counts: &mut [u128], prefix: &Matrix, classes: &Classes, row: u16, weight: usize)
-    requires added { AreAdded prefix.now.shape classes.now.points prefix.now.rows row counts.old weight 0 0 0 }
+/// Makes those of the first k rows and one more, where those of the first k rows are made.
+fn make_next(
+    counts: &mut [u128],
+    made: &mut [usize],
+    prefix: &Matrix,
+    classes: &Classes,
+    k: usize,
+    weights: usize,
+)
+    requires counts { AreCounts prefix.now.shape classes.now.points prefix.now.rows counts.old made.old }
     requires classes { AreOf prefix.now.shape classes.now }
-    requires room { length prefix.now.rows < prefix.now.shape.s }
-    requires row { row < prefix.now.shape.q ^ prefix.now.shape.m }
-    requires weight { weight ≤ length prefix.now.rows + 1 }
-    ensures { AreAdded prefix.now.shape classes.now.points prefix.now.rows row counts.new (weight + 1) 0 0 0 }
+    requires row { k < length prefix.now.rows }
+    requires weights { weights ≤ slice_index made.old k }
+    ensures counts { AreCounts prefix.now.shape classes.now.points prefix.now.rows counts.new made.new }
+    ensures made { weights ≤ slice_index made.new (k + 1) }
+{
+    for weight in made[k + 1]..weights {
+        add_weight(counts, made, prefix, classes, k);
+        made[k + 1] = weight + 1;
+    }
+}
+
+/// Adds the counts of the next weight for the first k rows and one more.
+fn add_weight(counts: &mut [u128], made: &[usize], prefix: &Matrix, classes: &Classes, k: usize)
+    requires counts { AreCounts prefix.now.shape classes.now.points prefix.now.rows counts.old made.now }
+    requires classes { AreOf prefix.now.shape classes.now }
+    requires row { k < length prefix.now.rows }
+    requires known { slice_index made.now (k + 1) < slice_index made.now k }
+    ensures { IsAdded prefix.now.shape classes.now.points prefix.now.rows counts.new made.now k }
 {
     // The points that are kept are below q^m.
     let _kept = classes.len();
     let shape = prefix.shape();
-    if weight == 0 {
-        add_zeros(counts, prefix, classes, row);
+    let row = prefix.row(k);
+    if made[k + 1] == 0 {
+        add_zeros(counts, made, prefix, classes, k, row);
         return;
     }
-    add_first(counts, prefix, classes, row, weight);
+    // No word over so many rows has a greater weight than their number.
+    if made[k + 1] > k + 1 {
+        return;
+    }
+    add_first(counts, made, prefix, classes, k, row);
     for c in 2..shape.q {
-        add_next(counts, prefix, classes, row, weight, c);
+        add_next(counts, made, prefix, classes, k, row, c);
     }
 }
 
 /// Adds those of weight 0, which are those of the rows before.
-fn add_zeros(counts: &mut [u128], prefix: &Matrix, classes: &Classes, row: u16)
-    requires added { AreAdded prefix.now.shape classes.now.points prefix.now.rows row counts.old 0 0 0 0 }
-    requires room { length prefix.now.rows < prefix.now.shape.s }
-    ensures { AreAdded prefix.now.shape classes.now.points prefix.now.rows row counts.new 0 1 0 (length classes.now.points) }
+fn add_zeros(
+    counts: &mut [u128],
+    made: &[usize],
+    prefix: &Matrix,
+    classes: &Classes,
+    k: usize,
+    row: u16,
+)
+    requires counts { AreCounts prefix.now.shape classes.now.points prefix.now.rows counts.old made.now }
+    requires classes { AreOf prefix.now.shape classes.now }
+    requires room { k < length prefix.now.rows }
+    requires known { slice_index made.now (k + 1) < slice_index made.now k }
+    requires none { slice_index made.now (k + 1) ≡ 0 }
+    ensures { AreAdded prefix.now.shape classes.now.points prefix.now.rows counts.new made.now k row 0 1 0 (length classes.now.points) }
 {
     let kept = classes.len();
     let size = level_size(prefix.shape(), classes);
-    let from = prefix.len() * size;
+    let from = k * size;
     let to = from + size;
     for j in 0..kept {
         counts[to + j] = counts[from + j];
@@ -257,18 +328,27 @@ fn add_zeros(counts: &mut [u128], prefix: &Matrix, classes: &Classes, row: u16)
 }
 
 /// Adds those of a weight above 0 with the entries 0 and 1 for the row.
-fn add_first(counts: &mut [u128], prefix: &Matrix, classes: &Classes, row: u16, weight: usize)
-    requires added { AreAdded prefix.now.shape classes.now.points prefix.now.rows row counts.old weight 0 0 0 }
+fn add_first(
+    counts: &mut [u128],
+    made: &[usize],
+    prefix: &Matrix,
+    classes: &Classes,
+    k: usize,
+    row: u16,
+)
+    requires counts { AreCounts prefix.now.shape classes.now.points prefix.now.rows counts.old made.now }
     requires classes { AreOf prefix.now.shape classes.now }
-    requires room { length prefix.now.rows < prefix.now.shape.s }
+    requires room { k < length prefix.now.rows }
     requires row { row < prefix.now.shape.q ^ prefix.now.shape.m }
-    requires some { 0 < weight }
-    requires weight { weight ≤ length prefix.now.rows + 1 }
-    ensures { AreAdded prefix.now.shape classes.now.points prefix.now.rows row counts.new weight 2 0 (length classes.now.points) }
+    requires known { slice_index made.now (k + 1) < slice_index made.now k }
+    requires some { 0 < slice_index made.now (k + 1) }
+    requires weight { slice_index made.now (k + 1) ≤ k + 1 }
+    ensures { AreAdded prefix.now.shape classes.now.points prefix.now.rows counts.new made.now k row
+        (slice_index made.now (k + 1)) 2 0 (length classes.now.points) }
 {
     let kept = classes.len();
     let size = level_size(prefix.shape(), classes);
-    let lighter = prefix.len() * size + (weight - 1) * kept;
+    let lighter = k * size + (made[k + 1] - 1) * kept;
     let from = lighter + kept;
     let to = from + size;
     let moves = classes.moves(row, 1);
@@ -278,20 +358,31 @@ fn add_first(counts: &mut [u128], prefix: &Matrix, classes: &Classes, row: u16, 
 }
 
 /// Adds those with the entry c for the row, after those with the lesser entries.
-fn add_next(counts: &mut [u128], prefix: &Matrix, classes: &Classes, row: u16, weight: usize, c: u8)
-    requires added { AreAdded prefix.now.shape classes.now.points prefix.now.rows row counts.old weight c 0 (length classes.now.points) }
+fn add_next(
+    counts: &mut [u128],
+    made: &[usize],
+    prefix: &Matrix,
+    classes: &Classes,
+    k: usize,
+    row: u16,
+    c: u8,
+)
+    requires added { AreAdded prefix.now.shape classes.now.points prefix.now.rows counts.old made.now k row
+        (slice_index made.now (k + 1)) c 0 (length classes.now.points) }
     requires classes { AreOf prefix.now.shape classes.now }
-    requires room { length prefix.now.rows < prefix.now.shape.s }
+    requires room { k < length prefix.now.rows }
     requires row { row < prefix.now.shape.q ^ prefix.now.shape.m }
-    requires some { 0 < weight }
-    requires weight { weight ≤ length prefix.now.rows + 1 }
+    requires known { slice_index made.now (k + 1) < slice_index made.now k }
+    requires some { 0 < slice_index made.now (k + 1) }
+    requires weight { slice_index made.now (k + 1) ≤ k + 1 }
     requires entry { 0 < c }
     requires code { c < prefix.now.shape.q }
-    ensures { AreAdded prefix.now.shape classes.now.points prefix.now.rows row counts.new weight (c + 1) 0 (length classes.now.points) }
+    ensures { AreAdded prefix.now.shape classes.now.points prefix.now.rows counts.new made.now k row
+        (slice_index made.now (k + 1)) (c + 1) 0 (length classes.now.points) }
 {
     let kept = classes.len();
     let size = level_size(prefix.shape(), classes);
-    let lighter = prefix.len() * size + (weight - 1) * kept;
+    let lighter = k * size + (made[k + 1] - 1) * kept;
     let to = lighter + kept + size;
     let moves = classes.moves(row, c);
     for j in 0..kept {
