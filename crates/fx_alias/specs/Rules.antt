@@ -18,9 +18,15 @@ block_name j = codes "[" ++ (decimal j ++ codes "]")
 abbrev pub block_names : ℕ → List (List ℕ)
 block_names t = map block_name (range_with_len 1 t)
 
+abbrev pub factor : List ℕ → Subject
+factor name = record { name = name; is_block = false }
+
+abbrev pub block_factor : List ℕ → Subject
+block_factor name = record { name = name; is_block = true }
+
 -- the subjects of the rows of a matrix: the factors, and then the block factors
 abbrev pub subjects : List (List ℕ) → List (List ℕ) → List Subject
-subjects factors blocks = map (λ name. record { name = name; is_block = false }) factors ++ map (λ name. record { name = name; is_block = true }) blocks
+subjects factors blocks = map factor factors ++ map block_factor blocks
 
 -- the left side of a rule
 abbrev pub left_side : List ℕ → List ℕ

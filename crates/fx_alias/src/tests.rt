@@ -1,11 +1,11 @@
 ghost use Rattle.std.specs.Prelude.{◌≤◌, ◌^◌, IsTrue};
 ghost use Rattle.fx_vectors.specs.Shape.{IsShape};
 
-use crate::{alias_listing, blocked_listing, design_listing};
+use crate::{alias_listing, blocked_listing, design_listing, head_listing, rules_listing};
 use fx_base::Bytes;
 use fx_lexer::lex;
-use fx_statements::{ParseStop, Program, parse};
-use fx_vectors::{Matrix, Shape};
+use fx_statements::{End, Outcome, ParseStop, Program, Step, parse};
+use fx_vectors::{Books, Matrix, Shape};
 use std::alloc::Global;
 use std::process::Abort;
 use std::test::Fail;
@@ -155,6 +155,102 @@ fn classes_of_four_levels(rt: HostRuntime) -> Result<(), Fail> {
     )
 }
 
+/// Tests that the head and the rules of a step's outcome with this matrix are these.
+fn has_head_and_rules(
+    rt: &impl Abort,
+    alloc: Global,
+    step: &Step,
+    end: End,
+    matrix: Matrix,
+    nodes: u64,
+    expected: &[u8],
+) -> Result<(), Fail> {
+    let mut out = Bytes::new(alloc);
+    assert!(rt; end != End::NoDesign);
+    assert!(rt; matrix.len() == matrix.shape().rows());
+    assert!(rt; usize::from(matrix.shape().s) == step.factors.len());
+    rules_listing(alloc, step, &matrix, &mut out)?;
+    let shape = matrix.shape();
+    let outcome = Outcome {
+        end,
+        shape,
+        matrix: Some(matrix),
+        nodes,
+        books: Books::new(alloc),
+    };
+    head_listing(alloc, 1, step, &outcome, &mut out)?;
+    assert!(rt; out.as_slice() == expected);
+    Ok(())
+}
+
+/// Nine runs in nine blocks: the second block factor is a run factor of its own.
+#[test]
+fn block_factors_are_ruled(rt: HostRuntime) -> Result<(), Fail> {
+    let alloc = rt.alloc();
+    let text = b"proc factex; factors A B C / nlev=3; size design=27; \
+model estimate=(A); blocks nblocks=9;";
+    let program = program_of(&rt, alloc, text)?;
+    assert!(rt; program.len() == 1);
+    let in_blocks = Shape {
+        q: 3,
+        m: 3,
+        s: 3,
+        t: 2,
+    };
+    let matrix = matrix_of(&rt, in_blocks, &[1, 3, 4, 9, 15]);
+    has_head_and_rules(
+        &rt,
+        alloc,
+        program.get(0),
+        End::Budget,
+        matrix,
+        30,
+        b"rules
+  C = A*B
+  [1] = run factor 3
+  [2] = B^2*[1]
+step 1
+factors 3 levels 3
+budget ended after 30 nodes
+design 27 runs in 9 blocks not proved best
+resolution 3
+",
+    )
+}
+
+#[test]
+fn no_design_of_the_least_size(rt: HostRuntime) -> Result<(), Fail> {
+    let alloc = rt.alloc();
+    let text = b"proc factex; factors A B / nlev=3; size design=min; model resolution=3; \
+blocks nblocks=3;";
+    let program = program_of(&rt, alloc, text)?;
+    assert!(rt; program.len() == 1);
+    let outcome = Outcome {
+        end: End::NoDesign,
+        shape: Shape {
+            q: 3,
+            m: 6,
+            s: 2,
+            t: 1,
+        },
+        matrix: None,
+        nodes: 50,
+        books: Books::new(alloc),
+    };
+    let mut out = Bytes::new(alloc);
+    head_listing(alloc, 1, program.get(0), &outcome, &mut out)?;
+    assert!(rt;
+        out.as_slice()
+            == b"step 1
+factors 2 levels 3
+no design in at most 729 runs
+nodes 50
+"
+                .as_slice()
+    );
+    Ok(())
+}
+
 /// Eight runs in four blocks, by B*C and A*C.
 #[test]
 fn a_design_in_blocks_is_listed(rt: HostRuntime) -> Result<(), Fail> {
@@ -200,6 +296,23 @@ blocked
         text,
         &matrix,
         b"aliasing\n  A\n  B\n  C\n  A*B\n  A*C\n  B*C\n",
+    )?;
+    has_head_and_rules(
+        &rt,
+        alloc,
+        step,
+        End::Design,
+        matrix,
+        16,
+        b"rules
+  [1] = B*C
+  [2] = A*C
+step 1
+factors 3 levels 2
+design 8 runs in 4 blocks
+no defining words
+nodes 16
+",
     )
 }
 

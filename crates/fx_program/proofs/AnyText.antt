@@ -1,6 +1,6 @@
 -- Whatever a text says, each of its steps is valid, so that what is claimed of valid steps holds of each.
-use Rattle.std.proofs.Common.{◌∙◌, ◌≡◌, ◌≤◌, ◌++◌, Bool, true, false, ℕ, List, [], ◌∷◌, length, Option, Some, None, Result, Ok, Err, refl, sym, subst, arith, IsTrue, All}
-use Rattle.std.specs.Prelude.{nat_le, nat_lt, if◌then◌else◌}
+use Rattle.std.proofs.Common.{◌≡◌, ◌≤◌, ◌++◌, Bool, true, false, ℕ, List, [], ◌∷◌, length, Option, Some, None, Result, Ok, Err, refl, sym, subst, arith, All}
+use Rattle.std.specs.Prelude.{nat_lt, if◌then◌else◌}
 use Rattle.std.proofs.lemmas.List.Elements.{All-nil, All-push}
 use Rattle.fx_lexer.specs.declared.token.Token.{Token}
 use Rattle.fx_lexer.specs.declared.token.LexFault.{LexFault}
@@ -27,9 +27,8 @@ use Rattle.fx_settings.proofs.Valid.{valid}
 use Rattle.fx_effects.specs.Models.{lists_of}
 use Rattle.fx_statements.specs.Contexts.{context}
 use Rattle.fx_statements.specs.Components.{check_components, components_place}
-use Rattle.fx_statements.specs.Goals.{Goal, AtLeast, Highest, ForEffects, effects_in, effects_wanted, goal_by}
+use Rattle.fx_statements.specs.Goals.{Goal, AtLeast, Highest, effects_in, effects_wanted, goal_by}
 use Rattle.fx_statements.specs.Steps.{Meaning, asked_by, examine_of, factors_by, head_of, factor_limit, some_factors, step_by, step_of}
-
 use Rattle.fx_statements.specs.Programs.{accepted, program_of, steps_behind}
 use Rattle.fx_statements.proofs.Bounds.{kept}
 use Rattle.fx_program.specs.Texts.{at_front, or_refused, program_by, program_in}

@@ -1,13 +1,12 @@
 -- The design of a valid step is as it asks, and none is better: of the questions of the step the next, or each before it, has no answer.
-use Rattle.std.proofs.Common.{ℕ, ◌≡◌, ◌<◌, ◌≤◌, ◌+◌, ◌-◌, ◌||◌, ◌&&◌, Bool, true, false, List, [], ◌∷◌, length, Option, Some, None, refl, sym, ap, ap₂, ◌∙◌, subst, arith, inl, inr, ◌⊎◌, IsTrue, eqb, eqb-true}
+use Rattle.std.proofs.Common.{ℕ, ◌≡◌, ◌<◌, ◌≤◌, ◌+◌, ◌||◌, ◌&&◌, Bool, true, false, List, [], ◌∷◌, length, Some, None, refl, sym, ap, ◌∙◌, subst, arith, inl, inr, ◌⊎◌, IsTrue, eqb, eqb-true}
 use Rattle.std.specs.Prelude.{nat_le, not, max, if◌then◌else◌}
 use Rattle.std.specs.List.{list_any, list_all}
-use Rattle.std.proofs.lemmas.Bool.{leb-true, ltb-true, cases_Bool, cases_lt, and_parts, both_ways, not-true, cond-true, cond-false, eqb-true}
+use Rattle.std.proofs.lemmas.Bool.{leb-true, ltb-true, cases_Bool, and_parts, both_ways, eqb-true}
 use Rattle.fx_designs.specs.Galois.{IsField, is_order}
 use Rattle.fx_designs.specs.Problems.{Dimensions, Problem, Requirement, AtResolution}
-use Rattle.fx_designs.specs.Problems as problems
 use Rattle.fx_designs.specs.Demands.{is_met}
-use Rattle.fx_designs.specs.Answers.{answer, is_design}
+use Rattle.fx_designs.specs.Answers.{answer}
 use Rattle.fx_designs.specs.Outcomes.{Design, NoDesign}
 use Rattle.fx_designs.specs.Matrices.{NoneMeets}
 use Rattle.fx_laws.proofs.Tables.{is_order-field}
@@ -27,7 +26,7 @@ use Rattle.fx_settings.specs.declared.settings.Blocks.TheVariants as blocks
 use Rattle.fx_settings.specs.declared.settings.Criterion.{Criterion}
 use Rattle.fx_settings.specs.declared.settings.Criterion.TheVariants as criterion
 use Rattle.fx_settings.specs.Blocks.{is_minimum}
-use Rattle.fx_settings.specs.Models.{is_effects, is_highest}
+use Rattle.fx_settings.specs.Models.{is_highest}
 use Rattle.fx_settings.specs.Powers.{greatest}
 use Rattle.fx_settings.specs.Settings.{is_level}
 use Rattle.fx_settings.specs.Valid.{are_blocks, is_criterion, has_blocks, has_most, stand_together}
@@ -35,7 +34,7 @@ use Rattle.fx_statements.specs.Goals.{Goal, AtLeast, Highest, ForEffects}
 use Rattle.fx_statements.specs.Steps.{Meaning}
 use Rattle.fx_statements.specs.Questions as asked
 use Rattle.fx_statements.specs.Questions.{Answered, Unanswered, Conclusion, Until, block_factors, conclusion_of, least_exponent, lowest, outcome_of, question_for, requirement_for, run_factors, seeks_highest, series, until}
-use Rattle.fx_statements.proofs.Concluded.{HasEnding, IsAnswerOf, IsOfFirst, IsOfLast, of-first, of-last, none-of_all, none-of_first}
+use Rattle.fx_statements.proofs.Concluded.{HasEnding, IsOfFirst, IsOfLast, of-first, of-last, none-of_all, none-of_first}
 use Rattle.fx_program.specs.StepClaims.{Allows, HasHighestOfAll, HasLeastOfAll, HasLeastSize, HasMostBlocks, HasNoneAtAll, HasWhatItAsks, IsAsItAsks, IsOfKind, IsValidStep, required}
 
 -- Numbers of levels

@@ -6,10 +6,10 @@ use Rattle.std.specs.Fmt.{digits}
 use Rattle.std.specs.Option.{option_map}
 use Rattle.fx_base.specs.Acts.{Piece, ListByte, Did, World}
 use Rattle.fx_designs.specs.Galois.{prime_of, degree_of, reduction_of, add, mul, neg, inv}
-use Rattle.fx_designs.specs.Runs.{runs_of, is_constant, is_balanced, is_constant_in_blocks}
+use Rattle.fx_designs.specs.Runs.{runs_of, is_constant, is_balanced, are_blocks_even, is_balanced_in_blocks, is_constant_in_blocks}
 use Rattle.fx_designs.specs.Aliases.{is_aliased}
 use Rattle.fx_designs.specs.Spans.{in_span}
-use Rattle.fx_designs.specs.Demands.{must_balance, is_met, is_allowed}
+use Rattle.fx_designs.specs.Demands.{must_balance, is_estimated, is_met, is_allowed}
 use Rattle.fx_designs.specs.Canonical.{is_canonical}
 use Rattle.fx_designs.specs.Answers.{lists, designs, answer}
 use Rattle.fx_designs.specs.Patterns.{constant_words, pattern_of}
@@ -35,7 +35,7 @@ use Rattle.fx_program.specs.Output.{Output, message, output_of, Gives, GivesForS
 
 -- what is given for the word `run` and a text
 given : List ℕ → Output
-unfolding digits prime_of degree_of reduction_of add mul neg inv runs_of is_constant is_balanced in_span must_balance is_met is_allowed is_canonical lists designs answer nodes lexed refused levels_of budget_of size_of criterion_of check_blocks check_minimum blocks_of bars_of factors_of program_of settings_of program_in step_lines is_aliased is_constant_in_blocks lib.Count.ones constant_words pattern_of first_least best_before carried conclusion_of
+unfolding digits prime_of degree_of reduction_of add mul neg inv runs_of is_constant is_balanced in_span must_balance is_met is_allowed is_canonical lists designs answer nodes lexed refused levels_of budget_of size_of criterion_of check_blocks check_minimum blocks_of bars_of factors_of program_of settings_of program_in step_lines is_aliased is_constant_in_blocks lib.Count.ones constant_words pattern_of first_least best_before carried conclusion_of are_blocks_even is_balanced_in_blocks is_estimated
 given text = output_of (codes "run" ∷ []) text
 
 -- a text without steps
@@ -152,6 +152,27 @@ least_aberration :
     × (given (codes "proc factex nodes=2;factors A B C;size design=4;model resolution=3/minabs;") ≡ message (codes "step 1\nfactors 3 levels 2\nbudget ended after 2 nodes\n") 2)
 unfolding given
 least_aberration = (refl, refl)
+
+-- the highest resolution, with a model or without; a budget that ends where the next resolution is tried
+highest_resolution :
+    (given (codes "proc factex;factors A B C;size design=4;model r=max;") ≡ message (codes "step 1\nfactors 3 levels 2\ndesign 4 runs\nresolution 3 highest\nnodes 6\nrules\n  C = A*B\n") 0)
+    × (given (codes "proc factex;factors A B;size design=4;") ≡ message (codes "step 1\nfactors 2 levels 2\ndesign 4 runs\nno defining words\nnodes 2\nrules\n  none\n") 0)
+    × (given (codes "proc factex nodes=4;factors A B C;size design=4;model r=max;") ≡ message (codes "step 1\nfactors 3 levels 2\nbudget ended after 4 nodes\ndesign 4 runs not proved best\nresolution 3\nrules\n  C = A*B\n") 2)
+unfolding given
+highest_resolution = (refl, refl, refl)
+
+-- the least size
+least_size :
+    given (codes "proc factex;factors A B;size design=min;model r=3;") ≡ message (codes "step 1\nfactors 2 levels 2\ndesign 4 runs\nno defining words\nnodes 3\nrules\n  none\n") 0
+unfolding given
+least_size = refl
+
+-- blocks: as many as can be, and none
+in_blocks :
+    (given (codes "proc factex;factors A B;size design=4;model r=3;blocks nblocks=max;") ≡ message (codes "step 1\nfactors 2 levels 2\ndesign 4 runs in 2 blocks\nno defining words\nnodes 13\nrules\n  [1] = A*B\n") 0)
+    × (given (codes "proc factex;factors A B C;size design=4;model r=3;blocks nblocks=2;") ≡ message (codes "step 1\nfactors 3 levels 2\nno design in 4 runs with 2 blocks\nnodes 7\n") 1)
+unfolding given
+in_blocks = (refl, refl)
 
 -- three factors of four levels in 16 runs
 four_levels :

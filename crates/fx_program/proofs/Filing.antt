@@ -1,9 +1,9 @@
 -- Files that were shelved one after another by calls that have no listing.
-use Rattle.std.proofs.Common.{ℕ, ◌≡◌, ◌<◌, ◌≤◌, ◌+◌, List, [], ◌∷◌, ◌++◌, Option, Some, length, map, take, drop, get_or, refl, sym, ap, ap₂, subst, ◌∙◌}
+use Rattle.std.proofs.Common.{ℕ, ◌≡◌, ◌<◌, ◌+◌, List, [], ◌∷◌, ◌++◌, Option, Some, length, map, take, drop, get_or, refl, sym, ap, ap₂, subst, ◌∙◌}
 use Rattle.std.proofs.Math.Seq.{drop-cons}
 use Rattle.std.proofs.Math.Numerals.{add-one}
-use Rattle.std.proofs.lemmas.List.{append-nil, map-append, map_more, take_all, take-append-drop}
-use Rattle.fx_base.specs.Acts.{Act, Event, WholeFile, FileByte, EndFile, File, World, Did, DidPart, Shelves, ShelvesPart, acts, acts_of, listed}
+use Rattle.std.proofs.lemmas.List.{append-nil, map-append, map_more, take-append-drop}
+use Rattle.fx_base.specs.Acts.{Event, WholeFile, File, Did, DidPart, Shelves, ShelvesPart, acts, acts_of, listed}
 use Rattle.fx_base.specs.Writing.{Appends}
 use Rattle.fx_base.proofs.Doing.{did_none, did_one, did_then, listed-append, listed-file, part_before, part_one, part_then, part_whole}
 use Rattle.fx_program.specs.Output.{Shelved, ShelvedPart, world}

@@ -1,9 +1,9 @@
 -- The design that is given is the first of the last question that has one.
-use Rattle.std.proofs.Common.{ℕ, ◌≡◌, ◌<◌, ◌≤◌, ◌+◌, true, false, List, [], ◌∷◌, ◌++◌, Option, Some, None, length, map, All, refl, sym, subst, ap, ◌∙◌, arith}
+use Rattle.std.proofs.Common.{ℕ, ◌≡◌, ◌<◌, ◌≤◌, ◌+◌, true, false, List, [], ◌∷◌, ◌++◌, Option, Some, None, length, All, refl, subst, ap, ◌∙◌, arith}
 use Rattle.std.specs.List.{AllByRecursion}
 use Rattle.std.proofs.lemmas.List.Elements.{recursion_from_All}
 use Rattle.fx_designs.specs.Problems.{Problem}
-use Rattle.fx_designs.specs.Answers.{answer, is_design}
+use Rattle.fx_designs.specs.Answers.{answer}
 use Rattle.fx_designs.specs.Outcomes.{Design, NoDesign}
 use Rattle.fx_laws.specs.First.{IsFirstDesign}
 use Rattle.fx_laws.proofs.FirstDesign.{first-answer}
@@ -11,7 +11,7 @@ use Rattle.fx_laws.proofs.Order.{each-all, each-map}
 use Rattle.fx_reduction.proofs.LeastPattern.{no_answer}
 use Rattle.fx_jobs.specs.Laws.{IsFirstOfLeastPattern}
 use Rattle.fx_statements.specs.Steps.{Meaning}
-use Rattle.fx_statements.specs.Questions.{Conclusion, Found, asked, concluded, found_by, highest, last_found, last_of, lowest, nodes_of, outcome_of, question_for, questions_of}
+use Rattle.fx_statements.specs.Questions.{Found, asked, concluded, found_by, last_found, last_of, lowest, nodes_of, outcome_of, question_for, questions_of}
 use Rattle.fx_statements.proofs.Concluded.{each_asked, within}
 use Rattle.fx_program.specs.StepClaims.{HasNoDesign, IsLastWithDesign}
 use Rattle.fx_program.proofs.Least.{first-least-answer}

@@ -1,5 +1,5 @@
 -- Each fault of a text has its message and its place.
-use Rattle.std.proofs.Common.{◌≡◌, ℕ, zero, suc, ◌≤◌, Bool, true, false, ◌&&◌, List, [], ◌∷◌, ◌++◌, length, Result, Ok, Err, refl, sym, ap, subst, arith}
+use Rattle.std.proofs.Common.{◌≡◌, ℕ, zero, suc, ◌≤◌, Bool, true, false, ◌&&◌, List, [], length, Result, Ok, Err, refl, subst, arith}
 use Rattle.std.specs.Prelude.{IfErr, nat_le, nat_lt, if◌then◌else◌}
 use Rattle.std.proofs.lemmas.Bool.{and_parts, leb-true, leb-false}
 use Rattle.fx_lexer.specs.declared.token.Token.{Token}
@@ -14,7 +14,6 @@ use Rattle.fx_text.specs.Refusals.{IsByRule}
 use Rattle.fx_statements.specs.Steps.{Meaning}
 use Rattle.fx_statements.specs.Programs.{program_of}
 use Rattle.fx_statements.proofs.Placed as placed
-use Rattle.fx_program.specs.declared.text.TextFault.{TextFault}
 use Rattle.fx_program.specs.Texts.{at_front, or_refused, program_by, program_in}
 use Rattle.fx_program.specs.Refusals.{reasons, lexical_reasons, has_row, HasItsMessage}
 

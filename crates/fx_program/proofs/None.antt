@@ -1,5 +1,5 @@
 -- What the statuses of a step say: 1 that no rule matrix at all meets what it asks, 2 that its nodes pass the budget.
-use Rattle.std.proofs.Common.{ℕ, ◌≡◌, ◌<◌, ◌≤◌, ◌+◌, ◌++◌, true, false, List, Option, Some, None, length, take, drop, refl, sym, subst, ap, ◌∙◌, arith, inl, inr}
+use Rattle.std.proofs.Common.{ℕ, ◌≡◌, ◌<◌, ◌≤◌, ◌+◌, true, List, Option, Some, None, length, take, drop, refl, sym, subst, ap, ◌∙◌, arith, inl, inr}
 use Rattle.std.proofs.lemmas.Bool.{cases_lt, both_ways}
 use Rattle.std.proofs.lemmas.List.{take-append-drop}
 use Rattle.fx_designs.specs.Galois.{IsField}
@@ -11,8 +11,8 @@ use Rattle.fx_designs.specs.Outcomes.{Ending, Design, NoDesign, BudgetEnded}
 use Rattle.fx_designs.specs.Matrices.{NoneMeets}
 use Rattle.fx_reduction.proofs.NoDesign.{named_matrix}
 use Rattle.fx_statements.specs.Steps.{Meaning}
-use Rattle.fx_statements.specs.Questions.{Conclusion, Found, Turn, asked, concluded, cut_short, last_found, last_of, left_at, nodes_of, outcome_of, questions_of}
-use Rattle.fx_statements.proofs.Concluded.{finished_by, passed, within}
+use Rattle.fx_statements.specs.Questions.{Conclusion, Found, asked, concluded, cut_short, last_found, last_of, left_at, nodes_of, outcome_of, questions_of}
+use Rattle.fx_statements.proofs.Concluded.{passed, within}
 use Rattle.fx_program.specs.Statuses.{status_of}
 use Rattle.fx_program.specs.StepClaims.{Allows, IsValidStep, required}
 use Rattle.fx_program.proofs.Best.{field, none_at_all, what_it_asks}

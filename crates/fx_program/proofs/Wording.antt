@@ -1,5 +1,5 @@
 -- What words ask for, by the first of them.
-use Rattle.std.proofs.Common.{ℕ, ◌≡◌, List, [], ◌∷◌, length, map, refl, ap, ◌∙◌, arith}
+use Rattle.std.proofs.Common.{ℕ, ◌≡◌, List, [], ◌∷◌, length, map, refl, ap, arith}
 use Rattle.fx_program.specs.Words.{command_with, settings_of, word_fault}
 
 module _ {X : Type 0} (f : X → List ℕ) where

@@ -10,7 +10,17 @@ ghost use Rattle.fx_designs.specs.Outcomes.{Design, NoDesign};
 ghost use Rattle.fx_program.specs.Output.{ending_given, program_output, step_output};
 ghost use Rattle.fx_jobs.specs.Laws.{IsFirstOfLeastPattern};
 ghost use Rattle.fx_program.specs.StepClaims.{
-    Allows, HasHighestOfAll, HasLeastOfAll, HasLeastSize, HasMostBlocks, HasNoDesign, HasNoneAtAll, HasWhatItAsks, IsLastWithDesign, IsValidStep, required,
+  Allows,
+  HasHighestOfAll,
+  HasLeastOfAll,
+  HasLeastSize,
+  HasMostBlocks,
+  HasNoDesign,
+  HasNoneAtAll,
+  HasWhatItAsks,
+  IsLastWithDesign,
+  IsValidStep,
+  required,
 };
 ghost use Rattle.fx_program.specs.Claims.{EachStep, IsGreatest};
 

@@ -63,7 +63,7 @@ const HALF_LISTING: &str =
     "step 1\nfactors 4 levels 2\ndesign 8 runs\nresolution 4\nnodes 4\nrules\n  D = A*B*C\n";
 
 /// Each text with its listing and status.
-const PROGRAMS: [(&str, &str, u8); 36] = [
+const PROGRAMS: [(&str, &str, u8); 43] = [
     (HALF, HALF_LISTING, 0),
     (
         "PROC Factex ;factors A B C D E;\tsize\ndesign = 8;model res=4;run;",
@@ -233,6 +233,41 @@ const PROGRAMS: [(&str, &str, u8); 36] = [
         "step 1\nfactors 1 levels 9\ndesign 9 runs\nno defining words\nnodes 1\nrules\n  none\naberration\n  none\n",
         0,
     ),
+    (
+        "proc factex;factors A B C;size design=4;model r=max;",
+        "step 1\nfactors 3 levels 2\ndesign 4 runs\nresolution 3 highest\nnodes 6\nrules\n  C = A*B\n",
+        0,
+    ),
+    (
+        "proc factex;factors A B C;size design=min;model r=3;",
+        "step 1\nfactors 3 levels 2\ndesign 4 runs\nresolution 3\nnodes 4\nrules\n  C = A*B\n",
+        0,
+    ),
+    (
+        "proc factex;factors A B C D;size design=8;model r=3;blocks nblocks=max;",
+        "step 1\nfactors 4 levels 2\ndesign 8 runs in 4 blocks\nresolution 4\nnodes 198\nrules\n  D = A*B*C\n  [1] = B*C\n  [2] = A*C\n",
+        0,
+    ),
+    (
+        "proc factex;factors A B C D;size design=8;model r=3;blocks nblocks=2;",
+        "step 1\nfactors 4 levels 2\ndesign 8 runs in 2 blocks\nresolution 4\nnodes 6\nrules\n  D = A*B*C\n  [1] = B*C\n",
+        0,
+    ),
+    (
+        "proc factex;factors A B C;size design=4;",
+        "step 1\nfactors 3 levels 2\ndesign 4 runs\nresolution 3 highest\nnodes 6\nrules\n  C = A*B\n",
+        0,
+    ),
+    (
+        "proc factex;factors A B C D;size design=4;model r=max;",
+        "step 1\nfactors 4 levels 2\nno design in 4 runs\nnodes 3\n",
+        1,
+    ),
+    (
+        "proc factex;factors A B C;size design=4;model r=3;blocks nblocks=2;",
+        "step 1\nfactors 3 levels 2\nno design in 4 runs with 2 blocks\nnodes 7\n",
+        1,
+    ),
     ("", "", 0),
     ("; run; quit;", "", 0),
 ];
@@ -250,7 +285,7 @@ fn programs_have_their_listing(rt: HostRuntime) -> Result<(), Fail> {
 }
 
 /// The examples of docs/LANGUAGE.md and further texts that are refused, each with its message.
-const REFUSED: [(&str, &str); 50] = [
+const REFUSED: [(&str, &str); 45] = [
     (
         "proc factex; factors A B C; /* run;",
         "L1 1:29 comment is not closed",
@@ -271,26 +306,6 @@ const REFUSED: [(&str, &str); 50] = [
     (
         "proc factex; factors a23456789012345678901234567890123;",
         "L5 1:22 name is too long",
-    ),
-    (
-        "proc factex; factors A B C; size design=8;",
-        "E0 1:1 not built yet",
-    ),
-    (
-        "proc factex; factors A B C; model r=max;",
-        "E0 1:1 not built yet",
-    ),
-    (
-        "proc factex; factors A B C; model r=3; size design=min;",
-        "E0 1:1 not built yet",
-    ),
-    (
-        "proc factex; factors A B C; model r=3; blocks nblocks=2;",
-        "E0 1:1 not built yet",
-    ),
-    (
-        "proc factex; factors X1-X39; size design=min; model e=(X1) n=(X1|X2|X3|X4|X5|X6|X7|X8|X9|X10|X11|X12|X13|X14|X15|X16|X17|X18|X19|X20|X21|X22|X23|X24|X25|X26|X27|X28|X29|X30|X31|X32|X33|X34|X35|X36|X37|X38|X39@4);",
-        "E0 1:1 not built yet",
     ),
     (
         "proc factex; factors A B C; title x;",

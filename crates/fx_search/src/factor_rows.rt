@@ -70,15 +70,15 @@ impl FactorRows {
         }
     }
 
-    /// The rows with which the prefix is not allowed, where factor rows are to come.
-    pub(crate) fn barred(&self) -> PointSet
+    /// Makes a set that of the rows with which the prefix is not allowed, where factor rows are to come.
+    pub(crate) fn put_barred(&self, set: &mut PointSet)
         requires { length (view_of self.now).prefix < (view_of self.now).problem.dimensions.s }
         ensures { (row : ℕ) → row < count_of_rows (view_of self.now).problem
-            → has result row ≡ not (allows (view_of self.now).problem (view_of self.now).prefix row) }
+            → has set.new row ≡ not (allows (view_of self.now).problem (view_of self.now).prefix row) }
     {
         match self {
-            FactorRows::AtResolution(kept) => kept.barred(),
-            FactorRows::ForEffects(kept) => kept.barred(),
+            FactorRows::AtResolution(kept) => kept.put_barred(set),
+            FactorRows::ForEffects(kept) => kept.put_barred(set),
         }
     }
 

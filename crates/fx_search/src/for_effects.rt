@@ -86,13 +86,13 @@ impl ForEffects {
         self.first.pop();
     }
 
-    /// The rows with which the prefix is not allowed, where factor rows are to come.
-    pub(crate) fn barred(&self) -> PointSet
+    /// Makes a set that of the rows with which the prefix is not allowed, where factor rows are to come.
+    pub(crate) fn put_barred(&self, set: &mut PointSet)
         requires part { length self.now.prefix < self.now.problem.dimensions.s }
         ensures { (row : ℕ) → row < count_of_rows self.now.problem
-            → has result row ≡ not (allows self.now.problem self.now.prefix row) }
+            → has set.new row ≡ not (allows self.now.problem self.now.prefix row) }
     {
-        self.first.barred()
+        *set = self.first.barred();
     }
 
     /// The number of the closing word of the prefix with this row added, where the row closes it.

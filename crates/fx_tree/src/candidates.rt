@@ -60,6 +60,8 @@ impl Candidates {
     }
 
     /// Whether the row may follow rows of this front.
+    // A walk asks it of each row, and what hangs on the front alone then leaves its loop.
+    #[inline(always)]
     pub fn may_follow(&self, question: &Question, front: Front, row: u16) -> bool
         requires valid { IsValid question.now }
         requires shape { self.now ≡ question.now.shape }

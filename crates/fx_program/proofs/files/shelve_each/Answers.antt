@@ -1,5 +1,5 @@
 use Rattle.std.proofs.Common.{rules, ◌≡◌, ◌<◌, List, length, get_or, ap, subst, ◌∙◌}
-use Rattle.fx_base.specs.Acts.{Act, Shelves, ShelvesPart, acts_of}
+use Rattle.fx_base.specs.Acts.{Act, Shelves, ShelvesPart}
 use Rattle.fx_outputs.specs.declared.output.OutputSpec.{OutputSpec}
 use Rattle.fx_runs.specs.Runs.{design_of}
 use Rattle.fx_plan.specs.Tables.{plan_of}

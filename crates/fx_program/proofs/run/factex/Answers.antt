@@ -1,9 +1,6 @@
-use Rattle.std.proofs.Common.{◌≡◌, ℕ, List, Ok, Err, refl, sym, ap, ◌∙◌, []}
+use Rattle.std.proofs.Common.{Err, sym, ap, ◌∙◌, []}
 use Rattle.std.proofs.lemmas.Bool.{false≢true}
-use Rattle.fx_program.specs.declared.words.Settings.{Settings}
-use Rattle.fx_program.specs.declared.words.Settings.TheVariants.{Run}
-use Rattle.fx_program.specs.Texts.{program_in}
-use Rattle.fx_program.specs.Output.{message, output_for, program_output, reads}
+use Rattle.fx_program.specs.Output.{message, reads}
 use Rattle.fx_program.proofs.Endings.{ends_for, ends_by}
 use Rattle.fx_program.proofs.run.factex.Goals as goal
 

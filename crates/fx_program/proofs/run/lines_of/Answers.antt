@@ -1,8 +1,7 @@
-use Rattle.std.proofs.Common.{◌≡◌, ◌++◌, append-nil, append_assoc, sym, ap, subst, ◌∙◌}
+use Rattle.std.proofs.Common.{◌++◌, append-nil, append_assoc, sym, ap, subst, ◌∙◌}
 use Rattle.fx_vectors.specs.Shape.{dimensions_of}
 use Rattle.fx_statements.specs.Outcomes.{ending_in, HasMatrix}
 use Rattle.fx_statements.specs.Steps.{Meaning, meaning_of}
-use Rattle.fx_plan.specs.Steps.{IsDesignOf}
 use Rattle.fx_alias.specs.Heads.{head_lines}
 use Rattle.fx_alias.specs.Rules.{rules}
 use Rattle.fx_alias.specs.Sections.{examined}

@@ -40,9 +40,9 @@ prefix-is c =
     more-factors s.forbidden (view_of s.factors) s.rows s.tables.items s.sets.items c.self.invariant c.args.row (view_of c.push_factor.new.factors).prefix
     (λ less. c.push_factor.ensures.more (omega (arith, less, p.factors, c.len-len.ensures.count))) (λ le. c.push_factor.ensures.same (omega (arith, le, p.factors, c.len-len.ensures.count)))
 
-pub barred_after-set-requires-clause-known : goal.barred_after-set-requires-clause-known
-barred_after-set-requires-clause-known c =
-    let b = (goal.at.barred_after-set-requires-clause-known c).After-push in
+pub put_barred_after-requires-clause-known : goal.put_barred_after-requires-clause-known
+put_barred_after-requires-clause-known c =
+    let b = (goal.at.put_barred_after-requires-clause-known c).After-push in
     let s = c.self.inside in
     let p = at-push b in
     let now : BarredView = view_of c.push_factor.new.factors in
@@ -51,9 +51,9 @@ barred_after-set-requires-clause-known c =
     (subst (λ (r : ReachedView). IsKnown now.problem now.prefix r s.forbidden.shape.s s.tables.items) (sym c.push.ensures)
     (known s.forbidden (view_of s.factors) s.rows s.tables.items s.sets.items c.self.invariant c.args.row p.part p.low p.opened now c.push_factor.ensures.problem (prefix-is b))))
 
-pub barred_after-set-requires-clause-before : goal.barred_after-set-requires-clause-before
-barred_after-set-requires-clause-before c =
-    let b = (goal.at.barred_after-set-requires-clause-before c).After-push in
+pub put_barred_after-requires-clause-before : goal.put_barred_after-requires-clause-before
+put_barred_after-requires-clause-before c =
+    let b = (goal.at.put_barred_after-requires-clause-before c).After-push in
     let s = c.self.inside in
     let p = at-push b in
     let now : BarredView = view_of c.push_factor.new.factors in
@@ -70,8 +70,8 @@ invariant_of-self c =
     let p = at-push b in
     let now : BarredView = view_of c.push_factor.new.factors in
     let next : ReachedView = record s.rows { rows = s.rows.rows ++ c.args.row ∷ [] } in
-    let e = c.barred_after-set.ensures in
-    let made : List (Option Best) = c.barred_after-set.new.tables in
+    let e = c.put_barred_after.ensures in
+    let made : List (Option Best) = c.put_barred_after.new.tables in
     let old : c.as_mut_slice-tables.result.now ≡ s.tables.items = c.as_mut_slice-tables.ensures.value in
     let len : length made ≡ length s.tables.items = e.len ∙ ap length old in
     let whole = written s.tables.len made s.tables.items len (omega (arith, e.len, c.as_mut_slice-tables.ensures.len)) in
@@ -84,11 +84,11 @@ invariant_of-self c =
     (subst (λ (r : ReachedView). c.from-s.result ≤ length r.rows → AreBest now.problem.dimensions now.problem.requirement r.rows ((length r.rows - c.from-s.result) * r.q ^ r.m) made) c.push.ensures e.best) in
     let within = subst (λ (j : ℕ). j ≤ length next.rows → AreWithin s.rows.q s.rows.m (length next.rows) ((length next.rows - j) * s.rows.q ^ s.rows.m) made) p.factors
     (subst (λ (r : ReachedView). c.from-s.result ≤ length r.rows → AreWithin r.q r.m (length r.rows) ((length r.rows - c.from-s.result) * r.q ^ r.m) made) c.push.ensures e.within) in
-    let said = subst (λ (r : ReachedView). (x : ℕ) → x < r.q ^ r.m → has c.barred_after-set.result x ≡ not (allows now.problem r.rows x)) c.push.ensures e.set in
-    subst (λ (r : ReachedView). IsBarred s.forbidden now r (take s.tables.len (made ++ drop (length made) s.tables.items)) (set s.sets.items (c.len-len.result + 1) c.barred_after-set.result)) (sym c.push.ensures)
-    (subst (λ (l : List (Option Best)). IsBarred s.forbidden now next l (set s.sets.items (c.len-len.result + 1) c.barred_after-set.result)) (sym whole)
-    (subst (λ (k : ℕ). IsBarred s.forbidden now next made (set s.sets.items k c.barred_after-set.result)) (sym place)
-    (pushed s.forbidden (view_of s.factors) s.rows s.tables.items s.sets.items h c.args.row p.part p.low p.opened now c.push_factor.ensures.problem (prefix-is b) made c.barred_after-set.result
+    let said = subst (λ (r : ReachedView). (x : ℕ) → x < r.q ^ r.m → has c.put_barred_after.new.set x ≡ not (allows now.problem r.rows x)) c.push.ensures e.set in
+    subst (λ (r : ReachedView). IsBarred s.forbidden now r (take s.tables.len (made ++ drop (length made) s.tables.items)) (set s.sets.items (c.len-len.result + 1) c.put_barred_after.new.set)) (sym c.push.ensures)
+    (subst (λ (l : List (Option Best)). IsBarred s.forbidden now next l (set s.sets.items (c.len-len.result + 1) c.put_barred_after.new.set)) (sym whole)
+    (subst (λ (k : ℕ). IsBarred s.forbidden now next made (set s.sets.items k c.put_barred_after.new.set)) (sym place)
+    (pushed s.forbidden (view_of s.factors) s.rows s.tables.items s.sets.items h c.args.row p.part p.low p.opened now c.push_factor.ensures.problem (prefix-is b) made c.put_barred_after.new.set
     (omega (arith, c.if-len-rows.true, c.len-len.ensures.count, rooms)) len kept best within said)))
 
 pub invariant_of-self-else-len-rows : goal.invariant_of-self-else-len-rows

@@ -3,7 +3,7 @@ use Rattle.fx_barred.specs.Reach.{reaches}
 use Rattle.fx_search.specs.FactorRows.{BarredView}
 use Rattle.fx_search.specs.Pruning.{allows, count_of_rows}
 use Rattle.fx_search.proofs.Bars.{closed_is}
-use Rattle.fx_search.proofs.at_resolution.AtResolution.barred.Goals as goal
+use Rattle.fx_search.proofs.at_resolution.AtResolution.put_barred.Goals as goal
 
 pub returns : goal.returns
 returns c row below =

@@ -2,7 +2,7 @@ use Rattle.std.proofs.Common.{◌≡◌, ◌<◌, ◌≤◌, ◌+◌, ◌-◌, �
 use Rattle.fx_designs.specs.Problems.{Problem}
 use Rattle.fx_search.specs.Barred.{view_of}
 use Rattle.fx_search.proofs.Kept.{said}
-use Rattle.fx_search.proofs.barred.barred_after.Goals as goal
+use Rattle.fx_search.proofs.barred.put_barred_after.Goals as goal
 
 pub returns-clause-set : goal.returns-clause-set
 returns-clause-set c x low =

@@ -3,7 +3,7 @@ use Rattle.fx_points.specs.Points.{has}
 use Rattle.fx_search.specs.FactorRows.{BarredView}
 use Rattle.fx_search.specs.Pruning.{allows, count_of_rows}
 use Rattle.fx_search.proofs.EffectBars.{open_is, closed_is}
-use Rattle.fx_search.proofs.for_effects.ForEffects.barred.Goals as goal
+use Rattle.fx_search.proofs.for_effects.ForEffects.put_barred.Goals as goal
 
 either : (b a : Bool) (P : Type 0) (Q : Type 0) → (b ≡ true → P) → (b ≡ false → Q) → (P → a ≡ false) → (Q → a ≡ true) → b ≡ not a
 either true a P Q some none closed opened = sym (ap not (closed (some refl)))
