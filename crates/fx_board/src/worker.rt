@@ -1,0 +1,163 @@
+ghost use Rattle.std.specs.Prelude.{◌≡◌, ◌<◌, ◌≤◌, ◌+◌, ◌++◌, ◌∷◌, [], true, false, cond, IfOk, MatchOption};
+ghost use Rattle.fx_board.specs.Views.{Has};
+ghost use Rattle.fx_board.specs.Jobs.{IsEndOrCut, HasNodes};
+ghost use Rattle.fx_board.specs.Looking.{MayLook, is_stopped};
+ghost use Rattle.fx_board.specs.Work.{is_closed, is_cut, is_last, used, IsDrawing, IsDone, IsDrawn, IsOnward};
+
+use crate::board::{Board, Seat};
+use crate::gate::{Ended, Gate};
+use crate::jobs::Jobs;
+use fx_search::JobEnd;
+use crate::looking::Looking;
+use fx_base::{Items, NoMemory};
+use std::alloc::Global;
+
+/// The ends of the jobs that a worker drew.
+pub type Ends = Items<Ended>;
+
+/// What one worker does in a lot: it draws numbers and runs their jobs, until it draws one past the
+/// jobs, or one ends Found, Spent or Cut. It reports those that end Found or Spent.
+pub fn work<J: Jobs, G: Gate>(
+    alloc: Global,
+    jobs: &J,
+    board: &Board,
+    seat: &mut Seat,
+    limit: u64,
+    gate: &G,
+) -> Result<Ends, NoMemory>
+    requires board { seat.old.board ≡ board.now }
+    requires count { seat.old.knows.jobs ≡ J.count jobs.now }
+    requires fresh { (seat.old.knows.ended ≡ false) × (seat.old.knows.numbers ≡ []) × (seat.old.knows.reports ≡ []) }
+    requires limit { limit ≤ 5000000 }
+    ensures board { seat.new.board ≡ board.now }
+    ensures onward { IsOnward seat.old.knows seat.new.knows }
+    ensures done { IfOk result (IsDone (J.is_end jobs.now) limit seat.new.knows) }
+{
+    let mut ends = Ends::new(alloc);
+    match draw(jobs, board, seat, &mut ends, limit, u64::MAX, gate)? {
+        Stand::Paused { .. } => unreachable!(),
+        Stand::Done => Ok(ends),
+    }
+}
+
+/// How a worker stands.
+pub(crate) enum Stand {
+    /// All its jobs were closed, and so many nodes are left of its limit.
+    Paused { left: u64 },
+    /// It draws no more.
+    Done,
+}
+
+/// Draws numbers and runs their jobs as `work` does, and is paused once it has walked
+/// `until` nodes.
+pub(crate) fn draw<J: Jobs, G: Gate>(
+    jobs: &J,
+    board: &Board,
+    seat: &mut Seat,
+    ends: &mut Ends,
+    left: u64,
+    until: u64,
+    gate: &G,
+) -> Result<Stand, NoMemory>
+    requires board { seat.old.board ≡ board.now }
+    requires count { seat.old.knows.jobs ≡ J.count jobs.now }
+    requires drawing { IsDrawing (J.is_end jobs.now) (left + used ends.old) seat.old.knows ends.old }
+    requires limit { left + used ends.old ≤ 5000000 }
+    ensures board { seat.new.board ≡ board.now }
+    ensures onward { IsOnward seat.old.knows seat.new.knows }
+    ensures drawn { IfOk result (IsDrawn (J.is_end jobs.now) (left + used ends.old) left until seat.new.knows ends.new) }
+{
+    let begun = left;
+    let mut left = left;
+    while begun - left < until {
+        let Some(n) = board.claim(seat) else {
+            return Ok(Stand::Done);
+        };
+        gate.began(n);
+        let end = run_and_report(jobs, board, seat, n, left)?;
+        let nodes = closed_nodes(&end);
+        let ended = Ended { n, end };
+        gate.ended(&ended);
+        ends.push(ended)?;
+        let Some(nodes) = nodes else {
+            return Ok(Stand::Done);
+        };
+        left -= nodes;
+    }
+    Ok(Stand::Paused { left })
+}
+
+/// Runs a job that was drawn, and reports it where it ends Found or Spent.
+fn run_and_report<J: Jobs>(
+    jobs: &J,
+    board: &Board,
+    seat: &mut Seat,
+    n: u64,
+    limit: u64,
+) -> Result<JobEnd, NoMemory>
+    requires board { seat.old.board ≡ board.now }
+    requires drawn { Has n seat.old.knows.numbers }
+    requires job { n < J.count jobs.now }
+    requires limit { limit ≤ 5000000 }
+    ensures board { seat.new.board ≡ board.now }
+    ensures onward { IsOnward seat.old.knows seat.new.knows }
+    ensures numbers { (seat.new.knows.numbers ≡ seat.old.knows.numbers) × (seat.new.knows.ended ≡ seat.old.knows.ended) }
+    ensures end { IfOk result (IsEndOrCut (J.is_end jobs.now n limit) (is_stopped n seat.new.knows)) }
+    ensures reports { IfOk result (λ end. seat.new.knows.reports
+        ≡ seat.old.knows.reports ++ cond (is_last end) (n ∷ []) []) }
+{
+    let end = run(jobs, board, seat, n, limit)?;
+    report_last(board, seat, n, &end);
+    Ok(end)
+}
+
+/// Reports a number that was drawn where its job ended Found or Spent.
+fn report_last(board: &Board, seat: &mut Seat, n: u64, end: &JobEnd)
+    requires board { seat.old.board ≡ board.now }
+    requires drawn { Has n seat.old.knows.numbers }
+    ensures board { seat.new.board ≡ board.now }
+    ensures knows { seat.new.knows
+        ≡ record seat.old.knows {
+          reports = seat.old.knows.reports ++ cond (is_last end.now) (n ∷ []) [];
+          seen = seat.new.knows.seen;
+        } }
+    ensures seen { seat.new.knows.seen ≤ seat.old.knows.seen }
+{
+    match end {
+        JobEnd::Found { .. } => board.report(seat, n),
+        JobEnd::Closed { .. } => {}
+        JobEnd::Spent { .. } => board.report(seat, n),
+        JobEnd::Cut => {}
+    }
+}
+
+/// Runs a job, and stops once one of a lesser number was reported.
+fn run<J: Jobs>(
+    jobs: &J,
+    board: &Board,
+    seat: &mut Seat,
+    n: u64,
+    limit: u64,
+) -> Result<JobEnd, NoMemory>
+    requires board { seat.old.board ≡ board.now }
+    requires job { n < J.count jobs.now }
+    requires limit { limit ≤ 5000000 }
+    ensures board { seat.new.board ≡ board.now }
+    ensures looks { MayLook seat.old.knows seat.new.knows }
+    ensures end { IfOk result (IsEndOrCut (J.is_end jobs.now n limit) (is_stopped n seat.new.knows)) }
+{
+    let mut looking = Looking { board, seat, n };
+    jobs.run(n, limit, &mut looking)
+}
+
+/// The nodes of a job that was closed.
+pub(crate) fn closed_nodes(end: &JobEnd) -> Option<u64>
+    ensures { MatchOption result (is_closed end.now ≡ false) (HasNodes end.now) }
+{
+    match end {
+        JobEnd::Closed { nodes, .. } => Some(*nodes),
+        JobEnd::Found { .. } => None,
+        JobEnd::Spent { .. } => None,
+        JobEnd::Cut => None,
+    }
+}
