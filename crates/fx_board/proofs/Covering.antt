@@ -8,7 +8,7 @@ use Rattle.fx_search.specs.declared.job.JobEnd.{JobEnd}
 use Rattle.fx_search.specs.declared.job.JobEnd.TheVariants.{Found, Closed, Spent, Cut}
 use Rattle.fx_board.specs.Views.{Has, joined}
 use Rattle.fx_board.specs.Jobs.{IsEndOrCut, HasNodes}
-use Rattle.fx_board.specs.Looking.{is_stopped}
+use Rattle.fx_board.specs.Looks.{is_stopped}
 use Rattle.fx_board.specs.Work.{is_closed, is_cut, is_last, nodes_of, numbers_of, last_numbers, AllButLastClosed, IsLastOpen, AreEndsWithin, RisesFrom, IsDone}
 use Rattle.fx_board.specs.Sharing.{before, IsEndBetween, HasOpen, Covers}
 use Rattle.fx_board.proofs.Lists.{has_left, has_right, has_either}

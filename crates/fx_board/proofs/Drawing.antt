@@ -8,7 +8,7 @@ use Rattle.fx_search.specs.declared.job.JobEnd.{JobEnd}
 use Rattle.fx_search.specs.declared.job.JobEnd.TheVariants.{Found, Closed, Spent, Cut}
 use Rattle.fx_board.specs.Views.{IsPast}
 use Rattle.fx_board.specs.Jobs.{IsEndOrCut, HasNodes}
-use Rattle.fx_board.specs.Looking.{is_stopped}
+use Rattle.fx_board.specs.Looks.{is_stopped}
 use Rattle.fx_board.specs.Work.{is_closed, is_cut, is_last, nodes_of, used, last_numbers, AllClosed, AllButLastClosed, IsLastOpen, AreEndsWithin, RisesFrom, IsDrawing, IsDone}
 use Rattle.fx_board.proofs.Lists.{has_last}
 

@@ -8,7 +8,7 @@ use Rattle.fx_search.specs.declared.job.JobEnd.TheVariants.{Found, Closed, Spent
 use Rattle.fx_board.specs.Views.{Has, times}
 use Rattle.fx_board.specs.Ends.{AreAllBelow, IsLeastReport}
 use Rattle.fx_board.specs.Jobs.{IsEndOrCut}
-use Rattle.fx_board.specs.Looking.{is_stopped}
+use Rattle.fx_board.specs.Looks.{is_stopped}
 use Rattle.fx_board.specs.Work.{is_closed, is_cut, is_last, numbers_of}
 use Rattle.fx_board.specs.Sharing.{IsEndBetween, Covers, IsWhole, AreOrderedFrom, AreEndsFrom}
 use Rattle.fx_board.proofs.Lists.{some_times, from_times}

@@ -8,7 +8,7 @@ use Rattle.fx_search.specs.declared.job.JobEnd.{JobEnd}
 use Rattle.fx_search.specs.declared.job.JobEnd.TheVariants.{Found, Closed, Spent, Cut}
 use Rattle.fx_board.specs.Views.{Has}
 use Rattle.fx_board.specs.Jobs.{IsEndOrCut}
-use Rattle.fx_board.specs.Looking.{is_stopped}
+use Rattle.fx_board.specs.Looks.{is_stopped}
 use Rattle.fx_board.specs.Work.{is_closed, is_last, numbers_of, used, IsDrawing}
 
 -- a seat that has drawn nothing yet

@@ -4,11 +4,11 @@ use Rattle.fx_board.specs.declared.view.View.{View}
 use Rattle.fx_board.specs.declared.gate.Ended.{Ended}
 use Rattle.fx_search.specs.declared.job.JobEnd.{JobEnd}
 use Rattle.fx_search.specs.declared.job.JobEnd.TheVariants.{Found, Closed, Spent, Cut}
-use Rattle.fx_board.specs.declared.worker.Stand.{Stand}
-use Rattle.fx_board.specs.declared.worker.Stand.TheVariants.{Paused, Done}
+use Rattle.fx_board.specs.declared.worker.Progress.{Progress}
+use Rattle.fx_board.specs.declared.worker.Progress.TheVariants.{Paused, Done}
 use Rattle.fx_board.specs.Views.{Has}
 use Rattle.fx_board.specs.Jobs.{IsEndOrCut}
-use Rattle.fx_board.specs.Looking.{is_stopped}
+use Rattle.fx_board.specs.Looks.{is_stopped}
 
 abbrev pub is_closed : JobEnd → Bool
 is_closed (Found matrix nodes marks) = false
@@ -101,6 +101,6 @@ pub record IsDone (is_end : ℕ → ℕ → JobEnd → Type 0) (limit : ℕ) (v 
 
 -- How a worker stands that began with so much of this limit: it has walked `until` nodes, so much is left, and it may draw on; or it
 -- draws no more.
-abbrev pub IsDrawn : (ℕ → ℕ → JobEnd → Type 0) → ℕ → ℕ → ℕ → View → List Ended → Stand → Type 0
+abbrev pub IsDrawn : (ℕ → ℕ → JobEnd → Type 0) → ℕ → ℕ → ℕ → View → List Ended → Progress → Type 0
 IsDrawn is_end limit begun until v ends (Paused left) = IsDrawing is_end limit v ends × (left + used ends ≡ limit) × (left + until ≤ begun)
 IsDrawn is_end limit begun until v ends Done = IsDone is_end limit v ends

@@ -1,18 +1,19 @@
 use fx_search::JobEnd;
 
-/// A number with the end of its job.
+/// The number of a job of a lot, and how the job ended.
 #[derive(Debug, Drop)]
 pub struct Ended {
     pub n: u64,
     pub end: JobEnd,
 }
 
-/// Is told what workers do.
+/// Is called by the workers of a lot, at the same time from several threads. No clause depends on it:
+/// it is there so that tests can watch and hold workers.
 pub trait Gate: Sync {
-    /// A worker has drawn the job `n` and is about to run it.
+    /// A worker has claimed the job `n`, and works it off next.
     fn began(&self, n: u64);
 
-    /// A worker has run a job.
+    /// A worker has worked off a job.
     fn ended(&self, end: &Ended);
 }
 

@@ -1,15 +1,15 @@
 ghost use Rattle.std.specs.Prelude.{◌≡◌, ◌<◌, ◌≤◌, ◌+◌, ◌++◌, ◌∷◌, [], true, false, cond, IfOk, MatchOption};
 ghost use Rattle.fx_board.specs.Views.{Has};
 ghost use Rattle.fx_board.specs.Jobs.{IsEndOrCut, HasNodes};
-ghost use Rattle.fx_board.specs.Looking.{MayLook, is_stopped};
+ghost use Rattle.fx_board.specs.Looks.{IsAfterLooks, is_stopped};
 ghost use Rattle.fx_board.specs.Work.{is_closed, is_cut, is_last, used, IsDrawing, IsDone, IsDrawn, IsOnward};
 
 use crate::board::{Board, Seat};
 use crate::gate::{Ended, Gate};
 use crate::jobs::Jobs;
-use fx_search::JobEnd;
-use crate::looking::Looking;
+use crate::report_cutter::ReportCutter;
 use fx_base::{Items, NoMemory};
+use fx_search::JobEnd;
 use std::alloc::Global;
 
 /// The ends of the jobs that a worker drew.
@@ -35,13 +35,13 @@ pub fn work<J: Jobs, G: Gate>(
 {
     let mut ends = Ends::new(alloc);
     match draw(jobs, board, seat, &mut ends, limit, u64::MAX, gate)? {
-        Stand::Paused { .. } => unreachable!(),
-        Stand::Done => Ok(ends),
+        Progress::Paused { .. } => unreachable!(),
+        Progress::Done => Ok(ends),
     }
 }
 
 /// How a worker stands.
-pub(crate) enum Stand {
+pub(crate) enum Progress {
     /// All its jobs were closed, and so many nodes are left of its limit.
     Paused { left: u64 },
     /// It draws no more.
@@ -58,7 +58,7 @@ pub(crate) fn draw<J: Jobs, G: Gate>(
     left: u64,
     until: u64,
     gate: &G,
-) -> Result<Stand, NoMemory>
+) -> Result<Progress, NoMemory>
     requires board { seat.old.board ≡ board.now }
     requires count { seat.old.knows.jobs ≡ J.count jobs.now }
     requires drawing { IsDrawing (J.is_end jobs.now) (left + used ends.old) seat.old.knows ends.old }
@@ -71,7 +71,7 @@ pub(crate) fn draw<J: Jobs, G: Gate>(
     let mut left = left;
     while begun - left < until {
         let Some(n) = board.claim(seat) else {
-            return Ok(Stand::Done);
+            return Ok(Progress::Done);
         };
         gate.began(n);
         let end = run_and_report(jobs, board, seat, n, left)?;
@@ -80,11 +80,11 @@ pub(crate) fn draw<J: Jobs, G: Gate>(
         gate.ended(&ended);
         ends.push(ended)?;
         let Some(nodes) = nodes else {
-            return Ok(Stand::Done);
+            return Ok(Progress::Done);
         };
         left -= nodes;
     }
-    Ok(Stand::Paused { left })
+    Ok(Progress::Paused { left })
 }
 
 /// Runs a job that was drawn, and reports it where it ends Found or Spent.
@@ -143,10 +143,10 @@ fn run<J: Jobs>(
     requires job { n < J.count jobs.now }
     requires limit { limit ≤ 5000000 }
     ensures board { seat.new.board ≡ board.now }
-    ensures looks { MayLook seat.old.knows seat.new.knows }
+    ensures looks { IsAfterLooks seat.old.knows seat.new.knows }
     ensures end { IfOk result (IsEndOrCut (J.is_end jobs.now n limit) (is_stopped n seat.new.knows)) }
 {
-    let mut looking = Looking { board, seat, n };
+    let mut looking = ReportCutter { board, seat, n };
     jobs.run(n, limit, &mut looking)
 }
 
