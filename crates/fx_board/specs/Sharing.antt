@@ -7,9 +7,17 @@ use Rattle.fx_board.specs.declared.gate.Ended.{Ended}
 use Rattle.fx_search.specs.declared.job.JobEnd.{JobEnd}
 use Rattle.fx_search.specs.declared.job.JobEnd.TheVariants.{Found, Closed, Spent, Cut}
 use Rattle.fx_board.specs.Views.{Has}
-use Rattle.fx_board.specs.Jobs.{IsEndOrCut}
+use Rattle.fx_board.specs.Jobs.{IsEndOrCut, is_closed}
 use Rattle.fx_board.specs.Looks.{is_stopped}
-use Rattle.fx_board.specs.Work.{is_closed, is_last, numbers_of, used, IsDrawing}
+use Rattle.fx_board.specs.Work.{is_last, numbers_of, used, IsDrawing}
+
+-- each of these workers can work off a job
+abbrev pub AreReady : {W : Type 0} → (W → Type 0) → List W → Type 0
+AreReady ready workers = (worker : _) → Has worker workers → ready worker
+
+-- all ends are Closed
+abbrev pub AllAreClosed : List JobEnd → Type 0
+AllAreClosed ends = (end : JobEnd) → Has end ends → is_closed end ≡ true
 
 -- a seat that has drawn nothing yet
 abbrev pub IsFresh : View → Type 0

@@ -7,14 +7,8 @@ use Rattle.fx_search.specs.declared.job.JobEnd.TheVariants.{Found, Closed, Spent
 use Rattle.fx_board.specs.declared.worker.Progress.{Progress}
 use Rattle.fx_board.specs.declared.worker.Progress.TheVariants.{Paused, Done}
 use Rattle.fx_board.specs.Views.{Has}
-use Rattle.fx_board.specs.Jobs.{IsEndOrCut}
+use Rattle.fx_board.specs.Jobs.{IsEndOrCut, is_closed}
 use Rattle.fx_board.specs.Looks.{is_stopped}
-
-abbrev pub is_closed : JobEnd → Bool
-is_closed (Found matrix nodes marks) = false
-is_closed (Closed best nodes marks) = true
-is_closed (Spent nodes) = false
-is_closed Cut = false
 
 abbrev pub is_cut : JobEnd → Bool
 is_cut (Found matrix nodes marks) = false

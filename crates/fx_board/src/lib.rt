@@ -20,5 +20,5 @@ mod worker;
 pub use board::{Board, Closed, Seat};
 pub use gate::{Ended, FreeGate, Gate};
 pub use jobs::Jobs;
-pub use sharing::share;
+pub use sharing::{Worked, share};
 pub use worker::{Ends, work};

@@ -12,7 +12,7 @@ use std::alloc::Global;
 use std::sync::atomic::{AtomicU64, Ordering};
 use std::test::Fail;
 
-/// Jobs that are Closed with so many nodes each, where their limit allows it.
+/// Jobs that are Closed with so many nodes each, where their limit allows it. A worker counts its jobs.
 #[derive(Drop)]
 struct Even {
     alloc: Global,
@@ -23,16 +23,27 @@ struct Even {
 impl Jobs for Even {
     ghost use Rattle.fx_board.specs.Jobs.{HasNodes};
 
+    type Worker = u64;
+
     ghost count = { λ s. s.count };
 
     ghost inside = { λ s _. s.nodes };
 
     ghost is_end = { λ s _ limit end. (k : _) → HasNodes end k → (k ≡ s.nodes) × (k ≤ limit) };
 
-    fn run<C: Cutter>(&self, _n: u64, limit: u64, cutter: &mut C) -> Result<JobEnd, NoMemory> {
+    ghost is_ready = { λ _ _. Unit {0} };
+
+    fn run<C: Cutter>(
+        &self,
+        worker: &mut u64,
+        _n: u64,
+        limit: u64,
+        cutter: &mut C,
+    ) -> Result<JobEnd, NoMemory> {
         if cutter.cut() {
             return Ok(JobEnd::Cut);
         }
+        *worker = worker.wrapping_add(1);
         if self.nodes <= limit {
             return Ok(JobEnd::Closed {
                 best: None,
@@ -70,8 +81,17 @@ fn one_worker_ends_each_job(rt: HostRuntime) -> Result<(), Fail> {
         nodes: 1,
     };
     let (board, mut seat) = Board::new(rt.alloc(), 10, 1)?;
-    let ends = work(rt.alloc(), &jobs, &board, &mut seat, 1_000_000, &FreeGate)?;
-    assert!(rt; ends.len() == 10 && closed_with_one(&ends) == 10);
+    let mut worker = 0;
+    let ends = work(
+        rt.alloc(),
+        &jobs,
+        &board,
+        &mut seat,
+        &mut worker,
+        1_000_000,
+        &FreeGate,
+    )?;
+    assert!(rt; ends.len() == 10 && closed_with_one(&ends) == 10 && worker == 10);
     let closed = board.close(seat);
     assert!(rt; closed.next == 11 && closed.stop == 10);
     Ok(())
@@ -136,8 +156,10 @@ fn another_worker_ends_the_other_jobs(rt: HostRuntime) -> Result<(), Fail> {
         ended: AtomicU64::new(0),
         met: AtomicU64::new(0),
     };
-    let ends = share(&rt, rt.alloc(), &jobs, 10, 2, 1_000_000, 0, &gate)?;
-    assert!(rt; ends.len() == 10);
+    let workers = vec![in rt.alloc(); 0, 0]?;
+    let worked = share(&rt, rt.alloc(), &jobs, 10, workers, 1_000_000, 0, &gate)?;
+    assert!(rt; worked.ends.len() == 10);
+    assert!(rt; worked.workers.iter().sum::<u64>() == 10);
     assert!(rt; gate.met.load(Ordering::SeqCst) == 1);
     Ok(())
 }
@@ -150,10 +172,20 @@ fn a_lot_that_one_worker_began(rt: HostRuntime) -> Result<(), Fail> {
         count: 30,
         nodes: 3,
     };
-    let ends = share(&rt, rt.alloc(), &jobs, 30, 3, 1_000, 10, &FreeGate)?;
-    assert!(rt; ends.len() == 30);
-    let never = share(&rt, rt.alloc(), &jobs, 30, 3, 1_000, 1_000, &FreeGate)?;
-    assert!(rt; never.len() == 30);
+    let workers = vec![in rt.alloc(); 0, 0, 0]?;
+    let worked = share(&rt, rt.alloc(), &jobs, 30, workers, 1_000, 10, &FreeGate)?;
+    assert!(rt; worked.ends.len() == 30);
+    let alone = share(
+        &rt,
+        rt.alloc(),
+        &jobs,
+        30,
+        worked.workers,
+        1_000,
+        1_000,
+        &FreeGate,
+    )?;
+    assert!(rt; alone.ends.len() == 30 && alone.workers.len() == 3);
     Ok(())
 }
 
@@ -165,8 +197,9 @@ fn a_limit_ends_a_lot(rt: HostRuntime) -> Result<(), Fail> {
         count: 10,
         nodes: 4,
     };
-    let ends = share(&rt, rt.alloc(), &jobs, 10, 1, 10, 0, &FreeGate)?;
-    assert!(rt; ends.len() == 3);
-    assert!(rt; matches!(ends.get(2), JobEnd::Spent { nodes: 3 }));
+    let workers = vec![in rt.alloc(); 0]?;
+    let worked = share(&rt, rt.alloc(), &jobs, 10, workers, 10, 0, &FreeGate)?;
+    assert!(rt; worked.ends.len() == 3);
+    assert!(rt; matches!(worked.ends.get(2), JobEnd::Spent { nodes: 3 }));
     Ok(())
 }

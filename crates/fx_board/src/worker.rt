@@ -1,8 +1,8 @@
-ghost use Rattle.std.specs.Prelude.{◌≡◌, ◌<◌, ◌≤◌, ◌+◌, ◌++◌, ◌∷◌, [], true, false, cond, IfOk, MatchOption};
+ghost use Rattle.std.specs.Prelude.{◌≡◌, ◌<◌, ◌≤◌, ◌+◌, ◌++◌, ◌∷◌, [], true, false, cond, IfOk, OnOk, MatchOption};
 ghost use Rattle.fx_board.specs.Views.{Has};
-ghost use Rattle.fx_board.specs.Jobs.{IsEndOrCut, HasNodes};
+ghost use Rattle.fx_board.specs.Jobs.{IsEndOrCut, HasNodes, is_closed};
 ghost use Rattle.fx_board.specs.Looks.{IsAfterLooks, is_stopped};
-ghost use Rattle.fx_board.specs.Work.{is_closed, is_cut, is_last, used, IsDrawing, IsDone, IsDrawn, IsOnward};
+ghost use Rattle.fx_board.specs.Work.{is_cut, is_last, used, AllClosed, IsDrawing, IsDone, IsDrawn, IsOnward};
 
 use crate::board::{Board, Seat};
 use crate::gate::{Ended, Gate};
@@ -22,19 +22,22 @@ pub fn work<J: Jobs, G: Gate>(
     jobs: &J,
     board: &Board,
     seat: &mut Seat,
+    worker: &mut J::Worker,
     limit: u64,
     gate: &G,
 ) -> Result<Ends, NoMemory>
     requires board { seat.old.board ≡ board.now }
     requires count { seat.old.knows.jobs ≡ J.count jobs.now }
+    requires ready { J.is_ready jobs.now worker.old }
     requires fresh { (seat.old.knows.ended ≡ false) × (seat.old.knows.numbers ≡ []) × (seat.old.knows.reports ≡ []) }
     requires limit { limit ≤ 5000000 }
     ensures board { seat.new.board ≡ board.now }
     ensures onward { IsOnward seat.old.knows seat.new.knows }
+    ensures ready { IfOk result (λ ends. AllClosed ends → J.is_ready jobs.now worker.new) }
     ensures done { IfOk result (IsDone (J.is_end jobs.now) limit seat.new.knows) }
 {
     let mut ends = Ends::new(alloc);
-    match draw(jobs, board, seat, &mut ends, limit, u64::MAX, gate)? {
+    match draw(jobs, board, seat, worker, &mut ends, limit, u64::MAX, gate)? {
         Progress::Paused { .. } => unreachable!(),
         Progress::Done => Ok(ends),
     }
@@ -54,6 +57,7 @@ pub(crate) fn draw<J: Jobs, G: Gate>(
     jobs: &J,
     board: &Board,
     seat: &mut Seat,
+    worker: &mut J::Worker,
     ends: &mut Ends,
     left: u64,
     until: u64,
@@ -61,10 +65,12 @@ pub(crate) fn draw<J: Jobs, G: Gate>(
 ) -> Result<Progress, NoMemory>
     requires board { seat.old.board ≡ board.now }
     requires count { seat.old.knows.jobs ≡ J.count jobs.now }
+    requires ready { J.is_ready jobs.now worker.old }
     requires drawing { IsDrawing (J.is_end jobs.now) (left + used ends.old) seat.old.knows ends.old }
     requires limit { left + used ends.old ≤ 5000000 }
     ensures board { seat.new.board ≡ board.now }
     ensures onward { IsOnward seat.old.knows seat.new.knows }
+    ensures ready { OnOk result (AllClosed ends.new → J.is_ready jobs.now worker.new) }
     ensures drawn { IfOk result (IsDrawn (J.is_end jobs.now) (left + used ends.old) left until seat.new.knows ends.new) }
 {
     let begun = left;
@@ -74,7 +80,7 @@ pub(crate) fn draw<J: Jobs, G: Gate>(
             return Ok(Progress::Done);
         };
         gate.began(n);
-        let end = run_and_report(jobs, board, seat, n, left)?;
+        let end = run_and_report(jobs, board, seat, worker, n, left)?;
         let nodes = closed_nodes(&end);
         let ended = Ended { n, end };
         gate.ended(&ended);
@@ -92,21 +98,24 @@ fn run_and_report<J: Jobs>(
     jobs: &J,
     board: &Board,
     seat: &mut Seat,
+    worker: &mut J::Worker,
     n: u64,
     limit: u64,
 ) -> Result<JobEnd, NoMemory>
     requires board { seat.old.board ≡ board.now }
     requires drawn { Has n seat.old.knows.numbers }
+    requires ready { J.is_ready jobs.now worker.old }
     requires job { n < J.count jobs.now }
     requires limit { limit ≤ 5000000 }
     ensures board { seat.new.board ≡ board.now }
     ensures onward { IsOnward seat.old.knows seat.new.knows }
     ensures numbers { (seat.new.knows.numbers ≡ seat.old.knows.numbers) × (seat.new.knows.ended ≡ seat.old.knows.ended) }
+    ensures ready { IfOk result (λ end. is_closed end ≡ true → J.is_ready jobs.now worker.new) }
     ensures end { IfOk result (IsEndOrCut (J.is_end jobs.now n limit) (is_stopped n seat.new.knows)) }
     ensures reports { IfOk result (λ end. seat.new.knows.reports
         ≡ seat.old.knows.reports ++ cond (is_last end) (n ∷ []) []) }
 {
-    let end = run(jobs, board, seat, n, limit)?;
+    let end = run(jobs, board, seat, worker, n, limit)?;
     report_last(board, seat, n, &end);
     Ok(end)
 }
@@ -136,18 +145,21 @@ fn run<J: Jobs>(
     jobs: &J,
     board: &Board,
     seat: &mut Seat,
+    worker: &mut J::Worker,
     n: u64,
     limit: u64,
 ) -> Result<JobEnd, NoMemory>
     requires board { seat.old.board ≡ board.now }
+    requires ready { J.is_ready jobs.now worker.old }
     requires job { n < J.count jobs.now }
     requires limit { limit ≤ 5000000 }
     ensures board { seat.new.board ≡ board.now }
     ensures looks { IsAfterLooks seat.old.knows seat.new.knows }
+    ensures ready { IfOk result (λ end. is_closed end ≡ true → J.is_ready jobs.now worker.new) }
     ensures end { IfOk result (IsEndOrCut (J.is_end jobs.now n limit) (is_stopped n seat.new.knows)) }
 {
-    let mut looking = ReportCutter { board, seat, n };
-    jobs.run(n, limit, &mut looking)
+    let mut cutter = ReportCutter { board, seat, n };
+    jobs.run(worker, n, limit, &mut cutter)
 }
 
 /// The nodes of a job that was closed.
