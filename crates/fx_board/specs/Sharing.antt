@@ -19,7 +19,7 @@ AreReady ready workers = (worker : _) → Has worker workers → ready worker
 abbrev pub AllAreClosed : List JobEnd → Type 0
 AllAreClosed ends = (end : JobEnd) → Has end ends → is_closed end ≡ true
 
--- a seat that has drawn nothing yet
+-- a seat that has claimed nothing yet
 abbrev pub IsFresh : View → Type 0
 IsFresh v = (v.ended ≡ false) × (v.numbers ≡ []) × (v.reports ≡ [])
 
@@ -32,12 +32,12 @@ before inside (suc n) = before inside n + inside n
 abbrev pub IsEndBetween : (ℕ → ℕ → JobEnd → Type 0) → (ℕ → ℕ) → ℕ → ℕ → JobEnd → Type 0
 IsEndBetween is_end inside limit n end = (l : ℕ) × (l ≤ limit) × (limit ≤ l + before inside n) × is_end n l end
 
--- some end is no Closed
+-- some end is not Closed
 abbrev pub HasOpen : List Ended → Type 0
 HasOpen ends = (e : Ended) × Has e ends × (is_closed e.end ≡ false)
 
--- What seats that were joined know of their ends. Each of their numbers has an end of its job. Their reports are those that
--- end Found or Spent, and a number that was cut is past a report. They are ended, or an end is no Closed.
+-- What a seat that took in others knows of their ends. Each of its numbers has an end of its job. Its reports are those that
+-- end Found or Spent, and a number that was cut is above a report. It is ended, or an end is not Closed.
 pub record Covers (is_end : ℕ → ℕ → JobEnd → Type 0) (inside : ℕ → ℕ) (limit : ℕ) (v : View) (ends : List Ended) : Type 0 where
   pub numbers : v.numbers ≡ numbers_of ends
   pub good : (e : Ended) → Has e ends → IsEndOrCut (IsEndBetween is_end inside limit e.n) (is_stopped e.n v) e.end
@@ -54,8 +54,8 @@ AreEndsFrom is_end inside limit count n (Found matrix nodes marks ∷ ends) = (n
 AreEndsFrom is_end inside limit count n (Spent nodes ∷ ends) = (n < count) × IsEndBetween is_end inside limit n (Spent nodes) × (ends ≡ [])
 AreEndsFrom is_end inside limit count n (Cut ∷ ends) = ⊥
 
--- What is known of the ends of a lot, in any order, where STOP was this at the end: each job up to it has an end. Those before it
--- are Closed, and its own is Found or Spent.
+-- The ends of a lot, in any order, where STOP has this value in the end: each job up to it has an end, those before it are Closed,
+-- and its own is Found or Spent.
 pub record IsWhole (count stop : ℕ) (ends : List Ended) : Type 0 where
   pub stop_fits : stop ≤ count
   pub has : (k : ℕ) → k ≤ stop → k < count → (e : Ended) × Has e ends × (e.n ≡ k)
@@ -78,7 +78,7 @@ pub record AreByNumber (size : ℕ) (ends : List Ended) (places : List (Option J
   pub there : (k : ℕ) (x : JobEnd) → get_elem? places k ≡ some (Some x) → Has (record { n = k; end = x }) ends
   pub all : (e : Ended) → Has e ends → e.n < size → (x : JobEnd) × (get_elem? places e.n ≡ some (Some x))
 
--- what one worker has done where so much is left of its limit, and it may draw on; or where it draws no more
+-- what one worker has done, where so much is left of its limit and it may claim more, or where it claims no more
 abbrev pub IsBegun : (ℕ → ℕ → JobEnd → Type 0) → (ℕ → ℕ) → ℕ → View → List Ended → Option ℕ → Type 0
 IsBegun is_end inside limit v ends (Some left) = IsDrawing is_end limit v ends × (left + used ends ≡ limit)
 IsBegun is_end inside limit v ends None = Covers is_end inside limit v ends

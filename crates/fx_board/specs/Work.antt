@@ -16,7 +16,7 @@ is_cut (Closed best nodes marks) = false
 is_cut (Spent nodes) = false
 is_cut Cut = true
 
--- an end at which the others may stop
+-- an end after which jobs of greater numbers may be cut
 abbrev pub is_last : JobEnd → Bool
 is_last (Found matrix nodes marks) = true
 is_last (Closed best nodes marks) = false
@@ -65,15 +65,15 @@ abbrev pub RisesFrom : ℕ → List ℕ → Type 0
 RisesFrom low [] = Unit {0}
 RisesFrom low (n ∷ ns) = (low ≤ n) × RisesFrom (n + 1) ns
 
--- a number that was cut is past one that was reported, as far as the seat knows
+-- for each number that was cut, the seat knows of a report of a lesser one
 abbrev pub AreCutsKnown : View → List Ended → Type 0
 AreCutsKnown v ends = (e : Ended) → Has e ends → is_cut e.end ≡ true → is_stopped e.n v ≡ true
 
--- the rest of a view, and what is seen does not grow
+-- the rest of a view is the same, and what it has seen does not rise
 abbrev pub IsOnward : View → View → Type 0
 IsOnward v w = (w.jobs ≡ v.jobs) × (w.all ≡ v.all) × (w.owned ≡ v.owned) × (w.seen ≤ v.seen)
 
--- a worker that may draw on: all its jobs were closed
+-- a worker that may claim more: all its jobs are closed
 pub record IsDrawing (is_end : ℕ → ℕ → JobEnd → Type 0) (limit : ℕ) (v : View) (ends : List Ended) : Type 0 where
   pub goes_on : v.ended ≡ false
   pub numbers : v.numbers ≡ numbers_of ends
@@ -83,7 +83,7 @@ pub record IsDrawing (is_end : ℕ → ℕ → JobEnd → Type 0) (limit : ℕ) 
   pub ends_are : AreEndsWithin is_end limit ends
   pub fits : used ends ≤ limit
 
--- a worker that draws no more: it drew a number past the jobs, or its last job was not closed
+-- a worker that claims no more: it claimed a number past the jobs, or its last job is not closed
 pub record IsDone (is_end : ℕ → ℕ → JobEnd → Type 0) (limit : ℕ) (v : View) (ends : List Ended) : Type 0 where
   pub numbers : v.numbers ≡ numbers_of ends
   pub rising : RisesFrom 0 v.numbers
@@ -93,8 +93,8 @@ pub record IsDone (is_end : ℕ → ℕ → JobEnd → Type 0) (limit : ℕ) (v 
   pub ends_are : AreEndsWithin is_end limit ends
   pub cuts : AreCutsKnown v ends
 
--- How a worker stands that began with so much of this limit: it has walked `until` nodes, so much is left, and it may draw on; or it
--- draws no more.
+-- How far a worker is that began with so much of this limit: it has walked `until` nodes, so much is left, and it may claim more; or it
+-- claims no more.
 abbrev pub IsDrawn : (ℕ → ℕ → JobEnd → Type 0) → ℕ → ℕ → ℕ → View → List Ended → Progress → Type 0
 IsDrawn is_end limit begun until v ends (Paused left) = IsDrawing is_end limit v ends × (left + used ends ≡ limit) × (left + until ≤ begun)
 IsDrawn is_end limit begun until v ends Done = IsDone is_end limit v ends

@@ -12,11 +12,17 @@ use fx_base::{Items, NoMemory};
 use fx_search::JobEnd;
 use std::alloc::Global;
 
-/// The ends of the jobs that a worker drew.
+/// The ends of the jobs that a worker claimed, in order.
 pub type Ends = Items<Ended>;
 
-/// What one worker does in a lot: it draws numbers and runs their jobs, until it draws one past the
-/// jobs, or one ends Found, Spent or Cut. It reports those that end Found or Spent.
+/// What one worker does in a lot, with a seat that has claimed nothing yet: it claims numbers and works
+/// off their jobs, until it claims one past the jobs, or a job ends `Found`, `Spent` or `Cut`. It
+/// reports those that end `Found` or `Spent`. The limit of a job is `limit`, at most 5,000,000, without
+/// the nodes of the jobs before it. `Cut` only where the seat knows of a report of a lesser number.
+///
+/// # Errors
+///
+/// `NoMemory`. The seat may then have numbers without an end.
 pub fn work<J: Jobs, G: Gate>(
     alloc: Global,
     jobs: &J,
@@ -43,16 +49,15 @@ pub fn work<J: Jobs, G: Gate>(
     }
 }
 
-/// How a worker stands.
+/// How far a worker is.
 pub(crate) enum Progress {
-    /// All its jobs were closed, and so many nodes are left of its limit.
+    /// All its jobs are closed, and so many nodes are left of its limit.
     Paused { left: u64 },
-    /// It draws no more.
+    /// It claims no more.
     Done,
 }
 
-/// Draws numbers and runs their jobs as `work` does, and is paused once it has walked
-/// `until` nodes.
+/// Claims numbers and works off their jobs as `work` does, and pauses once it has walked `until` nodes.
 pub(crate) fn draw<J: Jobs, G: Gate>(
     jobs: &J,
     board: &Board,
@@ -93,7 +98,7 @@ pub(crate) fn draw<J: Jobs, G: Gate>(
     Ok(Progress::Paused { left })
 }
 
-/// Runs a job that was drawn, and reports it where it ends Found or Spent.
+/// Works off a job that was claimed, and reports it where it ends `Found` or `Spent`.
 fn run_and_report<J: Jobs>(
     jobs: &J,
     board: &Board,
@@ -120,7 +125,7 @@ fn run_and_report<J: Jobs>(
     Ok(end)
 }
 
-/// Reports a number that was drawn where its job ended Found or Spent.
+/// Reports a number that was claimed where its job ended `Found` or `Spent`.
 fn report_last(board: &Board, seat: &mut Seat, n: u64, end: &JobEnd)
     requires board { seat.old.board ≡ board.now }
     requires drawn { Has n seat.old.knows.numbers }
@@ -140,7 +145,7 @@ fn report_last(board: &Board, seat: &mut Seat, n: u64, end: &JobEnd)
     }
 }
 
-/// Runs a job, and stops once one of a lesser number was reported.
+/// Works off a job, and cuts it once one of a lesser number was reported.
 fn run<J: Jobs>(
     jobs: &J,
     board: &Board,
@@ -162,7 +167,7 @@ fn run<J: Jobs>(
     jobs.run(worker, n, limit, &mut cutter)
 }
 
-/// The nodes of a job that was closed.
+/// The nodes of a job that is closed, or None.
 pub(crate) fn closed_nodes(end: &JobEnd) -> Option<u64>
     ensures { MatchOption result (is_closed end.now ≡ false) (HasNodes end.now) }
 {
