@@ -1,0 +1,24 @@
+//! The board from which the workers of a lot draw its jobs, each in a thread.
+//!
+//! The jobs of a lot have the numbers from 0 on. A worker claims the next number and works off its job.
+//! Where a job ends the search, its number is reported, and jobs of greater numbers are cut. The ends
+//! of the jobs up to the least number that was reported do not depend on the schedule.
+#![tactic(auto)]
+
+mod board;
+mod gate;
+mod jobs;
+mod order;
+mod report_cutter;
+mod rule;
+mod sharing;
+#[cfg(test)]
+mod tests;
+mod view;
+mod worker;
+
+pub use board::{Board, Closed, Seat};
+pub use gate::{Ended, FreeGate, Gate};
+pub use jobs::Jobs;
+pub use sharing::{Worked, share};
+pub use worker::{Ends, work};

@@ -1,0 +1,207 @@
+ghost use Rattle.std.specs.Prelude.{◌≡◌, ◌≤◌};
+
+use crate::board::Board;
+use crate::gate::{Ended, FreeGate, Gate};
+use crate::jobs::Jobs;
+use crate::sharing::share;
+use crate::worker::{Ends, work};
+use fx_base::NoMemory;
+use fx_search::{Cutter, JobEnd};
+use fx_vectors::Marks;
+use std::alloc::Global;
+use std::sync::atomic::{AtomicU64, Ordering};
+use std::test::Fail;
+
+/// Jobs that are Closed with so many nodes each, where their limit allows it. A worker counts its jobs.
+#[derive(Drop)]
+struct Even {
+    alloc: Global,
+    count: u64,
+    nodes: u64,
+}
+
+impl Jobs for Even {
+    ghost use Rattle.fx_board.specs.Jobs.{HasNodes};
+
+    type Worker = u64;
+
+    ghost count = { λ s. s.count };
+
+    ghost inside = { λ s _. s.nodes };
+
+    ghost is_end = { λ s _ limit end. (k : _) → HasNodes end k → (k ≡ s.nodes) × (k ≤ limit) };
+
+    ghost is_ready = { λ _ _. Unit {0} };
+
+    fn run<C: Cutter>(
+        &self,
+        worker: &mut u64,
+        _n: u64,
+        limit: u64,
+        cutter: &mut C,
+    ) -> Result<JobEnd, NoMemory> {
+        if cutter.cut() {
+            return Ok(JobEnd::Cut);
+        }
+        *worker = worker.wrapping_add(1);
+        if self.nodes <= limit {
+            return Ok(JobEnd::Closed {
+                best: None,
+                nodes: self.nodes,
+                marks: Marks::new(self.alloc),
+            });
+        }
+        Ok(JobEnd::Spent { nodes: limit + 1 })
+    }
+
+    ghost closed = { λ _ _ _ _ nodes has end. end nodes has };
+}
+
+/// Whether the job is Closed with one node.
+fn is_closed_with_one(end: &JobEnd) -> bool {
+    match end {
+        JobEnd::Closed { nodes, .. } => *nodes == 1,
+        JobEnd::Found { .. } | JobEnd::Spent { .. } | JobEnd::Cut => false,
+    }
+}
+
+/// How many jobs of the list are Closed with one node.
+fn closed_with_one(ends: &Ends) -> usize {
+    ends.as_slice()
+        .iter()
+        .filter(|ended| is_closed_with_one(&ended.end))
+        .count()
+}
+
+#[test]
+fn one_worker_ends_each_job(rt: HostRuntime) -> Result<(), Fail> {
+    let jobs = Even {
+        alloc: rt.alloc(),
+        count: 10,
+        nodes: 1,
+    };
+    let (board, mut seat) = Board::new(rt.alloc(), 10, 1)?;
+    let mut worker = 0;
+    let ends = work(
+        rt.alloc(),
+        &jobs,
+        &board,
+        &mut seat,
+        &mut worker,
+        1_000_000,
+        &FreeGate,
+    )?;
+    assert!(rt; ends.len() == 10 && closed_with_one(&ends) == 10 && worker == 10);
+    let closed = board.close(seat);
+    assert!(rt; closed.next == 11 && closed.stop == 10);
+    Ok(())
+}
+
+/// A look of one seat finds what another reported.
+#[test]
+fn a_seat_sees_what_another_reports(rt: HostRuntime) -> Result<(), Fail> {
+    let (board, mut first) = Board::new(rt.alloc(), 2, 2)?;
+    let mut second = board.split(&mut first);
+    assert!(rt; board.claim(&mut first) == Some(0));
+    board.report(&mut first, 0);
+    assert!(rt; board.claim(&mut second) == Some(1));
+    assert!(rt; board.stops_before(&mut second, 1));
+    board.join(&mut first, second);
+    let closed = board.close(first);
+    assert!(rt; closed.next == 2 && closed.stop == 0);
+    Ok(())
+}
+
+/// Holds the first job until nine others have ended, each Closed with one node.
+#[derive(Drop)]
+struct Holding {
+    held: AtomicU64,
+    ended: AtomicU64,
+    met: AtomicU64,
+}
+
+/// How often a held job looks for the others to end, before it goes on alone.
+const TURNS: u64 = 1_000_000_000;
+
+impl Gate for Holding {
+    fn began(&self, n: u64) {
+        if n != 0 || self.held.swap(1, Ordering::SeqCst) != 0 {
+            return;
+        }
+        for _turn in 0..TURNS {
+            if self.ended.load(Ordering::SeqCst) == 9 {
+                self.met.store(1, Ordering::SeqCst);
+                return;
+            }
+        }
+    }
+
+    fn ended(&self, end: &Ended) {
+        if 1 <= end.n && end.n <= 9 && is_closed_with_one(&end.end) {
+            self.ended.fetch_add(1, Ordering::SeqCst);
+        }
+    }
+}
+
+/// While one worker is held at the first job, another ends the nine others.
+#[test]
+fn another_worker_ends_the_other_jobs(rt: HostRuntime) -> Result<(), Fail> {
+    let jobs = Even {
+        alloc: rt.alloc(),
+        count: 10,
+        nodes: 1,
+    };
+    let gate = Holding {
+        held: AtomicU64::new(0),
+        ended: AtomicU64::new(0),
+        met: AtomicU64::new(0),
+    };
+    let workers = vec![in rt.alloc(); 0, 0]?;
+    let worked = share(&rt, rt.alloc(), &jobs, 10, workers, 1_000_000, 0, &gate)?;
+    assert!(rt; worked.ends.len() == 10);
+    assert!(rt;
+        matches!(worked.workers.as_slice(), [first, second] if first.wrapping_add(*second) == 10)
+    );
+    assert!(rt; gate.met.load(Ordering::SeqCst) == 1);
+    Ok(())
+}
+
+/// One worker walks some nodes, and then three draw on.
+#[test]
+fn a_lot_that_one_worker_began(rt: HostRuntime) -> Result<(), Fail> {
+    let jobs = Even {
+        alloc: rt.alloc(),
+        count: 30,
+        nodes: 3,
+    };
+    let workers = vec![in rt.alloc(); 0, 0, 0]?;
+    let worked = share(&rt, rt.alloc(), &jobs, 30, workers, 1_000, 10, &FreeGate)?;
+    assert!(rt; worked.ends.len() == 30);
+    let alone = share(
+        &rt,
+        rt.alloc(),
+        &jobs,
+        30,
+        worked.workers,
+        1_000,
+        1_000,
+        &FreeGate,
+    )?;
+    assert!(rt; alone.ends.len() == 30 && alone.workers.len() == 3);
+    Ok(())
+}
+
+/// One worker ends two jobs within the limit, and the third is Spent.
+#[test]
+fn a_limit_ends_a_lot(rt: HostRuntime) -> Result<(), Fail> {
+    let jobs = Even {
+        alloc: rt.alloc(),
+        count: 10,
+        nodes: 4,
+    };
+    let workers = vec![in rt.alloc(); 0]?;
+    let worked = share(&rt, rt.alloc(), &jobs, 10, workers, 10, 0, &FreeGate)?;
+    assert!(rt; worked.ends.len() == 3);
+    assert!(rt; matches!(worked.ends.get(2), JobEnd::Spent { nodes: 3 }));
+    Ok(())
+}
