@@ -1,0 +1,9 @@
+mod Splits
+mod Numbers
+mod Lines
+mod Listed
+mod Askable
+mod Back
+mod Books
+mod Whole
+mod Examples

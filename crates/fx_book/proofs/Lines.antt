@@ -1,0 +1,81 @@
+-- The lines of a book, one at a time.
+use Rattle.std.proofs.Common.{◌≡◌, ℕ, ◌+◌, ◌<◌, Bool, true, false, cond, eqb, List, [], ◌∷◌, ◌++◌, length, Result, Ok, Err, refl, sym, ap, ◌∙◌, arith, append_assoc, append-nil, None}
+use Rattle.std.proofs.lemmas.Bool.{cond-true, cond-false, ne_eqb}
+use Rattle.fx_designs.specs.Problems.{Dimensions}
+use Rattle.fx_designs.specs.Nodes as nodes
+use Rattle.fx_vectors.specs.Marks.{meaning_of}
+use Rattle.fx_vectors.specs.declared.mark.Mark.{Mark}
+use Rattle.fx_book.specs.declared.fault.BookFault.{BookFault}
+use Rattle.fx_book.specs.Parts.{split, put_first}
+use Rattle.fx_book.specs.Entries.{entry_of, entry_text, entries_text}
+use Rattle.std.specs.Prelude.{codes, decimal}
+use Rattle.fx_book.specs.Writing.{spaced}
+use Rattle.fx_book.specs.Heads.{shape_of, with_line}
+use Rattle.std.specs.Str.{bytes_eq}
+use Rattle.fx_book.specs.declared.fault.FaultKind.TheVariants.{Form, Trailing}
+use Rattle.fx_book.specs.Faults.{fault}
+use Rattle.fx_book.specs.Reading.{entries, after_entry, is_nothing, onto}
+use Rattle.fx_book.proofs.Splits.{some_parts}
+
+-- a line of more than three parts is no entry
+pub too_many : (d : Dimensions) (b : Bool) (x y z : List ℕ) (parts : List (List ℕ)) → 0 < length parts → entry_of d b (x ∷ y ∷ z ∷ parts) ≡ Err Form
+too_many d b x y z [] h = absurd (omega arith)
+too_many d b x y z (part ∷ parts) h = refl
+
+-- bytes are left
+pub something : (stop b : ℕ) (bytes : List ℕ) → is_nothing (split stop (b ∷ bytes)) ≡ false
+something stop b bytes = elim (eqb b stop) as (λ c. is_nothing (cond c ([] ∷ split stop bytes) (put_first b (split stop bytes))) ≡ false) [
+  | true ↦ more (split stop bytes) (some_parts stop bytes)
+  | false ↦ own b (split stop bytes)
+]
+  where
+    more : (parts : List (List ℕ)) → 0 < length parts → is_nothing ([] ∷ parts) ≡ false
+    more [] h = absurd (omega arith)
+    more (part ∷ parts) h = refl
+
+    own : (b : ℕ) (parts : List (List ℕ)) → is_nothing (put_first b parts) ≡ false
+    own b [] = refl
+    own b (part ∷ []) = ne_eqb (length (b ∷ part)) 0 (λ e. omega (arith, e))
+    own b (part ∷ next ∷ parts) = refl
+
+pub something_left : (stop : ℕ) (bytes : List ℕ) → 0 < length bytes → is_nothing (split stop bytes) ≡ false
+something_left stop [] h = absurd (omega arith)
+something_left stop (b ∷ bytes) h = something stop b bytes
+
+module _ (d : Dimensions) (b : Bool) (n : ℕ) (line : List ℕ) where
+  step : (rest : List (List ℕ)) → 0 < length rest → entries d b n (line ∷ rest) ≡ cond (bytes_eq line (codes "END")) (cond (is_nothing rest) (Ok []) (Err (fault Trailing (n + 1)))) (after_entry n (entry_of d b (split 32 line)) (entries d b (n + 1) rest))
+  step [] h = absurd (omega arith)
+  step (next ∷ lines) h = refl
+
+  pub end_followed : (rest : List (List ℕ)) → 0 < length rest → bytes_eq line (codes "END") ≡ true → is_nothing rest ≡ false → entries d b n (line ∷ rest) ≡ Err (fault Trailing (n + 1))
+  end_followed rest h e more = step rest h ∙ cond-true (bytes_eq line (codes "END")) _ _ e ∙ cond-false (is_nothing rest) _ _ more
+
+  pub at_entry : (rest : List (List ℕ)) → 0 < length rest → bytes_eq line (codes "END") ≡ false → entries d b n (line ∷ rest) ≡ after_entry n (entry_of d b (split 32 line)) (entries d b (n + 1) rest)
+  at_entry rest h e = step rest h ∙ cond-false (bytes_eq line (codes "END")) _ _ e
+
+pub onto_after : (marks : List nodes.Mark) (n : ℕ) (mark : Mark) (read : Result (List nodes.Mark) BookFault) → onto marks (after_entry n (Ok mark) read) ≡ onto (marks ++ meaning_of mark ∷ []) read
+onto_after marks n mark (Ok more) = ap Ok (sym (append_assoc marks (meaning_of mark ∷ []) more))
+onto_after marks n mark (Err stop) = refl
+
+-- one entry more
+pub text_more : (marks : List nodes.Mark) (mark : nodes.Mark) → entries_text (marks ++ mark ∷ []) ≡ entries_text marks ++ entry_text mark
+text_more [] mark = append-nil (entry_text mark)
+text_more (m ∷ marks) mark = ap (λ l. entry_text m ++ l) (text_more marks mark) ∙ sym (append_assoc (entry_text m) (entries_text marks) (entry_text mark))
+
+pub no_shape : (x y z v w : List ℕ) (parts : List (List ℕ)) → 0 < length parts → shape_of (x ∷ y ∷ z ∷ v ∷ w ∷ parts) ≡ None
+no_shape x y z v w [] h = absurd (omega arith)
+no_shape x y z v w (part ∷ parts) h = refl
+
+-- a line that is ended has lines after it
+pub line_more : {T : Type 0} (none : T) (make : List ℕ → List (List ℕ) → T) (line : List ℕ) (rest : List (List ℕ)) → 0 < length rest → with_line none make (line ∷ rest) ≡ make line rest
+line_more none make line [] h = absurd (omega arith)
+line_more none make line (next ∷ lines) h = refl
+
+pub spaced-more : (ns : List ℕ) (n : ℕ) → spaced (ns ++ n ∷ []) ≡ spaced ns ++ spaced (n ∷ [])
+spaced-more [] n = refl
+spaced-more (m ∷ ns) n = ap (λ l. codes " " ++ (decimal m ++ l)) (spaced-more ns n) ∙ ap (λ l. codes " " ++ l) (sym (append_assoc (decimal m) (spaced ns) (spaced (n ∷ [])))) ∙ sym (append_assoc (codes " ") (decimal m ++ spaced ns) (spaced (n ∷ [])))
+
+pub joined : (o t s d b e f : List ℕ) → (((((o ++ t) ++ s) ++ d) ++ b) ++ e) ++ f ≡ o ++ (t ++ (s ++ (d ++ (b ++ (e ++ f)))))
+joined o t s d b e f =
+    append_assoc ((((o ++ t) ++ s) ++ d) ++ b) e f ∙ append_assoc (((o ++ t) ++ s) ++ d) b (e ++ f) ∙ append_assoc ((o ++ t) ++ s) d (b ++ (e ++ f))
+    ∙ append_assoc (o ++ t) s (d ++ (b ++ (e ++ f))) ∙ append_assoc o t (s ++ (d ++ (b ++ (e ++ f))))

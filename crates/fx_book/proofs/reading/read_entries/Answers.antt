@@ -1,0 +1,66 @@
+use Rattle.std.proofs.Common.{◌≡◌, ℕ, ◌+◌, ◌-◌, ◌∙◌, ◌∷◌, [], List, ap, sym, take, drop, arith, Bool, Ok, Err, length-drop}
+use Rattle.fx_designs.specs.Problems.{Dimensions}
+use Rattle.std.proofs.Common.{length-append}
+use Rattle.std.proofs.lemmas.List.Elements.{All-push}
+use Rattle.fx_vectors.specs.Marks.{meaning_of}
+use Rattle.fx_book.specs.Valid.{IsEntry}
+use Rattle.fx_vectors.specs.Shape.{dimensions_of}
+use Rattle.fx_book.specs.Parts.{split}
+use Rattle.fx_book.specs.Entries.{entry_of}
+use Rattle.fx_book.specs.Reading.{entries, onto, after_entry}
+use Rattle.fx_book.proofs.Splits.{some_parts}
+use Rattle.fx_book.proofs.Lines.{end_followed, at_entry, onto_after, something_left}
+use Rattle.fx_book.proofs.reading.read_entries.Goals as goal
+
+pub returns-then-at-bytes-clause-read : goal.returns-then-at-bytes-clause-read
+returns-then-at-bytes-clause-read c =
+    let d : Dimensions = dimensions_of c.args.shape in
+    let b : Bool = c.args.beaten in
+    let bytes : List ℕ = c.args.bytes.now in
+    let after : List ℕ = drop (c.next_stop-end.result + 1) bytes in
+    let line : List ℕ = take (c.next_stop-end.result - c.loop-at.at) (drop c.loop-at.at bytes) in
+    let cut = c.next_stop-end.ensures.more (omega (arith, c.next_stop-end.ensures.within, c.if-end-bytes.false)) in
+    rw c.stop-then-at-bytes.ensures
+    (c.loop-at.invariant.so_far
+    ∙ ap (onto c.loop-at.marks) (ap (entries d b c.loop-at.line) cut
+    ∙ end_followed d b c.loop-at.line line (split 10 after) (some_parts 10 after) (sym c.is_word.ensures ∙ c.if-is_word.true) (something_left 10 after (omega (arith, length-drop (c.next_stop-end.result + 1) bytes)))))
+
+pub returns-in-Err-clause-read : goal.returns-in-Err-clause-read
+returns-in-Err-clause-read c =
+    let d : Dimensions = dimensions_of c.args.shape in
+    let b : Bool = c.args.beaten in
+    let bytes : List ℕ = c.args.bytes.now in
+    let after : List ℕ = drop (c.next_stop-end.result + 1) bytes in
+    let line : List ℕ = take (c.next_stop-end.result - c.loop-at.at) (drop c.loop-at.at bytes) in
+    let cut = c.next_stop-end.ensures.more (omega (arith, c.next_stop-end.ensures.within, c.if-end-bytes.false)) in
+    let is : entry_of d b (split 32 line) ≡ Err c.in-Err.kind = sym c.entry.ensures.entry ∙ c.in-Err.is in
+    rw c.stop-in-Err.ensures
+    (c.loop-at.invariant.so_far
+    ∙ ap (onto c.loop-at.marks) (ap (entries d b c.loop-at.line) cut
+    ∙ at_entry d b c.loop-at.line line (split 10 after) (some_parts 10 after) (sym c.is_word.ensures ∙ c.if-is_word.false)
+    ∙ ap (λ r. after_entry c.loop-at.line r (entries d b (c.loop-at.line + 1) (split 10 after))) is))
+
+pub loop-at-preserved : goal.loop-at-preserved
+loop-at-preserved c =
+    let d : Dimensions = dimensions_of c.args.shape in
+    let b : Bool = c.args.beaten in
+    let bytes : List ℕ = c.args.bytes.now in
+    let after : List ℕ = drop (c.next_stop-end.result + 1) bytes in
+    let line : List ℕ = take (c.next_stop-end.result - c.loop-at.at) (drop c.loop-at.at bytes) in
+    let within = c.next_stop-end.ensures.within in
+    let from = c.next_stop-end.ensures.from in
+    let cut = c.next_stop-end.ensures.more (omega (arith, within, c.if-end-bytes.false)) in
+    let is : entry_of d b (split 32 line) ≡ Ok c.in-Ok.mark = sym c.entry.ensures.entry ∙ c.in-Ok.is in
+    record {
+      within = omega (arith, within, c.if-end-bytes.false);
+      few = rw c.in_ok-push-in-Ok.ensures.ok (omega (arith, c.loop-at.invariant.few, from, length-append c.loop-at.marks (meaning_of c.in-Ok.mark ∷ [])));
+      valid = rw c.in_ok-push-in-Ok.ensures.ok (All-push (IsEntry d b) c.loop-at.marks (meaning_of c.in-Ok.mark) c.loop-at.invariant.valid c.in-Ok.ensures.valid);
+      line = omega (arith, from, c.loop-at.invariant.line);
+      so_far =
+          c.loop-at.invariant.so_far
+          ∙ ap (onto c.loop-at.marks) (ap (entries d b c.loop-at.line) cut
+          ∙ at_entry d b c.loop-at.line line (split 10 after) (some_parts 10 after) (sym c.is_word.ensures ∙ c.if-is_word.false)
+          ∙ ap (λ r. after_entry c.loop-at.line r (entries d b (c.loop-at.line + 1) (split 10 after))) is)
+          ∙ onto_after c.loop-at.marks c.loop-at.line c.in-Ok.mark (entries d b (c.loop-at.line + 1) (split 10 after))
+          ∙ ap (λ ms. onto ms (entries d b (c.loop-at.line + 1) (split 10 after))) (sym c.in_ok-push-in-Ok.ensures.ok);
+    }

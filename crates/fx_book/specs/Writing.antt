@@ -1,0 +1,28 @@
+-- The text of a book.
+use Rattle.std.specs.Prelude.{ℕ, List, [], ◌∷◌, ◌++◌, codes, decimal, Option, Some, None}
+use Rattle.fx_vectors.specs.Effects.{numbers_of}
+use Rattle.fx_vectors.specs.declared.shape.Shape.{Shape}
+use Rattle.fx_vectors.specs.declared.question.Demands.{Demands}
+use Rattle.fx_vectors.specs.declared.question.Demands.TheVariants.{Resolution, Effects}
+use Rattle.fx_vectors.specs.declared.book.Book.{Book}
+use Rattle.fx_book.specs.Entries.{entries_text}
+
+-- numbers, a blank before each
+abbrev pub spaced : List ℕ → List ℕ
+spaced [] = []
+spaced (n ∷ numbers) = codes " " ++ (decimal n ++ spaced numbers)
+
+abbrev pub shape_text : Shape → List ℕ
+shape_text shape = codes "size" ++ (spaced (shape.q ∷ shape.m ∷ shape.s ∷ shape.t ∷ []) ++ codes "\n")
+
+abbrev pub demands_text : Demands → List ℕ
+demands_text (Resolution r) = codes "resolution" ++ (spaced (r ∷ []) ++ codes "\n")
+demands_text (Effects estimate nonnegligible) = codes "effects" ++ (spaced (numbers_of estimate) ++ (codes " /" ++ (spaced (numbers_of nonnegligible) ++ codes "\n")))
+
+abbrev pub beat_text : Option (List ℕ) → List ℕ
+beat_text None = codes "pattern none\n"
+beat_text (Some pattern) = codes "pattern" ++ (spaced pattern ++ codes "\n")
+
+abbrev pub book_text : Book → List ℕ
+book_text book =
+    codes "factex-book 1\n" ++ (shape_text book.head.question.shape ++ (demands_text book.head.question.demands ++ (beat_text book.head.beat ++ (entries_text book.marks ++ codes "END\n"))))

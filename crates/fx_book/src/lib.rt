@@ -1,0 +1,20 @@
+//! Books as texts: what is written, and what is read back, or the first fault of a text.
+#![tactic(auto)]
+
+mod beat;
+mod book;
+mod demands;
+mod entry;
+mod fault;
+mod head;
+mod laws;
+mod part;
+mod reading;
+#[cfg(test)]
+mod tests;
+mod writing;
+
+pub use book::read_book;
+pub use fault::{BookFault, BookStop, FaultKind};
+pub use laws::{books_come_back, entries_come_back};
+pub use writing::write_book;
