@@ -10,6 +10,9 @@ const HALF: &str = "proc factex;\nfactors A B C D;\nsize design=8;\nmodel resolu
 const HALF_LISTING: &str =
     "step 1\nfactors 4 levels 2\ndesign 8 runs\nresolution 4\nnodes 4\nrules\n  D = A*B*C\n";
 
+const MADE: &str =
+    "proc factex nodes=20000;\nfactors X1-X6 / nlev=2;\nsize design=32;\nmodel resolution=max;\nrun;\n";
+
 const PLANNED: &str =
     "proc factex; factors A B C; size design=4; model resolution=3; output out=Factex_Test C cvals=('lo,w' 'hi');";
 
@@ -38,6 +41,28 @@ fn runs_from_a_slice_to_a_vector(rt: HostRuntime) -> Result<(), Fail> {
     );
     assert_eq!(rt; ran.status, 0);
     assert!(rt; ran.output.writer.as_slice() == HALF_LISTING.as_bytes());
+    Ok(())
+}
+
+/// The words after the command reach it, and the reader, which has no text of a program, is left unread.
+#[test]
+fn makes_a_text(rt: HostRuntime) -> Result<(), Fail> {
+    let alloc = rt.alloc();
+    let mut args = Vec::new(alloc);
+    for word in ["factex", "make", "1"] {
+        args.push(String::from_str(alloc, word)?)?;
+    }
+    let mut shelf = SureShelf::new(alloc, 1, 0)?;
+    let ran = start(
+        alloc,
+        Ok(args.into_iter()),
+        b"no program".as_slice(),
+        Vec::new(alloc),
+        &mut shelf,
+    );
+    assert_eq!(rt; ran.status, 0);
+    assert!(rt; ran.output.writer.as_slice() == MADE.as_bytes());
+    assert!(rt; ran.input.reader == b"no program".as_slice());
     Ok(())
 }
 

@@ -27,10 +27,13 @@ use Rattle.fx_statements.specs.Programs.{program_of}
 use Rattle.fx_statements.specs.Questions.{conclusion_of}
 use Rattle.fx_alias.specs.Sections.{step_lines}
 use Rattle.fx_program.specs.Words.{settings_of, word_fault}
-use Rattle.fx_program.specs.declared.words.Settings.TheVariants.{Run}
+use Rattle.fx_program.specs.declared.words.Settings.TheVariants.{Run, Make, Large}
 use Rattle.fx_program.specs.Refusals.{fault_line}
 use Rattle.fx_program.specs.Texts.{program_in, at_front}
 use Rattle.fx_program.specs.declared.text.TextFault.TheVariants.{Refused}
+use Rattle.fx_designs.specs.Outcomes.{Design, NoDesign, BudgetEnded}
+use Rattle.fx_program.specs.Making.{made_text, step_text}
+use Rattle.fx_program.specs.Summaries.{summary_lines}
 use Rattle.fx_program.specs.Output.{Output, message, output_of, Gives, GivesForSome, world}
 
 -- what is given for the word `run` and a text
@@ -224,6 +227,36 @@ seeds :
     × (settings_of (codes "run" ∷ codes "--seed=1" ∷ codes "--threads=2" ∷ []) ≡ word_fault 3 3)
 unfolding settings_of
 seeds = (refl, refl, refl, refl, refl, refl, refl, refl, refl, refl)
+
+-- the number of steps of `make` and `large`: one word, of at most 20 digits, from 1 to 100
+numbers_of_steps :
+    (settings_of (codes "make" ∷ codes "1" ∷ []) ≡ Ok (Make 1))
+    × (settings_of (codes "make" ∷ codes "00000000000000000100" ∷ []) ≡ Ok (Make 100))
+    × (settings_of (codes "large" ∷ codes "40" ∷ []) ≡ Ok (Large 40 1))
+    × (settings_of (codes "make" ∷ []) ≡ word_fault 6 2)
+    × (settings_of (codes "large" ∷ []) ≡ word_fault 6 2)
+    × (settings_of (codes "make" ∷ codes "0" ∷ codes "1" ∷ []) ≡ word_fault 4 2)
+    × (settings_of (codes "large" ∷ codes "101" ∷ []) ≡ word_fault 4 2)
+    × (settings_of (codes "make" ∷ codes "--threads=2" ∷ []) ≡ word_fault 4 2)
+    × (settings_of (codes "make" ∷ codes "000000000000000000001" ∷ []) ≡ word_fault 4 2)
+    × (settings_of (codes "make" ∷ codes "1" ∷ codes "1" ∷ []) ≡ word_fault 3 3)
+    × (settings_of (codes "large" ∷ codes "1" ∷ codes "--threads=2" ∷ []) ≡ word_fault 3 3)
+unfolding settings_of
+numbers_of_steps = (refl, refl, refl, refl, refl, refl, refl, refl, refl, refl, refl)
+
+-- the text of two steps; a step of three levels that asks for least aberration
+made_steps :
+    (output_of (codes "make" ∷ codes "2" ∷ []) (codes "proc") ≡ message (codes "proc factex nodes=20000;\nfactors X1-X6 / nlev=2;\nsize design=32;\nmodel resolution=max;\nrun;\nproc factex nodes=20000;\nfactors X1-X7 / nlev=2;\nsize design=16;\nmodel resolution=max;\nrun;\n") 0)
+    × (step_text 12 ≡ codes "proc factex nodes=20000;\nfactors X1-X5 / nlev=3;\nsize design=27;\nmodel resolution=max / minabs;\nrun;\n")
+unfolding digits settings_of made_text
+made_steps = (refl, refl)
+
+-- a summary of outcomes of each kind
+summed_up :
+    summary_lines (NoDesign 7 ∷ Design (4 ∷ []) 55 ∷ BudgetEnded None 20000 ∷ BudgetEnded (Some (4 ∷ [])) 20000 ∷ Design [] 1 ∷ Design [] 0 ∷ [])
+    ≡ codes "steps 6\ndesigns 3\nnone 1\nended 2\nnodes 40063\n"
+unfolding digits
+summed_up = refl
 
 -- the messages of texts that are too long to be written here
 long_texts :

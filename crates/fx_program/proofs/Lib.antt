@@ -12,3 +12,5 @@ mod First
 mod AnyText
 mod Statuses
 mod Messages
+mod Summing
+pub mod Made

@@ -5,6 +5,9 @@ pub mod Texts
 pub mod Stops
 pub mod Statuses
 pub mod Files
+pub mod Making
+pub mod Summaries
 pub mod Output
+pub mod Summed
 pub mod StepClaims
 pub mod Claims

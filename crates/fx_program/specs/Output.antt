@@ -1,5 +1,5 @@
 -- What the program gives, for its words and its text: pieces of listing and files, and a status.
-use Rattle.std.specs.Prelude.{ℕ, ◌≡◌, ◌+◌, ◌<◌, nat_le, if◌then◌else◌, List, [], ◌∷◌, ◌++◌, Option, Some, Result, Ok, Err, Bool, true, false}
+use Rattle.std.specs.Prelude.{ℕ, ◌≡◌, ◌+◌, ◌<◌, nat_le, if◌then◌else◌, List, [], ◌∷◌, ◌++◌, map, Option, Some, None, Result, Ok, Err, Bool, true, false}
 use Rattle.fx_base.specs.Acts.{Event, Piece, acts, World, File, Did, DidPart}
 use Rattle.fx_designs.specs.Problems.{Dimensions}
 use Rattle.fx_designs.specs.Outcomes.{Ending}
@@ -10,9 +10,11 @@ use Rattle.fx_program.specs.Words.{settings_of, word_line}
 use Rattle.fx_program.specs.Refusals.{fault_line}
 use Rattle.fx_program.specs.Texts.{program_in}
 use Rattle.fx_program.specs.Statuses.{status_of}
+use Rattle.fx_program.specs.Making.{made_text}
+use Rattle.fx_program.specs.Summaries.{summary_lines}
 use Rattle.fx_program.specs.Files.{matrix_in, output_lines, plan_files}
 use Rattle.fx_program.specs.declared.words.Settings.{Settings}
-use Rattle.fx_program.specs.declared.words.Settings.TheVariants.{Run}
+use Rattle.fx_program.specs.declared.words.Settings.TheVariants.{Run, Make, Large}
 use Rattle.fx_program.specs.declared.words.WordFault.{WordFault}
 use Rattle.fx_program.specs.declared.text.TextFault.{TextFault}
 
@@ -61,10 +63,21 @@ abbrev pub program_output : ℕ → Result (List Meaning) TextFault → Output
 program_output seed (Ok steps) = steps_output seed 1 [] 0 steps
 program_output seed (Err fault) = message (fault_line fault) 3
 
+-- how the steps of a program end
+abbrev pub endings_of : List Meaning → List Ending
+endings_of steps = map (λ (step : Meaning). (outcome_of step).ending) steps
+
+-- what is given for `large` and its program: the summary, and the status of a run with the seed 0
+abbrev pub large_output : Result (List Meaning) TextFault → Output
+large_output (Ok steps) = message (summary_lines (endings_of steps)) (program_output 0 (Ok steps)).status
+large_output (Err fault) = program_output 0 (Err fault)
+
 -- what settings give for a text
 abbrev pub output_for : Result Settings WordFault → List ℕ → Output
 output_for (Err fault) text = message (word_line fault) 3
 output_for (Ok (Run threads seed)) text = program_output seed (program_in text)
+output_for (Ok (Make n)) text = message (made_text n) 0
+output_for (Ok (Large n threads)) text = large_output (program_in (made_text n))
 
 -- the output of words and a text
 abbrev pub output_of : List (List ℕ) → List ℕ → Output
@@ -74,6 +87,15 @@ output_of words text = output_for (settings_of words) text
 abbrev pub reads : Result Settings WordFault → Bool
 reads (Err fault) = false
 reads (Ok (Run threads seed)) = true
+reads (Ok (Make n)) = false
+reads (Ok (Large n threads)) = false
+
+-- the text of the program that is run: that of the source, where it exposes it, and with `large` that of `make`
+abbrev pub text_run : Result Settings WordFault → Option (List ℕ) → Option (List ℕ)
+text_run (Err fault) left = None
+text_run (Ok (Run threads seed)) left = left
+text_run (Ok (Make n)) left = None
+text_run (Ok (Large n threads)) left = Some (made_text n)
 
 -- what stands outside: the listing and the files
 abbrev pub world : Option (List ℕ) → Option (List File) → World

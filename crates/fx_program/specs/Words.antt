@@ -5,7 +5,7 @@ use Rattle.std.specs.Str.{bytes_eq}
 use Rattle.std.specs.Str.Parse.{digits_value}
 use Rattle.fx_lexer.specs.Bytes.{is_digit}
 use Rattle.fx_program.specs.declared.words.Settings.{Settings}
-use Rattle.fx_program.specs.declared.words.Settings.TheVariants.{Run}
+use Rattle.fx_program.specs.declared.words.Settings.TheVariants.{Run, Make, Large}
 use Rattle.fx_program.specs.declared.words.WordFault.{WordFault}
 
 -- the bytes of each word
@@ -54,12 +54,45 @@ abbrev pub run_with : List (List ℕ) → Result Settings WordFault
 run_with [] = Ok (Run 1 0)
 run_with (option ∷ options) = seeded options (seed_at 2 (after (codes "--seed=") option))
 
+-- the number of steps that these digits write: 1 to 100
+abbrev pub steps_of : List ℕ → Option ℕ
+steps_of digits = if is_number digits && (nat_le 1 (digits_value 10 digits) && nat_le (digits_value 10 digits) 100) then Some (digits_value 10 digits) else None
+
+-- the number of steps of the word at this place
+abbrev pub steps_at : ℕ → List ℕ → Result ℕ WordFault
+steps_at place word = value_at place (steps_of word)
+
+-- a number that no word follows
+abbrev pub alone : List (List ℕ) → Result ℕ WordFault → Result ℕ WordFault
+alone others (Err fault) = Err fault
+alone [] (Ok n) = Ok n
+alone (other ∷ others) (Ok n) = word_fault 3 3
+
+-- the number of steps that is the one word after the command
+abbrev pub steps_in : List (List ℕ) → Result ℕ WordFault
+steps_in [] = word_fault 6 2
+steps_in (word ∷ others) = alone others (steps_at 2 word)
+
+-- the settings of `make` and of `large` by this number
+abbrev pub make_with : Result ℕ WordFault → Result Settings WordFault
+make_with (Err fault) = Err fault
+make_with (Ok n) = Ok (Make n)
+
+abbrev pub large_with : Result ℕ WordFault → Result Settings WordFault
+large_with (Err fault) = Err fault
+large_with (Ok n) = Ok (Large n 1)
+
 -- the settings of a command with these options
 abbrev pub command_with : List ℕ → List (List ℕ) → Result Settings WordFault
-command_with word options = if bytes_eq word (codes "run") then run_with options else word_fault 2 1
+command_with word options =
+    (if bytes_eq word (codes "run")
+    then run_with options
+    else (if bytes_eq word (codes "make")
+    then make_with (steps_in options)
+    else (if bytes_eq word (codes "large") then large_with (steps_in options) else word_fault 2 1)))
 
--- 1: there is no word. 2: the first word is no command. 3: a word is no option of the command. 4: its number is not one, or too
--- large. 5: the option is repeated.
+-- 1: there is no word. 2: the first word is no command. 3: a word is no option of the command. 4: a number is none of 1 to 20 digits,
+-- or is not in its range. 5: the option is repeated. 6: the number of `make` or `large` is missing.
 unfoldable pub settings_of : List (List ℕ) → Result Settings WordFault
 settings_of [] = word_fault 1 1
 settings_of (word ∷ options) = command_with word options

@@ -3,10 +3,13 @@
 
 mod files;
 mod laws;
+mod making;
 mod output_lines;
 mod refusal;
 mod run;
+mod status;
 mod stop;
+mod summary;
 #[cfg(test)]
 mod tests;
 mod text;
@@ -19,6 +22,7 @@ pub use laws::{
     most_blocks_in_any_text, no_design_in_any_text, no_design_means_none_at_all,
     valid_steps_in_any_text,
 };
+pub use making::make_text;
 pub use run::factex;
 pub use stop::NO_MEMORY;
 pub use text::{TextFault, TextStop, read_program};

@@ -1,29 +1,42 @@
-ghost use Rattle.std.specs.Prelude.{◌≡◌, ◌<◌, ◌≤◌, ◌⊎◌, [], ◌∷◌, ℕ, List, Option, Some, false, Ok, Err, map, length, ◌++◌, IfOk, OnOk};
-ghost use Rattle.fx_vectors.specs.Matrix.{MatrixView};
+ghost use Rattle.std.specs.Prelude.{◌≡◌, ◌<◌, ◌≤◌, ◌⊎◌, [], ◌∷◌, ℕ, List, Option, Some, false, Ok, Err, map, length, ◌++◌, IfOk, OnOk, IsErr, true};
 ghost use Rattle.fx_vectors.specs.Shape.{dimensions_of};
 ghost use Rattle.fx_statements.specs.Steps.{meaning_of};
-ghost use Rattle.fx_statements.specs.Endings.{ending_by};
 ghost use Rattle.fx_statements.specs.Outcomes.{ending_in};
 ghost use Rattle.fx_alias.specs.Sections.{step_lines};
 ghost use Rattle.fx_answer.specs.Outcomes.{IsOutcome};
 ghost use Rattle.fx_program.specs.Words.{bytes_of, settings_of};
+ghost use Rattle.fx_program.specs.Making.{made_text};
 ghost use Rattle.fx_program.specs.Texts.{program_in};
-ghost use Rattle.fx_program.specs.Statuses.{status_of};
 ghost use Rattle.fx_program.specs.Claims.{SomeHasNone};
 ghost use Rattle.fx_program.specs.Stops.{HasCause, HasStatusCause, exit_status};
 ghost use Rattle.fx_program.specs.declared.stop.Stop.TheVariants as stop;
-ghost use Rattle.fx_program.specs.Output.{message, step_output, program_output, reads, worse, world, Gives, Lists, GivesForSome, RunsForSome};
+ghost use Rattle.fx_program.specs.Output.{
+  Gives,
+  GivesForSome,
+  Lists,
+  RunsForSome,
+  large_output,
+  message,
+  program_output,
+  reads,
+  step_output,
+  text_run,
+  world,
+};
 
 use crate::files::shelve_plans;
+use crate::making::make_text;
 use crate::output_lines::put_output_lines;
 use crate::refusal::put_fault;
+use crate::status::{status_of, worse};
 use crate::stop::{REFUSED, Stop, exit_status};
+use crate::summary::{put_summary, summary_of};
 use crate::text::{TextFault, TextStop, at_front, read_program};
 use crate::words::{Settings, read_words, word_line};
 use fx_alias::{examine_listing, head_listing, rules_listing};
 use fx_answer::answer;
 use fx_base::{Bytes, NoMemory, Shelf, Sink, Source, Taken, read_all, write_all};
-use fx_statements::{End, Outcome, Step};
+use fx_statements::{Outcome, Step};
 use fx_vectors::Matrix;
 use std::alloc::Global;
 
@@ -66,19 +79,22 @@ pub fn factex<S: Source, K: Sink, F: Shelf>(
         × (F.room shelf.new ≡ F.room shelf.old) }
     ensures closed { result < 4 → F.begun shelf.new ≡ false }
 
-    // Refused words leave the source unread, and never lead to the status for want of memory.
+    // `make`, `large` and refused words leave the source unread, and refused words never lead to the
+    // status for want of memory.
     ensures unread { reads (settings_of (bytes_of words.now)) ≡ false
         → source.new ≡ source.old }
-    ensures refused { reads (settings_of (bytes_of words.now)) ≡ false
+    ensures refused { IsErr (settings_of (bytes_of words.now))
         → (result ≡ 3) ⊎ (result ≡ 4) }
 
-    // Status 1 comes only where the runs of no rule matrix at all meet what some step of the text asks.
+    // Status 1 comes only where the runs of no rule matrix at all meet what some step of the text that is
+    // run asks.
     ensures none_at_all { result ≡ 1 → (text : List ℕ)
-        → S.left source.old ≡ Some text
+        → text_run (settings_of (bytes_of words.now)) (S.left source.old) ≡ Some text
         → SomeHasNone (program_in text) }
 
-    // The statuses of steps come only with the source read to its end.
-    ensures read_to_end { result < 3 → (text : List ℕ)
+    // Where the source is read, the statuses of steps come only with it read to its end.
+    ensures read_to_end { result < 3 → reads (settings_of (bytes_of words.now)) ≡ true
+        → (text : List ℕ)
         → S.left source.old ≡ Some text
         → S.left source.new ≡ Some [] }
 {
@@ -88,6 +104,11 @@ pub fn factex<S: Source, K: Sink, F: Shelf>(
                 threads: _threads,
                 seed,
             } => exit_status(run(alloc, seed, source, listing, shelf)),
+            Settings::Make { n } => exit_status(make(alloc, n, listing)),
+            Settings::Large {
+                n,
+                threads: _threads,
+            } => exit_status(large(alloc, n, listing)),
         },
         Err(fault) => exit_status(list(listing, word_line(fault).as_slice(), REFUSED)),
     }
@@ -158,13 +179,6 @@ fn run_steps<K: Sink, F: Shelf>(
     Ok(status)
 }
 
-/// The greater of two statuses.
-fn worse(a: u8, b: u8) -> u8
-    ensures { result ≡ worse a b }
-{
-    if a <= b { b } else { a }
-}
-
 /// Runs the step of this number: shelves its plans, and then lists its outcome.
 fn run_step<K: Sink, F: Shelf>(
     alloc: Global,
@@ -192,19 +206,6 @@ fn run_step<K: Sink, F: Shelf>(
     list(listing, lines.as_slice(), status_of(outcome.end))
 }
 
-/// 0 for a design, 1 for none, 2 where the budget ended.
-fn status_of(end: End) -> u8
-    ensures status { (matrix : Option MatrixView) (count : ℕ)
-        → result ≡ status_of (ending_by end matrix count) }
-    ensures low { result < 4 }
-{
-    match end {
-        End::Design => 0,
-        End::NoDesign => 1,
-        End::Budget => 2,
-    }
-}
-
 /// The lines of the step of this number, by its outcome, but for those of its files.
 fn lines_of(alloc: Global, number: usize, step: &Step, outcome: &Outcome) -> Result<Bytes, NoMemory>
     requires { IsOutcome (meaning_of step.now) outcome.now }
@@ -223,6 +224,51 @@ fn lines_of(alloc: Global, number: usize, step: &Step, outcome: &Outcome) -> Res
         }
         None => Ok(lines),
     }
+}
+
+/// The command `make`, for a text of so many steps.
+fn make<K: Sink>(alloc: Global, n: u8, listing: &mut K) -> Result<u8, Stop>
+    ensures made { (result ≡ Ok 0) ⊎ ((result ≡ Err stop.Failed) ⊎ (result ≡ Err stop.NoMemory)) }
+    ensures output { Lists (message (made_text n) 0)
+        (K.written listing.old) (K.written listing.new) (exit_status result) }
+    ensures cause { HasCause (K.faults listing.old ∷ []) (K.faults listing.new ∷ []) result }
+    ensures room { K.room listing.new ≡ K.room listing.old }
+{
+    let mut text = Bytes::new(alloc);
+    make_text(n, &mut text)?;
+    list(listing, text.as_slice(), 0)
+}
+
+/// The command `large`, for a text of so many steps: answers them in order, and lists their summary.
+fn large<K: Sink>(alloc: Global, n: u8, listing: &mut K) -> Result<u8, Stop>
+    ensures status_range { IfOk result (λ status. status < 4) }
+    ensures output { Lists (large_output (program_in (made_text n)))
+        (K.written listing.old) (K.written listing.new) (exit_status result) }
+    ensures cause { HasCause (K.faults listing.old ∷ []) (K.faults listing.new ∷ []) result }
+    ensures room { K.room listing.new ≡ K.room listing.old }
+    ensures none_at_all { exit_status result ≡ 1 → SomeHasNone (program_in (made_text n)) }
+{
+    let mut text = Bytes::new(alloc);
+    make_text(n, &mut text)?;
+    match read_program(alloc, text.as_slice()) {
+        Ok(program) => sum_up(alloc, program.as_slice(), listing),
+        Err(TextStop::Fault(fault)) => refuse(alloc, fault, listing),
+        Err(TextStop::NoMemory) => Err(Stop::NoMemory),
+    }
+}
+
+/// Lists the summary of the steps of a program.
+fn sum_up<K: Sink>(alloc: Global, steps: &[Step], listing: &mut K) -> Result<u8, Stop>
+    ensures status_range { IfOk result (λ status. status < 4) }
+    ensures output { Lists (large_output (Ok (map meaning_of steps.now)))
+        (K.written listing.old) (K.written listing.new) (exit_status result) }
+    ensures cause { HasCause (K.faults listing.old ∷ []) (K.faults listing.new ∷ []) result }
+    ensures room { K.room listing.new ≡ K.room listing.old }
+{
+    let summary = summary_of(alloc, steps)?;
+    let mut lines = Bytes::new(alloc);
+    put_summary(&mut lines, steps.len(), &summary)?;
+    list(listing, lines.as_slice(), summary.status)
 }
 
 /// Lists where the text is refused, and why.

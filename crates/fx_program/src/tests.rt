@@ -8,11 +8,21 @@ use std::test::Fail;
 /// How many bytes a source or a sink moves at a call.
 const STEP: usize = 7;
 
+/// How many bytes a listing may have.
+const ROOM: usize = 2000;
+
+/// The words of a command line, between blanks.
+fn words_in(alloc: Global, line: &str) -> Result<Vec<Vec<u8>>, Fail> {
+    let mut words = Vec::new(alloc);
+    for word in line.split_whitespace() {
+        words.push(word.as_bytes().to_vec(alloc)?)?;
+    }
+    Ok(words)
+}
+
 /// The words `run`.
 fn run_words(alloc: Global) -> Result<Vec<Vec<u8>>, Fail> {
-    let mut words = Vec::new(alloc);
-    words.push(b"run".to_vec(alloc)?)?;
-    Ok(words)
+    words_in(alloc, "run")
 }
 
 /// What a call of `factex` came to.
@@ -46,7 +56,7 @@ fn ran(
 ) -> Result<Ended, Fail> {
     let content = Bytes::from_vec(text.to_vec(alloc)?);
     let mut source = MemorySource::new(content, STEP, calls_from(alloc, first_failed_read)?);
-    let mut listing = MemorySink::new(alloc, STEP, 1000, calls_from(alloc, first_failed_write)?)?;
+    let mut listing = MemorySink::new(alloc, STEP, ROOM, calls_from(alloc, first_failed_write)?)?;
     let mut shelf = SureShelf::new(alloc, 1, 0)?;
     let status = factex(alloc, words, &mut source, &mut listing, &mut shelf);
     Ok(Ended {
@@ -503,34 +513,172 @@ fn the_seed_of_the_words_shuffles(rt: HostRuntime) -> Result<(), Fail> {
     Ok(())
 }
 
+/// Command lines that are refused, each with the message.
+const REFUSED_WORDS: [(&str, &str); 19] = [
+    ("", "C1 word 1"),
+    ("x y", "C2 word 1"),
+    ("RUN", "C2 word 1"),
+    ("Make 1", "C2 word 1"),
+    ("run x", "C3 word 2"),
+    ("run --seed=1 --seed=2", "C5 word 3"),
+    ("run --seed=18446744073709551616", "C4 word 2"),
+    ("make", "C6 word 2"),
+    ("make 0", "C4 word 2"),
+    ("make 101", "C4 word 2"),
+    ("make 256", "C4 word 2"),
+    ("make x y", "C4 word 2"),
+    ("make --seed=1", "C4 word 2"),
+    ("make 000000000000000000001", "C4 word 2"),
+    ("make 1 2", "C3 word 3"),
+    ("large", "C6 word 2"),
+    ("large 0", "C4 word 2"),
+    ("large 101", "C4 word 2"),
+    ("large 1 --seed=1", "C3 word 3"),
+];
+
 #[test]
-fn words_other_than_run_are_refused(rt: HostRuntime) -> Result<(), Fail> {
+fn refused_words_are_told(rt: HostRuntime) -> Result<(), Fail> {
     let alloc = rt.alloc();
-    let none = Vec::new(alloc);
-    let mut two = run_words(alloc)?;
-    two.push(b"x".to_vec(alloc)?)?;
-    let mut capitals = Vec::new(alloc);
-    capitals.push(b"RUN".to_vec(alloc)?)?;
-    let mut again = run_words(alloc)?;
-    again.push(b"--seed=1".to_vec(alloc)?)?;
-    again.push(b"--seed=2".to_vec(alloc)?)?;
-    let mut large = run_words(alloc)?;
-    large.push(b"--seed=18446744073709551616".to_vec(alloc)?)?;
-    let mut other = Vec::new(alloc);
-    other.push(b"x".to_vec(alloc)?)?;
-    other.push(b"y".to_vec(alloc)?)?;
-    for (words, message) in [
-        (none, "C1 word 1"),
-        (other, "C2 word 1"),
-        (two, "C3 word 2"),
-        (capitals, "C2 word 1"),
-        (again, "C5 word 3"),
-        (large, "C4 word 2"),
-    ] {
+    for (line, message) in REFUSED_WORDS {
+        let words = words_in(alloc, line)?;
         let ended = ran(alloc, words.as_slice(), HALF.as_bytes(), Some(1), None)?;
-        assert_eq!(rt; ended.status, 3);
-        assert_eq!(rt; ended.failed_reads, 0);
-        assert!(rt; is_message(ended.listed.as_slice(), message.as_bytes()));
+        assert_eq!(rt; ended.status, 3, "{line}");
+        assert_eq!(rt; ended.failed_reads, 0, "{line}");
+        assert!(rt;
+            is_message(ended.listed.as_slice(), message.as_bytes()),
+            "{line}"
+        );
+    }
+    Ok(())
+}
+
+#[test]
+fn numbers_of_steps_are_read(rt: HostRuntime) -> Result<(), Fail> {
+    let alloc = rt.alloc();
+    for (line, settings) in [
+        ("make 1", Settings::Make { n: 1 }),
+        ("make 100", Settings::Make { n: 100 }),
+        ("make 00000000000000000012", Settings::Make { n: 12 }),
+        ("large 40", Settings::Large { n: 40, threads: 1 }),
+    ] {
+        let words = words_in(alloc, line)?;
+        assert!(rt; read_words(words.as_slice()) == Ok(settings), "{line}");
+    }
+    Ok(())
+}
+
+/// The text of twelve steps, after which they come again.
+const TWELVE: &str = "\
+    proc factex nodes=20000;\n\
+    factors X1-X6 / nlev=2;\n\
+    size design=32;\n\
+    model resolution=max;\n\
+    run;\n\
+    proc factex nodes=20000;\n\
+    factors X1-X7 / nlev=2;\n\
+    size design=16;\n\
+    model resolution=max;\n\
+    run;\n\
+    proc factex nodes=20000;\n\
+    factors X1-X8 / nlev=3;\n\
+    size design=27;\n\
+    model resolution=max;\n\
+    run;\n\
+    proc factex nodes=20000;\n\
+    factors X1-X9 / nlev=2;\n\
+    size design=16;\n\
+    model resolution=max / minabs;\n\
+    run;\n\
+    proc factex nodes=20000;\n\
+    factors X1-X10 / nlev=2;\n\
+    size design=32;\n\
+    model resolution=max;\n\
+    run;\n\
+    proc factex nodes=20000;\n\
+    factors X1-X5 / nlev=3;\n\
+    size design=27;\n\
+    model resolution=max;\n\
+    run;\n\
+    proc factex nodes=20000;\n\
+    factors X1-X6 / nlev=2;\n\
+    size design=32;\n\
+    model resolution=max;\n\
+    run;\n\
+    proc factex nodes=20000;\n\
+    factors X1-X7 / nlev=2;\n\
+    size design=16;\n\
+    model resolution=max / minabs;\n\
+    run;\n\
+    proc factex nodes=20000;\n\
+    factors X1-X8 / nlev=3;\n\
+    size design=27;\n\
+    model resolution=max;\n\
+    run;\n\
+    proc factex nodes=20000;\n\
+    factors X1-X9 / nlev=2;\n\
+    size design=16;\n\
+    model resolution=max;\n\
+    run;\n\
+    proc factex nodes=20000;\n\
+    factors X1-X10 / nlev=2;\n\
+    size design=32;\n\
+    model resolution=max;\n\
+    run;\n\
+    proc factex nodes=20000;\n\
+    factors X1-X5 / nlev=3;\n\
+    size design=27;\n\
+    model resolution=max / minabs;\n\
+    run;\n";
+
+#[test]
+fn texts_are_made(rt: HostRuntime) -> Result<(), Fail> {
+    let alloc = rt.alloc();
+    let mut text = Bytes::new(alloc);
+    make_text(0, &mut text)?;
+    assert!(rt; text.as_slice().is_empty());
+    make_text(12, &mut text)?;
+    assert!(rt; text.as_slice() == TWELVE.as_bytes());
+    make_text(24, &mut text)?;
+    assert_eq!(rt; text.len(), 3 * TWELVE.len());
+    assert!(rt; text.as_slice().ends_with(TWELVE.as_bytes()));
+    let words = words_in(alloc, "make 12")?;
+    let ended = ran(alloc, words.as_slice(), HALF.as_bytes(), Some(1), None)?;
+    assert_eq!(rt; ended.status, 0);
+    assert_eq!(rt; ended.failed_reads, 0);
+    assert!(rt; ended.listed.as_slice() == TWELVE.as_bytes());
+    Ok(())
+}
+
+#[test]
+fn large_sums_up(rt: HostRuntime) -> Result<(), Fail> {
+    let alloc = rt.alloc();
+    for (line, summary) in [
+        ("large 1", "steps 1\ndesigns 1\nnone 0\nended 0\nnodes 55\n"),
+        (
+            "large 2",
+            "steps 2\ndesigns 2\nnone 0\nended 0\nnodes 106\n",
+        ),
+    ] {
+        let words = words_in(alloc, line)?;
+        let ended = ran(alloc, words.as_slice(), HALF.as_bytes(), Some(1), None)?;
+        assert_eq!(rt; ended.status, 0, "{line}");
+        assert_eq!(rt; ended.failed_reads, 0, "{line}");
+        assert!(rt; ended.listed.as_slice() == summary.as_bytes(), "{line}");
+    }
+    Ok(())
+}
+
+/// After a failed write of a made text or of a summary nothing is written again.
+#[test]
+fn no_call_follows_a_failed_write_of_a_piece(rt: HostRuntime) -> Result<(), Fail> {
+    let alloc = rt.alloc();
+    for line in ["make 1", "large 1"] {
+        let words = words_in(alloc, line)?;
+        let ended = ran(alloc, words.as_slice(), HALF.as_bytes(), Some(1), Some(2))?;
+        assert_eq!(rt; ended.status, 4, "{line}");
+        assert_eq!(rt; ended.failed_reads, 0, "{line}");
+        assert_eq!(rt; ended.failed_writes, 1, "{line}");
+        assert_eq!(rt; ended.listed.len(), STEP, "{line}");
     }
     Ok(())
 }

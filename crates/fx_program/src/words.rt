@@ -2,7 +2,23 @@ ghost use Rattle.std.specs.Prelude.{◌≡◌, ◌≤◌, ◌+◌, ◌++◌, cod
 ghost use Rattle.std.specs.List.{list_all};
 ghost use Rattle.std.specs.Str.{bytes_eq};
 ghost use Rattle.fx_lexer.specs.Bytes.{is_digit};
-ghost use Rattle.fx_program.specs.Words.{after, bytes_of, command_with, is_number, run_with, second_option, seed_at, seed_of, seeded, settings_of, word_line};
+ghost use Rattle.fx_program.specs.Words.{
+  after,
+  alone,
+  bytes_of,
+  command_with,
+  is_number,
+  run_with,
+  second_option,
+  seed_at,
+  seed_of,
+  seeded,
+  settings_of,
+  steps_at,
+  steps_in,
+  steps_of,
+  word_line,
+};
 
 use arrayvec::ArrayVec;
 use fx_text::number;
@@ -24,16 +40,26 @@ pub enum Settings {
         /// What random numbers start from, where a statement has no seed of its own.
         seed: u64,
     },
+    /// Writes the program text of so many steps.
+    Make {
+        n: u8,
+    },
+    /// Runs the program text of so many steps, and writes how many have a design.
+    Large {
+        n: u8,
+        /// How many threads search; 1 so far.
+        threads: u8,
+    },
 }
 
 /// Why the words are refused.
 #[derive(Debug, Clone, Copy, PartialEq, Eq)]
 pub struct WordFault {
     /// 1: there is no word. 2: the first word is no command. 3: the word is no option of the command.
-    /// 4: the number of the option is not one of 1 to 20 digits, or is too large. 5: the option is
-    /// repeated.
+    /// 4: the number is not one of 1 to 20 digits, or is not in its range. 5: the option is repeated.
+    /// 6: the number of `make` or `large` is missing.
     pub code: u8,
-    /// Which word, counted from 1.
+    /// Which word, counted from 1; where one is missing, its place.
     pub word: u32,
 }
 
@@ -54,7 +80,63 @@ fn command_with(command: &[u8], options: &[Vec<u8>]) -> Result<Settings, WordFau
     if command == b"run".as_slice() {
         return run_with(options);
     }
+    if command == b"make".as_slice() {
+        let n = steps_in(options)?;
+        return Ok(Settings::Make { n });
+    }
+    if command == b"large".as_slice() {
+        let n = steps_in(options)?;
+        return Ok(Settings::Large { n, threads: 1 });
+    }
     Err(WordFault { code: 2, word: 1 })
+}
+
+/// The number of steps that is the one word after the command.
+fn steps_in(words: &[Vec<u8>]) -> Result<u8, WordFault>
+    ensures { result ≡ steps_in (bytes_of words.now) }
+{
+    match words.split_first() {
+        Some((word, others)) => alone(others, steps_at(2, word.as_slice())),
+        None => Err(WordFault { code: 6, word: 2 }),
+    }
+}
+
+/// The number that no word follows.
+fn alone(others: &[Vec<u8>], number: Result<u8, WordFault>) -> Result<u8, WordFault>
+    ensures { result ≡ alone (bytes_of others.now) number }
+{
+    let number = number?;
+    if others.is_empty() {
+        Ok(number)
+    } else {
+        Err(WordFault { code: 3, word: 3 })
+    }
+}
+
+/// The number of steps of the word at this place.
+fn steps_at(place: u32, word: &[u8]) -> Result<u8, WordFault>
+    ensures { result ≡ steps_at place word.now }
+{
+    match steps_of(word) {
+        Some(n) => Ok(n),
+        None => Err(WordFault {
+            code: 4,
+            word: place,
+        }),
+    }
+}
+
+/// The number of steps that these digits write, 1 to 100.
+fn steps_of(digits: &[u8]) -> Option<u8>
+    ensures { result ≡ steps_of digits.now }
+{
+    if !is_number(digits) {
+        return None;
+    }
+    match u8::try_from(number(digits)) {
+        Ok(n) if 1 <= n && n <= 100 => Some(n),
+        _ => None,
+    }
 }
 
 /// The settings of `run` with these options: a seed, at most once, or else 0.

@@ -1,6 +1,7 @@
-use Rattle.std.proofs.Common.{Err, sym, ap, ◌∙◌, []}
+use Rattle.std.proofs.Common.{Ok, Err, sym, ap, ◌∙◌, []}
 use Rattle.std.proofs.lemmas.Bool.{false≢true}
 use Rattle.fx_program.specs.Output.{message, reads}
+use Rattle.fx_program.specs.declared.words.Settings.TheVariants.{Make, Large}
 use Rattle.fx_program.proofs.Endings.{ends_for, ends_by}
 use Rattle.fx_program.proofs.run.factex.Goals as goal
 
@@ -11,4 +12,24 @@ returns-in-Err-clause-output g c =
       text = [];
       exposed = λ read. absurd (false≢true (ap reads c.in-Err.ensures ∙ read));
       gives = ends_for _ [] (Err c.in-Err.fault) _ c.in-Err.ensures (ends_by _ _ _ (ap (λ l. message l 3) (sym (c.as_slice.ensures.value ∙ c.word_line.ensures))) (c.list.ensures.output.whatever _));
+    })
+
+pub returns-in-Make-clause-output : goal.returns-in-Make-clause-output
+returns-in-Make-clause-output g c =
+    let asked = ap Ok (sym c.in-Make.is) ∙ c.in-Ok.ensures in
+    rw c.exit_status-in-Make.ensures
+    (record {
+      text = [];
+      exposed = λ read. absurd (false≢true (ap reads asked ∙ read));
+      gives = ends_for _ [] (Ok (Make c.in-Make.n)) _ asked (c.make.ensures.output.whatever _);
+    })
+
+pub returns-in-Large-clause-output : goal.returns-in-Large-clause-output
+returns-in-Large-clause-output g c =
+    let asked = ap Ok (sym c.in-Large.is) ∙ c.in-Ok.ensures in
+    rw c.exit_status-in-Large.ensures
+    (record {
+      text = [];
+      exposed = λ read. absurd (false≢true (ap reads asked ∙ read));
+      gives = ends_for _ [] (Ok (Large c.in-Large.n c.in-Large._threads)) _ asked (c.large.ensures.output.whatever _);
     })

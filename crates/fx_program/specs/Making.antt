@@ -1,0 +1,35 @@
+-- The text of `make`: a program of many steps, to try the program on.
+use Rattle.std.specs.Prelude.{ℕ, ◌+◌, ◌%◌, ◌==◌, if◌then◌else◌, List, ◌++◌, codes, decimal}
+use Rattle.std.specs.List.{flat_map, range_with_len}
+
+-- the number of levels of the step of number k: 3 where k is a multiple of 3, else 2
+abbrev pub levels_at : ℕ → ℕ
+levels_at k = if k % 3 == 0 then 3 else 2
+
+-- its number of factors, 5 to 10
+abbrev pub factors_at : ℕ → ℕ
+factors_at k = 5 + k % 6
+
+-- its number of runs: 27 with three levels, and with two 16 where k is even, else 32
+abbrev pub runs_at : ℕ → ℕ
+runs_at k = if k % 3 == 0 then 27 else (if k % 2 == 0 then 16 else 32)
+
+-- its factors
+abbrev pub factors_line : ℕ → List ℕ
+factors_line k = codes "factors X1-X" ++ (decimal (factors_at k) ++ (codes " / nlev=" ++ (decimal (levels_at k) ++ codes ";\n")))
+
+-- its size
+abbrev pub size_line : ℕ → List ℕ
+size_line k = codes "size design=" ++ (decimal (runs_at k) ++ codes ";\n")
+
+-- its model, with least aberration where k is a multiple of 4
+abbrev pub model_line : ℕ → List ℕ
+model_line k = if k % 4 == 0 then codes "model resolution=max / minabs;\n" else codes "model resolution=max;\n"
+
+-- its five lines
+abbrev pub step_text : ℕ → List ℕ
+step_text k = codes "proc factex nodes=20000;\n" ++ (factors_line k ++ (size_line k ++ (model_line k ++ codes "run;\n")))
+
+-- the text of the steps 1 to n
+unfoldable pub made_text : ℕ → List ℕ
+made_text n = flat_map step_text (range_with_len 1 n)
