@@ -1,0 +1,5 @@
+mod Sums
+mod RowSums
+mod Turns
+mod Good
+mod Sound
