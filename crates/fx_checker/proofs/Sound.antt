@@ -8,7 +8,10 @@ use Rattle.std.proofs.lemmas.List.FromFn.{length-range_with_len}
 use Rattle.fx_designs.specs.Galois.{IsField, digits}
 use Rattle.fx_designs.specs.Vectors.{IsVector, is_zero, zeros, combination, vectors_of}
 use Rattle.fx_designs.specs.Runs.{is_constant}
-use Rattle.fx_designs.specs.Problems.{Problem, Dimensions, Requirement}
+use Rattle.fx_designs.specs.Problems.{Problem, Dimensions, Requirement, AtResolution, ForEffects}
+use Rattle.fx_vectors.specs.declared.question.Question.{Question}
+use Rattle.fx_vectors.specs.Question.{CanBeAsked, IsValid, problem_of}
+use Rattle.fx_laws.proofs.Tables.{is_order-field}
 use Rattle.fx_designs.specs.Demands.{is_allowed, is_forbidden_word, padded, runs}
 use Rattle.fx_designs.specs.Canonical.{is_canonical}
 use Rattle.fx_designs.specs.Patterns.{pattern_of, is_less}
@@ -31,11 +34,11 @@ use Rattle.fx_tree.proofs.Extensions.{last_is}
 use Rattle.fx_tree.proofs.Nodes.{is-tree}
 use Rattle.fx_demands.proofs.Supports.{take-vector}
 use Rattle.fx_demands.proofs.Completing.{weightless}
-use Rattle.fx_checker.specs.Books.{IsGood, flaw_of_word, word_vector, does_not_beat}
+use Rattle.fx_checker.specs.Books.{Claim, IsGood, children, flaw_of, flaw_of_word, word_vector, does_not_beat}
 use Rattle.fx_designs.specs.Closing.{is_zero_sum}
 use Rattle.fx_checker.specs.declared.verdict.Reason.TheVariants.{NotZeroSum, Allowed}
 use Rattle.fx_checker.specs.Laws.{NoDesign, NoMatrix}
-use Rattle.fx_checker.proofs.Good.{AreSound, good_closes, none_then}
+use Rattle.fx_checker.proofs.Good.{AreSound, good_closes, none_then, none_in_turn}
 
 -- a list that is at no place smaller is not less
 entries-not_less : (a b : List ℕ) → ((k : ℕ) → slice_index b k ≤ slice_index a k) → is_less a b ≡ false
@@ -143,3 +146,15 @@ module _ (p : Problem) (f : IsField p.dimensions.q) (some : 0 < p.dimensions.s +
       not_above (pattern_of p.dimensions rows) (pattern_of p.dimensions found.0) pattern
       (pattern-length p.dimensions f rows ∙ sym (pattern-length p.dimensions f found.0)) found.1.pattern
       (no_design (Some pattern) entries good found.0 design)
+
+reducible : (d : Dimensions) (wanted : Requirement) → CanBeAsked d wanted → IsReducible wanted
+reducible d (AtResolution r) h = h.0
+reducible d (ForEffects estimate besides) h = tt
+
+-- what a book without a flaw claims is so
+pub proved : (question : Question) → IsValid question → (beat : Option (List ℕ)) (entries : List Mark) → flaw_of (record { problem = problem_of question; beat = beat }) entries ≡ None → NoMatrix (problem_of question) beat
+proved question valid beat entries none =
+    let p : Problem = problem_of question in
+    let x : Claim = record { problem = p; beat = beat } in
+    no_matrix p (is_order-field p.dimensions.q valid.shaped.order) (omega (arith, valid.shaped.some_factors))
+    (reducible p.dimensions p.requirement valid.asked) beat entries (none_in_turn x (children x.problem []) 0 entries none)

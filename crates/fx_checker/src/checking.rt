@@ -3,6 +3,7 @@ ghost use Rattle.fx_book.specs.Valid.{IsValidBook};
 ghost use Rattle.fx_checker.specs.declared.verdict.Verdict.TheVariants.{Rejected};
 ghost use Rattle.fx_checker.specs.Books.{flaw_of};
 ghost use Rattle.fx_checker.specs.Claims.{claim_of};
+ghost use Rattle.fx_checker.specs.Laws.{IsProved};
 ghost use Rattle.fx_checker.specs.Verdicts.{StandsAt, verdict_of};
 
 use crate::judge::{Judge, Rated, Unbeaten};
@@ -14,14 +15,17 @@ use fx_vectors::{Book, Matrix};
 use std::alloc::Global;
 
 /// Whether a valid book is good, or the line of its first false entry and why that is false. The
-/// marks are compared with a walk through the canonical prefixes; nothing is searched.
+/// marks are compared with a walk through the canonical prefixes; nothing is searched. What a book
+/// that is accepted claims is so: no rule matrix at all meets what is asked, or none that does has a
+/// less pattern.
 ///
 /// # Errors
 ///
 /// `NoMemory`.
 pub fn check(alloc: Global, book: &Book) -> Result<Verdict, NoMemory>
     requires { IsValidBook book.now }
-    ensures { IfOk result (λ verdict. verdict ≡ verdict_of (flaw_of (claim_of book.now.head) book.now.marks)) }
+    ensures verdict { IfOk result (λ verdict. verdict ≡ verdict_of (flaw_of (claim_of book.now.head) book.now.marks)) }
+    ensures claim { IfOk result (IsProved (claim_of book.now.head)) }
 {
     let shape = book.head.question.shape;
     match &book.head.beat {
@@ -40,7 +44,8 @@ pub fn check(alloc: Global, book: &Book) -> Result<Verdict, NoMemory>
 fn check_with<J: Judge>(alloc: Global, book: &Book, judge: &mut J) -> Result<Verdict, NoMemory>
     requires valid { IsValidBook book.now }
     requires judge { StandsAt (J.dimensions judge.old) (J.beat judge.old) (J.prefix judge.old) (claim_of book.now.head) [] }
-    ensures { IfOk result (λ verdict. verdict ≡ verdict_of (flaw_of (claim_of book.now.head) book.now.marks)) }
+    ensures verdict { IfOk result (λ verdict. verdict ≡ verdict_of (flaw_of (claim_of book.now.head) book.now.marks)) }
+    ensures claim { IfOk result (IsProved (claim_of book.now.head)) }
 {
     let forbidden = Forbidden::of(alloc, &book.head.question)?;
     let mut prefix = Matrix::new(book.head.question.shape);
