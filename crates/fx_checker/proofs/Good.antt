@@ -1,4 +1,4 @@
--- What a good book says, and that the marks of a problem without an answer are one.
+-- What a good book shows: what is closed by its marks.
 use Rattle.std.proofs.Common.{◌≡◌, ◌≢◌, ℕ, zero, suc, ◌+◌, ◌<◌, ◌≤◌, ◌^◌, inl, inr, Bool, true, false, ◌&&◌, cond, eqb, List, [], ◌∷◌, ◌++◌, map, length, Option, Some, None, refl, sym, ap, ◌∙◌, arith, subst, eq-eqb, eqb-true, append_assoc, length-append}
 use Rattle.std.specs.List.{filter, AllByRecursion}
 use Rattle.std.proofs.lemmas.Bool.{cond-true, cond-false, cases_Bool, and_parts, both_ways}
@@ -31,7 +31,7 @@ in_turn_none x (c ∷ cs) at [] h = absurd h
 in_turn_none x [] at (e ∷ es) h = absurd h
 in_turn_none x (c ∷ cs) at (e ∷ es) h = ap (λ f. or_later at f (first_flaw x (turns x c e cs) (at + 1) es)) h.0 ∙ in_turn_none x (turns x c e cs) (at + 1) es h.1
 
--- a choice with a reason in it that gives none
+-- a choice with a reason in it that comes to none
 pub none_then : (b : Bool) (m : Option Reason) (r : Reason) → cond b m (Some r) ≡ None → (b ≡ true) × (m ≡ None)
 none_then true m r h = (refl, h)
 none_then false m r h = cc h

@@ -3,3 +3,4 @@ mod RowSums
 mod Turns
 mod Good
 mod Sound
+mod Examples

@@ -36,7 +36,7 @@ use Rattle.fx_demands.proofs.Supports.{take-vector}
 use Rattle.fx_demands.proofs.Completing.{weightless}
 use Rattle.fx_checker.specs.Books.{Claim, IsGood, children, flaw_of, flaw_of_word, word_vector, does_not_beat}
 use Rattle.fx_designs.specs.Closing.{is_zero_sum}
-use Rattle.fx_checker.specs.declared.verdict.Reason.TheVariants.{NotZeroSum, Allowed}
+use Rattle.fx_checker.specs.declared.verdict.Reason.TheVariants.{NotZeroSum, NotForbidden}
 use Rattle.fx_checker.specs.Laws.{NoDesign, NoMatrix}
 use Rattle.fx_checker.proofs.Good.{AreSound, good_closes, none_then, none_in_turn}
 
@@ -109,8 +109,8 @@ module _ (p : Problem) (f : IsField p.dimensions.q) (some : 0 < p.dimensions.s +
   refutes : (c : List ℕ) (w : ℕ) → length c ≤ p.dimensions.s + p.dimensions.t → flaw_of_word p c w ≡ None → is_allowed p.dimensions p.requirement c ≡ false
   refutes c w short h =
       let v : List ℕ = word_vector p.dimensions w in
-      let a = none_then (is_zero_sum p.dimensions c v) (cond (is_forbidden_word p.dimensions p.requirement v) None (Some Allowed)) NotZeroSum h in
-      let b = none_then (is_forbidden_word p.dimensions p.requirement v) None Allowed a.1 in
+      let a = none_then (is_zero_sum p.dimensions c v) (cond (is_forbidden_word p.dimensions p.requirement v) None (Some NotForbidden)) NotZeroSum h in
+      let b = none_then (is_forbidden_word p.dimensions p.requirement v) None NotForbidden a.1 in
       word_refutes p.dimensions f p.requirement c v (digits-vector p.dimensions.q (p.dimensions.s + p.dimensions.t) w (omega (arith, f.more_than_one))) short a.0 b.0
 
   worse : (beat : Option (List ℕ)) (c s : List ℕ) → does_not_beat p.dimensions beat c ≡ true → better_than p.dimensions beat (c ++ s) ≡ false

@@ -4,7 +4,7 @@ ghost use Rattle.fx_checker.specs.declared.verdict.Verdict.TheVariants.{Rejected
 ghost use Rattle.fx_checker.specs.Books.{flaw_of};
 ghost use Rattle.fx_checker.specs.Claims.{claim_of};
 ghost use Rattle.fx_checker.specs.Laws.{IsProved};
-ghost use Rattle.fx_checker.specs.Verdicts.{StandsAt, verdict_of};
+ghost use Rattle.fx_checker.specs.Verdicts.{IsAt, verdict_of};
 
 use crate::judge::{Judge, Rated, Unbeaten};
 use crate::verdict::{Reason, Verdict};
@@ -43,7 +43,7 @@ pub fn check(alloc: Global, book: &Book) -> Result<Verdict, NoMemory>
 /// The same with a judge at the empty prefix.
 fn check_with<J: Judge>(alloc: Global, book: &Book, judge: &mut J) -> Result<Verdict, NoMemory>
     requires valid { IsValidBook book.now }
-    requires judge { StandsAt (J.dimensions judge.old) (J.beat judge.old) (J.prefix judge.old) (claim_of book.now.head) [] }
+    requires judge { IsAt (J.dimensions judge.old) (J.beat judge.old) (J.prefix judge.old) (claim_of book.now.head) [] }
     ensures verdict { IfOk result (λ verdict. verdict ≡ verdict_of (flaw_of (claim_of book.now.head) book.now.marks)) }
     ensures claim { IfOk result (IsProved (claim_of book.now.head)) }
 {

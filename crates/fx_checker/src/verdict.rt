@@ -11,7 +11,7 @@ pub enum Reason {
     /// The word is not a zero sum of the rows of the prefix.
     NotZeroSum,
     /// The word is not forbidden.
-    Allowed,
+    NotForbidden,
     /// The pattern of the prefix is less than the pattern to beat.
     Beats,
     /// A prefix has its turn, and the book ends.
@@ -29,7 +29,7 @@ impl Reason {
             Reason::OtherRow => 1,
             Reason::NoTurn => 2,
             Reason::NotZeroSum => 3,
-            Reason::Allowed => 4,
+            Reason::NotForbidden => 4,
             Reason::Beats => 5,
             Reason::Ended => 6,
             Reason::Whole => 7,

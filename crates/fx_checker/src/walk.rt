@@ -8,7 +8,7 @@ ghost use Rattle.fx_vectors.specs.Question.{IsValid, problem_of, requirement_of}
 ghost use Rattle.fx_checker.specs.Books.{children, flaw, flaw_of_word};
 ghost use Rattle.fx_book.specs.Valid.{IsEntry, IsValidBook};
 ghost use Rattle.fx_checker.specs.Claims.{claim_of};
-ghost use Rattle.fx_checker.specs.Verdicts.{Reaches, StandsAt, IsBack};
+ghost use Rattle.fx_checker.specs.Verdicts.{Reaches, IsAt, IsBack};
 
 use crate::judge::Judge;
 use crate::verdict::Reason;
@@ -27,7 +27,7 @@ pub(crate) enum Step {
 }
 
 /// Takes the marks of all that is below a canonical prefix that is not whole, from the one at `at`
-/// on. The judge stands at the prefix. Where the marks go on, both are as before.
+/// on. The prefix of the judge is the same. Where the marks go on, both are as before.
 ///
 /// # Errors
 ///
@@ -44,7 +44,7 @@ pub(crate) fn under<J: Judge>(
     requires valid { IsValidBook book.now }
     requires words { forbidden.now ≡ book.now.head.question }
     requires shape { prefix.old.shape ≡ book.now.head.question.shape }
-    requires judge { StandsAt (J.dimensions judge.old) (J.beat judge.old) (J.prefix judge.old) (claim_of book.now.head) prefix.old.rows }
+    requires judge { IsAt (J.dimensions judge.old) (J.beat judge.old) (J.prefix judge.old) (claim_of book.now.head) prefix.old.rows }
     requires part { length prefix.old.rows < book.now.head.question.shape.s + book.now.head.question.shape.t }
     requires canonical { is_canonical (dimensions_of book.now.head.question.shape)
         (requirement_of book.now.head.question.demands) prefix.old.rows
@@ -86,7 +86,7 @@ fn enter<J: Judge>(
     requires valid { IsValidBook book.now }
     requires words { forbidden.now ≡ book.now.head.question }
     requires shape { prefix.old.shape ≡ book.now.head.question.shape }
-    requires judge { StandsAt (J.dimensions judge.old) (J.beat judge.old) (J.prefix judge.old) (claim_of book.now.head) prefix.old.rows }
+    requires judge { IsAt (J.dimensions judge.old) (J.beat judge.old) (J.prefix judge.old) (claim_of book.now.head) prefix.old.rows }
     requires part { length prefix.old.rows < book.now.head.question.shape.s + book.now.head.question.shape.t }
     requires below { row < book.now.head.question.shape.q ^ book.now.head.question.shape.m }
     requires canonical { is_canonical (dimensions_of book.now.head.question.shape)
@@ -135,8 +135,8 @@ fn enter<J: Judge>(
     }
 }
 
-/// What is wrong with a mark in the turn of a prefix, if anything is. The judge stands at the prefix without
-/// its last row.
+/// What is wrong with a mark in the turn of a prefix, if anything is. The prefix of the judge lacks
+/// the last row.
 fn flaw<J: Judge>(
     forbidden: &Forbidden,
     judge: &mut J,
@@ -202,7 +202,7 @@ fn flaw_of_word(forbidden: &Forbidden, prefix: &Matrix, number: u128) -> Option<
         if forbidden.holds(&word) {
             None
         } else {
-            Some(Reason::Allowed)
+            Some(Reason::NotForbidden)
         }
     } else {
         Some(Reason::NotZeroSum)

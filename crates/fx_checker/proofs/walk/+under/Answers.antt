@@ -6,7 +6,7 @@ use Rattle.fx_vectors.specs.Question.{problem_of}
 use Rattle.fx_checker.specs.Books.{Claim, flaw, first_flaw}
 use Rattle.fx_checker.specs.declared.verdict.Reason.{Reason}
 use Rattle.fx_checker.specs.Claims.{claim_of}
-use Rattle.fx_checker.specs.Verdicts.{StandsAt}
+use Rattle.fx_checker.specs.Verdicts.{IsAt}
 use Rattle.fx_checker.proofs.Turns.{at_end, at_flaw, taken, todo, todo-at, child-canonical, child-below}
 use Rattle.fx_checker.proofs.walk.+under.Goals as goal
 
@@ -75,7 +75,7 @@ under-enter-requires g t c κs within =
     let canonical : tr.canonical (c.loop-row.prefix.rows ++ slice_index_or c.as_slice-row-items.result.now c.loop-row.row-index 0 ∷ []) ≡ true =
     rw same (child-canonical tr p c.as_slice-row-items.result.now c.loop-row.row-index rows c.loop-row-test.true) in
     let below = child-below tr p c.as_slice-row-items.result.now c.loop-row.row-index rows c.loop-row-test.true in
-    let at = subst (λ l. StandsAt (g.J.Judge.dimensions c.loop-row.judge) (g.J.Judge.beat c.loop-row.judge) (g.J.Judge.prefix c.loop-row.judge) (claim_of c.args.book.now.head) l) (sym same) c.loop-row.invariant.at in
+    let at = subst (λ l. IsAt (g.J.Judge.dimensions c.loop-row.judge) (g.J.Judge.beat c.loop-row.judge) (g.J.Judge.prefix c.loop-row.judge) (claim_of c.args.book.now.head) l) (sym same) c.loop-row.invariant.at in
     (omega arith, (within, (c.requires.valid, (c.requires.words, (c.loop-row.invariant.shape, (at, (part, (below, (canonical, c.loop-row.invariant.to)))))))))
 
 pub under-returns-in-Stops-clause-reaches : goal.under-returns-in-Stops-clause-reaches
