@@ -1,5 +1,6 @@
 mod Examples
 mod Products
+mod BlockSums
 mod Members
 mod Numbered
 mod Once

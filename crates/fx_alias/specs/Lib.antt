@@ -6,5 +6,6 @@ pub mod Places
 pub mod Aliasing
 pub mod Points
 pub mod Blocked
+pub mod BlockSpans
 pub mod Patterns
 pub mod Sections

@@ -1,4 +1,4 @@
-ghost use Rattle.std.specs.Prelude.{◌≡◌, ◌<◌, ◌≤◌, ◌^◌, ◌==◌, IfOk, All, length, map};
+ghost use Rattle.std.specs.Prelude.{◌≡◌, ◌<◌, ◌≤◌, ◌^◌, ◌+◌, ◌==◌, IfOk, All, drop, length, map};
 ghost use Rattle.fx_designs.specs.Vectors.{IsVector, combination, vectors_of};
 ghost use Rattle.fx_designs.specs.Runs.{is_constant, runs_of};
 ghost use Rattle.fx_alias.specs.Classes.{class_number};
@@ -38,19 +38,19 @@ pub(crate) fn class_number(matrix: &Matrix, u: &Vector) -> u16
     ensures below { result < matrix.now.shape.q ^ matrix.now.shape.m }
 {
     let field = matrix.shape().field();
-    let sum = factor_sum(matrix, u);
+    let sum = sum_of_rules(matrix, 0, u);
     if sum.weight() == 0 {
         return 0;
     }
     sum.normal(field).number(field) as u16
 }
 
-/// The sum of each factor rule times the code of `u` at its place.
-fn factor_sum(matrix: &Matrix, u: &Vector) -> Vector
-    requires vector { IsVector matrix.now.shape.q matrix.now.shape.s u.now }
-    requires complete { matrix.now.shape.s ≤ length matrix.now.rows }
+/// The sum of the rules from `first` on, each times the code of `u` at its place.
+pub(crate) fn sum_of_rules(matrix: &Matrix, first: usize, u: &Vector) -> Vector
+    requires vector { IsVector matrix.now.shape.q (length u.now) u.now }
+    requires complete { first + length u.now ≤ length matrix.now.rows }
     ensures sum { let q = matrix.now.shape.q in let m = matrix.now.shape.m in
-        result ≡ combination q m u.now (vectors_of q m matrix.now.rows) }
+        result ≡ combination q m u.now (vectors_of q m (drop first matrix.now.rows)) }
     ensures vector { IsVector matrix.now.shape.q matrix.now.shape.m result }
 {
     let shape = matrix.shape();
@@ -58,7 +58,7 @@ fn factor_sum(matrix: &Matrix, u: &Vector) -> Vector
     let m = usize::from(shape.m);
     let mut sum = Vector::zero(m);
     for i in 0..u.len() {
-        let row = Vector::of_number(field, m, u128::from(matrix.row(i)));
+        let row = Vector::of_number(field, m, u128::from(matrix.row(first + i)));
         sum.add_scaled(field, &row, u.code(i));
     }
     sum

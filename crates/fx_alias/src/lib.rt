@@ -2,6 +2,7 @@
 #![tactic(auto)]
 
 mod aliasing;
+mod block_span;
 mod blocked;
 mod class;
 mod components;

@@ -82,6 +82,7 @@ fn put_aliases(alloc: Global, step: &Step, matrix: &Matrix, out: &mut Bytes) -> 
 fn put_blocked(alloc: Global, step: &Step, matrix: &Matrix, out: &mut Bytes) -> Result<(), NoMemory>
     requires complete { length matrix.now.rows ≡ matrix.now.shape.s + matrix.now.shape.t }
     requires factors { matrix.now.shape.s ≡ length step.now.factors }
+    requires few { matrix.now.shape.q ^ matrix.now.shape.t ≤ 1024 }
     ensures { OnOk result
         (out.new
         ≡ out.old ++ (if step.now.examine.blocked

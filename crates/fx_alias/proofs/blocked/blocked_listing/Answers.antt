@@ -3,28 +3,20 @@ use Rattle.std.specs.Prelude.{codes}
 use Rattle.std.specs.Result.{OnOk}
 use Rattle.std.specs.List.{flat_map}
 use Rattle.fx_vectors.specs.declared.shape.Shape.{Shape}
-use Rattle.fx_runs.specs.Runs.{RunsView, design_of}
+use Rattle.fx_runs.specs.Runs.{design_of}
 use Rattle.fx_statements.specs.Goals.{goal_of}
 use Rattle.fx_alias.specs.Aliasing.{listed}
 use Rattle.fx_alias.specs.Blocked.{component_line, is_blocked}
 use Rattle.fx_alias.specs.Rules.{or_none}
 use Rattle.fx_alias.proofs.blocked.blocked_listing.Goals as goal
 
-abbrev view : Shape → List (List ℕ) → RunsView
-view shape rows = record { shape = shape; rows = rows }
-
-abbrev lines : List (List ℕ) → RunsView → List (List ℕ) → List ℕ
-lines names runs components = or_none (flat_map (component_line names) (filter (is_blocked runs) components))
-
 pub returns : goal.returns
 returns c =
     let names : map (λ n. n.now) c.as_slice.result.now ≡ c.args.step.now.factors = ap (map (λ n. n.now)) c.as_slice.ensures.value ∙ c.in_ok-names.ensures in
-    let runs : c.in_ok-runs.runs ≡ design_of c.args.matrix.now = ap₂ view c.in_ok-runs.ensures.shape c.in_ok-runs.ensures.rows in
+    let lines : List (List ℕ) → List (List ℕ) → List ℕ = λ names components. or_none (flat_map (component_line names) (filter (is_blocked (design_of c.args.matrix.now)) components)) in
     let components : c.in_ok-components.components ≡ listed c.args.matrix.now.shape.q c.args.matrix.now.shape.s (goal_of c.args.step.now.wanted) =
     c.in_ok-components.ensures.components ∙ ap (λ (z : Shape). listed z.q z.s (goal_of c.args.step.now.wanted)) c.shape.ensures.shape in
     let all =
-    ap₂ (λ (a b : List ℕ). a ++ b) c.in_ok-put.ensures.ok
-    (ap (λ (l : List (List ℕ)). lines l c.in_ok-runs.runs c.in_ok-components.components) names
-    ∙ ap₂ (λ (r : RunsView) (l : List (List ℕ)). lines c.args.step.now.factors r l) runs components)
-    ∙ append_assoc c.args.out.now (codes "blocked\n") (lines c.args.step.now.factors (design_of c.args.matrix.now) (listed c.args.matrix.now.shape.q c.args.matrix.now.shape.s (goal_of c.args.step.now.wanted))) in
+    ap₂ (λ (a b : List ℕ). a ++ b) c.in_ok-put.ensures.ok (ap₂ lines names components)
+    ∙ append_assoc c.args.out.now (codes "blocked\n") (lines c.args.step.now.factors (listed c.args.matrix.now.shape.q c.args.matrix.now.shape.s (goal_of c.args.step.now.wanted))) in
     subst (λ (l : List ℕ). OnOk c.put_blocked.result (c.put_blocked.new.out ≡ l)) all c.put_blocked.ensures

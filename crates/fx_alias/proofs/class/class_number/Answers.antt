@@ -15,8 +15,8 @@ returns-then-weight-eq0-clause-number c =
     let q : ℕ = c.args.matrix.now.shape.q in
     let m : ℕ = c.args.matrix.now.shape.m in
     let f : IsField q = is_order-field q c.shape.ensures.valid.shaped.order in
-    let none : weight c.factor_sum-sum.result ≡ 0 = search rules in
-    sym (weightless_number q f m _ (combination-vector q m f c.args.u.now _ (rows-vectors q m f c.args.matrix.now.rows)) (ap weight (sym c.factor_sum-sum.ensures.sum) ∙ none))
+    let none : weight c.sum_of_rules-sum.result ≡ 0 = search rules in
+    sym (weightless_number q f m _ (combination-vector q m f c.args.u.now _ (rows-vectors q m f c.args.matrix.now.rows)) (ap weight (sym c.sum_of_rules-sum.ensures.sum) ∙ none))
 
 pub returns-clause-number : goal.returns-clause-number
 unfolding class_number
@@ -24,8 +24,8 @@ returns-clause-number c =
     let q : ℕ = c.args.matrix.now.shape.q in
     let order : c.field-field.result ≡ q = search rules in
     c.number.ensures.number ∙ ap (number c.field-field.result) c.normal.ensures.multiple
-    ∙ ap (λ (x : ℕ). number x (scale x (inv x (last_nonzero c.factor_sum-sum.result)) c.factor_sum-sum.result)) order
-    ∙ ap (λ (s : List ℕ). number q (scale q (inv q (last_nonzero s)) s)) c.factor_sum-sum.ensures.sum
+    ∙ ap (λ (x : ℕ). number x (scale x (inv x (last_nonzero c.sum_of_rules-sum.result)) c.sum_of_rules-sum.result)) order
+    ∙ ap (λ (s : List ℕ). number q (scale q (inv q (last_nonzero s)) s)) c.sum_of_rules-sum.ensures.sum
 
 pub returns-then-weight-eq0-clause-constant : goal.returns-then-weight-eq0-clause-constant
 returns-then-weight-eq0-clause-constant c =

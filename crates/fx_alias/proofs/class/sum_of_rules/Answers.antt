@@ -1,12 +1,12 @@
-use Rattle.std.proofs.Common.{rules, ◌≡◌, arith, subst, ◌∙◌, IsTrue}
+use Rattle.std.proofs.Common.{rules, ◌≡◌, arith, drop, get_or-drop, length-drop, subst, sym, ◌∙◌, IsTrue}
 use Rattle.fx_designs.specs.Galois.{IsField, is_order}
 use Rattle.fx_designs.specs.Vectors.{IsVector}
 use Rattle.fx_laws.proofs.Tables.{is_order-field}
 use Rattle.fx_laws.proofs.Space.{combination-vector}
 use Rattle.fx_laws.proofs.Ranks.{zeros-plus}
 use Rattle.fx_vectors.proofs.Steps.{sum_more, sum_past, are_vectors}
-use Rattle.fx_alias.proofs.class.factor_sum.Goals as goal
-use Rattle.fx_alias.proofs.class.factor_sum.Goals.{After-from-m}
+use Rattle.fx_alias.proofs.class.sum_of_rules.Goals as goal
+use Rattle.fx_alias.proofs.class.sum_of_rules.Goals.{After-from-m}
 
 field_of : (c : After-from-m) → IsField c.field-field.result
 field_of c =
@@ -22,7 +22,7 @@ loop-i-init c =
           rw c.zero-sum.ensures.zeros
           (zeros-plus c.field-field.result c.from-m.result f _
           (combination-vector c.field-field.result c.from-m.result f c.args.u.now _
-          (are_vectors c.field-field.result c.from-m.result c.args.matrix.now.rows (omega (arith, f.more_than_one)))));
+          (are_vectors c.field-field.result c.from-m.result (drop c.args.first c.args.matrix.now.rows) (omega (arith, f.more_than_one)))));
     }
 
 pub loop-i-preserved : goal.loop-i-preserved
@@ -31,8 +31,8 @@ loop-i-preserved c =
     record {
       vector = subst (λ n. IsVector c.field-field.result n c.add_scaled.new.self) c.loop-i.invariant.vector.len c.add_scaled.ensures.vector;
       so_far =
-          rw (c.add_scaled.ensures.sum, c.of_number-row.ensures.digits, c.code.ensures, c.from.ensures, c.row.ensures.row)
-          (sum_more c.field-field.result c.from-m.result f c.args.u.now c.args.matrix.now.rows c.loop-i.i c.loop-i.sum (omega arith) (omega (arith, c.requires.vector.len, c.requires.complete))
+          rw (c.add_scaled.ensures.sum, c.of_number-row.ensures.digits, c.code.ensures, c.from.ensures, c.row.ensures.row, sym (get_or-drop c.args.first c.args.matrix.now.rows c.loop-i.i 0))
+          (sum_more c.field-field.result c.from-m.result f c.args.u.now (drop c.args.first c.args.matrix.now.rows) c.loop-i.i c.loop-i.sum (omega arith) (omega (arith, c.requires.complete, length-drop c.args.first c.args.matrix.now.rows))
           ∙ c.loop-i.invariant.so_far);
     }
 
@@ -42,6 +42,6 @@ returns-clause-sum c =
     let q : c.field-field.result ≡ c.args.matrix.now.shape.q = search rules in
     let m : c.from-m.result ≡ c.args.matrix.now.shape.m = search rules in
     let all =
-    sum_past c.field-field.result c.from-m.result f c.args.u.now c.args.matrix.now.rows c.loop-i.i c.loop-i.sum _
+    sum_past c.field-field.result c.from-m.result f c.args.u.now (drop c.args.first c.args.matrix.now.rows) c.loop-i.i c.loop-i.sum _
     (omega arith) c.loop-i.invariant.vector c.loop-i.invariant.so_far in
     rw (← q, ← m) all
