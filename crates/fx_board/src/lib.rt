@@ -9,6 +9,8 @@ mod board;
 mod gate;
 mod jobs;
 mod lot;
+#[cfg(test)]
+mod lot_tests;
 mod order;
 mod report_cutter;
 mod rule;
