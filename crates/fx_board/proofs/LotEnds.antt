@@ -1,5 +1,5 @@
 -- The ends of a lot by numbers are those of its jobs in order.
-use Rattle.std.proofs.Common.{◌≡◌, ℕ, zero, suc, ◌+◌, ◌-◌, ◌<◌, ◌≤◌, Bool, true, false, cond, List, [], ◌∷◌, ◌++◌, map, length, slice_index, length-append, refl, sym, ap, ◌∙◌, subst, arith}
+use Rattle.std.proofs.Common.{◌≡◌, ℕ, zero, suc, ◌+◌, ◌≤◌, Bool, true, false, cond, List, [], ◌∷◌, ◌++◌, map, length, slice_index, length-append, refl, sym, ap, ◌∙◌, subst, arith}
 use Rattle.std.specs.List.{filter}
 use Rattle.fx_designs.specs.Answers.{falling}
 use Rattle.fx_designs.specs.Jobs.{nodes_inside}
@@ -70,10 +70,11 @@ module _ (question : Question) (lot rows : List ℕ) (limit : ℕ) where
       let job : job_at lot rows (length front) ≡ lot ++ r ∷ [] = ap (λ x. lot ++ x ∷ []) (ap (λ l. slice_index l (length front)) all ∙ at_front front rest r) in
       let next : length (front ++ r ∷ []) ≡ length front + 1 = length-append front (r ∷ []) in
       let nodes_so_far : before inside (length (front ++ r ∷ [])) ≡ before inside (length front) + length (nodes_inside (problem_of question) (lot ++ r ∷ [])) =
-      ap (before inside) next ∙ before_next inside (length front) ∙ ap (λ j. before inside (length front) + length (nodes_inside (problem_of question) j)) job in
-      (end_under (length front) (lot ++ r ∷ []) job (Closed best nodes marks) h.0,
-      subst (λ e. AreEnds question limit e (map (λ x. lot ++ x ∷ []) rest) ends) nodes_so_far
-      (ends_are (front ++ r ∷ []) rest (all ∙ one_more front rest r) ends (subst (λ n. AreEndsFrom is_end inside limit (length rows) n ends) (sym next) h.1)))
+      ap (before inside) next ∙ before_next inside (length front) ∙ ap (λ j. before inside (length front) + length (nodes_inside (problem_of question) j)) job in (
+        end_under (length front) (lot ++ r ∷ []) job (Closed best nodes marks) h.0,
+        subst (λ e. AreEnds question limit e (map (λ x. lot ++ x ∷ []) rest) ends) nodes_so_far
+            (ends_are (front ++ r ∷ []) rest (all ∙ one_more front rest r) ends (subst (λ n. AreEndsFrom is_end inside limit (length rows) n ends) (sym next) h.1)),
+      )
   ends_are front (r ∷ rest) all (Found matrix nodes marks ∷ ends) h =
       let job : job_at lot rows (length front) ≡ lot ++ r ∷ [] = ap (λ x. lot ++ x ∷ []) (ap (λ l. slice_index l (length front)) all ∙ at_front front rest r) in
       end_under (length front) (lot ++ r ∷ []) job (Found matrix nodes marks) h.1

@@ -1,5 +1,5 @@
 -- The jobs of a lot.
-use Rattle.std.proofs.Common.{◌≡◌, ℕ, zero, suc, ◌+◌, ◌<◌, ◌≤◌, ◌^◌, Bool, true, false, ltb, List, [], ◌∷◌, ◌++◌, length, take, slice_index, slice_index_or, length-append, take_all, refl, sym, ap, ◌∙◌, subst, arith}
+use Rattle.std.proofs.Common.{◌≡◌, ℕ, zero, suc, ◌+◌, ◌<◌, ◌^◌, Bool, true, false, ltb, List, [], ◌∷◌, ◌++◌, length, slice_index, slice_index_or, length-append, take_all, refl, sym, ◌∙◌, subst, arith}
 use Rattle.std.specs.List.{filter, AllByRecursion}
 use Rattle.std.proofs.lemmas.Bool.{and_parts, ltb-true, true≢false}
 use Rattle.std.proofs.lemmas.List.{take-append-le}
@@ -10,19 +10,16 @@ use Rattle.fx_designs.specs.Canonical.{is_canonical}
 use Rattle.fx_designs.specs.Answers.{falling}
 use Rattle.fx_designs.specs.Nodes.{lot_of, is_branch}
 use Rattle.fx_designs.specs.Jobs.{best_before}
-use Rattle.fx_laws.specs.Trees.{tree_of, children_of}
 use Rattle.fx_laws.proofs.Blocks.{held}
 use Rattle.fx_laws.proofs.Order.{each-all}
 use Rattle.fx_laws.proofs.Tables.{is_order-field}
 use Rattle.fx_jobs.specs.Laws.{IsJob}
-use Rattle.fx_jobs.specs.Search.{ranked}
 use Rattle.fx_jobs.proofs.Bests.{before-lot}
 use Rattle.fx_jobs.proofs.Patterns.{is-ranked}
 use Rattle.fx_vectors.specs.declared.question.Question.{Question}
 use Rattle.fx_vectors.specs.Matrix.{MatrixView}
 use Rattle.fx_vectors.specs.Question.{problem_of}
 use Rattle.fx_search.specs.JobEnds.{IsJobEnd}
-use Rattle.fx_search.specs.Folds.{IsLot}
 use Rattle.fx_search.specs.Searchers.{IsAt, IsReadyAfter}
 use Rattle.fx_search.specs.declared.searcher.Searcher.{Searcher}
 use Rattle.fx_search.specs.declared.job.JobEnd.{JobEnd}

@@ -52,8 +52,9 @@ returns-clause-ready g c closed =
     let row = c.get-row.ensures ∙ index_is rows c.args.n _ c.requires.job in
     let job : c.with_row-job.result.rows ≡ job_at lot.rows rows c.args.n = ap (λ (z : MatrixView). z.rows) c.with_row-job.ensures ∙ ap (λ r. lot.rows ++ r ∷ []) row in
     let j : List _ = c.with_row-job.result.rows in
-    let after = ready_after c.in_ok-end.end _ c.in_ok-end.ensures.ready closed in
-    (c.requires.ready.0,
-    at-lot question lot rows c.requires.ready.0 c.args.n c.requires.job c.run_job.new.self
-    (subst (λ l. IsAt question (lot_of (problem_of question).dimensions l) (best_before (problem_of question) l) c.run_job.new.self) job
-    (subst (λ (z : Question). IsAt z (lot_of (problem_of z).dimensions j) (best_before (problem_of z) j) c.run_job.new.self) at.question_is after)))
+    let after = ready_after c.in_ok-end.end _ c.in_ok-end.ensures.ready closed in (
+      c.requires.ready.0,
+      at-lot question lot rows c.requires.ready.0 c.args.n c.requires.job c.run_job.new.self
+          (subst (λ l. IsAt question (lot_of (problem_of question).dimensions l) (best_before (problem_of question) l) c.run_job.new.self) job
+          (subst (λ (z : Question). IsAt z (lot_of (problem_of z).dimensions j) (best_before (problem_of z) j) c.run_job.new.self) at.question_is after)),
+    )
