@@ -1,5 +1,5 @@
 -- The best of the earlier lots that a job begins with.
-use Rattle.std.proofs.Common.{◌≡◌, ◌<◌, ◌+◌, ℕ, false, true, List, Option, Some, None, arith, sym}
+use Rattle.std.proofs.Common.{◌≡◌, ℕ, false, true, List, Option, Some, None, arith, sym}
 use Rattle.std.proofs.lemmas.Bool.{cond-false}
 use Rattle.fx_designs.specs.Galois.{IsField}
 use Rattle.fx_designs.specs.Problems.{Problem}
