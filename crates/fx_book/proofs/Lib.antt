@@ -7,3 +7,6 @@ mod Back
 mod Books
 mod Whole
 mod Examples
+mod Numerals
+mod Texts
+mod Accepted

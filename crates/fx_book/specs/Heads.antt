@@ -51,7 +51,7 @@ abbrev pub beat_from : ℕ → Bool → List (List ℕ) → Option (Option (List
 beat_from s allowed [] = None
 beat_from s allowed (word ∷ parts) = (if bytes_eq word (codes "pattern") && allowed then whole_pattern s (numbers_of_parts 0 (2 ^ 127) parts) else None)
 
--- what line 4 says is to be beaten: nothing, or a pattern of entries below 2^127
+-- the pattern to beat of line 4: none, or one of entries below 2^127, where it is allowed
 abbrev pub beat_of : ℕ → Bool → List ℕ → Option (Option (List ℕ))
 beat_of s allowed line = (if bytes_eq line (codes "pattern none") then Some None else beat_from s allowed (parts_of line))
 

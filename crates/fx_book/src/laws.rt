@@ -1,4 +1,4 @@
-ghost use Rattle.std.specs.Prelude.{◌≡◌, ◌<◌, ◌≤◌, ◌+◌, ◌^◌, ◌++◌, Bool, List, Ok, All, codes, length};
+ghost use Rattle.std.specs.Prelude.{◌≡◌, ◌<◌, ◌≤◌, ◌+◌, ◌^◌, ◌++◌, ℕ, Bool, List, Ok, All, codes, length};
 ghost use Rattle.fx_designs.specs.Problems.{Dimensions};
 ghost use Rattle.fx_designs.specs.Nodes.{Mark};
 ghost use Rattle.fx_vectors.specs.declared.book.Book.{Book};
@@ -21,4 +21,9 @@ pub fn entries_come_back()
 /// A valid book is read as it was written, where its text is within the limit.
 pub fn books_come_back()
     ensures { (book : Book) → IsValidBook book → length (book_text book) ≤ 268435456 → book_of (book_text book) ≡ Ok book }
+{}
+
+/// No other text is read as a book: what is read is what is written of it.
+pub fn only_books_are_read()
+    ensures { (text : List ℕ) (book : Book) → book_of text ≡ Ok book → text ≡ book_text book }
 {}

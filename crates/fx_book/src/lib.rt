@@ -16,5 +16,5 @@ mod writing;
 
 pub use book::read_book;
 pub use fault::{BookFault, BookStop, FaultKind};
-pub use laws::{books_come_back, entries_come_back};
+pub use laws::{books_come_back, entries_come_back, only_books_are_read};
 pub use writing::write_book;

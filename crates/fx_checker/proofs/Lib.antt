@@ -1,0 +1,6 @@
+mod Sums
+mod RowSums
+mod Turns
+mod Good
+mod Sound
+mod Examples
