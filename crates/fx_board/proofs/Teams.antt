@@ -1,6 +1,7 @@
 -- Workers that can work off another job.
-use Rattle.std.proofs.Common.{ℕ, zero, suc, ◌<◌, List, [], ◌∷◌, ◌++◌, length, take, drop, slice_index_or, slice_set, refl, inl, inr, ⊎_elim, sym, subst, arith}
+use Rattle.std.proofs.Common.{◌≡◌, ℕ, zero, suc, ◌<◌, List, [], ◌∷◌, ◌++◌, length, take, drop, slice_index_or, slice_set, refl, inl, inr, ⊎_elim, sym, subst, arith}
 use Rattle.fx_board.specs.declared.gate.Ended.{Ended}
+use Rattle.fx_board.specs.Views.{Has}
 use Rattle.fx_board.specs.Work.{AllClosed}
 use Rattle.fx_board.specs.Sharing.{AreReady}
 use Rattle.fx_board.proofs.Lists.{has_left, has_right, has_either}

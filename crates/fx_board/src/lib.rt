@@ -8,9 +8,6 @@
 mod board;
 mod gate;
 mod jobs;
-mod lot;
-#[cfg(test)]
-mod lot_tests;
 mod order;
 mod report_cutter;
 mod rule;
@@ -23,6 +20,5 @@ mod worker;
 pub use board::{Board, Closed, Seat};
 pub use gate::{Ended, FreeGate, Gate};
 pub use jobs::Jobs;
-pub use lot::ends_of_lot;
 pub use sharing::{Worked, share};
 pub use worker::{Ends, work};

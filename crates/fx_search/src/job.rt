@@ -119,7 +119,7 @@ fn run_by<P: Pruner, C: Cutter>(
 }
 
 /// Makes a whole matrix the best so far of an incumbent at the empty prefix.
-pub(crate) fn remember<I: Incumbent>(incumbent: &mut I, best: &Matrix)
+fn remember<I: Incumbent>(incumbent: &mut I, best: &Matrix)
     requires least { (I.standing incumbent.old).problem.least ≡ true }
     requires shape { dimensions_of best.now.shape ≡ (I.standing incumbent.old).problem.dimensions }
     requires whole { length best.now.rows ≡ size_of (I.standing incumbent.old).problem }
@@ -138,7 +138,7 @@ pub(crate) fn remember<I: Incumbent>(incumbent: &mut I, best: &Matrix)
 }
 
 /// Takes a pruner and an incumbent from the empty prefix to the lot of a job.
-pub(crate) fn put_at_lot<P: Pruner, I: Incumbent>(
+fn put_at_lot<P: Pruner, I: Incumbent>(
     question: &Question,
     pruner: &mut P,
     incumbent: &mut I,
@@ -166,7 +166,7 @@ pub(crate) fn put_at_lot<P: Pruner, I: Incumbent>(
 
 /// Works off a job from its lot, where pruner and incumbent are. The incumbent has the best of the
 /// earlier lots. After `Closed` both are at the lot again.
-pub(crate) fn run_job_with<P: Pruner, I: Incumbent, C: Cutter>(
+fn run_job_with<P: Pruner, I: Incumbent, C: Cutter>(
     alloc: Global,
     question: &Question,
     pruner: &mut P,
