@@ -1,5 +1,5 @@
 -- Words and texts, with all that is given for them: the definitions, computed from the bytes of a text to those of its listing.
-use Rattle.std.proofs.Common.{◌≡◌, ℕ, List, [], ◌∷◌, ◌++◌, map, length, Option, Some, None, Result, Ok, Err, ap, refl}
+use Rattle.std.proofs.Common.{◌≡◌, ℕ, List, [], ◌∷◌, ◌++◌, Option, Some, None, Ok, ap, refl}
 use Rattle.std.proofs.lemmas.Option.{none-some}
 use Rattle.std.specs.Prelude.{codes}
 use Rattle.std.specs.Fmt.{digits}
@@ -24,14 +24,12 @@ use Rattle.fx_settings.specs.Settings.{levels_of, budget_of}
 use Rattle.fx_demands.specs.Bars.{bars_of}
 use Rattle.fx_vectors.specs.Effects.{factors_of}
 use Rattle.fx_statements.specs.Programs.{program_of}
-use Rattle.fx_statements.specs.Steps.{Meaning}
 use Rattle.fx_statements.specs.Questions.{conclusion_of}
 use Rattle.fx_alias.specs.Sections.{step_lines}
 use Rattle.fx_program.specs.Words.{settings_of, word_fault}
 use Rattle.fx_program.specs.declared.words.Settings.TheVariants.{Run, Make, Large}
 use Rattle.fx_program.specs.Refusals.{fault_line}
 use Rattle.fx_program.specs.Texts.{program_in, at_front}
-use Rattle.fx_program.specs.declared.text.TextFault.{TextFault}
 use Rattle.fx_program.specs.declared.text.TextFault.TheVariants.{Refused}
 use Rattle.fx_designs.specs.Outcomes.{Design, NoDesign, BudgetEnded}
 use Rattle.fx_program.specs.Making.{made_text, step_text}
@@ -252,23 +250,6 @@ made_steps :
     × (step_text 12 ≡ codes "proc factex nodes=20000;\nfactors X1-X5 / nlev=3;\nsize design=27;\nmodel resolution=max / minabs;\nrun;\n")
 unfolding digits settings_of made_text
 made_steps = (refl, refl)
-
--- the levels, factors and budgets of the steps of a text of `make`
-abbrev made_as : Result (List Meaning) TextFault → List (List ℕ)
-made_as (Ok steps) = map (λ (step : Meaning). step.settings.q ∷ length step.factors ∷ step.settings.budget ∷ []) steps
-made_as (Err fault) = []
-
-read_as : ℕ → List (List ℕ)
-unfolding digits lexed refused levels_of budget_of size_of criterion_of check_blocks check_minimum blocks_of bars_of factors_of program_of program_in made_text
-read_as n = made_as (program_in (made_text n))
-
--- each kind of step that it writes is accepted, and read as it is meant
-twelve_steps :
-    read_as 12
-    ≡ (2 ∷ 6 ∷ 20000 ∷ []) ∷ (2 ∷ 7 ∷ 20000 ∷ []) ∷ (3 ∷ 8 ∷ 20000 ∷ []) ∷ (2 ∷ 9 ∷ 20000 ∷ []) ∷ (2 ∷ 10 ∷ 20000 ∷ []) ∷ (3 ∷ 5 ∷ 20000 ∷ [])
-    ∷ (2 ∷ 6 ∷ 20000 ∷ []) ∷ (2 ∷ 7 ∷ 20000 ∷ []) ∷ (3 ∷ 8 ∷ 20000 ∷ []) ∷ (2 ∷ 9 ∷ 20000 ∷ []) ∷ (2 ∷ 10 ∷ 20000 ∷ []) ∷ (3 ∷ 5 ∷ 20000 ∷ []) ∷ []
-unfolding read_as
-twelve_steps = refl
 
 -- a summary of outcomes of each kind
 summed_up :

@@ -14,7 +14,7 @@ pub record IsSummaryOf (steps : List Meaning) (summary : Summary) : Type 0 where
   pub nodes : summary.nodes ≡ sum_by nodes_in (endings_of steps)
   pub status : summary.status ≡ (program_output 0 (Ok steps)).status
 
--- a summary with one step more, which ends so
+-- a summary of fewer than 2^64 steps with one step more, which ends so
 abbrev pub with_ending : Summary → Ending → Summary
 with_ending s (Design rows count) = record {
   designs = s.designs + 1;
