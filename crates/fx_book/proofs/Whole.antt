@@ -42,19 +42,20 @@ module _ (book : Book) (valid : IsValidBook book) where
   abbrev beat : Option (List ℕ)
   beat = book.head.beat
 
-  abbrev R4 : List ℕ
-  R4 = entries_text book.marks ++ codes "END\n"
+  -- the text after the line of the pattern, of the demands, of the shape and of the title
+  abbrev after_beat : List ℕ
+  after_beat = entries_text book.marks ++ codes "END\n"
 
-  abbrev R3 : List ℕ
-  R3 = beat_text beat ++ R4
+  abbrev after_demands : List ℕ
+  after_demands = beat_text beat ++ after_beat
 
-  abbrev R2 : List ℕ
-  R2 = demands_text asked ++ R3
+  abbrev after_shape : List ℕ
+  after_shape = demands_text asked ++ after_demands
 
-  abbrev R1 : List ℕ
-  R1 = shape_text shape ++ R2
+  abbrev after_title : List ℕ
+  after_title = shape_text shape ++ after_shape
 
-  marks_back : entries (dimensions_of shape) (is_some beat) 5 (split 10 R4) ≡ Ok book.marks
+  marks_back : entries (dimensions_of shape) (is_some beat) 5 (split 10 after_beat) ≡ Ok book.marks
   marks_back =
       entries_back (dimensions_of shape) (is_some beat) valid.question.shaped.runs
       (numbers_fit shape.q (shape.s + shape.t) (order-bounds shape.q valid.question.shaped.order).1 (rows_fit shape valid.question.shaped))
@@ -103,34 +104,34 @@ module _ (book : Book) (valid : IsValidBook book) where
         effects_back shape estimate others short h few.0 few.1,
       )
 
-  from_beat_back : from_beat shape asked (split 10 R3) ≡ Ok book
+  from_beat_back : from_beat shape asked (split 10 after_demands) ≡ Ok book
   from_beat_back =
-      let cut = beat_cut beat R4 valid.beat in
+      let cut = beat_cut beat after_beat valid.beat in
       ap (from_beat shape asked) cut.1
-      ∙ line_more (Err (fault kind.Pattern 4)) (λ line rest. with_beat shape asked rest (beat_of shape.s (may_be_beaten shape asked) line)) cut.0 (split 10 R4) (some_parts 10 R4)
-      ∙ ap (with_beat shape asked (split 10 R4)) cut.2 ∙ ap (with_marks shape asked beat) marks_back
+      ∙ line_more (Err (fault kind.Pattern 4)) (λ line rest. with_beat shape asked rest (beat_of shape.s (may_be_beaten shape asked) line)) cut.0 (split 10 after_beat) (some_parts 10 after_beat)
+      ∙ ap (with_beat shape asked (split 10 after_beat)) cut.2 ∙ ap (with_marks shape asked beat) marks_back
       ∙ ap (λ (least : Bool). Ok (record { head = record { question = record { shape = shape; demands = asked; least = least }; beat = beat }; marks = book.marks }))
       (least_is shape.s book.head.question.least beat valid.beat)
 
-  from_demands_back : from_demands shape (split 10 R2) ≡ from_beat shape asked (split 10 R3)
+  from_demands_back : from_demands shape (split 10 after_shape) ≡ from_beat shape asked (split 10 after_demands)
   from_demands_back =
-      let cut = demands_cut asked R3 valid.question.asked valid.few_effects in
+      let cut = demands_cut asked after_demands valid.question.asked valid.few_effects in
       ap (from_demands shape) cut.1
-      ∙ line_more (Err (fault kind.Demands 3)) (λ line rest. with_demands shape rest (demands_of shape (split 32 line))) cut.0 (split 10 R3) (some_parts 10 R3)
-      ∙ ap (with_demands shape (split 10 R3)) cut.2
+      ∙ line_more (Err (fault kind.Demands 3)) (λ line rest. with_demands shape rest (demands_of shape (split 32 line))) cut.0 (split 10 after_demands) (some_parts 10 after_demands)
+      ∙ ap (with_demands shape (split 10 after_demands)) cut.2
 
-  from_size_back : from_size (split 10 R1) ≡ from_demands shape (split 10 R2)
+  from_size_back : from_size (split 10 after_title) ≡ from_demands shape (split 10 after_shape)
   from_size_back =
       let numbers : List ℕ = shape.q ∷ shape.m ∷ shape.s ∷ shape.t ∷ [] in
       let line : List ℕ = codes "size" ++ spaced numbers in
       let own : Without 10 line = (refl, (refl, (refl, (refl, one_line numbers (wide_shape shape valid.question.shaped))))) in
-      ap from_size (ap (λ l. split 10 (codes "size" ++ l)) (append_assoc (spaced numbers) (10 ∷ []) R2) ∙ split_line 10 line R2 own)
-      ∙ line_more (Err (fault kind.Size 2)) (λ line rest. with_shape rest (shape_of (split 32 line))) line (split 10 R2) (some_parts 10 R2)
-      ∙ ap (with_shape (split 10 R2)) (shape_back shape valid.question.shaped)
+      ap from_size (ap (λ l. split 10 (codes "size" ++ l)) (append_assoc (spaced numbers) (10 ∷ []) after_shape) ∙ split_line 10 line after_shape own)
+      ∙ line_more (Err (fault kind.Size 2)) (λ line rest. with_shape rest (shape_of (split 32 line))) line (split 10 after_shape) (some_parts 10 after_shape)
+      ∙ ap (with_shape (split 10 after_shape)) (shape_back shape valid.question.shaped)
 
   pub written_back : length (book_text book) ≤ 268435456 → book_of (book_text book) ≡ Ok book
   unfolding book_of
   written_back few =
       cond-false (ltb 268435456 (length (book_text book))) _ _ (le-ltb _ _ few)
-      ∙ line_more (Err (fault kind.Title 1)) (λ line rest. if bytes_eq line (codes "factex-book 1") then from_size rest else Err (fault kind.Title 1)) (codes "factex-book 1") (split 10 R1) (some_parts 10 R1)
+      ∙ line_more (Err (fault kind.Title 1)) (λ line rest. if bytes_eq line (codes "factex-book 1") then from_size rest else Err (fault kind.Title 1)) (codes "factex-book 1") (split 10 after_title) (some_parts 10 after_title)
       ∙ from_size_back ∙ from_demands_back ∙ from_beat_back
