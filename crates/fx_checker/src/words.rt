@@ -1,11 +1,11 @@
-ghost use Rattle.std.specs.Prelude.{◌≡◌, ◌+◌, ◌^◌, ◌<◌, drop};
+ghost use Rattle.std.specs.Prelude.{◌≡◌, ◌+◌, ◌^◌, ◌<◌};
 ghost use Rattle.fx_designs.specs.Galois.{number};
 ghost use Rattle.fx_vectors.specs.Matrix.{IsMatrix};
 ghost use Rattle.fx_designs.specs.Vectors.{IsVector, is_zero, combination, vectors_of};
 ghost use Rattle.fx_designs.specs.Closing.{is_zero_sum};
 ghost use Rattle.fx_vectors.specs.Shape.{dimensions_of};
 
-use fx_demands::sum_with;
+use fx_demands::{is_zero_from, sum_with};
 use fx_vectors::{Matrix, Vector};
 
 /// Whether a word, which has a code for each row of a whole matrix, has zeros for the rows to come
@@ -15,18 +15,6 @@ pub(crate) fn is_zero_sum(prefix: &Matrix, word: &Vector) -> bool
     ensures { result ≡ is_zero_sum (dimensions_of prefix.now.shape) prefix.now.rows word.now }
 {
     is_zero_from(word, prefix.len()) && sum_of_rows(prefix, word) == 0
-}
-
-/// Whether the codes from `s` on are zero.
-fn is_zero_from(word: &Vector, s: usize) -> bool
-    ensures { result ≡ is_zero (drop s word.now) }
-{
-    for i in s..word.len() {
-        if word.code(i) != 0 {
-            return false;
-        }
-    }
-    true
 }
 
 /// The number of the sum of each row times the code of the word at its place. The word has a code
