@@ -12,54 +12,12 @@ use Rattle.fx_laws.proofs.Codes.{digits-vector, digits-number}
 use Rattle.fx_laws.proofs.Order.{each-append}
 use Rattle.fx_laws.proofs.Space.{plus-vector, scale-vector}
 use Rattle.fx_demands.specs.declared.forbidden_list.ForbiddenVector.{ForbiddenVector}
-use Rattle.fx_demands.specs.EffectVectors.{codes_at, with_codes, vectors_to, vectors_of_all, ranked, differences, all_differences}
-use Rattle.fx_demands.specs.TwoLevels.{exclusive_ors, all_exclusive_ors, ranked_numbers}
+use Rattle.fx_demands.specs.EffectVectors.{codes_at, with_codes, vectors_to, vectors_of_all, ranked, ranked_numbers, differences, all_differences}
+use Rattle.fx_demands.specs.TwoLevels.{exclusive_ors, all_exclusive_ors}
+use Rattle.fx_demands.proofs.Members.{In, contains_in, in_contains, in_map, from_map, in_filter, from_filter}
+use Rattle.fx_demands.proofs.DifferenceNumbers.{ranked-append}
 use Rattle.fx_demands.proofs.Digits.{sum_xor}
 use Rattle.fx_demands.proofs.EffectVectors.{each-map, each-flat, each-as}
-
--- ---- membership
-
-abbrev In : {X : Type 0} → X → List X → Type 0
-In x [] = ⊥
-In x (y ∷ ys) = (x ≡ y) ⊎ In x ys
-
-contains_in : {X : Type 0} (xs : List X) (k : ℕ) (x : X) → k < length xs → slice_index_or xs k x ≡ x → In x xs
-contains_in [] k x low is = absurd (omega arith)
-contains_in (y ∷ ys) zero x low is = inl (sym is)
-contains_in (y ∷ ys) (suc k) x low is = inr (contains_in ys k x (omega arith) is)
-
-in_contains : {X : Type 0} (xs : List X) (x : X) → In x xs → Contains xs x
-in_contains [] x h = absurd h
-in_contains (y ∷ ys) x (inl e) = (zero, omega arith, sym e)
-in_contains (y ∷ ys) x (inr h) = let r = in_contains ys x h in (suc r.0, omega (arith, r.1), r.2)
-
-in_map : {X Y : Type 0} (f : X → Y) (xs : List X) (x : X) → In x xs → In (f x) (map f xs)
-in_map f [] x h = absurd h
-in_map f (y ∷ ys) x (inl e) = inl (ap f e)
-in_map f (y ∷ ys) x (inr h) = inr (in_map f ys x h)
-
-from_map : {X Y : Type 0} (f : X → Y) (xs : List X) (y : Y) → In y (map f xs) → (x : X) × In x xs × (y ≡ f x)
-from_map f [] y h = absurd h
-from_map f (x ∷ xs) y (inl e) = (x, inl refl, e)
-from_map f (x ∷ xs) y (inr h) = let r = from_map f xs y h in (r.0, inr r.1, r.2)
-
-in_filter : {X : Type 0} (p : X → Bool) (xs : List X) (x : X) → In x xs → p x ≡ true → In x (filter p xs)
-in_filter p [] x h is = absurd h
-in_filter p (y ∷ ys) x (inl e) is = let here : p y ≡ true = ap p (sym e) ∙ is in rw here (inl e)
-in_filter p (y ∷ ys) x (inr h) is =
-    let rest = in_filter p ys x h is in
-    let go : (b : Bool) → In x (cond b (y ∷ filter p ys) (filter p ys)) = λ b. elim b as (λ b. In x (cond b (y ∷ filter p ys) (filter p ys))) [ true ↦ inr rest | false ↦ rest ] in
-    go (p y)
-
-from_filter : {X : Type 0} (p : X → Bool) (xs : List X) (x : X) → In x (filter p xs) → In x xs × (p x ≡ true)
-from_filter p [] x h = absurd h
-from_filter p (y ∷ ys) x h =
-    let go : (b : Bool) → p y ≡ b → In x (cond b (y ∷ filter p ys) (filter p ys)) → In x (y ∷ ys) × (p x ≡ true) =
-    λ b. elim b as (λ b. p y ≡ b → In x (cond b (y ∷ filter p ys) (filter p ys)) → In x (y ∷ ys) × (p x ≡ true)) [
-      | true ↦ λ is h. elim h [ inl e ↦ (inl e, ap p e ∙ is) | inr there ↦ (let r = from_filter p ys x there in (inr r.0, r.1)) ]
-      | false ↦ λ is h. (let r = from_filter p ys x h in (inr r.0, r.1))
-    ] in
-    go (p y) refl h
 
 -- numbers that are among others name vectors that are among theirs
 pub numbers_among : (q s : ℕ) (ms ns : List ℕ) → ((n : ℕ) → Contains ms n → Contains ns n) → (x : ForbiddenVector) → Contains (ranked_numbers q s ms) x → Contains (ranked_numbers q s ns) x
@@ -130,18 +88,12 @@ module _ (f : IsField 2) (s : ℕ) where
   differences_one e [] he hfs = refl
   differences_one e (g ∷ fs) he hfs = rw (difference_is e g he hfs.0, differences_one e fs he hfs.1) refl
 
-  ranked-append : (ms ns : List ℕ) → ranked_numbers 2 s (ms ++ ns) ≡ ranked_numbers 2 s ms ++ ranked_numbers 2 s ns
-  ranked-append ms ns =
-      ap (λ (l : List (List ℕ)). map (ranked 2) (filter is_normal l)) (map-append (digits 2 s) ms ns)
-      ∙ ap (map (ranked 2)) (filter-append is_normal (map (digits 2 s) ms) (map (digits 2 s) ns))
-      ∙ map-append (ranked 2) (filter is_normal (map (digits 2 s) ms)) (filter is_normal (map (digits 2 s) ns))
-
   differences_are : (es fs : List ℕ) → AreSmall es → AreSmall fs → differences 2 (map (digits 2 s) es) (map (digits 2 s) fs) ≡ ranked_numbers 2 s (exclusive_ors es fs)
   differences_are [] fs hes hfs = refl
   differences_are (e ∷ es) fs hes hfs =
       ap (λ (l : List (List ℕ)). map (ranked 2) (filter is_normal l) ++ differences 2 (map (digits 2 s) es) (map (digits 2 s) fs)) (differences_one e fs hes.0 hfs)
       ∙ ap (λ (l : List ForbiddenVector). ranked_numbers 2 s (map (λ g. bit_xor e g) fs) ++ l) (differences_are es fs hes.1 hfs)
-      ∙ sym (ranked-append (map (λ g. bit_xor e g) fs) (exclusive_ors es fs))
+      ∙ sym (ranked-append 2 s (map (λ g. bit_xor e g) fs) (exclusive_ors es fs))
 
   -- the differences of the vectors of effects, by their numbers
   pub all_are : (estimate besides : List ℕ) → AreSmall estimate → AreSmall besides → all_differences 2 s estimate besides ≡ ranked_numbers 2 s (all_exclusive_ors estimate besides)
@@ -156,8 +108,8 @@ module _ (f : IsField 2) (s : ℕ) where
       ∙ ap (λ (l : List ForbiddenVector). (l ++ differences 2 told others) ++ differences 2 told (map (digits 2 s) (0 ∷ []))) (differences_are estimate estimate he he)
       ∙ ap (λ (l : List ForbiddenVector). (ranked_numbers 2 s (exclusive_ors estimate estimate) ++ l) ++ differences 2 told (map (digits 2 s) (0 ∷ []))) (differences_are estimate besides he hn)
       ∙ ap (λ (l : List ForbiddenVector). (ranked_numbers 2 s (exclusive_ors estimate estimate) ++ ranked_numbers 2 s (exclusive_ors estimate besides)) ++ l) (differences_are estimate (0 ∷ []) he (positive, tt))
-      ∙ ap (λ (l : List ForbiddenVector). l ++ ranked_numbers 2 s (exclusive_ors estimate (0 ∷ []))) (sym (ranked-append (exclusive_ors estimate estimate) (exclusive_ors estimate besides)))
-      ∙ sym (ranked-append (exclusive_ors estimate estimate ++ exclusive_ors estimate besides) (exclusive_ors estimate (0 ∷ [])))
+      ∙ ap (λ (l : List ForbiddenVector). l ++ ranked_numbers 2 s (exclusive_ors estimate (0 ∷ []))) (sym (ranked-append 2 s (exclusive_ors estimate estimate) (exclusive_ors estimate besides)))
+      ∙ sym (ranked-append 2 s (exclusive_ors estimate estimate ++ exclusive_ors estimate besides) (exclusive_ors estimate (0 ∷ [])))
 
   -- their numbers are as small as the effects
   small_one : (es fs : List ℕ) → AreSmall es → AreSmall fs → AreSmall (exclusive_ors es fs)

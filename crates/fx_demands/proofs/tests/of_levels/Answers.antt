@@ -1,6 +1,7 @@
-use Rattle.std.proofs.Common.{ℕ, ◌≡◌, ◌<◌, ◌≤◌, ◌+◌, ◌^◌, zero, suc, List, [], ◌∷◌, false, refl, ap, arith, lit<, lit≤}
+use Rattle.std.proofs.Common.{ℕ, ◌≡◌, ◌<◌, ◌≤◌, ◌+◌, ◌^◌, zero, suc, List, [], ◌∷◌, false, refl, ap, arith, lit<, lit≤, IsTrue}
 use Rattle.std.specs.Int.Count.{ones}
 use Rattle.std.proofs.lemmas.List.Elements.{All-from_recursion}
+use Rattle.fx_designs.specs.Galois.{is_order}
 use Rattle.fx_vectors.specs.Effects.{factors_of, numbers_of, pair_count}
 use Rattle.fx_vectors.specs.Shape.{IsShape}
 use Rattle.fx_vectors.specs.Question.{CanBeTold, IsValid}
@@ -27,20 +28,26 @@ askable q least most =
     few (suc (suc (suc (suc zero)))) least most = lit≤ tt
     few (suc (suc (suc (suc (suc q))))) least most = absurd (omega arith)
 
-shaped : (q : ℕ) → 2 ≤ q → q ≤ 4 → IsShape (record { q = q; m = 2; s = 4; t = 0 })
-shaped zero least most = absurd (omega arith)
-shaped (suc zero) least most = absurd (omega arith)
-shaped (suc (suc zero)) least most = record { order = refl; some_indexes = omega arith; runs = omega arith; some_factors = omega arith; factors = omega arith; block_factors = omega arith; factors_in_blocks = λ h. absurd (omega arith) }
-shaped (suc (suc (suc zero))) least most = record { order = refl; some_indexes = omega arith; runs = omega arith; some_factors = omega arith; factors = omega arith; block_factors = omega arith; factors_in_blocks = λ h. absurd (omega arith) }
-shaped (suc (suc (suc (suc zero)))) least most = record { order = refl; some_indexes = omega arith; runs = omega arith; some_factors = omega arith; factors = omega arith; block_factors = omega arith; factors_in_blocks = λ h. absurd (omega arith) }
-shaped (suc (suc (suc (suc (suc q))))) least most = absurd (omega arith)
+known : (q : ℕ) → 2 ≤ q → q ≤ 4 → IsTrue (is_order q) × (q ^ 2 ≤ 1024)
+known zero least most = absurd (omega arith)
+known (suc zero) least most = absurd (omega arith)
+known (suc (suc zero)) least most = (refl, omega arith)
+known (suc (suc (suc zero))) least most = (refl, omega arith)
+known (suc (suc (suc (suc zero)))) least most = (refl, omega arith)
+known (suc (suc (suc (suc (suc q))))) least most = absurd (omega arith)
 
-valid : (q : ℕ) (estimate others : List Effect) → 2 ≤ q → q ≤ 4 → numbers_of estimate ≡ 1 ∷ 2 ∷ 3 ∷ [] → numbers_of others ≡ 4 ∷ 12 ∷ []
-    → IsValid (record { shape = record { q = q; m = 2; s = 4; t = 0 }; demands = Effects estimate others; least = false })
-valid q estimate others least most e o = record { shaped = shaped q least most; asked = rw (e, o) (askable q least most); least = λ h. absurd (cc) }
+shaped : (q t : ℕ) → 2 ≤ q → q ≤ 4 → t ≤ 1 → IsShape (record { q = q; m = 2; s = 4; t = t })
+shaped q t least most blocks =
+    let h = known q least most in
+    record { order = h.0; some_indexes = omega arith; runs = h.1; some_factors = omega arith; factors = omega arith; block_factors = omega (arith, blocks); factors_in_blocks = λ some. omega arith }
+
+valid : (q t : ℕ) (estimate others : List Effect) → 2 ≤ q → q ≤ 4 → t ≤ 1 → numbers_of estimate ≡ 1 ∷ 2 ∷ 3 ∷ [] → numbers_of others ≡ 4 ∷ 12 ∷ []
+    → IsValid (record { shape = record { q = q; m = 2; s = 4; t = t }; demands = Effects estimate others; least = false })
+valid q t estimate others least most blocks e o = record { shaped = shaped q t least most blocks; asked = rw (e, o) (askable q least most); least = λ h. absurd (cc) }
 
 pub returns-clause-valid : goal.returns-clause-valid
-returns-clause-valid c = valid c.args.q c.in_ok-estimate.estimate c.in_ok-nonnegligible.nonnegligible c.requires.least c.requires.most (ap numbers_of c.in_ok-estimate.ensures) (ap numbers_of c.in_ok-nonnegligible.ensures)
+returns-clause-valid c =
+    valid c.args.q c.args.t c.in_ok-estimate.estimate c.in_ok-nonnegligible.nonnegligible c.requires.least c.requires.most c.requires.blocks (ap numbers_of c.in_ok-estimate.ensures) (ap numbers_of c.in_ok-nonnegligible.ensures)
 
 room : (q : ℕ) → 2 ≤ q → q ≤ 4 → q + 1 < q ^ 2
 room zero least most = absurd (omega arith)
