@@ -7,7 +7,7 @@ use Rattle.std.proofs.lemmas.Bool.{cases_eq, eq-eqb, eqb-true, false_from_ne_tru
 use Rattle.std.proofs.lemmas.List.{map-append}
 use Rattle.std.proofs.lemmas.List.Elements.{All-contains, All-from_recursion, Contains-get_or, filter-append, recursion_from_All}
 use Rattle.fx_designs.specs.Galois.{number, digits, IsField, is_order}
-use Rattle.fx_designs.specs.Vectors.{IsVector, is_normal, is_zero, last_nonzero, weight, zeros}
+use Rattle.fx_designs.specs.Vectors.{IsVector, is_normal, is_zero, weight, zeros}
 use Rattle.fx_designs.specs.Problems.{Dimensions, Requirement}
 use Rattle.fx_designs.specs.Demands.{is_estimated, is_forbidden_word, must_balance}
 use Rattle.fx_laws.proofs.Codes.{digits-number, digits-vector, number-below, number-digits, number-zeros}

@@ -1,5 +1,5 @@
 use Rattle.std.proofs.Math.Nat.{one-le-pow}
-use Rattle.std.proofs.Common.{ℕ, ◌≤◌, ◌<◌, ◌^◌, arith}
+use Rattle.std.proofs.Common.{◌≤◌, ◌^◌, arith}
 use Rattle.fx_vectors.proofs.Limits.{order-bounds}
 use Rattle.fx_demands.proofs.listed.add_alone.Goals as goal
 

@@ -1,4 +1,4 @@
-use Rattle.std.proofs.Common.{ℕ, ◌≡◌, ◌≤◌, ◌+◌, ◌++◌, List, map, refl, sym, subst}
+use Rattle.std.proofs.Common.{ℕ, List, map, refl, sym, subst}
 use Rattle.std.specs.Prelude.{All, Contains, slice_index_or}
 use Rattle.std.proofs.lemmas.List.Elements.{All-contains, Contains-get_or}
 use Rattle.fx_designs.specs.Galois.{IsField}
@@ -10,7 +10,7 @@ use Rattle.fx_vectors.specs.Effects.{numbers_of}
 use Rattle.fx_vectors.specs.Shape.{dimensions_of}
 use Rattle.fx_demands.specs.declared.forbidden_list.ForbiddenVector.{ForbiddenVector}
 use Rattle.fx_demands.specs.EffectVectors.{AreAllForbidden, AreFactorParts}
-use Rattle.fx_demands.specs.Words.{IsListed, words_alone, words_with_blocks}
+use Rattle.fx_demands.specs.Words.{IsListed}
 use Rattle.fx_demands.proofs.ListedWords.{each-listed, all-there, small, still-there}
 use Rattle.fx_demands.proofs.listed.words_of_effects.Goals as goal
 use Rattle.fx_demands.proofs.listed.words_of_effects.Goals.{In_ok-vectors, In_ok-parts, In_ok-words}
