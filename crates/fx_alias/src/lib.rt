@@ -15,8 +15,6 @@ mod pattern;
 mod product;
 mod rules;
 mod sections;
-#[cfg(test)]
-mod tests;
 
 pub use aliasing::alias_listing;
 pub use blocked::blocked_listing;

@@ -5,8 +5,6 @@ mod best_words;
 mod first_words;
 mod laws;
 mod reached;
-#[cfg(test)]
-mod tests;
 
 pub use best_words::{Best, fill_light, fill_next, points_with_words};
 pub use first_words::FirstWords;

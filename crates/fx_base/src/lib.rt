@@ -19,8 +19,6 @@ mod source;
 mod sure_shelf;
 mod sure_sink;
 mod sure_source;
-#[cfg(test)]
-mod tests;
 mod text;
 mod values;
 mod writing;

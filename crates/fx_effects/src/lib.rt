@@ -12,5 +12,3 @@ mod stars;
 
 pub use model::{ModelEffects, effects_of};
 
-#[cfg(test)]
-mod tests;

@@ -14,5 +14,3 @@ pub use laws::{
 pub use symbol::{Symbol, Symbols};
 pub use token::symbols;
 
-#[cfg(test)]
-mod tests;

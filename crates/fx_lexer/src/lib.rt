@@ -14,5 +14,3 @@ pub use lexing::lex;
 pub use place::Place;
 pub use token::{Kind, LexFault, LexStop, Token, Tokens};
 
-#[cfg(test)]
-mod tests;

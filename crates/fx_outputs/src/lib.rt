@@ -19,5 +19,3 @@ pub use output::{OutputSpec, Outputs, outputs};
 pub use recode::{Recode, Recodes};
 pub use shuffle::Shuffle;
 
-#[cfg(test)]
-mod tests;

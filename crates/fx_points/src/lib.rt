@@ -4,8 +4,6 @@
 mod point_set;
 mod sums;
 mod swap;
-#[cfg(test)]
-mod tests;
 
 pub use point_set::PointSet;
 pub use sums::Sums;

@@ -8,8 +8,6 @@ mod outcome;
 mod parsing;
 mod step;
 mod stepping;
-#[cfg(test)]
-mod tests;
 mod wanted;
 
 pub use components::listed_factors;

@@ -8,8 +8,6 @@ mod front;
 mod laws;
 mod order;
 mod prefix;
-#[cfg(test)]
-mod tests;
 
 pub use candidates::Candidates;
 pub use extension::{Points, children};

@@ -8,8 +8,6 @@ mod mark;
 mod matrix;
 mod question;
 mod shape;
-#[cfg(test)]
-mod tests;
 mod vector;
 
 pub use book::{Book, Books, Head, NamedBook, Pattern};

@@ -1,0 +1,16 @@
+//! Tests of the crates of the language, in a crate of their own: a crate with tests is proved twice,
+//! and each crate with tests is linked and proved down to the machine.
+#![tactic(auto)]
+
+#[cfg(test)]
+mod effects;
+#[cfg(test)]
+mod language;
+#[cfg(test)]
+mod lexer;
+#[cfg(test)]
+mod outputs;
+#[cfg(test)]
+mod statements;
+#[cfg(test)]
+mod syntax;

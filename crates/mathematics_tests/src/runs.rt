@@ -1,0 +1,359 @@
+ghost use Rattle.std.specs.Prelude.{◌≡◌, ◌≤◌, IfOk};
+ghost use Rattle.fx_vectors.specs.Effects.{numbers_of};
+ghost use Rattle.fx_vectors.specs.Question.{CanBeTold, IsValid};
+ghost use Rattle.fx_vectors.specs.Shape.{IsShape};
+
+use fx_base::NoMemory;
+use fx_runs::{Runs, block_number, constant_in_blocks, is_balanced, is_constant, list_runs, meets};
+use fx_vectors::{Demands, Effect, Effects, Matrix, Question, Shape, Vector};
+use std::alloc::Global;
+use std::test::Fail;
+
+const TWO_LEVELS: Shape = Shape {
+    q: 2,
+    m: 3,
+    s: 4,
+    t: 0,
+};
+
+const THREE_LEVELS: Shape = Shape {
+    q: 3,
+    m: 2,
+    s: 4,
+    t: 0,
+};
+
+/// Three factors of two levels, and a block factor.
+const IN_BLOCKS: Shape = Shape {
+    q: 2,
+    m: 3,
+    s: 3,
+    t: 1,
+};
+
+/// The same in four blocks.
+const FOUR_BLOCKS: Shape = Shape {
+    q: 2,
+    m: 3,
+    s: 3,
+    t: 2,
+};
+
+const TWO_FACTORS: Shape = Shape {
+    q: 2,
+    m: 1,
+    s: 2,
+    t: 0,
+};
+
+const NINE_RUNS: Shape = Shape {
+    q: 3,
+    m: 2,
+    s: 3,
+    t: 0,
+};
+
+const TWELVE_RUNS: Shape = Shape {
+    q: 2,
+    m: 4,
+    s: 3,
+    t: 0,
+};
+
+const ONE_FACTOR: Shape = Shape {
+    q: 2,
+    m: 1,
+    s: 1,
+    t: 0,
+};
+
+/// A, B, C and ABC.
+const HALF: [[u8; 4]; 8] = [
+    [0, 0, 0, 0],
+    [0, 0, 1, 1],
+    [0, 1, 0, 1],
+    [0, 1, 1, 0],
+    [1, 0, 0, 1],
+    [1, 0, 1, 0],
+    [1, 1, 0, 0],
+    [1, 1, 1, 1],
+];
+
+/// A, B, A + B and A + 2 B.
+const NINTH: [[u8; 4]; 9] = [
+    [0, 0, 0, 0],
+    [0, 1, 1, 2],
+    [0, 2, 2, 1],
+    [1, 0, 1, 1],
+    [1, 1, 2, 0],
+    [1, 2, 0, 2],
+    [2, 0, 2, 2],
+    [2, 1, 0, 1],
+    [2, 2, 1, 0],
+];
+
+/// Whether these are the rows.
+fn has_rows(runs: &Runs, rows: &[[u8; 4]]) -> bool {
+    for i in 0..runs.len() {
+        let row = runs.row(i);
+        if row.len() != 4 || i >= rows.len() {
+            return false;
+        }
+        for k in 0..4 {
+            if row.code(k) != rows[i][k] {
+                return false;
+            }
+        }
+    }
+    runs.len() == rows.len()
+}
+
+#[test]
+fn the_first_index_changes_slowest(rt: HostRuntime) -> Result<(), Fail> {
+    let mut half = Matrix::new(TWO_LEVELS);
+    half.push(1);
+    half.push(2);
+    half.push(4);
+    half.push(7);
+    let runs = list_runs(rt.alloc(), &half)?;
+    assert!(rt; has_rows(&runs, &HALF));
+    let word = Vector::of_number(TWO_LEVELS.field(), 4, 15);
+    assert!(rt; is_constant(&word, &runs));
+    assert!(rt; !is_balanced(&word, &runs));
+    let other = Vector::of_number(TWO_LEVELS.field(), 4, 3);
+    assert!(rt; !is_constant(&other, &runs));
+    assert!(rt; is_balanced(&other, &runs));
+    Ok(())
+}
+
+/// A + B + 2 (A + B) is 0, and A + C is 2 A + B.
+#[test]
+fn three_levels(rt: HostRuntime) -> Result<(), Fail> {
+    let mut ninth = Matrix::new(THREE_LEVELS);
+    ninth.push(1);
+    ninth.push(3);
+    ninth.push(4);
+    ninth.push(7);
+    let runs = list_runs(rt.alloc(), &ninth)?;
+    assert!(rt; has_rows(&runs, &NINTH));
+    let word = Vector::of_number(THREE_LEVELS.field(), 4, 22);
+    assert!(rt; is_constant(&word, &runs));
+    let other = Vector::of_number(THREE_LEVELS.field(), 4, 10);
+    assert!(rt; is_balanced(&other, &runs));
+    Ok(())
+}
+
+/// ABC is confounded with blocks, and AB is not.
+#[test]
+fn blocks_are_counted_from_one(rt: HostRuntime) -> Result<(), Fail> {
+    let mut matrix = Matrix::new(IN_BLOCKS);
+    matrix.push(1);
+    matrix.push(2);
+    matrix.push(4);
+    matrix.push(7);
+    let runs = list_runs(rt.alloc(), &matrix)?;
+    assert!(rt; has_rows(&runs, &HALF));
+    for (i, block) in [1, 2, 2, 1, 2, 1, 1, 2].iter().enumerate() {
+        assert!(rt; i < runs.len());
+        assert_eq!(rt; block_number(&runs, i), *block, "at {i}");
+    }
+    let confounded = Vector::of_number(IN_BLOCKS.field(), 3, 7);
+    assert!(rt; constant_in_blocks(&confounded, &runs));
+    let clear = Vector::of_number(IN_BLOCKS.field(), 3, 3);
+    assert!(rt; !constant_in_blocks(&clear, &runs));
+    Ok(())
+}
+
+/// The runs 0, 0 and 1 of one factor are neither, and no runs are both.
+#[test]
+fn any_runs_are_judged(rt: HostRuntime) -> Result<(), Fail> {
+    let u = Vector::of_number(ONE_FACTOR.field(), 1, 1);
+    let mut runs = Runs::new(rt.alloc(), ONE_FACTOR);
+    assert!(rt; runs.is_empty());
+    assert!(rt; is_constant(&u, &runs));
+    assert!(rt; is_balanced(&u, &runs));
+    assert!(rt; constant_in_blocks(&u, &runs));
+    runs.push(Vector::zero(1))?;
+    runs.push(Vector::zero(1))?;
+    runs.push(Vector::of_number(ONE_FACTOR.field(), 1, 1))?;
+    assert_eq!(rt; runs.len(), 3);
+    assert_eq!(rt; block_number(&runs, 2), 1);
+    assert!(rt; !is_constant(&u, &runs));
+    assert!(rt; !is_balanced(&u, &runs));
+    assert!(rt; !constant_in_blocks(&u, &runs));
+    Ok(())
+}
+
+/// Asks for a resolution.
+fn at_resolution(shape: Shape, r: u8) -> Question
+    requires shaped { IsShape shape }
+    requires resolution { (3 ≤ r) × (r ≤ 99) }
+    ensures valid { IsValid result }
+    ensures shape { result.shape ≡ shape }
+{
+    Question {
+        shape,
+        demands: Demands::Resolution { r },
+        least: false,
+    }
+}
+
+/// Asks for effects.
+fn for_effects(
+    alloc: Global,
+    shape: Shape,
+    estimate: &[Effect],
+    nonnegligible: &[Effect],
+) -> Result<Question, NoMemory>
+    requires shaped { IsShape shape }
+    requires told { CanBeTold shape.q shape.s (numbers_of estimate.now)
+        (numbers_of nonnegligible.now) }
+    ensures valid { IfOk result IsValid }
+    ensures shape { IfOk result (λ question. question.shape ≡ shape) }
+{
+    Ok(Question {
+        shape,
+        demands: Demands::Effects {
+            estimate: Effects::from_slice(alloc, estimate)?,
+            nonnegligible: Effects::from_slice(alloc, nonnegligible)?,
+        },
+        least: false,
+    })
+}
+
+/// Whether the runs of the rows meet the demands. None where these are no rows of the shape.
+fn met(alloc: Global, rows: &[u16], question: &Question) -> Result<Option<bool>, NoMemory>
+    requires { IsValid question.now }
+{
+    let shape = question.shape;
+    let limit = u16::from(shape.q).pow(u32::from(shape.m));
+    let mut matrix = Matrix::new(shape);
+    for row in rows {
+        if matrix.len() == usize::from(shape.s + shape.t) || *row >= limit {
+            return Ok(None);
+        }
+        matrix.push(*row);
+    }
+    if matrix.len() != usize::from(shape.s + shape.t) {
+        return Ok(None);
+    }
+    let runs = list_runs(alloc, &matrix)?;
+    Ok(Some(meets(question, &runs)))
+}
+
+/// A, B, C and ABC are at resolution 4; A, B, A + B and A + 2 B over GF(3) at 3.
+#[test]
+fn resolutions_are_met(rt: HostRuntime) -> Result<(), Fail> {
+    let alloc = rt.alloc();
+    for (r, is_met) in [(3, true), (4, true), (5, false), (99, false)] {
+        assert!(rt; 3 <= r && r <= 99);
+        let half = met(alloc, &[1, 2, 4, 7], &at_resolution(TWO_LEVELS, r))?;
+        assert!(rt; half == Some(is_met), "at {r}");
+    }
+    assert!(rt; met(alloc, &[1, 2, 4, 6], &at_resolution(TWO_LEVELS, 3))? == Some(true));
+    assert!(rt; met(alloc, &[1, 2, 4, 6], &at_resolution(TWO_LEVELS, 4))? == Some(false));
+    assert!(rt; met(alloc, &[1, 2, 4, 4], &at_resolution(TWO_LEVELS, 3))? == Some(false));
+    assert!(rt; met(alloc, &[1, 3, 4, 7], &at_resolution(THREE_LEVELS, 3))? == Some(true));
+    assert!(rt; met(alloc, &[1, 3, 4, 7], &at_resolution(THREE_LEVELS, 4))? == Some(false));
+    Ok(())
+}
+
+/// With D = ABC, AB is distinguished from A, B and C. With D = AB it is not, and neither is A from C = A.
+#[test]
+fn an_interaction_is_told_from_main_effects(rt: HostRuntime) -> Result<(), Fail> {
+    let effects = [Effect(1), Effect(2), Effect(4), Effect(8), Effect(3)];
+    let question = for_effects(rt.alloc(), TWO_LEVELS, &effects, &[])?;
+    assert!(rt; met(rt.alloc(), &[1, 2, 4, 7], &question)? == Some(true));
+    assert!(rt; met(rt.alloc(), &[1, 2, 4, 3], &question)? == Some(false));
+    assert!(rt; met(rt.alloc(), &[1, 2, 1, 7], &question)? == Some(false));
+    Ok(())
+}
+
+/// With D = ABC, AB is not distinguished from CD; with D = AB it is.
+#[test]
+fn an_effect_is_told_from_another_not_estimated(rt: HostRuntime) -> Result<(), Fail> {
+    let question = for_effects(rt.alloc(), TWO_LEVELS, &[Effect(3)], &[Effect(12)])?;
+    assert!(rt; met(rt.alloc(), &[1, 2, 4, 7], &question)? == Some(false));
+    assert!(rt; met(rt.alloc(), &[1, 2, 4, 3], &question)? == Some(true));
+    Ok(())
+}
+
+/// A factor at one level has no effect.
+#[test]
+fn an_effect_is_told_from_zero(rt: HostRuntime) -> Result<(), Fail> {
+    let question = for_effects(rt.alloc(), ONE_FACTOR, &[Effect(1)], &[])?;
+    assert!(rt; met(rt.alloc(), &[1], &question)? == Some(true));
+    assert!(rt; met(rt.alloc(), &[0], &question)? == Some(false));
+    Ok(())
+}
+
+/// Two factors with the same levels have one effect.
+#[test]
+fn two_factors_in_two_runs_are_not_told_apart(rt: HostRuntime) -> Result<(), Fail> {
+    let question = for_effects(rt.alloc(), TWO_FACTORS, &[Effect(1), Effect(2)], &[])?;
+    assert!(rt; met(rt.alloc(), &[1, 1], &question)? == Some(false));
+    Ok(())
+}
+
+/// Over GF(3) AB is A + B and A + 2 B, up to multiples, and so not distinguished from C = A + B or A + 2 B;
+/// from C = A it is.
+#[test]
+fn an_interaction_of_three_levels(rt: HostRuntime) -> Result<(), Fail> {
+    let question = for_effects(rt.alloc(), NINE_RUNS, &[Effect(3)], &[Effect(4)])?;
+    assert!(rt; met(rt.alloc(), &[1, 3, 4], &question)? == Some(false));
+    assert!(rt; met(rt.alloc(), &[1, 3, 7], &question)? == Some(false));
+    assert!(rt; met(rt.alloc(), &[1, 3, 1], &question)? == Some(true));
+    Ok(())
+}
+
+/// Blocks by ABC, AB and A; by BC and AC, whose interaction is AB; by ABC and BC, whose interaction
+/// is A; and twice by ABC, so that two of four blocks are empty.
+#[test]
+fn main_effects_are_told_from_blocks(rt: HostRuntime) -> Result<(), Fail> {
+    let alloc = rt.alloc();
+    for (r, is_met) in [(3, true), (4, true), (5, false)] {
+        assert!(rt; 3 <= r && r <= 99);
+        let question = at_resolution(IN_BLOCKS, r);
+        assert!(rt;
+            met(alloc, &[1, 2, 4, 7], &question)? == Some(true),
+            "at {r}"
+        );
+        assert!(rt;
+            met(alloc, &[1, 2, 4, 3], &question)? == Some(is_met),
+            "at {r}"
+        );
+        assert!(rt;
+            met(alloc, &[1, 2, 4, 1], &question)? == Some(false),
+            "at {r}"
+        );
+    }
+    let four = at_resolution(FOUR_BLOCKS, 3);
+    assert!(rt; met(alloc, &[1, 2, 4, 6, 5], &four)? == Some(true));
+    assert!(rt; met(alloc, &[1, 2, 4, 7, 6], &four)? == Some(false));
+    assert!(rt; met(alloc, &[1, 2, 4, 7, 7], &four)? == Some(false));
+    Ok(())
+}
+
+/// A and AB beside blocks by ABC, and by AB.
+#[test]
+fn an_interaction_is_told_from_blocks(rt: HostRuntime) -> Result<(), Fail> {
+    let question = for_effects(rt.alloc(), IN_BLOCKS, &[Effect(1), Effect(3)], &[])?;
+    assert!(rt; met(rt.alloc(), &[1, 2, 4, 7], &question)? == Some(true));
+    assert!(rt; met(rt.alloc(), &[1, 2, 4, 3], &question)? == Some(false));
+    Ok(())
+}
+
+/// Three columns of the twelve runs of Plackett and Burman, which are those of no rule matrix.
+#[test]
+fn runs_of_no_rules_are_judged(rt: HostRuntime) -> Result<(), Fail> {
+    let field = TWELVE_RUNS.field();
+    let mut runs = Runs::new(rt.alloc(), TWELVE_RUNS);
+    assert!(rt; meets(&at_resolution(TWELVE_RUNS, 99), &runs));
+    for number in [3, 6, 5, 2, 4, 0, 1, 3, 7, 6, 5, 0] {
+        assert!(rt; number < 8);
+        runs.push(Vector::of_number(field, 3, number))?;
+    }
+    assert!(rt; meets(&at_resolution(TWELVE_RUNS, 3), &runs));
+    assert!(rt; !meets(&at_resolution(TWELVE_RUNS, 4), &runs));
+    Ok(())
+}

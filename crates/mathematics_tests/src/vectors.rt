@@ -1,0 +1,55 @@
+ghost use Rattle.std.specs.Prelude.{◌<◌};
+ghost use Rattle.fx_vectors.specs.Marks.{row_of};
+
+use fx_base::NoMemory;
+use fx_vectors::{Effect, Effects, Mark, Marks, contains};
+use std::alloc::Global;
+use std::test::Fail;
+
+/// A mark whose row and word tell its place.
+fn mark_at(i: usize) -> Mark
+    ensures { row_of result < 1024 }
+{
+    let row = (i % 1024) as u16;
+    match i % 3 {
+        0 => Mark::Branch { row },
+        1 => Mark::Word {
+            row,
+            word: u128::MAX - i as u128,
+        },
+        _ => Mark::Worse { row },
+    }
+}
+
+fn marks_of(alloc: Global, count: usize) -> Result<Marks, NoMemory> {
+    let mut marks = Marks::new(alloc);
+    for i in 0..count {
+        marks.push(mark_at(i))?;
+    }
+    Ok(marks)
+}
+
+fn stand_at(marks: &Marks, places: &[usize]) -> bool {
+    places
+        .iter()
+        .all(|i| *i < marks.len() && marks.get(*i) == mark_at(*i))
+}
+
+/// One more mark than two pieces hold.
+#[test]
+fn marks_are_kept_past_the_end_of_a_piece(rt: HostRuntime) -> Result<(), Fail> {
+    assert!(rt; Marks::new(rt.alloc()).is_empty());
+    let marks = marks_of(rt.alloc(), 131073)?;
+    assert_eq!(rt; marks.len(), 131073);
+    let places = [0, 1, 2, 65535, 65536, 65537, 131071, 131072];
+    assert!(rt; stand_at(&marks, &places));
+    Ok(())
+}
+
+#[test]
+fn an_effect_is_among_others_or_not(rt: HostRuntime) -> Result<(), Fail> {
+    let effects = Effects::from_slice(rt.alloc(), &[Effect(1), Effect(6)])?;
+    assert!(rt; contains(&effects, Effect(6)));
+    assert!(rt; !contains(&effects, Effect(2)));
+    Ok(())
+}

@@ -1,0 +1,351 @@
+ghost use Rattle.std.specs.Prelude.{◌≤◌, ◌^◌, IsTrue};
+ghost use Rattle.fx_vectors.specs.Shape.{IsShape};
+
+use fx_alias::{alias_listing, blocked_listing, design_listing, head_listing, rules_listing};
+use fx_base::Bytes;
+use fx_lexer::lex;
+use fx_statements::{End, Outcome, ParseStop, Program, Step, parse};
+use fx_vectors::{Books, Matrix, Shape};
+use std::alloc::Global;
+use std::process::Abort;
+use std::test::Fail;
+
+// The expected sections were computed apart from this program, in Python, from the runs alone.
+
+/// The program of this text.
+fn program_of(rt: &impl Abort, alloc: Global, text: &[u8]) -> Result<Program, Fail> {
+    assert!(rt; text.len() <= 1_048_576);
+    let tokens = lex(alloc, text)?;
+    match parse(alloc, text, &tokens) {
+        Ok(program) => Ok(program),
+        Err(ParseStop::Refused(_refusal)) => Err(Fail::new("the text is refused")),
+        Err(ParseStop::NoMemory) => Err(Fail::new("memory ran out")),
+    }
+}
+
+/// A rule matrix of these rows.
+fn matrix_of(rt: &impl Abort, shape: Shape, rows: &[u16]) -> Matrix
+    requires { IsShape shape }
+{
+    let mut matrix = Matrix::new(shape);
+    for row in rows {
+        push(rt, &mut matrix, *row);
+    }
+    matrix
+}
+
+fn push(rt: &impl Abort, matrix: &mut Matrix, row: u16) {
+    let shape = matrix.shape();
+    assert!(rt; matrix.len() < shape.rows());
+    assert!(rt; row < shape.runs());
+    matrix.push(row);
+}
+
+/// Whether there are at most 1,024 blocks.
+fn are_few(shape: Shape) -> bool
+    ensures { IsTrue result → shape.q ^ shape.t ≤ 1024 }
+{
+    match u16::from(shape.q).checked_pow(u32::from(shape.t)) {
+        Some(count) => count <= 1024,
+        None => false,
+    }
+}
+
+/// Tests that the aliases of a design of the text's only step are these.
+fn has_aliases(
+    rt: &impl Abort,
+    alloc: Global,
+    text: &[u8],
+    matrix: &Matrix,
+    expected: &[u8],
+) -> Result<(), Fail> {
+    let program = program_of(rt, alloc, text)?;
+    assert!(rt; program.len() == 1);
+    let step = program.get(0);
+    let shape = matrix.shape();
+    assert!(rt; matrix.len() == shape.rows());
+    assert!(rt; usize::from(shape.s) == step.factors.len());
+    let mut out = Bytes::new(alloc);
+    alias_listing(alloc, step, matrix, &mut out)?;
+    assert!(rt; out.as_slice() == expected);
+    Ok(())
+}
+
+#[test]
+fn classes_of_two_levels(rt: HostRuntime) -> Result<(), Fail> {
+    let alloc = rt.alloc();
+    let half = Shape {
+        q: 2,
+        m: 2,
+        s: 3,
+        t: 0,
+    };
+    let text = b"proc factex; factors A B C; size design=4; model resolution=3;";
+    let matrix = matrix_of(&rt, half, &[1, 2, 3]);
+    has_aliases(
+        &rt,
+        alloc,
+        text,
+        &matrix,
+        b"aliasing\n  A = B*C\n  B = A*C\n  C = A*B\n",
+    )?;
+    // A and C have the same levels.
+    let matrix = matrix_of(&rt, half, &[1, 2, 1]);
+    has_aliases(
+        &rt,
+        alloc,
+        text,
+        &matrix,
+        b"aliasing\n  mean = A*C\n  A = C\n  B\n  A*B = B*C\n",
+    )
+}
+
+/// C = A*B and D = A^2*B, of which effects of three factors are named.
+#[test]
+fn classes_of_three_levels(rt: HostRuntime) -> Result<(), Fail> {
+    let alloc = rt.alloc();
+    let ninth = Shape {
+        q: 3,
+        m: 2,
+        s: 4,
+        t: 0,
+    };
+    let matrix = matrix_of(&rt, ninth, &[1, 3, 4, 5]);
+    let text = b"proc factex; factors A B C D / nlev=3; size design=9; \
+model estimate=(A) nonneg=(B*C*D);";
+    has_aliases(
+        &rt,
+        alloc,
+        text,
+        &matrix,
+        b"aliasing
+  mean = A^2*B^2*C = A*B^2*D = A^2*C^2*D = B*C*D
+  A = B^2*C = B^2*D = C^2*D = A*B^2*C = A^2*B^2*D = A*C^2*D
+  B = A^2*C = A*D = C*D = A^2*B*C = A*B*D = B^2*C*D
+  C = A*B = A^2*D = B*D = A*B*C = A^2*C*D = B*C^2*D
+  D = A^2*B = A*C = B*C = A^2*B*D = A*C*D = B^2*C^2*D
+",
+    )
+}
+
+/// A sum is a multiple of another by 2 or 3 in the field of four codes.
+#[test]
+fn classes_of_four_levels(rt: HostRuntime) -> Result<(), Fail> {
+    let alloc = rt.alloc();
+    let quarter = Shape {
+        q: 4,
+        m: 2,
+        s: 3,
+        t: 0,
+    };
+    let matrix = matrix_of(&rt, quarter, &[1, 4, 9]);
+    let text = b"proc factex; factors A B C / nlev=4; size design=16; model resolution=3;";
+    has_aliases(
+        &rt,
+        alloc,
+        text,
+        &matrix,
+        b"aliasing
+  A = B^2*C
+  B = A*C
+  C = A^3*B
+  A*B = A^3*C = B^3*C
+  A^2*B = A^2*C = B*C
+",
+    )
+}
+
+/// Tests that the head and the rules of a step's outcome with this matrix are these.
+fn has_head_and_rules(
+    rt: &impl Abort,
+    alloc: Global,
+    step: &Step,
+    end: End,
+    matrix: Matrix,
+    nodes: u64,
+    expected: &[u8],
+) -> Result<(), Fail> {
+    let mut out = Bytes::new(alloc);
+    assert!(rt; end != End::NoDesign);
+    assert!(rt; matrix.len() == matrix.shape().rows());
+    assert!(rt; usize::from(matrix.shape().s) == step.factors.len());
+    rules_listing(alloc, step, &matrix, &mut out)?;
+    let shape = matrix.shape();
+    let outcome = Outcome {
+        end,
+        shape,
+        matrix: Some(matrix),
+        nodes,
+        books: Books::new(alloc),
+    };
+    head_listing(alloc, 1, step, &outcome, &mut out)?;
+    assert!(rt; out.as_slice() == expected);
+    Ok(())
+}
+
+/// Nine runs in nine blocks: the second block factor is a run factor of its own.
+#[test]
+fn block_factors_are_ruled(rt: HostRuntime) -> Result<(), Fail> {
+    let alloc = rt.alloc();
+    let text = b"proc factex; factors A B C / nlev=3; size design=27; \
+model estimate=(A); blocks nblocks=9;";
+    let program = program_of(&rt, alloc, text)?;
+    assert!(rt; program.len() == 1);
+    let in_blocks = Shape {
+        q: 3,
+        m: 3,
+        s: 3,
+        t: 2,
+    };
+    let matrix = matrix_of(&rt, in_blocks, &[1, 3, 4, 9, 15]);
+    has_head_and_rules(
+        &rt,
+        alloc,
+        program.get(0),
+        End::Budget,
+        matrix,
+        30,
+        b"rules
+  C = A*B
+  [1] = run factor 3
+  [2] = B^2*[1]
+step 1
+factors 3 levels 3
+budget ended after 30 nodes
+design 27 runs in 9 blocks not proved best
+resolution 3
+",
+    )
+}
+
+#[test]
+fn no_design_of_the_least_size(rt: HostRuntime) -> Result<(), Fail> {
+    let alloc = rt.alloc();
+    let text = b"proc factex; factors A B / nlev=3; size design=min; model resolution=3; \
+blocks nblocks=3;";
+    let program = program_of(&rt, alloc, text)?;
+    assert!(rt; program.len() == 1);
+    let outcome = Outcome {
+        end: End::NoDesign,
+        shape: Shape {
+            q: 3,
+            m: 6,
+            s: 2,
+            t: 1,
+        },
+        matrix: None,
+        nodes: 50,
+        books: Books::new(alloc),
+    };
+    let mut out = Bytes::new(alloc);
+    head_listing(alloc, 1, program.get(0), &outcome, &mut out)?;
+    assert!(rt;
+        out.as_slice()
+            == b"step 1
+factors 2 levels 3
+no design in at most 729 runs
+nodes 50
+"
+                .as_slice()
+    );
+    Ok(())
+}
+
+/// Eight runs in four blocks, by B*C and A*C.
+#[test]
+fn a_design_in_blocks_is_listed(rt: HostRuntime) -> Result<(), Fail> {
+    let alloc = rt.alloc();
+    let in_blocks = Shape {
+        q: 2,
+        m: 3,
+        s: 3,
+        t: 2,
+    };
+    let matrix = matrix_of(&rt, in_blocks, &[1, 2, 4, 6, 5]);
+    let text = b"proc factex; factors A B C; size design=8; model resolution=3; blocks nblocks=4;";
+    let program = program_of(&rt, alloc, text)?;
+    assert!(rt; program.len() == 1);
+    let step = program.get(0);
+    assert!(rt; matrix.len() == matrix.shape().rows());
+    assert!(rt; usize::from(matrix.shape().s) == step.factors.len());
+    assert!(rt; are_few(matrix.shape()));
+    let mut out = Bytes::new(alloc);
+    design_listing(alloc, step, &matrix, &mut out)?;
+    blocked_listing(alloc, step, &matrix, &mut out)?;
+    assert!(rt;
+        out.as_slice()
+            == b"points BLOCK A B C
+  1 1 -1 -1 -1
+  2 4 -1 -1 1
+  3 2 -1 1 -1
+  4 3 -1 1 1
+  5 3 1 -1 -1
+  6 2 1 -1 1
+  7 4 1 1 -1
+  8 1 1 1 1
+blocked
+  A*B
+  A*C
+  B*C
+"
+                .as_slice()
+    );
+    has_aliases(
+        &rt,
+        alloc,
+        text,
+        &matrix,
+        b"aliasing\n  A\n  B\n  C\n  A*B\n  A*C\n  B*C\n",
+    )?;
+    has_head_and_rules(
+        &rt,
+        alloc,
+        step,
+        End::Design,
+        matrix,
+        16,
+        b"rules
+  [1] = B*C
+  [2] = A*C
+step 1
+factors 3 levels 2
+design 8 runs in 4 blocks
+no defining words
+nodes 16
+",
+    )
+}
+
+#[test]
+fn without_blocks_nothing_is_confounded(rt: HostRuntime) -> Result<(), Fail> {
+    let alloc = rt.alloc();
+    let thirds = Shape {
+        q: 3,
+        m: 1,
+        s: 2,
+        t: 0,
+    };
+    let matrix = matrix_of(&rt, thirds, &[1, 1]);
+    let text = b"proc factex; factors Speed Feed / nlev=3; size design=3; model resolution=3;";
+    let program = program_of(&rt, alloc, text)?;
+    assert!(rt; program.len() == 1);
+    let step = program.get(0);
+    assert!(rt; matrix.len() == matrix.shape().rows());
+    assert!(rt; usize::from(matrix.shape().s) == step.factors.len());
+    assert!(rt; are_few(matrix.shape()));
+    let mut out = Bytes::new(alloc);
+    design_listing(alloc, step, &matrix, &mut out)?;
+    blocked_listing(alloc, step, &matrix, &mut out)?;
+    assert!(rt;
+        out.as_slice()
+            == b"points Speed Feed
+  1 -1 -1
+  2 0 0
+  3 1 1
+blocked
+  none
+"
+                .as_slice()
+    );
+    Ok(())
+}

@@ -1,0 +1,14 @@
+//! Tests of the crates of the search, in a crate of their own: a crate with tests is proved twice, and
+//! each crate with tests is linked and proved down to the machine.
+#![tactic(auto)]
+
+#[cfg(test)]
+mod barred;
+#[cfg(test)]
+mod demands;
+#[cfg(test)]
+mod points;
+#[cfg(test)]
+mod tree;
+#[cfg(test)]
+mod words;

@@ -1,0 +1,136 @@
+ghost use Rattle.std.specs.Prelude.{◌≡◌, IfOk};
+ghost use Rattle.fx_vectors.specs.Question.{IsValid};
+
+use fx_base::NoMemory;
+use fx_tree::{before, children, is_canonical};
+use fx_vectors::{Demands, Effect, Effects, Matrix, Question, Shape};
+use std::alloc::Global;
+use std::test::Fail;
+
+/// Asks for seven factors of two levels in sixteen runs, at resolution 4.
+fn seven_factors() -> Question
+    ensures valid { IsValid result }
+    ensures shape { result.shape ≡ record { q = 2; m = 4; s = 7; t = 0 } }
+{
+    Question {
+        shape: Shape {
+            q: 2,
+            m: 4,
+            s: 7,
+            t: 0,
+        },
+        demands: Demands::Resolution { r: 4 },
+        least: false,
+    }
+}
+
+/// Asks for three factors of two levels in eight runs, in four blocks, at resolution 3.
+fn in_blocks() -> Question
+    ensures valid { IsValid result }
+    ensures shape { result.shape ≡ record { q = 2; m = 3; s = 3; t = 2 } }
+{
+    Question {
+        shape: Shape {
+            q: 2,
+            m: 3,
+            s: 3,
+            t: 2,
+        },
+        demands: Demands::Resolution { r: 3 },
+        least: false,
+    }
+}
+
+/// Asks for the main effects of two of three factors of three levels in nine runs.
+fn two_effects(alloc: Global) -> Result<Question, NoMemory>
+    ensures valid { IfOk result IsValid }
+    ensures shape { IfOk result (λ question.
+        question.shape ≡ record { q = 3; m = 2; s = 3; t = 0 }) }
+{
+    let estimate = Effects::from_slice(alloc, &[Effect(1), Effect(2)])?;
+    Ok(Question {
+        shape: Shape {
+            q: 3,
+            m: 2,
+            s: 3,
+            t: 0,
+        },
+        demands: Demands::Effects {
+            estimate,
+            nonnegligible: Effects::new(alloc),
+        },
+        least: false,
+    })
+}
+
+#[test]
+fn unit_rows_come_first_and_later_rows_fall(rt: HostRuntime) -> Result<(), Fail> {
+    let question = seven_factors();
+    let mut prefix = Matrix::new(question.shape);
+    assert!(rt; is_canonical(&question, &prefix));
+    assert!(rt; children(rt.alloc(), &question, &prefix)?.as_slice() == [1].as_slice());
+    prefix.push(1);
+    prefix.push(2);
+    prefix.push(4);
+    prefix.push(8);
+    assert!(rt; is_canonical(&question, &prefix));
+    let all = [15, 14, 13, 12, 11, 10, 9, 7, 6, 5, 3];
+    assert!(rt; children(rt.alloc(), &question, &prefix)?.as_slice() == all.as_slice());
+    prefix.push(9);
+    assert!(rt; is_canonical(&question, &prefix));
+    assert!(rt; children(rt.alloc(), &question, &prefix)?.as_slice() == [7, 6, 5, 3].as_slice());
+    prefix.push(10);
+    assert!(rt; !is_canonical(&question, &prefix));
+    Ok(())
+}
+
+/// The rank is to become 2: after the rows 1 and 1 only the second unit row can raise it.
+#[test]
+fn effects_leave_the_unit_rows_free(rt: HostRuntime) -> Result<(), Fail> {
+    let question = two_effects(rt.alloc())?;
+    let mut prefix = Matrix::new(question.shape);
+    prefix.push(1);
+    assert!(rt; is_canonical(&question, &prefix));
+    assert!(rt; children(rt.alloc(), &question, &prefix)?.as_slice() == [3, 1, 0].as_slice());
+    prefix.push(1);
+    assert!(rt; is_canonical(&question, &prefix));
+    assert!(rt; children(rt.alloc(), &question, &prefix)?.as_slice() == [3].as_slice());
+    prefix.pop();
+    prefix.push(3);
+    assert!(rt; is_canonical(&question, &prefix));
+    assert!(rt; children(rt.alloc(), &question, &prefix)?.as_slice() == [5, 4, 3, 1, 0].as_slice());
+    Ok(())
+}
+
+#[test]
+fn block_rows_may_repeat_and_be_zero(rt: HostRuntime) -> Result<(), Fail> {
+    let question = in_blocks();
+    let mut prefix = Matrix::new(question.shape);
+    prefix.push(1);
+    prefix.push(2);
+    prefix.push(4);
+    assert!(rt; is_canonical(&question, &prefix));
+    let all = [7, 6, 5, 4, 3, 2, 1, 0];
+    assert!(rt; children(rt.alloc(), &question, &prefix)?.as_slice() == all.as_slice());
+    prefix.push(6);
+    prefix.push(6);
+    assert!(rt; is_canonical(&question, &prefix));
+    assert!(rt; children(rt.alloc(), &question, &prefix)?.is_empty());
+    Ok(())
+}
+
+#[test]
+fn a_prefix_stands_before_its_extensions(rt: HostRuntime) {
+    let question = in_blocks();
+    let mut a = Matrix::new(question.shape);
+    let mut b = Matrix::new(question.shape);
+    a.push(1);
+    b.push(1);
+    assert!(rt; !before(&a, &b));
+    b.push(2);
+    assert!(rt; before(&a, &b));
+    assert!(rt; !before(&b, &a));
+    a.push(4);
+    assert!(rt; before(&a, &b));
+    assert!(rt; !before(&b, &a));
+}
