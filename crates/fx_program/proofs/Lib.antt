@@ -14,3 +14,6 @@ mod Statuses
 mod Messages
 mod Summing
 pub mod Made
+pub mod MadePieces
+pub mod MadeSymbols
+pub mod MadeSteps

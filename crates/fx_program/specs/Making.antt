@@ -1,6 +1,8 @@
 -- The text of `make`: a program of many steps, to try the program on.
-use Rattle.std.specs.Prelude.{ℕ, ◌+◌, ◌%◌, ◌==◌, if◌then◌else◌, List, ◌++◌, codes, decimal}
+use Rattle.std.specs.Prelude.{ℕ, ◌≡◌, ◌+◌, ◌%◌, ◌==◌, if◌then◌else◌, List, ◌++◌, length, codes, decimal, Result, Ok, Err}
 use Rattle.std.specs.List.{flat_map, range_with_len}
+use Rattle.fx_statements.specs.Steps.{Meaning}
+use Rattle.fx_program.specs.declared.text.TextFault.{TextFault}
 
 -- the number of levels of the step of number k: 3 where k is a multiple of 3, else 2
 abbrev pub levels_at : ℕ → ℕ
@@ -33,3 +35,8 @@ step_text k = codes "proc factex nodes=20000;\n" ++ (factors_line k ++ (size_lin
 -- the text of the steps 1 to n
 unfoldable pub made_text : ℕ → List ℕ
 made_text n = flat_map step_text (range_with_len 1 n)
+
+-- the text of a program has so many steps
+abbrev pub HasSteps : ℕ → Result (List Meaning) TextFault → Type 0
+HasSteps n (Ok steps) = length steps ≡ n
+HasSteps n (Err fault) = ⊥

@@ -5,6 +5,7 @@ ghost use Rattle.fx_designs.specs.Problems.{Dimensions, Problem};
 ghost use Rattle.fx_laws.specs.First.{IsFirstDesign};
 ghost use Rattle.fx_statements.specs.Steps.{Meaning};
 ghost use Rattle.fx_statements.specs.Questions.{asked, last_of, nodes_of, questions_of};
+ghost use Rattle.fx_program.specs.Making.{HasSteps, made_text};
 ghost use Rattle.fx_program.specs.Texts.{program_in};
 ghost use Rattle.fx_designs.specs.Outcomes.{Design, NoDesign};
 ghost use Rattle.fx_program.specs.Output.{ending_given, program_output, step_output};
@@ -129,4 +130,9 @@ pub fn greatest_status_decides()
 /// in the text, that of one of its bytes or of its end.
 pub fn faults_have_a_message_and_a_place()
     ensures { (text : List ℕ) → IfErr (program_in text) (HasItsMessage text) }
+{}
+
+/// Each text of `make` is a program of as many steps as were asked for.
+pub fn made_texts_are_programs()
+    ensures { (n : ℕ) → n ≤ 100 → HasSteps n (program_in (made_text n)) }
 {}

@@ -1,5 +1,5 @@
 pub mod Places
 mod Steps
-mod Pass
+pub mod Pass
 mod Examples
 pub mod Rules
