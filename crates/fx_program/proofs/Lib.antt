@@ -2,6 +2,7 @@ mod Examples
 mod Wording
 mod Reading
 mod Endings
+mod Limits
 mod SoFar
 mod Filing
 mod Given

@@ -5,6 +5,7 @@ ghost use Rattle.fx_designs.specs.Problems.{Dimensions, Problem};
 ghost use Rattle.fx_laws.specs.First.{IsFirstDesign};
 ghost use Rattle.fx_statements.specs.Steps.{Meaning};
 ghost use Rattle.fx_statements.specs.Questions.{asked, last_of, nodes_of, questions_of};
+ghost use Rattle.fx_answer.specs.Books.{books_of};
 ghost use Rattle.fx_program.specs.Texts.{program_in};
 ghost use Rattle.fx_designs.specs.Outcomes.{Design, NoDesign};
 ghost use Rattle.fx_program.specs.Output.{ending_given, program_output, step_output};
@@ -36,7 +37,7 @@ pub fn first_design_is_given()
         → step.settings.least ≡ false
         → IsFirstDesign p rows
         → step_output seed number step
-        ≡ ending_given seed number p.dimensions step
+        ≡ ending_given seed number p.dimensions step (books_of step)
         (Design rows (nodes_of (asked (questions_of step)))) }
     ensures least { (seed number : ℕ) (step : Meaning) (p : Problem) (rows : List ℕ)
         → 1 ≤ length step.factors
@@ -45,14 +46,14 @@ pub fn first_design_is_given()
         → step.settings.least ≡ true
         → IsFirstOfLeastPattern p rows
         → step_output seed number step
-        ≡ ending_given seed number p.dimensions step
+        ≡ ending_given seed number p.dimensions step (books_of step)
         (Design rows (nodes_of (asked (questions_of step)))) }
     ensures none { (seed number : ℕ) (step : Meaning) → 1 ≤ length step.factors
         → nodes_of (asked (questions_of step)) ≤ step.settings.budget
         → All HasNoDesign (asked (questions_of step))
         → step_output seed number step
         ≡ ending_given seed number
-        (last_of (questions_of step).first (asked (questions_of step))).dimensions step
+        (last_of (questions_of step).first (asked (questions_of step))).dimensions step (books_of step)
         (NoDesign (nodes_of (asked (questions_of step)))) }
 {}
 
