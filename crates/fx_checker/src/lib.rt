@@ -13,5 +13,5 @@ mod walk;
 mod words;
 
 pub use checking::check;
-pub use laws::{accepted_where_good, good_books_close};
+pub use laws::{accepted_where_good, good_books_close, least_marks_are_good, marks_are_good};
 pub use verdict::{Reason, Verdict};
