@@ -6,4 +6,4 @@ mod Sound
 mod Examples
 mod Existence
 mod ClosingWords
-mod Marks
+pub mod Marks
