@@ -6,6 +6,7 @@
 mod checking;
 mod judge;
 mod laws;
+mod rows;
 #[cfg(test)]
 mod tests;
 mod verdict;
