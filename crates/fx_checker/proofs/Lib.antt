@@ -4,6 +4,6 @@ mod Turns
 mod Good
 mod Sound
 mod Examples
-mod Existence
+pub mod Existence
 mod ClosingWords
 pub mod Marks

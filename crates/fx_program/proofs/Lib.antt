@@ -3,6 +3,7 @@ mod Wording
 mod Reading
 mod Endings
 mod Limits
+pub mod ValidBooks
 mod SoFar
 mod Filing
 mod Given
