@@ -16,3 +16,6 @@ mod Statuses
 mod Messages
 mod Summing
 pub mod Made
+pub mod NameSpellings
+pub mod StepCounts
+pub mod FileNames

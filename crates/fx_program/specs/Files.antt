@@ -1,8 +1,8 @@
 -- The files of a step, and the lines of its listing that name them.
-use Rattle.std.specs.Prelude.{ℕ, ◌*◌, ◌^◌, List, [], ◌++◌, map, Option, Some, None, codes, decimal}
+use Rattle.std.specs.Prelude.{ℕ, ◌*◌, ◌^◌, List, [], ◌∷◌, ◌++◌, map, Option, Some, None, codes, decimal}
 use Rattle.std.specs.List.{flat_map}
 use Rattle.std.specs.Str.{str_to_ascii_lowercase}
-use Rattle.fx_base.specs.Acts.{Event, WholeFile}
+use Rattle.fx_base.specs.Acts.{Event, Piece, WholeFile}
 use Rattle.fx_designs.specs.Problems.{Dimensions}
 use Rattle.fx_designs.specs.Outcomes.{Ending, Design, NoDesign, BudgetEnded}
 use Rattle.fx_outputs.specs.declared.output.OutputSpec.{OutputSpec}
@@ -48,6 +48,12 @@ plan_file seed factors matrix output = WholeFile (file_name output.name) (plan_o
 abbrev pub plan_files : ℕ → Meaning → Option MatrixView → List Event
 plan_files seed step None = []
 plan_files seed step (Some matrix) = map (plan_file seed step.factors matrix) step.outputs
+
+-- the names of the files among events
+abbrev pub names_among : List Event → List (List ℕ)
+names_among [] = []
+names_among (Piece bytes ∷ events) = names_among events
+names_among (WholeFile name content ∷ events) = name ∷ names_among events
 
 -- the seed by which a plan is shuffled
 abbrev pub seed_note : ℕ → Shuffle → List ℕ

@@ -1,4 +1,5 @@
 ghost use Rattle.std.specs.Prelude.{◌≡◌, ◌↔◌, ◌<◌, ◌≤◌, List, ℕ, Ok, IfErr, true, false, length, All};
+ghost use Rattle.std.specs.List.{IsDistinct};
 ghost use Rattle.fx_program.specs.Refusals.{HasItsMessage};
 ghost use Rattle.fx_designs.specs.Matrices.{NoneMeets};
 ghost use Rattle.fx_designs.specs.Problems.{Dimensions, Problem};
@@ -6,6 +7,8 @@ ghost use Rattle.fx_laws.specs.First.{IsFirstDesign};
 ghost use Rattle.fx_statements.specs.Steps.{Meaning};
 ghost use Rattle.fx_statements.specs.Questions.{asked, last_of, nodes_of, questions_of};
 ghost use Rattle.fx_answer.specs.Books.{books_of};
+ghost use Rattle.fx_text.specs.Names.{is_same_name};
+ghost use Rattle.fx_program.specs.Files.{names_among};
 ghost use Rattle.fx_program.specs.Texts.{program_in};
 ghost use Rattle.fx_designs.specs.Outcomes.{Design, NoDesign};
 ghost use Rattle.fx_program.specs.Output.{ending_given, program_output, step_output};
@@ -130,4 +133,11 @@ pub fn greatest_status_decides()
 /// in the text, that of one of its bytes or of its end.
 pub fn faults_have_a_message_and_a_place()
     ensures { (text : List ℕ) → IfErr (program_in text) (HasItsMessage text) }
+{}
+
+/// The files of a program have different names, without regard to case: those of its books and of its
+/// plans.
+pub fn file_names_differ()
+    ensures { (seed : ℕ) (text : List ℕ)
+        → IsDistinct is_same_name (names_among (program_output seed (program_in text)).events) }
 {}
