@@ -27,17 +27,17 @@ examined step matrix =
 abbrev pub matrix_of : Dimensions → List ℕ → MatrixView
 matrix_of d rows = record { shape = record { q = d.q; m = d.m; s = d.s; t = d.t }; rows = rows }
 
--- the sections of a matrix: its rules, and those that the step asks for
-abbrev pub matrix_sections : Dimensions → Meaning → List ℕ → List ℕ
-matrix_sections d step rows = rules d step.factors rows ++ examined step (matrix_of d rows)
+-- what is listed of a matrix: its rules, then the lines of the step's books, and the sections that the step asks for
+abbrev pub matrix_sections : Dimensions → Meaning → List ℕ → List ℕ → List ℕ
+matrix_sections d step books rows = rules d step.factors rows ++ (books ++ examined step (matrix_of d rows))
 
--- the sections after the head, where there is a matrix
-abbrev pub sections : Dimensions → Meaning → Ending → List ℕ
-sections d step (Design rows count) = matrix_sections d step rows
-sections d step (NoDesign count) = []
-sections d step (BudgetEnded None budget) = []
-sections d step (BudgetEnded (Some rows) budget) = matrix_sections d step rows
+-- the lines after the head, with those of the books
+abbrev pub sections : Dimensions → Meaning → List ℕ → Ending → List ℕ
+sections d step books (Design rows count) = matrix_sections d step books rows
+sections d step books (NoDesign count) = books
+sections d step books (BudgetEnded None budget) = books
+sections d step books (BudgetEnded (Some rows) budget) = matrix_sections d step books rows
 
--- all lines of the step of this number, in these dimensions
-unfoldable pub step_lines : ℕ → Dimensions → Meaning → Ending → List ℕ
-step_lines number d step ending = head_lines number step d ending ++ sections d step ending
+-- all lines of the step of this number, in these dimensions, with the lines of its books
+unfoldable pub step_lines : ℕ → Dimensions → Meaning → List ℕ → Ending → List ℕ
+step_lines number d step books ending = head_lines number step d ending ++ sections d step books ending

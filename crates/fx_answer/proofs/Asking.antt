@@ -1,5 +1,5 @@
 -- How the asking goes on from one question to the next.
-use Rattle.std.proofs.Common.{ℕ, ◌≡◌, ◌<◌, ◌≤◌, ◌+◌, ◌-◌, ◌||◌, true, false, List, [], ◌∷◌, ◌++◌, map, length, Option, None, suc, refl, sym, ap, ◌∙◌, arith, inl, inr, append_assoc, lt-ltb, le-ltb, eqb, eqb-true, eq-eqb}
+use Rattle.std.proofs.Common.{ℕ, ◌≡◌, ◌<◌, ◌≤◌, ◌+◌, ◌-◌, ◌||◌, true, false, List, [], ◌∷◌, ◌++◌, map, length, Option, None, suc, refl, sym, ap, ◌∙◌, arith, inl, inr, append-nil, append_assoc, ap₂, length-append, Some, lt-ltb, le-ltb, eqb, eqb-true, eq-eqb}
 use Rattle.std.specs.Prelude.{find}
 use Rattle.std.specs.List.{range_with_len}
 use Rattle.std.proofs.lemmas.Bool.{cases_Bool, cond-true, cond-false, cases_eq, or_right, or_from, false_from_ne_true}
@@ -8,8 +8,10 @@ use Rattle.fx_designs.specs.Problems.{Problem}
 use Rattle.fx_designs.specs.Answers.{answer}
 use Rattle.fx_designs.specs.Nodes.{nodes}
 use Rattle.fx_statements.specs.Steps.{Meaning}
-use Rattle.fx_statements.specs.Questions.{Until, Found, Turn, concluded, conclusion_by, conclusion_of, cut_short, found_by, highest, is_last, last_found, last_of, left_at, lowest, nodes_of, outcome_of, passes, question_for, turns, until, up_to}
-use Rattle.fx_answer.specs.Standing.{conclusion_after, conclusion_from, conclusion_past, questions_above}
+use Rattle.fx_statements.specs.Questions.{Until, Found, Turn, conclusion_of, found_by, highest, is_last, last_found, last_of, lowest, nodes_of, outcome_of, passes, question_for, turns, until, up_to}
+use Rattle.fx_vectors.specs.declared.book.NamedBook.{NamedBook}
+use Rattle.fx_answer.specs.Books.{book_at, books_from, books_of, finished}
+use Rattle.fx_answer.specs.Standing.{ComeBefore, all_books_from, conclusion_from, questions_above, value_after, value_from, value_past}
 
 -- with one question more there are its nodes more
 pub nodes_more : (ps : List Problem) (p : Problem) → nodes_of (ps ++ p ∷ []) ≡ nodes_of ps + length (nodes p)
@@ -20,16 +22,14 @@ pub found_more : (earlier : Option Found) (ps : List Problem) (p : Problem) → 
 found_more earlier [] p = refl
 found_more earlier (x ∷ ps) p = found_more (found_by earlier x (answer x)) ps p
 
-turn_of : List Problem → Problem → Turn
-turn_of earlier p = record { earlier = earlier; question = p }
-
-module _ (budget : ℕ) (ends : Until) (earlier : List Problem) (p : Problem) where
+module _ {T : Type 0} (value : Problem → List Problem → Option Turn → T) (budget : ℕ) (ends : Until) (earlier : List Problem) (p : Problem) where
   -- the budget ends in the question p
   pub ended : (others : List Problem) → budget < nodes_of earlier + length (nodes p)
-      → conclusion_after budget ends earlier p others ≡ cut_short p (left_at budget (record { earlier = earlier; question = p })) budget
+      → value_after value budget ends earlier p others
+      ≡ (let rest = up_to (is_last ends) (p ∷ others) in value (last_of p rest) (earlier ++ rest) (Some (record { earlier = earlier; question = p })))
   ended others more =
       let rest = up_to (is_last ends) (p ∷ others) in
-      ap (conclusion_by (last_of p rest) (earlier ++ rest) budget)
+      ap (value (last_of p rest) (earlier ++ rest))
       (cond-true _ _ _ (lt-ltb budget (nodes_of earlier + length (nodes p)) more))
 
   module _ (within : nodes_of earlier + length (nodes p) ≤ budget) where
@@ -37,29 +37,28 @@ module _ (budget : ℕ) (ends : Until) (earlier : List Problem) (p : Problem) wh
     passed_by rest = cond-false _ _ _ (le-ltb budget (nodes_of earlier + length (nodes p)) within)
 
     alone : (rest : List Problem) → rest ≡ []
-        → conclusion_by (last_of p (p ∷ rest)) (earlier ++ p ∷ rest) budget (find (passes budget) (turns earlier (p ∷ rest)))
-        ≡ concluded p (last_found None (earlier ++ p ∷ [])) (nodes_of (earlier ++ p ∷ []))
+        → value (last_of p (p ∷ rest)) (earlier ++ p ∷ rest) (find (passes budget) (turns earlier (p ∷ rest)))
+        ≡ value p (earlier ++ p ∷ []) None
     alone rest is =
-        ap (λ rest. conclusion_by (last_of p (p ∷ rest)) (earlier ++ p ∷ rest) budget (find (passes budget) (turns earlier (p ∷ rest)))) is
-        ∙ ap (conclusion_by p (earlier ++ p ∷ []) budget) (passed_by [])
+        ap (λ rest. value (last_of p (p ∷ rest)) (earlier ++ p ∷ rest) (find (passes budget) (turns earlier (p ∷ rest)))) is
+        ∙ ap (value p (earlier ++ p ∷ [])) (passed_by [])
 
     -- it is finished, and its answer is such that no further question is asked
-    pub decided : (others : List Problem) → is_last ends p ≡ true
-        → conclusion_after budget ends earlier p others ≡ concluded p (last_found None (earlier ++ p ∷ [])) (nodes_of (earlier ++ p ∷ []))
+    pub decided : (others : List Problem) → is_last ends p ≡ true → value_after value budget ends earlier p others ≡ value p (earlier ++ p ∷ []) None
     decided others is = alone _ (cond-true _ _ _ is)
 
     -- it is finished, and there is no further question
-    pub at_end : conclusion_after budget ends earlier p [] ≡ concluded p (last_found None (earlier ++ p ∷ [])) (nodes_of (earlier ++ p ∷ []))
+    pub at_end : value_after value budget ends earlier p [] ≡ value p (earlier ++ p ∷ []) None
     at_end = alone _ (elim (cases_Bool (is_last ends p)) [ inl is ↦ cond-true _ _ _ is | inr not ↦ cond-false _ _ _ not ])
 
     -- it is finished, and the next one is asked
     pub next : (following : Problem) (others : List Problem) → is_last ends p ≡ false
-        → conclusion_after budget ends earlier p (following ∷ others) ≡ conclusion_after budget ends (earlier ++ p ∷ []) following others
+        → value_after value budget ends earlier p (following ∷ others) ≡ value_after value budget ends (earlier ++ p ∷ []) following others
     next following others is =
         let rest = up_to (is_last ends) (following ∷ others) in
-        ap (λ rest. conclusion_by (last_of p (p ∷ rest)) (earlier ++ p ∷ rest) budget (find (passes budget) (turns earlier (p ∷ rest)))) (cond-false _ _ _ is)
-        ∙ (ap (conclusion_by (last_of p (p ∷ rest)) (earlier ++ p ∷ rest) budget) (passed_by rest)
-        ∙ ap (λ ps. conclusion_by (last_of p rest) ps budget (find (passes budget) (turns (earlier ++ p ∷ []) rest))) (sym (append_assoc earlier (p ∷ []) rest)))
+        ap (λ rest. value (last_of p (p ∷ rest)) (earlier ++ p ∷ rest) (find (passes budget) (turns earlier (p ∷ rest)))) (cond-false _ _ _ is)
+        ∙ (ap (value (last_of p (p ∷ rest)) (earlier ++ p ∷ rest)) (passed_by rest)
+        ∙ ap (λ ps. value (last_of p rest) ps (find (passes budget) (turns (earlier ++ p ∷ []) rest))) (sym (append_assoc earlier (p ∷ []) rest)))
 
 -- the questions of a step
 module _ (step : Meaning) where
@@ -73,24 +72,25 @@ module _ (step : Meaning) where
   none_above n is = ap (λ k. map (question_for step) (range_with_len (n + 1) k)) (let e : last - n ≡ 0 = omega (arith, is) in e)
 
   -- where the question for n is finished, it is the last or the next one is asked
-  pub past : (earlier : List Problem) (n : ℕ) → n ≤ last → nodes_of earlier + length (nodes (question_for step n)) ≤ step.settings.budget
-      → conclusion_from step earlier n ≡ conclusion_past step (earlier ++ question_for step n ∷ []) n
-  past earlier n high within =
+  pub past : {T : Type 0} (value : Problem → List Problem → Option Turn → T) (earlier : List Problem) (n : ℕ) → n ≤ last
+      → nodes_of earlier + length (nodes (question_for step n)) ≤ step.settings.budget
+      → value_from value step earlier n ≡ value_past value step (earlier ++ question_for step n ∷ []) n
+  past value earlier n high within =
       let p = question_for step n in
       let ends = until step.settings.size in
       let budget = step.settings.budget in
       elim (cases_eq n last) [
         | inl same ↦
-            ap (conclusion_after budget ends earlier p) (none_above n same)
-            ∙ (at_end budget ends earlier p within
+            ap (value_after value budget ends earlier p) (none_above n same)
+            ∙ (at_end value budget ends earlier p within
             ∙ sym (cond-true _ _ _ (ap (λ b. b || is_last ends p) (eq-eqb n last same))))
         | inr other ↦ elim (cases_Bool (is_last ends p)) [
           | inl is ↦
-              decided budget ends earlier p within (questions_above step n) is
+              decided value budget ends earlier p within (questions_above step n) is
               ∙ sym (cond-true _ _ _ (or_right (eqb n last) _ is))
           | inr on ↦
-              ap (conclusion_after budget ends earlier p) (above n (let d : n < last = omega (arith, high, other) in d))
-              ∙ (next budget ends earlier p within (question_for step (n + 1)) (questions_above step (n + 1)) on
+              ap (value_after value budget ends earlier p) (above n (let d : n < last = omega (arith, high, other) in d))
+              ∙ (next value budget ends earlier p within (question_for step (n + 1)) (questions_above step (n + 1)) on
               ∙ sym (cond-false _ _ _ (or_from _ _ (false_from_ne_true _ (λ e. other (eqb-true n last e))) on)))
         ]
       ]
@@ -99,3 +99,31 @@ module _ (step : Meaning) where
   pub whole : conclusion_from step [] (lowest step step.settings.size) ≡ outcome_of step
   unfolding conclusion_of
   whole = refl
+
+  -- and so are its books
+  pub whole_books : all_books_from step [] (lowest step step.settings.size) ≡ books_of step
+  unfolding finished
+  whole_books = refl
+
+-- the book of one question more
+pub books_more : (number : ℕ) (ps : List Problem) (p : Problem) → books_from number (ps ++ p ∷ []) ≡ books_from number ps ++ book_at (number + length ps) p
+books_more number [] p =
+    append-nil (book_at number p) ∙ ap (λ n. book_at n p) (let e : number ≡ number + 0 = omega arith in e)
+books_more number (x ∷ ps) p =
+    ap (λ (l : List NamedBook). book_at number x ++ l) (books_more (number + 1) ps p)
+    ∙ (ap (λ n. book_at number x ++ (books_from (number + 1) ps ++ book_at n p)) (let e : number + 1 + length ps ≡ number + length (x ∷ ps) = omega arith in e)
+    ∙ sym (append_assoc (book_at number x) (books_from (number + 1) ps) (book_at (number + length (x ∷ ps)) p)))
+
+-- the question for n comes after those before it
+module _ (step : Meaning) (earlier : List Problem) (n : ℕ) (p : Problem) (come : ComeBefore step earlier n) where
+  pub come_more : ComeBefore step (earlier ++ p ∷ []) (n + 1)
+  come_more = let e = length-append earlier (p ∷ []) in omega (arith, come, e)
+
+  -- and so does its book
+  pub books_so_far : (asked : Problem) (number : ℕ) (old now : List NamedBook) → asked ≡ p → number ≡ 1 + (n - lowest step step.settings.size) → old ≡ books_from 1 earlier
+      → now ≡ old ++ book_at number asked → now ≡ books_from 1 (earlier ++ p ∷ [])
+  books_so_far asked number old now same is before e =
+      e
+      ∙ (ap (λ (l : List NamedBook). l ++ book_at number asked) before
+      ∙ (ap₂ (λ k q. books_from 1 earlier ++ book_at k q) (let k : number ≡ 1 + length earlier = omega (arith, is, come) in k) same
+      ∙ sym (books_more 1 earlier p)))

@@ -1,3 +1,4 @@
 pub mod Asking
+pub mod Booked
 pub mod Answered
 pub mod Valid

@@ -22,11 +22,16 @@ ghost use Rattle.fx_answer.specs.Standing.{
   IsOutcomeOf,
   IsShapeOf,
   IsWhole,
+  ComeBefore,
   StandsFor,
+  all_books_from,
+  all_books_past,
   conclusion_from,
   conclusion_past,
 };
+ghost use Rattle.fx_answer.specs.Books.{books_from};
 
+use crate::booking::{add_absence, add_answer, question_number};
 use crate::question::{highest, lowest, question_for};
 use fx_base::NoMemory;
 use fx_search::{Asked, ask_alone};
@@ -34,10 +39,22 @@ use fx_statements::{End, Outcome, Size, Step};
 use fx_vectors::{Books, Matrix, Shape};
 use std::alloc::Global;
 
+/// What the questions before have come to, which are finished.
+#[derive(Debug, Drop)]
+struct Finished {
+    /// The last design that was found.
+    found: Option<Matrix>,
+    /// The nodes of all together.
+    nodes: u64,
+    /// The books of those that have one.
+    books: Books,
+}
+
 /// The outcome of a step, by the answers of its questions, which are asked in order within its budget
 /// of nodes: the last design that is found; that no rule matrix at all meets what is asked; or,
 /// exactly where the questions have more nodes together than the budget, that the budget ended, with
-/// the best matrix so far, if there is one.
+/// the best matrix so far, if there is one. With it come the books of the finished questions without an
+/// answer or for a least pattern.
 ///
 /// # Errors
 ///
@@ -45,50 +62,66 @@ use std::alloc::Global;
 pub fn answer(alloc: Global, step: &Step) -> Result<Outcome, NoMemory>
     ensures { IfOk result (IsOutcome (meaning_of step.now)) }
 {
-    ask_from(alloc, step, lowest(step), None, 0)
+    let none = Finished {
+        found: None,
+        nodes: 0,
+        books: Books::new(alloc),
+    };
+    ask_from(alloc, step, lowest(step), none)
 }
 
-/// Asks the questions for the numbers from `n` on. `found` is the last design of those before, which
-/// have so many nodes together.
+/// Asks the questions for the numbers from `n` on, after those that are finished.
 #[cycle(asking)]
-fn ask_from(
-    alloc: Global,
-    step: &Step,
-    n: u8,
-    found: Option<Matrix>,
-    nodes: u64,
-) -> Result<Outcome, NoMemory>
+fn ask_from(alloc: Global, step: &Step, n: u8, finished: Finished) -> Result<Outcome, NoMemory>
     requires low { lowest (meaning_of step.now) step.now.size ≤ n }
     requires high { n ≤ highest (meaning_of step.now) step.now.size }
-    requires within { nodes ≤ step.now.budget }
-    requires found { IsOf (meaning_of step.now) found }
-    requires whole { IsWhole found }
+    requires within { finished.nodes ≤ step.now.budget }
+    requires found { IsOf (meaning_of step.now) finished.found }
+    requires whole { IsWhole finished.found }
     ensures of_step { IfOk result (IsOutcomeOf (meaning_of step.now)) }
     ensures concluded { IfOk result (λ outcome. (earlier : List Problem)
-        → nodes ≡ nodes_of earlier
-        → StandsFor found (last_found None earlier)
+        → finished.nodes ≡ nodes_of earlier
+        → StandsFor finished.found (last_found None earlier)
         → conclusion_in outcome ≡ conclusion_from (meaning_of step.now) earlier n) }
+    ensures books { IfOk result (λ outcome. (earlier : List Problem)
+        → finished.nodes ≡ nodes_of earlier
+        → ComeBefore (meaning_of step.now) earlier n
+        → finished.books ≡ books_from 1 earlier
+        → outcome.books ≡ all_books_from (meaning_of step.now) earlier n) }
 {
     let question = question_for(alloc, step, n)?;
-    match ask_alone(alloc, &question, step.budget - nodes)? {
+    let shape = question.shape;
+    let number = question_number(step, n);
+    let mut books = finished.books;
+    match ask_alone(alloc, &question, step.budget - finished.nodes)? {
         Asked::Found {
             matrix,
-            nodes: count,
-            marks: _marks,
-        } => go_on(
-            alloc,
-            step,
-            n,
-            question.shape,
-            true,
-            Some(matrix),
-            nodes + count,
-        ),
-        Asked::Nothing {
-            nodes: count,
-            marks: _marks,
-        } => go_on(alloc, step, n, question.shape, false, found, nodes + count),
-        Asked::Budget { best } => Ok(cut_short(alloc, question.shape, best.or(found), step.budget)),
+            nodes,
+            marks,
+        } => {
+            add_answer(alloc, &mut books, number, question, &matrix, marks)?;
+            let finished = Finished {
+                found: Some(matrix),
+                nodes: finished.nodes + nodes,
+                books,
+            };
+            go_on(alloc, step, n, shape, true, finished)
+        }
+        Asked::Nothing { nodes, marks } => {
+            add_absence(&mut books, number, question, marks)?;
+            let finished = Finished {
+                found: finished.found,
+                nodes: finished.nodes + nodes,
+                books,
+            };
+            go_on(alloc, step, n, shape, false, finished)
+        }
+        Asked::Budget { best } => Ok(cut_short(
+            shape,
+            best.or(finished.found),
+            step.budget,
+            books,
+        )),
     }
 }
 
@@ -100,27 +133,31 @@ fn go_on(
     n: u8,
     shape: Shape,
     is_answered: bool,
-    found: Option<Matrix>,
-    nodes: u64,
+    finished: Finished,
 ) -> Result<Outcome, NoMemory>
     requires low { lowest (meaning_of step.now) step.now.size ≤ n }
     requires high { n ≤ highest (meaning_of step.now) step.now.size }
-    requires within { nodes ≤ step.now.budget }
+    requires within { finished.nodes ≤ step.now.budget }
     requires shape { IsShapeOf (meaning_of step.now) shape }
     requires dimensions { (question_for (meaning_of step.now) n).dimensions ≡ dimensions_of shape }
     requires answered { is_answered ≡ is_some (answer (question_for (meaning_of step.now) n)) }
-    requires found { IsOf (meaning_of step.now) found }
-    requires whole { IsWhole found }
+    requires found { IsOf (meaning_of step.now) finished.found }
+    requires whole { IsWhole finished.found }
     ensures of_step { IfOk result (IsOutcomeOf (meaning_of step.now)) }
-    ensures concluded { IfOk result (λ outcome. (finished : List Problem)
-        → nodes ≡ nodes_of finished
-        → StandsFor found (last_found None finished)
-        → conclusion_in outcome ≡ conclusion_past (meaning_of step.now) finished n) }
+    ensures concluded { IfOk result (λ outcome. (earlier : List Problem)
+        → finished.nodes ≡ nodes_of earlier
+        → StandsFor finished.found (last_found None earlier)
+        → conclusion_in outcome ≡ conclusion_past (meaning_of step.now) earlier n) }
+    ensures books { IfOk result (λ outcome. (earlier : List Problem)
+        → finished.nodes ≡ nodes_of earlier
+        → ComeBefore (meaning_of step.now) earlier (n + 1)
+        → finished.books ≡ books_from 1 earlier
+        → outcome.books ≡ all_books_past (meaning_of step.now) earlier n) }
 {
     if n == highest(step) || is_last(step.size, is_answered) {
-        return Ok(concluded(alloc, shape, found, nodes));
+        return Ok(concluded(shape, finished));
     }
-    ask_from(alloc, step, n + 1, found, nodes)
+    ask_from(alloc, step, n + 1, finished)
 }
 
 /// Whether no further question is asked after one that has an answer, or has none.
@@ -135,16 +172,21 @@ fn is_last(size: Size, is_answered: bool) -> bool
 
 /// The outcome of finished questions, the last of which has this shape: the last design that was
 /// found, if any.
-fn concluded(alloc: Global, shape: Shape, found: Option<Matrix>, nodes: u64) -> Outcome
+fn concluded(shape: Shape, finished: Finished) -> Outcome
     requires shape { IsShape shape }
-    requires whole { IsWhole found }
+    requires whole { IsWhole finished.found }
     ensures concluded { (p : Problem) (last : Option Found)
         → p.dimensions ≡ dimensions_of shape
-        → StandsFor found last
-        → conclusion_in result ≡ concluded p last nodes }
-    ensures of_step { (step : Meaning) → IsShapeOf step shape → IsOf step found → IsOutcomeOf step result }
+        → StandsFor finished.found last
+        → conclusion_in result ≡ concluded p last finished.nodes }
+    ensures of_step { (step : Meaning) → IsShapeOf step shape → IsOf step finished.found → IsOutcomeOf step result }
+    ensures books { result.books ≡ finished.books }
 {
-    let books = Books::new(alloc);
+    let Finished {
+        found,
+        nodes,
+        books,
+    } = finished;
     match found {
         Some(matrix) => Outcome {
             end: End::Design,
@@ -163,8 +205,9 @@ fn concluded(alloc: Global, shape: Shape, found: Option<Matrix>, nodes: u64) -> 
     }
 }
 
-/// The outcome where the budget ended in a question of this shape, with what was found by then.
-fn cut_short(alloc: Global, shape: Shape, found: Option<Matrix>, budget: u64) -> Outcome
+/// The outcome where the budget ended in a question of this shape, with what was found by then, and
+/// the books of the questions before.
+fn cut_short(shape: Shape, found: Option<Matrix>, budget: u64, books: Books) -> Outcome
     requires shape { IsShape shape }
     requires whole { IsWhole found }
     ensures concluded { (p : Problem) (left : Option Found)
@@ -172,8 +215,8 @@ fn cut_short(alloc: Global, shape: Shape, found: Option<Matrix>, budget: u64) ->
         → StandsFor found left
         → conclusion_in result ≡ cut_short p left budget }
     ensures of_step { (step : Meaning) → IsShapeOf step shape → IsOf step found → IsOutcomeOf step result }
+    ensures books { result.books ≡ books }
 {
-    let books = Books::new(alloc);
     let shape = match &found {
         Some(matrix) => matrix.shape(),
         None => shape,

@@ -2,6 +2,7 @@
 #![tactic(auto)]
 
 mod answering;
+mod booking;
 mod question;
 #[cfg(test)]
 mod tests;

@@ -1,7 +1,7 @@
 mod Splits
 mod Numbers
 mod Lines
-mod Listed
+pub mod Listed
 mod Askable
 mod Back
 mod Books

@@ -75,7 +75,12 @@ pub spaced-more : (ns : List ℕ) (n : ℕ) → spaced (ns ++ n ∷ []) ≡ spac
 spaced-more [] n = refl
 spaced-more (m ∷ ns) n = ap (λ l. codes " " ++ (decimal m ++ l)) (spaced-more ns n) ∙ ap (λ l. codes " " ++ l) (sym (append_assoc (decimal m) (spaced ns) (spaced (n ∷ [])))) ∙ sym (append_assoc (codes " ") (decimal m ++ spaced ns) (spaced (n ∷ [])))
 
-pub joined : (o t s d b e f : List ℕ) → (((((o ++ t) ++ s) ++ d) ++ b) ++ e) ++ f ≡ o ++ (t ++ (s ++ (d ++ (b ++ (e ++ f)))))
-joined o t s d b e f =
-    append_assoc ((((o ++ t) ++ s) ++ d) ++ b) e f ∙ append_assoc (((o ++ t) ++ s) ++ d) b (e ++ f) ∙ append_assoc ((o ++ t) ++ s) d (b ++ (e ++ f))
-    ∙ append_assoc (o ++ t) s (d ++ (b ++ (e ++ f))) ∙ append_assoc o t (s ++ (d ++ (b ++ (e ++ f))))
+-- five pieces after what there was, of which the second to the fourth came together
+pub joined : (old title shape demands beat entries end : List ℕ)
+    → (((old ++ title) ++ (shape ++ (demands ++ beat))) ++ entries) ++ end ≡ old ++ (title ++ (shape ++ (demands ++ (beat ++ (entries ++ end)))))
+joined old title shape demands beat entries end =
+    append_assoc ((old ++ title) ++ (shape ++ (demands ++ beat))) entries end
+    ∙ append_assoc (old ++ title) (shape ++ (demands ++ beat)) (entries ++ end)
+    ∙ append_assoc old title ((shape ++ (demands ++ beat)) ++ (entries ++ end))
+    ∙ ap (λ (l : List ℕ). old ++ (title ++ l)) (append_assoc shape (demands ++ beat) (entries ++ end))
+    ∙ ap (λ (l : List ℕ). old ++ (title ++ (shape ++ l))) (append_assoc demands beat (entries ++ end))

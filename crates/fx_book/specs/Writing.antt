@@ -5,6 +5,7 @@ use Rattle.fx_vectors.specs.declared.shape.Shape.{Shape}
 use Rattle.fx_vectors.specs.declared.question.Demands.{Demands}
 use Rattle.fx_vectors.specs.declared.question.Demands.TheVariants.{Resolution, Effects}
 use Rattle.fx_vectors.specs.declared.book.Book.{Book}
+use Rattle.fx_vectors.specs.declared.book.Head.{Head}
 use Rattle.fx_book.specs.Entries.{entries_text}
 
 -- numbers, a blank before each
@@ -22,6 +23,10 @@ demands_text (Effects estimate nonnegligible) = codes "effects" ++ (spaced (numb
 abbrev pub beat_text : Option (List ℕ) → List ℕ
 beat_text None = codes "pattern none\n"
 beat_text (Some pattern) = codes "pattern" ++ (spaced pattern ++ codes "\n")
+
+-- lines 2 to 4, which say what a book is about
+abbrev pub head_text : Head → List ℕ
+head_text head = shape_text head.question.shape ++ (demands_text head.question.demands ++ beat_text head.beat)
 
 abbrev pub book_text : Book → List ℕ
 book_text book =

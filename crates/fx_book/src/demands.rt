@@ -1,14 +1,13 @@
 ghost use Rattle.std.specs.Prelude.{◌≡◌, ◌≤◌, ◌<◌, ◌+◌, ◌^◌, length, IfOk, IfSome, All, Some};
 ghost use Rattle.fx_vectors.specs.Shape.{IsShape};
-ghost use Rattle.fx_vectors.specs.Effects.{numbers_of, are_in_order};
-ghost use Rattle.fx_demands.specs.Bars.{AreNumbers};
+ghost use Rattle.fx_vectors.specs.Effects.{numbers_of};
 ghost use Rattle.fx_book.specs.Parts.{parts_of, parts_after, number_of};
 ghost use Rattle.fx_book.specs.Valid.{AreDemands};
 ghost use Rattle.fx_book.specs.Demands.{demands_of, resolution_of, resolution_within, effects_in, lists_of, asked_for, may_be_asked, are_apart};
 
 use crate::part::{is_word, next_stop, number};
 use fx_base::NoMemory;
-use fx_demands::{MOST_EFFECTS, in_order, pair_count};
+use fx_demands::{MOST_EFFECTS, are_in_order, pair_count};
 use fx_galois::Field;
 use fx_vectors::{Demands, Effect, Effects, Shape, contains};
 use std::alloc::Global;
@@ -39,7 +38,7 @@ pub(crate) fn demands_of(
     }
     match effect_lists(alloc, line, word, 2u128.pow(u32::from(shape.s)))? {
         None => Ok(None),
-        Some(lists) => asked_for(alloc, shape, lists),
+        Some(lists) => Ok(asked_for(shape, lists)),
     }
 }
 
@@ -143,51 +142,38 @@ fn effects_after(
 }
 
 /// The demands of two lists, if they may be asked for.
-fn asked_for(alloc: Global, shape: Shape, lists: EffectLists) -> Result<Option<Demands>, NoMemory>
+fn asked_for(shape: Shape, lists: EffectLists) -> Option<Demands>
     requires shaped { IsShape shape }
     requires estimate { All (λ e. (0 < e.0) × (e.0 < 2 ^ shape.s)) lists.estimate }
     requires nonnegligible { All (λ e. (0 < e.0) × (e.0 < 2 ^ shape.s)) lists.nonnegligible }
-    ensures read { IfOk result (λ demands. demands ≡ asked_for shape.q (Some lists)) }
-    ensures valid { IfOk result (λ demands. IfSome demands (AreDemands shape)) }
+    ensures read { result ≡ asked_for shape.q (Some lists) }
+    ensures valid { IfSome result (AreDemands shape) }
 {
-    if may_be_asked(alloc, shape.field(), &lists)? {
-        Ok(Some(Demands::Effects {
+    if may_be_asked(shape.field(), &lists) {
+        Some(Demands::Effects {
             estimate: lists.estimate,
             nonnegligible: lists.nonnegligible,
-        }))
+        })
     } else {
-        Ok(None)
+        None
     }
 }
 
-fn may_be_asked(alloc: Global, field: Field, lists: &EffectLists) -> Result<bool, NoMemory>
-    requires estimate { AreNumbers (numbers_of lists.now.estimate) }
-    requires nonnegligible { AreNumbers (numbers_of lists.now.nonnegligible) }
-    ensures { IfOk result (λ may. may ≡ may_be_asked field (numbers_of lists.now.estimate) (numbers_of lists.now.nonnegligible)) }
+fn may_be_asked(field: Field, lists: &EffectLists) -> bool
+    ensures { result ≡ may_be_asked field (numbers_of lists.now.estimate) (numbers_of lists.now.nonnegligible) }
 {
     if lists.estimate.is_empty()
         || lists.estimate.len() > MOST_EFFECTS
         || lists.nonnegligible.len() > MOST_EFFECTS
     {
-        return Ok(false);
+        return false;
     }
-    if !are_in_order(alloc, &lists.estimate)? || !are_in_order(alloc, &lists.nonnegligible)? {
-        return Ok(false);
+    if !are_in_order(lists.estimate.as_slice()) || !are_in_order(lists.nonnegligible.as_slice()) {
+        return false;
     }
     // With so few pairs, effects are compared at most 2,000,000 times.
-    Ok(
-        pair_count(field, &lists.estimate, &lists.nonnegligible).is_some()
-            && are_apart(&lists.estimate, &lists.nonnegligible),
-    )
-}
-
-/// Whether the effects are in effect order, each once.
-fn are_in_order(alloc: Global, effects: &Effects) -> Result<bool, NoMemory>
-    requires { AreNumbers (numbers_of effects.now) }
-    ensures { IfOk result (λ ordered. ordered ≡ are_in_order (numbers_of effects.now)) }
-{
-    let sorted = in_order(alloc, effects.as_slice())?;
-    Ok(sorted.as_slice() == effects.as_slice())
+    pair_count(field, &lists.estimate, &lists.nonnegligible).is_some()
+        && are_apart(&lists.estimate, &lists.nonnegligible)
 }
 
 /// Whether no effect is in both lists.

@@ -17,4 +17,4 @@ mod writing;
 pub use book::read_book;
 pub use fault::{BookFault, BookStop, FaultKind};
 pub use laws::{books_come_back, entries_come_back, only_books_are_read};
-pub use writing::write_book;
+pub use writing::{write_book, write_head};

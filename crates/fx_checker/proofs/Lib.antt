@@ -4,3 +4,6 @@ mod Turns
 mod Good
 mod Sound
 mod Examples
+pub mod Existence
+mod ClosingWords
+pub mod Marks

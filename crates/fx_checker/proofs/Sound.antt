@@ -25,13 +25,13 @@ use Rattle.fx_laws.proofs.Tests.{points_decides}
 use Rattle.fx_laws.proofs.CanonicalTest.{rows-vectors, canonical_decides}
 use Rattle.fx_designs.specs.Matrices.{row_numbers}
 use Rattle.fx_reduction.specs.Reduction.{IsReducible}
-use Rattle.fx_reduction.proofs.Extensions.{prefix-words}
 use Rattle.fx_reduction.proofs.PatternOrder.{not_above}
 use Rattle.fx_reduction.proofs.Prefix.{met-prefix}
 use Rattle.fx_reduction.proofs.NoWorse.{no_worse_exists}
 use Rattle.fx_reduction.proofs.NoDesign.{none-exactly, numbered, same_runs}
 use Rattle.fx_tree.proofs.Extensions.{last_is}
 use Rattle.fx_tree.proofs.Nodes.{is-tree}
+use Rattle.fx_jobs.proofs.Patterns.{longer}
 use Rattle.fx_demands.proofs.Supports.{take-vector}
 use Rattle.fx_demands.proofs.Completing.{weightless}
 use Rattle.fx_checker.specs.Books.{Claim, IsGood, children, flaw_of, flaw_of_word, word_vector, does_not_beat}
@@ -39,12 +39,6 @@ use Rattle.fx_designs.specs.Closing.{is_zero_sum}
 use Rattle.fx_checker.specs.declared.verdict.Reason.TheVariants.{NotZeroSum, NotForbidden}
 use Rattle.fx_checker.specs.Laws.{NoDesign, NoMatrix}
 use Rattle.fx_checker.proofs.Good.{AreSound, good_closes, none_then, none_in_turn}
-
--- a list that is at no place smaller is not less
-entries-not_less : (a b : List ℕ) → ((k : ℕ) → slice_index b k ≤ slice_index a k) → is_less a b ≡ false
-entries-not_less [] b h = refl
-entries-not_less (x ∷ a) [] h = refl
-entries-not_less (x ∷ a) (y ∷ b) h = or_from _ _ (le-ltb x y (h 0)) (and_right _ _ (entries-not_less a b (λ k. h (suc k))))
 
 -- entries past the rows are left out
 pub combination-take : (q m : ℕ) (w : List ℕ) (rows : List (List ℕ)) → combination q m (take (length rows) w) rows ≡ combination q m w rows
@@ -57,18 +51,6 @@ module _ (d : Dimensions) (f : IsField d.q) where
   pub pattern-length : (rows : List ℕ) → length (pattern_of d rows) ≡ d.s
   unfolding pattern_of
   pattern-length rows = length-map (range_with_len 1 d.s) _ ∙ length-range_with_len 1 d.s
-
-  grows : (c s : List ℕ) (k : ℕ) → slice_index (pattern_of d c) k ≤ slice_index (pattern_of d (c ++ s)) k
-  grows c [] k = subst (λ l. slice_index (pattern_of d c) k ≤ slice_index (pattern_of d l) k) (sym (append-nil c)) (omega arith)
-  grows c (r ∷ s) k =
-      let one = prefix-words d f c r k in
-      let more : slice_index (pattern_of d (c ++ r ∷ [])) k ≤ slice_index (pattern_of d (c ++ r ∷ s)) k =
-      subst (λ l. slice_index (pattern_of d (c ++ r ∷ [])) k ≤ slice_index (pattern_of d l) k) (append_assoc c (r ∷ []) s) (grows (c ++ r ∷ []) s k) in
-      omega arith
-
-  -- what extends a prefix has no less pattern
-  pub pattern-grows : (c s : List ℕ) → is_less (pattern_of d (c ++ s)) (pattern_of d c) ≡ false
-  pattern-grows c s = entries-not_less (pattern_of d (c ++ s)) (pattern_of d c) (grows c s)
 
   -- a forbidden word over the rows of a prefix, with the sum zero, shows that it is not allowed
   pub word_refutes : (wanted : Requirement) (rows w : List ℕ) → IsVector d.q (d.s + d.t) w → length rows ≤ d.s + d.t → is_zero_sum d rows w ≡ true → is_forbidden_word d wanted w ≡ true → is_allowed d wanted rows ≡ false
@@ -117,7 +99,7 @@ module _ (p : Problem) (f : IsField p.dimensions.q) (some : 0 < p.dimensions.s +
   worse None c s h = absurd (both_ways _ refl h)
   worse (Some pattern) c s h =
       not_above (pattern_of p.dimensions (c ++ s)) (pattern_of p.dimensions c) pattern
-      (pattern-length p.dimensions f (c ++ s) ∙ sym (pattern-length p.dimensions f c)) (pattern-grows p.dimensions f c s) (not-true _ h)
+      (pattern-length p.dimensions f (c ++ s) ∙ sym (pattern-length p.dimensions f c)) (longer p f c s) (not-true _ h)
 
   sound : (beat : Option (List ℕ)) → AreSound (record { problem = p; beat = beat }) (better_than p.dimensions beat)
   sound beat = record { tree = is-tree p f; some = some; ranged = ranged; refutes = refutes; worse = worse beat }

@@ -11,6 +11,7 @@ use crate::verdict::{Reason, Verdict};
 use crate::walk::{Step, under};
 use fx_base::NoMemory;
 use fx_demands::Forbidden;
+use fx_tree::{Candidates, Front};
 use fx_vectors::{Book, Matrix};
 use std::alloc::Global;
 
@@ -49,7 +50,22 @@ fn check_with<J: Judge>(alloc: Global, book: &Book, judge: &mut J) -> Result<Ver
 {
     let forbidden = Forbidden::of(alloc, &book.head.question)?;
     let mut prefix = Matrix::new(book.head.question.shape);
-    match under(alloc, book, &forbidden, judge, &mut prefix, 0)? {
+    let candidates = Candidates::of(book.head.question.shape);
+    let front = Front {
+        count: 0,
+        rank: 0,
+        last: 0,
+    };
+    match under(
+        alloc,
+        book,
+        &forbidden,
+        &candidates,
+        front,
+        judge,
+        &mut prefix,
+        0,
+    )? {
         Step::Goes { to } => {
             if to < book.marks.len() {
                 Ok(rejected(to, Reason::NoTurn))

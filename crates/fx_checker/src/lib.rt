@@ -6,6 +6,7 @@
 mod checking;
 mod judge;
 mod laws;
+mod rows;
 #[cfg(test)]
 mod tests;
 mod verdict;
@@ -13,5 +14,5 @@ mod walk;
 mod words;
 
 pub use checking::check;
-pub use laws::{accepted_where_good, good_books_close};
+pub use laws::{accepted_where_good, good_books_close, least_marks_are_good, marks_are_good};
 pub use verdict::{Reason, Verdict};

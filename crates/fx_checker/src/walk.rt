@@ -5,17 +5,19 @@ ghost use Rattle.fx_designs.specs.Vectors.{IsVector};
 ghost use Rattle.fx_vectors.specs.Shape.{dimensions_of};
 ghost use Rattle.fx_vectors.specs.Marks.{meaning_of};
 ghost use Rattle.fx_vectors.specs.Question.{IsValid, problem_of, requirement_of};
+ghost use Rattle.fx_tree.specs.Following.{front_of};
 ghost use Rattle.fx_checker.specs.Books.{children, flaw, flaw_of_word};
 ghost use Rattle.fx_book.specs.Valid.{IsEntry, IsValidBook};
 ghost use Rattle.fx_checker.specs.Claims.{claim_of};
 ghost use Rattle.fx_checker.specs.Verdicts.{Reaches, IsAt, IsBack};
 
 use crate::judge::Judge;
+use crate::rows::next_rows;
 use crate::verdict::Reason;
 use crate::words::is_zero_sum;
 use fx_base::NoMemory;
 use fx_demands::Forbidden;
-use fx_tree::children;
+use fx_tree::{Candidates, Front};
 use fx_vectors::{Book, Mark, Matrix, Vector};
 use std::alloc::Global;
 
@@ -37,12 +39,17 @@ pub(crate) fn under<J: Judge>(
     alloc: Global,
     book: &Book,
     forbidden: &Forbidden,
+    candidates: &Candidates,
+    front: Front,
     judge: &mut J,
     prefix: &mut Matrix,
     at: usize,
 ) -> Result<Step, NoMemory>
     requires valid { IsValidBook book.now }
     requires words { forbidden.now ≡ book.now.head.question }
+    requires candidates { candidates.now ≡ book.now.head.question.shape }
+    requires front { front ≡ front_of (dimensions_of book.now.head.question.shape) prefix.old.rows }
+    requires rank { front.rank ≤ book.now.head.question.shape.m }
     requires shape { prefix.old.shape ≡ book.now.head.question.shape }
     requires judge { IsAt (J.dimensions judge.old) (J.beat judge.old) (J.prefix judge.old) (claim_of book.now.head) prefix.old.rows }
     requires part { length prefix.old.rows < book.now.head.question.shape.s + book.now.head.question.shape.t }
@@ -57,10 +64,12 @@ pub(crate) fn under<J: Judge>(
     ensures reaches { let x = claim_of book.now.head in
         IfOk result (λ step. (others : List (List ℕ)) → Reaches x book.now.marks (children x.problem prefix.old.rows ++ others) others at step) }
 {
-    let rows = children(alloc, &book.head.question, prefix)?;
+    let rows = next_rows(alloc, &book.head.question, candidates, front)?;
     let mut to = at;
     for row in rows.as_slice() {
-        match enter(alloc, book, forbidden, judge, prefix, *row, to)? {
+        match enter(
+            alloc, book, forbidden, candidates, front, judge, prefix, *row, to,
+        )? {
             Step::Goes { to: next } => {
                 to = next;
             }
@@ -78,6 +87,8 @@ fn enter<J: Judge>(
     alloc: Global,
     book: &Book,
     forbidden: &Forbidden,
+    candidates: &Candidates,
+    front: Front,
     judge: &mut J,
     prefix: &mut Matrix,
     row: u16,
@@ -85,6 +96,9 @@ fn enter<J: Judge>(
 ) -> Result<Step, NoMemory>
     requires valid { IsValidBook book.now }
     requires words { forbidden.now ≡ book.now.head.question }
+    requires candidates { candidates.now ≡ book.now.head.question.shape }
+    requires front { front ≡ front_of (dimensions_of book.now.head.question.shape) prefix.old.rows }
+    requires rank { front.rank ≤ book.now.head.question.shape.m }
     requires shape { prefix.old.shape ≡ book.now.head.question.shape }
     requires judge { IsAt (J.dimensions judge.old) (J.beat judge.old) (J.prefix judge.old) (claim_of book.now.head) prefix.old.rows }
     requires part { length prefix.old.rows < book.now.head.question.shape.s + book.now.head.question.shape.t }
@@ -115,7 +129,17 @@ fn enter<J: Judge>(
     match mark {
         Mark::Branch { row: _ } => {
             judge.push(row);
-            match under(alloc, book, forbidden, judge, prefix, at + 1)? {
+            let next = candidates.next_front(front, row);
+            match under(
+                alloc,
+                book,
+                forbidden,
+                candidates,
+                next,
+                judge,
+                prefix,
+                at + 1,
+            )? {
                 Step::Goes { to } => {
                     judge.pop();
                     prefix.pop();

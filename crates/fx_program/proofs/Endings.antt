@@ -3,6 +3,7 @@ use Rattle.std.proofs.Common.{ℕ, ◌≡◌, ◌≤◌, ◌∷◌, List, Option
 use Rattle.std.specs.Prelude.{IsErr, IsErrAnd, unwrap_or}
 use Rattle.fx_base.specs.Acts.{Event, Piece, acts, acts_of, File, World, Did, DidPart}
 use Rattle.fx_base.proofs.Doing.{did_one, did_then, part_before, part_none, part_one, part_then, part_whole}
+use Rattle.fx_book.specs.Heads.{book_of}
 use Rattle.fx_program.specs.Words.{settings_of}
 use Rattle.fx_program.specs.declared.words.Settings.{Settings}
 use Rattle.fx_program.specs.declared.words.WordFault.{WordFault}
@@ -10,7 +11,7 @@ use Rattle.fx_program.specs.declared.stop.Stop.{Stop}
 use Rattle.fx_program.specs.declared.stop.Stop.TheVariants as stop
 use Rattle.fx_program.specs.Stops.{exit_status}
 use Rattle.fx_program.specs.Texts.{program_in}
-use Rattle.fx_program.specs.Output.{Output, Gives, Lists, RunsForSome, message, output_for, output_of, program_output, with_files, world}
+use Rattle.fx_program.specs.Output.{ChecksForSome, Output, Gives, Lists, RunsForSome, message, output_for, output_of, program_output, verdict_output, with_files, world}
 
 -- a command that did all, and one that stopped
 pub ends_whole : {a b : World} (output : Output) (status : ℕ) → status ≡ output.status → Did a b (acts output.events) → Gives output a b status
@@ -38,6 +39,10 @@ ends_for {a} {b} words text settings status e p = subst (λ s. Gives (output_for
 pub stopped_high : (why : Stop) → 4 ≤ exit_status (Err why)
 stopped_high stop.Failed = omega arith
 stopped_high stop.NoMemory = omega arith
+
+pub stopped_above : (ended : Result ℕ Stop) → IsErr ended → 4 ≤ exit_status ended
+stopped_above (Ok status) h = absurd (cc h)
+stopped_above (Err why) h = stopped_high why
 
 -- it is stopped where nothing was done
 pub ends_none : {a : World} (output : Output) (ended : Result ℕ Stop) → IsErr ended → Gives output a a (exit_status ended)
@@ -90,4 +95,14 @@ nothing_given {old} seed left status high =
       text = unwrap_or left [];
       exposed = λ known e. sym (ap (λ (o : Option (List ℕ)). unwrap_or o []) e);
       gives = ends_stopped output status high (part_none old (acts output.events));
+    }
+
+-- nothing was listed of a book
+pub nothing_checked : {old : Option (List ℕ)} (left : Option (List ℕ)) (status : ℕ) → 4 ≤ status → ChecksForSome left old old status
+nothing_checked {old} left status high =
+    let output = verdict_output (book_of (unwrap_or left [])) in
+    record {
+      text = unwrap_or left [];
+      exposed = λ known e. sym (ap (λ (o : Option (List ℕ)). unwrap_or o []) e);
+      lists = record { whatever = λ files. ends_stopped output status high (part_none (world old files) (acts output.events)) };
     }

@@ -4,7 +4,7 @@ use Rattle.std.proofs.lemmas.Option.{none-some}
 use Rattle.std.specs.Prelude.{codes}
 use Rattle.std.specs.Fmt.{digits}
 use Rattle.std.specs.Option.{option_map}
-use Rattle.fx_base.specs.Acts.{Piece, ListByte, Did, World}
+use Rattle.fx_base.specs.Acts.{Piece, WholeFile, ListByte, Did, World}
 use Rattle.fx_designs.specs.Galois.{prime_of, degree_of, reduction_of, add, mul, neg, inv}
 use Rattle.fx_designs.specs.Runs.{runs_of, is_constant, is_balanced, are_blocks_even, is_balanced_in_blocks, is_constant_in_blocks}
 use Rattle.fx_designs.specs.Aliases.{is_aliased}
@@ -13,7 +13,8 @@ use Rattle.fx_designs.specs.Demands.{must_balance, is_estimated, is_met, is_allo
 use Rattle.fx_designs.specs.Canonical.{is_canonical}
 use Rattle.fx_designs.specs.Answers.{lists, designs, answer}
 use Rattle.fx_designs.specs.Patterns.{constant_words, pattern_of}
-use Rattle.fx_designs.specs.Nodes.{nodes}
+use Rattle.fx_designs.specs.Closing.{closing_word}
+use Rattle.fx_designs.specs.Nodes.{marks, nodes, word_of}
 use Rattle.fx_designs.specs.Jobs.{first_least, best_before, carried}
 use Rattle.fx_lexer.specs.Lexing.{lexed}
 use Rattle.fx_language.specs.Refusals.{refused}
@@ -25,7 +26,10 @@ use Rattle.fx_demands.specs.Bars.{bars_of}
 use Rattle.fx_vectors.specs.Effects.{factors_of}
 use Rattle.fx_statements.specs.Programs.{program_of}
 use Rattle.fx_statements.specs.Questions.{conclusion_of}
+use Rattle.fx_answer.specs.Books.{finished}
 use Rattle.fx_alias.specs.Sections.{step_lines}
+use Rattle.fx_book.specs.Heads.{book_of}
+use Rattle.fx_checker.specs.Books.{first_flaw}
 use Rattle.fx_program.specs.Words.{settings_of, word_fault}
 use Rattle.fx_program.specs.declared.words.Settings.TheVariants.{Run, Make, Large}
 use Rattle.fx_program.specs.Refusals.{fault_line}
@@ -38,8 +42,12 @@ use Rattle.fx_program.specs.Output.{Output, message, output_of, Gives, GivesForS
 
 -- what is given for the word `run` and a text
 given : List ℕ → Output
-unfolding digits prime_of degree_of reduction_of add mul neg inv runs_of is_constant is_balanced in_span must_balance is_met is_allowed is_canonical lists designs answer nodes lexed refused levels_of budget_of size_of criterion_of check_blocks check_minimum blocks_of bars_of factors_of program_of settings_of program_in step_lines is_aliased is_constant_in_blocks lib.Count.ones constant_words pattern_of first_least best_before carried conclusion_of are_blocks_even is_balanced_in_blocks is_estimated
+unfolding digits prime_of degree_of reduction_of add mul neg inv runs_of is_constant is_balanced in_span must_balance is_met is_allowed is_canonical lists designs answer nodes lexed refused levels_of budget_of size_of criterion_of check_blocks check_minimum blocks_of bars_of factors_of program_of settings_of program_in step_lines is_aliased is_constant_in_blocks lib.Count.ones constant_words pattern_of first_least best_before carried conclusion_of are_blocks_even is_balanced_in_blocks is_estimated finished closing_word word_of marks
 given text = output_of (codes "run" ∷ []) text
+
+-- what is given for a step that has one book
+booked : List ℕ → List ℕ → List ℕ → ℕ → Output
+booked name book lines status = record { events = WholeFile name book ∷ Piece lines ∷ []; status = status }
 
 -- a text without steps
 nothing :
@@ -133,8 +141,10 @@ with_sections = refl
 
 -- the components of A*B cannot be told apart in three runs
 components :
-    given (codes "proc factex;factors A B / nlev=3;size design=3;model estimate=(A*B);") ≡ message (codes "step 1\nfactors 2 levels 3\nno design in 3 runs\nnodes 4\n") 1
-unfolding given
+    given (codes "proc factex;factors A B / nlev=3;size design=3;model estimate=(A*B);")
+    ≡ booked (codes "step1-1.book") (codes "factex-book 1\nsize 3 1 2 0\neffects 3 /\npattern none\nO 1\nW 1 5\nW 0 3\nW 0 1\nEND\n")
+    (codes "step 1\nfactors 2 levels 3\nno design in 3 runs\nnodes 4\nbook step1-1.book\n") 1
+unfolding given booked
 components = refl
 
 -- B is constant, so that C introduces the second run index
@@ -151,30 +161,40 @@ half = refl
 
 -- the least aberration, and the words of each weight; a budget that ends before a design is found
 least_aberration :
-    (given (codes "proc factex;factors A B C;size design=4;model resolution=max/minabs;examine aberration;") ≡ message (codes "step 1\nfactors 3 levels 2\ndesign 4 runs\nresolution 3 least aberration\nnodes 3\nrules\n  C = A*B\naberration\n  A3 1\n") 0)
+    (given (codes "proc factex;factors A B C;size design=4;model resolution=max/minabs;examine aberration;")
+        ≡ booked (codes "step1-1.book") (codes "factex-book 1\nsize 2 2 3 0\nresolution 3\npattern 0 0 1\nO 1\nO 2\nP 3\nEND\n")
+        (codes "step 1\nfactors 3 levels 2\ndesign 4 runs\nresolution 3 least aberration\nnodes 3\nrules\n  C = A*B\nbook step1-1.book\naberration\n  A3 1\n") 0)
     × (given (codes "proc factex nodes=2;factors A B C;size design=4;model resolution=3/minabs;") ≡ message (codes "step 1\nfactors 3 levels 2\nbudget ended after 2 nodes\n") 2)
-unfolding given
+unfolding given booked
 least_aberration = (refl, refl)
 
 -- the highest resolution, with a model or without; a budget that ends where the next resolution is tried
 highest_resolution :
-    (given (codes "proc factex;factors A B C;size design=4;model r=max;") ≡ message (codes "step 1\nfactors 3 levels 2\ndesign 4 runs\nresolution 3 highest\nnodes 6\nrules\n  C = A*B\n") 0)
+    (given (codes "proc factex;factors A B C;size design=4;model r=max;")
+        ≡ booked (codes "step1-2.book") (codes "factex-book 1\nsize 2 2 3 0\nresolution 4\npattern none\nO 1\nO 2\nW 3 7\nEND\n")
+        (codes "step 1\nfactors 3 levels 2\ndesign 4 runs\nresolution 3 highest\nnodes 6\nrules\n  C = A*B\nbook step1-2.book\n") 0)
     × (given (codes "proc factex;factors A B;size design=4;") ≡ message (codes "step 1\nfactors 2 levels 2\ndesign 4 runs\nno defining words\nnodes 2\nrules\n  none\n") 0)
     × (given (codes "proc factex nodes=4;factors A B C;size design=4;model r=max;") ≡ message (codes "step 1\nfactors 3 levels 2\nbudget ended after 4 nodes\ndesign 4 runs not proved best\nresolution 3\nrules\n  C = A*B\n") 2)
-unfolding given
+unfolding given booked
 highest_resolution = (refl, refl, refl)
 
 -- the least size
 least_size :
-    given (codes "proc factex;factors A B;size design=min;model r=3;") ≡ message (codes "step 1\nfactors 2 levels 2\ndesign 4 runs\nno defining words\nnodes 3\nrules\n  none\n") 0
-unfolding given
+    given (codes "proc factex;factors A B;size design=min;model r=3;")
+    ≡ booked (codes "step1-1.book") (codes "factex-book 1\nsize 2 1 2 0\nresolution 3\npattern none\nO 1\nEND\n")
+    (codes "step 1\nfactors 2 levels 2\ndesign 4 runs\nno defining words\nnodes 3\nrules\n  none\nbook step1-1.book\n") 0
+unfolding given booked
 least_size = refl
 
 -- blocks: as many as can be, and none
 in_blocks :
-    (given (codes "proc factex;factors A B;size design=4;model r=3;blocks nblocks=max;") ≡ message (codes "step 1\nfactors 2 levels 2\ndesign 4 runs in 2 blocks\nno defining words\nnodes 13\nrules\n  [1] = A*B\n") 0)
-    × (given (codes "proc factex;factors A B C;size design=4;model r=3;blocks nblocks=2;") ≡ message (codes "step 1\nfactors 3 levels 2\nno design in 4 runs with 2 blocks\nnodes 7\n") 1)
-unfolding given
+    (given (codes "proc factex;factors A B;size design=4;model r=3;blocks nblocks=max;")
+        ≡ booked (codes "step1-2.book") (codes "factex-book 1\nsize 2 2 2 2\nresolution 3\npattern none\nO 1\nO 2\nO 3\nW 3 12\nW 2 10\nW 1 9\nW 0 8\nW 2 6\nW 1 5\nW 0 4\nEND\n")
+        (codes "step 1\nfactors 2 levels 2\ndesign 4 runs in 2 blocks\nno defining words\nnodes 13\nrules\n  [1] = A*B\nbook step1-2.book\n") 0)
+    × (given (codes "proc factex;factors A B C;size design=4;model r=3;blocks nblocks=2;")
+        ≡ booked (codes "step1-1.book") (codes "factex-book 1\nsize 2 2 3 1\nresolution 3\npattern none\nO 1\nO 2\nO 3\nW 3 12\nW 2 10\nW 1 9\nW 0 8\nEND\n")
+        (codes "step 1\nfactors 3 levels 2\nno design in 4 runs with 2 blocks\nnodes 7\nbook step1-1.book\n") 1)
+unfolding given booked
 in_blocks = (refl, refl)
 
 -- three factors of four levels in 16 runs
@@ -192,15 +212,24 @@ five_levels = refl
 -- three steps, of which the second needs more nodes than it is allowed, and the third has no design: the greatest
 -- status decides
 three_steps :
-    given (codes "proc factex;factors A;model r=3;proc factex nodes=1;factors A B;model r=3;proc factex;factors A B C;size design=2;model r=3;") ≡ record { events = Piece (codes "step 1\nfactors 1 levels 2\ndesign 2 runs\nno defining words\nnodes 1\nrules\n  none\n") ∷ Piece (codes "step 2\nfactors 2 levels 2\nbudget ended after 1 nodes\n") ∷ Piece (codes "step 3\nfactors 3 levels 2\nno design in 2 runs\nnodes 1\n") ∷ []; status = 2 }
+    given (codes "proc factex;factors A;model r=3;proc factex nodes=1;factors A B;model r=3;proc factex;factors A B C;size design=2;model r=3;") ≡ record { events = Piece (codes "step 1\nfactors 1 levels 2\ndesign 2 runs\nno defining words\nnodes 1\nrules\n  none\n") ∷ Piece (codes "step 2\nfactors 2 levels 2\nbudget ended after 1 nodes\n") ∷ WholeFile (codes "step3-1.book") (codes "factex-book 1\nsize 2 1 3 0\nresolution 3\npattern none\nO 1\nEND\n") ∷ Piece (codes "step 3\nfactors 3 levels 2\nno design in 2 runs\nnodes 1\nbook step3-1.book\n") ∷ []; status = 2 }
 unfolding given
 three_steps = refl
 
 -- a step without a design, and one with a design after it
 none_and_design :
-    given (codes "proc factex;factors A B C;size design=2;model r=3;proc factex;factors A;model r=3;") ≡ record { events = Piece (codes "step 1\nfactors 3 levels 2\nno design in 2 runs\nnodes 1\n") ∷ Piece (codes "step 2\nfactors 1 levels 2\ndesign 2 runs\nno defining words\nnodes 1\nrules\n  none\n") ∷ []; status = 1 }
+    given (codes "proc factex;factors A B C;size design=2;model r=3;proc factex;factors A;model r=3;") ≡ record { events = WholeFile (codes "step1-1.book") (codes "factex-book 1\nsize 2 1 3 0\nresolution 3\npattern none\nO 1\nEND\n") ∷ Piece (codes "step 1\nfactors 3 levels 2\nno design in 2 runs\nnodes 1\nbook step1-1.book\n") ∷ Piece (codes "step 2\nfactors 1 levels 2\ndesign 2 runs\nno defining words\nnodes 1\nrules\n  none\n") ∷ []; status = 1 }
 unfolding given
 none_and_design = refl
+
+-- a book that is accepted, one with a word that is none of the prefix, one that ends too early, and a text that is none
+judged :
+    (output_of (codes "check" ∷ []) (codes "factex-book 1\nsize 2 2 3 0\nresolution 4\npattern none\nO 1\nO 2\nW 3 7\nEND\n") ≡ message (codes "accepted\nsize 2 2 3 0\nresolution 4\npattern none\n") 0)
+    × (output_of (codes "check" ∷ []) (codes "factex-book 1\nsize 2 2 3 0\nresolution 4\npattern none\nO 1\nO 2\nW 3 5\nEND\n") ≡ message (codes "rejected line 7 K3\n") 1)
+    × (output_of (codes "check" ∷ []) (codes "factex-book 1\nsize 2 2 3 0\nresolution 4\npattern none\nO 1\nO 2\nEND\n") ≡ message (codes "rejected line 7 K6\n") 1)
+    × (output_of (codes "check" ∷ []) (codes "proc factex;\n") ≡ message (codes "rejected line 1 B2\n") 1)
+unfolding digits prime_of degree_of reduction_of add mul neg inv runs_of is_constant is_balanced in_span must_balance is_canonical settings_of book_of first_flaw
+judged = (refl, refl, refl, refl)
 
 -- words: the first fault, whatever the text says
 refused_words :
@@ -210,8 +239,9 @@ refused_words :
     × (output_of (codes "runs" ∷ []) (codes "proc") ≡ message (codes "factex: C2 word 1\n") 3)
     × (output_of (codes "run" ∷ codes "x" ∷ []) (codes "proc") ≡ message (codes "factex: C3 word 2\n") 3)
     × (output_of (codes "run" ∷ codes "run" ∷ codes "y" ∷ []) (codes "proc") ≡ message (codes "factex: C3 word 2\n") 3)
+    × (output_of (codes "check" ∷ codes "x" ∷ codes "y" ∷ []) (codes "proc") ≡ message (codes "factex: C3 word 2\n") 3)
 unfolding digits settings_of
-refused_words = (refl, refl, refl, refl, refl, refl)
+refused_words = (refl, refl, refl, refl, refl, refl, refl)
 
 -- the seed of `run`: at most once, and at most 20 digits below 2^64
 seeds :

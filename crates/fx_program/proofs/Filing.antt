@@ -41,6 +41,17 @@ shelved_none old = record { whatever = λ written. did_none (world written old) 
 pub shelved_whole : {events : List Event} {old new : Option (List File)} → Shelved events old new → ShelvedPart events old new
 shelved_whole did = record { whatever = λ written. part_whole (did.whatever written) }
 
+-- files of one kind before those of another
+module _ (first second : List Event) {old new : Option (List File)} where
+  pub shelved_part_first : ShelvedPart first old new → ShelvedPart (first ++ second) old new
+  shelved_part_first part = record { whatever = λ written. part_before first second (part.whatever written) }
+
+  pub shelved_both : {mid : Option (List File)} → Shelved first old mid → Shelved second mid new → Shelved (first ++ second) old new
+  shelved_both did then = record { whatever = λ written. did_then first second (did.whatever written) (then.whatever written) }
+
+  pub shelved_part_second : {mid : Option (List File)} → Shelved first old mid → ShelvedPart second mid new → ShelvedPart (first ++ second) old new
+  shelved_part_second did part = record { whatever = λ written. part_then first second (did.whatever written) (part.whatever written) }
+
 module _ {X : Type 0} (name content : X → List ℕ) (xs : List X) (i : ℕ) where
   abbrev file : X → Event
   file x = WholeFile (name x) (content x)

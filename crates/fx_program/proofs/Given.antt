@@ -16,10 +16,11 @@ use Rattle.fx_settings.specs.declared.settings.Blocks.{Blocks}
 use Rattle.fx_settings.specs.declared.settings.Blocks.TheVariants as blocks
 use Rattle.fx_statements.specs.Questions.{Conclusion, block_factors, outcome_of, question_for, run_factors}
 use Rattle.fx_statements.proofs.Concluded.{step-question}
+use Rattle.fx_answer.specs.Books.{books_of}
 use Rattle.fx_answer.specs.Outcomes.{IsOutcome}
 use Rattle.fx_program.specs.Statuses.{status_of}
 use Rattle.fx_plan.specs.Steps.{IsDesignOf}
-use Rattle.fx_program.specs.Files.{matrix_in, output_lines, plan_files}
+use Rattle.fx_program.specs.Files.{book_files, book_lines, matrix_in, output_lines, plan_files}
 use Rattle.fx_program.specs.Output.{Output, ending_given, step_output, with_files}
 
 same_some : {A : Type 0} (x y : A) → Some x ≡ Some y → x ≡ y
@@ -30,14 +31,14 @@ module _ (shape : Shape) where
   with_rows rows = record { shape = shape; rows = rows }
 
   -- a matrix has the sections of the ending's
-  pub with_matrix : (step : Meaning) (ending : Ending) (matrix : MatrixView) → HasMatrix shape ending (Some matrix)
-      → rules (dimensions_of matrix.shape) step.factors matrix.rows ++ examined step matrix ≡ sections (dimensions_of shape) step ending
-  with_matrix step (Design rows count) matrix h =
-      ap (λ (x : MatrixView). rules (dimensions_of x.shape) step.factors x.rows ++ examined step x) (same_some matrix (with_rows rows) h.0)
-  with_matrix step (NoDesign count) matrix h = absurd (cc h)
-  with_matrix step (BudgetEnded None budget) matrix h = absurd (cc h)
-  with_matrix step (BudgetEnded (Some rows) budget) matrix h =
-      ap (λ (x : MatrixView). rules (dimensions_of x.shape) step.factors x.rows ++ examined step x) (same_some matrix (with_rows rows) h.0)
+  pub with_matrix : (step : Meaning) (books : List ℕ) (ending : Ending) (matrix : MatrixView) → HasMatrix shape ending (Some matrix)
+      → rules (dimensions_of matrix.shape) step.factors matrix.rows ++ (books ++ examined step matrix) ≡ sections (dimensions_of shape) step books ending
+  with_matrix step books (Design rows count) matrix h =
+      ap (λ (x : MatrixView). rules (dimensions_of x.shape) step.factors x.rows ++ (books ++ examined step x)) (same_some matrix (with_rows rows) h.0)
+  with_matrix step books (NoDesign count) matrix h = absurd (cc h)
+  with_matrix step books (BudgetEnded None budget) matrix h = absurd (cc h)
+  with_matrix step books (BudgetEnded (Some rows) budget) matrix h =
+      ap (λ (x : MatrixView). rules (dimensions_of x.shape) step.factors x.rows ++ (books ++ examined step x)) (same_some matrix (with_rows rows) h.0)
 
   -- and is whole
   pub rows_are : (ending : Ending) (matrix : MatrixView) → HasMatrix shape ending (Some matrix) → length matrix.rows ≡ shape.s + shape.t
@@ -53,19 +54,19 @@ module _ (shape : Shape) where
   shape_is (BudgetEnded None budget) matrix h = absurd (cc h)
   shape_is (BudgetEnded (Some rows) budget) matrix h = ap (λ (x : MatrixView). x.shape) (same_some matrix (with_rows rows) h.0)
 
-  -- without a matrix there is no section
-  pub without_matrix : (step : Meaning) (ending : Ending) → HasMatrix shape ending None → sections (dimensions_of shape) step ending ≡ []
-  without_matrix step (Design rows count) h = absurd (cc h.0)
-  without_matrix step (NoDesign count) h = refl
-  without_matrix step (BudgetEnded None budget) h = refl
-  without_matrix step (BudgetEnded (Some rows) budget) h = absurd (cc h.0)
+  -- without a matrix there are only the lines of the books
+  pub without_matrix : (step : Meaning) (books : List ℕ) (ending : Ending) → HasMatrix shape ending None → books ≡ sections (dimensions_of shape) step books ending
+  without_matrix step books (Design rows count) h = absurd (cc h.0)
+  without_matrix step books (NoDesign count) h = refl
+  without_matrix step books (BudgetEnded None budget) h = refl
+  without_matrix step books (BudgetEnded (Some rows) budget) h = absurd (cc h.0)
 
 -- head and sections, one after the other
-pub all_lines : (number : ℕ) (d : Dimensions) (step : Meaning) (ending : Ending) (lines after : List ℕ)
-    → lines ≡ [] ++ head_lines number step d ending → after ≡ sections d step ending
-    → lines ++ after ≡ step_lines number d step ending
+pub all_lines : (number : ℕ) (d : Dimensions) (step : Meaning) (books : List ℕ) (ending : Ending) (lines after : List ℕ)
+    → lines ≡ [] ++ head_lines number step d ending → after ≡ sections d step books ending
+    → lines ++ after ≡ step_lines number d step books ending
 unfolding step_lines
-all_lines number d step ending lines after head rest = ap₂ (λ (x y : List ℕ). x ++ y) head rest
+all_lines number d step books ending lines after head rest = ap₂ (λ (x y : List ℕ). x ++ y) head rest
 
 -- the matrix of an outcome is that of its ending
 pub matrix_is : (shape : Shape) (ending : Ending) (matrix : Option MatrixView) → HasMatrix shape ending matrix → matrix_in (dimensions_of shape) ending ≡ matrix
@@ -77,16 +78,18 @@ matrix_is shape (BudgetEnded (Some rows) budget) matrix h = sym h.0
 -- what is given for a step is what its outcome gives
 pub is_given : (seed number : ℕ) (step : Meaning) (outcome : Outcome) → IsOutcome step outcome
     → step_output seed number step
-    ≡ with_files (plan_files seed step outcome.matrix)
-    (step_lines number (dimensions_of outcome.shape) step (ending_in outcome) ++ output_lines seed step outcome.matrix)
+    ≡ with_files (book_files number outcome.books ++ plan_files seed step outcome.matrix)
+    (step_lines number (dimensions_of outcome.shape) step (book_lines number outcome.books) (ending_in outcome) ++ output_lines seed step outcome.matrix)
     (status_of (ending_in outcome))
 is_given seed number step outcome is =
-    ap (λ (c : Conclusion). ending_given seed number c.dimensions step c.ending) (sym is.concluded) ∙ by_matrix
+    ap (λ (c : Conclusion). ending_given seed number c.dimensions step (books_of step) c.ending) (sym is.concluded)
+    ∙ (ap (λ books. ending_given seed number (dimensions_of outcome.shape) step books (ending_in outcome)) (sym is.books)
+    ∙ by_matrix)
   where
     all : Option MatrixView → Output
     all matrix =
-        with_files (plan_files seed step matrix)
-        (step_lines number (dimensions_of outcome.shape) step (ending_in outcome) ++ output_lines seed step matrix)
+        with_files (book_files number outcome.books ++ plan_files seed step matrix)
+        (step_lines number (dimensions_of outcome.shape) step (book_lines number outcome.books) (ending_in outcome) ++ output_lines seed step matrix)
         (status_of (ending_in outcome))
 
     by_matrix : all (matrix_in (dimensions_of outcome.shape) (ending_in outcome)) ≡ all outcome.matrix

@@ -2,6 +2,8 @@ mod Examples
 mod Wording
 mod Reading
 mod Endings
+mod Limits
+pub mod ValidBooks
 mod SoFar
 mod Filing
 mod Given
@@ -17,3 +19,6 @@ pub mod Made
 pub mod MadePieces
 pub mod MadeSymbols
 pub mod MadeSteps
+pub mod NameSpellings
+pub mod StepCounts
+pub mod FileNames

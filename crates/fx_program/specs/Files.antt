@@ -1,20 +1,42 @@
 -- The files of a step, and the lines of its listing that name them.
-use Rattle.std.specs.Prelude.{ℕ, ◌*◌, ◌^◌, List, [], ◌++◌, map, Option, Some, None, codes, decimal}
+use Rattle.std.specs.Prelude.{ℕ, ◌*◌, ◌^◌, List, [], ◌∷◌, ◌++◌, map, Option, Some, None, codes, decimal}
 use Rattle.std.specs.List.{flat_map}
 use Rattle.std.specs.Str.{str_to_ascii_lowercase}
-use Rattle.fx_base.specs.Acts.{Event, WholeFile}
+use Rattle.fx_base.specs.Acts.{Event, Piece, WholeFile}
 use Rattle.fx_designs.specs.Problems.{Dimensions}
 use Rattle.fx_designs.specs.Outcomes.{Ending, Design, NoDesign, BudgetEnded}
 use Rattle.fx_outputs.specs.declared.output.OutputSpec.{OutputSpec}
 use Rattle.fx_outputs.specs.declared.shuffle.Shuffle.{Shuffle}
 use Rattle.fx_outputs.specs.declared.shuffle.Shuffle.TheVariants.{Kept, Default, Seed}
 use Rattle.fx_vectors.specs.Matrix.{MatrixView}
+use Rattle.fx_vectors.specs.declared.book.NamedBook.{NamedBook}
+use Rattle.fx_book.specs.Writing.{book_text}
 use Rattle.fx_runs.specs.Runs.{design_of}
 use Rattle.fx_statements.specs.Steps.{Meaning}
 use Rattle.fx_alias.specs.Sections.{matrix_of}
 use Rattle.fx_plan.specs.Tables.{plan_of}
 
--- the name of a file: the OUT name in lowercase, and the ending of its format
+-- the name of the file of the book of a question, in the step of this number
+abbrev pub book_name : ℕ → ℕ → List ℕ
+book_name number question = codes "step" ++ (decimal number ++ (codes "-" ++ (decimal question ++ codes ".book")))
+
+-- the file of a book
+abbrev pub book_file : ℕ → NamedBook → Event
+book_file number named = WholeFile (book_name number named.question) (book_text named.book)
+
+-- the files of the books of a step, in the order of their questions
+abbrev pub book_files : ℕ → List NamedBook → List Event
+book_files number books = map (book_file number) books
+
+-- the line of a book
+abbrev pub book_line : ℕ → NamedBook → List ℕ
+book_line number named = codes "book " ++ (book_name number named.question ++ codes "\n")
+
+-- the lines of the books of a step
+abbrev pub book_lines : ℕ → List NamedBook → List ℕ
+book_lines number books = flat_map (book_line number) books
+
+-- the name of a plan's file: the OUT name in lowercase, and the ending of its format
 abbrev pub file_name : List ℕ → List ℕ
 file_name name = str_to_ascii_lowercase name ++ codes ".csv"
 
@@ -22,10 +44,16 @@ file_name name = str_to_ascii_lowercase name ++ codes ".csv"
 abbrev pub plan_file : ℕ → List (List ℕ) → MatrixView → OutputSpec → Event
 plan_file seed factors matrix output = WholeFile (file_name output.name) (plan_of factors (design_of matrix) output seed)
 
--- the files of a step, in the order of its OUTPUT statements; none without a matrix
+-- the files of a step's plans, in the order of its OUTPUT statements; none without a matrix
 abbrev pub plan_files : ℕ → Meaning → Option MatrixView → List Event
 plan_files seed step None = []
 plan_files seed step (Some matrix) = map (plan_file seed step.factors matrix) step.outputs
+
+-- the names of the files among events
+abbrev pub names_among : List Event → List (List ℕ)
+names_among [] = []
+names_among (Piece bytes ∷ events) = names_among events
+names_among (WholeFile name content ∷ events) = name ∷ names_among events
 
 -- the seed by which a plan is shuffled
 abbrev pub seed_note : ℕ → Shuffle → List ℕ

@@ -7,6 +7,7 @@ pub mod Statuses
 pub mod Files
 pub mod Making
 pub mod Summaries
+pub mod Verdicts
 pub mod Output
 pub mod Summed
 pub mod StepClaims

@@ -1,20 +1,29 @@
 -- What the program gives, for its words and its text: pieces of listing and files, and a status.
-use Rattle.std.specs.Prelude.{ℕ, ◌≡◌, ◌+◌, ◌<◌, nat_le, if◌then◌else◌, List, [], ◌∷◌, ◌++◌, map, Option, Some, None, Result, Ok, Err, Bool, true, false}
+use Rattle.std.specs.Prelude.{ℕ, ◌≡◌, ◌+◌, ◌<◌, nat_le, if◌then◌else◌, List, [], ◌∷◌, ◌++◌, map, length, Option, Some, None, Result, Ok, Err, Bool, true, false}
 use Rattle.fx_base.specs.Acts.{Event, Piece, acts, World, File, Did, DidPart}
 use Rattle.fx_designs.specs.Problems.{Dimensions}
 use Rattle.fx_designs.specs.Outcomes.{Ending}
 use Rattle.fx_alias.specs.Sections.{step_lines}
+use Rattle.fx_vectors.specs.declared.book.Book.{Book}
+use Rattle.fx_vectors.specs.declared.book.NamedBook.{NamedBook}
+use Rattle.fx_book.specs.declared.fault.BookFault.{BookFault}
+use Rattle.fx_book.specs.Heads.{book_of}
+use Rattle.fx_checker.specs.Books.{flaw_of}
+use Rattle.fx_checker.specs.Claims.{claim_of}
+use Rattle.fx_checker.specs.Verdicts.{verdict_of}
 use Rattle.fx_statements.specs.Questions.{outcome_of}
 use Rattle.fx_statements.specs.Steps.{Meaning}
+use Rattle.fx_answer.specs.Books.{books_of}
 use Rattle.fx_program.specs.Words.{settings_of, word_line}
 use Rattle.fx_program.specs.Refusals.{fault_line}
 use Rattle.fx_program.specs.Texts.{program_in}
 use Rattle.fx_program.specs.Statuses.{status_of}
 use Rattle.fx_program.specs.Making.{made_text}
 use Rattle.fx_program.specs.Summaries.{summary_lines}
-use Rattle.fx_program.specs.Files.{matrix_in, output_lines, plan_files}
+use Rattle.fx_program.specs.Files.{book_files, book_lines, matrix_in, output_lines, plan_files}
+use Rattle.fx_program.specs.Verdicts.{book_fault_line, verdict_lines, verdict_status}
 use Rattle.fx_program.specs.declared.words.Settings.{Settings}
-use Rattle.fx_program.specs.declared.words.Settings.TheVariants.{Run, Make, Large}
+use Rattle.fx_program.specs.declared.words.Settings.TheVariants.{Run, Check, Make, Large}
 use Rattle.fx_program.specs.declared.words.WordFault.{WordFault}
 use Rattle.fx_program.specs.declared.text.TextFault.{TextFault}
 
@@ -31,17 +40,17 @@ message bytes status = record { events = Piece bytes ∷ []; status = status }
 abbrev pub with_files : List Event → List ℕ → ℕ → Output
 with_files files bytes status = record { events = files ++ Piece bytes ∷ []; status = status }
 
--- what is given for the step of this number in these dimensions that ends so, by the program's seed: the files of its plans, then
--- its lines with those that name the files, and its status
-abbrev pub ending_given : ℕ → ℕ → Dimensions → Meaning → Ending → Output
-ending_given seed number d step ending =
-    with_files (plan_files seed step (matrix_in d ending))
-    (step_lines number d step ending ++ output_lines seed step (matrix_in d ending))
+-- what is given for the step of this number in these dimensions that has these books and ends so, by the program's seed: the files
+-- of its books and then of its plans, then its lines with those that name the files, and its status
+abbrev pub ending_given : ℕ → ℕ → Dimensions → Meaning → List NamedBook → Ending → Output
+ending_given seed number d step books ending =
+    with_files (book_files number books ++ plan_files seed step (matrix_in d ending))
+    (step_lines number d step (book_lines number books) ending ++ output_lines seed step (matrix_in d ending))
     (status_of ending)
 
--- what is given for a step, by its outcome
+-- what is given for a step, by its outcome and its books
 abbrev pub step_output : ℕ → ℕ → Meaning → Output
-step_output seed number step = ending_given seed number (outcome_of step).dimensions step (outcome_of step).ending
+step_output seed number step = ending_given seed number (outcome_of step).dimensions step (books_of step) (outcome_of step).ending
 
 -- the status of a step, whatever its number and the seed
 abbrev pub step_status : Meaning → ℕ
@@ -72,10 +81,19 @@ abbrev pub large_output : Result (List Meaning) TextFault → Output
 large_output (Ok steps) = message (summary_lines (endings_of steps)) (program_output 0 (Ok steps)).status
 large_output (Err fault) = program_output 0 (Err fault)
 
+-- what is given for `check` and the book that a text is, or its first fault: what the book claims, where it is accepted, or the line
+-- of the fault or of the first false entry
+abbrev pub verdict_output : Result Book BookFault → Output
+verdict_output (Ok book) =
+    let verdict = verdict_of (flaw_of (claim_of book.head) book.marks) in
+    message (verdict_lines book.head verdict) (verdict_status verdict)
+verdict_output (Err fault) = message (book_fault_line fault) 1
+
 -- what settings give for a text
 abbrev pub output_for : Result Settings WordFault → List ℕ → Output
 output_for (Err fault) text = message (word_line fault) 3
 output_for (Ok (Run threads seed)) text = program_output seed (program_in text)
+output_for (Ok Check) text = verdict_output (book_of text)
 output_for (Ok (Make n)) text = message (made_text n) 0
 output_for (Ok (Large n threads)) text = large_output (program_in (made_text n))
 
@@ -87,13 +105,23 @@ output_of words text = output_for (settings_of words) text
 abbrev pub reads : Result Settings WordFault → Bool
 reads (Err fault) = false
 reads (Ok (Run threads seed)) = true
+reads (Ok Check) = true
 reads (Ok (Make n)) = false
 reads (Ok (Large n threads)) = false
+
+-- whether the source is read to its end where it has this text: with `check` only up to the limit of a book
+abbrev pub reads_all_of : Result Settings WordFault → List ℕ → Bool
+reads_all_of (Err fault) text = false
+reads_all_of (Ok (Run threads seed)) text = true
+reads_all_of (Ok Check) text = nat_le (length text) 268435456
+reads_all_of (Ok (Make n)) text = false
+reads_all_of (Ok (Large n threads)) text = false
 
 -- the text of the program that is run: that of the source, where it exposes it, and with `large` that of `make`
 abbrev pub text_run : Result Settings WordFault → Option (List ℕ) → Option (List ℕ)
 text_run (Err fault) left = None
 text_run (Ok (Run threads seed)) left = left
+text_run (Ok Check) left = None
 text_run (Ok (Make n)) left = None
 text_run (Ok (Large n threads)) left = Some (made_text n)
 
@@ -124,6 +152,12 @@ pub record RunsForSome (seed : ℕ) (left : Option (List ℕ)) (old new : World)
   pub text : List ℕ
   pub exposed : (known : List ℕ) → left ≡ Some known → known ≡ text
   pub gives : Gives (program_output seed (program_in text)) old new status
+
+-- what is given for some text by the command `check`, which has no shelf
+pub record ChecksForSome (left old new : Option (List ℕ)) (status : ℕ) : Type 0 where
+  pub text : List ℕ
+  pub exposed : (known : List ℕ) → left ≡ Some known → known ≡ text
+  pub lists : Lists (verdict_output (book_of text)) old new status
 
 -- exactly these events were done by a call that has no listing: whatever was listed, it stays as it is
 pub record Shelved (events : List Event) (old new : Option (List File)) : Type 0 where

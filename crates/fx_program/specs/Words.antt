@@ -5,7 +5,7 @@ use Rattle.std.specs.Str.{bytes_eq}
 use Rattle.std.specs.Str.Parse.{digits_value}
 use Rattle.fx_lexer.specs.Bytes.{is_digit}
 use Rattle.fx_program.specs.declared.words.Settings.{Settings}
-use Rattle.fx_program.specs.declared.words.Settings.TheVariants.{Run, Make, Large}
+use Rattle.fx_program.specs.declared.words.Settings.TheVariants.{Run, Check, Make, Large}
 use Rattle.fx_program.specs.declared.words.WordFault.{WordFault}
 
 -- the bytes of each word
@@ -82,14 +82,21 @@ abbrev pub large_with : Result ℕ WordFault → Result Settings WordFault
 large_with (Err fault) = Err fault
 large_with (Ok n) = Ok (Large n 1)
 
+-- the settings of `check`, after which there is no word
+abbrev pub check_with : List (List ℕ) → Result Settings WordFault
+check_with [] = Ok Check
+check_with (other ∷ others) = word_fault 3 2
+
 -- the settings of a command with these options
 abbrev pub command_with : List ℕ → List (List ℕ) → Result Settings WordFault
 command_with word options =
     (if bytes_eq word (codes "run")
     then run_with options
+    else (if bytes_eq word (codes "check")
+    then check_with options
     else (if bytes_eq word (codes "make")
     then make_with (steps_in options)
-    else (if bytes_eq word (codes "large") then large_with (steps_in options) else word_fault 2 1)))
+    else (if bytes_eq word (codes "large") then large_with (steps_in options) else word_fault 2 1))))
 
 -- 1: there is no word. 2: the first word is no command. 3: a word is no option of the command. 4: a number is none of 1 to 20 digits,
 -- or is not in its range. 5: the option is repeated. 6: the number of `make` or `large` is missing.

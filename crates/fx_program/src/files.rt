@@ -1,26 +1,83 @@
-ghost use Rattle.std.specs.Prelude.{◌≡◌, ◌≤◌, ◌∷◌, [], false, length, Some, OnOk};
+ghost use Rattle.std.specs.Prelude.{◌≡◌, ◌≤◌, ◌∷◌, ◌++◌, [], false, length, Some, OnOk};
 ghost use Rattle.fx_statements.specs.Steps.{meaning_of};
 ghost use Rattle.fx_answer.specs.Outcomes.{IsOutcome};
 ghost use Rattle.fx_plan.specs.Steps.{IsDesignOf};
-ghost use Rattle.fx_program.specs.Files.{file_name, plan_files};
+ghost use Rattle.fx_program.specs.Files.{book_files, book_name, file_name, plan_files};
 ghost use Rattle.fx_program.specs.Output.{Shelved, ShelvedPart};
 ghost use Rattle.fx_program.specs.Stops.{HasCause};
 
 use crate::stop::Stop;
 use crate::words::append;
 use arrayvec::ArrayVec;
-use fx_base::{Shelf, shelve};
+use fx_base::{Bytes, Shelf, shelve};
+use fx_book::write_book;
 use fx_plan::plan;
 use fx_statements::{Outcome, Step};
-use fx_vectors::Matrix;
+use fx_vectors::{Books, Matrix};
+use itoa::Buffer;
 use std::alloc::Global;
 
-/// The greatest length of a file's name: an OUT name of 32 bytes, and `.csv`.
-const NAME: usize = 36;
+/// The greatest length of a plan's name: an OUT name of 32 bytes, and `.csv`.
+const PLAN_NAME: usize = 36;
+
+/// The greatest length of a book's name: `step`, a number, a hyphen, a number and `.book`.
+const BOOK_NAME: usize = 64;
+
+/// Shelves the files of the step of this number with this outcome: its books in the order of their
+/// questions, then its plans in the order of its OUTPUT statements.
+pub(crate) fn shelve_files<F: Shelf>(
+    alloc: Global,
+    number: usize,
+    step: &Step,
+    outcome: &Outcome,
+    seed: u64,
+    shelf: &mut F,
+) -> Result<(), Stop>
+    requires outcome { IsOutcome (meaning_of step.now) outcome.now }
+    requires ended { F.begun shelf.old ≡ false }
+    ensures done { OnOk result
+        (Shelved (book_files number outcome.now.books
+        ++ plan_files seed (meaning_of step.now) outcome.now.matrix)
+        (F.files shelf.old) (F.files shelf.new)) }
+    ensures part { ShelvedPart (book_files number outcome.now.books
+        ++ plan_files seed (meaning_of step.now) outcome.now.matrix)
+        (F.files shelf.old) (F.files shelf.new) }
+    ensures closed { OnOk result (F.begun shelf.new ≡ false) }
+    ensures cause { HasCause (F.faults shelf.old ∷ []) (F.faults shelf.new ∷ []) result }
+    ensures room { F.room shelf.new ≡ F.room shelf.old }
+{
+    shelve_books(alloc, number, &outcome.books, shelf)?;
+    shelve_plans(alloc, step, outcome, seed, shelf)
+}
+
+/// Shelves the books of the step of this number.
+fn shelve_books<F: Shelf>(
+    alloc: Global,
+    number: usize,
+    books: &Books,
+    shelf: &mut F,
+) -> Result<(), Stop>
+    requires ended { F.begun shelf.old ≡ false }
+    ensures done { OnOk result
+        (Shelved (book_files number books.now) (F.files shelf.old) (F.files shelf.new)) }
+    ensures part { ShelvedPart (book_files number books.now)
+        (F.files shelf.old) (F.files shelf.new) }
+    ensures closed { OnOk result (F.begun shelf.new ≡ false) }
+    ensures cause { HasCause (F.faults shelf.old ∷ []) (F.faults shelf.new ∷ []) result }
+    ensures room { F.room shelf.new ≡ F.room shelf.old }
+{
+    for named in books.as_slice() {
+        let name = book_name(number, named.question);
+        let mut content = Bytes::new(alloc);
+        write_book(&named.book, &mut content)?;
+        shelve(shelf, name.as_slice(), content.as_slice())?;
+    }
+    Ok(())
+}
 
 /// Shelves the plans of a step with this outcome, in the order of its OUTPUT statements, by the
 /// program's seed. Without a matrix there is none.
-pub(crate) fn shelve_plans<F: Shelf>(
+fn shelve_plans<F: Shelf>(
     alloc: Global,
     step: &Step,
     outcome: &Outcome,
@@ -71,8 +128,23 @@ fn shelve_each<F: Shelf>(
     Ok(())
 }
 
+/// The name of the file of the book of a question, in the step of this number.
+pub(crate) fn book_name(number: usize, question: u32) -> ArrayVec<u8, BOOK_NAME>
+    ensures { result.items ≡ book_name number question }
+{
+    let mut step = Buffer::new();
+    let mut asked = Buffer::new();
+    let mut file = ArrayVec::new();
+    append(&mut file, b"step");
+    append(&mut file, step.format(number).as_bytes());
+    append(&mut file, b"-");
+    append(&mut file, asked.format(question).as_bytes());
+    append(&mut file, b".book");
+    file
+}
+
 /// The name of the file of an OUTPUT statement, which has 1 to 32 bytes.
-pub(crate) fn file_name(name: &[u8]) -> ArrayVec<u8, NAME>
+pub(crate) fn file_name(name: &[u8]) -> ArrayVec<u8, PLAN_NAME>
     requires { length name.now ≤ 32 }
     ensures { result.items ≡ file_name name.now }
 {

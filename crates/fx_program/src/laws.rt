@@ -1,4 +1,5 @@
 ghost use Rattle.std.specs.Prelude.{◌≡◌, ◌↔◌, ◌<◌, ◌≤◌, List, ℕ, Ok, IfErr, true, false, length, All};
+ghost use Rattle.std.specs.List.{IsDistinct};
 ghost use Rattle.fx_program.specs.Refusals.{HasItsMessage};
 ghost use Rattle.fx_designs.specs.Matrices.{NoneMeets};
 ghost use Rattle.fx_designs.specs.Problems.{Dimensions, Problem};
@@ -6,6 +7,9 @@ ghost use Rattle.fx_laws.specs.First.{IsFirstDesign};
 ghost use Rattle.fx_statements.specs.Steps.{Meaning};
 ghost use Rattle.fx_statements.specs.Questions.{asked, last_of, nodes_of, questions_of};
 ghost use Rattle.fx_program.specs.Making.{HasSteps, made_text};
+ghost use Rattle.fx_answer.specs.Books.{books_of};
+ghost use Rattle.fx_text.specs.Names.{is_same_name};
+ghost use Rattle.fx_program.specs.Files.{names_among};
 ghost use Rattle.fx_program.specs.Texts.{program_in};
 ghost use Rattle.fx_designs.specs.Outcomes.{Design, NoDesign};
 ghost use Rattle.fx_program.specs.Output.{ending_given, program_output, step_output};
@@ -37,7 +41,7 @@ pub fn first_design_is_given()
         → step.settings.least ≡ false
         → IsFirstDesign p rows
         → step_output seed number step
-        ≡ ending_given seed number p.dimensions step
+        ≡ ending_given seed number p.dimensions step (books_of step)
         (Design rows (nodes_of (asked (questions_of step)))) }
     ensures least { (seed number : ℕ) (step : Meaning) (p : Problem) (rows : List ℕ)
         → 1 ≤ length step.factors
@@ -46,14 +50,14 @@ pub fn first_design_is_given()
         → step.settings.least ≡ true
         → IsFirstOfLeastPattern p rows
         → step_output seed number step
-        ≡ ending_given seed number p.dimensions step
+        ≡ ending_given seed number p.dimensions step (books_of step)
         (Design rows (nodes_of (asked (questions_of step)))) }
     ensures none { (seed number : ℕ) (step : Meaning) → 1 ≤ length step.factors
         → nodes_of (asked (questions_of step)) ≤ step.settings.budget
         → All HasNoDesign (asked (questions_of step))
         → step_output seed number step
         ≡ ending_given seed number
-        (last_of (questions_of step).first (asked (questions_of step))).dimensions step
+        (last_of (questions_of step).first (asked (questions_of step))).dimensions step (books_of step)
         (NoDesign (nodes_of (asked (questions_of step)))) }
 {}
 
@@ -135,4 +139,11 @@ pub fn faults_have_a_message_and_a_place()
 /// Each text of `make` is a program of as many steps as were asked for.
 pub fn made_texts_are_programs()
     ensures { (n : ℕ) → n ≤ 100 → HasSteps n (program_in (made_text n)) }
+{}
+
+/// The files of a program have different names, without regard to case: those of its books and of its
+/// plans.
+pub fn file_names_differ()
+    ensures { (seed : ℕ) (text : List ℕ)
+        → IsDistinct is_same_name (names_among (program_output seed (program_in text)).events) }
 {}

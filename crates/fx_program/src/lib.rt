@@ -1,6 +1,7 @@
 //! The program: its words, its text, its messages, and the call that does it all.
 #![tactic(auto)]
 
+mod checking;
 mod files;
 mod laws;
 mod making;

@@ -1,11 +1,35 @@
 ghost use Rattle.std.specs.Prelude.{◌≡◌, ◌≤◌, ◌*◌, ◌++◌, codes, decimal, length, Some, OnOk};
 ghost use Rattle.fx_statements.specs.Steps.{meaning_of};
-ghost use Rattle.fx_program.specs.Files.{output_line, output_lines, seed_note};
+ghost use Rattle.fx_program.specs.Files.{book_lines, book_name, output_line, output_lines, seed_note};
 
-use crate::files::file_name;
+use crate::files::{book_name, file_name};
 use fx_base::{Bytes, NoMemory, put, put_number};
 use fx_statements::{Outcome, OutputSpec, Shuffle, Step};
-use fx_vectors::Matrix;
+use fx_vectors::{Books, Matrix};
+
+/// Appends the lines of the books of the step of this number.
+///
+/// # Errors
+///
+/// `NoMemory`; `out` then holds some first bytes of the lines after what it held.
+pub(crate) fn put_book_lines(out: &mut Bytes, number: usize, books: &Books) -> Result<(), NoMemory>
+    ensures { OnOk result (out.new ≡ out.old ++ book_lines number books.now) }
+{
+    for named in books.as_slice() {
+        put_book_line(out, number, named.question)?;
+    }
+    Ok(())
+}
+
+/// Appends the line of the book of a question.
+fn put_book_line(out: &mut Bytes, number: usize, question: u32) -> Result<(), NoMemory>
+    ensures { OnOk result
+        (out.new ≡ out.old ++ (codes "book " ++ (book_name number question ++ codes "\n"))) }
+{
+    put(out, b"book ")?;
+    put(out, book_name(number, question).as_slice())?;
+    put(out, b"\n")
+}
 
 /// Appends the lines of the plans of a step with this outcome, by the program's seed.
 ///

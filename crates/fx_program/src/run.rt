@@ -10,7 +10,9 @@ ghost use Rattle.fx_program.specs.Texts.{program_in};
 ghost use Rattle.fx_program.specs.Claims.{SomeHasNone};
 ghost use Rattle.fx_program.specs.Stops.{HasCause, HasStatusCause, exit_status};
 ghost use Rattle.fx_program.specs.declared.stop.Stop.TheVariants as stop;
+ghost use Rattle.fx_program.specs.Files.{book_lines};
 ghost use Rattle.fx_program.specs.Output.{
+  ChecksForSome,
   Gives,
   GivesForSome,
   Lists,
@@ -19,14 +21,16 @@ ghost use Rattle.fx_program.specs.Output.{
   message,
   program_output,
   reads,
+  reads_all_of,
   step_output,
   text_run,
   world,
 };
 
-use crate::files::shelve_plans;
+use crate::checking::{BOOK_LIMIT, Judgement, judge, judge_too_long};
+use crate::files::shelve_files;
 use crate::making::make_text;
-use crate::output_lines::put_output_lines;
+use crate::output_lines::{put_book_lines, put_output_lines};
 use crate::refusal::put_fault;
 use crate::status::{status_of, worse};
 use crate::stop::{REFUSED, Stop, exit_status};
@@ -50,8 +54,8 @@ const TEXT_LIMIT: usize = 1048576;
 ///
 /// The exit status:
 ///
-/// - 0: each step has a design, or there is no step;
-/// - 1: some step has none, and no budget ended;
+/// - 0: each step has a design, or there is no step; or the book is accepted;
+/// - 1: some step has none, and no budget ended; or the book is rejected;
 /// - 2: the budget of some step ended;
 /// - 3: the words or the text are refused;
 /// - 4: a call on the source, the listing or the shelf failed;
@@ -92,9 +96,10 @@ pub fn factex<S: Source, K: Sink, F: Shelf>(
         → text_run (settings_of (bytes_of words.now)) (S.left source.old) ≡ Some text
         → SomeHasNone (program_in text) }
 
-    // Where the source is read, the statuses of steps come only with it read to its end.
-    ensures read_to_end { result < 3 → reads (settings_of (bytes_of words.now)) ≡ true
-        → (text : List ℕ)
+    // Where the source is read, the statuses of steps and of books come only with it read to its end,
+    // but where it has more bytes than a book may have.
+    ensures read_to_end { result < 3 → (text : List ℕ)
+        → reads_all_of (settings_of (bytes_of words.now)) text ≡ true
         → S.left source.old ≡ Some text
         → S.left source.new ≡ Some [] }
 {
@@ -104,6 +109,7 @@ pub fn factex<S: Source, K: Sink, F: Shelf>(
                 threads: _threads,
                 seed,
             } => exit_status(run(alloc, seed, source, listing, shelf)),
+            Settings::Check => exit_status(check(alloc, source, listing)),
             Settings::Make { n } => exit_status(make(alloc, n, listing)),
             Settings::Large {
                 n,
@@ -179,7 +185,7 @@ fn run_steps<K: Sink, F: Shelf>(
     Ok(status)
 }
 
-/// Runs the step of this number: shelves its plans, and then lists its outcome.
+/// Runs the step of this number: shelves its books and its plans, and then lists its outcome.
 fn run_step<K: Sink, F: Shelf>(
     alloc: Global,
     number: usize,
@@ -200,30 +206,67 @@ fn run_step<K: Sink, F: Shelf>(
     ensures closed { OnOk result (F.begun shelf.new ≡ false) }
 {
     let outcome = answer(alloc, step)?;
-    shelve_plans(alloc, step, &outcome, seed, shelf)?;
+    shelve_files(alloc, number, step, &outcome, seed, shelf)?;
     let mut lines = lines_of(alloc, number, step, &outcome)?;
     put_output_lines(&mut lines, step, &outcome, seed)?;
     list(listing, lines.as_slice(), status_of(outcome.end))
 }
 
-/// The lines of the step of this number, by its outcome, but for those of its files.
+/// The lines of the step of this number, by its outcome, but for those of its plans.
 fn lines_of(alloc: Global, number: usize, step: &Step, outcome: &Outcome) -> Result<Bytes, NoMemory>
     requires { IsOutcome (meaning_of step.now) outcome.now }
     ensures { IfOk result (λ lines.
         lines
         ≡ step_lines number (dimensions_of outcome.now.shape) (meaning_of step.now)
-        (ending_in outcome.now)) }
+        (book_lines number outcome.now.books) (ending_in outcome.now)) }
 {
     let mut lines = Bytes::new(alloc);
     head_listing(alloc, number, step, outcome, &mut lines)?;
     match &outcome.matrix {
         Some(matrix) => {
             rules_listing(alloc, step, matrix, &mut lines)?;
+            put_book_lines(&mut lines, number, &outcome.books)?;
             examine_listing(alloc, step, matrix, &mut lines)?;
             Ok(lines)
         }
-        None => Ok(lines),
+        None => {
+            put_book_lines(&mut lines, number, &outcome.books)?;
+            Ok(lines)
+        }
     }
+}
+
+/// The command `check`: reads a book, and lists whether it is accepted.
+fn check<S: Source, K: Sink>(alloc: Global, source: &mut S, listing: &mut K) -> Result<u8, Stop>
+    ensures status_range { IfOk result (λ status. status < 4) }
+    ensures output { ChecksForSome (S.left source.old)
+        (K.written listing.old) (K.written listing.new) (exit_status result) }
+    ensures cause { HasCause (S.faults source.old ∷ K.faults listing.old ∷ [])
+        (S.faults source.new ∷ K.faults listing.new ∷ []) result }
+    ensures rooms { (S.sure source.new ≡ S.sure source.old)
+        × (K.room listing.new ≡ K.room listing.old) }
+    ensures read_to_end { (text : List ℕ)
+        → length text ≤ 268435456
+        → exit_status result < 3
+        → S.left source.old ≡ Some text
+        → S.left source.new ≡ Some [] }
+{
+    match read_all(alloc, source, BOOK_LIMIT)? {
+        Taken::Whole(text) => list_judgement(listing, judge(alloc, text)?),
+        Taken::TooLong => list_judgement(listing, judge_too_long(alloc)?),
+    }
+}
+
+/// Lists the judgement of a text.
+fn list_judgement<K: Sink>(listing: &mut K, judgement: Judgement) -> Result<u8, Stop>
+    requires { judgement.status < 4 }
+    ensures status { (result ≡ Ok judgement.status) ⊎ (result ≡ Err stop.Failed) }
+    ensures output { Lists (message judgement.lines judgement.status)
+        (K.written listing.old) (K.written listing.new) (exit_status result) }
+    ensures cause { HasCause (K.faults listing.old ∷ []) (K.faults listing.new ∷ []) result }
+    ensures room { K.room listing.new ≡ K.room listing.old }
+{
+    list(listing, judgement.lines.as_slice(), judgement.status)
 }
 
 /// The command `make`, for a text of so many steps.

@@ -1,5 +1,7 @@
 ghost use Rattle.std.specs.Prelude.{◌<◌};
 
+mod books;
+
 use super::*;
 use fx_base::{Bytes, MemoryShelf, MemorySink, MemorySource, SureShelf};
 use std::alloc::Global;
@@ -10,6 +12,9 @@ const STEP: usize = 7;
 
 /// How many bytes a listing may have.
 const ROOM: usize = 2000;
+
+/// How many bytes the files of a test may have.
+const SHELF_ROOM: usize = 10000;
 
 /// The words of a command line, between blanks.
 fn words_in(alloc: Global, line: &str) -> Result<Vec<Vec<u8>>, Fail> {
@@ -57,7 +62,7 @@ fn ran(
     let content = Bytes::from_vec(text.to_vec(alloc)?);
     let mut source = MemorySource::new(content, STEP, calls_from(alloc, first_failed_read)?);
     let mut listing = MemorySink::new(alloc, STEP, ROOM, calls_from(alloc, first_failed_write)?)?;
-    let mut shelf = SureShelf::new(alloc, 1, 0)?;
+    let mut shelf = SureShelf::new(alloc, STEP, SHELF_ROOM)?;
     let status = factex(alloc, words, &mut source, &mut listing, &mut shelf);
     Ok(Ended {
         status,
@@ -77,7 +82,7 @@ const PROGRAMS: [(&str, &str, u8); 43] = [
     (HALF, HALF_LISTING, 0),
     (
         "PROC Factex ;factors A B C D E;\tsize\ndesign = 8;model res=4;run;",
-        "step 1\nfactors 5 levels 2\nno design in 8 runs\nnodes 10\n",
+        "step 1\nfactors 5 levels 2\nno design in 8 runs\nnodes 10\nbook step1-1.book\n",
         1,
     ),
     (
@@ -92,7 +97,7 @@ const PROGRAMS: [(&str, &str, u8); 43] = [
     ),
     (
         "proc factex;factors X1-X8;size design=8;model resolution=3;",
-        "step 1\nfactors 8 levels 2\nno design in 8 runs\nnodes 18\n",
+        "step 1\nfactors 8 levels 2\nno design in 8 runs\nnodes 18\nbook step1-1.book\n",
         1,
     ),
     (
@@ -107,7 +112,7 @@ const PROGRAMS: [(&str, &str, u8); 43] = [
     ),
     (
         "proc factex;factors A B C D E / nlev=3;size design=9;model resolution=3;",
-        "step 1\nfactors 5 levels 3\nno design in 9 runs\nnodes 5\n",
+        "step 1\nfactors 5 levels 3\nno design in 9 runs\nnodes 5\nbook step1-1.book\n",
         1,
     ),
     (
@@ -137,7 +142,7 @@ const PROGRAMS: [(&str, &str, u8); 43] = [
     ),
     (
         "proc factex;factors A B C D E F/nlev=4;size design=16;model r=3;",
-        "step 1\nfactors 6 levels 4\nno design in 16 runs\nnodes 9\n",
+        "step 1\nfactors 6 levels 4\nno design in 16 runs\nnodes 9\nbook step1-1.book\n",
         1,
     ),
     (
@@ -147,7 +152,7 @@ const PROGRAMS: [(&str, &str, u8); 43] = [
     ),
     (
         "proc factex;factors A B/nlev=3;size design=3;model estimate=(A*B);",
-        "step 1\nfactors 2 levels 3\nno design in 3 runs\nnodes 4\n",
+        "step 1\nfactors 2 levels 3\nno design in 3 runs\nnodes 4\nbook step1-1.book\n",
         1,
     ),
     (
@@ -157,7 +162,7 @@ const PROGRAMS: [(&str, &str, u8); 43] = [
     ),
     (
         "proc factex;factors A;model r=3;proc factex nodes=1;factors A B;model r=3;proc factex;factors A B C;size design=2;model r=3;",
-        "step 1\nfactors 1 levels 2\ndesign 2 runs\nno defining words\nnodes 1\nrules\n  none\nstep 2\nfactors 2 levels 2\nbudget ended after 1 nodes\nstep 3\nfactors 3 levels 2\nno design in 2 runs\nnodes 1\n",
+        "step 1\nfactors 1 levels 2\ndesign 2 runs\nno defining words\nnodes 1\nrules\n  none\nstep 2\nfactors 2 levels 2\nbudget ended after 1 nodes\nstep 3\nfactors 3 levels 2\nno design in 2 runs\nnodes 1\nbook step3-1.book\n",
         2,
     ),
     (
@@ -167,7 +172,7 @@ const PROGRAMS: [(&str, &str, u8); 43] = [
     ),
     (
         "proc factex;factors A B;size design=2;model estimate=(A B);",
-        "step 1\nfactors 2 levels 2\nno design in 2 runs\nnodes 4\n",
+        "step 1\nfactors 2 levels 2\nno design in 2 runs\nnodes 4\nbook step1-1.book\n",
         1,
     ),
     (
@@ -188,13 +193,13 @@ const PROGRAMS: [(&str, &str, u8); 43] = [
     (
         "proc factex nodes=9;factors A B C D E;size design=8;model resolution=4;
         proc factex nodes=10;factors A B C D E;size design=8;model resolution=4;",
-        "step 1\nfactors 5 levels 2\nbudget ended after 9 nodes\nstep 2\nfactors 5 levels 2\nno design in 8 runs\nnodes 10\n",
+        "step 1\nfactors 5 levels 2\nbudget ended after 9 nodes\nstep 2\nfactors 5 levels 2\nno design in 8 runs\nnodes 10\nbook step2-1.book\n",
         2,
     ),
     (
         "/* two */ proc factex; factors X1-X2; size nrunfacs=2; model res=3; examine confounding; quit;
         * the second; proc factex; factors A B C; size design=2; model res=3; run;",
-        "step 1\nfactors 2 levels 2\ndesign 4 runs\nno defining words\nnodes 2\nrules\n  none\nstep 2\nfactors 3 levels 2\nno design in 2 runs\nnodes 1\n",
+        "step 1\nfactors 2 levels 2\ndesign 4 runs\nno defining words\nnodes 2\nrules\n  none\nstep 2\nfactors 3 levels 2\nno design in 2 runs\nnodes 1\nbook step2-1.book\n",
         1,
     ),
     (
@@ -205,17 +210,17 @@ const PROGRAMS: [(&str, &str, u8); 43] = [
     (
         "proc factex; factors A B C / nlev=3; size design=9; model r=3; examine aliasing;
         proc factex; factors A B C; size design=2; model res=3; examine design aliasing;",
-        "step 1\nfactors 3 levels 3\ndesign 9 runs\nresolution 3\nnodes 3\nrules\n  C = A^2*B\naliasing\n  A = B^2*C\n  B = A*C\n  C = A^2*B\n  A*B = A^2*C = B*C\nstep 2\nfactors 3 levels 2\nno design in 2 runs\nnodes 1\n",
+        "step 1\nfactors 3 levels 3\ndesign 9 runs\nresolution 3\nnodes 3\nrules\n  C = A^2*B\naliasing\n  A = B^2*C\n  B = A*C\n  C = A^2*B\n  A*B = A^2*C = B*C\nstep 2\nfactors 3 levels 2\nno design in 2 runs\nnodes 1\nbook step2-1.book\n",
         1,
     ),
     (
         "proc factex; factors A B C D; size design=8; model resolution=max / minabs;",
-        "step 1\nfactors 4 levels 2\ndesign 8 runs\nresolution 4 least aberration\nnodes 7\nrules\n  D = A*B*C\n",
+        "step 1\nfactors 4 levels 2\ndesign 8 runs\nresolution 4 least aberration\nnodes 7\nrules\n  D = A*B*C\nbook step1-1.book\n",
         0,
     ),
     (
         "proc factex; factors A B C D E F G; size design=32; model resolution=max / minabs; examine aberration;",
-        "step 1\nfactors 7 levels 2\ndesign 32 runs\nresolution 4 least aberration\nnodes 282\nrules\n  F = B*C*D*E\n  G = A*C*D*E\naberration\n  A4 1\n  A5 2\n",
+        "step 1\nfactors 7 levels 2\ndesign 32 runs\nresolution 4 least aberration\nnodes 282\nrules\n  F = B*C*D*E\n  G = A*C*D*E\nbook step1-1.book\naberration\n  A4 1\n  A5 2\n",
         0,
     ),
     (
@@ -240,22 +245,22 @@ const PROGRAMS: [(&str, &str, u8); 43] = [
     ),
     (
         "proc factex; factors A / nlev=9; model resolution=max / minabs; examine aberration;",
-        "step 1\nfactors 1 levels 9\ndesign 9 runs\nno defining words\nnodes 1\nrules\n  none\naberration\n  none\n",
+        "step 1\nfactors 1 levels 9\ndesign 9 runs\nno defining words\nnodes 1\nrules\n  none\nbook step1-1.book\naberration\n  none\n",
         0,
     ),
     (
         "proc factex;factors A B C;size design=4;model r=max;",
-        "step 1\nfactors 3 levels 2\ndesign 4 runs\nresolution 3 highest\nnodes 6\nrules\n  C = A*B\n",
+        "step 1\nfactors 3 levels 2\ndesign 4 runs\nresolution 3 highest\nnodes 6\nrules\n  C = A*B\nbook step1-2.book\n",
         0,
     ),
     (
         "proc factex;factors A B C;size design=min;model r=3;",
-        "step 1\nfactors 3 levels 2\ndesign 4 runs\nresolution 3\nnodes 4\nrules\n  C = A*B\n",
+        "step 1\nfactors 3 levels 2\ndesign 4 runs\nresolution 3\nnodes 4\nrules\n  C = A*B\nbook step1-1.book\n",
         0,
     ),
     (
         "proc factex;factors A B C D;size design=8;model r=3;blocks nblocks=max;",
-        "step 1\nfactors 4 levels 2\ndesign 8 runs in 4 blocks\nresolution 4\nnodes 198\nrules\n  D = A*B*C\n  [1] = B*C\n  [2] = A*C\n",
+        "step 1\nfactors 4 levels 2\ndesign 8 runs in 4 blocks\nresolution 4\nnodes 198\nrules\n  D = A*B*C\n  [1] = B*C\n  [2] = A*C\nbook step1-3.book\n",
         0,
     ),
     (
@@ -265,17 +270,17 @@ const PROGRAMS: [(&str, &str, u8); 43] = [
     ),
     (
         "proc factex;factors A B C;size design=4;",
-        "step 1\nfactors 3 levels 2\ndesign 4 runs\nresolution 3 highest\nnodes 6\nrules\n  C = A*B\n",
+        "step 1\nfactors 3 levels 2\ndesign 4 runs\nresolution 3 highest\nnodes 6\nrules\n  C = A*B\nbook step1-2.book\n",
         0,
     ),
     (
         "proc factex;factors A B C D;size design=4;model r=max;",
-        "step 1\nfactors 4 levels 2\nno design in 4 runs\nnodes 3\n",
+        "step 1\nfactors 4 levels 2\nno design in 4 runs\nnodes 3\nbook step1-1.book\n",
         1,
     ),
     (
         "proc factex;factors A B C;size design=4;model r=3;blocks nblocks=2;",
-        "step 1\nfactors 3 levels 2\nno design in 4 runs with 2 blocks\nnodes 7\n",
+        "step 1\nfactors 3 levels 2\nno design in 4 runs with 2 blocks\nnodes 7\nbook step1-1.book\n",
         1,
     ),
     ("", "", 0),
@@ -514,12 +519,14 @@ fn the_seed_of_the_words_shuffles(rt: HostRuntime) -> Result<(), Fail> {
 }
 
 /// Command lines that are refused, each with the message.
-const REFUSED_WORDS: [(&str, &str); 19] = [
+const REFUSED_WORDS: [(&str, &str); 21] = [
     ("", "C1 word 1"),
     ("x y", "C2 word 1"),
     ("RUN", "C2 word 1"),
     ("Make 1", "C2 word 1"),
     ("run x", "C3 word 2"),
+    ("check x", "C3 word 2"),
+    ("check --seed=1 x", "C3 word 2"),
     ("run --seed=1 --seed=2", "C5 word 3"),
     ("run --seed=18446744073709551616", "C4 word 2"),
     ("make", "C6 word 2"),
@@ -773,8 +780,11 @@ const PLANNED: [(&[u8], &[u8], &[(&str, &[u8])], u8); 6] = [
     ),
     (
         b"proc factex; factors A B C; size design=2; model r=3; output out=a;",
-        b"step 1\nfactors 3 levels 2\nno design in 2 runs\nnodes 1\n",
-        &[],
+        b"step 1\nfactors 3 levels 2\nno design in 2 runs\nnodes 1\nbook step1-1.book\n",
+        &[(
+            "step1-1.book",
+            b"factex-book 1\nsize 2 1 3 0\nresolution 3\npattern none\nO 1\nEND\n",
+        )],
         1,
     ),
     (
@@ -811,7 +821,7 @@ fn planned(
     let content = Bytes::from_vec(text.to_vec(alloc)?);
     let mut source = MemorySource::new(content, STEP, Bytes::new(alloc));
     let mut listing = MemorySink::new(alloc, STEP, 1000, Bytes::new(alloc))?;
-    let mut shelf = MemoryShelf::new(alloc, step, 1000, calls_from(alloc, first_failed)?)?;
+    let mut shelf = MemoryShelf::new(alloc, step, SHELF_ROOM, calls_from(alloc, first_failed)?)?;
     let status = factex(alloc, words, &mut source, &mut listing, &mut shelf);
     Ok((status, listing.bytes().to_vec(alloc)?, shelf))
 }

@@ -6,6 +6,7 @@ ghost use Rattle.fx_program.specs.Words.{
   after,
   alone,
   bytes_of,
+  check_with,
   command_with,
   is_number,
   run_with,
@@ -40,6 +41,8 @@ pub enum Settings {
         /// What random numbers start from, where a statement has no seed of its own.
         seed: u64,
     },
+    /// Checks the book that is read.
+    Check,
     /// Writes the program text of so many steps.
     Make {
         n: u8,
@@ -80,6 +83,9 @@ fn command_with(command: &[u8], options: &[Vec<u8>]) -> Result<Settings, WordFau
     if command == b"run".as_slice() {
         return run_with(options);
     }
+    if command == b"check".as_slice() {
+        return check_with(options);
+    }
     if command == b"make".as_slice() {
         let n = steps_in(options)?;
         return Ok(Settings::Make { n });
@@ -89,6 +95,17 @@ fn command_with(command: &[u8], options: &[Vec<u8>]) -> Result<Settings, WordFau
         return Ok(Settings::Large { n, threads: 1 });
     }
     Err(WordFault { code: 2, word: 1 })
+}
+
+/// The settings of `check`, after which there is no word.
+fn check_with(options: &[Vec<u8>]) -> Result<Settings, WordFault>
+    ensures { result ≡ check_with (bytes_of options.now) }
+{
+    if options.is_empty() {
+        Ok(Settings::Check)
+    } else {
+        Err(WordFault { code: 3, word: 2 })
+    }
 }
 
 /// The number of steps that is the one word after the command.

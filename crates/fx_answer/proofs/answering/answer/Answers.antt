@@ -1,9 +1,9 @@
-use Rattle.std.proofs.Common.{[], Result, Ok, Err, refl, ap, ◌∙◌}
+use Rattle.std.proofs.Common.{[], Result, Ok, Err, refl, sym, ap, ◌∙◌, arith}
 use Rattle.std.specs.Prelude.{IfOk}
 use Rattle.std.proofs.lemmas.Result.{IfOk-weaker}
 use Rattle.fx_statements.specs.Steps.{meaning_of}
-use Rattle.fx_answer.specs.Standing.{conclusion_from}
-use Rattle.fx_answer.proofs.Asking.{whole}
+use Rattle.fx_answer.specs.Standing.{all_books_from, conclusion_from}
+use Rattle.fx_answer.proofs.Asking.{whole, whole_books}
 use Rattle.fx_answer.proofs.Valid.{some_numbers}
 use Rattle.fx_answer.proofs.answering.answer.Goals as goal
 
@@ -13,11 +13,14 @@ ask_from-requires-clause-high c = some_numbers c.args.step.now c.lowest.result c
 pub returns : goal.returns
 returns c =
     let step = meaning_of c.args.step.now in
-    IfOk-weaker c.ask_from.result _ _ (λ outcome h. record {
-      concluded = h.1 [] refl tt ∙ ap (conclusion_from step []) c.lowest.ensures ∙ whole step;
-      factors = h.0.factors;
-      few_blocks = h.0.few_blocks;
-    }) (both c.ask_from.result _ _ c.ask_from.ensures.of_step c.ask_from.ensures.concluded)
+    let result = c.ask_from.result in
+    let ensured = c.ask_from.ensures in
+    IfOk-weaker result _ _ (λ outcome h. record {
+      concluded = h.0.1 [] refl tt ∙ ap (conclusion_from step []) c.lowest.ensures ∙ whole step;
+      factors = h.0.0.factors;
+      few_blocks = h.0.0.few_blocks;
+      books = h.1 [] refl (c.lowest.ensures ∙ sym (omega arith)) c.new.ensures ∙ ap (all_books_from step []) c.lowest.ensures ∙ whole_books step;
+    }) (both result _ _ (both result _ _ ensured.of_step ensured.concluded) ensured.books)
   where
     both : {T E : Type 0} (r : Result T E) (P Q : T → Type 0) → IfOk r P → IfOk r Q → IfOk r (λ x. P x × Q x)
     both (Ok x) P Q p q = (p, q)

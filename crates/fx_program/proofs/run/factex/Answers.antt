@@ -1,7 +1,7 @@
 use Rattle.std.proofs.Common.{Ok, Err, sym, ap, ◌∙◌, []}
 use Rattle.std.proofs.lemmas.Bool.{false≢true}
 use Rattle.fx_program.specs.Output.{message, reads}
-use Rattle.fx_program.specs.declared.words.Settings.TheVariants.{Make, Large}
+use Rattle.fx_program.specs.declared.words.Settings.TheVariants.{Check, Make, Large}
 use Rattle.fx_program.proofs.Endings.{ends_for, ends_by}
 use Rattle.fx_program.proofs.run.factex.Goals as goal
 
@@ -12,6 +12,16 @@ returns-in-Err-clause-output g c =
       text = [];
       exposed = λ read. absurd (false≢true (ap reads c.in-Err.ensures ∙ read));
       gives = ends_for _ [] (Err c.in-Err.fault) _ c.in-Err.ensures (ends_by _ _ _ (ap (λ l. message l 3) (sym (c.as_slice.ensures.value ∙ c.word_line.ensures))) (c.list.ensures.output.whatever _));
+    })
+
+pub returns-in-Check-clause-output : goal.returns-in-Check-clause-output
+returns-in-Check-clause-output g c =
+    let asked = ap Ok (sym c.in-Check.is) ∙ c.in-Ok.ensures in
+    rw c.exit_status-in-Check.ensures
+    (record {
+      text = c.check.ensures.output.text;
+      exposed = λ read known e. c.check.ensures.output.exposed known e;
+      gives = ends_for _ c.check.ensures.output.text (Ok Check) _ asked (c.check.ensures.output.lists.whatever _);
     })
 
 pub returns-in-Make-clause-output : goal.returns-in-Make-clause-output

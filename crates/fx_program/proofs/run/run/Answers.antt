@@ -1,16 +1,13 @@
 use Rattle.std.proofs.Common.{◌≡◌, ◌<◌, ◌≤◌, ℕ, List, map, Result, Ok, Err, length, None, sym, ap, ◌∙◌, arith, refl, Option, Some, subst}
-use Rattle.std.specs.Prelude.{IsErr, replicate, unwrap_or}
-use Rattle.std.proofs.lemmas.List.{length-replicate}
 use Rattle.fx_base.specs.Acts.{World}
-use Rattle.fx_base.specs.Reading.{IsOverLimit}
 use Rattle.std.proofs.lemmas.Bool.{lt-ltb}
 use Rattle.fx_statements.specs.Steps.{meaning_of}
 use Rattle.fx_program.specs.Texts.{at_front, program_in}
 use Rattle.fx_program.specs.Output.{RunsForSome, program_output}
 use Rattle.fx_program.specs.Claims.{SomeHasNone}
 use Rattle.fx_program.specs.Stops.{exit_status}
-use Rattle.fx_program.specs.declared.stop.Stop.{Stop}
-use Rattle.fx_program.proofs.Endings.{ends_by, gives_by, nothing_given, stopped_high}
+use Rattle.fx_program.proofs.Endings.{ends_by, gives_by, nothing_given, stopped_above}
+use Rattle.fx_program.proofs.Limits.{is_over_limit, over_limit, same_over_limit}
 use Rattle.fx_program.proofs.Statuses.{none_where_one}
 use Rattle.fx_program.proofs.run.run.Goals as goal
 
@@ -18,33 +15,15 @@ too_long : (text : List ℕ) → 1048576 < length text → program_in text ≡ E
 unfolding program_in
 too_long text long = rw (lt-ltb 1048576 (length text) long) refl
 
--- a text above the limit: the one that is exposed, or else some one
-over_limit : Option (List ℕ) → List ℕ
-over_limit left = unwrap_or left (replicate 1048577 0)
-
-is_over_limit : (left : Option (List ℕ)) → IsOverLimit left 1048576 → 1048576 < length (over_limit left)
-unfolding over_limit
-is_over_limit None over = subst (λ (n : ℕ). 1048576 < n) (sym (length-replicate {A = ℕ} 1048577 0)) (omega arith)
-is_over_limit (Some text) over = over.exposed text refl
-
-same_over_limit : (left : Option (List ℕ)) (known : List ℕ) → left ≡ Some known → known ≡ over_limit left
-unfolding over_limit
-same_over_limit left known e = sym (ap (λ (o : Option (List ℕ)). unwrap_or o (replicate 1048577 0)) e)
-
 pub returns-in-TooLong-clause-output : goal.returns-in-TooLong-clause-output
 returns-in-TooLong-clause-output g c =
     let read = rw c.in-TooLong.is at c.in_ok-text.ensures.answer in
     let left = g.S.Source.left c.args.source.now in
     record {
-      text = over_limit left;
-      exposed = same_over_limit left;
-      gives = gives_by _ _ _ _ (ap (program_output c.args.seed) (too_long (over_limit left) (is_over_limit left read) ∙ ap Err (sym c.at_front.ensures))) (c.refuse.ensures.output c.args.seed);
+      text = over_limit 1048576 left;
+      exposed = same_over_limit 1048576 left;
+      gives = gives_by _ _ _ _ (ap (program_output c.args.seed) (too_long (over_limit 1048576 left) (is_over_limit 1048576 left read) ∙ ap Err (sym c.at_front.ensures))) (c.refuse.ensures.output c.args.seed);
     }
-
--- nothing is given where the program is stopped
-stopped_above : (ended : Result ℕ Stop) → IsErr ended → 4 ≤ exit_status ended
-stopped_above (Ok status) h = absurd (cc h)
-stopped_above (Err why) h = stopped_high why
 
 pub returns-in_err-text-clause-output : goal.returns-in_err-text-clause-output
 returns-in_err-text-clause-output g c =

@@ -1,0 +1,19 @@
+-- Texts that are longer than is read.
+use Rattle.std.proofs.Common.{ℕ, ◌≡◌, ◌<◌, ◌+◌, List, length, Option, Some, None, refl, sym, ap, subst, arith}
+use Rattle.std.specs.Prelude.{replicate, unwrap_or}
+use Rattle.std.proofs.lemmas.List.{length-replicate}
+use Rattle.fx_base.specs.Reading.{IsOverLimit}
+
+module _ (limit : ℕ) where
+  -- a text above the limit: the one that is exposed, or else some one
+  pub over_limit : Option (List ℕ) → List ℕ
+  over_limit left = unwrap_or left (replicate (limit + 1) 0)
+
+  pub is_over_limit : (left : Option (List ℕ)) → IsOverLimit left limit → limit < length (over_limit left)
+  unfolding over_limit
+  is_over_limit None over = subst (λ (n : ℕ). limit < n) (sym (length-replicate {A = ℕ} (limit + 1) 0)) (omega arith)
+  is_over_limit (Some text) over = over.exposed text refl
+
+  pub same_over_limit : (left : Option (List ℕ)) (known : List ℕ) → left ≡ Some known → known ≡ over_limit left
+  unfolding over_limit
+  same_over_limit left known e = sym (ap (λ (o : Option (List ℕ)). unwrap_or o (replicate (limit + 1) 0)) e)

@@ -1,0 +1,132 @@
+-- Names of files: when two of them are the same, without regard to case.
+use Rattle.std.proofs.Common.{ℕ, ◌≡◌, ◌<◌, ◌≤◌, ◌+◌, ◌^◌, ◌∙◌, Bool, true, false, cond, List, [], ◌∷◌, ◌++◌, map, refl, sym, ap, arith, inl, inr}
+use Rattle.std.specs.Prelude.{codes, decimal, nat_lt}
+use Rattle.std.specs.Char.{to_ascii_lowercase}
+use Rattle.std.specs.Str.Parse.{AllDigits, digits_value}
+use Rattle.std.proofs.lemmas.Bool.{both_ways, cases_lt, false_from_ne_true, lt-ltb, ltb-true}
+use Rattle.std.proofs.lemmas.Fmt.{decimal_is_IsNumeral_wide}
+use Rattle.std.proofs.lemmas.List.{append_cancel_right, map-append}
+use Rattle.std.proofs.lemmas.Slice.Eq.{bytes_eq-Decides}
+use Rattle.std.proofs.lemmas.Str.Parse.{digit_from_value}
+use Rattle.fx_text.specs.Names.{is_same_name}
+use Rattle.fx_program.specs.Files.{book_name, file_name}
+
+abbrev lower : List ℕ → List ℕ
+lower bytes = map to_ascii_lowercase bytes
+
+pub same_from : (a b : List ℕ) → lower a ≡ lower b → is_same_name a b ≡ true
+same_from a b e = (bytes_eq-Decides (lower a) (lower b)).1 e
+
+pub lower_from : (a b : List ℕ) → is_same_name a b ≡ true → lower a ≡ lower b
+lower_from a b e = (bytes_eq-Decides (lower a) (lower b)).0 e
+
+pub differ_from : (a b : List ℕ) → (lower a ≡ lower b → ⊥) → is_same_name a b ≡ false
+differ_from a b none = false_from_ne_true (is_same_name a b) (λ e. none (lower_from a b e))
+
+-- digits have no case
+low_digit : (c : ℕ) → c ≤ 57 → to_ascii_lowercase c ≡ c
+low_digit c low = rw (lt-ltb c 65 (omega arith)) refl
+
+low_digits : (ds : List ℕ) → AllDigits 10 ds → lower ds ≡ ds
+low_digits [] h = refl
+low_digits (c ∷ ds) h =
+    let range = digit_from_value c h.0 in
+    let here : to_ascii_lowercase c ≡ c = low_digit c range.1 in
+    ap (λ (x : ℕ). x ∷ lower ds) here ∙ ap (λ (l : List ℕ). c ∷ l) (low_digits ds h.1)
+
+-- a lowercase letter stays as it is
+twice : (c : ℕ) → to_ascii_lowercase (to_ascii_lowercase c) ≡ to_ascii_lowercase c
+twice c =
+    let go : (a b : Bool) → nat_lt c 65 ≡ a → nat_lt c 91 ≡ b → to_ascii_lowercase (cond a c (cond b (c + 32) c)) ≡ cond a c (cond b (c + 32) c) =
+    λ a. elim a as (λ a. (b : Bool) → nat_lt c 65 ≡ a → nat_lt c 91 ≡ b → to_ascii_lowercase (cond a c (cond b (c + 32) c)) ≡ cond a c (cond b (c + 32) c)) [
+      | true ↦ λ b ea eb. rw ea refl
+      | false ↦ λ b. elim b as (λ b. nat_lt c 65 ≡ false → nat_lt c 91 ≡ b → to_ascii_lowercase (cond b (c + 32) c) ≡ cond b (c + 32) c) [
+        | true ↦ λ ea eb.
+            (let most = ltb-true c 91 eb in
+            let least : nat_lt (c + 32) 65 ≡ false = false_from_ne_true _ (λ e. (let low = ltb-true (c + 32) 65 e in let up = not_below c 65 ea in omega arith)) in
+            let over : nat_lt (c + 32) 91 ≡ false = false_from_ne_true _ (λ e. (let low = ltb-true (c + 32) 91 e in let up = not_below c 65 ea in omega arith)) in
+            rw (least, over) refl)
+        | false ↦ λ ea eb. rw (ea, eb) refl
+      ]
+    ] in
+    go (nat_lt c 65) (nat_lt c 91) refl refl
+  where
+    not_below : (c n : ℕ) → nat_lt c n ≡ false → n ≤ c
+    not_below c n e = elim (cases_lt c n) [ inl less ↦ absurd (both_ways (nat_lt c n) e (lt-ltb c n less)) | inr le ↦ le ]
+
+lower_twice : (a : List ℕ) → lower (lower a) ≡ lower a
+lower_twice [] = refl
+lower_twice (c ∷ a) = rw (twice c, lower_twice a) refl
+
+-- plans of different OUT names
+pub plans_differ : (a b : List ℕ) → is_same_name a b ≡ false → is_same_name (file_name a) (file_name b) ≡ false
+plans_differ a b apart =
+    differ_from (file_name a) (file_name b) (λ e.
+    let left : lower (file_name a) ≡ lower a ++ codes ".csv" = map-append to_ascii_lowercase (lower a) (codes ".csv") ∙ ap (λ (l : List ℕ). l ++ codes ".csv") (lower_twice a) in
+    let right : lower (file_name b) ≡ lower b ++ codes ".csv" = map-append to_ascii_lowercase (lower b) (codes ".csv") ∙ ap (λ (l : List ℕ). l ++ codes ".csv") (lower_twice b) in
+    both_ways (is_same_name a b) apart (same_from a b (append_cancel_right (lower a) (lower b) (codes ".csv") (sym left ∙ e ∙ right))))
+
+-- digits before a byte that is none
+cut : (ds es rest more : List ℕ) (stop : ℕ) → AllDigits 10 ds → AllDigits 10 es → stop < 48 → ds ++ stop ∷ rest ≡ es ++ stop ∷ more → (ds ≡ es) × (rest ≡ more)
+cut [] [] rest more stop hd he low e = (refl, cc e)
+cut [] (c ∷ es) rest more stop hd he low e = absurd (let range = digit_from_value c he.0 in let same : stop ≡ c = cc e in omega (arith, range.0, same))
+cut (c ∷ ds) [] rest more stop hd he low e = absurd (let range = digit_from_value c hd.0 in let same : c ≡ stop = cc e in omega (arith, range.0, same))
+cut (c ∷ ds) (b ∷ es) rest more stop hd he low e =
+    let head : c ≡ b = cc e in
+    let tail : ds ++ stop ∷ rest ≡ es ++ stop ∷ more = cc e in
+    let later = cut ds es rest more stop hd.1 he.1 low tail in
+    (ap (λ (l : List ℕ). c ∷ l) later.0 ∙ ap (λ (x : ℕ). x ∷ es) head, later.1)
+
+numeral : (n : ℕ) → n < 10 ^ 64 → AllDigits 10 (decimal n)
+numeral n low = (decimal_is_IsNumeral_wide n low).0.1
+
+value : (n : ℕ) → n < 10 ^ 64 → digits_value 10 (decimal n) ≡ n
+value n low = (decimal_is_IsNumeral_wide n low).1
+
+same_number : (m n : ℕ) → m < 10 ^ 64 → n < 10 ^ 64 → decimal m ≡ decimal n → m ≡ n
+same_number m n hm hn e = sym (value m hm) ∙ ap (digits_value 10) e ∙ value n hn
+
+-- the name of a book has no case
+lower_book : (k q : ℕ) → k < 10 ^ 64 → q < 10 ^ 64 → lower (book_name k q) ≡ codes "step" ++ (decimal k ++ 45 ∷ (decimal q ++ codes ".book"))
+lower_book k q hk hq =
+    let tail : lower (decimal q ++ codes ".book") ≡ decimal q ++ codes ".book" =
+    map-append to_ascii_lowercase (decimal q) (codes ".book") ∙ ap (λ (l : List ℕ). l ++ codes ".book") (low_digits (decimal q) (numeral q hq)) in
+    ap (λ (l : List ℕ). codes "step" ++ l)
+    (map-append to_ascii_lowercase (decimal k) (45 ∷ (decimal q ++ codes ".book"))
+    ∙ ap (λ (l : List ℕ). l ++ lower (45 ∷ (decimal q ++ codes ".book"))) (low_digits (decimal k) (numeral k hk))
+    ∙ ap (λ (l : List ℕ). decimal k ++ 45 ∷ l) tail)
+
+-- books of different steps, or of different questions
+pub books_differ : (k q j r : ℕ) → k < 10 ^ 64 → q < 10 ^ 64 → j < 10 ^ 64 → r < 10 ^ 64 → ((k ≡ j) × (q ≡ r) → ⊥) → is_same_name (book_name k q) (book_name j r) ≡ false
+books_differ k q j r hk hq hj hr apart =
+    differ_from (book_name k q) (book_name j r) (λ e.
+    let whole : codes "step" ++ (decimal k ++ 45 ∷ (decimal q ++ codes ".book")) ≡ codes "step" ++ (decimal j ++ 45 ∷ (decimal r ++ codes ".book")) = sym (lower_book k q hk hq) ∙ e ∙ lower_book j r hj hr in
+    let behind : decimal k ++ 45 ∷ (decimal q ++ codes ".book") ≡ decimal j ++ 45 ∷ (decimal r ++ codes ".book") = cc whole in
+    let step = cut (decimal k) (decimal j) (decimal q ++ codes ".book") (decimal r ++ codes ".book") 45 (numeral k hk) (numeral j hj) (omega arith) behind in
+    let question = cut (decimal q) (decimal r) (codes "book") (codes "book") 46 (numeral q hq) (numeral r hr) (omega arith) step.1 in
+    apart (same_number k j hk hj step.0, same_number q r hq hr question.0))
+
+-- the last byte
+last : List ℕ → ℕ
+last [] = 0
+last (c ∷ []) = c
+last (c ∷ b ∷ bytes) = last (b ∷ bytes)
+
+last_behind : (xs : List ℕ) (b : ℕ) (ys : List ℕ) → last (xs ++ b ∷ ys) ≡ last (b ∷ ys)
+unfolding last
+last_behind [] b ys = refl
+last_behind (c ∷ []) b ys = refl
+last_behind (c ∷ d ∷ xs) b ys = last_behind (d ∷ xs) b ys
+
+-- a book and a plan
+pub book_and_plan_differ : (k q : ℕ) (name : List ℕ) → k < 10 ^ 64 → q < 10 ^ 64 → is_same_name (book_name k q) (file_name name) ≡ false
+unfolding last
+book_and_plan_differ k q name hk hq =
+    differ_from (book_name k q) (file_name name) (λ e.
+    let book : last (lower (book_name k q)) ≡ 107 =
+    ap last (lower_book k q hk hq)
+    ∙ last_behind (codes "step" ++ decimal k) 45 (decimal q ++ codes ".book")
+    ∙ last_behind (45 ∷ decimal q) 46 (codes "book") in
+    let plan : last (lower (file_name name)) ≡ 118 = ap last (map-append to_ascii_lowercase (lower name) (codes ".csv")) ∙ last_behind (lower (lower name)) 46 (codes "csv") in
+    let same : 107 ≡ 118 = sym book ∙ ap last e ∙ plan in
+    omega arith)
