@@ -4,6 +4,7 @@ mod Reading
 mod Endings
 mod Limits
 pub mod ValidBooks
+mod BookLengths
 mod SoFar
 mod Filing
 mod Given
