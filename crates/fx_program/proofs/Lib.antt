@@ -5,6 +5,8 @@ mod Endings
 mod Limits
 pub mod ValidBooks
 mod BookLengths
+mod GoodBooks
+mod Booked
 mod SoFar
 mod Filing
 mod Given
