@@ -5,7 +5,7 @@ pub mod Listed
 mod Askable
 mod Back
 mod Books
-mod Whole
+pub mod Whole
 mod Examples
 mod Numerals
 mod Texts

@@ -1,7 +1,7 @@
 mod Sums
 mod RowSums
 mod Turns
-mod Good
+pub mod Good
 mod Sound
 mod Examples
 pub mod Existence

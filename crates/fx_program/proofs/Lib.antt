@@ -4,6 +4,9 @@ mod Reading
 mod Endings
 mod Limits
 pub mod ValidBooks
+mod BookLengths
+mod GoodBooks
+mod Booked
 mod SoFar
 mod Filing
 mod Given

@@ -12,3 +12,4 @@ pub mod Output
 pub mod Summed
 pub mod StepClaims
 pub mod Claims
+pub mod BookClaims

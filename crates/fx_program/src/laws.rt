@@ -4,7 +4,8 @@ ghost use Rattle.fx_program.specs.Refusals.{HasItsMessage};
 ghost use Rattle.fx_designs.specs.Matrices.{NoneMeets};
 ghost use Rattle.fx_designs.specs.Problems.{Dimensions, Problem};
 ghost use Rattle.fx_laws.specs.First.{IsFirstDesign};
-ghost use Rattle.fx_statements.specs.Steps.{Meaning};
+ghost use Rattle.fx_statements.specs.Steps.{Meaning, meaning_of};
+ghost use Rattle.fx_program.specs.BookClaims.{HasABookForEach, HasAcceptedBooks};
 ghost use Rattle.fx_statements.specs.Questions.{asked, last_of, nodes_of, questions_of};
 ghost use Rattle.fx_program.specs.Making.{HasSteps, made_text};
 ghost use Rattle.fx_answer.specs.Books.{books_of};
@@ -28,6 +29,8 @@ ghost use Rattle.fx_program.specs.StepClaims.{
   required,
 };
 ghost use Rattle.fx_program.specs.Claims.{EachStep, IsGreatest};
+
+use fx_statements::Step;
 
 /// What is given for a step with some factors, where the nodes of the questions that are asked for it
 /// are within its budget: status 0 with the files and the lines of the first design of the canonical
@@ -128,6 +131,18 @@ pub fn most_blocks_in_any_text()
 pub fn greatest_status_decides()
     ensures { (seed : ℕ) (steps : List Meaning)
         → IsGreatest (program_output seed (Ok steps)).status steps }
+{}
+
+/// Where a step ends without a design, each question that is asked for it has its book among the step's
+/// files: the marks of all its nodes, named by the number of the step and its own.
+pub fn claims_of_none_have_books()
+    ensures { (seed number : ℕ) (step : Meaning) → (step_output seed number step).status ≡ 1
+        → HasABookForEach seed number step }
+{}
+
+/// Each book of each step is read from its file as it is, and `check` accepts it, with status 0.
+pub fn books_are_accepted()
+    ensures { (step : Step) → HasAcceptedBooks (meaning_of step) }
 {}
 
 /// Each fault of a text has a row in the table of messages, so that its line names a reason, and a place

@@ -31,7 +31,7 @@ stays_by : (found : Found) (p : Problem) (ps : List Problem) (own : Option (List
 stays_by found p ps None rest e = rest found e
 stays_by found p ps (Some rows) rest e = rest (record { question = p; rows = rows }) e
 
-some_stays : (found : Found) (ps : List Problem) → last_found (Some found) ps ≡ None → ⊥
+pub some_stays : (found : Found) (ps : List Problem) → last_found (Some found) ps ≡ None → ⊥
 some_stays found [] e = cc e
 some_stays found (p ∷ ps) e = stays_by found p ps (answer p) (λ found. some_stays found ps) e
 
