@@ -11,4 +11,3 @@ mod range;
 mod stars;
 
 pub use model::{ModelEffects, effects_of};
-

@@ -13,4 +13,3 @@ pub use laws::{
 };
 pub use symbol::{Symbol, Symbols};
 pub use token::symbols;
-

@@ -13,4 +13,3 @@ pub use laws::{spans_hold_the_pieces, text_is_pieces, tokens_and_faults_have_pla
 pub use lexing::lex;
 pub use place::Place;
 pub use token::{Kind, LexFault, LexStop, Token, Tokens};
-

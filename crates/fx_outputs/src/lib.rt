@@ -18,4 +18,3 @@ pub use laws::{names_are_read_by_the_grammar, out_names_differ, outputs_have_nam
 pub use output::{OutputSpec, Outputs, outputs};
 pub use recode::{Recode, Recodes};
 pub use shuffle::Shuffle;
-

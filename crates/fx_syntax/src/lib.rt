@@ -20,4 +20,3 @@ mod values;
 
 pub use refusal::{first_by_grammar, first_refusal};
 pub use repeated::first_by_rules;
-
