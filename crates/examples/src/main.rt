@@ -1,5 +1,5 @@
 //! Runs the example programs that it is given by name, and prints the listing, the files and the status
-//! of each. The gate compares what it prints with `stdout`.
+//! of each; of a book it prints what `check` lists. The gate compares what it prints with `stdout`.
 #![tactic(auto)]
 
 use fx_base::{Bytes, MemorySink, MemorySource, SureShelf};
@@ -29,7 +29,7 @@ fn main(rt: HostRuntime) -> io::Result<()> {
 fn run_examples<R: Env + Files + Print + AllocGlobal>(rt: &R) -> io::Result<()> {
     for name in env::args(rt)?.skip(1) {
         let text = fs::read(rt, name.as_str())?;
-        let ended = ran(rt.alloc(), text)?;
+        let ended = ran(rt.alloc(), b"run", text)?;
         println!(rt; "== {name}")?;
         rt.print(ended.listing.as_str())?;
         print_files(rt, &ended.shelf)?;
@@ -42,16 +42,21 @@ fn run_examples<R: Env + Files + Print + AllocGlobal>(rt: &R) -> io::Result<()> 
 fn print_files<R: Print + AllocGlobal>(rt: &R, shelf: &SureShelf) -> io::Result<()> {
     for i in 0..shelf.files() {
         let name = String::from_utf8_lossy(rt.alloc(), shelf.name(i))?;
-        let content = String::from_utf8_lossy(rt.alloc(), shelf.content(i))?;
         println!(rt; "file {name}")?;
-        rt.print(content.as_str())?;
+        if name.as_str().ends_with(".book") {
+            let checked = ran(rt.alloc(), b"check", shelf.content(i).to_vec(rt.alloc())?)?;
+            rt.print(checked.listing.as_str())?;
+        } else {
+            let content = String::from_utf8_lossy(rt.alloc(), shelf.content(i))?;
+            rt.print(content.as_str())?;
+        }
     }
     Ok(())
 }
 
-/// What the program under the word `run` comes to for this text.
-fn ran(alloc: Global, text: Vec<u8>) -> Result<Ended, AllocError> {
-    let words = vec![in alloc; b"run".to_vec(alloc)?]?;
+/// What the program under this word comes to for this text.
+fn ran(alloc: Global, command: &[u8], text: Vec<u8>) -> Result<Ended, AllocError> {
+    let words = vec![in alloc; command.to_vec(alloc)?]?;
     let mut source = MemorySource::new(Bytes::from_vec(text), STEP, Bytes::new(alloc));
     let (Ok(mut listing), Ok(mut shelf)) = (
         MemorySink::new(alloc, STEP, ROOM, Bytes::new(alloc)),

@@ -3,9 +3,11 @@ use Rattle.std.proofs.Common.{ℕ, ◌≡◌, ◌<◌, ◌≤◌, ◌+◌, ◌-�
 use Rattle.std.specs.Prelude.{nat_le, max, if◌then◌else◌}
 use Rattle.std.specs.List.{list_any, list_all}
 use Rattle.std.proofs.lemmas.Bool.{leb-true, leb-false, ltb-true, ltb-false, cases_Bool, and_parts, both_ways, not-true, cond-true, cond-false}
+use Rattle.std.proofs.lemmas.List.{length-map}
 use Rattle.std.proofs.Math.Nat.{pow-le-pow_left, pow-le-pow_right, pow-zero}
 use Rattle.fx_designs.specs.Galois.{is_order}
 use Rattle.fx_vectors.specs.Question.{CanBeAsked, is_resolution}
+use Rattle.fx_settings.specs.declared.settings.StepSettings.{StepSettings}
 use Rattle.fx_settings.specs.declared.settings.Size.{Size}
 use Rattle.fx_settings.specs.declared.settings.Size.TheVariants.{Runs, Minimum}
 use Rattle.fx_settings.specs.declared.settings.Blocks.{Blocks}
@@ -15,16 +17,22 @@ use Rattle.fx_settings.specs.Models.{is_effects, is_highest}
 use Rattle.fx_settings.specs.Powers.{greatest}
 use Rattle.fx_settings.specs.Settings.{is_level}
 use Rattle.fx_settings.specs.Valid.{are_blocks, is_criterion, is_size, has_blocks, has_most, stand_together}
+use Rattle.fx_settings.specs.declared.settings.Criterion.{Criterion}
+use Rattle.fx_settings.specs.declared.settings.Criterion.TheVariants as criterion
+use Rattle.fx_vectors.specs.Effects.{numbers_of}
+use Rattle.fx_vectors.specs.Question.{CanBeTold}
+use Rattle.fx_vectors.specs.declared.effect.Effect.{Effect}
 use Rattle.fx_statements.specs.declared.step.Step.{Step}
 use Rattle.fx_statements.specs.declared.wanted.Wanted.{Wanted}
 use Rattle.fx_statements.specs.declared.wanted.Wanted.TheVariants as wanted
-use Rattle.fx_statements.specs.Goals.{goal_of, criterion_of}
-use Rattle.fx_statements.specs.Valid.{CanBeWanted, settings_in}
+use Rattle.fx_statements.specs.Goals.{Goal, AtLeast, Highest, ForEffects, criterion_of, goal_of}
+use Rattle.fx_statements.specs.Valid.{CanBeWanted, HasFewEffects}
 use Rattle.fx_statements.specs.Steps.{Meaning, meaning_of}
 use Rattle.fx_statements.specs.Questions.{block_factors, highest, least_exponent, lowest, requirement_for, run_factors, seeks_highest}
 use Rattle.fx_statements.proofs.Bounds.{no_more_than_9}
 use Rattle.fx_statements.proofs.Bounds as bounds
 use Rattle.fx_answer.specs.Standing.{IsShapeOf}
+use Rattle.fx_answer.specs.ValidSteps.{CanBeSought, IsOfKind, IsValidStep}
 
 -- what holds at each of some numbers of levels holds at one of them
 at_level : (levels : List ℕ) (P : ℕ → Bool) (q : ℕ) → list_all P levels ≡ true → list_any (λ x. eqb x q) levels ≡ true → P q ≡ true
@@ -131,25 +139,33 @@ module _ (step : Meaning) (n : ℕ) where
       (from, omega (arith, upto, few))
 
 -- what is asked may be asked
-can_be_asked : (q m s t n : ℕ) (least : Bool) (w : Wanted) → is_criterion (criterion_of w) ≡ true → CanBeWanted q s w
-    → (seeks_highest least (goal_of w) ≡ true → (3 ≤ n) × (n ≤ 99))
-    → CanBeAsked (record { q = q; m = m; s = s; t = t }) (requirement_for least (goal_of w) n)
-can_be_asked q m s t n least (wanted.Resolution r) valid askable bounds =
+can_be_asked : (q m s t n : ℕ) (least : Bool) (kind : Criterion) (goal : Goal) → is_criterion kind ≡ true → IsOfKind kind goal → CanBeSought q s goal
+    → (seeks_highest least goal ≡ true → (3 ≤ n) × (n ≤ 99))
+    → CanBeAsked (record { q = q; m = m; s = s; t = t }) (requirement_for least goal n)
+can_be_asked q m s t n least (criterion.Resolution r) (AtLeast k) valid is sought bounds =
     let both = and_parts (nat_le 3 r) (nat_le r 99) valid in
-    (leb-true 3 r both.0, leb-true r 99 both.1)
-can_be_asked q m s t n true wanted.Highest valid askable bounds = (lit≤ tt, lit≤ tt)
-can_be_asked q m s t n false wanted.Highest valid askable bounds = bounds refl
-can_be_asked q m s t n least (wanted.Effects estimate others) valid askable bounds = askable estimate others refl
+    subst (λ k. (3 ≤ k) × (k ≤ 99)) (sym is) (leb-true 3 r both.0, leb-true r 99 both.1)
+can_be_asked q m s t n least (criterion.Resolution r) Highest valid is sought bounds = absurd is
+can_be_asked q m s t n least (criterion.Resolution r) (ForEffects estimate others) valid is sought bounds = absurd is
+can_be_asked q m s t n least criterion.Highest (AtLeast k) valid is sought bounds = absurd is
+can_be_asked q m s t n true criterion.Highest Highest valid is sought bounds = (lit≤ tt, lit≤ tt)
+can_be_asked q m s t n false criterion.Highest Highest valid is sought bounds = bounds refl
+can_be_asked q m s t n least criterion.Highest (ForEffects estimate others) valid is sought bounds = absurd is
+can_be_asked q m s t n least criterion.Effects (AtLeast k) valid is sought bounds = absurd is
+can_be_asked q m s t n least criterion.Effects Highest valid is sought bounds = absurd is
+can_be_asked q m s t n least criterion.Effects (ForEffects estimate others) valid is sought bounds = sought.0
 
 -- with a least pattern a resolution is asked, and no blocks are
-module _ (size : Size) (given : Blocks) (w : Wanted) (together : stand_together size (criterion_of w) true given ≡ true) where
-  resolution_asked : (n : ℕ) → IsTrue (is_resolution (requirement_for true (goal_of w) n))
-  resolution_asked n = go w (not-true _ (and_parts _ _ (and_parts _ _ together).0).0)
+module _ (size : Size) (given : Blocks) (kind : Criterion) (goal : Goal) (is : IsOfKind kind goal) (together : stand_together size kind true given ≡ true) where
+  resolution_asked : (n : ℕ) → IsTrue (is_resolution (requirement_for true goal n))
+  resolution_asked n = go kind goal is (not-true _ (and_parts _ _ (and_parts _ _ together).0).0)
     where
-      go : (w : Wanted) → is_effects (criterion_of w) ≡ false → IsTrue (is_resolution (requirement_for true (goal_of w) n))
-      go (wanted.Resolution r) h = refl
-      go wanted.Highest h = refl
-      go (wanted.Effects estimate others) h = absurd (both_ways _ h refl)
+      go : (kind : Criterion) (goal : Goal) → IsOfKind kind goal → is_effects kind ≡ false → IsTrue (is_resolution (requirement_for true goal n))
+      go kind (AtLeast r) is h = refl
+      go kind Highest is h = refl
+      go (criterion.Resolution r) (ForEffects estimate others) is h = absurd is
+      go criterion.Highest (ForEffects estimate others) is h = absurd is
+      go criterion.Effects (ForEffects estimate others) is h = absurd (both_ways _ h refl)
 
   without_blocks : (m n : ℕ) → block_factors given m n ≡ 0
   without_blocks m n = go given (and-false _ (not-true _ (and_parts _ _ (and_parts _ _ together).0).1))
@@ -164,113 +180,144 @@ module _ (size : Size) (given : Blocks) (w : Wanted) (together : stand_together 
       go (blocks.PerBlock k) h = absurd (both_ways _ h refl)
       go blocks.Most h = absurd (both_ways _ h refl)
 
--- the parts of what a step keeps
-module _ (step : Step) where
-  criterion_fits : is_criterion (criterion_of step.wanted) ≡ true
-  criterion_fits = (and_parts _ _ (and_parts _ _ (and_parts _ _ step.settings_valid).0).0).1
+-- where the highest resolution is sought, it is the criterion, and no least pattern is asked
+is_sought : (least : Bool) (kind : Criterion) (goal : Goal) → IsOfKind kind goal → seeks_highest least goal ≡ true → (is_highest kind ≡ true) × (least ≡ false)
+is_sought least kind (AtLeast r) is h = absurd (both_ways _ refl h)
+is_sought least kind (ForEffects estimate others) is h = absurd (both_ways _ refl h)
+is_sought least (criterion.Resolution r) Highest is h = absurd is
+is_sought least criterion.Effects Highest is h = absurd is
+is_sought least criterion.Highest Highest is h = (refl, not-true least h)
 
-  together : stand_together step.size (criterion_of step.wanted) step.least step.blocks ≡ true
-  together = (and_parts _ _ step.settings_valid).1
+-- the parts of a valid step
+module _ (step : Meaning) (valid : IsValidStep step) where
+  abbrev x : StepSettings
+  x = step.settings
+
+  criterion_fits : is_criterion x.criterion ≡ true
+  criterion_fits = (and_parts _ _ (and_parts _ _ (and_parts _ _ valid.settings).0).0).1
+
+  together : stand_together x.size x.criterion x.least x.blocks ≡ true
+  together = (and_parts _ _ valid.settings).1
 
   some_factors : 1 ≤ length step.factors
-  some_factors = leb-true 1 (length step.factors) (and_parts _ _ step.factor_count).0
+  some_factors = leb-true 1 (length step.factors) (and_parts _ _ valid.factors).0
 
   few_factors_in : length step.factors ≤ 40
-  few_factors_in = few (has_blocks step.blocks) (length step.factors) (and_parts _ _ step.factor_count).1
+  few_factors_in = few (has_blocks x.blocks) (length step.factors) (and_parts _ _ valid.factors).1
 
   -- where the highest resolution is sought, the size is fixed and there are no blocks
-  fixed : seeks_highest step.least (goal_of step.wanted) ≡ true → is_minimum step.size ≡ false
-  fixed seeks = go step.wanted step.size seeks (not-true _ (and_parts _ _ together).1)
+  fixed : seeks_highest x.least step.goal ≡ true → is_minimum x.size ≡ false
+  fixed seeks = go x.size (is_highest x.criterion) (is_sought x.least x.criterion step.goal valid.goal seeks).0 (not-true _ (and_parts _ _ together).1)
     where
-      go : (w : Wanted) (size : Size) → seeks_highest step.least (goal_of w) ≡ true
-          → (is_minimum size && (is_highest (criterion_of w) || step.least || has_most step.blocks)) ≡ false → is_minimum size ≡ false
-      go wanted.Highest Minimum h out = absurd (both_ways _ out refl)
-      go w (Runs m) h out = refl
-      go (wanted.Resolution r) Minimum h out = absurd (both_ways _ refl h)
-      go (wanted.Effects estimate others) Minimum h out = absurd (both_ways _ refl h)
+      go : (size : Size) (highest : Bool) → highest ≡ true → (is_minimum size && (highest || x.least || has_most x.blocks)) ≡ false → is_minimum size ≡ false
+      go (Runs m) highest h out = refl
+      go Minimum true h out = absurd (both_ways _ out refl)
+      go Minimum false h out = absurd (both_ways _ refl h)
 
-  unblocked : seeks_highest step.least (goal_of step.wanted) ≡ true → has_most step.blocks ≡ false
-  unblocked seeks = go step.wanted step.blocks step.least seeks (not-true _ (and_parts _ _ (and_parts _ _ together).0).1)
+  unblocked : seeks_highest x.least step.goal ≡ true → has_most x.blocks ≡ false
+  unblocked seeks = go x.blocks (is_highest x.criterion) x.least sought.0 sought.1 (not-true _ (and_parts _ _ (and_parts _ _ together).0).1)
     where
-      go : (w : Wanted) (given : Blocks) (least : Bool) → seeks_highest least (goal_of w) ≡ true
-          → (has_blocks given && (least || is_highest (criterion_of w))) ≡ false → has_most given ≡ false
-      go wanted.Highest blocks.Most false h out = absurd (both_ways _ out refl)
-      go w blocks.Without least h out = refl
-      go w (blocks.Factors t) least h out = refl
-      go w (blocks.PerBlock k) least h out = refl
-      go wanted.Highest blocks.Most true h out = absurd (both_ways _ refl h)
-      go (wanted.Resolution r) blocks.Most least h out = absurd (both_ways _ refl h)
-      go (wanted.Effects estimate others) blocks.Most least h out = absurd (both_ways _ refl h)
+      sought : (is_highest x.criterion ≡ true) × (x.least ≡ false)
+      sought = is_sought x.least x.criterion step.goal valid.goal seeks
 
-  module _ (n : ℕ) (low : lowest (meaning_of step) step.size ≤ n) (high : n ≤ highest (meaning_of step) step.size) where
+      go : (given : Blocks) (highest least : Bool) → highest ≡ true → least ≡ false → (has_blocks given && (least || highest)) ≡ false → has_most given ≡ false
+      go blocks.Without highest least h plain out = refl
+      go (blocks.Factors t) highest least h plain out = refl
+      go (blocks.PerBlock k) highest least h plain out = refl
+      go blocks.Most true least h plain out = absurd (both_ways _ out (ap (λ b. b || true) plain))
+      go blocks.Most false least h plain out = absurd (both_ways _ refl h)
+
+  module _ (n : ℕ) (low : lowest step x.size ≤ n) (high : n ≤ highest step x.size) where
     abbrev m : ℕ
-    m = run_factors step.size n
+    m = run_factors x.size n
 
-    level : is_level step.q ≡ true
-    level = bounds.level (settings_in step.q step.budget step.size step.wanted step.least step.blocks) step.settings_valid
+    level : is_level x.q ≡ true
+    level = bounds.level x valid.settings
 
-    sized : is_size step.q step.size ≡ true
-    sized = bounds.size (settings_in step.q step.budget step.size step.wanted step.least step.blocks) step.settings_valid
+    sized : is_size x.q x.size ≡ true
+    sized = bounds.size x valid.settings
 
-    given : are_blocks step.q step.size step.blocks ≡ true
-    given = bounds.given (settings_in step.q step.budget step.size step.wanted step.least step.blocks) step.settings_valid
+    given : are_blocks x.q x.size x.blocks ≡ true
+    given = bounds.given x valid.settings
 
-    minimum : step.size ≡ Minimum → (1 ≤ n) × (n ≤ greatest step.q)
-    minimum is = sizes (meaning_of step) n (subst (λ z. lowest (meaning_of step) z ≤ n) is low) (subst (λ z. n ≤ highest (meaning_of step) z) is high)
+    minimum : x.size ≡ Minimum → (1 ≤ n) × (n ≤ greatest x.q)
+    minimum is = sizes step n (subst (λ z. lowest step z ≤ n) is low) (subst (λ z. n ≤ highest step z) is high)
 
-    runs : (1 ≤ m) × (step.q ^ m ≤ 1024)
-    runs = runs_fit step.size step.q n level sized minimum
+    runs : (1 ≤ m) × (x.q ^ m ≤ 1024)
+    runs = runs_fit x.size x.q n level sized minimum
 
-    few_blocks : step.q ^ block_factors step.blocks m n ≤ 1024
-    few_blocks = blocks_fit step.size step.blocks step.q n (no_more_than_9 step.q level).0 given runs.1 (block_numbers (meaning_of step) n step.size high)
+    few_blocks : x.q ^ block_factors x.blocks m n ≤ 1024
+    few_blocks = blocks_fit x.size x.blocks x.q n (no_more_than_9 x.q level).0 given runs.1 (block_numbers step n x.size high)
 
     -- the shape of the question for n is one of the step
-    pub shape_valid : IsShapeOf (meaning_of step) (record { q = step.q; m = m; s = length step.factors; t = block_factors step.blocks m n })
+    pub shape_valid : IsShapeOf step (record { q = x.q; m = m; s = length step.factors; t = block_factors x.blocks m n })
     shape_valid = record {
       shaped = record {
-        order = order_of step.q level;
+        order = order_of x.q level;
         some_indexes = runs.0;
         runs = runs.1;
         some_factors = some_factors;
         factors = few_factors_in;
-        block_factors = few_factors step.q (block_factors step.blocks m n) (no_more_than_9 step.q level).0 few_blocks;
-        factors_in_blocks = few_in_blocks step.blocks (length step.factors) m n (and_parts _ _ step.factor_count).1;
+        block_factors = few_factors x.q (block_factors x.blocks m n) (no_more_than_9 x.q level).0 few_blocks;
+        factors_in_blocks = few_in_blocks x.blocks (length step.factors) m n (and_parts _ _ valid.factors).1;
       };
       factors = refl;
       few_blocks = few_blocks;
     }
 
     -- what it asks may be asked
-    pub requirement_valid : CanBeAsked (record { q = step.q; m = m; s = length step.factors; t = block_factors step.blocks m n }) (requirement_for step.least (goal_of step.wanted) n)
-    requirement_valid = can_be_asked step.q m (length step.factors) (block_factors step.blocks m n) n step.least step.wanted criterion_fits step.effects_askable
-        (λ seeks. resolutions (meaning_of step) n step.size (fixed seeks) (unblocked seeks) few_factors_in low high seeks)
+    pub requirement_valid : CanBeAsked (record { q = x.q; m = m; s = length step.factors; t = block_factors x.blocks m n }) (requirement_for x.least step.goal n)
+    requirement_valid = can_be_asked x.q m (length step.factors) (block_factors x.blocks m n) n x.least x.criterion step.goal criterion_fits valid.goal valid.effects
+        (λ seeks. resolutions step n x.size (fixed seeks) (unblocked seeks) few_factors_in low high seeks)
 
-    pub least_valid : IsTrue step.least → IsTrue (is_resolution (requirement_for step.least (goal_of step.wanted) n)) × (block_factors step.blocks m n ≡ 0)
+    pub least_valid : IsTrue x.least → IsTrue (is_resolution (requirement_for x.least step.goal n)) × (block_factors x.blocks m n ≡ 0)
     least_valid h =
-        let with : stand_together step.size (criterion_of step.wanted) true step.blocks ≡ true = subst (λ b. stand_together step.size (criterion_of step.wanted) b step.blocks ≡ true) h together in (
-          subst (λ b. IsTrue (is_resolution (requirement_for b (goal_of step.wanted) n))) (sym h) (resolution_asked step.size step.blocks step.wanted with n),
-          without_blocks step.size step.blocks step.wanted with m n,
+        let with : stand_together x.size x.criterion true x.blocks ≡ true = subst (λ b. stand_together x.size x.criterion b x.blocks ≡ true) h together in (
+          subst (λ b. IsTrue (is_resolution (requirement_for b step.goal n))) (sym h) (resolution_asked x.size x.blocks x.criterion step.goal valid.goal with n),
+          without_blocks x.size x.blocks x.criterion step.goal valid.goal with m n,
         )
 
--- there is such a number
-module _ (step : Step) where
-  sizes_fit : (given : Blocks) → are_blocks step.q Minimum given ≡ true → least_exponent given ≤ greatest step.q
-  sizes_fit blocks.Without are = one step.q (bounds.level (settings_in step.q step.budget step.size step.wanted step.least step.blocks) step.settings_valid)
-  sizes_fit (blocks.Factors t) are = one step.q (bounds.level (settings_in step.q step.budget step.size step.wanted step.least step.blocks) step.settings_valid)
-  sizes_fit (blocks.PerBlock k) are = let fits : k < greatest step.q = ltb-true k (greatest step.q) (and_parts (is_minimum Minimum) _ are).1 in omega (arith, fits)
-  sizes_fit blocks.Most are = one step.q (bounds.level (settings_in step.q step.budget step.size step.wanted step.least step.blocks) step.settings_valid)
+  -- there is such a number
+  sizes_fit : (given : Blocks) → are_blocks x.q Minimum given ≡ true → least_exponent given ≤ greatest x.q
+  sizes_fit blocks.Without are = one x.q (bounds.level x valid.settings)
+  sizes_fit (blocks.Factors t) are = one x.q (bounds.level x valid.settings)
+  sizes_fit (blocks.PerBlock k) are = let fits : k < greatest x.q = ltb-true k (greatest x.q) (and_parts (is_minimum Minimum) _ are).1 in omega (arith, fits)
+  sizes_fit blocks.Most are = one x.q (bounds.level x valid.settings)
 
-  at_least_one : (size : Size) → step.size ≡ size → lowest (meaning_of step) size ≤ highest (meaning_of step) size
-  at_least_one Minimum is =
-      sizes_fit step.blocks (subst (λ z. are_blocks step.q z step.blocks ≡ true) is (bounds.given (settings_in step.q step.budget step.size step.wanted step.least step.blocks) step.settings_valid))
+  at_least_one : (size : Size) → x.size ≡ size → lowest step size ≤ highest step size
+  at_least_one Minimum is = sizes_fit x.blocks (subst (λ z. are_blocks x.q z x.blocks ≡ true) is (bounds.given x valid.settings))
   at_least_one (Runs m) is =
-      let fits = subst (λ z. is_size step.q z ≡ true) is (bounds.size (settings_in step.q step.budget step.size step.wanted step.least step.blocks) step.settings_valid) in
-      ordered (has_most step.blocks) (seeks_highest step.least (goal_of step.wanted)) (leb-true 1 m (and_parts (nat_le 1 m) (nat_le (step.q ^ m) 1024) fits).0)
+      let fits = subst (λ z. is_size x.q z ≡ true) is (bounds.size x valid.settings) in
+      ordered (has_most x.blocks) (seeks_highest x.least step.goal) (leb-true 1 m (and_parts (nat_le 1 m) (nat_le (x.q ^ m) 1024) fits).0)
     where
       ordered : (most seeks : Bool) → 1 ≤ m → (if most then 1 else 3) ≤ (if most then m else (if seeks then max 3 (length step.factors + 1) else 3))
       ordered true seeks some = some
       ordered false true some = omega arith
       ordered false false some = omega arith
 
-  pub some_numbers : (n : ℕ) → n ≡ lowest (meaning_of step) step.size → n ≤ highest (meaning_of step) step.size
-  some_numbers n is = subst (λ k. k ≤ highest (meaning_of step) step.size) (sym is) (at_least_one step.size refl)
+  pub some_numbers : (n : ℕ) → n ≡ lowest step x.size → n ≤ highest step x.size
+  some_numbers n is = subst (λ k. k ≤ highest step x.size) (sym is) (at_least_one x.size refl)
+
+-- a step that is kept is valid
+kept_kind : (w : Wanted) → IsOfKind (criterion_of w) (goal_of w)
+kept_kind (wanted.Resolution r) = refl
+kept_kind wanted.Highest = tt
+kept_kind (wanted.Effects estimate others) = tt
+
+kept_effects : (q s : ℕ) (w : Wanted) → CanBeWanted q s w → HasFewEffects w → CanBeSought q s (goal_of w)
+kept_effects q s (wanted.Resolution r) askable few = tt
+kept_effects q s wanted.Highest askable few = tt
+kept_effects q s (wanted.Effects estimate others) askable few =
+    let both = few estimate others refl in (
+      askable estimate others refl,
+      omega (arith, both.0, length-map estimate (λ (e : Effect). e.0)),
+      omega (arith, both.1, length-map others (λ (e : Effect). e.0)),
+    )
+
+pub kept_valid : (step : Step) → IsValidStep (meaning_of step)
+kept_valid step = record {
+  settings = step.settings_valid;
+  goal = kept_kind step.wanted;
+  factors = step.factor_count;
+  effects = kept_effects step.q (length step.factors) step.wanted step.effects_askable step.few_effects;
+}

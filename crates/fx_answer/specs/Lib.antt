@@ -1,3 +1,4 @@
 pub mod Books
 pub mod Outcomes
 pub mod Standing
+pub mod ValidSteps

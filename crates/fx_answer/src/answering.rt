@@ -116,12 +116,7 @@ fn ask_from(alloc: Global, step: &Step, n: u8, finished: Finished) -> Result<Out
             };
             go_on(alloc, step, n, shape, false, finished)
         }
-        Asked::Budget { best } => Ok(cut_short(
-            shape,
-            best.or(finished.found),
-            step.budget,
-            books,
-        )),
+        Asked::Budget { best } => Ok(cut_short(shape, best.or(finished.found), step.budget, books)),
     }
 }
 

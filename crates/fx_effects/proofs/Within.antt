@@ -1,12 +1,13 @@
 -- The effects of a statement are effects of the factors of its step.
-use Rattle.std.proofs.Common.{◌≡◌, ◌<◌, ◌^◌, ℕ, Bool, true, false, not, List, [], ◌∷◌, ◌++◌, map, take, drop, length, Option, Some, None, Result, Ok, Err, refl, sym, subst, ◌∙◌, arith, inl, inr}
+use Rattle.std.proofs.Common.{◌≡◌, ◌<◌, ◌≤◌, ◌^◌, ℕ, Bool, true, false, not, List, [], ◌∷◌, ◌++◌, map, take, drop, length, Option, Some, None, Result, Ok, Err, refl, sym, subst, ◌∙◌, arith, inl, inr}
 use Rattle.std.specs.Prelude.{◌==◌, bit_or, count_ones, nat_le, if◌then◌else◌, slice_get}
 use Rattle.std.specs.List.{AllByRecursion}
 use Rattle.std.specs.Result.{IfOk}
-use Rattle.std.proofs.lemmas.Bool.{cases_eq, eq-eqb, ne_eqb, cases_Bool}
+use Rattle.std.proofs.lemmas.Bool.{cases_eq, eq-eqb, ne_eqb, cases_Bool, leb-true}
 use Rattle.std.proofs.lemmas.List.Elements.{All-from_recursion}
 use Rattle.std.proofs.lemmas.List.Quantifiers.{position-Some}
 use Rattle.std.proofs.lemmas.Nat.{le_or_l, or_lt, pow_pos}
+use Rattle.std.proofs.Math.Nat.{pow-le-pow_right}
 use Rattle.std.proofs.Math.Pow.{pow-lt}
 use Rattle.fx_language.specs.declared.symbol.Symbol.TheVariants.{Bar, Close, Open}
 use Rattle.fx_language.specs.Symbols.{is, is_word}
@@ -20,12 +21,13 @@ use Rattle.fx_text.specs.Ranges.{is_range, names_between, range_end}
 use Rattle.fx_laws.proofs.Order.{each-append, each-map, each-weaker}
 use Rattle.fx_vectors.specs.Effects.{pair_count}
 use Rattle.fx_vectors.specs.Question.{CanBeTold}
-use Rattle.fx_demands.specs.Bars.{bars_of, in_order, unions, within}
-use Rattle.fx_demands.proofs.Ordered.{Has, has-unfilter, in_order-only}
+use Rattle.fx_demands.specs.Bars.{AreNumbers, AreOrdered, bars_of, in_order, unions, within}
+use Rattle.fx_demands.proofs.Ordered.{Has, has-unfilter, in_order-only, in_order-ordered}
 use Rattle.fx_effects.specs.Factors.{main_of, mains_from}
 use Rattle.fx_effects.specs.Expressions.{Expression, Reading, stars_of, with_name, read, all_read, stars_len, upto_of, expression, bars_at, range_at, by_last, expression_at, begins_effect, effect_len, is_joining, expressions_from, expressions_of}
 use Rattle.fx_effects.specs.Lists.{effects_of, effects_written, few_effects}
-use Rattle.fx_effects.specs.Models.{EffectLists, AreApart, first_or, lists_at, lists_after, check_some_effects, without}
+use Rattle.fx_effects.specs.Models.{EffectLists, AreApart, by_word, first_or, lists_at, lists_after, lists_of, check_some_effects, without}
+use Rattle.fx_effects.proofs.Apart.{are_apart}
 
 -- what holds of each of some numbers
 member : (P : ℕ → Type 0) (u : ℕ) (xs : List ℕ) → AllByRecursion P xs → Has u xs → P u
@@ -182,6 +184,28 @@ module _ (factors : List (List ℕ)) where
       positive : (n : ℕ) → (n == 0) ≡ false → 0 < n
       positive n h = elim (cases_eq n 0) [ inl e ↦ absurd (let same : true ≡ false = sym (eq-eqb n 0 e) ∙ h in cc) | inr some ↦ omega (arith, some) ]
 
+  -- numbers of 64 bits, where there are at most 40 factors
+  small : s ≤ 40 → (effects : List ℕ) → AreOf s effects → AreNumbers effects
+  small few effects of = each-weaker (IsOf s) (λ e. e < 2 ^ 64) effects (λ e own. let top : 2 ^ s ≤ 2 ^ 40 = pow-le-pow_right (omega arith) few in omega (arith, own.1, top)) of
+
+  lists_at-apart : s ≤ 40 → (q : ℕ) (word : Written) (written : List Written) (other_word : Written) (other_written : List Written) (lists : EffectLists)
+      → lists_at q factors word written other_word other_written ≡ Ok lists → AreApart q lists
+  lists_at-apart few q word written other_word other_written lists is =
+      let estimate = bind_ok (expressions_of factors written) _ lists is in
+      let others = bind_ok (expressions_of factors other_written) _ lists estimate.2 in
+      let first = bind_ok (few_effects word (effects_of estimate.0)) _ lists others.2 in
+      let second = bind_ok (few_effects other_word (effects_of others.0)) _ lists first.2 in
+      let some = bind_ok (check_some_effects word first.0) _ lists second.2 in
+      let told = if_ok (nat_le (pair_count q first.0 (without first.0 second.0)) 2000000) (record { estimate = first.0; nonnegligible = without first.0 second.0 }) lists (refusal_at 22 word) some.2 in
+      let first_is = if_ok (nat_le (length (effects_of estimate.0)) 100000) (effects_of estimate.0) first.0 (refusal_at 23 word) first.1 in
+      let second_is = if_ok (nat_le (length (effects_of others.0)) 100000) (effects_of others.0) second.0 (refusal_at 23 other_word) second.1 in
+      let mine = in_order-ordered (effects_written estimate.0) (small few (effects_written estimate.0) (written-of s estimate.0 (expressions-of written [] false estimate.0 tt estimate.1))) in
+      let theirs = in_order-ordered (effects_written others.0) (small few (effects_written others.0) (written-of s others.0 (expressions-of other_written [] false others.0 tt others.1))) in
+      subst (AreApart q) told.1
+      (are_apart q first.0 second.0 (without first.0 second.0) (subst AreOrdered first_is.1 mine) (subst AreOrdered second_is.1 theirs) refl (leb-true _ 2000000 told.0)
+      (subst (λ (l : List ℕ). length l ≤ 100000) first_is.1 (leb-true _ 100000 first_is.0))
+      (subst (λ (l : List ℕ). length l ≤ 100000) second_is.1 (leb-true _ 100000 second_is.0)))
+
   can_be_told : (q : ℕ) (lists : EffectLists) → AreListsOf lists → AreApart q lists → CanBeTold q s lists.estimate lists.nonnegligible
   can_be_told q lists of apart = record {
     some = of.some;
@@ -198,3 +222,18 @@ module _ (factors : List (List ℕ)) where
       let rest = after Close written in
       can_be_told q lists (lists_at-of q word (before Close written) (first_or word rest) (before Close (after Open rest)) lists is) apart
   all_told q word written (Err stop) is apart = tt
+
+  -- the effects of a statement may be asked for, and are few
+  pub lists_told : s ≤ 40 → (q : ℕ) (statement : List Written) (lists : EffectLists) → lists_of q factors statement ≡ Ok lists
+      → CanBeTold q s lists.estimate lists.nonnegligible × (length lists.estimate ≤ 100000) × (length lists.nonnegligible ≤ 100000)
+  lists_told few q statement lists is = go (slice_get statement 1) is
+    where
+      go : (word : Option Written) → by_word q factors word (after Open statement) ≡ Ok lists
+          → CanBeTold q s lists.estimate lists.nonnegligible × (length lists.estimate ≤ 100000) × (length lists.nonnegligible ≤ 100000)
+      go None is = absurd (cc is)
+      go (Some word) is =
+          let written = after Open statement in
+          let rest = after Close written in
+          let of = lists_at-of q word (before Close written) (first_or word rest) (before Close (after Open rest)) lists is in
+          let apart = lists_at-apart few q word (before Close written) (first_or word rest) (before Close (after Open rest)) lists is in
+          (can_be_told q lists of apart, apart.few_estimate, apart.few_nonnegligible)

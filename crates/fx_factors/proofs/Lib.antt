@@ -1,5 +1,6 @@
 pub mod Numbered
 pub mod Added
+pub mod Within
 pub mod NumbersDiffer
 pub mod Distinct
 pub mod Readings

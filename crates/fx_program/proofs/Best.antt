@@ -221,7 +221,7 @@ module _ (step : Meaning) (valid : IsValidStep step) where
   unanswered : (n : ℕ) (wanted : Requirement) → (question n).requirement ≡ wanted → IsReducible wanted → answer (question n) ≡ None
       → NoneMeets (question n).dimensions wanted
   unanswered n wanted is low none =
-      let some : 0 < length step.factors + block_factors step.settings.blocks (run_factors step.settings.size n) n = omega (arith, valid.factors) in
+      let some : 0 < length step.factors + block_factors step.settings.blocks (run_factors step.settings.size n) n = omega (arith, leb-true 1 (length step.factors) (and_parts _ _ valid.factors).0) in
       let reduced : IsReducible (question n).requirement = subst IsReducible (sym is) low in
       subst (NoneMeets (question n).dimensions) is ((none-exactly (question n) field reduced).0 ((no_answer (question n) some).0 none))
 

@@ -162,8 +162,8 @@ half = refl
 -- the least aberration, and the words of each weight; a budget that ends before a design is found
 least_aberration :
     (given (codes "proc factex;factors A B C;size design=4;model resolution=max/minabs;examine aberration;")
-        ≡ booked (codes "step1-1.book") (codes "factex-book 1\nsize 2 2 3 0\nresolution 3\npattern 0 0 1\nO 1\nO 2\nP 3\nEND\n")
-        (codes "step 1\nfactors 3 levels 2\ndesign 4 runs\nresolution 3 least aberration\nnodes 3\nrules\n  C = A*B\nbook step1-1.book\naberration\n  A3 1\n") 0)
+    ≡ booked (codes "step1-1.book") (codes "factex-book 1\nsize 2 2 3 0\nresolution 3\npattern 0 0 1\nO 1\nO 2\nP 3\nEND\n")
+    (codes "step 1\nfactors 3 levels 2\ndesign 4 runs\nresolution 3 least aberration\nnodes 3\nrules\n  C = A*B\nbook step1-1.book\naberration\n  A3 1\n") 0)
     × (given (codes "proc factex nodes=2;factors A B C;size design=4;model resolution=3/minabs;") ≡ message (codes "step 1\nfactors 3 levels 2\nbudget ended after 2 nodes\n") 2)
 unfolding given booked
 least_aberration = (refl, refl)
@@ -171,8 +171,8 @@ least_aberration = (refl, refl)
 -- the highest resolution, with a model or without; a budget that ends where the next resolution is tried
 highest_resolution :
     (given (codes "proc factex;factors A B C;size design=4;model r=max;")
-        ≡ booked (codes "step1-2.book") (codes "factex-book 1\nsize 2 2 3 0\nresolution 4\npattern none\nO 1\nO 2\nW 3 7\nEND\n")
-        (codes "step 1\nfactors 3 levels 2\ndesign 4 runs\nresolution 3 highest\nnodes 6\nrules\n  C = A*B\nbook step1-2.book\n") 0)
+    ≡ booked (codes "step1-2.book") (codes "factex-book 1\nsize 2 2 3 0\nresolution 4\npattern none\nO 1\nO 2\nW 3 7\nEND\n")
+    (codes "step 1\nfactors 3 levels 2\ndesign 4 runs\nresolution 3 highest\nnodes 6\nrules\n  C = A*B\nbook step1-2.book\n") 0)
     × (given (codes "proc factex;factors A B;size design=4;") ≡ message (codes "step 1\nfactors 2 levels 2\ndesign 4 runs\nno defining words\nnodes 2\nrules\n  none\n") 0)
     × (given (codes "proc factex nodes=4;factors A B C;size design=4;model r=max;") ≡ message (codes "step 1\nfactors 3 levels 2\nbudget ended after 4 nodes\ndesign 4 runs not proved best\nresolution 3\nrules\n  C = A*B\n") 2)
 unfolding given booked
@@ -189,11 +189,11 @@ least_size = refl
 -- blocks: as many as can be, and none
 in_blocks :
     (given (codes "proc factex;factors A B;size design=4;model r=3;blocks nblocks=max;")
-        ≡ booked (codes "step1-2.book") (codes "factex-book 1\nsize 2 2 2 2\nresolution 3\npattern none\nO 1\nO 2\nO 3\nW 3 12\nW 2 10\nW 1 9\nW 0 8\nW 2 6\nW 1 5\nW 0 4\nEND\n")
-        (codes "step 1\nfactors 2 levels 2\ndesign 4 runs in 2 blocks\nno defining words\nnodes 13\nrules\n  [1] = A*B\nbook step1-2.book\n") 0)
+    ≡ booked (codes "step1-2.book") (codes "factex-book 1\nsize 2 2 2 2\nresolution 3\npattern none\nO 1\nO 2\nO 3\nW 3 12\nW 2 10\nW 1 9\nW 0 8\nW 2 6\nW 1 5\nW 0 4\nEND\n")
+    (codes "step 1\nfactors 2 levels 2\ndesign 4 runs in 2 blocks\nno defining words\nnodes 13\nrules\n  [1] = A*B\nbook step1-2.book\n") 0)
     × (given (codes "proc factex;factors A B C;size design=4;model r=3;blocks nblocks=2;")
-        ≡ booked (codes "step1-1.book") (codes "factex-book 1\nsize 2 2 3 1\nresolution 3\npattern none\nO 1\nO 2\nO 3\nW 3 12\nW 2 10\nW 1 9\nW 0 8\nEND\n")
-        (codes "step 1\nfactors 3 levels 2\nno design in 4 runs with 2 blocks\nnodes 7\nbook step1-1.book\n") 1)
+    ≡ booked (codes "step1-1.book") (codes "factex-book 1\nsize 2 2 3 1\nresolution 3\npattern none\nO 1\nO 2\nO 3\nW 3 12\nW 2 10\nW 1 9\nW 0 8\nEND\n")
+    (codes "step 1\nfactors 3 levels 2\nno design in 4 runs with 2 blocks\nnodes 7\nbook step1-1.book\n") 1)
 unfolding given booked
 in_blocks = (refl, refl)
 

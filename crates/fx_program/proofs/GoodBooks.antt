@@ -9,16 +9,13 @@ use Rattle.std.proofs.lemmas.List.Sums.{sum_by_push}
 use Rattle.fx_designs.specs.Problems.{Problem}
 use Rattle.fx_designs.specs.Nodes.{mark_of, marks, nodes}
 use Rattle.fx_laws.proofs.Order.{each-append, each-map}
-use Rattle.fx_vectors.specs.Effects.{numbers_of}
 use Rattle.fx_vectors.specs.Question.{CanBeAsked, is_resolution}
 use Rattle.fx_vectors.specs.Shape.{IsShape}
 use Rattle.fx_vectors.specs.declared.effect.Effect.{Effect}
 use Rattle.fx_settings.specs.declared.settings.StepSettings.{StepSettings}
 use Rattle.fx_settings.specs.Valid.{are_valid}
-use Rattle.fx_book.proofs.Listed.{effects-numbers}
 use Rattle.fx_vectors.specs.declared.book.Book.{Book}
 use Rattle.fx_vectors.specs.declared.book.NamedBook.{NamedBook}
-use Rattle.fx_book.specs.Demands.{effects_of}
 use Rattle.fx_book.specs.Heads.{book_of}
 use Rattle.fx_book.specs.Valid.{AreFew, IsValidBook}
 use Rattle.fx_book.specs.Writing.{book_text}
@@ -28,15 +25,12 @@ use Rattle.fx_checker.specs.Claims.{claim_of}
 use Rattle.fx_checker.specs.Verdicts.{verdict_of}
 use Rattle.fx_checker.specs.declared.verdict.Verdict.TheVariants.{Accepted}
 use Rattle.fx_checker.proofs.Good.{in_turn_none}
-use Rattle.fx_statements.specs.Goals.{goal_of}
+use Rattle.fx_statements.specs.Goals.{Goal, AtLeast, Highest, ForEffects}
 use Rattle.fx_statements.specs.Questions.{Questions, Turn, asked, highest, lowest, nodes_of, passes, question_for, questions_of, requirement_for, turns}
-use Rattle.fx_statements.specs.Steps.{Meaning, meaning_of}
-use Rattle.fx_statements.specs.declared.step.Step.{Step}
-use Rattle.fx_statements.specs.declared.wanted.Wanted.{Wanted}
-use Rattle.fx_statements.specs.declared.wanted.Wanted.TheVariants as wanted
-use Rattle.fx_statements.specs.Valid.{HasFewEffects}
+use Rattle.fx_statements.specs.Steps.{Meaning}
 use Rattle.fx_statements.proofs.Concluded.{each_asked}
 use Rattle.fx_answer.specs.Books.{book_at, book_for, books_from, books_of, demands_for, finished, finished_before, has_book, shape_of}
+use Rattle.fx_answer.specs.ValidSteps.{CanBeSought, IsValidStep}
 use Rattle.fx_answer.proofs.Valid.{least_valid, requirement_valid, shape_valid, some_numbers}
 use Rattle.fx_program.specs.BookClaims.{HasAcceptedBooks, IsAcceptedBook}
 use Rattle.fx_program.specs.Output.{message, output_of, verdict_output}
@@ -132,26 +126,22 @@ module _ (step : Meaning) (some : lowest step step.settings.size ≤ highest ste
       (within_5000000 budget (finished_before ps (find (passes budget) (turns [] ps))) few
       (finished-in budget [] ps (find (passes budget) (turns [] ps)) refl tt (omega arith) all_asked)))
 
--- the questions of a step may be asked
-few_of : (least : Bool) (w : Wanted) (n : ℕ) → HasFewEffects w → AreFew (demands_for (requirement_for least (goal_of w) n))
-few_of least (wanted.Resolution r) n few = tt
-few_of true wanted.Highest n few = tt
-few_of false wanted.Highest n few = tt
-few_of least (wanted.Effects estimate others) n few =
-    let both = few estimate others refl in (
-      omega (arith, both.0, long estimate),
-      omega (arith, both.1, long others),
-    )
+-- the questions of a valid step may be asked
+few_of : (q s : ℕ) (least : Bool) (goal : Goal) (n : ℕ) → CanBeSought q s goal → AreFew (demands_for (requirement_for least goal n))
+few_of q s least (AtLeast r) n sought = tt
+few_of q s true Highest n sought = tt
+few_of q s false Highest n sought = tt
+few_of q s least (ForEffects estimate others) n sought = (omega (arith, sought.1, length-map estimate by_number), omega (arith, sought.2, length-map others by_number))
   where
-    long : (effects : List Effect) → length (effects_of (numbers_of effects)) ≡ length effects
-    long effects = ap (λ (l : List Effect). length l) (effects-numbers effects)
+    by_number : ℕ → Effect
+    by_number n = record { 0 = n }
 
-may_be_asked : (step : Step) (n : ℕ) → lowest (meaning_of step) step.size ≤ n → n ≤ highest (meaning_of step) step.size → MayBeAsked (question_for (meaning_of step) n)
-may_be_asked step n low high = record {
-  shaped = (shape_valid step n low high).shaped;
-  asked = requirement_valid step n low high;
-  least = least_valid step n low high;
-  few = few_of step.least step.wanted n step.few_effects;
+may_be_asked : (step : Meaning) (valid : IsValidStep step) (n : ℕ) → lowest step step.settings.size ≤ n → n ≤ highest step step.settings.size → MayBeAsked (question_for step n)
+may_be_asked step valid n low high = record {
+  shaped = (shape_valid step valid n low high).shaped;
+  asked = requirement_valid step valid n low high;
+  least = least_valid step valid n low high;
+  few = few_of step.settings.q (length step.factors) step.settings.least step.goal n valid.effects;
 }
 
 few_nodes : (x : StepSettings) → are_valid x ≡ true → x.budget ≤ 5000000
@@ -159,6 +149,6 @@ few_nodes x valid =
     let bounds = (and_parts _ _ (and_parts _ _ (and_parts _ _ (and_parts _ _ (and_parts _ _ valid).0).0).0).0).1 in
     leb-true x.budget 5000000 (and_parts (leb 1 x.budget) (leb x.budget 5000000) bounds).1
 
-pub step_accepted : (step : Step) → HasAcceptedBooks (meaning_of step)
-step_accepted step =
-    all_accepted (meaning_of step) (some_numbers step (lowest (meaning_of step) step.size) refl) (few_nodes (meaning_of step).settings step.settings_valid) (may_be_asked step)
+pub step_accepted : (step : Meaning) → IsValidStep step → HasAcceptedBooks step
+step_accepted step valid =
+    all_accepted step (some_numbers step valid (lowest step step.settings.size) refl) (few_nodes step.settings valid.settings) (may_be_asked step valid)

@@ -9,13 +9,11 @@ use Rattle.fx_designs.specs.Matrices.{NoneMeets}
 use Rattle.fx_reduction.specs.Resolutions.{HasLeastPattern, HighestOfAll}
 use Rattle.fx_settings.specs.declared.settings.Size.TheVariants.{Minimum}
 use Rattle.fx_settings.specs.declared.settings.Blocks.TheVariants.{Most}
-use Rattle.fx_settings.specs.declared.settings.Criterion.{Criterion}
-use Rattle.fx_settings.specs.declared.settings.Criterion.TheVariants as criterion
 use Rattle.fx_settings.specs.Powers.{greatest}
-use Rattle.fx_settings.specs.Valid.{are_valid}
 use Rattle.fx_statements.specs.Goals.{Goal, AtLeast, Highest, ForEffects}
 use Rattle.fx_statements.specs.Questions.{block_factors, least_exponent, outcome_of, run_factors}
 use Rattle.fx_statements.specs.Steps.{Meaning}
+pub use Rattle.fx_answer.specs.ValidSteps.{IsOfKind, IsValidStep}
 
 -- what is required of each design of a step; where the highest resolution is wanted, a resolution of at least 3
 abbrev pub required : Goal → Requirement
@@ -82,24 +80,6 @@ HasMostBlocks step = (rows : List ℕ) (count : ℕ) (d : Dimensions)
     → Allows step d
     → (outcome_of step).dimensions.t < d.t
     → NoneMeets d (required step.goal)
-
--- a goal of this kind
-abbrev pub IsOfKind : Criterion → Goal → Type 0
-IsOfKind (criterion.Resolution r) (AtLeast n) = n ≡ r
-IsOfKind (criterion.Resolution r) Highest = ⊥
-IsOfKind (criterion.Resolution r) (ForEffects estimate besides) = ⊥
-IsOfKind criterion.Highest (AtLeast n) = ⊥
-IsOfKind criterion.Highest Highest = Unit {0}
-IsOfKind criterion.Highest (ForEffects estimate besides) = ⊥
-IsOfKind criterion.Effects (AtLeast n) = ⊥
-IsOfKind criterion.Effects Highest = ⊥
-IsOfKind criterion.Effects (ForEffects estimate besides) = Unit {0}
-
--- what each step of a text has: valid settings, a goal of the kind that they say, and some factors
-pub record IsValidStep (step : Meaning) : Type 0 where
-  pub settings : are_valid step.settings ≡ true
-  pub goal : IsOfKind step.settings.criterion step.goal
-  pub factors : 1 ≤ length step.factors
 
 -- a problem without a canonical matrix that meets its requirement
 abbrev pub HasNoDesign : Problem → Type 0

@@ -4,7 +4,7 @@ ghost use Rattle.fx_program.specs.Refusals.{HasItsMessage};
 ghost use Rattle.fx_designs.specs.Matrices.{NoneMeets};
 ghost use Rattle.fx_designs.specs.Problems.{Dimensions, Problem};
 ghost use Rattle.fx_laws.specs.First.{IsFirstDesign};
-ghost use Rattle.fx_statements.specs.Steps.{Meaning, meaning_of};
+ghost use Rattle.fx_statements.specs.Steps.{Meaning};
 ghost use Rattle.fx_program.specs.BookClaims.{HasABookForEach, HasAcceptedBooks};
 ghost use Rattle.fx_statements.specs.Questions.{asked, last_of, nodes_of, questions_of};
 ghost use Rattle.fx_program.specs.Making.{HasSteps, made_text};
@@ -29,8 +29,6 @@ ghost use Rattle.fx_program.specs.StepClaims.{
   required,
 };
 ghost use Rattle.fx_program.specs.Claims.{EachStep, IsGreatest};
-
-use fx_statements::Step;
 
 /// What is given for a step with some factors, where the nodes of the questions that are asked for it
 /// are within its budget: status 0 with the files and the lines of the first design of the canonical
@@ -140,9 +138,10 @@ pub fn claims_of_none_have_books()
         → HasABookForEach seed number step }
 {}
 
-/// Each book of each step is read from its file as it is, and `check` accepts it, with status 0.
-pub fn books_are_accepted()
-    ensures { (step : Step) → HasAcceptedBooks (meaning_of step) }
+/// Whatever a text says: each book of each step of its program is read from its file as it is, and
+/// `check` accepts it, with status 0.
+pub fn books_are_accepted_in_any_text()
+    ensures { (text : List ℕ) → EachStep HasAcceptedBooks (program_in text) }
 {}
 
 /// Each fault of a text has a row in the table of messages, so that its line names a reason, and a place

@@ -4,11 +4,11 @@ use Rattle.std.proofs.lemmas.Result.{IfOk-weaker}
 use Rattle.fx_statements.specs.Steps.{meaning_of}
 use Rattle.fx_answer.specs.Standing.{all_books_from, conclusion_from}
 use Rattle.fx_answer.proofs.Asking.{whole, whole_books}
-use Rattle.fx_answer.proofs.Valid.{some_numbers}
+use Rattle.fx_answer.proofs.Valid.{kept_valid, some_numbers}
 use Rattle.fx_answer.proofs.answering.answer.Goals as goal
 
 pub ask_from-requires-clause-high : goal.ask_from-requires-clause-high
-ask_from-requires-clause-high c = some_numbers c.args.step.now c.lowest.result c.lowest.ensures
+ask_from-requires-clause-high c = some_numbers (meaning_of c.args.step.now) (kept_valid c.args.step.now) c.lowest.result c.lowest.ensures
 
 pub returns : goal.returns
 returns c =

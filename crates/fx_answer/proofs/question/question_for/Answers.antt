@@ -3,7 +3,8 @@ use Rattle.fx_vectors.specs.Question.{CanBeAsked, is_resolution}
 use Rattle.fx_vectors.specs.Shape.{dimensions_of}
 use Rattle.fx_statements.specs.Goals.{goal_of}
 use Rattle.fx_statements.specs.Questions.{requirement_for}
-use Rattle.fx_answer.proofs.Valid.{least_valid, requirement_valid}
+use Rattle.fx_statements.specs.Steps.{meaning_of}
+use Rattle.fx_answer.proofs.Valid.{kept_valid, least_valid, requirement_valid}
 use Rattle.fx_answer.proofs.question.question_for.Goals as goal
 
 pub returns-clause-valid : goal.returns-clause-valid
@@ -17,8 +18,8 @@ returns-clause-valid c =
       asked =
           subst (λ r. CanBeAsked (dimensions_of c.shape_for.result) r) (sym wanted)
           (subst (λ d. CanBeAsked d (requirement_for step.least (goal_of step.wanted) c.args.n)) (sym c.shape_for.ensures.dimensions)
-          (requirement_valid step c.args.n low high));
+          (requirement_valid (meaning_of step) (kept_valid step) c.args.n low high));
       least = λ h.
-          let valid = least_valid step c.args.n low high h in
+          let valid = least_valid (meaning_of step) (kept_valid step) c.args.n low high h in
           (subst (λ r. IsTrue (is_resolution r)) (sym wanted) valid.0, ap (λ d. d.t) c.shape_for.ensures.dimensions ∙ valid.1);
     }
