@@ -1,5 +1,5 @@
 mod Sums
-mod RowSums
+mod Numbered
 mod Turns
 mod Good
 mod Sound

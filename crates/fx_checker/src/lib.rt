@@ -4,6 +4,7 @@
 #![tactic(auto)]
 
 mod checking;
+mod digits;
 mod judge;
 mod laws;
 mod rows;

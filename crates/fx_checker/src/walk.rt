@@ -14,11 +14,11 @@ ghost use Rattle.fx_checker.specs.Verdicts.{Reaches, IsAt, IsBack};
 use crate::judge::Judge;
 use crate::rows::next_rows;
 use crate::verdict::Reason;
-use crate::words::is_zero_sum;
+use crate::words::{is_forbidden, is_zero_sum};
 use fx_base::NoMemory;
 use fx_demands::Forbidden;
 use fx_tree::{Candidates, Front};
-use fx_vectors::{Book, Mark, Matrix, Vector};
+use fx_vectors::{Book, Mark, Matrix, Question};
 use std::alloc::Global;
 
 /// How far the marks of a part go: to the place of the next, or to the first flaw.
@@ -123,7 +123,7 @@ fn enter<J: Judge>(
     }
     let mark = book.marks.get(at);
     prefix.push(row);
-    if let Some(reason) = flaw(forbidden, judge, prefix, row, mark) {
+    if let Some(reason) = flaw(&book.head.question, forbidden, judge, prefix, row, mark) {
         return Ok(Step::Stops { to: at, reason });
     }
     match mark {
@@ -162,12 +162,14 @@ fn enter<J: Judge>(
 /// What is wrong with a mark in the turn of a prefix, if anything is. The prefix of the judge lacks
 /// the last row.
 fn flaw<J: Judge>(
+    question: &Question,
     forbidden: &Forbidden,
     judge: &mut J,
     prefix: &Matrix,
     row: u16,
     mark: Mark,
 ) -> Option<Reason>
+    requires words { forbidden.now ≡ question.now }
     requires shape { prefix.now.shape ≡ forbidden.now.shape }
     requires dimensions { J.dimensions judge.old ≡ dimensions_of forbidden.now.shape }
     requires rows { prefix.now.rows ≡ J.prefix judge.old ++ row ∷ [] }
@@ -195,7 +197,7 @@ fn flaw<J: Judge>(
         }
         Mark::Word { row: own, word } => {
             if own == row {
-                flaw_of_word(forbidden, prefix, word)
+                flaw_of_word(question, forbidden, prefix, word)
             } else {
                 Some(Reason::OtherRow)
             }
@@ -215,15 +217,19 @@ fn flaw<J: Judge>(
 }
 
 /// What is wrong with the word of this number, that of a vector over all rows of a whole matrix.
-fn flaw_of_word(forbidden: &Forbidden, prefix: &Matrix, number: u128) -> Option<Reason>
-    requires shape { prefix.now.shape ≡ forbidden.now.shape }
-    requires below { number < forbidden.now.shape.q ^ (forbidden.now.shape.s + forbidden.now.shape.t) }
-    ensures { result ≡ flaw_of_word (problem_of forbidden.now) prefix.now.rows number }
+fn flaw_of_word(
+    question: &Question,
+    forbidden: &Forbidden,
+    prefix: &Matrix,
+    number: u128,
+) -> Option<Reason>
+    requires words { forbidden.now ≡ question.now }
+    requires shape { prefix.now.shape ≡ question.now.shape }
+    requires below { number < question.now.shape.q ^ (question.now.shape.s + question.now.shape.t) }
+    ensures { result ≡ flaw_of_word (problem_of question.now) prefix.now.rows number }
 {
-    let shape = forbidden.shape();
-    let word = Vector::of_number(shape.field(), shape.rows(), number);
-    if is_zero_sum(prefix, &word) {
-        if forbidden.holds(&word) {
+    if is_zero_sum(prefix, number) {
+        if is_forbidden(question, forbidden, number) {
             None
         } else {
             Some(Reason::NotForbidden)
