@@ -6,6 +6,7 @@
 mod checking;
 mod digits;
 mod judge;
+mod known_words;
 mod laws;
 mod rows;
 #[cfg(test)]

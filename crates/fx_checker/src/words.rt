@@ -9,9 +9,10 @@ ghost use Rattle.fx_vectors.specs.Question.{requirement_of};
 ghost use Rattle.fx_checker.specs.Books.{word_vector};
 
 use crate::digits::split_digit;
-use fx_demands::{Forbidden, sum_with};
+use crate::known_words::KnownWords;
+use fx_demands::sum_with;
 use fx_galois::Field;
-use fx_vectors::{Demands, Matrix, Question, Shape, Vector};
+use fx_vectors::{Demands, Matrix, Question, Shape};
 
 /// Whether the word of this number, that of a vector over all rows of a whole matrix, has zeros for
 /// the rows to come and the sum zero over those of the prefix.
@@ -56,22 +57,21 @@ fn with_multiple(field: Field, m: u8, sum: u16, row: u16, c: u8) -> u16
     sum_with(field, m, sum, row, c)
 }
 
-/// Whether the word of this number, that of a vector over all rows of a whole matrix, is forbidden.
-pub(crate) fn is_forbidden(question: &Question, forbidden: &Forbidden, number: u128) -> bool
-    requires words { forbidden.now ≡ question.now }
+/// Whether the word of this number, that of a vector over all rows of a whole matrix which is not
+/// zero, is forbidden.
+pub(crate) fn is_forbidden(question: &Question, words: &mut KnownWords, number: u128) -> bool
+    requires words { words.old ≡ question.now }
+    requires some { 0 < number }
     requires below { number < question.now.shape.q ^ (question.now.shape.s + question.now.shape.t) }
-    ensures { result
+    ensures forbidden { result
         ≡ is_forbidden_word (dimensions_of question.now.shape)
         (requirement_of question.now.demands)
         (word_vector (dimensions_of question.now.shape) number) }
+    ensures words { words.new ≡ words.old }
 {
-    let shape = forbidden.shape();
     match question.demands {
-        Demands::Resolution { r } => is_forbidden_at(shape, r, number),
-        Demands::Effects { .. } => {
-            let word = Vector::of_number(shape.field(), shape.rows(), number);
-            forbidden.holds(&word)
-        }
+        Demands::Resolution { r } => is_forbidden_at(words.shape(), r, number),
+        Demands::Effects { .. } => words.holds(number),
     }
 }
 
