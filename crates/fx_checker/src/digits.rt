@@ -1,4 +1,4 @@
-ghost use Rattle.std.specs.Prelude.{◌≡◌, ◌<◌, ◌/◌, ◌%◌};
+ghost use Rattle.std.specs.Prelude.{◌≡◌, ◌<◌, ◌≤◌, ◌/◌, ◌%◌};
 
 use fx_galois::Field;
 
@@ -31,10 +31,22 @@ fn split_short(q: u8, n: u64) -> (u64, u8)
     ensures digit { result.1 ≡ n % q }
 {
     match q {
-        3 => (n / 3, (n % 3) as u8),
-        5 => (n / 5, (n % 5) as u8),
-        7 => (n / 7, (n % 7) as u8),
-        9 => (n / 9, (n % 9) as u8),
+        3 => split_by::<3>(n),
+        5 => split_by::<5>(n),
+        7 => split_by::<7>(n),
+        9 => split_by::<9>(n),
         q => (n / u64::from(q), (n % u64::from(q)) as u8),
     }
+}
+
+/// The same with a base that the compiler knows. Inlined, the divisions by all bases would become one
+/// by a number that it does not know.
+#[inline(never)]
+fn split_by<const Q: u64>(n: u64) -> (u64, u8)
+    requires some { 0 < Q }
+    requires fits { Q ≤ 256 }
+    ensures rest { result.0 ≡ n / Q }
+    ensures digit { result.1 ≡ n % Q }
+{
+    (n / Q, (n % Q) as u8)
 }
