@@ -1,4 +1,4 @@
-ghost use Rattle.std.specs.Prelude.{◌≡◌, ◌≤◌, ◌<◌, ◌+◌, ◌-◌, [], ◌∷◌, length, take, drop};
+ghost use Rattle.std.specs.Prelude.{◌≡◌, ◌≤◌, ◌<◌, ◌+◌, ◌-◌, ◌*◌, ◌^◌, [], ◌∷◌, length, take, drop, min};
 ghost use Rattle.std.specs.Str.{bytes_eq};
 ghost use Rattle.fx_book.specs.Parts.{split, number_of};
 
@@ -43,9 +43,19 @@ pub(crate) fn number(part: &[u8]) -> Option<u128>
         if byte < b'0' || byte > b'9' {
             return None;
         }
-        value = value
-            .saturating_mul(10)
-            .saturating_add(u128::from(byte - b'0'));
+        value = with_digit(value, byte - b'0');
     }
     Some(value)
+}
+
+/// The number with one digit more, capped at 2^128 - 1. Most numbers fit 64 bits, in which it takes
+/// less time.
+fn with_digit(value: u128, digit: u8) -> u128
+    requires { digit ≤ 9 }
+    ensures { result ≡ min (value * 10 + digit) (2 ^ 128 - 1) }
+{
+    if value < 1_000_000_000_000_000_000 {
+        return u128::from(value as u64 * 10 + u64::from(digit));
+    }
+    value.saturating_mul(10).saturating_add(u128::from(digit))
 }

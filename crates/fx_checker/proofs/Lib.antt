@@ -1,5 +1,5 @@
 mod Sums
-mod RowSums
+mod Numbered
 mod Turns
 pub mod Good
 mod Sound

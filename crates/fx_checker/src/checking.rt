@@ -7,10 +7,10 @@ ghost use Rattle.fx_checker.specs.Laws.{IsProved};
 ghost use Rattle.fx_checker.specs.Verdicts.{IsAt, verdict_of};
 
 use crate::judge::{Judge, Rated, Unbeaten};
+use crate::known_words::KnownWords;
 use crate::verdict::{Reason, Verdict};
 use crate::walk::{Step, under};
 use fx_base::NoMemory;
-use fx_demands::Forbidden;
 use fx_tree::{Candidates, Front};
 use fx_vectors::{Book, Matrix};
 use std::alloc::Global;
@@ -48,7 +48,7 @@ fn check_with<J: Judge>(alloc: Global, book: &Book, judge: &mut J) -> Result<Ver
     ensures verdict { IfOk result (λ verdict. verdict ≡ verdict_of (flaw_of (claim_of book.now.head) book.now.marks)) }
     ensures claim { IfOk result (IsProved (claim_of book.now.head)) }
 {
-    let forbidden = Forbidden::of(alloc, &book.head.question)?;
+    let mut words = KnownWords::of(alloc, &book.head.question)?;
     let mut prefix = Matrix::new(book.head.question.shape);
     let candidates = Candidates::of(book.head.question.shape);
     let front = Front {
@@ -59,7 +59,7 @@ fn check_with<J: Judge>(alloc: Global, book: &Book, judge: &mut J) -> Result<Ver
     match under(
         alloc,
         book,
-        &forbidden,
+        &mut words,
         &candidates,
         front,
         judge,

@@ -4,7 +4,9 @@
 #![tactic(auto)]
 
 mod checking;
+mod digits;
 mod judge;
+mod known_words;
 mod laws;
 mod rows;
 #[cfg(test)]

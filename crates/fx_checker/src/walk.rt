@@ -12,13 +12,13 @@ ghost use Rattle.fx_checker.specs.Claims.{claim_of};
 ghost use Rattle.fx_checker.specs.Verdicts.{Reaches, IsAt, IsBack};
 
 use crate::judge::Judge;
+use crate::known_words::KnownWords;
 use crate::rows::next_rows;
 use crate::verdict::Reason;
-use crate::words::is_zero_sum;
+use crate::words::{is_forbidden, is_zero_sum};
 use fx_base::NoMemory;
-use fx_demands::Forbidden;
 use fx_tree::{Candidates, Front};
-use fx_vectors::{Book, Mark, Matrix, Vector};
+use fx_vectors::{Book, Mark, Matrix, Question};
 use std::alloc::Global;
 
 /// How far the marks of a part go: to the place of the next, or to the first flaw.
@@ -38,7 +38,7 @@ pub(crate) enum Step {
 pub(crate) fn under<J: Judge>(
     alloc: Global,
     book: &Book,
-    forbidden: &Forbidden,
+    words: &mut KnownWords,
     candidates: &Candidates,
     front: Front,
     judge: &mut J,
@@ -46,7 +46,7 @@ pub(crate) fn under<J: Judge>(
     at: usize,
 ) -> Result<Step, NoMemory>
     requires valid { IsValidBook book.now }
-    requires words { forbidden.now ≡ book.now.head.question }
+    requires words { words.old ≡ book.now.head.question }
     requires candidates { candidates.now ≡ book.now.head.question.shape }
     requires front { front ≡ front_of (dimensions_of book.now.head.question.shape) prefix.old.rows }
     requires rank { front.rank ≤ book.now.head.question.shape.m }
@@ -57,6 +57,7 @@ pub(crate) fn under<J: Judge>(
         (requirement_of book.now.head.question.demands) prefix.old.rows
         ≡ true }
     requires at { at ≤ length book.now.marks }
+    ensures words { words.new ≡ words.old }
     ensures shape { IfOk result (λ step. prefix.new.shape ≡ book.now.head.question.shape) }
     ensures back { IfOk result (λ step.
         IsBack step (J.dimensions judge.new) (J.beat judge.new) (J.prefix judge.new) prefix.new.rows
@@ -68,7 +69,7 @@ pub(crate) fn under<J: Judge>(
     let mut to = at;
     for row in rows.as_slice() {
         match enter(
-            alloc, book, forbidden, candidates, front, judge, prefix, *row, to,
+            alloc, book, words, candidates, front, judge, prefix, *row, to,
         )? {
             Step::Goes { to: next } => {
                 to = next;
@@ -86,7 +87,7 @@ pub(crate) fn under<J: Judge>(
 fn enter<J: Judge>(
     alloc: Global,
     book: &Book,
-    forbidden: &Forbidden,
+    words: &mut KnownWords,
     candidates: &Candidates,
     front: Front,
     judge: &mut J,
@@ -95,7 +96,7 @@ fn enter<J: Judge>(
     at: usize,
 ) -> Result<Step, NoMemory>
     requires valid { IsValidBook book.now }
-    requires words { forbidden.now ≡ book.now.head.question }
+    requires words { words.old ≡ book.now.head.question }
     requires candidates { candidates.now ≡ book.now.head.question.shape }
     requires front { front ≡ front_of (dimensions_of book.now.head.question.shape) prefix.old.rows }
     requires rank { front.rank ≤ book.now.head.question.shape.m }
@@ -108,6 +109,7 @@ fn enter<J: Judge>(
         (prefix.old.rows ++ row ∷ [])
         ≡ true }
     requires at { at ≤ length book.now.marks }
+    ensures words { words.new ≡ words.old }
     ensures shape { IfOk result (λ step. prefix.new.shape ≡ book.now.head.question.shape) }
     ensures back { IfOk result (λ step.
         IsBack step (J.dimensions judge.new) (J.beat judge.new) (J.prefix judge.new) prefix.new.rows
@@ -123,23 +125,14 @@ fn enter<J: Judge>(
     }
     let mark = book.marks.get(at);
     prefix.push(row);
-    if let Some(reason) = flaw(forbidden, judge, prefix, row, mark) {
+    if let Some(reason) = flaw(&book.head.question, words, judge, prefix, row, mark) {
         return Ok(Step::Stops { to: at, reason });
     }
     match mark {
         Mark::Branch { row: _ } => {
             judge.push(row);
             let next = candidates.next_front(front, row);
-            match under(
-                alloc,
-                book,
-                forbidden,
-                candidates,
-                next,
-                judge,
-                prefix,
-                at + 1,
-            )? {
+            match under(alloc, book, words, candidates, next, judge, prefix, at + 1)? {
                 Step::Goes { to } => {
                     judge.pop();
                     prefix.pop();
@@ -162,21 +155,24 @@ fn enter<J: Judge>(
 /// What is wrong with a mark in the turn of a prefix, if anything is. The prefix of the judge lacks
 /// the last row.
 fn flaw<J: Judge>(
-    forbidden: &Forbidden,
+    question: &Question,
+    words: &mut KnownWords,
     judge: &mut J,
     prefix: &Matrix,
     row: u16,
     mark: Mark,
 ) -> Option<Reason>
-    requires shape { prefix.now.shape ≡ forbidden.now.shape }
-    requires dimensions { J.dimensions judge.old ≡ dimensions_of forbidden.now.shape }
+    requires words { words.old ≡ question.now }
+    requires shape { prefix.now.shape ≡ question.now.shape }
+    requires dimensions { J.dimensions judge.old ≡ dimensions_of question.now.shape }
     requires rows { prefix.now.rows ≡ J.prefix judge.old ++ row ∷ [] }
-    requires part { length (J.prefix judge.old) < forbidden.now.shape.s + forbidden.now.shape.t }
-    requires below { row < forbidden.now.shape.q ^ forbidden.now.shape.m }
-    requires entry { IsEntry (dimensions_of forbidden.now.shape) (is_some (J.beat judge.old)) (meaning_of mark) }
+    requires part { length (J.prefix judge.old) < question.now.shape.s + question.now.shape.t }
+    requires below { row < question.now.shape.q ^ question.now.shape.m }
+    requires entry { IsEntry (dimensions_of question.now.shape) (is_some (J.beat judge.old)) (meaning_of mark) }
     ensures flaw { result
-        ≡ flaw (record { problem = problem_of forbidden.now; beat = J.beat judge.old }) prefix.now.rows
+        ≡ flaw (record { problem = problem_of question.now; beat = J.beat judge.old }) prefix.now.rows
         (meaning_of mark) }
+    ensures words { words.new ≡ words.old }
     ensures dimensions { J.dimensions judge.new ≡ J.dimensions judge.old }
     ensures beat { J.beat judge.new ≡ J.beat judge.old }
     ensures prefix { J.prefix judge.new ≡ J.prefix judge.old }
@@ -184,7 +180,7 @@ fn flaw<J: Judge>(
     match mark {
         Mark::Branch { row: own } => {
             if own == row {
-                if prefix.len() == forbidden.shape().rows() {
+                if prefix.len() == question.shape.rows() {
                     Some(Reason::Whole)
                 } else {
                     None
@@ -195,7 +191,7 @@ fn flaw<J: Judge>(
         }
         Mark::Word { row: own, word } => {
             if own == row {
-                flaw_of_word(forbidden, prefix, word)
+                flaw_of_word(question, words, prefix, word)
             } else {
                 Some(Reason::OtherRow)
             }
@@ -215,15 +211,21 @@ fn flaw<J: Judge>(
 }
 
 /// What is wrong with the word of this number, that of a vector over all rows of a whole matrix.
-fn flaw_of_word(forbidden: &Forbidden, prefix: &Matrix, number: u128) -> Option<Reason>
-    requires shape { prefix.now.shape ≡ forbidden.now.shape }
-    requires below { number < forbidden.now.shape.q ^ (forbidden.now.shape.s + forbidden.now.shape.t) }
-    ensures { result ≡ flaw_of_word (problem_of forbidden.now) prefix.now.rows number }
+fn flaw_of_word(
+    question: &Question,
+    words: &mut KnownWords,
+    prefix: &Matrix,
+    number: u128,
+) -> Option<Reason>
+    requires words { words.old ≡ question.now }
+    requires shape { prefix.now.shape ≡ question.now.shape }
+    requires some { 0 < number }
+    requires below { number < question.now.shape.q ^ (question.now.shape.s + question.now.shape.t) }
+    ensures flaw { result ≡ flaw_of_word (problem_of question.now) prefix.now.rows number }
+    ensures words { words.new ≡ words.old }
 {
-    let shape = forbidden.shape();
-    let word = Vector::of_number(shape.field(), shape.rows(), number);
-    if is_zero_sum(prefix, &word) {
-        if forbidden.holds(&word) {
+    if is_zero_sum(prefix, number) {
+        if is_forbidden(question, words, number) {
             None
         } else {
             Some(Reason::NotForbidden)

@@ -50,7 +50,7 @@ enter-returns-in-Some-clause-reaches g t c =
     let x : Claim = claim_of c.args.book.now.head in
     let own : List ℕ = c.args.prefix.now.rows ++ c.args.row ∷ [] in
     let e : Mark = meaning_of c.get-mark.result in
-    let out : c.flaw.result ≡ flaw x own e = rw (c.requires.words, c.requires.judge.beat_is, c.push.ensures) at c.flaw.ensures.flaw in
+    let out : c.flaw.result ≡ flaw x own e = rw (c.requires.judge.beat_is, c.push.ensures) at c.flaw.ensures.flaw in
     λ others. (at_flaw x c.args.book.now.marks own others c.args.at e c.in-Some.reason (omega arith) c.get-mark.ensures.mark (sym out ∙ c.in-Some.is), c.requires.at)
 
 pub enter-returns-in-Goes-clause-reaches : goal.enter-returns-in-Goes-clause-reaches
@@ -58,7 +58,7 @@ enter-returns-in-Goes-clause-reaches g t c =
     let x : Claim = claim_of c.args.book.now.head in
     let own : List ℕ = c.args.prefix.now.rows ++ c.args.row ∷ [] in
     let e : Mark = Branch c.in-Branch.row in
-    let out : c.flaw.result ≡ flaw x own e = rw (c.requires.words, c.requires.judge.beat_is, c.push.ensures, c.in-Branch.is) at c.flaw.ensures.flaw in
+    let out : c.flaw.result ≡ flaw x own e = rw (c.requires.judge.beat_is, c.push.ensures, c.in-Branch.is) at c.flaw.ensures.flaw in
     let none : flaw x own e ≡ None = sym out ∙ no_reason c.flaw.result c.in_default.not-Some in
     let below = rw (c.in-Goes.is, c.push.ensures) at c.in_ok-to-in-Branch.ensures.reaches in
     λ others. (taken x c.args.book.now.marks own others c.args.at e (omega arith) c.in-Branch.ensures.mark none ∙ (below others).0, (below others).1)
@@ -68,7 +68,7 @@ enter-returns-in-Stops-clause-reaches g t c =
     let x : Claim = claim_of c.args.book.now.head in
     let own : List ℕ = c.args.prefix.now.rows ++ c.args.row ∷ [] in
     let e : Mark = Branch c.in-Branch.row in
-    let out : c.flaw.result ≡ flaw x own e = rw (c.requires.words, c.requires.judge.beat_is, c.push.ensures, c.in-Branch.is) at c.flaw.ensures.flaw in
+    let out : c.flaw.result ≡ flaw x own e = rw (c.requires.judge.beat_is, c.push.ensures, c.in-Branch.is) at c.flaw.ensures.flaw in
     let none : flaw x own e ≡ None = sym out ∙ no_reason c.flaw.result c.in_default.not-Some in
     let below = rw (c.in-Stops.is, c.push.ensures) at c.in_ok-to-in-Branch.ensures.reaches in
     λ others. (taken x c.args.book.now.marks own others c.args.at e (omega arith) c.in-Branch.ensures.mark none ∙ (below others).0, (below others).1)
@@ -78,7 +78,7 @@ enter-returns-in-Word-clause-reaches g t c =
     let x : Claim = claim_of c.args.book.now.head in
     let own : List ℕ = c.args.prefix.now.rows ++ c.args.row ∷ [] in
     let e : Mark = Word c.in-Word.row c.in-Word.word in
-    let out : c.flaw.result ≡ flaw x own e = rw (c.requires.words, c.requires.judge.beat_is, c.push.ensures, c.in-Word.is) at c.flaw.ensures.flaw in
+    let out : c.flaw.result ≡ flaw x own e = rw (c.requires.judge.beat_is, c.push.ensures, c.in-Word.is) at c.flaw.ensures.flaw in
     let none : flaw x own e ≡ None = sym out ∙ no_reason c.flaw.result c.in_default.not-Some in
     λ others. (taken x c.args.book.now.marks own others c.args.at e (omega arith) c.in-Word.ensures.mark none, omega arith)
 
@@ -87,7 +87,7 @@ enter-returns-in-Worse-clause-reaches g t c =
     let x : Claim = claim_of c.args.book.now.head in
     let own : List ℕ = c.args.prefix.now.rows ++ c.args.row ∷ [] in
     let e : Mark = Worse c.in-Worse.row in
-    let out : c.flaw.result ≡ flaw x own e = rw (c.requires.words, c.requires.judge.beat_is, c.push.ensures, c.in-Worse.is) at c.flaw.ensures.flaw in
+    let out : c.flaw.result ≡ flaw x own e = rw (c.requires.judge.beat_is, c.push.ensures, c.in-Worse.is) at c.flaw.ensures.flaw in
     let none : flaw x own e ≡ None = sym out ∙ no_reason c.flaw.result c.in_default.not-Some in
     λ others. (taken x c.args.book.now.marks own others c.args.at e (omega arith) c.in-Worse.ensures.mark none, omega arith)
 
@@ -104,7 +104,7 @@ under-enter-requires g t c κs within =
     let below = child-below tr p c.as_slice-row-items.result.now c.loop-row.row-index rows c.loop-row-test.true in
     let at = subst (λ l. IsAt (g.J.Judge.dimensions c.loop-row.judge) (g.J.Judge.beat c.loop-row.judge) (g.J.Judge.prefix c.loop-row.judge) (claim_of c.args.book.now.head) l) (sym same) c.loop-row.invariant.at in
     let front : c.args.front ≡ front_of (dimensions_of c.args.book.now.head.question.shape) c.loop-row.prefix.rows = c.requires.front ∙ ap (front_of (dimensions_of c.args.book.now.head.question.shape)) (sym same) in
-    (omega arith, (within, (c.requires.valid, (c.requires.words, (c.requires.candidates, (front, (c.requires.rank, (c.loop-row.invariant.shape, (at, (part, (below, (canonical, c.loop-row.invariant.to))))))))))))
+    (omega arith, (within, (c.requires.valid, (c.loop-row.invariant.words ∙ c.requires.words, (c.requires.candidates, (front, (c.requires.rank, (c.loop-row.invariant.shape, (at, (part, (below, (canonical, c.loop-row.invariant.to))))))))))))
 
 pub under-returns-in-Stops-clause-reaches : goal.under-returns-in-Stops-clause-reaches
 under-returns-in-Stops-clause-reaches g t c =
@@ -133,6 +133,7 @@ under-loop-row-preserved g t c =
     let h = rw (c.loop-row.invariant.rows, rows, c.in-Goes.is) at c.in_ok-next.ensures.reaches in
     let back = rw (c.loop-row.invariant.rows, c.in-Goes.is) at c.in_ok-next.ensures.back in
     record {
+      words = c.in_ok-next.ensures.words ∙ c.loop-row.invariant.words;
       shape = c.in_ok-next.ensures.shape;
       rows = back.1;
       at = back.0;
@@ -152,7 +153,7 @@ enter-under-requires g t c κs within =
     let own : List ℕ = p ++ c.args.row ∷ [] in
     let pushed : c.push.new.self.rows ≡ own = ap (λ m. m.rows) c.push.ensures in
     let long : length c.push.new.self.rows ≡ length p + 1 = ap length pushed ∙ length-append p (c.args.row ∷ []) in
-    let out : c.flaw.result ≡ flaw x own (Branch c.in-Branch.row) = rw (c.requires.words, c.requires.judge.beat_is, c.push.ensures, c.in-Branch.is) at c.flaw.ensures.flaw in
+    let out : c.flaw.result ≡ flaw x own (Branch c.in-Branch.row) = rw (c.requires.judge.beat_is, c.push.ensures, c.in-Branch.is) at c.flaw.ensures.flaw in
     let none : flaw x own (Branch c.in-Branch.row) ≡ None = sym out ∙ no_reason c.flaw.result c.in_default.not-Some in
     let open_ = none_else (is_whole x.problem own) Whole (none_then (eqb c.in-Branch.row (last_row own)) (cond (is_whole x.problem own) (Some Whole) None) OtherRow none).1 in
     let other : length own ≢ d.s + d.t = λ e. both_ways _ open_ (eq-eqb (length own) (d.s + d.t) e) in
@@ -169,7 +170,7 @@ enter-under-requires g t c κs within =
     } in
     let canonical : is_canonical d (requirement_of question.demands) c.push.new.self.rows ≡ true = ap (is_canonical d (requirement_of question.demands)) pushed ∙ c.requires.canonical in
     let there : c.args.at + 1 ≤ length c.args.book.now.marks = omega (arith, c.if-at-len.false, c.len.ensures, c.requires.at) in
-    (omega (arith, c.decreases, long, part), (within, (c.requires.valid, (c.requires.words, (c.requires.candidates, (front, (rank, (ap (λ m. m.shape) c.push.ensures ∙ c.requires.shape, (at, (part, (canonical, there)))))))))))
+    (omega (arith, c.decreases, long, part), (within, (c.requires.valid, (c.flaw.ensures.words ∙ c.requires.words, (c.requires.candidates, (front, (rank, (ap (λ m. m.shape) c.push.ensures ∙ c.requires.shape, (at, (part, (canonical, there)))))))))))
 
 pub under-returns-clause-reaches : goal.under-returns-clause-reaches
 under-returns-clause-reaches g t c =
