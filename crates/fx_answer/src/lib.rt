@@ -4,7 +4,5 @@
 mod answering;
 mod booking;
 mod question;
-#[cfg(test)]
-mod tests;
 
 pub use answering::answer;

@@ -10,8 +10,6 @@ mod head;
 mod laws;
 mod part;
 mod reading;
-#[cfg(test)]
-mod tests;
 mod writing;
 
 pub use book::read_book;

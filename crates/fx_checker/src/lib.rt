@@ -9,8 +9,6 @@ mod judge;
 mod known_words;
 mod laws;
 mod rows;
-#[cfg(test)]
-mod tests;
 mod verdict;
 mod walk;
 mod words;

@@ -9,8 +9,6 @@ mod output;
 mod running;
 mod standard;
 mod starting;
-#[cfg(test)]
-mod tests;
 mod words;
 
 pub use current_folder::CurrentFolder;

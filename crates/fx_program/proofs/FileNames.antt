@@ -104,7 +104,7 @@ unfolding IsDistinct
 books_apart number least [] small h = tt
 books_apart number least (b ∷ books) small h = (
   against (IsBookOf number (b.question + 1)) (book_name number b.question) (book_names number books) (each-book number (b.question + 1) books h.2)
-  (λ other is. subst (λ (x : Name). is_same_name (book_name number b.question) x ≡ false) (sym is.3) (books_differ number b.question number is.0 small h.1 small is.2 (λ same. let later = is.1 in let here = same.1 in omega arith))),
+      (λ other is. subst (λ (x : Name). is_same_name (book_name number b.question) x ≡ false) (sym is.3) (books_differ number b.question number is.0 small h.1 small is.2 (λ same. let later = is.1 in let here = same.1 in omega arith))),
   books_apart number (b.question + 1) books small h.2,
 )
 

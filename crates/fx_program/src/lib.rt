@@ -11,8 +11,6 @@ mod run;
 mod status;
 mod stop;
 mod summary;
-#[cfg(test)]
-mod tests;
 mod text;
 mod words;
 

@@ -5,4 +5,8 @@
 #[cfg(test)]
 mod alias;
 #[cfg(test)]
+mod edge;
+#[cfg(test)]
 mod plan;
+#[cfg(test)]
+mod program;

@@ -3,7 +3,13 @@
 #![tactic(auto)]
 
 #[cfg(test)]
+mod answer;
+#[cfg(test)]
 mod barred;
+#[cfg(test)]
+mod book;
+#[cfg(test)]
+mod checker;
 #[cfg(test)]
 mod demands;
 #[cfg(test)]

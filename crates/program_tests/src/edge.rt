@@ -1,5 +1,5 @@
-use super::*;
 use fx_base::SureShelf;
+use fx_edge::{CurrentFolder, FolderShelf, start};
 use std::alloc::Global;
 use std::env::Args;
 use std::fs;

@@ -1,5 +1,5 @@
-use crate::{BookStop, read_book, write_book};
 use fx_base::{Bytes, NoMemory};
+use fx_book::{BookStop, read_book, write_book};
 use fx_vectors::{Demands, Mark};
 use std::alloc::Global;
 use std::process::Abort;

@@ -2,8 +2,8 @@ ghost use Rattle.std.specs.Prelude.{◌<◌};
 
 mod books;
 
-use super::*;
 use fx_base::{Bytes, MemoryShelf, MemorySink, MemorySource, SureShelf};
+use fx_program::{Settings, factex, make_text, read_words};
 use std::alloc::Global;
 use std::test::Fail;
 

@@ -1,6 +1,6 @@
-use crate::{Reason, Verdict, check};
 use fx_base::Bytes;
 use fx_book::{BookStop, read_book};
+use fx_checker::{Reason, Verdict, check};
 use std::alloc::Global;
 use std::process::Abort;
 use std::test::Fail;

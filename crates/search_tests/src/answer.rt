@@ -1,4 +1,4 @@
-use crate::answer;
+use fx_answer::answer;
 use fx_base::{Bytes, put, put_number};
 use fx_lexer::lex;
 use fx_statements::{End, Outcome, ParseStop, Program, parse};
