@@ -1,5 +1,5 @@
 -- The book of a question, by what the search answers.
-use Rattle.std.proofs.Common.{ℕ, ◌≡◌, ◌||◌, Bool, true, false, List, [], ◌∷◌, ◌++◌, Option, Some, None, is_some, refl, sym, ap, ◌∙◌, inl, inr, append-nil}
+use Rattle.std.proofs.Common.{ℕ, ◌≡◌, ◌||◌, true, false, List, [], ◌∷◌, ◌++◌, Option, Some, None, is_some, refl, sym, ap, ◌∙◌, inl, inr, append-nil}
 use Rattle.std.specs.Prelude.{not}
 use Rattle.std.specs.Option.{option_map}
 use Rattle.std.proofs.lemmas.Bool.{cases_Bool, cond-true, cond-false, or_right, or_left}
@@ -16,7 +16,7 @@ use Rattle.fx_vectors.specs.Question.{problem_of, requirement_of}
 use Rattle.fx_book.proofs.Listed.{effects-numbers}
 use Rattle.fx_book.specs.Demands.{effects_of}
 use Rattle.fx_vectors.specs.Effects.{numbers_of}
-use Rattle.fx_answer.specs.Books.{beat_of, book_at, demands_for, has_book, shape_of}
+use Rattle.fx_answer.specs.Books.{beat_of, book_at, demands_for, has_book}
 
 -- demands are those that require what they do
 demands_back : (demands : Demands) → demands_for (requirement_of demands) ≡ demands

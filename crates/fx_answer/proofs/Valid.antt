@@ -19,8 +19,6 @@ use Rattle.fx_settings.specs.Settings.{is_level}
 use Rattle.fx_settings.specs.Valid.{are_blocks, is_criterion, is_size, has_blocks, has_most, stand_together}
 use Rattle.fx_settings.specs.declared.settings.Criterion.{Criterion}
 use Rattle.fx_settings.specs.declared.settings.Criterion.TheVariants as criterion
-use Rattle.fx_vectors.specs.Effects.{numbers_of}
-use Rattle.fx_vectors.specs.Question.{CanBeTold}
 use Rattle.fx_vectors.specs.declared.effect.Effect.{Effect}
 use Rattle.fx_statements.specs.declared.step.Step.{Step}
 use Rattle.fx_statements.specs.declared.wanted.Wanted.{Wanted}

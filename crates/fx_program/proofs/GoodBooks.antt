@@ -1,5 +1,5 @@
 -- The books of a step whose questions may be asked are read from their texts as they are, and are accepted.
-use Rattle.std.proofs.Common.{ℕ, ◌≡◌, ◌<◌, ◌≤◌, ◌+◌, ◌-◌, zero, suc, true, false, List, [], ◌∷◌, ◌++◌, map, length, Option, Some, None, Ok, IsTrue, All, refl, sym, ap, ◌∙◌, subst, arith, inl, inr, append-nil, append_assoc, Bool, leb}
+use Rattle.std.proofs.Common.{ℕ, ◌≡◌, ◌<◌, ◌≤◌, ◌+◌, ◌-◌, zero, suc, true, false, List, [], ◌∷◌, ◌++◌, length, Option, Some, None, Ok, IsTrue, refl, sym, ap, ◌∙◌, subst, arith, inl, inr, append-nil, append_assoc, Bool, leb}
 use Rattle.std.specs.Prelude.{codes, find}
 use Rattle.std.specs.List.{AllByRecursion, range_with_len}
 use Rattle.std.proofs.lemmas.Bool.{cases_Bool, cond-true, cond-false, and_parts, leb-true, ltb-false}
@@ -15,7 +15,6 @@ use Rattle.fx_vectors.specs.declared.effect.Effect.{Effect}
 use Rattle.fx_settings.specs.declared.settings.StepSettings.{StepSettings}
 use Rattle.fx_settings.specs.Valid.{are_valid}
 use Rattle.fx_vectors.specs.declared.book.Book.{Book}
-use Rattle.fx_vectors.specs.declared.book.NamedBook.{NamedBook}
 use Rattle.fx_book.specs.Heads.{book_of}
 use Rattle.fx_book.specs.Valid.{AreFew, IsValidBook}
 use Rattle.fx_book.specs.Writing.{book_text}
@@ -26,7 +25,7 @@ use Rattle.fx_checker.specs.Verdicts.{verdict_of}
 use Rattle.fx_checker.specs.declared.verdict.Verdict.TheVariants.{Accepted}
 use Rattle.fx_checker.proofs.Good.{in_turn_none}
 use Rattle.fx_statements.specs.Goals.{Goal, AtLeast, Highest, ForEffects}
-use Rattle.fx_statements.specs.Questions.{Questions, Turn, asked, highest, lowest, nodes_of, passes, question_for, questions_of, requirement_for, turns}
+use Rattle.fx_statements.specs.Questions.{Turn, asked, highest, lowest, nodes_of, passes, question_for, questions_of, requirement_for, turns}
 use Rattle.fx_statements.specs.Steps.{Meaning}
 use Rattle.fx_statements.proofs.Concluded.{each_asked}
 use Rattle.fx_answer.specs.Books.{book_at, book_for, books_from, books_of, demands_for, finished, finished_before, has_book, shape_of}

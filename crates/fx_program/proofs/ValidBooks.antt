@@ -1,10 +1,10 @@
 -- The books of questions that may be asked can be written, and are good.
-use Rattle.std.proofs.Common.{ℕ, ◌≡◌, ◌<◌, ◌≤◌, ◌+◌, ◌-◌, ◌*◌, ◌/◌, ◌^◌, ◌⊎◌, inl, inr, zero, suc, Bool, true, false, not, ◌&&◌, ◌||◌, if◌then◌else◌, List, [], ◌∷◌, ◌++◌, map, take, length, Option, Some, None, is_some, All, IsTrue, refl, sym, ap, ◌∙◌, subst, arith, eqb}
+use Rattle.std.proofs.Common.{ℕ, ◌≡◌, ◌<◌, ◌≤◌, ◌+◌, ◌-◌, ◌*◌, ◌/◌, ◌^◌, ◌⊎◌, inl, inr, Bool, true, false, not, ◌&&◌, ◌||◌, if◌then◌else◌, List, [], ◌∷◌, ◌++◌, take, length, Option, Some, None, is_some, All, IsTrue, refl, sym, ap, ◌∙◌, subst, arith, eqb}
 use Rattle.std.specs.Prelude.{count_by, filter, unwrap_or}
 use Rattle.std.specs.List.{AllByRecursion, range_with_len}
 use Rattle.std.specs.Option.{option_map}
 use Rattle.std.proofs.Math.Nat.{div-le_self, mul-pos}
-use Rattle.std.proofs.lemmas.Bool.{both_ways, cases_Bool, cond-true, cond-false, and_parts, eqb-true, or_cases, not-true}
+use Rattle.std.proofs.lemmas.Bool.{both_ways, cases_Bool, cond-true, cond-false, and_parts, eqb-true}
 use Rattle.std.proofs.lemmas.List.{length-map, length-take}
 use Rattle.std.proofs.lemmas.List.FromFn.{length-range_with_len}
 use Rattle.std.proofs.lemmas.List.Sums.{count_by-le-length}
@@ -15,7 +15,7 @@ use Rattle.fx_designs.specs.Runs.{is_constant, points, runs_of}
 use Rattle.fx_designs.specs.Problems.{Dimensions, Problem, Requirement, AtResolution, ForEffects}
 use Rattle.fx_designs.specs.Demands.{is_allowed, is_forbidden_word, padded, runs}
 use Rattle.fx_designs.specs.Canonical.{is_canonical}
-use Rattle.fx_designs.specs.Answers.{answer, lists, prefixes}
+use Rattle.fx_designs.specs.Answers.{answer, prefixes}
 use Rattle.fx_designs.specs.Patterns.{constant_words, pattern_of}
 use Rattle.fx_designs.specs.Nodes.{Mark, Branch, Word, Worse, is_branch, is_node, last_row, mark_of, marks, nodes, word_of}
 use Rattle.fx_laws.proofs.Tables.{is_order-field}
@@ -25,7 +25,7 @@ use Rattle.fx_laws.proofs.Order.{each-all, each-map, each-weaker, nonempty}
 use Rattle.fx_laws.proofs.Ranks.{append-vector}
 use Rattle.fx_laws.proofs.Space.{zeros-vector}
 use Rattle.fx_vectors.specs.Effects.{numbers_of}
-use Rattle.fx_vectors.specs.Question.{CanBeAsked, is_resolution, problem_of, requirement_of}
+use Rattle.fx_vectors.specs.Question.{CanBeAsked, is_resolution, requirement_of}
 use Rattle.fx_vectors.specs.Shape.{IsShape}
 use Rattle.fx_vectors.proofs.Limits.{numbers_fit, order-bounds}
 use Rattle.fx_demands.proofs.Choice.{chosen}

@@ -1,5 +1,5 @@
 -- What is claimed of the books of a step.
-use Rattle.std.specs.Prelude.{ℕ, ◌≡◌, ◌+◌, List, [], ◌∷◌, Option, Some, Ok, All, codes, slice_get}
+use Rattle.std.specs.Prelude.{ℕ, ◌≡◌, ◌+◌, [], ◌∷◌, Some, Ok, All, codes, slice_get}
 use Rattle.std.specs.List.{Contains}
 use Rattle.fx_base.specs.Acts.{WholeFile}
 use Rattle.fx_designs.specs.Problems.{Problem}

@@ -1,4 +1,4 @@
-use Rattle.std.proofs.Common.{◌≡◌, ◌<◌, ◌≤◌, ℕ, List, map, Result, Ok, Err, length, None, sym, ap, ◌∙◌, arith, refl, Option, Some, subst}
+use Rattle.std.proofs.Common.{◌≡◌, ◌<◌, ℕ, List, map, Ok, Err, length, sym, ap, ◌∙◌, arith, refl, Option, Some, subst}
 use Rattle.fx_base.specs.Acts.{World}
 use Rattle.std.proofs.lemmas.Bool.{lt-ltb}
 use Rattle.fx_statements.specs.Steps.{meaning_of}
