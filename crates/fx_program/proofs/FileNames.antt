@@ -22,7 +22,7 @@ use Rattle.fx_program.specs.Output.{program_output, step_output, steps_output, w
 use Rattle.fx_program.specs.Texts.{program_in}
 use Rattle.fx_program.specs.declared.text.TextFault.{TextFault}
 use Rattle.fx_program.specs.Claims.{EachStep}
-use Rattle.fx_program.specs.StepClaims.{IsValidStep}
+use Rattle.fx_answer.specs.ValidSteps.{IsValidStep}
 use Rattle.fx_program.proofs.AnyText.{any_text}
 use Rattle.fx_program.proofs.Best.{order_of}
 use Rattle.fx_program.proofs.NameSpellings.{books_differ, plans_differ, book_and_plan_differ, differ_from, same_from}
