@@ -1,0 +1,47 @@
+-- What a search begins a lot with.
+use Rattle.std.proofs.Common.{◌≡◌, ℕ, suc, ◌<◌, ◌+◌, false, true, eqb, List, [], ◌∷◌, ◌++◌, length, take, drop, slice_index, take-suc, Option, Some, None, arith, sym, subst, ap, ◌∙◌}
+use Rattle.std.proofs.lemmas.Bool.{cond-false, and_parts, eqb-true, ltb-true}
+use Rattle.std.proofs.Common.{ltb}
+use Rattle.std.proofs.lemmas.List.{take-append-drop}
+use Rattle.fx_designs.specs.Galois.{IsField}
+use Rattle.fx_designs.specs.Problems.{Problem}
+use Rattle.fx_designs.specs.Demands.{is_allowed}
+use Rattle.fx_designs.specs.Jobs.{best_before}
+use Rattle.fx_laws.specs.Trees.{tree_of, is_tree_design}
+use Rattle.fx_laws.proofs.Candidates.{closed-append}
+use Rattle.fx_tree.proofs.Nodes.{is-tree}
+use Rattle.fx_jobs.specs.Ranked.{is_counted, IsFirstLeast}
+use Rattle.fx_jobs.specs.Search.{ranked}
+use Rattle.fx_jobs.proofs.Bests.{before-least}
+use Rattle.fx_vectors.specs.Matrix.{MatrixView}
+use Rattle.fx_search.specs.Folds.{IsLot}
+use Rattle.fx_search.specs.Standing.{rows_of}
+use Rattle.fx_search.specs.Searchers.{IsWhole}
+
+-- without a least pattern there is none
+pub plain_best : (p : Problem) (rows : List ℕ) → p.least ≡ false → best_before p rows ≡ None
+unfolding best_before
+plain_best p rows plain = cond-false p.least _ _ plain
+
+module _ (p : Problem) (f : IsField p.dimensions.q) (l : List ℕ) (lot : IsLot p l) where
+  -- a lot is not whole
+  pub lot-room : length l < p.dimensions.s + p.dimensions.t
+  lot-room = ltb-true _ _ (and_parts (ltb (length l) (p.dimensions.s + p.dimensions.t)) _ (and_parts (is_allowed p.dimensions p.requirement l) _ lot.branch).1).0
+
+  -- its rows come one after another
+  pub lot-allowed : (k : ℕ) → k < length l → is_allowed p.dimensions p.requirement (take k l ++ slice_index l k ∷ []) ≡ true
+  lot-allowed k low =
+      let allowed : List ℕ → Bool = is_allowed p.dimensions p.requirement in
+      closed-append allowed (is-tree p f).allowed (take k l ++ slice_index l k ∷ []) (drop (suc k) l)
+      (subst (λ z. allowed z ≡ true) (sym (take-append-drop (suc k) l) ∙ ap (λ z. z ++ drop (suc k) l) (take-suc l k 0 low)) (and_parts (allowed l) _ lot.branch).0)
+
+  -- the best of the earlier lots is whole
+  pub best-is-whole : p.least ≡ true → (best : Option MatrixView) → rows_of best ≡ best_before p l → IsWhole p best
+  best-is-whole least None is = tt
+  best-is-whole least (Some matrix) is =
+      let room = lot-room in
+      let some : 0 < p.dimensions.s + p.dimensions.t = omega (arith, room) in
+      let h : IsFirstLeast (ranked p) (is_counted (ranked p) l) (Some matrix.rows) = subst (λ z. IsFirstLeast (ranked p) (is_counted (ranked p) l) z) (sym is) (before-least p f some least l (omega (arith, lot.rows)) (omega (arith, room, lot.rows)) (omega (arith, room))) in
+      let design = (and_parts (is_tree_design (tree_of p) matrix.rows) _ h.0).0 in
+      let whole = eqb-true (length matrix.rows) (p.dimensions.s + p.dimensions.t) (and_parts (eqb (length matrix.rows) (p.dimensions.s + p.dimensions.t)) _ design).0 in
+      (whole, omega (arith, whole, room))
