@@ -13,9 +13,16 @@ use Rattle.fx_designs.specs.Jobs.{best_before}
 use Rattle.fx_laws.specs.Trees.{Tree, IsTree, tree_of, children_of, is_tree_design}
 use Rattle.fx_laws.specs.Walks.{under, subtree, through}
 use Rattle.fx_laws.proofs.Candidates.{parent-push}
+use Rattle.fx_laws.proofs.Tables.{is_order-field}
 use Rattle.fx_laws.proofs.Through.{through-right, any-append, through-none}
 use Rattle.fx_tree.proofs.Extensions.{last_is}
 use Rattle.fx_tree.proofs.Nexts.{none-above}
+use Rattle.fx_tree.proofs.Walks.{follows-extends}
+use Rattle.fx_tree.specs.declared.front.Front.{Front}
+use Rattle.fx_tree.specs.Following.{front_of, follows}
+use Rattle.fx_vectors.specs.Shape.{dimensions_of}
+use Rattle.fx_vectors.specs.declared.question.Question.{Question}
+use Rattle.fx_vectors.specs.Question.{IsValid, problem_of, requirement_of}
 use Rattle.fx_jobs.specs.Ranked.{Ranked, IsRanked, IsFirstLeast, is_counted, is_counted_through}
 use Rattle.fx_jobs.specs.Search.{ranked, search_tree, search_mark, is_expanded, IsBestAt}
 use Rattle.fx_jobs.proofs.Bests.{before-best}
@@ -35,6 +42,11 @@ last-row q r =
     let e : length (q ++ r ∷ []) - 1 ≡ length q = omega (arith, length-append q (r ∷ [])) in
     ap (slice_index (q ++ r ∷ [])) e ∙ last_is q r
 
+-- a row follows where it extends the prefix
+pub follow-at : (question : Question) → IsValid question → (q : List ℕ) (front : Front) (r : ℕ) → (search_tree (problem_of question)).canonical q ≡ true → front ≡ front_of (dimensions_of question.shape) q
+    → follows (dimensions_of question.shape) (requirement_of question.demands) front r ≡ (search_tree (problem_of question)).canonical (q ++ r ∷ [])
+follow-at question valid q front r can is = follows-extends (dimensions_of question.shape) (is_order-field question.shape.q valid.shaped.order) (requirement_of question.demands) q front r can is
+
 -- functions that agree on a list agree on each item
 agree-at : {X Y : Type 0} (f g : X → Y) (xs : List X) (y : X) (ys : List X) → map f (xs ++ y ∷ ys) ≡ map g (xs ++ y ∷ ys) → f y ≡ g y
 agree-at f g [] y ys h = cc h
@@ -50,8 +62,8 @@ child-place t q r can (suc n) i h low =
           let z = left-next t q i (suc n) n refl (subst (λ x. t.canonical (q ++ x ∷ []) ≡ true) e can) h in
           (i, z.0, e ∙ z.1, subst (λ x. LeftFrom t q (i + 1) x) (sym e) z.2)
       | inr d ↦ elim (cases_Bool (t.canonical (q ++ n ∷ []))) [
-        | inl yes ↦ child-place t q r can n (i + 1) (left-next t q i (suc n) n refl yes h).2 (omega arith)
-        | inr no ↦ child-place t q r can n i (left-skip t q i (suc n) n refl no h) (omega arith)
+        | inl there ↦ child-place t q r can n (i + 1) (left-next t q i (suc n) n refl there h).2 (omega arith)
+        | inr fails ↦ child-place t q r can n i (left-skip t q i (suc n) n refl fails h) (omega arith)
       ]
     ]
 
@@ -76,6 +88,10 @@ module _ (p : Problem) (f : IsField p.dimensions.q) (jobs : p.dimensions.m + 2 �
 
   some : 0 < p.dimensions.s + p.dimensions.t
   some = omega arith
+
+  nodes-marks : map (mark_of p) (nodes p) ≡ map (search_mark p) (nodes p)
+  unfolding marks
+  nodes-marks = marks-walked p f
 
   -- where no child is left out, what is below the children is below the prefix
   all-below : (q : List ℕ) (bound : ℕ) → (length q ≡ 0) ⊎ (is_expanded p q ≡ true) → length q < size_of p → LeftFrom T q 0 bound → below p q bound ≡ under T (size_of p - length q) q
@@ -251,14 +267,10 @@ module _ (p : Problem) (f : IsField p.dimensions.q) (jobs : p.dimensions.m + 2 �
             let allowed : is_allowed p.dimensions p.requirement c ≡ true = sym (opens-plain p e c) ∙ opened.is_expanded in
             let tail : List (List ℕ) = cond (D c) [] (through D (under T (size_of p - length c) c ++ rest)) in
             let all : nodes p ≡ h.done ++ c ∷ tail = nodes-walked p f ∙ ap (through D) open-split ∙ through-right D h.done (c ∷ (under T (size_of p - length c) c ++ rest)) h.none in
-            let same : mark_of p c ≡ search_mark p c = agree-at (mark_of p) (search_mark p) h.done c tail (ap (map (mark_of p)) (sym all) ∙ marks-are ∙ ap (map (search_mark p)) all) in
+            let same : mark_of p c ≡ search_mark p c = agree-at (mark_of p) (search_mark p) h.done c tail (ap (map (mark_of p)) (sym all) ∙ nodes-marks ∙ ap (map (search_mark p)) all) in
             told (is_branch p c) refl (sym (cond-true (is_allowed p.dimensions p.requirement c) _ _ allowed) ∙ same ∙ opened.mark)
       ]
         where
-          marks-are : map (mark_of p) (nodes p) ≡ map (search_mark p) (nodes p)
-          unfolding marks
-          marks-are = marks-walked p f
-
           told : (b : Bool) → is_branch p c ≡ b → cond b (Branch (last_row c)) (Worse (last_row c)) ≡ Branch row → is_branch p c ≡ true
           told true e h = e
           told false e h = absurd (cc h)

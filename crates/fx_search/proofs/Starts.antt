@@ -1,5 +1,5 @@
 -- What a search begins a lot with.
-use Rattle.std.proofs.Common.{◌≡◌, ℕ, suc, ◌<◌, ◌+◌, false, true, eqb, List, [], ◌∷◌, ◌++◌, length, take, drop, slice_index, take-suc, Option, Some, None, arith, sym, subst, ap, ◌∙◌}
+use Rattle.std.proofs.Common.{◌≡◌, ℕ, suc, ◌<◌, ◌+◌, Bool, false, true, eqb, List, [], ◌∷◌, ◌++◌, length, take, drop, slice_index, take-suc, Option, Some, None, arith, sym, subst, ap, ◌∙◌}
 use Rattle.std.proofs.lemmas.Bool.{cond-false, and_parts, eqb-true, ltb-true}
 use Rattle.std.proofs.Common.{ltb}
 use Rattle.std.proofs.lemmas.List.{take-append-drop}
