@@ -6,7 +6,7 @@ use Rattle.std.proofs.lemmas.List.{map-append, length-map}
 use Rattle.fx_designs.specs.Galois.{IsField}
 use Rattle.fx_designs.specs.Problems.{Problem}
 use Rattle.fx_designs.specs.Nodes.{mark_of, Mark}
-use Rattle.fx_designs.specs.Jobs.{nodes_of_lot, first_of_lot, best_before}
+use Rattle.fx_designs.specs.Jobs.{nodes_of_lot, nodes_inside, first_of_lot, best_before}
 use Rattle.fx_laws.specs.Trees.{is_tree_design}
 use Rattle.fx_laws.specs.Walks.{under, through}
 use Rattle.fx_laws.proofs.Tables.{is_order-field}
@@ -21,11 +21,14 @@ use Rattle.fx_vectors.specs.declared.question.Question.{Question}
 use Rattle.fx_vectors.specs.Question.{IsValid, problem_of}
 use Rattle.fx_search.specs.Ends.{IsFound, IsSpent, IsCarried}
 use Rattle.fx_search.specs.Folds.{AreEnds, jobs_of, total, joined, found_in, best_in, IsFold}
-use Rattle.fx_search.specs.LotWalks.{after, candidates_of, IsSoFar, IsThrough, IsNewLot}
+use Rattle.fx_search.specs.LotWalks.{after, candidates_of, IsSoFar, IsThrough, IsNewLot, IsPlaced, IsAtLot}
+use Rattle.fx_search.specs.Searchers.{standing_in}
+use Rattle.fx_search.specs.declared.lot_walk.LotWalk.{LotWalk}
 use Rattle.fx_search.specs.declared.job.JobEnd.{JobEnd}
+use Rattle.fx_search.specs.declared.job.JobEnd.TheVariants.{Found, Closed, Spent, Cut}
 use Rattle.fx_search.proofs.Carried.{carries-turn, carries-part}
 use Rattle.fx_search.proofs.Folding.{passes, gives, through_best, fold-marks, find-any}
-use Rattle.fx_search.proofs.Starts.{lot-room}
+use Rattle.fx_search.proofs.Starts.{lot-room, plain_best, plain_known}
 use Rattle.fx_search.proofs.Steps.{through-more}
 
 module _ (question : Question) (valid : IsValid question) (limit bound : ℕ) (l : List ℕ) (list : List Mark) (best : Option (List ℕ)) (h : IsSoFar (problem_of question) limit l bound list best) (new : IsNewLot (problem_of question) l bound best)
@@ -51,7 +54,7 @@ module _ (question : Question) (valid : IsValid question) (limit bound : ℕ) (l
   some : 0 < p.dimensions.s + p.dimensions.t
   some = omega (arith, part)
 
-  room : p.dimensions.m + 1 ≤ p.dimensions.s + p.dimensions.t
+  room : p.dimensions.m + 1 < p.dimensions.s + p.dimensions.t
   room = omega (arith, part, new.lot.rows)
 
   split : candidates_of p ≡ h.done ++ (sub ++ rest)
@@ -105,7 +108,7 @@ module _ (question : Question) (valid : IsValid question) (limit bound : ℕ) (l
         }
 
     -- a job has the first design
-    pub fold-found : (rows : List ℕ) → p.least ≡ false → found_in ends ≡ Some rows → IsFound (search_tree p) (search_mark p) limit (candidates_of p) [] [] now rows
+    pub fold-found : (rows : List ℕ) → p.least ≡ false → found_in ends ≡ Some rows → IsFound (search_tree p) (search_mark p) limit (candidates_of p) [] now rows
     fold-found rows plain is =
         let first : find D sub ≡ Some rows = sym (first-is plain) ∙ sym (fold.matrix plain) ∙ is in
         let any : list_any D sub ≡ true = any-found D sub rows first in
@@ -128,3 +131,42 @@ module _ (question : Question) (valid : IsValid question) (limit bound : ℕ) (l
         carries-part p f some [] l limit (candidates_of p) h.done sub rest [] list best split (omega (arith, seen)) h.fits here (λ least low. omega (arith, new.lot.rows))
         (carries-turn p f some l (p.dimensions.s + p.dimensions.t - length l) limit list best new.lot.rows (omega (arith, part)) h.fits here counted),
       )
+
+-- an end that is Found is one where no least pattern is asked
+pub found-plain : (question : Question) (limit e : ℕ) (jobs : List (List ℕ)) (ends : List JobEnd) (rows : List ℕ) → AreEnds question limit e jobs ends → found_in ends ≡ Some rows → question.least ≡ false
+found-plain question limit e [] [] rows h is = absurd (cc is)
+found-plain question limit e [] (end ∷ ends) rows h is = absurd h
+found-plain question limit e (job ∷ jobs) [] rows h is = absurd h
+found-plain question limit e (job ∷ jobs) (Closed best n ms ∷ ends) rows h is = found-plain question limit (e + length (nodes_inside (problem_of question) job)) jobs ends rows h.1 is
+found-plain question limit e (job ∷ jobs) (Found matrix n ms ∷ ends) rows h is = h.ends.0
+found-plain question limit e (job ∷ jobs) (Spent n ∷ ends) rows h is = absurd (cc is)
+found-plain question limit e (job ∷ jobs) (Cut ∷ ends) rows h is = absurd h
+
+-- a walk with other marks and another best is at the same prefix
+pub placed-still : (w v : LotWalk) → v ≡ record w { marks = v.marks; incumbent = v.incumbent } → standing_in v.incumbent ≡ record (standing_in w.incumbent) { best = (standing_in v.incumbent).best } → IsPlaced w → IsPlaced v
+placed-still w v same standing h =
+    subst IsPlaced (sym same)
+    (record {
+      valid = h.valid;
+      limit = h.limit;
+      jobs = h.jobs;
+      candidates = h.candidates;
+      shape = h.shape;
+      at = record {
+        pruner_problem = h.at.pruner_problem;
+        pruner_rows = h.at.pruner_rows;
+        incumbent_problem = ap (λ s. s.problem) standing ∙ h.at.incumbent_problem;
+        incumbent_rows = ap (λ s. s.prefix) standing ∙ h.at.incumbent_rows;
+      };
+      few = h.few;
+      canonical = h.canonical;
+      open_ = h.open_;
+      bound = h.bound;
+    })
+
+-- at a lot the best so far is that of the lots before it
+pub best-earlier : (w : LotWalk) → IsAtLot w → (standing_in w.incumbent).best ≡ best_before (problem_of w.question.now) w.prefix.rows
+best-earlier w h = elim (cases_Bool w.question.now.least) [
+  | inl e ↦ (h.under_way.lot h.rows).best_is e
+  | inr e ↦ plain_known w.incumbent (ap (λ (z : Problem). z.least) h.under_way.placed.at.incumbent_problem ∙ e) ∙ sym (plain_best (problem_of w.question.now) w.prefix.rows e)
+]

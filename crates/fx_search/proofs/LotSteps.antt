@@ -115,6 +115,15 @@ module _ (p : Problem) (f : IsField p.dimensions.q) (jobs : p.dimensions.m + 2 �
       nothing : (d : List ℕ) → is_counted x [] d ≡ true → ⊥
       nothing d h = let z : false ≡ true = (and_parts (is_tree_design x.tree d) false h).1 in cc z
 
+  -- what goes before an expanded prefix is expanded too
+  pub parent-placed : (rows : List ℕ) → 0 < length rows → T.canonical rows ≡ true → (length rows ≡ 0) ⊎ (is_expanded p rows ≡ true) → (T.canonical (parent rows) ≡ true) × ((length (parent rows) ≡ 0) ⊎ (is_expanded p (parent rows) ≡ true))
+  parent-placed rows there can (inl none) = absurd (omega arith)
+  parent-placed rows there can (inr open') =
+      let whole : parent rows ++ last_row rows ∷ [] ≡ rows = split-last rows there in (
+        law.canonical (parent rows) (last_row rows) (ap T.canonical whole ∙ can),
+        inr (law.allowed (parent rows) (last_row rows) (ap (is_expanded p) whole ∙ open')),
+      )
+
   -- nothing is left to do below the prefix
   pub through-last : (limit bound : ℕ) (q : List ℕ) (list : List Mark) (best : Option (List ℕ)) → IsSoFar p limit q bound list best → IsNoneBelow p q bound → length q < size_of p → IsThrough p limit q list best
   through-last limit bound q list best h none part =

@@ -1,5 +1,5 @@
 -- What a search begins a lot with.
-use Rattle.std.proofs.Common.{◌≡◌, ℕ, suc, ◌<◌, ◌+◌, Bool, false, true, eqb, List, [], ◌∷◌, ◌++◌, length, take, drop, slice_index, take-suc, Option, Some, None, arith, sym, subst, ap, ◌∙◌}
+use Rattle.std.proofs.Common.{◌≡◌, ℕ, suc, ◌<◌, ◌+◌, Bool, false, true, eqb, List, [], ◌∷◌, ◌++◌, length, take, drop, slice_index, take-suc, Option, Some, None, arith, refl, sym, subst, ap, ◌∙◌}
 use Rattle.std.proofs.lemmas.Bool.{cond-false, and_parts, eqb-true, ltb-true}
 use Rattle.std.proofs.Common.{ltb}
 use Rattle.std.proofs.lemmas.List.{take-append-drop}
@@ -16,12 +16,18 @@ use Rattle.fx_jobs.proofs.Bests.{before-least}
 use Rattle.fx_vectors.specs.Matrix.{MatrixView}
 use Rattle.fx_search.specs.Folds.{IsLot}
 use Rattle.fx_search.specs.Standing.{rows_of}
-use Rattle.fx_search.specs.Searchers.{IsWhole}
+use Rattle.fx_search.specs.Searchers.{IsWhole, standing_in}
+use Rattle.fx_search.specs.declared.known.Known.{Known}
+use Rattle.fx_search.specs.declared.known.Known.TheVariants.{Ranked, Unranked}
 
 -- without a least pattern there is none
 pub plain_best : (p : Problem) (rows : List ℕ) → p.least ≡ false → best_before p rows ≡ None
 unfolding best_before
 plain_best p rows plain = cond-false p.least _ _ plain
+
+pub plain_known : (known : Known) → (standing_in known).problem.least ≡ false → (standing_in known).best ≡ None
+plain_known (Ranked x) e = absurd (cc e)
+plain_known (Unranked x) e = refl
 
 module _ (p : Problem) (f : IsField p.dimensions.q) (l : List ℕ) (lot : IsLot p l) where
   -- a lot is not whole
