@@ -8,6 +8,7 @@
 mod board;
 mod gate;
 mod jobs;
+mod lot_jobs;
 mod order;
 mod report_cutter;
 mod rule;
@@ -20,5 +21,6 @@ mod worker;
 pub use board::{Board, Closed, Seat};
 pub use gate::{Ended, FreeGate, Gate};
 pub use jobs::Jobs;
+pub use lot_jobs::ends_of_lot;
 pub use sharing::{Worked, share};
 pub use worker::{Ends, work};

@@ -1,22 +1,26 @@
 -- What a search begins a lot with.
-use Rattle.std.proofs.Common.{◌≡◌, ℕ, suc, ◌<◌, ◌+◌, Bool, false, true, eqb, List, [], ◌∷◌, ◌++◌, length, take, drop, slice_index, take-suc, Option, Some, None, arith, refl, sym, subst, ap, ◌∙◌}
+use Rattle.std.proofs.Common.{◌≡◌, ℕ, suc, ◌<◌, ◌+◌, ◌-◌, Bool, false, true, eqb, List, [], ◌∷◌, ◌++◌, length, take, drop, slice_index, take-suc, Option, Some, None, arith, refl, sym, subst, ap, ◌∙◌}
 use Rattle.std.proofs.lemmas.Bool.{cond-false, and_parts, eqb-true, ltb-true}
 use Rattle.std.proofs.Common.{ltb}
-use Rattle.std.proofs.lemmas.List.{take-append-drop}
+use Rattle.std.proofs.lemmas.List.{take-append-drop, length-take-le}
 use Rattle.fx_designs.specs.Galois.{IsField}
 use Rattle.fx_designs.specs.Problems.{Problem}
+use Rattle.fx_designs.specs.Canonical.{is_canonical}
 use Rattle.fx_designs.specs.Demands.{is_allowed}
+use Rattle.fx_designs.specs.Nodes.{lot_of}
 use Rattle.fx_designs.specs.Jobs.{best_before}
 use Rattle.fx_laws.specs.Trees.{tree_of, is_tree_design}
 use Rattle.fx_laws.proofs.Candidates.{closed-append}
 use Rattle.fx_tree.proofs.Nodes.{is-tree}
 use Rattle.fx_jobs.specs.Ranked.{is_counted, IsFirstLeast}
+use Rattle.fx_jobs.specs.Laws.{IsJob}
 use Rattle.fx_jobs.specs.Search.{ranked}
 use Rattle.fx_jobs.proofs.Bests.{before-least}
 use Rattle.fx_vectors.specs.Matrix.{MatrixView}
 use Rattle.fx_search.specs.Folds.{IsLot}
 use Rattle.fx_search.specs.Standing.{rows_of}
 use Rattle.fx_search.specs.Searchers.{IsWhole, standing_in}
+use Rattle.fx_search.proofs.Begins.{split-last}
 use Rattle.fx_search.specs.declared.known.Known.{Known}
 use Rattle.fx_search.specs.declared.known.Known.TheVariants.{Ranked, Unranked}
 
@@ -51,3 +55,15 @@ module _ (p : Problem) (f : IsField p.dimensions.q) (l : List ℕ) (lot : IsLot 
       let design = (and_parts (is_tree_design (tree_of p) matrix.rows) _ h.0).0 in
       let whole = eqb-true (length matrix.rows) (p.dimensions.s + p.dimensions.t) (and_parts (eqb (length matrix.rows) (p.dimensions.s + p.dimensions.t)) _ design).0 in
       (whole, omega (arith, whole, room))
+
+-- the lot of a job
+pub job-lot : (p : Problem) → IsField p.dimensions.q → (j : List ℕ) → IsJob p j → IsLot p (lot_of p.dimensions j)
+job-lot p f j job =
+    let len : length (lot_of p.dimensions j) ≡ p.dimensions.m + 1 = length-take-le (p.dimensions.m + 1) j (omega (arith, job.rows)) in
+    let front : take (length j - 1) j ≡ lot_of p.dimensions j = let e : length j - 1 ≡ p.dimensions.m + 1 = omega (arith, job.rows) in ap (λ n. take n j) e in
+    let whole : take (length j - 1) j ++ slice_index j (length j - 1) ∷ [] ≡ j = split-last j (omega (arith, job.rows)) in
+    record {
+      rows = len;
+      canonical = ap (is_canonical p.dimensions p.requirement) (sym front) ∙ (is-tree p f).canonical (take (length j - 1) j) (slice_index j (length j - 1)) (ap (is_canonical p.dimensions p.requirement) whole ∙ job.canonical);
+      branch = job.lot;
+    }

@@ -1,4 +1,4 @@
-ghost use Rattle.std.specs.Prelude.{◌≡◌, ◌<◌, ◌≤◌, ◌+◌, [], true, length, None, IfOk, OnOk};
+ghost use Rattle.std.specs.Prelude.{◌≡◌, ◌<◌, ◌≤◌, [], true, length, None, IfOk, OnOk};
 ghost use Rattle.std.specs.Option.{option_copied};
 ghost use Rattle.fx_designs.specs.Nodes.{lot_of};
 ghost use Rattle.fx_designs.specs.Jobs.{best_before};
@@ -134,14 +134,22 @@ impl<'a> Searcher<'a> {
         }
     }
 
-    /// Goes from a lot back to the empty prefix.
+    /// Whether it is at the empty prefix.
+    pub fn is_at_start(&self) -> bool
+        requires { IsAt self.now.question.now self.now.pruner.prefix (kept_rows self.now.earlier) self.now }
+        ensures start { result ≡ true → IsAtStart self.now.question.now self.now }
+        ensures lot { IsAtStart self.now.question.now self.now → result ≡ true }
+    {
+        self.pruner.len() == 0
+    }
+
+    /// Goes back to the empty prefix.
     pub fn leave_lot(&mut self)
-        requires at { IsAt self.old.question.now self.old.pruner.prefix (kept_rows self.old.earlier) self.old }
-        requires lot { length self.old.pruner.prefix ≡ self.old.question.now.shape.m + 1 }
+        requires { IsAt self.old.question.now self.old.pruner.prefix (kept_rows self.old.earlier) self.old }
         ensures question { self.new.question ≡ self.old.question }
         ensures at { IsAtStart self.old.question.now self.new }
     {
-        let rows = usize::from(self.question.shape.m) + 1;
+        let rows = self.pruner.len();
         for _i in 0..rows {
             self.pruner.pop();
             self.incumbent.pop();

@@ -12,6 +12,7 @@ use Rattle.fx_search.specs.Ends.{IsFound}
 use Rattle.fx_search.specs.Folds.{jobs_of, best_in}
 use Rattle.fx_search.specs.LotWalks.{IsAdded, IsThrough, AreAddable, candidates_of}
 use Rattle.fx_search.specs.Searchers.{standing_in}
+use Rattle.fx_search.specs.Standing.{rows_of}
 use Rattle.fx_search.specs.declared.lot_walk.Added.TheVariants.{AllClosed, Design, TooMany}
 use Rattle.fx_search.specs.declared.lot_walk.LotWalk.{LotWalk}
 use Rattle.fx_search.proofs.Adding.{addable}
@@ -67,4 +68,4 @@ returns-in-TooMany-clause-folded c =
     let best : Option (List ℕ) = (standing_in w.incumbent).best in
     let added : IsAdded question w.limit w.marks best c.args.ends v.marks (standing_in v.incumbent).best TooMany = subst (λ z. IsAdded question w.limit w.marks best c.args.ends v.marks (standing_in v.incumbent).best z) c.in-TooMany.is c.in_ok-add_all.ensures.added in
     let step = fold-spent question h.placed.valid w.limit w.bound w.prefix.rows w.marks best h.so_far (h.lot c.requires.at.rows) c.args.ends c.requires.ends added in
-    ((whole_spent p f some w.limit step.0, c.kept.ensures.rows ∙ ap (kept_of question) (c.best-best.ensures.rows ∙ sym (best-earlier w c.requires.at)) ∙ carried_is p f some w.limit best step.1, c.kept.ensures.sized _ c.best-best.ensures.sized), tt)
+    ((whole_spent p f some w.limit step.0, c.kept.ensures.rows ∙ ap (λ (z : LotWalk). kept_of z.question.now (rows_of c.best-best.result)) c.add_all.ensures.same ∙ ap (kept_of question) (c.best-best.ensures.rows ∙ sym (best-earlier w c.requires.at)) ∙ carried_is p f some w.limit best step.1, c.kept.ensures.sized _ c.best-best.ensures.sized), tt)
