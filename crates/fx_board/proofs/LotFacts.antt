@@ -1,6 +1,8 @@
 -- The jobs of a lot, by their numbers.
-use Rattle.std.proofs.Common.{◌≡◌, ℕ, zero, suc, ◌<◌, ◌≤◌, ◌+◌, ◌-◌, ◌^◌, ◌⊎◌, Bool, true, false, List, [], ◌∷◌, ◌++◌, map, length, take, get_or, slice_index, slice_index_or, refl, sym, subst, ap, ◌∙◌, inl, inr, ⊎_elim, arith, length-append, append_assoc, take_all, cond}
+use Rattle.std.proofs.Common.{◌≡◌, ℕ, zero, suc, ◌<◌, ◌≤◌, ◌+◌, ◌-◌, ◌^◌, ◌⊎◌, Bool, true, false, List, [], ◌∷◌, ◌++◌, map, length, take, get_or, slice_index, slice_index_or, refl, sym, subst, ap, ◌∙◌, inl, inr, ⊎_elim, arith, length-append, append_assoc, take_all, cond, Ok, Err}
+use Rattle.std.specs.Prelude.{IfOk, Result}
 use Rattle.std.specs.List.{AllByRecursion, filter}
+use Rattle.std.proofs.lemmas.Bool.{cases_Bool, cond-true, cond-false}
 use Rattle.std.proofs.lemmas.List.{take-append-le}
 use Rattle.fx_designs.specs.Galois.{IsField}
 use Rattle.fx_designs.specs.Problems.{Problem}
@@ -24,15 +26,21 @@ use Rattle.fx_search.specs.Standing.{kept_rows}
 use Rattle.fx_search.specs.declared.job.JobEnd.{JobEnd}
 use Rattle.fx_search.specs.declared.job.JobEnd.TheVariants.{Found, Closed, Spent, Cut}
 use Rattle.fx_search.specs.declared.searcher.Searcher.{Searcher}
-use Rattle.fx_search.proofs.Folding.{kids-canonical}
 use Rattle.fx_board.specs.Jobs.{IsEndOrCut, is_closed}
-use Rattle.fx_board.specs.Lots.{job_at, IsEndOfJob}
+use Rattle.fx_board.specs.Lots.{job_at, IsEndOfJob, CanEnter}
 use Rattle.fx_board.specs.Sharing.{before, IsEndBetween, AreEndsFrom}
 
 at-each : (P : ℕ → Type 0) (xs : List ℕ) (i : ℕ) → i < length xs → AllByRecursion P xs → P (get_or xs i 0)
 at-each P [] i h all = absurd (omega arith)
 at-each P (x ∷ xs) zero h all = all.0
 at-each P (x ∷ xs) (suc i) h all = at-each P xs i (omega arith) all.1
+
+at-kept : (P : ℕ → Bool) (xs : List ℕ) → AllByRecursion (λ r. P r ≡ true) (filter P xs)
+at-kept P [] = tt
+at-kept P (x ∷ xs) = elim (cases_Bool (P x)) [
+  | inl a ↦ subst (AllByRecursion (λ r. P r ≡ true)) (sym (cond-true (P x) (x ∷ filter P xs) _ a)) (a, at-kept P xs)
+  | inr a ↦ subst (AllByRecursion (λ r. P r ≡ true)) (sym (cond-false (P x) (x ∷ filter P xs) _ a)) (at-kept P xs)
+]
 
 -- the place in a list has one item
 pub at-any : (xs : List ℕ) (i d e : ℕ) → i < length xs → get_or xs i d ≡ get_or xs i e
@@ -50,6 +58,19 @@ few-left P (suc n) = elim (P n) as (λ b. length (cond b (n ∷ filter P (fallin
   | true ↦ let h = few-left P n in omega arith
   | false ↦ let h = few-left P n in omega arith
 ]
+
+-- a row by its number
+pub row-is : (rows kids : List ℕ) (n r : ℕ) → rows ≡ kids → n < length rows → r ≡ get_or rows n r → r ≡ slice_index kids n
+row-is rows kids n r same low is = is ∙ at-any rows n r 0 low ∙ ap (λ z. get_or z n 0) same
+
+-- two facts of the value of an Ok
+pub ok-both : {X Y : Type 0} (r : Result X Y) (P Q R : X → Type 0) → ((x : X) → P x → Q x → R x) → IfOk r P → IfOk r Q → IfOk r R
+ok-both (Ok x) P Q R f h k = f x h k
+ok-both (Err y) P Q R f h k = tt
+
+-- the question of a searcher that can enter a lot
+pub question-is : (question : Question) (l : List ℕ) (s : Searcher) → CanEnter question l s → s.question.now ≡ question
+question-is question l s h = ⊎_elim (λ a. a.question_is) (λ a. a.question_is) h
 
 -- an end of a job, under a cutter that may have stopped it
 pub end-or-cut : (question : Question) (job : List ℕ) (limit : ℕ) (stopped : Bool) (end : JobEnd) → IsJobEnd question job limit stopped end → IsSized question end → IsEndOrCut (IsEndOfJob question job limit) stopped end
@@ -91,7 +112,7 @@ module _ (question : Question) (valid : IsValid question) (l : List ℕ) (lot : 
 
   module _ (n : ℕ) (low : n < length kids) where
     pub child-canonical : is_canonical p.dimensions p.requirement (job_at l kids n) ≡ true
-    child-canonical = at-each (λ r. is_canonical p.dimensions p.requirement (l ++ r ∷ []) ≡ true) kids n low (kids-canonical question valid l lot)
+    child-canonical = at-each (λ r. is_canonical p.dimensions p.requirement (l ++ r ∷ []) ≡ true) kids n low (at-kept (λ r. is_canonical p.dimensions p.requirement (l ++ r ∷ [])) (falling (p.dimensions.q ^ p.dimensions.m)))
 
     pub child-below : slice_index kids n < p.dimensions.q ^ p.dimensions.m
     child-below = (is-ranked p f).ranged l (slice_index kids n) child-canonical

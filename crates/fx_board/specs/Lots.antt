@@ -27,7 +27,7 @@ IsEndOfJob question job limit end = IsJobEnd question job limit false end × IsS
 pub record IsLotAfter (question : Question) (lot : MatrixView) (best : Option MatrixView) : Type 0 where
   pub valid : IsValid question
   pub shape : lot.shape ≡ question.shape
-  pub lot : IsLot (problem_of question) lot.rows
+  pub is_lot : IsLot (problem_of question) lot.rows
   pub best_shape : HasDimensions (problem_of question).dimensions best
   pub best_is : rows_of best ≡ best_before (problem_of question) lot.rows
 

@@ -108,7 +108,7 @@ pub fn ends_of_lot<'a, R: Threads + Sync, G: Gate>(
     requires limit { limit ≤ 5000000 }
     ensures ends { IfOk result (λ worked. AreEnds question.now limit 0 (jobs_of (problem_of question.now) lot.now.rows) worked.ends) }
     ensures sized { IfOk result (λ worked. AreSized question.now worked.ends) }
-    ensures size { IfOk result (λ worked. length worked.workers.items ≡ length workers.items) }
+    ensures size { IfOk result (λ worked. length worked.workers.items ≡ length workers.entry.items) }
     ensures ready { IfOk result (λ worked. AllAreClosed worked.ends → AreReady (CanEnter question.now lot.now.rows) worked.workers.items) }
 {
     let jobs = LotJobs {
