@@ -72,6 +72,21 @@ ok-both (Err y) P Q R f h k = tt
 pub question-is : (question : Question) (l : List ℕ) (s : Searcher) → CanEnter question l s → s.question.now ≡ question
 question-is question l s h = ⊎_elim (λ a. a.question_is) (λ a. a.question_is) h
 
+-- wherever a searcher is, it is at its own prefix
+pub at-own : (question : Question) (rows : List ℕ) (best : _) (s : Searcher) → IsAt question rows best s → IsAt s.question.now s.pruner.prefix (kept_rows s.earlier) s
+at-own question rows best s h =
+    subst (λ (z : Question). IsAt z s.pruner.prefix (kept_rows s.earlier) s) (sym h.question_is)
+    (record {
+      question_is = h.question_is;
+      at = record { pruner_problem = h.at.pruner_problem; pruner_rows = refl; incumbent_problem = h.at.incumbent_problem; incumbent_rows = h.at.incumbent_rows ∙ sym h.at.pruner_rows };
+      sized = h.sized;
+      best_is = refl;
+    })
+
+-- such a searcher is at its own prefix
+pub can-leave : (question : Question) (l : List ℕ) (s : Searcher) → CanEnter question l s → IsAt s.question.now s.pruner.prefix (kept_rows s.earlier) s
+can-leave question l s h = ⊎_elim (λ a. at-own question [] _ s a) (λ a. at-own question l _ s a) h
+
 -- an end of a job, under a cutter that may have stopped it
 pub end-or-cut : (question : Question) (job : List ℕ) (limit : ℕ) (stopped : Bool) (end : JobEnd) → IsJobEnd question job limit stopped end → IsSized question end → IsEndOrCut (IsEndOfJob question job limit) stopped end
 end-or-cut question job limit stopped (Found matrix count list) is sized = (is, sized)
@@ -84,17 +99,6 @@ ready-after (Closed best count list) R ready e = ready
 ready-after (Found matrix count list) R ready e = absurd (cc e)
 ready-after (Spent count) R ready e = absurd (cc e)
 ready-after Cut R ready e = absurd (cc e)
-
--- wherever a searcher is, it is at its own prefix
-pub at-own : (question : Question) (rows : List ℕ) (best : _) (s : Searcher) → IsAt question rows best s → IsAt s.question.now s.pruner.prefix (kept_rows s.earlier) s
-at-own question rows best s h =
-    subst (λ (z : Question). IsAt z s.pruner.prefix (kept_rows s.earlier) s) (sym h.question_is)
-    (record {
-      question_is = h.question_is;
-      at = record { pruner_problem = h.at.pruner_problem; pruner_rows = refl; incumbent_problem = h.at.incumbent_problem; incumbent_rows = h.at.incumbent_rows ∙ sym h.at.pruner_rows };
-      sized = h.sized;
-      best_is = refl;
-    })
 
 module _ (question : Question) (valid : IsValid question) (l : List ℕ) (lot : IsLot (problem_of question) l) where
   abbrev p : Problem

@@ -98,6 +98,13 @@ impl<'a> LotWalk<'a> {
         &self.prefix
     }
 
+    /// How many nodes it has come by.
+    pub fn nodes(&self) -> u64
+        ensures { result ≡ length self.now.marks }
+    {
+        self.marks.len() as u64
+    }
+
     /// How many nodes the budget leaves.
     pub fn left(&self) -> u64
         requires { IsAtLot self.now }
