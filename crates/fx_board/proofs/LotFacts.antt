@@ -1,6 +1,6 @@
 -- The jobs of a lot, by their numbers.
 use Rattle.std.proofs.Common.{◌≡◌, ℕ, zero, suc, ◌<◌, ◌≤◌, ◌+◌, ◌-◌, ◌^◌, ◌⊎◌, Bool, true, false, List, [], ◌∷◌, ◌++◌, map, length, take, get_or, slice_index, slice_index_or, refl, sym, subst, ap, ◌∙◌, inl, inr, ⊎_elim, arith, length-append, append_assoc, take_all, cond, Ok, Err}
-use Rattle.std.specs.Prelude.{IfOk, Result}
+use Rattle.std.specs.Prelude.{IfOk, Result, Option}
 use Rattle.std.specs.List.{AllByRecursion, filter}
 use Rattle.std.proofs.lemmas.Bool.{cases_Bool, cond-true, cond-false}
 use Rattle.std.proofs.lemmas.List.{take-append-le}
@@ -20,14 +20,16 @@ use Rattle.fx_vectors.specs.declared.question.Question.{Question}
 use Rattle.fx_vectors.specs.Question.{IsValid, problem_of}
 use Rattle.fx_search.specs.Folds.{IsLot, IsEndUnder, AreEnds, jobs_of}
 use Rattle.fx_search.specs.JobEnds.{IsJobEnd, IsSized}
-use Rattle.fx_search.specs.LotWalks.{AreSized}
+use Rattle.fx_search.specs.LotWalks.{AreSized, IsAtLot}
 use Rattle.fx_search.specs.Searchers.{IsAt, IsAtStart, IsReadyAfter}
-use Rattle.fx_search.specs.Standing.{kept_rows}
+use Rattle.fx_search.specs.Standing.{kept_rows, rows_of, HasDimensions}
+use Rattle.fx_search.specs.declared.lot_walk.LotWalk.{LotWalk}
+use Rattle.fx_vectors.specs.Matrix.{MatrixView}
 use Rattle.fx_search.specs.declared.job.JobEnd.{JobEnd}
 use Rattle.fx_search.specs.declared.job.JobEnd.TheVariants.{Found, Closed, Spent, Cut}
 use Rattle.fx_search.specs.declared.searcher.Searcher.{Searcher}
 use Rattle.fx_board.specs.Jobs.{IsEndOrCut, is_closed}
-use Rattle.fx_board.specs.Lots.{job_at, IsEndOfJob, CanEnter}
+use Rattle.fx_board.specs.Lots.{job_at, IsEndOfJob, IsLotAfter, CanEnter}
 use Rattle.fx_board.specs.Sharing.{before, IsEndBetween, AreEndsFrom}
 
 at-each : (P : ℕ → Type 0) (xs : List ℕ) (i : ℕ) → i < length xs → AllByRecursion P xs → P (get_or xs i 0)
@@ -185,3 +187,11 @@ module _ (question : Question) (valid : IsValid question) (l : List ℕ) (lot : 
         let here = under pre r post (Spent count) split h.1 in
         (here.0, (here.1, subst (λ z. AreSized question z) (sym h.2) tt))
     ends-are pre (r ∷ post) (Cut ∷ ends) split h = absurd h
+
+-- the lot that a walk is at
+pub walk-lot : (question : Question) (w : LotWalk) (lot : MatrixView) (best : Option MatrixView) → w.question.now ≡ question → lot ≡ w.prefix → IsAtLot w → rows_of best ≡ best_before (problem_of w.question.now) w.prefix.rows → HasDimensions (problem_of w.question.now).dimensions best
+    → IsLotAfter question lot best
+walk-lot question w lot best same is h best-rows sized =
+    subst (λ (z : Question). IsLotAfter z lot best) same
+    (subst (λ (m : MatrixView). IsLotAfter w.question.now m best) (sym is)
+    (record { valid = h.under_way.placed.valid; shape = h.under_way.placed.shape; is_lot = (h.under_way.lot h.rows).lot; best_shape = sized; best_is = best-rows }))
