@@ -43,7 +43,7 @@ pub fn ask<R: Threads + Sync, G: Gate>(
 {
     let shape = question.shape;
     // Matrices of fewer rows have no jobs.
-    if threads == 1 || shape.rows() < usize::from(shape.m) + 2 {
+    if threads == 1 || shape.rows().saturating_sub(usize::from(shape.m)) < 2 {
         return ask_alone(alloc, question, budget);
     }
     ask_by_lots(rt, alloc, question, budget, threads, gate)
@@ -80,8 +80,9 @@ fn ask_by_lots<R: Threads + Sync, G: Gate>(
         } = work_off(
             rt, alloc, question, &mut walk, workers, threads, alone, gate,
         )?;
-        if let Some(asked) = asked {
-            return Ok(asked);
+        match asked {
+            Some(asked) => return Ok(asked),
+            None => {}
         }
         workers = staff;
         alone = alone_after(walk.nodes().saturating_sub(before));
