@@ -6,6 +6,8 @@
 #![tactic(auto)]
 
 mod asking;
+#[cfg(test)]
+mod asking_tests;
 mod board;
 mod gate;
 mod jobs;
