@@ -5,9 +5,13 @@
 //! of the jobs up to the least number that was reported do not depend on the schedule.
 #![tactic(auto)]
 
+mod asking;
+#[cfg(test)]
+mod asking_tests;
 mod board;
 mod gate;
 mod jobs;
+mod lot_jobs;
 mod order;
 mod report_cutter;
 mod rule;
@@ -17,8 +21,11 @@ mod tests;
 mod view;
 mod worker;
 
+pub use asking::ask;
 pub use board::{Board, Closed, Seat};
+pub use fx_search::Asked;
 pub use gate::{Ended, FreeGate, Gate};
 pub use jobs::Jobs;
+pub use lot_jobs::ends_of_lot;
 pub use sharing::{Worked, share};
 pub use worker::{Ends, work};

@@ -114,10 +114,10 @@ fn a_seat_sees_what_another_reports(rt: HostRuntime) -> Result<(), Fail> {
 
 /// Holds the first job until nine others have ended, each Closed with one node.
 #[derive(Drop)]
-struct Holding {
-    held: AtomicU64,
-    ended: AtomicU64,
-    met: AtomicU64,
+pub(crate) struct Holding {
+    pub held: AtomicU64,
+    pub ended: AtomicU64,
+    pub met: AtomicU64,
 }
 
 /// How often a held job looks for the others to end, before it goes on alone.

@@ -38,7 +38,7 @@ use Rattle.fx_search.specs.declared.job.JobEnd.TheVariants.{Found, Closed, Spent
 use Rattle.fx_vectors.specs.declared.question.Question.{Question}
 use Rattle.fx_vectors.specs.Question.{IsValid, problem_of}
 
-find-any : (D : List ℕ → Bool) (xs : List (List ℕ)) → find D xs ≡ None → list_any D xs ≡ false
+pub find-any : (D : List ℕ → Bool) (xs : List (List ℕ)) → find D xs ≡ None → list_any D xs ≡ false
 find-any D [] h = refl
 find-any D (x ∷ xs) h = elim (D x) as (λ b. cond b (Some x) (find D xs) ≡ None → (b || list_any D xs) ≡ false) [ true ↦ λ e. absurd (cc e) | false ↦ λ e. find-any D xs e ] h
 
@@ -182,7 +182,7 @@ module _ (question : Question) (valid : IsValid question) (l : List ℕ) (lot : 
   abbrev kids : List ℕ
   kids = children_of (tree_of p) l
 
-  kids-canonical : AllByRecursion (λ r. is_canonical p.dimensions p.requirement (job r) ≡ true) kids
+  pub kids-canonical : AllByRecursion (λ r. is_canonical p.dimensions p.requirement (job r) ≡ true) kids
   kids-canonical = each-canonical (λ r. is_canonical p.dimensions p.requirement (job r)) (falling (p.dimensions.q ^ p.dimensions.m))
 
   lot-is-all : nodes_of_lot p l ≡ through D (all kids)
@@ -239,14 +239,18 @@ module _ (question : Question) (valid : IsValid question) (l : List ℕ) (lot : 
               rw (h, in-job) refl
         ]
 
+    -- the best of the lots before, joined with those of the ends, is that of the lots up to this one
+    pub through_best : (ends : List JobEnd) → total ends ≤ limit → AreEnds question limit 0 (map job kids) ends → IsFirstLeast x (is_counted_through x l) (best_in p (best_before p l) ends)
+    through_best ends fits h = best_law 0 0 kids ends (best_before p l) refl (omega arith) kids-canonical (start_best x law l part _ start-is) (omega arith) h
+
     fold-best : (ends : List JobEnd) → total ends ≤ limit → AreEnds question limit 0 (map job kids) ends → best_in p (best_before p l) ends ≡ best_through p l
     unfolding best_through
     fold-best ends fits h =
         sym (best-is p f some least (λ matrix. is_of_earlier_lot p.dimensions l matrix || is_in_a_job p.dimensions (lot_of p.dimensions l) matrix) (best_in p (best_before p l) ends)
         (same_tests x (is_counted_through x l) (λ d. is_tree_design (tree_of p) d && (is_of_earlier_lot p.dimensions l d || is_in_a_job p.dimensions (lot_of p.dimensions l) d)) through-seen _
-        (best_law 0 0 kids ends (best_before p l) refl (omega arith) kids-canonical (start_best x law l part _ start-is) (omega arith) h)))
+        (through_best ends fits h)))
 
-  fold-marks : map (mark_of p) (nodes_of_lot p l) ≡ map (search_mark p) (nodes_of_lot p l)
+  pub fold-marks : map (mark_of p) (nodes_of_lot p l) ≡ map (search_mark p) (nodes_of_lot p l)
   unfolding nodes_of_lot marks
   fold-marks = kept-same (mark_of p) (search_mark p) (is_in_a_job p.dimensions l) (nodes p) (marks-walked p f)
 

@@ -136,7 +136,7 @@ fn ask_with<P: Pruner, I: Incumbent>(
 }
 
 /// What is answered after all nodes.
-fn closed(question: &Question, best: Option<Matrix>, nodes: u64, marks: Marks) -> Asked
+pub(crate) fn closed(question: &Question, best: Option<Matrix>, nodes: u64, marks: Marks) -> Asked
     ensures { result ≡ closed_as question.now.least best nodes marks }
 {
     if !question.least {
@@ -153,7 +153,7 @@ fn closed(question: &Question, best: Option<Matrix>, nodes: u64, marks: Marks) -
 }
 
 /// What is carried where the budget ends the search.
-fn kept(question: &Question, best: Option<Matrix>) -> Option<Matrix>
+pub(crate) fn kept(question: &Question, best: Option<Matrix>) -> Option<Matrix>
     requires valid { IsValid question.now }
     ensures rows { rows_of result ≡ kept_of question.now (rows_of best) }
     ensures sized { (d : Dimensions) → HasDimensions d best → HasDimensions d result }

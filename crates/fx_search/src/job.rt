@@ -9,14 +9,13 @@ ghost use Rattle.fx_vectors.specs.Question.{IsValid, problem_of};
 ghost use Rattle.fx_jobs.specs.Ranked.{extends};
 ghost use Rattle.fx_search.specs.Pruning.{size_of};
 ghost use Rattle.fx_search.specs.Standing.{StandAt, HasDimensions, rows_of};
+ghost use Rattle.fx_search.specs.Folds.{IsLot};
 ghost use Rattle.fx_search.specs.JobEnds.{IsJobEnd, IsSized, IsBackAt, own_of};
 
-use crate::barred::Barred;
 use crate::cutter::Cutter;
 use crate::incumbent::Incumbent;
 use crate::pruner::Pruner;
-use crate::ranked::Ranked;
-use crate::unranked::Unranked;
+use crate::searcher::Searcher;
 use crate::walk::{End, enter};
 use fx_base::NoMemory;
 use fx_tree::{Candidates, front_of};
@@ -76,88 +75,50 @@ pub fn run_job<C: Cutter>(
     ensures sized { IfOk result (IsSized question.now) }
     ensures end { IfOk result (IsJobEnd question.now job.now.rows limit (C.stopped cutter.new)) }
 {
-    let mut pruner = Barred::of(alloc, question)?;
-    run_by(alloc, question, &mut pruner, job, best, limit, cutter)
+    let mut searcher = Searcher::of(alloc, question)?;
+    let lot = without_the_last_row(job);
+    searcher.enter_lot(&lot, best)?;
+    searcher.run_job(alloc, job, limit, cutter)
 }
 
-/// The same over a pruner that is at the empty prefix of the question.
-fn run_by<P: Pruner, C: Cutter>(
-    alloc: Global,
-    question: &Question,
-    pruner: &mut P,
-    job: &Matrix,
-    best: Option<&Matrix>,
-    limit: u64,
-    cutter: &mut C,
-) -> Result<JobEnd, NoMemory>
-    requires valid { IsValid question.now }
-    requires problem { P.problem pruner.old ≡ problem_of question.now }
-    requires start { P.prefix pruner.old ≡ [] }
-    requires shape { job.now.shape ≡ question.now.shape }
-    requires rows { length job.now.rows ≡ question.now.shape.m + 2 }
-    requires canonical { is_canonical (problem_of question.now).dimensions (problem_of question.now).requirement job.now.rows
-        ≡ true }
-    requires lot { is_branch (problem_of question.now) (lot_of (problem_of question.now).dimensions job.now.rows) ≡ true }
-    requires best_shape { HasDimensions (problem_of question.now).dimensions (option_copied best) }
-    requires best { rows_of (option_copied best) ≡ best_before (problem_of question.now) job.now.rows }
-    requires limit { limit ≤ 5000000 }
-    ensures cutter { C.may_become cutter.old cutter.new }
-    ensures sized { IfOk result (IsSized question.now) }
-    ensures end { IfOk result (IsJobEnd question.now job.now.rows limit (C.stopped cutter.new)) }
-{
-    if question.least {
-        let mut incumbent = Ranked::new(alloc, question)?;
-        if let Some(best) = best {
-            remember(&mut incumbent, best);
-        }
-        put_at_lot(question, pruner, &mut incumbent, job)?;
-        return run_job_with(alloc, question, pruner, &mut incumbent, job, limit, cutter);
-    }
-    let mut incumbent = Unranked::new(question);
-    put_at_lot(question, pruner, &mut incumbent, job)?;
-    run_job_with(alloc, question, pruner, &mut incumbent, job, limit, cutter)
-}
-
-/// Makes a whole matrix the best so far of an incumbent at the empty prefix.
-fn remember<I: Incumbent>(incumbent: &mut I, best: &Matrix)
+/// Makes a whole matrix the best so far of an incumbent at its first `rows` rows.
+pub(crate) fn remember<I: Incumbent>(incumbent: &mut I, best: &Matrix, rows: usize)
     requires least { (I.standing incumbent.old).problem.least ≡ true }
     requires shape { dimensions_of best.now.shape ≡ (I.standing incumbent.old).problem.dimensions }
     requires whole { length best.now.rows ≡ size_of (I.standing incumbent.old).problem }
-    requires some { 0 < length best.now.rows }
-    requires start { (I.standing incumbent.old).prefix ≡ [] }
+    requires some { rows < length best.now.rows }
+    requires start { (I.standing incumbent.old).prefix ≡ take rows best.now.rows }
     ensures { I.standing incumbent.new ≡ record (I.standing incumbent.old) { best = Some best.now.rows } }
 {
     let last = best.len() - 1;
-    for i in 0..last {
+    for i in rows..last {
         incumbent.push(best.row(i));
     }
     incumbent.keep(best.row(last));
-    for _i in 0..last {
+    for _i in rows..last {
         incumbent.pop();
     }
 }
 
-/// Takes a pruner and an incumbent from the empty prefix to the lot of a job.
-fn put_at_lot<P: Pruner, I: Incumbent>(
+/// Takes a pruner and an incumbent from the empty prefix to a lot.
+pub(crate) fn put_at_lot<P: Pruner, I: Incumbent>(
     question: &Question,
     pruner: &mut P,
     incumbent: &mut I,
-    job: &Matrix,
+    lot: &Matrix,
 ) -> Result<(), NoMemory>
     requires valid { IsValid question.now }
-    requires shape { job.now.shape ≡ question.now.shape }
-    requires rows { length job.now.rows ≡ question.now.shape.m + 2 }
-    requires canonical { is_canonical (problem_of question.now).dimensions (problem_of question.now).requirement job.now.rows
-        ≡ true }
-    requires lot { is_branch (problem_of question.now) (lot_of (problem_of question.now).dimensions job.now.rows) ≡ true }
+    requires shape { lot.now.shape ≡ question.now.shape }
+    requires lot { IsLot (problem_of question.now) lot.now.rows }
     requires at { StandAt (problem_of question.now) [] (P.problem pruner.old) (P.prefix pruner.old)
         (I.standing incumbent.old) }
-    ensures at { OnOk result (StandAt (problem_of question.now) (lot_of (problem_of question.now).dimensions job.now.rows)
+    ensures at { OnOk result (StandAt (problem_of question.now) lot.now.rows
         (P.problem pruner.new) (P.prefix pruner.new) (I.standing incumbent.new)) }
     ensures best { OnOk result ((I.standing incumbent.new).best ≡ (I.standing incumbent.old).best) }
 {
-    for i in 0..usize::from(question.shape.m) + 1 {
-        let row = job.row(i);
+    let _shape = question.shape;
+    for i in 0..lot.len() {
+        let row = lot.row(i);
         pruner.push(row)?;
         incumbent.push(row);
     }
@@ -166,7 +127,7 @@ fn put_at_lot<P: Pruner, I: Incumbent>(
 
 /// Works off a job from its lot, where pruner and incumbent are. The incumbent has the best of the
 /// earlier lots. After `Closed` both are at the lot again.
-fn run_job_with<P: Pruner, I: Incumbent, C: Cutter>(
+pub(crate) fn run_job_with<P: Pruner, I: Incumbent, C: Cutter>(
     alloc: Global,
     question: &Question,
     pruner: &mut P,

@@ -5,6 +5,6 @@ use Rattle.fx_search.proofs.job.put_at_lot.Given as goal
 
 abbrev pub invariant-loop-i : goal.invariant-loop-i
 invariant-loop-i g l = record {
-  at : StandAt (problem_of l.question) (take l.i l.job.rows) (g.P.Pruner.problem l.pruner) (g.P.Pruner.prefix l.pruner) (g.I.Incumbent.standing l.incumbent);
+  at : StandAt (problem_of l.question) (take l.i l.lot.rows) (g.P.Pruner.problem l.pruner) (g.P.Pruner.prefix l.pruner) (g.I.Incumbent.standing l.incumbent);
   best : (g.I.Incumbent.standing l.incumbent).best ≡ (g.I.Incumbent.standing l.fn.incumbent).best;
 }

@@ -1,0 +1,209 @@
+ghost use Rattle.std.specs.Prelude.{◌≡◌, ◌<◌, ◌≤◌, ◌+◌, true, length, IfOk};
+ghost use Rattle.fx_vectors.specs.Question.{IsValid, problem_of};
+ghost use Rattle.fx_search.specs.Asked.{IsAnswer, IsNoneAtAll};
+ghost use Rattle.fx_search.specs.LotWalks.{IsAtLot, IsFolded};
+ghost use Rattle.fx_search.specs.Searchers.{IsAtStart};
+ghost use Rattle.fx_board.specs.Lots.{CanEnter};
+ghost use Rattle.fx_board.specs.Sharing.{AreReady, AllAreClosed};
+
+use crate::gate::Gate;
+use crate::lot_jobs::ends_of_lot;
+use crate::sharing::Worked;
+use crate::worker::closed_nodes;
+use fx_base::{Items, NoMemory};
+use fx_search::{Asked, JobEnd, LotWalk, Searcher, Step, ask_alone};
+use fx_tree::children;
+use fx_vectors::{Matrix, Question};
+use std::alloc::Global;
+use std::thread::Threads;
+
+/// How many nodes of a lot one worker walks alone, where the lot before had fewer: about as many as are
+/// walked in the time in which the threads of the others are started and joined.
+const FEW: u64 = 256;
+
+/// The answer of a valid question, by 1 to 64 threads: that of `ask_alone`, however many there are. The
+/// budget is at most 5,000,000. One thread is the caller's own, and starts no other.
+///
+/// # Errors
+///
+/// `NoMemory`.
+pub fn ask<R: Threads + Sync, G: Gate>(
+    rt: &R,
+    alloc: Global,
+    question: &Question,
+    budget: u64,
+    threads: u8,
+    gate: &G,
+) -> Result<Asked, NoMemory>
+    requires valid { IsValid question.now }
+    requires budget { budget ≤ 5000000 }
+    requires threads { (0 < threads) × (threads ≤ 64) }
+    ensures answer { IfOk result (IsAnswer question.now budget) }
+    ensures none_at_all { IfOk result (IsNoneAtAll question.now) }
+{
+    let shape = question.shape;
+    // Matrices of fewer rows have no jobs.
+    if threads == 1 || shape.rows().saturating_sub(usize::from(shape.m)) < 2 {
+        return ask_alone(alloc, question, budget);
+    }
+    ask_by_lots(rt, alloc, question, budget, threads, gate)
+}
+
+/// The same, lot after lot, where matrices have jobs.
+fn ask_by_lots<R: Threads + Sync, G: Gate>(
+    rt: &R,
+    alloc: Global,
+    question: &Question,
+    budget: u64,
+    threads: u8,
+    gate: &G,
+) -> Result<Asked, NoMemory>
+    requires valid { IsValid question.now }
+    requires budget { budget ≤ 5000000 }
+    requires threads { (0 < threads) × (threads ≤ 64) }
+    requires jobs { question.now.shape.m + 2 ≤ question.now.shape.s + question.now.shape.t }
+    ensures answer { IfOk result (IsAnswer question.now budget) }
+    ensures none_at_all { IfOk result (IsNoneAtAll question.now) }
+{
+    let mut walk = LotWalk::of(alloc, question, budget)?;
+    let mut workers = Vec::new(alloc);
+    let mut alone = 0;
+    loop {
+        match walk.next()? {
+            Step::Done(asked) => return Ok(asked),
+            Step::Lot => {}
+        }
+        let before = walk.nodes();
+        let LotDone {
+            asked,
+            workers: staff,
+        } = work_off(
+            rt, alloc, question, &mut walk, workers, threads, alone, gate,
+        )?;
+        match asked {
+            Some(asked) => return Ok(asked),
+            None => {}
+        }
+        workers = staff;
+        alone = alone_after(walk.nodes().saturating_sub(before));
+    }
+}
+
+/// How many nodes of the next lot one worker walks alone, after a lot of so many.
+fn alone_after(nodes: u64) -> u64 {
+    if nodes < FEW { FEW } else { 0 }
+}
+
+/// What a lot came to: the answer, where it ended the search, and workers for the next lot.
+#[derive(Drop)]
+struct LotDone<'a> {
+    asked: Option<Asked>,
+    workers: Vec<Searcher<'a>>,
+}
+
+/// Works off the jobs of the lot that the walk is at, by as many threads as there are jobs, at most
+/// `threads`, and folds their ends into it.
+fn work_off<'a, R: Threads + Sync, G: Gate>(
+    rt: &R,
+    alloc: Global,
+    question: &'a Question,
+    walk: &mut LotWalk<'a>,
+    workers: Vec<Searcher<'a>>,
+    threads: u8,
+    alone: u64,
+    gate: &G,
+) -> Result<LotDone<'a>, NoMemory>
+    requires question { walk.old.question.now ≡ question.now }
+    requires at { IsAtLot walk.old }
+    requires workers { length workers.items ≤ 64 }
+    requires start { AreReady (IsAtStart question.now) workers.items }
+    requires threads { (0 < threads) × (threads ≤ 64) }
+    ensures question { walk.new.question ≡ walk.old.question }
+    ensures limit { walk.new.limit ≡ walk.old.limit }
+    ensures folded { IfOk result (λ done. IsFolded question.now walk.old.limit (length walk.old.marks) walk.new done.asked) }
+    ensures workers { IfOk result (λ done. length done.workers.items ≤ 64) }
+    ensures start { IfOk result (λ done. AreReady (IsAtStart question.now) done.workers.items) }
+{
+    let rows = children(alloc, question, walk.lot())?;
+    let best = walk.best();
+    let wanted = usize::from(threads).min(rows.len()).max(1);
+    let workers = staffed(alloc, question, workers, wanted)?;
+    let left = walk.left();
+    let Worked { ends, workers } = ends_of_lot(
+        rt,
+        alloc,
+        question,
+        walk.lot(),
+        &rows,
+        best.as_ref(),
+        workers,
+        left,
+        alone,
+        gate,
+    )?;
+    let workers = back_at_start(alloc, question, walk.lot(), &ends, workers)?;
+    let asked = walk.fold(ends)?;
+    Ok(LotDone { asked, workers })
+}
+
+/// The workers, and new ones where there are fewer than wanted.
+fn staffed<'a>(
+    alloc: Global,
+    question: &'a Question,
+    workers: Vec<Searcher<'a>>,
+    wanted: usize,
+) -> Result<Vec<Searcher<'a>>, NoMemory>
+    requires valid { IsValid question.now }
+    requires start { AreReady (IsAtStart question.now) workers.items }
+    requires most { (length workers.items ≤ 64) × (wanted ≤ 64) }
+    ensures start { IfOk result (λ staff. AreReady (IsAtStart question.now) staff.items) }
+    ensures wanted { IfOk result (λ staff. wanted ≤ length staff.items) }
+    ensures most { IfOk result (λ staff. length staff.items ≤ 64) }
+{
+    let mut staff = Items::from_vec(workers);
+    for _i in staff.len()..wanted {
+        let searcher = Searcher::of(alloc, question)?;
+        staff.push(searcher)?;
+    }
+    Ok(staff.into_vec())
+}
+
+/// The workers, back at the empty prefix; none where not all jobs are `Closed`, since the search is then
+/// done.
+fn back_at_start<'a>(
+    alloc: Global,
+    _question: &Question,
+    _lot: &Matrix,
+    ends: &Items<JobEnd>,
+    workers: Vec<Searcher<'a>>,
+) -> Result<Vec<Searcher<'a>>, NoMemory>
+    requires most { length workers.items ≤ 64 }
+    requires ready { AllAreClosed ends.now → AreReady (CanEnter _question.now _lot.now.rows) workers.items }
+    ensures start { IfOk result (λ staff. AreReady (IsAtStart _question.now) staff.items) }
+    ensures most { IfOk result (λ staff. length staff.items ≤ 64) }
+{
+    let mut back = Items::new(alloc);
+    if !are_closed(ends) {
+        return Ok(back.into_vec());
+    }
+    let mut rest = workers;
+    while let Some(worker) = rest.pop() {
+        let mut worker = worker;
+        worker.leave_lot();
+        back.push(worker)?;
+    }
+    Ok(back.into_vec())
+}
+
+/// Whether all jobs are `Closed`.
+fn are_closed(ends: &Items<JobEnd>) -> bool
+    ensures { result ≡ true → AllAreClosed ends.now }
+{
+    for end in ends.as_slice() {
+        match closed_nodes(end) {
+            Some(_nodes) => {}
+            None => return false,
+        }
+    }
+    true
+}

@@ -1,0 +1,214 @@
+ghost use Rattle.std.specs.Prelude.{◌≡◌, ◌≤◌, false, IfOk, IfSome};
+ghost use Rattle.fx_vectors.specs.Shape.{IsShape};
+ghost use Rattle.fx_vectors.specs.Question.{IsValid};
+
+use crate::asking::ask;
+use crate::gate::FreeGate;
+use crate::tests::Holding;
+use fx_base::NoMemory;
+use fx_galois::Field;
+use fx_search::{Asked, ask_alone};
+use fx_vectors::{Demands, Effect, Effects, Marks, Matrix, Question, Shape};
+use std::alloc::Global;
+use std::sync::atomic::{AtomicU64, Ordering};
+use std::test::Fail;
+use std::thread::Threads;
+
+/// The shape, where it is within the limits.
+fn shape_of(q: u8, m: u8, s: u8, t: u8) -> Option<Shape>
+    ensures { IfSome result IsShape }
+{
+    if Field::of(q).is_none() || m == 0 || s == 0 || s > 40 || t > 10 || (t > 0 && s > 30) {
+        return None;
+    }
+    match u16::from(q).checked_pow(u32::from(m)) {
+        None => None,
+        Some(runs) => {
+            if runs > 1024 {
+                return None;
+            }
+            Some(Shape { q, m, s, t })
+        }
+    }
+}
+
+/// The question for a resolution, where it is valid.
+fn question(shape: Shape, r: u8, least: bool) -> Option<Question>
+    requires { IsShape shape }
+    ensures { IfSome result IsValid }
+{
+    if r < 3 || r > 99 || (least && shape.t > 0) {
+        return None;
+    }
+    Some(Question {
+        shape,
+        demands: Demands::Resolution { r },
+        least,
+    })
+}
+
+/// The question for the main effects of A and B.
+fn main_effects(alloc: Global, shape: Shape) -> Result<Question, NoMemory>
+    requires shaped { IsShape shape }
+    requires factors { 2 ≤ shape.s }
+    ensures valid { IfOk result IsValid }
+    ensures not_least { IfOk result (λ question. question.least ≡ false) }
+{
+    let estimate = Effects::from_slice(alloc, &[Effect(1), Effect(2)])?;
+    Ok(Question {
+        shape,
+        demands: Demands::Effects {
+            estimate,
+            nonnegligible: Effects::new(alloc),
+        },
+        least: false,
+    })
+}
+
+fn are_same_matrices(one: &Matrix, other: &Matrix) -> bool {
+    one == other
+}
+
+fn are_same_marks(one: &Marks, other: &Marks) -> bool {
+    one.len() == other.len() && (0..one.len()).all(|i| i < other.len() && one.get(i) == other.get(i))
+}
+
+/// Whether both answers are the same, with the same nodes and marks.
+fn are_same(one: &Asked, other: &Asked) -> bool {
+    match (one, other) {
+        (
+            Asked::Found {
+                matrix,
+                nodes,
+                marks,
+            },
+            Asked::Found {
+                matrix: design,
+                nodes: count,
+                marks: list,
+            },
+        ) => are_same_matrices(matrix, design) && nodes == count && are_same_marks(marks, list),
+        (
+            Asked::Nothing { nodes, marks },
+            Asked::Nothing {
+                nodes: count,
+                marks: list,
+            },
+        ) => nodes == count && are_same_marks(marks, list),
+        (Asked::Budget { best }, Asked::Budget { best: left }) => best == left,
+        (Asked::Found { .. }, _) | (Asked::Nothing { .. }, _) | (Asked::Budget { .. }, _) => false,
+    }
+}
+
+/// How many nodes a search that was not ended by its budget came by.
+fn nodes_of(asked: &Asked) -> u64 {
+    match asked {
+        Asked::Found { nodes, .. } | Asked::Nothing { nodes, .. } => *nodes,
+        Asked::Budget { .. } => 0,
+    }
+}
+
+/// Whether each number of threads answers as one does, under a budget.
+fn threads_agree<R: Threads + Sync>(
+    rt: &R,
+    alloc: Global,
+    question: &Question,
+    budget: u64,
+) -> Result<bool, NoMemory>
+    requires valid { IsValid question.now }
+    requires budget { budget ≤ 5000000 }
+{
+    let alone = ask_alone(alloc, question, budget)?;
+    for threads in [1, 2, 3, 8] {
+        let asked = ask(rt, alloc, question, budget, threads, &FreeGate)?;
+        if !are_same(&asked, &alone) {
+            return Ok(false);
+        }
+    }
+    Ok(true)
+}
+
+/// Whether they do under the budget of just the nodes, one more, and one less.
+fn threads_agree_at_the_nodes<R: Threads + Sync>(
+    rt: &R,
+    alloc: Global,
+    question: &Question,
+) -> Result<bool, NoMemory>
+    requires { IsValid question.now }
+{
+    let nodes = nodes_of(&ask_alone(alloc, question, 1_000_000)?).min(1_000_000);
+    Ok(threads_agree(rt, alloc, question, nodes)?
+        && threads_agree(rt, alloc, question, nodes + 1)?
+        && threads_agree(rt, alloc, question, nodes.saturating_sub(1))?)
+}
+
+/// Levels, run indexes, factors, block factors, the resolution, or 0 for the main effects of A and B, and
+/// whether a least pattern is asked.
+const ASKED: [(u8, u8, u8, u8, u8, bool); 16] = [
+    (2, 4, 7, 0, 4, false),
+    (2, 4, 8, 0, 5, false),
+    (2, 4, 8, 0, 4, false),
+    (2, 5, 9, 0, 4, false),
+    (2, 5, 7, 0, 3, true),
+    (2, 5, 9, 0, 3, true),
+    (2, 4, 7, 0, 4, true),
+    (2, 3, 3, 2, 3, false),
+    (2, 4, 5, 2, 3, false),
+    (3, 3, 6, 0, 3, false),
+    (3, 3, 6, 0, 3, true),
+    (3, 2, 5, 0, 3, true),
+    (4, 2, 6, 0, 3, false),
+    (2, 3, 5, 0, 0, false),
+    (2, 2, 4, 1, 0, false),
+    (3, 2, 4, 0, 0, false),
+];
+
+fn each_agrees<R: Threads + Sync>(
+    rt: &R,
+    alloc: Global,
+    (q, m, s, t, r, least): (u8, u8, u8, u8, u8, bool),
+) -> Result<bool, NoMemory> {
+    let Some(shape) = shape_of(q, m, s, t) else {
+        return Ok(false);
+    };
+    if r == 0 {
+        if s < 2 {
+            return Ok(false);
+        }
+        let question = main_effects(alloc, shape)?;
+        return threads_agree_at_the_nodes(rt, alloc, &question);
+    }
+    match question(shape, r, least) {
+        None => Ok(false),
+        Some(question) => threads_agree_at_the_nodes(rt, alloc, &question),
+    }
+}
+
+#[test]
+fn any_number_of_threads_answers_as_one(rt: HostRuntime) -> Result<(), Fail> {
+    for asked in ASKED {
+        assert!(rt; each_agrees(&rt, rt.alloc(), asked)?);
+    }
+    Ok(())
+}
+
+/// While one worker is held at the first of ten jobs, another ends the nine others.
+#[test]
+fn a_second_thread_works_off_jobs(rt: HostRuntime) -> Result<(), Fail> {
+    let gate = Holding {
+        held: AtomicU64::new(0),
+        ended: AtomicU64::new(0),
+        met: AtomicU64::new(0),
+    };
+    let shape = shape_of(2, 4, 7, 0);
+    let asked = match shape {
+        None => None,
+        Some(shape) => match question(shape, 4, false) {
+            None => None,
+            Some(question) => Some(ask(&rt, rt.alloc(), &question, 1_000_000, 2, &gate)?),
+        },
+    };
+    assert!(rt; matches!(asked, Some(Asked::Found { nodes: 19, .. })));
+    assert!(rt; gate.met.load(Ordering::SeqCst) == 1);
+    Ok(())
+}

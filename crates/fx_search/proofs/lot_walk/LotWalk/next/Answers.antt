@@ -1,0 +1,21 @@
+use Rattle.std.proofs.Common.{◌<◌, ◌≤◌, ◌+◌, length, arith}
+use Rattle.fx_laws.proofs.Tables.{is_order-field}
+use Rattle.fx_vectors.specs.Question.{problem_of}
+use Rattle.fx_search.specs.LotWalks.{IsUnderWay, IsNoneBelow, WalkIsThrough}
+use Rattle.fx_search.specs.Searchers.{standing_in}
+use Rattle.fx_search.specs.declared.lot_walk.LotWalk.{LotWalk}
+use Rattle.fx_search.proofs.LotSteps.{through-last}
+use Rattle.fx_search.proofs.lot_walk.LotWalk.next.Goals as goal
+
+-- where no child is left
+none_left : (w : LotWalk) → IsUnderWay w → IsNoneBelow (problem_of w.question.now) w.prefix.rows w.bound → WalkIsThrough w
+none_left w h none =
+    let placed = h.placed in
+    let f = is_order-field w.question.now.shape.q placed.valid.shaped.order in
+    through-last (problem_of w.question.now) f placed.jobs w.limit w.bound w.prefix.rows w.marks (standing_in w.incumbent).best h.so_far none (omega (arith, placed.few, placed.jobs))
+
+pub closed-requires-clause-through : goal.closed-requires-clause-through
+closed-requires-clause-through c = none_left c.loop-self.self c.loop-self.invariant.under_way c.in-None.ensures
+
+pub leave-requires-clause-through : goal.leave-requires-clause-through
+leave-requires-clause-through c = none_left c.loop-self.self c.loop-self.invariant.under_way c.in-None.ensures

@@ -1,0 +1,382 @@
+ghost use Rattle.std.specs.Prelude.{◌≡◌, ◌<◌, ◌≤◌, ◌+◌, ◌-◌, ◌++◌, [], ◌∷◌, length, IfOk, OnOk, MatchOption};
+ghost use Rattle.fx_designs.specs.Jobs.{best_before};
+ghost use Rattle.fx_vectors.specs.Question.{IsValid, problem_of};
+ghost use Rattle.fx_jobs.specs.Ranked.{better, is_counted_through};
+ghost use Rattle.fx_jobs.specs.Search.{ranked, search_tree, search_mark, IsBestAt};
+ghost use Rattle.fx_search.specs.Pruning.{size_of};
+ghost use Rattle.fx_search.specs.Standing.{StandAt, HasDimensions, rows_of};
+ghost use Rattle.fx_search.specs.Ends.{IsFound, IsClosed, IsSpent, IsCarried};
+ghost use Rattle.fx_search.specs.Folds.{AreEnds, jobs_of};
+ghost use Rattle.fx_search.specs.Searchers.{standing_in};
+ghost use Rattle.fx_search.specs.LotWalks.{IsNoneBelow, IsNextRow, IsPlaced, WalkIsSoFar, WalkIsThrough, IsUnderWay, IsAtLot, IsBetween, IsRight, IsStep, IsFolded, IsOfLot, AreSized, AreAddable, IsAdded, candidates_of};
+
+use crate::asking::{Asked, closed, kept};
+use crate::barred::Barred;
+use crate::incumbent::Incumbent;
+use crate::job::{JobEnd, remember};
+use crate::known::Known;
+use crate::pruner::Pruner;
+use fx_base::{Items, NoMemory};
+use fx_tree::{Candidates, front_of};
+use fx_vectors::{Mark, Marks, Matrix, Question};
+use std::alloc::Global;
+use std::mem;
+
+/// A search that walks the prefixes of at most m + 1 rows by itself, and leaves the jobs of each lot to
+/// others: their ends, in order, are folded into it. It answers what a search by one thread does.
+#[derive(Debug, Drop)]
+pub struct LotWalk<'a> {
+    alloc: Global,
+    question: &'a Question,
+    candidates: Candidates,
+    pruner: Barred,
+    incumbent: Known<'a>,
+    prefix: Matrix,
+    /// The children of the prefix by rows from this one on are done.
+    bound: u16,
+    marks: Marks,
+    limit: usize,
+}
+
+/// How far a walk from lot to lot has come.
+#[derive(Debug, Drop)]
+pub enum Step {
+    /// It is at the next lot.
+    Lot,
+    /// It is done.
+    Done(Asked),
+}
+
+/// What the ends of a lot's jobs come to.
+#[derive(Debug, Drop)]
+pub(crate) enum Added {
+    /// No job has a design, or a least pattern is asked.
+    AllClosed,
+    /// The first design.
+    Design(Matrix),
+    /// There are more nodes than the limit.
+    TooMany,
+}
+
+impl<'a> LotWalk<'a> {
+    /// Before the first node of a valid question, whose matrices have at least m + 2 rows. The budget
+    /// is at most 5,000,000.
+    ///
+    /// # Errors
+    ///
+    /// `NoMemory`.
+    pub fn of(alloc: Global, question: &'a Question, budget: u64) -> Result<LotWalk<'a>, NoMemory>
+        requires valid { IsValid question.now }
+        requires budget { budget ≤ 5000000 }
+        requires jobs { question.now.shape.m + 2 ≤ question.now.shape.s + question.now.shape.t }
+        ensures question { IfOk result (λ walk. walk.question.now ≡ question.now) }
+        ensures limit { IfOk result (λ walk. walk.limit ≡ budget) }
+        ensures between { IfOk result IsBetween }
+    {
+        let candidates = Candidates::of(question.shape);
+        let pruner = Barred::of(alloc, question)?;
+        let incumbent = Known::of(alloc, question)?;
+        let prefix = Matrix::new(question.shape);
+        let bound = candidates.row_bound(question, front_of(question, &prefix));
+        Ok(LotWalk {
+            alloc,
+            question,
+            candidates,
+            pruner,
+            incumbent,
+            prefix,
+            bound,
+            marks: Marks::new(alloc),
+            limit: budget as usize,
+        })
+    }
+
+    /// The lot that the walk is at.
+    pub fn lot(&self) -> &Matrix
+        ensures { result.now ≡ self.now.prefix }
+    {
+        &self.prefix
+    }
+
+    /// How many nodes it has come by.
+    pub fn nodes(&self) -> u64
+        ensures { result ≡ length self.now.marks }
+    {
+        self.marks.len() as u64
+    }
+
+    /// How many nodes the budget leaves.
+    pub fn left(&self) -> u64
+        requires { IsAtLot self.now }
+        ensures left { result ≡ self.now.limit - length self.now.marks }
+        ensures most { result ≤ 5000000 }
+    {
+        (self.limit - self.marks.len()) as u64
+    }
+
+    /// The first matrix of least pattern of the lots before the one that the walk is at, where a least
+    /// pattern is asked and there is one.
+    pub fn best(&self) -> Option<Matrix>
+        requires { IsAtLot self.now }
+        ensures rows { rows_of result ≡ best_before (problem_of self.now.question.now) self.now.prefix.rows }
+        ensures sized { HasDimensions (problem_of self.now.question.now).dimensions result }
+    {
+        self.incumbent.best_matrix()
+    }
+
+    /// Goes on to the next lot that is a branch, and marks the nodes on the way.
+    ///
+    /// # Errors
+    ///
+    /// `NoMemory`.
+    pub fn next(&mut self) -> Result<Step, NoMemory>
+        requires { IsBetween self.old }
+        ensures question { self.new.question ≡ self.old.question }
+        ensures limit { self.new.limit ≡ self.old.limit }
+        ensures step { IfOk result (IsStep self.old.question.now self.old.limit (length self.old.marks) self.new) }
+    {
+        while self.prefix.len() <= usize::from(self.question.shape.m) {
+            match self.next_row() {
+                Some(row) => {
+                    if self.marks.len() == self.limit {
+                        return Ok(Step::Done(self.spent(row)));
+                    }
+                    self.enter(row)?;
+                }
+                None => {
+                    if self.prefix.is_empty() {
+                        return Ok(Step::Done(self.closed()));
+                    }
+                    self.leave();
+                }
+            }
+        }
+        Ok(Step::Lot)
+    }
+
+    /// Takes in the ends of the jobs of the lot that the walk is at, in order up to the first that is
+    /// `Found` or `Spent`, each under a limit between what the jobs before it leave of the budget and
+    /// what the walk has left of it. Then it is past the lot, or done.
+    ///
+    /// # Errors
+    ///
+    /// `NoMemory`.
+    pub fn fold(&mut self, ends: Items<JobEnd>) -> Result<Option<Asked>, NoMemory>
+        requires at { IsAtLot self.old }
+        requires ends { let p = problem_of self.old.question.now in
+            AreEnds self.old.question.now (self.old.limit - length self.old.marks) 0 (jobs_of p self.old.prefix.rows) ends }
+        requires sized { AreSized self.old.question.now ends }
+        ensures question { self.new.question ≡ self.old.question }
+        ensures limit { self.new.limit ≡ self.old.limit }
+        ensures folded { IfOk result (IsFolded self.old.question.now self.old.limit (length self.old.marks) self.new) }
+    {
+        let best = self.best();
+        match self.add_all(ends)? {
+            Added::AllClosed => {
+                self.leave();
+                Ok(None)
+            }
+            Added::Design(matrix) => Ok(Some(self.found(matrix))),
+            Added::TooMany => Ok(Some(Asked::Budget {
+                best: kept(self.question, best),
+            })),
+        }
+    }
+
+    /// The greatest row below the bound by which the prefix has a child.
+    fn next_row(&self) -> Option<u16>
+        requires { IsPlaced self.now }
+        ensures { let p = problem_of self.now.question.now in
+            MatchOption result (IsNoneBelow p self.now.prefix.rows self.now.bound)
+            (IsNextRow p self.now.prefix.rows self.now.bound) }
+    {
+        let front = front_of(self.question, &self.prefix);
+        let first = self.candidates.first_row(self.question, front);
+        for row in (first..self.bound).rev() {
+            if self.candidates.may_follow(self.question, front, row) {
+                return Some(row);
+            }
+        }
+        None
+    }
+
+    /// Marks the child by the next row, and goes to it where it is expanded.
+    fn enter(&mut self, row: u16) -> Result<(), NoMemory>
+        requires between { IsBetween self.old }
+        requires next { IsNextRow (problem_of self.old.question.now) self.old.prefix.rows self.old.bound row }
+        requires room { length self.old.marks < self.old.limit }
+        ensures question { self.new.question ≡ self.old.question }
+        ensures limit { self.new.limit ≡ self.old.limit }
+        ensures under_way { OnOk result (IsUnderWay self.new) }
+        ensures marks { OnOk result (length self.new.marks ≡ length self.old.marks + 1) }
+        ensures rows { OnOk result (length self.new.prefix.rows ≤ length self.old.prefix.rows + 1) }
+    {
+        if self.pruner.closes(row) {
+            let word = self.pruner.word(row);
+            self.bound = row;
+            self.marks.push(Mark::Word { row, word })?;
+            return Ok(());
+        }
+        if self.incumbent.beats(row) {
+            self.bound = row;
+            self.marks.push(Mark::Worse { row })?;
+            return Ok(());
+        }
+        self.marks.push(Mark::Branch { row })?;
+        self.pruner.push(row)?;
+        self.incumbent.push(row);
+        self.prefix.push(row);
+        let front = front_of(self.question, &self.prefix);
+        self.bound = self.candidates.row_bound(self.question, front);
+        Ok(())
+    }
+
+    /// Goes back to the prefix without its last row, where all children are done.
+    fn leave(&mut self)
+        requires placed { IsPlaced self.old }
+        requires through { WalkIsThrough self.old }
+        requires some { 0 < length self.old.prefix.rows }
+        ensures question { self.new.question ≡ self.old.question }
+        ensures limit { self.new.limit ≡ self.old.limit }
+        ensures marks { self.new.marks ≡ self.old.marks }
+        ensures rows { length self.new.prefix.rows + 1 ≡ length self.old.prefix.rows }
+        ensures between { IsBetween self.new }
+    {
+        let row = self.prefix.row(self.prefix.len() - 1);
+        self.pruner.pop();
+        self.incumbent.pop();
+        self.prefix.pop();
+        self.bound = row;
+    }
+
+    /// The answer where the next node passes the limit.
+    fn spent(&self, row: u16) -> Asked
+        requires between { IsBetween self.now }
+        requires next { IsNextRow (problem_of self.now.question.now) self.now.prefix.rows self.now.bound row }
+        requires full { length self.now.marks ≡ self.now.limit }
+        ensures { IsRight self.now.question.now self.now.limit result }
+    {
+        let _ = row;
+        Asked::Budget {
+            best: kept(self.question, self.incumbent.best_matrix()),
+        }
+    }
+
+    /// The answer after all nodes.
+    fn closed(&mut self) -> Asked
+        requires placed { IsPlaced self.old }
+        requires through { WalkIsThrough self.old }
+        requires start { self.old.prefix.rows ≡ [] }
+        ensures question { self.new.question ≡ self.old.question }
+        ensures limit { self.new.limit ≡ self.old.limit }
+        ensures right { IsRight self.old.question.now self.old.limit result }
+    {
+        let marks = mem::replace(&mut self.marks, Marks::new(self.alloc));
+        let nodes = marks.len() as u64;
+        closed(self.question, self.incumbent.best_matrix(), nodes, marks)
+    }
+
+    /// The answer where this is the first design, and the marks are those of all nodes.
+    fn found(&mut self, matrix: Matrix) -> Asked
+        requires valid { IsValid self.old.question.now }
+        requires shape { matrix.shape ≡ self.old.question.now.shape }
+        requires found { let p = problem_of self.old.question.now in
+            IsFound (search_tree p) (search_mark p) self.old.limit (candidates_of p) [] self.old.marks matrix.rows }
+        ensures question { self.new.question ≡ self.old.question }
+        ensures limit { self.new.limit ≡ self.old.limit }
+        ensures right { IsRight self.old.question.now self.old.limit result }
+    {
+        let marks = mem::replace(&mut self.marks, Marks::new(self.alloc));
+        let nodes = marks.len() as u64;
+        Asked::Found {
+            matrix,
+            nodes,
+            marks,
+        }
+    }
+
+    /// Adds the marks of ends in order, and joins their bests, up to the first that is `Found` or
+    /// `Spent`.
+    fn add_all(&mut self, ends: Items<JobEnd>) -> Result<Added, NoMemory>
+        requires placed { IsPlaced self.old }
+        requires fits { length self.old.marks ≤ self.old.limit }
+        requires addable { AreAddable self.old.question.now self.old.prefix.rows (self.old.limit - length self.old.marks) ends }
+        ensures same { self.new ≡ record self.old { marks = self.new.marks; incumbent = self.new.incumbent } }
+        ensures standing { OnOk result (standing_in self.new.incumbent
+            ≡ record (standing_in self.old.incumbent) { best = (standing_in self.new.incumbent).best }) }
+        ensures added { IfOk result (IsAdded self.old.question.now self.old.limit
+            self.old.marks (standing_in self.old.incumbent).best ends
+            self.new.marks (standing_in self.new.incumbent).best) }
+    {
+        for end in ends.into_vec() {
+            match self.add(end)? {
+                Added::AllClosed => {}
+                Added::Design(matrix) => return Ok(Added::Design(matrix)),
+                Added::TooMany => return Ok(Added::TooMany),
+            }
+        }
+        Ok(Added::AllClosed)
+    }
+
+    /// The same of one end.
+    fn add(&mut self, end: JobEnd) -> Result<Added, NoMemory>
+        requires placed { IsPlaced self.old }
+        requires fits { length self.old.marks ≤ self.old.limit }
+        requires addable { AreAddable self.old.question.now self.old.prefix.rows (self.old.limit - length self.old.marks) (end ∷ []) }
+        ensures same { self.new ≡ record self.old { marks = self.new.marks; incumbent = self.new.incumbent } }
+        ensures standing { OnOk result (standing_in self.new.incumbent
+            ≡ record (standing_in self.old.incumbent) { best = (standing_in self.new.incumbent).best }) }
+        ensures added { IfOk result (IsAdded self.old.question.now self.old.limit
+            self.old.marks (standing_in self.old.incumbent).best (end ∷ [])
+            self.new.marks (standing_in self.new.incumbent).best) }
+    {
+        match end {
+            JobEnd::Closed { best, marks, .. } => {
+                if self.limit - self.marks.len() < marks.len() {
+                    return Ok(Added::TooMany);
+                }
+                append(&mut self.marks, &marks)?;
+                join_best(&mut self.incumbent, best, self.prefix.len());
+                Ok(Added::AllClosed)
+            }
+            JobEnd::Found { matrix, marks, .. } => {
+                if self.limit - self.marks.len() < marks.len() {
+                    return Ok(Added::TooMany);
+                }
+                append(&mut self.marks, &marks)?;
+                Ok(Added::Design(matrix))
+            }
+            JobEnd::Spent { .. } => Ok(Added::TooMany),
+            JobEnd::Cut => Ok(Added::TooMany),
+        }
+    }
+}
+
+/// Adds marks at the end of others.
+fn append(marks: &mut Marks, more: &Marks) -> Result<(), NoMemory>
+    ensures { OnOk result (marks.new ≡ marks.old ++ more.now) }
+{
+    for i in 0..more.len() {
+        marks.push(more.get(i))?;
+    }
+    Ok(())
+}
+
+/// Makes the best of a job of the lot that the incumbent is at, `rows` rows, the best so far where it is
+/// less.
+fn join_best(incumbent: &mut Known, best: Option<Matrix>, rows: usize)
+    requires of_lot { IsOfLot (standing_in incumbent.old).problem (standing_in incumbent.old).prefix best }
+    requires part { length (standing_in incumbent.old).prefix < size_of (standing_in incumbent.old).problem }
+    requires rows { rows ≡ length (standing_in incumbent.old).prefix }
+    ensures { let old = standing_in incumbent.old in
+        standing_in incumbent.new ≡ record old { best = better (ranked old.problem) old.best (rows_of best) } }
+{
+    match best {
+        None => {}
+        Some(matrix) => {
+            let earlier = incumbent.best();
+            remember(incumbent, &matrix, rows);
+            incumbent.settle(earlier);
+        }
+    }
+}
