@@ -19,3 +19,4 @@ mod Statuses
 mod Messages
 mod Summing
 pub mod Made
+pub mod GivenOptions
