@@ -5,6 +5,7 @@
 //! of the jobs up to the least number that was reported do not depend on the schedule.
 #![tactic(auto)]
 
+mod asking;
 mod board;
 mod gate;
 mod jobs;
@@ -17,7 +18,9 @@ mod tests;
 mod view;
 mod worker;
 
+pub use asking::ask;
 pub use board::{Board, Closed, Seat};
+pub use fx_search::Asked;
 pub use gate::{Ended, FreeGate, Gate};
 pub use jobs::Jobs;
 pub use sharing::{Worked, share};
