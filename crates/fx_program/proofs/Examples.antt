@@ -162,8 +162,8 @@ half = refl
 -- the least aberration, and the words of each weight; a budget that ends before a design is found
 least_aberration :
     (given (codes "proc factex;factors A B C;size design=4;model resolution=max/minabs;examine aberration;")
-        ≡ booked (codes "step1-1.book") (codes "factex-book 1\nsize 2 2 3 0\nresolution 3\npattern 0 0 1\nO 1\nO 2\nP 3\nEND\n")
-        (codes "step 1\nfactors 3 levels 2\ndesign 4 runs\nresolution 3 least aberration\nnodes 3\nrules\n  C = A*B\nbook step1-1.book\naberration\n  A3 1\n") 0)
+    ≡ booked (codes "step1-1.book") (codes "factex-book 1\nsize 2 2 3 0\nresolution 3\npattern 0 0 1\nO 1\nO 2\nP 3\nEND\n")
+    (codes "step 1\nfactors 3 levels 2\ndesign 4 runs\nresolution 3 least aberration\nnodes 3\nrules\n  C = A*B\nbook step1-1.book\naberration\n  A3 1\n") 0)
     × (given (codes "proc factex nodes=2;factors A B C;size design=4;model resolution=3/minabs;") ≡ message (codes "step 1\nfactors 3 levels 2\nbudget ended after 2 nodes\n") 2)
 unfolding given booked
 least_aberration = (refl, refl)
@@ -171,8 +171,8 @@ least_aberration = (refl, refl)
 -- the highest resolution, with a model or without; a budget that ends where the next resolution is tried
 highest_resolution :
     (given (codes "proc factex;factors A B C;size design=4;model r=max;")
-        ≡ booked (codes "step1-2.book") (codes "factex-book 1\nsize 2 2 3 0\nresolution 4\npattern none\nO 1\nO 2\nW 3 7\nEND\n")
-        (codes "step 1\nfactors 3 levels 2\ndesign 4 runs\nresolution 3 highest\nnodes 6\nrules\n  C = A*B\nbook step1-2.book\n") 0)
+    ≡ booked (codes "step1-2.book") (codes "factex-book 1\nsize 2 2 3 0\nresolution 4\npattern none\nO 1\nO 2\nW 3 7\nEND\n")
+    (codes "step 1\nfactors 3 levels 2\ndesign 4 runs\nresolution 3 highest\nnodes 6\nrules\n  C = A*B\nbook step1-2.book\n") 0)
     × (given (codes "proc factex;factors A B;size design=4;") ≡ message (codes "step 1\nfactors 2 levels 2\ndesign 4 runs\nno defining words\nnodes 2\nrules\n  none\n") 0)
     × (given (codes "proc factex nodes=4;factors A B C;size design=4;model r=max;") ≡ message (codes "step 1\nfactors 3 levels 2\nbudget ended after 4 nodes\ndesign 4 runs not proved best\nresolution 3\nrules\n  C = A*B\n") 2)
 unfolding given booked
@@ -189,11 +189,11 @@ least_size = refl
 -- blocks: as many as can be, and none
 in_blocks :
     (given (codes "proc factex;factors A B;size design=4;model r=3;blocks nblocks=max;")
-        ≡ booked (codes "step1-2.book") (codes "factex-book 1\nsize 2 2 2 2\nresolution 3\npattern none\nO 1\nO 2\nO 3\nW 3 12\nW 2 10\nW 1 9\nW 0 8\nW 2 6\nW 1 5\nW 0 4\nEND\n")
-        (codes "step 1\nfactors 2 levels 2\ndesign 4 runs in 2 blocks\nno defining words\nnodes 13\nrules\n  [1] = A*B\nbook step1-2.book\n") 0)
+    ≡ booked (codes "step1-2.book") (codes "factex-book 1\nsize 2 2 2 2\nresolution 3\npattern none\nO 1\nO 2\nO 3\nW 3 12\nW 2 10\nW 1 9\nW 0 8\nW 2 6\nW 1 5\nW 0 4\nEND\n")
+    (codes "step 1\nfactors 2 levels 2\ndesign 4 runs in 2 blocks\nno defining words\nnodes 13\nrules\n  [1] = A*B\nbook step1-2.book\n") 0)
     × (given (codes "proc factex;factors A B C;size design=4;model r=3;blocks nblocks=2;")
-        ≡ booked (codes "step1-1.book") (codes "factex-book 1\nsize 2 2 3 1\nresolution 3\npattern none\nO 1\nO 2\nO 3\nW 3 12\nW 2 10\nW 1 9\nW 0 8\nEND\n")
-        (codes "step 1\nfactors 3 levels 2\nno design in 4 runs with 2 blocks\nnodes 7\nbook step1-1.book\n") 1)
+    ≡ booked (codes "step1-1.book") (codes "factex-book 1\nsize 2 2 3 1\nresolution 3\npattern none\nO 1\nO 2\nO 3\nW 3 12\nW 2 10\nW 1 9\nW 0 8\nEND\n")
+    (codes "step 1\nfactors 3 levels 2\nno design in 4 runs with 2 blocks\nnodes 7\nbook step1-1.book\n") 1)
 unfolding given booked
 in_blocks = (refl, refl)
 
@@ -254,9 +254,25 @@ seeds :
     × (settings_of (codes "run" ∷ codes "--seed=+1" ∷ codes "--seed=1" ∷ []) ≡ word_fault 4 2)
     × (settings_of (codes "run" ∷ codes "--seed" ∷ []) ≡ word_fault 3 2)
     × (settings_of (codes "run" ∷ codes "--seed=1" ∷ codes "--seed=x" ∷ []) ≡ word_fault 5 3)
-    × (settings_of (codes "run" ∷ codes "--seed=1" ∷ codes "--threads=2" ∷ []) ≡ word_fault 3 3)
 unfolding settings_of
-seeds = (refl, refl, refl, refl, refl, refl, refl, refl, refl, refl)
+seeds = (refl, refl, refl, refl, refl, refl, refl, refl, refl)
+
+-- the number of threads of `run` and `large`, from 1 to 64: at most once, before the seed or after it
+numbers_of_threads :
+    (settings_of (codes "run" ∷ codes "--seed=1" ∷ codes "--threads=2" ∷ []) ≡ Ok (Run 2 1))
+    × (settings_of (codes "run" ∷ codes "--threads=64" ∷ codes "--seed=1" ∷ []) ≡ Ok (Run 64 1))
+    × (settings_of (codes "run" ∷ codes "--threads=0" ∷ []) ≡ word_fault 4 2)
+    × (settings_of (codes "run" ∷ codes "--threads=65" ∷ []) ≡ word_fault 4 2)
+    × (settings_of (codes "run" ∷ codes "--threads=" ∷ []) ≡ word_fault 4 2)
+    × (settings_of (codes "run" ∷ codes "--threads=2" ∷ codes "--threads=2" ∷ []) ≡ word_fault 5 3)
+    × (settings_of (codes "run" ∷ codes "--threads=2" ∷ codes "--threads=x" ∷ []) ≡ word_fault 5 3)
+    × (settings_of (codes "run" ∷ codes "--threads=2" ∷ codes "--seed=1" ∷ codes "--seed=1" ∷ []) ≡ word_fault 5 4)
+    × (settings_of (codes "run" ∷ codes "--thread=2" ∷ []) ≡ word_fault 3 2)
+    × (settings_of (codes "large" ∷ codes "1" ∷ codes "--threads=2" ∷ []) ≡ Ok (Large 1 2))
+    × (settings_of (codes "large" ∷ codes "1" ∷ codes "--seed=2" ∷ []) ≡ word_fault 3 3)
+    × (settings_of (codes "large" ∷ codes "1" ∷ codes "--threads=2" ∷ codes "--threads=3" ∷ []) ≡ word_fault 5 4)
+unfolding settings_of
+numbers_of_threads = (refl, refl, refl, refl, refl, refl, refl, refl, refl, refl, refl, refl)
 
 -- the number of steps of `make` and `large`: one word, of at most 20 digits, from 1 to 100
 numbers_of_steps :
@@ -270,9 +286,8 @@ numbers_of_steps :
     × (settings_of (codes "make" ∷ codes "--threads=2" ∷ []) ≡ word_fault 4 2)
     × (settings_of (codes "make" ∷ codes "000000000000000000001" ∷ []) ≡ word_fault 4 2)
     × (settings_of (codes "make" ∷ codes "1" ∷ codes "1" ∷ []) ≡ word_fault 3 3)
-    × (settings_of (codes "large" ∷ codes "1" ∷ codes "--threads=2" ∷ []) ≡ word_fault 3 3)
 unfolding settings_of
-numbers_of_steps = (refl, refl, refl, refl, refl, refl, refl, refl, refl, refl, refl)
+numbers_of_steps = (refl, refl, refl, refl, refl, refl, refl, refl, refl, refl)
 
 -- the text of two steps; a step of three levels that asks for least aberration
 made_steps :

@@ -1,5 +1,5 @@
 -- What the words of the command line ask for.
-use Rattle.std.specs.Prelude.{ℕ, ◌+◌, ◌^◌, nat_le, nat_lt, ◌&&◌, Bool, true, false, unwrap_or, is_some, List, [], ◌∷◌, ◌++◌, if◌then◌else◌, Option, Some, None, Result, Ok, Err, Vec, map, take, drop, length, codes, decimal}
+use Rattle.std.specs.Prelude.{ℕ, ◌+◌, ◌^◌, ◌<◌, ◌≤◌, nat_le, nat_lt, ◌&&◌, Bool, true, false, unwrap_or, is_some, List, [], ◌∷◌, ◌++◌, if◌then◌else◌, Option, Some, None, Result, Ok, Err, Vec, map, take, drop, length, codes, decimal}
 use Rattle.std.specs.List.{list_all}
 use Rattle.std.specs.Str.{bytes_eq}
 use Rattle.std.specs.Str.Parse.{digits_value}
@@ -139,6 +139,17 @@ command_with word options =
 unfoldable pub settings_of : List (List ℕ) → Result Settings WordFault
 settings_of [] = word_fault 1 1
 settings_of (word ∷ options) = command_with word options
+
+-- from 1 to 64 threads
+abbrev pub AreThreads : ℕ → Type 0
+AreThreads n = (0 < n) × (n ≤ 64)
+
+-- the settings have so many
+abbrev pub HasThreads : Settings → Type 0
+HasThreads (Run threads seed) = AreThreads threads
+HasThreads Check = Unit {0}
+HasThreads (Make n) = Unit {0}
+HasThreads (Large n threads) = AreThreads threads
 
 -- the line that tells the fault: its code, and at which word
 abbrev pub word_line : WordFault → List ℕ

@@ -17,11 +17,11 @@ mod text;
 mod words;
 
 pub use laws::{
-    books_are_accepted, budget_ends_where_nodes_pass_it, claims_of_none_have_books, designs_meet_what_is_asked_in_any_text,
-    faults_have_a_message_and_a_place, first_design_is_given, greatest_status_decides,
-    highest_resolution_in_any_text, least_pattern_in_any_text, least_size_in_any_text,
-    most_blocks_in_any_text, no_design_in_any_text, no_design_means_none_at_all,
-    valid_steps_in_any_text,
+    books_are_accepted, budget_ends_where_nodes_pass_it, claims_of_none_have_books,
+    designs_meet_what_is_asked_in_any_text, faults_have_a_message_and_a_place,
+    first_design_is_given, greatest_status_decides, highest_resolution_in_any_text,
+    least_pattern_in_any_text, least_size_in_any_text, most_blocks_in_any_text,
+    no_design_in_any_text, no_design_means_none_at_all, valid_steps_in_any_text,
 };
 pub use making::make_text;
 pub use run::factex;

@@ -1,8 +1,10 @@
-ghost use Rattle.std.specs.Prelude.{◌≡◌, ◌≤◌, ◌+◌, ◌++◌, codes, length, true, false, Option, is_some, IfOk};
+ghost use Rattle.std.specs.Prelude.{◌≡◌, ◌≤◌, ◌+◌, ◌++◌, codes, length, true, false, Option, Some, is_some, IfOk, IfSome};
 ghost use Rattle.std.specs.List.{list_all};
 ghost use Rattle.std.specs.Str.{bytes_eq};
 ghost use Rattle.fx_lexer.specs.Bytes.{is_digit};
 ghost use Rattle.fx_program.specs.Words.{
+  AreThreads,
+  HasThreads,
   after,
   bytes_of,
   check_with,
@@ -74,7 +76,8 @@ pub struct WordFault {
 
 /// The settings that the words ask for, or the first fault. Takes no memory.
 pub fn read_words(words: &[Vec<u8>]) -> Result<Settings, WordFault>
-    ensures { result ≡ settings_of (bytes_of words.now) }
+    ensures settings { result ≡ settings_of (bytes_of words.now) }
+    ensures threads { IfOk result HasThreads }
 {
     match words.split_first() {
         Some((command, options)) => command_with(command.as_slice(), options),
@@ -91,7 +94,8 @@ struct Options {
 
 /// The settings of a command with these options.
 fn command_with(command: &[u8], options: &[Vec<u8>]) -> Result<Settings, WordFault>
-    ensures { result ≡ command_with command.now (bytes_of options.now) }
+    ensures settings { result ≡ command_with command.now (bytes_of options.now) }
+    ensures threads { IfOk result HasThreads }
 {
     if command == b"run".as_slice() {
         return run_with(options);
@@ -110,7 +114,8 @@ fn command_with(command: &[u8], options: &[Vec<u8>]) -> Result<Settings, WordFau
 
 /// The settings of `run`, with one thread and the seed 0 where they are not given.
 fn run_with(options: &[Vec<u8>]) -> Result<Settings, WordFault>
-    ensures { result ≡ run_with (options_in 2 true (bytes_of options.now)) }
+    ensures threads { IfOk result HasThreads }
+    ensures settings { result ≡ run_with (options_in 2 true (bytes_of options.now)) }
 {
     let given = options_in(2, true, options)?;
     Ok(Settings::Run {
@@ -121,7 +126,8 @@ fn run_with(options: &[Vec<u8>]) -> Result<Settings, WordFault>
 
 /// The settings of `check`, after which there is no word.
 fn check_with(options: &[Vec<u8>]) -> Result<Settings, WordFault>
-    ensures { result ≡ check_with (bytes_of options.now) }
+    ensures threads { IfOk result HasThreads }
+    ensures settings { result ≡ check_with (bytes_of options.now) }
 {
     if options.is_empty() {
         Ok(Settings::Check)
@@ -132,7 +138,8 @@ fn check_with(options: &[Vec<u8>]) -> Result<Settings, WordFault>
 
 /// The settings of `make`: the number of steps is the one word after the command.
 fn make_with(words: &[Vec<u8>]) -> Result<Settings, WordFault>
-    ensures { result ≡ make_with (bytes_of words.now) }
+    ensures threads { IfOk result HasThreads }
+    ensures settings { result ≡ make_with (bytes_of words.now) }
 {
     let Some((word, others)) = words.split_first() else {
         return Err(WordFault { code: 6, word: 2 });
@@ -147,7 +154,8 @@ fn make_with(words: &[Vec<u8>]) -> Result<Settings, WordFault>
 
 /// The settings of `large`: the number of steps, and then at most the number of threads.
 fn large_with(words: &[Vec<u8>]) -> Result<Settings, WordFault>
-    ensures { result ≡ large_with (bytes_of words.now) }
+    ensures threads { IfOk result HasThreads }
+    ensures settings { result ≡ large_with (bytes_of words.now) }
 {
     let Some((word, others)) = words.split_first() else {
         return Err(WordFault { code: 6, word: 2 });
@@ -163,7 +171,8 @@ fn large_with(words: &[Vec<u8>]) -> Result<Settings, WordFault>
 /// The options of words from this place on.
 fn options_in(place: u32, has_seed: bool, words: &[Vec<u8>]) -> Result<Options, WordFault>
     requires { place ≤ 3 }
-    ensures { result ≡ options_in place has_seed (bytes_of words.now) }
+    ensures threads { IfOk result (λ given. IfSome given.threads AreThreads) }
+    ensures options { result ≡ options_in place has_seed (bytes_of words.now) }
 {
     let mut given = Options {
         threads: None,
@@ -184,6 +193,8 @@ fn with_option(
     given: Options,
     word: &[u8],
 ) -> Result<Options, WordFault>
+    requires { IfSome given.threads AreThreads }
+    ensures threads { IfOk result (λ more. IfSome more.threads AreThreads) }
     ensures options { result
         ≡ with_option place given (after (codes "--threads=") word.now) (seed_in has_seed word.now) }
     ensures count { IfOk result (λ more. count_of more ≡ count_of given + 1) }
@@ -239,7 +250,8 @@ fn steps_of(digits: &[u8]) -> Option<u8>
 
 /// The value of an option of the word at this place, unless the option had one before.
 fn once<T: Drop>(place: u32, had: bool, value: Option<T>) -> Result<T, WordFault>
-    ensures { (earlier : Option T) → is_some earlier ≡ had → result ≡ once place earlier value }
+    ensures once { (earlier : Option T) → is_some earlier ≡ had → result ≡ once place earlier value }
+    ensures value { IfOk result (λ given. value ≡ Some given) }
 {
     if had {
         return Err(WordFault {
@@ -258,7 +270,8 @@ fn once<T: Drop>(place: u32, had: bool, value: Option<T>) -> Result<T, WordFault
 
 /// The number of threads that these digits write, 1 to 64.
 fn threads_of(digits: &[u8]) -> Option<u8>
-    ensures { result ≡ threads_of digits.now }
+    ensures value { result ≡ threads_of digits.now }
+    ensures range { IfSome result AreThreads }
 {
     if !is_number(digits) {
         return None;

@@ -3,7 +3,8 @@ ghost use Rattle.std.specs.Prelude.{◌<◌};
 use super::*;
 
 /// That no five factors of two levels have resolution 4 in eight runs.
-const NO_FIVE: &str = "factex-book 1\nsize 2 3 5 0\nresolution 4\npattern none\nO 1\nO 2\nO 4\nO 7\nW 6 25\nW 5 26\nW 3 28\nW 6 14\nW 5 13\nW 3 11\nEND\n";
+const NO_FIVE: &str =
+    "factex-book 1\nsize 2 3 5 0\nresolution 4\npattern none\nO 1\nO 2\nO 4\nO 7\nW 6 25\nW 5 26\nW 3 28\nW 6 14\nW 5 13\nW 3 11\nEND\n";
 
 /// What is listed where that book is accepted.
 const NO_FIVE_ACCEPTED: &str = "accepted\nsize 2 3 5 0\nresolution 4\npattern none\n";
@@ -78,8 +79,7 @@ fn books_are_shelved(rt: HostRuntime) -> Result<(), Fail> {
     let alloc = rt.alloc();
     let words = run_words(alloc)?;
     for (text, listing, files, status) in BOOKS {
-        let (ended, listed, shelf) =
-            planned(alloc, words.as_slice(), text.as_bytes(), STEP, None)?;
+        let (ended, listed, shelf) = planned(alloc, words.as_slice(), text.as_bytes(), STEP, None)?;
         assert_eq!(rt; ended, status, "{text}");
         assert!(rt; listed.as_slice() == listing.as_bytes(), "{text}");
         assert_eq!(rt; shelf.files(), files.len(), "{text}");
@@ -100,12 +100,22 @@ fn the_book_of_a_least_pattern_is_accepted(rt: HostRuntime) -> Result<(), Fail> 
     assert_eq!(rt; status, 0);
     assert_eq!(rt; shelf.files(), 1);
     let book = shelf.content(0);
-    assert!(rt; book.starts_with(b"factex-book 1\nsize 2 5 7 0\nresolution 3\npattern 0 0 0 1 2 0 0\n".as_slice()));
-    assert_eq!(rt; book.iter().filter(|byte| **byte == b'\n').count(), 4 + 282 + 1);
+    assert!(rt;
+        book.starts_with(
+            b"factex-book 1\nsize 2 5 7 0\nresolution 3\npattern 0 0 0 1 2 0 0\n".as_slice()
+        )
+    );
+    assert_eq!(rt;
+        book.iter().filter(|byte| **byte == b'\n').count(),
+        4 + 282 + 1
+    );
     let words = words_in(alloc, "check")?;
     let checked = ran(alloc, words.as_slice(), book, None, None)?;
     assert_eq!(rt; checked.status, 0);
-    assert!(rt; checked.listed.as_slice() == b"accepted\nsize 2 5 7 0\nresolution 3\npattern 0 0 0 1 2 0 0\n".as_slice());
+    assert!(rt;
+        checked.listed.as_slice()
+            == b"accepted\nsize 2 5 7 0\nresolution 3\npattern 0 0 0 1 2 0 0\n".as_slice()
+    );
     Ok(())
 }
 
@@ -170,13 +180,25 @@ fn no_call_follows_a_failed_one_of_a_check(rt: HostRuntime) -> Result<(), Fail> 
     let alloc = rt.alloc();
     let words = words_in(alloc, "check")?;
     for call in 1..=NO_FIVE.len().div_ceil(STEP) + 1 {
-        let ended = ran(alloc, words.as_slice(), NO_FIVE.as_bytes(), Some(call), Some(1))?;
+        let ended = ran(
+            alloc,
+            words.as_slice(),
+            NO_FIVE.as_bytes(),
+            Some(call),
+            Some(1),
+        )?;
         assert_eq!(rt; ended.status, 4);
         assert_eq!(rt; ended.failed_reads, 1);
         assert_eq!(rt; ended.failed_writes, 0);
     }
     for call in 1..=NO_FIVE_ACCEPTED.len().div_ceil(STEP) {
-        let ended = ran(alloc, words.as_slice(), NO_FIVE.as_bytes(), None, Some(call))?;
+        let ended = ran(
+            alloc,
+            words.as_slice(),
+            NO_FIVE.as_bytes(),
+            None,
+            Some(call),
+        )?;
         assert_eq!(rt; ended.status, 4);
         assert_eq!(rt; ended.failed_writes, 1);
         assert_eq!(rt; ended.listed.len(), (call - 1) * STEP);
