@@ -6,6 +6,7 @@ use fx_base::{Bytes, MemorySink, MemorySource, SureShelf};
 use fx_program::factex;
 use std::alloc::{AllocError, Global};
 use std::rt::{Env, Files};
+use std::thread::Threads;
 use std::{env, fs, io};
 
 /// How many bytes the source gives at a call, and the listing and the files take.
@@ -26,10 +27,10 @@ fn main(rt: HostRuntime) -> io::Result<()> {
     run_examples(&rt)
 }
 
-fn run_examples<R: Env + Files + Print + AllocGlobal>(rt: &R) -> io::Result<()> {
+fn run_examples<R: Env + Files + Print + AllocGlobal + Threads + Sync>(rt: &R) -> io::Result<()> {
     for name in env::args(rt)?.skip(1) {
         let text = fs::read(rt, name.as_str())?;
-        let ended = ran(rt.alloc(), text)?;
+        let ended = ran(rt, rt.alloc(), text)?;
         println!(rt; "== {name}")?;
         rt.print(ended.listing.as_str())?;
         print_files(rt, &ended.shelf)?;
@@ -50,7 +51,7 @@ fn print_files<R: Print + AllocGlobal>(rt: &R, shelf: &SureShelf) -> io::Result<
 }
 
 /// What the program under the word `run` comes to for this text.
-fn ran(alloc: Global, text: Vec<u8>) -> Result<Ended, AllocError> {
+fn ran<R: Threads + Sync>(rt: &R, alloc: Global, text: Vec<u8>) -> Result<Ended, AllocError> {
     let words = vec![in alloc; b"run".to_vec(alloc)?]?;
     let mut source = MemorySource::new(Bytes::from_vec(text), STEP, Bytes::new(alloc));
     let (Ok(mut listing), Ok(mut shelf)) = (
@@ -60,6 +61,7 @@ fn ran(alloc: Global, text: Vec<u8>) -> Result<Ended, AllocError> {
         return Err(AllocError);
     };
     let status = factex(
+        rt,
         alloc,
         words.as_slice(),
         &mut source,

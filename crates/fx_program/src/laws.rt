@@ -9,7 +9,8 @@ ghost use Rattle.fx_statements.specs.Questions.{asked, last_of, nodes_of, questi
 ghost use Rattle.fx_answer.specs.Books.{books_of};
 ghost use Rattle.fx_program.specs.Texts.{program_in};
 ghost use Rattle.fx_designs.specs.Outcomes.{Design, NoDesign};
-ghost use Rattle.fx_program.specs.Output.{ending_given, program_output, step_output};
+ghost use Rattle.fx_program.specs.declared.words.Settings.TheVariants.{Large, Run};
+ghost use Rattle.fx_program.specs.Output.{ending_given, output_for, program_output, step_output};
 ghost use Rattle.fx_jobs.specs.Laws.{IsFirstOfLeastPattern};
 ghost use Rattle.fx_program.specs.StepClaims.{
   Allows,
@@ -145,4 +146,13 @@ pub fn books_are_accepted()
 /// in the text, that of one of its bytes or of its end.
 pub fn faults_have_a_message_and_a_place()
     ensures { (text : List ℕ) → IfErr (program_in text) (HasItsMessage text) }
+{}
+
+/// The number of threads changes nothing: whatever the text, the output of a command is that of the
+/// same command with another number.
+pub fn threads_change_nothing()
+    ensures run { (threads other seed : ℕ) (text : List ℕ)
+        → output_for (Ok (Run threads seed)) text ≡ output_for (Ok (Run other seed)) text }
+    ensures large { (n threads other : ℕ) (text : List ℕ)
+        → output_for (Ok (Large n threads)) text ≡ output_for (Ok (Large n other)) text }
 {}

@@ -21,7 +21,8 @@ pub use laws::{
     designs_meet_what_is_asked_in_any_text, faults_have_a_message_and_a_place,
     first_design_is_given, greatest_status_decides, highest_resolution_in_any_text,
     least_pattern_in_any_text, least_size_in_any_text, most_blocks_in_any_text,
-    no_design_in_any_text, no_design_means_none_at_all, valid_steps_in_any_text,
+    no_design_in_any_text, no_design_means_none_at_all, threads_change_nothing,
+    valid_steps_in_any_text,
 };
 pub use making::make_text;
 pub use run::factex;
