@@ -6,6 +6,7 @@ use fx_base::{Bytes, MemorySink, MemorySource, SureShelf};
 use fx_program::factex;
 use std::alloc::{AllocError, Global};
 use std::rt::{Env, Files};
+use std::thread::Threads;
 use std::{env, fs, io};
 
 /// How many bytes the source gives at a call, and the listing and the files take.
@@ -26,10 +27,10 @@ fn main(rt: HostRuntime) -> io::Result<()> {
     run_examples(&rt)
 }
 
-fn run_examples<R: Env + Files + Print + AllocGlobal>(rt: &R) -> io::Result<()> {
+fn run_examples<R: Env + Files + Print + AllocGlobal + Threads + Sync>(rt: &R) -> io::Result<()> {
     for name in env::args(rt)?.skip(1) {
         let text = fs::read(rt, name.as_str())?;
-        let ended = ran(rt.alloc(), b"run", text)?;
+        let ended = ran(rt, rt.alloc(), b"run", text)?;
         println!(rt; "== {name}")?;
         rt.print(ended.listing.as_str())?;
         print_files(rt, &ended.shelf)?;
@@ -39,12 +40,20 @@ fn run_examples<R: Env + Files + Print + AllocGlobal>(rt: &R) -> io::Result<()> 
 }
 
 /// Prints each file of the shelf, its name before it.
-fn print_files<R: Print + AllocGlobal>(rt: &R, shelf: &SureShelf) -> io::Result<()> {
+fn print_files<R: Print + AllocGlobal + Threads + Sync>(
+    rt: &R,
+    shelf: &SureShelf,
+) -> io::Result<()> {
     for i in 0..shelf.files() {
         let name = String::from_utf8_lossy(rt.alloc(), shelf.name(i))?;
         println!(rt; "file {name}")?;
         if name.as_str().ends_with(".book") {
-            let checked = ran(rt.alloc(), b"check", shelf.content(i).to_vec(rt.alloc())?)?;
+            let checked = ran(
+                rt,
+                rt.alloc(),
+                b"check",
+                shelf.content(i).to_vec(rt.alloc())?,
+            )?;
             rt.print(checked.listing.as_str())?;
         } else {
             let content = String::from_utf8_lossy(rt.alloc(), shelf.content(i))?;
@@ -55,7 +64,12 @@ fn print_files<R: Print + AllocGlobal>(rt: &R, shelf: &SureShelf) -> io::Result<
 }
 
 /// What the program under this word comes to for this text.
-fn ran(alloc: Global, command: &[u8], text: Vec<u8>) -> Result<Ended, AllocError> {
+fn ran<R: Threads + Sync>(
+    rt: &R,
+    alloc: Global,
+    command: &[u8],
+    text: Vec<u8>,
+) -> Result<Ended, AllocError> {
     let words = vec![in alloc; command.to_vec(alloc)?]?;
     let mut source = MemorySource::new(Bytes::from_vec(text), STEP, Bytes::new(alloc));
     let (Ok(mut listing), Ok(mut shelf)) = (
@@ -65,6 +79,7 @@ fn ran(alloc: Global, command: &[u8], text: Vec<u8>) -> Result<Ended, AllocError
         return Err(AllocError);
     };
     let status = factex(
+        rt,
         alloc,
         words.as_slice(),
         &mut source,

@@ -1,4 +1,4 @@
-ghost use Rattle.std.specs.Prelude.{◌≡◌, ◌≤◌, ◌+◌, ◌^◌, List, ℕ, Option, Bool, IfOk, is_some, length};
+ghost use Rattle.std.specs.Prelude.{◌≡◌, ◌<◌, ◌≤◌, ◌+◌, ◌^◌, List, ℕ, Option, Bool, IfOk, is_some, length};
 ghost use Rattle.fx_designs.specs.Answers.{answer};
 ghost use Rattle.fx_designs.specs.Problems.{Problem};
 ghost use Rattle.fx_vectors.specs.Shape.{IsShape, dimensions_of};
@@ -34,10 +34,11 @@ ghost use Rattle.fx_answer.specs.Books.{books_from};
 use crate::booking::{add_absence, add_answer, question_number};
 use crate::question::{highest, lowest, question_for};
 use fx_base::NoMemory;
-use fx_search::{Asked, ask_alone};
+use fx_board::{Asked, Gate, ask};
 use fx_statements::{End, Outcome, Size, Step};
 use fx_vectors::{Books, Matrix, Shape};
 use std::alloc::Global;
+use std::thread::Threads;
 
 /// What the questions before have come to, which are finished.
 #[derive(Debug, Drop)]
@@ -56,10 +57,19 @@ struct Finished {
 /// the best matrix so far, if there is one. With it come the books of the finished questions without an
 /// answer or for a least pattern.
 ///
+/// Each question is searched by 1 to 64 threads; their number changes nothing.
+///
 /// # Errors
 ///
 /// `NoMemory`.
-pub fn answer(alloc: Global, step: &Step) -> Result<Outcome, NoMemory>
+pub fn answer<R: Threads + Sync, G: Gate>(
+    rt: &R,
+    alloc: Global,
+    step: &Step,
+    threads: u8,
+    gate: &G,
+) -> Result<Outcome, NoMemory>
+    requires { (0 < threads) × (threads ≤ 64) }
     ensures { IfOk result (IsOutcome (meaning_of step.now)) }
 {
     let none = Finished {
@@ -67,12 +77,21 @@ pub fn answer(alloc: Global, step: &Step) -> Result<Outcome, NoMemory>
         nodes: 0,
         books: Books::new(alloc),
     };
-    ask_from(alloc, step, lowest(step), none)
+    ask_from(rt, alloc, step, threads, gate, lowest(step), none)
 }
 
 /// Asks the questions for the numbers from `n` on, after those that are finished.
 #[cycle(asking)]
-fn ask_from(alloc: Global, step: &Step, n: u8, finished: Finished) -> Result<Outcome, NoMemory>
+fn ask_from<R: Threads + Sync, G: Gate>(
+    rt: &R,
+    alloc: Global,
+    step: &Step,
+    threads: u8,
+    gate: &G,
+    n: u8,
+    finished: Finished,
+) -> Result<Outcome, NoMemory>
+    requires threads { (0 < threads) × (threads ≤ 64) }
     requires low { lowest (meaning_of step.now) step.now.size ≤ n }
     requires high { n ≤ highest (meaning_of step.now) step.now.size }
     requires within { finished.nodes ≤ step.now.budget }
@@ -93,7 +112,14 @@ fn ask_from(alloc: Global, step: &Step, n: u8, finished: Finished) -> Result<Out
     let shape = question.shape;
     let number = question_number(step, n);
     let mut books = finished.books;
-    match ask_alone(alloc, &question, step.budget - finished.nodes)? {
+    match ask(
+        rt,
+        alloc,
+        &question,
+        step.budget - finished.nodes,
+        threads,
+        gate,
+    )? {
         Asked::Found {
             matrix,
             nodes,
@@ -105,7 +131,7 @@ fn ask_from(alloc: Global, step: &Step, n: u8, finished: Finished) -> Result<Out
                 nodes: finished.nodes + nodes,
                 books,
             };
-            go_on(alloc, step, n, shape, true, finished)
+            go_on(rt, alloc, step, threads, gate, n, shape, true, finished)
         }
         Asked::Nothing { nodes, marks } => {
             add_absence(&mut books, number, question, marks)?;
@@ -114,7 +140,7 @@ fn ask_from(alloc: Global, step: &Step, n: u8, finished: Finished) -> Result<Out
                 nodes: finished.nodes + nodes,
                 books,
             };
-            go_on(alloc, step, n, shape, false, finished)
+            go_on(rt, alloc, step, threads, gate, n, shape, false, finished)
         }
         Asked::Budget { best } => Ok(cut_short(shape, best.or(finished.found), step.budget, books)),
     }
@@ -122,14 +148,18 @@ fn ask_from(alloc: Global, step: &Step, n: u8, finished: Finished) -> Result<Out
 
 /// Asks the questions for the numbers above `n`, unless that for `n`, which is finished, is the last.
 #[cycle(asking)]
-fn go_on(
+fn go_on<R: Threads + Sync, G: Gate>(
+    rt: &R,
     alloc: Global,
     step: &Step,
+    threads: u8,
+    gate: &G,
     n: u8,
     shape: Shape,
     is_answered: bool,
     finished: Finished,
 ) -> Result<Outcome, NoMemory>
+    requires threads { (0 < threads) × (threads ≤ 64) }
     requires low { lowest (meaning_of step.now) step.now.size ≤ n }
     requires high { n ≤ highest (meaning_of step.now) step.now.size }
     requires within { finished.nodes ≤ step.now.budget }
@@ -152,7 +182,7 @@ fn go_on(
     if n == highest(step) || is_last(step.size, is_answered) {
         return Ok(concluded(shape, finished));
     }
-    ask_from(alloc, step, n + 1, finished)
+    ask_from(rt, alloc, step, threads, gate, n + 1, finished)
 }
 
 /// Whether no further question is asked after one that has an answer, or has none.

@@ -70,7 +70,8 @@ fn are_same_matrices(one: &Matrix, other: &Matrix) -> bool {
 }
 
 fn are_same_marks(one: &Marks, other: &Marks) -> bool {
-    one.len() == other.len() && (0..one.len()).all(|i| i < other.len() && one.get(i) == other.get(i))
+    one.len() == other.len()
+        && (0..one.len()).all(|i| i < other.len() && one.get(i) == other.get(i))
 }
 
 /// Whether both answers are the same, with the same nodes and marks.
@@ -137,9 +138,11 @@ fn threads_agree_at_the_nodes<R: Threads + Sync>(
     requires { IsValid question.now }
 {
     let nodes = nodes_of(&ask_alone(alloc, question, 1_000_000)?).min(1_000_000);
-    Ok(threads_agree(rt, alloc, question, nodes)?
-        && threads_agree(rt, alloc, question, nodes + 1)?
-        && threads_agree(rt, alloc, question, nodes.saturating_sub(1))?)
+    Ok(
+        threads_agree(rt, alloc, question, nodes)?
+            && threads_agree(rt, alloc, question, nodes + 1)?
+            && threads_agree(rt, alloc, question, nodes.saturating_sub(1))?,
+    )
 }
 
 /// Levels, run indexes, factors, block factors, the resolution, or 0 for the main effects of A and B, and

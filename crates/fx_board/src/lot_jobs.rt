@@ -62,11 +62,7 @@ impl<'a, 'b> Jobs for LotJobs<'a, 'b> {
 }
 
 /// Takes a searcher to a lot, where it is not at it.
-fn go_to_lot(
-    worker: &mut Searcher,
-    lot: &Matrix,
-    best: Option<&Matrix>,
-) -> Result<(), NoMemory>
+fn go_to_lot(worker: &mut Searcher, lot: &Matrix, best: Option<&Matrix>) -> Result<(), NoMemory>
     requires lot { IsLotAfter worker.old.question.now lot.now (option_copied best) }
     requires place { CanEnter worker.old.question.now lot.now.rows worker.old }
     ensures question { worker.new.question ≡ worker.old.question }

@@ -254,9 +254,25 @@ seeds :
     × (settings_of (codes "run" ∷ codes "--seed=+1" ∷ codes "--seed=1" ∷ []) ≡ word_fault 4 2)
     × (settings_of (codes "run" ∷ codes "--seed" ∷ []) ≡ word_fault 3 2)
     × (settings_of (codes "run" ∷ codes "--seed=1" ∷ codes "--seed=x" ∷ []) ≡ word_fault 5 3)
-    × (settings_of (codes "run" ∷ codes "--seed=1" ∷ codes "--threads=2" ∷ []) ≡ word_fault 3 3)
 unfolding settings_of
-seeds = (refl, refl, refl, refl, refl, refl, refl, refl, refl, refl)
+seeds = (refl, refl, refl, refl, refl, refl, refl, refl, refl)
+
+-- the number of threads of `run` and `large`, from 1 to 64: at most once, before the seed or after it
+numbers_of_threads :
+    (settings_of (codes "run" ∷ codes "--seed=1" ∷ codes "--threads=2" ∷ []) ≡ Ok (Run 2 1))
+    × (settings_of (codes "run" ∷ codes "--threads=64" ∷ codes "--seed=1" ∷ []) ≡ Ok (Run 64 1))
+    × (settings_of (codes "run" ∷ codes "--threads=0" ∷ []) ≡ word_fault 4 2)
+    × (settings_of (codes "run" ∷ codes "--threads=65" ∷ []) ≡ word_fault 4 2)
+    × (settings_of (codes "run" ∷ codes "--threads=" ∷ []) ≡ word_fault 4 2)
+    × (settings_of (codes "run" ∷ codes "--threads=2" ∷ codes "--threads=2" ∷ []) ≡ word_fault 5 3)
+    × (settings_of (codes "run" ∷ codes "--threads=2" ∷ codes "--threads=x" ∷ []) ≡ word_fault 5 3)
+    × (settings_of (codes "run" ∷ codes "--threads=2" ∷ codes "--seed=1" ∷ codes "--seed=1" ∷ []) ≡ word_fault 5 4)
+    × (settings_of (codes "run" ∷ codes "--thread=2" ∷ []) ≡ word_fault 3 2)
+    × (settings_of (codes "large" ∷ codes "1" ∷ codes "--threads=2" ∷ []) ≡ Ok (Large 1 2))
+    × (settings_of (codes "large" ∷ codes "1" ∷ codes "--seed=2" ∷ []) ≡ word_fault 3 3)
+    × (settings_of (codes "large" ∷ codes "1" ∷ codes "--threads=2" ∷ codes "--threads=3" ∷ []) ≡ word_fault 5 4)
+unfolding settings_of
+numbers_of_threads = (refl, refl, refl, refl, refl, refl, refl, refl, refl, refl, refl, refl)
 
 -- the number of steps of `make` and `large`: one word, of at most 20 digits, from 1 to 100
 numbers_of_steps :
@@ -270,9 +286,8 @@ numbers_of_steps :
     × (settings_of (codes "make" ∷ codes "--threads=2" ∷ []) ≡ word_fault 4 2)
     × (settings_of (codes "make" ∷ codes "000000000000000000001" ∷ []) ≡ word_fault 4 2)
     × (settings_of (codes "make" ∷ codes "1" ∷ codes "1" ∷ []) ≡ word_fault 3 3)
-    × (settings_of (codes "large" ∷ codes "1" ∷ codes "--threads=2" ∷ []) ≡ word_fault 3 3)
 unfolding settings_of
-numbers_of_steps = (refl, refl, refl, refl, refl, refl, refl, refl, refl, refl, refl)
+numbers_of_steps = (refl, refl, refl, refl, refl, refl, refl, refl, refl, refl)
 
 -- the text of two steps; a step of three levels that asks for least aberration
 made_steps :

@@ -25,3 +25,4 @@ pub mod MadeSteps
 pub mod NameSpellings
 pub mod StepCounts
 pub mod FileNames
+pub mod GivenOptions

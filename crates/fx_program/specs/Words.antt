@@ -1,9 +1,10 @@
 -- What the words of the command line ask for.
-use Rattle.std.specs.Prelude.{ℕ, ◌^◌, nat_le, nat_lt, ◌&&◌, Bool, List, [], ◌∷◌, ◌++◌, if◌then◌else◌, Option, Some, None, Result, Ok, Err, Vec, map, take, drop, length, codes, decimal}
+use Rattle.std.specs.Prelude.{ℕ, ◌+◌, ◌^◌, ◌<◌, ◌≤◌, nat_le, nat_lt, ◌&&◌, Bool, true, false, unwrap_or, is_some, List, [], ◌∷◌, ◌++◌, if◌then◌else◌, Option, Some, None, Result, Ok, Err, Vec, map, take, drop, length, codes, decimal}
 use Rattle.std.specs.List.{list_all}
 use Rattle.std.specs.Str.{bytes_eq}
 use Rattle.std.specs.Str.Parse.{digits_value}
 use Rattle.fx_lexer.specs.Bytes.{is_digit}
+use Rattle.fx_program.specs.declared.words.Options.{Options}
 use Rattle.fx_program.specs.declared.words.Settings.{Settings}
 use Rattle.fx_program.specs.declared.words.Settings.TheVariants.{Run, Check, Make, Large}
 use Rattle.fx_program.specs.declared.words.WordFault.{WordFault}
@@ -29,30 +30,57 @@ abbrev pub seed_of : List ℕ → Option ℕ
 seed_of digits = if is_number digits && nat_lt (digits_value 10 digits) (2 ^ 64) then Some (digits_value 10 digits) else None
 
 -- the value of an option of the word at this place, or 4 where there is none
-abbrev pub value_at : ℕ → Option ℕ → Result ℕ WordFault
+abbrev pub value_at : {T : Type 0} → ℕ → Option T → Result T WordFault
 value_at place None = word_fault 4 place
 value_at place (Some n) = Ok n
 
--- the seed of the word at this place, by what follows `--seed=` in it; 3 where the word does not begin so
-abbrev pub seed_at : ℕ → Option (List ℕ) → Result ℕ WordFault
-seed_at place None = word_fault 3 place
-seed_at place (Some digits) = value_at place (seed_of digits)
+-- the number of threads that these digits write: 1 to 64
+abbrev pub threads_of : List ℕ → Option ℕ
+threads_of digits = if is_number digits && (nat_le 1 (digits_value 10 digits) && nat_le (digits_value 10 digits) 64) then Some (digits_value 10 digits) else None
 
--- a second option, by what follows `--seed=` in it: 5 where that option is repeated, 3 where it is no option
-abbrev pub second_option : Option (List ℕ) → Result Settings WordFault
-second_option None = word_fault 3 3
-second_option (Some digits) = word_fault 5 3
+-- the value of an option of the word at this place, and 5 where the option had a value before
+abbrev pub once : {T : Type 0} → ℕ → Option T → Option T → Result T WordFault
+once place (Some earlier) value = word_fault 5 place
+once place None value = value_at place value
 
--- the settings of `run` where the first option gives this seed, and these options follow
-abbrev pub seeded : List (List ℕ) → Result ℕ WordFault → Result Settings WordFault
-seeded options (Err fault) = Err fault
-seeded [] (Ok seed) = Ok (Run 1 seed)
-seeded (option ∷ options) (Ok seed) = second_option (after (codes "--seed=") option)
+-- the options with this number of threads, or with this seed
+abbrev pub add_threads : Options → Result ℕ WordFault → Result Options WordFault
+add_threads given (Ok n) = Ok (record { threads = Some n; seed = given.seed })
+add_threads given (Err fault) = Err fault
 
--- the settings of `run` with these options: a seed, at most once, or else 0
-abbrev pub run_with : List (List ℕ) → Result Settings WordFault
-run_with [] = Ok (Run 1 0)
-run_with (option ∷ options) = seeded options (seed_at 2 (after (codes "--seed=") option))
+abbrev pub add_seed : Options → Result ℕ WordFault → Result Options WordFault
+add_seed given (Ok n) = Ok (record { threads = given.threads; seed = Some n })
+add_seed given (Err fault) = Err fault
+
+-- the options with that of the word at this place, by what follows `--threads=` in it, or else `--seed=`; 3 where neither does
+abbrev pub with_option : ℕ → Options → Option (List ℕ) → Option (List ℕ) → Result Options WordFault
+with_option place given (Some digits) seed = add_threads given (once place given.threads (threads_of digits))
+with_option place given None (Some digits) = add_seed given (once place given.seed (seed_of digits))
+with_option place given None None = word_fault 3 place
+
+-- what follows `--seed=` in a word, for a command that has a seed
+abbrev pub seed_in : Bool → List ℕ → Option (List ℕ)
+seed_in has_seed word = if has_seed then after (codes "--seed=") word else None
+
+-- the options with those of words from this place on
+abbrev pub options_behind : ℕ → Bool → Result Options WordFault → List (List ℕ) → Result Options WordFault
+options_behind place has_seed (Err fault) words = Err fault
+options_behind place has_seed (Ok given) [] = Ok given
+options_behind place has_seed (Ok given) (word ∷ words) =
+    options_behind (place + 1) has_seed (with_option place given (after (codes "--threads=") word) (seed_in has_seed word)) words
+
+-- how many options are given
+abbrev pub count_of : Options → ℕ
+count_of given = (if is_some given.threads then 1 else 0) + (if is_some given.seed then 1 else 0)
+
+-- the options of words from this place on
+abbrev pub options_in : ℕ → Bool → List (List ℕ) → Result Options WordFault
+options_in place has_seed words = options_behind place has_seed (Ok (record { threads = None; seed = None })) words
+
+-- the settings of `run`: one thread and the seed 0 where they are not given
+abbrev pub run_with : Result Options WordFault → Result Settings WordFault
+run_with (Err fault) = Err fault
+run_with (Ok given) = Ok (Run (unwrap_or given.threads 1) (unwrap_or given.seed 0))
 
 -- the number of steps that these digits write: 1 to 100
 abbrev pub steps_of : List ℕ → Option ℕ
@@ -68,19 +96,27 @@ alone others (Err fault) = Err fault
 alone [] (Ok n) = Ok n
 alone (other ∷ others) (Ok n) = word_fault 3 3
 
--- the number of steps that is the one word after the command
-abbrev pub steps_in : List (List ℕ) → Result ℕ WordFault
-steps_in [] = word_fault 6 2
-steps_in (word ∷ others) = alone others (steps_at 2 word)
+-- the settings of `make`: the number of steps is the one word after the command
+abbrev pub made_by : Result ℕ WordFault → Result Settings WordFault
+made_by (Err fault) = Err fault
+made_by (Ok n) = Ok (Make n)
 
--- the settings of `make` and of `large` by this number
-abbrev pub make_with : Result ℕ WordFault → Result Settings WordFault
-make_with (Err fault) = Err fault
-make_with (Ok n) = Ok (Make n)
+abbrev pub make_with : List (List ℕ) → Result Settings WordFault
+make_with [] = word_fault 6 2
+make_with (word ∷ others) = made_by (alone others (steps_at 2 word))
 
-abbrev pub large_with : Result ℕ WordFault → Result Settings WordFault
-large_with (Err fault) = Err fault
-large_with (Ok n) = Ok (Large n 1)
+-- the settings of `large`: the number of steps, and then at most the number of threads
+abbrev pub large_by : ℕ → Result Options WordFault → Result Settings WordFault
+large_by n (Err fault) = Err fault
+large_by n (Ok given) = Ok (Large n (unwrap_or given.threads 1))
+
+abbrev pub large_behind : List (List ℕ) → Result ℕ WordFault → Result Settings WordFault
+large_behind others (Err fault) = Err fault
+large_behind others (Ok n) = large_by n (options_in 3 false others)
+
+abbrev pub large_with : List (List ℕ) → Result Settings WordFault
+large_with [] = word_fault 6 2
+large_with (word ∷ others) = large_behind others (steps_at 2 word)
 
 -- the settings of `check`, after which there is no word
 abbrev pub check_with : List (List ℕ) → Result Settings WordFault
@@ -91,18 +127,29 @@ check_with (other ∷ others) = word_fault 3 2
 abbrev pub command_with : List ℕ → List (List ℕ) → Result Settings WordFault
 command_with word options =
     (if bytes_eq word (codes "run")
-    then run_with options
+    then run_with (options_in 2 true options)
     else (if bytes_eq word (codes "check")
     then check_with options
     else (if bytes_eq word (codes "make")
-    then make_with (steps_in options)
-    else (if bytes_eq word (codes "large") then large_with (steps_in options) else word_fault 2 1))))
+    then make_with options
+    else (if bytes_eq word (codes "large") then large_with options else word_fault 2 1))))
 
 -- 1: there is no word. 2: the first word is no command. 3: a word is no option of the command. 4: a number is none of 1 to 20 digits,
 -- or is not in its range. 5: the option is repeated. 6: the number of `make` or `large` is missing.
 unfoldable pub settings_of : List (List ℕ) → Result Settings WordFault
 settings_of [] = word_fault 1 1
 settings_of (word ∷ options) = command_with word options
+
+-- from 1 to 64 threads
+abbrev pub AreThreads : ℕ → Type 0
+AreThreads n = (0 < n) × (n ≤ 64)
+
+-- the settings have so many
+abbrev pub HasThreads : Settings → Type 0
+HasThreads (Run threads seed) = AreThreads threads
+HasThreads Check = Unit {0}
+HasThreads (Make n) = Unit {0}
+HasThreads (Large n threads) = AreThreads threads
 
 -- the line that tells the fault: its code, and at which word
 abbrev pub word_line : WordFault → List ℕ

@@ -13,7 +13,8 @@ ghost use Rattle.fx_text.specs.Names.{is_same_name};
 ghost use Rattle.fx_program.specs.Files.{names_among};
 ghost use Rattle.fx_program.specs.Texts.{program_in};
 ghost use Rattle.fx_designs.specs.Outcomes.{Design, NoDesign};
-ghost use Rattle.fx_program.specs.Output.{ending_given, program_output, step_output};
+ghost use Rattle.fx_program.specs.declared.words.Settings.TheVariants.{Large, Run};
+ghost use Rattle.fx_program.specs.Output.{ending_given, output_for, program_output, step_output};
 ghost use Rattle.fx_jobs.specs.Laws.{IsFirstOfLeastPattern};
 ghost use Rattle.fx_program.specs.StepClaims.{
   Allows,
@@ -160,4 +161,13 @@ pub fn made_texts_are_programs()
 pub fn file_names_differ()
     ensures { (seed : ℕ) (text : List ℕ)
         → IsDistinct is_same_name (names_among (program_output seed (program_in text)).events) }
+{}
+
+/// The number of threads changes nothing: whatever the text, the output of a command is that of the
+/// same command with another number.
+pub fn threads_change_nothing()
+    ensures run { (threads other seed : ℕ) (text : List ℕ)
+        → output_for (Ok (Run threads seed)) text ≡ output_for (Ok (Run other seed)) text }
+    ensures large { (n threads other : ℕ) (text : List ℕ)
+        → output_for (Ok (Large n threads)) text ≡ output_for (Ok (Large n other)) text }
 {}

@@ -20,7 +20,7 @@ pub use laws::{
     first_design_is_given, greatest_status_decides, highest_resolution_in_any_text,
     least_pattern_in_any_text, least_size_in_any_text, made_texts_are_programs,
     most_blocks_in_any_text, no_design_in_any_text, no_design_means_none_at_all,
-    valid_steps_in_any_text,
+    threads_change_nothing, valid_steps_in_any_text,
 };
 pub use making::make_text;
 pub use run::factex;

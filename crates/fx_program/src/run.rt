@@ -4,7 +4,7 @@ ghost use Rattle.fx_statements.specs.Steps.{meaning_of};
 ghost use Rattle.fx_statements.specs.Outcomes.{ending_in};
 ghost use Rattle.fx_alias.specs.Sections.{step_lines};
 ghost use Rattle.fx_answer.specs.Outcomes.{IsOutcome};
-ghost use Rattle.fx_program.specs.Words.{bytes_of, settings_of};
+ghost use Rattle.fx_program.specs.Words.{AreThreads, bytes_of, settings_of};
 ghost use Rattle.fx_program.specs.Making.{made_text};
 ghost use Rattle.fx_program.specs.Texts.{program_in};
 ghost use Rattle.fx_program.specs.Claims.{SomeHasNone};
@@ -40,9 +40,11 @@ use crate::words::{Settings, read_words, word_line};
 use fx_alias::{examine_listing, head_listing, rules_listing};
 use fx_answer::answer;
 use fx_base::{Bytes, NoMemory, Shelf, Sink, Source, Taken, read_all, write_all};
+use fx_board::FreeGate;
 use fx_statements::{Outcome, Step};
 use fx_vectors::Matrix;
 use std::alloc::Global;
+use std::thread::Threads;
 
 /// The greatest number of bytes of a program text.
 const TEXT_LIMIT: usize = 1048576;
@@ -60,7 +62,8 @@ const TEXT_LIMIT: usize = 1048576;
 /// - 3: the words or the text are refused;
 /// - 4: a call on the source, the listing or the shelf failed;
 /// - 5: memory ran out.
-pub fn factex<S: Source, K: Sink, F: Shelf>(
+pub fn factex<R: Threads + Sync, S: Source, K: Sink, F: Shelf>(
+    rt: &R,
     alloc: Global,
     words: &[Vec<u8>],
     source: &mut S,
@@ -105,30 +108,29 @@ pub fn factex<S: Source, K: Sink, F: Shelf>(
 {
     match read_words(words) {
         Ok(settings) => match settings {
-            Settings::Run {
-                threads: _threads,
-                seed,
-            } => exit_status(run(alloc, seed, source, listing, shelf)),
+            Settings::Run { threads, seed } => {
+                exit_status(run(rt, alloc, threads, seed, source, listing, shelf))
+            }
             Settings::Check => exit_status(check(alloc, source, listing)),
             Settings::Make { n } => exit_status(make(alloc, n, listing)),
-            Settings::Large {
-                n,
-                threads: _threads,
-            } => exit_status(large(alloc, n, listing)),
+            Settings::Large { n, threads } => { exit_status(large(rt, alloc, threads, n, listing)) }
         },
         Err(fault) => exit_status(list(listing, word_line(fault).as_slice(), REFUSED)),
     }
 }
 
-/// The command `run`, with this seed.
-fn run<S: Source, K: Sink, F: Shelf>(
+/// The command `run`, with so many threads and this seed.
+fn run<R: Threads + Sync, S: Source, K: Sink, F: Shelf>(
+    rt: &R,
     alloc: Global,
+    threads: u8,
     seed: u64,
     source: &mut S,
     listing: &mut K,
     shelf: &mut F,
 ) -> Result<u8, Stop>
-    requires { F.begun shelf.old ≡ false }
+    requires threads { AreThreads threads }
+    requires shelf { F.begun shelf.old ≡ false }
     ensures status_range { IfOk result (λ status. status < 4) }
     ensures output { RunsForSome seed (S.left source.old)
         (world (K.written listing.old) (F.files shelf.old))
@@ -152,21 +154,24 @@ fn run<S: Source, K: Sink, F: Shelf>(
         Taken::TooLong => return refuse(alloc, at_front(25), listing),
     };
     match read_program(alloc, text.as_slice()) {
-        Ok(program) => run_steps(alloc, program.as_slice(), seed, listing, shelf),
+        Ok(program) => run_steps(rt, alloc, threads, program.as_slice(), seed, listing, shelf),
         Err(TextStop::Fault(fault)) => refuse(alloc, fault, listing),
         Err(TextStop::NoMemory) => Err(Stop::NoMemory),
     }
 }
 
 /// Runs the steps of a program in order. The greatest of their statuses is the program's.
-fn run_steps<K: Sink, F: Shelf>(
+fn run_steps<R: Threads + Sync, K: Sink, F: Shelf>(
+    rt: &R,
     alloc: Global,
+    threads: u8,
     steps: &[Step],
     seed: u64,
     listing: &mut K,
     shelf: &mut F,
 ) -> Result<u8, Stop>
-    requires { F.begun shelf.old ≡ false }
+    requires threads { AreThreads threads }
+    requires shelf { F.begun shelf.old ≡ false }
     ensures status_range { IfOk result (λ status. status < 4) }
     ensures output { Gives (program_output seed (Ok (map meaning_of steps.now)))
         (world (K.written listing.old) (F.files shelf.old))
@@ -179,22 +184,25 @@ fn run_steps<K: Sink, F: Shelf>(
 {
     let mut status = 0;
     for (i, step) in steps.iter().enumerate() {
-        let ended = run_step(alloc, i + 1, step, seed, listing, shelf)?;
+        let ended = run_step(rt, alloc, threads, i + 1, step, seed, listing, shelf)?;
         status = worse(status, ended);
     }
     Ok(status)
 }
 
 /// Runs the step of this number: shelves its books and its plans, and then lists its outcome.
-fn run_step<K: Sink, F: Shelf>(
+fn run_step<R: Threads + Sync, K: Sink, F: Shelf>(
+    rt: &R,
     alloc: Global,
+    threads: u8,
     number: usize,
     step: &Step,
     seed: u64,
     listing: &mut K,
     shelf: &mut F,
 ) -> Result<u8, Stop>
-    requires { F.begun shelf.old ≡ false }
+    requires threads { AreThreads threads }
+    requires shelf { F.begun shelf.old ≡ false }
     ensures status_range { IfOk result (λ status. status < 4) }
     ensures output { Gives (step_output seed number (meaning_of step.now))
         (world (K.written listing.old) (F.files shelf.old))
@@ -205,7 +213,7 @@ fn run_step<K: Sink, F: Shelf>(
         × (F.room shelf.new ≡ F.room shelf.old) }
     ensures closed { OnOk result (F.begun shelf.new ≡ false) }
 {
-    let outcome = answer(alloc, step)?;
+    let outcome = answer(rt, alloc, step, threads, &FreeGate)?;
     shelve_files(alloc, number, step, &outcome, seed, shelf)?;
     let mut lines = lines_of(alloc, number, step, &outcome)?;
     put_output_lines(&mut lines, step, &outcome, seed)?;
@@ -283,7 +291,14 @@ fn make<K: Sink>(alloc: Global, n: u8, listing: &mut K) -> Result<u8, Stop>
 }
 
 /// The command `large`, for a text of so many steps: answers them in order, and lists their summary.
-fn large<K: Sink>(alloc: Global, n: u8, listing: &mut K) -> Result<u8, Stop>
+fn large<R: Threads + Sync, K: Sink>(
+    rt: &R,
+    alloc: Global,
+    threads: u8,
+    n: u8,
+    listing: &mut K,
+) -> Result<u8, Stop>
+    requires { AreThreads threads }
     ensures status_range { IfOk result (λ status. status < 4) }
     ensures output { Lists (large_output (program_in (made_text n)))
         (K.written listing.old) (K.written listing.new) (exit_status result) }
@@ -294,21 +309,28 @@ fn large<K: Sink>(alloc: Global, n: u8, listing: &mut K) -> Result<u8, Stop>
     let mut text = Bytes::new(alloc);
     make_text(n, &mut text)?;
     match read_program(alloc, text.as_slice()) {
-        Ok(program) => sum_up(alloc, program.as_slice(), listing),
+        Ok(program) => sum_up(rt, alloc, threads, program.as_slice(), listing),
         Err(TextStop::Fault(fault)) => refuse(alloc, fault, listing),
         Err(TextStop::NoMemory) => Err(Stop::NoMemory),
     }
 }
 
 /// Lists the summary of the steps of a program.
-fn sum_up<K: Sink>(alloc: Global, steps: &[Step], listing: &mut K) -> Result<u8, Stop>
+fn sum_up<R: Threads + Sync, K: Sink>(
+    rt: &R,
+    alloc: Global,
+    threads: u8,
+    steps: &[Step],
+    listing: &mut K,
+) -> Result<u8, Stop>
+    requires { AreThreads threads }
     ensures status_range { IfOk result (λ status. status < 4) }
     ensures output { Lists (large_output (Ok (map meaning_of steps.now)))
         (K.written listing.old) (K.written listing.new) (exit_status result) }
     ensures cause { HasCause (K.faults listing.old ∷ []) (K.faults listing.new ∷ []) result }
     ensures room { K.room listing.new ≡ K.room listing.old }
 {
-    let summary = summary_of(alloc, steps)?;
+    let summary = summary_of(rt, alloc, steps, threads)?;
     let mut lines = Bytes::new(alloc);
     put_summary(&mut lines, steps.len(), &summary)?;
     list(listing, lines.as_slice(), summary.status)

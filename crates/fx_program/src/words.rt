@@ -1,23 +1,28 @@
-ghost use Rattle.std.specs.Prelude.{◌≡◌, ◌≤◌, ◌+◌, ◌++◌, codes, length};
+ghost use Rattle.std.specs.Prelude.{◌≡◌, ◌≤◌, ◌+◌, ◌++◌, codes, length, true, false, Option, Some, is_some, IfOk, IfSome};
 ghost use Rattle.std.specs.List.{list_all};
 ghost use Rattle.std.specs.Str.{bytes_eq};
 ghost use Rattle.fx_lexer.specs.Bytes.{is_digit};
 ghost use Rattle.fx_program.specs.Words.{
+  AreThreads,
+  HasThreads,
   after,
-  alone,
   bytes_of,
   check_with,
   command_with,
+  count_of,
   is_number,
+  large_with,
+  make_with,
+  once,
+  options_in,
   run_with,
-  second_option,
-  seed_at,
+  seed_in,
   seed_of,
-  seeded,
   settings_of,
   steps_at,
-  steps_in,
   steps_of,
+  threads_of,
+  with_option,
   word_line,
 };
 
@@ -28,6 +33,9 @@ use itoa::Buffer;
 /// The room of a line that reports a fault: its two numbers have at most 40 digits each.
 const LINE: usize = 128;
 
+/// How the option for the number of threads begins.
+const THREADS: &[u8] = b"--threads=";
+
 /// How the option for the seed begins.
 const SEED: &[u8] = b"--seed=";
 
@@ -36,7 +44,7 @@ const SEED: &[u8] = b"--seed=";
 pub enum Settings {
     /// Runs the program text that is read.
     Run {
-        /// How many threads search; 1 so far.
+        /// How many threads search, 1 to 64.
         threads: u8,
         /// What random numbers start from, where a statement has no seed of its own.
         seed: u64,
@@ -50,7 +58,7 @@ pub enum Settings {
     /// Runs the program text of so many steps, and writes how many have a design.
     Large {
         n: u8,
-        /// How many threads search; 1 so far.
+        /// How many threads search, 1 to 64.
         threads: u8,
     },
 }
@@ -68,7 +76,8 @@ pub struct WordFault {
 
 /// The settings that the words ask for, or the first fault. Takes no memory.
 pub fn read_words(words: &[Vec<u8>]) -> Result<Settings, WordFault>
-    ensures { result ≡ settings_of (bytes_of words.now) }
+    ensures settings { result ≡ settings_of (bytes_of words.now) }
+    ensures threads { IfOk result HasThreads }
 {
     match words.split_first() {
         Some((command, options)) => command_with(command.as_slice(), options),
@@ -76,9 +85,17 @@ pub fn read_words(words: &[Vec<u8>]) -> Result<Settings, WordFault>
     }
 }
 
+/// The options of the words, as far as they are given.
+#[derive(Debug, Clone, Copy)]
+struct Options {
+    threads: Option<u8>,
+    seed: Option<u64>,
+}
+
 /// The settings of a command with these options.
 fn command_with(command: &[u8], options: &[Vec<u8>]) -> Result<Settings, WordFault>
-    ensures { result ≡ command_with command.now (bytes_of options.now) }
+    ensures settings { result ≡ command_with command.now (bytes_of options.now) }
+    ensures threads { IfOk result HasThreads }
 {
     if command == b"run".as_slice() {
         return run_with(options);
@@ -87,19 +104,30 @@ fn command_with(command: &[u8], options: &[Vec<u8>]) -> Result<Settings, WordFau
         return check_with(options);
     }
     if command == b"make".as_slice() {
-        let n = steps_in(options)?;
-        return Ok(Settings::Make { n });
+        return make_with(options);
     }
     if command == b"large".as_slice() {
-        let n = steps_in(options)?;
-        return Ok(Settings::Large { n, threads: 1 });
+        return large_with(options);
     }
     Err(WordFault { code: 2, word: 1 })
 }
 
+/// The settings of `run`, with one thread and the seed 0 where they are not given.
+fn run_with(options: &[Vec<u8>]) -> Result<Settings, WordFault>
+    ensures threads { IfOk result HasThreads }
+    ensures settings { result ≡ run_with (options_in 2 true (bytes_of options.now)) }
+{
+    let given = options_in(2, true, options)?;
+    Ok(Settings::Run {
+        threads: given.threads.unwrap_or(1),
+        seed: given.seed.unwrap_or(0),
+    })
+}
+
 /// The settings of `check`, after which there is no word.
 fn check_with(options: &[Vec<u8>]) -> Result<Settings, WordFault>
-    ensures { result ≡ check_with (bytes_of options.now) }
+    ensures threads { IfOk result HasThreads }
+    ensures settings { result ≡ check_with (bytes_of options.now) }
 {
     if options.is_empty() {
         Ok(Settings::Check)
@@ -108,26 +136,90 @@ fn check_with(options: &[Vec<u8>]) -> Result<Settings, WordFault>
     }
 }
 
-/// The number of steps that is the one word after the command.
-fn steps_in(words: &[Vec<u8>]) -> Result<u8, WordFault>
-    ensures { result ≡ steps_in (bytes_of words.now) }
+/// The settings of `make`: the number of steps is the one word after the command.
+fn make_with(words: &[Vec<u8>]) -> Result<Settings, WordFault>
+    ensures threads { IfOk result HasThreads }
+    ensures settings { result ≡ make_with (bytes_of words.now) }
 {
-    match words.split_first() {
-        Some((word, others)) => alone(others, steps_at(2, word.as_slice())),
-        None => Err(WordFault { code: 6, word: 2 }),
-    }
-}
-
-/// The number that no word follows.
-fn alone(others: &[Vec<u8>], number: Result<u8, WordFault>) -> Result<u8, WordFault>
-    ensures { result ≡ alone (bytes_of others.now) number }
-{
-    let number = number?;
+    let Some((word, others)) = words.split_first() else {
+        return Err(WordFault { code: 6, word: 2 });
+    };
+    let n = steps_at(2, word.as_slice())?;
     if others.is_empty() {
-        Ok(number)
+        Ok(Settings::Make { n })
     } else {
         Err(WordFault { code: 3, word: 3 })
     }
+}
+
+/// The settings of `large`: the number of steps, and then at most the number of threads.
+fn large_with(words: &[Vec<u8>]) -> Result<Settings, WordFault>
+    ensures threads { IfOk result HasThreads }
+    ensures settings { result ≡ large_with (bytes_of words.now) }
+{
+    let Some((word, others)) = words.split_first() else {
+        return Err(WordFault { code: 6, word: 2 });
+    };
+    let n = steps_at(2, word.as_slice())?;
+    let given = options_in(3, false, others)?;
+    Ok(Settings::Large {
+        n,
+        threads: given.threads.unwrap_or(1),
+    })
+}
+
+/// The options of words from this place on.
+fn options_in(place: u32, has_seed: bool, words: &[Vec<u8>]) -> Result<Options, WordFault>
+    requires { place ≤ 3 }
+    ensures threads { IfOk result (λ given. IfSome given.threads AreThreads) }
+    ensures options { result ≡ options_in place has_seed (bytes_of words.now) }
+{
+    let mut given = Options {
+        threads: None,
+        seed: None,
+    };
+    let mut at = place;
+    for word in words {
+        given = with_option(at, has_seed, given, word.as_slice())?;
+        at += 1;
+    }
+    Ok(given)
+}
+
+/// The options with that of the word at this place.
+fn with_option(
+    place: u32,
+    has_seed: bool,
+    given: Options,
+    word: &[u8],
+) -> Result<Options, WordFault>
+    requires { IfSome given.threads AreThreads }
+    ensures threads { IfOk result (λ more. IfSome more.threads AreThreads) }
+    ensures options { result
+        ≡ with_option place given (after (codes "--threads=") word.now) (seed_in has_seed word.now) }
+    ensures count { IfOk result (λ more. count_of more ≡ count_of given + 1) }
+    ensures few { count_of given ≤ 2 }
+{
+    if let Some(digits) = word.strip_prefix(THREADS) {
+        let threads = once(place, given.threads.is_some(), threads_of(digits))?;
+        return Ok(Options {
+            threads: Some(threads),
+            seed: given.seed,
+        });
+    }
+    if has_seed {
+        if let Some(digits) = word.strip_prefix(SEED) {
+            let seed = once(place, given.seed.is_some(), seed_of(digits))?;
+            return Ok(Options {
+                threads: given.threads,
+                seed: Some(seed),
+            });
+        }
+    }
+    Err(WordFault {
+        code: 3,
+        word: place,
+    })
 }
 
 /// The number of steps of the word at this place.
@@ -156,56 +248,37 @@ fn steps_of(digits: &[u8]) -> Option<u8>
     }
 }
 
-/// The settings of `run` with these options: a seed, at most once, or else 0.
-fn run_with(options: &[Vec<u8>]) -> Result<Settings, WordFault>
-    ensures { result ≡ run_with (bytes_of options.now) }
+/// The value of an option of the word at this place, unless the option had one before.
+fn once<T: Drop>(place: u32, had: bool, value: Option<T>) -> Result<T, WordFault>
+    ensures once { (earlier : Option T) → is_some earlier ≡ had → result ≡ once place earlier value }
+    ensures value { IfOk result (λ given. value ≡ Some given) }
 {
-    match options.split_first() {
-        Some((option, others)) => seeded(others, seed_at(2, option.as_slice())),
-        None => Ok(Settings::Run {
-            threads: 1,
-            seed: 0,
-        }),
-    }
-}
-
-/// The settings of `run` where the first option gives this seed, and these options follow.
-fn seeded(options: &[Vec<u8>], seed: Result<u64, WordFault>) -> Result<Settings, WordFault>
-    ensures { result ≡ seeded (bytes_of options.now) seed }
-{
-    let seed = seed?;
-    match options.first() {
-        Some(option) => Err(second_option(option.as_slice())),
-        None => Ok(Settings::Run { threads: 1, seed }),
-    }
-}
-
-/// Why a second option is refused.
-fn second_option(word: &[u8]) -> WordFault
-    ensures { second_option (after (codes "--seed=") word.now) ≡ Err result }
-{
-    match word.strip_prefix(SEED) {
-        Some(_digits) => WordFault { code: 5, word: 3 },
-        None => WordFault { code: 3, word: 3 },
-    }
-}
-
-/// The seed of the word at this place.
-fn seed_at(place: u32, word: &[u8]) -> Result<u64, WordFault>
-    ensures { result ≡ seed_at place (after (codes "--seed=") word.now) }
-{
-    let Some(digits) = word.strip_prefix(SEED) else {
+    if had {
         return Err(WordFault {
-            code: 3,
+            code: 5,
             word: place,
         });
-    };
-    match seed_of(digits) {
-        Some(seed) => Ok(seed),
+    }
+    match value {
+        Some(value) => Ok(value),
         None => Err(WordFault {
             code: 4,
             word: place,
         }),
+    }
+}
+
+/// The number of threads that these digits write, 1 to 64.
+fn threads_of(digits: &[u8]) -> Option<u8>
+    ensures value { result ≡ threads_of digits.now }
+    ensures range { IfSome result AreThreads }
+{
+    if !is_number(digits) {
+        return None;
+    }
+    match u8::try_from(number(digits)) {
+        Ok(n) if 1 <= n && n <= 64 => Some(n),
+        _ => None,
     }
 }
 

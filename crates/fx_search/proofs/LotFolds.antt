@@ -125,11 +125,10 @@ module _ (question : Question) (valid : IsValid question) (limit bound : ℕ) (l
       let here : limit < length list + length (through D sub) = omega (arith, over, ap length nodes-are, h.fits) in
       let long : length (through D (candidates_of p)) ≡ length h.done + length (through D (sub ++ rest)) = ap length cut ∙ length-append h.done _ in
       let more = through-more D sub rest in
-      let spent : limit < 0 + length (through D (candidates_of p)) = omega (arith, here, long, more, seen) in
-      (
+      let spent : limit < 0 + length (through D (candidates_of p)) = omega (arith, here, long, more, seen) in (
         record { more = spent },
         carries-part p f some [] l limit (candidates_of p) h.done sub rest [] list best split (omega (arith, seen)) h.fits here (λ least low. omega (arith, new.lot.rows))
-        (carries-turn p f some l (p.dimensions.s + p.dimensions.t - length l) limit list best new.lot.rows (omega (arith, part)) h.fits here counted),
+            (carries-turn p f some l (p.dimensions.s + p.dimensions.t - length l) limit list best new.lot.rows (omega (arith, part)) h.fits here counted),
       )
 
 -- an end that is Found is one where no least pattern is asked

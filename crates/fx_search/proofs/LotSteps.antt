@@ -159,7 +159,7 @@ module _ (p : Problem) (f : IsField p.dimensions.q) (jobs : p.dimensions.m + 2 �
         left = at.3;
         best_is = record {
           first = λ e. leave_best x order q part away at.0 at.1 best
-          (subst (λ l. IsFirstLeast x (is_counted_through x l) best) (sym whole ∙ ap (λ k. q ++ k ∷ []) at.2) (h.best_is.first e));
+              (subst (λ l. IsFirstLeast x (is_counted_through x l) best) (sym whole ∙ ap (λ k. q ++ k ∷ []) at.2) (h.best_is.first e));
         };
       }
 
@@ -232,11 +232,10 @@ module _ (p : Problem) (f : IsField p.dimensions.q) (jobs : p.dimensions.m + 2 �
         let long' : length (through D (candidates_of p)) ≡ length h.done + length (through D (child q row ++ rest)) = ap length cut ∙ length-append h.done _ in
         let own : 0 < length (through D (child q row)) = starts c (cond (is_expanded p c) (under T (size_of p - length c) c) []) in
         let more = through-more D (child q row) rest in
-        let spent : limit < 0 + length (through D (candidates_of p)) = omega arith in
-        (
+        let spent : limit < 0 + length (through D (candidates_of p)) = omega arith in (
           record { more = spent },
           carries-part p f some [] c limit (candidates_of p) h.done (child q row) rest [] list best split (omega (arith, seen)) (omega arith) (omega arith) (λ least low. omega (arith, long))
-          (carries-own p f some c (size_of p - length c) limit list best full (omega (arith, long)) next-counted),
+              (carries-own p f some c (size_of p - length c) limit list best full (omega (arith, long)) next-counted),
         )
       where
         starts : (y : List ℕ) (ys : List (List ℕ)) → 0 < length (through D (y ∷ ys))

@@ -33,6 +33,7 @@ fn runs_from_a_slice_to_a_vector(rt: HostRuntime) -> Result<(), Fail> {
     let alloc = rt.alloc();
     let mut shelf = SureShelf::new(alloc, 1, 0)?;
     let ran = start(
+        &rt,
         alloc,
         Ok(run_args(alloc)?),
         HALF.as_bytes(),
@@ -54,6 +55,7 @@ fn makes_a_text(rt: HostRuntime) -> Result<(), Fail> {
     }
     let mut shelf = SureShelf::new(alloc, 1, 0)?;
     let ran = start(
+        &rt,
         alloc,
         Ok(args.into_iter()),
         b"no program".as_slice(),
@@ -74,6 +76,7 @@ fn a_plan_is_written_to_the_folder(rt: HostRuntime) -> Result<(), Fail> {
     fs::write(&rt, "factex_test.csv", HALF_LISTING)?;
     let mut shelf = FolderShelf::new(CurrentFolder::new(&rt));
     let ran = start(
+        &rt,
         alloc,
         Ok(args),
         PLANNED.as_bytes(),
@@ -95,6 +98,7 @@ fn a_file_that_cannot_be_made_ends_the_run(rt: HostRuntime) -> Result<(), Fail> 
     fs::create_dir(&rt, "factex_barred.csv")?;
     let mut shelf = FolderShelf::new(CurrentFolder::new(&rt));
     let ran = start(
+        &rt,
         alloc,
         Ok(args),
         BARRED.as_bytes(),

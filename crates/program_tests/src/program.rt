@@ -6,6 +6,7 @@ use fx_base::{Bytes, MemoryShelf, MemorySink, MemorySource, SureShelf};
 use fx_program::{Settings, factex, make_text, read_words};
 use std::alloc::Global;
 use std::test::Fail;
+use std::thread::Threads;
 
 /// How many bytes a source or a sink moves at a call.
 const STEP: usize = 7;
@@ -52,7 +53,8 @@ fn calls_from(alloc: Global, first: Option<usize>) -> Result<Bytes, Fail> {
 }
 
 /// What `factex` comes to for a text, where each read and each write from these on fails.
-fn ran(
+fn ran<R: Threads + Sync>(
+    rt: &R,
     alloc: Global,
     words: &[Vec<u8>],
     text: &[u8],
@@ -63,7 +65,7 @@ fn ran(
     let mut source = MemorySource::new(content, STEP, calls_from(alloc, first_failed_read)?);
     let mut listing = MemorySink::new(alloc, STEP, ROOM, calls_from(alloc, first_failed_write)?)?;
     let mut shelf = SureShelf::new(alloc, STEP, SHELF_ROOM)?;
-    let status = factex(alloc, words, &mut source, &mut listing, &mut shelf);
+    let status = factex(rt, alloc, words, &mut source, &mut listing, &mut shelf);
     Ok(Ended {
         status,
         listed: listing.bytes().to_vec(alloc)?,
@@ -292,7 +294,7 @@ fn programs_have_their_listing(rt: HostRuntime) -> Result<(), Fail> {
     let alloc = rt.alloc();
     let words = run_words(alloc)?;
     for (text, listing, status) in PROGRAMS {
-        let ended = ran(alloc, words.as_slice(), text.as_bytes(), None, None)?;
+        let ended = ran(&rt, alloc, words.as_slice(), text.as_bytes(), None, None)?;
         assert_eq!(rt; ended.status, status, "{text}");
         assert!(rt; ended.listed.as_slice() == listing.as_bytes(), "{text}");
     }
@@ -476,7 +478,7 @@ fn faults_of_a_text_are_told(rt: HostRuntime) -> Result<(), Fail> {
     let alloc = rt.alloc();
     let words = run_words(alloc)?;
     for (text, message) in REFUSED {
-        let ended = ran(alloc, words.as_slice(), text.as_bytes(), None, None)?;
+        let ended = ran(&rt, alloc, words.as_slice(), text.as_bytes(), None, None)?;
         assert_eq!(rt; ended.status, 3, "{text}");
         assert!(rt;
             is_message(ended.listed.as_slice(), message.as_bytes()),
@@ -510,7 +512,7 @@ fn the_seed_of_the_words_shuffles(rt: HostRuntime) -> Result<(), Fail> {
     ] {
         let mut words = run_words(alloc)?;
         words.push(word.as_bytes().to_vec(alloc)?)?;
-        let (status, _listed, shelf) = planned(alloc, words.as_slice(), text, STEP, None)?;
+        let (status, _listed, shelf) = planned(&rt, alloc, words.as_slice(), text, STEP, None)?;
         assert_eq!(rt; status, 0);
         assert!(rt; is_file(&shelf, 0, "x.csv", plan.as_bytes()));
         assert!(rt; is_file(&shelf, 1, "y.csv", b"A,B\n1,1\n-1,-1\n1,-1\n-1,1\n"));
@@ -548,7 +550,7 @@ fn refused_words_are_told(rt: HostRuntime) -> Result<(), Fail> {
     let alloc = rt.alloc();
     for (line, message) in REFUSED_WORDS {
         let words = words_in(alloc, line)?;
-        let ended = ran(alloc, words.as_slice(), HALF.as_bytes(), Some(1), None)?;
+        let ended = ran(&rt, alloc, words.as_slice(), HALF.as_bytes(), Some(1), None)?;
         assert_eq!(rt; ended.status, 3, "{line}");
         assert_eq!(rt; ended.failed_reads, 0, "{line}");
         assert!(rt;
@@ -649,7 +651,7 @@ fn texts_are_made(rt: HostRuntime) -> Result<(), Fail> {
     assert_eq!(rt; text.len(), 3 * TWELVE.len());
     assert!(rt; text.as_slice().ends_with(TWELVE.as_bytes()));
     let words = words_in(alloc, "make 12")?;
-    let ended = ran(alloc, words.as_slice(), HALF.as_bytes(), Some(1), None)?;
+    let ended = ran(&rt, alloc, words.as_slice(), HALF.as_bytes(), Some(1), None)?;
     assert_eq!(rt; ended.status, 0);
     assert_eq!(rt; ended.failed_reads, 0);
     assert!(rt; ended.listed.as_slice() == TWELVE.as_bytes());
@@ -667,7 +669,7 @@ fn large_sums_up(rt: HostRuntime) -> Result<(), Fail> {
         ),
     ] {
         let words = words_in(alloc, line)?;
-        let ended = ran(alloc, words.as_slice(), HALF.as_bytes(), Some(1), None)?;
+        let ended = ran(&rt, alloc, words.as_slice(), HALF.as_bytes(), Some(1), None)?;
         assert_eq!(rt; ended.status, 0, "{line}");
         assert_eq!(rt; ended.failed_reads, 0, "{line}");
         assert!(rt; ended.listed.as_slice() == summary.as_bytes(), "{line}");
@@ -681,7 +683,14 @@ fn no_call_follows_a_failed_write_of_a_piece(rt: HostRuntime) -> Result<(), Fail
     let alloc = rt.alloc();
     for line in ["make 1", "large 1"] {
         let words = words_in(alloc, line)?;
-        let ended = ran(alloc, words.as_slice(), HALF.as_bytes(), Some(1), Some(2))?;
+        let ended = ran(
+            &rt,
+            alloc,
+            words.as_slice(),
+            HALF.as_bytes(),
+            Some(1),
+            Some(2),
+        )?;
         assert_eq!(rt; ended.status, 4, "{line}");
         assert_eq!(rt; ended.failed_reads, 0, "{line}");
         assert_eq!(rt; ended.failed_writes, 1, "{line}");
@@ -700,6 +709,7 @@ fn no_call_follows_a_failed_read(rt: HostRuntime) -> Result<(), Fail> {
         // The last read finds the end.
         for call in 1..=text.len().div_ceil(STEP) + 1 {
             let ended = ran(
+                &rt,
                 alloc,
                 words.as_slice(),
                 text.as_bytes(),
@@ -725,6 +735,7 @@ fn no_call_follows_a_failed_write(rt: HostRuntime) -> Result<(), Fail> {
     let calls = HALF_LISTING.len().div_ceil(STEP);
     for call in 1..=calls {
         let ended = ran(
+            &rt,
             alloc,
             words.as_slice(),
             HALF.as_bytes(),
@@ -738,6 +749,7 @@ fn no_call_follows_a_failed_write(rt: HostRuntime) -> Result<(), Fail> {
         assert!(rt; HALF_LISTING.as_bytes().starts_with(ended.listed.as_slice()));
     }
     let ended = ran(
+        &rt,
         alloc,
         words.as_slice(),
         HALF.as_bytes(),
@@ -809,7 +821,8 @@ const PLANNED: [(&[u8], &[u8], &[(&str, &[u8])], u8); 6] = [
 
 /// The status of the words for a text, its listing and its shelf, which takes `step` bytes in a
 /// call and fails from this call on.
-fn planned(
+fn planned<R: Threads + Sync>(
+    rt: &R,
     alloc: Global,
     words: &[Vec<u8>],
     text: &[u8],
@@ -822,7 +835,7 @@ fn planned(
     let mut source = MemorySource::new(content, STEP, Bytes::new(alloc));
     let mut listing = MemorySink::new(alloc, STEP, 1000, Bytes::new(alloc))?;
     let mut shelf = MemoryShelf::new(alloc, step, SHELF_ROOM, calls_from(alloc, first_failed)?)?;
-    let status = factex(alloc, words, &mut source, &mut listing, &mut shelf);
+    let status = factex(rt, alloc, words, &mut source, &mut listing, &mut shelf);
     Ok((status, listing.bytes().to_vec(alloc)?, shelf))
 }
 
@@ -839,7 +852,7 @@ fn plans_are_shelved(rt: HostRuntime) -> Result<(), Fail> {
     let alloc = rt.alloc();
     let words = run_words(alloc)?;
     for (text, listing, files, status) in PLANNED {
-        let (ended, listed, shelf) = planned(alloc, words.as_slice(), text, STEP, None)?;
+        let (ended, listed, shelf) = planned(&rt, alloc, words.as_slice(), text, STEP, None)?;
         assert_eq!(rt; ended, status);
         assert!(rt; listed.as_slice() == listing);
         assert_eq!(rt; shelf.files(), files.len());
@@ -858,14 +871,14 @@ fn no_call_follows_a_failed_file(rt: HostRuntime) -> Result<(), Fail> {
     let text = b"proc factex; factors A; model r=3; output out=a;";
     let words = run_words(alloc)?;
     for call in 1..5 {
-        let (status, listed, shelf) = planned(alloc, words.as_slice(), text, 4, Some(call))?;
+        let (status, listed, shelf) = planned(&rt, alloc, words.as_slice(), text, 4, Some(call))?;
         assert_eq!(rt; status, 4);
         assert_eq!(rt; shelf.faults(), 1);
         assert!(rt; listed.is_empty());
         assert_eq!(rt; shelf.files(), usize::from(call > 1));
         assert!(rt; !is_file(&shelf, 0, "a.csv", b"A\n-1\n1\n"));
     }
-    let (status, _listed, shelf) = planned(alloc, words.as_slice(), text, 4, Some(5))?;
+    let (status, _listed, shelf) = planned(&rt, alloc, words.as_slice(), text, 4, Some(5))?;
     assert_eq!(rt; status, 0);
     assert!(rt; is_file(&shelf, 0, "a.csv", b"A\n-1\n1\n"));
     Ok(())
@@ -877,11 +890,11 @@ fn long_texts_are_read(rt: HostRuntime) -> Result<(), Fail> {
     let words = run_words(alloc)?;
     let mut text = vec![in alloc; b' '; 1048576 - HALF.len()]?;
     text.extend_from_slice(HALF.as_bytes())?;
-    let whole = ran(alloc, words.as_slice(), text.as_slice(), None, None)?;
+    let whole = ran(&rt, alloc, words.as_slice(), text.as_slice(), None, None)?;
     assert_eq!(rt; whole.status, 0);
     assert!(rt; whole.listed.as_slice() == HALF_LISTING.as_bytes());
     text.push(b' ')?;
-    let longer = ran(alloc, words.as_slice(), text.as_slice(), None, None)?;
+    let longer = ran(&rt, alloc, words.as_slice(), text.as_slice(), None, None)?;
     assert_eq!(rt; longer.status, 3);
     assert!(rt;
         is_message(
@@ -893,7 +906,7 @@ fn long_texts_are_read(rt: HostRuntime) -> Result<(), Fail> {
     for _ in 0..101 {
         steps.extend_from_slice(b"proc factex;".as_slice())?;
     }
-    let more = ran(alloc, words.as_slice(), steps.as_slice(), None, None)?;
+    let more = ran(&rt, alloc, words.as_slice(), steps.as_slice(), None, None)?;
     assert_eq!(rt; more.status, 3);
     assert!(rt; is_message(more.listed.as_slice(), b"E32 1:1201 more than 100 steps"));
     Ok(())

@@ -1,10 +1,14 @@
+ghost use Rattle.std.specs.Prelude.{◌<◌, ◌≤◌};
+
 use fx_answer::answer;
 use fx_base::{Bytes, put, put_number};
+use fx_board::FreeGate;
 use fx_lexer::lex;
 use fx_statements::{End, Outcome, ParseStop, Program, parse};
 use std::alloc::Global;
 use std::process::Abort;
 use std::test::Fail;
+use std::thread::Threads;
 
 // The questions of each step, their nodes and their answers were computed apart from this program, in
 // Python, from the definitions; those of the least pattern are of its documents.
@@ -154,17 +158,20 @@ fn has_ended(rt: &impl Abort, outcome: &Outcome, expected: Ended) {
     }
 }
 
-/// Tests that a step ends so within this budget.
-fn ends_so(
-    rt: &impl Abort,
+/// Tests that a step ends so within this budget, by so many threads.
+fn ends_so<R: Abort + Threads + Sync>(
+    rt: &R,
     alloc: Global,
     step: &str,
     budget: u64,
+    threads: u8,
     expected: Ended,
-) -> Result<(), Fail> {
+) -> Result<(), Fail>
+    requires { (0 < threads) × (threads ≤ 64) }
+{
     let program = program_of(rt, alloc, budget, step)?;
     assert_eq!(rt; program.as_slice().len(), 1);
-    let outcome = answer(alloc, &program.as_slice()[0])?;
+    let outcome = answer(rt, alloc, &program.as_slice()[0], threads, &FreeGate)?;
     has_ended(rt, &outcome, expected);
     Ok(())
 }
@@ -172,7 +179,8 @@ fn ends_so(
 #[test]
 fn budgets_end_at_the_last_node_of_each_question(rt: HostRuntime) -> Result<(), Fail> {
     for (step, budget, expected) in STEPS {
-        ends_so(&rt, rt.alloc(), step, budget, expected)?;
+        ends_so(&rt, rt.alloc(), step, budget, 1, expected)?;
+        ends_so(&rt, rt.alloc(), step, budget, 3, expected)?;
     }
     Ok(())
 }

@@ -79,7 +79,14 @@ fn books_are_shelved(rt: HostRuntime) -> Result<(), Fail> {
     let alloc = rt.alloc();
     let words = run_words(alloc)?;
     for (text, listing, files, status) in BOOKS {
-        let (ended, listed, shelf) = planned(alloc, words.as_slice(), text.as_bytes(), STEP, None)?;
+        let (ended, listed, shelf) = planned(
+            &rt,
+            alloc,
+            words.as_slice(),
+            text.as_bytes(),
+            STEP,
+            None,
+        )?;
         assert_eq!(rt; ended, status, "{text}");
         assert!(rt; listed.as_slice() == listing.as_bytes(), "{text}");
         assert_eq!(rt; shelf.files(), files.len(), "{text}");
@@ -96,7 +103,7 @@ fn the_book_of_a_least_pattern_is_accepted(rt: HostRuntime) -> Result<(), Fail> 
     let alloc = rt.alloc();
     let text = b"proc factex;factors A B C D E F G;size design=32;model resolution=max / minabs;";
     let words = run_words(alloc)?;
-    let (status, _listed, shelf) = planned(alloc, words.as_slice(), text, STEP, None)?;
+    let (status, _listed, shelf) = planned(&rt, alloc, words.as_slice(), text, STEP, None)?;
     assert_eq!(rt; status, 0);
     assert_eq!(rt; shelf.files(), 1);
     let book = shelf.content(0);
@@ -110,7 +117,7 @@ fn the_book_of_a_least_pattern_is_accepted(rt: HostRuntime) -> Result<(), Fail> 
         4 + 282 + 1
     );
     let words = words_in(alloc, "check")?;
-    let checked = ran(alloc, words.as_slice(), book, None, None)?;
+    let checked = ran(&rt, alloc, words.as_slice(), book, None, None)?;
     assert_eq!(rt; checked.status, 0);
     assert!(rt;
         checked.listed.as_slice()
@@ -166,7 +173,7 @@ fn books_are_judged(rt: HostRuntime) -> Result<(), Fail> {
     let alloc = rt.alloc();
     let words = words_in(alloc, "check")?;
     for (book, listing, status) in JUDGED {
-        let ended = ran(alloc, words.as_slice(), book.as_bytes(), None, None)?;
+        let ended = ran(&rt, alloc, words.as_slice(), book.as_bytes(), None, None)?;
         assert_eq!(rt; ended.status, status, "{listing}");
         assert!(rt; ended.listed.as_slice() == listing.as_bytes(), "{listing}");
     }
@@ -181,6 +188,7 @@ fn no_call_follows_a_failed_one_of_a_check(rt: HostRuntime) -> Result<(), Fail> 
     let words = words_in(alloc, "check")?;
     for call in 1..=NO_FIVE.len().div_ceil(STEP) + 1 {
         let ended = ran(
+            &rt,
             alloc,
             words.as_slice(),
             NO_FIVE.as_bytes(),
@@ -193,6 +201,7 @@ fn no_call_follows_a_failed_one_of_a_check(rt: HostRuntime) -> Result<(), Fail> 
     }
     for call in 1..=NO_FIVE_ACCEPTED.len().div_ceil(STEP) {
         let ended = ran(
+            &rt,
             alloc,
             words.as_slice(),
             NO_FIVE.as_bytes(),

@@ -1,4 +1,4 @@
-use Rattle.std.proofs.Common.{ℕ, ◌≡◌, ◌<◌, ◌+◌, ◌-◌, List, [], ◌∷◌, ◌++◌, length, None, is_some, sym, ap, ◌∙◌, subst, arith}
+use Rattle.std.proofs.Common.{rules, ℕ, ◌≡◌, ◌<◌, ◌+◌, ◌-◌, List, [], ◌∷◌, ◌++◌, length, None, is_some, sym, ap, ◌∙◌, subst, arith}
 use Rattle.std.specs.Option.{option_or}
 use Rattle.std.proofs.lemmas.Result.{IfOk-weaker}
 use Rattle.fx_designs.specs.Jobs.{carried}
@@ -17,25 +17,25 @@ more : (earlier : List Problem) (p : Problem) (before count : ℕ) → before �
 more earlier p before count is counted = let e = nodes_more earlier p in omega (arith, e, is, counted)
 
 pub ask_from-go_on-requires : goal.ask_from-go_on-requires
-ask_from-go_on-requires t c =
+ask_from-go_on-requires g t c lifetimes live =
     let question = c.in_ok-question.question in
     let p = question_for (meaning_of c.args.step.now) c.args.n in
     let same = c.in_ok-question.ensures.problem in
     let h = rw c.in-Found.is at c.in_ok-matrix.ensures.answer in
-    let of = c.in_ok-question.ensures.of_step in (
+    let of = c.in_ok-question.ensures.of_step in
+    let answered = sym (ap is_some (ap answer (sym same) ∙ h.0)) in
+    let found = found-of question c.in-Found.matrix h.0 h.1 (meaning_of c.args.step.now) of in
+    let dimensions = sym (ap (λ (p : Problem). p.dimensions) same) in (
       omega (arith, c.decreases),
       (
-        c.requires.low,
+        live.0,
         (
-          c.requires.high,
+          live.1,
           (
-            omega (arith, c.requires.within, h.4),
+            search rules,
             (
-              of,
-              (
-                sym (ap (λ (p : Problem). p.dimensions) same),
-                (sym (ap is_some (ap answer (sym same) ∙ h.0)), (found-of question c.in-Found.matrix h.0 h.1 (meaning_of c.args.step.now) of, found-whole question c.in-Found.matrix h.0 h.1)),
-              ),
+              search rules,
+              (c.requires.threads, (c.requires.low, (c.requires.high, (omega (arith, c.requires.within, h.4), (of, (dimensions, (answered, (found, found-whole question c.in-Found.matrix h.0 h.1)))))))),
             ),
           ),
         ),
@@ -43,7 +43,7 @@ ask_from-go_on-requires t c =
     )
 
 pub ask_from-returns-in_ok-add_answer-in-Found-clause-concluded : goal.ask_from-returns-in_ok-add_answer-in-Found-clause-concluded
-ask_from-returns-in_ok-add_answer-in-Found-clause-concluded t c =
+ask_from-returns-in_ok-add_answer-in-Found-clause-concluded g t c =
     let step = meaning_of c.args.step.now in
     let question = c.in_ok-question.question in
     let p = question_for step c.args.n in
@@ -56,7 +56,7 @@ ask_from-returns-in_ok-add_answer-in-Found-clause-concluded t c =
     c.go_on.ensures.concluded
 
 pub ask_from-returns-in_ok-add_answer-in-Found-clause-books : goal.ask_from-returns-in_ok-add_answer-in-Found-clause-books
-ask_from-returns-in_ok-add_answer-in-Found-clause-books t c =
+ask_from-returns-in_ok-add_answer-in-Found-clause-books g t c =
     let step = meaning_of c.args.step.now in
     let p = question_for step c.args.n in
     let same = c.in_ok-question.ensures.problem in
@@ -69,7 +69,7 @@ ask_from-returns-in_ok-add_answer-in-Found-clause-books t c =
     c.go_on.ensures.books
 
 pub ask_from-returns-in_ok-add_absence-in-Nothing-clause-concluded : goal.ask_from-returns-in_ok-add_absence-in-Nothing-clause-concluded
-ask_from-returns-in_ok-add_absence-in-Nothing-clause-concluded t c =
+ask_from-returns-in_ok-add_absence-in-Nothing-clause-concluded g t c =
     let step = meaning_of c.args.step.now in
     let p = question_for step c.args.n in
     let same = c.in_ok-question.ensures.problem in
@@ -81,7 +81,7 @@ ask_from-returns-in_ok-add_absence-in-Nothing-clause-concluded t c =
     c.go_on-in-Nothing.ensures.concluded
 
 pub ask_from-returns-in_ok-add_absence-in-Nothing-clause-books : goal.ask_from-returns-in_ok-add_absence-in-Nothing-clause-books
-ask_from-returns-in_ok-add_absence-in-Nothing-clause-books t c =
+ask_from-returns-in_ok-add_absence-in-Nothing-clause-books g t c =
     let step = meaning_of c.args.step.now in
     let p = question_for step c.args.n in
     let same = c.in_ok-question.ensures.problem in
@@ -94,19 +94,19 @@ ask_from-returns-in_ok-add_absence-in-Nothing-clause-books t c =
     c.go_on-in-Nothing.ensures.books
 
 pub ask_from-cut_short-requires-clause-whole : goal.ask_from-cut_short-requires-clause-whole
-ask_from-cut_short-requires-clause-whole t c =
+ask_from-cut_short-requires-clause-whole g t c =
     let h = rw c.in-Budget.is at c.in_ok-matrix.ensures.answer in
     rw c.or.ensures (left-is-whole c.in_ok-question.question (c.args.step.now.budget - c.args.finished.nodes) c.in-Budget.best c.args.finished.found h.1 h.2 c.requires.whole)
 
 pub ask_from-returns-in-Budget-clause-of_step : goal.ask_from-returns-in-Budget-clause-of_step
-ask_from-returns-in-Budget-clause-of_step t c =
+ask_from-returns-in-Budget-clause-of_step g t c =
     let h = rw c.in-Budget.is at c.in_ok-matrix.ensures.answer in
     let of = c.in_ok-question.ensures.of_step in
     c.cut_short.ensures.of_step (meaning_of c.args.step.now) of
     (rw c.or.ensures (left-of c.in_ok-question.question (c.args.step.now.budget - c.args.finished.nodes) (meaning_of c.args.step.now) c.in-Budget.best c.args.finished.found h.2 of c.requires.found))
 
 pub ask_from-returns-in-Budget-clause-concluded : goal.ask_from-returns-in-Budget-clause-concluded
-ask_from-returns-in-Budget-clause-concluded t c = λ earlier is stands.
+ask_from-returns-in-Budget-clause-concluded g t c = λ earlier is stands.
     let step = meaning_of c.args.step.now in
     let question = c.in_ok-question.question in
     let p = question_for step c.args.n in
@@ -125,7 +125,7 @@ ask_from-returns-in-Budget-clause-concluded t c = λ earlier is stands.
     ∙ sym (ended (conclusion_in_asking step) budget (until step.settings.size) earlier p (questions_above step c.args.n) (omega (arith, is, passed, c.requires.within)))
 
 pub ask_from-returns-in-Budget-clause-books : goal.ask_from-returns-in-Budget-clause-books
-ask_from-returns-in-Budget-clause-books t c = λ earlier is come before.
+ask_from-returns-in-Budget-clause-books g t c = λ earlier is come before.
     let step = meaning_of c.args.step.now in
     let p = question_for step c.args.n in
     let same = c.in_ok-question.ensures.problem in
@@ -137,4 +137,4 @@ ask_from-returns-in-Budget-clause-books t c = λ earlier is come before.
     ∙ sym (ended books_in_asking budget (until step.settings.size) earlier p (questions_above step c.args.n) (omega (arith, is, passed, c.requires.within))))
 
 pub go_on-returns-then-n-highest-clause-of_step : goal.go_on-returns-then-n-highest-clause-of_step
-go_on-returns-then-n-highest-clause-of_step t c = c.concluded.ensures.of_step (meaning_of c.args.step.now) c.requires.shape c.requires.found
+go_on-returns-then-n-highest-clause-of_step g t c = c.concluded.ensures.of_step (meaning_of c.args.step.now) c.requires.shape c.requires.found

@@ -8,10 +8,10 @@ use Rattle.fx_answer.proofs.Valid.{kept_valid, some_numbers}
 use Rattle.fx_answer.proofs.answering.answer.Goals as goal
 
 pub ask_from-requires-clause-high : goal.ask_from-requires-clause-high
-ask_from-requires-clause-high c = some_numbers (meaning_of c.args.step.now) (kept_valid c.args.step.now) c.lowest.result c.lowest.ensures
+ask_from-requires-clause-high g c lifetimes live = some_numbers (meaning_of c.args.step.now) (kept_valid c.args.step.now) c.lowest.result c.lowest.ensures
 
 pub returns : goal.returns
-returns c =
+returns g c =
     let step = meaning_of c.args.step.now in
     let result = c.ask_from.result in
     let ensured = c.ask_from.ensures in

@@ -10,13 +10,13 @@ returns-in-Err-clause-output g c =
     rw c.exit_status-in-Err.ensures
     (record {
       text = [];
-      exposed = λ read. absurd (false≢true (ap reads c.in-Err.ensures ∙ read));
-      gives = ends_for _ [] (Err c.in-Err.fault) _ c.in-Err.ensures (ends_by _ _ _ (ap (λ l. message l 3) (sym (c.as_slice.ensures.value ∙ c.word_line.ensures))) (c.list.ensures.output.whatever _));
+      exposed = λ read. absurd (false≢true (ap reads c.in-Err.ensures.settings ∙ read));
+      gives = ends_for _ [] (Err c.in-Err.fault) _ c.in-Err.ensures.settings (ends_by _ _ _ (ap (λ l. message l 3) (sym (c.as_slice.ensures.value ∙ c.word_line.ensures))) (c.list.ensures.output.whatever _));
     })
 
 pub returns-in-Check-clause-output : goal.returns-in-Check-clause-output
 returns-in-Check-clause-output g c =
-    let asked = ap Ok (sym c.in-Check.is) ∙ c.in-Ok.ensures in
+    let asked = ap Ok (sym c.in-Check.is) ∙ c.in-Ok.ensures.settings in
     rw c.exit_status-in-Check.ensures
     (record {
       text = c.check.ensures.output.text;
@@ -26,7 +26,7 @@ returns-in-Check-clause-output g c =
 
 pub returns-in-Make-clause-output : goal.returns-in-Make-clause-output
 returns-in-Make-clause-output g c =
-    let asked = ap Ok (sym c.in-Make.is) ∙ c.in-Ok.ensures in
+    let asked = ap Ok (sym c.in-Make.is) ∙ c.in-Ok.ensures.settings in
     rw c.exit_status-in-Make.ensures
     (record {
       text = [];
@@ -36,10 +36,10 @@ returns-in-Make-clause-output g c =
 
 pub returns-in-Large-clause-output : goal.returns-in-Large-clause-output
 returns-in-Large-clause-output g c =
-    let asked = ap Ok (sym c.in-Large.is) ∙ c.in-Ok.ensures in
+    let asked = ap Ok (sym c.in-Large.is) ∙ c.in-Ok.ensures.settings in
     rw c.exit_status-in-Large.ensures
     (record {
       text = [];
       exposed = λ read. absurd (false≢true (ap reads asked ∙ read));
-      gives = ends_for _ [] (Ok (Large c.in-Large.n c.in-Large._threads)) _ asked (c.large.ensures.output.whatever _);
+      gives = ends_for _ [] (Ok (Large c.in-Large.n c.in-Large.threads)) _ asked (c.large.ensures.output.whatever _);
     })

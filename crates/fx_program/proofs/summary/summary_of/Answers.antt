@@ -9,16 +9,16 @@ use Rattle.fx_program.proofs.Summing.{by_ending, has_room, low_with, summary_of_
 use Rattle.fx_program.proofs.summary.summary_of.Goals as goal
 
 pub loop-step-init : goal.loop-step-init
-loop-step-init c = record { so_far = summary_of_none; few = omega arith; low = omega arith }
+loop-step-init g c = record { so_far = summary_of_none; few = omega arith; low = omega arith }
 
 pub with_ending-summary-requires : goal.with_ending-summary-requires
-with_ending-summary-requires c =
+with_ending-summary-requires g c =
     let steps : List Meaning = map meaning_of (take c.loop-step.step-index c.args.steps.now) in
     let long : length steps ≤ c.loop-step.step-index = omega (arith, length-map (take c.loop-step.step-index c.args.steps.now) meaning_of, length-take c.loop-step.step-index c.args.steps.now) in
     has_room steps c.loop-step.summary c.loop-step.invariant.so_far (omega (arith, long, c.loop-step-test.true)) (omega (arith, c.loop-step.invariant.few, c.loop-step-test.true))
 
 pub loop-step-preserved : goal.loop-step-preserved
-loop-step-preserved c =
+loop-step-preserved g c =
     let i = c.loop-step.step-index in
     let outcome = c.in_ok-outcome.outcome in
     let step : Meaning = meaning_of c.step-item.result in
