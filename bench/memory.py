@@ -1,0 +1,109 @@
+#!/usr/bin/env python3
+"""Refuses each growth of memory of the built program in turn: python3 bench/memory.py PROGRAM [OPTION..]
+
+Each text of crates/examples/data is run, and each book that it writes is checked, once for each call of malloc or realloc
+that a whole run makes: that call alone is refused, and then that call and all after it. Wanted is status 5, with a listing
+that is the beginning of the whole one, and files that are whole, but one that may be cut off. Options are added to the
+word run, as --threads=4. Prints one line a text, and ends with status 1 where one trial came out otherwise. Needs cc.
+"""
+
+import os
+import subprocess
+import sys
+import tempfile
+
+SHIM = r"""
+#define _GNU_SOURCE
+#include <dlfcn.h>
+#include <stdatomic.h>
+#include <stdio.h>
+#include <stdlib.h>
+
+static atomic_ulong calls;
+static atomic_int is_over;
+
+static int is_refused(void) {
+    const char *from = getenv("REFUSE_FROM"), *to = getenv("REFUSE_TO");
+    unsigned long n = ++calls;
+    return from && !is_over && n >= strtoul(from, 0, 10) && n <= strtoul(to, 0, 10);
+}
+
+void *malloc(size_t size) {
+    void *(*next)(size_t) = (void *(*)(size_t))dlsym(RTLD_NEXT, "malloc");
+    return is_refused() ? 0 : next(size);
+}
+
+void *realloc(void *old, size_t size) {
+    void *(*next)(void *, size_t) = (void *(*)(void *, size_t))dlsym(RTLD_NEXT, "realloc");
+    return is_refused() ? 0 : next(old, size);
+}
+
+__attribute__((destructor)) static void write_count(void) {
+    unsigned long n = calls;
+    is_over = 1;
+    FILE *file = fopen(getenv("CALLS_TO"), "w");
+    if (file) fprintf(file, "%lu\n", n), fclose(file);
+}
+"""
+
+TOP = os.path.dirname(os.path.dirname(os.path.abspath(__file__)))
+DATA = os.path.join(TOP, "crates", "examples", "data")
+
+
+def run(program, shim, words, text, refused):
+    """Status, listing, files and growths of one run, in a folder of its own."""
+    with tempfile.TemporaryDirectory() as top:
+        folder, count = os.path.join(top, "run"), os.path.join(top, "count")
+        os.mkdir(folder)
+        settings = {"LD_PRELOAD": shim, "CALLS_TO": count}
+        if refused:
+            settings.update({"REFUSE_FROM": str(refused[0]), "REFUSE_TO": str(refused[1])})
+        done = subprocess.run([program] + words, input=text, stdout=subprocess.PIPE, cwd=folder,
+                              env={**os.environ, **settings}, timeout=120)
+        files = {}
+        for name in os.listdir(folder):
+            with open(os.path.join(folder, name), "rb") as file:
+                files[name] = file.read()
+        with open(count) as file:
+            return done.returncode, done.stdout, files, int(file.read())
+
+
+def is_beginning(part, whole):
+    cut = [name for name in part[2] if part[2][name] != whole[2].get(name)]
+    return (part[0] == 5 and whole[1].startswith(part[1]) and len(cut) <= 1
+            and all(whole[2].get(name, b"").startswith(part[2][name]) for name in cut))
+
+
+def tried(program, shim, words, text):
+    """Growths of a whole run, the trials that came out otherwise, and the files."""
+    whole = run(program, shim, words, text, None)
+    wrong = 0
+    for first in range(1, whole[3] + 1):
+        for last in (first, 10**9):
+            wrong += not is_beginning(run(program, shim, words, text, (first, last)), whole)
+    return whole[3], wrong, whole[2]
+
+
+def main():
+    program, options = os.path.abspath(sys.argv[1]), sys.argv[2:]
+    wrong = 0
+    with tempfile.TemporaryDirectory() as top:
+        source, shim = os.path.join(top, "refuse.c"), os.path.join(top, "refuse.so")
+        with open(source, "w") as file:
+            file.write(SHIM)
+        subprocess.run(["cc", "-O1", "-shared", "-fPIC", "-o", shim, source, "-ldl"], check=True)
+        for name in sorted(os.listdir(DATA)):
+            with open(os.path.join(DATA, name), "rb") as file:
+                jobs = [(name, ["run"] + options, file.read())]
+            while jobs:
+                title, words, text = jobs.pop()
+                growths, bad, files = tried(program, shim, words, text)
+                wrong += bad
+                print(f"{title}: {growths} growths, {2 * growths} trials, {bad} wrong", flush=True)
+                if words[0] == "run":
+                    jobs += [(f"{name}, {book}", ["check"], files[book])
+                             for book in files if book.endswith(".book")]
+    sys.exit(1 if wrong else 0)
+
+
+main()
