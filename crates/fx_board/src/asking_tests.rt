@@ -8,7 +8,7 @@ use crate::tests::Holding;
 use fx_base::NoMemory;
 use fx_galois::Field;
 use fx_search::{Asked, ask_alone};
-use fx_vectors::{Demands, Effect, Effects, Marks, Matrix, Question, Shape};
+use fx_vectors::{Demands, Effect, Effects, Marks, Question, Shape};
 use std::alloc::Global;
 use std::sync::atomic::{AtomicU64, Ordering};
 use std::test::Fail;
@@ -65,13 +65,11 @@ fn main_effects(alloc: Global, shape: Shape) -> Result<Question, NoMemory>
     })
 }
 
-fn are_same_matrices(one: &Matrix, other: &Matrix) -> bool {
-    one == other
-}
-
 fn are_same_marks(one: &Marks, other: &Marks) -> bool {
-    one.len() == other.len()
-        && (0..one.len()).all(|i| i < other.len() && one.get(i) == other.get(i))
+    let same = (0..one.len()).all(|i| i < one.len()
+        && i < other.len()
+        && one.get(i) == other.get(i));
+    same && one.len() == other.len()
 }
 
 /// Whether both answers are the same, with the same nodes and marks.
@@ -88,7 +86,7 @@ fn are_same(one: &Asked, other: &Asked) -> bool {
                 nodes: count,
                 marks: list,
             },
-        ) => are_same_matrices(matrix, design) && nodes == count && are_same_marks(marks, list),
+        ) => matrix == design && nodes == count && are_same_marks(marks, list),
         (
             Asked::Nothing { nodes, marks },
             Asked::Nothing {
@@ -121,7 +119,7 @@ fn threads_agree<R: Threads + Sync>(
 {
     let alone = ask_alone(alloc, question, budget)?;
     for threads in [1, 2, 3, 8] {
-        let asked = ask(rt, alloc, question, budget, threads, &FreeGate)?;
+        let asked = ask(rt, alloc, question, budget, threads.clamp(1, 64), &FreeGate)?;
         if !are_same(&asked, &alone) {
             return Ok(false);
         }
@@ -175,7 +173,7 @@ fn each_agrees<R: Threads + Sync>(
         return Ok(false);
     };
     if r == 0 {
-        if s < 2 {
+        if shape.s < 2 {
             return Ok(false);
         }
         let question = main_effects(alloc, shape)?;
