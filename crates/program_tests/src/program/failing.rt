@@ -22,16 +22,17 @@ const ALL: &str =
 const BOOK: &str =
     "factex-book 1\nsize 2 1 2 0\neffects 1 2 /\npattern none\nO 1\nW 1 3\nW 0 2\nW 0 1\nEND\n";
 
-/// Words and texts, with the number of bytes that the sink and the shelf take in a call.
-const TRIED: [(&str, &str, usize); 8] = [
-    ("run", TWO_PLANS, 1),
-    ("run", TWO_PLANS, 1000),
-    ("run", CLASSES, STEP),
-    ("run", LEAST, 30),
-    ("run", ALL, STEP),
-    ("check", BOOK, 1),
-    ("make 1", "", STEP),
-    ("large 2", "", 1),
+/// Words and texts, the number of bytes that the listing and the shelf take in a call, and less than
+/// the number of calls of each.
+const TRIED: [(&str, &str, usize, usize, usize); 8] = [
+    ("run", TWO_PLANS, 1, 150, 80),
+    ("run", TWO_PLANS, 1000, 1, 8),
+    ("run", CLASSES, STEP, 20, 9),
+    ("run", LEAST, 30, 4, 40),
+    ("run", ALL, STEP, 40, 40),
+    ("check", BOOK, 1, 40, 0),
+    ("make 1", "", STEP, 8, 0),
+    ("large 2", "", 1, 40, 0),
 ];
 
 /// What a call of `factex` left.
@@ -69,63 +70,86 @@ fn left_by<R: Threads + Sync>(
     })
 }
 
-/// Whether a file is the one of another shelf, or, where it is the last, the beginning of it.
-fn is_begun_as(part: &MemoryShelf, whole: &MemoryShelf, i: usize) -> bool {
-    if part.files() <= i || whole.files() <= i || part.name(i) != whole.name(i) {
-        return false;
-    }
-    let is_last = part.files() - i == 1;
-    if part.is_ended(i) || !is_last {
-        return part.is_ended(i) && part.content(i) == whole.content(i);
-    }
-    whole.content(i).starts_with(part.content(i))
+/// Whether the file at `i` is ended.
+fn is_ended(shelf: &MemoryShelf, i: usize) -> bool {
+    i < shelf.files() && shelf.is_ended(i)
+}
+
+/// Whether the files at `i` have one name and one content.
+fn are_same_files(one: &MemoryShelf, other: &MemoryShelf, i: usize) -> bool {
+    i < one.files()
+        && i < other.files()
+        && one.name(i) == other.name(i)
+        && one.content(i) == other.content(i)
+}
+
+/// Whether the files at `i` have one name, and the content of the one is the beginning of the other's.
+fn is_file_begun(one: &MemoryShelf, other: &MemoryShelf, i: usize) -> bool {
+    i < one.files()
+        && i < other.files()
+        && one.name(i) == other.name(i)
+        && other.content(i).starts_with(one.content(i))
 }
 
 /// Whether a part is the beginning of the whole: the listing, and the files in order, of which only the
 /// last may not be ended.
 fn is_beginning(part: &Left, whole: &Left) -> bool {
-    let mut is_so = whole.listed.starts_with(part.listed.as_slice());
-    for i in 0..part.shelf.files() {
-        is_so = is_so && is_begun_as(&part.shelf, &whole.shelf, i);
-    }
-    is_so
+    let files = part.shelf.files();
+    let are_files = (0..files).all(|i| {
+        if is_ended(&part.shelf, i) {
+            are_same_files(&part.shelf, &whole.shelf, i)
+        } else {
+            files.saturating_sub(i) == 1 && is_file_begun(&part.shelf, &whole.shelf, i)
+        }
+    });
+    are_files && whole.listed.starts_with(part.listed.as_slice())
 }
 
-/// Wherever the listing or the shelf fails, one call fails, the status is 4, and what is left is the
-/// beginning of the whole.
+/// How many calls of the listing, or of the shelf, a run makes: with each of them failed, and all after
+/// it, one fails, the status is 4, and what is left is the beginning of the whole. None where it is not.
+fn failing_calls<R: Threads + Sync>(
+    rt: &R,
+    alloc: Global,
+    words: &[Vec<u8>],
+    text: &str,
+    step: usize,
+    is_listing: bool,
+) -> Result<Option<usize>, Fail>
+    requires { 0 < step }
+{
+    let whole = left_by(rt, alloc, words, text, step, [None; 3])?;
+    for call in 1..=255 {
+        let first = if is_listing {
+            [None, Some(call), None]
+        } else {
+            [None, None, Some(call)]
+        };
+        let left = left_by(rt, alloc, words, text, step, first)?;
+        if left.status == whole.status {
+            let is_same = left.listed == whole.listed && left.shelf.files() == whole.shelf.files();
+            return Ok(is_same.then_some(call));
+        }
+        let faults = (left.failed_writes, left.shelf.faults());
+        let wanted = if is_listing { (1, 0) } else { (0, 1) };
+        if left.status != 4 || faults != wanted || !is_beginning(&left, &whole) {
+            return Ok(None);
+        }
+    }
+    Ok(None)
+}
+
+/// Wherever the listing or the shelf fails, what is left is the beginning of the whole. With each text
+/// the least number of calls of the two.
 #[test]
 fn what_is_left_is_a_beginning(rt: HostRuntime) -> Result<(), Fail> {
     let alloc = rt.alloc();
-    for (line, text, step) in TRIED {
+    for (line, text, most, writes, files) in TRIED {
+        let step = most.max(1);
         let words = words_in(alloc, line)?;
-        let whole = left_by(&rt, alloc, words.as_slice(), text, step, [None; 3])?;
-        assert!(rt; whole.status < 2, "{line}");
-        for is_listing in [true, false] {
-            let mut failed = 0;
-            for call in 1..=255 {
-                let first = if is_listing {
-                    [None, Some(call), None]
-                } else {
-                    [None, None, Some(call)]
-                };
-                let left = left_by(&rt, alloc, words.as_slice(), text, step, first)?;
-                if left.status == whole.status {
-                    assert!(rt; left.listed == whole.listed, "{line}");
-                    assert_eq!(rt; left.shelf.files(), whole.shelf.files(), "{line}");
-                    break;
-                }
-                assert_eq!(rt; left.status, 4, "{line}");
-                assert_eq!(rt; left.failed_writes, u64::from(is_listing), "{line}");
-                assert_eq!(rt; left.shelf.faults(), u64::from(!is_listing), "{line}");
-                assert!(rt; is_beginning(&left, &whole), "{line}");
-                failed = call;
-            }
-            assert!(rt; failed < 255, "{line}");
-            assert!(rt;
-                0 < failed || (!is_listing && whole.shelf.files() == 0),
-                "{line}"
-            );
-        }
+        let listing = failing_calls(&rt, alloc, words.as_slice(), text, step, true)?;
+        assert!(rt; listing.is_some_and(|calls| calls > writes), "{line}");
+        let shelf = failing_calls(&rt, alloc, words.as_slice(), text, step, false)?;
+        assert!(rt; shelf.is_some_and(|calls| calls > files), "{line}");
     }
     Ok(())
 }
@@ -153,8 +177,8 @@ fn files_come_before_the_listing(rt: HostRuntime) -> Result<(), Fail> {
         assert_eq!(rt; left.shelf.files(), files);
         let mut are_bytes = false;
         for i in 0..left.shelf.files() {
-            assert_eq!(rt; left.shelf.is_ended(i), i < ended);
-            are_bytes = !left.shelf.content(i).is_empty();
+            assert_eq!(rt; is_ended(&left.shelf, i), i < ended);
+            are_bytes = i < left.shelf.files() && !left.shelf.content(i).is_empty();
         }
         assert_eq!(rt; are_bytes, has_bytes);
     }
