@@ -1,7 +1,6 @@
 ghost use Rattle.std.specs.Prelude.{◌<◌};
 
 mod books;
-mod failing;
 
 use fx_base::{Bytes, MemoryShelf, MemorySink, MemorySource, SureShelf};
 use fx_program::{Settings, factex, make_text, read_words};

@@ -180,59 +180,6 @@ fn books_are_judged(rt: HostRuntime) -> Result<(), Fail> {
     Ok(())
 }
 
-/// The book with another line in the place of one of its own, counted from 1.
-fn with_line(alloc: Global, line: usize, other: &str) -> Result<Vec<u8>, Fail> {
-    let mut text = Vec::new(alloc);
-    let mut at: usize = 1;
-    for byte in NO_FIVE.as_bytes() {
-        if at != line {
-            text.push(*byte)?;
-        }
-        if *byte == b'\n' {
-            if at == line {
-                text.extend_from_slice(other.as_bytes())?;
-            }
-            at = at.saturating_add(1);
-        }
-    }
-    Ok(text)
-}
-
-/// Changed lines of the book, each with what `check` lists. With the last change the next child of the
-/// prefix of the rows 1, 2, 4 and 6 is row 5, and the word of line 13 has the sum 3 there.
-const FORGED: [(usize, &str, &str); 14] = [
-    (1, "factex-book 3\n", "rejected line 1 B2\n"),
-    (2, "size 2 3 41 0\n", "rejected line 2 B3\n"),
-    (2, "size 2 3 5 0\r\n", "rejected line 2 B3\n"),
-    (3, "resolution 04\n", "rejected line 3 B4\n"),
-    (4, "pattern 1\n", "rejected line 4 B5\n"),
-    (8, "P 7\n", "rejected line 8 B6\n"),
-    (9, "W 8 25\n", "rejected line 9 B7\n"),
-    (9, "W 6 0\n", "rejected line 9 B7\n"),
-    (9, "W 6  25\n", "rejected line 9 B6\n"),
-    (15, "END", "rejected line 15 B8\n"),
-    (15, "END\nO 1\n", "rejected line 16 B9\n"),
-    (9, "", "rejected line 9 K1\n"),
-    (9, "O 6\n", "rejected line 9 K7\n"),
-    (12, "O 6\n", "rejected line 13 K3\n"),
-];
-
-#[test]
-fn forged_books_are_rejected(rt: HostRuntime) -> Result<(), Fail> {
-    let alloc = rt.alloc();
-    let words = words_in(alloc, "check")?;
-    for (line, other, listing) in FORGED {
-        let book = with_line(alloc, line, other)?;
-        let ended = ran(&rt, alloc, words.as_slice(), book.as_slice(), None, None)?;
-        assert_eq!(rt; ended.status, 1, "{other}");
-        assert!(rt; ended.listed.as_slice() == listing.as_bytes(), "{other}");
-    }
-    let ended = ran(&rt, alloc, words.as_slice(), b"".as_slice(), None, None)?;
-    assert_eq!(rt; ended.status, 1);
-    assert!(rt; ended.listed.as_slice() == b"rejected line 1 B2\n".as_slice());
-    Ok(())
-}
-
 /// After a failed read of a book nothing is read again and nothing is written, and after a failed
 /// write nothing is written again.
 #[test]
