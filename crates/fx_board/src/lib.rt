@@ -6,8 +6,6 @@
 #![tactic(auto)]
 
 mod asking;
-#[cfg(test)]
-mod asking_tests;
 mod board;
 mod gate;
 mod jobs;
@@ -16,8 +14,6 @@ mod order;
 mod report_cutter;
 mod rule;
 mod sharing;
-#[cfg(test)]
-mod tests;
 mod view;
 mod worker;
 

@@ -60,8 +60,12 @@ pub fn ask_alone(alloc: Global, question: &Question, budget: u64) -> Result<Aske
     ask_by(alloc, question, &mut pruner, budget)
 }
 
-/// The same over a pruner that is at the empty prefix of the question.
-pub(crate) fn ask_by<P: Pruner>(
+/// The same over any pruner that is at the empty prefix of the question.
+///
+/// # Errors
+///
+/// `NoMemory`.
+pub fn ask_by<P: Pruner>(
     alloc: Global,
     question: &Question,
     pruner: &mut P,

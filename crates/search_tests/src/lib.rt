@@ -7,13 +7,25 @@ mod answer;
 #[cfg(test)]
 mod barred;
 #[cfg(test)]
+mod board;
+#[cfg(test)]
 mod book;
 #[cfg(test)]
 mod checker;
 #[cfg(test)]
 mod demands;
 #[cfg(test)]
+mod job;
+#[cfg(test)]
+mod plain_pruner;
+#[cfg(test)]
 mod points;
+#[cfg(test)]
+mod questions;
+#[cfg(test)]
+mod searches;
+#[cfg(test)]
+mod threads;
 #[cfg(test)]
 mod tree;
 #[cfg(test)]

@@ -6,7 +6,7 @@ use Rattle.fx_vectors.specs.Effects.{factors_of, numbers_of}
 use Rattle.fx_vectors.specs.Question.{CanBeTold, IsValid}
 use Rattle.fx_vectors.specs.declared.effect.Effect.{Effect}
 use Rattle.fx_vectors.specs.declared.question.Demands.TheVariants.{Effects}
-use Rattle.fx_search.proofs.job_tests.halves.Goals as goal
+use Rattle.search_tests.proofs.job.halves.Goals as goal
 
 askable : CanBeTold 2 4 (3 ∷ []) []
 unfolding factors_of ones

@@ -2,8 +2,8 @@ ghost use Rattle.std.specs.Prelude.{◌≡◌, [], ◌∷◌, false, true, IfOk}
 ghost use Rattle.fx_designs.specs.Problems.{ForEffects};
 ghost use Rattle.fx_vectors.specs.Question.{IsValid, problem_of};
 
-use crate::{Cutter, JobEnd, run_job};
 use fx_base::NoMemory;
+use fx_search::{Cutter, JobEnd, run_job};
 use fx_vectors::{Demands, Effect, Effects, Matrix, Question, Shape};
 use std::alloc::Global;
 use std::test::Fail;

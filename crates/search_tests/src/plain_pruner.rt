@@ -2,14 +2,14 @@ ghost use Rattle.std.specs.Prelude.{◌≡◌, []};
 ghost use Rattle.std.specs.Prelude.{List, ℕ};
 ghost use Rattle.fx_vectors.specs.Question.{problem_of};
 
-use crate::pruner::Pruner;
 use fx_base::NoMemory;
 use fx_demands::Forbidden;
+use fx_search::Pruner;
 use fx_vectors::Matrix;
 
 /// A pruner that looks for the closing word of each longer prefix.
 #[derive(Debug, Drop)]
-pub(crate) struct PlainPruner {
+pub struct PlainPruner {
     forbidden: Forbidden,
     prefix: Matrix,
     ghost shape: { prefix.shape ≡ forbidden.shape },
@@ -17,7 +17,7 @@ pub(crate) struct PlainPruner {
 
 impl PlainPruner {
     /// At the empty prefix of the question that forbids these words.
-    pub(crate) fn new(forbidden: Forbidden) -> PlainPruner
+    pub fn new(forbidden: Forbidden) -> PlainPruner
         ensures question { result.forbidden ≡ forbidden }
         ensures start { result.prefix.rows ≡ [] }
     {

@@ -1,11 +1,7 @@
 ghost use Rattle.std.specs.Prelude.{◌≡◌, ◌≤◌};
 
-use crate::board::Board;
-use crate::gate::{Ended, FreeGate, Gate};
-use crate::jobs::Jobs;
-use crate::sharing::share;
-use crate::worker::{Ends, work};
 use fx_base::NoMemory;
+use fx_board::{Board, Ended, Ends, FreeGate, Gate, Jobs, share, work};
 use fx_search::{Cutter, JobEnd};
 use fx_vectors::Marks;
 use std::alloc::Global;
@@ -114,7 +110,7 @@ fn a_seat_sees_what_another_reports(rt: HostRuntime) -> Result<(), Fail> {
 
 /// Holds the first job until nine others have ended, each Closed with one node.
 #[derive(Drop)]
-pub(crate) struct Holding {
+pub struct Holding {
     pub held: AtomicU64,
     pub ended: AtomicU64,
     pub met: AtomicU64,

@@ -10,8 +10,8 @@ use Rattle.fx_designs.specs.Answers.{lists}
 use Rattle.fx_designs.specs.Nodes.{is_branch, lot_of}
 use Rattle.fx_designs.specs.Jobs.{first_least, best_before}
 use Rattle.fx_vectors.specs.Matrix.{MatrixView}
-use Rattle.fx_search.proofs.job_tests.a_job_ends_at_its_design_or_its_limit_or_is_cut.Goals as goal
-use Rattle.fx_search.proofs.job_tests.a_job_ends_at_its_design_or_its_limit_or_is_cut.Given as given
+use Rattle.search_tests.proofs.job.a_job_ends_at_its_design_or_its_limit_or_is_cut.Goals as goal
+use Rattle.search_tests.proofs.job.a_job_ends_at_its_design_or_its_limit_or_is_cut.Given as given
 
 abbrev posed : Problem
 posed = record { dimensions = record { q = 2; m = 1; s = 4; t = 0 }; requirement = ForEffects (3 ∷ []) []; least = false }

@@ -12,7 +12,7 @@ use Rattle.fx_vectors.specs.declared.shape.Shape.{Shape}
 use Rattle.fx_vectors.specs.Shape.{IsShape}
 use Rattle.fx_vectors.specs.declared.effect.Effect.{Effect}
 use Rattle.fx_vectors.specs.declared.question.Demands.TheVariants.{Effects}
-use Rattle.fx_board.proofs.asking_tests.main_effects.Goals as goal
+use Rattle.search_tests.proofs.questions.main_effects.Goals as goal
 
 few-pairs : (q : ℕ) → is_order q ≡ true → pair_count q (1 ∷ 2 ∷ []) [] ≤ 2000000
 unfolding factors_of ones
