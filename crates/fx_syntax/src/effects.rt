@@ -45,16 +45,23 @@ impl EffectPlace {
             Self::Equals => only(Symbol::Equals, symbol, State::Effects(list, Self::Open)),
             Self::Open => only(Symbol::Open, symbol, State::Effects(list, Self::First)),
             Self::First => any_word(symbol, State::Effects(list, Self::Name)),
-            Self::Name => match symbol {
-                Symbol::Minus => Some(State::Effects(list, Self::Range)),
-                _ => behind_product(list, symbol),
-            },
+            Self::Name => behind_name(list, symbol),
             Self::Range => any_word(symbol, State::Effects(list, Self::More)),
             Self::Factor => any_word(symbol, State::Effects(list, Self::Product)),
             Self::Product => behind_product(list, symbol),
             Self::Bound => only(Symbol::Whole, symbol, State::Effects(list, Self::More)),
             Self::More => behind_effect(list, symbol),
         }
+    }
+}
+
+/// The place after a symbol that follows the first name of an effect.
+fn behind_name(list: EffectList, symbol: Symbol) -> Option<State>
+    ensures { after symbol (effects_left list EffectPlace.Name) ≡ shape_left result }
+{
+    match symbol {
+        Symbol::Minus => Some(State::Effects(list, EffectPlace::Range)),
+        _ => behind_product(list, symbol),
     }
 }
 

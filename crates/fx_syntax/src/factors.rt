@@ -31,16 +31,23 @@ impl FactorsPlace {
     {
         match self {
             Self::First => any_word(symbol, State::Factors(Self::Name)),
-            Self::Name => match symbol {
-                Symbol::Minus => Some(State::Factors(Self::Range)),
-                _ => behind_item(symbol),
-            },
+            Self::Name => behind_name(symbol),
             Self::Range => any_word(symbol, State::Factors(Self::More)),
             Self::More => behind_item(symbol),
             Self::Option => only(Symbol::Nlev, symbol, State::Factors(Self::Equals)),
             Self::Equals => only(Symbol::Equals, symbol, State::Factors(Self::Levels)),
             Self::Levels => only(Symbol::Whole, symbol, State::StatementEnd),
         }
+    }
+}
+
+/// The place after a symbol that follows a name.
+fn behind_name(symbol: Symbol) -> Option<State>
+    ensures { after symbol (factors_left FactorsPlace.Name) ≡ shape_left result }
+{
+    match symbol {
+        Symbol::Minus => Some(State::Factors(FactorsPlace::Range)),
+        _ => behind_item(symbol),
     }
 }
 

@@ -54,10 +54,7 @@ impl OutputPlace {
                 only(Symbol::Equals, symbol, State::Output(Self::Replication))
             }
             Self::Replication => only(Symbol::Whole, symbol, State::Output(Self::Options)),
-            Self::Randomize => match symbol {
-                Symbol::Open => Some(State::Output(Self::Seed)),
-                _ => option(symbol),
-            },
+            Self::Randomize => seed_or_option(symbol),
             Self::Seed => only(Symbol::Whole, symbol, State::Output(Self::SeedEnd)),
             Self::SeedEnd => only(Symbol::Close, symbol, State::Output(Self::Options)),
             Self::BlocknameEquals => {
@@ -65,10 +62,7 @@ impl OutputPlace {
             }
             Self::BlockColumn => any_word(symbol, State::Output(Self::BlockValues)),
             Self::BlockValues => values_or_option(symbol),
-            Self::ValuesOrFactor(kind) => match symbol {
-                Symbol::Equals => Some(State::Values(ValuesPlace::Open(kind))),
-                _ => values(symbol),
-            },
+            Self::ValuesOrFactor(kind) => rest_or_values(kind, symbol),
             Self::Factor => values(symbol),
         }
     }
@@ -100,6 +94,27 @@ fn option(symbol: Symbol) -> Option<State>
         Symbol::Blockname => Some(State::Output(OutputPlace::BlocknameEquals)),
         Symbol::Semicolon => Some(State::Step),
         _ => any_word(symbol, State::Output(OutputPlace::Factor)),
+    }
+}
+
+/// The place after `(`, or after the first word of an option, or after `;`.
+fn seed_or_option(symbol: Symbol) -> Option<State>
+    ensures { after symbol (output_left OutputPlace.Randomize) ≡ shape_left result }
+{
+    match symbol {
+        Symbol::Open => Some(State::Output(OutputPlace::Seed)),
+        _ => option(symbol),
+    }
+}
+
+/// The place after `=`, where NVALS or CVALS begins the block column's values, or after the word that
+/// begins the values of a factor of that name.
+fn rest_or_values(kind: ValueKind, symbol: Symbol) -> Option<State>
+    ensures { after symbol (output_left (OutputPlace.ValuesOrFactor kind)) ≡ shape_left result }
+{
+    match symbol {
+        Symbol::Equals => Some(State::Values(ValuesPlace::Open(kind))),
+        _ => values(symbol),
     }
 }
 

@@ -47,16 +47,9 @@ impl ValuesPlace {
             }
             Self::Number => signed(symbol),
             Self::Unsigned => unsigned(symbol),
-            Self::MoreNumbers => match symbol {
-                Symbol::Close => Some(State::Output(OutputPlace::Options)),
-                _ => signed(symbol),
-            },
+            Self::MoreNumbers => number_or_end(symbol),
             Self::Text => only(Symbol::Quoted, symbol, State::Values(Self::MoreTexts)),
-            Self::MoreTexts => match symbol {
-                Symbol::Quoted => Some(State::Values(Self::MoreTexts)),
-                Symbol::Close => Some(State::Output(OutputPlace::Options)),
-                _ => None,
-            },
+            Self::MoreTexts => text_or_end(symbol),
         }
     }
 
@@ -68,6 +61,27 @@ impl ValuesPlace {
             Symbol::OpenBracket => Some(24),
             _ => None,
         }
+    }
+}
+
+/// The place after the first symbol of another number, or after `)`.
+fn number_or_end(symbol: Symbol) -> Option<State>
+    ensures { after symbol (values_left ValuesPlace.MoreNumbers) ≡ shape_left result }
+{
+    match symbol {
+        Symbol::Close => Some(State::Output(OutputPlace::Options)),
+        _ => signed(symbol),
+    }
+}
+
+/// The place after another text, or after `)`.
+fn text_or_end(symbol: Symbol) -> Option<State>
+    ensures { after symbol (values_left ValuesPlace.MoreTexts) ≡ shape_left result }
+{
+    match symbol {
+        Symbol::Quoted => Some(State::Values(ValuesPlace::MoreTexts)),
+        Symbol::Close => Some(State::Output(OutputPlace::Options)),
+        _ => None,
     }
 }
 
