@@ -241,20 +241,38 @@ fn met(alloc: Global, rows: &[u16], question: &Question) -> Result<Option<bool>,
     Ok(Some(meets(question, &runs)))
 }
 
+/// The same for a resolution. None, too, where it is none that can be asked for.
+fn met_at(alloc: Global, shape: Shape, r: u8, rows: &[u16]) -> Result<Option<bool>, NoMemory>
+    requires { IsShape shape }
+{
+    if r < 3 || r > 99 {
+        return Ok(None);
+    }
+    met(alloc, rows, &at_resolution(shape, r))
+}
+
+/// Resolutions, rows of four factors of two levels, and whether their runs meet them: with D = ABC, BC
+/// and C.
+const TWO_LEVEL_CASES: [(u8, [u16; 4], bool); 7] = [
+    (3, [1, 2, 4, 7], true),
+    (4, [1, 2, 4, 7], true),
+    (5, [1, 2, 4, 7], false),
+    (99, [1, 2, 4, 7], false),
+    (3, [1, 2, 4, 6], true),
+    (4, [1, 2, 4, 6], false),
+    (3, [1, 2, 4, 4], false),
+];
+
 /// A, B, C and ABC are at resolution 4; A, B, A + B and A + 2 B over GF(3) at 3.
 #[test]
 fn resolutions_are_met(rt: HostRuntime) -> Result<(), Fail> {
     let alloc = rt.alloc();
-    for (r, is_met) in [(3, true), (4, true), (5, false), (99, false)] {
-        assert!(rt; 3 <= r && r <= 99);
-        let half = met(alloc, &[1, 2, 4, 7], &at_resolution(TWO_LEVELS, r))?;
-        assert!(rt; half == Some(is_met), "at {r}");
+    for (r, rows, is_met) in TWO_LEVEL_CASES {
+        assert!(rt; met_at(alloc, TWO_LEVELS, r, &rows)? == Some(is_met));
     }
-    assert!(rt; met(alloc, &[1, 2, 4, 6], &at_resolution(TWO_LEVELS, 3))? == Some(true));
-    assert!(rt; met(alloc, &[1, 2, 4, 6], &at_resolution(TWO_LEVELS, 4))? == Some(false));
-    assert!(rt; met(alloc, &[1, 2, 4, 4], &at_resolution(TWO_LEVELS, 3))? == Some(false));
-    assert!(rt; met(alloc, &[1, 3, 4, 7], &at_resolution(THREE_LEVELS, 3))? == Some(true));
-    assert!(rt; met(alloc, &[1, 3, 4, 7], &at_resolution(THREE_LEVELS, 4))? == Some(false));
+    for (r, is_met) in [(3, true), (4, false)] {
+        assert!(rt; met_at(alloc, THREE_LEVELS, r, &[1, 3, 4, 7])? == Some(is_met));
+    }
     Ok(())
 }
 
@@ -306,31 +324,37 @@ fn an_interaction_of_three_levels(rt: HostRuntime) -> Result<(), Fail> {
     Ok(())
 }
 
-/// Blocks by ABC, AB and A; by BC and AC, whose interaction is AB; by ABC and BC, whose interaction
-/// is A; and twice by ABC, so that two of four blocks are empty.
+/// Resolutions, rows of three factors and a block factor, and whether their runs meet them: with blocks
+/// by ABC, AB and A.
+const BLOCK_CASES: [(u8, [u16; 4], bool); 9] = [
+    (3, [1, 2, 4, 7], true),
+    (4, [1, 2, 4, 7], true),
+    (5, [1, 2, 4, 7], true),
+    (3, [1, 2, 4, 3], true),
+    (4, [1, 2, 4, 3], true),
+    (5, [1, 2, 4, 3], false),
+    (3, [1, 2, 4, 1], false),
+    (4, [1, 2, 4, 1], false),
+    (5, [1, 2, 4, 1], false),
+];
+
+/// The same at resolution 3 with two block factors: by BC and AC, whose interaction is AB; by ABC and BC,
+/// whose interaction is A; and twice by ABC, so that two of four blocks are empty.
+const FOUR_BLOCK_CASES: [([u16; 5], bool); 3] = [
+    ([1, 2, 4, 6, 5], true),
+    ([1, 2, 4, 7, 6], false),
+    ([1, 2, 4, 7, 7], false),
+];
+
 #[test]
 fn main_effects_are_told_from_blocks(rt: HostRuntime) -> Result<(), Fail> {
     let alloc = rt.alloc();
-    for (r, is_met) in [(3, true), (4, true), (5, false)] {
-        assert!(rt; 3 <= r && r <= 99);
-        let question = at_resolution(IN_BLOCKS, r);
-        assert!(rt;
-            met(alloc, &[1, 2, 4, 7], &question)? == Some(true),
-            "at {r}"
-        );
-        assert!(rt;
-            met(alloc, &[1, 2, 4, 3], &question)? == Some(is_met),
-            "at {r}"
-        );
-        assert!(rt;
-            met(alloc, &[1, 2, 4, 1], &question)? == Some(false),
-            "at {r}"
-        );
+    for (r, rows, is_met) in BLOCK_CASES {
+        assert!(rt; met_at(alloc, IN_BLOCKS, r, &rows)? == Some(is_met));
     }
-    let four = at_resolution(FOUR_BLOCKS, 3);
-    assert!(rt; met(alloc, &[1, 2, 4, 6, 5], &four)? == Some(true));
-    assert!(rt; met(alloc, &[1, 2, 4, 7, 6], &four)? == Some(false));
-    assert!(rt; met(alloc, &[1, 2, 4, 7, 7], &four)? == Some(false));
+    for (rows, is_met) in FOUR_BLOCK_CASES {
+        assert!(rt; met_at(alloc, FOUR_BLOCKS, 3, &rows)? == Some(is_met));
+    }
     Ok(())
 }
 
