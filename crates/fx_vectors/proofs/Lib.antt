@@ -5,4 +5,5 @@ pub mod Effects
 pub mod Supports
 pub mod Differences
 pub mod Balances
+pub mod MarkPieces
 mod Examples

@@ -1,8 +1,8 @@
-ghost use Rattle.std.specs.Prelude.{◌≡◌, ◌<◌, ◌↔◌, [], ◌∷◌, ◌++◌, length, slice_index_or, IsTrue, OnErr, OnOk};
-ghost use Rattle.fx_designs.specs.Galois.{digits, number};
-ghost use Rattle.fx_vectors.specs.Marks.{mark_from, meaning_of, row_of};
+ghost use Rattle.std.specs.Prelude.{◌≡◌, ◌≢◌, ◌<◌, ◌%◌, ◌↔◌, [], ◌∷◌, ◌++◌, length, slice_index_or, IsTrue, OnErr, OnOk};
+ghost use Rattle.fx_vectors.specs.Marks.{meaning_of, row_of};
 
-use fx_base::{NoMemory, Pieces};
+use crate::mark_piece::MarkPiece;
+use fx_base::NoMemory;
 use std::alloc::Global;
 use std::marker::Model;
 
@@ -19,29 +19,31 @@ pub enum Mark {
     Worse { row: u16 },
 }
 
-/// A mark in 18 bytes: its row and 1,024 times its kind, and the digits of its word to the base
-/// 65,536, the lowest first.
-#[derive(Clone, Copy, Debug)]
-struct Kept {
-    head: u16,
-    word: [u16; 8],
-}
+/// How many marks a piece has room for.
+const PIECE: usize = 65536;
 
-/// Marks in order, which take 18 bytes each: of a search there may be five million. Clauses see the
+/// Marks in order, held in pieces that stay where they are: of a search there may be five million.
+/// A mark takes 4 bytes, and 4 more for each digit of its word to the base 2^32. Clauses see the
 /// list.
 #[derive(Debug, Drop)]
 pub struct Marks {
-    kept: Pieces<Kept>,
+    pieces: Vec<MarkPiece>,
+    len: usize,
 }
 
 impl Model for Marks {
-    ghost use Rattle.std.specs.Prelude.{List, map};
+    ghost use Rattle.std.specs.Prelude.{◌≡◌, List, length};
+    ghost use Rattle.fx_base.specs.Pieces.{ArePieces, joined};
     ghost use Rattle.fx_designs.specs.Nodes.{Mark};
-    ghost use Rattle.fx_vectors.specs.Marks.{mark_from};
 
     ghost Value = { List Mark };
 
-    ghost view = { λ x. map mark_from x.kept };
+    ghost view = { λ x. joined x.pieces.items };
+
+    ghost invariant = { λ x. record {
+      pieces : ArePieces x.pieces.items;
+      len : x.len ≡ length (joined x.pieces.items);
+    } };
 }
 
 impl Marks {
@@ -50,14 +52,15 @@ impl Marks {
         ensures { result ≡ [] }
     {
         Marks {
-            kept: Pieces::new(alloc),
+            pieces: Vec::new(alloc),
+            len: 0,
         }
     }
 
     pub fn len(&self) -> usize
         ensures { result ≡ length self.now }
     {
-        self.kept.len()
+        self.len
     }
 
     /// Whether there is no mark.
@@ -73,7 +76,7 @@ impl Marks {
         ensures mark { meaning_of result ≡ slice_index_or self.now i (meaning_of result) }
         ensures row { row_of result < 1024 }
     {
-        mark_from(self.kept.get(i))
+        self.pieces[i / PIECE].get(i % PIECE)
     }
 
     /// Adds a mark at the end.
@@ -86,68 +89,44 @@ impl Marks {
         ensures ok { OnOk result (self.new ≡ self.old ++ meaning_of mark ∷ []) }
         ensures err { OnErr result (self.new ≡ self.old) }
     {
-        self.kept.push(keep(mark))
+        if self.len == usize::MAX {
+            return Err(NoMemory);
+        }
+        if self.len % PIECE == 0 {
+            self.push_piece(mark)
+        } else {
+            self.push_to_last(mark)
+        }
     }
-}
 
-/// How many rows there can be.
-const ROWS: u16 = 1024;
-
-fn keep(mark: Mark) -> Kept
-    requires { row_of mark < 1024 }
-    ensures { mark_from result ≡ meaning_of mark }
-{
-    match mark {
-        Mark::Branch { row } => Kept {
-            head: row,
-            word: [0; 8],
-        },
-        Mark::Word { row, word } => Kept {
-            head: ROWS + row,
-            word: digits(word),
-        },
-        Mark::Worse { row } => Kept {
-            head: 2 * ROWS + row,
-            word: [0; 8],
-        },
+    /// Adds a mark to the last piece, which is not full.
+    fn push_to_last(&mut self, mark: Mark) -> Result<(), NoMemory>
+        requires row { row_of mark < 1024 }
+        requires room { length self.old % 65536 ≢ 0 }
+        requires fits { length self.old < 18446744073709551615 }
+        ensures ok { OnOk result (self.new ≡ self.old ++ meaning_of mark ∷ []) }
+        ensures err { OnErr result (self.new ≡ self.old) }
+    {
+        let last = self.pieces.len() - 1;
+        self.pieces[last].push(mark)?;
+        self.len += 1;
+        Ok(())
     }
-}
 
-fn mark_from(kept: Kept) -> Mark
-    ensures mark { meaning_of result ≡ mark_from kept }
-    ensures row { row_of result < 1024 }
-{
-    let row = kept.head % ROWS;
-    match kept.head / ROWS {
-        0 => Mark::Branch { row },
-        1 => Mark::Word {
-            row,
-            word: number(kept.word),
-        },
-        _ => Mark::Worse { row },
+    /// Adds a piece with this mark, where all pieces are full.
+    fn push_piece(&mut self, mark: Mark) -> Result<(), NoMemory>
+        requires row { row_of mark < 1024 }
+        requires full { length self.old % 65536 ≡ 0 }
+        requires fits { length self.old < 18446744073709551615 }
+        ensures ok { OnOk result (self.new ≡ self.old ++ meaning_of mark ∷ []) }
+        ensures err { OnErr result (self.new ≡ self.old) }
+    {
+        let mut piece = MarkPiece::new(*self.pieces.allocator());
+        piece.push(mark)?;
+        if self.pieces.push(piece).is_err() {
+            return Err(NoMemory);
+        }
+        self.len += 1;
+        Ok(())
     }
-}
-
-/// The digits of a number to the base 65,536, the lowest first.
-fn digits(n: u128) -> [u16; 8]
-    ensures { result ≡ digits 65536 8 n }
-{
-    let mut digits = [0u16; 8];
-    let mut rest = n;
-    for i in 0..8 {
-        digits[i] = (rest % 65536) as u16;
-        rest /= 65536;
-    }
-    digits
-}
-
-/// The number with these digits.
-fn number(digits: [u16; 8]) -> u128
-    ensures { result ≡ number 65536 digits }
-{
-    let mut number = 0;
-    for i in (0..8).rev() {
-        number = number * 65536 + u128::from(digits[i]);
-    }
-    number
 }

@@ -46,6 +46,39 @@ fn marks_are_kept_past_the_end_of_a_piece(rt: HostRuntime) -> Result<(), Fail> {
     Ok(())
 }
 
+/// Words at the edges of each number of digits to the base 2^32, from none to four.
+const WORDS: [u128; 11] = [
+    0,
+    1,
+    4294967295,
+    4294967296,
+    18446744073709551615,
+    18446744073709551616,
+    79228162514264337593543950335,
+    79228162514264337593543950336,
+    170141183460469231731687303715884105727,
+    170141183460469231731687303715884105728,
+    340282366920938463463374607431768211455,
+];
+
+/// Six of the words are in one piece, and five in the next.
+#[test]
+fn words_of_all_lengths_are_kept_about_the_end_of_a_piece(rt: HostRuntime) -> Result<(), Fail> {
+    let mut marks = marks_of(rt.alloc(), 65530)?;
+    for word in WORDS {
+        marks.push(Mark::Word { row: 1023, word })?;
+    }
+    marks.push(Mark::Worse { row: 1023 })?;
+    assert_eq!(rt; marks.len(), 65542);
+    let are_kept = (65530..65541)
+        .zip(WORDS)
+        .all(|(i, word)| i < marks.len() && marks.get(i) == Mark::Word { row: 1023, word });
+    assert!(rt; are_kept);
+    assert!(rt; stand_at(&marks, &[0, 1, 2, 65527, 65528, 65529]));
+    assert_eq!(rt; marks.get(65541), Mark::Worse { row: 1023 });
+    Ok(())
+}
+
 #[test]
 fn an_effect_is_among_others_or_not(rt: HostRuntime) -> Result<(), Fail> {
     let effects = Effects::from_slice(rt.alloc(), &[Effect(1), Effect(6)])?;
