@@ -42,10 +42,11 @@ pub enum Asked {
 /// least pattern of the lots before that of the node that passes the budget. `Nothing` speaks of all
 /// rule matrices, canonical or not.
 ///
-/// Besides the marks, which take 18 bytes a node, memory is taken at the start alone: for the points
-/// that are reached and the best words for block rows, or for a copy of the effects and for the
-/// forbidden vectors, at most one for each pair of vectors to be told apart; and where a least pattern
-/// is asked for at most 30 MB of counts. The recursion is as deep as a matrix has rows, at most 40.
+/// Besides the marks, which take 4 to 20 bytes a node, memory is taken at the start alone: for the
+/// points that are reached and the best words for block rows, or for a copy of the effects and for
+/// the forbidden vectors, at most one for each pair of vectors to be told apart; and where a least
+/// pattern is asked for at most 30 MB of counts. The recursion is as deep as a matrix has rows, at
+/// most 40.
 ///
 /// # Errors
 ///
