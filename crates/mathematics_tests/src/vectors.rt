@@ -70,9 +70,8 @@ fn words_of_all_lengths_are_kept_about_the_end_of_a_piece(rt: HostRuntime) -> Re
     }
     marks.push(Mark::Worse { row: 1023 })?;
     assert_eq!(rt; marks.len(), 65542);
-    let are_kept = (65530..65541)
-        .zip(WORDS)
-        .all(|(i, word)| i < marks.len() && marks.get(i) == Mark::Word { row: 1023, word });
+    let are_kept = (65530..65541).zip(WORDS).all(|(i, word)| i < marks.len()
+        && marks.get(i) == Mark::Word { row: 1023, word });
     assert!(rt; are_kept);
     assert!(rt; stand_at(&marks, &[0, 1, 2, 65527, 65528, 65529]));
     assert_eq!(rt; marks.get(65541), Mark::Worse { row: 1023 });
