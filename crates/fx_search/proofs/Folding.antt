@@ -32,6 +32,7 @@ use Rattle.fx_jobs.proofs.Turns.{improvement_joins}
 use Rattle.fx_jobs.proofs.SearchTree.{no-design, marks-walked}
 use Rattle.fx_search.proofs.Steps.{through-more}
 use Rattle.fx_search.specs.Folds.{IsLot, AreEnds, total, joined, found_in, best_in, IsFold}
+use Rattle.fx_search.specs.LotWalks.{is_seen}
 use Rattle.fx_search.specs.Standing.{rows_of}
 use Rattle.fx_search.specs.declared.job.JobEnd.{JobEnd}
 use Rattle.fx_search.specs.declared.job.JobEnd.TheVariants.{Found, Closed, Spent, Cut}
@@ -42,7 +43,7 @@ pub find-any : (D : List ℕ → Bool) (xs : List (List ℕ)) → find D xs ≡ 
 find-any D [] h = refl
 find-any D (x ∷ xs) h = elim (D x) as (λ b. cond b (Some x) (find D xs) ≡ None → (b || list_any D xs) ≡ false) [ true ↦ λ e. absurd (cc e) | false ↦ λ e. find-any D xs e ] h
 
-each-canonical : (P : ℕ → Bool) (xs : List ℕ) → AllByRecursion (λ r. P r ≡ true) (filter P xs)
+pub each-canonical : (P : ℕ → Bool) (xs : List ℕ) → AllByRecursion (λ r. P r ≡ true) (filter P xs)
 each-canonical P [] = tt
 each-canonical P (x ∷ xs) = elim (cases_Bool (P x)) [
   | inl a ↦ subst (AllByRecursion (λ r. P r ≡ true)) (sym (cond-true (P x) (x ∷ filter P xs) _ a)) (a, each-canonical P xs)
@@ -64,6 +65,12 @@ at-drop [] zero r rs h = absurd (cc h)
 at-drop [] (suc i) r rs h = absurd (cc h)
 at-drop (x ∷ xs) zero r rs h = cc
 at-drop (x ∷ xs) (suc i) r rs h = at-drop xs i r rs h
+
+inside-drop : (xs : List ℕ) (i r : ℕ) (rs : List ℕ) → r ∷ rs ≡ drop i xs → i < length xs
+inside-drop [] zero r rs h = absurd (cc h)
+inside-drop [] (suc i) r rs h = absurd (cc h)
+inside-drop (x ∷ xs) zero r rs h = omega arith
+inside-drop (x ∷ xs) (suc i) r rs h = let low = inside-drop xs i r rs h in omega arith
 
 past-drop : (xs : List ℕ) (i r : ℕ) (rs : List ℕ) → r ∷ rs ≡ drop i xs → rs ≡ drop (suc i) xs
 past-drop [] zero r rs h = absurd (cc h)
@@ -126,14 +133,14 @@ module _ (question : Question) (valid : IsValid question) (l : List ℕ) (lot : 
 
   module _ (limit : ℕ) where
     -- what the fold says, where e nodes came before
-    abbrev Law : ℕ → List ℕ → List JobEnd → Type 0
+    abbrev pub Law : ℕ → List ℕ → List JobEnd → Type 0
     Law e rows ends = record {
       up : limit < e + total ends → limit < e + length (through D (all rows));
       down : limit < e + length (through D (all rows)) → limit < e + total ends;
       gives : e + total ends ≤ limit → (total ends ≡ length (through D (all rows))) × (joined ends ≡ map (search_mark p) (through D (all rows))) × (p.least ≡ false → found_in ends ≡ find D (all rows));
     }
 
-    fold_law : (e : ℕ) (rows : List ℕ) (ends : List JobEnd) → AllByRecursion (λ r. is_canonical p.dimensions p.requirement (job r) ≡ true) rows → AreEnds question limit e (map job rows) ends → Law e rows ends
+    pub fold_law : (e : ℕ) (rows : List ℕ) (ends : List JobEnd) → AllByRecursion (λ r. is_canonical p.dimensions p.requirement (job r) ≡ true) rows → AreEnds question limit e (map job rows) ends → Law e rows ends
     fold_law e [] [] can h = record { up = λ k. k; down = λ k. k; gives = λ k. (refl, refl, λ z. refl) }
     fold_law e [] (end ∷ ends) can h = absurd h
     fold_law e (r ∷ rows) [] can h = absurd h
@@ -201,7 +208,7 @@ module _ (question : Question) (valid : IsValid question) (l : List ℕ) (lot : 
     known : (i : ℕ) (b : List ℕ) → best_before p l ≡ Some b → so_far x law l part (take i kids) b ≡ true
     known i b e = or_left _ _ (subst (IsFirstLeast x (is_counted x l)) e start-is).0
 
-    best_law : (i e : ℕ) (rows : List ℕ) (ends : List JobEnd) (now : Option (List ℕ)) → rows ≡ drop i kids → i + length rows ≡ length kids → AllByRecursion (λ r. is_canonical p.dimensions p.requirement (job r) ≡ true) rows
+    best_law : (i e : ℕ) (rows : List ℕ) (ends : List JobEnd) (now : Option (List ℕ)) → rows ≡ drop i kids → length kids ≤ i + length rows → AllByRecursion (λ r. is_canonical p.dimensions p.requirement (job r) ≡ true) rows
         → IsFirstLeast x (so_far x law l part (take i kids)) now → e + total ends ≤ limit → AreEnds question limit e (map job rows) ends
         → IsFirstLeast x (is_counted_through x l) (best_in p now ends)
     best_law i e [] [] now is count can h fits k = end_best x law l part i now (omega (arith, count)) h
@@ -215,7 +222,7 @@ module _ (question : Question) (valid : IsValid question) (l : List ℕ) (lot : 
         absurd (omega arith)
     best_law i e (r ∷ rows) (Closed best n ms ∷ ends) now is count can h fits k =
         let n-is : n ≡ length (nodes_inside p (job r)) = k.0.ends.2 in
-        let low : i < length kids = omega (arith, count) in
+        let low : i < length kids = inside-drop kids i r rows is in
         let at : get_or kids i 0 ≡ r = at-drop kids i r rows is in
         let rest : rows ≡ drop (i + 1) kids = past-drop kids i r rows is ∙ (let z : suc i ≡ i + 1 = omega arith in ap (λ n. drop n kids) z) in
         let improvement : IsPartBest x (λ d. is_tree_design (tree_of p) d && extends d (job r)) (best_before p l) (rows_of best) =
@@ -224,6 +231,11 @@ module _ (question : Question) (valid : IsValid question) (l : List ℕ) (lot : 
         let next : IsFirstLeast x (so_far x law l part (take (i + 1) kids)) (better x now (rows_of best)) =
         improvement_joins x law l part lot.rows i low (best_before p l) now (rows_of best) h (known i) (subst (λ z. IsPartBest x (λ d. is_tree_design (tree_of p) d && extends d (l ++ z ∷ [])) (best_before p l) (rows_of best)) (sym at) improvement) in
         best_law (i + 1) (e + length (nodes_inside p (job r))) rows ends (better x now (rows_of best)) rest (omega (arith, count)) can.1 next (omega (arith, fits)) k.1
+
+    -- the best of what was seen of the lot, joined with those of the ends of the jobs that are left, is that of the lots up to this one
+    pub rest_best : (i : ℕ) (rows : List ℕ) (ends : List JobEnd) (now : Option (List ℕ)) → rows ≡ drop i kids → length kids ≤ i + length rows → AllByRecursion (λ r. is_canonical p.dimensions p.requirement (job r) ≡ true) rows
+        → IsFirstLeast x (is_seen p l i) now → total ends ≤ limit → AreEnds question limit 0 (map job rows) ends → IsFirstLeast x (is_counted_through x l) (best_in p now ends)
+    rest_best i rows ends now is count can h fits k = best_law i 0 rows ends now is count can h (omega arith) k
 
     -- what counts for the lot and what is in it are the designs of the lots up to it
     through-seen : (d : List ℕ) → is_counted_through x l d ≡ (is_tree_design (tree_of p) d && (is_of_earlier_lot p.dimensions l d || is_in_a_job p.dimensions (lot_of p.dimensions l) d))

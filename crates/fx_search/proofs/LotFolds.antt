@@ -1,13 +1,15 @@
 -- What a walk has come by once the ends of a lot's jobs are folded into it.
-use Rattle.std.proofs.Common.{◌≡◌, ℕ, ◌<◌, ◌≤◌, ◌+◌, ◌-◌, Bool, true, false, List, [], ◌∷◌, ◌++◌, map, length, Option, Some, None, refl, sym, subst, ap, ap₂, ◌∙◌, inl, inr, arith, length-append, append_assoc}
-use Rattle.std.specs.List.{list_any, find}
+use Rattle.std.proofs.Common.{◌≡◌, ℕ, zero, suc, ◌<◌, ◌≤◌, ◌+◌, ◌-◌, ◌||◌, drop, Bool, true, false, List, [], ◌∷◌, ◌++◌, map, length, Option, Some, None, refl, sym, subst, ap, ap₂, ◌∙◌, inl, inr, arith, length-append, append_assoc, append-nil}
+use Rattle.std.specs.List.{list_any, find, AllByRecursion}
 use Rattle.std.proofs.lemmas.Bool.{cases_Bool}
 use Rattle.std.proofs.lemmas.List.{map-append, length-map}
 use Rattle.fx_designs.specs.Galois.{IsField}
 use Rattle.fx_designs.specs.Problems.{Problem}
-use Rattle.fx_designs.specs.Nodes.{mark_of, Mark}
+use Rattle.fx_designs.specs.Answers.{falling}
+use Rattle.fx_designs.specs.Canonical.{is_canonical}
+use Rattle.fx_designs.specs.Nodes.{Mark}
 use Rattle.fx_designs.specs.Jobs.{nodes_of_lot, nodes_inside, first_of_lot, best_before}
-use Rattle.fx_laws.specs.Trees.{is_tree_design}
+use Rattle.fx_laws.specs.Trees.{tree_of, children_of, is_tree_design}
 use Rattle.fx_laws.specs.Walks.{under, through}
 use Rattle.fx_laws.proofs.Tables.{is_order-field}
 use Rattle.fx_laws.proofs.Through.{through-none, through-left, through-right, find-left, find-right, any-found, any-append}
@@ -21,26 +23,47 @@ use Rattle.fx_vectors.specs.declared.question.Question.{Question}
 use Rattle.fx_vectors.specs.Question.{IsValid, problem_of}
 use Rattle.fx_search.specs.Ends.{IsFound, IsSpent, IsCarried}
 use Rattle.fx_search.specs.Folds.{AreEnds, jobs_of, total, joined, found_in, best_in, IsFold}
-use Rattle.fx_search.specs.LotWalks.{after, candidates_of, IsSoFar, IsThrough, IsNewLot, IsPlaced, IsAtLot}
+use Rattle.fx_search.specs.LotWalks.{rows_below, jobs_below, below, after, candidates_of, IsSoFar, IsThrough, IsInLot, IsPlaced, IsUnderWay, IsAtLot}
 use Rattle.fx_search.specs.Searchers.{standing_in}
+use Rattle.fx_search.specs.Standing.{FitsDimensions, kept_rows}
 use Rattle.fx_search.specs.declared.lot_walk.LotWalk.{LotWalk}
 use Rattle.fx_search.specs.declared.job.JobEnd.{JobEnd}
 use Rattle.fx_search.specs.declared.job.JobEnd.TheVariants.{Found, Closed, Spent, Cut}
 use Rattle.fx_search.proofs.Carried.{carries-turn, carries-part}
-use Rattle.fx_search.proofs.Folding.{passes, gives, through_best, fold-marks, find-any}
+use Rattle.fx_search.proofs.Folding.{Law, fold_law, rest_best, each-canonical, find-any}
 use Rattle.fx_search.proofs.Starts.{lot-room, plain_best, plain_known}
 use Rattle.fx_search.proofs.Steps.{through-more}
 
-module _ (question : Question) (valid : IsValid question) (limit bound : ℕ) (l : List ℕ) (list : List Mark) (best : Option (List ℕ)) (h : IsSoFar (problem_of question) limit l bound list best) (new : IsNewLot (problem_of question) l bound best)
-    (ends : List JobEnd) (are : AreEnds question (limit - length list) 0 (jobs_of (problem_of question) l) ends) where
+-- what is left of a list has no more items before it than were dropped
+long-drop : (xs : List ℕ) (i : ℕ) → length xs ≤ i + length (drop i xs)
+long-drop [] zero = omega arith
+long-drop [] (suc i) = omega arith
+long-drop (x ∷ xs) zero = omega arith
+long-drop (x ∷ xs) (suc i) = let h = long-drop xs i in omega arith
+
+-- where no item passes a test, none of the first ones does
+none-front : {X : Type 0} (D : X → Bool) (xs ys : List X) → list_any D (xs ++ ys) ≡ false → list_any D xs ≡ false
+none-front D [] ys h = refl
+none-front D (x ∷ xs) ys h = elim (D x) as (λ b. (b || list_any D (xs ++ ys)) ≡ false → (b || list_any D xs) ≡ false) [ true ↦ λ e. e | false ↦ λ e. none-front D xs ys e ] h
+
+-- nor one of those after them
+none-back : {X : Type 0} (D : X → Bool) (xs ys : List X) → list_any D (xs ++ ys) ≡ false → list_any D ys ≡ false
+none-back D [] ys h = h
+none-back D (x ∷ xs) ys h = elim (D x) as (λ b. (b || list_any D (xs ++ ys)) ≡ false → list_any D ys ≡ false) [ true ↦ λ e. absurd (cc e) | false ↦ λ e. none-back D xs ys e ] h
+
+module _ (question : Question) (valid : IsValid question) (limit bound : ℕ) (l : List ℕ) (list : List Mark) (best earlier : Option (List ℕ)) (h : IsSoFar (problem_of question) limit l bound list best) (new : IsInLot (problem_of question) l bound h.done earlier) where
   abbrev p : Problem
   p = problem_of question
 
   abbrev D : List ℕ → Bool
   D = is_tree_design (search_tree p)
 
+  -- what is left of the lot
   abbrev sub : List (List ℕ)
-  sub = under (search_tree p) (p.dimensions.s + p.dimensions.t - length l) l
+  sub = below p l bound
+
+  abbrev whole : List (List ℕ)
+  whole = under (search_tree p) (p.dimensions.s + p.dimensions.t - length l) l
 
   abbrev rest : List (List ℕ)
   rest = after p (length l) l
@@ -57,79 +80,95 @@ module _ (question : Question) (valid : IsValid question) (limit bound : ℕ) (l
   room : p.dimensions.m + 1 < p.dimensions.s + p.dimensions.t
   room = omega (arith, part, new.lot.rows)
 
-  split : candidates_of p ≡ h.done ++ (sub ++ rest)
-  split = h.whole ∙ ap (λ z. h.done ++ (z ++ rest)) new.all
-
   seen : length list ≡ length h.done
   seen = ap length h.marks ∙ length-map h.done (search_mark p)
 
-  nodes-are : nodes_of_lot p l ≡ through D sub
-  nodes-are = lot-nodes p f some l new.lot.rows room new.lot.canonical new.lot.branch
-
-  first-is : p.least ≡ false → first_of_lot p l ≡ find D sub
-  first-is e = first-of-lot p f some l new.lot.rows room new.lot.canonical new.lot.branch e
-
-  -- the best so far is that of what counts for the lot
-  counted : IsBestAt p (is_counted (ranked p) l) best
-  counted = record { first = λ e. subst (λ o. IsFirstLeast (ranked p) (is_counted (ranked p) l) o) (sym (new.best_is e)) (before-least p f some e l (omega (arith, new.lot.rows)) (omega (arith, room)) (omega (arith, part))) }
+  -- the best of the lots before is that of what counts for the lot
+  pub counted : IsBestAt p (is_counted (ranked p) l) earlier
+  counted = record { first = λ e. subst (λ o. IsFirstLeast (ranked p) (is_counted (ranked p) l) o) (sym new.best_is) (before-least p f some e l (omega (arith, new.lot.rows)) (omega (arith, room)) (omega (arith, part))) }
 
   cut : through D (candidates_of p) ≡ h.done ++ through D (sub ++ rest)
-  cut = ap (through D) split ∙ through-right D h.done (sub ++ rest) h.none
+  cut = ap (through D) h.whole ∙ through-right D h.done (sub ++ rest) h.none
 
-  module _ (now : List Mark) (fits : length now ≤ limit) (count : length now ≡ length list + total ends) (more : now ≡ list ++ joined ends) where
-    fold : IsFold p l ends
-    fold = gives question valid l new.lot (limit - length list) ends are (omega (arith, fits, count, h.fits))
-
-    joined-marks : joined ends ≡ map (search_mark p) (through D sub)
-    joined-marks = fold.marks ∙ fold-marks question valid l new.lot ∙ ap (map (search_mark p)) nodes-are
-
-    all-marks : now ≡ map (search_mark p) (h.done ++ through D sub)
-    all-marks = more ∙ ap₂ (λ a b. a ++ b) h.marks joined-marks ∙ sym (map-append (search_mark p) h.done (through D sub))
-
-    -- no job has a design, or a least pattern is asked
-    pub fold-closed : found_in ends ≡ None → IsThrough p limit l now (best_in p best ends)
-    fold-closed none =
-        let nothing : list_any D sub ≡ false = elim (cases_Bool p.least) [
-          | inl e ↦ any-never D (λ d. no-design p e d) sub
-          | inr e ↦ find-any D sub (sym (first-is e) ∙ sym (fold.matrix e) ∙ none)
-        ] in
-        let all : through D sub ≡ sub = through-none D sub nothing in
-        record {
-          done = h.done ++ sub;
-          whole = split ∙ sym (append_assoc h.done sub rest);
-          none = any-append D h.done sub h.none nothing;
-          marks = all-marks ∙ ap (λ z. map (search_mark p) (h.done ++ z)) all;
-          fits = fits;
-          best_is = record {
-            first = λ e.
-                subst (λ o. IsFirstLeast (ranked p) (is_counted_through (ranked p) l) (best_in p o ends)) (sym (new.best_is e))
-                (through_best question valid l new.lot e (limit - length list) ends (omega (arith, fits, count, h.fits)) are);
-          };
-        }
-
-    -- a job has the first design
-    pub fold-found : (rows : List ℕ) → p.least ≡ false → found_in ends ≡ Some rows → IsFound (search_tree p) (search_mark p) limit (candidates_of p) [] now rows
-    fold-found rows plain is =
-        let first : find D sub ≡ Some rows = sym (first-is plain) ∙ sym (fold.matrix plain) ∙ is in
-        let any : list_any D sub ≡ true = any-found D sub rows first in
-        record {
-          first = ap (find D) split ∙ find-right D h.done (sub ++ rest) h.none ∙ find-left D sub rest rows first;
-          marks = all-marks ∙ ap (map (search_mark p)) (sym (cut ∙ ap (λ z. h.done ++ z) (through-left D sub rest any)));
-          fits = fits;
-        }
-
-  -- the limit ends the search in the lot
-  pub fold-spent : limit < length list + total ends → IsSpent (search_tree p) limit (candidates_of p) [] × IsCarried p [] limit (candidates_of p) [] best
-  fold-spent past =
-      let over : limit - length list < length (nodes_of_lot p l) = (passes question valid l new.lot (limit - length list) ends are).0 (omega (arith, past, h.fits)) in
-      let here : limit < length list + length (through D sub) = omega (arith, over, ap length nodes-are, h.fits) in
+  -- the limit ends the search in what is left of the lot
+  pub spent-in-lot : limit < length list + length (through D sub) → IsSpent (search_tree p) limit (candidates_of p) [] × IsCarried p [] limit (candidates_of p) [] earlier
+  spent-in-lot here =
+      let old : List Mark = map (search_mark p) new.before in
+      let old-long : length old ≡ length new.before = length-map new.before (search_mark p) in
+      let done-long : length h.done ≡ length new.before + length new.inside = ap length new.done_are ∙ length-append new.before new.inside in
+      let quiet : list_any D new.inside ≡ false = none-back D new.before new.inside (ap (list_any D) (sym new.done_are) ∙ h.none) in
+      let all : through D whole ≡ new.inside ++ through D sub = ap (through D) new.all ∙ through-right D new.inside sub quiet in
+      let all-long : length (through D whole) ≡ length new.inside + length (through D sub) = ap length all ∙ length-append new.inside (through D sub) in
+      let split : candidates_of p ≡ new.before ++ (whole ++ rest) =
+      h.whole ∙ ap (λ z. z ++ (sub ++ rest)) new.done_are ∙ append_assoc new.before new.inside (sub ++ rest)
+      ∙ ap (λ z. new.before ++ z) (sym (append_assoc new.inside sub rest) ∙ ap (λ z. z ++ rest) (sym new.all)) in
       let long : length (through D (candidates_of p)) ≡ length h.done + length (through D (sub ++ rest)) = ap length cut ∙ length-append h.done _ in
       let more = through-more D sub rest in
+      let short : length old ≤ limit = omega (arith, old-long, done-long, seen, h.fits) in
+      let there : limit < length old + length (through D whole) = omega (arith, here, all-long, old-long, done-long, seen) in
       let spent : limit < 0 + length (through D (candidates_of p)) = omega (arith, here, long, more, seen) in (
         record { more = spent },
-        carries-part p f some [] l limit (candidates_of p) h.done sub rest [] list best split (omega (arith, seen)) h.fits here (λ least low. omega (arith, new.lot.rows))
-            (carries-turn p f some l (p.dimensions.s + p.dimensions.t - length l) limit list best new.lot.rows (omega (arith, part)) h.fits here counted),
+        carries-part p f some [] l limit (candidates_of p) new.before whole rest [] old earlier split (omega (arith, old-long)) short there (λ least low. omega (arith, new.lot.rows))
+            (carries-turn p f some l (p.dimensions.s + p.dimensions.t - length l) limit old earlier new.lot.rows (omega (arith, part)) short there counted),
       )
+
+  module _ (ends : List JobEnd) (are : AreEnds question (limit - length list) 0 (jobs_below p l bound) ends) where
+    abbrev rows : List ℕ
+    rows = rows_below p l bound
+
+    can : AllByRecursion (λ r. is_canonical p.dimensions p.requirement (l ++ r ∷ []) ≡ true) rows
+    can = each-canonical (λ r. is_canonical p.dimensions p.requirement (l ++ r ∷ [])) (falling bound)
+
+    law : Law question valid l new.lot (limit - length list) 0 rows ends
+    law = fold_law question valid l new.lot (limit - length list) 0 rows ends can are
+
+    module _ (now : List Mark) (fits : length now ≤ limit) (count : length now ≡ length list + total ends) (more : now ≡ list ++ joined ends) where
+      within : total ends ≤ limit - length list
+      within = omega (arith, fits, count, h.fits)
+
+      got : (total ends ≡ length (through D sub)) × (joined ends ≡ map (search_mark p) (through D sub)) × (p.least ≡ false → found_in ends ≡ find D sub)
+      got = law.gives (omega (arith, within))
+
+      all-marks : now ≡ map (search_mark p) (h.done ++ through D sub)
+      all-marks = more ∙ ap₂ (λ a b. a ++ b) h.marks got.1 ∙ sym (map-append (search_mark p) h.done (through D sub))
+
+      -- no job has a design, or a least pattern is asked
+      pub fold-closed : found_in ends ≡ None → IsThrough p limit l now (best_in p best ends)
+      fold-closed none =
+          let nothing : list_any D sub ≡ false = elim (cases_Bool p.least) [
+            | inl e ↦ any-never D (λ d. no-design p e d) sub
+            | inr e ↦ find-any D sub (sym (got.2 e) ∙ none)
+          ] in
+          let all : through D sub ≡ sub = through-none D sub nothing in
+          record {
+            done = h.done ++ sub;
+            whole = h.whole ∙ sym (append_assoc h.done sub rest);
+            none = any-append D h.done sub h.none nothing;
+            marks = all-marks ∙ ap (λ z. map (search_mark p) (h.done ++ z)) all;
+            fits = fits;
+            best_is = record {
+              first = λ e.
+                  let long : length (children_of (tree_of p) l) ≤ h.count + length rows = subst (λ z. length (children_of (tree_of p) l) ≤ h.count + length z) h.left (long-drop (children_of (tree_of p) l) h.count) in
+                  rest_best question valid l new.lot e (limit - length list) h.count rows ends best (sym h.left) long can (h.best_is.first e) within are;
+            };
+          }
+
+      -- a job has the first design
+      pub fold-found : (design : List ℕ) → p.least ≡ false → found_in ends ≡ Some design → IsFound (search_tree p) (search_mark p) limit (candidates_of p) [] now design
+      fold-found design plain is =
+          let first : find D sub ≡ Some design = sym (got.2 plain) ∙ is in
+          let any : list_any D sub ≡ true = any-found D sub design first in
+          record {
+            first = ap (find D) h.whole ∙ find-right D h.done (sub ++ rest) h.none ∙ find-left D sub rest design first;
+            marks = all-marks ∙ ap (map (search_mark p)) (sym (cut ∙ ap (λ z. h.done ++ z) (through-left D sub rest any)));
+            fits = fits;
+          }
+
+    -- the limit ends the search in the lot
+    pub fold-spent : limit < length list + total ends → IsSpent (search_tree p) limit (candidates_of p) [] × IsCarried p [] limit (candidates_of p) [] earlier
+    fold-spent past =
+        let over : limit - length list < 0 + length (through D sub) = law.up (omega (arith, past, h.fits)) in
+        spent-in-lot (omega (arith, over, h.fits))
 
 -- an end that is Found is one where no least pattern is asked
 pub found-plain : (question : Question) (limit e : ℕ) (jobs : List (List ℕ)) (ends : List JobEnd) (rows : List ℕ) → AreEnds question limit e jobs ends → found_in ends ≡ Some rows → question.least ≡ false
@@ -163,9 +202,41 @@ placed-still w v same standing h =
       bound = h.bound;
     })
 
--- at a lot the best so far is that of the lots before it
-pub best-earlier : (w : LotWalk) → IsAtLot w → (standing_in w.incumbent).best ≡ best_before (problem_of w.question.now) w.prefix.rows
-best-earlier w h = elim (cases_Bool w.question.now.least) [
-  | inl e ↦ (h.under_way.lot h.rows).best_is e
-  | inr e ↦ plain_known w.incumbent (ap (λ (z : Problem). z.least) h.under_way.placed.at.incumbent_problem ∙ e) ∙ sym (plain_best (problem_of w.question.now) w.prefix.rows e)
+-- at a new lot the best so far is that of the lots before it
+pub best-earlier : (w : LotWalk) → IsUnderWay w → length w.prefix.rows ≡ w.question.now.shape.m + 1 → (standing_in w.incumbent).best ≡ best_before (problem_of w.question.now) w.prefix.rows
+best-earlier w h rows = elim (cases_Bool w.question.now.least) [
+  | inl e ↦ (h.lot rows).best_is e
+  | inr e ↦ plain_known w.incumbent (ap (λ (z : Problem). z.least) h.placed.at.incumbent_problem ∙ e) ∙ sym (plain_best (problem_of w.question.now) w.prefix.rows e)
 ]
+
+-- a walk that has come to a lot, and keeps the best of the lots before it
+pub at-lot : (w v : LotWalk) → v ≡ record w { earlier = v.earlier } → IsUnderWay w → length w.prefix.rows ≡ w.question.now.shape.m + 1 → kept_rows v.earlier ≡ (standing_in w.incumbent).best
+    → FitsDimensions (standing_in w.incumbent).problem.dimensions v.earlier → IsAtLot v
+at-lot w v same h rows best sized =
+    let new = h.lot rows in
+    subst IsAtLot (sym same)
+    (record {
+      placed = record {
+        valid = h.placed.valid;
+        limit = h.placed.limit;
+        jobs = h.placed.jobs;
+        candidates = h.placed.candidates;
+        shape = h.placed.shape;
+        at = h.placed.at;
+        few = h.placed.few;
+        canonical = h.placed.canonical;
+        open_ = h.placed.open_;
+        bound = h.placed.bound;
+      };
+      so_far = h.so_far;
+      rows = rows;
+      in_lot = record {
+        lot = new.lot;
+        before = h.so_far.done;
+        inside = [];
+        done_are = sym (append-nil h.so_far.done);
+        all = sym new.all;
+        best_is = best ∙ best-earlier w h rows;
+      };
+      sized = subst (λ (z : Problem). FitsDimensions z.dimensions v.earlier) h.placed.at.incumbent_problem sized;
+    })

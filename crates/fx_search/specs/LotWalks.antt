@@ -14,7 +14,7 @@ use Rattle.fx_vectors.specs.Shape.{dimensions_of}
 use Rattle.fx_vectors.specs.declared.question.Question.{Question}
 use Rattle.fx_vectors.specs.Question.{IsValid, problem_of}
 use Rattle.fx_search.specs.Pruning.{size_of, count_of_rows}
-use Rattle.fx_search.specs.Standing.{StandAt, HasDimensions}
+use Rattle.fx_search.specs.Standing.{StandAt, HasDimensions, FitsDimensions, kept_rows}
 use Rattle.fx_search.specs.Searchers.{standing_in}
 use Rattle.fx_search.specs.Asked.{IsAnswer, IsNoneAtAll}
 use Rattle.fx_search.specs.Folds.{IsLot, total, joined, found_in, best_in}
@@ -41,6 +41,10 @@ pub record IsNextRow (p : Problem) (rows : List ℕ) (bound row : ℕ) : Type 0 
   pub low : row < bound
   pub canonical : (search_tree p).canonical (rows ++ row ∷ []) ≡ true
   pub greatest : (r : ℕ) → row < r → r < bound → (search_tree p).canonical (rows ++ r ∷ []) ≡ false
+
+-- the jobs of a lot by such rows, in order
+abbrev pub jobs_below : Problem → List ℕ → ℕ → List (List ℕ)
+jobs_below p rows bound = map (λ r. rows ++ r ∷ []) (rows_below p rows bound)
 
 -- the candidates from the children by such rows on
 abbrev pub below : Problem → List ℕ → ℕ → List (List ℕ)
@@ -88,6 +92,16 @@ pub record IsNewLot (p : Problem) (rows : List ℕ) (bound : ℕ) (best : Option
   pub all : below p rows bound ≡ under (search_tree p) (size_of p - length rows) rows
   pub best_is : p.least ≡ true → best ≡ best_before p rows
 
+-- In a lot what was done is what comes before the candidates inside it, and those of its first jobs; those by rows below the
+-- bound are left. The best of the lots before it is kept.
+pub record IsInLot (p : Problem) (rows : List ℕ) (bound : ℕ) (done : List (List ℕ)) (earlier : Option (List ℕ)) : Type 0 where
+  pub lot : IsLot p rows
+  pub before : List (List ℕ)
+  pub inside : List (List ℕ)
+  pub done_are : done ≡ before ++ inside
+  pub all : under (search_tree p) (size_of p - length rows) rows ≡ inside ++ below p rows bound
+  pub best_is : earlier ≡ best_before p rows
+
 -- all parts of the walk are at one prefix, which is expanded and no longer than a lot
 pub record IsPlaced (w : LotWalk) : Type 0 where
   pub valid : IsValid w.question.now
@@ -112,10 +126,13 @@ pub record IsUnderWay (w : LotWalk) : Type 0 where
   pub so_far : WalkIsSoFar w
   pub lot : length w.prefix.rows ≡ w.question.now.shape.m + 1 → IsNewLot (problem_of w.question.now) w.prefix.rows w.bound (standing_in w.incumbent).best
 
--- the walk is at a lot
+-- the walk is at a lot, of which it has worked off the jobs by rows from the bound on
 pub record IsAtLot (w : LotWalk) : Type 0 where
-  pub under_way : IsUnderWay w
+  pub placed : IsPlaced w
+  pub so_far : WalkIsSoFar w
   pub rows : length w.prefix.rows ≡ w.question.now.shape.m + 1
+  pub in_lot : IsInLot (problem_of w.question.now) w.prefix.rows w.bound so_far.done (kept_rows w.earlier)
+  pub sized : FitsDimensions (problem_of w.question.now).dimensions w.earlier
 
 -- the walk is between two lots
 pub record IsBetween (w : LotWalk) : Type 0 where
@@ -135,6 +152,11 @@ IsStep question budget count w (Done asked) = IsRight question budget asked
 abbrev pub IsFolded : Question → ℕ → ℕ → LotWalk → Option Asked → Type 0
 IsFolded question budget count w None = IsBetween w × (count ≤ length w.marks)
 IsFolded question budget count w (Some asked) = IsRight question budget asked
+
+-- the walk, which had so many marks, is still at its lot, or a job ended it
+abbrev pub IsWorked : Question → ℕ → ℕ → LotWalk → Option Asked → Type 0
+IsWorked question budget count w None = IsAtLot w × (count ≤ length w.marks)
+IsWorked question budget count w (Some asked) = IsRight question budget asked
 
 -- each is of the question's dimensions
 abbrev pub AreSized : Question → List JobEnd → Type 0

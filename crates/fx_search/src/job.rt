@@ -130,6 +130,7 @@ pub(crate) fn put_at_lot<P: Pruner, I: Incumbent>(
 pub(crate) fn run_job_with<P: Pruner, I: Incumbent, C: Cutter>(
     alloc: Global,
     question: &Question,
+    candidates: &Candidates,
     pruner: &mut P,
     incumbent: &mut I,
     job: &Matrix,
@@ -137,6 +138,7 @@ pub(crate) fn run_job_with<P: Pruner, I: Incumbent, C: Cutter>(
     cutter: &mut C,
 ) -> Result<JobEnd, NoMemory>
     requires valid { IsValid question.now }
+    requires candidates { candidates.now ≡ question.now.shape }
     requires shape { job.now.shape ≡ question.now.shape }
     requires rows { length job.now.rows ≡ question.now.shape.m + 2 }
     requires canonical { is_canonical (problem_of question.now).dimensions (problem_of question.now).requirement job.now.rows
@@ -156,12 +158,11 @@ pub(crate) fn run_job_with<P: Pruner, I: Incumbent, C: Cutter>(
 {
     let mut prefix = without_the_last_row(job);
     let row = job.row(job.len() - 1);
-    let candidates = Candidates::of(question.shape);
     let front = front_of(question, &prefix);
     let mut marks = Marks::new(alloc);
     let end = enter(
         question,
-        &candidates,
+        candidates,
         front,
         pruner,
         incumbent,

@@ -1,23 +1,27 @@
-ghost use Rattle.std.specs.Prelude.{◌≡◌, ◌<◌, ◌≤◌, ◌+◌, ◌-◌, ◌++◌, [], ◌∷◌, length, IfOk, OnOk, MatchOption};
+ghost use Rattle.std.specs.Prelude.{◌≡◌, ◌<◌, ◌≤◌, ◌+◌, ◌-◌, ◌++◌, [], ◌∷◌, false, None, length, IfOk, IfNone, OnOk, MatchOption};
+ghost use Rattle.fx_designs.specs.Problems.{Dimensions};
 ghost use Rattle.fx_designs.specs.Jobs.{best_before};
 ghost use Rattle.fx_vectors.specs.Question.{IsValid, problem_of};
 ghost use Rattle.fx_jobs.specs.Ranked.{better, is_counted_through};
 ghost use Rattle.fx_jobs.specs.Search.{ranked, search_tree, search_mark, IsBestAt};
 ghost use Rattle.fx_search.specs.Pruning.{size_of};
-ghost use Rattle.fx_search.specs.Standing.{StandAt, HasDimensions, rows_of};
+ghost use Rattle.fx_search.specs.Standing.{StandAt, HasDimensions, FitsDimensions, kept_rows, rows_of};
 ghost use Rattle.fx_search.specs.Ends.{IsFound, IsClosed, IsSpent, IsCarried};
-ghost use Rattle.fx_search.specs.Folds.{AreEnds, jobs_of};
+ghost use Rattle.fx_search.specs.Folds.{AreEnds};
 ghost use Rattle.fx_search.specs.Searchers.{standing_in};
-ghost use Rattle.fx_search.specs.LotWalks.{IsNoneBelow, IsNextRow, IsPlaced, WalkIsSoFar, WalkIsThrough, IsUnderWay, IsAtLot, IsBetween, IsRight, IsStep, IsFolded, IsOfLot, AreSized, AreAddable, IsAdded, candidates_of};
+ghost use Rattle.fx_search.specs.LotWalks.{rows_below, jobs_below, IsWorked, IsNoneBelow, IsNextRow, IsPlaced, WalkIsSoFar, WalkIsThrough, IsUnderWay, IsAtLot, IsBetween, IsRight, IsStep, IsFolded, IsOfLot, AreSized, AreAddable, IsAdded, candidates_of};
 
 use crate::asking::{Asked, closed, kept};
 use crate::barred::Barred;
+use crate::best::Best;
+use crate::cutter::NeverCut;
 use crate::incumbent::Incumbent;
 use crate::job::{JobEnd, remember};
 use crate::known::Known;
 use crate::pruner::Pruner;
+use crate::walk::{End, enter};
 use fx_base::{Items, NoMemory};
-use fx_tree::{Candidates, front_of};
+use fx_tree::{Candidates, Points, front_of};
 use fx_vectors::{Mark, Marks, Matrix, Question};
 use std::alloc::Global;
 use std::mem;
@@ -34,6 +38,8 @@ pub struct LotWalk<'a> {
     prefix: Matrix,
     /// The children of the prefix by rows from this one on are done.
     bound: u16,
+    /// At a lot, the best of the lots before it.
+    earlier: Option<Best>,
     marks: Marks,
     limit: usize,
 }
@@ -86,6 +92,7 @@ impl<'a> LotWalk<'a> {
             incumbent,
             prefix,
             bound,
+            earlier: None,
             marks: Marks::new(alloc),
             limit: budget as usize,
         })
@@ -121,7 +128,28 @@ impl<'a> LotWalk<'a> {
         ensures rows { rows_of result ≡ best_before (problem_of self.now.question.now) self.now.prefix.rows }
         ensures sized { HasDimensions (problem_of self.now.question.now).dimensions result }
     {
-        self.incumbent.best_matrix()
+        matrix_of(&self.earlier)
+    }
+
+    /// The rows by which the lot is extended to the jobs that are left, in falling order.
+    ///
+    /// # Errors
+    ///
+    /// `NoMemory`.
+    pub fn rows(&self) -> Result<Points, NoMemory>
+        requires { IsAtLot self.now }
+        ensures { IfOk result (λ points.
+            points ≡ rows_below (problem_of self.now.question.now) self.now.prefix.rows self.now.bound) }
+    {
+        let front = front_of(self.question, &self.prefix);
+        let first = self.candidates.first_row(self.question, front);
+        let mut points = Points::new(self.alloc);
+        for row in (first..self.bound).rev() {
+            if self.candidates.may_follow(self.question, front, row) {
+                points.push(row)?;
+            }
+        }
+        Ok(points)
     }
 
     /// Goes on to the next lot that is a branch, and marks the nodes on the way.
@@ -151,10 +179,36 @@ impl<'a> LotWalk<'a> {
                 }
             }
         }
+        self.earlier = self.incumbent.best();
         Ok(Step::Lot)
     }
 
-    /// Takes in the ends of the jobs of the lot that the walk is at, in order up to the first that is
+    /// Works off the next jobs of the lot that the walk is at by itself, until it has come by `few`
+    /// nodes more, or no job is left.
+    ///
+    /// # Errors
+    ///
+    /// `NoMemory`.
+    pub fn work(&mut self, few: u64) -> Result<Option<Asked>, NoMemory>
+        requires { IsAtLot self.old }
+        ensures question { self.new.question ≡ self.old.question }
+        ensures limit { self.new.limit ≡ self.old.limit }
+        ensures worked { IfOk result (IsWorked self.old.question.now self.old.limit (length self.old.marks) self.new) }
+    {
+        let begun = self.nodes();
+        while self.nodes() - begun < few {
+            let Some(row) = self.next_row() else {
+                return Ok(None);
+            };
+            match self.work_job(row)? {
+                Some(asked) => return Ok(Some(asked)),
+                None => {}
+            }
+        }
+        Ok(None)
+    }
+
+    /// Takes in the ends of the jobs that are left of the lot that the walk is at, in order up to the first that is
     /// `Found` or `Spent`, each under a limit between what the jobs before it leave of the budget and
     /// what the walk has left of it. Then it is past the lot, or done.
     ///
@@ -164,7 +218,7 @@ impl<'a> LotWalk<'a> {
     pub fn fold(&mut self, ends: Items<JobEnd>) -> Result<Option<Asked>, NoMemory>
         requires at { IsAtLot self.old }
         requires ends { let p = problem_of self.old.question.now in
-            AreEnds self.old.question.now (self.old.limit - length self.old.marks) 0 (jobs_of p self.old.prefix.rows) ends }
+            AreEnds self.old.question.now (self.old.limit - length self.old.marks) 0 (jobs_below p self.old.prefix.rows self.old.bound) ends }
         requires sized { AreSized self.old.question.now ends }
         ensures question { self.new.question ≡ self.old.question }
         ensures limit { self.new.limit ≡ self.old.limit }
@@ -198,6 +252,49 @@ impl<'a> LotWalk<'a> {
             }
         }
         None
+    }
+
+    /// Works off the job by the next row.
+    fn work_job(&mut self, row: u16) -> Result<Option<Asked>, NoMemory>
+        requires at { IsAtLot self.old }
+        requires next { IsNextRow (problem_of self.old.question.now) self.old.prefix.rows self.old.bound row }
+        ensures question { self.new.question ≡ self.old.question }
+        ensures limit { self.new.limit ≡ self.old.limit }
+        ensures bound { IfOk result (λ asked. IfNone asked (self.new.bound ≡ row)) }
+        ensures worked { IfOk result (IsWorked self.old.question.now self.old.limit (length self.old.marks) self.new) }
+    {
+        let found = self.incumbent.best();
+        // The jobs of a lot know nothing of each other.
+        begin_again(&mut self.incumbent, self.earlier);
+        let front = front_of(self.question, &self.prefix);
+        let end = enter(
+            self.question,
+            &self.candidates,
+            front,
+            &mut self.pruner,
+            &mut self.incumbent,
+            &mut NeverCut,
+            &mut self.prefix,
+            row,
+            &mut self.marks,
+            self.limit,
+        )?;
+        self.bound = row;
+        match end {
+            End::Closed => {
+                settle(&mut self.incumbent, found);
+                Ok(None)
+            }
+            End::Found => {
+                let matrix = mem::replace(&mut self.prefix, Matrix::new(self.question.shape));
+                Ok(Some(self.found(matrix)))
+            }
+            End::Spent => Ok(Some(Asked::Budget {
+                best: kept(self.question, matrix_of(&self.earlier)),
+            })),
+            // It is never cut.
+            End::Cut => unreachable!(),
+        }
     }
 
     /// Marks the child by the next row, and goes to it where it is expanded.
@@ -352,6 +449,17 @@ impl<'a> LotWalk<'a> {
     }
 }
 
+/// The matrix that is kept.
+fn matrix_of(best: &Option<Best>) -> Option<Matrix>
+    ensures rows { rows_of result ≡ kept_rows best.now }
+    ensures sized { (d : Dimensions) → FitsDimensions d best.now → HasDimensions d result }
+{
+    match best {
+        None => None,
+        Some(best) => Some(best.matrix()),
+    }
+}
+
 /// Adds marks at the end of others.
 fn append(marks: &mut Marks, more: &Marks) -> Result<(), NoMemory>
     ensures { OnOk result (marks.new ≡ marks.old ++ more.now) }
@@ -360,6 +468,32 @@ fn append(marks: &mut Marks, more: &Marks) -> Result<(), NoMemory>
         marks.push(more.get(i))?;
     }
     Ok(())
+}
+
+/// Goes on with this as the best so far, which is none where no least pattern is asked.
+fn begin_again(incumbent: &mut Known, best: Option<Best>)
+    requires dimensions { FitsDimensions (standing_in incumbent.old).problem.dimensions best }
+    requires plain { (standing_in incumbent.old).problem.least ≡ false → kept_rows best ≡ None }
+    ensures { standing_in incumbent.new ≡ record (standing_in incumbent.old) { best = kept_rows best } }
+{
+    match incumbent {
+        Known::Ranked(ranked) => ranked.begin(best),
+        Known::Unranked(_) => {}
+    }
+}
+
+/// Goes back to an earlier best, which is none where no least pattern is asked, where that of now is not
+/// less.
+fn settle(incumbent: &mut Known, earlier: Option<Best>)
+    requires dimensions { FitsDimensions (standing_in incumbent.old).problem.dimensions earlier }
+    requires plain { (standing_in incumbent.old).problem.least ≡ false → kept_rows earlier ≡ None }
+    ensures { let old = standing_in incumbent.old in
+        standing_in incumbent.new ≡ record old { best = better (ranked old.problem) (kept_rows earlier) old.best } }
+{
+    match incumbent {
+        Known::Ranked(ranked) => ranked.settle(earlier),
+        Known::Unranked(_) => {}
+    }
 }
 
 /// Makes the best of a job of the lot that the incumbent is at, `rows` rows, the best so far where it is

@@ -17,6 +17,7 @@ use crate::job::{JobEnd, put_at_lot, remember, run_job_with};
 use crate::known::Known;
 use crate::pruner::Pruner;
 use fx_base::NoMemory;
+use fx_tree::Candidates;
 use fx_vectors::{Matrix, Question};
 use std::alloc::Global;
 
@@ -25,6 +26,7 @@ use std::alloc::Global;
 #[derive(Debug, Drop)]
 pub struct Searcher<'a> {
     question: &'a Question,
+    candidates: Candidates,
     pruner: Barred,
     incumbent: Known<'a>,
     /// The best of the lots before this one.
@@ -46,6 +48,7 @@ impl<'a> Searcher<'a> {
         let incumbent = Known::of(alloc, question)?;
         Ok(Searcher {
             question,
+            candidates: Candidates::of(question.shape),
             pruner,
             incumbent,
             earlier: None,
@@ -115,6 +118,7 @@ impl<'a> Searcher<'a> {
                 run_job_with(
                     alloc,
                     self.question,
+                    &self.candidates,
                     &mut self.pruner,
                     ranked,
                     job,
@@ -125,6 +129,7 @@ impl<'a> Searcher<'a> {
             Known::Unranked(unranked) => run_job_with(
                 alloc,
                 self.question,
+                &self.candidates,
                 &mut self.pruner,
                 unranked,
                 job,

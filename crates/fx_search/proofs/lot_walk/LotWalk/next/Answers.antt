@@ -1,9 +1,10 @@
-use Rattle.std.proofs.Common.{◌<◌, ◌≤◌, ◌+◌, length, arith}
+use Rattle.std.proofs.Common.{◌≡◌, ◌<◌, ◌≤◌, ◌+◌, length, arith, refl}
 use Rattle.fx_laws.proofs.Tables.{is_order-field}
 use Rattle.fx_vectors.specs.Question.{problem_of}
 use Rattle.fx_search.specs.LotWalks.{IsUnderWay, IsNoneBelow, WalkIsThrough}
 use Rattle.fx_search.specs.Searchers.{standing_in}
 use Rattle.fx_search.specs.declared.lot_walk.LotWalk.{LotWalk}
+use Rattle.fx_search.proofs.LotFolds.{at-lot}
 use Rattle.fx_search.proofs.LotSteps.{through-last}
 use Rattle.fx_search.proofs.lot_walk.LotWalk.next.Goals as goal
 
@@ -19,3 +20,10 @@ closed-requires-clause-through c = none_left c.loop-self.self c.loop-self.invari
 
 pub leave-requires-clause-through : goal.leave-requires-clause-through
 leave-requires-clause-through c = none_left c.loop-self.self c.loop-self.invariant.under_way c.in-None.ensures
+
+pub returns-clause-step : goal.returns-clause-step
+returns-clause-step c =
+    let w : LotWalk = c.loop-self.self in
+    let i = c.loop-self.invariant in
+    let rows : length w.prefix.rows ≡ w.question.now.shape.m + 1 = omega (arith, c.loop-self-test.false, c.len.ensures.count, i.under_way.placed.few) in
+    (at-lot w _ refl i.under_way rows c.best-self.ensures.rows c.best-self.ensures.dimensions, i.more (omega (arith, rows)))

@@ -17,6 +17,7 @@ begin_with-self-requires-clause-whole c =
 pub returns-clause-at : goal.returns-clause-at
 returns-clause-at c = record {
   question_is = refl;
+  candidates = c.requires.at.candidates;
   at = c.in_ok-put_at_lot-2.ensures.at;
   sized = λ best some. absurd (cc some);
   best_is = sym (plain_best (problem_of c.args.self.now.question.now) c.args.lot.now.rows c.if-self.false);
