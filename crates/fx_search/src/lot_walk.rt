@@ -80,8 +80,8 @@ impl<'a> LotWalk<'a> {
         ensures between { IfOk result IsBetween }
     {
         let candidates = Candidates::of(question.shape);
-        let pruner = Barred::of(alloc, question)?;
         let incumbent = Known::of(alloc, question)?;
+        let pruner = Barred::of(alloc, question)?;
         let prefix = Matrix::new(question.shape);
         let bound = candidates.row_bound(question, front_of(question, &prefix));
         Ok(LotWalk {
