@@ -44,8 +44,8 @@ impl<'a> Searcher<'a> {
         ensures question { IfOk result (λ searcher. searcher.question.now ≡ question.now) }
         ensures at { IfOk result (IsAtStart question.now) }
     {
-        let pruner = Barred::of(alloc, question)?;
         let incumbent = Known::of(alloc, question)?;
+        let pruner = Barred::of(alloc, question)?;
         Ok(Searcher {
             question,
             candidates: Candidates::of(question.shape),
