@@ -2,7 +2,7 @@ ghost use Rattle.std.specs.Prelude.{◌≡◌, ◌≤◌, false, IfOk, IfSome};
 ghost use Rattle.fx_vectors.specs.Shape.{IsShape};
 ghost use Rattle.fx_vectors.specs.Question.{IsValid};
 
-use crate::asking::ask;
+use crate::asking::{ask, ask_after};
 use crate::gate::FreeGate;
 use crate::tests::Holding;
 use fx_base::NoMemory;
@@ -119,12 +119,16 @@ fn threads_agree<R: Threads + Sync>(
 {
     let alone = ask_alone(alloc, question, budget)?;
     for threads in [1, 2, 3, 8] {
-        let asked = ask(rt, alloc, question, budget, threads.clamp(1, 64), &FreeGate)?;
-        if !are_same(&asked, &alone) {
-            return Ok(false);
+        let threads = threads.clamp(1, 64);
+        for few in [0, 5, 40] {
+            let asked = ask_after(rt, alloc, question, budget, threads, few, &FreeGate)?;
+            if !are_same(&asked, &alone) {
+                return Ok(false);
+            }
         }
     }
-    Ok(true)
+    let asked = ask(rt, alloc, question, budget, 4, &FreeGate)?;
+    Ok(are_same(&asked, &alone))
 }
 
 /// Whether they do under the budget of just the nodes, one more, and one less.
@@ -206,7 +210,15 @@ fn a_second_thread_works_off_jobs(rt: HostRuntime) -> Result<(), Fail> {
         None => None,
         Some(shape) => match question(shape, 4, false) {
             None => None,
-            Some(question) => Some(ask(&rt, rt.alloc(), &question, 1_000_000, 2, &gate)?),
+            Some(question) => Some(ask_after(
+                &rt,
+                rt.alloc(),
+                &question,
+                1_000_000,
+                2,
+                0,
+                &gate,
+            )?),
         },
     };
     assert!(rt; matches!(asked, Some(Asked::Found { nodes: 19, .. })));
