@@ -38,8 +38,8 @@ fold-requires-clause-ends g c =
     subst (λ (k : List JobEnd). AreEnds w.question.now (w.limit - length w.marks) 0 (jobs_below (problem_of w.question.now) w.prefix.rows w.bound) k) (sym c.new.ensures)
     (subst (λ (k : List ℕ). AreEnds w.question.now (w.limit - length w.marks) 0 (map (λ r. w.prefix.rows ++ r ∷ []) k) []) (sym none) tt)
 
-pub fold-2-requires-clause-ends : goal.fold-2-requires-clause-ends
-fold-2-requires-clause-ends g c =
+pub fold-requires-2-clause-ends : goal.fold-requires-2-clause-ends
+fold-requires-2-clause-ends g c =
     let w : LotWalk = c.args.walk.now in
     let question : Question = c.args.question.now in
     let left : ℕ = w.limit - length w.marks in
@@ -50,8 +50,8 @@ fold-2-requires-clause-ends g c =
     let three : AreEnds question left 0 (jobs_by w.prefix.rows rows) ends = subst (λ (k : List ℕ). AreEnds question left 0 (jobs_by w.prefix.rows k) ends) c.in_ok-rows.ensures two in
     subst (λ (z : Question). AreEnds z left 0 (jobs_by w.prefix.rows rows) ends) (sym c.requires.question) three
 
-pub fold-2-requires-clause-sized : goal.fold-2-requires-clause-sized
-fold-2-requires-clause-sized g c = subst (λ (z : Question). AreSized z c.in_ok-ends.field-0.ends) (sym c.requires.question) c.in_ok-ends.ensures.sized
+pub fold-requires-2-clause-sized : goal.fold-requires-2-clause-sized
+fold-requires-2-clause-sized g c = subst (λ (z : Question). AreSized z c.in_ok-ends.field-0.ends) (sym c.requires.question) c.in_ok-ends.ensures.sized
 
 pub back_at_start-requires-clause-ready : goal.back_at_start-requires-clause-ready
 back_at_start-requires-clause-ready g c = λ closed worker has.
