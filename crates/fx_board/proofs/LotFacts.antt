@@ -10,7 +10,6 @@ use Rattle.fx_designs.specs.Answers.{falling}
 use Rattle.fx_designs.specs.Canonical.{is_canonical}
 use Rattle.fx_designs.specs.Nodes.{lot_of, is_branch}
 use Rattle.fx_designs.specs.Jobs.{nodes_inside, best_before}
-use Rattle.fx_laws.specs.Trees.{tree_of, children_of}
 use Rattle.fx_laws.proofs.Tables.{is_order-field}
 use Rattle.fx_jobs.specs.Laws.{IsJob}
 use Rattle.fx_jobs.specs.Search.{ranked}
@@ -18,9 +17,9 @@ use Rattle.fx_jobs.proofs.Bests.{before-lot}
 use Rattle.fx_jobs.proofs.Patterns.{is-ranked}
 use Rattle.fx_vectors.specs.declared.question.Question.{Question}
 use Rattle.fx_vectors.specs.Question.{IsValid, problem_of}
-use Rattle.fx_search.specs.Folds.{IsLot, IsEndUnder, AreEnds, jobs_of}
+use Rattle.fx_search.specs.Folds.{IsLot, IsEndUnder, AreEnds}
 use Rattle.fx_search.specs.JobEnds.{IsJobEnd, IsSized}
-use Rattle.fx_search.specs.LotWalks.{AreSized, IsAtLot}
+use Rattle.fx_search.specs.LotWalks.{AreSized, IsAtLot, rows_below}
 use Rattle.fx_search.specs.Searchers.{IsAt, IsAtStart, IsReadyAfter}
 use Rattle.fx_search.specs.Standing.{kept_rows, rows_of, HasDimensions}
 use Rattle.fx_search.specs.declared.lot_walk.LotWalk.{LotWalk}
@@ -29,7 +28,7 @@ use Rattle.fx_search.specs.declared.job.JobEnd.{JobEnd}
 use Rattle.fx_search.specs.declared.job.JobEnd.TheVariants.{Found, Closed, Spent, Cut}
 use Rattle.fx_search.specs.declared.searcher.Searcher.{Searcher}
 use Rattle.fx_board.specs.Jobs.{IsEndOrCut, is_closed}
-use Rattle.fx_board.specs.Lots.{job_at, IsEndOfJob, IsLotAfter, CanEnter}
+use Rattle.fx_board.specs.Lots.{job_at, AreRowsOf, IsEndOfJob, IsLotAfter, CanEnter}
 use Rattle.fx_board.specs.Sharing.{before, IsEndBetween, AreEndsFrom}
 
 at-each : (P : ℕ → Type 0) (xs : List ℕ) (i : ℕ) → i < length xs → AllByRecursion P xs → P (get_or xs i 0)
@@ -80,6 +79,7 @@ at-own question rows best s h =
     subst (λ (z : Question). IsAt z s.pruner.prefix (kept_rows s.earlier) s) (sym h.question_is)
     (record {
       question_is = h.question_is;
+      candidates = h.candidates;
       at = record { pruner_problem = h.at.pruner_problem; pruner_rows = refl; incumbent_problem = h.at.incumbent_problem; incumbent_rows = h.at.incumbent_rows ∙ sym h.at.pruner_rows };
       sized = h.sized;
       best_is = refl;
@@ -102,23 +102,23 @@ ready-after (Found matrix count list) R ready e = absurd (cc e)
 ready-after (Spent count) R ready e = absurd (cc e)
 ready-after Cut R ready e = absurd (cc e)
 
-module _ (question : Question) (valid : IsValid question) (l : List ℕ) (lot : IsLot (problem_of question) l) where
+-- the rows below a bound that extend a lot
+pub rows-are : (question : Question) (valid : IsValid question) (l : List ℕ) (bound : ℕ) → bound ≤ question.shape.q ^ question.shape.m → AreRowsOf question l (rows_below (problem_of question) l bound)
+rows-are question valid l bound most = record {
+  few = let h = few-left (λ r. is_canonical (problem_of question).dimensions (problem_of question).requirement (l ++ r ∷ [])) bound in omega (arith, h, most, valid.shaped.runs);
+  canonical = at-kept (λ r. is_canonical (problem_of question).dimensions (problem_of question).requirement (l ++ r ∷ [])) (falling bound);
+}
+
+module _ (question : Question) (valid : IsValid question) (l : List ℕ) (lot : IsLot (problem_of question) l) (kids : List ℕ) (are : AreRowsOf question l kids) where
   abbrev p : Problem
   p = problem_of question
-
-  abbrev kids : List ℕ
-  kids = children_of (tree_of p) l
 
   f : IsField p.dimensions.q
   f = is_order-field question.shape.q valid.shaped.order
 
-  -- there are no more jobs than runs
-  pub few-jobs : length kids ≤ 1024
-  few-jobs = let h = few-left (λ r. (tree_of p).canonical (l ++ r ∷ [])) (p.dimensions.q ^ p.dimensions.m) in omega (arith, h, valid.shaped.runs)
-
   module _ (n : ℕ) (low : n < length kids) where
     pub child-canonical : is_canonical p.dimensions p.requirement (job_at l kids n) ≡ true
-    child-canonical = at-each (λ r. is_canonical p.dimensions p.requirement (l ++ r ∷ []) ≡ true) kids n low (at-kept (λ r. is_canonical p.dimensions p.requirement (l ++ r ∷ [])) (falling (p.dimensions.q ^ p.dimensions.m)))
+    child-canonical = at-each (λ r. is_canonical p.dimensions p.requirement (l ++ r ∷ []) ≡ true) kids n low are.canonical
 
     pub child-below : slice_index kids n < p.dimensions.q ^ p.dimensions.m
     child-below = (is-ranked p f).ranged l (slice_index kids n) child-canonical
@@ -194,4 +194,4 @@ pub walk-lot : (question : Question) (w : LotWalk) (lot : MatrixView) (best : Op
 walk-lot question w lot best same is h best-rows sized =
     subst (λ (z : Question). IsLotAfter z lot best) same
     (subst (λ (m : MatrixView). IsLotAfter w.question.now m best) (sym is)
-    (record { valid = h.under_way.placed.valid; shape = h.under_way.placed.shape; is_lot = (h.under_way.lot h.rows).lot; best_shape = sized; best_is = best-rows }))
+    (record { valid = h.placed.valid; shape = h.placed.shape; is_lot = h.in_lot.lot; best_shape = sized; best_is = best-rows }))

@@ -1,8 +1,9 @@
 -- The jobs of a lot of a question, which searchers work off.
-use Rattle.std.specs.Prelude.{◌≡◌, ℕ, ◌+◌, ◌≤◌, ◌⊎◌, false, List, [], ◌∷◌, ◌++◌, length, slice_index, Option}
+use Rattle.std.specs.List.{AllByRecursion}
+use Rattle.std.specs.Prelude.{◌≡◌, ℕ, ◌+◌, ◌≤◌, ◌⊎◌, false, true, map, List, [], ◌∷◌, ◌++◌, length, slice_index, Option}
 use Rattle.std.proofs.Common.{sym, subst, ◌∙◌}
 use Rattle.fx_designs.specs.Jobs.{nodes_inside, best_before}
-use Rattle.fx_laws.specs.Trees.{tree_of, children_of}
+use Rattle.fx_designs.specs.Canonical.{is_canonical}
 use Rattle.fx_vectors.specs.Matrix.{MatrixView}
 use Rattle.fx_vectors.specs.declared.question.Question.{Question}
 use Rattle.fx_vectors.specs.Question.{IsValid, problem_of}
@@ -35,10 +36,19 @@ pub record IsLotAfter (question : Question) (lot : MatrixView) (best : Option Ma
 abbrev pub CanEnter : Question → List ℕ → Searcher → Type 0
 CanEnter question lot s = IsAtStart question s ⊎ IsAt question lot (best_before (problem_of question) lot) s
 
+-- each of these rows extends the lot to a job, and there are no more than runs can be
+pub record AreRowsOf (question : Question) (lot : List ℕ) (rows : List ℕ) : Type 0 where
+  pub few : length rows ≤ 1024
+  pub canonical : AllByRecursion (λ r. is_canonical (problem_of question).dimensions (problem_of question).requirement (lot ++ r ∷ []) ≡ true) rows
+
+-- the jobs by such rows, in order
+abbrev pub jobs_by : List ℕ → List ℕ → List (List ℕ)
+jobs_by lot rows = map (λ r. lot ++ r ∷ []) rows
+
 -- a searcher that can work off the jobs of the lot, which these rows extend
 pub record IsReadyFor (question : Question) (lot : MatrixView) (rows : List ℕ) (best : Option MatrixView) (s : Searcher) : Type 0 where
   pub lot_is : IsLotAfter question lot best
-  pub rows_are : rows ≡ children_of (tree_of (problem_of question)) lot.rows
+  pub rows_are : AreRowsOf question lot.rows rows
   pub place : CanEnter question lot.rows s
 
 -- a job that is Closed has its nodes, within the limit

@@ -9,7 +9,7 @@ use Rattle.fx_search.specs.declared.job.JobEnd.TheVariants.{Found, Closed, Spent
 use Rattle.fx_board.specs.Views.{Has}
 use Rattle.fx_board.specs.Jobs.{IsEndOrCut, is_closed}
 use Rattle.fx_board.specs.Looks.{is_stopped}
-use Rattle.fx_board.specs.Work.{is_last, numbers_of, used, IsDrawing}
+use Rattle.fx_board.specs.Work.{is_last, numbers_of}
 
 -- each of these workers can work off a job
 abbrev pub AreReady : {W : Type 0} → (W → Type 0) → List W → Type 0
@@ -77,8 +77,3 @@ pub record AreByNumber (size : ℕ) (ends : List Ended) (places : List (Option J
   pub long : length places ≡ size
   pub there : (k : ℕ) (x : JobEnd) → get_elem? places k ≡ some (Some x) → Has (record { n = k; end = x }) ends
   pub all : (e : Ended) → Has e ends → e.n < size → (x : JobEnd) × (get_elem? places e.n ≡ some (Some x))
-
--- what one worker has done, where so much is left of its limit and it may claim more, or where it claims no more
-abbrev pub IsBegun : (ℕ → ℕ → JobEnd → Type 0) → (ℕ → ℕ) → ℕ → View → List Ended → Option ℕ → Type 0
-IsBegun is_end inside limit v ends (Some left) = IsDrawing is_end limit v ends × (left + used ends ≡ limit)
-IsBegun is_end inside limit v ends None = Covers is_end inside limit v ends

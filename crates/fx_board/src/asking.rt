@@ -1,7 +1,7 @@
 ghost use Rattle.std.specs.Prelude.{◌≡◌, ◌<◌, ◌≤◌, ◌+◌, true, length, IfOk};
 ghost use Rattle.fx_vectors.specs.Question.{IsValid, problem_of};
 ghost use Rattle.fx_search.specs.Asked.{IsAnswer, IsNoneAtAll};
-ghost use Rattle.fx_search.specs.LotWalks.{IsAtLot, IsFolded};
+ghost use Rattle.fx_search.specs.LotWalks.{IsAtLot, IsBetween, IsFolded};
 ghost use Rattle.fx_search.specs.Searchers.{IsAtStart};
 ghost use Rattle.fx_board.specs.Lots.{CanEnter};
 ghost use Rattle.fx_board.specs.Sharing.{AreReady, AllAreClosed};
@@ -11,15 +11,25 @@ use crate::lot_jobs::ends_of_lot;
 use crate::sharing::Worked;
 use crate::worker::closed_nodes;
 use fx_base::{Items, NoMemory};
+use fx_demands::pair_count;
 use fx_search::{Asked, JobEnd, LotWalk, Searcher, Step, ask_alone};
-use fx_tree::children;
-use fx_vectors::{Matrix, Question};
+use fx_vectors::{Demands, Matrix, Question};
 use std::alloc::Global;
 use std::thread::Threads;
 
-/// How many nodes of a lot one worker walks alone, where the lot before had fewer: about as many as are
-/// walked in the time in which the threads of the others are started and joined.
-const FEW: u64 = 256;
+/// In the time of so many nodes threads are started and joined many times over.
+const FEW: u64 = 16_384;
+
+/// In the time of so many nodes all workers list a pair, some times over.
+const PAIR: u64 = 64;
+
+/// How many nodes of a lot the caller's thread walks alone, before the jobs that are left are shared out:
+/// of the first lot, and of each later one, where the lot before had fewer than so many.
+#[derive(Clone, Copy, Debug)]
+pub struct Alone {
+    pub first: u64,
+    pub later: u64,
+}
 
 /// The answer of a valid question, by 1 to 64 threads: that of `ask_alone`, however many there are. The
 /// budget is at most 5,000,000. One thread is the caller's own, and starts no other.
@@ -41,12 +51,57 @@ pub fn ask<R: Threads + Sync, G: Gate>(
     ensures answer { IfOk result (IsAnswer question.now budget) }
     ensures none_at_all { IfOk result (IsNoneAtAll question.now) }
 {
+    let first = listing_nodes(question);
+    let alone = Alone {
+        first,
+        later: FEW.saturating_add(first),
+    };
+    ask_after(rt, alloc, question, budget, threads, alone, gate)
+}
+
+/// How many nodes are walked in the time in which the other workers list the forbidden vectors of effects,
+/// each for itself and at most one for each pair, before they begin.
+fn listing_nodes(question: &Question) -> u64
+    requires { IsValid question.now }
+{
+    match &question.demands {
+        Demands::Resolution { .. } => 0,
+        Demands::Effects {
+            estimate,
+            nonnegligible,
+        } => match pair_count(question.shape.field(), estimate, nonnegligible) {
+            None => u64::MAX,
+            Some(pairs) => pairs.saturating_mul(PAIR),
+        },
+    }
+}
+
+/// The same, where the caller's thread walks so many nodes of a lot alone.
+///
+/// # Errors
+///
+/// `NoMemory`.
+pub fn ask_after<R: Threads + Sync, G: Gate>(
+    rt: &R,
+    alloc: Global,
+    question: &Question,
+    budget: u64,
+    threads: u8,
+    alone: Alone,
+    gate: &G,
+) -> Result<Asked, NoMemory>
+    requires valid { IsValid question.now }
+    requires budget { budget ≤ 5000000 }
+    requires threads { (0 < threads) × (threads ≤ 64) }
+    ensures answer { IfOk result (IsAnswer question.now budget) }
+    ensures none_at_all { IfOk result (IsNoneAtAll question.now) }
+{
     let shape = question.shape;
     // Matrices of fewer rows have no jobs.
     if threads == 1 || shape.rows().saturating_sub(usize::from(shape.m)) < 2 {
         return ask_alone(alloc, question, budget);
     }
-    ask_by_lots(rt, alloc, question, budget, threads, gate)
+    ask_by_lots(rt, alloc, question, budget, threads, alone, gate)
 }
 
 /// The same, lot after lot, where matrices have jobs.
@@ -56,6 +111,7 @@ fn ask_by_lots<R: Threads + Sync, G: Gate>(
     question: &Question,
     budget: u64,
     threads: u8,
+    alone: Alone,
     gate: &G,
 ) -> Result<Asked, NoMemory>
     requires valid { IsValid question.now }
@@ -66,8 +122,29 @@ fn ask_by_lots<R: Threads + Sync, G: Gate>(
     ensures none_at_all { IfOk result (IsNoneAtAll question.now) }
 {
     let mut walk = LotWalk::of(alloc, question, budget)?;
+    walk_on(rt, alloc, question, budget, &mut walk, threads, alone, gate)
+}
+
+/// The same over a walk between lots.
+fn walk_on<'a, R: Threads + Sync, G: Gate>(
+    rt: &R,
+    alloc: Global,
+    question: &'a Question,
+    budget: u64,
+    walk: &mut LotWalk<'a>,
+    threads: u8,
+    alone: Alone,
+    gate: &G,
+) -> Result<Asked, NoMemory>
+    requires question { walk.old.question.now ≡ question.now }
+    requires limit { walk.old.limit ≡ budget }
+    requires between { IsBetween walk.old }
+    requires threads { (0 < threads) × (threads ≤ 64) }
+    ensures answer { IfOk result (IsAnswer question.now budget) }
+    ensures none_at_all { IfOk result (IsNoneAtAll question.now) }
+{
     let mut workers = Vec::new(alloc);
-    let mut alone = 0;
+    let mut nodes = alone.first;
     loop {
         match walk.next()? {
             Step::Done(asked) => return Ok(asked),
@@ -77,21 +154,19 @@ fn ask_by_lots<R: Threads + Sync, G: Gate>(
         let LotDone {
             asked,
             workers: staff,
-        } = work_off(
-            rt, alloc, question, &mut walk, workers, threads, alone, gate,
-        )?;
+        } = work_off(rt, alloc, question, walk, workers, threads, nodes, gate)?;
         match asked {
             Some(asked) => return Ok(asked),
             None => {}
         }
         workers = staff;
-        alone = alone_after(walk.nodes().saturating_sub(before));
+        nodes = alone_after(walk.nodes().saturating_sub(before), alone.later);
     }
 }
 
-/// How many nodes of the next lot one worker walks alone, after a lot of so many.
-fn alone_after(nodes: u64) -> u64 {
-    if nodes < FEW { FEW } else { 0 }
+/// How many nodes of the next lot are walked alone, after a lot of so many.
+fn alone_after(nodes: u64, few: u64) -> u64 {
+    if nodes < few { few } else { 0 }
 }
 
 /// What a lot came to: the answer, where it ended the search, and workers for the next lot.
@@ -101,8 +176,8 @@ struct LotDone<'a> {
     workers: Vec<Searcher<'a>>,
 }
 
-/// Works off the jobs of the lot that the walk is at, by as many threads as there are jobs, at most
-/// `threads`, and folds their ends into it.
+/// Works off the lot that the walk is at: `alone` nodes of it by the caller's thread alone, then the jobs
+/// that are left by as many threads as there are of them, at most `threads`.
 fn work_off<'a, R: Threads + Sync, G: Gate>(
     rt: &R,
     alloc: Global,
@@ -124,9 +199,44 @@ fn work_off<'a, R: Threads + Sync, G: Gate>(
     ensures workers { IfOk result (λ done. length done.workers.items ≤ 64) }
     ensures start { IfOk result (λ done. AreReady (IsAtStart question.now) done.workers.items) }
 {
-    let rows = children(alloc, question, walk.lot())?;
+    match walk.work(alone)? {
+        Some(asked) => Ok(LotDone {
+            asked: Some(asked),
+            workers,
+        }),
+        None => share_rest(rt, alloc, question, walk, workers, threads, gate),
+    }
+}
+
+/// Works off the jobs that are left of the lot that the walk is at, by as many threads as there are of
+/// them, at most `threads`, and folds their ends into it.
+fn share_rest<'a, R: Threads + Sync, G: Gate>(
+    rt: &R,
+    alloc: Global,
+    question: &'a Question,
+    walk: &mut LotWalk<'a>,
+    workers: Vec<Searcher<'a>>,
+    threads: u8,
+    gate: &G,
+) -> Result<LotDone<'a>, NoMemory>
+    requires question { walk.old.question.now ≡ question.now }
+    requires at { IsAtLot walk.old }
+    requires workers { length workers.items ≤ 64 }
+    requires start { AreReady (IsAtStart question.now) workers.items }
+    requires threads { (0 < threads) × (threads ≤ 64) }
+    ensures question { walk.new.question ≡ walk.old.question }
+    ensures limit { walk.new.limit ≡ walk.old.limit }
+    ensures folded { IfOk result (λ done. IsFolded question.now walk.old.limit (length walk.old.marks) walk.new done.asked) }
+    ensures workers { IfOk result (λ done. length done.workers.items ≤ 64) }
+    ensures start { IfOk result (λ done. AreReady (IsAtStart question.now) done.workers.items) }
+{
+    let rows = walk.rows()?;
+    if rows.is_empty() {
+        let asked = walk.fold(Items::new(alloc))?;
+        return Ok(LotDone { asked, workers });
+    }
     let best = walk.best();
-    let wanted = usize::from(threads).min(rows.len()).max(1);
+    let wanted = usize::from(threads).min(rows.len());
     let workers = staffed(alloc, question, workers, wanted)?;
     let left = walk.left();
     let Worked { ends, workers } = ends_of_lot(
@@ -138,7 +248,6 @@ fn work_off<'a, R: Threads + Sync, G: Gate>(
         best.as_ref(),
         workers,
         left,
-        alone,
         gate,
     )?;
     let workers = back_at_start(alloc, question, walk.lot(), &ends, workers)?;

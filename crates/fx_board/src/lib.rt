@@ -17,7 +17,7 @@ mod sharing;
 mod view;
 mod worker;
 
-pub use asking::ask;
+pub use asking::{Alone, ask, ask_after};
 pub use board::{Board, Closed, Seat};
 pub use fx_search::Asked;
 pub use gate::{Ended, FreeGate, Gate};

@@ -1,12 +1,11 @@
 ghost use Rattle.std.specs.Prelude.{◌≡◌, ◌<◌, ◌≤◌, length, IfOk, OnOk};
 ghost use Rattle.std.specs.Option.{option_copied};
 ghost use Rattle.fx_designs.specs.Jobs.{best_before};
-ghost use Rattle.fx_laws.specs.Trees.{tree_of, children_of};
 ghost use Rattle.fx_vectors.specs.Question.{problem_of};
-ghost use Rattle.fx_search.specs.Folds.{AreEnds, jobs_of};
+ghost use Rattle.fx_search.specs.Folds.{AreEnds};
 ghost use Rattle.fx_search.specs.LotWalks.{AreSized};
 ghost use Rattle.fx_search.specs.Searchers.{IsAt, IsAtStart};
-ghost use Rattle.fx_board.specs.Lots.{IsLotAfter, CanEnter};
+ghost use Rattle.fx_board.specs.Lots.{AreRowsOf, jobs_by, IsLotAfter, CanEnter};
 ghost use Rattle.fx_board.specs.Sharing.{AreReady, AllAreClosed};
 
 use crate::gate::Gate;
@@ -19,7 +18,7 @@ use fx_vectors::{Matrix, Question};
 use std::alloc::Global;
 use std::thread::Threads;
 
-/// The jobs of a lot of a question. A worker goes to the lot at its first job.
+/// Jobs of a lot of a question. A worker goes to the lot at its first job.
 #[derive(Drop)]
 struct LotJobs<'a, 'b> {
     alloc: Global,
@@ -75,10 +74,9 @@ fn go_to_lot(worker: &mut Searcher, lot: &Matrix, best: Option<&Matrix>) -> Resu
     Ok(())
 }
 
-/// Works off the jobs of a lot by searchers at the empty prefix, 1 to 64. One of them works alone until
-/// it has walked `alone` nodes, then the others work too, each in a thread. `rows` are those by which
-/// the lot is extended, and `best` is the first matrix of least pattern of the lots before, where a
-/// least pattern is asked and there is one. The limit is at most 5,000,000 nodes. The ends are in order,
+/// Works off jobs of a lot by searchers at the empty prefix, 1 to 64, each in a thread. `rows` are those
+/// by which the lot is extended to these jobs, and `best` is the first matrix of least pattern of the
+/// lots before, where a least pattern is asked and there is one. The limit is at most 5,000,000 nodes. The ends are in order,
 /// up to the first that is `Found` or `Spent`; where all are `Closed`, the searchers are at the empty
 /// prefix or at the lot.
 ///
@@ -94,15 +92,14 @@ pub fn ends_of_lot<'a, R: Threads + Sync, G: Gate>(
     best: Option<&Matrix>,
     workers: Vec<Searcher<'a>>,
     limit: u64,
-    alone: u64,
     gate: &G,
 ) -> Result<Worked<Searcher<'a>>, NoMemory>
     requires lot { IsLotAfter question.now lot.now (option_copied best) }
-    requires rows { rows.now ≡ children_of (tree_of (problem_of question.now)) lot.now.rows }
+    requires rows { AreRowsOf question.now lot.now.rows rows.now }
     requires workers { (0 < length workers.items) × (length workers.items ≤ 64) }
     requires start { AreReady (IsAtStart question.now) workers.items }
     requires limit { limit ≤ 5000000 }
-    ensures ends { IfOk result (λ worked. AreEnds question.now limit 0 (jobs_of (problem_of question.now) lot.now.rows) worked.ends) }
+    ensures ends { IfOk result (λ worked. AreEnds question.now limit 0 (jobs_by lot.now.rows rows.now) worked.ends) }
     ensures sized { IfOk result (λ worked. AreSized question.now worked.ends) }
     ensures size { IfOk result (λ worked. length worked.workers.items ≡ length workers.entry.items) }
     ensures ready { IfOk result (λ worked. AllAreClosed worked.ends → AreReady (CanEnter question.now lot.now.rows) worked.workers.items) }
@@ -115,5 +112,5 @@ pub fn ends_of_lot<'a, R: Threads + Sync, G: Gate>(
         best,
     };
     let count = rows.len() as u64;
-    share(rt, alloc, &jobs, count, workers, limit, alone, gate)
+    share(rt, alloc, &jobs, count, workers, limit, gate)
 }

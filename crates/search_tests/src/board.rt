@@ -153,7 +153,7 @@ fn another_worker_ends_the_other_jobs(rt: HostRuntime) -> Result<(), Fail> {
         met: AtomicU64::new(0),
     };
     let workers = vec![in rt.alloc(); 0, 0]?;
-    let worked = share(&rt, rt.alloc(), &jobs, 10, workers, 1_000_000, 0, &gate)?;
+    let worked = share(&rt, rt.alloc(), &jobs, 10, workers, 1_000_000, &gate)?;
     assert!(rt; worked.ends.len() == 10);
     assert!(rt;
         matches!(worked.workers.as_slice(), [first, second] if first.wrapping_add(*second) == 10)
@@ -162,28 +162,19 @@ fn another_worker_ends_the_other_jobs(rt: HostRuntime) -> Result<(), Fail> {
     Ok(())
 }
 
-/// One worker walks some nodes, and then three draw on.
+/// Three workers end all jobs of a lot, and then of another.
 #[test]
-fn a_lot_that_one_worker_began(rt: HostRuntime) -> Result<(), Fail> {
+fn workers_go_on_to_another_lot(rt: HostRuntime) -> Result<(), Fail> {
     let jobs = Even {
         alloc: rt.alloc(),
         count: 30,
         nodes: 3,
     };
     let workers = vec![in rt.alloc(); 0, 0, 0]?;
-    let worked = share(&rt, rt.alloc(), &jobs, 30, workers, 1_000, 10, &FreeGate)?;
+    let worked = share(&rt, rt.alloc(), &jobs, 30, workers, 1_000, &FreeGate)?;
     assert!(rt; worked.ends.len() == 30);
-    let alone = share(
-        &rt,
-        rt.alloc(),
-        &jobs,
-        30,
-        worked.workers,
-        1_000,
-        1_000,
-        &FreeGate,
-    )?;
-    assert!(rt; alone.ends.len() == 30 && alone.workers.len() == 3);
+    let again = share(&rt, rt.alloc(), &jobs, 30, worked.workers, 1_000, &FreeGate)?;
+    assert!(rt; again.ends.len() == 30 && again.workers.len() == 3);
     Ok(())
 }
 
@@ -196,7 +187,7 @@ fn a_limit_ends_a_lot(rt: HostRuntime) -> Result<(), Fail> {
         nodes: 4,
     };
     let workers = vec![in rt.alloc(); 0]?;
-    let worked = share(&rt, rt.alloc(), &jobs, 10, workers, 10, 0, &FreeGate)?;
+    let worked = share(&rt, rt.alloc(), &jobs, 10, workers, 10, &FreeGate)?;
     assert!(rt; worked.ends.len() == 3);
     assert!(rt; matches!(worked.ends.get(2), JobEnd::Spent { nodes: 3 }));
     Ok(())

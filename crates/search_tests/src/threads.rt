@@ -4,7 +4,7 @@ ghost use Rattle.fx_vectors.specs.Question.{IsValid};
 use crate::board::Holding;
 use crate::questions::{main_effects, question, shape_of};
 use fx_base::NoMemory;
-use fx_board::{Asked, FreeGate, ask};
+use fx_board::{Alone, Asked, FreeGate, ask, ask_after};
 use fx_search::ask_alone;
 use fx_vectors::{Marks, Question};
 use std::alloc::Global;
@@ -66,12 +66,17 @@ fn threads_agree<R: Threads + Sync>(
 {
     let alone = ask_alone(alloc, question, budget)?;
     for threads in [1, 2, 3, 8] {
-        let asked = ask(rt, alloc, question, budget, threads.clamp(1, 64), &FreeGate)?;
-        if !are_same(&asked, &alone) {
-            return Ok(false);
+        let threads = threads.clamp(1, 64);
+        for (first, later) in [(0, 0), (5, 5), (0, 40)] {
+            let nodes = Alone { first, later };
+            let asked = ask_after(rt, alloc, question, budget, threads, nodes, &FreeGate)?;
+            if !are_same(&asked, &alone) {
+                return Ok(false);
+            }
         }
     }
-    Ok(true)
+    let asked = ask(rt, alloc, question, budget, 4, &FreeGate)?;
+    Ok(are_same(&asked, &alone))
 }
 
 /// Whether they do under the budget of just the nodes, one more, and one less.

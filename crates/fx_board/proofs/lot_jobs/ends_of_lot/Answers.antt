@@ -1,16 +1,12 @@
 use Rattle.std.proofs.Common.{◌≡◌, ◌+◌, ◌≤◌, ℕ, List, [], length, refl, sym, subst, ap, arith}
 use Rattle.std.proofs.lemmas.Result.{IfOk-weaker}
-use Rattle.fx_designs.specs.Problems.{Problem}
 use Rattle.fx_designs.specs.Jobs.{nodes_inside}
-use Rattle.fx_laws.specs.Trees.{tree_of, children_of}
 use Rattle.fx_vectors.specs.declared.question.Question.{Question}
 use Rattle.fx_vectors.specs.Question.{problem_of}
-use Rattle.fx_search.specs.Folds.{AreEnds, jobs_of}
-use Rattle.fx_search.specs.LotWalks.{AreSized}
 use Rattle.fx_search.specs.declared.job.JobEnd.{JobEnd}
 use Rattle.fx_board.specs.Lots.{job_at, IsEndOfJob}
 use Rattle.fx_board.specs.Sharing.{AreEndsFrom}
-use Rattle.fx_board.proofs.LotFacts.{few-jobs, ends-are}
+use Rattle.fx_board.proofs.LotFacts.{ends-are}
 use Rattle.fx_board.proofs.lot_jobs.ends_of_lot.Goals as goal
 
 -- the ends by number, as those of the jobs in order
@@ -18,26 +14,22 @@ abbrev AreByNumber : Question → List ℕ → List ℕ → ℕ → ℕ → List
 AreByNumber question lot rows limit count ends = AreEndsFrom (λ n k end. IsEndOfJob question (job_at lot rows n) k end) (λ n. length (nodes_inside (problem_of question) (job_at lot rows n))) limit count 0 ends
 
 pub share-requires-clause-count : goal.share-requires-clause-count
-share-requires-clause-count g c κs within =
-    let few = few-jobs c.args.question.now c.requires.lot.valid c.args.lot.now.rows c.requires.lot.is_lot in
-    (c.len-count.ensures, omega (arith, c.len-count.ensures, ap length c.requires.rows, few))
+share-requires-clause-count g c κs within = (c.len-count.ensures, omega (arith, c.len-count.ensures, c.requires.rows.few))
 
 pub returns-clause-ends : goal.returns-clause-ends
 returns-clause-ends g c =
     let question : Question = c.args.question.now in
     let l : List ℕ = c.args.lot.now.rows in
-    let kids : List ℕ = children_of (tree_of (problem_of question)) l in
+    let rows : List ℕ = c.args.rows.now in
     IfOk-weaker c.share.result _ _ (λ worked h.
-    let counted : AreByNumber question l c.args.rows.now c.args.limit (length c.args.rows.now) worked.ends = subst (λ n. AreByNumber question l c.args.rows.now c.args.limit n worked.ends) c.len-count.ensures h in
-    let all : AreByNumber question l kids c.args.limit (length kids) worked.ends = subst (λ rs. AreByNumber question l rs c.args.limit (length rs) worked.ends) c.requires.rows counted in
-    (ends-are question c.requires.lot.valid l c.requires.lot.is_lot c.args.limit [] kids worked.ends refl all).0) c.share.ensures.ends
+    let all : AreByNumber question l rows c.args.limit (length rows) worked.ends = subst (λ n. AreByNumber question l rows c.args.limit n worked.ends) c.len-count.ensures h in
+    (ends-are question c.requires.lot.valid l c.requires.lot.is_lot rows c.requires.rows c.args.limit [] rows worked.ends refl all).0) c.share.ensures.ends
 
 pub returns-clause-sized : goal.returns-clause-sized
 returns-clause-sized g c =
     let question : Question = c.args.question.now in
     let l : List ℕ = c.args.lot.now.rows in
-    let kids : List ℕ = children_of (tree_of (problem_of question)) l in
+    let rows : List ℕ = c.args.rows.now in
     IfOk-weaker c.share.result _ _ (λ worked h.
-    let counted : AreByNumber question l c.args.rows.now c.args.limit (length c.args.rows.now) worked.ends = subst (λ n. AreByNumber question l c.args.rows.now c.args.limit n worked.ends) c.len-count.ensures h in
-    let all : AreByNumber question l kids c.args.limit (length kids) worked.ends = subst (λ rs. AreByNumber question l rs c.args.limit (length rs) worked.ends) c.requires.rows counted in
-    (ends-are question c.requires.lot.valid l c.requires.lot.is_lot c.args.limit [] kids worked.ends refl all).1) c.share.ensures.ends
+    let all : AreByNumber question l rows c.args.limit (length rows) worked.ends = subst (λ n. AreByNumber question l rows c.args.limit n worked.ends) c.len-count.ensures h in
+    (ends-are question c.requires.lot.valid l c.requires.lot.is_lot rows c.requires.rows c.args.limit [] rows worked.ends refl all).1) c.share.ensures.ends

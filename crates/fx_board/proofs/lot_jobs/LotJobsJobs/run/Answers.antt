@@ -3,7 +3,6 @@ use Rattle.std.specs.Option.{option_copied}
 use Rattle.fx_designs.specs.Problems.{Problem}
 use Rattle.fx_designs.specs.Nodes.{lot_of}
 use Rattle.fx_designs.specs.Jobs.{best_before}
-use Rattle.fx_laws.specs.Trees.{tree_of, children_of}
 use Rattle.fx_jobs.specs.Laws.{IsJob}
 use Rattle.fx_vectors.specs.Matrix.{MatrixView}
 use Rattle.fx_vectors.specs.declared.question.Question.{Question}
@@ -22,24 +21,24 @@ pub with_row-job-requires-clause-below : goal.with_row-job-requires-clause-below
 with_row-job-requires-clause-below g c =
     let s = c.args.self.now in
     let h = c.requires.ready in
-    let kids : List ℕ = children_of (tree_of (problem_of s.question.now)) s.lot.now.rows in
-    let low : c.args.n < length kids = subst (λ rs. c.args.n < length rs) h.rows_are c.requires.job in
-    let row = row-is s.rows.now kids c.args.n c.get.result h.rows_are c.requires.job c.get.ensures in
+    let kids : List ℕ = s.rows.now in
+    let low : c.args.n < length kids = c.requires.job in
+    let row = row-is s.rows.now s.rows.now c.args.n c.get.result refl c.requires.job c.get.ensures in
     subst (λ (z : Shape). c.get.result < z.q ^ z.m) (sym h.lot_is.shape)
-    (subst (λ k. k < s.question.now.shape.q ^ s.question.now.shape.m) (sym row) (child-below s.question.now h.lot_is.valid s.lot.now.rows h.lot_is.is_lot c.args.n low))
+    (subst (λ k. k < s.question.now.shape.q ^ s.question.now.shape.m) (sym row) (child-below s.question.now h.lot_is.valid s.lot.now.rows h.lot_is.is_lot s.rows.now h.rows_are c.args.n low))
 
 pub run_job-requires-clause-job : goal.run_job-requires-clause-job
 run_job-requires-clause-job g c =
     let s = c.args.self.now in
     let h = c.requires.ready in
     let l : List ℕ = s.lot.now.rows in
-    let kids : List ℕ = children_of (tree_of (problem_of s.question.now)) l in
-    let low : c.args.n < length kids = subst (λ rs. c.args.n < length rs) h.rows_are c.requires.job in
-    let row = row-is s.rows.now kids c.args.n c.get.result h.rows_are c.requires.job c.get.ensures in
+    let kids : List ℕ = s.rows.now in
+    let low : c.args.n < length kids = c.requires.job in
+    let row = row-is s.rows.now s.rows.now c.args.n c.get.result refl c.requires.job c.get.ensures in
     let job : c.with_row-job.result.rows ≡ job_at l kids c.args.n = ap (λ (m : MatrixView). m.rows) c.with_row-job.ensures ∙ ap (λ k. l ++ k ∷ []) row in
     let same : c.go_to_lot.new.worker.question.now ≡ s.question.now = ap (λ b. b.now) c.in_ok-go_to_lot.ensures.question ∙ question-is s.question.now l c.args.worker.now h.place in
     subst (λ (z : Question). IsJob (problem_of z) c.with_row-job.result.rows) (sym same)
-    (subst (λ (j : List ℕ). IsJob (problem_of s.question.now) j) (sym job) (job-is s.question.now h.lot_is.valid l h.lot_is.is_lot c.args.n low))
+    (subst (λ (j : List ℕ). IsJob (problem_of s.question.now) j) (sym job) (job-is s.question.now h.lot_is.valid l h.lot_is.is_lot s.rows.now h.rows_are c.args.n low))
 
 pub run_job-requires-clause-at : goal.run_job-requires-clause-at
 run_job-requires-clause-at g c =
@@ -49,15 +48,15 @@ run_job-requires-clause-at g c =
     let p : Problem = problem_of question in
     let l : List ℕ = s.lot.now.rows in
     let v : Searcher = c.go_to_lot.new.worker in
-    let kids : List ℕ = children_of (tree_of p) l in
-    let low : c.args.n < length kids = subst (λ rs. c.args.n < length rs) h.rows_are c.requires.job in
-    let row = row-is s.rows.now kids c.args.n c.get.result h.rows_are c.requires.job c.get.ensures in
+    let kids : List ℕ = s.rows.now in
+    let low : c.args.n < length kids = c.requires.job in
+    let row = row-is s.rows.now s.rows.now c.args.n c.get.result refl c.requires.job c.get.ensures in
     let job : c.with_row-job.result.rows ≡ job_at l kids c.args.n = ap (λ (m : MatrixView). m.rows) c.with_row-job.ensures ∙ ap (λ k. l ++ k ∷ []) row in
     let was = question-is question l c.args.worker.now h.place in
     let same : v.question.now ≡ question = ap (λ b. b.now) c.in_ok-go_to_lot.ensures.question ∙ was in
     let there : IsAt question l (best_before p l) v = subst (λ (z : Question). IsAt z l (best_before (problem_of z) l) v) was c.in_ok-go_to_lot.ensures.at in
-    let one : IsAt question (lot_of p.dimensions (job_at l kids c.args.n)) (best_before p l) v = subst (λ (r : List ℕ). IsAt question r (best_before p l) v) (sym (lot-is question h.lot_is.valid l h.lot_is.is_lot c.args.n low)) there in
-    let two : IsAt question (lot_of p.dimensions (job_at l kids c.args.n)) (best_before p (job_at l kids c.args.n)) v = subst (λ o. IsAt question (lot_of p.dimensions (job_at l kids c.args.n)) o v) (sym (best-is question h.lot_is.valid l h.lot_is.is_lot c.args.n low)) one in
+    let one : IsAt question (lot_of p.dimensions (job_at l kids c.args.n)) (best_before p l) v = subst (λ (r : List ℕ). IsAt question r (best_before p l) v) (sym (lot-is question h.lot_is.valid l h.lot_is.is_lot s.rows.now h.rows_are c.args.n low)) there in
+    let two : IsAt question (lot_of p.dimensions (job_at l kids c.args.n)) (best_before p (job_at l kids c.args.n)) v = subst (λ o. IsAt question (lot_of p.dimensions (job_at l kids c.args.n)) o v) (sym (best-is question h.lot_is.valid l h.lot_is.is_lot s.rows.now h.rows_are c.args.n low)) one in
     subst (λ (z : Question). IsAt z (lot_of (problem_of z).dimensions c.with_row-job.result.rows) (best_before (problem_of z) c.with_row-job.result.rows) v) (sym same)
     (subst (λ (j : List ℕ). IsAt question (lot_of p.dimensions j) (best_before p j) v) (sym job) two)
 
@@ -84,13 +83,13 @@ returns-clause-ready g c =
     let question : Question = s.question.now in
     let p : Problem = problem_of question in
     let l : List ℕ = s.lot.now.rows in
-    let kids : List ℕ = children_of (tree_of p) l in
-    let low : c.args.n < length kids = subst (λ rs. c.args.n < length rs) h.rows_are c.requires.job in
-    let row = row-is s.rows.now kids c.args.n c.get.result h.rows_are c.requires.job c.get.ensures in
+    let kids : List ℕ = s.rows.now in
+    let low : c.args.n < length kids = c.requires.job in
+    let row = row-is s.rows.now s.rows.now c.args.n c.get.result refl c.requires.job c.get.ensures in
     let job : c.with_row-job.result.rows ≡ job_at l kids c.args.n = ap (λ (m : MatrixView). m.rows) c.with_row-job.ensures ∙ ap (λ k. l ++ k ∷ []) row in
     let same : c.go_to_lot.new.worker.question.now ≡ question = ap (λ b. b.now) c.in_ok-go_to_lot.ensures.question ∙ question-is question l c.args.worker.now h.place in
-    let lot = lot-is question h.lot_is.valid l h.lot_is.is_lot c.args.n low in
-    let best = best-is question h.lot_is.valid l h.lot_is.is_lot c.args.n low in
+    let lot = lot-is question h.lot_is.valid l h.lot_is.is_lot s.rows.now h.rows_are c.args.n low in
+    let best = best-is question h.lot_is.valid l h.lot_is.is_lot s.rows.now h.rows_are c.args.n low in
     IfOk-weaker c.run_job.result _ _ (λ end ready closed.
     let there = ready-after end _ ready closed in
     let one : IsAt question (lot_of p.dimensions c.with_row-job.result.rows) (best_before p c.with_row-job.result.rows) c.run_job.new.self = subst (λ (z : Question). IsAt z (lot_of (problem_of z).dimensions c.with_row-job.result.rows) (best_before (problem_of z) c.with_row-job.result.rows) c.run_job.new.self) same there in

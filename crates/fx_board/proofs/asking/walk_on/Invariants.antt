@@ -2,10 +2,10 @@ use Rattle.std.proofs.Common.{◌≡◌, ◌≤◌, ◌-◌, length}
 use Rattle.fx_search.specs.LotWalks.{IsBetween}
 use Rattle.fx_search.specs.Searchers.{IsAtStart}
 use Rattle.fx_board.specs.Sharing.{AreReady}
-use Rattle.fx_board.proofs.asking.ask_by_lots.Given as goal
+use Rattle.fx_board.proofs.asking.walk_on.Given as goal
 
-abbrev pub invariant-loop-walk : goal.invariant-loop-walk
-invariant-loop-walk g l = record {
+abbrev pub invariant-loop-asked : goal.invariant-loop-asked
+invariant-loop-asked g l = record {
   question : l.walk.question.now ≡ l.question;
   limit : l.walk.limit ≡ l.budget;
   between : IsBetween l.walk;
@@ -13,5 +13,5 @@ invariant-loop-walk g l = record {
   most : length l.workers.items ≤ 64;
 }
 
-abbrev pub decreases-loop-walk : goal.decreases-loop-walk
-decreases-loop-walk g l = l.budget - length l.walk.marks
+abbrev pub decreases-loop-asked : goal.decreases-loop-asked
+decreases-loop-asked g l = l.budget - length l.walk.marks

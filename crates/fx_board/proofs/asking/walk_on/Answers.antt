@@ -7,27 +7,27 @@ use Rattle.fx_search.specs.declared.lot_walk.LotWalk.{LotWalk}
 use Rattle.fx_search.specs.declared.lot_walk.Step.TheVariants.{Lot, Done}
 use Rattle.fx_board.specs.Sharing.{AreReady}
 use Rattle.fx_board.proofs.Teams.{ready_none}
-use Rattle.fx_board.proofs.asking.ask_by_lots.Goals as goal
+use Rattle.fx_board.proofs.asking.walk_on.Goals as goal
 
-pub loop-walk-init : goal.loop-walk-init
-loop-walk-init g c = record {
-  question = c.in_ok-walk.ensures.question;
-  limit = c.in_ok-walk.ensures.limit;
-  between = c.in_ok-walk.ensures.between;
+pub loop-asked-init : goal.loop-asked-init
+loop-asked-init g c = record {
+  question = c.requires.question;
+  limit = c.requires.limit;
+  between = c.requires.between;
   start = subst (AreReady (IsAtStart c.args.question.now)) (sym c.new-workers.ensures.items) (ready_none (IsAtStart c.args.question.now));
   most = omega (arith, ap length c.new-workers.ensures.items);
 }
 
 pub work_off-requires-clause-at : goal.work_off-requires-clause-at
 work_off-requires-clause-at g c κs within =
-    (subst (λ z. IsStep c.loop-walk.walk.question.now c.loop-walk.walk.limit (length c.loop-walk.walk.marks) c.next.new.self z) c.in-Lot.is c.in_ok-asked.ensures.step).0
+    (subst (λ z. IsStep c.loop-asked.walk.question.now c.loop-asked.walk.limit (length c.loop-asked.walk.marks) c.next.new.self z) c.in-Lot.is c.in_ok-asked.ensures.step).0
 
 pub work_off-requires-clause-question : goal.work_off-requires-clause-question
-work_off-requires-clause-question g c κs within = ap (λ b. b.now) c.in_ok-asked.ensures.question ∙ c.loop-walk.invariant.question
+work_off-requires-clause-question g c κs within = ap (λ b. b.now) c.in_ok-asked.ensures.question ∙ c.loop-asked.invariant.question
 
-pub loop-walk-preserved : goal.loop-walk-preserved
-loop-walk-preserved g c =
-    let i = c.loop-walk.invariant in
+pub loop-asked-preserved : goal.loop-asked-preserved
+loop-asked-preserved g c =
+    let i = c.loop-asked.invariant in
     let next : LotWalk = c.next.new.self in
     let folded : IsFolded c.args.question.now next.limit (length next.marks) c.work_off.new.walk None = subst (λ z. IsFolded c.args.question.now next.limit (length next.marks) c.work_off.new.walk z) c.in-None.is c.in_ok-asked-2.ensures.folded in
     record {
@@ -38,11 +38,11 @@ loop-walk-preserved g c =
       most = c.in_ok-asked-2.ensures.workers;
     }
 
-pub loop-walk-smaller : goal.loop-walk-smaller
-loop-walk-smaller g c =
-    let i = c.loop-walk.invariant in
+pub loop-asked-smaller : goal.loop-asked-smaller
+loop-asked-smaller g c =
+    let i = c.loop-asked.invariant in
     let next : LotWalk = c.next.new.self in
-    let further = (subst (λ z. IsStep c.loop-walk.walk.question.now c.loop-walk.walk.limit (length c.loop-walk.walk.marks) next z) c.in-Lot.is c.in_ok-asked.ensures.step).1 in
+    let further = (subst (λ z. IsStep c.loop-asked.walk.question.now c.loop-asked.walk.limit (length c.loop-asked.walk.marks) next z) c.in-Lot.is c.in_ok-asked.ensures.step).1 in
     let folded : IsFolded c.args.question.now next.limit (length next.marks) c.work_off.new.walk None = subst (λ z. IsFolded c.args.question.now next.limit (length next.marks) c.work_off.new.walk z) c.in-None.is c.in_ok-asked-2.ensures.folded in
     let limit = c.in_ok-asked-2.ensures.limit ∙ c.in_ok-asked.ensures.limit ∙ i.limit in
     omega (arith, further, folded.1, folded.0.under_way.so_far.fits, limit)
@@ -53,22 +53,22 @@ right_of asked walked question limit budget same is h = subst (λ z. IsRight z b
 
 pub returns-in-Done-clause-answer : goal.returns-in-Done-clause-answer
 returns-in-Done-clause-answer g c =
-    let right = subst (λ z. IsStep c.loop-walk.walk.question.now c.loop-walk.walk.limit (length c.loop-walk.walk.marks) c.next.new.self z) c.in-Done.is c.in_ok-asked.ensures.step in
-    (right_of c.in-Done.asked c.loop-walk.walk.question.now c.args.question.now c.loop-walk.walk.limit c.args.budget c.loop-walk.invariant.question c.loop-walk.invariant.limit right).0
+    let right = subst (λ z. IsStep c.loop-asked.walk.question.now c.loop-asked.walk.limit (length c.loop-asked.walk.marks) c.next.new.self z) c.in-Done.is c.in_ok-asked.ensures.step in
+    (right_of c.in-Done.asked c.loop-asked.walk.question.now c.args.question.now c.loop-asked.walk.limit c.args.budget c.loop-asked.invariant.question c.loop-asked.invariant.limit right).0
 
 pub returns-in-Done-clause-none_at_all : goal.returns-in-Done-clause-none_at_all
 returns-in-Done-clause-none_at_all g c =
-    let right = subst (λ z. IsStep c.loop-walk.walk.question.now c.loop-walk.walk.limit (length c.loop-walk.walk.marks) c.next.new.self z) c.in-Done.is c.in_ok-asked.ensures.step in
-    (right_of c.in-Done.asked c.loop-walk.walk.question.now c.args.question.now c.loop-walk.walk.limit c.args.budget c.loop-walk.invariant.question c.loop-walk.invariant.limit right).1
+    let right = subst (λ z. IsStep c.loop-asked.walk.question.now c.loop-asked.walk.limit (length c.loop-asked.walk.marks) c.next.new.self z) c.in-Done.is c.in_ok-asked.ensures.step in
+    (right_of c.in-Done.asked c.loop-asked.walk.question.now c.args.question.now c.loop-asked.walk.limit c.args.budget c.loop-asked.invariant.question c.loop-asked.invariant.limit right).1
 
 pub returns-in-Some-clause-answer : goal.returns-in-Some-clause-answer
 returns-in-Some-clause-answer g c =
     let next : LotWalk = c.next.new.self in
     let right = subst (λ z. IsFolded c.args.question.now next.limit (length next.marks) c.work_off.new.walk z) c.in-Some.is c.in_ok-asked-2.ensures.folded in
-    (right_of c.in-Some.asked c.args.question.now c.args.question.now next.limit c.args.budget refl (c.in_ok-asked.ensures.limit ∙ c.loop-walk.invariant.limit) right).0
+    (right_of c.in-Some.asked c.args.question.now c.args.question.now next.limit c.args.budget refl (c.in_ok-asked.ensures.limit ∙ c.loop-asked.invariant.limit) right).0
 
 pub returns-in-Some-clause-none_at_all : goal.returns-in-Some-clause-none_at_all
 returns-in-Some-clause-none_at_all g c =
     let next : LotWalk = c.next.new.self in
     let right = subst (λ z. IsFolded c.args.question.now next.limit (length next.marks) c.work_off.new.walk z) c.in-Some.is c.in_ok-asked-2.ensures.folded in
-    (right_of c.in-Some.asked c.args.question.now c.args.question.now next.limit c.args.budget refl (c.in_ok-asked.ensures.limit ∙ c.loop-walk.invariant.limit) right).1
+    (right_of c.in-Some.asked c.args.question.now c.args.question.now next.limit c.args.budget refl (c.in_ok-asked.ensures.limit ∙ c.loop-asked.invariant.limit) right).1
