@@ -1,6 +1,8 @@
 ghost use Rattle.std.specs.Prelude.{◌≡◌, ◌<◌, ◌≤◌, ◌+◌, ◌-◌, ◌++◌, [], ◌∷◌, false, None, length, IfOk, IfNone, OnOk, MatchOption};
 ghost use Rattle.fx_designs.specs.Problems.{Dimensions};
 ghost use Rattle.fx_designs.specs.Jobs.{best_before};
+ghost use Rattle.fx_tree.specs.Following.{front_of};
+ghost use Rattle.fx_vectors.specs.Shape.{dimensions_of};
 ghost use Rattle.fx_vectors.specs.Question.{IsValid, problem_of};
 ghost use Rattle.fx_jobs.specs.Ranked.{better, is_counted_through};
 ghost use Rattle.fx_jobs.specs.Search.{ranked, search_tree, search_mark, IsBestAt};
@@ -21,7 +23,7 @@ use crate::known::Known;
 use crate::pruner::Pruner;
 use crate::walk::{End, enter};
 use fx_base::{Items, NoMemory};
-use fx_tree::{Candidates, Points, front_of};
+use fx_tree::{Candidates, Front, Points, front_of};
 use fx_vectors::{Mark, Marks, Matrix, Question};
 use std::alloc::Global;
 use std::mem;
@@ -164,7 +166,8 @@ impl<'a> LotWalk<'a> {
         ensures step { IfOk result (IsStep self.old.question.now self.old.limit (length self.old.marks) self.new) }
     {
         while self.prefix.len() <= usize::from(self.question.shape.m) {
-            match self.next_row() {
+            let front = front_of(self.question, &self.prefix);
+            match self.next_row(front) {
                 Some(row) => {
                     if self.marks.len() == self.limit {
                         return Ok(Step::Done(self.spent(row)));
@@ -196,11 +199,13 @@ impl<'a> LotWalk<'a> {
         ensures worked { IfOk result (IsWorked self.old.question.now self.old.limit (length self.old.marks) self.new) }
     {
         let begun = self.nodes();
+        // It is the same for each job of the lot.
+        let front = front_of(self.question, &self.prefix);
         while self.nodes() - begun < few {
-            let Some(row) = self.next_row() else {
+            let Some(row) = self.next_row(front) else {
                 return Ok(None);
             };
-            match self.work_job(row)? {
+            match self.work_job(front, row)? {
                 Some(asked) => return Ok(Some(asked)),
                 None => {}
             }
@@ -237,14 +242,15 @@ impl<'a> LotWalk<'a> {
         }
     }
 
-    /// The greatest row below the bound by which the prefix has a child.
-    fn next_row(&self) -> Option<u16>
-        requires { IsPlaced self.now }
+    /// The greatest row below the bound by which the prefix, which makes this front, has a child.
+    fn next_row(&self, front: Front) -> Option<u16>
+        requires placed { IsPlaced self.now }
+        requires front { front ≡ front_of (dimensions_of self.now.question.now.shape) self.now.prefix.rows }
+        requires rank { front.rank ≤ self.now.question.now.shape.m }
         ensures { let p = problem_of self.now.question.now in
             MatchOption result (IsNoneBelow p self.now.prefix.rows self.now.bound)
             (IsNextRow p self.now.prefix.rows self.now.bound) }
     {
-        let front = front_of(self.question, &self.prefix);
         let first = self.candidates.first_row(self.question, front);
         for row in (first..self.bound).rev() {
             if self.candidates.may_follow(self.question, front, row) {
@@ -254,19 +260,21 @@ impl<'a> LotWalk<'a> {
         None
     }
 
-    /// Works off the job by the next row.
-    fn work_job(&mut self, row: u16) -> Result<Option<Asked>, NoMemory>
+    /// Works off the job by the next row of the lot, which makes this front.
+    fn work_job(&mut self, front: Front, row: u16) -> Result<Option<Asked>, NoMemory>
         requires at { IsAtLot self.old }
+        requires front { front ≡ front_of (dimensions_of self.old.question.now.shape) self.old.prefix.rows }
+        requires rank { front.rank ≤ self.old.question.now.shape.m }
         requires next { IsNextRow (problem_of self.old.question.now) self.old.prefix.rows self.old.bound row }
         ensures question { self.new.question ≡ self.old.question }
         ensures limit { self.new.limit ≡ self.old.limit }
         ensures bound { IfOk result (λ asked. IfNone asked (self.new.bound ≡ row)) }
+        ensures rows { IfOk result (λ asked. IfNone asked (self.new.prefix.rows ≡ self.old.prefix.rows)) }
         ensures worked { IfOk result (IsWorked self.old.question.now self.old.limit (length self.old.marks) self.new) }
     {
         let found = self.incumbent.best();
         // The jobs of a lot know nothing of each other.
-        begin_again(&mut self.incumbent, self.earlier);
-        let front = front_of(self.question, &self.prefix);
+        begin_again(&mut self.incumbent, &self.earlier);
         let end = enter(
             self.question,
             &self.candidates,
@@ -471,13 +479,13 @@ fn append(marks: &mut Marks, more: &Marks) -> Result<(), NoMemory>
 }
 
 /// Goes on with this as the best so far, which is none where no least pattern is asked.
-fn begin_again(incumbent: &mut Known, best: Option<Best>)
-    requires dimensions { FitsDimensions (standing_in incumbent.old).problem.dimensions best }
-    requires plain { (standing_in incumbent.old).problem.least ≡ false → kept_rows best ≡ None }
-    ensures { standing_in incumbent.new ≡ record (standing_in incumbent.old) { best = kept_rows best } }
+fn begin_again(incumbent: &mut Known, best: &Option<Best>)
+    requires dimensions { FitsDimensions (standing_in incumbent.old).problem.dimensions best.now }
+    requires plain { (standing_in incumbent.old).problem.least ≡ false → kept_rows best.now ≡ None }
+    ensures { standing_in incumbent.new ≡ record (standing_in incumbent.old) { best = kept_rows best.entry.now } }
 {
     match incumbent {
-        Known::Ranked(ranked) => ranked.begin(best),
+        Known::Ranked(ranked) => ranked.begin(*best),
         Known::Unranked(_) => {}
     }
 }
