@@ -1,8 +1,8 @@
 #!/usr/bin/env python3
 """bench/worst.py PROGRAM [--minutes M] [--first SEED] [--limit SECONDS] [--only SEED]: a hunt for the slowest question.
 
-Draws random questions at the limits, one a seed, runs each as a whole run of the program, and prints its nodes, seconds,
-nanoseconds a node and peak memory. At the end it prints the worst ten in time, the worst ten in memory, and each question
+Draws random questions at the limits, one a seed, runs each as a whole run of the program, and prints its nodes, seconds of
+processor time, nanoseconds a node and peak memory. At the end it prints the worst ten in time, the worst ten in memory, and each question
 that took more than one second plus two microseconds a node. --only SEED prints the text of one question and runs it alone.
 The gate does not run it."""
 import argparse, os, random, re, subprocess, sys, tempfile, time
@@ -74,7 +74,7 @@ def question(seed):
 
 
 class Run:
-    """One run of the program: how it ended, its nodes, seconds and peak memory."""
+    """One run of the program: how it ended, its nodes, seconds of processor time and peak memory."""
 
     def __init__(self, program, seed, limit):
         self.seed = seed
@@ -84,8 +84,7 @@ class Run:
             source.seek(0)
             start = time.perf_counter()
             child = subprocess.Popen([program, "run"], stdin=source, stdout=listing, stderr=subprocess.DEVNULL)
-            self.ended, status, peak = wait(child, start + limit)
-            self.seconds = time.perf_counter() - start
+            self.ended, status, peak, self.seconds = wait(child, start + limit)
             listing.seek(0)
             found = re.search(rb"^nodes (\d+)", listing.read(), re.M)
         self.status = os.waitstatus_to_exitcode(status)
@@ -100,8 +99,8 @@ class Run:
         return self.seconds - 1 - 2e-6 * self.nodes
 
     def memory(self):
-        """The megabytes besides the marks, which take 18 bytes a node."""
-        return self.megabytes - 18 * self.nodes / 2**20
+        """The megabytes besides the marks, which take at least 4 bytes a node."""
+        return self.megabytes - 4 * self.nodes / 2**20
 
     def line(self):
         end = f"status {self.status}" if self.ended else "cut off"
@@ -111,20 +110,21 @@ class Run:
 
 
 def wait(child, deadline):
-    """Waits for the child, and kills it at the deadline. Returns whether it ended, its status and its peak memory in KB,
-    read while it ran: what the system keeps at its end counts the memory of this script, from which it was started."""
+    """Waits for the child, and kills it at the deadline. Returns whether it ended, its status, its peak memory in KB and its
+    processor time. The memory is read while it runs: what the system keeps at its end counts the memory of this script, from
+    which it was started."""
     peak = 0
     while time.perf_counter() < deadline:
         peak = peak_memory(child.pid) or peak
-        pid, status = os.waitpid(child.pid, os.WNOHANG)
+        pid, status, usage = os.wait4(child.pid, os.WNOHANG)
         if pid:
             child.returncode = 0
-            return True, status, peak
+            return True, status, peak, usage.ru_utime + usage.ru_stime
         time.sleep(0.0005)
     child.kill()
-    _, status = os.waitpid(child.pid, 0)
+    _, status, usage = os.wait4(child.pid, 0)
     child.returncode = 0
-    return False, status, peak
+    return False, status, peak, usage.ru_utime + usage.ru_stime
 
 
 def peak_memory(pid):

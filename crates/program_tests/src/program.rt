@@ -1,77 +1,39 @@
-ghost use Rattle.std.specs.Prelude.{◌<◌};
-
 mod books;
+mod failing;
+mod forged;
+mod limits;
+mod outside;
 
-use fx_base::{Bytes, MemoryShelf, MemorySink, MemorySource, SureShelf};
-use fx_program::{Settings, factex, make_text, read_words};
+use fx_base::{Bytes, MemoryShelf};
+use fx_program::{Settings, make_text, read_words};
+use outside::{Limits, Outside, SURE, left_by, words_in};
 use std::alloc::Global;
 use std::test::Fail;
 use std::thread::Threads;
 
 /// How many bytes a source or a sink moves at a call.
-const STEP: usize = 7;
-
-/// How many bytes a listing may have.
-const ROOM: usize = 2000;
-
-/// How many bytes the files of a test may have.
-const SHELF_ROOM: usize = 10000;
-
-/// The words of a command line, between blanks.
-fn words_in(alloc: Global, line: &str) -> Result<Vec<Vec<u8>>, Fail> {
-    let mut words = Vec::new(alloc);
-    for word in line.split_whitespace() {
-        words.push(word.as_bytes().to_vec(alloc)?)?;
-    }
-    Ok(words)
-}
+const STEP: usize = SURE.step;
 
 /// The words `run`.
 fn run_words(alloc: Global) -> Result<Vec<Vec<u8>>, Fail> {
     words_in(alloc, "run")
 }
 
-/// What a call of `factex` came to.
-#[derive(Drop)]
-struct Ended {
-    status: u8,
-    listed: Vec<u8>,
-    failed_reads: u64,
-    failed_writes: u64,
-}
-
-/// The numbers of all calls from this one on, counted from 1, or of none. No test makes as many
-/// calls as there are numbers.
-fn calls_from(alloc: Global, first: Option<usize>) -> Result<Bytes, Fail> {
-    let mut calls = Vec::new(alloc);
-    if let Some(first) = first {
-        for call in first..=255 {
-            calls.push(call as u8)?;
-        }
-    }
-    Ok(Bytes::from_vec(calls))
-}
-
-/// What `factex` comes to for a text, where each read and each write from these on fails.
+/// What `factex` leaves with a text, where each read and each write from these on fails.
 fn ran<R: Threads + Sync>(
     rt: &R,
     alloc: Global,
     words: &[Vec<u8>],
     text: &[u8],
-    first_failed_read: Option<usize>,
-    first_failed_write: Option<usize>,
-) -> Result<Ended, Fail> {
-    let content = Bytes::from_vec(text.to_vec(alloc)?);
-    let mut source = MemorySource::new(content, STEP, calls_from(alloc, first_failed_read)?);
-    let mut listing = MemorySink::new(alloc, STEP, ROOM, calls_from(alloc, first_failed_write)?)?;
-    let mut shelf = SureShelf::new(alloc, STEP, SHELF_ROOM)?;
-    let status = factex(rt, alloc, words, &mut source, &mut listing, &mut shelf);
-    Ok(Ended {
-        status,
-        listed: listing.bytes().to_vec(alloc)?,
-        failed_reads: source.faults(),
-        failed_writes: listing.faults(),
-    })
+    first_read: Option<usize>,
+    first_write: Option<usize>,
+) -> Result<Outside, Fail> {
+    let limits = Limits {
+        first_read,
+        first_write,
+        ..SURE
+    };
+    left_by(rt, alloc, words, text, limits)
 }
 
 const HALF: &str = "proc factex;\nfactors A B C D;\nsize design=8;\nmodel resolution=4;\nrun;\n";
@@ -296,7 +258,7 @@ fn programs_have_their_listing(rt: HostRuntime) -> Result<(), Fail> {
     for (text, listing, status) in PROGRAMS {
         let ended = ran(&rt, alloc, words.as_slice(), text.as_bytes(), None, None)?;
         assert_eq!(rt; ended.status, status, "{text}");
-        assert!(rt; ended.listed.as_slice() == listing.as_bytes(), "{text}");
+        assert!(rt; ended.listing.bytes() == listing.as_bytes(), "{text}");
     }
     Ok(())
 }
@@ -481,7 +443,7 @@ fn faults_of_a_text_are_told(rt: HostRuntime) -> Result<(), Fail> {
         let ended = ran(&rt, alloc, words.as_slice(), text.as_bytes(), None, None)?;
         assert_eq!(rt; ended.status, 3, "{text}");
         assert!(rt;
-            is_message(ended.listed.as_slice(), message.as_bytes()),
+            is_message(ended.listing.bytes(), message.as_bytes()),
             "{text}"
         );
     }
@@ -512,10 +474,10 @@ fn the_seed_of_the_words_shuffles(rt: HostRuntime) -> Result<(), Fail> {
     ] {
         let mut words = run_words(alloc)?;
         words.push(word.as_bytes().to_vec(alloc)?)?;
-        let (status, _listed, shelf) = planned(&rt, alloc, words.as_slice(), text, STEP, None)?;
-        assert_eq!(rt; status, 0);
-        assert!(rt; is_file(&shelf, 0, "x.csv", plan.as_bytes()));
-        assert!(rt; is_file(&shelf, 1, "y.csv", b"A,B\n1,1\n-1,-1\n1,-1\n-1,1\n"));
+        let left = planned(&rt, alloc, words.as_slice(), text, STEP, None)?;
+        assert_eq!(rt; left.status, 0);
+        assert!(rt; is_file(&left.shelf, 0, "x.csv", plan.as_bytes()));
+        assert!(rt; is_file(&left.shelf, 1, "y.csv", b"A,B\n1,1\n-1,-1\n1,-1\n-1,1\n"));
     }
     Ok(())
 }
@@ -552,9 +514,9 @@ fn refused_words_are_told(rt: HostRuntime) -> Result<(), Fail> {
         let words = words_in(alloc, line)?;
         let ended = ran(&rt, alloc, words.as_slice(), HALF.as_bytes(), Some(1), None)?;
         assert_eq!(rt; ended.status, 3, "{line}");
-        assert_eq!(rt; ended.failed_reads, 0, "{line}");
+        assert_eq!(rt; ended.source.faults(), 0, "{line}");
         assert!(rt;
-            is_message(ended.listed.as_slice(), message.as_bytes()),
+            is_message(ended.listing.bytes(), message.as_bytes()),
             "{line}"
         );
     }
@@ -653,8 +615,8 @@ fn texts_are_made(rt: HostRuntime) -> Result<(), Fail> {
     let words = words_in(alloc, "make 12")?;
     let ended = ran(&rt, alloc, words.as_slice(), HALF.as_bytes(), Some(1), None)?;
     assert_eq!(rt; ended.status, 0);
-    assert_eq!(rt; ended.failed_reads, 0);
-    assert!(rt; ended.listed.as_slice() == TWELVE.as_bytes());
+    assert_eq!(rt; ended.source.faults(), 0);
+    assert!(rt; ended.listing.bytes() == TWELVE.as_bytes());
     Ok(())
 }
 
@@ -671,8 +633,8 @@ fn large_sums_up(rt: HostRuntime) -> Result<(), Fail> {
         let words = words_in(alloc, line)?;
         let ended = ran(&rt, alloc, words.as_slice(), HALF.as_bytes(), Some(1), None)?;
         assert_eq!(rt; ended.status, 0, "{line}");
-        assert_eq!(rt; ended.failed_reads, 0, "{line}");
-        assert!(rt; ended.listed.as_slice() == summary.as_bytes(), "{line}");
+        assert_eq!(rt; ended.source.faults(), 0, "{line}");
+        assert!(rt; ended.listing.bytes() == summary.as_bytes(), "{line}");
     }
     Ok(())
 }
@@ -692,9 +654,9 @@ fn no_call_follows_a_failed_write_of_a_piece(rt: HostRuntime) -> Result<(), Fail
             Some(2),
         )?;
         assert_eq!(rt; ended.status, 4, "{line}");
-        assert_eq!(rt; ended.failed_reads, 0, "{line}");
-        assert_eq!(rt; ended.failed_writes, 1, "{line}");
-        assert_eq!(rt; ended.listed.len(), STEP, "{line}");
+        assert_eq!(rt; ended.source.faults(), 0, "{line}");
+        assert_eq!(rt; ended.listing.faults(), 1, "{line}");
+        assert_eq!(rt; ended.listing.bytes().len(), STEP, "{line}");
     }
     Ok(())
 }
@@ -717,9 +679,9 @@ fn no_call_follows_a_failed_read(rt: HostRuntime) -> Result<(), Fail> {
                 Some(1),
             )?;
             assert_eq!(rt; ended.status, 4);
-            assert_eq!(rt; ended.failed_reads, 1);
-            assert_eq!(rt; ended.failed_writes, 0);
-            assert!(rt; ended.listed.is_empty());
+            assert_eq!(rt; ended.source.faults(), 1);
+            assert_eq!(rt; ended.listing.faults(), 0);
+            assert!(rt; ended.listing.bytes().is_empty());
         }
     }
     Ok(())
@@ -743,10 +705,10 @@ fn no_call_follows_a_failed_write(rt: HostRuntime) -> Result<(), Fail> {
             Some(call),
         )?;
         assert_eq!(rt; ended.status, 4);
-        assert_eq!(rt; ended.failed_writes, 1);
-        assert_eq!(rt; ended.failed_reads, 0);
-        assert_eq!(rt; ended.listed.len(), (call - 1) * STEP);
-        assert!(rt; HALF_LISTING.as_bytes().starts_with(ended.listed.as_slice()));
+        assert_eq!(rt; ended.listing.faults(), 1);
+        assert_eq!(rt; ended.source.faults(), 0);
+        assert_eq!(rt; ended.listing.bytes().len(), (call - 1) * STEP);
+        assert!(rt; HALF_LISTING.as_bytes().starts_with(ended.listing.bytes()));
     }
     let ended = ran(
         &rt,
@@ -819,24 +781,22 @@ const PLANNED: [(&[u8], &[u8], &[(&str, &[u8])], u8); 6] = [
     ),
 ];
 
-/// The status of the words for a text, its listing and its shelf, which takes `step` bytes in a
-/// call and fails from this call on.
+/// What `factex` leaves with a text, where calls take `step` bytes, and each call on the shelf from this one
+/// on fails.
 fn planned<R: Threads + Sync>(
     rt: &R,
     alloc: Global,
     words: &[Vec<u8>],
     text: &[u8],
     step: usize,
-    first_failed: Option<usize>,
-) -> Result<(u8, Vec<u8>, MemoryShelf), Fail>
-    requires { 0 < step }
-{
-    let content = Bytes::from_vec(text.to_vec(alloc)?);
-    let mut source = MemorySource::new(content, STEP, Bytes::new(alloc));
-    let mut listing = MemorySink::new(alloc, STEP, 1000, Bytes::new(alloc))?;
-    let mut shelf = MemoryShelf::new(alloc, step, SHELF_ROOM, calls_from(alloc, first_failed)?)?;
-    let status = factex(rt, alloc, words, &mut source, &mut listing, &mut shelf);
-    Ok((status, listing.bytes().to_vec(alloc)?, shelf))
+    first_file: Option<usize>,
+) -> Result<Outside, Fail> {
+    let limits = Limits {
+        step,
+        first_file,
+        ..SURE
+    };
+    left_by(rt, alloc, words, text, limits)
 }
 
 /// Whether a file of the shelf is whole, with this name and this content.
@@ -852,12 +812,12 @@ fn plans_are_shelved(rt: HostRuntime) -> Result<(), Fail> {
     let alloc = rt.alloc();
     let words = run_words(alloc)?;
     for (text, listing, files, status) in PLANNED {
-        let (ended, listed, shelf) = planned(&rt, alloc, words.as_slice(), text, STEP, None)?;
-        assert_eq!(rt; ended, status);
-        assert!(rt; listed.as_slice() == listing);
-        assert_eq!(rt; shelf.files(), files.len());
+        let left = planned(&rt, alloc, words.as_slice(), text, STEP, None)?;
+        assert_eq!(rt; left.status, status);
+        assert!(rt; left.listing.bytes() == listing);
+        assert_eq!(rt; left.shelf.files(), files.len());
         for (i, (name, content)) in files.iter().enumerate() {
-            assert!(rt; is_file(&shelf, i, name, content));
+            assert!(rt; is_file(&left.shelf, i, name, content));
         }
     }
     Ok(())
@@ -871,16 +831,16 @@ fn no_call_follows_a_failed_file(rt: HostRuntime) -> Result<(), Fail> {
     let text = b"proc factex; factors A; model r=3; output out=a;";
     let words = run_words(alloc)?;
     for call in 1..5 {
-        let (status, listed, shelf) = planned(&rt, alloc, words.as_slice(), text, 4, Some(call))?;
-        assert_eq!(rt; status, 4);
-        assert_eq!(rt; shelf.faults(), 1);
-        assert!(rt; listed.is_empty());
-        assert_eq!(rt; shelf.files(), usize::from(call > 1));
-        assert!(rt; !is_file(&shelf, 0, "a.csv", b"A\n-1\n1\n"));
+        let left = planned(&rt, alloc, words.as_slice(), text, 4, Some(call))?;
+        assert_eq!(rt; left.status, 4);
+        assert_eq!(rt; left.shelf.faults(), 1);
+        assert!(rt; left.listing.bytes().is_empty());
+        assert_eq!(rt; left.shelf.files(), usize::from(call > 1));
+        assert!(rt; !is_file(&left.shelf, 0, "a.csv", b"A\n-1\n1\n"));
     }
-    let (status, _listed, shelf) = planned(&rt, alloc, words.as_slice(), text, 4, Some(5))?;
-    assert_eq!(rt; status, 0);
-    assert!(rt; is_file(&shelf, 0, "a.csv", b"A\n-1\n1\n"));
+    let left = planned(&rt, alloc, words.as_slice(), text, 4, Some(5))?;
+    assert_eq!(rt; left.status, 0);
+    assert!(rt; is_file(&left.shelf, 0, "a.csv", b"A\n-1\n1\n"));
     Ok(())
 }
 
@@ -892,13 +852,13 @@ fn long_texts_are_read(rt: HostRuntime) -> Result<(), Fail> {
     text.extend_from_slice(HALF.as_bytes())?;
     let whole = ran(&rt, alloc, words.as_slice(), text.as_slice(), None, None)?;
     assert_eq!(rt; whole.status, 0);
-    assert!(rt; whole.listed.as_slice() == HALF_LISTING.as_bytes());
+    assert!(rt; whole.listing.bytes() == HALF_LISTING.as_bytes());
     text.push(b' ')?;
     let longer = ran(&rt, alloc, words.as_slice(), text.as_slice(), None, None)?;
     assert_eq!(rt; longer.status, 3);
     assert!(rt;
         is_message(
-            longer.listed.as_slice(),
+            longer.listing.bytes(),
             b"E25 1:1 text is over 1048576 bytes"
         )
     );
@@ -908,6 +868,6 @@ fn long_texts_are_read(rt: HostRuntime) -> Result<(), Fail> {
     }
     let more = ran(&rt, alloc, words.as_slice(), steps.as_slice(), None, None)?;
     assert_eq!(rt; more.status, 3);
-    assert!(rt; is_message(more.listed.as_slice(), b"E32 1:1201 more than 100 steps"));
+    assert!(rt; is_message(more.listing.bytes(), b"E32 1:1201 more than 100 steps"));
     Ok(())
 }

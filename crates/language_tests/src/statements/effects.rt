@@ -111,6 +111,42 @@ fn limits_of_effects_and_pairs_are_exact_to_a_factor(rt: HostRuntime) -> Result<
     Ok(())
 }
 
+/// 100,000 effects in the second list, and one more.
+#[test]
+fn the_limit_of_effects_is_exact(rt: HostRuntime) -> Result<(), Fail> {
+    let front = b"proc factex;factors X1-X40;size design=4;\n";
+    let mut text = Vec::new(rt.alloc());
+    text.extend_from_slice(
+        b"model e=(X1*X18) n=(X1|X2|X3|X4|X5|X6|X7|X8|X9|X10|X11|X12|X13|X14|X15|X16 X17|X18|X19|X20|X21|X22|X23|X24|X25|X26|X27|X28|X29|X30|X31 X32|X33|X34|X35|X36|X37|X38|X39|X40 X1|X2|X3|X4|X5|X32|X33|X34|X35|X36 X17|X18|X19|X20|X37|X38|X39|X40 X1*X17",
+    )?;
+    let mut more = text.as_slice().to_vec(rt.alloc())?;
+    text.extend_from_slice(b");")?;
+    more.extend_from_slice(b" X2*X17);")?;
+    assert_eq!(rt; refusal(&rt, rt.alloc(), front, &text)?, None);
+    assert_eq!(rt;
+        refusal(&rt, rt.alloc(), front, &more)?,
+        Some((23, 2, 18))
+    );
+    Ok(())
+}
+
+/// 1,000 vectors to be told from 2,000, and from 2,002.
+#[test]
+fn the_limit_of_pairs_is_exact(rt: HostRuntime) -> Result<(), Fail> {
+    let front = b"proc factex;factors X1-X10/nlev=3;size design=9;\n";
+    let texts: [&[u8]; 1] = [
+        b"model e=(X1*X2*X3 X1*X2*X3*X4*X5 X1*X2*X3*X4*X5*X6 X1*X2*X3*X4*X5*X6*X7 X1*X2*X3*X4*X5*X6*X7*X8 X1*X2*X3*X4*X5*X6*X7*X8*X9) n=(X2*X3*X4 X2*X3*X4*X5*X6 X2*X3*X4*X5*X6*X7 X2*X3*X4*X5*X6*X7*X8 X2*X3*X4*X5*X6*X7*X8*X9 X2*X3*X4*X5*X6*X7*X8*X9*X10);",
+    ];
+    are_accepted(&rt, rt.alloc(), front, &texts)?;
+    let cases: [(&[u8], u8, u32, u32); 1] = [(
+        b"model e=(X1*X2*X3 X1*X2*X3*X4*X5 X1*X2*X3*X4*X5*X6 X1*X2*X3*X4*X5*X6*X7 X1*X2*X3*X4*X5*X6*X7*X8 X1*X2*X3*X4*X5*X6*X7*X8*X9) n=(X1 X2*X3*X4 X2*X3*X4*X5*X6 X2*X3*X4*X5*X6*X7 X2*X3*X4*X5*X6*X7*X8 X2*X3*X4*X5*X6*X7*X8*X9 X2*X3*X4*X5*X6*X7*X8*X9*X10);",
+        22,
+        2,
+        7,
+    )];
+    are_refused(&rt, rt.alloc(), front, &cases)
+}
+
 #[test]
 fn long_listings_are_refused_at_their_first_word(rt: HostRuntime) -> Result<(), Fail> {
     let cases: [(&[u8], u8, u32, u32); 5] = [

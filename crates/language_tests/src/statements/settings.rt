@@ -24,7 +24,7 @@ fn levels_and_budgets_are_refused_at_their_numbers(rt: HostRuntime) -> Result<()
 
 #[test]
 fn sizes_are_refused_at_their_numbers(rt: HostRuntime) -> Result<(), Fail> {
-    let cases: [(&[u8], u8, u32, u32); 9] = [
+    let cases: [(&[u8], u8, u32, u32); 10] = [
         (b"size design=12;", 8, 2, 13),
         (b"size design=1;", 8, 2, 13),
         (b"size design=0;", 8, 2, 13),
@@ -34,6 +34,7 @@ fn sizes_are_refused_at_their_numbers(rt: HostRuntime) -> Result<(), Fail> {
         (b"size nrunfacs=0;", 8, 2, 15),
         (b"size design=2048;", 9, 2, 13),
         (b"size nrunfacs=11;", 9, 2, 15),
+        (b"size design=1024;model r=3;blocks nblkfacs=11;", 16, 2, 44),
     ];
     are_refused(&rt, rt.alloc(), b"proc factex;factors A B C D;\n", &cases)
 }
@@ -128,7 +129,7 @@ fn blocks_of_a_least_size_are_refused_at_their_numbers(rt: HostRuntime) -> Resul
 
 #[test]
 fn settings_within_the_limits_are_accepted(rt: HostRuntime) -> Result<(), Fail> {
-    let texts: [&[u8]; 16] = [
+    let texts: [&[u8]; 17] = [
         b"size design=2;",
         b"size design=01024;",
         b"size fraction=1;",
@@ -139,6 +140,7 @@ fn settings_within_the_limits_are_accepted(rt: HostRuntime) -> Result<(), Fail> 
         b"model r=99;",
         b"model r=max / minabs;",
         b"size design=8;model r=3;blocks nblkfacs=3;",
+        b"size design=1024;model r=3;blocks nblkfacs=10;",
         b"size design=8;model r=3;blocks nblocks=8;",
         b"size design=8;model r=3;blocks size=1;",
         b"size design=8;model r=3;blocks size=4;",

@@ -3,7 +3,7 @@ ghost use Rattle.std.specs.Prelude.{◌<◌};
 use super::*;
 
 /// That no five factors of two levels have resolution 4 in eight runs.
-const NO_FIVE: &str =
+pub(super) const NO_FIVE: &str =
     "factex-book 1\nsize 2 3 5 0\nresolution 4\npattern none\nO 1\nO 2\nO 4\nO 7\nW 6 25\nW 5 26\nW 3 28\nW 6 14\nW 5 13\nW 3 11\nEND\n";
 
 /// What is listed where that book is accepted.
@@ -79,19 +79,12 @@ fn books_are_shelved(rt: HostRuntime) -> Result<(), Fail> {
     let alloc = rt.alloc();
     let words = run_words(alloc)?;
     for (text, listing, files, status) in BOOKS {
-        let (ended, listed, shelf) = planned(
-            &rt,
-            alloc,
-            words.as_slice(),
-            text.as_bytes(),
-            STEP,
-            None,
-        )?;
-        assert_eq!(rt; ended, status, "{text}");
-        assert!(rt; listed.as_slice() == listing.as_bytes(), "{text}");
-        assert_eq!(rt; shelf.files(), files.len(), "{text}");
+        let left = planned(&rt, alloc, words.as_slice(), text.as_bytes(), STEP, None)?;
+        assert_eq!(rt; left.status, status, "{text}");
+        assert!(rt; left.listing.bytes() == listing.as_bytes(), "{text}");
+        assert_eq!(rt; left.shelf.files(), files.len(), "{text}");
         for (i, (name, content)) in files.iter().enumerate() {
-            assert!(rt; is_file(&shelf, i, name, content.as_bytes()), "{text}");
+            assert!(rt; is_file(&left.shelf, i, name, content.as_bytes()), "{text}");
         }
     }
     Ok(())
@@ -103,10 +96,10 @@ fn the_book_of_a_least_pattern_is_accepted(rt: HostRuntime) -> Result<(), Fail> 
     let alloc = rt.alloc();
     let text = b"proc factex;factors A B C D E F G;size design=32;model resolution=max / minabs;";
     let words = run_words(alloc)?;
-    let (status, _listed, shelf) = planned(&rt, alloc, words.as_slice(), text, STEP, None)?;
-    assert_eq!(rt; status, 0);
-    assert_eq!(rt; shelf.files(), 1);
-    let book = shelf.content(0);
+    let left = planned(&rt, alloc, words.as_slice(), text, STEP, None)?;
+    assert_eq!(rt; left.status, 0);
+    assert_eq!(rt; left.shelf.files(), 1);
+    let book = left.shelf.content(0);
     assert!(rt;
         book.starts_with(
             b"factex-book 1\nsize 2 5 7 0\nresolution 3\npattern 0 0 0 1 2 0 0\n".as_slice()
@@ -120,7 +113,7 @@ fn the_book_of_a_least_pattern_is_accepted(rt: HostRuntime) -> Result<(), Fail> 
     let checked = ran(&rt, alloc, words.as_slice(), book, None, None)?;
     assert_eq!(rt; checked.status, 0);
     assert!(rt;
-        checked.listed.as_slice()
+        checked.listing.bytes()
             == b"accepted\nsize 2 5 7 0\nresolution 3\npattern 0 0 0 1 2 0 0\n".as_slice()
     );
     Ok(())
@@ -175,7 +168,7 @@ fn books_are_judged(rt: HostRuntime) -> Result<(), Fail> {
     for (book, listing, status) in JUDGED {
         let ended = ran(&rt, alloc, words.as_slice(), book.as_bytes(), None, None)?;
         assert_eq!(rt; ended.status, status, "{listing}");
-        assert!(rt; ended.listed.as_slice() == listing.as_bytes(), "{listing}");
+        assert!(rt; ended.listing.bytes() == listing.as_bytes(), "{listing}");
     }
     Ok(())
 }
@@ -196,8 +189,8 @@ fn no_call_follows_a_failed_one_of_a_check(rt: HostRuntime) -> Result<(), Fail> 
             Some(1),
         )?;
         assert_eq!(rt; ended.status, 4);
-        assert_eq!(rt; ended.failed_reads, 1);
-        assert_eq!(rt; ended.failed_writes, 0);
+        assert_eq!(rt; ended.source.faults(), 1);
+        assert_eq!(rt; ended.listing.faults(), 0);
     }
     for call in 1..=NO_FIVE_ACCEPTED.len().div_ceil(STEP) {
         let ended = ran(
@@ -209,8 +202,8 @@ fn no_call_follows_a_failed_one_of_a_check(rt: HostRuntime) -> Result<(), Fail> 
             Some(call),
         )?;
         assert_eq!(rt; ended.status, 4);
-        assert_eq!(rt; ended.failed_writes, 1);
-        assert_eq!(rt; ended.listed.len(), (call - 1) * STEP);
+        assert_eq!(rt; ended.listing.faults(), 1);
+        assert_eq!(rt; ended.listing.bytes().len(), (call - 1) * STEP);
     }
     Ok(())
 }

@@ -1,0 +1,353 @@
+//! Each call outside fails in turn, and the room for each byte is missing in turn. What is left is the
+//! beginning of the whole, and no call follows the one that failed.
+use super::outside::{Limits, SURE, left_by, words_in};
+use fx_base::{Bytes, MemoryShelf, NoMemory, put};
+use std::alloc::Global;
+use std::process::Abort;
+use std::test::Fail;
+use std::thread::Threads;
+
+/// Two plans of one step, and a step without a design, whose book comes after the first listing.
+const TWO_PLANS: &str =
+    "proc factex;factors A B;model r=3;output out=z randomize(0);output out=y;run;proc factex;factors A B C;size design=2;model r=3;";
+
+/// What is listed of its first step.
+const FIRST_LISTING: &str =
+    "step 1\nfactors 2 levels 2\ndesign 4 runs\nno defining words\nnodes 2\nrules\n  none\noutput z.csv 4 rows seed 0\noutput y.csv 4 rows\n";
+
+/// A step with a listing of classes, and with a book.
+const CLASSES: &str =
+    "proc factex;factors A B C D E;size design=8;model resolution=max;examine aliasing;";
+
+/// A step with a book under a pattern.
+const LEAST: &str =
+    "proc factex;factors A B C D;size design=8;model resolution=max / minabs;examine aberration;";
+
+/// A step with a book, a plan and classes.
+const ALL: &str =
+    "proc factex;factors Pressure Temp Speed Feed Angle;size design=16;model resolution=max;examine aliasing;output out=SaveDesign randomize(8911) Pressure nvals=(10 20) Temp cvals=('Low' 'High');";
+
+/// A book that is accepted.
+const BOOK: &str =
+    "factex-book 1\nsize 2 1 2 0\neffects 1 2 /\npattern none\nO 1\nW 1 3\nW 0 2\nW 0 1\nEND\n";
+
+/// How many bytes a call takes where each piece is to go in one.
+const PIECE: usize = 5000;
+
+/// Words and texts, with how many bytes a call takes, and how many calls are made: reads, the last of which
+/// finds the end, writes to the listing, and calls on the shelf, which begin a file, write it and end it.
+const CALLS: [(&str, &str, usize, [usize; 3]); 9] = [
+    ("run", TWO_PLANS, PIECE, [2, 2, 9]),
+    ("run", TWO_PLANS, 1, [TWO_PLANS.len() + 1, 198, 115]),
+    ("run", CLASSES, PIECE, [2, 1, 3]),
+    ("run", LEAST, PIECE, [2, 1, 3]),
+    ("run", ALL, PIECE, [2, 1, 6]),
+    ("run", "proc factor;", PIECE, [2, 1, 0]),
+    ("check", BOOK, 1, [BOOK.len() + 1, 49, 0]),
+    ("make 1", "", PIECE, [0, 1, 0]),
+    ("large 2", "", 1, [0, 43, 0]),
+];
+
+/// What fails: a call of the source, the listing or the shelf, or the room of listing or shelf.
+#[derive(Clone, Copy)]
+enum Failing {
+    Reads,
+    Writes,
+    Files,
+    ListingRoom,
+    ShelfRoom,
+}
+
+/// The limits where this is missing from the call or the byte of this number on, counted from 1.
+fn limits_of(failing: Failing, from: usize, step: usize) -> Limits {
+    match failing {
+        Failing::Reads => Limits {
+            step,
+            first_read: Some(from),
+            ..SURE
+        },
+        Failing::Writes => Limits {
+            step,
+            first_write: Some(from),
+            ..SURE
+        },
+        Failing::Files => Limits {
+            step,
+            first_file: Some(from),
+            ..SURE
+        },
+        Failing::ListingRoom => Limits {
+            step,
+            listing_room: from.saturating_sub(1),
+            ..SURE
+        },
+        Failing::ShelfRoom => Limits {
+            step,
+            shelf_room: from.saturating_sub(1),
+            ..SURE
+        },
+    }
+}
+
+/// What a run has left: its status, how many calls failed, the listing, and the files as one text.
+#[derive(Drop)]
+struct Left {
+    status: u8,
+    faults: u64,
+    listed: Bytes,
+    files: Bytes,
+}
+
+/// Appends a file as a text.
+fn put_file(out: &mut Bytes, name: &[u8], content: &[u8], is_ended: bool) -> Result<(), NoMemory> {
+    put(out, "\x01".as_bytes())?;
+    put(out, name)?;
+    put(out, "\x02".as_bytes())?;
+    put(out, content)?;
+    if is_ended {
+        put(out, "\x03".as_bytes())?;
+    }
+    Ok(())
+}
+
+/// Appends the files of a shelf as a text, which is a prefix of that of another shelf where the acts that
+/// made the files are a prefix of those that made the other's.
+fn put_files(out: &mut Bytes, shelf: &MemoryShelf) -> Result<(), NoMemory> {
+    for i in 0..shelf.files() {
+        put_file(out, shelf.name(i), shelf.content(i), shelf.is_ended(i))?;
+    }
+    Ok(())
+}
+
+/// What a run leaves within these limits.
+fn run_within<R: Threads + Sync>(
+    rt: &R,
+    alloc: Global,
+    words: &[Vec<u8>],
+    text: &str,
+    limits: Limits,
+) -> Result<Left, Fail> {
+    let outside = left_by(rt, alloc, words, text.as_bytes(), limits)?;
+    let mut files = Bytes::new(alloc);
+    put_files(&mut files, &outside.shelf)?;
+    Ok(Left {
+        status: outside.status,
+        faults: outside.faults(),
+        listed: Bytes::from_slice(alloc, outside.listing.bytes())?,
+        files,
+    })
+}
+
+/// Whether one call failed, and a part is the beginning of the whole.
+fn is_beginning(part: &Left, whole: &Left) -> bool {
+    part.status == 4
+        && part.faults == 1
+        && whole.listed.as_slice().starts_with(part.listed.as_slice())
+        && whole.files.as_slice().starts_with(part.files.as_slice())
+}
+
+/// Whether nothing failed, and two runs left the same.
+fn are_same(one: &Left, other: &Left) -> bool {
+    one.status == other.status
+        && one.faults == 0
+        && one.listed.as_slice() == other.listed.as_slice()
+        && one.files.as_slice() == other.files.as_slice()
+}
+
+/// How many calls are made, or how much room is taken: with less the run fails and leaves a beginning.
+fn needed<R: Threads + Sync + Abort>(
+    rt: &R,
+    alloc: Global,
+    words: &[Vec<u8>],
+    text: &str,
+    step: usize,
+    failing: Failing,
+) -> Result<usize, Fail> {
+    let whole = run_within(rt, alloc, words, text, Limits { step, ..SURE })?;
+    for from in 1..=PIECE {
+        let part = run_within(rt, alloc, words, text, limits_of(failing, from, step))?;
+        if part.status != 4 {
+            assert!(rt; are_same(&part, &whole));
+            return Ok(from - 1);
+        }
+        assert!(rt; is_beginning(&part, &whole));
+    }
+    Err(Fail::new("too many calls"))
+}
+
+/// Tests how many calls of each object a run makes.
+fn makes_calls<R: Threads + Sync + Abort>(
+    rt: &R,
+    alloc: Global,
+    line: &str,
+    text: &str,
+    step: usize,
+    wanted: [usize; 3],
+) -> Result<(), Fail> {
+    let words = words_in(alloc, line)?;
+    for (failing, calls) in [Failing::Reads, Failing::Writes, Failing::Files]
+        .iter()
+        .zip(wanted)
+    {
+        let made = needed(rt, alloc, words.as_slice(), text, step, *failing)?;
+        assert_eq!(rt; made, calls, "{line} {text}");
+    }
+    Ok(())
+}
+
+#[test]
+fn each_call_fails_in_turn(rt: HostRuntime) -> Result<(), Fail> {
+    for (line, text, step, calls) in CALLS {
+        makes_calls(&rt, rt.alloc(), line, text, step, calls)?;
+    }
+    Ok(())
+}
+
+/// Each byte in turn finds no room. A file takes 64 bytes of the room, and its content.
+#[test]
+fn each_byte_fails_in_turn(rt: HostRuntime) -> Result<(), Fail> {
+    let alloc = rt.alloc();
+    let words = words_in(alloc, "run")?;
+    let words = words.as_slice();
+    for (text, step) in [(TWO_PLANS, 1), (CLASSES, 1), (LEAST, 1), (ALL, 1)] {
+        let whole = run_within(&rt, alloc, words, text, SURE)?;
+        let room = needed(&rt, alloc, words, text, step, Failing::ListingRoom)?;
+        assert_eq!(rt; room, whole.listed.len());
+        assert!(rt; needed(&rt, alloc, words, text, step, Failing::ShelfRoom)? > 64);
+    }
+    Ok(())
+}
+
+/// What of a file is there, where the whole has this content.
+fn state_of(content: &[u8], is_ended: bool, whole: &[u8]) -> &'static str {
+    if is_ended {
+        " ended, "
+    } else if content.is_empty() {
+        " empty, "
+    } else if content == whole {
+        " whole, "
+    } else {
+        " cut, "
+    }
+}
+
+/// Appends the names of the files of a shelf, each with what of it is there.
+fn put_states(out: &mut Bytes, part: &MemoryShelf, whole: &MemoryShelf) -> Result<(), NoMemory> {
+    for i in 0..part.files().min(whole.files()) {
+        put(out, part.name(i))?;
+        let state = state_of(part.content(i), part.is_ended(i), whole.content(i));
+        put(out, state.as_bytes())?;
+    }
+    Ok(())
+}
+
+/// Tests what is there of the files, and what is listed, where calls of one object fail from this one on.
+fn leaves<R: Threads + Sync + Abort>(
+    rt: &R,
+    alloc: Global,
+    text: &str,
+    limits: Limits,
+    files: &str,
+    listing: &str,
+) -> Result<(), Fail> {
+    let words = words_in(alloc, "run")?;
+    let sure = limits_of(Failing::Reads, PIECE, PIECE);
+    let whole = left_by(rt, alloc, words.as_slice(), text.as_bytes(), sure)?;
+    let part = left_by(rt, alloc, words.as_slice(), text.as_bytes(), limits)?;
+    let mut states = Bytes::new(alloc);
+    put_states(&mut states, &part.shelf, &whole.shelf)?;
+    assert_eq!(rt; (part.status, part.faults()), (4, 1), "{files}");
+    assert!(rt; states.as_slice() == files.as_bytes(), "{files}");
+    assert!(rt; part.listing.bytes() == listing.as_bytes(), "{files}");
+    Ok(())
+}
+
+/// What is there of the files where calls of an object fail from this one on: each piece goes in one call.
+const ONE_STEP: [(Failing, usize, &str); 9] = [
+    (Failing::Reads, 1, ""),
+    (Failing::Reads, 2, ""),
+    (Failing::Files, 1, ""),
+    (Failing::Files, 2, "step1-4.book empty, "),
+    (Failing::Files, 3, "step1-4.book whole, "),
+    (Failing::Files, 4, "step1-4.book ended, "),
+    (
+        Failing::Files,
+        5,
+        "step1-4.book ended, savedesign.csv empty, ",
+    ),
+    (
+        Failing::Files,
+        6,
+        "step1-4.book ended, savedesign.csv whole, ",
+    ),
+    (
+        Failing::Writes,
+        1,
+        "step1-4.book ended, savedesign.csv ended, ",
+    ),
+];
+
+/// The files of a step come before its listing, the books before the plans.
+#[test]
+fn files_come_before_the_listing(rt: HostRuntime) -> Result<(), Fail> {
+    for (failing, from, files) in ONE_STEP {
+        leaves(
+            &rt,
+            rt.alloc(),
+            ALL,
+            limits_of(failing, from, PIECE),
+            files,
+            "",
+        )?;
+    }
+    Ok(())
+}
+
+/// The same for two steps, with what is listed.
+const TWO_STEPS: [(Failing, usize, &str, &str); 9] = [
+    (Failing::Files, 1, "", ""),
+    (Failing::Files, 4, "z.csv ended, ", ""),
+    (Failing::Files, 5, "z.csv ended, y.csv empty, ", ""),
+    (Failing::Files, 6, "z.csv ended, y.csv whole, ", ""),
+    (Failing::Writes, 1, "z.csv ended, y.csv ended, ", ""),
+    (
+        Failing::Files,
+        7,
+        "z.csv ended, y.csv ended, ",
+        FIRST_LISTING,
+    ),
+    (
+        Failing::Files,
+        8,
+        "z.csv ended, y.csv ended, step2-1.book empty, ",
+        FIRST_LISTING,
+    ),
+    (
+        Failing::Files,
+        9,
+        "z.csv ended, y.csv ended, step2-1.book whole, ",
+        FIRST_LISTING,
+    ),
+    (
+        Failing::Writes,
+        2,
+        "z.csv ended, y.csv ended, step2-1.book ended, ",
+        FIRST_LISTING,
+    ),
+];
+
+/// A step is listed before the files of the next.
+#[test]
+fn steps_come_one_after_another(rt: HostRuntime) -> Result<(), Fail> {
+    for (failing, from, files, listing) in TWO_STEPS {
+        leaves(
+            &rt,
+            rt.alloc(),
+            TWO_PLANS,
+            limits_of(failing, from, PIECE),
+            files,
+            listing,
+        )?;
+    }
+    Ok(())
+}
