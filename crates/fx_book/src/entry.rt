@@ -15,6 +15,8 @@ use fx_vectors::{Mark, Shape};
 /// # Errors
 ///
 /// `Form` where the line is of no entry's form, `Range` where a number is out of its range.
+// Inlined into the loop over the lines, it would leave too few registers for its own loops.
+#[inline(never)]
 pub(crate) fn entry(shape: Shape, words: u128, beaten: bool, line: &[u8]) -> Result<Mark, FaultKind>
     requires shaped { IsShape shape }
     requires words { words ≡ shape.q ^ (shape.s + shape.t) }
