@@ -1,7 +1,7 @@
 #!/usr/bin/env python3
 """bench/times.py PROGRAM [PART]: times the questions below, best of three, each as a whole run of the program, and prints the
 nodes, the milliseconds and the nanoseconds a node. With PART only those whose name has it. The gate does not run it."""
-import os, re, subprocess, sys, time
+import os, re, subprocess, sys, tempfile, time
 
 def text(factors, runs, model, levels=2, nodes=None):
     head = f"proc factex nodes={nodes};" if nodes else "proc factex;"
@@ -25,14 +25,16 @@ QUESTIONS = [
 ]
 
 def run(program, source):
-    start = time.perf_counter()
-    done = subprocess.run([program, "run"], input=source.encode(), stdout=subprocess.PIPE, stderr=subprocess.PIPE)
-    taken = time.perf_counter() - start
+    # In a folder of its own, since the program writes books to the current one.
+    with tempfile.TemporaryDirectory() as folder:
+        start = time.perf_counter()
+        done = subprocess.run([program, "run"], input=source.encode(), stdout=subprocess.PIPE, stderr=subprocess.PIPE, cwd=folder)
+        taken = time.perf_counter() - start
     found = re.search(rb"^nodes (\d+)", done.stdout, re.M)
     return taken, int(found.group(1)) if found else None, done
 
 def main():
-    program, part = sys.argv[1], sys.argv[2] if len(sys.argv) > 2 else ""
+    program, part = os.path.abspath(sys.argv[1]), sys.argv[2] if len(sys.argv) > 2 else ""
     print("load", " ".join(f"{x:.1f}" for x in os.getloadavg()))
     for name, limit, source in QUESTIONS:
         if part not in name:

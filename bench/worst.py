@@ -79,11 +79,12 @@ class Run:
     def __init__(self, program, seed, limit):
         self.seed = seed
         self.text = question(seed)
-        with tempfile.TemporaryFile() as source, tempfile.TemporaryFile() as listing:
+        # In a folder of its own, since the program writes books to the current one.
+        with tempfile.TemporaryFile() as source, tempfile.TemporaryFile() as listing, tempfile.TemporaryDirectory() as folder:
             source.write(self.text.encode())
             source.seek(0)
             start = time.perf_counter()
-            child = subprocess.Popen([program, "run"], stdin=source, stdout=listing, stderr=subprocess.DEVNULL)
+            child = subprocess.Popen([program, "run"], stdin=source, stdout=listing, stderr=subprocess.DEVNULL, cwd=folder)
             self.ended, status, peak, self.seconds = wait(child, start + limit)
             listing.seek(0)
             found = re.search(rb"^nodes (\d+)", listing.read(), re.M)
@@ -160,13 +161,14 @@ def main():
     parser.add_argument("--limit", type=float, default=30, help="seconds after which a run is cut off")
     parser.add_argument("--only", type=int, help="run the question of this seed alone")
     arguments = parser.parse_args()
+    program = os.path.abspath(arguments.program)
     if arguments.only is not None:
-        print(Run(arguments.program, arguments.only, arguments.limit).line())
+        print(Run(program, arguments.only, arguments.limit).line())
         return 0
     runs = []
     end = time.perf_counter() + 60 * arguments.minutes
     while time.perf_counter() < end:
-        runs.append(Run(arguments.program, arguments.first + len(runs), arguments.limit))
+        runs.append(Run(program, arguments.first + len(runs), arguments.limit))
         print(runs[-1].line(), flush=True)
     return report(runs)
 

@@ -81,28 +81,28 @@ returns-in-Closed-clause-worked c =
     let back : c.enter.new.prefix.rows ≡ l = end.back in
     let more : length c.enter.new.marks ≡ length w.marks + length (map (search_mark p) (subtree (search_tree p) (size_of p - length d) d)) = ap length end.marks ∙ length-append w.marks _ in (
       (rw back
-      (record {
-        placed = record {
-          valid = h.placed.valid;
-          limit = h.placed.limit;
-          jobs = h.placed.jobs;
-          candidates = h.placed.candidates;
-          shape = c.in_ok-end.ensures.shape;
-          at = record {
-            pruner_problem = at.pruner_problem;
-            pruner_rows = at.pruner_rows;
-            incumbent_problem = ap (λ s. s.problem) settled ∙ at.incumbent_problem;
-            incumbent_rows = ap (λ s. s.prefix) settled ∙ at.incumbent_rows;
-          };
-          few = h.placed.few;
-          canonical = h.placed.canonical;
-          open_ = h.placed.open_;
-          bound = omega (arith, c.requires.next.low, h.placed.bound);
-        };
-        so_far = step.0;
-        rows = h.rows;
-        in_lot = step.1;
-        sized = h.sized;
-      })),
+          (record {
+            placed = record {
+              valid = h.placed.valid;
+              limit = h.placed.limit;
+              jobs = h.placed.jobs;
+              candidates = h.placed.candidates;
+              shape = c.in_ok-end.ensures.shape;
+              at = record {
+                pruner_problem = at.pruner_problem;
+                pruner_rows = at.pruner_rows;
+                incumbent_problem = ap (λ s. s.problem) settled ∙ at.incumbent_problem;
+                incumbent_rows = ap (λ s. s.prefix) settled ∙ at.incumbent_rows;
+              };
+              few = h.placed.few;
+              canonical = h.placed.canonical;
+              open_ = h.placed.open_;
+              bound = omega (arith, c.requires.next.low, h.placed.bound);
+            };
+            so_far = step.0;
+            rows = h.rows;
+            in_lot = step.1;
+            sized = h.sized;
+          })),
       omega (arith, more),
     )
