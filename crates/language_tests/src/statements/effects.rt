@@ -123,10 +123,7 @@ fn the_limit_of_effects_is_exact(rt: HostRuntime) -> Result<(), Fail> {
     text.extend_from_slice(b");")?;
     more.extend_from_slice(b" X2*X17);")?;
     assert_eq!(rt; refusal(&rt, rt.alloc(), front, &text)?, None);
-    assert_eq!(rt;
-        refusal(&rt, rt.alloc(), front, &more)?,
-        Some((23, 2, 18))
-    );
+    assert_eq!(rt; refusal(&rt, rt.alloc(), front, &more)?, Some((23, 2, 18)));
     Ok(())
 }
 
