@@ -12,4 +12,3 @@ pub mod Output
 pub mod Summed
 pub mod StepClaims
 pub mod Claims
-pub mod BookClaims

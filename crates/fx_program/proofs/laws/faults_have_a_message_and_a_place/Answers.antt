@@ -1,5 +1,0 @@
-use Rattle.fx_program.proofs.Messages.{each_fault}
-use Rattle.fx_program.proofs.laws.faults_have_a_message_and_a_place.Goals as goal
-
-pub returns : goal.returns
-returns c = each_fault

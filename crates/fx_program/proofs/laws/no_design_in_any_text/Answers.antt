@@ -1,7 +1,0 @@
-use Rattle.fx_program.specs.StepClaims.{HasNoneAtAll}
-use Rattle.fx_program.proofs.AnyText.{any_text}
-use Rattle.fx_program.proofs.Best.{none_at_all}
-use Rattle.fx_program.proofs.laws.no_design_in_any_text.Goals as goal
-
-pub returns : goal.returns
-returns c = any_text HasNoneAtAll none_at_all

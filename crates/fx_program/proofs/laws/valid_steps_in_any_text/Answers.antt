@@ -1,6 +1,0 @@
-use Rattle.fx_program.specs.StepClaims.{IsValidStep}
-use Rattle.fx_program.proofs.AnyText.{any_text}
-use Rattle.fx_program.proofs.laws.valid_steps_in_any_text.Goals as goal
-
-pub returns : goal.returns
-returns c = any_text IsValidStep (λ step valid. valid)

@@ -1,0 +1,153 @@
+-- The books of a step whose questions may be asked are read from their texts as they are, and are accepted.
+use Rattle.std.proofs.Common.{ℕ, ◌≡◌, ◌<◌, ◌≤◌, ◌+◌, ◌-◌, zero, suc, true, false, List, [], ◌∷◌, ◌++◌, length, Option, Some, None, Ok, IsTrue, refl, sym, ap, ◌∙◌, subst, arith, inl, inr, append-nil, append_assoc, Bool, leb}
+use Rattle.std.specs.Prelude.{codes, find}
+use Rattle.std.specs.List.{AllByRecursion, range_with_len}
+use Rattle.std.proofs.lemmas.Bool.{cases_Bool, cond-true, cond-false, and_parts, leb-true, ltb-false}
+use Rattle.std.proofs.lemmas.List.{length-map}
+use Rattle.std.proofs.lemmas.List.Elements.{All-from_recursion}
+use Rattle.std.proofs.lemmas.List.Sums.{sum_by_push}
+use Rattle.fx_designs.specs.Problems.{Problem}
+use Rattle.fx_designs.specs.Nodes.{mark_of, marks, nodes}
+use Rattle.fx_laws.proofs.Order.{each-append, each-map}
+use Rattle.fx_vectors.specs.Question.{CanBeAsked, is_resolution}
+use Rattle.fx_vectors.specs.Shape.{IsShape}
+use Rattle.fx_vectors.specs.declared.effect.Effect.{Effect}
+use Rattle.fx_settings.specs.declared.settings.StepSettings.{StepSettings}
+use Rattle.fx_settings.specs.Valid.{are_valid}
+use Rattle.fx_vectors.specs.declared.book.Book.{Book}
+use Rattle.fx_book.specs.Heads.{book_of}
+use Rattle.fx_book.specs.Valid.{AreFew, IsValidBook}
+use Rattle.fx_book.specs.Writing.{book_text}
+use Rattle.fx_book.proofs.Whole.{written_back}
+use Rattle.fx_checker.specs.Books.{children, flaw_of}
+use Rattle.fx_checker.specs.Claims.{claim_of}
+use Rattle.fx_checker.specs.Verdicts.{verdict_of}
+use Rattle.fx_checker.specs.declared.verdict.Verdict.TheVariants.{Accepted}
+use Rattle.fx_checker.proofs.Good.{in_turn_none}
+use Rattle.fx_statements.specs.Goals.{Goal, AtLeast, Highest, ForEffects}
+use Rattle.fx_statements.specs.Questions.{Turn, asked, highest, lowest, nodes_of, passes, question_for, questions_of, requirement_for, turns}
+use Rattle.fx_statements.specs.Steps.{Meaning}
+use Rattle.fx_statements.proofs.Concluded.{each_asked}
+use Rattle.fx_answer.specs.Books.{book_at, book_for, books_from, books_of, demands_for, finished, finished_before, has_book, shape_of}
+use Rattle.fx_answer.specs.ValidSteps.{CanBeSought, IsValidStep}
+use Rattle.fx_answer.proofs.Valid.{least_valid, requirement_valid, shape_valid, some_numbers}
+use Rattle.fx_program_laws.specs.BookClaims.{HasAcceptedBooks, IsAcceptedBook}
+use Rattle.fx_program.specs.Output.{message, output_of, verdict_output}
+use Rattle.fx_program.specs.Verdicts.{verdict_lines, verdict_status}
+use Rattle.fx_program.specs.Words.{settings_of}
+use Rattle.fx_program_laws.proofs.BookLengths.{book_short}
+use Rattle.fx_program_laws.proofs.ValidBooks as books
+
+-- a question that may be asked
+pub record MayBeAsked (p : Problem) : Type 0 where
+  pub shaped : IsShape (shape_of p.dimensions)
+  pub asked : CanBeAsked p.dimensions p.requirement
+  pub least : IsTrue p.least → IsTrue (is_resolution p.requirement) × (p.dimensions.t ≡ 0)
+  pub few : AreFew (demands_for p.requirement)
+
+-- and that is finished within a budget
+abbrev pub IsFinished : ℕ → Problem → Type 0
+IsFinished budget p = MayBeAsked p × (length (nodes p) ≤ budget)
+
+-- the verdict on a text that is a book without a flaw
+is_accepted : (text : List ℕ) (book : Book) → book_of text ≡ Ok book → flaw_of (claim_of book.head) book.marks ≡ None
+    → output_of (codes "check" ∷ []) text ≡ message (verdict_lines book.head Accepted) 0
+unfolding settings_of
+is_accepted text book read none =
+    ap verdict_output read
+    ∙ ap (λ flaw. message (verdict_lines book.head (verdict_of flaw)) (verdict_status (verdict_of flaw))) none
+
+accepted_book : (p : Problem) → IsFinished 5000000 p → (number : ℕ) → has_book p ≡ true → IsAcceptedBook (record { question = number; book = book_for p })
+unfolding marks
+accepted_book p finished number has =
+    let may : MayBeAsked p = finished.0 in
+    let book : Book = book_for p in
+    let valid : IsValidBook book = books.valid p may.shaped may.asked may.least may.few (omega (arith, finished.1)) has in
+    let short : length book.marks ≤ 5000000 = omega (arith, finished.1, length-map (nodes p) (mark_of p)) in
+    let read = written_back book valid (book_short book valid short) in
+    let none = in_turn_none (claim_of book.head) (children (claim_of book.head).problem []) 0 book.marks (books.good_book p may.shaped may.asked has) in
+    record { read = read; accepted = is_accepted (book_text book) book read none }
+
+each_book : (number : ℕ) (ps : List Problem) → AllByRecursion (IsFinished 5000000) ps → AllByRecursion IsAcceptedBook (books_from number ps)
+each_book number [] all = tt
+each_book number (p ∷ ps) all = each-append IsAcceptedBook (book_at number p) (books_from (number + 1) ps) own (each_book (number + 1) ps all.1)
+  where
+    own : AllByRecursion IsAcceptedBook (book_at number p)
+    own = elim (cases_Bool (has_book p)) [
+      | inl has ↦ subst (AllByRecursion IsAcceptedBook) (sym (cond-true (has_book p) _ _ has)) (accepted_book p all.0 number has, tt)
+      | inr none ↦ subst (AllByRecursion IsAcceptedBook) (sym (cond-false (has_book p) _ _ none)) tt
+    ]
+
+-- of questions that may be asked, those that are finished within the budget
+finished-in : (budget : ℕ) (earlier ps : List Problem) (end : Option Turn) → find (passes budget) (turns earlier ps) ≡ end
+    → AllByRecursion (IsFinished budget) earlier → nodes_of earlier ≤ budget → AllByRecursion MayBeAsked ps
+    → AllByRecursion (IsFinished budget) (finished_before (earlier ++ ps) end)
+finished-in budget earlier [] None e done few all = subst (AllByRecursion (IsFinished budget)) (sym (append-nil earlier)) done
+finished-in budget earlier [] (Some turn) e done few all = absurd (cc e)
+finished-in budget earlier (p ∷ ps) end e done few all =
+    let own : Turn = record { earlier = earlier; question = p } in
+    elim (cases_Bool (passes budget own)) [
+      | inl here ↦ subst (λ end. AllByRecursion (IsFinished budget) (finished_before (earlier ++ p ∷ ps) end)) (sym (cond-true (passes budget own) (Some own) _ here) ∙ e) done
+      | inr later ↦
+          let within : nodes_of earlier + length (nodes p) ≤ budget = ltb-false budget (nodes_of earlier + length (nodes p)) later in
+          let more = sum_by_push (λ (p : Problem). length (nodes p)) earlier p in
+          subst (λ l. AllByRecursion (IsFinished budget) (finished_before l end)) (append_assoc earlier (p ∷ []) ps)
+          (finished-in budget (earlier ++ p ∷ []) ps end (sym (cond-false (passes budget own) (Some own) _ later) ∙ e)
+          (each-append (IsFinished budget) earlier (p ∷ []) done ((all.0, omega (arith, within)), tt)) (omega (arith, more, within)) all.1)
+    ]
+
+within_5000000 : (budget : ℕ) (ps : List Problem) → budget ≤ 5000000 → AllByRecursion (IsFinished budget) ps → AllByRecursion (IsFinished 5000000) ps
+within_5000000 budget [] few all = tt
+within_5000000 budget (p ∷ ps) few all = ((all.0.0, omega (arith, all.0.1, few)), within_5000000 budget ps few all.1)
+
+-- what holds for the numbers of a range
+in_range : (P : ℕ → Type 0) (a n : ℕ) → ((k : ℕ) → a ≤ k → k < a + n → P k) → AllByRecursion P (range_with_len a n)
+in_range P a zero each = tt
+in_range P a (suc n) each = (each a (omega arith) (omega arith), in_range P (a + 1) n (λ k low high. each k (omega (arith, low)) (omega (arith, high))))
+
+module _ (step : Meaning) (some : lowest step step.settings.size ≤ highest step step.settings.size) (few : step.settings.budget ≤ 5000000)
+    (may : (n : ℕ) → lowest step step.settings.size ≤ n → n ≤ highest step step.settings.size → MayBeAsked (question_for step n)) where
+  all_asked : AllByRecursion MayBeAsked (asked (questions_of step))
+  all_asked =
+      let low : ℕ = lowest step step.settings.size in
+      let high : ℕ = highest step step.settings.size in
+      each_asked MayBeAsked (questions_of step) (may low (omega arith) some)
+      (each-map MayBeAsked (question_for step) (range_with_len (low + 1) (high - low))
+      (in_range (λ n. MayBeAsked (question_for step n)) (low + 1) (high - low) (λ k above below. may k (omega (arith, above)) (omega (arith, below)))))
+
+  pub all_accepted : HasAcceptedBooks step
+  unfolding finished
+  all_accepted =
+      let budget : ℕ = step.settings.budget in
+      let ps : List Problem = asked (questions_of step) in
+      All-from_recursion IsAcceptedBook (books_of step)
+      (each_book 1 (finished_before ps (find (passes budget) (turns [] ps)))
+      (within_5000000 budget (finished_before ps (find (passes budget) (turns [] ps))) few
+      (finished-in budget [] ps (find (passes budget) (turns [] ps)) refl tt (omega arith) all_asked)))
+
+-- the questions of a valid step may be asked
+few_of : (q s : ℕ) (least : Bool) (goal : Goal) (n : ℕ) → CanBeSought q s goal → AreFew (demands_for (requirement_for least goal n))
+few_of q s least (AtLeast r) n sought = tt
+few_of q s true Highest n sought = tt
+few_of q s false Highest n sought = tt
+few_of q s least (ForEffects estimate others) n sought = (omega (arith, sought.1, length-map estimate by_number), omega (arith, sought.2, length-map others by_number))
+  where
+    by_number : ℕ → Effect
+    by_number n = record { 0 = n }
+
+may_be_asked : (step : Meaning) (valid : IsValidStep step) (n : ℕ) → lowest step step.settings.size ≤ n → n ≤ highest step step.settings.size → MayBeAsked (question_for step n)
+may_be_asked step valid n low high = record {
+  shaped = (shape_valid step valid n low high).shaped;
+  asked = requirement_valid step valid n low high;
+  least = least_valid step valid n low high;
+  few = few_of step.settings.q (length step.factors) step.settings.least step.goal n valid.effects;
+}
+
+few_nodes : (x : StepSettings) → are_valid x ≡ true → x.budget ≤ 5000000
+few_nodes x valid =
+    let bounds = (and_parts _ _ (and_parts _ _ (and_parts _ _ (and_parts _ _ (and_parts _ _ valid).0).0).0).0).1 in
+    leb-true x.budget 5000000 (and_parts (leb 1 x.budget) (leb x.budget 5000000) bounds).1
+
+pub step_accepted : (step : Meaning) → IsValidStep step → HasAcceptedBooks step
+step_accepted step valid =
+    all_accepted step (some_numbers step valid (lowest step step.settings.size) refl) (few_nodes step.settings valid.settings) (may_be_asked step valid)

@@ -1,0 +1,14 @@
+mod Examples
+pub mod ValidBooks
+mod BookLengths
+mod GoodBooks
+mod Booked
+mod Least
+mod First
+mod Messages
+pub mod MadePieces
+pub mod MadeSymbols
+pub mod MadeSteps
+pub mod NameSpellings
+pub mod StepCounts
+pub mod FileNames

@@ -1,0 +1,173 @@
+ghost use Rattle.std.specs.Prelude.{◌≡◌, ◌↔◌, ◌<◌, ◌≤◌, List, ℕ, Ok, IfErr, true, false, length, All};
+ghost use Rattle.std.specs.List.{IsDistinct};
+ghost use Rattle.fx_program.specs.Refusals.{HasItsMessage};
+ghost use Rattle.fx_designs.specs.Matrices.{NoneMeets};
+ghost use Rattle.fx_designs.specs.Problems.{Dimensions, Problem};
+ghost use Rattle.fx_laws.specs.First.{IsFirstDesign};
+ghost use Rattle.fx_statements.specs.Steps.{Meaning};
+ghost use Rattle.fx_program_laws.specs.BookClaims.{HasABookForEach, HasAcceptedBooks};
+ghost use Rattle.fx_statements.specs.Questions.{asked, last_of, nodes_of, questions_of};
+ghost use Rattle.fx_program.specs.Making.{HasSteps, made_text};
+ghost use Rattle.fx_answer.specs.Books.{books_of};
+ghost use Rattle.fx_text.specs.Names.{is_same_name};
+ghost use Rattle.fx_program.specs.Files.{names_among};
+ghost use Rattle.fx_program.specs.Texts.{program_in};
+ghost use Rattle.fx_designs.specs.Outcomes.{Design, NoDesign};
+ghost use Rattle.fx_program.specs.declared.words.Settings.TheVariants.{Large, Run};
+ghost use Rattle.fx_program.specs.Output.{ending_given, output_for, program_output, step_output};
+ghost use Rattle.fx_jobs.specs.Laws.{IsFirstOfLeastPattern};
+ghost use Rattle.fx_program.specs.StepClaims.{
+  Allows,
+  HasHighestOfAll,
+  HasLeastOfAll,
+  HasLeastSize,
+  HasMostBlocks,
+  HasNoDesign,
+  HasNoneAtAll,
+  HasWhatItAsks,
+  IsLastWithDesign,
+  IsValidStep,
+  required,
+};
+ghost use Rattle.fx_program.specs.Claims.{EachStep, IsGreatest};
+
+/// What is given for a step with some factors, where the nodes of the questions that are asked for it
+/// are within its budget: status 0 with the files and the lines of the first design of the canonical
+/// list, where least aberration is asked the first of least pattern, of the last question that has
+/// one; or status 1 and the lines that say that there is no design, where no question has one.
+pub fn first_design_is_given()
+    ensures design { (seed number : ℕ) (step : Meaning) (p : Problem) (rows : List ℕ)
+        → 1 ≤ length step.factors
+        → nodes_of (asked (questions_of step)) ≤ step.settings.budget
+        → IsLastWithDesign (asked (questions_of step)) p
+        → step.settings.least ≡ false
+        → IsFirstDesign p rows
+        → step_output seed number step
+        ≡ ending_given seed number p.dimensions step (books_of step)
+        (Design rows (nodes_of (asked (questions_of step)))) }
+    ensures least { (seed number : ℕ) (step : Meaning) (p : Problem) (rows : List ℕ)
+        → 1 ≤ length step.factors
+        → nodes_of (asked (questions_of step)) ≤ step.settings.budget
+        → IsLastWithDesign (asked (questions_of step)) p
+        → step.settings.least ≡ true
+        → IsFirstOfLeastPattern p rows
+        → step_output seed number step
+        ≡ ending_given seed number p.dimensions step (books_of step)
+        (Design rows (nodes_of (asked (questions_of step)))) }
+    ensures none { (seed number : ℕ) (step : Meaning) → 1 ≤ length step.factors
+        → nodes_of (asked (questions_of step)) ≤ step.settings.budget
+        → All HasNoDesign (asked (questions_of step))
+        → step_output seed number step
+        ≡ ending_given seed number
+        (last_of (questions_of step).first (asked (questions_of step))).dimensions step (books_of step)
+        (NoDesign (nodes_of (asked (questions_of step)))) }
+{}
+
+/// Status 2 comes of a step exactly where the nodes of the questions that are asked for it are more
+/// than its budget.
+pub fn budget_ends_where_nodes_pass_it()
+    ensures { (seed number : ℕ) (step : Meaning)
+        → ((step_output seed number step).status ≡ 2)
+        ↔ (step.settings.budget < nodes_of (asked (questions_of step))) }
+{}
+
+/// What status 1 says of a valid step: that the runs of no rule matrix at all, canonical or not, meet
+/// what is required, in no dimensions that the step allows; and where the nodes of its questions are
+/// within the budget, just then it comes.
+pub fn no_design_means_none_at_all()
+    ensures claimed { (seed number : ℕ) (step : Meaning) → IsValidStep step
+        → (step_output seed number step).status ≡ 1
+        → (d : Dimensions) → Allows step d → NoneMeets d (required step.goal) }
+    ensures certain { (seed number : ℕ) (step : Meaning) → IsValidStep step
+        → nodes_of (asked (questions_of step)) ≤ step.settings.budget
+        → ((d : Dimensions) → Allows step d → NoneMeets d (required step.goal))
+        → (step_output seed number step).status ≡ 1 }
+{}
+
+/// Whatever a text says, each step of its program is valid.
+pub fn valid_steps_in_any_text()
+    ensures { (text : List ℕ) → EachStep IsValidStep (program_in text) }
+{}
+
+/// Whatever a text says: where a step of its program ends with a design, this has a row for each
+/// factor and block factor, in dimensions that the step allows, and its runs meet what is required.
+pub fn designs_meet_what_is_asked_in_any_text()
+    ensures { (text : List ℕ) → EachStep HasWhatItAsks (program_in text) }
+{}
+
+/// Whatever a text says: where a step of its program ends without a design, the runs of no rule matrix at
+/// all meet what is required, in no dimensions that the step allows.
+pub fn no_design_in_any_text()
+    ensures { (text : List ℕ) → EachStep HasNoneAtAll (program_in text) }
+{}
+
+/// Whatever a text says: where a step of its program asks for least aberration and ends with a design,
+/// the pattern of no rule matrix at all that meets the resolution asked for, canonical or not, is less.
+pub fn least_pattern_in_any_text()
+    ensures { (text : List ℕ) → EachStep HasLeastOfAll (program_in text) }
+{}
+
+/// Whatever a text says: where a step of its program asks for the highest resolution and ends with a
+/// design, no rule matrix at all of as many runs, canonical or not, has a higher resolution.
+pub fn highest_resolution_in_any_text()
+    ensures { (text : List ℕ) → EachStep HasHighestOfAll (program_in text) }
+{}
+
+/// Whatever a text says: where a step of its program asks for the least size and ends with a design, the
+/// runs of no rule matrix at all of fewer runs meet what is required.
+pub fn least_size_in_any_text()
+    ensures { (text : List ℕ) → EachStep HasLeastSize (program_in text) }
+{}
+
+/// Whatever a text says: where a step of its program asks for the most blocks and ends with a design, the
+/// runs of no rule matrix at all with more block factors meet what is required.
+pub fn most_blocks_in_any_text()
+    ensures { (text : List ℕ) → EachStep HasMostBlocks (program_in text) }
+{}
+
+/// What the status of a program says: 0 that each step has a design or that there is no step, 1 that
+/// some step has none and no budget ended, 2 that the budget of some step ended.
+pub fn greatest_status_decides()
+    ensures { (seed : ℕ) (steps : List Meaning)
+        → IsGreatest (program_output seed (Ok steps)).status steps }
+{}
+
+/// Where a step ends without a design, each question that is asked for it has its book among the step's
+/// files: the marks of all its nodes, named by the number of the step and its own.
+pub fn claims_of_none_have_books()
+    ensures { (seed number : ℕ) (step : Meaning) → (step_output seed number step).status ≡ 1
+        → HasABookForEach seed number step }
+{}
+
+/// Whatever a text says: each book of each step of its program is read from its file as it is, and
+/// `check` accepts it, with status 0.
+pub fn books_are_accepted_in_any_text()
+    ensures { (text : List ℕ) → EachStep HasAcceptedBooks (program_in text) }
+{}
+
+/// Each fault of a text has a row in the table of messages, so that its line names a reason, and a place
+/// in the text, that of one of its bytes or of its end.
+pub fn faults_have_a_message_and_a_place()
+    ensures { (text : List ℕ) → IfErr (program_in text) (HasItsMessage text) }
+{}
+
+/// Each text of `make` is a program of as many steps as were asked for.
+pub fn made_texts_are_programs()
+    ensures { (n : ℕ) → n ≤ 100 → HasSteps n (program_in (made_text n)) }
+{}
+
+/// The files of a program have different names, without regard to case: those of its books and of its
+/// plans.
+pub fn file_names_differ()
+    ensures { (seed : ℕ) (text : List ℕ)
+        → IsDistinct is_same_name (names_among (program_output seed (program_in text)).events) }
+{}
+
+/// The number of threads changes nothing: whatever the text, the output of a command is that of the
+/// same command with another number.
+pub fn threads_change_nothing()
+    ensures run { (threads other seed : ℕ) (text : List ℕ)
+        → output_for (Ok (Run threads seed)) text ≡ output_for (Ok (Run other seed)) text }
+    ensures large { (n threads other : ℕ) (text : List ℕ)
+        → output_for (Ok (Large n threads)) text ≡ output_for (Ok (Large n other)) text }
+{}
