@@ -10,4 +10,4 @@ mod Examples
 mod Numerals
 mod Texts
 mod Accepted
-mod Held
+pub mod Held
