@@ -1,10 +1,11 @@
 #!/usr/bin/env python3
-"""Refuses each growth of memory of the built program in turn: python3 bench/memory.py PROGRAM [OPTION..]
+"""Refuses each growth of memory of the built program in turn: python3 bench/memory.py PROGRAM [OPTION..] [FILE..]
 
-Each text of crates/examples/data is run, and each book that it writes is checked, once for each call of malloc or realloc
-that a whole run makes: that call alone is refused, and then that call and all after it. Wanted is status 5, with a listing
-that is the beginning of the whole one, and files that are whole, but one that may be cut off. Options are added to the
-word run, as --threads=4. Prints one line a text, and ends with status 1 where one trial came out otherwise. Needs cc.
+Each of the files, or each text of crates/examples/data where none is named, is run, and each book that it writes is checked,
+as is a file whose name ends in .book, once for each call of malloc or realloc that a whole run makes: that call alone is
+refused, and then that call and all after it. Wanted is status 5, with a listing that is the beginning of the whole one, and
+files that are whole, but one that may be cut off. Options are added to the word run, as --threads=4. Prints one line a
+text, and ends with status 1 where one trial came out otherwise. Needs cc.
 """
 
 import os
@@ -94,16 +95,20 @@ def tried(program, shim, words, text):
 
 
 def main():
-    program, options = os.path.abspath(sys.argv[1]), sys.argv[2:]
+    program = os.path.abspath(sys.argv[1])
+    options = [word for word in sys.argv[2:] if word.startswith("--")]
+    paths = ([word for word in sys.argv[2:] if not word.startswith("--")]
+             or [os.path.join(DATA, name) for name in sorted(os.listdir(DATA))])
     wrong = 0
     with tempfile.TemporaryDirectory() as top:
         source, shim = os.path.join(top, "refuse.c"), os.path.join(top, "refuse.so")
         with open(source, "w") as file:
             file.write(SHIM)
         subprocess.run(["cc", "-O1", "-shared", "-fPIC", "-o", shim, source, "-ldl"], check=True)
-        for name in sorted(os.listdir(DATA)):
-            with open(os.path.join(DATA, name), "rb") as file:
-                jobs = [(name, ["run"] + options, file.read())]
+        for path in paths:
+            name = os.path.basename(path)
+            with open(path, "rb") as file:
+                jobs = [(name, ["check"] if name.endswith(".book") else ["run"] + options, file.read())]
             while jobs:
                 title, words, text = jobs.pop()
                 growths, bad, files = tried(program, shim, words, text)

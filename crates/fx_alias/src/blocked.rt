@@ -1,4 +1,4 @@
-ghost use Rattle.std.specs.Prelude.{◌≡◌, ◌≤◌, ◌<◌, ◌+◌, ◌^◌, take, [], ◌++◌, All, OnOk, if◌then◌else◌, filter, length, map};
+ghost use Rattle.std.specs.Prelude.{◌≡◌, ◌≤◌, ◌<◌, ◌+◌, ◌^◌, take, [], ◌++◌, All, OnErr, OnOk, if◌then◌else◌, filter, length, map};
 ghost use Rattle.std.specs.List.{flat_map};
 ghost use Rattle.fx_designs.specs.Galois.{number};
 ghost use Rattle.fx_designs.specs.Vectors.{IsVector, combination, vectors_of};
@@ -28,8 +28,29 @@ use std::alloc::Global;
 ///
 /// # Errors
 ///
-/// `NoMemory`; `out` then holds some first bytes of the section after what it held.
+/// `NoMemory`; `out` is then as before.
 pub fn blocked_listing(
+    alloc: Global,
+    step: &Step,
+    matrix: &Matrix,
+    out: &mut Bytes,
+) -> Result<(), NoMemory>
+    requires complete { length matrix.now.rows ≡ matrix.now.shape.s + matrix.now.shape.t }
+    requires factors { matrix.now.shape.s ≡ length step.now.factors }
+    requires few { matrix.now.shape.q ^ matrix.now.shape.t ≤ 1024 }
+    ensures ok { OnOk result
+        (out.new
+        ≡ out.old ++ blocked_section step.now.factors (design_of matrix.now)
+        (listed matrix.now.shape.q matrix.now.shape.s (goal_of step.now.wanted))) }
+    ensures err { OnErr result (out.new ≡ out.old) }
+{
+    let mut lines = Bytes::new(alloc);
+    put_section(alloc, step, matrix, &mut lines)?;
+    put(out, lines.as_slice())
+}
+
+/// Appends the section.
+pub(crate) fn put_section(
     alloc: Global,
     step: &Step,
     matrix: &Matrix,

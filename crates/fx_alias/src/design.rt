@@ -1,4 +1,4 @@
-ghost use Rattle.std.specs.Prelude.{◌≡◌, ◌<◌, ◌≤◌, ◌+◌, ◌^◌, ◌==◌, [], ◌++◌, OnOk, if◌then◌else◌, length, take, codes, decimal};
+ghost use Rattle.std.specs.Prelude.{◌≡◌, ◌<◌, ◌≤◌, ◌+◌, ◌^◌, ◌==◌, [], ◌++◌, OnErr, OnOk, if◌then◌else◌, length, take, codes, decimal};
 ghost use Rattle.std.specs.List.{flat_map, range_with_len};
 ghost use Rattle.fx_designs.specs.Vectors.{IsVector};
 ghost use Rattle.fx_runs.specs.Runs.{design_of};
@@ -20,8 +20,26 @@ use std::alloc::Global;
 ///
 /// # Errors
 ///
-/// `NoMemory`; `out` then holds some first bytes of the section after what it held.
+/// `NoMemory`; `out` is then as before.
 pub fn design_listing(
+    alloc: Global,
+    step: &Step,
+    matrix: &Matrix,
+    out: &mut Bytes,
+) -> Result<(), NoMemory>
+    requires complete { length matrix.now.rows ≡ matrix.now.shape.s + matrix.now.shape.t }
+    requires few { matrix.now.shape.q ^ matrix.now.shape.t ≤ 1024 }
+    ensures ok { OnOk result
+        (out.new ≡ out.old ++ design_section step.now.factors (design_of matrix.now)) }
+    ensures err { OnErr result (out.new ≡ out.old) }
+{
+    let mut lines = Bytes::new(alloc);
+    put_section(alloc, step, matrix, &mut lines)?;
+    put(out, lines.as_slice())
+}
+
+/// Appends the section.
+pub(crate) fn put_section(
     alloc: Global,
     step: &Step,
     matrix: &Matrix,

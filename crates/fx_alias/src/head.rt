@@ -1,4 +1,4 @@
-ghost use Rattle.std.specs.Prelude.{◌≡◌, ◌++◌, ◌^◌, OnOk, IsTrue};
+ghost use Rattle.std.specs.Prelude.{◌≡◌, ◌++◌, ◌^◌, OnErr, OnOk, IsTrue};
 ghost use Rattle.fx_designs.specs.Galois.{is_order};
 ghost use Rattle.fx_settings.specs.Powers.{greatest};
 ghost use Rattle.fx_designs.specs.Patterns.{pattern_of};
@@ -22,8 +22,28 @@ use std::alloc::Global;
 ///
 /// # Errors
 ///
-/// `NoMemory`; `out` then holds some first bytes of the head after what it held.
+/// `NoMemory`; `out` is then as before.
 pub fn head_listing(
+    alloc: Global,
+    number: usize,
+    step: &Step,
+    outcome: &Outcome,
+    out: &mut Bytes,
+) -> Result<(), NoMemory>
+    ensures ok { OnOk result
+        (out.new
+        ≡ out.old
+        ++ head_lines number (meaning_of step.now) (dimensions_of outcome.now.shape)
+        (ending_in outcome.now)) }
+    ensures err { OnErr result (out.new ≡ out.old) }
+{
+    let mut lines = Bytes::new(alloc);
+    put_head(alloc, number, step, outcome, &mut lines)?;
+    put(out, lines.as_slice())
+}
+
+/// Appends the head.
+fn put_head(
     alloc: Global,
     number: usize,
     step: &Step,

@@ -1,4 +1,4 @@
-ghost use Rattle.std.specs.Prelude.{◌≡◌, ◌++◌, ◌==◌, ℕ, List, if◌then◌else◌, OnOk};
+ghost use Rattle.std.specs.Prelude.{◌≡◌, ◌++◌, ◌==◌, ℕ, List, if◌then◌else◌, OnErr, OnOk};
 ghost use Rattle.fx_designs.specs.Patterns.{pattern_of};
 ghost use Rattle.fx_vectors.specs.Shape.{dimensions_of};
 ghost use Rattle.fx_alias.specs.Patterns.{pattern_lines, words_line, words_lines};
@@ -14,8 +14,21 @@ use std::alloc::Global;
 ///
 /// # Errors
 ///
-/// `NoMemory`; `out` then holds some first bytes of the section after what it held.
+/// `NoMemory`; `out` is then as before.
 pub fn pattern_listing(alloc: Global, matrix: &Matrix, out: &mut Bytes) -> Result<(), NoMemory>
+    ensures ok { OnOk result
+        (out.new
+        ≡ out.old
+        ++ pattern_lines (pattern_of (dimensions_of matrix.now.shape) matrix.now.rows)) }
+    ensures err { OnErr result (out.new ≡ out.old) }
+{
+    let mut lines = Bytes::new(alloc);
+    put_section(alloc, matrix, &mut lines)?;
+    put(out, lines.as_slice())
+}
+
+/// Appends the section.
+pub(crate) fn put_section(alloc: Global, matrix: &Matrix, out: &mut Bytes) -> Result<(), NoMemory>
     ensures { OnOk result
         (out.new
         ≡ out.old

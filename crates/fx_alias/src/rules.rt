@@ -1,4 +1,4 @@
-ghost use Rattle.std.specs.Prelude.{◌≡◌, ◌++◌, [], ◌==◌, ◌+◌, ◌<◌, ◌≤◌, ◌^◌, map, length, slice_index_or, OnOk, IfOk};
+ghost use Rattle.std.specs.Prelude.{◌≡◌, ◌++◌, [], ◌==◌, ◌+◌, ◌<◌, ◌≤◌, ◌^◌, map, length, slice_index_or, OnErr, OnOk, IfOk};
 ghost use Rattle.fx_designs.specs.Galois.{digits};
 ghost use Rattle.fx_vectors.specs.Shape.{IsShape, dimensions_of};
 ghost use Rattle.fx_alias.specs.Rules.{block_name, block_names, introduction, left_side, or_none, rule_lines, rule_of, rules, run_factor_line, subjects};
@@ -18,13 +18,28 @@ use std::alloc::Global;
 ///
 /// # Errors
 ///
-/// `NoMemory`; `out` then holds some first bytes of the section after what it held.
+/// `NoMemory`; `out` is then as before.
 pub fn rules_listing(
     alloc: Global,
     step: &Step,
     matrix: &Matrix,
     out: &mut Bytes,
 ) -> Result<(), NoMemory>
+    requires complete { length matrix.now.rows ≡ matrix.now.shape.s + matrix.now.shape.t }
+    requires factors { matrix.now.shape.s ≡ length step.now.factors }
+    ensures ok { OnOk result
+        (out.new
+        ≡ out.old
+        ++ rules (dimensions_of matrix.now.shape) step.now.factors matrix.now.rows) }
+    ensures err { OnErr result (out.new ≡ out.old) }
+{
+    let mut lines = Bytes::new(alloc);
+    put_section(alloc, step, matrix, &mut lines)?;
+    put(out, lines.as_slice())
+}
+
+/// Appends the section.
+fn put_section(alloc: Global, step: &Step, matrix: &Matrix, out: &mut Bytes) -> Result<(), NoMemory>
     requires complete { length matrix.now.rows ≡ matrix.now.shape.s + matrix.now.shape.t }
     requires factors { matrix.now.shape.s ≡ length step.now.factors }
     ensures { OnOk result

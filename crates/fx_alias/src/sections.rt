@@ -1,4 +1,4 @@
-ghost use Rattle.std.specs.Prelude.{◌≡◌, ◌≤◌, ◌+◌, ◌^◌, [], ◌++◌, if◌then◌else◌, OnOk, length};
+ghost use Rattle.std.specs.Prelude.{◌≡◌, ◌≤◌, ◌+◌, ◌^◌, [], ◌++◌, if◌then◌else◌, OnErr, OnOk, length};
 ghost use Rattle.fx_designs.specs.Patterns.{pattern_of};
 ghost use Rattle.fx_vectors.specs.Shape.{dimensions_of};
 ghost use Rattle.fx_runs.specs.Runs.{design_of};
@@ -10,11 +10,8 @@ ghost use Rattle.fx_alias.specs.Patterns.{pattern_lines};
 ghost use Rattle.fx_alias.specs.Points.{design_section};
 ghost use Rattle.fx_alias.specs.Sections.{examined};
 
-use crate::aliasing::alias_listing;
-use crate::blocked::blocked_listing;
-use crate::design::design_listing;
-use crate::pattern::pattern_listing;
-use fx_base::{Bytes, NoMemory};
+use crate::{aliasing, blocked, design, pattern};
+use fx_base::{Bytes, NoMemory, put};
 use fx_statements::Step;
 use fx_vectors::Matrix;
 use std::alloc::Global;
@@ -26,8 +23,27 @@ use std::alloc::Global;
 ///
 /// # Errors
 ///
-/// `NoMemory`; `out` then holds some first bytes of the sections after what it held.
+/// `NoMemory`; `out` is then as before.
 pub fn examine_listing(
+    alloc: Global,
+    step: &Step,
+    matrix: &Matrix,
+    out: &mut Bytes,
+) -> Result<(), NoMemory>
+    requires complete { length matrix.now.rows ≡ matrix.now.shape.s + matrix.now.shape.t }
+    requires factors { matrix.now.shape.s ≡ length step.now.factors }
+    requires few { matrix.now.shape.q ^ matrix.now.shape.t ≤ 1024 }
+    ensures ok { OnOk result
+        (out.new ≡ out.old ++ examined (meaning_of step.now) matrix.now) }
+    ensures err { OnErr result (out.new ≡ out.old) }
+{
+    let mut lines = Bytes::new(alloc);
+    put_sections(alloc, step, matrix, &mut lines)?;
+    put(out, lines.as_slice())
+}
+
+/// Appends the sections.
+fn put_sections(
     alloc: Global,
     step: &Step,
     matrix: &Matrix,
@@ -55,7 +71,7 @@ fn put_design(alloc: Global, step: &Step, matrix: &Matrix, out: &mut Bytes) -> R
         then design_section step.now.factors (design_of matrix.now) else [])) }
 {
     if step.examine.design {
-        design_listing(alloc, step, matrix, out)
+        design::put_section(alloc, step, matrix, out)
     } else {
         Ok(())
     }
@@ -72,7 +88,7 @@ fn put_aliases(alloc: Global, step: &Step, matrix: &Matrix, out: &mut Bytes) -> 
         (listed matrix.now.shape.q matrix.now.shape.s (goal_of step.now.wanted)) else [])) }
 {
     if step.examine.aliasing {
-        alias_listing(alloc, step, matrix, out)
+        aliasing::put_section(alloc, step, matrix, out)
     } else {
         Ok(())
     }
@@ -90,7 +106,7 @@ fn put_blocked(alloc: Global, step: &Step, matrix: &Matrix, out: &mut Bytes) -> 
         (listed matrix.now.shape.q matrix.now.shape.s (goal_of step.now.wanted)) else [])) }
 {
     if step.examine.blocked {
-        blocked_listing(alloc, step, matrix, out)
+        blocked::put_section(alloc, step, matrix, out)
     } else {
         Ok(())
     }
@@ -105,7 +121,7 @@ fn put_pattern(alloc: Global, step: &Step, matrix: &Matrix, out: &mut Bytes) -> 
         else [])) }
 {
     if step.examine.aberration {
-        pattern_listing(alloc, matrix, out)
+        pattern::put_section(alloc, matrix, out)
     } else {
         Ok(())
     }

@@ -10,3 +10,4 @@ mod Examples
 mod Numerals
 mod Texts
 mod Accepted
+pub mod Held

@@ -1,5 +1,5 @@
 -- The lines of a book, one at a time.
-use Rattle.std.proofs.Common.{◌≡◌, ℕ, ◌+◌, ◌<◌, Bool, true, false, cond, eqb, List, [], ◌∷◌, ◌++◌, length, Result, Ok, Err, refl, sym, ap, ◌∙◌, arith, append_assoc, append-nil, None}
+use Rattle.std.proofs.Common.{◌≡◌, ℕ, ◌+◌, ◌<◌, Bool, true, false, cond, eqb, List, [], ◌∷◌, ◌++◌, length, Result, Ok, Err, refl, sym, ap, ◌∙◌, arith, append_assoc, None}
 use Rattle.std.proofs.lemmas.Bool.{cond-true, cond-false, ne_eqb}
 use Rattle.fx_designs.specs.Problems.{Dimensions}
 use Rattle.fx_designs.specs.Nodes as nodes
@@ -57,10 +57,10 @@ pub onto_after : (marks : List nodes.Mark) (n : ℕ) (mark : Mark) (read : Resul
 onto_after marks n mark (Ok more) = ap Ok (sym (append_assoc marks (meaning_of mark ∷ []) more))
 onto_after marks n mark (Err stop) = refl
 
--- one entry more
-pub text_more : (marks : List nodes.Mark) (mark : nodes.Mark) → entries_text (marks ++ mark ∷ []) ≡ entries_text marks ++ entry_text mark
-text_more [] mark = append-nil (entry_text mark)
-text_more (m ∷ marks) mark = ap (λ l. entry_text m ++ l) (text_more marks mark) ∙ sym (append_assoc (entry_text m) (entries_text marks) (entry_text mark))
+-- entries after others
+pub entries-append : (marks more : List nodes.Mark) → entries_text (marks ++ more) ≡ entries_text marks ++ entries_text more
+entries-append [] more = refl
+entries-append (mark ∷ marks) more = ap (λ l. entry_text mark ++ l) (entries-append marks more) ∙ sym (append_assoc (entry_text mark) (entries_text marks) (entries_text more))
 
 pub no_shape : (x y z v w : List ℕ) (parts : List (List ℕ)) → 0 < length parts → shape_of (x ∷ y ∷ z ∷ v ∷ w ∷ parts) ≡ None
 no_shape x y z v w [] h = absurd (omega arith)
@@ -71,9 +71,10 @@ pub line_more : {T : Type 0} (none : T) (make : List ℕ → List (List ℕ) →
 line_more none make line [] h = absurd (omega arith)
 line_more none make line (next ∷ lines) h = refl
 
-pub spaced-more : (ns : List ℕ) (n : ℕ) → spaced (ns ++ n ∷ []) ≡ spaced ns ++ spaced (n ∷ [])
-spaced-more [] n = refl
-spaced-more (m ∷ ns) n = ap (λ l. codes " " ++ (decimal m ++ l)) (spaced-more ns n) ∙ ap (λ l. codes " " ++ l) (sym (append_assoc (decimal m) (spaced ns) (spaced (n ∷ [])))) ∙ sym (append_assoc (codes " ") (decimal m ++ spaced ns) (spaced (n ∷ [])))
+-- numbers after others
+pub spaced-append : (ns more : List ℕ) → spaced (ns ++ more) ≡ spaced ns ++ spaced more
+spaced-append [] more = refl
+spaced-append (n ∷ ns) more = ap (λ l. codes " " ++ (decimal n ++ l)) (spaced-append ns more) ∙ ap (λ l. codes " " ++ l) (sym (append_assoc (decimal n) (spaced ns) (spaced more))) ∙ sym (append_assoc (codes " ") (decimal n ++ spaced ns) (spaced more))
 
 -- five pieces after what there was, of which the second to the fourth came together
 pub joined : (old title shape demands beat entries end : List ℕ)

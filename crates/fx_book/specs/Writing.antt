@@ -1,5 +1,5 @@
 -- The text of a book.
-use Rattle.std.specs.Prelude.{ℕ, List, [], ◌∷◌, ◌++◌, codes, decimal, Option, Some, None}
+use Rattle.std.specs.Prelude.{ℕ, ◌≡◌, List, [], ◌∷◌, ◌++◌, codes, decimal, Option, Some, None}
 use Rattle.fx_vectors.specs.Effects.{numbers_of}
 use Rattle.fx_vectors.specs.declared.shape.Shape.{Shape}
 use Rattle.fx_vectors.specs.declared.question.Demands.{Demands}
@@ -12,6 +12,10 @@ use Rattle.fx_book.specs.Entries.{entries_text}
 abbrev pub spaced : List ℕ → List ℕ
 spaced [] = []
 spaced (n ∷ numbers) = codes " " ++ (decimal n ++ spaced numbers)
+
+-- a line: a word, and numbers with a blank before each
+abbrev pub line_text : List ℕ → List ℕ → List ℕ
+line_text word numbers = word ++ (spaced numbers ++ codes "\n")
 
 abbrev pub shape_text : Shape → List ℕ
 shape_text shape = codes "size" ++ (spaced (shape.q ∷ shape.m ∷ shape.s ∷ shape.t ∷ []) ++ codes "\n")
@@ -31,3 +35,10 @@ head_text head = shape_text head.question.shape ++ (demands_text head.question.d
 abbrev pub book_text : Book → List ℕ
 book_text book =
     codes "factex-book 1\n" ++ (shape_text book.head.question.shape ++ (demands_text book.head.question.demands ++ (beat_text book.head.beat ++ (entries_text book.marks ++ codes "END\n"))))
+
+-- a buffer holds what it held, and after it a prefix of the text
+pub record HoldsPart (old new text : List ℕ) : Type 0 where
+  pub part : List ℕ
+  pub left : List ℕ
+  pub front : part ++ left ≡ text
+  pub held : new ≡ old ++ part

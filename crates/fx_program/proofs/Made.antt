@@ -1,5 +1,5 @@
 -- The text of `make`, step by step, and that it is short.
-use Rattle.std.proofs.Common.{ℕ, Bool, true, false, ◌≡◌, ◌≤◌, ◌<◌, ◌+◌, ◌*◌, ◌%◌, List, [], ◌∷◌, ◌++◌, length, refl, sym, ap, ◌∙◌, arith, zero, suc, append_assoc}
+use Rattle.std.proofs.Common.{ℕ, Bool, true, false, ◌≡◌, ◌≤◌, ◌<◌, ◌+◌, ◌*◌, ◌%◌, List, [], ◌∷◌, ◌++◌, length, refl, sym, ap, subst, ◌∙◌, arith, zero, suc, append_assoc}
 use Rattle.std.specs.Prelude.{decimal, codes, if◌then◌else◌, ◌==◌}
 use Rattle.std.specs.List.{flat_map, range_with_len}
 use Rattle.std.proofs.Math.Numerals.{add-one}
@@ -7,6 +7,8 @@ use Rattle.std.proofs.lemmas.Fmt.{length-decimal-le}
 use Rattle.std.proofs.lemmas.Grind.{flat_map-append}
 use Rattle.std.proofs.lemmas.List.{append-nil, length-append, map-id}
 use Rattle.std.proofs.lemmas.List.FromFn.{map-range_with_len_more}
+use Rattle.fx_book.specs.Writing.{HoldsPart}
+use Rattle.fx_book.proofs.Held.{in_first}
 use Rattle.fx_program.specs.Making.{factors_at, factors_line, levels_at, made_text, model_line, runs_at, size_line, step_text}
 
 -- one text behind another
@@ -31,6 +33,14 @@ one_step_more n =
     ap (flat_map step_text) (counting n)
     ∙ flat_map-append step_text (range_with_len 1 n) ((n + 1) ∷ [])
     ∙ ap (λ (l : List ℕ). flat_map step_text (range_with_len 1 n) ++ l) (append-nil (step_text (n + 1)))
+
+-- what holds a prefix of the text of some steps holds one of the text of more steps
+pub held_by_more : (old new : List ℕ) (i more : ℕ) → HoldsPart old new (made_text i) → HoldsPart old new (made_text (i + more))
+held_by_more old new i zero h = let same : i ≡ i + 0 = omega arith in subst (λ (n : ℕ). HoldsPart old new (made_text n)) same h
+held_by_more old new i (suc more) h =
+    let same : i + more + 1 ≡ i + suc more = omega arith in
+    subst (λ (n : ℕ). HoldsPart old new (made_text n)) same
+    (subst (HoldsPart old new) (sym (one_step_more (i + more))) (in_first old new (made_text (i + more)) (step_text (i + more + 1)) (held_by_more old new i more h)))
 
 either : (c : Bool) (a b n : ℕ) → a < n → b < n → (if c then a else b) < n
 either true a b n first second = first

@@ -1,4 +1,5 @@
-ghost use Rattle.std.specs.Prelude.{◌≡◌, ◌++◌, OnOk};
+ghost use Rattle.std.specs.Prelude.{◌≡◌, ◌++◌, OnErr, OnOk};
+ghost use Rattle.fx_book.specs.Writing.{HoldsPart};
 ghost use Rattle.fx_program.specs.Making.{factors_at, factors_line, levels_at, made_text, model_line, runs_at, size_line, step_text};
 
 use fx_base::{Bytes, NoMemory, put, put_number};
@@ -9,9 +10,10 @@ use fx_base::{Bytes, NoMemory, put, put_number};
 ///
 /// # Errors
 ///
-/// `NoMemory`; `out` then holds some first bytes of the text after what it held.
+/// `NoMemory`; `out` then holds a prefix of the text after what it held.
 pub fn make_text(n: u8, out: &mut Bytes) -> Result<(), NoMemory>
-    ensures { OnOk result (out.new ≡ out.old ++ made_text n) }
+    ensures ok { OnOk result (out.new ≡ out.old ++ made_text n) }
+    ensures err { OnErr result (HoldsPart out.old out.new (made_text n)) }
 {
     for i in 0..n {
         put_step(out, i + 1)?;
@@ -20,8 +22,10 @@ pub fn make_text(n: u8, out: &mut Bytes) -> Result<(), NoMemory>
 }
 
 /// Appends the five lines of the step of this number.
+#[tactic(auto, using(fx_book::proofs::Held::nothing))]
 fn put_step(out: &mut Bytes, k: u8) -> Result<(), NoMemory>
-    ensures { OnOk result (out.new ≡ out.old ++ step_text k) }
+    ensures ok { OnOk result (out.new ≡ out.old ++ step_text k) }
+    ensures err { OnErr result (HoldsPart out.old out.new (step_text k)) }
 {
     put(out, b"proc factex nodes=20000;\n")?;
     put_factors(out, k)?;
@@ -31,8 +35,10 @@ fn put_step(out: &mut Bytes, k: u8) -> Result<(), NoMemory>
 }
 
 /// Appends the line of its factors.
+#[tactic(auto, using(fx_book::proofs::Held::nothing))]
 fn put_factors(out: &mut Bytes, k: u8) -> Result<(), NoMemory>
-    ensures { OnOk result (out.new ≡ out.old ++ factors_line k) }
+    ensures ok { OnOk result (out.new ≡ out.old ++ factors_line k) }
+    ensures err { OnErr result (HoldsPart out.old out.new (factors_line k)) }
 {
     put(out, b"factors X1-X")?;
     put_number(out, u128::from(factors_at(k)))?;
@@ -42,8 +48,10 @@ fn put_factors(out: &mut Bytes, k: u8) -> Result<(), NoMemory>
 }
 
 /// Appends the line of its size.
+#[tactic(auto, using(fx_book::proofs::Held::nothing))]
 fn put_size(out: &mut Bytes, k: u8) -> Result<(), NoMemory>
-    ensures { OnOk result (out.new ≡ out.old ++ size_line k) }
+    ensures ok { OnOk result (out.new ≡ out.old ++ size_line k) }
+    ensures err { OnErr result (HoldsPart out.old out.new (size_line k)) }
 {
     put(out, b"size design=")?;
     put_number(out, u128::from(runs_at(k)))?;

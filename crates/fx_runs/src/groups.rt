@@ -1,4 +1,4 @@
-ghost use Rattle.std.specs.Prelude.{◌≡◌, ◌<◌, [], ◌∷◌, ◌++◌, length, map, replicate, slice_index_or, slice_set, IfOk, OnOk};
+ghost use Rattle.std.specs.Prelude.{◌≡◌, ◌<◌, [], ◌∷◌, ◌++◌, length, map, replicate, slice_index_or, slice_set, IfOk, OnErr, OnOk};
 
 use fx_base::NoMemory;
 use std::alloc::Global;
@@ -49,14 +49,15 @@ impl<T> Groups<T> {
         self.lists[number].as_slice()
     }
 
-    /// Adds an item at the end of the list of this number.
+    /// Adds an item at the end of the list of this number. Where memory ran out, the lists are as before.
     pub fn push(&mut self, number: usize, item: T) -> Result<(), NoMemory>
     where
         T: Drop,
         requires { number < length self.old }
-        ensures { OnOk result
+        ensures ok { OnOk result
             (self.new
             ≡ slice_set self.old number (slice_index_or self.old number [] ++ item ∷ [])) }
+        ensures err { OnErr result (self.new ≡ self.old) }
     {
         if self.lists[number].push(item).is_err() {
             return Err(NoMemory);

@@ -864,10 +864,10 @@ fn long_texts_are_read(rt: HostRuntime) -> Result<(), Fail> {
     );
     let mut steps = Vec::new(alloc);
     for _ in 0..101 {
-        steps.extend_from_slice(b"proc factex;".as_slice())?;
+        steps.extend_from_slice(b"proc factex; factors A;\n".as_slice())?;
     }
     let more = ran(&rt, alloc, words.as_slice(), steps.as_slice(), None, None)?;
     assert_eq!(rt; more.status, 3);
-    assert!(rt; is_message(more.listing.bytes(), b"E32 1:1201 more than 100 steps"));
+    assert!(rt; is_message(more.listing.bytes(), b"E32 101:1 more than 100 steps"));
     Ok(())
 }

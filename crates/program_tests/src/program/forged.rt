@@ -384,20 +384,18 @@ fn with_line(alloc: Global, line: usize, other: &str) -> Result<Bytes, NoMemory>
     Ok(text)
 }
 
-/// Tests the verdict on a text.
-fn is_judged<R: Threads + Sync + Abort>(
+/// Tests that a text is rejected with this verdict, and with nothing else listed.
+fn is_rejected<R: Threads + Sync + Abort>(
     rt: &R,
     alloc: Global,
     text: &[u8],
     wanted: &str,
 ) -> Result<(), Fail> {
     let words = words_in(alloc, "check")?;
-    let mut found = Bytes::new(alloc);
-    put_verdict(
-        &mut found,
-        listed(rt, alloc, words.as_slice(), text)?.as_slice(),
-    )?;
-    assert!(rt; found.as_slice() == wanted.as_bytes(), "{wanted}");
+    let line = format!(in alloc; "rejected line {wanted}\n")?;
+    let left = left_by(rt, alloc, words.as_slice(), text, SURE)?;
+    assert_eq!(rt; left.status, 1, "{wanted}");
+    assert!(rt; left.listing.bytes() == line.as_bytes(), "{wanted}");
     Ok(())
 }
 
@@ -405,12 +403,12 @@ fn is_judged<R: Threads + Sync + Abort>(
 fn replaced_lines_are_rejected(rt: HostRuntime) -> Result<(), Fail> {
     let alloc = rt.alloc();
     for (line, other, wanted) in REPLACED {
-        is_judged(
+        is_rejected(
             &rt,
             alloc,
             with_line(alloc, line, other)?.as_slice(),
             wanted,
         )?;
     }
-    is_judged(&rt, alloc, "".as_bytes(), "1 B2")
+    is_rejected(&rt, alloc, "".as_bytes(), "1 B2")
 }

@@ -119,17 +119,34 @@ fn budgets_and_threads_have_limits(rt: HostRuntime) -> Result<(), Fail> {
 #[test]
 fn names_have_at_most_32_bytes(rt: HostRuntime) -> Result<(), Fail> {
     let alloc = rt.alloc();
-    let text = "proc factex;factors A2345678901234567890123456789012;model r=3;";
+    let text = "proc factex;\nfactors A2345678901234567890123456789012;model r=3;";
     lists(&rt, alloc, "run", text, 0, LISTING)?;
-    let text = "proc factex;factors A23456789012345678901234567890123;model r=3;";
+    let text = "proc factex;\nfactors A23456789012345678901234567890123";
     lists(
         &rt,
         alloc,
         "run",
         text,
         3,
-        "factex: L5 1:21 name is too long\n",
+        "factex: L5 2:9 name is too long\n",
     )
+}
+
+/// Forty factors of nine levels, and one more.
+#[test]
+fn a_step_has_at_most_40_factors(rt: HostRuntime) -> Result<(), Fail> {
+    let alloc = rt.alloc();
+    let text = "proc factex;\nfactors F1-F41 / nlev=9;\nrun;\n";
+    let message = "factex: E10 2:9 too many factors\n";
+    lists(&rt, alloc, "run", text, 3, message)?;
+    let text = "proc factex;\nfactors F1-F40 / nlev=9;\nsize design=729;\nmodel resolution=3;\n";
+    let left = leave(&rt, alloc, "run", text.as_bytes())?;
+    assert_eq!(rt; left.status, 0);
+    let listing = left.listing.bytes();
+    let first = "step 1\nfactors 40 levels 9\ndesign 729 runs\nresolution 3\nnodes 40\nrules\n  F4 = F1^8*F2^8*F3\n";
+    assert!(rt; listing.starts_with(first.as_bytes()));
+    assert_eq!(rt; listing.iter().filter(|byte| **byte == b'=').count(), 37);
+    Ok(())
 }
 
 #[test]

@@ -25,7 +25,7 @@ returns-in_err-shelve-clause-part g c =
     let is : item ≡ get_or books c.loop-named.named-index item = search rules in
     let more : c.loop-named.named-index < length books = search rules in
     let named = c.as_slice.ensures.value ∙ c.book_name-name.ensures in
-    let filled = c.as_slice-in-loop-named.ensures ∙ c.in_ok-write_book.ensures ∙ ap (λ (l : List ℕ). l ++ book_text item.book) c.new-content.ensures in
+    let filled = c.as_slice-in-loop-named.ensures ∙ c.in_ok-write_book.ensures.ok ∙ ap (λ (l : List ℕ). l ++ book_text item.book) c.new-content.ensures in
     let same = next_acts (name number) content books c.loop-named.named-index item c.as_slice.result.now c.as_slice-in-loop-named.result.now is named filled in
     shelved_in (name number) content books c.loop-named.named-index item more c.loop-named.invariant.3
     (subst (λ (l : List Act). ShelvesPart (g.F.Shelf.files c.loop-named.shelf) (g.F.Shelf.files c.shelve.new.shelf) l) same c.in_err-shelve.ensures.part)
@@ -38,7 +38,7 @@ loop-named-preserved g c =
     let is : item ≡ get_or books c.loop-named.named-index item = search rules in
     let more : c.loop-named.named-index < length books = search rules in
     let named = c.as_slice.ensures.value ∙ c.book_name-name.ensures in
-    let filled = c.as_slice-in-loop-named.ensures ∙ c.in_ok-write_book.ensures ∙ ap (λ (l : List ℕ). l ++ book_text item.book) c.new-content.ensures in
+    let filled = c.as_slice-in-loop-named.ensures ∙ c.in_ok-write_book.ensures.ok ∙ ap (λ (l : List ℕ). l ++ book_text item.book) c.new-content.ensures in
     let same = next_acts (name number) content books c.loop-named.named-index item c.as_slice.result.now c.as_slice-in-loop-named.result.now is named filled in (
       c.in_ok-shelve.ensures.state,
       c.in_ok-shelve.ensures.cause.unchanged ∙ c.loop-named.invariant.1,

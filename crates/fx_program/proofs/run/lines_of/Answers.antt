@@ -30,13 +30,13 @@ returns-in_ok-examine_listing-in-Some c =
     let books = book_lines c.args.number outcome.books in
     let head = head_lines c.args.number step (dimensions_of outcome.shape) (ending_in outcome) in
     let there = subst (HasMatrix outcome.shape (ending_in outcome)) c.in-Some.is outcome.whole in
-    c.in_ok-examine_listing-in-Some.ensures
+    c.in_ok-examine_listing-in-Some.ensures.ok
     ∙ ap (λ l. l ++ examined step matrix) c.in_ok-put_book_lines-in-Some.ensures
-    ∙ ap (λ l. (l ++ books) ++ examined step matrix) c.in_ok-rules_listing-in-Some.ensures
+    ∙ ap (λ l. (l ++ books) ++ examined step matrix) c.in_ok-rules_listing-in-Some.ensures.ok
     ∙ append_assoc (c.head_listing.new.out ++ rows) books (examined step matrix)
     ∙ append_assoc c.head_listing.new.out rows (books ++ examined step matrix)
     ∙ all_lines c.args.number (dimensions_of outcome.shape) step books (ending_in outcome) _ _
-    (c.in_ok-head_listing.ensures ∙ ap (λ l. l ++ head) c.new-lines.ensures)
+    (c.in_ok-head_listing.ensures.ok ∙ ap (λ l. l ++ head) c.new-lines.ensures)
     (with_matrix outcome.shape step books (ending_in outcome) matrix there)
 
 pub returns-in_ok-put_book_lines-in-None : goal.returns-in_ok-put_book_lines-in-None
@@ -48,5 +48,5 @@ returns-in_ok-put_book_lines-in-None c =
     let there = subst (HasMatrix outcome.shape (ending_in outcome)) c.in-None.is outcome.whole in
     c.in_ok-put_book_lines-in-None.ensures
     ∙ all_lines c.args.number (dimensions_of outcome.shape) step books (ending_in outcome) _ _
-    (c.in_ok-head_listing.ensures ∙ ap (λ l. l ++ head) c.new-lines.ensures)
+    (c.in_ok-head_listing.ensures.ok ∙ ap (λ l. l ++ head) c.new-lines.ensures)
     (without_matrix outcome.shape step books (ending_in outcome) there)

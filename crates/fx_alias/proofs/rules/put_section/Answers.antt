@@ -2,7 +2,7 @@ use Rattle.std.proofs.Common.{◌≡◌, List, ℕ, length, ap, ◌∙◌, arith
 use Rattle.std.proofs.lemmas.List.FromFn.{length-map-range_with_len}
 use Rattle.fx_vectors.specs.declared.shape.Shape.{Shape}
 use Rattle.fx_alias.specs.Rules.{block_name}
-use Rattle.fx_alias.proofs.rules.rules_listing.Goals as goal
+use Rattle.fx_alias.proofs.rules.put_section.Goals as goal
 
 pub put_rules-requires : goal.put_rules-requires
 put_rules-requires c =

@@ -2,7 +2,7 @@ use Rattle.std.proofs.Common.{◌≡◌, ◌++◌, ◌∙◌, List, ℕ, append_
 use Rattle.std.specs.Prelude.{OnOk, codes}
 use Rattle.fx_alias.specs.Patterns.{words_lines}
 use Rattle.fx_alias.specs.Rules.{or_none}
-use Rattle.fx_alias.proofs.pattern.pattern_listing.Goals as goal
+use Rattle.fx_alias.proofs.pattern.put_section.Goals as goal
 
 pub returns : goal.returns
 returns c =
