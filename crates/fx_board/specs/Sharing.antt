@@ -6,10 +6,11 @@ use Rattle.fx_board.specs.declared.view.View.{View}
 use Rattle.fx_board.specs.declared.gate.Ended.{Ended}
 use Rattle.fx_search.specs.declared.job.JobEnd.{JobEnd}
 use Rattle.fx_search.specs.declared.job.JobEnd.TheVariants.{Found, Closed, Spent, Cut}
-use Rattle.fx_board.specs.Views.{Has}
+use Rattle.atomic_table.specs.Seated.{TableId}
+use Rattle.fx_board.specs.Views.{Has, SeatValue}
 use Rattle.fx_board.specs.Jobs.{IsEndOrCut, is_closed}
 use Rattle.fx_board.specs.Looks.{is_stopped}
-use Rattle.fx_board.specs.Work.{is_last, numbers_of}
+use Rattle.fx_board.specs.Work.{is_last, numbers_of, AllClosed, IsOnward}
 
 -- each of these workers can work off a job
 abbrev pub AreReady : {W : Type 0} → (W → Type 0) → List W → Type 0
@@ -22,6 +23,16 @@ AllAreClosed ends = (end : JobEnd) → Has end ends → is_closed end ≡ true
 -- a seat that has claimed nothing yet
 abbrev pub IsFresh : View → Type 0
 IsFresh v = (v.ended ≡ false) × (v.numbers ≡ []) × (v.reports ≡ [])
+
+-- workers that can begin with the jobs of a lot, and a seat of its board that owns some of them
+pub record IsTeam {W : Type 0} (ready : W → Type 0) (count : ℕ) (board : TableId) (seat : SeatValue) (owned : ℕ) (workers : List W) : Type 0 where
+  pub board_is : seat.board ≡ board
+  pub count_is : seat.knows.jobs ≡ count
+  pub fresh : IsFresh seat.knows
+  pub owned_are : seat.knows.owned ≡ owned
+  pub some : 0 < owned
+  pub enough : owned ≤ length workers
+  pub are_ready : AreReady ready workers
 
 -- the nodes inside the jobs before this one
 abbrev pub before : (ℕ → ℕ) → ℕ → ℕ
@@ -44,6 +55,15 @@ pub record Covers (is_end : ℕ → ℕ → JobEnd → Type 0) (inside : ℕ →
   pub reported : (n : ℕ) → Has n v.reports → (e : Ended) × Has e ends × (e.n ≡ n) × (is_last e.end ≡ true)
   pub reports : (e : Ended) → Has e ends → is_last e.end ≡ true → Has e.n v.reports
   pub stopped : (v.ended ≡ true) ⊎ HasOpen ends
+
+-- What such workers did, with a seat that knew this much: their seat of the board, their ends, and as many workers, which can work
+-- off another job where all ends are Closed.
+pub record IsDrawn {W : Type 0} (is_end : ℕ → ℕ → JobEnd → Type 0) (inside : ℕ → ℕ) (limit : ℕ) (ready : W → Type 0) (board : TableId) (knew : View) (size : ℕ) (seat : SeatValue) (ends : List Ended) (workers : List W) : Type 0 where
+  pub board_is : seat.board ≡ board
+  pub onward : IsOnward knew seat.knows
+  pub covers : Covers is_end inside limit seat.knows ends
+  pub sized : length workers ≡ size
+  pub are_ready : AllClosed ends → AreReady ready workers
 
 -- The ends of a lot's jobs from this number on, in order, up to the first that is Found or Spent. Each is one of its job under
 -- a limit between what the jobs before it leave of the lot's limit and that limit.

@@ -258,11 +258,10 @@ module _ (question : Question) (factors : BarredView) (rows : ReachedView) (tabl
 
 -- with no rows
 pub started : (question : Question) (factors : BarredView) (rows : ReachedView) (tables : List (Option Best)) (sets : List (List ℕ)) (first : List ℕ) → IsValid question → factors.problem ≡ problem_of question → factors.prefix ≡ [] → rows.rows ≡ []
-    → rows.q ≡ question.shape.q → rows.m ≡ question.shape.m → rows.room ≡ question.shape.s + question.shape.t → length tables ≡ question.shape.t * rows.q ^ rows.m → sets ≡ replicate (question.shape.s + question.shape.t) first
+    → rows.q ≡ question.shape.q → rows.m ≡ question.shape.m → rows.room ≡ question.shape.s + question.shape.t → length tables ≡ question.shape.t * rows.q ^ rows.m → length sets ≡ rows.room → slice_index_or sets 0 [] ≡ first
     → ((x : ℕ) → x < rows.q ^ rows.m → has first x ≡ not (is_allowed (dimensions_of question.shape) (requirement_of question.demands) (x ∷ []))) → IsBarred question factors rows tables sets
-started question factors rows tables sets first valid problem prefix none q m room len copies said-first =
+started question factors rows tables sets first valid problem prefix none q m room len sized here said-first =
     let f = is_order-field question.shape.q valid.shaped.order in
-    let n : ℕ = question.shape.s + question.shape.t in
     let zero_rows : length rows.rows ≡ 0 = ap length none in
     let no-rows : (i : ℕ) → take i rows.rows ≡ [] = λ i. ap (take i) none ∙ nothing i in
     record {
@@ -276,12 +275,12 @@ started question factors rows tables sets first valid problem prefix none q m ro
       points = subst (λ (l : List ℕ). AllByRecursion (λ x. x < rows.q ^ rows.m) l) (sym none) tt;
       allowed = ap (is_allowed (dimensions_of question.shape) (requirement_of question.demands)) none ∙ start_allowed (dimensions_of question.shape) (requirement_of question.demands) f valid.asked;
       tables_len = len;
-      sets_len = ap length copies ∙ length-replicate n first ∙ sym room;
+      sets_len = sized;
       best = λ i blocks few there. (let s_some = valid.shaped.some_factors in absurd (omega (arith, blocks, few, zero_rows)));
       fits = λ i blocks few there. (let s_some = valid.shaped.some_factors in absurd (omega (arith, blocks, few, zero_rows)));
       barred = λ i x few there x-low.
-          ap (λ (l : List (List ℕ)). has (slice_index_or l i []) x) copies ∙ ap (λ (l : List ℕ). has l x) (get_or-replicate n i first [] (omega (arith, there, room)))
-          ∙ said-first x x-low ∙ ap (λ (l : List ℕ). not (is_allowed (dimensions_of question.shape) (requirement_of question.demands) (l ++ x ∷ []))) (sym (no-rows i));
+          let start : i ≡ 0 = omega (arith, few, zero_rows) in
+          ap (λ (k : ℕ). has (slice_index_or sets k []) x) start ∙ ap (λ (l : List ℕ). has l x) here ∙ said-first x x-low ∙ ap (λ (l : List ℕ). not (is_allowed (dimensions_of question.shape) (requirement_of question.demands) (l ++ x ∷ []))) (sym (no-rows i));
     }
   where
     nothing : (i : ℕ) → take {A = ℕ} i [] ≡ []

@@ -10,52 +10,48 @@ ghost use Rattle.fx_search.specs.FactorRows.{BarredView, IsAtResolution};
 use fx_barred::{Best, Reached, fill_light};
 use fx_base::NoMemory;
 use fx_points::PointSet;
-use fx_vectors::{Demands, Question, Shape};
+use fx_vectors::Question;
 use std::alloc::Global;
 use std::marker::Model;
 
 /// Stands for a question that asks for a resolution and an allowed prefix of factor rows, and keeps the
 /// factor rows that are barred. Clauses see the problem and the prefix.
 #[derive(Debug, Drop)]
-pub(crate) struct AtResolution {
-    question: Question,
+pub(crate) struct AtResolution<'a> {
+    question: &'a Question,
     /// Two less than the resolution: so many rows at most are taken with the next.
     most: usize,
     reached: Reached,
 }
 
-impl Model for AtResolution {
+impl<'a> Model for AtResolution<'a> {
     ghost use Rattle.fx_search.specs.FactorRows.{BarredView, IsAtResolution};
     ghost use Rattle.fx_vectors.specs.Question.{problem_of};
 
     ghost Value = { BarredView };
 
-    ghost view = { λ x. record { problem = problem_of x.question; prefix = x.reached.rows } };
+    ghost view = { λ x. record { problem = problem_of x.question.now; prefix = x.reached.rows } };
 
-    ghost invariant = { λ x. IsAtResolution x.question x.most x.reached };
+    ghost invariant = { λ x. IsAtResolution x.question.now x.most x.reached };
 }
 
-impl AtResolution {
+impl<'a> AtResolution<'a> {
     /// At the empty prefix of the question that asks for this resolution.
     pub(crate) fn of(
         alloc: Global,
-        shape: Shape,
+        question: &'a Question,
         r: u8,
-        least: bool,
-    ) -> Result<AtResolution, NoMemory>
-        requires valid { IsValid (record { shape = shape; demands = Resolution r; least = least }) }
-        ensures problem { IfOk result (λ barred.
-            barred.problem ≡ problem_of (record { shape = shape; demands = Resolution r; least = least })) }
+    ) -> Result<AtResolution<'a>, NoMemory>
+        requires valid { IsValid question.now }
+        requires resolution { question.now.demands ≡ Resolution r }
+        ensures problem { IfOk result (λ barred. barred.problem ≡ problem_of question.now) }
         ensures start { IfOk result (λ barred. barred.prefix ≡ []) }
     {
+        let shape = question.shape;
         let most = usize::from(r) - 2;
         let reached = Reached::of(alloc, shape.field(), shape.m, most, usize::from(shape.s))?;
         Ok(AtResolution {
-            question: Question {
-                shape,
-                demands: Demands::Resolution { r },
-                least,
-            },
+            question,
             most,
             reached,
         })

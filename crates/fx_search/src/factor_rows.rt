@@ -17,21 +17,21 @@ use std::alloc::Global;
 /// Stands for a question and an allowed prefix of factor rows, and keeps the factor rows that are
 /// barred.
 #[derive(Debug, Drop)]
-pub(crate) enum FactorRows {
-    AtResolution(AtResolution),
-    ForEffects(ForEffects),
+pub(crate) enum FactorRows<'a> {
+    AtResolution(AtResolution<'a>),
+    ForEffects(ForEffects<'a>),
 }
 
-impl FactorRows {
+impl<'a> FactorRows<'a> {
     /// At the empty prefix of the question.
-    pub(crate) fn of(alloc: Global, question: &Question) -> Result<FactorRows, NoMemory>
+    pub(crate) fn of(alloc: Global, question: &'a Question) -> Result<FactorRows<'a>, NoMemory>
         requires { IsValid question.now }
         ensures problem { IfOk result (λ kept. (view_of kept).problem ≡ problem_of question.now) }
         ensures start { IfOk result (λ kept. (view_of kept).prefix ≡ []) }
     {
         match &question.demands {
             Demands::Resolution { r } => {
-                let kept = AtResolution::of(alloc, question.shape, *r, question.least)?;
+                let kept = AtResolution::of(alloc, question, *r)?;
                 Ok(FactorRows::AtResolution(kept))
             }
             Demands::Effects {

@@ -12,7 +12,7 @@ ghost use Rattle.fx_search.specs.FactorRows.{AreParts, BarredView, IsForEffects}
 
 use fx_barred::{Best, FirstWords};
 use fx_base::{Items, NoMemory};
-use fx_demands::{Effects, Forbidden, Vectors, factor_parts, forbidden_vectors};
+use fx_demands::{Effects, Vectors, factor_parts, forbidden_vectors};
 use fx_points::PointSet;
 use fx_vectors::{Question, Shape};
 use std::alloc::Global;
@@ -21,33 +21,32 @@ use std::marker::Model;
 /// Stands for a question that asks for effects and an allowed prefix of factor rows, and keeps the
 /// factor rows that are barred. Clauses see the problem and the prefix.
 #[derive(Debug, Drop)]
-pub(crate) struct ForEffects {
-    /// The question.
-    forbidden: Forbidden,
+pub(crate) struct ForEffects<'a> {
+    question: &'a Question,
     first: FirstWords,
     /// With blocks, what a forbidden word that is not zero on them may have on the factors.
     parts: Vectors,
 }
 
-impl Model for ForEffects {
+impl<'a> Model for ForEffects<'a> {
     ghost use Rattle.fx_search.specs.FactorRows.{BarredView, IsForEffects};
     ghost use Rattle.fx_vectors.specs.Question.{problem_of};
 
     ghost Value = { BarredView };
 
-    ghost view = { λ x. record { problem = problem_of x.forbidden; prefix = x.first.rows } };
+    ghost view = { λ x. record { problem = problem_of x.question.now; prefix = x.first.rows } };
 
-    ghost invariant = { λ x. IsForEffects x.forbidden x.first x.parts };
+    ghost invariant = { λ x. IsForEffects x.question.now x.first x.parts };
 }
 
-impl ForEffects {
+impl<'a> ForEffects<'a> {
     /// At the empty prefix of the question that asks for these effects.
     pub(crate) fn of(
         alloc: Global,
-        question: &Question,
+        question: &'a Question,
         estimate: &Effects,
         nonnegligible: &Effects,
-    ) -> Result<ForEffects, NoMemory>
+    ) -> Result<ForEffects<'a>, NoMemory>
         requires valid { IsValid question.now }
         requires effects { question.now.demands ≡ Effects estimate.now nonnegligible.now }
         ensures problem { IfOk result (λ barred. barred.problem ≡ problem_of question.now) }
@@ -55,12 +54,11 @@ impl ForEffects {
     {
         let shape = question.shape;
         let field = shape.field();
+        let parts = parts_in_blocks(alloc, shape, estimate)?;
         let words = forbidden_vectors(alloc, field, shape.s, estimate, nonnegligible)?;
         let first = FirstWords::of(alloc, field, shape.m, usize::from(shape.s), words)?;
-        let forbidden = Forbidden::of(alloc, question)?;
-        let parts = parts_in_blocks(alloc, shape, estimate)?;
         Ok(ForEffects {
-            forbidden,
+            question,
             first,
             parts,
         })

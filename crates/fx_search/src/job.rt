@@ -6,11 +6,13 @@ ghost use Rattle.fx_designs.specs.Nodes.{is_branch, lot_of};
 ghost use Rattle.fx_designs.specs.Jobs.{best_before};
 ghost use Rattle.fx_vectors.specs.Shape.{dimensions_of};
 ghost use Rattle.fx_vectors.specs.Question.{IsValid, problem_of};
+ghost use Rattle.fx_jobs.specs.Laws.{IsJob};
 ghost use Rattle.fx_jobs.specs.Ranked.{extends};
 ghost use Rattle.fx_search.specs.Pruning.{size_of};
 ghost use Rattle.fx_search.specs.Standing.{StandAt, HasDimensions, rows_of};
 ghost use Rattle.fx_search.specs.Folds.{IsLot};
 ghost use Rattle.fx_search.specs.JobEnds.{IsJobEnd, IsSized, IsBackAt, own_of};
+ghost use Rattle.fx_search.specs.Searchers.{IsAtStart};
 
 use crate::cutter::Cutter;
 use crate::incumbent::Incumbent;
@@ -76,6 +78,29 @@ pub fn run_job<C: Cutter>(
     ensures end { IfOk result (IsJobEnd question.now job.now.rows limit (C.stopped cutter.new)) }
 {
     let mut searcher = Searcher::of(alloc, question)?;
+    run_from_start(&mut searcher, alloc, job, best, limit, cutter)
+}
+
+/// The same by a searcher of the question that is at the empty prefix.
+fn run_from_start<C: Cutter>(
+    searcher: &mut Searcher,
+    alloc: Global,
+    job: &Matrix,
+    best: Option<&Matrix>,
+    limit: u64,
+    cutter: &mut C,
+) -> Result<JobEnd, NoMemory>
+    requires valid { IsValid searcher.old.question.now }
+    requires at { IsAtStart searcher.old.question.now searcher.old }
+    requires shape { job.now.shape ≡ searcher.old.question.now.shape }
+    requires job { IsJob (problem_of searcher.old.question.now) job.now.rows }
+    requires best_shape { HasDimensions (problem_of searcher.old.question.now).dimensions (option_copied best) }
+    requires best { rows_of (option_copied best) ≡ best_before (problem_of searcher.old.question.now) job.now.rows }
+    requires limit { limit ≤ 5000000 }
+    ensures cutter { C.may_become cutter.old cutter.new }
+    ensures sized { IfOk result (IsSized searcher.old.question.now) }
+    ensures end { IfOk result (IsJobEnd searcher.old.question.now job.now.rows limit (C.stopped cutter.new)) }
+{
     let lot = without_the_last_row(job);
     searcher.enter_lot(&lot, best)?;
     searcher.run_job(alloc, job, limit, cutter)

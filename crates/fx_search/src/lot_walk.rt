@@ -35,7 +35,7 @@ pub struct LotWalk<'a> {
     alloc: Global,
     question: &'a Question,
     candidates: Candidates,
-    pruner: Barred,
+    pruner: Barred<'a>,
     incumbent: Known<'a>,
     prefix: Matrix,
     /// The children of the prefix by rows from this one on are done.

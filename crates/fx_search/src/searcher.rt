@@ -27,7 +27,7 @@ use std::alloc::Global;
 pub struct Searcher<'a> {
     question: &'a Question,
     candidates: Candidates,
-    pruner: Barred,
+    pruner: Barred<'a>,
     incumbent: Known<'a>,
     /// The best of the lots before this one.
     earlier: Option<Best>,

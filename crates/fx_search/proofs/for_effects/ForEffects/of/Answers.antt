@@ -25,7 +25,6 @@ invariant_of-result c =
     let all' : AreAllForbidden (dimensions_of question.shape) (requirement_of question.demands) v.words =
     subst (λ (r : Requirement). AreAllForbidden (dimensions_of question.shape) r v.words) (ap requirement_of (sym c.requires.effects))
     (subst (λ (l : List ForbiddenVector). AreAllForbidden (dimensions_of question.shape) (ForEffects (numbers_of c.args.estimate.now) (numbers_of c.args.nonnegligible.now)) l) (sym (ap (λ (v : FirstWordsView). v.words) is)) all) in
-    subst (λ (q : Question). IsForEffects q v c.in_ok-parts.parts) (sym c.in_ok-forbidden.ensures)
-    (started question v c.in_ok-parts.parts c.requires.valid all' (ap (λ (v : FirstWordsView). v.q) is ∙ c.field-field.ensures) (ap (λ (v : FirstWordsView). v.m) is) (ap (λ (v : FirstWordsView). v.room) is ∙ c.from.ensures) (ap (λ (v : FirstWordsView). v.rows) is)
+    started question v c.in_ok-parts.parts c.requires.valid all' (ap (λ (v : FirstWordsView). v.q) is ∙ c.field-field.ensures) (ap (λ (v : FirstWordsView). v.m) is) (ap (λ (v : FirstWordsView). v.room) is ∙ c.from.ensures) (ap (λ (v : FirstWordsView). v.rows) is)
     (λ some. subst (λ (r : Requirement). AreFactorParts (dimensions_of question.shape) r c.in_ok-parts.parts) (ap requirement_of (sym c.requires.effects)) (c.in_ok-parts.ensures.lists (numbers_of c.args.nonnegligible.now) some))
-    c.in_ok-parts.ensures.vectors)
+    c.in_ok-parts.ensures.vectors
