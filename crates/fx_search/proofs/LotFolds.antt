@@ -8,21 +8,20 @@ use Rattle.fx_designs.specs.Problems.{Problem}
 use Rattle.fx_designs.specs.Answers.{falling}
 use Rattle.fx_designs.specs.Canonical.{is_canonical}
 use Rattle.fx_designs.specs.Nodes.{Mark}
-use Rattle.fx_designs.specs.Jobs.{nodes_of_lot, nodes_inside, first_of_lot, best_before}
+use Rattle.fx_designs.specs.Jobs.{nodes_inside, best_before}
 use Rattle.fx_laws.specs.Trees.{tree_of, children_of, is_tree_design}
 use Rattle.fx_laws.specs.Walks.{under, through}
 use Rattle.fx_laws.proofs.Tables.{is_order-field}
 use Rattle.fx_laws.proofs.Through.{through-none, through-left, through-right, find-left, find-right, any-found, any-append}
-use Rattle.fx_jobs.specs.Ranked.{IsFirstLeast, is_counted, is_counted_through}
+use Rattle.fx_jobs.specs.Ranked.{IsFirstLeast, is_counted}
 use Rattle.fx_jobs.specs.Search.{ranked, search_tree, search_mark, IsBestAt}
 use Rattle.fx_jobs.proofs.Bests.{before-least}
-use Rattle.fx_jobs.proofs.Lot.{lot-nodes, first-of-lot}
 use Rattle.fx_jobs.proofs.Place.{any-never}
 use Rattle.fx_jobs.proofs.SearchTree.{no-design}
 use Rattle.fx_vectors.specs.declared.question.Question.{Question}
 use Rattle.fx_vectors.specs.Question.{IsValid, problem_of}
 use Rattle.fx_search.specs.Ends.{IsFound, IsSpent, IsCarried}
-use Rattle.fx_search.specs.Folds.{AreEnds, jobs_of, total, joined, found_in, best_in, IsFold}
+use Rattle.fx_search.specs.Folds.{AreEnds, total, joined, found_in, best_in}
 use Rattle.fx_search.specs.LotWalks.{rows_below, jobs_below, below, after, candidates_of, IsSoFar, IsThrough, IsInLot, IsPlaced, IsUnderWay, IsAtLot}
 use Rattle.fx_search.specs.Searchers.{standing_in}
 use Rattle.fx_search.specs.Standing.{FitsDimensions, kept_rows}

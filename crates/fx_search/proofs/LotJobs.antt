@@ -1,17 +1,17 @@
 -- The jobs of a lot, which a walk works off one after another.
-use Rattle.std.proofs.Common.{◌≡◌, ℕ, suc, ◌<◌, ◌≤◌, ◌+◌, ◌-◌, ◌||◌, Bool, true, false, List, [], ◌∷◌, ◌++◌, map, length, take, drop, get_or, Option, Some, refl, sym, subst, ap, ap₂, ◌∙◌, ◌≢◌, arith, append_assoc, length-append}
-use Rattle.std.specs.List.{list_any, flat_map, filter}
+use Rattle.std.proofs.Common.{◌≡◌, ℕ, suc, ◌<◌, ◌+◌, ◌-◌, Bool, true, false, List, [], ◌∷◌, ◌++◌, map, length, drop, get_or, Option, sym, subst, ap, ◌∙◌, arith, append_assoc}
+use Rattle.std.specs.List.{flat_map}
 use Rattle.std.proofs.lemmas.Bool.{cond-true}
-use Rattle.std.proofs.lemmas.List.{map-append, length-map}
+use Rattle.std.proofs.lemmas.List.{map-append}
 use Rattle.fx_designs.specs.Galois.{IsField}
 use Rattle.fx_designs.specs.Problems.{Problem}
 use Rattle.fx_designs.specs.Nodes.{Mark}
-use Rattle.fx_laws.specs.Trees.{tree_of, children_of, is_tree_design}
-use Rattle.fx_laws.specs.Walks.{under, subtree, through}
+use Rattle.fx_laws.specs.Trees.{children_of, is_tree_design}
+use Rattle.fx_laws.specs.Walks.{subtree, through}
 use Rattle.fx_laws.proofs.Tables.{is_order-field}
 use Rattle.fx_laws.proofs.Through.{any-append}
 use Rattle.fx_tree.proofs.Nexts.{none-above}
-use Rattle.fx_jobs.specs.Ranked.{Ranked, IsRanked, IsFirstLeast, better, is_counted, is_counted_through}
+use Rattle.fx_jobs.specs.Ranked.{IsRanked, IsFirstLeast, better, is_counted, is_counted_through}
 use Rattle.fx_jobs.specs.Search.{ranked, search_tree, search_mark, IsBestAt}
 use Rattle.fx_jobs.proofs.Patterns.{is-ranked}
 use Rattle.fx_jobs.proofs.Turns.{job_start, job_joins}
@@ -20,7 +20,7 @@ use Rattle.fx_vectors.specs.Question.{IsValid, problem_of}
 use Rattle.fx_search.specs.Ends.{IsFound, IsClosed, IsSpent, IsCarried}
 use Rattle.fx_search.specs.Pruning.{size_of}
 use Rattle.fx_search.specs.LotWalks.{rows_below, below, after, candidates_of, is_seen, IsNextRow, IsSoFar, IsInLot}
-use Rattle.fx_search.specs.declared.walk.End.TheVariants.{Found, Spent}
+use Rattle.fx_search.specs.declared.walk.End.TheVariants.{Found}
 use Rattle.fx_search.proofs.LotFolds.{counted, spent-in-lot}
 use Rattle.fx_search.proofs.Starts.{lot-room}
 use Rattle.fx_search.proofs.Steps.{drop-first, part_end, through-more}

@@ -1,20 +1,17 @@
 -- The steps of a walk from lot to lot.
-use Rattle.std.proofs.Common.{◌≡◌, ℕ, zero, suc, ◌<◌, ◌≤◌, ◌+◌, ◌-◌, ◌^◌, ◌⊎◌, Bool, true, false, ◌&&◌, ◌||◌, eqb, cond, ltb, List, [], ◌∷◌, ◌++◌, map, length, take, drop, get_or, slice_index, Option, Some, None, refl, sym, subst, ap, ap₂, ◌∙◌, inl, inr, arith, append-nil, append_assoc, length-append, ne_eqb, ◌≢◌}
-use Rattle.std.specs.List.{list_any, flat_map, filter, find}
+use Rattle.std.proofs.Common.{◌≡◌, ℕ, zero, suc, ◌<◌, ◌≤◌, ◌+◌, ◌-◌, ◌⊎◌, Bool, true, false, ◌||◌, cond, List, [], ◌∷◌, ◌++◌, map, length, get_or, slice_index, Option, None, refl, sym, subst, ap, ap₂, ◌∙◌, inl, inr, arith, append-nil, append_assoc, length-append, ne_eqb, ◌≢◌}
+use Rattle.std.specs.List.{list_any, flat_map}
 use Rattle.std.proofs.lemmas.Bool.{cases_Bool, cases_eq, cond-true, cond-false, and_left, and_parts}
 use Rattle.std.proofs.lemmas.List.{map-append, length-map, length-take-le}
 use Rattle.fx_designs.specs.Galois.{IsField}
 use Rattle.fx_designs.specs.Problems.{Problem}
 use Rattle.fx_designs.specs.Demands.{is_allowed}
-use Rattle.fx_designs.specs.Canonical.{is_canonical}
-use Rattle.fx_designs.specs.Answers.{falling}
-use Rattle.fx_designs.specs.Nodes.{parent, last_row, nodes, marks, mark_of, is_branch, Mark, Branch, Word, Worse}
-use Rattle.fx_designs.specs.Jobs.{best_before}
-use Rattle.fx_laws.specs.Trees.{Tree, IsTree, tree_of, children_of, is_tree_design}
+use Rattle.fx_designs.specs.Nodes.{parent, last_row, nodes, marks, mark_of, is_branch, Mark, Branch, Worse}
+use Rattle.fx_laws.specs.Trees.{Tree, IsTree, children_of, is_tree_design}
 use Rattle.fx_laws.specs.Walks.{under, subtree, through}
 use Rattle.fx_laws.proofs.Candidates.{parent-push}
 use Rattle.fx_laws.proofs.Tables.{is_order-field}
-use Rattle.fx_laws.proofs.Through.{through-right, any-append, through-none}
+use Rattle.fx_laws.proofs.Through.{through-right, any-append}
 use Rattle.fx_tree.proofs.Extensions.{last_is}
 use Rattle.fx_tree.proofs.Nexts.{none-above}
 use Rattle.fx_tree.proofs.Walks.{follows-extends}
@@ -31,11 +28,11 @@ use Rattle.fx_jobs.proofs.Found.{IsShut, IsOpen}
 use Rattle.fx_jobs.proofs.Patterns.{is-ranked}
 use Rattle.fx_jobs.proofs.SearchTree.{walked-law, nodes-walked, marks-walked, opens-least, opens-plain}
 use Rattle.fx_search.specs.Ends.{IsClosed, IsSpent, IsCarried}
-use Rattle.fx_search.specs.Pruning.{size_of, count_of_rows}
-use Rattle.fx_search.specs.LotWalks.{rows_below, below, after, candidates_of, is_seen, IsNoneBelow, IsNextRow, IsSoFar, IsThrough, IsNewLot}
+use Rattle.fx_search.specs.Pruning.{size_of}
+use Rattle.fx_search.specs.LotWalks.{rows_below, below, after, candidates_of, IsNoneBelow, IsNextRow, IsSoFar, IsThrough, IsNewLot}
 use Rattle.fx_search.proofs.Begins.{split-last}
 use Rattle.fx_search.proofs.Carried.{carries-own, carries-part}
-use Rattle.fx_search.proofs.Steps.{LeftFrom, left-init, left-skip, left-next, drop-first, drop-none, under-children, through-more}
+use Rattle.fx_search.proofs.Steps.{LeftFrom, left-skip, left-next, drop-first, drop-none, under-children, through-more}
 
 last-row : (q : List ℕ) (r : ℕ) → last_row (q ++ r ∷ []) ≡ r
 last-row q r =

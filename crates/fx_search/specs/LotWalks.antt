@@ -1,5 +1,5 @@
 -- Where a walk from lot to lot is, and what it answers.
-use Rattle.std.specs.Prelude.{ℕ, suc, zero, ◌≡◌, ◌<◌, ◌≤◌, ◌+◌, ◌-◌, ◌^◌, ◌⊎◌, ◌&&◌, ◌||◌, false, true, Bool, List, [], ◌∷◌, ◌++◌, map, take, drop, filter, length, Option, Some, None}
+use Rattle.std.specs.Prelude.{ℕ, suc, zero, ◌≡◌, ◌<◌, ◌≤◌, ◌+◌, ◌-◌, ◌⊎◌, ◌&&◌, ◌||◌, false, true, Bool, List, [], ◌∷◌, ◌++◌, map, take, drop, filter, length, Option, Some, None}
 use Rattle.std.specs.List.{list_any, flat_map}
 use Rattle.fx_designs.specs.Problems.{Problem}
 use Rattle.fx_designs.specs.Answers.{falling}
@@ -14,7 +14,7 @@ use Rattle.fx_vectors.specs.Shape.{dimensions_of}
 use Rattle.fx_vectors.specs.declared.question.Question.{Question}
 use Rattle.fx_vectors.specs.Question.{IsValid, problem_of}
 use Rattle.fx_search.specs.Pruning.{size_of, count_of_rows}
-use Rattle.fx_search.specs.Standing.{StandAt, HasDimensions, FitsDimensions, kept_rows}
+use Rattle.fx_search.specs.Standing.{StandAt, FitsDimensions, kept_rows}
 use Rattle.fx_search.specs.Searchers.{standing_in}
 use Rattle.fx_search.specs.Asked.{IsAnswer, IsNoneAtAll}
 use Rattle.fx_search.specs.Folds.{IsLot, total, joined, found_in, best_in}

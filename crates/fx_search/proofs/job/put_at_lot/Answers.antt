@@ -1,4 +1,4 @@
-use Rattle.std.proofs.Common.{◌<◌, ◌+◌, ◌∙◌, ℕ, List, take, length, arith, ap}
+use Rattle.std.proofs.Common.{◌<◌, ◌∙◌, ℕ, List, take, length, arith, ap}
 use Rattle.fx_designs.specs.Problems.{Problem}
 use Rattle.fx_laws.proofs.Tables.{is_order-field}
 use Rattle.fx_vectors.specs.Question.{problem_of}

@@ -1,7 +1,7 @@
-use Rattle.std.proofs.Common.{◌≡◌, ◌≤◌, ◌<◌, ◌+◌, ◌-◌, ◌++◌, ◌∷◌, [], ℕ, List, Option, length, true, false, refl, sym, ap, subst, ◌∙◌, arith, inl, inr, length-append}
+use Rattle.std.proofs.Common.{◌≡◌, ◌+◌, ◌++◌, ◌∷◌, [], ℕ, List, Option, length, true, false, sym, ap, subst, ◌∙◌, arith, inr, length-append}
 use Rattle.std.proofs.lemmas.Bool.{not-true, not-false}
 use Rattle.fx_designs.specs.Problems.{Problem}
-use Rattle.fx_designs.specs.Nodes.{Mark, Branch, Word, Worse, word_of}
+use Rattle.fx_designs.specs.Nodes.{Mark, Word, Worse, word_of}
 use Rattle.fx_laws.proofs.Tables.{is_order-field}
 use Rattle.fx_jobs.specs.Search.{search_tree}
 use Rattle.fx_jobs.proofs.Found.{barred-shut, barred-best, beaten-shut, beaten-best, open-walked}

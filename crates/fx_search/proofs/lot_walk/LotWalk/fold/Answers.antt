@@ -1,7 +1,6 @@
-use Rattle.std.proofs.Common.{◌≡◌, ◌<◌, ◌+◌, ◌-◌, ℕ, List, [], Option, length, map, sym, subst, ap, ◌∙◌, arith}
+use Rattle.std.proofs.Common.{◌<◌, ◌+◌, ◌-◌, ℕ, List, [], Option, length, sym, subst, ap, ◌∙◌, arith}
 use native.Mathlib.Nat.{sub-zero}
 use Rattle.fx_designs.specs.Problems.{Problem}
-use Rattle.fx_designs.specs.Nodes.{Mark}
 use Rattle.fx_laws.proofs.Tables.{is_order-field}
 use Rattle.fx_jobs.specs.Search.{search_tree, search_mark}
 use Rattle.fx_vectors.specs.declared.question.Question.{Question}

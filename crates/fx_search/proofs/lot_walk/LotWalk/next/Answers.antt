@@ -1,4 +1,4 @@
-use Rattle.std.proofs.Common.{◌≡◌, ◌<◌, ◌≤◌, ◌+◌, length, arith, refl}
+use Rattle.std.proofs.Common.{◌≡◌, ◌+◌, length, arith, refl}
 use Rattle.fx_laws.proofs.Tables.{is_order-field}
 use Rattle.fx_vectors.specs.Question.{problem_of}
 use Rattle.fx_search.specs.LotWalks.{IsUnderWay, IsNoneBelow, WalkIsThrough}

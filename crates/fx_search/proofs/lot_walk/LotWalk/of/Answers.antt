@@ -1,4 +1,4 @@
-use Rattle.std.proofs.Common.{◌≡◌, ◌<◌, ◌≤◌, ◌+◌, ℕ, List, [], None, ap, sym, refl, ◌∙◌, arith, inl}
+use Rattle.std.proofs.Common.{[], ap, sym, refl, ◌∙◌, arith, inl}
 use Rattle.fx_designs.specs.Canonical.{is_canonical}
 use Rattle.fx_designs.specs.Problems.{Problem}
 use Rattle.fx_laws.proofs.Tables.{is_order-field}

@@ -1,6 +1,4 @@
-use Rattle.std.proofs.Common.{◌≡◌, ◌<◌, ◌-◌, ◌++◌, ◌∷◌, [], ℕ, Bool, List, true, false, zero, suc, filter, refl, sym, subst, ap, ◌∙◌, arith, append-nil}
-use Rattle.std.proofs.lemmas.Bool.{cond-false}
-use Rattle.fx_designs.specs.Answers.{falling}
+use Rattle.std.proofs.Common.{◌≡◌, ◌-◌, ◌++◌, ◌∷◌, [], ℕ, Bool, List, true, false, sym, subst, ap, ◌∙◌, arith, append-nil}
 use Rattle.fx_jobs.specs.Search.{search_tree}
 use Rattle.fx_tree.proofs.Lists.{listed, left_out}
 use Rattle.fx_tree.proofs.Nexts.{none-above}

@@ -1,4 +1,4 @@
-use Rattle.std.proofs.Common.{◌≡◌, ◌≤◌, ◌<◌, ◌+◌, ◌-◌, ◌++◌, ◌∷◌, [], ℕ, List, Option, length, true, false, map, refl, sym, ap, ap₂, subst, ◌∙◌, arith, length-append}
+use Rattle.std.proofs.Common.{◌≡◌, ◌<◌, ◌+◌, ◌-◌, ◌++◌, ◌∷◌, [], ℕ, List, Option, length, false, map, sym, ap, ap₂, subst, ◌∙◌, arith, length-append}
 use Rattle.fx_designs.specs.Problems.{Problem}
 use Rattle.fx_laws.proofs.Tables.{is_order-field}
 use Rattle.fx_jobs.specs.Ranked.{is_counted}
