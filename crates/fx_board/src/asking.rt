@@ -18,8 +18,9 @@ use fx_vectors::{Demands, Matrix, Question};
 use std::alloc::Global;
 use std::thread::Threads;
 
-/// In the time of so many nodes threads are started and joined many times over.
-const FEW: u64 = 16_384;
+/// In the time of so many nodes threads are started and joined some ten times over. A lot whose jobs are one
+/// node each has fewer.
+const FEW: u64 = 4_096;
 
 /// In the time of so many nodes all workers list a pair, some times over.
 const PAIR: u64 = 64;
