@@ -1,5 +1,5 @@
 -- The jobs of a lot, by their numbers.
-use Rattle.std.proofs.Common.{◌≡◌, ℕ, zero, suc, ◌<◌, ◌≤◌, ◌+◌, ◌-◌, ◌^◌, ◌⊎◌, Bool, true, false, List, [], ◌∷◌, ◌++◌, map, length, take, get_or, slice_index, slice_index_or, refl, sym, subst, ap, ◌∙◌, inl, inr, ⊎_elim, arith, length-append, append_assoc, take_all, cond, Ok, Err}
+use Rattle.std.proofs.Common.{◌≡◌, ℕ, zero, suc, ◌<◌, ◌≤◌, ◌+◌, ◌^◌, Bool, true, false, List, [], ◌∷◌, ◌++◌, map, length, get_or, slice_index, refl, sym, subst, ap, ◌∙◌, inl, inr, ⊎_elim, arith, length-append, append_assoc, take_all, cond, Ok, Err}
 use Rattle.std.specs.Prelude.{IfOk, Result, Option}
 use Rattle.std.specs.List.{AllByRecursion, filter}
 use Rattle.std.proofs.lemmas.Bool.{cases_Bool, cond-true, cond-false}
@@ -12,7 +12,6 @@ use Rattle.fx_designs.specs.Nodes.{lot_of, is_branch}
 use Rattle.fx_designs.specs.Jobs.{nodes_inside, best_before}
 use Rattle.fx_laws.proofs.Tables.{is_order-field}
 use Rattle.fx_jobs.specs.Laws.{IsJob}
-use Rattle.fx_jobs.specs.Search.{ranked}
 use Rattle.fx_jobs.proofs.Bests.{before-lot}
 use Rattle.fx_jobs.proofs.Patterns.{is-ranked}
 use Rattle.fx_vectors.specs.declared.question.Question.{Question}
@@ -20,7 +19,7 @@ use Rattle.fx_vectors.specs.Question.{IsValid, problem_of}
 use Rattle.fx_search.specs.Folds.{IsLot, IsEndUnder, AreEnds}
 use Rattle.fx_search.specs.JobEnds.{IsJobEnd, IsSized}
 use Rattle.fx_search.specs.LotWalks.{AreSized, IsAtLot, rows_below}
-use Rattle.fx_search.specs.Searchers.{IsAt, IsAtStart, IsReadyAfter}
+use Rattle.fx_search.specs.Searchers.{IsAt, IsReadyAfter}
 use Rattle.fx_search.specs.Standing.{kept_rows, rows_of, HasDimensions}
 use Rattle.fx_search.specs.declared.lot_walk.LotWalk.{LotWalk}
 use Rattle.fx_vectors.specs.Matrix.{MatrixView}

@@ -1,6 +1,6 @@
 -- The jobs of a lot of a question, which searchers work off.
 use Rattle.std.specs.List.{AllByRecursion}
-use Rattle.std.specs.Prelude.{◌≡◌, ℕ, ◌+◌, ◌≤◌, ◌⊎◌, false, true, map, List, [], ◌∷◌, ◌++◌, length, slice_index, Option}
+use Rattle.std.specs.Prelude.{◌≡◌, ℕ, ◌≤◌, ◌⊎◌, false, true, map, List, [], ◌∷◌, ◌++◌, length, slice_index, Option}
 use Rattle.std.proofs.Common.{sym, subst, ◌∙◌}
 use Rattle.fx_designs.specs.Jobs.{nodes_inside, best_before}
 use Rattle.fx_designs.specs.Canonical.{is_canonical}

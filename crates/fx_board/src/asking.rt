@@ -13,12 +13,14 @@ use crate::worker::closed_nodes;
 use fx_base::{Items, NoMemory};
 use fx_demands::pair_count;
 use fx_search::{Asked, JobEnd, LotWalk, Searcher, Step, ask_alone};
+use fx_tree::Candidates;
 use fx_vectors::{Demands, Matrix, Question};
 use std::alloc::Global;
 use std::thread::Threads;
 
-/// In the time of so many nodes threads are started and joined many times over.
-const FEW: u64 = 16_384;
+/// In the time of so many nodes threads are started and joined some ten times over. A lot whose jobs are one
+/// node each has fewer.
+const FEW: u64 = 4_096;
 
 /// In the time of so many nodes all workers list a pair, some times over.
 const PAIR: u64 = 64;
@@ -121,7 +123,8 @@ fn ask_by_lots<R: Threads + Sync, G: Gate>(
     ensures answer { IfOk result (IsAnswer question.now budget) }
     ensures none_at_all { IfOk result (IsNoneAtAll question.now) }
 {
-    let mut walk = LotWalk::of(alloc, question, budget)?;
+    let candidates = Candidates::of(question.shape);
+    let mut walk = LotWalk::of(alloc, question, &candidates, budget)?;
     walk_on(rt, alloc, question, budget, &mut walk, threads, alone, gate)
 }
 
@@ -237,7 +240,7 @@ fn share_rest<'a, R: Threads + Sync, G: Gate>(
     }
     let best = walk.best();
     let wanted = usize::from(threads).min(rows.len());
-    let workers = staffed(alloc, question, workers, wanted)?;
+    let workers = staffed(alloc, question, walk.candidates(), workers, wanted)?;
     let left = walk.left();
     let Worked { ends, workers } = ends_of_lot(
         rt,
@@ -259,10 +262,12 @@ fn share_rest<'a, R: Threads + Sync, G: Gate>(
 fn staffed<'a>(
     alloc: Global,
     question: &'a Question,
+    candidates: &'a Candidates,
     workers: Vec<Searcher<'a>>,
     wanted: usize,
 ) -> Result<Vec<Searcher<'a>>, NoMemory>
     requires valid { IsValid question.now }
+    requires candidates { candidates.now ≡ question.now.shape }
     requires start { AreReady (IsAtStart question.now) workers.items }
     requires most { (length workers.items ≤ 64) × (wanted ≤ 64) }
     ensures start { IfOk result (λ staff. AreReady (IsAtStart question.now) staff.items) }
@@ -271,7 +276,7 @@ fn staffed<'a>(
 {
     let mut staff = Items::from_vec(workers);
     for _i in staff.len()..wanted {
-        let searcher = Searcher::of(alloc, question)?;
+        let searcher = Searcher::of(alloc, question, candidates)?;
         staff.push(searcher)?;
     }
     Ok(staff.into_vec())

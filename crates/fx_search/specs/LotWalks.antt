@@ -107,7 +107,7 @@ pub record IsPlaced (w : LotWalk) : Type 0 where
   pub valid : IsValid w.question.now
   pub limit : w.limit ≤ 5000000
   pub jobs : w.question.now.shape.m + 2 ≤ w.question.now.shape.s + w.question.now.shape.t
-  pub candidates : w.candidates ≡ w.question.now.shape
+  pub candidates : w.candidates.now ≡ w.question.now.shape
   pub shape : w.prefix.shape ≡ w.question.now.shape
   pub at : StandAt (problem_of w.question.now) w.prefix.rows w.pruner.problem w.pruner.prefix (standing_in w.incumbent)
   pub few : length w.prefix.rows ≤ w.question.now.shape.m + 1

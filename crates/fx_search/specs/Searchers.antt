@@ -21,7 +21,7 @@ standing_in (Unranked x) = record { problem = problem_of x.question.now; prefix 
 -- The searcher of a question is at these rows, and has this best of the earlier lots.
 pub record IsAt (question : Question) (rows : List ℕ) (best : Option (List ℕ)) (s : Searcher) : Type 0 where
   pub question_is : s.question.now ≡ question
-  pub candidates : s.candidates ≡ question.shape
+  pub candidates : s.candidates.now ≡ question.shape
   pub at : StandAt (problem_of question) rows s.pruner.problem s.pruner.prefix (standing_in s.incumbent)
   pub sized : FitsDimensions (dimensions_of question.shape) s.earlier
   pub best_is : kept_rows s.earlier ≡ best

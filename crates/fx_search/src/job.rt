@@ -15,12 +15,13 @@ ghost use Rattle.fx_search.specs.JobEnds.{IsJobEnd, IsSized, IsBackAt, own_of};
 ghost use Rattle.fx_search.specs.Searchers.{IsAtStart};
 
 use crate::cutter::Cutter;
+use crate::front::front_of;
 use crate::incumbent::Incumbent;
 use crate::pruner::Pruner;
 use crate::searcher::Searcher;
 use crate::walk::{End, enter};
 use fx_base::NoMemory;
-use fx_tree::{Candidates, front_of};
+use fx_tree::Candidates;
 use fx_vectors::{Marks, Matrix, Question};
 use std::alloc::Global;
 
@@ -77,7 +78,8 @@ pub fn run_job<C: Cutter>(
     ensures sized { IfOk result (IsSized question.now) }
     ensures end { IfOk result (IsJobEnd question.now job.now.rows limit (C.stopped cutter.new)) }
 {
-    let mut searcher = Searcher::of(alloc, question)?;
+    let candidates = Candidates::of(question.shape);
+    let mut searcher = Searcher::of(alloc, question, &candidates)?;
     run_from_start(&mut searcher, alloc, job, best, limit, cutter)
 }
 
@@ -183,7 +185,7 @@ pub(crate) fn run_job_with<P: Pruner, I: Incumbent, C: Cutter>(
 {
     let mut prefix = without_the_last_row(job);
     let row = job.row(job.len() - 1);
-    let front = front_of(question, &prefix);
+    let front = front_of(question, candidates, &prefix);
     let mut marks = Marks::new(alloc);
     let end = enter(
         question,

@@ -17,13 +17,14 @@ use crate::asking::{Asked, closed, kept};
 use crate::barred::Barred;
 use crate::best::Best;
 use crate::cutter::NeverCut;
+use crate::front::front_of;
 use crate::incumbent::Incumbent;
 use crate::job::{JobEnd, remember};
 use crate::known::Known;
 use crate::pruner::Pruner;
 use crate::walk::{End, enter};
 use fx_base::{Items, NoMemory};
-use fx_tree::{Candidates, Front, Points, front_of};
+use fx_tree::{Candidates, Front, Points};
 use fx_vectors::{Mark, Marks, Matrix, Question};
 use std::alloc::Global;
 use std::mem;
@@ -34,7 +35,7 @@ use std::mem;
 pub struct LotWalk<'a> {
     alloc: Global,
     question: &'a Question,
-    candidates: Candidates,
+    candidates: &'a Candidates,
     pruner: Barred<'a>,
     incumbent: Known<'a>,
     prefix: Matrix,
@@ -67,25 +68,30 @@ pub(crate) enum Added {
 }
 
 impl<'a> LotWalk<'a> {
-    /// Before the first node of a valid question, whose matrices have at least m + 2 rows. The budget
-    /// is at most 5,000,000.
+    /// Before the first node of a valid question, whose matrices have at least m + 2 rows. `candidates`
+    /// are those of its shape. The budget is at most 5,000,000.
     ///
     /// # Errors
     ///
     /// `NoMemory`.
-    pub fn of(alloc: Global, question: &'a Question, budget: u64) -> Result<LotWalk<'a>, NoMemory>
+    pub fn of(
+        alloc: Global,
+        question: &'a Question,
+        candidates: &'a Candidates,
+        budget: u64,
+    ) -> Result<LotWalk<'a>, NoMemory>
         requires valid { IsValid question.now }
+        requires candidates { candidates.now ≡ question.now.shape }
         requires budget { budget ≤ 5000000 }
         requires jobs { question.now.shape.m + 2 ≤ question.now.shape.s + question.now.shape.t }
         ensures question { IfOk result (λ walk. walk.question.now ≡ question.now) }
         ensures limit { IfOk result (λ walk. walk.limit ≡ budget) }
         ensures between { IfOk result IsBetween }
     {
-        let candidates = Candidates::of(question.shape);
         let incumbent = Known::of(alloc, question)?;
         let pruner = Barred::of(alloc, question)?;
         let prefix = Matrix::new(question.shape);
-        let bound = candidates.row_bound(question, front_of(question, &prefix));
+        let bound = candidates.row_bound(question, front_of(question, candidates, &prefix));
         Ok(LotWalk {
             alloc,
             question,
@@ -105,6 +111,14 @@ impl<'a> LotWalk<'a> {
         ensures { result.now ≡ self.now.prefix }
     {
         &self.prefix
+    }
+
+    /// The candidates of the question's shape.
+    pub fn candidates(&self) -> &'a Candidates
+        requires { IsAtLot self.now }
+        ensures { result.now ≡ self.now.question.now.shape }
+    {
+        self.candidates
     }
 
     /// How many nodes it has come by.
@@ -143,7 +157,7 @@ impl<'a> LotWalk<'a> {
         ensures { IfOk result (λ points.
             points ≡ rows_below (problem_of self.now.question.now) self.now.prefix.rows self.now.bound) }
     {
-        let front = front_of(self.question, &self.prefix);
+        let front = front_of(self.question, self.candidates, &self.prefix);
         let first = self.candidates.first_row(self.question, front);
         let mut points = Points::new(self.alloc);
         for row in (first..self.bound).rev() {
@@ -166,7 +180,7 @@ impl<'a> LotWalk<'a> {
         ensures step { IfOk result (IsStep self.old.question.now self.old.limit (length self.old.marks) self.new) }
     {
         while self.prefix.len() <= usize::from(self.question.shape.m) {
-            let front = front_of(self.question, &self.prefix);
+            let front = front_of(self.question, self.candidates, &self.prefix);
             match self.next_row(front) {
                 Some(row) => {
                     if self.marks.len() == self.limit {
@@ -200,7 +214,7 @@ impl<'a> LotWalk<'a> {
     {
         let begun = self.nodes();
         // It is the same for each job of the lot.
-        let front = front_of(self.question, &self.prefix);
+        let front = front_of(self.question, self.candidates, &self.prefix);
         while self.nodes() - begun < few {
             let Some(row) = self.next_row(front) else {
                 return Ok(None);
@@ -277,7 +291,7 @@ impl<'a> LotWalk<'a> {
         begin_again(&mut self.incumbent, &self.earlier);
         let end = enter(
             self.question,
-            &self.candidates,
+            self.candidates,
             front,
             &mut self.pruner,
             &mut self.incumbent,
@@ -331,7 +345,7 @@ impl<'a> LotWalk<'a> {
         self.pruner.push(row)?;
         self.incumbent.push(row);
         self.prefix.push(row);
-        let front = front_of(self.question, &self.prefix);
+        let front = front_of(self.question, self.candidates, &self.prefix);
         self.bound = self.candidates.row_bound(self.question, front);
         Ok(())
     }

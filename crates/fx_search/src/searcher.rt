@@ -26,7 +26,7 @@ use std::alloc::Global;
 #[derive(Debug, Drop)]
 pub struct Searcher<'a> {
     question: &'a Question,
-    candidates: Candidates,
+    candidates: &'a Candidates,
     pruner: Barred<'a>,
     incumbent: Known<'a>,
     /// The best of the lots before this one.
@@ -34,13 +34,18 @@ pub struct Searcher<'a> {
 }
 
 impl<'a> Searcher<'a> {
-    /// At the empty prefix of a valid question, without a best.
+    /// At the empty prefix of a valid question, without a best. `candidates` are those of its shape.
     ///
     /// # Errors
     ///
     /// `NoMemory`.
-    pub fn of(alloc: Global, question: &'a Question) -> Result<Searcher<'a>, NoMemory>
+    pub fn of(
+        alloc: Global,
+        question: &'a Question,
+        candidates: &'a Candidates,
+    ) -> Result<Searcher<'a>, NoMemory>
         requires valid { IsValid question.now }
+        requires candidates { candidates.now ≡ question.now.shape }
         ensures question { IfOk result (λ searcher. searcher.question.now ≡ question.now) }
         ensures at { IfOk result (IsAtStart question.now) }
     {
@@ -48,7 +53,7 @@ impl<'a> Searcher<'a> {
         let pruner = Barred::of(alloc, question)?;
         Ok(Searcher {
             question,
-            candidates: Candidates::of(question.shape),
+            candidates,
             pruner,
             incumbent,
             earlier: None,
@@ -118,7 +123,7 @@ impl<'a> Searcher<'a> {
                 run_job_with(
                     alloc,
                     self.question,
-                    &self.candidates,
+                    self.candidates,
                     &mut self.pruner,
                     ranked,
                     job,
@@ -129,7 +134,7 @@ impl<'a> Searcher<'a> {
             Known::Unranked(unranked) => run_job_with(
                 alloc,
                 self.question,
-                &self.candidates,
+                self.candidates,
                 &mut self.pruner,
                 unranked,
                 job,

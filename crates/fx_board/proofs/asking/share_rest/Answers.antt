@@ -1,4 +1,4 @@
-use Rattle.std.proofs.Common.{◌≡◌, ◌-◌, ◌++◌, ◌∷◌, [], List, map, ℕ, true, length, sym, subst, ap, ◌∙◌}
+use Rattle.std.proofs.Common.{◌≡◌, ◌-◌, ◌++◌, ◌∷◌, [], List, map, ℕ, length, sym, subst, ap, ◌∙◌}
 use Rattle.std.specs.Option.{option_copied}
 use Rattle.fx_vectors.specs.Matrix.{MatrixView}
 use Rattle.fx_vectors.specs.declared.question.Question.{Question}
@@ -8,7 +8,6 @@ use Rattle.fx_search.specs.LotWalks.{AreSized, rows_below, jobs_below}
 use Rattle.fx_search.specs.declared.job.JobEnd.{JobEnd}
 use Rattle.fx_search.specs.Standing.{HasDimensions, rows_of}
 use Rattle.fx_search.specs.declared.lot_walk.LotWalk.{LotWalk}
-use Rattle.fx_board.specs.Sharing.{AreReady, AllAreClosed}
 use Rattle.fx_board.specs.Lots.{AreRowsOf, jobs_by, CanEnter}
 use Rattle.fx_board.proofs.LotFacts.{walk-lot, rows-are}
 use Rattle.fx_board.proofs.asking.share_rest.Goals as goal

@@ -1,10 +1,9 @@
-use Rattle.std.proofs.Common.{◌≡◌, ◌<◌, ◌≤◌, ◌-◌, ◌∙◌, ℕ, None, Some, length, refl, sym, subst, ap, arith}
+use Rattle.std.proofs.Common.{◌≡◌, ◌∙◌, ℕ, None, length, refl, sym, subst, ap, arith}
 use Rattle.fx_vectors.specs.declared.question.Question.{Question}
-use Rattle.fx_search.specs.LotWalks.{IsStep, IsFolded, IsAtLot, IsBetween, IsRight}
+use Rattle.fx_search.specs.LotWalks.{IsStep, IsFolded, IsRight}
 use Rattle.fx_search.specs.Searchers.{IsAtStart}
 use Rattle.fx_search.specs.declared.asking.Asked.{Asked}
 use Rattle.fx_search.specs.declared.lot_walk.LotWalk.{LotWalk}
-use Rattle.fx_search.specs.declared.lot_walk.Step.TheVariants.{Lot, Done}
 use Rattle.fx_board.specs.Sharing.{AreReady}
 use Rattle.fx_board.proofs.Teams.{ready_none}
 use Rattle.fx_board.proofs.asking.walk_on.Goals as goal
