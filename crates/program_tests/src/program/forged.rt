@@ -1,7 +1,7 @@
 //! Small books, each of whose lines is changed in turn. What `check` lists of them was found by a checker in
 //! another language, written from what docs/BOOKS.md says of books.
 use super::books::NO_FIVE;
-use super::outside::{SURE, left_by, words_in};
+use super::outside::{SURE, left_by};
 use fx_base::{Bytes, NoMemory, put};
 use std::alloc::Global;
 use std::process::Abort;
@@ -264,17 +264,6 @@ fn fits(line: &[u8], rest: &[u8], change: Change) -> bool {
     }
 }
 
-/// The first line that `check` lists of a text.
-fn listed<R: Threads + Sync>(
-    rt: &R,
-    alloc: Global,
-    words: &[Vec<u8>],
-    text: &[u8],
-) -> Result<Bytes, Fail> {
-    let left = left_by(rt, alloc, words, text, SURE)?;
-    Ok(Bytes::from_slice(alloc, first_line(left.listing.bytes()).0)?)
-}
-
 /// Appends a line without what comes before the place of a rejection, and without its line feed.
 fn put_verdict(out: &mut Bytes, line: &[u8]) -> Result<(), NoMemory> {
     if !out.is_empty() {
@@ -288,15 +277,38 @@ fn put_verdict(out: &mut Bytes, line: &[u8]) -> Result<(), NoMemory> {
     )
 }
 
-/// The verdicts on a book with each line changed in turn.
-fn verdicts<R: Threads + Sync>(
+/// Appends the verdict of `check` on a text: the first line that it lists.
+fn judge<R: Threads + Sync>(
     rt: &R,
     alloc: Global,
-    words: &[Vec<u8>],
+    text: &[u8],
+    out: &mut Bytes,
+) -> Result<(), Fail> {
+    let left = left_by(rt, alloc, "check", text, SURE)?;
+    put_verdict(out, first_line(left.listing.bytes()).0)?;
+    Ok(())
+}
+
+/// Appends a book with a changed line: what is before it, the line, and what follows it.
+fn put_forged(
+    out: &mut Bytes,
+    front: &[u8],
+    line: &[u8],
+    rest: &[u8],
+    change: Change,
+) -> Result<(), NoMemory> {
+    put(out, front)?;
+    put_changed(out, line, rest, change)
+}
+
+/// Appends the verdicts on a book with each line changed in turn.
+fn judge_each<R: Threads + Sync>(
+    rt: &R,
+    alloc: Global,
     book: &[u8],
     change: Change,
-) -> Result<Bytes, Fail> {
-    let mut all = Bytes::new(alloc);
+    out: &mut Bytes,
+) -> Result<(), Fail> {
     let mut rest = book;
     for _line in book.iter().filter(|byte| **byte == b'\n') {
         let front = book.len().saturating_sub(rest.len());
@@ -304,50 +316,36 @@ fn verdicts<R: Threads + Sync>(
         rest = after;
         if fits(line, rest, change) {
             let mut text = Bytes::new(alloc);
-            put(&mut text, book.get(..front).unwrap_or(book))?;
-            put_changed(&mut text, line, rest, change)?;
-            put_verdict(
-                &mut all,
-                listed(rt, alloc, words, text.as_slice())?.as_slice(),
-            )?;
+            put_forged(&mut text, book.get(..front).unwrap_or(book), line, rest, change)?;
+            judge(rt, alloc, text.as_slice(), out)?;
         }
     }
-    Ok(all)
+    Ok(())
 }
 
 /// Tests the verdicts on a book with each of these changes.
 fn are_judged<R: Threads + Sync + Abort>(
     rt: &R,
     alloc: Global,
-    words: &[Vec<u8>],
     changes: &[Change],
     book: &str,
     wanted: &str,
 ) -> Result<(), Fail> {
-    assert_eq!(rt; wanted.lines().count(), changes.len());
+    assert!(rt; wanted.lines().count() == changes.len());
     for (change, row) in changes.iter().zip(wanted.lines()) {
-        let found = verdicts(rt, alloc, words, book.as_bytes(), *change)?;
+        let mut found = Bytes::new(alloc);
+        judge_each(rt, alloc, book.as_bytes(), *change, &mut found)?;
         assert!(rt; found.as_slice() == row.as_bytes(), "{row}");
-    }
-    Ok(())
-}
-
-/// Tests the verdicts on each of the books with each of these changes.
-fn are_all_judged<R: Threads + Sync + Abort>(
-    rt: &R,
-    alloc: Global,
-    changes: &[Change],
-) -> Result<(), Fail> {
-    let words = words_in(alloc, "check")?;
-    for (book, wanted) in BOOKS {
-        are_judged(rt, alloc, words.as_slice(), changes, book, wanted)?;
     }
     Ok(())
 }
 
 #[test]
 fn forged_lines_are_rejected(rt: HostRuntime) -> Result<(), Fail> {
-    are_all_judged(&rt, rt.alloc(), CHANGES.as_slice())
+    for (book, wanted) in BOOKS {
+        are_judged(&rt, rt.alloc(), &CHANGES, book, wanted)?;
+    }
+    Ok(())
 }
 
 /// Lines of the book of five factors in eight runs at resolution 4, each with what is in its place, and the
@@ -391,26 +389,17 @@ fn is_judged<R: Threads + Sync + Abort>(
     text: &[u8],
     wanted: &str,
 ) -> Result<(), Fail> {
-    let words = words_in(alloc, "check")?;
     let mut found = Bytes::new(alloc);
-    put_verdict(
-        &mut found,
-        listed(rt, alloc, words.as_slice(), text)?.as_slice(),
-    )?;
+    judge(rt, alloc, text, &mut found)?;
     assert!(rt; found.as_slice() == wanted.as_bytes(), "{wanted}");
     Ok(())
 }
 
 #[test]
 fn replaced_lines_are_rejected(rt: HostRuntime) -> Result<(), Fail> {
-    let alloc = rt.alloc();
     for (line, other, wanted) in REPLACED {
-        is_judged(
-            &rt,
-            alloc,
-            with_line(alloc, line, other)?.as_slice(),
-            wanted,
-        )?;
+        let text = with_line(rt.alloc(), line, other)?;
+        is_judged(&rt, rt.alloc(), text.as_slice(), wanted)?;
     }
-    is_judged(&rt, alloc, "".as_bytes(), "1 B2")
+    is_judged(&rt, rt.alloc(), "".as_bytes(), "1 B2")
 }

@@ -116,15 +116,130 @@ fn call<R: Threads + Sync>(rt: &R, alloc: Global, words: &[Vec<u8>], objects: &m
     );
 }
 
-/// What `factex` leaves outside, with these words and a text, within these limits.
+/// What `factex` leaves outside, with the words of a line and a text, within these limits.
 pub(super) fn left_by<R: Threads + Sync>(
     rt: &R,
     alloc: Global,
-    words: &[Vec<u8>],
+    line: &str,
     text: &[u8],
     limits: Limits,
 ) -> Result<Outside, Fail> {
+    let words = words_in(alloc, line)?;
     let mut objects = objects_within(alloc, text, limits)?;
-    call(rt, alloc, words, &mut objects);
+    call(rt, alloc, words.as_slice(), &mut objects);
     Ok(objects)
+}
+
+/// Whether the words of a line end with this status and list just this of a text, and no call fails.
+pub(super) fn lists<R: Threads + Sync>(
+    rt: &R,
+    alloc: Global,
+    line: &str,
+    text: &[u8],
+    limits: Limits,
+    status: u8,
+    listing: &str,
+) -> Result<bool, Fail> {
+    let left = left_by(rt, alloc, line, text, limits)?;
+    Ok(left.status == status && left.faults() == 0 && left.listing.bytes() == listing.as_bytes())
+}
+
+/// What a call of `factex` left, in numbers.
+#[derive(Clone, Copy)]
+pub(super) struct Tally {
+    pub(super) status: u8,
+    /// How many reads, writes to the listing and calls on the shelf failed.
+    pub(super) read_faults: u64,
+    pub(super) write_faults: u64,
+    pub(super) file_faults: u64,
+    /// How many bytes are listed, how many files are begun, and how many of them are ended.
+    pub(super) listed: usize,
+    pub(super) files: usize,
+    pub(super) ended: usize,
+}
+
+/// How many files of a shelf are ended.
+fn ended_files(shelf: &MemoryShelf) -> usize {
+    (0..shelf.files()).filter(|i| shelf.is_ended(*i)).count()
+}
+
+/// What the words of a line leave, where what is listed is the beginning of this listing.
+pub(super) fn tally<R: Threads + Sync>(
+    rt: &R,
+    alloc: Global,
+    line: &str,
+    text: &[u8],
+    limits: Limits,
+    listing: &str,
+) -> Result<Option<Tally>, Fail> {
+    let left = left_by(rt, alloc, line, text, limits)?;
+    if !listing.as_bytes().starts_with(left.listing.bytes()) {
+        return Ok(None);
+    }
+    Ok(Some(Tally {
+        status: left.status,
+        read_faults: left.source.faults(),
+        write_faults: left.listing.faults(),
+        file_faults: left.shelf.faults(),
+        listed: left.listing.bytes().len(),
+        files: left.shelf.files(),
+        ended: ended_files(&left.shelf),
+    }))
+}
+
+/// Whether a file of the shelf is whole, with this name and this content.
+fn is_file(shelf: &MemoryShelf, i: usize, name: &str, content: &[u8]) -> bool {
+    i < shelf.files()
+        && shelf.is_ended(i)
+        && shelf.name(i) == name.as_bytes()
+        && shelf.content(i) == content
+}
+
+/// Whether the shelf has just these files, all whole.
+fn has_files(shelf: &MemoryShelf, files: &[(&str, &str)]) -> bool {
+    for (i, (name, content)) in files.iter().enumerate() {
+        if !is_file(shelf, i, name, content.as_bytes()) {
+            return false;
+        }
+    }
+    shelf.files() == files.len()
+}
+
+/// Whether a run of a text ends with this status, and leaves this listing and these files.
+pub(super) fn shelves<R: Threads + Sync>(
+    rt: &R,
+    alloc: Global,
+    line: &str,
+    text: &str,
+    limits: Limits,
+    status: u8,
+    listing: &str,
+    files: &[(&str, &str)],
+) -> Result<bool, Fail> {
+    let left = left_by(rt, alloc, line, text.as_bytes(), limits)?;
+    Ok(
+        left.status == status
+            && left.listing.bytes() == listing.as_bytes()
+            && has_files(&left.shelf, files),
+    )
+}
+
+/// The only file that a run of a text leaves, with this status and this listing.
+pub(super) fn file_of<R: Threads + Sync>(
+    rt: &R,
+    alloc: Global,
+    text: &[u8],
+    limits: Limits,
+    status: u8,
+    listing: &str,
+) -> Result<Bytes, Fail> {
+    let left = left_by(rt, alloc, "run", text, limits)?;
+    if left.status == status
+        && left.listing.bytes() == listing.as_bytes()
+        && left.shelf.files() == 1
+        && left.shelf.is_ended(0)
+    {
+        return Ok(Bytes::from_slice(alloc, left.shelf.content(0))?);
+    }
+    Err(Fail::new("another status, another listing or no file"))
 }
