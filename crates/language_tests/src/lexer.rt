@@ -101,11 +101,12 @@ fn each_fault_has_its_place(rt: HostRuntime) -> Result<(), Fail> {
 #[test]
 fn limits_are_kept_on_both_sides(rt: HostRuntime) -> Result<(), Fail> {
     let alloc = rt.alloc();
-    for text in [
+    const LONGEST: [&str; 3] = [
         " 12345678901234567890123456789012345678",
         "123456789012345678901234567890123456.8",
         " _bcdefghijklmnopqrstuvwxyzABCD12",
-    ] {
+    ];
+    for text in &LONGEST {
         assert!(rt; count(&rt, alloc, text.as_bytes())? == 1, "{text}");
     }
     have_faults(
@@ -119,27 +120,31 @@ fn limits_are_kept_on_both_sides(rt: HostRuntime) -> Result<(), Fail> {
     )
 }
 
-/// The longest text, of blanks with these bytes at its beginning and its end.
-fn longest(alloc: Global, open: &[u8; 2], close: &[u8; 2]) -> Result<Vec<u8>, Fail> {
+/// How many tokens the longest text has, of blanks with these bytes at its beginning and its end.
+fn count_of_longest(
+    rt: &impl Abort,
+    alloc: Global,
+    open: &[u8; 2],
+    close: &[u8; 2],
+) -> Result<usize, Fail> {
     let mut text = vec![in alloc; b' '; 1048576]?;
     text[0] = open[0];
     text[1] = open[1];
     text[1048574] = close[0];
     text[1048575] = close[1];
-    Ok(text)
+    Ok(count(rt, alloc, &text)?)
 }
 
 #[test]
 fn longest_texts_end(rt: HostRuntime) -> Result<(), Fail> {
-    let alloc = rt.alloc();
-    for (open, close, tokens) in [
+    const ENDS: [(&[u8; 2], &[u8; 2], usize); 4] = [
         (b"  ", b"  ", 0),
         (b"/*", b"*/", 0),
         (b"* ", b" ;", 0),
         (b"' ", b" '", 1),
-    ] {
-        let text = longest(alloc, open, close)?;
-        assert!(rt; count(&rt, alloc, text.as_slice())? == tokens);
+    ];
+    for (open, close, tokens) in &ENDS {
+        assert!(rt; count_of_longest(&rt, rt.alloc(), open, close)? == *tokens);
     }
     Ok(())
 }

@@ -2,7 +2,7 @@ use fx_base::{Bytes, NoMemory};
 use fx_language::symbols;
 use fx_lexer::lex;
 use fx_outputs::{BlockCount, EarlierNames, OutputContext, OutputSpec, Outputs, Shuffle, outputs};
-use fx_text::{Lexeme, Names, ParseStop, lexemes, statements};
+use fx_text::{Names, ParseStop, lexemes, statements};
 use std::alloc::Global;
 use std::process::Abort;
 use std::test::Fail;
@@ -23,34 +23,23 @@ fn earlier_names(rt: &impl Abort, alloc: Global) -> Result<EarlierNames, Fail> {
     Ok(earlier)
 }
 
-/// What lexemes give in a step with these factors, with two levels and 16 runs.
-fn outputs_of(
-    rt: &impl Abort,
-    alloc: Global,
-    factors: &[Bytes],
-    blocks: BlockCount,
-    lexemes: &[Lexeme],
-) -> Result<Result<Outputs, ParseStop>, Fail> {
-    assert!(rt; factors.len() < 256);
-    let statements = statements(alloc, lexemes)?;
-    let mut earlier = earlier_names(rt, alloc)?;
-    let context = OutputContext::new(factors, 2, 16, blocks);
-    Ok(outputs(alloc, &context, &mut earlier, statements.as_slice()))
-}
-
-/// What a text gives.
+/// What a text gives after these OUT names, in a step with these factors, with two levels and 16 runs.
 fn read_after(
     rt: &impl Abort,
     alloc: Global,
     factors: &[Bytes],
+    earlier: &mut EarlierNames,
     blocks: BlockCount,
     text: &[u8],
 ) -> Result<Result<Outputs, ParseStop>, Fail> {
     assert!(rt; text.len() <= 1048576);
+    assert!(rt; factors.len() < 256);
     let tokens = lex(alloc, text)?;
     let symbols = symbols(alloc, text, &tokens)?;
     let lexemes = lexemes(alloc, text, &tokens, symbols.as_slice())?;
-    outputs_of(rt, alloc, factors, blocks, lexemes.as_slice())
+    let statements = statements(alloc, lexemes.as_slice())?;
+    let context = OutputContext::new(factors, 2, 16, blocks);
+    Ok(outputs(alloc, &context, earlier, statements.as_slice()))
 }
 
 /// What a text gives after the OUT name `old`, in a step with the factors A and Block.
@@ -61,7 +50,15 @@ fn read(
     text: &str,
 ) -> Result<Result<Outputs, ParseStop>, Fail> {
     let factors = names(alloc, "A Block")?;
-    read_after(rt, alloc, factors.as_slice(), blocks, text.as_bytes())
+    let mut earlier = earlier_names(rt, alloc)?;
+    read_after(
+        rt,
+        alloc,
+        factors.as_slice(),
+        &mut earlier,
+        blocks,
+        text.as_bytes(),
+    )
 }
 
 /// The code of a refusal, and its column in the first line.
@@ -131,9 +128,9 @@ fn refused_where_the_rule_is_broken(rt: HostRuntime) -> Result<(), Fail> {
         ),
         (BlockCount::Without, "output out=b A nvals=(1);", 17, 16),
     ];
-    for (blocks, text, code, column) in CASES {
-        let found = refusal(&rt, rt.alloc(), blocks, text)?;
-        assert!(rt; found == Some((code, column)), "{text}");
+    for (blocks, text, code, column) in &CASES {
+        let found = refusal(&rt, rt.alloc(), *blocks, text)?;
+        assert!(rt; found == Some((*code, *column)), "{text}");
     }
     Ok(())
 }

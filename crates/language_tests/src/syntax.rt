@@ -54,7 +54,7 @@ fn programs_are_accepted(rt: HostRuntime) -> Result<(), Fail> {
         "proc factex; model e=(A A*B A|B*C|D@2 A-C) n=(size); blocks size=min; examine; examine aliasing design aberration;",
         "proc factex; output out=out randomize(7) novalran blockname=b nvals=(1 -2 .5) x cvals=('lo' 'hi') pointrep=2 designrep=3;",
     ];
-    for program in PROGRAMS {
+    for program in &PROGRAMS {
         assert!(rt;
             refusal(&rt, rt.alloc(), program.as_bytes())?.is_none(),
             "{program}"

@@ -97,8 +97,8 @@ fn bars_refusal(
 
 #[test]
 fn limits_of_effects_and_pairs_are_exact_to_a_factor(rt: HostRuntime) -> Result<(), Fail> {
-    for (first, second, wanted) in BARS {
-        assert!(rt; bars_refusal(&rt, rt.alloc(), first, second)? == wanted);
+    for (first, second, wanted) in &BARS {
+        assert!(rt; bars_refusal(&rt, rt.alloc(), *first, *second)? == *wanted);
     }
     Ok(())
 }

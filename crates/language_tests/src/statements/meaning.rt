@@ -99,9 +99,17 @@ fn sizes_and_models_have_their_meanings(rt: HostRuntime) -> Result<(), Fail> {
             false,
         ),
     ];
-    for (text, size, wanted, least) in CASES {
+    for (text, size, wanted, least) in &CASES {
         assert!(rt;
-            gives(&rt, rt.alloc(), text, size, wanted, least, Blocks::Without)?,
+            gives(
+                &rt,
+                rt.alloc(),
+                text,
+                *size,
+                *wanted,
+                *least,
+                Blocks::Without
+            )?,
             "{text}"
         );
     }
@@ -137,10 +145,10 @@ fn blocks_have_their_meanings(rt: HostRuntime) -> Result<(), Fail> {
             Blocks::Factors { t: 3 },
         ),
     ];
-    for (text, size, blocks) in CASES {
+    for (text, size, blocks) in &CASES {
         let wanted = Criterion::Resolution { r: 5 };
         assert!(rt;
-            gives(&rt, rt.alloc(), text, size, wanted, false, blocks)?,
+            gives(&rt, rt.alloc(), text, *size, wanted, false, *blocks)?,
             "{text}"
         );
     }
@@ -166,10 +174,10 @@ fn blocks_stand_with_effects(rt: HostRuntime) -> Result<(), Fail> {
             Blocks::PerBlock { k: 2 },
         ),
     ];
-    for (text, size, blocks) in CASES {
+    for (text, size, blocks) in &CASES {
         let wanted = Criterion::Effects;
         assert!(rt;
-            gives(&rt, rt.alloc(), text, size, wanted, false, blocks)?,
+            gives(&rt, rt.alloc(), text, *size, wanted, false, *blocks)?,
             "{text}"
         );
     }
@@ -209,7 +217,7 @@ fn effects_are_those_of_the_lists(rt: HostRuntime) -> Result<(), Fail> {
         ),
         ("model est=(C);", &[4], &[]),
     ];
-    for (text, estimate, nonnegligible) in CASES {
+    for (text, estimate, nonnegligible) in &CASES {
         assert!(rt;
             asks_for(&rt, rt.alloc(), text, estimate, nonnegligible)?,
             "{text}"

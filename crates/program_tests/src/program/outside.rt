@@ -164,7 +164,7 @@ fn ended_files(shelf: &MemoryShelf) -> usize {
 }
 
 /// What the words of a line leave, where what is listed is the beginning of this listing.
-pub(super) fn tally<R: Threads + Sync>(
+pub(super) fn tally_of<R: Threads + Sync>(
     rt: &R,
     alloc: Global,
     line: &str,
