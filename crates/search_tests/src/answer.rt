@@ -200,10 +200,10 @@ fn ends_so<R: Abort + Threads + Sync>(
 
 #[test]
 fn budgets_end_at_the_last_node_of_each_question(rt: HostRuntime) -> Result<(), Fail> {
-    for (step, budget, expected) in STEPS {
-        let text = text_of(rt.alloc(), budget, step)?;
+    for (step, budget, expected) in &STEPS {
+        let text = text_of(rt.alloc(), *budget, step)?;
         assert!(rt;
-            ends_so(&rt, rt.alloc(), text.as_slice(), expected)?,
+            ends_so(&rt, rt.alloc(), text.as_slice(), *expected)?,
             "{budget}{step}"
         );
     }

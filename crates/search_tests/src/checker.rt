@@ -39,7 +39,7 @@ fn good_books_are_accepted(rt: HostRuntime) -> Result<(), Fail> {
         "O 1\nO 2\nO 4\nO 7\nW 6 25\nW 5 26\nW 3 28\nW 6 14\nW 5 13\nW 3 11\n",
         "O 1\nO 2\nO 4\nO 7\nW 6 22\nW 5 26\nW 3 28\nW 6 14\nW 5 13\nW 3 11\n",
     ];
-    for entries in IN_EIGHT {
+    for entries in &IN_EIGHT {
         assert!(rt;
             judged_in_eight(rt.alloc(), entries)? == Verdict::Accepted,
             "{entries}"
@@ -50,7 +50,7 @@ fn good_books_are_accepted(rt: HostRuntime) -> Result<(), Fail> {
         "factex-book 1\nsize 3 2 5 0\nresolution 3\npattern none\nO 1\nO 3\nO 5\nO 4\nO 4\nEND\n",
         "factex-book 1\nsize 2 3 4 0\nresolution 3\npattern 0 0 0 1\nO 1\nO 2\nO 4\nP 7\nP 6\nP 5\nP 3\nEND\n",
     ];
-    for text in TEXTS {
+    for text in &TEXTS {
         assert!(rt;
             judged(rt.alloc(), text.as_bytes())? == Verdict::Accepted,
             "{text}"
@@ -82,9 +82,9 @@ fn each_reason_is_found(rt: HostRuntime) -> Result<(), Fail> {
         ),
         ("", 5, 6),
     ];
-    for (entries, line, code) in REJECTED {
+    for (entries, line, code) in &REJECTED {
         let verdict = judged_in_eight(rt.alloc(), entries)?;
-        assert!(rt; is_rejection(verdict, line, code), "{entries}");
+        assert!(rt; is_rejection(verdict, *line, *code), "{entries}");
     }
     Ok(())
 }
@@ -102,9 +102,16 @@ fn branches_end_and_patterns_are_compared(rt: HostRuntime) -> Result<(), Fail> {
             Reason::Beats,
         ),
     ];
-    for (text, reason) in REJECTED {
+    for (text, reason) in &REJECTED {
         let verdict = judged(rt.alloc(), text.as_bytes())?;
-        assert!(rt; verdict == Verdict::Rejected { line: 8, reason }, "{text}");
+        assert!(rt;
+            verdict
+                == Verdict::Rejected {
+                    line: 8,
+                    reason: *reason
+                },
+            "{text}"
+        );
     }
     Ok(())
 }
