@@ -339,8 +339,7 @@ fn has_four_blocks(rt: &impl Abort, alloc: Global, step: &Step) -> Result<bool, 
     let matrix = matrix_of(rt, in_blocks, &[1, 2, 4, 6, 5]);
     let has_both = has_runs_and_blocked(alloc, step, &matrix, FOUR_BLOCKS)?
         && step_has_aliases(alloc, step, &matrix, aliases)?;
-    let has_head =
-        has_rules_and_head(rt, alloc, step, End::Design, matrix, 16, FOUR_BLOCKS_HEAD)?;
+    let has_head = has_rules_and_head(rt, alloc, step, End::Design, matrix, 16, FOUR_BLOCKS_HEAD)?;
     Ok(has_both && has_head)
 }
 

@@ -6,7 +6,7 @@ mod outside;
 
 use fx_base::{Bytes, put};
 use fx_program::{Settings, make_text, read_words};
-use outside::{Limits, SURE, Tally, file_of, left_by, lists, shelves, tally_of, words_in};
+use outside::{Limits, Outside, SURE, Tally, file_of, left_by, lists, shelves, tally_of, words_in};
 use std::alloc::Global;
 use std::test::Fail;
 use std::thread::Threads;
@@ -237,8 +237,16 @@ const PROGRAMS: [(&str, &str, u8); 43] = [
 
 #[test]
 fn programs_have_their_listing(rt: HostRuntime) -> Result<(), Fail> {
-    for (text, listing, status) in PROGRAMS {
-        let is_so = lists(&rt, rt.alloc(), "run", text.as_bytes(), SURE, status, listing)?;
+    for (text, listing, status) in &PROGRAMS {
+        let is_so = lists(
+            &rt,
+            rt.alloc(),
+            "run",
+            text.as_bytes(),
+            SURE,
+            *status,
+            listing,
+        )?;
         assert!(rt; is_so, "{text}");
     }
     Ok(())
@@ -424,6 +432,11 @@ fn is_message(listed: &[u8], message: &str) -> bool {
     }
 }
 
+/// Whether just this message is listed, and no call failed.
+fn is_told(left: &Outside, message: &str) -> bool {
+    left.status == 3 && left.faults() == 0 && is_message(left.listing.bytes(), message)
+}
+
 /// Whether the words of a line list just this message of a text, and no call fails.
 fn tells<R: Threads + Sync>(
     rt: &R,
@@ -434,14 +447,14 @@ fn tells<R: Threads + Sync>(
     message: &str,
 ) -> Result<bool, Fail> {
     let left = left_by(rt, alloc, line, text, limits)?;
-    Ok(left.status == 3 && left.faults() == 0 && is_message(left.listing.bytes(), message))
+    Ok(is_told(&left, message))
 }
 
 #[test]
 fn faults_of_a_text_are_told(rt: HostRuntime) -> Result<(), Fail> {
-    for (text, message) in REFUSED {
-        let is_told = tells(&rt, rt.alloc(), "run", text.as_bytes(), SURE, message)?;
-        assert!(rt; is_told, "{text}");
+    for (text, message) in &REFUSED {
+        let is_so = tells(&rt, rt.alloc(), "run", text.as_bytes(), SURE, message)?;
+        assert!(rt; is_so, "{text}");
     }
     Ok(())
 }
@@ -472,8 +485,8 @@ const SEEDS: [(&str, &str, &str); 3] = [
 /// The seed of the command line is that of a plan that has none of its own.
 #[test]
 fn the_seed_of_the_words_shuffles(rt: HostRuntime) -> Result<(), Fail> {
-    for (line, listing, plan) in SEEDS {
-        let files = [("x.csv", plan), ("y.csv", "A,B\n1,1\n-1,-1\n1,-1\n-1,1\n")];
+    for (line, listing, plan) in &SEEDS {
+        let files = [("x.csv", *plan), ("y.csv", "A,B\n1,1\n-1,-1\n1,-1\n-1,1\n")];
         let is_so = shelves(&rt, rt.alloc(), line, SEEDED, SURE, 0, listing, &files)?;
         assert!(rt; is_so, "{line}");
     }
@@ -507,9 +520,9 @@ const REFUSED_WORDS: [(&str, &str); 21] = [
 
 #[test]
 fn refused_words_are_told(rt: HostRuntime) -> Result<(), Fail> {
-    for (line, message) in REFUSED_WORDS {
-        let is_told = tells(&rt, rt.alloc(), line, HALF.as_bytes(), UNREAD, message)?;
-        assert!(rt; is_told, "{line}");
+    for (line, message) in &REFUSED_WORDS {
+        let is_so = tells(&rt, rt.alloc(), line, HALF.as_bytes(), UNREAD, message)?;
+        assert!(rt; is_so, "{line}");
     }
     Ok(())
 }
@@ -522,13 +535,14 @@ fn are_settings(alloc: Global, line: &str, settings: Settings) -> Result<bool, F
 
 #[test]
 fn numbers_of_steps_are_read(rt: HostRuntime) -> Result<(), Fail> {
-    for (line, settings) in [
+    const WORDS: [(&str, Settings); 4] = [
         ("make 1", Settings::Make { n: 1 }),
         ("make 100", Settings::Make { n: 100 }),
         ("make 00000000000000000012", Settings::Make { n: 12 }),
         ("large 40", Settings::Large { n: 40, threads: 1 }),
-    ] {
-        assert!(rt; are_settings(rt.alloc(), line, settings)?, "{line}");
+    ];
+    for (line, settings) in &WORDS {
+        assert!(rt; are_settings(rt.alloc(), line, *settings)?, "{line}");
     }
     Ok(())
 }
@@ -606,19 +620,30 @@ fn texts_are_made(rt: HostRuntime) -> Result<(), Fail> {
     make_text(24, &mut text)?;
     assert!(rt; text.len() == 3 * TWELVE.len());
     assert!(rt; text.as_slice().ends_with(TWELVE.as_bytes()));
-    assert!(rt; lists(&rt, rt.alloc(), "make 12", HALF.as_bytes(), UNREAD, 0, TWELVE)?);
+    assert!(rt;
+        lists(
+            &rt,
+            rt.alloc(),
+            "make 12",
+            HALF.as_bytes(),
+            UNREAD,
+            0,
+            TWELVE
+        )?
+    );
     Ok(())
 }
 
 #[test]
 fn large_sums_up(rt: HostRuntime) -> Result<(), Fail> {
-    for (line, summary) in [
+    const SUMMARIES: [(&str, &str); 2] = [
         ("large 1", "steps 1\ndesigns 1\nnone 0\nended 0\nnodes 55\n"),
         (
             "large 2",
             "steps 2\ndesigns 2\nnone 0\nended 0\nnodes 106\n",
         ),
-    ] {
+    ];
+    for (line, summary) in &SUMMARIES {
         let is_so = lists(&rt, rt.alloc(), line, HALF.as_bytes(), UNREAD, 0, summary)?;
         assert!(rt; is_so, "{line}");
     }
@@ -766,8 +791,8 @@ const QUOTED_PLAN: &[u8] = b"A,B,C\n10,,-1\n10,\"\xe9\n\r\",1\n-2.5,,1\n-2.5,\"\
 
 #[test]
 fn plans_are_shelved(rt: HostRuntime) -> Result<(), Fail> {
-    for (text, listing, files, status) in PLANNED {
-        let is_so = shelves(&rt, rt.alloc(), "run", text, SURE, status, listing, files)?;
+    for (text, listing, files, status) in &PLANNED {
+        let is_so = shelves(&rt, rt.alloc(), "run", text, SURE, *status, listing, files)?;
         assert!(rt; is_so, "{text}");
     }
     let plan = file_of(&rt, rt.alloc(), QUOTED, SURE, 0, QUOTED_LISTING)?;
@@ -778,7 +803,9 @@ fn plans_are_shelved(rt: HostRuntime) -> Result<(), Fail> {
 /// Whether the status is 4 after a failed call on the shelf, nothing is listed, and no file is ended.
 fn is_after_file(left: Option<Tally>, files: usize) -> bool {
     match left {
-        Some(left) => left.status == 4 && left.file_faults == 1 && left.listed == 0
+        Some(left) => left.status == 4
+            && left.file_faults == 1
+            && left.listed == 0
             && left.files == files
             && left.ended == 0,
         None => false,
@@ -833,7 +860,17 @@ fn many_steps(alloc: Global) -> Result<Bytes, Fail> {
 #[test]
 fn long_texts_are_read(rt: HostRuntime) -> Result<(), Fail> {
     let text = long_text(rt.alloc(), false)?;
-    assert!(rt; lists(&rt, rt.alloc(), "run", text.as_slice(), SURE, 0, HALF_LISTING)?);
+    assert!(rt;
+        lists(
+            &rt,
+            rt.alloc(),
+            "run",
+            text.as_slice(),
+            SURE,
+            0,
+            HALF_LISTING
+        )?
+    );
     let text = long_text(rt.alloc(), true)?;
     let message = "E25 1:1 text is over 1048576 bytes";
     assert!(rt; tells(&rt, rt.alloc(), "run", text.as_slice(), SURE, message)?);

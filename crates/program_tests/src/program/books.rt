@@ -76,8 +76,8 @@ const BOOKS: [(&str, &str, &[(&str, &str)], u8); 6] = [
 
 #[test]
 fn books_are_shelved(rt: HostRuntime) -> Result<(), Fail> {
-    for (text, listing, files, status) in BOOKS {
-        let is_so = shelves(&rt, rt.alloc(), "run", text, SURE, status, listing, files)?;
+    for (text, listing, files, status) in &BOOKS {
+        let is_so = shelves(&rt, rt.alloc(), "run", text, SURE, *status, listing, files)?;
         assert!(rt; is_so, "{text}");
     }
     Ok(())
@@ -97,7 +97,11 @@ fn the_book_of_a_least_pattern_is_accepted(rt: HostRuntime) -> Result<(), Fail> 
     let book = file_of(&rt, rt.alloc(), LEAST.as_bytes(), SURE, 0, LEAST_LISTING)?;
     let head = "factex-book 1\nsize 2 5 7 0\nresolution 3\npattern 0 0 0 1 2 0 0\n";
     assert!(rt; book.as_slice().starts_with(head.as_bytes()));
-    let lines = book.as_slice().iter().filter(|byte| **byte == b'\n').count();
+    let lines = book
+        .as_slice()
+        .iter()
+        .filter(|byte| **byte == b'\n')
+        .count();
     assert!(rt; lines == 4 + 282 + 1);
     let listing = "accepted\nsize 2 5 7 0\nresolution 3\npattern 0 0 0 1 2 0 0\n";
     assert!(rt; lists(&rt, rt.alloc(), "check", book.as_slice(), SURE, 0, listing)?);
@@ -148,8 +152,16 @@ const JUDGED: [(&str, &str, u8); 9] = [
 
 #[test]
 fn books_are_judged(rt: HostRuntime) -> Result<(), Fail> {
-    for (book, listing, status) in JUDGED {
-        let is_so = lists(&rt, rt.alloc(), "check", book.as_bytes(), SURE, status, listing)?;
+    for (book, listing, status) in &JUDGED {
+        let is_so = lists(
+            &rt,
+            rt.alloc(),
+            "check",
+            book.as_bytes(),
+            SURE,
+            *status,
+            listing,
+        )?;
         assert!(rt; is_so, "{listing}");
     }
     Ok(())

@@ -215,24 +215,25 @@ fn makes_calls<R: Threads + Sync + Abort>(
     line: &str,
     text: &str,
     step: usize,
-    wanted: [usize; 3],
+    wanted: &[usize; 3],
     whole: &Left,
 ) -> Result<(), Fail> {
-    for (failing, calls) in [Failing::Reads, Failing::Writes, Failing::Files]
-        .iter()
-        .zip(wanted)
-    {
-        let made = needed(rt, alloc, line, text, step, *failing, whole)?;
-        assert!(rt; made == calls, "{line} {text}");
-    }
+    let reads = needed(rt, alloc, line, text, step, Failing::Reads, whole)?;
+    let writes = needed(rt, alloc, line, text, step, Failing::Writes, whole)?;
+    let files = needed(rt, alloc, line, text, step, Failing::Files, whole)?;
+    assert!(rt; [reads, writes, files] == *wanted, "{line} {text}");
     Ok(())
 }
 
 #[test]
 fn each_call_fails_in_turn(rt: HostRuntime) -> Result<(), Fail> {
-    for (line, text, step, calls) in CALLS {
-        let whole = run_within(&rt, rt.alloc(), line, text, Limits { step, ..SURE })?;
-        makes_calls(&rt, rt.alloc(), line, text, step, calls, &whole)?;
+    for (line, text, step, calls) in &CALLS {
+        let limits = Limits {
+            step: *step,
+            ..SURE
+        };
+        let whole = run_within(&rt, rt.alloc(), line, text, limits)?;
+        makes_calls(&rt, rt.alloc(), line, text, *step, calls, &whole)?;
     }
     Ok(())
 }
@@ -252,7 +253,8 @@ fn takes_room<R: Threads + Sync>(
 /// Each byte in turn finds no room. A file takes 64 bytes of the room, and its content.
 #[test]
 fn each_byte_fails_in_turn(rt: HostRuntime) -> Result<(), Fail> {
-    for text in [TWO_PLANS, CLASSES, LEAST, ALL] {
+    const TEXTS: [&str; 4] = [TWO_PLANS, CLASSES, LEAST, ALL];
+    for text in &TEXTS {
         let whole = run_within(&rt, rt.alloc(), "run", text, Limits { step: 1, ..SURE })?;
         assert!(rt; takes_room(&rt, rt.alloc(), text, &whole)?, "{text}");
     }
@@ -324,7 +326,10 @@ fn each_leaves<R: Threads + Sync + Abort>(
 ) -> Result<(), Fail> {
     for (failing, from, files, listing) in cases {
         let limits = limits_of(*failing, *from, PIECE);
-        assert!(rt; leaves(rt, alloc, text, limits, whole, files, listing)?, "{files}");
+        assert!(rt;
+            leaves(rt, alloc, text, limits, whole, files, listing)?,
+            "{files}"
+        );
     }
     Ok(())
 }

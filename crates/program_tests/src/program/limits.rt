@@ -39,13 +39,19 @@ fn has_design<R: Threads + Sync>(rt: &R, alloc: Global, q: u32, size: u32) -> Re
 /// Whether so many runs are refused.
 fn is_too_large<R: Threads + Sync>(rt: &R, alloc: Global, q: u32, size: u32) -> Result<bool, Fail> {
     let text = format!(in alloc; "proc factex;factors A/nlev={q};size design={size};model r=3;")?;
-    runs(rt, alloc, text.as_str(), 3, "factex: E9 1:42 more than 1024 runs\n")
+    runs(
+        rt,
+        alloc,
+        text.as_str(),
+        3,
+        "factex: E9 1:42 more than 1024 runs\n",
+    )
 }
 
 /// Each number of levels with its greatest power of at most 1,024.
 #[test]
 fn at_most_1024_runs_for_each_number_of_levels(rt: HostRuntime) -> Result<(), Fail> {
-    for (q, size) in [
+    const SIZES: [(u32, u32); 7] = [
         (2, 1024),
         (3, 729),
         (4, 1024),
@@ -53,9 +59,10 @@ fn at_most_1024_runs_for_each_number_of_levels(rt: HostRuntime) -> Result<(), Fa
         (7, 343),
         (8, 512),
         (9, 729),
-    ] {
-        assert!(rt; has_design(&rt, rt.alloc(), q, size)?);
-        assert!(rt; is_too_large(&rt, rt.alloc(), q, size.saturating_mul(q))?);
+    ];
+    for (q, size) in &SIZES {
+        assert!(rt; has_design(&rt, rt.alloc(), *q, *size)?);
+        assert!(rt; is_too_large(&rt, rt.alloc(), *q, size.saturating_mul(*q))?);
     }
     Ok(())
 }
@@ -67,10 +74,22 @@ const TEXT: &str = "factors A;model r=3;";
 const LISTING: &str =
     "step 1\nfactors 1 levels 2\ndesign 2 runs\nno defining words\nnodes 1\nrules\n  none\n";
 
+/// Whether the words of a line and so many nodes lead to this status and this listing.
+fn runs_with<R: Threads + Sync>(
+    rt: &R,
+    alloc: Global,
+    line: &str,
+    nodes: &str,
+    status: u8,
+    listing: &str,
+) -> Result<bool, Fail> {
+    let text = format!(in alloc; "proc factex nodes={nodes};{TEXT}")?;
+    lists(rt, alloc, line, text.as_bytes(), ROOMY, status, listing)
+}
+
 #[test]
 fn budgets_and_threads_have_limits(rt: HostRuntime) -> Result<(), Fail> {
-    let alloc = rt.alloc();
-    for (line, nodes, status, listing) in [
+    const ASKED: [(&str, &str, u8, &str); 9] = [
         ("run", "1", 0, LISTING),
         ("run", "5000000", 0, LISTING),
         ("run", "0", 3, "factex: E29 1:19 number is out of range\n"),
@@ -85,9 +104,12 @@ fn budgets_and_threads_have_limits(rt: HostRuntime) -> Result<(), Fail> {
         ("run --threads=0", "1", 3, "factex: C4 word 2\n"),
         ("run --threads=65", "1", 3, "factex: C4 word 2\n"),
         ("large 1 --threads=65", "1", 3, "factex: C4 word 3\n"),
-    ] {
-        let text = format!(in alloc; "proc factex nodes={nodes};{TEXT}")?;
-        assert!(rt; lists(&rt, alloc, line, text.as_bytes(), ROOMY, status, listing)?, "{line}");
+    ];
+    for (line, nodes, status, listing) in &ASKED {
+        assert!(rt;
+            runs_with(&rt, rt.alloc(), line, nodes, *status, listing)?,
+            "{line}"
+        );
     }
     Ok(())
 }
@@ -98,7 +120,15 @@ fn names_have_at_most_32_bytes(rt: HostRuntime) -> Result<(), Fail> {
     let text = "proc factex;factors A2345678901234567890123456789012;model r=3;";
     assert!(rt; runs(&rt, rt.alloc(), text, 0, LISTING)?);
     let text = "proc factex;factors A23456789012345678901234567890123;model r=3;";
-    assert!(rt; runs(&rt, rt.alloc(), text, 3, "factex: L5 1:21 name is too long\n")?);
+    assert!(rt;
+        runs(
+            &rt,
+            rt.alloc(),
+            text,
+            3,
+            "factex: L5 1:21 name is too long\n"
+        )?
+    );
     Ok(())
 }
 
@@ -155,7 +185,15 @@ fn a_plan_has_at_most_200000_rows(rt: HostRuntime) -> Result<(), Fail> {
     assert!(rt; plan.len() == 500002 && count(plan.as_slice(), b'\n') == 200001);
     assert!(rt; plan.as_slice().ends_with("\n1\n1\n".as_bytes()));
     let text = "proc factex;factors A;model r=3;output out=a pointrep=100001;";
-    assert!(rt; runs(&rt, rt.alloc(), text, 3, "factex: E21 1:44 more than 200000 rows\n")?);
+    assert!(rt;
+        runs(
+            &rt,
+            rt.alloc(),
+            text,
+            3,
+            "factex: E21 1:44 more than 200000 rows\n"
+        )?
+    );
     Ok(())
 }
 

@@ -130,6 +130,11 @@ pub(super) fn left_by<R: Threads + Sync>(
     Ok(objects)
 }
 
+/// Whether the status and the listing are these, and no call failed.
+fn has_listed(left: &Outside, status: u8, listing: &str) -> bool {
+    left.status == status && left.faults() == 0 && left.listing.bytes() == listing.as_bytes()
+}
+
 /// Whether the words of a line end with this status and list just this of a text, and no call fails.
 pub(super) fn lists<R: Threads + Sync>(
     rt: &R,
@@ -141,7 +146,7 @@ pub(super) fn lists<R: Threads + Sync>(
     listing: &str,
 ) -> Result<bool, Fail> {
     let left = left_by(rt, alloc, line, text, limits)?;
-    Ok(left.status == status && left.faults() == 0 && left.listing.bytes() == listing.as_bytes())
+    Ok(has_listed(&left, status, listing))
 }
 
 /// What a call of `factex` left, in numbers.
@@ -163,6 +168,22 @@ fn ended_files(shelf: &MemoryShelf) -> usize {
     (0..shelf.files()).filter(|i| shelf.is_ended(*i)).count()
 }
 
+/// The numbers of what is left, where what is listed is the beginning of this listing.
+fn numbers_of(left: &Outside, listing: &str) -> Option<Tally> {
+    if !listing.as_bytes().starts_with(left.listing.bytes()) {
+        return None;
+    }
+    Some(Tally {
+        status: left.status,
+        read_faults: left.source.faults(),
+        write_faults: left.listing.faults(),
+        file_faults: left.shelf.faults(),
+        listed: left.listing.bytes().len(),
+        files: left.shelf.files(),
+        ended: ended_files(&left.shelf),
+    })
+}
+
 /// What the words of a line leave, where what is listed is the beginning of this listing.
 pub(super) fn tally_of<R: Threads + Sync>(
     rt: &R,
@@ -173,18 +194,7 @@ pub(super) fn tally_of<R: Threads + Sync>(
     listing: &str,
 ) -> Result<Option<Tally>, Fail> {
     let left = left_by(rt, alloc, line, text, limits)?;
-    if !listing.as_bytes().starts_with(left.listing.bytes()) {
-        return Ok(None);
-    }
-    Ok(Some(Tally {
-        status: left.status,
-        read_faults: left.source.faults(),
-        write_faults: left.listing.faults(),
-        file_faults: left.shelf.faults(),
-        listed: left.listing.bytes().len(),
-        files: left.shelf.files(),
-        ended: ended_files(&left.shelf),
-    }))
+    Ok(numbers_of(&left, listing))
 }
 
 /// Whether a file of the shelf is whole, with this name and this content.
@@ -205,6 +215,13 @@ fn has_files(shelf: &MemoryShelf, files: &[(&str, &str)]) -> bool {
     shelf.files() == files.len()
 }
 
+/// Whether the status, the listing and the files are these.
+fn has_left(left: &Outside, status: u8, listing: &str, files: &[(&str, &str)]) -> bool {
+    left.status == status
+        && left.listing.bytes() == listing.as_bytes()
+        && has_files(&left.shelf, files)
+}
+
 /// Whether a run of a text ends with this status, and leaves this listing and these files.
 pub(super) fn shelves<R: Threads + Sync>(
     rt: &R,
@@ -217,14 +234,23 @@ pub(super) fn shelves<R: Threads + Sync>(
     files: &[(&str, &str)],
 ) -> Result<bool, Fail> {
     let left = left_by(rt, alloc, line, text.as_bytes(), limits)?;
-    Ok(
-        left.status == status
-            && left.listing.bytes() == listing.as_bytes()
-            && has_files(&left.shelf, files),
-    )
+    Ok(has_left(&left, status, listing, files))
 }
 
-/// The only file that a run of a text leaves, with this status and this listing.
+/// The content of the only file, where the status and the listing are these, or nothing.
+fn only_file<'a>(left: &'a Outside, status: u8, listing: &str) -> &'a [u8] {
+    if left.status == status
+        && left.listing.bytes() == listing.as_bytes()
+        && left.shelf.files() == 1
+        && left.shelf.is_ended(0)
+    {
+        left.shelf.content(0)
+    } else {
+        "".as_bytes()
+    }
+}
+
+/// The only file that a run of a text leaves, with this status and this listing, or nothing.
 pub(super) fn file_of<R: Threads + Sync>(
     rt: &R,
     alloc: Global,
@@ -234,12 +260,5 @@ pub(super) fn file_of<R: Threads + Sync>(
     listing: &str,
 ) -> Result<Bytes, Fail> {
     let left = left_by(rt, alloc, "run", text, limits)?;
-    if left.status == status
-        && left.listing.bytes() == listing.as_bytes()
-        && left.shelf.files() == 1
-        && left.shelf.is_ended(0)
-    {
-        return Ok(Bytes::from_slice(alloc, left.shelf.content(0))?);
-    }
-    Err(Fail::new("another status, another listing or no file"))
+    Ok(Bytes::from_slice(alloc, only_file(&left, status, listing))?)
 }
