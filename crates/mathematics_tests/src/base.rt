@@ -67,12 +67,12 @@ fn is_too_long(alloc: Global, text: &[u8], limit: usize) -> Result<bool, ReadSto
 
 #[test]
 fn more_than_the_limit_is_too_long(rt: HostRuntime) -> Result<(), Fail> {
-    for limit in [5, 6, usize::MAX] {
-        assert!(rt; is_read(rt.alloc(), b"abcde", limit)?, "at {limit}");
+    const FITTING: [usize; 3] = [5, 6, usize::MAX];
+    for limit in &FITTING {
+        assert!(rt; is_read(rt.alloc(), b"abcde", *limit)?, "at {limit}");
     }
-    for limit in [0, 4] {
-        assert!(rt; is_too_long(rt.alloc(), b"abcde", limit)?, "at {limit}");
-    }
+    assert!(rt; is_too_long(rt.alloc(), b"abcde", 0)?);
+    assert!(rt; is_too_long(rt.alloc(), b"abcde", 4)?);
     Ok(())
 }
 
@@ -96,9 +96,9 @@ fn reads(source: &mut MemorySource, numbers: &[Option<usize>], left: &[u8; 4]) -
 
 #[test]
 fn a_source_fails_at_its_second_call(rt: HostRuntime) -> Result<(), Fail> {
-    let numbers = [Some(2), None, Some(2), Some(1), Some(0)];
+    const NUMBERS: [Option<usize>; 5] = [Some(2), None, Some(2), Some(1), Some(0)];
     let mut source = source(rt.alloc())?;
-    assert!(rt; reads(&mut source, &numbers, b"ed\0\0"));
+    assert!(rt; reads(&mut source, &NUMBERS, b"ed\0\0"));
     assert_eq!(rt; source.faults(), 1);
     Ok(())
 }
@@ -134,7 +134,8 @@ fn sink(alloc: Global) -> Result<MemorySink, NoMemory> {
 #[test]
 fn a_sink_fails_where_its_room_is_used_up(rt: HostRuntime) -> Result<(), Fail> {
     let mut sink = sink(rt.alloc())?;
-    assert!(rt; writes(&mut sink, &[Some(3), None, Some(2), None]));
+    const TAKEN: [Option<usize>; 4] = [Some(3), None, Some(2), None];
+    assert!(rt; writes(&mut sink, &TAKEN));
     assert!(rt; sink.bytes() == b"abcab".as_slice() && sink.faults() == 2);
     Ok(())
 }

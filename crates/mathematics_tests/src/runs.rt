@@ -197,27 +197,24 @@ fn three_runs(alloc: Global) -> Result<Runs, NoMemory>
     Ok(runs)
 }
 
-/// Whether a factor is constant over the runs, balanced and constant in blocks.
-fn judged(runs: &Runs) -> (bool, bool, bool)
+/// How many of these hold: a factor is constant over the runs, balanced, and constant in blocks.
+fn count_of_truths(runs: &Runs) -> u8
     requires { runs.now.shape ≡ record { q = 2; m = 1; s = 1; t = 0 } }
 {
     let u = Vector::of_number(ONE_FACTOR.field(), 1, 1);
-    (
-        is_constant(&u, runs),
-        is_balanced(&u, runs),
-        constant_in_blocks(&u, runs),
-    )
+    let constant = u8::from(is_constant(&u, runs));
+    let balanced = u8::from(is_balanced(&u, runs));
+    constant + balanced + u8::from(constant_in_blocks(&u, runs))
 }
 
 /// The runs 0, 0 and 1 are neither constant nor balanced, and no runs are both.
 #[test]
 fn any_runs_are_judged(rt: HostRuntime) -> Result<(), Fail> {
     let none = Runs::new(rt.alloc(), ONE_FACTOR);
-    assert!(rt; none.is_empty() && judged(&none) == (true, true, true));
+    assert!(rt; none.is_empty() && count_of_truths(&none) == 3);
     let runs = three_runs(rt.alloc())?;
     assert!(rt; runs.len() == 3);
-    assert!(rt; block_number(&runs, 2) == 1);
-    assert!(rt; judged(&runs) == (false, false, false));
+    assert!(rt; block_number(&runs, 2) == 1 && count_of_truths(&runs) == 0);
     Ok(())
 }
 
@@ -316,12 +313,11 @@ const TWO_LEVEL_CASES: [(u8, [u16; 4], bool); 7] = [
 #[test]
 fn resolutions_are_met(rt: HostRuntime) -> Result<(), Fail> {
     let alloc = rt.alloc();
-    for (r, rows, is_met) in TWO_LEVEL_CASES {
-        assert!(rt; met_at(alloc, TWO_LEVELS, r, &rows)? == Some(is_met));
+    for (r, rows, is_met) in &TWO_LEVEL_CASES {
+        assert!(rt; met_at(alloc, TWO_LEVELS, *r, rows)? == Some(*is_met));
     }
-    for (r, is_met) in [(3, true), (4, false)] {
-        assert!(rt; met_at(alloc, THREE_LEVELS, r, &[1, 3, 4, 7])? == Some(is_met));
-    }
+    assert!(rt; met_at(alloc, THREE_LEVELS, 3, &[1, 3, 4, 7])? == Some(true));
+    assert!(rt; met_at(alloc, THREE_LEVELS, 4, &[1, 3, 4, 7])? == Some(false));
     Ok(())
 }
 
@@ -330,12 +326,12 @@ fn resolutions_are_met(rt: HostRuntime) -> Result<(), Fail> {
 fn an_interaction_is_told_from_main_effects(rt: HostRuntime) -> Result<(), Fail> {
     let effects = [Effect(1), Effect(2), Effect(4), Effect(8), Effect(3)];
     let question = for_effects(rt.alloc(), TWO_LEVELS, &effects, &[])?;
-    let cases: [(&[u16], bool); 3] = [
+    const CASES: [(&[u16], bool); 3] = [
         (&[1, 2, 4, 7], true),
         (&[1, 2, 4, 3], false),
         (&[1, 2, 1, 7], false),
     ];
-    assert!(rt; are_met(rt.alloc(), &question, &cases)?);
+    assert!(rt; are_met(rt.alloc(), &question, &CASES)?);
     Ok(())
 }
 
@@ -343,8 +339,8 @@ fn an_interaction_is_told_from_main_effects(rt: HostRuntime) -> Result<(), Fail>
 #[test]
 fn an_effect_is_told_from_another_not_estimated(rt: HostRuntime) -> Result<(), Fail> {
     let question = for_effects(rt.alloc(), TWO_LEVELS, &[Effect(3)], &[Effect(12)])?;
-    let cases: [(&[u16], bool); 2] = [(&[1, 2, 4, 7], false), (&[1, 2, 4, 3], true)];
-    assert!(rt; are_met(rt.alloc(), &question, &cases)?);
+    const CASES: [(&[u16], bool); 2] = [(&[1, 2, 4, 7], false), (&[1, 2, 4, 3], true)];
+    assert!(rt; are_met(rt.alloc(), &question, &CASES)?);
     Ok(())
 }
 
@@ -352,8 +348,8 @@ fn an_effect_is_told_from_another_not_estimated(rt: HostRuntime) -> Result<(), F
 #[test]
 fn an_effect_is_told_from_zero(rt: HostRuntime) -> Result<(), Fail> {
     let question = for_effects(rt.alloc(), ONE_FACTOR, &[Effect(1)], &[])?;
-    let cases: [(&[u16], bool); 2] = [(&[1], true), (&[0], false)];
-    assert!(rt; are_met(rt.alloc(), &question, &cases)?);
+    const CASES: [(&[u16], bool); 2] = [(&[1], true), (&[0], false)];
+    assert!(rt; are_met(rt.alloc(), &question, &CASES)?);
     Ok(())
 }
 
@@ -361,8 +357,8 @@ fn an_effect_is_told_from_zero(rt: HostRuntime) -> Result<(), Fail> {
 #[test]
 fn two_factors_in_two_runs_are_not_told_apart(rt: HostRuntime) -> Result<(), Fail> {
     let question = for_effects(rt.alloc(), TWO_FACTORS, &[Effect(1), Effect(2)], &[])?;
-    let cases: [(&[u16], bool); 1] = [(&[1, 1], false)];
-    assert!(rt; are_met(rt.alloc(), &question, &cases)?);
+    const CASES: [(&[u16], bool); 1] = [(&[1, 1], false)];
+    assert!(rt; are_met(rt.alloc(), &question, &CASES)?);
     Ok(())
 }
 
@@ -371,8 +367,12 @@ fn two_factors_in_two_runs_are_not_told_apart(rt: HostRuntime) -> Result<(), Fai
 #[test]
 fn an_interaction_of_three_levels(rt: HostRuntime) -> Result<(), Fail> {
     let question = for_effects(rt.alloc(), NINE_RUNS, &[Effect(3)], &[Effect(4)])?;
-    let cases: [(&[u16], bool); 3] = [(&[1, 3, 4], false), (&[1, 3, 7], false), (&[1, 3, 1], true)];
-    assert!(rt; are_met(rt.alloc(), &question, &cases)?);
+    const CASES: [(&[u16], bool); 3] = [
+        (&[1, 3, 4], false),
+        (&[1, 3, 7], false),
+        (&[1, 3, 1], true),
+    ];
+    assert!(rt; are_met(rt.alloc(), &question, &CASES)?);
     Ok(())
 }
 
@@ -401,11 +401,11 @@ const FOUR_BLOCK_CASES: [([u16; 5], bool); 3] = [
 #[test]
 fn main_effects_are_told_from_blocks(rt: HostRuntime) -> Result<(), Fail> {
     let alloc = rt.alloc();
-    for (r, rows, is_met) in BLOCK_CASES {
-        assert!(rt; met_at(alloc, IN_BLOCKS, r, &rows)? == Some(is_met));
+    for (r, rows, is_met) in &BLOCK_CASES {
+        assert!(rt; met_at(alloc, IN_BLOCKS, *r, rows)? == Some(*is_met));
     }
-    for (rows, is_met) in FOUR_BLOCK_CASES {
-        assert!(rt; met_at(alloc, FOUR_BLOCKS, 3, &rows)? == Some(is_met));
+    for (rows, is_met) in &FOUR_BLOCK_CASES {
+        assert!(rt; met_at(alloc, FOUR_BLOCKS, 3, rows)? == Some(*is_met));
     }
     Ok(())
 }
@@ -414,8 +414,8 @@ fn main_effects_are_told_from_blocks(rt: HostRuntime) -> Result<(), Fail> {
 #[test]
 fn an_interaction_is_told_from_blocks(rt: HostRuntime) -> Result<(), Fail> {
     let question = for_effects(rt.alloc(), IN_BLOCKS, &[Effect(1), Effect(3)], &[])?;
-    let cases: [(&[u16], bool); 2] = [(&[1, 2, 4, 7], true), (&[1, 2, 4, 3], false)];
-    assert!(rt; are_met(rt.alloc(), &question, &cases)?);
+    const CASES: [(&[u16], bool); 2] = [(&[1, 2, 4, 7], true), (&[1, 2, 4, 3], false)];
+    assert!(rt; are_met(rt.alloc(), &question, &CASES)?);
     Ok(())
 }
 

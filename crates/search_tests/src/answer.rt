@@ -181,7 +181,17 @@ fn step_ends_so<R: Threads + Sync>(
     Ok(has_ended(&outcome, expected))
 }
 
-/// Whether the step of a text ends so, by one thread and by three.
+/// Whether a step ends so by one thread and by three.
+fn both_end_so<R: Threads + Sync>(
+    rt: &R,
+    alloc: Global,
+    step: &Step,
+    expected: Ended,
+) -> Result<bool, NoMemory> {
+    Ok(step_ends_so(rt, alloc, step, 1, expected)? && step_ends_so(rt, alloc, step, 3, expected)?)
+}
+
+/// Whether the step of a text does.
 fn ends_so<R: Abort + Threads + Sync>(
     rt: &R,
     alloc: Global,
@@ -190,10 +200,7 @@ fn ends_so<R: Abort + Threads + Sync>(
 ) -> Result<bool, Fail> {
     let program = program_of(rt, alloc, text)?;
     match program.as_slice() {
-        [step] => Ok(
-            step_ends_so(rt, alloc, step, 1, expected)?
-                && step_ends_so(rt, alloc, step, 3, expected)?,
-        ),
+        [step] => Ok(both_end_so(rt, alloc, step, expected)?),
         _ => Ok(false),
     }
 }

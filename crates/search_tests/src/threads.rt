@@ -4,21 +4,15 @@ ghost use Rattle.fx_vectors.specs.Shape.{IsShape};
 
 use crate::board::Holding;
 use crate::questions::{main_effects, question, shape_of};
+use crate::searches::are_same_marks;
 use fx_base::NoMemory;
 use fx_board::{Alone, Asked, FreeGate, Gate, ask, ask_after};
 use fx_search::ask_alone;
-use fx_vectors::{Marks, Question, Shape};
+use fx_vectors::{Question, Shape};
 use std::alloc::Global;
 use std::sync::atomic::{AtomicU64, Ordering};
 use std::test::Fail;
 use std::thread::Threads;
-
-fn are_same_marks(one: &Marks, other: &Marks) -> bool {
-    let same = (0..one.len()).all(|i| i < one.len()
-        && i < other.len()
-        && one.get(i) == other.get(i));
-    same && one.len() == other.len()
-}
 
 /// Whether both answers are the same, with the same nodes and marks.
 fn are_same(one: &Asked, other: &Asked) -> bool {

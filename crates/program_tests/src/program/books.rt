@@ -1,5 +1,6 @@
 ghost use Rattle.std.specs.Prelude.{◌<◌};
 
+use super::outside::count;
 use super::*;
 
 /// That no five factors of two levels have resolution 4 in eight runs.
@@ -97,12 +98,7 @@ fn the_book_of_a_least_pattern_is_accepted(rt: HostRuntime) -> Result<(), Fail> 
     let book = file_of(&rt, rt.alloc(), LEAST.as_bytes(), SURE, 0, LEAST_LISTING)?;
     let head = "factex-book 1\nsize 2 5 7 0\nresolution 3\npattern 0 0 0 1 2 0 0\n";
     assert!(rt; book.as_slice().starts_with(head.as_bytes()));
-    let lines = book
-        .as_slice()
-        .iter()
-        .filter(|byte| **byte == b'\n')
-        .count();
-    assert!(rt; lines == 4 + 282 + 1);
+    assert!(rt; count(book.as_slice(), b'\n') == 4 + 282 + 1);
     let listing = "accepted\nsize 2 5 7 0\nresolution 3\npattern 0 0 0 1 2 0 0\n";
     assert!(rt; lists(&rt, rt.alloc(), "check", book.as_slice(), SURE, 0, listing)?);
     Ok(())

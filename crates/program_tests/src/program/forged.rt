@@ -1,7 +1,7 @@
 //! Small books, each of whose lines is changed in turn. What `check` lists of them was found by a checker in
 //! another language, written from what docs/BOOKS.md says of books.
 use super::books::NO_FIVE;
-use super::outside::{SURE, left_by};
+use super::outside::{SURE, count, left_by};
 use fx_base::{Bytes, NoMemory, put};
 use std::alloc::Global;
 use std::process::Abort;
@@ -310,7 +310,7 @@ fn judge_each<R: Threads + Sync>(
     out: &mut Bytes,
 ) -> Result<(), Fail> {
     let mut rest = book;
-    for _line in book.iter().filter(|byte| **byte == b'\n') {
+    for _line in 0..count(book, b'\n') {
         let front = book.len().saturating_sub(rest.len());
         let (line, after) = first_line(rest);
         rest = after;

@@ -1,6 +1,6 @@
 //! Texts at each limit and one past it, where the language's own tests do not have them, and steps that need as
 //! many nodes as they may.
-use super::outside::{Limits, file_of, left_by, lists};
+use super::outside::{Limits, count, file_of, left_by, lists};
 use fx_base::{Bytes, NoMemory, put};
 use std::alloc::Global;
 use std::test::Fail;
@@ -168,11 +168,6 @@ fn a_hundred_steps_are_run(rt: HostRuntime) -> Result<(), Fail> {
         "step 100\nfactors 1 levels 2\ndesign 2 runs\nno defining words\nnodes 1\nrules\n  none\n";
     assert!(rt; ends_with(&rt, rt.alloc(), text.as_slice(), last)?);
     Ok(())
-}
-
-/// How often a byte is in a text.
-fn count(text: &[u8], byte: u8) -> usize {
-    text.iter().filter(|own| **own == byte).count()
 }
 
 /// A plan of as many rows as one may have: the first half of them with the low level.

@@ -165,7 +165,11 @@ pub(super) struct Tally {
 
 /// How many files of a shelf are ended.
 fn ended_files(shelf: &MemoryShelf) -> usize {
-    (0..shelf.files()).filter(|i| shelf.is_ended(*i)).count()
+    let mut ended = 0usize;
+    for i in 0..shelf.files() {
+        ended = ended.saturating_add(usize::from(shelf.is_ended(i)));
+    }
+    ended
 }
 
 /// The numbers of what is left, where what is listed is the beginning of this listing.
@@ -261,4 +265,13 @@ pub(super) fn file_of<R: Threads + Sync>(
 ) -> Result<Bytes, Fail> {
     let left = left_by(rt, alloc, "run", text, limits)?;
     Ok(Bytes::from_slice(alloc, only_file(&left, status, listing))?)
+}
+
+/// How often a byte is in a text.
+pub(super) fn count(text: &[u8], byte: u8) -> usize {
+    let mut count = 0usize;
+    for own in text {
+        count = count.saturating_add(usize::from(*own == byte));
+    }
+    count
 }
