@@ -9,10 +9,11 @@ use std::alloc::Global;
 use std::process::Abort;
 use std::test::Fail;
 
-fn names(alloc: Global, texts: &[&[u8]]) -> Result<Names, NoMemory> {
+/// The names in a text, between blanks.
+fn names(alloc: Global, text: &str) -> Result<Names, NoMemory> {
     let mut names = Names::new(alloc);
-    for text in texts {
-        names.push(Bytes::from_slice(alloc, *text)?)?;
+    for name in text.split_whitespace() {
+        names.push(Bytes::from_slice(alloc, name.as_bytes())?)?;
     }
     Ok(names)
 }
@@ -21,18 +22,17 @@ fn names(alloc: Global, texts: &[&[u8]]) -> Result<Names, NoMemory> {
 fn read(
     rt: &impl Abort,
     alloc: Global,
-    factors: &[&[u8]],
+    factors: &[Bytes],
     text: &[u8],
 ) -> Result<Result<ModelEffects, ParseStop>, Fail> {
     assert!(rt; text.len() <= 1048576);
+    assert!(rt; factors.len() <= 40);
+    let field = Field::of(3).expect(rt, "a number of levels");
     let tokens = lex(alloc, text)?;
     let symbols = symbols(alloc, text, &tokens)?;
     let lexemes = lexemes(alloc, text, &tokens, symbols.as_slice())?;
-    let factors = names(alloc, factors)?;
-    assert!(rt; factors.len() <= 40);
-    let field = Field::of(3).expect(rt, "a number of levels");
     let statement = Phrase::new(lexemes.as_slice());
-    Ok(effects_of(alloc, field, factors.as_slice(), &statement))
+    Ok(effects_of(alloc, field, factors, &statement))
 }
 
 /// Whether these are the effects, in order.
@@ -48,96 +48,117 @@ fn are(effects: &Effects, numbers: &[u64]) -> bool {
     true
 }
 
-#[test]
-fn both_lists_are_sets_in_effect_order(rt: HostRuntime) -> Result<(), Fail> {
-    let text = b"model estimate=(a*b*A x1-X3 a|b@1 X1) nonnegligible=(A|x3|B@2 b)";
-    let factors: [&[u8]; 5] = [b"A", b"B", b"X1", b"X2", b"X3"];
-    let read = read(&rt, rt.alloc(), &factors, text)?;
-    assert!(rt; read.is_ok());
-    if let Ok(effects) = read {
-        assert!(rt; are(&effects.estimate, &[1, 2, 4, 8, 16, 3]));
-        assert!(rt; are(&effects.nonnegligible, &[17, 18]));
+/// Tests that a statement asks for these effects in a step with these factors.
+fn asks_for(
+    rt: &impl Abort,
+    alloc: Global,
+    factors: &str,
+    text: &str,
+    estimate: &[u64],
+    nonnegligible: &[u64],
+) -> Result<(), Fail> {
+    let factors = names(alloc, factors)?;
+    match read(rt, alloc, factors.as_slice(), text.as_bytes())? {
+        Ok(effects) => assert!(rt;
+            are(&effects.estimate, estimate) && are(&effects.nonnegligible, nonnegligible)
+        ),
+        Err(_stop) => assert!(rt; false),
     }
     Ok(())
+}
+
+#[test]
+fn both_lists_are_sets_in_effect_order(rt: HostRuntime) -> Result<(), Fail> {
+    let text = "model estimate=(a*b*A x1-X3 a|b@1 X1) nonnegligible=(A|x3|B@2 b)";
+    let estimate = [1, 2, 4, 8, 16, 3];
+    asks_for(&rt, rt.alloc(), "A B X1 X2 X3", text, &estimate, &[17, 18])
 }
 
 #[test]
 fn repeated_bars_are_read_once(rt: HostRuntime) -> Result<(), Fail> {
-    let text = b"model estimate=(A|B@1 B|A A|B A*B|B) nonneg=(A|X1 X1|A|A*X1)";
-    let factors: [&[u8]; 3] = [b"A", b"B", b"X1"];
-    let read = read(&rt, rt.alloc(), &factors, text)?;
-    assert!(rt; read.is_ok());
-    if let Ok(effects) = read {
-        assert!(rt; are(&effects.estimate, &[1, 2, 3]));
-        assert!(rt; are(&effects.nonnegligible, &[4, 5]));
-    }
-    Ok(())
+    let text = "model estimate=(A|B@1 B|A A|B A*B|B) nonneg=(A|X1 X1|A|A*X1)";
+    asks_for(&rt, rt.alloc(), "A B X1", text, &[1, 2, 3], &[4, 5])
 }
 
 #[test]
 fn refused_where_the_rule_is_broken(rt: HostRuntime) -> Result<(), Fail> {
-    let cases: [(&[u8], u8, u32); 8] = [
-        (b"model estimate=(a c@0 x3-x1)", 4, 19),
-        (b"model estimate=(a x3-x1 c)", 30, 19),
-        (b"model estimate=(x1-x4)", 4, 17),
-        (b"model estimate=(a*b|x1*x2@1)", 29, 27),
-        (b"model estimate=(a) nonneg=(b@0)", 29, 30),
-        (b"model estimate=(a) n=(c)", 4, 23),
-        (b"model estimate=() n=(a)", 2, 7),
-        (b"model", 2, 1),
+    const CASES: [(&str, u8, u32); 8] = [
+        ("model estimate=(a c@0 x3-x1)", 4, 19),
+        ("model estimate=(a x3-x1 c)", 30, 19),
+        ("model estimate=(x1-x4)", 4, 17),
+        ("model estimate=(a*b|x1*x2@1)", 29, 27),
+        ("model estimate=(a) nonneg=(b@0)", 29, 30),
+        ("model estimate=(a) n=(c)", 4, 23),
+        ("model estimate=() n=(a)", 2, 7),
+        ("model", 2, 1),
     ];
-    let factors: [&[u8]; 5] = [b"A", b"B", b"X1", b"X2", b"X3"];
-    are_refused(&rt, rt.alloc(), &factors, &cases)
+    are_refused(&rt, rt.alloc(), "A B X1 X2 X3", &CASES)
 }
+
+/// The names of seventeen factors.
+const SEVENTEEN: &str = "A B C D E F G H I J K L M N O P Q";
 
 #[test]
 fn refused_where_there_are_too_many(rt: HostRuntime) -> Result<(), Fail> {
-    let factors: [&[u8]; 17] = [
-        b"A", b"B", b"C", b"D", b"E", b"F", b"G", b"H", b"I", b"J", b"K", b"L", b"M", b"N", b"O",
-        b"P", b"Q",
-    ];
-    let cases: [(&[u8], u8, u32); 4] = [
-        (b"model estimate=(A|B|C|D|E|F|G)", 22, 7),
+    const CASES: [(&str, u8, u32); 4] = [
+        ("model estimate=(A|B|C|D|E|F|G)", 22, 7),
         (
-            b"model estimate=(A|B|C|D|E|F) nonneg=(A|B|C|D|E|F|G|H)",
+            "model estimate=(A|B|C|D|E|F) nonneg=(A|B|C|D|E|F|G|H)",
             22,
             7,
         ),
-        (b"model estimate=(A|B|C|D|E|F|G|H|I|J|K|L|M|N|O|P|Q)", 23, 7),
+        ("model estimate=(A|B|C|D|E|F|G|H|I|J|K|L|M|N|O|P|Q)", 23, 7),
         (
-            b"model estimate=(A) nonneg=(A|B|C|D|E|F|G|H|I|J|K|L|M|N|O|P|Q)",
+            "model estimate=(A) nonneg=(A|B|C|D|E|F|G|H|I|J|K|L|M|N|O|P|Q)",
             23,
             20,
         ),
     ];
-    are_refused(&rt, rt.alloc(), &factors, &cases)?;
-    let text = b"model estimate=(A|B|C|D|E|F) nonneg=(A|B|C|D|E|F|G)";
-    let read = read(&rt, rt.alloc(), &factors, text)?;
-    assert!(rt; read.is_ok());
-    if let Ok(effects) = read {
-        assert_eq!(rt;
-            (effects.estimate.len(), effects.nonnegligible.len()),
-            (63, 64)
-        );
-    }
+    are_refused(&rt, rt.alloc(), SEVENTEEN, &CASES)?;
+    let text = "model estimate=(A|B|C|D|E|F) nonneg=(A|B|C|D|E|F|G)";
+    assert!(rt; numbers_of(&rt, rt.alloc(), SEVENTEEN, text)? == Some((63, 64)));
     Ok(())
 }
 
-/// Checks that each text is refused with this code at this column.
+/// How many effects are asked for in both lists, or None where the statement is refused.
+fn numbers_of(
+    rt: &impl Abort,
+    alloc: Global,
+    factors: &str,
+    text: &str,
+) -> Result<Option<(usize, usize)>, Fail> {
+    let factors = names(alloc, factors)?;
+    match read(rt, alloc, factors.as_slice(), text.as_bytes())? {
+        Ok(effects) => Ok(Some((effects.estimate.len(), effects.nonnegligible.len()))),
+        Err(_stop) => Ok(None),
+    }
+}
+
+/// The code and column of a refusal, or None.
+fn refusal(
+    rt: &impl Abort,
+    alloc: Global,
+    factors: &str,
+    text: &str,
+) -> Result<Option<(u8, u32)>, Fail> {
+    let factors = names(alloc, factors)?;
+    match read(rt, alloc, factors.as_slice(), text.as_bytes())? {
+        Err(ParseStop::Refused(refusal)) => Ok(Some((refusal.code, refusal.column))),
+        Err(ParseStop::NoMemory) => Ok(None),
+        Ok(_effects) => Ok(None),
+    }
+}
+
+/// Tests that each text is refused with this code at this column.
 fn are_refused(
     rt: &impl Abort,
     alloc: Global,
-    factors: &[&[u8]],
-    cases: &[(&[u8], u8, u32)],
+    factors: &str,
+    cases: &[(&str, u8, u32)],
 ) -> Result<(), Fail> {
     for (text, code, column) in cases {
-        match read(rt, alloc, factors, *text)? {
-            Err(ParseStop::Refused(refusal)) => {
-                assert_eq!(rt; (refusal.code, refusal.column), (*code, *column));
-            }
-            Err(ParseStop::NoMemory) => assert!(rt; false),
-            Ok(_) => assert!(rt; false),
-        }
+        let found = refusal(rt, alloc, factors, text)?;
+        assert!(rt; found == Some((*code, *column)), "{text}");
     }
     Ok(())
 }

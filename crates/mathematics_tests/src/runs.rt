@@ -1,4 +1,4 @@
-ghost use Rattle.std.specs.Prelude.{◌≡◌, ◌≤◌, IfOk};
+ghost use Rattle.std.specs.Prelude.{◌≡◌, ◌≤◌, ◌<◌, ◌+◌, ◌^◌, IfOk};
 ghost use Rattle.fx_vectors.specs.Effects.{numbers_of};
 ghost use Rattle.fx_vectors.specs.Question.{CanBeTold, IsValid};
 ghost use Rattle.fx_vectors.specs.Shape.{IsShape};
@@ -7,6 +7,7 @@ use fx_base::NoMemory;
 use fx_runs::{Runs, block_number, constant_in_blocks, is_balanced, is_constant, list_runs, meets};
 use fx_vectors::{Demands, Effect, Effects, Matrix, Question, Shape, Vector};
 use std::alloc::Global;
+use std::process::Abort;
 use std::test::Fail;
 
 const TWO_LEVELS: Shape = Shape {
@@ -108,79 +109,112 @@ fn has_rows(runs: &Runs, rows: &[[u8; 4]]) -> bool {
     runs.len() == rows.len()
 }
 
+/// A rule matrix of these rows.
+fn matrix_of(rt: &impl Abort, shape: Shape, rows: [u16; 4]) -> Matrix
+    requires { IsShape shape }
+    ensures { result.shape ≡ shape }
+{
+    let mut matrix = Matrix::new(shape);
+    for row in rows {
+        assert!(rt; matrix.len() < shape.rows() && row < shape.runs());
+        matrix.push(row);
+    }
+    matrix
+}
+
+/// Whether the vector of four factors of this number is constant over the runs, and whether it is balanced.
+fn told(runs: &Runs, number: u128) -> (bool, bool)
+    requires rows { runs.now.shape.s + runs.now.shape.t ≡ 4 }
+    requires below { number < runs.now.shape.q ^ 4 }
+{
+    let word = Vector::of_number(runs.shape().field(), 4, number);
+    (is_constant(&word, runs), is_balanced(&word, runs))
+}
+
 #[test]
 fn the_first_index_changes_slowest(rt: HostRuntime) -> Result<(), Fail> {
-    let mut half = Matrix::new(TWO_LEVELS);
-    half.push(1);
-    half.push(2);
-    half.push(4);
-    half.push(7);
+    let half = matrix_of(&rt, TWO_LEVELS, [1, 2, 4, 7]);
+    assert!(rt; half.len() == 4);
     let runs = list_runs(rt.alloc(), &half)?;
     assert!(rt; has_rows(&runs, &HALF));
-    let word = Vector::of_number(TWO_LEVELS.field(), 4, 15);
-    assert!(rt; is_constant(&word, &runs));
-    assert!(rt; !is_balanced(&word, &runs));
-    let other = Vector::of_number(TWO_LEVELS.field(), 4, 3);
-    assert!(rt; !is_constant(&other, &runs));
-    assert!(rt; is_balanced(&other, &runs));
+    assert!(rt; told(&runs, 15) == (true, false));
+    assert!(rt; told(&runs, 3) == (false, true));
     Ok(())
 }
 
 /// A + B + 2 (A + B) is 0, and A + C is 2 A + B.
 #[test]
 fn three_levels(rt: HostRuntime) -> Result<(), Fail> {
-    let mut ninth = Matrix::new(THREE_LEVELS);
-    ninth.push(1);
-    ninth.push(3);
-    ninth.push(4);
-    ninth.push(7);
+    let ninth = matrix_of(&rt, THREE_LEVELS, [1, 3, 4, 7]);
+    assert!(rt; ninth.len() == 4);
     let runs = list_runs(rt.alloc(), &ninth)?;
     assert!(rt; has_rows(&runs, &NINTH));
-    let word = Vector::of_number(THREE_LEVELS.field(), 4, 22);
-    assert!(rt; is_constant(&word, &runs));
-    let other = Vector::of_number(THREE_LEVELS.field(), 4, 10);
-    assert!(rt; is_balanced(&other, &runs));
+    assert!(rt; told(&runs, 22).0);
+    assert!(rt; told(&runs, 10).1);
     Ok(())
+}
+
+/// Whether these are the numbers of the blocks.
+fn has_blocks(runs: &Runs, blocks: &[u16]) -> bool
+    requires { runs.now.shape.q ^ runs.now.shape.t ≤ 1024 }
+{
+    for (i, block) in blocks.iter().enumerate() {
+        if i >= runs.len() || block_number(runs, i) != *block {
+            return false;
+        }
+    }
+    runs.len() == blocks.len()
+}
+
+/// Whether the vector of three factors of this number is constant in each block.
+fn is_confounded(runs: &Runs, number: u128) -> bool
+    requires factors { runs.now.shape.s ≡ 3 }
+    requires below { number < runs.now.shape.q ^ 3 }
+{
+    constant_in_blocks(&Vector::of_number(runs.shape().field(), 3, number), runs)
 }
 
 /// ABC is confounded with blocks, and AB is not.
 #[test]
 fn blocks_are_counted_from_one(rt: HostRuntime) -> Result<(), Fail> {
-    let mut matrix = Matrix::new(IN_BLOCKS);
-    matrix.push(1);
-    matrix.push(2);
-    matrix.push(4);
-    matrix.push(7);
+    let matrix = matrix_of(&rt, IN_BLOCKS, [1, 2, 4, 7]);
+    assert!(rt; matrix.len() == 4);
     let runs = list_runs(rt.alloc(), &matrix)?;
     assert!(rt; has_rows(&runs, &HALF));
-    for (i, block) in [1, 2, 2, 1, 2, 1, 1, 2].iter().enumerate() {
-        assert!(rt; i < runs.len());
-        assert_eq!(rt; block_number(&runs, i), *block, "at {i}");
-    }
-    let confounded = Vector::of_number(IN_BLOCKS.field(), 3, 7);
-    assert!(rt; constant_in_blocks(&confounded, &runs));
-    let clear = Vector::of_number(IN_BLOCKS.field(), 3, 3);
-    assert!(rt; !constant_in_blocks(&clear, &runs));
+    assert!(rt; has_blocks(&runs, &[1, 2, 2, 1, 2, 1, 1, 2]));
+    assert!(rt; is_confounded(&runs, 7) && !is_confounded(&runs, 3));
     Ok(())
 }
 
-/// The runs 0, 0 and 1 of one factor are neither, and no runs are both.
-#[test]
-fn any_runs_are_judged(rt: HostRuntime) -> Result<(), Fail> {
-    let u = Vector::of_number(ONE_FACTOR.field(), 1, 1);
-    let mut runs = Runs::new(rt.alloc(), ONE_FACTOR);
-    assert!(rt; runs.is_empty());
-    assert!(rt; is_constant(&u, &runs));
-    assert!(rt; is_balanced(&u, &runs));
-    assert!(rt; constant_in_blocks(&u, &runs));
+/// The runs 0, 0 and 1 of one factor.
+fn three_runs(alloc: Global) -> Result<Runs, NoMemory>
+    ensures { IfOk result (λ runs. runs.shape ≡ record { q = 2; m = 1; s = 1; t = 0 }) }
+{
+    let mut runs = Runs::new(alloc, ONE_FACTOR);
     runs.push(Vector::zero(1))?;
     runs.push(Vector::zero(1))?;
     runs.push(Vector::of_number(ONE_FACTOR.field(), 1, 1))?;
-    assert_eq!(rt; runs.len(), 3);
-    assert_eq!(rt; block_number(&runs, 2), 1);
-    assert!(rt; !is_constant(&u, &runs));
-    assert!(rt; !is_balanced(&u, &runs));
-    assert!(rt; !constant_in_blocks(&u, &runs));
+    Ok(runs)
+}
+
+/// How many of these hold: a factor is constant over the runs, balanced, and constant in blocks.
+fn count_of_truths(runs: &Runs) -> u8
+    requires { runs.now.shape ≡ record { q = 2; m = 1; s = 1; t = 0 } }
+{
+    let u = Vector::of_number(ONE_FACTOR.field(), 1, 1);
+    let constant = u8::from(is_constant(&u, runs));
+    let balanced = u8::from(is_balanced(&u, runs));
+    constant + balanced + u8::from(constant_in_blocks(&u, runs))
+}
+
+/// The runs 0, 0 and 1 are neither constant nor balanced, and no runs are both.
+#[test]
+fn any_runs_are_judged(rt: HostRuntime) -> Result<(), Fail> {
+    let none = Runs::new(rt.alloc(), ONE_FACTOR);
+    assert!(rt; none.is_empty() && count_of_truths(&none) == 3);
+    let runs = three_runs(rt.alloc())?;
+    assert!(rt; runs.len() == 3);
+    assert!(rt; block_number(&runs, 2) == 1 && count_of_truths(&runs) == 0);
     Ok(())
 }
 
@@ -251,6 +285,18 @@ fn met_at(alloc: Global, shape: Shape, r: u8, rows: &[u16]) -> Result<Option<boo
     met(alloc, rows, &at_resolution(shape, r))
 }
 
+/// Whether the runs of these rows meet the demands or not, as is said of each.
+fn are_met(alloc: Global, question: &Question, cases: &[(&[u16], bool)]) -> Result<bool, NoMemory>
+    requires { IsValid question.now }
+{
+    for (rows, is_met) in cases {
+        if met(alloc, rows, question)? != Some(*is_met) {
+            return Ok(false);
+        }
+    }
+    Ok(true)
+}
+
 /// Resolutions, rows of four factors of two levels, and whether their runs meet them: with D = ABC, BC
 /// and C.
 const TWO_LEVEL_CASES: [(u8, [u16; 4], bool); 7] = [
@@ -267,12 +313,11 @@ const TWO_LEVEL_CASES: [(u8, [u16; 4], bool); 7] = [
 #[test]
 fn resolutions_are_met(rt: HostRuntime) -> Result<(), Fail> {
     let alloc = rt.alloc();
-    for (r, rows, is_met) in TWO_LEVEL_CASES {
-        assert!(rt; met_at(alloc, TWO_LEVELS, r, &rows)? == Some(is_met));
+    for (r, rows, is_met) in &TWO_LEVEL_CASES {
+        assert!(rt; met_at(alloc, TWO_LEVELS, *r, rows)? == Some(*is_met));
     }
-    for (r, is_met) in [(3, true), (4, false)] {
-        assert!(rt; met_at(alloc, THREE_LEVELS, r, &[1, 3, 4, 7])? == Some(is_met));
-    }
+    assert!(rt; met_at(alloc, THREE_LEVELS, 3, &[1, 3, 4, 7])? == Some(true));
+    assert!(rt; met_at(alloc, THREE_LEVELS, 4, &[1, 3, 4, 7])? == Some(false));
     Ok(())
 }
 
@@ -281,9 +326,12 @@ fn resolutions_are_met(rt: HostRuntime) -> Result<(), Fail> {
 fn an_interaction_is_told_from_main_effects(rt: HostRuntime) -> Result<(), Fail> {
     let effects = [Effect(1), Effect(2), Effect(4), Effect(8), Effect(3)];
     let question = for_effects(rt.alloc(), TWO_LEVELS, &effects, &[])?;
-    assert!(rt; met(rt.alloc(), &[1, 2, 4, 7], &question)? == Some(true));
-    assert!(rt; met(rt.alloc(), &[1, 2, 4, 3], &question)? == Some(false));
-    assert!(rt; met(rt.alloc(), &[1, 2, 1, 7], &question)? == Some(false));
+    const CASES: [(&[u16], bool); 3] = [
+        (&[1, 2, 4, 7], true),
+        (&[1, 2, 4, 3], false),
+        (&[1, 2, 1, 7], false),
+    ];
+    assert!(rt; are_met(rt.alloc(), &question, &CASES)?);
     Ok(())
 }
 
@@ -291,8 +339,8 @@ fn an_interaction_is_told_from_main_effects(rt: HostRuntime) -> Result<(), Fail>
 #[test]
 fn an_effect_is_told_from_another_not_estimated(rt: HostRuntime) -> Result<(), Fail> {
     let question = for_effects(rt.alloc(), TWO_LEVELS, &[Effect(3)], &[Effect(12)])?;
-    assert!(rt; met(rt.alloc(), &[1, 2, 4, 7], &question)? == Some(false));
-    assert!(rt; met(rt.alloc(), &[1, 2, 4, 3], &question)? == Some(true));
+    const CASES: [(&[u16], bool); 2] = [(&[1, 2, 4, 7], false), (&[1, 2, 4, 3], true)];
+    assert!(rt; are_met(rt.alloc(), &question, &CASES)?);
     Ok(())
 }
 
@@ -300,8 +348,8 @@ fn an_effect_is_told_from_another_not_estimated(rt: HostRuntime) -> Result<(), F
 #[test]
 fn an_effect_is_told_from_zero(rt: HostRuntime) -> Result<(), Fail> {
     let question = for_effects(rt.alloc(), ONE_FACTOR, &[Effect(1)], &[])?;
-    assert!(rt; met(rt.alloc(), &[1], &question)? == Some(true));
-    assert!(rt; met(rt.alloc(), &[0], &question)? == Some(false));
+    const CASES: [(&[u16], bool); 2] = [(&[1], true), (&[0], false)];
+    assert!(rt; are_met(rt.alloc(), &question, &CASES)?);
     Ok(())
 }
 
@@ -309,7 +357,8 @@ fn an_effect_is_told_from_zero(rt: HostRuntime) -> Result<(), Fail> {
 #[test]
 fn two_factors_in_two_runs_are_not_told_apart(rt: HostRuntime) -> Result<(), Fail> {
     let question = for_effects(rt.alloc(), TWO_FACTORS, &[Effect(1), Effect(2)], &[])?;
-    assert!(rt; met(rt.alloc(), &[1, 1], &question)? == Some(false));
+    const CASES: [(&[u16], bool); 1] = [(&[1, 1], false)];
+    assert!(rt; are_met(rt.alloc(), &question, &CASES)?);
     Ok(())
 }
 
@@ -318,9 +367,12 @@ fn two_factors_in_two_runs_are_not_told_apart(rt: HostRuntime) -> Result<(), Fai
 #[test]
 fn an_interaction_of_three_levels(rt: HostRuntime) -> Result<(), Fail> {
     let question = for_effects(rt.alloc(), NINE_RUNS, &[Effect(3)], &[Effect(4)])?;
-    assert!(rt; met(rt.alloc(), &[1, 3, 4], &question)? == Some(false));
-    assert!(rt; met(rt.alloc(), &[1, 3, 7], &question)? == Some(false));
-    assert!(rt; met(rt.alloc(), &[1, 3, 1], &question)? == Some(true));
+    const CASES: [(&[u16], bool); 3] = [
+        (&[1, 3, 4], false),
+        (&[1, 3, 7], false),
+        (&[1, 3, 1], true),
+    ];
+    assert!(rt; are_met(rt.alloc(), &question, &CASES)?);
     Ok(())
 }
 
@@ -349,11 +401,11 @@ const FOUR_BLOCK_CASES: [([u16; 5], bool); 3] = [
 #[test]
 fn main_effects_are_told_from_blocks(rt: HostRuntime) -> Result<(), Fail> {
     let alloc = rt.alloc();
-    for (r, rows, is_met) in BLOCK_CASES {
-        assert!(rt; met_at(alloc, IN_BLOCKS, r, &rows)? == Some(is_met));
+    for (r, rows, is_met) in &BLOCK_CASES {
+        assert!(rt; met_at(alloc, IN_BLOCKS, *r, rows)? == Some(*is_met));
     }
-    for (rows, is_met) in FOUR_BLOCK_CASES {
-        assert!(rt; met_at(alloc, FOUR_BLOCKS, 3, &rows)? == Some(is_met));
+    for (rows, is_met) in &FOUR_BLOCK_CASES {
+        assert!(rt; met_at(alloc, FOUR_BLOCKS, 3, rows)? == Some(*is_met));
     }
     Ok(())
 }
@@ -362,22 +414,36 @@ fn main_effects_are_told_from_blocks(rt: HostRuntime) -> Result<(), Fail> {
 #[test]
 fn an_interaction_is_told_from_blocks(rt: HostRuntime) -> Result<(), Fail> {
     let question = for_effects(rt.alloc(), IN_BLOCKS, &[Effect(1), Effect(3)], &[])?;
-    assert!(rt; met(rt.alloc(), &[1, 2, 4, 7], &question)? == Some(true));
-    assert!(rt; met(rt.alloc(), &[1, 2, 4, 3], &question)? == Some(false));
+    const CASES: [(&[u16], bool); 2] = [(&[1, 2, 4, 7], true), (&[1, 2, 4, 3], false)];
+    assert!(rt; are_met(rt.alloc(), &question, &CASES)?);
     Ok(())
 }
 
 /// Three columns of the twelve runs of Plackett and Burman, which are those of no rule matrix.
-#[test]
-fn runs_of_no_rules_are_judged(rt: HostRuntime) -> Result<(), Fail> {
+fn twelve_runs(rt: &impl Abort, alloc: Global) -> Result<Runs, NoMemory>
+    ensures { IfOk result (λ runs. runs.shape ≡ record { q = 2; m = 4; s = 3; t = 0 }) }
+{
     let field = TWELVE_RUNS.field();
-    let mut runs = Runs::new(rt.alloc(), TWELVE_RUNS);
-    assert!(rt; meets(&at_resolution(TWELVE_RUNS, 99), &runs));
+    let mut runs = Runs::new(alloc, TWELVE_RUNS);
     for number in [3, 6, 5, 2, 4, 0, 1, 3, 7, 6, 5, 0] {
         assert!(rt; number < 8);
         runs.push(Vector::of_number(field, 3, number))?;
     }
-    assert!(rt; meets(&at_resolution(TWELVE_RUNS, 3), &runs));
-    assert!(rt; !meets(&at_resolution(TWELVE_RUNS, 4), &runs));
+    Ok(runs)
+}
+
+/// Whether the runs meet a resolution.
+fn meet_at(runs: &Runs, r: u8) -> bool
+    requires { (3 ≤ r) × (r ≤ 99) }
+{
+    meets(&at_resolution(runs.shape(), r), runs)
+}
+
+/// They are at resolution 3, and no runs are at 99.
+#[test]
+fn runs_of_no_rules_are_judged(rt: HostRuntime) -> Result<(), Fail> {
+    assert!(rt; meet_at(&Runs::new(rt.alloc(), TWELVE_RUNS), 99));
+    let runs = twelve_runs(&rt, rt.alloc())?;
+    assert!(rt; meet_at(&runs, 3) && !meet_at(&runs, 4));
     Ok(())
 }

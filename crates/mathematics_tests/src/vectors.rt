@@ -30,9 +30,12 @@ fn marks_of(alloc: Global, count: usize) -> Result<Marks, NoMemory> {
 }
 
 fn stand_at(marks: &Marks, places: &[usize]) -> bool {
-    places
-        .iter()
-        .all(|i| *i < marks.len() && marks.get(*i) == mark_at(*i))
+    for i in places {
+        if *i >= marks.len() || marks.get(*i) != mark_at(*i) {
+            return false;
+        }
+    }
+    true
 }
 
 /// One more mark than two pieces hold.
@@ -40,9 +43,9 @@ fn stand_at(marks: &Marks, places: &[usize]) -> bool {
 fn marks_are_kept_past_the_end_of_a_piece(rt: HostRuntime) -> Result<(), Fail> {
     assert!(rt; Marks::new(rt.alloc()).is_empty());
     let marks = marks_of(rt.alloc(), 131073)?;
-    assert_eq!(rt; marks.len(), 131073);
-    let places = [0, 1, 2, 65535, 65536, 65537, 131071, 131072];
-    assert!(rt; stand_at(&marks, &places));
+    assert!(rt; marks.len() == 131073);
+    const PLACES: [usize; 8] = [0, 1, 2, 65535, 65536, 65537, 131071, 131072];
+    assert!(rt; stand_at(&marks, &PLACES));
     Ok(())
 }
 
@@ -61,20 +64,41 @@ const WORDS: [u128; 11] = [
     340282366920938463463374607431768211455,
 ];
 
+/// Marks of which the last are of these words, and one more.
+fn marks_of_words(alloc: Global, count: usize, words: &[u128]) -> Result<Marks, NoMemory> {
+    let mut marks = marks_of(alloc, count)?;
+    for word in words {
+        marks.push(Mark::Word {
+            row: 1023,
+            word: *word,
+        })?;
+    }
+    marks.push(Mark::Worse { row: 1023 })?;
+    Ok(marks)
+}
+
+/// Whether marks of these words stand from this place on, and one more.
+fn stand_from(marks: &Marks, count: usize, words: &[u128]) -> bool {
+    let mut i = count;
+    for word in words {
+        let mark = Mark::Word {
+            row: 1023,
+            word: *word,
+        };
+        if i >= marks.len() || marks.get(i) != mark {
+            return false;
+        }
+        i += 1;
+    }
+    i < marks.len() && marks.get(i) == Mark::Worse { row: 1023 } && marks.len() - i == 1
+}
+
 /// Six of the words are in one piece, and five in the next.
 #[test]
 fn words_of_all_lengths_are_kept_about_the_end_of_a_piece(rt: HostRuntime) -> Result<(), Fail> {
-    let mut marks = marks_of(rt.alloc(), 65530)?;
-    for word in WORDS {
-        marks.push(Mark::Word { row: 1023, word })?;
-    }
-    marks.push(Mark::Worse { row: 1023 })?;
-    assert_eq!(rt; marks.len(), 65542);
-    let are_kept = (65530..65541).zip(WORDS).all(|(i, word)| i < marks.len()
-        && marks.get(i) == Mark::Word { row: 1023, word });
-    assert!(rt; are_kept);
+    let marks = marks_of_words(rt.alloc(), 65530, &WORDS)?;
+    assert!(rt; stand_from(&marks, 65530, &WORDS));
     assert!(rt; stand_at(&marks, &[0, 1, 2, 65527, 65528, 65529]));
-    assert_eq!(rt; marks.get(65541), Mark::Worse { row: 1023 });
     Ok(())
 }
 

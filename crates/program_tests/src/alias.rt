@@ -1,8 +1,8 @@
-ghost use Rattle.std.specs.Prelude.{◌≤◌, ◌^◌, IsTrue};
+ghost use Rattle.std.specs.Prelude.{◌≡◌, ◌≤◌, ◌+◌, ◌^◌, IsTrue, length};
 ghost use Rattle.fx_vectors.specs.Shape.{IsShape};
 
 use fx_alias::{alias_listing, blocked_listing, design_listing, head_listing, rules_listing};
-use fx_base::Bytes;
+use fx_base::{Bytes, NoMemory};
 use fx_lexer::lex;
 use fx_statements::{End, Outcome, ParseStop, Program, Step, parse};
 use fx_vectors::{Books, Matrix, Shape};
@@ -13,7 +13,7 @@ use std::test::Fail;
 // The expected sections were computed apart from this program, in Python, from the runs alone.
 
 /// The program of this text.
-fn program_of(rt: &impl Abort, alloc: Global, text: &[u8]) -> Result<Program, Fail> {
+pub fn program_of(rt: &impl Abort, alloc: Global, text: &[u8]) -> Result<Program, Fail> {
     assert!(rt; text.len() <= 1_048_576);
     let tokens = lex(alloc, text)?;
     match parse(alloc, text, &tokens) {
@@ -24,7 +24,7 @@ fn program_of(rt: &impl Abort, alloc: Global, text: &[u8]) -> Result<Program, Fa
 }
 
 /// A rule matrix of these rows.
-fn matrix_of(rt: &impl Abort, shape: Shape, rows: &[u16]) -> Matrix
+pub fn matrix_of(rt: &impl Abort, shape: Shape, rows: &[u16]) -> Matrix
     requires { IsShape shape }
 {
     let mut matrix = Matrix::new(shape);
@@ -34,7 +34,7 @@ fn matrix_of(rt: &impl Abort, shape: Shape, rows: &[u16]) -> Matrix
     matrix
 }
 
-fn push(rt: &impl Abort, matrix: &mut Matrix, row: u16) {
+pub fn push(rt: &impl Abort, matrix: &mut Matrix, row: u16) {
     let shape = matrix.shape();
     assert!(rt; matrix.len() < shape.rows());
     assert!(rt; row < shape.runs());
@@ -42,7 +42,7 @@ fn push(rt: &impl Abort, matrix: &mut Matrix, row: u16) {
 }
 
 /// Whether there are at most 1,024 blocks.
-fn are_few(shape: Shape) -> bool
+pub fn are_few(shape: Shape) -> bool
     ensures { IsTrue result → shape.q ^ shape.t ≤ 1024 }
 {
     match u16::from(shape.q).checked_pow(u32::from(shape.t)) {
@@ -51,23 +51,45 @@ fn are_few(shape: Shape) -> bool
     }
 }
 
+/// Whether a matrix has a row for each factor of the step and of its blocks.
+fn is_for(matrix: &Matrix, step: &Step) -> bool
+    ensures complete { IsTrue result
+        → length matrix.now.rows ≡ matrix.now.shape.s + matrix.now.shape.t }
+    ensures factors { IsTrue result → matrix.now.shape.s ≡ length step.now.factors }
+{
+    let shape = matrix.shape();
+    matrix.len() == shape.rows() && usize::from(shape.s) == step.factors.len()
+}
+
+/// Whether the aliases of a design of a step are these.
+fn step_has_aliases(
+    alloc: Global,
+    step: &Step,
+    matrix: &Matrix,
+    expected: &str,
+) -> Result<bool, NoMemory> {
+    if !is_for(matrix, step) {
+        return Ok(false);
+    }
+    let mut out = Bytes::new(alloc);
+    alias_listing(alloc, step, matrix, &mut out)?;
+    Ok(out.as_slice() == expected.as_bytes())
+}
+
 /// Tests that the aliases of a design of the text's only step are these.
 fn has_aliases(
     rt: &impl Abort,
     alloc: Global,
-    text: &[u8],
+    text: &str,
     matrix: &Matrix,
-    expected: &[u8],
+    expected: &str,
 ) -> Result<(), Fail> {
-    let program = program_of(rt, alloc, text)?;
-    assert!(rt; program.len() == 1);
-    let step = program.get(0);
-    let shape = matrix.shape();
-    assert!(rt; matrix.len() == shape.rows());
-    assert!(rt; usize::from(shape.s) == step.factors.len());
-    let mut out = Bytes::new(alloc);
-    alias_listing(alloc, step, matrix, &mut out)?;
-    assert!(rt; out.as_slice() == expected);
+    let program = program_of(rt, alloc, text.as_bytes())?;
+    let is_so = match program.as_slice() {
+        [step] => step_has_aliases(alloc, step, matrix, expected)?,
+        _ => false,
+    };
+    assert!(rt; is_so, "{text}");
     Ok(())
 }
 
@@ -80,14 +102,14 @@ fn classes_of_two_levels(rt: HostRuntime) -> Result<(), Fail> {
         s: 3,
         t: 0,
     };
-    let text = b"proc factex; factors A B C; size design=4; model resolution=3;";
+    let text = "proc factex; factors A B C; size design=4; model resolution=3;";
     let matrix = matrix_of(&rt, half, &[1, 2, 3]);
     has_aliases(
         &rt,
         alloc,
         text,
         &matrix,
-        b"aliasing\n  A = B*C\n  B = A*C\n  C = A*B\n",
+        "aliasing\n  A = B*C\n  B = A*C\n  C = A*B\n",
     )?;
     // A and C have the same levels.
     let matrix = matrix_of(&rt, half, &[1, 2, 1]);
@@ -96,7 +118,7 @@ fn classes_of_two_levels(rt: HostRuntime) -> Result<(), Fail> {
         alloc,
         text,
         &matrix,
-        b"aliasing\n  mean = A*C\n  A = C\n  B\n  A*B = B*C\n",
+        "aliasing\n  mean = A*C\n  A = C\n  B\n  A*B = B*C\n",
     )
 }
 
@@ -111,14 +133,14 @@ fn classes_of_three_levels(rt: HostRuntime) -> Result<(), Fail> {
         t: 0,
     };
     let matrix = matrix_of(&rt, ninth, &[1, 3, 4, 5]);
-    let text = b"proc factex; factors A B C D / nlev=3; size design=9; \
+    let text = "proc factex; factors A B C D / nlev=3; size design=9; \
 model estimate=(A) nonneg=(B*C*D);";
     has_aliases(
         &rt,
         alloc,
         text,
         &matrix,
-        b"aliasing
+        "aliasing
   mean = A^2*B^2*C = A*B^2*D = A^2*C^2*D = B*C*D
   A = B^2*C = B^2*D = C^2*D = A*B^2*C = A^2*B^2*D = A*C^2*D
   B = A^2*C = A*D = C*D = A^2*B*C = A*B*D = B^2*C*D
@@ -139,13 +161,13 @@ fn classes_of_four_levels(rt: HostRuntime) -> Result<(), Fail> {
         t: 0,
     };
     let matrix = matrix_of(&rt, quarter, &[1, 4, 9]);
-    let text = b"proc factex; factors A B C / nlev=4; size design=16; model resolution=3;";
+    let text = "proc factex; factors A B C / nlev=4; size design=16; model resolution=3;";
     has_aliases(
         &rt,
         alloc,
         text,
         &matrix,
-        b"aliasing
+        "aliasing
   A = B^2*C
   B = A*C
   C = A^3*B
@@ -155,21 +177,18 @@ fn classes_of_four_levels(rt: HostRuntime) -> Result<(), Fail> {
     )
 }
 
-/// Tests that the head and the rules of a step's outcome with this matrix are these.
-fn has_head_and_rules(
+/// Appends the head of a step whose outcome has this matrix.
+fn put_head(
     rt: &impl Abort,
     alloc: Global,
     step: &Step,
     end: End,
     matrix: Matrix,
     nodes: u64,
-    expected: &[u8],
-) -> Result<(), Fail> {
-    let mut out = Bytes::new(alloc);
+    out: &mut Bytes,
+) -> Result<(), NoMemory> {
     assert!(rt; end != End::NoDesign);
     assert!(rt; matrix.len() == matrix.shape().rows());
-    assert!(rt; usize::from(matrix.shape().s) == step.factors.len());
-    rules_listing(alloc, step, &matrix, &mut out)?;
     let shape = matrix.shape();
     let outcome = Outcome {
         end,
@@ -178,34 +197,31 @@ fn has_head_and_rules(
         nodes,
         books: Books::new(alloc),
     };
-    head_listing(alloc, 1, step, &outcome, &mut out)?;
-    assert!(rt; out.as_slice() == expected);
-    Ok(())
+    head_listing(alloc, 1, step, &outcome, out)
 }
 
-/// Nine runs in nine blocks: the second block factor is a run factor of its own.
-#[test]
-fn block_factors_are_ruled(rt: HostRuntime) -> Result<(), Fail> {
-    let alloc = rt.alloc();
-    let text = b"proc factex; factors A B C / nlev=3; size design=27; \
-model estimate=(A); blocks nblocks=9;";
-    let program = program_of(&rt, alloc, text)?;
-    assert!(rt; program.len() == 1);
-    let in_blocks = Shape {
-        q: 3,
-        m: 3,
-        s: 3,
-        t: 2,
-    };
-    let matrix = matrix_of(&rt, in_blocks, &[1, 3, 4, 9, 15]);
-    has_head_and_rules(
-        &rt,
-        alloc,
-        program.get(0),
-        End::Budget,
-        matrix,
-        30,
-        b"rules
+/// Whether the rules and the head of a step's outcome with this matrix are these.
+fn has_rules_and_head(
+    rt: &impl Abort,
+    alloc: Global,
+    step: &Step,
+    end: End,
+    matrix: Matrix,
+    nodes: u64,
+    expected: &str,
+) -> Result<bool, NoMemory> {
+    let mut out = Bytes::new(alloc);
+    if !is_for(&matrix, step) {
+        return Ok(false);
+    }
+    rules_listing(alloc, step, &matrix, &mut out)?;
+    put_head(rt, alloc, step, end, matrix, nodes, &mut out)?;
+    Ok(out.as_slice() == expected.as_bytes())
+}
+
+/// The rules and the head of nine runs in nine blocks.
+const NINE_BLOCKS: &str = "\
+rules
   C = A*B
   [1] = run factor 3
   [2] = B^2*[1]
@@ -214,17 +230,30 @@ factors 3 levels 3
 budget ended after 30 nodes
 design 27 runs in 9 blocks not proved best
 resolution 3
-",
-    )
+";
+
+/// Nine runs in nine blocks: the second block factor is a run factor of its own.
+#[test]
+fn block_factors_are_ruled(rt: HostRuntime) -> Result<(), Fail> {
+    let alloc = rt.alloc();
+    let text = "proc factex; factors A B C / nlev=3; size design=27; \
+model estimate=(A); blocks nblocks=9;";
+    let in_blocks = Shape {
+        q: 3,
+        m: 3,
+        s: 3,
+        t: 2,
+    };
+    let matrix = matrix_of(&rt, in_blocks, &[1, 3, 4, 9, 15]);
+    let program = program_of(&rt, alloc, text.as_bytes())?;
+    assert!(rt; program.len() == 1);
+    let step = program.get(0);
+    assert!(rt; has_rules_and_head(&rt, alloc, step, End::Budget, matrix, 30, NINE_BLOCKS)?);
+    Ok(())
 }
 
-#[test]
-fn no_design_of_the_least_size(rt: HostRuntime) -> Result<(), Fail> {
-    let alloc = rt.alloc();
-    let text = b"proc factex; factors A B / nlev=3; size design=min; model resolution=3; \
-blocks nblocks=3;";
-    let program = program_of(&rt, alloc, text)?;
-    assert!(rt; program.len() == 1);
+/// Whether the head of a step without a design, in at most 729 runs, is this.
+fn has_head_of_none(alloc: Global, step: &Step, expected: &str) -> Result<bool, NoMemory> {
     let outcome = Outcome {
         end: End::NoDesign,
         shape: Shape {
@@ -238,43 +267,40 @@ blocks nblocks=3;";
         books: Books::new(alloc),
     };
     let mut out = Bytes::new(alloc);
-    head_listing(alloc, 1, program.get(0), &outcome, &mut out)?;
-    assert!(rt;
-        out.as_slice()
-            == b"step 1
-factors 2 levels 3
-no design in at most 729 runs
-nodes 50
-"
-                .as_slice()
-    );
+    head_listing(alloc, 1, step, &outcome, &mut out)?;
+    Ok(out.as_slice() == expected.as_bytes())
+}
+
+#[test]
+fn no_design_of_the_least_size(rt: HostRuntime) -> Result<(), Fail> {
+    let text = "proc factex; factors A B / nlev=3; size design=min; model resolution=3; \
+blocks nblocks=3;";
+    let head = "step 1\nfactors 2 levels 3\nno design in at most 729 runs\nnodes 50\n";
+    let program = program_of(&rt, rt.alloc(), text.as_bytes())?;
+    assert!(rt; program.len() == 1);
+    assert!(rt; has_head_of_none(rt.alloc(), program.get(0), head)?);
     Ok(())
 }
 
-/// Eight runs in four blocks, by B*C and A*C.
-#[test]
-fn a_design_in_blocks_is_listed(rt: HostRuntime) -> Result<(), Fail> {
-    let alloc = rt.alloc();
-    let in_blocks = Shape {
-        q: 2,
-        m: 3,
-        s: 3,
-        t: 2,
-    };
-    let matrix = matrix_of(&rt, in_blocks, &[1, 2, 4, 6, 5]);
-    let text = b"proc factex; factors A B C; size design=8; model resolution=3; blocks nblocks=4;";
-    let program = program_of(&rt, alloc, text)?;
-    assert!(rt; program.len() == 1);
-    let step = program.get(0);
-    assert!(rt; matrix.len() == matrix.shape().rows());
-    assert!(rt; usize::from(matrix.shape().s) == step.factors.len());
-    assert!(rt; are_few(matrix.shape()));
+/// Whether the runs of a design of a step and what is confounded with blocks are these.
+fn has_runs_and_blocked(
+    alloc: Global,
+    step: &Step,
+    matrix: &Matrix,
+    expected: &str,
+) -> Result<bool, NoMemory> {
+    if !is_for(matrix, step) || !are_few(matrix.shape()) {
+        return Ok(false);
+    }
     let mut out = Bytes::new(alloc);
-    design_listing(alloc, step, &matrix, &mut out)?;
-    blocked_listing(alloc, step, &matrix, &mut out)?;
-    assert!(rt;
-        out.as_slice()
-            == b"points BLOCK A B C
+    design_listing(alloc, step, matrix, &mut out)?;
+    blocked_listing(alloc, step, matrix, &mut out)?;
+    Ok(out.as_slice() == expected.as_bytes())
+}
+
+/// The runs of a design in four blocks, and what is confounded with them.
+const FOUR_BLOCKS: &str = "\
+points BLOCK A B C
   1 1 -1 -1 -1
   2 4 -1 -1 1
   3 2 -1 1 -1
@@ -287,24 +313,11 @@ blocked
   A*B
   A*C
   B*C
-"
-                .as_slice()
-    );
-    has_aliases(
-        &rt,
-        alloc,
-        text,
-        &matrix,
-        b"aliasing\n  A\n  B\n  C\n  A*B\n  A*C\n  B*C\n",
-    )?;
-    has_head_and_rules(
-        &rt,
-        alloc,
-        step,
-        End::Design,
-        matrix,
-        16,
-        b"rules
+";
+
+/// The rules and the head of that design.
+const FOUR_BLOCKS_HEAD: &str = "\
+rules
   [1] = B*C
   [2] = A*C
 step 1
@@ -312,40 +325,47 @@ factors 3 levels 2
 design 8 runs in 4 blocks
 no defining words
 nodes 16
-",
-    )
+";
+
+/// Whether all listings of that design are these.
+fn has_four_blocks(rt: &impl Abort, alloc: Global, step: &Step) -> Result<bool, NoMemory> {
+    let in_blocks = Shape {
+        q: 2,
+        m: 3,
+        s: 3,
+        t: 2,
+    };
+    let aliases = "aliasing\n  A\n  B\n  C\n  A*B\n  A*C\n  B*C\n";
+    let matrix = matrix_of(rt, in_blocks, &[1, 2, 4, 6, 5]);
+    let has_both = has_runs_and_blocked(alloc, step, &matrix, FOUR_BLOCKS)?
+        && step_has_aliases(alloc, step, &matrix, aliases)?;
+    let has_head = has_rules_and_head(rt, alloc, step, End::Design, matrix, 16, FOUR_BLOCKS_HEAD)?;
+    Ok(has_both && has_head)
+}
+
+/// Eight runs in four blocks, by B*C and A*C.
+#[test]
+fn a_design_in_blocks_is_listed(rt: HostRuntime) -> Result<(), Fail> {
+    let text = "proc factex; factors A B C; size design=8; model resolution=3; blocks nblocks=4;";
+    let program = program_of(&rt, rt.alloc(), text.as_bytes())?;
+    assert!(rt; program.len() == 1);
+    assert!(rt; has_four_blocks(&rt, rt.alloc(), program.get(0))?);
+    Ok(())
 }
 
 #[test]
 fn without_blocks_nothing_is_confounded(rt: HostRuntime) -> Result<(), Fail> {
-    let alloc = rt.alloc();
     let thirds = Shape {
         q: 3,
         m: 1,
         s: 2,
         t: 0,
     };
+    let expected = "points Speed Feed\n  1 -1 -1\n  2 0 0\n  3 1 1\nblocked\n  none\n";
+    let text = "proc factex; factors Speed Feed / nlev=3; size design=3; model resolution=3;";
     let matrix = matrix_of(&rt, thirds, &[1, 1]);
-    let text = b"proc factex; factors Speed Feed / nlev=3; size design=3; model resolution=3;";
-    let program = program_of(&rt, alloc, text)?;
+    let program = program_of(&rt, rt.alloc(), text.as_bytes())?;
     assert!(rt; program.len() == 1);
-    let step = program.get(0);
-    assert!(rt; matrix.len() == matrix.shape().rows());
-    assert!(rt; usize::from(matrix.shape().s) == step.factors.len());
-    assert!(rt; are_few(matrix.shape()));
-    let mut out = Bytes::new(alloc);
-    design_listing(alloc, step, &matrix, &mut out)?;
-    blocked_listing(alloc, step, &matrix, &mut out)?;
-    assert!(rt;
-        out.as_slice()
-            == b"points Speed Feed
-  1 -1 -1
-  2 0 0
-  3 1 1
-blocked
-  none
-"
-                .as_slice()
-    );
+    assert!(rt; has_runs_and_blocked(rt.alloc(), program.get(0), &matrix, expected)?);
     Ok(())
 }

@@ -1,12 +1,11 @@
-ghost use Rattle.std.specs.Prelude.{◌≡◌, ℕ, ◌<◌, ◌≤◌, ◌+◌, ◌^◌, IfOk, IsTrue, length};
+ghost use Rattle.std.specs.Prelude.{◌≡◌, ℕ, IsTrue};
 ghost use Rattle.fx_settings.specs.declared.settings.Blocks.TheVariants.{Factors, Without};
-ghost use Rattle.fx_vectors.specs.Shape.{IsShape};
 ghost use Rattle.fx_plan.specs.Steps.{IsDesignOf};
 
+use crate::alias::{are_few, matrix_of, program_of, push};
 use fx_base::Bytes;
-use fx_lexer::lex;
 use fx_plan::{draw, plan};
-use fx_statements::{Blocks, ParseStop, Step, parse};
+use fx_statements::{Blocks, Step};
 use fx_vectors::{Matrix, Shape};
 use rand_core::SeedableRng;
 use rand_pcg::Pcg64;
@@ -67,24 +66,6 @@ const IN_BLOCKS: Shape = Shape {
     t: 2,
 };
 
-/// A rule matrix of these rows.
-fn matrix_of(rt: &impl Abort, shape: Shape, rows: &[u16]) -> Matrix
-    requires { IsShape shape }
-{
-    let mut matrix = Matrix::new(shape);
-    for row in rows {
-        push(rt, &mut matrix, *row);
-    }
-    matrix
-}
-
-fn push(rt: &impl Abort, matrix: &mut Matrix, row: u16) {
-    let shape = matrix.shape();
-    assert!(rt; matrix.len() < shape.rows());
-    assert!(rt; row < shape.runs());
-    matrix.push(row);
-}
-
 /// Whether the matrix is a design of the step.
 fn is_design(step: &Step, matrix: &Matrix) -> bool
     ensures { IsTrue result → IsDesignOf step.now matrix.now }
@@ -97,16 +78,6 @@ fn is_design(step: &Step, matrix: &Matrix) -> bool
         return false;
     }
     has_blocks(step.blocks, shape.t)
-}
-
-/// Whether there are at most 1,024 blocks.
-fn are_few(shape: Shape) -> bool
-    ensures { IsTrue result → shape.q ^ shape.t ≤ 1024 }
-{
-    match u16::from(shape.q).checked_pow(u32::from(shape.t)) {
-        Some(count) => count <= 1024,
-        None => false,
-    }
 }
 
 /// Whether `t` is the number of block factors.
@@ -122,7 +93,19 @@ fn has_blocks(blocks: Blocks, t: u8) -> bool
     }
 }
 
-/// Tests that the text's only step has this plan for its OUTPUT statement at `i`.
+/// Whether a text is these parts, one after another.
+fn is_joined(text: &[u8], parts: &[&[u8]]) -> bool {
+    let mut rest = text;
+    for part in parts {
+        match rest.strip_prefix(*part) {
+            Some(after) => rest = after,
+            None => return false,
+        }
+    }
+    rest.is_empty()
+}
+
+/// Whether the text's only step has this plan for its OUTPUT statement at `i`.
 fn is_planned(
     rt: &impl Abort,
     alloc: Global,
@@ -130,17 +113,24 @@ fn is_planned(
     matrix: &Matrix,
     i: usize,
     expected: &[&[u8]],
-) -> Result<(), Fail> {
+) -> Result<bool, Fail> {
     let bytes = planned(rt, alloc, text, matrix, i)?;
-    let mut all = Bytes::new(alloc);
-    for part in expected {
-        all.extend_from_slice(part)?;
-    }
-    assert!(rt; bytes.as_slice() == all.as_slice());
-    Ok(())
+    Ok(is_joined(bytes.as_slice(), expected))
 }
 
-/// The plan for the OUTPUT statement at `i`, by the seed 5.
+/// The plan of a step for the OUTPUT statement at `i`, by the seed 5.
+fn plan_of(
+    rt: &impl Abort,
+    alloc: Global,
+    step: &Step,
+    matrix: &Matrix,
+    i: usize,
+) -> Result<Bytes, Fail> {
+    assert!(rt; i < step.outputs.len() && is_design(step, matrix));
+    Ok(plan(alloc, step, matrix, step.outputs.get(i), 5)?)
+}
+
+/// The plan of the text's only step.
 fn planned(
     rt: &impl Abort,
     alloc: Global,
@@ -148,34 +138,45 @@ fn planned(
     matrix: &Matrix,
     i: usize,
 ) -> Result<Bytes, Fail> {
-    assert!(rt; text.len() <= 1_048_576);
-    let tokens = lex(alloc, text)?;
-    match parse(alloc, text, &tokens) {
-        Ok(program) => {
-            assert!(rt; program.len() == 1);
-            let step = program.get(0);
-            assert!(rt; i < step.outputs.len() && is_design(step, matrix));
-            Ok(plan(alloc, step, matrix, step.outputs.get(i), 5)?)
+    let program = program_of(rt, alloc, text)?;
+    assert!(rt; program.len() == 1);
+    plan_of(rt, alloc, program.get(0), matrix, i)
+}
+
+/// Seeds, each with bounds and what is drawn below each, one after another.
+const DRAWS: [(u64, &[(u64, u64)]); 2] = [
+    (
+        0,
+        &[
+            (1, 0),
+            (10, 3),
+            (1 << 63, 6546293130088182040),
+            (u64::MAX, 718076624554797017),
+            (3, 2),
+        ],
+    ),
+    (
+        u64::MAX,
+        &[(6, 5), (1_000_000_000_000_000_000, 740548068244286540)],
+    ),
+];
+
+/// Whether a generator draws these.
+fn are_drawn(seed: u64, draws: &[(u64, u64)]) -> bool {
+    let mut rng = Pcg64::seed_from_u64(seed);
+    for (bound, drawn) in draws {
+        if *bound == 0 || draw(&mut rng, *bound) != *drawn {
+            return false;
         }
-        Err(ParseStop::Refused(_refusal)) => Err(Fail::new("the text is refused")),
-        Err(ParseStop::NoMemory) => Err(Fail::new("memory ran out")),
     }
+    true
 }
 
 #[test]
 fn draws_are_those_of_the_generator(rt: HostRuntime) {
-    let mut rng = Pcg64::seed_from_u64(0);
-    assert_eq!(rt; draw(&mut rng, 1), 0);
-    assert_eq!(rt; draw(&mut rng, 10), 3);
-    assert_eq!(rt; draw(&mut rng, 1 << 63), 6546293130088182040);
-    assert_eq!(rt; draw(&mut rng, u64::MAX), 718076624554797017);
-    assert_eq!(rt; draw(&mut rng, 3), 2);
-    let mut rng = Pcg64::seed_from_u64(u64::MAX);
-    assert_eq!(rt; draw(&mut rng, 6), 5);
-    assert_eq!(rt;
-        draw(&mut rng, 1_000_000_000_000_000_000),
-        740548068244286540
-    );
+    for (seed, draws) in DRAWS {
+        assert!(rt; are_drawn(seed, draws));
+    }
 }
 
 #[test]
@@ -188,10 +189,10 @@ blockname=Day cvals=('Mo' 'Tu' '1' ''); \
 output out=p2 randomize(18446744073709551615) A nvals=(10 -2.5) B cvals=('lo,w' 'h\"i') \
 C cvals=('' '\xe9\n\r') blockname=Day cvals=('Mo' 'Tu' '1' ''); \
 output out=p3 randomize(0) novalran designrep=2; output out=p4 randomize A nvals=(10 -2.5);";
-    is_planned(&rt, alloc, text, &matrix, 0, KEPT)?;
-    is_planned(&rt, alloc, text, &matrix, 1, SHUFFLED)?;
-    is_planned(&rt, alloc, text, &matrix, 2, ROWS_SHUFFLED)?;
-    is_planned(&rt, alloc, text, &matrix, 3, BY_SEED)
+    for (i, plan) in [KEPT, SHUFFLED, ROWS_SHUFFLED, BY_SEED].iter().enumerate() {
+        assert!(rt; is_planned(&rt, alloc, text, &matrix, i, plan)?, "{i}");
+    }
+    Ok(())
 }
 
 #[test]
@@ -206,7 +207,7 @@ fn designs_of_more_levels_are_planned(rt: HostRuntime) -> Result<(), Fail> {
     let matrix = matrix_of(&rt, four, &[1, 4, 9]);
     let text = b"proc factex; factors X1-X3 / nlev=4; size design=16; model resolution=3; \
 output out=x randomize(3);";
-    is_planned(&rt, alloc, text, &matrix, 0, FOUR_LEVELS)?;
+    assert!(rt; is_planned(&rt, alloc, text, &matrix, 0, FOUR_LEVELS)?);
     let three = Shape {
         q: 3,
         m: 2,
@@ -216,34 +217,44 @@ output out=x randomize(3);";
     let matrix = matrix_of(&rt, three, &[1, 3, 4, 7]);
     let text = b"proc factex; factors A B C / nlev=3; size design=9; model resolution=3; \
 blocks nblkfacs=1; output out=x pointrep=2 randomize(11);";
-    is_planned(&rt, alloc, text, &matrix, 0, THREE)
+    assert!(rt; is_planned(&rt, alloc, text, &matrix, 0, THREE)?);
+    Ok(())
 }
 
-/// Forty names of 32 bytes, 192 rows: the length of the text, and its FNV-1a checksum.
-#[test]
-fn a_plan_of_forty_factors_is_whole(rt: HostRuntime) -> Result<(), Fail> {
-    let alloc = rt.alloc();
+/// A matrix of forty factors: the others follow from the first six, in the order of their numbers.
+fn forty_factors(rt: &impl Abort) -> Matrix {
     let forty = Shape {
         q: 2,
         m: 6,
         s: 40,
         t: 0,
     };
-    let mut matrix = matrix_of(&rt, forty, &[1, 2, 4, 8, 16, 32]);
+    let mut matrix = matrix_of(rt, forty, &[1, 2, 4, 8, 16, 32]);
     for row in 3..=40 {
         if row != 4 && row != 8 && row != 16 && row != 32 {
-            push(&rt, &mut matrix, row);
+            push(rt, &mut matrix, row);
         }
     }
+    matrix
+}
+
+/// The FNV-1a checksum.
+fn checksum(text: &[u8]) -> u64 {
+    let mut sum = 0xcbf29ce484222325_u64;
+    for b in text {
+        sum = (sum ^ u64::from(*b)).wrapping_mul(0x100000001b3);
+    }
+    sum
+}
+
+/// Forty names of 32 bytes, 192 rows: the length of the text, and its checksum.
+#[test]
+fn a_plan_of_forty_factors_is_whole(rt: HostRuntime) -> Result<(), Fail> {
     let text = b"proc factex; factors NNNNNNNNNNNNNNNNNNNNNNNNNNNNNN11-\
 NNNNNNNNNNNNNNNNNNNNNNNNNNNNNN50; size design=64; model resolution=3; \
 output out=x randomize(18446744073709551615) designrep=3;";
-    let bytes = planned(&rt, alloc, text, &matrix, 0)?;
-    assert!(rt; bytes.len() == 20520);
-    let mut sum = 0xcbf29ce484222325_u64;
-    for b in bytes.as_slice() {
-        sum = (sum ^ u64::from(*b)).wrapping_mul(0x100000001b3);
-    }
-    assert_eq!(rt; sum, 12066249520895240827);
+    let matrix = forty_factors(&rt);
+    let bytes = planned(&rt, rt.alloc(), text, &matrix, 0)?;
+    assert!(rt; bytes.len() == 20520 && checksum(bytes.as_slice()) == 12066249520895240827);
     Ok(())
 }

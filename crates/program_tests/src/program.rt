@@ -4,9 +4,9 @@ mod forged;
 mod limits;
 mod outside;
 
-use fx_base::{Bytes, MemoryShelf};
+use fx_base::{Bytes, put};
 use fx_program::{Settings, make_text, read_words};
-use outside::{Limits, Outside, SURE, left_by, words_in};
+use outside::{Limits, Outside, SURE, Tally, file_of, left_by, lists, shelves, tally_of, words_in};
 use std::alloc::Global;
 use std::test::Fail;
 use std::thread::Threads;
@@ -14,27 +14,11 @@ use std::thread::Threads;
 /// How many bytes a source or a sink moves at a call.
 const STEP: usize = SURE.step;
 
-/// The words `run`.
-fn run_words(alloc: Global) -> Result<Vec<Vec<u8>>, Fail> {
-    words_in(alloc, "run")
-}
-
-/// What `factex` leaves with a text, where each read and each write from these on fails.
-fn ran<R: Threads + Sync>(
-    rt: &R,
-    alloc: Global,
-    words: &[Vec<u8>],
-    text: &[u8],
-    first_read: Option<usize>,
-    first_write: Option<usize>,
-) -> Result<Outside, Fail> {
-    let limits = Limits {
-        first_read,
-        first_write,
-        ..SURE
-    };
-    left_by(rt, alloc, words, text, limits)
-}
+/// Objects outside whose reads fail, all of them.
+const UNREAD: Limits = Limits {
+    first_read: Some(1),
+    ..SURE
+};
 
 const HALF: &str = "proc factex;\nfactors A B C D;\nsize design=8;\nmodel resolution=4;\nrun;\n";
 
@@ -253,12 +237,17 @@ const PROGRAMS: [(&str, &str, u8); 43] = [
 
 #[test]
 fn programs_have_their_listing(rt: HostRuntime) -> Result<(), Fail> {
-    let alloc = rt.alloc();
-    let words = run_words(alloc)?;
-    for (text, listing, status) in PROGRAMS {
-        let ended = ran(&rt, alloc, words.as_slice(), text.as_bytes(), None, None)?;
-        assert_eq!(rt; ended.status, status, "{text}");
-        assert!(rt; ended.listing.bytes() == listing.as_bytes(), "{text}");
+    for (text, listing, status) in &PROGRAMS {
+        let is_so = lists(
+            &rt,
+            rt.alloc(),
+            "run",
+            text.as_bytes(),
+            SURE,
+            *status,
+            listing,
+        )?;
+        assert!(rt; is_so, "{text}");
     }
     Ok(())
 }
@@ -435,49 +424,71 @@ const REFUSED: [(&str, &str); 45] = [
     ),
 ];
 
-#[test]
-fn faults_of_a_text_are_told(rt: HostRuntime) -> Result<(), Fail> {
-    let alloc = rt.alloc();
-    let words = run_words(alloc)?;
-    for (text, message) in REFUSED {
-        let ended = ran(&rt, alloc, words.as_slice(), text.as_bytes(), None, None)?;
-        assert_eq!(rt; ended.status, 3, "{text}");
-        assert!(rt;
-            is_message(ended.listing.bytes(), message.as_bytes()),
-            "{text}"
-        );
-    }
-    Ok(())
-}
-
 /// Whether what was listed is the one line of this message.
-fn is_message(listed: &[u8], message: &[u8]) -> bool {
-    match listed.strip_prefix(b"factex: ".as_slice()) {
-        Some(line) => line.strip_suffix(b"\n".as_slice()) == Some(message),
+fn is_message(listed: &[u8], message: &str) -> bool {
+    match listed.strip_prefix("factex: ".as_bytes()) {
+        Some(line) => line.strip_suffix("\n".as_bytes()) == Some(message.as_bytes()),
         None => false,
     }
 }
 
+/// Whether just this message is listed, and no call failed.
+fn is_told(left: &Outside, message: &str) -> bool {
+    left.status == 3 && left.faults() == 0 && is_message(left.listing.bytes(), message)
+}
+
+/// Whether the words of a line list just this message of a text, and no call fails.
+fn tells<R: Threads + Sync>(
+    rt: &R,
+    alloc: Global,
+    line: &str,
+    text: &[u8],
+    limits: Limits,
+    message: &str,
+) -> Result<bool, Fail> {
+    let left = left_by(rt, alloc, line, text, limits)?;
+    Ok(is_told(&left, message))
+}
+
+#[test]
+fn faults_of_a_text_are_told(rt: HostRuntime) -> Result<(), Fail> {
+    for (text, message) in &REFUSED {
+        let is_so = tells(&rt, rt.alloc(), "run", text.as_bytes(), SURE, message)?;
+        assert!(rt; is_so, "{text}");
+    }
+    Ok(())
+}
+
+/// Two plans of four runs, the second by a seed of its own.
+const SEEDED: &str =
+    "proc factex; factors A B; model r=3; output out=x randomize; output out=y randomize(7);";
+
+/// Words with a seed, each with the listing and the first plan.
+const SEEDS: [(&str, &str, &str); 3] = [
+    (
+        "run --seed=0",
+        "step 1\nfactors 2 levels 2\ndesign 4 runs\nno defining words\nnodes 2\nrules\n  none\noutput x.csv 4 rows seed 0\noutput y.csv 4 rows seed 7\n",
+        "A,B\n-1,1\n-1,-1\n1,1\n1,-1\n",
+    ),
+    (
+        "run --seed=7",
+        "step 1\nfactors 2 levels 2\ndesign 4 runs\nno defining words\nnodes 2\nrules\n  none\noutput x.csv 4 rows seed 7\noutput y.csv 4 rows seed 7\n",
+        "A,B\n1,1\n-1,-1\n1,-1\n-1,1\n",
+    ),
+    (
+        "run --seed=18446744073709551615",
+        "step 1\nfactors 2 levels 2\ndesign 4 runs\nno defining words\nnodes 2\nrules\n  none\noutput x.csv 4 rows seed 18446744073709551615\noutput y.csv 4 rows seed 7\n",
+        "A,B\n1,-1\n1,1\n-1,-1\n-1,1\n",
+    ),
+];
+
 /// The seed of the command line is that of a plan that has none of its own.
 #[test]
 fn the_seed_of_the_words_shuffles(rt: HostRuntime) -> Result<(), Fail> {
-    let alloc = rt.alloc();
-    let text =
-        b"proc factex; factors A B; model r=3; output out=x randomize; output out=y randomize(7);";
-    for (word, plan) in [
-        ("--seed=0", "A,B\n-1,1\n-1,-1\n1,1\n1,-1\n"),
-        ("--seed=7", "A,B\n1,1\n-1,-1\n1,-1\n-1,1\n"),
-        (
-            "--seed=18446744073709551615",
-            "A,B\n1,-1\n1,1\n-1,-1\n-1,1\n",
-        ),
-    ] {
-        let mut words = run_words(alloc)?;
-        words.push(word.as_bytes().to_vec(alloc)?)?;
-        let left = planned(&rt, alloc, words.as_slice(), text, STEP, None)?;
-        assert_eq!(rt; left.status, 0);
-        assert!(rt; is_file(&left.shelf, 0, "x.csv", plan.as_bytes()));
-        assert!(rt; is_file(&left.shelf, 1, "y.csv", b"A,B\n1,1\n-1,-1\n1,-1\n-1,1\n"));
+    for (line, listing, plan) in &SEEDS {
+        let files = [("x.csv", *plan), ("y.csv", "A,B\n1,1\n-1,-1\n1,-1\n-1,1\n")];
+        let is_so = shelves(&rt, rt.alloc(), line, SEEDED, SURE, 0, listing, &files)?;
+        assert!(rt; is_so, "{line}");
     }
     Ok(())
 }
@@ -509,31 +520,29 @@ const REFUSED_WORDS: [(&str, &str); 21] = [
 
 #[test]
 fn refused_words_are_told(rt: HostRuntime) -> Result<(), Fail> {
-    let alloc = rt.alloc();
-    for (line, message) in REFUSED_WORDS {
-        let words = words_in(alloc, line)?;
-        let ended = ran(&rt, alloc, words.as_slice(), HALF.as_bytes(), Some(1), None)?;
-        assert_eq!(rt; ended.status, 3, "{line}");
-        assert_eq!(rt; ended.source.faults(), 0, "{line}");
-        assert!(rt;
-            is_message(ended.listing.bytes(), message.as_bytes()),
-            "{line}"
-        );
+    for (line, message) in &REFUSED_WORDS {
+        let is_so = tells(&rt, rt.alloc(), line, HALF.as_bytes(), UNREAD, message)?;
+        assert!(rt; is_so, "{line}");
     }
     Ok(())
 }
 
+/// Whether the words of a line have these settings.
+fn are_settings(alloc: Global, line: &str, settings: Settings) -> Result<bool, Fail> {
+    let words = words_in(alloc, line)?;
+    Ok(read_words(words.as_slice()) == Ok(settings))
+}
+
 #[test]
 fn numbers_of_steps_are_read(rt: HostRuntime) -> Result<(), Fail> {
-    let alloc = rt.alloc();
-    for (line, settings) in [
+    const WORDS: [(&str, Settings); 4] = [
         ("make 1", Settings::Make { n: 1 }),
         ("make 100", Settings::Make { n: 100 }),
         ("make 00000000000000000012", Settings::Make { n: 12 }),
         ("large 40", Settings::Large { n: 40, threads: 1 }),
-    ] {
-        let words = words_in(alloc, line)?;
-        assert!(rt; read_words(words.as_slice()) == Ok(settings), "{line}");
+    ];
+    for (line, settings) in &WORDS {
+        assert!(rt; are_settings(rt.alloc(), line, *settings)?, "{line}");
     }
     Ok(())
 }
@@ -603,85 +612,94 @@ const TWELVE: &str = "\
 
 #[test]
 fn texts_are_made(rt: HostRuntime) -> Result<(), Fail> {
-    let alloc = rt.alloc();
-    let mut text = Bytes::new(alloc);
+    let mut text = Bytes::new(rt.alloc());
     make_text(0, &mut text)?;
-    assert!(rt; text.as_slice().is_empty());
+    assert!(rt; text.is_empty());
     make_text(12, &mut text)?;
     assert!(rt; text.as_slice() == TWELVE.as_bytes());
     make_text(24, &mut text)?;
-    assert_eq!(rt; text.len(), 3 * TWELVE.len());
+    assert!(rt; text.len() == 3 * TWELVE.len());
     assert!(rt; text.as_slice().ends_with(TWELVE.as_bytes()));
-    let words = words_in(alloc, "make 12")?;
-    let ended = ran(&rt, alloc, words.as_slice(), HALF.as_bytes(), Some(1), None)?;
-    assert_eq!(rt; ended.status, 0);
-    assert_eq!(rt; ended.source.faults(), 0);
-    assert!(rt; ended.listing.bytes() == TWELVE.as_bytes());
+    assert!(rt;
+        lists(
+            &rt,
+            rt.alloc(),
+            "make 12",
+            HALF.as_bytes(),
+            UNREAD,
+            0,
+            TWELVE
+        )?
+    );
     Ok(())
 }
 
 #[test]
 fn large_sums_up(rt: HostRuntime) -> Result<(), Fail> {
-    let alloc = rt.alloc();
-    for (line, summary) in [
+    const SUMMARIES: [(&str, &str); 2] = [
         ("large 1", "steps 1\ndesigns 1\nnone 0\nended 0\nnodes 55\n"),
         (
             "large 2",
             "steps 2\ndesigns 2\nnone 0\nended 0\nnodes 106\n",
         ),
-    ] {
-        let words = words_in(alloc, line)?;
-        let ended = ran(&rt, alloc, words.as_slice(), HALF.as_bytes(), Some(1), None)?;
-        assert_eq!(rt; ended.status, 0, "{line}");
-        assert_eq!(rt; ended.source.faults(), 0, "{line}");
-        assert!(rt; ended.listing.bytes() == summary.as_bytes(), "{line}");
+    ];
+    for (line, summary) in &SUMMARIES {
+        let is_so = lists(&rt, rt.alloc(), line, HALF.as_bytes(), UNREAD, 0, summary)?;
+        assert!(rt; is_so, "{line}");
     }
     Ok(())
+}
+
+/// Whether the status is 4 after failed writes, so many bytes are listed, and no other call failed.
+fn is_after_write(left: Option<Tally>, listed: usize) -> bool {
+    match left {
+        Some(left) => left.status == 4
+            && left.read_faults == 0
+            && left.write_faults == 1
+            && left.listed == listed,
+        None => false,
+    }
 }
 
 /// After a failed write of a made text or of a summary nothing is written again.
 #[test]
 fn no_call_follows_a_failed_write_of_a_piece(rt: HostRuntime) -> Result<(), Fail> {
-    let alloc = rt.alloc();
-    for line in ["make 1", "large 1"] {
-        let words = words_in(alloc, line)?;
-        let ended = ran(
-            &rt,
-            alloc,
-            words.as_slice(),
-            HALF.as_bytes(),
-            Some(1),
-            Some(2),
-        )?;
-        assert_eq!(rt; ended.status, 4, "{line}");
-        assert_eq!(rt; ended.source.faults(), 0, "{line}");
-        assert_eq!(rt; ended.listing.faults(), 1, "{line}");
-        assert_eq!(rt; ended.listing.bytes().len(), STEP, "{line}");
+    let limits = Limits {
+        first_write: Some(2),
+        ..UNREAD
+    };
+    for (line, listing) in [("make 1", TWELVE), ("large 1", "steps 1\ndesigns 1\n")] {
+        let left = tally_of(&rt, rt.alloc(), line, HALF.as_bytes(), limits, listing)?;
+        assert!(rt; is_after_write(left, STEP), "{line}");
     }
     Ok(())
+}
+
+/// Whether the status is 4 after a failed read, and nothing is written.
+fn is_after_read(left: Option<Tally>) -> bool {
+    match left {
+        Some(left) => left.status == 4
+            && left.read_faults == 1
+            && left.write_faults == 0
+            && left.listed == 0,
+        None => false,
+    }
 }
 
 /// After a failed read nothing is read again and nothing is written: each further call would fail
 /// too, and be counted.
 #[test]
 fn no_call_follows_a_failed_read(rt: HostRuntime) -> Result<(), Fail> {
-    let alloc = rt.alloc();
-    let words = run_words(alloc)?;
     for text in [HALF, "no program"] {
         // The last read finds the end.
         for call in 1..=text.len().div_ceil(STEP) + 1 {
-            let ended = ran(
-                &rt,
-                alloc,
-                words.as_slice(),
-                text.as_bytes(),
-                Some(call),
-                Some(1),
-            )?;
-            assert_eq!(rt; ended.status, 4);
-            assert_eq!(rt; ended.source.faults(), 1);
-            assert_eq!(rt; ended.listing.faults(), 0);
-            assert!(rt; ended.listing.bytes().is_empty());
+            let limits = Limits {
+                first_read: Some(call),
+                first_write: Some(1),
+                ..SURE
+            };
+            let left = tally_of(&rt, rt.alloc(), "run", text.as_bytes(), limits, "")?;
+            assert!(rt; is_after_read(left));
         }
     }
     Ok(())
@@ -690,184 +708,174 @@ fn no_call_follows_a_failed_read(rt: HostRuntime) -> Result<(), Fail> {
 /// After a failed write nothing is written again, and nothing is read that was not needed before.
 #[test]
 fn no_call_follows_a_failed_write(rt: HostRuntime) -> Result<(), Fail> {
-    let alloc = rt.alloc();
-    let words = run_words(alloc)?;
-    let reads = HALF.len().div_ceil(STEP) + 1;
-    let unneeded = Some(reads + 1);
+    let text = HALF.as_bytes();
+    let needed = Limits {
+        first_read: Some(text.len().div_ceil(STEP) + 2),
+        ..SURE
+    };
     let calls = HALF_LISTING.len().div_ceil(STEP);
     for call in 1..=calls {
-        let ended = ran(
-            &rt,
-            alloc,
-            words.as_slice(),
-            HALF.as_bytes(),
-            unneeded,
-            Some(call),
-        )?;
-        assert_eq!(rt; ended.status, 4);
-        assert_eq!(rt; ended.listing.faults(), 1);
-        assert_eq!(rt; ended.source.faults(), 0);
-        assert_eq!(rt; ended.listing.bytes().len(), (call - 1) * STEP);
-        assert!(rt; HALF_LISTING.as_bytes().starts_with(ended.listing.bytes()));
+        let limits = Limits {
+            first_write: Some(call),
+            ..needed
+        };
+        let left = tally_of(&rt, rt.alloc(), "run", text, limits, HALF_LISTING)?;
+        assert!(rt; is_after_write(left, (call - 1) * STEP));
     }
-    let ended = ran(
-        &rt,
-        alloc,
-        words.as_slice(),
-        HALF.as_bytes(),
-        unneeded,
-        Some(calls + 1),
-    )?;
-    assert_eq!(rt; ended.status, 0);
+    let limits = Limits {
+        first_write: Some(calls + 1),
+        ..needed
+    };
+    assert!(rt; lists(&rt, rt.alloc(), "run", text, limits, 0, HALF_LISTING)?);
     Ok(())
 }
 
 /// Each text with its listing, its files by name and content, and its status.
-const PLANNED: [(&[u8], &[u8], &[(&str, &[u8])], u8); 6] = [
+const PLANNED: [(&str, &str, &[(&str, &str)], u8); 5] = [
     (
-        b"proc factex; factors A B; size design=4; model resolution=3; output out=Plan pointrep=2 designrep=2 B cvals=('lo,w' 'h\"i');",
-        b"step 1\nfactors 2 levels 2\ndesign 4 runs\nno defining words\nnodes 2\nrules\n  none\noutput plan.csv 16 rows\n",
+        "proc factex; factors A B; size design=4; model resolution=3; output out=Plan pointrep=2 designrep=2 B cvals=('lo,w' 'h\"i');",
+        "step 1\nfactors 2 levels 2\ndesign 4 runs\nno defining words\nnodes 2\nrules\n  none\noutput plan.csv 16 rows\n",
         &[(
             "plan.csv",
-            b"A,B\n-1,\"lo,w\"\n-1,\"lo,w\"\n-1,\"h\"\"i\"\n-1,\"h\"\"i\"\n1,\"lo,w\"\n1,\"lo,w\"\n1,\"h\"\"i\"\n1,\"h\"\"i\"\n-1,\"lo,w\"\n-1,\"lo,w\"\n-1,\"h\"\"i\"\n-1,\"h\"\"i\"\n1,\"lo,w\"\n1,\"lo,w\"\n1,\"h\"\"i\"\n1,\"h\"\"i\"\n",
+            "A,B\n-1,\"lo,w\"\n-1,\"lo,w\"\n-1,\"h\"\"i\"\n-1,\"h\"\"i\"\n1,\"lo,w\"\n1,\"lo,w\"\n1,\"h\"\"i\"\n1,\"h\"\"i\"\n-1,\"lo,w\"\n-1,\"lo,w\"\n-1,\"h\"\"i\"\n-1,\"h\"\"i\"\n1,\"lo,w\"\n1,\"lo,w\"\n1,\"h\"\"i\"\n1,\"h\"\"i\"\n",
         )],
         0,
     ),
     (
-        b"proc factex; factors A B C; size fraction=2; model res=3; examine aliasing; output out=HALF A nvals=(10 -2.5) B cvals=('' '\xe9\n\r');",
-        b"step 1\nfactors 3 levels 2\ndesign 4 runs\nresolution 3\nnodes 3\nrules\n  C = A*B\naliasing\n  A = B*C\n  B = A*C\n  C = A*B\noutput half.csv 4 rows\n",
-        &[(
-            "half.csv",
-            b"A,B,C\n10,,-1\n10,\"\xe9\n\r\",1\n-2.5,,1\n-2.5,\"\xe9\n\r\",-1\n",
-        )],
-        0,
-    ),
-    (
-        b"proc factex; factors A B; model r=3; output out=z randomize(0) novalran; output out=y randomize(18446744073709551615); output out=x randomize novalran;",
-        b"step 1\nfactors 2 levels 2\ndesign 4 runs\nno defining words\nnodes 2\nrules\n  none\noutput z.csv 4 rows seed 0\noutput y.csv 4 rows seed 18446744073709551615\noutput x.csv 4 rows seed 0\n",
+        "proc factex; factors A B; model r=3; output out=z randomize(0) novalran; output out=y randomize(18446744073709551615); output out=x randomize novalran;",
+        "step 1\nfactors 2 levels 2\ndesign 4 runs\nno defining words\nnodes 2\nrules\n  none\noutput z.csv 4 rows seed 0\noutput y.csv 4 rows seed 18446744073709551615\noutput x.csv 4 rows seed 0\n",
         &[
-            ("z.csv", b"A,B\n1,1\n1,-1\n-1,1\n-1,-1\n"),
-            ("y.csv", b"A,B\n1,-1\n1,1\n-1,-1\n-1,1\n"),
-            ("x.csv", b"A,B\n1,1\n1,-1\n-1,1\n-1,-1\n"),
+            ("z.csv", "A,B\n1,1\n1,-1\n-1,1\n-1,-1\n"),
+            ("y.csv", "A,B\n1,-1\n1,1\n-1,-1\n-1,1\n"),
+            ("x.csv", "A,B\n1,1\n1,-1\n-1,1\n-1,-1\n"),
         ],
         0,
     ),
     (
-        b"proc factex; factors A B C; size design=2; model r=3; output out=a;",
-        b"step 1\nfactors 3 levels 2\nno design in 2 runs\nnodes 1\nbook step1-1.book\n",
+        "proc factex; factors A B C; size design=2; model r=3; output out=a;",
+        "step 1\nfactors 3 levels 2\nno design in 2 runs\nnodes 1\nbook step1-1.book\n",
         &[(
             "step1-1.book",
-            b"factex-book 1\nsize 2 1 3 0\nresolution 3\npattern none\nO 1\nEND\n",
+            "factex-book 1\nsize 2 1 3 0\nresolution 3\npattern none\nO 1\nEND\n",
         )],
         1,
     ),
     (
-        b"proc factex; factors A; model r=3; output out=a23456789012345678901234567890ZZ; run; proc factex; factors B / nlev=3; model r=3; output out=b;",
-        b"step 1\nfactors 1 levels 2\ndesign 2 runs\nno defining words\nnodes 1\nrules\n  none\noutput a23456789012345678901234567890zz.csv 2 rows\nstep 2\nfactors 1 levels 3\ndesign 3 runs\nno defining words\nnodes 1\nrules\n  none\noutput b.csv 3 rows\n",
+        "proc factex; factors A; model r=3; output out=a23456789012345678901234567890ZZ; run; proc factex; factors B / nlev=3; model r=3; output out=b;",
+        "step 1\nfactors 1 levels 2\ndesign 2 runs\nno defining words\nnodes 1\nrules\n  none\noutput a23456789012345678901234567890zz.csv 2 rows\nstep 2\nfactors 1 levels 3\ndesign 3 runs\nno defining words\nnodes 1\nrules\n  none\noutput b.csv 3 rows\n",
         &[
-            ("a23456789012345678901234567890zz.csv", b"A\n-1\n1\n"),
-            ("b.csv", b"B\n-1\n0\n1\n"),
+            ("a23456789012345678901234567890zz.csv", "A\n-1\n1\n"),
+            ("b.csv", "B\n-1\n0\n1\n"),
         ],
         0,
     ),
     (
-        b"proc factex nodes=6; factors A B C D; size design=8; model resolution=max / minabs; output out=a;",
-        b"step 1\nfactors 4 levels 2\nbudget ended after 6 nodes\ndesign 8 runs not proved best\nresolution 4\nrules\n  D = A*B*C\noutput a.csv 8 rows\n",
+        "proc factex nodes=6; factors A B C D; size design=8; model resolution=max / minabs; output out=a;",
+        "step 1\nfactors 4 levels 2\nbudget ended after 6 nodes\ndesign 8 runs not proved best\nresolution 4\nrules\n  D = A*B*C\noutput a.csv 8 rows\n",
         &[(
             "a.csv",
-            b"A,B,C,D\n-1,-1,-1,-1\n-1,-1,1,1\n-1,1,-1,1\n-1,1,1,-1\n1,-1,-1,1\n1,-1,1,-1\n1,1,-1,-1\n1,1,1,1\n",
+            "A,B,C,D\n-1,-1,-1,-1\n-1,-1,1,1\n-1,1,-1,1\n-1,1,1,-1\n1,-1,-1,1\n1,-1,1,-1\n1,1,-1,-1\n1,1,1,1\n",
         )],
         2,
     ),
 ];
 
-/// What `factex` leaves with a text, where calls take `step` bytes, and each call on the shelf from this one
-/// on fails.
-fn planned<R: Threads + Sync>(
-    rt: &R,
-    alloc: Global,
-    words: &[Vec<u8>],
-    text: &[u8],
-    step: usize,
-    first_file: Option<usize>,
-) -> Result<Outside, Fail> {
-    let limits = Limits {
-        step,
-        first_file,
-        ..SURE
-    };
-    left_by(rt, alloc, words, text, limits)
-}
+/// A plan with values that are quoted, of bytes that are no UTF-8.
+const QUOTED: &[u8] =
+    b"proc factex; factors A B C; size fraction=2; model res=3; examine aliasing; output out=HALF A nvals=(10 -2.5) B cvals=('' '\xe9\n\r');";
 
-/// Whether a file of the shelf is whole, with this name and this content.
-fn is_file(shelf: &MemoryShelf, i: usize, name: &str, content: &[u8]) -> bool {
-    i < shelf.files()
-        && shelf.is_ended(i)
-        && shelf.name(i) == name.as_bytes()
-        && shelf.content(i) == content
-}
+const QUOTED_LISTING: &str =
+    "step 1\nfactors 3 levels 2\ndesign 4 runs\nresolution 3\nnodes 3\nrules\n  C = A*B\naliasing\n  A = B*C\n  B = A*C\n  C = A*B\noutput half.csv 4 rows\n";
+
+const QUOTED_PLAN: &[u8] = b"A,B,C\n10,,-1\n10,\"\xe9\n\r\",1\n-2.5,,1\n-2.5,\"\xe9\n\r\",-1\n";
 
 #[test]
 fn plans_are_shelved(rt: HostRuntime) -> Result<(), Fail> {
-    let alloc = rt.alloc();
-    let words = run_words(alloc)?;
-    for (text, listing, files, status) in PLANNED {
-        let left = planned(&rt, alloc, words.as_slice(), text, STEP, None)?;
-        assert_eq!(rt; left.status, status);
-        assert!(rt; left.listing.bytes() == listing);
-        assert_eq!(rt; left.shelf.files(), files.len());
-        for (i, (name, content)) in files.iter().enumerate() {
-            assert!(rt; is_file(&left.shelf, i, name, content));
-        }
+    for (text, listing, files, status) in &PLANNED {
+        let is_so = shelves(&rt, rt.alloc(), "run", text, SURE, *status, listing, files)?;
+        assert!(rt; is_so, "{text}");
     }
+    let plan = file_of(&rt, rt.alloc(), QUOTED, SURE, 0, QUOTED_LISTING)?;
+    assert!(rt; plan.as_slice() == QUOTED_PLAN);
     Ok(())
+}
+
+/// Whether the status is 4 after a failed call on the shelf, nothing is listed, and no file is ended.
+fn is_after_file(left: Option<Tally>, files: usize) -> bool {
+    match left {
+        Some(left) => left.status == 4
+            && left.file_faults == 1
+            && left.listed == 0
+            && left.files == files
+            && left.ended == 0,
+        None => false,
+    }
 }
 
 /// After a failed call on the shelf none is made again, and nothing is listed. The file is begun,
 /// written in two pieces, and ended.
 #[test]
 fn no_call_follows_a_failed_file(rt: HostRuntime) -> Result<(), Fail> {
-    let alloc = rt.alloc();
-    let text = b"proc factex; factors A; model r=3; output out=a;";
-    let words = run_words(alloc)?;
+    let text = "proc factex; factors A; model r=3; output out=a;";
     for call in 1..5 {
-        let left = planned(&rt, alloc, words.as_slice(), text, 4, Some(call))?;
-        assert_eq!(rt; left.status, 4);
-        assert_eq!(rt; left.shelf.faults(), 1);
-        assert!(rt; left.listing.bytes().is_empty());
-        assert_eq!(rt; left.shelf.files(), usize::from(call > 1));
-        assert!(rt; !is_file(&left.shelf, 0, "a.csv", b"A\n-1\n1\n"));
+        let limits = Limits {
+            step: 4,
+            first_file: Some(call),
+            ..SURE
+        };
+        let left = tally_of(&rt, rt.alloc(), "run", text.as_bytes(), limits, "")?;
+        assert!(rt; is_after_file(left, usize::from(call > 1)));
     }
-    let left = planned(&rt, alloc, words.as_slice(), text, 4, Some(5))?;
-    assert_eq!(rt; left.status, 0);
-    assert!(rt; is_file(&left.shelf, 0, "a.csv", b"A\n-1\n1\n"));
+    let limits = Limits {
+        step: 4,
+        first_file: Some(5),
+        ..SURE
+    };
+    let listing =
+        "step 1\nfactors 1 levels 2\ndesign 2 runs\nno defining words\nnodes 1\nrules\n  none\noutput a.csv 2 rows\n";
+    let files = [("a.csv", "A\n-1\n1\n")];
+    assert!(rt; shelves(&rt, rt.alloc(), "run", text, limits, 0, listing, &files)?);
     Ok(())
+}
+
+/// The longest text, of blanks and a program, and one byte more where that is wanted.
+fn long_text(alloc: Global, more: bool) -> Result<Vec<u8>, Fail> {
+    let mut text = vec![in alloc; b' '; 1048576 - HALF.len()]?;
+    text.extend_from_slice(HALF.as_bytes())?;
+    if more {
+        text.push(b' ')?;
+    }
+    Ok(text)
+}
+
+/// A text of more steps than may be.
+fn many_steps(alloc: Global) -> Result<Bytes, Fail> {
+    let mut text = Bytes::new(alloc);
+    for _step in 0..101 {
+        put(&mut text, b"proc factex; factors A;\n")?;
+    }
+    Ok(text)
 }
 
 #[test]
 fn long_texts_are_read(rt: HostRuntime) -> Result<(), Fail> {
-    let alloc = rt.alloc();
-    let words = run_words(alloc)?;
-    let mut text = vec![in alloc; b' '; 1048576 - HALF.len()]?;
-    text.extend_from_slice(HALF.as_bytes())?;
-    let whole = ran(&rt, alloc, words.as_slice(), text.as_slice(), None, None)?;
-    assert_eq!(rt; whole.status, 0);
-    assert!(rt; whole.listing.bytes() == HALF_LISTING.as_bytes());
-    text.push(b' ')?;
-    let longer = ran(&rt, alloc, words.as_slice(), text.as_slice(), None, None)?;
-    assert_eq!(rt; longer.status, 3);
+    let text = long_text(rt.alloc(), false)?;
     assert!(rt;
-        is_message(
-            longer.listing.bytes(),
-            b"E25 1:1 text is over 1048576 bytes"
-        )
+        lists(
+            &rt,
+            rt.alloc(),
+            "run",
+            text.as_slice(),
+            SURE,
+            0,
+            HALF_LISTING
+        )?
     );
-    let mut steps = Vec::new(alloc);
-    for _ in 0..101 {
-        steps.extend_from_slice(b"proc factex; factors A;\n".as_slice())?;
-    }
-    let more = ran(&rt, alloc, words.as_slice(), steps.as_slice(), None, None)?;
-    assert_eq!(rt; more.status, 3);
-    assert!(rt; is_message(more.listing.bytes(), b"E32 101:1 more than 100 steps"));
+    let text = long_text(rt.alloc(), true)?;
+    let message = "E25 1:1 text is over 1048576 bytes";
+    assert!(rt; tells(&rt, rt.alloc(), "run", text.as_slice(), SURE, message)?);
+    let text = many_steps(rt.alloc())?;
+    let message = "E32 101:1 more than 100 steps";
+    assert!(rt; tells(&rt, rt.alloc(), "run", text.as_slice(), SURE, message)?);
     Ok(())
 }

@@ -1,10 +1,11 @@
 ghost use Rattle.std.specs.Prelude.{◌<◌, ◌≤◌};
 
 use fx_answer::answer;
-use fx_base::{Bytes, put, put_number};
+use fx_base::{Bytes, NoMemory, put, put_number};
 use fx_board::FreeGate;
 use fx_lexer::lex;
-use fx_statements::{End, Outcome, ParseStop, Program, parse};
+use fx_statements::{End, Outcome, ParseStop, Program, Step, parse};
+use fx_vectors::Matrix;
 use std::alloc::Global;
 use std::process::Abort;
 use std::test::Fail;
@@ -125,62 +126,93 @@ const STEPS: [(&str, u64, Ended); 46] = [
     ),
 ];
 
-/// The program of the text of a step with this budget.
-fn program_of(rt: &impl Abort, alloc: Global, budget: u64, step: &str) -> Result<Program, Fail> {
-    let mut text = Bytes::new(alloc);
-    put(&mut text, b"proc factex nodes=")?;
+/// The text of a step with this budget.
+fn text_of(alloc: Global, budget: u64, step: &str) -> Result<Bytes, NoMemory> {
+    let mut text = Bytes::from_slice(alloc, b"proc factex nodes=")?;
     put_number(&mut text, u128::from(budget))?;
     put(&mut text, step.as_bytes())?;
+    Ok(text)
+}
+
+/// The program of a text.
+fn program_of(rt: &impl Abort, alloc: Global, text: &[u8]) -> Result<Program, Fail> {
     assert!(rt; text.len() <= 1_048_576);
-    let tokens = lex(alloc, text.as_slice())?;
-    match parse(alloc, text.as_slice(), &tokens) {
+    let tokens = lex(alloc, text)?;
+    match parse(alloc, text, &tokens) {
         Ok(program) => Ok(program),
         Err(ParseStop::Refused(_refusal)) => Err(Fail::new("the text is refused")),
         Err(ParseStop::NoMemory) => Err(Fail::new("memory ran out")),
     }
 }
 
-/// Tests that an outcome is this one.
-fn has_ended(rt: &impl Abort, outcome: &Outcome, expected: Ended) {
-    let (end, m, t, rows, nodes) = expected;
-    assert_eq!(rt; outcome.end, end);
-    assert_eq!(rt; outcome.shape.m, m);
-    assert_eq!(rt; outcome.shape.t, t);
-    assert_eq!(rt; outcome.nodes, nodes);
-    match &outcome.matrix {
-        Some(matrix) => {
-            assert_eq!(rt; matrix.len(), rows.len());
-            for i in 0..matrix.len() {
-                assert_eq!(rt; matrix.row(i), rows[i]);
-            }
+/// Whether these are the rows of a matrix, or there are none of both.
+fn has_rows(matrix: &Option<Matrix>, rows: &[u16]) -> bool {
+    let Some(matrix) = matrix else {
+        return rows.is_empty();
+    };
+    for (i, row) in rows.iter().enumerate() {
+        if i >= matrix.len() || matrix.row(i) != *row {
+            return false;
         }
-        None => assert!(rt; rows.is_empty()),
     }
+    matrix.len() == rows.len()
 }
 
-/// Tests that a step ends so within this budget, by so many threads.
+/// Whether an outcome is this one.
+fn has_ended(outcome: &Outcome, (end, m, t, rows, nodes): Ended) -> bool {
+    outcome.end == end
+        && outcome.shape.m == m
+        && outcome.shape.t == t
+        && outcome.nodes == nodes
+        && has_rows(&outcome.matrix, rows)
+}
+
+/// Whether a step ends so, by so many threads.
+fn step_ends_so<R: Threads + Sync>(
+    rt: &R,
+    alloc: Global,
+    step: &Step,
+    threads: u8,
+    expected: Ended,
+) -> Result<bool, NoMemory>
+    requires { (0 < threads) × (threads ≤ 64) }
+{
+    let outcome = answer(rt, alloc, step, threads, &FreeGate)?;
+    Ok(has_ended(&outcome, expected))
+}
+
+/// Whether a step ends so by one thread and by three.
+fn both_end_so<R: Threads + Sync>(
+    rt: &R,
+    alloc: Global,
+    step: &Step,
+    expected: Ended,
+) -> Result<bool, NoMemory> {
+    Ok(step_ends_so(rt, alloc, step, 1, expected)? && step_ends_so(rt, alloc, step, 3, expected)?)
+}
+
+/// Whether the step of a text does.
 fn ends_so<R: Abort + Threads + Sync>(
     rt: &R,
     alloc: Global,
-    step: &str,
-    budget: u64,
-    threads: u8,
+    text: &[u8],
     expected: Ended,
-) -> Result<(), Fail>
-    requires { (0 < threads) × (threads ≤ 64) }
-{
-    let program = program_of(rt, alloc, budget, step)?;
-    assert_eq!(rt; program.as_slice().len(), 1);
-    let outcome = answer(rt, alloc, &program.as_slice()[0], threads, &FreeGate)?;
-    has_ended(rt, &outcome, expected);
-    Ok(())
+) -> Result<bool, Fail> {
+    let program = program_of(rt, alloc, text)?;
+    match program.as_slice() {
+        [step] => Ok(both_end_so(rt, alloc, step, expected)?),
+        _ => Ok(false),
+    }
 }
 
 #[test]
 fn budgets_end_at_the_last_node_of_each_question(rt: HostRuntime) -> Result<(), Fail> {
-    for (step, budget, expected) in STEPS {
-        ends_so(&rt, rt.alloc(), step, budget, 1, expected)?;
-        ends_so(&rt, rt.alloc(), step, budget, 3, expected)?;
+    for (step, budget, expected) in &STEPS {
+        let text = text_of(rt.alloc(), *budget, step)?;
+        assert!(rt;
+            ends_so(&rt, rt.alloc(), text.as_slice(), *expected)?,
+            "{budget}{step}"
+        );
     }
     Ok(())
 }

@@ -61,12 +61,14 @@ fn is_closed_with_one(end: &JobEnd) -> bool {
     }
 }
 
-/// How many jobs of the list are Closed with one node.
-fn closed_with_one(ends: &Ends) -> usize {
-    ends.as_slice()
-        .iter()
-        .filter(|ended| is_closed_with_one(&ended.end))
-        .count()
+/// Whether each job of the list is Closed with one node.
+fn are_closed_with_one(ends: &Ends) -> bool {
+    for ended in ends.as_slice() {
+        if !is_closed_with_one(&ended.end) {
+            return false;
+        }
+    }
+    true
 }
 
 #[test]
@@ -87,7 +89,7 @@ fn one_worker_ends_each_job(rt: HostRuntime) -> Result<(), Fail> {
         1_000_000,
         &FreeGate,
     )?;
-    assert!(rt; ends.len() == 10 && closed_with_one(&ends) == 10 && worker == 10);
+    assert!(rt; ends.len() == 10 && are_closed_with_one(&ends) && worker == 10);
     let closed = board.close(seat);
     assert!(rt; closed.next == 11 && closed.stop == 10);
     Ok(())
@@ -98,12 +100,13 @@ fn one_worker_ends_each_job(rt: HostRuntime) -> Result<(), Fail> {
 fn a_seat_sees_what_another_reports(rt: HostRuntime) -> Result<(), Fail> {
     let (board, mut first) = Board::new(rt.alloc(), 2, 2)?;
     let mut second = board.split(&mut first);
-    assert!(rt; board.claim(&mut first) == Some(0));
+    let first_job = board.claim(&mut first);
     board.report(&mut first, 0);
-    assert!(rt; board.claim(&mut second) == Some(1));
-    assert!(rt; board.stops_before(&mut second, 1));
+    let second_job = board.claim(&mut second);
+    let stops = board.stops_before(&mut second, 1);
     board.join(&mut first, second);
     let closed = board.close(first);
+    assert!(rt; first_job == Some(0) && second_job == Some(1) && stops);
     assert!(rt; closed.next == 2 && closed.stop == 0);
     Ok(())
 }

@@ -176,61 +176,104 @@ fn pairs_are_counted(rt: HostRuntime) -> Result<(), Fail> {
     Ok(())
 }
 
+/// The number of the closing word of a prefix, where it has one and that is forbidden.
+fn closing_number(forbidden: &Forbidden, prefix: &Matrix) -> Option<u128>
+    requires { prefix.now.shape ≡ forbidden.now.shape }
+{
+    match forbidden.closing_word(prefix) {
+        None => None,
+        Some(word) => {
+            let number = word.number(forbidden.shape().field());
+            if forbidden.holds(&word) {
+                Some(number)
+            } else {
+                None
+            }
+        }
+    }
+}
+
+/// The words that are forbidden for five factors of two levels in eight runs, at resolution 4.
+fn half_words(alloc: Global) -> Result<Forbidden, NoMemory>
+    ensures { IfOk result (λ forbidden.
+        forbidden.shape ≡ record { q = 2; m = 3; s = 5; t = 0 }) }
+{
+    Forbidden::of(alloc, &half_fraction())
+}
+
 /// A, B, C and ABC are at resolution 4; BC with A and ABC has the sum zero.
 #[test]
 fn a_fifth_row_closes_a_half_fraction(rt: HostRuntime) -> Result<(), Fail> {
-    let question = half_fraction();
-    let forbidden = Forbidden::of(rt.alloc(), &question)?;
-    let mut prefix = Matrix::new(question.shape);
+    const SHAPE: Shape = Shape {
+        q: 2,
+        m: 3,
+        s: 5,
+        t: 0,
+    };
+    let forbidden = half_words(rt.alloc())?;
+    let mut prefix = Matrix::new(SHAPE);
     prefix.push(1);
     prefix.push(2);
     prefix.push(4);
     prefix.push(7);
-    assert!(rt; forbidden.allows(&prefix));
-    assert!(rt; forbidden.closing_word(&prefix).is_none());
+    assert!(rt; forbidden.allows(&prefix) && closing_number(&forbidden, &prefix).is_none());
     prefix.push(6);
-    assert!(rt; !forbidden.allows(&prefix));
-    match forbidden.closing_word(&prefix) {
-        None => assert!(rt; false),
-        Some(word) => assert_eq!(rt; word.number(question.shape.field()), 25),
-    }
+    assert!(rt; !forbidden.allows(&prefix) && closing_number(&forbidden, &prefix) == Some(25));
     Ok(())
+}
+
+/// The words that are forbidden for three factors of two levels in eight runs, in four blocks.
+fn block_words(alloc: Global) -> Result<Forbidden, NoMemory>
+    ensures { IfOk result (λ forbidden.
+        forbidden.shape ≡ record { q = 2; m = 3; s = 3; t = 2 }) }
+{
+    Forbidden::of(alloc, &in_blocks())
 }
 
 /// Blocks by ABC and BC have the interaction A.
 #[test]
 fn an_interaction_of_blocks_is_forbidden(rt: HostRuntime) -> Result<(), Fail> {
-    let question = in_blocks();
-    let forbidden = Forbidden::of(rt.alloc(), &question)?;
-    let mut prefix = Matrix::new(question.shape);
+    const SHAPE: Shape = Shape {
+        q: 2,
+        m: 3,
+        s: 3,
+        t: 2,
+    };
+    let forbidden = block_words(rt.alloc())?;
+    let mut prefix = Matrix::new(SHAPE);
     prefix.push(1);
     prefix.push(2);
     prefix.push(4);
     prefix.push(7);
     assert!(rt; forbidden.allows(&prefix));
     prefix.push(6);
-    match forbidden.closing_word(&prefix) {
-        None => assert!(rt; false),
-        Some(word) => assert_eq!(rt; word.number(question.shape.field()), 25),
-    }
+    assert!(rt; closing_number(&forbidden, &prefix) == Some(25));
     Ok(())
+}
+
+/// The words that are forbidden for the main effects of two factors of two levels in two runs.
+fn effect_words(alloc: Global) -> Result<Forbidden, NoMemory>
+    ensures { IfOk result (λ forbidden.
+        forbidden.shape ≡ record { q = 2; m = 1; s = 2; t = 0 }) }
+{
+    let question = two_effects(alloc)?;
+    Forbidden::of(alloc, &question)
 }
 
 #[test]
 fn two_factors_are_told_apart(rt: HostRuntime) -> Result<(), Fail> {
-    let question = two_effects(rt.alloc())?;
-    let forbidden = Forbidden::of(rt.alloc(), &question)?;
-    let mut prefix = Matrix::new(question.shape);
+    const SHAPE: Shape = Shape {
+        q: 2,
+        m: 1,
+        s: 2,
+        t: 0,
+    };
+    let forbidden = effect_words(rt.alloc())?;
+    let mut prefix = Matrix::new(SHAPE);
     prefix.push(1);
     assert!(rt; forbidden.allows(&prefix));
     prefix.push(1);
-    match forbidden.closing_word(&prefix) {
-        None => assert!(rt; false),
-        Some(word) => {
-            assert_eq!(rt; word.number(question.shape.field()), 3);
-            assert!(rt; forbidden.holds(&word));
-        }
-    }
+    assert!(rt; closing_number(&forbidden, &prefix) == Some(3));
     Ok(())
 }
 
@@ -270,7 +313,55 @@ fn listed_words_close_alike(rt: HostRuntime) -> Result<(), Fail> {
     Ok(())
 }
 
-/// Whether the two lead to the same word for prefixes of two, of four and of all rows.
+/// Whether the two lead to the same word for a prefix.
+fn agree(tried: &Forbidden, listed: &Forbidden, prefix: &Matrix) -> bool
+    requires tried { prefix.now.shape ≡ tried.now.shape }
+    requires listed { prefix.now.shape ≡ listed.now.shape }
+{
+    tried.closing_word(prefix) == listed.closing_word(prefix)
+}
+
+/// Whether they do for the prefixes of this number, of two, of four and of all rows.
+fn agree_at(tried: &Forbidden, listed: &Forbidden, q: u8, t: u8, n: u16) -> bool
+    requires least { 2 ≤ q }
+    requires most { q ≤ 4 }
+    requires blocks { t ≤ 1 }
+    requires room { q + 1 < q ^ 2 }
+    requires tried { tried.now.shape ≡ record { q = q; m = 2; s = 4; t = t } }
+    requires listed { listed.now.shape ≡ record { q = q; m = 2; s = 4; t = t } }
+{
+    let mut prefix = Matrix::new(tried.shape());
+    prefix.push(row_of(q, n % 4));
+    prefix.push(row_of(q, n / 4 % 4));
+    let two = agree(tried, listed, &prefix);
+    prefix.push(row_of(q, n / 16 % 4));
+    prefix.push(row_of(q, n / 64));
+    let four = agree(tried, listed, &prefix);
+    if t == 0 {
+        return two && four;
+    }
+    prefix.push(row_of(q, n % 3 + 1));
+    two && four && agree(tried, listed, &prefix)
+}
+
+/// Whether they do for all numbers.
+fn agree_at_all(tried: &Forbidden, listed: &Forbidden, q: u8, t: u8) -> bool
+    requires least { 2 ≤ q }
+    requires most { q ≤ 4 }
+    requires blocks { t ≤ 1 }
+    requires room { q + 1 < q ^ 2 }
+    requires tried { tried.now.shape ≡ record { q = q; m = 2; s = 4; t = t } }
+    requires listed { listed.now.shape ≡ record { q = q; m = 2; s = 4; t = t } }
+{
+    for n in 0u16..256 {
+        if !agree_at(tried, listed, q, t, n) {
+            return false;
+        }
+    }
+    true
+}
+
+/// Whether the words of a question, tried and listed, lead to the same words.
 fn closes_alike(alloc: Global, q: u8, t: u8) -> Result<bool, NoMemory>
     requires least { 2 ≤ q }
     requires most { q ≤ 4 }
@@ -279,26 +370,7 @@ fn closes_alike(alloc: Global, q: u8, t: u8) -> Result<bool, NoMemory>
     let question = of_levels(alloc, q, t)?;
     let tried = Forbidden::of(alloc, &question)?;
     let listed = Forbidden::listed(alloc, &question)?;
-    for n in 0u16..256 {
-        let mut prefix = Matrix::new(question.shape);
-        prefix.push(row_of(q, n % 4));
-        prefix.push(row_of(q, n / 4 % 4));
-        if tried.closing_word(&prefix) != listed.closing_word(&prefix) {
-            return Ok(false);
-        }
-        prefix.push(row_of(q, n / 16 % 4));
-        prefix.push(row_of(q, n / 64));
-        if tried.closing_word(&prefix) != listed.closing_word(&prefix) {
-            return Ok(false);
-        }
-        if t > 0 {
-            prefix.push(row_of(q, n % 3 + 1));
-            if tried.closing_word(&prefix) != listed.closing_word(&prefix) {
-                return Ok(false);
-            }
-        }
-    }
-    Ok(true)
+    Ok(agree_at_all(&tried, &listed, q, t))
 }
 
 /// Of 40 equal rows the sum of all is zero, and the product of 39 factors is the main effect of the

@@ -23,9 +23,7 @@ fn field(q: u8) -> Field
 #[test]
 fn sums_are_those_of_the_codes(rt: HostRuntime) -> Result<(), Fail> {
     let three = Sums::of(rt.alloc(), field(3), 2)?;
-    assert!(rt; three.plus(4, 8) == 0);
-    assert!(rt; three.plus(7, 4) == 2);
-    assert!(rt; three.minus(4) == 8);
+    assert!(rt; three.plus(4, 8) == 0 && three.plus(7, 4) == 2 && three.minus(4) == 8);
     let four = Sums::of(rt.alloc(), field(4), 2)?;
     assert!(rt; four.plus(7, 5) == 2);
     Ok(())

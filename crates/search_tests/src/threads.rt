@@ -1,23 +1,18 @@
 ghost use Rattle.std.specs.Prelude.{◌≤◌};
 ghost use Rattle.fx_vectors.specs.Question.{IsValid};
+ghost use Rattle.fx_vectors.specs.Shape.{IsShape};
 
 use crate::board::Holding;
 use crate::questions::{main_effects, question, shape_of};
+use crate::searches::are_same_marks;
 use fx_base::NoMemory;
-use fx_board::{Alone, Asked, FreeGate, ask, ask_after};
+use fx_board::{Alone, Asked, FreeGate, Gate, ask, ask_after};
 use fx_search::ask_alone;
-use fx_vectors::{Marks, Question};
+use fx_vectors::{Question, Shape};
 use std::alloc::Global;
 use std::sync::atomic::{AtomicU64, Ordering};
 use std::test::Fail;
 use std::thread::Threads;
-
-fn are_same_marks(one: &Marks, other: &Marks) -> bool {
-    let same = (0..one.len()).all(|i| i < one.len()
-        && i < other.len()
-        && one.get(i) == other.get(i));
-    same && one.len() == other.len()
-}
 
 /// Whether both answers are the same, with the same nodes and marks.
 fn are_same(one: &Asked, other: &Asked) -> bool {
@@ -54,6 +49,91 @@ fn nodes_of(asked: &Asked) -> u64 {
     }
 }
 
+/// Numbers of threads, and how many nodes of a lot are walked alone before its jobs are shared out.
+const THREADS: [(u8, Alone); 12] = [
+    (1, Alone { first: 0, later: 0 }),
+    (1, Alone { first: 5, later: 5 }),
+    (
+        1,
+        Alone {
+            first: 0,
+            later: 40,
+        },
+    ),
+    (2, Alone { first: 0, later: 0 }),
+    (2, Alone { first: 5, later: 5 }),
+    (
+        2,
+        Alone {
+            first: 0,
+            later: 40,
+        },
+    ),
+    (3, Alone { first: 0, later: 0 }),
+    (3, Alone { first: 5, later: 5 }),
+    (
+        3,
+        Alone {
+            first: 0,
+            later: 40,
+        },
+    ),
+    (8, Alone { first: 0, later: 0 }),
+    (8, Alone { first: 5, later: 5 }),
+    (
+        8,
+        Alone {
+            first: 0,
+            later: 40,
+        },
+    ),
+];
+
+/// Whether so many threads answer so, under a budget.
+fn answer_so<R: Threads + Sync>(
+    rt: &R,
+    alloc: Global,
+    question: &Question,
+    budget: u64,
+    threads: u8,
+    nodes: Alone,
+    alone: &Asked,
+) -> Result<bool, NoMemory>
+    requires valid { IsValid question.now }
+    requires budget { budget ≤ 5000000 }
+{
+    let asked = ask_after(
+        rt,
+        alloc,
+        question,
+        budget,
+        threads.clamp(1, 64),
+        nodes,
+        &FreeGate,
+    )?;
+    Ok(are_same(&asked, alone))
+}
+
+/// Whether each number of threads answers so, under a budget.
+fn all_answer_so<R: Threads + Sync>(
+    rt: &R,
+    alloc: Global,
+    question: &Question,
+    budget: u64,
+    alone: &Asked,
+) -> Result<bool, NoMemory>
+    requires valid { IsValid question.now }
+    requires budget { budget ≤ 5000000 }
+{
+    for (threads, nodes) in &THREADS {
+        if !answer_so(rt, alloc, question, budget, *threads, *nodes, alone)? {
+            return Ok(false);
+        }
+    }
+    let asked = ask(rt, alloc, question, budget, 4, &FreeGate)?;
+    Ok(are_same(&asked, alone))
+}
+
 /// Whether each number of threads answers as one does, under a budget.
 fn threads_agree<R: Threads + Sync>(
     rt: &R,
@@ -65,18 +145,7 @@ fn threads_agree<R: Threads + Sync>(
     requires budget { budget ≤ 5000000 }
 {
     let alone = ask_alone(alloc, question, budget)?;
-    for threads in [1, 2, 3, 8] {
-        let threads = threads.clamp(1, 64);
-        for (first, later) in [(0, 0), (5, 5), (0, 40)] {
-            let nodes = Alone { first, later };
-            let asked = ask_after(rt, alloc, question, budget, threads, nodes, &FreeGate)?;
-            if !are_same(&asked, &alone) {
-                return Ok(false);
-            }
-        }
-    }
-    let asked = ask(rt, alloc, question, budget, 4, &FreeGate)?;
-    Ok(are_same(&asked, &alone))
+    all_answer_so(rt, alloc, question, budget, &alone)
 }
 
 /// Whether they do under the budget of just the nodes, one more, and one less.
@@ -119,8 +188,9 @@ const ASKED: [(u8, u8, u8, u8, u8, bool); 16] = [
 fn each_agrees<R: Threads + Sync>(
     rt: &R,
     alloc: Global,
-    (q, m, s, t, r, least): (u8, u8, u8, u8, u8, bool),
+    asked: &(u8, u8, u8, u8, u8, bool),
 ) -> Result<bool, NoMemory> {
+    let (q, m, s, t, r, least) = *asked;
     let Some(shape) = shape_of(q, m, s, t) else {
         return Ok(false);
     };
@@ -139,10 +209,28 @@ fn each_agrees<R: Threads + Sync>(
 
 #[test]
 fn any_number_of_threads_answers_as_one(rt: HostRuntime) -> Result<(), Fail> {
-    for asked in ASKED {
+    for asked in &ASKED {
         assert!(rt; each_agrees(&rt, rt.alloc(), asked)?);
     }
     Ok(())
+}
+
+/// How many nodes a search for a resolution comes by with two threads, where it finds a design.
+fn nodes_of_design<R: Threads + Sync, G: Gate>(
+    rt: &R,
+    alloc: Global,
+    shape: Shape,
+    gate: &G,
+) -> Result<u64, NoMemory>
+    requires { IsShape shape }
+{
+    let Some(question) = question(shape, 4, false) else {
+        return Ok(0);
+    };
+    match ask(rt, alloc, &question, 1_000_000, 2, gate)? {
+        Asked::Found { nodes, .. } => Ok(nodes),
+        Asked::Nothing { .. } | Asked::Budget { .. } => Ok(0),
+    }
 }
 
 /// While one worker is held at the first of ten jobs, another ends the nine others.
@@ -153,15 +241,10 @@ fn a_second_thread_works_off_jobs(rt: HostRuntime) -> Result<(), Fail> {
         ended: AtomicU64::new(0),
         met: AtomicU64::new(0),
     };
-    let shape = shape_of(2, 4, 7, 0);
-    let asked = match shape {
-        None => None,
-        Some(shape) => match question(shape, 4, false) {
-            None => None,
-            Some(question) => Some(ask(&rt, rt.alloc(), &question, 1_000_000, 2, &gate)?),
-        },
-    };
-    assert!(rt; matches!(asked, Some(Asked::Found { nodes: 19, .. })));
+    match shape_of(2, 4, 7, 0) {
+        None => assert!(rt; false),
+        Some(shape) => assert!(rt; nodes_of_design(&rt, rt.alloc(), shape, &gate)? == 19),
+    }
     assert!(rt; gate.met.load(Ordering::SeqCst) == 1);
     Ok(())
 }

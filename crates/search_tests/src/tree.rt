@@ -63,22 +63,35 @@ fn two_effects(alloc: Global) -> Result<Question, NoMemory>
     })
 }
 
+/// Whether a prefix is canonical, and these are its children.
+fn has_children(
+    alloc: Global,
+    question: &Question,
+    prefix: &Matrix,
+    wanted: &[u16],
+) -> Result<bool, NoMemory>
+    requires valid { IsValid question.now }
+    requires shape { prefix.now.shape ≡ question.now.shape }
+{
+    if !is_canonical(question, prefix) {
+        return Ok(false);
+    }
+    Ok(children(alloc, question, prefix)?.as_slice() == wanted)
+}
+
 #[test]
 fn unit_rows_come_first_and_later_rows_fall(rt: HostRuntime) -> Result<(), Fail> {
+    const AFTER_FOUR: [u16; 11] = [15, 14, 13, 12, 11, 10, 9, 7, 6, 5, 3];
     let question = seven_factors();
     let mut prefix = Matrix::new(question.shape);
-    assert!(rt; is_canonical(&question, &prefix));
-    assert!(rt; children(rt.alloc(), &question, &prefix)?.as_slice() == [1].as_slice());
+    assert!(rt; has_children(rt.alloc(), &question, &prefix, &[1])?);
     prefix.push(1);
     prefix.push(2);
     prefix.push(4);
     prefix.push(8);
-    assert!(rt; is_canonical(&question, &prefix));
-    let all = [15, 14, 13, 12, 11, 10, 9, 7, 6, 5, 3];
-    assert!(rt; children(rt.alloc(), &question, &prefix)?.as_slice() == all.as_slice());
+    assert!(rt; has_children(rt.alloc(), &question, &prefix, &AFTER_FOUR)?);
     prefix.push(9);
-    assert!(rt; is_canonical(&question, &prefix));
-    assert!(rt; children(rt.alloc(), &question, &prefix)?.as_slice() == [7, 6, 5, 3].as_slice());
+    assert!(rt; has_children(rt.alloc(), &question, &prefix, &[7, 6, 5, 3])?);
     prefix.push(10);
     assert!(rt; !is_canonical(&question, &prefix));
     Ok(())
@@ -90,15 +103,12 @@ fn effects_leave_the_unit_rows_free(rt: HostRuntime) -> Result<(), Fail> {
     let question = two_effects(rt.alloc())?;
     let mut prefix = Matrix::new(question.shape);
     prefix.push(1);
-    assert!(rt; is_canonical(&question, &prefix));
-    assert!(rt; children(rt.alloc(), &question, &prefix)?.as_slice() == [3, 1, 0].as_slice());
+    assert!(rt; has_children(rt.alloc(), &question, &prefix, &[3, 1, 0])?);
     prefix.push(1);
-    assert!(rt; is_canonical(&question, &prefix));
-    assert!(rt; children(rt.alloc(), &question, &prefix)?.as_slice() == [3].as_slice());
+    assert!(rt; has_children(rt.alloc(), &question, &prefix, &[3])?);
     prefix.pop();
     prefix.push(3);
-    assert!(rt; is_canonical(&question, &prefix));
-    assert!(rt; children(rt.alloc(), &question, &prefix)?.as_slice() == [5, 4, 3, 1, 0].as_slice());
+    assert!(rt; has_children(rt.alloc(), &question, &prefix, &[5, 4, 3, 1, 0])?);
     Ok(())
 }
 
@@ -109,28 +119,28 @@ fn block_rows_may_repeat_and_be_zero(rt: HostRuntime) -> Result<(), Fail> {
     prefix.push(1);
     prefix.push(2);
     prefix.push(4);
-    assert!(rt; is_canonical(&question, &prefix));
-    let all = [7, 6, 5, 4, 3, 2, 1, 0];
-    assert!(rt; children(rt.alloc(), &question, &prefix)?.as_slice() == all.as_slice());
+    assert!(rt; has_children(rt.alloc(), &question, &prefix, &[7, 6, 5, 4, 3, 2, 1, 0])?);
     prefix.push(6);
     prefix.push(6);
-    assert!(rt; is_canonical(&question, &prefix));
-    assert!(rt; children(rt.alloc(), &question, &prefix)?.is_empty());
+    assert!(rt; has_children(rt.alloc(), &question, &prefix, &[])?);
     Ok(())
 }
 
 #[test]
 fn a_prefix_stands_before_its_extensions(rt: HostRuntime) {
-    let question = in_blocks();
-    let mut a = Matrix::new(question.shape);
-    let mut b = Matrix::new(question.shape);
+    const SHAPE: Shape = Shape {
+        q: 2,
+        m: 3,
+        s: 3,
+        t: 2,
+    };
+    let mut a = Matrix::new(SHAPE);
+    let mut b = Matrix::new(SHAPE);
     a.push(1);
     b.push(1);
     assert!(rt; !before(&a, &b));
     b.push(2);
-    assert!(rt; before(&a, &b));
-    assert!(rt; !before(&b, &a));
+    assert!(rt; before(&a, &b) && !before(&b, &a));
     a.push(4);
-    assert!(rt; before(&a, &b));
-    assert!(rt; !before(&b, &a));
+    assert!(rt; before(&a, &b) && !before(&b, &a));
 }

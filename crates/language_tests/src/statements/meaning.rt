@@ -1,7 +1,7 @@
 //! What the steps of an accepted text are.
-use crate::statements::read;
+use crate::statements::{read, text_of};
 use fx_settings::Criterion;
-use fx_statements::{Blocks, Examine, Shuffle, Size, Step, Wanted};
+use fx_statements::{Blocks, Examine, Program, Shuffle, Size, Step, Wanted};
 use fx_text::Names;
 use fx_vectors::Effects;
 use std::alloc::Global;
@@ -17,71 +17,100 @@ fn criterion(wanted: &Wanted) -> Criterion {
     }
 }
 
-/// What the first step of a text gives by its SIZE, MODEL and BLOCKS statements.
-fn settings(
+/// Whether the only step of a program has these settings.
+fn has_settings(
+    program: &Program,
+    size: Size,
+    wanted: Criterion,
+    least: bool,
+    blocks: Blocks,
+) -> bool {
+    match program.as_slice() {
+        [step] => step.size == size
+            && criterion(&step.wanted) == wanted
+            && step.least == least
+            && step.blocks == blocks,
+        _ => false,
+    }
+}
+
+/// Whether the SIZE, MODEL and BLOCKS statements of a step give these settings.
+fn gives(
     rt: &impl Abort,
     alloc: Global,
-    rest: &[u8],
-) -> Result<Option<(Size, Criterion, bool, Blocks)>, Fail> {
-    let program = read(rt, alloc, b"proc factex;factors A B C D;", rest)??;
-    match program.as_slice().first() {
-        Some(step) => Ok(Some((step.size, criterion(&step.wanted), step.least, step.blocks))),
-        None => Ok(None),
+    rest: &str,
+    size: Size,
+    wanted: Criterion,
+    least: bool,
+    blocks: Blocks,
+) -> Result<bool, Fail> {
+    let text = text_of(alloc, "proc factex;factors A B C D;", rest)?;
+    match read(rt, alloc, text.as_slice())? {
+        Ok(program) => Ok(has_settings(&program, size, wanted, least, blocks)),
+        Err(_stop) => Ok(false),
     }
 }
 
 #[test]
 fn sizes_and_models_have_their_meanings(rt: HostRuntime) -> Result<(), Fail> {
-    let three = Criterion::Resolution { r: 3 };
-    let cases: [(&[u8], Size, Criterion, bool); 8] = [
-        (b"", Size::Runs { m: 4 }, Criterion::Highest, false),
+    const THREE: Criterion = Criterion::Resolution { r: 3 };
+    const CASES: [(&str, Size, Criterion, bool); 8] = [
+        ("", Size::Runs { m: 4 }, Criterion::Highest, false),
         (
-            b"size design=8;model r=max/minabs;",
+            "size design=8;model r=max/minabs;",
             Size::Runs { m: 3 },
             Criterion::Highest,
             true,
         ),
         (
-            b"model res=3 / minabs;size fraction=4;",
+            "model res=3 / minabs;size fraction=4;",
             Size::Runs { m: 2 },
-            three,
+            THREE,
             true,
         ),
         (
-            b"size nrunfacs=5;",
+            "size nrunfacs=5;",
             Size::Runs { m: 5 },
             Criterion::Highest,
             false,
         ),
         (
-            b"size design=minimum;model r=3;",
+            "size design=minimum;model r=3;",
             Size::Minimum,
-            three,
+            THREE,
             false,
         ),
         (
-            b"size fraction=maximum;model resolution=3;",
+            "size fraction=maximum;model resolution=3;",
             Size::Minimum,
-            three,
+            THREE,
             false,
         ),
         (
-            b"model estimate=(A|B);size design=8;",
+            "model estimate=(A|B);size design=8;",
             Size::Runs { m: 3 },
             Criterion::Effects,
             false,
         ),
         (
-            b"size design=min;model e=(A) nonnegligible=(B);",
+            "size design=min;model e=(A) nonnegligible=(B);",
             Size::Minimum,
             Criterion::Effects,
             false,
         ),
     ];
-    for (text, size, wanted, least) in cases {
-        assert_eq!(rt;
-            settings(&rt, rt.alloc(), text)?,
-            Some((size, wanted, least, Blocks::Without))
+    for (text, size, wanted, least) in &CASES {
+        assert!(rt;
+            gives(
+                &rt,
+                rt.alloc(),
+                text,
+                *size,
+                *wanted,
+                *least,
+                Blocks::Without
+            )?,
+            "{text}"
         );
     }
     Ok(())
@@ -89,37 +118,38 @@ fn sizes_and_models_have_their_meanings(rt: HostRuntime) -> Result<(), Fail> {
 
 #[test]
 fn blocks_have_their_meanings(rt: HostRuntime) -> Result<(), Fail> {
-    let runs = Size::Runs { m: 4 };
-    let cases: [(&[u8], Size, Blocks); 8] = [
+    const RUNS: Size = Size::Runs { m: 4 };
+    const CASES: [(&str, Size, Blocks); 8] = [
         (
-            b"model r=5;blocks nblkfacs=2;",
-            runs,
+            "model r=5;blocks nblkfacs=2;",
+            RUNS,
             Blocks::Factors { t: 2 },
         ),
         (
-            b"model r=5;blocks nblocks=8;",
-            runs,
+            "model r=5;blocks nblocks=8;",
+            RUNS,
             Blocks::Factors { t: 3 },
         ),
-        (b"model r=5;blocks size=8;", runs, Blocks::Factors { t: 1 }),
-        (b"model r=5;blocks nblkfacs=max;", runs, Blocks::Most),
-        (b"model r=5;blocks nblocks=maximum;", runs, Blocks::Most),
-        (b"model r=5;blocks size=min;", runs, Blocks::Most),
+        ("model r=5;blocks size=8;", RUNS, Blocks::Factors { t: 1 }),
+        ("model r=5;blocks nblkfacs=max;", RUNS, Blocks::Most),
+        ("model r=5;blocks nblocks=maximum;", RUNS, Blocks::Most),
+        ("model r=5;blocks size=min;", RUNS, Blocks::Most),
         (
-            b"model r=5;blocks size=8;size nrunfacs=min;",
+            "model r=5;blocks size=8;size nrunfacs=min;",
             Size::Minimum,
             Blocks::PerBlock { k: 3 },
         ),
         (
-            b"model r=5;blocks nblocks=8;size nrunfacs=min;",
+            "model r=5;blocks nblocks=8;size nrunfacs=min;",
             Size::Minimum,
             Blocks::Factors { t: 3 },
         ),
     ];
-    for (text, size, blocks) in cases {
-        assert_eq!(rt;
-            settings(&rt, rt.alloc(), text)?,
-            Some((size, Criterion::Resolution { r: 5 }, false, blocks))
+    for (text, size, blocks) in &CASES {
+        let wanted = Criterion::Resolution { r: 5 };
+        assert!(rt;
+            gives(&rt, rt.alloc(), text, *size, wanted, false, *blocks)?,
+            "{text}"
         );
     }
     Ok(())
@@ -127,27 +157,28 @@ fn blocks_have_their_meanings(rt: HostRuntime) -> Result<(), Fail> {
 
 #[test]
 fn blocks_stand_with_effects(rt: HostRuntime) -> Result<(), Fail> {
-    let cases: [(&[u8], Size, Blocks); 3] = [
+    const CASES: [(&str, Size, Blocks); 3] = [
         (
-            b"model e=(A);blocks nblkfacs=2;",
+            "model e=(A);blocks nblkfacs=2;",
             Size::Runs { m: 4 },
             Blocks::Factors { t: 2 },
         ),
         (
-            b"model e=(A);blocks size=min;",
+            "model e=(A);blocks size=min;",
             Size::Runs { m: 4 },
             Blocks::Most,
         ),
         (
-            b"model e=(A);size design=min;blocks size=4;",
+            "model e=(A);size design=min;blocks size=4;",
             Size::Minimum,
             Blocks::PerBlock { k: 2 },
         ),
     ];
-    for (text, size, blocks) in cases {
-        assert_eq!(rt;
-            settings(&rt, rt.alloc(), text)?,
-            Some((size, Criterion::Effects, false, blocks))
+    for (text, size, blocks) in &CASES {
+        let wanted = Criterion::Effects;
+        assert!(rt;
+            gives(&rt, rt.alloc(), text, *size, wanted, false, *blocks)?,
+            "{text}"
         );
     }
     Ok(())
@@ -168,105 +199,139 @@ fn are_effects(effects: &Effects, numbers: &[u64]) -> bool {
 
 #[test]
 fn effects_are_those_of_the_lists(rt: HostRuntime) -> Result<(), Fail> {
-    let cases: [(&[u8], &[u64], &[u64]); 4] = [
+    const CASES: [(&str, &[u64], &[u64]); 4] = [
         (
-            b"size design=4;model estimate=(A|B|C @2) nonneg=(A*B*C);",
+            "size design=4;model estimate=(A|B|C @2) nonneg=(A*B*C);",
             &[1, 2, 4, 3, 5, 6],
             &[7],
         ),
         (
-            b"model e=(A B) nonnegligible=(A|B|C);",
+            "model e=(A B) nonnegligible=(A|B|C);",
             &[1, 2],
             &[4, 3, 5, 6, 7],
         ),
         (
-            b"examine aliasing;model estimate=(B*A*A C) n=(B);",
+            "examine aliasing;model estimate=(B*A*A C) n=(B);",
             &[4, 3],
             &[2],
         ),
-        (b"model est=(C);", &[4], &[]),
+        ("model est=(C);", &[4], &[]),
     ];
-    for (text, estimate, nonnegligible) in cases {
-        let program = read(&rt, rt.alloc(), b"proc factex;factors A B C;", text)??;
-        assert!(rt; program.len() == 1);
-        match &program.get(0).wanted {
-            Wanted::Effects {
-                estimate: first,
-                nonnegligible: second,
-            } => {
-                assert!(rt; are_effects(first, estimate));
-                assert!(rt; are_effects(second, nonnegligible));
-            }
-            Wanted::Resolution { .. } | Wanted::Highest => assert!(rt; false),
-        }
+    for (text, estimate, nonnegligible) in &CASES {
+        assert!(rt;
+            asks_for(&rt, rt.alloc(), text, estimate, nonnegligible)?,
+            "{text}"
+        );
     }
     Ok(())
 }
 
-/// Whether these are the names, in order.
-fn are(names: &Names, texts: &[&[u8]]) -> bool {
-    if names.len() != texts.len() {
-        return false;
+/// Whether the only step of a program asks for these effects.
+fn has_effects(program: &Program, estimate: &[u64], nonnegligible: &[u64]) -> bool {
+    match program.as_slice() {
+        [step] => match &step.wanted {
+            Wanted::Effects {
+                estimate: first,
+                nonnegligible: second,
+            } => are_effects(first, estimate) && are_effects(second, nonnegligible),
+            Wanted::Resolution { .. } | Wanted::Highest => false,
+        },
+        _ => false,
     }
-    for (name, text) in names.as_slice().iter().zip(texts) {
-        if name.as_slice() != *text {
+}
+
+/// Whether the MODEL statement of a step asks for these effects.
+fn asks_for(
+    rt: &impl Abort,
+    alloc: Global,
+    rest: &str,
+    estimate: &[u64],
+    nonnegligible: &[u64],
+) -> Result<bool, Fail> {
+    let text = text_of(alloc, "proc factex;factors A B C;", rest)?;
+    match read(rt, alloc, text.as_slice())? {
+        Ok(program) => Ok(has_effects(&program, estimate, nonnegligible)),
+        Err(_stop) => Ok(false),
+    }
+}
+
+/// Whether these are the names, in order, between blanks.
+fn are(names: &Names, text: &str) -> bool {
+    let mut wanted = text.split_whitespace();
+    for name in names.as_slice() {
+        if wanted.next().map(|word| word.as_bytes()) != Some(name.as_slice()) {
             return false;
         }
     }
-    true
+    wanted.next().is_none()
 }
 
-#[test]
-fn steps_have_what_is_written(rt: HostRuntime) -> Result<(), Fail> {
-    let text =
-        b"run; Proc FACTEX Nodes=20000; Factors Pressure x9-X11 / NLEV=3; examine design aliasing confounding;\
-        size design=9; model r=3; output out=Plan randomize(7) x10 nvals=(1 2 3); examine aliasing; quit;\
-        proc factex; model r=4; factors Size; run; examine blocked aberration; output out=q pointrep=3;";
-    let program = read(&rt, rt.alloc(), b"", text)??;
-    assert!(rt; program.len() == 2);
-    let first: &Step = program.get(0);
-    assert!(rt; are(&first.factors, &[b"Pressure", b"x9", b"x10", b"x11"]));
-    assert_eq!(rt; (first.q, first.budget), (3, 20000));
-    assert_eq!(rt;
-        (first.size, criterion(&first.wanted)),
-        (Size::Runs { m: 2 }, Criterion::Resolution { r: 3 })
-    );
+/// Two steps, the first with a plan whose values of a factor are changed.
+const TWO_STEPS: &str = "\
+    run; Proc FACTEX Nodes=20000; Factors Pressure x9-X11 / NLEV=3; examine design aliasing confounding;\
+    size design=9; model r=3; output out=Plan randomize(7) x10 nvals=(1 2 3); examine aliasing; quit;\
+    proc factex; model r=4; factors Size; run; examine blocked aberration; output out=q pointrep=3;";
+
+fn has_first_settings(step: &Step) -> bool {
     let listed = Examine {
         aliasing: true,
         blocked: false,
         design: true,
         aberration: false,
     };
-    assert_eq!(rt; first.examine, listed);
-    assert!(rt; first.outputs.len() == 1);
-    let plan = first.outputs.get(0);
-    assert!(rt; plan.name.as_slice() == b"Plan".as_slice());
-    assert_eq!(rt;
-        plan.shuffle,
-        Shuffle::Seed {
-            seed: 7,
-            values: true
-        }
-    );
-    assert!(rt; plan.recodes.len() == 1);
-    let recode = plan.recodes.get(0);
-    assert_eq!(rt; recode.place, 3);
-    assert!(rt; are(&recode.values, &[b"1", b"2", b"3"]));
-    let second: &Step = program.get(1);
-    assert!(rt; are(&second.factors, &[b"Size"]));
-    assert_eq!(rt; (second.q, second.budget), (2, 1_000_000));
-    assert_eq!(rt;
-        (second.size, criterion(&second.wanted)),
-        (Size::Runs { m: 1 }, Criterion::Resolution { r: 4 })
-    );
+    are(&step.factors, "Pressure x9 x10 x11")
+        && step.q == 3
+        && step.budget == 20000
+        && step.size == Size::Runs { m: 2 }
+        && criterion(&step.wanted) == Criterion::Resolution { r: 3 }
+        && step.examine == listed
+}
+
+fn has_first_plan(step: &Step) -> bool {
+    let [plan] = step.outputs.as_slice() else {
+        return false;
+    };
+    let shuffle = Shuffle::Seed {
+        seed: 7,
+        values: true,
+    };
+    let [recode] = plan.recodes.as_slice() else {
+        return false;
+    };
+    plan.name.as_slice() == b"Plan".as_slice()
+        && plan.shuffle == shuffle
+        && recode.place == 3
+        && are(&recode.values, "1 2 3")
+}
+
+fn is_second(step: &Step) -> bool {
     let listed = Examine {
         aliasing: false,
         blocked: true,
         design: false,
         aberration: true,
     };
-    assert_eq!(rt; second.examine, listed);
-    assert!(rt; second.outputs.len() == 1);
-    assert_eq!(rt; second.outputs.get(0).pointrep, 3);
+    are(&step.factors, "Size")
+        && step.q == 2
+        && step.budget == 1_000_000
+        && step.size == Size::Runs { m: 1 }
+        && criterion(&step.wanted) == Criterion::Resolution { r: 4 }
+        && step.examine == listed
+        && matches!(step.outputs.as_slice(), [plan] if plan.pointrep == 3)
+}
+
+fn are_both(program: &Program) -> bool {
+    match program.as_slice() {
+        [first, second] => has_first_settings(first) && has_first_plan(first) && is_second(second),
+        _ => false,
+    }
+}
+
+#[test]
+fn steps_have_what_is_written(rt: HostRuntime) -> Result<(), Fail> {
+    match read(&rt, rt.alloc(), TWO_STEPS.as_bytes())? {
+        Ok(program) => assert!(rt; are_both(&program)),
+        Err(_stop) => assert!(rt; false),
+    }
     Ok(())
 }

@@ -4,154 +4,154 @@ use std::test::Fail;
 
 #[test]
 fn the_grammar_is_judged_before_the_meaning(rt: HostRuntime) -> Result<(), Fail> {
-    let cases: [(&[u8], u8, u32, u32); 3] = [
-        (b"proc factex nodes=0;factors A A;\ntitle x;", 1, 2, 1),
+    const CASES: [(&str, u8, u32, u32); 3] = [
+        ("proc factex nodes=0;factors A A;\ntitle x;", 1, 2, 1),
         (
-            b"proc factex;proc factex;factors A;size design=3;size design=2;",
+            "proc factex;proc factex;factors A;size design=3;size design=2;",
             26,
             1,
             49,
         ),
-        (b"proc factex;factors A;model e=(A)/;", 2, 1, 35),
+        ("proc factex;factors A;model e=(A)/;", 2, 1, 35),
     ];
-    are_refused(&rt, rt.alloc(), b"", &cases)
+    are_refused(&rt, rt.alloc(), "", &CASES)
 }
 
 #[test]
 fn an_earlier_step_is_judged_first(rt: HostRuntime) -> Result<(), Fail> {
-    let cases: [(&[u8], u8, u32, u32); 2] = [
-        (b"proc factex;factors A A;\nproc factex;", 5, 1, 23),
+    const CASES: [(&str, u8, u32, u32); 2] = [
+        ("proc factex;factors A A;\nproc factex;", 5, 1, 23),
         (
-            b"proc factex;factors A;output out=a pointrep=0;proc factex;factors B B;",
+            "proc factex;factors A;output out=a pointrep=0;proc factex;factors B B;",
             20,
             1,
             45,
         ),
     ];
-    are_refused(&rt, rt.alloc(), b"", &cases)
+    are_refused(&rt, rt.alloc(), "", &CASES)
 }
 
 #[test]
 fn the_meaning_of_a_step_is_judged_in_its_order(rt: HostRuntime) -> Result<(), Fail> {
-    let cases: [(&[u8], u8, u32, u32); 23] = [
-        (b"proc factex nodes=0;size design=3;", 7, 1, 1),
-        (b"proc factex;factors A A X2-X1;", 5, 1, 23),
-        (b"proc factex;factors A X2-X1 A;", 30, 1, 23),
-        (b"proc factex;factors X1-X40 X1;", 10, 1, 28),
-        (b"proc factex;factors X1-X40 X2-X1;", 30, 1, 28),
-        (b"proc factex;factors A A / nlev=6;", 5, 1, 23),
-        (b"proc factex nodes=0;factors A / nlev=6;", 6, 1, 38),
-        (b"proc factex nodes=0;size design=3;factors A;", 29, 1, 19),
-        (b"proc factex;factors A;model r=2;size design=3;", 8, 1, 45),
+    const CASES: [(&str, u8, u32, u32); 23] = [
+        ("proc factex nodes=0;size design=3;", 7, 1, 1),
+        ("proc factex;factors A A X2-X1;", 5, 1, 23),
+        ("proc factex;factors A X2-X1 A;", 30, 1, 23),
+        ("proc factex;factors X1-X40 X1;", 10, 1, 28),
+        ("proc factex;factors X1-X40 X2-X1;", 30, 1, 28),
+        ("proc factex;factors A A / nlev=6;", 5, 1, 23),
+        ("proc factex nodes=0;factors A / nlev=6;", 6, 1, 38),
+        ("proc factex nodes=0;size design=3;factors A;", 29, 1, 19),
+        ("proc factex;factors A;model r=2;size design=3;", 8, 1, 45),
         (
-            b"proc factex;model r=2;size design=2048;factors A;",
+            "proc factex;model r=2;size design=2048;factors A;",
             9,
             1,
             35,
         ),
         (
-            b"proc factex;factors A;blocks nblkfacs=0;model r=2/minabs;",
+            "proc factex;factors A;blocks nblkfacs=0;model r=2/minabs;",
             11,
             1,
             49,
         ),
         (
-            b"proc factex;factors A;blocks nblkfacs=max;size design=min;model r=max;",
+            "proc factex;factors A;blocks nblkfacs=max;size design=min;model r=max;",
             13,
             1,
             23,
         ),
-        (b"proc factex;factors A;blocks nblkfacs=0;", 13, 1, 23),
+        ("proc factex;factors A;blocks nblkfacs=0;", 13, 1, 23),
         (
-            b"proc factex;factors A;size design=min;model r=3;blocks nblkfacs=max;output out=a pointrep=0;",
+            "proc factex;factors A;size design=min;model r=3;blocks nblkfacs=max;output out=a pointrep=0;",
             14,
             1,
             35,
         ),
         (
-            b"proc factex;output out=a pointrep=0;factors A;model r=3;blocks nblkfacs=0;",
+            "proc factex;output out=a pointrep=0;factors A;model r=3;blocks nblkfacs=0;",
             15,
             1,
             73,
         ),
         (
-            b"proc factex;output out=a pointrep=0;factors A;model r=3;blocks nblkfacs=2;",
+            "proc factex;output out=a pointrep=0;factors A;model r=3;blocks nblkfacs=2;",
             16,
             1,
             73,
         ),
         (
-            b"proc factex;factors A;model e=(A)/minabs;size design=2048;",
+            "proc factex;factors A;model e=(A)/minabs;size design=2048;",
             9,
             1,
             54,
         ),
         (
-            b"proc factex;factors A;blocks nblkfacs=1;model e=(A)/minabs;",
+            "proc factex;factors A;blocks nblkfacs=1;model e=(A)/minabs;",
             12,
             1,
             53,
         ),
         (
-            b"proc factex;factors A;size design=min;model e=(A) / minabs;",
+            "proc factex;factors A;size design=min;model e=(A) / minabs;",
             12,
             1,
             53,
         ),
         (
-            b"proc factex;factors A;model e=(Z);blocks nblkfacs=max;size design=min;",
+            "proc factex;factors A;model e=(Z);blocks nblkfacs=max;size design=min;",
             14,
             1,
             67,
         ),
         (
-            b"proc factex;factors A;blocks nblkfacs=0;model e=(Z);",
+            "proc factex;factors A;blocks nblkfacs=0;model e=(Z);",
             4,
             1,
             50,
         ),
         (
-            b"proc factex;factors A B C D E F G/nlev=3;blocks nblkfacs=0;model e=(A|B|C|D|E|F|G);size design=27;",
+            "proc factex;factors A B C D E F G/nlev=3;blocks nblkfacs=0;model e=(A|B|C|D|E|F|G);size design=27;",
             22,
             1,
             66,
         ),
         (
-            b"proc factex;factors A;output out=a pointrep=0;model e=(A) n=(B);",
+            "proc factex;factors A;output out=a pointrep=0;model e=(A) n=(B);",
             4,
             1,
             62,
         ),
     ];
-    are_refused(&rt, rt.alloc(), b"", &cases)
+    are_refused(&rt, rt.alloc(), "", &CASES)
 }
 
 #[test]
 fn a_plan_is_judged_in_its_order(rt: HostRuntime) -> Result<(), Fail> {
-    let cases: [(&[u8], u8, u32, u32); 8] = [
-        (b"output out=a designrep=0 pointrep=0;", 18, 2, 12),
-        (b"output out=b designrep=0 pointrep=0;", 20, 2, 35),
-        (b"output out=b pointrep=200000 designrep=0;", 20, 2, 40),
+    const CASES: [(&str, u8, u32, u32); 8] = [
+        ("output out=a designrep=0 pointrep=0;", 18, 2, 12),
+        ("output out=b designrep=0 pointrep=0;", 20, 2, 35),
+        ("output out=b pointrep=200000 designrep=0;", 20, 2, 40),
         (
-            b"output out=b pointrep=200000 randomize(18446744073709551616);",
+            "output out=b pointrep=200000 randomize(18446744073709551616);",
             21,
             2,
             12,
         ),
         (
-            b"output out=b blockname=A randomize(18446744073709551616);",
+            "output out=b blockname=A randomize(18446744073709551616);",
             19,
             2,
             36,
         ),
-        (b"output out=b Z nvals=(1) blockname=A;", 31, 2, 26),
-        (b"output out=b A nvals=(1) Z nvals=(1);", 17, 2, 16),
-        (b"output out=b pointrep=0;output out=a;", 20, 2, 23),
+        ("output out=b Z nvals=(1) blockname=A;", 31, 2, 26),
+        ("output out=b A nvals=(1) Z nvals=(1);", 17, 2, 16),
+        ("output out=b pointrep=0;output out=a;", 20, 2, 23),
     ];
     are_refused(
         &rt,
         rt.alloc(),
-        b"proc factex;factors A;output out=a;\n",
-        &cases,
+        "proc factex;factors A;output out=a;\n",
+        &CASES,
     )
 }

@@ -1,5 +1,6 @@
 ghost use Rattle.std.specs.Prelude.{◌<◌};
 
+use super::outside::count;
 use super::*;
 
 /// That no five factors of two levels have resolution 4 in eight runs.
@@ -76,46 +77,30 @@ const BOOKS: [(&str, &str, &[(&str, &str)], u8); 6] = [
 
 #[test]
 fn books_are_shelved(rt: HostRuntime) -> Result<(), Fail> {
-    let alloc = rt.alloc();
-    let words = run_words(alloc)?;
-    for (text, listing, files, status) in BOOKS {
-        let left = planned(&rt, alloc, words.as_slice(), text.as_bytes(), STEP, None)?;
-        assert_eq!(rt; left.status, status, "{text}");
-        assert!(rt; left.listing.bytes() == listing.as_bytes(), "{text}");
-        assert_eq!(rt; left.shelf.files(), files.len(), "{text}");
-        for (i, (name, content)) in files.iter().enumerate() {
-            assert!(rt; is_file(&left.shelf, i, name, content.as_bytes()), "{text}");
-        }
+    for (text, listing, files, status) in &BOOKS {
+        let is_so = shelves(&rt, rt.alloc(), "run", text, SURE, *status, listing, files)?;
+        assert!(rt; is_so, "{text}");
     }
     Ok(())
 }
 
-/// The book of a least pattern of 282 nodes.
+/// A step with a least pattern of 282 nodes.
+const LEAST: &str =
+    "proc factex;factors A B C D E F G;size design=32;model resolution=max / minabs;";
+
+/// What is listed of it.
+const LEAST_LISTING: &str =
+    "step 1\nfactors 7 levels 2\ndesign 32 runs\nresolution 4 least aberration\nnodes 282\nrules\n  F = B*C*D*E\n  G = A*C*D*E\nbook step1-1.book\n";
+
+/// Its book has four lines and one for each node, and ends.
 #[test]
 fn the_book_of_a_least_pattern_is_accepted(rt: HostRuntime) -> Result<(), Fail> {
-    let alloc = rt.alloc();
-    let text = b"proc factex;factors A B C D E F G;size design=32;model resolution=max / minabs;";
-    let words = run_words(alloc)?;
-    let left = planned(&rt, alloc, words.as_slice(), text, STEP, None)?;
-    assert_eq!(rt; left.status, 0);
-    assert_eq!(rt; left.shelf.files(), 1);
-    let book = left.shelf.content(0);
-    assert!(rt;
-        book.starts_with(
-            b"factex-book 1\nsize 2 5 7 0\nresolution 3\npattern 0 0 0 1 2 0 0\n".as_slice()
-        )
-    );
-    assert_eq!(rt;
-        book.iter().filter(|byte| **byte == b'\n').count(),
-        4 + 282 + 1
-    );
-    let words = words_in(alloc, "check")?;
-    let checked = ran(&rt, alloc, words.as_slice(), book, None, None)?;
-    assert_eq!(rt; checked.status, 0);
-    assert!(rt;
-        checked.listing.bytes()
-            == b"accepted\nsize 2 5 7 0\nresolution 3\npattern 0 0 0 1 2 0 0\n".as_slice()
-    );
+    let book = file_of(&rt, rt.alloc(), LEAST.as_bytes(), SURE, 0, LEAST_LISTING)?;
+    let head = "factex-book 1\nsize 2 5 7 0\nresolution 3\npattern 0 0 0 1 2 0 0\n";
+    assert!(rt; book.as_slice().starts_with(head.as_bytes()));
+    assert!(rt; count(book.as_slice(), b'\n') == 4 + 282 + 1);
+    let listing = "accepted\nsize 2 5 7 0\nresolution 3\npattern 0 0 0 1 2 0 0\n";
+    assert!(rt; lists(&rt, rt.alloc(), "check", book.as_slice(), SURE, 0, listing)?);
     Ok(())
 }
 
@@ -163,12 +148,17 @@ const JUDGED: [(&str, &str, u8); 9] = [
 
 #[test]
 fn books_are_judged(rt: HostRuntime) -> Result<(), Fail> {
-    let alloc = rt.alloc();
-    let words = words_in(alloc, "check")?;
-    for (book, listing, status) in JUDGED {
-        let ended = ran(&rt, alloc, words.as_slice(), book.as_bytes(), None, None)?;
-        assert_eq!(rt; ended.status, status, "{listing}");
-        assert!(rt; ended.listing.bytes() == listing.as_bytes(), "{listing}");
+    for (book, listing, status) in &JUDGED {
+        let is_so = lists(
+            &rt,
+            rt.alloc(),
+            "check",
+            book.as_bytes(),
+            SURE,
+            *status,
+            listing,
+        )?;
+        assert!(rt; is_so, "{listing}");
     }
     Ok(())
 }
@@ -177,33 +167,23 @@ fn books_are_judged(rt: HostRuntime) -> Result<(), Fail> {
 /// write nothing is written again.
 #[test]
 fn no_call_follows_a_failed_one_of_a_check(rt: HostRuntime) -> Result<(), Fail> {
-    let alloc = rt.alloc();
-    let words = words_in(alloc, "check")?;
-    for call in 1..=NO_FIVE.len().div_ceil(STEP) + 1 {
-        let ended = ran(
-            &rt,
-            alloc,
-            words.as_slice(),
-            NO_FIVE.as_bytes(),
-            Some(call),
-            Some(1),
-        )?;
-        assert_eq!(rt; ended.status, 4);
-        assert_eq!(rt; ended.source.faults(), 1);
-        assert_eq!(rt; ended.listing.faults(), 0);
+    let book = NO_FIVE.as_bytes();
+    for call in 1..=book.len().div_ceil(STEP) + 1 {
+        let limits = Limits {
+            first_read: Some(call),
+            first_write: Some(1),
+            ..SURE
+        };
+        let left = tally_of(&rt, rt.alloc(), "check", book, limits, NO_FIVE_ACCEPTED)?;
+        assert!(rt; is_after_read(left));
     }
     for call in 1..=NO_FIVE_ACCEPTED.len().div_ceil(STEP) {
-        let ended = ran(
-            &rt,
-            alloc,
-            words.as_slice(),
-            NO_FIVE.as_bytes(),
-            None,
-            Some(call),
-        )?;
-        assert_eq!(rt; ended.status, 4);
-        assert_eq!(rt; ended.listing.faults(), 1);
-        assert_eq!(rt; ended.listing.bytes().len(), (call - 1) * STEP);
+        let limits = Limits {
+            first_write: Some(call),
+            ..SURE
+        };
+        let left = tally_of(&rt, rt.alloc(), "check", book, limits, NO_FIVE_ACCEPTED)?;
+        assert!(rt; is_after_write(left, (call - 1) * STEP));
     }
     Ok(())
 }

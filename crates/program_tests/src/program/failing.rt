@@ -1,6 +1,6 @@
 //! Each call outside fails in turn, and the room for each byte is missing in turn. What is left is the
 //! beginning of the whole, and no call follows the one that failed.
-use super::outside::{Limits, SURE, left_by, words_in};
+use super::outside::{Limits, Outside, SURE, left_by};
 use fx_base::{Bytes, MemoryShelf, NoMemory, put};
 use std::alloc::Global;
 use std::process::Abort;
@@ -119,15 +119,8 @@ fn put_files(out: &mut Bytes, shelf: &MemoryShelf) -> Result<(), NoMemory> {
     Ok(())
 }
 
-/// What a run leaves within these limits.
-fn run_within<R: Threads + Sync>(
-    rt: &R,
-    alloc: Global,
-    words: &[Vec<u8>],
-    text: &str,
-    limits: Limits,
-) -> Result<Left, Fail> {
-    let outside = left_by(rt, alloc, words, text.as_bytes(), limits)?;
+/// What a run has left outside.
+fn left_in(alloc: Global, outside: &Outside) -> Result<Left, NoMemory> {
     let mut files = Bytes::new(alloc);
     put_files(&mut files, &outside.shelf)?;
     Ok(Left {
@@ -136,6 +129,18 @@ fn run_within<R: Threads + Sync>(
         listed: Bytes::from_slice(alloc, outside.listing.bytes())?,
         files,
     })
+}
+
+/// What a run leaves within these limits.
+fn run_within<R: Threads + Sync>(
+    rt: &R,
+    alloc: Global,
+    line: &str,
+    text: &str,
+    limits: Limits,
+) -> Result<Left, Fail> {
+    let outside = left_by(rt, alloc, line, text.as_bytes(), limits)?;
+    Ok(left_in(alloc, &outside)?)
 }
 
 /// Whether one call failed, and a part is the beginning of the whole.
@@ -154,23 +159,51 @@ fn are_same(one: &Left, other: &Left) -> bool {
         && one.files.as_slice() == other.files.as_slice()
 }
 
-/// How many calls are made, or how much room is taken: with less the run fails and leaves a beginning.
-fn needed<R: Threads + Sync + Abort>(
+/// What a part of a run is.
+#[derive(Clone, Copy, PartialEq, Eq)]
+enum Part {
+    /// One call failed, and the part is the beginning of the whole.
+    Beginning,
+    /// Nothing failed, and the part is the whole.
+    Whole,
+    Other,
+}
+
+/// What of a whole run the run within these limits leaves.
+fn part_within<R: Threads + Sync>(
     rt: &R,
     alloc: Global,
-    words: &[Vec<u8>],
+    line: &str,
+    text: &str,
+    limits: Limits,
+    whole: &Left,
+) -> Result<Part, Fail> {
+    let part = run_within(rt, alloc, line, text, limits)?;
+    if is_beginning(&part, whole) {
+        Ok(Part::Beginning)
+    } else if are_same(&part, whole) {
+        Ok(Part::Whole)
+    } else {
+        Ok(Part::Other)
+    }
+}
+
+/// How many calls are made, or how much room is taken: with less the run fails and leaves a beginning.
+fn needed<R: Threads + Sync>(
+    rt: &R,
+    alloc: Global,
+    line: &str,
     text: &str,
     step: usize,
     failing: Failing,
+    whole: &Left,
 ) -> Result<usize, Fail> {
-    let whole = run_within(rt, alloc, words, text, Limits { step, ..SURE })?;
     for from in 1..=PIECE {
-        let part = run_within(rt, alloc, words, text, limits_of(failing, from, step))?;
-        if part.status != 4 {
-            assert!(rt; are_same(&part, &whole));
-            return Ok(from - 1);
+        match part_within(rt, alloc, line, text, limits_of(failing, from, step), whole)? {
+            Part::Beginning => {}
+            Part::Whole => return Ok(from - 1),
+            Part::Other => return Err(Fail::new("neither a beginning nor the whole")),
         }
-        assert!(rt; is_beginning(&part, &whole));
     }
     Err(Fail::new("too many calls"))
 }
@@ -182,38 +215,48 @@ fn makes_calls<R: Threads + Sync + Abort>(
     line: &str,
     text: &str,
     step: usize,
-    wanted: [usize; 3],
+    wanted: &[usize; 3],
+    whole: &Left,
 ) -> Result<(), Fail> {
-    let words = words_in(alloc, line)?;
-    for (failing, calls) in [Failing::Reads, Failing::Writes, Failing::Files]
-        .iter()
-        .zip(wanted)
-    {
-        let made = needed(rt, alloc, words.as_slice(), text, step, *failing)?;
-        assert_eq!(rt; made, calls, "{line} {text}");
-    }
+    let reads = needed(rt, alloc, line, text, step, Failing::Reads, whole)?;
+    let writes = needed(rt, alloc, line, text, step, Failing::Writes, whole)?;
+    let files = needed(rt, alloc, line, text, step, Failing::Files, whole)?;
+    assert!(rt; [reads, writes, files] == *wanted, "{line} {text}");
     Ok(())
 }
 
 #[test]
 fn each_call_fails_in_turn(rt: HostRuntime) -> Result<(), Fail> {
-    for (line, text, step, calls) in CALLS {
-        makes_calls(&rt, rt.alloc(), line, text, step, calls)?;
+    for (line, text, step, calls) in &CALLS {
+        let limits = Limits {
+            step: *step,
+            ..SURE
+        };
+        let whole = run_within(&rt, rt.alloc(), line, text, limits)?;
+        makes_calls(&rt, rt.alloc(), line, text, *step, calls, &whole)?;
     }
     Ok(())
+}
+
+/// Whether the run takes just the room of its listing there, and room on the shelf.
+fn takes_room<R: Threads + Sync>(
+    rt: &R,
+    alloc: Global,
+    text: &str,
+    whole: &Left,
+) -> Result<bool, Fail> {
+    let listing = needed(rt, alloc, "run", text, 1, Failing::ListingRoom, whole)?;
+    let shelf = needed(rt, alloc, "run", text, 1, Failing::ShelfRoom, whole)?;
+    Ok(listing == whole.listed.len() && shelf > 64)
 }
 
 /// Each byte in turn finds no room. A file takes 64 bytes of the room, and its content.
 #[test]
 fn each_byte_fails_in_turn(rt: HostRuntime) -> Result<(), Fail> {
-    let alloc = rt.alloc();
-    let words = words_in(alloc, "run")?;
-    let words = words.as_slice();
-    for (text, step) in [(TWO_PLANS, 1), (CLASSES, 1), (LEAST, 1), (ALL, 1)] {
-        let whole = run_within(&rt, alloc, words, text, SURE)?;
-        let room = needed(&rt, alloc, words, text, step, Failing::ListingRoom)?;
-        assert_eq!(rt; room, whole.listed.len());
-        assert!(rt; needed(&rt, alloc, words, text, step, Failing::ShelfRoom)? > 64);
+    const TEXTS: [&str; 4] = [TWO_PLANS, CLASSES, LEAST, ALL];
+    for text in &TEXTS {
+        let whole = run_within(&rt, rt.alloc(), "run", text, Limits { step: 1, ..SURE })?;
+        assert!(rt; takes_room(&rt, rt.alloc(), text, &whole)?, "{text}");
     }
     Ok(())
 }
@@ -241,66 +284,95 @@ fn put_states(out: &mut Bytes, part: &MemoryShelf, whole: &MemoryShelf) -> Resul
     Ok(())
 }
 
-/// Tests what is there of the files, and what is listed, where calls of one object fail from this one on.
-fn leaves<R: Threads + Sync + Abort>(
+/// Whether these are the files and the listing of a part of a whole run, of which one call failed.
+fn is_left(
+    alloc: Global,
+    part: &Outside,
+    whole: &Outside,
+    files: &str,
+    listing: &str,
+) -> Result<bool, NoMemory> {
+    let mut states = Bytes::new(alloc);
+    put_states(&mut states, &part.shelf, &whole.shelf)?;
+    Ok(
+        part.status == 4
+            && part.faults() == 1
+            && states.as_slice() == files.as_bytes()
+            && part.listing.bytes() == listing.as_bytes(),
+    )
+}
+
+/// Whether a run within these limits leaves these files of a whole run, and this listing.
+fn leaves<R: Threads + Sync>(
     rt: &R,
     alloc: Global,
     text: &str,
     limits: Limits,
+    whole: &Outside,
     files: &str,
     listing: &str,
+) -> Result<bool, Fail> {
+    let part = left_by(rt, alloc, "run", text.as_bytes(), limits)?;
+    Ok(is_left(alloc, &part, whole, files, listing)?)
+}
+
+/// Tests what is there of the files, and what is listed, where calls of one object fail from one on.
+fn each_leaves<R: Threads + Sync + Abort>(
+    rt: &R,
+    alloc: Global,
+    text: &str,
+    whole: &Outside,
+    cases: &[(Failing, usize, &str, &str)],
 ) -> Result<(), Fail> {
-    let words = words_in(alloc, "run")?;
-    let sure = limits_of(Failing::Reads, PIECE, PIECE);
-    let whole = left_by(rt, alloc, words.as_slice(), text.as_bytes(), sure)?;
-    let part = left_by(rt, alloc, words.as_slice(), text.as_bytes(), limits)?;
-    let mut states = Bytes::new(alloc);
-    put_states(&mut states, &part.shelf, &whole.shelf)?;
-    assert_eq!(rt; (part.status, part.faults()), (4, 1), "{files}");
-    assert!(rt; states.as_slice() == files.as_bytes(), "{files}");
-    assert!(rt; part.listing.bytes() == listing.as_bytes(), "{files}");
+    for (failing, from, files, listing) in cases {
+        let limits = limits_of(*failing, *from, PIECE);
+        assert!(rt;
+            leaves(rt, alloc, text, limits, whole, files, listing)?,
+            "{files}"
+        );
+    }
     Ok(())
 }
 
-/// What is there of the files where calls of an object fail from this one on: each piece goes in one call.
-const ONE_STEP: [(Failing, usize, &str); 9] = [
-    (Failing::Reads, 1, ""),
-    (Failing::Reads, 2, ""),
-    (Failing::Files, 1, ""),
-    (Failing::Files, 2, "step1-4.book empty, "),
-    (Failing::Files, 3, "step1-4.book whole, "),
-    (Failing::Files, 4, "step1-4.book ended, "),
+/// Objects outside that take each piece in one call, none of which fails.
+const PIECEWISE: Limits = Limits {
+    step: PIECE,
+    ..SURE
+};
+
+/// What is there of the files where calls of an object fail from this one on: each piece goes in one call. Nothing is listed.
+const ONE_STEP: [(Failing, usize, &str, &str); 9] = [
+    (Failing::Reads, 1, "", ""),
+    (Failing::Reads, 2, "", ""),
+    (Failing::Files, 1, "", ""),
+    (Failing::Files, 2, "step1-4.book empty, ", ""),
+    (Failing::Files, 3, "step1-4.book whole, ", ""),
+    (Failing::Files, 4, "step1-4.book ended, ", ""),
     (
         Failing::Files,
         5,
         "step1-4.book ended, savedesign.csv empty, ",
+        "",
     ),
     (
         Failing::Files,
         6,
         "step1-4.book ended, savedesign.csv whole, ",
+        "",
     ),
     (
         Failing::Writes,
         1,
         "step1-4.book ended, savedesign.csv ended, ",
+        "",
     ),
 ];
 
 /// The files of a step come before its listing, the books before the plans.
 #[test]
 fn files_come_before_the_listing(rt: HostRuntime) -> Result<(), Fail> {
-    for (failing, from, files) in ONE_STEP {
-        leaves(
-            &rt,
-            rt.alloc(),
-            ALL,
-            limits_of(failing, from, PIECE),
-            files,
-            "",
-        )?;
-    }
-    Ok(())
+    let whole = left_by(&rt, rt.alloc(), "run", ALL.as_bytes(), PIECEWISE)?;
+    each_leaves(&rt, rt.alloc(), ALL, &whole, &ONE_STEP)
 }
 
 /// The same for two steps, with what is listed.
@@ -339,15 +411,6 @@ const TWO_STEPS: [(Failing, usize, &str, &str); 9] = [
 /// A step is listed before the files of the next.
 #[test]
 fn steps_come_one_after_another(rt: HostRuntime) -> Result<(), Fail> {
-    for (failing, from, files, listing) in TWO_STEPS {
-        leaves(
-            &rt,
-            rt.alloc(),
-            TWO_PLANS,
-            limits_of(failing, from, PIECE),
-            files,
-            listing,
-        )?;
-    }
-    Ok(())
+    let whole = left_by(&rt, rt.alloc(), "run", TWO_PLANS.as_bytes(), PIECEWISE)?;
+    each_leaves(&rt, rt.alloc(), TWO_PLANS, &whole, &TWO_STEPS)
 }

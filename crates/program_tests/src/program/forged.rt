@@ -1,7 +1,7 @@
 //! Small books, each of whose lines is changed in turn. What `check` lists of them was found by a checker in
 //! another language, written from what docs/BOOKS.md says of books.
 use super::books::NO_FIVE;
-use super::outside::{SURE, left_by, words_in};
+use super::outside::{SURE, count, left_by, lists};
 use fx_base::{Bytes, NoMemory, put};
 use std::alloc::Global;
 use std::process::Abort;
@@ -264,17 +264,6 @@ fn fits(line: &[u8], rest: &[u8], change: Change) -> bool {
     }
 }
 
-/// The first line that `check` lists of a text.
-fn listed<R: Threads + Sync>(
-    rt: &R,
-    alloc: Global,
-    words: &[Vec<u8>],
-    text: &[u8],
-) -> Result<Bytes, Fail> {
-    let left = left_by(rt, alloc, words, text, SURE)?;
-    Ok(Bytes::from_slice(alloc, first_line(left.listing.bytes()).0)?)
-}
-
 /// Appends a line without what comes before the place of a rejection, and without its line feed.
 fn put_verdict(out: &mut Bytes, line: &[u8]) -> Result<(), NoMemory> {
     if !out.is_empty() {
@@ -288,66 +277,96 @@ fn put_verdict(out: &mut Bytes, line: &[u8]) -> Result<(), NoMemory> {
     )
 }
 
-/// The verdicts on a book with each line changed in turn.
-fn verdicts<R: Threads + Sync>(
+/// Appends the verdict of `check` on a text: the first line that it lists.
+fn judge<R: Threads + Sync>(
     rt: &R,
     alloc: Global,
-    words: &[Vec<u8>],
+    text: &[u8],
+    out: &mut Bytes,
+) -> Result<(), Fail> {
+    let left = left_by(rt, alloc, "check", text, SURE)?;
+    put_verdict(out, first_line(left.listing.bytes()).0)?;
+    Ok(())
+}
+
+/// Appends a book with a changed line: what is before it, the line, and what follows it.
+fn put_forged(
+    out: &mut Bytes,
+    front: &[u8],
+    line: &[u8],
+    rest: &[u8],
+    change: Change,
+) -> Result<(), NoMemory> {
+    put(out, front)?;
+    put_changed(out, line, rest, change)
+}
+
+/// Appends the verdicts on a book with each line changed in turn.
+fn judge_each<R: Threads + Sync>(
+    rt: &R,
+    alloc: Global,
     book: &[u8],
     change: Change,
-) -> Result<Bytes, Fail> {
-    let mut all = Bytes::new(alloc);
+    out: &mut Bytes,
+) -> Result<(), Fail> {
     let mut rest = book;
-    for _line in book.iter().filter(|byte| **byte == b'\n') {
+    for _line in 0..count(book, b'\n') {
         let front = book.len().saturating_sub(rest.len());
         let (line, after) = first_line(rest);
         rest = after;
         if fits(line, rest, change) {
             let mut text = Bytes::new(alloc);
-            put(&mut text, book.get(..front).unwrap_or(book))?;
-            put_changed(&mut text, line, rest, change)?;
-            put_verdict(
-                &mut all,
-                listed(rt, alloc, words, text.as_slice())?.as_slice(),
+            put_forged(
+                &mut text,
+                book.get(..front).unwrap_or(book),
+                line,
+                rest,
+                change,
             )?;
+            judge(rt, alloc, text.as_slice(), out)?;
         }
-    }
-    Ok(all)
-}
-
-/// Tests the verdicts on a book with each of these changes.
-fn are_judged<R: Threads + Sync + Abort>(
-    rt: &R,
-    alloc: Global,
-    words: &[Vec<u8>],
-    changes: &[Change],
-    book: &str,
-    wanted: &str,
-) -> Result<(), Fail> {
-    assert_eq!(rt; wanted.lines().count(), changes.len());
-    for (change, row) in changes.iter().zip(wanted.lines()) {
-        let found = verdicts(rt, alloc, words, book.as_bytes(), *change)?;
-        assert!(rt; found.as_slice() == row.as_bytes(), "{row}");
     }
     Ok(())
 }
 
-/// Tests the verdicts on each of the books with each of these changes.
-fn are_all_judged<R: Threads + Sync + Abort>(
+/// Whether these are the verdicts on a book with each line changed in turn.
+fn has_verdicts<R: Threads + Sync>(
     rt: &R,
     alloc: Global,
-    changes: &[Change],
+    book: &[u8],
+    change: Change,
+    wanted: &str,
+) -> Result<bool, Fail> {
+    let mut found = Bytes::new(alloc);
+    judge_each(rt, alloc, book, change, &mut found)?;
+    Ok(found.as_slice() == wanted.as_bytes())
+}
+
+/// Tests the verdicts on a book with each change: a line for each.
+fn are_judged<R: Threads + Sync + Abort>(
+    rt: &R,
+    alloc: Global,
+    book: &str,
+    wanted: &str,
 ) -> Result<(), Fail> {
-    let words = words_in(alloc, "check")?;
-    for (book, wanted) in BOOKS {
-        are_judged(rt, alloc, words.as_slice(), changes, book, wanted)?;
+    let mut rows = wanted.lines();
+    for change in &CHANGES {
+        let row = rows.next().expect(rt, "a line for each change");
+        assert!(rt;
+            has_verdicts(rt, alloc, book.as_bytes(), *change, row)?,
+            "{row}"
+        );
     }
+    assert!(rt; rows.next().is_none());
     Ok(())
 }
 
 #[test]
 fn forged_lines_are_rejected(rt: HostRuntime) -> Result<(), Fail> {
-    are_all_judged(&rt, rt.alloc(), CHANGES.as_slice())
+    for (book, wanted) in &BOOKS {
+        are_judged(&rt, rt.alloc(), book, wanted)?;
+    }
+    Ok(())
 }
 
 /// Lines of the book of five factors in eight runs at resolution 4, each with what is in its place, and the
@@ -384,31 +403,26 @@ fn with_line(alloc: Global, line: usize, other: &str) -> Result<Bytes, NoMemory>
     Ok(text)
 }
 
-/// Tests that a text is rejected with this verdict, and with nothing else listed.
-fn is_rejected<R: Threads + Sync + Abort>(
+/// Whether a text is rejected with this verdict, and nothing else is listed.
+fn is_rejected<R: Threads + Sync>(
     rt: &R,
     alloc: Global,
     text: &[u8],
     wanted: &str,
-) -> Result<(), Fail> {
-    let words = words_in(alloc, "check")?;
+) -> Result<bool, Fail> {
     let line = format!(in alloc; "rejected line {wanted}\n")?;
-    let left = left_by(rt, alloc, words.as_slice(), text, SURE)?;
-    assert_eq!(rt; left.status, 1, "{wanted}");
-    assert!(rt; left.listing.bytes() == line.as_bytes(), "{wanted}");
-    Ok(())
+    lists(rt, alloc, "check", text, SURE, 1, line.as_str())
 }
 
 #[test]
 fn replaced_lines_are_rejected(rt: HostRuntime) -> Result<(), Fail> {
-    let alloc = rt.alloc();
-    for (line, other, wanted) in REPLACED {
-        is_rejected(
-            &rt,
-            alloc,
-            with_line(alloc, line, other)?.as_slice(),
-            wanted,
-        )?;
+    for (line, other, wanted) in &REPLACED {
+        let text = with_line(rt.alloc(), *line, other)?;
+        assert!(rt;
+            is_rejected(&rt, rt.alloc(), text.as_slice(), wanted)?,
+            "{wanted}"
+        );
     }
-    is_rejected(&rt, alloc, "".as_bytes(), "1 B2")
+    assert!(rt; is_rejected(&rt, rt.alloc(), "".as_bytes(), "1 B2")?);
+    Ok(())
 }

@@ -116,15 +116,162 @@ fn call<R: Threads + Sync>(rt: &R, alloc: Global, words: &[Vec<u8>], objects: &m
     );
 }
 
-/// What `factex` leaves outside, with these words and a text, within these limits.
+/// What `factex` leaves outside, with the words of a line and a text, within these limits.
 pub(super) fn left_by<R: Threads + Sync>(
     rt: &R,
     alloc: Global,
-    words: &[Vec<u8>],
+    line: &str,
     text: &[u8],
     limits: Limits,
 ) -> Result<Outside, Fail> {
+    let words = words_in(alloc, line)?;
     let mut objects = objects_within(alloc, text, limits)?;
-    call(rt, alloc, words, &mut objects);
+    call(rt, alloc, words.as_slice(), &mut objects);
     Ok(objects)
+}
+
+/// Whether the status and the listing are these, and no call failed.
+fn has_listed(left: &Outside, status: u8, listing: &str) -> bool {
+    left.status == status && left.faults() == 0 && left.listing.bytes() == listing.as_bytes()
+}
+
+/// Whether the words of a line end with this status and list just this of a text, and no call fails.
+pub(super) fn lists<R: Threads + Sync>(
+    rt: &R,
+    alloc: Global,
+    line: &str,
+    text: &[u8],
+    limits: Limits,
+    status: u8,
+    listing: &str,
+) -> Result<bool, Fail> {
+    let left = left_by(rt, alloc, line, text, limits)?;
+    Ok(has_listed(&left, status, listing))
+}
+
+/// What a call of `factex` left, in numbers.
+#[derive(Clone, Copy)]
+pub(super) struct Tally {
+    pub(super) status: u8,
+    /// How many reads, writes to the listing and calls on the shelf failed.
+    pub(super) read_faults: u64,
+    pub(super) write_faults: u64,
+    pub(super) file_faults: u64,
+    /// How many bytes are listed, how many files are begun, and how many of them are ended.
+    pub(super) listed: usize,
+    pub(super) files: usize,
+    pub(super) ended: usize,
+}
+
+/// How many files of a shelf are ended.
+fn ended_files(shelf: &MemoryShelf) -> usize {
+    let mut ended = 0usize;
+    for i in 0..shelf.files() {
+        ended = ended.saturating_add(usize::from(shelf.is_ended(i)));
+    }
+    ended
+}
+
+/// The numbers of what is left, where what is listed is the beginning of this listing.
+fn numbers_of(left: &Outside, listing: &str) -> Option<Tally> {
+    if !listing.as_bytes().starts_with(left.listing.bytes()) {
+        return None;
+    }
+    Some(Tally {
+        status: left.status,
+        read_faults: left.source.faults(),
+        write_faults: left.listing.faults(),
+        file_faults: left.shelf.faults(),
+        listed: left.listing.bytes().len(),
+        files: left.shelf.files(),
+        ended: ended_files(&left.shelf),
+    })
+}
+
+/// What the words of a line leave, where what is listed is the beginning of this listing.
+pub(super) fn tally_of<R: Threads + Sync>(
+    rt: &R,
+    alloc: Global,
+    line: &str,
+    text: &[u8],
+    limits: Limits,
+    listing: &str,
+) -> Result<Option<Tally>, Fail> {
+    let left = left_by(rt, alloc, line, text, limits)?;
+    Ok(numbers_of(&left, listing))
+}
+
+/// Whether a file of the shelf is whole, with this name and this content.
+fn is_file(shelf: &MemoryShelf, i: usize, name: &str, content: &[u8]) -> bool {
+    i < shelf.files()
+        && shelf.is_ended(i)
+        && shelf.name(i) == name.as_bytes()
+        && shelf.content(i) == content
+}
+
+/// Whether the shelf has just these files, all whole.
+fn has_files(shelf: &MemoryShelf, files: &[(&str, &str)]) -> bool {
+    for (i, (name, content)) in files.iter().enumerate() {
+        if !is_file(shelf, i, name, content.as_bytes()) {
+            return false;
+        }
+    }
+    shelf.files() == files.len()
+}
+
+/// Whether the status, the listing and the files are these.
+fn has_left(left: &Outside, status: u8, listing: &str, files: &[(&str, &str)]) -> bool {
+    left.status == status
+        && left.listing.bytes() == listing.as_bytes()
+        && has_files(&left.shelf, files)
+}
+
+/// Whether a run of a text ends with this status, and leaves this listing and these files.
+pub(super) fn shelves<R: Threads + Sync>(
+    rt: &R,
+    alloc: Global,
+    line: &str,
+    text: &str,
+    limits: Limits,
+    status: u8,
+    listing: &str,
+    files: &[(&str, &str)],
+) -> Result<bool, Fail> {
+    let left = left_by(rt, alloc, line, text.as_bytes(), limits)?;
+    Ok(has_left(&left, status, listing, files))
+}
+
+/// The content of the only file, where the status and the listing are these, or nothing.
+fn only_file<'a>(left: &'a Outside, status: u8, listing: &str) -> &'a [u8] {
+    if left.status == status
+        && left.listing.bytes() == listing.as_bytes()
+        && left.shelf.files() == 1
+        && left.shelf.is_ended(0)
+    {
+        left.shelf.content(0)
+    } else {
+        "".as_bytes()
+    }
+}
+
+/// The only file that a run of a text leaves, with this status and this listing, or nothing.
+pub(super) fn file_of<R: Threads + Sync>(
+    rt: &R,
+    alloc: Global,
+    text: &[u8],
+    limits: Limits,
+    status: u8,
+    listing: &str,
+) -> Result<Bytes, Fail> {
+    let left = left_by(rt, alloc, "run", text, limits)?;
+    Ok(Bytes::from_slice(alloc, only_file(&left, status, listing))?)
+}
+
+/// How often a byte is in a text.
+pub(super) fn count(text: &[u8], byte: u8) -> usize {
+    let mut count = 0usize;
+    for own in text {
+        count = count.saturating_add(usize::from(*own == byte));
+    }
+    count
 }
