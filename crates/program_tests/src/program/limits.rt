@@ -135,9 +135,7 @@ fn begins_with<R: Threads + Sync>(
 ) -> Result<bool, Fail> {
     let left = left_by(rt, alloc, "run", text.as_bytes(), ROOMY)?;
     let listing = left.listing.bytes();
-    Ok(left.status == 0
-        && listing.starts_with(first.as_bytes())
-        && count(listing, b'=') == rules)
+    Ok(left.status == 0 && listing.starts_with(first.as_bytes()) && count(listing, b'=') == rules)
 }
 
 /// Forty factors of nine levels, and one more.
@@ -147,7 +145,8 @@ fn a_step_has_at_most_40_factors(rt: HostRuntime) -> Result<(), Fail> {
     let message = "factex: E10 2:9 too many factors\n";
     assert!(rt; runs(&rt, rt.alloc(), text, 3, message)?);
     let text = "proc factex;\nfactors F1-F40 / nlev=9;\nsize design=729;\nmodel resolution=3;\n";
-    let first = "step 1\nfactors 40 levels 9\ndesign 729 runs\nresolution 3\nnodes 40\nrules\n  F4 = F1^8*F2^8*F3\n";
+    let first =
+        "step 1\nfactors 40 levels 9\ndesign 729 runs\nresolution 3\nnodes 40\nrules\n  F4 = F1^8*F2^8*F3\n";
     assert!(rt; begins_with(&rt, rt.alloc(), text, first, 37)?);
     Ok(())
 }
