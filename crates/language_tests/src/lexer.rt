@@ -1,3 +1,4 @@
+use crate::rows_of;
 use fx_base::NoMemory;
 use fx_lexer::{Kind, LexFault, LexStop, Token, lex};
 use std::alloc::Global;
@@ -106,7 +107,7 @@ fn limits_are_kept_on_both_sides(rt: HostRuntime) -> Result<(), Fail> {
         "123456789012345678901234567890123456.8",
         " _bcdefghijklmnopqrstuvwxyzABCD12",
     ];
-    for text in &LONGEST {
+    for text in rows_of(&LONGEST) {
         assert!(rt; count(&rt, alloc, text.as_bytes())? == 1, "{text}");
     }
     have_faults(
@@ -143,7 +144,7 @@ fn longest_texts_end(rt: HostRuntime) -> Result<(), Fail> {
         (b"* ", b" ;", 0),
         (b"' ", b" '", 1),
     ];
-    for (open, close, tokens) in &ENDS {
+    for (open, close, tokens) in rows_of(&ENDS) {
         assert!(rt; count_of_longest(&rt, rt.alloc(), open, close)? == *tokens);
     }
     Ok(())

@@ -75,6 +75,19 @@ fn refusal(
     }
 }
 
+/// Tests that each text is refused by this code at this column.
+fn are_refused(
+    rt: &impl Abort,
+    alloc: Global,
+    cases: &[(BlockCount, &str, u8, u32)],
+) -> Result<(), Fail> {
+    for (blocks, text, code, column) in cases {
+        let found = refusal(rt, alloc, *blocks, text)?;
+        assert!(rt; found == Some((*code, *column)), "{text}");
+    }
+    Ok(())
+}
+
 #[test]
 fn refused_where_the_rule_is_broken(rt: HostRuntime) -> Result<(), Fail> {
     const CASES: [(BlockCount, &str, u8, u32); 14] = [
@@ -128,11 +141,7 @@ fn refused_where_the_rule_is_broken(rt: HostRuntime) -> Result<(), Fail> {
         ),
         (BlockCount::Without, "output out=b A nvals=(1);", 17, 16),
     ];
-    for (blocks, text, code, column) in &CASES {
-        let found = refusal(&rt, rt.alloc(), *blocks, text)?;
-        assert!(rt; found == Some((*code, *column)), "{text}");
-    }
-    Ok(())
+    are_refused(&rt, rt.alloc(), &CASES)
 }
 
 /// Whether these are the texts, in order, between blanks.

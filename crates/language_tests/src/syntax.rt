@@ -1,3 +1,4 @@
+use crate::rows_of;
 use fx_base::{Bytes, put};
 use fx_language::{Symbol, symbols};
 use fx_lexer::lex;
@@ -54,7 +55,7 @@ fn programs_are_accepted(rt: HostRuntime) -> Result<(), Fail> {
         "proc factex; model e=(A A*B A|B*C|D@2 A-C) n=(size); blocks size=min; examine; examine aliasing design aberration;",
         "proc factex; output out=out randomize(7) novalran blockname=b nvals=(1 -2 .5) x cvals=('lo' 'hi') pointrep=2 designrep=3;",
     ];
-    for program in &PROGRAMS {
+    for program in rows_of(&PROGRAMS) {
         assert!(rt;
             refusal(&rt, rt.alloc(), program.as_bytes())?.is_none(),
             "{program}"

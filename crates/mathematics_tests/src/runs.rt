@@ -3,6 +3,7 @@ ghost use Rattle.fx_vectors.specs.Effects.{numbers_of};
 ghost use Rattle.fx_vectors.specs.Question.{CanBeTold, IsValid};
 ghost use Rattle.fx_vectors.specs.Shape.{IsShape};
 
+use crate::rows_of;
 use fx_base::NoMemory;
 use fx_runs::{Runs, block_number, constant_in_blocks, is_balanced, is_constant, list_runs, meets};
 use fx_vectors::{Demands, Effect, Effects, Matrix, Question, Shape, Vector};
@@ -313,7 +314,7 @@ const TWO_LEVEL_CASES: [(u8, [u16; 4], bool); 7] = [
 #[test]
 fn resolutions_are_met(rt: HostRuntime) -> Result<(), Fail> {
     let alloc = rt.alloc();
-    for (r, rows, is_met) in &TWO_LEVEL_CASES {
+    for (r, rows, is_met) in rows_of(&TWO_LEVEL_CASES) {
         assert!(rt; met_at(alloc, TWO_LEVELS, *r, rows)? == Some(*is_met));
     }
     assert!(rt; met_at(alloc, THREE_LEVELS, 3, &[1, 3, 4, 7])? == Some(true));
@@ -401,10 +402,10 @@ const FOUR_BLOCK_CASES: [([u16; 5], bool); 3] = [
 #[test]
 fn main_effects_are_told_from_blocks(rt: HostRuntime) -> Result<(), Fail> {
     let alloc = rt.alloc();
-    for (r, rows, is_met) in &BLOCK_CASES {
+    for (r, rows, is_met) in rows_of(&BLOCK_CASES) {
         assert!(rt; met_at(alloc, IN_BLOCKS, *r, rows)? == Some(*is_met));
     }
-    for (rows, is_met) in &FOUR_BLOCK_CASES {
+    for (rows, is_met) in rows_of(&FOUR_BLOCK_CASES) {
         assert!(rt; met_at(alloc, FOUR_BLOCKS, 3, rows)? == Some(*is_met));
     }
     Ok(())

@@ -4,10 +4,12 @@ mod forged;
 mod limits;
 mod outside;
 
+use crate::rows_of;
 use fx_base::{Bytes, put};
 use fx_program::{Settings, make_text, read_words};
 use outside::{Limits, Outside, SURE, Tally, file_of, left_by, lists, shelves, tally_of, words_in};
 use std::alloc::Global;
+use std::process::Abort;
 use std::test::Fail;
 use std::thread::Threads;
 
@@ -235,21 +237,22 @@ const PROGRAMS: [(&str, &str, u8); 43] = [
     ("; run; quit;", "", 0),
 ];
 
-#[test]
-fn programs_have_their_listing(rt: HostRuntime) -> Result<(), Fail> {
-    for (text, listing, status) in &PROGRAMS {
-        let is_so = lists(
-            &rt,
-            rt.alloc(),
-            "run",
-            text.as_bytes(),
-            SURE,
-            *status,
-            listing,
-        )?;
+/// Tests that each text has its listing and status.
+fn are_listed<R: Threads + Sync + Abort>(
+    rt: &R,
+    alloc: Global,
+    cases: &[(&str, &str, u8)],
+) -> Result<(), Fail> {
+    for (text, listing, status) in cases {
+        let is_so = lists(rt, alloc, "run", text.as_bytes(), SURE, *status, listing)?;
         assert!(rt; is_so, "{text}");
     }
     Ok(())
+}
+
+#[test]
+fn programs_have_their_listing(rt: HostRuntime) -> Result<(), Fail> {
+    are_listed(&rt, rt.alloc(), &PROGRAMS)
 }
 
 /// The examples of docs/LANGUAGE.md and further texts that are refused, each with its message.
@@ -450,13 +453,22 @@ fn tells<R: Threads + Sync>(
     Ok(is_told(&left, message))
 }
 
-#[test]
-fn faults_of_a_text_are_told(rt: HostRuntime) -> Result<(), Fail> {
-    for (text, message) in &REFUSED {
-        let is_so = tells(&rt, rt.alloc(), "run", text.as_bytes(), SURE, message)?;
+/// Tests that each text has its message.
+fn texts_are_refused<R: Threads + Sync + Abort>(
+    rt: &R,
+    alloc: Global,
+    cases: &[(&str, &str)],
+) -> Result<(), Fail> {
+    for (text, message) in cases {
+        let is_so = tells(rt, alloc, "run", text.as_bytes(), SURE, message)?;
         assert!(rt; is_so, "{text}");
     }
     Ok(())
+}
+
+#[test]
+fn faults_of_a_text_are_told(rt: HostRuntime) -> Result<(), Fail> {
+    texts_are_refused(&rt, rt.alloc(), &REFUSED)
 }
 
 /// Two plans of four runs, the second by a seed of its own.
@@ -485,7 +497,7 @@ const SEEDS: [(&str, &str, &str); 3] = [
 /// The seed of the command line is that of a plan that has none of its own.
 #[test]
 fn the_seed_of_the_words_shuffles(rt: HostRuntime) -> Result<(), Fail> {
-    for (line, listing, plan) in &SEEDS {
+    for (line, listing, plan) in rows_of(&SEEDS) {
         let files = [("x.csv", *plan), ("y.csv", "A,B\n1,1\n-1,-1\n1,-1\n-1,1\n")];
         let is_so = shelves(&rt, rt.alloc(), line, SEEDED, SURE, 0, listing, &files)?;
         assert!(rt; is_so, "{line}");
@@ -518,13 +530,22 @@ const REFUSED_WORDS: [(&str, &str); 21] = [
     ("large 1 --seed=1", "C3 word 3"),
 ];
 
-#[test]
-fn refused_words_are_told(rt: HostRuntime) -> Result<(), Fail> {
-    for (line, message) in &REFUSED_WORDS {
-        let is_so = tells(&rt, rt.alloc(), line, HALF.as_bytes(), UNREAD, message)?;
+/// Tests that each command line has its message.
+fn words_are_refused<R: Threads + Sync + Abort>(
+    rt: &R,
+    alloc: Global,
+    cases: &[(&str, &str)],
+) -> Result<(), Fail> {
+    for (line, message) in cases {
+        let is_so = tells(rt, alloc, line, HALF.as_bytes(), UNREAD, message)?;
         assert!(rt; is_so, "{line}");
     }
     Ok(())
+}
+
+#[test]
+fn refused_words_are_told(rt: HostRuntime) -> Result<(), Fail> {
+    words_are_refused(&rt, rt.alloc(), &REFUSED_WORDS)
 }
 
 /// Whether the words of a line have these settings.
@@ -541,7 +562,7 @@ fn numbers_of_steps_are_read(rt: HostRuntime) -> Result<(), Fail> {
         ("make 00000000000000000012", Settings::Make { n: 12 }),
         ("large 40", Settings::Large { n: 40, threads: 1 }),
     ];
-    for (line, settings) in &WORDS {
+    for (line, settings) in rows_of(&WORDS) {
         assert!(rt; are_settings(rt.alloc(), line, *settings)?, "{line}");
     }
     Ok(())
@@ -643,7 +664,7 @@ fn large_sums_up(rt: HostRuntime) -> Result<(), Fail> {
             "steps 2\ndesigns 2\nnone 0\nended 0\nnodes 106\n",
         ),
     ];
-    for (line, summary) in &SUMMARIES {
+    for (line, summary) in rows_of(&SUMMARIES) {
         let is_so = lists(&rt, rt.alloc(), line, HALF.as_bytes(), UNREAD, 0, summary)?;
         assert!(rt; is_so, "{line}");
     }
@@ -789,12 +810,22 @@ const QUOTED_LISTING: &str =
 
 const QUOTED_PLAN: &[u8] = b"A,B,C\n10,,-1\n10,\"\xe9\n\r\",1\n-2.5,,1\n-2.5,\"\xe9\n\r\",-1\n";
 
-#[test]
-fn plans_are_shelved(rt: HostRuntime) -> Result<(), Fail> {
-    for (text, listing, files, status) in &PLANNED {
-        let is_so = shelves(&rt, rt.alloc(), "run", text, SURE, *status, listing, files)?;
+/// Tests that each text has its listing, its files and its status.
+fn are_shelved<R: Threads + Sync + Abort>(
+    rt: &R,
+    alloc: Global,
+    cases: &[(&str, &str, &[(&str, &str)], u8)],
+) -> Result<(), Fail> {
+    for (text, listing, files, status) in cases {
+        let is_so = shelves(rt, alloc, "run", text, SURE, *status, listing, files)?;
         assert!(rt; is_so, "{text}");
     }
+    Ok(())
+}
+
+#[test]
+fn plans_are_shelved(rt: HostRuntime) -> Result<(), Fail> {
+    are_shelved(&rt, rt.alloc(), &PLANNED)?;
     let plan = file_of(&rt, rt.alloc(), QUOTED, SURE, 0, QUOTED_LISTING)?;
     assert!(rt; plan.as_slice() == QUOTED_PLAN);
     Ok(())

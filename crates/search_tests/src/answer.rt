@@ -205,14 +205,23 @@ fn ends_so<R: Abort + Threads + Sync>(
     }
 }
 
-#[test]
-fn budgets_end_at_the_last_node_of_each_question(rt: HostRuntime) -> Result<(), Fail> {
-    for (step, budget, expected) in &STEPS {
-        let text = text_of(rt.alloc(), *budget, step)?;
+/// Tests that each step ends so within its budget.
+fn all_end_so<R: Threads + Sync + Abort>(
+    rt: &R,
+    alloc: Global,
+    cases: &[(&str, u64, Ended)],
+) -> Result<(), Fail> {
+    for (step, budget, expected) in cases {
+        let text = text_of(alloc, *budget, step)?;
         assert!(rt;
-            ends_so(&rt, rt.alloc(), text.as_slice(), *expected)?,
+            ends_so(rt, alloc, text.as_slice(), *expected)?,
             "{budget}{step}"
         );
     }
     Ok(())
+}
+
+#[test]
+fn budgets_end_at_the_last_node_of_each_question(rt: HostRuntime) -> Result<(), Fail> {
+    all_end_so(&rt, rt.alloc(), &STEPS)
 }

@@ -62,6 +62,14 @@ fn worked_book_is_read(rt: HostRuntime) -> Result<(), Fail> {
     Ok(())
 }
 
+/// Tests that each text comes back.
+fn all_come_back(rt: &impl Abort, alloc: Global, cases: &[&str]) -> Result<(), Fail> {
+    for text in cases {
+        assert!(rt; comes_back(alloc, text)?, "{text}");
+    }
+    Ok(())
+}
+
 #[test]
 fn books_come_back(rt: HostRuntime) -> Result<(), Fail> {
     const TEXTS: [&str; 5] = [
@@ -71,10 +79,7 @@ fn books_come_back(rt: HostRuntime) -> Result<(), Fail> {
         "factex-book 1\nsize 3 2 4 2\neffects 1 2 3 / 4 8 5\npattern none\nEND\n",
         "factex-book 1\nsize 9 3 40 0\nresolution 99\npattern none\nW 728 147808829414345923316083210206383297600\nEND\n",
     ];
-    for text in &TEXTS {
-        assert!(rt; comes_back(rt.alloc(), text)?, "{text}");
-    }
-    Ok(())
+    all_come_back(&rt, rt.alloc(), &TEXTS)
 }
 
 #[test]

@@ -2,6 +2,7 @@ use fx_base::{Bytes, NoMemory};
 use fx_book::{BookStop, read_book};
 use fx_checker::{Reason, Verdict, check};
 use std::alloc::Global;
+use std::process::Abort;
 use std::test::Fail;
 
 /// The verdict on a text that is a book.
@@ -32,6 +33,28 @@ fn is_rejection(verdict: Verdict, line: u32, code: u8) -> bool {
     }
 }
 
+/// Tests that the book in eight runs with each of these entries is accepted.
+fn entries_are_accepted(rt: &impl Abort, alloc: Global, cases: &[&str]) -> Result<(), Fail> {
+    for entries in cases {
+        assert!(rt;
+            judged_in_eight(alloc, entries)? == Verdict::Accepted,
+            "{entries}"
+        );
+    }
+    Ok(())
+}
+
+/// Tests that each of these books is accepted.
+fn texts_are_accepted(rt: &impl Abort, alloc: Global, cases: &[&str]) -> Result<(), Fail> {
+    for text in cases {
+        assert!(rt;
+            judged(alloc, text.as_bytes())? == Verdict::Accepted,
+            "{text}"
+        );
+    }
+    Ok(())
+}
+
 /// Five factors of two levels in eight runs have no resolution 4; any forbidden word will do.
 #[test]
 fn good_books_are_accepted(rt: HostRuntime) -> Result<(), Fail> {
@@ -39,22 +62,24 @@ fn good_books_are_accepted(rt: HostRuntime) -> Result<(), Fail> {
         "O 1\nO 2\nO 4\nO 7\nW 6 25\nW 5 26\nW 3 28\nW 6 14\nW 5 13\nW 3 11\n",
         "O 1\nO 2\nO 4\nO 7\nW 6 22\nW 5 26\nW 3 28\nW 6 14\nW 5 13\nW 3 11\n",
     ];
-    for entries in &IN_EIGHT {
-        assert!(rt;
-            judged_in_eight(rt.alloc(), entries)? == Verdict::Accepted,
-            "{entries}"
-        );
-    }
+    entries_are_accepted(&rt, rt.alloc(), &IN_EIGHT)?;
     const TEXTS: [&str; 3] = [
         "factex-book 1\nsize 2 1 2 0\neffects 1 2 /\npattern none\nO 1\nW 1 3\nW 0 2\nW 0 1\nEND\n",
         "factex-book 1\nsize 3 2 5 0\nresolution 3\npattern none\nO 1\nO 3\nO 5\nO 4\nO 4\nEND\n",
         "factex-book 1\nsize 2 3 4 0\nresolution 3\npattern 0 0 0 1\nO 1\nO 2\nO 4\nP 7\nP 6\nP 5\nP 3\nEND\n",
     ];
-    for text in &TEXTS {
-        assert!(rt;
-            judged(rt.alloc(), text.as_bytes())? == Verdict::Accepted,
-            "{text}"
-        );
+    texts_are_accepted(&rt, rt.alloc(), &TEXTS)
+}
+
+/// Tests that the book in eight runs with each of these entries is false in this line, for this reason.
+fn entries_are_rejected(
+    rt: &impl Abort,
+    alloc: Global,
+    cases: &[(&str, u32, u8)],
+) -> Result<(), Fail> {
+    for (entries, line, code) in cases {
+        let verdict = judged_in_eight(alloc, entries)?;
+        assert!(rt; is_rejection(verdict, *line, *code), "{entries}");
     }
     Ok(())
 }
@@ -82,9 +107,25 @@ fn each_reason_is_found(rt: HostRuntime) -> Result<(), Fail> {
         ),
         ("", 5, 6),
     ];
-    for (entries, line, code) in &REJECTED {
-        let verdict = judged_in_eight(rt.alloc(), entries)?;
-        assert!(rt; is_rejection(verdict, *line, *code), "{entries}");
+    entries_are_rejected(&rt, rt.alloc(), &REJECTED)
+}
+
+/// Tests that each of these books is false in line 8, for this reason.
+fn texts_are_rejected(
+    rt: &impl Abort,
+    alloc: Global,
+    cases: &[(&str, Reason)],
+) -> Result<(), Fail> {
+    for (text, reason) in cases {
+        let verdict = judged(alloc, text.as_bytes())?;
+        assert!(rt;
+            verdict
+                == Verdict::Rejected {
+                    line: 8,
+                    reason: *reason
+                },
+            "{text}"
+        );
     }
     Ok(())
 }
@@ -102,16 +143,5 @@ fn branches_end_and_patterns_are_compared(rt: HostRuntime) -> Result<(), Fail> {
             Reason::Beats,
         ),
     ];
-    for (text, reason) in &REJECTED {
-        let verdict = judged(rt.alloc(), text.as_bytes())?;
-        assert!(rt;
-            verdict
-                == Verdict::Rejected {
-                    line: 8,
-                    reason: *reason
-                },
-            "{text}"
-        );
-    }
-    Ok(())
+    texts_are_rejected(&rt, rt.alloc(), &REJECTED)
 }

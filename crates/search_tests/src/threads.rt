@@ -4,12 +4,14 @@ ghost use Rattle.fx_vectors.specs.Shape.{IsShape};
 
 use crate::board::Holding;
 use crate::questions::{main_effects, question, shape_of};
+use crate::rows_of;
 use crate::searches::are_same_marks;
 use fx_base::NoMemory;
 use fx_board::{Alone, Asked, FreeGate, Gate, ask, ask_after};
 use fx_search::ask_alone;
 use fx_vectors::{Question, Shape};
 use std::alloc::Global;
+use std::process::Abort;
 use std::sync::atomic::{AtomicU64, Ordering};
 use std::test::Fail;
 use std::thread::Threads;
@@ -125,7 +127,7 @@ fn all_answer_so<R: Threads + Sync>(
     requires valid { IsValid question.now }
     requires budget { budget ≤ 5000000 }
 {
-    for (threads, nodes) in &THREADS {
+    for (threads, nodes) in rows_of(&THREADS) {
         if !answer_so(rt, alloc, question, budget, *threads, *nodes, alone)? {
             return Ok(false);
         }
@@ -207,12 +209,21 @@ fn each_agrees<R: Threads + Sync>(
     }
 }
 
-#[test]
-fn any_number_of_threads_answers_as_one(rt: HostRuntime) -> Result<(), Fail> {
-    for asked in &ASKED {
-        assert!(rt; each_agrees(&rt, rt.alloc(), asked)?);
+/// Tests each of these questions.
+fn all_agree<R: Threads + Sync + Abort>(
+    rt: &R,
+    alloc: Global,
+    cases: &[(u8, u8, u8, u8, u8, bool)],
+) -> Result<(), Fail> {
+    for asked in cases {
+        assert!(rt; each_agrees(rt, alloc, asked)?);
     }
     Ok(())
+}
+
+#[test]
+fn any_number_of_threads_answers_as_one(rt: HostRuntime) -> Result<(), Fail> {
+    all_agree(&rt, rt.alloc(), &ASKED)
 }
 
 /// How many nodes a search for a resolution comes by with two threads, where it finds a design.

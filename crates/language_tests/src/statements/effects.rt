@@ -1,4 +1,5 @@
 //! Which effects and listings of components are refused, and which accepted.
+use crate::rows_of;
 use crate::statements::{are_accepted, are_refused, refusal, text_of};
 use fx_base::{Bytes, NoMemory, put, put_number};
 use std::alloc::Global;
@@ -97,7 +98,7 @@ fn bars_refusal(
 
 #[test]
 fn limits_of_effects_and_pairs_are_exact_to_a_factor(rt: HostRuntime) -> Result<(), Fail> {
-    for (first, second, wanted) in &BARS {
+    for (first, second, wanted) in rows_of(&BARS) {
         assert!(rt; bars_refusal(&rt, rt.alloc(), *first, *second)? == *wanted);
     }
     Ok(())

@@ -1,4 +1,5 @@
 //! What the steps of an accepted text are.
+use crate::rows_of;
 use crate::statements::{read, text_of};
 use fx_settings::Criterion;
 use fx_statements::{Blocks, Examine, Program, Shuffle, Size, Step, Wanted};
@@ -99,7 +100,7 @@ fn sizes_and_models_have_their_meanings(rt: HostRuntime) -> Result<(), Fail> {
             false,
         ),
     ];
-    for (text, size, wanted, least) in &CASES {
+    for (text, size, wanted, least) in rows_of(&CASES) {
         assert!(rt;
             gives(
                 &rt,
@@ -145,7 +146,7 @@ fn blocks_have_their_meanings(rt: HostRuntime) -> Result<(), Fail> {
             Blocks::Factors { t: 3 },
         ),
     ];
-    for (text, size, blocks) in &CASES {
+    for (text, size, blocks) in rows_of(&CASES) {
         let wanted = Criterion::Resolution { r: 5 };
         assert!(rt;
             gives(&rt, rt.alloc(), text, *size, wanted, false, *blocks)?,
@@ -174,7 +175,7 @@ fn blocks_stand_with_effects(rt: HostRuntime) -> Result<(), Fail> {
             Blocks::PerBlock { k: 2 },
         ),
     ];
-    for (text, size, blocks) in &CASES {
+    for (text, size, blocks) in rows_of(&CASES) {
         let wanted = Criterion::Effects;
         assert!(rt;
             gives(&rt, rt.alloc(), text, *size, wanted, false, *blocks)?,
@@ -217,7 +218,7 @@ fn effects_are_those_of_the_lists(rt: HostRuntime) -> Result<(), Fail> {
         ),
         ("model est=(C);", &[4], &[]),
     ];
-    for (text, estimate, nonnegligible) in &CASES {
+    for (text, estimate, nonnegligible) in rows_of(&CASES) {
         assert!(rt;
             asks_for(&rt, rt.alloc(), text, estimate, nonnegligible)?,
             "{text}"

@@ -77,11 +77,7 @@ const BOOKS: [(&str, &str, &[(&str, &str)], u8); 6] = [
 
 #[test]
 fn books_are_shelved(rt: HostRuntime) -> Result<(), Fail> {
-    for (text, listing, files, status) in &BOOKS {
-        let is_so = shelves(&rt, rt.alloc(), "run", text, SURE, *status, listing, files)?;
-        assert!(rt; is_so, "{text}");
-    }
-    Ok(())
+    are_shelved(&rt, rt.alloc(), &BOOKS)
 }
 
 /// A step with a least pattern of 282 nodes.
@@ -146,21 +142,22 @@ const JUDGED: [(&str, &str, u8); 9] = [
     (HALF, "rejected line 1 B2\n", 1),
 ];
 
-#[test]
-fn books_are_judged(rt: HostRuntime) -> Result<(), Fail> {
-    for (book, listing, status) in &JUDGED {
-        let is_so = lists(
-            &rt,
-            rt.alloc(),
-            "check",
-            book.as_bytes(),
-            SURE,
-            *status,
-            listing,
-        )?;
+/// Tests that `check` lists this of each book, with this status.
+fn verdicts_are_listed<R: Threads + Sync + Abort>(
+    rt: &R,
+    alloc: Global,
+    cases: &[(&str, &str, u8)],
+) -> Result<(), Fail> {
+    for (book, listing, status) in cases {
+        let is_so = lists(rt, alloc, "check", book.as_bytes(), SURE, *status, listing)?;
         assert!(rt; is_so, "{listing}");
     }
     Ok(())
+}
+
+#[test]
+fn books_are_judged(rt: HostRuntime) -> Result<(), Fail> {
+    verdicts_are_listed(&rt, rt.alloc(), &JUDGED)
 }
 
 /// After a failed read of a book nothing is read again and nothing is written, and after a failed

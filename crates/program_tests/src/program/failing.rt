@@ -225,17 +225,26 @@ fn makes_calls<R: Threads + Sync + Abort>(
     Ok(())
 }
 
-#[test]
-fn each_call_fails_in_turn(rt: HostRuntime) -> Result<(), Fail> {
-    for (line, text, step, calls) in &CALLS {
+/// Tests how many calls of each object the runs make.
+fn all_make_calls<R: Threads + Sync + Abort>(
+    rt: &R,
+    alloc: Global,
+    cases: &[(&str, &str, usize, [usize; 3])],
+) -> Result<(), Fail> {
+    for (line, text, step, calls) in cases {
         let limits = Limits {
             step: *step,
             ..SURE
         };
-        let whole = run_within(&rt, rt.alloc(), line, text, limits)?;
-        makes_calls(&rt, rt.alloc(), line, text, *step, calls, &whole)?;
+        let whole = run_within(rt, alloc, line, text, limits)?;
+        makes_calls(rt, alloc, line, text, *step, calls, &whole)?;
     }
     Ok(())
+}
+
+#[test]
+fn each_call_fails_in_turn(rt: HostRuntime) -> Result<(), Fail> {
+    all_make_calls(&rt, rt.alloc(), &CALLS)
 }
 
 /// Whether the run takes just the room of its listing there, and room on the shelf.
@@ -250,15 +259,24 @@ fn takes_room<R: Threads + Sync>(
     Ok(listing == whole.listed.len() && shelf > 64)
 }
 
+/// Tests that each run takes the room of what it leaves.
+fn all_take_room<R: Threads + Sync + Abort>(
+    rt: &R,
+    alloc: Global,
+    cases: &[&str],
+) -> Result<(), Fail> {
+    for text in cases {
+        let whole = run_within(rt, alloc, "run", text, Limits { step: 1, ..SURE })?;
+        assert!(rt; takes_room(rt, alloc, text, &whole)?, "{text}");
+    }
+    Ok(())
+}
+
 /// Each byte in turn finds no room. A file takes 64 bytes of the room, and its content.
 #[test]
 fn each_byte_fails_in_turn(rt: HostRuntime) -> Result<(), Fail> {
     const TEXTS: [&str; 4] = [TWO_PLANS, CLASSES, LEAST, ALL];
-    for text in &TEXTS {
-        let whole = run_within(&rt, rt.alloc(), "run", text, Limits { step: 1, ..SURE })?;
-        assert!(rt; takes_room(&rt, rt.alloc(), text, &whole)?, "{text}");
-    }
-    Ok(())
+    all_take_room(&rt, rt.alloc(), &TEXTS)
 }
 
 /// What of a file is there, where the whole has this content.

@@ -346,11 +346,12 @@ fn has_verdicts<R: Threads + Sync>(
 fn are_judged<R: Threads + Sync + Abort>(
     rt: &R,
     alloc: Global,
+    changes: &[Change],
     book: &str,
     wanted: &str,
 ) -> Result<(), Fail> {
     let mut rows = wanted.lines();
-    for change in &CHANGES {
+    for change in changes {
         let row = rows.next().expect(rt, "a line for each change");
         assert!(rt;
             has_verdicts(rt, alloc, book.as_bytes(), *change, row)?,
@@ -361,12 +362,22 @@ fn are_judged<R: Threads + Sync + Abort>(
     Ok(())
 }
 
-#[test]
-fn forged_lines_are_rejected(rt: HostRuntime) -> Result<(), Fail> {
-    for (book, wanted) in &BOOKS {
-        are_judged(&rt, rt.alloc(), book, wanted)?;
+/// Tests the verdicts on each of these books.
+fn all_are_judged<R: Threads + Sync + Abort>(
+    rt: &R,
+    alloc: Global,
+    changes: &[Change],
+    books: &[(&str, &str)],
+) -> Result<(), Fail> {
+    for (book, wanted) in books {
+        are_judged(rt, alloc, changes, book, wanted)?;
     }
     Ok(())
+}
+
+#[test]
+fn forged_lines_are_rejected(rt: HostRuntime) -> Result<(), Fail> {
+    all_are_judged(&rt, rt.alloc(), &CHANGES, &BOOKS)
 }
 
 /// Lines of the book of five factors in eight runs at resolution 4, each with what is in its place, and the
@@ -414,15 +425,22 @@ fn is_rejected<R: Threads + Sync>(
     lists(rt, alloc, "check", text, SURE, 1, line.as_str())
 }
 
+/// Tests that the book is rejected with each of these lines replaced, with this verdict.
+fn replaced_are_rejected<R: Threads + Sync + Abort>(
+    rt: &R,
+    alloc: Global,
+    cases: &[(usize, &str, &str)],
+) -> Result<(), Fail> {
+    for (line, other, wanted) in cases {
+        let text = with_line(alloc, *line, other)?;
+        assert!(rt; is_rejected(rt, alloc, text.as_slice(), wanted)?, "{wanted}");
+    }
+    Ok(())
+}
+
 #[test]
 fn replaced_lines_are_rejected(rt: HostRuntime) -> Result<(), Fail> {
-    for (line, other, wanted) in &REPLACED {
-        let text = with_line(rt.alloc(), *line, other)?;
-        assert!(rt;
-            is_rejected(&rt, rt.alloc(), text.as_slice(), wanted)?,
-            "{wanted}"
-        );
-    }
+    replaced_are_rejected(&rt, rt.alloc(), &REPLACED)?;
     assert!(rt; is_rejected(&rt, rt.alloc(), "".as_bytes(), "1 B2")?);
     Ok(())
 }

@@ -3,6 +3,7 @@
 use super::outside::{Limits, count, file_of, left_by, lists};
 use fx_base::{Bytes, NoMemory, put};
 use std::alloc::Global;
+use std::process::Abort;
 use std::test::Fail;
 use std::thread::Threads;
 
@@ -48,6 +49,19 @@ fn is_too_large<R: Threads + Sync>(rt: &R, alloc: Global, q: u32, size: u32) -> 
     )
 }
 
+/// Tests that each number of levels has a design of so many runs, and no larger one.
+fn are_greatest<R: Threads + Sync + Abort>(
+    rt: &R,
+    alloc: Global,
+    cases: &[(u32, u32)],
+) -> Result<(), Fail> {
+    for (q, size) in cases {
+        assert!(rt; has_design(rt, alloc, *q, *size)?);
+        assert!(rt; is_too_large(rt, alloc, *q, size.saturating_mul(*q))?);
+    }
+    Ok(())
+}
+
 /// Each number of levels with its greatest power of at most 1,024.
 #[test]
 fn at_most_1024_runs_for_each_number_of_levels(rt: HostRuntime) -> Result<(), Fail> {
@@ -60,11 +74,7 @@ fn at_most_1024_runs_for_each_number_of_levels(rt: HostRuntime) -> Result<(), Fa
         (8, 512),
         (9, 729),
     ];
-    for (q, size) in &SIZES {
-        assert!(rt; has_design(&rt, rt.alloc(), *q, *size)?);
-        assert!(rt; is_too_large(&rt, rt.alloc(), *q, size.saturating_mul(*q))?);
-    }
-    Ok(())
+    are_greatest(&rt, rt.alloc(), &SIZES)
 }
 
 /// A text whose step may be asked with so many nodes.
@@ -87,6 +97,21 @@ fn runs_with<R: Threads + Sync>(
     lists(rt, alloc, line, text.as_bytes(), ROOMY, status, listing)
 }
 
+/// Tests each command line with so many nodes.
+fn all_run_with<R: Threads + Sync + Abort>(
+    rt: &R,
+    alloc: Global,
+    cases: &[(&str, &str, u8, &str)],
+) -> Result<(), Fail> {
+    for (line, nodes, status, listing) in cases {
+        assert!(rt;
+            runs_with(rt, alloc, line, nodes, *status, listing)?,
+            "{line}"
+        );
+    }
+    Ok(())
+}
+
 #[test]
 fn budgets_and_threads_have_limits(rt: HostRuntime) -> Result<(), Fail> {
     const ASKED: [(&str, &str, u8, &str); 9] = [
@@ -105,13 +130,7 @@ fn budgets_and_threads_have_limits(rt: HostRuntime) -> Result<(), Fail> {
         ("run --threads=65", "1", 3, "factex: C4 word 2\n"),
         ("large 1 --threads=65", "1", 3, "factex: C4 word 3\n"),
     ];
-    for (line, nodes, status, listing) in &ASKED {
-        assert!(rt;
-            runs_with(&rt, rt.alloc(), line, nodes, *status, listing)?,
-            "{line}"
-        );
-    }
-    Ok(())
+    all_run_with(&rt, rt.alloc(), &ASKED)
 }
 
 /// A name of 32 bytes, and one more byte of a name.
