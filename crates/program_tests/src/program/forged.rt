@@ -433,7 +433,10 @@ fn replaced_are_rejected<R: Threads + Sync + Abort>(
 ) -> Result<(), Fail> {
     for (line, other, wanted) in cases {
         let text = with_line(alloc, *line, other)?;
-        assert!(rt; is_rejected(rt, alloc, text.as_slice(), wanted)?, "{wanted}");
+        assert!(rt;
+            is_rejected(rt, alloc, text.as_slice(), wanted)?,
+            "{wanted}"
+        );
     }
     Ok(())
 }
