@@ -1,7 +1,6 @@
 ghost use Rattle.std.specs.Prelude.{◌≡◌, false};
 ghost use Rattle.fx_base.specs.Memory.{has_open};
 
-use crate::rows_of;
 use fx_base::{
     Bytes, Failed, Items, MemoryShelf, MemorySink, MemorySource, NoMemory, ReadStop, Shelf, Sink,
     Source, SureShelf, SureSink, SureSource, Taken, Values, put, put_number, read_all, shelve,
@@ -68,10 +67,9 @@ fn is_too_long(alloc: Global, text: &[u8], limit: usize) -> Result<bool, ReadSto
 
 #[test]
 fn more_than_the_limit_is_too_long(rt: HostRuntime) -> Result<(), Fail> {
-    const FITTING: [usize; 3] = [5, 6, usize::MAX];
-    for limit in rows_of(&FITTING) {
-        assert!(rt; is_read(rt.alloc(), b"abcde", *limit)?, "at {limit}");
-    }
+    assert!(rt; is_read(rt.alloc(), b"abcde", 5)?);
+    assert!(rt; is_read(rt.alloc(), b"abcde", 6)?);
+    assert!(rt; is_read(rt.alloc(), b"abcde", usize::MAX)?);
     assert!(rt; is_too_long(rt.alloc(), b"abcde", 0)?);
     assert!(rt; is_too_long(rt.alloc(), b"abcde", 4)?);
     Ok(())

@@ -14,9 +14,3 @@ mod matrices;
 mod runs;
 #[cfg(test)]
 mod vectors;
-
-/// The rows of a table. The contract says nothing of them, so that no proof of a loop reads them all.
-#[cfg(test)]
-fn rows_of<T>(table: &[T]) -> &[T] {
-    table
-}

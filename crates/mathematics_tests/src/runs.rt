@@ -3,7 +3,6 @@ ghost use Rattle.fx_vectors.specs.Effects.{numbers_of};
 ghost use Rattle.fx_vectors.specs.Question.{CanBeTold, IsValid};
 ghost use Rattle.fx_vectors.specs.Shape.{IsShape};
 
-use crate::rows_of;
 use fx_base::NoMemory;
 use fx_runs::{Runs, block_number, constant_in_blocks, is_balanced, is_constant, list_runs, meets};
 use fx_vectors::{Demands, Effect, Effects, Matrix, Question, Shape, Vector};
@@ -286,6 +285,18 @@ fn met_at(alloc: Global, shape: Shape, r: u8, rows: &[u16]) -> Result<Option<boo
     met(alloc, rows, &at_resolution(shape, r))
 }
 
+/// Whether the runs of these rows meet a resolution or not, as is said of each.
+fn are_met_at(alloc: Global, shape: Shape, cases: &[(u8, &[u16], bool)]) -> Result<bool, NoMemory>
+    requires { IsShape shape }
+{
+    for (r, rows, is_met) in cases {
+        if met_at(alloc, shape, *r, rows)? != Some(*is_met) {
+            return Ok(false);
+        }
+    }
+    Ok(true)
+}
+
 /// Whether the runs of these rows meet the demands or not, as is said of each.
 fn are_met(alloc: Global, question: &Question, cases: &[(&[u16], bool)]) -> Result<bool, NoMemory>
     requires { IsValid question.now }
@@ -300,25 +311,22 @@ fn are_met(alloc: Global, question: &Question, cases: &[(&[u16], bool)]) -> Resu
 
 /// Resolutions, rows of four factors of two levels, and whether their runs meet them: with D = ABC, BC
 /// and C.
-const TWO_LEVEL_CASES: [(u8, [u16; 4], bool); 7] = [
-    (3, [1, 2, 4, 7], true),
-    (4, [1, 2, 4, 7], true),
-    (5, [1, 2, 4, 7], false),
-    (99, [1, 2, 4, 7], false),
-    (3, [1, 2, 4, 6], true),
-    (4, [1, 2, 4, 6], false),
-    (3, [1, 2, 4, 4], false),
+const TWO_LEVEL_CASES: [(u8, &[u16], bool); 7] = [
+    (3, &[1, 2, 4, 7], true),
+    (4, &[1, 2, 4, 7], true),
+    (5, &[1, 2, 4, 7], false),
+    (99, &[1, 2, 4, 7], false),
+    (3, &[1, 2, 4, 6], true),
+    (4, &[1, 2, 4, 6], false),
+    (3, &[1, 2, 4, 4], false),
 ];
 
 /// A, B, C and ABC are at resolution 4; A, B, A + B and A + 2 B over GF(3) at 3.
 #[test]
 fn resolutions_are_met(rt: HostRuntime) -> Result<(), Fail> {
-    let alloc = rt.alloc();
-    for (r, rows, is_met) in rows_of(&TWO_LEVEL_CASES) {
-        assert!(rt; met_at(alloc, TWO_LEVELS, *r, rows)? == Some(*is_met));
-    }
-    assert!(rt; met_at(alloc, THREE_LEVELS, 3, &[1, 3, 4, 7])? == Some(true));
-    assert!(rt; met_at(alloc, THREE_LEVELS, 4, &[1, 3, 4, 7])? == Some(false));
+    assert!(rt; are_met_at(rt.alloc(), TWO_LEVELS, &TWO_LEVEL_CASES)?);
+    const CASES: [(u8, &[u16], bool); 2] = [(3, &[1, 3, 4, 7], true), (4, &[1, 3, 4, 7], false)];
+    assert!(rt; are_met_at(rt.alloc(), THREE_LEVELS, &CASES)?);
     Ok(())
 }
 
@@ -379,35 +387,30 @@ fn an_interaction_of_three_levels(rt: HostRuntime) -> Result<(), Fail> {
 
 /// Resolutions, rows of three factors and a block factor, and whether their runs meet them: with blocks
 /// by ABC, AB and A.
-const BLOCK_CASES: [(u8, [u16; 4], bool); 9] = [
-    (3, [1, 2, 4, 7], true),
-    (4, [1, 2, 4, 7], true),
-    (5, [1, 2, 4, 7], true),
-    (3, [1, 2, 4, 3], true),
-    (4, [1, 2, 4, 3], true),
-    (5, [1, 2, 4, 3], false),
-    (3, [1, 2, 4, 1], false),
-    (4, [1, 2, 4, 1], false),
-    (5, [1, 2, 4, 1], false),
+const BLOCK_CASES: [(u8, &[u16], bool); 9] = [
+    (3, &[1, 2, 4, 7], true),
+    (4, &[1, 2, 4, 7], true),
+    (5, &[1, 2, 4, 7], true),
+    (3, &[1, 2, 4, 3], true),
+    (4, &[1, 2, 4, 3], true),
+    (5, &[1, 2, 4, 3], false),
+    (3, &[1, 2, 4, 1], false),
+    (4, &[1, 2, 4, 1], false),
+    (5, &[1, 2, 4, 1], false),
 ];
 
 /// The same at resolution 3 with two block factors: by BC and AC, whose interaction is AB; by ABC and BC,
 /// whose interaction is A; and twice by ABC, so that two of four blocks are empty.
-const FOUR_BLOCK_CASES: [([u16; 5], bool); 3] = [
-    ([1, 2, 4, 6, 5], true),
-    ([1, 2, 4, 7, 6], false),
-    ([1, 2, 4, 7, 7], false),
+const FOUR_BLOCK_CASES: [(u8, &[u16], bool); 3] = [
+    (3, &[1, 2, 4, 6, 5], true),
+    (3, &[1, 2, 4, 7, 6], false),
+    (3, &[1, 2, 4, 7, 7], false),
 ];
 
 #[test]
 fn main_effects_are_told_from_blocks(rt: HostRuntime) -> Result<(), Fail> {
-    let alloc = rt.alloc();
-    for (r, rows, is_met) in rows_of(&BLOCK_CASES) {
-        assert!(rt; met_at(alloc, IN_BLOCKS, *r, rows)? == Some(*is_met));
-    }
-    for (rows, is_met) in rows_of(&FOUR_BLOCK_CASES) {
-        assert!(rt; met_at(alloc, FOUR_BLOCKS, 3, rows)? == Some(*is_met));
-    }
+    assert!(rt; are_met_at(rt.alloc(), IN_BLOCKS, &BLOCK_CASES)?);
+    assert!(rt; are_met_at(rt.alloc(), FOUR_BLOCKS, &FOUR_BLOCK_CASES)?);
     Ok(())
 }
 

@@ -1,40 +1,79 @@
-use fx_vectors::{Matrix, Shape};
+ghost use Rattle.std.specs.Prelude.{◌≡◌, [], ◌∷◌, length, IfOk};
+
+use fx_base::NoMemory;
+use fx_vectors::{Matrix, Pattern, Shape};
 use fx_words::{Tally, compare, is_less, pattern_of, resolution};
+use std::alloc::Global;
 use std::cmp::Ordering;
 use std::test::Fail;
 
-/// D = AB, E = AC, F = BC and G = ABC: the words are those of the Hamming code of length 7.
-#[test]
-fn a_saturated_design_has_seven_words_of_three(rt: HostRuntime) -> Result<(), Fail> {
+/// A, B, C, D = AB, E = AC and F = BC.
+fn six_factors(alloc: Global) -> Result<Tally, NoMemory>
+    ensures { IfOk result (λ tally.
+        tally
+        ≡ record {
+          shape = record { q = 2; m = 3; s = 7; t = 0 };
+          rows = 1 ∷ 2 ∷ 4 ∷ 3 ∷ 5 ∷ 6 ∷ [];
+        }) }
+{
     let shape = Shape {
         q: 2,
         m: 3,
         s: 7,
         t: 0,
     };
-    let mut tally = Tally::new(rt.alloc(), shape)?;
+    let mut tally = Tally::new(alloc, shape)?;
     tally.push(1);
     tally.push(2);
     tally.push(4);
     tally.push(3);
     tally.push(5);
     tally.push(6);
+    Ok(tally)
+}
+
+/// Whether G = ABC leads to this pattern, of which 7 words are of weight 3, before it is added and after, and
+/// to one that is less once it is taken away.
+fn ends_with(alloc: Global, tally: &mut Tally, all: &Pattern) -> Result<bool, NoMemory>
+    requires tally { tally.old
+        ≡ record {
+          shape = record { q = 2; m = 3; s = 7; t = 0 };
+          rows = 1 ∷ 2 ∷ 4 ∷ 3 ∷ 5 ∷ 6 ∷ [];
+        } }
+    requires entries { length all.now ≡ 7 }
+{
+    let is_less = tally.less_with(7, all.as_slice());
+    let words = tally.words_with(7, 2);
+    tally.push(7);
+    let is_same = tally.pattern(alloc)?.as_slice() == all.as_slice();
+    let is_less_at_end = tally.less_than(all);
+    tally.pop();
+    let is_less_again = tally.less_than(all);
+    Ok(!is_less && words == 7 && is_same && !is_less_at_end && is_less_again)
+}
+
+/// Whether the patterns compare so, and the greater has resolution 3.
+fn is_between(fewer: &Pattern, all: &Pattern) -> bool
+    requires fewer { length fewer.now ≡ 7 }
+    requires all { length all.now ≡ 7 }
+{
+    is_less(fewer.as_slice(), all.as_slice())
+        && !is_less(all.as_slice(), all.as_slice())
+        && compare(fewer, all) == Ordering::Less
+        && compare(all, fewer) == Ordering::Greater
+        && resolution(all) == 3
+}
+
+/// The words of D = AB, E = AC, F = BC and G = ABC are those of the Hamming code of length 7.
+#[test]
+fn a_saturated_design_has_seven_words_of_three(rt: HostRuntime) -> Result<(), Fail> {
+    let mut tally = six_factors(rt.alloc())?;
     let all = tally.pattern_with(rt.alloc(), 7)?;
     assert!(rt; all.as_slice() == [0, 0, 7, 7, 0, 0, 1].as_slice());
-    assert!(rt; !tally.less_with(7, all.as_slice()));
-    assert!(rt; tally.words_with(7, 2) == 7);
-    tally.push(7);
-    assert!(rt; tally.pattern(rt.alloc())?.as_slice() == all.as_slice());
-    assert!(rt; !tally.less_than(&all));
-    tally.pop();
-    assert!(rt; tally.less_than(&all));
+    assert!(rt; ends_with(rt.alloc(), &mut tally, &all)?);
     let fewer = tally.pattern(rt.alloc())?;
     assert!(rt; fewer.as_slice() == [0, 0, 4, 3, 0, 0, 0].as_slice());
-    assert!(rt; is_less(fewer.as_slice(), all.as_slice()));
-    assert!(rt; !is_less(all.as_slice(), all.as_slice()));
-    assert!(rt; compare(&fewer, &all) == Ordering::Less);
-    assert!(rt; compare(&all, &fewer) == Ordering::Greater);
-    assert_eq!(rt; resolution(&all), 3);
+    assert!(rt; is_between(&fewer, &all));
     Ok(())
 }
 
