@@ -143,7 +143,8 @@ fn a_step_has_at_most_40_factors(rt: HostRuntime) -> Result<(), Fail> {
     let left = leave(&rt, alloc, "run", text.as_bytes())?;
     assert_eq!(rt; left.status, 0);
     let listing = left.listing.bytes();
-    let first = "step 1\nfactors 40 levels 9\ndesign 729 runs\nresolution 3\nnodes 40\nrules\n  F4 = F1^8*F2^8*F3\n";
+    let first =
+        "step 1\nfactors 40 levels 9\ndesign 729 runs\nresolution 3\nnodes 40\nrules\n  F4 = F1^8*F2^8*F3\n";
     assert!(rt; listing.starts_with(first.as_bytes()));
     assert_eq!(rt; listing.iter().filter(|byte| **byte == b'=').count(), 37);
     Ok(())
