@@ -10,4 +10,3 @@ mod Examples
 mod Numerals
 mod Texts
 mod Accepted
-pub mod Held

@@ -35,10 +35,3 @@ head_text head = shape_text head.question.shape ++ (demands_text head.question.d
 abbrev pub book_text : Book → List ℕ
 book_text book =
     codes "factex-book 1\n" ++ (shape_text book.head.question.shape ++ (demands_text book.head.question.demands ++ (beat_text book.head.beat ++ (entries_text book.marks ++ codes "END\n"))))
-
--- a buffer holds what it held, and after it a prefix of the text
-pub record HoldsPart (old new text : List ℕ) : Type 0 where
-  pub part : List ℕ
-  pub left : List ℕ
-  pub front : part ++ left ≡ text
-  pub held : new ≡ old ++ part

@@ -7,8 +7,8 @@ use Rattle.std.proofs.lemmas.Fmt.{length-decimal-le}
 use Rattle.std.proofs.lemmas.Grind.{flat_map-append}
 use Rattle.std.proofs.lemmas.List.{append-nil, length-append, map-id}
 use Rattle.std.proofs.lemmas.List.FromFn.{map-range_with_len_more}
-use Rattle.fx_book.specs.Writing.{HoldsPart}
-use Rattle.fx_book.proofs.Held.{in_first}
+use Rattle.fx_base.specs.Writing.{HoldsPart}
+use Rattle.fx_base.proofs.Held.{in_first}
 use Rattle.fx_program.specs.Making.{factors_at, factors_line, levels_at, made_text, model_line, runs_at, size_line, step_text}
 
 -- one text behind another

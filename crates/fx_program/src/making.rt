@@ -1,5 +1,5 @@
 ghost use Rattle.std.specs.Prelude.{◌≡◌, ◌++◌, OnErr, OnOk};
-ghost use Rattle.fx_book.specs.Writing.{HoldsPart};
+ghost use Rattle.fx_base.specs.Writing.{HoldsPart};
 ghost use Rattle.fx_program.specs.Making.{factors_at, factors_line, levels_at, made_text, model_line, runs_at, size_line, step_text};
 
 use fx_base::{Bytes, NoMemory, put, put_number};

@@ -1,8 +1,9 @@
 use Rattle.std.proofs.Common.{sym, subst}
 use Rattle.std.specs.Prelude.{codes}
 use Rattle.fx_vectors.specs.Effects.{numbers_of}
-use Rattle.fx_book.specs.Writing.{spaced, demands_text, HoldsPart}
-use Rattle.fx_book.proofs.Held.{at_err, in_first, past_first}
+use Rattle.fx_base.specs.Writing.{HoldsPart}
+use Rattle.fx_book.specs.Writing.{spaced, demands_text}
+use Rattle.fx_base.proofs.Held.{at_err, in_first, past_first}
 use Rattle.fx_book.proofs.writing.put_demands.Goals as goal
 
 pub returns-in_err-put_effects-in-Effects-2-clause-err : goal.returns-in_err-put_effects-in-Effects-2-clause-err

@@ -2,8 +2,8 @@ use Rattle.std.proofs.Common.{◌++◌, List, ℕ, sym, ap, subst, ◌∙◌, ar
 use Rattle.fx_designs.specs.Nodes as nodes
 use Rattle.fx_vectors.specs.Marks.{meaning_of}
 use Rattle.fx_book.specs.Entries.{entry_text, entries_text}
-use Rattle.fx_book.specs.Writing.{HoldsPart}
-use Rattle.fx_book.proofs.Held.{at_err, one_more, in_item}
+use Rattle.fx_base.specs.Writing.{HoldsPart}
+use Rattle.fx_base.proofs.Held.{at_err, one_more, in_item}
 use Rattle.fx_book.proofs.Lines.{entries-append}
 use Rattle.fx_book.proofs.writing.put_entries.Goals as goal
 

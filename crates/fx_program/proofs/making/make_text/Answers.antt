@@ -1,6 +1,6 @@
 use Rattle.std.proofs.Common.{◌≡◌, ◌++◌, ◌+◌, ◌-◌, List, ℕ, ap, arith, subst, sym, ◌∙◌, append_assoc, append-nil}
-use Rattle.fx_book.specs.Writing.{HoldsPart}
-use Rattle.fx_book.proofs.Held.{at_err, past_first}
+use Rattle.fx_base.specs.Writing.{HoldsPart}
+use Rattle.fx_base.proofs.Held.{at_err, past_first}
 use Rattle.fx_program.specs.Making.{made_text, step_text}
 use Rattle.fx_program.proofs.Made.{held_by_more, no_steps, one_step_more}
 use Rattle.fx_program.proofs.making.make_text.Goals as goal

@@ -2,7 +2,7 @@ use Rattle.std.proofs.Common.{◌++◌, ◌≡◌, List, ℕ, ap, ◌∙◌, sub
 use Rattle.std.specs.Prelude.{codes, OnOk}
 use Rattle.fx_program.specs.Making.{factors_line, model_line, size_line}
 use Rattle.std.proofs.lemmas.Result.{on_err_weaker}
-use Rattle.fx_book.proofs.Held.{at_err, nothing, in_first, past_first}
+use Rattle.fx_base.proofs.Held.{at_err, nothing, in_first, past_first}
 use Rattle.fx_program.proofs.Made.{joined}
 use Rattle.fx_program.proofs.making.put_step.Goals as goal
 

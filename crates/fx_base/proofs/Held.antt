@@ -1,34 +1,35 @@
--- Texts that are appended part by part, and prefixes of them where memory runs out on the way.
+-- Lists that are appended part by part, and prefixes of them where memory runs out on the way.
 use Rattle.std.proofs.Common.{◌≡◌, ℕ, ◌+◌, ◌<◌, List, [], ◌∷◌, ◌++◌, length, take, drop, get_or, suc, Result, Ok, Err, OnErr, refl, sym, ap, subst, ◌∙◌, append_assoc, append-nil}
 use Rattle.std.proofs.lemmas.List.{take_more, take-append-drop}
 use Rattle.std.proofs.Math.Seq.{drop-cons}
-use Rattle.fx_book.specs.Writing.{HoldsPart}
+use Rattle.fx_base.specs.Writing.{HoldsPart}
 
 pub at_err : {T E P : Type 0} (r : Result T E) → P → OnErr r P
 at_err (Ok x) h = tt
 at_err (Err e) h = h
 
--- nothing was appended
-pub nothing : (old new text : List ℕ) → new ≡ old → HoldsPart old new text
-nothing old new text same = record { part = []; left = text; front = refl; held = same ∙ sym (append-nil old) }
+module _ {T : Type 0} where
+  -- nothing was appended
+  pub nothing : (old new more : List T) → new ≡ old → HoldsPart old new more
+  nothing old new more same = record { part = []; left = more; front = refl; held = same ∙ sym (append-nil old) }
 
--- a prefix of the first part of a text
-pub in_first : (old new first rest : List ℕ) → HoldsPart old new first → HoldsPart old new (first ++ rest)
-in_first old new first rest h = record {
-  part = h.part;
-  left = h.left ++ rest;
-  front = sym (append_assoc h.part h.left rest) ∙ ap (λ (l : List ℕ). l ++ rest) h.front;
-  held = h.held;
-}
+  -- a prefix of the first part was appended
+  pub in_first : (old new first rest : List T) → HoldsPart old new first → HoldsPart old new (first ++ rest)
+  in_first old new first rest h = record {
+    part = h.part;
+    left = h.left ++ rest;
+    front = sym (append_assoc h.part h.left rest) ∙ ap (λ (l : List T). l ++ rest) h.front;
+    held = h.held;
+  }
 
--- the first part of a text, and a prefix of the rest
-pub past_first : (old mid new first rest : List ℕ) → mid ≡ old ++ first → HoldsPart mid new rest → HoldsPart old new (first ++ rest)
-past_first old mid new first rest all h = record {
-  part = first ++ h.part;
-  left = h.left;
-  front = append_assoc first h.part h.left ∙ ap (λ (l : List ℕ). first ++ l) h.front;
-  held = h.held ∙ ap (λ (l : List ℕ). l ++ h.part) all ∙ append_assoc old first h.part;
-}
+  -- the first part was appended, and then a prefix of the rest
+  pub past_first : (old mid new first rest : List T) → mid ≡ old ++ first → HoldsPart mid new rest → HoldsPart old new (first ++ rest)
+  past_first old mid new first rest all h = record {
+    part = first ++ h.part;
+    left = h.left;
+    front = append_assoc first h.part h.left ∙ ap (λ (l : List T). first ++ l) h.front;
+    held = h.held ∙ ap (λ (l : List T). l ++ h.part) all ∙ append_assoc old first h.part;
+  }
 
 -- the text of a list, which is the texts of its items one after another
 module _ {A : Type 0} (text : List A → List ℕ) (joins : (xs ys : List A) → text (xs ++ ys) ≡ text xs ++ text ys) where
