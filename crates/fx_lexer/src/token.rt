@@ -4,7 +4,7 @@ ghost use Rattle.fx_lexer.specs.declared.token.LexStop.TheVariants as stop;
 use fx_base::{NoMemory, Values};
 
 /// What a token is.
-#[derive(Clone, Copy, Debug, PartialEq, Eq)]
+#[derive(Clone, Copy, PartialEq, Eq)]
 pub enum Kind {
     /// A letter or `_`, then letters, digits and `_`; at most 32 bytes.
     Word,
@@ -19,7 +19,7 @@ pub enum Kind {
 }
 
 /// A token, whose text is `from..upto` of the program text.
-#[derive(Clone, Copy, Debug, PartialEq, Eq)]
+#[derive(Clone, Copy, PartialEq, Eq)]
 pub struct Token {
     pub kind: Kind,
     /// The line of its first byte, from 1.
@@ -36,7 +36,7 @@ pub struct Token {
 pub type Tokens = Values<Token>;
 
 /// Where a text has no tokens, and why.
-#[derive(Clone, Copy, Debug, PartialEq, Eq)]
+#[derive(Clone, Copy, PartialEq, Eq)]
 pub struct LexFault {
     /// 1: a comment is not closed. 2: a quoted text is not closed. 3: no item begins with this
     /// byte. 4: a number has more than 38 bytes. 5: a word has more than 32 bytes.
@@ -48,7 +48,7 @@ pub struct LexFault {
 }
 
 /// Why there are no tokens.
-#[derive(Clone, Copy, Debug, PartialEq, Eq)]
+#[derive(Clone, Copy, PartialEq, Eq)]
 pub enum LexStop {
     /// The first lexical fault of the text.
     Fault(LexFault),

@@ -6,7 +6,7 @@ use fx_language::Symbol;
 use fx_text::{Phrase, Place, Statement, find};
 
 /// A value of an option: a number, or a word that represents the least or the greatest.
-#[derive(Clone, Copy, Debug, PartialEq, Eq)]
+#[derive(Clone, Copy, PartialEq, Eq)]
 pub struct Value {
     /// None for such a word.
     pub number: Option<u128>,
@@ -14,7 +14,7 @@ pub struct Value {
 }
 
 /// How SIZE specifies the size.
-#[derive(Clone, Copy, Debug, PartialEq, Eq)]
+#[derive(Clone, Copy, PartialEq, Eq)]
 pub enum SizeWord {
     /// The number of runs.
     Design,
@@ -25,14 +25,14 @@ pub enum SizeWord {
 }
 
 /// The contents of a SIZE statement.
-#[derive(Clone, Copy, Debug, PartialEq, Eq)]
+#[derive(Clone, Copy, PartialEq, Eq)]
 pub struct SizeSaid {
     pub word: SizeWord,
     pub value: Value,
 }
 
 /// The contents of a MODEL statement.
-#[derive(Clone, Copy, Debug, PartialEq, Eq)]
+#[derive(Clone, Copy, PartialEq, Eq)]
 pub struct ModelSaid {
     /// The value of RESOLUTION. None for ESTIMATE, whose effects are read elsewhere.
     pub resolution: Option<Value>,
@@ -41,7 +41,7 @@ pub struct ModelSaid {
 }
 
 /// How BLOCKS specifies the blocks.
-#[derive(Clone, Copy, Debug, PartialEq, Eq)]
+#[derive(Clone, Copy, PartialEq, Eq)]
 pub enum BlocksWord {
     /// The number of block factors.
     Nblkfacs,
@@ -52,7 +52,7 @@ pub enum BlocksWord {
 }
 
 /// The contents of a BLOCKS statement.
-#[derive(Clone, Copy, Debug, PartialEq, Eq)]
+#[derive(Clone, Copy, PartialEq, Eq)]
 pub struct BlocksSaid {
     /// The place of its first word.
     pub place: Place,
@@ -61,7 +61,7 @@ pub struct BlocksSaid {
 }
 
 /// The numbers in the statements of a step.
-#[derive(Clone, Copy, Debug, PartialEq, Eq)]
+#[derive(Clone, Copy, PartialEq, Eq)]
 pub struct StepSaid {
     /// The place of the word FACTORS.
     pub factors: Place,

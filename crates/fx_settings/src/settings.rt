@@ -13,7 +13,7 @@ use fx_text::Refusal;
 const MOST_NODES: u128 = 5_000_000;
 
 /// How many runs a step has.
-#[derive(Clone, Copy, Debug, PartialEq, Eq)]
+#[derive(Clone, Copy, PartialEq, Eq)]
 pub enum Size {
     /// q^m runs, m from 1 to 10.
     Runs { m: u8 },
@@ -22,7 +22,7 @@ pub enum Size {
 }
 
 /// By what the designs of a step are judged.
-#[derive(Clone, Copy, Debug, PartialEq, Eq)]
+#[derive(Clone, Copy, PartialEq, Eq)]
 pub enum Criterion {
     /// At least this resolution, from 3 to 99.
     Resolution { r: u8 },
@@ -33,7 +33,7 @@ pub enum Criterion {
 }
 
 /// The blocks of a step.
-#[derive(Clone, Copy, Debug, PartialEq, Eq)]
+#[derive(Clone, Copy, PartialEq, Eq)]
 pub enum Blocks {
     /// No blocks.
     Without,
@@ -70,7 +70,7 @@ impl Blocks {
 }
 
 /// The settings of a step that are judged before its effects are: all but its blocks.
-#[derive(Clone, Copy, Debug, PartialEq, Eq)]
+#[derive(Clone, Copy, PartialEq, Eq)]
 pub struct Unblocked {
     /// The number of levels: 2, 3, 4, 5, 7, 8 or 9.
     pub q: u8,
@@ -83,7 +83,7 @@ pub struct Unblocked {
 }
 
 /// The settings of a step.
-#[derive(Clone, Copy, Debug, PartialEq, Eq)]
+#[derive(Clone, Copy, PartialEq, Eq)]
 pub struct StepSettings {
     /// The number of levels: 2, 3, 4, 5, 7, 8 or 9.
     pub q: u8,
