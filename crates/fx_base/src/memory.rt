@@ -1,6 +1,6 @@
 use thiserror::Error;
 
 /// Memory ran out.
-#[derive(Debug, Clone, Copy, PartialEq, Eq, Error)]
+#[derive(Debug, Clone, Copy, Error)]
 #[error("memory ran out")]
 pub struct NoMemory;

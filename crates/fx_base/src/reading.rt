@@ -12,7 +12,7 @@ use thiserror::Error;
 const BUFFER: usize = 4096;
 
 /// Why not all was read.
-#[derive(Debug, Clone, Copy, PartialEq, Eq, Error)]
+#[derive(Debug, Clone, Copy, Error)]
 pub enum ReadStop {
     /// Memory ran out.
     #[error("memory ran out")]

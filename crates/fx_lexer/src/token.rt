@@ -36,7 +36,7 @@ pub struct Token {
 pub type Tokens = Values<Token>;
 
 /// Where a text has no tokens, and why.
-#[derive(Clone, Copy, PartialEq, Eq)]
+#[derive(Debug, Clone, Copy)]
 pub struct LexFault {
     /// 1: a comment is not closed. 2: a quoted text is not closed. 3: no item begins with this
     /// byte. 4: a number has more than 38 bytes. 5: a word has more than 32 bytes.
@@ -48,7 +48,7 @@ pub struct LexFault {
 }
 
 /// Why there are no tokens.
-#[derive(Clone, Copy, PartialEq, Eq)]
+#[derive(Debug, Clone, Copy)]
 pub enum LexStop {
     /// The first lexical fault of the text.
     Fault(LexFault),

@@ -47,7 +47,7 @@ impl<'a> OutputContext<'a> {
 }
 
 /// How many blocks a step has.
-#[derive(Clone, Copy, PartialEq, Eq)]
+#[derive(Clone, Copy)]
 pub enum BlockCount {
     /// It has no blocks.
     Without,

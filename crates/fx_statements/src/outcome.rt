@@ -4,7 +4,7 @@ ghost use Rattle.fx_statements.specs.Endings.{HasMatrix, HasMatrix-prop, ending_
 use fx_vectors::{Books, Matrix, Shape};
 
 /// How the search for a step's design ended.
-#[derive(Clone, Copy, PartialEq, Eq)]
+#[derive(Clone, Copy)]
 pub enum End {
     /// With a design that meets what is asked.
     Design,
