@@ -1,89 +1,15 @@
 -- The marks of a piece once a word or marks of another piece were added.
-use Rattle.std.proofs.Common.{ℕ, zero, suc, ◌≡◌, ◌≢◌, ◌<◌, ◌≤◌, ◌+◌, ◌-◌, ◌*◌, ◌/◌, ◌%◌, ◌^◌, List, [], ◌∷◌, ◌++◌, map, take, drop, length, get_or, cond, eqb, false, length-append, refl, sym, subst, ◌∙◌, ap, ap₂, arith, lit≤, length-take-le, take_all}
+use Rattle.std.proofs.Common.{ℕ, zero, suc, ◌≡◌, ◌<◌, ◌≤◌, ◌+◌, ◌-◌, ◌*◌, ◌/◌, ◌%◌, ◌^◌, List, [], ◌∷◌, ◌++◌, map, take, drop, length, eqb, false, length-append, refl, sym, subst, ◌∙◌, ap, ap₂, arith, lit≤, length-take-le, take_all}
 use Rattle.std.specs.List.{AllByRecursion, All, slice_range}
 use Rattle.std.proofs.Math.Seq.{drop-append_seam, drop-append-add}
-use Rattle.std.proofs.lemmas.List.{take-append-le, drop-append-le, length-drop, map-append, length-map, get_or-drop, take-take, drop-drop, drop-take, drop-map, take-map}
+use Rattle.std.proofs.lemmas.List.{take-append-le, drop-append-le, length-drop, map-append, length-map, take-take, drop-drop, drop-take, drop-map, take-map}
 use Rattle.std.proofs.lemmas.List.Elements.{All-from_recursion}
 use Rattle.std.proofs.lemmas.Bool.{ne_eqb}
 use Rattle.fx_designs.specs.Galois.{digits, number}
 use Rattle.fx_designs.specs.Nodes as nodes
 use Rattle.fx_laws.proofs.Codes.{number-digits}
-use Rattle.fx_vectors.specs.Marks.{mark_from, mark_of, digits_of, IsHeadAt, AreHeads, place_at, moved}
-
--- the word of this head has at most four digits, and they are all there where so many digits are
-pub record HasDigits (count head : ℕ) : Type 0 where
-  pub few : head / 1024 % 8 ≤ 6
-  pub within : head / 8192 + (head / 1024 % 8 - 2) ≤ count
-
-heads-end-above : (place end : ℕ) (heads : List ℕ) → AreHeads place end heads → place ≤ end
-heads-end-above place end [] are = let e : place ≡ end = are in omega arith
-heads-end-above place end (head ∷ heads) are = let more = heads-end-above (place + digits_of head) end heads are.1 in omega arith
-
--- a head has at most four digits
-heads-end-near : (place end : ℕ) (heads : List ℕ) → AreHeads place end heads → end ≤ place + 4 * length heads
-heads-end-near place end [] are = let e : place ≡ end = are in omega arith
-heads-end-near place end (head ∷ heads) are =
-    let more = heads-end-near (place + digits_of head) end heads are.1 in
-    let few = are.0.few in
-    omega arith
-
-have-digits : (place end : ℕ) (heads : List ℕ) → AreHeads place end heads → AllByRecursion (HasDigits end) heads
-have-digits place end [] are = tt
-have-digits place end (head ∷ heads) are =
-    let at = are.0.place_is in
-    let more = heads-end-above (place + digits_of head) end heads are.1 in
-    (record { few = are.0.few; within = omega arith }, have-digits (place + digits_of head) end heads are.1)
-
--- the digits of the head at i
-pub has_digits_at : (end : ℕ) (heads : List ℕ) (i d : ℕ) → AreHeads 0 end heads → i < length heads → HasDigits end (get_or heads i d)
-has_digits_at end heads i d are inside = All-from_recursion (HasDigits end) heads (have-digits 0 end heads are) i d inside
-
-are-heads-append : (place mid end : ℕ) (xs ys : List ℕ) → AreHeads place mid xs → AreHeads mid end ys → AreHeads place end (xs ++ ys)
-are-heads-append place mid end [] ys are more = subst (λ n. AreHeads n end ys) (sym are) more
-are-heads-append place mid end (x ∷ xs) ys are more = (are.0, are-heads-append (place + digits_of x) mid end xs ys are.1 more)
-
-are-heads-drop : (place end : ℕ) (heads : List ℕ) (i : ℕ) → AreHeads place end heads → i ≤ length heads → AreHeads (place_at end heads i) end (drop i heads)
-are-heads-drop place end [] zero are inside = let e : 8192 * end / 8192 ≡ end = omega arith in e
-are-heads-drop place end [] (suc i) are inside = let e : 8192 * end / 8192 ≡ end = omega arith in e
-are-heads-drop place end (head ∷ heads) zero are inside = subst (λ n. AreHeads n end (head ∷ heads)) (sym are.0.place_is) are
-are-heads-drop place end (head ∷ heads) (suc i) are inside = are-heads-drop (place + digits_of head) end heads i are.1 (omega arith)
-
-are-heads-take : (place end : ℕ) (heads : List ℕ) (i : ℕ) → AreHeads place end heads → i ≤ length heads → AreHeads place (place_at end heads i) (take i heads)
-are-heads-take place end [] zero are inside = let e : place ≡ end = are in let f : place ≡ 8192 * end / 8192 = omega arith in f
-are-heads-take place end [] (suc i) are inside = let e : place ≡ end = are in let f : place ≡ 8192 * end / 8192 = omega arith in f
-are-heads-take place end (head ∷ heads) zero are inside = sym are.0.place_is
-are-heads-take place end (head ∷ heads) (suc i) are inside = (are.0, are-heads-take (place + digits_of head) end heads i are.1 (omega arith))
-
-are-heads-range : (end : ℕ) (heads : List ℕ) (from to : ℕ) → AreHeads 0 end heads → from ≤ to → to ≤ length heads
-    → AreHeads (place_at end heads from) (place_at end heads to) (slice_range heads from to)
-are-heads-range end heads from to are ordered within =
-    let long = length-drop from heads in
-    let at : from + (to - from) ≡ to = omega arith in
-    let place : place_at end (drop from heads) (to - from) ≡ place_at end heads to =
-    ap (λ head. head / 8192) (get_or-drop from heads (to - from) (8192 * end) ∙ ap (λ i. get_or heads i (8192 * end)) at) in
-    subst (λ n. AreHeads (place_at end heads from) n (take (to - from) (drop from heads))) place
-    (are-heads-take (place_at end heads from) end (drop from heads) (to - from) (are-heads-drop 0 end heads from are (omega arith)) (omega arith))
-
--- a head that is moved keeps its row and its kind, and its place is moved
-record IsMoved (from to head new : ℕ) : Type 0 where
-  pub row_is : new % 1024 ≡ head % 1024
-  pub kind_is : new / 1024 % 8 ≡ head / 1024 % 8
-  pub place_is : new / 8192 ≡ head / 8192 - from + to
-
-is-moved : (from to head : ℕ) → from ≤ head / 8192 → IsMoved from to head (moved from to head)
-is-moved from to head low = record { row_is = omega arith; kind_is = omega arith; place_is = omega arith }
-
-are-heads-moved : (from to place end : ℕ) (heads : List ℕ) → from ≤ place → AreHeads place end heads → AreHeads (place - from + to) (end - from + to) (map (moved from to) heads)
-are-heads-moved from to place end [] low are = ap (λ n. n - from + to) are
-are-heads-moved from to place end (head ∷ heads) low are =
-    let at = are.0.place_is in
-    let h = is-moved from to head (omega arith) in
-    let kind = h.kind_is in
-    let few = are.0.few in
-    let new = h.place_is in
-    let next : place + digits_of head - from + to ≡ place - from + to + digits_of (moved from to head) = omega arith in
-    (record { few = omega arith; place_is = omega arith },
-    subst (λ n. AreHeads n (end - from + to) (map (moved from to) heads)) next (are-heads-moved from to (place + digits_of head) end heads (omega arith) are.1))
+use Rattle.fx_vectors.specs.Marks.{mark_from, mark_of, digits_of, AreHeads, place_at, moved}
+use Rattle.fx_vectors.proofs.MarkHeads.{AreHeads-append, AreHeads-drop, AreHeads-moved, AreHeads-range, HasDigits, have_digits, heads_above, heads_end_above, heads_end_near, is_moved, moved_fit}
 
 -- digits that are added leave a mark as it was
 same-mark : (ds more : List ℕ) (head : ℕ) → HasDigits (length ds) head → mark_from (ds ++ more) head ≡ mark_from ds head
@@ -100,22 +26,14 @@ same-marks : (ds more heads : List ℕ) → AllByRecursion (HasDigits (length ds
 same-marks ds more [] each = refl
 same-marks ds more (head ∷ heads) each = ap₂ (λ mark marks. mark ∷ marks) (same-mark ds more head each.0) (same-marks ds more heads each.1)
 
--- the head of a word with these digits, which stand behind the others
-pub record IsHead (ds more : List ℕ) (row word head : ℕ) : Type 0 where
+-- the head of a word with these digits, which are behind the others
+record IsWordHead (ds more : List ℕ) (row word head : ℕ) : Type 0 where
   pub head_is : head ≡ row + 1024 * (2 + length more + 8 * length ds)
   pub row_low : row < 1024
   pub few : length more ≤ 4
   pub word_is : number 4294967296 more ≡ word
 
-pub has-digits : (ds more : List ℕ) (row word head : ℕ) → IsHead ds more row word head → HasDigits (length (ds ++ more)) head
-has-digits ds more row word head h =
-    let is = h.head_is in
-    let low = h.row_low in
-    let few = h.few in
-    let long = length-append ds more in
-    record { few = omega arith; within = omega arith }
-
-pub is-mark : (ds more : List ℕ) (row word head : ℕ) → IsHead ds more row word head → mark_from (ds ++ more) head ≡ nodes.Word row word
+is-mark : (ds more : List ℕ) (row word head : ℕ) → IsWordHead ds more row word head → mark_from (ds ++ more) head ≡ nodes.Word row word
 is-mark ds more row word head h =
     let is = h.head_is in
     let low = h.row_low in
@@ -151,8 +69,8 @@ pub record IsAdded (ds heads : List ℕ) (marks : List nodes.Mark) : Type 0 wher
 behind : (ds more heads new : List ℕ) (marks others : List nodes.Mark) → AreHeads 0 (length ds) heads → map (mark_from ds) heads ≡ marks
     → AreHeads (length ds) (length (ds ++ more)) new → map (mark_from (ds ++ more)) new ≡ others → IsAdded (ds ++ more) (heads ++ new) (marks ++ others)
 behind ds more heads new marks others are is new_are new_is = record {
-  are = are-heads-append 0 (length ds) (length (ds ++ more)) heads new are new_are;
-  value = map-append (mark_from (ds ++ more)) heads new ∙ ap₂ (λ old new. old ++ new) (same-marks ds more heads (have-digits 0 (length ds) heads are) ∙ is) new_is;
+  are = AreHeads-append 0 (length ds) (length (ds ++ more)) heads new are new_are;
+  value = map-append (mark_from (ds ++ more)) heads new ∙ ap₂ (λ old new. old ++ new) (same-marks ds more heads (have_digits 0 (length ds) heads are) ∙ is) new_is;
 }
 
 pub added : (ds ds' heads heads' four : List ℕ) (row word place count : ℕ) (marks : List nodes.Mark)
@@ -165,7 +83,7 @@ added ds ds' heads heads' four row word place count marks are is low fits below 
     let len = digits.len in
     let long = length-append ds (take count four) in
     let head : ℕ = row + 1024 * (2 + count) + 8192 * place in
-    let h : IsHead ds (take count four) row word head = record { head_is = omega arith; row_low = low; few = omega arith; word_is = digits.word_is } in
+    let h : IsWordHead ds (take count four) row word head = record { head_is = omega arith; row_low = low; few = omega arith; word_is = digits.word_is } in
     let kind : head / 1024 % 8 ≡ 2 + count = omega arith in
     let at : head / 8192 ≡ length ds = omega arith in
     rw (ds_is, heads_is)
@@ -194,7 +112,7 @@ added_head ds heads heads' place head marks are is low place_is heads_is =
     ∙ without-word (head % 1024) (head / 1024 % 8) (take (digits_of new) (drop (new / 8192) ds)) (take (digits_of head) (drop (head / 8192) [])) few in
     rw heads_is
     (record {
-      are = are-heads-append 0 (length ds) (length ds) heads (new ∷ []) are (record { few = omega arith; place_is = at }, omega arith);
+      are = AreHeads-append 0 (length ds) (length ds) heads (new ∷ []) are (record { few = omega arith; place_is = at }, omega arith);
       value = map-append (mark_from ds) heads (new ∷ []) ∙ ap₂ (λ old mark. old ++ mark ∷ []) is same;
     })
 
@@ -204,7 +122,7 @@ moved-mark : (ds es : List ℕ) (from end head : ℕ) → from ≤ head / 8192 �
 moved-mark ds es from end head low high within =
     let new : ℕ = moved from (length ds) head in
     let all : List ℕ = ds ++ slice_range es from end in
-    let h = is-moved from (length ds) head low in
+    let h = is_moved from (length ds) head low in
     let place = h.place_is in
     let j : ℕ = head / 8192 - from in
     let rest : ℕ = end - head / 8192 in
@@ -227,14 +145,14 @@ moved-marks : (ds es : List ℕ) (from place end : ℕ) (heads : List ℕ) → f
 moved-marks ds es from place end [] low within are = refl
 moved-marks ds es from place end (head ∷ heads) low within are =
     let at = are.0.place_is in
-    let more = heads-end-above (place + digits_of head) end heads are.1 in
+    let more = heads_end_above (place + digits_of head) end heads are.1 in
     ap₂ (λ mark marks. mark ∷ marks) (moved-mark ds es from end head (omega arith) (omega arith) within)
     (moved-marks ds es from (place + digits_of head) end heads (omega arith) within are.1)
 
 -- a piece has at most four digits for each mark
 pub few_digits : (ds heads : List ℕ) (marks : List nodes.Mark) → AreHeads 0 (length ds) heads → map (mark_from ds) heads ≡ marks → length ds ≤ 4 * length marks
 few_digits ds heads marks are is =
-    let near = heads-end-near 0 (length ds) heads are in
+    let near = heads_end_near 0 (length ds) heads are in
     let long : length heads ≡ length marks = sym (length-map heads (mark_from ds)) ∙ ap length is in
     omega arith
 
@@ -260,7 +178,7 @@ is_range es es' others others' marks from to first end are is es_is others_is or
     }
 
 range-are : (es others : List ℕ) (from to first end : ℕ) → IsRange es others from to first end → AreHeads first end (slice_range others from to)
-range-are es others from to first end h = rw (h.first_is, h.end_is) (are-heads-range (length es) others from to h.are h.ordered h.within)
+range-are es others from to first end h = rw (h.first_is, h.end_is) (AreHeads-range (length es) others from to h.are h.ordered h.within)
 
 -- the digits of a range are a range
 pub record IsDigitRange (es : List ℕ) (from to first end : ℕ) : Type 0 where
@@ -273,14 +191,14 @@ digit_range es others from to first end h =
     let ordered = h.ordered in
     let within = h.within in
     let are = range-are es others from to first end h in
-    let behind = are-heads-drop 0 (length es) others to h.are h.within in
+    let behind = AreHeads-drop 0 (length es) others to h.are h.within in
     let end_is = h.end_is in
-    let above = heads-end-above (place_at (length es) others to) (length es) (drop to others) behind in
-    let few = heads-end-near first end (slice_range others from to) are in
+    let above = heads_end_above (place_at (length es) others to) (length es) (drop to others) behind in
+    let few = heads_end_near first end (slice_range others from to) are in
     let long = length-drop from others in
     let count = length-take-le (to - from) (drop from others) (omega arith) in
     record {
-      ordered = heads-end-above first end (slice_range others from to) are;
+      ordered = heads_end_above first end (slice_range others from to) are;
       within = omega arith;
       few = omega arith;
     }
@@ -304,32 +222,19 @@ added_range ds ds' heads heads' es others from to first end place marks more are
     let new_are : AreHeads (length ds) (length (ds ++ slice_range es first end)) new =
     subst (λ n. AreHeads n (length (ds ++ slice_range es first end)) new) from_is
     (subst (λ n. AreHeads (first - first + length ds) n new) to_is
-    (are-heads-moved first (length ds) first end (slice_range others from to) (omega arith) range_are)) in
+    (AreHeads-moved first (length ds) first end (slice_range others from to) (omega arith) range_are)) in
     let value : map (mark_from (ds ++ slice_range es first end)) new ≡ slice_range more from to =
     moved-marks ds es first first end (slice_range others from to) (omega arith) within range_are
     ∙ sym (take-map (mark_from es) (to - from) (drop from others)) ∙ ap (take (to - from)) (sym (drop-map (mark_from es) from others) ∙ ap (drop from) more_is) in
     rw (ds_is, heads_is, place_is) (behind ds (slice_range es first end) heads new marks (slice_range more from to) are is new_are value)
 
--- the heads of such a range, which can be moved
-from-low : (place end from : ℕ) (heads : List ℕ) → from ≤ place → AreHeads place end heads → AllByRecursion (λ head. 8192 * from ≤ head) heads
-from-low place end from [] low are = tt
-from-low place end from (head ∷ heads) low are =
-    let at = are.0.place_is in
-    (omega arith, from-low (place + digits_of head) end from heads (omega arith) are.1)
-
+-- its heads can be moved
 pub heads_low : (es others : List ℕ) (from to first end : ℕ) → IsRange es others from to first end → All (λ head. 8192 * first ≤ head) (slice_range others from to)
 heads_low es others from to first end h =
-    All-from_recursion (λ head. 8192 * first ≤ head) (slice_range others from to) (from-low first end first (slice_range others from to) (omega arith) (range-are es others from to first end h))
-
-moved-fit : (place end from to : ℕ) (heads : List ℕ) → from ≤ place → end - from + to ≤ 262144 → AreHeads place end heads → AllByRecursion (λ head. moved from to head < 4294967296) heads
-moved-fit place end from to [] low fits are = tt
-moved-fit place end from to (head ∷ heads) low fits are =
-    let at = are.0.place_is in
-    let above = heads-end-above (place + digits_of head) end heads are.1 in
-    (omega arith, moved-fit (place + digits_of head) end from to heads (omega arith) fits are.1)
+    All-from_recursion (λ head. 8192 * first ≤ head) (slice_range others from to) (heads_above first end first (slice_range others from to) (omega arith) (range-are es others from to first end h))
 
 pub heads_fit : (es others : List ℕ) (from to first end place : ℕ) → IsRange es others from to first end → end - first + place ≤ 262144
     → All (λ head. moved first place head < 4294967296) (slice_range others from to)
 heads_fit es others from to first end place h fits =
     All-from_recursion (λ head. moved first place head < 4294967296) (slice_range others from to)
-    (moved-fit first end first place (slice_range others from to) (omega arith) fits (range-are es others from to first end h))
+    (moved_fit first end first place (slice_range others from to) (omega arith) fits (range-are es others from to first end h))

@@ -1,4 +1,4 @@
-use Rattle.std.proofs.Common.{ℕ, ◌≡◌, ◌<◌, ◌≤◌, ◌+◌, List, [], ◌++◌, take, length, get_or, Result, Ok, Err, OnErr, inl, inr, refl, sym, ◌∙◌, ap, arith, append_assoc, append-nil, take_all}
+use Rattle.std.proofs.Common.{ℕ, ◌≡◌, ◌<◌, ◌≤◌, ◌+◌, List, [], ◌++◌, take, length, get_or, rules, inl, inr, refl, sym, ◌∙◌, ap, arith, append_assoc, append-nil, take_all}
 use Rattle.std.proofs.lemmas.Bool.{cases_lt}
 use Rattle.std.proofs.lemmas.List.{get_or_default}
 use Rattle.fx_base.specs.Pieces.{joined}
@@ -39,14 +39,10 @@ part-of-all old mid new pieces i piece inside is before h =
           ∙ ap (λ l. old ++ l) (ap (λ p. joined (take i pieces) ++ take h.part p) there ∙ ap (λ l. joined (take i pieces) ++ l) (sym within.2) ∙ sym (joined-take-part pieces i within.0 inside within.1));
     }
 
-on-err : {T E P : Type 0} (r : Result T E) → P → OnErr r P
-on-err (Ok x) p = tt
-on-err (Err e) p = p
-
 pub returns-in_err-append_piece-clause-err : goal.returns-in_err-append_piece-clause-err
 returns-in_err-append_piece-clause-err c =
-    on-err c.from_residual.result
-    (part-of-all c.args.self.now c.loop-piece.self c.append_piece.new.self c.args.pieces.now c.loop-piece.piece-index c.piece-item.result c.loop-piece-test.true c.piece-item.is c.loop-piece.invariant c.in_err-append_piece.ensures.err)
+    let part = part-of-all c.args.self.now c.loop-piece.self c.append_piece.new.self c.args.pieces.now c.loop-piece.piece-index c.piece-item.result c.loop-piece-test.true c.piece-item.is c.loop-piece.invariant c.in_err-append_piece.ensures.err in
+    search (rules, part)
 
 pub returns-clause-ok : goal.returns-clause-ok
 returns-clause-ok c =

@@ -1,4 +1,4 @@
-use Rattle.std.proofs.Common.{ℕ, ◌≡◌, ◌+◌, ◌-◌, ◌++◌, take, drop, length, min, subst, ◌∙◌, ap, arith, length-take-le}
+use Rattle.std.proofs.Common.{◌+◌, ◌-◌, ◌++◌, take, length, subst, ◌∙◌, ap, arith, length-take-le}
 use Rattle.std.proofs.Math.ListN.{set}
 use Rattle.std.proofs.Math.Nat.{sub-zero}
 use Rattle.fx_base.proofs.Joined.{IsGrown, length-last, pushed}

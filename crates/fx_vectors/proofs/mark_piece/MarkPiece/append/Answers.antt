@@ -1,4 +1,4 @@
-use Rattle.std.proofs.Common.{ℕ, ◌≡◌, List, map, ◌++◌, Bool, true, Result, Ok, Err, OnOk, length, ap, ◌∙◌, arith}
+use Rattle.std.proofs.Common.{ℕ, ◌≡◌, List, map, ◌++◌, true, Result, Ok, Err, OnOk, length, ap, ◌∙◌, arith}
 use Rattle.std.specs.List.{slice_range}
 use Rattle.std.specs.Result.{is_ok}
 use Rattle.fx_designs.specs.Nodes as nodes
