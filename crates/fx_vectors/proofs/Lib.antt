@@ -5,5 +5,6 @@ pub mod Effects
 pub mod Supports
 pub mod Differences
 pub mod Balances
+pub mod MarkHeads
 pub mod MarkPieces
 mod Examples

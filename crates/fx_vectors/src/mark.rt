@@ -1,5 +1,6 @@
-ghost use Rattle.std.specs.Prelude.{◌≡◌, ◌≢◌, ◌<◌, ◌%◌, ◌↔◌, [], ◌∷◌, ◌++◌, length, slice_index_or, IsTrue, OnErr, OnOk};
-ghost use Rattle.fx_vectors.specs.Marks.{meaning_of, row_of};
+ghost use Rattle.std.specs.Prelude.{◌≡◌, ◌≢◌, ◌<◌, ◌≤◌, ◌+◌, ◌-◌, ◌%◌, ◌↔◌, [], ◌∷◌, ◌++◌, take, drop, length, slice_index_or, IsTrue, IfOk, OnErr, OnOk};
+ghost use Rattle.fx_base.specs.Pieces.{ArePieces, joined};
+ghost use Rattle.fx_vectors.specs.Marks.{meaning_of, row_of, AppendsPart};
 
 use crate::mark_piece::MarkPiece;
 use fx_base::NoMemory;
@@ -99,6 +100,18 @@ impl Marks {
         }
     }
 
+    /// Adds the marks of another list at the end, in order.
+    ///
+    /// # Errors
+    ///
+    /// `NoMemory`; then some of the first of them may have been added.
+    pub fn append(&mut self, more: &Marks) -> Result<(), NoMemory>
+        ensures ok { OnOk result (self.new ≡ self.old ++ more.now) }
+        ensures err { OnErr result (AppendsPart self.old self.new more.now) }
+    {
+        self.append_pieces(&more.pieces)
+    }
+
     /// Adds a mark to the last piece, which is not full.
     fn push_to_last(&mut self, mark: Mark) -> Result<(), NoMemory>
         requires row { row_of mark < 1024 }
@@ -127,6 +140,75 @@ impl Marks {
             return Err(NoMemory);
         }
         self.len += 1;
+        Ok(())
+    }
+
+    /// Adds the marks of pieces.
+    fn append_pieces(&mut self, pieces: &[MarkPiece]) -> Result<(), NoMemory>
+        requires { ArePieces pieces.now }
+        ensures ok { OnOk result (self.new ≡ self.old ++ joined pieces.now) }
+        ensures err { OnErr result (AppendsPart self.old self.new (joined pieces.now)) }
+    {
+        for piece in pieces {
+            self.append_piece(piece)?;
+        }
+        Ok(())
+    }
+
+    /// Adds the marks of a piece, to the last one as far as it has room, and the others as a piece of
+    /// their own.
+    fn append_piece(&mut self, piece: &MarkPiece) -> Result<(), NoMemory>
+        requires { length piece.now ≤ 65536 }
+        ensures ok { OnOk result (self.new ≡ self.old ++ piece.now) }
+        ensures err { OnErr result (AppendsPart self.old self.new piece.now) }
+    {
+        if usize::MAX - self.len < piece.len() {
+            return Err(NoMemory);
+        }
+        let count = self.append_to_last(piece)?;
+        if count < piece.len() {
+            self.append_rest(piece, count)?;
+        }
+        Ok(())
+    }
+
+    /// Adds the first marks of a piece to the last one, as many as it has room for, and returns how
+    /// many these are.
+    fn append_to_last(&mut self, piece: &MarkPiece) -> Result<usize, NoMemory>
+        requires most { length piece.now ≤ 65536 }
+        requires fits { length self.old + length piece.now < 18446744073709551616 }
+        ensures within { IfOk result (λ count. count ≤ length piece.now) }
+        ensures ok { IfOk result (λ count. self.new ≡ self.old ++ take count piece.now) }
+        ensures full { IfOk result (λ count. count < length piece.now → length self.new % 65536 ≡ 0) }
+        ensures err { OnErr result (self.new ≡ self.old) }
+    {
+        let used = self.len % PIECE;
+        if used == 0 {
+            return Ok(0);
+        }
+        let count = piece.len().min(PIECE - used);
+        let last = self.pieces.len() - 1;
+        self.pieces[last].append(piece, 0, count)?;
+        self.len += count;
+        Ok(count)
+    }
+
+    /// Adds the marks of a piece from `from` on as a piece of their own, where all pieces are full.
+    fn append_rest(&mut self, piece: &MarkPiece, from: usize) -> Result<(), NoMemory>
+        requires some { from < length piece.now }
+        requires most { length piece.now ≤ 65536 }
+        requires full { length self.old % 65536 ≡ 0 }
+        requires fits { length self.old + (length piece.now - from) < 18446744073709551616 }
+        ensures ok { OnOk result (self.new ≡ self.old ++ drop from piece.now) }
+        ensures err { OnErr result (self.new ≡ self.old) }
+    {
+        let mut rest = MarkPiece::new(*self.pieces.allocator());
+        rest.append(piece, from, piece.len())?;
+        let count = rest.len();
+        if self.pieces.push(rest).is_err() {
+            return Err(NoMemory);
+        }
+        self.len += count;
         Ok(())
     }
 }

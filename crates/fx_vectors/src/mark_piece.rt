@@ -1,6 +1,6 @@
-ghost use Rattle.std.specs.Prelude.{◌≡◌, ◌≢◌, ◌<◌, ◌≤◌, ◌+◌, ◌*◌, ◌-◌, [], ◌∷◌, ◌++◌, take, length, slice_index, slice_index_or, OnErr, OnOk};
+ghost use Rattle.std.specs.Prelude.{◌≡◌, ◌≢◌, ◌<◌, ◌≤◌, ◌+◌, ◌*◌, ◌-◌, [], ◌∷◌, ◌++◌, map, take, length, slice_index, slice_index_or, slice_range, All, OnErr, OnOk};
 ghost use Rattle.fx_designs.specs.Galois.{digits, number};
-ghost use Rattle.fx_vectors.specs.Marks.{mark_from, meaning_of, row_of};
+ghost use Rattle.fx_vectors.specs.Marks.{mark_from, meaning_of, moved, place_at, row_of};
 ghost use Rattle.fx_designs.specs.Nodes as nodes;
 
 use crate::mark::Mark;
@@ -22,12 +22,16 @@ const WORSE: u32 = 1;
 /// The kind of a word without digits.
 const WORD: u32 = 2;
 
+/// A head has the place of its digits from this unit on.
+const PLACE: u32 = ROWS * KINDS;
+
 /// The base of a word's digits.
 const BASE: u128 = 4294967296;
 
 /// Some marks, of which there are at most 65,536. A head has the row of its mark, 1,024 times its
-/// kind, and 8,192 times the place of its word's first digit; the digits of a word are the lowest
-/// first. Clauses see the list of marks.
+/// kind, and 8,192 times the place of its word's first digit, or of the next one's where it has no
+/// word; the digits of a word are the lowest first, and those of the marks are one after another, so
+/// that a range of marks has a range of digits. Clauses see the list of marks.
 #[derive(Drop)]
 pub(crate) struct MarkPiece {
     heads: Vec<u32>,
@@ -35,19 +39,15 @@ pub(crate) struct MarkPiece {
 }
 
 impl Model for MarkPiece {
-    ghost use Rattle.std.specs.Prelude.{◌≤◌, ◌*◌, List, map, length};
-    ghost use Rattle.std.specs.List.{AllByRecursion};
+    ghost use Rattle.std.specs.Prelude.{List, map, length};
     ghost use Rattle.fx_designs.specs.Nodes.{Mark};
-    ghost use Rattle.fx_vectors.specs.Marks.{mark_from, HasDigits};
+    ghost use Rattle.fx_vectors.specs.Marks.{mark_from, AreHeads};
 
     ghost Value = { List Mark };
 
     ghost view = { λ x. map (mark_from x.digits.items) x.heads.items };
 
-    ghost invariant = { λ x. record {
-      each : AllByRecursion (HasDigits (length x.digits.items)) x.heads.items;
-      few : length x.digits.items ≤ 4 * length x.heads.items;
-    } };
+    ghost invariant = { λ x. AreHeads 0 (length x.digits.items) x.heads.items };
 }
 
 impl MarkPiece {
@@ -59,6 +59,12 @@ impl MarkPiece {
             heads: Vec::new(alloc),
             digits: Vec::new(alloc),
         }
+    }
+
+    pub(crate) fn len(&self) -> usize
+        ensures { result ≡ length self.now }
+    {
+        self.heads.len()
     }
 
     /// The mark at `i`, counted from 0.
@@ -76,7 +82,7 @@ impl MarkPiece {
         if kind == WORSE {
             return Mark::Worse { row };
         }
-        let from = (head / ROWS / KINDS) as usize;
+        let from = (head / PLACE) as usize;
         let to = from + (kind - WORD) as usize;
         Mark::Word {
             row,
@@ -100,14 +106,16 @@ impl MarkPiece {
 
     /// Adds a mark without digits.
     fn push_head(&mut self, head: u32) -> Result<(), NoMemory>
-        requires { head < 2048 }
+        requires head { head < 2048 }
+        requires room { length self.old < 65536 }
         ensures ok { OnOk result (self.new ≡ self.old ++ mark_from [] head ∷ []) }
         ensures err { OnErr result (self.new ≡ self.old) }
     {
-        match self.heads.push(head) {
-            Ok(()) => Ok(()),
-            Err(_) => Err(NoMemory),
+        let place = self.digits.len() as u32;
+        if self.heads.push(head + PLACE * place).is_err() {
+            return Err(NoMemory);
         }
+        Ok(())
     }
 
     /// Adds the mark of a word.
@@ -124,12 +132,79 @@ impl MarkPiece {
             return Err(NoMemory);
         }
         let kind = WORD + count as u32;
-        let head = u32::from(row) + ROWS * (kind + KINDS * place as u32);
+        let head = u32::from(row) + ROWS * kind + PLACE * place as u32;
         if self.heads.push(head).is_err() {
             self.digits.truncate(place);
             return Err(NoMemory);
         }
         Ok(())
+    }
+
+    /// Adds the marks of another piece from `from` on up to `to`, or leaves the piece as it is where
+    /// memory ran out.
+    pub(crate) fn append(
+        &mut self,
+        other: &MarkPiece,
+        from: usize,
+        to: usize,
+    ) -> Result<(), NoMemory>
+        requires ordered { from ≤ to }
+        requires within { to ≤ length other.now }
+        requires most { length other.now ≤ 65536 }
+        requires room { length self.old + (to - from) ≤ 65536 }
+        ensures ok { OnOk result (self.new ≡ self.old ++ slice_range other.now from to) }
+        ensures err { OnErr result (self.new ≡ self.old) }
+    {
+        let heads = other.heads.as_slice();
+        let digits = other.digits.as_slice();
+        let first = place_at(heads, digits.len(), from);
+        let end = place_at(heads, digits.len(), to);
+        let place = self.digits.len();
+        if self.digits.extend_from_slice(&digits[first..end]).is_err() {
+            return Err(NoMemory);
+        }
+        if append_moved(&mut self.heads, &heads[from..to], first, place).is_err() {
+            self.digits.truncate(place);
+            return Err(NoMemory);
+        }
+        Ok(())
+    }
+}
+
+/// Where the digits of the head at `i` are or, past the last head, where those of all heads end.
+fn place_at(heads: &[u32], end: usize, i: usize) -> usize
+    ensures { result ≡ place_at end heads.now i }
+{
+    match heads.get(i) {
+        Some(head) => (*head / PLACE) as usize,
+        None => end,
+    }
+}
+
+/// Adds heads whose digits were from the place `from` on and are from `to` on.
+fn append_moved(heads: &mut Vec<u32>, more: &[u32], from: usize, to: usize) -> Result<(), NoMemory>
+    requires from { All (λ head. 8192 * from ≤ head) more.now }
+    requires fits { All (λ head. moved from to head < 4294967296) more.now }
+    requires from_low { from ≤ 262144 }
+    requires to_low { to ≤ 262144 }
+    ensures ok { OnOk result (heads.new.items ≡ heads.old.items ++ map (moved from to) more.now) }
+    ensures err { OnErr result (heads.new.items ≡ heads.old.items) }
+{
+    let len = heads.len();
+    if heads.extend_from_slice(more).is_err() {
+        return Err(NoMemory);
+    }
+    move_heads(&mut heads[len..], PLACE * from as u32, PLACE * to as u32);
+    Ok(())
+}
+
+fn move_heads(heads: &mut [u32], from: u32, to: u32)
+    requires from { All (λ head. from ≤ head) heads.old }
+    requires fits { All (λ head. head - from + to < 4294967296) heads.old }
+    ensures { heads.new ≡ map (λ head. head - from + to) heads.old }
+{
+    for head in heads.iter_mut() {
+        *head = *head - from + to;
     }
 }
 

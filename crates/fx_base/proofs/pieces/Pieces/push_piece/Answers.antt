@@ -1,4 +1,4 @@
-use Rattle.std.proofs.Common.{[], ◌∷◌, ◌++◌, ap, ◌∙◌}
+use Rattle.std.proofs.Common.{[], ◌∷◌, ◌++◌, ap, ◌∙◌, lit<, lit≤}
 use Rattle.fx_base.proofs.Joined.{begun}
 use Rattle.fx_base.proofs.pieces.Pieces.push_piece.Goals as goal
 
@@ -6,14 +6,14 @@ pub invariant_of-self-2 : goal.invariant_of-self-2
 invariant_of-self-2 g c =
     let piece_is = c.in_ok-push.ensures.ok ∙ ap (λ l. l ++ c.args.value ∷ []) (c.from_vec-piece.ensures ∙ c.in-Ok.ensures.items) in
     let more_is = rw c.if-is_err.ensures.negation at c.push-2.ensures.items in
-    let h = begun c.self.inside.pieces.items c.push-2.new.self.items c.self.inside.len c.push.new.self c.args.value c.args.self.now
-    c.self.view_is c.self.invariant.len c.self.invariant.pieces c.requires.full piece_is more_is in
+    let h = begun c.self.inside.pieces.items c.push-2.new.self.items c.self.inside.len c.push.new.self (c.args.value ∷ []) c.args.self.now
+    c.self.view_is c.self.invariant.len c.self.invariant.pieces c.requires.full (lit< tt) (lit≤ tt) piece_is more_is in
     record { pieces = h.are; len = h.len_is }
 
 pub returns-clause-ok : goal.returns-clause-ok
 returns-clause-ok g c =
     let piece_is = c.in_ok-push.ensures.ok ∙ ap (λ l. l ++ c.args.value ∷ []) (c.from_vec-piece.ensures ∙ c.in-Ok.ensures.items) in
     let more_is = rw c.if-is_err.ensures.negation at c.push-2.ensures.items in
-    let h = begun c.self.inside.pieces.items c.push-2.new.self.items c.self.inside.len c.push.new.self c.args.value c.args.self.now
-    c.self.view_is c.self.invariant.len c.self.invariant.pieces c.requires.full piece_is more_is in
+    let h = begun c.self.inside.pieces.items c.push-2.new.self.items c.self.inside.len c.push.new.self (c.args.value ∷ []) c.args.self.now
+    c.self.view_is c.self.invariant.len c.self.invariant.pieces c.requires.full (lit< tt) (lit≤ tt) piece_is more_is in
     h.value

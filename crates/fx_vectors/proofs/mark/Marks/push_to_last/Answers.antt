@@ -1,22 +1,22 @@
-use Rattle.std.proofs.Common.{◌∙◌}
-use Rattle.fx_base.proofs.Joined.{pushed}
+use Rattle.std.proofs.Common.{[], ◌∷◌, ◌∙◌, arith}
+use Rattle.fx_base.proofs.Joined.{length-last, pushed}
 use Rattle.fx_vectors.specs.Marks.{meaning_of}
-use Rattle.fx_vectors.proofs.MarkPieces.{last_has_room}
 use Rattle.fx_vectors.proofs.mark.Marks.push_to_last.Goals as goal
 
 pub push-requires-clause-room : goal.push-requires-clause-room
 push-requires-clause-room c =
-    last_has_room c.self.inside.pieces.items c.len-last.result c.index_mut.result.now c.args.self.now
-    c.self.view_is c.self.invariant.pieces c.requires.room (c.len-last.ensures ∙ c.self.inside.pieces.ok.0) c.index_mut.ensures.value
+    let len = length-last c.self.inside.pieces.items c.len-last.result c.index_mut.result.now c.args.self.now
+    c.self.view_is c.self.invariant.pieces c.requires.room (c.len-last.ensures ∙ c.self.inside.pieces.ok.0) c.index_mut.ensures.value in
+    omega arith
 
 pub invariant_of-self-2 : goal.invariant_of-self-2
 invariant_of-self-2 c =
-    let h = pushed c.self.inside.pieces.items c.len-last.result c.self.inside.len c.index_mut.result.now c.push.new.self (meaning_of c.args.mark) c.args.self.now
-    c.self.view_is c.self.invariant.len c.self.invariant.pieces c.requires.room (c.len-last.ensures ∙ c.self.inside.pieces.ok.0) c.index_mut.ensures.value c.in_ok-push.ensures.ok in
+    let h = pushed c.self.inside.pieces.items c.len-last.result c.self.inside.len c.index_mut.result.now c.push.new.self (meaning_of c.args.mark ∷ []) c.args.self.now
+    c.self.view_is c.self.invariant.len c.self.invariant.pieces c.requires.room (omega arith) (c.len-last.ensures ∙ c.self.inside.pieces.ok.0) c.index_mut.ensures.value c.in_ok-push.ensures.ok in
     record { pieces = h.are; len = h.len_is }
 
 pub returns-clause-ok : goal.returns-clause-ok
 returns-clause-ok c =
-    let h = pushed c.self.inside.pieces.items c.len-last.result c.self.inside.len c.index_mut.result.now c.push.new.self (meaning_of c.args.mark) c.args.self.now
-    c.self.view_is c.self.invariant.len c.self.invariant.pieces c.requires.room (c.len-last.ensures ∙ c.self.inside.pieces.ok.0) c.index_mut.ensures.value c.in_ok-push.ensures.ok in
+    let h = pushed c.self.inside.pieces.items c.len-last.result c.self.inside.len c.index_mut.result.now c.push.new.self (meaning_of c.args.mark ∷ []) c.args.self.now
+    c.self.view_is c.self.invariant.len c.self.invariant.pieces c.requires.room (omega arith) (c.len-last.ensures ∙ c.self.inside.pieces.ok.0) c.index_mut.ensures.value c.in_ok-push.ensures.ok in
     h.value
