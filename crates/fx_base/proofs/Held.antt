@@ -32,27 +32,27 @@ module _ {T : Type 0} where
   }
 
 -- the text of a list, which is the texts of its items one after another
-module _ {A : Type 0} (text : List A → List ℕ) (joins : (xs ys : List A) → text (xs ++ ys) ≡ text xs ++ text ys) where
+module _ {A T : Type 0} (text : List A → List T) (joins : (xs ys : List A) → text (xs ++ ys) ≡ text xs ++ text ys) where
   -- the items before one, and that one
-  pub one_more : (xs : List A) (i : ℕ) (x : A) (old mid new : List ℕ) → i < length xs → x ≡ get_or xs i x
+  pub one_more : (xs : List A) (i : ℕ) (x : A) (old mid new : List T) → i < length xs → x ≡ get_or xs i x
       → mid ≡ old ++ text (take i xs) → new ≡ mid ++ text (x ∷ []) → new ≡ old ++ text (take (i + 1) xs)
   one_more xs i x old mid new there is before here =
       here
-      ∙ ap (λ (l : List ℕ). l ++ text (x ∷ [])) before
+      ∙ ap (λ (l : List T). l ++ text (x ∷ [])) before
       ∙ append_assoc old (text (take i xs)) (text (x ∷ []))
-      ∙ ap (λ (l : List ℕ). old ++ l) (sym (joins (take i xs) (x ∷ [])))
+      ∙ ap (λ (l : List T). old ++ l) (sym (joins (take i xs) (x ∷ [])))
       ∙ ap (λ (l : List A). old ++ text l) (ap (λ (y : A). take i xs ++ y ∷ []) is ∙ sym (take_more xs i x there))
 
   split_at : (xs : List A) (i : ℕ) (x : A) → i < length xs → x ≡ get_or xs i x
       → text (take i xs) ++ (text (x ∷ []) ++ text (drop (suc i) xs)) ≡ text xs
   split_at xs i x there is =
-      ap (λ (l : List ℕ). text (take i xs) ++ l) (sym (joins (x ∷ []) (drop (suc i) xs)))
+      ap (λ (l : List T). text (take i xs) ++ l) (sym (joins (x ∷ []) (drop (suc i) xs)))
       ∙ ap (λ (l : List A). text (take i xs) ++ text l) (ap (λ (y : A). y ∷ drop (suc i) xs) is ∙ sym (drop-cons xs i x there))
       ∙ sym (joins (take i xs) (drop i xs))
       ∙ ap text (take-append-drop i xs)
 
   -- the items before one, and a prefix of the text of that one
-  pub in_item : (xs : List A) (i : ℕ) (x : A) (old mid new : List ℕ) → i < length xs → x ≡ get_or xs i x
+  pub in_item : (xs : List A) (i : ℕ) (x : A) (old mid new : List T) → i < length xs → x ≡ get_or xs i x
       → mid ≡ old ++ text (take i xs) → HoldsPart mid new (text (x ∷ [])) → HoldsPart old new (text xs)
   in_item xs i x old mid new there is before h =
       subst (HoldsPart old new) (split_at xs i x there is)

@@ -182,27 +182,9 @@ module _ {T : Type 0} where
       subst (λ ps. IsGrown ps (len + length xs) (items ++ xs)) (sym (more_is ∙ ap (λ p. pieces ++ p ∷ []) piece_is))
       (grown pieces _ len xs items is old (one_more pieces xs are full' some few))
 
-  -- one more of the pieces
-  pub joined-take-more : (pieces : List (List T)) (i : ℕ) (piece : List T) → i < length pieces → piece ≡ get_or pieces i piece → joined (take (i + 1) pieces) ≡ joined (take i pieces) ++ piece
-  joined-take-more pieces i piece inside is =
-      rw add-one
-      (joined-take-suc pieces i inside ∙ ap (λ p. joined (take i pieces) ++ p) (sym (is ∙ get_or_default pieces i piece [] inside)))
-    where
-      joined-take-suc : (pieces : List (List T)) (i : ℕ) → i < length pieces → joined (take (suc i) pieces) ≡ joined (take i pieces) ++ get_or pieces i []
-      joined-take-suc [] i inside = absurd (omega arith)
-      joined-take-suc (p ∷ ps) zero inside = append-nil p
-      joined-take-suc (p ∷ ps) (suc i) inside = ap (λ l. p ++ l) (joined-take-suc ps i (omega arith)) ∙ sym (append_assoc p (joined (take i ps)) (get_or ps i []))
-
-  -- a prefix of a piece behind the pieces before it is a prefix of all
-  pub joined-take-part : (pieces : List (List T)) (i part : ℕ) → i < length pieces → part ≤ length (get_or pieces i [])
-      → take (length (joined (take i pieces)) + part) (joined pieces) ≡ joined (take i pieces) ++ take part (get_or pieces i [])
-  joined-take-part [] i part inside few = absurd (omega arith)
-  joined-take-part (p ∷ ps) zero part inside few = rw zero-add (take-append-le part p (joined ps) few)
-  joined-take-part (p ∷ ps) (suc i) part inside few =
-      rw (length-append p (joined (take i ps)), add_assoc (length p) (length (joined (take i ps))) part)
-      (take-append-add p (joined ps) (length (joined (take i ps)) + part)
-      ∙ ap (λ l. p ++ l) (joined-take-part ps i part (omega arith) few)
-      ∙ sym (append_assoc p (joined (take i ps)) (take part (get_or ps i []))))
+  pub joined-append : (xs ys : List (List T)) → joined (xs ++ ys) ≡ joined xs ++ joined ys
+  joined-append [] ys = refl
+  joined-append (x ∷ xs) ys = ap (λ l. x ++ l) (joined-append xs ys) ∙ sym (append_assoc x (joined xs) (joined ys))
 
   -- no piece has more than 65,536 values
   pub length-piece : (pieces : List (List T)) (i : ℕ) (piece : List T) → ArePieces pieces → i < length pieces → piece ≡ get_or pieces i piece → length piece ≤ 65536

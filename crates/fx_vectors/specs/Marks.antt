@@ -1,5 +1,5 @@
 -- The marks of a search, as the definitions have them, and how they are kept.
-use Rattle.std.specs.Prelude.{ℕ, ◌≡◌, ◌==◌, ◌≤◌, ◌+◌, ◌-◌, ◌*◌, ◌/◌, ◌%◌, if◌then◌else◌, List, [], ◌∷◌, ◌++◌, take, drop, slice_index_or}
+use Rattle.std.specs.Prelude.{ℕ, ◌≡◌, ◌==◌, ◌≤◌, ◌+◌, ◌-◌, ◌*◌, ◌/◌, ◌%◌, if◌then◌else◌, List, [], ◌∷◌, take, drop, slice_index_or}
 use Rattle.fx_designs.specs.Galois.{number}
 use Rattle.fx_designs.specs.Nodes as nodes
 use Rattle.fx_vectors.specs.declared.mark.Mark.{Mark}
@@ -48,8 +48,3 @@ place_at end heads i = slice_index_or heads i (8192 * end) / 8192
 -- the head of the same mark once the digits that were from one place on are from another on
 abbrev pub moved : ℕ → ℕ → ℕ → ℕ
 moved from to head = head - 8192 * from + 8192 * to
-
--- a list has its marks from before, and after them a prefix of others
-pub record AppendsPart (old new more : List nodes.Mark) : Type 0 where
-  pub part : ℕ
-  pub appended : new ≡ old ++ take part more

@@ -1,6 +1,7 @@
 ghost use Rattle.std.specs.Prelude.{◌≡◌, ◌≢◌, ◌<◌, ◌≤◌, ◌+◌, ◌-◌, ◌%◌, ◌↔◌, [], ◌∷◌, ◌++◌, take, drop, length, slice_index_or, IsTrue, IfOk, OnErr, OnOk};
 ghost use Rattle.fx_base.specs.Pieces.{ArePieces, joined};
-ghost use Rattle.fx_vectors.specs.Marks.{meaning_of, row_of, AppendsPart};
+ghost use Rattle.fx_base.specs.Writing.{HoldsPart};
+ghost use Rattle.fx_vectors.specs.Marks.{meaning_of, row_of};
 
 use crate::mark_piece::MarkPiece;
 use fx_base::NoMemory;
@@ -107,7 +108,7 @@ impl Marks {
     /// `NoMemory`; then some of the first of them may have been added.
     pub fn append(&mut self, more: &Marks) -> Result<(), NoMemory>
         ensures ok { OnOk result (self.new ≡ self.old ++ more.now) }
-        ensures err { OnErr result (AppendsPart self.old self.new more.now) }
+        ensures err { OnErr result (HoldsPart self.old self.new more.now) }
     {
         self.append_pieces(&more.pieces)
     }
@@ -147,7 +148,7 @@ impl Marks {
     fn append_pieces(&mut self, pieces: &[MarkPiece]) -> Result<(), NoMemory>
         requires { ArePieces pieces.now }
         ensures ok { OnOk result (self.new ≡ self.old ++ joined pieces.now) }
-        ensures err { OnErr result (AppendsPart self.old self.new (joined pieces.now)) }
+        ensures err { OnErr result (HoldsPart self.old self.new (joined pieces.now)) }
     {
         for piece in pieces {
             self.append_piece(piece)?;
@@ -160,7 +161,7 @@ impl Marks {
     fn append_piece(&mut self, piece: &MarkPiece) -> Result<(), NoMemory>
         requires { length piece.now ≤ 65536 }
         ensures ok { OnOk result (self.new ≡ self.old ++ piece.now) }
-        ensures err { OnErr result (AppendsPart self.old self.new piece.now) }
+        ensures err { OnErr result (HoldsPart self.old self.new piece.now) }
     {
         if usize::MAX - self.len < piece.len() {
             return Err(NoMemory);
