@@ -126,6 +126,12 @@ pub record IsUnderWay (w : LotWalk) : Type 0 where
   pub so_far : WalkIsSoFar w
   pub lot : length w.prefix.rows ≡ w.question.now.shape.m + 1 → IsNewLot (problem_of w.question.now) w.prefix.rows w.bound (standing_in w.incumbent).best
 
+-- the walk, which had come by so many nodes, has come by one more, and its prefix is at most one row longer
+pub record IsOneNodeOn (nodes length_was : ℕ) (w : LotWalk) : Type 0 where
+  pub under_way : IsUnderWay w
+  pub marks : length w.marks ≡ nodes + 1
+  pub rows : length w.prefix.rows ≤ length_was + 1
+
 -- the walk is at a lot, of which it has worked off the jobs by rows from the bound on
 pub record IsAtLot (w : LotWalk) : Type 0 where
   pub placed : IsPlaced w

@@ -11,7 +11,7 @@ ghost use Rattle.fx_search.specs.Standing.{StandAt, HasDimensions, FitsDimension
 ghost use Rattle.fx_search.specs.Ends.{IsFound, IsClosed, IsSpent, IsCarried};
 ghost use Rattle.fx_search.specs.Folds.{AreEnds};
 ghost use Rattle.fx_search.specs.Searchers.{standing_in};
-ghost use Rattle.fx_search.specs.LotWalks.{rows_below, jobs_below, IsWorked, IsNoneBelow, IsNextRow, IsPlaced, WalkIsSoFar, WalkIsThrough, IsUnderWay, IsAtLot, IsBetween, IsRight, IsStep, IsFolded, IsOfLot, AreSized, AreAddable, IsAdded, candidates_of};
+ghost use Rattle.fx_search.specs.LotWalks.{rows_below, jobs_below, IsWorked, IsNoneBelow, IsNextRow, IsPlaced, WalkIsSoFar, WalkIsThrough, IsOneNodeOn, IsAtLot, IsBetween, IsRight, IsStep, IsFolded, IsOfLot, AreSized, AreAddable, IsAdded, candidates_of};
 
 use crate::asking::{Asked, closed, kept};
 use crate::barred::Barred;
@@ -324,11 +324,8 @@ impl<'a> LotWalk<'a> {
         requires between { IsBetween self.old }
         requires next { IsNextRow (problem_of self.old.question.now) self.old.prefix.rows self.old.bound row }
         requires room { length self.old.marks < self.old.limit }
-        ensures question { self.new.question ≡ self.old.question }
-        ensures limit { self.new.limit ≡ self.old.limit }
-        ensures under_way { OnOk result (IsUnderWay self.new) }
-        ensures marks { OnOk result (length self.new.marks ≡ length self.old.marks + 1) }
-        ensures rows { OnOk result (length self.new.prefix.rows ≤ length self.old.prefix.rows + 1) }
+        ensures same { (self.new.question ≡ self.old.question) × (self.new.limit ≡ self.old.limit) }
+        ensures entered { OnOk result (IsOneNodeOn (length self.old.marks) (length self.old.prefix.rows) self.new) }
     {
         if self.pruner.closes(row) {
             let word = self.pruner.word(row);

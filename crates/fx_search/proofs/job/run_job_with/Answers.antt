@@ -34,9 +34,9 @@ returns-in-Found-clause-end g c =
     ap (λ l. l ++ c.row-row.result ∷ []) (ap (λ m. m.rows) c.without_the_last_row-prefix.ensures)
     ∙ ap (λ n. take (length j - 1) j ++ n ∷ []) (c.row-row.ensures.row ∙ ap (λ n. slice_index j (n - 1)) c.len.ensures.count)
     ∙ split-last j (omega (arith, c.requires.rows)) in
-    let h = rw (whole, c.new-marks.ensures, c.in-Found.is) at c.in_ok-end.ensures.end in
+    let h = rw (whole, c.new-marks.ensures, c.in-Found.is) at c.in_ok-end.ensures.ended.ends in
     let r = job_found p f j c.requires.rows room c.requires.canonical c.requires.lot c.args.limit c.enter.new.marks c.enter.new.prefix.rows h in
-    (r.0, r.1, c.in_ok-end.ensures.shape, c.len-nodes.ensures ∙ r.2, r.3, omega (arith, c.len-nodes.ensures, h.fits))
+    (r.0, r.1, c.in_ok-end.ensures.ended.shape, c.len-nodes.ensures ∙ r.2, r.3, omega (arith, c.len-nodes.ensures, h.fits))
 
 pub returns-in-Closed-clause-end : goal.returns-in-Closed-clause-end
 returns-in-Closed-clause-end g c =
@@ -48,8 +48,8 @@ returns-in-Closed-clause-end g c =
     ap (λ l. l ++ c.row-row.result ∷ []) (ap (λ m. m.rows) c.without_the_last_row-prefix.ensures)
     ∙ ap (λ n. take (length j - 1) j ++ n ∷ []) (c.row-row.ensures.row ∙ ap (λ n. slice_index j (n - 1)) c.len.ensures.count)
     ∙ split-last j (omega (arith, c.requires.rows)) in
-    let h = rw (whole, c.new-marks.ensures, c.in-Closed.is) at c.in_ok-end.ensures.end in
-    let after = rw (whole, c.in-Closed.is) at c.in_ok-end.ensures.best in
+    let h = rw (whole, c.new-marks.ensures, c.in-Closed.is) at c.in_ok-end.ensures.ended.ends in
+    let after = rw (whole, c.in-Closed.is) at c.in_ok-end.ensures.ended.best in
     let r = job_closed p f j c.requires.rows room c.requires.canonical c.requires.lot c.args.limit c.enter.new.marks _ c.enter.new.prefix.rows h in
     let tells = job_tells p f j c.requires.rows room c.requires.canonical c.requires.lot _ after c.args.question.now.least refl in
     (r.0, rw (c.own.ensures.rows, c.best_matrix.ensures.rows) tells, c.len-nodes.ensures ∙ r.1, r.2, omega (arith, c.len-nodes.ensures, h.fits))
@@ -64,7 +64,7 @@ returns-in-Spent-clause-end g c =
     ap (λ l. l ++ c.row-row.result ∷ []) (ap (λ m. m.rows) c.without_the_last_row-prefix.ensures)
     ∙ ap (λ n. take (length j - 1) j ++ n ∷ []) (c.row-row.ensures.row ∙ ap (λ n. slice_index j (n - 1)) c.len.ensures.count)
     ∙ split-last j (omega (arith, c.requires.rows)) in
-    let h = rw (whole, c.new-marks.ensures, c.in-Spent.is) at c.in_ok-end.ensures.end in
+    let h = rw (whole, c.new-marks.ensures, c.in-Spent.is) at c.in_ok-end.ensures.ended.ends in
     (job_spent p f j c.requires.rows room c.requires.canonical c.requires.lot c.args.limit h, refl)
 
 pub returns-in-Closed-clause-back : goal.returns-in-Closed-clause-back
@@ -73,7 +73,7 @@ returns-in-Closed-clause-back g c =
     let j : List ℕ = c.args.job.now.rows in
     let front : c.without_the_last_row-prefix.result.rows ≡ take (p.dimensions.m + 1) j =
     ap (λ m. m.rows) c.without_the_last_row-prefix.ensures ∙ ap (λ n. take n j) (let e : length j - 1 ≡ p.dimensions.m + 1 = omega (arith, c.requires.rows) in e) in
-    let back = rw (front, c.in-Closed.is) at c.in_ok-end.ensures.back in
+    let back = rw (front, c.in-Closed.is) at c.in_ok-end.ensures.ended.back in
     back
 
 pub returns-in-Closed-clause-sized : goal.returns-in-Closed-clause-sized
@@ -82,7 +82,7 @@ returns-in-Closed-clause-sized g c =
     let j : List ℕ = c.args.job.now.rows in
     let front : c.without_the_last_row-prefix.result.rows ≡ take (p.dimensions.m + 1) j =
     ap (λ m. m.rows) c.without_the_last_row-prefix.ensures ∙ ap (λ n. take n j) (let e : length j - 1 ≡ p.dimensions.m + 1 = omega (arith, c.requires.rows) in e) in
-    let back = rw (front, c.in-Closed.is) at c.in_ok-end.ensures.back in
+    let back = rw (front, c.in-Closed.is) at c.in_ok-end.ensures.ended.back in
     c.own.ensures.sized _ (subst (λ z. HasDimensions z.dimensions c.best_matrix.result) back.incumbent_problem c.best_matrix.ensures.dimensions)
 
 pub front_of-front-requires-clause-canonical : goal.front_of-front-requires-clause-canonical

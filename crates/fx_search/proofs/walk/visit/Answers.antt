@@ -14,8 +14,8 @@ use Rattle.fx_search.proofs.Steps.{found, shut, full}
 use Rattle.fx_search.proofs.Valid.{least_at, field_of, some_of}
 use Rattle.fx_search.proofs.walk.visit.Goals as goal
 
-pub returns-then-len-limit-clause-ended : goal.returns-then-len-limit-clause-ended
-returns-then-len-limit-clause-ended g c =
+pub returns-then-len-limit : goal.returns-then-len-limit
+returns-then-len-limit g c =
     let question : Question = c.args.question.now in
     let p : Problem = problem_of question in
     let q : List ℕ = c.args.prefix.now.rows in
@@ -23,14 +23,15 @@ returns-then-len-limit-clause-ended g c =
     let at : length c.args.marks.now ≡ c.args.limit = sym c.len.ensures ∙ c.if-len-limit.true in
     let best = (g.I.Incumbent.standing c.args.incumbent.now).best in
     record {
+      shape = c.requires.shape;
       back = c.requires.at.incumbent_problem;
       best = tt;
       carried = carries-own p (field_of question c.requires.valid) (some_of question c.requires.valid) cc (size_of p - length cc) c.args.limit c.args.marks.now best at (omega (arith, c.requires.part, length-append q (c.args.row ∷ []))) c.requires.best;
       ends = full (search_tree p) (search_mark p) c.args.limit false q (size_of p - length cc) c.args.marks.now c.args.marks.now q cc at;
     }
 
-pub returns-then-closes-clause-ended : goal.returns-then-closes-clause-ended
-returns-then-closes-clause-ended g c =
+pub returns-then-closes : goal.returns-then-closes
+returns-then-closes g c =
     let question : Question = c.args.question.now in
     let p : Problem = problem_of question in
     let q : List ℕ = c.args.prefix.now.rows in
@@ -42,6 +43,7 @@ returns-then-closes-clause-ended g c =
     let more = rw word at c.in_ok-push.ensures.ok in
     let best = (g.I.Incumbent.standing c.args.incumbent.now).best in
     record {
+      shape = c.requires.shape;
       back = c.requires.at;
       best = barred-best p (field_of question c.requires.valid) q c.args.row best barred c.requires.best;
       carried = tt;
@@ -49,8 +51,8 @@ returns-then-closes-clause-ended g c =
           (omega (arith, ap length more, length-append c.args.marks.now (Word c.args.row (word_of p cc) ∷ []), c.requires.limit, c.len.ensures, c.if-len-limit.false)) refl;
     }
 
-pub returns-in_ok-push-in-Beaten-clause-ended : goal.returns-in_ok-push-in-Beaten-clause-ended
-returns-in_ok-push-in-Beaten-clause-ended g c =
+pub returns-in_ok-push-in-Beaten : goal.returns-in_ok-push-in-Beaten
+returns-in_ok-push-in-Beaten g c =
     let question : Question = c.args.question.now in
     let p : Problem = problem_of question in
     let q : List ℕ = c.args.prefix.now.rows in
@@ -60,6 +62,7 @@ returns-in_ok-push-in-Beaten-clause-ended g c =
     let k = beaten-shut p (field_of question c.requires.valid) q c.args.row was c.in-Beaten.ensures.kind (not-false _ (sym closes ∙ c.if-closes.false)) c.requires.best in
     let more = c.in_ok-push-in-Beaten.ensures.ok in
     record {
+      shape = c.requires.shape;
       back = rw c.in-Beaten.ensures.same c.requires.at;
       best = rw c.in-Beaten.ensures.same (beaten-best p (field_of question c.requires.valid) q c.args.row was c.in-Beaten.ensures.kind c.requires.best);
       carried = tt;
@@ -67,8 +70,8 @@ returns-in_ok-push-in-Beaten-clause-ended g c =
           (omega (arith, ap length more, length-append c.args.marks.now (Worse c.args.row ∷ []), c.requires.limit, c.len.ensures, c.if-len-limit.false)) refl;
     }
 
-pub returns-in_ok-push-in-Better-clause-ended : goal.returns-in_ok-push-in-Better-clause-ended
-returns-in_ok-push-in-Better-clause-ended g c =
+pub returns-in_ok-push-in-Better : goal.returns-in_ok-push-in-Better
+returns-in_ok-push-in-Better g c =
     let question : Question = c.args.question.now in
     let p : Problem = problem_of question in
     let q : List ℕ = c.args.prefix.now.rows in
@@ -83,6 +86,7 @@ returns-in_ok-push-in-Better-clause-ended g c =
     let k = whole-shut p (field_of question c.requires.valid) q c.args.row whole c.requires.canonical open_ c.in-Better.ensures.kind.2 in
     let more = c.in_ok-push-in-Better.ensures.ok in
     record {
+      shape = c.requires.shape;
       back = record {
         pruner_problem = c.requires.at.pruner_problem;
         pruner_rows = c.requires.at.pruner_rows;
@@ -95,8 +99,8 @@ returns-in_ok-push-in-Better-clause-ended g c =
           (omega (arith, ap length more, length-append c.args.marks.now (Worse c.args.row ∷ []), c.requires.limit, c.len.ensures, c.if-len-limit.false)) refl;
     }
 
-pub returns-in_ok-push-in-First-clause-ended : goal.returns-in_ok-push-in-First-clause-ended
-returns-in_ok-push-in-First-clause-ended g c =
+pub returns-in_ok-push-in-First : goal.returns-in_ok-push-in-First
+returns-in_ok-push-in-First g c =
     let question : Question = c.args.question.now in
     let p : Problem = problem_of question in
     let q : List ℕ = c.args.prefix.now.rows in
@@ -107,6 +111,7 @@ returns-in_ok-push-in-First-clause-ended g c =
     let more = c.in_ok-push-in-First.ensures.ok in
     let e : c.push-in-First-2.new.self.rows ≡ cc = ap (λ m. m.rows) c.push-in-First-2.ensures in
     record {
+      shape = ap (λ m. m.shape) c.push-in-First-2.ensures ∙ c.requires.shape;
       back = tt;
       best = tt;
       carried = tt;
@@ -114,8 +119,8 @@ returns-in_ok-push-in-First-clause-ended g c =
           (omega (arith, ap length more, length-append c.args.marks.now (Worse c.args.row ∷ []), c.requires.limit, c.len.ensures, c.if-len-limit.false));
     }
 
-pub returns-in_ok-push-in-Open-2-clause-entered : goal.returns-in_ok-push-in-Open-2-clause-entered
-returns-in_ok-push-in-Open-2-clause-entered g c =
+pub returns-in_ok-push-in-Open-2 : goal.returns-in_ok-push-in-Open-2
+returns-in_ok-push-in-Open-2 g c =
     let question : Question = c.args.question.now in
     let p : Problem = problem_of question in
     let q : List ℕ = c.args.prefix.now.rows in
@@ -126,6 +131,7 @@ returns-in_ok-push-in-Open-2-clause-entered g c =
     let more = c.in_ok-push-in-Open.ensures.ok in
     let same = ap (λ s. s.best) c.push-in-Open-3.ensures ∙ ap (λ s. s.best) c.in-Open.ensures.same in
     record {
+      shape = ap (λ m. m.shape) c.push-in-Open-4.ensures ∙ c.requires.shape;
       rows = ap (λ m. m.rows) c.push-in-Open-4.ensures;
       at = record {
         pruner_problem = c.in_ok-push-in-Open-2.ensures.problem ∙ c.requires.at.pruner_problem;

@@ -14,8 +14,8 @@ use Rattle.fx_search.proofs.Steps.{LeftFrom, left-init}
 use Rattle.fx_search.proofs.LotSteps.{follow-at, next-counted, shut-step, open-step, open-new}
 use Rattle.fx_search.proofs.lot_walk.LotWalk.enter.Goals as goal
 
-pub returns-then-closes-clause-under_way : goal.returns-then-closes-clause-under_way
-returns-then-closes-clause-under_way c =
+pub returns-then-closes-clause-entered : goal.returns-then-closes-clause-entered
+returns-then-closes-clause-entered c =
     let question : Question = c.args.self.now.question.now in
     let p : Problem = problem_of question in
     let q : List ℕ = c.args.self.now.prefix.rows in
@@ -32,24 +32,28 @@ returns-then-closes-clause-under_way c =
     let step = shut-step p f placed.jobs c.args.self.now.limit c.args.self.now.bound row q c.args.self.now.marks best h.so_far c.requires.next c.requires.between.rows (Word row (word_of p (q ++ row ∷ [])))
     (barred-shut p f q row out) (barred-best p f q row best out counted) c.requires.room in
     record {
-      placed = record {
-        valid = placed.valid;
-        limit = placed.limit;
-        jobs = placed.jobs;
-        candidates = placed.candidates;
-        shape = placed.shape;
-        at = placed.at;
-        few = placed.few;
-        canonical = placed.canonical;
-        open_ = placed.open_;
-        bound = omega (arith, c.requires.next.low, placed.bound);
+      under_way = record {
+        placed = record {
+          valid = placed.valid;
+          limit = placed.limit;
+          jobs = placed.jobs;
+          candidates = placed.candidates;
+          shape = placed.shape;
+          at = placed.at;
+          few = placed.few;
+          canonical = placed.canonical;
+          open_ = placed.open_;
+          bound = omega (arith, c.requires.next.low, placed.bound);
+        };
+        so_far = subst (λ (l : List Mark). IsSoFar p c.args.self.now.limit q row l best) (sym more) step;
+        lot = λ e. absurd (omega (arith, e, c.requires.between.rows));
       };
-      so_far = subst (λ (l : List Mark). IsSoFar p c.args.self.now.limit q row l best) (sym more) step;
-      lot = λ e. absurd (omega (arith, e, c.requires.between.rows));
+      marks = ap length more ∙ length-append c.args.self.now.marks _;
+      rows = omega arith;
     }
 
-pub returns-then-beats-clause-under_way : goal.returns-then-beats-clause-under_way
-returns-then-beats-clause-under_way c =
+pub returns-then-beats-clause-entered : goal.returns-then-beats-clause-entered
+returns-then-beats-clause-entered c =
     let question : Question = c.args.self.now.question.now in
     let p : Problem = problem_of question in
     let q : List ℕ = c.args.self.now.prefix.rows in
@@ -67,24 +71,28 @@ returns-then-beats-clause-under_way c =
     (beaten-shut p f q row best lost allowed counted) (beaten-best p f q row best lost counted) c.requires.room in
     let same : standing_in c.beats.new.self ≡ standing_in c.args.self.now.incumbent = c.beats.ensures.same in
     record {
-      placed = record {
-        valid = placed.valid;
-        limit = placed.limit;
-        jobs = placed.jobs;
-        candidates = placed.candidates;
-        shape = placed.shape;
-        at = rw same placed.at;
-        few = placed.few;
-        canonical = placed.canonical;
-        open_ = placed.open_;
-        bound = omega (arith, c.requires.next.low, placed.bound);
+      under_way = record {
+        placed = record {
+          valid = placed.valid;
+          limit = placed.limit;
+          jobs = placed.jobs;
+          candidates = placed.candidates;
+          shape = placed.shape;
+          at = rw same placed.at;
+          few = placed.few;
+          canonical = placed.canonical;
+          open_ = placed.open_;
+          bound = omega (arith, c.requires.next.low, placed.bound);
+        };
+        so_far = rw same (subst (λ (l : List Mark). IsSoFar p c.args.self.now.limit q row l best) (sym c.in_ok-push-2.ensures.ok) step);
+        lot = λ e. absurd (omega (arith, e, c.requires.between.rows));
       };
-      so_far = rw same (subst (λ (l : List Mark). IsSoFar p c.args.self.now.limit q row l best) (sym c.in_ok-push-2.ensures.ok) step);
-      lot = λ e. absurd (omega (arith, e, c.requires.between.rows));
+      marks = ap length c.in_ok-push-2.ensures.ok ∙ length-append c.args.self.now.marks _;
+      rows = omega arith;
     }
 
-pub returns-clause-under_way : goal.returns-clause-under_way
-returns-clause-under_way c =
+pub returns-clause-entered : goal.returns-clause-entered
+returns-clause-entered c =
     let question : Question = c.args.self.now.question.now in
     let p : Problem = problem_of question in
     let q : List ℕ = c.args.self.now.prefix.rows in
@@ -110,23 +118,27 @@ returns-clause-under_way c =
     let step = open-step p f placed.jobs c.args.self.now.limit c.args.self.now.bound row q c.args.self.now.marks best h.so_far c.requires.next high opened c.row_bound-self.result left c.requires.room in
     rw prefix
     (record {
-      placed = record {
-        valid = placed.valid;
-        limit = placed.limit;
-        jobs = placed.jobs;
-        candidates = placed.candidates;
-        shape = placed.shape;
-        at = record {
-          pruner_problem = c.in_ok-push-4.ensures.problem ∙ placed.at.pruner_problem;
-          pruner_rows = c.in_ok-push-4.ensures.ok ∙ ap (λ (l : List ℕ). l ++ row ∷ []) placed.at.pruner_rows;
-          incumbent_problem = ap (λ s. s.problem) standing ∙ placed.at.incumbent_problem;
-          incumbent_rows = ap (λ s. s.prefix) standing ∙ ap (λ (l : List ℕ). l ++ row ∷ []) placed.at.incumbent_rows;
+      under_way = record {
+        placed = record {
+          valid = placed.valid;
+          limit = placed.limit;
+          jobs = placed.jobs;
+          candidates = placed.candidates;
+          shape = placed.shape;
+          at = record {
+            pruner_problem = c.in_ok-push-4.ensures.problem ∙ placed.at.pruner_problem;
+            pruner_rows = c.in_ok-push-4.ensures.ok ∙ ap (λ (l : List ℕ). l ++ row ∷ []) placed.at.pruner_rows;
+            incumbent_problem = ap (λ s. s.problem) standing ∙ placed.at.incumbent_problem;
+            incumbent_rows = ap (λ s. s.prefix) standing ∙ ap (λ (l : List ℕ). l ++ row ∷ []) placed.at.incumbent_rows;
+          };
+          few = omega (arith, long, high);
+          canonical = c.requires.next.canonical;
+          open_ = inr opened.is_expanded;
+          bound = c.row_bound-self.ensures.most;
         };
-        few = omega (arith, long, high);
-        canonical = c.requires.next.canonical;
-        open_ = inr opened.is_expanded;
-        bound = c.row_bound-self.ensures.most;
+        so_far = rw standing (subst (λ (l : List Mark). IsSoFar p c.args.self.now.limit cc c.row_bound-self.result l best) (sym c.in_ok-push-3.ensures.ok) step);
+        lot = λ e. rw standing (open-new p f placed.jobs c.args.self.now.limit c.args.self.now.bound row q c.args.self.now.marks best h.so_far c.requires.next high opened c.row_bound-self.result left e);
       };
-      so_far = rw standing (subst (λ (l : List Mark). IsSoFar p c.args.self.now.limit cc c.row_bound-self.result l best) (sym c.in_ok-push-3.ensures.ok) step);
-      lot = λ e. rw standing (open-new p f placed.jobs c.args.self.now.limit c.args.self.now.bound row q c.args.self.now.marks best h.so_far c.requires.next high opened c.row_bound-self.result left e);
+      marks = ap length c.in_ok-push-3.ensures.ok ∙ length-append c.args.self.now.marks _;
+      rows = omega (arith, long);
     })

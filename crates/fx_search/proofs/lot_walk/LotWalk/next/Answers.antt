@@ -15,6 +15,9 @@ none_left w h none =
     let f = is_order-field w.question.now.shape.q placed.valid.shaped.order in
     through-last (problem_of w.question.now) f placed.jobs w.limit w.bound w.prefix.rows w.marks (standing_in w.incumbent).best h.so_far none (omega (arith, placed.few, placed.jobs))
 
+pub spent-requires-clause-full : goal.spent-requires-clause-full
+spent-requires-clause-full c = omega arith
+
 pub closed-requires-clause-through : goal.closed-requires-clause-through
 closed-requires-clause-through c = none_left c.loop-self.self c.loop-self.invariant.under_way c.in-None.ensures
 

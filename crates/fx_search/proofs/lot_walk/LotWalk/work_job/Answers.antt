@@ -41,7 +41,7 @@ found-requires-clause-found c =
     let p : Problem = problem_of w.question.now in
     let d : List ℕ = w.prefix.rows ++ c.args.row ∷ [] in
     let end : Ends (search_tree p) (search_mark p) w.limit false (subtree (search_tree p) (size_of p - length d) d) w.prefix.rows Found w.marks c.enter.new.marks c.enter.new.prefix.rows =
-    subst (λ z. Ends (search_tree p) (search_mark p) w.limit false (subtree (search_tree p) (size_of p - length d) d) w.prefix.rows z w.marks c.enter.new.marks c.enter.new.prefix.rows) c.in-Found.is c.in_ok-end.ensures.end in
+    subst (λ z. Ends (search_tree p) (search_mark p) w.limit false (subtree (search_tree p) (size_of p - length d) d) w.prefix.rows z w.marks c.enter.new.marks c.enter.new.prefix.rows) c.in-Found.is c.in_ok-end.ensures.ended.ends in
     subst (λ (m : MatrixView). IsFound (search_tree p) (search_mark p) w.limit (candidates_of p) [] c.enter.new.marks m.rows) (sym c.replace-matrix.ensures.value)
     (job-found w.question.now h.placed.valid w.limit w.bound c.args.row w.prefix.rows w.marks (standing_in w.incumbent).best (kept_rows w.earlier) h.so_far h.in_lot c.requires.next c.enter.new.marks c.enter.new.prefix.rows end)
 
@@ -55,7 +55,7 @@ returns-in-Spent-clause-worked c =
     let some : 0 < question.shape.s + question.shape.t = omega (arith, h.placed.jobs) in
     let d : List ℕ = w.prefix.rows ++ c.args.row ∷ [] in
     let end : Ends (search_tree p) (search_mark p) w.limit false (subtree (search_tree p) (size_of p - length d) d) w.prefix.rows Spent w.marks c.enter.new.marks c.enter.new.prefix.rows =
-    subst (λ z. Ends (search_tree p) (search_mark p) w.limit false (subtree (search_tree p) (size_of p - length d) d) w.prefix.rows z w.marks c.enter.new.marks c.enter.new.prefix.rows) c.in-Spent.is c.in_ok-end.ensures.end in
+    subst (λ z. Ends (search_tree p) (search_mark p) w.limit false (subtree (search_tree p) (size_of p - length d) d) w.prefix.rows z w.marks c.enter.new.marks c.enter.new.prefix.rows) c.in-Spent.is c.in_ok-end.ensures.ended.ends in
     let step = job-spent question h.placed.valid w.limit w.bound c.args.row w.prefix.rows w.marks (standing_in w.incumbent).best (kept_rows w.earlier) h.so_far h.in_lot c.requires.next end in
     ((whole_spent p f some w.limit step.0, c.kept.ensures.rows ∙ ap (kept_of question) c.matrix_of.ensures.rows ∙ carried_is p f some w.limit (kept_rows w.earlier) step.1, c.kept.ensures.sized _ (c.matrix_of.ensures.sized p.dimensions h.sized)), tt)
 
@@ -69,10 +69,10 @@ returns-in-Closed-clause-worked c =
     let d : List ℕ = l ++ c.args.row ∷ [] in
     let best : Option (List ℕ) = (standing_in w.incumbent).best in
     let end : Ends (search_tree p) (search_mark p) w.limit false (subtree (search_tree p) (size_of p - length d) d) l Closed w.marks c.enter.new.marks c.enter.new.prefix.rows =
-    subst (λ z. Ends (search_tree p) (search_mark p) w.limit false (subtree (search_tree p) (size_of p - length d) d) l z w.marks c.enter.new.marks c.enter.new.prefix.rows) c.in-Closed.is c.in_ok-end.ensures.end in
+    subst (λ z. Ends (search_tree p) (search_mark p) w.limit false (subtree (search_tree p) (size_of p - length d) d) l z w.marks c.enter.new.marks c.enter.new.prefix.rows) c.in-Closed.is c.in_ok-end.ensures.ended.ends in
     let at : AreBack p l Closed c.enter.new.pruner.problem c.enter.new.pruner.prefix (standing_in c.enter.new.incumbent) =
-    subst (λ z. AreBack p l z c.enter.new.pruner.problem c.enter.new.pruner.prefix (standing_in c.enter.new.incumbent)) c.in-Closed.is c.in_ok-end.ensures.back in
-    let own : BestAfter p d Closed (standing_in c.enter.new.incumbent).best = subst (λ z. BestAfter p d z (standing_in c.enter.new.incumbent).best) c.in-Closed.is c.in_ok-end.ensures.best in
+    subst (λ z. AreBack p l z c.enter.new.pruner.problem c.enter.new.pruner.prefix (standing_in c.enter.new.incumbent)) c.in-Closed.is c.in_ok-end.ensures.ended.back in
+    let own : BestAfter p d Closed (standing_in c.enter.new.incumbent).best = subst (λ z. BestAfter p d z (standing_in c.enter.new.incumbent).best) c.in-Closed.is c.in_ok-end.ensures.ended.best in
     let settled = c.settle.ensures in
     let joined : (standing_in c.settle.new.incumbent).best ≡ better (ranked p) best (standing_in c.enter.new.incumbent).best =
     ap (λ s. s.best) settled ∙ ap₂ (λ (z : Problem) o. better (ranked z) o (standing_in c.enter.new.incumbent).best) at.incumbent_problem c.best-found.ensures.rows in
@@ -87,7 +87,7 @@ returns-in-Closed-clause-worked c =
               limit = h.placed.limit;
               jobs = h.placed.jobs;
               candidates = h.placed.candidates;
-              shape = c.in_ok-end.ensures.shape;
+              shape = c.in_ok-end.ensures.ended.shape;
               at = record {
                 pruner_problem = at.pruner_problem;
                 pruner_rows = at.pruner_rows;
