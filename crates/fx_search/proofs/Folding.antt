@@ -1,6 +1,7 @@
 -- The law of the fold.
-use Rattle.std.proofs.Common.{◌≡◌, ℕ, zero, suc, ◌<◌, ◌≤◌, ◌+◌, ◌-◌, ◌^◌, ◌⊎◌, Bool, true, false, ◌&&◌, ◌||◌, ltb, eqb, cond, List, [], ◌∷◌, ◌++◌, map, length, take, drop, get_or, Option, Some, None, refl, sym, subst, ap, ap₂, ◌∙◌, inl, inr, arith, length-append, take_all}
+use Rattle.std.proofs.Common.{◌≡◌, ℕ, zero, suc, ◌<◌, ◌≤◌, ◌+◌, ◌-◌, ◌^◌, ◌⊎◌, Bool, true, false, ◌&&◌, ◌||◌, ltb, eqb, cond, List, [], ◌∷◌, ◌++◌, map, length, take, drop, get_or, Option, Some, None, refl, sym, subst, ap, ap₂, ◌∙◌, inl, inr, arith, length-append, append-nil, take_all}
 use Rattle.std.specs.List.{filter, find, list_any, flat_map, AllByRecursion}
+use Rattle.std.proofs.Math.Nat.{zero-add}
 use Rattle.std.proofs.lemmas.Bool.{cases_Bool, cond-true, cond-false, and_parts, or_left, eqb-true, lt-ltb, ltb-true}
 use Rattle.std.proofs.lemmas.List.{map-append, take-append-le}
 use Rattle.fx_designs.specs.Galois.{IsField}
@@ -208,34 +209,40 @@ module _ (question : Question) (valid : IsValid question) (l : List ℕ) (lot : 
     known : (i : ℕ) (b : List ℕ) → best_before p l ≡ Some b → so_far x law l part (take i kids) b ≡ true
     known i b e = or_left _ _ (subst (IsFirstLeast x (is_counted x l)) e start-is).0
 
-    best_law : (i e : ℕ) (rows : List ℕ) (ends : List JobEnd) (now : Option (List ℕ)) → rows ≡ drop i kids → length kids ≤ i + length rows → AllByRecursion (λ r. is_canonical p.dimensions p.requirement (job r) ≡ true) rows
+    -- the best of what was seen of the lot, joined with those of the ends of the next jobs, by the rows before others
+    best_law : (i e : ℕ) (rows more : List ℕ) (ends : List JobEnd) (now : Option (List ℕ)) → rows ++ more ≡ drop i kids → AllByRecursion (λ r. is_canonical p.dimensions p.requirement (job r) ≡ true) rows
         → IsFirstLeast x (so_far x law l part (take i kids)) now → e + total ends ≤ limit → AreEnds question limit e (map job rows) ends
-        → IsFirstLeast x (is_counted_through x l) (best_in p now ends)
-    best_law i e [] [] now is count can h fits k = end_best x law l part i now (omega (arith, count)) h
-    best_law i e [] (end ∷ ends) now is count can h fits k = absurd k
-    best_law i e (r ∷ rows) [] now is count can h fits k = absurd k
-    best_law i e (r ∷ rows) (Cut ∷ ends) now is count can h fits k = absurd k
-    best_law i e (r ∷ rows) (Found matrix n ms ∷ ends) now is count can h fits k = clash p.least least k.ends.0
-    best_law i e (r ∷ rows) (Spent n ∷ ends) now is count can h fits k =
+        → IsFirstLeast x (so_far x law l part (take (i + length rows) kids)) (best_in p now ends)
+    best_law i e [] more [] now is can h fits k = (let z : i ≡ i + 0 = omega arith in subst (λ n. IsFirstLeast x (so_far x law l part (take n kids)) now) z h)
+    best_law i e [] more (end ∷ ends) now is can h fits k = absurd k
+    best_law i e (r ∷ rows) more [] now is can h fits k = absurd k
+    best_law i e (r ∷ rows) more (Cut ∷ ends) now is can h fits k = absurd k
+    best_law i e (r ∷ rows) more (Found matrix n ms ∷ ends) now is can h fits k = clash p.least least k.ends.0
+    best_law i e (r ∷ rows) more (Spent n ∷ ends) now is can h fits k =
         let low : limit - e ≤ k.own = k.least in
         let n-is : n ≡ k.own + 1 = k.ends.1 in
         absurd (omega arith)
-    best_law i e (r ∷ rows) (Closed best n ms ∷ ends) now is count can h fits k =
+    best_law i e (r ∷ rows) more (Closed best n ms ∷ ends) now is can h fits k =
         let n-is : n ≡ length (nodes_inside p (job r)) = k.0.ends.2 in
-        let low : i < length kids = inside-drop kids i r rows is in
-        let at : get_or kids i 0 ≡ r = at-drop kids i r rows is in
-        let rest : rows ≡ drop (i + 1) kids = past-drop kids i r rows is ∙ (let z : suc i ≡ i + 1 = omega arith in ap (λ n. drop n kids) z) in
+        let low : i < length kids = inside-drop kids i r (rows ++ more) is in
+        let at : get_or kids i 0 ≡ r = at-drop kids i r (rows ++ more) is in
+        let rest : rows ++ more ≡ drop (i + 1) kids = past-drop kids i r (rows ++ more) is ∙ (let z : suc i ≡ i + 1 = omega arith in ap (λ n. drop n kids) z) in
         let improvement : IsPartBest x (λ d. is_tree_design (tree_of p) d && extends d (job r)) (best_before p l) (rows_of best) =
         subst (λ z. IsPartBest x (λ d. is_tree_design (tree_of p) d && extends d (job r)) z (rows_of best)) (before-lot p (job r) l (lot-is r can.0))
         (subst (λ z. IsPartBest x (λ d. is_tree_design (tree_of p) d && extends d (job r)) (best_before p (job r)) z) (sym k.0.ends.1) (told-part p f some least (job r) (long r can.0))) in
         let next : IsFirstLeast x (so_far x law l part (take (i + 1) kids)) (better x now (rows_of best)) =
         improvement_joins x law l part lot.rows i low (best_before p l) now (rows_of best) h (known i) (subst (λ z. IsPartBest x (λ d. is_tree_design (tree_of p) d && extends d (l ++ z ∷ [])) (best_before p l) (rows_of best)) (sym at) improvement) in
-        best_law (i + 1) (e + length (nodes_inside p (job r))) rows ends (better x now (rows_of best)) rest (omega (arith, count)) can.1 next (omega (arith, fits)) k.1
+        let count : i + 1 + length rows ≡ i + length (r ∷ rows) = omega arith in
+        subst (λ n. IsFirstLeast x (so_far x law l part (take n kids)) (best_in p (better x now (rows_of best)) ends)) count
+        (best_law (i + 1) (e + length (nodes_inside p (job r))) rows more ends (better x now (rows_of best)) rest can.1 next (omega (arith, fits)) k.1)
 
-    -- the best of what was seen of the lot, joined with those of the ends of the jobs that are left, is that of the lots up to this one
-    pub rest_best : (i : ℕ) (rows : List ℕ) (ends : List JobEnd) (now : Option (List ℕ)) → rows ≡ drop i kids → length kids ≤ i + length rows → AllByRecursion (λ r. is_canonical p.dimensions p.requirement (job r) ≡ true) rows
-        → IsFirstLeast x (is_seen p l i) now → total ends ≤ limit → AreEnds question limit 0 (map job rows) ends → IsFirstLeast x (is_counted_through x l) (best_in p now ends)
-    rest_best i rows ends now is count can h fits k = best_law i 0 rows ends now is count can h (omega arith) k
+    pub next_best : (i : ℕ) (rows more : List ℕ) (ends : List JobEnd) (now : Option (List ℕ)) → rows ++ more ≡ drop i kids → AllByRecursion (λ r. is_canonical p.dimensions p.requirement (job r) ≡ true) rows
+        → IsFirstLeast x (is_seen p l i) now → total ends ≤ limit → AreEnds question limit 0 (map job rows) ends → IsFirstLeast x (is_seen p l (i + length rows)) (best_in p now ends)
+    next_best i rows more ends now is can h fits k = best_law i 0 rows more ends now is can h (omega arith) k
+
+    -- the best of what was seen of the lot, where all of it was, is that of the lots up to this one
+    pub whole_best : (i : ℕ) (now : Option (List ℕ)) → length kids ≤ i → IsFirstLeast x (is_seen p l i) now → IsFirstLeast x (is_counted_through x l) now
+    whole_best i now count h = end_best x law l part i now count h
 
     -- what counts for the lot and what is in it are the designs of the lots up to it
     through-seen : (d : List ℕ) → is_counted_through x l d ≡ (is_tree_design (tree_of p) d && (is_of_earlier_lot p.dimensions l d || is_in_a_job p.dimensions (lot_of p.dimensions l) d))
@@ -253,7 +260,10 @@ module _ (question : Question) (valid : IsValid question) (l : List ℕ) (lot : 
 
     -- the best of the lots before, joined with those of the ends, is that of the lots up to this one
     pub through_best : (ends : List JobEnd) → total ends ≤ limit → AreEnds question limit 0 (map job kids) ends → IsFirstLeast x (is_counted_through x l) (best_in p (best_before p l) ends)
-    through_best ends fits h = best_law 0 0 kids ends (best_before p l) refl (omega arith) kids-canonical (start_best x law l part _ start-is) (omega arith) h
+    through_best ends fits h = 
+        whole_best (length kids) (best_in p (best_before p l) ends) (omega arith)
+        (subst (λ n. IsFirstLeast x (so_far x law l part (take n kids)) (best_in p (best_before p l) ends)) (zero-add (length kids))
+        (best_law 0 0 kids [] ends (best_before p l) (append-nil kids) kids-canonical (start_best x law l part _ start-is) (omega arith) h))
 
     fold-best : (ends : List JobEnd) → total ends ≤ limit → AreEnds question limit 0 (map job kids) ends → best_in p (best_before p l) ends ≡ best_through p l
     unfolding best_through

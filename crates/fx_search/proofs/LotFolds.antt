@@ -1,8 +1,11 @@
 -- What a walk has come by once the ends of a lot's jobs are folded into it.
 use Rattle.std.proofs.Common.{◌≡◌, ℕ, zero, suc, ◌<◌, ◌≤◌, ◌+◌, ◌-◌, ◌||◌, drop, Bool, true, false, List, [], ◌∷◌, ◌++◌, map, length, Option, Some, None, refl, sym, subst, ap, ap₂, ◌∙◌, inl, inr, arith, length-append, append_assoc, append-nil}
-use Rattle.std.specs.List.{list_any, find, AllByRecursion}
+use Rattle.std.specs.List.{list_any, find, flat_map, AllByRecursion}
 use Rattle.std.proofs.lemmas.Bool.{cases_Bool}
+use Rattle.std.proofs.lemmas.Grind.{flat_map-append}
 use Rattle.std.proofs.lemmas.List.{map-append, length-map}
+use Rattle.std.proofs.Math.Nat.{zero-add}
+use Rattle.std.proofs.Math.Seq.{drop-append_seam, drop-nil}
 use Rattle.fx_designs.specs.Galois.{IsField}
 use Rattle.fx_designs.specs.Problems.{Problem}
 use Rattle.fx_designs.specs.Answers.{falling}
@@ -10,7 +13,7 @@ use Rattle.fx_designs.specs.Canonical.{is_canonical}
 use Rattle.fx_designs.specs.Nodes.{Mark}
 use Rattle.fx_designs.specs.Jobs.{nodes_inside, best_before}
 use Rattle.fx_laws.specs.Trees.{tree_of, children_of, is_tree_design}
-use Rattle.fx_laws.specs.Walks.{under, through}
+use Rattle.fx_laws.specs.Walks.{under, subtree, through}
 use Rattle.fx_laws.proofs.Tables.{is_order-field}
 use Rattle.fx_laws.proofs.Through.{through-none, through-left, through-right, find-left, find-right, any-found, any-append}
 use Rattle.fx_jobs.specs.Ranked.{IsFirstLeast, is_counted}
@@ -22,14 +25,15 @@ use Rattle.fx_vectors.specs.declared.question.Question.{Question}
 use Rattle.fx_vectors.specs.Question.{IsValid, problem_of}
 use Rattle.fx_search.specs.Ends.{IsFound, IsSpent, IsCarried}
 use Rattle.fx_search.specs.Folds.{AreEnds, total, joined, found_in, best_in}
-use Rattle.fx_search.specs.LotWalks.{rows_below, jobs_below, below, after, candidates_of, IsSoFar, IsThrough, IsInLot, IsPlaced, IsUnderWay, IsAtLot}
+use Rattle.fx_search.specs.LotWalks.{rows_below, jobs_by, below, after, candidates_of, AreNextRows, IsSoFar, IsThrough, IsInLot, IsUnderWay, IsAtLot}
 use Rattle.fx_search.specs.Searchers.{standing_in}
 use Rattle.fx_search.specs.Standing.{FitsDimensions, kept_rows}
 use Rattle.fx_search.specs.declared.lot_walk.LotWalk.{LotWalk}
 use Rattle.fx_search.specs.declared.job.JobEnd.{JobEnd}
 use Rattle.fx_search.specs.declared.job.JobEnd.TheVariants.{Found, Closed, Spent, Cut}
 use Rattle.fx_search.proofs.Carried.{carries-turn, carries-part}
-use Rattle.fx_search.proofs.Folding.{Law, fold_law, rest_best, each-canonical, find-any}
+use Rattle.fx_search.specs.Pruning.{size_of}
+use Rattle.fx_search.proofs.Folding.{Law, fold_law, next_best, whole_best, each-canonical, find-any}
 use Rattle.fx_search.proofs.Starts.{lot-room, plain_best, plain_known}
 use Rattle.fx_search.proofs.Steps.{through-more}
 
@@ -39,6 +43,11 @@ long-drop [] zero = omega arith
 long-drop [] (suc i) = omega arith
 long-drop (x ∷ xs) zero = omega arith
 long-drop (x ∷ xs) (suc i) = let h = long-drop xs i in omega arith
+
+drop-both : (xs : List ℕ) (i n : ℕ) → drop (i + n) xs ≡ drop n (drop i xs)
+drop-both xs zero n = ap (λ k. drop k xs) (zero-add n)
+drop-both [] (suc i) n = drop-nil (suc i + n) ∙ sym (drop-nil n)
+drop-both (x ∷ xs) (suc i) n = (let z : suc i + n ≡ suc (i + n) = omega arith in ap (λ k. drop k (x ∷ xs)) z ∙ drop-both xs i n)
 
 -- where no item passes a test, none of the first ones does
 none-front : {X : Type 0} (D : X → Bool) (xs ys : List X) → list_any D (xs ++ ys) ≡ false → list_any D xs ≡ false
@@ -111,12 +120,40 @@ module _ (question : Question) (valid : IsValid question) (limit bound : ℕ) (l
             (carries-turn p f some l (p.dimensions.s + p.dimensions.t - length l) limit old earlier new.lot.rows (omega (arith, part)) short there counted),
       )
 
-  module _ (ends : List JobEnd) (are : AreEnds question (limit - length list) 0 (jobs_below p l bound) ends) where
-    abbrev rows : List ℕ
-    rows = rows_below p l bound
+  -- all jobs of the lot are done
+  pub lot-through : rows_below p l bound ≡ [] → IsThrough p limit l list best
+  lot-through nothing = record {
+    done = h.done;
+    whole = h.whole ∙ ap (λ z. h.done ++ (z ++ rest)) (ap (flat_map (λ r. let c = l ++ r ∷ [] in subtree (search_tree p) (size_of p - length c) c)) nothing);
+    none = h.none;
+    marks = h.marks;
+    fits = h.fits;
+    best_is = record {
+      first = λ e.
+          let long : length (children_of (tree_of p) l) ≤ h.count + length (rows_below p l bound) = subst (λ z. length (children_of (tree_of p) l) ≤ h.count + length z) h.left (long-drop (children_of (tree_of p) l) h.count) in
+          whole_best question valid l new.lot e limit h.count best (omega (arith, long, ap length nothing)) (h.best_is.first e);
+    };
+  }
+
+  module _ (rows : List ℕ) (end : ℕ) (next : AreNextRows p l bound rows end) (ends : List JobEnd) (are : AreEnds question (limit - length list) 0 (jobs_by l rows) ends) where
+    -- the candidates in the next jobs
+    abbrev own : List (List ℕ)
+    own = flat_map (λ r. let c = l ++ r ∷ [] in subtree (search_tree p) (size_of p - length c) c) rows
+
+    split : sub ≡ own ++ below p l end
+    split =
+        ap (flat_map (λ r. let c = l ++ r ∷ [] in subtree (search_tree p) (size_of p - length c) c)) (sym next.part)
+        ∙ flat_map-append (λ r. let c = l ++ r ∷ [] in subtree (search_tree p) (size_of p - length c) c) rows (rows_below p l end)
+
+    left-whole : candidates_of p ≡ h.done ++ (own ++ (below p l end ++ rest))
+    left-whole = h.whole ∙ ap (λ z. h.done ++ (z ++ rest)) split ∙ ap (λ z. h.done ++ z) (append_assoc own (below p l end) rest)
 
     can : AllByRecursion (λ r. is_canonical p.dimensions p.requirement (l ++ r ∷ []) ≡ true) rows
-    can = each-canonical (λ r. is_canonical p.dimensions p.requirement (l ++ r ∷ [])) (falling bound)
+    can = each-front rows (rows_below p l end) (subst (AllByRecursion (λ r. is_canonical p.dimensions p.requirement (l ++ r ∷ []) ≡ true)) (sym next.part) (each-canonical (λ r. is_canonical p.dimensions p.requirement (l ++ r ∷ [])) (falling bound)))
+      where
+        each-front : (xs ys : List ℕ) → AllByRecursion (λ r. is_canonical p.dimensions p.requirement (l ++ r ∷ []) ≡ true) (xs ++ ys) → AllByRecursion (λ r. is_canonical p.dimensions p.requirement (l ++ r ∷ []) ≡ true) xs
+        each-front [] ys all = tt
+        each-front (x ∷ xs) ys all = (all.0, each-front xs ys all.1)
 
     law : Law question valid l new.lot (limit - length list) 0 rows ends
     law = fold_law question valid l new.lot (limit - length list) 0 rows ends can are
@@ -125,49 +162,60 @@ module _ (question : Question) (valid : IsValid question) (limit bound : ℕ) (l
       within : total ends ≤ limit - length list
       within = omega (arith, fits, count, h.fits)
 
-      got : (total ends ≡ length (through D sub)) × (joined ends ≡ map (search_mark p) (through D sub)) × (p.least ≡ false → found_in ends ≡ find D sub)
+      got : (total ends ≡ length (through D own)) × (joined ends ≡ map (search_mark p) (through D own)) × (p.least ≡ false → found_in ends ≡ find D own)
       got = law.gives (omega (arith, within))
 
-      all-marks : now ≡ map (search_mark p) (h.done ++ through D sub)
-      all-marks = more ∙ ap₂ (λ a b. a ++ b) h.marks got.1 ∙ sym (map-append (search_mark p) h.done (through D sub))
+      all-marks : now ≡ map (search_mark p) (h.done ++ through D own)
+      all-marks = more ∙ ap₂ (λ a b. a ++ b) h.marks got.1 ∙ sym (map-append (search_mark p) h.done (through D own))
 
       -- no job has a design, or a least pattern is asked
-      pub fold-closed : found_in ends ≡ None → IsThrough p limit l now (best_in p best ends)
+      pub fold-closed : found_in ends ≡ None → (so : IsSoFar p limit l end now (best_in p best ends)) × IsInLot p l end so.done earlier
       fold-closed none =
-          let nothing : list_any D sub ≡ false = elim (cases_Bool p.least) [
-            | inl e ↦ any-never D (λ d. no-design p e d) sub
-            | inr e ↦ find-any D sub (sym (got.2 e) ∙ none)
+          let nothing : list_any D own ≡ false = elim (cases_Bool p.least) [
+            | inl e ↦ any-never D (λ d. no-design p e d) own
+            | inr e ↦ find-any D own (sym (got.2 e) ∙ none)
           ] in
-          let all : through D sub ≡ sub = through-none D sub nothing in
-          record {
-            done = h.done ++ sub;
-            whole = h.whole ∙ sym (append_assoc h.done sub rest);
-            none = any-append D h.done sub h.none nothing;
-            marks = all-marks ∙ ap (λ z. map (search_mark p) (h.done ++ z)) all;
-            fits = fits;
-            best_is = record {
-              first = λ e.
-                  let long : length (children_of (tree_of p) l) ≤ h.count + length rows = subst (λ z. length (children_of (tree_of p) l) ≤ h.count + length z) h.left (long-drop (children_of (tree_of p) l) h.count) in
-                  rest_best question valid l new.lot e (limit - length list) h.count rows ends best (sym h.left) long can (h.best_is.first e) within are;
-            };
-          }
+          let all : through D own ≡ own = through-none D own nothing in
+          let left : rows ++ rows_below p l end ≡ drop h.count (children_of (search_tree p) l) = next.part ∙ sym h.left in (
+            record {
+              done = h.done ++ own;
+              whole = left-whole ∙ sym (append_assoc h.done own (below p l end ++ rest));
+              none = any-append D h.done own h.none nothing;
+              marks = all-marks ∙ ap (λ z. map (search_mark p) (h.done ++ z)) all;
+              fits = fits;
+              count = h.count + length rows;
+              left = drop-both (children_of (search_tree p) l) h.count (length rows) ∙ ap (drop (length rows)) (sym left) ∙ drop-append_seam rows (rows_below p l end);
+              best_is = record {
+                first = λ e. next_best question valid l new.lot e (limit - length list) h.count rows (rows_below p l end) ends best left can (h.best_is.first e) within are;
+              };
+            },
+            record {
+              lot = new.lot;
+              before = new.before;
+              inside = new.inside ++ own;
+              done_are = ap (λ z. z ++ own) new.done_are ∙ append_assoc new.before new.inside own;
+              all = new.all ∙ ap (λ z. new.inside ++ z) split ∙ sym (append_assoc new.inside own (below p l end));
+              best_is = new.best_is;
+            },
+          )
 
       -- a job has the first design
       pub fold-found : (design : List ℕ) → p.least ≡ false → found_in ends ≡ Some design → IsFound (search_tree p) (search_mark p) limit (candidates_of p) [] now design
       fold-found design plain is =
-          let first : find D sub ≡ Some design = sym (got.2 plain) ∙ is in
-          let any : list_any D sub ≡ true = any-found D sub design first in
+          let first : find D own ≡ Some design = sym (got.2 plain) ∙ is in
+          let any : list_any D own ≡ true = any-found D own design first in
           record {
-            first = ap (find D) h.whole ∙ find-right D h.done (sub ++ rest) h.none ∙ find-left D sub rest design first;
-            marks = all-marks ∙ ap (map (search_mark p)) (sym (cut ∙ ap (λ z. h.done ++ z) (through-left D sub rest any)));
+            first = ap (find D) left-whole ∙ find-right D h.done (own ++ (below p l end ++ rest)) h.none ∙ find-left D own (below p l end ++ rest) design first;
+            marks = all-marks ∙ ap (map (search_mark p)) (sym (ap (through D) left-whole ∙ through-right D h.done (own ++ (below p l end ++ rest)) h.none ∙ ap (λ z. h.done ++ z) (through-left D own (below p l end ++ rest) any)));
             fits = fits;
           }
 
     -- the limit ends the search in the lot
     pub fold-spent : limit < length list + total ends → IsSpent (search_tree p) limit (candidates_of p) [] × IsCarried p [] limit (candidates_of p) [] earlier
     fold-spent past =
-        let over : limit - length list < 0 + length (through D sub) = law.up (omega (arith, past, h.fits)) in
-        spent-in-lot (omega (arith, over, h.fits))
+        let over : limit - length list < 0 + length (through D own) = law.up (omega (arith, past, h.fits)) in
+        let more = through-more D own (below p l end) in
+        spent-in-lot (omega (arith, over, h.fits, more, ap (λ z. length (through D z)) split))
 
 -- an end that is Found is one where no least pattern is asked
 pub found-plain : (question : Question) (limit e : ℕ) (jobs : List (List ℕ)) (ends : List JobEnd) (rows : List ℕ) → AreEnds question limit e jobs ends → found_in ends ≡ Some rows → question.least ≡ false
@@ -179,26 +227,33 @@ found-plain question limit e (job ∷ jobs) (Found matrix n ms ∷ ends) rows h 
 found-plain question limit e (job ∷ jobs) (Spent n ∷ ends) rows h is = absurd (cc is)
 found-plain question limit e (job ∷ jobs) (Cut ∷ ends) rows h is = absurd h
 
--- a walk with other marks and another best is at the same prefix
-pub placed-still : (w v : LotWalk) → v ≡ record w { marks = v.marks; incumbent = v.incumbent } → standing_in v.incumbent ≡ record (standing_in w.incumbent) { best = (standing_in v.incumbent).best } → IsPlaced w → IsPlaced v
-placed-still w v same standing h =
-    subst IsPlaced (sym same)
+-- a walk that has folded in the ends of the next jobs of its lot is at the lot, past these jobs
+pub past-jobs : (w v : LotWalk) (end : ℕ) → v ≡ record w { marks = v.marks; incumbent = v.incumbent } → standing_in v.incumbent ≡ record (standing_in w.incumbent) { best = (standing_in v.incumbent).best } → IsAtLot w → end ≤ w.bound
+    → (so : IsSoFar (problem_of w.question.now) w.limit w.prefix.rows end v.marks (standing_in v.incumbent).best) → IsInLot (problem_of w.question.now) w.prefix.rows end so.done (kept_rows w.earlier) → IsAtLot (record v { bound = end })
+past-jobs w v end same standing h low so new =
+    subst (λ (z : LotWalk). IsAtLot (record z { bound = end })) (sym same)
     (record {
-      valid = h.valid;
-      limit = h.limit;
-      jobs = h.jobs;
-      candidates = h.candidates;
-      shape = h.shape;
-      at = record {
-        pruner_problem = h.at.pruner_problem;
-        pruner_rows = h.at.pruner_rows;
-        incumbent_problem = ap (λ s. s.problem) standing ∙ h.at.incumbent_problem;
-        incumbent_rows = ap (λ s. s.prefix) standing ∙ h.at.incumbent_rows;
+      placed = record {
+        valid = h.placed.valid;
+        limit = h.placed.limit;
+        jobs = h.placed.jobs;
+        candidates = h.placed.candidates;
+        shape = h.placed.shape;
+        at = record {
+          pruner_problem = h.placed.at.pruner_problem;
+          pruner_rows = h.placed.at.pruner_rows;
+          incumbent_problem = ap (λ s. s.problem) standing ∙ h.placed.at.incumbent_problem;
+          incumbent_rows = ap (λ s. s.prefix) standing ∙ h.placed.at.incumbent_rows;
+        };
+        few = h.placed.few;
+        canonical = h.placed.canonical;
+        open_ = h.placed.open_;
+        bound = omega (arith, low, h.placed.bound);
       };
-      few = h.few;
-      canonical = h.canonical;
-      open_ = h.open_;
-      bound = h.bound;
+      so_far = so;
+      rows = h.rows;
+      in_lot = new;
+      sized = h.sized;
     })
 
 -- at a new lot the best so far is that of the lots before it

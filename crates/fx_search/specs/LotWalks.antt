@@ -42,9 +42,14 @@ pub record IsNextRow (p : Problem) (rows : List ℕ) (bound row : ℕ) : Type 0 
   pub canonical : (search_tree p).canonical (rows ++ row ∷ []) ≡ true
   pub greatest : (r : ℕ) → row < r → r < bound → (search_tree p).canonical (rows ++ r ∷ []) ≡ false
 
--- the jobs of a lot by such rows, in order
-abbrev pub jobs_below : Problem → List ℕ → ℕ → List (List ℕ)
-jobs_below p rows bound = map (λ r. rows ++ r ∷ []) (rows_below p rows bound)
+-- the jobs of a lot by some rows, in order
+abbrev pub jobs_by : List ℕ → List ℕ → List (List ℕ)
+jobs_by lot rows = map (λ r. lot ++ r ∷ []) rows
+
+-- the first of the rows below a bound that extend a prefix: those from `end` on
+pub record AreNextRows (p : Problem) (rows : List ℕ) (bound : ℕ) (next : List ℕ) (end : ℕ) : Type 0 where
+  pub part : next ++ rows_below p rows end ≡ rows_below p rows bound
+  pub low : end ≤ bound
 
 -- the candidates from the children by such rows on
 abbrev pub below : Problem → List ℕ → ℕ → List (List ℕ)

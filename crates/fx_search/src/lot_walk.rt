@@ -11,7 +11,7 @@ ghost use Rattle.fx_search.specs.Standing.{StandAt, HasDimensions, FitsDimension
 ghost use Rattle.fx_search.specs.Ends.{IsFound, IsClosed, IsSpent, IsCarried};
 ghost use Rattle.fx_search.specs.Folds.{AreEnds};
 ghost use Rattle.fx_search.specs.Searchers.{standing_in};
-ghost use Rattle.fx_search.specs.LotWalks.{rows_below, jobs_below, IsWorked, IsNoneBelow, IsNextRow, IsPlaced, WalkIsSoFar, WalkIsThrough, IsOneNodeOn, IsAtLot, IsBetween, IsRight, IsStep, IsFolded, IsOfLot, AreSized, AreAddable, IsAdded, candidates_of};
+ghost use Rattle.fx_search.specs.LotWalks.{rows_below, jobs_by, AreNextRows, IsWorked, IsNoneBelow, IsNextRow, IsPlaced, WalkIsSoFar, WalkIsThrough, IsOneNodeOn, IsAtLot, IsBetween, IsRight, IsStep, IsOfLot, AreSized, AreAddable, IsAdded, candidates_of};
 
 use crate::asking::{Asked, closed, kept};
 use crate::barred::Barred;
@@ -54,6 +54,14 @@ pub enum Step {
     Lot,
     /// It is done.
     Done(Asked),
+}
+
+/// The next jobs of a lot: the rows by which it is extended to them, in falling order, which are those
+/// from `end` on that are left.
+#[derive(Drop)]
+pub struct NextJobs {
+    pub rows: Points,
+    pub end: u16,
 }
 
 /// What the ends of a lot's jobs come to.
@@ -147,25 +155,34 @@ impl<'a> LotWalk<'a> {
         matrix_of(&self.earlier)
     }
 
-    /// The rows by which the lot is extended to the jobs that are left, in falling order.
+    /// The next jobs of the lot, at most so many, and at least one where one is left.
     ///
     /// # Errors
     ///
     /// `NoMemory`.
-    pub fn rows(&self) -> Result<Points, NoMemory>
-        requires { IsAtLot self.now }
-        ensures { IfOk result (λ points.
-            points ≡ rows_below (problem_of self.now.question.now) self.now.prefix.rows self.now.bound) }
+    pub fn next_jobs(&self, most: usize) -> Result<NextJobs, NoMemory>
+        requires at { IsAtLot self.now }
+        requires some { 0 < most }
+        ensures next { IfOk result (λ jobs.
+            AreNextRows (problem_of self.now.question.now) self.now.prefix.rows self.now.bound jobs.rows jobs.end) }
+        ensures some { IfOk result (λ jobs.
+            jobs.rows ≡ [] → rows_below (problem_of self.now.question.now) self.now.prefix.rows self.now.bound ≡ []) }
     {
         let front = front_of(self.question, self.candidates, &self.prefix);
         let first = self.candidates.first_row(self.question, front);
-        let mut points = Points::new(self.alloc);
+        let mut rows = Points::new(self.alloc);
         for row in (first..self.bound).rev() {
+            if rows.len() == most {
+                return Ok(NextJobs { rows, end: row + 1 });
+            }
             if self.candidates.may_follow(self.question, front, row) {
-                points.push(row)?;
+                rows.push(row)?;
             }
         }
-        Ok(points)
+        Ok(NextJobs {
+            rows,
+            end: first.min(self.bound),
+        })
     }
 
     /// Goes on to the next lot that is a branch, and marks the nodes on the way.
@@ -227,26 +244,28 @@ impl<'a> LotWalk<'a> {
         Ok(None)
     }
 
-    /// Takes in the ends of the jobs that are left of the lot that the walk is at, in order up to the first that is
+    /// Takes in the ends of the next jobs of the lot that the walk is at, in order up to the first that is
     /// `Found` or `Spent`, each under a limit between what the jobs before it leave of the budget and
-    /// what the walk has left of it. Then it is past the lot, or done.
+    /// what the walk has left of it. Then it is past these jobs, or done.
     ///
     /// # Errors
     ///
     /// `NoMemory`.
-    pub fn fold(&mut self, ends: Items<JobEnd>) -> Result<Option<Asked>, NoMemory>
+    pub fn fold(&mut self, jobs: &NextJobs, ends: Items<JobEnd>) -> Result<Option<Asked>, NoMemory>
         requires at { IsAtLot self.old }
-        requires ends { let p = problem_of self.old.question.now in
-            AreEnds self.old.question.now (self.old.limit - length self.old.marks) 0 (jobs_below p self.old.prefix.rows self.old.bound) ends }
+        requires next { AreNextRows (problem_of self.old.question.now) self.old.prefix.rows self.old.bound jobs.now.rows jobs.now.end }
+        requires ends { AreEnds self.old.question.now (self.old.limit - length self.old.marks) 0
+            (jobs_by self.old.prefix.rows jobs.now.rows) ends }
         requires sized { AreSized self.old.question.now ends }
         ensures question { self.new.question ≡ self.old.question }
         ensures limit { self.new.limit ≡ self.old.limit }
-        ensures folded { IfOk result (IsFolded self.old.question.now self.old.limit (length self.old.marks) self.new) }
+        ensures bound { IfOk result (λ asked. IfNone asked (self.new.bound ≡ jobs.now.end)) }
+        ensures worked { IfOk result (IsWorked self.old.question.now self.old.limit (length self.old.marks) self.new) }
     {
         let best = self.best();
         match self.add_all(ends)? {
             Added::AllClosed => {
-                self.leave();
+                self.bound = jobs.end;
                 Ok(None)
             }
             Added::Design(matrix) => Ok(Some(self.found(matrix))),
@@ -254,6 +273,18 @@ impl<'a> LotWalk<'a> {
                 best: kept(self.question, best),
             })),
         }
+    }
+
+    /// Goes past the lot that the walk is at, of which no job is left.
+    pub fn leave_lot(&mut self)
+        requires at { IsAtLot self.old }
+        requires none { rows_below (problem_of self.old.question.now) self.old.prefix.rows self.old.bound ≡ [] }
+        ensures question { self.new.question ≡ self.old.question }
+        ensures limit { self.new.limit ≡ self.old.limit }
+        ensures marks { self.new.marks ≡ self.old.marks }
+        ensures between { IsBetween self.new }
+    {
+        self.leave();
     }
 
     /// The greatest row below the bound by which the prefix, which makes this front, has a child.

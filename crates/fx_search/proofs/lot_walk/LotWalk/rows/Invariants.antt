@@ -1,9 +1,0 @@
-use Rattle.std.proofs.Common.{◌≡◌, ◌++◌}
-use Rattle.fx_vectors.specs.Question.{problem_of}
-use Rattle.fx_search.specs.LotWalks.{rows_below}
-use Rattle.fx_search.proofs.lot_walk.LotWalk.rows.Given as goal
-
-abbrev pub invariant-loop-row : goal.invariant-loop-row
-invariant-loop-row l =
-    l.points ++ rows_below (problem_of l.self.question.now) l.self.prefix.rows l.row
-    ≡ rows_below (problem_of l.self.question.now) l.self.prefix.rows l.self.bound
