@@ -2,7 +2,7 @@
 use Rattle.std.proofs.Common.{◌≡◌, ℕ, zero, suc, ◌<◌, ◌≤◌, ◌+◌, ◌^◌, Bool, true, false, List, [], ◌∷◌, ◌++◌, map, length, get_or, slice_index, refl, sym, subst, ap, ◌∙◌, inl, inr, ⊎_elim, arith, length-append, append_assoc, take_all, cond, Ok, Err}
 use Rattle.std.specs.Prelude.{IfOk, Result, Option}
 use Rattle.std.specs.List.{AllByRecursion, filter}
-use Rattle.std.proofs.lemmas.Bool.{cases_Bool, cond-true, cond-false}
+use Rattle.std.proofs.lemmas.Bool.{cases_Bool, cases_lt, cond-true, cond-false}
 use Rattle.std.proofs.lemmas.List.{take-append-le}
 use Rattle.fx_designs.specs.Galois.{IsField}
 use Rattle.fx_designs.specs.Problems.{Problem}
@@ -18,7 +18,7 @@ use Rattle.fx_vectors.specs.declared.question.Question.{Question}
 use Rattle.fx_vectors.specs.Question.{IsValid, problem_of}
 use Rattle.fx_search.specs.Folds.{IsLot, IsEndUnder, AreEnds}
 use Rattle.fx_search.specs.JobEnds.{IsJobEnd, IsSized}
-use Rattle.fx_search.specs.LotWalks.{AreSized, IsAtLot, rows_below}
+use Rattle.fx_search.specs.LotWalks.{AreNextRows, AreSized, IsAtLot, rows_below}
 use Rattle.fx_search.specs.Searchers.{IsAt, IsReadyAfter}
 use Rattle.fx_search.specs.Standing.{kept_rows, rows_of, HasDimensions}
 use Rattle.fx_search.specs.declared.lot_walk.LotWalk.{LotWalk}
@@ -101,12 +101,35 @@ ready-after (Found matrix count list) R ready e = absurd (cc e)
 ready-after (Spent count) R ready e = absurd (cc e)
 ready-after Cut R ready e = absurd (cc e)
 
--- the rows below a bound that extend a lot
-pub rows-are : (question : Question) (valid : IsValid question) (l : List ℕ) (bound : ℕ) → bound ≤ question.shape.q ^ question.shape.m → AreRowsOf question l (rows_below (problem_of question) l bound)
-rows-are question valid l bound most = record {
-  few = let h = few-left (λ r. is_canonical (problem_of question).dimensions (problem_of question).requirement (l ++ r ∷ [])) bound in omega (arith, h, most, valid.shaped.runs);
-  canonical = at-kept (λ r. is_canonical (problem_of question).dimensions (problem_of question).requirement (l ++ r ∷ [])) (falling bound);
-}
+-- the next rows that extend a lot
+pub next-are : (question : Question) (valid : IsValid question) (l : List ℕ) (bound : ℕ) (rows : List ℕ) (end : ℕ) → AreNextRows (problem_of question) l bound rows end → bound ≤ question.shape.q ^ question.shape.m → AreRowsOf question l rows
+next-are question valid l bound rows end next most =
+    let p : Problem = problem_of question in
+    let all = subst (AllByRecursion (λ r. is_canonical p.dimensions p.requirement (l ++ r ∷ []) ≡ true)) (sym next.part) (at-kept (λ r. is_canonical p.dimensions p.requirement (l ++ r ∷ [])) (falling bound)) in
+    let long = ap length next.part in
+    let both = length-append rows (rows_below p l end) in
+    let few = few-left (λ r. is_canonical p.dimensions p.requirement (l ++ r ∷ [])) bound in
+    record {
+      few = omega (arith, few, long, both, most, valid.shaped.runs);
+      canonical = each-front (λ r. is_canonical p.dimensions p.requirement (l ++ r ∷ []) ≡ true) rows (rows_below p l end) all;
+    }
+  where
+    each-front : (P : ℕ → Type 0) (xs ys : List ℕ) → AllByRecursion P (xs ++ ys) → AllByRecursion P xs
+    each-front P [] ys all = tt
+    each-front P (x ∷ xs) ys all = (all.0, each-front P xs ys all.1)
+
+-- some next rows reach below the bound
+pub further : (p : Problem) (l : List ℕ) (bound : ℕ) (rows : List ℕ) (end : ℕ) → AreNextRows p l bound rows end → 0 < length rows → end < bound
+further p l bound rows end next some = elim (cases_lt end bound) [
+  | inl low ↦ low
+  | inr high ↦
+      let low = next.low in
+      let same : end ≡ bound = omega arith in
+      let long = ap length next.part in
+      let both = length-append rows (rows_below p l end) in
+      let left = ap (λ n. length (rows_below p l n)) same in
+      absurd (omega arith)
+]
 
 module _ (question : Question) (valid : IsValid question) (l : List ℕ) (lot : IsLot (problem_of question) l) (kids : List ℕ) (are : AreRowsOf question l kids) where
   abbrev p : Problem

@@ -1,6 +1,6 @@
 -- The jobs of a lot of a question, which searchers work off.
 use Rattle.std.specs.List.{AllByRecursion}
-use Rattle.std.specs.Prelude.{◌≡◌, ℕ, ◌≤◌, ◌⊎◌, false, true, map, List, [], ◌∷◌, ◌++◌, length, slice_index, Option}
+use Rattle.std.specs.Prelude.{◌≡◌, ℕ, ◌≤◌, ◌⊎◌, false, true, List, [], ◌∷◌, ◌++◌, length, slice_index, Option}
 use Rattle.std.proofs.Common.{sym, subst, ◌∙◌}
 use Rattle.fx_designs.specs.Jobs.{nodes_inside, best_before}
 use Rattle.fx_designs.specs.Canonical.{is_canonical}
@@ -40,10 +40,6 @@ CanEnter question lot s = IsAtStart question s ⊎ IsAt question lot (best_befor
 pub record AreRowsOf (question : Question) (lot : List ℕ) (rows : List ℕ) : Type 0 where
   pub few : length rows ≤ 1024
   pub canonical : AllByRecursion (λ r. is_canonical (problem_of question).dimensions (problem_of question).requirement (lot ++ r ∷ []) ≡ true) rows
-
--- the jobs by such rows, in order
-abbrev pub jobs_by : List ℕ → List ℕ → List (List ℕ)
-jobs_by lot rows = map (λ r. lot ++ r ∷ []) rows
 
 -- a searcher that can work off the jobs of the lot, which these rows extend
 pub record IsReadyFor (question : Question) (lot : MatrixView) (rows : List ℕ) (best : Option MatrixView) (s : Searcher) : Type 0 where

@@ -1,7 +1,7 @@
-ghost use Rattle.std.specs.Prelude.{◌≡◌, ◌<◌, ◌≤◌, ◌+◌, true, length, IfOk};
+ghost use Rattle.std.specs.Prelude.{◌≡◌, ◌<◌, ◌≤◌, ◌+◌, true, length, IfOk, IfNone};
 ghost use Rattle.fx_vectors.specs.Question.{IsValid, problem_of};
 ghost use Rattle.fx_search.specs.Asked.{IsAnswer, IsNoneAtAll};
-ghost use Rattle.fx_search.specs.LotWalks.{IsAtLot, IsBetween, IsFolded};
+ghost use Rattle.fx_search.specs.LotWalks.{AreNextRows, IsAtLot, IsBetween, IsFolded, IsWorked};
 ghost use Rattle.fx_search.specs.Searchers.{IsAtStart};
 ghost use Rattle.fx_board.specs.Lots.{CanEnter};
 ghost use Rattle.fx_board.specs.Sharing.{AreReady, AllAreClosed};
@@ -12,21 +12,25 @@ use crate::sharing::Worked;
 use crate::worker::closed_nodes;
 use fx_base::{Items, NoMemory};
 use fx_demands::pair_count;
-use fx_search::{Asked, JobEnd, LotWalk, Searcher, Step, ask_alone};
+use fx_search::{Asked, JobEnd, LotWalk, NextJobs, Searcher, Step, ask_alone};
 use fx_tree::Candidates;
 use fx_vectors::{Demands, Matrix, Question};
 use std::alloc::Global;
 use std::thread::Threads;
 
-/// In the time of so many nodes threads are started and joined some ten times over. A lot whose jobs are one
-/// node each has fewer.
+/// In the time of so many nodes threads are started and joined some ten times over.
 const FEW: u64 = 4_096;
+
+/// So many jobs of a lot at most are shared at once, before it is known how many nodes they have. A job that
+/// is shared costs some nodes more than one that is walked alone, so that many small ones together cost more
+/// than starting the threads.
+const JOBS: usize = 128;
 
 /// In the time of so many nodes all workers list a pair, some times over.
 const PAIR: u64 = 64;
 
-/// How many nodes of a lot the caller's thread walks alone, before the jobs that are left are shared out:
-/// of the first lot, and of each later one, where the lot before had fewer than so many.
+/// How many nodes of a lot the caller's thread walks alone, before the next jobs are shared out: of the first
+/// lot, and wherever the lot before, or the jobs that were shared last, had fewer than `later` nodes.
 #[derive(Clone, Copy)]
 pub struct Alone {
     pub first: u64,
@@ -147,7 +151,7 @@ fn walk_on<'a, R: Threads + Sync, G: Gate>(
     ensures none_at_all { IfOk result (IsNoneAtAll question.now) }
 {
     let mut workers = Vec::new(alloc);
-    let mut nodes = alone.first;
+    let mut alone = alone;
     loop {
         match walk.next()? {
             Step::Done(asked) => return Ok(asked),
@@ -157,17 +161,17 @@ fn walk_on<'a, R: Threads + Sync, G: Gate>(
         let LotDone {
             asked,
             workers: staff,
-        } = work_off(rt, alloc, question, walk, workers, threads, nodes, gate)?;
+        } = work_off(rt, alloc, question, walk, workers, threads, alone, gate)?;
         match asked {
             Some(asked) => return Ok(asked),
             None => {}
         }
         workers = staff;
-        nodes = alone_after(walk.nodes().saturating_sub(before), alone.later);
+        alone.first = alone_after(walk.nodes().saturating_sub(before), alone.later);
     }
 }
 
-/// How many nodes of the next lot are walked alone, after a lot of so many.
+/// How many nodes are walked alone next, after a lot or shared jobs of so many.
 fn alone_after(nodes: u64, few: u64) -> u64 {
     if nodes < few { few } else { 0 }
 }
@@ -179,8 +183,8 @@ struct LotDone<'a> {
     workers: Vec<Searcher<'a>>,
 }
 
-/// Works off the lot that the walk is at: `alone` nodes of it by the caller's thread alone, then the jobs
-/// that are left by as many threads as there are of them, at most `threads`.
+/// Works off the lot that the walk is at: by turns nodes of it by the caller's thread alone, at first so many,
+/// and its next jobs by as many threads as there are of them, at most `threads`.
 fn work_off<'a, R: Threads + Sync, G: Gate>(
     rt: &R,
     alloc: Global,
@@ -188,7 +192,7 @@ fn work_off<'a, R: Threads + Sync, G: Gate>(
     walk: &mut LotWalk<'a>,
     workers: Vec<Searcher<'a>>,
     threads: u8,
-    alone: u64,
+    alone: Alone,
     gate: &G,
 ) -> Result<LotDone<'a>, NoMemory>
     requires question { walk.old.question.now ≡ question.now }
@@ -202,42 +206,59 @@ fn work_off<'a, R: Threads + Sync, G: Gate>(
     ensures workers { IfOk result (λ done. length done.workers.items ≤ 64) }
     ensures start { IfOk result (λ done. AreReady (IsAtStart question.now) done.workers.items) }
 {
-    match walk.work(alone)? {
-        Some(asked) => Ok(LotDone {
-            asked: Some(asked),
-            workers,
-        }),
-        None => share_rest(rt, alloc, question, walk, workers, threads, gate),
+    let mut workers = workers;
+    let mut nodes = alone.first;
+    loop {
+        match walk.work(nodes)? {
+            Some(asked) => return Ok(LotDone { asked: Some(asked), workers }),
+            None => {}
+        }
+        let jobs = walk.next_jobs(JOBS)?;
+        if jobs.rows.is_empty() {
+            walk.leave_lot();
+            return Ok(LotDone { asked: None, workers });
+        }
+        let before = walk.nodes();
+        let LotDone {
+            asked,
+            workers: staff,
+        } = share_jobs(rt, alloc, question, walk, &jobs, workers, threads, gate)?;
+        workers = staff;
+        match asked {
+            Some(asked) => return Ok(LotDone { asked: Some(asked), workers }),
+            None => {}
+        }
+        nodes = alone_after(walk.nodes().saturating_sub(before), alone.later);
     }
 }
 
-/// Works off the jobs that are left of the lot that the walk is at, by as many threads as there are of
-/// them, at most `threads`, and folds their ends into it.
-fn share_rest<'a, R: Threads + Sync, G: Gate>(
+/// Works off the next jobs of the lot that the walk is at, by as many threads as there are of them, at most
+/// `threads`, and folds their ends into it.
+fn share_jobs<'a, R: Threads + Sync, G: Gate>(
     rt: &R,
     alloc: Global,
     question: &'a Question,
     walk: &mut LotWalk<'a>,
+    jobs: &NextJobs,
     workers: Vec<Searcher<'a>>,
     threads: u8,
     gate: &G,
 ) -> Result<LotDone<'a>, NoMemory>
     requires question { walk.old.question.now ≡ question.now }
     requires at { IsAtLot walk.old }
+    requires next { AreNextRows (problem_of walk.old.question.now) walk.old.prefix.rows walk.old.bound jobs.now.rows jobs.now.end }
+    requires some { 0 < length jobs.now.rows }
     requires workers { length workers.items ≤ 64 }
     requires start { AreReady (IsAtStart question.now) workers.items }
     requires threads { (0 < threads) × (threads ≤ 64) }
     ensures question { walk.new.question ≡ walk.old.question }
     ensures limit { walk.new.limit ≡ walk.old.limit }
-    ensures folded { IfOk result (λ done. IsFolded question.now walk.old.limit (length walk.old.marks) walk.new done.asked) }
+    ensures bound { IfOk result (λ done. IfNone done.asked (walk.new.bound ≡ jobs.now.end)) }
+    ensures worked { IfOk result (λ done. IsWorked question.now walk.old.limit (length walk.old.marks) walk.new done.asked) }
     ensures workers { IfOk result (λ done. length done.workers.items ≤ 64) }
     ensures start { IfOk result (λ done. AreReady (IsAtStart question.now) done.workers.items) }
 {
-    let rows = walk.rows()?;
-    if rows.is_empty() {
-        let asked = walk.fold(Items::new(alloc))?;
-        return Ok(LotDone { asked, workers });
-    }
+    let rows = &jobs.rows;
     let best = walk.best();
     let wanted = usize::from(threads).min(rows.len());
     let workers = staffed(alloc, question, walk.candidates(), workers, wanted)?;
@@ -247,14 +268,14 @@ fn share_rest<'a, R: Threads + Sync, G: Gate>(
         alloc,
         question,
         walk.lot(),
-        &rows,
+        rows,
         best.as_ref(),
         workers,
         left,
         gate,
     )?;
     let workers = back_at_start(alloc, question, walk.lot(), &ends, workers)?;
-    let asked = walk.fold(ends)?;
+    let asked = walk.fold(jobs, ends)?;
     Ok(LotDone { asked, workers })
 }
 

@@ -227,6 +227,7 @@ impl<'a> LotWalk<'a> {
         requires { IsAtLot self.old }
         ensures question { self.new.question ≡ self.old.question }
         ensures limit { self.new.limit ≡ self.old.limit }
+        ensures bound { IfOk result (λ asked. IfNone asked (self.new.bound ≤ self.old.bound)) }
         ensures worked { IfOk result (IsWorked self.old.question.now self.old.limit (length self.old.marks) self.new) }
     {
         let begun = self.nodes();
