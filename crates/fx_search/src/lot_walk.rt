@@ -454,7 +454,7 @@ impl<'a> LotWalk<'a> {
                 if self.limit - self.marks.len() < marks.len() {
                     return Ok(Added::TooMany);
                 }
-                append(&mut self.marks, &marks)?;
+                self.marks.append(&marks)?;
                 join_best(&mut self.incumbent, best, self.prefix.len());
                 Ok(Added::AllClosed)
             }
@@ -462,7 +462,7 @@ impl<'a> LotWalk<'a> {
                 if self.limit - self.marks.len() < marks.len() {
                     return Ok(Added::TooMany);
                 }
-                append(&mut self.marks, &marks)?;
+                self.marks.append(&marks)?;
                 Ok(Added::Design(matrix))
             }
             JobEnd::Spent { .. } => Ok(Added::TooMany),
@@ -480,16 +480,6 @@ fn matrix_of(best: &Option<Best>) -> Option<Matrix>
         None => None,
         Some(best) => Some(best.matrix()),
     }
-}
-
-/// Adds marks at the end of others.
-fn append(marks: &mut Marks, more: &Marks) -> Result<(), NoMemory>
-    ensures { OnOk result (marks.new ≡ marks.old ++ more.now) }
-{
-    for i in 0..more.len() {
-        marks.push(more.get(i))?;
-    }
-    Ok(())
 }
 
 /// Goes on with this as the best so far, which is none where no least pattern is asked.
