@@ -17,7 +17,6 @@ use crate::asking::{Asked, closed, kept};
 use crate::barred::Barred;
 use crate::best::Best;
 use crate::cutter::NeverCut;
-use crate::front::front_of;
 use crate::incumbent::Incumbent;
 use crate::job::{JobEnd, remember};
 use crate::known::Known;
@@ -91,7 +90,7 @@ impl<'a> LotWalk<'a> {
         let incumbent = Known::of(alloc, question)?;
         let pruner = Barred::of(alloc, question)?;
         let prefix = Matrix::new(question.shape);
-        let bound = candidates.row_bound(question, front_of(question, candidates, &prefix));
+        let bound = candidates.row_bound(question, candidates.front_of(question, &prefix));
         Ok(LotWalk {
             alloc,
             question,
@@ -157,7 +156,7 @@ impl<'a> LotWalk<'a> {
         ensures { IfOk result (λ points.
             points ≡ rows_below (problem_of self.now.question.now) self.now.prefix.rows self.now.bound) }
     {
-        let front = front_of(self.question, self.candidates, &self.prefix);
+        let front = self.candidates.front_of(self.question, &self.prefix);
         let first = self.candidates.first_row(self.question, front);
         let mut points = Points::new(self.alloc);
         for row in (first..self.bound).rev() {
@@ -180,7 +179,7 @@ impl<'a> LotWalk<'a> {
         ensures step { IfOk result (IsStep self.old.question.now self.old.limit (length self.old.marks) self.new) }
     {
         while self.prefix.len() <= usize::from(self.question.shape.m) {
-            let front = front_of(self.question, self.candidates, &self.prefix);
+            let front = self.candidates.front_of(self.question, &self.prefix);
             match self.next_row(front) {
                 Some(row) => {
                     if self.marks.len() == self.limit {
@@ -214,7 +213,7 @@ impl<'a> LotWalk<'a> {
     {
         let begun = self.nodes();
         // It is the same for each job of the lot.
-        let front = front_of(self.question, self.candidates, &self.prefix);
+        let front = self.candidates.front_of(self.question, &self.prefix);
         while self.nodes() - begun < few {
             let Some(row) = self.next_row(front) else {
                 return Ok(None);
@@ -345,7 +344,7 @@ impl<'a> LotWalk<'a> {
         self.pruner.push(row)?;
         self.incumbent.push(row);
         self.prefix.push(row);
-        let front = front_of(self.question, self.candidates, &self.prefix);
+        let front = self.candidates.front_of(self.question, &self.prefix);
         self.bound = self.candidates.row_bound(self.question, front);
         Ok(())
     }
