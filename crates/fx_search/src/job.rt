@@ -15,7 +15,6 @@ ghost use Rattle.fx_search.specs.JobEnds.{IsJobEnd, IsSized, IsBackAt, own_of};
 ghost use Rattle.fx_search.specs.Searchers.{IsAtStart};
 
 use crate::cutter::Cutter;
-use crate::front::front_of;
 use crate::incumbent::Incumbent;
 use crate::pruner::Pruner;
 use crate::searcher::Searcher;
@@ -185,7 +184,7 @@ pub(crate) fn run_job_with<P: Pruner, I: Incumbent, C: Cutter>(
 {
     let mut prefix = without_the_last_row(job);
     let row = job.row(job.len() - 1);
-    let front = front_of(question, candidates, &prefix);
+    let front = candidates.front_of(question, &prefix);
     let mut marks = Marks::new(alloc);
     let end = enter(
         question,

@@ -17,7 +17,6 @@ use crate::asking::{Asked, closed, kept};
 use crate::barred::Barred;
 use crate::best::Best;
 use crate::cutter::NeverCut;
-use crate::front::front_of;
 use crate::incumbent::Incumbent;
 use crate::job::{JobEnd, remember};
 use crate::known::Known;
@@ -99,7 +98,7 @@ impl<'a> LotWalk<'a> {
         let incumbent = Known::of(alloc, question)?;
         let pruner = Barred::of(alloc, question)?;
         let prefix = Matrix::new(question.shape);
-        let bound = candidates.row_bound(question, front_of(question, candidates, &prefix));
+        let bound = candidates.row_bound(question, candidates.front_of(question, &prefix));
         Ok(LotWalk {
             alloc,
             question,
@@ -168,7 +167,7 @@ impl<'a> LotWalk<'a> {
         ensures some { IfOk result (λ jobs.
             jobs.rows ≡ [] → rows_below (problem_of self.now.question.now) self.now.prefix.rows self.now.bound ≡ []) }
     {
-        let front = front_of(self.question, self.candidates, &self.prefix);
+        let front = self.candidates.front_of(self.question, &self.prefix);
         let first = self.candidates.first_row(self.question, front);
         let mut rows = Points::new(self.alloc);
         for row in (first..self.bound).rev() {
@@ -197,7 +196,7 @@ impl<'a> LotWalk<'a> {
         ensures step { IfOk result (IsStep self.old.question.now self.old.limit (length self.old.marks) self.new) }
     {
         while self.prefix.len() <= usize::from(self.question.shape.m) {
-            let front = front_of(self.question, self.candidates, &self.prefix);
+            let front = self.candidates.front_of(self.question, &self.prefix);
             match self.next_row(front) {
                 Some(row) => {
                     if self.marks.len() == self.limit {
@@ -232,7 +231,7 @@ impl<'a> LotWalk<'a> {
     {
         let begun = self.nodes();
         // It is the same for each job of the lot.
-        let front = front_of(self.question, self.candidates, &self.prefix);
+        let front = self.candidates.front_of(self.question, &self.prefix);
         while self.nodes() - begun < few {
             let Some(row) = self.next_row(front) else {
                 return Ok(None);
@@ -374,7 +373,7 @@ impl<'a> LotWalk<'a> {
         self.pruner.push(row)?;
         self.incumbent.push(row);
         self.prefix.push(row);
-        let front = front_of(self.question, self.candidates, &self.prefix);
+        let front = self.candidates.front_of(self.question, &self.prefix);
         self.bound = self.candidates.row_bound(self.question, front);
         Ok(())
     }
@@ -483,7 +482,7 @@ impl<'a> LotWalk<'a> {
                 if self.limit - self.marks.len() < marks.len() {
                     return Ok(Added::TooMany);
                 }
-                append(&mut self.marks, &marks)?;
+                self.marks.append(&marks)?;
                 join_best(&mut self.incumbent, best, self.prefix.len());
                 Ok(Added::AllClosed)
             }
@@ -491,7 +490,7 @@ impl<'a> LotWalk<'a> {
                 if self.limit - self.marks.len() < marks.len() {
                     return Ok(Added::TooMany);
                 }
-                append(&mut self.marks, &marks)?;
+                self.marks.append(&marks)?;
                 Ok(Added::Design(matrix))
             }
             JobEnd::Spent { .. } => Ok(Added::TooMany),
@@ -509,16 +508,6 @@ fn matrix_of(best: &Option<Best>) -> Option<Matrix>
         None => None,
         Some(best) => Some(best.matrix()),
     }
-}
-
-/// Adds marks at the end of others.
-fn append(marks: &mut Marks, more: &Marks) -> Result<(), NoMemory>
-    ensures { OnOk result (marks.new ≡ marks.old ++ more.now) }
-{
-    for i in 0..more.len() {
-        marks.push(more.get(i))?;
-    }
-    Ok(())
 }
 
 /// Goes on with this as the best so far, which is none where no least pattern is asked.

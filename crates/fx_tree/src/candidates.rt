@@ -4,14 +4,14 @@ ghost use Rattle.fx_vectors.specs.Question.{IsValid, requirement_of};
 ghost use Rattle.fx_points.specs.Points.{has};
 ghost use Rattle.fx_designs.specs.Galois.{digits};
 ghost use Rattle.fx_designs.specs.Vectors.{is_normal};
-ghost use Rattle.fx_designs.specs.Canonical.{is_unit};
-ghost use Rattle.fx_tree.specs.Following.{raised, fits, follows, keeps_order, falls_after};
+ghost use Rattle.fx_designs.specs.Canonical.{is_canonical, is_unit};
+ghost use Rattle.fx_tree.specs.Following.{front_of, raised, fits, follows, keeps_order, falls_after};
 ghost use Rattle.fx_tree.specs.Candidates.{AreCandidates};
 
 use crate::following::{can_reach, is_normal, is_unit, power};
 use crate::front::Front;
 use fx_points::PointSet;
-use fx_vectors::{Demands, Question, Shape};
+use fx_vectors::{Demands, Matrix, Question, Shape};
 use std::marker::Model;
 
 /// Which rows are zero or normal, and which are unit vectors, found once for a shape. Clauses see the
@@ -153,6 +153,28 @@ impl Candidates {
             rank: self.rank_after(front.rank, row),
             last: row,
         }
+    }
+
+    /// What of the rows of a canonical prefix decides which rows may follow. A look at each row.
+    pub fn front_of(&self, _question: &Question, prefix: &Matrix) -> Front
+        requires valid { IsValid _question.now }
+        requires shape { self.now ≡ _question.now.shape }
+        requires prefix { prefix.now.shape ≡ _question.now.shape }
+        requires canonical { is_canonical (dimensions_of _question.now.shape)
+            (requirement_of _question.now.demands) prefix.now.rows
+            ≡ true }
+        ensures front { result ≡ front_of (dimensions_of _question.now.shape) prefix.now.rows }
+        ensures rank { result.rank ≤ _question.now.shape.m }
+    {
+        let mut front = Front {
+            count: 0,
+            rank: 0,
+            last: 0,
+        };
+        for i in 0..prefix.len() {
+            front = self.next_front(front, prefix.row(i));
+        }
+        front
     }
 
     /// No row below this number may follow rows of this front.

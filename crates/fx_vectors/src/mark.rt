@@ -105,7 +105,7 @@ impl Marks {
     ///
     /// # Errors
     ///
-    /// `NoMemory`; then some of the first of them may have been added.
+    /// `NoMemory`; then a prefix of them may have been added.
     pub fn append(&mut self, more: &Marks) -> Result<(), NoMemory>
         ensures ok { OnOk result (self.new ≡ self.old ++ more.now) }
         ensures err { OnErr result (HoldsPart self.old self.new more.now) }

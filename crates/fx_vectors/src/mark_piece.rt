@@ -22,7 +22,7 @@ const WORSE: u32 = 1;
 /// The kind of a word without digits.
 const WORD: u32 = 2;
 
-/// A head has the place of its digits from this unit on.
+/// The unit of the place in a head: the row and the kind together are below it.
 const PLACE: u32 = ROWS * KINDS;
 
 /// The base of a word's digits.
@@ -104,7 +104,7 @@ impl MarkPiece {
         }
     }
 
-    /// Adds a mark without digits.
+    /// Adds a mark without digits, of which this is the head at the place 0.
     fn push_head(&mut self, head: u32) -> Result<(), NoMemory>
         requires head { head < 2048 }
         requires room { length self.old < 65536 }
@@ -198,6 +198,7 @@ fn append_moved(heads: &mut Vec<u32>, more: &[u32], from: usize, to: usize) -> R
     Ok(())
 }
 
+/// Moves heads from one place to another, each given as its part of a head.
 fn move_heads(heads: &mut [u32], from: u32, to: u32)
     requires from { All (λ head. from ≤ head) heads.old }
     requires fits { All (λ head. head - from + to < 4294967296) heads.old }
