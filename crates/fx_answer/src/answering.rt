@@ -41,7 +41,7 @@ use std::alloc::Global;
 use std::thread::Threads;
 
 /// What the questions before have come to, which are finished.
-#[derive(Debug, Drop)]
+#[derive(Drop)]
 struct Finished {
     /// The last design that was found.
     found: Option<Matrix>,

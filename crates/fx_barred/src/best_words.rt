@@ -12,7 +12,7 @@ use fx_points::PointSet;
 use fx_vectors::Vector;
 
 /// A word, by its weight and number.
-#[derive(Clone, Copy, Debug, PartialEq, Eq)]
+#[derive(Clone, Copy, PartialEq, Eq)]
 pub struct Best {
     pub weight: usize,
     pub number: u128,

@@ -24,7 +24,7 @@ use std::marker::Model;
 
 /// The rows so far, and for each point that may come next the first forbidden vector that it brings
 /// to zero. Clauses see the rows and the vectors.
-#[derive(Debug, Drop)]
+#[derive(Drop)]
 pub struct FirstWords {
     /// The rows and their multiples. No rows are taken together here.
     reached: Reached,

@@ -1,5 +1,5 @@
 /// Where a file lies in a buffer: its name from `name` to `content`, its bytes from there to `end`.
-#[derive(Debug, Clone, Copy)]
+#[derive(Clone, Copy)]
 pub struct FileBounds {
     pub name: usize,
     pub content: usize,

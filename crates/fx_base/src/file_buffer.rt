@@ -11,7 +11,7 @@ use std::marker::Model;
 pub const FILE_ROOM: usize = 64;
 
 /// Files that lie one after another in one buffer, whose memory is taken when it is made.
-#[derive(Debug, Drop)]
+#[derive(Drop)]
 pub struct FileBuffer {
     bytes: Vec<u8>,
     bounds: Vec<FileBounds>,

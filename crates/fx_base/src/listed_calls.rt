@@ -6,7 +6,7 @@ use crate::values::Bytes;
 use std::marker::Model;
 
 /// The numbers of the calls that are to fail, counted from 1, and a count of the calls made.
-#[derive(Debug, Drop)]
+#[derive(Drop)]
 pub struct ListedCalls {
     failing: Bytes,
     made: u64,

@@ -14,7 +14,7 @@ use std::marker::Model;
 
 /// A shelf in memory that fails exactly at listed calls and where its room is used up. A byte takes
 /// one byte of the room, and a begun file takes 64.
-#[derive(Debug, Drop)]
+#[derive(Drop)]
 pub struct MemoryShelf {
     shelf: SureShelf,
     calls: ListedCalls,

@@ -13,7 +13,7 @@ use std::alloc::Global;
 use std::marker::Model;
 
 /// A sink in memory that fails exactly at listed calls and where its room is used up.
-#[derive(Debug, Drop)]
+#[derive(Drop)]
 pub struct MemorySink {
     sink: SureSink,
     calls: ListedCalls,

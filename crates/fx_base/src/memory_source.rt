@@ -11,7 +11,7 @@ use crate::values::Bytes;
 use std::marker::Model;
 
 /// A source in memory that fails exactly at listed calls.
-#[derive(Debug, Drop)]
+#[derive(Drop)]
 pub struct MemorySource {
     source: SureSource,
     calls: ListedCalls,

@@ -10,7 +10,7 @@ const PIECE: usize = 65536;
 
 /// Values in order, held in pieces that stay where they are: a list of millions grows without being
 /// copied, and never needs twice its memory. Clauses see the list.
-#[derive(Debug, Drop)]
+#[derive(Drop)]
 pub struct Pieces<T> {
     pieces: Vec<Values<T>>,
     len: usize,

@@ -45,7 +45,7 @@ impl From<Failed> for ReadStop {
 }
 
 /// What was read.
-#[derive(Debug, Drop)]
+#[derive(Drop)]
 pub enum Taken {
     /// All bytes that were left.
     Whole(Bytes),

@@ -12,7 +12,7 @@ use std::marker::Model;
 
 /// A shelf in memory that fails exactly where its room is used up. A byte takes one byte of the
 /// room, and a begun file takes 64.
-#[derive(Debug, Drop)]
+#[derive(Drop)]
 pub struct SureShelf {
     buffer: FileBuffer,
     step: usize,

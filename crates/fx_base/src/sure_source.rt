@@ -9,7 +9,7 @@ use crate::values::Bytes;
 use std::marker::Model;
 
 /// A source in memory that never fails.
-#[derive(Debug, Drop)]
+#[derive(Drop)]
 pub struct SureSource {
     content: Bytes,
     at: usize,

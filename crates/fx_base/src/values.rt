@@ -5,7 +5,7 @@ use std::alloc::Global;
 use std::marker::Model;
 
 /// Values in order, which are copied. Clauses see the list.
-#[derive(Debug, Drop)]
+#[derive(Drop)]
 pub struct Values<T> {
     inner: Vec<T>,
 }

@@ -27,7 +27,7 @@ const PAIR: u64 = 64;
 
 /// How many nodes of a lot the caller's thread walks alone, before the jobs that are left are shared out:
 /// of the first lot, and of each later one, where the lot before had fewer than so many.
-#[derive(Clone, Copy, Debug)]
+#[derive(Clone, Copy)]
 pub struct Alone {
     pub first: u64,
     pub later: u64,

@@ -16,7 +16,7 @@ const PLACES: usize = 16381;
 /// The words that a question forbids, with some of those that were found to be. A book names the same
 /// words many times, and for effects each test takes a look at each pair of effects. Clauses see the
 /// question.
-#[derive(Debug, Drop)]
+#[derive(Drop)]
 pub(crate) struct KnownWords {
     forbidden: Forbidden,
     /// The numbers of words that are forbidden, each at its place, and else 0.

@@ -22,7 +22,7 @@ use fx_vectors::{Book, Mark, Matrix, Question};
 use std::alloc::Global;
 
 /// How far the marks of a part go: to the place of the next, or to the first flaw.
-#[derive(Clone, Copy, Debug, PartialEq, Eq)]
+#[derive(Clone, Copy, PartialEq, Eq)]
 pub(crate) enum Step {
     Goes { to: usize },
     Stops { to: usize, reason: Reason },

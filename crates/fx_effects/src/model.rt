@@ -19,7 +19,7 @@ use std::marker::Model;
 
 /// The effects that a MODEL statement asks for, none in both lists. Clauses see the numbers of the
 /// effects.
-#[derive(Debug, Drop)]
+#[derive(Drop)]
 pub struct ModelEffects {
     /// Those to be estimated, in effect order.
     pub estimate: Effects,

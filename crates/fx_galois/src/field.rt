@@ -7,7 +7,7 @@ use std::marker::Model;
 
 /// A field GF(q). Its values are the codes 0 to q-1; for q = 4, 8 and 9 a code represents the
 /// polynomial that has the code's digits in base 2 or 3 as coefficients.
-#[derive(Clone, Copy, Debug, PartialEq, Eq)]
+#[derive(Clone, Copy, PartialEq, Eq)]
 pub struct Field {
     q: u8,
 }

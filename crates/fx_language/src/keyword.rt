@@ -5,7 +5,7 @@ ghost use Rattle.fx_language.specs.Spellings.{row_of};
 use crate::symbol::Symbol;
 
 /// A spelling of a keyword, in small letters.
-#[derive(Clone, Copy, Debug)]
+#[derive(Clone, Copy)]
 pub struct Spelling {
     pub letters: &'static [u8],
     pub symbol: Symbol,

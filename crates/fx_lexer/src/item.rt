@@ -26,7 +26,7 @@ const MOST_WORD_BYTES: usize = 32;
 const MOST_NUMBER_BYTES: usize = 38;
 
 /// What a text begins with: a token, or a byte of white space or a comment, which have no kind.
-#[derive(Clone, Copy, Debug)]
+#[derive(Clone, Copy)]
 pub struct Item {
     pub kind: Option<Kind>,
     pub length: usize,

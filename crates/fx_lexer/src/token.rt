@@ -4,7 +4,7 @@ ghost use Rattle.fx_lexer.specs.declared.token.LexStop.TheVariants as stop;
 use fx_base::{NoMemory, Values};
 
 /// What a token is.
-#[derive(Clone, Copy, Debug, PartialEq, Eq)]
+#[derive(Clone, Copy, PartialEq, Eq)]
 pub enum Kind {
     /// A letter or `_`, then letters, digits and `_`; at most 32 bytes.
     Word,
@@ -19,7 +19,7 @@ pub enum Kind {
 }
 
 /// A token, whose text is `from..upto` of the program text.
-#[derive(Clone, Copy, Debug, PartialEq, Eq)]
+#[derive(Clone, Copy, PartialEq, Eq)]
 pub struct Token {
     pub kind: Kind,
     /// The line of its first byte, from 1.

@@ -47,7 +47,7 @@ impl<'a> OutputContext<'a> {
 }
 
 /// How many blocks a step has.
-#[derive(Clone, Copy, Debug, PartialEq, Eq)]
+#[derive(Clone, Copy, PartialEq, Eq)]
 pub enum BlockCount {
     /// It has no blocks.
     Without,

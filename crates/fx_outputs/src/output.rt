@@ -18,7 +18,7 @@ use fx_text::{Lexeme, Names, ParseStop, Phrase, Statement};
 use std::alloc::Global;
 
 /// A file that a step writes.
-#[derive(Debug, Drop)]
+#[derive(Drop)]
 pub struct OutputSpec {
     /// The OUT name, as it is written.
     pub name: Bytes,

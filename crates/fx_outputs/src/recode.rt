@@ -11,7 +11,7 @@ use fx_text::{Lexeme, Names, ParseStop, Phrase, Refusal, place_of};
 use std::alloc::Global;
 
 /// A factor that has values of its own.
-#[derive(Debug, Drop)]
+#[derive(Drop)]
 pub struct Recode {
     /// Its place among the step's factors, from 1.
     pub place: u8,

@@ -6,7 +6,7 @@ use fx_language::{Symbol, code};
 use fx_text::{Lexeme, Phrase, Refusal};
 
 /// What of a plan is shuffled.
-#[derive(Clone, Copy, Debug, PartialEq, Eq)]
+#[derive(Clone, Copy, PartialEq, Eq)]
 pub enum Shuffle {
     /// Nothing.
     Kept,

@@ -10,7 +10,7 @@ use std::marker::Model;
 
 /// The sums of points of m codes, which are given by their numbers. Where q is odd, the codes are
 /// taken in two parts, and a table has the sums of each part. Clauses see q and m.
-#[derive(Debug, Drop)]
+#[derive(Drop)]
 pub struct Sums {
     field: Field,
     m: u8,

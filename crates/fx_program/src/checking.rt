@@ -20,7 +20,7 @@ use std::alloc::Global;
 pub(crate) const BOOK_LIMIT: usize = 268435456;
 
 /// What is listed of a book, and the exit status.
-#[derive(Debug, Drop)]
+#[derive(Drop)]
 pub(crate) struct Judgement {
     pub(crate) lines: Bytes,
     pub(crate) status: u8,

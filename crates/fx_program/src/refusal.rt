@@ -6,7 +6,7 @@ use crate::text::TextFault;
 use fx_base::{Bytes, NoMemory, put, put_number};
 
 /// A row of a table of reasons: the number of a rule, and what it says.
-#[derive(Clone, Copy, Debug)]
+#[derive(Clone, Copy)]
 pub struct Reason {
     /// The number of the rule.
     pub code: u8,

@@ -13,7 +13,7 @@ const FAILED: u8 = 4;
 pub const NO_MEMORY: u8 = 5;
 
 /// Why the program ends before its end.
-#[derive(Debug, Clone, Copy, PartialEq, Eq)]
+#[derive(Clone, Copy, PartialEq, Eq)]
 pub enum Stop {
     /// A call on the source, the listing or the shelf failed.
     Failed,

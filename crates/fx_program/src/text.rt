@@ -7,7 +7,7 @@ use fx_statements::{ParseStop, Program, Refusal, parse};
 use std::alloc::Global;
 
 /// Why a text has no program.
-#[derive(Clone, Copy, Debug, PartialEq, Eq)]
+#[derive(Clone, Copy, PartialEq, Eq)]
 pub enum TextFault {
     /// Its first lexical fault.
     Lexical(LexFault),
@@ -16,7 +16,7 @@ pub enum TextFault {
 }
 
 /// Why no program is read.
-#[derive(Clone, Copy, Debug, PartialEq, Eq)]
+#[derive(Clone, Copy, PartialEq, Eq)]
 pub enum TextStop {
     /// The text has none, for this reason.
     Fault(TextFault),

@@ -40,7 +40,7 @@ const THREADS: &[u8] = b"--threads=";
 const SEED: &[u8] = b"--seed=";
 
 /// What the words of the command line ask for.
-#[derive(Debug, Clone, Copy, PartialEq, Eq)]
+#[derive(Clone, Copy, PartialEq, Eq)]
 pub enum Settings {
     /// Runs the program text that is read.
     Run {
@@ -64,7 +64,7 @@ pub enum Settings {
 }
 
 /// Why the words are refused.
-#[derive(Debug, Clone, Copy, PartialEq, Eq)]
+#[derive(Clone, Copy, PartialEq, Eq)]
 pub struct WordFault {
     /// 1: there is no word. 2: the first word is no command. 3: the word is no option of the command.
     /// 4: the number is not one of 1 to 20 digits, or is not in its range. 5: the option is repeated.
@@ -86,7 +86,7 @@ pub fn read_words(words: &[Vec<u8>]) -> Result<Settings, WordFault>
 }
 
 /// The options of the words, as far as they are given.
-#[derive(Debug, Clone, Copy)]
+#[derive(Clone, Copy)]
 struct Options {
     threads: Option<u8>,
     seed: Option<u64>,

@@ -14,7 +14,7 @@ use fx_vectors::Vector;
 const MOST_FACTORS: usize = 40;
 
 /// Where a vector is to be balanced.
-#[derive(Clone, Copy, Debug)]
+#[derive(Clone, Copy)]
 pub(crate) enum Within {
     /// Over all runs together.
     AllRuns,
@@ -24,7 +24,7 @@ pub(crate) enum Within {
 
 /// The sets of factors that have all those of `inner`, none outside `outer`, and at most `most` in
 /// all. Bit i-1 represents factor i.
-#[derive(Clone, Copy, Debug)]
+#[derive(Clone, Copy)]
 pub(crate) struct Supports {
     inner: u64,
     outer: u64,

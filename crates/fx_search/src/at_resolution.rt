@@ -16,7 +16,7 @@ use std::marker::Model;
 
 /// Stands for a question that asks for a resolution and an allowed prefix of factor rows, and keeps the
 /// factor rows that are barred. Clauses see the problem and the prefix.
-#[derive(Debug, Drop)]
+#[derive(Drop)]
 pub(crate) struct AtResolution<'a> {
     question: &'a Question,
     /// Two less than the resolution: so many rows at most are taken with the next.

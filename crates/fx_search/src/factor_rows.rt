@@ -16,7 +16,7 @@ use std::alloc::Global;
 
 /// Stands for a question and an allowed prefix of factor rows, and keeps the factor rows that are
 /// barred.
-#[derive(Debug, Drop)]
+#[derive(Drop)]
 pub(crate) enum FactorRows<'a> {
     AtResolution(AtResolution<'a>),
     ForEffects(ForEffects<'a>),

@@ -20,7 +20,7 @@ use std::marker::Model;
 
 /// Stands for a question that asks for effects and an allowed prefix of factor rows, and keeps the
 /// factor rows that are barred. Clauses see the problem and the prefix.
-#[derive(Debug, Drop)]
+#[derive(Drop)]
 pub(crate) struct ForEffects<'a> {
     question: &'a Question,
     first: FirstWords,

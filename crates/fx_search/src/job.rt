@@ -26,7 +26,7 @@ use fx_vectors::{Marks, Matrix, Question};
 use std::alloc::Global;
 
 /// How a job ended.
-#[derive(Debug, Drop)]
+#[derive(Drop)]
 pub enum JobEnd {
     /// At its first complete allowed matrix.
     Found {

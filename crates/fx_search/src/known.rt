@@ -11,7 +11,7 @@ use fx_vectors::{Matrix, Question};
 use std::alloc::Global;
 
 /// The incumbent of a question, by whether it asks for a least pattern.
-#[derive(Debug, Drop)]
+#[derive(Drop)]
 pub(crate) enum Known<'a> {
     Ranked(Ranked),
     Unranked(Unranked<'a>),

@@ -31,7 +31,7 @@ use std::mem;
 
 /// A search that walks the prefixes of at most m + 1 rows by itself, and leaves the jobs of each lot to
 /// others: their ends, in order, are folded into it. It answers what a search by one thread does.
-#[derive(Debug, Drop)]
+#[derive(Drop)]
 pub struct LotWalk<'a> {
     alloc: Global,
     question: &'a Question,
@@ -48,7 +48,7 @@ pub struct LotWalk<'a> {
 }
 
 /// How far a walk from lot to lot has come.
-#[derive(Debug, Drop)]
+#[derive(Drop)]
 pub enum Step {
     /// It is at the next lot.
     Lot,
@@ -57,7 +57,7 @@ pub enum Step {
 }
 
 /// What the ends of a lot's jobs come to.
-#[derive(Debug, Drop)]
+#[derive(Drop)]
 pub(crate) enum Added {
     /// No job has a design, or a least pattern is asked.
     AllClosed,

@@ -12,7 +12,7 @@ use fx_words::{Tally, is_less};
 use std::alloc::Global;
 
 /// The incumbent of a question that asks for a least pattern.
-#[derive(Debug, Drop)]
+#[derive(Drop)]
 pub(crate) struct Ranked {
     r: u8,
     tally: Tally,

@@ -23,7 +23,7 @@ use std::alloc::Global;
 
 /// What a search keeps of a question, at a prefix of it. It works off the jobs of a lot one after
 /// another, and then those of another lot, and is made once.
-#[derive(Debug, Drop)]
+#[derive(Drop)]
 pub struct Searcher<'a> {
     question: &'a Question,
     candidates: &'a Candidates,

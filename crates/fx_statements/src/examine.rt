@@ -8,7 +8,7 @@ use fx_language::Symbol;
 use fx_text::Statement;
 
 /// The sections of the listing that are asked for besides the rules.
-#[derive(Clone, Copy, Debug, PartialEq, Eq)]
+#[derive(Clone, Copy, PartialEq, Eq)]
 pub struct Examine {
     /// The components that are aliased with each other.
     pub aliasing: bool,

@@ -4,7 +4,7 @@ ghost use Rattle.fx_statements.specs.Endings.{HasMatrix, HasMatrix-prop, ending_
 use fx_vectors::{Books, Matrix, Shape};
 
 /// How the search for a step's design ended.
-#[derive(Clone, Copy, Debug, PartialEq, Eq)]
+#[derive(Clone, Copy, PartialEq, Eq)]
 pub enum End {
     /// With a design that meets what is asked.
     Design,
@@ -16,7 +16,7 @@ pub enum End {
 
 /// The outcome of a step. Its shape is within the limits. There is a matrix with `Design`, and there
 /// may be one with `Budget`; it has all rows of the shape.
-#[derive(Debug, Drop)]
+#[derive(Drop)]
 pub struct Outcome {
     pub end: End,
     /// The shape of the matrix, or of the last question where there is none.

@@ -20,7 +20,7 @@ use fx_text::Names;
 /// none in both, at most 100,000 in each, at most 2,000,000 pairs), its listings have at most 100,000
 /// components, and its outputs are within its limits. Names have 1 to 32 bytes, no two OUT names are
 /// the same, and no factor has the name of the column of blocks.
-#[derive(Debug, Drop)]
+#[derive(Drop)]
 pub struct Step {
     /// The names of its factors, 1 to 40, and at most 30 with blocks. They differ without regard to
     /// case.

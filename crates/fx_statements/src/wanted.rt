@@ -17,7 +17,7 @@ use fx_vectors::Effects;
 use std::alloc::Global;
 
 /// What a step wants of its design.
-#[derive(Debug, Drop)]
+#[derive(Drop)]
 pub enum Wanted {
     /// At least this resolution, from 3 to 99.
     Resolution {

@@ -7,14 +7,14 @@ use crate::state::{State, any_word, only};
 use fx_language::Symbol;
 
 /// A list of effects in a MODEL statement, by the word before it.
-#[derive(Clone, Copy, Debug)]
+#[derive(Clone, Copy)]
 pub enum EffectList {
     Estimate,
     Nonnegligible,
 }
 
 /// A place in a list of effects.
-#[derive(Clone, Copy, Debug)]
+#[derive(Clone, Copy)]
 pub enum EffectPlace {
     /// After the word before the list: `=`.
     Equals,

@@ -6,7 +6,7 @@ use crate::state::State;
 use fx_language::Symbol;
 
 /// A place in an EXAMINE statement. After it follows a section of the listing, or `;`.
-#[derive(Clone, Copy, Debug)]
+#[derive(Clone, Copy)]
 pub enum ExaminePlace {
     /// After EXAMINE or a section.
     Sections,

@@ -6,7 +6,7 @@ use crate::state::{State, any_word, only};
 use fx_language::Symbol;
 
 /// A place in a FACTORS statement.
-#[derive(Clone, Copy, Debug)]
+#[derive(Clone, Copy)]
 pub enum FactorsPlace {
     /// After FACTORS: a name.
     First,

@@ -7,7 +7,7 @@ use crate::state::{State, only};
 use fx_language::Symbol;
 
 /// A place in a MODEL statement, outside of its lists of effects.
-#[derive(Clone, Copy, Debug)]
+#[derive(Clone, Copy)]
 pub enum ModelPlace {
     /// After MODEL: ESTIMATE or RESOLUTION.
     Word,

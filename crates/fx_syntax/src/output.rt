@@ -7,7 +7,7 @@ use crate::values::{ValueKind, ValuesPlace};
 use fx_language::Symbol;
 
 /// A place in an OUTPUT statement, outside of its lists of values.
-#[derive(Clone, Copy, Debug)]
+#[derive(Clone, Copy)]
 pub enum OutputPlace {
     /// After OUTPUT: OUT.
     Out,

@@ -6,7 +6,7 @@ use crate::state::{State, if_word, only};
 use fx_language::Symbol;
 
 /// A place in a PROC statement.
-#[derive(Clone, Copy, Debug)]
+#[derive(Clone, Copy)]
 pub enum ProcPlace {
     /// After PROC: FACTEX.
     Procedure,

@@ -33,7 +33,7 @@ fn begins_with(want: Symbol, symbols: &[Symbol]) -> bool
 }
 
 /// What is kept of the symbols that were seen.
-#[derive(Clone, Copy, Debug)]
+#[derive(Clone, Copy)]
 pub struct Past {
     /// A statement starts here.
     pub start: bool,
@@ -45,7 +45,7 @@ pub struct Past {
 }
 
 /// Which statements the step has.
-#[derive(Clone, Copy, Debug)]
+#[derive(Clone, Copy)]
 pub struct StepPast {
     pub run: bool,
     pub factors: bool,
@@ -55,7 +55,7 @@ pub struct StepPast {
 }
 
 /// With which word the statement begins, and which options it has.
-#[derive(Clone, Copy, Debug)]
+#[derive(Clone, Copy)]
 pub struct StatementPast {
     pub proc: bool,
     pub output: bool,

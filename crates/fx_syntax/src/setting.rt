@@ -6,7 +6,7 @@ use crate::state::{State, only};
 use fx_language::Symbol;
 
 /// A place in a SIZE or BLOCKS statement.
-#[derive(Clone, Copy, Debug)]
+#[derive(Clone, Copy)]
 pub enum SettingPlace {
     /// After SIZE: the word for what is set.
     SizeWord,
@@ -19,7 +19,7 @@ pub enum SettingPlace {
 }
 
 /// The value that may be asked for in place of a number.
-#[derive(Clone, Copy, Debug)]
+#[derive(Clone, Copy)]
 pub enum Extreme {
     Minimum,
     Maximum,

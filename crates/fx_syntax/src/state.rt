@@ -16,7 +16,7 @@ use crate::values::ValuesPlace;
 use fx_language::Symbol;
 
 /// A place in the grammar.
-#[derive(Clone, Copy, Debug)]
+#[derive(Clone, Copy)]
 pub enum State {
     /// Outside of steps: a statement, PROC or the end.
     Between,

@@ -7,14 +7,14 @@ use crate::state::{State, only};
 use fx_language::Symbol;
 
 /// What a list of values has.
-#[derive(Clone, Copy, Debug)]
+#[derive(Clone, Copy)]
 pub enum ValueKind {
     Numbers,
     Texts,
 }
 
 /// A place in the values of a factor or of the block column, after NVALS or CVALS.
-#[derive(Clone, Copy, Debug)]
+#[derive(Clone, Copy)]
 pub enum ValuesPlace {
     /// After that word: `=`.
     Equals(ValueKind),

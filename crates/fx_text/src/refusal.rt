@@ -5,7 +5,7 @@ use fx_base::NoMemory;
 use fx_lexer::Place;
 
 /// Where a text is refused, and why.
-#[derive(Clone, Copy, Debug, PartialEq, Eq)]
+#[derive(Clone, Copy, PartialEq, Eq)]
 pub struct Refusal {
     /// The number of the rule, as the message names it: 8 for E8.
     pub code: u8,
@@ -31,7 +31,7 @@ impl Refusal {
 }
 
 /// Why a text has no program.
-#[derive(Clone, Copy, Debug, PartialEq, Eq)]
+#[derive(Clone, Copy, PartialEq, Eq)]
 pub enum ParseStop {
     /// The first refusal of the text.
     Refused(Refusal),

@@ -16,7 +16,7 @@ use std::marker::Model;
 
 /// Which rows are zero or normal, and which are unit vectors, found once for a shape. Clauses see the
 /// shape.
-#[derive(Debug, Drop)]
+#[derive(Drop)]
 pub struct Candidates {
     shape: Shape,
     normal: PointSet,

@@ -7,7 +7,7 @@ use fx_base::{Items, Values};
 pub type Pattern = Values<u128>;
 
 /// What a book is about.
-#[derive(Debug, Drop)]
+#[derive(Drop)]
 pub struct Head {
     pub question: Question,
     /// The pattern that no design is to beat. It stands exactly where the question asks for a least
@@ -16,14 +16,14 @@ pub struct Head {
 }
 
 /// Why a question has no answer, or no better one: the marks of all its nodes.
-#[derive(Debug, Drop)]
+#[derive(Drop)]
 pub struct Book {
     pub head: Head,
     pub marks: Marks,
 }
 
 /// The book of a step's question of this number, counted from 1.
-#[derive(Debug, Drop)]
+#[derive(Drop)]
 pub struct NamedBook {
     pub question: u32,
     pub book: Book,

@@ -8,7 +8,7 @@ use std::marker::Model;
 
 /// What a search finds at a node. `row` is the number of the node's last row, below the number of
 /// runs and so below 1,024.
-#[derive(Clone, Copy, Debug, PartialEq, Eq)]
+#[derive(Clone, Copy, PartialEq, Eq)]
 pub enum Mark {
     /// The prefix is allowed and has to be extended.
     Branch { row: u16 },
@@ -25,7 +25,7 @@ const PIECE: usize = 65536;
 /// Marks in order, held in pieces that stay where they are: of a search there may be five million.
 /// A mark takes 4 bytes, and 4 more for each digit of its word to the base 2^32. Clauses see the
 /// list.
-#[derive(Debug, Drop)]
+#[derive(Drop)]
 pub struct Marks {
     pieces: Vec<MarkPiece>,
     len: usize,

@@ -28,7 +28,7 @@ const BASE: u128 = 4294967296;
 /// Some marks, of which there are at most 65,536. A head has the row of its mark, 1,024 times its
 /// kind, and 8,192 times the place of its word's first digit; the digits of a word are the lowest
 /// first. Clauses see the list of marks.
-#[derive(Debug, Drop)]
+#[derive(Drop)]
 pub(crate) struct MarkPiece {
     heads: Vec<u32>,
     digits: Vec<u32>,

@@ -11,7 +11,7 @@ use std::marker::Model;
 
 /// The first rows of a rule matrix of a shape: its factor rules, and then its block rules. A row is
 /// the number of its vector of m codes.
-#[derive(Debug, Drop, PartialEq, Eq)]
+#[derive(Drop, PartialEq, Eq)]
 pub struct Matrix {
     shape: Shape,
     rows: ArrayVec<u16, 40>,

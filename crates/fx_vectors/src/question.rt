@@ -2,7 +2,7 @@ use crate::effect::Effects;
 use crate::shape::Shape;
 
 /// What a design is to separate.
-#[derive(Debug, Drop)]
+#[derive(Drop)]
 pub enum Demands {
     /// Every vector over the factors of weight 1 to `r` - 1 is balanced; `r` is from 3 to 99.
     Resolution {
@@ -19,7 +19,7 @@ pub enum Demands {
 }
 
 /// What is asked of the designs of a shape.
-#[derive(Debug, Drop)]
+#[derive(Drop)]
 pub struct Question {
     pub shape: Shape,
     pub demands: Demands,

@@ -5,7 +5,7 @@ use fx_galois::Field;
 
 /// The dimensions of a design. Its runs are q^m, at most 1,024; it has 1 to 40 factors, or 1 to 30
 /// where it has block factors.
-#[derive(Clone, Copy, Debug, PartialEq, Eq)]
+#[derive(Clone, Copy, PartialEq, Eq)]
 pub struct Shape {
     /// Levels of a factor: 2, 3, 4, 5, 7, 8 or 9.
     pub q: u8,

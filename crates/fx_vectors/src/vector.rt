@@ -7,7 +7,7 @@ use fx_galois::Field;
 use std::marker::Model;
 
 /// A vector of at most 40 codes. Clauses see the list of its codes.
-#[derive(Debug, Drop, PartialEq, Eq)]
+#[derive(Drop, PartialEq, Eq)]
 pub struct Vector {
     codes: ArrayVec<u8, 40>,
 }

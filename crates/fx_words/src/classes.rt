@@ -13,7 +13,7 @@ use std::marker::Model;
 /// The points in classes: over any rows as many vectors of each weight have one point of a class as
 /// their sum as have another. A point and its multiples are in one class. One point of each class is
 /// kept. Clauses see q, m and the kept points.
-#[derive(Debug, Drop)]
+#[derive(Drop)]
 pub(crate) struct Classes {
     field: Field,
     m: u8,

@@ -15,7 +15,7 @@ use std::marker::Model;
 /// The factor rows of a prefix, with counts of the sums of its first rows by weight and point, from which
 /// its pattern is read. Clauses see the prefix. At the limits of a shape the counts take 28 MB, and the
 /// classes of the points 2 MB.
-#[derive(Debug, Drop)]
+#[derive(Drop)]
 pub struct Tally {
     prefix: Matrix,
     classes: Classes,

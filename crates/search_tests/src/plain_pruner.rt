@@ -8,7 +8,7 @@ use fx_search::Pruner;
 use fx_vectors::Matrix;
 
 /// A pruner that looks for the closing word of each longer prefix.
-#[derive(Debug, Drop)]
+#[derive(Drop)]
 pub struct PlainPruner {
     forbidden: Forbidden,
     prefix: Matrix,
