@@ -14,7 +14,11 @@ use Rattle.fx_search.specs.Standing.{HasDimensions, rows_of}
 use Rattle.fx_search.specs.declared.job.JobEnd.{JobEnd}
 use Rattle.fx_search.specs.declared.job.JobEnd.TheVariants.{Found, Closed, Spent, Cut}
 use Rattle.fx_search.specs.declared.searcher.Searcher.{Searcher}
+use Rattle.fx_search.specs.LotWalks.{IsFolded}
+use Rattle.fx_search.specs.declared.asking.Asked.{Asked}
+use Rattle.fx_search.specs.declared.lot_walk.LotWalk.{LotWalk}
 use Rattle.fx_board.specs.Jobs.{HasNodes}
+use Rattle.fx_board.specs.Sharing.{AreReady}
 
 -- a job by its number: the lot, and one of the rows that extend it
 abbrev pub job_at : List ℕ → List ℕ → ℕ → List ℕ
@@ -46,6 +50,12 @@ pub record IsReadyFor (question : Question) (lot : MatrixView) (rows : List ℕ)
   pub lot_is : IsLotAfter question lot best
   pub rows_are : AreRowsOf question lot.rows rows
   pub place : CanEnter question lot.rows s
+
+-- The walk, which had so many marks, goes on after a lot, or the lot ended it; and there are workers that can enter the next lot.
+pub record IsLotDone (question : Question) (limit count : ℕ) (walk : LotWalk) (asked : Option Asked) (workers : List Searcher) : Type 0 where
+  pub folded : IsFolded question limit count walk asked
+  pub few : length workers ≤ 64
+  pub start : AreReady (IsAtStart question) workers
 
 -- a job that is Closed has its nodes, within the limit
 pub closed_is : (question : Question) (job : List ℕ) (limit : ℕ) (end : JobEnd) (nodes : ℕ) → HasNodes end nodes → IsEndOfJob question job limit end → (nodes ≡ length (nodes_inside (problem_of question) job)) × (nodes ≤ limit)

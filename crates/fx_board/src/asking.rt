@@ -1,9 +1,9 @@
 ghost use Rattle.std.specs.Prelude.{◌≡◌, ◌<◌, ◌≤◌, ◌+◌, true, length, IfOk, IfNone};
 ghost use Rattle.fx_vectors.specs.Question.{IsValid, problem_of};
 ghost use Rattle.fx_search.specs.Asked.{IsAnswer, IsNoneAtAll};
-ghost use Rattle.fx_search.specs.LotWalks.{AreNextRows, IsAtLot, IsBetween, IsFolded, IsWorked};
+ghost use Rattle.fx_search.specs.LotWalks.{AreNextRows, IsAtLot, IsBetween, IsWorked};
 ghost use Rattle.fx_search.specs.Searchers.{IsAtStart};
-ghost use Rattle.fx_board.specs.Lots.{CanEnter};
+ghost use Rattle.fx_board.specs.Lots.{CanEnter, IsLotDone};
 ghost use Rattle.fx_board.specs.Sharing.{AreReady, AllAreClosed};
 
 use crate::gate::Gate;
@@ -200,11 +200,9 @@ fn work_off<'a, R: Threads + Sync, G: Gate>(
     requires workers { length workers.items ≤ 64 }
     requires start { AreReady (IsAtStart question.now) workers.items }
     requires threads { (0 < threads) × (threads ≤ 64) }
-    ensures question { walk.new.question ≡ walk.old.question }
-    ensures limit { walk.new.limit ≡ walk.old.limit }
-    ensures folded { IfOk result (λ done. IsFolded question.now walk.old.limit (length walk.old.marks) walk.new done.asked) }
-    ensures workers { IfOk result (λ done. length done.workers.items ≤ 64) }
-    ensures start { IfOk result (λ done. AreReady (IsAtStart question.now) done.workers.items) }
+    ensures same { (walk.new.question ≡ walk.old.question) × (walk.new.limit ≡ walk.old.limit) }
+    ensures done { IfOk result (λ done.
+        IsLotDone question.now walk.old.limit (length walk.old.marks) walk.new done.asked done.workers.items) }
 {
     let mut workers = workers;
     let mut nodes = alone.first;

@@ -39,17 +39,23 @@ abbrev pub number : ℕ → ℕ → Result Item ℕ
 number whole fraction =
     if fraction == 0 then limited kind.Whole whole 38 4 else limited kind.Decimal (whole + fraction) 38 4
 
+-- the token that a text begins with, which begins with no gap, or the kind of its fault
+abbrev pub token_item : List ℕ → Result Item ℕ
+token_item [] = Err 3
+token_item (b ∷ bytes) =
+    let whole = prefix_len is_digit (b ∷ bytes) in
+    let fraction = fraction_len (drop whole (b ∷ bytes)) in
+    if begins_word b then limited kind.Word (prefix_len is_word_byte (b ∷ bytes)) 32 5
+    else (if begins_number whole fraction then number whole fraction
+    else (if is_quote b then quoted_if_closed (option_map suc (quoted_len b false bytes))
+    else (if is_sign b then token kind.Sign 1
+    else Err 3)))
+
 -- the item that a text begins with, or the kind of its fault; `start`: a statement starts here
 abbrev pub item : Bool → List ℕ → Result Item ℕ
 item start [] = gap 0
 item start (b ∷ bytes) =
-    let whole = prefix_len is_digit (b ∷ bytes) in
-    let fraction = fraction_len (drop whole (b ∷ bytes)) in
     if is_white b then gap 1
     else (if begins_comment (b ∷ bytes) then comment_if_closed (option_map (λ n. 2 + n) (closing_len (drop 1 bytes)))
     else (if begins_remark start (b ∷ bytes) then comment_if_closed (remark_len (b ∷ bytes))
-    else (if begins_word b then limited kind.Word (prefix_len is_word_byte (b ∷ bytes)) 32 5
-    else (if begins_number whole fraction then number whole fraction
-    else (if is_quote b then quoted_if_closed (option_map suc (quoted_len b false bytes))
-    else (if is_sign b then token kind.Sign 1
-    else Err 3))))))
+    else token_item (b ∷ bytes)))

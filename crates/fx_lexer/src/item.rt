@@ -1,5 +1,5 @@
 ghost use Rattle.std.specs.Prelude.{◌≡◌, ◌+◌, ◌<◌, ◌≤◌, ◌^◌, None, Some, length, IfOk};
-ghost use Rattle.fx_lexer.specs.Items.{begins_number, item, limited, number};
+ghost use Rattle.fx_lexer.specs.Items.{begins_number, item, limited, number, token_item};
 
 use crate::byte::{begins_word, is_quote, is_sign, is_white};
 use crate::extent::{
@@ -55,6 +55,17 @@ pub fn first_item(start: bool, bytes: &[u8]) -> Result<Item, u8>
             None => Err(OPEN_COMMENT),
         };
     }
+    first_token(bytes)
+}
+
+/// The token that a text begins with, or the kind of its fault, where no white space, comment or remark
+/// begins there.
+fn first_token(bytes: &[u8]) -> Result<Item, u8>
+    requires { 0 < length bytes.now }
+    ensures value { result ≡ token_item bytes.now }
+    ensures bound { IfOk result (λ i. (0 < i.length) × (i.length ≤ length bytes.now)) }
+{
+    let b = bytes[0];
     if begins_word(b) {
         return limited_item(Kind::Word, word_len(bytes), MOST_WORD_BYTES, LONG_WORD);
     }

@@ -64,7 +64,7 @@ pub enum Settings {
 }
 
 /// Why the words are refused.
-#[derive(Debug, Clone, Copy, PartialEq, Eq)]
+#[derive(Clone, Copy, PartialEq, Eq)]
 pub struct WordFault {
     /// 1: there is no word. 2: the first word is no command. 3: the word is no option of the command.
     /// 4: the number is not one of 1 to 20 digits, or is not in its range. 5: the option is repeated.

@@ -28,13 +28,13 @@ pub loop-asked-preserved : goal.loop-asked-preserved
 loop-asked-preserved g c =
     let i = c.loop-asked.invariant in
     let next : LotWalk = c.next.new.self in
-    let folded : IsFolded c.args.question.now next.limit (length next.marks) c.work_off.new.walk None = subst (λ z. IsFolded c.args.question.now next.limit (length next.marks) c.work_off.new.walk z) c.in-None.is c.in_ok-asked-2.ensures.folded in
+    let folded : IsFolded c.args.question.now next.limit (length next.marks) c.work_off.new.walk None = subst (λ z. IsFolded c.args.question.now next.limit (length next.marks) c.work_off.new.walk z) c.in-None.is c.in_ok-asked-2.ensures.done.folded in
     record {
-      question = ap (λ b. b.now) c.in_ok-asked-2.ensures.question ∙ ap (λ b. b.now) c.in_ok-asked.ensures.question ∙ i.question;
-      limit = c.in_ok-asked-2.ensures.limit ∙ c.in_ok-asked.ensures.limit ∙ i.limit;
+      question = ap (λ b. b.now) c.in_ok-asked-2.ensures.same.0 ∙ ap (λ b. b.now) c.in_ok-asked.ensures.question ∙ i.question;
+      limit = c.in_ok-asked-2.ensures.same.1 ∙ c.in_ok-asked.ensures.limit ∙ i.limit;
       between = folded.0;
-      start = c.in_ok-asked-2.ensures.start;
-      most = c.in_ok-asked-2.ensures.workers;
+      start = c.in_ok-asked-2.ensures.done.start;
+      most = c.in_ok-asked-2.ensures.done.few;
     }
 
 pub loop-asked-smaller : goal.loop-asked-smaller
@@ -42,8 +42,8 @@ loop-asked-smaller g c =
     let i = c.loop-asked.invariant in
     let next : LotWalk = c.next.new.self in
     let further = (subst (λ z. IsStep c.loop-asked.walk.question.now c.loop-asked.walk.limit (length c.loop-asked.walk.marks) next z) c.in-Lot.is c.in_ok-asked.ensures.step).1 in
-    let folded : IsFolded c.args.question.now next.limit (length next.marks) c.work_off.new.walk None = subst (λ z. IsFolded c.args.question.now next.limit (length next.marks) c.work_off.new.walk z) c.in-None.is c.in_ok-asked-2.ensures.folded in
-    let limit = c.in_ok-asked-2.ensures.limit ∙ c.in_ok-asked.ensures.limit ∙ i.limit in
+    let folded : IsFolded c.args.question.now next.limit (length next.marks) c.work_off.new.walk None = subst (λ z. IsFolded c.args.question.now next.limit (length next.marks) c.work_off.new.walk z) c.in-None.is c.in_ok-asked-2.ensures.done.folded in
+    let limit = c.in_ok-asked-2.ensures.same.1 ∙ c.in_ok-asked.ensures.limit ∙ i.limit in
     omega (arith, further, folded.1, folded.0.under_way.so_far.fits, limit)
 
 -- an answer to the question that the walk is of
@@ -63,11 +63,11 @@ returns-in-Done-clause-none_at_all g c =
 pub returns-in-Some-clause-answer : goal.returns-in-Some-clause-answer
 returns-in-Some-clause-answer g c =
     let next : LotWalk = c.next.new.self in
-    let right = subst (λ z. IsFolded c.args.question.now next.limit (length next.marks) c.work_off.new.walk z) c.in-Some.is c.in_ok-asked-2.ensures.folded in
+    let right = subst (λ z. IsFolded c.args.question.now next.limit (length next.marks) c.work_off.new.walk z) c.in-Some.is c.in_ok-asked-2.ensures.done.folded in
     (right_of c.in-Some.asked c.args.question.now c.args.question.now next.limit c.args.budget refl (c.in_ok-asked.ensures.limit ∙ c.loop-asked.invariant.limit) right).0
 
 pub returns-in-Some-clause-none_at_all : goal.returns-in-Some-clause-none_at_all
 returns-in-Some-clause-none_at_all g c =
     let next : LotWalk = c.next.new.self in
-    let right = subst (λ z. IsFolded c.args.question.now next.limit (length next.marks) c.work_off.new.walk z) c.in-Some.is c.in_ok-asked-2.ensures.folded in
+    let right = subst (λ z. IsFolded c.args.question.now next.limit (length next.marks) c.work_off.new.walk z) c.in-Some.is c.in_ok-asked-2.ensures.done.folded in
     (right_of c.in-Some.asked c.args.question.now c.args.question.now next.limit c.args.budget refl (c.in_ok-asked.ensures.limit ∙ c.loop-asked.invariant.limit) right).1
