@@ -1,9 +1,8 @@
 //! Which factors are refused, and which accepted.
 use crate::statements::{are_accepted, are_refused};
-use std::test::Fail;
 
 #[test]
-fn factors_are_refused_at_their_items(rt: HostRuntime) -> Result<(), Fail> {
+fn factors_are_refused_at_their_items(rt: HostRuntime) {
     const CASES: [(&str, u8, u32, u32); 15] = [
         ("factors X1-X3 X2;", 5, 2, 15),
         ("factors A b a;", 5, 2, 13),
@@ -25,7 +24,7 @@ fn factors_are_refused_at_their_items(rt: HostRuntime) -> Result<(), Fail> {
 }
 
 #[test]
-fn a_step_without_factors_is_refused_at_proc(rt: HostRuntime) -> Result<(), Fail> {
+fn a_step_without_factors_is_refused_at_proc(rt: HostRuntime) {
     const CASES: [(&str, u8, u32, u32); 4] = [
         ("proc factex;\nrun;", 7, 1, 1),
         ("proc factex;\noutput out=a;", 7, 1, 1),
@@ -37,11 +36,11 @@ fn a_step_without_factors_is_refused_at_proc(rt: HostRuntime) -> Result<(), Fail
         ),
         ("\n proc factex;\nproc factex;factors A;", 7, 2, 2),
     ];
-    are_refused(&rt, rt.alloc(), "", &CASES)
+    are_refused(&rt, rt.alloc(), "", &CASES);
 }
 
 #[test]
-fn factors_within_the_limits_are_accepted(rt: HostRuntime) -> Result<(), Fail> {
+fn factors_within_the_limits_are_accepted(rt: HostRuntime) {
     const TEXTS: [&str; 12] = [
         "factors X1-X40;size design=8;",
         "factors Y X2-X40;size design=8;",

@@ -1,12 +1,11 @@
 //! What the grammar and the rules on repeated words refuse.
 use crate::statements::{are_refused, read, refusal};
-use fx_base::{Bytes, NoMemory, put};
+use fx_base::{Bytes, put};
 use std::alloc::Global;
 use std::process::Abort;
-use std::test::Fail;
 
 #[test]
-fn words_and_signs_are_refused_by_the_grammar(rt: HostRuntime) -> Result<(), Fail> {
+fn words_and_signs_are_refused_by_the_grammar(rt: HostRuntime) {
     const CASES: [(&str, u8, u32, u32); 18] = [
         ("title x;", 1, 1, 1),
         ("proc means;", 1, 1, 6),
@@ -27,11 +26,11 @@ fn words_and_signs_are_refused_by_the_grammar(rt: HostRuntime) -> Result<(), Fai
         ("proc factex;\noutput out=a designrep=b;", 24, 2, 24),
         ("proc factex;\noutput out=a [A];", 24, 2, 14),
     ];
-    are_refused(&rt, rt.alloc(), "", &CASES)
+    are_refused(&rt, rt.alloc(), "", &CASES);
 }
 
 #[test]
-fn what_stands_twice_or_too_late_is_refused(rt: HostRuntime) -> Result<(), Fail> {
+fn what_stands_twice_or_too_late_is_refused(rt: HostRuntime) {
     const CASES: [(&str, u8, u32, u32); 11] = [
         (
             "proc factex;\nfactors A B C;\nsize design=8;\nsize design=8;",
@@ -65,31 +64,23 @@ fn what_stands_twice_or_too_late_is_refused(rt: HostRuntime) -> Result<(), Fail>
             25,
         ),
     ];
-    are_refused(&rt, rt.alloc(), "", &CASES)
+    are_refused(&rt, rt.alloc(), "", &CASES);
 }
 
 /// The text of a hundred steps.
-fn hundred_steps(alloc: Global) -> Result<Bytes, NoMemory> {
+fn hundred_steps(rt: &impl Abort, alloc: Global) -> Bytes {
     let mut text = Bytes::new(alloc);
     for _step in 0..100 {
-        put(&mut text, b"proc factex;factors A;\n")?;
+        put(&mut text, b"proc factex;factors A;\n").expect(rt, "memory");
     }
-    Ok(text)
-}
-
-/// How many steps a text has, or 0 where it is refused.
-fn count(rt: &impl Abort, alloc: Global, text: &[u8]) -> Result<usize, Fail> {
-    match read(rt, alloc, text)? {
-        Ok(program) => Ok(program.len()),
-        Err(_stop) => Ok(0),
-    }
+    text
 }
 
 #[test]
-fn a_hundred_steps_are_the_most(rt: HostRuntime) -> Result<(), Fail> {
-    let mut text = hundred_steps(rt.alloc())?;
-    assert!(rt; count(&rt, rt.alloc(), text.as_slice())? == 100);
-    put(&mut text, b" proc factex;factors A;")?;
-    assert!(rt; refusal(&rt, rt.alloc(), text.as_slice())? == Some((32, 101, 2)));
-    Ok(())
+fn a_hundred_steps_are_the_most(rt: HostRuntime) {
+    let mut text = hundred_steps(&rt, rt.alloc());
+    let program = read(&rt, rt.alloc(), text.as_slice()).expect(&rt, "a program");
+    assert!(rt; program.len() == 100);
+    put(&mut text, b" proc factex;factors A;").expect(&rt, "memory");
+    assert!(rt; refusal(&rt, rt.alloc(), text.as_slice()) == Some((32, 101, 2)));
 }

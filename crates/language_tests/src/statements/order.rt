@@ -1,9 +1,8 @@
 //! What is judged first where several things are wrong.
 use crate::statements::are_refused;
-use std::test::Fail;
 
 #[test]
-fn the_grammar_is_judged_before_the_meaning(rt: HostRuntime) -> Result<(), Fail> {
+fn the_grammar_is_judged_before_the_meaning(rt: HostRuntime) {
     const CASES: [(&str, u8, u32, u32); 3] = [
         ("proc factex nodes=0;factors A A;\ntitle x;", 1, 2, 1),
         (
@@ -14,11 +13,11 @@ fn the_grammar_is_judged_before_the_meaning(rt: HostRuntime) -> Result<(), Fail>
         ),
         ("proc factex;factors A;model e=(A)/;", 2, 1, 35),
     ];
-    are_refused(&rt, rt.alloc(), "", &CASES)
+    are_refused(&rt, rt.alloc(), "", &CASES);
 }
 
 #[test]
-fn an_earlier_step_is_judged_first(rt: HostRuntime) -> Result<(), Fail> {
+fn an_earlier_step_is_judged_first(rt: HostRuntime) {
     const CASES: [(&str, u8, u32, u32); 2] = [
         ("proc factex;factors A A;\nproc factex;", 5, 1, 23),
         (
@@ -28,11 +27,11 @@ fn an_earlier_step_is_judged_first(rt: HostRuntime) -> Result<(), Fail> {
             45,
         ),
     ];
-    are_refused(&rt, rt.alloc(), "", &CASES)
+    are_refused(&rt, rt.alloc(), "", &CASES);
 }
 
 #[test]
-fn the_meaning_of_a_step_is_judged_in_its_order(rt: HostRuntime) -> Result<(), Fail> {
+fn the_meaning_of_a_step_is_judged_in_its_order(rt: HostRuntime) {
     const CASES: [(&str, u8, u32, u32); 23] = [
         ("proc factex nodes=0;size design=3;", 7, 1, 1),
         ("proc factex;factors A A X2-X1;", 5, 1, 23),
@@ -123,11 +122,11 @@ fn the_meaning_of_a_step_is_judged_in_its_order(rt: HostRuntime) -> Result<(), F
             62,
         ),
     ];
-    are_refused(&rt, rt.alloc(), "", &CASES)
+    are_refused(&rt, rt.alloc(), "", &CASES);
 }
 
 #[test]
-fn a_plan_is_judged_in_its_order(rt: HostRuntime) -> Result<(), Fail> {
+fn a_plan_is_judged_in_its_order(rt: HostRuntime) {
     const CASES: [(&str, u8, u32, u32); 8] = [
         ("output out=a designrep=0 pointrep=0;", 18, 2, 12),
         ("output out=b designrep=0 pointrep=0;", 20, 2, 35),

@@ -1,9 +1,8 @@
 //! Which outputs are refused, and which accepted.
 use crate::statements::{are_accepted, are_refused};
-use std::test::Fail;
 
 #[test]
-fn plans_are_refused(rt: HostRuntime) -> Result<(), Fail> {
+fn plans_are_refused(rt: HostRuntime) {
     const CASES: [(&str, u8, u32, u32); 12] = [
         ("output out=a;output out=A;", 18, 2, 25),
         ("output out=a pointrep=0;", 20, 2, 23),
@@ -27,7 +26,7 @@ fn plans_are_refused(rt: HostRuntime) -> Result<(), Fail> {
 }
 
 #[test]
-fn columns_of_blocks_are_refused(rt: HostRuntime) -> Result<(), Fail> {
+fn columns_of_blocks_are_refused(rt: HostRuntime) {
     const CASES: [(&str, u8, u32, u32); 4] = [
         ("blocks nblkfacs=1;output out=a blockname=a;", 5, 2, 42),
         ("blocks nblkfacs=1;output out=a;", 5, 2, 19),
@@ -53,7 +52,7 @@ fn columns_of_blocks_are_refused(rt: HostRuntime) -> Result<(), Fail> {
 }
 
 #[test]
-fn an_out_name_is_refused_in_a_later_step(rt: HostRuntime) -> Result<(), Fail> {
+fn an_out_name_is_refused_in_a_later_step(rt: HostRuntime) {
     const CASES: [(&str, u8, u32, u32); 2] = [
         (
             "proc factex;factors A;output out=Plan;\nproc factex;factors B;output out=plan;",
@@ -68,11 +67,11 @@ fn an_out_name_is_refused_in_a_later_step(rt: HostRuntime) -> Result<(), Fail> {
             51,
         ),
     ];
-    are_refused(&rt, rt.alloc(), "", &CASES)
+    are_refused(&rt, rt.alloc(), "", &CASES);
 }
 
 #[test]
-fn plans_within_the_limits_are_accepted(rt: HostRuntime) -> Result<(), Fail> {
+fn plans_within_the_limits_are_accepted(rt: HostRuntime) {
     const TEXTS: [&str; 7] = [
         "output out=a pointrep=50000;",
         "output out=a pointrep=2 designrep=25000;",

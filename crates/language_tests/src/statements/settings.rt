@@ -1,9 +1,8 @@
 //! Which settings and blocks are refused, and which accepted.
 use crate::statements::{are_accepted, are_refused};
-use std::test::Fail;
 
 #[test]
-fn levels_and_budgets_are_refused_at_their_numbers(rt: HostRuntime) -> Result<(), Fail> {
+fn levels_and_budgets_are_refused_at_their_numbers(rt: HostRuntime) {
     const CASES: [(&str, u8, u32, u32); 8] = [
         ("proc factex;\nfactors A B / nlev=6;\nrun;", 6, 2, 20),
         ("proc factex;factors A / nlev=0;", 6, 1, 30),
@@ -19,11 +18,11 @@ fn levels_and_budgets_are_refused_at_their_numbers(rt: HostRuntime) -> Result<()
             19,
         ),
     ];
-    are_refused(&rt, rt.alloc(), "", &CASES)
+    are_refused(&rt, rt.alloc(), "", &CASES);
 }
 
 #[test]
-fn sizes_are_refused_at_their_numbers(rt: HostRuntime) -> Result<(), Fail> {
+fn sizes_are_refused_at_their_numbers(rt: HostRuntime) {
     const CASES: [(&str, u8, u32, u32); 10] = [
         ("size design=12;", 8, 2, 13),
         ("size design=1;", 8, 2, 13),
@@ -40,7 +39,7 @@ fn sizes_are_refused_at_their_numbers(rt: HostRuntime) -> Result<(), Fail> {
 }
 
 #[test]
-fn more_than_1024_runs_are_refused(rt: HostRuntime) -> Result<(), Fail> {
+fn more_than_1024_runs_are_refused(rt: HostRuntime) {
     const CASES: [(&str, u8, u32, u32); 5] = [
         ("proc factex;\nfactors X1-X11;", 9, 2, 1),
         ("proc factex;\nfactors X1-X7 / nlev=3;", 9, 2, 1),
@@ -58,11 +57,11 @@ fn more_than_1024_runs_are_refused(rt: HostRuntime) -> Result<(), Fail> {
             36,
         ),
     ];
-    are_refused(&rt, rt.alloc(), "", &CASES)
+    are_refused(&rt, rt.alloc(), "", &CASES);
 }
 
 #[test]
-fn resolutions_are_refused_at_their_numbers(rt: HostRuntime) -> Result<(), Fail> {
+fn resolutions_are_refused_at_their_numbers(rt: HostRuntime) {
     const CASES: [(&str, u8, u32, u32); 4] = [
         ("model resolution=2;", 11, 2, 18),
         ("model res=0/minabs;", 11, 2, 11),
@@ -73,7 +72,7 @@ fn resolutions_are_refused_at_their_numbers(rt: HostRuntime) -> Result<(), Fail>
 }
 
 #[test]
-fn what_cannot_stand_together_is_refused(rt: HostRuntime) -> Result<(), Fail> {
+fn what_cannot_stand_together_is_refused(rt: HostRuntime) {
     const CASES: [(&str, u8, u32, u32); 10] = [
         ("blocks nblkfacs=1;", 13, 2, 1),
         ("model r=max;blocks nblocks=2;", 13, 2, 13),
@@ -90,7 +89,7 @@ fn what_cannot_stand_together_is_refused(rt: HostRuntime) -> Result<(), Fail> {
 }
 
 #[test]
-fn blocks_are_refused_at_their_numbers(rt: HostRuntime) -> Result<(), Fail> {
+fn blocks_are_refused_at_their_numbers(rt: HostRuntime) {
     const CASES: [(&str, u8, u32, u32); 9] = [
         ("blocks nblkfacs=0;", 15, 2, 17),
         ("blocks nblocks=3;", 15, 2, 16),
@@ -111,7 +110,7 @@ fn blocks_are_refused_at_their_numbers(rt: HostRuntime) -> Result<(), Fail> {
 }
 
 #[test]
-fn blocks_of_a_least_size_are_refused_at_their_numbers(rt: HostRuntime) -> Result<(), Fail> {
+fn blocks_of_a_least_size_are_refused_at_their_numbers(rt: HostRuntime) {
     const CASES: [(&str, u8, u32, u32); 5] = [
         ("blocks nblkfacs=0;", 15, 2, 17),
         ("blocks nblocks=6;", 15, 2, 16),
@@ -128,7 +127,7 @@ fn blocks_of_a_least_size_are_refused_at_their_numbers(rt: HostRuntime) -> Resul
 }
 
 #[test]
-fn settings_within_the_limits_are_accepted(rt: HostRuntime) -> Result<(), Fail> {
+fn settings_within_the_limits_are_accepted(rt: HostRuntime) {
     const TEXTS: [&str; 17] = [
         "size design=2;",
         "size design=01024;",
@@ -152,12 +151,12 @@ fn settings_within_the_limits_are_accepted(rt: HostRuntime) -> Result<(), Fail> 
 }
 
 #[test]
-fn budgets_within_the_limits_are_accepted(rt: HostRuntime) -> Result<(), Fail> {
+fn budgets_within_the_limits_are_accepted(rt: HostRuntime) {
     const TEXTS: [&str; 4] = [
         "proc factex nodes=1;factors A;",
         "proc factex nodes=5000000;factors A;",
         "",
         " ;run;quit; /* ; */ * no step;",
     ];
-    are_accepted(&rt, rt.alloc(), "", &TEXTS)
+    are_accepted(&rt, rt.alloc(), "", &TEXTS);
 }
