@@ -1,4 +1,4 @@
-ghost use Rattle.std.specs.Prelude.{◌≡◌, ◌≤◌, false, IfOk, IfSome};
+ghost use Rattle.std.specs.Prelude.{◌≡◌, ◌≤◌, false, IfOk};
 ghost use Rattle.fx_vectors.specs.Question.{IsValid};
 ghost use Rattle.fx_vectors.specs.Shape.{IsShape};
 
@@ -6,39 +6,34 @@ use fx_base::NoMemory;
 use fx_galois::Field;
 use fx_vectors::{Demands, Effect, Effects, Question, Shape};
 use std::alloc::Global;
+use std::process::Abort;
 
-/// The shape, where it is within the limits.
-pub fn shape_of(q: u8, m: u8, s: u8, t: u8) -> Option<Shape>
-    ensures { IfSome result IsShape }
+/// The shape of these numbers, which are within the limits.
+pub fn shape_of(rt: &impl Abort, numbers: (u8, u8, u8, u8)) -> Shape
+    ensures { IsShape result }
 {
-    if Field::of(q).is_none() || m == 0 || s == 0 || s > 40 || t > 10 || (t > 0 && s > 30) {
-        return None;
-    }
-    match u16::from(q).checked_pow(u32::from(m)) {
-        None => None,
-        Some(runs) => {
-            if runs > 1024 {
-                return None;
-            }
-            Some(Shape { q, m, s, t })
-        }
-    }
+    let (q, m, s, t) = numbers;
+    assert!(rt; Field::of(q).is_some() && m > 0 && s > 0);
+    assert!(rt; s <= 40 && t <= 10 && (t == 0 || s <= 30));
+    let runs = u16::from(q)
+        .checked_pow(u32::from(m))
+        .expect(rt, "a number of runs");
+    assert!(rt; runs <= 1024);
+    Shape { q, m, s, t }
 }
 
-/// The question for a resolution, where it is valid.
-pub fn question(shape: Shape, r: u8, least: bool) -> Option<Question>
+/// The question for a resolution.
+pub fn question(rt: &impl Abort, shape: Shape, r: u8, least: bool) -> Question
     requires { IsShape shape }
-    ensures valid { IfSome result IsValid }
-    ensures least { IfSome result (λ question. question.least ≡ least) }
+    ensures valid { IsValid result }
+    ensures least { result.least ≡ least }
 {
-    if r < 3 || r > 99 || (least && shape.t > 0) {
-        return None;
-    }
-    Some(Question {
+    assert!(rt; r >= 3 && r <= 99 && !(least && shape.t > 0));
+    Question {
         shape,
         demands: Demands::Resolution { r },
         least,
-    })
+    }
 }
 
 /// The question for the main effects of A and B.

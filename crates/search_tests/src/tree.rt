@@ -5,7 +5,7 @@ use fx_base::NoMemory;
 use fx_tree::{before, children, is_canonical};
 use fx_vectors::{Demands, Effect, Effects, Matrix, Question, Shape};
 use std::alloc::Global;
-use std::test::Fail;
+use std::process::Abort;
 
 /// Asks for seven factors of two levels in sixteen runs, at resolution 4.
 fn seven_factors() -> Question
@@ -63,67 +63,70 @@ fn two_effects(alloc: Global) -> Result<Question, NoMemory>
     })
 }
 
-/// Whether a prefix is canonical, and these are its children.
+/// Tests that a prefix is canonical, and these are its children.
 fn has_children(
+    rt: &impl Abort,
     alloc: Global,
     question: &Question,
     prefix: &Matrix,
     wanted: &[u16],
-) -> Result<bool, NoMemory>
+)
     requires valid { IsValid question.now }
     requires shape { prefix.now.shape ≡ question.now.shape }
 {
-    if !is_canonical(question, prefix) {
-        return Ok(false);
-    }
-    Ok(children(alloc, question, prefix)?.as_slice() == wanted)
+    assert!(rt; is_canonical(question, prefix));
+    let children = children(alloc, question, prefix).expect(rt, "memory");
+    assert!(rt; children.as_slice() == wanted);
 }
 
 #[test]
-fn unit_rows_come_first_and_later_rows_fall(rt: HostRuntime) -> Result<(), Fail> {
+fn unit_rows_come_first_and_later_rows_fall(rt: HostRuntime) {
     const AFTER_FOUR: [u16; 11] = [15, 14, 13, 12, 11, 10, 9, 7, 6, 5, 3];
     let question = seven_factors();
     let mut prefix = Matrix::new(question.shape);
-    assert!(rt; has_children(rt.alloc(), &question, &prefix, &[1])?);
+    has_children(&rt, rt.alloc(), &question, &prefix, &[1]);
     prefix.push(1);
     prefix.push(2);
     prefix.push(4);
     prefix.push(8);
-    assert!(rt; has_children(rt.alloc(), &question, &prefix, &AFTER_FOUR)?);
+    has_children(&rt, rt.alloc(), &question, &prefix, &AFTER_FOUR);
     prefix.push(9);
-    assert!(rt; has_children(rt.alloc(), &question, &prefix, &[7, 6, 5, 3])?);
+    has_children(&rt, rt.alloc(), &question, &prefix, &[7, 6, 5, 3]);
     prefix.push(10);
     assert!(rt; !is_canonical(&question, &prefix));
-    Ok(())
 }
 
 /// The rank is to become 2: after the rows 1 and 1 only the second unit row can raise it.
 #[test]
-fn effects_leave_the_unit_rows_free(rt: HostRuntime) -> Result<(), Fail> {
-    let question = two_effects(rt.alloc())?;
+fn effects_leave_the_unit_rows_free(rt: HostRuntime) {
+    let question = two_effects(rt.alloc()).expect(&rt, "memory");
     let mut prefix = Matrix::new(question.shape);
     prefix.push(1);
-    assert!(rt; has_children(rt.alloc(), &question, &prefix, &[3, 1, 0])?);
+    has_children(&rt, rt.alloc(), &question, &prefix, &[3, 1, 0]);
     prefix.push(1);
-    assert!(rt; has_children(rt.alloc(), &question, &prefix, &[3])?);
+    has_children(&rt, rt.alloc(), &question, &prefix, &[3]);
     prefix.pop();
     prefix.push(3);
-    assert!(rt; has_children(rt.alloc(), &question, &prefix, &[5, 4, 3, 1, 0])?);
-    Ok(())
+    has_children(&rt, rt.alloc(), &question, &prefix, &[5, 4, 3, 1, 0]);
 }
 
 #[test]
-fn block_rows_may_repeat_and_be_zero(rt: HostRuntime) -> Result<(), Fail> {
+fn block_rows_may_repeat_and_be_zero(rt: HostRuntime) {
     let question = in_blocks();
     let mut prefix = Matrix::new(question.shape);
     prefix.push(1);
     prefix.push(2);
     prefix.push(4);
-    assert!(rt; has_children(rt.alloc(), &question, &prefix, &[7, 6, 5, 4, 3, 2, 1, 0])?);
+    has_children(
+        &rt,
+        rt.alloc(),
+        &question,
+        &prefix,
+        &[7, 6, 5, 4, 3, 2, 1, 0],
+    );
     prefix.push(6);
     prefix.push(6);
-    assert!(rt; has_children(rt.alloc(), &question, &prefix, &[])?);
-    Ok(())
+    has_children(&rt, rt.alloc(), &question, &prefix, &[]);
 }
 
 #[test]
