@@ -113,7 +113,7 @@ fn limits_are_kept_on_both_sides(rt: HostRuntime) {
             ("1234567890123456789012345678901234567.9", 4, 1, 1),
             (" _bcdefghijklmnopqrstuvwxyzABCD123", 5, 1, 2),
         ],
-    )
+    );
 }
 
 /// How many tokens the longest text has, of blanks with these bytes at its beginning and its end.
@@ -128,13 +128,13 @@ fn count_of_longest(rt: &impl Abort, alloc: Global, open: &[u8; 2], close: &[u8;
 
 #[test]
 fn longest_texts_end(rt: HostRuntime) {
-    const ENDS: [(&[u8; 2], &[u8; 2], usize); 4] = [
+    const ENDS: &[(&[u8; 2], &[u8; 2], usize)] = &[
         (b"  ", b"  ", 0),
         (b"/*", b"*/", 0),
         (b"* ", b" ;", 0),
         (b"' ", b" '", 1),
     ];
-    for (open, close, tokens) in rows_of(&ENDS) {
+    for (open, close, tokens) in rows_of(ENDS) {
         assert!(rt; count_of_longest(&rt, rt.alloc(), open, close) == *tokens);
     }
 }

@@ -51,70 +51,67 @@ fn programs_are_accepted(rt: HostRuntime) {
     }
 }
 
-#[test]
-fn symbols_outside_of_statements_are_refused(rt: HostRuntime) {
-    const CASES: [(&str, Option<(u8, usize)>); 10] = [
-        ("factors;", Some((1, 0))),
-        ("uniteffect;", Some((24, 0))),
-        ("proc", Some((2, 1))),
-        ("proc means;", Some((1, 1))),
-        ("proc factex seed", Some((3, 2))),
-        ("proc factex nodes=namelen;", Some((24, 4))),
-        ("proc factex; run", Some((2, 4))),
-        ("proc factex; fold;", Some((1, 3))),
-        ("proc factex; (", Some((2, 3))),
-        ("proc factex; quit; size", Some((1, 5))),
-    ];
-    are_judged(&rt, rt.alloc(), "", &CASES);
-}
+/// Symbols outside of statements are refused.
+const OUTSIDE_OF_STATEMENTS: [(&str, Option<(u8, usize)>); 10] = [
+    ("factors;", Some((1, 0))),
+    ("uniteffect;", Some((24, 0))),
+    ("proc", Some((2, 1))),
+    ("proc means;", Some((1, 1))),
+    ("proc factex seed", Some((3, 2))),
+    ("proc factex nodes=namelen;", Some((24, 4))),
+    ("proc factex; run", Some((2, 4))),
+    ("proc factex; fold;", Some((1, 3))),
+    ("proc factex; (", Some((2, 3))),
+    ("proc factex; quit; size", Some((1, 5))),
+];
+
+/// Symbols of statements are refused.
+const IN_STATEMENTS: [(&str, Option<(u8, usize)>); 16] = [
+    ("factors A-;", Some((2, 6))),
+    ("factors A / levels=2;", Some((3, 6))),
+    ("factors A / nlev=2 B;", Some((2, 9))),
+    ("size runs=8;", Some((3, 4))),
+    ("size fraction=minimum;", Some((2, 6))),
+    ("blocks size=maximum;", Some((2, 6))),
+    ("model resolution=4 / minabs(3);", Some((24, 9))),
+    ("model estimate=();", Some((2, 7))),
+    ("model estimate=(A-B*C);", Some((2, 10))),
+    ("model estimate=(A*B-C);", Some((2, 10))),
+    ("model estimate=(A) resolution=4;", Some((3, 9))),
+    ("examine aberration(2);", Some((24, 5))),
+    ("examine design(2);", Some((2, 5))),
+    ("output data=A;", Some((3, 4))),
+    ("output out=A pointrep=B;", Some((24, 9))),
+    ("output out=A B nvals=(1 -[2]);", Some((24, 13))),
+];
+
+/// Values behind the block column are its own or a factors.
+const BEHIND_THE_BLOCK_COLUMN: [(&str, Option<(u8, usize)>); 4] = [
+    (
+        "output out=A blockname=b nvals=(1 2) cvals=('x');",
+        Some((2, 17)),
+    ),
+    ("output out=A blockname=b nvals cvals=('x');", None),
+    ("output out=A blockname=b cvals nvals=(1 2);", None),
+    ("output out=A blockname=b nvals x;", Some((3, 11))),
+];
+
+/// The earlier refusal comes.
+const EARLIER_REFUSAL: [(&str, Option<(u8, usize)>); 5] = [
+    ("size design=8; size 8;", Some((26, 8))),
+    ("size 8; size design=8;", Some((2, 4))),
+    ("run; size design=8;", Some((27, 5))),
+    ("output out=A novalran novalran [", Some((28, 8))),
+    ("size design=8; run; size", Some((27, 10))),
+];
 
 #[test]
-fn symbols_of_statements_are_refused(rt: HostRuntime) {
-    const CASES: [(&str, Option<(u8, usize)>); 16] = [
-        ("factors A-;", Some((2, 6))),
-        ("factors A / levels=2;", Some((3, 6))),
-        ("factors A / nlev=2 B;", Some((2, 9))),
-        ("size runs=8;", Some((3, 4))),
-        ("size fraction=minimum;", Some((2, 6))),
-        ("blocks size=maximum;", Some((2, 6))),
-        ("model resolution=4 / minabs(3);", Some((24, 9))),
-        ("model estimate=();", Some((2, 7))),
-        ("model estimate=(A-B*C);", Some((2, 10))),
-        ("model estimate=(A*B-C);", Some((2, 10))),
-        ("model estimate=(A) resolution=4;", Some((3, 9))),
-        ("examine aberration(2);", Some((24, 5))),
-        ("examine design(2);", Some((2, 5))),
-        ("output data=A;", Some((3, 4))),
-        ("output out=A pointrep=B;", Some((24, 9))),
-        ("output out=A B nvals=(1 -[2]);", Some((24, 13))),
-    ];
-    are_judged(&rt, rt.alloc(), FRONT, &CASES);
-}
-
-#[test]
-fn values_behind_the_block_column_are_its_own_or_a_factors(rt: HostRuntime) {
-    const CASES: [(&str, Option<(u8, usize)>); 4] = [
-        (
-            "output out=A blockname=b nvals=(1 2) cvals=('x');",
-            Some((2, 17)),
-        ),
-        ("output out=A blockname=b nvals cvals=('x');", None),
-        ("output out=A blockname=b cvals nvals=(1 2);", None),
-        ("output out=A blockname=b nvals x;", Some((3, 11))),
-    ];
-    are_judged(&rt, rt.alloc(), FRONT, &CASES);
-}
-
-#[test]
-fn the_earlier_refusal_comes(rt: HostRuntime) {
-    const CASES: [(&str, Option<(u8, usize)>); 5] = [
-        ("size design=8; size 8;", Some((26, 8))),
-        ("size 8; size design=8;", Some((2, 4))),
-        ("run; size design=8;", Some((27, 5))),
-        ("output out=A novalran novalran [", Some((28, 8))),
-        ("size design=8; run; size", Some((27, 10))),
-    ];
-    are_judged(&rt, rt.alloc(), FRONT, &CASES);
+fn programs_are_judged(rt: HostRuntime) {
+    let alloc = rt.alloc();
+    are_judged(&rt, alloc, "", &OUTSIDE_OF_STATEMENTS);
+    are_judged(&rt, alloc, FRONT, &IN_STATEMENTS);
+    are_judged(&rt, alloc, FRONT, &BEHIND_THE_BLOCK_COLUMN);
+    are_judged(&rt, alloc, FRONT, &EARLIER_REFUSAL);
 }
 
 /// The symbols of so many steps, and these.

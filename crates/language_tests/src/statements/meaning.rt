@@ -196,7 +196,7 @@ fn are_effects(effects: &Effects, numbers: &[u64]) -> bool {
 
 #[test]
 fn effects_are_those_of_the_lists(rt: HostRuntime) {
-    const CASES: [(&str, &[u64], &[u64]); 4] = [
+    const CASES: &[(&str, &[u64], &[u64])] = &[
         (
             "size design=4;model estimate=(A|B|C @2) nonneg=(A*B*C);",
             &[1, 2, 4, 3, 5, 6],
@@ -214,7 +214,7 @@ fn effects_are_those_of_the_lists(rt: HostRuntime) {
         ),
         ("model est=(C);", &[4], &[]),
     ];
-    for (text, estimate, nonnegligible) in rows_of(&CASES) {
+    for (text, estimate, nonnegligible) in rows_of(CASES) {
         assert!(rt;
             asks_for(&rt, rt.alloc(), text, estimate, nonnegligible),
             "{text}"
