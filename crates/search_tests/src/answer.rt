@@ -44,7 +44,7 @@ const MOST_BLOCKS: &str = ";factors A B C;size design=8;model resolution=3;block
 /// The least pattern: 282 nodes. The first lot ends with its 24th, the second with the 55th.
 const LEAST_PATTERN: &str = ";factors A B C D E F G;size design=32;model resolution=max/minabs;";
 
-const STEPS: [(&str, u64, Ended); 46] = [
+const STEPS: &[(&str, u64, Ended)] = &[
     (FIXED, 3, (End::Budget, 3, 0, &[], 3)),
     (FIXED, 4, (End::Design, 3, 0, &[1, 2, 4, 7], 4)),
     (FIXED, 5, (End::Design, 3, 0, &[1, 2, 4, 7], 4)),
@@ -199,5 +199,5 @@ fn all_end_so<R: Threads + Sync + Abort>(rt: &R, alloc: Global, cases: &[(&str, 
 
 #[test]
 fn budgets_end_at_the_last_node_of_each_question(rt: HostRuntime) {
-    all_end_so(&rt, rt.alloc(), &STEPS);
+    all_end_so(&rt, rt.alloc(), STEPS);
 }

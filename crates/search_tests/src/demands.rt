@@ -2,6 +2,7 @@ ghost use Rattle.std.specs.Prelude.{◌≡◌, ◌+◌, ◌≤◌, ◌<◌, ◌^
 ghost use Rattle.fx_vectors.specs.Shape.{IsShape};
 ghost use Rattle.fx_vectors.specs.Question.{IsValid};
 
+use crate::questions::prefix_of;
 use fx_base::NoMemory;
 use fx_demands::{EffectStop, Forbidden, Vectors, bars, effect_vectors, pair_count};
 use fx_vectors::{Demands, Effect, Effects, Matrix, Question, Shape};
@@ -193,82 +194,36 @@ fn closing_number(forbidden: &Forbidden, prefix: &Matrix) -> Option<u128>
     }
 }
 
-/// The words that are forbidden for five factors of two levels in eight runs, at resolution 4.
-fn half_words(rt: &impl Abort, alloc: Global) -> Forbidden
-    ensures { result.shape ≡ record { q = 2; m = 3; s = 5; t = 0 } }
-{
-    Forbidden::of(alloc, &half_fraction()).expect(rt, "memory")
+/// The number of the closing word of a prefix of these rows, where a word is forbidden there.
+fn closing(rt: &impl Abort, forbidden: &Forbidden, rows: &[u16]) -> Option<u128> {
+    let prefix = prefix_of(rt, forbidden.shape(), rows);
+    let number = closing_number(forbidden, &prefix);
+    assert!(rt; forbidden.allows(&prefix) == number.is_none());
+    number
 }
 
 /// A, B, C and ABC are at resolution 4; BC with A and ABC has the sum zero.
 #[test]
 fn a_fifth_row_closes_a_half_fraction(rt: HostRuntime) {
-    const SHAPE: Shape = Shape {
-        q: 2,
-        m: 3,
-        s: 5,
-        t: 0,
-    };
-    let forbidden = half_words(&rt, rt.alloc());
-    let mut prefix = Matrix::new(SHAPE);
-    prefix.push(1);
-    prefix.push(2);
-    prefix.push(4);
-    prefix.push(7);
-    assert!(rt; forbidden.allows(&prefix) && closing_number(&forbidden, &prefix).is_none());
-    prefix.push(6);
-    assert!(rt; !forbidden.allows(&prefix) && closing_number(&forbidden, &prefix) == Some(25));
-}
-
-/// The words that are forbidden for three factors of two levels in eight runs, in four blocks.
-fn block_words(rt: &impl Abort, alloc: Global) -> Forbidden
-    ensures { result.shape ≡ record { q = 2; m = 3; s = 3; t = 2 } }
-{
-    Forbidden::of(alloc, &in_blocks()).expect(rt, "memory")
+    let forbidden = Forbidden::of(rt.alloc(), &half_fraction()).expect(&rt, "memory");
+    assert!(rt; closing(&rt, &forbidden, &[1, 2, 4, 7]).is_none());
+    assert!(rt; closing(&rt, &forbidden, &[1, 2, 4, 7, 6]) == Some(25));
 }
 
 /// Blocks by ABC and BC have the interaction A.
 #[test]
 fn an_interaction_of_blocks_is_forbidden(rt: HostRuntime) {
-    const SHAPE: Shape = Shape {
-        q: 2,
-        m: 3,
-        s: 3,
-        t: 2,
-    };
-    let forbidden = block_words(&rt, rt.alloc());
-    let mut prefix = Matrix::new(SHAPE);
-    prefix.push(1);
-    prefix.push(2);
-    prefix.push(4);
-    prefix.push(7);
-    assert!(rt; forbidden.allows(&prefix));
-    prefix.push(6);
-    assert!(rt; closing_number(&forbidden, &prefix) == Some(25));
-}
-
-/// The words that are forbidden for the main effects of two factors of two levels in two runs.
-fn effect_words(rt: &impl Abort, alloc: Global) -> Forbidden
-    ensures { result.shape ≡ record { q = 2; m = 1; s = 2; t = 0 } }
-{
-    let question = two_effects(alloc).expect(rt, "memory");
-    Forbidden::of(alloc, &question).expect(rt, "memory")
+    let forbidden = Forbidden::of(rt.alloc(), &in_blocks()).expect(&rt, "memory");
+    assert!(rt; closing(&rt, &forbidden, &[1, 2, 4, 7]).is_none());
+    assert!(rt; closing(&rt, &forbidden, &[1, 2, 4, 7, 6]) == Some(25));
 }
 
 #[test]
 fn two_factors_are_told_apart(rt: HostRuntime) {
-    const SHAPE: Shape = Shape {
-        q: 2,
-        m: 1,
-        s: 2,
-        t: 0,
-    };
-    let forbidden = effect_words(&rt, rt.alloc());
-    let mut prefix = Matrix::new(SHAPE);
-    prefix.push(1);
-    assert!(rt; forbidden.allows(&prefix));
-    prefix.push(1);
-    assert!(rt; closing_number(&forbidden, &prefix) == Some(3));
+    let question = two_effects(rt.alloc()).expect(&rt, "memory");
+    let forbidden = Forbidden::of(rt.alloc(), &question).expect(&rt, "memory");
+    assert!(rt; closing(&rt, &forbidden, &[1]).is_none());
+    assert!(rt; closing(&rt, &forbidden, &[1, 1]) == Some(3));
 }
 
 /// Whether the vector at this place has these two codes.
