@@ -288,7 +288,7 @@ fn are_met(rt: &impl Abort, alloc: Global, question: &Question, cases: &[(&[u16]
 
 /// Resolutions, rows of four factors of two levels, and whether their runs meet them: with D = ABC, BC
 /// and C.
-const TWO_LEVEL_CASES: [(u8, &[u16], bool); 7] = [
+const TWO_LEVEL_CASES: &[(u8, &[u16], bool)] = &[
     (3, &[1, 2, 4, 7], true),
     (4, &[1, 2, 4, 7], true),
     (5, &[1, 2, 4, 7], false),
@@ -301,64 +301,64 @@ const TWO_LEVEL_CASES: [(u8, &[u16], bool); 7] = [
 /// A, B, C and ABC are at resolution 4; A, B, A + B and A + 2 B over GF(3) at 3.
 #[test]
 fn resolutions_are_met(rt: HostRuntime) {
-    are_met_at(&rt, rt.alloc(), TWO_LEVELS, &TWO_LEVEL_CASES);
-    const CASES: [(u8, &[u16], bool); 2] = [(3, &[1, 3, 4, 7], true), (4, &[1, 3, 4, 7], false)];
-    are_met_at(&rt, rt.alloc(), THREE_LEVELS, &CASES);
+    are_met_at(&rt, rt.alloc(), TWO_LEVELS, TWO_LEVEL_CASES);
+    const CASES: &[(u8, &[u16], bool)] = &[(3, &[1, 3, 4, 7], true), (4, &[1, 3, 4, 7], false)];
+    are_met_at(&rt, rt.alloc(), THREE_LEVELS, CASES);
 }
 
 /// With D = ABC, AB is distinguished from A, B and C. With D = AB it is not, and neither is A from C = A.
 #[test]
 fn an_interaction_is_told_from_main_effects(rt: HostRuntime) {
     let effects = [Effect(1), Effect(2), Effect(4), Effect(8), Effect(3)];
-    const CASES: [(&[u16], bool); 3] = [
+    const CASES: &[(&[u16], bool)] = &[
         (&[1, 2, 4, 7], true),
         (&[1, 2, 4, 3], false),
         (&[1, 2, 1, 7], false),
     ];
     let question = for_effects(&rt, rt.alloc(), TWO_LEVELS, &effects, &[]);
-    are_met(&rt, rt.alloc(), &question, &CASES);
+    are_met(&rt, rt.alloc(), &question, CASES);
 }
 
 /// With D = ABC, AB is not distinguished from CD; with D = AB it is.
 #[test]
 fn an_effect_is_told_from_another_not_estimated(rt: HostRuntime) {
-    const CASES: [(&[u16], bool); 2] = [(&[1, 2, 4, 7], false), (&[1, 2, 4, 3], true)];
+    const CASES: &[(&[u16], bool)] = &[(&[1, 2, 4, 7], false), (&[1, 2, 4, 3], true)];
     let question = for_effects(&rt, rt.alloc(), TWO_LEVELS, &[Effect(3)], &[Effect(12)]);
-    are_met(&rt, rt.alloc(), &question, &CASES);
+    are_met(&rt, rt.alloc(), &question, CASES);
 }
 
 /// A factor at one level has no effect.
 #[test]
 fn an_effect_is_told_from_zero(rt: HostRuntime) {
-    const CASES: [(&[u16], bool); 2] = [(&[1], true), (&[0], false)];
+    const CASES: &[(&[u16], bool)] = &[(&[1], true), (&[0], false)];
     let question = for_effects(&rt, rt.alloc(), ONE_FACTOR, &[Effect(1)], &[]);
-    are_met(&rt, rt.alloc(), &question, &CASES);
+    are_met(&rt, rt.alloc(), &question, CASES);
 }
 
 /// Two factors with the same levels have one effect.
 #[test]
 fn two_factors_in_two_runs_are_not_told_apart(rt: HostRuntime) {
-    const CASES: [(&[u16], bool); 1] = [(&[1, 1], false)];
+    const CASES: &[(&[u16], bool)] = &[(&[1, 1], false)];
     let question = for_effects(&rt, rt.alloc(), TWO_FACTORS, &[Effect(1), Effect(2)], &[]);
-    are_met(&rt, rt.alloc(), &question, &CASES);
+    are_met(&rt, rt.alloc(), &question, CASES);
 }
 
 /// Over GF(3) AB is A + B and A + 2 B, up to multiples, and so not distinguished from C = A + B or A + 2 B;
 /// from C = A it is.
 #[test]
 fn an_interaction_of_three_levels(rt: HostRuntime) {
-    const CASES: [(&[u16], bool); 3] = [
+    const CASES: &[(&[u16], bool)] = &[
         (&[1, 3, 4], false),
         (&[1, 3, 7], false),
         (&[1, 3, 1], true),
     ];
     let question = for_effects(&rt, rt.alloc(), NINE_RUNS, &[Effect(3)], &[Effect(4)]);
-    are_met(&rt, rt.alloc(), &question, &CASES);
+    are_met(&rt, rt.alloc(), &question, CASES);
 }
 
 /// Resolutions, rows of three factors and a block factor, and whether their runs meet them: with blocks
 /// by ABC, AB and A.
-const BLOCK_CASES: [(u8, &[u16], bool); 9] = [
+const BLOCK_CASES: &[(u8, &[u16], bool)] = &[
     (3, &[1, 2, 4, 7], true),
     (4, &[1, 2, 4, 7], true),
     (5, &[1, 2, 4, 7], true),
@@ -372,7 +372,7 @@ const BLOCK_CASES: [(u8, &[u16], bool); 9] = [
 
 /// The same at resolution 3 with two block factors: by BC and AC, whose interaction is AB; by ABC and BC,
 /// whose interaction is A; and twice by ABC, so that two of four blocks are empty.
-const FOUR_BLOCK_CASES: [(u8, &[u16], bool); 3] = [
+const FOUR_BLOCK_CASES: &[(u8, &[u16], bool)] = &[
     (3, &[1, 2, 4, 6, 5], true),
     (3, &[1, 2, 4, 7, 6], false),
     (3, &[1, 2, 4, 7, 7], false),
@@ -380,16 +380,16 @@ const FOUR_BLOCK_CASES: [(u8, &[u16], bool); 3] = [
 
 #[test]
 fn main_effects_are_told_from_blocks(rt: HostRuntime) {
-    are_met_at(&rt, rt.alloc(), IN_BLOCKS, &BLOCK_CASES);
-    are_met_at(&rt, rt.alloc(), FOUR_BLOCKS, &FOUR_BLOCK_CASES);
+    are_met_at(&rt, rt.alloc(), IN_BLOCKS, BLOCK_CASES);
+    are_met_at(&rt, rt.alloc(), FOUR_BLOCKS, FOUR_BLOCK_CASES);
 }
 
 /// A and AB beside blocks by ABC, and by AB.
 #[test]
 fn an_interaction_is_told_from_blocks(rt: HostRuntime) {
-    const CASES: [(&[u16], bool); 2] = [(&[1, 2, 4, 7], true), (&[1, 2, 4, 3], false)];
+    const CASES: &[(&[u16], bool)] = &[(&[1, 2, 4, 7], true), (&[1, 2, 4, 3], false)];
     let question = for_effects(&rt, rt.alloc(), IN_BLOCKS, &[Effect(1), Effect(3)], &[]);
-    are_met(&rt, rt.alloc(), &question, &CASES);
+    are_met(&rt, rt.alloc(), &question, CASES);
 }
 
 /// Three columns of the twelve runs of Plackett and Burman, which are those of no rule matrix.
