@@ -3,6 +3,7 @@ ghost use Rattle.fx_settings.specs.declared.settings.Blocks.TheVariants.{Factors
 ghost use Rattle.fx_plan.specs.Steps.{IsDesignOf};
 
 use crate::alias::{are_few, matrix_of, program_of, push};
+use crate::rows_of;
 use fx_base::Bytes;
 use fx_plan::{draw, plan};
 use fx_statements::{Blocks, Step};
@@ -130,7 +131,7 @@ fn planned(rt: &impl Abort, alloc: Global, text: &[u8], matrix: &Matrix, i: usiz
 }
 
 /// Seeds, each with bounds and what is drawn below each, one after another.
-const DRAWS: [(u64, &[(u64, u64)]); 2] = [
+const DRAWS: &[(u64, &[(u64, u64)])] = &[
     (
         0,
         &[
@@ -160,8 +161,8 @@ fn are_drawn(seed: u64, draws: &[(u64, u64)]) -> bool {
 
 #[test]
 fn draws_are_those_of_the_generator(rt: HostRuntime) {
-    for (seed, draws) in DRAWS {
-        assert!(rt; are_drawn(seed, draws));
+    for (seed, draws) in rows_of(DRAWS) {
+        assert!(rt; are_drawn(*seed, draws));
     }
 }
 

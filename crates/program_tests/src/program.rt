@@ -727,7 +727,7 @@ fn no_call_follows_a_failed_write(rt: HostRuntime) {
 }
 
 /// Each text with its listing, its files by name and content, and its status.
-const PLANNED: [(&str, &str, &[(&str, &str)], u8); 5] = [
+const PLANNED: &[(&str, &str, &[(&str, &str)], u8)] = &[
     (
         "proc factex; factors A B; size design=4; model resolution=3; output out=Plan pointrep=2 designrep=2 B cvals=('lo,w' 'h\"i');",
         "step 1\nfactors 2 levels 2\ndesign 4 runs\nno defining words\nnodes 2\nrules\n  none\noutput plan.csv 16 rows\n",
@@ -799,7 +799,7 @@ fn are_shelved<R: Threads + Sync + Abort>(
 
 #[test]
 fn plans_are_shelved(rt: HostRuntime) {
-    are_shelved(&rt, rt.alloc(), &PLANNED);
+    are_shelved(&rt, rt.alloc(), PLANNED);
     let plan = file_of(&rt, rt.alloc(), QUOTED, SURE, 0, QUOTED_LISTING);
     assert!(rt; plan.as_slice() == QUOTED_PLAN);
 }

@@ -11,7 +11,7 @@ pub(super) const NO_FIVE: &str =
 const NO_FIVE_ACCEPTED: &str = "accepted\nsize 2 3 5 0\nresolution 4\npattern none\n";
 
 /// Each text with its listing, its books by name and content, and its status.
-const BOOKS: [(&str, &str, &[(&str, &str)], u8); 6] = [
+const BOOKS: &[(&str, &str, &[(&str, &str)], u8)] = &[
     (
         "proc factex;factors A B C D E;size design=8;model resolution=4;",
         "step 1\nfactors 5 levels 2\nno design in 8 runs\nnodes 10\nbook step1-1.book\n",
@@ -77,7 +77,7 @@ const BOOKS: [(&str, &str, &[(&str, &str)], u8); 6] = [
 
 #[test]
 fn books_are_shelved(rt: HostRuntime) {
-    are_shelved(&rt, rt.alloc(), &BOOKS);
+    are_shelved(&rt, rt.alloc(), BOOKS);
 }
 
 /// A step with a least pattern of 282 nodes.
