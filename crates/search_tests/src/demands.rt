@@ -194,36 +194,36 @@ fn closing_number(forbidden: &Forbidden, prefix: &Matrix) -> Option<u128>
     }
 }
 
-/// The number of the closing word of a prefix of these rows, where a word is forbidden there.
-fn closing(rt: &impl Abort, forbidden: &Forbidden, rows: &[u16]) -> Option<u128> {
+/// Tests that a prefix of these rows has the closing word of this number, or is allowed where there is none.
+fn closes_at(rt: &impl Abort, alloc: Global, question: Question, rows: &[u16], number: Option<u128>)
+    requires { IsValid question }
+{
+    let forbidden = Forbidden::of(alloc, &question).expect(rt, "memory");
     let prefix = prefix_of(rt, forbidden.shape(), rows);
-    let number = closing_number(forbidden, &prefix);
     assert!(rt; forbidden.allows(&prefix) == number.is_none());
-    number
+    assert!(rt; closing_number(&forbidden, &prefix) == number);
 }
 
 /// A, B, C and ABC are at resolution 4; BC with A and ABC has the sum zero.
 #[test]
 fn a_fifth_row_closes_a_half_fraction(rt: HostRuntime) {
-    let forbidden = Forbidden::of(rt.alloc(), &half_fraction()).expect(&rt, "memory");
-    assert!(rt; closing(&rt, &forbidden, &[1, 2, 4, 7]).is_none());
-    assert!(rt; closing(&rt, &forbidden, &[1, 2, 4, 7, 6]) == Some(25));
+    closes_at(&rt, rt.alloc(), half_fraction(), &[1, 2, 4, 7], None);
+    closes_at(&rt, rt.alloc(), half_fraction(), &[1, 2, 4, 7, 6], Some(25));
 }
 
 /// Blocks by ABC and BC have the interaction A.
 #[test]
 fn an_interaction_of_blocks_is_forbidden(rt: HostRuntime) {
-    let forbidden = Forbidden::of(rt.alloc(), &in_blocks()).expect(&rt, "memory");
-    assert!(rt; closing(&rt, &forbidden, &[1, 2, 4, 7]).is_none());
-    assert!(rt; closing(&rt, &forbidden, &[1, 2, 4, 7, 6]) == Some(25));
+    closes_at(&rt, rt.alloc(), in_blocks(), &[1, 2, 4, 7], None);
+    closes_at(&rt, rt.alloc(), in_blocks(), &[1, 2, 4, 7, 6], Some(25));
 }
 
 #[test]
 fn two_factors_are_told_apart(rt: HostRuntime) {
     let question = two_effects(rt.alloc()).expect(&rt, "memory");
-    let forbidden = Forbidden::of(rt.alloc(), &question).expect(&rt, "memory");
-    assert!(rt; closing(&rt, &forbidden, &[1]).is_none());
-    assert!(rt; closing(&rt, &forbidden, &[1, 1]) == Some(3));
+    closes_at(&rt, rt.alloc(), question, &[1], None);
+    let question = two_effects(rt.alloc()).expect(&rt, "memory");
+    closes_at(&rt, rt.alloc(), question, &[1, 1], Some(3));
 }
 
 /// Whether the vector at this place has these two codes.
