@@ -1,38 +1,28 @@
-use fx_base::{Bytes, NoMemory};
+use crate::names_in;
 use fx_effects::{ModelEffects, effects_of};
 use fx_galois::Field;
 use fx_language::symbols;
 use fx_lexer::lex;
-use fx_text::{Names, ParseStop, Phrase, lexemes};
+use fx_text::{ParseStop, Phrase, lexemes};
 use fx_vectors::Effects;
 use std::alloc::Global;
 use std::process::Abort;
-use std::test::Fail;
-
-/// The names in a text, between blanks.
-fn names(alloc: Global, text: &str) -> Result<Names, NoMemory> {
-    let mut names = Names::new(alloc);
-    for name in text.split_whitespace() {
-        names.push(Bytes::from_slice(alloc, name.as_bytes())?)?;
-    }
-    Ok(names)
-}
 
 /// What a statement asks for in a step with these factors, with three levels.
 fn read(
     rt: &impl Abort,
     alloc: Global,
-    factors: &[Bytes],
+    factors: &str,
     text: &[u8],
-) -> Result<Result<ModelEffects, ParseStop>, Fail> {
-    assert!(rt; text.len() <= 1048576);
-    assert!(rt; factors.len() <= 40);
+) -> Result<ModelEffects, ParseStop> {
     let field = Field::of(3).expect(rt, "a number of levels");
-    let tokens = lex(alloc, text)?;
-    let symbols = symbols(alloc, text, &tokens)?;
-    let lexemes = lexemes(alloc, text, &tokens, symbols.as_slice())?;
+    let factors = names_in(rt, alloc, factors);
+    assert!(rt; text.len() <= 1048576 && factors.len() <= 40);
+    let tokens = lex(alloc, text).expect(rt, "tokens");
+    let symbols = symbols(alloc, text, &tokens).expect(rt, "memory");
+    let lexemes = lexemes(alloc, text, &tokens, symbols.as_slice()).expect(rt, "memory");
     let statement = Phrase::new(lexemes.as_slice());
-    Ok(effects_of(alloc, field, factors, &statement))
+    effects_of(alloc, field, factors.as_slice(), &statement)
 }
 
 /// Whether these are the effects, in order.
@@ -56,32 +46,26 @@ fn asks_for(
     text: &str,
     estimate: &[u64],
     nonnegligible: &[u64],
-) -> Result<(), Fail> {
-    let factors = names(alloc, factors)?;
-    match read(rt, alloc, factors.as_slice(), text.as_bytes())? {
-        Ok(effects) => assert!(rt;
-            are(&effects.estimate, estimate) && are(&effects.nonnegligible, nonnegligible)
-        ),
-        Err(_stop) => assert!(rt; false),
-    }
-    Ok(())
+) {
+    let effects = read(rt, alloc, factors, text.as_bytes()).expect(rt, "effects");
+    assert!(rt; are(&effects.estimate, estimate) && are(&effects.nonnegligible, nonnegligible));
 }
 
 #[test]
-fn both_lists_are_sets_in_effect_order(rt: HostRuntime) -> Result<(), Fail> {
+fn both_lists_are_sets_in_effect_order(rt: HostRuntime) {
     let text = "model estimate=(a*b*A x1-X3 a|b@1 X1) nonnegligible=(A|x3|B@2 b)";
     let estimate = [1, 2, 4, 8, 16, 3];
-    asks_for(&rt, rt.alloc(), "A B X1 X2 X3", text, &estimate, &[17, 18])
+    asks_for(&rt, rt.alloc(), "A B X1 X2 X3", text, &estimate, &[17, 18]);
 }
 
 #[test]
-fn repeated_bars_are_read_once(rt: HostRuntime) -> Result<(), Fail> {
+fn repeated_bars_are_read_once(rt: HostRuntime) {
     let text = "model estimate=(A|B@1 B|A A|B A*B|B) nonneg=(A|X1 X1|A|A*X1)";
-    asks_for(&rt, rt.alloc(), "A B X1", text, &[1, 2, 3], &[4, 5])
+    asks_for(&rt, rt.alloc(), "A B X1", text, &[1, 2, 3], &[4, 5]);
 }
 
 #[test]
-fn refused_where_the_rule_is_broken(rt: HostRuntime) -> Result<(), Fail> {
+fn refused_where_the_rule_is_broken(rt: HostRuntime) {
     const CASES: [(&str, u8, u32); 8] = [
         ("model estimate=(a c@0 x3-x1)", 4, 19),
         ("model estimate=(a x3-x1 c)", 30, 19),
@@ -92,14 +76,14 @@ fn refused_where_the_rule_is_broken(rt: HostRuntime) -> Result<(), Fail> {
         ("model estimate=() n=(a)", 2, 7),
         ("model", 2, 1),
     ];
-    are_refused(&rt, rt.alloc(), "A B X1 X2 X3", &CASES)
+    are_refused(&rt, rt.alloc(), "A B X1 X2 X3", &CASES);
 }
 
 /// The names of seventeen factors.
 const SEVENTEEN: &str = "A B C D E F G H I J K L M N O P Q";
 
 #[test]
-fn refused_where_there_are_too_many(rt: HostRuntime) -> Result<(), Fail> {
+fn refused_where_there_are_too_many(rt: HostRuntime) {
     const CASES: [(&str, u8, u32); 4] = [
         ("model estimate=(A|B|C|D|E|F|G)", 22, 7),
         (
@@ -114,51 +98,24 @@ fn refused_where_there_are_too_many(rt: HostRuntime) -> Result<(), Fail> {
             20,
         ),
     ];
-    are_refused(&rt, rt.alloc(), SEVENTEEN, &CASES)?;
+    are_refused(&rt, rt.alloc(), SEVENTEEN, &CASES);
     let text = "model estimate=(A|B|C|D|E|F) nonneg=(A|B|C|D|E|F|G)";
-    assert!(rt; numbers_of(&rt, rt.alloc(), SEVENTEEN, text)? == Some((63, 64)));
-    Ok(())
-}
-
-/// How many effects are asked for in both lists, or None where the statement is refused.
-fn numbers_of(
-    rt: &impl Abort,
-    alloc: Global,
-    factors: &str,
-    text: &str,
-) -> Result<Option<(usize, usize)>, Fail> {
-    let factors = names(alloc, factors)?;
-    match read(rt, alloc, factors.as_slice(), text.as_bytes())? {
-        Ok(effects) => Ok(Some((effects.estimate.len(), effects.nonnegligible.len()))),
-        Err(_stop) => Ok(None),
-    }
+    let effects = read(&rt, rt.alloc(), SEVENTEEN, text.as_bytes()).expect(&rt, "effects");
+    assert!(rt; effects.estimate.len() == 63 && effects.nonnegligible.len() == 64);
 }
 
 /// The code and column of a refusal, or None.
-fn refusal(
-    rt: &impl Abort,
-    alloc: Global,
-    factors: &str,
-    text: &str,
-) -> Result<Option<(u8, u32)>, Fail> {
-    let factors = names(alloc, factors)?;
-    match read(rt, alloc, factors.as_slice(), text.as_bytes())? {
-        Err(ParseStop::Refused(refusal)) => Ok(Some((refusal.code, refusal.column))),
-        Err(ParseStop::NoMemory) => Ok(None),
-        Ok(_effects) => Ok(None),
+fn refusal(rt: &impl Abort, alloc: Global, factors: &str, text: &str) -> Option<(u8, u32)> {
+    match read(rt, alloc, factors, text.as_bytes()) {
+        Err(ParseStop::Refused(refusal)) => Some((refusal.code, refusal.column)),
+        Err(ParseStop::NoMemory) | Ok(_) => None,
     }
 }
 
 /// Tests that each text is refused with this code at this column.
-fn are_refused(
-    rt: &impl Abort,
-    alloc: Global,
-    factors: &str,
-    cases: &[(&str, u8, u32)],
-) -> Result<(), Fail> {
+fn are_refused(rt: &impl Abort, alloc: Global, factors: &str, cases: &[(&str, u8, u32)]) {
     for (text, code, column) in cases {
-        let found = refusal(rt, alloc, factors, text)?;
+        let found = refusal(rt, alloc, factors, text);
         assert!(rt; found == Some((*code, *column)), "{text}");
     }
-    Ok(())
 }

@@ -1,16 +1,14 @@
 use fx_language::{Symbol, symbols};
 use fx_lexer::lex;
 use std::alloc::Global;
-use std::test::Fail;
+use std::process::Abort;
 
-/// Whether these are the symbols of a text.
-fn has_symbols(alloc: Global, text: &[u8], wanted: &[Symbol]) -> Result<bool, Fail> {
-    if text.len() > 1_048_576 {
-        return Ok(false);
-    }
-    let tokens = lex(alloc, text)?;
-    let read = symbols(alloc, text, &tokens)?;
-    Ok(read.as_slice() == wanted)
+/// Tests that these are the symbols of a text.
+fn has_symbols(rt: &impl Abort, alloc: Global, text: &str, wanted: &[Symbol]) {
+    assert!(rt; text.len() <= 1_048_576);
+    let tokens = lex(alloc, text.as_bytes()).expect(rt, "tokens");
+    let read = symbols(alloc, text.as_bytes(), &tokens).expect(rt, "memory");
+    assert!(rt; read.as_slice() == wanted);
 }
 
 /// Each spelling of a keyword, in letters of either case.
@@ -69,9 +67,8 @@ const KEYWORDS: [Symbol; 47] = [
 ];
 
 #[test]
-fn each_spelling_is_a_keyword(rt: HostRuntime) -> Result<(), Fail> {
-    assert!(rt; has_symbols(rt.alloc(), SPELLINGS.as_bytes(), &KEYWORDS)?);
-    Ok(())
+fn each_spelling_is_a_keyword(rt: HostRuntime) {
+    has_symbols(&rt, rt.alloc(), SPELLINGS, &KEYWORDS);
 }
 
 /// The symbols of tokens that are no keywords.
@@ -98,8 +95,7 @@ const OTHERS: [Symbol; 19] = [
 ];
 
 #[test]
-fn other_tokens_have_their_symbols(rt: HostRuntime) -> Result<(), Fail> {
+fn other_tokens_have_their_symbols(rt: HostRuntime) {
     let text = "procs _ 38 2.5 .5 'proc' \"\" x;=()[]/ *|@-";
-    assert!(rt; has_symbols(rt.alloc(), text.as_bytes(), &OTHERS)?);
-    Ok(())
+    has_symbols(&rt, rt.alloc(), text, &OTHERS);
 }

@@ -1,23 +1,20 @@
 use crate::rows_of;
-use fx_base::NoMemory;
 use fx_lexer::{Kind, LexFault, LexStop, Token, lex};
 use std::alloc::Global;
 use std::process::Abort;
-use std::test::Fail;
 
 /// The kind, line and column of a text's first fault, or None where it has none.
-fn fault(rt: &impl Abort, alloc: Global, text: &[u8]) -> Result<Option<(u8, u32, u32)>, NoMemory> {
+fn fault(rt: &impl Abort, alloc: Global, text: &[u8]) -> Option<(u8, u32, u32)> {
     assert!(rt; text.len() <= 1048576);
     match lex(alloc, text) {
-        Err(LexStop::Fault(LexFault { kind, line, column })) => Ok(Some((kind, line, column))),
-        Err(LexStop::NoMemory) => Err(NoMemory),
-        Ok(_) => Ok(None),
+        Err(LexStop::Fault(LexFault { kind, line, column })) => Some((kind, line, column)),
+        Err(LexStop::NoMemory) | Ok(_) => None,
     }
 }
 
-fn count(rt: &impl Abort, alloc: Global, text: &[u8]) -> Result<usize, LexStop> {
+fn count(rt: &impl Abort, alloc: Global, text: &[u8]) -> usize {
     assert!(rt; text.len() <= 1048576);
-    Ok(lex(alloc, text)?.len())
+    lex(alloc, text).expect(rt, "tokens").len()
 }
 
 /// Kinds of tokens, each with its line and column, and where it begins and ends.
@@ -66,12 +63,11 @@ fn are(tokens: &[Token], wanted: &[(Kind, u32, u32, usize, usize)]) -> bool {
 }
 
 #[test]
-fn program_has_its_tokens(rt: HostRuntime) -> Result<(), Fail> {
+fn program_has_its_tokens(rt: HostRuntime) {
     let text =
         "proc factex;\n\t*two | three;\r\n factors A_1-B2 /nlev=3;/*;*/ nvals=(-1.5 .25 'it''s' \"\") @*[]";
-    let tokens = lex(rt.alloc(), text.as_bytes())?;
+    let tokens = lex(rt.alloc(), text.as_bytes()).expect(&rt, "tokens");
     assert!(rt; are(tokens.as_slice(), &TOKENS));
-    Ok(())
 }
 
 /// Texts, each with the kind, line and column of its first fault. The last has two.
@@ -86,21 +82,20 @@ const FAULTS: [(&str, u8, u32, u32); 8] = [
     ("# '", 3, 1, 1),
 ];
 
-fn have_faults(rt: &impl Abort, alloc: Global, cases: &[(&str, u8, u32, u32)]) -> Result<(), Fail> {
+fn have_faults(rt: &impl Abort, alloc: Global, cases: &[(&str, u8, u32, u32)]) {
     for (text, kind, line, column) in cases {
-        let found = fault(rt, alloc, text.as_bytes())?;
+        let found = fault(rt, alloc, text.as_bytes());
         assert!(rt; found == Some((*kind, *line, *column)), "{text}");
     }
-    Ok(())
 }
 
 #[test]
-fn each_fault_has_its_place(rt: HostRuntime) -> Result<(), Fail> {
-    have_faults(&rt, rt.alloc(), &FAULTS)
+fn each_fault_has_its_place(rt: HostRuntime) {
+    have_faults(&rt, rt.alloc(), &FAULTS);
 }
 
 #[test]
-fn limits_are_kept_on_both_sides(rt: HostRuntime) -> Result<(), Fail> {
+fn limits_are_kept_on_both_sides(rt: HostRuntime) {
     let alloc = rt.alloc();
     const LONGEST: [&str; 3] = [
         " 12345678901234567890123456789012345678",
@@ -108,7 +103,7 @@ fn limits_are_kept_on_both_sides(rt: HostRuntime) -> Result<(), Fail> {
         " _bcdefghijklmnopqrstuvwxyzABCD12",
     ];
     for text in rows_of(&LONGEST) {
-        assert!(rt; count(&rt, alloc, text.as_bytes())? == 1, "{text}");
+        assert!(rt; count(&rt, alloc, text.as_bytes()) == 1, "{text}");
     }
     have_faults(
         &rt,
@@ -118,34 +113,28 @@ fn limits_are_kept_on_both_sides(rt: HostRuntime) -> Result<(), Fail> {
             ("1234567890123456789012345678901234567.9", 4, 1, 1),
             (" _bcdefghijklmnopqrstuvwxyzABCD123", 5, 1, 2),
         ],
-    )
+    );
 }
 
 /// How many tokens the longest text has, of blanks with these bytes at its beginning and its end.
-fn count_of_longest(
-    rt: &impl Abort,
-    alloc: Global,
-    open: &[u8; 2],
-    close: &[u8; 2],
-) -> Result<usize, Fail> {
-    let mut text = vec![in alloc; b' '; 1048576]?;
+fn count_of_longest(rt: &impl Abort, alloc: Global, open: &[u8; 2], close: &[u8; 2]) -> usize {
+    let mut text = vec![in alloc; b' '; 1048576].expect(rt, "memory");
     text[0] = open[0];
     text[1] = open[1];
     text[1048574] = close[0];
     text[1048575] = close[1];
-    Ok(count(rt, alloc, &text)?)
+    count(rt, alloc, &text)
 }
 
 #[test]
-fn longest_texts_end(rt: HostRuntime) -> Result<(), Fail> {
-    const ENDS: [(&[u8; 2], &[u8; 2], usize); 4] = [
+fn longest_texts_end(rt: HostRuntime) {
+    const ENDS: &[(&[u8; 2], &[u8; 2], usize)] = &[
         (b"  ", b"  ", 0),
         (b"/*", b"*/", 0),
         (b"* ", b" ;", 0),
         (b"' ", b" '", 1),
     ];
-    for (open, close, tokens) in rows_of(&ENDS) {
-        assert!(rt; count_of_longest(&rt, rt.alloc(), open, close)? == *tokens);
+    for (open, close, tokens) in rows_of(ENDS) {
+        assert!(rt; count_of_longest(&rt, rt.alloc(), open, close) == *tokens);
     }
-    Ok(())
 }

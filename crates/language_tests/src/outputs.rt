@@ -1,26 +1,17 @@
-use fx_base::{Bytes, NoMemory};
+use crate::names_in;
+use fx_base::Bytes;
 use fx_language::symbols;
 use fx_lexer::lex;
 use fx_outputs::{BlockCount, EarlierNames, OutputContext, OutputSpec, Outputs, Shuffle, outputs};
 use fx_text::{Names, ParseStop, lexemes, statements};
 use std::alloc::Global;
 use std::process::Abort;
-use std::test::Fail;
-
-/// The names in a text, between blanks.
-fn names(alloc: Global, text: &str) -> Result<Names, NoMemory> {
-    let mut names = Names::new(alloc);
-    for name in text.split_whitespace() {
-        names.push(Bytes::from_slice(alloc, name.as_bytes())?)?;
-    }
-    Ok(names)
-}
 
 /// The OUT name `old` of an earlier statement.
-fn earlier_names(rt: &impl Abort, alloc: Global) -> Result<EarlierNames, Fail> {
+fn earlier_names(rt: &impl Abort, alloc: Global) -> EarlierNames {
     let mut earlier = EarlierNames::new(alloc);
-    assert!(rt; earlier.add(alloc, b"old")?);
-    Ok(earlier)
+    assert!(rt; earlier.add(alloc, b"old") == Ok(true));
+    earlier
 }
 
 /// What a text gives after these OUT names, in a step with these factors, with two levels and 16 runs.
@@ -31,15 +22,14 @@ fn read_after(
     earlier: &mut EarlierNames,
     blocks: BlockCount,
     text: &[u8],
-) -> Result<Result<Outputs, ParseStop>, Fail> {
-    assert!(rt; text.len() <= 1048576);
-    assert!(rt; factors.len() < 256);
-    let tokens = lex(alloc, text)?;
-    let symbols = symbols(alloc, text, &tokens)?;
-    let lexemes = lexemes(alloc, text, &tokens, symbols.as_slice())?;
-    let statements = statements(alloc, lexemes.as_slice())?;
+) -> Result<Outputs, ParseStop> {
+    assert!(rt; text.len() <= 1048576 && factors.len() < 256);
+    let tokens = lex(alloc, text).expect(rt, "tokens");
+    let symbols = symbols(alloc, text, &tokens).expect(rt, "memory");
+    let lexemes = lexemes(alloc, text, &tokens, symbols.as_slice()).expect(rt, "memory");
+    let statements = statements(alloc, lexemes.as_slice()).expect(rt, "memory");
     let context = OutputContext::new(factors, 2, 16, blocks);
-    Ok(outputs(alloc, &context, earlier, statements.as_slice()))
+    outputs(alloc, &context, earlier, statements.as_slice())
 }
 
 /// What a text gives after the OUT name `old`, in a step with the factors A and Block.
@@ -48,48 +38,31 @@ fn read(
     alloc: Global,
     blocks: BlockCount,
     text: &str,
-) -> Result<Result<Outputs, ParseStop>, Fail> {
-    let factors = names(alloc, "A Block")?;
-    let mut earlier = earlier_names(rt, alloc)?;
-    read_after(
-        rt,
-        alloc,
-        factors.as_slice(),
-        &mut earlier,
-        blocks,
-        text.as_bytes(),
-    )
+) -> Result<Outputs, ParseStop> {
+    let factors = names_in(rt, alloc, "A Block");
+    let mut earlier = earlier_names(rt, alloc);
+    let text = text.as_bytes();
+    read_after(rt, alloc, factors.as_slice(), &mut earlier, blocks, text)
 }
 
 /// The code of a refusal, and its column in the first line.
-fn refusal(
-    rt: &impl Abort,
-    alloc: Global,
-    blocks: BlockCount,
-    text: &str,
-) -> Result<Option<(u8, u32)>, Fail> {
-    match read(rt, alloc, blocks, text)? {
-        Ok(_) => Ok(None),
-        Err(ParseStop::NoMemory) => Ok(None),
-        Err(ParseStop::Refused(refusal)) => Ok(Some((refusal.code, refusal.column))),
+fn refusal(rt: &impl Abort, alloc: Global, blocks: BlockCount, text: &str) -> Option<(u8, u32)> {
+    match read(rt, alloc, blocks, text) {
+        Err(ParseStop::Refused(refusal)) => Some((refusal.code, refusal.column)),
+        Err(ParseStop::NoMemory) | Ok(_) => None,
     }
 }
 
 /// Tests that each text is refused by this code at this column.
-fn are_refused(
-    rt: &impl Abort,
-    alloc: Global,
-    cases: &[(BlockCount, &str, u8, u32)],
-) -> Result<(), Fail> {
+fn are_refused(rt: &impl Abort, alloc: Global, cases: &[(BlockCount, &str, u8, u32)]) {
     for (blocks, text, code, column) in cases {
-        let found = refusal(rt, alloc, *blocks, text)?;
+        let found = refusal(rt, alloc, *blocks, text);
         assert!(rt; found == Some((*code, *column)), "{text}");
     }
-    Ok(())
 }
 
 #[test]
-fn refused_where_the_rule_is_broken(rt: HostRuntime) -> Result<(), Fail> {
+fn refused_where_the_rule_is_broken(rt: HostRuntime) {
     const CASES: [(BlockCount, &str, u8, u32); 14] = [
         (BlockCount::Without, "output out=OLD pointrep=0;", 18, 12),
         (BlockCount::Without, "output out=b;output out=B;", 18, 25),
@@ -141,7 +114,7 @@ fn refused_where_the_rule_is_broken(rt: HostRuntime) -> Result<(), Fail> {
         ),
         (BlockCount::Without, "output out=b A nvals=(1);", 17, 16),
     ];
-    are_refused(&rt, rt.alloc(), &CASES)
+    are_refused(&rt, rt.alloc(), &CASES);
 }
 
 /// Whether these are the texts, in order, between blanks.
@@ -195,10 +168,7 @@ fn are_both(outputs: &Outputs) -> bool {
 }
 
 #[test]
-fn output_has_what_is_written(rt: HostRuntime) -> Result<(), Fail> {
-    match read(&rt, rt.alloc(), BlockCount::Fixed(4), BOTH)? {
-        Ok(outputs) => assert!(rt; are_both(&outputs)),
-        Err(_stop) => assert!(rt; false),
-    }
-    Ok(())
+fn output_has_what_is_written(rt: HostRuntime) {
+    let outputs = read(&rt, rt.alloc(), BlockCount::Fixed(4), BOTH).expect(&rt, "outputs");
+    assert!(rt; are_both(&outputs));
 }

@@ -7,79 +7,70 @@ use fx_base::{
     write_all,
 };
 use std::alloc::Global;
-use std::test::Fail;
+use std::process::Abort;
 
-// A test calls one function that makes, acts and compares, and that answers with a `bool`: a call that can fail
-// while an object outside is alive is slow to prove.
+// What fails where memory runs out ends the test, by `expect`: each error that a function hands on is another way
+// out of it, which is proved with all that is dropped there.
 
-fn pushed_items(alloc: Global) -> Result<Items<u32>, NoMemory> {
-    let mut items = Items::new(alloc);
-    items.push(7)?;
-    items.push(8)?;
-    Ok(items)
-}
-
-fn appended_values(alloc: Global) -> Result<Values<u32>, NoMemory> {
-    let mut values = Values::new(alloc);
-    values.push(7)?;
-    values.extend_from_slice(&[8, 9])?;
-    Ok(values)
+#[test]
+fn items_grow_at_the_end(rt: HostRuntime) {
+    let mut items = Items::new(rt.alloc());
+    items.push(7).expect(&rt, "memory");
+    items.push(8).expect(&rt, "memory");
+    assert!(rt; items.as_slice() == [7, 8].as_slice());
 }
 
 #[test]
-fn lists_grow_at_the_end(rt: HostRuntime) -> Result<(), Fail> {
-    assert!(rt; pushed_items(rt.alloc())?.as_slice() == [7, 8].as_slice());
-    assert!(rt; appended_values(rt.alloc())?.as_slice() == [7, 8, 9].as_slice());
-    let given = Values::from_slice(rt.alloc(), &[7u32, 8, 9])?;
+fn values_grow_at_the_end(rt: HostRuntime) {
+    let mut values = Values::new(rt.alloc());
+    values.push(7).expect(&rt, "memory");
+    values.extend_from_slice(&[8, 9]).expect(&rt, "memory");
+    let given = Values::from_slice(rt.alloc(), &[7u32, 8, 9]).expect(&rt, "memory");
     assert!(rt; given.as_slice() == [7, 8, 9].as_slice());
-    Ok(())
-}
-
-fn put_parts(out: &mut Bytes) -> Result<(), NoMemory> {
-    put_number(out, 0)?;
-    put(out, b", most = ")?;
-    put_number(out, u128::MAX)
+    assert!(rt; values.as_slice() == given.as_slice());
 }
 
 #[test]
-fn text_and_numbers_are_appended(rt: HostRuntime) -> Result<(), Fail> {
-    let mut out = Bytes::from_slice(rt.alloc(), b"m = ")?;
-    put_parts(&mut out)?;
+fn text_and_numbers_are_appended(rt: HostRuntime) {
+    let mut out = Bytes::from_slice(rt.alloc(), b"m = ").expect(&rt, "memory");
+    put_number(&mut out, 0).expect(&rt, "memory");
+    put(&mut out, b", most = ").expect(&rt, "memory");
+    put_number(&mut out, u128::MAX).expect(&rt, "memory");
     let text = "m = 0, most = 340282366920938463463374607431768211455";
     assert!(rt; out.as_slice() == text.as_bytes());
-    Ok(())
 }
 
-/// Whether a text is read whole.
-fn is_read(alloc: Global, text: &[u8], limit: usize) -> Result<bool, ReadStop> {
-    let mut source = SureSource::new(Bytes::from_slice(alloc, text)?, 2);
-    match read_all(alloc, &mut source, limit)? {
-        Taken::Whole(bytes) => Ok(bytes.as_slice() == text),
-        Taken::TooLong => Ok(false),
+/// Limits, each with whether a text of five bytes is read whole, or None where it is too long.
+const LIMITS: [(usize, Option<bool>); 5] = [
+    (5, Some(true)),
+    (6, Some(true)),
+    (usize::MAX, Some(true)),
+    (0, None),
+    (4, None),
+];
+
+fn is_read(rt: &impl Abort, alloc: Global, limit: usize) -> Option<bool> {
+    let text = b"abcde".as_slice();
+    let content = Bytes::from_slice(alloc, text).expect(rt, "memory");
+    let mut source = SureSource::new(content, 2);
+    match read_all(alloc, &mut source, limit).expect(rt, "a text") {
+        Taken::Whole(bytes) => Some(bytes.as_slice() == text),
+        Taken::TooLong => None,
     }
 }
 
-/// Whether a text is refused as too long.
-fn is_too_long(alloc: Global, text: &[u8], limit: usize) -> Result<bool, ReadStop> {
-    let mut source = SureSource::new(Bytes::from_slice(alloc, text)?, 2);
-    Ok(matches!(read_all(alloc, &mut source, limit)?, Taken::TooLong))
-}
-
 #[test]
-fn more_than_the_limit_is_too_long(rt: HostRuntime) -> Result<(), Fail> {
-    assert!(rt; is_read(rt.alloc(), b"abcde", 5)?);
-    assert!(rt; is_read(rt.alloc(), b"abcde", 6)?);
-    assert!(rt; is_read(rt.alloc(), b"abcde", usize::MAX)?);
-    assert!(rt; is_too_long(rt.alloc(), b"abcde", 0)?);
-    assert!(rt; is_too_long(rt.alloc(), b"abcde", 4)?);
-    Ok(())
+fn more_than_the_limit_is_too_long(rt: HostRuntime) {
+    for (limit, read) in LIMITS {
+        assert!(rt; is_read(&rt, rt.alloc(), limit) == read, "{limit}");
+    }
 }
 
 /// A source whose second call fails.
-fn source(alloc: Global) -> Result<MemorySource, NoMemory> {
-    let content = Bytes::from_slice(alloc, b"abcde")?;
-    let failing = Bytes::from_slice(alloc, &[2])?;
-    Ok(MemorySource::new(content, 2, failing))
+fn source(rt: &impl Abort, alloc: Global) -> MemorySource {
+    let content = Bytes::from_slice(alloc, b"abcde").expect(rt, "memory");
+    let failing = Bytes::from_slice(alloc, &[2]).expect(rt, "memory");
+    MemorySource::new(content, 2, failing)
 }
 
 /// Whether the calls take these numbers of bytes, or fail at None, and leave these in the buffer.
@@ -94,26 +85,19 @@ fn reads(source: &mut MemorySource, numbers: &[Option<usize>], left: &[u8; 4]) -
 }
 
 #[test]
-fn a_source_fails_at_its_second_call(rt: HostRuntime) -> Result<(), Fail> {
+fn a_source_fails_at_its_second_call(rt: HostRuntime) {
     const NUMBERS: [Option<usize>; 5] = [Some(2), None, Some(2), Some(1), Some(0)];
-    let mut source = source(rt.alloc())?;
-    assert!(rt; reads(&mut source, &NUMBERS, b"ed\0\0"));
-    assert_eq!(rt; source.faults(), 1);
-    Ok(())
-}
-
-/// Whether a whole text is refused, since reading failed.
-fn is_fault(alloc: Global, source: &mut MemorySource) -> bool {
-    matches!(read_all(alloc, source, 9), Err(ReadStop::ReadFault))
+    let mut source = source(&rt, rt.alloc());
+    assert!(rt; reads(&mut source, &NUMBERS, b"ed\0\0") && source.faults() == 1);
 }
 
 /// The next bytes are still there: no call followed the failed one.
 #[test]
-fn a_fault_is_handed_on(rt: HostRuntime) -> Result<(), Fail> {
-    let mut source = source(rt.alloc())?;
-    assert!(rt; is_fault(rt.alloc(), &mut source));
+fn a_fault_is_handed_on(rt: HostRuntime) {
+    let mut source = source(&rt, rt.alloc());
+    let read = read_all(rt.alloc(), &mut source, 9);
+    assert!(rt; matches!(read, Err(ReadStop::ReadFault)));
     assert!(rt; reads(&mut source, &[Some(2)], b"cd\0\0"));
-    Ok(())
 }
 
 /// Whether calls take these numbers of bytes of four, or fail at None.
@@ -126,25 +110,24 @@ fn writes(sink: &mut MemorySink, numbers: &[Option<usize>]) -> bool {
     true
 }
 
-fn sink(alloc: Global) -> Result<MemorySink, NoMemory> {
-    MemorySink::new(alloc, 3, 5, Bytes::from_slice(alloc, &[2])?)
+fn sink(rt: &impl Abort, alloc: Global) -> MemorySink {
+    let failing = Bytes::from_slice(alloc, &[2]).expect(rt, "memory");
+    MemorySink::new(alloc, 3, 5, failing).expect(rt, "memory")
 }
 
 #[test]
-fn a_sink_fails_where_its_room_is_used_up(rt: HostRuntime) -> Result<(), Fail> {
-    let mut sink = sink(rt.alloc())?;
+fn a_sink_fails_where_its_room_is_used_up(rt: HostRuntime) {
     const TAKEN: [Option<usize>; 4] = [Some(3), None, Some(2), None];
+    let mut sink = sink(&rt, rt.alloc());
     assert!(rt; writes(&mut sink, &TAKEN));
     assert!(rt; sink.bytes() == b"abcab".as_slice() && sink.faults() == 2);
-    Ok(())
 }
 
 #[test]
-fn a_front_part_is_written(rt: HostRuntime) -> Result<(), Fail> {
-    let mut sink = SureSink::new(rt.alloc(), 3, 5)?;
+fn a_front_part_is_written(rt: HostRuntime) {
+    let mut sink = SureSink::new(rt.alloc(), 3, 5).expect(&rt, "memory");
     assert!(rt; write_all(&mut sink, b"abcd").is_ok() && write_all(&mut sink, b"ef").is_err());
     assert!(rt; sink.bytes() == b"abcde".as_slice());
-    Ok(())
 }
 
 /// Puts two files on a shelf, and tries a third.
@@ -166,11 +149,9 @@ fn has_two_files(shelf: &SureShelf) -> bool {
 }
 
 #[test]
-fn a_shelf_holds_two_files(rt: HostRuntime) -> Result<(), Fail> {
-    let mut shelf = SureShelf::new(rt.alloc(), 3, 132)?;
-    assert!(rt; shelve_files(&mut shelf) == Ok(true));
-    assert!(rt; has_two_files(&shelf));
-    Ok(())
+fn a_shelf_holds_two_files(rt: HostRuntime) {
+    let mut shelf = SureShelf::new(rt.alloc(), 3, 132).expect(&rt, "memory");
+    assert!(rt; shelve_files(&mut shelf) == Ok(true) && has_two_files(&shelf));
 }
 
 /// Puts a file on a shelf, and tries a second.
@@ -189,26 +170,24 @@ fn has_begun_a_second(shelf: &MemoryShelf) -> bool {
 }
 
 #[test]
-fn a_shelf_fails_amid_its_second_file(rt: HostRuntime) -> Result<(), Fail> {
-    let calls = Bytes::from_slice(rt.alloc(), &[6])?;
-    let mut shelf = MemoryShelf::new(rt.alloc(), 3, 1000, calls)?;
-    assert!(rt; shelve_amid(&mut shelf) == Ok(true));
-    assert!(rt; has_begun_a_second(&shelf));
-    Ok(())
+fn a_shelf_fails_amid_its_second_file(rt: HostRuntime) {
+    let calls = Bytes::from_slice(rt.alloc(), &[6]).expect(&rt, "memory");
+    let mut shelf = MemoryShelf::new(rt.alloc(), 3, 1000, calls).expect(&rt, "memory");
+    assert!(rt; shelve_amid(&mut shelf) == Ok(true) && has_begun_a_second(&shelf));
 }
 
 #[test]
-fn errors_have_messages(rt: HostRuntime) -> Result<(), Fail> {
+fn errors_have_messages(rt: HostRuntime) {
     let text = format!(in rt.alloc();
         "{}; {}; {}; {}",
         Failed,
         NoMemory,
         ReadStop::NoMemory,
         ReadStop::ReadFault
-    )?;
+    )
+    .expect(&rt, "memory");
     assert!(rt;
         text.as_str()
             == "a call on an object outside the program failed; memory ran out; memory ran out; reading failed"
     );
-    Ok(())
 }

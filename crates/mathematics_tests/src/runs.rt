@@ -1,14 +1,12 @@
-ghost use Rattle.std.specs.Prelude.{◌≡◌, ◌≤◌, ◌<◌, ◌+◌, ◌^◌, IfOk};
+ghost use Rattle.std.specs.Prelude.{◌≡◌, ◌≤◌, ◌<◌, ◌+◌, ◌^◌};
 ghost use Rattle.fx_vectors.specs.Effects.{numbers_of};
 ghost use Rattle.fx_vectors.specs.Question.{CanBeTold, IsValid};
 ghost use Rattle.fx_vectors.specs.Shape.{IsShape};
 
-use fx_base::NoMemory;
 use fx_runs::{Runs, block_number, constant_in_blocks, is_balanced, is_constant, list_runs, meets};
 use fx_vectors::{Demands, Effect, Effects, Matrix, Question, Shape, Vector};
 use std::alloc::Global;
 use std::process::Abort;
-use std::test::Fail;
 
 const TWO_LEVELS: Shape = Shape {
     q: 2,
@@ -109,8 +107,8 @@ fn has_rows(runs: &Runs, rows: &[[u8; 4]]) -> bool {
     runs.len() == rows.len()
 }
 
-/// A rule matrix of these rows.
-fn matrix_of(rt: &impl Abort, shape: Shape, rows: [u16; 4]) -> Matrix
+/// The runs of a rule matrix of these rows.
+fn runs_of(rt: &impl Abort, alloc: Global, shape: Shape, rows: [u16; 4]) -> Runs
     requires { IsShape shape }
     ensures { result.shape ≡ shape }
 {
@@ -119,39 +117,41 @@ fn matrix_of(rt: &impl Abort, shape: Shape, rows: [u16; 4]) -> Matrix
         assert!(rt; matrix.len() < shape.rows() && row < shape.runs());
         matrix.push(row);
     }
-    matrix
+    assert!(rt; matrix.len() == shape.rows());
+    list_runs(alloc, &matrix).expect(rt, "memory")
 }
 
-/// Whether the vector of four factors of this number is constant over the runs, and whether it is balanced.
-fn told(runs: &Runs, number: u128) -> (bool, bool)
+/// Whether the vector of four factors of this number is constant over the runs, and not balanced.
+fn is_only_constant(runs: &Runs, number: u128) -> bool
     requires rows { runs.now.shape.s + runs.now.shape.t ≡ 4 }
     requires below { number < runs.now.shape.q ^ 4 }
 {
     let word = Vector::of_number(runs.shape().field(), 4, number);
-    (is_constant(&word, runs), is_balanced(&word, runs))
+    is_constant(&word, runs) && !is_balanced(&word, runs)
+}
+
+/// Whether it is balanced over the runs, and not constant.
+fn is_only_balanced(runs: &Runs, number: u128) -> bool
+    requires rows { runs.now.shape.s + runs.now.shape.t ≡ 4 }
+    requires below { number < runs.now.shape.q ^ 4 }
+{
+    let word = Vector::of_number(runs.shape().field(), 4, number);
+    is_balanced(&word, runs) && !is_constant(&word, runs)
 }
 
 #[test]
-fn the_first_index_changes_slowest(rt: HostRuntime) -> Result<(), Fail> {
-    let half = matrix_of(&rt, TWO_LEVELS, [1, 2, 4, 7]);
-    assert!(rt; half.len() == 4);
-    let runs = list_runs(rt.alloc(), &half)?;
+fn the_first_index_changes_slowest(rt: HostRuntime) {
+    let runs = runs_of(&rt, rt.alloc(), TWO_LEVELS, [1, 2, 4, 7]);
     assert!(rt; has_rows(&runs, &HALF));
-    assert!(rt; told(&runs, 15) == (true, false));
-    assert!(rt; told(&runs, 3) == (false, true));
-    Ok(())
+    assert!(rt; is_only_constant(&runs, 15) && is_only_balanced(&runs, 3));
 }
 
 /// A + B + 2 (A + B) is 0, and A + C is 2 A + B.
 #[test]
-fn three_levels(rt: HostRuntime) -> Result<(), Fail> {
-    let ninth = matrix_of(&rt, THREE_LEVELS, [1, 3, 4, 7]);
-    assert!(rt; ninth.len() == 4);
-    let runs = list_runs(rt.alloc(), &ninth)?;
+fn three_levels(rt: HostRuntime) {
+    let runs = runs_of(&rt, rt.alloc(), THREE_LEVELS, [1, 3, 4, 7]);
     assert!(rt; has_rows(&runs, &NINTH));
-    assert!(rt; told(&runs, 22).0);
-    assert!(rt; told(&runs, 10).1);
-    Ok(())
+    assert!(rt; is_only_constant(&runs, 22) && is_only_balanced(&runs, 10));
 }
 
 /// Whether these are the numbers of the blocks.
@@ -176,25 +176,23 @@ fn is_confounded(runs: &Runs, number: u128) -> bool
 
 /// ABC is confounded with blocks, and AB is not.
 #[test]
-fn blocks_are_counted_from_one(rt: HostRuntime) -> Result<(), Fail> {
-    let matrix = matrix_of(&rt, IN_BLOCKS, [1, 2, 4, 7]);
-    assert!(rt; matrix.len() == 4);
-    let runs = list_runs(rt.alloc(), &matrix)?;
+fn blocks_are_counted_from_one(rt: HostRuntime) {
+    let runs = runs_of(&rt, rt.alloc(), IN_BLOCKS, [1, 2, 4, 7]);
     assert!(rt; has_rows(&runs, &HALF));
     assert!(rt; has_blocks(&runs, &[1, 2, 2, 1, 2, 1, 1, 2]));
     assert!(rt; is_confounded(&runs, 7) && !is_confounded(&runs, 3));
-    Ok(())
 }
 
 /// The runs 0, 0 and 1 of one factor.
-fn three_runs(alloc: Global) -> Result<Runs, NoMemory>
-    ensures { IfOk result (λ runs. runs.shape ≡ record { q = 2; m = 1; s = 1; t = 0 }) }
+fn three_runs(rt: &impl Abort, alloc: Global) -> Runs
+    ensures { result.shape ≡ record { q = 2; m = 1; s = 1; t = 0 } }
 {
     let mut runs = Runs::new(alloc, ONE_FACTOR);
-    runs.push(Vector::zero(1))?;
-    runs.push(Vector::zero(1))?;
-    runs.push(Vector::of_number(ONE_FACTOR.field(), 1, 1))?;
-    Ok(runs)
+    runs.push(Vector::zero(1)).expect(rt, "memory");
+    runs.push(Vector::zero(1)).expect(rt, "memory");
+    let one = Vector::of_number(ONE_FACTOR.field(), 1, 1);
+    runs.push(one).expect(rt, "memory");
+    runs
 }
 
 /// How many of these hold: a factor is constant over the runs, balanced, and constant in blocks.
@@ -209,13 +207,12 @@ fn count_of_truths(runs: &Runs) -> u8
 
 /// The runs 0, 0 and 1 are neither constant nor balanced, and no runs are both.
 #[test]
-fn any_runs_are_judged(rt: HostRuntime) -> Result<(), Fail> {
+fn any_runs_are_judged(rt: HostRuntime) {
     let none = Runs::new(rt.alloc(), ONE_FACTOR);
     assert!(rt; none.is_empty() && count_of_truths(&none) == 3);
-    let runs = three_runs(rt.alloc())?;
-    assert!(rt; runs.len() == 3);
-    assert!(rt; block_number(&runs, 2) == 1 && count_of_truths(&runs) == 0);
-    Ok(())
+    let runs = three_runs(&rt, rt.alloc());
+    assert!(rt; runs.len() == 3 && block_number(&runs, 2) == 1);
+    assert!(rt; count_of_truths(&runs) == 0);
 }
 
 /// Asks for a resolution.
@@ -234,84 +231,64 @@ fn at_resolution(shape: Shape, r: u8) -> Question
 
 /// Asks for effects.
 fn for_effects(
+    rt: &impl Abort,
     alloc: Global,
     shape: Shape,
     estimate: &[Effect],
     nonnegligible: &[Effect],
-) -> Result<Question, NoMemory>
+) -> Question
     requires shaped { IsShape shape }
     requires told { CanBeTold shape.q shape.s (numbers_of estimate.now)
         (numbers_of nonnegligible.now) }
-    ensures valid { IfOk result IsValid }
-    ensures shape { IfOk result (λ question. question.shape ≡ shape) }
+    ensures valid { IsValid result }
 {
-    Ok(Question {
+    Question {
         shape,
         demands: Demands::Effects {
-            estimate: Effects::from_slice(alloc, estimate)?,
-            nonnegligible: Effects::from_slice(alloc, nonnegligible)?,
+            estimate: Effects::from_slice(alloc, estimate).expect(rt, "memory"),
+            nonnegligible: Effects::from_slice(alloc, nonnegligible).expect(rt, "memory"),
         },
         least: false,
-    })
+    }
 }
 
-/// Whether the runs of the rows meet the demands. None where these are no rows of the shape.
-fn met(alloc: Global, rows: &[u16], question: &Question) -> Result<Option<bool>, NoMemory>
+/// Whether the runs of the rows meet the demands.
+fn met(rt: &impl Abort, alloc: Global, rows: &[u16], question: &Question) -> bool
     requires { IsValid question.now }
 {
     let shape = question.shape;
-    let limit = u16::from(shape.q).pow(u32::from(shape.m));
     let mut matrix = Matrix::new(shape);
     for row in rows {
-        if matrix.len() == usize::from(shape.s + shape.t) || *row >= limit {
-            return Ok(None);
-        }
+        assert!(rt; matrix.len() < shape.rows() && *row < shape.runs());
         matrix.push(*row);
     }
-    if matrix.len() != usize::from(shape.s + shape.t) {
-        return Ok(None);
-    }
-    let runs = list_runs(alloc, &matrix)?;
-    Ok(Some(meets(question, &runs)))
+    assert!(rt; matrix.len() == shape.rows());
+    let runs = list_runs(alloc, &matrix).expect(rt, "memory");
+    meets(question, &runs)
 }
 
-/// The same for a resolution. None, too, where it is none that can be asked for.
-fn met_at(alloc: Global, shape: Shape, r: u8, rows: &[u16]) -> Result<Option<bool>, NoMemory>
-    requires { IsShape shape }
-{
-    if r < 3 || r > 99 {
-        return Ok(None);
-    }
-    met(alloc, rows, &at_resolution(shape, r))
-}
-
-/// Whether the runs of these rows meet a resolution or not, as is said of each.
-fn are_met_at(alloc: Global, shape: Shape, cases: &[(u8, &[u16], bool)]) -> Result<bool, NoMemory>
+/// Tests that the runs of these rows meet a resolution or not, as is said of each.
+fn are_met_at(rt: &impl Abort, alloc: Global, shape: Shape, cases: &[(u8, &[u16], bool)])
     requires { IsShape shape }
 {
     for (r, rows, is_met) in cases {
-        if met_at(alloc, shape, *r, rows)? != Some(*is_met) {
-            return Ok(false);
-        }
+        assert!(rt; 3 <= *r && *r <= 99);
+        assert!(rt; met(rt, alloc, rows, &at_resolution(shape, *r)) == *is_met);
     }
-    Ok(true)
 }
 
-/// Whether the runs of these rows meet the demands or not, as is said of each.
-fn are_met(alloc: Global, question: &Question, cases: &[(&[u16], bool)]) -> Result<bool, NoMemory>
+/// Tests that the runs of these rows meet the demands or not, as is said of each.
+fn are_met(rt: &impl Abort, alloc: Global, question: &Question, cases: &[(&[u16], bool)])
     requires { IsValid question.now }
 {
     for (rows, is_met) in cases {
-        if met(alloc, rows, question)? != Some(*is_met) {
-            return Ok(false);
-        }
+        assert!(rt; met(rt, alloc, rows, question) == *is_met);
     }
-    Ok(true)
 }
 
 /// Resolutions, rows of four factors of two levels, and whether their runs meet them: with D = ABC, BC
 /// and C.
-const TWO_LEVEL_CASES: [(u8, &[u16], bool); 7] = [
+const TWO_LEVEL_CASES: &[(u8, &[u16], bool)] = &[
     (3, &[1, 2, 4, 7], true),
     (4, &[1, 2, 4, 7], true),
     (5, &[1, 2, 4, 7], false),
@@ -323,71 +300,65 @@ const TWO_LEVEL_CASES: [(u8, &[u16], bool); 7] = [
 
 /// A, B, C and ABC are at resolution 4; A, B, A + B and A + 2 B over GF(3) at 3.
 #[test]
-fn resolutions_are_met(rt: HostRuntime) -> Result<(), Fail> {
-    assert!(rt; are_met_at(rt.alloc(), TWO_LEVELS, &TWO_LEVEL_CASES)?);
-    const CASES: [(u8, &[u16], bool); 2] = [(3, &[1, 3, 4, 7], true), (4, &[1, 3, 4, 7], false)];
-    assert!(rt; are_met_at(rt.alloc(), THREE_LEVELS, &CASES)?);
-    Ok(())
+fn resolutions_are_met(rt: HostRuntime) {
+    are_met_at(&rt, rt.alloc(), TWO_LEVELS, TWO_LEVEL_CASES);
+    const CASES: &[(u8, &[u16], bool)] = &[(3, &[1, 3, 4, 7], true), (4, &[1, 3, 4, 7], false)];
+    are_met_at(&rt, rt.alloc(), THREE_LEVELS, CASES);
 }
 
 /// With D = ABC, AB is distinguished from A, B and C. With D = AB it is not, and neither is A from C = A.
 #[test]
-fn an_interaction_is_told_from_main_effects(rt: HostRuntime) -> Result<(), Fail> {
+fn an_interaction_is_told_from_main_effects(rt: HostRuntime) {
     let effects = [Effect(1), Effect(2), Effect(4), Effect(8), Effect(3)];
-    let question = for_effects(rt.alloc(), TWO_LEVELS, &effects, &[])?;
-    const CASES: [(&[u16], bool); 3] = [
+    const CASES: &[(&[u16], bool)] = &[
         (&[1, 2, 4, 7], true),
         (&[1, 2, 4, 3], false),
         (&[1, 2, 1, 7], false),
     ];
-    assert!(rt; are_met(rt.alloc(), &question, &CASES)?);
-    Ok(())
+    let question = for_effects(&rt, rt.alloc(), TWO_LEVELS, &effects, &[]);
+    are_met(&rt, rt.alloc(), &question, CASES);
 }
 
 /// With D = ABC, AB is not distinguished from CD; with D = AB it is.
 #[test]
-fn an_effect_is_told_from_another_not_estimated(rt: HostRuntime) -> Result<(), Fail> {
-    let question = for_effects(rt.alloc(), TWO_LEVELS, &[Effect(3)], &[Effect(12)])?;
-    const CASES: [(&[u16], bool); 2] = [(&[1, 2, 4, 7], false), (&[1, 2, 4, 3], true)];
-    assert!(rt; are_met(rt.alloc(), &question, &CASES)?);
-    Ok(())
+fn an_effect_is_told_from_another_not_estimated(rt: HostRuntime) {
+    const CASES: &[(&[u16], bool)] = &[(&[1, 2, 4, 7], false), (&[1, 2, 4, 3], true)];
+    let question = for_effects(&rt, rt.alloc(), TWO_LEVELS, &[Effect(3)], &[Effect(12)]);
+    are_met(&rt, rt.alloc(), &question, CASES);
 }
 
 /// A factor at one level has no effect.
 #[test]
-fn an_effect_is_told_from_zero(rt: HostRuntime) -> Result<(), Fail> {
-    let question = for_effects(rt.alloc(), ONE_FACTOR, &[Effect(1)], &[])?;
-    const CASES: [(&[u16], bool); 2] = [(&[1], true), (&[0], false)];
-    assert!(rt; are_met(rt.alloc(), &question, &CASES)?);
-    Ok(())
+fn an_effect_is_told_from_zero(rt: HostRuntime) {
+    const CASES: &[(&[u16], bool)] = &[(&[1], true), (&[0], false)];
+    let question = for_effects(&rt, rt.alloc(), ONE_FACTOR, &[Effect(1)], &[]);
+    are_met(&rt, rt.alloc(), &question, CASES);
 }
 
 /// Two factors with the same levels have one effect.
 #[test]
-fn two_factors_in_two_runs_are_not_told_apart(rt: HostRuntime) -> Result<(), Fail> {
-    let question = for_effects(rt.alloc(), TWO_FACTORS, &[Effect(1), Effect(2)], &[])?;
-    const CASES: [(&[u16], bool); 1] = [(&[1, 1], false)];
-    assert!(rt; are_met(rt.alloc(), &question, &CASES)?);
-    Ok(())
+fn two_factors_in_two_runs_are_not_told_apart(rt: HostRuntime) {
+    const CASES: &[(&[u16], bool)] = &[(&[1, 1], false)];
+    let question = for_effects(&rt, rt.alloc(), TWO_FACTORS, &[Effect(1), Effect(2)], &[]);
+    are_met(&rt, rt.alloc(), &question, CASES);
 }
 
 /// Over GF(3) AB is A + B and A + 2 B, up to multiples, and so not distinguished from C = A + B or A + 2 B;
 /// from C = A it is.
 #[test]
-fn an_interaction_of_three_levels(rt: HostRuntime) -> Result<(), Fail> {
-    let question = for_effects(rt.alloc(), NINE_RUNS, &[Effect(3)], &[Effect(4)])?;
-    const CASES: [(&[u16], bool); 3] = [
+fn an_interaction_of_three_levels(rt: HostRuntime) {
+    const CASES: &[(&[u16], bool)] = &[
         (&[1, 3, 4], false),
         (&[1, 3, 7], false),
         (&[1, 3, 1], true),
     ];
-    assert!(rt; are_met(rt.alloc(), &question, &CASES)?);
-    Ok(())
+    let question = for_effects(&rt, rt.alloc(), NINE_RUNS, &[Effect(3)], &[Effect(4)]);
+    are_met(&rt, rt.alloc(), &question, CASES);
 }
 
 /// Resolutions, rows of three factors and a block factor, and whether their runs meet them: with blocks
 /// by ABC, AB and A.
-const BLOCK_CASES: [(u8, &[u16], bool); 9] = [
+const BLOCK_CASES: &[(u8, &[u16], bool)] = &[
     (3, &[1, 2, 4, 7], true),
     (4, &[1, 2, 4, 7], true),
     (5, &[1, 2, 4, 7], true),
@@ -401,39 +372,38 @@ const BLOCK_CASES: [(u8, &[u16], bool); 9] = [
 
 /// The same at resolution 3 with two block factors: by BC and AC, whose interaction is AB; by ABC and BC,
 /// whose interaction is A; and twice by ABC, so that two of four blocks are empty.
-const FOUR_BLOCK_CASES: [(u8, &[u16], bool); 3] = [
+const FOUR_BLOCK_CASES: &[(u8, &[u16], bool)] = &[
     (3, &[1, 2, 4, 6, 5], true),
     (3, &[1, 2, 4, 7, 6], false),
     (3, &[1, 2, 4, 7, 7], false),
 ];
 
 #[test]
-fn main_effects_are_told_from_blocks(rt: HostRuntime) -> Result<(), Fail> {
-    assert!(rt; are_met_at(rt.alloc(), IN_BLOCKS, &BLOCK_CASES)?);
-    assert!(rt; are_met_at(rt.alloc(), FOUR_BLOCKS, &FOUR_BLOCK_CASES)?);
-    Ok(())
+fn main_effects_are_told_from_blocks(rt: HostRuntime) {
+    are_met_at(&rt, rt.alloc(), IN_BLOCKS, BLOCK_CASES);
+    are_met_at(&rt, rt.alloc(), FOUR_BLOCKS, FOUR_BLOCK_CASES);
 }
 
 /// A and AB beside blocks by ABC, and by AB.
 #[test]
-fn an_interaction_is_told_from_blocks(rt: HostRuntime) -> Result<(), Fail> {
-    let question = for_effects(rt.alloc(), IN_BLOCKS, &[Effect(1), Effect(3)], &[])?;
-    const CASES: [(&[u16], bool); 2] = [(&[1, 2, 4, 7], true), (&[1, 2, 4, 3], false)];
-    assert!(rt; are_met(rt.alloc(), &question, &CASES)?);
-    Ok(())
+fn an_interaction_is_told_from_blocks(rt: HostRuntime) {
+    const CASES: &[(&[u16], bool)] = &[(&[1, 2, 4, 7], true), (&[1, 2, 4, 3], false)];
+    let question = for_effects(&rt, rt.alloc(), IN_BLOCKS, &[Effect(1), Effect(3)], &[]);
+    are_met(&rt, rt.alloc(), &question, CASES);
 }
 
 /// Three columns of the twelve runs of Plackett and Burman, which are those of no rule matrix.
-fn twelve_runs(rt: &impl Abort, alloc: Global) -> Result<Runs, NoMemory>
-    ensures { IfOk result (λ runs. runs.shape ≡ record { q = 2; m = 4; s = 3; t = 0 }) }
+fn twelve_runs(rt: &impl Abort, alloc: Global) -> Runs
+    ensures { result.shape ≡ record { q = 2; m = 4; s = 3; t = 0 } }
 {
     let field = TWELVE_RUNS.field();
     let mut runs = Runs::new(alloc, TWELVE_RUNS);
     for number in [3, 6, 5, 2, 4, 0, 1, 3, 7, 6, 5, 0] {
         assert!(rt; number < 8);
-        runs.push(Vector::of_number(field, 3, number))?;
+        runs.push(Vector::of_number(field, 3, number))
+            .expect(rt, "memory");
     }
-    Ok(runs)
+    runs
 }
 
 /// Whether the runs meet a resolution.
@@ -445,9 +415,8 @@ fn meet_at(runs: &Runs, r: u8) -> bool
 
 /// They are at resolution 3, and no runs are at 99.
 #[test]
-fn runs_of_no_rules_are_judged(rt: HostRuntime) -> Result<(), Fail> {
+fn runs_of_no_rules_are_judged(rt: HostRuntime) {
     assert!(rt; meet_at(&Runs::new(rt.alloc(), TWELVE_RUNS), 99));
-    let runs = twelve_runs(&rt, rt.alloc())?;
+    let runs = twelve_runs(&rt, rt.alloc());
     assert!(rt; meet_at(&runs, 3) && !meet_at(&runs, 4));
-    Ok(())
 }

@@ -1,10 +1,9 @@
 ghost use Rattle.std.specs.Prelude.{◌<◌};
 ghost use Rattle.fx_vectors.specs.Marks.{row_of};
 
-use fx_base::NoMemory;
 use fx_vectors::{Effect, Effects, Mark, Marks, contains};
 use std::alloc::Global;
-use std::test::Fail;
+use std::process::Abort;
 
 /// A mark whose row and word tell its place.
 fn mark_at(i: usize) -> Mark
@@ -21,12 +20,12 @@ fn mark_at(i: usize) -> Mark
     }
 }
 
-fn marks_of(alloc: Global, count: usize) -> Result<Marks, NoMemory> {
+fn marks_of(rt: &impl Abort, alloc: Global, count: usize) -> Marks {
     let mut marks = Marks::new(alloc);
     for i in 0..count {
-        marks.push(mark_at(i))?;
+        marks.push(mark_at(i)).expect(rt, "memory");
     }
-    Ok(marks)
+    marks
 }
 
 fn stand_at(marks: &Marks, places: &[usize]) -> bool {
@@ -40,13 +39,11 @@ fn stand_at(marks: &Marks, places: &[usize]) -> bool {
 
 /// One more mark than two pieces hold.
 #[test]
-fn marks_are_kept_past_the_end_of_a_piece(rt: HostRuntime) -> Result<(), Fail> {
-    assert!(rt; Marks::new(rt.alloc()).is_empty());
-    let marks = marks_of(rt.alloc(), 131073)?;
-    assert!(rt; marks.len() == 131073);
+fn marks_are_kept_past_the_end_of_a_piece(rt: HostRuntime) {
     const PLACES: [usize; 8] = [0, 1, 2, 65535, 65536, 65537, 131071, 131072];
-    assert!(rt; stand_at(&marks, &PLACES));
-    Ok(())
+    assert!(rt; Marks::new(rt.alloc()).is_empty());
+    let marks = marks_of(&rt, rt.alloc(), 131073);
+    assert!(rt; marks.len() == 131073 && stand_at(&marks, &PLACES));
 }
 
 /// Words at the edges of each number of digits to the base 2^32, from none to four.
@@ -65,16 +62,17 @@ const WORDS: [u128; 11] = [
 ];
 
 /// Marks of which the last are of these words, and one more.
-fn marks_of_words(alloc: Global, count: usize, words: &[u128]) -> Result<Marks, NoMemory> {
-    let mut marks = marks_of(alloc, count)?;
+fn marks_of_words(rt: &impl Abort, alloc: Global, count: usize, words: &[u128]) -> Marks {
+    let mut marks = marks_of(rt, alloc, count);
     for word in words {
-        marks.push(Mark::Word {
+        let mark = Mark::Word {
             row: 1023,
             word: *word,
-        })?;
+        };
+        marks.push(mark).expect(rt, "memory");
     }
-    marks.push(Mark::Worse { row: 1023 })?;
-    Ok(marks)
+    marks.push(Mark::Worse { row: 1023 }).expect(rt, "memory");
+    marks
 }
 
 /// Whether marks of these words stand from this place on, and one more.
@@ -95,11 +93,10 @@ fn stand_from(marks: &Marks, count: usize, words: &[u128]) -> bool {
 
 /// Six of the words are in one piece, and five in the next.
 #[test]
-fn words_of_all_lengths_are_kept_about_the_end_of_a_piece(rt: HostRuntime) -> Result<(), Fail> {
-    let marks = marks_of_words(rt.alloc(), 65530, &WORDS)?;
+fn words_of_all_lengths_are_kept_about_the_end_of_a_piece(rt: HostRuntime) {
+    let marks = marks_of_words(&rt, rt.alloc(), 65530, &WORDS);
     assert!(rt; stand_from(&marks, 65530, &WORDS));
     assert!(rt; stand_at(&marks, &[0, 1, 2, 65527, 65528, 65529]));
-    Ok(())
 }
 
 /// Appends a list to one, and its marks one by one to another.
@@ -138,9 +135,8 @@ fn appended_lists_have_the_marks_of_each(rt: HostRuntime) -> Result<(), Fail> {
 }
 
 #[test]
-fn an_effect_is_among_others_or_not(rt: HostRuntime) -> Result<(), Fail> {
-    let effects = Effects::from_slice(rt.alloc(), &[Effect(1), Effect(6)])?;
-    assert!(rt; contains(&effects, Effect(6)));
-    assert!(rt; !contains(&effects, Effect(2)));
-    Ok(())
+fn an_effect_is_among_others_or_not(rt: HostRuntime) {
+    let effects = [Effect(1), Effect(6)];
+    let effects = Effects::from_slice(rt.alloc(), &effects).expect(&rt, "memory");
+    assert!(rt; contains(&effects, Effect(6)) && !contains(&effects, Effect(2)));
 }

@@ -2,25 +2,20 @@ ghost use Rattle.std.specs.Prelude.{◌≡◌, ◌≤◌, ◌+◌, ◌^◌, IsTr
 ghost use Rattle.fx_vectors.specs.Shape.{IsShape};
 
 use fx_alias::{alias_listing, blocked_listing, design_listing, head_listing, rules_listing};
-use fx_base::{Bytes, NoMemory};
+use fx_base::Bytes;
 use fx_lexer::lex;
-use fx_statements::{End, Outcome, ParseStop, Program, Step, parse};
+use fx_statements::{End, Outcome, Program, Step, parse};
 use fx_vectors::{Books, Matrix, Shape};
 use std::alloc::Global;
 use std::process::Abort;
-use std::test::Fail;
 
 // The expected sections were computed apart from this program, in Python, from the runs alone.
 
 /// The program of this text.
-pub fn program_of(rt: &impl Abort, alloc: Global, text: &[u8]) -> Result<Program, Fail> {
+pub fn program_of(rt: &impl Abort, alloc: Global, text: &[u8]) -> Program {
     assert!(rt; text.len() <= 1_048_576);
-    let tokens = lex(alloc, text)?;
-    match parse(alloc, text, &tokens) {
-        Ok(program) => Ok(program),
-        Err(ParseStop::Refused(_refusal)) => Err(Fail::new("the text is refused")),
-        Err(ParseStop::NoMemory) => Err(Fail::new("memory ran out")),
-    }
+    let tokens = lex(alloc, text).expect(rt, "tokens");
+    parse(alloc, text, &tokens).expect(rt, "a program")
 }
 
 /// A rule matrix of these rows.
@@ -63,38 +58,28 @@ fn is_for(matrix: &Matrix, step: &Step) -> bool
 
 /// Whether the aliases of a design of a step are these.
 fn step_has_aliases(
+    rt: &impl Abort,
     alloc: Global,
     step: &Step,
     matrix: &Matrix,
     expected: &str,
-) -> Result<bool, NoMemory> {
-    if !is_for(matrix, step) {
-        return Ok(false);
-    }
+) -> bool {
+    assert!(rt; is_for(matrix, step));
     let mut out = Bytes::new(alloc);
-    alias_listing(alloc, step, matrix, &mut out)?;
-    Ok(out.as_slice() == expected.as_bytes())
+    alias_listing(alloc, step, matrix, &mut out).expect(rt, "memory");
+    out.as_slice() == expected.as_bytes()
 }
 
 /// Tests that the aliases of a design of the text's only step are these.
-fn has_aliases(
-    rt: &impl Abort,
-    alloc: Global,
-    text: &str,
-    matrix: &Matrix,
-    expected: &str,
-) -> Result<(), Fail> {
-    let program = program_of(rt, alloc, text.as_bytes())?;
-    let is_so = match program.as_slice() {
-        [step] => step_has_aliases(alloc, step, matrix, expected)?,
-        _ => false,
-    };
+fn has_aliases(rt: &impl Abort, alloc: Global, text: &str, matrix: &Matrix, expected: &str) {
+    let program = program_of(rt, alloc, text.as_bytes());
+    assert!(rt; program.len() == 1);
+    let is_so = step_has_aliases(rt, alloc, program.get(0), matrix, expected);
     assert!(rt; is_so, "{text}");
-    Ok(())
 }
 
 #[test]
-fn classes_of_two_levels(rt: HostRuntime) -> Result<(), Fail> {
+fn classes_of_two_levels(rt: HostRuntime) {
     let alloc = rt.alloc();
     let half = Shape {
         q: 2,
@@ -110,7 +95,7 @@ fn classes_of_two_levels(rt: HostRuntime) -> Result<(), Fail> {
         text,
         &matrix,
         "aliasing\n  A = B*C\n  B = A*C\n  C = A*B\n",
-    )?;
+    );
     // A and C have the same levels.
     let matrix = matrix_of(&rt, half, &[1, 2, 1]);
     has_aliases(
@@ -119,12 +104,12 @@ fn classes_of_two_levels(rt: HostRuntime) -> Result<(), Fail> {
         text,
         &matrix,
         "aliasing\n  mean = A*C\n  A = C\n  B\n  A*B = B*C\n",
-    )
+    );
 }
 
 /// C = A*B and D = A^2*B, of which effects of three factors are named.
 #[test]
-fn classes_of_three_levels(rt: HostRuntime) -> Result<(), Fail> {
+fn classes_of_three_levels(rt: HostRuntime) {
     let alloc = rt.alloc();
     let ninth = Shape {
         q: 3,
@@ -147,12 +132,12 @@ model estimate=(A) nonneg=(B*C*D);";
   C = A*B = A^2*D = B*D = A*B*C = A^2*C*D = B*C^2*D
   D = A^2*B = A*C = B*C = A^2*B*D = A*C*D = B^2*C^2*D
 ",
-    )
+    );
 }
 
 /// A sum is a multiple of another by 2 or 3 in the field of four codes.
 #[test]
-fn classes_of_four_levels(rt: HostRuntime) -> Result<(), Fail> {
+fn classes_of_four_levels(rt: HostRuntime) {
     let alloc = rt.alloc();
     let quarter = Shape {
         q: 4,
@@ -174,7 +159,7 @@ fn classes_of_four_levels(rt: HostRuntime) -> Result<(), Fail> {
   A*B = A^3*C = B^3*C
   A^2*B = A^2*C = B*C
 ",
-    )
+    );
 }
 
 /// Appends the head of a step whose outcome has this matrix.
@@ -186,7 +171,7 @@ fn put_head(
     matrix: Matrix,
     nodes: u64,
     out: &mut Bytes,
-) -> Result<(), NoMemory> {
+) {
     assert!(rt; end != End::NoDesign);
     assert!(rt; matrix.len() == matrix.shape().rows());
     let shape = matrix.shape();
@@ -197,7 +182,7 @@ fn put_head(
         nodes,
         books: Books::new(alloc),
     };
-    head_listing(alloc, 1, step, &outcome, out)
+    head_listing(alloc, 1, step, &outcome, out).expect(rt, "memory");
 }
 
 /// Whether the rules and the head of a step's outcome with this matrix are these.
@@ -209,14 +194,12 @@ fn has_rules_and_head(
     matrix: Matrix,
     nodes: u64,
     expected: &str,
-) -> Result<bool, NoMemory> {
+) -> bool {
+    assert!(rt; is_for(&matrix, step));
     let mut out = Bytes::new(alloc);
-    if !is_for(&matrix, step) {
-        return Ok(false);
-    }
-    rules_listing(alloc, step, &matrix, &mut out)?;
-    put_head(rt, alloc, step, end, matrix, nodes, &mut out)?;
-    Ok(out.as_slice() == expected.as_bytes())
+    rules_listing(alloc, step, &matrix, &mut out).expect(rt, "memory");
+    put_head(rt, alloc, step, end, matrix, nodes, &mut out);
+    out.as_slice() == expected.as_bytes()
 }
 
 /// The rules and the head of nine runs in nine blocks.
@@ -234,7 +217,7 @@ resolution 3
 
 /// Nine runs in nine blocks: the second block factor is a run factor of its own.
 #[test]
-fn block_factors_are_ruled(rt: HostRuntime) -> Result<(), Fail> {
+fn block_factors_are_ruled(rt: HostRuntime) {
     let alloc = rt.alloc();
     let text = "proc factex; factors A B C / nlev=3; size design=27; \
 model estimate=(A); blocks nblocks=9;";
@@ -245,15 +228,14 @@ model estimate=(A); blocks nblocks=9;";
         t: 2,
     };
     let matrix = matrix_of(&rt, in_blocks, &[1, 3, 4, 9, 15]);
-    let program = program_of(&rt, alloc, text.as_bytes())?;
+    let program = program_of(&rt, alloc, text.as_bytes());
     assert!(rt; program.len() == 1);
     let step = program.get(0);
-    assert!(rt; has_rules_and_head(&rt, alloc, step, End::Budget, matrix, 30, NINE_BLOCKS)?);
-    Ok(())
+    assert!(rt; has_rules_and_head(&rt, alloc, step, End::Budget, matrix, 30, NINE_BLOCKS));
 }
 
 /// Whether the head of a step without a design, in at most 729 runs, is this.
-fn has_head_of_none(alloc: Global, step: &Step, expected: &str) -> Result<bool, NoMemory> {
+fn has_head_of_none(rt: &impl Abort, alloc: Global, step: &Step, expected: &str) -> bool {
     let outcome = Outcome {
         end: End::NoDesign,
         shape: Shape {
@@ -267,35 +249,34 @@ fn has_head_of_none(alloc: Global, step: &Step, expected: &str) -> Result<bool, 
         books: Books::new(alloc),
     };
     let mut out = Bytes::new(alloc);
-    head_listing(alloc, 1, step, &outcome, &mut out)?;
-    Ok(out.as_slice() == expected.as_bytes())
+    head_listing(alloc, 1, step, &outcome, &mut out).expect(rt, "memory");
+    out.as_slice() == expected.as_bytes()
 }
 
 #[test]
-fn no_design_of_the_least_size(rt: HostRuntime) -> Result<(), Fail> {
+fn no_design_of_the_least_size(rt: HostRuntime) {
     let text = "proc factex; factors A B / nlev=3; size design=min; model resolution=3; \
 blocks nblocks=3;";
     let head = "step 1\nfactors 2 levels 3\nno design in at most 729 runs\nnodes 50\n";
-    let program = program_of(&rt, rt.alloc(), text.as_bytes())?;
+    let program = program_of(&rt, rt.alloc(), text.as_bytes());
     assert!(rt; program.len() == 1);
-    assert!(rt; has_head_of_none(rt.alloc(), program.get(0), head)?);
-    Ok(())
+    assert!(rt; has_head_of_none(&rt, rt.alloc(), program.get(0), head));
 }
 
 /// Whether the runs of a design of a step and what is confounded with blocks are these.
 fn has_runs_and_blocked(
+    rt: &impl Abort,
     alloc: Global,
     step: &Step,
     matrix: &Matrix,
     expected: &str,
-) -> Result<bool, NoMemory> {
-    if !is_for(matrix, step) || !are_few(matrix.shape()) {
-        return Ok(false);
-    }
+) -> bool {
+    assert!(rt; is_for(matrix, step));
+    assert!(rt; are_few(matrix.shape()));
     let mut out = Bytes::new(alloc);
-    design_listing(alloc, step, matrix, &mut out)?;
-    blocked_listing(alloc, step, matrix, &mut out)?;
-    Ok(out.as_slice() == expected.as_bytes())
+    design_listing(alloc, step, matrix, &mut out).expect(rt, "memory");
+    blocked_listing(alloc, step, matrix, &mut out).expect(rt, "memory");
+    out.as_slice() == expected.as_bytes()
 }
 
 /// The runs of a design in four blocks, and what is confounded with them.
@@ -327,8 +308,10 @@ no defining words
 nodes 16
 ";
 
-/// Whether all listings of that design are these.
-fn has_four_blocks(rt: &impl Abort, alloc: Global, step: &Step) -> Result<bool, NoMemory> {
+/// Eight runs in four blocks, by B*C and A*C.
+#[test]
+fn a_design_in_blocks_is_listed(rt: HostRuntime) {
+    let alloc = rt.alloc();
     let in_blocks = Shape {
         q: 2,
         m: 3,
@@ -336,25 +319,18 @@ fn has_four_blocks(rt: &impl Abort, alloc: Global, step: &Step) -> Result<bool, 
         t: 2,
     };
     let aliases = "aliasing\n  A\n  B\n  C\n  A*B\n  A*C\n  B*C\n";
-    let matrix = matrix_of(rt, in_blocks, &[1, 2, 4, 6, 5]);
-    let has_both = has_runs_and_blocked(alloc, step, &matrix, FOUR_BLOCKS)?
-        && step_has_aliases(alloc, step, &matrix, aliases)?;
-    let has_head = has_rules_and_head(rt, alloc, step, End::Design, matrix, 16, FOUR_BLOCKS_HEAD)?;
-    Ok(has_both && has_head)
-}
-
-/// Eight runs in four blocks, by B*C and A*C.
-#[test]
-fn a_design_in_blocks_is_listed(rt: HostRuntime) -> Result<(), Fail> {
     let text = "proc factex; factors A B C; size design=8; model resolution=3; blocks nblocks=4;";
-    let program = program_of(&rt, rt.alloc(), text.as_bytes())?;
+    let matrix = matrix_of(&rt, in_blocks, &[1, 2, 4, 6, 5]);
+    let program = program_of(&rt, alloc, text.as_bytes());
     assert!(rt; program.len() == 1);
-    assert!(rt; has_four_blocks(&rt, rt.alloc(), program.get(0))?);
-    Ok(())
+    let step = program.get(0);
+    assert!(rt; has_runs_and_blocked(&rt, alloc, step, &matrix, FOUR_BLOCKS));
+    assert!(rt; step_has_aliases(&rt, alloc, step, &matrix, aliases));
+    assert!(rt; has_rules_and_head(&rt, alloc, step, End::Design, matrix, 16, FOUR_BLOCKS_HEAD));
 }
 
 #[test]
-fn without_blocks_nothing_is_confounded(rt: HostRuntime) -> Result<(), Fail> {
+fn without_blocks_nothing_is_confounded(rt: HostRuntime) {
     let thirds = Shape {
         q: 3,
         m: 1,
@@ -364,8 +340,7 @@ fn without_blocks_nothing_is_confounded(rt: HostRuntime) -> Result<(), Fail> {
     let expected = "points Speed Feed\n  1 -1 -1\n  2 0 0\n  3 1 1\nblocked\n  none\n";
     let text = "proc factex; factors Speed Feed / nlev=3; size design=3; model resolution=3;";
     let matrix = matrix_of(&rt, thirds, &[1, 1]);
-    let program = program_of(&rt, rt.alloc(), text.as_bytes())?;
+    let program = program_of(&rt, rt.alloc(), text.as_bytes());
     assert!(rt; program.len() == 1);
-    assert!(rt; has_runs_and_blocked(rt.alloc(), program.get(0), &matrix, expected)?);
-    Ok(())
+    assert!(rt; has_runs_and_blocked(&rt, rt.alloc(), program.get(0), &matrix, expected));
 }

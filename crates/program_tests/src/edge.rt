@@ -3,7 +3,7 @@ use fx_edge::{CurrentFolder, FolderShelf, start};
 use std::alloc::Global;
 use std::env::Args;
 use std::fs;
-use std::test::Fail;
+use std::process::Abort;
 
 const HALF: &str = "proc factex;\nfactors A B C D;\nsize design=8;\nmodel resolution=4;\nrun;\n";
 
@@ -20,93 +20,64 @@ const PLAN: &str = "A,B,C\n-1,-1,\"lo,w\"\n-1,1,hi\n1,-1,hi\n1,1,\"lo,w\"\n";
 
 const BARRED: &str = "proc factex; factors A; model resolution=3; output out=Factex_Barred;";
 
-/// The command line `factex run`.
-fn run_args(alloc: Global) -> Result<Args, Fail> {
+/// The words of a command line, between blanks.
+fn args_in(rt: &impl Abort, alloc: Global, line: &str) -> Args {
     let mut args = Vec::new(alloc);
-    args.push(String::from_str(alloc, "factex")?)?;
-    args.push(String::from_str(alloc, "run")?)?;
-    Ok(args.into_iter())
+    for word in line.split_whitespace() {
+        let word = String::from_str(alloc, word).expect(rt, "memory");
+        args.push(word).expect(rt, "memory");
+    }
+    args.into_iter()
 }
 
 #[test]
-fn runs_from_a_slice_to_a_vector(rt: HostRuntime) -> Result<(), Fail> {
+fn runs_from_a_slice_to_a_vector(rt: HostRuntime) {
     let alloc = rt.alloc();
-    let mut shelf = SureShelf::new(alloc, 1, 0)?;
-    let ran = start(
-        &rt,
-        alloc,
-        Ok(run_args(alloc)?),
-        HALF.as_bytes(),
-        Vec::new(alloc),
-        &mut shelf,
-    );
-    assert_eq!(rt; ran.status, 0);
+    let args = args_in(&rt, alloc, "factex run");
+    let mut shelf = SureShelf::new(alloc, 1, 0).expect(&rt, "memory");
+    let out = Vec::new(alloc);
+    let ran = start(&rt, alloc, Ok(args), HALF.as_bytes(), out, &mut shelf);
+    assert!(rt; ran.status == 0);
     assert!(rt; ran.output.writer.as_slice() == HALF_LISTING.as_bytes());
-    Ok(())
 }
 
 /// The words after the command reach it, and the reader, which has no text of a program, is left unread.
 #[test]
-fn makes_a_text(rt: HostRuntime) -> Result<(), Fail> {
+fn makes_a_text(rt: HostRuntime) {
     let alloc = rt.alloc();
-    let mut args = Vec::new(alloc);
-    for word in ["factex", "make", "1"] {
-        args.push(String::from_str(alloc, word)?)?;
-    }
-    let mut shelf = SureShelf::new(alloc, 1, 0)?;
-    let ran = start(
-        &rt,
-        alloc,
-        Ok(args.into_iter()),
-        b"no program".as_slice(),
-        Vec::new(alloc),
-        &mut shelf,
-    );
-    assert_eq!(rt; ran.status, 0);
+    let args = args_in(&rt, alloc, "factex make 1");
+    let mut shelf = SureShelf::new(alloc, 1, 0).expect(&rt, "memory");
+    let text = b"no program".as_slice();
+    let ran = start(&rt, alloc, Ok(args), text, Vec::new(alloc), &mut shelf);
+    assert!(rt; ran.status == 0);
     assert!(rt; ran.output.writer.as_slice() == MADE.as_bytes());
-    assert!(rt; ran.input.reader == b"no program".as_slice());
-    Ok(())
+    assert!(rt; ran.input.reader == text);
 }
 
 /// The plan takes the place of a longer file of the same name.
 #[test]
-fn a_plan_is_written_to_the_folder(rt: HostRuntime) -> Result<(), Fail> {
+fn a_plan_is_written_to_the_folder(rt: HostRuntime) {
     let alloc = rt.alloc();
-    let args = run_args(alloc)?;
-    fs::write(&rt, "factex_test.csv", HALF_LISTING)?;
+    let args = args_in(&rt, alloc, "factex run");
+    fs::write(&rt, "factex_test.csv", HALF_LISTING).expect(&rt, "a file");
     let mut shelf = FolderShelf::new(CurrentFolder::new(&rt));
-    let ran = start(
-        &rt,
-        alloc,
-        Ok(args),
-        PLANNED.as_bytes(),
-        Vec::new(alloc),
-        &mut shelf,
-    );
-    let held = fs::read(&rt, "factex_test.csv")?;
-    fs::remove_file(&rt, "factex_test.csv")?;
-    assert_eq!(rt; ran.status, 0);
+    let out = Vec::new(alloc);
+    let ran = start(&rt, alloc, Ok(args), PLANNED.as_bytes(), out, &mut shelf);
+    let held = fs::read(&rt, "factex_test.csv").expect(&rt, "a plan");
+    fs::remove_file(&rt, "factex_test.csv").expect(&rt, "a plan");
+    assert!(rt; ran.status == 0);
     assert!(rt; held.as_slice() == PLAN.as_bytes());
-    Ok(())
 }
 
 /// A folder of the plan's name stands in the way.
 #[test]
-fn a_file_that_cannot_be_made_ends_the_run(rt: HostRuntime) -> Result<(), Fail> {
+fn a_file_that_cannot_be_made_ends_the_run(rt: HostRuntime) {
     let alloc = rt.alloc();
-    let args = run_args(alloc)?;
-    fs::create_dir(&rt, "factex_barred.csv")?;
+    let args = args_in(&rt, alloc, "factex run");
+    fs::create_dir(&rt, "factex_barred.csv").expect(&rt, "a folder");
     let mut shelf = FolderShelf::new(CurrentFolder::new(&rt));
-    let ran = start(
-        &rt,
-        alloc,
-        Ok(args),
-        BARRED.as_bytes(),
-        Vec::new(alloc),
-        &mut shelf,
-    );
-    fs::remove_dir(&rt, "factex_barred.csv")?;
-    assert_eq!(rt; ran.status, 4);
-    assert!(rt; ran.output.writer.is_empty());
-    Ok(())
+    let out = Vec::new(alloc);
+    let ran = start(&rt, alloc, Ok(args), BARRED.as_bytes(), out, &mut shelf);
+    fs::remove_dir(&rt, "factex_barred.csv").expect(&rt, "the folder");
+    assert!(rt; ran.status == 4 && ran.output.writer.is_empty());
 }

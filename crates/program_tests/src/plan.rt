@@ -3,6 +3,7 @@ ghost use Rattle.fx_settings.specs.declared.settings.Blocks.TheVariants.{Factors
 ghost use Rattle.fx_plan.specs.Steps.{IsDesignOf};
 
 use crate::alias::{are_few, matrix_of, program_of, push};
+use crate::rows_of;
 use fx_base::Bytes;
 use fx_plan::{draw, plan};
 use fx_statements::{Blocks, Step};
@@ -11,7 +12,6 @@ use rand_core::SeedableRng;
 use rand_pcg::Pcg64;
 use std::alloc::Global;
 use std::process::Abort;
-use std::test::Fail;
 
 // The expected numbers and texts were computed apart from this program, in Python: the generator by
 // its definition, the lines by the module csv.
@@ -113,38 +113,25 @@ fn is_planned(
     matrix: &Matrix,
     i: usize,
     expected: &[&[u8]],
-) -> Result<bool, Fail> {
-    let bytes = planned(rt, alloc, text, matrix, i)?;
-    Ok(is_joined(bytes.as_slice(), expected))
+) -> bool {
+    is_joined(planned(rt, alloc, text, matrix, i).as_slice(), expected)
 }
 
 /// The plan of a step for the OUTPUT statement at `i`, by the seed 5.
-fn plan_of(
-    rt: &impl Abort,
-    alloc: Global,
-    step: &Step,
-    matrix: &Matrix,
-    i: usize,
-) -> Result<Bytes, Fail> {
+fn plan_of(rt: &impl Abort, alloc: Global, step: &Step, matrix: &Matrix, i: usize) -> Bytes {
     assert!(rt; i < step.outputs.len() && is_design(step, matrix));
-    Ok(plan(alloc, step, matrix, step.outputs.get(i), 5)?)
+    plan(alloc, step, matrix, step.outputs.get(i), 5).expect(rt, "memory")
 }
 
 /// The plan of the text's only step.
-fn planned(
-    rt: &impl Abort,
-    alloc: Global,
-    text: &[u8],
-    matrix: &Matrix,
-    i: usize,
-) -> Result<Bytes, Fail> {
-    let program = program_of(rt, alloc, text)?;
+fn planned(rt: &impl Abort, alloc: Global, text: &[u8], matrix: &Matrix, i: usize) -> Bytes {
+    let program = program_of(rt, alloc, text);
     assert!(rt; program.len() == 1);
     plan_of(rt, alloc, program.get(0), matrix, i)
 }
 
 /// Seeds, each with bounds and what is drawn below each, one after another.
-const DRAWS: [(u64, &[(u64, u64)]); 2] = [
+const DRAWS: &[(u64, &[(u64, u64)])] = &[
     (
         0,
         &[
@@ -174,13 +161,13 @@ fn are_drawn(seed: u64, draws: &[(u64, u64)]) -> bool {
 
 #[test]
 fn draws_are_those_of_the_generator(rt: HostRuntime) {
-    for (seed, draws) in DRAWS {
-        assert!(rt; are_drawn(seed, draws));
+    for (seed, draws) in rows_of(DRAWS) {
+        assert!(rt; are_drawn(*seed, draws));
     }
 }
 
 #[test]
-fn a_design_in_blocks_is_planned(rt: HostRuntime) -> Result<(), Fail> {
+fn a_design_in_blocks_is_planned(rt: HostRuntime) {
     let alloc = rt.alloc();
     let matrix = matrix_of(&rt, IN_BLOCKS, &[1, 2, 4, 6, 5]);
     let text = b"proc factex; factors A B C; size design=8; model resolution=3; blocks nblocks=4; \
@@ -190,13 +177,12 @@ output out=p2 randomize(18446744073709551615) A nvals=(10 -2.5) B cvals=('lo,w' 
 C cvals=('' '\xe9\n\r') blockname=Day cvals=('Mo' 'Tu' '1' ''); \
 output out=p3 randomize(0) novalran designrep=2; output out=p4 randomize A nvals=(10 -2.5);";
     for (i, plan) in [KEPT, SHUFFLED, ROWS_SHUFFLED, BY_SEED].iter().enumerate() {
-        assert!(rt; is_planned(&rt, alloc, text, &matrix, i, plan)?, "{i}");
+        assert!(rt; is_planned(&rt, alloc, text, &matrix, i, plan), "{i}");
     }
-    Ok(())
 }
 
 #[test]
-fn designs_of_more_levels_are_planned(rt: HostRuntime) -> Result<(), Fail> {
+fn designs_of_more_levels_are_planned(rt: HostRuntime) {
     let alloc = rt.alloc();
     let four = Shape {
         q: 4,
@@ -207,7 +193,7 @@ fn designs_of_more_levels_are_planned(rt: HostRuntime) -> Result<(), Fail> {
     let matrix = matrix_of(&rt, four, &[1, 4, 9]);
     let text = b"proc factex; factors X1-X3 / nlev=4; size design=16; model resolution=3; \
 output out=x randomize(3);";
-    assert!(rt; is_planned(&rt, alloc, text, &matrix, 0, FOUR_LEVELS)?);
+    assert!(rt; is_planned(&rt, alloc, text, &matrix, 0, FOUR_LEVELS));
     let three = Shape {
         q: 3,
         m: 2,
@@ -217,8 +203,7 @@ output out=x randomize(3);";
     let matrix = matrix_of(&rt, three, &[1, 3, 4, 7]);
     let text = b"proc factex; factors A B C / nlev=3; size design=9; model resolution=3; \
 blocks nblkfacs=1; output out=x pointrep=2 randomize(11);";
-    assert!(rt; is_planned(&rt, alloc, text, &matrix, 0, THREE)?);
-    Ok(())
+    assert!(rt; is_planned(&rt, alloc, text, &matrix, 0, THREE));
 }
 
 /// A matrix of forty factors: the others follow from the first six, in the order of their numbers.
@@ -249,12 +234,11 @@ fn checksum(text: &[u8]) -> u64 {
 
 /// Forty names of 32 bytes, 192 rows: the length of the text, and its checksum.
 #[test]
-fn a_plan_of_forty_factors_is_whole(rt: HostRuntime) -> Result<(), Fail> {
+fn a_plan_of_forty_factors_is_whole(rt: HostRuntime) {
     let text = b"proc factex; factors NNNNNNNNNNNNNNNNNNNNNNNNNNNNNN11-\
 NNNNNNNNNNNNNNNNNNNNNNNNNNNNNN50; size design=64; model resolution=3; \
 output out=x randomize(18446744073709551615) designrep=3;";
     let matrix = forty_factors(&rt);
-    let bytes = planned(&rt, rt.alloc(), text, &matrix, 0)?;
+    let bytes = planned(&rt, rt.alloc(), text, &matrix, 0);
     assert!(rt; bytes.len() == 20520 && checksum(bytes.as_slice()) == 12066249520895240827);
-    Ok(())
 }

@@ -10,7 +10,6 @@ use fx_program::{Settings, make_text, read_words};
 use outside::{Limits, Outside, SURE, Tally, file_of, left_by, lists, shelves, tally_of, words_in};
 use std::alloc::Global;
 use std::process::Abort;
-use std::test::Fail;
 use std::thread::Threads;
 
 /// How many bytes a source or a sink moves at a call.
@@ -238,21 +237,16 @@ const PROGRAMS: [(&str, &str, u8); 43] = [
 ];
 
 /// Tests that each text has its listing and status.
-fn are_listed<R: Threads + Sync + Abort>(
-    rt: &R,
-    alloc: Global,
-    cases: &[(&str, &str, u8)],
-) -> Result<(), Fail> {
+fn are_listed<R: Threads + Sync + Abort>(rt: &R, alloc: Global, cases: &[(&str, &str, u8)]) {
     for (text, listing, status) in cases {
-        let is_so = lists(rt, alloc, "run", text.as_bytes(), SURE, *status, listing)?;
+        let is_so = lists(rt, alloc, "run", text.as_bytes(), SURE, *status, listing);
         assert!(rt; is_so, "{text}");
     }
-    Ok(())
 }
 
 #[test]
-fn programs_have_their_listing(rt: HostRuntime) -> Result<(), Fail> {
-    are_listed(&rt, rt.alloc(), &PROGRAMS)
+fn programs_have_their_listing(rt: HostRuntime) {
+    are_listed(&rt, rt.alloc(), &PROGRAMS);
 }
 
 /// The examples of docs/LANGUAGE.md and further texts that are refused, each with its message.
@@ -441,34 +435,28 @@ fn is_told(left: &Outside, message: &str) -> bool {
 }
 
 /// Whether the words of a line list just this message of a text, and no call fails.
-fn tells<R: Threads + Sync>(
+fn tells<R: Threads + Sync + Abort>(
     rt: &R,
     alloc: Global,
     line: &str,
     text: &[u8],
     limits: Limits,
     message: &str,
-) -> Result<bool, Fail> {
-    let left = left_by(rt, alloc, line, text, limits)?;
-    Ok(is_told(&left, message))
+) -> bool {
+    is_told(&left_by(rt, alloc, line, text, limits), message)
 }
 
 /// Tests that each text has its message.
-fn texts_are_refused<R: Threads + Sync + Abort>(
-    rt: &R,
-    alloc: Global,
-    cases: &[(&str, &str)],
-) -> Result<(), Fail> {
+fn texts_are_refused<R: Threads + Sync + Abort>(rt: &R, alloc: Global, cases: &[(&str, &str)]) {
     for (text, message) in cases {
-        let is_so = tells(rt, alloc, "run", text.as_bytes(), SURE, message)?;
+        let is_so = tells(rt, alloc, "run", text.as_bytes(), SURE, message);
         assert!(rt; is_so, "{text}");
     }
-    Ok(())
 }
 
 #[test]
-fn faults_of_a_text_are_told(rt: HostRuntime) -> Result<(), Fail> {
-    texts_are_refused(&rt, rt.alloc(), &REFUSED)
+fn faults_of_a_text_are_told(rt: HostRuntime) {
+    texts_are_refused(&rt, rt.alloc(), &REFUSED);
 }
 
 /// Two plans of four runs, the second by a seed of its own.
@@ -496,13 +484,12 @@ const SEEDS: [(&str, &str, &str); 3] = [
 
 /// The seed of the command line is that of a plan that has none of its own.
 #[test]
-fn the_seed_of_the_words_shuffles(rt: HostRuntime) -> Result<(), Fail> {
+fn the_seed_of_the_words_shuffles(rt: HostRuntime) {
     for (line, listing, plan) in rows_of(&SEEDS) {
         let files = [("x.csv", *plan), ("y.csv", "A,B\n1,1\n-1,-1\n1,-1\n-1,1\n")];
-        let is_so = shelves(&rt, rt.alloc(), line, SEEDED, SURE, 0, listing, &files)?;
+        let is_so = shelves(&rt, rt.alloc(), line, SEEDED, SURE, 0, listing, &files);
         assert!(rt; is_so, "{line}");
     }
-    Ok(())
 }
 
 /// Command lines that are refused, each with the message.
@@ -531,31 +518,25 @@ const REFUSED_WORDS: [(&str, &str); 21] = [
 ];
 
 /// Tests that each command line has its message.
-fn words_are_refused<R: Threads + Sync + Abort>(
-    rt: &R,
-    alloc: Global,
-    cases: &[(&str, &str)],
-) -> Result<(), Fail> {
+fn words_are_refused<R: Threads + Sync + Abort>(rt: &R, alloc: Global, cases: &[(&str, &str)]) {
     for (line, message) in cases {
-        let is_so = tells(rt, alloc, line, HALF.as_bytes(), UNREAD, message)?;
+        let is_so = tells(rt, alloc, line, HALF.as_bytes(), UNREAD, message);
         assert!(rt; is_so, "{line}");
     }
-    Ok(())
 }
 
 #[test]
-fn refused_words_are_told(rt: HostRuntime) -> Result<(), Fail> {
-    words_are_refused(&rt, rt.alloc(), &REFUSED_WORDS)
+fn refused_words_are_told(rt: HostRuntime) {
+    words_are_refused(&rt, rt.alloc(), &REFUSED_WORDS);
 }
 
 /// Whether the words of a line have these settings.
-fn are_settings(alloc: Global, line: &str, settings: Settings) -> Result<bool, Fail> {
-    let words = words_in(alloc, line)?;
-    Ok(read_words(words.as_slice()) == Ok(settings))
+fn are_settings(rt: &impl Abort, alloc: Global, line: &str, settings: Settings) -> bool {
+    read_words(words_in(rt, alloc, line).as_slice()) == Ok(settings)
 }
 
 #[test]
-fn numbers_of_steps_are_read(rt: HostRuntime) -> Result<(), Fail> {
+fn numbers_of_steps_are_read(rt: HostRuntime) {
     const WORDS: [(&str, Settings); 4] = [
         ("make 1", Settings::Make { n: 1 }),
         ("make 100", Settings::Make { n: 100 }),
@@ -563,9 +544,8 @@ fn numbers_of_steps_are_read(rt: HostRuntime) -> Result<(), Fail> {
         ("large 40", Settings::Large { n: 40, threads: 1 }),
     ];
     for (line, settings) in rows_of(&WORDS) {
-        assert!(rt; are_settings(rt.alloc(), line, *settings)?, "{line}");
+        assert!(rt; are_settings(&rt, rt.alloc(), line, *settings), "{line}");
     }
-    Ok(())
 }
 
 /// The text of twelve steps, after which they come again.
@@ -632,13 +612,13 @@ const TWELVE: &str = "\
     run;\n";
 
 #[test]
-fn texts_are_made(rt: HostRuntime) -> Result<(), Fail> {
+fn texts_are_made(rt: HostRuntime) {
     let mut text = Bytes::new(rt.alloc());
-    make_text(0, &mut text)?;
+    make_text(0, &mut text).expect(&rt, "memory");
     assert!(rt; text.is_empty());
-    make_text(12, &mut text)?;
+    make_text(12, &mut text).expect(&rt, "memory");
     assert!(rt; text.as_slice() == TWELVE.as_bytes());
-    make_text(24, &mut text)?;
+    make_text(24, &mut text).expect(&rt, "memory");
     assert!(rt; text.len() == 3 * TWELVE.len());
     assert!(rt; text.as_slice().ends_with(TWELVE.as_bytes()));
     assert!(rt;
@@ -650,13 +630,12 @@ fn texts_are_made(rt: HostRuntime) -> Result<(), Fail> {
             UNREAD,
             0,
             TWELVE
-        )?
+        )
     );
-    Ok(())
 }
 
 #[test]
-fn large_sums_up(rt: HostRuntime) -> Result<(), Fail> {
+fn large_sums_up(rt: HostRuntime) {
     const SUMMARIES: [(&str, &str); 2] = [
         ("large 1", "steps 1\ndesigns 1\nnone 0\nended 0\nnodes 55\n"),
         (
@@ -665,10 +644,9 @@ fn large_sums_up(rt: HostRuntime) -> Result<(), Fail> {
         ),
     ];
     for (line, summary) in rows_of(&SUMMARIES) {
-        let is_so = lists(&rt, rt.alloc(), line, HALF.as_bytes(), UNREAD, 0, summary)?;
+        let is_so = lists(&rt, rt.alloc(), line, HALF.as_bytes(), UNREAD, 0, summary);
         assert!(rt; is_so, "{line}");
     }
-    Ok(())
 }
 
 /// Whether the status is 4 after failed writes, so many bytes are listed, and no other call failed.
@@ -684,16 +662,15 @@ fn is_after_write(left: Option<Tally>, listed: usize) -> bool {
 
 /// After a failed write of a made text or of a summary nothing is written again.
 #[test]
-fn no_call_follows_a_failed_write_of_a_piece(rt: HostRuntime) -> Result<(), Fail> {
+fn no_call_follows_a_failed_write_of_a_piece(rt: HostRuntime) {
     let limits = Limits {
         first_write: Some(2),
         ..UNREAD
     };
     for (line, listing) in [("make 1", TWELVE), ("large 1", "steps 1\ndesigns 1\n")] {
-        let left = tally_of(&rt, rt.alloc(), line, HALF.as_bytes(), limits, listing)?;
+        let left = tally_of(&rt, rt.alloc(), line, HALF.as_bytes(), limits, listing);
         assert!(rt; is_after_write(left, STEP), "{line}");
     }
-    Ok(())
 }
 
 /// Whether the status is 4 after a failed read, and nothing is written.
@@ -710,7 +687,7 @@ fn is_after_read(left: Option<Tally>) -> bool {
 /// After a failed read nothing is read again and nothing is written: each further call would fail
 /// too, and be counted.
 #[test]
-fn no_call_follows_a_failed_read(rt: HostRuntime) -> Result<(), Fail> {
+fn no_call_follows_a_failed_read(rt: HostRuntime) {
     for text in [HALF, "no program"] {
         // The last read finds the end.
         for call in 1..=text.len().div_ceil(STEP) + 1 {
@@ -719,16 +696,15 @@ fn no_call_follows_a_failed_read(rt: HostRuntime) -> Result<(), Fail> {
                 first_write: Some(1),
                 ..SURE
             };
-            let left = tally_of(&rt, rt.alloc(), "run", text.as_bytes(), limits, "")?;
+            let left = tally_of(&rt, rt.alloc(), "run", text.as_bytes(), limits, "");
             assert!(rt; is_after_read(left));
         }
     }
-    Ok(())
 }
 
 /// After a failed write nothing is written again, and nothing is read that was not needed before.
 #[test]
-fn no_call_follows_a_failed_write(rt: HostRuntime) -> Result<(), Fail> {
+fn no_call_follows_a_failed_write(rt: HostRuntime) {
     let text = HALF.as_bytes();
     let needed = Limits {
         first_read: Some(text.len().div_ceil(STEP) + 2),
@@ -740,19 +716,18 @@ fn no_call_follows_a_failed_write(rt: HostRuntime) -> Result<(), Fail> {
             first_write: Some(call),
             ..needed
         };
-        let left = tally_of(&rt, rt.alloc(), "run", text, limits, HALF_LISTING)?;
+        let left = tally_of(&rt, rt.alloc(), "run", text, limits, HALF_LISTING);
         assert!(rt; is_after_write(left, (call - 1) * STEP));
     }
     let limits = Limits {
         first_write: Some(calls + 1),
         ..needed
     };
-    assert!(rt; lists(&rt, rt.alloc(), "run", text, limits, 0, HALF_LISTING)?);
-    Ok(())
+    assert!(rt; lists(&rt, rt.alloc(), "run", text, limits, 0, HALF_LISTING));
 }
 
 /// Each text with its listing, its files by name and content, and its status.
-const PLANNED: [(&str, &str, &[(&str, &str)], u8); 5] = [
+const PLANNED: &[(&str, &str, &[(&str, &str)], u8)] = &[
     (
         "proc factex; factors A B; size design=4; model resolution=3; output out=Plan pointrep=2 designrep=2 B cvals=('lo,w' 'h\"i');",
         "step 1\nfactors 2 levels 2\ndesign 4 runs\nno defining words\nnodes 2\nrules\n  none\noutput plan.csv 16 rows\n",
@@ -815,20 +790,18 @@ fn are_shelved<R: Threads + Sync + Abort>(
     rt: &R,
     alloc: Global,
     cases: &[(&str, &str, &[(&str, &str)], u8)],
-) -> Result<(), Fail> {
+) {
     for (text, listing, files, status) in cases {
-        let is_so = shelves(rt, alloc, "run", text, SURE, *status, listing, files)?;
+        let is_so = shelves(rt, alloc, "run", text, SURE, *status, listing, files);
         assert!(rt; is_so, "{text}");
     }
-    Ok(())
 }
 
 #[test]
-fn plans_are_shelved(rt: HostRuntime) -> Result<(), Fail> {
-    are_shelved(&rt, rt.alloc(), &PLANNED)?;
-    let plan = file_of(&rt, rt.alloc(), QUOTED, SURE, 0, QUOTED_LISTING)?;
+fn plans_are_shelved(rt: HostRuntime) {
+    are_shelved(&rt, rt.alloc(), PLANNED);
+    let plan = file_of(&rt, rt.alloc(), QUOTED, SURE, 0, QUOTED_LISTING);
     assert!(rt; plan.as_slice() == QUOTED_PLAN);
-    Ok(())
 }
 
 /// Whether the status is 4 after a failed call on the shelf, nothing is listed, and no file is ended.
@@ -846,7 +819,7 @@ fn is_after_file(left: Option<Tally>, files: usize) -> bool {
 /// After a failed call on the shelf none is made again, and nothing is listed. The file is begun,
 /// written in two pieces, and ended.
 #[test]
-fn no_call_follows_a_failed_file(rt: HostRuntime) -> Result<(), Fail> {
+fn no_call_follows_a_failed_file(rt: HostRuntime) {
     let text = "proc factex; factors A; model r=3; output out=a;";
     for call in 1..5 {
         let limits = Limits {
@@ -854,7 +827,7 @@ fn no_call_follows_a_failed_file(rt: HostRuntime) -> Result<(), Fail> {
             first_file: Some(call),
             ..SURE
         };
-        let left = tally_of(&rt, rt.alloc(), "run", text.as_bytes(), limits, "")?;
+        let left = tally_of(&rt, rt.alloc(), "run", text.as_bytes(), limits, "");
         assert!(rt; is_after_file(left, usize::from(call > 1)));
     }
     let limits = Limits {
@@ -865,32 +838,20 @@ fn no_call_follows_a_failed_file(rt: HostRuntime) -> Result<(), Fail> {
     let listing =
         "step 1\nfactors 1 levels 2\ndesign 2 runs\nno defining words\nnodes 1\nrules\n  none\noutput a.csv 2 rows\n";
     let files = [("a.csv", "A\n-1\n1\n")];
-    assert!(rt; shelves(&rt, rt.alloc(), "run", text, limits, 0, listing, &files)?);
-    Ok(())
+    assert!(rt; shelves(&rt, rt.alloc(), "run", text, limits, 0, listing, &files));
 }
 
-/// The longest text, of blanks and a program, and one byte more where that is wanted.
-fn long_text(alloc: Global, more: bool) -> Result<Vec<u8>, Fail> {
-    let mut text = vec![in alloc; b' '; 1048576 - HALF.len()]?;
-    text.extend_from_slice(HALF.as_bytes())?;
-    if more {
-        text.push(b' ')?;
-    }
-    Ok(text)
+/// So many blanks, and a program.
+fn long_text(rt: &impl Abort, alloc: Global, blanks: usize) -> Vec<u8> {
+    let mut text = vec![in alloc; b' '; blanks].expect(rt, "memory");
+    text.extend_from_slice(HALF.as_bytes()).expect(rt, "memory");
+    text
 }
 
-/// A text of more steps than may be.
-fn many_steps(alloc: Global) -> Result<Bytes, Fail> {
-    let mut text = Bytes::new(alloc);
-    for _step in 0..101 {
-        put(&mut text, b"proc factex; factors A;\n")?;
-    }
-    Ok(text)
-}
-
+/// The longest text, and one byte more.
 #[test]
-fn long_texts_are_read(rt: HostRuntime) -> Result<(), Fail> {
-    let text = long_text(rt.alloc(), false)?;
+fn long_texts_are_read(rt: HostRuntime) {
+    let text = long_text(&rt, rt.alloc(), 1_048_576 - HALF.len());
     assert!(rt;
         lists(
             &rt,
@@ -900,13 +861,20 @@ fn long_texts_are_read(rt: HostRuntime) -> Result<(), Fail> {
             SURE,
             0,
             HALF_LISTING
-        )?
+        )
     );
-    let text = long_text(rt.alloc(), true)?;
+    let text = long_text(&rt, rt.alloc(), 1_048_577 - HALF.len());
     let message = "E25 1:1 text is over 1048576 bytes";
-    assert!(rt; tells(&rt, rt.alloc(), "run", text.as_slice(), SURE, message)?);
-    let text = many_steps(rt.alloc())?;
+    assert!(rt; tells(&rt, rt.alloc(), "run", text.as_slice(), SURE, message));
+}
+
+/// A text of one step more than may be.
+#[test]
+fn more_than_a_hundred_steps_are_refused(rt: HostRuntime) {
+    let mut text = Bytes::new(rt.alloc());
+    for _step in 0..101 {
+        put(&mut text, b"proc factex; factors A;\n").expect(&rt, "memory");
+    }
     let message = "E32 101:1 more than 100 steps";
-    assert!(rt; tells(&rt, rt.alloc(), "run", text.as_slice(), SURE, message)?);
-    Ok(())
+    assert!(rt; tells(&rt, rt.alloc(), "run", text.as_slice(), SURE, message));
 }

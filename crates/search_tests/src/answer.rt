@@ -1,14 +1,13 @@
 ghost use Rattle.std.specs.Prelude.{◌<◌, ◌≤◌};
 
 use fx_answer::answer;
-use fx_base::{Bytes, NoMemory, put, put_number};
+use fx_base::{Bytes, put, put_number};
 use fx_board::FreeGate;
 use fx_lexer::lex;
-use fx_statements::{End, Outcome, ParseStop, Program, Step, parse};
+use fx_statements::{End, Outcome, Program, Step, parse};
 use fx_vectors::Matrix;
 use std::alloc::Global;
 use std::process::Abort;
-use std::test::Fail;
 use std::thread::Threads;
 
 // The questions of each step, their nodes and their answers were computed apart from this program, in
@@ -45,7 +44,7 @@ const MOST_BLOCKS: &str = ";factors A B C;size design=8;model resolution=3;block
 /// The least pattern: 282 nodes. The first lot ends with its 24th, the second with the 55th.
 const LEAST_PATTERN: &str = ";factors A B C D E F G;size design=32;model resolution=max/minabs;";
 
-const STEPS: [(&str, u64, Ended); 46] = [
+const STEPS: &[(&str, u64, Ended)] = &[
     (FIXED, 3, (End::Budget, 3, 0, &[], 3)),
     (FIXED, 4, (End::Design, 3, 0, &[1, 2, 4, 7], 4)),
     (FIXED, 5, (End::Design, 3, 0, &[1, 2, 4, 7], 4)),
@@ -127,22 +126,18 @@ const STEPS: [(&str, u64, Ended); 46] = [
 ];
 
 /// The text of a step with this budget.
-fn text_of(alloc: Global, budget: u64, step: &str) -> Result<Bytes, NoMemory> {
-    let mut text = Bytes::from_slice(alloc, b"proc factex nodes=")?;
-    put_number(&mut text, u128::from(budget))?;
-    put(&mut text, step.as_bytes())?;
-    Ok(text)
+fn text_of(rt: &impl Abort, alloc: Global, budget: u64, step: &str) -> Bytes {
+    let mut text = Bytes::from_slice(alloc, b"proc factex nodes=").expect(rt, "memory");
+    put_number(&mut text, u128::from(budget)).expect(rt, "memory");
+    put(&mut text, step.as_bytes()).expect(rt, "memory");
+    text
 }
 
 /// The program of a text.
-fn program_of(rt: &impl Abort, alloc: Global, text: &[u8]) -> Result<Program, Fail> {
+fn program_of(rt: &impl Abort, alloc: Global, text: &[u8]) -> Program {
     assert!(rt; text.len() <= 1_048_576);
-    let tokens = lex(alloc, text)?;
-    match parse(alloc, text, &tokens) {
-        Ok(program) => Ok(program),
-        Err(ParseStop::Refused(_refusal)) => Err(Fail::new("the text is refused")),
-        Err(ParseStop::NoMemory) => Err(Fail::new("memory ran out")),
-    }
+    let tokens = lex(alloc, text).expect(rt, "tokens");
+    parse(alloc, text, &tokens).expect(rt, "a program")
 }
 
 /// Whether these are the rows of a matrix, or there are none of both.
@@ -168,60 +163,41 @@ fn has_ended(outcome: &Outcome, (end, m, t, rows, nodes): Ended) -> bool {
 }
 
 /// Whether a step ends so, by so many threads.
-fn step_ends_so<R: Threads + Sync>(
+fn step_ends_so<R: Abort + Threads + Sync>(
     rt: &R,
     alloc: Global,
     step: &Step,
     threads: u8,
     expected: Ended,
-) -> Result<bool, NoMemory>
+) -> bool
     requires { (0 < threads) × (threads ≤ 64) }
 {
-    let outcome = answer(rt, alloc, step, threads, &FreeGate)?;
-    Ok(has_ended(&outcome, expected))
+    let outcome = answer(rt, alloc, step, threads, &FreeGate).expect(rt, "memory");
+    has_ended(&outcome, expected)
 }
 
-/// Whether a step ends so by one thread and by three.
-fn both_end_so<R: Threads + Sync>(
-    rt: &R,
-    alloc: Global,
-    step: &Step,
-    expected: Ended,
-) -> Result<bool, NoMemory> {
-    Ok(step_ends_so(rt, alloc, step, 1, expected)? && step_ends_so(rt, alloc, step, 3, expected)?)
-}
-
-/// Whether the step of a text does.
-fn ends_so<R: Abort + Threads + Sync>(
-    rt: &R,
-    alloc: Global,
-    text: &[u8],
-    expected: Ended,
-) -> Result<bool, Fail> {
-    let program = program_of(rt, alloc, text)?;
+/// Whether the step of a text ends so by one thread and by three.
+fn ends_so<R: Abort + Threads + Sync>(rt: &R, alloc: Global, text: &[u8], expected: Ended) -> bool {
+    let program = program_of(rt, alloc, text);
     match program.as_slice() {
-        [step] => Ok(both_end_so(rt, alloc, step, expected)?),
-        _ => Ok(false),
+        [step] => step_ends_so(rt, alloc, step, 1, expected)
+            && step_ends_so(rt, alloc, step, 3, expected),
+        _ => false,
     }
 }
 
 /// Tests that each step ends so within its budget.
-fn all_end_so<R: Threads + Sync + Abort>(
-    rt: &R,
-    alloc: Global,
-    cases: &[(&str, u64, Ended)],
-) -> Result<(), Fail> {
+fn all_end_so<R: Threads + Sync + Abort>(rt: &R, alloc: Global, cases: &[(&str, u64, Ended)]) {
     for (step, budget, expected) in cases {
-        let text = text_of(alloc, *budget, step)?;
+        let text = text_of(rt, alloc, *budget, step);
         assert!(rt;
-            ends_so(rt, alloc, text.as_slice(), *expected)?,
+            ends_so(rt, alloc, text.as_slice(), *expected),
             "{budget}{step}"
         );
     }
-    Ok(())
 }
 
 #[test]
-fn budgets_end_at_the_last_node_of_each_question(rt: HostRuntime) -> Result<(), Fail> {
-    all_end_so(&rt, rt.alloc(), &STEPS)
+fn budgets_end_at_the_last_node_of_each_question(rt: HostRuntime) {
+    all_end_so(&rt, rt.alloc(), STEPS);
 }

@@ -4,7 +4,6 @@ ghost use Rattle.fx_designs.specs.Galois.{is_order};
 use fx_barred::Reached;
 use fx_galois::Field;
 use fx_vectors::Shape;
-use std::test::Fail;
 
 fn field(q: u8) -> Field
     requires { IsTrue (is_order q) }
@@ -35,8 +34,8 @@ fn reaches_all(reached: &Reached) -> bool
 /// A, B, C and D = ABC in eight runs: at resolution 4 no fifth factor is left, and 6, which is BC or
 /// AD, is barred by the word ADE.
 #[test]
-fn all_rows_are_barred_after_a_half_fraction(rt: HostRuntime) -> Result<(), Fail> {
-    let mut reached = Reached::of(rt.alloc(), field(2), 3, 2, 5)?;
+fn all_rows_are_barred_after_a_half_fraction(rt: HostRuntime) {
+    let mut reached = Reached::of(rt.alloc(), field(2), 3, 2, 5).expect(&rt, "memory");
     reached.push(1);
     reached.push(2);
     reached.push(4);
@@ -44,5 +43,4 @@ fn all_rows_are_barred_after_a_half_fraction(rt: HostRuntime) -> Result<(), Fail
     assert!(rt; reaches_all(&reached));
     assert!(rt; !reached.reaches(1, 6));
     assert!(rt; reached.closing_word(2, 6) == 25);
-    Ok(())
 }

@@ -6,7 +6,6 @@ use fx_search::{Cutter, JobEnd};
 use fx_vectors::Marks;
 use std::alloc::Global;
 use std::sync::atomic::{AtomicU64, Ordering};
-use std::test::Fail;
 
 /// Jobs that are Closed with so many nodes each, where their limit allows it. A worker counts its jobs.
 #[derive(Drop)]
@@ -72,33 +71,35 @@ fn are_closed_with_one(ends: &Ends) -> bool {
 }
 
 #[test]
-fn one_worker_ends_each_job(rt: HostRuntime) -> Result<(), Fail> {
+fn one_worker_ends_each_job(rt: HostRuntime) {
+    let alloc = rt.alloc();
     let jobs = Even {
-        alloc: rt.alloc(),
+        alloc,
         count: 10,
         nodes: 1,
     };
-    let (board, mut seat) = Board::new(rt.alloc(), 10, 1)?;
+    let (board, mut seat) = Board::new(alloc, 10, 1).expect(&rt, "memory");
     let mut worker = 0;
+    let limit = 1_000_000;
     let ends = work(
-        rt.alloc(),
+        alloc,
         &jobs,
         &board,
         &mut seat,
         &mut worker,
-        1_000_000,
+        limit,
         &FreeGate,
-    )?;
+    )
+    .expect(&rt, "memory");
     assert!(rt; ends.len() == 10 && are_closed_with_one(&ends) && worker == 10);
     let closed = board.close(seat);
     assert!(rt; closed.next == 11 && closed.stop == 10);
-    Ok(())
 }
 
 /// A look of one seat finds what another reported.
 #[test]
-fn a_seat_sees_what_another_reports(rt: HostRuntime) -> Result<(), Fail> {
-    let (board, mut first) = Board::new(rt.alloc(), 2, 2)?;
+fn a_seat_sees_what_another_reports(rt: HostRuntime) {
+    let (board, mut first) = Board::new(rt.alloc(), 2, 2).expect(&rt, "memory");
     let mut second = board.split(&mut first);
     assert!(rt; board.claim(&mut first) == Some(0));
     board.report(&mut first, 0);
@@ -108,7 +109,6 @@ fn a_seat_sees_what_another_reports(rt: HostRuntime) -> Result<(), Fail> {
     let closed = board.close(first);
     assert!(rt; second_job == Some(1) && stops);
     assert!(rt; closed.next == 2 && closed.stop == 0);
-    Ok(())
 }
 
 /// Holds the first job until nine others have ended, each Closed with one node.
@@ -144,7 +144,7 @@ impl Gate for Holding {
 
 /// While one worker is held at the first job, another ends the nine others.
 #[test]
-fn another_worker_ends_the_other_jobs(rt: HostRuntime) -> Result<(), Fail> {
+fn another_worker_ends_the_other_jobs(rt: HostRuntime) {
     let jobs = Even {
         alloc: rt.alloc(),
         count: 10,
@@ -155,43 +155,42 @@ fn another_worker_ends_the_other_jobs(rt: HostRuntime) -> Result<(), Fail> {
         ended: AtomicU64::new(0),
         met: AtomicU64::new(0),
     };
-    let workers = vec![in rt.alloc(); 0, 0]?;
-    let worked = share(&rt, rt.alloc(), &jobs, 10, workers, 1_000_000, &gate)?;
+    let workers = vec![in rt.alloc(); 0, 0].expect(&rt, "memory");
+    let worked = share(&rt, rt.alloc(), &jobs, 10, workers, 1_000_000, &gate).expect(&rt, "memory");
     assert!(rt; worked.ends.len() == 10);
     assert!(rt;
         matches!(worked.workers.as_slice(), [first, second] if first.wrapping_add(*second) == 10)
     );
     assert!(rt; gate.met.load(Ordering::SeqCst) == 1);
-    Ok(())
 }
 
 /// Three workers end all jobs of a lot, and then of another.
 #[test]
-fn workers_go_on_to_another_lot(rt: HostRuntime) -> Result<(), Fail> {
+fn workers_go_on_to_another_lot(rt: HostRuntime) {
     let jobs = Even {
         alloc: rt.alloc(),
         count: 30,
         nodes: 3,
     };
-    let workers = vec![in rt.alloc(); 0, 0, 0]?;
-    let worked = share(&rt, rt.alloc(), &jobs, 30, workers, 1_000, &FreeGate)?;
+    let workers = vec![in rt.alloc(); 0, 0, 0].expect(&rt, "memory");
+    let worked = share(&rt, rt.alloc(), &jobs, 30, workers, 1_000, &FreeGate).expect(&rt, "memory");
     assert!(rt; worked.ends.len() == 30);
-    let again = share(&rt, rt.alloc(), &jobs, 30, worked.workers, 1_000, &FreeGate)?;
+    let again = share(&rt, rt.alloc(), &jobs, 30, worked.workers, 1_000, &FreeGate).expect(
+        &rt, "memory",
+    );
     assert!(rt; again.ends.len() == 30 && again.workers.len() == 3);
-    Ok(())
 }
 
 /// One worker ends two jobs within the limit, and the third is Spent.
 #[test]
-fn a_limit_ends_a_lot(rt: HostRuntime) -> Result<(), Fail> {
+fn a_limit_ends_a_lot(rt: HostRuntime) {
     let jobs = Even {
         alloc: rt.alloc(),
         count: 10,
         nodes: 4,
     };
-    let workers = vec![in rt.alloc(); 0]?;
-    let worked = share(&rt, rt.alloc(), &jobs, 10, workers, 10, &FreeGate)?;
+    let workers = vec![in rt.alloc(); 0].expect(&rt, "memory");
+    let worked = share(&rt, rt.alloc(), &jobs, 10, workers, 10, &FreeGate).expect(&rt, "memory");
     assert!(rt; worked.ends.len() == 3);
     assert!(rt; matches!(worked.ends.get(2), JobEnd::Spent { nodes: 3 }));
-    Ok(())
 }

@@ -1,42 +1,37 @@
-ghost use Rattle.std.specs.Prelude.{◌≤◌};
-
-use fx_base::{Bytes, NoMemory};
+use fx_base::Bytes;
 use fx_book::{BookStop, read_book, write_book};
 use fx_vectors::{Book, Demands, Mark, Marks};
 use std::alloc::Global;
 use std::process::Abort;
-use std::test::Fail;
 
 /// The book of five factors in eight runs at resolution 4, of which there is no design.
 const WORKED: &str =
     "factex-book 1\nsize 2 3 5 0\nresolution 4\npattern none\nO 1\nO 2\nO 4\nO 7\nW 6 25\nW 5 26\nW 3 28\nW 6 14\nW 5 13\nW 3 11\nEND\n";
 
 /// The code and the line of a text's first fault, or None for a book.
-fn fault(alloc: Global, text: &[u8]) -> Result<Option<(u8, u32)>, NoMemory> {
+fn fault(alloc: Global, text: &[u8]) -> Option<(u8, u32)> {
     match read_book(alloc, text) {
-        Err(BookStop::Fault(fault)) => Ok(Some((fault.kind.code(), fault.line))),
-        Err(BookStop::NoMemory) => Err(NoMemory),
-        Ok(_) => Ok(None),
+        Err(BookStop::Fault(fault)) => Some((fault.kind.code(), fault.line)),
+        Err(BookStop::NoMemory) | Ok(_) => None,
     }
 }
 
 /// Whether the text of the book that a text is is the text again.
-fn comes_back(alloc: Global, text: &str) -> Result<bool, BookStop> {
-    let book = read_book(alloc, text.as_bytes())?;
+fn comes_back(rt: &impl Abort, alloc: Global, text: &str) -> bool {
+    let book = read_book(alloc, text.as_bytes()).expect(rt, "a book");
     let mut out = Bytes::new(alloc);
-    write_book(&book, &mut out)?;
-    Ok(out.as_slice() == text.as_bytes())
+    write_book(&book, &mut out).expect(rt, "memory");
+    out.as_slice() == text.as_bytes()
 }
 
 /// Tests that each text is no book, with a fault of this code in this line.
-fn are_faulty(rt: &impl Abort, alloc: Global, cases: &[(&str, u8, u32)]) -> Result<(), Fail> {
+fn are_faulty(rt: &impl Abort, alloc: Global, cases: &[(&str, u8, u32)]) {
     for (text, code, line) in cases {
         assert!(rt;
-            fault(alloc, text.as_bytes())? == Some((*code, *line)),
+            fault(alloc, text.as_bytes()) == Some((*code, *line)),
             "{text}"
         );
     }
-    Ok(())
 }
 
 /// Whether a book has this shape, and asks for resolution 4 and no pattern.
@@ -53,25 +48,23 @@ fn has_marks(marks: &Marks, fourth: Mark, last: Mark) -> bool {
 }
 
 #[test]
-fn worked_book_is_read(rt: HostRuntime) -> Result<(), Fail> {
-    let book = read_book(rt.alloc(), WORKED.as_bytes())?;
+fn worked_book_is_read(rt: HostRuntime) {
+    let book = read_book(rt.alloc(), WORKED.as_bytes()).expect(&rt, "a book");
     assert!(rt; is_headed(&book, 2, 3, 5, 0));
     let fourth = Mark::Branch { row: 7 };
     let last = Mark::Word { row: 3, word: 11 };
     assert!(rt; has_marks(&book.marks, fourth, last));
-    Ok(())
 }
 
 /// Tests that each text comes back.
-fn all_come_back(rt: &impl Abort, alloc: Global, cases: &[&str]) -> Result<(), Fail> {
+fn all_come_back(rt: &impl Abort, alloc: Global, cases: &[&str]) {
     for text in cases {
-        assert!(rt; comes_back(alloc, text)?, "{text}");
+        assert!(rt; comes_back(rt, alloc, text), "{text}");
     }
-    Ok(())
 }
 
 #[test]
-fn books_come_back(rt: HostRuntime) -> Result<(), Fail> {
+fn books_come_back(rt: HostRuntime) {
     const TEXTS: [&str; 5] = [
         WORKED,
         "factex-book 1\nsize 2 3 4 0\nresolution 4\npattern 0 0 0 1\nO 1\nO 2\nO 4\nP 7\nP 6\nP 5\nP 3\nEND\n",
@@ -79,11 +72,11 @@ fn books_come_back(rt: HostRuntime) -> Result<(), Fail> {
         "factex-book 1\nsize 3 2 4 2\neffects 1 2 3 / 4 8 5\npattern none\nEND\n",
         "factex-book 1\nsize 9 3 40 0\nresolution 99\npattern none\nW 728 147808829414345923316083210206383297600\nEND\n",
     ];
-    all_come_back(&rt, rt.alloc(), &TEXTS)
+    all_come_back(&rt, rt.alloc(), &TEXTS);
 }
 
 #[test]
-fn first_lines_have_their_faults(rt: HostRuntime) -> Result<(), Fail> {
+fn first_lines_have_their_faults(rt: HostRuntime) {
     const CASES: [(&str, u8, u32); 22] = [
         ("", 2, 1),
         ("\n", 2, 1),
@@ -112,34 +105,34 @@ fn first_lines_have_their_faults(rt: HostRuntime) -> Result<(), Fail> {
             2,
         ),
     ];
-    are_faulty(&rt, rt.alloc(), &CASES)
+    are_faulty(&rt, rt.alloc(), &CASES);
 }
 
 /// The fault of a text with a line between its front and its end.
 fn fault_with(
+    rt: &impl Abort,
     alloc: Global,
     front: &str,
     line: &str,
     end: &str,
-) -> Result<Option<(u8, u32)>, NoMemory> {
-    let mut text = Bytes::from_slice(alloc, front.as_bytes())?;
-    text.extend_from_slice(line.as_bytes())?;
-    text.extend_from_slice(end.as_bytes())?;
+) -> Option<(u8, u32)> {
+    let mut text = Bytes::from_slice(alloc, front.as_bytes()).expect(rt, "memory");
+    text.extend_from_slice(line.as_bytes()).expect(rt, "memory");
+    text.extend_from_slice(end.as_bytes()).expect(rt, "memory");
     fault(alloc, text.as_slice())
 }
 
 /// Tests that these texts are no third line of a book of four factors in eight runs.
-fn are_no_demands(rt: &impl Abort, alloc: Global, lines: &[&str]) -> Result<(), Fail> {
+fn are_no_demands(rt: &impl Abort, alloc: Global, lines: &[&str]) {
     let front = "factex-book 1\nsize 2 3 4 0\n";
     for line in lines {
-        let found = fault_with(alloc, front, line, "\npattern none\nEND\n")?;
+        let found = fault_with(rt, alloc, front, line, "\npattern none\nEND\n");
         assert!(rt; found == Some((4, 3)), "{line}");
     }
-    Ok(())
 }
 
 #[test]
-fn demands_have_their_faults(rt: HostRuntime) -> Result<(), Fail> {
+fn demands_have_their_faults(rt: HostRuntime) {
     const CASES: [&str; 27] = [
         "",
         "resolution",
@@ -169,11 +162,11 @@ fn demands_have_their_faults(rt: HostRuntime) -> Result<(), Fail> {
         "effects 1 / 4 2",
         "effects 1 2 / 2",
     ];
-    are_no_demands(&rt, rt.alloc(), &CASES)
+    are_no_demands(&rt, rt.alloc(), &CASES);
 }
 
 #[test]
-fn patterns_have_their_faults(rt: HostRuntime) -> Result<(), Fail> {
+fn patterns_have_their_faults(rt: HostRuntime) {
     const CASES: [(&str, u8, u32); 9] = [
         ("factex-book 1\nsize 2 3 2 0\nresolution 3\n", 5, 4),
         (
@@ -217,27 +210,26 @@ fn patterns_have_their_faults(rt: HostRuntime) -> Result<(), Fail> {
             4,
         ),
     ];
-    are_faulty(&rt, rt.alloc(), &CASES)
+    are_faulty(&rt, rt.alloc(), &CASES);
 }
 
 /// Tests that these lines have a fault of this code as entries of five factors in eight runs, where
 /// there is no pattern to beat.
-fn are_no_entries(rt: &impl Abort, alloc: Global, code: u8, lines: &[&str]) -> Result<(), Fail> {
+fn are_no_entries(rt: &impl Abort, alloc: Global, code: u8, lines: &[&str]) {
     let front = "factex-book 1\nsize 2 3 5 0\nresolution 4\npattern none\nO 1\n";
     for line in lines {
-        let found = fault_with(alloc, front, line, "\nEND\n")?;
+        let found = fault_with(rt, alloc, front, line, "\nEND\n");
         assert!(rt; found == Some((code, 6)), "{line}");
     }
-    Ok(())
 }
 
 #[test]
-fn entries_have_their_faults(rt: HostRuntime) -> Result<(), Fail> {
+fn entries_have_their_faults(rt: HostRuntime) {
     const MALFORMED: [&str; 16] = [
         "", "O", "O ", "O 1 ", "O  1", "O 1\r", "O 01", "O 1 1", "o 1", "P 1", "P 9", "W 1",
         "W 1 01", "W 1 1 1", "END ", "W 8 x",
     ];
-    are_no_entries(&rt, rt.alloc(), 6, &MALFORMED)?;
+    are_no_entries(&rt, rt.alloc(), 6, &MALFORMED);
     const OUT_OF_RANGE: [&str; 6] = [
         "O 8",
         "O 1000000000000000000000000000000000000000",
@@ -246,11 +238,11 @@ fn entries_have_their_faults(rt: HostRuntime) -> Result<(), Fail> {
         "W 7 32",
         "W 7 1000000000000000000000000000000000000000",
     ];
-    are_no_entries(&rt, rt.alloc(), 7, &OUT_OF_RANGE)
+    are_no_entries(&rt, rt.alloc(), 7, &OUT_OF_RANGE);
 }
 
 #[test]
-fn ends_have_their_faults(rt: HostRuntime) -> Result<(), Fail> {
+fn ends_have_their_faults(rt: HostRuntime) {
     const CASES: [(&str, u8, u32); 5] = [
         (
             "factex-book 1\nsize 2 3 5 0\nresolution 3\npattern none\n",
@@ -278,12 +270,12 @@ fn ends_have_their_faults(rt: HostRuntime) -> Result<(), Fail> {
             6,
         ),
     ];
-    are_faulty(&rt, rt.alloc(), &CASES)
+    are_faulty(&rt, rt.alloc(), &CASES);
 }
 
 /// A book that is cut off has its fault in the line that is not ended.
 #[test]
-fn no_part_of_a_book_is_one(rt: HostRuntime) -> Result<(), Fail> {
+fn no_part_of_a_book_is_one(rt: HostRuntime) {
     let book = WORKED.as_bytes();
     let mut line = 1u32;
     for cut in 0..book.len() {
@@ -291,26 +283,14 @@ fn no_part_of_a_book_is_one(rt: HostRuntime) -> Result<(), Fail> {
             line += 1;
         }
         let code = if line < 5 { line as u8 + 1 } else { 8 };
-        assert!(rt; fault(rt.alloc(), &book[..cut])? == Some((code, line)));
+        assert!(rt; fault(rt.alloc(), &book[..cut]) == Some((code, line)));
     }
-    Ok(())
-}
-
-/// The faults of a text of so many line feeds, and of the text without its first.
-fn faults_of_feeds(alloc: Global, count: usize) -> Result<[Option<(u8, u32)>; 2], Fail>
-    requires { 1 ≤ count }
-{
-    let text = vec![in alloc; b'\n'; count]?;
-    Ok([
-        fault(alloc, text.as_slice())?,
-        fault(alloc, &text.as_slice()[1..])?,
-    ])
 }
 
 /// A text that is too long has no other fault; at the limit its first line is judged.
 #[test]
-fn limit_is_kept(rt: HostRuntime) -> Result<(), Fail> {
-    let [over, at] = faults_of_feeds(rt.alloc(), 268_435_457)?;
-    assert!(rt; over == Some((1, 1)) && at == Some((2, 1)));
-    Ok(())
+fn limit_is_kept(rt: HostRuntime) {
+    let text = vec![in rt.alloc(); b'\n'; 268_435_457].expect(&rt, "memory");
+    assert!(rt; fault(rt.alloc(), text.as_slice()) == Some((1, 1)));
+    assert!(rt; fault(rt.alloc(), &text.as_slice()[1..]) == Some((2, 1)));
 }

@@ -2,11 +2,12 @@ ghost use Rattle.std.specs.Prelude.{◌≡◌, ◌+◌, ◌≤◌, ◌<◌, ◌^
 ghost use Rattle.fx_vectors.specs.Shape.{IsShape};
 ghost use Rattle.fx_vectors.specs.Question.{IsValid};
 
+use crate::questions::prefix_of;
 use fx_base::NoMemory;
 use fx_demands::{EffectStop, Forbidden, Vectors, bars, effect_vectors, pair_count};
 use fx_vectors::{Demands, Effect, Effects, Matrix, Question, Shape};
 use std::alloc::Global;
-use std::test::Fail;
+use std::process::Abort;
 
 /// Asks for five factors of two levels in eight runs, at resolution 4.
 fn half_fraction() -> Question
@@ -138,42 +139,42 @@ fn all_ones(shape: Shape) -> Matrix
 
 /// BC, AD and BC again: AD stands before BC, and their union is ABCD.
 #[test]
-fn unions_come_once_and_in_order(rt: HostRuntime) -> Result<(), Fail> {
-    let stars = Effects::from_slice(rt.alloc(), &[Effect(6), Effect(9), Effect(6)])?;
-    let unions = bars(rt.alloc(), &stars, 4)?;
+fn unions_come_once_and_in_order(rt: HostRuntime) {
+    let stars = Effects::from_slice(rt.alloc(), &[Effect(6), Effect(9), Effect(6)]).expect(
+        &rt, "memory",
+    );
+    let unions = bars(rt.alloc(), &stars, 4).expect(&rt, "memory");
     assert!(rt; unions.as_slice() == [Effect(9), Effect(6), Effect(15)].as_slice());
-    let pairs = bars(rt.alloc(), &stars, 2)?;
+    let pairs = bars(rt.alloc(), &stars, 2).expect(&rt, "memory");
     assert!(rt; pairs.as_slice() == [Effect(9), Effect(6)].as_slice());
-    Ok(())
 }
 
 /// Seventeen factors have 131,071 effects, 17 of them of one factor.
 #[test]
-fn too_many_unions_are_refused(rt: HostRuntime) -> Result<(), Fail> {
+fn too_many_unions_are_refused(rt: HostRuntime) {
     let mut stars = Effects::new(rt.alloc());
     for i in 0u32..17 {
-        stars.push(Effect(1 << i))?;
+        stars.push(Effect(1 << i)).expect(&rt, "memory");
     }
     assert!(rt; matches!(bars(rt.alloc(), &stars, 17), Err(EffectStop::TooMany)));
-    assert_eq!(rt; bars(rt.alloc(), &stars, 1)?.len(), 17);
-    Ok(())
+    let unions = bars(rt.alloc(), &stars, 1).expect(&rt, "memory");
+    assert!(rt; unions.len() == 17);
 }
 
 /// Of A and AB beside C at three levels: 6 vectors times 8.
 #[test]
-fn pairs_are_counted(rt: HostRuntime) -> Result<(), Fail> {
+fn pairs_are_counted(rt: HostRuntime) {
     let shape = Shape {
         q: 3,
         m: 2,
         s: 3,
         t: 0,
     };
-    let estimate = Effects::from_slice(rt.alloc(), &[Effect(1), Effect(3)])?;
-    let mut others = Effects::from_slice(rt.alloc(), &[Effect(4)])?;
+    let estimate = Effects::from_slice(rt.alloc(), &[Effect(1), Effect(3)]).expect(&rt, "memory");
+    let mut others = Effects::from_slice(rt.alloc(), &[Effect(4)]).expect(&rt, "memory");
     assert!(rt; pair_count(shape.field(), &estimate, &others) == Some(48));
-    others.push(Effect(u64::MAX))?;
+    others.push(Effect(u64::MAX)).expect(&rt, "memory");
     assert!(rt; pair_count(shape.field(), &estimate, &others).is_none());
-    Ok(())
 }
 
 /// The number of the closing word of a prefix, where it has one and that is forbidden.
@@ -193,88 +194,36 @@ fn closing_number(forbidden: &Forbidden, prefix: &Matrix) -> Option<u128>
     }
 }
 
-/// The words that are forbidden for five factors of two levels in eight runs, at resolution 4.
-fn half_words(alloc: Global) -> Result<Forbidden, NoMemory>
-    ensures { IfOk result (λ forbidden.
-        forbidden.shape ≡ record { q = 2; m = 3; s = 5; t = 0 }) }
+/// Tests that a prefix of these rows has the closing word of this number, or is allowed where there is none.
+fn closes_at(rt: &impl Abort, alloc: Global, question: Question, rows: &[u16], number: Option<u128>)
+    requires { IsValid question }
 {
-    Forbidden::of(alloc, &half_fraction())
+    let forbidden = Forbidden::of(alloc, &question).expect(rt, "memory");
+    let prefix = prefix_of(rt, forbidden.shape(), rows);
+    assert!(rt; forbidden.allows(&prefix) == number.is_none());
+    assert!(rt; closing_number(&forbidden, &prefix) == number);
 }
 
 /// A, B, C and ABC are at resolution 4; BC with A and ABC has the sum zero.
 #[test]
-fn a_fifth_row_closes_a_half_fraction(rt: HostRuntime) -> Result<(), Fail> {
-    const SHAPE: Shape = Shape {
-        q: 2,
-        m: 3,
-        s: 5,
-        t: 0,
-    };
-    let forbidden = half_words(rt.alloc())?;
-    let mut prefix = Matrix::new(SHAPE);
-    prefix.push(1);
-    prefix.push(2);
-    prefix.push(4);
-    prefix.push(7);
-    assert!(rt; forbidden.allows(&prefix) && closing_number(&forbidden, &prefix).is_none());
-    prefix.push(6);
-    assert!(rt; !forbidden.allows(&prefix) && closing_number(&forbidden, &prefix) == Some(25));
-    Ok(())
-}
-
-/// The words that are forbidden for three factors of two levels in eight runs, in four blocks.
-fn block_words(alloc: Global) -> Result<Forbidden, NoMemory>
-    ensures { IfOk result (λ forbidden.
-        forbidden.shape ≡ record { q = 2; m = 3; s = 3; t = 2 }) }
-{
-    Forbidden::of(alloc, &in_blocks())
+fn a_fifth_row_closes_a_half_fraction(rt: HostRuntime) {
+    closes_at(&rt, rt.alloc(), half_fraction(), &[1, 2, 4, 7], None);
+    closes_at(&rt, rt.alloc(), half_fraction(), &[1, 2, 4, 7, 6], Some(25));
 }
 
 /// Blocks by ABC and BC have the interaction A.
 #[test]
-fn an_interaction_of_blocks_is_forbidden(rt: HostRuntime) -> Result<(), Fail> {
-    const SHAPE: Shape = Shape {
-        q: 2,
-        m: 3,
-        s: 3,
-        t: 2,
-    };
-    let forbidden = block_words(rt.alloc())?;
-    let mut prefix = Matrix::new(SHAPE);
-    prefix.push(1);
-    prefix.push(2);
-    prefix.push(4);
-    prefix.push(7);
-    assert!(rt; forbidden.allows(&prefix));
-    prefix.push(6);
-    assert!(rt; closing_number(&forbidden, &prefix) == Some(25));
-    Ok(())
-}
-
-/// The words that are forbidden for the main effects of two factors of two levels in two runs.
-fn effect_words(alloc: Global) -> Result<Forbidden, NoMemory>
-    ensures { IfOk result (λ forbidden.
-        forbidden.shape ≡ record { q = 2; m = 1; s = 2; t = 0 }) }
-{
-    let question = two_effects(alloc)?;
-    Forbidden::of(alloc, &question)
+fn an_interaction_of_blocks_is_forbidden(rt: HostRuntime) {
+    closes_at(&rt, rt.alloc(), in_blocks(), &[1, 2, 4, 7], None);
+    closes_at(&rt, rt.alloc(), in_blocks(), &[1, 2, 4, 7, 6], Some(25));
 }
 
 #[test]
-fn two_factors_are_told_apart(rt: HostRuntime) -> Result<(), Fail> {
-    const SHAPE: Shape = Shape {
-        q: 2,
-        m: 1,
-        s: 2,
-        t: 0,
-    };
-    let forbidden = effect_words(rt.alloc())?;
-    let mut prefix = Matrix::new(SHAPE);
-    prefix.push(1);
-    assert!(rt; forbidden.allows(&prefix));
-    prefix.push(1);
-    assert!(rt; closing_number(&forbidden, &prefix) == Some(3));
-    Ok(())
+fn two_factors_are_told_apart(rt: HostRuntime) {
+    let question = two_effects(rt.alloc()).expect(&rt, "memory");
+    closes_at(&rt, rt.alloc(), question, &[1], None);
+    let question = two_effects(rt.alloc()).expect(&rt, "memory");
+    closes_at(&rt, rt.alloc(), question, &[1, 1], Some(3));
 }
 
 /// Whether the vector at this place has these two codes.
@@ -287,7 +236,7 @@ fn has_codes(vectors: &Vectors, place: usize, first: u8, second: u8) -> bool {
 
 /// At three levels A*B has the vectors (1, 1), (2, 1), (1, 2) and (2, 2), whose numbers rise.
 #[test]
-fn vectors_of_an_effect_rise(rt: HostRuntime) -> Result<(), Fail> {
+fn vectors_of_an_effect_rise(rt: HostRuntime) {
     let field = Shape {
         q: 3,
         m: 1,
@@ -295,22 +244,19 @@ fn vectors_of_an_effect_rise(rt: HostRuntime) -> Result<(), Fail> {
         t: 0,
     }
     .field();
-    let vectors = effect_vectors(rt.alloc(), field, 2, &Effect(3))?;
+    let vectors = effect_vectors(rt.alloc(), field, 2, &Effect(3)).expect(&rt, "memory");
     assert!(rt; vectors.len() == 4);
     assert!(rt; has_codes(&vectors, 0, 1, 1) && has_codes(&vectors, 1, 2, 1));
     assert!(rt; has_codes(&vectors, 2, 1, 2) && has_codes(&vectors, 3, 2, 2));
-    Ok(())
 }
 
 /// At two, three and four levels, without blocks and with them, the listed words lead to the word that
 /// is found by trying all.
 #[test]
-fn listed_words_close_alike(rt: HostRuntime) -> Result<(), Fail> {
+fn listed_words_close_alike(rt: HostRuntime) {
     for q in 2..5 {
-        assert!(rt; closes_alike(rt.alloc(), q, 0)?);
-        assert!(rt; closes_alike(rt.alloc(), q, 1)?);
+        assert!(rt; closes_alike(&rt, rt.alloc(), q, 0) && closes_alike(&rt, rt.alloc(), q, 1));
     }
-    Ok(())
 }
 
 /// Whether the two lead to the same word for a prefix.
@@ -362,28 +308,25 @@ fn agree_at_all(tried: &Forbidden, listed: &Forbidden, q: u8, t: u8) -> bool
 }
 
 /// Whether the words of a question, tried and listed, lead to the same words.
-fn closes_alike(alloc: Global, q: u8, t: u8) -> Result<bool, NoMemory>
+fn closes_alike(rt: &impl Abort, alloc: Global, q: u8, t: u8) -> bool
     requires least { 2 ≤ q }
     requires most { q ≤ 4 }
     requires blocks { t ≤ 1 }
 {
-    let question = of_levels(alloc, q, t)?;
-    let tried = Forbidden::of(alloc, &question)?;
-    let listed = Forbidden::listed(alloc, &question)?;
-    Ok(agree_at_all(&tried, &listed, q, t))
+    let question = of_levels(alloc, q, t).expect(rt, "memory");
+    let tried = Forbidden::of(alloc, &question).expect(rt, "memory");
+    let listed = Forbidden::listed(alloc, &question).expect(rt, "memory");
+    agree_at_all(&tried, &listed, q, t)
 }
 
 /// Of 40 equal rows the sum of all is zero, and the product of 39 factors is the main effect of the
 /// other. Trying all words of up to 40 factors would take hours.
 #[test]
-fn a_heavy_word_is_found_at_once(rt: HostRuntime) -> Result<(), Fail> {
-    let question = of_many_factors(rt.alloc())?;
-    let forbidden = Forbidden::listed(rt.alloc(), &question)?;
+fn a_heavy_word_is_found_at_once(rt: HostRuntime) {
+    let question = of_many_factors(rt.alloc()).expect(&rt, "memory");
+    let forbidden = Forbidden::listed(rt.alloc(), &question).expect(&rt, "memory");
     let prefix = all_ones(question.shape);
     assert!(rt; !forbidden.allows(&prefix));
-    match forbidden.closing_word(&prefix) {
-        None => assert!(rt; false),
-        Some(word) => assert_eq!(rt; word.weight(), 40),
-    }
-    Ok(())
+    let word = forbidden.closing_word(&prefix).expect(&rt, "a word");
+    assert!(rt; word.weight() == 40);
 }

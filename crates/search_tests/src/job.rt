@@ -6,7 +6,6 @@ use fx_base::NoMemory;
 use fx_search::{Cutter, JobEnd, run_job};
 use fx_vectors::{Demands, Effect, Effects, Matrix, Question, Shape};
 use std::alloc::Global;
-use std::test::Fail;
 
 /// Four factors of two levels in two runs.
 const SHAPE: Shape = Shape {
@@ -91,7 +90,7 @@ const ENDS: [(u64, bool, Option<(u64, bool)>); 4] = [
 
 /// The job A, B, C = 1, 0, 1 ends with its first design, 1, 0, 1, 1.
 #[test]
-fn a_job_ends_at_its_design_or_its_limit_or_is_cut(rt: HostRuntime) -> Result<(), Fail> {
+fn a_job_ends_at_its_design_or_its_limit_or_is_cut(rt: HostRuntime) -> Result<(), NoMemory> {
     let question = halves(rt.alloc())?;
     let mut job = Matrix::new(SHAPE);
     job.push(1);

@@ -31,6 +31,9 @@ mod tree;
 #[cfg(test)]
 mod words;
 
+// A helper ends the test where memory runs out, by `expect`, and hands on no error: each way out of a function is
+// proved, with all that is dropped on it.
+
 /// The rows of a table. The contract says nothing of them, so that no proof of a loop reads them all.
 #[cfg(test)]
 fn rows_of<T>(table: &[T]) -> &[T] {

@@ -1,19 +1,16 @@
 ghost use Rattle.std.specs.Prelude.{◌≤◌};
 ghost use Rattle.fx_vectors.specs.Question.{IsValid};
-ghost use Rattle.fx_vectors.specs.Shape.{IsShape};
 
 use crate::board::Holding;
 use crate::questions::{main_effects, question, shape_of};
 use crate::rows_of;
 use crate::searches::are_same_marks;
-use fx_base::NoMemory;
-use fx_board::{Alone, Asked, FreeGate, Gate, ask, ask_after};
+use fx_board::{Alone, Asked, FreeGate, ask, ask_after};
 use fx_search::ask_alone;
-use fx_vectors::{Question, Shape};
+use fx_vectors::Question;
 use std::alloc::Global;
 use std::process::Abort;
 use std::sync::atomic::{AtomicU64, Ordering};
-use std::test::Fail;
 use std::thread::Threads;
 
 /// Whether both answers are the same, with the same nodes and marks.
@@ -92,7 +89,7 @@ const THREADS: [(u8, Alone); 12] = [
 ];
 
 /// Whether so many threads answer so, under a budget.
-fn answer_so<R: Threads + Sync>(
+fn answer_so<R: Threads + Sync + Abort>(
     rt: &R,
     alloc: Global,
     question: &Question,
@@ -100,70 +97,62 @@ fn answer_so<R: Threads + Sync>(
     threads: u8,
     nodes: Alone,
     alone: &Asked,
-) -> Result<bool, NoMemory>
+) -> bool
     requires valid { IsValid question.now }
     requires budget { budget ≤ 5000000 }
 {
-    let asked = ask_after(
-        rt,
-        alloc,
-        question,
-        budget,
-        threads.clamp(1, 64),
-        nodes,
-        &FreeGate,
-    )?;
-    Ok(are_same(&asked, alone))
+    let threads = threads.clamp(1, 64);
+    let asked = ask_after(rt, alloc, question, budget, threads, nodes, &FreeGate);
+    are_same(&asked.expect(rt, "memory"), alone)
 }
 
 /// Whether each number of threads answers so, under a budget.
-fn all_answer_so<R: Threads + Sync>(
+fn all_answer_so<R: Threads + Sync + Abort>(
     rt: &R,
     alloc: Global,
     question: &Question,
     budget: u64,
     alone: &Asked,
-) -> Result<bool, NoMemory>
+) -> bool
     requires valid { IsValid question.now }
     requires budget { budget ≤ 5000000 }
 {
     for (threads, nodes) in rows_of(&THREADS) {
-        if !answer_so(rt, alloc, question, budget, *threads, *nodes, alone)? {
-            return Ok(false);
+        if !answer_so(rt, alloc, question, budget, *threads, *nodes, alone) {
+            return false;
         }
     }
-    let asked = ask(rt, alloc, question, budget, 4, &FreeGate)?;
-    Ok(are_same(&asked, alone))
+    let asked = ask(rt, alloc, question, budget, 4, &FreeGate).expect(rt, "memory");
+    are_same(&asked, alone)
 }
 
 /// Whether each number of threads answers as one does, under a budget.
-fn threads_agree<R: Threads + Sync>(
+fn threads_agree<R: Threads + Sync + Abort>(
     rt: &R,
     alloc: Global,
     question: &Question,
     budget: u64,
-) -> Result<bool, NoMemory>
+) -> bool
     requires valid { IsValid question.now }
     requires budget { budget ≤ 5000000 }
 {
-    let alone = ask_alone(alloc, question, budget)?;
+    let alone = ask_alone(alloc, question, budget).expect(rt, "memory");
     all_answer_so(rt, alloc, question, budget, &alone)
 }
 
 /// Whether they do under the budget of just the nodes, one more, and one less.
-fn threads_agree_at_the_nodes<R: Threads + Sync>(
+fn threads_agree_at_the_nodes<R: Threads + Sync + Abort>(
     rt: &R,
     alloc: Global,
     question: &Question,
-) -> Result<bool, NoMemory>
+) -> bool
     requires { IsValid question.now }
 {
-    let nodes = nodes_of(&ask_alone(alloc, question, 1_000_000)?).min(1_000_000);
-    Ok(
-        threads_agree(rt, alloc, question, nodes)?
-            && threads_agree(rt, alloc, question, nodes + 1)?
-            && threads_agree(rt, alloc, question, nodes.saturating_sub(1))?,
-    )
+    let asked = ask_alone(alloc, question, 1_000_000).expect(rt, "memory");
+    let nodes = nodes_of(&asked).min(1_000_000);
+    threads_agree(rt, alloc, question, nodes)
+        && threads_agree(rt, alloc, question, nodes + 1)
+        && threads_agree(rt, alloc, question, nodes.saturating_sub(1))
 }
 
 /// Levels, run indexes, factors, block factors, the resolution, or 0 for the main effects of A and B, and
@@ -187,26 +176,19 @@ const ASKED: [(u8, u8, u8, u8, u8, bool); 16] = [
     (3, 2, 4, 0, 0, false),
 ];
 
-fn each_agrees<R: Threads + Sync>(
+fn each_agrees<R: Threads + Sync + Abort>(
     rt: &R,
     alloc: Global,
     asked: &(u8, u8, u8, u8, u8, bool),
-) -> Result<bool, NoMemory> {
+) -> bool {
     let (q, m, s, t, r, least) = *asked;
-    let Some(shape) = shape_of(q, m, s, t) else {
-        return Ok(false);
-    };
-    if r == 0 {
-        if shape.s < 2 {
-            return Ok(false);
-        }
-        let question = main_effects(alloc, shape)?;
-        return threads_agree_at_the_nodes(rt, alloc, &question);
+    let shape = shape_of(rt, (q, m, s, t));
+    if r > 0 {
+        return threads_agree_at_the_nodes(rt, alloc, &question(rt, shape, r, least));
     }
-    match question(shape, r, least) {
-        None => Ok(false),
-        Some(question) => threads_agree_at_the_nodes(rt, alloc, &question),
-    }
+    assert!(rt; shape.s >= 2);
+    let question = main_effects(alloc, shape).expect(rt, "memory");
+    threads_agree_at_the_nodes(rt, alloc, &question)
 }
 
 /// Tests each of these questions.
@@ -214,48 +196,27 @@ fn all_agree<R: Threads + Sync + Abort>(
     rt: &R,
     alloc: Global,
     cases: &[(u8, u8, u8, u8, u8, bool)],
-) -> Result<(), Fail> {
+) {
     for asked in cases {
-        assert!(rt; each_agrees(rt, alloc, asked)?);
+        assert!(rt; each_agrees(rt, alloc, asked));
     }
-    Ok(())
 }
 
 #[test]
-fn any_number_of_threads_answers_as_one(rt: HostRuntime) -> Result<(), Fail> {
-    all_agree(&rt, rt.alloc(), &ASKED)
-}
-
-/// How many nodes a search for a resolution comes by with two threads, where it finds a design.
-fn nodes_of_design<R: Threads + Sync, G: Gate>(
-    rt: &R,
-    alloc: Global,
-    shape: Shape,
-    gate: &G,
-) -> Result<u64, NoMemory>
-    requires { IsShape shape }
-{
-    let Some(question) = question(shape, 4, false) else {
-        return Ok(0);
-    };
-    match ask(rt, alloc, &question, 1_000_000, 2, gate)? {
-        Asked::Found { nodes, .. } => Ok(nodes),
-        Asked::Nothing { .. } | Asked::Budget { .. } => Ok(0),
-    }
+fn any_number_of_threads_answers_as_one(rt: HostRuntime) {
+    all_agree(&rt, rt.alloc(), &ASKED);
 }
 
 /// While one worker is held at the first of ten jobs, another ends the nine others.
 #[test]
-fn a_second_thread_works_off_jobs(rt: HostRuntime) -> Result<(), Fail> {
+fn a_second_thread_works_off_jobs(rt: HostRuntime) {
     let gate = Holding {
         held: AtomicU64::new(0),
         ended: AtomicU64::new(0),
         met: AtomicU64::new(0),
     };
-    match shape_of(2, 4, 7, 0) {
-        None => assert!(rt; false),
-        Some(shape) => assert!(rt; nodes_of_design(&rt, rt.alloc(), shape, &gate)? == 19),
-    }
+    let question = question(&rt, shape_of(&rt, (2, 4, 7, 0)), 4, false);
+    let asked = ask(&rt, rt.alloc(), &question, 1_000_000, 2, &gate).expect(&rt, "memory");
+    assert!(rt; matches!(asked, Asked::Found { nodes: 19, .. }));
     assert!(rt; gate.met.load(Ordering::SeqCst) == 1);
-    Ok(())
 }

@@ -1,11 +1,12 @@
 ghost use Rattle.std.specs.Prelude.{◌≡◌, IfOk};
 ghost use Rattle.fx_vectors.specs.Question.{IsValid};
 
+use crate::questions::prefix_of;
 use fx_base::NoMemory;
 use fx_tree::{before, children, is_canonical};
-use fx_vectors::{Demands, Effect, Effects, Matrix, Question, Shape};
+use fx_vectors::{Demands, Effect, Effects, Question, Shape};
 use std::alloc::Global;
-use std::test::Fail;
+use std::process::Abort;
 
 /// Asks for seven factors of two levels in sixteen runs, at resolution 4.
 fn seven_factors() -> Question
@@ -63,84 +64,60 @@ fn two_effects(alloc: Global) -> Result<Question, NoMemory>
     })
 }
 
-/// Whether a prefix is canonical, and these are its children.
-fn has_children(
-    alloc: Global,
-    question: &Question,
-    prefix: &Matrix,
-    wanted: &[u16],
-) -> Result<bool, NoMemory>
-    requires valid { IsValid question.now }
-    requires shape { prefix.now.shape ≡ question.now.shape }
+/// Tests that a prefix of these rows is canonical, and these are its children.
+fn has_children(rt: &impl Abort, alloc: Global, question: &Question, rows: &[u16], wanted: &[u16])
+    requires { IsValid question.now }
 {
-    if !is_canonical(question, prefix) {
-        return Ok(false);
-    }
-    Ok(children(alloc, question, prefix)?.as_slice() == wanted)
+    let prefix = prefix_of(rt, question.shape, rows);
+    assert!(rt; is_canonical(question, &prefix));
+    let children = children(alloc, question, &prefix).expect(rt, "memory");
+    assert!(rt; children.as_slice() == wanted);
 }
 
 #[test]
-fn unit_rows_come_first_and_later_rows_fall(rt: HostRuntime) -> Result<(), Fail> {
+fn unit_rows_come_first_and_later_rows_fall(rt: HostRuntime) {
     const AFTER_FOUR: [u16; 11] = [15, 14, 13, 12, 11, 10, 9, 7, 6, 5, 3];
+    let alloc = rt.alloc();
     let question = seven_factors();
-    let mut prefix = Matrix::new(question.shape);
-    assert!(rt; has_children(rt.alloc(), &question, &prefix, &[1])?);
-    prefix.push(1);
-    prefix.push(2);
-    prefix.push(4);
-    prefix.push(8);
-    assert!(rt; has_children(rt.alloc(), &question, &prefix, &AFTER_FOUR)?);
-    prefix.push(9);
-    assert!(rt; has_children(rt.alloc(), &question, &prefix, &[7, 6, 5, 3])?);
-    prefix.push(10);
+    has_children(&rt, alloc, &question, &[], &[1]);
+    has_children(&rt, alloc, &question, &[1, 2, 4, 8], &AFTER_FOUR);
+    has_children(&rt, alloc, &question, &[1, 2, 4, 8, 9], &[7, 6, 5, 3]);
+    let prefix = prefix_of(&rt, question.shape, &[1, 2, 4, 8, 9, 10]);
     assert!(rt; !is_canonical(&question, &prefix));
-    Ok(())
 }
 
 /// The rank is to become 2: after the rows 1 and 1 only the second unit row can raise it.
 #[test]
-fn effects_leave_the_unit_rows_free(rt: HostRuntime) -> Result<(), Fail> {
-    let question = two_effects(rt.alloc())?;
-    let mut prefix = Matrix::new(question.shape);
-    prefix.push(1);
-    assert!(rt; has_children(rt.alloc(), &question, &prefix, &[3, 1, 0])?);
-    prefix.push(1);
-    assert!(rt; has_children(rt.alloc(), &question, &prefix, &[3])?);
-    prefix.pop();
-    prefix.push(3);
-    assert!(rt; has_children(rt.alloc(), &question, &prefix, &[5, 4, 3, 1, 0])?);
-    Ok(())
+fn effects_leave_the_unit_rows_free(rt: HostRuntime) {
+    let alloc = rt.alloc();
+    let question = two_effects(alloc).expect(&rt, "memory");
+    has_children(&rt, alloc, &question, &[1], &[3, 1, 0]);
+    has_children(&rt, alloc, &question, &[1, 1], &[3]);
+    has_children(&rt, alloc, &question, &[1, 3], &[5, 4, 3, 1, 0]);
 }
 
 #[test]
-fn block_rows_may_repeat_and_be_zero(rt: HostRuntime) -> Result<(), Fail> {
+fn block_rows_may_repeat_and_be_zero(rt: HostRuntime) {
+    let alloc = rt.alloc();
     let question = in_blocks();
-    let mut prefix = Matrix::new(question.shape);
-    prefix.push(1);
-    prefix.push(2);
-    prefix.push(4);
-    assert!(rt; has_children(rt.alloc(), &question, &prefix, &[7, 6, 5, 4, 3, 2, 1, 0])?);
-    prefix.push(6);
-    prefix.push(6);
-    assert!(rt; has_children(rt.alloc(), &question, &prefix, &[])?);
-    Ok(())
+    has_children(&rt, alloc, &question, &[1, 2, 4], &[7, 6, 5, 4, 3, 2, 1, 0]);
+    has_children(&rt, alloc, &question, &[1, 2, 4, 6, 6], &[]);
 }
 
-#[test]
-fn a_prefix_stands_before_its_extensions(rt: HostRuntime) {
+/// Whether a prefix of five rows is before another.
+fn is_before(rt: &impl Abort, rows: &[u16], others: &[u16]) -> bool {
     const SHAPE: Shape = Shape {
         q: 2,
         m: 3,
         s: 3,
         t: 2,
     };
-    let mut a = Matrix::new(SHAPE);
-    let mut b = Matrix::new(SHAPE);
-    a.push(1);
-    b.push(1);
-    assert!(rt; !before(&a, &b));
-    b.push(2);
-    assert!(rt; before(&a, &b) && !before(&b, &a));
-    a.push(4);
-    assert!(rt; before(&a, &b) && !before(&b, &a));
+    before(&prefix_of(rt, SHAPE, rows), &prefix_of(rt, SHAPE, others))
+}
+
+#[test]
+fn a_prefix_stands_before_its_extensions(rt: HostRuntime) {
+    assert!(rt; !is_before(&rt, &[1], &[1]));
+    assert!(rt; is_before(&rt, &[1], &[1, 2]) && !is_before(&rt, &[1, 2], &[1]));
+    assert!(rt; is_before(&rt, &[1, 4], &[1, 2]) && !is_before(&rt, &[1, 2], &[1, 4]));
 }

@@ -7,7 +7,6 @@ use fx_text::Names;
 use fx_vectors::Effects;
 use std::alloc::Global;
 use std::process::Abort;
-use std::test::Fail;
 
 /// By what the designs of a step are judged.
 fn criterion(wanted: &Wanted) -> Criterion {
@@ -44,16 +43,16 @@ fn gives(
     wanted: Criterion,
     least: bool,
     blocks: Blocks,
-) -> Result<bool, Fail> {
-    let text = text_of(alloc, "proc factex;factors A B C D;", rest)?;
-    match read(rt, alloc, text.as_slice())? {
-        Ok(program) => Ok(has_settings(&program, size, wanted, least, blocks)),
-        Err(_stop) => Ok(false),
+) -> bool {
+    let text = text_of(rt, alloc, "proc factex;factors A B C D;", rest);
+    match read(rt, alloc, text.as_slice()) {
+        Ok(program) => has_settings(&program, size, wanted, least, blocks),
+        Err(_stop) => false,
     }
 }
 
 #[test]
-fn sizes_and_models_have_their_meanings(rt: HostRuntime) -> Result<(), Fail> {
+fn sizes_and_models_have_their_meanings(rt: HostRuntime) {
     const THREE: Criterion = Criterion::Resolution { r: 3 };
     const CASES: [(&str, Size, Criterion, bool); 8] = [
         ("", Size::Runs { m: 4 }, Criterion::Highest, false),
@@ -110,15 +109,14 @@ fn sizes_and_models_have_their_meanings(rt: HostRuntime) -> Result<(), Fail> {
                 *wanted,
                 *least,
                 Blocks::Without
-            )?,
+            ),
             "{text}"
         );
     }
-    Ok(())
 }
 
 #[test]
-fn blocks_have_their_meanings(rt: HostRuntime) -> Result<(), Fail> {
+fn blocks_have_their_meanings(rt: HostRuntime) {
     const RUNS: Size = Size::Runs { m: 4 };
     const CASES: [(&str, Size, Blocks); 8] = [
         (
@@ -149,15 +147,14 @@ fn blocks_have_their_meanings(rt: HostRuntime) -> Result<(), Fail> {
     for (text, size, blocks) in rows_of(&CASES) {
         let wanted = Criterion::Resolution { r: 5 };
         assert!(rt;
-            gives(&rt, rt.alloc(), text, *size, wanted, false, *blocks)?,
+            gives(&rt, rt.alloc(), text, *size, wanted, false, *blocks),
             "{text}"
         );
     }
-    Ok(())
 }
 
 #[test]
-fn blocks_stand_with_effects(rt: HostRuntime) -> Result<(), Fail> {
+fn blocks_stand_with_effects(rt: HostRuntime) {
     const CASES: [(&str, Size, Blocks); 3] = [
         (
             "model e=(A);blocks nblkfacs=2;",
@@ -178,11 +175,10 @@ fn blocks_stand_with_effects(rt: HostRuntime) -> Result<(), Fail> {
     for (text, size, blocks) in rows_of(&CASES) {
         let wanted = Criterion::Effects;
         assert!(rt;
-            gives(&rt, rt.alloc(), text, *size, wanted, false, *blocks)?,
+            gives(&rt, rt.alloc(), text, *size, wanted, false, *blocks),
             "{text}"
         );
     }
-    Ok(())
 }
 
 /// Whether these are the effects, in order.
@@ -199,8 +195,8 @@ fn are_effects(effects: &Effects, numbers: &[u64]) -> bool {
 }
 
 #[test]
-fn effects_are_those_of_the_lists(rt: HostRuntime) -> Result<(), Fail> {
-    const CASES: [(&str, &[u64], &[u64]); 4] = [
+fn effects_are_those_of_the_lists(rt: HostRuntime) {
+    const CASES: &[(&str, &[u64], &[u64])] = &[
         (
             "size design=4;model estimate=(A|B|C @2) nonneg=(A*B*C);",
             &[1, 2, 4, 3, 5, 6],
@@ -218,13 +214,12 @@ fn effects_are_those_of_the_lists(rt: HostRuntime) -> Result<(), Fail> {
         ),
         ("model est=(C);", &[4], &[]),
     ];
-    for (text, estimate, nonnegligible) in rows_of(&CASES) {
+    for (text, estimate, nonnegligible) in rows_of(CASES) {
         assert!(rt;
-            asks_for(&rt, rt.alloc(), text, estimate, nonnegligible)?,
+            asks_for(&rt, rt.alloc(), text, estimate, nonnegligible),
             "{text}"
         );
     }
-    Ok(())
 }
 
 /// Whether the only step of a program asks for these effects.
@@ -248,11 +243,11 @@ fn asks_for(
     rest: &str,
     estimate: &[u64],
     nonnegligible: &[u64],
-) -> Result<bool, Fail> {
-    let text = text_of(alloc, "proc factex;factors A B C;", rest)?;
-    match read(rt, alloc, text.as_slice())? {
-        Ok(program) => Ok(has_effects(&program, estimate, nonnegligible)),
-        Err(_stop) => Ok(false),
+) -> bool {
+    let text = text_of(rt, alloc, "proc factex;factors A B C;", rest);
+    match read(rt, alloc, text.as_slice()) {
+        Ok(program) => has_effects(&program, estimate, nonnegligible),
+        Err(_stop) => false,
     }
 }
 
@@ -329,10 +324,7 @@ fn are_both(program: &Program) -> bool {
 }
 
 #[test]
-fn steps_have_what_is_written(rt: HostRuntime) -> Result<(), Fail> {
-    match read(&rt, rt.alloc(), TWO_STEPS.as_bytes())? {
-        Ok(program) => assert!(rt; are_both(&program)),
-        Err(_stop) => assert!(rt; false),
-    }
-    Ok(())
+fn steps_have_what_is_written(rt: HostRuntime) {
+    let program = read(&rt, rt.alloc(), TWO_STEPS.as_bytes()).expect(&rt, "a program");
+    assert!(rt; are_both(&program));
 }

@@ -11,7 +11,7 @@ pub(super) const NO_FIVE: &str =
 const NO_FIVE_ACCEPTED: &str = "accepted\nsize 2 3 5 0\nresolution 4\npattern none\n";
 
 /// Each text with its listing, its books by name and content, and its status.
-const BOOKS: [(&str, &str, &[(&str, &str)], u8); 6] = [
+const BOOKS: &[(&str, &str, &[(&str, &str)], u8)] = &[
     (
         "proc factex;factors A B C D E;size design=8;model resolution=4;",
         "step 1\nfactors 5 levels 2\nno design in 8 runs\nnodes 10\nbook step1-1.book\n",
@@ -76,8 +76,8 @@ const BOOKS: [(&str, &str, &[(&str, &str)], u8); 6] = [
 ];
 
 #[test]
-fn books_are_shelved(rt: HostRuntime) -> Result<(), Fail> {
-    are_shelved(&rt, rt.alloc(), &BOOKS)
+fn books_are_shelved(rt: HostRuntime) {
+    are_shelved(&rt, rt.alloc(), BOOKS);
 }
 
 /// A step with a least pattern of 282 nodes.
@@ -90,14 +90,13 @@ const LEAST_LISTING: &str =
 
 /// Its book has four lines and one for each node, and ends.
 #[test]
-fn the_book_of_a_least_pattern_is_accepted(rt: HostRuntime) -> Result<(), Fail> {
-    let book = file_of(&rt, rt.alloc(), LEAST.as_bytes(), SURE, 0, LEAST_LISTING)?;
+fn the_book_of_a_least_pattern_is_accepted(rt: HostRuntime) {
+    let book = file_of(&rt, rt.alloc(), LEAST.as_bytes(), SURE, 0, LEAST_LISTING);
     let head = "factex-book 1\nsize 2 5 7 0\nresolution 3\npattern 0 0 0 1 2 0 0\n";
     assert!(rt; book.as_slice().starts_with(head.as_bytes()));
     assert!(rt; count(book.as_slice(), b'\n') == 4 + 282 + 1);
     let listing = "accepted\nsize 2 5 7 0\nresolution 3\npattern 0 0 0 1 2 0 0\n";
-    assert!(rt; lists(&rt, rt.alloc(), "check", book.as_slice(), SURE, 0, listing)?);
-    Ok(())
+    assert!(rt; lists(&rt, rt.alloc(), "check", book.as_slice(), SURE, 0, listing));
 }
 
 /// Books that claim the same, each with what `check` lists of it and its status.
@@ -147,23 +146,22 @@ fn verdicts_are_listed<R: Threads + Sync + Abort>(
     rt: &R,
     alloc: Global,
     cases: &[(&str, &str, u8)],
-) -> Result<(), Fail> {
+) {
     for (book, listing, status) in cases {
-        let is_so = lists(rt, alloc, "check", book.as_bytes(), SURE, *status, listing)?;
+        let is_so = lists(rt, alloc, "check", book.as_bytes(), SURE, *status, listing);
         assert!(rt; is_so, "{listing}");
     }
-    Ok(())
 }
 
 #[test]
-fn books_are_judged(rt: HostRuntime) -> Result<(), Fail> {
-    verdicts_are_listed(&rt, rt.alloc(), &JUDGED)
+fn books_are_judged(rt: HostRuntime) {
+    verdicts_are_listed(&rt, rt.alloc(), &JUDGED);
 }
 
 /// After a failed read of a book nothing is read again and nothing is written, and after a failed
 /// write nothing is written again.
 #[test]
-fn no_call_follows_a_failed_one_of_a_check(rt: HostRuntime) -> Result<(), Fail> {
+fn no_call_follows_a_failed_one_of_a_check(rt: HostRuntime) {
     let book = NO_FIVE.as_bytes();
     for call in 1..=book.len().div_ceil(STEP) + 1 {
         let limits = Limits {
@@ -171,7 +169,7 @@ fn no_call_follows_a_failed_one_of_a_check(rt: HostRuntime) -> Result<(), Fail> 
             first_write: Some(1),
             ..SURE
         };
-        let left = tally_of(&rt, rt.alloc(), "check", book, limits, NO_FIVE_ACCEPTED)?;
+        let left = tally_of(&rt, rt.alloc(), "check", book, limits, NO_FIVE_ACCEPTED);
         assert!(rt; is_after_read(left));
     }
     for call in 1..=NO_FIVE_ACCEPTED.len().div_ceil(STEP) {
@@ -179,8 +177,7 @@ fn no_call_follows_a_failed_one_of_a_check(rt: HostRuntime) -> Result<(), Fail> 
             first_write: Some(call),
             ..SURE
         };
-        let left = tally_of(&rt, rt.alloc(), "check", book, limits, NO_FIVE_ACCEPTED)?;
+        let left = tally_of(&rt, rt.alloc(), "check", book, limits, NO_FIVE_ACCEPTED);
         assert!(rt; is_after_write(left, (call - 1) * STEP));
     }
-    Ok(())
 }

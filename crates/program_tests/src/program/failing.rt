@@ -1,10 +1,9 @@
 //! Each call outside fails in turn, and the room for each byte is missing in turn. What is left is the
 //! beginning of the whole, and no call follows the one that failed.
 use super::outside::{Limits, Outside, SURE, left_by};
-use fx_base::{Bytes, MemoryShelf, NoMemory, put};
+use fx_base::{Bytes, MemoryShelf, put};
 use std::alloc::Global;
 use std::process::Abort;
-use std::test::Fail;
 use std::thread::Threads;
 
 /// Two plans of one step, and a step without a design, whose book comes after the first listing.
@@ -99,48 +98,49 @@ struct Left {
 }
 
 /// Appends a file as a text.
-fn put_file(out: &mut Bytes, name: &[u8], content: &[u8], is_ended: bool) -> Result<(), NoMemory> {
-    put(out, "\x01".as_bytes())?;
-    put(out, name)?;
-    put(out, "\x02".as_bytes())?;
-    put(out, content)?;
-    if is_ended {
-        put(out, "\x03".as_bytes())?;
+fn put_file(rt: &impl Abort, out: &mut Bytes, name: &[u8], content: &[u8], is_ended: bool) {
+    let parts = ["\x01".as_bytes(), name, "\x02".as_bytes(), content];
+    for part in parts {
+        put(out, part).expect(rt, "memory");
     }
-    Ok(())
+    if is_ended {
+        put(out, "\x03".as_bytes()).expect(rt, "memory");
+    }
 }
 
 /// Appends the files of a shelf as a text, which is a prefix of that of another shelf where the acts that
 /// made the files are a prefix of those that made the other's.
-fn put_files(out: &mut Bytes, shelf: &MemoryShelf) -> Result<(), NoMemory> {
+fn put_files(rt: &impl Abort, out: &mut Bytes, shelf: &MemoryShelf) {
     for i in 0..shelf.files() {
-        put_file(out, shelf.name(i), shelf.content(i), shelf.is_ended(i))?;
+        put_file(rt, out, shelf.name(i), shelf.content(i), shelf.is_ended(i));
     }
-    Ok(())
 }
 
 /// What a run has left outside.
-fn left_in(alloc: Global, outside: &Outside) -> Result<Left, NoMemory> {
+fn left_in(rt: &impl Abort, alloc: Global, outside: &Outside) -> Left {
     let mut files = Bytes::new(alloc);
-    put_files(&mut files, &outside.shelf)?;
-    Ok(Left {
+    put_files(rt, &mut files, &outside.shelf);
+    Left {
         status: outside.status,
         faults: outside.faults(),
-        listed: Bytes::from_slice(alloc, outside.listing.bytes())?,
+        listed: Bytes::from_slice(alloc, outside.listing.bytes()).expect(rt, "memory"),
         files,
-    })
+    }
 }
 
 /// What a run leaves within these limits.
-fn run_within<R: Threads + Sync>(
+fn run_within<R: Threads + Sync + Abort>(
     rt: &R,
     alloc: Global,
     line: &str,
     text: &str,
     limits: Limits,
-) -> Result<Left, Fail> {
-    let outside = left_by(rt, alloc, line, text.as_bytes(), limits)?;
-    Ok(left_in(alloc, &outside)?)
+) -> Left {
+    left_in(
+        rt,
+        alloc,
+        &left_by(rt, alloc, line, text.as_bytes(), limits),
+    )
 }
 
 /// Whether one call failed, and a part is the beginning of the whole.
@@ -170,26 +170,26 @@ enum Part {
 }
 
 /// What of a whole run the run within these limits leaves.
-fn part_within<R: Threads + Sync>(
+fn part_within<R: Threads + Sync + Abort>(
     rt: &R,
     alloc: Global,
     line: &str,
     text: &str,
     limits: Limits,
     whole: &Left,
-) -> Result<Part, Fail> {
-    let part = run_within(rt, alloc, line, text, limits)?;
+) -> Part {
+    let part = run_within(rt, alloc, line, text, limits);
     if is_beginning(&part, whole) {
-        Ok(Part::Beginning)
+        Part::Beginning
     } else if are_same(&part, whole) {
-        Ok(Part::Whole)
+        Part::Whole
     } else {
-        Ok(Part::Other)
+        Part::Other
     }
 }
 
 /// How many calls are made, or how much room is taken: with less the run fails and leaves a beginning.
-fn needed<R: Threads + Sync>(
+fn needed<R: Threads + Sync + Abort>(
     rt: &R,
     alloc: Global,
     line: &str,
@@ -197,15 +197,15 @@ fn needed<R: Threads + Sync>(
     step: usize,
     failing: Failing,
     whole: &Left,
-) -> Result<usize, Fail> {
+) -> usize {
     for from in 1..=PIECE {
-        match part_within(rt, alloc, line, text, limits_of(failing, from, step), whole)? {
+        match part_within(rt, alloc, line, text, limits_of(failing, from, step), whole) {
             Part::Beginning => {}
-            Part::Whole => return Ok(from - 1),
-            Part::Other => return Err(Fail::new("neither a beginning nor the whole")),
+            Part::Whole => return from - 1,
+            Part::Other => panic!(rt; "neither a beginning nor the whole"),
         }
     }
-    Err(Fail::new("too many calls"))
+    panic!(rt; "too many calls")
 }
 
 /// Tests how many calls of each object a run makes.
@@ -217,12 +217,11 @@ fn makes_calls<R: Threads + Sync + Abort>(
     step: usize,
     wanted: &[usize; 3],
     whole: &Left,
-) -> Result<(), Fail> {
-    let reads = needed(rt, alloc, line, text, step, Failing::Reads, whole)?;
-    let writes = needed(rt, alloc, line, text, step, Failing::Writes, whole)?;
-    let files = needed(rt, alloc, line, text, step, Failing::Files, whole)?;
+) {
+    let reads = needed(rt, alloc, line, text, step, Failing::Reads, whole);
+    let writes = needed(rt, alloc, line, text, step, Failing::Writes, whole);
+    let files = needed(rt, alloc, line, text, step, Failing::Files, whole);
     assert!(rt; [reads, writes, files] == *wanted, "{line} {text}");
-    Ok(())
 }
 
 /// Tests how many calls of each object the runs make.
@@ -230,53 +229,42 @@ fn all_make_calls<R: Threads + Sync + Abort>(
     rt: &R,
     alloc: Global,
     cases: &[(&str, &str, usize, [usize; 3])],
-) -> Result<(), Fail> {
+) {
     for (line, text, step, calls) in cases {
         let limits = Limits {
             step: *step,
             ..SURE
         };
-        let whole = run_within(rt, alloc, line, text, limits)?;
-        makes_calls(rt, alloc, line, text, *step, calls, &whole)?;
+        let whole = run_within(rt, alloc, line, text, limits);
+        makes_calls(rt, alloc, line, text, *step, calls, &whole);
     }
-    Ok(())
 }
 
 #[test]
-fn each_call_fails_in_turn(rt: HostRuntime) -> Result<(), Fail> {
-    all_make_calls(&rt, rt.alloc(), &CALLS)
+fn each_call_fails_in_turn(rt: HostRuntime) {
+    all_make_calls(&rt, rt.alloc(), &CALLS);
 }
 
 /// Whether the run takes just the room of its listing there, and room on the shelf.
-fn takes_room<R: Threads + Sync>(
-    rt: &R,
-    alloc: Global,
-    text: &str,
-    whole: &Left,
-) -> Result<bool, Fail> {
-    let listing = needed(rt, alloc, "run", text, 1, Failing::ListingRoom, whole)?;
-    let shelf = needed(rt, alloc, "run", text, 1, Failing::ShelfRoom, whole)?;
-    Ok(listing == whole.listed.len() && shelf > 64)
+fn takes_room<R: Threads + Sync + Abort>(rt: &R, alloc: Global, text: &str, whole: &Left) -> bool {
+    let listing = needed(rt, alloc, "run", text, 1, Failing::ListingRoom, whole);
+    let shelf = needed(rt, alloc, "run", text, 1, Failing::ShelfRoom, whole);
+    listing == whole.listed.len() && shelf > 64
 }
 
 /// Tests that each run takes the room of what it leaves.
-fn all_take_room<R: Threads + Sync + Abort>(
-    rt: &R,
-    alloc: Global,
-    cases: &[&str],
-) -> Result<(), Fail> {
+fn all_take_room<R: Threads + Sync + Abort>(rt: &R, alloc: Global, cases: &[&str]) {
     for text in cases {
-        let whole = run_within(rt, alloc, "run", text, Limits { step: 1, ..SURE })?;
-        assert!(rt; takes_room(rt, alloc, text, &whole)?, "{text}");
+        let whole = run_within(rt, alloc, "run", text, Limits { step: 1, ..SURE });
+        assert!(rt; takes_room(rt, alloc, text, &whole), "{text}");
     }
-    Ok(())
 }
 
 /// Each byte in turn finds no room. A file takes 64 bytes of the room, and its content.
 #[test]
-fn each_byte_fails_in_turn(rt: HostRuntime) -> Result<(), Fail> {
+fn each_byte_fails_in_turn(rt: HostRuntime) {
     const TEXTS: [&str; 4] = [TWO_PLANS, CLASSES, LEAST, ALL];
-    all_take_room(&rt, rt.alloc(), &TEXTS)
+    all_take_room(&rt, rt.alloc(), &TEXTS);
 }
 
 /// What of a file is there, where the whole has this content.
@@ -293,35 +281,33 @@ fn state_of(content: &[u8], is_ended: bool, whole: &[u8]) -> &'static str {
 }
 
 /// Appends the names of the files of a shelf, each with what of it is there.
-fn put_states(out: &mut Bytes, part: &MemoryShelf, whole: &MemoryShelf) -> Result<(), NoMemory> {
+fn put_states(rt: &impl Abort, out: &mut Bytes, part: &MemoryShelf, whole: &MemoryShelf) {
     for i in 0..part.files().min(whole.files()) {
-        put(out, part.name(i))?;
+        put(out, part.name(i)).expect(rt, "memory");
         let state = state_of(part.content(i), part.is_ended(i), whole.content(i));
-        put(out, state.as_bytes())?;
+        put(out, state.as_bytes()).expect(rt, "memory");
     }
-    Ok(())
 }
 
 /// Whether these are the files and the listing of a part of a whole run, of which one call failed.
 fn is_left(
+    rt: &impl Abort,
     alloc: Global,
     part: &Outside,
     whole: &Outside,
     files: &str,
     listing: &str,
-) -> Result<bool, NoMemory> {
+) -> bool {
     let mut states = Bytes::new(alloc);
-    put_states(&mut states, &part.shelf, &whole.shelf)?;
-    Ok(
-        part.status == 4
-            && part.faults() == 1
-            && states.as_slice() == files.as_bytes()
-            && part.listing.bytes() == listing.as_bytes(),
-    )
+    put_states(rt, &mut states, &part.shelf, &whole.shelf);
+    part.status == 4
+        && part.faults() == 1
+        && states.as_slice() == files.as_bytes()
+        && part.listing.bytes() == listing.as_bytes()
 }
 
 /// Whether a run within these limits leaves these files of a whole run, and this listing.
-fn leaves<R: Threads + Sync>(
+fn leaves<R: Threads + Sync + Abort>(
     rt: &R,
     alloc: Global,
     text: &str,
@@ -329,9 +315,9 @@ fn leaves<R: Threads + Sync>(
     whole: &Outside,
     files: &str,
     listing: &str,
-) -> Result<bool, Fail> {
-    let part = left_by(rt, alloc, "run", text.as_bytes(), limits)?;
-    Ok(is_left(alloc, &part, whole, files, listing)?)
+) -> bool {
+    let part = left_by(rt, alloc, "run", text.as_bytes(), limits);
+    is_left(rt, alloc, &part, whole, files, listing)
 }
 
 /// Tests what is there of the files, and what is listed, where calls of one object fail from one on.
@@ -341,15 +327,12 @@ fn each_leaves<R: Threads + Sync + Abort>(
     text: &str,
     whole: &Outside,
     cases: &[(Failing, usize, &str, &str)],
-) -> Result<(), Fail> {
+) {
     for (failing, from, files, listing) in cases {
         let limits = limits_of(*failing, *from, PIECE);
-        assert!(rt;
-            leaves(rt, alloc, text, limits, whole, files, listing)?,
-            "{files}"
-        );
+        let is_so = leaves(rt, alloc, text, limits, whole, files, listing);
+        assert!(rt; is_so, "{files}");
     }
-    Ok(())
 }
 
 /// Objects outside that take each piece in one call, none of which fails.
@@ -388,9 +371,9 @@ const ONE_STEP: [(Failing, usize, &str, &str); 9] = [
 
 /// The files of a step come before its listing, the books before the plans.
 #[test]
-fn files_come_before_the_listing(rt: HostRuntime) -> Result<(), Fail> {
-    let whole = left_by(&rt, rt.alloc(), "run", ALL.as_bytes(), PIECEWISE)?;
-    each_leaves(&rt, rt.alloc(), ALL, &whole, &ONE_STEP)
+fn files_come_before_the_listing(rt: HostRuntime) {
+    let whole = left_by(&rt, rt.alloc(), "run", ALL.as_bytes(), PIECEWISE);
+    each_leaves(&rt, rt.alloc(), ALL, &whole, &ONE_STEP);
 }
 
 /// The same for two steps, with what is listed.
@@ -428,7 +411,7 @@ const TWO_STEPS: [(Failing, usize, &str, &str); 9] = [
 
 /// A step is listed before the files of the next.
 #[test]
-fn steps_come_one_after_another(rt: HostRuntime) -> Result<(), Fail> {
-    let whole = left_by(&rt, rt.alloc(), "run", TWO_PLANS.as_bytes(), PIECEWISE)?;
-    each_leaves(&rt, rt.alloc(), TWO_PLANS, &whole, &TWO_STEPS)
+fn steps_come_one_after_another(rt: HostRuntime) {
+    let whole = left_by(&rt, rt.alloc(), "run", TWO_PLANS.as_bytes(), PIECEWISE);
+    each_leaves(&rt, rt.alloc(), TWO_PLANS, &whole, &TWO_STEPS);
 }

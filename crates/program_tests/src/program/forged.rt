@@ -2,10 +2,9 @@
 //! another language, written from what docs/BOOKS.md says of books.
 use super::books::NO_FIVE;
 use super::outside::{SURE, count, left_by, lists};
-use fx_base::{Bytes, NoMemory, put};
+use fx_base::{Bytes, put};
 use std::alloc::Global;
 use std::process::Abort;
-use std::test::Fail;
 use std::thread::Threads;
 
 /// A change of a line.
@@ -213,45 +212,56 @@ fn first_line(text: &[u8]) -> (&[u8], &[u8]) {
     }
 }
 
+fn append(rt: &impl Abort, out: &mut Bytes, text: &[u8]) {
+    put(out, text).expect(rt, "memory");
+}
+
 /// Appends a line with this text in the place of its byte at `at`.
-fn put_replaced(
-    out: &mut Bytes,
-    line: &[u8],
-    at: Option<usize>,
-    new: &str,
-) -> Result<(), NoMemory> {
+fn put_replaced(rt: &impl Abort, out: &mut Bytes, line: &[u8], at: Option<usize>, new: &str) {
     match at {
         Some(at) if at < line.len() => {
-            put(out, &line[..at])?;
-            put(out, new.as_bytes())?;
-            put(out, &line[at + 1..])
+            append(rt, out, &line[..at]);
+            append(rt, out, new.as_bytes());
+            append(rt, out, &line[at + 1..]);
         }
-        _ => put(out, line),
+        _ => append(rt, out, line),
     }
 }
 
 /// Appends a changed line, and what follows it.
-fn put_changed(out: &mut Bytes, line: &[u8], rest: &[u8], change: Change) -> Result<(), NoMemory> {
+fn put_changed(rt: &impl Abort, out: &mut Bytes, line: &[u8], rest: &[u8], change: Change) {
     match change {
-        Change::Before(text) => put(out, text.as_bytes())?,
-        Change::Doubled => put(out, line)?,
-        Change::Exchanged => put(out, first_line(rest).0)?,
+        Change::Before(text) => append(rt, out, text.as_bytes()),
+        Change::Doubled => append(rt, out, line),
+        Change::Exchanged => append(rt, out, first_line(rest).0),
         _ => {}
     }
     match change {
         Change::First(old, new) => {
-            put_replaced(out, line, line.iter().position(|byte| *byte == old), new)?;
+            put_replaced(
+                rt,
+                out,
+                line,
+                line.iter().position(|byte| *byte == old),
+                new,
+            );
         }
         Change::Last(old, new) => {
-            put_replaced(out, line, line.iter().rposition(|byte| *byte == old), new)?;
+            put_replaced(
+                rt,
+                out,
+                line,
+                line.iter().rposition(|byte| *byte == old),
+                new,
+            );
         }
         Change::LeftOut => {}
-        _ => put(out, line)?,
+        _ => append(rt, out, line),
     }
     match change {
-        Change::EndsHere => Ok(()),
-        Change::Exchanged => put(out, first_line(rest).1),
-        _ => put(out, rest),
+        Change::EndsHere => {}
+        Change::Exchanged => append(rt, out, first_line(rest).1),
+        _ => append(rt, out, rest),
     }
 }
 
@@ -265,50 +275,29 @@ fn fits(line: &[u8], rest: &[u8], change: Change) -> bool {
 }
 
 /// Appends a line without what comes before the place of a rejection, and without its line feed.
-fn put_verdict(out: &mut Bytes, line: &[u8]) -> Result<(), NoMemory> {
+fn put_verdict(rt: &impl Abort, out: &mut Bytes, line: &[u8]) {
     if !out.is_empty() {
-        put(out, ", ".as_bytes())?;
+        append(rt, out, ", ".as_bytes());
     }
     let line = line.strip_suffix("\n".as_bytes()).unwrap_or(line);
-    put(
-        out,
-        line.strip_prefix("rejected line ".as_bytes())
-            .unwrap_or(line),
-    )
+    let place = line.strip_prefix("rejected line ".as_bytes());
+    append(rt, out, place.unwrap_or(line));
 }
 
 /// Appends the verdict of `check` on a text: the first line that it lists.
-fn judge<R: Threads + Sync>(
-    rt: &R,
-    alloc: Global,
-    text: &[u8],
-    out: &mut Bytes,
-) -> Result<(), Fail> {
-    let left = left_by(rt, alloc, "check", text, SURE)?;
-    put_verdict(out, first_line(left.listing.bytes()).0)?;
-    Ok(())
-}
-
-/// Appends a book with a changed line: what is before it, the line, and what follows it.
-fn put_forged(
-    out: &mut Bytes,
-    front: &[u8],
-    line: &[u8],
-    rest: &[u8],
-    change: Change,
-) -> Result<(), NoMemory> {
-    put(out, front)?;
-    put_changed(out, line, rest, change)
+fn judge<R: Threads + Sync + Abort>(rt: &R, alloc: Global, text: &[u8], out: &mut Bytes) {
+    let left = left_by(rt, alloc, "check", text, SURE);
+    put_verdict(rt, out, first_line(left.listing.bytes()).0);
 }
 
 /// Appends the verdicts on a book with each line changed in turn.
-fn judge_each<R: Threads + Sync>(
+fn judge_each<R: Threads + Sync + Abort>(
     rt: &R,
     alloc: Global,
     book: &[u8],
     change: Change,
     out: &mut Bytes,
-) -> Result<(), Fail> {
+) {
     let mut rest = book;
     for _line in 0..count(book, b'\n') {
         let front = book.len().saturating_sub(rest.len());
@@ -316,30 +305,24 @@ fn judge_each<R: Threads + Sync>(
         rest = after;
         if fits(line, rest, change) {
             let mut text = Bytes::new(alloc);
-            put_forged(
-                &mut text,
-                book.get(..front).unwrap_or(book),
-                line,
-                rest,
-                change,
-            )?;
-            judge(rt, alloc, text.as_slice(), out)?;
+            append(rt, &mut text, book.get(..front).unwrap_or(book));
+            put_changed(rt, &mut text, line, rest, change);
+            judge(rt, alloc, text.as_slice(), out);
         }
     }
-    Ok(())
 }
 
 /// Whether these are the verdicts on a book with each line changed in turn.
-fn has_verdicts<R: Threads + Sync>(
+fn has_verdicts<R: Threads + Sync + Abort>(
     rt: &R,
     alloc: Global,
     book: &[u8],
     change: Change,
     wanted: &str,
-) -> Result<bool, Fail> {
+) -> bool {
     let mut found = Bytes::new(alloc);
-    judge_each(rt, alloc, book, change, &mut found)?;
-    Ok(found.as_slice() == wanted.as_bytes())
+    judge_each(rt, alloc, book, change, &mut found);
+    found.as_slice() == wanted.as_bytes()
 }
 
 /// Tests the verdicts on a book with each change: a line for each.
@@ -349,17 +332,16 @@ fn are_judged<R: Threads + Sync + Abort>(
     changes: &[Change],
     book: &str,
     wanted: &str,
-) -> Result<(), Fail> {
+) {
     let mut rows = wanted.lines();
     for change in changes {
         let row = rows.next().expect(rt, "a line for each change");
         assert!(rt;
-            has_verdicts(rt, alloc, book.as_bytes(), *change, row)?,
+            has_verdicts(rt, alloc, book.as_bytes(), *change, row),
             "{row}"
         );
     }
     assert!(rt; rows.next().is_none());
-    Ok(())
 }
 
 /// Tests the verdicts on each of these books.
@@ -368,16 +350,15 @@ fn all_are_judged<R: Threads + Sync + Abort>(
     alloc: Global,
     changes: &[Change],
     books: &[(&str, &str)],
-) -> Result<(), Fail> {
+) {
     for (book, wanted) in books {
-        are_judged(rt, alloc, changes, book, wanted)?;
+        are_judged(rt, alloc, changes, book, wanted);
     }
-    Ok(())
 }
 
 #[test]
-fn forged_lines_are_rejected(rt: HostRuntime) -> Result<(), Fail> {
-    all_are_judged(&rt, rt.alloc(), &CHANGES, &BOOKS)
+fn forged_lines_are_rejected(rt: HostRuntime) {
+    all_are_judged(&rt, rt.alloc(), &CHANGES, &BOOKS);
 }
 
 /// Lines of the book of five factors in eight runs at resolution 4, each with what is in its place, and the
@@ -401,27 +382,27 @@ const REPLACED: [(usize, &str, &str); 14] = [
 ];
 
 /// The book with another text in the place of a line, counted from 1.
-fn with_line(alloc: Global, line: usize, other: &str) -> Result<Bytes, NoMemory> {
+fn with_line(rt: &impl Abort, alloc: Global, line: usize, other: &str) -> Bytes {
     let mut text = Bytes::new(alloc);
     for (i, own) in NO_FIVE.lines().enumerate() {
         if i.saturating_add(1) == line {
-            put(&mut text, other.as_bytes())?;
+            append(rt, &mut text, other.as_bytes());
         } else {
-            put(&mut text, own.as_bytes())?;
-            put(&mut text, "\n".as_bytes())?;
+            append(rt, &mut text, own.as_bytes());
+            append(rt, &mut text, "\n".as_bytes());
         }
     }
-    Ok(text)
+    text
 }
 
 /// Whether a text is rejected with this verdict, and nothing else is listed.
-fn is_rejected<R: Threads + Sync>(
+fn is_rejected<R: Threads + Sync + Abort>(
     rt: &R,
     alloc: Global,
     text: &[u8],
     wanted: &str,
-) -> Result<bool, Fail> {
-    let line = format!(in alloc; "rejected line {wanted}\n")?;
+) -> bool {
+    let line = format!(in alloc; "rejected line {wanted}\n").expect(rt, "memory");
     lists(rt, alloc, "check", text, SURE, 1, line.as_str())
 }
 
@@ -430,20 +411,15 @@ fn replaced_are_rejected<R: Threads + Sync + Abort>(
     rt: &R,
     alloc: Global,
     cases: &[(usize, &str, &str)],
-) -> Result<(), Fail> {
+) {
     for (line, other, wanted) in cases {
-        let text = with_line(alloc, *line, other)?;
-        assert!(rt;
-            is_rejected(rt, alloc, text.as_slice(), wanted)?,
-            "{wanted}"
-        );
+        let text = with_line(rt, alloc, *line, other);
+        assert!(rt; is_rejected(rt, alloc, text.as_slice(), wanted), "{wanted}");
     }
-    Ok(())
 }
 
 #[test]
-fn replaced_lines_are_rejected(rt: HostRuntime) -> Result<(), Fail> {
-    replaced_are_rejected(&rt, rt.alloc(), &REPLACED)?;
-    assert!(rt; is_rejected(&rt, rt.alloc(), "".as_bytes(), "1 B2")?);
-    Ok(())
+fn replaced_lines_are_rejected(rt: HostRuntime) {
+    replaced_are_rejected(&rt, rt.alloc(), &REPLACED);
+    assert!(rt; is_rejected(&rt, rt.alloc(), "".as_bytes(), "1 B2"));
 }

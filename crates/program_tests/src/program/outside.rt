@@ -1,10 +1,10 @@
-ghost use Rattle.std.specs.Prelude.{◌≡◌, false, IfOk, ℕ};
+ghost use Rattle.std.specs.Prelude.{◌≡◌, false};
 ghost use Rattle.fx_base.specs.Memory.{has_open};
 
 use fx_base::{Bytes, MemoryShelf, MemorySink, MemorySource};
 use fx_program::factex;
 use std::alloc::Global;
-use std::test::Fail;
+use std::process::Abort;
 use std::thread::Threads;
 
 /// How many bytes the objects outside take in a call, how much room they have, and from which of their
@@ -30,12 +30,23 @@ pub(super) const SURE: Limits = Limits {
 };
 
 /// The objects outside, in memory, and the status that a call of `factex` on them has returned.
-#[derive(Drop)]
 pub(super) struct Outside {
     pub(super) status: u8,
     pub(super) source: MemorySource,
     pub(super) listing: MemorySink,
     pub(super) shelf: MemoryShelf,
+}
+
+/// By hand, so that a function that drops the objects calls this one, and is not proved with each part that is dropped.
+impl Drop for Outside {
+    fn drop(self) {
+        let Outside {
+            status: _status,
+            source: _source,
+            listing: _listing,
+            shelf: _shelf,
+        } = self;
+    }
 }
 
 impl Outside {
@@ -49,85 +60,74 @@ impl Outside {
 }
 
 /// The words of a command line, between blanks.
-pub(super) fn words_in(alloc: Global, line: &str) -> Result<Vec<Vec<u8>>, Fail> {
+pub(super) fn words_in(rt: &impl Abort, alloc: Global, line: &str) -> Vec<Vec<u8>> {
     let mut words = Vec::new(alloc);
     for word in line.split_whitespace() {
-        words.push(word.as_bytes().to_vec(alloc)?)?;
+        let word = word.as_bytes().to_vec(alloc).expect(rt, "memory");
+        words.push(word).expect(rt, "memory");
     }
-    Ok(words)
+    words
 }
 
 /// The numbers of all calls from this one on, counted from 1, or of none. No test that names one makes
 /// as many calls as there are numbers.
-fn calls_from(alloc: Global, first: Option<usize>) -> Result<Bytes, Fail> {
-    let mut calls = Vec::new(alloc);
+fn calls_from(rt: &impl Abort, alloc: Global, first: Option<usize>) -> Bytes {
+    let mut calls = Bytes::new(alloc);
     if let Some(first) = first {
         for call in first..=255 {
-            calls.push(call as u8)?;
+            calls.push(call as u8).expect(rt, "memory");
         }
     }
-    Ok(Bytes::from_vec(calls))
+    calls
 }
 
 /// The source of a text within these limits.
-fn source_of(alloc: Global, text: &[u8], limits: Limits) -> Result<MemorySource, Fail> {
-    let content = Bytes::from_vec(text.to_vec(alloc)?);
-    let calls = calls_from(alloc, limits.first_read)?;
-    Ok(MemorySource::new(content, limits.step.max(1), calls))
+fn source_of(rt: &impl Abort, alloc: Global, text: &[u8], limits: Limits) -> MemorySource {
+    let content = Bytes::from_slice(alloc, text).expect(rt, "memory");
+    let calls = calls_from(rt, alloc, limits.first_read);
+    MemorySource::new(content, limits.step.max(1), calls)
 }
 
 /// An empty listing within these limits.
-fn listing_within(alloc: Global, limits: Limits) -> Result<MemorySink, Fail> {
-    let calls = calls_from(alloc, limits.first_write)?;
-    Ok(MemorySink::new(alloc, limits.step.max(1), limits.listing_room, calls)?)
+fn listing_within(rt: &impl Abort, alloc: Global, limits: Limits) -> MemorySink {
+    let calls = calls_from(rt, alloc, limits.first_write);
+    MemorySink::new(alloc, limits.step.max(1), limits.listing_room, calls).expect(rt, "memory")
 }
 
 /// An empty shelf within these limits.
-fn shelf_within(alloc: Global, limits: Limits) -> Result<MemoryShelf, Fail>
-    ensures { IfOk result (λ shelf. has_open shelf.files ≡ false) }
+fn shelf_within(rt: &impl Abort, alloc: Global, limits: Limits) -> MemoryShelf
+    ensures { has_open result.files ≡ false }
 {
-    let calls = calls_from(alloc, limits.first_file)?;
-    Ok(MemoryShelf::new(alloc, limits.step.max(1), limits.shelf_room, calls)?)
-}
-
-/// The objects outside before a call.
-fn objects_within(alloc: Global, text: &[u8], limits: Limits) -> Result<Outside, Fail>
-    ensures { IfOk result (λ objects. has_open objects.shelf.files ≡ false) }
-{
-    Ok(Outside {
-        status: 0,
-        source: source_of(alloc, text, limits)?,
-        listing: listing_within(alloc, limits)?,
-        shelf: shelf_within(alloc, limits)?,
-    })
-}
-
-/// Calls `factex` with these words on the objects outside.
-fn call<R: Threads + Sync>(rt: &R, alloc: Global, words: &[Vec<u8>], objects: &mut Outside)
-    requires { has_open objects.old.shelf.files ≡ false }
-{
-    objects.status = factex(
-        rt,
-        alloc,
-        words,
-        &mut objects.source,
-        &mut objects.listing,
-        &mut objects.shelf,
-    );
+    let calls = calls_from(rt, alloc, limits.first_file);
+    MemoryShelf::new(alloc, limits.step.max(1), limits.shelf_room, calls).expect(rt, "memory")
 }
 
 /// What `factex` leaves outside, with the words of a line and a text, within these limits.
-pub(super) fn left_by<R: Threads + Sync>(
+pub(super) fn left_by<R: Threads + Sync + Abort>(
     rt: &R,
     alloc: Global,
     line: &str,
     text: &[u8],
     limits: Limits,
-) -> Result<Outside, Fail> {
-    let words = words_in(alloc, line)?;
-    let mut objects = objects_within(alloc, text, limits)?;
-    call(rt, alloc, words.as_slice(), &mut objects);
-    Ok(objects)
+) -> Outside {
+    let words = words_in(rt, alloc, line);
+    let mut source = source_of(rt, alloc, text, limits);
+    let mut listing = listing_within(rt, alloc, limits);
+    let mut shelf = shelf_within(rt, alloc, limits);
+    let status = factex(
+        rt,
+        alloc,
+        words.as_slice(),
+        &mut source,
+        &mut listing,
+        &mut shelf,
+    );
+    Outside {
+        status,
+        source,
+        listing,
+        shelf,
+    }
 }
 
 /// Whether the status and the listing are these, and no call failed.
@@ -136,7 +136,7 @@ fn has_listed(left: &Outside, status: u8, listing: &str) -> bool {
 }
 
 /// Whether the words of a line end with this status and list just this of a text, and no call fails.
-pub(super) fn lists<R: Threads + Sync>(
+pub(super) fn lists<R: Threads + Sync + Abort>(
     rt: &R,
     alloc: Global,
     line: &str,
@@ -144,9 +144,8 @@ pub(super) fn lists<R: Threads + Sync>(
     limits: Limits,
     status: u8,
     listing: &str,
-) -> Result<bool, Fail> {
-    let left = left_by(rt, alloc, line, text, limits)?;
-    Ok(has_listed(&left, status, listing))
+) -> bool {
+    has_listed(&left_by(rt, alloc, line, text, limits), status, listing)
 }
 
 /// What a call of `factex` left, in numbers.
@@ -189,16 +188,15 @@ fn numbers_of(left: &Outside, listing: &str) -> Option<Tally> {
 }
 
 /// What the words of a line leave, where what is listed is the beginning of this listing.
-pub(super) fn tally_of<R: Threads + Sync>(
+pub(super) fn tally_of<R: Threads + Sync + Abort>(
     rt: &R,
     alloc: Global,
     line: &str,
     text: &[u8],
     limits: Limits,
     listing: &str,
-) -> Result<Option<Tally>, Fail> {
-    let left = left_by(rt, alloc, line, text, limits)?;
-    Ok(numbers_of(&left, listing))
+) -> Option<Tally> {
+    numbers_of(&left_by(rt, alloc, line, text, limits), listing)
 }
 
 /// Whether a file of the shelf is whole, with this name and this content.
@@ -227,7 +225,7 @@ fn has_left(left: &Outside, status: u8, listing: &str, files: &[(&str, &str)]) -
 }
 
 /// Whether a run of a text ends with this status, and leaves this listing and these files.
-pub(super) fn shelves<R: Threads + Sync>(
+pub(super) fn shelves<R: Threads + Sync + Abort>(
     rt: &R,
     alloc: Global,
     line: &str,
@@ -236,9 +234,9 @@ pub(super) fn shelves<R: Threads + Sync>(
     status: u8,
     listing: &str,
     files: &[(&str, &str)],
-) -> Result<bool, Fail> {
-    let left = left_by(rt, alloc, line, text.as_bytes(), limits)?;
-    Ok(has_left(&left, status, listing, files))
+) -> bool {
+    let left = left_by(rt, alloc, line, text.as_bytes(), limits);
+    has_left(&left, status, listing, files)
 }
 
 /// The content of the only file, where the status and the listing are these, or nothing.
@@ -255,16 +253,16 @@ fn only_file<'a>(left: &'a Outside, status: u8, listing: &str) -> &'a [u8] {
 }
 
 /// The only file that a run of a text leaves, with this status and this listing, or nothing.
-pub(super) fn file_of<R: Threads + Sync>(
+pub(super) fn file_of<R: Threads + Sync + Abort>(
     rt: &R,
     alloc: Global,
     text: &[u8],
     limits: Limits,
     status: u8,
     listing: &str,
-) -> Result<Bytes, Fail> {
-    let left = left_by(rt, alloc, "run", text, limits)?;
-    Ok(Bytes::from_slice(alloc, only_file(&left, status, listing))?)
+) -> Bytes {
+    let left = left_by(rt, alloc, "run", text, limits);
+    Bytes::from_slice(alloc, only_file(&left, status, listing)).expect(rt, "memory")
 }
 
 /// How often a byte is in a text.

@@ -16,5 +16,5 @@ askable =
       pairs = lit≤ tt;
     }
 
-pub for_effects-requires-clause-told : goal.for_effects-requires-clause-told
-for_effects-requires-clause-told g c = askable
+pub for_effects-question-requires-clause-told : goal.for_effects-question-requires-clause-told
+for_effects-question-requires-clause-told g c = askable

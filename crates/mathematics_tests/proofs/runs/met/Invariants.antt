@@ -1,8 +1,5 @@
-use Rattle.std.proofs.Common.{◌≡◌, ◌≤◌, ◌+◌, length}
+use Rattle.std.proofs.Common.{◌≡◌}
 use Rattle.mathematics_tests.proofs.runs.met.Given as goal
 
 abbrev pub invariant-loop-row : goal.invariant-loop-row
-invariant-loop-row l = record {
-  shape : l.matrix.shape ≡ l.shape;
-  fits : length l.matrix.rows ≤ l.shape.s + l.shape.t;
-}
+invariant-loop-row g l = l.matrix.shape ≡ l.shape
