@@ -208,13 +208,19 @@ fn work_off<'a, R: Threads + Sync, G: Gate>(
     let mut nodes = alone.first;
     loop {
         match walk.work(nodes)? {
-            Some(asked) => return Ok(LotDone { asked: Some(asked), workers }),
+            Some(asked) => return Ok(LotDone {
+                asked: Some(asked),
+                workers,
+            }),
             None => {}
         }
         let jobs = walk.next_jobs(JOBS)?;
         if jobs.rows.is_empty() {
             walk.leave_lot();
-            return Ok(LotDone { asked: None, workers });
+            return Ok(LotDone {
+                asked: None,
+                workers,
+            });
         }
         let before = walk.nodes();
         let LotDone {
@@ -223,7 +229,10 @@ fn work_off<'a, R: Threads + Sync, G: Gate>(
         } = share_jobs(rt, alloc, question, walk, &jobs, workers, threads, gate)?;
         workers = staff;
         match asked {
-            Some(asked) => return Ok(LotDone { asked: Some(asked), workers }),
+            Some(asked) => return Ok(LotDone {
+                asked: Some(asked),
+                workers,
+            }),
             None => {}
         }
         nodes = alone_after(walk.nodes().saturating_sub(before), alone.later);

@@ -260,7 +260,7 @@ module _ (question : Question) (valid : IsValid question) (l : List ℕ) (lot : 
 
     -- the best of the lots before, joined with those of the ends, is that of the lots up to this one
     pub through_best : (ends : List JobEnd) → total ends ≤ limit → AreEnds question limit 0 (map job kids) ends → IsFirstLeast x (is_counted_through x l) (best_in p (best_before p l) ends)
-    through_best ends fits h = 
+    through_best ends fits h =
         whole_best (length kids) (best_in p (best_before p l) ends) (omega arith)
         (subst (λ n. IsFirstLeast x (so_far x law l part (take n kids)) (best_in p (best_before p l) ends)) (zero-add (length kids))
         (best_law 0 0 kids [] ends (best_before p l) (append-nil kids) kids-canonical (start_best x law l part _ start-is) (omega arith) h))

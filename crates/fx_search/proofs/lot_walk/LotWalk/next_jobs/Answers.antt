@@ -21,7 +21,7 @@ loop-row-preserved-in-Continue-1 c =
     let pushed = c.in_ok-push.ensures.ok in
     let low = c.loop-row.invariant.1 in (
       subst (λ (k : List ℕ). k ++ rows_below (problem_of question) l r ≡ rows_below (problem_of question) l c.args.self.now.bound) (sym pushed)
-      (listed test c.loop-row.row r c.loop-row.rows (rows_below (problem_of question) l c.args.self.now.bound) (omega (arith, c.loop-row-test.true)) here c.loop-row.invariant.0),
+          (listed test c.loop-row.row r c.loop-row.rows (rows_below (problem_of question) l c.args.self.now.bound) (omega (arith, c.loop-row-test.true)) here c.loop-row.invariant.0),
       omega arith,
     )
 

@@ -23,8 +23,8 @@ returns-in_err-append_piece-clause-err c =
     let piece = c.piece-item.result in
     let held = subst (HoldsPart c.loop-piece.self c.append_piece.new.self) (sym (append-nil piece)) c.in_err-append_piece.ensures.err in
     let part =
-        in_item joined joined-append c.args.pieces.now c.loop-piece.piece-index piece c.args.self.now c.loop-piece.self c.append_piece.new.self
-        c.loop-piece-test.true c.piece-item.is c.loop-piece.invariant held in
+    in_item joined joined-append c.args.pieces.now c.loop-piece.piece-index piece c.args.self.now c.loop-piece.self c.append_piece.new.self
+    c.loop-piece-test.true c.piece-item.is c.loop-piece.invariant held in
     search (rules, part)
 
 pub returns-clause-ok : goal.returns-clause-ok
