@@ -172,10 +172,10 @@ fn flaw<J: Judge>(
     ensures flaw { result
         ≡ flaw (record { problem = problem_of question.now; beat = J.beat judge.old }) prefix.now.rows
         (meaning_of mark) }
-    ensures words { words.new ≡ words.old }
-    ensures dimensions { J.dimensions judge.new ≡ J.dimensions judge.old }
-    ensures beat { J.beat judge.new ≡ J.beat judge.old }
-    ensures prefix { J.prefix judge.new ≡ J.prefix judge.old }
+    ensures same { (words.new ≡ words.old)
+        × (J.dimensions judge.new ≡ J.dimensions judge.old)
+        × (J.beat judge.new ≡ J.beat judge.old)
+        × (J.prefix judge.new ≡ J.prefix judge.old) }
 {
     match mark {
         Mark::Branch { row: own } => {
