@@ -157,7 +157,7 @@ fn threads_agree_at_the_nodes<R: Threads + Sync + Abort>(
 
 /// Levels, run indexes, factors, block factors, the resolution, or 0 for the main effects of A and B, and
 /// whether a least pattern is asked.
-const ASKED: [(u8, u8, u8, u8, u8, bool); 16] = [
+const ASKED: [(u8, u8, u8, u8, u8, bool); 17] = [
     (2, 4, 7, 0, 4, false),
     (2, 4, 8, 0, 5, false),
     (2, 4, 8, 0, 4, false),
@@ -174,6 +174,8 @@ const ASKED: [(u8, u8, u8, u8, u8, bool); 16] = [
     (2, 3, 5, 0, 0, false),
     (2, 2, 4, 1, 0, false),
     (3, 2, 4, 0, 0, false),
+    // Its lots have more jobs than are shared at once.
+    (2, 8, 10, 0, 7, false),
 ];
 
 fn each_agrees<R: Threads + Sync + Abort>(
