@@ -22,7 +22,7 @@ pub fn make_text(n: u8, out: &mut Bytes) -> Result<(), NoMemory>
 }
 
 /// Appends the five lines of the step of this number.
-#[tactic(auto, using(fx_book::proofs::Held::nothing))]
+#[tactic(auto, using(fx_base::proofs::Held::nothing))]
 fn put_step(out: &mut Bytes, k: u8) -> Result<(), NoMemory>
     ensures ok { OnOk result (out.new ≡ out.old ++ step_text k) }
     ensures err { OnErr result (HoldsPart out.old out.new (step_text k)) }
@@ -35,7 +35,7 @@ fn put_step(out: &mut Bytes, k: u8) -> Result<(), NoMemory>
 }
 
 /// Appends the line of its factors.
-#[tactic(auto, using(fx_book::proofs::Held::nothing))]
+#[tactic(auto, using(fx_base::proofs::Held::nothing))]
 fn put_factors(out: &mut Bytes, k: u8) -> Result<(), NoMemory>
     ensures ok { OnOk result (out.new ≡ out.old ++ factors_line k) }
     ensures err { OnErr result (HoldsPart out.old out.new (factors_line k)) }
@@ -48,7 +48,7 @@ fn put_factors(out: &mut Bytes, k: u8) -> Result<(), NoMemory>
 }
 
 /// Appends the line of its size.
-#[tactic(auto, using(fx_book::proofs::Held::nothing))]
+#[tactic(auto, using(fx_base::proofs::Held::nothing))]
 fn put_size(out: &mut Bytes, k: u8) -> Result<(), NoMemory>
     ensures ok { OnOk result (out.new ≡ out.old ++ size_line k) }
     ensures err { OnErr result (HoldsPart out.old out.new (size_line k)) }

@@ -100,12 +100,11 @@ fn words_of_all_lengths_are_kept_about_the_end_of_a_piece(rt: HostRuntime) {
 }
 
 /// Appends a list to one, and its marks one by one to another.
-fn append_both(appended: &mut Marks, pushed: &mut Marks, more: &Marks) -> Result<(), NoMemory> {
-    appended.append(more)?;
+fn append_both(rt: &impl Abort, appended: &mut Marks, pushed: &mut Marks, more: &Marks) {
+    appended.append(more).expect(rt, "memory");
     for i in 0..more.len() {
-        pushed.push(more.get(i))?;
+        pushed.push(more.get(i)).expect(rt, "memory");
     }
-    Ok(())
 }
 
 fn are_same(marks: &Marks, others: &Marks) -> bool {
@@ -120,18 +119,17 @@ fn are_same(marks: &Marks, others: &Marks) -> bool {
 /// Lists of no marks, of fewer than a piece, and of one more than a piece, so that pieces are filled
 /// by parts of others.
 #[test]
-fn appended_lists_have_the_marks_of_each(rt: HostRuntime) -> Result<(), Fail> {
+fn appended_lists_have_the_marks_of_each(rt: HostRuntime) {
     let alloc = rt.alloc();
     let mut appended = Marks::new(alloc);
     let mut pushed = Marks::new(alloc);
     for count in [0, 65525, 3, 65530] {
-        let more = marks_of_words(alloc, count, &WORDS)?;
-        append_both(&mut appended, &mut pushed, &more)?;
-        append_both(&mut appended, &mut pushed, &Marks::new(alloc))?;
+        let more = marks_of_words(&rt, alloc, count, &WORDS);
+        append_both(&rt, &mut appended, &mut pushed, &more);
+        append_both(&rt, &mut appended, &mut pushed, &Marks::new(alloc));
     }
     assert!(rt; appended.len() == 131106);
     assert!(rt; are_same(&appended, &pushed));
-    Ok(())
 }
 
 #[test]
