@@ -10,7 +10,7 @@ use std::process::Abort;
 /// The OUT name `old` of an earlier statement.
 fn earlier_names(rt: &impl Abort, alloc: Global) -> EarlierNames {
     let mut earlier = EarlierNames::new(alloc);
-    assert!(rt; earlier.add(alloc, b"old") == Ok(true));
+    assert!(rt; earlier.add(alloc, b"old").expect(rt, "memory"));
     earlier
 }
 
