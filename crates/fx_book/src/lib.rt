@@ -10,6 +10,7 @@ mod head;
 mod laws;
 mod part;
 mod reading;
+mod tail;
 mod writing;
 
 pub use book::read_book;
