@@ -4,7 +4,7 @@ use itoa::write_digits;
 use std::marker::Model;
 
 /// How many bytes a `Tail` has room for.
-const ROOM: usize = 4096;
+const ROOM: usize = 3072;
 
 /// The end of a text, which grows at its front, since the digits of a number come from the last to
 /// the first. Clauses see the bytes.
@@ -21,7 +21,7 @@ impl Model for Tail {
 
     ghost view = { λ x. drop x.start x.bytes };
 
-    ghost invariant = { λ x. x.start ≤ 4096 };
+    ghost invariant = { λ x. x.start ≤ 3072 };
 }
 
 impl Tail {
@@ -43,7 +43,7 @@ impl Tail {
 
     /// Puts a byte before the others.
     pub(crate) fn put(&mut self, byte: u8)
-        requires { length self.old < 4096 }
+        requires { length self.old < 3072 }
         ensures { self.new ≡ byte ∷ self.old }
     {
         let at = self.start - 1;
@@ -53,7 +53,7 @@ impl Tail {
 
     /// Puts the decimal text of `n` before the others. The digits past 64 bits go one at a time.
     pub(crate) fn put_number(&mut self, n: u128)
-        requires { length (decimal n) + length self.old ≤ 4096 }
+        requires { length (decimal n) + length self.old ≤ 3072 }
         ensures { self.new ≡ decimal n ++ self.old }
     {
         let mut left = n;
@@ -66,7 +66,7 @@ impl Tail {
 
     /// Puts the decimal text of `n` before the others.
     fn put_short_number(&mut self, n: u64)
-        requires { length (decimal n) + length self.old ≤ 4096 }
+        requires { length (decimal n) + length self.old ≤ 3072 }
         ensures { self.new ≡ decimal n ++ self.old }
     {
         self.start = write_digits(n, &mut self.bytes, self.start);

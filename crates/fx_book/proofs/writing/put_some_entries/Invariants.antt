@@ -7,5 +7,5 @@ abbrev pub invariant-loop-i : goal.invariant-loop-i
 invariant-loop-i l = record {
   so_far : l.text ≡ entries_text (slice_range l.marks l.i l.to);
   low : l.from ≤ l.i;
-  short : length l.text ≤ 64 * (l.to - l.i);
+  short : length l.text ≤ 48 * (l.to - l.i);
 }
