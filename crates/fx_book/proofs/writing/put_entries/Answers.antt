@@ -1,4 +1,4 @@
-use Rattle.std.proofs.Common.{ℕ, ◌≡◌, ◌+◌, ◌-◌, ◌≤◌, List, ◌++◌, length, take, drop, sym, ap, subst, ◌∙◌, arith, append_assoc}
+use Rattle.std.proofs.Common.{ℕ, ◌≡◌, ◌+◌, ◌-◌, ◌≤◌, List, ◌++◌, take, drop, sym, ap, subst, ◌∙◌, arith, append_assoc}
 use Rattle.std.specs.List.{slice_range}
 use Rattle.std.proofs.lemmas.List.{take-append-drop, take-take, drop-take}
 use Rattle.fx_designs.specs.Nodes as nodes
