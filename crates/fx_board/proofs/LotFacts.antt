@@ -207,3 +207,23 @@ walk-lot question w lot best same is h best-rows sized =
     subst (λ (z : Question). IsLotAfter z lot best) same
     (subst (λ (m : MatrixView). IsLotAfter w.question.now m best) (sym is)
     (record { valid = h.placed.valid; shape = h.placed.shape; is_lot = h.in_lot.lot; best_shape = sized; best_is = best-rows }))
+
+-- a list of one item
+pub one-item : (xs : List ℕ) → length xs ≡ 1 → xs ≡ slice_index xs 0 ∷ []
+one-item [] h = absurd (omega arith)
+one-item (x ∷ []) h = refl
+one-item (x ∷ y ∷ ys) h = absurd (omega arith)
+
+-- some of the next rows are there where others are
+pub some-next : (p : Problem) (l : List ℕ) (bound : ℕ) (rows others : List ℕ) (end : ℕ) → AreNextRows p l bound rows end → 0 < length rows → (others ≡ [] → rows_below p l bound ≡ []) → 0 < length others
+some-next p l bound rows [] end next some none =
+    let long = length-append rows (rows_below p l end) in
+    absurd (omega (arith, long, ap length next.part, ap length (none refl)))
+some-next p l bound rows (x ∷ xs) end next some none = omega arith
+
+-- the end of one job, under the limit of all
+pub one-end : (question : Question) (limit : ℕ) (job : List ℕ) (end : JobEnd) → IsJobEnd question job limit false end → AreEnds question limit 0 (job ∷ []) (end ∷ [])
+one-end question limit job (Closed best count list) is = (record { own = limit; most = omega arith; least = omega arith; ends = is }, tt)
+one-end question limit job (Found matrix count list) is = record { own = limit; most = omega arith; least = omega arith; ends = is }
+one-end question limit job (Spent count) is = record { own = limit; most = omega arith; least = omega arith; ends = is }
+one-end question limit job Cut is = absurd (cc is)

@@ -47,16 +47,18 @@ pub struct Alone {
 /// How the next jobs are handed out, by what those before took.
 #[derive(Clone, Copy)]
 struct Pace {
-    /// How many nodes the caller's thread walks alone next, and how many where those before had fewer.
+    /// How many nodes the caller's thread walks alone next.
     alone: u64,
+    /// The same where those before were fewer than this.
     later: u64,
-    /// Whether no job was shared yet.
-    first: bool,
+    /// Whether nothing is known yet of the jobs of the question.
+    begins: bool,
     /// Whether the next open job is walked by all threads together.
     together: bool,
 }
 
 impl Pace {
+    /// At the first lot.
     fn of(alone: Alone, question: &Question) -> Pace {
         // For effects each walk would list the forbidden vectors anew.
         let together = match question.demands {
@@ -66,21 +68,22 @@ impl Pace {
         Pace {
             alone: alone.first,
             later: alone.later,
-            first: true,
+            begins: true,
             together,
         }
     }
 
-    /// How many jobs are shared next at most.
+    /// How many jobs at most are shared next.
     fn jobs(&self) -> usize
         ensures { 0 < result }
     {
-        if self.first { FIRST_JOBS } else { JOBS }
+        if self.begins { FIRST_JOBS } else { JOBS }
     }
 
     /// After a lot, or jobs that were shared, of so many nodes.
     fn note(&mut self, nodes: u64) {
         self.alone = if nodes < self.later { self.later } else { 0 };
+        self.begins = false;
     }
 }
 
@@ -226,7 +229,7 @@ struct LotDone<'a> {
 }
 
 /// Works off the lot that the walk is at: by turns nodes of it by the caller's thread alone, as many as the
-/// pace has it, and its next jobs by several threads, at most `threads`.
+/// pace has them, and its next jobs by as many threads as there are of them, at most `threads`.
 fn work_off<'a, R: Threads + Sync, G: Gate>(
     rt: &R,
     alloc: Global,
@@ -315,7 +318,6 @@ fn work_next<'a, R: Threads + Sync, G: Gate>(
             return Ok(LotDone { asked, workers });
         }
     }
-    pace.first = false;
     share_jobs(rt, alloc, question, walk, jobs, workers, threads, gate)
 }
 

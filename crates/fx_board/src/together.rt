@@ -1,8 +1,7 @@
-ghost use Rattle.std.specs.Prelude.{◌≡◌, ◌<◌, ◌≤◌, ◌+◌, ◌++◌, [], ◌∷◌, false, length, IfOk};
+ghost use Rattle.std.specs.Prelude.{◌≡◌, ◌<◌, ◌≤◌, ◌+◌, ◌++◌, [], ◌∷◌, true, false, length, IfOk};
 ghost use Rattle.std.specs.Thread.{IsSync};
 ghost use Rattle.fx_jobs.specs.Laws.{IsJob};
 ghost use Rattle.fx_vectors.specs.Question.{IsValid, problem_of};
-ghost use Rattle.fx_search.specs.JobEnds.{IsSized};
 ghost use Rattle.fx_search.specs.Pruning.{allows, count_of_rows};
 ghost use Rattle.fx_search.specs.SubtreeWalks.{IsInside, IsWalked};
 ghost use Rattle.fx_board.specs.Lots.{IsEndOfJob};
@@ -12,24 +11,17 @@ use fx_search::{End, JobEnd, SubtreeWalk};
 use fx_tree::Candidates;
 use fx_vectors::{Matrix, Question};
 use std::alloc::Global;
-use std::thread::{Threads, join};
+use std::thread::{Threads, join_mut};
 
 /// A part with so few nodes is walked by one thread in the time in which several threads are started.
 const FEW: usize = 4_096;
 
-/// A part has at least so many nodes where that can be had, so that the threads seldom start anew, and at
-/// most so many, so that few are walked in vain where the search ends in it.
+/// A part should have at least so many nodes, so that threads are seldom started anew, and at most four
+/// times as many, so that few are walked in vain where the search ends in it.
 const PART: usize = 262_144;
 
-/// The first parts may have so many nodes at most, since often they have far fewer.
+/// The first part may have so many nodes at most, since often it has far fewer.
 const FIRST_PART: u64 = 65_536;
-
-/// What was walked, and how it ended.
-#[derive(Drop)]
-struct Walked<'a> {
-    walk: SubtreeWalk<'a>,
-    end: End,
-}
 
 /// How a job is cut into parts, by what the parts before had.
 #[derive(Clone, Copy)]
@@ -52,9 +44,8 @@ impl Parts {
 }
 
 /// Works off a job by 1 to 64 threads together: the lot with this row added, which is allowed and not
-/// whole, in a question that asks for no least pattern. What is below the job is cut into parts of about
-/// as many nodes as pay, one after another, each of which all threads share. The limit is 1 to 5,000,000
-/// nodes.
+/// whole, in a question that asks for no least pattern. What is below the job is cut into parts, one after
+/// another, each of which all threads share. The limit is 1 to 5,000,000 nodes.
 ///
 /// # Errors
 ///
@@ -81,108 +72,116 @@ pub(crate) fn work_together<'a, R: Threads + Sync>(
     requires limit { (0 < limit) × (limit ≤ 5000000) }
     ensures { IfOk result (IsEndOfJob question.now (lot.now.rows ++ row ∷ []) limit) }
 {
-    let walk = SubtreeWalk::of(alloc, question, candidates, lot, row)?;
+    let mut walk = SubtreeWalk::of(alloc, question, candidates, lot, row)?;
     let mut parts = Parts {
         most: FIRST_PART,
         before: 0,
     };
-    let Walked { walk, end } = walk_parts(rt, walk, threads, limit as usize, &mut parts)?;
+    let end = walk_parts(rt, &mut walk, threads, limit as usize, &mut parts)?;
     Ok(walk.job_end(end, limit))
 }
 
 /// Walks what is left to a walk: where it may have more nodes than a part, child after child.
-fn walk_parts<'a, R: Threads + Sync>(
+fn walk_parts<R: Threads + Sync>(
     rt: &R,
-    walk: SubtreeWalk<'a>,
+    walk: &mut SubtreeWalk,
     threads: u8,
     limit: usize,
     parts: &mut Parts,
-) -> Result<Walked<'a>, NoMemory>
-    requires inside { IsInside walk }
-    requires fits { length walk.marks ≤ limit }
+) -> Result<End, NoMemory>
+    requires inside { IsInside walk.old }
+    requires fits { length walk.old.marks ≤ limit }
     requires threads { 0 < threads }
-    ensures { IfOk result (λ walked. IsWalked limit walk walked.walk walked.end) }
+    ensures { IfOk result (IsWalked limit walk.old walk.new) }
 {
-    let mut walk = walk;
     while walk.most_nodes() > parts.most {
         match walk.next(limit)? {
-            Some(end) => return Ok(Walked { walk, end }),
+            Some(end) => return Ok(end),
             None => {}
         }
-        let Walked { walk: child, end } = walk_parts(rt, walk, threads, limit, parts)?;
-        walk = child;
-        match end {
+        match walk_parts(rt, walk, threads, limit, parts)? {
             End::Closed => walk.leave(),
-            end => return Ok(Walked { walk, end }),
+            end => return Ok(end),
         }
     }
     walk_part(rt, walk, threads, limit, parts)
 }
 
 /// Walks a part: by one thread where the part before had few nodes.
-fn walk_part<'a, R: Threads + Sync>(
+fn walk_part<R: Threads + Sync>(
     rt: &R,
-    walk: SubtreeWalk<'a>,
+    walk: &mut SubtreeWalk,
     threads: u8,
     limit: usize,
     parts: &mut Parts,
-) -> Result<Walked<'a>, NoMemory>
-    requires inside { IsInside walk }
-    requires fits { length walk.marks ≤ limit }
+) -> Result<End, NoMemory>
+    requires inside { IsInside walk.old }
+    requires fits { length walk.old.marks ≤ limit }
     requires threads { 0 < threads }
-    ensures { IfOk result (λ walked. IsWalked limit walk walked.walk walked.end) }
+    ensures { IfOk result (IsWalked limit walk.old walk.new) }
 {
     let before = walk.nodes();
     let threads = if parts.before < FEW { 1 } else { threads };
-    let walked = share(rt, walk, threads, limit)?;
-    parts.note(walked.walk.nodes().saturating_sub(before));
-    Ok(walked)
+    let end = share_part(rt, walk, threads, limit)?;
+    parts.note(walk.nodes().saturating_sub(before));
+    Ok(end)
 }
 
-/// Walks what is left to a walk by so many threads: one half of them takes the next child that is
-/// expanded, the other one the children after it.
-fn share<'a, R: Threads + Sync>(
+/// Walks what is left to a walk by so many threads: some of them take the next child that is expanded, the
+/// others the children after it.
+#[cycle(share_part)]
+fn share_part<R: Threads + Sync>(
     rt: &R,
-    walk: SubtreeWalk<'a>,
+    walk: &mut SubtreeWalk,
     threads: u8,
     limit: usize,
-) -> Result<Walked<'a>, NoMemory>
-    requires inside { IsInside walk }
-    requires fits { length walk.marks ≤ limit }
+) -> Result<End, NoMemory>
+    requires inside { IsInside walk.old }
+    requires fits { length walk.old.marks ≤ limit }
     requires threads { 0 < threads }
-    ensures { IfOk result (λ walked. IsWalked limit walk walked.walk walked.end) }
+    ensures { IfOk result (IsWalked limit walk.old walk.new) }
 {
-    let mut walk = walk;
     if threads == 1 {
-        let end = walk.finish(limit)?;
-        return Ok(Walked { walk, end });
+        return walk.finish(limit);
     }
     match walk.next(limit)? {
-        Some(end) => return Ok(Walked { walk, end }),
+        Some(end) => return Ok(end),
         None => {}
     }
-    let other = walk.beside()?;
+    let mut others = walk.beside()?;
     let left = limit - walk.nodes();
-    let half = threads / 2;
-    let rest = threads - half;
-    let (child, others) = join(
-        rt,
-        move || -> Result<Walked, NoMemory>
-            requires { IsSync R.row × IsInside walk × (length walk.marks ≤ limit) × (0 < rest) }
-            ensures { IfOk result (λ walked. IsWalked limit walk walked.walk walked.end) }
-        { share(rt, walk, rest, limit) },
-        move || -> Result<Walked, NoMemory>
-            requires { IsSync R.row × IsInside other × (length other.marks ≤ left) × (0 < half) }
-            ensures { IfOk result (λ walked. IsWalked left other walked.walk walked.end) }
-        { share(rt, other, half, left) },
-    );
-    let mut child = child?;
-    match child.end {
-        End::Closed => {}
-        _ => return Ok(child),
+    let (end, rest) = side_by_side(rt, walk, &mut others, threads, limit, left);
+    match end? {
+        End::Closed => walk.leave(),
+        end => return Ok(end),
     }
-    child.walk.leave();
-    let others = others?;
-    child.end = child.walk.take_in(others.walk, others.end, limit)?;
-    Ok(child)
+    walk.take_in(others, rest?, limit)
+}
+
+/// Walks what is left to two walks by so many threads, one half of them each.
+#[cycle(share_part)]
+fn side_by_side<R: Threads + Sync>(
+    rt: &R,
+    one: &mut SubtreeWalk,
+    other: &mut SubtreeWalk,
+    threads: u8,
+    limit: usize,
+    left: usize,
+) -> (Result<End, NoMemory>, Result<End, NoMemory>)
+    requires threads { 1 < threads }
+    requires one { IsInside one.old × (length one.old.marks ≤ limit) }
+    requires other { IsInside other.old × (length other.old.marks ≤ left) }
+    ensures one { IfOk result.0 (IsWalked limit one.old one.new) }
+    ensures other { IfOk result.1 (IsWalked left other.old other.new) }
+{
+    let half = threads / 2;
+    let mut first = || -> Result<End, NoMemory>
+        requires { IsSync R.row × IsInside one.now × (length one.now.marks ≤ limit) × (0 < half) × (half < threads) }
+        ensures { IfOk result (IsWalked limit one.entry.now one.exit.now) }
+    { share_part(rt, one, threads - half, limit) };
+    let mut second = || -> Result<End, NoMemory>
+        requires { IsSync R.row × IsInside other.now × (length other.now.marks ≤ left) × (0 < half) }
+        ensures { IfOk result (IsWalked left other.entry.now other.exit.now) }
+    { share_part(rt, other, half, left) };
+    join_mut(rt, &mut first, &mut second)
 }
