@@ -1,5 +1,5 @@
 -- Two walks that have shared what was left of one.
-use Rattle.std.proofs.Common.{◌≡◌, ℕ, ◌<◌, ◌≤◌, ◌+◌, ◌-◌, false, List, [], ◌∷◌, ◌++◌, map, length, sym, subst, ap, ap₂, ◌∙◌, arith, length-append}
+use Rattle.std.proofs.Common.{◌≡◌, ℕ, ◌<◌, ◌-◌, false, List, [], ◌∷◌, map, length, sym, subst, ap, ap₂, ◌∙◌, arith, length-append}
 use Rattle.std.specs.Prelude.{IfOk, IfNone, Result, Ok, Err, Option, Some, None}
 use Rattle.fx_designs.specs.Nodes.{parent, last_row, Mark}
 use Rattle.fx_jobs.specs.Search.{search_tree, search_mark}

@@ -30,14 +30,12 @@ const JOBS: usize = 128;
 /// So many are shared first, before it is known how many nodes the jobs of a question have.
 const FIRST_JOBS: usize = 16;
 
-/// A job with so many nodes is worth being walked by all threads together.
-const MANY: u64 = 65_536;
-
 /// In the time of so many nodes all workers list a pair, some times over.
 const PAIR: u64 = 64;
 
 /// How many nodes of a lot the caller's thread walks alone, before the next jobs are shared out: of the first
-/// lot, and wherever the lot before, or the jobs that were shared last, had fewer than `later` nodes.
+/// lot, and wherever the lot before, or the jobs that were shared last, had fewer than `later` nodes. A part
+/// of a job is shared where the part before had at least as many.
 #[derive(Clone, Copy)]
 pub struct Alone {
     pub first: u64,
@@ -270,7 +268,9 @@ fn work_off<'a, R: Threads + Sync, G: Gate>(
         let LotDone {
             asked,
             workers: staff,
-        } = work_next(rt, alloc, question, walk, &jobs, workers, threads, pace, gate)?;
+        } = work_next(
+            rt, alloc, question, walk, &jobs, workers, threads, pace, gate,
+        )?;
         workers = staff;
         match asked {
             Some(asked) => return Ok(LotDone {
@@ -313,8 +313,10 @@ fn work_next<'a, R: Threads + Sync, G: Gate>(
         let job = walk.next_jobs(1)?;
         if walk.has_open_job(job.rows.get(0)) {
             let before = walk.nodes();
-            let asked = share_job(rt, alloc, question, walk, &job, threads)?;
-            pace.together = walk.nodes().saturating_sub(before) >= MANY;
+            let asked = share_job(rt, alloc, question, walk, &job, threads, pace.later)?;
+            // Jobs of fewer nodes are better worked off side by side.
+            let many = pace.later.saturating_mul(16);
+            pace.together = walk.nodes().saturating_sub(before) >= many;
             return Ok(LotDone { asked, workers });
         }
     }
@@ -330,6 +332,7 @@ fn share_job<'a, R: Threads + Sync>(
     walk: &mut LotWalk<'a>,
     job: &NextJobs,
     threads: u8,
+    few: u64,
 ) -> Result<Option<Asked>, NoMemory>
     requires question { walk.old.question.now ≡ question.now }
     requires at { IsAtLot walk.old }
@@ -353,6 +356,7 @@ fn share_job<'a, R: Threads + Sync>(
         walk.lot(),
         job.rows.get(0),
         threads,
+        few,
         walk.left(),
     )?;
     let mut ends = Items::new(alloc);

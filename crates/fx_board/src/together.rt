@@ -13,39 +13,44 @@ use fx_vectors::{Matrix, Question};
 use std::alloc::Global;
 use std::thread::{Threads, join_mut};
 
-/// A part with so few nodes is walked by one thread in the time in which several threads are started.
-const FEW: usize = 4_096;
-
-/// A part should have at least so many nodes, so that threads are seldom started anew, and at most four
-/// times as many, so that few are walked in vain where the search ends in it.
-const PART: usize = 262_144;
-
-/// The first part may have so many nodes at most, since often it has far fewer.
-const FIRST_PART: u64 = 65_536;
-
 /// How a job is cut into parts, by what the parts before had.
 #[derive(Clone, Copy)]
 struct Parts {
+    /// One thread walks so few nodes in the time in which several are started.
+    few: u64,
     /// How many nodes the next part may have at most.
     most: u64,
     /// How many the part before had.
-    before: usize,
+    before: u64,
 }
 
 impl Parts {
-    fn note(&mut self, nodes: usize) {
+    /// The first part may have 16 times as many nodes as are few, since often it has far fewer.
+    fn of(few: u64) -> Parts {
+        Parts {
+            few,
+            most: few.saturating_mul(16),
+            before: 0,
+        }
+    }
+
+    /// After a part of so many nodes. A part should have at least 64 times as many as are few, so that
+    /// threads are seldom started anew, and at most 256 times as many, so that few are walked in vain where
+    /// the search ends in it.
+    fn note(&mut self, nodes: u64) {
         self.before = nodes;
-        if nodes < PART {
+        if nodes < self.few.saturating_mul(64) {
             self.most = self.most.saturating_mul(4);
-        } else if nodes > 4 * PART {
-            self.most = self.most / 4;
+        } else if nodes > self.few.saturating_mul(256) {
+            self.most /= 4;
         }
     }
 }
 
 /// Works off a job by 1 to 64 threads together: the lot with this row added, which is allowed and not
 /// whole, in a question that asks for no least pattern. What is below the job is cut into parts, one after
-/// another, each of which all threads share. The limit is 1 to 5,000,000 nodes.
+/// another, each of which all threads share. One thread walks `few` nodes in the time in which several are
+/// started. The limit is 1 to 5,000,000 nodes.
 ///
 /// # Errors
 ///
@@ -58,6 +63,7 @@ pub(crate) fn work_together<'a, R: Threads + Sync>(
     lot: &Matrix,
     row: u16,
     threads: u8,
+    few: u64,
     limit: u64,
 ) -> Result<JobEnd, NoMemory>
     requires valid { IsValid question.now }
@@ -73,10 +79,7 @@ pub(crate) fn work_together<'a, R: Threads + Sync>(
     ensures { IfOk result (IsEndOfJob question.now (lot.now.rows ++ row ∷ []) limit) }
 {
     let mut walk = SubtreeWalk::of(alloc, question, candidates, lot, row)?;
-    let mut parts = Parts {
-        most: FIRST_PART,
-        before: 0,
-    };
+    let mut parts = Parts::of(few);
     let end = walk_parts(rt, &mut walk, threads, limit as usize, &mut parts)?;
     Ok(walk.job_end(end, limit))
 }
@@ -121,9 +124,9 @@ fn walk_part<R: Threads + Sync>(
     ensures { IfOk result (IsWalked limit walk.old walk.new) }
 {
     let before = walk.nodes();
-    let threads = if parts.before < FEW { 1 } else { threads };
+    let threads = if parts.before < parts.few { 1 } else { threads };
     let end = share_part(rt, walk, threads, limit)?;
-    parts.note(walk.nodes().saturating_sub(before));
+    parts.note(walk.nodes().saturating_sub(before) as u64);
     Ok(end)
 }
 

@@ -351,8 +351,7 @@ module _ (question : Question) (job : List ℕ) (limit : ℕ) (v : SubtreeWalk) 
     pub closed-job : IsJobWalked question job limit Closed v → (first_inside P job ≡ None) × (None ≡ best_inside P job) × (length v.marks ≡ length (nodes_inside P job)) × (v.marks ≡ marks_inside P job) × (length v.marks ≤ limit)
     closed-job h =
         let ends = below_closed (search_tree P) (search_mark P) limit false [] (search_mark P job) K [] (search_mark P job ∷ []) v.marks v.prefix.rows job refl h.allowed h.part refl [] refl h.ends in
-        let r = job_closed P f job is-job.rows room is-job.canonical is-job.lot limit v.marks [] [] ends in
-        (
+        let r = job_closed P f job is-job.rows room is-job.canonical is-job.lot limit v.marks [] [] ends in (
           elim r.0 [ inl least ↦ clash question.least least h.plain | inr none ↦ none ],
           job_tells P f job is-job.rows room is-job.canonical is-job.lot None (any-best P (is_counted_through (ranked P) job) None h.plain) false h.plain,
           r.1,

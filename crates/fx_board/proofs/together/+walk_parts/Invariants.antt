@@ -1,4 +1,4 @@
-use Rattle.std.proofs.Common.{◌≡◌, ◌-◌, length}
+use Rattle.std.proofs.Common.{◌-◌, length}
 use Rattle.fx_vectors.specs.Question.{problem_of}
 use Rattle.fx_search.specs.Pruning.{size_of}
 use Rattle.fx_search.specs.SubtreeWalks.{IsPartly}

@@ -1,4 +1,4 @@
-use Rattle.std.proofs.Common.{◌≡◌, ◌≤◌, length, ap, ◌∙◌, subst, refl, arith, inr}
+use Rattle.std.proofs.Common.{length, ap, ◌∙◌, subst, refl, arith, inr}
 use Rattle.fx_search.specs.SubtreeWalks.{IsJobWalked}
 use Rattle.fx_search.proofs.SubtreeSteps.{found-job, closed-job, spent-job}
 use Rattle.fx_search.proofs.subtree_walk.SubtreeWalk.job_end.Goals as goal
