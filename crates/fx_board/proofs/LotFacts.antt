@@ -2,7 +2,7 @@
 use Rattle.std.proofs.Common.{◌≡◌, ℕ, zero, suc, ◌<◌, ◌≤◌, ◌+◌, ◌^◌, Bool, true, false, List, [], ◌∷◌, ◌++◌, map, length, get_or, slice_index, refl, sym, subst, ap, ◌∙◌, inl, inr, ⊎_elim, arith, length-append, append_assoc, take_all, cond, Ok, Err}
 use Rattle.std.specs.Prelude.{IfOk, Result, Option}
 use Rattle.std.specs.List.{AllByRecursion, filter}
-use Rattle.std.proofs.lemmas.Bool.{cases_Bool, cases_lt, cond-true, cond-false}
+use Rattle.std.proofs.lemmas.Bool.{cases_lt}
 use Rattle.std.proofs.lemmas.List.{take-append-le}
 use Rattle.fx_designs.specs.Galois.{IsField}
 use Rattle.fx_designs.specs.Problems.{Problem}
@@ -26,6 +26,7 @@ use Rattle.fx_vectors.specs.Matrix.{MatrixView}
 use Rattle.fx_search.specs.declared.job.JobEnd.{JobEnd}
 use Rattle.fx_search.specs.declared.job.JobEnd.TheVariants.{Found, Closed, Spent, Cut}
 use Rattle.fx_search.specs.declared.searcher.Searcher.{Searcher}
+use Rattle.fx_search.proofs.Folding.{each-canonical, each-front}
 use Rattle.fx_board.specs.Jobs.{IsEndOrCut, is_closed}
 use Rattle.fx_board.specs.Lots.{job_at, AreRowsOf, IsEndOfJob, IsLotAfter, CanEnter}
 use Rattle.fx_board.specs.Sharing.{before, IsEndBetween, AreEndsFrom}
@@ -34,13 +35,6 @@ at-each : (P : ℕ → Type 0) (xs : List ℕ) (i : ℕ) → i < length xs → A
 at-each P [] i h all = absurd (omega arith)
 at-each P (x ∷ xs) zero h all = all.0
 at-each P (x ∷ xs) (suc i) h all = at-each P xs i (omega arith) all.1
-
-at-kept : (P : ℕ → Bool) (xs : List ℕ) → AllByRecursion (λ r. P r ≡ true) (filter P xs)
-at-kept P [] = tt
-at-kept P (x ∷ xs) = elim (cases_Bool (P x)) [
-  | inl a ↦ subst (AllByRecursion (λ r. P r ≡ true)) (sym (cond-true (P x) (x ∷ filter P xs) _ a)) (a, at-kept P xs)
-  | inr a ↦ subst (AllByRecursion (λ r. P r ≡ true)) (sym (cond-false (P x) (x ∷ filter P xs) _ a)) (at-kept P xs)
-]
 
 -- the place in a list has one item
 pub at-any : (xs : List ℕ) (i d e : ℕ) → i < length xs → get_or xs i d ≡ get_or xs i e
@@ -105,7 +99,7 @@ ready-after Cut R ready e = absurd (cc e)
 pub next-are : (question : Question) (valid : IsValid question) (l : List ℕ) (bound : ℕ) (rows : List ℕ) (end : ℕ) → AreNextRows (problem_of question) l bound rows end → bound ≤ question.shape.q ^ question.shape.m → AreRowsOf question l rows
 next-are question valid l bound rows end next most =
     let p : Problem = problem_of question in
-    let all = subst (AllByRecursion (λ r. is_canonical p.dimensions p.requirement (l ++ r ∷ []) ≡ true)) (sym next.part) (at-kept (λ r. is_canonical p.dimensions p.requirement (l ++ r ∷ [])) (falling bound)) in
+    let all = subst (AllByRecursion (λ r. is_canonical p.dimensions p.requirement (l ++ r ∷ []) ≡ true)) (sym next.part) (each-canonical (λ r. is_canonical p.dimensions p.requirement (l ++ r ∷ [])) (falling bound)) in
     let long = ap length next.part in
     let both = length-append rows (rows_below p l end) in
     let few = few-left (λ r. is_canonical p.dimensions p.requirement (l ++ r ∷ [])) bound in
@@ -113,10 +107,6 @@ next-are question valid l bound rows end next most =
       few = omega (arith, few, long, both, most, valid.shaped.runs);
       canonical = each-front (λ r. is_canonical p.dimensions p.requirement (l ++ r ∷ []) ≡ true) rows (rows_below p l end) all;
     }
-  where
-    each-front : (P : ℕ → Type 0) (xs ys : List ℕ) → AllByRecursion P (xs ++ ys) → AllByRecursion P xs
-    each-front P [] ys all = tt
-    each-front P (x ∷ xs) ys all = (all.0, each-front P xs ys all.1)
 
 -- some next rows reach below the bound
 pub further : (p : Problem) (l : List ℕ) (bound : ℕ) (rows : List ℕ) (end : ℕ) → AreNextRows p l bound rows end → 0 < length rows → end < bound
@@ -217,3 +207,23 @@ walk-lot question w lot best same is h best-rows sized =
     subst (λ (z : Question). IsLotAfter z lot best) same
     (subst (λ (m : MatrixView). IsLotAfter w.question.now m best) (sym is)
     (record { valid = h.placed.valid; shape = h.placed.shape; is_lot = h.in_lot.lot; best_shape = sized; best_is = best-rows }))
+
+-- a list of one item
+pub one-item : (xs : List ℕ) → length xs ≡ 1 → xs ≡ slice_index xs 0 ∷ []
+one-item [] h = absurd (omega arith)
+one-item (x ∷ []) h = refl
+one-item (x ∷ y ∷ ys) h = absurd (omega arith)
+
+-- some of the next rows are there where others are
+pub some-next : (p : Problem) (l : List ℕ) (bound : ℕ) (rows others : List ℕ) (end : ℕ) → AreNextRows p l bound rows end → 0 < length rows → (others ≡ [] → rows_below p l bound ≡ []) → 0 < length others
+some-next p l bound rows [] end next some none =
+    let long = length-append rows (rows_below p l end) in
+    absurd (omega (arith, long, ap length next.part, ap length (none refl)))
+some-next p l bound rows (x ∷ xs) end next some none = omega arith
+
+-- the end of one job, under the limit of all
+pub one-end : (question : Question) (limit : ℕ) (job : List ℕ) (end : JobEnd) → IsJobEnd question job limit false end → AreEnds question limit 0 (job ∷ []) (end ∷ [])
+one-end question limit job (Closed best count list) is = (record { own = limit; most = omega arith; least = omega arith; ends = is }, tt)
+one-end question limit job (Found matrix count list) is = record { own = limit; most = omega arith; least = omega arith; ends = is }
+one-end question limit job (Spent count) is = record { own = limit; most = omega arith; least = omega arith; ends = is }
+one-end question limit job Cut is = absurd (cc is)

@@ -1,7 +1,8 @@
-ghost use Rattle.std.specs.Prelude.{◌≡◌, ◌<◌, ◌≤◌, ◌+◌, true, length, IfOk, IfNone};
+ghost use Rattle.std.specs.Prelude.{◌≡◌, ◌<◌, ◌≤◌, ◌+◌, true, false, length, slice_index, IfOk, IfNone};
 ghost use Rattle.fx_vectors.specs.Question.{IsValid, problem_of};
 ghost use Rattle.fx_search.specs.Asked.{IsAnswer, IsNoneAtAll};
 ghost use Rattle.fx_search.specs.LotWalks.{AreNextRows, IsAtLot, IsBetween, IsWorked};
+ghost use Rattle.fx_search.specs.Pruning.{allows};
 ghost use Rattle.fx_search.specs.Searchers.{IsAtStart};
 ghost use Rattle.fx_board.specs.Lots.{CanEnter, IsLotDone};
 ghost use Rattle.fx_board.specs.Sharing.{AreReady, AllAreClosed};
@@ -9,6 +10,7 @@ ghost use Rattle.fx_board.specs.Sharing.{AreReady, AllAreClosed};
 use crate::gate::Gate;
 use crate::lot_jobs::ends_of_lot;
 use crate::sharing::Worked;
+use crate::together::work_together;
 use crate::worker::closed_nodes;
 use fx_base::{Items, NoMemory};
 use fx_demands::pair_count;
@@ -21,20 +23,66 @@ use std::thread::Threads;
 /// In the time of so many nodes threads are started and joined some ten times over.
 const FEW: u64 = 4_096;
 
-/// So many jobs of a lot at most are shared at once, before it is known how many nodes they have. A job that
-/// is shared costs some nodes more than one that is walked alone, so that many small ones together cost more
-/// than starting the threads.
+/// So many jobs of a lot at most are shared at once. A job that is shared costs some nodes more than one
+/// that is walked alone, so that many small ones together cost more than starting the threads.
 const JOBS: usize = 128;
+
+/// So many are shared first, before it is known how many nodes the jobs of a question have.
+const FIRST_JOBS: usize = 16;
 
 /// In the time of so many nodes all workers list a pair, some times over.
 const PAIR: u64 = 64;
 
 /// How many nodes of a lot the caller's thread walks alone, before the next jobs are shared out: of the first
-/// lot, and wherever the lot before, or the jobs that were shared last, had fewer than `later` nodes.
+/// lot, and wherever the lot before, or the jobs that were shared last, had fewer than `later` nodes. A part
+/// of a job is shared where the part before had at least as many.
 #[derive(Clone, Copy)]
 pub struct Alone {
     pub first: u64,
     pub later: u64,
+}
+
+/// How the next jobs are handed out, by what those before took.
+#[derive(Clone, Copy)]
+struct Pace {
+    /// How many nodes the caller's thread walks alone next.
+    alone: u64,
+    /// The same where those before were fewer than this.
+    later: u64,
+    /// Whether nothing is known yet of the jobs of the question.
+    begins: bool,
+    /// Whether the next open job is walked by all threads together.
+    together: bool,
+}
+
+impl Pace {
+    /// At the first lot.
+    fn of(alone: Alone, question: &Question) -> Pace {
+        // For effects each walk would list the forbidden vectors anew.
+        let together = match question.demands {
+            Demands::Resolution { .. } => true,
+            Demands::Effects { .. } => false,
+        };
+        Pace {
+            alone: alone.first,
+            later: alone.later,
+            begins: true,
+            together,
+        }
+    }
+
+    /// How many jobs at most are shared next.
+    fn jobs(&self) -> usize
+        ensures { 0 < result }
+    {
+        if self.begins { FIRST_JOBS } else { JOBS }
+    }
+
+    /// After a lot, or jobs that were shared, of so many nodes.
+    fn note(&mut self, nodes: u64) {
+        self.alone = if nodes < self.later { self.later } else { 0 };
+        self.begins = false;
+    }
 }
 
 /// The answer of a valid question, by 1 to 64 threads: that of `ask_alone`, however many there are. The
@@ -151,7 +199,7 @@ fn walk_on<'a, R: Threads + Sync, G: Gate>(
     ensures none_at_all { IfOk result (IsNoneAtAll question.now) }
 {
     let mut workers = Vec::new(alloc);
-    let mut alone = alone;
+    let mut pace = Pace::of(alone, question);
     loop {
         match walk.next()? {
             Step::Done(asked) => return Ok(asked),
@@ -161,19 +209,14 @@ fn walk_on<'a, R: Threads + Sync, G: Gate>(
         let LotDone {
             asked,
             workers: staff,
-        } = work_off(rt, alloc, question, walk, workers, threads, alone, gate)?;
+        } = work_off(rt, alloc, question, walk, workers, threads, &mut pace, gate)?;
         match asked {
             Some(asked) => return Ok(asked),
             None => {}
         }
         workers = staff;
-        alone.first = alone_after(walk.nodes().saturating_sub(before), alone.later);
+        pace.note(walk.nodes().saturating_sub(before));
     }
-}
-
-/// How many nodes are walked alone next, after a lot or shared jobs of so many.
-fn alone_after(nodes: u64, few: u64) -> u64 {
-    if nodes < few { few } else { 0 }
 }
 
 /// What a lot came to: the answer, where it ended the search, and workers for the next lot.
@@ -183,8 +226,8 @@ struct LotDone<'a> {
     workers: Vec<Searcher<'a>>,
 }
 
-/// Works off the lot that the walk is at: by turns nodes of it by the caller's thread alone, at first so many,
-/// and its next jobs by as many threads as there are of them, at most `threads`.
+/// Works off the lot that the walk is at: by turns nodes of it by the caller's thread alone, as many as the
+/// pace has them, and its next jobs by as many threads as there are of them, at most `threads`.
 fn work_off<'a, R: Threads + Sync, G: Gate>(
     rt: &R,
     alloc: Global,
@@ -192,7 +235,7 @@ fn work_off<'a, R: Threads + Sync, G: Gate>(
     walk: &mut LotWalk<'a>,
     workers: Vec<Searcher<'a>>,
     threads: u8,
-    alone: Alone,
+    pace: &mut Pace,
     gate: &G,
 ) -> Result<LotDone<'a>, NoMemory>
     requires question { walk.old.question.now ≡ question.now }
@@ -205,16 +248,15 @@ fn work_off<'a, R: Threads + Sync, G: Gate>(
         IsLotDone question.now walk.old.limit (length walk.old.marks) walk.new done.asked done.workers.items) }
 {
     let mut workers = workers;
-    let mut nodes = alone.first;
     loop {
-        match walk.work(nodes)? {
+        match walk.work(pace.alone)? {
             Some(asked) => return Ok(LotDone {
                 asked: Some(asked),
                 workers,
             }),
             None => {}
         }
-        let jobs = walk.next_jobs(JOBS)?;
+        let jobs = walk.next_jobs(pace.jobs())?;
         if jobs.rows.is_empty() {
             walk.leave_lot();
             return Ok(LotDone {
@@ -226,7 +268,9 @@ fn work_off<'a, R: Threads + Sync, G: Gate>(
         let LotDone {
             asked,
             workers: staff,
-        } = share_jobs(rt, alloc, question, walk, &jobs, workers, threads, gate)?;
+        } = work_next(
+            rt, alloc, question, walk, &jobs, workers, threads, pace, gate,
+        )?;
         workers = staff;
         match asked {
             Some(asked) => return Ok(LotDone {
@@ -235,8 +279,89 @@ fn work_off<'a, R: Threads + Sync, G: Gate>(
             }),
             None => {}
         }
-        nodes = alone_after(walk.nodes().saturating_sub(before), alone.later);
+        pace.note(walk.nodes().saturating_sub(before));
     }
+}
+
+/// Works off the next jobs of the lot that the walk is at, or the first of them by all threads together.
+fn work_next<'a, R: Threads + Sync, G: Gate>(
+    rt: &R,
+    alloc: Global,
+    question: &'a Question,
+    walk: &mut LotWalk<'a>,
+    jobs: &NextJobs,
+    workers: Vec<Searcher<'a>>,
+    threads: u8,
+    pace: &mut Pace,
+    gate: &G,
+) -> Result<LotDone<'a>, NoMemory>
+    requires question { walk.old.question.now ≡ question.now }
+    requires at { IsAtLot walk.old }
+    requires next { AreNextRows (problem_of walk.old.question.now) walk.old.prefix.rows walk.old.bound jobs.now.rows jobs.now.end }
+    requires some { 0 < length jobs.now.rows }
+    requires workers { length workers.items ≤ 64 }
+    requires start { AreReady (IsAtStart question.now) workers.items }
+    requires threads { (0 < threads) × (threads ≤ 64) }
+    ensures question { walk.new.question ≡ walk.old.question }
+    ensures limit { walk.new.limit ≡ walk.old.limit }
+    ensures bound { IfOk result (λ done. IfNone done.asked (walk.new.bound < walk.old.bound)) }
+    ensures worked { IfOk result (λ done. IsWorked question.now walk.old.limit (length walk.old.marks) walk.new done.asked) }
+    ensures workers { IfOk result (λ done. length done.workers.items ≤ 64) }
+    ensures start { IfOk result (λ done. AreReady (IsAtStart question.now) done.workers.items) }
+{
+    if pace.together && walk.left() > 0 {
+        let job = walk.next_jobs(1)?;
+        if walk.has_open_job(job.rows.get(0)) {
+            let before = walk.nodes();
+            let asked = share_job(rt, alloc, question, walk, &job, threads, pace.later)?;
+            // Jobs of fewer nodes are better worked off side by side.
+            let many = pace.later.saturating_mul(16);
+            pace.together = walk.nodes().saturating_sub(before) >= many;
+            return Ok(LotDone { asked, workers });
+        }
+    }
+    share_jobs(rt, alloc, question, walk, jobs, workers, threads, gate)
+}
+
+/// Works off the next job of the lot that the walk is at, an open one, by all threads together, and folds
+/// its end into it.
+fn share_job<'a, R: Threads + Sync>(
+    rt: &R,
+    alloc: Global,
+    question: &'a Question,
+    walk: &mut LotWalk<'a>,
+    job: &NextJobs,
+    threads: u8,
+    few: u64,
+) -> Result<Option<Asked>, NoMemory>
+    requires question { walk.old.question.now ≡ question.now }
+    requires at { IsAtLot walk.old }
+    requires next { AreNextRows (problem_of walk.old.question.now) walk.old.prefix.rows walk.old.bound job.now.rows job.now.end }
+    requires one { length job.now.rows ≡ 1 }
+    requires plain { question.now.least ≡ false }
+    requires open_ { allows (problem_of question.now) walk.old.prefix.rows (slice_index job.now.rows 0) ≡ true }
+    requires part { question.now.shape.m + 2 < question.now.shape.s + question.now.shape.t }
+    requires left { length walk.old.marks < walk.old.limit }
+    requires threads { (0 < threads) × (threads ≤ 64) }
+    ensures question { walk.new.question ≡ walk.old.question }
+    ensures limit { walk.new.limit ≡ walk.old.limit }
+    ensures bound { IfOk result (λ asked. IfNone asked (walk.new.bound ≡ job.now.end)) }
+    ensures worked { IfOk result (IsWorked question.now walk.old.limit (length walk.old.marks) walk.new) }
+{
+    let end = work_together(
+        rt,
+        alloc,
+        question,
+        walk.candidates(),
+        walk.lot(),
+        job.rows.get(0),
+        threads,
+        few,
+        walk.left(),
+    )?;
+    let mut ends = Items::new(alloc);
+    ends.push(end)?;
+    walk.fold(job, ends)
 }
 
 /// Works off the next jobs of the lot that the walk is at, by as many threads as there are of them, at most

@@ -14,6 +14,7 @@ mod order;
 mod report_cutter;
 mod rule;
 mod sharing;
+mod together;
 mod view;
 mod worker;
 

@@ -1,7 +1,6 @@
 -- The jobs of a lot, which a walk works off one after another.
-use Rattle.std.proofs.Common.{◌≡◌, ℕ, suc, ◌<◌, ◌+◌, ◌-◌, Bool, true, false, List, [], ◌∷◌, ◌++◌, map, length, drop, get_or, Option, sym, subst, ap, ◌∙◌, arith, append_assoc}
+use Rattle.std.proofs.Common.{◌≡◌, ℕ, ◌<◌, ◌+◌, ◌-◌, Bool, true, false, List, [], ◌∷◌, ◌++◌, map, length, drop, get_or, Option, sym, subst, ap, ◌∙◌, arith, append_assoc}
 use Rattle.std.specs.List.{flat_map}
-use Rattle.std.proofs.lemmas.Bool.{cond-true}
 use Rattle.std.proofs.lemmas.List.{map-append}
 use Rattle.fx_designs.specs.Galois.{IsField}
 use Rattle.fx_designs.specs.Problems.{Problem}
@@ -10,7 +9,6 @@ use Rattle.fx_laws.specs.Trees.{children_of, is_tree_design}
 use Rattle.fx_laws.specs.Walks.{subtree, through}
 use Rattle.fx_laws.proofs.Tables.{is_order-field}
 use Rattle.fx_laws.proofs.Through.{any-append}
-use Rattle.fx_tree.proofs.Nexts.{none-above}
 use Rattle.fx_jobs.specs.Ranked.{IsRanked, IsFirstLeast, better, is_counted, is_counted_through}
 use Rattle.fx_jobs.specs.Search.{ranked, search_tree, search_mark, IsBestAt}
 use Rattle.fx_jobs.proofs.Patterns.{is-ranked}
@@ -22,6 +20,7 @@ use Rattle.fx_search.specs.Pruning.{size_of}
 use Rattle.fx_search.specs.LotWalks.{rows_below, below, after, candidates_of, is_seen, IsNextRow, IsSoFar, IsInLot}
 use Rattle.fx_search.specs.declared.walk.End.TheVariants.{Found}
 use Rattle.fx_search.proofs.LotFolds.{counted, spent-in-lot}
+use Rattle.fx_search.proofs.LotSteps.{rows-next}
 use Rattle.fx_search.proofs.Starts.{lot-room}
 use Rattle.fx_search.proofs.Steps.{drop-first, part_end, through-more}
 
@@ -51,17 +50,12 @@ module _ (question : Question) (valid : IsValid question) (limit bound row : ℕ
   part : length l < size_of p
   part = lot-room p f l new.lot
 
-  rows-next : rows_below p l bound ≡ row ∷ rows_below p l row
-  rows-next =
-      none-above (λ r. (search_tree p).canonical (l ++ r ∷ [])) (suc row) bound (omega (arith, next.low)) (λ r low up. next.greatest r (omega arith) up)
-      ∙ cond-true ((search_tree p).canonical c) (row ∷ rows_below p l row) (rows_below p l row) next.canonical
-
   place : (h.count < length (children_of (search_tree p) l)) × (row ≡ get_or (children_of (search_tree p) l) h.count 0) × (drop (h.count + 1) (children_of (search_tree p) l) ≡ rows_below p l row)
-  place = drop-first (children_of (search_tree p) l) h.count row (rows_below p l row) (h.left ∙ rows-next)
+  place = drop-first (children_of (search_tree p) l) h.count row (rows_below p l row) (h.left ∙ rows-next p l bound row next)
 
   -- what is left of the lot begins with the job
   below-next : below p l bound ≡ job ++ below p l row
-  below-next = ap (flat_map (λ r. let d = l ++ r ∷ [] in subtree (search_tree p) (size_of p - length d) d)) rows-next
+  below-next = ap (flat_map (λ r. let d = l ++ r ∷ [] in subtree (search_tree p) (size_of p - length d) d)) (rows-next p l bound row next)
 
   split : candidates_of p ≡ h.done ++ (job ++ rest)
   split = h.whole ∙ ap (λ z. h.done ++ (z ++ after p (length l) l)) below-next ∙ ap (λ z. h.done ++ z) (append_assoc job (below p l row) (after p (length l) l))

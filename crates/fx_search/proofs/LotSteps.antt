@@ -1,6 +1,7 @@
 -- The steps of a walk from lot to lot.
-use Rattle.std.proofs.Common.{◌≡◌, ℕ, zero, suc, ◌<◌, ◌≤◌, ◌+◌, ◌-◌, ◌⊎◌, Bool, true, false, ◌||◌, cond, List, [], ◌∷◌, ◌++◌, map, length, get_or, slice_index, Option, None, refl, sym, subst, ap, ap₂, ◌∙◌, inl, inr, arith, append-nil, append_assoc, length-append, ne_eqb, ◌≢◌}
+use Rattle.std.proofs.Common.{◌≡◌, ℕ, zero, suc, ◌<◌, ◌≤◌, ◌+◌, ◌-◌, ◌⊎◌, Bool, true, false, ◌||◌, cond, List, [], ◌∷◌, ◌++◌, map, length, get_or, slice_index, Option, Some, None, refl, sym, subst, ap, ap₂, ◌∙◌, inl, inr, arith, append-nil, append_assoc, length-append, ne_eqb, ◌≢◌}
 use Rattle.std.specs.List.{list_any, flat_map}
+use Rattle.std.specs.Prelude.{MatchOption}
 use Rattle.std.proofs.lemmas.Bool.{cases_Bool, cases_eq, cond-true, cond-false, and_left, and_parts}
 use Rattle.std.proofs.lemmas.List.{map-append, length-map, length-take-le}
 use Rattle.fx_designs.specs.Galois.{IsField}
@@ -16,7 +17,7 @@ use Rattle.fx_tree.proofs.Extensions.{last_is}
 use Rattle.fx_tree.proofs.Nexts.{none-above}
 use Rattle.fx_tree.proofs.Walks.{follows-extends}
 use Rattle.fx_tree.specs.declared.front.Front.{Front}
-use Rattle.fx_tree.specs.Following.{front_of, follows}
+use Rattle.fx_tree.specs.Following.{front_of, follows, NoneFollows, IsNextToFollow}
 use Rattle.fx_vectors.specs.Shape.{dimensions_of}
 use Rattle.fx_vectors.specs.declared.question.Question.{Question}
 use Rattle.fx_vectors.specs.Question.{IsValid, problem_of, requirement_of}
@@ -34,7 +35,7 @@ use Rattle.fx_search.proofs.Begins.{split-last}
 use Rattle.fx_search.proofs.Carried.{carries-own, carries-part}
 use Rattle.fx_search.proofs.Steps.{LeftFrom, left-skip, left-next, drop-first, drop-none, under-children, through-more}
 
-last-row : (q : List ℕ) (r : ℕ) → last_row (q ++ r ∷ []) ≡ r
+pub last-row : (q : List ℕ) (r : ℕ) → last_row (q ++ r ∷ []) ≡ r
 last-row q r =
     let e : length (q ++ r ∷ []) - 1 ≡ length q = omega (arith, length-append q (r ∷ [])) in
     ap (slice_index (q ++ r ∷ [])) e ∙ last_is q r
@@ -43,6 +44,17 @@ last-row q r =
 pub follow-at : (question : Question) → IsValid question → (q : List ℕ) (front : Front) (r : ℕ) → (search_tree (problem_of question)).canonical q ≡ true → front ≡ front_of (dimensions_of question.shape) q
     → follows (dimensions_of question.shape) (requirement_of question.demands) front r ≡ (search_tree (problem_of question)).canonical (q ++ r ∷ [])
 follow-at question valid q front r can is = follows-extends (dimensions_of question.shape) (is_order-field question.shape.q valid.shaped.order) (requirement_of question.demands) q front r can is
+
+-- the next row that may follow is that of the next child
+pub next-child : (question : Question) → IsValid question → (q : List ℕ) (front : Front) (bound : ℕ) → (search_tree (problem_of question)).canonical q ≡ true → front ≡ front_of (dimensions_of question.shape) q
+    → (next : Option ℕ) → MatchOption next (NoneFollows (dimensions_of question.shape) (requirement_of question.demands) front bound) (IsNextToFollow (dimensions_of question.shape) (requirement_of question.demands) front bound)
+    → MatchOption next (IsNoneBelow (problem_of question) q bound) (IsNextRow (problem_of question) q bound)
+next-child question valid q front bound can is None none = λ r low. sym (follow-at question valid q front r can is) ∙ none r low
+next-child question valid q front bound can is (Some row) next = record {
+  low = next.low;
+  canonical = sym (follow-at question valid q front row can is) ∙ next.may;
+  greatest = λ r high low. sym (follow-at question valid q front r can is) ∙ next.greatest r high low;
+}
 
 -- functions that agree on a list agree on each item
 agree-at : {X Y : Type 0} (f g : X → Y) (xs : List X) (y : X) (ys : List X) → map f (xs ++ y ∷ ys) ≡ map g (xs ++ y ∷ ys) → f y ≡ g y
@@ -63,6 +75,34 @@ child-place t q r can (suc n) i h low =
         | inr fails ↦ child-place t q r can n i (left-skip t q i (suc n) n refl fails h) (omega arith)
       ]
     ]
+
+-- where no child is left out, what is below the children is below the prefix
+pub all-below : (p : Problem) → IsField p.dimensions.q → (q : List ℕ) (bound : ℕ) → (length q ≡ 0) ⊎ (is_expanded p q ≡ true) → length q < size_of p → LeftFrom (search_tree p) q 0 bound → below p q bound ≡ under (search_tree p) (size_of p - length q) q
+all-below p f q bound root part left =
+    ap (flat_map (λ r. let c = q ++ r ∷ [] in subtree (search_tree p) (size_of p - length c) c)) (sym left) ∙ sym (under-children (search_tree p) (walked-law p f) q root part)
+
+pub no-rows : (p : Problem) (q : List ℕ) (bound : ℕ) → IsNoneBelow p q bound → rows_below p q bound ≡ []
+no-rows p q bound none = none-above (λ r. (search_tree p).canonical (q ++ r ∷ [])) 0 bound (omega arith) (λ r low high. none r high)
+
+-- the next row comes first of those below the bound
+pub rows-next : (p : Problem) (q : List ℕ) (bound row : ℕ) → IsNextRow p q bound row → rows_below p q bound ≡ row ∷ rows_below p q row
+rows-next p q bound row next =
+    none-above (λ r. (search_tree p).canonical (q ++ r ∷ [])) (suc row) bound (omega (arith, next.low)) (λ r low up. next.greatest r (omega arith) up)
+    ∙ cond-true ((search_tree p).canonical (q ++ row ∷ [])) (row ∷ rows_below p q row) (rows_below p q row) next.canonical
+
+-- what goes before an expanded prefix is expanded too
+pub parent-open : (p : Problem) → IsField p.dimensions.q → (rows : List ℕ) → 0 < length rows → (search_tree p).canonical rows ≡ true → is_expanded p rows ≡ true → ((search_tree p).canonical (parent rows) ≡ true) × (is_expanded p (parent rows) ≡ true)
+parent-open p f rows there can open' =
+    let whole : parent rows ++ last_row rows ∷ [] ≡ rows = split-last rows there in
+    let law = walked-law p f in (
+      law.canonical (parent rows) (last_row rows) (ap (search_tree p).canonical whole ∙ can),
+      law.allowed (parent rows) (last_row rows) (ap (is_expanded p) whole ∙ open'),
+    )
+
+pub parent-placed : (p : Problem) → IsField p.dimensions.q → (rows : List ℕ) → 0 < length rows → (search_tree p).canonical rows ≡ true → (length rows ≡ 0) ⊎ (is_expanded p rows ≡ true)
+    → ((search_tree p).canonical (parent rows) ≡ true) × ((length (parent rows) ≡ 0) ⊎ (is_expanded p (parent rows) ≡ true))
+parent-placed p f rows there can (inl none) = absurd (omega arith)
+parent-placed p f rows there can (inr open') = let both = parent-open p f rows there can open' in (both.0, inr both.1)
 
 module _ (p : Problem) (f : IsField p.dimensions.q) (jobs : p.dimensions.m + 2 ≤ p.dimensions.s + p.dimensions.t) where
   abbrev T : Tree
@@ -90,17 +130,10 @@ module _ (p : Problem) (f : IsField p.dimensions.q) (jobs : p.dimensions.m + 2 �
   unfolding marks
   nodes-marks = marks-walked p f
 
-  -- where no child is left out, what is below the children is below the prefix
-  all-below : (q : List ℕ) (bound : ℕ) → (length q ≡ 0) ⊎ (is_expanded p q ≡ true) → length q < size_of p → LeftFrom T q 0 bound → below p q bound ≡ under T (size_of p - length q) q
-  all-below q bound root part left = ap (flat_map (child q)) (sym left) ∙ sym (under-children T law q root part)
-
-  no-rows : (q : List ℕ) (bound : ℕ) → IsNoneBelow p q bound → rows_below p q bound ≡ []
-  no-rows q bound none = none-above (λ r. T.canonical (q ++ r ∷ [])) 0 bound (omega arith) (λ r low high. none r high)
-
   pub start-walk : (limit bound : ℕ) (list : List Mark) (best : Option (List ℕ)) → LeftFrom T [] 0 bound → list ≡ [] → best ≡ None → IsSoFar p limit [] bound list best
   start-walk limit bound list best left none-yet no-best = record {
     done = [];
-    whole = sym (append-nil (below p [] bound) ∙ all-below [] bound (inl refl) some left ∙ (let e : size_of p - length {A = ℕ} [] ≡ size_of p = omega arith in ap (λ k. under T k []) e));
+    whole = sym (append-nil (below p [] bound) ∙ all-below p f [] bound (inl refl) some left ∙ (let e : size_of p - length {A = ℕ} [] ≡ size_of p = omega arith in ap (λ k. under T k []) e));
     none = refl;
     marks = none-yet;
     fits = let e : length list ≡ 0 = ap length none-yet in omega arith;
@@ -112,19 +145,10 @@ module _ (p : Problem) (f : IsField p.dimensions.q) (jobs : p.dimensions.m + 2 �
       nothing : (d : List ℕ) → is_counted x [] d ≡ true → ⊥
       nothing d h = let z : false ≡ true = (and_parts (is_tree_design x.tree d) false h).1 in cc z
 
-  -- what goes before an expanded prefix is expanded too
-  pub parent-placed : (rows : List ℕ) → 0 < length rows → T.canonical rows ≡ true → (length rows ≡ 0) ⊎ (is_expanded p rows ≡ true) → (T.canonical (parent rows) ≡ true) × ((length (parent rows) ≡ 0) ⊎ (is_expanded p (parent rows) ≡ true))
-  parent-placed rows there can (inl none) = absurd (omega arith)
-  parent-placed rows there can (inr open') =
-      let whole : parent rows ++ last_row rows ∷ [] ≡ rows = split-last rows there in (
-        law.canonical (parent rows) (last_row rows) (ap T.canonical whole ∙ can),
-        inr (law.allowed (parent rows) (last_row rows) (ap (is_expanded p) whole ∙ open')),
-      )
-
   -- nothing is left to do below the prefix
   pub through-last : (limit bound : ℕ) (q : List ℕ) (list : List Mark) (best : Option (List ℕ)) → IsSoFar p limit q bound list best → IsNoneBelow p q bound → length q < size_of p → IsThrough p limit q list best
   through-last limit bound q list best h none part =
-      let nothing = no-rows q bound none in record {
+      let nothing = no-rows p q bound none in record {
         done = h.done;
         whole = h.whole ∙ ap (λ l. h.done ++ (flat_map (child q) l ++ after p (length q) q)) nothing;
         none = h.none;
@@ -182,17 +206,12 @@ module _ (p : Problem) (f : IsField p.dimensions.q) (jobs : p.dimensions.m + 2 �
     long : length c ≡ length q + 1
     long = length-append q (row ∷ [])
 
-    rows-next : rows_below p q bound ≡ row ∷ rows_below p q row
-    rows-next =
-        none-above (λ r. T.canonical (q ++ r ∷ [])) (suc row) bound (omega (arith, next.low)) (λ r low up. next.greatest r (omega arith) up)
-        ∙ cond-true (T.canonical c) (row ∷ rows_below p q row) (rows_below p q row) next.canonical
-
     place : (h.count < length (children_of T q)) × (row ≡ get_or (children_of T q) h.count 0) × LeftFrom T q (h.count + 1) row
-    place = drop-first (children_of T q) h.count row (rows_below p q row) (h.left ∙ rows-next)
+    place = drop-first (children_of T q) h.count row (rows_below p q row) (h.left ∙ rows-next p q bound row next)
 
     -- what is left begins with the child
     split : candidates_of p ≡ h.done ++ (child q row ++ (below p q row ++ after p (length q) q))
-    split = h.whole ∙ ap (λ l. h.done ++ (flat_map (child q) l ++ after p (length q) q)) rows-next ∙ ap (λ l. h.done ++ l) (append_assoc (child q row) (below p q row) (after p (length q) q))
+    split = h.whole ∙ ap (λ l. h.done ++ (flat_map (child q) l ++ after p (length q) q)) (rows-next p q bound row next) ∙ ap (λ l. h.done ++ l) (append_assoc (child q row) (below p q row) (after p (length q) q))
 
     no-design-here : D c ≡ false
     no-design-here = let ne : length c ≢ size_of p = λ e. omega (arith, long) in and_left _ _ (ne_eqb _ _ ne)
@@ -254,7 +273,7 @@ module _ (p : Problem) (f : IsField p.dimensions.q) (jobs : p.dimensions.m + 2 �
       open-step bound' left few = record {
         done = h.done ++ c ∷ [];
         whole = open-split
-            ∙ ap₂ (λ a b. h.done ++ (c ∷ (a ++ b))) (sym (all-below c bound' (inr opened.is_expanded) (omega (arith, long)) left)) (sym after-child)
+            ∙ ap₂ (λ a b. h.done ++ (c ∷ (a ++ b))) (sym (all-below p f c bound' (inr opened.is_expanded) (omega (arith, long)) left)) (sym after-child)
             ∙ sym (append_assoc h.done (c ∷ []) (below p c bound' ++ after p (length c) c));
         none = past-design;
         marks = with-mark (Branch row) opened.mark;
@@ -283,6 +302,6 @@ module _ (p : Problem) (f : IsField p.dimensions.q) (jobs : p.dimensions.m + 2 �
       pub open-new : (bound' : ℕ) → LeftFrom T c 0 bound' → length c ≡ p.dimensions.m + 1 → IsNewLot p c bound' best
       open-new bound' left lot = record {
         lot = record { rows = lot; canonical = next.canonical; branch = branch };
-        all = all-below c bound' (inr opened.is_expanded) (omega (arith, long)) left;
+        all = all-below p f c bound' (inr opened.is_expanded) (omega (arith, long)) left;
         best_is = λ e. sym (before-best p f some e c (omega (arith, lot)) (omega arith) (omega (arith, lot)) best (next-counted.first e));
       }

@@ -159,11 +159,6 @@ abbrev pub IsStep : Question → ℕ → ℕ → LotWalk → Step → Type 0
 IsStep question budget count w Lot = IsAtLot w × (count < length w.marks)
 IsStep question budget count w (Done asked) = IsRight question budget asked
 
--- the walk, which had so many marks, goes on after a lot, or the lot ended it
-abbrev pub IsFolded : Question → ℕ → ℕ → LotWalk → Option Asked → Type 0
-IsFolded question budget count w None = IsBetween w × (count ≤ length w.marks)
-IsFolded question budget count w (Some asked) = IsRight question budget asked
-
 -- the walk, which had so many marks, is still at its lot, or a job ended it
 abbrev pub IsWorked : Question → ℕ → ℕ → LotWalk → Option Asked → Type 0
 IsWorked question budget count w None = IsAtLot w × (count ≤ length w.marks)

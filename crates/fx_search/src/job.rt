@@ -2,6 +2,7 @@ ghost use Rattle.std.specs.Prelude.{◌≡◌, ◌<◌, ◌≤◌, ◌+◌, ◌-
 ghost use Rattle.std.specs.Option.{option_copied};
 ghost use Rattle.fx_designs.specs.Problems.{Dimensions};
 ghost use Rattle.fx_designs.specs.Canonical.{is_canonical};
+ghost use Rattle.fx_designs.specs.Demands.{is_allowed};
 ghost use Rattle.fx_designs.specs.Nodes.{is_branch, lot_of};
 ghost use Rattle.fx_designs.specs.Jobs.{best_before};
 ghost use Rattle.fx_vectors.specs.Shape.{dimensions_of};
@@ -10,7 +11,6 @@ ghost use Rattle.fx_jobs.specs.Laws.{IsJob};
 ghost use Rattle.fx_jobs.specs.Ranked.{extends};
 ghost use Rattle.fx_search.specs.Pruning.{size_of};
 ghost use Rattle.fx_search.specs.Standing.{StandAt, HasDimensions, rows_of};
-ghost use Rattle.fx_search.specs.Folds.{IsLot};
 ghost use Rattle.fx_search.specs.JobEnds.{IsJobEnd, IsSized, IsBackAt, own_of};
 ghost use Rattle.fx_search.specs.Searchers.{IsAtStart};
 
@@ -126,25 +126,26 @@ pub(crate) fn remember<I: Incumbent>(incumbent: &mut I, best: &Matrix, rows: usi
     }
 }
 
-/// Takes a pruner and an incumbent from the empty prefix to a lot.
-pub(crate) fn put_at_lot<P: Pruner, I: Incumbent>(
+/// Takes a pruner and an incumbent from the empty prefix to an allowed one.
+pub(crate) fn put_at<P: Pruner, I: Incumbent>(
     question: &Question,
     pruner: &mut P,
     incumbent: &mut I,
-    lot: &Matrix,
+    prefix: &Matrix,
 ) -> Result<(), NoMemory>
     requires valid { IsValid question.now }
-    requires shape { lot.now.shape ≡ question.now.shape }
-    requires lot { IsLot (problem_of question.now) lot.now.rows }
+    requires shape { prefix.now.shape ≡ question.now.shape }
+    requires fits { length prefix.now.rows ≤ size_of (problem_of question.now) }
+    requires allowed { let p = problem_of question.now in is_allowed p.dimensions p.requirement prefix.now.rows ≡ true }
     requires at { StandAt (problem_of question.now) [] (P.problem pruner.old) (P.prefix pruner.old)
         (I.standing incumbent.old) }
-    ensures at { OnOk result (StandAt (problem_of question.now) lot.now.rows
+    ensures at { OnOk result (StandAt (problem_of question.now) prefix.now.rows
         (P.problem pruner.new) (P.prefix pruner.new) (I.standing incumbent.new)) }
     ensures best { OnOk result ((I.standing incumbent.new).best ≡ (I.standing incumbent.old).best) }
 {
     let _shape = question.shape;
-    for i in 0..lot.len() {
-        let row = lot.row(i);
+    for i in 0..prefix.len() {
+        let row = prefix.row(i);
         pruner.push(row)?;
         incumbent.push(row);
     }
@@ -215,7 +216,7 @@ pub(crate) fn run_job_with<P: Pruner, I: Incumbent, C: Cutter>(
     }
 }
 
-fn without_the_last_row(matrix: &Matrix) -> Matrix
+pub(crate) fn without_the_last_row(matrix: &Matrix) -> Matrix
     requires { 0 < length matrix.now.rows }
     ensures { result ≡ record matrix.now { rows = take (length matrix.now.rows - 1) matrix.now.rows } }
 {

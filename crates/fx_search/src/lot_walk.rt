@@ -1,4 +1,4 @@
-ghost use Rattle.std.specs.Prelude.{◌≡◌, ◌<◌, ◌≤◌, ◌+◌, ◌-◌, ◌++◌, [], ◌∷◌, false, None, length, IfOk, IfNone, OnOk, MatchOption};
+ghost use Rattle.std.specs.Prelude.{◌≡◌, ◌<◌, ◌≤◌, ◌+◌, ◌-◌, ◌++◌, [], ◌∷◌, true, false, None, length, IfOk, IfNone, OnOk, MatchOption};
 ghost use Rattle.fx_designs.specs.Problems.{Dimensions};
 ghost use Rattle.fx_designs.specs.Jobs.{best_before};
 ghost use Rattle.fx_tree.specs.Following.{front_of};
@@ -6,7 +6,7 @@ ghost use Rattle.fx_vectors.specs.Shape.{dimensions_of};
 ghost use Rattle.fx_vectors.specs.Question.{IsValid, problem_of};
 ghost use Rattle.fx_jobs.specs.Ranked.{better, is_counted_through};
 ghost use Rattle.fx_jobs.specs.Search.{ranked, search_tree, search_mark, IsBestAt};
-ghost use Rattle.fx_search.specs.Pruning.{size_of};
+ghost use Rattle.fx_search.specs.Pruning.{size_of, count_of_rows, allows};
 ghost use Rattle.fx_search.specs.Standing.{StandAt, HasDimensions, FitsDimensions, kept_rows, rows_of};
 ghost use Rattle.fx_search.specs.Ends.{IsFound, IsClosed, IsSpent, IsCarried};
 ghost use Rattle.fx_search.specs.Folds.{AreEnds};
@@ -166,6 +166,7 @@ impl<'a> LotWalk<'a> {
             AreNextRows (problem_of self.now.question.now) self.now.prefix.rows self.now.bound jobs.rows jobs.end) }
         ensures some { IfOk result (λ jobs.
             jobs.rows ≡ [] → rows_below (problem_of self.now.question.now) self.now.prefix.rows self.now.bound ≡ []) }
+        ensures most { IfOk result (λ jobs. length jobs.rows ≤ most) }
     {
         let front = self.candidates.front_of(self.question, &self.prefix);
         let first = self.candidates.first_row(self.question, front);
@@ -182,6 +183,19 @@ impl<'a> LotWalk<'a> {
             rows,
             end: first.min(self.bound),
         })
+    }
+
+    /// Whether no least pattern is asked, and the job by this row of the lot is allowed and not whole.
+    pub fn has_open_job(&self, row: u16) -> bool
+        requires at { IsAtLot self.now }
+        requires below { row < count_of_rows (problem_of self.now.question.now) }
+        ensures plain { result ≡ true → self.now.question.now.least ≡ false }
+        ensures open_ { result ≡ true → allows (problem_of self.now.question.now) self.now.prefix.rows row ≡ true }
+        ensures part { result ≡ true → self.now.question.now.shape.m + 2 < self.now.question.now.shape.s + self.now.question.now.shape.t }
+    {
+        !self.question.least
+            && self.prefix.len() + 1 < self.question.shape.rows()
+            && !self.pruner.closes(row)
     }
 
     /// Goes on to the next lot that is a branch, and marks the nodes on the way.
@@ -296,13 +310,7 @@ impl<'a> LotWalk<'a> {
             MatchOption result (IsNoneBelow p self.now.prefix.rows self.now.bound)
             (IsNextRow p self.now.prefix.rows self.now.bound) }
     {
-        let first = self.candidates.first_row(self.question, front);
-        for row in (first..self.bound).rev() {
-            if self.candidates.may_follow(self.question, front, row) {
-                return Some(row);
-            }
-        }
-        None
+        self.candidates.next_row(self.question, front, self.bound)
     }
 
     /// Works off the job by the next row of the lot, which makes this front.

@@ -13,7 +13,7 @@ use crate::barred::Barred;
 use crate::best::Best;
 use crate::cutter::Cutter;
 use crate::incumbent::Incumbent;
-use crate::job::{JobEnd, put_at_lot, remember, run_job_with};
+use crate::job::{JobEnd, put_at, remember, run_job_with};
 use crate::known::Known;
 use crate::pruner::Pruner;
 use fx_base::NoMemory;
@@ -80,11 +80,11 @@ impl<'a> Searcher<'a> {
     {
         if self.question.least {
             self.earlier = begin_with(&mut self.incumbent, best);
-            put_at_lot(self.question, &mut self.pruner, &mut self.incumbent, lot)?;
+            put_at(self.question, &mut self.pruner, &mut self.incumbent, lot)?;
             return Ok(());
         }
         self.earlier = None;
-        put_at_lot(self.question, &mut self.pruner, &mut self.incumbent, lot)?;
+        put_at(self.question, &mut self.pruner, &mut self.incumbent, lot)?;
         Ok(())
     }
 

@@ -157,7 +157,7 @@ fn threads_agree_at_the_nodes<R: Threads + Sync + Abort>(
 
 /// Levels, run indexes, factors, block factors, the resolution, or 0 for the main effects of A and B, and
 /// whether a least pattern is asked.
-const ASKED: [(u8, u8, u8, u8, u8, bool); 17] = [
+const ASKED: [(u8, u8, u8, u8, u8, bool); 18] = [
     (2, 4, 7, 0, 4, false),
     (2, 4, 8, 0, 5, false),
     (2, 4, 8, 0, 4, false),
@@ -176,6 +176,8 @@ const ASKED: [(u8, u8, u8, u8, u8, bool); 17] = [
     (3, 2, 4, 0, 0, false),
     // Its lots have more jobs than are shared at once.
     (2, 8, 10, 0, 7, false),
+    // Its jobs are shared in parts.
+    (2, 5, 17, 0, 4, false),
 ];
 
 fn each_agrees<R: Threads + Sync + Abort>(

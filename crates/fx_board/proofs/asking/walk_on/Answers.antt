@@ -1,6 +1,7 @@
 use Rattle.std.proofs.Common.{◌≡◌, ◌∙◌, ℕ, None, length, refl, sym, subst, ap, arith}
 use Rattle.fx_vectors.specs.declared.question.Question.{Question}
-use Rattle.fx_search.specs.LotWalks.{IsStep, IsFolded, IsRight}
+use Rattle.fx_search.specs.LotWalks.{IsStep, IsRight}
+use Rattle.fx_board.specs.Lots.{IsFolded}
 use Rattle.fx_search.specs.Searchers.{IsAtStart}
 use Rattle.fx_search.specs.declared.asking.Asked.{Asked}
 use Rattle.fx_search.specs.declared.lot_walk.LotWalk.{LotWalk}

@@ -1,0 +1,24 @@
+use Rattle.std.proofs.Common.{◌-◌, false, [], length, refl, subst, ap, arith}
+use Rattle.fx_designs.specs.Problems.{Problem}
+use Rattle.fx_jobs.specs.Search.{search_tree, search_mark}
+use Rattle.fx_vectors.specs.Question.{problem_of}
+use Rattle.fx_search.specs.Ends.{Ends}
+use Rattle.fx_search.specs.SubtreeWalks.{left_of}
+use Rattle.fx_search.specs.declared.walk.End.TheVariants.{Closed}
+use Rattle.fx_search.specs.declared.subtree_walk.SubtreeWalk.{SubtreeWalk}
+use Rattle.fx_search.proofs.SubtreeSteps.{closed-past}
+use Rattle.fx_search.proofs.subtree_walk.SubtreeWalk.take_in.Goals as goal
+
+pub returns-then-limit-len-2 : goal.returns-then-limit-len-2
+returns-then-limit-len-2 c =
+    let w : SubtreeWalk = c.args.self.now in
+    let p : Problem = problem_of w.question.now in
+    let rest = c.requires.rest in
+    let ends : Ends (search_tree p) (search_mark p) rest.own false (left_of w) w.prefix.rows Closed [] c.args.other.marks c.args.other.prefix.rows =
+    subst (λ z. Ends (search_tree p) (search_mark p) rest.own false (left_of w) w.prefix.rows z [] c.args.other.marks c.args.other.prefix.rows) c.in-Closed.is rest.ends in
+    record {
+      question = refl;
+      shape = c.requires.inside.shape;
+      inside = tt;
+      ends = closed-past (search_tree p) (search_mark p) c.args.limit rest.own (left_of w) w.prefix.rows w.marks c.args.other.marks c.args.other.prefix.rows (omega (arith, ap length c.into_parts-prefix.ensures.marks)) c.requires.fits ends;
+    }
