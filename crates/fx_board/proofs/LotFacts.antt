@@ -1,6 +1,6 @@
 -- The jobs of a lot, by their numbers.
 use Rattle.std.proofs.Common.{◌≡◌, ℕ, zero, suc, ◌<◌, ◌≤◌, ◌+◌, ◌^◌, Bool, true, false, List, [], ◌∷◌, ◌++◌, map, length, get_or, slice_index, refl, sym, subst, ap, ◌∙◌, inl, inr, ⊎_elim, arith, length-append, append_assoc, take_all, cond, Ok, Err}
-use Rattle.std.specs.Prelude.{IfOk, Result, Option}
+use Rattle.std.specs.Prelude.{IfOk, IfNone, Result, Option, Some, None}
 use Rattle.std.specs.List.{AllByRecursion, filter}
 use Rattle.std.proofs.lemmas.Bool.{cases_lt}
 use Rattle.std.proofs.lemmas.List.{take-append-le}
@@ -61,6 +61,15 @@ row-is rows kids n r same low is = is ∙ at-any rows n r 0 low ∙ ap (λ z. ge
 pub ok-both : {X Y : Type 0} (r : Result X Y) (P Q R : X → Type 0) → ((x : X) → P x → Q x → R x) → IfOk r P → IfOk r Q → IfOk r R
 ok-both (Ok x) P Q R f h k = f x h k
 ok-both (Err y) P Q R f h k = tt
+
+-- what follows for the value of an Ok
+pub if-ok : {X Y : Type 0} (r : Result X Y) (P Q : X → Type 0) → ((x : X) → P x → Q x) → IfOk r P → IfOk r Q
+if-ok (Ok x) P Q f h = f x h
+if-ok (Err y) P Q f h = tt
+
+pub if-none : {X : Type 0} (o : Option X) (P Q : Type 0) → (P → Q) → IfNone o P → IfNone o Q
+if-none None P Q f h = f h
+if-none (Some x) P Q f h = tt
 
 -- the question of a searcher that can enter a lot
 pub question-is : (question : Question) (l : List ℕ) (s : Searcher) → CanEnter question l s → s.question.now ≡ question

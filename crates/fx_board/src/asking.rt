@@ -34,8 +34,8 @@ const FIRST_JOBS: usize = 16;
 const PAIR: u64 = 64;
 
 /// How many nodes of a lot the caller's thread walks alone, before the next jobs are shared out: of the first
-/// lot, and wherever the lot before, or the jobs that were shared last, had fewer than `later` nodes. A part
-/// of a job is shared where the part before had at least as many.
+/// lot, and wherever the lot before, or the jobs that were shared last, had fewer than `later` nodes. Of a job
+/// that is walked by all threads together, a part is shared where the parts before had at least `later`.
 #[derive(Clone, Copy)]
 pub struct Alone {
     pub first: u64,
@@ -51,7 +51,8 @@ struct Pace {
     later: u64,
     /// Whether nothing is known yet of the jobs of the question.
     begins: bool,
-    /// Whether the next open job is walked by all threads together.
+    /// Whether the next job is walked by all threads together where it is open, which ends with the first that
+    /// has few nodes.
     together: bool,
 }
 

@@ -2,7 +2,8 @@
 //!
 //! The jobs of a lot have the numbers from 0 on. A worker claims the next number and works off its job.
 //! Where a job ends the search, its number is reported, and jobs of greater numbers are cut. The ends
-//! of the jobs up to the least number that was reported do not depend on the schedule.
+//! of the jobs up to the least number that was reported do not depend on the schedule. A job with very
+//! many nodes is walked by all threads together, without the board.
 #![tactic(auto)]
 
 mod asking;

@@ -13,20 +13,21 @@ use fx_vectors::{Matrix, Question};
 use std::alloc::Global;
 use std::thread::{Threads, join_mut};
 
-/// How a job is cut into parts, by what the parts before had.
+/// How a job is cut into parts, by what the parts before had. What is shared, and when, is in no clause.
 #[derive(Clone, Copy)]
 struct Parts {
-    /// One thread walks so few nodes in the time in which several are started.
+    /// A part with fewer nodes is not worth starting threads for.
     few: u64,
-    /// How many nodes the next part may have at most.
+    /// Up to which estimate what is left below a prefix is one part.
     most: u64,
-    /// How many the part before had.
+    /// How many nodes the parts before had, of which the last ones count most.
     before: u64,
 }
 
 impl Parts {
-    /// The first part may have 16 times as many nodes as are few, since often it has far fewer.
+    /// The estimate is often far too high, so the first part is small.
     fn of(few: u64) -> Parts {
+        let few = few.max(1);
         Parts {
             few,
             most: few.saturating_mul(16),
@@ -34,23 +35,22 @@ impl Parts {
         }
     }
 
-    /// After a part of so many nodes. A part should have at least 64 times as many as are few, so that
-    /// threads are seldom started anew, and at most 256 times as many, so that few are walked in vain where
-    /// the search ends in it.
+    /// After a part of so many nodes. With at least 64 times as many as are few, threads are seldom started
+    /// anew; with not many more, few are walked in vain where the search ends in the part.
     fn note(&mut self, nodes: u64) {
-        self.before = nodes;
+        self.before = nodes.max(self.before / 2);
         if nodes < self.few.saturating_mul(64) {
-            self.most = self.most.saturating_mul(4);
+            self.most = self.most.saturating_mul(4).min(self.few.saturating_mul(1_024));
         } else if nodes > self.few.saturating_mul(256) {
-            self.most /= 4;
+            self.most = (self.most / 4).max(self.few);
         }
     }
 }
 
 /// Works off a job by 1 to 64 threads together: the lot with this row added, which is allowed and not
 /// whole, in a question that asks for no least pattern. What is below the job is cut into parts, one after
-/// another, each of which all threads share. One thread walks `few` nodes in the time in which several are
-/// started. The limit is 1 to 5,000,000 nodes.
+/// another, each of which all threads share, but for the first and those after parts of fewer than `few`
+/// nodes. The limit is 1 to 5,000,000 nodes.
 ///
 /// # Errors
 ///
@@ -84,7 +84,7 @@ pub(crate) fn work_together<'a, R: Threads + Sync>(
     Ok(walk.job_end(end, limit))
 }
 
-/// Walks what is left to a walk: where it may have more nodes than a part, child after child.
+/// Walks what is left to a walk: where it is more than a part, child after child.
 fn walk_parts<R: Threads + Sync>(
     rt: &R,
     walk: &mut SubtreeWalk,
@@ -97,7 +97,7 @@ fn walk_parts<R: Threads + Sync>(
     requires threads { 0 < threads }
     ensures { IfOk result (IsWalked limit walk.old walk.new) }
 {
-    while walk.most_nodes() > parts.most {
+    while walk.estimate() > parts.most {
         match walk.next(limit)? {
             Some(end) => return Ok(end),
             None => {}
@@ -110,7 +110,7 @@ fn walk_parts<R: Threads + Sync>(
     walk_part(rt, walk, threads, limit, parts)
 }
 
-/// Walks a part: by one thread where the part before had few nodes.
+/// Walks a part: by one thread where the parts before had few nodes.
 fn walk_part<R: Threads + Sync>(
     rt: &R,
     walk: &mut SubtreeWalk,
@@ -154,11 +154,12 @@ fn share_part<R: Threads + Sync>(
     let mut others = walk.beside()?;
     let left = limit - walk.nodes();
     let (end, rest) = side_by_side(rt, walk, &mut others, threads, limit, left);
+    let (design, marks) = others.into_parts();
     match end? {
         End::Closed => walk.leave(),
         end => return Ok(end),
     }
-    walk.take_in(others, rest?, limit)
+    walk.take_in(design, &marks, rest?, limit)
 }
 
 /// Walks what is left to two walks by so many threads, one half of them each.

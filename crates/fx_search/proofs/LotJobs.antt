@@ -20,7 +20,7 @@ use Rattle.fx_search.specs.Pruning.{size_of}
 use Rattle.fx_search.specs.LotWalks.{rows_below, below, after, candidates_of, is_seen, IsNextRow, IsSoFar, IsInLot}
 use Rattle.fx_search.specs.declared.walk.End.TheVariants.{Found}
 use Rattle.fx_search.proofs.LotFolds.{counted, spent-in-lot}
-use Rattle.fx_search.proofs.LotSteps.{rows-next}
+use Rattle.fx_search.proofs.LotSteps.{below-next, rows-next}
 use Rattle.fx_search.proofs.Starts.{lot-room}
 use Rattle.fx_search.proofs.Steps.{drop-first, part_end, through-more}
 
@@ -53,12 +53,8 @@ module _ (question : Question) (valid : IsValid question) (limit bound row : ℕ
   place : (h.count < length (children_of (search_tree p) l)) × (row ≡ get_or (children_of (search_tree p) l) h.count 0) × (drop (h.count + 1) (children_of (search_tree p) l) ≡ rows_below p l row)
   place = drop-first (children_of (search_tree p) l) h.count row (rows_below p l row) (h.left ∙ rows-next p l bound row next)
 
-  -- what is left of the lot begins with the job
-  below-next : below p l bound ≡ job ++ below p l row
-  below-next = ap (flat_map (λ r. let d = l ++ r ∷ [] in subtree (search_tree p) (size_of p - length d) d)) (rows-next p l bound row next)
-
   split : candidates_of p ≡ h.done ++ (job ++ rest)
-  split = h.whole ∙ ap (λ z. h.done ++ (z ++ after p (length l) l)) below-next ∙ ap (λ z. h.done ++ z) (append_assoc job (below p l row) (after p (length l) l))
+  split = h.whole ∙ ap (λ z. h.done ++ (z ++ after p (length l) l)) (below-next p l bound row next) ∙ ap (λ z. h.done ++ z) (append_assoc job (below p l row) (after p (length l) l))
 
   -- the best of the lots before is that of what counts for the job
   pub job-begins : IsBestAt p (is_counted (ranked p) c) earlier
@@ -92,7 +88,7 @@ module _ (question : Question) (valid : IsValid question) (limit bound row : ℕ
       before = new.before;
       inside = new.inside ++ job;
       done_are = ap (λ z. z ++ job) new.done_are ∙ append_assoc new.before new.inside job;
-      all = new.all ∙ ap (λ z. new.inside ++ z) below-next ∙ sym (append_assoc new.inside job (below p l row));
+      all = new.all ∙ ap (λ z. new.inside ++ z) (below-next p l bound row next) ∙ sym (append_assoc new.inside job (below p l row));
       best_is = new.best_is;
     },
   )
@@ -104,6 +100,6 @@ module _ (question : Question) (valid : IsValid question) (limit bound row : ℕ
   -- the limit ends the search in the job
   pub job-spent : IsSpent (search_tree p) limit job list → IsSpent (search_tree p) limit (candidates_of p) [] × IsCarried p [] limit (candidates_of p) [] earlier
   job-spent spent =
-      let all : through D (below p l bound) ≡ through D (job ++ below p l row) = ap (through D) below-next in
+      let all : through D (below p l bound) ≡ through D (job ++ below p l row) = ap (through D) (below-next p l bound row next) in
       let more = through-more D job (below p l row) in
       spent-in-lot question valid limit bound l list best earlier h new (omega (arith, spent.more, ap length all, more))

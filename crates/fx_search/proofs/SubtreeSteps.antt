@@ -21,22 +21,18 @@ use Rattle.fx_search.specs.Ends.{Ends, AreBack, IsClosed, IsSpent, IsOver}
 use Rattle.fx_search.specs.LotWalks.{below, IsNextRow, IsNoneBelow}
 use Rattle.fx_search.specs.Pruning.{size_of, count_of_rows}
 use Rattle.fx_search.specs.Standing.{StandAt}
-use Rattle.fx_search.specs.SubtreeWalks.{IsInside, IsInsideAfter, IsDone, left_of, IsFresh, IsPartly, IsDown, IsWalked, IsChildVisited, IsAtJob, IsJobWalked, standing_without_best}
+use Rattle.fx_search.specs.SubtreeWalks.{IsInside, IsInsideAfter, IsDone, left_of, IsFresh, IsPartly, IsDown, IsWalked, IsChildVisited, IsAtJob, IsJobWalked}
+use Rattle.fx_search.specs.Searchers.{standing_without_best}
 use Rattle.fx_search.specs.declared.subtree_walk.SubtreeWalk.{SubtreeWalk}
 use Rattle.fx_search.specs.declared.walk.End.{End}
 use Rattle.fx_search.specs.declared.walk.End.TheVariants.{Found, Closed, Spent, Cut}
 use Rattle.fx_search.proofs.JobFacts.{job-room, job_found, job_closed, job_spent, job_tells}
-use Rattle.fx_search.proofs.LotSteps.{last-row, no-rows, rows-next}
+use Rattle.fx_search.proofs.LotSteps.{below-next, last-row, no-rows}
 use Rattle.fx_search.proofs.Steps.{part_end, below_end, below_closed}
 
 -- without a least pattern nothing is asked of the best
 pub any-best : (p : Problem) (test : List ℕ → Bool) (best : Option (List ℕ)) → p.least ≡ false → IsBestAt p test best
 any-best p test best plain = record { first = λ least. clash p.least least plain }
-
--- what is left begins with the next child
-pub below-next : (p : Problem) (q : List ℕ) (bound row : ℕ) → IsNextRow p q bound row
-    → below p q bound ≡ subtree (search_tree p) (size_of p - length (q ++ row ∷ [])) (q ++ row ∷ []) ++ below p q row
-below-next p q bound row next = ap (flat_map (λ r. let c = q ++ r ∷ [] in subtree (search_tree p) (size_of p - length c) c)) (rows-next p q bound row next)
 
 pub none-below : (p : Problem) (q : List ℕ) (bound : ℕ) → IsNoneBelow p q bound → below p q bound ≡ []
 none-below p q bound none = ap (flat_map (λ r. let c = q ++ r ∷ [] in subtree (search_tree p) (size_of p - length c) c)) (no-rows p q bound none)

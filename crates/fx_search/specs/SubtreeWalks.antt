@@ -6,20 +6,17 @@ use Rattle.fx_laws.specs.Trees.{Tree, is_tree_design}
 use Rattle.fx_laws.specs.Walks.{under, subtree}
 use Rattle.fx_jobs.specs.Laws.{IsJob}
 use Rattle.fx_jobs.specs.Search.{search_tree, search_mark, is_expanded}
+use Rattle.fx_vectors.specs.Matrix.{MatrixView}
 use Rattle.fx_vectors.specs.declared.question.Question.{Question}
 use Rattle.fx_vectors.specs.Question.{IsValid, problem_of}
 use Rattle.fx_search.specs.Ends.{Ends}
 use Rattle.fx_search.specs.LotWalks.{below}
 use Rattle.fx_search.specs.Pruning.{size_of, count_of_rows}
-use Rattle.fx_search.specs.Standing.{Standing, StandAt}
+use Rattle.fx_search.specs.Searchers.{standing_without_best}
+use Rattle.fx_search.specs.Standing.{StandAt}
 use Rattle.fx_search.specs.declared.subtree_walk.SubtreeWalk.{SubtreeWalk}
-use Rattle.fx_search.specs.declared.unranked.Unranked.{Unranked}
 use Rattle.fx_search.specs.declared.walk.End.{End}
 use Rattle.fx_search.specs.declared.walk.End.TheVariants.{Found, Closed, Spent, Cut}
-
--- what an incumbent holds where no least pattern is asked
-abbrev pub standing_without_best : Unranked → Standing
-standing_without_best x = record { problem = problem_of x.question.now; prefix = x.prefix.rows; best = None }
 
 -- all parts of the walk are at one expanded prefix of a question without a least pattern
 pub record IsInside (w : SubtreeWalk) : Type 0 where
@@ -103,14 +100,15 @@ abbrev pub IsNext : ℕ → SubtreeWalk → SubtreeWalk → Option End → Type 
 IsNext limit w v None = IsDown limit w v
 IsNext limit w v (Some end) = IsWalked limit w v end
 
--- The walk v has ended so with what the walk w has left, under a limit that is at least what the marks of w leave of this one.
-pub record IsRest (limit : ℕ) (w v : SubtreeWalk) (end : End) : Type 0 where
+-- Another walk has ended so with what the walk w has left, there and with these marks, under a limit that is at least what the
+-- marks of w leave of this one.
+pub record IsRest (limit : ℕ) (w : SubtreeWalk) (left : MatrixView) (marks : List Mark) (end : End) : Type 0 where
   pub own : ℕ
   pub least : limit ≤ length w.marks + own
-  pub shape : v.prefix.shape ≡ w.question.now.shape
+  pub shape : left.shape ≡ w.question.now.shape
   pub ends :
       let p = problem_of w.question.now in
-      Ends (search_tree p) (search_mark p) own false (left_of w) w.prefix.rows end [] v.marks v.prefix.rows
+      Ends (search_tree p) (search_mark p) own false (left_of w) w.prefix.rows end [] marks left.rows
 
 -- the walk is at a job of a question, which has its mark
 pub record IsAtJob (question : Question) (job : List ℕ) (w : SubtreeWalk) : Type 0 where

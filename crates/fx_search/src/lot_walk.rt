@@ -185,13 +185,17 @@ impl<'a> LotWalk<'a> {
         })
     }
 
-    /// Whether no least pattern is asked, and the job by this row of the lot is allowed and not whole.
+    /// Whether no least pattern is asked, and the prefix by this row of the lot is allowed and not whole.
     pub fn has_open_job(&self, row: u16) -> bool
         requires at { IsAtLot self.now }
         requires below { row < count_of_rows (problem_of self.now.question.now) }
         ensures plain { result ≡ true → self.now.question.now.least ≡ false }
         ensures open_ { result ≡ true → allows (problem_of self.now.question.now) self.now.prefix.rows row ≡ true }
         ensures part { result ≡ true → self.now.question.now.shape.m + 2 < self.now.question.now.shape.s + self.now.question.now.shape.t }
+        ensures always { self.now.question.now.least ≡ false
+            → allows (problem_of self.now.question.now) self.now.prefix.rows row ≡ true
+            → self.now.question.now.shape.m + 2 < self.now.question.now.shape.s + self.now.question.now.shape.t
+            → result ≡ true }
     {
         !self.question.least
             && self.prefix.len() + 1 < self.question.shape.rows()

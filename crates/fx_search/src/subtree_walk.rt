@@ -132,9 +132,9 @@ impl<'a> SubtreeWalk<'a> {
         self.marks.len()
     }
 
-    /// About how many nodes are left at most: as many as there are sets of open rows, no more of them than
-    /// rows are to come. It decides only what is shared.
-    pub fn most_nodes(&self) -> u64
+    /// About how many prefixes are left that are expanded, were every set of open rows allowed. They may be
+    /// more where block rows are to come, and mostly are far fewer. No answer depends on it.
+    pub fn estimate(&self) -> u64
         requires { IsInside self.now }
     {
         let open = self.open_rows();
@@ -152,15 +152,16 @@ impl<'a> SubtreeWalk<'a> {
         all
     }
 
-    /// How many rows below the bound do not close the prefix.
+    /// How many rows below the bound may follow and do not close the prefix.
     fn open_rows(&self) -> usize
         requires { IsInside self.now }
         ensures { result ≤ self.now.bound }
     {
+        let front = self.candidates.front_of(self.question, &self.prefix);
         let barred = self.pruner.barred();
         let mut count = 0;
         for row in 0..self.bound {
-            if !barred.contains(row) {
+            if self.candidates.may_follow(self.question, front, row) && !barred.contains(row) {
                 count += 1;
             }
         }
@@ -288,37 +289,38 @@ impl<'a> SubtreeWalk<'a> {
         self.bound = row;
     }
 
-    /// Takes in what another walk has done of all that is left to this one, and how that ended.
+    /// Takes in the marks that another walk has made of all that is left to this one, how that ended, and where
+    /// it was then. That walk had a limit of its own, at least what is left of this one.
     ///
     /// # Errors
     ///
     /// `NoMemory`.
     pub fn take_in(
         &mut self,
-        other: SubtreeWalk<'a>,
+        design: Matrix,
+        marks: &Marks,
         end: End,
         limit: usize,
     ) -> Result<End, NoMemory>
         requires inside { IsInside self.old }
         requires fits { length self.old.marks ≤ limit }
-        requires rest { IsRest limit self.old other end }
+        requires rest { IsRest limit self.old design marks.now end }
         ensures { IfOk result (IsWalked limit self.old self.new) }
     {
-        let (prefix, marks) = other.into_parts();
         match end {
             End::Found => {
                 if limit - self.marks.len() < marks.len() {
                     return Ok(End::Spent);
                 }
-                self.marks.append(&marks)?;
-                self.prefix = prefix;
+                self.marks.append(marks)?;
+                self.prefix = design;
                 Ok(End::Found)
             }
             End::Closed => {
                 if limit - self.marks.len() < marks.len() {
                     return Ok(End::Spent);
                 }
-                self.marks.append(&marks)?;
+                self.marks.append(marks)?;
                 Ok(End::Closed)
             }
             End::Spent => Ok(End::Spent),
@@ -327,7 +329,7 @@ impl<'a> SubtreeWalk<'a> {
     }
 
     /// Where it is, and its marks.
-    fn into_parts(self) -> (Matrix, Marks)
+    pub fn into_parts(self) -> (Matrix, Marks)
         ensures prefix { result.0 ≡ self.entry.prefix }
         ensures marks { result.1 ≡ self.entry.marks }
     {

@@ -49,7 +49,7 @@ fn nodes_of(asked: &Asked) -> u64 {
 }
 
 /// Numbers of threads, and how many nodes of a lot are walked alone before its jobs are shared out.
-const THREADS: [(u8, Alone); 12] = [
+const THREADS: [(u8, Alone); 13] = [
     (1, Alone { first: 0, later: 0 }),
     (1, Alone { first: 5, later: 5 }),
     (
@@ -86,6 +86,7 @@ const THREADS: [(u8, Alone); 12] = [
             later: 40,
         },
     ),
+    (64, Alone { first: 0, later: 1 }),
 ];
 
 /// Whether so many threads answer so, under a budget.
@@ -157,7 +158,7 @@ fn threads_agree_at_the_nodes<R: Threads + Sync + Abort>(
 
 /// Levels, run indexes, factors, block factors, the resolution, or 0 for the main effects of A and B, and
 /// whether a least pattern is asked.
-const ASKED: [(u8, u8, u8, u8, u8, bool); 18] = [
+const ASKED: [(u8, u8, u8, u8, u8, bool); 20] = [
     (2, 4, 7, 0, 4, false),
     (2, 4, 8, 0, 5, false),
     (2, 4, 8, 0, 4, false),
@@ -176,8 +177,10 @@ const ASKED: [(u8, u8, u8, u8, u8, bool); 18] = [
     (3, 2, 4, 0, 0, false),
     // Its lots have more jobs than are shared at once.
     (2, 8, 10, 0, 7, false),
-    // Its jobs are shared in parts.
+    // Their jobs are walked by all threads together.
+    (2, 4, 16, 0, 3, false),
     (2, 5, 17, 0, 4, false),
+    (2, 4, 6, 2, 4, false),
 ];
 
 fn each_agrees<R: Threads + Sync + Abort>(
@@ -211,7 +214,7 @@ fn any_number_of_threads_answers_as_one(rt: HostRuntime) {
     all_agree(&rt, rt.alloc(), &ASKED);
 }
 
-/// While one worker is held at the first of ten jobs, another ends the nine others.
+/// While one worker is held at the first of ten jobs, which are all closed, another ends the nine others.
 #[test]
 fn a_second_thread_works_off_jobs(rt: HostRuntime) {
     let gate = Holding {

@@ -4,8 +4,7 @@ use Rattle.fx_vectors.specs.declared.question.Question.{Question}
 use Rattle.fx_vectors.specs.Question.{problem_of}
 use Rattle.fx_search.specs.Pruning.{allows, count_of_rows}
 use Rattle.fx_search.specs.declared.lot_walk.LotWalk.{LotWalk}
-use Rattle.fx_board.proofs.LotFacts.{row-is, next-are, child-below, further, some-next}
-use Rattle.fx_board.proofs.Halves.{if-ok, if-none}
+use Rattle.fx_board.proofs.LotFacts.{row-is, next-are, child-below, further, some-next, if-ok, if-none}
 use Rattle.fx_board.proofs.asking.work_next.Goals as goal
 
 pub has_open_job-requires-clause-below : goal.has_open_job-requires-clause-below

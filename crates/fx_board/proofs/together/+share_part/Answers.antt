@@ -1,6 +1,6 @@
 use Rattle.fx_search.specs.SubtreeWalks.{IsWalked}
 use Rattle.fx_search.proofs.SubtreeSteps.{partly-walked, child-closed, child-ended}
-use Rattle.fx_board.proofs.Halves.{if-ok}
+use Rattle.fx_board.proofs.LotFacts.{if-ok}
 use Rattle.fx_board.proofs.together.+share_part.Goals as goal
 
 pub share_part-returns-in_default : goal.share_part-returns-in_default

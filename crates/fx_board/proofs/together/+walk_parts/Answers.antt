@@ -1,6 +1,6 @@
 use Rattle.fx_search.specs.SubtreeWalks.{IsWalked}
 use Rattle.fx_search.proofs.SubtreeSteps.{partly-start, partly-both, partly-walked, child-closed, child-ended}
-use Rattle.fx_board.proofs.Halves.{if-ok}
+use Rattle.fx_board.proofs.LotFacts.{if-ok}
 use Rattle.fx_board.proofs.together.+walk_parts.Goals as goal
 
 pub loop-parts-init : goal.loop-parts-init

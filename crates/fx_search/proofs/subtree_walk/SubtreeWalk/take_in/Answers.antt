@@ -1,4 +1,4 @@
-use Rattle.std.proofs.Common.{◌-◌, false, [], length, refl, subst, ap, arith}
+use Rattle.std.proofs.Common.{◌-◌, false, [], length, refl, subst, arith}
 use Rattle.fx_designs.specs.Problems.{Problem}
 use Rattle.fx_jobs.specs.Search.{search_tree, search_mark}
 use Rattle.fx_vectors.specs.Question.{problem_of}
@@ -14,11 +14,11 @@ returns-then-limit-len-2 c =
     let w : SubtreeWalk = c.args.self.now in
     let p : Problem = problem_of w.question.now in
     let rest = c.requires.rest in
-    let ends : Ends (search_tree p) (search_mark p) rest.own false (left_of w) w.prefix.rows Closed [] c.args.other.marks c.args.other.prefix.rows =
-    subst (λ z. Ends (search_tree p) (search_mark p) rest.own false (left_of w) w.prefix.rows z [] c.args.other.marks c.args.other.prefix.rows) c.in-Closed.is rest.ends in
+    let ends : Ends (search_tree p) (search_mark p) rest.own false (left_of w) w.prefix.rows Closed [] c.args.marks.now c.args.design.rows =
+    subst (λ z. Ends (search_tree p) (search_mark p) rest.own false (left_of w) w.prefix.rows z [] c.args.marks.now c.args.design.rows) c.in-Closed.is rest.ends in
     record {
       question = refl;
       shape = c.requires.inside.shape;
       inside = tt;
-      ends = closed-past (search_tree p) (search_mark p) c.args.limit rest.own (left_of w) w.prefix.rows w.marks c.args.other.marks c.args.other.prefix.rows (omega (arith, ap length c.into_parts-prefix.ensures.marks)) c.requires.fits ends;
+      ends = closed-past (search_tree p) (search_mark p) c.args.limit rest.own (left_of w) w.prefix.rows w.marks c.args.marks.now c.args.design.rows (omega arith) c.requires.fits ends;
     }

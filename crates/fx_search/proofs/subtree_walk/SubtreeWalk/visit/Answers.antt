@@ -8,7 +8,8 @@ use Rattle.fx_vectors.specs.Question.{problem_of}
 use Rattle.fx_search.specs.LotWalks.{below}
 use Rattle.fx_search.specs.Pruning.{size_of}
 use Rattle.fx_search.specs.Standing.{StandAt}
-use Rattle.fx_search.specs.SubtreeWalks.{IsDone, left_of, standing_without_best}
+use Rattle.fx_search.specs.Searchers.{standing_without_best}
+use Rattle.fx_search.specs.SubtreeWalks.{IsDone, left_of}
 use Rattle.fx_search.specs.declared.subtree_walk.SubtreeWalk.{SubtreeWalk}
 use Rattle.fx_search.proofs.Steps.{LeftFrom, left-init}
 use Rattle.fx_search.proofs.LotSteps.{all-below, follow-at}
