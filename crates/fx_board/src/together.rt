@@ -40,7 +40,10 @@ impl Parts {
     fn note(&mut self, nodes: u64) {
         self.before = nodes.max(self.before / 2);
         if nodes < self.few.saturating_mul(64) {
-            self.most = self.most.saturating_mul(4).min(self.few.saturating_mul(1_024));
+            self.most = self
+                .most
+                .saturating_mul(4)
+                .min(self.few.saturating_mul(1_024));
         } else if nodes > self.few.saturating_mul(256) {
             self.most = (self.most / 4).max(self.few);
         }
