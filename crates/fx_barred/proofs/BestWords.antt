@@ -1,11 +1,10 @@
 -- Best words, as rows come.
-use Rattle.std.proofs.Common.{ℕ, ◌≡◌, ◌≢◌, ◌<◌, ◌≤◌, ◌+◌, ◌*◌, ◌^◌, ◌⊎◌, zero, suc, Bool, true, false, cond, eqb, ◌&&◌, ◌||◌, List, [], ◌∷◌, ◌++◌, take, drop, set, length, get_or, slice_index, slice_index_or, Option, Some, None, length-append, length-take, take-append-drop, drop-cons, refl, sym, subst, ◌∙◌, ap, arith, inl, inr}
+use Rattle.std.proofs.Common.{ℕ, ◌≡◌, ◌<◌, ◌≤◌, ◌+◌, ◌*◌, ◌^◌, ◌⊎◌, zero, suc, Bool, true, false, cond, eqb, ◌&&◌, ◌||◌, List, [], ◌∷◌, ◌++◌, take, drop, set, length, slice_index, slice_index_or, Option, Some, None, length-append, take-append-drop, drop-cons, refl, sym, subst, ◌∙◌, ap, arith, inl, inr}
 use Rattle.std.specs.Prelude.{nat_lt, nat_le}
-use Rattle.std.specs.List.{AllByRecursion}
 use Rattle.std.proofs.Math.Nat.{pow-succ', mul-le-mul_left}
 use Rattle.std.proofs.lemmas.List.{get_or-set_other}
 use Rattle.std.proofs.lemmas.Grind.{get_or-set_at}
-use Rattle.std.proofs.lemmas.Bool.{cases_eq, cases_lt, eq-eqb, ne_eqb, eqb-true, ltb-true, lt-ltb, leb-true, le-leb, both_ways, and_parts, and_from, or_left, or_right}
+use Rattle.std.proofs.lemmas.Bool.{cases_eq, cases_lt, eq-eqb, eqb-true, ltb-true, lt-ltb, leb-true, le-leb, both_ways, and_parts, and_from, or_left, or_right}
 use Rattle.fx_designs.specs.Galois.{number, digits, IsField}
 use Rattle.fx_designs.specs.Vectors.{IsVector, weight, is_zero, plus, scale}
 use Rattle.fx_designs.specs.Problems.{Dimensions, Requirement}
@@ -14,8 +13,6 @@ use Rattle.fx_laws.proofs.Codes.{digits-vector}
 use Rattle.fx_laws.proofs.Reorders.{plus-comm}
 use Rattle.fx_laws.proofs.Ranks.{plus-assoc}
 use Rattle.fx_laws.proofs.Forms.{scale-one}
-use Rattle.fx_laws.proofs.Order.{each-append}
-use Rattle.fx_laws.proofs.Space.{plus-vector, scale-vector}
 use Rattle.fx_vectors.proofs.Balances.{either_true}
 use Rattle.fx_demands.proofs.Completing.{weight-cons, weight-append, mark-some}
 use Rattle.fx_demands.proofs.EffectVectors.{number-push, push-vector}
@@ -27,7 +24,7 @@ use Rattle.fx_barred.specs.FirstWords.{sum_to}
 use Rattle.fx_barred.specs.declared.best_words.Best.{Best}
 use Rattle.fx_barred.specs.BestWords.{BringsToZero, IsNoWorse, IsBestWord, IsBestOf, IsBest, IsWithin, is_better, preferred, with_code}
 use Rattle.fx_barred.proofs.Firsts.{sum-before, with-none}
-use Rattle.fx_barred.proofs.EffectBars.{sum-front, take-front}
+use Rattle.fx_barred.proofs.EffectBars.{sum-front}
 use Rattle.fx_barred.proofs.Longer.{row-last}
 use Rattle.fx_barred.proofs.Steps.{each-at}
 

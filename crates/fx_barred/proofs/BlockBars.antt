@@ -1,10 +1,10 @@
 -- Over the block rows: which rows are barred, and the closing word of a barred row.
-use Rattle.std.proofs.Common.{ℕ, ◌≡◌, ◌<◌, ◌≤◌, ◌+◌, ◌-◌, ◌*◌, ◌^◌, ◌⊎◌, zero, suc, Bool, true, false, cond, eqb, ◌||◌, List, [], ◌∷◌, ◌++◌, take, drop, length, get_or, Option, Some, None, length-append, length-take, take-append-drop, drop-cons, refl, sym, subst, ◌∙◌, ap, arith, inl, inr}
+use Rattle.std.proofs.Common.{ℕ, ◌≡◌, ◌<◌, ◌≤◌, ◌+◌, ◌-◌, ◌*◌, ◌^◌, ◌⊎◌, zero, suc, Bool, true, false, cond, ◌||◌, List, [], ◌∷◌, ◌++◌, take, drop, length, get_or, Option, Some, take-append-drop, drop-cons, refl, sym, subst, ◌∙◌, ap, arith, inl, inr}
 use Rattle.std.specs.Prelude.{unwrap_or}
 use Rattle.std.specs.List.{AllByRecursion}
-use Rattle.std.proofs.lemmas.Bool.{cases_eq, eq-eqb, ne_eqb, eqb-true}
+use Rattle.std.proofs.lemmas.Bool.{eq-eqb, ne_eqb, eqb-true}
 use Rattle.fx_designs.specs.Galois.{number, IsField}
-use Rattle.fx_designs.specs.Vectors.{IsVector, weight, zeros, is_zero, vectors_of, combination, is_normal, last_nonzero}
+use Rattle.fx_designs.specs.Vectors.{IsVector, weight, zeros, is_zero, vectors_of, combination, last_nonzero}
 use Rattle.fx_designs.specs.Problems.{Dimensions, Requirement}
 use Rattle.fx_designs.specs.Demands.{is_forbidden_word, is_allowed, must_balance, is_estimated}
 use Rattle.fx_designs.specs.Closing.{closing_word}
@@ -18,10 +18,9 @@ use Rattle.fx_demands.proofs.Closings.{last-top}
 use Rattle.fx_demands.proofs.Choice.{word_is, not_allowed, allowed}
 use Rattle.fx_demands.proofs.Supports.{take-vector}
 use Rattle.fx_points.specs.Sums.{sum_of}
-use Rattle.fx_points.proofs.Additions.{minus_of}
 use Rattle.fx_barred.specs.FirstWords.{sum_to}
 use Rattle.fx_barred.specs.declared.best_words.Best.{Best}
-use Rattle.fx_barred.specs.BestWords.{BringsToZero, IsNoWorse, IsBestWord}
+use Rattle.fx_barred.specs.BestWords.{BringsToZero, IsBestWord}
 use Rattle.fx_barred.proofs.EffectBars.{sum-front, take-front, drop-front, sum-below, to-minus, from-minus, zero-to, zero-from}
 use Rattle.fx_barred.proofs.BestWords.{take-before}
 use Rattle.fx_barred.proofs.Longer.{not_before, length-longer, fits-longer}

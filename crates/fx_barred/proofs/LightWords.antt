@@ -1,17 +1,17 @@
 -- Under a resolution, over all factor rows: the best word for a block row is the greatest of least weight that is reached.
-use Rattle.std.proofs.Common.{ℕ, ◌≡◌, ◌<◌, ◌≤◌, ◌+◌, ◌-◌, ◌/◌, ◌^◌, Bool, true, false, ◌&&◌, ◌||◌, List, ◌∷◌, ◌++◌, [], take, drop, length, refl, sym, subst, ◌∙◌, ap, arith, inl, inr}
+use Rattle.std.proofs.Common.{ℕ, ◌≡◌, ◌<◌, ◌≤◌, ◌+◌, ◌-◌, ◌/◌, ◌^◌, true, false, ◌&&◌, ◌||◌, List, ◌∷◌, ◌++◌, [], take, drop, length, sym, subst, ◌∙◌, ap, arith, inl, inr}
 use Rattle.std.specs.Prelude.{nat_lt, nat_le}
 use Rattle.std.specs.List.{AllByRecursion}
-use Rattle.std.proofs.lemmas.Bool.{cases_eq, cases_lt, eq-eqb, eqb-true, lt-ltb, leb-true, le-leb, both_ways, and_parts, and_from, or_left, or_right}
+use Rattle.std.proofs.lemmas.Bool.{cases_eq, cases_lt, eq-eqb, eqb-true, lt-ltb, leb-true, le-leb, and_parts, and_from, or_left, or_right}
 use Rattle.std.proofs.lemmas.List.{take_all}
 use Rattle.fx_designs.specs.Galois.{number, IsField}
-use Rattle.fx_designs.specs.Vectors.{IsVector, weight, is_zero, zeros}
+use Rattle.fx_designs.specs.Vectors.{weight, is_zero}
 use Rattle.fx_designs.specs.Problems.{Dimensions, Requirement, AtResolution}
 use Rattle.fx_designs.specs.Demands.{is_estimated, is_forbidden_word}
 use Rattle.fx_vectors.proofs.Balances.{either_true}
 use Rattle.fx_demands.specs.Completions.{IsCompletion, IsNoHit}
 use Rattle.fx_barred.specs.Reach.{reaches, greatest_word}
-use Rattle.fx_barred.specs.BestWords.{BringsToZero, IsNoWorse, IsBestWord}
+use Rattle.fx_barred.specs.BestWords.{BringsToZero, IsBestWord}
 use Rattle.fx_barred.proofs.Reach.{none_reached, greatest_reached}
 use Rattle.fx_barred.proofs.Bars.{reaches-before, word-before}
 use Rattle.fx_barred.proofs.BlockBars.{rest, front-is, rest-is, number-more, forbidden-is, whole-vector, closes, split, brings}

@@ -1,6 +1,6 @@
 -- Over all factor rows: the best of listed vectors that brings a point to zero.
-use Rattle.std.proofs.Common.{ℕ, ◌≡◌, ◌≢◌, ◌<◌, ◌≤◌, ◌+◌, ◌^◌, ◌⊎◌, ◌||◌, true, List, [], length, take, slice_index_or, Option, Some, None, refl, sym, subst, ◌∙◌, ap, arith, inl, inr}
-use Rattle.std.specs.Prelude.{All, Contains}
+use Rattle.std.proofs.Common.{ℕ, ◌≡◌, ◌≢◌, ◌<◌, ◌≤◌, ◌+◌, ◌^◌, ◌||◌, true, List, [], length, slice_index_or, Option, Some, None, refl, sym, subst, ◌∙◌, ap, arith, inl, inr}
+use Rattle.std.specs.Prelude.{All}
 use Rattle.std.proofs.lemmas.Bool.{cases_eq}
 use Rattle.std.proofs.lemmas.List.{take_all}
 use Rattle.fx_designs.specs.Galois.{number, digits, IsField}
@@ -15,7 +15,7 @@ use Rattle.fx_demands.specs.EffectVectors.{AreFactorParts}
 use Rattle.fx_points.proofs.Additions.{minus_of}
 use Rattle.fx_barred.specs.FirstWords.{sum_to}
 use Rattle.fx_barred.specs.declared.best_words.Best.{Best}
-use Rattle.fx_barred.specs.BestWords.{BringsToZero, IsNoWorse, IsBestWord, IsBestOf, IsBest, preferred}
+use Rattle.fx_barred.specs.BestWords.{BringsToZero, IsBestOf, IsBest, preferred}
 use Rattle.fx_barred.proofs.BestWords.{preferred-best, best-same}
 use Rattle.fx_barred.proofs.EffectBars.{to-minus, from-minus, sum-below}
 use Rattle.fx_barred.proofs.Tables.{at-any}

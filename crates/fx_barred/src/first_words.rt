@@ -24,7 +24,6 @@ use std::marker::Model;
 
 /// The rows so far, and for each point that may come next the first forbidden vector that it brings
 /// to zero. Clauses see the rows and the vectors.
-#[derive(Drop)]
 pub struct FirstWords {
     /// The rows and their multiples. No rows are taken together here.
     reached: Reached,
@@ -32,6 +31,17 @@ pub struct FirstWords {
     /// For each number of rows, and each sum over them, one more than the first vector that has it and
     /// its last factor right after these rows, or 0.
     tables: Vec<usize>,
+}
+
+// Not derived, so that a place that drops one is proved with one call.
+impl Drop for FirstWords {
+    fn drop(self) {
+        let FirstWords {
+            reached: _,
+            words: _,
+            tables: _,
+        } = self;
+    }
 }
 
 impl Model for FirstWords {

@@ -1,10 +1,13 @@
 -- Acts done one after another: acts and front parts of acts compose, over loops too.
-use Rattle.std.proofs.Common.{ℕ, ◌≡◌, ◌≤◌, ◌+◌, ◌++◌, length, List, [], ◌∷◌, map, take, drop, Option, Some, refl, sym, ◌∙◌, ap, subst, append_assoc}
+use Rattle.std.proofs.Common.{ℕ, ◌≡◌, ◌<◌, ◌≤◌, ◌+◌, ◌++◌, suc, get_or, length, List, [], ◌∷◌, map, take, drop, Option, Some, refl, sym, ◌∙◌, ap, subst, append_assoc}
 use Rattle.std.proofs.lemmas.List.{append-nil, take_all, map-append, take-append-drop}
 use Rattle.std.proofs.Math.Seq.{take-add}
 use Rattle.fx_base.specs.Faults.{IsUnchanged}
+use Rattle.fx_base.specs.Pieces.{joined}
 use Rattle.fx_base.specs.Writing.{Appends, AppendsPart}
 use Rattle.fx_base.specs.Acts.{Act, ListByte, BeginFile, FileByte, EndFile, File, listed, shelved, Shelves, ShelvesPart, Event, Piece, acts_of, acts, World, Did, DidPart}
+use Rattle.fx_base.proofs.Held.{one_more, split_at}
+use Rattle.fx_base.proofs.Joined.{joined-append}
 
 pub listed-append : (xs ys : List Act) → listed (xs ++ ys) ≡ listed xs ++ listed ys
 listed-append [] ys = refl
@@ -145,6 +148,29 @@ fill_part old mid new bytes from a same = subst (λ (l : List Act). ShelvesPart 
 pub fill_whole : (old new : Option (List File)) (bytes : List ℕ) (from : ℕ) → length bytes ≤ from
     → Shelves old new (map FileByte (take from bytes)) → Shelves old new (map FileByte bytes)
 fill_whole old new bytes from all a = subst (λ (l : List ℕ). Shelves old new (map FileByte l)) (take_all from bytes all) a
+
+-- the loop that fills a file from pieces
+pub pieces_more : (old mid new : Option (List File)) (pieces : List (List ℕ)) (i : ℕ) (piece : List ℕ) → i < length pieces → piece ≡ get_or pieces i piece
+    → Shelves old mid (map FileByte (joined (take i pieces))) → Shelves mid new (map FileByte piece)
+    → Shelves old new (map FileByte (joined (take (i + 1) pieces)))
+pieces_more old mid new pieces i piece there is a b = subst (λ (l : List Act). Shelves old new l)
+    (sym (map-append FileByte (joined (take i pieces)) piece)
+    ∙ ap (map FileByte) (one_more joined joined-append pieces i piece [] (joined (take i pieces)) (joined (take i pieces) ++ piece) there is refl
+    (ap (λ (l : List ℕ). joined (take i pieces) ++ l) (sym (append-nil piece)))))
+    (shelves_more old mid new _ _ a b)
+
+pub pieces_part : (old mid new : Option (List File)) (pieces : List (List ℕ)) (i : ℕ) (piece : List ℕ) → i < length pieces → piece ≡ get_or pieces i piece
+    → Shelves old mid (map FileByte (joined (take i pieces))) → ShelvesPart mid new (map FileByte piece)
+    → ShelvesPart old new (map FileByte (joined pieces))
+pieces_part old mid new pieces i piece there is a b =
+    let before : List ℕ = joined (take i pieces) in
+    let after : List ℕ = joined (drop (suc i) pieces) in
+    subst (λ (l : List Act). ShelvesPart old new l)
+    (ap (λ (l : List Act). map FileByte before ++ l) (sym (map-append FileByte piece after))
+    ∙ sym (map-append FileByte before (piece ++ after))
+    ∙ ap (λ (l : List ℕ). map FileByte (before ++ (l ++ after))) (sym (append-nil piece))
+    ∙ ap (map FileByte) (split_at joined joined-append pieces i piece there is))
+    (shelves_part_more old mid new (map FileByte before) _ a (shelves_part_first mid new (map FileByte piece) (map FileByte after) b))
 
 pub listed-file : (bytes : List ℕ) → listed (map FileByte bytes ++ EndFile ∷ []) ≡ []
 listed-file [] = refl

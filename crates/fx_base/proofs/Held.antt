@@ -43,7 +43,7 @@ module _ {A T : Type 0} (text : List A → List T) (joins : (xs ys : List A) →
       ∙ ap (λ (l : List T). old ++ l) (sym (joins (take i xs) (x ∷ [])))
       ∙ ap (λ (l : List A). old ++ text l) (ap (λ (y : A). take i xs ++ y ∷ []) is ∙ sym (take_more xs i x there))
 
-  split_at : (xs : List A) (i : ℕ) (x : A) → i < length xs → x ≡ get_or xs i x
+  pub split_at : (xs : List A) (i : ℕ) (x : A) → i < length xs → x ≡ get_or xs i x
       → text (take i xs) ++ (text (x ∷ []) ++ text (drop (suc i) xs)) ≡ text xs
   split_at xs i x there is =
       ap (λ (l : List T). text (take i xs) ++ l) (sym (joins (x ∷ []) (drop (suc i) xs)))

@@ -1,8 +1,7 @@
 -- Lists that are held in pieces: where a value stands, and how more values are added.
-use Rattle.std.proofs.Common.{ℕ, ◌≡◌, ◌≢◌, ◌<◌, ◌≤◌, ◌+◌, ◌-◌, ◌/◌, ◌%◌, zero, suc, List, [], ◌∷◌, ◌++◌, length, take, set, get_or, length-append, append_assoc, append-nil, add_assoc, add-one, zero-add, get_or-append-add, refl, sym, subst, ◌∙◌, ap, arith, inl, inr}
-use Rattle.std.proofs.Math.Seq.{take-append-add}
+use Rattle.std.proofs.Common.{ℕ, ◌≡◌, ◌≢◌, ◌<◌, ◌≤◌, ◌+◌, ◌-◌, ◌/◌, ◌%◌, zero, suc, List, [], ◌∷◌, ◌++◌, length, set, get_or, length-append, append_assoc, append-nil, get_or-append-add, refl, sym, subst, ◌∙◌, ap, arith, inl, inr}
 use Rattle.std.proofs.lemmas.Bool.{cases_lt}
-use Rattle.std.proofs.lemmas.List.{get_or_default, take-append-le}
+use Rattle.std.proofs.lemmas.List.{get_or_default}
 use Rattle.fx_base.specs.Pieces.{ArePieces, joined}
 
 module _ {T : Type 0} where

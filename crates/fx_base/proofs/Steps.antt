@@ -92,3 +92,10 @@ read_rest_more left mid now bytes buffer n a b = record {
   taken = length bytes + n;
   exposed = λ text e. (b.exposed (drop (length bytes) text) (a.exposed text e).rest).rest ∙ ap Some (drop-drop n (length bytes) text);
 }
+
+-- the same after a call that failed
+pub read_rest_failed : (left mid now : Option (List ℕ)) (bytes : List ℕ) → HasRead left mid bytes → IsUnchanged mid now → LeavesRest left now
+read_rest_failed left mid now bytes a same = record {
+  taken = length bytes;
+  exposed = λ text e. same.exposed (drop (length bytes) text) (a.exposed text e).rest;
+}

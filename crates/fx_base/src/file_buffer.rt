@@ -11,12 +11,23 @@ use std::marker::Model;
 pub const FILE_ROOM: usize = 64;
 
 /// Files that lie one after another in one buffer, whose memory is taken when it is made.
-#[derive(Drop)]
 pub struct FileBuffer {
     bytes: Vec<u8>,
     bounds: Vec<FileBounds>,
     used: usize,
     room: usize,
+}
+
+// Not derived, so that a place that drops one is proved with one call.
+impl Drop for FileBuffer {
+    fn drop(self) {
+        let FileBuffer {
+            bytes: _,
+            bounds: _,
+            used: _,
+            room: _,
+        } = self;
+    }
 }
 
 impl Model for FileBuffer {

@@ -40,4 +40,4 @@ pub use sure_sink::SureSink;
 pub use sure_source::SureSource;
 pub use text::{put, put_number};
 pub use values::{Bytes, Values};
-pub use writing::{shelve, write_all};
+pub use writing::{shelve, shelve_pieces, write_all};

@@ -14,11 +14,21 @@ use std::marker::Model;
 
 /// A shelf in memory that fails exactly at listed calls and where its room is used up. A byte takes
 /// one byte of the room, and a begun file takes 64.
-#[derive(Drop)]
 pub struct MemoryShelf {
     shelf: SureShelf,
     calls: ListedCalls,
     faults: u64,
+}
+
+// Not derived, so that a place that drops one is proved with one call.
+impl Drop for MemoryShelf {
+    fn drop(self) {
+        let MemoryShelf {
+            shelf: _,
+            calls: _,
+            faults: _,
+        } = self;
+    }
 }
 
 impl Model for MemoryShelf {

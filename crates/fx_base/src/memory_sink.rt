@@ -13,11 +13,21 @@ use std::alloc::Global;
 use std::marker::Model;
 
 /// A sink in memory that fails exactly at listed calls and where its room is used up.
-#[derive(Drop)]
 pub struct MemorySink {
     sink: SureSink,
     calls: ListedCalls,
     faults: u64,
+}
+
+// Not derived, so that a place that drops one is proved with one call.
+impl Drop for MemorySink {
+    fn drop(self) {
+        let MemorySink {
+            sink: _,
+            calls: _,
+            faults: _,
+        } = self;
+    }
 }
 
 impl Model for MemorySink {

@@ -11,11 +11,21 @@ use crate::values::Bytes;
 use std::marker::Model;
 
 /// A source in memory that fails exactly at listed calls.
-#[derive(Drop)]
 pub struct MemorySource {
     source: SureSource,
     calls: ListedCalls,
     faults: u64,
+}
+
+// Not derived, so that a place that drops one is proved with one call.
+impl Drop for MemorySource {
+    fn drop(self) {
+        let MemorySource {
+            source: _,
+            calls: _,
+            faults: _,
+        } = self;
+    }
 }
 
 impl Model for MemorySource {

@@ -10,10 +10,16 @@ const PIECE: usize = 65536;
 
 /// Values in order, held in pieces that stay where they are: a list of millions grows without being
 /// copied, and never needs twice its memory. Clauses see the list.
-#[derive(Drop)]
 pub struct Pieces<T> {
     pieces: Vec<Values<T>>,
     len: usize,
+}
+
+// Not derived, so that a place that drops one is proved with one call.
+impl<T: Drop> Drop for Pieces<T> {
+    fn drop(self) {
+        let Pieces { pieces: _, len: _ } = self;
+    }
 }
 
 impl<T> Model for Pieces<T> {

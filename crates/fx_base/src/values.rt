@@ -5,9 +5,15 @@ use std::alloc::Global;
 use std::marker::Model;
 
 /// Values in order, which are copied. Clauses see the list.
-#[derive(Drop)]
 pub struct Values<T> {
     inner: Vec<T>,
+}
+
+// Not derived, so that a place that drops one is proved with one call.
+impl<T: Drop> Drop for Values<T> {
+    fn drop(self) {
+        let Values { inner: _ } = self;
+    }
 }
 
 impl<T> Model for Values<T> {
@@ -50,7 +56,8 @@ impl<T> Values<T> {
     pub fn into_vec(self) -> Vec<T>
         ensures { result.items ≡ self }
     {
-        self.inner
+        let Values { inner } = self;
+        inner
     }
 
     pub fn len(&self) -> usize

@@ -2,10 +2,12 @@ ghost use Rattle.std.specs.Prelude.{◌≡◌, ◌≤◌, length, map, true, fal
 ghost use Rattle.fx_base.specs.Faults.{HasCause};
 ghost use Rattle.fx_base.specs.Writing.{Appends, AppendsPart};
 ghost use Rattle.fx_base.specs.Acts.{Shelves, ShelvesPart, acts_of, WholeFile, FileByte};
+ghost use Rattle.fx_base.specs.Pieces.{joined};
 
 use crate::failed::Failed;
 use crate::shelf::Shelf;
 use crate::sink::Sink;
+use crate::values::Bytes;
 
 /// Writes the whole piece. After a failed call a prefix of it was appended, and no further call
 /// is made.
@@ -38,6 +40,41 @@ pub fn shelve<F: Shelf>(shelf: &mut F, name: &[u8], content: &[u8]) -> Result<()
     shelf.begin(name)?;
     fill(shelf, content)?;
     shelf.end()?;
+    Ok(())
+}
+
+/// The same of a file whose content is these pieces, one after another.
+pub fn shelve_pieces<F: Shelf>(shelf: &mut F, name: &[u8], pieces: &[Bytes]) -> Result<(), Failed>
+    requires none { F.begun shelf.old ≡ false }
+    requires name { (1 ≤ length name.now) × (length name.now ≤ 64) }
+    ensures done { OnOk result
+        (Shelves (F.files shelf.old) (F.files shelf.new) (acts_of (WholeFile name.now (joined pieces.now)))) }
+    ensures state { OnOk result (F.begun shelf.new ≡ false) }
+    ensures part { ShelvesPart (F.files shelf.old) (F.files shelf.new)
+        (acts_of (WholeFile name.now (joined pieces.now))) }
+    ensures cause { HasCause (F.faults shelf.old) (F.faults shelf.new) result }
+    ensures unchanged { F.room shelf.new ≡ F.room shelf.old }
+{
+    shelf.begin(name)?;
+    fill_from(shelf, pieces)?;
+    shelf.end()?;
+    Ok(())
+}
+
+/// Appends the bytes of these pieces, one after another, to the file that is begun.
+fn fill_from<F: Shelf>(shelf: &mut F, pieces: &[Bytes]) -> Result<(), Failed>
+    requires { F.begun shelf.old ≡ true }
+    ensures done { OnOk result
+        (Shelves (F.files shelf.old) (F.files shelf.new) (map FileByte (joined pieces.now))) }
+    ensures state { OnOk result (F.begun shelf.new ≡ true) }
+    ensures part { ShelvesPart (F.files shelf.old) (F.files shelf.new)
+        (map FileByte (joined pieces.now)) }
+    ensures cause { HasCause (F.faults shelf.old) (F.faults shelf.new) result }
+    ensures unchanged { F.room shelf.new ≡ F.room shelf.old }
+{
+    for piece in pieces {
+        fill(shelf, piece.as_slice())?;
+    }
     Ok(())
 }
 

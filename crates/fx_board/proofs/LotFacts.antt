@@ -1,8 +1,8 @@
 -- The jobs of a lot, by their numbers.
 use Rattle.std.proofs.Common.{◌≡◌, ℕ, zero, suc, ◌<◌, ◌≤◌, ◌+◌, ◌^◌, Bool, true, false, List, [], ◌∷◌, ◌++◌, map, length, get_or, slice_index, refl, sym, subst, ap, ◌∙◌, inl, inr, ⊎_elim, arith, length-append, append_assoc, take_all, cond, Ok, Err}
-use Rattle.std.specs.Prelude.{IfOk, IfNone, Result, Option, Some, None}
+use Rattle.std.specs.Prelude.{IfOk, IfNone, Result, Option, Some, None, ◌&&◌, not, nat_lt}
 use Rattle.std.specs.List.{AllByRecursion, filter}
-use Rattle.std.proofs.lemmas.Bool.{cases_lt}
+use Rattle.std.proofs.lemmas.Bool.{cases_lt, and_parts, not-true, ltb-true}
 use Rattle.std.proofs.lemmas.List.{take-append-le}
 use Rattle.fx_designs.specs.Galois.{IsField}
 use Rattle.fx_designs.specs.Problems.{Problem}
@@ -18,7 +18,8 @@ use Rattle.fx_vectors.specs.declared.question.Question.{Question}
 use Rattle.fx_vectors.specs.Question.{IsValid, problem_of}
 use Rattle.fx_search.specs.Folds.{IsLot, IsEndUnder, AreEnds}
 use Rattle.fx_search.specs.JobEnds.{IsJobEnd, IsSized}
-use Rattle.fx_search.specs.LotWalks.{AreNextRows, AreSized, IsAtLot, rows_below}
+use Rattle.fx_search.specs.LotWalks.{AreNextRows, AreSized, IsAtLot, has_open_job, rows_below}
+use Rattle.fx_search.specs.Pruning.{allows}
 use Rattle.fx_search.specs.Searchers.{IsAt, IsReadyAfter}
 use Rattle.fx_search.specs.Standing.{kept_rows, rows_of, HasDimensions}
 use Rattle.fx_search.specs.declared.lot_walk.LotWalk.{LotWalk}
@@ -70,6 +71,13 @@ if-ok (Err y) P Q f h = tt
 pub if-none : {X : Type 0} (o : Option X) (P Q : Type 0) → (P → Q) → IfNone o P → IfNone o Q
 if-none None P Q f h = f h
 if-none (Some x) P Q f h = tt
+
+-- an open job is of a question without a least pattern, allowed, and not whole
+pub open-job : (question : Question) (l : List ℕ) (row : ℕ) → has_open_job question l row ≡ true → (question.least ≡ false) × ((allows (problem_of question) l row ≡ true) × (question.shape.m + 2 < question.shape.s + question.shape.t))
+open-job question l row h =
+    let first = and_parts (not question.least) (nat_lt (question.shape.m + 2) (question.shape.s + question.shape.t) && allows (problem_of question) l row) h in
+    let more = and_parts (nat_lt (question.shape.m + 2) (question.shape.s + question.shape.t)) (allows (problem_of question) l row) first.1 in
+    (not-true question.least first.0, (more.1, ltb-true (question.shape.m + 2) (question.shape.s + question.shape.t) more.0))
 
 -- the question of a searcher that can enter a lot
 pub question-is : (question : Question) (l : List ℕ) (s : Searcher) → CanEnter question l s → s.question.now ≡ question

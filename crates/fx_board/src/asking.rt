@@ -10,7 +10,7 @@ ghost use Rattle.fx_board.specs.Sharing.{AreReady, AllAreClosed};
 use crate::gate::Gate;
 use crate::lot_jobs::ends_of_lot;
 use crate::sharing::Worked;
-use crate::together::work_together;
+use crate::together::{first_part, work_together};
 use crate::worker::closed_nodes;
 use fx_base::{Items, NoMemory};
 use fx_demands::pair_count;
@@ -34,8 +34,9 @@ const FIRST_JOBS: usize = 16;
 const PAIR: u64 = 64;
 
 /// How many nodes of a lot the caller's thread walks alone, before the next jobs are shared out: of the first
-/// lot, and wherever the lot before, or the jobs that were shared last, had fewer than `later` nodes. Of a job
-/// that is walked by all threads together, a part is shared where the parts before had at least `later`.
+/// lot, and wherever the lot before, or the jobs that were shared last, had fewer than `later` nodes. Where a
+/// job is walked by all threads together, none is walked alone before it, and a part of it is shared where the
+/// parts before had at least `later`.
 #[derive(Clone, Copy)]
 pub struct Alone {
     pub first: u64,
@@ -49,10 +50,9 @@ struct Pace {
     alone: u64,
     /// The same where those before were fewer than this.
     later: u64,
-    /// Whether nothing is known yet of the jobs of the question.
+    /// Whether no jobs were shared yet.
     begins: bool,
-    /// Whether the next job is walked by all threads together where it is open, which ends with the first that
-    /// has few nodes.
+    /// Whether each open job is walked by all threads together, which ends with the first that has few nodes.
     together: bool,
 }
 
@@ -61,7 +61,7 @@ impl Pace {
     fn of(alone: Alone, question: &Question) -> Pace {
         // For effects each walk would list the forbidden vectors anew.
         let together = match question.demands {
-            Demands::Resolution { .. } => true,
+            Demands::Resolution { .. } => !question.least,
             Demands::Effects { .. } => false,
         };
         Pace {
@@ -72,17 +72,32 @@ impl Pace {
         }
     }
 
-    /// How many jobs at most are shared next.
+    /// How many jobs at most are handed out next.
     fn jobs(&self) -> usize
-        ensures { 0 < result }
+        ensures some { 0 < result }
+        ensures one { self.now.together ≡ true → result ≡ 1 }
     {
-        if self.begins { FIRST_JOBS } else { JOBS }
+        if self.together {
+            1
+        } else if self.begins {
+            FIRST_JOBS
+        } else {
+            JOBS
+        }
     }
 
     /// After a lot, or jobs that were shared, of so many nodes.
     fn note(&mut self, nodes: u64) {
-        self.alone = if nodes < self.later { self.later } else { 0 };
-        self.begins = false;
+        if !self.together {
+            self.alone = if nodes < self.later { self.later } else { 0 };
+            self.begins = false;
+        }
+    }
+
+    /// After a job of so many nodes that was walked by all threads together.
+    fn note_together(&mut self, nodes: u64) {
+        // Jobs of no more than one part are better worked off side by side.
+        self.together = nodes >= first_part(self.later);
     }
 }
 
@@ -227,8 +242,9 @@ struct LotDone<'a> {
     workers: Vec<Searcher<'a>>,
 }
 
-/// Works off the lot that the walk is at: by turns nodes of it by the caller's thread alone, as many as the
-/// pace has them, and its next jobs by as many threads as there are of them, at most `threads`.
+/// Works off the lot that the walk is at: by turns jobs of it by the caller's thread alone, as the pace has
+/// them, and its next jobs by as many threads as there are of them, at most `threads`, or an open job by all
+/// threads together.
 fn work_off<'a, R: Threads + Sync, G: Gate>(
     rt: &R,
     alloc: Global,
@@ -250,7 +266,7 @@ fn work_off<'a, R: Threads + Sync, G: Gate>(
 {
     let mut workers = workers;
     loop {
-        match walk.work(pace.alone)? {
+        match work_alone(walk, pace)? {
             Some(asked) => return Ok(LotDone {
                 asked: Some(asked),
                 workers,
@@ -284,7 +300,22 @@ fn work_off<'a, R: Threads + Sync, G: Gate>(
     }
 }
 
-/// Works off the next jobs of the lot that the walk is at, or the first of them by all threads together.
+/// Works off jobs of the lot that the walk is at by the caller's thread alone.
+fn work_alone(walk: &mut LotWalk, pace: &Pace) -> Result<Option<Asked>, NoMemory>
+    requires { IsAtLot walk.old }
+    ensures question { walk.new.question ≡ walk.old.question }
+    ensures limit { walk.new.limit ≡ walk.old.limit }
+    ensures bound { IfOk result (λ asked. IfNone asked (walk.new.bound ≤ walk.old.bound)) }
+    ensures worked { IfOk result (IsWorked walk.old.question.now walk.old.limit (length walk.old.marks) walk.new) }
+{
+    if pace.together {
+        walk.work_to_open_job()
+    } else {
+        walk.work(pace.alone)
+    }
+}
+
+/// Works off the next jobs of the lot that the walk is at, or an open job by all threads together.
 fn work_next<'a, R: Threads + Sync, G: Gate>(
     rt: &R,
     alloc: Global,
@@ -300,6 +331,7 @@ fn work_next<'a, R: Threads + Sync, G: Gate>(
     requires at { IsAtLot walk.old }
     requires next { AreNextRows (problem_of walk.old.question.now) walk.old.prefix.rows walk.old.bound jobs.now.rows jobs.now.end }
     requires some { 0 < length jobs.now.rows }
+    requires one { pace.old.together ≡ true → length jobs.now.rows ≡ 1 }
     requires workers { length workers.items ≤ 64 }
     requires start { AreReady (IsAtStart question.now) workers.items }
     requires threads { (0 < threads) × (threads ≤ 64) }
@@ -310,16 +342,11 @@ fn work_next<'a, R: Threads + Sync, G: Gate>(
     ensures workers { IfOk result (λ done. length done.workers.items ≤ 64) }
     ensures start { IfOk result (λ done. AreReady (IsAtStart question.now) done.workers.items) }
 {
-    if pace.together && walk.left() > 0 {
-        let job = walk.next_jobs(1)?;
-        if walk.has_open_job(job.rows.get(0)) {
-            let before = walk.nodes();
-            let asked = share_job(rt, alloc, question, walk, &job, threads, pace.later)?;
-            // Jobs of fewer nodes are better worked off side by side.
-            let many = pace.later.saturating_mul(16);
-            pace.together = walk.nodes().saturating_sub(before) >= many;
-            return Ok(LotDone { asked, workers });
-        }
+    if pace.together && walk.left() > 0 && walk.has_open_job(jobs.rows.get(0)) {
+        let before = walk.nodes();
+        let asked = share_job(rt, alloc, question, walk, jobs, threads, pace.later)?;
+        pace.note_together(walk.nodes().saturating_sub(before));
+        return Ok(LotDone { asked, workers });
     }
     share_jobs(rt, alloc, question, walk, jobs, workers, threads, gate)
 }

@@ -1,6 +1,8 @@
 mod Splits
 mod Numbers
 mod Lines
+mod Ranges
+mod Joins
 pub mod Listed
 mod Askable
 mod Back

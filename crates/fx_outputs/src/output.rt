@@ -18,7 +18,6 @@ use fx_text::{Lexeme, Names, ParseStop, Phrase, Statement};
 use std::alloc::Global;
 
 /// A file that a step writes.
-#[derive(Drop)]
 pub struct OutputSpec {
     /// The OUT name, as it is written.
     pub name: Bytes,
@@ -34,6 +33,21 @@ pub struct OutputSpec {
     pub block_name: Bytes,
     /// The values of the block column, empty where the text has none.
     pub block_values: Names,
+}
+
+// Not derived, so that a place that drops one is proved with one call.
+impl Drop for OutputSpec {
+    fn drop(self) {
+        let OutputSpec {
+            name: _,
+            pointrep: _,
+            designrep: _,
+            shuffle: _,
+            recodes: _,
+            block_name: _,
+            block_values: _,
+        } = self;
+    }
 }
 
 /// The files that a step writes, in order.

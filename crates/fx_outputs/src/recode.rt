@@ -11,12 +11,21 @@ use fx_text::{Lexeme, Names, ParseStop, Phrase, Refusal, place_of};
 use std::alloc::Global;
 
 /// A factor that has values of its own.
-#[derive(Drop)]
 pub struct Recode {
     /// Its place among the step's factors, from 1.
     pub place: u8,
     /// A value for each level, in order.
     pub values: Names,
+}
+
+// Not derived, so that a place that drops one is proved with one call.
+impl Drop for Recode {
+    fn drop(self) {
+        let Recode {
+            place: _,
+            values: _,
+        } = self;
+    }
 }
 
 /// The recoded factors of a statement, in its order.

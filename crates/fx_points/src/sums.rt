@@ -10,7 +10,6 @@ use std::marker::Model;
 
 /// The sums of points of m codes, which are given by their numbers. Where q is odd, the codes are
 /// taken in two parts, and a table has the sums of each part. Clauses see q and m.
-#[derive(Drop)]
 pub struct Sums {
     field: Field,
     m: u8,
@@ -30,6 +29,27 @@ pub struct Sums {
     upper: Vec<u16>,
     /// Minus each point.
     opposite: Vec<u16>,
+}
+
+// Not derived, so that a place that drops one is proved with one call.
+impl Drop for Sums {
+    fn drop(self) {
+        let Sums {
+            field: _,
+            m: _,
+            even: _,
+            size: _,
+            blocks: _,
+            half: _,
+            width: _,
+            height: _,
+            low: _,
+            high: _,
+            lower: _,
+            upper: _,
+            opposite: _,
+        } = self;
+    }
 }
 
 impl Model for Sums {

@@ -5,17 +5,19 @@ ghost use Rattle.fx_plan.specs.Steps.{IsDesignOf};
 ghost use Rattle.fx_program.specs.Files.{book_files, book_name, file_name, plan_files};
 ghost use Rattle.fx_program.specs.Output.{Shelved, ShelvedPart};
 ghost use Rattle.fx_program.specs.Stops.{HasCause};
+ghost use Rattle.fx_program.specs.Words.{AreThreads};
 
 use crate::stop::Stop;
 use crate::words::append;
 use arrayvec::ArrayVec;
-use fx_base::{Bytes, Shelf, shelve};
-use fx_book::write_book;
+use fx_base::{Shelf, shelve, shelve_pieces};
+use fx_book::book_pieces;
 use fx_plan::plan;
 use fx_statements::{Outcome, Step};
 use fx_vectors::{Books, Matrix};
 use itoa::Buffer;
 use std::alloc::Global;
+use std::thread::Threads;
 
 /// The greatest length of a plan's name: an OUT name of 32 bytes, and `.csv`.
 const PLAN_NAME: usize = 36;
@@ -24,15 +26,18 @@ const PLAN_NAME: usize = 36;
 const BOOK_NAME: usize = 64;
 
 /// Shelves the files of the step of this number with this outcome: its books in the order of their
-/// questions, then its plans in the order of its OUTPUT statements.
-pub(crate) fn shelve_files<F: Shelf>(
+/// questions, then its plans in the order of its OUTPUT statements. A book is put together by so many threads.
+pub(crate) fn shelve_files<R: Threads + Sync, F: Shelf>(
+    rt: &R,
     alloc: Global,
+    threads: u8,
     number: usize,
     step: &Step,
     outcome: &Outcome,
     seed: u64,
     shelf: &mut F,
 ) -> Result<(), Stop>
+    requires threads { AreThreads threads }
     requires outcome { IsOutcome (meaning_of step.now) outcome.now }
     requires ended { F.begun shelf.old ≡ false }
     ensures done { OnOk result
@@ -46,17 +51,20 @@ pub(crate) fn shelve_files<F: Shelf>(
     ensures cause { HasCause (F.faults shelf.old ∷ []) (F.faults shelf.new ∷ []) result }
     ensures room { F.room shelf.new ≡ F.room shelf.old }
 {
-    shelve_books(alloc, number, &outcome.books, shelf)?;
+    shelve_books(rt, alloc, threads, number, &outcome.books, shelf)?;
     shelve_plans(alloc, step, outcome, seed, shelf)
 }
 
 /// Shelves the books of the step of this number.
-fn shelve_books<F: Shelf>(
+fn shelve_books<R: Threads + Sync, F: Shelf>(
+    rt: &R,
     alloc: Global,
+    threads: u8,
     number: usize,
     books: &Books,
     shelf: &mut F,
 ) -> Result<(), Stop>
+    requires threads { AreThreads threads }
     requires ended { F.begun shelf.old ≡ false }
     ensures done { OnOk result
         (Shelved (book_files number books.now) (F.files shelf.old) (F.files shelf.new)) }
@@ -68,9 +76,8 @@ fn shelve_books<F: Shelf>(
 {
     for named in books.as_slice() {
         let name = book_name(number, named.question);
-        let mut content = Bytes::new(alloc);
-        write_book(&named.book, &mut content)?;
-        shelve(shelf, name.as_slice(), content.as_slice())?;
+        let pieces = book_pieces(rt, alloc, &named.book, threads)?;
+        shelve_pieces(shelf, name.as_slice(), pieces.as_slice())?;
     }
     Ok(())
 }

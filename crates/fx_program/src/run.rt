@@ -214,7 +214,7 @@ fn run_step<R: Threads + Sync, K: Sink, F: Shelf>(
     ensures closed { OnOk result (F.begun shelf.new ≡ false) }
 {
     let outcome = answer(rt, alloc, step, threads, &FreeGate)?;
-    shelve_files(alloc, number, step, &outcome, seed, shelf)?;
+    shelve_files(rt, alloc, threads, number, step, &outcome, seed, shelf)?;
     let mut lines = lines_of(alloc, number, step, &outcome)?;
     put_output_lines(&mut lines, step, &outcome, seed)?;
     list(listing, lines.as_slice(), status_of(outcome.end))

@@ -1,5 +1,5 @@
 -- Where a walk from lot to lot is, and what it answers.
-use Rattle.std.specs.Prelude.{ℕ, suc, zero, ◌≡◌, ◌<◌, ◌≤◌, ◌+◌, ◌-◌, ◌⊎◌, ◌&&◌, ◌||◌, false, true, Bool, List, [], ◌∷◌, ◌++◌, map, take, drop, filter, length, Option, Some, None}
+use Rattle.std.specs.Prelude.{ℕ, suc, zero, ◌≡◌, ◌<◌, ◌≤◌, ◌+◌, ◌-◌, ◌⊎◌, ◌&&◌, ◌||◌, not, nat_lt, false, true, Bool, List, [], ◌∷◌, ◌++◌, map, take, drop, filter, length, Option, Some, None}
 use Rattle.std.specs.List.{list_any, flat_map}
 use Rattle.fx_designs.specs.Problems.{Problem}
 use Rattle.fx_designs.specs.Answers.{falling}
@@ -13,7 +13,7 @@ use Rattle.fx_vectors.specs.Matrix.{MatrixView}
 use Rattle.fx_vectors.specs.Shape.{dimensions_of}
 use Rattle.fx_vectors.specs.declared.question.Question.{Question}
 use Rattle.fx_vectors.specs.Question.{IsValid, problem_of}
-use Rattle.fx_search.specs.Pruning.{size_of, count_of_rows}
+use Rattle.fx_search.specs.Pruning.{size_of, count_of_rows, allows}
 use Rattle.fx_search.specs.Standing.{StandAt, FitsDimensions, kept_rows}
 use Rattle.fx_search.specs.Searchers.{standing_in}
 use Rattle.fx_search.specs.Asked.{IsAnswer, IsNoneAtAll}
@@ -50,6 +50,10 @@ jobs_by lot rows = map (λ r. lot ++ r ∷ []) rows
 pub record AreNextRows (p : Problem) (rows : List ℕ) (bound : ℕ) (next : List ℕ) (end : ℕ) : Type 0 where
   pub part : next ++ rows_below p rows end ≡ rows_below p rows bound
   pub low : end ≤ bound
+
+-- whether the job of a lot by this row is allowed and not whole, and no least pattern is asked
+abbrev pub has_open_job : Question → List ℕ → ℕ → Bool
+has_open_job question lot row = not question.least && (nat_lt (question.shape.m + 2) (question.shape.s + question.shape.t) && allows (problem_of question) lot row)
 
 -- the candidates from the children by such rows on
 abbrev pub below : Problem → List ℕ → ℕ → List (List ℕ)

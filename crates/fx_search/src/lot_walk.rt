@@ -11,7 +11,7 @@ ghost use Rattle.fx_search.specs.Standing.{StandAt, HasDimensions, FitsDimension
 ghost use Rattle.fx_search.specs.Ends.{IsFound, IsClosed, IsSpent, IsCarried};
 ghost use Rattle.fx_search.specs.Folds.{AreEnds};
 ghost use Rattle.fx_search.specs.Searchers.{standing_in};
-ghost use Rattle.fx_search.specs.LotWalks.{rows_below, jobs_by, AreNextRows, IsWorked, IsNoneBelow, IsNextRow, IsPlaced, WalkIsSoFar, WalkIsThrough, IsOneNodeOn, IsAtLot, IsBetween, IsRight, IsStep, IsOfLot, AreSized, AreAddable, IsAdded, candidates_of};
+ghost use Rattle.fx_search.specs.LotWalks.{rows_below, jobs_by, AreNextRows, IsWorked, IsNoneBelow, IsNextRow, IsPlaced, WalkIsSoFar, WalkIsThrough, IsOneNodeOn, IsAtLot, IsBetween, IsRight, IsStep, IsOfLot, AreSized, AreAddable, IsAdded, candidates_of, has_open_job};
 
 use crate::asking::{Asked, closed, kept};
 use crate::barred::Barred;
@@ -30,7 +30,6 @@ use std::mem;
 
 /// A search that walks the prefixes of at most m + 1 rows by itself, and leaves the jobs of each lot to
 /// others: their ends, in order, are folded into it. It answers what a search by one thread does.
-#[derive(Drop)]
 pub struct LotWalk<'a> {
     alloc: Global,
     question: &'a Question,
@@ -44,6 +43,24 @@ pub struct LotWalk<'a> {
     earlier: Option<Best>,
     marks: Marks,
     limit: usize,
+}
+
+// Not derived, so that a place that drops one is proved with one call.
+impl Drop for LotWalk<'_> {
+    fn drop(self) {
+        let LotWalk {
+            alloc: _,
+            question: _,
+            candidates: _,
+            pruner: _,
+            incumbent: _,
+            prefix: _,
+            bound: _,
+            earlier: _,
+            marks: _,
+            limit: _,
+        } = self;
+    }
 }
 
 /// How far a walk from lot to lot has come.
@@ -189,13 +206,7 @@ impl<'a> LotWalk<'a> {
     pub fn has_open_job(&self, row: u16) -> bool
         requires at { IsAtLot self.now }
         requires below { row < count_of_rows (problem_of self.now.question.now) }
-        ensures plain { result ≡ true → self.now.question.now.least ≡ false }
-        ensures open_ { result ≡ true → allows (problem_of self.now.question.now) self.now.prefix.rows row ≡ true }
-        ensures part { result ≡ true → self.now.question.now.shape.m + 2 < self.now.question.now.shape.s + self.now.question.now.shape.t }
-        ensures always { self.now.question.now.least ≡ false
-            → allows (problem_of self.now.question.now) self.now.prefix.rows row ≡ true
-            → self.now.question.now.shape.m + 2 < self.now.question.now.shape.s + self.now.question.now.shape.t
-            → result ≡ true }
+        ensures { result ≡ has_open_job self.now.question.now self.now.prefix.rows row }
     {
         !self.question.least
             && self.prefix.len() + 1 < self.question.shape.rows()
@@ -254,6 +265,32 @@ impl<'a> LotWalk<'a> {
             let Some(row) = self.next_row(front) else {
                 return Ok(None);
             };
+            match self.work_job(front, row)? {
+                Some(asked) => return Ok(Some(asked)),
+                None => {}
+            }
+        }
+        Ok(None)
+    }
+
+    /// Works off the next jobs of the lot that the walk is at by itself, up to the first that is open, or
+    /// until no job is left.
+    ///
+    /// # Errors
+    ///
+    /// `NoMemory`.
+    pub fn work_to_open_job(&mut self) -> Result<Option<Asked>, NoMemory>
+        requires { IsAtLot self.old }
+        ensures question { self.new.question ≡ self.old.question }
+        ensures limit { self.new.limit ≡ self.old.limit }
+        ensures bound { IfOk result (λ asked. IfNone asked (self.new.bound ≤ self.old.bound)) }
+        ensures worked { IfOk result (IsWorked self.old.question.now self.old.limit (length self.old.marks) self.new) }
+    {
+        let front = self.candidates.front_of(self.question, &self.prefix);
+        while let Some(row) = self.next_row(front) {
+            if self.has_open_job(row) {
+                return Ok(None);
+            }
             match self.work_job(front, row)? {
                 Some(asked) => return Ok(Some(asked)),
                 None => {}

@@ -26,7 +26,6 @@ const VERY_MANY: u64 = 1_099_511_627_776;
 /// A walk of what is below an expanded prefix of a question that asks for no least pattern. What is left
 /// to it can be shared with a second walk: it goes down to a child, and the second one takes the children
 /// after that.
-#[derive(Drop)]
 pub struct SubtreeWalk<'a> {
     alloc: Global,
     question: &'a Question,
@@ -37,6 +36,22 @@ pub struct SubtreeWalk<'a> {
     /// The children of the prefix by rows from this one on are done.
     bound: u16,
     marks: Marks,
+}
+
+// Not derived, so that a place that drops one is proved with one call.
+impl Drop for SubtreeWalk<'_> {
+    fn drop(self) {
+        let SubtreeWalk {
+            alloc: _,
+            question: _,
+            candidates: _,
+            pruner: _,
+            incumbent: _,
+            prefix: _,
+            bound: _,
+            marks: _,
+        } = self;
+    }
 }
 
 impl<'a> SubtreeWalk<'a> {
@@ -333,7 +348,17 @@ impl<'a> SubtreeWalk<'a> {
         ensures prefix { result.0 ≡ self.entry.prefix }
         ensures marks { result.1 ≡ self.entry.marks }
     {
-        (self.prefix, self.marks)
+        let SubtreeWalk {
+            alloc: _,
+            question: _,
+            candidates: _,
+            pruner: _,
+            incumbent: _,
+            prefix,
+            bound: _,
+            marks,
+        } = self;
+        (prefix, marks)
     }
 
     /// How the job that was walked ended.

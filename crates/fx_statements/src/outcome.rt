@@ -16,7 +16,6 @@ pub enum End {
 
 /// The outcome of a step. Its shape is within the limits. There is a matrix with `Design`, and there
 /// may be one with `Budget`; it has all rows of the shape.
-#[derive(Drop)]
 pub struct Outcome {
     pub end: End,
     /// The shape of the matrix, or of the last question where there is none.
@@ -29,4 +28,17 @@ pub struct Outcome {
     pub books: Books,
     ghost shaped: { IsShape shape },
     ghost whole: { HasMatrix shape (ending_by end matrix nodes) matrix } by { HasMatrix-prop shape (ending_by end matrix nodes) matrix },
+}
+
+// Not derived, so that a place that drops one is proved with one call.
+impl Drop for Outcome {
+    fn drop(self) {
+        let Outcome {
+            end: _,
+            shape: _,
+            matrix: _,
+            nodes: _,
+            books: _,
+        } = self;
+    }
 }

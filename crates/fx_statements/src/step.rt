@@ -20,7 +20,6 @@ use fx_text::Names;
 /// none in both, at most 100,000 in each, at most 2,000,000 pairs), its listings have at most 100,000
 /// components, and its outputs are within its limits. Names have 1 to 32 bytes, no two OUT names are
 /// the same, and no factor has the name of the column of blocks.
-#[derive(Drop)]
 pub struct Step {
     /// The names of its factors, 1 to 40, and at most 30 with blocks. They differ without regard to
     /// case.
@@ -55,4 +54,21 @@ pub struct Step {
         (HasItsNames (context factors (settings_in q budget size wanted least blocks)))
         outputs },
     ghost out_names_differ: { IsDistinct is_same_name (names_of outputs) } by { Prim.hlevel props },
+}
+
+// Not derived, so that a place that drops one is proved with one call.
+impl Drop for Step {
+    fn drop(self) {
+        let Step {
+            factors: _,
+            q: _,
+            size: _,
+            wanted: _,
+            least: _,
+            blocks: _,
+            examine: _,
+            outputs: _,
+            budget: _,
+        } = self;
+    }
 }

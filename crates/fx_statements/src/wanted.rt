@@ -17,7 +17,6 @@ use fx_vectors::Effects;
 use std::alloc::Global;
 
 /// What a step wants of its design.
-#[derive(Drop)]
 pub enum Wanted {
     /// At least this resolution, from 3 to 99.
     Resolution {
@@ -31,6 +30,20 @@ pub enum Wanted {
         estimate: Effects,
         nonnegligible: Effects,
     },
+}
+
+// Not derived, so that a place that drops one is proved with one call.
+impl Drop for Wanted {
+    fn drop(self) {
+        match self {
+            Wanted::Resolution { r: _ } => {}
+            Wanted::Highest => {}
+            Wanted::Effects {
+                estimate: _,
+                nonnegligible: _,
+            } => {}
+        }
+    }
 }
 
 /// What a step with these factors of `q` levels wants, where it is of this kind.

@@ -32,10 +32,19 @@ const BASE: u128 = 4294967296;
 /// kind, and 8,192 times the place of its word's first digit, or of the next one's where it has no
 /// word; the digits of a word are the lowest first, and those of the marks are one after another, so
 /// that a range of marks has a range of digits. Clauses see the list of marks.
-#[derive(Drop)]
 pub(crate) struct MarkPiece {
     heads: Vec<u32>,
     digits: Vec<u32>,
+}
+
+// Not derived, so that a place that drops one is proved with one call.
+impl Drop for MarkPiece {
+    fn drop(self) {
+        let MarkPiece {
+            heads: _,
+            digits: _,
+        } = self;
+    }
 }
 
 impl Model for MarkPiece {

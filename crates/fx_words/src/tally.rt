@@ -15,7 +15,6 @@ use std::marker::Model;
 /// The factor rows of a prefix, with counts of the sums of its first rows by weight and point, from which
 /// its pattern is read. Clauses see the prefix. At the limits of a shape the counts take 28 MB, and the
 /// classes of the points 2 MB.
-#[derive(Drop)]
 pub struct Tally {
     prefix: Matrix,
     classes: Classes,
@@ -24,6 +23,18 @@ pub struct Tally {
     /// For each number of rows of how many weights, from 0 on, the counts are made: most prefixes are
     /// told from the best design by the least weights.
     made: [usize; 41],
+}
+
+// Not derived, so that a place that drops one is proved with one call.
+impl Drop for Tally {
+    fn drop(self) {
+        let Tally {
+            prefix: _,
+            classes: _,
+            counts: _,
+            made: _,
+        } = self;
+    }
 }
 
 impl Model for Tally {

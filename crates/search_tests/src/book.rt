@@ -1,8 +1,9 @@
 use fx_base::Bytes;
-use fx_book::{BookStop, read_book, write_book};
+use fx_book::{BookStop, book_pieces, read_book, write_book};
 use fx_vectors::{Book, Demands, Mark, Marks};
 use std::alloc::Global;
 use std::process::Abort;
+use std::thread::Threads;
 
 /// The book of five factors in eight runs at resolution 4, of which there is no design.
 const WORKED: &str =
@@ -73,6 +74,40 @@ fn books_come_back(rt: HostRuntime) {
         "factex-book 1\nsize 9 3 40 0\nresolution 99\npattern none\nW 728 147808829414345923316083210206383297600\nEND\n",
     ];
     all_come_back(&rt, rt.alloc(), &TEXTS);
+}
+
+fn add_words(rt: &impl Abort, marks: &mut Marks, count: u32) {
+    for i in 0..count {
+        let row = (i % 8) as u16;
+        let word = u128::from(i);
+        marks.push(Mark::Word { row, word }).expect(rt, "memory");
+    }
+}
+
+/// The text of a book, from the pieces of so many threads.
+fn text_by<R: Threads + Sync + Abort>(rt: &R, alloc: Global, book: &Book, threads: u8) -> Bytes {
+    assert!(rt; threads > 0);
+    let pieces = book_pieces(rt, alloc, book, threads).expect(rt, "memory");
+    let mut text = Bytes::new(alloc);
+    for piece in pieces.as_slice() {
+        text.extend_from_slice(piece.as_slice())
+            .expect(rt, "memory");
+    }
+    text
+}
+
+/// A book of 100,010 entries, whose text two threads and more make in pieces.
+#[test]
+fn pieces_make_the_text(rt: HostRuntime) {
+    let alloc = rt.alloc();
+    let mut book = read_book(alloc, WORKED.as_bytes()).expect(&rt, "a book");
+    add_words(&rt, &mut book.marks, 100_000);
+    let mut text = Bytes::new(alloc);
+    write_book(&book, &mut text).expect(&rt, "memory");
+    for threads in [1, 2, 3, 4, 64] {
+        let made = text_by(&rt, alloc, &book, threads);
+        assert!(rt; made.as_slice() == text.as_slice(), "{threads} threads");
+    }
 }
 
 #[test]

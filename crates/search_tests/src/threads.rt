@@ -222,8 +222,8 @@ fn a_second_thread_works_off_jobs(rt: HostRuntime) {
         ended: AtomicU64::new(0),
         met: AtomicU64::new(0),
     };
-    let question = question(&rt, shape_of(&rt, (2, 4, 7, 0)), 4, false);
+    let question = question(&rt, shape_of(&rt, (2, 4, 7, 0)), 4, true);
     let asked = ask(&rt, rt.alloc(), &question, 1_000_000, 2, &gate).expect(&rt, "memory");
-    assert!(rt; matches!(asked, Asked::Found { nodes: 19, .. }));
+    assert!(rt; matches!(asked, Asked::Found { nodes: 80, .. }));
     assert!(rt; gate.met.load(Ordering::SeqCst) == 1);
 }

@@ -7,7 +7,7 @@ use Rattle.fx_demands.proofs.Digits.{sum_below}
 use Rattle.fx_points.specs.Sums.{sum_of}
 use Rattle.fx_barred.specs.Reach.{with_row}
 use Rattle.fx_barred.specs.declared.best_words.Best.{Best}
-use Rattle.fx_barred.specs.BestWords.{BringsToZero, IsBestOf, IsBest, IsWithin, AreBest, preferred, with_code}
+use Rattle.fx_barred.specs.BestWords.{BringsToZero, IsBestOf, IsBest, IsWithin, preferred, with_code}
 use Rattle.fx_barred.proofs.BestWords.{best-first, best-next, best-last, preferred-within, within-more}
 use Rattle.fx_barred.proofs.Tables.{all-but-last}
 use Rattle.fx_barred.proofs.best_words.best_with_last.Invariants.{HasCodeBelow}

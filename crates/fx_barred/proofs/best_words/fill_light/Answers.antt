@@ -1,6 +1,6 @@
-use Rattle.std.proofs.Common.{◌≡◌, ◌<◌, ◌≤◌, ◌+◌, ◌^◌, ◌∙◌, ℕ, None, length, set, slice_index_or, length-set, sym, subst, ap, arith}
+use Rattle.std.proofs.Common.{◌≡◌, ◌<◌, ◌+◌, ◌^◌, ◌∙◌, ℕ, None, length, length-set, ap, arith}
 use Rattle.std.proofs.lemmas.List.{get_or-set_other}
-use Rattle.fx_designs.specs.Problems.{Dimensions, Requirement, AtResolution}
+use Rattle.fx_designs.specs.Problems.{AtResolution}
 use Rattle.fx_barred.specs.BestWords.{IsBest, IsWithin}
 use Rattle.fx_barred.proofs.BestWords.{made-next}
 use Rattle.fx_barred.proofs.best_words.fill_light.Goals as goal

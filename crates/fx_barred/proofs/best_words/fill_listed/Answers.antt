@@ -1,16 +1,14 @@
-use Rattle.std.proofs.Common.{◌≡◌, ◌<◌, ◌≤◌, ◌+◌, ◌^◌, ◌∙◌, ℕ, List, [], Option, Some, None, length, slice_index_or, sym, subst, ap, arith, inl, inr}
-use Rattle.std.specs.Prelude.{IsTrue, All}
+use Rattle.std.proofs.Common.{◌≡◌, ◌<◌, ◌+◌, ◌^◌, ◌∙◌, ℕ, List, [], Option, Some, None, length, slice_index_or, sym, subst, ap, arith, inl, inr}
+use Rattle.std.specs.Prelude.{All}
 use Rattle.std.proofs.lemmas.Bool.{cases_eq}
-use Rattle.fx_designs.specs.Galois.{IsField, is_order, number}
+use Rattle.fx_designs.specs.Galois.{IsField, number}
 use Rattle.fx_designs.specs.Vectors.{IsVector}
-use Rattle.fx_designs.specs.Problems.{Dimensions, Requirement}
 use Rattle.fx_laws.proofs.Tables.{is_order-field}
 use Rattle.fx_demands.proofs.Completing.{weight-length}
-use Rattle.fx_demands.specs.EffectVectors.{AreFactorParts}
 use Rattle.fx_points.proofs.Additions.{minus_of}
 use Rattle.fx_barred.specs.FirstWords.{sum_to}
 use Rattle.fx_barred.specs.declared.best_words.Best.{Best}
-use Rattle.fx_barred.specs.BestWords.{IsBestOf, IsWithin, preferred}
+use Rattle.fx_barred.specs.BestWords.{IsBestOf, IsWithin}
 use Rattle.fx_barred.proofs.BestWords.{preferred-within}
 use Rattle.fx_barred.proofs.ListedWords.{IsListed, listed-first, listed-here, listed-elsewhere, best-listed}
 use Rattle.fx_barred.proofs.Tables.{at-any}

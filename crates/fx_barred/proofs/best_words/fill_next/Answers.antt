@@ -1,6 +1,5 @@
-use Rattle.std.proofs.Common.{◌≡◌, ◌<◌, ◌≤◌, ◌+◌, ◌-◌, ◌^◌, ◌∙◌, ℕ, None, length, take, set, slice_index_or, length-set, sym, subst, ap, arith}
+use Rattle.std.proofs.Common.{◌≡◌, ◌<◌, ◌+◌, ◌-◌, ◌^◌, ◌∙◌, ℕ, None, length, take, length-set, sym, subst, ap, arith}
 use Rattle.std.proofs.lemmas.List.{get_or-set_other}
-use Rattle.fx_designs.specs.Problems.{Dimensions, Requirement}
 use Rattle.fx_barred.specs.BestWords.{IsBest, IsWithin, AreBest}
 use Rattle.fx_barred.proofs.BestWords.{made-next}
 use Rattle.fx_barred.proofs.best_words.fill_next.Goals as goal

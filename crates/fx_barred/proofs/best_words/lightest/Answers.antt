@@ -1,11 +1,10 @@
-use Rattle.std.proofs.Common.{◌≡◌, ◌<◌, ◌≤◌, ◌+◌, ◌^◌, ◌∙◌, ℕ, true, false, List, length, sym, subst, ap, arith}
+use Rattle.std.proofs.Common.{◌≡◌, ◌<◌, ◌^◌, ◌∙◌, ℕ, List, length, sym, subst, ap, arith}
 use Rattle.std.specs.List.{AllByRecursion}
 use Rattle.std.specs.Prelude.{IsTrue, ◌-◌, ◌/◌}
 use Rattle.fx_designs.specs.Galois.{IsField, is_order}
 use Rattle.fx_designs.specs.Problems.{Dimensions, AtResolution}
 use Rattle.fx_laws.proofs.Tables.{is_order-field}
 use Rattle.fx_barred.specs.Reach.{reaches, greatest_word}
-use Rattle.fx_barred.specs.declared.best_words.Best.{Best}
 use Rattle.fx_barred.specs.BestWords.{BringsToZero, IsBestWord}
 use Rattle.fx_barred.proofs.LightWords.{none-light, best-light}
 use Rattle.fx_barred.proofs.best_words.lightest.Goals as goal

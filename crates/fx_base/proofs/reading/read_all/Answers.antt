@@ -1,6 +1,9 @@
 use Rattle.std.proofs.Common.{◌∙◌, arith}
-use Rattle.fx_base.proofs.Steps.{read_more, read_whole, read_over, read_rest_more}
+use Rattle.fx_base.proofs.Steps.{read_more, read_whole, read_over, read_rest_more, read_rest_failed}
 use Rattle.fx_base.proofs.reading.read_all.Goals as goal
+
+pub returns-in_err-count-clause-rest : goal.returns-in_err-count-clause-rest
+returns-in_err-count-clause-rest g c = read_rest_failed _ _ _ _ c.reads.invariant.read c.in_err-count.ensures.failed
 
 pub returns-then-count-eq0-clause-answer : goal.returns-then-count-eq0-clause-answer
 returns-then-count-eq0-clause-answer g c =

@@ -8,7 +8,7 @@ some-of (x ∷ xs) h = omega arith
 
 pub loop-asked-smaller : goal.loop-asked-smaller
 loop-asked-smaller g c =
-    let w : LotWalk = c.work.new.self in
+    let w : LotWalk = c.work_alone.new.walk in
     let worked : w.bound ≤ c.loop-asked.walk.bound = subst (λ z. IfNone z (w.bound ≤ c.loop-asked.walk.bound)) c.in-None.is c.in_ok-asked.ensures.bound in
     let shared : c.work_next.new.walk.bound < w.bound = subst (λ z. IfNone z (c.work_next.new.walk.bound < w.bound)) c.in-None-asked.is c.in_ok-asked-2.ensures.bound in
     omega arith

@@ -1,4 +1,4 @@
-use Rattle.std.proofs.Common.{◌≡◌, ◌+◌, ◌<◌, ◌≤◌, ◌^◌, ℕ, true, false, length, List}
+use Rattle.std.proofs.Common.{◌≡◌, ◌<◌, ◌≤◌, ℕ, true, false, length, List}
 use Rattle.fx_designs.specs.Galois.{neg}
 use Rattle.fx_points.specs.Points.{has}
 use Rattle.fx_points.specs.Sums.{sum_of}

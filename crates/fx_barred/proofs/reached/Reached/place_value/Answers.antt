@@ -1,4 +1,4 @@
-use Rattle.std.proofs.Common.{◌≡◌, ◌<◌, ◌≤◌, ◌+◌, ◌*◌, ◌^◌, ◌∙◌, ℕ, suc, length, slice_index, slice_index_or, sym, subst, ap, arith}
+use Rattle.std.proofs.Common.{◌≡◌, ◌<◌, ◌≤◌, ◌+◌, ◌*◌, ◌^◌, ◌∙◌, ℕ, suc, length, sym, subst, ap, arith}
 use Rattle.std.proofs.Math.Nat.{pow-succ', mul-le-mul_right}
 use Rattle.fx_barred.specs.Reached.{ReachedView}
 use Rattle.fx_barred.proofs.Tables.{at-any, power-fits}

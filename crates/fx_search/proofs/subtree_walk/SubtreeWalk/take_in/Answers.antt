@@ -1,4 +1,4 @@
-use Rattle.std.proofs.Common.{◌-◌, false, [], length, refl, subst, arith}
+use Rattle.std.proofs.Common.{false, [], refl, subst, arith}
 use Rattle.fx_designs.specs.Problems.{Problem}
 use Rattle.fx_jobs.specs.Search.{search_tree, search_mark}
 use Rattle.fx_vectors.specs.Question.{problem_of}

@@ -1,0 +1,46 @@
+-- The text of a book from its pieces.
+use Rattle.std.proofs.Common.{◌≡◌, ◌≤◌, List, [], ◌∷◌, ◌++◌, ℕ, length, ap, sym, ◌∙◌, append_assoc, append-nil, Ok, Err}
+use Rattle.std.specs.Prelude.{IfOk, Result, codes}
+use Rattle.std.specs.List.{slice_range}
+use Rattle.fx_vectors.specs.declared.book.Book.{Book}
+use Rattle.fx_designs.specs.Nodes as nodes
+use Rattle.fx_base.specs.Pieces.{joined}
+use Rattle.fx_base.proofs.Joined.{joined-append}
+use Rattle.fx_book.specs.Entries.{entries_text}
+use Rattle.fx_book.specs.Writing.{head_text, shape_text, demands_text, beat_text, book_text}
+use Rattle.fx_book.proofs.Lines.{entries-append}
+use Rattle.fx_book.proofs.Ranges.{range-range, range-all}
+
+pub if-ok : {X Y : Type 0} (r : Result X Y) (P Q : X → Type 0) → ((x : X) → P x → Q x) → IfOk r P → IfOk r Q
+if-ok (Ok x) P Q f h = f x h
+if-ok (Err y) P Q f h = tt
+
+-- the entries of a range, from those of its two parts
+pub entries-both : (marks : List nodes.Mark) (from middle to : ℕ) (front back all : List (List ℕ)) → from ≤ middle → middle ≤ to
+    → joined front ≡ entries_text (slice_range marks from middle) → joined back ≡ entries_text (slice_range marks middle to) → all ≡ front ++ back
+    → joined all ≡ entries_text (slice_range marks from to)
+entries-both marks from middle to front back all low high f b same =
+    ap joined same ∙ joined-append front back ∙ ap (λ (l : List ℕ). l ++ joined back) f ∙ ap (λ (l : List ℕ). entries_text (slice_range marks from middle) ++ l) b
+    ∙ sym (entries-append (slice_range marks from middle) (slice_range marks middle to)) ∙ ap entries_text (range-range marks from middle to low high)
+
+-- the text of a book, from its first four lines, its entries and its last line
+pub book-joined : (book : Book) (front end : List ℕ) (entries some all : List (List ℕ))
+    → front ≡ codes "factex-book 1\n" ++ head_text book.head → end ≡ codes "END\n"
+    → joined entries ≡ entries_text (slice_range book.marks 0 (length book.marks))
+    → some ≡ (front ∷ []) ++ entries → all ≡ some ++ end ∷ []
+    → joined all ≡ book_text book
+book-joined book front end entries some all f e between s a =
+    let shape : List ℕ = shape_text book.head.question.shape in
+    let demands : List ℕ = demands_text book.head.question.demands in
+    let beat : List ℕ = beat_text book.head.beat in
+    let marks : List ℕ = entries_text book.marks in
+    let end_is : joined (end ∷ []) ≡ codes "END\n" = append-nil end ∙ e in
+    ap joined (a ∙ ap (λ (l : List (List ℕ)). l ++ end ∷ []) s)
+    ∙ joined-append (front ∷ entries) (end ∷ [])
+    ∙ ap (λ (l : List ℕ). (front ++ joined entries) ++ l) end_is
+    ∙ append_assoc front (joined entries) (codes "END\n")
+    ∙ ap (λ (l : List ℕ). front ++ (l ++ codes "END\n")) (between ∙ ap entries_text (range-all book.marks))
+    ∙ ap (λ (l : List ℕ). l ++ (marks ++ codes "END\n")) f
+    ∙ append_assoc (codes "factex-book 1\n") (head_text book.head) (marks ++ codes "END\n")
+    ∙ ap (λ (l : List ℕ). codes "factex-book 1\n" ++ l)
+    (append_assoc shape (demands ++ beat) (marks ++ codes "END\n") ∙ ap (λ (l : List ℕ). shape ++ l) (append_assoc demands beat (marks ++ codes "END\n")))
