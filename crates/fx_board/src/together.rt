@@ -167,7 +167,7 @@ fn share_part<R: Threads + Sync>(
         End::Closed => walk.leave(),
         end => return Ok(end),
     }
-    walk.take_in(design, &marks, rest?, limit)
+    walk.take_in(design, marks, rest?, limit)
 }
 
 /// Walks what is left to two walks by so many threads, one half of them each.

@@ -531,7 +531,7 @@ impl<'a> LotWalk<'a> {
                 if self.limit - self.marks.len() < marks.len() {
                     return Ok(Added::TooMany);
                 }
-                self.marks.append(&marks)?;
+                self.marks.append(marks)?;
                 join_best(&mut self.incumbent, best, self.prefix.len());
                 Ok(Added::AllClosed)
             }
@@ -539,7 +539,7 @@ impl<'a> LotWalk<'a> {
                 if self.limit - self.marks.len() < marks.len() {
                     return Ok(Added::TooMany);
                 }
-                self.marks.append(&marks)?;
+                self.marks.append(marks)?;
                 Ok(Added::Design(matrix))
             }
             JobEnd::Spent { .. } => Ok(Added::TooMany),

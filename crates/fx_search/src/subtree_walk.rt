@@ -313,13 +313,13 @@ impl<'a> SubtreeWalk<'a> {
     pub fn take_in(
         &mut self,
         design: Matrix,
-        marks: &Marks,
+        marks: Marks,
         end: End,
         limit: usize,
     ) -> Result<End, NoMemory>
         requires inside { IsInside self.old }
         requires fits { length self.old.marks ≤ limit }
-        requires rest { IsRest limit self.old design marks.now end }
+        requires rest { IsRest limit self.old design marks end }
         ensures { IfOk result (IsWalked limit self.old self.new) }
     {
         match end {

@@ -1,7 +1,7 @@
-ghost use Rattle.std.specs.Prelude.{◌≡◌, ◌≢◌, ◌<◌, ◌≤◌, ◌+◌, ◌-◌, ◌%◌, ◌↔◌, [], ◌∷◌, ◌++◌, take, drop, length, slice_index_or, IsTrue, IfOk, OnErr, OnOk};
-ghost use Rattle.fx_base.specs.Pieces.{ArePieces, joined};
+ghost use Rattle.std.specs.Prelude.{◌≡◌, ◌<◌, ◌≤◌, ◌+◌, ◌↔◌, [], ◌∷◌, ◌++◌, if◌then◌else◌, length, slice_index_or, IsTrue, IfOk, OnErr, OnOk};
 ghost use Rattle.fx_base.specs.Writing.{HoldsPart};
 ghost use Rattle.fx_vectors.specs.Marks.{meaning_of, row_of};
+ghost use Rattle.fx_vectors.specs.Places.{marks_in, room_of, ArePlaced, IsIn};
 
 use crate::mark_piece::MarkPiece;
 use fx_base::NoMemory;
@@ -24,11 +24,21 @@ pub enum Mark {
 /// How many marks a piece has room for.
 const PIECE: usize = 65536;
 
+/// A piece of more marks than this is moved to the end of another list, not copied.
+const FEW: usize = 4096;
+
+/// Some marks of a list, and how many are before them.
+#[derive(Drop)]
+struct PlacedPiece {
+    start: usize,
+    marks: MarkPiece,
+}
+
 /// Marks in order, held in pieces that stay where they are: of a search there may be five million.
 /// A mark takes 4 bytes, and 4 more for each digit of its word to the base 2^32. Clauses see the
 /// list.
 pub struct Marks {
-    pieces: Vec<MarkPiece>,
+    pieces: Vec<PlacedPiece>,
     len: usize,
 }
 
@@ -41,16 +51,16 @@ impl Drop for Marks {
 
 impl Model for Marks {
     ghost use Rattle.std.specs.Prelude.{◌≡◌, List, length};
-    ghost use Rattle.fx_base.specs.Pieces.{ArePieces, joined};
     ghost use Rattle.fx_designs.specs.Nodes.{Mark};
+    ghost use Rattle.fx_vectors.specs.Places.{ArePlaced, marks_in};
 
     ghost Value = { List Mark };
 
-    ghost view = { λ x. joined x.pieces.items };
+    ghost view = { λ x. marks_in x.pieces.items };
 
     ghost invariant = { λ x. record {
-      pieces : ArePieces x.pieces.items;
-      len : x.len ≡ length (joined x.pieces.items);
+      pieces : ArePlaced 0 x.pieces.items;
+      len : x.len ≡ length (marks_in x.pieces.items);
     } };
 }
 
@@ -84,7 +94,8 @@ impl Marks {
         ensures mark { meaning_of result ≡ slice_index_or self.now i (meaning_of result) }
         ensures row { row_of result < 1024 }
     {
-        self.pieces[i / PIECE].get(i % PIECE)
+        let piece = &self.pieces[piece_of(&self.pieces, i)];
+        piece.marks.get(i - piece.start)
     }
 
     /// Adds a mark at the end.
@@ -100,11 +111,12 @@ impl Marks {
         if self.len == usize::MAX {
             return Err(NoMemory);
         }
-        if self.len % PIECE == 0 {
-            self.push_piece(mark)
-        } else {
-            self.push_to_last(mark)
+        if self.push_to_last(mark)? {
+            return Ok(());
         }
+        let mut piece = MarkPiece::new(*self.pieces.allocator());
+        piece.push(mark)?;
+        self.push_piece(piece)
     }
 
     /// Adds the marks of another list at the end, in order.
@@ -112,110 +124,99 @@ impl Marks {
     /// # Errors
     ///
     /// `NoMemory`; then a prefix of them may have been added.
-    pub fn append(&mut self, more: &Marks) -> Result<(), NoMemory>
-        ensures ok { OnOk result (self.new ≡ self.old ++ more.now) }
-        ensures err { OnErr result (HoldsPart self.old self.new more.now) }
+    pub fn append(&mut self, more: Marks) -> Result<(), NoMemory>
+        ensures ok { OnOk result (self.new ≡ self.old ++ more) }
+        ensures err { OnErr result (HoldsPart self.old self.new more) }
     {
-        self.append_pieces(&more.pieces)
-    }
-
-    /// Adds a mark to the last piece, which is not full.
-    fn push_to_last(&mut self, mark: Mark) -> Result<(), NoMemory>
-        requires row { row_of mark < 1024 }
-        requires room { length self.old % 65536 ≢ 0 }
-        requires fits { length self.old < 18446744073709551615 }
-        ensures ok { OnOk result (self.new ≡ self.old ++ meaning_of mark ∷ []) }
-        ensures err { OnErr result (self.new ≡ self.old) }
-    {
-        let last = self.pieces.len() - 1;
-        self.pieces[last].push(mark)?;
-        self.len += 1;
-        Ok(())
-    }
-
-    /// Adds a piece with this mark, where all pieces are full.
-    fn push_piece(&mut self, mark: Mark) -> Result<(), NoMemory>
-        requires row { row_of mark < 1024 }
-        requires full { length self.old % 65536 ≡ 0 }
-        requires fits { length self.old < 18446744073709551615 }
-        ensures ok { OnOk result (self.new ≡ self.old ++ meaning_of mark ∷ []) }
-        ensures err { OnErr result (self.new ≡ self.old) }
-    {
-        let mut piece = MarkPiece::new(*self.pieces.allocator());
-        piece.push(mark)?;
-        if self.pieces.push(piece).is_err() {
-            return Err(NoMemory);
-        }
-        self.len += 1;
-        Ok(())
-    }
-
-    /// Adds the marks of pieces.
-    fn append_pieces(&mut self, pieces: &[MarkPiece]) -> Result<(), NoMemory>
-        requires { ArePieces pieces.now }
-        ensures ok { OnOk result (self.new ≡ self.old ++ joined pieces.now) }
-        ensures err { OnErr result (HoldsPart self.old self.new (joined pieces.now)) }
-    {
+        let Marks { pieces, len: _ } = more;
         for piece in pieces {
-            self.append_piece(piece)?;
+            let PlacedPiece { start: _, marks } = piece;
+            self.append_piece(marks)?;
         }
         Ok(())
     }
 
-    /// Adds the marks of a piece, to the last one as far as it has room, and the others as a piece of
-    /// their own.
-    fn append_piece(&mut self, piece: &MarkPiece) -> Result<(), NoMemory>
-        requires { length piece.now ≤ 65536 }
-        ensures ok { OnOk result (self.new ≡ self.old ++ piece.now) }
-        ensures err { OnErr result (HoldsPart self.old self.new piece.now) }
+    /// Adds the marks of a piece.
+    fn append_piece(&mut self, piece: MarkPiece) -> Result<(), NoMemory>
+        requires { length piece ≤ 65536 }
+        ensures ok { OnOk result (self.new ≡ self.old ++ piece) }
+        ensures err { OnErr result (self.new ≡ self.old) }
     {
         if usize::MAX - self.len < piece.len() {
             return Err(NoMemory);
         }
-        let count = self.append_to_last(piece)?;
-        if count < piece.len() {
-            self.append_rest(piece, count)?;
+        if piece.len() <= FEW && self.append_to_last(&piece)? {
+            return Ok(());
         }
-        Ok(())
+        self.push_piece(piece)
     }
 
-    /// Adds the first marks of a piece to the last one, as many as it has room for, and returns how
-    /// many these are.
-    fn append_to_last(&mut self, piece: &MarkPiece) -> Result<usize, NoMemory>
+    /// Adds a mark to the last piece, and returns whether that has room for it.
+    fn push_to_last(&mut self, mark: Mark) -> Result<bool, NoMemory>
+        requires row { row_of mark < 1024 }
+        requires fits { length self.old < 18446744073709551615 }
+        ensures ok { IfOk result (λ has_room. self.new ≡ (if has_room then self.old ++ meaning_of mark ∷ [] else self.old)) }
+        ensures err { OnErr result (self.new ≡ self.old) }
+    {
+        if room(&self.pieces) == 0 {
+            return Ok(false);
+        }
+        let last = self.pieces.len() - 1;
+        self.pieces[last].marks.push(mark)?;
+        self.len += 1;
+        Ok(true)
+    }
+
+    /// Adds the marks of a piece to the last one, and returns whether that has room for them.
+    fn append_to_last(&mut self, piece: &MarkPiece) -> Result<bool, NoMemory>
         requires most { length piece.now ≤ 65536 }
         requires fits { length self.old + length piece.now < 18446744073709551616 }
-        ensures within { IfOk result (λ count. count ≤ length piece.now) }
-        ensures ok { IfOk result (λ count. self.new ≡ self.old ++ take count piece.now) }
-        ensures full { IfOk result (λ count. count < length piece.now → length self.new % 65536 ≡ 0) }
+        ensures ok { IfOk result (λ has_room. self.new ≡ (if has_room then self.old ++ piece.now else self.old)) }
         ensures err { OnErr result (self.new ≡ self.old) }
     {
-        let used = self.len % PIECE;
-        if used == 0 {
-            return Ok(0);
+        let count = piece.len();
+        if self.pieces.is_empty() || room(&self.pieces) < count {
+            return Ok(false);
         }
-        let count = piece.len().min(PIECE - used);
         let last = self.pieces.len() - 1;
-        self.pieces[last].append(piece, 0, count)?;
+        self.pieces[last].marks.append(piece)?;
         self.len += count;
-        Ok(count)
+        Ok(true)
     }
 
-    /// Adds the marks of a piece from `from` on as a piece of their own, where all pieces are full.
-    fn append_rest(&mut self, piece: &MarkPiece, from: usize) -> Result<(), NoMemory>
-        requires some { from < length piece.now }
-        requires most { length piece.now ≤ 65536 }
-        requires full { length self.old % 65536 ≡ 0 }
-        requires fits { length self.old + (length piece.now - from) < 18446744073709551616 }
-        ensures ok { OnOk result (self.new ≡ self.old ++ drop from piece.now) }
+    /// Adds a piece.
+    fn push_piece(&mut self, marks: MarkPiece) -> Result<(), NoMemory>
+        requires most { length marks ≤ 65536 }
+        requires fits { length self.old + length marks < 18446744073709551616 }
+        ensures ok { OnOk result (self.new ≡ self.old ++ marks) }
         ensures err { OnErr result (self.new ≡ self.old) }
     {
-        let mut rest = MarkPiece::new(*self.pieces.allocator());
-        rest.append(piece, from, piece.len())?;
-        let count = rest.len();
-        if self.pieces.push(rest).is_err() {
+        let count = marks.len();
+        let start = self.len;
+        if self.pieces.push(PlacedPiece { start, marks }).is_err() {
             return Err(NoMemory);
         }
         self.len += count;
         Ok(())
+    }
+}
+
+/// Which piece has the mark at `i`.
+fn piece_of(pieces: &[PlacedPiece], i: usize) -> usize
+    requires placed { ArePlaced 0 pieces.now }
+    requires inside { i < length (marks_in pieces.now) }
+    ensures { IsIn pieces.now result i }
+{
+    pieces.partition_point(|piece| piece.start <= i) - 1
+}
+
+/// How many more marks the last piece has room for, none where there is no piece.
+fn room(pieces: &[PlacedPiece]) -> usize
+    requires { ArePlaced 0 pieces.now }
+    ensures { result ≡ room_of pieces.now }
+{
+    match pieces.last() {
+        Some(piece) => PIECE - piece.marks.len(),
+        None => 0,
     }
 }

@@ -100,11 +100,11 @@ fn words_of_all_lengths_are_kept_about_the_end_of_a_piece(rt: HostRuntime) {
 }
 
 /// Appends a list to one, and its marks one by one to another.
-fn append_both(rt: &impl Abort, appended: &mut Marks, pushed: &mut Marks, more: &Marks) {
-    appended.append(more).expect(rt, "memory");
+fn append_both(rt: &impl Abort, appended: &mut Marks, pushed: &mut Marks, more: Marks) {
     for i in 0..more.len() {
         pushed.push(more.get(i)).expect(rt, "memory");
     }
+    appended.append(more).expect(rt, "memory");
 }
 
 fn are_same(marks: &Marks, others: &Marks) -> bool {
@@ -116,8 +116,7 @@ fn are_same(marks: &Marks, others: &Marks) -> bool {
     marks.len() == others.len()
 }
 
-/// Lists of no marks, of fewer than a piece, and of one more than a piece, so that pieces are filled
-/// by parts of others.
+/// Lists of no marks, of few, which are copied, and of more than a piece, whose pieces are moved.
 #[test]
 fn appended_lists_have_the_marks_of_each(rt: HostRuntime) {
     let alloc = rt.alloc();
@@ -125,8 +124,8 @@ fn appended_lists_have_the_marks_of_each(rt: HostRuntime) {
     let mut pushed = Marks::new(alloc);
     for count in [0, 65525, 3, 65530] {
         let more = marks_of_words(&rt, alloc, count, &WORDS);
-        append_both(&rt, &mut appended, &mut pushed, &more);
-        append_both(&rt, &mut appended, &mut pushed, &Marks::new(alloc));
+        append_both(&rt, &mut appended, &mut pushed, more);
+        append_both(&rt, &mut appended, &mut pushed, Marks::new(alloc));
     }
     assert!(rt; appended.len() == 131106);
     assert!(rt; are_same(&appended, &pushed));

@@ -14,11 +14,11 @@ returns-then-limit-len-2 c =
     let w : SubtreeWalk = c.args.self.now in
     let p : Problem = problem_of w.question.now in
     let rest = c.requires.rest in
-    let ends : Ends (search_tree p) (search_mark p) rest.own false (left_of w) w.prefix.rows Closed [] c.args.marks.now c.args.design.rows =
-    subst (λ z. Ends (search_tree p) (search_mark p) rest.own false (left_of w) w.prefix.rows z [] c.args.marks.now c.args.design.rows) c.in-Closed.is rest.ends in
+    let ends : Ends (search_tree p) (search_mark p) rest.own false (left_of w) w.prefix.rows Closed [] c.args.marks c.args.design.rows =
+    subst (λ z. Ends (search_tree p) (search_mark p) rest.own false (left_of w) w.prefix.rows z [] c.args.marks c.args.design.rows) c.in-Closed.is rest.ends in
     record {
       question = refl;
       shape = c.requires.inside.shape;
       inside = tt;
-      ends = closed-past (search_tree p) (search_mark p) c.args.limit rest.own (left_of w) w.prefix.rows w.marks c.args.marks.now c.args.design.rows (omega arith) c.requires.fits ends;
+      ends = closed-past (search_tree p) (search_mark p) c.args.limit rest.own (left_of w) w.prefix.rows w.marks c.args.marks c.args.design.rows (omega arith) c.requires.fits ends;
     }
