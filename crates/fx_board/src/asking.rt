@@ -10,7 +10,7 @@ ghost use Rattle.fx_board.specs.Sharing.{AreReady, AllAreClosed};
 use crate::gate::Gate;
 use crate::lot_jobs::ends_of_lot;
 use crate::sharing::Worked;
-use crate::together::{first_part, work_together};
+use crate::together::work_together;
 use crate::worker::closed_nodes;
 use fx_base::{Items, NoMemory};
 use fx_demands::pair_count;
@@ -96,8 +96,8 @@ impl Pace {
 
     /// After a job of so many nodes that was walked by all threads together.
     fn note_together(&mut self, nodes: u64) {
-        // Jobs of no more than one part are better worked off side by side.
-        self.together = nodes >= first_part(self.later);
+        // Jobs of no more than a few parts are better worked off side by side.
+        self.together = nodes >= self.later.saturating_mul(16);
     }
 }
 

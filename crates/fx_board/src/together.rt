@@ -24,18 +24,13 @@ struct Parts {
     before: u64,
 }
 
-/// Up to which estimate what is left below a prefix is the first part of a job. The estimate is often far
-/// too high, so it is small.
-pub(crate) fn first_part(few: u64) -> u64 {
-    few.saturating_mul(16)
-}
-
 impl Parts {
     fn of(few: u64) -> Parts {
         let few = few.max(1);
         Parts {
             few,
-            most: first_part(few),
+            // The estimate is often far too high, so the first part is small.
+            most: few.saturating_mul(4),
             before: 0,
         }
     }
