@@ -1,4 +1,5 @@
 pub mod Places
+mod Keys
 mod Steps
 pub mod Pass
 mod Examples
