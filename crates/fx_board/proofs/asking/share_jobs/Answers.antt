@@ -1,10 +1,10 @@
-use Rattle.std.proofs.Common.{◌-◌, List, ℕ, length, sym, subst, ap, ◌∙◌}
+use Rattle.std.proofs.Common.{◌-◌, List, ℕ, length, sym, subst, ap, ◌∙◌, arith}
 use Rattle.std.specs.Option.{option_copied}
 use Rattle.fx_vectors.specs.Matrix.{MatrixView}
 use Rattle.fx_vectors.specs.declared.question.Question.{Question}
-use Rattle.fx_vectors.specs.Question.{problem_of}
+use Rattle.fx_vectors.specs.Question.{IsValid, problem_of}
 use Rattle.fx_search.specs.Folds.{AreEnds}
-use Rattle.fx_search.specs.LotWalks.{AreSized, jobs_by}
+use Rattle.fx_search.specs.LotWalks.{AreSized, IsWorked, jobs_by}
 use Rattle.fx_search.specs.Standing.{HasDimensions, rows_of}
 use Rattle.fx_search.specs.declared.lot_walk.LotWalk.{LotWalk}
 use Rattle.fx_board.specs.Lots.{AreRowsOf, CanEnter}
@@ -44,3 +44,23 @@ fold-requires-clause-sized g c = subst (λ (z : Question). AreSized z c.in_ok-en
 pub back_at_start-requires-clause-ready : goal.back_at_start-requires-clause-ready
 back_at_start-requires-clause-ready g c = λ closed worker has.
     subst (λ (m : MatrixView). CanEnter c.args.question.now m.rows worker) (c.lot.ensures ∙ sym c.lot-2.ensures) (c.in_ok-ends.ensures.ready closed worker has)
+
+pub staffed-requires : goal.staffed-requires
+staffed-requires g c = record {
+  valid = subst IsValid c.requires.question c.requires.at.placed.valid;
+  candidates = c.candidates.ensures ∙ ap (λ (z : Question). z.shape) c.requires.question;
+  start = c.requires.start;
+  most = (c.requires.workers, omega arith);
+}
+
+pub returns : goal.returns
+returns g c =
+    let end = c.in_ok-asked.ensures in
+    record {
+      question = end.question;
+      limit = end.limit;
+      bound = end.bound;
+      worked = subst (λ (z : Question). IsWorked z c.args.walk.now.limit (length c.args.walk.now.marks) c.fold.new.self c.in_ok-asked.asked) c.requires.question end.worked;
+      workers = c.in_ok-workers-2.ensures.most;
+      start = c.in_ok-workers-2.ensures.start;
+    }
