@@ -34,7 +34,7 @@ ghost use Rattle.fx_answer.specs.Books.{books_from};
 use crate::booking::{add_absence, add_answer, question_number};
 use crate::question::{highest, lowest, question_for};
 use fx_base::NoMemory;
-use fx_board::{Asked, Gate, ask};
+use fx_board::{Alone, Asked, Gate, ask_after};
 use fx_statements::{End, Outcome, Size, Step};
 use fx_vectors::{Books, Matrix, Shape};
 use std::alloc::Global;
@@ -112,12 +112,13 @@ fn ask_from<R: Threads + Sync, G: Gate>(
     let shape = question.shape;
     let number = question_number(step, n);
     let mut books = finished.books;
-    match ask(
+    match ask_after(
         rt,
         alloc,
         &question,
         step.budget - finished.nodes,
         threads,
+        Alone::of(&question),
         gate,
     )? {
         Asked::Found {

@@ -101,8 +101,24 @@ impl Pace {
     }
 }
 
+impl Alone {
+    /// Shares nothing of a question that one thread would have answered by the time that the others have
+    /// started, and listed the forbidden vectors of effects.
+    pub fn of(question: &Question) -> Alone
+        requires { IsValid question.now }
+    {
+        let nodes = FEW.saturating_add(listing_nodes(question));
+        Alone {
+            first: nodes,
+            later: nodes,
+        }
+    }
+}
+
 /// The answer of a valid question, by 1 to 64 threads: that of `ask_alone`, however many there are. The
-/// budget is at most 5,000,000. One thread is the caller's own, and starts no other.
+/// budget is at most 5,000,000. One thread is the caller's own, and starts no other. Others share the jobs
+/// of the first lot already, or where effects are asked, once the caller's thread has walked as long as
+/// they take to list the forbidden vectors.
 ///
 /// # Errors
 ///
@@ -121,10 +137,9 @@ pub fn ask<R: Threads + Sync, G: Gate>(
     ensures answer { IfOk result (IsAnswer question.now budget) }
     ensures none_at_all { IfOk result (IsNoneAtAll question.now) }
 {
-    let first = listing_nodes(question);
     let alone = Alone {
-        first,
-        later: FEW.saturating_add(first),
+        first: listing_nodes(question),
+        later: Alone::of(question).later,
     };
     ask_after(rt, alloc, question, budget, threads, alone, gate)
 }

@@ -169,7 +169,6 @@ impl Marks {
 
     /// Adds the marks of a piece to the last one, and returns whether that has room for them.
     fn append_to_last(&mut self, piece: &MarkPiece) -> Result<bool, NoMemory>
-        requires most { length piece.now ≤ 65536 }
         requires fits { length self.old + length piece.now < 18446744073709551616 }
         ensures ok { IfOk result (λ has_room. self.new ≡ (if has_room then self.old ++ piece.now else self.old)) }
         ensures err { OnErr result (self.new ≡ self.old) }
@@ -207,7 +206,22 @@ fn piece_of(pieces: &[PlacedPiece], i: usize) -> usize
     requires inside { i < length (marks_in pieces.now) }
     ensures { IsIn pieces.now result i }
 {
+    // There is nothing to search for where all pieces before are full.
+    let full = i / PIECE;
+    if is_in(pieces, full, i) {
+        return full;
+    }
     pieces.partition_point(|piece| piece.start <= i) - 1
+}
+
+/// Whether the mark at `i` is in the piece `k`, false where there is no such piece.
+fn is_in(pieces: &[PlacedPiece], k: usize, i: usize) -> bool
+    ensures { IsTrue result ↔ IsIn pieces.now k i }
+{
+    match pieces.get(k) {
+        Some(piece) => piece.start <= i && i - piece.start < piece.marks.len(),
+        None => false,
+    }
 }
 
 /// How many more marks the last piece has room for, none where there is no piece.
