@@ -1,6 +1,6 @@
 -- The text of a book from its pieces.
-use Rattle.std.proofs.Common.{◌≡◌, ◌≤◌, List, [], ◌∷◌, ◌++◌, ℕ, length, ap, sym, ◌∙◌, append_assoc, append-nil, Ok, Err}
-use Rattle.std.specs.Prelude.{IfOk, Result, codes}
+use Rattle.std.proofs.Common.{◌≡◌, ◌≤◌, List, [], ◌∷◌, ◌++◌, ℕ, length, ap, sym, ◌∙◌, append_assoc, append-nil}
+use Rattle.std.specs.Prelude.{codes}
 use Rattle.std.specs.List.{slice_range}
 use Rattle.fx_vectors.specs.declared.book.Book.{Book}
 use Rattle.fx_designs.specs.Nodes as nodes
@@ -10,10 +10,6 @@ use Rattle.fx_book.specs.Entries.{entries_text}
 use Rattle.fx_book.specs.Writing.{head_text, shape_text, demands_text, beat_text, book_text}
 use Rattle.fx_book.proofs.Lines.{entries-append}
 use Rattle.fx_book.proofs.Ranges.{range-range, range-all}
-
-pub if-ok : {X Y : Type 0} (r : Result X Y) (P Q : X → Type 0) → ((x : X) → P x → Q x) → IfOk r P → IfOk r Q
-if-ok (Ok x) P Q f h = f x h
-if-ok (Err y) P Q f h = tt
 
 -- the entries of a range, from those of its two parts
 pub entries-both : (marks : List nodes.Mark) (from middle to : ℕ) (front back all : List (List ℕ)) → from ≤ middle → middle ≤ to

@@ -22,8 +22,8 @@ refusal text = first_refusal (symbols_among text (lexed text))
 
 -- a program with each statement
 accepted : refusal (
-    codes "proc factex nodes=9;factors A B D1-D3/nlev=2;size design=16;"
-    ++ codes "model est=(A B|D1@2 D1-D2)n=(A*B);blocks size=min;"
+    codes "proc factex nodes=9;factors A B X1-X3/nlev=2;size design=16;"
+    ++ codes "model est=(A B|X1@2 X1-X2)n=(A*B);blocks size=min;"
     ++ codes "examine aliasing blocked confounding design aberration;"
     ++ codes "output out=p pointrep=2 designrep=3 randomize(7)novalran blockname=b nvals=(-1 .5)A cvals=('l' 'h');"
     ++ codes "run;quit;"

@@ -1,13 +1,15 @@
 ghost use Rattle.std.specs.Prelude.{◌<◌, ◌≤◌};
 
+use crate::board::TURNS;
 use fx_answer::answer;
 use fx_base::{Bytes, put, put_number};
-use fx_board::FreeGate;
+use fx_board::{Ended, FreeGate, Gate};
 use fx_lexer::lex;
 use fx_statements::{End, Outcome, Program, Step, parse};
 use fx_vectors::Matrix;
 use std::alloc::Global;
 use std::process::Abort;
+use std::sync::atomic::{AtomicU64, Ordering};
 use std::thread::Threads;
 
 // The questions of each step, their nodes and their answers were computed apart from this program, in
@@ -200,4 +202,47 @@ fn all_end_so<R: Threads + Sync + Abort>(rt: &R, alloc: Global, cases: &[(&str, 
 #[test]
 fn budgets_end_at_the_last_node_of_each_question(rt: HostRuntime) {
     all_end_so(&rt, rt.alloc(), STEPS);
+}
+
+/// Holds the first job until another has begun.
+#[derive(Drop)]
+struct Waiting {
+    begun: AtomicU64,
+    met: AtomicU64,
+}
+
+impl Gate for Waiting {
+    fn began(&self, _n: u64) {
+        if self.begun.fetch_add(1, Ordering::SeqCst) != 0 {
+            return;
+        }
+        for _turn in 0..TURNS {
+            if self.begun.load(Ordering::SeqCst) > 1 {
+                self.met.store(1, Ordering::SeqCst);
+                return;
+            }
+        }
+    }
+
+    fn ended(&self, _end: &Ended) {}
+}
+
+/// Jobs of a question with many nodes are worked off side by side.
+#[test]
+fn the_jobs_of_a_large_question_are_shared(rt: HostRuntime) {
+    let step = ";factors X1-X12;size design=64;model resolution=max/minabs;";
+    let text = text_of(&rt, rt.alloc(), 100_000, step);
+    let program = program_of(&rt, rt.alloc(), text.as_slice());
+    let gate = Waiting {
+        begun: AtomicU64::new(0),
+        met: AtomicU64::new(0),
+    };
+    match program.as_slice() {
+        [step] => {
+            let outcome = answer(&rt, rt.alloc(), step, 2, &gate).expect(&rt, "memory");
+            assert!(rt; outcome.end == End::Budget && outcome.nodes == 100_000);
+        }
+        _ => panic!(rt; "one step"),
+    }
+    assert!(rt; gate.met.load(Ordering::SeqCst) == 1);
 }

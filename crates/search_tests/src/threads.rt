@@ -124,7 +124,7 @@ fn all_answer_so<R: Threads + Sync + Abort>(
         }
     }
     let asked = ask(rt, alloc, question, budget, 4, &FreeGate).expect(rt, "memory");
-    are_same(&asked, alone)
+    are_same(&asked, alone) && answer_so(rt, alloc, question, budget, 4, Alone::of(question), alone)
 }
 
 /// Whether each number of threads answers as one does, under a budget.
