@@ -1,11 +1,12 @@
 use Rattle.std.proofs.Common.{◌≡◌, ℕ, List, [], ◌∷◌, ◌++◌, length, ap, ◌∙◌}
 use Rattle.std.specs.Prelude.{codes}
 use Rattle.std.specs.List.{slice_range}
+use Rattle.std.proofs.lemmas.Result.{IfOk-weaker}
 use Rattle.fx_base.specs.Pieces.{joined}
 use Rattle.fx_vectors.specs.declared.book.Book.{Book}
 use Rattle.fx_book.specs.Entries.{entries_text}
 use Rattle.fx_book.specs.Writing.{head_text, book_text}
-use Rattle.fx_book.proofs.Joins.{if-ok, book-joined}
+use Rattle.fx_book.proofs.Joins.{book-joined}
 use Rattle.fx_book.proofs.pieces.book_pieces.Goals as goal
 
 pub returns : goal.returns
@@ -21,5 +22,5 @@ returns g c =
     let between : joined entries ≡ entries_text (slice_range book.marks 0 (length book.marks)) =
     c.in_ok-entries.ensures ∙ ap (λ (n : ℕ). entries_text (slice_range book.marks 0 n)) c.len-2.ensures in
     let both : some ≡ (front ∷ []) ++ entries = c.in_ok-both.ensures ∙ ap (λ (l : List (List ℕ)). l ++ entries) c.in_ok-front.ensures in
-    if-ok c.both-2.result (λ all. all ≡ some ++ c.in_ok-end.end) (λ pieces. joined pieces ≡ book_text book)
+    IfOk-weaker c.both-2.result (λ all. all ≡ some ++ c.in_ok-end.end) (λ pieces. joined pieces ≡ book_text book)
     (λ all same. book-joined book front end entries some all lines last between both (same ∙ ap (λ (l : List (List ℕ)). some ++ l) c.in_ok-end.ensures)) c.both-2.ensures
