@@ -1,7 +1,7 @@
 ghost use Rattle.std.specs.Prelude.{◌≡◌, ◌<◌, ◌≤◌, ◌+◌, true, false, length, slice_index, IfOk, IfNone};
 ghost use Rattle.fx_vectors.specs.Question.{IsValid, problem_of};
 ghost use Rattle.fx_search.specs.Asked.{IsAnswer, IsNoneAtAll};
-ghost use Rattle.fx_search.specs.LotWalks.{AreNextRows, IsAtLot, IsBetween, IsWorked};
+ghost use Rattle.fx_search.specs.LotWalks.{AreNextRows, IsAtLot, IsBetween, IsRight, IsWorked};
 ghost use Rattle.fx_search.specs.Pruning.{allows};
 ghost use Rattle.fx_search.specs.Searchers.{IsAtStart};
 ghost use Rattle.fx_board.specs.Lots.{CanEnter, IsLotDone};
@@ -186,68 +186,14 @@ pub fn ask_after<R: Threads + Sync, G: Gate>(
     if threads == 1 || shape.rows().saturating_sub(usize::from(shape.m)) < 2 {
         return ask_alone(alloc, question, budget);
     }
-    ask_by_lots(rt, alloc, question, budget, threads, alone, gate)
-}
-
-/// The same, lot after lot, where matrices have jobs.
-fn ask_by_lots<R: Threads + Sync, G: Gate>(
-    rt: &R,
-    alloc: Global,
-    question: &Question,
-    budget: u64,
-    threads: u8,
-    alone: Alone,
-    gate: &G,
-) -> Result<Asked, NoMemory>
-    requires valid { IsValid question.now }
-    requires budget { budget ≤ 5000000 }
-    requires threads { (0 < threads) × (threads ≤ 64) }
-    requires jobs { question.now.shape.m + 2 ≤ question.now.shape.s + question.now.shape.t }
-    ensures answer { IfOk result (IsAnswer question.now budget) }
-    ensures none_at_all { IfOk result (IsNoneAtAll question.now) }
-{
-    let candidates = Candidates::of(question.shape);
-    let mut walk = LotWalk::of(alloc, question, &candidates, budget)?;
-    walk_on(rt, alloc, question, budget, &mut walk, threads, alone, gate)
-}
-
-/// The same over a walk between lots.
-fn walk_on<'a, R: Threads + Sync, G: Gate>(
-    rt: &R,
-    alloc: Global,
-    question: &'a Question,
-    budget: u64,
-    walk: &mut LotWalk<'a>,
-    threads: u8,
-    alone: Alone,
-    gate: &G,
-) -> Result<Asked, NoMemory>
-    requires question { walk.old.question.now ≡ question.now }
-    requires limit { walk.old.limit ≡ budget }
-    requires between { IsBetween walk.old }
-    requires threads { (0 < threads) × (threads ≤ 64) }
-    ensures answer { IfOk result (IsAnswer question.now budget) }
-    ensures none_at_all { IfOk result (IsNoneAtAll question.now) }
-{
-    let mut workers = Vec::new(alloc);
-    let mut pace = Pace::of(alone, question);
-    loop {
-        match walk.next()? {
-            Step::Done(asked) => return Ok(asked),
-            Step::Lot => {}
-        }
-        let before = walk.nodes();
-        let LotDone {
-            asked,
-            workers: staff,
-        } = work_off(rt, alloc, question, walk, workers, threads, &mut pace, gate)?;
-        match asked {
-            Some(asked) => return Ok(asked),
-            None => {}
-        }
-        workers = staff;
-        pace.note(walk.nodes().saturating_sub(before));
-    }
+    let search = Search {
+        rt,
+        alloc,
+        question,
+        threads,
+        gate,
+    };
+    search.ask_by_lots(budget, alone)
 }
 
 /// What a lot came to: the answer, where it ended the search, and workers for the next lot.
@@ -257,61 +203,223 @@ struct LotDone<'a> {
     workers: Vec<Searcher<'a>>,
 }
 
-/// Works off the lot that the walk is at: by turns jobs of it by the caller's thread alone, as the pace has
-/// them, and its next jobs by as many threads as there are of them, at most `threads`, or an open job by all
-/// threads together.
-fn work_off<'a, R: Threads + Sync, G: Gate>(
-    rt: &R,
+/// What a search by several threads uses throughout.
+#[derive(Drop)]
+struct Search<'a, R, G> {
+    rt: &'a R,
     alloc: Global,
     question: &'a Question,
-    walk: &mut LotWalk<'a>,
-    workers: Vec<Searcher<'a>>,
     threads: u8,
-    pace: &mut Pace,
-    gate: &G,
-) -> Result<LotDone<'a>, NoMemory>
-    requires question { walk.old.question.now ≡ question.now }
-    requires at { IsAtLot walk.old }
-    requires workers { length workers.items ≤ 64 }
-    requires start { AreReady (IsAtStart question.now) workers.items }
-    requires threads { (0 < threads) × (threads ≤ 64) }
-    ensures same { (walk.new.question ≡ walk.old.question) × (walk.new.limit ≡ walk.old.limit) }
-    ensures done { IfOk result (λ done.
-        IsLotDone question.now walk.old.limit (length walk.old.marks) walk.new done.asked done.workers.items) }
-{
-    let mut workers = workers;
-    loop {
-        match work_alone(walk, pace)? {
-            Some(asked) => return Ok(LotDone {
-                asked: Some(asked),
-                workers,
-            }),
-            None => {}
+    gate: &'a G,
+    ghost in_range: { (0 < threads) × (threads ≤ 64) },
+}
+
+impl<'a, R: Threads + Sync, G: Gate> Search<'a, R, G> {
+    /// The answer, lot after lot, where matrices have jobs.
+    fn ask_by_lots(&self, budget: u64, alone: Alone) -> Result<Asked, NoMemory>
+        requires valid { IsValid self.now.question.now }
+        requires budget { budget ≤ 5000000 }
+        requires jobs { let shape = self.now.question.now.shape in shape.m + 2 ≤ shape.s + shape.t }
+        ensures answer { IfOk result (IsAnswer self.now.question.now budget) }
+        ensures none_at_all { IfOk result (IsNoneAtAll self.now.question.now) }
+    {
+        let candidates = Candidates::of(self.question.shape);
+        let mut walk = LotWalk::of(self.alloc, self.question, &candidates, budget)?;
+        self.walk_on(&mut walk, alone)
+    }
+
+    /// The same over a walk between lots, within its limit.
+    fn walk_on(&self, walk: &mut LotWalk<'a>, alone: Alone) -> Result<Asked, NoMemory>
+        requires question { walk.old.question.now ≡ self.now.question.now }
+        requires between { IsBetween walk.old }
+        ensures { IfOk result (IsRight self.now.question.now walk.old.limit) }
+    {
+        let mut workers = Vec::new(self.alloc);
+        let mut pace = Pace::of(alone, self.question);
+        loop {
+            match walk.next()? {
+                Step::Done(asked) => return Ok(asked),
+                Step::Lot => {}
+            }
+            let before = walk.nodes();
+            let LotDone {
+                asked,
+                workers: staff,
+            } = self.work_off(walk, workers, &mut pace)?;
+            match asked {
+                Some(asked) => return Ok(asked),
+                None => {}
+            }
+            workers = staff;
+            pace.note(walk.nodes().saturating_sub(before));
         }
-        let jobs = walk.next_jobs(pace.jobs())?;
-        if jobs.rows.is_empty() {
-            walk.leave_lot();
-            return Ok(LotDone {
-                asked: None,
-                workers,
-            });
+    }
+
+    /// Works off the lot that the walk is at: by turns jobs of it by the caller's thread alone, as the pace
+    /// has them, and its next jobs by as many threads as there are of them, at most `threads`, or an open job
+    /// by all threads together.
+    fn work_off(
+        &self,
+        walk: &mut LotWalk<'a>,
+        workers: Vec<Searcher<'a>>,
+        pace: &mut Pace,
+    ) -> Result<LotDone<'a>, NoMemory>
+        requires question { walk.old.question.now ≡ self.now.question.now }
+        requires at { IsAtLot walk.old }
+        requires workers { length workers.items ≤ 64 }
+        requires start { AreReady (IsAtStart self.now.question.now) workers.items }
+        ensures same { (walk.new.question ≡ walk.old.question) × (walk.new.limit ≡ walk.old.limit) }
+        ensures done { IfOk result (λ done.
+            IsLotDone self.now.question.now walk.old.limit (length walk.old.marks) walk.new done.asked done.workers.items) }
+    {
+        let mut workers = workers;
+        loop {
+            match work_alone(walk, pace)? {
+                Some(asked) => return Ok(LotDone {
+                    asked: Some(asked),
+                    workers,
+                }),
+                None => {}
+            }
+            let jobs = walk.next_jobs(pace.jobs())?;
+            if jobs.rows.is_empty() {
+                walk.leave_lot();
+                return Ok(LotDone {
+                    asked: None,
+                    workers,
+                });
+            }
+            let before = walk.nodes();
+            let LotDone {
+                asked,
+                workers: staff,
+            } = self.work_next(walk, &jobs, workers, pace)?;
+            workers = staff;
+            match asked {
+                Some(asked) => return Ok(LotDone {
+                    asked: Some(asked),
+                    workers,
+                }),
+                None => {}
+            }
+            pace.note(walk.nodes().saturating_sub(before));
         }
-        let before = walk.nodes();
-        let LotDone {
-            asked,
-            workers: staff,
-        } = work_next(
-            rt, alloc, question, walk, &jobs, workers, threads, pace, gate,
+    }
+
+    /// Works off the next jobs of the lot that the walk is at, or an open job by all threads together.
+    fn work_next(
+        &self,
+        walk: &mut LotWalk<'a>,
+        jobs: &NextJobs,
+        workers: Vec<Searcher<'a>>,
+        pace: &mut Pace,
+    ) -> Result<LotDone<'a>, NoMemory>
+        requires question { walk.old.question.now ≡ self.now.question.now }
+        requires at { IsAtLot walk.old }
+        requires next { AreNextRows (problem_of walk.old.question.now) walk.old.prefix.rows walk.old.bound jobs.now.rows jobs.now.end }
+        requires some { 0 < length jobs.now.rows }
+        requires one { pace.old.together ≡ true → length jobs.now.rows ≡ 1 }
+        requires workers { length workers.items ≤ 64 }
+        requires start { AreReady (IsAtStart self.now.question.now) workers.items }
+        ensures question { walk.new.question ≡ walk.old.question }
+        ensures limit { walk.new.limit ≡ walk.old.limit }
+        ensures bound { IfOk result (λ done. IfNone done.asked (walk.new.bound < walk.old.bound)) }
+        ensures worked { IfOk result (λ done. IsWorked self.now.question.now walk.old.limit (length walk.old.marks) walk.new done.asked) }
+        ensures workers { IfOk result (λ done. length done.workers.items ≤ 64) }
+        ensures start { IfOk result (λ done. AreReady (IsAtStart self.now.question.now) done.workers.items) }
+    {
+        if pace.together && walk.left() > 0 && walk.has_open_job(jobs.rows.get(0)) {
+            let before = walk.nodes();
+            let asked = self.share_job(walk, jobs, pace.later)?;
+            pace.note_together(walk.nodes().saturating_sub(before));
+            return Ok(LotDone { asked, workers });
+        }
+        self.share_jobs(walk, jobs, workers)
+    }
+
+    /// Works off the next job of the lot that the walk is at, an open one, by all threads together, and folds
+    /// its end into it.
+    fn share_job(
+        &self,
+        walk: &mut LotWalk<'a>,
+        job: &NextJobs,
+        few: u64,
+    ) -> Result<Option<Asked>, NoMemory>
+        requires question { walk.old.question.now ≡ self.now.question.now }
+        requires at { IsAtLot walk.old }
+        requires next { AreNextRows (problem_of walk.old.question.now) walk.old.prefix.rows walk.old.bound job.now.rows job.now.end }
+        requires one { length job.now.rows ≡ 1 }
+        requires plain { self.now.question.now.least ≡ false }
+        requires open_ { allows (problem_of self.now.question.now) walk.old.prefix.rows (slice_index job.now.rows 0) ≡ true }
+        requires part { let shape = self.now.question.now.shape in shape.m + 2 < shape.s + shape.t }
+        requires left { length walk.old.marks < walk.old.limit }
+        ensures question { walk.new.question ≡ walk.old.question }
+        ensures limit { walk.new.limit ≡ walk.old.limit }
+        ensures bound { IfOk result (λ asked. IfNone asked (walk.new.bound ≡ job.now.end)) }
+        ensures worked { IfOk result (IsWorked self.now.question.now walk.old.limit (length walk.old.marks) walk.new) }
+    {
+        let end = work_together(
+            self.rt,
+            self.alloc,
+            self.question,
+            walk.candidates(),
+            walk.lot(),
+            job.rows.get(0),
+            self.threads,
+            few,
+            walk.left(),
         )?;
-        workers = staff;
-        match asked {
-            Some(asked) => return Ok(LotDone {
-                asked: Some(asked),
-                workers,
-            }),
-            None => {}
-        }
-        pace.note(walk.nodes().saturating_sub(before));
+        let mut ends = Items::new(self.alloc);
+        ends.push(end)?;
+        walk.fold(job, ends)
+    }
+
+    /// Works off the next jobs of the lot that the walk is at, by as many threads as there are of them, at
+    /// most `threads`, and folds their ends into it.
+    fn share_jobs(
+        &self,
+        walk: &mut LotWalk<'a>,
+        jobs: &NextJobs,
+        workers: Vec<Searcher<'a>>,
+    ) -> Result<LotDone<'a>, NoMemory>
+        requires question { walk.old.question.now ≡ self.now.question.now }
+        requires at { IsAtLot walk.old }
+        requires next { AreNextRows (problem_of walk.old.question.now) walk.old.prefix.rows walk.old.bound jobs.now.rows jobs.now.end }
+        requires some { 0 < length jobs.now.rows }
+        requires workers { length workers.items ≤ 64 }
+        requires start { AreReady (IsAtStart self.now.question.now) workers.items }
+        ensures question { walk.new.question ≡ walk.old.question }
+        ensures limit { walk.new.limit ≡ walk.old.limit }
+        ensures bound { IfOk result (λ done. IfNone done.asked (walk.new.bound ≡ jobs.now.end)) }
+        ensures worked { IfOk result (λ done. IsWorked self.now.question.now walk.old.limit (length walk.old.marks) walk.new done.asked) }
+        ensures workers { IfOk result (λ done. length done.workers.items ≤ 64) }
+        ensures start { IfOk result (λ done. AreReady (IsAtStart self.now.question.now) done.workers.items) }
+    {
+        let rows = &jobs.rows;
+        let best = walk.best();
+        let wanted = usize::from(self.threads).min(rows.len());
+        let workers = staffed(
+            self.alloc,
+            self.question,
+            walk.candidates(),
+            workers,
+            wanted,
+        )?;
+        let left = walk.left();
+        let Worked { ends, workers } = ends_of_lot(
+            self.rt,
+            self.alloc,
+            self.question,
+            walk.lot(),
+            rows,
+            best.as_ref(),
+            workers,
+            left,
+            self.gate,
+        )?;
+        let workers = back_at_start(self.alloc, self.question, walk.lot(), &ends, workers)?;
+        let asked = walk.fold(jobs, ends)?;
+        Ok(LotDone { asked, workers })
     }
 }
 
@@ -328,130 +436,6 @@ fn work_alone(walk: &mut LotWalk, pace: &Pace) -> Result<Option<Asked>, NoMemory
     } else {
         walk.work(pace.alone)
     }
-}
-
-/// Works off the next jobs of the lot that the walk is at, or an open job by all threads together.
-fn work_next<'a, R: Threads + Sync, G: Gate>(
-    rt: &R,
-    alloc: Global,
-    question: &'a Question,
-    walk: &mut LotWalk<'a>,
-    jobs: &NextJobs,
-    workers: Vec<Searcher<'a>>,
-    threads: u8,
-    pace: &mut Pace,
-    gate: &G,
-) -> Result<LotDone<'a>, NoMemory>
-    requires question { walk.old.question.now ≡ question.now }
-    requires at { IsAtLot walk.old }
-    requires next { AreNextRows (problem_of walk.old.question.now) walk.old.prefix.rows walk.old.bound jobs.now.rows jobs.now.end }
-    requires some { 0 < length jobs.now.rows }
-    requires one { pace.old.together ≡ true → length jobs.now.rows ≡ 1 }
-    requires workers { length workers.items ≤ 64 }
-    requires start { AreReady (IsAtStart question.now) workers.items }
-    requires threads { (0 < threads) × (threads ≤ 64) }
-    ensures question { walk.new.question ≡ walk.old.question }
-    ensures limit { walk.new.limit ≡ walk.old.limit }
-    ensures bound { IfOk result (λ done. IfNone done.asked (walk.new.bound < walk.old.bound)) }
-    ensures worked { IfOk result (λ done. IsWorked question.now walk.old.limit (length walk.old.marks) walk.new done.asked) }
-    ensures workers { IfOk result (λ done. length done.workers.items ≤ 64) }
-    ensures start { IfOk result (λ done. AreReady (IsAtStart question.now) done.workers.items) }
-{
-    if pace.together && walk.left() > 0 && walk.has_open_job(jobs.rows.get(0)) {
-        let before = walk.nodes();
-        let asked = share_job(rt, alloc, question, walk, jobs, threads, pace.later)?;
-        pace.note_together(walk.nodes().saturating_sub(before));
-        return Ok(LotDone { asked, workers });
-    }
-    share_jobs(rt, alloc, question, walk, jobs, workers, threads, gate)
-}
-
-/// Works off the next job of the lot that the walk is at, an open one, by all threads together, and folds
-/// its end into it.
-fn share_job<'a, R: Threads + Sync>(
-    rt: &R,
-    alloc: Global,
-    question: &'a Question,
-    walk: &mut LotWalk<'a>,
-    job: &NextJobs,
-    threads: u8,
-    few: u64,
-) -> Result<Option<Asked>, NoMemory>
-    requires question { walk.old.question.now ≡ question.now }
-    requires at { IsAtLot walk.old }
-    requires next { AreNextRows (problem_of walk.old.question.now) walk.old.prefix.rows walk.old.bound job.now.rows job.now.end }
-    requires one { length job.now.rows ≡ 1 }
-    requires plain { question.now.least ≡ false }
-    requires open_ { allows (problem_of question.now) walk.old.prefix.rows (slice_index job.now.rows 0) ≡ true }
-    requires part { question.now.shape.m + 2 < question.now.shape.s + question.now.shape.t }
-    requires left { length walk.old.marks < walk.old.limit }
-    requires threads { (0 < threads) × (threads ≤ 64) }
-    ensures question { walk.new.question ≡ walk.old.question }
-    ensures limit { walk.new.limit ≡ walk.old.limit }
-    ensures bound { IfOk result (λ asked. IfNone asked (walk.new.bound ≡ job.now.end)) }
-    ensures worked { IfOk result (IsWorked question.now walk.old.limit (length walk.old.marks) walk.new) }
-{
-    let end = work_together(
-        rt,
-        alloc,
-        question,
-        walk.candidates(),
-        walk.lot(),
-        job.rows.get(0),
-        threads,
-        few,
-        walk.left(),
-    )?;
-    let mut ends = Items::new(alloc);
-    ends.push(end)?;
-    walk.fold(job, ends)
-}
-
-/// Works off the next jobs of the lot that the walk is at, by as many threads as there are of them, at most
-/// `threads`, and folds their ends into it.
-fn share_jobs<'a, R: Threads + Sync, G: Gate>(
-    rt: &R,
-    alloc: Global,
-    question: &'a Question,
-    walk: &mut LotWalk<'a>,
-    jobs: &NextJobs,
-    workers: Vec<Searcher<'a>>,
-    threads: u8,
-    gate: &G,
-) -> Result<LotDone<'a>, NoMemory>
-    requires question { walk.old.question.now ≡ question.now }
-    requires at { IsAtLot walk.old }
-    requires next { AreNextRows (problem_of walk.old.question.now) walk.old.prefix.rows walk.old.bound jobs.now.rows jobs.now.end }
-    requires some { 0 < length jobs.now.rows }
-    requires workers { length workers.items ≤ 64 }
-    requires start { AreReady (IsAtStart question.now) workers.items }
-    requires threads { (0 < threads) × (threads ≤ 64) }
-    ensures question { walk.new.question ≡ walk.old.question }
-    ensures limit { walk.new.limit ≡ walk.old.limit }
-    ensures bound { IfOk result (λ done. IfNone done.asked (walk.new.bound ≡ jobs.now.end)) }
-    ensures worked { IfOk result (λ done. IsWorked question.now walk.old.limit (length walk.old.marks) walk.new done.asked) }
-    ensures workers { IfOk result (λ done. length done.workers.items ≤ 64) }
-    ensures start { IfOk result (λ done. AreReady (IsAtStart question.now) done.workers.items) }
-{
-    let rows = &jobs.rows;
-    let best = walk.best();
-    let wanted = usize::from(threads).min(rows.len());
-    let workers = staffed(alloc, question, walk.candidates(), workers, wanted)?;
-    let left = walk.left();
-    let Worked { ends, workers } = ends_of_lot(
-        rt,
-        alloc,
-        question,
-        walk.lot(),
-        rows,
-        best.as_ref(),
-        workers,
-        left,
-        gate,
-    )?;
-    let workers = back_at_start(alloc, question, walk.lot(), &ends, workers)?;
-    let asked = walk.fold(jobs, ends)?;
-    Ok(LotDone { asked, workers })
 }
 
 /// The workers, and new ones where there are fewer than wanted.

@@ -3,7 +3,7 @@ use Rattle.fx_vectors.specs.declared.question.Question.{Question}
 use Rattle.fx_search.specs.LotWalks.{IsRight}
 use Rattle.fx_search.specs.declared.asking.Asked.{Asked}
 use Rattle.fx_search.specs.declared.lot_walk.LotWalk.{LotWalk}
-use Rattle.fx_board.proofs.asking.work_off.Goals as goal
+use Rattle.fx_board.proofs.asking.Search.work_off.Goals as goal
 
 some-of : (xs : List ℕ) → (xs ≡ [] → ⊥) → 0 < length xs
 some-of [] h = absurd (h refl)
@@ -67,7 +67,7 @@ returns-in-Some g c =
     record {
       same = (c.work_alone.ensures.question ∙ i.question, c.work_alone.ensures.limit ∙ i.limit);
       done = record {
-        folded = right-of c.in-Some.asked c.loop-asked.walk.question.now c.args.question.now c.loop-asked.walk.limit c.args.walk.now.limit (ap (λ b. b.now) i.question ∙ c.requires.question) i.limit right;
+        folded = right-of c.in-Some.asked c.loop-asked.walk.question.now c.args.self.now.question.now c.loop-asked.walk.limit c.args.walk.now.limit (ap (λ b. b.now) i.question ∙ c.requires.question) i.limit right;
         few = i.few;
         start = i.start;
       };
@@ -86,7 +86,7 @@ returns-then-is_empty g c =
 pub returns-in-Some-asked : goal.returns-in-Some-asked
 returns-in-Some-asked g c =
     let i = c.loop-asked.invariant in
-    let question = c.args.question.now in
+    let question = c.args.self.now.question.now in
     let right = rw c.in-Some-asked.is at c.in_ok-asked-2.ensures.worked in
     record {
       same = (c.work_next.ensures.question ∙ c.work_alone.ensures.question ∙ i.question, c.work_next.ensures.limit ∙ c.work_alone.ensures.limit ∙ i.limit);
