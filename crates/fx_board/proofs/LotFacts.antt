@@ -63,11 +63,7 @@ pub ok-both : {X Y : Type 0} (r : Result X Y) (P Q R : X → Type 0) → ((x : X
 ok-both (Ok x) P Q R f h k = f x h k
 ok-both (Err y) P Q R f h k = tt
 
--- what follows for the value of an Ok
-pub if-ok : {X Y : Type 0} (r : Result X Y) (P Q : X → Type 0) → ((x : X) → P x → Q x) → IfOk r P → IfOk r Q
-if-ok (Ok x) P Q f h = f x h
-if-ok (Err y) P Q f h = tt
-
+-- what follows where there is none
 pub if-none : {X : Type 0} (o : Option X) (P Q : Type 0) → (P → Q) → IfNone o P → IfNone o Q
 if-none None P Q f h = f h
 if-none (Some x) P Q f h = tt

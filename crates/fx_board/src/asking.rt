@@ -43,6 +43,20 @@ pub struct Alone {
     pub later: u64,
 }
 
+impl Alone {
+    /// Shares nothing of a question that one thread would have answered by the time that the others have
+    /// started, and listed the forbidden vectors of effects.
+    pub fn of(question: &Question) -> Alone
+        requires { IsValid question.now }
+    {
+        let nodes = FEW.saturating_add(listing_nodes(question));
+        Alone {
+            first: nodes,
+            later: nodes,
+        }
+    }
+}
+
 /// How the next jobs are handed out, by what those before took.
 #[derive(Clone, Copy)]
 struct Pace {
@@ -98,20 +112,6 @@ impl Pace {
     fn note_together(&mut self, nodes: u64) {
         // Jobs of no more than a few parts are better worked off side by side.
         self.together = nodes >= self.later.saturating_mul(16);
-    }
-}
-
-impl Alone {
-    /// Shares nothing of a question that one thread would have answered by the time that the others have
-    /// started, and listed the forbidden vectors of effects.
-    pub fn of(question: &Question) -> Alone
-        requires { IsValid question.now }
-    {
-        let nodes = FEW.saturating_add(listing_nodes(question));
-        Alone {
-            first: nodes,
-            later: nodes,
-        }
     }
 }
 

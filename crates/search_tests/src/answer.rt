@@ -3,7 +3,7 @@ ghost use Rattle.std.specs.Prelude.{◌<◌, ◌≤◌};
 use crate::board::TURNS;
 use fx_answer::answer;
 use fx_base::{Bytes, put, put_number};
-use fx_board::{Ended, FreeGate, Gate};
+use fx_board::{FreeGate, Gate};
 use fx_lexer::lex;
 use fx_statements::{End, Outcome, Program, Step, parse};
 use fx_vectors::Matrix;
@@ -224,7 +224,7 @@ impl Gate for Waiting {
         }
     }
 
-    fn ended(&self, _end: &Ended) {}
+    fn ended(&self, _end: &fx_board::Ended) {}
 }
 
 /// Jobs of a question with many nodes are worked off side by side.

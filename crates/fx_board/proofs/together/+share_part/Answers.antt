@@ -1,4 +1,5 @@
 use Rattle.std.proofs.Common.{◌≡◌, ◌∙◌, ◌≤◌, ◌<◌, ◌+◌, ◌++◌, ◌∷◌, [], ℕ, List, length, length-append, map, sym, ap, arith}
+use Rattle.std.proofs.lemmas.Result.{IfOk-weaker}
 use Rattle.fx_designs.specs.Nodes.{parent, last_row, Mark}
 use Rattle.fx_vectors.specs.Matrix.{MatrixView}
 use Rattle.fx_vectors.specs.declared.question.Question.{Question}
@@ -9,7 +10,6 @@ use Rattle.fx_search.specs.declared.subtree_walk.SubtreeWalk.{SubtreeWalk}
 use Rattle.fx_search.specs.declared.walk.End.{End}
 use Rattle.fx_search.specs.declared.walk.End.TheVariants.{Closed}
 use Rattle.fx_search.proofs.SubtreeSteps.{partly-walked, child-closed, child-ended}
-use Rattle.fx_board.proofs.LotFacts.{if-ok}
 use Rattle.fx_board.proofs.together.+share_part.Goals as goal
 
 -- a child has a row
@@ -89,5 +89,5 @@ share_part-returns g t c =
     let mine = rw (c.in_ok-end-2.was, c.in-Closed.is) at c.side_by_side-end.ensures.one in
     let left = c.leave.ensures in
     let partly = child-closed c.args.limit c.args.walk.now c.next.new.self down c.side_by_side-end.new.one mine c.leave.new.self left.inside left.question left.rows left.bound left.marks in
-    if-ok c.take_in.result (IsWalked c.args.limit c.leave.new.self c.take_in.new.self) (IsWalked c.args.limit c.args.walk.now c.take_in.new.self)
+    IfOk-weaker c.take_in.result (IsWalked c.args.limit c.leave.new.self c.take_in.new.self) (IsWalked c.args.limit c.args.walk.now c.take_in.new.self)
     (λ end h. partly-walked c.args.limit c.args.walk.now c.leave.new.self partly.0 c.take_in.new.self end h) c.take_in.ensures

@@ -1,7 +1,7 @@
 use Rattle.std.proofs.Common.{◌≡◌, ◌∙◌, ◌<◌, ◌++◌, ◌∷◌, [], ℕ, List, length, length-append, ap, arith}
+use Rattle.std.proofs.lemmas.Result.{IfOk-weaker}
 use Rattle.fx_search.specs.SubtreeWalks.{IsWalked}
 use Rattle.fx_search.proofs.SubtreeSteps.{partly-start, partly-both, partly-walked, child-closed, child-ended}
-use Rattle.fx_board.proofs.LotFacts.{if-ok}
 use Rattle.fx_board.proofs.together.+walk_parts.Goals as goal
 
 -- a child has a row
@@ -47,5 +47,5 @@ returns-in_default g t c =
 
 pub returns : goal.returns
 returns g t c =
-    if-ok c.walk_part.result (IsWalked c.args.limit c.loop-parts.walk c.walk_part.new.walk) (IsWalked c.args.limit c.args.walk.now c.walk_part.new.walk)
+    IfOk-weaker c.walk_part.result (IsWalked c.args.limit c.loop-parts.walk c.walk_part.new.walk) (IsWalked c.args.limit c.args.walk.now c.walk_part.new.walk)
     (λ end h. partly-walked c.args.limit c.args.walk.now c.loop-parts.walk c.loop-parts.invariant c.walk_part.new.walk end h) c.walk_part.ensures

@@ -1,10 +1,11 @@
 use Rattle.std.proofs.Common.{◌≡◌, ◌<◌, ◌+◌, ℕ, true, false, slice_index, refl, sym, subst, arith}
 use Rattle.std.specs.Prelude.{IfNone}
+use Rattle.std.proofs.lemmas.Result.{IfOk-weaker}
 use Rattle.fx_vectors.specs.declared.question.Question.{Question}
 use Rattle.fx_vectors.specs.Question.{problem_of}
 use Rattle.fx_search.specs.Pruning.{allows, count_of_rows}
 use Rattle.fx_search.specs.declared.lot_walk.LotWalk.{LotWalk}
-use Rattle.fx_board.proofs.LotFacts.{row-is, next-are, child-below, further, open-job, if-ok, if-none}
+use Rattle.fx_board.proofs.LotFacts.{row-is, next-are, child-below, further, open-job, if-none}
 use Rattle.fx_board.proofs.asking.Search.work_next.Goals as goal
 
 pub has_open_job-requires-clause-below : goal.has_open_job-requires-clause-below
@@ -53,5 +54,5 @@ returns-clause-bound g c =
     let w : LotWalk = c.args.walk.now in
     let jobs = c.args.jobs.now in
     let low : jobs.end < w.bound = further (problem_of w.question.now) w.prefix.rows w.bound jobs.rows jobs.end c.requires.next c.requires.some in
-    if-ok c.share_jobs.result (λ done. IfNone done.asked (c.share_jobs.new.walk.bound ≡ jobs.end)) (λ done. IfNone done.asked (c.share_jobs.new.walk.bound < w.bound))
+    IfOk-weaker c.share_jobs.result (λ done. IfNone done.asked (c.share_jobs.new.walk.bound ≡ jobs.end)) (λ done. IfNone done.asked (c.share_jobs.new.walk.bound < w.bound))
     (λ done h. if-none done.asked (c.share_jobs.new.walk.bound ≡ jobs.end) (c.share_jobs.new.walk.bound < w.bound) (λ e. omega (arith, e, low)) h) c.share_jobs.ensures.bound
