@@ -38,9 +38,10 @@ pub fn book_pieces<R: Threads + Sync>(
     let mut end = Bytes::new(alloc);
     put(&mut end, b"END\n")?;
     let entries = entry_pieces(rt, alloc, &book.marks, 0, book.marks.len(), threads)?;
-    let front = one_piece(alloc, front)?;
-    let end = one_piece(alloc, end)?;
-    both(both(front, entries)?, end)
+    let mut pieces = one_piece(alloc, front)?;
+    pieces.append(entries)?;
+    pieces.push(end)?;
+    Ok(pieces)
 }
 
 /// The entries from `from` on up to `to`, in pieces, by so many threads, one half of them each.
@@ -77,7 +78,9 @@ fn entry_pieces<R: Threads + Sync>(
             ensures { IfOk result (λ pieces. joined pieces ≡ entries_text (slice_range marks.entry.now middle to)) }
         { entry_pieces(rt, alloc, marks, middle, to, half) },
     );
-    both(front?, back?)
+    let mut pieces = front?;
+    pieces.append(back?)?;
+    Ok(pieces)
 }
 
 fn one_piece(alloc: Global, piece: Bytes) -> Result<Items<Bytes>, NoMemory>
@@ -86,16 +89,4 @@ fn one_piece(alloc: Global, piece: Bytes) -> Result<Items<Bytes>, NoMemory>
     let mut pieces = Items::new(alloc);
     pieces.push(piece)?;
     Ok(pieces)
-}
-
-/// The pieces of both.
-fn both(front: Items<Bytes>, back: Items<Bytes>) -> Result<Items<Bytes>, NoMemory>
-    ensures { IfOk result (λ all. all ≡ front ++ back) }
-{
-    let mut front = front.into_vec();
-    let mut back = back.into_vec();
-    match front.append(&mut back) {
-        Ok(()) => Ok(Items::from_vec(front)),
-        Err(_) => Err(NoMemory),
-    }
 }
