@@ -1,6 +1,5 @@
 use Rattle.std.proofs.Common.{◌≡◌, ◌+◌, ◌-◌, ◌/◌, ℕ, List, ◌++◌, arith}
 use Rattle.std.specs.List.{slice_range}
-use Rattle.std.proofs.lemmas.Result.{IfOk-weaker}
 use Rattle.fx_base.specs.Pieces.{joined}
 use Rattle.fx_book.specs.Entries.{entries_text}
 use Rattle.fx_book.proofs.Joins.{entries-both}
@@ -14,6 +13,5 @@ returns g t c =
     let front : List (List ℕ) = c.in_ok-front.field-0 in
     let back : List (List ℕ) = c.in_ok-back.field-0 in
     let ordered = c.requires.ordered in
-    IfOk-weaker c.both.result (λ all. all ≡ front ++ back) (λ pieces. joined pieces ≡ entries_text (slice_range c.args.marks.now from to))
-    (λ all same. entries-both c.args.marks.now from middle to front back all (omega arith) (omega arith)
-    (rw c.in_ok-front.was at c.join-front.ensures.first) (rw c.in_ok-back.was at c.join-front.ensures.second) same) c.both.ensures
+    entries-both c.args.marks.now from middle to front back c.append.new.self (omega arith) (omega arith)
+    (rw c.in_ok-front.was at c.join-front.ensures.first) (rw c.in_ok-back.was at c.join-front.ensures.second) c.in_ok-append.ensures.ok
