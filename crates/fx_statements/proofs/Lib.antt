@@ -1,5 +1,6 @@
 pub mod Bounds
 pub mod ComponentCounts
+mod Stops
 pub mod StepByStep
 mod Examples
 pub mod Readings

@@ -22,6 +22,7 @@ use Rattle.fx_statements.specs.Goals.{criterion_of, goal_of}
 use Rattle.fx_statements.specs.Valid.{settings_in}
 use Rattle.fx_statements.specs.Steps.{Meaning, asked_by, examine_of, factors_by, head_of, factor_limit, step_by, step_of}
 use Rattle.fx_statements.proofs.Bounds.{same_settings}
+use Rattle.fx_statements.proofs.Stops.{stopped}
 use Rattle.fx_statements.specs.Programs.{steps_behind}
 
 module _ (statements : List (List Written)) (i len : ℕ) (d : List Written) (h : i < length statements) where
@@ -49,6 +50,13 @@ module _ (statements : List (List Written)) (i len : ℕ) (d : List Written) (h 
       ap (steps_behind earlier done) (step_here e)
       ∙ ap (λ r. r >>= (λ (m : Meaning). steps_behind (earlier ++ names_of m.outputs) (done ++ m ∷ []) (steps_of rest))) (ap (step_of earlier) (sym (slice long)) ∙ is)
 
+  -- a step that is refused
+  pub step_refused : (earlier : List (List ℕ)) (done : List Meaning) → begins Proc proc ≡ true → len ≡ prefix_len (λ s. not (ends_step s)) rest
+      → (reason : ParseStop) → IsRefused (step_of earlier (take (i + (1 + len) - i) (drop i statements))) reason
+      → IsRefused (steps_behind earlier done (steps_of (drop i statements))) reason
+  step_refused earlier done e long reason h =
+      rw (step_here e) (stopped (step_of earlier (proc ∷ rest_of_step rest)) _ reason (rw (slice long) at h))
+
 -- one step, from its parts
 module _ (earlier : List (List ℕ)) (statements : List (List Written)) (named : List Written) (factors : List (List ℕ)) (settings : StepSettings) (wanted : Wanted) (outputs : List OutputSpec)
     (is_named : factors_by (start_of (head_of statements)) (factor_limit statements) named ≡ Ok factors)
@@ -62,6 +70,11 @@ module _ (earlier : List (List ℕ)) (statements : List (List Written)) (named :
   step_is examine listed kind =
       whole
       ∙ ap₂ (λ (x : StepSettings) (e : Examine). Ok (record { factors = factors; settings = x; goal = goal_of wanted; examine = e; outputs = outputs })) (sym (same_settings settings wanted kind)) (sym listed)
+
+-- a step whose settings are refused
+pub settings_refused : (earlier : List (List ℕ)) (statements : List (List Written)) (named : List Written) (factors : List (List ℕ)) → factors_by (start_of (head_of statements)) (factor_limit statements) named ≡ Ok factors
+    → (reason : ParseStop) → IsRefused (asked_by factors (step_said (head_of statements) named statements) statements) reason → IsRefused (step_by earlier statements (Some named)) reason
+settings_refused earlier statements named factors is_named reason h = rw is_named (stopped (asked_by factors (step_said (head_of statements) named statements) statements) _ reason h)
 
 -- a step whose outputs are refused
 module _ (earlier : List (List ℕ)) (statements : List (List Written)) (named : List Written) (factors : List (List ℕ)) (settings : StepSettings) (wanted : Wanted)

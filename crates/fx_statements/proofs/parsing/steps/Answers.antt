@@ -1,7 +1,8 @@
 use Rattle.std.proofs.Common.{◌≡◌, ℕ, List, ◌+◌, ◌-◌, ◌++◌, ◌∷◌, [], map, drop, sym, ap, ap₂, subst, ◌∙◌, not}
 use Rattle.std.specs.List.{IsDistinct, prefix_len}
-use Rattle.std.proofs.lemmas.List.{take_rest, map-append}
+use Rattle.std.proofs.lemmas.List.{take_rest, drop_all, map-append}
 use Rattle.fx_language.specs.declared.symbol.Symbol.TheVariants.{Proc}
+use Rattle.fx_text.specs.declared.refusal.ParseStop.TheVariants as stop
 use Rattle.fx_text.specs.Written.{begins}
 use Rattle.fx_text.specs.Statements.{ends_step, steps_of}
 use Rattle.fx_statements.specs.Steps.{meaning_of}
@@ -11,7 +12,8 @@ use Rattle.fx_outputs.specs.Outputs.{names_of}
 use Rattle.fx_text.specs.Names.{is_same_name}
 use Rattle.fx_text.specs.Sentences.{IsAccepted}
 use Rattle.fx_text.proofs.Distinct.{none_differ}
-use Rattle.fx_statements.proofs.StepByStep.{one_step}
+use Rattle.fx_statements.proofs.StepByStep.{one_step, step_refused}
+use Rattle.fx_statements.proofs.Stops.{refused}
 use Rattle.fx_statements.proofs.parsing.steps.Goals as goal
 
 pub loop-i-preserved : goal.loop-i-preserved
@@ -53,3 +55,22 @@ step_of-requires-clause-differ c = c.loop-i.invariant.differ
 
 pub returns-clause-differ : goal.returns-clause-differ
 returns-clause-differ c = subst (IsDistinct is_same_name) c.loop-i.invariant.names c.loop-i.invariant.differ
+
+pub returns-in_err-step-clause-refused : goal.returns-in_err-step-clause-refused
+returns-in_err-step-clause-refused c =
+    let statements = c.args.statements.now in
+    let i = c.loop-i.i in
+    let long : c.rest_len-len.result ≡ prefix_len (λ s. not (ends_step s)) (drop (i + 1) statements) =
+    c.rest_len-len.ensures.value ∙ ap (prefix_len (λ s. not (ends_step s))) (take_rest statements (i + 1)) in
+    let proc = ap (begins Proc) (sym c.index-statements-i.is) ∙ sym c.if-not-begins.ensures in
+    refused _ _ c.in_err-step.field-0.0 c.from_residual.ensures.1
+    (rw c.loop-i.invariant.meaning
+    (step_refused statements i c.rest_len-len.result c.index-statements-i.result c.loop-i-test.true c.loop-i.earlier (map meaning_of c.loop-i.program) proc long c.in_err-step.field-0.0 c.in_err-step.ensures.refused))
+
+pub returns-in_err-push-clause-refused : goal.returns-in_err-push-clause-refused
+returns-in_err-push-clause-refused c = refused _ _ stop.NoMemory c.from_residual-in_err-push.ensures.1 tt
+
+pub returns-clause-program : goal.returns-clause-program
+returns-clause-program c =
+    c.loop-i.invariant.meaning
+    ∙ ap (λ rest. steps_behind c.loop-i.earlier (map meaning_of c.loop-i.program) (steps_of rest)) (drop_all c.loop-i.i c.args.statements.now c.loop-i-test.false)

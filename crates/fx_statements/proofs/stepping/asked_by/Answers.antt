@@ -1,12 +1,76 @@
-use Rattle.std.proofs.Common.{length, sym, subst, ◌∙◌}
+use Rattle.std.proofs.Common.{◌≡◌, ℕ, List, Ok, Err, length, refl, sym, subst, ◌∙◌}
+use Rattle.fx_text.specs.declared.refusal.Refusal.{Refusal}
+use Rattle.fx_text.specs.declared.refusal.ParseStop.{ParseStop}
+use Rattle.fx_text.specs.declared.refusal.ParseStop.TheVariants as stop
+use Rattle.fx_text.specs.Written.{Written}
+use Rattle.fx_text.specs.Refusals.{IsRefused}
+use Rattle.fx_settings.specs.declared.said.StepSaid.{StepSaid}
+use Rattle.fx_settings.specs.declared.settings.StepSettings.{StepSettings}
+use Rattle.fx_settings.specs.declared.settings.Unblocked.{Unblocked}
+use Rattle.fx_settings.specs.Settings.{unblocked_of, step_settings_of}
 use Rattle.fx_vectors.specs.Effects.{numbers_of}
 use Rattle.fx_vectors.specs.Question.{CanBeTold}
-use Rattle.fx_statements.specs.Goals.{goal_of}
-use Rattle.fx_statements.specs.Steps.{examine_of}
+use Rattle.fx_statements.specs.Goals.{Goal, goal_by, goal_of}
+use Rattle.fx_statements.specs.Steps.{asked_by, examine_of}
+use Rattle.fx_statements.specs.Components.{check_components, components_place}
 use Rattle.fx_statements.specs.Valid.{HasFewComponents}
 use Rattle.fx_statements.proofs.Bounds.{kept, without}
 use Rattle.fx_statements.proofs.Listed.{few_components}
+use Rattle.fx_statements.proofs.Stops.{refused, stopped}
 use Rattle.fx_statements.proofs.stepping.asked_by.Goals as goal
+
+-- the meaning of what is asked, part by part
+module _ (factors : List (List ℕ)) (said : StepSaid) (statements : List (List Written)) where
+  at_settings : (refusal : Refusal) → Err refusal ≡ unblocked_of (length factors) said → asked_by factors said statements ≡ Err refusal
+  at_settings refusal e = rw (← e) refl
+
+  module _ (unblocked : Unblocked) (one : Ok unblocked ≡ unblocked_of (length factors) said) where
+    at_goal : (reason : ParseStop) → IsRefused (goal_by unblocked.q factors statements unblocked.criterion) reason → IsRefused (asked_by factors said statements) reason
+    at_goal reason h = rw (← one) (stopped (goal_by unblocked.q factors statements unblocked.criterion) _ reason h)
+
+    module _ (wanted : Goal) (two : goal_by unblocked.q factors statements unblocked.criterion ≡ Ok wanted) where
+      at_blocks : (refusal : Refusal) → Err refusal ≡ step_settings_of unblocked said → asked_by factors said statements ≡ Err refusal
+      at_blocks refusal e = rw (← one, two, ← e) refl
+
+      module _ (settings : StepSettings) (three : Ok settings ≡ step_settings_of unblocked said) where
+        at_listing : (refusal : Refusal) → Err refusal ≡ check_components unblocked.q (length factors) wanted (components_place statements) → asked_by factors said statements ≡ Err refusal
+        at_listing refusal e = rw (← one, two, ← three, ← e) refl
+
+        all_asked : Ok tt ≡ check_components unblocked.q (length factors) wanted (components_place statements) → asked_by factors said statements ≡ Ok (settings, wanted)
+        all_asked e = rw (← one, two, ← three, ← e) refl
+
+pub returns-in_err-unblocked-clause-refused : goal.returns-in_err-unblocked-clause-refused
+returns-in_err-unblocked-clause-refused c =
+    refused _ _ (stop.Refused c.in_err-unblocked.field-0.0) c.from_residual.ensures.1
+    (at_settings c.args.factors.now c.args.said c.args.statements.now _ c.in_err-unblocked.ensures.value)
+
+pub returns-in_err-wanted-clause-refused : goal.returns-in_err-wanted-clause-refused
+returns-in_err-wanted-clause-refused c =
+    refused _ _ c.in_err-wanted.field-0.0 c.from_residual-in_err-wanted.ensures.1
+    (at_goal c.args.factors.now c.args.said c.args.statements.now c.in_ok-unblocked.unblocked c.in_ok-unblocked.ensures.value _ c.in_err-wanted.ensures.refused)
+
+pub returns-in_err-settings-clause-refused : goal.returns-in_err-settings-clause-refused
+returns-in_err-settings-clause-refused c =
+    refused _ _ (stop.Refused c.in_err-settings.field-0.0) c.from_residual-in_err-settings.ensures.1
+    (at_blocks c.args.factors.now c.args.said c.args.statements.now c.in_ok-unblocked.unblocked c.in_ok-unblocked.ensures.value _ c.in_ok-wanted.ensures.goal _ c.in_err-settings.ensures.value)
+
+pub returns-in_err-check_components-clause-refused : goal.returns-in_err-check_components-clause-refused
+returns-in_err-check_components-clause-refused c =
+    refused _ _ (stop.Refused c.in_err-check_components.field-0.0) c.from_residual-in_err-check_components.ensures.1
+    (at_listing c.args.factors.now c.args.said c.args.statements.now c.in_ok-unblocked.unblocked c.in_ok-unblocked.ensures.value _ c.in_ok-wanted.ensures.goal _ c.in_ok-settings.ensures.value _ c.in_err-check_components.ensures)
+
+pub returns-clause-asked : goal.returns-clause-asked
+returns-clause-asked c =
+    all_asked c.args.factors.now c.args.said c.args.statements.now c.in_ok-unblocked.unblocked c.in_ok-unblocked.ensures.value _ c.in_ok-wanted.ensures.goal _ c.in_ok-settings.ensures.value c.in_ok-check_components.ensures
+
+pub returns-clause-settings_valid : goal.returns-clause-settings_valid
+returns-clause-settings_valid c = c.in_ok-settings.ensures.valid (length c.args.factors.now) c.requires.some (sym c.in_ok-unblocked.ensures.value)
+
+pub returns-clause-kind : goal.returns-clause-kind
+returns-clause-kind c = c.in_ok-wanted.ensures.kind ∙ sym (kept c.in_ok-unblocked.unblocked c.args.said c.in_ok-settings.settings (sym c.in_ok-settings.ensures.value)).0
+
+pub returns-clause-few_effects : goal.returns-clause-few_effects
+returns-clause-few_effects c = c.in_ok-wanted.ensures.few
 
 pub returns-clause-askable : goal.returns-clause-askable
 returns-clause-askable c =
@@ -21,4 +85,4 @@ pub returns-clause-few_components : goal.returns-clause-few_components
 returns-clause-few_components c =
     let same = kept c.in_ok-unblocked.unblocked c.args.said c.in_ok-settings.settings (sym c.in_ok-settings.ensures.value) in
     subst (λ q. HasFewComponents q (length c.args.factors.now) (goal_of c.in_ok-wanted.wanted) (examine_of c.args.statements.now)) (sym same.1)
-    (few_components c.in_ok-unblocked.unblocked.q (length c.args.factors.now) (goal_of c.in_ok-wanted.wanted) c.args.statements.now (sym c.check_components.ensures ∙ c.in_ok-check_components.was))
+    (few_components c.in_ok-unblocked.unblocked.q (length c.args.factors.now) (goal_of c.in_ok-wanted.wanted) c.args.statements.now (sym c.in_ok-check_components.ensures))

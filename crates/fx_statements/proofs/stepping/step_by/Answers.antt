@@ -17,7 +17,8 @@ use Rattle.fx_statements.specs.Goals.{goal_of}
 use Rattle.fx_statements.specs.Valid.{CanBeWanted, HasFewComponents}
 use Rattle.fx_statements.specs.Steps.{asked_by, examine_of, factors_by, head_of, factor_limit}
 use Rattle.fx_statements.proofs.Bounds.{counted, same_settings, unsaid}
-use Rattle.fx_statements.proofs.StepByStep.{step_is, outputs_refused}
+use Rattle.fx_statements.proofs.StepByStep.{step_is, settings_refused, outputs_refused}
+use Rattle.fx_statements.proofs.Stops.{refused, stopped}
 use Rattle.fx_statements.proofs.stepping.step_by.Goals as goal
 
 pub invariant_of-result : goal.invariant_of-result
@@ -89,3 +90,22 @@ pub returns-clause-differ : goal.returns-clause-differ
 returns-clause-differ c =
     subst (IsDistinct is_same_name) (sym c.in_ok-outputs.ensures.names)
     (all_differ c.context_of-context.result c.args.earlier.now c.args.statements.now c.in_ok-outputs.outputs c.requires.differ c.in_ok-outputs.ensures.ok)
+
+pub returns-in_err-factors-clause-refused : goal.returns-in_err-factors-clause-refused
+returns-in_err-factors-clause-refused c =
+    let statements = c.args.statements.now in
+    let factors = rw (c.place.ensures ∙ ap start_of c.head_of-proc.ensures, c.factor_limit.ensures.value) at c.in_err-factors.ensures.refused in
+    refused _ _ c.in_err-factors.field-0.0 c.from_residual.ensures.1 (stopped (factors_by (start_of (head_of statements)) (factor_limit statements) c.args.named.now) _ _ factors)
+
+pub returns-in_err-settings-clause-refused : goal.returns-in_err-settings-clause-refused
+returns-in_err-settings-clause-refused c =
+    let statements = c.args.statements.now in
+    let named = c.args.named.now in
+    let is_named = rw (c.place.ensures ∙ ap start_of c.head_of-proc.ensures, c.factor_limit.ensures.value) at c.in_ok-factors.ensures.factors in
+    let said = c.step_said-said.ensures ∙ ap (λ p. step_said p named statements) c.head_of-proc.ensures in
+    let asked = rw (c.as_slice.ensures, said) at c.in_err-settings.ensures.refused in
+    refused _ _ c.in_err-settings.field-0.0 c.from_residual-in_err-settings.ensures.1
+    (settings_refused c.args.earlier.now statements named c.in_ok-factors.factors is_named c.in_err-settings.field-0.0 asked)
+
+pub returns-clause-names : goal.returns-clause-names
+returns-clause-names c = c.in_ok-outputs.ensures.names
