@@ -9,8 +9,7 @@ one_more f xs done i x within so_far is = rw (so_far, is, take_more xs i 0 withi
 
 pub loop-byte-preserved : goal.loop-byte-preserved
 loop-byte-preserved c =
-    c.in-Ok.ensures.items
-    ∙ one_more to_ascii_lowercase c.args.name.now c.loop-byte.folded.items c.loop-byte.byte-index c.to_ascii_lowercase.result c.loop-byte-test.true c.loop-byte.invariant c.to_ascii_lowercase.ensures.value
+    c.in-Ok.ensures.items ∙ one_more to_ascii_lowercase c.args.name.now c.loop-byte.folded.items c.loop-byte.byte-index _ c.loop-byte-test.true c.loop-byte.invariant (cc)
 
 pub returns : goal.returns
 returns c = c.loop-byte.invariant ∙ ap (map to_ascii_lowercase) (take_all c.loop-byte.byte-index c.args.name.now c.loop-byte-test.false)
