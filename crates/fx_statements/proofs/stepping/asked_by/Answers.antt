@@ -28,16 +28,12 @@ module _ (factors : List (List ℕ)) (said : StepSaid) (statements : List (List 
     at_goal : (reason : ParseStop) → IsRefused (goal_by unblocked.q factors statements unblocked.criterion) reason → IsRefused (asked_by factors said statements) reason
     at_goal reason h = rw (← one) (stopped (goal_by unblocked.q factors statements unblocked.criterion) _ reason h)
 
-    module _ (wanted : Goal) (two : goal_by unblocked.q factors statements unblocked.criterion ≡ Ok wanted) where
-      at_blocks : (refusal : Refusal) → Err refusal ≡ step_settings_of unblocked said → asked_by factors said statements ≡ Err refusal
-      at_blocks refusal e = rw (← one, two, ← e) refl
+    module _ (wanted : Goal) (settings : StepSettings) (two : goal_by unblocked.q factors statements unblocked.criterion ≡ Ok wanted) (three : Ok settings ≡ step_settings_of unblocked said) where
+      at_listing : (refusal : Refusal) → Err refusal ≡ check_components unblocked.q (length factors) wanted (components_place statements) → asked_by factors said statements ≡ Err refusal
+      at_listing refusal e = rw (← one, two, ← three, ← e) refl
 
-      module _ (settings : StepSettings) (three : Ok settings ≡ step_settings_of unblocked said) where
-        at_listing : (refusal : Refusal) → Err refusal ≡ check_components unblocked.q (length factors) wanted (components_place statements) → asked_by factors said statements ≡ Err refusal
-        at_listing refusal e = rw (← one, two, ← three, ← e) refl
-
-        all_asked : Ok tt ≡ check_components unblocked.q (length factors) wanted (components_place statements) → asked_by factors said statements ≡ Ok (settings, wanted)
-        all_asked e = rw (← one, two, ← three, ← e) refl
+      all_asked : Ok tt ≡ check_components unblocked.q (length factors) wanted (components_place statements) → asked_by factors said statements ≡ Ok (settings, wanted)
+      all_asked e = rw (← one, two, ← three, ← e) refl
 
 pub returns-in_err-unblocked-clause-refused : goal.returns-in_err-unblocked-clause-refused
 returns-in_err-unblocked-clause-refused c =
@@ -49,19 +45,14 @@ returns-in_err-wanted-clause-refused c =
     refused _ _ c.in_err-wanted.field-0.0 c.from_residual-in_err-wanted.ensures.1
     (at_goal c.args.factors.now c.args.said c.args.statements.now c.in_ok-unblocked.unblocked c.in_ok-unblocked.ensures.value _ c.in_err-wanted.ensures.refused)
 
-pub returns-in_err-settings-clause-refused : goal.returns-in_err-settings-clause-refused
-returns-in_err-settings-clause-refused c =
-    refused _ _ (stop.Refused c.in_err-settings.field-0.0) c.from_residual-in_err-settings.ensures.1
-    (at_blocks c.args.factors.now c.args.said c.args.statements.now c.in_ok-unblocked.unblocked c.in_ok-unblocked.ensures.value _ c.in_ok-wanted.ensures.goal _ c.in_err-settings.ensures.value)
-
 pub returns-in_err-check_components-clause-refused : goal.returns-in_err-check_components-clause-refused
 returns-in_err-check_components-clause-refused c =
     refused _ _ (stop.Refused c.in_err-check_components.field-0.0) c.from_residual-in_err-check_components.ensures.1
-    (at_listing c.args.factors.now c.args.said c.args.statements.now c.in_ok-unblocked.unblocked c.in_ok-unblocked.ensures.value _ c.in_ok-wanted.ensures.goal _ c.in_ok-settings.ensures.value _ c.in_err-check_components.ensures)
+    (at_listing c.args.factors.now c.args.said c.args.statements.now c.in_ok-unblocked.unblocked c.in_ok-unblocked.ensures.value _ _ c.in_ok-wanted.ensures.goal c.in_ok-settings.ensures.value _ c.in_err-check_components.ensures)
 
 pub returns-clause-asked : goal.returns-clause-asked
 returns-clause-asked c =
-    all_asked c.args.factors.now c.args.said c.args.statements.now c.in_ok-unblocked.unblocked c.in_ok-unblocked.ensures.value _ c.in_ok-wanted.ensures.goal _ c.in_ok-settings.ensures.value c.in_ok-check_components.ensures
+    all_asked c.args.factors.now c.args.said c.args.statements.now c.in_ok-unblocked.unblocked c.in_ok-unblocked.ensures.value _ _ c.in_ok-wanted.ensures.goal c.in_ok-settings.ensures.value c.in_ok-check_components.ensures
 
 pub returns-clause-settings_valid : goal.returns-clause-settings_valid
 returns-clause-settings_valid c = c.in_ok-settings.ensures.valid (length c.args.factors.now) c.requires.some (sym c.in_ok-unblocked.ensures.value)
