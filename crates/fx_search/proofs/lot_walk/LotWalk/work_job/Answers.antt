@@ -14,7 +14,7 @@ use Rattle.fx_search.specs.declared.walk.End.TheVariants.{Found, Closed, Spent}
 use Rattle.fx_search.specs.LotWalks.{candidates_of}
 use Rattle.fx_search.specs.Pruning.{size_of}
 use Rattle.fx_search.specs.Searchers.{standing_in}
-use Rattle.fx_search.specs.Standing.{kept_rows}
+use Rattle.fx_search.specs.Standing.{FitsDimensions, kept_rows}
 use Rattle.fx_search.specs.declared.lot_walk.LotWalk.{LotWalk}
 use Rattle.fx_search.proofs.LotJobs.{job-begins, job-closed, job-found, job-spent}
 use Rattle.fx_search.proofs.Starts.{plain_best}
@@ -25,6 +25,39 @@ pub begin_again-requires-clause-plain : goal.begin_again-requires-clause-plain
 begin_again-requires-clause-plain c = λ e.
     let w : LotWalk = c.args.self.now in
     c.requires.at.in_lot.best_is ∙ plain_best (problem_of w.question.now) w.prefix.rows (ap (λ (z : Problem). z.least) (sym c.requires.at.placed.at.incumbent_problem) ∙ e)
+
+pub begin_again-requires-clause-dimensions : goal.begin_again-requires-clause-dimensions
+begin_again-requires-clause-dimensions c = subst (λ (z : Problem). FitsDimensions z.dimensions c.args.self.now.earlier) (sym c.requires.at.placed.at.incumbent_problem) c.requires.at.sized
+
+pub enter-requires-clause-at : goal.enter-requires-clause-at
+enter-requires-clause-at c =
+    let at = c.requires.at.placed.at in
+    record {
+      pruner_problem = at.pruner_problem;
+      pruner_rows = at.pruner_rows;
+      incumbent_problem = ap (λ s. s.problem) c.begin_again.ensures ∙ at.incumbent_problem;
+      incumbent_rows = ap (λ s. s.prefix) c.begin_again.ensures ∙ at.incumbent_rows;
+    }
+
+pub enter-requires-clause-part : goal.enter-requires-clause-part
+enter-requires-clause-part c = omega (arith, c.requires.at.rows, c.requires.at.placed.jobs)
+
+pub enter-requires-clause-below : goal.enter-requires-clause-below
+enter-requires-clause-below c = omega (arith, c.requires.next.low, c.requires.at.placed.bound)
+
+pub enter-requires-clause-canonical : goal.enter-requires-clause-canonical
+enter-requires-clause-canonical c = c.requires.next.canonical
+
+pub enter-requires-clause-limit : goal.enter-requires-clause-limit
+enter-requires-clause-limit c = c.requires.at.so_far.fits
+
+pub settle-requires-clause-dimensions : goal.settle-requires-clause-dimensions
+settle-requires-clause-dimensions c =
+    let back = rw c.in-Closed.is at c.in_ok-end.ensures.ended.back in
+    subst (λ (z : Problem). FitsDimensions z.dimensions c.best-found.result) (c.requires.at.placed.at.incumbent_problem ∙ sym back.incumbent_problem) c.best-found.ensures.dimensions
+
+pub found-requires-clause-shape : goal.found-requires-clause-shape
+found-requires-clause-shape c = ap (λ m. m.shape) c.replace-matrix.ensures.value ∙ c.in_ok-end.ensures.ended.shape
 
 pub enter-requires-clause-best : goal.enter-requires-clause-best
 enter-requires-clause-best c =
