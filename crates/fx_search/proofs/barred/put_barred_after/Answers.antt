@@ -1,8 +1,22 @@
-use Rattle.std.proofs.Common.{◌≡◌, ◌<◌, ◌≤◌, ◌+◌, ◌-◌, ◌*◌, ◌^◌, ◌∙◌, ℕ, List, None, length, slice_index_or, ap, arith}
+use Rattle.std.proofs.Common.{◌≡◌, ◌<◌, ◌≤◌, ◌+◌, ◌-◌, ◌*◌, ◌^◌, ◌∙◌, ℕ, List, None, length, slice_index_or, sym, ap, ap₂, subst, arith}
 use Rattle.fx_designs.specs.Problems.{Problem}
 use Rattle.fx_search.specs.Barred.{view_of}
 use Rattle.fx_search.proofs.Kept.{said}
 use Rattle.fx_search.proofs.barred.put_barred_after.Goals as goal
+
+pub returns-then-len-s-clause-best : goal.returns-then-len-s-clause-best
+returns-then-len-s-clause-best c = λ blocks. absurd (omega (arith, blocks, c.if-len-s.true, c.len-len.ensures.count))
+
+pub returns-then-len-s-clause-within : goal.returns-then-len-s-clause-within
+returns-then-len-s-clause-within c = λ blocks. absurd (omega (arith, blocks, c.if-len-s.true, c.len-len.ensures.count))
+
+pub fill_table-requires-clause-first : goal.fill_table-requires-clause-first
+fill_table-requires-clause-first c = ap₂ (λ a b. (a - c.args.s) * b) c.len-len.ensures.count (c.from.ensures ∙ c.size.ensures.points)
+
+pub returns-clause-kept : goal.returns-clause-kept
+returns-clause-kept c = λ k low.
+    let first = ap₂ (λ a b. (a - c.args.s) * b) c.len-len.ensures.count (c.from.ensures ∙ c.size.ensures.points) in
+    c.fill_table.ensures.kept k (subst (λ n. k < n) (sym first) low)
 
 pub returns-clause-set : goal.returns-clause-set
 returns-clause-set c x low =
