@@ -5,4 +5,3 @@ pub mod Covered
 pub mod Apart
 pub mod Within
 pub mod Placed
-mod Stops

@@ -1,6 +1,5 @@
 pub mod Bounds
 pub mod ComponentCounts
-mod Stops
 pub mod StepByStep
 mod Examples
 pub mod Readings

@@ -22,7 +22,7 @@ use Rattle.fx_statements.specs.Goals.{criterion_of, goal_of}
 use Rattle.fx_statements.specs.Valid.{settings_in}
 use Rattle.fx_statements.specs.Steps.{Meaning, asked_by, examine_of, factors_by, head_of, factor_limit, step_by, step_of}
 use Rattle.fx_statements.proofs.Bounds.{same_settings}
-use Rattle.fx_statements.proofs.Stops.{stopped}
+use Rattle.fx_text.proofs.Stops.{stopped}
 use Rattle.fx_statements.specs.Programs.{steps_behind}
 
 module _ (statements : List (List Written)) (i len : ℕ) (d : List Written) (h : i < length statements) where

@@ -9,3 +9,4 @@ pub mod Chains
 pub mod Numbered
 pub mod RangeParts
 pub mod Placed
+pub mod Stops

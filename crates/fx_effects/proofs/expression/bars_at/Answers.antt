@@ -7,7 +7,7 @@ use Rattle.fx_text.specs.declared.refusal.ParseStop.TheVariants as stop
 use Rattle.fx_text.specs.Written.{Written}
 use Rattle.fx_text.specs.Refusals.{IsRefused}
 use Rattle.fx_effects.specs.Expressions.{Reading, read, all_read, bars_at, expression, stars_len, stars_of, upto_of}
-use Rattle.fx_effects.proofs.Stops.{refused, stopped}
+use Rattle.fx_text.proofs.Stops.{refused, stopped}
 use Rattle.fx_effects.proofs.expression.bars_at.Goals as goal
 
 -- the meaning of stars that are joined by bars, part by part; `n` lexemes precede `@`

@@ -5,7 +5,7 @@ use Rattle.fx_text.specs.Written.{Written}
 use Rattle.fx_text.specs.Refusals.{IsRefused}
 use Rattle.fx_effects.specs.Expressions.{Expression, begins_effect, effect_len, expression_at, expressions_from}
 use Rattle.fx_effects.proofs.Joined.{small_more, next, read, passed}
-use Rattle.fx_effects.proofs.Stops.{refused, stopped}
+use Rattle.fx_text.proofs.Stops.{refused, stopped}
 use Rattle.fx_effects.proofs.expressions.expressions_of.Goals as goal
 use Rattle.fx_effects.proofs.expressions.expressions_of.Goals.{then-begins_effect+in_ok-expression+in_ok-push, else-begins_effect}
 

@@ -7,7 +7,7 @@ use Rattle.fx_text.specs.Refusals.{IsRefused}
 use Rattle.fx_effects.specs.Expressions.{Expression, expressions_of}
 use Rattle.fx_effects.specs.Lists.{effects_of, few_effects}
 use Rattle.fx_effects.specs.Models.{lists_at, check_some_effects, told_apart}
-use Rattle.fx_effects.proofs.Stops.{refused, stopped}
+use Rattle.fx_text.proofs.Stops.{refused, stopped}
 use Rattle.fx_effects.proofs.model.lists_at.Goals as goal
 
 -- the meaning of two lists, part by part

@@ -1,12 +1,12 @@
-use Rattle.std.proofs.Common.{◌≡◌, ℕ, List, Result, Ok, Err, IfErr, drop, refl, sym, subst, ap}
+use Rattle.std.proofs.Common.{◌≡◌, ℕ, List, Result, Ok, Err, drop, refl, ap}
 use Rattle.std.specs.Prelude.{slice_get}
-use Rattle.std.specs.Result.{IsErrAnd}
 use Rattle.fx_language.specs.declared.symbol.Symbol.TheVariants.{Pointrep, Designrep, Blockname}
 use Rattle.fx_text.specs.declared.refusal.Refusal.{Refusal}
 use Rattle.fx_text.specs.declared.refusal.ParseStop.{ParseStop}
 use Rattle.fx_text.specs.declared.refusal.ParseStop.TheVariants as stop
 use Rattle.fx_text.specs.Written.{Written}
-use Rattle.fx_text.specs.Refusals.{IsRefused, ◌>>=◌}
+use Rattle.fx_text.specs.Refusals.{IsRefused}
+use Rattle.fx_text.proofs.Stops.{refused, stopped}
 use Rattle.fx_outputs.specs.declared.context.BlockCount.{BlockCount}
 use Rattle.fx_outputs.specs.declared.output.OutputSpec.{OutputSpec}
 use Rattle.fx_outputs.specs.declared.recode.Recode.{Recode}
@@ -19,16 +19,6 @@ use Rattle.fx_outputs.specs.Recodes.{recodes_of}
 use Rattle.fx_outputs.specs.Replications.{check_rows, replication_of}
 use Rattle.fx_outputs.specs.Shuffles.{shuffle_of}
 use Rattle.fx_outputs.proofs.output.output.Goals as goal
-
--- what is passed on refuses the text, if that is its meaning
-refused : (meaning : Result OutputSpec Refusal) (r : Result OutputSpec ParseStop) (reason : ParseStop) → IsErrAnd r (λ e. e ≡ reason) → IsRefused meaning reason → IfErr r (IsRefused meaning)
-refused meaning (Ok output) reason is h = tt
-refused meaning (Err e) reason is h = subst (IsRefused meaning) (sym is) h
-
--- what follows from a part is refused with it
-stopped : {A : Type 0} (m : Result A Refusal) (f : A → Result OutputSpec Refusal) (reason : ParseStop) → IsRefused m reason → IsRefused (m >>= f) reason
-stopped m f (stop.Refused refusal) h = ap (λ m. m >>= f) h
-stopped m f stop.NoMemory h = tt
 
 -- the meaning of a statement, part by part
 module _ (context : Context) (earlier : List (List ℕ)) (word name : Written) (s : List Written) where

@@ -16,7 +16,7 @@ use Rattle.fx_text.proofs.Sentences.{are_accepted}
 use Rattle.fx_statements.specs.Steps.{meaning_of}
 use Rattle.fx_statements.specs.Programs.{accepted, meaning_of_all, place_in, program_of}
 use Rattle.fx_statements.proofs.Parts.{none_refused}
-use Rattle.fx_statements.proofs.Stops.{refused}
+use Rattle.fx_text.proofs.Stops.{refused}
 use Rattle.fx_statements.proofs.parsing.parse.Goals as goal
 use Rattle.fx_statements.proofs.parsing.parse.Goals.{After-steps}
 

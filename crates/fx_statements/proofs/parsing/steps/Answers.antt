@@ -13,7 +13,7 @@ use Rattle.fx_text.specs.Names.{is_same_name}
 use Rattle.fx_text.specs.Sentences.{IsAccepted}
 use Rattle.fx_text.proofs.Distinct.{none_differ}
 use Rattle.fx_statements.proofs.StepByStep.{one_step, step_refused}
-use Rattle.fx_statements.proofs.Stops.{refused}
+use Rattle.fx_text.proofs.Stops.{refused}
 use Rattle.fx_statements.proofs.parsing.steps.Goals as goal
 
 pub loop-i-preserved : goal.loop-i-preserved

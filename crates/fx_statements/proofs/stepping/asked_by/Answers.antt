@@ -16,7 +16,7 @@ use Rattle.fx_statements.specs.Components.{check_components, components_place}
 use Rattle.fx_statements.specs.Valid.{HasFewComponents}
 use Rattle.fx_statements.proofs.Bounds.{kept, without}
 use Rattle.fx_statements.proofs.Listed.{few_components}
-use Rattle.fx_statements.proofs.Stops.{refused, stopped}
+use Rattle.fx_text.proofs.Stops.{refused, stopped}
 use Rattle.fx_statements.proofs.stepping.asked_by.Goals as goal
 
 -- the meaning of what is asked, part by part

@@ -18,7 +18,7 @@ use Rattle.fx_statements.specs.Valid.{CanBeWanted, HasFewComponents}
 use Rattle.fx_statements.specs.Steps.{asked_by, examine_of, factors_by, head_of, factor_limit}
 use Rattle.fx_statements.proofs.Bounds.{counted, same_settings, unsaid}
 use Rattle.fx_statements.proofs.StepByStep.{step_is, settings_refused, outputs_refused}
-use Rattle.fx_statements.proofs.Stops.{refused, stopped}
+use Rattle.fx_text.proofs.Stops.{refused, stopped}
 use Rattle.fx_statements.proofs.stepping.step_by.Goals as goal
 
 pub invariant_of-result : goal.invariant_of-result
