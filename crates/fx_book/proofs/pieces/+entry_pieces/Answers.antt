@@ -1,7 +1,4 @@
-use Rattle.std.proofs.Common.{◌≡◌, ◌+◌, ◌-◌, ◌/◌, ℕ, List, ◌++◌, arith}
-use Rattle.std.specs.List.{slice_range}
-use Rattle.fx_base.specs.Pieces.{joined}
-use Rattle.fx_book.specs.Entries.{entries_text}
+use Rattle.std.proofs.Common.{◌+◌, ◌-◌, ◌/◌, ℕ, List, arith}
 use Rattle.fx_book.proofs.Joins.{entries-both}
 use Rattle.fx_book.proofs.pieces.+entry_pieces.Goals as goal
 

@@ -4,7 +4,7 @@ use Rattle.std.specs.List.{slice_range}
 use Rattle.fx_base.specs.Pieces.{joined}
 use Rattle.fx_vectors.specs.declared.book.Book.{Book}
 use Rattle.fx_book.specs.Entries.{entries_text}
-use Rattle.fx_book.specs.Writing.{head_text, book_text}
+use Rattle.fx_book.specs.Writing.{head_text}
 use Rattle.fx_book.proofs.Joins.{book-joined}
 use Rattle.fx_book.proofs.pieces.book_pieces.Goals as goal
 
