@@ -44,7 +44,7 @@ pub fn book_pieces<R: Threads + Sync>(
     Ok(pieces)
 }
 
-/// The entries from `from` on up to `to`, in pieces, by so many threads, one half of them each.
+/// The entries from `from` on up to `to`, in pieces, by so many threads, all of them started by this one.
 #[cycle(entry_pieces)]
 fn entry_pieces<R: Threads + Sync>(
     rt: &R,
@@ -60,27 +60,41 @@ fn entry_pieces<R: Threads + Sync>(
     ensures { IfOk result (λ pieces. joined pieces ≡ entries_text (slice_range marks.now from to)) }
 {
     if threads == 1 || to - from < 2 * FEW {
-        let mut text = Bytes::new(alloc);
-        put_range(&mut text, marks, from, to)?;
-        return one_piece(alloc, text);
+        return entry_piece(alloc, marks, from, to);
     }
-    let half = threads / 2;
-    let rest = threads - half;
-    let middle = from + (to - from) / 2;
-    let (front, back) = join(
+    let share = ((to - from) / usize::from(threads)).max(FEW);
+    let middle = to - share;
+    let rest = threads - 1;
+    let (back, front) = join(
         rt,
+        move || -> Result<Items<Bytes>, NoMemory>
+            requires { (middle ≤ to) × (to ≤ length marks.now) }
+            ensures { IfOk result (λ pieces. joined pieces ≡ entries_text (slice_range marks.entry.now middle to)) }
+        { entry_piece(alloc, marks, middle, to) },
         move || -> Result<Items<Bytes>, NoMemory>
             requires { IsSync R.row × (from ≤ middle) × (middle ≤ length marks.now) × (0 < rest) }
             ensures { IfOk result (λ pieces. joined pieces ≡ entries_text (slice_range marks.entry.now from middle)) }
         { entry_pieces(rt, alloc, marks, from, middle, rest) },
-        move || -> Result<Items<Bytes>, NoMemory>
-            requires { IsSync R.row × (middle ≤ to) × (to ≤ length marks.now) × (0 < half) }
-            ensures { IfOk result (λ pieces. joined pieces ≡ entries_text (slice_range marks.entry.now middle to)) }
-        { entry_pieces(rt, alloc, marks, middle, to, half) },
     );
     let mut pieces = front?;
     pieces.append(back?)?;
     Ok(pieces)
+}
+
+/// The entries from `from` on up to `to`, in one piece.
+fn entry_piece(
+    alloc: Global,
+    marks: &Marks,
+    from: usize,
+    to: usize,
+) -> Result<Items<Bytes>, NoMemory>
+    requires ordered { from ≤ to }
+    requires within { to ≤ length marks.now }
+    ensures { IfOk result (λ pieces. joined pieces ≡ entries_text (slice_range marks.now from to)) }
+{
+    let mut text = Bytes::new(alloc);
+    put_range(&mut text, marks, from, to)?;
+    one_piece(alloc, text)
 }
 
 fn one_piece(alloc: Global, piece: Bytes) -> Result<Items<Bytes>, NoMemory>

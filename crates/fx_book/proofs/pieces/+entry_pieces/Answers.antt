@@ -6,9 +6,9 @@ pub returns : goal.returns
 returns g t c =
     let from : ℕ = c.args.from in
     let to : ℕ = c.args.to in
-    let middle : ℕ = from + (to - from) / 2 in
+    let middle : ℕ = to - c.max-share.result in
     let front : List (List ℕ) = c.in_ok-pieces.pieces in
     let back : List (List ℕ) = c.in_ok-back.field-0 in
     let ordered = c.requires.ordered in
     entries-both c.args.marks.now from middle to front back c.append.new.self (omega arith) (omega arith)
-    (rw c.in_ok-pieces.was at c.join-front.ensures.first) (rw c.in_ok-back.was at c.join-front.ensures.second) c.in_ok-append.ensures.ok
+    (rw c.in_ok-pieces.was at c.join-back.ensures.second) (rw c.in_ok-back.was at c.join-back.ensures.first) c.in_ok-append.ensures.ok
