@@ -18,6 +18,10 @@ fn items_grow_at_the_end(rt: HostRuntime) {
     items.push(7).expect(&rt, "memory");
     items.push(8).expect(&rt, "memory");
     assert!(rt; items.as_slice() == [7, 8].as_slice());
+    let mut more = Items::new(rt.alloc());
+    more.push(9).expect(&rt, "memory");
+    items.append(more).expect(&rt, "memory");
+    assert!(rt; items.as_slice() == [7, 8, 9].as_slice());
 }
 
 #[test]
