@@ -26,7 +26,7 @@ loop-i-init c =
 pub loop-i-preserved : goal.loop-i-preserved
 loop-i-preserved c =
     let marks : List nodes.Mark = c.args.marks.now in
-    let mark : nodes.Mark = meaning_of c.get.result in
+    let mark : nodes.Mark = meaning_of c.get_near-mark.result.0 in
     let i : ℕ = c.loop-i.i - 1 in
     let next : c.loop-i.i ≡ suc i = omega (arith, c.loop-i-test.true) in
     record {
@@ -34,7 +34,7 @@ loop-i-preserved c =
           c.put_entry.ensures.text
           ∙ ap (λ (l : List ℕ). entry_text mark ++ l)
           (c.loop-i.invariant.so_far ∙ ap (λ (k : ℕ). entries_text (slice_range marks k c.args.to)) next)
-          ∙ ap entries_text (cons-range marks i c.args.to mark (omega arith) (omega arith) c.get.ensures.mark);
+          ∙ ap entries_text (cons-range marks i c.args.to mark (omega arith) (omega arith) c.get_near-mark.ensures.mark);
       low = omega arith;
       short = omega arith;
     }
