@@ -1,13 +1,14 @@
-ghost use Rattle.std.specs.Prelude.{◌≡◌, ◌<◌, ◌≤◌, ◌+◌, ◌++◌, [], ◌∷◌, true, false, length, IfOk};
+ghost use Rattle.std.specs.Prelude.{◌≡◌, ◌<◌, ◌≤◌, ◌+◌, ◌-◌, ◌*◌, ◌++◌, [], ◌∷◌, true, false, length, IfOk};
 ghost use Rattle.std.specs.Thread.{IsSync};
 ghost use Rattle.fx_jobs.specs.Laws.{IsJob};
 ghost use Rattle.fx_vectors.specs.Question.{IsValid, problem_of};
 ghost use Rattle.fx_search.specs.Pruning.{allows, count_of_rows};
-ghost use Rattle.fx_search.specs.SubtreeWalks.{IsInside, IsWalked};
+ghost use Rattle.fx_search.specs.SubtreeWalks.{IsInside, IsWalked, IsRemainder, IsRemainderWalked, AreSiblingsWalked};
+ghost use Rattle.fx_search.specs.declared.subtree_walk.SubtreeWalk.{SubtreeWalk};
 ghost use Rattle.fx_board.specs.Lots.{IsEndOfJob};
 
 use fx_base::NoMemory;
-use fx_search::{End, JobEnd, SubtreeWalk};
+use fx_search::{End, JobEnd, Remainder, SubtreeWalk, Walked};
 use fx_tree::Candidates;
 use fx_vectors::{Matrix, Question};
 use std::alloc::Global;
@@ -134,7 +135,7 @@ fn walk_part<R: Threads + Sync>(
 }
 
 /// Walks what is left to a walk by so many threads: some of them take the next child that is expanded, the
-/// others the children after it.
+/// others the siblings after it.
 #[cycle(share_part)]
 fn share_part<R: Threads + Sync>(
     rt: &R,
@@ -154,41 +155,196 @@ fn share_part<R: Threads + Sync>(
         Some(end) => return Ok(end),
         None => {}
     }
-    let mut others = walk.beside()?;
-    let left = limit - walk.nodes();
-    let (end, rest) = side_by_side(rt, walk, &mut others, threads, limit, left);
-    let (design, marks) = others.into_parts();
-    match end? {
+    let siblings = walk.siblings();
+    let both = walk_with_siblings(rt, walk, &siblings, threads, limit)?;
+    take_in_siblings(walk, both.child, both.rest, limit)
+}
+
+/// How the walk of a child ended, and what a walk of a remainder came to.
+#[derive(Drop)]
+struct Both {
+    child: End,
+    rest: Walked,
+}
+
+/// Walks a child by `own` threads, and a remainder by `others`.
+#[cycle(share_part)]
+fn walk_both<R: Threads + Sync>(
+    rt: &R,
+    child: &mut SubtreeWalk,
+    rest: &Remainder,
+    own: u8,
+    others: u8,
+    limit: usize,
+) -> Result<Both, NoMemory>
+    requires threads { (0 < own) × (0 < others) }
+    requires child { IsInside child.old × (length child.old.marks ≤ limit) }
+    requires rest { IsRemainder rest.now }
+    ensures child { IfOk result (λ both. IsWalked limit child.old child.new both.child) }
+    ensures rest { IfOk result (λ both. IsRemainderWalked (limit - length child.old.marks) rest.now both.rest) }
+{
+    let left = limit - child.nodes();
+    // What is first runs in a new thread. This one starts as many as it can: one that a new thread starts may
+    // at first run on its starter's processor.
+    let mut theirs = || -> Result<Walked, NoMemory>
+        requires { IsSync R.row × IsRemainder rest.now × (0 < others) }
+        ensures { IfOk result (IsRemainderWalked left rest.entry.now) }
+    { walk_remainder(rt, rest, others, left) };
+    let mut mine = || -> Result<End, NoMemory>
+        requires { IsSync R.row × IsInside child.now × (length child.now.marks ≤ limit) × (0 < own) }
+        ensures { IfOk result (IsWalked limit child.entry.now child.exit.now) }
+    { share_apart(rt, child, own, limit) };
+    let (rest, end) = join_mut(rt, &mut theirs, &mut mine);
+    Ok(Both {
+        child: end?,
+        rest: rest?,
+    })
+}
+
+/// Walks what is left to a walk by so many threads, all of them new.
+#[cycle(share_part)]
+fn share_apart<R: Threads + Sync>(
+    rt: &R,
+    walk: &mut SubtreeWalk,
+    threads: u8,
+    limit: usize,
+) -> Result<End, NoMemory>
+    requires inside { IsInside walk.old }
+    requires fits { length walk.old.marks ≤ limit }
+    requires threads { 0 < threads }
+    ensures { IfOk result (IsWalked limit walk.old walk.new) }
+{
+    if threads == 1 {
+        return finish_apart(rt, walk, limit);
+    }
+    share_part(rt, walk, threads, limit)
+}
+
+/// Walks what is left to a walk in a new thread. This one only waits: some systems run a new thread on its
+/// starter's processor at first, however busy that is.
+fn finish_apart<R: Threads + Sync>(
+    rt: &R,
+    walk: &mut SubtreeWalk,
+    limit: usize,
+) -> Result<End, NoMemory>
+    requires inside { IsInside walk.old }
+    requires fits { length walk.old.marks ≤ limit }
+    ensures { IfOk result (IsWalked limit walk.old walk.new) }
+{
+    let mut finish = || -> Result<End, NoMemory>
+        requires { IsInside walk.now × (length walk.now.marks ≤ limit) }
+        ensures { IfOk result (IsWalked limit walk.entry.now walk.exit.now) }
+    { walk.finish(limit) };
+    let mut nothing = || {};
+    let (end, _nothing) = join_mut(rt, &mut finish, &mut nothing);
+    end
+}
+
+/// Walks a child, and the siblings after it: where there are four threads or more, a quarter of them, rounded
+/// down, takes the next sibling that is expanded, and a quarter those after it.
+#[cycle(share_part)]
+fn walk_with_siblings<R: Threads + Sync>(
+    rt: &R,
+    child: &mut SubtreeWalk,
+    siblings: &Remainder,
+    threads: u8,
+    limit: usize,
+) -> Result<Both, NoMemory>
+    requires threads { 1 < threads }
+    requires child { IsInside child.old × (length child.old.marks ≤ limit) }
+    requires siblings { IsRemainder siblings.now }
+    ensures child { IfOk result (λ both. IsWalked limit child.old child.new both.child) }
+    ensures rest { IfOk result (λ both. IsRemainderWalked (limit - length child.old.marks) siblings.now both.rest) }
+{
+    if threads < 4 {
+        return walk_both(rt, child, siblings, threads - 1, 1, limit);
+    }
+    let left = limit - child.nodes();
+    let mut sibling = siblings.walk()?;
+    match sibling.next(left)? {
+        Some(end) => {
+            let rest = sibling.into_walked(end);
+            // One fewer, so that it is clear that this ends.
+            let child = share_part(rt, child, threads - 1, limit)?;
+            return Ok(Both { child, rest });
+        }
+        None => {}
+    }
+    let below = sibling.remainder();
+    let after = sibling.siblings();
+    let (both, last) = walk_three(rt, child, &below, &after, threads, limit)?;
+    let end = sibling.take_in(both.rest, left)?;
+    let end = take_in_siblings(&mut sibling, end, last, left)?;
+    Ok(Both {
+        child: both.child,
+        rest: sibling.into_walked(end),
+    })
+}
+
+/// Walks a child and two remainders by four threads or more: a quarter of them, rounded down, takes each
+/// remainder.
+#[cycle(share_part)]
+fn walk_three<R: Threads + Sync>(
+    rt: &R,
+    child: &mut SubtreeWalk,
+    below: &Remainder,
+    after: &Remainder,
+    threads: u8,
+    limit: usize,
+) -> Result<(Both, Walked), NoMemory>
+    requires threads { 4 ≤ threads }
+    requires child { IsInside child.old × (length child.old.marks ≤ limit) }
+    requires below { IsRemainder below.now }
+    requires after { IsRemainder after.now }
+    ensures child { IfOk result (λ three. IsWalked limit child.old child.new three.0.child) }
+    ensures below { IfOk result (λ three. IsRemainderWalked (limit - length child.old.marks) below.now three.0.rest) }
+    ensures after { IfOk result (λ three. IsRemainderWalked (limit - length child.old.marks) after.now three.1) }
+{
+    let quarter = threads / 4;
+    let left = limit - child.nodes();
+    let mut last = || -> Result<Walked, NoMemory>
+        requires { IsSync R.row × IsRemainder after.now × (0 < quarter) }
+        ensures { IfOk result (IsRemainderWalked left after.entry.now) }
+    { walk_remainder(rt, after, quarter, left) };
+    let mut others = || -> Result<Both, NoMemory>
+        requires { IsSync R.row × IsInside child.now × (length child.now.marks ≤ limit) × IsRemainder below.now × (0 < quarter) × (2 * quarter < threads) }
+        ensures child { IfOk result (λ both. IsWalked limit child.entry.now child.exit.now both.child) }
+        ensures rest { IfOk result (λ both. IsRemainderWalked (limit - length child.entry.now.marks) below.entry.now both.rest) }
+    { walk_both(rt, child, below, threads - 2 * quarter, quarter, limit) };
+    let (last, both) = join_mut(rt, &mut last, &mut others);
+    Ok((both?, last?))
+}
+
+/// Walks a remainder by so many threads.
+#[cycle(share_part)]
+fn walk_remainder<R: Threads + Sync>(
+    rt: &R,
+    remainder: &Remainder,
+    threads: u8,
+    limit: usize,
+) -> Result<Walked, NoMemory>
+    requires is { IsRemainder remainder.now }
+    requires threads { 0 < threads }
+    ensures { IfOk result (IsRemainderWalked limit remainder.now) }
+{
+    let mut walk = remainder.walk()?;
+    let end = share_part(rt, &mut walk, threads, limit)?;
+    Ok(walk.into_walked(end))
+}
+
+/// Takes the walk of the siblings into that of a child, which ended so.
+fn take_in_siblings(
+    walk: &mut SubtreeWalk,
+    end: End,
+    siblings: Walked,
+    limit: usize,
+) -> Result<End, NoMemory>
+    requires { (w : SubtreeWalk) × AreSiblingsWalked limit w walk.old end siblings }
+    ensures { IfOk result (λ all. (w : SubtreeWalk) → AreSiblingsWalked limit w walk.old end siblings → IsWalked limit w walk.new all) }
+{
+    match end {
         End::Closed => walk.leave(),
         end => return Ok(end),
     }
-    walk.take_in(design, marks, rest?, limit)
-}
-
-/// Walks what is left to two walks by so many threads, one half of them each.
-#[cycle(share_part)]
-fn side_by_side<R: Threads + Sync>(
-    rt: &R,
-    one: &mut SubtreeWalk,
-    other: &mut SubtreeWalk,
-    threads: u8,
-    limit: usize,
-    left: usize,
-) -> (Result<End, NoMemory>, Result<End, NoMemory>)
-    requires threads { 1 < threads }
-    requires one { IsInside one.old × (length one.old.marks ≤ limit) }
-    requires other { IsInside other.old × (length other.old.marks ≤ left) }
-    ensures one { IfOk result.0 (IsWalked limit one.old one.new) }
-    ensures other { IfOk result.1 (IsWalked left other.old other.new) }
-{
-    let half = threads / 2;
-    let mut first = || -> Result<End, NoMemory>
-        requires { IsSync R.row × IsInside one.now × (length one.now.marks ≤ limit) × (0 < half) × (half < threads) }
-        ensures { IfOk result (IsWalked limit one.entry.now one.exit.now) }
-    { share_part(rt, one, threads - half, limit) };
-    let mut second = || -> Result<End, NoMemory>
-        requires { IsSync R.row × IsInside other.now × (length other.now.marks ≤ left) × (0 < half) }
-        ensures { IfOk result (IsWalked left other.entry.now other.exit.now) }
-    { share_part(rt, other, half, left) };
-    join_mut(rt, &mut first, &mut second)
+    walk.take_in(siblings, limit)
 }

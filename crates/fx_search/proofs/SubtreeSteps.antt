@@ -1,5 +1,5 @@
 -- The steps of a walk below a prefix, and how two walks share what is left of it.
-use Rattle.std.proofs.Common.{◌≡◌, ◌≢◌, ℕ, ◌<◌, ◌≤◌, ◌+◌, ◌-◌, Bool, true, false, List, [], ◌∷◌, ◌++◌, map, length, Option, Some, None, refl, sym, subst, ap, ap₂, ◌∙◌, inl, inr, arith, append-nil, append_assoc}
+use Rattle.std.proofs.Common.{◌≡◌, ◌≢◌, ℕ, ◌<◌, ◌≤◌, ◌+◌, ◌-◌, Bool, true, false, List, [], ◌∷◌, ◌++◌, map, length, Option, Some, None, refl, sym, subst, ap, ap₂, ◌∙◌, inl, inr, arith, append-nil, append_assoc, length-append}
 use Rattle.std.specs.List.{list_any, flat_map}
 use Rattle.std.proofs.lemmas.List.{map-append, length-map}
 use Rattle.fx_designs.specs.Problems.{Problem}
@@ -15,14 +15,16 @@ use Rattle.fx_jobs.specs.Laws.{IsJob}
 use Rattle.fx_jobs.specs.Ranked.{is_counted_through}
 use Rattle.fx_jobs.specs.Search.{ranked, search_tree, search_mark, is_expanded, IsBestAt}
 use Rattle.fx_jobs.proofs.Best.{clash}
+use Rattle.fx_vectors.specs.Matrix.{MatrixView}
 use Rattle.fx_vectors.specs.declared.question.Question.{Question}
 use Rattle.fx_vectors.specs.Question.{IsValid, problem_of}
 use Rattle.fx_search.specs.Ends.{Ends, AreBack, IsClosed, IsSpent, IsOver}
 use Rattle.fx_search.specs.LotWalks.{below, IsNextRow, IsNoneBelow}
 use Rattle.fx_search.specs.Pruning.{size_of, count_of_rows}
 use Rattle.fx_search.specs.Standing.{StandAt}
-use Rattle.fx_search.specs.SubtreeWalks.{IsInside, IsInsideAfter, IsDone, left_of, IsFresh, IsPartly, IsDown, IsWalked, IsChildVisited, IsAtJob, IsJobWalked}
+use Rattle.fx_search.specs.SubtreeWalks.{IsInside, IsInsideAfter, IsDone, left_of, IsFresh, IsPartly, IsDown, IsWalked, IsWalkOf, IsChildVisited, IsAtJob, IsJobWalked}
 use Rattle.fx_search.specs.Searchers.{standing_without_best}
+use Rattle.fx_search.specs.declared.remainder.Walked.{Walked}
 use Rattle.fx_search.specs.declared.subtree_walk.SubtreeWalk.{SubtreeWalk}
 use Rattle.fx_search.specs.declared.walk.End.{End}
 use Rattle.fx_search.specs.declared.walk.End.TheVariants.{Found, Closed, Spent, Cut}
@@ -298,6 +300,31 @@ module _ (limit : ℕ) (w : SubtreeWalk) where
           },
           omega (arith, last, a.low),
         )
+
+-- a child has a row, and so has a walk that is back at it
+pub child-some : (rows child back : List ℕ) (row : ℕ) → child ≡ rows ++ row ∷ [] → back ≡ child → 0 < length back
+child-some rows child back row is same = omega (arith, ap length same, ap length is, length-append rows (row ∷ []))
+
+-- a walk of what is left at a place, which has another name
+pub walk-there : (limit : ℕ) (walked : Walked) (question there : Question) (rows at : List ℕ) (bound low : ℕ) → there ≡ question → at ≡ rows → low ≡ bound → IsWalkOf limit question rows bound walked → IsWalkOf limit there at low walked
+walk-there limit walked question there rows at bound low q r b h =
+    subst (λ (z : Question). IsWalkOf limit z at low walked) (sym q) (subst (λ (l : List ℕ). IsWalkOf limit question l low walked) (sym r) (subst (λ (n : ℕ). IsWalkOf limit question rows n walked) (sym b) h))
+
+-- a walk that began without marks has ended
+pub walk-ended : (limit : ℕ) (w v : SubtreeWalk) (end : End) (walked : Walked) → w.marks ≡ [] → IsWalked limit w v end → walked.end ≡ end → walked.matrix ≡ v.prefix → walked.marks ≡ v.marks
+    → IsWalkOf limit w.question.now w.prefix.rows w.bound walked
+walk-ended limit w v end walked none h e m k =
+    let p : Problem = problem_of w.question.now in
+    let one : Ends (search_tree p) (search_mark p) limit false (left_of w) w.prefix.rows end [] v.marks v.prefix.rows =
+    subst (λ (l : List Mark). Ends (search_tree p) (search_mark p) limit false (left_of w) w.prefix.rows end l v.marks v.prefix.rows) none h.ends in
+    let two : Ends (search_tree p) (search_mark p) limit false (left_of w) w.prefix.rows end [] walked.marks v.prefix.rows =
+    subst (λ (l : List Mark). Ends (search_tree p) (search_mark p) limit false (left_of w) w.prefix.rows end [] l v.prefix.rows) (sym k) one in
+    let three : Ends (search_tree p) (search_mark p) limit false (left_of w) w.prefix.rows end [] walked.marks walked.matrix.rows =
+    subst (λ (l : List ℕ). Ends (search_tree p) (search_mark p) limit false (left_of w) w.prefix.rows end [] walked.marks l) (sym (ap (λ (x : MatrixView). x.rows) m)) two in
+    record {
+      shape = ap (λ (x : MatrixView). x.shape) m ∙ h.shape;
+      ends = subst (λ (z : End). Ends (search_tree p) (search_mark p) limit false (left_of w) w.prefix.rows z [] walked.marks walked.matrix.rows) (sym e) three;
+    }
 
 -- a walk that began at a job has ended with it
 pub job-walked : (question : Question) (job : List ℕ) (limit : ℕ) (w v : SubtreeWalk) (end : End) → IsAtJob question job w → IsWalked limit w v end → IsJobWalked v.question.now job limit end v

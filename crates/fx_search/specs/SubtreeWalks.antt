@@ -1,12 +1,11 @@
 -- Where a walk below a prefix is, and how far it has come.
 use Rattle.std.specs.Prelude.{ℕ, ◌≡◌, ◌<◌, ◌≤◌, ◌+◌, ◌-◌, false, true, List, [], ◌∷◌, ◌++◌, map, length, Option, Some, None}
 use Rattle.std.specs.List.{list_any}
-use Rattle.fx_designs.specs.Nodes.{Mark}
+use Rattle.fx_designs.specs.Nodes.{Mark, parent, last_row}
 use Rattle.fx_laws.specs.Trees.{Tree, is_tree_design}
 use Rattle.fx_laws.specs.Walks.{under, subtree}
 use Rattle.fx_jobs.specs.Laws.{IsJob}
 use Rattle.fx_jobs.specs.Search.{search_tree, search_mark, is_expanded}
-use Rattle.fx_vectors.specs.Matrix.{MatrixView}
 use Rattle.fx_vectors.specs.declared.question.Question.{Question}
 use Rattle.fx_vectors.specs.Question.{IsValid, problem_of}
 use Rattle.fx_search.specs.Ends.{Ends}
@@ -14,6 +13,8 @@ use Rattle.fx_search.specs.LotWalks.{below}
 use Rattle.fx_search.specs.Pruning.{size_of, count_of_rows}
 use Rattle.fx_search.specs.Searchers.{standing_without_best}
 use Rattle.fx_search.specs.Standing.{StandAt}
+use Rattle.fx_search.specs.declared.remainder.Remainder.{Remainder}
+use Rattle.fx_search.specs.declared.remainder.Walked.{Walked}
 use Rattle.fx_search.specs.declared.subtree_walk.SubtreeWalk.{SubtreeWalk}
 use Rattle.fx_search.specs.declared.walk.End.{End}
 use Rattle.fx_search.specs.declared.walk.End.TheVariants.{Found, Closed, Spent, Cut}
@@ -100,15 +101,43 @@ abbrev pub IsNext : ℕ → SubtreeWalk → SubtreeWalk → Option End → Type 
 IsNext limit w v None = IsDown limit w v
 IsNext limit w v (Some end) = IsWalked limit w v end
 
--- Another walk has ended so with what the walk w has left, there and with these marks, under a limit that is at least what the
--- marks of w leave of this one.
-pub record IsRest (limit : ℕ) (w : SubtreeWalk) (left : MatrixView) (marks : List Mark) (end : End) : Type 0 where
+-- all parts of a remainder belong to one expanded prefix of a question without a least pattern
+pub record IsRemainder (r : Remainder) : Type 0 where
+  pub valid : IsValid r.question.now
+  pub plain : r.question.now.least ≡ false
+  pub candidates : r.candidates.now ≡ r.question.now.shape
+  pub shape : r.prefix.shape ≡ r.question.now.shape
+  pub part : length r.prefix.rows < size_of (problem_of r.question.now)
+  pub canonical : (search_tree (problem_of r.question.now)).canonical r.prefix.rows ≡ true
+  pub expanded : is_expanded (problem_of r.question.now) r.prefix.rows ≡ true
+  pub bound : r.bound ≤ count_of_rows (problem_of r.question.now)
+
+-- a walk that began without marks has ended so with all that is below a prefix by rows below a bound
+pub record IsWalkOf (limit : ℕ) (question : Question) (rows : List ℕ) (bound : ℕ) (walked : Walked) : Type 0 where
+  pub shape : walked.matrix.shape ≡ question.shape
+  pub ends :
+      let p = problem_of question in
+      Ends (search_tree p) (search_mark p) limit false (below p rows bound) rows walked.end [] walked.marks walked.matrix.rows
+
+-- a walk of a remainder has ended so
+abbrev pub IsRemainderWalked : ℕ → Remainder → Walked → Type 0
+IsRemainderWalked limit r walked = IsWalkOf limit r.question.now r.prefix.rows r.bound walked
+
+-- another walk has ended so with all that is left to w; its limit, own, is at least what the marks of w leave of the limit
+pub record IsRest (limit : ℕ) (w : SubtreeWalk) (walked : Walked) : Type 0 where
   pub own : ℕ
   pub least : limit ≤ length w.marks + own
-  pub shape : left.shape ≡ w.question.now.shape
-  pub ends :
-      let p = problem_of w.question.now in
-      Ends (search_tree p) (search_mark p) own false (left_of w) w.prefix.rows end [] marks left.rows
+  pub walk : IsWalkOf own w.question.now w.prefix.rows w.bound walked
+
+-- The walk w came to a child, ended so with all that is below it, and is v. Another walk has ended with the siblings after the
+-- child; its limit, own, is at least what the marks at the child leave of the limit.
+pub record AreSiblingsWalked (limit : ℕ) (w v : SubtreeWalk) (end : End) (siblings : Walked) : Type 0 where
+  pub child : SubtreeWalk
+  pub down : IsDown limit w child
+  pub mine : IsWalked limit child v end
+  pub own : ℕ
+  pub least : limit ≤ length child.marks + own
+  pub theirs : IsWalkOf own child.question.now (parent child.prefix.rows) (last_row child.prefix.rows) siblings
 
 -- the walk is at a job of a question, which has its mark
 pub record IsAtJob (question : Question) (job : List ℕ) (w : SubtreeWalk) : Type 0 where

@@ -6,13 +6,14 @@ ghost use Rattle.fx_vectors.specs.Question.{IsValid, problem_of};
 ghost use Rattle.fx_search.specs.JobEnds.{IsJobEnd, IsSized};
 ghost use Rattle.fx_search.specs.LotWalks.{IsNoneBelow, IsNextRow};
 ghost use Rattle.fx_search.specs.Pruning.{size_of, count_of_rows, allows};
-ghost use Rattle.fx_search.specs.SubtreeWalks.{IsInside, IsNext, IsChildVisited, IsFresh, IsWalked, IsRest, IsAtJob, IsJobWalked};
+ghost use Rattle.fx_search.specs.SubtreeWalks.{IsInside, IsNext, IsChildVisited, IsFresh, IsWalked, IsRemainder, IsRest, IsAtJob, IsJobWalked};
 
 use crate::barred::Barred;
 use crate::cutter::NeverCut;
 use crate::incumbent::Incumbent;
-use crate::job::{JobEnd, put_at, without_the_last_row};
+use crate::job::{JobEnd, first_rows, put_at};
 use crate::pruner::Pruner;
+use crate::remainder::{Remainder, Walked};
 use crate::unranked::Unranked;
 use crate::walk::{End, visit, walk};
 use fx_base::NoMemory;
@@ -24,8 +25,7 @@ use std::alloc::Global;
 const VERY_MANY: u64 = 1_099_511_627_776;
 
 /// A walk of what is below an expanded prefix of a question that asks for no least pattern. What is left
-/// to it can be shared with a second walk: it goes down to a child, and the second one takes the children
-/// after that.
+/// to it can be shared with other walks: it goes down to a child, and they take the siblings after it.
 pub struct SubtreeWalk<'a> {
     alloc: Global,
     question: &'a Question,
@@ -85,7 +85,7 @@ impl<'a> SubtreeWalk<'a> {
     }
 
     /// At a prefix, without marks.
-    fn at(
+    pub(crate) fn at(
         alloc: Global,
         question: &'a Question,
         candidates: &'a Candidates,
@@ -121,23 +121,40 @@ impl<'a> SubtreeWalk<'a> {
         })
     }
 
-    /// A second walk, at the prefix without its last row: the children after this one are left to it.
-    ///
-    /// # Errors
-    ///
-    /// `NoMemory`.
-    pub fn beside(&self) -> Result<SubtreeWalk<'a>, NoMemory>
+    /// What is left to it.
+    pub fn remainder(&self) -> Remainder<'a>
+        requires { IsInside self.now }
+        ensures is { IsRemainder result }
+        ensures question { result.question.now ≡ self.now.question.now }
+        ensures rows { result.prefix.rows ≡ self.now.prefix.rows }
+        ensures bound { result.bound ≡ self.now.bound }
+    {
+        Remainder {
+            alloc: self.alloc,
+            question: self.question,
+            candidates: self.candidates,
+            prefix: first_rows(&self.prefix, self.prefix.len()),
+            bound: self.bound,
+        }
+    }
+
+    /// What is left at the prefix without its last row: the children after this one.
+    pub fn siblings(&self) -> Remainder<'a>
         requires inside { IsInside self.now }
         requires some { 0 < length self.now.prefix.rows }
-        ensures inside { IfOk result IsInside }
-        ensures question { IfOk result (λ walk. walk.question.now ≡ self.now.question.now) }
-        ensures rows { IfOk result (λ walk. walk.prefix.rows ≡ parent self.now.prefix.rows) }
-        ensures bound { IfOk result (λ walk. walk.bound ≡ last_row self.now.prefix.rows) }
-        ensures marks { IfOk result (λ walk. walk.marks ≡ []) }
+        ensures is { IsRemainder result }
+        ensures question { result.question.now ≡ self.now.question.now }
+        ensures rows { result.prefix.rows ≡ parent self.now.prefix.rows }
+        ensures bound { result.bound ≡ last_row self.now.prefix.rows }
     {
-        let prefix = without_the_last_row(&self.prefix);
-        let row = self.prefix.row(self.prefix.len() - 1);
-        SubtreeWalk::at(self.alloc, self.question, self.candidates, prefix, row)
+        let last = self.prefix.len() - 1;
+        Remainder {
+            alloc: self.alloc,
+            question: self.question,
+            candidates: self.candidates,
+            prefix: first_rows(&self.prefix, last),
+            bound: self.prefix.row(last),
+        }
     }
 
     /// How many marks it has.
@@ -304,31 +321,26 @@ impl<'a> SubtreeWalk<'a> {
         self.bound = row;
     }
 
-    /// Takes in the marks that another walk has made of all that is left to this one, how that ended, and where
-    /// it was then. That walk had a limit of its own, at least what is left of this one.
+    /// Takes in what another walk has made of all that is left to this one. That walk had a limit of its own,
+    /// at least what is left of this one.
     ///
     /// # Errors
     ///
     /// `NoMemory`.
-    pub fn take_in(
-        &mut self,
-        design: Matrix,
-        marks: Marks,
-        end: End,
-        limit: usize,
-    ) -> Result<End, NoMemory>
+    pub fn take_in(&mut self, walked: Walked, limit: usize) -> Result<End, NoMemory>
         requires inside { IsInside self.old }
         requires fits { length self.old.marks ≤ limit }
-        requires rest { IsRest limit self.old design marks end }
+        requires rest { IsRest limit self.old walked }
         ensures { IfOk result (IsWalked limit self.old self.new) }
     {
+        let Walked { end, matrix, marks } = walked;
         match end {
             End::Found => {
                 if limit - self.marks.len() < marks.len() {
                     return Ok(End::Spent);
                 }
                 self.marks.append(marks)?;
-                self.prefix = design;
+                self.prefix = matrix;
                 Ok(End::Found)
             }
             End::Closed => {
@@ -343,10 +355,11 @@ impl<'a> SubtreeWalk<'a> {
         }
     }
 
-    /// Where it is, and its marks.
-    pub fn into_parts(self) -> (Matrix, Marks)
-        ensures prefix { result.0 ≡ self.entry.prefix }
-        ensures marks { result.1 ≡ self.entry.marks }
+    /// Its matrix and its marks, and how it ended.
+    pub fn into_walked(self, end: End) -> Walked
+        ensures end { result.end ≡ end }
+        ensures matrix { result.matrix ≡ self.entry.prefix }
+        ensures marks { result.marks ≡ self.entry.marks }
     {
         let SubtreeWalk {
             alloc: _,
@@ -358,7 +371,11 @@ impl<'a> SubtreeWalk<'a> {
             bound: _,
             marks,
         } = self;
-        (prefix, marks)
+        Walked {
+            end,
+            matrix: prefix,
+            marks,
+        }
     }
 
     /// How the job that was walked ended.
@@ -368,7 +385,11 @@ impl<'a> SubtreeWalk<'a> {
             → IsJobEnd self.entry.question.now job limit false result }
         ensures sized { IsSized self.entry.question.now result }
     {
-        let (matrix, marks) = self.into_parts();
+        let Walked {
+            end: _,
+            matrix,
+            marks,
+        } = self.into_walked(end);
         let nodes = marks.len() as u64;
         match end {
             End::Found => JobEnd::Found {

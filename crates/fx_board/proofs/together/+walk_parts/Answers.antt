@@ -1,12 +1,7 @@
-use Rattle.std.proofs.Common.{◌≡◌, ◌∙◌, ◌<◌, ◌++◌, ◌∷◌, [], ℕ, List, length, length-append, ap, arith}
 use Rattle.std.proofs.lemmas.Result.{IfOk-weaker}
 use Rattle.fx_search.specs.SubtreeWalks.{IsWalked}
-use Rattle.fx_search.proofs.SubtreeSteps.{partly-start, partly-both, partly-walked, child-closed, child-ended}
+use Rattle.fx_search.proofs.SubtreeSteps.{partly-start, partly-both, partly-walked, child-closed, child-ended, child-some}
 use Rattle.fx_board.proofs.together.+walk_parts.Goals as goal
-
--- a child has a row
-some-child : (xs ys : List ℕ) (row : ℕ) → ys ≡ xs ++ row ∷ [] → 0 < length ys
-some-child xs ys row is = omega (arith, ap length is, length-append xs (row ∷ []))
 
 pub next-requires : goal.next-requires
 next-requires g t c = record { inside = c.loop-parts.invariant.inside; fits = c.loop-parts.invariant.fits }
@@ -15,7 +10,7 @@ pub leave-requires : goal.leave-requires
 leave-requires g t c =
     let down = rw c.in-None.is at c.in_ok-end.ensures in
     let closed = rw c.in-Closed.is at c.in_ok-end-2.ensures in
-    record { inside = closed.inside; some = some-child c.loop-parts.walk.prefix.rows _ down.row (closed.ends.back ∙ down.rows) }
+    record { inside = closed.inside; some = child-some c.loop-parts.walk.prefix.rows c.next.new.self.prefix.rows c.walk_parts.new.walk.prefix.rows down.row down.rows closed.ends.back }
 
 pub loop-parts-init : goal.loop-parts-init
 loop-parts-init g t c = partly-start c.args.limit c.args.walk.now c.requires.inside c.requires.fits

@@ -1,5 +1,4 @@
-use Rattle.std.proofs.Common.{◌≡◌, ◌∙◌, ◌<◌, ◌++◌, ◌∷◌, [], ℕ, List, length, length-append, ap, arith}
-use Rattle.fx_search.proofs.SubtreeSteps.{partly-start, partly-both, partly-walked, child-closed, child-ended}
+use Rattle.fx_search.proofs.SubtreeSteps.{partly-start, partly-both, partly-walked, child-closed, child-ended, child-some}
 use Rattle.fx_search.proofs.subtree_walk.SubtreeWalk.finish.Goals as goal
 
 pub loop-end-init : goal.loop-end-init
@@ -14,10 +13,6 @@ next-requires-clause-fits c = c.loop-end.invariant.fits
 pub returns-in-Some : goal.returns-in-Some
 returns-in-Some c = partly-walked c.args.limit c.args.self.now c.loop-end.self c.loop-end.invariant c.next.new.self c.in-Some.end (rw c.in-Some.is at c.in_ok-end.ensures)
 
--- a child has a row
-some-child : (rows child : List ℕ) (row : ℕ) → child ≡ rows ++ row ∷ [] → 0 < length child
-some-child rows child row is = omega (arith, ap length is, length-append rows (row ∷ []))
-
 pub walk_child-requires : goal.walk_child-requires
 walk_child-requires c =
     let down = rw c.in-None.is at c.in_ok-end.ensures in
@@ -27,7 +22,7 @@ pub leave-requires : goal.leave-requires
 leave-requires c =
     let down = rw c.in-None.is at c.in_ok-end.ensures in
     let closed = rw c.in-Closed.is at c.in_ok-end-2.ensures in
-    record { inside = closed.inside; some = some-child c.loop-end.self.prefix.rows _ down.row (closed.ends.back ∙ down.rows) }
+    record { inside = closed.inside; some = child-some c.loop-end.self.prefix.rows c.next.new.self.prefix.rows c.walk_child.new.self.prefix.rows down.row down.rows closed.ends.back }
 
 pub loop-end-smaller : goal.loop-end-smaller
 loop-end-smaller c =

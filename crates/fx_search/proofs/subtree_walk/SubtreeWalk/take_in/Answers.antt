@@ -14,13 +14,13 @@ returns-then-limit-len c =
     let w : SubtreeWalk = c.args.self.now in
     let p : Problem = problem_of w.question.now in
     let rest = c.requires.rest in
-    let ends : Ends (search_tree p) (search_mark p) rest.own false (left_of w) w.prefix.rows Found [] c.args.marks c.args.design.rows =
-    subst (λ z. Ends (search_tree p) (search_mark p) rest.own false (left_of w) w.prefix.rows z [] c.args.marks c.args.design.rows) c.in-Found.is rest.ends in
+    let ends : Ends (search_tree p) (search_mark p) rest.own false (left_of w) w.prefix.rows Found [] c.args.walked.marks c.args.walked.matrix.rows =
+    subst (λ z. Ends (search_tree p) (search_mark p) rest.own false (left_of w) w.prefix.rows z [] c.args.walked.marks c.args.walked.matrix.rows) c.in-Found.is rest.walk.ends in
     record {
       question = refl;
       shape = c.requires.inside.shape;
       inside = tt;
-      ends = found-past (search_tree p) (search_mark p) c.args.limit rest.own (left_of w) w.prefix.rows w.marks c.args.marks c.args.design.rows (omega arith) c.requires.fits ends;
+      ends = found-past (search_tree p) (search_mark p) c.args.limit rest.own (left_of w) w.prefix.rows w.marks c.args.walked.marks c.args.walked.matrix.rows (omega arith) c.requires.fits ends;
     }
 
 pub returns-then-limit-len-2 : goal.returns-then-limit-len-2
@@ -28,13 +28,13 @@ returns-then-limit-len-2 c =
     let w : SubtreeWalk = c.args.self.now in
     let p : Problem = problem_of w.question.now in
     let rest = c.requires.rest in
-    let ends : Ends (search_tree p) (search_mark p) rest.own false (left_of w) w.prefix.rows Closed [] c.args.marks c.args.design.rows =
-    subst (λ z. Ends (search_tree p) (search_mark p) rest.own false (left_of w) w.prefix.rows z [] c.args.marks c.args.design.rows) c.in-Closed.is rest.ends in
+    let ends : Ends (search_tree p) (search_mark p) rest.own false (left_of w) w.prefix.rows Closed [] c.args.walked.marks c.args.walked.matrix.rows =
+    subst (λ z. Ends (search_tree p) (search_mark p) rest.own false (left_of w) w.prefix.rows z [] c.args.walked.marks c.args.walked.matrix.rows) c.in-Closed.is rest.walk.ends in
     record {
       question = refl;
       shape = c.requires.inside.shape;
       inside = tt;
-      ends = closed-past (search_tree p) (search_mark p) c.args.limit rest.own (left_of w) w.prefix.rows w.marks c.args.marks c.args.design.rows (omega arith) c.requires.fits ends;
+      ends = closed-past (search_tree p) (search_mark p) c.args.limit rest.own (left_of w) w.prefix.rows w.marks c.args.walked.marks c.args.walked.matrix.rows (omega arith) c.requires.fits ends;
     }
 
 pub returns-in_ok-append-in-Found : goal.returns-in_ok-append-in-Found
@@ -42,14 +42,14 @@ returns-in_ok-append-in-Found c =
     let w : SubtreeWalk = c.args.self.now in
     let p : Problem = problem_of w.question.now in
     let rest = c.requires.rest in
-    let ends : Ends (search_tree p) (search_mark p) rest.own false (left_of w) w.prefix.rows Found [] c.args.marks c.args.design.rows =
-    subst (λ z. Ends (search_tree p) (search_mark p) rest.own false (left_of w) w.prefix.rows z [] c.args.marks c.args.design.rows) c.in-Found.is rest.ends in
-    let room : length (w.marks ++ c.args.marks) ≤ c.args.limit = omega (arith, length-append w.marks c.args.marks, c.requires.fits) in
+    let ends : Ends (search_tree p) (search_mark p) rest.own false (left_of w) w.prefix.rows Found [] c.args.walked.marks c.args.walked.matrix.rows =
+    subst (λ z. Ends (search_tree p) (search_mark p) rest.own false (left_of w) w.prefix.rows z [] c.args.walked.marks c.args.walked.matrix.rows) c.in-Found.is rest.walk.ends in
+    let room : length (w.marks ++ c.args.walked.marks) ≤ c.args.limit = omega (arith, length-append w.marks c.args.walked.marks, c.requires.fits) in
     record {
       question = refl;
-      shape = rest.shape;
+      shape = rest.walk.shape;
       inside = tt;
-      ends = rw c.in_ok-append-in-Found.ensures.ok (rest-found (search_tree p) (search_mark p) c.args.limit rest.own (left_of w) w.prefix.rows w.marks c.args.marks c.args.design.rows room ends);
+      ends = rw c.in_ok-append-in-Found.ensures.ok (rest-found (search_tree p) (search_mark p) c.args.limit rest.own (left_of w) w.prefix.rows w.marks c.args.walked.marks c.args.walked.matrix.rows room ends);
     }
 
 pub returns-in_ok-append-in-Closed : goal.returns-in_ok-append-in-Closed
@@ -57,15 +57,15 @@ returns-in_ok-append-in-Closed c =
     let w : SubtreeWalk = c.args.self.now in
     let p : Problem = problem_of w.question.now in
     let rest = c.requires.rest in
-    let ends : Ends (search_tree p) (search_mark p) rest.own false (left_of w) w.prefix.rows Closed [] c.args.marks c.args.design.rows =
-    subst (λ z. Ends (search_tree p) (search_mark p) rest.own false (left_of w) w.prefix.rows z [] c.args.marks c.args.design.rows) c.in-Closed.is rest.ends in
-    let room : length (w.marks ++ c.args.marks) ≤ c.args.limit = omega (arith, length-append w.marks c.args.marks, c.requires.fits) in
+    let ends : Ends (search_tree p) (search_mark p) rest.own false (left_of w) w.prefix.rows Closed [] c.args.walked.marks c.args.walked.matrix.rows =
+    subst (λ z. Ends (search_tree p) (search_mark p) rest.own false (left_of w) w.prefix.rows z [] c.args.walked.marks c.args.walked.matrix.rows) c.in-Closed.is rest.walk.ends in
+    let room : length (w.marks ++ c.args.walked.marks) ≤ c.args.limit = omega (arith, length-append w.marks c.args.walked.marks, c.requires.fits) in
     let i = c.requires.inside in
     record {
       question = refl;
       shape = i.shape;
       inside = record { valid = i.valid; plain = i.plain; candidates = i.candidates; shape = i.shape; at = i.at; part = i.part; canonical = i.canonical; expanded = i.expanded; bound = i.bound };
-      ends = rw c.in_ok-append-in-Closed.ensures.ok (rest-closed (search_tree p) (search_mark p) c.args.limit rest.own (left_of w) w.prefix.rows w.marks c.args.marks c.args.design.rows room ends);
+      ends = rw c.in_ok-append-in-Closed.ensures.ok (rest-closed (search_tree p) (search_mark p) c.args.limit rest.own (left_of w) w.prefix.rows w.marks c.args.walked.marks c.args.walked.matrix.rows room ends);
     }
 
 pub returns-in-Spent : goal.returns-in-Spent
@@ -73,11 +73,11 @@ returns-in-Spent c =
     let w : SubtreeWalk = c.args.self.now in
     let p : Problem = problem_of w.question.now in
     let rest = c.requires.rest in
-    let ends : Ends (search_tree p) (search_mark p) rest.own false (left_of w) w.prefix.rows Spent [] c.args.marks c.args.design.rows =
-    subst (λ z. Ends (search_tree p) (search_mark p) rest.own false (left_of w) w.prefix.rows z [] c.args.marks c.args.design.rows) c.in-Spent.is rest.ends in
+    let ends : Ends (search_tree p) (search_mark p) rest.own false (left_of w) w.prefix.rows Spent [] c.args.walked.marks c.args.walked.matrix.rows =
+    subst (λ z. Ends (search_tree p) (search_mark p) rest.own false (left_of w) w.prefix.rows z [] c.args.walked.marks c.args.walked.matrix.rows) c.in-Spent.is rest.walk.ends in
     record {
       question = refl;
       shape = c.requires.inside.shape;
       inside = tt;
-      ends = rest-spent (search_tree p) (search_mark p) c.args.limit rest.own (left_of w) w.prefix.rows w.marks c.args.marks c.args.design.rows rest.least ends;
+      ends = rest-spent (search_tree p) (search_mark p) c.args.limit rest.own (left_of w) w.prefix.rows w.marks c.args.walked.marks c.args.walked.matrix.rows rest.least ends;
     }
