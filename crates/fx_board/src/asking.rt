@@ -20,7 +20,7 @@ use fx_vectors::{Demands, Matrix, Question};
 use std::alloc::Global;
 use std::thread::Threads;
 
-/// In the time of so many nodes threads are started and joined some ten times over.
+/// Starting and joining threads can take as long as so many nodes: in whole runs up to 0.8 ms.
 const FEW: u64 = 4_096;
 
 /// So many jobs of a lot at most are shared at once. A job that is shared costs some nodes more than one
@@ -118,7 +118,8 @@ impl Pace {
 /// The answer of a valid question, by 1 to 64 threads: that of `ask_alone`, however many there are. The
 /// budget is at most 5,000,000. One thread is the caller's own, and starts no other. Others share the jobs
 /// of the first lot already, or where effects are asked, once the caller's thread has walked as long as
-/// they take to list the forbidden vectors.
+/// they take to list the forbidden vectors. Where a resolution and no least pattern is asked, all threads walk
+/// the open jobs together, one after another, up to the first that has few nodes.
 ///
 /// # Errors
 ///
@@ -161,7 +162,7 @@ fn listing_nodes(question: &Question) -> u64
     }
 }
 
-/// The same, where the caller's thread walks so many nodes of a lot alone.
+/// The same answer as `ask`, where the caller's thread walks so many nodes of a lot alone.
 ///
 /// # Errors
 ///
@@ -186,7 +187,7 @@ pub fn ask_after<R: Threads + Sync, G: Gate>(
     if threads == 1 || shape.rows().saturating_sub(usize::from(shape.m)) < 2 {
         return ask_alone(alloc, question, budget);
     }
-    let search = Search {
+    let search = SharedSearch {
         rt,
         alloc,
         question,
@@ -205,7 +206,7 @@ struct LotDone<'a> {
 
 /// What a search by several threads uses throughout.
 #[derive(Drop)]
-struct Search<'a, R, G> {
+struct SharedSearch<'a, R, G> {
     rt: &'a R,
     alloc: Global,
     question: &'a Question,
@@ -214,7 +215,7 @@ struct Search<'a, R, G> {
     ghost in_range: { (0 < threads) × (threads ≤ 64) },
 }
 
-impl<'a, R: Threads + Sync, G: Gate> Search<'a, R, G> {
+impl<'a, R: Threads + Sync, G: Gate> SharedSearch<'a, R, G> {
     /// The answer, lot after lot, where matrices have jobs.
     fn ask_by_lots(&self, budget: u64, alone: Alone) -> Result<Asked, NoMemory>
         requires valid { IsValid self.now.question.now }

@@ -49,7 +49,7 @@ fn nodes_of(asked: &Asked) -> u64 {
 }
 
 /// Numbers of threads, and how many nodes of a lot are walked alone before its jobs are shared out.
-const THREADS: [(u8, Alone); 13] = [
+const THREADS: [(u8, Alone); 15] = [
     (1, Alone { first: 0, later: 0 }),
     (1, Alone { first: 5, later: 5 }),
     (
@@ -77,6 +77,8 @@ const THREADS: [(u8, Alone); 13] = [
             later: 40,
         },
     ),
+    (4, Alone { first: 0, later: 0 }),
+    (5, Alone { first: 5, later: 0 }),
     (8, Alone { first: 0, later: 0 }),
     (8, Alone { first: 5, later: 5 }),
     (

@@ -10,7 +10,7 @@ use Rattle.fx_search.specs.Pruning.{count_of_rows}
 use Rattle.fx_search.specs.declared.job.JobEnd.{JobEnd}
 use Rattle.fx_search.specs.declared.lot_walk.LotWalk.{LotWalk}
 use Rattle.fx_board.proofs.LotFacts.{row-is, next-are, job-is, child-below, one-item, one-end}
-use Rattle.fx_board.proofs.asking.Search.share_job.Goals as goal
+use Rattle.fx_board.proofs.asking.SharedSearch.share_job.Goals as goal
 
 pub work_together-requires-clause-job : goal.work_together-requires-clause-job
 work_together-requires-clause-job g c κs within =

@@ -3,7 +3,7 @@ use Rattle.fx_vectors.specs.declared.question.Question.{Question}
 use Rattle.fx_search.specs.LotWalks.{IsRight}
 use Rattle.fx_search.specs.declared.asking.Asked.{Asked}
 use Rattle.fx_search.specs.declared.lot_walk.LotWalk.{LotWalk}
-use Rattle.fx_board.proofs.asking.Search.work_off.Goals as goal
+use Rattle.fx_board.proofs.asking.SharedSearch.work_off.Goals as goal
 
 some-of : (xs : List ℕ) → (xs ≡ [] → ⊥) → 0 < length xs
 some-of [] h = absurd (h refl)

@@ -6,7 +6,7 @@ use Rattle.fx_vectors.specs.Question.{problem_of}
 use Rattle.fx_search.specs.Pruning.{allows, count_of_rows}
 use Rattle.fx_search.specs.declared.lot_walk.LotWalk.{LotWalk}
 use Rattle.fx_board.proofs.LotFacts.{row-is, next-are, child-below, further, open-job, if-none}
-use Rattle.fx_board.proofs.asking.Search.work_next.Goals as goal
+use Rattle.fx_board.proofs.asking.SharedSearch.work_next.Goals as goal
 
 pub has_open_job-requires-clause-below : goal.has_open_job-requires-clause-below
 has_open_job-requires-clause-below g c =
