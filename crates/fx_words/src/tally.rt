@@ -164,26 +164,6 @@ impl Tally {
         let level = level_of(counts, &self.made, &self.prefix, &self.classes);
         level::pattern(alloc, level, &self.prefix, &self.classes)
     }
-
-    /// The pattern with this row added.
-    ///
-    /// # Errors
-    ///
-    /// `NoMemory`.
-    pub fn pattern_with(&mut self, alloc: Global, row: u16) -> Result<Pattern, NoMemory>
-        requires room { length self.old.rows < self.old.shape.s }
-        requires below { row < self.old.shape.q ^ self.old.shape.m }
-        ensures pattern { IfOk result (λ pattern.
-            pattern
-            ≡ pattern_of (dimensions_of self.old.shape) (self.old.rows ++ row ∷ [])) }
-        ensures same { self.new ≡ self.old }
-    {
-        let weights = usize::from(self.prefix.shape().s) + 1;
-        let counts = self.counts.as_mut_slice();
-        make(counts, &mut self.made, &self.prefix, &self.classes, weights);
-        let level = level_of(counts, &self.made, &self.prefix, &self.classes);
-        level::pattern_with(alloc, level, &self.prefix, &self.classes, row)
-    }
 }
 
 /// The word-length pattern of the factor rows of a prefix: A_1 to A_s, where the rows to come have no
