@@ -649,6 +649,20 @@ fn large_sums_up(rt: HostRuntime) {
     }
 }
 
+/// Forty steps, of which some have many nodes, have one summary and one status by any number of threads.
+#[test]
+fn threads_do_not_change_a_summary(rt: HostRuntime) {
+    let one = left_by(&rt, rt.alloc(), "large 40 --threads=1", &[], UNREAD);
+    assert!(rt; one.status <= 2 && one.listing.bytes().starts_with(b"steps 40\n"));
+    for line in ["large 40 --threads=2", "large 40 --threads=64"] {
+        let other = left_by(&rt, rt.alloc(), line, &[], UNREAD);
+        assert!(rt;
+            other.status == one.status && other.listing.bytes() == one.listing.bytes(),
+            "{line}"
+        );
+    }
+}
+
 /// Whether the status is 4 after failed writes, so many bytes are listed, and no other call failed.
 fn is_after_write(left: Option<Tally>, listed: usize) -> bool {
     match left {

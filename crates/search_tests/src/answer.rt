@@ -1,6 +1,5 @@
 ghost use Rattle.std.specs.Prelude.{◌<◌, ◌≤◌};
 
-use crate::board::TURNS;
 use fx_answer::answer;
 use fx_base::{Bytes, put, put_number};
 use fx_board::{FreeGate, Gate};
@@ -204,45 +203,62 @@ fn budgets_end_at_the_last_node_of_each_question(rt: HostRuntime) {
     all_end_so(&rt, rt.alloc(), STEPS);
 }
 
-/// Holds the first job until another has begun.
+/// Holds each piece of a search for a while, until two have been in hand at one time.
 #[derive(Drop)]
 struct Waiting {
-    begun: AtomicU64,
+    in_hand: AtomicU64,
     met: AtomicU64,
 }
 
+/// How often a held piece looks for another, before it goes on alone. The first pieces are walked by one
+/// thread, so each of these is held in vain.
+const LOOKS: u64 = 20_000_000;
+
 impl Gate for Waiting {
     fn began(&self, _n: u64) {
-        if self.begun.fetch_add(1, Ordering::SeqCst) != 0 {
-            return;
+        if self.in_hand.fetch_add(1, Ordering::SeqCst) != 0 {
+            self.met.store(1, Ordering::SeqCst);
         }
-        for _turn in 0..TURNS {
-            if self.begun.load(Ordering::SeqCst) > 1 {
-                self.met.store(1, Ordering::SeqCst);
+        for _look in 0..LOOKS {
+            if self.met.load(Ordering::SeqCst) == 1 {
                 return;
             }
         }
     }
 
-    fn ended(&self, _end: &fx_board::Ended) {}
+    fn ended(&self, _end: &fx_board::Ended) {
+        self.in_hand.fetch_sub(1, Ordering::SeqCst);
+    }
 }
 
-/// Jobs of a question with many nodes are worked off side by side.
-#[test]
-fn the_jobs_of_a_large_question_are_shared(rt: HostRuntime) {
-    let step = ";factors X1-X12;size design=64;model resolution=max/minabs;";
-    let text = text_of(&rt, rt.alloc(), 100_000, step);
-    let program = program_of(&rt, rt.alloc(), text.as_slice());
+/// Steps with many nodes: without a least pattern, and with one.
+const LARGE: [&str; 2] = [
+    ";factors X1-X20;size design=128;model resolution=5;",
+    ";factors X1-X12;size design=64;model resolution=max/minabs;",
+];
+
+/// Whether two threads work side by side on a step whose nodes are more than its budget.
+fn is_shared<R: Threads + Sync + Abort>(rt: &R, alloc: Global, step: &str) -> bool {
+    let text = text_of(rt, alloc, 100_000, step);
+    let program = program_of(rt, alloc, text.as_slice());
     let gate = Waiting {
-        begun: AtomicU64::new(0),
+        in_hand: AtomicU64::new(0),
         met: AtomicU64::new(0),
     };
     match program.as_slice() {
         [step] => {
-            let outcome = answer(&rt, rt.alloc(), step, 2, &gate).expect(&rt, "memory");
-            assert!(rt; outcome.end == End::Budget && outcome.nodes == 100_000);
+            let outcome = answer(rt, alloc, step, 2, &gate).expect(rt, "memory");
+            outcome.end == End::Budget
+                && outcome.nodes == 100_000
+                && gate.met.load(Ordering::SeqCst) == 1
         }
-        _ => panic!(rt; "one step"),
+        _ => false,
     }
-    assert!(rt; gate.met.load(Ordering::SeqCst) == 1);
+}
+
+#[test]
+fn large_questions_are_shared(rt: HostRuntime) {
+    for step in LARGE {
+        assert!(rt; is_shared(&rt, rt.alloc(), step), "{step}");
+    }
 }

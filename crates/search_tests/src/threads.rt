@@ -224,6 +224,20 @@ fn a_second_thread_works_off_jobs(rt: HostRuntime) {
         ended: AtomicU64::new(0),
         met: AtomicU64::new(0),
     };
+    let question = question(&rt, shape_of(&rt, (2, 4, 7, 0)), 4, false);
+    let asked = ask(&rt, rt.alloc(), &question, 1_000_000, 2, &gate).expect(&rt, "memory");
+    assert!(rt; matches!(asked, Asked::Found { nodes: 19, .. }));
+    assert!(rt; gate.met.load(Ordering::SeqCst) == 1);
+}
+
+/// The same for a question that asks for a least pattern.
+#[test]
+fn a_second_thread_works_off_jobs_of_a_least_question(rt: HostRuntime) {
+    let gate = Holding {
+        held: AtomicU64::new(0),
+        ended: AtomicU64::new(0),
+        met: AtomicU64::new(0),
+    };
     let question = question(&rt, shape_of(&rt, (2, 4, 7, 0)), 4, true);
     let asked = ask(&rt, rt.alloc(), &question, 1_000_000, 2, &gate).expect(&rt, "memory");
     assert!(rt; matches!(asked, Asked::Found { nodes: 80, .. }));
