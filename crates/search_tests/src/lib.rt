@@ -17,8 +17,6 @@ mod demands;
 #[cfg(test)]
 mod job;
 #[cfg(test)]
-mod plain_pruner;
-#[cfg(test)]
 mod points;
 #[cfg(test)]
 mod questions;

@@ -1,9 +1,6 @@
-use Rattle.std.proofs.Common.{◌≡◌, sym, subst, ap, ◌∙◌}
-use Rattle.fx_designs.specs.Jobs.{best_before}
+use Rattle.std.proofs.Common.{sym, subst}
 use Rattle.fx_vectors.specs.Matrix.{MatrixView}
 use Rattle.fx_vectors.specs.declared.question.Question.{Question}
-use Rattle.fx_vectors.specs.declared.shape.Shape.{Shape}
-use Rattle.fx_vectors.specs.Question.{problem_of}
 use Rattle.fx_search.specs.declared.lot_walk.LotWalk.{LotWalk}
 use Rattle.fx_board.specs.Lots.{AreJobsOf}
 use Rattle.fx_board.proofs.LotFacts.{next-are}
