@@ -13,3 +13,9 @@ pub mod Codes
 pub mod Unknown
 pub mod Lacking
 pub mod LeftOut
+pub mod Places
+mod Keys
+mod Steps
+pub mod Pass
+mod Examples
+pub mod FirstRefusal

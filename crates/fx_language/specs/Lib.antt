@@ -6,3 +6,7 @@ pub mod Grammar
 pub mod Literal
 pub mod Refusals
 pub mod Laws
+pub mod Places
+pub mod Repeats
+pub mod Pasts
+pub mod FirstRefusal
