@@ -1,5 +1,6 @@
 mod Derivatives
 mod Solid
+pub mod SameSymbol
 pub mod NoFaults
 mod Ends
 mod StepEnds

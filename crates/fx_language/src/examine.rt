@@ -2,6 +2,7 @@ ghost use Rattle.std.specs.Prelude.{◌≡◌};
 ghost use Rattle.fx_language.specs.Shapes.{after, fault_at};
 ghost use Rattle.fx_language.specs.Places.{examine_left, shape_left};
 
+use crate::code;
 use crate::state::State;
 use crate::symbol::Symbol;
 
@@ -34,7 +35,7 @@ impl ExaminePlace {
         ensures { result ≡ fault_at symbol (examine_left self) }
     {
         match (self, symbol) {
-            (Self::NoOpen, Symbol::Open) => Some(24),
+            (Self::NoOpen, Symbol::Open) => Some(code::NOT_IN_PROFILE),
             _ => None,
         }
     }

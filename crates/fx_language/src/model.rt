@@ -2,6 +2,7 @@ ghost use Rattle.std.specs.Prelude.{◌≡◌};
 ghost use Rattle.fx_language.specs.Shapes.{after, fault_at};
 ghost use Rattle.fx_language.specs.Places.{model_left, shape_left};
 
+use crate::code;
 use crate::effects::{EffectList, EffectPlace};
 use crate::state::{State, only};
 use crate::symbol::Symbol;
@@ -59,7 +60,7 @@ impl ModelPlace {
         ensures { result ≡ fault_at symbol (model_left self) }
     {
         match (self, symbol) {
-            (Self::End, Symbol::Open) => Some(24),
+            (Self::End, Symbol::Open) => Some(code::NOT_IN_PROFILE),
             _ => None,
         }
     }

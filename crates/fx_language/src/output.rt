@@ -2,6 +2,7 @@ ghost use Rattle.std.specs.Prelude.{◌≡◌};
 ghost use Rattle.fx_language.specs.Shapes.{after, fault_at};
 ghost use Rattle.fx_language.specs.Places.{output_left, shape_left};
 
+use crate::code;
 use crate::state::{State, any_word, if_word, only};
 use crate::symbol::Symbol;
 use crate::values::{ValueKind, ValuesPlace};
@@ -72,9 +73,9 @@ impl OutputPlace {
         ensures { result ≡ fault_at symbol (output_left self) }
     {
         match symbol {
-            Symbol::OpenBracket => Some(24),
+            Symbol::OpenBracket => Some(code::NOT_IN_PROFILE),
             _ => match self {
-                Self::Replication => if_word(symbol, 24),
+                Self::Replication => if_word(symbol, code::NOT_IN_PROFILE),
                 _ => None,
             },
         }

@@ -2,6 +2,7 @@ ghost use Rattle.std.specs.Prelude.{◌≡◌};
 ghost use Rattle.fx_language.specs.Shapes.{after, fault_at};
 ghost use Rattle.fx_language.specs.Places.{proc_left, shape_left};
 
+use crate::code;
 use crate::state::{State, if_word, only};
 use crate::symbol::Symbol;
 
@@ -40,9 +41,9 @@ impl ProcPlace {
         ensures { result ≡ fault_at symbol (proc_left self) }
     {
         match symbol {
-            Symbol::Time | Symbol::Nocheck | Symbol::Namelen => Some(24),
+            Symbol::Time | Symbol::Nocheck | Symbol::Namelen => Some(code::NOT_IN_PROFILE),
             _ => match self {
-                Self::Procedure => if_word(symbol, 1),
+                Self::Procedure => if_word(symbol, code::UNKNOWN_STATEMENT),
                 _ => None,
             },
         }

@@ -5,6 +5,7 @@ ghost use Rattle.fx_language.specs.Refusals.{allows, allows_option, code_of};
 ghost use Rattle.fx_language.specs.Grammar.{program, unknown};
 ghost use Rattle.fx_language.specs.Places.{in_step, shape_left, shape_of};
 
+use crate::code;
 use crate::effects::{EffectList, EffectPlace};
 use crate::examine::ExaminePlace;
 use crate::factors::FactorsPlace;
@@ -75,9 +76,9 @@ impl State {
         ensures { result ≡ if is_word symbol && allows_option (shape_of self) then 3 else 2 }
     {
         if symbol.is_word() && self.allows_option() {
-            3
+            code::UNKNOWN_OPTION
         } else {
-            2
+            code::UNEXPECTED_SYMBOL
         }
     }
 
@@ -135,8 +136,8 @@ fn unknown_statement(symbol: Symbol) -> Option<u8>
     ensures { result ≡ fault_at symbol unknown }
 {
     match symbol {
-        Symbol::Uniteffect => Some(24),
-        _ => if_word(symbol, 1),
+        Symbol::Uniteffect => Some(code::NOT_IN_PROFILE),
+        _ => if_word(symbol, code::UNKNOWN_STATEMENT),
     }
 }
 

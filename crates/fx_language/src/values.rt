@@ -2,6 +2,7 @@ ghost use Rattle.std.specs.Prelude.{◌≡◌};
 ghost use Rattle.fx_language.specs.Shapes.{after, fault_at};
 ghost use Rattle.fx_language.specs.Places.{shape_left, values_left};
 
+use crate::code;
 use crate::output::OutputPlace;
 use crate::state::{State, only};
 use crate::symbol::Symbol;
@@ -58,7 +59,7 @@ impl ValuesPlace {
         ensures { result ≡ fault_at symbol (values_left self) }
     {
         match symbol {
-            Symbol::OpenBracket => Some(24),
+            Symbol::OpenBracket => Some(code::NOT_IN_PROFILE),
             _ => None,
         }
     }
