@@ -1,7 +1,7 @@
 mod Derivatives
 mod Solid
 pub mod SameSymbol
-pub mod NoFaults
+pub mod Uncoded
 mod Ends
 mod StepEnds
 pub mod Sentences

@@ -3,7 +3,7 @@ pub mod Keywords
 pub mod Spellings
 pub mod Shapes
 pub mod Grammar
-pub mod Literal
+pub mod Uncoded
 pub mod Refusals
 pub mod Laws
 pub mod Places
