@@ -1,5 +1,5 @@
 -- The book of a question: why it has no answer, or none of less pattern.
-use Rattle.std.specs.Prelude.{ℕ, ◌||◌, not, Bool, if◌then◌else◌, List, Option, Some, None, is_some}
+use Rattle.std.specs.Prelude.{ℕ, ◌||◌, not, Bool, if◌then◌else◌, List, Option, None, is_some}
 use Rattle.std.specs.Option.{option_map}
 use Rattle.fx_designs.specs.Problems.{Dimensions, Problem, Requirement, AtResolution, ForEffects}
 use Rattle.fx_designs.specs.Answers.{answer}

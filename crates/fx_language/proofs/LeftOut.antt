@@ -111,17 +111,21 @@ in_model t s (inr (x, y, (p, passed, ex), inr (u, v, m, h, ev), e)) =
 behind_section : (t : List Symbol) (s : Symbol) → Names 24 examine_word t s → ((t ≡ symbol.Aliasing ∷ []) ⊎ (t ≡ symbol.Aberration ∷ [])) × (is symbol.Open s ≡ true)
 behind_section t s (inl (inl h)) = absurd h
 behind_section t s (inl (inr (a, b, (w, tw, ew), inl h, e))) = absurd h
-behind_section t s (inl (inr (a, b, (w, tw, ew), inr (e0, opens, same), e))) =
-    (inl (e ∙ ap (λ (l : List Symbol). l ++ b) ew
-        ∙ ap₂ (λ (z : Symbol) (l : List Symbol). z ∷ l) (symbol_is symbol.Aliasing w tw) e0), opens)
+behind_section t s (inl (inr (a, b, (w, tw, ew), inr (e0, opens, same), e))) = (
+  inl (e ∙ ap (λ (l : List Symbol). l ++ b) ew
+      ∙ ap₂ (λ (z : Symbol) (l : List Symbol). z ∷ l) (symbol_is symbol.Aliasing w tw) e0),
+  opens,
+)
 behind_section t s (inr (inl h)) = absurd h
 behind_section t s (inr (inr (inl h))) = absurd h
 behind_section t s (inr (inr (inr (inl h)))) = absurd h
 behind_section t s (inr (inr (inr (inr (inl h))))) = absurd h
 behind_section t s (inr (inr (inr (inr (inr (a, b, (w, tw, ew), inl h, e)))))) = absurd h
-behind_section t s (inr (inr (inr (inr (inr (a, b, (w, tw, ew), inr (e0, opens, same), e)))))) =
-    (inr (e ∙ ap (λ (l : List Symbol). l ++ b) ew
-        ∙ ap₂ (λ (z : Symbol) (l : List Symbol). z ∷ l) (symbol_is symbol.Aberration w tw) e0), opens)
+behind_section t s (inr (inr (inr (inr (inr (a, b, (w, tw, ew), inr (e0, opens, same), e)))))) = (
+  inr (e ∙ ap (λ (l : List Symbol). l ++ b) ew
+      ∙ ap₂ (λ (z : Symbol) (l : List Symbol). z ∷ l) (symbol_is symbol.Aberration w tw) e0),
+  opens,
+)
 
 in_examine : (t : List Symbol) (s : Symbol) → Names 24 examine t s → IsLeftOut t s
 in_examine t s (inl h) = absurd h
@@ -133,11 +137,23 @@ in_examine t s (inr (x, y, (p, passed, ex), inl (u, v, m, h, ev), e)) = of_secti
 
     of_section : ((v ≡ symbol.Aliasing ∷ []) ⊎ (v ≡ symbol.Aberration ∷ [])) × (is symbol.Open s ≡ true) → IsLeftOut t s
     of_section (inl last, opens) =
-        inr (inr (inl (opens, (u, inr (inl (in_statement_of symbol.Examine p t x y (u ++ symbol.Aliasing ∷ [])
-            (symbol_is symbol.Examine p passed) e ex (ev ∙ ap (λ (l : List Symbol). u ++ l) last) lacking))))))
+        inr (inr (inl (
+          opens,
+          (
+            u,
+            inr (inl (in_statement_of symbol.Examine p t x y (u ++ symbol.Aliasing ∷ [])
+                (symbol_is symbol.Examine p passed) e ex (ev ∙ ap (λ (l : List Symbol). u ++ l) last) lacking)),
+          ),
+        )))
     of_section (inr last, opens) =
-        inr (inr (inl (opens, (u, inr (inr (in_statement_of symbol.Examine p t x y (u ++ symbol.Aberration ∷ [])
-            (symbol_is symbol.Examine p passed) e ex (ev ∙ ap (λ (l : List Symbol). u ++ l) last) lacking))))))
+        inr (inr (inl (
+          opens,
+          (
+            u,
+            inr (inr (in_statement_of symbol.Examine p t x y (u ++ symbol.Aberration ∷ [])
+                (symbol_is symbol.Examine p passed) e ex (ev ∙ ap (λ (l : List Symbol). u ++ l) last) lacking)),
+          ),
+        )))
 
 -- OUTPUT
 
@@ -213,11 +229,23 @@ in_output t s (inr (x, y, (p, passed, ex), h, e)) = of_rest (in_rest y s h)
     of_rest (inl bracket) =
         inr (inr (inr (inr (bracket, y, in_statement_of symbol.Output p t x y y (symbol_is symbol.Output p passed) e ex refl lacking))))
     of_rest (inr (a_word, rest, inl last)) =
-        inr (inr (inr (inl (a_word, (rest, inl (in_statement_of symbol.Output p t x y (rest ++ symbol.Pointrep ∷ symbol.Equals ∷ [])
-            (symbol_is symbol.Output p passed) e ex last lacking))))))
+        inr (inr (inr (inl (
+          a_word,
+          (
+            rest,
+            inl (in_statement_of symbol.Output p t x y (rest ++ symbol.Pointrep ∷ symbol.Equals ∷ [])
+                (symbol_is symbol.Output p passed) e ex last lacking),
+          ),
+        ))))
     of_rest (inr (a_word, rest, inr last)) =
-        inr (inr (inr (inl (a_word, (rest, inr (in_statement_of symbol.Output p t x y (rest ++ symbol.Designrep ∷ symbol.Equals ∷ [])
-            (symbol_is symbol.Output p passed) e ex last lacking))))))
+        inr (inr (inr (inl (
+          a_word,
+          (
+            rest,
+            inr (in_statement_of symbol.Output p t x y (rest ++ symbol.Designrep ∷ symbol.Equals ∷ [])
+                (symbol_is symbol.Output p passed) e ex last lacking),
+          ),
+        ))))
 
 -- any statement, and the program
 

@@ -118,9 +118,11 @@ in_proc : (t : List Symbol) (s : Symbol) → Names 1 proc t s → (t ≡ symbol.
 in_proc t s (inl n) = absurd n
 in_proc t s (inr (x, y, (p, passed, ex), inl (inl (inl n)), e)) = absurd n
 in_proc t s (inr (x, y, (p, passed, ex), inl (inl (inr (ey, left, same))), e)) = absurd (not_24 same)
-in_proc t s (inr (x, y, (p, passed, ex), inl (inr (ey, passes, same)), e)) =
-    (e ∙ ap (λ (l : List Symbol). l ++ y) ex ∙ ap (λ (l : List Symbol). p ∷ l) ey
-        ∙ ap (λ (z : Symbol). z ∷ []) (symbol_is symbol.Proc p passed), passes)
+in_proc t s (inr (x, y, (p, passed, ex), inl (inr (ey, passes, same)), e)) = (
+  e ∙ ap (λ (l : List Symbol). l ++ y) ex ∙ ap (λ (l : List Symbol). p ∷ l) ey
+      ∙ ap (λ (z : Symbol). z ∷ []) (symbol_is symbol.Proc p passed),
+  passes,
+)
 in_proc t s (inr (x, y, (p, passed, ex), inr (x', y', m, n, e'), e)) =
     absurd (none 1 (guarded 24 is_left_out (Many (key symbol.Nodes ▸ key symbol.Equals ▸ key symbol.Whole) ▸ key symbol.Semicolon)) y' s refl n)
 

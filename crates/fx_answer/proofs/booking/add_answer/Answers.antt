@@ -23,5 +23,5 @@ least_book-requires-clause-pattern c =
 pub returns : goal.returns
 returns c =
     let own = book_of_least c.args.number (problem_of c.args.question) c.least_book.result c.least_book.ensures
-        (not-false _ c.if-not-question.false) in
+    (not-false _ c.if-not-question.false) in
     on_ok_weaker c.add.result (λ e. e ∙ ap (λ (l : List NamedBook). c.args.books.now ++ l) own) c.add.ensures
