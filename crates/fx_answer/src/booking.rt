@@ -8,8 +8,9 @@ ghost use Rattle.fx_answer.specs.Books.{book_at};
 
 use crate::question::lowest;
 use fx_base::NoMemory;
+use fx_book::{absence_book, least_book};
 use fx_statements::Step;
-use fx_vectors::{Book, Books, Head, Marks, Matrix, NamedBook, Question};
+use fx_vectors::{Book, Books, Marks, Matrix, NamedBook, Question};
 use fx_words::pattern_of;
 use std::alloc::Global;
 
@@ -36,16 +37,7 @@ pub(crate) fn add_absence(
     requires marks { marks ≡ nodes.marks (problem_of question) }
     ensures { OnOk result (books.new ≡ books.old ++ book_at number (problem_of question)) }
 {
-    let question = Question {
-        shape: question.shape,
-        demands: question.demands,
-        least: false,
-    };
-    let head = Head {
-        question,
-        beat: None,
-    };
-    add(books, number, head, marks)
+    add(books, number, absence_book(question, marks))
 }
 
 /// Adds the book of a question that has this answer, where a least pattern is asked.
@@ -69,19 +61,13 @@ pub(crate) fn add_answer(
     if !question.least {
         return Ok(());
     }
-    let beat = pattern_of(alloc, matrix)?;
-    let head = Head {
-        question,
-        beat: Some(beat),
-    };
-    add(books, number, head, marks)
+    let pattern = pattern_of(alloc, matrix)?;
+    add(books, number, least_book(question, pattern, marks))
 }
 
-fn add(books: &mut Books, number: u32, head: Head, marks: Marks) -> Result<(), NoMemory>
-    ensures { OnOk result
-        (books.new ≡ books.old ++ record { question = number; book = record { head = head; marks = marks } } ∷ []) }
+fn add(books: &mut Books, number: u32, book: Book) -> Result<(), NoMemory>
+    ensures { OnOk result (books.new ≡ books.old ++ record { question = number; book = book } ∷ []) }
 {
-    let book = Book { head, marks };
     books.push(NamedBook {
         question: number,
         book,

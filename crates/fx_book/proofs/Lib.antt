@@ -12,3 +12,4 @@ mod Examples
 mod Numerals
 mod Texts
 mod Accepted
+pub mod QuestionBooks

@@ -6,3 +6,4 @@ pub mod Demands
 pub mod Heads
 pub mod Writing
 pub mod Valid
+pub mod QuestionBooks

@@ -1,4 +1,5 @@
-//! Books as texts: what is written, and what is read back, or the first fault of a text.
+//! Books: which a question has, and the making of it; books as texts, what is written, and what is read
+//! back, or the first fault of a text.
 #![tactic(auto)]
 
 mod beat;
@@ -10,6 +11,7 @@ mod head;
 mod laws;
 mod part;
 mod pieces;
+mod question_book;
 mod reading;
 mod tail;
 mod writing;
@@ -18,4 +20,5 @@ pub use book::read_book;
 pub use fault::{BookFault, BookStop, FaultKind};
 pub use laws::{books_come_back, entries_come_back, only_books_are_read};
 pub use pieces::book_pieces;
+pub use question_book::{absence_book, least_book};
 pub use writing::{write_book, write_head};

@@ -1,13 +1,14 @@
 -- The items of a FACTORS statement, by the grammar.
-use Rattle.std.proofs.Common.{◌≡◌, true, false, List, [], ◌∷◌, ◌++◌, Option, Some, None, refl, sym, ap, ap₂, subst, ◌∙◌, inl, inr, ◌⊎◌, append_assoc, arith, ◌≤◌, eqb}
+use Rattle.std.proofs.Common.{◌≡◌, true, false, List, [], ◌∷◌, ◌++◌, Option, Some, None, refl, sym, ap, ap₂, subst, ◌∙◌, inl, inr, ◌⊎◌, append_assoc}
 use Rattle.std.specs.List.{AllByRecursion, flat_map}
-use Rattle.std.proofs.lemmas.Bool.{cases_Bool, eqb-true, leb-true}
+use Rattle.std.proofs.lemmas.Bool.{cases_Bool}
 use Rattle.std.proofs.lemmas.List.{append-nil}
 use Rattle.fx_language.specs.declared.symbol.Symbol.{Symbol}
 use Rattle.fx_language.specs.declared.symbol.Symbol.TheVariants as symbol
-use Rattle.fx_language.specs.Symbols.{index, is, is_word}
+use Rattle.fx_language.specs.Symbols.{is, is_word}
 use Rattle.fx_language.specs.Shapes.{Shape, Empty, One, Before, Either, Matches}
 use Rattle.fx_language.specs.Grammar as grammar
+use Rattle.fx_language.proofs.SameSymbol.{symbol_is}
 use Rattle.fx_text.specs.Written.{Written, begins}
 use Rattle.fx_text.specs.Phrases.{before, has}
 use Rattle.fx_text.specs.Ranges.{range_end}
@@ -17,9 +18,9 @@ use Rattle.fx_factors.specs.Items.{Item, item, items_from}
 use Rattle.fx_factors.specs.Readings.{IsItem, IsWrittenAs, AreItems, AreItemsRead}
 
 -- a word is no sign
-no_sign : (sign s : Symbol) → 40 ≤ index sign → is_word s ≡ true → is sign s ≡ false
-no_sign sign s high word = elim (cases_Bool (is sign s)) [
-  | inl it ↦ absurd (omega (arith, eqb-true (index sign) (index s) it, leb-true (index s) 39 word, high))
+no_sign : (sign s : Symbol) → is_word sign ≡ false → is_word s ≡ true → is sign s ≡ false
+no_sign sign s none word = elim (cases_Bool (is sign s)) [
+  | inl it ↦ absurd (let f : false ≡ true = sym none ∙ ap is_word (sym (symbol_is sign s it)) ∙ word in cc)
   | inr differs ↦ differs
 ]
 
@@ -112,8 +113,8 @@ no_range (p ∷ written) (i ∷ read) h = by_last i.last h.0.1
     rest = flat_map (λ (part : List Written). part) written
 
     by_last : (last : Option Written) → IsWrittenAs p i.first last → range_end (p ++ rest) ≡ None
-    by_last None e = rw e (rw (no_sign symbol.Minus i.first.symbol (omega arith) h.0.0) refl)
-    by_last (Some last) (minus, hm, hl, e) = rw e (rw (no_sign symbol.Minus i.first.symbol (omega arith) h.0.0) refl)
+    by_last None e = rw e (rw (no_sign symbol.Minus i.first.symbol refl h.0.0) refl)
+    by_last (Some last) (minus, hm, hl, e) = rw e (rw (no_sign symbol.Minus i.first.symbol refl h.0.0) refl)
 
 -- the items of what is written so are these
 read_again : (written : List (List Written)) (read : List Item) → AreItems written read → items_from false (flat_map (λ (part : List Written). part) written) ≡ read
@@ -126,8 +127,9 @@ read_again (p ∷ written) (i ∷ read) h = by_last i.last h.0.1 ∙ ap (λ l. i
     rest = flat_map (λ (part : List Written). part) written
 
     by_last : (last : Option Written) → IsWrittenAs p i.first last → items_from false (p ++ rest) ≡ item i.first last ∷ items_from false rest
-    by_last None e = rw e (rw (no_sign symbol.Minus i.first.symbol (omega arith) h.0.0, no_range written read h.1) refl)
-    by_last (Some last) (minus, hm, hl, e) = rw e (rw (no_sign symbol.Minus i.first.symbol (omega arith) h.0.0, hm, no_sign symbol.Minus last.symbol (omega arith) hl) refl)
+    by_last None e = rw e (rw (no_sign symbol.Minus i.first.symbol refl h.0.0, no_range written read h.1) refl)
+    by_last (Some last) (minus, hm, hl, e) =
+        rw e (rw (no_sign symbol.Minus i.first.symbol refl h.0.0, hm, no_sign symbol.Minus last.symbol refl hl) refl)
 
 -- items have no `/`
 no_slash : (written : List (List Written)) (read : List Item) → AreItems written read → has symbol.Slash (flat_map (λ (part : List Written). part) written) ≡ false
@@ -140,12 +142,13 @@ no_slash (p ∷ written) (i ∷ read) h = by_last i.last h.0.1 (no_slash written
     rest = flat_map (λ (part : List Written). part) written
 
     other : (s : Symbol) → is symbol.Minus s ≡ true → is symbol.Slash s ≡ false
-    other s e = ap (λ n. eqb 49 n) (sym (eqb-true 53 (index s) e))
+    other s e = ap (is symbol.Slash) (symbol_is symbol.Minus s e)
 
     by_last : (last : Option Written) → IsWrittenAs p i.first last → has symbol.Slash rest ≡ false → has symbol.Slash (p ++ rest) ≡ false
-    by_last None e later = rw e (rw (no_sign symbol.Slash i.first.symbol (omega arith) h.0.0) later)
+    by_last None e later = rw e (rw (no_sign symbol.Slash i.first.symbol refl h.0.0) later)
     by_last (Some last) (minus, hm, hl, e) later =
-        rw e (rw (no_sign symbol.Slash i.first.symbol (omega arith) h.0.0, other minus.symbol hm, no_sign symbol.Slash last.symbol (omega arith) hl) later)
+        let first = no_sign symbol.Slash i.first.symbol refl h.0.0 in
+        rw e (rw (first, other minus.symbol hm, no_sign symbol.Slash last.symbol refl hl) later)
 
 -- what is before the first `/`
 before_all : (front options : List Written) → has symbol.Slash front ≡ false → (options ≡ []) ⊎ (begins symbol.Slash options ≡ true) → before symbol.Slash (front ++ options) ≡ front

@@ -12,7 +12,8 @@ use Rattle.fx_language.specs.Grammar.{key, name, n, no_open, replication, values
 use Rattle.fx_language.specs.Laws.{Names, IsAtStart, IsIn, IsLeftOut}
 use Rattle.fx_language.proofs.Named.{from_parts}
 use Rattle.fx_language.proofs.Lacking.{lacks, none}
-use Rattle.fx_language.proofs.Unknown.{lacks_code, other_code, none as no_code, semicolon, procedure, joined, many, between_start, proc_start, statement_start, whole_step, whole_start}
+use Rattle.fx_language.proofs.SameSymbol.{symbol_is}
+use Rattle.fx_language.proofs.Unknown.{lacks_code, other_code, none as no_code, semicolon, joined, many, between_start, proc_start, statement_start, whole_step, whole_start}
 
 -- before the semicolon that ends a statement
 
@@ -58,48 +59,6 @@ guarded_named c test (Either a b) t s l (inr h) = guarded_named c test b t s (an
 guarded_named c test (Many a) t s l (x, y, m, h, e) = guarded_named c test a y s l h
 guarded_named c test (Fault code other) t s l (e, passes, same) = absurd (other_code code c l same)
 
--- the symbols that are one alone
-
-slash : (s : Symbol) → is symbol.Slash s ≡ true → s ≡ symbol.Slash
-slash symbol.Slash h = refl
-slash s h = absurd (let f : false ≡ true = h in cc)
-
-minabs : (s : Symbol) → is symbol.Minabs s ≡ true → s ≡ symbol.Minabs
-minabs symbol.Minabs h = refl
-minabs s h = absurd (let f : false ≡ true = h in cc)
-
-equals : (s : Symbol) → is symbol.Equals s ≡ true → s ≡ symbol.Equals
-equals symbol.Equals h = refl
-equals s h = absurd (let f : false ≡ true = h in cc)
-
-model_key : (s : Symbol) → is symbol.Model s ≡ true → s ≡ symbol.Model
-model_key symbol.Model h = refl
-model_key s h = absurd (let f : false ≡ true = h in cc)
-
-examine_key : (s : Symbol) → is symbol.Examine s ≡ true → s ≡ symbol.Examine
-examine_key symbol.Examine h = refl
-examine_key s h = absurd (let f : false ≡ true = h in cc)
-
-output_key : (s : Symbol) → is symbol.Output s ≡ true → s ≡ symbol.Output
-output_key symbol.Output h = refl
-output_key s h = absurd (let f : false ≡ true = h in cc)
-
-aliasing : (s : Symbol) → is symbol.Aliasing s ≡ true → s ≡ symbol.Aliasing
-aliasing symbol.Aliasing h = refl
-aliasing s h = absurd (let f : false ≡ true = h in cc)
-
-aberration : (s : Symbol) → is symbol.Aberration s ≡ true → s ≡ symbol.Aberration
-aberration symbol.Aberration h = refl
-aberration s h = absurd (let f : false ≡ true = h in cc)
-
-pointrep : (s : Symbol) → is symbol.Pointrep s ≡ true → s ≡ symbol.Pointrep
-pointrep symbol.Pointrep h = refl
-pointrep s h = absurd (let f : false ≡ true = h in cc)
-
-designrep : (s : Symbol) → is symbol.Designrep s ≡ true → s ≡ symbol.Designrep
-designrep symbol.Designrep h = refl
-designrep s h = absurd (let f : false ≡ true = h in cc)
-
 -- a statement whose word is first, where a code is named after y
 in_statement_of : (word w : Symbol) (t x y rest : List Symbol) → w ≡ word → t ≡ x ++ y → x ≡ w ∷ [] → y ≡ rest → list_any (is symbol.Semicolon) y ≡ false → IsIn word t rest
 in_statement_of word w t x y rest is_word e ex same lacking =
@@ -113,7 +72,8 @@ in_proc t s (inr (x, y, (p, passed, ex), h, e)) =
     inr (inl (
       guarded_named 24 is_left_out ((key symbol.Factex ∣ Fault 1 is_word) ▸ Many (key symbol.Nodes ▸ key symbol.Equals ▸ n) ▸ key symbol.Semicolon) y s refl h,
       y,
-      in_statement_of symbol.Proc p t x y y (procedure p passed) e ex refl (named_inside 24 proc_rest y s refl h),
+      in_statement_of symbol.Proc p t x y y (symbol_is symbol.Proc p passed) e ex refl
+          (named_inside 24 proc_rest y s refl h),
     ))
 
 -- MODEL
@@ -125,7 +85,7 @@ behind_minabs t s (inl (inl (inr (a, b, (sl, tsl, esl), inl h, e1)))) = absurd h
 behind_minabs t s (inl (inl (inr (a, b, (sl, tsl, esl), inr (c, d, (mi, tmi, emi), inl h, e2), e1)))) = absurd h
 behind_minabs t s (inl (inl (inr (a, b, (sl, tsl, esl), inr (c, d, (mi, tmi, emi), inr (e0, opens, same), e2), e1)))) = (
   e1 ∙ ap (λ (l : List Symbol). l ++ b) esl ∙ ap (λ (l : List Symbol). sl ∷ l) (e2 ∙ ap (λ (l : List Symbol). l ++ d) emi ∙ ap (λ (l : List Symbol). mi ∷ l) e0)
-      ∙ ap₂ (λ (u v : Symbol). u ∷ v ∷ []) (slash sl tsl) (minabs mi tmi),
+      ∙ ap₂ (λ (u v : Symbol). u ∷ v ∷ []) (symbol_is symbol.Slash sl tsl) (symbol_is symbol.Minabs mi tmi),
   opens,
 )
 behind_minabs t s (inl (inr h)) = absurd h
@@ -140,7 +100,8 @@ in_model t s (inr (x, y, (p, passed, ex), inr (u, v, m, h, ev), e)) =
       last.1,
       (
         u,
-        inl (in_statement_of symbol.Model p t x y (u ++ symbol.Slash ∷ symbol.Minabs ∷ []) (model_key p passed) e ex
+        inl (in_statement_of symbol.Model p t x y (u ++ symbol.Slash ∷ symbol.Minabs ∷ [])
+            (symbol_is symbol.Model p passed) e ex
             (ev ∙ ap (λ (l : List Symbol). u ++ l) last.0) (named_inside 24 model_rest y s refl (inr (u, v, m, h, ev)))),
       ),
     )))
@@ -150,15 +111,21 @@ in_model t s (inr (x, y, (p, passed, ex), inr (u, v, m, h, ev), e)) =
 behind_section : (t : List Symbol) (s : Symbol) → Names 24 examine_word t s → ((t ≡ symbol.Aliasing ∷ []) ⊎ (t ≡ symbol.Aberration ∷ [])) × (is symbol.Open s ≡ true)
 behind_section t s (inl (inl h)) = absurd h
 behind_section t s (inl (inr (a, b, (w, tw, ew), inl h, e))) = absurd h
-behind_section t s (inl (inr (a, b, (w, tw, ew), inr (e0, opens, same), e))) =
-    (inl (e ∙ ap (λ (l : List Symbol). l ++ b) ew ∙ ap₂ (λ (z : Symbol) (l : List Symbol). z ∷ l) (aliasing w tw) e0), opens)
+behind_section t s (inl (inr (a, b, (w, tw, ew), inr (e0, opens, same), e))) = (
+  inl (e ∙ ap (λ (l : List Symbol). l ++ b) ew
+      ∙ ap₂ (λ (z : Symbol) (l : List Symbol). z ∷ l) (symbol_is symbol.Aliasing w tw) e0),
+  opens,
+)
 behind_section t s (inr (inl h)) = absurd h
 behind_section t s (inr (inr (inl h))) = absurd h
 behind_section t s (inr (inr (inr (inl h)))) = absurd h
 behind_section t s (inr (inr (inr (inr (inl h))))) = absurd h
 behind_section t s (inr (inr (inr (inr (inr (a, b, (w, tw, ew), inl h, e)))))) = absurd h
-behind_section t s (inr (inr (inr (inr (inr (a, b, (w, tw, ew), inr (e0, opens, same), e)))))) =
-    (inr (e ∙ ap (λ (l : List Symbol). l ++ b) ew ∙ ap₂ (λ (z : Symbol) (l : List Symbol). z ∷ l) (aberration w tw) e0), opens)
+behind_section t s (inr (inr (inr (inr (inr (a, b, (w, tw, ew), inr (e0, opens, same), e)))))) = (
+  inr (e ∙ ap (λ (l : List Symbol). l ++ b) ew
+      ∙ ap₂ (λ (z : Symbol) (l : List Symbol). z ∷ l) (symbol_is symbol.Aberration w tw) e0),
+  opens,
+)
 
 in_examine : (t : List Symbol) (s : Symbol) → Names 24 examine t s → IsLeftOut t s
 in_examine t s (inl h) = absurd h
@@ -170,14 +137,28 @@ in_examine t s (inr (x, y, (p, passed, ex), inl (u, v, m, h, ev), e)) = of_secti
 
     of_section : ((v ≡ symbol.Aliasing ∷ []) ⊎ (v ≡ symbol.Aberration ∷ [])) × (is symbol.Open s ≡ true) → IsLeftOut t s
     of_section (inl last, opens) =
-        inr (inr (inl (opens, (u, inr (inl (in_statement_of symbol.Examine p t x y (u ++ symbol.Aliasing ∷ []) (examine_key p passed) e ex (ev ∙ ap (λ (l : List Symbol). u ++ l) last) lacking))))))
+        inr (inr (inl (
+          opens,
+          (
+            u,
+            inr (inl (in_statement_of symbol.Examine p t x y (u ++ symbol.Aliasing ∷ [])
+                (symbol_is symbol.Examine p passed) e ex (ev ∙ ap (λ (l : List Symbol). u ++ l) last) lacking)),
+          ),
+        )))
     of_section (inr last, opens) =
-        inr (inr (inl (opens, (u, inr (inr (in_statement_of symbol.Examine p t x y (u ++ symbol.Aberration ∷ []) (examine_key p passed) e ex (ev ∙ ap (λ (l : List Symbol). u ++ l) last) lacking))))))
+        inr (inr (inl (
+          opens,
+          (
+            u,
+            inr (inr (in_statement_of symbol.Examine p t x y (u ++ symbol.Aberration ∷ [])
+                (symbol_is symbol.Examine p passed) e ex (ev ∙ ap (λ (l : List Symbol). u ++ l) last) lacking)),
+          ),
+        )))
 
 -- OUTPUT
 
 -- a bracket, or a word after the option's `=`
-module _ (word : Symbol) (alone : (s : Symbol) → is word s ≡ true → s ≡ word) where
+module _ (word : Symbol) where
   replicated : (t : List Symbol) (s : Symbol) → Names 24 (guarded 24 (is symbol.OpenBracket) (key word ▸ key symbol.Equals ▸ replication)) t s
       → (is symbol.OpenBracket s ≡ true) ⊎ ((is_word s ≡ true) × (t ≡ word ∷ symbol.Equals ∷ []))
   replicated t s (inl (inl h)) = absurd h
@@ -192,7 +173,7 @@ module _ (word : Symbol) (alone : (s : Symbol) → is word s ≡ true → s ≡ 
       inr (
         a_word,
         e ∙ ap (λ (l : List Symbol). l ++ y) ep ∙ ap (λ (l : List Symbol). p ∷ l) (e1 ∙ ap (λ (l : List Symbol). l ++ v) eq ∙ ap (λ (l : List Symbol). q ∷ l) e2)
-            ∙ ap₂ (λ (a b : Symbol). a ∷ b ∷ []) (alone p tp) (equals q tq),
+            ∙ ap₂ (λ (a b : Symbol). a ∷ b ∷ []) (symbol_is word p tp) (symbol_is symbol.Equals q tq),
       )
 
 -- the options without replications
@@ -210,11 +191,11 @@ IsLeftOutOfOutput t s =
     ⊎ ((is_word s ≡ true) × (rest : List Symbol) × ((t ≡ rest ++ symbol.Pointrep ∷ symbol.Equals ∷ []) ⊎ (t ≡ rest ++ symbol.Designrep ∷ symbol.Equals ∷ [])))
 
 in_option : (t : List Symbol) (s : Symbol) → Names 24 (guarded 24 (is symbol.OpenBracket) option) t s → IsLeftOutOfOutput t s
-in_option t s (inl h) = elim (replicated symbol.Pointrep pointrep t s h) [
+in_option t s (inl h) = elim (replicated symbol.Pointrep t s h) [
   | inl bracket ↦ inl bracket
   | inr k ↦ inr (k.0, [], inl k.1)
 ]
-in_option t s (inr (inl h)) = elim (replicated symbol.Designrep designrep t s h) [
+in_option t s (inr (inl h)) = elim (replicated symbol.Designrep t s h) [
   | inl bracket ↦ inl bracket
   | inr k ↦ inr (k.0, [], inr k.1)
 ]
@@ -245,11 +226,26 @@ in_output t s (inr (x, y, (p, passed, ex), h, e)) = of_rest (in_rest y s h)
     lacking = named_inside 24 output_rest y s refl h
 
     of_rest : IsLeftOutOfOutput y s → IsLeftOut t s
-    of_rest (inl bracket) = inr (inr (inr (inr (bracket, y, in_statement_of symbol.Output p t x y y (output_key p passed) e ex refl lacking))))
+    of_rest (inl bracket) =
+        inr (inr (inr (inr (bracket, y, in_statement_of symbol.Output p t x y y (symbol_is symbol.Output p passed) e ex refl lacking))))
     of_rest (inr (a_word, rest, inl last)) =
-        inr (inr (inr (inl (a_word, (rest, inl (in_statement_of symbol.Output p t x y (rest ++ symbol.Pointrep ∷ symbol.Equals ∷ []) (output_key p passed) e ex last lacking))))))
+        inr (inr (inr (inl (
+          a_word,
+          (
+            rest,
+            inl (in_statement_of symbol.Output p t x y (rest ++ symbol.Pointrep ∷ symbol.Equals ∷ [])
+                (symbol_is symbol.Output p passed) e ex last lacking),
+          ),
+        ))))
     of_rest (inr (a_word, rest, inr last)) =
-        inr (inr (inr (inl (a_word, (rest, inr (in_statement_of symbol.Output p t x y (rest ++ symbol.Designrep ∷ symbol.Equals ∷ []) (output_key p passed) e ex last lacking))))))
+        inr (inr (inr (inl (
+          a_word,
+          (
+            rest,
+            inr (in_statement_of symbol.Output p t x y (rest ++ symbol.Designrep ∷ symbol.Equals ∷ [])
+                (symbol_is symbol.Output p passed) e ex last lacking),
+          ),
+        ))))
 
 -- any statement, and the program
 

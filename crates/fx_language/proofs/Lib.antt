@@ -1,6 +1,7 @@
 mod Derivatives
 mod Solid
-pub mod NoFaults
+pub mod SameSymbol
+pub mod Uncoded
 mod Ends
 mod StepEnds
 pub mod Sentences
@@ -13,3 +14,9 @@ pub mod Codes
 pub mod Unknown
 pub mod Lacking
 pub mod LeftOut
+pub mod Places
+mod Keys
+mod Steps
+pub mod Pass
+mod Examples
+pub mod FirstRefusal

@@ -6,7 +6,7 @@ use Rattle.fx_language.specs.declared.symbol.Symbol.TheVariants.{End}
 use Rattle.fx_language.specs.Shapes.{Many, Matches}
 use Rattle.fx_language.specs.Grammar.{key, proc, sentence, statement, program}
 use Rattle.fx_language.proofs.Derivatives.{parts_of}
-use Rattle.fx_language.proofs.StepEnds.{top, flat, flat_cat, all_cat, program_is_written}
+use Rattle.fx_language.proofs.StepEnds.{top, flat, flat_cat, all_cat, program_is_loose}
 
 -- statements, one after another
 pub record Sentences (text : List Symbol) : Type 0 where
@@ -50,7 +50,7 @@ pub record IsSequence (text : List Symbol) : Type 0 where
 
 pub sequence_of : (text : List Symbol) → Matches program text → IsSequence text
 sequence_of text m =
-    let w = program_is_written text m in
+    let w = program_is_loose text m in
     let o = all_before w.2.0 w.2.1 in
     record {
       sentences = w.0;

@@ -3,18 +3,8 @@ use Rattle.std.proofs.Common.{◌≡◌, Bool, true, false, cond, ◌&&◌, ◌|
 use Rattle.std.specs.List.{list_any}
 use Rattle.std.proofs.lemmas.Bool.{and_parts, or_cases}
 use Rattle.fx_language.specs.declared.symbol.Symbol.{Symbol}
-use Rattle.fx_language.specs.declared.symbol.Symbol.TheVariants.{Proc, Factex, Nodes, Run, Quit, Factors, Nlev, Size, Design, Fraction, Nrunfacs, Minimum, Maximum, Model, Estimate, Nonnegligible, Resolution, Minabs, Blocks, Nblkfacs, Nblocks, Examine, Aliasing, Blocked, Confounding, Aberration, Output, Out, Pointrep, Designrep, Randomize, Novalran, Blockname, Nvals, Cvals, Time, Nocheck, Namelen, Uniteffect, Name, Whole, Decimal, Quoted, Semicolon, Equals, Open, Close, OpenBracket, CloseBracket, Slash, Star, Bar, At, Minus, End}
+use Rattle.fx_language.specs.Keywords.{all_symbols}
 use Rattle.fx_language.specs.Shapes.{Shape, Never, Empty, One, Before, Either, Many, Fault, ◌▸◌, or_else, may_be_empty, after, is_never, Matches}
-
--- each symbol
-abbrev pub everything : List Symbol
-everything =
-    Proc ∷ Factex ∷ Nodes ∷ Run ∷ Quit ∷ Factors ∷ Nlev ∷ Size ∷ Design ∷ Fraction ∷ Nrunfacs ∷
-    Minimum ∷ Maximum ∷ Model ∷ Estimate ∷ Nonnegligible ∷ Resolution ∷ Minabs ∷ Blocks ∷ Nblkfacs ∷
-    Nblocks ∷ Examine ∷ Aliasing ∷ Blocked ∷ Confounding ∷ Aberration ∷ Output ∷ Out ∷ Pointrep ∷
-    Designrep ∷ Randomize ∷ Novalran ∷ Blockname ∷ Nvals ∷ Cvals ∷ Time ∷ Nocheck ∷ Namelen ∷
-    Uniteffect ∷ Name ∷ Whole ∷ Decimal ∷ Quoted ∷ Semicolon ∷ Equals ∷ Open ∷ Close ∷ OpenBracket ∷
-    CloseBracket ∷ Slash ∷ Star ∷ Bar ∷ At ∷ Minus ∷ End ∷ []
 
 -- a description that only names codes
 abbrev pub is_fault : Shape → Bool
@@ -26,7 +16,7 @@ is_fault a = false
 abbrev pub is_solid : Shape → Bool
 is_solid Never = false
 is_solid Empty = true
-is_solid (One test) = list_any test everything
+is_solid (One test) = list_any test all_symbols
 is_solid (Before a b) = is_solid a && is_solid b
 is_solid (Either a b) = (is_solid a && (is_solid b || is_fault b)) || (is_fault a && is_solid b)
 is_solid (Many a) = is_solid a
@@ -40,7 +30,7 @@ some_of test (x ∷ xs) h = ⊎_elim (λ a. (x, a)) (λ a. some_of test xs a) (o
 pub inhabited : (a : Shape) → is_solid a ≡ true → (t : List Symbol) × Matches a t
 inhabited Never h = absurd (let f : false ≡ true = h in cc)
 inhabited Empty h = ([], refl)
-inhabited (One test) h = let r = some_of test everything h in (r.0 ∷ [], (r.0, r.1, refl))
+inhabited (One test) h = let r = some_of test all_symbols h in (r.0 ∷ [], (r.0, r.1, refl))
 inhabited (Before a b) h =
     let p = and_parts (is_solid a) (is_solid b) h in
     let x = inhabited a p.0 in

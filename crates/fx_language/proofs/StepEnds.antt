@@ -5,13 +5,11 @@ use Rattle.fx_language.specs.declared.symbol.Symbol.{Symbol}
 use Rattle.fx_language.specs.declared.symbol.Symbol.TheVariants.{Semicolon, Run, Quit, End}
 use Rattle.fx_language.specs.Shapes.{Shape, Many, maybe, Matches, ◌▸◌, ◌∣◌}
 use Rattle.fx_language.specs.Grammar.{key, step, proc, statement, between, program, unknown}
+use Rattle.fx_language.specs.Uncoded.{loose_program}
 use Rattle.fx_language.proofs.Derivatives.{parts_of, sequence_of}
 
 abbrev pub top : Shape
 top = key Semicolon ∣ key Run ▸ key Semicolon ∣ key Quit ▸ key Semicolon ∣ step
-
-abbrev pub written : Shape
-written = Many top ▸ key End
 
 abbrev sep : Shape
 sep = key Semicolon ∣ key Run ▸ key Semicolon ∣ key Quit ▸ key Semicolon
@@ -143,8 +141,8 @@ mutual
   inside (p ∷ parts) (inr (inr (inl q)), hs) = closed p (flat parts) q (outside parts hs)
   inside (p ∷ parts) (inr (inr (inr st)), hs) = again p (flat parts) st (inside parts hs)
 
-pub written_is_program : (text : Text) → Matches written text → Matches program text
-written_is_program text (x, y, (parts, each, e), last, f) =
+pub loose_is_program : (text : Text) → Matches loose_program text → Matches program text
+loose_is_program text (x, y, (parts, each, e), last, f) =
     let o = outside parts each in (
       flat o.gaps,
       flat o.blocks ++ y,
@@ -192,8 +190,8 @@ blocks_tops (b ∷ blocks) h =
       is = ap (λ (l : Text). l ++ flat blocks) x.4 ∙ append_assoc x.0 x.1 (flat blocks) ∙ ap (λ (l : Text). x.0 ++ l) o.is;
     }
 
-pub program_is_written : (text : Text) → Matches program text → Matches written text
-program_is_written text (x, y, (gaps, each, e), (z, w, (blocks, all, f), last, g), i) =
+pub program_is_loose : (text : Text) → Matches program text → Matches loose_program text
+program_is_loose text (x, y, (gaps, each, e), (z, w, (blocks, all, f), last, g), i) =
     let o = blocks_tops blocks all in (
       flat (gaps ++ o.parts),
       w,

@@ -1,5 +1,5 @@
 -- Where a word is refused as one that begins no statement.
-use Rattle.std.proofs.Common.{◌≡◌, ℕ, Bool, true, false, not, ◌&&◌, List, [], ◌∷◌, ◌++◌, refl, sym, ap, subst, ◌∙◌, inl, inr, append_assoc}
+use Rattle.std.proofs.Common.{◌≡◌, ℕ, Bool, true, not, ◌&&◌, List, [], ◌∷◌, ◌++◌, refl, sym, ap, subst, ◌∙◌, inl, inr, append_assoc}
 use Rattle.std.specs.Prelude.{◌==◌}
 use Rattle.std.specs.List.{AllByRecursion, flat_map}
 use Rattle.std.proofs.lemmas.List.{append-nil}
@@ -12,6 +12,7 @@ use Rattle.fx_language.specs.Grammar.{key, proc, statement, step, between, unkno
 use Rattle.fx_language.specs.Laws.{Names, IsAtStart, AwaitsStatement}
 use Rattle.fx_language.proofs.Derivatives.{parts_of}
 use Rattle.fx_language.proofs.Named.{from_parts}
+use Rattle.fx_language.proofs.SameSymbol.{symbol_is}
 
 -- the description names no such code
 abbrev pub lacks_code : ℕ → Shape → Bool
@@ -76,8 +77,7 @@ many a each t (parts, all, e) = subst IsAtStart (sym e) (of_parts parts all)
     of_parts (part ∷ rest) all = joined part (flat_map (λ (part : List Symbol). part) rest) (each part all.0) (of_parts rest all.1)
 
 pub semicolon : (s : Symbol) → is symbol.Semicolon s ≡ true → s ≡ symbol.Semicolon
-semicolon symbol.Semicolon h = refl
-semicolon s h = absurd (let f : false ≡ true = h in cc)
+semicolon = symbol_is symbol.Semicolon
 
 pub between_start : (t : List Symbol) → Matches between t → IsAtStart t
 between_start t m = many (key symbol.Semicolon ∣ key symbol.Run ▸ key symbol.Semicolon ∣ key symbol.Quit ▸ key symbol.Semicolon)
@@ -111,10 +111,6 @@ whole_start t m =
 
 -- where the code is named
 
-pub procedure : (s : Symbol) → is symbol.Proc s ≡ true → s ≡ symbol.Proc
-procedure symbol.Proc h = refl
-procedure s h = absurd (let f : false ≡ true = h in cc)
-
 not_24 : ◌≡◌ {A = ℕ} 24 1 → ⊥
 not_24 e = cc e
 
@@ -122,8 +118,11 @@ in_proc : (t : List Symbol) (s : Symbol) → Names 1 proc t s → (t ≡ symbol.
 in_proc t s (inl n) = absurd n
 in_proc t s (inr (x, y, (p, passed, ex), inl (inl (inl n)), e)) = absurd n
 in_proc t s (inr (x, y, (p, passed, ex), inl (inl (inr (ey, left, same))), e)) = absurd (not_24 same)
-in_proc t s (inr (x, y, (p, passed, ex), inl (inr (ey, passes, same)), e)) =
-    (e ∙ ap (λ (l : List Symbol). l ++ y) ex ∙ ap (λ (l : List Symbol). p ∷ l) ey ∙ ap (λ (z : Symbol). z ∷ []) (procedure p passed), passes)
+in_proc t s (inr (x, y, (p, passed, ex), inl (inr (ey, passes, same)), e)) = (
+  e ∙ ap (λ (l : List Symbol). l ++ y) ex ∙ ap (λ (l : List Symbol). p ∷ l) ey
+      ∙ ap (λ (z : Symbol). z ∷ []) (symbol_is symbol.Proc p passed),
+  passes,
+)
 in_proc t s (inr (x, y, (p, passed, ex), inr (x', y', m, n, e'), e)) =
     absurd (none 1 (guarded 24 is_left_out (Many (key symbol.Nodes ▸ key symbol.Equals ▸ key symbol.Whole) ▸ key symbol.Semicolon)) y' s refl n)
 

@@ -1,62 +1,74 @@
 -- The symbol of each token: keywords and their short forms, without regard to case, and signs.
-use Rattle.std.specs.Prelude.{ℕ, Bool, true, false, ◌==◌, ◌&&◌, List, [], ◌∷◌, map, codes, slice_index, slice_range, if◌then◌else◌}
+use Rattle.std.specs.Prelude.{ℕ, Bool, true, false, ◌==◌, ◌&&◌, List, [], ◌∷◌, ◌++◌, map, codes, slice_index, slice_range, if◌then◌else◌}
 use Rattle.std.specs.Char.{to_ascii_lowercase}
 use Rattle.fx_lexer.specs.declared.token.Kind.{Kind}
 use Rattle.fx_lexer.specs.declared.token.Kind.TheVariants as kind
 use Rattle.fx_lexer.specs.declared.token.Token.{Token}
 use Rattle.fx_language.specs.declared.symbol.Symbol.{Symbol}
-use Rattle.fx_language.specs.declared.symbol.Symbol.TheVariants.{Proc, Factex, Nodes, Run, Quit, Factors, Nlev, Size, Design, Fraction, Nrunfacs, Minimum, Maximum, Model, Estimate, Nonnegligible, Resolution, Minabs, Blocks, Nblkfacs, Nblocks, Examine, Aliasing, Blocked, Confounding, Aberration, Output, Out, Pointrep, Designrep, Randomize, Novalran, Blockname, Nvals, Cvals, Time, Nocheck, Namelen, Uniteffect, Name, Whole, Decimal, Quoted, Semicolon, Equals, Open, Close, OpenBracket, CloseBracket, Slash, Star, Bar, At, Minus}
+use Rattle.fx_language.specs.declared.symbol.Symbol.TheVariants as symbol
 
--- the keywords in small letters, and after them the short forms
+-- the keywords in small letters
 abbrev pub keywords : List (List ℕ × Symbol)
 keywords =
-    (codes "proc", Proc) ∷
-    (codes "factex", Factex) ∷
-    (codes "nodes", Nodes) ∷
-    (codes "run", Run) ∷
-    (codes "quit", Quit) ∷
-    (codes "factors", Factors) ∷
-    (codes "nlev", Nlev) ∷
-    (codes "size", Size) ∷
-    (codes "design", Design) ∷
-    (codes "fraction", Fraction) ∷
-    (codes "nrunfacs", Nrunfacs) ∷
-    (codes "minimum", Minimum) ∷
-    (codes "maximum", Maximum) ∷
-    (codes "model", Model) ∷
-    (codes "estimate", Estimate) ∷
-    (codes "nonnegligible", Nonnegligible) ∷
-    (codes "resolution", Resolution) ∷
-    (codes "minabs", Minabs) ∷
-    (codes "blocks", Blocks) ∷
-    (codes "nblkfacs", Nblkfacs) ∷
-    (codes "nblocks", Nblocks) ∷
-    (codes "examine", Examine) ∷
-    (codes "aliasing", Aliasing) ∷
-    (codes "blocked", Blocked) ∷
-    (codes "confounding", Confounding) ∷
-    (codes "aberration", Aberration) ∷
-    (codes "output", Output) ∷
-    (codes "out", Out) ∷
-    (codes "pointrep", Pointrep) ∷
-    (codes "designrep", Designrep) ∷
-    (codes "randomize", Randomize) ∷
-    (codes "novalran", Novalran) ∷
-    (codes "blockname", Blockname) ∷
-    (codes "nvals", Nvals) ∷
-    (codes "cvals", Cvals) ∷
-    (codes "time", Time) ∷
-    (codes "nocheck", Nocheck) ∷
-    (codes "namelen", Namelen) ∷
-    (codes "uniteffect", Uniteffect) ∷
-    (codes "est", Estimate) ∷
-    (codes "e", Estimate) ∷
-    (codes "nonneg", Nonnegligible) ∷
-    (codes "n", Nonnegligible) ∷
-    (codes "res", Resolution) ∷
-    (codes "r", Resolution) ∷
-    (codes "max", Maximum) ∷
-    (codes "min", Minimum) ∷ []
+    (codes "proc", symbol.Proc) ∷
+    (codes "factex", symbol.Factex) ∷
+    (codes "nodes", symbol.Nodes) ∷
+    (codes "run", symbol.Run) ∷
+    (codes "quit", symbol.Quit) ∷
+    (codes "factors", symbol.Factors) ∷
+    (codes "nlev", symbol.Nlev) ∷
+    (codes "size", symbol.Size) ∷
+    (codes "design", symbol.Design) ∷
+    (codes "fraction", symbol.Fraction) ∷
+    (codes "nrunfacs", symbol.Nrunfacs) ∷
+    (codes "minimum", symbol.Minimum) ∷
+    (codes "maximum", symbol.Maximum) ∷
+    (codes "model", symbol.Model) ∷
+    (codes "estimate", symbol.Estimate) ∷
+    (codes "nonnegligible", symbol.Nonnegligible) ∷
+    (codes "resolution", symbol.Resolution) ∷
+    (codes "minabs", symbol.Minabs) ∷
+    (codes "blocks", symbol.Blocks) ∷
+    (codes "nblkfacs", symbol.Nblkfacs) ∷
+    (codes "nblocks", symbol.Nblocks) ∷
+    (codes "examine", symbol.Examine) ∷
+    (codes "aliasing", symbol.Aliasing) ∷
+    (codes "blocked", symbol.Blocked) ∷
+    (codes "confounding", symbol.Confounding) ∷
+    (codes "aberration", symbol.Aberration) ∷
+    (codes "output", symbol.Output) ∷
+    (codes "out", symbol.Out) ∷
+    (codes "pointrep", symbol.Pointrep) ∷
+    (codes "designrep", symbol.Designrep) ∷
+    (codes "randomize", symbol.Randomize) ∷
+    (codes "novalran", symbol.Novalran) ∷
+    (codes "blockname", symbol.Blockname) ∷
+    (codes "nvals", symbol.Nvals) ∷
+    (codes "cvals", symbol.Cvals) ∷
+    (codes "time", symbol.Time) ∷
+    (codes "nocheck", symbol.Nocheck) ∷
+    (codes "namelen", symbol.Namelen) ∷
+    (codes "uniteffect", symbol.Uniteffect) ∷ []
+
+-- the short forms of some
+abbrev pub short_forms : List (List ℕ × Symbol)
+short_forms =
+    (codes "est", symbol.Estimate) ∷
+    (codes "e", symbol.Estimate) ∷
+    (codes "nonneg", symbol.Nonnegligible) ∷
+    (codes "n", symbol.Nonnegligible) ∷
+    (codes "res", symbol.Resolution) ∷
+    (codes "r", symbol.Resolution) ∷
+    (codes "max", symbol.Maximum) ∷
+    (codes "min", symbol.Minimum) ∷ []
+
+-- each symbol, in the order of their numbers
+abbrev pub all_symbols : List Symbol
+all_symbols =
+    map (λ (row : List ℕ × Symbol). row.1) keywords
+    ++ symbol.Name ∷ symbol.Whole ∷ symbol.Decimal ∷ symbol.Quoted
+    ∷ symbol.Semicolon ∷ symbol.Equals ∷ symbol.Open ∷ symbol.Close ∷ symbol.OpenBracket ∷ symbol.CloseBracket
+    ∷ symbol.Slash ∷ symbol.Star ∷ symbol.Bar ∷ symbol.At ∷ symbol.Minus ∷ symbol.End ∷ []
 
 -- the same bytes
 abbrev pub is_same : List ℕ → List ℕ → Bool
@@ -67,35 +79,35 @@ is_same (a ∷ x) (b ∷ y) = (a == b) && is_same x y
 
 -- what a word represents in a table, without regard to case
 abbrev pub listed_in : List (List ℕ × Symbol) → List ℕ → Symbol
-listed_in [] word = Name
+listed_in [] word = symbol.Name
 listed_in (row ∷ table) word =
     if is_same (map to_ascii_lowercase row.0) (map to_ascii_lowercase word) then row.1 else listed_in table word
 
 -- the symbol of a word: a keyword, or another name
 abbrev pub keyword : List ℕ → Symbol
-keyword word = listed_in keywords word
+keyword word = listed_in (keywords ++ short_forms) word
 
 -- the symbol of a sign, by its byte: `;` `=` `(` `)` `[` `]` `/` `*` `|` `@`, and else `-`
 abbrev pub sign : ℕ → Symbol
 sign b =
-    if b == 59 then Semicolon
-    else (if b == 61 then Equals
-    else (if b == 40 then Open
-    else (if b == 41 then Close
-    else (if b == 91 then OpenBracket
-    else (if b == 93 then CloseBracket
-    else (if b == 47 then Slash
-    else (if b == 42 then Star
-    else (if b == 124 then Bar
-    else (if b == 64 then At
-    else Minus)))))))))
+    if b == 59 then symbol.Semicolon
+    else (if b == 61 then symbol.Equals
+    else (if b == 40 then symbol.Open
+    else (if b == 41 then symbol.Close
+    else (if b == 91 then symbol.OpenBracket
+    else (if b == 93 then symbol.CloseBracket
+    else (if b == 47 then symbol.Slash
+    else (if b == 42 then symbol.Star
+    else (if b == 124 then symbol.Bar
+    else (if b == 64 then symbol.At
+    else symbol.Minus)))))))))
 
 -- the symbol of a token of this kind with these bytes
 abbrev pub symbol_of : Kind → List ℕ → Symbol
 symbol_of kind.Word bytes = keyword bytes
-symbol_of kind.Whole bytes = Whole
-symbol_of kind.Decimal bytes = Decimal
-symbol_of kind.Quoted bytes = Quoted
+symbol_of kind.Whole bytes = symbol.Whole
+symbol_of kind.Decimal bytes = symbol.Decimal
+symbol_of kind.Quoted bytes = symbol.Quoted
 symbol_of kind.Sign bytes = sign (slice_index bytes 0)
 
 -- the symbols of the tokens of a text

@@ -4,7 +4,7 @@ use Rattle.fx_language.specs.declared.symbol.Symbol.{Symbol}
 use Rattle.fx_language.specs.declared.symbol.Symbol.TheVariants.{Aberration, Aliasing, Designrep, End, Equals, Examine, Minabs, Model, Open, OpenBracket, Output, Pointrep, Proc, Semicolon, Slash, Uniteffect}
 use Rattle.fx_language.specs.Shapes.{Shape, Never, Empty, One, Before, Either, Many, Fault, Matches, Begins}
 use Rattle.fx_language.specs.Grammar.{program}
-use Rattle.fx_language.specs.Literal.{literal_program}
+use Rattle.fx_language.specs.Uncoded.{uncoded_program}
 use Rattle.fx_language.specs.Symbols.{is, is_left_out, is_word}
 use Rattle.fx_language.specs.Refusals.{options, refused}
 use Rattle.std.specs.List.{Any, list_any}
@@ -29,7 +29,7 @@ AcceptsPrograms symbols = (refused 0 program symbols ≡ None) ↔ Matches progr
 
 -- the grammar with codes represents the same texts as the one without
 abbrev pub HasSameTexts : List Symbol → Type 0
-HasSameTexts text = Matches program text ↔ Matches literal_program text
+HasSameTexts text = Matches program text ↔ Matches uncoded_program text
 
 -- The description names this code for a symbol after a text: the text leads to one of its faults, which has the code and is of
 -- the symbol.

@@ -3,6 +3,10 @@ pub mod Keywords
 pub mod Spellings
 pub mod Shapes
 pub mod Grammar
-pub mod Literal
+pub mod Uncoded
 pub mod Refusals
 pub mod Laws
+pub mod Places
+pub mod Repeats
+pub mod Pasts
+pub mod FirstRefusal

@@ -67,7 +67,7 @@ is a b = index a == index b
 
 -- a word of any spelling, keyword or not
 abbrev pub is_word : Symbol → Bool
-is_word s = nat_le (index s) 39
+is_word s = nat_le (index s) (index Name)
 
 -- the words that are an option of OUTPUT wherever an option may begin
 abbrev pub is_output_option : Symbol → Bool

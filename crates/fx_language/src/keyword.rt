@@ -1,5 +1,5 @@
-ghost use Rattle.std.specs.Prelude.{◌≡◌, map};
-ghost use Rattle.fx_language.specs.Keywords.{keywords, listed_in};
+ghost use Rattle.std.specs.Prelude.{◌≡◌, ◌++◌, map};
+ghost use Rattle.fx_language.specs.Keywords.{keywords, listed_in, short_forms};
 ghost use Rattle.fx_language.specs.Spellings.{row_of};
 
 use crate::symbol::Symbol;
@@ -19,7 +19,7 @@ fn row(letters: &'static [u8], symbol: Symbol) -> Spelling
 
 /// Each keyword, and after them the short forms of some.
 pub fn spellings() -> [Spelling; 47]
-    ensures { map row_of result ≡ keywords }
+    ensures { map row_of result ≡ keywords ++ short_forms }
 {
     [
         row(b"proc", Symbol::Proc),

@@ -8,8 +8,8 @@ use Rattle.fx_language.specs.declared.symbol.Symbol.TheVariants as symbol
 use Rattle.fx_language.specs.Symbols.{index, is, is_word}
 use Rattle.fx_language.specs.Shapes.{Shape, Empty, One, Before, Either, Matches}
 use Rattle.fx_language.specs.Grammar as grammar
-use Rattle.fx_language.specs.Literal as literal
-use Rattle.fx_language.proofs.NoFaults.{to_bare}
+use Rattle.fx_language.specs.Uncoded.{uncoded}
+use Rattle.fx_language.proofs.Uncoded.{to_uncoded}
 use Rattle.fx_text.specs.Written.{Written}
 use Rattle.fx_text.specs.Phrases.{has}
 use Rattle.fx_text.specs.Sentences.{symbols_in, IsStatement}
@@ -95,7 +95,8 @@ with_name front rest part same (x1, y1, (b, hb, eb), (x2, y2, (e, he, ee), (x3, 
     let read = without t.others rest later (Either grammar.values Empty) y3 refl t.others_are v t.c in
     rw t.all (begun before t.a t.b t.c (t.others ++ rest) (ap (is symbol.Blockname) t.a_is ∙ hb) (ap (is symbol.Equals) t.b_is ∙ he) (ap is_word t.c_is ∙ hw) read)
 
-one_option : (front rest : List Written) (part : List Symbol) → symbols_in front ≡ part → Matches literal.literal_option part
+one_option : (front rest : List Written) (part : List Symbol) → symbols_in front ≡ part
+    → Matches (uncoded grammar.option) part
     → ((last : Written) → IsRead (from_blockname (last ∷ rest))) → (before : Written) → IsRead (from_blockname (before ∷ front ++ rest))
 one_option front rest part same (inl m) later = without front rest later (Before (One (is symbol.Pointrep)) (Before (One (is symbol.Equals)) grammar.n)) part refl same m
 one_option front rest part same (inr (inl m)) later = without front rest later (Before (One (is symbol.Designrep)) (Before (One (is symbol.Equals)) grammar.n)) part refl same m
@@ -105,7 +106,8 @@ one_option front rest part same (inr (inr (inr (inl m)))) later = without front 
 one_option front rest part same (inr (inr (inr (inr (inl m))))) later = with_name front rest part same m later
 one_option front rest part same (inr (inr (inr (inr (inr m))))) later = without front rest later (Before grammar.recoded grammar.values) part refl same m
 
-each_option : (parts : List (List Symbol)) → AllByRecursion (Matches literal.literal_option) parts → (ws : List Written) (m : Symbol)
+each_option : (parts : List (List Symbol)) → AllByRecursion (Matches (uncoded grammar.option)) parts
+    → (ws : List Written) (m : Symbol)
     → symbols_in ws ++ symbol.Semicolon ∷ [] ≡ flat_map (λ (part : List Symbol). part) parts ++ m ∷ [] → (before : Written) → IsRead (from_blockname (before ∷ ws))
 each_option [] each ws m h before = rw (nothing ws m h) (inl refl)
 each_option (p ∷ parts) each ws m h before =
@@ -135,13 +137,13 @@ four (a ∷ b ∷ c ∷ []) x y z u l m h = absurd (alone l (cc h))
     alone (v ∷ l) h = cc h
 four (a ∷ b ∷ c ∷ d ∷ others) x y z u l m h = record { a = a; b = b; c = c; d = d; others = others; all = refl; d_is = cc h; others_are = cc h }
 
-bare_output : (s : List Symbol) → Matches grammar.output s → Matches literal.literal_output s
-bare_output s m = to_bare grammar.output s m
+uncoded_output : (s : List Symbol) → Matches grammar.output s → Matches (uncoded grammar.output) s
+uncoded_output s m = to_uncoded grammar.output s m
 
 pub names_law : (s : List Written) → IsStatement grammar.output s → AreNamesRead s
-names_law s by_grammar = read (bare_output (symbols_in s ++ symbol.Semicolon ∷ []) by_grammar)
+names_law s by_grammar = read (uncoded_output (symbols_in s ++ symbol.Semicolon ∷ []) by_grammar)
   where
-    read : Matches literal.literal_output (symbols_in s ++ symbol.Semicolon ∷ []) → AreNamesRead s
+    read : Matches (uncoded grammar.output) (symbols_in s ++ symbol.Semicolon ∷ []) → AreNamesRead s
     read (x0, y0, (f, hf, ef), (x1, y1, (o, ho, eo), (x2, y2, (e, he, ee), (x3, y3, (n, hn, en), (x4, y4, (parts, each, ps), (m, hm, em), i4), i3), i2), i1), i0) =
         let flat : List Symbol = flat_map (λ (part : List Symbol). part) parts in
         let rest : y3 ≡ flat ++ m ∷ [] = i4 ∙ ap₂ (λ (l k : List Symbol). l ++ k) ps em in

@@ -6,7 +6,7 @@ use Rattle.fx_lexer.specs.declared.token.Token.{Token}
 use Rattle.fx_lexer.specs.declared.token.LexFault.{LexFault}
 use Rattle.fx_lexer.specs.Lexing.{lexed}
 use Rattle.fx_language.specs.Keywords.{symbols_of}
-use Rattle.fx_syntax.specs.Refusals.{first_refusal}
+use Rattle.fx_language.specs.FirstRefusal.{first_refusal}
 use Rattle.fx_language.specs.declared.symbol.Symbol.TheVariants as word
 use Rattle.fx_lexer.specs.declared.place.Place.{Place}
 use Rattle.fx_text.specs.declared.refusal.Refusal.{Refusal}

@@ -10,7 +10,8 @@ use Rattle.fx_vectors.specs.declared.book.NamedBook.{NamedBook}
 use Rattle.fx_statements.specs.Steps.{Meaning}
 use Rattle.fx_statements.specs.Questions.{Found, Turn, asked, concluded, conclusion_by, conclusion_of, cut_short, found_by, last_found, last_of, left_at, nodes_of, outcome_of, passes, questions_of, turns}
 use Rattle.fx_statements.proofs.Concluded.{some_stays}
-use Rattle.fx_answer.specs.Books.{book_at, book_for, books_from, books_of, finished, finished_before, has_book}
+use Rattle.fx_book.specs.QuestionBooks.{book_for, has_book}
+use Rattle.fx_answer.specs.Books.{book_at, books_from, books_of, finished, finished_before}
 use Rattle.fx_program.specs.Files.{book_file, book_files}
 use Rattle.fx_program.specs.Output.{step_output}
 use Rattle.fx_program_laws.specs.BookClaims.{HasABookForEach}

@@ -16,7 +16,8 @@ use Rattle.fx_outputs.specs.Outputs.{names_of}
 use Rattle.fx_settings.specs.Settings.{is_level}
 use Rattle.fx_statements.specs.Steps.{Meaning}
 use Rattle.fx_statements.specs.Questions.{outcome_of, questions_of}
-use Rattle.fx_answer.specs.Books.{book_for, books_from, books_of, finished, has_book}
+use Rattle.fx_book.specs.QuestionBooks.{book_for, has_book}
+use Rattle.fx_answer.specs.Books.{books_from, books_of, finished}
 use Rattle.fx_program.specs.Files.{book_files, book_name, file_name, matrix_in, names_among, plan_file, plan_files}
 use Rattle.fx_program.specs.Output.{program_output, step_output, steps_output, worse}
 use Rattle.fx_program.specs.Texts.{program_in}

@@ -28,7 +28,8 @@ use Rattle.fx_statements.specs.Goals.{Goal, AtLeast, Highest, ForEffects}
 use Rattle.fx_statements.specs.Questions.{Turn, asked, highest, lowest, nodes_of, passes, question_for, questions_of, requirement_for, turns}
 use Rattle.fx_statements.specs.Steps.{Meaning}
 use Rattle.fx_statements.proofs.Concluded.{each_asked}
-use Rattle.fx_answer.specs.Books.{book_at, book_for, books_from, books_of, demands_for, finished, finished_before, has_book, shape_of}
+use Rattle.fx_book.specs.QuestionBooks.{book_for, demands_for, has_book, shape_of}
+use Rattle.fx_answer.specs.Books.{book_at, books_from, books_of, finished, finished_before}
 use Rattle.fx_answer.specs.ValidSteps.{CanBeSought, IsValidStep}
 use Rattle.fx_answer.proofs.Valid.{least_valid, requirement_valid, shape_valid, some_numbers}
 use Rattle.fx_program_laws.specs.BookClaims.{HasAcceptedBooks, IsAcceptedBook}

@@ -7,7 +7,7 @@ use Rattle.std.proofs.lemmas.Bool.{false_from_ne_true, ltb-true}
 use Rattle.fx_lexer.specs.declared.token.Token.{Token}
 use Rattle.fx_lexer.specs.Pieces.{text_of, tokens_among}
 use Rattle.fx_language.specs.Keywords.{symbols_of}
-use Rattle.fx_syntax.specs.Refusals.{first_refusal}
+use Rattle.fx_language.specs.FirstRefusal.{first_refusal}
 use Rattle.fx_settings.specs.Sizes.{size_of}
 use Rattle.fx_settings.specs.Models.{criterion_of}
 use Rattle.fx_settings.specs.Blocks.{check_blocks, check_minimum, blocks_of}

@@ -16,12 +16,12 @@ use Rattle.fx_language.specs.declared.symbol.Symbol.TheVariants.{Proc, Factex, N
 use Rattle.fx_language.specs.Keywords.{symbol_of, symbols_of}
 use Rattle.fx_language.specs.Grammar.{program}
 use Rattle.fx_language.specs.Refusals.{refused}
-use Rattle.fx_syntax.specs.declared.repeated.Past.{Past}
-use Rattle.fx_syntax.specs.Pasts.{past_of, past_after, rule_of}
-use Rattle.fx_syntax.specs.Places.{in_step}
-use Rattle.fx_syntax.specs.Repeats.{repeated, or_later, rule_at, begins_with}
-use Rattle.fx_syntax.specs.Refusals.{first_refusal}
-use Rattle.fx_syntax.proofs.Pass.{past_next, rule_is}
+use Rattle.fx_language.specs.declared.repeated.Past.{Past}
+use Rattle.fx_language.specs.Pasts.{past_of, past_after, rule_of}
+use Rattle.fx_language.specs.Places.{in_step}
+use Rattle.fx_language.specs.Repeats.{repeated, or_later, rule_at, begins_with}
+use Rattle.fx_language.specs.FirstRefusal.{first_refusal}
+use Rattle.fx_language.proofs.Pass.{past_next, rule_is}
 use Rattle.fx_text.specs.Written.{Written, written, written_at}
 use Rattle.fx_program_laws.proofs.MadePieces.{each_below, pieces_of, step_pieces}
 

@@ -15,7 +15,7 @@ use Rattle.fx_lexer.specs.Tokens.{AreInOrder}
 use Rattle.fx_lexer.proofs.Spans.{in_order_of_text}
 use Rattle.fx_language.specs.Keywords.{symbols_of}
 use Rattle.fx_language.specs.declared.symbol.Symbol.TheVariants as word
-use Rattle.fx_syntax.specs.Refusals.{first_refusal}
+use Rattle.fx_language.specs.FirstRefusal.{first_refusal}
 use Rattle.fx_text.specs.declared.refusal.Refusal.{Refusal}
 use Rattle.fx_text.specs.Names.{is_same_name}
 use Rattle.fx_text.specs.Phrases.{start_of}

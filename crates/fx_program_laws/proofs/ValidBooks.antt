@@ -36,7 +36,7 @@ use Rattle.fx_checker.specs.Claims.{claim_of}
 use Rattle.fx_checker.specs.declared.verdict.Reason.TheVariants.{Beats, OtherRow}
 use Rattle.fx_checker.proofs.Existence.{word_exists}
 use Rattle.fx_checker.proofs.Marks.{claim_over, none_good, some_good}
-use Rattle.fx_answer.specs.Books.{beat_of, book_for, demands_for, has_book, head_for, shape_of}
+use Rattle.fx_book.specs.QuestionBooks.{beat_of, book_for, demands_for, has_book, head_for, shape_of}
 
 -- requirements are those of the demands that are made of them
 numbers_back : (numbers : List ℕ) → numbers_of (effects_of numbers) ≡ numbers

@@ -9,7 +9,8 @@ use Rattle.fx_book.specs.Writing.{book_text}
 use Rattle.fx_checker.specs.declared.verdict.Verdict.TheVariants.{Accepted}
 use Rattle.fx_statements.specs.Questions.{asked, questions_of}
 use Rattle.fx_statements.specs.Steps.{Meaning}
-use Rattle.fx_answer.specs.Books.{book_for, books_of}
+use Rattle.fx_book.specs.QuestionBooks.{book_for}
+use Rattle.fx_answer.specs.Books.{books_of}
 use Rattle.fx_program.specs.Files.{book_name}
 use Rattle.fx_program.specs.Output.{message, output_of, step_output}
 use Rattle.fx_program.specs.Verdicts.{verdict_lines}

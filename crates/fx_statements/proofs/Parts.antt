@@ -7,8 +7,8 @@ use Rattle.fx_language.specs.declared.symbol.Symbol.{Symbol}
 use Rattle.fx_language.specs.Grammar.{program}
 use Rattle.fx_language.specs.Grammar as grammar
 use Rattle.fx_language.specs.Refusals.{refused}
-use Rattle.fx_syntax.specs.Refusals.{earlier, first_refusal}
-use Rattle.fx_syntax.specs.Repeats.{repeated}
+use Rattle.fx_language.specs.FirstRefusal.{earlier, first_refusal}
+use Rattle.fx_language.specs.Repeats.{repeated}
 use Rattle.fx_lexer.specs.declared.place.Place.{Place}
 use Rattle.fx_text.specs.declared.refusal.Refusal.{Refusal}
 use Rattle.fx_text.specs.Names.{IsName}

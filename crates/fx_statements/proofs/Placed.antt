@@ -9,8 +9,8 @@ use Rattle.fx_lexer.specs.Places.{IsPlaceIn}
 use Rattle.fx_language.specs.declared.symbol.Symbol.TheVariants as symbol
 use Rattle.fx_language.specs.Keywords.{symbols_of}
 use Rattle.fx_language.specs.Refusals.{is_rule}
-use Rattle.fx_syntax.specs.Refusals.{first_refusal}
-use Rattle.fx_syntax.proofs.Rules.{first_by_a_rule}
+use Rattle.fx_language.specs.FirstRefusal.{first_refusal}
+use Rattle.fx_language.proofs.FirstRefusal.{first_by_a_rule}
 use Rattle.fx_text.specs.Written.{Written, begins, written}
 use Rattle.fx_text.specs.Phrases.{start_of}
 use Rattle.fx_text.specs.Statements.{statements_of, steps_of, statement_of}

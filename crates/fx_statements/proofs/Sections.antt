@@ -1,13 +1,14 @@
 -- The sections of an EXAMINE statement, by the grammar.
-use Rattle.std.proofs.Common.{◌≡◌, eqb, true, false, ◌||◌, List, [], ◌∷◌, ◌++◌, refl, sym, ap, ap₂, subst, ◌∙◌, inl, inr}
+use Rattle.std.proofs.Common.{◌≡◌, true, false, ◌||◌, List, [], ◌∷◌, ◌++◌, refl, sym, ap, ap₂, subst, ◌∙◌, inl, inr}
 use Rattle.std.specs.List.{AllByRecursion, flat_map}
-use Rattle.std.proofs.lemmas.Bool.{cases_Bool, eqb-true}
+use Rattle.std.proofs.lemmas.Bool.{cases_Bool}
 use Rattle.std.proofs.lemmas.List.{append-nil}
 use Rattle.fx_language.specs.declared.symbol.Symbol.{Symbol}
 use Rattle.fx_language.specs.declared.symbol.Symbol.TheVariants as symbol
-use Rattle.fx_language.specs.Symbols.{index, is}
+use Rattle.fx_language.specs.Symbols.{is}
 use Rattle.fx_language.specs.Shapes.{Before, One, Matches}
 use Rattle.fx_language.specs.Grammar as grammar
+use Rattle.fx_language.proofs.SameSymbol.{symbol_is}
 use Rattle.fx_text.specs.Phrases.{has}
 use Rattle.fx_text.specs.Sentences.{symbols_in, IsStatement}
 use Rattle.fx_text.specs.Written.{Written}
@@ -23,7 +24,7 @@ both (s ∷ x) y h k = (h.0, both x y h.1 k)
 
 -- a symbol that is one of the five
 passes : (word s : Symbol) → is_section word ≡ true → is word s ≡ true → is_section s ≡ true
-passes word s h e = ap (λ n. eqb 22 n || eqb 23 n || eqb 24 n || eqb 8 n || eqb 25 n) (sym (eqb-true (index word) (index s) e)) ∙ h
+passes word s h e = ap is_section (symbol_is word s e) ∙ h
 
 -- a word that `(` must not follow
 no_open_behind : (word : Symbol) (text : List Symbol) → is_section word ≡ true → Matches (Before (One (is word)) grammar.no_open) text → AreSections text
@@ -58,8 +59,7 @@ each_written (w ∷ s) h = (h.0, each_written s h.1)
 other : (section s : Symbol) → is_section section ≡ true → is symbol.Examine s ≡ true → is section s ≡ false
 other section s h e = elim (cases_Bool (is section s)) [
   | inl it ↦ absurd (
-      let same : index symbol.Examine ≡ index section = eqb-true 21 (index s) e ∙ sym (eqb-true (index section) (index s) it) in
-      let f : false ≡ true = ap (λ n. eqb 22 n || eqb 23 n || eqb 24 n || eqb 8 n || eqb 25 n) same ∙ h in
+      let f : false ≡ true = ap is_section (sym (symbol_is symbol.Examine s e) ∙ symbol_is section s it) ∙ h in
       cc)
   | inr differs ↦ differs
 ]

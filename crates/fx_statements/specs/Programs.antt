@@ -4,7 +4,7 @@ use Rattle.std.specs.List.{flat_map}
 use Rattle.fx_lexer.specs.declared.token.Token.{Token}
 use Rattle.fx_lexer.specs.Places.{line_after, column_after}
 use Rattle.fx_language.specs.Keywords.{symbols_of}
-use Rattle.fx_syntax.specs.Refusals.{first_refusal}
+use Rattle.fx_language.specs.FirstRefusal.{first_refusal}
 use Rattle.fx_lexer.specs.declared.place.Place.{Place}
 use Rattle.fx_text.specs.declared.refusal.Refusal.{Refusal}
 use Rattle.fx_text.specs.Written.{Written, written}

@@ -13,10 +13,9 @@ ghost use Rattle.fx_statements.specs.Programs.{meaning_of_all, out_names, place_
 use crate::step::Step;
 use crate::stepping::step_of;
 use fx_base::Items;
-use fx_language::{Symbol, symbols};
+use fx_language::{Symbol, first_refusal, symbols};
 use fx_lexer::{Token, Tokens};
 use fx_outputs::EarlierNames;
-use fx_syntax::first_refusal;
 use fx_text::{ParseStop, Place, Refusal, Statement, lexemes, statements};
 use std::alloc::Global;
 

@@ -1,9 +1,9 @@
 -- The symbol of a number stands only for tokens that are numbers, and that of a word for tokens that are words.
-use Rattle.std.proofs.Common.{◌≡◌, ℕ, Bool, true, false, not, List, [], ◌∷◌, map, Some, refl, sym, ap, ◌∙◌, ◌≤◌, drop, arith}
+use Rattle.std.proofs.Common.{◌≡◌, ℕ, Bool, true, false, not, List, [], ◌∷◌, ◌++◌, map, Some, refl, sym, ap, ◌∙◌, drop, arith}
 use Rattle.std.specs.Prelude.{if◌then◌else◌, ◌==◌, slice_index, slice_range}
 use Rattle.std.specs.List.{list_all}
 use Rattle.std.specs.Char.{to_ascii_lowercase}
-use Rattle.std.proofs.lemmas.Bool.{and_parts, leb-true, not-true}
+use Rattle.std.proofs.lemmas.Bool.{and_parts, not-true}
 use Rattle.fx_lexer.specs.declared.token.Kind.{Kind}
 use Rattle.fx_lexer.specs.declared.token.Kind.TheVariants as kind
 use Rattle.fx_lexer.specs.declared.token.Token.{Token}
@@ -11,8 +11,8 @@ use Rattle.fx_lexer.specs.Pieces.{Piece, word, whole, kind_of, spelling, HasForm
 use Rattle.fx_lexer.specs.Tokens.{IsToken}
 use Rattle.fx_language.specs.declared.symbol.Symbol.{Symbol}
 use Rattle.fx_language.specs.declared.symbol.Symbol.TheVariants.{Whole, Semicolon, Equals, Open, Close, OpenBracket, CloseBracket, Slash, Star, Bar, At, Minus}
-use Rattle.fx_language.specs.Symbols.{is, index, is_word}
-use Rattle.fx_language.specs.Keywords.{keywords, keyword, listed_in, is_same, sign, symbol_of}
+use Rattle.fx_language.specs.Symbols.{is, is_word}
+use Rattle.fx_language.specs.Keywords.{keywords, short_forms, keyword, listed_in, is_same, sign, symbol_of}
 use Rattle.fx_text.specs.Written.{written_at}
 use Rattle.fx_text.specs.Names.{IsName}
 use Rattle.fx_text.specs.Numbers.{IsNumber, IsRead}
@@ -29,7 +29,7 @@ unlisted (row ∷ table) bytes all =
     either (is_same (map to_ascii_lowercase row.0) (map to_ascii_lowercase bytes)) row.1 (listed_in table bytes) (not-true (is Whole row.1) both.0) (unlisted table bytes both.1)
 
 word_is_none : (bytes : List ℕ) → is Whole (keyword bytes) ≡ false
-word_is_none bytes = unlisted keywords bytes refl
+word_is_none bytes = unlisted (keywords ++ short_forms) bytes refl
 
 -- whichever of the signs it is
 some_sign : (a b c d e f g h i j : Bool) → is Whole (if a then Semicolon else (if b then Equals else (if c then Open else (if d then Close else (if e then OpenBracket else (if f then CloseBracket else (if g then Slash else (if h then Star else (if i then Bar else (if j then At else Minus)))))))))) ≡ false
@@ -66,28 +66,31 @@ is_read text t token =
     (λ e. rw token.bytes (of_kind token.piece token.start (drop t.upto text) (token.kind ∙ ap Some e) token.form token.short))
 
 -- signs are no words
-after_words : (a b c d e f g h i j : Bool) → 43 ≤ index (if a then Semicolon else (if b then Equals else (if c then Open else (if d then Close else (if e then OpenBracket else (if f then CloseBracket else (if g then Slash else (if h then Star else (if i then Bar else (if j then At else Minus))))))))))
-after_words true b c d e f g h i j = omega arith
-after_words false true c d e f g h i j = omega arith
-after_words false false true d e f g h i j = omega arith
-after_words false false false true e f g h i j = omega arith
-after_words false false false false true f g h i j = omega arith
-after_words false false false false false true g h i j = omega arith
-after_words false false false false false false true h i j = omega arith
-after_words false false false false false false false true i j = omega arith
-after_words false false false false false false false false true j = omega arith
-after_words false false false false false false false false false true = omega arith
-after_words false false false false false false false false false false = omega arith
+no_name : (a b c d e f g h i j : Bool)
+    → is_word (if a then Semicolon else (if b then Equals else (if c then Open else (if d then Close
+    else (if e then OpenBracket else (if f then CloseBracket else (if g then Slash else (if h then Star
+    else (if i then Bar else (if j then At else Minus)))))))))) ≡ false
+no_name true b c d e f g h i j = refl
+no_name false true c d e f g h i j = refl
+no_name false false true d e f g h i j = refl
+no_name false false false true e f g h i j = refl
+no_name false false false false true f g h i j = refl
+no_name false false false false false true g h i j = refl
+no_name false false false false false false true h i j = refl
+no_name false false false false false false false true i j = refl
+no_name false false false false false false false false true j = refl
+no_name false false false false false false false false false true = refl
+no_name false false false false false false false false false false = refl
 
-no_word : (b : ℕ) → is_word (sign b) ≡ true → ⊥
-no_word b e = omega (arith, leb-true (index (sign b)) 39 e, after_words (b == 59) (b == 61) (b == 40) (b == 41) (b == 91) (b == 93) (b == 47) (b == 42) (b == 124) (b == 64))
+no_word : (b : ℕ) → is_word (sign b) ≡ false
+no_word b = no_name (b == 59) (b == 61) (b == 40) (b == 41) (b == 91) (b == 93) (b == 47) (b == 42) (b == 124) (b == 64)
 
 name_if : (k : Kind) (bytes : List ℕ) → (k ≡ kind.Word → IsName bytes) → is_word (symbol_of k bytes) ≡ true → IsName bytes
 name_if kind.Word bytes h e = h refl
 name_if kind.Whole bytes h e = absurd (let f : false ≡ true = e in cc)
 name_if kind.Decimal bytes h e = absurd (let f : false ≡ true = e in cc)
 name_if kind.Quoted bytes h e = absurd (let f : false ≡ true = e in cc)
-name_if kind.Sign bytes h e = absurd (no_word (slice_index bytes 0) e)
+name_if kind.Sign bytes h e = absurd (let f : false ≡ true = sym (no_word (slice_index bytes 0)) ∙ e in cc)
 
 a_name : (p : Piece) (start : Bool) (rest : List ℕ) → kind_of p ≡ Some kind.Word → HasForm start p rest → IsShort p → IsName (spelling p)
 a_name (word []) start rest e form short = absurd (let f : false ≡ true = form.0 in cc)

@@ -1,3 +1,4 @@
+use crate::rows_of;
 use fx_language::{Symbol, symbols};
 use fx_lexer::lex;
 use std::alloc::Global;
@@ -11,64 +12,62 @@ fn has_symbols(rt: &impl Abort, alloc: Global, text: &str, wanted: &[Symbol]) {
     assert!(rt; read.as_slice() == wanted);
 }
 
-/// Each spelling of a keyword, in letters of either case.
-const SPELLINGS: &str =
-    "proc faCtex nOdEs rUN QuiT fAcTOrS NleV sizE desiGN FRACtIoN NruNfaCs MinImUm MAXiMum mODel EstiMaTE noNneGLIGIblE ResoLutioN mInaBs bloCkS nBlkfacs nbLoCKs exaMINe aLiasinG bLockEd coNfOundinG abeRration oUtput ouT pointrep DEsiGnrEp RANDOMIzE noVaLrAn BlOCkNaMe nvals CVals tiMe NOchEck NaMElEn unItefFecT eSt e NonNeG n rES R mAx min";
-
-/// Their symbols.
-const KEYWORDS: [Symbol; 47] = [
-    Symbol::Proc,
-    Symbol::Factex,
-    Symbol::Nodes,
-    Symbol::Run,
-    Symbol::Quit,
-    Symbol::Factors,
-    Symbol::Nlev,
-    Symbol::Size,
-    Symbol::Design,
-    Symbol::Fraction,
-    Symbol::Nrunfacs,
-    Symbol::Minimum,
-    Symbol::Maximum,
-    Symbol::Model,
-    Symbol::Estimate,
-    Symbol::Nonnegligible,
-    Symbol::Resolution,
-    Symbol::Minabs,
-    Symbol::Blocks,
-    Symbol::Nblkfacs,
-    Symbol::Nblocks,
-    Symbol::Examine,
-    Symbol::Aliasing,
-    Symbol::Blocked,
-    Symbol::Confounding,
-    Symbol::Aberration,
-    Symbol::Output,
-    Symbol::Out,
-    Symbol::Pointrep,
-    Symbol::Designrep,
-    Symbol::Randomize,
-    Symbol::Novalran,
-    Symbol::Blockname,
-    Symbol::Nvals,
-    Symbol::Cvals,
-    Symbol::Time,
-    Symbol::Nocheck,
-    Symbol::Namelen,
-    Symbol::Uniteffect,
-    Symbol::Estimate,
-    Symbol::Estimate,
-    Symbol::Nonnegligible,
-    Symbol::Nonnegligible,
-    Symbol::Resolution,
-    Symbol::Resolution,
-    Symbol::Maximum,
-    Symbol::Minimum,
+/// Each spelling of a keyword, in letters of either case, and its symbol.
+const KEYWORDS: [(&str, Symbol); 47] = [
+    ("proc", Symbol::Proc),
+    ("faCtex", Symbol::Factex),
+    ("nOdEs", Symbol::Nodes),
+    ("rUN", Symbol::Run),
+    ("QuiT", Symbol::Quit),
+    ("fAcTOrS", Symbol::Factors),
+    ("NleV", Symbol::Nlev),
+    ("sizE", Symbol::Size),
+    ("desiGN", Symbol::Design),
+    ("FRACtIoN", Symbol::Fraction),
+    ("NruNfaCs", Symbol::Nrunfacs),
+    ("MinImUm", Symbol::Minimum),
+    ("MAXiMum", Symbol::Maximum),
+    ("mODel", Symbol::Model),
+    ("EstiMaTE", Symbol::Estimate),
+    ("noNneGLIGIblE", Symbol::Nonnegligible),
+    ("ResoLutioN", Symbol::Resolution),
+    ("mInaBs", Symbol::Minabs),
+    ("bloCkS", Symbol::Blocks),
+    ("nBlkfacs", Symbol::Nblkfacs),
+    ("nbLoCKs", Symbol::Nblocks),
+    ("exaMINe", Symbol::Examine),
+    ("aLiasinG", Symbol::Aliasing),
+    ("bLockEd", Symbol::Blocked),
+    ("coNfOundinG", Symbol::Confounding),
+    ("abeRration", Symbol::Aberration),
+    ("oUtput", Symbol::Output),
+    ("ouT", Symbol::Out),
+    ("pointrep", Symbol::Pointrep),
+    ("DEsiGnrEp", Symbol::Designrep),
+    ("RANDOMIzE", Symbol::Randomize),
+    ("noVaLrAn", Symbol::Novalran),
+    ("BlOCkNaMe", Symbol::Blockname),
+    ("nvals", Symbol::Nvals),
+    ("CVals", Symbol::Cvals),
+    ("tiMe", Symbol::Time),
+    ("NOchEck", Symbol::Nocheck),
+    ("NaMElEn", Symbol::Namelen),
+    ("unItefFecT", Symbol::Uniteffect),
+    ("eSt", Symbol::Estimate),
+    ("e", Symbol::Estimate),
+    ("NonNeG", Symbol::Nonnegligible),
+    ("n", Symbol::Nonnegligible),
+    ("rES", Symbol::Resolution),
+    ("R", Symbol::Resolution),
+    ("mAx", Symbol::Maximum),
+    ("min", Symbol::Minimum),
 ];
 
 #[test]
 fn each_spelling_is_a_keyword(rt: HostRuntime) {
-    has_symbols(&rt, rt.alloc(), SPELLINGS, &KEYWORDS);
+    for (spelling, symbol) in rows_of(&KEYWORDS) {
+        has_symbols(&rt, rt.alloc(), spelling, &[*symbol]);
+    }
 }
 
 /// The symbols of tokens that are no keywords.

@@ -1,8 +1,7 @@
 use crate::rows_of;
 use fx_base::{Bytes, put};
-use fx_language::{Symbol, symbols};
+use fx_language::{Symbol, first_by_grammar, first_by_rules, first_refusal, symbols};
 use fx_lexer::lex;
-use fx_syntax::{first_by_grammar, first_by_rules, first_refusal};
 use std::alloc::Global;
 use std::process::Abort;
 

@@ -7,7 +7,7 @@ use denote.Ref.{Bor}
 use Rattle.fx_lexer.specs.declared.token.Token.{Token}
 use Rattle.std.specs.List.{AllByRecursion}
 use Rattle.fx_language.specs.Keywords.{symbols_of}
-use Rattle.fx_syntax.specs.Refusals.{first_refusal}
+use Rattle.fx_language.specs.FirstRefusal.{first_refusal}
 use Rattle.fx_text.specs.declared.refusal.ParseStop.TheVariants as stop
 use Rattle.fx_text.specs.Refusals.{IsRefused, refused_at}
 use Rattle.fx_text.specs.Sentences.{IsAccepted}

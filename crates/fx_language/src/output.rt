@@ -1,0 +1,142 @@
+ghost use Rattle.std.specs.Prelude.{◌≡◌};
+ghost use Rattle.fx_language.specs.Shapes.{after, fault_at};
+ghost use Rattle.fx_language.specs.Places.{output_left, shape_left};
+
+use crate::code;
+use crate::state::{State, any_word, if_word, only};
+use crate::symbol::Symbol;
+use crate::values::{ValueKind, ValuesPlace};
+
+/// A place in an OUTPUT statement, outside of its lists of values.
+#[derive(Clone, Copy)]
+pub enum OutputPlace {
+    /// After OUTPUT: OUT.
+    Out,
+    /// After OUT: `=`.
+    Equals,
+    /// After that: the name of the data set.
+    DataSet,
+    /// After an option: another one, or `;`.
+    Options,
+    /// After POINTREP or DESIGNREP: `=`.
+    ReplicationEquals,
+    /// After that: a number.
+    Replication,
+    /// After RANDOMIZE: `(`, an option or `;`.
+    Randomize,
+    /// After `(`: a number.
+    Seed,
+    /// After that: `)`.
+    SeedEnd,
+    /// After BLOCKNAME: `=`.
+    BlocknameEquals,
+    /// After that: the name of the block column.
+    BlockColumn,
+    /// After that: its values, an option or `;`.
+    BlockValues,
+    /// After NVALS or CVALS there: the rest of the column's values, or the values of a factor of
+    /// that name.
+    ValuesOrFactor(ValueKind),
+    /// After the name of a factor: its values.
+    Factor,
+}
+
+impl OutputPlace {
+    /// The place after the symbol, or None where the grammar refuses it.
+    pub(crate) fn next(self, symbol: Symbol) -> Option<State>
+        ensures { after symbol (output_left self) ≡ shape_left result }
+    {
+        match self {
+            Self::Out => only(Symbol::Out, symbol, State::Output(Self::Equals)),
+            Self::Equals => only(Symbol::Equals, symbol, State::Output(Self::DataSet)),
+            Self::DataSet => any_word(symbol, State::Output(Self::Options)),
+            Self::Options => option(symbol),
+            Self::ReplicationEquals => {
+                only(Symbol::Equals, symbol, State::Output(Self::Replication))
+            }
+            Self::Replication => only(Symbol::Whole, symbol, State::Output(Self::Options)),
+            Self::Randomize => seed_or_option(symbol),
+            Self::Seed => only(Symbol::Whole, symbol, State::Output(Self::SeedEnd)),
+            Self::SeedEnd => only(Symbol::Close, symbol, State::Output(Self::Options)),
+            Self::BlocknameEquals => {
+                only(Symbol::Equals, symbol, State::Output(Self::BlockColumn))
+            }
+            Self::BlockColumn => any_word(symbol, State::Output(Self::BlockValues)),
+            Self::BlockValues => values_or_option(symbol),
+            Self::ValuesOrFactor(kind) => rest_or_values(kind, symbol),
+            Self::Factor => values(symbol),
+        }
+    }
+
+    /// The code that the grammar names for the symbol here.
+    pub(crate) fn named_code(self, symbol: Symbol) -> Option<u8>
+        ensures { result ≡ fault_at symbol (output_left self) }
+    {
+        match symbol {
+            Symbol::OpenBracket => Some(code::NOT_IN_PROFILE),
+            _ => match self {
+                Self::Replication => if_word(symbol, code::NOT_IN_PROFILE),
+                _ => None,
+            },
+        }
+    }
+}
+
+/// The place after the first word of an option, or after `;`.
+fn option(symbol: Symbol) -> Option<State>
+    ensures { after symbol (output_left OutputPlace.Options) ≡ shape_left result }
+{
+    match symbol {
+        Symbol::Pointrep | Symbol::Designrep => {
+            Some(State::Output(OutputPlace::ReplicationEquals))
+        }
+        Symbol::Randomize => Some(State::Output(OutputPlace::Randomize)),
+        Symbol::Novalran => Some(State::Output(OutputPlace::Options)),
+        Symbol::Blockname => Some(State::Output(OutputPlace::BlocknameEquals)),
+        Symbol::Semicolon => Some(State::Step),
+        _ => any_word(symbol, State::Output(OutputPlace::Factor)),
+    }
+}
+
+/// The place after `(`, or after the first word of an option, or after `;`.
+fn seed_or_option(symbol: Symbol) -> Option<State>
+    ensures { after symbol (output_left OutputPlace.Randomize) ≡ shape_left result }
+{
+    match symbol {
+        Symbol::Open => Some(State::Output(OutputPlace::Seed)),
+        _ => option(symbol),
+    }
+}
+
+/// The place after `=`, where NVALS or CVALS begins the block column's values, or after the word that
+/// begins the values of a factor of that name.
+fn rest_or_values(kind: ValueKind, symbol: Symbol) -> Option<State>
+    ensures { after symbol (output_left (OutputPlace.ValuesOrFactor kind)) ≡ shape_left result }
+{
+    match symbol {
+        Symbol::Equals => Some(State::Values(ValuesPlace::Open(kind))),
+        _ => values(symbol),
+    }
+}
+
+/// The place after the word that begins the values of a factor.
+fn values(symbol: Symbol) -> Option<State>
+    ensures { after symbol (output_left OutputPlace.Factor) ≡ shape_left result }
+{
+    match symbol {
+        Symbol::Nvals => Some(State::Values(ValuesPlace::Equals(ValueKind::Numbers))),
+        Symbol::Cvals => Some(State::Values(ValuesPlace::Equals(ValueKind::Texts))),
+        _ => None,
+    }
+}
+
+/// The place after the first word of the block column's values, of an option, or after `;`.
+fn values_or_option(symbol: Symbol) -> Option<State>
+    ensures { after symbol (output_left OutputPlace.BlockValues) ≡ shape_left result }
+{
+    match symbol {
+        Symbol::Nvals => Some(State::Output(OutputPlace::ValuesOrFactor(ValueKind::Numbers))),
+        Symbol::Cvals => Some(State::Output(OutputPlace::ValuesOrFactor(ValueKind::Texts))),
+        _ => option(symbol),
+    }
+}

@@ -1,4 +1,0 @@
-pub mod Places
-pub mod Repeats
-pub mod Pasts
-pub mod Refusals
