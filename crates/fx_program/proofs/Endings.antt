@@ -1,108 +1,190 @@
--- How a command ends: all was done, or it stopped.
-use Rattle.std.proofs.Common.{ℕ, ◌≡◌, ◌≤◌, ◌∷◌, List, Option, Result, Ok, Err, refl, sym, subst, arith, [], ap}
-use Rattle.std.specs.Prelude.{IsErr, IsErrAnd, unwrap_or}
-use Rattle.fx_base.specs.Acts.{Event, Piece, acts, acts_of, File, World, Did, DidPart}
-use Rattle.fx_base.proofs.Doing.{did_one, did_then, part_before, part_none, part_one, part_then, part_whole}
-use Rattle.fx_book.specs.Heads.{book_of}
-use Rattle.fx_program.specs.Words.{settings_of}
-use Rattle.fx_program.specs.declared.words.Settings.{Settings}
-use Rattle.fx_program.specs.declared.words.WordFault.{WordFault}
+-- How a stage of the program ends: all was done, or it stopped.
+use Rattle.std.proofs.Common.{ℕ, ◌≡◌, ◌<◌, ◌≤◌, ◌∷◌, ◌∙◌, List, Result, Ok, Err, refl, sym, subst, arith, [], ap, inl, inr}
+use Rattle.std.specs.Prelude.{IsErrAnd}
+use Rattle.fx_base.specs.Acts.{Event, Piece, acts, World, Did, DidPart}
+use Rattle.fx_base.specs.Faults.{Rose}
+use Rattle.fx_base.specs.Writing.{Appends, AppendsPart}
+use Rattle.fx_base.proofs.Doing.{did_one, did_piece, did_then, part_before, part_none, part_one, part_piece, part_then, part_whole}
 use Rattle.fx_program.specs.declared.stop.Stop.{Stop}
 use Rattle.fx_program.specs.declared.stop.Stop.TheVariants as stop
-use Rattle.fx_program.specs.Stops.{exit_status}
-use Rattle.fx_program.specs.Texts.{program_in}
-use Rattle.fx_program.specs.Output.{ChecksForSome, Output, Gives, Lists, RunsForSome, message, output_for, output_of, program_output, verdict_output, with_files, world}
+use Rattle.fx_program.specs.Stops.{HasCause, exit_status}
+use Rattle.fx_program.specs.Output.{Output, Gives, message, with_files}
+use Rattle.fx_program.specs.Outside.{Ends, HaveSameRooms, Lists, Outside, ShelfView, ShelvesFiles, SinkView, Writes, faults_of, outside}
 
--- a command that did all, and one that stopped
-pub ends_whole : {a b : World} (output : Output) (status : ℕ) → status ≡ output.status → Did a b (acts output.events) → Gives output a b status
-ends_whole output status e p = record { same = λ low. e; whole = λ low. p; part = part_whole p }
+-- what is given where all was done, and where it stopped
+pub gives_whole : {a b : World} (output : Output) (status : ℕ) → status ≡ output.status → Did a b (acts output.events)
+    → Gives output a b status
+gives_whole output status e p = record { same = λ low. e; whole = λ low. p; part = part_whole p }
 
-pub ends_stopped : {a b : World} (output : Output) (status : ℕ) → 4 ≤ status → DidPart a b (acts output.events) → Gives output a b status
-ends_stopped output status high p = record { same = λ low. absurd (omega arith); whole = λ low. absurd (omega arith); part = p }
-
--- one piece was written, or a front part of it
-pub ends_said : {a b : World} (bytes : List ℕ) (status : ℕ) → Did a b (acts_of (Piece bytes)) → Gives (message bytes status) a b status
-ends_said bytes status p = ends_whole (message bytes status) status refl (did_one (Piece bytes) p)
-
-pub ends_cut : {a b : World} (bytes : List ℕ) (status : ℕ) → DidPart a b (acts_of (Piece bytes)) → Gives (message bytes status) a b 4
-ends_cut bytes status p = ends_stopped (message bytes status) 4 (omega arith) (part_one (Piece bytes) p)
-
--- the same output under another name
-pub ends_by : {a b : World} (output same : Output) (status : ℕ) → output ≡ same → Gives same a b status → Gives output a b status
-ends_by {a} {b} output same status e p = subst (λ (o : Output). Gives o a b status) (sym e) p
-
--- from a command to the words
-pub ends_for : {a b : World} (words : List (List ℕ)) (text : List ℕ) (settings : Result Settings WordFault) (status : ℕ) → settings ≡ settings_of words → Gives (output_for settings text) a b status → Gives (output_of words text) a b status
-ends_for {a} {b} words text settings status e p = subst (λ s. Gives (output_for s text) a b status) e p
+pub gives_part : {a b : World} (output : Output) (status : ℕ) → 4 ≤ status → DidPart a b (acts output.events)
+    → Gives output a b status
+gives_part output status high p =
+    record { same = λ low. absurd (omega arith); whole = λ low. absurd (omega arith); part = p }
 
 -- the exit status of a stop
 pub stopped_high : (why : Stop) → 4 ≤ exit_status (Err why)
 stopped_high stop.Failed = omega arith
 stopped_high stop.NoMemory = omega arith
 
-pub stopped_above : (ended : Result ℕ Stop) → IsErr ended → 4 ≤ exit_status ended
-stopped_above (Ok status) h = absurd (cc h)
-stopped_above (Err why) h = stopped_high why
+-- a result that is an error, and why
+pub error_is : {T : Type 0} (ended : Result T Stop) (why : Stop) → IsErrAnd ended (λ e. e ≡ why) → Err why ≡ ended
+error_is (Ok x) why h = absurd h
+error_is (Err e) why h = ap Err (sym h)
 
--- it is stopped where nothing was done
-pub ends_none : {a : World} (output : Output) (ended : Result ℕ Stop) → IsErr ended → Gives output a a (exit_status ended)
-ends_none output (Ok status) h = absurd (cc h)
-ends_none {a} output (Err why) h = ends_stopped output (exit_status (Err why)) (stopped_high why) (part_none a (acts output.events))
+-- want of memory is no failed call
+pub no_call_failed : {T : Type 0} (counts : List ℕ) → HasCause {T = T} counts counts (Err stop.NoMemory)
+no_call_failed counts = record { failed = λ e. absurd (cc e); unchanged = λ e. refl }
 
--- and where this is the reason
-pub ends_by_stop : {a b : World} (output : Output) (ended : Result ℕ Stop) (why : Stop) → IsErrAnd ended (λ e. e ≡ why) → Gives output a b (exit_status (Err why))
-    → Gives output a b (exit_status ended)
-ends_by_stop output (Ok status) why h p = absurd h
-ends_by_stop {a} {b} output (Err e) why h p = subst (λ (w : Stop). Gives output a b (exit_status (Err w))) (sym h) p
+-- the rooms are the same after nothing, and after one stage and another
+pub same_rooms : (o : Outside) → HaveSameRooms o o
+same_rooms o = record { source = refl; listing = refl; shelf = refl }
 
--- the same of calls that have no shelf
-pub lists_by : {old new : Option (List ℕ)} (output same : Output) (status : ℕ) → output ≡ same → Lists same old new status → Lists output old new status
-lists_by {old} {new} output same status e p = subst (λ (o : Output). Lists o old new status) (sym e) p
+pub rooms_then : {old mid new : Outside} → HaveSameRooms old mid → HaveSameRooms mid new → HaveSameRooms old new
+rooms_then first second = record {
+  source = second.source ∙ first.source;
+  listing = second.listing ∙ first.listing;
+  shelf = second.shelf ∙ first.shelf;
+}
 
-pub lists_none : {old : Option (List ℕ)} (output : Output) (ended : Result ℕ Stop) → IsErr ended → Lists output old old (exit_status ended)
-lists_none output ended h = record { whatever = λ files. ends_none output ended h }
+-- the same output under another name
+pub ends_by : {old new : Outside} {output same : Output} {ended : Result ℕ Stop} → output ≡ same
+    → Ends same old new ended
+    → Ends output old new ended
+ends_by {old} {new} {ended} e p = subst (λ (o : Output). Ends o old new ended) (sym e) p
 
-pub lists_by_stop : {old new : Option (List ℕ)} (output : Output) (ended : Result ℕ Stop) (why : Stop) → IsErrAnd ended (λ e. e ≡ why) → Lists output old new (exit_status (Err why))
-    → Lists output old new (exit_status ended)
-lists_by_stop output ended why h p = record { whatever = λ files. ends_by_stop output ended why h (p.whatever files) }
+pub lists_by : {old new : SinkView} {output same : Output} {ended : Result ℕ Stop} → output ≡ same
+    → Lists same old new ended
+    → Lists output old new ended
+lists_by e p = record { whatever = λ source shelf closed. ends_by e (p.whatever source shelf closed) }
 
--- a call that has no shelf, in a world
-pub gives_by : (files : Option (List File)) {old new : Option (List ℕ)} (output same : Output) (status : ℕ) → output ≡ same → Lists same old new status
-    → Gives output (world old files) (world new files) status
-gives_by files {old} {new} output same status e p = ends_by output same status e (p.whatever files)
+pub writes_by : {old new : SinkView} {before now : ShelfView} {output same : Output} {ended : Result ℕ Stop}
+    → output ≡ same
+    → Writes same old new before now ended → Writes output old new before now ended
+writes_by e p = record { whatever = λ source. ends_by e (p.whatever source) }
 
--- files, and then a piece
-module _ {a b : World} (files : List Event) (bytes : List ℕ) (status : ℕ) where
-  pub stopped_in_files : (given : ℕ) → 4 ≤ given → DidPart a b (acts files) → Gives (with_files files bytes status) a b given
-  stopped_in_files given high p = ends_stopped (with_files files bytes status) given high (part_before files (Piece bytes ∷ []) p)
+-- memory ran out before anything was done
+module _ (output : Output) (ended : Result ℕ Stop) (none : IsErrAnd ended (λ e. e ≡ stop.NoMemory)) where
+  pub ends_none : (o : Outside) → Ends output o o ended
+  ends_none o = subst (Ends output o o) (error_is ended stop.NoMemory none) (record {
+    low = tt;
+    gives = gives_part output 5 (omega arith) (part_none _ (acts output.events));
+    cause = no_call_failed _;
+    rooms = same_rooms o;
+    closed = tt;
+  })
 
-  pub stopped_after_files : (ended : Result ℕ Stop) → IsErr ended → Did a b (acts files) → Gives (with_files files bytes status) a b (exit_status ended)
-  stopped_after_files (Ok given) h did = absurd (cc h)
-  stopped_after_files (Err why) h did = stopped_in_files (exit_status (Err why)) (stopped_high why) (part_whole did)
+  pub lists_none : (listing : SinkView) → Lists output listing listing ended
+  lists_none listing = record { whatever = λ source shelf closed. ends_none (outside source listing shelf) }
 
-  pub after_files : {c : World} (given : ℕ) → Did a b (acts files) → Gives (message bytes status) b c given → Gives (with_files files bytes status) a c given
-  after_files given did p = record {
-    same = p.same;
-    whole = λ low. did_then files (Piece bytes ∷ []) did (p.whole low);
-    part = part_then files (Piece bytes ∷ []) did p.part;
+  pub writes_none : (listing : SinkView) (shelf : ShelfView) → Writes output listing listing shelf shelf ended
+  writes_none listing shelf = record { whatever = λ source. ends_none (outside source listing shelf) }
+
+-- a piece of the listing was written, or a part of it
+module _ {old new : SinkView} (bytes : List ℕ) (status : ℕ) (room : new.room ≡ old.room) where
+  pub lists_piece : status < 4 → Appends old.written new.written bytes → new.faults ≡ old.faults
+      → Lists (message bytes status) old new (Ok status)
+  lists_piece low done same = record {
+    whatever = λ source shelf closed. record {
+      low = low;
+      gives = gives_whole (message bytes status) status refl
+          (did_one (Piece bytes) (did_piece _ _ shelf.files bytes done));
+      cause = record {
+        failed = λ e. absurd (cc e);
+        unchanged = λ e. ap (λ n. source.faults ∷ n ∷ shelf.faults ∷ []) same;
+      };
+      rooms = record { source = refl; listing = room; shelf = refl };
+      closed = closed;
+    };
   }
 
--- nothing was given, whatever text the source had
-pub nothing_given : {old : World} (seed : ℕ) (left : Option (List ℕ)) (status : ℕ) → 4 ≤ status → RunsForSome seed left old old status
-nothing_given {old} seed left status high =
-    let output = program_output seed (program_in (unwrap_or left [])) in
-    record {
-      text = unwrap_or left [];
-      exposed = λ known e. sym (ap (λ (o : Option (List ℕ)). unwrap_or o []) e);
-      gives = ends_stopped output status high (part_none old (acts output.events));
+  pub lists_cut : (ended : Result ℕ Stop) → IsErrAnd ended (λ e. e ≡ stop.Failed)
+      → AppendsPart old.written new.written bytes
+      → Rose old.faults new.faults → Lists (message bytes status) old new ended
+  lists_cut ended failed part rose = record {
+    whatever = λ source shelf closed.
+        subst (Ends (message bytes status) (outside source old shelf) (outside source new shelf))
+        (error_is ended stop.Failed failed)
+        (record {
+          low = tt;
+          gives = gives_part (message bytes status) 4 (omega arith)
+              (part_one (Piece bytes) (part_piece _ _ shelf.files bytes part));
+          cause = record { failed = λ e. inr (inl rose); unchanged = λ other. absurd (other refl) };
+          rooms = record { source = refl; listing = room; shelf = refl };
+          closed = tt;
+        });
+  }
+
+-- the same stop of another call
+pub same_stop : {A B : Type 0} (why other : Stop) → ◌≡◌ {A = Result A Stop} (Err why) (Err other)
+    → ◌≡◌ {A = Result B Stop} (Err why) (Err other)
+same_stop why other e = let same : why ≡ other = cc e in ap Err same
+
+-- the counts of all three, where the stage has the shelf alone
+behind : {A B : Type 0} (source listing : ℕ) (before now : List ℕ) (why : Stop) → HasCause {T = A} before now (Err why)
+    → HasCause {T = B} (source ∷ listing ∷ before) (source ∷ listing ∷ now) (Err why)
+behind source listing before now why cause = record {
+  failed = λ e. inr (inr (cause.failed (same_stop why stop.Failed e)));
+  unchanged = λ other. ap (λ l. source ∷ listing ∷ l) (cause.unchanged (λ e. other (same_stop why stop.Failed e)));
+}
+
+-- files, and then a piece
+module _ {T : Type 0} (files : List Event) (bytes : List ℕ) (status : ℕ) {old new : ShelfView} where
+  pub stopped_in_files : (listing : SinkView) (why : Stop) → ShelvesFiles {T = T} files old new (Err why)
+      → (ended : Result ℕ Stop) → IsErrAnd ended (λ e. e ≡ why)
+      → Writes (with_files files bytes status) listing listing old new ended
+  stopped_in_files listing why shelved ended h = record {
+    whatever = λ source.
+        subst (Ends (with_files files bytes status) (outside source listing old) (outside source listing new))
+        (error_is ended why h)
+        (record {
+          low = tt;
+          gives = gives_part (with_files files bytes status) (exit_status (Err why)) (stopped_high why)
+              (part_before files (Piece bytes ∷ []) (shelved.part.whatever listing.written));
+          cause = behind source.faults listing.faults _ _ why shelved.cause;
+          rooms = record { source = refl; listing = refl; shelf = shelved.room };
+          closed = tt;
+        });
+  }
+
+  module _ {x : T} (shelved : ShelvesFiles files old new (Ok x)) where
+    same_count : new.faults ∷ [] ≡ old.faults ∷ []
+    same_count = shelved.cause.unchanged (λ e. absurd (cc e))
+
+    pub stopped_after_files : (listing : SinkView) (ended : Result ℕ Stop) → IsErrAnd ended (λ e. e ≡ stop.NoMemory)
+        → Writes (with_files files bytes status) listing listing old new ended
+    stopped_after_files listing ended h = record {
+      whatever = λ source.
+          subst (Ends (with_files files bytes status) (outside source listing old) (outside source listing new))
+          (error_is ended stop.NoMemory h)
+          (record {
+            low = tt;
+            gives = gives_part (with_files files bytes status) 5 (omega arith)
+                (part_before files (Piece bytes ∷ []) (shelved.part.whatever listing.written));
+            cause = record {
+              failed = λ e. absurd (cc e);
+              unchanged = λ other. ap (λ l. source.faults ∷ listing.faults ∷ l) same_count;
+            };
+            rooms = record { source = refl; listing = refl; shelf = shelved.room };
+            closed = tt;
+          });
     }
 
--- nothing was listed of a book
-pub nothing_checked : {old : Option (List ℕ)} (left : Option (List ℕ)) (status : ℕ) → 4 ≤ status → ChecksForSome left old old status
-nothing_checked {old} left status high =
-    let output = verdict_output (book_of (unwrap_or left [])) in
-    record {
-      text = unwrap_or left [];
-      exposed = λ known e. sym (ap (λ (o : Option (List ℕ)). unwrap_or o []) e);
-      lists = record { whatever = λ files. ends_stopped output status high (part_none (world old files) (acts output.events)) };
+    pub after_files : {before now : SinkView} {ended : Result ℕ Stop} → Lists (message bytes status) before now ended
+        → Writes (with_files files bytes status) before now old new ended
+    after_files {before} {now} {ended} listed = record {
+      whatever = λ source.
+          let last = listed.whatever source new shelved.closed in
+          record {
+            low = last.low;
+            gives = record {
+              same = last.gives.same;
+              whole = λ low.
+                  did_then files (Piece bytes ∷ []) (shelved.done.whatever before.written) (last.gives.whole low);
+              part = part_then files (Piece bytes ∷ []) (shelved.done.whatever before.written) last.gives.part;
+            };
+            cause = subst (λ l. HasCause (source.faults ∷ before.faults ∷ l) (faults_of (outside source now new)) ended)
+                same_count last.cause;
+            rooms = record { source = last.rooms.source; listing = last.rooms.listing; shelf = shelved.room };
+            closed = last.closed;
+          };
     }

@@ -1,7 +1,6 @@
 -- The options of the command line, counted.
 use Rattle.std.proofs.Common.{ℕ, ◌≡◌, ◌≤◌, ◌+◌, Option, Some, None, Ok, refl, arith}
-use Rattle.fx_program.specs.declared.words.Options.{Options}
-use Rattle.fx_program.specs.Words.{count_of, once}
+use Rattle.fx_program.specs.CommandLine.{count_of, once}
 
 pub few : (threads seed : Option ℕ) → count_of (record { threads = threads; seed = seed }) ≤ 2
 few None None = omega arith

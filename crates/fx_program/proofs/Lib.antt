@@ -10,5 +10,6 @@ pub mod None
 pub mod AnyText
 pub mod Statuses
 mod Summing
+mod Commands
 pub mod Made
 pub mod GivenOptions

@@ -4,11 +4,15 @@ use Rattle.std.specs.Prelude.{nat_le, if◌then◌else◌}
 use Rattle.std.proofs.Math.Seq.{drop-cons}
 use Rattle.std.proofs.Math.Numerals.{add-one}
 use Rattle.std.proofs.lemmas.List.{drop_all}
-use Rattle.fx_base.specs.Acts.{Event, acts, World, Did, DidPart}
+use Rattle.fx_base.specs.Acts.{Event, acts, Did, DidPart}
 use Rattle.fx_base.proofs.Doing.{did_none, did_then, part_then, part_before}
 use Rattle.fx_statements.specs.Steps.{Meaning}
+use Rattle.std.specs.Prelude.{IsErrAnd, None, Ok, Err, Result}
+use Rattle.fx_program.specs.declared.stop.Stop.{Stop}
+use Rattle.fx_program.specs.Stops.{HasCause, exit_status}
 use Rattle.fx_program.specs.Output.{Output, Gives, step_output, steps_output, worse}
-use Rattle.fx_program.proofs.Endings.{ends_whole, ends_stopped}
+use Rattle.fx_program.specs.Outside.{Ends, HaveSameRooms, Outside, SourceView, faults_of, world_of}
+use Rattle.fx_program.proofs.Endings.{error_is, gives_part, gives_whole, rooms_then, same_rooms, stopped_high}
 
 module _ (seed : ℕ) where
   -- the events of all steps begin with those before them
@@ -21,37 +25,78 @@ module _ (seed : ℕ) where
       (given.events ++ r.0, r.1 ∙ append_assoc events given.events r.0)
 
 -- where the steps before this number are given, and these are left
-pub record SoFar (seed : ℕ) (old new : World) (whole : Output) (number status : ℕ) (steps : List Meaning) : Type 0 where
+pub record SoFar (seed : ℕ) (old new : Outside) (whole : Output) (number status : ℕ)
+    (steps : List Meaning) : Type 0 where
   pub done : List Event
   pub left : whole ≡ steps_output seed number done status steps
-  pub did : Did old new (acts done)
+  pub did : Did (world_of old) (world_of new) (acts done)
+  pub counts : faults_of new ≡ faults_of old
+  pub rooms : HaveSameRooms old new
 
-pub at_front : (seed : ℕ) (old : World) (steps : List Meaning) → SoFar seed old old (steps_output seed 1 [] 0 steps) 1 0 steps
-at_front seed old steps = record { done = []; left = refl; did = did_none old }
+pub before_steps : (seed : ℕ) (o : Outside) (steps : List Meaning)
+    → SoFar seed o o (steps_output seed 1 [] 0 steps) 1 0 steps
+before_steps seed o steps = record {
+  done = [];
+  left = refl;
+  did = did_none
+      (world_of o);
+  counts = refl;
+  rooms = same_rooms o;
+}
 
-module _ {seed : ℕ} {old new : World} {whole : Output} {number status : ℕ} where
-  pub all_given : SoFar seed old new whole number status [] → Gives whole old new status
-  all_given s =
-      subst (λ (o : Output). Gives o old new status) (sym s.left)
-      (ends_whole (record { events = s.done; status = status }) status refl s.did)
+module _ {seed : ℕ} {old new : Outside} {whole : Output} {number status : ℕ} where
+  pub all_given : {left : List Meaning} → SoFar seed old new whole number status left → left ≡ [] → status < 4
+      → new.shelf.begun ≡ false
+      → Ends whole old new (Ok status)
+  all_given s none low closed = record {
+    low = low;
+    gives = subst (λ (o : Output). Gives o (world_of old) (world_of new) status)
+        (sym (s.left ∙ ap (steps_output seed number s.done status) none))
+        (gives_whole (record { events = s.done; status = status }) status refl s.did);
+    cause = record { failed = λ e. absurd (cc e); unchanged = λ e. s.counts };
+    rooms = s.rooms;
+    closed = closed;
+  }
 
-  module _ {step : Meaning} {steps : List Meaning} {now : World} {given : ℕ} (s : SoFar seed old new whole number status (step ∷ steps))
-      (ends : Gives (step_output seed number step) new now given) where
-    pub one_more : given < 4 → SoFar seed old now whole (number + 1) (worse status given) steps
-    one_more low = record {
+  module _ {left steps : List Meaning} {step : Meaning} (s : SoFar seed old new whole number status left)
+      (next : left ≡ step ∷ steps) where
+    next_left : whole ≡ steps_output seed number s.done status (step ∷ steps)
+    next_left = s.left ∙ ap (steps_output seed number s.done status) next
+
+    pub one_more : {now : Outside} {given later : ℕ} → Ends (step_output seed number step) new now (Ok given)
+        → later ≡ worse status given
+        → SoFar seed old now whole (number + 1) later steps
+    one_more {now} {given} {later} ends greater = record {
       done = s.done ++ (step_output seed number step).events;
-      left = s.left ∙ ap (λ n. steps_output seed (number + 1) (s.done ++ (step_output seed number step).events) (worse status n) steps) (sym (ends.same low));
-      did = did_then s.done (step_output seed number step).events s.did (ends.whole low);
+      left = next_left
+          ∙ ap (λ n. steps_output seed (number + 1) (s.done ++ (step_output seed number step).events) n steps)
+          (sym (greater ∙ ap (worse status) (ends.gives.same ends.low)));
+      did = did_then s.done (step_output seed number step).events s.did (ends.gives.whole ends.low);
+      counts = ends.cause.unchanged (λ e. absurd (cc e)) ∙ s.counts;
+      rooms = rooms_then s.rooms ends.rooms;
     }
 
-    pub stopped : 4 ≤ given → Gives whole old now given
-    stopped high =
+    pub stopped : {now : Outside} (why : Stop) → Ends (step_output seed number step) new now (Err why)
+        → (ended : Result ℕ Stop) → IsErrAnd ended (λ e. e ≡ why)
+        → Ends whole old now ended
+    stopped {now} why ends ended h =
         let events = (step_output seed number step).events in
         let later = more_events seed (number + 1) (s.done ++ events) (worse status (step_output seed number step).status) steps in
-        let whole_is : whole.events ≡ (s.done ++ events) ++ later.0 = ap (λ (o : Output). o.events) s.left ∙ later.1 in
-        ends_stopped whole given high
-        (subst (λ (l : List Event). DidPart old now (acts l)) (sym whole_is)
-        (part_before (s.done ++ events) later.0 (part_then s.done events s.did ends.part)))
+        let whole_is : whole.events ≡ (s.done ++ events) ++ later.0 = ap (λ (o : Output). o.events) next_left
+        ∙ later.1 in
+        subst (Ends whole old now) (error_is ended why h) (record {
+          low = tt;
+          gives = gives_part whole (exit_status (Err why)) (stopped_high why)
+              (subst (λ (l : List Event). DidPart (world_of old) (world_of now) (acts l)) (sym whole_is)
+              (part_before (s.done ++ events) later.0 (part_then s.done events s.did ends.gives.part)));
+          cause = subst (λ l. HasCause {T = ℕ} l (faults_of now) (Err why)) s.counts ends.cause;
+          rooms = rooms_then s.rooms ends.rooms;
+          closed = tt;
+        })
+
+-- some source, for what is said whatever it is
+pub no_source : SourceView
+no_source = record { left = None; faults = 0; sure = false }
 
 -- the next of the steps that are left
 pub next_step : {X : Type 0} (f : X → Meaning) (xs : List X) (i : ℕ) (d : X) → i < length xs → map f (drop i xs) ≡ f (get_or xs i d) ∷ map f (drop (i + 1) xs)
@@ -70,10 +115,3 @@ worse_low a b low other = go (nat_le a b)
     go : (c : Bool) → (if c then b else a) < 4
     go true = other
     go false = low
-
--- counts are unchanged where the list of them is
-pub first_count : (a b c d : ℕ) → a ∷ b ∷ [] ≡ c ∷ d ∷ [] → a ≡ c
-first_count a b c d e = cc e
-
-pub second_count : (a b c d : ℕ) → a ∷ b ∷ [] ≡ c ∷ d ∷ [] → b ≡ d
-second_count a b c d e = cc e

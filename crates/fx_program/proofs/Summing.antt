@@ -1,6 +1,6 @@
 -- The summary of a program, step by step.
 use Rattle.std.proofs.Common.{ℕ, Bool, ◌≡◌, ◌≤◌, ◌<◌, ◌+◌, ◌^◌, List, [], ◌∷◌, ◌++◌, length, Ok, Err, Result, refl, sym, ap, ap₂, ◌∙◌, arith}
-use Rattle.std.specs.Prelude.{count_by, sum_by, Option, None}
+use Rattle.std.specs.Prelude.{count_by, sum_by}
 use Rattle.std.proofs.Common.{cond}
 use Rattle.std.proofs.lemmas.List.{map-append, length-map}
 use Rattle.std.proofs.lemmas.List.Sums.{count_by-le-length, fold-append, sum_by_push}
@@ -8,15 +8,11 @@ use Rattle.fx_base.specs.Acts.{Event}
 use Rattle.fx_designs.specs.Outcomes.{Ending, Design, NoDesign, BudgetEnded}
 use Rattle.fx_statements.specs.Steps.{Meaning}
 use Rattle.fx_statements.specs.Questions.{outcome_of}
-use Rattle.fx_program.specs.Texts.{program_in}
 use Rattle.fx_program.specs.declared.text.TextFault.{TextFault}
 use Rattle.fx_program.specs.declared.summary.Summary.{Summary}
 use Rattle.fx_program.specs.Statuses.{status_of}
 use Rattle.fx_program.specs.Summaries.{five_lines, is_cut_short, is_design, is_without, nodes_in, summary_lines}
-use Rattle.fx_program.specs.Output.{Lists, endings_of, large_output, message, program_output, step_output, steps_output, worse}
-use Rattle.fx_program.specs.Making.{made_text}
-use Rattle.fx_program.specs.Claims.{SomeHasNone}
-use Rattle.fx_program.proofs.Statuses.{none_where_one}
+use Rattle.fx_program.specs.Output.{endings_of, large_output, message, program_output, step_output, steps_output, worse}
 use Rattle.fx_program.proofs.SoFar.{worse_low}
 use Rattle.fx_program.specs.Summed.{HasRoom, IsSummaryOf, with_ending}
 
@@ -124,9 +120,3 @@ summed_up steps summary n bytes is len lines =
     ∙ ap₂ (λ (a b : ℕ). five_lines (length (endings_of steps)) a b summary.cut_short summary.nodes) is.designs is.without
     ∙ ap₂ (λ (a b : ℕ). five_lines (length (endings_of steps)) (count_by is_design (endings_of steps)) (count_by is_without (endings_of steps)) a b) is.cut_short is.nodes in
     sym (ap₂ (λ (l : List ℕ) (s : ℕ). message l s) (lines ∙ same) is.status)
-
--- where it has status 1, some step has no design at all
-pub none_in_large : (n : ℕ) {old new : Option (List ℕ)} (status : ℕ) → Lists (large_output (program_in (made_text n))) old new status → status ≡ 1
-    → SomeHasNone (program_in (made_text n))
-none_in_large n status lists one =
-    none_where_one 0 (made_text n) (sym (large_status (program_in (made_text n))) ∙ sym ((lists.whatever None).same (omega (arith, one))) ∙ one)

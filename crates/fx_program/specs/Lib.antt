@@ -1,5 +1,5 @@
-pub mod Words
-pub mod Refusals
+pub mod CommandLine
+pub mod Messages
 pub mod Reasons
 pub mod Texts
 pub mod Stops
@@ -9,6 +9,8 @@ pub mod Making
 pub mod Summaries
 pub mod Verdicts
 pub mod Output
+pub mod Commands
+pub mod Outside
 pub mod Summed
 pub mod StepClaims
 pub mod Claims

@@ -1,5 +1,5 @@
--- What the program gives, for its words and its text: pieces of listing and files, and a status.
-use Rattle.std.specs.Prelude.{ℕ, ◌≡◌, ◌+◌, ◌<◌, nat_le, if◌then◌else◌, List, [], ◌∷◌, ◌++◌, map, length, Option, Some, None, Result, Ok, Err, Bool, true, false}
+-- What the program gives: pieces of listing and files, and a status.
+use Rattle.std.specs.Prelude.{ℕ, ◌≡◌, ◌+◌, ◌<◌, nat_le, if◌then◌else◌, List, [], ◌∷◌, ◌++◌, map, Option, Result, Ok, Err}
 use Rattle.fx_base.specs.Acts.{Event, Piece, acts, World, File, Did, DidPart}
 use Rattle.fx_designs.specs.Problems.{Dimensions}
 use Rattle.fx_designs.specs.Outcomes.{Ending}
@@ -7,24 +7,17 @@ use Rattle.fx_alias.specs.Sections.{step_lines}
 use Rattle.fx_vectors.specs.declared.book.Book.{Book}
 use Rattle.fx_vectors.specs.declared.book.NamedBook.{NamedBook}
 use Rattle.fx_book.specs.declared.fault.BookFault.{BookFault}
-use Rattle.fx_book.specs.Heads.{book_of}
 use Rattle.fx_checker.specs.Books.{flaw_of}
 use Rattle.fx_checker.specs.Claims.{claim_of}
 use Rattle.fx_checker.specs.Verdicts.{verdict_of}
 use Rattle.fx_statements.specs.Questions.{outcome_of}
 use Rattle.fx_statements.specs.Steps.{Meaning}
 use Rattle.fx_answer.specs.Books.{books_of}
-use Rattle.fx_program.specs.Words.{settings_of, word_line}
-use Rattle.fx_program.specs.Refusals.{fault_line}
-use Rattle.fx_program.specs.Texts.{program_in}
+use Rattle.fx_program.specs.Messages.{fault_line}
 use Rattle.fx_program.specs.Statuses.{status_of}
-use Rattle.fx_program.specs.Making.{made_text}
 use Rattle.fx_program.specs.Summaries.{summary_lines}
 use Rattle.fx_program.specs.Files.{book_files, book_lines, matrix_in, output_lines, plan_files}
 use Rattle.fx_program.specs.Verdicts.{book_fault_line, verdict_lines, verdict_status}
-use Rattle.fx_program.specs.declared.words.Settings.{Settings}
-use Rattle.fx_program.specs.declared.words.Settings.TheVariants.{Run, Check, Make, Large}
-use Rattle.fx_program.specs.declared.words.WordFault.{WordFault}
 use Rattle.fx_program.specs.declared.text.TextFault.{TextFault}
 
 -- what is done outside, and the status
@@ -89,42 +82,6 @@ verdict_output (Ok book) =
     message (verdict_lines book.head verdict) (verdict_status verdict)
 verdict_output (Err fault) = message (book_fault_line fault) 1
 
--- what settings give for a text
-abbrev pub output_for : Result Settings WordFault → List ℕ → Output
-output_for (Err fault) text = message (word_line fault) 3
-output_for (Ok (Run threads seed)) text = program_output seed (program_in text)
-output_for (Ok Check) text = verdict_output (book_of text)
-output_for (Ok (Make n)) text = message (made_text n) 0
-output_for (Ok (Large n threads)) text = large_output (program_in (made_text n))
-
--- the output of words and a text
-abbrev pub output_of : List (List ℕ) → List ℕ → Output
-output_of words text = output_for (settings_of words) text
-
--- whether the source is read
-abbrev pub reads : Result Settings WordFault → Bool
-reads (Err fault) = false
-reads (Ok (Run threads seed)) = true
-reads (Ok Check) = true
-reads (Ok (Make n)) = false
-reads (Ok (Large n threads)) = false
-
--- whether the source is read to its end where it has this text: with `check` only up to the limit of a book
-abbrev pub reads_all_of : Result Settings WordFault → List ℕ → Bool
-reads_all_of (Err fault) text = false
-reads_all_of (Ok (Run threads seed)) text = true
-reads_all_of (Ok Check) text = nat_le (length text) 268435456
-reads_all_of (Ok (Make n)) text = false
-reads_all_of (Ok (Large n threads)) text = false
-
--- the text of the program that is run: that of the source, where it exposes it, and with `large` that of `make`
-abbrev pub text_run : Result Settings WordFault → Option (List ℕ) → Option (List ℕ)
-text_run (Err fault) left = None
-text_run (Ok (Run threads seed)) left = left
-text_run (Ok Check) left = None
-text_run (Ok (Make n)) left = None
-text_run (Ok (Large n threads)) left = Some (made_text n)
-
 -- what stands outside: the listing and the files
 abbrev pub world : Option (List ℕ) → Option (List File) → World
 world written files = record { written = written; files = files }
@@ -135,29 +92,6 @@ pub record Gives (output : Output) (old new : World) (status : ℕ) : Type 0 whe
   pub same : status < 4 → status ≡ output.status
   pub whole : status < 4 → Did old new (acts output.events)
   pub part : DidPart old new (acts output.events)
-
--- the same of a call that has no shelf: whatever files there are, they stay as they are
-pub record Lists (output : Output) (old new : Option (List ℕ)) (status : ℕ) : Type 0 where
-  pub whatever : (files : Option (List File)) → Gives output (world old files) (world new files) status
-
--- What is given for some text: that of the source, where the source is read and exposes it. A source that exposes nothing had some
--- text all the same.
-pub record GivesForSome (words : List (List ℕ)) (left : Option (List ℕ)) (old new : World) (status : ℕ) : Type 0 where
-  pub text : List ℕ
-  pub exposed : reads (settings_of words) ≡ true → (known : List ℕ) → left ≡ Some known → known ≡ text
-  pub gives : Gives (output_of words text) old new status
-
--- the same of the command `run` with this seed
-pub record RunsForSome (seed : ℕ) (left : Option (List ℕ)) (old new : World) (status : ℕ) : Type 0 where
-  pub text : List ℕ
-  pub exposed : (known : List ℕ) → left ≡ Some known → known ≡ text
-  pub gives : Gives (program_output seed (program_in text)) old new status
-
--- what is given for some text by the command `check`, which has no shelf
-pub record ChecksForSome (left old new : Option (List ℕ)) (status : ℕ) : Type 0 where
-  pub text : List ℕ
-  pub exposed : (known : List ℕ) → left ≡ Some known → known ≡ text
-  pub lists : Lists (verdict_output (book_of text)) old new status
 
 -- exactly these events were done by a call that has no listing: whatever was listed, it stays as it is
 pub record Shelved (events : List Event) (old new : Option (List File)) : Type 0 where

@@ -1,12 +1,11 @@
-ghost use Rattle.std.specs.Prelude.{◌≡◌, ◌≤◌, ◌∷◌, ◌++◌, [], false, length, Some, OnOk};
+ghost use Rattle.std.specs.Prelude.{◌≡◌, ◌≤◌, ◌++◌, false, length, Some};
 ghost use Rattle.fx_statements.specs.Steps.{meaning_of};
 ghost use Rattle.fx_answer.specs.Outcomes.{IsOutcome};
 ghost use Rattle.fx_plan.specs.Steps.{IsDesignOf};
 ghost use Rattle.fx_program.specs.Files.{book_files, book_name, file_name, plan_files};
-ghost use Rattle.fx_program.specs.Output.{Shelved, ShelvedPart};
-ghost use Rattle.fx_program.specs.Stops.{HasCause};
-ghost use Rattle.fx_program.specs.Words.{AreThreads};
+ghost use Rattle.fx_program.specs.Outside.{ShelvesFiles, shelf_view};
 
+use crate::session::Session;
 use crate::stop::Stop;
 use crate::words::append;
 use arrayvec::ArrayVec;
@@ -16,7 +15,6 @@ use fx_plan::plan;
 use fx_statements::{Outcome, Step};
 use fx_vectors::{Books, Matrix};
 use itoa::Buffer;
-use std::alloc::Global;
 use std::thread::Threads;
 
 /// The greatest length of a plan's name: an OUT name of 32 bytes, and `.csv`.
@@ -26,110 +24,77 @@ const PLAN_NAME: usize = 36;
 const BOOK_NAME: usize = 64;
 
 /// Shelves the files of the step of this number with this outcome: its books in the order of their
-/// questions, then its plans in the order of its OUTPUT statements. A book is put together by so many threads.
+/// questions, then its plans in the order of its OUTPUT statements.
 pub(crate) fn shelve_files<R: Threads + Sync, F: Shelf>(
-    rt: &R,
-    alloc: Global,
-    threads: u8,
+    session: &Session<'_, R>,
     number: usize,
     step: &Step,
     outcome: &Outcome,
-    seed: u64,
     shelf: &mut F,
 ) -> Result<(), Stop>
-    requires threads { AreThreads threads }
     requires outcome { IsOutcome (meaning_of step.now) outcome.now }
     requires ended { F.begun shelf.old ≡ false }
-    ensures done { OnOk result
-        (Shelved (book_files number outcome.now.books
-        ++ plan_files seed (meaning_of step.now) outcome.now.matrix)
-        (F.files shelf.old) (F.files shelf.new)) }
-    ensures part { ShelvedPart (book_files number outcome.now.books
-        ++ plan_files seed (meaning_of step.now) outcome.now.matrix)
-        (F.files shelf.old) (F.files shelf.new) }
-    ensures closed { OnOk result (F.begun shelf.new ≡ false) }
-    ensures cause { HasCause (F.faults shelf.old ∷ []) (F.faults shelf.new ∷ []) result }
-    ensures room { F.room shelf.new ≡ F.room shelf.old }
+    ensures { ShelvesFiles (book_files number outcome.now.books
+        ++ plan_files session.now.seed (meaning_of step.now) outcome.now.matrix)
+        (shelf_view F.Shelf shelf.old) (shelf_view F.Shelf shelf.new) result }
 {
-    shelve_books(rt, alloc, threads, number, &outcome.books, shelf)?;
-    shelve_plans(alloc, step, outcome, seed, shelf)
+    shelve_books(session, number, &outcome.books, shelf)?;
+    shelve_plans(session, step, outcome, shelf)
 }
 
 /// Shelves the books of the step of this number.
 fn shelve_books<R: Threads + Sync, F: Shelf>(
-    rt: &R,
-    alloc: Global,
-    threads: u8,
+    session: &Session<'_, R>,
     number: usize,
     books: &Books,
     shelf: &mut F,
 ) -> Result<(), Stop>
-    requires threads { AreThreads threads }
-    requires ended { F.begun shelf.old ≡ false }
-    ensures done { OnOk result
-        (Shelved (book_files number books.now) (F.files shelf.old) (F.files shelf.new)) }
-    ensures part { ShelvedPart (book_files number books.now)
-        (F.files shelf.old) (F.files shelf.new) }
-    ensures closed { OnOk result (F.begun shelf.new ≡ false) }
-    ensures cause { HasCause (F.faults shelf.old ∷ []) (F.faults shelf.new ∷ []) result }
-    ensures room { F.room shelf.new ≡ F.room shelf.old }
+    requires { F.begun shelf.old ≡ false }
+    ensures { ShelvesFiles (book_files number books.now)
+        (shelf_view F.Shelf shelf.old) (shelf_view F.Shelf shelf.new) result }
 {
     for named in books.as_slice() {
         let name = book_name(number, named.question);
-        let pieces = book_pieces(rt, alloc, &named.book, threads)?;
+        let pieces = book_pieces(session.rt, session.alloc, &named.book, session.threads)?;
         shelve_pieces(shelf, name.as_slice(), pieces.as_slice())?;
     }
     Ok(())
 }
 
-/// Shelves the plans of a step with this outcome, in the order of its OUTPUT statements, by the
-/// program's seed. Without a matrix there is none.
-fn shelve_plans<F: Shelf>(
-    alloc: Global,
+/// Shelves the plans of a step with this outcome, in the order of its OUTPUT statements. Without a
+/// matrix there is none.
+fn shelve_plans<R, F: Shelf>(
+    session: &Session<'_, R>,
     step: &Step,
     outcome: &Outcome,
-    seed: u64,
     shelf: &mut F,
 ) -> Result<(), Stop>
     requires outcome { IsOutcome (meaning_of step.now) outcome.now }
     requires ended { F.begun shelf.old ≡ false }
-    ensures done { OnOk result
-        (Shelved (plan_files seed (meaning_of step.now) outcome.now.matrix)
-        (F.files shelf.old) (F.files shelf.new)) }
-    ensures part { ShelvedPart (plan_files seed (meaning_of step.now) outcome.now.matrix)
-        (F.files shelf.old) (F.files shelf.new) }
-    ensures closed { OnOk result (F.begun shelf.new ≡ false) }
-    ensures cause { HasCause (F.faults shelf.old ∷ []) (F.faults shelf.new ∷ []) result }
-    ensures room { F.room shelf.new ≡ F.room shelf.old }
+    ensures { ShelvesFiles (plan_files session.now.seed (meaning_of step.now) outcome.now.matrix)
+        (shelf_view F.Shelf shelf.old) (shelf_view F.Shelf shelf.new) result }
 {
     match &outcome.matrix {
-        Some(matrix) => shelve_each(alloc, step, matrix, seed, shelf),
+        Some(matrix) => shelve_each(session, step, matrix, shelf),
         None => Ok(()),
     }
 }
 
 /// Shelves the plans of a design of the step.
-fn shelve_each<F: Shelf>(
-    alloc: Global,
+fn shelve_each<R, F: Shelf>(
+    session: &Session<'_, R>,
     step: &Step,
     matrix: &Matrix,
-    seed: u64,
     shelf: &mut F,
 ) -> Result<(), Stop>
     requires design { IsDesignOf step.now matrix.now }
     requires ended { F.begun shelf.old ≡ false }
-    ensures done { OnOk result
-        (Shelved (plan_files seed (meaning_of step.now) (Some matrix.now))
-        (F.files shelf.old) (F.files shelf.new)) }
-    ensures part { ShelvedPart (plan_files seed (meaning_of step.now) (Some matrix.now))
-        (F.files shelf.old) (F.files shelf.new) }
-    ensures closed { OnOk result (F.begun shelf.new ≡ false) }
-    ensures cause { HasCause (F.faults shelf.old ∷ []) (F.faults shelf.new ∷ []) result }
-    ensures room { F.room shelf.new ≡ F.room shelf.old }
+    ensures { ShelvesFiles (plan_files session.now.seed (meaning_of step.now) (Some matrix.now))
+        (shelf_view F.Shelf shelf.old) (shelf_view F.Shelf shelf.new) result }
 {
     for output in step.outputs.as_slice() {
         let name = file_name(output.name.as_slice());
-        let content = plan(alloc, step, matrix, output, seed)?;
+        let content = plan(session.alloc, step, matrix, output, session.seed)?;
         shelve(shelf, name.as_slice(), content.as_slice())?;
     }
     Ok(())

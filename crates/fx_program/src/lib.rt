@@ -7,6 +7,7 @@ mod making;
 mod output_lines;
 mod refusal;
 mod run;
+mod session;
 mod status;
 mod stop;
 mod summary;

@@ -1,9 +1,10 @@
 ghost use Rattle.std.specs.Prelude.{◌≡◌, ◌++◌, map, OnOk};
 ghost use Rattle.fx_program.specs.Reasons.{row_of};
-ghost use Rattle.fx_program.specs.Refusals.{fault_line, lexical_reasons, line_at, listed_at, reason_of, reasons};
+ghost use Rattle.fx_program.specs.Messages.{fault_line, lexical_reasons, line_at, listed_at, reason_of, reasons};
 
-use crate::text::TextFault;
+use crate::text::{TEXT_TOO_LONG, TextFault};
 use fx_base::{Bytes, NoMemory, put, put_number};
+use fx_language::code;
 
 /// A row of a table of reasons: the number of a rule, and what it says.
 #[derive(Clone, Copy)]
@@ -103,37 +104,61 @@ fn reasons() -> [Reason; 32]
     ensures { map row_of result ≡ reasons }
 {
     [
-        row(1, b"statement is not known"),
-        row(2, b"unexpected word or end"),
-        row(3, b"option is not known"),
-        row(4, b"factor is not known"),
-        row(5, b"name is repeated"),
-        row(6, b"number of levels is not 2, 3, 4, 5, 7, 8 or 9"),
-        row(7, b"step has no FACTORS statement"),
-        row(8, b"size is not a power of the number of levels"),
-        row(9, b"more than 1024 runs"),
-        row(10, b"too many factors"),
-        row(11, b"resolution is not from 3 to 99"),
-        row(12, b"MINABS with ESTIMATE"),
-        row(13, b"MINABS or RESOLUTION=MAX with BLOCKS"),
-        row(14, b"minimum size with a maximum or MINABS"),
-        row(15, b"blocks are not a power of the number of levels"),
-        row(16, b"more blocks than runs"),
-        row(17, b"number of values differs from number of levels"),
-        row(18, b"OUT name is repeated"),
-        row(19, b"seed is too large"),
-        row(20, b"replication is not from 1 to 200000"),
-        row(21, b"more than 200000 rows"),
-        row(22, b"more than 2000000 demands"),
-        row(23, b"more than 100000 effects"),
-        row(24, b"not kept in this profile"),
-        row(25, b"text is over 1048576 bytes"),
-        row(26, b"statement is repeated in the step"),
-        row(27, b"statement after RUN"),
-        row(28, b"option is repeated"),
-        row(29, b"number is out of range"),
-        row(30, b"range of names is not regular"),
-        row(31, b"BLOCKNAME without BLOCKS"),
-        row(32, b"more than 100 steps"),
+        row(code::UNKNOWN_STATEMENT, b"statement is not known"),
+        row(code::UNEXPECTED_SYMBOL, b"unexpected word or end"),
+        row(code::UNKNOWN_OPTION, b"option is not known"),
+        row(code::UNKNOWN_FACTOR, b"factor is not known"),
+        row(code::REPEATED_NAME, b"name is repeated"),
+        row(
+            code::INVALID_LEVELS,
+            b"number of levels is not 2, 3, 4, 5, 7, 8 or 9",
+        ),
+        row(code::NO_FACTORS, b"step has no FACTORS statement"),
+        row(
+            code::SIZE_NOT_A_POWER,
+            b"size is not a power of the number of levels",
+        ),
+        row(code::TOO_MANY_RUNS, b"more than 1024 runs"),
+        row(code::TOO_MANY_FACTORS, b"too many factors"),
+        row(code::INVALID_RESOLUTION, b"resolution is not from 3 to 99"),
+        row(code::MINABS_WITH_ESTIMATE, b"MINABS with ESTIMATE"),
+        row(
+            code::MAXIMUM_WITH_BLOCKS,
+            b"MINABS or RESOLUTION=MAX with BLOCKS",
+        ),
+        row(
+            code::MINIMUM_WITH_MAXIMUM,
+            b"minimum size with a maximum or MINABS",
+        ),
+        row(
+            code::BLOCKS_NOT_A_POWER,
+            b"blocks are not a power of the number of levels",
+        ),
+        row(code::TOO_MANY_BLOCKS, b"more blocks than runs"),
+        row(
+            code::WRONG_NUMBER_OF_VALUES,
+            b"number of values differs from number of levels",
+        ),
+        row(code::REPEATED_OUT_NAME, b"OUT name is repeated"),
+        row(code::SEED_TOO_LARGE, b"seed is too large"),
+        row(
+            code::INVALID_REPLICATION,
+            b"replication is not from 1 to 200000",
+        ),
+        row(code::TOO_MANY_ROWS, b"more than 200000 rows"),
+        row(code::TOO_MANY_DEMANDS, b"more than 2000000 demands"),
+        row(code::TOO_MANY_EFFECTS, b"more than 100000 effects"),
+        row(code::NOT_IN_PROFILE, b"not kept in this profile"),
+        row(TEXT_TOO_LONG, b"text is over 1048576 bytes"),
+        row(
+            code::REPEATED_STATEMENT,
+            b"statement is repeated in the step",
+        ),
+        row(code::STATEMENT_AFTER_RUN, b"statement after RUN"),
+        row(code::REPEATED_OPTION, b"option is repeated"),
+        row(code::NUMBER_OUT_OF_RANGE, b"number is out of range"),
+        row(code::IRREGULAR_RANGE, b"range of names is not regular"),
+        row(code::BLOCKNAME_WITHOUT_BLOCKS, b"BLOCKNAME without BLOCKS"),
+        row(code::TOO_MANY_STEPS, b"more than 100 steps"),
     ]
 }

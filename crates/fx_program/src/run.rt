@@ -1,30 +1,28 @@
-ghost use Rattle.std.specs.Prelude.{◌≡◌, ◌<◌, ◌≤◌, ◌⊎◌, [], ◌∷◌, ℕ, List, Option, Some, false, Ok, Err, map, length, ◌++◌, IfOk, OnOk, IsErr, true};
+ghost use Rattle.std.specs.Prelude.{◌≡◌, ◌<◌, ◌≤◌, ◌⊎◌, [], ◌∷◌, ℕ, List, Option, Some, false, Ok, Err, map, ◌++◌, IfOk, IsErr, true};
 ghost use Rattle.fx_vectors.specs.Shape.{dimensions_of};
 ghost use Rattle.fx_statements.specs.Steps.{meaning_of};
 ghost use Rattle.fx_statements.specs.Outcomes.{ending_in};
 ghost use Rattle.fx_alias.specs.Sections.{step_lines};
 ghost use Rattle.fx_answer.specs.Outcomes.{IsOutcome};
-ghost use Rattle.fx_program.specs.Words.{AreThreads, bytes_of, settings_of};
+ghost use Rattle.fx_program.specs.CommandLine.{HasThreads, bytes_of, settings_of};
 ghost use Rattle.fx_program.specs.Making.{made_text};
 ghost use Rattle.fx_program.specs.Texts.{program_in};
 ghost use Rattle.fx_program.specs.Claims.{SomeHasNone};
-ghost use Rattle.fx_program.specs.Stops.{HasCause, HasStatusCause, exit_status};
+ghost use Rattle.fx_program.specs.Stops.{HasStatusCause, exit_status};
 ghost use Rattle.fx_program.specs.declared.stop.Stop.TheVariants as stop;
 ghost use Rattle.fx_program.specs.Files.{book_lines};
-ghost use Rattle.fx_program.specs.Output.{
-  ChecksForSome,
-  Gives,
+ghost use Rattle.fx_program.specs.Output.{large_output, message, program_output, step_output, world};
+ghost use Rattle.fx_program.specs.Commands.{command_for, command_in, command_of};
+ghost use Rattle.fx_program.specs.Outside.{
   GivesForSome,
+  IsCarriedOut,
   Lists,
-  RunsForSome,
-  large_output,
-  message,
-  program_output,
-  reads,
-  reads_all_of,
-  step_output,
-  text_run,
-  world,
+  ShelfView,
+  Writes,
+  outside,
+  shelf_view,
+  sink_view,
+  source_view,
 };
 
 use crate::checking::{BOOK_LIMIT, Judgement, judge, judge_too_long};
@@ -32,11 +30,12 @@ use crate::files::shelve_files;
 use crate::making::make_text;
 use crate::output_lines::{put_book_lines, put_output_lines};
 use crate::refusal::put_fault;
+use crate::session::Session;
 use crate::status::{status_of, worse};
 use crate::stop::{REFUSED, Stop, exit_status};
 use crate::summary::{put_summary, summary_of};
-use crate::text::{TextFault, TextStop, at_front, read_program};
-use crate::words::{Settings, read_words, word_line};
+use crate::text::{TEXT_TOO_LONG, TextFault, TextStop, at_front, read_program};
+use crate::words::{Settings, WordFault, read_words, word_line};
 use fx_alias::{examine_listing, head_listing, rules_listing};
 use fx_answer::answer;
 use fx_base::{Bytes, NoMemory, Shelf, Sink, Source, Taken, read_all, write_all};
@@ -75,7 +74,7 @@ pub fn factex<R: Threads + Sync, S: Source, K: Sink, F: Shelf>(
 
     // With a status below 4 the output is exactly the defined one, else a prefix of it: that of the text of
     // the source, where the source exposes it, and of some text where it exposes nothing.
-    ensures output { GivesForSome (bytes_of words.now) (S.left source.old)
+    ensures output { GivesForSome (command_in (bytes_of words.now)) (S.left source.old)
         (world (K.written listing.old) (F.files shelf.old))
         (world (K.written listing.new) (F.files shelf.new)) result }
     ensures cause { HasStatusCause
@@ -86,105 +85,112 @@ pub fn factex<R: Threads + Sync, S: Source, K: Sink, F: Shelf>(
         × (F.room shelf.new ≡ F.room shelf.old) }
     ensures closed { result < 4 → F.begun shelf.new ≡ false }
 
-    // `make`, `large` and refused words leave the source unread, and refused words never lead to the
+    // A command that reads no source leaves it as it was, and so do refused words, which never lead to the
     // status for want of memory.
-    ensures unread { reads (settings_of (bytes_of words.now)) ≡ false
-        → source.new ≡ source.old }
+    ensures unread { (command_in (bytes_of words.now)).reads ≡ false → source.new ≡ source.old }
     ensures refused { IsErr (settings_of (bytes_of words.now))
         → (result ≡ 3) ⊎ (result ≡ 4) }
 
     // Status 1 comes only where the runs of no rule matrix at all meet what some step of the text that is
     // run asks.
     ensures none_at_all { result ≡ 1 → (text : List ℕ)
-        → text_run (settings_of (bytes_of words.now)) (S.left source.old) ≡ Some text
+        → (command_in (bytes_of words.now)).text_run (S.left source.old) ≡ Some text
         → SomeHasNone (program_in text) }
 
     // Where the source is read, the statuses of steps and of books come only with it read to its end,
     // but where it has more bytes than a book may have.
     ensures read_to_end { result < 3 → (text : List ℕ)
-        → reads_all_of (settings_of (bytes_of words.now)) text ≡ true
+        → (command_in (bytes_of words.now)).reads_all_of text ≡ true
         → S.left source.old ≡ Some text
         → S.left source.new ≡ Some [] }
 {
-    match read_words(words) {
-        Ok(settings) => match settings {
-            Settings::Run { threads, seed } => {
-                exit_status(run(rt, alloc, threads, seed, source, listing, shelf))
-            }
-            Settings::Check => exit_status(check(alloc, source, listing)),
-            Settings::Make { n } => exit_status(make(alloc, n, listing)),
-            Settings::Large { n, threads } => { exit_status(large(rt, alloc, threads, n, listing)) }
-        },
-        Err(fault) => exit_status(list(listing, word_line(fault).as_slice(), REFUSED)),
-    }
+    exit_status(carry_out(rt, alloc, read_words(words), source, listing, shelf))
 }
 
-/// The command `run`, with so many threads and this seed.
-fn run<R: Threads + Sync, S: Source, K: Sink, F: Shelf>(
+/// Carries out the command of these settings, or lists why the words are refused.
+fn carry_out<R: Threads + Sync, S: Source, K: Sink, F: Shelf>(
     rt: &R,
     alloc: Global,
-    threads: u8,
-    seed: u64,
+    asked: Result<Settings, WordFault>,
     source: &mut S,
     listing: &mut K,
     shelf: &mut F,
 ) -> Result<u8, Stop>
-    requires threads { AreThreads threads }
+    requires threads { IfOk asked HasThreads }
     requires shelf { F.begun shelf.old ≡ false }
-    ensures status_range { IfOk result (λ status. status < 4) }
-    ensures output { RunsForSome seed (S.left source.old)
-        (world (K.written listing.old) (F.files shelf.old))
-        (world (K.written listing.new) (F.files shelf.new)) (exit_status result) }
-    ensures cause { HasCause
-        (S.faults source.old ∷ K.faults listing.old ∷ F.faults shelf.old ∷ [])
-        (S.faults source.new ∷ K.faults listing.new ∷ F.faults shelf.new ∷ []) result }
-    ensures rooms { (S.sure source.new ≡ S.sure source.old)
-        × (K.room listing.new ≡ K.room listing.old)
-        × (F.room shelf.new ≡ F.room shelf.old) }
-    ensures closed { OnOk result (F.begun shelf.new ≡ false) }
-    ensures none_at_all { exit_status result ≡ 1 → (text : List ℕ)
-        → S.left source.old ≡ Some text
-        → SomeHasNone (program_in text) }
-    ensures read_to_end { exit_status result < 3 → (text : List ℕ)
-        → S.left source.old ≡ Some text
-        → S.left source.new ≡ Some [] }
+    ensures done { IsCarriedOut (command_for asked)
+        (outside (source_view S.Source source.old) (sink_view K.Sink listing.old) (shelf_view F.Shelf shelf.old))
+        (outside (source_view S.Source source.new) (sink_view K.Sink listing.new) (shelf_view F.Shelf shelf.new))
+        result }
+    ensures unread { (command_for asked).reads ≡ false → source.new ≡ source.old }
+    ensures refused { IsErr asked → (result ≡ Ok 3) ⊎ (result ≡ Err stop.Failed) }
 {
-    let text = match read_all(alloc, source, TEXT_LIMIT)? {
+    match asked {
+        Ok(settings) => match settings {
+            Settings::Run { threads, seed } => {
+                let session = Session {
+                    rt,
+                    alloc,
+                    threads,
+                    seed,
+                };
+                run(&session, source, listing, shelf)
+            }
+            Settings::Check => check(alloc, source, listing),
+            Settings::Make { n } => make(alloc, n, listing),
+            Settings::Large { n, threads } => {
+                let session = Session {
+                    rt,
+                    alloc,
+                    threads,
+                    seed: 0,
+                };
+                large(&session, n, listing)
+            }
+        },
+        Err(fault) => list(listing, word_line(fault).as_slice(), REFUSED),
+    }
+}
+
+/// The command `run`.
+fn run<R: Threads + Sync, S: Source, K: Sink, F: Shelf>(
+    session: &Session<'_, R>,
+    source: &mut S,
+    listing: &mut K,
+    shelf: &mut F,
+) -> Result<u8, Stop>
+    requires { F.begun shelf.old ≡ false }
+    ensures { IsCarriedOut (command_of (Settings.Run session.now.threads session.now.seed))
+        (outside (source_view S.Source source.old) (sink_view K.Sink listing.old) (shelf_view F.Shelf shelf.old))
+        (outside (source_view S.Source source.new) (sink_view K.Sink listing.new) (shelf_view F.Shelf shelf.new))
+        result }
+{
+    let text = match read_all(session.alloc, source, TEXT_LIMIT)? {
         Taken::Whole(text) => text,
-        Taken::TooLong => return refuse(alloc, at_front(25), listing),
+        Taken::TooLong => return refuse(session.alloc, at_front(TEXT_TOO_LONG), listing),
     };
-    match read_program(alloc, text.as_slice()) {
-        Ok(program) => run_steps(rt, alloc, threads, program.as_slice(), seed, listing, shelf),
-        Err(TextStop::Fault(fault)) => refuse(alloc, fault, listing),
+    match read_program(session.alloc, text.as_slice()) {
+        Ok(program) => run_steps(session, program.as_slice(), listing, shelf),
+        Err(TextStop::Fault(fault)) => refuse(session.alloc, fault, listing),
         Err(TextStop::NoMemory) => Err(Stop::NoMemory),
     }
 }
 
 /// Runs the steps of a program in order. The greatest of their statuses is the program's.
 fn run_steps<R: Threads + Sync, K: Sink, F: Shelf>(
-    rt: &R,
-    alloc: Global,
-    threads: u8,
+    session: &Session<'_, R>,
     steps: &[Step],
-    seed: u64,
     listing: &mut K,
     shelf: &mut F,
 ) -> Result<u8, Stop>
-    requires threads { AreThreads threads }
-    requires shelf { F.begun shelf.old ≡ false }
-    ensures status_range { IfOk result (λ status. status < 4) }
-    ensures output { Gives (program_output seed (Ok (map meaning_of steps.now)))
-        (world (K.written listing.old) (F.files shelf.old))
-        (world (K.written listing.new) (F.files shelf.new)) (exit_status result) }
-    ensures cause { HasCause (K.faults listing.old ∷ F.faults shelf.old ∷ [])
-        (K.faults listing.new ∷ F.faults shelf.new ∷ []) result }
-    ensures rooms { (K.room listing.new ≡ K.room listing.old)
-        × (F.room shelf.new ≡ F.room shelf.old) }
-    ensures closed { OnOk result (F.begun shelf.new ≡ false) }
+    requires { F.begun shelf.old ≡ false }
+    ensures { Writes (program_output session.now.seed (Ok (map meaning_of steps.now)))
+        (sink_view K.Sink listing.old) (sink_view K.Sink listing.new)
+        (shelf_view F.Shelf shelf.old) (shelf_view F.Shelf shelf.new) result }
 {
     let mut status = 0;
     for (i, step) in steps.iter().enumerate() {
-        let ended = run_step(rt, alloc, threads, i + 1, step, seed, listing, shelf)?;
+        let ended = run_step(session, i + 1, step, listing, shelf)?;
         status = worse(status, ended);
     }
     Ok(status)
@@ -192,31 +198,21 @@ fn run_steps<R: Threads + Sync, K: Sink, F: Shelf>(
 
 /// Runs the step of this number: shelves its books and its plans, and then lists its outcome.
 fn run_step<R: Threads + Sync, K: Sink, F: Shelf>(
-    rt: &R,
-    alloc: Global,
-    threads: u8,
+    session: &Session<'_, R>,
     number: usize,
     step: &Step,
-    seed: u64,
     listing: &mut K,
     shelf: &mut F,
 ) -> Result<u8, Stop>
-    requires threads { AreThreads threads }
-    requires shelf { F.begun shelf.old ≡ false }
-    ensures status_range { IfOk result (λ status. status < 4) }
-    ensures output { Gives (step_output seed number (meaning_of step.now))
-        (world (K.written listing.old) (F.files shelf.old))
-        (world (K.written listing.new) (F.files shelf.new)) (exit_status result) }
-    ensures cause { HasCause (K.faults listing.old ∷ F.faults shelf.old ∷ [])
-        (K.faults listing.new ∷ F.faults shelf.new ∷ []) result }
-    ensures rooms { (K.room listing.new ≡ K.room listing.old)
-        × (F.room shelf.new ≡ F.room shelf.old) }
-    ensures closed { OnOk result (F.begun shelf.new ≡ false) }
+    requires { F.begun shelf.old ≡ false }
+    ensures { Writes (step_output session.now.seed number (meaning_of step.now))
+        (sink_view K.Sink listing.old) (sink_view K.Sink listing.new)
+        (shelf_view F.Shelf shelf.old) (shelf_view F.Shelf shelf.new) result }
 {
-    let outcome = answer(rt, alloc, step, threads, &FreeGate)?;
-    shelve_files(rt, alloc, threads, number, step, &outcome, seed, shelf)?;
-    let mut lines = lines_of(alloc, number, step, &outcome)?;
-    put_output_lines(&mut lines, step, &outcome, seed)?;
+    let outcome = answer(session.rt, session.alloc, step, session.threads, &FreeGate)?;
+    shelve_files(session, number, step, &outcome, shelf)?;
+    let mut lines = lines_of(session.alloc, number, step, &outcome)?;
+    put_output_lines(&mut lines, step, &outcome, session.seed)?;
     list(listing, lines.as_slice(), status_of(outcome.end))
 }
 
@@ -246,18 +242,9 @@ fn lines_of(alloc: Global, number: usize, step: &Step, outcome: &Outcome) -> Res
 
 /// The command `check`: reads a book, and lists whether it is accepted.
 fn check<S: Source, K: Sink>(alloc: Global, source: &mut S, listing: &mut K) -> Result<u8, Stop>
-    ensures status_range { IfOk result (λ status. status < 4) }
-    ensures output { ChecksForSome (S.left source.old)
-        (K.written listing.old) (K.written listing.new) (exit_status result) }
-    ensures cause { HasCause (S.faults source.old ∷ K.faults listing.old ∷ [])
-        (S.faults source.new ∷ K.faults listing.new ∷ []) result }
-    ensures rooms { (S.sure source.new ≡ S.sure source.old)
-        × (K.room listing.new ≡ K.room listing.old) }
-    ensures read_to_end { (text : List ℕ)
-        → length text ≤ 268435456
-        → exit_status result < 3
-        → S.left source.old ≡ Some text
-        → S.left source.new ≡ Some [] }
+    ensures { (shelf : ShelfView) → shelf.begun ≡ false → IsCarriedOut (command_of Settings.Check)
+        (outside (source_view S.Source source.old) (sink_view K.Sink listing.old) shelf)
+        (outside (source_view S.Source source.new) (sink_view K.Sink listing.new) shelf) result }
 {
     match read_all(alloc, source, BOOK_LIMIT)? {
         Taken::Whole(text) => list_judgement(listing, judge(alloc, text)?),
@@ -268,22 +255,16 @@ fn check<S: Source, K: Sink>(alloc: Global, source: &mut S, listing: &mut K) -> 
 /// Lists the judgement of a text.
 fn list_judgement<K: Sink>(listing: &mut K, judgement: Judgement) -> Result<u8, Stop>
     requires { judgement.status < 4 }
-    ensures status { (result ≡ Ok judgement.status) ⊎ (result ≡ Err stop.Failed) }
-    ensures output { Lists (message judgement.lines judgement.status)
-        (K.written listing.old) (K.written listing.new) (exit_status result) }
-    ensures cause { HasCause (K.faults listing.old ∷ []) (K.faults listing.new ∷ []) result }
-    ensures room { K.room listing.new ≡ K.room listing.old }
+    ensures { Lists (message judgement.lines judgement.status)
+        (sink_view K.Sink listing.old) (sink_view K.Sink listing.new) result }
 {
     list(listing, judgement.lines.as_slice(), judgement.status)
 }
 
 /// The command `make`, for a text of so many steps.
 fn make<K: Sink>(alloc: Global, n: u8, listing: &mut K) -> Result<u8, Stop>
-    ensures made { (result ≡ Ok 0) ⊎ ((result ≡ Err stop.Failed) ⊎ (result ≡ Err stop.NoMemory)) }
-    ensures output { Lists (message (made_text n) 0)
-        (K.written listing.old) (K.written listing.new) (exit_status result) }
-    ensures cause { HasCause (K.faults listing.old ∷ []) (K.faults listing.new ∷ []) result }
-    ensures room { K.room listing.new ≡ K.room listing.old }
+    ensures { Lists (message (made_text n) 0)
+        (sink_view K.Sink listing.old) (sink_view K.Sink listing.new) result }
 {
     let mut text = Bytes::new(alloc);
     make_text(n, &mut text)?;
@@ -292,57 +273,42 @@ fn make<K: Sink>(alloc: Global, n: u8, listing: &mut K) -> Result<u8, Stop>
 
 /// The command `large`, for a text of so many steps: answers them in order, and lists their summary.
 fn large<R: Threads + Sync, K: Sink>(
-    rt: &R,
-    alloc: Global,
-    threads: u8,
+    session: &Session<'_, R>,
     n: u8,
     listing: &mut K,
 ) -> Result<u8, Stop>
-    requires { AreThreads threads }
-    ensures status_range { IfOk result (λ status. status < 4) }
-    ensures output { Lists (large_output (program_in (made_text n)))
-        (K.written listing.old) (K.written listing.new) (exit_status result) }
-    ensures cause { HasCause (K.faults listing.old ∷ []) (K.faults listing.new ∷ []) result }
-    ensures room { K.room listing.new ≡ K.room listing.old }
-    ensures none_at_all { exit_status result ≡ 1 → SomeHasNone (program_in (made_text n)) }
+    ensures { Lists (large_output (program_in (made_text n)))
+        (sink_view K.Sink listing.old) (sink_view K.Sink listing.new) result }
 {
-    let mut text = Bytes::new(alloc);
+    let mut text = Bytes::new(session.alloc);
     make_text(n, &mut text)?;
-    match read_program(alloc, text.as_slice()) {
-        Ok(program) => sum_up(rt, alloc, threads, program.as_slice(), listing),
-        Err(TextStop::Fault(fault)) => refuse(alloc, fault, listing),
+    match read_program(session.alloc, text.as_slice()) {
+        Ok(program) => sum_up(session, program.as_slice(), listing),
+        Err(TextStop::Fault(fault)) => refuse(session.alloc, fault, listing),
         Err(TextStop::NoMemory) => Err(Stop::NoMemory),
     }
 }
 
 /// Lists the summary of the steps of a program.
 fn sum_up<R: Threads + Sync, K: Sink>(
-    rt: &R,
-    alloc: Global,
-    threads: u8,
+    session: &Session<'_, R>,
     steps: &[Step],
     listing: &mut K,
 ) -> Result<u8, Stop>
-    requires { AreThreads threads }
-    ensures status_range { IfOk result (λ status. status < 4) }
-    ensures output { Lists (large_output (Ok (map meaning_of steps.now)))
-        (K.written listing.old) (K.written listing.new) (exit_status result) }
-    ensures cause { HasCause (K.faults listing.old ∷ []) (K.faults listing.new ∷ []) result }
-    ensures room { K.room listing.new ≡ K.room listing.old }
+    ensures { Lists (large_output (Ok (map meaning_of steps.now)))
+        (sink_view K.Sink listing.old) (sink_view K.Sink listing.new) result }
 {
-    let summary = summary_of(rt, alloc, steps, threads)?;
-    let mut lines = Bytes::new(alloc);
+    let summary = summary_of(session, steps)?;
+    let mut lines = Bytes::new(session.alloc);
     put_summary(&mut lines, steps.len(), &summary)?;
     list(listing, lines.as_slice(), summary.status)
 }
 
 /// Lists where the text is refused, and why.
 fn refuse<K: Sink>(alloc: Global, fault: TextFault, listing: &mut K) -> Result<u8, Stop>
-    ensures refused { (result ≡ Ok 3) ⊎ ((result ≡ Err stop.Failed) ⊎ (result ≡ Err stop.NoMemory)) }
+    ensures refused { IfOk result (λ status. status ≡ 3) }
     ensures output { (seed : ℕ) → Lists (program_output seed (Err fault))
-        (K.written listing.old) (K.written listing.new) (exit_status result) }
-    ensures cause { HasCause (K.faults listing.old ∷ []) (K.faults listing.new ∷ []) result }
-    ensures room { K.room listing.new ≡ K.room listing.old }
+        (sink_view K.Sink listing.old) (sink_view K.Sink listing.new) result }
 {
     let mut line = Bytes::new(alloc);
     put_fault(&mut line, fault)?;
@@ -354,9 +320,7 @@ fn list<K: Sink>(listing: &mut K, bytes: &[u8], status: u8) -> Result<u8, Stop>
     requires { status < 4 }
     ensures status { (result ≡ Ok status) ⊎ (result ≡ Err stop.Failed) }
     ensures output { Lists (message bytes.now status)
-        (K.written listing.old) (K.written listing.new) (exit_status result) }
-    ensures cause { HasCause (K.faults listing.old ∷ []) (K.faults listing.new ∷ []) result }
-    ensures room { K.room listing.new ≡ K.room listing.old }
+        (sink_view K.Sink listing.old) (sink_view K.Sink listing.new) result }
 {
     write_all(listing, bytes)?;
     Ok(status)

@@ -3,15 +3,14 @@ ghost use Rattle.fx_vectors.specs.Matrix.{MatrixView};
 ghost use Rattle.fx_statements.specs.Endings.{ending_by};
 ghost use Rattle.fx_statements.specs.Steps.{meaning_of};
 ghost use Rattle.fx_program.specs.Summaries.{counted, five_lines};
-ghost use Rattle.fx_program.specs.Words.{AreThreads};
 ghost use Rattle.fx_program.specs.Summed.{HasRoom, IsSummaryOf, with_ending};
 
+use crate::session::Session;
 use crate::status::{status_of, worse};
 use fx_answer::answer;
 use fx_base::{Bytes, NoMemory, put, put_number};
 use fx_board::FreeGate;
 use fx_statements::{End, Step};
-use std::alloc::Global;
 use std::thread::Threads;
 
 /// How the steps of a program end.
@@ -31,12 +30,9 @@ pub struct Summary {
 
 /// The summary of the steps of a program, which are answered one after another.
 pub(crate) fn summary_of<R: Threads + Sync>(
-    rt: &R,
-    alloc: Global,
+    session: &Session<'_, R>,
     steps: &[Step],
-    threads: u8,
 ) -> Result<Summary, NoMemory>
-    requires { AreThreads threads }
     ensures summary { IfOk result (IsSummaryOf (map meaning_of steps.now)) }
     ensures low { IfOk result (λ summary. summary.status < 4) }
 {
@@ -48,7 +44,7 @@ pub(crate) fn summary_of<R: Threads + Sync>(
         status: 0,
     };
     for step in steps {
-        let outcome = answer(rt, alloc, step, threads, &FreeGate)?;
+        let outcome = answer(session.rt, session.alloc, step, session.threads, &FreeGate)?;
         summary = with_ending(summary, outcome.end, outcome.nodes);
     }
     Ok(summary)

@@ -2,7 +2,7 @@ ghost use Rattle.std.specs.Prelude.{◌≡◌, ◌≤◌, ◌+◌, ◌++◌, cod
 ghost use Rattle.std.specs.List.{list_all};
 ghost use Rattle.std.specs.Str.{bytes_eq};
 ghost use Rattle.fx_lexer.specs.Bytes.{is_digit};
-ghost use Rattle.fx_program.specs.Words.{
+ghost use Rattle.fx_program.specs.CommandLine.{
   AreThreads,
   HasThreads,
   after,

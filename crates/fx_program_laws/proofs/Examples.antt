@@ -30,15 +30,17 @@ use Rattle.fx_answer.specs.Books.{finished}
 use Rattle.fx_alias.specs.Sections.{step_lines}
 use Rattle.fx_book.specs.Heads.{book_of}
 use Rattle.fx_checker.specs.Books.{first_flaw}
-use Rattle.fx_program.specs.Words.{settings_of, word_fault}
+use Rattle.fx_program.specs.CommandLine.{settings_of, word_fault}
 use Rattle.fx_program.specs.declared.words.Settings.TheVariants.{Run, Make, Large}
-use Rattle.fx_program.specs.Refusals.{fault_line}
+use Rattle.fx_program.specs.Messages.{fault_line}
 use Rattle.fx_program.specs.Texts.{program_in, at_front}
 use Rattle.fx_program.specs.declared.text.TextFault.TheVariants.{Refused}
 use Rattle.fx_designs.specs.Outcomes.{Design, NoDesign, BudgetEnded}
 use Rattle.fx_program.specs.Making.{made_text, step_text}
 use Rattle.fx_program.specs.Summaries.{summary_lines}
-use Rattle.fx_program.specs.Output.{Output, message, output_of, Gives, GivesForSome, world}
+use Rattle.fx_program.specs.Commands.{command_in, output_of}
+use Rattle.fx_program.specs.Output.{Output, message, Gives, world}
+use Rattle.fx_program.specs.Outside.{GivesForSome}
 
 -- what is given for the word `run` and a text
 given : List ℕ → Output
@@ -332,12 +334,14 @@ whole_output = record {
 }
 
 -- where the source exposes its text, the output is that of this text, and of no other
-own_text : (left : List ℕ) (old new : World) (status : ℕ) (some : GivesForSome (codes "run" ∷ []) (Some left) old new status) → left ≡ some.text
+own_text : (left : List ℕ) (old new : World) (status : ℕ)
+    (some : GivesForSome (command_in (codes "run" ∷ [])) (Some left) old new status) → left ≡ some.text
 unfolding settings_of
 own_text left old new status some = some.exposed refl left refl
 
 -- a source without a text, of which nothing is listed; and one that exposes nothing
-empty_source : (left : Option (List ℕ)) → ((known : List ℕ) → left ≡ Some known → known ≡ []) → GivesForSome (codes "run" ∷ []) left (world (Some []) None) (world (Some []) None) 0
+empty_source : (left : Option (List ℕ)) → ((known : List ℕ) → left ≡ Some known → known ≡ [])
+    → GivesForSome (command_in (codes "run" ∷ [])) left (world (Some []) None) (world (Some []) None) 0
 unfolding given
 empty_source left none = record {
   text = [];

@@ -33,9 +33,10 @@ use Rattle.fx_answer.specs.Books.{book_at, books_from, books_of, finished, finis
 use Rattle.fx_answer.specs.ValidSteps.{CanBeSought, IsValidStep}
 use Rattle.fx_answer.proofs.Valid.{least_valid, requirement_valid, shape_valid, some_numbers}
 use Rattle.fx_program_laws.specs.BookClaims.{HasAcceptedBooks, IsAcceptedBook}
-use Rattle.fx_program.specs.Output.{message, output_of, verdict_output}
+use Rattle.fx_program.specs.Commands.{output_of}
+use Rattle.fx_program.specs.Output.{message, verdict_output}
 use Rattle.fx_program.specs.Verdicts.{verdict_lines, verdict_status}
-use Rattle.fx_program.specs.Words.{settings_of}
+use Rattle.fx_program.specs.CommandLine.{settings_of}
 use Rattle.fx_program_laws.proofs.BookLengths.{book_short}
 use Rattle.fx_program_laws.proofs.ValidBooks as books
 

@@ -15,7 +15,7 @@ use Rattle.fx_statements.specs.Steps.{Meaning}
 use Rattle.fx_statements.specs.Programs.{program_of}
 use Rattle.fx_statements.proofs.Placed as placed
 use Rattle.fx_program.specs.Texts.{at_front, or_refused, program_by, program_in}
-use Rattle.fx_program.specs.Refusals.{reasons, lexical_reasons, has_row, HasItsMessage}
+use Rattle.fx_program.specs.Messages.{reasons, lexical_reasons, has_row, HasItsMessage}
 
 -- each number from 1 to this one has a row
 abbrev all_rows : List (ℕ × List ℕ) → ℕ → Bool

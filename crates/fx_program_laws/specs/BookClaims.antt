@@ -12,7 +12,8 @@ use Rattle.fx_statements.specs.Steps.{Meaning}
 use Rattle.fx_book.specs.QuestionBooks.{book_for}
 use Rattle.fx_answer.specs.Books.{books_of}
 use Rattle.fx_program.specs.Files.{book_name}
-use Rattle.fx_program.specs.Output.{message, output_of, step_output}
+use Rattle.fx_program.specs.Commands.{output_of}
+use Rattle.fx_program.specs.Output.{message, step_output}
 use Rattle.fx_program.specs.Verdicts.{verdict_lines}
 
 -- a book that is read from its text as it is, and that the command `check` accepts, with status 0

@@ -1,6 +1,6 @@
 ghost use Rattle.std.specs.Prelude.{◌≡◌, ◌↔◌, ◌<◌, ◌≤◌, List, ℕ, Ok, IfErr, true, false, length, All};
 ghost use Rattle.std.specs.List.{IsDistinct};
-ghost use Rattle.fx_program.specs.Refusals.{HasItsMessage};
+ghost use Rattle.fx_program.specs.Messages.{HasItsMessage};
 ghost use Rattle.fx_designs.specs.Matrices.{NoneMeets};
 ghost use Rattle.fx_designs.specs.Problems.{Dimensions, Problem};
 ghost use Rattle.fx_laws.specs.First.{IsFirstDesign};
@@ -14,7 +14,8 @@ ghost use Rattle.fx_program.specs.Files.{names_among};
 ghost use Rattle.fx_program.specs.Texts.{program_in};
 ghost use Rattle.fx_designs.specs.Outcomes.{Design, NoDesign};
 ghost use Rattle.fx_program.specs.declared.words.Settings.TheVariants.{Large, Run};
-ghost use Rattle.fx_program.specs.Output.{ending_given, output_for, program_output, step_output};
+ghost use Rattle.fx_program.specs.Commands.{output_for};
+ghost use Rattle.fx_program.specs.Output.{ending_given, program_output, step_output};
 ghost use Rattle.fx_jobs.specs.Laws.{IsFirstOfLeastPattern};
 ghost use Rattle.fx_program.specs.StepClaims.{
   Allows,

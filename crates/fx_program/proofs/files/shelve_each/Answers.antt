@@ -1,30 +1,41 @@
-use Rattle.std.proofs.Common.{rules, ◌≡◌, ◌<◌, List, length, get_or, ap, subst, ◌∙◌}
-use Rattle.fx_base.specs.Acts.{Act, Shelves, ShelvesPart}
+use Rattle.std.proofs.Common.{rules, ◌≡◌, ◌<◌, ◌≤◌, List, ℕ, length, get_or, ap, ◌∙◌}
 use Rattle.fx_outputs.specs.declared.output.OutputSpec.{OutputSpec}
 use Rattle.fx_runs.specs.Runs.{design_of}
+use Rattle.fx_vectors.specs.Matrix.{MatrixView}
 use Rattle.fx_plan.specs.Tables.{plan_of}
 use Rattle.fx_program.specs.Files.{file_name}
-use Rattle.fx_program.proofs.Filing.{next_acts, shelved_in, shelved_more, shelved_so_far}
+use Rattle.fx_program.proofs.Filing.{shelved_each, shelved_more, shelved_none, stopped_before, stopped_in}
 use Rattle.fx_program.proofs.files.shelve_each.Goals as goal
 
-pub returns-in_err-content-clause-part : goal.returns-in_err-content-clause-part
-returns-in_err-content-clause-part g c =
-    shelved_so_far (λ (o : OutputSpec). file_name o.name) (λ (o : OutputSpec). plan_of c.args.step.now.factors (design_of c.args.matrix.now) o c.args.seed)
-    c.args.step.now.outputs c.loop-output.output-index c.loop-output.invariant.3
+-- the name and the content of the file of a plan
+abbrev name : OutputSpec → List ℕ
+name output = file_name output.name
 
-pub returns-in_err-shelve-clause-part : goal.returns-in_err-shelve-clause-part
-returns-in_err-shelve-clause-part g c =
+abbrev content : List (List ℕ) → MatrixView → ℕ → OutputSpec → List ℕ
+content factors matrix seed output = plan_of factors (design_of matrix) output seed
+
+pub loop-output-init : goal.loop-output-init
+loop-output-init g c = shelved_none _ c.requires.ended
+
+pub returns-in_err-content : goal.returns-in_err-content
+returns-in_err-content g c =
+    stopped_before name (content c.args.step.now.factors c.args.matrix.now c.args.session.now.seed)
+    c.args.step.now.outputs c.loop-output.output-index c.loop-output.invariant
+    c.from_residual.result c.from_residual.ensures.1
+
+pub returns-in_err-shelve : goal.returns-in_err-shelve
+returns-in_err-shelve g c =
     let outputs = c.args.step.now.outputs in
     let item = c.output-item.result in
     let is : item ≡ get_or outputs c.loop-output.output-index item = search rules in
     let more : c.loop-output.output-index < length outputs = search rules in
     let named = c.as_slice-in-loop-output.ensures.value ∙ c.file_name-name.ensures ∙ ap file_name c.as_slice.ensures in
     let filled = c.as_slice-in-loop-output-2.ensures ∙ c.in_ok-content.ensures in
-    let same = next_acts (λ (o : OutputSpec). file_name o.name) (λ (o : OutputSpec). plan_of c.args.step.now.factors (design_of c.args.matrix.now) o c.args.seed)
-    outputs c.loop-output.output-index item c.as_slice-in-loop-output.result.now c.as_slice-in-loop-output-2.result.now is named filled in
-    shelved_in (λ (o : OutputSpec). file_name o.name) (λ (o : OutputSpec). plan_of c.args.step.now.factors (design_of c.args.matrix.now) o c.args.seed)
-    outputs c.loop-output.output-index item more c.loop-output.invariant.3
-    (subst (λ (l : List Act). ShelvesPart (g.F.Shelf.files c.loop-output.shelf) (g.F.Shelf.files c.shelve.new.shelf) l) same c.in_err-shelve.ensures.part)
+    stopped_in name (content c.args.step.now.factors c.args.matrix.now c.args.session.now.seed)
+    outputs c.loop-output.output-index item is _ _ named filled
+    more c.loop-output.invariant c.in_err-shelve.ensures.unchanged
+    c.in_err-shelve.ensures.part c.in_err-shelve.ensures.cause.failed
+    c.from_residual-in_err-shelve.result c.from_residual-in_err-shelve.ensures.1
 
 pub loop-output-preserved : goal.loop-output-preserved
 loop-output-preserved g c =
@@ -34,17 +45,13 @@ loop-output-preserved g c =
     let more : c.loop-output.output-index < length outputs = search rules in
     let named = c.as_slice-in-loop-output.ensures.value ∙ c.file_name-name.ensures ∙ ap file_name c.as_slice.ensures in
     let filled = c.as_slice-in-loop-output-2.ensures ∙ c.in_ok-content.ensures in
-    let same = next_acts (λ (o : OutputSpec). file_name o.name) (λ (o : OutputSpec). plan_of c.args.step.now.factors (design_of c.args.matrix.now) o c.args.seed)
-    outputs c.loop-output.output-index item c.as_slice-in-loop-output.result.now c.as_slice-in-loop-output-2.result.now is named filled in (
-      c.in_ok-shelve.ensures.state,
-      c.in_ok-shelve.ensures.cause.unchanged ∙ c.loop-output.invariant.1,
-      c.in_ok-shelve.ensures.unchanged ∙ c.loop-output.invariant.2,
-      shelved_more (λ (o : OutputSpec). file_name o.name) (λ (o : OutputSpec). plan_of c.args.step.now.factors (design_of c.args.matrix.now) o c.args.seed)
-          outputs c.loop-output.output-index item more c.loop-output.invariant.3
-          (subst (λ (l : List Act). Shelves (g.F.Shelf.files c.loop-output.shelf) (g.F.Shelf.files c.shelve.new.shelf) l) same c.in_ok-shelve.ensures.done),
-    )
+    shelved_more name (content c.args.step.now.factors c.args.matrix.now c.args.session.now.seed)
+    outputs c.loop-output.output-index item is _ _ named filled
+    more c.loop-output.invariant c.in_ok-shelve.ensures.unchanged
+    c.in_ok-shelve.ensures.done c.in_ok-shelve.ensures.state c.in_ok-shelve.ensures.cause.unchanged
 
-pub returns-clause-part : goal.returns-clause-part
-returns-clause-part g c =
-    shelved_so_far (λ (o : OutputSpec). file_name o.name) (λ (o : OutputSpec). plan_of c.args.step.now.factors (design_of c.args.matrix.now) o c.args.seed)
-    c.args.step.now.outputs c.loop-output.output-index c.loop-output.invariant.3
+pub returns : goal.returns
+returns g c =
+    let past : length c.args.step.now.outputs ≤ c.loop-output.output-index = search rules in
+    shelved_each name (content c.args.step.now.factors c.args.matrix.now c.args.session.now.seed)
+    c.args.step.now.outputs c.loop-output.output-index _ past c.loop-output.invariant

@@ -1,12 +1,10 @@
-use Rattle.std.proofs.lemmas.Result.{on_ok_weaker}
-use Rattle.fx_program.proofs.Filing.{shelved_both, shelved_part_first, shelved_part_second}
+use Rattle.fx_program.proofs.Filing.{shelved_both, stopped_in_first}
 use Rattle.fx_program.proofs.files.shelve_files.Goals as goal
 
-pub returns-in_err-shelve_books-clause-part : goal.returns-in_err-shelve_books-clause-part
-returns-in_err-shelve_books-clause-part g c = shelved_part_first _ _ c.in_err-shelve_books.ensures.part
+pub returns-in_err-shelve_books : goal.returns-in_err-shelve_books
+returns-in_err-shelve_books g c =
+    stopped_in_first _ c.in_err-shelve_books.field-0.0 c.in_err-shelve_books.ensures
+    c.from_residual.result c.from_residual.ensures.1
 
-pub returns-clause-done : goal.returns-clause-done
-returns-clause-done g c = on_ok_weaker c.shelve_plans.result (λ done. shelved_both _ _ c.in_ok-shelve_books.ensures.done done) c.shelve_plans.ensures.done
-
-pub returns-clause-part : goal.returns-clause-part
-returns-clause-part g c = shelved_part_second _ _ c.in_ok-shelve_books.ensures.done c.shelve_plans.ensures.part
+pub returns : goal.returns
+returns g c = shelved_both _ c.in_ok-shelve_books.ensures c.shelve_plans.ensures

@@ -1,6 +1,6 @@
 use Rattle.std.proofs.Common.{◌≡◌, map, drop}
 use Rattle.fx_program.specs.Reasons.{row_of}
-use Rattle.fx_program.specs.Refusals.{listed_at}
+use Rattle.fx_program.specs.Messages.{listed_at}
 use Rattle.fx_program.proofs.refusal.listed_at.Given as goal
 
 abbrev pub invariant-loop-reason : goal.invariant-loop-reason

@@ -1,5 +1,5 @@
 use Rattle.std.proofs.Common.{◌≡◌, ◌+◌, drop, Ok, IfSome}
-use Rattle.fx_program.specs.Words.{AreThreads, bytes_of, count_of, options_behind, options_in}
+use Rattle.fx_program.specs.CommandLine.{AreThreads, bytes_of, count_of, options_behind, options_in}
 use Rattle.fx_program.proofs.words.options_in.Given as goal
 
 abbrev pub invariant-loop-word : goal.invariant-loop-word

@@ -1,5 +1,5 @@
 use Rattle.std.proofs.Common.{map, sym, ap, ◌∙◌}
-use Rattle.fx_program.specs.Words.{command_with}
+use Rattle.fx_program.specs.CommandLine.{command_with}
 use Rattle.fx_program.proofs.Wording.{no_word, some_words}
 use Rattle.fx_program.proofs.words.read_words.Goals as goal
 

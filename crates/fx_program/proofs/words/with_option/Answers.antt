@@ -1,5 +1,4 @@
-use Rattle.std.proofs.Common.{◌≡◌, ◌+◌, ◌∙◌, refl, sym, ap}
-use Rattle.fx_program.specs.Words.{count_of}
+use Rattle.std.proofs.Common.{◌∙◌, sym}
 use Rattle.fx_program.proofs.GivenOptions.{few, had_none, one_more, one_more_seed}
 use Rattle.fx_program.proofs.words.with_option.Goals as goal
 

@@ -144,12 +144,11 @@ settings_of (word ∷ options) = command_with word options
 abbrev pub AreThreads : ℕ → Type 0
 AreThreads n = (0 < n) × (n ≤ 64)
 
--- the settings have so many
+-- a command that searches has so many
 abbrev pub HasThreads : Settings → Type 0
 HasThreads (Run threads seed) = AreThreads threads
-HasThreads Check = Unit {0}
-HasThreads (Make n) = Unit {0}
 HasThreads (Large n threads) = AreThreads threads
+HasThreads _ = Unit {0}
 
 -- the line that tells the fault: its code, and at which word
 abbrev pub word_line : WordFault → List ℕ

@@ -1,0 +1,159 @@
+-- How a command ends: what was read, what was given, and what its status says.
+use Rattle.std.proofs.Common.{ℕ, ◌≡◌, ◌<◌, ◌≤◌, ◌∷◌, ◌∙◌, List, Option, Some, Result, Ok, Err, false, true, refl, sym, subst, arith, [], ap, inl, length}
+use Rattle.std.specs.Prelude.{IfOk, IsErrAnd, nat_le, unwrap_or}
+use Rattle.std.proofs.lemmas.Bool.{false≢true, lt-leb}
+use Rattle.fx_base.specs.Reading.{HasReadCause, IsAllLeft, IsOverLimit}
+use Rattle.fx_base.specs.declared.reading.ReadStop.{ReadStop}
+use Rattle.fx_base.specs.declared.reading.ReadStop.TheVariants as read
+use Rattle.fx_base.specs.Acts.{acts}
+use Rattle.fx_base.proofs.Doing.{part_none}
+use Rattle.fx_program.specs.declared.stop.Stop.{Stop}
+use Rattle.fx_program.specs.declared.words.Settings.{Settings}
+use Rattle.fx_program.specs.declared.words.Settings.TheVariants.{Run, Large}
+use Rattle.fx_program.specs.declared.words.WordFault.{WordFault}
+use Rattle.fx_program.specs.Stops.{HasCause, exit_status, stop_of}
+use Rattle.fx_program.specs.Making.{made_text}
+use Rattle.fx_program.specs.Texts.{program_in}
+use Rattle.fx_program.specs.Claims.{SomeHasNone}
+use Rattle.fx_program.specs.Output.{Output}
+use Rattle.fx_program.specs.Commands.{Command, command_for, unread}
+use Rattle.fx_program.specs.Outside.{Ends, GivesForSome, IsCarriedOut, Outside, ShelfView, SinkView, SourceView, faults_of, outside, world_of}
+use Rattle.fx_program.proofs.Endings.{error_is, gives_part, stopped_high}
+use Rattle.fx_program.proofs.Limits.{is_over_limit, over_limit, same_over_limit}
+use Rattle.fx_program.proofs.Statuses.{none_where_one}
+use Rattle.fx_program.proofs.Summing.{large_status}
+
+-- a stop is above the statuses of steps and of books
+stopped_above : (ended : Result ℕ Stop) (why : Stop) → IsErrAnd ended (λ e. e ≡ why) → 4 ≤ exit_status ended
+stopped_above ended why h = subst (λ (r : Result ℕ Stop). 4 ≤ exit_status r) (error_is ended why h) (stopped_high why)
+
+-- a refusal has another status than steps and books
+pub never_low : (ended : Result ℕ Stop) → IfOk ended (λ status. status ≡ 3) → exit_status ended < 3 → ⊥
+never_low (Ok status) refused low = omega (arith, refused, low)
+never_low (Err why) refused low = omega (arith, low, stopped_high why)
+
+-- a command that leaves the source unread
+pub unread_done : {output : Output} {program : Option (List ℕ)} {old new : Outside} {ended : Result ℕ Stop}
+    → Ends output old new ended
+    → IsCarriedOut (unread output program) old new ended
+unread_done ends = record {
+  text = [];
+  exposed = λ read. absurd (false≢true read);
+  ends = ends;
+  read_to_end = λ low known read. absurd (false≢true read);
+}
+
+-- the cause where reading failed
+read_cause : (why : ReadStop) (before now : ℕ) (others : List ℕ) → HasReadCause before now (Err why)
+    → HasCause {T = ℕ} (before ∷ others) (now ∷ others) (Err (stop_of why))
+read_cause read.NoMemory before now others same = record {
+  failed = λ e. absurd (cc e);
+  unchanged = λ e. ap (λ n. n ∷ others) same;
+}
+read_cause read.ReadFault before now others rose = record {
+  failed = λ e. inl rose.0;
+  unchanged = λ other. absurd (other refl);
+}
+
+module _ (command : Command) {old new : SourceView} (sure : new.sure ≡ old.sure) where
+  pub read_failed : (why : ReadStop) (listing : SinkView) (shelf : ShelfView) (ended : Result ℕ Stop)
+      → IsErrAnd ended (λ e. e ≡ stop_of why)
+      → HasReadCause old.faults new.faults (Err why)
+      → IsCarriedOut command (outside old listing shelf) (outside new listing shelf) ended
+  read_failed why listing shelf ended h cause =
+      let text : List ℕ = unwrap_or old.left [] in
+      let output : Output = command.output text in
+      record {
+        text = text;
+        exposed = λ read known e. sym (ap (λ (o : Option (List ℕ)). unwrap_or o []) e);
+        ends =
+            subst (Ends output (outside old listing shelf) (outside new listing shelf))
+            (error_is ended (stop_of why) h) (record {
+              low = tt;
+              gives = gives_part output (exit_status (Err (stop_of why))) (stopped_high (stop_of why))
+                  (part_none _ (acts output.events));
+              cause = read_cause why _ _ _ cause;
+              rooms = record { source = sure; listing = refl; shelf = refl };
+              closed = tt;
+            });
+        read_to_end = λ low. absurd (omega (arith, low, stopped_above ended (stop_of why) h));
+      }
+
+  -- a stage that follows on reading
+  module _ (same : new.faults ≡ old.faults) {before now : SinkView} {shelf after : ShelfView}
+      {ended : Result ℕ Stop} where
+    read_before : (output : Output) → Ends output (outside new before shelf) (outside new now after) ended
+        → Ends output (outside old before shelf) (outside new now after) ended
+    read_before output ends = record {
+      low = ends.low;
+      gives = ends.gives;
+      cause =
+          subst (λ n. HasCause (n ∷ before.faults ∷ shelf.faults ∷ []) (faults_of (outside new now after)) ended)
+          same ends.cause;
+      rooms = record { source = sure; listing = ends.rooms.listing; shelf = ends.rooms.shelf };
+      closed = ends.closed;
+    }
+
+    -- all was read
+    pub all_read : (limit : ℕ) (text : List ℕ) → IsAllLeft old.left new.left limit text
+        → Ends (command.output text) (outside new before shelf) (outside new now after) ended
+        → IsCarriedOut command (outside old before shelf) (outside new now after) ended
+    all_read limit text all ends = record {
+      text = text;
+      exposed = λ read known e. sym (all.all known e);
+      ends = read_before (command.output text) ends;
+      read_to_end = λ low known read e. all.end known e;
+    }
+
+    -- more than the limit was left
+    pub part_read : (limit : ℕ) → IsOverLimit old.left limit
+        → ((text : List ℕ) → limit < length text
+        → Ends (command.output text) (outside new before shelf) (outside new now after) ended)
+        → (exit_status ended < 3 → (text : List ℕ) → limit < length text → command.reads_all_of text ≡ false)
+        → IsCarriedOut command (outside old before shelf) (outside new now after) ended
+    part_read limit over ends part = record {
+      text = over_limit limit old.left;
+      exposed = λ read. same_over_limit limit old.left;
+      ends = read_before _ (ends (over_limit limit old.left) (is_over_limit limit old.left over));
+      read_to_end = λ low known read e. absurd (false≢true (sym (part low known (over.exposed known e)) ∙ read));
+    }
+
+-- a command reads to its end no text that is longer than it reads
+pub not_read : (limit : ℕ) (text : List ℕ) → limit < length text → nat_le (length text) limit ≡ false
+not_read limit text long = lt-leb (length text) limit long
+
+some_is : {A : Type 0} (x y : A) → Some x ≡ Some y → x ≡ y
+some_is x y e = cc e
+
+-- where what a command gives has status 1, some step of the program that it runs has no design at all
+none_given : (settings : Result Settings WordFault) (left : Option (List ℕ)) (text : List ℕ)
+    → ((command_for settings).reads ≡ true → (known : List ℕ) → left ≡ Some known → known ≡ text)
+    → ((command_for settings).output text).status ≡ 1
+    → (program : List ℕ) → (command_for settings).text_run left ≡ Some program → SomeHasNone (program_in program)
+none_given (Ok (Run threads seed)) left text exposed one program e =
+    subst (λ (t : List ℕ). SomeHasNone (program_in t)) (sym (exposed refl program e)) (none_where_one seed text one)
+none_given (Ok (Large n threads)) left text exposed one program e =
+    subst (λ (t : List ℕ). SomeHasNone (program_in t)) (some_is (made_text n) program e)
+    (none_where_one 0 (made_text n) (sym (large_status (program_in (made_text n))) ∙ one))
+none_given _ left text exposed one program e = absurd (cc e)
+
+module _ {asked settings : Result Settings WordFault} {old new : Outside} {ended : Result ℕ Stop}
+    (same : asked ≡ settings)
+    (done : IsCarriedOut (command_for asked) old new ended) where
+  carried_out : IsCarriedOut (command_for settings) old new ended
+  carried_out = subst (λ s. IsCarriedOut (command_for s) old new ended) same done
+
+  pub given : GivesForSome (command_for settings) old.source.left (world_of old) (world_of new) (exit_status ended)
+  given = record { text = carried_out.text; exposed = carried_out.exposed; gives = carried_out.ends.gives }
+
+  pub none_at_all : exit_status ended ≡ 1 → (program : List ℕ)
+      → (command_for settings).text_run old.source.left ≡ Some program
+      → SomeHasNone (program_in program)
+  none_at_all one =
+      none_given settings old.source.left carried_out.text carried_out.exposed
+      (sym (carried_out.ends.gives.same (omega (arith, one))) ∙ one)
+
+  pub read_to_end : exit_status ended < 3 → (text : List ℕ) → (command_for settings).reads_all_of text ≡ true
+      → old.source.left ≡ Some text
+      → new.source.left ≡ Some []
+  read_to_end = carried_out.read_to_end
