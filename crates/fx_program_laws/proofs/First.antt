@@ -9,7 +9,7 @@ use Rattle.fx_laws.specs.First.{IsFirstDesign}
 use Rattle.fx_laws.proofs.FirstDesign.{first-answer}
 use Rattle.fx_laws.proofs.Order.{each-all, each-map}
 use Rattle.fx_reduction.proofs.LeastPattern.{no_answer}
-use Rattle.fx_jobs.specs.Laws.{IsFirstOfLeastPattern}
+use Rattle.fx_tree.specs.Laws.{IsFirstOfLeastPattern}
 use Rattle.fx_statements.specs.Steps.{Meaning}
 use Rattle.fx_statements.specs.Questions.{Found, asked, concluded, found_by, last_found, last_of, lowest, nodes_of, outcome_of, question_for, questions_of}
 use Rattle.fx_statements.proofs.Concluded.{each_asked, within}

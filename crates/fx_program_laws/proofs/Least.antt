@@ -7,7 +7,7 @@ use Rattle.fx_designs.specs.Patterns.{pattern_of, is_less}
 use Rattle.fx_designs.specs.Answers.{answer, designs, is_design, is_of_least_pattern, prefixes}
 use Rattle.fx_laws.proofs.FirstDesign.{there}
 use Rattle.fx_laws.proofs.Order.{IsIn, first_found, lists-sorted}
-use Rattle.fx_jobs.specs.Laws.{IsFirstOfLeastPattern}
+use Rattle.fx_tree.specs.Laws.{IsFirstOfLeastPattern}
 
 -- a search among those that pass a test
 find-both : (E D : List ℕ → Bool) (xs : List (List ℕ)) → find E (filter D xs) ≡ find (λ x. D x && E x) xs

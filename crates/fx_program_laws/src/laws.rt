@@ -16,7 +16,7 @@ ghost use Rattle.fx_designs.specs.Outcomes.{Design, NoDesign};
 ghost use Rattle.fx_program.specs.declared.words.Settings.TheVariants.{Large, Run};
 ghost use Rattle.fx_program.specs.Commands.{output_for};
 ghost use Rattle.fx_program.specs.Output.{ending_given, program_output, step_output};
-ghost use Rattle.fx_jobs.specs.Laws.{IsFirstOfLeastPattern};
+ghost use Rattle.fx_tree.specs.Laws.{IsFirstOfLeastPattern};
 ghost use Rattle.fx_program.specs.StepClaims.{
   Allows,
   HasHighestOfAll,

@@ -1,8 +1,8 @@
 use Rattle.std.proofs.Common.{◌≡◌, Bool, true, false, Some, None, refl}
 use Rattle.fx_designs.specs.Answers.{is_design}
 use Rattle.fx_laws.proofs.Tables.{is_order-field}
-use Rattle.fx_jobs.proofs.Firsts.{answer-is-first}
-use Rattle.fx_jobs.proofs.laws.least_answer_is_the_first_of_least_pattern.Goals as goal
+use Rattle.fx_tree.proofs.Firsts.{answer-is-first}
+use Rattle.fx_tree.proofs.laws.least_answer_is_the_first_of_least_pattern.Goals as goal
 
 pub returns-clause-there : goal.returns-clause-there
 returns-clause-there c p rows known some least is =

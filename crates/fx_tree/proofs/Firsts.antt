@@ -11,11 +11,11 @@ use Rattle.fx_laws.specs.Trees.{tree_of, is_tree_design}
 use Rattle.fx_laws.proofs.Order.{Sorted, IsIn, first_found, none_found, lists-sorted, before-not, each_in}
 use Rattle.fx_reduction.proofs.Prefix.{met-prefix}
 use Rattle.fx_designs.specs.Jobs.{first_least, best_of}
-use Rattle.fx_jobs.specs.Ranked.{Ranked, IsRanked, IsFirstLeast}
-use Rattle.fx_jobs.specs.Search.{ranked}
-use Rattle.fx_jobs.proofs.Best.{clash, same_tests}
-use Rattle.fx_jobs.proofs.Branches.{design-in}
-use Rattle.fx_jobs.proofs.Patterns.{is-ranked}
+use Rattle.fx_tree.specs.Ranked.{Ranked, IsRanked, IsFirstLeast}
+use Rattle.fx_tree.specs.Search.{ranked}
+use Rattle.fx_tree.proofs.Best.{clash, same_tests}
+use Rattle.fx_tree.proofs.Branches.{design-in}
+use Rattle.fx_tree.proofs.Patterns.{is-ranked}
 
 pub find-both : (C Q : List ℕ → Bool) (xs : List (List ℕ)) → find Q (filter C xs) ≡ find (λ y. C y && Q y) xs
 find-both C Q [] = refl

@@ -16,10 +16,10 @@ use Rattle.std.specs.List.{range_with_len}
 use Rattle.std.proofs.lemmas.List.{length-map}
 use Rattle.std.proofs.lemmas.List.FromFn.{length-range_with_len}
 use Rattle.fx_tree.proofs.Nodes.{is-tree}
-use Rattle.fx_jobs.specs.Ranked.{IsRanked, counts_for}
-use Rattle.fx_jobs.specs.Search.{ranked}
-use Rattle.fx_jobs.proofs.Best.{clash}
-use Rattle.fx_jobs.proofs.Place.{extends-not_before, take-same}
+use Rattle.fx_tree.specs.Ranked.{IsRanked, counts_for}
+use Rattle.fx_tree.specs.Search.{ranked}
+use Rattle.fx_tree.proofs.Best.{clash}
+use Rattle.fx_tree.proofs.Place.{extends-not_before, take-same}
 
 pattern-length : (d : Dimensions) (rows : List ℕ) → length (pattern_of d rows) ≡ d.s
 unfolding pattern_of

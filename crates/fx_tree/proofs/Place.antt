@@ -8,7 +8,7 @@ use Rattle.fx_designs.specs.Answers.{falling, before}
 use Rattle.fx_laws.specs.Trees.{is_tree_design, children_of}
 use Rattle.fx_laws.proofs.Candidates.{closed-append}
 use Rattle.fx_laws.proofs.Order.{before-trans}
-use Rattle.fx_jobs.specs.Ranked.{Ranked, IsRanked, counts_for, extends, is_counted, is_counted_through}
+use Rattle.fx_tree.specs.Ranked.{Ranked, IsRanked, counts_for, extends, is_counted, is_counted_through}
 
 pub same-self : (p : List ℕ) → same p p ≡ true
 same-self [] = refl

@@ -5,11 +5,11 @@ use Rattle.std.proofs.lemmas.Bool.{cases_Bool, and_parts, or_left, or_right, or_
 use Rattle.std.proofs.lemmas.List.{take_more}
 use Rattle.fx_designs.specs.Answers.{before}
 use Rattle.fx_laws.specs.Trees.{children_of, is_tree_design}
-use Rattle.fx_jobs.specs.Ranked.{Ranked, IsRanked, IsFirstLeast, IsPartBest, better, extends, counts_for, is_counted, is_counted_through}
-use Rattle.fx_jobs.proofs.Best.{clash, same_tests, joins, joins_both}
-use Rattle.fx_jobs.proofs.Branches.{so_far}
-use Rattle.fx_jobs.proofs.Lots.{job_seen}
-use Rattle.fx_jobs.proofs.Place.{split_of, extends-less, before-longer, before-shift, goes_on, child_of, falling-any, any-never}
+use Rattle.fx_tree.specs.Ranked.{Ranked, IsRanked, IsFirstLeast, IsPartBest, better, extends, counts_for, is_counted, is_counted_through}
+use Rattle.fx_tree.proofs.Best.{clash, same_tests, joins, joins_both}
+use Rattle.fx_tree.proofs.Branches.{so_far}
+use Rattle.fx_tree.proofs.Lots.{job_seen}
+use Rattle.fx_tree.proofs.Place.{split_of, extends-less, before-longer, before-shift, goes_on, child_of, falling-any, any-never}
 
 module _ (x : Ranked) (law : IsRanked x) (p : List ℕ) (part : length p < x.tree.size) (at : length p ≡ x.lot) (i : ℕ) (low : i < length (children_of x.tree p)) where
   abbrev kids : List ℕ

@@ -6,8 +6,8 @@ use Rattle.fx_designs.specs.Galois.{IsField}
 use Rattle.fx_designs.specs.Problems.{Problem}
 use Rattle.fx_designs.specs.Demands.{is_allowed}
 use Rattle.fx_designs.specs.Nodes.{lot_of}
-use Rattle.fx_jobs.specs.Laws.{NodesOfJob}
-use Rattle.fx_jobs.proofs.Lot.{job-nodes}
+use Rattle.fx_tree.specs.Laws.{NodesOfJob}
+use Rattle.fx_tree.proofs.Lot.{job-nodes}
 
 pub nodes-of-job : (p : Problem) → IsField p.dimensions.q → NodesOfJob p
 nodes-of-job p f j job last =

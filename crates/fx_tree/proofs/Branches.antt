@@ -8,10 +8,10 @@ use Rattle.fx_designs.specs.Answers.{before}
 use Rattle.fx_laws.specs.Trees.{IsTree, is_tree_design, children_of, tree_prefixes}
 use Rattle.fx_laws.proofs.Candidates.{closed-append}
 use Rattle.fx_laws.proofs.Order.{before-self, IsIn, all_lists, each_in}
-use Rattle.fx_jobs.specs.Ranked.{Ranked, IsRanked, counts_for, is_ranked_branch, IsFirstLeast, IsPartBest, better, extends, is_counted, is_counted_through, branches, Wins, Loses}
-use Rattle.fx_jobs.proofs.Best.{joins, clash, same_tests}
-use Rattle.fx_jobs.proofs.Lots.{short_seen}
-use Rattle.fx_jobs.proofs.Place.{split_of, extends-append, before-longer, extends-not_before, take-same, all_children, child_seen, any-never}
+use Rattle.fx_tree.specs.Ranked.{Ranked, IsRanked, counts_for, is_ranked_branch, IsFirstLeast, IsPartBest, better, extends, is_counted, is_counted_through, branches, Wins, Loses}
+use Rattle.fx_tree.proofs.Best.{joins, clash, same_tests}
+use Rattle.fx_tree.proofs.Lots.{short_seen}
+use Rattle.fx_tree.proofs.Place.{split_of, extends-append, before-longer, extends-not_before, take-same, all_children, child_seen, any-never}
 
 any-none : {X : Type 0} (f : X → Bool) (xs : List X) → list_any f xs ≡ false → AllByRecursion (λ y. f y ≡ false) xs
 any-none f [] h = tt

@@ -16,20 +16,20 @@ use Rattle.fx_laws.specs.Walks.{through, is_candidate, subtree, mark_at}
 use Rattle.fx_laws.proofs.Order.{each-all, each_in}
 use Rattle.fx_laws.proofs.Candidates.{parent-append}
 use Rattle.fx_laws.proofs.Nodes.{filter_same, design-candidate}
-use Rattle.fx_jobs.proofs.Firsts.{find-both}
+use Rattle.fx_tree.proofs.Firsts.{find-both}
 use Rattle.fx_designs.specs.Jobs.{is_of_job, is_of_earlier_lot, excludes_inside, is_branch_inside, first_inside, is_node_inside, nodes_inside, mark_inside, marks_inside}
-use Rattle.fx_jobs.specs.Ranked.{extends}
-use Rattle.fx_jobs.specs.Search.{ranked, is_expanded, search_tree, search_mark}
-use Rattle.fx_jobs.specs.Inside.{is_own, is_branch_in, is_node_in, nodes_in}
-use Rattle.fx_jobs.proofs.Best.{clash}
-use Rattle.fx_jobs.proofs.Branches.{design-in}
-use Rattle.fx_jobs.proofs.Patterns.{is-ranked}
-use Rattle.fx_jobs.proofs.Place.{split_of, extends-append, any-same, any-never, same-self}
-use Rattle.fx_jobs.proofs.Lots.{Ranged}
-use Rattle.fx_jobs.proofs.Fronts.{front-extends, front-before, before-front, ranged-all}
-use Rattle.fx_jobs.proofs.Inside.{nodes_in_are, after_is}
-use Rattle.fx_jobs.proofs.Parts.{all-from}
-use Rattle.fx_jobs.proofs.SearchTree.{opens-least, opens-plain, mark-least, mark-plain, no-design, design-plain, walked-law}
+use Rattle.fx_tree.specs.Ranked.{extends}
+use Rattle.fx_tree.specs.Search.{ranked, is_expanded, search_tree, search_mark}
+use Rattle.fx_tree.specs.Inside.{is_own, is_branch_in, is_node_in, nodes_in}
+use Rattle.fx_tree.proofs.Best.{clash}
+use Rattle.fx_tree.proofs.Branches.{design-in}
+use Rattle.fx_tree.proofs.Patterns.{is-ranked}
+use Rattle.fx_tree.proofs.Place.{split_of, extends-append, any-same, any-never, same-self}
+use Rattle.fx_tree.proofs.Lots.{Ranged}
+use Rattle.fx_tree.proofs.Fronts.{front-extends, front-before, before-front, ranged-all}
+use Rattle.fx_tree.proofs.Inside.{nodes_in_are, after_is}
+use Rattle.fx_tree.proofs.Parts.{all-from}
+use Rattle.fx_tree.proofs.SearchTree.{opens-least, opens-plain, mark-least, mark-plain, no-design, design-plain, walked-law}
 
 find-same : (D E : List ℕ → Bool) → ((x : List ℕ) → D x ≡ E x) → (xs : List (List ℕ)) → find D xs ≡ find E xs
 find-same D E h [] = refl

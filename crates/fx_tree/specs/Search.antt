@@ -7,7 +7,7 @@ use Rattle.fx_designs.specs.Patterns.{pattern_of, is_less}
 use Rattle.fx_designs.specs.Nodes.{is_branch, mark_of, word_of, Mark}
 use Rattle.fx_laws.specs.Trees.{Tree, tree_of}
 use Rattle.fx_laws.specs.Walks.{mark_at}
-use Rattle.fx_jobs.specs.Ranked.{Ranked, IsFirstLeast}
+use Rattle.fx_tree.specs.Ranked.{Ranked, IsFirstLeast}
 
 -- the tree of a problem, with the patterns of its prefixes
 abbrev pub ranked : Problem → Ranked

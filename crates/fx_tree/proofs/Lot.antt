@@ -16,17 +16,17 @@ use Rattle.fx_laws.proofs.Candidates.{closed-append, under-step}
 use Rattle.fx_laws.proofs.Nodes.{filter_same, first_decides, design-candidate}
 use Rattle.fx_tree.proofs.Nodes.{answer-same}
 use Rattle.fx_designs.specs.Jobs.{is_of_job, nodes_inside, is_in_a_job, nodes_of_lot, first_of_lot}
-use Rattle.fx_jobs.specs.Ranked.{extends}
-use Rattle.fx_jobs.specs.Search.{ranked, is_expanded, search_tree}
-use Rattle.fx_jobs.proofs.Best.{clash}
-use Rattle.fx_jobs.proofs.Branches.{design-in}
-use Rattle.fx_jobs.proofs.Patterns.{is-ranked}
-use Rattle.fx_jobs.proofs.Lots.{Ranged}
-use Rattle.fx_jobs.proofs.Fronts.{front-extends, ranged-all}
-use Rattle.fx_jobs.proofs.Parts.{all-from, nodes-from, nodes-below}
-use Rattle.fx_jobs.proofs.Firsts.{find-both, find-same}
-use Rattle.fx_jobs.proofs.SearchTree.{opens-least, opens-plain, no-design, design-plain, walked-law, nodes-walked}
-use Rattle.fx_jobs.proofs.Jobs.{nodes-inside, job-ranged}
+use Rattle.fx_tree.specs.Ranked.{extends}
+use Rattle.fx_tree.specs.Search.{ranked, is_expanded, search_tree}
+use Rattle.fx_tree.proofs.Best.{clash}
+use Rattle.fx_tree.proofs.Branches.{design-in}
+use Rattle.fx_tree.proofs.Patterns.{is-ranked}
+use Rattle.fx_tree.proofs.Lots.{Ranged}
+use Rattle.fx_tree.proofs.Fronts.{front-extends, ranged-all}
+use Rattle.fx_tree.proofs.Parts.{all-from, nodes-from, nodes-below}
+use Rattle.fx_tree.proofs.Firsts.{find-both, find-same}
+use Rattle.fx_tree.proofs.SearchTree.{opens-least, opens-plain, no-design, design-plain, walked-law, nodes-walked}
+use Rattle.fx_tree.proofs.Jobs.{nodes-inside, job-ranged}
 
 none-each : (g : List ℕ → Bool) (xs : List (List ℕ)) → list_any g xs ≡ false → AllByRecursion (λ y. g y ≡ false) xs
 none-each g [] h = tt

@@ -5,7 +5,7 @@ use Rattle.fx_designs.specs.Vectors.{same}
 use Rattle.fx_designs.specs.Answers.{before}
 use Rattle.fx_designs.specs.Nodes.{parent, is_not_after}
 use Rattle.fx_laws.specs.Trees.{Tree, tree_prefixes, is_tree_design}
-use Rattle.fx_jobs.specs.Ranked.{extends}
+use Rattle.fx_tree.specs.Ranked.{extends}
 
 -- a design that begins with j
 abbrev pub is_own : Tree → List ℕ → List ℕ → Bool

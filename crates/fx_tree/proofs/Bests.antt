@@ -11,13 +11,13 @@ use Rattle.fx_designs.specs.Answers.{before}
 use Rattle.fx_designs.specs.Nodes.{lot_of}
 use Rattle.fx_laws.specs.Trees.{tree_of, is_tree_design}
 use Rattle.fx_designs.specs.Jobs.{is_of_job, is_of_earlier_lot, best_of, best_before, improves, improvement, best_inside}
-use Rattle.fx_jobs.specs.Ranked.{Ranked, IsRanked, IsFirstLeast, extends, counts_for, is_counted, is_counted_through}
-use Rattle.fx_jobs.specs.Search.{ranked}
-use Rattle.fx_jobs.proofs.Best.{clash, same_tests}
-use Rattle.fx_jobs.proofs.Patterns.{is-ranked}
-use Rattle.fx_jobs.proofs.Place.{split_of, before-longer, extends-not_before}
-use Rattle.fx_jobs.proofs.Fronts.{front-extends, front-before, before-front}
-use Rattle.fx_jobs.proofs.Firsts.{best-is, best-least}
+use Rattle.fx_tree.specs.Ranked.{Ranked, IsRanked, IsFirstLeast, extends, counts_for, is_counted, is_counted_through}
+use Rattle.fx_tree.specs.Search.{ranked}
+use Rattle.fx_tree.proofs.Best.{clash, same_tests}
+use Rattle.fx_tree.proofs.Patterns.{is-ranked}
+use Rattle.fx_tree.proofs.Place.{split_of, before-longer, extends-not_before}
+use Rattle.fx_tree.proofs.Fronts.{front-extends, front-before, before-front}
+use Rattle.fx_tree.proofs.Firsts.{best-is, best-least}
 
 module _ (p : Problem) (f : IsField p.dimensions.q) (some : 0 < p.dimensions.s + p.dimensions.t) (least : p.least ≡ true) where
   abbrev x : Ranked

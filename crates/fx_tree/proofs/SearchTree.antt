@@ -15,11 +15,11 @@ use Rattle.fx_laws.proofs.Through.{through-none}
 use Rattle.fx_laws.proofs.Nodes.{nodes_are, marks_are, filter_same}
 use Rattle.fx_laws.proofs.Order.{each-all}
 use Rattle.fx_tree.proofs.Nodes.{is-tree, nodes-same, marks-same}
-use Rattle.fx_jobs.specs.Ranked.{is_counted, is_ranked_branch}
-use Rattle.fx_jobs.specs.Search.{ranked, is_expanded, search_tree, search_mark}
-use Rattle.fx_jobs.proofs.Branches.{branches_law}
-use Rattle.fx_jobs.proofs.Place.{any-never, any-same}
-use Rattle.fx_jobs.proofs.Patterns.{is-ranked, counts-same}
+use Rattle.fx_tree.specs.Ranked.{is_counted, is_ranked_branch}
+use Rattle.fx_tree.specs.Search.{ranked, is_expanded, search_tree, search_mark}
+use Rattle.fx_tree.proofs.Branches.{branches_law}
+use Rattle.fx_tree.proofs.Place.{any-never, any-same}
+use Rattle.fx_tree.proofs.Patterns.{is-ranked, counts-same}
 
 and-regroup : (a b c : Bool) → (a && (b && c)) ≡ ((a && b) && c)
 and-regroup true b c = refl

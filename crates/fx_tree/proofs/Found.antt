@@ -8,12 +8,12 @@ use Rattle.fx_designs.specs.Canonical.{is_canonical}
 use Rattle.fx_designs.specs.Nodes.{is_branch, last_row, word_of, Mark, Branch, Word, Worse}
 use Rattle.fx_laws.specs.Trees.{tree_of, is_tree_design}
 use Rattle.fx_tree.proofs.Extensions.{last_is}
-use Rattle.fx_jobs.specs.Ranked.{Ranked, is_counted, is_counted_through, Wins, Loses}
-use Rattle.fx_jobs.specs.Search.{ranked, is_expanded, search_tree, search_mark, is_beaten, IsBestAt}
-use Rattle.fx_jobs.proofs.Best.{clash}
-use Rattle.fx_jobs.proofs.Branches.{wins_branch, loses_branch, barred_best, beaten_best, better_best}
-use Rattle.fx_jobs.proofs.Patterns.{is-ranked}
-use Rattle.fx_jobs.proofs.SearchTree.{opens-least, opens-plain, mark-least, mark-plain, branch-ranked, design-plain}
+use Rattle.fx_tree.specs.Ranked.{Ranked, is_counted, is_counted_through, Wins, Loses}
+use Rattle.fx_tree.specs.Search.{ranked, is_expanded, search_tree, search_mark, is_beaten, IsBestAt}
+use Rattle.fx_tree.proofs.Best.{clash}
+use Rattle.fx_tree.proofs.Branches.{wins_branch, loses_branch, barred_best, beaten_best, better_best}
+use Rattle.fx_tree.proofs.Patterns.{is-ranked}
+use Rattle.fx_tree.proofs.SearchTree.{opens-least, opens-plain, mark-least, mark-plain, branch-ranked, design-plain}
 use Rattle.std.proofs.Common.{length-append, slice_index, ◌-◌}
 
 last-row : (p : List ℕ) (r : ℕ) → last_row (p ++ r ∷ []) ≡ r

@@ -3,7 +3,7 @@ use Rattle.std.proofs.Common.{◌≡◌, ℕ, Bool, true, false, ◌||◌, List,
 use Rattle.std.proofs.lemmas.Bool.{cond-true, cond-false, cases_Bool, or_cases, or_left, or_right, false_from_ne_true}
 use Rattle.fx_designs.specs.Answers.{before}
 use Rattle.fx_laws.proofs.Order.{before-not}
-use Rattle.fx_jobs.specs.Ranked.{Ranked, IsRanked, IsFirstLeast, IsPartBest, better}
+use Rattle.fx_tree.specs.Ranked.{Ranked, IsRanked, IsFirstLeast, IsPartBest, better}
 
 pub clash : {A : Type 0} (b : Bool) → b ≡ true → b ≡ false → A
 clash b h k = let z = sym h ∙ k in cc z

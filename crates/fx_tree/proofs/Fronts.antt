@@ -4,8 +4,8 @@ use Rattle.std.specs.List.{list_all}
 use Rattle.std.proofs.lemmas.Bool.{cases_Bool, and_parts, and_right, eqb-true, ltb-true, le-ltb}
 use Rattle.fx_designs.specs.Vectors.{same}
 use Rattle.fx_designs.specs.Answers.{before}
-use Rattle.fx_jobs.specs.Ranked.{extends}
-use Rattle.fx_jobs.proofs.Lots.{Ranged}
+use Rattle.fx_tree.specs.Ranked.{extends}
+use Rattle.fx_tree.proofs.Lots.{Ranged}
 
 -- to have the first k rows of a list of k rows is to begin with it
 pub front-extends : (k : ℕ) (rows j : List ℕ) → length j ≡ k → same (take k rows) j ≡ extends rows j

@@ -10,10 +10,10 @@ use Rattle.fx_laws.specs.Walks.{through, is_candidate, under, subtree}
 use Rattle.fx_laws.proofs.Order.{each-map, each-weaker, nonempty, lists-sorted, lists-short, before-trans}
 use Rattle.fx_laws.proofs.Candidates.{closed-append, parent-append, under-none}
 use Rattle.fx_laws.proofs.Nodes.{first_decides, cut, filter_same, each-both, any-less, parent-before}
-use Rattle.fx_jobs.specs.Ranked.{extends}
-use Rattle.fx_jobs.specs.Inside.{is_own, is_branch_in, is_node_in, nodes_in}
-use Rattle.fx_jobs.proofs.Place.{same-self}
-use Rattle.fx_jobs.proofs.Lots.{Ranged, beginning}
+use Rattle.fx_tree.specs.Ranked.{extends}
+use Rattle.fx_tree.specs.Inside.{is_own, is_branch_in, is_node_in, nodes_in}
+use Rattle.fx_tree.proofs.Place.{same-self}
+use Rattle.fx_tree.proofs.Lots.{Ranged, beginning}
 
 pub filter-and : (a b : List ℕ → Bool) (xs : List (List ℕ)) → filter (λ p. a p && b p) xs ≡ filter b (filter a xs)
 filter-and a b [] = refl

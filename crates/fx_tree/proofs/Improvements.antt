@@ -5,12 +5,12 @@ use Rattle.fx_designs.specs.Galois.{IsField}
 use Rattle.fx_designs.specs.Problems.{Problem}
 use Rattle.fx_laws.specs.Trees.{tree_of, is_tree_design}
 use Rattle.fx_designs.specs.Jobs.{is_of_job, best_of, best_before, improvement, best_inside}
-use Rattle.fx_jobs.specs.Ranked.{Ranked, IsRanked, IsFirstLeast, IsPartBest, extends}
-use Rattle.fx_jobs.specs.Search.{ranked}
-use Rattle.fx_jobs.proofs.Best.{clash, same_tests}
-use Rattle.fx_jobs.proofs.Patterns.{is-ranked}
-use Rattle.fx_jobs.proofs.Fronts.{front-extends}
-use Rattle.fx_jobs.proofs.Firsts.{best-least}
+use Rattle.fx_tree.specs.Ranked.{Ranked, IsRanked, IsFirstLeast, IsPartBest, extends}
+use Rattle.fx_tree.specs.Search.{ranked}
+use Rattle.fx_tree.proofs.Best.{clash, same_tests}
+use Rattle.fx_tree.proofs.Patterns.{is-ranked}
+use Rattle.fx_tree.proofs.Fronts.{front-extends}
+use Rattle.fx_tree.proofs.Firsts.{best-least}
 
 module _ (p : Problem) (f : IsField p.dimensions.q) (some : 0 < p.dimensions.s + p.dimensions.t) (least : p.least ≡ true) (j : List ℕ) (job : length j ≡ p.dimensions.m + 2) where
   abbrev x : Ranked

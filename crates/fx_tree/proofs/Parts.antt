@@ -8,10 +8,10 @@ use Rattle.fx_laws.specs.Walks.{through, is_candidate, under, subtree}
 use Rattle.fx_laws.proofs.Order.{Sorted, each-map, each-weaker, each-all, nonempty, lists-sorted}
 use Rattle.fx_laws.proofs.Candidates.{under-none}
 use Rattle.fx_laws.proofs.Nodes.{cut, filter_same, some_before, design-candidate}
-use Rattle.fx_jobs.specs.Ranked.{extends}
-use Rattle.fx_jobs.proofs.Place.{split_of, before-apart, any-same}
-use Rattle.fx_jobs.proofs.Lots.{Ranged, beginning}
-use Rattle.fx_jobs.proofs.Inside.{filter-and, through-same}
+use Rattle.fx_tree.specs.Ranked.{extends}
+use Rattle.fx_tree.proofs.Place.{split_of, before-apart, any-same}
+use Rattle.fx_tree.proofs.Lots.{Ranged, beginning}
+use Rattle.fx_tree.proofs.Inside.{filter-and, through-same}
 
 pub filter-all : (E : List ℕ → Bool) (xs : List (List ℕ)) → AllByRecursion (λ y. E y ≡ true) xs → filter E xs ≡ xs
 filter-all E [] h = refl

@@ -1,4 +1,0 @@
-pub mod Ranked
-pub mod Search
-pub mod Inside
-pub mod Laws
