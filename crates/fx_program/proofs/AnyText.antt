@@ -92,7 +92,7 @@ asked_read factors head named statements asked one few e =
     let same = kept first.0 said settings.0 settings.1 in
     let short : length factors ≤ 40 = no_more_than_40 (is_some (statement_of word.Blocks statements)) (length factors) few in
     subst (IsRead factors) (same_ok (settings.0, goal.0) asked listed.2) (
-      valid (length factors) said first.0 first.1 settings.0 one settings.1,
+      valid (length factors) said first.0 settings.0 first.1 settings.1,
       subst (λ kind. IsOfKind kind goal.0) (sym same.0) (goal_kind first.0.q factors statements first.0.criterion goal.0 goal.1),
       counted statements (length factors) settings.0.blocks (λ none. without first.0 said settings.0 (unsaid head named statements said refl none) settings.1) one few,
       subst (λ q. CanBeSought q (length factors) goal.0) (sym same.1) (goal_sought first.0.q factors short statements first.0.criterion goal.0 goal.1),

@@ -1,34 +1,29 @@
 -- The settings of a step are refused by a rule, at the place of a word or number of the step.
-use Rattle.std.proofs.Common.{◌≡◌, ℕ, ◌-◌, ◌^◌, Bool, true, false, ◌&&◌, ◌||◌, List, [], ◌∷◌, length, drop, Option, Some, None, Ok, refl}
-use Rattle.std.specs.Prelude.{nat_le, nat_lt, IfSome, slice_get, if◌then◌else◌}
+use Rattle.std.proofs.Common.{◌≡◌, ℕ, ◌-◌, Bool, true, false, List, [], ◌∷◌, length, drop, Option, Some, None, refl}
+use Rattle.std.specs.Prelude.{IfSome, slice_get, unwrap_or, if◌then◌else◌}
+use Rattle.std.specs.List.{AllByRecursion}
 use Rattle.std.specs.Option.{option_map, option_and_then}
 use Rattle.fx_language.specs.declared.symbol.Symbol.{Symbol}
 use Rattle.fx_language.specs.declared.symbol.Symbol.TheVariants as symbol
 use Rattle.fx_language.specs.Symbols.{is}
+use Rattle.fx_language.specs.Refusals.{is_rule}
 use Rattle.fx_lexer.specs.declared.place.Place.{Place}
 use Rattle.fx_text.specs.Written.{Written, begins}
 use Rattle.fx_text.specs.Phrases.{after, start_of}
 use Rattle.fx_text.specs.Refusals.{place_at}
-use Rattle.fx_language.specs.Refusals.{is_rule}
 use Rattle.fx_text.specs.Statements.{statement_of}
 use Rattle.fx_settings.specs.declared.said.Value.{Value}
 use Rattle.fx_settings.specs.declared.said.SizeSaid.{SizeSaid}
-use Rattle.fx_settings.specs.declared.said.SizeWord.{SizeWord}
-use Rattle.fx_settings.specs.declared.said.SizeWord.TheVariants as size
 use Rattle.fx_settings.specs.declared.said.ModelSaid.{ModelSaid}
 use Rattle.fx_settings.specs.declared.said.BlocksSaid.{BlocksSaid}
-use Rattle.fx_settings.specs.declared.said.BlocksWord.{BlocksWord}
-use Rattle.fx_settings.specs.declared.said.BlocksWord.TheVariants as blocks
 use Rattle.fx_settings.specs.declared.said.StepSaid.{StepSaid}
-use Rattle.fx_settings.specs.declared.settings.Unblocked.{Unblocked}
-use Rattle.fx_settings.specs.declared.settings.Size.{Size}
-use Rattle.fx_settings.specs.declared.settings.Criterion.{Criterion}
-use Rattle.fx_settings.specs.Powers.{exponent}
-use Rattle.fx_settings.specs.Said.{value_at, value_of, first_place, last_place, size_word, blocks_word, size_said, resolution_said, model_said, blocks_said, step_said}
-use Rattle.fx_settings.specs.Sizes.{passed, by_design, by_fraction, run_factors, runs_at, size_by, size_of}
-use Rattle.fx_settings.specs.Models.{resolution_by, effects_by, criterion_by, criterion_of, least_of, is_highest}
-use Rattle.fx_settings.specs.Blocks.{check_blocks, are_most, is_minimum, check_minimum, is_too_many, factors_at, by_number, most_run_factors, by_size, blocks_by, blocks_by_value, blocks_of}
-use Rattle.fx_settings.specs.Settings.{number_by, number_said, is_level, levels_of, budget_of, unblocked_of, with_blocks, step_settings_of}
+use Rattle.fx_settings.specs.declared.rule.Rule.{Rule}
+use Rattle.fx_settings.specs.declared.settings.StepSettings.{StepSettings}
+use Rattle.fx_settings.specs.Said.{value_at, value_of, first_place, last_place, size_word, blocks_word, size_said}
+use Rattle.fx_settings.specs.Said.{resolution_said, model_said, blocks_said, step_said}
+use Rattle.fx_settings.specs.Rules.{first_refusal, unless_refused}
+use Rattle.fx_settings.specs.Settings.{value_place, rules, undivided, unblocked_of, block_rules, divided}
+use Rattle.fx_settings.specs.Settings.{step_settings_of}
 use Rattle.fx_text.proofs.Placed as placed
 use Rattle.fx_text.proofs.Placed.{IsPlaced, ArePlaced, AreAllPlaced, Placed}
 
@@ -110,105 +105,77 @@ module _ (P : ℕ → ℕ → Type 0) where
     blocks = of_statement (λ (b : BlocksSaid). IsPlace P b.place × IsPlace P b.value.place) blocks_said (statement_of symbol.Blocks statements) (λ l. in_blocks l front) (placed.statement P symbol.Blocks statements each);
   }
 
-  -- and how it is judged
+  -- and the rules on it
 
-  number : (usual code : ℕ) (passes : ℕ → Bool) (v : Option Value) → is_rule code ≡ true → IfSome v (λ (v : Value). IsPlace P v.place) → Placed P (number_said usual code passes v)
-  number usual code passes None rule h = tt
-  number usual code passes (Some v) rule h = of_number v.number
-    where
-      of_number : (n : Option ℕ) → Placed P (number_by usual code passes v.place n)
-      of_number None = tt
-      of_number (Some n) = placed.both P (passes n) _ _ tt (placed.here P code v.place rule h)
+  module _ (x : StepSaid) (h : IsSaidPlaced P x) where
+    at_value : (v : Option Value) → IfSome v (λ (v : Value). IsPlace P v.place) → IsPlace P (value_place x v)
+    at_value None k = h.factors
+    at_value (Some v) k = k
 
-  pass : (b : Bool) (code : ℕ) (place : Place) (n : ℕ) → is_rule code ≡ true → IsPlace P place → Placed P (passed b code place n)
-  pass b code place n rule h = placed.both P b _ _ tt (placed.here P code place rule h)
+    at_size : (z : Option SizeSaid) → IfSome z (λ (z : SizeSaid). IsPlace P z.value.place)
+        → IsPlace P (value_place x (option_map (λ (size : SizeSaid). size.value) z))
+    at_size None k = h.factors
+    at_size (Some z) k = k
 
-  runs : (q s : ℕ) (w : SizeWord) (place : Place) (n : ℕ) → IsPlace P place → Placed P (run_factors q s w place n)
-  runs q s size.Design place n h = of_exponent (exponent q n)
-    where
-      of_exponent : (m : Option ℕ) → Placed P (by_design place m)
-      of_exponent None = placed.here P 8 place refl h
-      of_exponent (Some m) = pass (nat_le 1 m) 8 place m refl h
-  runs q s size.Fraction place n h = of_exponent (exponent q n)
-    where
-      of_exponent : (f : Option ℕ) → Placed P (by_fraction s place f)
-      of_exponent None = placed.here P 8 place refl h
-      of_exponent (Some f) = placed.both P (nat_lt f s) _ _ tt (placed.here P 8 place refl h)
-  runs q s size.Nrunfacs place n h = pass (nat_le 1 n) 8 place n refl h
+    at_resolution : (m : Option ModelSaid) → IfSome m (IsModelPlaced P)
+        → IsPlace P (value_place x (option_and_then (λ (model : ModelSaid). model.resolution) m))
+    at_resolution None k = h.factors
+    at_resolution (Some m) k = at_value m.resolution k.0
 
-  few_runs : (q : ℕ) (place : Place) (m : ℕ) → IsPlace P place → Placed P (runs_at q place m)
-  few_runs q place m h = placed.both P (nat_le (q ^ m) 1024) _ _ tt (placed.here P 9 place refl h)
+    at_minabs : (m : Option ModelSaid) → IfSome m (IsModelPlaced P)
+        → IsPlace P (unwrap_or (option_and_then (λ (model : ModelSaid). model.minabs) m) x.factors)
+    at_minabs None k = h.factors
+    at_minabs (Some m) k = at_word m.minabs k.1
+      where
+        at_word : (w : Option Place) → IfSome w (IsPlace P) → IsPlace P (unwrap_or w x.factors)
+        at_word None k = h.factors
+        at_word (Some w) k = k
 
-  run_size : (q s : ℕ) (factors : Place) (x : Option SizeSaid) → IsPlace P factors → IfSome x (λ (x : SizeSaid). IsPlace P x.value.place) → Placed P (size_of q s factors x)
-  unfolding size_of
-  run_size q s factors None front h = few_runs q factors s front
-  run_size q s factors (Some x) front h = of_number x.value.number
-    where
-      of_number : (n : Option ℕ) → Placed P (size_by q s x.word x.value.place n)
-      of_number None = tt
-      of_number (Some n) = placed.chain P (run_factors q s x.word x.value.place n) (runs_at q x.value.place) (runs q s x.word x.value.place n h) (λ m. few_runs q x.value.place m h)
+    at_blocks : (b : Option BlocksSaid) → IfSome b (λ (b : BlocksSaid). IsPlace P b.place × IsPlace P b.value.place)
+        → IsPlace P (unwrap_or (option_map (λ (blocks : BlocksSaid). blocks.place) b) x.factors)
+        × IsPlace P (value_place x (option_map (λ (blocks : BlocksSaid). blocks.value) b))
+    at_blocks None k = (h.factors, h.factors)
+    at_blocks (Some b) k = k
 
-  criterion : (x : Option ModelSaid) → IfSome x (IsModelPlaced P) → Placed P (criterion_of x)
-  unfolding criterion_of
-  criterion None h = tt
-  criterion (Some x) h = of_resolution x.resolution x.minabs h.0 h.1
-    where
-      of_number : (place : Place) (r : Option ℕ) → IsPlace P place → Placed P (resolution_by place r)
-      of_number place None h = tt
-      of_number place (Some r) h = placed.both P (nat_le 3 r && nat_le r 99) _ _ tt (placed.here P 11 place refl h)
+  -- a rule of the language, at one of these places
+  abbrev IsRulePlaced : Rule → Type 0
+  IsRulePlaced rule = (is_rule rule.code ≡ true) × IsPlace P rule.place
 
-      of_minabs : (minabs : Option Place) → IfSome minabs (IsPlace P) → Placed P (effects_by minabs)
-      of_minabs None h = tt
-      of_minabs (Some place) h = placed.here P 12 place refl h
+  first : (all : List Rule) → AllByRecursion IsRulePlaced all → Placed P (first_refusal all)
+  first [] h = tt
+  first (rule ∷ others) h =
+      placed.both P rule.applies _ _ (placed.here P rule.code rule.place h.0.0 h.0.1) (first others h.1)
 
-      of_resolution : (v : Option Value) (minabs : Option Place) → IfSome v (λ (v : Value). IsPlace P v.place) → IfSome minabs (IsPlace P) → Placed P (criterion_by v minabs)
-      of_resolution None minabs given asked = of_minabs minabs asked
-      of_resolution (Some v) minabs given asked = of_number v.place v.number given
-
-  no_maximum : (c : Criterion) (least : Bool) (x : Option BlocksSaid) → IfSome x (λ (b : BlocksSaid). IsPlace P b.place × IsPlace P b.value.place) → Placed P (check_blocks c least x)
-  unfolding check_blocks
-  no_maximum c least None h = tt
-  no_maximum c least (Some x) h = placed.both P (least || is_highest c) _ _ (placed.here P 13 x.place refl h.0) tt
-
-  no_minimum : (z : Size) (c : Criterion) (least : Bool) (b : Option BlocksSaid) (x : Option SizeSaid) → IfSome x (λ (x : SizeSaid). IsPlace P x.value.place) → Placed P (check_minimum z c least b x)
-  unfolding check_minimum
-  no_minimum z c least b None h = tt
-  no_minimum z c least b (Some x) h = placed.both P (is_minimum z && (is_highest c || least || are_most b)) _ _ (placed.here P 14 x.value.place refl h) tt
+  judged : {A : Type 0} (all : List Rule) (x : A) → AllByRecursion IsRulePlaced all → Placed P (unless_refused all x)
+  judged {A} all x h = placed.chain P (first_refusal all) _ (first all h) (λ none. tt)
 
   pub unblocked : (s : ℕ) (x : StepSaid) → IsSaidPlaced P x → Placed P (unblocked_of s x)
-  unfolding levels_of budget_of
   unblocked s x h =
-      placed.chain P (levels_of x.levels) _ (number 2 6 is_level x.levels refl h.levels) (λ q.
-      placed.chain P (budget_of x.nodes) _ (number 1000000 29 _ x.nodes refl h.nodes) (λ budget.
-      placed.chain P (size_of q s x.factors x.size) _ (run_size q s x.factors x.size h.factors h.size) (λ z.
-      placed.chain P (criterion_of x.model) _ (criterion x.model h.model) (λ c.
-      placed.chain P (check_blocks c (least_of x.model) x.blocks) _ (no_maximum c (least_of x.model) x.blocks h.blocks) (λ allowed.
-      placed.chain P (check_minimum z c (least_of x.model) x.blocks x.size) _ (no_minimum z c (least_of x.model) x.blocks x.size h.size) (λ least. tt))))))
+      let size = at_size x h x.size h.size in
+      judged (rules s x) (undivided s x) (
+        (refl, at_value x h x.levels h.levels),
+        (
+          (refl, at_value x h x.nodes h.nodes),
+          (
+            (refl, size),
+            (
+              (refl, size),
+              (
+                (refl, at_resolution x h x.model h.model),
+                (
+                  (refl, at_minabs x h x.model h.model),
+                  (
+                    (refl, (at_blocks x h x.blocks h.blocks).0),
+                    ((refl, size), tt),
+                  ),
+                ),
+              ),
+            ),
+          ),
+        ),
+      )
 
-  few_blocks : (q : ℕ) (z : Size) (place : Place) (t : ℕ) → IsPlace P place → Placed P (factors_at q z place t)
-  few_blocks q z place t h = placed.both P (is_too_many q z t) _ _ (placed.here P 16 place refl h) tt
-
-  by_word : (q : ℕ) (z : Size) (w : BlocksWord) (place : Place) (n : ℕ) → IsPlace P place → Placed P (blocks_by q z w place n)
-  by_word q z blocks.Nblkfacs place n h = placed.chain P (passed (nat_le 1 n) 15 place n) (factors_at q z place) (pass (nat_le 1 n) 15 place n refl h) (λ t. few_blocks q z place t h)
-  by_word q z blocks.Nblocks place n h = placed.chain P (by_number place (exponent q n)) (factors_at q z place) (of_exponent (exponent q n)) (λ t. few_blocks q z place t h)
-    where
-      of_exponent : (t : Option ℕ) → Placed P (by_number place t)
-      of_exponent None = placed.here P 15 place refl h
-      of_exponent (Some t) = pass (nat_le 1 t) 15 place t refl h
-  by_word q z blocks.Size place n h = of_exponent (exponent q n)
-    where
-      of_exponent : (k : Option ℕ) → Placed P (by_size q z place k)
-      of_exponent None = placed.here P 15 place refl h
-      of_exponent (Some k) = placed.both P (nat_lt k (most_run_factors q z)) _ _ tt (placed.here P 15 place refl h)
-
-  blocks_judged : (q : ℕ) (z : Size) (x : Option BlocksSaid) → IfSome x (λ (b : BlocksSaid). IsPlace P b.place × IsPlace P b.value.place) → Placed P (blocks_of q z x)
-  unfolding blocks_of
-  blocks_judged q z None h = tt
-  blocks_judged q z (Some x) h = of_number x.value.number
-    where
-      of_number : (n : Option ℕ) → Placed P (blocks_by_value q z x.word x.value.place n)
-      of_number None = tt
-      of_number (Some n) = by_word q z x.word x.value.place n h.1
-
-  pub settings : (u : Unblocked) (x : StepSaid) → IsSaidPlaced P x → Placed P (step_settings_of u x)
-  settings u x h = placed.chain P (blocks_of u.q u.size x.blocks) (λ b. Ok (with_blocks u b)) (blocks_judged u.q u.size x.blocks h.blocks) (λ b. tt)
+  pub settings : (u : StepSettings) (x : StepSaid) → IsSaidPlaced P x → Placed P (step_settings_of u x)
+  settings u x h =
+      let value = (at_blocks x h x.blocks h.blocks).1 in
+      judged (block_rules u.q u.size x) (divided u x) ((refl, value), ((refl, value), tt))
