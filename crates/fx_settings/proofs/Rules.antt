@@ -4,14 +4,14 @@ use Rattle.std.specs.Prelude.{if◌then◌else◌}
 use Rattle.std.specs.List.{AllByRecursion}
 use Rattle.fx_text.specs.declared.refusal.Refusal.{Refusal}
 use Rattle.fx_text.specs.Refusals.{refused_at, ◌>>=◌}
-use Rattle.fx_text.proofs.Chains.{same_ok}
+use Rattle.fx_text.proofs.Chains.{bind_ok, same_ok}
 use Rattle.fx_settings.specs.declared.rule.Rule.{Rule}
 use Rattle.fx_settings.specs.Rules.{first_refusal, unless_refused, IsKept, IsJudged}
 
 -- after a rule that is kept the others decide
-behind : (rule : Rule) (rules : List Rule) (r : Result (Unit {0}) Refusal) → IsKept rule → IsJudged rules r
+behind : {A : Type 0} (rule : Rule) (rules : List Rule) (r : Result A Refusal) → IsKept rule → IsJudged rules r
     → IsJudged (rule ∷ rules) r
-behind rule rules (Ok u) kept h = (kept, h)
+behind rule rules (Ok x) kept h = (kept, h)
 behind rule rules (Err refusal) kept h = record {
   earlier = rule ∷ h.earlier;
   rule = h.rule;
@@ -22,12 +22,13 @@ behind rule rules (Err refusal) kept h = record {
   refusal_is = h.refusal_is;
 }
 
-all_judged : (rules : List Rule) → IsJudged rules (first_refusal rules)
-all_judged [] = tt
-all_judged (rule ∷ rules) = by_test rule.applies refl (all_judged rules)
+pub judged : {A : Type 0} (rules : List Rule) (x : A) → IsJudged rules (unless_refused rules x)
+judged [] x = tt
+judged (rule ∷ rules) x = by_test rule.applies refl (judged rules x)
   where
-    by_test : (b : Bool) → rule.applies ≡ b → IsJudged rules (first_refusal rules)
-        → IsJudged (rule ∷ rules) (if b then Err (refused_at rule.code rule.place) else first_refusal rules)
+    by_test : (b : Bool) → rule.applies ≡ b → IsJudged rules (unless_refused rules x)
+        → let first = if b then Err (refused_at rule.code rule.place) else first_refusal rules in
+        IsJudged (rule ∷ rules) (first >>= (λ none. Ok x))
     by_test true e later = record {
       earlier = [];
       rule = rule;
@@ -37,25 +38,18 @@ all_judged (rule ∷ rules) = by_test rule.applies refl (all_judged rules)
       applies = e;
       refusal_is = refl;
     }
-    by_test false e later = behind rule rules (first_refusal rules) e later
+    by_test false e later = behind rule rules (unless_refused rules x) e later
 
 -- where none refuses all are kept
 pub all_kept : (rules : List Rule) → first_refusal rules ≡ Ok tt → AllByRecursion IsKept rules
-all_kept rules e = subst (IsJudged rules) e (all_judged rules)
-
-pub judged : {A : Type 0} (rules : List Rule) (x : A) → IsJudged rules (unless_refused rules x)
-judged {A} rules x = by_result (first_refusal rules) (all_judged rules)
+all_kept rules e = subst (λ r. IsJudged rules (r >>= same)) e (judged rules tt)
   where
-    by_result : (r : Result (Unit {0}) Refusal) → IsJudged rules r → IsJudged rules (r >>= (λ none. Ok x))
-    by_result (Ok u) h = h
-    by_result (Err refusal) h = h
+    same : Unit {0} → Result (Unit {0}) Refusal
+    same u = Ok tt
 
 -- what is accepted is the value, which keeps every rule
 pub accepted : {A : Type 0} (rules : List Rule) (x y : A) → unless_refused rules x ≡ Ok y
     → AllByRecursion IsKept rules × (x ≡ y)
-accepted {A} rules x y e = by_result (first_refusal rules) (all_judged rules) e
-  where
-    by_result : (r : Result (Unit {0}) Refusal) → IsJudged rules r → (r >>= (λ none. Ok x)) ≡ Ok y
-        → AllByRecursion IsKept rules × (x ≡ y)
-    by_result (Ok u) h e = (h, same_ok x y e)
-    by_result (Err refusal) h e = absurd (cc e)
+accepted rules x y e =
+    let first = bind_ok (first_refusal rules) (λ none. Ok x) y e in
+    (all_kept rules first.1, same_ok x y first.2)

@@ -37,6 +37,7 @@ abbrev pub is_too_many : ℕ → Size → ℕ → Bool
 is_too_many q (Runs m) t = nat_lt m t
 is_too_many q Minimum t = nat_lt MOST_RUNS (q ^ t)
 
+-- the same of a number that need not be given
 abbrev pub are_too_many_blocks : ℕ → Size → Option ℕ → Bool
 are_too_many_blocks q size None = false
 are_too_many_blocks q size (Some t) = is_too_many q size t

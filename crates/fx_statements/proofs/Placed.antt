@@ -78,9 +78,9 @@ module _ (P : ℕ → ℕ → Type 0) (front : P 1 1) where
 
   asked : (names : List (List ℕ)) (said : StepSaid) (statements : List (List Written)) → IsSaidPlaced P said → AreAllPlaced P statements → Placed P (asked_by names said statements)
   asked names said statements k h =
-      placed.chain P (unblocked_of (length names) said) _ (settings.unblocked P (length names) said k) (λ unblocked.
+      placed.chain P (unblocked_of (length names) said) _ (settings.unblocked P said k (length names)) (λ unblocked.
       placed.chain P (goal_by unblocked.q names statements unblocked.criterion) _ (goal unblocked.q names statements unblocked.criterion h) (λ g.
-      placed.chain P (step_settings_of unblocked said) _ (settings.settings P unblocked said k) (λ x.
+      placed.chain P (step_settings_of unblocked said) _ (settings.settings P said k unblocked) (λ x.
       placed.chain P (check_components unblocked.q (length names) g (components_place statements)) _
       (few_components unblocked.q (length names) g (components_place statements) (listing_place statements h)) (λ listed. tt))))
 
