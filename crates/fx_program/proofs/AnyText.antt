@@ -13,7 +13,7 @@ use Rattle.fx_text.specs.declared.refusal.Refusal.{Refusal}
 use Rattle.fx_text.specs.Written.{Written, written}
 use Rattle.fx_text.specs.Statements.{statement_of, statements_of, steps_of}
 use Rattle.fx_text.proofs.Chains.{bind_ok, same_ok}
-use Rattle.fx_factors.specs.Factors as named
+use Rattle.fx_settings.specs.Factors as named
 use Rattle.fx_outputs.specs.Outputs.{names_of, outputs_of}
 use Rattle.fx_settings.specs.declared.settings.StepSettings.{StepSettings}
 use Rattle.fx_settings.specs.declared.settings.Criterion.{Criterion}
@@ -32,7 +32,7 @@ use Rattle.fx_statements.specs.Steps.{Meaning, asked_by, examine_of, factors_by,
 use Rattle.fx_statements.specs.Programs.{accepted, program_of, steps_behind}
 use Rattle.fx_statements.specs.Valid.{is_count}
 use Rattle.fx_statements.proofs.Bounds.{counted, kept, unsaid, without}
-use Rattle.fx_factors.proofs.Within.{factors_within}
+use Rattle.fx_settings.proofs.Within.{factors_within}
 use Rattle.fx_effects.proofs.Within.{lists_told}
 use Rattle.fx_program.specs.Texts.{at_front, or_refused, program_by, program_in}
 use Rattle.fx_program.specs.Claims.{EachStep}

@@ -52,8 +52,8 @@ pub(crate) fn first_refusal(rules: &[Rule]) -> Result<(), Refusal>
     Ok(())
 }
 
-/// The rules that are asked before the effects, by the numbers of levels and of run factors, but for
-/// that on the levels, without which the others have no meaning.
+/// The rules asked before the effects, except the first, on the levels: the others have no meaning
+/// without it. `m` is the number of run factors.
 pub(crate) fn later_rules(q: u8, m: Option<u128>, said: StepSaid) -> [Rule; 7]
     requires { 2 ≤ q }
     ensures rules { result ≡ drop 1 (rules_by q m said) }
@@ -76,7 +76,7 @@ pub(crate) fn later_rules(q: u8, m: Option<u128>, said: StepSaid) -> [Rule; 7]
     ]
 }
 
-/// The rules that are asked after the effects, by the number of block factors.
+/// The rules asked after the effects. `t` is the number of block factors.
 pub(crate) fn block_rules(t: Option<u128>, q: u8, size: Size, said: StepSaid) -> [Rule; 2]
     requires { 2 ≤ q }
     ensures rules { result ≡ block_rules_by t q size said }

@@ -21,7 +21,7 @@ use Rattle.fx_settings.specs.declared.said.StepSaid.{StepSaid}
 use Rattle.fx_settings.specs.Said.{step_said}
 use Rattle.fx_settings.specs.Settings.{unblocked_of, step_settings_of}
 use Rattle.fx_effects.specs.Models.{lists_of}
-use Rattle.fx_factors.specs.Factors.{factors_of}
+use Rattle.fx_settings.specs.Factors.{factors_of}
 use Rattle.fx_outputs.specs.Outputs.{names_of, outputs_of}
 use Rattle.fx_statements.specs.Contexts.{context}
 use Rattle.fx_statements.specs.Goals.{Goal, effects_in, effects_wanted, goal_by}
@@ -30,7 +30,7 @@ use Rattle.fx_statements.specs.Steps.{Meaning, factor_limit, some_factors, facto
 use Rattle.fx_statements.specs.Programs.{steps_behind, place_in, accepted, program_of}
 use Rattle.fx_text.proofs.Placed as placed
 use Rattle.fx_text.proofs.Placed.{IsPlaced, ArePlaced, AreAllPlaced, Placed}
-use Rattle.fx_factors.proofs.Placed as factors
+use Rattle.fx_settings.proofs.ItemsPlaced as factors
 use Rattle.fx_settings.proofs.Placed as settings
 use Rattle.fx_settings.proofs.Placed.{IsPlace, IsSaidPlaced}
 use Rattle.fx_effects.proofs.Placed as effects

@@ -6,8 +6,8 @@ ghost use Rattle.fx_language.specs.Symbols.{is};
 ghost use Rattle.fx_text.specs.Names.{is_same_name};
 ghost use Rattle.fx_text.specs.Refusals.{IsRefused};
 ghost use Rattle.fx_text.specs.Ranges.{numbered, range_end, stem};
-ghost use Rattle.fx_factors.specs.Items.{item};
-ghost use Rattle.fx_factors.specs.Factors.{added, are_known, factors_of, known_at};
+ghost use Rattle.fx_settings.specs.Items.{item};
+ghost use Rattle.fx_settings.specs.Factors.{added, are_known, factors_of, known_at};
 
 use fx_base::{Bytes, NoMemory};
 use fx_language::{Symbol, code};

@@ -1,8 +1,8 @@
 use Rattle.std.proofs.Common.{◌≡◌, ◌+◌, ◌-◌, true, Err, sym, ap, ap₂, ◌∙◌, arith}
 use Rattle.fx_text.specs.Ranges.{is_range, number_at_end}
 use Rattle.fx_text.proofs.RangeParts.{order}
-use Rattle.fx_factors.proofs.Added.{too_many, is_added, is_refused, is_within}
-use Rattle.fx_factors.proofs.factors.add_range.Goals as goal
+use Rattle.fx_settings.proofs.Added.{too_many, is_added, is_refused, is_within}
+use Rattle.fx_settings.proofs.factors.add_range.Goals as goal
 
 pub returns-then-limit-len-clause-refused : goal.returns-then-limit-len-clause-refused
 returns-then-limit-len-clause-refused c =

@@ -3,10 +3,10 @@ use Rattle.std.specs.Prelude.{decimal, is_some}
 use Rattle.std.proofs.lemmas.List.{append_assoc}
 use Rattle.fx_text.specs.Names.{place_of}
 use Rattle.fx_text.specs.Ranges.{stem}
-use Rattle.fx_factors.specs.Factors.{known_at}
+use Rattle.fx_settings.specs.Factors.{known_at}
 use Rattle.fx_text.proofs.Numbered.{one_more, all_taken}
-use Rattle.fx_factors.proofs.Numbered.{known_here, not_here, none_left, behind}
-use Rattle.fx_factors.proofs.factors.add_numbered.Goals as goal
+use Rattle.fx_settings.proofs.Numbered.{known_here, not_here, none_left, behind}
+use Rattle.fx_settings.proofs.factors.add_numbered.Goals as goal
 
 pub returns-then-is_some-clause-known : goal.returns-then-is_some-clause-known
 returns-then-is_some-clause-known c =

@@ -13,8 +13,8 @@ use Rattle.fx_text.specs.Phrases.{before, has}
 use Rattle.fx_text.specs.Ranges.{range_end}
 use Rattle.fx_text.specs.Sentences.{symbols_in, IsStatement}
 use Rattle.fx_text.proofs.Lacking.{before_none, before_part}
-use Rattle.fx_factors.specs.Items.{Item, item, items_from}
-use Rattle.fx_factors.specs.Readings.{IsItem, IsWrittenAs, AreItems, AreItemsRead}
+use Rattle.fx_settings.specs.Items.{Item, item, items_from}
+use Rattle.fx_settings.specs.ItemReadings.{IsItem, IsWrittenAs, AreItems, AreItemsRead}
 
 -- a word is no sign
 no_sign : (sign s : Symbol) → 40 ≤ index sign → is_word s ≡ true → is sign s ≡ false

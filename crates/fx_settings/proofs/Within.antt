@@ -5,8 +5,8 @@ use Rattle.std.proofs.lemmas.Bool.{ltb-false}
 use Rattle.fx_text.specs.Refusals.{refusal_at}
 use Rattle.fx_text.specs.Written.{Written}
 use Rattle.fx_text.proofs.Chains.{bind_ok, same_ok, unless_ok}
-use Rattle.fx_factors.specs.Items.{Item, is_regular, items_of, names_of}
-use Rattle.fx_factors.specs.Factors.{added, all_added, are_known, factors_of}
+use Rattle.fx_settings.specs.Items.{Item, is_regular, items_of, names_of}
+use Rattle.fx_settings.specs.Factors.{added, all_added, are_known, factors_of}
 
 module _ (limit : ℕ) where
   added_within : (names : List (List ℕ)) (item : Item) (more : List (List ℕ)) → added limit names item ≡ Ok more → length more ≤ limit

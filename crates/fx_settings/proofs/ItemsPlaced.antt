@@ -6,8 +6,8 @@ use Rattle.fx_language.specs.declared.symbol.Symbol.TheVariants.{Minus, Slash}
 use Rattle.fx_language.specs.Symbols.{is}
 use Rattle.fx_text.specs.Written.{Written}
 use Rattle.fx_text.specs.Ranges.{range_end}
-use Rattle.fx_factors.specs.Items.{Item, item, items_from, items_of, is_regular, names_of}
-use Rattle.fx_factors.specs.Factors.{are_known, added, all_added, factors_of}
+use Rattle.fx_settings.specs.Items.{Item, item, items_from, items_of, is_regular, names_of}
+use Rattle.fx_settings.specs.Factors.{are_known, added, all_added, factors_of}
 use Rattle.fx_text.proofs.Placed as placed
 use Rattle.fx_text.proofs.Placed.{IsPlaced, ArePlaced, Placed}
 

@@ -4,7 +4,7 @@ use Rattle.std.specs.List.{flat_map}
 use Rattle.fx_language.specs.declared.symbol.Symbol.TheVariants.{Minus, Slash}
 use Rattle.fx_language.specs.Symbols.{is, is_word}
 use Rattle.fx_text.specs.Written.{Written, begins}
-use Rattle.fx_factors.specs.Items.{Item, items_of}
+use Rattle.fx_settings.specs.Items.{Item, items_of}
 
 -- a name alone, or the first and the last name of a range with `-` between them
 abbrev pub IsWrittenAs : List Written → Written → Option Written → Type 0

@@ -1,7 +1,7 @@
 use Rattle.std.proofs.Common.{◌≡◌, ◌++◌, length, take, drop}
 use Rattle.fx_text.specs.Ranges.{numbered, stem}
-use Rattle.fx_factors.specs.Factors.{are_known}
-use Rattle.fx_factors.proofs.factors.add_numbered.Given as goal
+use Rattle.fx_settings.specs.Factors.{are_known}
+use Rattle.fx_settings.proofs.factors.add_numbered.Given as goal
 
 abbrev pub invariant-loop-i : goal.invariant-loop-i
 invariant-loop-i l =

@@ -10,8 +10,8 @@ use Rattle.fx_text.specs.declared.refusal.ParseStop.TheVariants as stop
 use Rattle.fx_text.specs.Written.{Written}
 use Rattle.fx_text.specs.Refusals.{refusal_at, IsRefused}
 use Rattle.fx_text.specs.Ranges.{is_range, names_between, number_at_end, numbered, stem}
-use Rattle.fx_factors.specs.Items.{item}
-use Rattle.fx_factors.specs.Factors.{added, are_known, known_at}
+use Rattle.fx_settings.specs.Items.{item}
+use Rattle.fx_settings.specs.Factors.{added, are_known, known_at}
 
 module _ (limit : ℕ) (names : List (List ℕ)) (first last : Written) (regular : is_range first.text last.text ≡ true) where
   abbrev from : ℕ

@@ -12,10 +12,10 @@ use Rattle.fx_text.specs.Refusals.{◌>>=◌}
 use Rattle.fx_text.proofs.Digits.{is_below}
 use Rattle.fx_text.proofs.Distinct.{IsNew, joined_differ, none_differ, not_found}
 use Rattle.fx_text.specs.Ranges.{is_range, is_numeral, is_plain, numbered, stem, ending, number_at_end}
-use Rattle.fx_factors.specs.Items.{Item, is_regular, is_regular_from, names_of, names_from, items_of}
-use Rattle.fx_factors.specs.Factors.{are_known, added, all_added, factors_of}
+use Rattle.fx_settings.specs.Items.{Item, is_regular, is_regular_from, names_of, names_from, items_of}
+use Rattle.fx_settings.specs.Factors.{are_known, added, all_added, factors_of}
 use Rattle.fx_text.proofs.RangeParts.{plain, order}
-use Rattle.fx_factors.proofs.NumbersDiffer.{numbered_differ}
+use Rattle.fx_settings.proofs.NumbersDiffer.{numbered_differ}
 
 are_new : (names new : List (List ℕ)) → are_known new names ≡ false → AllByRecursion (IsNew names) new
 are_new names [] e = tt

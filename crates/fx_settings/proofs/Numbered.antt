@@ -5,7 +5,7 @@ use Rattle.std.proofs.Math.Seq.{take-append_seam}
 use Rattle.fx_text.specs.Names.{place_of}
 use Rattle.fx_text.specs.Ranges.{numbered}
 use Rattle.fx_text.proofs.Numbered.{from_here, none_after}
-use Rattle.fx_factors.specs.Factors.{are_known}
+use Rattle.fx_settings.specs.Factors.{are_known}
 
 module _ (stem : List ℕ) (from count i : ℕ) (h : i < count) where
   abbrev all : List (List ℕ)

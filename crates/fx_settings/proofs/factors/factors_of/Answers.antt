@@ -1,9 +1,9 @@
 use Rattle.std.proofs.Common.{◌≡◌, [], drop, Ok, ap, ◌∙◌}
 use Rattle.std.proofs.lemmas.List.{drop_all}
-use Rattle.fx_factors.specs.Items.{items_from}
-use Rattle.fx_factors.specs.Factors.{all_added, factors_of}
-use Rattle.fx_factors.proofs.Distinct.{factors_differ}
-use Rattle.fx_factors.proofs.factors.factors_of.Goals as goal
+use Rattle.fx_settings.specs.Items.{items_from}
+use Rattle.fx_settings.specs.Factors.{all_added, factors_of}
+use Rattle.fx_settings.proofs.Distinct.{factors_differ}
+use Rattle.fx_settings.proofs.factors.factors_of.Goals as goal
 
 pub returns-clause-distinct : goal.returns-clause-distinct
 returns-clause-distinct c =

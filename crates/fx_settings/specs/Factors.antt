@@ -6,7 +6,7 @@ use Rattle.fx_text.specs.declared.refusal.Refusal.{Refusal}
 use Rattle.fx_text.specs.Written.{Written}
 use Rattle.fx_text.specs.Names.{place_of}
 use Rattle.fx_text.specs.Refusals.{refusal_at, ◌>>=◌}
-use Rattle.fx_factors.specs.Items.{Item, items_of, is_regular, names_of}
+use Rattle.fx_settings.specs.Items.{Item, items_of, is_regular, names_of}
 
 -- some of the new names is among the others
 abbrev pub are_known : List (List ℕ) → List (List ℕ) → Bool

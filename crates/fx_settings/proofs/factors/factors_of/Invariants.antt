@@ -1,7 +1,7 @@
 use Rattle.std.proofs.Common.{◌≡◌, ◌≤◌, length, drop}
-use Rattle.fx_factors.specs.Items.{items_from}
-use Rattle.fx_factors.specs.Factors.{all_added, factors_of}
-use Rattle.fx_factors.proofs.factors.factors_of.Given as goal
+use Rattle.fx_settings.specs.Items.{items_from}
+use Rattle.fx_settings.specs.Factors.{all_added, factors_of}
+use Rattle.fx_settings.proofs.factors.factors_of.Given as goal
 
 abbrev pub invariant-loop-i : goal.invariant-loop-i
 invariant-loop-i l =

@@ -17,11 +17,11 @@ use Rattle.fx_text.specs.Sentences.{HasNames, IsStatement}
 use Rattle.fx_text.specs.Written.{Written}
 use Rattle.fx_text.proofs.Digits.{digits}
 use Rattle.fx_text.proofs.RangeParts.{order, plain}
-use Rattle.fx_factors.specs.Items.{Item, is_regular, is_regular_from, items_of, names_from, names_of}
-use Rattle.fx_factors.specs.Factors.{added, all_added, are_known, factors_of}
-use Rattle.fx_factors.specs.Readings.{AreItems, IsWrittenAs}
-use Rattle.fx_factors.proofs.Distinct.{accepted, read}
-use Rattle.fx_factors.proofs.Readings.{items_law}
+use Rattle.fx_settings.specs.Items.{Item, is_regular, is_regular_from, items_of, names_from, names_of}
+use Rattle.fx_settings.specs.Factors.{added, all_added, are_known, factors_of}
+use Rattle.fx_settings.specs.ItemReadings.{AreItems, IsWrittenAs}
+use Rattle.fx_settings.proofs.Distinct.{accepted, read}
+use Rattle.fx_settings.proofs.ItemReadings.{items_law}
 
 -- names, or those of a range, whose last name is one
 abbrev HasItemNames : Written → Option Written → Type 0
