@@ -12,11 +12,11 @@ use Rattle.fx_settings.specs.declared.settings.Size.{Size}
 use Rattle.fx_settings.specs.declared.settings.Size.TheVariants.{Runs, Minimum}
 use Rattle.fx_settings.specs.declared.settings.Blocks.{Blocks}
 use Rattle.fx_settings.specs.declared.settings.Blocks.TheVariants as blocks
-use Rattle.fx_settings.specs.Blocks.{is_minimum}
-use Rattle.fx_settings.specs.Models.{is_effects, is_highest}
+use Rattle.fx_settings.specs.Sizes.{is_minimum}
+use Rattle.fx_settings.specs.Models.{is_criterion, is_effects, is_highest}
 use Rattle.fx_settings.specs.Powers.{greatest}
 use Rattle.fx_settings.specs.Settings.{is_level}
-use Rattle.fx_settings.specs.Valid.{are_blocks, is_criterion, is_size, has_blocks, has_most, stand_together}
+use Rattle.fx_settings.specs.Valid.{are_blocks, is_size, has_blocks, has_most, stand_together}
 use Rattle.fx_settings.specs.declared.settings.Criterion.{Criterion}
 use Rattle.fx_settings.specs.declared.settings.Criterion.TheVariants as criterion
 use Rattle.fx_vectors.specs.declared.effect.Effect.{Effect}

@@ -13,7 +13,7 @@ use Rattle.fx_text.specs.declared.refusal.Refusal.{Refusal}
 use Rattle.fx_text.specs.Written.{Written, written}
 use Rattle.fx_text.specs.Statements.{statement_of, statements_of, steps_of}
 use Rattle.fx_text.proofs.Chains.{bind_ok, same_ok}
-use Rattle.fx_factors.specs.Factors as named
+use Rattle.fx_settings.specs.Factors as named
 use Rattle.fx_outputs.specs.Outputs.{names_of, outputs_of}
 use Rattle.fx_settings.specs.declared.settings.StepSettings.{StepSettings}
 use Rattle.fx_settings.specs.declared.settings.Criterion.{Criterion}
@@ -32,7 +32,7 @@ use Rattle.fx_statements.specs.Steps.{Meaning, asked_by, examine_of, factors_by,
 use Rattle.fx_statements.specs.Programs.{accepted, program_of, steps_behind}
 use Rattle.fx_statements.specs.Valid.{is_count}
 use Rattle.fx_statements.proofs.Bounds.{counted, kept, unsaid, without}
-use Rattle.fx_factors.proofs.Within.{factors_within}
+use Rattle.fx_settings.proofs.Within.{factors_within}
 use Rattle.fx_effects.proofs.Within.{lists_told}
 use Rattle.fx_program.specs.Texts.{at_front, or_refused, program_by, program_in}
 use Rattle.fx_program.specs.Claims.{EachStep}
@@ -92,7 +92,7 @@ asked_read factors head named statements asked one few e =
     let same = kept first.0 said settings.0 settings.1 in
     let short : length factors ≤ 40 = no_more_than_40 (is_some (statement_of word.Blocks statements)) (length factors) few in
     subst (IsRead factors) (same_ok (settings.0, goal.0) asked listed.2) (
-      valid (length factors) said first.0 first.1 settings.0 one settings.1,
+      valid (length factors) said first.0 settings.0 first.1 settings.1,
       subst (λ kind. IsOfKind kind goal.0) (sym same.0) (goal_kind first.0.q factors statements first.0.criterion goal.0 goal.1),
       counted statements (length factors) settings.0.blocks (λ none. without first.0 said settings.0 (unsaid head named statements said refl none) settings.1) one few,
       subst (λ q. CanBeSought q (length factors) goal.0) (sym same.1) (goal_sought first.0.q factors short statements first.0.criterion goal.0 goal.1),

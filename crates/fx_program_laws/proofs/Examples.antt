@@ -18,10 +18,6 @@ use Rattle.fx_designs.specs.Nodes.{marks, nodes, word_of}
 use Rattle.fx_designs.specs.Jobs.{first_least, best_before, carried}
 use Rattle.fx_lexer.specs.Lexing.{lexed}
 use Rattle.fx_language.specs.Refusals.{refused}
-use Rattle.fx_settings.specs.Sizes.{size_of}
-use Rattle.fx_settings.specs.Models.{criterion_of}
-use Rattle.fx_settings.specs.Blocks.{check_blocks, check_minimum, blocks_of}
-use Rattle.fx_settings.specs.Settings.{levels_of, budget_of}
 use Rattle.fx_demands.specs.Bars.{bars_of}
 use Rattle.fx_vectors.specs.Effects.{factors_of}
 use Rattle.fx_statements.specs.Programs.{program_of}
@@ -44,7 +40,7 @@ use Rattle.fx_program.specs.Outside.{GivesForSome}
 
 -- what is given for the word `run` and a text
 given : List ℕ → Output
-unfolding digits prime_of degree_of reduction_of add mul neg inv runs_of is_constant is_balanced in_span must_balance is_met is_allowed is_canonical lists designs answer nodes lexed refused levels_of budget_of size_of criterion_of check_blocks check_minimum blocks_of bars_of factors_of program_of settings_of program_in step_lines is_aliased is_constant_in_blocks lib.Count.ones constant_words pattern_of first_least best_before carried conclusion_of are_blocks_even is_balanced_in_blocks is_estimated finished closing_word word_of marks
+unfolding digits prime_of degree_of reduction_of add mul neg inv runs_of is_constant is_balanced in_span must_balance is_met is_allowed is_canonical lists designs answer nodes lexed refused bars_of factors_of program_of settings_of program_in step_lines is_aliased is_constant_in_blocks lib.Count.ones constant_words pattern_of first_least best_before carried conclusion_of are_blocks_even is_balanced_in_blocks is_estimated finished closing_word word_of marks
 given text = output_of (codes "run" ∷ []) text
 
 -- what is given for a step that has one book

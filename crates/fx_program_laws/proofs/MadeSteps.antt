@@ -8,10 +8,6 @@ use Rattle.fx_lexer.specs.declared.token.Token.{Token}
 use Rattle.fx_lexer.specs.Pieces.{text_of, tokens_among}
 use Rattle.fx_language.specs.Keywords.{symbols_of}
 use Rattle.fx_language.specs.FirstRefusal.{first_refusal}
-use Rattle.fx_settings.specs.Sizes.{size_of}
-use Rattle.fx_settings.specs.Models.{criterion_of}
-use Rattle.fx_settings.specs.Blocks.{check_blocks, check_minimum, blocks_of}
-use Rattle.fx_settings.specs.Settings.{levels_of, budget_of}
 use Rattle.fx_outputs.specs.Outputs.{names_of}
 use Rattle.fx_text.specs.Written.{Written, written}
 use Rattle.fx_text.specs.Statements.{statements_of, steps_of, ends_step}
@@ -60,7 +56,7 @@ abbrev HasMeaning : ℕ → Type 0
 HasMeaning r = (earlier : List (List ℕ)) (before : List ℕ) → (m : Meaning) × (step_of earlier (statements_at r before) ≡ Ok m)
 
 meaning_at : (r : ℕ) → r < 12 → HasMeaning r
-unfolding digits size_of criterion_of check_blocks check_minimum blocks_of levels_of budget_of
+unfolding digits
 meaning_at r low =
     each_below HasMeaning 0 12
     (λ e b. (_, refl), (λ e b. (_, refl), (λ e b. (_, refl), (λ e b. (_, refl), (λ e b. (_, refl), (λ e b. (_, refl), (λ e b. (_, refl), (λ e b. (_, refl), (λ e b. (_, refl), (λ e b. (_, refl), (λ e b. (_, refl), (λ e b. (_, refl), tt))))))))))))

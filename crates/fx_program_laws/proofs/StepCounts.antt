@@ -24,8 +24,8 @@ use Rattle.fx_lexer.specs.declared.place.Place.{Place}
 use Rattle.fx_text.specs.Statements.{in_front, statement_of, statements_of, steps_of, rest_of_step}
 use Rattle.fx_text.proofs.Chains.{bind_ok, same_ok, unless_ok}
 use Rattle.fx_text.proofs.Distinct.{none_differ}
-use Rattle.fx_factors.specs.Factors as named
-use Rattle.fx_factors.specs.Items.{Item, items_of, names_of as item_names}
+use Rattle.fx_settings.specs.Factors as named
+use Rattle.fx_settings.specs.Items.{Item, items_of, names_of as item_names}
 use Rattle.fx_outputs.specs.Outputs.{names_of, outputs_of}
 use Rattle.fx_outputs.proofs.Names.{all_differ}
 use Rattle.fx_settings.specs.declared.settings.Size.{Size}

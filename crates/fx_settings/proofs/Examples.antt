@@ -10,7 +10,6 @@ use Rattle.fx_text.specs.Statements.{statements_of}
 use Rattle.fx_text.specs.Refusals.{◌>>=◌}
 use Rattle.fx_settings.specs.declared.said.StepSaid.{StepSaid}
 use Rattle.fx_settings.specs.declared.settings.StepSettings.{StepSettings}
-use Rattle.fx_settings.specs.declared.settings.Unblocked.{Unblocked}
 use Rattle.fx_settings.specs.declared.settings.Size.{Size}
 use Rattle.fx_settings.specs.declared.settings.Size.TheVariants.{Runs, Minimum}
 use Rattle.fx_settings.specs.declared.settings.Criterion.{Criterion}
@@ -18,19 +17,12 @@ use Rattle.fx_settings.specs.declared.settings.Criterion.TheVariants.{Resolution
 use Rattle.fx_settings.specs.declared.settings.Blocks.{Blocks}
 use Rattle.fx_settings.specs.declared.settings.Blocks.TheVariants.{Without, Factors, PerBlock, Most}
 use Rattle.fx_settings.specs.Said.{step_said}
-use Rattle.fx_settings.specs.Sizes.{size_of}
-use Rattle.fx_settings.specs.Models.{criterion_of}
-use Rattle.fx_settings.specs.Blocks.{check_blocks, check_minimum, blocks_of}
-use Rattle.fx_settings.specs.Settings.{levels_of, budget_of, unblocked_of, step_settings_of}
+use Rattle.fx_settings.specs.Settings.{unblocked_of, step_settings_of}
 use Rattle.fx_settings.specs.Powers.{greatest}
 
 among : List ℕ → Result (List Token) LexFault → List (List Written)
 among text (Ok tokens) = statements_of (written text tokens)
 among text (Err fault) = []
-
-with_blocks : StepSaid → Result Unblocked Refusal → Result StepSettings Refusal
-with_blocks said (Ok unblocked) = step_settings_of unblocked said
-with_blocks said (Err refusal) = Err refusal
 
 said_by : List (List Written) → StepSaid
 said_by [] = step_said [] [] []
@@ -39,8 +31,8 @@ said_by (proc ∷ factors ∷ rest) = step_said proc factors (proc ∷ factors �
 
 -- the settings of a step of s factors, whose PROC and FACTORS statements stand first
 settings : ℕ → List ℕ → Result StepSettings Refusal
-unfolding lexed among said_by with_blocks levels_of budget_of size_of criterion_of check_blocks check_minimum blocks_of
-settings s text = let said = said_by (among text (lexed text)) in with_blocks said (unblocked_of s said)
+unfolding lexed among said_by
+settings s text = let said = said_by (among text (lexed text)) in unblocked_of s said >>= (λ (x : StepSettings). step_settings_of x said)
 
 -- a step of q levels, with these statements on its second line
 with_levels : List ℕ → List ℕ → List ℕ

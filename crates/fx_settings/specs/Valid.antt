@@ -1,29 +1,22 @@
 -- Which settings a step may have.
 use Rattle.std.specs.Prelude.{ℕ, ◌^◌, nat_le, nat_lt, not, ◌&&◌, ◌||◌, Bool, true, false}
-use Rattle.fx_settings.specs.declared.settings.TheConstants.{MOST_NODES}
 use Rattle.fx_settings.specs.declared.power.TheConstants.{MOST_RUNS}
 use Rattle.fx_settings.specs.declared.settings.StepSettings.{StepSettings}
 use Rattle.fx_settings.specs.declared.settings.Size.{Size}
 use Rattle.fx_settings.specs.declared.settings.Size.TheVariants.{Runs, Minimum}
 use Rattle.fx_settings.specs.declared.settings.Criterion.{Criterion}
-use Rattle.fx_settings.specs.declared.settings.Criterion.TheVariants.{Resolution, Highest, Effects}
 use Rattle.fx_settings.specs.declared.settings.Blocks.{Blocks}
 use Rattle.fx_settings.specs.declared.settings.Blocks.TheVariants as blocks
 use Rattle.fx_settings.specs.Powers.{greatest}
-use Rattle.fx_settings.specs.Models.{is_effects, is_highest}
-use Rattle.fx_settings.specs.Blocks.{is_minimum, is_too_many}
-use Rattle.fx_settings.specs.Settings.{is_level}
+use Rattle.fx_settings.specs.Models.{is_criterion, is_effects, is_highest}
+use Rattle.fx_settings.specs.Sizes.{is_minimum}
+use Rattle.fx_settings.specs.Blocks.{is_too_many}
+use Rattle.fx_settings.specs.Settings.{is_budget, is_level}
 
 -- at least one run factor, and at most 1,024 runs
 abbrev pub is_size : ℕ → Size → Bool
 is_size q (Runs m) = nat_le 1 m && nat_le (q ^ m) MOST_RUNS
 is_size q Minimum = true
-
--- a resolution is from 3 to 99
-abbrev pub is_criterion : Criterion → Bool
-is_criterion (Resolution r) = nat_le 3 r && nat_le r 99
-is_criterion Highest = true
-is_criterion Effects = true
 
 -- at least one block factor, and no more blocks than runs; blocks of so many runs are allowed only with the least size
 abbrev pub are_blocks : ℕ → Size → Blocks → Bool
@@ -45,10 +38,6 @@ has_most blocks.Without = false
 has_most (blocks.Factors t) = false
 has_most (blocks.PerBlock k) = false
 has_most blocks.Most = true
-
--- from 1 to 5,000,000 nodes
-abbrev pub is_budget : ℕ → Bool
-is_budget n = nat_le 1 n && nat_le n MOST_NODES
 
 -- What goes together: least aberration not with effects; blocks neither with least aberration nor with the highest
 -- resolution; and the least size with none of these and not with the most blocks.

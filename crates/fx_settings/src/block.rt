@@ -1,78 +1,13 @@
-ghost use Rattle.std.specs.Prelude.{◌≡◌, ℕ, ◌≤◌, ◌<◌, false};
-ghost use Rattle.fx_settings.specs.declared.settings.Size.TheVariants.{Runs};
-ghost use Rattle.fx_settings.specs.Blocks.{are_most, blocks_by, blocks_by_value, blocks_of, by_number, by_size, check_blocks, check_minimum, factors_at, is_minimum, is_too_many, most_run_factors, of_runs};
+ghost use Rattle.std.specs.Prelude.{◌≡◌, ℕ, ◌≤◌, ◌<◌, Some, false, IfSome};
+ghost use Rattle.fx_settings.specs.Blocks.{are_most, are_too_many_blocks, block_factors, block_factors_of, blocks_by};
+ghost use Rattle.fx_settings.specs.Blocks.{blocks_of, is_too_many, most_run_factors};
 
-use crate::model::is_highest;
-use crate::power::{exponent, greatest, is_within};
-use crate::said::{BlocksSaid, BlocksWord, SizeSaid};
-use crate::settings::{Blocks, Criterion, Size};
-use fx_language::code;
-use fx_text::{Place, Refusal};
-
-/// Tests that BLOCKS is allowed neither with MINABS nor with the highest resolution.
-///
-/// # Errors
-///
-/// E13: it does.
-#[tactic(auto, unfolding(crate::specs::Blocks::check_blocks))]
-pub(crate) fn check_blocks(
-    criterion: Criterion,
-    least: bool,
-    said: Option<BlocksSaid>,
-) -> Result<(), Refusal>
-    ensures { result ≡ check_blocks criterion least said }
-{
-    match said {
-        None => Ok(()),
-        Some(said) => {
-            if least || is_highest(criterion) {
-                Err(Refusal::at(said.place, code::MAXIMUM_WITH_BLOCKS))
-            } else {
-                Ok(())
-            }
-        }
-    }
-}
-
-/// Tests that the least size is allowed neither with the highest resolution, nor with MINABS, nor with
-/// the most blocks.
-///
-/// # Errors
-///
-/// E14: it does.
-#[tactic(auto, unfolding(crate::specs::Blocks::check_minimum))]
-pub(crate) fn check_minimum(
-    size: Size,
-    criterion: Criterion,
-    least: bool,
-    blocks: Option<BlocksSaid>,
-    said: Option<SizeSaid>,
-) -> Result<(), Refusal>
-    ensures { result ≡ check_minimum size criterion least blocks said }
-{
-    match said {
-        None => Ok(()),
-        Some(said) => {
-            if is_minimum(size) && (is_highest(criterion) || least || are_most(blocks)) {
-                Err(Refusal::at(said.value.place, code::MINIMUM_WITH_MAXIMUM))
-            } else {
-                Ok(())
-            }
-        }
-    }
-}
-
-fn is_minimum(size: Size) -> bool
-    ensures { result ≡ is_minimum size }
-{
-    match size {
-        Size::Minimum => true,
-        Size::Runs { .. } => false,
-    }
-}
+use crate::power::{exponent_or, greatest, is_within};
+use crate::said::{BlocksSaid, BlocksWord};
+use crate::settings::{Blocks, Size};
 
 /// Whether as many blocks as can be are wanted.
-fn are_most(said: Option<BlocksSaid>) -> bool
+pub(crate) fn are_most(said: Option<BlocksSaid>) -> bool
     ensures { result ≡ are_most said }
 {
     match said {
@@ -81,76 +16,16 @@ fn are_most(said: Option<BlocksSaid>) -> bool
     }
 }
 
-/// The blocks of a step.
-///
-/// # Errors
-///
-/// E15: the number is no number of blocks or of their runs. E16: more blocks than runs.
-#[tactic(auto, unfolding(crate::specs::Blocks::blocks_of))]
-pub(crate) fn blocks_of(q: u8, size: Size, said: Option<BlocksSaid>) -> Result<Blocks, Refusal>
+/// The number of block factors of a step of this size: 0 where what BLOCKS says is no number of blocks
+/// or of their runs, and none where there is no BLOCKS or where it asks for the most.
+pub(crate) fn block_factors_of(q: u8, size: Size, said: Option<BlocksSaid>) -> Option<u128>
     requires { 2 ≤ q }
-    ensures { result ≡ blocks_of q size said }
+    ensures { result ≡ block_factors_of q size said }
 {
+    let m = most_run_factors(q, size);
     match said {
-        None => Ok(Blocks::Without),
-        Some(said) => blocks_by_value(q, size, said.word, said.value.place, said.value.number),
-    }
-}
-
-fn blocks_by_value(
-    q: u8,
-    size: Size,
-    word: BlocksWord,
-    place: Place,
-    number: Option<u128>,
-) -> Result<Blocks, Refusal>
-    requires { 2 ≤ q }
-    ensures { result ≡ blocks_by_value q size word place number }
-{
-    match number {
-        None => Ok(Blocks::Most),
-        Some(n) => blocks_by(q, size, word, place, n),
-    }
-}
-
-/// The blocks by the number after this word.
-fn blocks_by(q: u8, size: Size, word: BlocksWord, place: Place, n: u128) -> Result<Blocks, Refusal>
-    requires { 2 ≤ q }
-    ensures { result ≡ blocks_by q size word place n }
-{
-    match word {
-        BlocksWord::Nblkfacs => {
-            if 1 <= n {
-                factors_at(q, size, place, n)
-            } else {
-                Err(Refusal::at(place, code::BLOCKS_NOT_A_POWER))
-            }
-        }
-        BlocksWord::Nblocks => {
-            let t = by_number(place, exponent(q, n))?;
-            factors_at(q, size, place, t)
-        }
-        BlocksWord::Size => by_size(q, size, place, exponent(q, n)),
-    }
-}
-
-fn by_number(place: Place, exponent: Option<u32>) -> Result<u128, Refusal>
-    ensures { result ≡ by_number place exponent }
-{
-    match exponent {
-        Some(t) if 1 <= t => Ok(u128::from(t)),
-        _ => Err(Refusal::at(place, code::BLOCKS_NOT_A_POWER)),
-    }
-}
-
-/// Blocks of q^k runs.
-fn by_size(q: u8, size: Size, place: Place, exponent: Option<u32>) -> Result<Blocks, Refusal>
-    requires { 2 ≤ q }
-    ensures { result ≡ by_size q size place exponent }
-{
-    match exponent {
-        Some(k) if k < u32::from(most_run_factors(q, size)) => Ok(of_runs(size, k as u8)),
-        _ => Err(Refusal::at(place, code::BLOCKS_NOT_A_POWER)),
+        None => None,
+        Some(said) => said.value.number.map(|n| block_factors(q, m, said.word, n)),
     }
 }
 
@@ -165,29 +40,30 @@ fn most_run_factors(q: u8, size: Size) -> u8
     }
 }
 
-fn of_runs(size: Size, k: u8) -> Blocks
-    requires { (m : ℕ) → size ≡ Runs m → k ≤ m }
-    ensures { result ≡ of_runs size k }
+/// The number of block factors of `m` run factors by the number after this word.
+fn block_factors(q: u8, m: u8, word: BlocksWord, n: u128) -> u128
+    ensures { result ≡ block_factors q m word n }
 {
-    match size {
-        Size::Runs { m } => Blocks::Factors { t: m - k },
-        Size::Minimum => Blocks::PerBlock { k },
+    let m = u128::from(m);
+    match word {
+        BlocksWord::Nblkfacs => n,
+        BlocksWord::Nblocks => exponent_or(0, q, n),
+        BlocksWord::Size => m.saturating_sub(exponent_or(m, q, n)),
     }
 }
 
-/// `t` block factors.
-fn factors_at(q: u8, size: Size, place: Place, t: u128) -> Result<Blocks, Refusal>
+/// Whether so many block factors have more blocks than there are runs.
+pub(crate) fn are_too_many_blocks(q: u8, size: Size, t: Option<u128>) -> bool
     requires { 2 ≤ q }
-    ensures { result ≡ factors_at q size place t }
+    ensures value { result ≡ are_too_many_blocks q size t }
+    ensures bound { result ≡ false → IfSome t (λ t. t < 256) }
 {
-    if is_too_many(q, size, t) {
-        Err(Refusal::at(place, code::TOO_MANY_BLOCKS))
-    } else {
-        Ok(Blocks::Factors { t: t as u8 })
+    match t {
+        None => false,
+        Some(t) => is_too_many(q, size, t),
     }
 }
 
-/// Whether there are more blocks than runs.
 fn is_too_many(q: u8, size: Size, t: u128) -> bool
     requires { 2 ≤ q }
     ensures value { result ≡ is_too_many q size t }
@@ -196,5 +72,30 @@ fn is_too_many(q: u8, size: Size, t: u128) -> bool
     match size {
         Size::Runs { m } => u128::from(m) < t,
         Size::Minimum => !is_within(q, t),
+    }
+}
+
+/// The blocks of a step with so many block factors, where their number is given.
+pub(crate) fn blocks_of(q: u8, size: Size, said: Option<BlocksSaid>, t: Option<u128>) -> Blocks
+    requires levels { 2 ≤ q }
+    requires few { IfSome t (λ t. t < 256) }
+    ensures { result ≡ blocks_of q size said t }
+{
+    match (said, t) {
+        (None, _) => Blocks::Without,
+        (Some(_), None) => Blocks::Most,
+        (Some(said), Some(t)) => blocks_by(q, size, said.word, t as u8),
+    }
+}
+
+fn blocks_by(q: u8, size: Size, word: BlocksWord, t: u8) -> Blocks
+    requires { 2 ≤ q }
+    ensures { result ≡ blocks_by q size word t }
+{
+    match (size, word) {
+        (Size::Minimum, BlocksWord::Size) => Blocks::PerBlock {
+            k: greatest(q).saturating_sub(t),
+        },
+        (_, _) => Blocks::Factors { t },
     }
 }

@@ -6,22 +6,21 @@ use Rattle.std.specs.Option.{option_and_then}
 use Rattle.std.proofs.lemmas.Bool.{leb-true, le-leb, ltb-false, eqb-true, not-true, and_from, and_parts}
 use Rattle.std.proofs.Math.Nat.{pow-le-pow_right}
 use Rattle.fx_settings.specs.declared.settings.StepSettings.{StepSettings}
-use Rattle.fx_settings.specs.declared.settings.Unblocked.{Unblocked}
 use Rattle.fx_settings.specs.declared.settings.Size.{Size}
 use Rattle.fx_settings.specs.declared.settings.Size.TheVariants.{Runs, Minimum}
 use Rattle.fx_settings.specs.declared.settings.Blocks.{Blocks}
 use Rattle.fx_settings.specs.declared.settings.Criterion.{Criterion}
 use Rattle.fx_settings.specs.declared.settings.Blocks.TheVariants.{Factors}
 use Rattle.fx_settings.specs.declared.settings.Blocks.TheVariants as blocks
-use Rattle.fx_settings.specs.Blocks.{blocks_of}
-use Rattle.fx_settings.specs.Settings.{is_level, step_settings_of, with_blocks}
+use Rattle.fx_settings.specs.Blocks.{block_factors_of, blocks_of}
+use Rattle.fx_settings.specs.Settings.{block_rules, divided, is_level, step_settings_of}
 use Rattle.fx_settings.specs.Valid.{are_valid, is_size, are_blocks, has_blocks}
 use Rattle.fx_settings.specs.declared.said.StepSaid.{StepSaid}
 use Rattle.fx_settings.specs.Said.{blocks_said, step_said}
 use Rattle.fx_text.specs.declared.refusal.Refusal.{Refusal}
 use Rattle.fx_text.specs.Written.{Written}
 use Rattle.fx_text.specs.Statements.{statement_of}
-use Rattle.fx_text.proofs.Chains.{bind_ok, same_ok}
+use Rattle.fx_settings.proofs.Rules.{accepted}
 use Rattle.fx_language.specs.declared.symbol.Symbol.TheVariants as word
 use Rattle.fx_statements.specs.declared.wanted.Wanted.{Wanted}
 use Rattle.fx_statements.specs.Goals.{criterion_of}
@@ -68,12 +67,10 @@ pub few_blocks : (x : StepSettings) → are_valid x ≡ true → (t : ℕ) → x
 few_blocks x valid t is = blocks_fit x.q x.size t (no_more_than_9 x.q (level x valid)).0 (size x valid) (subst (λ b. are_blocks x.q x.size b ≡ true) is (given x valid))
 
 -- without BLOCKS there are no blocks
-pub without : (first : Unblocked) (said : StepSaid) (x : StepSettings) → said.blocks ≡ None → step_settings_of first said ≡ Ok x → has_blocks x.blocks ≡ false
-unfolding blocks_of
+pub without : (first : StepSettings) (said : StepSaid) (x : StepSettings) → said.blocks ≡ None → step_settings_of first said ≡ Ok x → has_blocks x.blocks ≡ false
 without first said x none e =
-    let given = bind_ok (blocks_of first.q first.size said.blocks) (λ blocks. Ok (with_blocks first blocks)) x e in
-    let is : ◌≡◌ {A = Result Blocks Refusal} (Ok blocks.Without) (Ok given.0) = sym (ap (blocks_of first.q first.size) none) ∙ given.1 in
-    subst (λ (y : StepSettings). has_blocks y.blocks ≡ false) (same_ok (with_blocks first given.0) x given.2) (subst (λ b. has_blocks b ≡ false) (same_ok blocks.Without given.0 is) refl)
+    subst (λ (y : StepSettings). has_blocks y.blocks ≡ false) (accepted (block_rules first.q first.size said) (divided first said) x e).1
+    (ap (λ b. has_blocks (blocks_of first.q first.size b (block_factors_of first.q first.size b))) none)
 
 pub unsaid : (proc named : List Written) (statements : List (List Written)) (said : StepSaid) → said ≡ step_said proc named statements → statement_of word.Blocks statements ≡ None → said.blocks ≡ None
 unsaid proc named statements said is none = ap (λ (x : StepSaid). x.blocks) is ∙ ap (option_and_then blocks_said) none
@@ -90,10 +87,10 @@ pub counted : (statements : List (List Written)) (s : ℕ) (given : Blocks) → 
 counted statements s given without one few = no_more (has_blocks given) (statement_of word.Blocks statements) s without one few
 
 -- what blocks leave of the other settings
-pub kept : (first : Unblocked) (said : StepSaid) (x : StepSettings) → step_settings_of first said ≡ Ok x → (x.criterion ≡ first.criterion) × (x.q ≡ first.q)
+pub kept : (first : StepSettings) (said : StepSaid) (x : StepSettings) → step_settings_of first said ≡ Ok x → (x.criterion ≡ first.criterion) × (x.q ≡ first.q)
 kept first said x e =
-    let given = bind_ok (blocks_of first.q first.size said.blocks) (λ blocks. Ok (with_blocks first blocks)) x e in
-    subst (λ (y : StepSettings). (y.criterion ≡ first.criterion) × (y.q ≡ first.q)) (same_ok (with_blocks first given.0) x given.2) (refl, refl)
+    subst (λ (y : StepSettings). (y.criterion ≡ first.criterion) × (y.q ≡ first.q))
+    (accepted (block_rules first.q first.size said) (divided first said) x e).1 (refl, refl)
 
 -- the settings that a step keeps
 pub same_settings : (x : StepSettings) (wanted : Wanted) → criterion_of wanted ≡ x.criterion → settings_in x.q x.budget x.size wanted x.least x.blocks ≡ x

@@ -16,8 +16,8 @@ use Rattle.fx_text.specs.Sentences.{HasNames, IsStatement}
 use Rattle.fx_text.specs.Statements.{statement_of}
 use Rattle.fx_text.specs.Written.{Written, begins}
 use Rattle.fx_text.proofs.Chains.{bind_ok}
-use Rattle.fx_factors.specs.Factors.{factors_of}
-use Rattle.fx_factors.proofs.Names.{factor_names}
+use Rattle.fx_settings.specs.Factors.{factors_of}
+use Rattle.fx_settings.proofs.Names.{factor_names}
 use Rattle.fx_outputs.specs.Outputs.{names_of}
 use Rattle.fx_statements.specs.declared.step.Step.{Step}
 use Rattle.fx_statements.specs.Programs.{out_names}

@@ -21,7 +21,7 @@ use Rattle.fx_settings.specs.declared.said.StepSaid.{StepSaid}
 use Rattle.fx_settings.specs.Said.{step_said}
 use Rattle.fx_settings.specs.Settings.{unblocked_of, step_settings_of}
 use Rattle.fx_effects.specs.Models.{lists_of}
-use Rattle.fx_factors.specs.Factors.{factors_of}
+use Rattle.fx_settings.specs.Factors.{factors_of}
 use Rattle.fx_outputs.specs.Outputs.{names_of, outputs_of}
 use Rattle.fx_statements.specs.Contexts.{context}
 use Rattle.fx_statements.specs.Goals.{Goal, effects_in, effects_wanted, goal_by}
@@ -30,7 +30,7 @@ use Rattle.fx_statements.specs.Steps.{Meaning, factor_limit, some_factors, facto
 use Rattle.fx_statements.specs.Programs.{steps_behind, place_in, accepted, program_of}
 use Rattle.fx_text.proofs.Placed as placed
 use Rattle.fx_text.proofs.Placed.{IsPlaced, ArePlaced, AreAllPlaced, Placed}
-use Rattle.fx_factors.proofs.Placed as factors
+use Rattle.fx_settings.proofs.ItemsPlaced as factors
 use Rattle.fx_settings.proofs.Placed as settings
 use Rattle.fx_settings.proofs.Placed.{IsPlace, IsSaidPlaced}
 use Rattle.fx_effects.proofs.Placed as effects
@@ -78,9 +78,9 @@ module _ (P : ℕ → ℕ → Type 0) (front : P 1 1) where
 
   asked : (names : List (List ℕ)) (said : StepSaid) (statements : List (List Written)) → IsSaidPlaced P said → AreAllPlaced P statements → Placed P (asked_by names said statements)
   asked names said statements k h =
-      placed.chain P (unblocked_of (length names) said) _ (settings.unblocked P (length names) said k) (λ unblocked.
+      placed.chain P (unblocked_of (length names) said) _ (settings.unblocked P said k (length names)) (λ unblocked.
       placed.chain P (goal_by unblocked.q names statements unblocked.criterion) _ (goal unblocked.q names statements unblocked.criterion h) (λ g.
-      placed.chain P (step_settings_of unblocked said) _ (settings.settings P unblocked said k) (λ x.
+      placed.chain P (step_settings_of unblocked said) _ (settings.settings P said k unblocked) (λ x.
       placed.chain P (check_components unblocked.q (length names) g (components_place statements)) _
       (few_components unblocked.q (length names) g (components_place statements) (listing_place statements h)) (λ listed. tt))))
 

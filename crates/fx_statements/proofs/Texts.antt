@@ -8,10 +8,6 @@ use Rattle.fx_lexer.specs.Lexing.{lexed}
 use Rattle.fx_language.specs.Refusals.{refused}
 use Rattle.fx_text.specs.declared.refusal.Refusal.{Refusal}
 use Rattle.fx_text.specs.Refusals.{◌>>=◌}
-use Rattle.fx_settings.specs.Sizes.{size_of}
-use Rattle.fx_settings.specs.Models.{criterion_of}
-use Rattle.fx_settings.specs.Blocks.{check_blocks, check_minimum, blocks_of}
-use Rattle.fx_settings.specs.Settings.{levels_of, budget_of}
 use Rattle.fx_demands.specs.Bars.{bars_of}
 use Rattle.fx_vectors.specs.Effects.{factors_of}
 use Rattle.fx_statements.specs.declared.examine.Examine.{Examine}
@@ -25,7 +21,7 @@ by text (Err fault) = Ok []
 
 -- the steps of a text
 steps : List ℕ → Result (List Meaning) Refusal
-unfolding by digits lexed refused levels_of budget_of size_of criterion_of check_blocks check_minimum blocks_of bars_of factors_of program_of lib.Count.ones
+unfolding by digits lexed refused bars_of factors_of program_of lib.Count.ones
 steps text = by text (lexed text)
 
 factors : List ℕ → Result (List (List (List ℕ))) Refusal

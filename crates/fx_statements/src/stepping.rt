@@ -18,11 +18,11 @@ use crate::examine::examine_of;
 use crate::step::Step;
 use crate::wanted::{Wanted, wanted_by};
 use fx_base::Bytes;
-use fx_factors::factors_of;
 use fx_language::{Symbol, code};
 use fx_outputs::{BlockCount, EarlierNames, OutputContext, outputs};
 use fx_settings::{
-    Blocks, Size, StepSaid, StepSettings, greatest, step_said, step_settings_of, unblocked_of,
+    Blocks, Size, StepSaid, StepSettings, factors_of, greatest, step_said, step_settings_of,
+    unblocked_of,
 };
 use fx_text::{Names, ParseStop, Phrase, Place, Refusal, Statement, find};
 use std::alloc::Global;

@@ -6,7 +6,6 @@ use Rattle.fx_text.specs.Written.{Written}
 use Rattle.fx_text.specs.Refusals.{IsRefused}
 use Rattle.fx_settings.specs.declared.said.StepSaid.{StepSaid}
 use Rattle.fx_settings.specs.declared.settings.StepSettings.{StepSettings}
-use Rattle.fx_settings.specs.declared.settings.Unblocked.{Unblocked}
 use Rattle.fx_settings.specs.Settings.{unblocked_of, step_settings_of}
 use Rattle.fx_vectors.specs.Effects.{numbers_of}
 use Rattle.fx_vectors.specs.Question.{CanBeTold}
@@ -24,7 +23,7 @@ module _ (factors : List (List ℕ)) (said : StepSaid) (statements : List (List 
   at_settings : (refusal : Refusal) → Err refusal ≡ unblocked_of (length factors) said → asked_by factors said statements ≡ Err refusal
   at_settings refusal e = rw (← e) refl
 
-  module _ (unblocked : Unblocked) (one : Ok unblocked ≡ unblocked_of (length factors) said) where
+  module _ (unblocked : StepSettings) (one : Ok unblocked ≡ unblocked_of (length factors) said) where
     at_goal : (reason : ParseStop) → IsRefused (goal_by unblocked.q factors statements unblocked.criterion) reason → IsRefused (asked_by factors said statements) reason
     at_goal reason h = rw (← one) (stopped (goal_by unblocked.q factors statements unblocked.criterion) _ reason h)
 
@@ -55,7 +54,7 @@ returns-clause-asked c =
     all_asked c.args.factors.now c.args.said c.args.statements.now c.in_ok-unblocked.unblocked c.in_ok-unblocked.ensures.value _ _ c.in_ok-wanted.ensures.goal c.in_ok-settings.ensures.value c.in_ok-check_components.ensures
 
 pub returns-clause-settings_valid : goal.returns-clause-settings_valid
-returns-clause-settings_valid c = c.in_ok-settings.ensures.valid (length c.args.factors.now) c.requires.some (sym c.in_ok-unblocked.ensures.value)
+returns-clause-settings_valid c = c.in_ok-settings.ensures.valid (length c.args.factors.now) (sym c.in_ok-unblocked.ensures.value)
 
 pub returns-clause-kind : goal.returns-clause-kind
 returns-clause-kind c = c.in_ok-wanted.ensures.kind ∙ sym (kept c.in_ok-unblocked.unblocked c.args.said c.in_ok-settings.settings (sym c.in_ok-settings.ensures.value)).0

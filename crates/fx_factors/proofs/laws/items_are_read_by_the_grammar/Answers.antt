@@ -1,5 +1,0 @@
-use Rattle.fx_factors.proofs.Readings.{items_law}
-use Rattle.fx_factors.proofs.laws.items_are_read_by_the_grammar.Goals as goal
-
-pub returns : goal.returns
-returns c = items_law
