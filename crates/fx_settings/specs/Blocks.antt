@@ -47,7 +47,7 @@ abbrev pub blocks_by : ℕ → Size → BlocksWord → ℕ → Blocks
 blocks_by q Minimum word.Size t = blocks.PerBlock (greatest q - t)
 blocks_by q size w t = blocks.Factors t
 
--- the blocks of a step with so many block factors, where that is given
+-- the blocks of a step with t block factors, where their number is given
 abbrev pub blocks_of : ℕ → Size → Option BlocksSaid → Option ℕ → Blocks
 blocks_of q size None t = blocks.Without
 blocks_of q size (Some said) None = blocks.Most

@@ -52,7 +52,7 @@ fn block_factors(q: u8, m: u8, word: BlocksWord, n: u128) -> u128
     }
 }
 
-/// Whether so many block factors have more blocks than there are runs.
+/// Whether `t` block factors make more blocks than there are runs.
 pub(crate) fn are_too_many_blocks(q: u8, size: Size, t: Option<u128>) -> bool
     requires { 2 ≤ q }
     ensures value { result ≡ are_too_many_blocks q size t }
@@ -75,7 +75,7 @@ fn is_too_many(q: u8, size: Size, t: u128) -> bool
     }
 }
 
-/// The blocks of a step with so many block factors, where their number is given.
+/// The blocks of a step. `t` is the number of block factors, where it is given.
 pub(crate) fn blocks_of(q: u8, size: Size, said: Option<BlocksSaid>, t: Option<u128>) -> Blocks
     requires levels { 2 ≤ q }
     requires few { IfSome t (λ t. t < 256) }

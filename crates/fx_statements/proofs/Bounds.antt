@@ -1,5 +1,5 @@
 -- What the settings of a step leave of its numbers.
-use Rattle.std.proofs.Common.{◌≡◌, ℕ, ◌^◌, ◌≤◌, Bool, true, false, not, ◌&&◌, ◌||◌, List, [], ◌∷◌, Option, Some, None, Result, Ok, refl, sym, ap, subst, ◌∙◌, inl, inr, ◌⊎◌, arith}
+use Rattle.std.proofs.Common.{◌≡◌, ℕ, ◌^◌, ◌≤◌, Bool, true, false, not, ◌&&◌, ◌||◌, List, [], ◌∷◌, Option, Some, None, Ok, refl, sym, ap, subst, ◌∙◌, inl, inr, ◌⊎◌, arith}
 use Rattle.std.specs.Prelude.{nat_le, nat_lt, ◌==◌, is_some, if◌then◌else◌}
 use Rattle.std.specs.List.{list_all, list_any}
 use Rattle.std.specs.Option.{option_and_then}
@@ -11,13 +11,11 @@ use Rattle.fx_settings.specs.declared.settings.Size.TheVariants.{Runs, Minimum}
 use Rattle.fx_settings.specs.declared.settings.Blocks.{Blocks}
 use Rattle.fx_settings.specs.declared.settings.Criterion.{Criterion}
 use Rattle.fx_settings.specs.declared.settings.Blocks.TheVariants.{Factors}
-use Rattle.fx_settings.specs.declared.settings.Blocks.TheVariants as blocks
 use Rattle.fx_settings.specs.Blocks.{block_factors_of, blocks_of}
 use Rattle.fx_settings.specs.Settings.{block_rules, divided, is_level, step_settings_of}
 use Rattle.fx_settings.specs.Valid.{are_valid, is_size, are_blocks, has_blocks}
 use Rattle.fx_settings.specs.declared.said.StepSaid.{StepSaid}
 use Rattle.fx_settings.specs.Said.{blocks_said, step_said}
-use Rattle.fx_text.specs.declared.refusal.Refusal.{Refusal}
 use Rattle.fx_text.specs.Written.{Written}
 use Rattle.fx_text.specs.Statements.{statement_of}
 use Rattle.fx_settings.proofs.Rules.{accepted}
