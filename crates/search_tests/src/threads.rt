@@ -48,28 +48,11 @@ fn nodes_of(asked: &Asked) -> u64 {
     }
 }
 
-/// Numbers of threads, and how many nodes of a lot are walked alone before its jobs are shared out.
-const THREADS: [(u8, Alone); 15] = [
+/// Numbers of threads, and how many nodes are walked alone before jobs or pieces are shared out.
+const THREADS: [(u8, Alone); 7] = [
     (1, Alone { first: 0, later: 0 }),
-    (1, Alone { first: 5, later: 5 }),
-    (
-        1,
-        Alone {
-            first: 0,
-            later: 40,
-        },
-    ),
     (2, Alone { first: 0, later: 0 }),
     (2, Alone { first: 5, later: 5 }),
-    (
-        2,
-        Alone {
-            first: 0,
-            later: 40,
-        },
-    ),
-    (3, Alone { first: 0, later: 0 }),
-    (3, Alone { first: 5, later: 5 }),
     (
         3,
         Alone {
@@ -77,17 +60,8 @@ const THREADS: [(u8, Alone); 15] = [
             later: 40,
         },
     ),
-    (4, Alone { first: 0, later: 0 }),
     (5, Alone { first: 5, later: 0 }),
     (8, Alone { first: 0, later: 0 }),
-    (8, Alone { first: 5, later: 5 }),
-    (
-        8,
-        Alone {
-            first: 0,
-            later: 40,
-        },
-    ),
     (64, Alone { first: 0, later: 1 }),
 ];
 
@@ -160,36 +134,40 @@ fn threads_agree_at_the_nodes<R: Threads + Sync + Abort>(
 
 /// Levels, run indexes, factors, block factors, the resolution, or 0 for the main effects of A and B, and
 /// whether a least pattern is asked.
-const ASKED: [(u8, u8, u8, u8, u8, bool); 20] = [
+type Case = (u8, u8, u8, u8, u8, bool);
+
+const WITHOUT_A_LEAST_PATTERN: [Case; 8] = [
     (2, 4, 7, 0, 4, false),
     (2, 4, 8, 0, 5, false),
     (2, 4, 8, 0, 4, false),
     (2, 5, 9, 0, 4, false),
+    (3, 3, 6, 0, 3, false),
+    (4, 2, 6, 0, 3, false),
+    (2, 4, 16, 0, 3, false),
+    (2, 5, 17, 0, 4, false),
+];
+
+/// With more pieces on one level than are shared at once.
+const WITH_MANY_SIBLINGS: [Case; 1] = [(2, 8, 10, 0, 7, false)];
+
+const WITH_A_LEAST_PATTERN: [Case; 5] = [
     (2, 5, 7, 0, 3, true),
     (2, 5, 9, 0, 3, true),
     (2, 4, 7, 0, 4, true),
-    (2, 3, 3, 2, 3, false),
-    (2, 4, 5, 2, 3, false),
-    (3, 3, 6, 0, 3, false),
     (3, 3, 6, 0, 3, true),
     (3, 2, 5, 0, 3, true),
-    (4, 2, 6, 0, 3, false),
+];
+
+const IN_BLOCKS_OR_FOR_EFFECTS: [Case; 6] = [
+    (2, 3, 3, 2, 3, false),
+    (2, 4, 5, 2, 3, false),
+    (2, 4, 6, 2, 4, false),
     (2, 3, 5, 0, 0, false),
     (2, 2, 4, 1, 0, false),
     (3, 2, 4, 0, 0, false),
-    // Its lots have more jobs than are shared at once.
-    (2, 8, 10, 0, 7, false),
-    // Their jobs are walked by all threads together.
-    (2, 4, 16, 0, 3, false),
-    (2, 5, 17, 0, 4, false),
-    (2, 4, 6, 2, 4, false),
 ];
 
-fn each_agrees<R: Threads + Sync + Abort>(
-    rt: &R,
-    alloc: Global,
-    asked: &(u8, u8, u8, u8, u8, bool),
-) -> bool {
+fn each_agrees<R: Threads + Sync + Abort>(rt: &R, alloc: Global, asked: &Case) -> bool {
     let (q, m, s, t, r, least) = *asked;
     let shape = shape_of(rt, (q, m, s, t));
     if r > 0 {
@@ -201,11 +179,7 @@ fn each_agrees<R: Threads + Sync + Abort>(
 }
 
 /// Tests each of these questions.
-fn all_agree<R: Threads + Sync + Abort>(
-    rt: &R,
-    alloc: Global,
-    cases: &[(u8, u8, u8, u8, u8, bool)],
-) {
+fn all_agree<R: Threads + Sync + Abort>(rt: &R, alloc: Global, cases: &[Case]) {
     for asked in cases {
         assert!(rt; each_agrees(rt, alloc, asked));
     }
@@ -213,7 +187,22 @@ fn all_agree<R: Threads + Sync + Abort>(
 
 #[test]
 fn any_number_of_threads_answers_as_one(rt: HostRuntime) {
-    all_agree(&rt, rt.alloc(), &ASKED);
+    all_agree(&rt, rt.alloc(), &WITHOUT_A_LEAST_PATTERN);
+}
+
+#[test]
+fn any_number_of_threads_goes_through_many_siblings(rt: HostRuntime) {
+    all_agree(&rt, rt.alloc(), &WITH_MANY_SIBLINGS);
+}
+
+#[test]
+fn any_number_of_threads_finds_the_same_least_pattern(rt: HostRuntime) {
+    all_agree(&rt, rt.alloc(), &WITH_A_LEAST_PATTERN);
+}
+
+#[test]
+fn any_number_of_threads_answers_the_same_for_effects_and_blocks(rt: HostRuntime) {
+    all_agree(&rt, rt.alloc(), &IN_BLOCKS_OR_FOR_EFFECTS);
 }
 
 /// While one worker is held at the first of ten jobs, which are all closed, another ends the nine others.
