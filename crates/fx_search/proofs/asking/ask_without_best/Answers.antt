@@ -1,7 +1,7 @@
 use Rattle.std.proofs.Common.{◌<◌, ◌+◌, sym, ap, ◌∙◌, arith}
 use native.Mathlib.Nat.{sub-zero}
 use Rattle.fx_designs.specs.Canonical.{is_canonical}
-use Rattle.fx_designs.specs.Problems.{Problem}
+use Rattle.fx_designs.specs.Problems.{Problem, Requirement}
 use Rattle.fx_laws.proofs.Tables.{is_order-field}
 use Rattle.fx_tree.proofs.Extensions.{canonical-none}
 use Rattle.fx_vectors.specs.Shape.{dimensions_of}
@@ -13,8 +13,8 @@ use Rattle.fx_search.proofs.asking.ask_without_best.Goals as goal
 
 pub front_of-requires-clause-canonical : goal.front_of-requires-clause-canonical
 front_of-requires-clause-canonical c =
-    ap (λ x. is_canonical (dimensions_of c.args.question.now.shape) (requirement_of c.args.question.now.demands) x.rows) c.new-prefix.ensures
-    ∙ canonical-none (dimensions_of c.args.question.now.shape) (requirement_of c.args.question.now.demands)
+    let wanted : Requirement = requirement_of c.args.question.now.demands in
+    rw (c.of-candidates.ensures, c.new-prefix.ensures) (wanted, canonical-none (dimensions_of c.args.question.now.shape) wanted)
 
 pub walk-requires-clause-canonical : goal.walk-requires-clause-canonical
 walk-requires-clause-canonical c =
