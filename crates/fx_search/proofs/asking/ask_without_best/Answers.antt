@@ -14,7 +14,8 @@ use Rattle.fx_search.proofs.asking.ask_without_best.Goals as goal
 pub front_of-requires-clause-canonical : goal.front_of-requires-clause-canonical
 front_of-requires-clause-canonical c =
     let wanted : Requirement = requirement_of c.args.question.now.demands in
-    rw (c.of-candidates.ensures, c.new-prefix.ensures) (wanted, canonical-none (dimensions_of c.args.question.now.shape) wanted)
+    rw (c.of-candidates.ensures, c.new-prefix.ensures)
+    (wanted, canonical-none (dimensions_of c.args.question.now.shape) wanted)
 
 pub walk-requires-clause-canonical : goal.walk-requires-clause-canonical
 walk-requires-clause-canonical c =
