@@ -2,7 +2,7 @@
 use Rattle.std.specs.Prelude.{ℕ, ◌+◌, ◌==◌, if◌then◌else◌, List, [], ◌∷◌, ◌++◌, length, take, codes, decimal, slice_index_or}
 use Rattle.std.specs.List.{flat_map, range_with_len}
 use Rattle.fx_runs.specs.Runs.{RunsView}
-use Rattle.fx_runs.specs.Blocks.{block_of, run_at}
+use Rattle.fx_runs.specs.RunBlocks.{block_of, run_at}
 use Rattle.fx_runs.specs.Levels.{default_values}
 
 -- a word after a blank

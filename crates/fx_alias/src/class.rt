@@ -2,7 +2,7 @@ ghost use Rattle.std.specs.Prelude.{◌≡◌, ◌<◌, ◌≤◌, ◌^◌, ◌+
 ghost use Rattle.fx_designs.specs.Vectors.{IsVector, combination, vectors_of};
 ghost use Rattle.fx_designs.specs.Runs.{is_constant, runs_of};
 ghost use Rattle.fx_alias.specs.Classes.{class_number};
-ghost use Rattle.fx_alias.specs.Places.{number_by};
+ghost use Rattle.fx_alias.specs.ClassNumbers.{number_by};
 
 use fx_base::{Items, NoMemory, Values};
 use fx_vectors::{Matrix, Vector};

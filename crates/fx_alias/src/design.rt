@@ -2,7 +2,7 @@ ghost use Rattle.std.specs.Prelude.{◌≡◌, ◌<◌, ◌≤◌, ◌+◌, ◌^
 ghost use Rattle.std.specs.List.{flat_map, range_with_len};
 ghost use Rattle.fx_designs.specs.Vectors.{IsVector};
 ghost use Rattle.fx_runs.specs.Runs.{design_of};
-ghost use Rattle.fx_runs.specs.Blocks.{block_of};
+ghost use Rattle.fx_runs.specs.RunBlocks.{block_of};
 ghost use Rattle.fx_runs.specs.Levels.{default_values};
 ghost use Rattle.fx_alias.specs.Points.{block_word, columns_line, design_section, level_word, point_line, word};
 

@@ -1,5 +1,5 @@
 ghost use Rattle.std.specs.Prelude.{◌≡◌, ◌<◌, ◌≤◌, [], ◌++◌, All, OnOk, IfOk, true, if◌then◌else◌, length, map, codes};
-ghost use Rattle.fx_alias.specs.Places.{at_places};
+ghost use Rattle.fx_alias.specs.ClassNumbers.{at_places};
 ghost use Rattle.fx_alias.specs.Products.{product};
 ghost use Rattle.fx_alias.specs.Aliasing.{class_line, joined, mean_line};
 

@@ -7,7 +7,7 @@ use Rattle.std.proofs.lemmas.Bool.Decides.{nat_tests}
 use Rattle.std.proofs.lemmas.List.Sums.{AllPass-from_list_all}
 use Rattle.std.proofs.lemmas.List.FromFn.{length-range_with_len, get_or-range_with_len}
 use Rattle.fx_designs.specs.Galois.{add, mul, neg, inv, prime_of, degree_of, reduction_of, is_order}
-use Rattle.fx_galois.specs.Places.{pair_place, code_place}
+use Rattle.fx_galois.specs.TableEntries.{pair_place, code_place}
 use Rattle.fx_galois.specs.declared.tables.TheConstants.{SUMS, PRODUCTS, NEGATIVES, INVERSES}
 
 abbrev orders : List ℕ

@@ -1,2 +1,2 @@
 pub use Rattle.fx_designs.specs.Galois
-pub mod Places
+pub mod TableEntries

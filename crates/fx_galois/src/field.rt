@@ -1,6 +1,6 @@
 ghost use Rattle.std.specs.Prelude.{◌≡◌, ◌<◌, ◌≤◌, ◌↔◌, IsTrue, IsSome, IfSome};
 ghost use Rattle.fx_designs.specs.Galois.{add, mul, neg, inv, is_order};
-ghost use Rattle.fx_galois.specs.Places.{pair_place, code_place};
+ghost use Rattle.fx_galois.specs.TableEntries.{pair_place, code_place};
 
 use crate::tables::{INVERSES, NEGATIVES, PRODUCTS, SUMS};
 use std::marker::Model;

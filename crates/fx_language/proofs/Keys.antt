@@ -3,7 +3,7 @@ use Rattle.std.proofs.Common.{◌≡◌, Bool, true, false, cond, Some, None, re
 use Rattle.std.specs.Prelude.{if◌then◌else◌}
 use Rattle.fx_language.specs.Shapes.{Never, Empty, or_else, ◌▸◌}
 use Rattle.fx_language.specs.declared.state.State.{State}
-use Rattle.fx_language.specs.Places.{shape_of, shape_left}
+use Rattle.fx_language.specs.Continuations.{shape_of, shape_left}
 
 pub one : (b : Bool) (next : State) → cond b Empty Never ▸ shape_of next ≡ shape_left (if b then Some next else None)
 one true next = refl

@@ -6,7 +6,7 @@ pub mod Grammar
 pub mod Uncoded
 pub mod Refusals
 pub mod Laws
-pub mod Places
+pub mod Continuations
 pub mod Repeats
 pub mod Pasts
 pub mod FirstRefusal

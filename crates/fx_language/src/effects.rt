@@ -1,6 +1,6 @@
 ghost use Rattle.std.specs.Prelude.{◌≡◌};
 ghost use Rattle.fx_language.specs.Shapes.{after};
-ghost use Rattle.fx_language.specs.Places.{effects_left, list_left, shape_left, shape_of};
+ghost use Rattle.fx_language.specs.Continuations.{effects_left, list_left, shape_left, shape_of};
 
 use crate::model::ModelPlace;
 use crate::state::{State, any_word, only};

@@ -1,6 +1,6 @@
 ghost use Rattle.std.specs.Prelude.{◌≡◌};
 ghost use Rattle.fx_language.specs.Shapes.{after, fault_at};
-ghost use Rattle.fx_language.specs.Places.{examine_left, shape_left};
+ghost use Rattle.fx_language.specs.Continuations.{examine_left, shape_left};
 
 use crate::code;
 use crate::state::State;

@@ -1,6 +1,6 @@
 ghost use Rattle.std.specs.Prelude.{◌≡◌};
 ghost use Rattle.fx_language.specs.Shapes.{after};
-ghost use Rattle.fx_language.specs.Places.{factors_left, shape_left};
+ghost use Rattle.fx_language.specs.Continuations.{factors_left, shape_left};
 
 use crate::state::{State, any_word, only};
 use crate::symbol::Symbol;

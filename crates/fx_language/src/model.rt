@@ -1,6 +1,6 @@
 ghost use Rattle.std.specs.Prelude.{◌≡◌};
 ghost use Rattle.fx_language.specs.Shapes.{after, fault_at};
-ghost use Rattle.fx_language.specs.Places.{model_left, shape_left};
+ghost use Rattle.fx_language.specs.Continuations.{model_left, shape_left};
 
 use crate::code;
 use crate::effects::{EffectList, EffectPlace};

@@ -2,7 +2,7 @@ ghost use Rattle.std.specs.Prelude.{◌≡◌, []};
 ghost use Rattle.fx_language.specs.Grammar.{program};
 ghost use Rattle.fx_language.specs.Refusals.{refused};
 ghost use Rattle.fx_language.specs.FirstRefusal.{earlier, first_refusal};
-ghost use Rattle.fx_language.specs.Places.{shape_of};
+ghost use Rattle.fx_language.specs.Continuations.{shape_of};
 
 use crate::repeated::first_by_rules;
 use crate::state::State;

@@ -1,6 +1,6 @@
 ghost use Rattle.std.specs.Prelude.{◌≡◌};
 ghost use Rattle.fx_language.specs.Shapes.{after};
-ghost use Rattle.fx_language.specs.Places.{setting_left, shape_left, word_of};
+ghost use Rattle.fx_language.specs.Continuations.{setting_left, shape_left, word_of};
 
 use crate::state::{State, only};
 use crate::symbol::Symbol;

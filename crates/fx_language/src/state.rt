@@ -3,7 +3,7 @@ ghost use Rattle.fx_language.specs.Symbols.{is, is_word};
 ghost use Rattle.fx_language.specs.Shapes.{after, fault_at};
 ghost use Rattle.fx_language.specs.Refusals.{allows, allows_option, code_of};
 ghost use Rattle.fx_language.specs.Grammar.{program, unknown};
-ghost use Rattle.fx_language.specs.Places.{in_step, shape_left, shape_of};
+ghost use Rattle.fx_language.specs.Continuations.{in_step, shape_left, shape_of};
 
 use crate::code;
 use crate::effects::{EffectList, EffectPlace};

@@ -6,7 +6,7 @@ use Rattle.std.specs.Option.{option_map}
 use Rattle.std.proofs.lemmas.Bool.{eqb-true, eq-eqb, ltb-true, ltb-false, cases_Bool, and_parts}
 use Rattle.fx_lexer.specs.Bytes.{is_digit}
 use Rattle.fx_lexer.specs.Extents.{starts_with_byte, closing_len, ends_comment, remark_len, fraction_len, quoted_len}
-use Rattle.fx_lexer.specs.Pieces.{begins_with, begins_fraction, Closes, EndsQuoted, doubled}
+use Rattle.fx_lexer.specs.TextPieces.{begins_with, begins_fraction, Closes, EndsQuoted, doubled}
 
 -- the first byte, where it is known
 pub first_byte : (c : ℕ) (bytes : List ℕ) → starts_with_byte c bytes ≡ true → (rest : List ℕ) × (bytes ≡ c ∷ rest)

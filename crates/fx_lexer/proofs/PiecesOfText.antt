@@ -8,7 +8,7 @@ use Rattle.fx_lexer.specs.Places.{place_after}
 use Rattle.fx_lexer.specs.Items.{item}
 use Rattle.fx_lexer.specs.Lexing.{lexed, lexed_from, in_front, at_item, tokens_of, starts_after, fault_at}
 use Rattle.fx_lexer.specs.Bytes.{begins_word}
-use Rattle.fx_lexer.specs.Pieces.{Piece, white, comment, remark, word, whole, decimal, quoted, sign, begins_with, spelling, starts_behind, starts_behind_all, HasForm, text_of, AreFormed, tokens_among, IsMadeOf}
+use Rattle.fx_lexer.specs.TextPieces.{Piece, white, comment, remark, word, whole, decimal, quoted, sign, begins_with, spelling, starts_behind, starts_behind_all, HasForm, text_of, AreFormed, tokens_among, IsMadeOf}
 use Rattle.fx_lexer.specs.Flaws.{Flaw, flaw_text, fault_kind, IsFlaw, BreaksOff}
 use Rattle.fx_lexer.proofs.PieceOfItem.{IsPiece, ItemIs, item_is}
 

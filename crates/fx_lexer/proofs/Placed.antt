@@ -6,7 +6,7 @@ use Rattle.fx_lexer.specs.declared.token.Kind.{Kind}
 use Rattle.fx_lexer.specs.declared.token.LexFault.{LexFault}
 use Rattle.fx_lexer.specs.Places.{place_after, IsPlaceIn}
 use Rattle.fx_lexer.specs.Lexing.{tokens_of_kind, lexed}
-use Rattle.fx_lexer.specs.Pieces.{Piece, spelling, kind_of, text_of, tokens_among, word, whole, white, comment, remark, decimal, quoted, sign}
+use Rattle.fx_lexer.specs.TextPieces.{Piece, spelling, kind_of, text_of, tokens_among, word, whole, white, comment, remark, decimal, quoted, sign}
 use Rattle.fx_lexer.specs.Flaws.{Flaw, open_comment, open_remark, open_quoted, stray, long_piece, flaw_text, fault_kind, is_lexical_rule, IsByLexicalRule}
 use Rattle.fx_lexer.proofs.PiecesOfText.{made_of, breaks_off}
 

@@ -10,7 +10,7 @@ use Rattle.fx_lexer.specs.declared.token.Kind.{Kind}
 use Rattle.fx_lexer.specs.declared.token.LexFault.{LexFault}
 use Rattle.fx_lexer.specs.Places.{place_after}
 use Rattle.fx_lexer.specs.Lexing.{lexed, token_at, tokens_of_kind}
-use Rattle.fx_lexer.specs.Pieces.{Piece, spelling, kind_of, starts_behind, HasForm, IsShort, text_of, AreFormed, tokens_among}
+use Rattle.fx_lexer.specs.TextPieces.{Piece, spelling, kind_of, starts_behind, HasForm, IsShort, text_of, AreFormed, tokens_among}
 use Rattle.fx_lexer.specs.Tokens.{token_text, IsToken, AreInOrder}
 use Rattle.fx_lexer.proofs.PiecesOfText.{some_bytes, Whole, text_is}
 

@@ -7,7 +7,7 @@ use Rattle.fx_lexer.specs.declared.token.LexFault.{LexFault}
 use Rattle.fx_lexer.specs.Places.{place_after}
 use Rattle.fx_lexer.specs.Bytes.{begins_word, is_quote}
 use Rattle.fx_lexer.specs.Lexing.{lexed, lexed_from, in_front, tokens_of_kind, starts_after, fault_at}
-use Rattle.fx_lexer.specs.Pieces.{Piece, white, comment, remark, word, whole, decimal, quoted, sign, spelling, kind_of, starts_behind, starts_behind_all, HasForm, IsShort, text_of, AreFormed, tokens_among, IsMadeOf}
+use Rattle.fx_lexer.specs.TextPieces.{Piece, white, comment, remark, word, whole, decimal, quoted, sign, spelling, kind_of, starts_behind, starts_behind_all, HasForm, IsShort, text_of, AreFormed, tokens_among, IsMadeOf}
 use Rattle.fx_lexer.specs.Flaws.{Flaw, open_comment, open_remark, open_quoted, stray, long_piece, flaw_text, fault_kind, IsFlaw, BreaksOff}
 use Rattle.fx_lexer.proofs.PiecesOfText.{some_bytes, item_passed}
 use Rattle.fx_lexer.proofs.NextItem.{in_front_twice}

@@ -4,7 +4,7 @@ use Rattle.fx_lexer.specs.declared.token.LexFault.{LexFault}
 use Rattle.fx_lexer.specs.Bytes.{is_white, is_digit, begins_word, is_sign, is_quote}
 use Rattle.fx_lexer.specs.Places.{place_after, IsPlaceIn}
 use Rattle.fx_lexer.specs.Lexing.{fault_at}
-use Rattle.fx_lexer.specs.Pieces.{Piece, word, spelling, begins_fraction, Closes, EndsQuoted, HasForm, IsShort, text_of, AreFormed, starts_behind_all}
+use Rattle.fx_lexer.specs.TextPieces.{Piece, word, spelling, begins_fraction, Closes, EndsQuoted, HasForm, IsShort, text_of, AreFormed, starts_behind_all}
 
 -- What isn't a piece, with all that follows: a comment, a remark or a quoted text with no end; a byte that begins no
 -- item; a piece that is too long.

@@ -3,6 +3,6 @@ pub mod Extents
 pub mod Items
 pub mod Places
 pub mod Lexing
-pub mod Pieces
+pub mod TextPieces
 pub mod Tokens
 pub mod Flaws

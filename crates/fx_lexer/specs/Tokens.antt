@@ -3,7 +3,7 @@ use Rattle.std.specs.Prelude.{◌≡◌, ℕ, ◌<◌, ◌≤◌, Bool, List, []
 use Rattle.std.specs.Option.{option_map}
 use Rattle.fx_lexer.specs.declared.token.Token.{Token}
 use Rattle.fx_lexer.specs.Places.{line_after, column_after}
-use Rattle.fx_lexer.specs.Pieces.{Piece, spelling, kind_of, HasForm, IsShort}
+use Rattle.fx_lexer.specs.TextPieces.{Piece, spelling, kind_of, HasForm, IsShort}
 
 -- the bytes of a piece that is a token
 abbrev pub token_text : Piece → Option (List ℕ)

@@ -3,7 +3,7 @@ ghost use Rattle.std.specs.Prelude.{◌≡◌, ◌↔◌, Ok, Err, List, [], fil
 ghost use Rattle.fx_lexer.specs.declared.token.Token.{Token};
 ghost use Rattle.fx_lexer.specs.declared.token.LexFault.{LexFault};
 ghost use Rattle.fx_lexer.specs.Lexing.{lexed};
-ghost use Rattle.fx_lexer.specs.Pieces.{Piece, text_of, tokens_among, IsMadeOf};
+ghost use Rattle.fx_lexer.specs.TextPieces.{Piece, text_of, tokens_among, IsMadeOf};
 ghost use Rattle.fx_lexer.specs.Tokens.{spans_of, token_text};
 ghost use Rattle.fx_lexer.specs.Flaws.{BreaksOff, IsByLexicalRule};
 ghost use Rattle.fx_lexer.specs.Places.{IsPlaceIn};

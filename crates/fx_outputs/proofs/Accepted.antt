@@ -17,7 +17,7 @@ use Rattle.fx_outputs.specs.declared.context.BlockCount.{BlockCount}
 use Rattle.fx_outputs.specs.declared.context.BlockCount.TheVariants as blocks
 use Rattle.fx_outputs.specs.Replications.{replication_in_range, replication_at}
 use Rattle.fx_outputs.specs.Values.{values_of, counted}
-use Rattle.fx_outputs.specs.Blocks.{begins_values, values_wanted, block_values}
+use Rattle.fx_outputs.specs.BlockColumns.{begins_values, values_wanted, block_values}
 use Rattle.fx_outputs.specs.Recodes.{is_recoded, factor_at, has_values, unused_place, recode_of, recodes_behind}
 use Rattle.fx_outputs.specs.Validity.{IsRecode, AreRecodes}
 

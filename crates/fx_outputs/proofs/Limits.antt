@@ -13,7 +13,7 @@ use Rattle.fx_outputs.specs.Contexts.{Context}
 use Rattle.fx_outputs.specs.Options.{from_option}
 use Rattle.fx_outputs.specs.Replications.{replication_of, check_rows}
 use Rattle.fx_outputs.specs.Shuffles.{shuffle_of}
-use Rattle.fx_outputs.specs.Blocks.{check_blockname, check_column, name_or_empty, block_values}
+use Rattle.fx_outputs.specs.BlockColumns.{check_blockname, check_column, name_or_empty, block_values}
 use Rattle.fx_outputs.specs.Recodes.{recodes_of}
 use Rattle.fx_outputs.specs.Outputs.{check_new_name, output_of, outputs_behind, outputs_of}
 use Rattle.fx_outputs.specs.Validity.{IsWithinLimits}

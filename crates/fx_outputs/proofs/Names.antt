@@ -17,7 +17,7 @@ use Rattle.fx_outputs.specs.Contexts.{Context}
 use Rattle.fx_outputs.specs.Options.{from_option}
 use Rattle.fx_outputs.specs.Replications.{replication_of, check_rows}
 use Rattle.fx_outputs.specs.Shuffles.{shuffle_of}
-use Rattle.fx_outputs.specs.Blocks.{check_blockname, check_column, check_free, has_blocks, name_or_empty, block_values}
+use Rattle.fx_outputs.specs.BlockColumns.{check_blockname, check_column, check_free, has_blocks, name_or_empty, block_values}
 use Rattle.fx_outputs.specs.Recodes.{recodes_of}
 use Rattle.fx_outputs.specs.Outputs.{check_new_name, names_of, output_of, outputs_behind, outputs_of}
 use Rattle.fx_outputs.specs.Readings.{HasBlockName}

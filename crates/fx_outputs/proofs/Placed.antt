@@ -15,7 +15,7 @@ use Rattle.fx_outputs.specs.Options.{from_option, has_option}
 use Rattle.fx_outputs.specs.Replications.{replication_in_range, replication_at, replication_of, check_rows}
 use Rattle.fx_outputs.specs.Shuffles.{seed_in_range, seeded, seed_written, shuffle_of}
 use Rattle.fx_outputs.specs.Values.{values_of, counted}
-use Rattle.fx_outputs.specs.Blocks.{has_blocks, values_wanted, check_blockname, check_free, check_column, begins_values, block_values}
+use Rattle.fx_outputs.specs.BlockColumns.{has_blocks, values_wanted, check_blockname, check_free, check_column, begins_values, block_values}
 use Rattle.fx_outputs.specs.Recodes.{is_recoded, factor_at, has_values, unused_place, recode_of, recodes_behind, recodes_of}
 use Rattle.fx_outputs.specs.Outputs.{check_new_name, output_of, outputs_behind, outputs_of}
 use Rattle.fx_text.proofs.Placed as placed

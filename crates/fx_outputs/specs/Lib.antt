@@ -3,7 +3,7 @@ pub mod Options
 pub mod Replications
 pub mod Shuffles
 pub mod Values
-pub mod Blocks
+pub mod BlockColumns
 pub mod Recodes
 pub mod Earlier
 pub mod Outputs

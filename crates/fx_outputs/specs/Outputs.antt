@@ -12,7 +12,7 @@ use Rattle.fx_outputs.specs.Contexts.{Context}
 use Rattle.fx_outputs.specs.Options.{from_option}
 use Rattle.fx_outputs.specs.Replications.{replication_of, check_rows}
 use Rattle.fx_outputs.specs.Shuffles.{shuffle_of}
-use Rattle.fx_outputs.specs.Blocks.{check_blockname, check_column, name_or_empty, block_values}
+use Rattle.fx_outputs.specs.BlockColumns.{check_blockname, check_column, name_or_empty, block_values}
 use Rattle.fx_outputs.specs.Recodes.{recodes_of}
 
 -- the OUT name is not an earlier one, or E18 at the name

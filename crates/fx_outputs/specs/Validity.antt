@@ -6,7 +6,7 @@ use Rattle.fx_text.specs.Names.{IsName, place_of}
 use Rattle.fx_outputs.specs.declared.output.OutputSpec.{OutputSpec}
 use Rattle.fx_outputs.specs.declared.recode.Recode.{Recode}
 use Rattle.fx_outputs.specs.Contexts.{Context}
-use Rattle.fx_outputs.specs.Blocks.{has_blocks}
+use Rattle.fx_outputs.specs.BlockColumns.{has_blocks}
 use Rattle.fx_outputs.specs.declared.context.BlockCount.TheVariants as blocks
 
 -- a factor of the step, with a value for each level

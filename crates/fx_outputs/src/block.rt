@@ -3,7 +3,7 @@
 
 ghost use Rattle.std.specs.Prelude.{◌≡◌, drop, slice_get, IfOk, IfErr, Some};
 ghost use Rattle.fx_text.specs.Refusals.{IsRefused};
-ghost use Rattle.fx_outputs.specs.Blocks.{begins_values, block_values, check_blockname, check_column, check_free, has_blocks, name_or_empty, values_wanted};
+ghost use Rattle.fx_outputs.specs.BlockColumns.{begins_values, block_values, check_blockname, check_column, check_free, has_blocks, name_or_empty, values_wanted};
 
 use crate::context::{BlockCount, OutputContext};
 use crate::value::counted_values;

@@ -5,7 +5,7 @@ use Rattle.rand_pcg.specs.Lcg.{Lcg}
 use Rattle.fx_outputs.specs.declared.output.OutputSpec.{OutputSpec}
 use Rattle.fx_outputs.specs.declared.shuffle.Shuffle.{Shuffle}
 use Rattle.fx_runs.specs.Runs.{RunsView}
-use Rattle.fx_runs.specs.Blocks.{block_of}
+use Rattle.fx_runs.specs.RunBlocks.{block_of}
 use Rattle.fx_plan.specs.Plans.{Arrangement, arranged, replicated, values_of, shuffled_in_blocks, shuffled_values, shuffled_by}
 use Rattle.fx_plan.specs.Tables.{text_of, records_of, arrangement, plan_of}
 

@@ -5,7 +5,7 @@ use Rattle.std.specs.List.{flat_map, range_with_len}
 use Rattle.csv.specs.Writing.{default_writer, row_text, writer_setup, fields_written, has_written, text_written}
 use Rattle.csv.specs.declared.writer.Writer.{Writer}
 use Rattle.fx_runs.specs.Runs.{RunsView}
-use Rattle.fx_runs.specs.Blocks.{block_of, run_at}
+use Rattle.fx_runs.specs.RunBlocks.{block_of, run_at}
 use Rattle.fx_outputs.specs.declared.output.OutputSpec.{OutputSpec}
 use Rattle.fx_plan.specs.Plans.{Arrangement, arranged, replicated, values_of}
 

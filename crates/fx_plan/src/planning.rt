@@ -4,7 +4,7 @@ ghost use Rattle.fx_plan.specs.Plans.{shuffled_by, shuffled_values};
 ghost use Rattle.fx_plan.specs.Tables.{arrangement, plan_of, records_of, text_of};
 ghost use Rattle.fx_plan.specs.Steps.{IsDesignOf};
 ghost use Rattle.fx_runs.specs.Runs.{design_of};
-ghost use Rattle.fx_runs.specs.Blocks.{block_of};
+ghost use Rattle.fx_runs.specs.RunBlocks.{block_of};
 
 use crate::draws::shuffle_each;
 use crate::order::{replicated, shuffled_in_blocks};

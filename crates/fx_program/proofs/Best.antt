@@ -13,7 +13,7 @@ use Rattle.fx_laws.proofs.Tables.{is_order-field}
 use Rattle.fx_reduction.specs.Reduction.{IsReducible}
 use Rattle.fx_reduction.specs.Resolutions.{HasLeastPattern, HighestOfAll}
 use Rattle.fx_reduction.specs.Strengths.{with_block}
-use Rattle.fx_reduction.specs.Blocks.{with_blocks}
+use Rattle.fx_reduction.specs.MostBlocks.{with_blocks}
 use Rattle.fx_reduction.proofs.BlockCounts.{most-blocks, none-with_more}
 use Rattle.fx_reduction.proofs.Effects.{meet_less}
 use Rattle.fx_reduction.proofs.LeastPattern.{least-of_all, no_answer, answer-design}

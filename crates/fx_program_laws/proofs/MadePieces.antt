@@ -7,7 +7,7 @@ use Rattle.std.proofs.lemmas.Bool.{and_parts, cases_eq, ltb-true, leb-true}
 use Rattle.fx_lexer.specs.Bytes.{is_white, is_digit, begins_word, is_word_byte, is_sign}
 use Rattle.fx_lexer.specs.Extents.{begins_comment, begins_remark}
 use Rattle.fx_lexer.specs.Lexing.{lexed}
-use Rattle.fx_lexer.specs.Pieces.{Piece, white, comment, remark, word, whole, decimal as decimal_piece, quoted, sign, spelling, HasForm, IsShort, AreFormed, starts_behind, starts_behind_all, begins_with, begins_fraction, text_of, tokens_among}
+use Rattle.fx_lexer.specs.TextPieces.{Piece, white, comment, remark, word, whole, decimal as decimal_piece, quoted, sign, spelling, HasForm, IsShort, AreFormed, starts_behind, starts_behind_all, begins_with, begins_fraction, text_of, tokens_among}
 use Rattle.fx_lexer.proofs.TextOfPieces.{tokens_read}
 use Rattle.fx_program.specs.Making.{factors_at, levels_at, runs_at, made_text, step_text}
 

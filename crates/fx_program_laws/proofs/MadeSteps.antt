@@ -5,7 +5,7 @@ use Rattle.std.specs.Prelude.{not, nat_lt}
 use Rattle.std.specs.List.{prefix_len, range_with_len}
 use Rattle.std.proofs.lemmas.Bool.{false_from_ne_true, ltb-true}
 use Rattle.fx_lexer.specs.declared.token.Token.{Token}
-use Rattle.fx_lexer.specs.Pieces.{text_of, tokens_among}
+use Rattle.fx_lexer.specs.TextPieces.{text_of, tokens_among}
 use Rattle.fx_language.specs.Keywords.{symbols_of}
 use Rattle.fx_language.specs.FirstRefusal.{first_refusal}
 use Rattle.fx_outputs.specs.Outputs.{names_of}

@@ -9,7 +9,7 @@ use Rattle.fx_lexer.specs.declared.token.Token.{Token}
 use Rattle.fx_lexer.specs.declared.place.Place.{Place}
 use Rattle.fx_lexer.specs.Places.{place_after}
 use Rattle.fx_lexer.specs.Lexing.{tokens_of_kind}
-use Rattle.fx_lexer.specs.Pieces.{Piece, spelling, kind_of, text_of, tokens_among}
+use Rattle.fx_lexer.specs.TextPieces.{Piece, spelling, kind_of, text_of, tokens_among}
 use Rattle.fx_lexer.proofs.Spans.{middle_range}
 use Rattle.fx_language.specs.declared.symbol.Symbol.{Symbol}
 use Rattle.fx_language.specs.declared.symbol.Symbol.TheVariants.{Proc, Factex, Nodes, Run, Factors, Nlev, Size, Design, Model, Resolution, Maximum, Minabs, Name, Whole, Semicolon, Equals, Slash, Minus}
@@ -18,7 +18,7 @@ use Rattle.fx_language.specs.Grammar.{program}
 use Rattle.fx_language.specs.Refusals.{refused}
 use Rattle.fx_language.specs.declared.repeated.Past.{Past}
 use Rattle.fx_language.specs.Pasts.{past_of, past_after, rule_of}
-use Rattle.fx_language.specs.Places.{in_step}
+use Rattle.fx_language.specs.Continuations.{in_step}
 use Rattle.fx_language.specs.Repeats.{repeated, or_later, rule_at, begins_with}
 use Rattle.fx_language.specs.FirstRefusal.{first_refusal}
 use Rattle.fx_language.proofs.Pass.{past_next, rule_is}

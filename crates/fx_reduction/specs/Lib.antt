@@ -6,4 +6,4 @@ pub mod Reduction
 pub mod Strengths
 pub mod Words
 pub mod Resolutions
-pub mod Blocks
+pub mod MostBlocks

@@ -7,7 +7,7 @@ use Rattle.std.proofs.lemmas.Bool.{and_parts, not-true}
 use Rattle.fx_lexer.specs.declared.token.Kind.{Kind}
 use Rattle.fx_lexer.specs.declared.token.Kind.TheVariants as kind
 use Rattle.fx_lexer.specs.declared.token.Token.{Token}
-use Rattle.fx_lexer.specs.Pieces.{Piece, word, whole, kind_of, spelling, HasForm, IsShort}
+use Rattle.fx_lexer.specs.TextPieces.{Piece, word, whole, kind_of, spelling, HasForm, IsShort}
 use Rattle.fx_lexer.specs.Tokens.{IsToken}
 use Rattle.fx_language.specs.declared.symbol.Symbol.{Symbol}
 use Rattle.fx_language.specs.declared.symbol.Symbol.TheVariants.{Whole, Semicolon, Equals, Open, Close, OpenBracket, CloseBracket, Slash, Star, Bar, At, Minus}

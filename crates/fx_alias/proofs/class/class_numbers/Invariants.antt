@@ -1,5 +1,5 @@
 use Rattle.std.proofs.Common.{◌≡◌, ◌<◌, ◌^◌, All, map, take}
-use Rattle.fx_alias.specs.Places.{number_by}
+use Rattle.fx_alias.specs.ClassNumbers.{number_by}
 use Rattle.fx_alias.proofs.class.class_numbers.Given as goal
 
 abbrev pub invariant-loop-u : goal.invariant-loop-u

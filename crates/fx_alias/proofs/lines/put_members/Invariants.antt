@@ -1,5 +1,5 @@
 use Rattle.std.proofs.Common.{◌≡◌, ◌++◌, true, drop, map}
-use Rattle.fx_alias.specs.Places.{at_places}
+use Rattle.fx_alias.specs.ClassNumbers.{at_places}
 use Rattle.fx_alias.specs.Aliasing.{joined}
 use Rattle.fx_alias.proofs.lines.put_members.Given as goal
 

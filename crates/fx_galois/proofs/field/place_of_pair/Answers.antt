@@ -1,5 +1,5 @@
 use Rattle.std.proofs.Common.{◌<◌, rules, refl, subst, sym}
-use Rattle.fx_galois.specs.Places.{pair_place}
+use Rattle.fx_galois.specs.TableEntries.{pair_place}
 use Rattle.fx_galois.proofs.Entries.{pair_place-below, last_order}
 use Rattle.fx_galois.proofs.field.place_of_pair.Goals as goal
 use Rattle.fx_galois.proofs.field.place_of_pair.Goals.{in-2, in-3, in-4, in-5, in-7, in-8, in_default}

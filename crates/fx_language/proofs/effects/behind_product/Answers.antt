@@ -4,7 +4,7 @@ use Rattle.fx_language.specs.declared.symbol.Symbol.TheVariants.{Star, Bar, At}
 use Rattle.fx_language.specs.Shapes.{after}
 use Rattle.fx_language.specs.declared.effects.EffectList.{EffectList}
 use Rattle.fx_language.specs.declared.effects.EffectPlace.TheVariants as place
-use Rattle.fx_language.specs.Places.{effects_left}
+use Rattle.fx_language.specs.Continuations.{effects_left}
 use Rattle.fx_language.proofs.effects.behind_product.Goals as goal
 
 -- a symbol that continues no product

@@ -1,5 +1,5 @@
 use Rattle.std.proofs.Common.{sym, ◌∙◌}
-use Rattle.fx_language.specs.Places.{shape_of}
+use Rattle.fx_language.specs.Continuations.{shape_of}
 use Rattle.fx_language.proofs.Places.{at_place}
 use Rattle.fx_language.proofs.Steps.{next_refused, next_allowed}
 use Rattle.fx_language.proofs.refusal.first_by_grammar.Goals as goal

@@ -1,7 +1,7 @@
 use Rattle.std.proofs.Common.{◌≡◌, drop}
 use Rattle.fx_language.specs.Grammar.{program}
 use Rattle.fx_language.specs.Refusals.{refused}
-use Rattle.fx_language.specs.Places.{shape_of}
+use Rattle.fx_language.specs.Continuations.{shape_of}
 use Rattle.fx_language.proofs.refusal.first_by_grammar.Given as goal
 
 abbrev pub invariant-loop-i : goal.invariant-loop-i

@@ -11,7 +11,7 @@ use Rattle.fx_outputs.specs.declared.context.BlockCount.{BlockCount}
 use Rattle.fx_outputs.specs.declared.output.OutputSpec.{OutputSpec}
 use Rattle.fx_outputs.specs.declared.recode.Recode.{Recode}
 use Rattle.fx_outputs.specs.declared.shuffle.Shuffle.{Shuffle}
-use Rattle.fx_outputs.specs.Blocks.{block_values, check_blockname, check_column, name_or_empty}
+use Rattle.fx_outputs.specs.BlockColumns.{block_values, check_blockname, check_column, name_or_empty}
 use Rattle.fx_outputs.specs.Contexts.{Context}
 use Rattle.fx_outputs.specs.Options.{from_option}
 use Rattle.fx_outputs.specs.Outputs.{check_new_name, output_of}

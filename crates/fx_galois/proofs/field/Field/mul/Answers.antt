@@ -2,7 +2,7 @@
 use Rattle.std.proofs.Common.{ℕ, ◌<◌, IsTrue, get_or, ap, subst, sym, ◌∙◌}
 use Rattle.fx_designs.specs.Galois.{is_order}
 use Rattle.fx_laws.proofs.Tables.{is_order-field}
-use Rattle.fx_galois.specs.Places.{pair_place}
+use Rattle.fx_galois.specs.TableEntries.{pair_place}
 use Rattle.fx_galois.specs.declared.tables.TheConstants.{PRODUCTS}
 use Rattle.fx_galois.proofs.Entries.{product_is}
 use Rattle.fx_galois.proofs.field.Field.mul.Goals as goal

@@ -2,7 +2,7 @@
 use Rattle.std.proofs.Common.{ℕ, ◌<◌, IsTrue, get_or, ap, subst, sym, ◌∙◌}
 use Rattle.fx_designs.specs.Galois.{is_order}
 use Rattle.fx_laws.proofs.Tables.{is_order-field}
-use Rattle.fx_galois.specs.Places.{code_place}
+use Rattle.fx_galois.specs.TableEntries.{code_place}
 use Rattle.fx_galois.specs.declared.tables.TheConstants.{NEGATIVES}
 use Rattle.fx_galois.proofs.Entries.{negative_is}
 use Rattle.fx_galois.proofs.field.Field.neg.Goals as goal

@@ -7,7 +7,7 @@ use Rattle.fx_language.specs.Grammar.{key, name}
 use Rattle.fx_language.specs.declared.state.State.TheVariants.{Effects}
 use Rattle.fx_language.specs.declared.effects.EffectList.{EffectList}
 use Rattle.fx_language.specs.declared.effects.EffectPlace.TheVariants as place
-use Rattle.fx_language.specs.Places.{crossed, more_effects, effects_left, shape_left}
+use Rattle.fx_language.specs.Continuations.{crossed, more_effects, effects_left, shape_left}
 use Rattle.fx_language.proofs.Keys.{one}
 use Rattle.fx_language.proofs.effects.EffectPlace.next.Goals as goal
 

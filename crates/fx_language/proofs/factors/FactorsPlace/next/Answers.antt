@@ -4,7 +4,7 @@ use Rattle.fx_language.specs.Symbols.{is, is_word}
 use Rattle.fx_language.specs.Shapes.{after}
 use Rattle.fx_language.specs.declared.state.State.TheVariants.{StatementEnd, Factors}
 use Rattle.fx_language.specs.declared.factors.FactorsPlace.TheVariants as factors
-use Rattle.fx_language.specs.Places.{factors_left, shape_left}
+use Rattle.fx_language.specs.Continuations.{factors_left, shape_left}
 use Rattle.fx_language.proofs.Keys.{one}
 use Rattle.fx_language.proofs.factors.FactorsPlace.next.Goals as goal
 

@@ -5,7 +5,7 @@ use Rattle.fx_language.specs.Symbols.{is}
 use Rattle.fx_language.specs.Shapes.{after}
 use Rattle.fx_language.specs.declared.state.State.TheVariants.{Step, Model}
 use Rattle.fx_language.specs.declared.model.ModelPlace.TheVariants as model
-use Rattle.fx_language.specs.Places.{model_left, shape_left}
+use Rattle.fx_language.specs.Continuations.{model_left, shape_left}
 use Rattle.fx_language.proofs.Keys.{one}
 use Rattle.fx_language.proofs.model.ModelPlace.next.Goals as goal
 

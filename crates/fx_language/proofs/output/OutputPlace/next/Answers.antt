@@ -4,7 +4,7 @@ use Rattle.fx_language.specs.Symbols.{is, is_word}
 use Rattle.fx_language.specs.Shapes.{after}
 use Rattle.fx_language.specs.declared.state.State.TheVariants.{Output}
 use Rattle.fx_language.specs.declared.output.OutputPlace.TheVariants as output
-use Rattle.fx_language.specs.Places.{output_left, shape_left}
+use Rattle.fx_language.specs.Continuations.{output_left, shape_left}
 use Rattle.fx_language.proofs.Keys.{one_or_fault, one_or_faults}
 use Rattle.fx_language.proofs.output.OutputPlace.next.Goals as goal
 

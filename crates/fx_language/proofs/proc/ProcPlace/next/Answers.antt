@@ -4,7 +4,7 @@ use Rattle.fx_language.specs.Symbols.{is}
 use Rattle.fx_language.specs.Shapes.{after}
 use Rattle.fx_language.specs.declared.state.State.TheVariants.{Proc}
 use Rattle.fx_language.specs.declared.proc.ProcPlace.TheVariants as proc
-use Rattle.fx_language.specs.Places.{proc_left, shape_left}
+use Rattle.fx_language.specs.Continuations.{proc_left, shape_left}
 use Rattle.fx_language.proofs.Keys.{one_or_fault, one_or_faults}
 use Rattle.fx_language.proofs.proc.ProcPlace.next.Goals as goal
 

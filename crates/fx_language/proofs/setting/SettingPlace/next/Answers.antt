@@ -6,7 +6,7 @@ use Rattle.fx_language.specs.Symbols.{is}
 use Rattle.fx_language.specs.Shapes.{Never, Empty, after, ◌▸◌}
 use Rattle.fx_language.specs.declared.state.State.TheVariants.{StatementEnd, Setting}
 use Rattle.fx_language.specs.declared.setting.SettingPlace.TheVariants as setting
-use Rattle.fx_language.specs.Places.{ending, setting_left, shape_left, word_of}
+use Rattle.fx_language.specs.Continuations.{ending, setting_left, shape_left, word_of}
 use Rattle.fx_language.proofs.Keys.{one}
 use Rattle.fx_language.proofs.setting.SettingPlace.next.Goals as goal
 

@@ -5,7 +5,7 @@ use Rattle.fx_language.specs.Shapes.{after}
 use Rattle.fx_language.specs.declared.state.State.TheVariants.{Values}
 use Rattle.fx_language.specs.declared.values.ValuesPlace.TheVariants as listed
 use Rattle.fx_language.specs.declared.values.ValueKind.TheVariants as kind
-use Rattle.fx_language.specs.Places.{values_left, shape_left}
+use Rattle.fx_language.specs.Continuations.{values_left, shape_left}
 use Rattle.fx_language.proofs.Keys.{one_or_fault}
 use Rattle.fx_language.proofs.values.ValuesPlace.next.Goals as goal
 
