@@ -1,5 +1,6 @@
 -- The sums of block rules are the points that they span.
-use Rattle.std.proofs.Common.{ℕ, ◌≡◌, ◌<◌, ◌≤◌, ◌+◌, ◌^◌, ◌==◌, ◌||◌, true, zero, suc, List, [], ◌∷◌, drop, take, length, length-drop, refl, sym, subst, ap, ◌∙◌, arith, inl, inr, eqb-true, eq-eqb}
+use Rattle.std.proofs.Common.{ℕ, ◌≡◌, ◌<◌, ◌≤◌, ◌+◌, ◌^◌, ◌==◌, ◌||◌, true, zero, suc, List, [], ◌∷◌, drop, take}
+use Rattle.std.proofs.Common.{length, length-drop, refl, sym, subst, ap, ◌∙◌, arith, inl, inr, eqb-true, eq-eqb}
 use Rattle.std.proofs.lemmas.Bool.{or_cases, or_left, or_right, cases_eq}
 use Rattle.std.proofs.lemmas.List.{drop-map, length-map}
 use Rattle.fx_designs.specs.Galois.{IsField, digits, number}
@@ -32,10 +33,13 @@ module _ (matrix : MatrixView) (f : IsField matrix.shape.q) (runs : matrix.shape
   sum-vector u = combination-vector q m f u blocks (are_vectors q m (drop matrix.shape.s matrix.rows) some)
 
   below : (place : ℕ) → block_sum matrix place < 1024
-  below place = let fits = number-below q m (combination q m (digits q matrix.shape.t place) blocks) (sum-vector (digits q matrix.shape.t place)) in omega (arith, fits, runs)
+  below place = let fits =
+      number-below q m (combination q m (digits q matrix.shape.t place) blocks)
+      (sum-vector (digits q matrix.shape.t place)) in omega (arith, fits, runs)
 
   -- with the next sum
-  pub next_sum : (k : ℕ) (old new : List ℕ) → HasSums matrix old k → ((y : ℕ) → y < 1024 → has new y ≡ ((y == block_sum matrix k) || has old y)) → HasSums matrix new (k + 1)
+  pub next_sum : (k : ℕ) (old new : List ℕ) → HasSums matrix old k
+      → ((y : ℕ) → y < 1024 → has new y ≡ ((y == block_sum matrix k) || has old y)) → HasSums matrix new (k + 1)
   next_sum k old new sums is = record {
     only = λ n low has_n. elim (or_cases _ _ (sym (is n low) ∙ has_n)) [
       | inl same ↦ (let l : k < k + 1 = omega arith in (k, l, sym (eqb-true n (block_sum matrix k) same)))
@@ -43,21 +47,27 @@ module _ (matrix : MatrixView) (f : IsField matrix.shape.q) (runs : matrix.shape
     ];
     each = λ place low. elim (cases_eq place k) [
       | inl same ↦ is (block_sum matrix place) (below place) ∙ or_left _ _ (eq-eqb _ _ (ap (block_sum matrix) same))
-      | inr other ↦ is (block_sum matrix place) (below place) ∙ or_right _ _ (sums.each place (let l : place < k = omega (arith, low, other) in l))
+      | inr other ↦
+          is (block_sum matrix place) (below place) ∙ or_right _ _
+          (sums.each place (let l : place < k = omega (arith, low, other) in l))
     ];
   }
 
   -- rules past the last code play no part
-  front : (n : ℕ) (u : List ℕ) (rules : List (List ℕ)) → length u ≤ n → combination q m u (take n rules) ≡ combination q m u rules
+  front : (n : ℕ) (u : List ℕ) (rules : List (List ℕ)) → length u ≤ n
+      → combination q m u (take n rules) ≡ combination q m u rules
   front n [] rules few = refl
   front zero (a ∷ u) rules few = absurd (omega (arith, few))
   front (suc n) (a ∷ u) [] few = refl
-  front (suc n) (a ∷ u) (r ∷ rules) few = ap (plus q (scale q a r)) (front n u rules (let l : length u ≤ n = omega (arith, few) in l))
+  front (suc n) (a ∷ u) (r ∷ rules) few =
+      ap (plus q (scale q a r)) (front n u rules (let l : length u ≤ n = omega (arith, few) in l))
 
   -- with all of them
-  module _ (words : List ℕ) (complete : length matrix.rows ≡ matrix.shape.s + matrix.shape.t) (sums : HasSums matrix words (q ^ matrix.shape.t)) where
+  module _ (words : List ℕ) (complete : length matrix.rows ≡ matrix.shape.s + matrix.shape.t)
+      (sums : HasSums matrix words (q ^ matrix.shape.t)) where
     count : length blocks ≡ matrix.shape.t
-    count = let l = length-map (drop matrix.shape.s matrix.rows) (λ r. digits q m r) in let d = length-drop matrix.shape.s matrix.rows in omega (arith, l, d, complete)
+    count = let l = length-map (drop matrix.shape.s matrix.rows) (λ r. digits q m r) in let d =
+        length-drop matrix.shape.s matrix.rows in omega (arith, l, d, complete)
 
     to : (v : List ℕ) → IsVector q m v → has words (number q v) ≡ true → in_span q m blocks v ≡ true
     to v vector has_v =
@@ -65,7 +75,8 @@ module _ (matrix : MatrixView) (f : IsField matrix.shape.q) (runs : matrix.shape
         let o = sums.only (number q v) (omega (arith, low, runs)) has_v in
         in_span-holds q m f blocks v (record {
           by = digits q matrix.shape.t o.0;
-          vector = subst (λ n. IsVector q n (digits q matrix.shape.t o.0)) (sym count) (digits-vector q matrix.shape.t o.0 some);
+          vector = subst (λ n. IsVector q n (digits q matrix.shape.t o.0)) (sym count)
+              (digits-vector q matrix.shape.t o.0 some);
           gives = number-same q m f _ v (sum-vector (digits q matrix.shape.t o.0)) vector o.2;
         })
 
@@ -73,11 +84,16 @@ module _ (matrix : MatrixView) (f : IsField matrix.shape.q) (runs : matrix.shape
     from v vector spans =
         let s = in_span-true q m f blocks v (are_vectors q m (drop matrix.shape.s matrix.rows) some) vector spans in
         let by : IsVector q matrix.shape.t s.by = subst (λ n. IsVector q n s.by) count s.vector in
-        let is : block_sum matrix (number q s.by) ≡ number q v = ap (λ u. number q (combination q m u blocks)) (digits-number q matrix.shape.t s.by by) ∙ ap (number q) s.gives in
+        let is : block_sum matrix (number q s.by) ≡ number q v =
+        ap (λ u. number q (combination q m u blocks)) (digits-number q matrix.shape.t s.by by) ∙ ap (number q)
+        s.gives in
         subst (λ n. has words n ≡ true) is (sums.each (number q s.by) (number-below q matrix.shape.t s.by by))
 
-    spanned : (v : List ℕ) → IsVector q m v → has words (number q v) ≡ in_span q m (drop matrix.shape.s (vectors_of q m matrix.rows)) v
-    spanned v vector = subst (λ bs. has words (number q v) ≡ in_span q m bs v) (sym (drop-map (λ r. digits q m r) matrix.shape.s matrix.rows)) (bool_same _ _ (to v vector) (from v vector))
+    spanned : (v : List ℕ) → IsVector q m v
+        → has words (number q v) ≡ in_span q m (drop matrix.shape.s (vectors_of q m matrix.rows)) v
+    spanned v vector =
+        subst (λ bs. has words (number q v) ≡ in_span q m bs v)
+        (sym (drop-map (λ r. digits q m r) matrix.shape.s matrix.rows)) (bool_same _ _ (to v vector) (from v vector))
 
     pub all_sums : IsBlockSpan matrix words
     all_sums = record {
@@ -85,7 +101,8 @@ module _ (matrix : MatrixView) (f : IsField matrix.shape.q) (runs : matrix.shape
           let rules = vectors_of q m matrix.rows in
           let sum = combination q m u rules in
           let both = constant_in_span q m matrix.shape.s matrix.shape.t f matrix.rows u complete vector in
-          let same : combination q m u (take matrix.shape.s rules) ≡ sum = front matrix.shape.s u rules (let l : length u ≤ matrix.shape.s = omega (arith, vector.len) in l) in
+          let same : combination q m u (take matrix.shape.s rules) ≡ sum =
+          front matrix.shape.s u rules (let l : length u ≤ matrix.shape.s = omega (arith, vector.len) in l) in
           let is = spanned sum (combination-vector q m f u rules (are_vectors q m matrix.rows some)) in
           bool_same _ _
           (λ e. is ∙ subst (λ v. in_span q m (drop matrix.shape.s rules) v ≡ true) same (both.0 e))

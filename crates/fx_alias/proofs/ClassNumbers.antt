@@ -10,7 +10,8 @@ use Rattle.fx_laws.proofs.CanonicalTest.{rows-vectors}
 use Rattle.fx_laws.proofs.Tests.{bool_same}
 use Rattle.fx_designs.specs.Aliases.{is_aliased}
 use Rattle.fx_alias.specs.Classes.{class_number}
-use Rattle.fx_alias.proofs.Multiples.{aliased_multiple, numbers_tell, some_number, zero_number, none_zero, multiple_of_zeros}
+use Rattle.fx_alias.proofs.Multiples.{aliased_multiple, numbers_tell, some_number, zero_number, none_zero}
+use Rattle.fx_alias.proofs.Multiples.{multiple_of_zeros}
 
 module _ (q : ℕ) (f : IsField q) (m : ℕ) (numbers : List ℕ) where
   abbrev sum_of : List ℕ → List ℕ
@@ -30,16 +31,23 @@ module _ (q : ℕ) (f : IsField q) (m : ℕ) (numbers : List ℕ) where
       (λ e. eq-eqb _ 0 (ap (class_number q) (both.0 e) ∙ zero_number q f m))
       (λ e. elim (cases_eq (last_nonzero (sum_of u)) 0) [
         | inl z ↦ both.1 (none_zero q f m (sum_of u) (vector_of u) z)
-        | inr nz ↦ (let some = some_number q f m (sum_of u) (vector_of u) (omega arith) in absurd (omega (arith, eqb-true _ _ e, some)))
+        | inr nz ↦
+            (let some = some_number q f m (sum_of u) (vector_of u) (omega arith) in
+            absurd (omega (arith, eqb-true _ _ e, some)))
       ])
 
   -- one that is not constant is aliased with those of its class
-  pub aliased_number : (u v : List ℕ) → is_constant q u runs ≡ false → is_aliased q runs u v ≡ eqb (class_number q (sum_of u)) (class_number q (sum_of v))
+  pub aliased_number : (u v : List ℕ) → is_constant q u runs ≡ false
+      → is_aliased q runs u v ≡ eqb (class_number q (sum_of u)) (class_number q (sum_of v))
   aliased_number u v not_constant =
       let both = aliased_multiple q f m numbers u v in
-      let here : (last_nonzero (sum_of u) ≡ 0) → ⊥ = λ z. both_ways (is_constant q u runs) not_constant ((constant_sum q f u m numbers).1 (none_zero q f m (sum_of u) (vector_of u) z)) in
+      let here : (last_nonzero (sum_of u) ≡ 0) → ⊥ =
+      λ z. both_ways (is_constant q u runs) not_constant
+      ((constant_sum q f u m numbers).1 (none_zero q f m (sum_of u) (vector_of u) z)) in
       elim (cases_eq (last_nonzero (sum_of v)) 0) [
-        | inr nz ↦ numbers_tell q f m (sum_of u) (sum_of v) (vector_of u) (vector_of v) (omega (arith, here)) (omega arith) (is_aliased q runs u v) both
+        | inr nz ↦
+            numbers_tell q f m (sum_of u) (sum_of v) (vector_of u) (vector_of v) (omega (arith, here)) (omega arith)
+            (is_aliased q runs u v) both
         | inl z ↦
             let t : sum_of v ≡ zeros m = none_zero q f m (sum_of v) (vector_of v) z in
             let some = some_number q f m (sum_of u) (vector_of u) (omega (arith, here)) in

@@ -35,7 +35,8 @@ in_blocks q m s t = record { q = q; m = m; s = s; t = t }
 abbrev step_of : ℕ → Size → Goal → Bool → Meaning
 step_of s size goal least = record {
   factors = replicate s (codes "A");
-  settings = record { q = 2; budget = 1000000; size = size; criterion = criterion.Highest; least = least; blocks = Without };
+  settings =
+      record { q = 2; budget = 1000000; size = size; criterion = criterion.Highest; least = least; blocks = Without };
   goal = goal;
   examine = record { aliasing = false; blocked = false; design = false; aberration = false };
   outputs = [];
@@ -43,13 +44,20 @@ step_of s size goal least = record {
 
 -- the step's number, the factors and their levels, how the search ended, and the resolution of its matrix
 heads :
-    (head_lines 12 (step_of 2 (Runs 2) (AtLeast 3) false) (size 3 2 2) (Design (1 ∷ 3 ∷ []) 100) ≡ codes "step 12\nfactors 2 levels 3\ndesign 9 runs\nno defining words\nnodes 100\n")
-    × (head_lines 1 (step_of 3 (Runs 2) Highest true) (size 2 2 3) (Design (1 ∷ 2 ∷ 3 ∷ []) 3) ≡ codes "step 1\nfactors 3 levels 2\ndesign 4 runs\nresolution 3 least aberration\nnodes 3\n")
-    × (head_lines 1 (step_of 3 (Runs 2) (AtLeast 3) false) (size 2 2 3) (Design (1 ∷ 2 ∷ 3 ∷ []) 3) ≡ codes "step 1\nfactors 3 levels 2\ndesign 4 runs\nresolution 3\nnodes 3\n")
-    × (head_lines 1 (step_of 3 (Runs 2) (ForEffects (1 ∷ []) []) false) (size 2 2 3) (Design (1 ∷ 2 ∷ 3 ∷ []) 3) ≡ codes "step 1\nfactors 3 levels 2\ndesign 4 runs\nresolution 3\nnodes 3\n")
-    × (head_lines 1 (step_of 2 (Runs 5) (AtLeast 3) false) (size 4 5 2) (NoDesign 7) ≡ codes "step 1\nfactors 2 levels 4\nno design in 1024 runs\nnodes 7\n")
-    × (head_lines 100 (step_of 3 (Runs 1) (AtLeast 3) true) (size 9 1 3) (BudgetEnded None 5000000) ≡ codes "step 100\nfactors 3 levels 9\nbudget ended after 5000000 nodes\n")
-    × (head_lines 1 (step_of 3 (Runs 2) (AtLeast 3) true) (size 2 2 3) (BudgetEnded (Some (1 ∷ 2 ∷ 3 ∷ [])) 2) ≡ codes "step 1\nfactors 3 levels 2\nbudget ended after 2 nodes\ndesign 4 runs not proved best\nresolution 3\n")
+    (head_lines 12 (step_of 2 (Runs 2) (AtLeast 3) false) (size 3 2 2) (Design (1 ∷ 3 ∷ []) 100)
+    ≡ codes "step 12\nfactors 2 levels 3\ndesign 9 runs\nno defining words\nnodes 100\n")
+    × (head_lines 1 (step_of 3 (Runs 2) Highest true) (size 2 2 3) (Design (1 ∷ 2 ∷ 3 ∷ []) 3)
+    ≡ codes "step 1\nfactors 3 levels 2\ndesign 4 runs\nresolution 3 least aberration\nnodes 3\n")
+    × (head_lines 1 (step_of 3 (Runs 2) (AtLeast 3) false) (size 2 2 3) (Design (1 ∷ 2 ∷ 3 ∷ []) 3)
+    ≡ codes "step 1\nfactors 3 levels 2\ndesign 4 runs\nresolution 3\nnodes 3\n")
+    × (head_lines 1 (step_of 3 (Runs 2) (ForEffects (1 ∷ []) []) false) (size 2 2 3) (Design (1 ∷ 2 ∷ 3 ∷ []) 3)
+    ≡ codes "step 1\nfactors 3 levels 2\ndesign 4 runs\nresolution 3\nnodes 3\n")
+    × (head_lines 1 (step_of 2 (Runs 5) (AtLeast 3) false) (size 4 5 2) (NoDesign 7)
+    ≡ codes "step 1\nfactors 2 levels 4\nno design in 1024 runs\nnodes 7\n")
+    × (head_lines 100 (step_of 3 (Runs 1) (AtLeast 3) true) (size 9 1 3) (BudgetEnded None 5000000)
+    ≡ codes "step 100\nfactors 3 levels 9\nbudget ended after 5000000 nodes\n")
+    × (head_lines 1 (step_of 3 (Runs 2) (AtLeast 3) true) (size 2 2 3) (BudgetEnded (Some (1 ∷ 2 ∷ 3 ∷ [])) 2)
+    ≡ codes "step 1\nfactors 3 levels 2\nbudget ended after 2 nodes\ndesign 4 runs not proved best\nresolution 3\n")
 unfolding digits prime_of degree_of reduction_of add mul neg runs_of is_constant constant_words pattern_of
 heads = (refl, refl, refl, refl, refl, refl, refl)
 
@@ -58,26 +66,37 @@ five_rows = 1 ∷ 2 ∷ 4 ∷ 7 ∷ 6 ∷ []
 
 -- the highest resolution, and the best that a budget leaves
 heads_of_highest :
-    (head_lines 1 (step_of 5 (Runs 3) Highest false) (size 2 3 5) (Design five_rows 15) ≡ codes "step 1\nfactors 5 levels 2\ndesign 8 runs\nresolution 3 highest\nnodes 15\n")
-    × (head_lines 1 (step_of 5 (Runs 3) Highest false) (size 2 3 5) (BudgetEnded (Some five_rows) 14) ≡ codes "step 1\nfactors 5 levels 2\nbudget ended after 14 nodes\ndesign 8 runs not proved best\nresolution 3\n")
-    × (head_lines 1 (step_of 1 (Runs 1) Highest false) (size 2 1 1) (Design (1 ∷ []) 1) ≡ codes "step 1\nfactors 1 levels 2\ndesign 2 runs\nno defining words\nnodes 1\n")
+    (head_lines 1 (step_of 5 (Runs 3) Highest false) (size 2 3 5) (Design five_rows 15)
+    ≡ codes "step 1\nfactors 5 levels 2\ndesign 8 runs\nresolution 3 highest\nnodes 15\n")
+    × (head_lines 1 (step_of 5 (Runs 3) Highest false) (size 2 3 5) (BudgetEnded (Some five_rows) 14)
+    ≡ codes "step 1\nfactors 5 levels 2\nbudget ended after 14 nodes\ndesign 8 runs not proved best\nresolution 3\n")
+    × (head_lines 1 (step_of 1 (Runs 1) Highest false) (size 2 1 1) (Design (1 ∷ []) 1)
+    ≡ codes "step 1\nfactors 1 levels 2\ndesign 2 runs\nno defining words\nnodes 1\n")
 unfolding digits prime_of degree_of reduction_of add mul neg runs_of is_constant constant_words pattern_of
 heads_of_highest = (refl, refl, refl)
 
 -- blocks are in the line of a design, and in that of a size that has none
 heads_in_blocks :
-    (head_lines 1 (step_of 3 (Runs 3) (AtLeast 3) false) (in_blocks 2 3 3 1) (Design (1 ∷ 2 ∷ 4 ∷ 7 ∷ []) 4) ≡ codes "step 1\nfactors 3 levels 2\ndesign 8 runs in 2 blocks\nno defining words\nnodes 4\n")
-    × (head_lines 1 (step_of 3 (Runs 3) (AtLeast 3) false) (in_blocks 2 3 3 2) (Design (1 ∷ 2 ∷ 4 ∷ 6 ∷ 5 ∷ []) 111) ≡ codes "step 1\nfactors 3 levels 2\ndesign 8 runs in 4 blocks\nno defining words\nnodes 111\n")
-    × (head_lines 1 (step_of 3 (Runs 3) (AtLeast 3) false) (in_blocks 2 3 3 3) (NoDesign 91) ≡ codes "step 1\nfactors 3 levels 2\nno design in 8 runs with 8 blocks\nnodes 91\n")
-    × (head_lines 1 (step_of 3 (Runs 3) (AtLeast 3) false) (in_blocks 2 3 3 2) (BudgetEnded (Some (1 ∷ 2 ∷ 4 ∷ 6 ∷ 5 ∷ [])) 110) ≡ codes "step 1\nfactors 3 levels 2\nbudget ended after 110 nodes\ndesign 8 runs in 4 blocks not proved best\nno defining words\n")
+    (head_lines 1 (step_of 3 (Runs 3) (AtLeast 3) false) (in_blocks 2 3 3 1) (Design (1 ∷ 2 ∷ 4 ∷ 7 ∷ []) 4)
+    ≡ codes "step 1\nfactors 3 levels 2\ndesign 8 runs in 2 blocks\nno defining words\nnodes 4\n")
+    × (head_lines 1 (step_of 3 (Runs 3) (AtLeast 3) false) (in_blocks 2 3 3 2) (Design (1 ∷ 2 ∷ 4 ∷ 6 ∷ 5 ∷ []) 111)
+    ≡ codes "step 1\nfactors 3 levels 2\ndesign 8 runs in 4 blocks\nno defining words\nnodes 111\n")
+    × (head_lines 1 (step_of 3 (Runs 3) (AtLeast 3) false) (in_blocks 2 3 3 3) (NoDesign 91)
+    ≡ codes "step 1\nfactors 3 levels 2\nno design in 8 runs with 8 blocks\nnodes 91\n")
+    × (head_lines 1 (step_of 3 (Runs 3) (AtLeast 3) false) (in_blocks 2 3 3 2)
+    (BudgetEnded (Some (1 ∷ 2 ∷ 4 ∷ 6 ∷ 5 ∷ [])) 110)
+    ≡ codes "step 1\nfactors 3 levels 2\nbudget ended after 110 nodes\ndesign 8 runs in 4 blocks not proved best\nno defining words\n")
 unfolding digits prime_of degree_of reduction_of add mul neg runs_of is_constant constant_words pattern_of
 heads_in_blocks = (refl, refl, refl, refl)
 
 -- of the least size: the design is of the first that has one; where none has, there is no word on blocks
 heads_of_least_size :
-    (head_lines 1 (step_of 6 Minimum (AtLeast 4) false) (size 2 4 6) (Design (1 ∷ 2 ∷ 4 ∷ 8 ∷ 14 ∷ 13 ∷ []) 31) ≡ codes "step 1\nfactors 6 levels 2\ndesign 16 runs\nresolution 4\nnodes 31\n")
-    × (head_lines 1 (step_of 2 Minimum (AtLeast 3) false) (size 2 10 2) (NoDesign 50) ≡ codes "step 1\nfactors 2 levels 2\nno design in at most 1024 runs\nnodes 50\n")
-    × (head_lines 1 (step_of 2 Minimum (AtLeast 3) false) (in_blocks 3 6 2 4) (NoDesign 50) ≡ codes "step 1\nfactors 2 levels 3\nno design in at most 729 runs\nnodes 50\n")
+    (head_lines 1 (step_of 6 Minimum (AtLeast 4) false) (size 2 4 6) (Design (1 ∷ 2 ∷ 4 ∷ 8 ∷ 14 ∷ 13 ∷ []) 31)
+    ≡ codes "step 1\nfactors 6 levels 2\ndesign 16 runs\nresolution 4\nnodes 31\n")
+    × (head_lines 1 (step_of 2 Minimum (AtLeast 3) false) (size 2 10 2) (NoDesign 50)
+    ≡ codes "step 1\nfactors 2 levels 2\nno design in at most 1024 runs\nnodes 50\n")
+    × (head_lines 1 (step_of 2 Minimum (AtLeast 3) false) (in_blocks 3 6 2 4) (NoDesign 50)
+    ≡ codes "step 1\nfactors 2 levels 3\nno design in at most 729 runs\nnodes 50\n")
 unfolding digits prime_of degree_of reduction_of add mul neg runs_of is_constant constant_words pattern_of
 heads_of_least_size = (refl, refl, refl)
 
@@ -99,21 +118,31 @@ products = (refl, refl, refl)
 -- coefficients and products of up to nine levels; a row that is zero; rows that all introduce a run index, and one
 -- that introduces the second after a row that is zero
 rules_of_rows :
-    (rules (size 7 3 4) (codes "A" ∷ codes "B" ∷ codes "C" ∷ codes "D" ∷ []) (1 ∷ 7 ∷ 49 ∷ 69 ∷ []) ≡ codes "rules\n  D = A^6*B^2*C\n")
-    × (rules (size 8 2 4) (codes "A" ∷ codes "B" ∷ codes "C" ∷ codes "D" ∷ []) (1 ∷ 8 ∷ 15 ∷ 12 ∷ []) ≡ codes "rules\n  C = A^7*B\n  D = A^4*B\n")
-    × (rules (size 9 2 4) (codes "A" ∷ codes "B" ∷ codes "C" ∷ codes "D" ∷ []) (1 ∷ 9 ∷ 17 ∷ 9 ∷ []) ≡ codes "rules\n  C = A^8*B\n  D = B\n")
-    × (rules (size 2 2 3) (codes "Speed" ∷ codes "Feed" ∷ codes "C" ∷ []) (1 ∷ 0 ∷ 2 ∷ []) ≡ codes "rules\n  Feed = 0\n")
+    (rules (size 7 3 4) (codes "A" ∷ codes "B" ∷ codes "C" ∷ codes "D" ∷ []) (1 ∷ 7 ∷ 49 ∷ 69 ∷ [])
+    ≡ codes "rules\n  D = A^6*B^2*C\n")
+    × (rules (size 8 2 4) (codes "A" ∷ codes "B" ∷ codes "C" ∷ codes "D" ∷ []) (1 ∷ 8 ∷ 15 ∷ 12 ∷ [])
+    ≡ codes "rules\n  C = A^7*B\n  D = A^4*B\n")
+    × (rules (size 9 2 4) (codes "A" ∷ codes "B" ∷ codes "C" ∷ codes "D" ∷ []) (1 ∷ 9 ∷ 17 ∷ 9 ∷ [])
+    ≡ codes "rules\n  C = A^8*B\n  D = B\n")
+    × (rules (size 2 2 3) (codes "Speed" ∷ codes "Feed" ∷ codes "C" ∷ []) (1 ∷ 0 ∷ 2 ∷ [])
+    ≡ codes "rules\n  Feed = 0\n")
     × (rules (size 2 2 2) (codes "A" ∷ codes "B" ∷ []) (1 ∷ 2 ∷ []) ≡ codes "rules\n  none\n")
-    × (rules (size 2 2 4) (codes "A" ∷ codes "B" ∷ codes "C" ∷ codes "D" ∷ []) (1 ∷ 0 ∷ 2 ∷ 3 ∷ []) ≡ codes "rules\n  B = 0\n  D = A*C\n")
+    × (rules (size 2 2 4) (codes "A" ∷ codes "B" ∷ codes "C" ∷ codes "D" ∷ []) (1 ∷ 0 ∷ 2 ∷ 3 ∷ [])
+    ≡ codes "rules\n  B = 0\n  D = A*C\n")
 unfolding digits
 rules_of_rows = (refl, refl, refl, refl, refl, refl)
 
--- Block factors come after the factors. One that introduces a run index is that run factor, and the products after it have its name.
+-- Block factors come after the factors. One that introduces a run index is that run factor, and the products after it
+-- have its name.
 rules_of_blocks :
-    (rules (in_blocks 2 3 3 1) (codes "A" ∷ codes "B" ∷ codes "C" ∷ []) (1 ∷ 2 ∷ 4 ∷ 7 ∷ []) ≡ codes "rules\n  [1] = A*B*C\n")
-    × (rules (in_blocks 2 3 3 2) (codes "A" ∷ codes "B" ∷ codes "C" ∷ []) (1 ∷ 2 ∷ 4 ∷ 6 ∷ 5 ∷ []) ≡ codes "rules\n  [1] = B*C\n  [2] = A*C\n")
-    × (rules (in_blocks 3 3 3 3) (codes "A" ∷ codes "B" ∷ codes "C" ∷ []) (1 ∷ 3 ∷ 4 ∷ 9 ∷ 15 ∷ 0 ∷ []) ≡ codes "rules\n  C = A*B\n  [1] = run factor 3\n  [2] = B^2*[1]\n  [3] = 0\n")
-    × (rules (in_blocks 2 3 1 2) (codes "A" ∷ []) (1 ∷ 2 ∷ 4 ∷ []) ≡ codes "rules\n  [1] = run factor 2\n  [2] = run factor 3\n")
+    (rules (in_blocks 2 3 3 1) (codes "A" ∷ codes "B" ∷ codes "C" ∷ []) (1 ∷ 2 ∷ 4 ∷ 7 ∷ [])
+    ≡ codes "rules\n  [1] = A*B*C\n")
+    × (rules (in_blocks 2 3 3 2) (codes "A" ∷ codes "B" ∷ codes "C" ∷ []) (1 ∷ 2 ∷ 4 ∷ 6 ∷ 5 ∷ [])
+    ≡ codes "rules\n  [1] = B*C\n  [2] = A*C\n")
+    × (rules (in_blocks 3 3 3 3) (codes "A" ∷ codes "B" ∷ codes "C" ∷ []) (1 ∷ 3 ∷ 4 ∷ 9 ∷ 15 ∷ 0 ∷ [])
+    ≡ codes "rules\n  C = A*B\n  [1] = run factor 3\n  [2] = B^2*[1]\n  [3] = 0\n")
+    × (rules (in_blocks 2 3 1 2) (codes "A" ∷ []) (1 ∷ 2 ∷ 4 ∷ [])
+    ≡ codes "rules\n  [1] = run factor 2\n  [2] = run factor 3\n")
     × (rules (in_blocks 2 10 1 10) (codes "A" ∷ []) (1 ∷ 1 ∷ 1 ∷ 1 ∷ 1 ∷ 1 ∷ 1 ∷ 1 ∷ 1 ∷ 1 ∷ 2 ∷ [])
     ≡ codes "rules\n  [1] = A\n  [2] = A\n  [3] = A\n  [4] = A\n  [5] = A\n  [6] = A\n  [7] = A\n  [8] = A\n  [9] = A\n  [10] = run factor 2\n")
 unfolding digits
@@ -124,19 +153,28 @@ three_names = codes "A" ∷ codes "B" ∷ codes "C" ∷ []
 
 -- C = A*B; A and C with the same levels; and C = A*B at three levels
 aliases :
-    (alias_section three_names 2 (runs_of 2 2 (vectors_of 2 2 (1 ∷ 2 ∷ 3 ∷ []))) (components 2 3 2) ≡ codes "aliasing\n  A = B*C\n  B = A*C\n  C = A*B\n")
-    × (alias_section three_names 2 (runs_of 2 2 (vectors_of 2 2 (1 ∷ 2 ∷ 1 ∷ []))) (components 2 3 2) ≡ codes "aliasing\n  mean = A*C\n  A = C\n  B\n  A*B = B*C\n")
-    × (alias_section three_names 3 (runs_of 3 2 (vectors_of 3 2 (1 ∷ 3 ∷ 4 ∷ []))) (components 3 3 2) ≡ codes "aliasing\n  A = B^2*C\n  B = A^2*C\n  C = A*B\n  A^2*B = A*C = B*C\n")
+    (alias_section three_names 2 (runs_of 2 2 (vectors_of 2 2 (1 ∷ 2 ∷ 3 ∷ []))) (components 2 3 2)
+    ≡ codes "aliasing\n  A = B*C\n  B = A*C\n  C = A*B\n")
+    × (alias_section three_names 2 (runs_of 2 2 (vectors_of 2 2 (1 ∷ 2 ∷ 1 ∷ []))) (components 2 3 2)
+    ≡ codes "aliasing\n  mean = A*C\n  A = C\n  B\n  A*B = B*C\n")
+    × (alias_section three_names 3 (runs_of 3 2 (vectors_of 3 2 (1 ∷ 3 ∷ 4 ∷ []))) (components 3 3 2)
+    ≡ codes "aliasing\n  A = B^2*C\n  B = A^2*C\n  C = A*B\n  A^2*B = A*C = B*C\n")
 unfolding digits is_aliased is_constant runs_of add mul neg prime_of degree_of reduction_of
 aliases = (refl, refl, refl)
 
 abbrev two_factors : ℕ → RunsView
-two_factors t = record { shape = record { q = 2; m = 2; s = 2; t = t }; rows = runs_of 2 2 (vectors_of 2 2 (1 ∷ 2 ∷ (if t == 0 then [] else 3 ∷ []))) }
+two_factors t =
+    record {
+      shape = record { q = 2; m = 2; s = 2; t = t };
+      rows = runs_of 2 2 (vectors_of 2 2 (1 ∷ 2 ∷ (if t == 0 then [] else 3 ∷ [])));
+    }
 
 -- blocks are numbered from 1
 points_of_runs :
-    (design_section (codes "A" ∷ codes "B" ∷ []) (two_factors 0) ≡ codes "points A B\n  1 -1 -1\n  2 -1 1\n  3 1 -1\n  4 1 1\n")
-    × (design_section (codes "A" ∷ codes "B" ∷ []) (two_factors 1) ≡ codes "points BLOCK A B\n  1 1 -1 -1\n  2 2 -1 1\n  3 2 1 -1\n  4 1 1 1\n")
+    (design_section (codes "A" ∷ codes "B" ∷ []) (two_factors 0)
+    ≡ codes "points A B\n  1 -1 -1\n  2 -1 1\n  3 1 -1\n  4 1 1\n")
+    × (design_section (codes "A" ∷ codes "B" ∷ []) (two_factors 1)
+    ≡ codes "points BLOCK A B\n  1 1 -1 -1\n  2 2 -1 1\n  3 2 1 -1\n  4 1 1 1\n")
 unfolding digits runs_of add mul prime_of degree_of reduction_of
 points_of_runs = (refl, refl)
 

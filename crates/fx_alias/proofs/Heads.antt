@@ -12,16 +12,21 @@ use Rattle.fx_statements.specs.Steps.{Meaning}
 use Rattle.fx_alias.specs.Heads.{budget_line, claim_of, matrix_lines, nodes_line, outcome_lines, resolution_line}
 
 -- no weight has a word
-pub no-words : (claim : List ℕ) (a : List ℕ) → length a < resolution_of a → codes "no defining words\n" ≡ resolution_line claim a
+pub no-words : (claim : List ℕ) (a : List ℕ) → length a < resolution_of a
+    → codes "no defining words\n" ≡ resolution_line claim a
 no-words claim a h = sym (cond-true _ (codes "no defining words\n") _ (lt-ltb (length a) (resolution_of a) h))
 
 -- the lines of a search that ended with a design
-pub design-lines : (step : Meaning) (shape : Shape) (matrix : Option MatrixView) (n : ℕ) → HasMatrix shape (Design (rows_of matrix) n) matrix
-    → matrix_lines [] (claim_of step) matrix ++ nodes_line n ≡ outcome_lines step (dimensions_of shape) (Design (rows_of matrix) n)
+pub design-lines : (step : Meaning) (shape : Shape) (matrix : Option MatrixView) (n : ℕ)
+    → HasMatrix shape (Design (rows_of matrix) n) matrix
+    → matrix_lines [] (claim_of step) matrix ++ nodes_line n
+    ≡ outcome_lines step (dimensions_of shape) (Design (rows_of matrix) n)
 design-lines step shape matrix n h = ap (λ o. matrix_lines [] (claim_of step) o ++ nodes_line n) h.0
 
 -- the lines of a budget that ended
-pub budget-lines : (step : Meaning) (shape : Shape) (matrix : Option MatrixView) (n : ℕ) → HasMatrix shape (BudgetEnded (rows_if matrix) n) matrix
-    → budget_line n ++ matrix_lines (codes " not proved best") [] matrix ≡ outcome_lines step (dimensions_of shape) (BudgetEnded (rows_if matrix) n)
+pub budget-lines : (step : Meaning) (shape : Shape) (matrix : Option MatrixView) (n : ℕ)
+    → HasMatrix shape (BudgetEnded (rows_if matrix) n) matrix
+    → budget_line n ++ matrix_lines (codes " not proved best") [] matrix
+    ≡ outcome_lines step (dimensions_of shape) (BudgetEnded (rows_if matrix) n)
 budget-lines step shape None n h = append-nil (budget_line n)
 budget-lines step shape (Some matrix) n h = ap (λ o. budget_line n ++ matrix_lines (codes " not proved best") [] o) h.0

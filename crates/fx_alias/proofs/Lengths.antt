@@ -1,5 +1,6 @@
 -- How many components are listed.
-use Rattle.std.proofs.Common.{rules, ℕ, zero, suc, ◌≡◌, ◌<◌, ◌+◌, ◌-◌, ◌*◌, ◌^◌, Bool, true, false, cond, List, [], ◌∷◌, ◌++◌, length, map, refl, sym, ◌∙◌, ap, ap₂, arith, length-append, pow-suc, mul-one}
+use Rattle.std.proofs.Common.{rules, ℕ, zero, suc, ◌≡◌, ◌<◌, ◌+◌, ◌-◌, ◌*◌, ◌^◌, Bool, true, false, cond, List, [], ◌∷◌}
+use Rattle.std.proofs.Common.{◌++◌, length, map, refl, sym, ◌∙◌, ap, ap₂, arith, length-append, pow-suc, mul-one}
 use Rattle.std.proofs.Math.Nat.{pow-zero}
 use Rattle.std.specs.List.{flat_map, list_any, range_with_len, sum_by, AllByRecursion}
 use Rattle.std.proofs.lemmas.List.{length-map, append-nil}
@@ -16,7 +17,8 @@ trues [] = 0
 trues (true ∷ b) = suc (trues b)
 trues (false ∷ b) = trues b
 
-sum_same : {X : Type 0} (g : X → ℕ) (n : ℕ) (xs : List X) → AllByRecursion (λ x. g x ≡ n) xs → sum_by g xs ≡ length xs * n
+sum_same : {X : Type 0} (g : X → ℕ) (n : ℕ) (xs : List X) → AllByRecursion (λ x. g x ≡ n) xs
+    → sum_by g xs ≡ length xs * n
 sum_same g n [] h = omega arith
 sum_same g n (x ∷ xs) h =
     sum_by-cons g x xs ∙ ap₂ (λ (a b : ℕ). a + b) h.0 (sum_same g n xs h.1) ∙ more (length xs) n
@@ -38,11 +40,13 @@ none_true [] e = refl
 none_true (true ∷ b) e = absurd (search rules)
 none_true (false ∷ b) e = none_true b e
 
-length-codes : (q : ℕ) (later : List Bool) (t : Bool) → list_any (λ x. x) later ≡ t → length (codes_before q later) ≡ cond t (q - 1) 1
+length-codes : (q : ℕ) (later : List Bool) (t : Bool) → list_any (λ x. x) later ≡ t
+    → length (codes_before q later) ≡ cond t (q - 1) 1
 length-codes q later true e = rw e (length-range_with_len 1 (q - 1))
 length-codes q later false e = rw e refl
 
-times_codes : (q : ℕ) (b : List Bool) (n : ℕ) → n ≡ (q - 1) ^ (trues b - 1) → (t : Bool) → list_any (λ x. x) b ≡ t → n * length (codes_before q b) ≡ (q - 1) ^ (suc (trues b) - 1)
+times_codes : (q : ℕ) (b : List Bool) (n : ℕ) → n ≡ (q - 1) ^ (trues b - 1) → (t : Bool) → list_any (λ x. x) b ≡ t
+    → n * length (codes_before q b) ≡ (q - 1) ^ (suc (trues b) - 1)
 times_codes q b n is true e =
     let some : 0 < trues b = any_true b e in
     let first : suc (trues b) - 1 ≡ suc (trues b - 1) = omega arith in
@@ -57,7 +61,8 @@ length-normal q (false ∷ b) = length-map (normal_vectors q b) (λ v. 0 ∷ v) 
 length-normal q (true ∷ b) =
     length-flat_map (λ v. map (λ c. c ∷ v) (codes_before q b)) (normal_vectors q b)
     ∙ sum_same (λ v. length (map (λ c. c ∷ v) (codes_before q b))) (length (codes_before q b)) (normal_vectors q b)
-    (each (λ v. length (map (λ c. c ∷ v) (codes_before q b)) ≡ length (codes_before q b)) (normal_vectors q b) (λ v. length-map (codes_before q b) (λ c. c ∷ v)))
+    (each (λ v. length (map (λ c. c ∷ v) (codes_before q b)) ≡ length (codes_before q b)) (normal_vectors q b)
+    (λ v. length-map (codes_before q b) (λ c. c ∷ v)))
     ∙ times_codes q b (length (normal_vectors q b)) (length-normal q b) (list_any (λ x. x) b) refl
 
 length-supports : (k s : ℕ) → length (supports k s) ≡ choose s k
@@ -70,17 +75,21 @@ length-supports zero (suc s) = length-map (supports zero s) (λ set. false ∷ s
     one (suc s) = refl
 length-supports (suc k) (suc s) =
     length-append (map (λ set. true ∷ set) (supports k s)) (map (λ set. false ∷ set) (supports (suc k) s))
-    ∙ ap₂ (λ (a b : ℕ). a + b) (length-map (supports k s) (λ set. true ∷ set) ∙ length-supports k s) (length-map (supports (suc k) s) (λ set. false ∷ set) ∙ length-supports (suc k) s)
+    ∙ ap₂ (λ (a b : ℕ). a + b) (length-map (supports k s) (λ set. true ∷ set) ∙ length-supports k s)
+    (length-map (supports (suc k) s) (λ set. false ∷ set) ∙ length-supports (suc k) s)
 
-both : {X : Type 0} (P : X → Type 0) (xs ys : List X) → AllByRecursion P xs → AllByRecursion P ys → AllByRecursion P (xs ++ ys)
+both : {X : Type 0} (P : X → Type 0) (xs ys : List X) → AllByRecursion P xs → AllByRecursion P ys
+    → AllByRecursion P (xs ++ ys)
 both P [] ys h k = k
 both P (x ∷ xs) ys h k = (h.0, both P xs ys h.1 k)
 
-mapped : {X Y : Type 0} (P : Y → Type 0) (g : X → Y) (xs : List X) → AllByRecursion (λ x. P (g x)) xs → AllByRecursion P (map g xs)
+mapped : {X Y : Type 0} (P : Y → Type 0) (g : X → Y) (xs : List X) → AllByRecursion (λ x. P (g x)) xs
+    → AllByRecursion P (map g xs)
 mapped P g [] h = tt
 mapped P g (x ∷ xs) h = (h.0, mapped P g xs h.1)
 
-less : {X : Type 0} (g : X → ℕ) (n : ℕ) (xs : List X) → AllByRecursion (λ x. g x ≡ n) xs → AllByRecursion (λ x. suc (g x) ≡ suc n) xs
+less : {X : Type 0} (g : X → ℕ) (n : ℕ) (xs : List X) → AllByRecursion (λ x. g x ≡ n) xs
+    → AllByRecursion (λ x. suc (g x) ≡ suc n) xs
 less g n [] h = tt
 less g n (x ∷ xs) h = (ap suc h.0, less g n xs h.1)
 
@@ -94,21 +103,24 @@ all_of (suc k) (suc s) =
     (mapped (λ b. trues b ≡ suc k) (λ set. true ∷ set) (supports k s) (less trues k (supports k s) (all_of k s)))
     (mapped (λ b. trues b ≡ suc k) (λ set. false ∷ set) (supports (suc k) s) (all_of (suc k) s))
 
-lengths_of : (q k : ℕ) (sets : List (List Bool)) → AllByRecursion (λ b. trues b ≡ k) sets → AllByRecursion (λ b. length (normal_vectors q b) ≡ (q - 1) ^ (k - 1)) sets
+lengths_of : (q k : ℕ) (sets : List (List Bool)) → AllByRecursion (λ b. trues b ≡ k) sets
+    → AllByRecursion (λ b. length (normal_vectors q b) ≡ (q - 1) ^ (k - 1)) sets
 lengths_of q k [] h = tt
 lengths_of q k (b ∷ sets) h = (length-normal q b ∙ ap (λ (n : ℕ). (q - 1) ^ (n - 1)) h.0, lengths_of q k sets h.1)
 
 length-of : (q s k : ℕ) → length (flat_map (normal_vectors q) (supports k s)) ≡ component_count q s k
 length-of q s k =
     length-flat_map (normal_vectors q) (supports k s)
-    ∙ sum_same (λ b. length (normal_vectors q b)) ((q - 1) ^ (k - 1)) (supports k s) (lengths_of q k (supports k s) (all_of k s))
+    ∙ sum_same (λ b. length (normal_vectors q b)) ((q - 1) ^ (k - 1)) (supports k s)
+    (lengths_of q k (supports k s) (all_of k s))
     ∙ ap (λ (n : ℕ). n * (q - 1) ^ (k - 1)) (length-supports k s)
 
 range_more : (a n : ℕ) → range_with_len a (n + 1) ≡ range_with_len a n ++ (a + n) ∷ []
 range_more a zero = ap (λ (x : ℕ). x ∷ []) (omega arith)
 range_more a (suc n) =
     let e : suc n + 1 ≡ suc (n + 1) = omega arith in
-    rw e (ap (λ (l : List ℕ). a ∷ l) (range_more (a + 1) n ∙ ap (λ (x : ℕ). range_with_len (a + 1) n ++ x ∷ []) (omega arith)))
+    rw e (ap (λ (l : List ℕ). a ∷ l)
+    (range_more (a + 1) n ∙ ap (λ (x : ℕ). range_with_len (a + 1) n ++ x ∷ []) (omega arith)))
 
 -- as many as the rule on listings counts
 pub length-components : (q s d : ℕ) → length (components q s d) ≡ listed_count q s d
@@ -117,7 +129,9 @@ length-components q s (suc d) =
     let of = λ (k : ℕ). flat_map (normal_vectors q) (supports (k + 1) s) in
     let e : suc d ≡ d + 1 = omega arith in
     ap (λ (n : ℕ). length (flat_map of (range_with_len 0 n))) e
-    ∙ ap (λ (l : List ℕ). length (flat_map of l)) (range_more 0 d ∙ ap (λ (x : ℕ). range_with_len 0 d ++ x ∷ []) (omega arith))
+    ∙ ap (λ (l : List ℕ). length (flat_map of l))
+    (range_more 0 d ∙ ap (λ (x : ℕ). range_with_len 0 d ++ x ∷ []) (omega arith))
     ∙ ap length (flat_map-append of (range_with_len 0 d) (d ∷ []))
     ∙ length-append (flat_map of (range_with_len 0 d)) (of d ++ [])
-    ∙ ap₂ (λ (a b : ℕ). a + b) (length-components q s d) (ap length (append-nil (of d)) ∙ length-of q s (d + 1) ∙ ap (component_count q s) (sym e))
+    ∙ ap₂ (λ (a b : ℕ). a + b) (length-components q s d)
+    (ap length (append-nil (of d)) ∙ length-of q s (d + 1) ∙ ap (component_count q s) (sym e))

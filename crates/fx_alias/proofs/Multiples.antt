@@ -1,5 +1,6 @@
 -- What it is that vectors are aliased, told from their sums over the rules.
-use Rattle.std.proofs.Common.{ℕ, zero, suc, ◌≤◌, ◌≡◌, ◌<◌, ◌+◌, ◌-◌, ◌*◌, ◌↔◌, Bool, true, eqb, List, [], ◌∷◌, refl, sym, subst, ◌∙◌, ap, ap₂, arith, inl, inr}
+use Rattle.std.proofs.Common.{ℕ, zero, suc, ◌≤◌, ◌≡◌, ◌<◌, ◌+◌, ◌-◌, ◌*◌, ◌↔◌, Bool, true, eqb, List, [], ◌∷◌, refl}
+use Rattle.std.proofs.Common.{sym, subst, ◌∙◌, ap, ap₂, arith, inl, inr}
 use Rattle.std.specs.Bool.{Decides}
 use Rattle.std.specs.List.{range_with_len, AllByRecursion}
 use Rattle.std.proofs.Common.{mul-pos}
@@ -26,17 +27,23 @@ use Rattle.fx_alias.specs.Classes.{IsMultiple, class_number}
 module _ (q : ℕ) (f : IsField q) where
   -- the sum of a difference
   sum-minus : (m c : ℕ) (u v : List ℕ) (rows : List (List ℕ)) → AreVectors q m rows
-      → combination q m (minus q u (scale q c v)) rows ≡ minus q (combination q m u rows) (scale q c (combination q m v rows))
+      → combination q m (minus q u (scale q c v)) rows
+      ≡ minus q (combination q m u rows) (scale q c (combination q m v rows))
   sum-minus m c u v rows h =
       let hu = combination-vector q m f u rows h in
       let hv = combination-vector q m f v rows h in
-      ext q m f _ _ (combination-vector q m f (minus q u (scale q c v)) rows h) (plus-vector q m f _ _ hu (scale-vector q m f (neg q 1) _ (scale-vector q m f c _ hv)))
+      ext q m f _ _ (combination-vector q m f (minus q u (scale q c v)) rows h)
+      (plus-vector q m f _ _ hu (scale-vector q m f (neg q 1) _ (scale-vector q m f c _ hv)))
       (λ p. sym (dot-levels q f m (minus q u (scale q c v)) rows p)
       ∙ dot-plus q f u (scale q (neg q 1) (scale q c v)) (levels_at q rows p)
-      ∙ ap (add q (dot q u (levels_at q rows p))) (dot-scale q f (neg q 1) (scale q c v) (levels_at q rows p) ∙ ap (mul q (neg q 1)) (dot-scale q f c v (levels_at q rows p)))
+      ∙ ap (add q (dot q u (levels_at q rows p)))
+      (dot-scale q f (neg q 1) (scale q c v) (levels_at q rows p) ∙ ap (mul q (neg q 1))
+      (dot-scale q f c v (levels_at q rows p)))
       ∙ ap₂ (λ (a b : ℕ). add q a (mul q (neg q 1) (mul q c b))) (dot-levels q f m u rows p) (dot-levels q f m v rows p)
-      ∙ ap (λ (b : ℕ). add q (dot q (combination q m u rows) p) (mul q (neg q 1) b)) (sym (dot-scale q f c (combination q m v rows) p))
-      ∙ ap (add q (dot q (combination q m u rows) p)) (sym (dot-scale q f (neg q 1) (scale q c (combination q m v rows)) p))
+      ∙ ap (λ (b : ℕ). add q (dot q (combination q m u rows) p) (mul q (neg q 1) b))
+      (sym (dot-scale q f c (combination q m v rows) p))
+      ∙ ap (add q (dot q (combination q m u rows) p))
+      (sym (dot-scale q f (neg q 1) (scale q c (combination q m v rows)) p))
       ∙ sym (dot-plus q f (combination q m u rows) (scale q (neg q 1) (scale q c (combination q m v rows))) p))
 
   module _ (m : ℕ) (numbers u v : List ℕ) where
@@ -62,7 +69,8 @@ module _ (q : ℕ) (f : IsField q) where
         let split = sum-minus m c u v rows (rows-vectors q m f numbers) in
         let hc : IsVector q m (scale q c t) = scale-vector q m f c t ht in
         let none = negated_twice q f m (scale q c t) hc in (
-          λ e. cancelled q f m s (scale q c t) (scale q (neg q 1) (scale q c t)) hs hc (scale-vector q m f (neg q 1) _ hc) (sym split ∙ both.0 e ∙ sym none),
+          λ e. cancelled q f m s (scale q c t) (scale q (neg q 1) (scale q c t)) hs hc
+              (scale-vector q m f (neg q 1) _ hc) (sym split ∙ both.0 e ∙ sym none),
           λ e. both.1 (split ∙ ap (λ (x : List ℕ). minus q x (scale q c t)) e ∙ none),
         )
 
@@ -71,10 +79,20 @@ module _ (q : ℕ) (f : IsField q) where
     unfolding is_aliased
     aliased_multiple =
         let test : ℕ → Bool = λ c. is_constant q (minus q u (scale q c v)) (runs_of q m rows) in (
-          λ e. let found = some_item test (λ c. (0 < c) × (c < q)) (range_with_len 1 (q - 1)) (range_codes 1 (q - 1) (omega arith) (omega (arith, f.more_than_one))) e in
-              record { factor = found.0; nonzero = found.1.0; code = found.1.1; is = (constant_multiple found.0).0 found.2 },
-          λ h. list_any_at test (range_with_len 1 (q - 1)) (h.factor - 1) 0 (omega (arith, length-range_with_len 1 (q - 1), h.nonzero, h.code))
-              (subst (λ (c : ℕ). test c ≡ true) (sym (get_or-range_with_len 1 (q - 1) (h.factor - 1) 0 (omega (arith, h.nonzero, h.code)) ∙ omega (arith, h.nonzero))) ((constant_multiple h.factor).1 h.is)),
+          λ e. let found =
+              some_item test (λ c. (0 < c) × (c < q)) (range_with_len 1 (q - 1))
+              (range_codes 1 (q - 1) (omega arith) (omega (arith, f.more_than_one))) e in
+              record {
+                factor = found.0;
+                nonzero = found.1.0;
+                code = found.1.1;
+                is = (constant_multiple found.0).0 found.2;
+              },
+          λ h. list_any_at test (range_with_len 1 (q - 1)) (h.factor - 1) 0
+              (omega (arith, length-range_with_len 1 (q - 1), h.nonzero, h.code))
+              (subst (λ (c : ℕ). test c ≡ true)
+              (sym (get_or-range_with_len 1 (q - 1) (h.factor - 1) 0 (omega (arith, h.nonzero, h.code)) ∙ omega
+              (arith, h.nonzero))) ((constant_multiple h.factor).1 h.is)),
         )
       where
         range_codes : (a n : ℕ) → 0 < a → a + n ≤ q → AllByRecursion (λ c. (0 < c) × (c < q)) (range_with_len a n)
@@ -99,7 +117,8 @@ module _ (q : ℕ) (f : IsField q) where
             let positive : 0 < q * number q v = mul-pos (omega (arith, f.more_than_one)) more in omega arith
       ]
 
-  module _ (m : ℕ) (s t : List ℕ) (hs : IsVector q m s) (ht : IsVector q m t) (ns : 0 < last_nonzero s) (nt : 0 < last_nonzero t) where
+  module _ (m : ℕ) (s t : List ℕ) (hs : IsVector q m s) (ht : IsVector q m t) (ns : 0 < last_nonzero s)
+      (nt : 0 < last_nonzero t) where
     -- vectors of one number are multiples
     multiple_of_one_number : class_number q s ≡ class_number q t → IsMultiple q s t
     unfolding class_number
@@ -107,14 +126,19 @@ module _ (q : ℕ) (f : IsField q) where
         let a1 = inv-positive q f (last_nonzero s) ns (last-code q f s hs.codes) in
         let b1 = inv-positive q f (last_nonzero t) nt (last-code q f t ht.codes) in
         let same : scale q (inv q (last_nonzero s)) s ≡ scale q (inv q (last_nonzero t)) t =
-        sym (digits-number q m _ (scale-vector q m f (inv q (last_nonzero s)) s hs)) ∙ ap (digits q m) e ∙ digits-number q m _ (scale-vector q m f (inv q (last_nonzero t)) t ht) in
+        sym (digits-number q m _ (scale-vector q m f (inv q (last_nonzero s)) s hs)) ∙ ap (digits q m) e ∙ digits-number
+        q m _ (scale-vector q m f (inv q (last_nonzero t)) t ht) in
         let back : ℕ = inv q (inv q (last_nonzero s)) in
         record {
           factor = mul q back (inv q (last_nonzero t));
-          nonzero = product-some back (inv q (last_nonzero t)) (inv-positive q f (inv q (last_nonzero s)) a1 (f.inv_code (last_nonzero s))) (f.inv_code (inv q (last_nonzero s))) b1 (f.inv_code (last_nonzero t));
+          nonzero = product-some back (inv q (last_nonzero t))
+              (inv-positive q f (inv q (last_nonzero s)) a1 (f.inv_code (last_nonzero s)))
+              (f.inv_code (inv q (last_nonzero s))) b1 (f.inv_code (last_nonzero t));
           code = f.mul_code back (inv q (last_nonzero t));
-          is = sym (scale-one q m f s hs) ∙ ap (λ (x : ℕ). scale q x s) (sym (inv-mul q f (inv q (last_nonzero s)) a1 (f.inv_code (last_nonzero s))))
-              ∙ sym (scale-scale back (inv q (last_nonzero s)) s) ∙ ap (scale q back) same ∙ scale-scale back (inv q (last_nonzero t)) t;
+          is = sym (scale-one q m f s hs) ∙ ap (λ (x : ℕ). scale q x s)
+              (sym (inv-mul q f (inv q (last_nonzero s)) a1 (f.inv_code (last_nonzero s))))
+              ∙ sym (scale-scale back (inv q (last_nonzero s)) s) ∙ ap (scale q back) same ∙ scale-scale back
+              (inv q (last_nonzero t)) t;
         }
 
     -- multiples have one number
@@ -126,19 +150,26 @@ module _ (q : ℕ) (f : IsField q) where
         let x1 = inv-positive q f (last_nonzero s) ns (last-code q f s hs.codes) in
         let y1 = inv-positive q f (last_nonzero t) nt (last-code q f t ht.codes) in
         let moved : scale q x s ≡ scale q (mul q x h.factor) t = ap (scale q x) h.is ∙ scale-scale x h.factor t in
-        let one : last_nonzero (scale q (mul q x h.factor) t) ≡ 1 = ap last_nonzero (sym moved) ∙ normal-scale q f s hs.codes ns in
+        let one : last_nonzero (scale q (mul q x h.factor) t) ≡ 1 =
+        ap last_nonzero (sym moved) ∙ normal-scale q f s hs.codes ns in
         let same : mul q x h.factor ≡ y =
-        one-normal q f t (mul q x h.factor) y ht.codes (product-some x h.factor x1 (f.inv_code (last_nonzero s)) h.nonzero h.code) (f.mul_code x h.factor) y1 (f.inv_code (last_nonzero t)) one (normal-scale q f t ht.codes nt) in
+        one-normal q f t (mul q x h.factor) y ht.codes
+        (product-some x h.factor x1 (f.inv_code (last_nonzero s)) h.nonzero h.code) (f.mul_code x h.factor) y1
+        (f.inv_code (last_nonzero t)) one (normal-scale q f t ht.codes nt) in
         ap (number q) (moved ∙ ap (λ (z : ℕ). scale q z t) same)
 
     -- so a test of numbers tells multiples
-    pub numbers_tell : (test : Bool) → (test ≡ true) ↔ IsMultiple q s t → test ≡ eqb (class_number q s) (class_number q t)
-    numbers_tell test both = bool_same test (eqb (class_number q s) (class_number q t)) (λ e. eq-eqb _ _ (number_of_multiples (both.0 e))) (λ e. both.1 (multiple_of_one_number (eqb-true _ _ e)))
+    pub numbers_tell : (test : Bool) → (test ≡ true) ↔ IsMultiple q s t
+        → test ≡ eqb (class_number q s) (class_number q t)
+    numbers_tell test both =
+        bool_same test (eqb (class_number q s) (class_number q t)) (λ e. eq-eqb _ _ (number_of_multiples (both.0 e)))
+        (λ e. both.1 (multiple_of_one_number (eqb-true _ _ e)))
 
   -- a vector that is not zero has no class number 0, and zeros have it
   pub some_number : (m : ℕ) (s : List ℕ) → IsVector q m s → 0 < last_nonzero s → 0 < class_number q s
   unfolding class_number
-  some_number m s h some = number-some (scale q (inv q (last_nonzero s)) s) (omega (arith, normal-scale q f s h.codes some))
+  some_number m s h some =
+      number-some (scale q (inv q (last_nonzero s)) s) (omega (arith, normal-scale q f s h.codes some))
 
   scale-zeros : (c n : ℕ) → scale q c (zeros n) ≡ zeros n
   scale-zeros c zero = refl
@@ -161,7 +192,8 @@ module _ (q : ℕ) (f : IsField q) where
       elim (cases_eq (last_nonzero s) 0) [
         | inl z ↦
             let first : last_nonzero (a ∷ s) ≡ a = rw (eq-eqb (last_nonzero s) 0 z) refl in
-            ap₂ (λ (x : ℕ) (w : List ℕ). x ∷ w) (sym first ∙ e) (none_zero m s (record { len = (let l = h.len in omega arith); codes = h.codes.1 }) z)
+            ap₂ (λ (x : ℕ) (w : List ℕ). x ∷ w) (sym first ∙ e)
+            (none_zero m s (record { len = (let l = h.len in omega arith); codes = h.codes.1 }) z)
         | inr nz ↦ absurd (nz (rw (ne_eqb (last_nonzero s) 0 nz) at e))
       ]
 

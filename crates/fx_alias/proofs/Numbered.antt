@@ -1,5 +1,6 @@
 -- The classes of components, told from class numbers.
-use Rattle.std.proofs.Common.{ℕ, ◌≡◌, ◌||◌, Bool, true, false, cond, eqb, List, [], ◌∷◌, ◌++◌, filter, refl, sym, ◌∙◌, ap₂}
+use Rattle.std.proofs.Common.{ℕ, ◌≡◌, ◌||◌, Bool, true, false, cond, eqb, List, [], ◌∷◌, ◌++◌, filter, refl, sym, ◌∙◌}
+use Rattle.std.proofs.Common.{ap₂}
 use Rattle.std.specs.List.{list_any}
 use Rattle.fx_designs.specs.Galois.{IsField}
 use Rattle.fx_designs.specs.Vectors.{combination, vectors_of}
@@ -27,24 +28,30 @@ module _ (q : ℕ) (f : IsField q) (m : ℕ) (rows : List ℕ) (components : Lis
   number_of u = class_number q (combination q m u (vectors_of q m rows))
 
   pub constants_by_number : constants q runs components ≡ filter (λ u. eqb (number_of u) 0) components
-  constants_by_number = filter_same (λ u. is_constant q u runs) (λ u. eqb (number_of u) 0) components (λ u. constant_number q f m rows u)
+  constants_by_number =
+      filter_same (λ u. is_constant q u runs) (λ u. eqb (number_of u) 0) components (λ u. constant_number q f m rows u)
 
   one : (before : List (List ℕ)) (u : List ℕ) (b : Bool) → is_constant q u runs ≡ b
       → unless (is_constant q u runs || list_any (λ v. is_aliased q runs u v) before) (class_of q runs components u)
-      ≡ unless (eqb (number_of u) 0 || list_any (λ v. eqb (number_of u) (number_of v)) before) (filter (λ v. eqb (number_of u) (number_of v)) components)
+      ≡ unless (eqb (number_of u) 0 || list_any (λ v. eqb (number_of u) (number_of v)) before)
+      (filter (λ v. eqb (number_of u) (number_of v)) components)
   one before u true e =
       let zero : eqb (number_of u) 0 ≡ true = sym (constant_number q f m rows u) ∙ e in
       rw (e, zero) refl
   one before u false e =
       let some : eqb (number_of u) 0 ≡ false = sym (constant_number q f m rows u) ∙ e in
-      let same : (v : List ℕ) → is_aliased q runs u v ≡ eqb (number_of u) (number_of v) = λ v. aliased_number q f m rows u v e in
+      let same : (v : List ℕ) → is_aliased q runs u v ≡ eqb (number_of u) (number_of v) =
+      λ v. aliased_number q f m rows u v e in
       rw (e, some) (ap₂ unless
       (any_same (λ v. is_aliased q runs u v) (λ v. eqb (number_of u) (number_of v)) before same)
       (filter_same (λ v. is_aliased q runs u v) (λ v. eqb (number_of u) (number_of v)) components same))
 
-  behind : (before rest : List (List ℕ)) → classes_behind q runs components before rest ≡ numbered_behind number_of components before rest
+  behind : (before rest : List (List ℕ))
+      → classes_behind q runs components before rest ≡ numbered_behind number_of components before rest
   behind before [] = refl
-  behind before (u ∷ rest) = ap₂ (λ (a b : List (List (List ℕ))). a ++ b) (one before u (is_constant q u runs) refl) (behind (before ++ u ∷ []) rest)
+  behind before (u ∷ rest) =
+      ap₂ (λ (a b : List (List (List ℕ))). a ++ b) (one before u (is_constant q u runs) refl)
+      (behind (before ++ u ∷ []) rest)
 
   pub classes_numbered : classes q runs components ≡ numbered_behind number_of components [] components
   classes_numbered = behind [] components

@@ -1,5 +1,6 @@
 -- Classes by numbers that are the same.
-use Rattle.std.proofs.Common.{ℕ, zero, suc, ◌≡◌, ◌≤◌, ◌<◌, ◌+◌, ◌||◌, Bool, true, false, cond, eqb, not, List, [], ◌∷◌, ◌++◌, length, map, filter, get_or, refl, sym, ◌∙◌, ap, ap₂, arith, ext_get_or}
+use Rattle.std.proofs.Common.{ℕ, zero, suc, ◌≡◌, ◌≤◌, ◌<◌, ◌+◌, ◌||◌, Bool, true, false, cond, eqb, not, List, [], ◌∷◌}
+use Rattle.std.proofs.Common.{◌++◌, length, map, filter, get_or, refl, sym, ◌∙◌, ap, ap₂, arith, ext_get_or}
 use Rattle.std.specs.List.{list_any, range_with_len, AllByRecursion}
 use Rattle.std.proofs.lemmas.Bool.Decides.{nat_tests}
 use Rattle.std.proofs.lemmas.Bool.{eq-eqb}
@@ -13,14 +14,17 @@ same_test : (a b : ℕ) → eqb a b ≡ eqb b a
 same_test a b = grind (arith, nat_tests)
 
 -- what a place adds, told by the group of its number
-pub added_first : (number : ℕ → ℕ) (n i : ℕ) (group : List ℕ) → i < n → group ≡ filter (λ j. eqb (number j) (number i)) (range_with_len 0 n)
-    → cond (eqb (number i) 0 || not (eqb (get_or group 0 0) i)) [] (group ∷ []) ≡ added number (range_with_len 0 n) (range_with_len 0 i) i
+pub added_first : (number : ℕ → ℕ) (n i : ℕ) (group : List ℕ) → i < n
+    → group ≡ filter (λ j. eqb (number j) (number i)) (range_with_len 0 n)
+    → cond (eqb (number i) 0 || not (eqb (get_or group 0 0) i)) [] (group ∷ [])
+    ≡ added number (range_with_len 0 n) (range_with_len 0 i) i
 added_first number n i group low is =
     let p : ℕ → Bool = λ j. eqb (number j) (number i) in
     let first = ap (λ (l : List ℕ). eqb (get_or l 0 0) i) is ∙ is_first p n i low (eq-eqb (number i) (number i) refl) in
     let twice : (b : Bool) → not (not b) ≡ b = not_not in
     ap₂ (λ (b : Bool) (l : List ℕ). cond (eqb (number i) 0 || b) [] (l ∷ []))
-    (ap not first ∙ twice (list_any p (range_with_len 0 i)) ∙ any_same p (λ v. eqb (number i) (number v)) (range_with_len 0 i) (λ v. same_test (number v) (number i)))
+    (ap not first ∙ twice (list_any p (range_with_len 0 i)) ∙ any_same p (λ v. eqb (number i) (number v))
+    (range_with_len 0 i) (λ v. same_test (number v) (number i)))
     (is ∙ filter_same p (λ v. eqb (number i) (number v)) (range_with_len 0 n) (λ v. same_test (number v) (number i)))
   where
     not_not : (b : Bool) → not (not b) ≡ b
@@ -36,34 +40,40 @@ any_each p r [] h = refl
 any_each p r (x ∷ xs) h = ap₂ (λ (a b : Bool). a || b) h.0 (any_each p r xs h.1)
 
 module _ (f g : ℕ → ℕ) where
-  tests : (k l : ℕ) (xs : List ℕ) → k ≡ l → AllByRecursion (λ x. f x ≡ g x) xs → AllByRecursion (λ x. eqb k (f x) ≡ eqb l (g x)) xs
+  tests : (k l : ℕ) (xs : List ℕ) → k ≡ l → AllByRecursion (λ x. f x ≡ g x) xs
+      → AllByRecursion (λ x. eqb k (f x) ≡ eqb l (g x)) xs
   tests k l [] e h = tt
   tests k l (x ∷ xs) e h = (ap₂ eqb e h.0, tests k l xs e h.1)
 
-  snoc : (xs : List ℕ) (x : ℕ) → AllByRecursion (λ x. f x ≡ g x) xs → f x ≡ g x → AllByRecursion (λ x. f x ≡ g x) (xs ++ x ∷ [])
+  snoc : (xs : List ℕ) (x : ℕ) → AllByRecursion (λ x. f x ≡ g x) xs → f x ≡ g x
+      → AllByRecursion (λ x. f x ≡ g x) (xs ++ x ∷ [])
   snoc [] x h e = (e, tt)
   snoc (y ∷ xs) x h e = (h.0, snoc xs x h.1 e)
 
   -- numbers that are the same give the same classes
-  pub numbered_same : (items before rest : List ℕ) → AllByRecursion (λ x. f x ≡ g x) items → AllByRecursion (λ x. f x ≡ g x) before → AllByRecursion (λ x. f x ≡ g x) rest
+  pub numbered_same : (items before rest : List ℕ) → AllByRecursion (λ x. f x ≡ g x) items
+      → AllByRecursion (λ x. f x ≡ g x) before → AllByRecursion (λ x. f x ≡ g x) rest
       → numbered_behind f items before rest ≡ numbered_behind g items before rest
   numbered_same items before [] h k r = refl
   numbered_same items before (x ∷ rest) h k r =
       ap₂ (λ (a b : List (List ℕ)). a ++ b)
       (ap₂ (λ (b : Bool) (l : List ℕ). cond b [] (l ∷ []))
-      (ap₂ (λ (a b : Bool). a || b) (ap (λ (z : ℕ). eqb z 0) r.0) (any_each (λ v. eqb (f x) (f v)) (λ v. eqb (g x) (g v)) before (tests (f x) (g x) before r.0 k)))
+      (ap₂ (λ (a b : Bool). a || b) (ap (λ (z : ℕ). eqb z 0) r.0)
+      (any_each (λ v. eqb (f x) (f v)) (λ v. eqb (g x) (g v)) before (tests (f x) (g x) before r.0 k)))
       (filter_each (λ v. eqb (f x) (f v)) (λ v. eqb (g x) (g v)) items (tests (f x) (g x) items r.0 h)))
       (numbered_same items (before ++ x ∷ []) rest h (snoc before x k r.0) r.1)
 
 range_each : (P : ℕ → Type 0) (a n : ℕ) → ((i : ℕ) → a ≤ i → i < a + n → P i) → AllByRecursion P (range_with_len a n)
 range_each P a zero h = tt
-range_each P a (suc n) h = (h a (omega arith) (omega arith), range_each P (a + 1) n (λ i low high. h i (omega arith) (omega arith)))
+range_each P a (suc n) h =
+    (h a (omega arith) (omega arith), range_each P (a + 1) n (λ i low high. h i (omega arith) (omega arith)))
 
 -- a list is what stands at its places
 pub at_all : (xs : List (List ℕ)) → map (λ i. get_or xs i []) (range_with_len 0 (length xs)) ≡ xs
 at_all xs =
     ext_get_or [] _ xs (length-map-range_with_len (λ i. get_or xs i []) 0 (length xs))
-    (λ k low. get_or-map-range_with_len (λ i. get_or xs i []) 0 (length xs) k k [] (omega (arith, length-map-range_with_len (λ i. get_or xs i []) 0 (length xs))) (omega arith))
+    (λ k low. get_or-map-range_with_len (λ i. get_or xs i []) 0 (length xs) k k []
+    (omega (arith, length-map-range_with_len (λ i. get_or xs i []) 0 (length xs))) (omega arith))
 
 same_at : (number : List ℕ → ℕ) (components : List (List ℕ)) (numbers : List ℕ) → numbers ≡ map number components
     → AllByRecursion (λ i. number (get_or components i []) ≡ get_or numbers i 0) (range_with_len 0 (length components))
@@ -74,25 +84,34 @@ same_at number components numbers is =
 -- the classes of components by the numbers at their places
 pub classes_at : (number : List ℕ → ℕ) (components : List (List ℕ)) (numbers : List ℕ) → numbers ≡ map number components
     → numbered_behind number components [] components
-    ≡ map (map (λ i. get_or components i [])) (numbered_behind (λ i. get_or numbers i 0) (range_with_len 0 (length components)) [] (range_with_len 0 (length components)))
+    ≡ map (map (λ i. get_or components i []))
+    (numbered_behind (λ i. get_or numbers i 0) (range_with_len 0 (length components)) []
+    (range_with_len 0 (length components)))
 classes_at number components numbers is =
     let n : ℕ = length components in
     let at : ℕ → List ℕ = λ i. get_or components i [] in
     let same = same_at number components numbers is in
     ap (λ (l : List (List ℕ)). numbered_behind number l [] l) (sym (at_all components))
     ∙ numbered_mapped at number (range_with_len 0 n) [] (range_with_len 0 n)
-    ∙ ap (map (map at)) (numbered_same (λ i. number (at i)) (λ i. get_or numbers i 0) (range_with_len 0 n) [] (range_with_len 0 n) same tt same)
+    ∙ ap (map (map at))
+    (numbered_same (λ i. number (at i)) (λ i. get_or numbers i 0) (range_with_len 0 n) [] (range_with_len 0 n) same tt
+    same)
 
-zero_tests : (f g : ℕ → ℕ) (xs : List ℕ) → AllByRecursion (λ x. f x ≡ g x) xs → AllByRecursion (λ x. eqb (g x) 0 ≡ eqb (f x) 0) xs
+zero_tests : (f g : ℕ → ℕ) (xs : List ℕ) → AllByRecursion (λ x. f x ≡ g x) xs
+    → AllByRecursion (λ x. eqb (g x) 0 ≡ eqb (f x) 0) xs
 zero_tests f g [] h = tt
 zero_tests f g (x ∷ xs) h = (ap (λ (z : ℕ). eqb z 0) (sym h.0), zero_tests f g xs h.1)
 
 -- the components of number 0 by the numbers at their places
 pub zeros_at : (number : List ℕ → ℕ) (components : List (List ℕ)) (numbers : List ℕ) → numbers ≡ map number components
-    → map (λ i. get_or components i []) (filter (λ i. eqb (get_or numbers i 0) 0) (range_with_len 0 (length components))) ≡ filter (λ u. eqb (number u) 0) components
+    → map (λ i. get_or components i [])
+    (filter (λ i. eqb (get_or numbers i 0) 0) (range_with_len 0 (length components)))
+    ≡ filter (λ u. eqb (number u) 0) components
 zeros_at number components numbers is =
     let places : List ℕ = range_with_len 0 (length components) in
     let at : ℕ → List ℕ = λ i. get_or components i [] in
-    ap (map at) (filter_each (λ i. eqb (get_or numbers i 0) 0) (λ i. eqb (number (at i)) 0) places (zero_tests (λ i. number (at i)) (λ i. get_or numbers i 0) places (same_at number components numbers is)))
+    ap (map at)
+    (filter_each (λ i. eqb (get_or numbers i 0) 0) (λ i. eqb (number (at i)) 0) places
+    (zero_tests (λ i. number (at i)) (λ i. get_or numbers i 0) places (same_at number components numbers is)))
     ∙ sym (filter_mapped at number (λ u. eqb (number u) 0) places)
     ∙ ap (filter (λ u. eqb (number u) 0)) (at_all components)

@@ -28,4 +28,5 @@ mean_line names (u ∷ us) = codes "  mean = " ++ (joined names true (u ∷ us) 
 -- the section: the line of the constant components, and then a line for each class
 abbrev pub alias_section : List (List ℕ) → ℕ → List (List ℕ) → List (List ℕ) → List ℕ
 alias_section names q runs components =
-    codes "aliasing\n" ++ (mean_line names (constants q runs components) ++ flat_map (class_line names) (classes q runs components))
+    codes "aliasing\n"
+    ++ (mean_line names (constants q runs components) ++ flat_map (class_line names) (classes q runs components))

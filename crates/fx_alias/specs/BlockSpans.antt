@@ -11,13 +11,16 @@ use Rattle.fx_vectors.specs.Matrix.{MatrixView}
 pub record IsBlockSpan (matrix : MatrixView) (words : List ℕ) : Type 0 where
   pub decides : (u : List ℕ) → IsVector matrix.shape.q matrix.shape.s u
       → is_constant_in_blocks matrix.shape.q matrix.shape.s (matrix.shape.q ^ matrix.shape.t) u (design_of matrix).rows
-      ≡ has words (number matrix.shape.q (combination matrix.shape.q matrix.shape.m u (vectors_of matrix.shape.q matrix.shape.m matrix.rows)))
+      ≡ has words
+      (number matrix.shape.q
+      (combination matrix.shape.q matrix.shape.m u (vectors_of matrix.shape.q matrix.shape.m matrix.rows)))
 
 -- the number of the sum of the block rules, each times its code of a number of t codes
 abbrev pub block_sum : MatrixView → ℕ → ℕ
 block_sum matrix place =
     let q = matrix.shape.q in
-    number q (combination q matrix.shape.m (digits q matrix.shape.t place) (vectors_of q matrix.shape.m (drop matrix.shape.s matrix.rows)))
+    number q (combination q matrix.shape.m (digits q matrix.shape.t place)
+    (vectors_of q matrix.shape.m (drop matrix.shape.s matrix.rows)))
 
 -- a set of points that has just the sums for the first k numbers
 pub record HasSums (matrix : MatrixView) (words : List ℕ) (k : ℕ) : Type 0 where

@@ -8,7 +8,9 @@ use Rattle.fx_alias.specs.Rules.{or_none}
 
 -- constant inside each block, and not over all runs
 abbrev pub is_blocked : RunsView → List ℕ → Bool
-is_blocked runs u = not (is_constant runs.shape.q u runs.rows) && is_constant_in_blocks runs.shape.q runs.shape.s (runs.shape.q ^ runs.shape.t) u runs.rows
+is_blocked runs u =
+    not (is_constant runs.shape.q u runs.rows)
+    && is_constant_in_blocks runs.shape.q runs.shape.s (runs.shape.q ^ runs.shape.t) u runs.rows
 
 -- the line of a component
 abbrev pub component_line : List (List ℕ) → List ℕ → List ℕ
@@ -16,4 +18,5 @@ component_line names u = codes "  " ++ product names u ++ codes "\n"
 
 -- the section: a line for each component that is confounded with blocks, or a line that says that there is none
 abbrev pub blocked_section : List (List ℕ) → RunsView → List (List ℕ) → List ℕ
-blocked_section names runs components = codes "blocked\n" ++ or_none (flat_map (component_line names) (filter (is_blocked runs) components))
+blocked_section names runs components =
+    codes "blocked\n" ++ or_none (flat_map (component_line names) (filter (is_blocked runs) components))

@@ -6,7 +6,9 @@ use Rattle.fx_alias.specs.Classes.{class_number}
 
 -- the class number of a component under a rule matrix
 abbrev pub number_by : MatrixView → List ℕ → ℕ
-number_by matrix u = class_number matrix.shape.q (combination matrix.shape.q matrix.shape.m u (vectors_of matrix.shape.q matrix.shape.m matrix.rows))
+number_by matrix u =
+    class_number matrix.shape.q
+    (combination matrix.shape.q matrix.shape.m u (vectors_of matrix.shape.q matrix.shape.m matrix.rows))
 
 -- the components at these places, counted from 0
 abbrev pub at_places : List (List ℕ) → List ℕ → List (List ℕ)

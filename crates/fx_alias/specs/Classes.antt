@@ -25,12 +25,13 @@ constants q runs components = filter (λ u. is_constant q u runs) components
 abbrev pub class_of : ℕ → List (List ℕ) → List (List ℕ) → List ℕ → List (List ℕ)
 class_of q runs components u = filter (λ v. is_aliased q runs u v) components
 
--- The classes of the components that come after those of `before`, each at its first member. A component that is constant is
--- in no class.
+-- The classes of the components that come after those of `before`, each at its first member. A component that is
+-- constant is in no class.
 abbrev pub classes_behind : ℕ → List (List ℕ) → List (List ℕ) → List (List ℕ) → List (List ℕ) → List (List (List ℕ))
 classes_behind q runs components before [] = []
 classes_behind q runs components before (u ∷ rest) =
-    (if is_constant q u runs || list_any (λ v. is_aliased q runs u v) before then [] else class_of q runs components u ∷ [])
+    (if is_constant q u runs || list_any (λ v. is_aliased q runs u v) before
+    then [] else class_of q runs components u ∷ [])
     ++ classes_behind q runs components (before ++ u ∷ []) rest
 
 -- the classes of components, ordered by first member
@@ -41,5 +42,6 @@ classes q runs components = classes_behind q runs components [] components
 abbrev pub numbered_behind : {X : Type 0} → (X → ℕ) → List X → List X → List X → List (List X)
 numbered_behind number items before [] = []
 numbered_behind number items before (u ∷ rest) =
-    (if (number u == 0) || list_any (λ v. number u == number v) before then [] else filter (λ v. number u == number v) items ∷ [])
+    (if (number u == 0) || list_any (λ v. number u == number v) before
+    then [] else filter (λ v. number u == number v) items ∷ [])
     ++ numbered_behind number items (before ++ u ∷ []) rest

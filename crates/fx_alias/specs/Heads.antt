@@ -1,5 +1,6 @@
 -- The head of a step's listing.
-use Rattle.std.specs.Prelude.{ℕ, ◌^◌, ◌==◌, nat_lt, if◌then◌else◌, List, [], ◌++◌, length, Option, Some, None, codes, decimal}
+use Rattle.std.specs.Prelude.{ℕ, ◌^◌, ◌==◌, nat_lt, if◌then◌else◌, List, [], ◌++◌, length, Option, Some, None, codes}
+use Rattle.std.specs.Prelude.{decimal}
 use Rattle.fx_designs.specs.Problems.{Dimensions}
 use Rattle.fx_designs.specs.Patterns.{pattern_of, resolution_of}
 use Rattle.fx_designs.specs.Outcomes.{Ending, Design, NoDesign, BudgetEnded}
@@ -13,7 +14,8 @@ use Rattle.fx_statements.specs.Steps.{Meaning}
 
 -- the number of the step, its factors and their levels
 abbrev pub heading : ℕ → ℕ → ℕ → List ℕ
-heading number s q = codes "step " ++ decimal number ++ codes "\nfactors " ++ decimal s ++ codes " levels " ++ decimal q ++ codes "\n"
+heading number s q =
+    codes "step " ++ decimal number ++ codes "\nfactors " ++ decimal s ++ codes " levels " ++ decimal q ++ codes "\n"
 
 -- a number of runs
 abbrev pub runs_words : ℕ → List ℕ
@@ -25,11 +27,14 @@ blocks_words word d = if d.t == 0 then [] else word ++ (decimal (d.q ^ d.t) ++ c
 
 -- the runs and the blocks of a design, with a caveat where there is one
 abbrev pub design_line : List ℕ → Dimensions → List ℕ
-design_line caveat d = codes "design " ++ (runs_words (d.q ^ d.m) ++ (blocks_words (codes " in ") d ++ (caveat ++ codes "\n")))
+design_line caveat d =
+    codes "design " ++ (runs_words (d.q ^ d.m) ++ (blocks_words (codes " in ") d ++ (caveat ++ codes "\n")))
 
--- that there is no design with so many runs and blocks; or, where the fewest runs were looked for, with any number of runs
+-- that there is no design with so many runs and blocks; or, where the fewest runs were looked for, with any number of
+-- runs
 abbrev pub no_design_line : Size → Dimensions → List ℕ
-no_design_line (Runs m) d = codes "no design in " ++ (runs_words (d.q ^ d.m) ++ (blocks_words (codes " with ") d ++ codes "\n"))
+no_design_line (Runs m) d =
+    codes "no design in " ++ (runs_words (d.q ^ d.m) ++ (blocks_words (codes " with ") d ++ codes "\n"))
 no_design_line Minimum d = codes "no design in at most " ++ (runs_words (d.q ^ greatest d.q) ++ codes "\n")
 
 -- that the budget ended
@@ -71,7 +76,8 @@ abbrev pub outcome_lines : Meaning → Dimensions → Ending → List ℕ
 outcome_lines step d (Design rows count) = design_lines [] (claim_of step) d rows ++ nodes_line count
 outcome_lines step d (NoDesign count) = no_design_line step.settings.size d ++ nodes_line count
 outcome_lines step d (BudgetEnded None budget) = budget_line budget
-outcome_lines step d (BudgetEnded (Some rows) budget) = budget_line budget ++ design_lines (codes " not proved best") [] d rows
+outcome_lines step d (BudgetEnded (Some rows) budget) =
+    budget_line budget ++ design_lines (codes " not proved best") [] d rows
 
 -- the head of the step of this number
 abbrev pub head_lines : ℕ → Meaning → Dimensions → Ending → List ℕ

@@ -1,5 +1,6 @@
 -- The section of a listing that has the runs of a design.
-use Rattle.std.specs.Prelude.{ℕ, ◌+◌, ◌==◌, if◌then◌else◌, List, [], ◌∷◌, ◌++◌, length, take, codes, decimal, slice_index_or}
+use Rattle.std.specs.Prelude.{ℕ, ◌+◌, ◌==◌, if◌then◌else◌, List, [], ◌∷◌, ◌++◌, length, take, codes, decimal}
+use Rattle.std.specs.Prelude.{slice_index_or}
 use Rattle.std.specs.List.{flat_map, range_with_len}
 use Rattle.fx_runs.specs.Runs.{RunsView}
 use Rattle.fx_runs.specs.RunBlocks.{block_of, run_at}
@@ -24,8 +25,10 @@ columns_line t names = (if t == 0 then codes "points" else codes "points BLOCK")
 -- the line of run k, counted from 0: its number from 1, its block, and the default value of each factor
 abbrev pub point_line : RunsView → ℕ → List ℕ
 point_line runs k =
-    codes "  " ++ decimal (k + 1) ++ block_word runs k ++ flat_map (level_word (default_values runs.shape.q)) (take runs.shape.s (run_at runs k)) ++ codes "\n"
+    codes "  " ++ decimal (k + 1) ++ block_word runs k
+    ++ flat_map (level_word (default_values runs.shape.q)) (take runs.shape.s (run_at runs k)) ++ codes "\n"
 
 -- the section: the names of the columns, and then a line for each run
 abbrev pub design_section : List (List ℕ) → RunsView → List ℕ
-design_section names runs = columns_line runs.shape.t names ++ flat_map (point_line runs) (range_with_len 0 (length runs.rows))
+design_section names runs =
+    columns_line runs.shape.t names ++ flat_map (point_line runs) (range_with_len 0 (length runs.rows))

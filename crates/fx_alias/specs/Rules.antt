@@ -1,5 +1,6 @@
 -- The rules that construct a design.
-use Rattle.std.specs.Prelude.{ℕ, ◌^◌, ◌+◌, ◌==◌, if◌then◌else◌, Bool, true, false, List, [], ◌∷◌, ◌++◌, length, map, codes, decimal}
+use Rattle.std.specs.Prelude.{ℕ, ◌^◌, ◌+◌, ◌==◌, if◌then◌else◌, Bool, true, false, List, [], ◌∷◌, ◌++◌, length, map}
+use Rattle.std.specs.Prelude.{codes, decimal}
 use Rattle.std.specs.List.{range_with_len}
 use Rattle.fx_designs.specs.Galois.{digits}
 use Rattle.fx_designs.specs.Problems.{Dimensions}
@@ -44,8 +45,8 @@ run_factor_line name i = left_side name ++ (codes "run factor " ++ (decimal i ++
 abbrev pub introduction : Subject → ℕ → List ℕ
 introduction subject i = if subject.is_block then run_factor_line subject.name i else []
 
--- The rules of these subjects by their rows, where these names introduced run indexes before. A row that is the next unit vector
--- introduces a run index; the others are combinations of those before.
+-- The rules of these subjects by their rows, where these names introduced run indexes before. A row that is the next
+-- unit vector introduces a run index; the others are combinations of those before.
 abbrev pub rule_lines : ℕ → ℕ → List (List ℕ) → List Subject → List ℕ → List ℕ
 rule_lines q m introduced [] rows = []
 rule_lines q m introduced (subject ∷ later) [] = []

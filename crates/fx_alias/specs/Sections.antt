@@ -14,13 +14,16 @@ use Rattle.fx_alias.specs.Patterns.{pattern_lines}
 use Rattle.fx_alias.specs.Points.{design_section}
 use Rattle.fx_alias.specs.Rules.{rules}
 
--- the sections of a design that the step asks for, in this order: its runs, its aliases, what is confounded with blocks, its
--- word-length pattern
+-- the sections of a design that the step asks for, in this order: its runs, its aliases, what is confounded with
+-- blocks, its word-length pattern
 abbrev pub examined : Meaning → MatrixView → List ℕ
 examined step matrix =
     (if step.examine.design then design_section step.factors (design_of matrix) else [])
-    ++ (if step.examine.aliasing then alias_section step.factors matrix.shape.q (design_of matrix).rows (listed matrix.shape.q matrix.shape.s step.goal) else [])
-    ++ (if step.examine.blocked then blocked_section step.factors (design_of matrix) (listed matrix.shape.q matrix.shape.s step.goal) else [])
+    ++ (if step.examine.aliasing
+    then alias_section step.factors matrix.shape.q (design_of matrix).rows
+    (listed matrix.shape.q matrix.shape.s step.goal) else [])
+    ++ (if step.examine.blocked
+    then blocked_section step.factors (design_of matrix) (listed matrix.shape.q matrix.shape.s step.goal) else [])
     ++ (if step.examine.aberration then pattern_lines (pattern_of (dimensions_of matrix.shape) matrix.rows) else [])
 
 -- the rule matrix of these dimensions with these rows

@@ -1,5 +1,6 @@
 -- What the answer of a question adds to what was found before.
-use Rattle.std.proofs.Common.{ℕ, ◌≡◌, ◌+◌, ◌&&◌, ◌||◌, Bool, true, false, length, filter, List, [], ◌∷◌, ◌++◌, slice_index_or, Option, Some, None, refl, sym, ap, ◌∙◌, subst, inl, inr, eqb-true}
+use Rattle.std.proofs.Common.{ℕ, ◌≡◌, ◌+◌, ◌&&◌, ◌||◌, Bool, true, false, length, filter, List, [], ◌∷◌, ◌++◌}
+use Rattle.std.proofs.Common.{slice_index_or, Option, Some, None, refl, sym, ap, ◌∙◌, subst, inl, inr, eqb-true}
 use Rattle.std.specs.Prelude.{not}
 use Rattle.std.specs.List.{find, list_all}
 use Rattle.std.specs.Option.{option_or}
@@ -28,9 +29,12 @@ found-kept : (E D : List ℕ → Bool) (xs : List (List ℕ)) (r : List ℕ) →
 found-kept E D [] r h = absurd (cc h)
 found-kept E D (x ∷ xs) r h = elim (cases_Bool (D x)) [
   | inl holds ↦
-      let kept : find E (x ∷ filter D xs) ≡ Some r = ap (find E) (sym (cond-true (D x) (x ∷ filter D xs) (filter D xs) holds)) ∙ h in
+      let kept : find E (x ∷ filter D xs) ≡ Some r =
+      ap (find E) (sym (cond-true (D x) (x ∷ filter D xs) (filter D xs) holds)) ∙ h in
       elim (cases_Bool (E x)) [
-        | inl here ↦ subst (λ y. D y ≡ true) (same_some x r (sym (cond-true (E x) (Some x) (find E (filter D xs)) here) ∙ kept)) holds
+        | inl here ↦
+            subst (λ y. D y ≡ true) (same_some x r (sym (cond-true (E x) (Some x) (find E (filter D xs)) here) ∙ kept))
+            holds
         | inr other ↦ found-kept E D xs r (sym (cond-false (E x) (Some x) (find E (filter D xs)) other) ∙ kept)
       ]
   | inr fails ↦ found-kept E D xs r (ap (find E) (sym (cond-false (D x) (x ∷ filter D xs) (filter D xs) fails)) ∙ h)
@@ -39,58 +43,79 @@ found-kept E D (x ∷ xs) r h = elim (cases_Bool (D x)) [
 -- the answer has a row for each factor and for each block factor
 answer-whole : (p : Problem) (rows : List ℕ) → answer p ≡ Some rows → length rows ≡ p.dimensions.s + p.dimensions.t
 unfolding answer designs
-answer-whole p rows is = eqb-true _ _ (and_parts _ _ (found-kept (λ rows. not p.least || is_of_least_pattern p rows) (is_design p) (prefixes p) rows is)).0
+answer-whole p rows is =
+    eqb-true _ _
+    (and_parts _ _
+    (found-kept (λ rows. not p.least || is_of_least_pattern p rows) (is_design p) (prefixes p) rows is)).0
 
 -- and so has the matrix that is left where the budget ended
-left-whole : (p : Problem) (b : Bool) → p.least ≡ b → (test : List ℕ → Bool) (rows : List ℕ) → best_of p test ≡ Some rows → length rows ≡ p.dimensions.s + p.dimensions.t
+left-whole : (p : Problem) (b : Bool) → p.least ≡ b → (test : List ℕ → Bool) (rows : List ℕ)
+    → best_of p test ≡ Some rows → length rows ≡ p.dimensions.s + p.dimensions.t
 unfolding first_least
-left-whole p false e test rows is = absurd (let none : ◌≡◌ {A = Option (List ℕ)} None (Some rows) = sym (cond-false p.least _ _ e) ∙ is in cc none)
+left-whole p false e test rows is =
+    absurd (let none : ◌≡◌ {A = Option (List ℕ)} None (Some rows) = sym (cond-false p.least _ _ e) ∙ is in cc none)
 left-whole p true e test rows is =
     let among = filter (λ matrix. is_complete_allowed p matrix && test matrix) (prefixes p) in
-    let kept = found-kept (λ rows. list_all (λ other. not (is_less (pattern_of p.dimensions other) (pattern_of p.dimensions rows))) among) (λ matrix. is_complete_allowed p matrix && test matrix) (prefixes p) rows
+    let kept =
+    found-kept
+    (λ rows. list_all (λ other. not (is_less (pattern_of p.dimensions other) (pattern_of p.dimensions rows)))
+    among) (λ matrix. is_complete_allowed p matrix && test matrix) (prefixes p) rows
     (sym (cond-true p.least _ _ e) ∙ is) in
     eqb-true _ _ (and_parts _ _ (and_parts _ _ kept).0).0
 
-carried-whole : (p : Problem) (budget : ℕ) (rows : List ℕ) → carried p budget ≡ Some rows → length rows ≡ p.dimensions.s + p.dimensions.t
+carried-whole : (p : Problem) (budget : ℕ) (rows : List ℕ) → carried p budget ≡ Some rows
+    → length rows ≡ p.dimensions.s + p.dimensions.t
 unfolding carried best_before
-carried-whole p budget rows is = left-whole p p.least refl (is_of_earlier_lot p.dimensions (slice_index_or (nodes p) budget [])) rows is
+carried-whole p budget rows is =
+    left-whole p p.least refl (is_of_earlier_lot p.dimensions (slice_index_or (nodes p) budget [])) rows is
 
 shape-same : (a b : Shape) → dimensions_of a ≡ dimensions_of b → a ≡ b
 shape-same a b e = ap (λ d. record { q = d.q; m = d.m; s = d.s; t = d.t }) e
 
 -- the matrix of a question's answer
-module _ (question : Question) (matrix : MatrixView) (is : answer (problem_of question) ≡ Some matrix.rows) (sized : matrix.shape ≡ question.shape) where
+module _ (question : Question) (matrix : MatrixView) (is : answer (problem_of question) ≡ Some matrix.rows)
+    (sized : matrix.shape ≡ question.shape) where
   pub found-whole : IsWhole (Some matrix)
-  found-whole = answer-whole (problem_of question) matrix.rows is ∙ ap (λ (shape : Shape). shape.s + shape.t) (sym sized)
+  found-whole =
+      answer-whole (problem_of question) matrix.rows is ∙ ap (λ (shape : Shape). shape.s + shape.t) (sym sized)
 
   pub found-of : (step : Meaning) → IsShapeOf step question.shape → IsOf step (Some matrix)
   found-of step of = subst (IsShapeOf step) (sym sized) of
 
-  pub found-stands : (p : Problem) → problem_of question ≡ p → (earlier : List Problem) → StandsFor (Some matrix) (last_found None (earlier ++ p ∷ []))
+  pub found-stands : (p : Problem) → problem_of question ≡ p → (earlier : List Problem)
+      → StandsFor (Some matrix) (last_found None (earlier ++ p ∷ []))
   found-stands p same earlier =
       let own : answer p ≡ Some matrix.rows = ap answer (sym same) ∙ is in
       subst (StandsFor (Some matrix)) (sym (found_more None earlier p ∙ ap (found_by (last_found None earlier) p) own))
       (refl, ap dimensions_of sized ∙ ap (λ (p : Problem). p.dimensions) same)
 
 -- a question without answer adds nothing
-pub nothing-stands : (p : Problem) (found : Option MatrixView) (earlier : List Problem) → answer p ≡ None → StandsFor found (last_found None earlier)
+pub nothing-stands : (p : Problem) (found : Option MatrixView) (earlier : List Problem) → answer p ≡ None
+    → StandsFor found (last_found None earlier)
     → StandsFor found (last_found None (earlier ++ p ∷ []))
-nothing-stands p found earlier is stands = subst (StandsFor found) (sym (found_more None earlier p ∙ ap (found_by (last_found None earlier) p) is)) stands
+nothing-stands p found earlier is stands =
+    subst (StandsFor found) (sym (found_more None earlier p ∙ ap (found_by (last_found None earlier) p) is)) stands
 
 -- what is left where the budget ended in a question
 module _ (question : Question) (budget : ℕ) where
-  pub left-is-whole : (best found : Option MatrixView) → rows_of best ≡ carried (problem_of question) budget → HasDimensions (dimensions_of question.shape) best → IsWhole found
+  pub left-is-whole : (best found : Option MatrixView) → rows_of best ≡ carried (problem_of question) budget
+      → HasDimensions (dimensions_of question.shape) best → IsWhole found
       → IsWhole (option_or best found)
   left-is-whole None found is sized whole = whole
   left-is-whole (Some matrix) found is sized whole =
-      carried-whole (problem_of question) budget matrix.rows (sym is) ∙ ap (λ (shape : Shape). shape.s + shape.t) (sym (shape-same matrix.shape question.shape sized))
+      carried-whole (problem_of question) budget matrix.rows (sym is) ∙ ap (λ (shape : Shape). shape.s + shape.t)
+      (sym (shape-same matrix.shape question.shape sized))
 
-  pub left-of : (step : Meaning) (best found : Option MatrixView) → HasDimensions (dimensions_of question.shape) best → IsShapeOf step question.shape → IsOf step found → IsOf step (option_or best found)
+  pub left-of : (step : Meaning) (best found : Option MatrixView) → HasDimensions (dimensions_of question.shape) best
+      → IsShapeOf step question.shape → IsOf step found → IsOf step (option_or best found)
   left-of step None found sized shape of = of
-  left-of step (Some matrix) found sized shape of = subst (IsShapeOf step) (sym (shape-same matrix.shape question.shape sized)) shape
+  left-of step (Some matrix) found sized shape of =
+      subst (IsShapeOf step) (sym (shape-same matrix.shape question.shape sized)) shape
 
-  pub left-stands : (best found : Option MatrixView) (before : Option Found) (p : Problem) → rows_of best ≡ carried (problem_of question) budget → HasDimensions (dimensions_of question.shape) best
-      → problem_of question ≡ p → StandsFor found before → StandsFor (option_or best found) (found_by before p (carried p budget))
+  pub left-stands : (best found : Option MatrixView) (before : Option Found) (p : Problem)
+      → rows_of best ≡ carried (problem_of question) budget → HasDimensions (dimensions_of question.shape) best
+      → problem_of question ≡ p → StandsFor found before
+      → StandsFor (option_or best found) (found_by before p (carried p budget))
   left-stands None found before p is sized same stands =
       subst (λ left. StandsFor found (found_by before p left)) (is ∙ ap (λ p. carried p budget) same) stands
   left-stands (Some matrix) found before p is sized same stands =

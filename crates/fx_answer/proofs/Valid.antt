@@ -1,8 +1,10 @@
 -- The questions of a step are valid.
-use Rattle.std.proofs.Common.{ℕ, ◌≡◌, ◌<◌, ◌≤◌, ◌+◌, ◌-◌, ◌^◌, ◌||◌, ◌&&◌, Bool, true, false, List, [], ◌∷◌, length, refl, sym, ap, ◌∙◌, subst, arith, inl, inr, IsTrue, eqb, eqb-true, lit≤}
+use Rattle.std.proofs.Common.{ℕ, ◌≡◌, ◌<◌, ◌≤◌, ◌+◌, ◌-◌, ◌^◌, ◌||◌, ◌&&◌, Bool, true, false, List, [], ◌∷◌, length}
+use Rattle.std.proofs.Common.{refl, sym, ap, ◌∙◌, subst, arith, inl, inr, IsTrue, eqb, eqb-true, lit≤}
 use Rattle.std.specs.Prelude.{nat_le, max, if◌then◌else◌}
 use Rattle.std.specs.List.{list_any, list_all}
-use Rattle.std.proofs.lemmas.Bool.{leb-true, leb-false, ltb-true, ltb-false, cases_Bool, and_parts, both_ways, not-true, cond-true, cond-false}
+use Rattle.std.proofs.lemmas.Bool.{leb-true, leb-false, ltb-true, ltb-false, cases_Bool, and_parts, both_ways, not-true}
+use Rattle.std.proofs.lemmas.Bool.{cond-true, cond-false}
 use Rattle.std.proofs.lemmas.List.{length-map}
 use Rattle.std.proofs.Math.Nat.{pow-le-pow_left, pow-le-pow_right, pow-zero}
 use Rattle.fx_designs.specs.Galois.{is_order}
@@ -26,14 +28,16 @@ use Rattle.fx_statements.specs.declared.wanted.Wanted.TheVariants as wanted
 use Rattle.fx_statements.specs.Goals.{Goal, AtLeast, Highest, ForEffects, criterion_of, goal_of}
 use Rattle.fx_statements.specs.Valid.{CanBeWanted, HasFewEffects}
 use Rattle.fx_statements.specs.Steps.{Meaning, meaning_of}
-use Rattle.fx_statements.specs.Questions.{block_factors, highest, least_exponent, lowest, requirement_for, run_factors, seeks_highest}
+use Rattle.fx_statements.specs.Questions.{block_factors, highest, least_exponent, lowest, requirement_for, run_factors}
+use Rattle.fx_statements.specs.Questions.{seeks_highest}
 use Rattle.fx_statements.proofs.Bounds.{no_more_than_9}
 use Rattle.fx_statements.proofs.Bounds as bounds
 use Rattle.fx_answer.specs.Standing.{IsShapeOf}
 use Rattle.fx_answer.specs.ValidSteps.{CanBeSought, IsOfKind, IsValidStep}
 
 -- what holds at each of some numbers of levels holds at one of them
-at_level : (levels : List ℕ) (P : ℕ → Bool) (q : ℕ) → list_all P levels ≡ true → list_any (λ x. eqb x q) levels ≡ true → P q ≡ true
+at_level : (levels : List ℕ) (P : ℕ → Bool) (q : ℕ) → list_all P levels ≡ true → list_any (λ x. eqb x q) levels ≡ true
+    → P q ≡ true
 at_level [] P q all among = absurd (both_ways _ refl among)
 at_level (x ∷ levels) P q all among =
     let both = and_parts (P x) (list_all P levels) all in
@@ -64,12 +68,19 @@ few_factors q t h few = elim (cases_Bool (nat_le t 10)) [
   | inl le ↦ leb-true t 10 le
   | inr more ↦
       let many : 10 < t = leb-false t 10 more in
-      let low : 2 ^ 11 ≤ q ^ t = omega (arith, pow-le-pow_left {n = 2} {m = q} h 11, pow-le-pow_right {n = q} (omega (arith, h)) {i = 11} {j = t} (omega (arith, many))) in
+      let low : 2 ^ 11 ≤ q ^ t =
+      omega (
+        arith,
+        pow-le-pow_left {n = 2} {m = q} h 11,
+        pow-le-pow_right {n = q} (omega (arith, h)) {i = 11}
+            {j = t} (omega (arith, many)),
+      ) in
       absurd (omega (arith, low, few))
 ]
 
 -- the numbers of runs
-runs_fit : (size : Size) (q n : ℕ) → is_level q ≡ true → is_size q size ≡ true → (size ≡ Minimum → (1 ≤ n) × (n ≤ greatest q))
+runs_fit : (size : Size) (q n : ℕ) → is_level q ≡ true → is_size q size ≡ true
+    → (size ≡ Minimum → (1 ≤ n) × (n ≤ greatest q))
     → (1 ≤ run_factors size n) × (q ^ run_factors size n ≤ 1024)
 runs_fit (Runs m) q n level sized bounds =
     let both = and_parts (nat_le 1 m) (nat_le (q ^ m) 1024) sized in
@@ -81,14 +92,16 @@ runs_fit Minimum q n level sized bounds =
     (b.0, omega (arith, up, most))
 
 -- and of blocks
-blocks_fit : (size : Size) (given : Blocks) (q n : ℕ) → 2 ≤ q → are_blocks q size given ≡ true → q ^ run_factors size n ≤ 1024 → (has_most given ≡ true → n ≤ run_factors size n)
+blocks_fit : (size : Size) (given : Blocks) (q n : ℕ) → 2 ≤ q → are_blocks q size given ≡ true
+    → q ^ run_factors size n ≤ 1024 → (has_most given ≡ true → n ≤ run_factors size n)
     → q ^ block_factors given (run_factors size n) n ≤ 1024
 blocks_fit size blocks.Without q n h are runs most = let one : q ^ 0 ≡ 1 = pow-zero q in omega (arith, one)
 blocks_fit (Runs m) (blocks.Factors t) q n h are runs most =
     let few : t ≤ m = ltb-false m t (not-true _ (and_parts (nat_le 1 t) _ are).1) in
     let up = power_up q t m h few in
     omega (arith, up, runs)
-blocks_fit Minimum (blocks.Factors t) q n h are runs most = ltb-false 1024 (q ^ t) (not-true _ (and_parts (nat_le 1 t) _ are).1)
+blocks_fit Minimum (blocks.Factors t) q n h are runs most =
+    ltb-false 1024 (q ^ t) (not-true _ (and_parts (nat_le 1 t) _ are).1)
 blocks_fit size (blocks.PerBlock k) q n h are runs most =
     let up = power_up q (run_factors size n - k) (run_factors size n) h (omega arith) in
     omega (arith, up, runs)
@@ -97,7 +110,8 @@ blocks_fit size blocks.Most q n h are runs most =
     omega (arith, up, runs)
 
 -- with block factors there are at most 30 factors
-few_in_blocks : (given : Blocks) (s m n : ℕ) → nat_le s (if has_blocks given then 30 else 40) ≡ true → 0 < block_factors given m n → s ≤ 30
+few_in_blocks : (given : Blocks) (s m n : ℕ) → nat_le s (if has_blocks given then 30 else 40) ≡ true
+    → 0 < block_factors given m n → s ≤ 30
 few_in_blocks blocks.Without s m n few some = absurd (omega (arith, some))
 few_in_blocks (blocks.Factors t) s m n few some = leb-true s 30 few
 few_in_blocks (blocks.PerBlock k) s m n few some = leb-true s 30 few
@@ -128,16 +142,19 @@ module _ (step : Meaning) (n : ℕ) where
   block_numbers (Runs m) high most = subst (λ k. n ≤ k) (cond-true _ _ _ most) high
   block_numbers Minimum high most = omega arith
 
-  resolutions : (size : Size) → is_minimum size ≡ false → has_most step.settings.blocks ≡ false → length step.factors ≤ 40 → lowest step size ≤ n → n ≤ highest step size
+  resolutions : (size : Size) → is_minimum size ≡ false → has_most step.settings.blocks ≡ false
+      → length step.factors ≤ 40 → lowest step size ≤ n → n ≤ highest step size
       → seeks_highest step.settings.least step.goal ≡ true → (3 ≤ n) × (n ≤ 99)
   resolutions Minimum fixed one few low high seeks = absurd (both_ways _ fixed refl)
   resolutions (Runs m) fixed one few low high seeks =
       let from : 3 ≤ n = subst (λ k. k ≤ n) (cond-false _ _ _ one) low in
-      let upto : n ≤ max 3 (length step.factors + 1) = subst (λ k. n ≤ k) (cond-false _ _ _ one ∙ cond-true _ _ _ seeks) high in
+      let upto : n ≤ max 3 (length step.factors + 1) =
+      subst (λ k. n ≤ k) (cond-false _ _ _ one ∙ cond-true _ _ _ seeks) high in
       (from, omega (arith, upto, few))
 
 -- what is asked may be asked
-can_be_asked : (q m s t n : ℕ) (least : Bool) (kind : Criterion) (goal : Goal) → is_criterion kind ≡ true → IsOfKind kind goal → CanBeSought q s goal
+can_be_asked : (q m s t n : ℕ) (least : Bool) (kind : Criterion) (goal : Goal) → is_criterion kind ≡ true
+    → IsOfKind kind goal → CanBeSought q s goal
     → (seeks_highest least goal ≡ true → (3 ≤ n) × (n ≤ 99))
     → CanBeAsked (record { q = q; m = m; s = s; t = t }) (requirement_for least goal n)
 can_be_asked q m s t n least (criterion.Resolution r) (AtLeast k) valid is sought bounds =
@@ -154,11 +171,13 @@ can_be_asked q m s t n least criterion.Effects Highest valid is sought bounds = 
 can_be_asked q m s t n least criterion.Effects (ForEffects estimate others) valid is sought bounds = sought.0
 
 -- with a least pattern a resolution is asked, and no blocks are
-module _ (size : Size) (given : Blocks) (kind : Criterion) (goal : Goal) (is : IsOfKind kind goal) (together : stand_together size kind true given ≡ true) where
+module _ (size : Size) (given : Blocks) (kind : Criterion) (goal : Goal) (is : IsOfKind kind goal)
+    (together : stand_together size kind true given ≡ true) where
   resolution_asked : (n : ℕ) → IsTrue (is_resolution (requirement_for true goal n))
   resolution_asked n = go kind goal is (not-true _ (and_parts _ _ (and_parts _ _ together).0).0)
     where
-      go : (kind : Criterion) (goal : Goal) → IsOfKind kind goal → is_effects kind ≡ false → IsTrue (is_resolution (requirement_for true goal n))
+      go : (kind : Criterion) (goal : Goal) → IsOfKind kind goal → is_effects kind ≡ false
+          → IsTrue (is_resolution (requirement_for true goal n))
       go kind (AtLeast r) is h = refl
       go kind Highest is h = refl
       go (criterion.Resolution r) (ForEffects estimate others) is h = absurd is
@@ -179,7 +198,8 @@ module _ (size : Size) (given : Blocks) (kind : Criterion) (goal : Goal) (is : I
       go blocks.Most h = absurd (both_ways _ h refl)
 
 -- where the highest resolution is sought, it is the criterion, and no least pattern is asked
-is_sought : (least : Bool) (kind : Criterion) (goal : Goal) → IsOfKind kind goal → seeks_highest least goal ≡ true → (is_highest kind ≡ true) × (least ≡ false)
+is_sought : (least : Bool) (kind : Criterion) (goal : Goal) → IsOfKind kind goal → seeks_highest least goal ≡ true
+    → (is_highest kind ≡ true) × (least ≡ false)
 is_sought least kind (AtLeast r) is h = absurd (both_ways _ refl h)
 is_sought least kind (ForEffects estimate others) is h = absurd (both_ways _ refl h)
 is_sought least (criterion.Resolution r) Highest is h = absurd is
@@ -205,20 +225,26 @@ module _ (step : Meaning) (valid : IsValidStep step) where
 
   -- where the highest resolution is sought, the size is fixed and there are no blocks
   fixed : seeks_highest x.least step.goal ≡ true → is_minimum x.size ≡ false
-  fixed seeks = go x.size (is_highest x.criterion) (is_sought x.least x.criterion step.goal valid.goal seeks).0 (not-true _ (and_parts _ _ together).1)
+  fixed seeks =
+      go x.size (is_highest x.criterion) (is_sought x.least x.criterion step.goal valid.goal seeks).0
+      (not-true _ (and_parts _ _ together).1)
     where
-      go : (size : Size) (highest : Bool) → highest ≡ true → (is_minimum size && (highest || x.least || has_most x.blocks)) ≡ false → is_minimum size ≡ false
+      go : (size : Size) (highest : Bool) → highest ≡ true
+          → (is_minimum size && (highest || x.least || has_most x.blocks)) ≡ false → is_minimum size ≡ false
       go (Runs m) highest h out = refl
       go Minimum true h out = absurd (both_ways _ out refl)
       go Minimum false h out = absurd (both_ways _ refl h)
 
   unblocked : seeks_highest x.least step.goal ≡ true → has_most x.blocks ≡ false
-  unblocked seeks = go x.blocks (is_highest x.criterion) x.least sought.0 sought.1 (not-true _ (and_parts _ _ (and_parts _ _ together).0).1)
+  unblocked seeks =
+      go x.blocks (is_highest x.criterion) x.least sought.0 sought.1
+      (not-true _ (and_parts _ _ (and_parts _ _ together).0).1)
     where
       sought : (is_highest x.criterion ≡ true) × (x.least ≡ false)
       sought = is_sought x.least x.criterion step.goal valid.goal seeks
 
-      go : (given : Blocks) (highest least : Bool) → highest ≡ true → least ≡ false → (has_blocks given && (least || highest)) ≡ false → has_most given ≡ false
+      go : (given : Blocks) (highest least : Bool) → highest ≡ true → least ≡ false
+          → (has_blocks given && (least || highest)) ≡ false → has_most given ≡ false
       go blocks.Without highest least h plain out = refl
       go (blocks.Factors t) highest least h plain out = refl
       go (blocks.PerBlock k) highest least h plain out = refl
@@ -245,10 +271,12 @@ module _ (step : Meaning) (valid : IsValidStep step) where
     runs = runs_fit x.size x.q n level sized minimum
 
     few_blocks : x.q ^ block_factors x.blocks m n ≤ 1024
-    few_blocks = blocks_fit x.size x.blocks x.q n (no_more_than_9 x.q level).0 given runs.1 (block_numbers step n x.size high)
+    few_blocks =
+        blocks_fit x.size x.blocks x.q n (no_more_than_9 x.q level).0 given runs.1 (block_numbers step n x.size high)
 
     -- the shape of the question for n is one of the step
-    pub shape_valid : IsShapeOf step (record { q = x.q; m = m; s = length step.factors; t = block_factors x.blocks m n })
+    pub shape_valid : IsShapeOf step
+        (record { q = x.q; m = m; s = length step.factors; t = block_factors x.blocks m n })
     shape_valid = record {
       shaped = record {
         order = order_of x.q level;
@@ -264,14 +292,21 @@ module _ (step : Meaning) (valid : IsValidStep step) where
     }
 
     -- what it asks may be asked
-    pub requirement_valid : CanBeAsked (record { q = x.q; m = m; s = length step.factors; t = block_factors x.blocks m n }) (requirement_for x.least step.goal n)
-    requirement_valid = can_be_asked x.q m (length step.factors) (block_factors x.blocks m n) n x.least x.criterion step.goal criterion_fits valid.goal valid.effects
+    pub requirement_valid : CanBeAsked
+        (record { q = x.q; m = m; s = length step.factors; t = block_factors x.blocks m n })
+        (requirement_for x.least step.goal n)
+    requirement_valid =
+        can_be_asked x.q m (length step.factors) (block_factors x.blocks m n) n x.least x.criterion step.goal
+        criterion_fits valid.goal valid.effects
         (λ seeks. resolutions step n x.size (fixed seeks) (unblocked seeks) few_factors_in low high seeks)
 
-    pub least_valid : IsTrue x.least → IsTrue (is_resolution (requirement_for x.least step.goal n)) × (block_factors x.blocks m n ≡ 0)
+    pub least_valid : IsTrue x.least
+        → IsTrue (is_resolution (requirement_for x.least step.goal n)) × (block_factors x.blocks m n ≡ 0)
     least_valid h =
-        let with : stand_together x.size x.criterion true x.blocks ≡ true = subst (λ b. stand_together x.size x.criterion b x.blocks ≡ true) h together in (
-          subst (λ b. IsTrue (is_resolution (requirement_for b step.goal n))) (sym h) (resolution_asked x.size x.blocks x.criterion step.goal valid.goal with n),
+        let with : stand_together x.size x.criterion true x.blocks ≡ true =
+        subst (λ b. stand_together x.size x.criterion b x.blocks ≡ true) h together in (
+          subst (λ b. IsTrue (is_resolution (requirement_for b step.goal n))) (sym h)
+              (resolution_asked x.size x.blocks x.criterion step.goal valid.goal with n),
           without_blocks x.size x.blocks x.criterion step.goal valid.goal with m n,
         )
 
@@ -279,16 +314,20 @@ module _ (step : Meaning) (valid : IsValidStep step) where
   sizes_fit : (given : Blocks) → are_blocks x.q Minimum given ≡ true → least_exponent given ≤ greatest x.q
   sizes_fit blocks.Without are = one x.q (bounds.level x valid.settings)
   sizes_fit (blocks.Factors t) are = one x.q (bounds.level x valid.settings)
-  sizes_fit (blocks.PerBlock k) are = let fits : k < greatest x.q = ltb-true k (greatest x.q) (and_parts (is_minimum Minimum) _ are).1 in omega (arith, fits)
+  sizes_fit (blocks.PerBlock k) are = let fits : k < greatest x.q =
+      ltb-true k (greatest x.q) (and_parts (is_minimum Minimum) _ are).1 in omega (arith, fits)
   sizes_fit blocks.Most are = one x.q (bounds.level x valid.settings)
 
   at_least_one : (size : Size) → x.size ≡ size → lowest step size ≤ highest step size
-  at_least_one Minimum is = sizes_fit x.blocks (subst (λ z. are_blocks x.q z x.blocks ≡ true) is (bounds.given x valid.settings))
+  at_least_one Minimum is =
+      sizes_fit x.blocks (subst (λ z. are_blocks x.q z x.blocks ≡ true) is (bounds.given x valid.settings))
   at_least_one (Runs m) is =
       let fits = subst (λ z. is_size x.q z ≡ true) is (bounds.size x valid.settings) in
-      ordered (has_most x.blocks) (seeks_highest x.least step.goal) (leb-true 1 m (and_parts (nat_le 1 m) (nat_le (x.q ^ m) 1024) fits).0)
+      ordered (has_most x.blocks) (seeks_highest x.least step.goal)
+      (leb-true 1 m (and_parts (nat_le 1 m) (nat_le (x.q ^ m) 1024) fits).0)
     where
-      ordered : (most seeks : Bool) → 1 ≤ m → (if most then 1 else 3) ≤ (if most then m else (if seeks then max 3 (length step.factors + 1) else 3))
+      ordered : (most seeks : Bool) → 1 ≤ m
+          → (if most then 1 else 3) ≤ (if most then m else (if seeks then max 3 (length step.factors + 1) else 3))
       ordered true seeks some = some
       ordered false true some = omega arith
       ordered false false some = omega arith

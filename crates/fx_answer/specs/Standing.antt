@@ -1,5 +1,6 @@
 -- Where the asking of a step's questions is.
-use Rattle.std.specs.Prelude.{ℕ, ◌≡◌, ◌≤◌, ◌+◌, ◌-◌, ◌^◌, ◌==◌, ◌||◌, if◌then◌else◌, List, ◌∷◌, ◌++◌, map, length, Option, Some, None, find}
+use Rattle.std.specs.Prelude.{ℕ, ◌≡◌, ◌≤◌, ◌+◌, ◌-◌, ◌^◌, ◌==◌, ◌||◌, if◌then◌else◌, List, ◌∷◌, ◌++◌, map, length}
+use Rattle.std.specs.Prelude.{Option, Some, None, find}
 use Rattle.std.specs.List.{range_with_len}
 use Rattle.fx_designs.specs.Problems.{Problem}
 use Rattle.fx_vectors.specs.Matrix.{MatrixView}
@@ -7,7 +8,8 @@ use Rattle.fx_vectors.specs.declared.shape.Shape.{Shape}
 use Rattle.fx_vectors.specs.Shape.{IsShape, dimensions_of}
 use Rattle.fx_statements.specs.declared.outcome.Outcome.{Outcome}
 use Rattle.fx_statements.specs.Steps.{Meaning}
-use Rattle.fx_statements.specs.Questions.{Until, Conclusion, Found, Turn, conclusion_by, highest, is_last, last_of, lowest, passes, question_for, turns, until, up_to}
+use Rattle.fx_statements.specs.Questions.{Until, Conclusion, Found, Turn, conclusion_by, highest, is_last, last_of}
+use Rattle.fx_statements.specs.Questions.{lowest, passes, question_for, turns, until, up_to}
 use Rattle.fx_answer.specs.Books.{books_from, finished_before}
 use Rattle.fx_vectors.specs.declared.book.NamedBook.{NamedBook}
 
@@ -16,7 +18,8 @@ abbrev pub StandsFor : Option MatrixView → Option Found → Type 0
 StandsFor None None = Unit {0}
 StandsFor (Some matrix) None = ⊥
 StandsFor None (Some found) = ⊥
-StandsFor (Some matrix) (Some found) = (matrix.rows ≡ found.rows) × (dimensions_of matrix.shape ≡ found.question.dimensions)
+StandsFor (Some matrix) (Some found) =
+    (matrix.rows ≡ found.rows) × (dimensions_of matrix.shape ≡ found.question.dimensions)
 
 -- the shape of a question of a step
 pub record IsShapeOf (step : Meaning) (shape : Shape) : Type 0 where
@@ -38,9 +41,10 @@ IsOf step (Some matrix) = IsShapeOf step matrix.shape
 abbrev pub IsOutcomeOf : Meaning → Outcome → Type 0
 IsOutcomeOf step outcome = IsShapeOf step outcome.shape
 
--- What the asking of questions comes to, by the last of them, by all that are asked, and by the one in which the budget ended: this
--- where p and others are asked after these, which are finished.
-abbrev pub value_after : {T : Type 0} → (Problem → List Problem → Option Turn → T) → ℕ → Until → List Problem → Problem → List Problem → T
+-- What the asking of questions comes to, by the last of them, by all that are asked, and by the one in which the budget
+-- ended: this where p and others are asked after these, which are finished.
+abbrev pub value_after : {T : Type 0} → (Problem → List Problem → Option Turn → T) → ℕ → Until → List Problem → Problem
+    → List Problem → T
 value_after value budget ends earlier p others =
     let rest = up_to (is_last ends) (p ∷ others) in
     value (last_of p rest) (earlier ++ rest) (find (passes budget) (turns earlier rest))
@@ -52,7 +56,8 @@ questions_above step n = map (question_for step) (range_with_len (n + 1) (highes
 -- the same of the questions of a step from the number n on
 abbrev pub value_from : {T : Type 0} → (Problem → List Problem → Option Turn → T) → Meaning → List Problem → ℕ → T
 value_from value step earlier n =
-    value_after value step.settings.budget (until step.settings.size) earlier (question_for step n) (questions_above step n)
+    value_after value step.settings.budget (until step.settings.size) earlier (question_for step n)
+    (questions_above step n)
 
 -- the same where the question for n is finished too, and is the last of these
 abbrev pub value_past : {T : Type 0} → (Problem → List Problem → Option Turn → T) → Meaning → List Problem → ℕ → T

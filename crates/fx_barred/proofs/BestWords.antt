@@ -1,10 +1,14 @@
 -- Best words, as rows come.
-use Rattle.std.proofs.Common.{ℕ, ◌≡◌, ◌<◌, ◌≤◌, ◌+◌, ◌*◌, ◌^◌, ◌⊎◌, zero, suc, Bool, true, false, cond, eqb, ◌&&◌, ◌||◌, List, [], ◌∷◌, ◌++◌, take, drop, set, length, slice_index, slice_index_or, Option, Some, None, length-append, take-append-drop, drop-cons, refl, sym, subst, ◌∙◌, ap, arith, inl, inr}
+use Rattle.std.proofs.Common.{ℕ, ◌≡◌, ◌<◌, ◌≤◌, ◌+◌, ◌*◌, ◌^◌, ◌⊎◌, zero, suc, Bool, true, false, cond, eqb, ◌&&◌, ◌||◌}
+use Rattle.std.proofs.Common.{List, [], ◌∷◌, ◌++◌, take, drop, set, length, slice_index, slice_index_or, Option, Some}
+use Rattle.std.proofs.Common.{None, length-append, take-append-drop, drop-cons, refl, sym, subst, ◌∙◌, ap, arith, inl}
+use Rattle.std.proofs.Common.{inr}
 use Rattle.std.specs.Prelude.{nat_lt, nat_le}
 use Rattle.std.proofs.Math.Nat.{pow-succ', mul-le-mul_left}
 use Rattle.std.proofs.lemmas.List.{get_or-set_other}
 use Rattle.std.proofs.lemmas.Grind.{get_or-set_at}
-use Rattle.std.proofs.lemmas.Bool.{cases_eq, cases_lt, eq-eqb, eqb-true, ltb-true, lt-ltb, leb-true, le-leb, both_ways, and_parts, and_from, or_left, or_right}
+use Rattle.std.proofs.lemmas.Bool.{cases_eq, cases_lt, eq-eqb, eqb-true, ltb-true, lt-ltb, leb-true, le-leb, both_ways}
+use Rattle.std.proofs.lemmas.Bool.{and_parts, and_from, or_left, or_right}
 use Rattle.fx_designs.specs.Galois.{number, digits, IsField}
 use Rattle.fx_designs.specs.Vectors.{IsVector, weight, is_zero, plus, scale}
 use Rattle.fx_designs.specs.Problems.{Dimensions, Requirement}
@@ -22,7 +26,8 @@ use Rattle.fx_points.proofs.Additions.{sum-digits}
 use Rattle.fx_barred.specs.Reach.{with_row}
 use Rattle.fx_barred.specs.FirstWords.{sum_to}
 use Rattle.fx_barred.specs.declared.best_words.Best.{Best}
-use Rattle.fx_barred.specs.BestWords.{BringsToZero, IsNoWorse, IsBestWord, IsBestOf, IsBest, IsWithin, is_better, preferred, with_code}
+use Rattle.fx_barred.specs.BestWords.{BringsToZero, IsNoWorse, IsBestWord, IsBestOf, IsBest, IsWithin, is_better}
+use Rattle.fx_barred.specs.BestWords.{preferred, with_code}
 use Rattle.fx_barred.proofs.Firsts.{sum-before, with-none}
 use Rattle.fx_barred.proofs.EffectBars.{sum-front}
 use Rattle.fx_barred.proofs.Longer.{row-last}
@@ -35,12 +40,21 @@ no-worse-follows q u v w (inr a) (inl b) = inl (omega (arith, a.0))
 no-worse-follows q u v w (inr a) (inr b) = inr (a.0 ∙ b.0, omega (arith, a.1, b.1))
 
 -- the same property
-pub best-same : (P R : List ℕ → Type 0) (q : ℕ) (o : Option Best) → ((v : List ℕ) → P v → R v) → ((v : List ℕ) → R v → P v) → IsBestOf P q o → IsBestOf R q o
+pub best-same : (P R : List ℕ → Type 0) (q : ℕ) (o : Option Best) → ((v : List ℕ) → P v → R v)
+    → ((v : List ℕ) → R v → P v) → IsBestOf P q o → IsBestOf R q o
 best-same P R q None to from h = λ v r. h v (from v r)
-best-same P R q (Some b) to from h = record { word = h.word; holds = to h.word h.holds; weighs = h.weighs; counts = h.counts; none_better = λ v r. h.none_better v (from v r) }
+best-same P R q (Some b) to from h =
+    record {
+      word = h.word;
+      holds = to h.word h.holds;
+      weighs = h.weighs;
+      counts = h.counts;
+      none_better = λ v r. h.none_better v (from v r);
+    }
 
 -- what a comparison says
-better-is : (q : ℕ) (a b : Best) (u v : List ℕ) → weight u ≡ a.weight → number q u ≡ a.number → weight v ≡ b.weight → number q v ≡ b.number → is_better a b ≡ true → IsNoWorse q v u
+better-is : (q : ℕ) (a b : Best) (u v : List ℕ) → weight u ≡ a.weight → number q u ≡ a.number → weight v ≡ b.weight
+    → number q v ≡ b.number → is_better a b ≡ true → IsNoWorse q v u
 better-is q a b u v wu nu wv nv is =
     elim (either_true (nat_lt b.weight a.weight) ((eqb b.weight a.weight) && nat_le a.number b.number) is) [
       | inl less ↦ let l = ltb-true b.weight a.weight less in inl (omega arith)
@@ -51,7 +65,8 @@ better-is q a b u v wu nu wv nv is =
           inr (omega arith, omega arith)
     ]
 
-not-better-is : (q : ℕ) (a b : Best) (u v : List ℕ) → weight u ≡ a.weight → number q u ≡ a.number → weight v ≡ b.weight → number q v ≡ b.number → is_better a b ≡ false → IsNoWorse q u v
+not-better-is : (q : ℕ) (a b : Best) (u v : List ℕ) → weight u ≡ a.weight → number q u ≡ a.number → weight v ≡ b.weight
+    → number q v ≡ b.number → is_better a b ≡ false → IsNoWorse q u v
 not-better-is q a b u v wu nu wv nv is =
     elim (cases_lt b.weight a.weight) [
       | inl less ↦ absurd (both_ways _ is (or_left _ _ (lt-ltb b.weight a.weight less)))
@@ -61,26 +76,58 @@ not-better-is q a b u v wu nu wv nv is =
             | inl same ↦
                 elim (cases_lt b.number a.number) [
                   | inl more ↦ inr (omega arith, omega arith)
-                  | inr less ↦ absurd (both_ways _ is (or_right (nat_lt b.weight a.weight) _ (and_from _ _ (eq-eqb b.weight a.weight same) (le-leb a.number b.number less))))
+                  | inr less ↦
+                      absurd (both_ways _ is
+                      (or_right (nat_lt b.weight a.weight) _
+                      (and_from _ _ (eq-eqb b.weight a.weight same) (le-leb a.number b.number less))))
                 ]
           ]
     ]
 
 -- the better of two
-module _ (P S R : List ℕ → Type 0) (q : ℕ) (p : (v : List ℕ) → P v → R v) (s : (v : List ℕ) → S v → R v) (r : (v : List ℕ) → R v → P v ⊎ S v) where
+module _ (P S R : List ℕ → Type 0) (q : ℕ) (p : (v : List ℕ) → P v → R v) (s : (v : List ℕ) → S v → R v)
+    (r : (v : List ℕ) → R v → P v ⊎ S v) where
   pub preferred-best : (a b : Option Best) → IsBestOf P q a → IsBestOf S q b → IsBestOf R q (preferred a b)
   preferred-best None None ha hb = λ v h. elim (r v h) [ inl x ↦ ha v x | inr y ↦ hb v y ]
-  preferred-best None (Some b) ha hb = record { word = hb.word; holds = s hb.word hb.holds; weighs = hb.weighs; counts = hb.counts; none_better = λ v h. elim (r v h) [ inl x ↦ absurd (ha v x) | inr y ↦ hb.none_better v y ] }
-  preferred-best (Some a) None ha hb = record { word = ha.word; holds = p ha.word ha.holds; weighs = ha.weighs; counts = ha.counts; none_better = λ v h. elim (r v h) [ inl x ↦ ha.none_better v x | inr y ↦ absurd (hb v y) ] }
+  preferred-best None (Some b) ha hb =
+      record {
+        word = hb.word;
+        holds = s hb.word hb.holds;
+        weighs = hb.weighs;
+        counts = hb.counts;
+        none_better = λ v h. elim (r v h) [ inl x ↦ absurd (ha v x) | inr y ↦ hb.none_better v y ];
+      }
+  preferred-best (Some a) None ha hb =
+      record {
+        word = ha.word;
+        holds = p ha.word ha.holds;
+        weighs = ha.weighs;
+        counts = ha.counts;
+        none_better = λ v h. elim (r v h) [ inl x ↦ ha.none_better v x | inr y ↦ absurd (hb v y) ];
+      }
   preferred-best (Some a) (Some b) ha hb = go (is_better a b) refl
     where
       go : (t : Bool) → is_better a b ≡ t → IsBestOf R q (cond t (Some b) (Some a))
       go true is =
           let over = better-is q a b ha.word hb.word ha.weighs ha.counts hb.weighs hb.counts is in
-          record { word = hb.word; holds = s hb.word hb.holds; weighs = hb.weighs; counts = hb.counts; none_better = λ v h. elim (r v h) [ inl x ↦ no-worse-follows q hb.word ha.word v over (ha.none_better v x) | inr y ↦ hb.none_better v y ] }
+          record {
+            word = hb.word;
+            holds = s hb.word hb.holds;
+            weighs = hb.weighs;
+            counts = hb.counts;
+            none_better = λ v h. elim (r v h)
+                [ inl x ↦ no-worse-follows q hb.word ha.word v over (ha.none_better v x) | inr y ↦ hb.none_better v y ];
+          }
       go false is =
           let over = not-better-is q a b ha.word hb.word ha.weighs ha.counts hb.weighs hb.counts is in
-          record { word = ha.word; holds = p ha.word ha.holds; weighs = ha.weighs; counts = ha.counts; none_better = λ v h. elim (r v h) [ inl x ↦ ha.none_better v x | inr y ↦ no-worse-follows q ha.word hb.word v over (hb.none_better v y) ] }
+          record {
+            word = ha.word;
+            holds = p ha.word ha.holds;
+            weighs = ha.weighs;
+            counts = ha.counts;
+            none_better = λ v h. elim (r v h)
+                [ inl x ↦ ha.none_better v x | inr y ↦ no-worse-follows q ha.word hb.word v over (hb.none_better v y) ];
+          }
 
 pub take-before : (s : ℕ) (u w : List ℕ) → s ≤ length u → take s (u ++ w) ≡ take s u
 take-before zero u w low = refl
@@ -88,7 +135,8 @@ take-before (suc s) [] w low = absurd (omega arith)
 take-before (suc s) (a ∷ u) w low = ap (λ (l : List ℕ). a ∷ l) (take-before s u w (omega arith))
 
 -- one row more
-module _ (d : Dimensions) (f : IsField d.q) (wanted : Requirement) (rows : List ℕ) (r : ℕ) (blocks : d.s ≤ length rows) (x : ℕ) where
+module _ (d : Dimensions) (f : IsField d.q) (wanted : Requirement) (rows : List ℕ) (r : ℕ) (blocks : d.s ≤ length rows)
+    (x : ℕ) where
   abbrev q : ℕ
   q = d.q
 
@@ -119,22 +167,27 @@ module _ (d : Dimensions) (f : IsField d.q) (wanted : Requirement) (rows : List 
       let row : List ℕ = scale q c (vec r) in
       let one : (y : ℕ) → scale q 1 (vec y) ≡ vec y = λ y. scale-one q m f (vec y) (vec-vector y) in
       ap (number q)
-      (ap (λ (v : List ℕ). plus q v (scale q 1 (vec x))) (sum-digits q m f c a r) ∙ ap (plus q (plus q (vec a) row)) (one x) ∙ plus-assoc q f (vec a) row (vec x) ∙ ap (plus q (vec a)) (plus-comm q f row (vec x))
+      (ap (λ (v : List ℕ). plus q v (scale q 1 (vec x))) (sum-digits q m f c a r) ∙ ap (plus q (plus q (vec a) row))
+      (one x) ∙ plus-assoc q f (vec a) row (vec x) ∙ ap (plus q (vec a)) (plus-comm q f row (vec x))
       ∙ ap (plus q (vec a)) (sym (sum-digits q m f c x r) ∙ sym (one (sum_of q c m x r))))
 
-  sum-last : (u : List ℕ) (c : ℕ) → length u ≡ n → sum_to q m longer (u ++ c ∷ []) (length longer) ≡ sum_of q c m (sum_to q m rows u n) r
+  sum-last : (u : List ℕ) (c : ℕ) → length u ≡ n
+      → sum_to q m longer (u ++ c ∷ []) (length longer) ≡ sum_of q c m (sum_to q m rows u n) r
   sum-last u c len =
       let up : length longer ≡ suc n = omega (arith, long) in
       let code : slice_index (u ++ c ∷ []) n ≡ c = ap (slice_index (u ++ c ∷ [])) (sym len) ∙ row-last u c in
       ap (sum_to q m longer (u ++ c ∷ [])) up
       ∙ ap (λ (k : ℕ). with_row q m longer n (sum_to q m longer (u ++ c ∷ []) n) k) code
       ∙ ap (λ (k : ℕ). sum_of q c m (sum_to q m longer (u ++ c ∷ []) n) k) (row-last rows r)
-      ∙ ap (λ (k : ℕ). sum_of q c m k r) (sum-before q m rows r (u ++ c ∷ []) n (omega arith) ∙ sum-front q m rows u (c ∷ []) n (omega (arith, len)))
+      ∙ ap (λ (k : ℕ). sum_of q c m k r)
+      (sum-before q m rows r (u ++ c ∷ []) n (omega arith) ∙ sum-front q m rows u (c ∷ []) n (omega (arith, len)))
 
-  extend : (c : ℕ) (u : List ℕ) → c < q → BringsToZero d wanted rows (sum_of q c m x r) u → BringsToZero d wanted longer x (u ++ c ∷ [])
+  extend : (c : ℕ) (u : List ℕ) → c < q → BringsToZero d wanted rows (sum_of q c m x r) u
+      → BringsToZero d wanted longer x (u ++ c ∷ [])
   extend c u low h = record {
     vector = subst (λ (k : ℕ). IsVector q k (u ++ c ∷ [])) (sym long) (push-vector q n u c h.vector low);
-    factors = ap (λ (l : List ℕ). is_zero l || is_estimated wanted l) (take-before d.s u (c ∷ []) (omega (arith, blocks, h.vector.len))) ∙ h.factors;
+    factors = ap (λ (l : List ℕ). is_zero l || is_estimated wanted l)
+        (take-before d.s u (c ∷ []) (omega (arith, blocks, h.vector.len))) ∙ h.factors;
     sum = ap (λ (k : ℕ). sum_of q 1 m k x) (sum-last u c h.vector.len) ∙ turn (sum_to q m rows u n) c ∙ h.sum;
   }
 
@@ -149,15 +202,21 @@ module _ (d : Dimensions) (f : IsField d.q) (wanted : Requirement) (rows : List 
       let u : List ℕ = take n v in
       let len : length v ≡ suc n = omega (arith, h.vector.len, long) in
       let rest : drop (suc n) v ≡ [] = nothing (suc n) v (omega (arith, len)) in
-      let whole : v ≡ u ++ c ∷ [] = sym (take-append-drop n v) ∙ ap (λ (l : List ℕ). u ++ l) (drop-cons v n 0 (omega (arith, len)) ∙ ap (λ (l : List ℕ). c ∷ l) rest) in
+      let whole : v ≡ u ++ c ∷ [] =
+      sym (take-append-drop n v) ∙ ap (λ (l : List ℕ). u ++ l)
+      (drop-cons v n 0 (omega (arith, len)) ∙ ap (λ (l : List ℕ). c ∷ l) rest) in
       let vector : IsVector q n u = take-vector q (length longer) n 1 v h.vector long in
       record {
         front = u;
         whole = whole;
         brings = record {
           vector = vector;
-          factors = ap (λ (l : List ℕ). is_zero l || is_estimated wanted l) (sym (take-before d.s u (c ∷ []) (omega (arith, blocks, vector.len))) ∙ ap (take d.s) (sym whole)) ∙ h.factors;
-          sum = sym (turn (sum_to q m rows u n) c) ∙ ap (λ (k : ℕ). sum_of q 1 m k x) (sym (sum-last u c vector.len) ∙ ap (λ (w : List ℕ). sum_to q m longer w (length longer)) (sym whole)) ∙ h.sum;
+          factors = ap (λ (l : List ℕ). is_zero l || is_estimated wanted l)
+              (sym (take-before d.s u (c ∷ []) (omega (arith, blocks, vector.len))) ∙ ap (take d.s) (sym whole)) ∙
+              h.factors;
+          sum = sym (turn (sum_to q m rows u n) c) ∙ ap (λ (k : ℕ). sum_of q 1 m k x)
+              (sym (sum-last u c vector.len) ∙ ap (λ (w : List ℕ). sum_to q m longer w (length longer)) (sym whole)) ∙
+              h.sum;
         };
       }
     where
@@ -175,13 +234,15 @@ module _ (d : Dimensions) (f : IsField d.q) (wanted : Requirement) (rows : List 
   At c v = BringsToZero d wanted longer x v × (slice_index v n ≡ c)
 
   -- the best word with a code
-  module _ (c : ℕ) (code : c < q) (a : ℕ) (heavier : (u : List ℕ) → weight (u ++ c ∷ []) ≡ weight u + a) (b other : Best) (weighs : other.weight ≡ b.weight + a) (counts : other.number ≡ b.number + c * q ^ n) where
+  module _ (c : ℕ) (code : c < q) (a : ℕ) (heavier : (u : List ℕ) → weight (u ++ c ∷ []) ≡ weight u + a)
+      (b other : Best) (weighs : other.weight ≡ b.weight + a) (counts : other.number ≡ b.number + c * q ^ n) where
     more : (u : List ℕ) → length u ≡ n → number q (u ++ c ∷ []) ≡ number q u + c * q ^ n
     more u e = number-push q u c ∙ ap (λ (k : ℕ). number q u + c * q ^ k) e
 
     raised : (u v : List ℕ) → length u ≡ n → length v ≡ n → IsNoWorse q u v → IsNoWorse q (u ++ c ∷ []) (v ++ c ∷ [])
     raised u v ul vl (inl less) = inl (omega (arith, heavier u, heavier v))
-    raised u v ul vl (inr same) = inr (omega (arith, same.0, heavier u, heavier v), omega (arith, same.1, more u ul, more v vl))
+    raised u v ul vl (inr same) =
+        inr (omega (arith, same.0, heavier u, heavier v), omega (arith, same.1, more u ul, more v vl))
 
     best-at : IsBestWord (BringsToZero d wanted rows (sum_of q c m x r)) q b → IsBestWord (At c) q other
     best-at h =
@@ -194,37 +255,51 @@ module _ (d : Dimensions) (f : IsField d.q) (wanted : Requirement) (rows : List 
           none_better = λ v hv.
               (let parts = parted v hv.0 in
               let u : List ℕ = parts.front in
-              let brings : BringsToZero d wanted rows (sum_of q c m x r) u = subst (λ (k : ℕ). BringsToZero d wanted rows (sum_of q k m x r) u) hv.1 parts.brings in
+              let brings : BringsToZero d wanted rows (sum_of q c m x r) u =
+              subst (λ (k : ℕ). BringsToZero d wanted rows (sum_of q k m x r) u) hv.1 parts.brings in
               let whole : v ≡ u ++ c ∷ [] = parts.whole ∙ ap (λ (k : ℕ). u ++ k ∷ []) hv.1 in
-              subst (λ (w : List ℕ). IsNoWorse q (h.word ++ c ∷ []) w) (sym whole) (raised h.word u len brings.vector.len (h.none_better u brings)));
+              subst (λ (w : List ℕ). IsNoWorse q (h.word ++ c ∷ []) w) (sym whole)
+              (raised h.word u len brings.vector.len (h.none_better u brings)));
         }
 
   none-at : (c : ℕ) → ((u : List ℕ) → BringsToZero d wanted rows (sum_of q c m x r) u → ⊥) → (v : List ℕ) → At c v → ⊥
-  none-at c h v hv = let parts = parted v hv.0 in h parts.front (subst (λ (k : ℕ). BringsToZero d wanted rows (sum_of q k m x r) parts.front) hv.1 parts.brings)
+  none-at c h v hv = let parts = parted v hv.0 in
+      h parts.front (subst (λ (k : ℕ). BringsToZero d wanted rows (sum_of q k m x r) parts.front) hv.1 parts.brings)
 
-  at-code : (c : ℕ) (o : Option Best) → 0 < c → c < q → IsBest d wanted rows (sum_of q c m x r) o → IsBestOf (At c) q (with_code o (c * q ^ n))
+  at-code : (c : ℕ) (o : Option Best) → 0 < c → c < q → IsBest d wanted rows (sum_of q c m x r) o
+      → IsBestOf (At c) q (with_code o (c * q ^ n))
   at-code c None positive low h = none-at c h
   at-code c (Some b) positive low h =
-      best-at c low 1 (λ u. (let parts = weight-append u (c ∷ []) in let one = weight-cons c [] in let mark = mark-some c positive in omega arith)) b (record { weight = b.weight + 1; number = b.number + c * q ^ n }) refl refl h
+      best-at c low 1
+      (λ u. (let parts = weight-append u (c ∷ []) in let one = weight-cons c [] in let mark = mark-some c positive in
+      omega arith)) b (record { weight = b.weight + 1; number = b.number + c * q ^ n }) refl refl h
 
   at-zero : (o : Option Best) → IsBest d wanted rows (sum_of q 0 m x r) o → IsBestOf (At 0) q o
   at-zero None h = none-at 0 h
-  at-zero (Some b) h = best-at 0 some 0 (λ u. (let parts = weight-append u (0 ∷ []) in omega arith)) b b (omega arith) (omega arith) h
+  at-zero (Some b) h =
+      best-at 0 some 0 (λ u. (let parts = weight-append u (0 ∷ []) in omega arith)) b b (omega arith) (omega arith) h
 
   pub best-first : (o : Option Best) → x < q ^ m → IsBest d wanted rows x o → IsBestOf (Below 1) q o
   best-first o low h =
-      let none : sum_of q 0 m x r ≡ x = ap (λ (k : ℕ). sum_of q 0 m x k) (sym (row-last rows r)) ∙ with-none q m f longer n x low in
-      best-same (At 0) (Below 1) q o (λ v hv. (hv.0, omega (arith, hv.1))) (λ v hv. (hv.0, omega (arith, hv.1))) (at-zero o (subst (λ (k : ℕ). IsBest d wanted rows k o) (sym none) h))
+      let none : sum_of q 0 m x r ≡ x =
+      ap (λ (k : ℕ). sum_of q 0 m x k) (sym (row-last rows r)) ∙ with-none q m f longer n x low in
+      best-same (At 0) (Below 1) q o (λ v hv. (hv.0, omega (arith, hv.1))) (λ v hv. (hv.0, omega (arith, hv.1)))
+      (at-zero o (subst (λ (k : ℕ). IsBest d wanted rows k o) (sym none) h))
 
-  pub best-next : (c : ℕ) (found o : Option Best) → 0 < c → c < q → IsBestOf (Below c) q found → IsBest d wanted rows (sum_of q c m x r) o → IsBestOf (Below (c + 1)) q (preferred found (with_code o (c * q ^ n)))
+  pub best-next : (c : ℕ) (found o : Option Best) → 0 < c → c < q → IsBestOf (Below c) q found
+      → IsBest d wanted rows (sum_of q c m x r) o
+      → IsBestOf (Below (c + 1)) q (preferred found (with_code o (c * q ^ n)))
   best-next c found o positive low so-far h =
-      preferred-best (Below c) (At c) (Below (c + 1)) q (λ v hv. (hv.0, omega (arith, hv.1))) (λ v hv. (hv.0, omega (arith, hv.1)))
-      (λ v hv. elim (cases_eq (slice_index v n) c) [ inl here ↦ inr (hv.0, here) | inr other ↦ inl (hv.0, omega (arith, hv.1)) ])
+      preferred-best (Below c) (At c) (Below (c + 1)) q (λ v hv. (hv.0, omega (arith, hv.1)))
+      (λ v hv. (hv.0, omega (arith, hv.1)))
+      (λ v hv. elim (cases_eq (slice_index v n) c)
+      [ inl here ↦ inr (hv.0, here) | inr other ↦ inl (hv.0, omega (arith, hv.1)) ])
       found (with_code o (c * q ^ n)) so-far (at-code c o positive low h)
 
   pub best-last : (found : Option Best) → IsBestOf (Below q) q found → IsBest d wanted longer x found
   best-last found h =
-      best-same (Below q) (BringsToZero d wanted longer x) q found (λ v hv. hv.0) (λ v hv. (hv, each-at (λ (a : ℕ). a < q) v n hv.vector.codes (omega (arith, hv.vector.len, long)))) h
+      best-same (Below q) (BringsToZero d wanted longer x) q found (λ v hv. hv.0)
+      (λ v hv. (hv, each-at (λ (a : ℕ). a < q) v n hv.vector.codes (omega (arith, hv.vector.len, long)))) h
 
 -- bounds
 pub within-more : (q n : ℕ) (o : Option Best) → 0 < q → IsWithin q n o → IsWithin q (n + 1) o
@@ -245,10 +320,17 @@ preferred-within q n (Some a) (Some b) ha hb = go (is_better a b)
     go false = ha
 
 -- a table that is filled place by place
-pub made-next : (P : ℕ → Option Best → Type 0) (tables : List (Option Best)) (first x place : ℕ) (v : Option Best) → place ≡ first + x → place < length tables → P x v
-    → ((y : ℕ) → y < x → P y (slice_index_or tables (first + y) None)) → (y : ℕ) → y < x + 1 → P y (slice_index_or (set tables place v) (first + y) None)
+pub made-next : (P : ℕ → Option Best → Type 0) (tables : List (Option Best)) (first x place : ℕ) (v : Option Best)
+    → place ≡ first + x → place < length tables → P x v
+    → ((y : ℕ) → y < x → P y (slice_index_or tables (first + y) None)) → (y : ℕ) → y < x + 1
+    → P y (slice_index_or (set tables place v) (first + y) None)
 made-next P tables first x place v at there here before y low =
     elim (cases_eq y x) [
-      | inl last ↦ subst (P y) (sym (get_or-set_at tables place (first + y) v None (omega arith) there)) (subst (λ (k : ℕ). P k v) (sym last) here)
-      | inr less ↦ subst (P y) (sym (get_or-set_other tables place (first + y) v None (λ (e : first + y ≡ place). less (omega arith)))) (before y (omega arith))
+      | inl last ↦
+          subst (P y) (sym (get_or-set_at tables place (first + y) v None (omega arith) there))
+          (subst (λ (k : ℕ). P k v) (sym last) here)
+      | inr less ↦
+          subst (P y)
+          (sym (get_or-set_other tables place (first + y) v None (λ (e : first + y ≡ place). less (omega arith))))
+          (before y (omega arith))
     ]

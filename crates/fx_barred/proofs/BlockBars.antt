@@ -1,5 +1,7 @@
 -- Over the block rows: which rows are barred, and the closing word of a barred row.
-use Rattle.std.proofs.Common.{ℕ, ◌≡◌, ◌<◌, ◌≤◌, ◌+◌, ◌-◌, ◌*◌, ◌^◌, ◌⊎◌, zero, suc, Bool, true, false, cond, ◌||◌, List, [], ◌∷◌, ◌++◌, take, drop, length, get_or, Option, Some, take-append-drop, drop-cons, refl, sym, subst, ◌∙◌, ap, arith, inl, inr}
+use Rattle.std.proofs.Common.{ℕ, ◌≡◌, ◌<◌, ◌≤◌, ◌+◌, ◌-◌, ◌*◌, ◌^◌, ◌⊎◌, zero, suc, Bool, true, false, cond, ◌||◌, List}
+use Rattle.std.proofs.Common.{[], ◌∷◌, ◌++◌, take, drop, length, get_or, Option, Some, take-append-drop, drop-cons}
+use Rattle.std.proofs.Common.{refl, sym, subst, ◌∙◌, ap, arith, inl, inr}
 use Rattle.std.specs.Prelude.{unwrap_or}
 use Rattle.std.specs.List.{AllByRecursion}
 use Rattle.std.proofs.lemmas.Bool.{eq-eqb, ne_eqb, eqb-true}
@@ -21,11 +23,14 @@ use Rattle.fx_points.specs.Sums.{sum_of}
 use Rattle.fx_barred.specs.FirstWords.{sum_to}
 use Rattle.fx_barred.specs.declared.best_words.Best.{Best}
 use Rattle.fx_barred.specs.BestWords.{BringsToZero, IsBestWord}
-use Rattle.fx_barred.proofs.EffectBars.{sum-front, take-front, drop-front, sum-below, to-minus, from-minus, zero-to, zero-from}
+use Rattle.fx_barred.proofs.EffectBars.{sum-front, take-front, drop-front, sum-below, to-minus, from-minus, zero-to}
+use Rattle.fx_barred.proofs.EffectBars.{zero-from}
 use Rattle.fx_barred.proofs.BestWords.{take-before}
 use Rattle.fx_barred.proofs.Longer.{not_before, length-longer, fits-longer}
 
-module _ (d : Dimensions) (f : IsField d.q) (wanted : Requirement) (rows : List ℕ) (below : AllByRecursion (λ x. x < d.q ^ d.m) rows) (blocks : d.s ≤ length rows) (part : length rows < d.s + d.t) (x : ℕ) (x-below : x < d.q ^ d.m) where
+module _ (d : Dimensions) (f : IsField d.q) (wanted : Requirement) (rows : List ℕ)
+    (below : AllByRecursion (λ x. x < d.q ^ d.m) rows) (blocks : d.s ≤ length rows) (part : length rows < d.s + d.t)
+    (x : ℕ) (x-below : x < d.q ^ d.m) where
   abbrev n : ℕ
   n = d.s + d.t
 
@@ -51,7 +56,8 @@ module _ (d : Dimensions) (f : IsField d.q) (wanted : Requirement) (rows : List 
   drop-zeros-after [] v zero e = absurd (cc)
   drop-zeros-after [] v (suc i) e = absurd (cc)
   drop-zeros-after (a ∷ w) v zero e = (cc, cc)
-  drop-zeros-after (a ∷ w) v (suc i) e = let up : suc i + 1 ≡ suc (i + 1) = omega arith in let r = drop-zeros-after w v i e in (r.0, rw up r.1)
+  drop-zeros-after (a ∷ w) v (suc i) e = let up : suc i + 1 ≡ suc (i + 1) = omega arith in let r =
+      drop-zeros-after w v i e in (r.0, rw up r.1)
 
   -- a vector over the rows with these
   module _ (u : List ℕ) (len : length u ≡ k) where
@@ -68,11 +74,13 @@ module _ (d : Dimensions) (f : IsField d.q) (wanted : Requirement) (rows : List 
     number-more =
         let parts = number-split d.q k (u ++ rest) in
         let one : number d.q rest ≡ 1 = ap (λ (j : ℕ). 1 + d.q * j) (number-zeros d.q (n - (k + 1))) ∙ omega arith in
-        parts ∙ ap (λ (l : List ℕ). number d.q l + d.q ^ k * number d.q (drop k (u ++ rest))) front-is ∙ ap (λ (l : List ℕ). number d.q u + d.q ^ k * number d.q l) rest-is
+        parts ∙ ap (λ (l : List ℕ). number d.q l + d.q ^ k * number d.q (drop k (u ++ rest))) front-is ∙ ap
+        (λ (l : List ℕ). number d.q u + d.q ^ k * number d.q l) rest-is
         ∙ ap (λ (j : ℕ). number d.q u + d.q ^ k * j) one ∙ omega arith
 
     -- it is forbidden where it is zero or one to be estimated on the factors
-    pub forbidden-is : is_forbidden_word d wanted (u ++ rest) ≡ (is_zero (take d.s u) || is_estimated wanted (take d.s u))
+    pub forbidden-is : is_forbidden_word d wanted (u ++ rest)
+        ≡ (is_zero (take d.s u) || is_estimated wanted (take d.s u))
     forbidden-is =
         let w : List ℕ = u ++ rest in
         let factors : take d.s w ≡ take d.s u = take-before d.s u rest (omega (arith, len, blocks)) in
@@ -81,10 +89,13 @@ module _ (d : Dimensions) (f : IsField d.q) (wanted : Requirement) (rows : List 
         let same = ap weight factors in
         let some : weight (drop d.s w) ≡ 0 → ⊥ = λ z. omega (arith, all, mine, same, z, weight-more) in
         let block : is_zero (drop d.s w) ≡ false = ne_eqb (weight (drop d.s w)) 0 some in
-        ap (λ (b : Bool). cond b (must_balance d wanted (take d.s w)) (is_zero (take d.s w) || is_estimated wanted (take d.s w))) block ∙ ap (λ (l : List ℕ). is_zero l || is_estimated wanted l) factors
+        ap (λ (b : Bool). cond b (must_balance d wanted (take d.s w))
+        (is_zero (take d.s w) || is_estimated wanted (take d.s w))) block ∙ ap
+        (λ (l : List ℕ). is_zero l || is_estimated wanted l) factors
 
     pub whole-vector : IsVector d.q k u → IsVector d.q n (u ++ rest)
-    whole-vector h = let all : k + (n - k) ≡ n = omega (arith, part) in subst (λ (j : ℕ). IsVector d.q j (u ++ rest)) all (append-vector d.q k (n - k) u rest h rest-vector)
+    whole-vector h = let all : k + (n - k) ≡ n = omega (arith, part) in
+        subst (λ (j : ℕ). IsVector d.q j (u ++ rest)) all (append-vector d.q k (n - k) u rest h rest-vector)
 
     ends : (get_or (u ++ rest) k 0 ≡ 1) × (drop (k + 1) (u ++ rest) ≡ zeros (n - (k + 1)))
     ends = drop-zeros-after (u ++ rest) (zeros (n - (k + 1))) k rest-is
@@ -95,11 +106,17 @@ module _ (d : Dimensions) (f : IsField d.q) (wanted : Requirement) (rows : List 
     sum-same : sum_to d.q d.m rows (u ++ rest) k ≡ sum_to d.q d.m rows u k
     sum-same = sum-front d.q d.m rows u rest k (omega (arith, len))
 
-    pub zero-sum : IsVector d.q k u → sum_of d.q 1 d.m (sum_to d.q d.m rows u k) x ≡ 0 → combination d.q d.m (u ++ rest) (vectors_of d.q d.m longer) ≡ zeros d.m
-    zero-sum h e = zero-from d f rows x x-below (u ++ rest) (whole-vector h) ends.0 light-after part (sum-same ∙ to-minus d.q d.m f (sum_to d.q d.m rows u k) x (sum-below d.q d.m f rows u k) x-below e)
+    pub zero-sum : IsVector d.q k u → sum_of d.q 1 d.m (sum_to d.q d.m rows u k) x ≡ 0
+        → combination d.q d.m (u ++ rest) (vectors_of d.q d.m longer) ≡ zeros d.m
+    zero-sum h e =
+        zero-from d f rows x x-below (u ++ rest) (whole-vector h) ends.0 light-after part
+        (sum-same ∙ to-minus d.q d.m f (sum_to d.q d.m rows u k) x (sum-below d.q d.m f rows u k) x-below e)
 
-    pub sum-zero : IsVector d.q k u → combination d.q d.m (u ++ rest) (vectors_of d.q d.m longer) ≡ zeros d.m → sum_of d.q 1 d.m (sum_to d.q d.m rows u k) x ≡ 0
-    sum-zero h e = from-minus d.q d.m f (sum_to d.q d.m rows u k) x x-below (sym sum-same ∙ zero-to d f rows x x-below (u ++ rest) (whole-vector h) ends.0 light-after part e)
+    pub sum-zero : IsVector d.q k u → combination d.q d.m (u ++ rest) (vectors_of d.q d.m longer) ≡ zeros d.m
+        → sum_of d.q 1 d.m (sum_to d.q d.m rows u k) x ≡ 0
+    sum-zero h e =
+        from-minus d.q d.m f (sum_to d.q d.m rows u k) x x-below
+        (sym sum-same ∙ zero-to d f rows x x-below (u ++ rest) (whole-vector h) ends.0 light-after part e)
 
     pub closes : BringsToZero d wanted rows x u → IsClosing d wanted longer (u ++ rest)
     closes h =
@@ -114,35 +131,53 @@ module _ (d : Dimensions) (f : IsField d.q) (wanted : Requirement) (rows : List 
 
   -- a whole word is such a vector where it ends so
   pub split : (w : List ℕ) → IsVector d.q n w → drop k w ≡ rest → (IsVector d.q k (take k w)) × (take k w ++ rest ≡ w)
-  split w h e = (take-vector d.q n k (n - k) w h (omega (arith, part)), ap (λ (l : List ℕ). take k w ++ l) (sym e) ∙ take-append-drop k w)
+  split w h e = (
+    take-vector d.q n k (n - k) w h (omega (arith, part)),
+    ap (λ (l : List ℕ). take k w ++ l) (sym e) ∙
+        take-append-drop k w,
+  )
 
-  pub brings : (w : List ℕ) → IsVector d.q n w → drop k w ≡ rest → is_forbidden_word d wanted w ≡ true → combination d.q d.m w (vectors_of d.q d.m longer) ≡ zeros d.m → BringsToZero d wanted rows x (take k w)
+  pub brings : (w : List ℕ) → IsVector d.q n w → drop k w ≡ rest → is_forbidden_word d wanted w ≡ true
+      → combination d.q d.m w (vectors_of d.q d.m longer) ≡ zeros d.m → BringsToZero d wanted rows x (take k w)
   brings w h e forbidden zero_sum =
       let parts = split w h e in
       let len = parts.0.len in
       record {
         vector = parts.0;
         factors = sym (forbidden-is (take k w) len) ∙ ap (is_forbidden_word d wanted) parts.1 ∙ forbidden;
-        sum = sum-zero (take k w) len parts.0 (ap (λ (l : List ℕ). combination d.q d.m l (vectors_of d.q d.m longer)) parts.1 ∙ zero_sum);
+        sum = sum-zero (take k w) len parts.0
+            (ap (λ (l : List ℕ). combination d.q d.m l (vectors_of d.q d.m longer)) parts.1 ∙ zero_sum);
       }
 
   module _ (allowed-so-far : is_allowed d wanted rows ≡ true) where
     -- each closing word ends so
-    found : (other : List ℕ) → IsClosing d wanted longer other → BringsToZero d wanted rows x (take k other) × (take k other ++ rest ≡ other)
+    found : (other : List ℕ) → IsClosing d wanted longer other
+        → BringsToZero d wanted rows x (take k other) × (take k other ++ rest ≡ other)
     found other c =
         let long = length-longer d f rows below part x x-below in
-        let after : drop (k + 1) other ≡ zeros (n - (k + 1)) = subst (λ (j : ℕ). drop j other ≡ zeros (n - j)) long c.on_rows in
+        let after : drop (k + 1) other ≡ zeros (n - (k + 1)) =
+        subst (λ (j : ℕ). drop j other ≡ zeros (n - j)) long c.on_rows in
         let low : k < length other = omega (arith, c.vector.len, part) in
         let up : suc k ≡ k + 1 = omega arith in
-        let tail : drop k other ≡ get_or other k 0 ∷ zeros (n - (k + 1)) = drop-cons other k 0 low ∙ ap (λ (l : List ℕ). get_or other k 0 ∷ l) (ap (λ (j : ℕ). drop j other) up ∙ after) in
-        let more : zeros (n - k) ≡ 0 ∷ zeros (n - (k + 1)) = let e : n - k ≡ suc (n - (k + 1)) = omega (arith, part) in ap zeros e in
-        let some : get_or other k 0 ≡ 0 → ⊥ = λ z. not_before d f wanted rows below part allowed-so-far x x-below other c (tail ∙ ap (λ (a : ℕ). a ∷ zeros (n - (k + 1))) z ∙ sym more) in
-        let one : get_or other k 0 ≡ 1 = sym (last-top k other (get_or other k 0) (n - (k + 1)) tail some) ∙ eqb-true (last_nonzero other) 1 c.normal in
+        let tail : drop k other ≡ get_or other k 0 ∷ zeros (n - (k + 1)) =
+        drop-cons other k 0 low ∙ ap (λ (l : List ℕ). get_or other k 0 ∷ l)
+        (ap (λ (j : ℕ). drop j other) up ∙ after) in
+        let more : zeros (n - k) ≡ 0 ∷ zeros (n - (k + 1)) = let e : n - k ≡ suc (n - (k + 1)) = omega (arith, part) in
+        ap zeros e in
+        let some : get_or other k 0 ≡ 0 → ⊥ =
+        λ z. not_before d f wanted rows below part allowed-so-far x x-below other c
+        (tail ∙ ap (λ (a : ℕ). a ∷ zeros (n - (k + 1))) z ∙ sym more) in
+        let one : get_or other k 0 ≡ 1 =
+        sym (last-top k other (get_or other k 0) (n - (k + 1)) tail some) ∙ eqb-true (last_nonzero other) 1 c.normal
+        in
         let is : drop k other ≡ rest = tail ∙ ap (λ (a : ℕ). a ∷ zeros (n - (k + 1))) one in
         (brings other c.vector is c.hit.forbidden c.hit.zero_sum, (split other c.vector is).1)
 
-    pub open_row : CanBeAsked d wanted → ((u : List ℕ) → BringsToZero d wanted rows x u → ⊥) → is_allowed d wanted longer ≡ true
-    open_row asked none = allowed d f wanted longer (fits-longer d f rows below part x x-below) asked (λ other c. none (take k other) (found other c).0)
+    pub open_row : CanBeAsked d wanted → ((u : List ℕ) → BringsToZero d wanted rows x u → ⊥)
+        → is_allowed d wanted longer ≡ true
+    open_row asked none =
+        allowed d f wanted longer (fits-longer d f rows below part x x-below) asked
+        (λ other c. none (take k other) (found other c).0)
 
     module _ (b : Best) (h : IsBestWord (BringsToZero d wanted rows x) d.q b) where
       abbrev word : List ℕ
@@ -154,7 +189,8 @@ module _ (d : Dimensions) (f : IsField d.q) (wanted : Requirement) (rows : List 
       pub barred_row : is_allowed d wanted longer ≡ false
       barred_row = not_allowed d f wanted longer (fits-longer d f rows below part x x-below) word closing
 
-      best : (other : List ℕ) → IsClosing d wanted longer other → (weight word < weight other) ⊎ ((weight word ≡ weight other) × (number d.q other ≤ number d.q word))
+      best : (other : List ℕ) → IsClosing d wanted longer other
+          → (weight word < weight other) ⊎ ((weight word ≡ weight other) × (number d.q other ≤ number d.q word))
       best other c =
           let v = found other c in
           let u : List ℕ = take k other in
@@ -177,7 +213,9 @@ module _ (d : Dimensions) (f : IsField d.q) (wanted : Requirement) (rows : List 
             weighs = refl;
             greatest = λ other c weighs. elim (best other c) [ inl less ↦ absurd (omega arith) | inr same ↦ same.1 ];
           })
-          (record { each = λ other c. elim (best other c) [ inl less ↦ omega arith | inr same ↦ omega (arith, same.0) ] })
+          (record {
+            each = λ other c. elim (best other c) [ inl less ↦ omega arith | inr same ↦ omega (arith, same.0) ];
+          })
 
       pub barring_number : number d.q (unwrap_or (closing_word d wanted longer) []) ≡ d.q ^ k + b.number
       barring_number =

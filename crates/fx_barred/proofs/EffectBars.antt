@@ -1,11 +1,15 @@
 -- Under effects, over the factor rows: which rows are barred, and the closing word of a barred row.
-use Rattle.std.proofs.Common.{ℕ, ◌≡◌, ◌<◌, ◌≤◌, ◌+◌, ◌-◌, ◌*◌, ◌^◌, ◌⊎◌, zero, suc, Bool, true, false, cond, eqb, ◌||◌, List, [], ◌∷◌, ◌++◌, map, take, drop, length, get_or, slice_index, slice_index_or, Some, length-append, length-take, take-append-drop, drop-cons, refl, sym, subst, ◌∙◌, ap, arith, inl, inr}
+use Rattle.std.proofs.Common.{ℕ, ◌≡◌, ◌<◌, ◌≤◌, ◌+◌, ◌-◌, ◌*◌, ◌^◌, ◌⊎◌, zero, suc, Bool, true, false, cond, eqb, ◌||◌}
+use Rattle.std.proofs.Common.{List, [], ◌∷◌, ◌++◌, map, take, drop, length, get_or, slice_index, slice_index_or, Some}
+use Rattle.std.proofs.Common.{length-append, length-take, take-append-drop, drop-cons, refl, sym, subst, ◌∙◌, ap, arith}
+use Rattle.std.proofs.Common.{inl, inr}
 use Rattle.std.specs.Prelude.{unwrap_or, Option}
 use Rattle.std.specs.List.{AllByRecursion}
 use Rattle.std.proofs.lemmas.Bool.{cases_eq, cases_lt, eq-eqb, ne_eqb, eqb-true}
 use Rattle.std.proofs.lemmas.List.{take_more, take_all, length-map, map-append}
 use Rattle.fx_designs.specs.Galois.{number, digits, neg, IsField}
-use Rattle.fx_designs.specs.Vectors.{IsVector, weight, zeros, is_zero, plus, scale, combination, vectors_of, is_normal, last_nonzero}
+use Rattle.fx_designs.specs.Vectors.{IsVector, weight, zeros, is_zero, plus, scale, combination, vectors_of, is_normal}
+use Rattle.fx_designs.specs.Vectors.{last_nonzero}
 use Rattle.fx_designs.specs.Problems.{Dimensions, Requirement}
 use Rattle.fx_designs.specs.Demands.{is_forbidden_word, is_allowed, must_balance, is_estimated}
 use Rattle.fx_designs.specs.Closing.{closing_word}
@@ -42,26 +46,34 @@ code-zero a e =
     ]
 
 -- what a last factor says of the codes
-pub last-is : (v : List ℕ) (i : ℕ) → last_factor v ≡ i + 1 → (weight (drop (i + 1) v) ≡ 0) × (get_or v i 0 ≡ 0 → ⊥) × (i < length v)
+pub last-is : (v : List ℕ) (i : ℕ) → last_factor v ≡ i + 1
+    → (weight (drop (i + 1) v) ≡ 0) × (get_or v i 0 ≡ 0 → ⊥) × (i < length v)
 last-is [] i e = absurd (omega arith)
 last-is (a ∷ v) i e =
     elim (cases_eq (last_factor v) 0) [
       | inl none ↦
-          let here : cond (eqb a 0) 0 1 ≡ i + 1 = sym (ap (λ (b : Bool). cond b (cond (eqb a 0) 0 1) (suc (last_factor v))) (eq-eqb (last_factor v) 0 none)) ∙ e in
+          let here : cond (eqb a 0) 0 1 ≡ i + 1 =
+          sym (ap (λ (b : Bool). cond b (cond (eqb a 0) 0 1) (suc (last_factor v))) (eq-eqb (last_factor v) 0 none))
+          ∙ e in
           elim (cases_eq a 0) [
-            | inl zero_code ↦ let bad : 0 ≡ i + 1 = sym (ap (λ (b : Bool). cond b 0 1) (eq-eqb a 0 zero_code)) ∙ here in absurd (omega arith)
+            | inl zero_code ↦ let bad : 0 ≡ i + 1 = sym (ap (λ (b : Bool). cond b 0 1) (eq-eqb a 0 zero_code)) ∙ here in
+                absurd (omega arith)
             | inr some ↦
                 let one : 1 ≡ i + 1 = sym (ap (λ (b : Bool). cond b 0 1) (ne_eqb a 0 some)) ∙ here in
                 let at : i ≡ 0 = omega arith in
-                subst (λ (i : ℕ). (weight (drop (i + 1) (a ∷ v)) ≡ 0) × (get_or (a ∷ v) i 0 ≡ 0 → ⊥) × (i < length (a ∷ v))) (sym at) (last-none v none, some, omega arith)
+                subst (λ (i : ℕ). (weight (drop (i + 1) (a ∷ v)) ≡ 0) × (get_or (a ∷ v) i 0 ≡ 0 → ⊥)
+                × (i < length (a ∷ v))) (sym at) (last-none v none, some, omega arith)
           ]
       | inr some ↦
-          let here : suc (last_factor v) ≡ i + 1 = sym (ap (λ (b : Bool). cond b (cond (eqb a 0) 0 1) (suc (last_factor v))) (ne_eqb (last_factor v) 0 some)) ∙ e in
+          let here : suc (last_factor v) ≡ i + 1 =
+          sym (ap (λ (b : Bool). cond b (cond (eqb a 0) 0 1) (suc (last_factor v))) (ne_eqb (last_factor v) 0 some))
+          ∙ e in
           let j : ℕ = i - 1 in
           let up : i ≡ suc j = omega arith in
           let rest = last-is v j (omega arith) in
           let plus_one : suc j + 1 ≡ suc (j + 1) = omega arith in
-          subst (λ (i : ℕ). (weight (drop (i + 1) (a ∷ v)) ≡ 0) × (get_or (a ∷ v) i 0 ≡ 0 → ⊥) × (i < length (a ∷ v))) (sym up)
+          subst (λ (i : ℕ). (weight (drop (i + 1) (a ∷ v)) ≡ 0) × (get_or (a ∷ v) i 0 ≡ 0 → ⊥) × (i < length (a ∷ v)))
+          (sym up)
           (ap (λ (p : ℕ). weight (drop p (a ∷ v))) plus_one ∙ rest.0, rest.1, omega (arith, rest.2))
     ]
   where
@@ -70,9 +82,13 @@ last-is (a ∷ v) i e =
     last-none (a ∷ v) e =
         elim (cases_eq (last_factor v) 0) [
           | inl none ↦
-              let here : bit a ≡ 0 = sym (ap (λ (b : Bool). cond b (cond (eqb a 0) 0 1) (suc (last_factor v))) (eq-eqb (last_factor v) 0 none)) ∙ e in
+              let here : bit a ≡ 0 =
+              sym (ap (λ (b : Bool). cond b (cond (eqb a 0) 0 1) (suc (last_factor v)))
+              (eq-eqb (last_factor v) 0 none)) ∙ e in
               ap (λ (a : ℕ). weight (a ∷ v)) (code-zero a here) ∙ last-none v none
-          | inr some ↦ let here : suc (last_factor v) ≡ 0 = sym (ap (λ (b : Bool). cond b (cond (eqb a 0) 0 1) (suc (last_factor v))) (ne_eqb (last_factor v) 0 some)) ∙ e in absurd (omega (arith, here))
+          | inr some ↦ let here : suc (last_factor v) ≡ 0 =
+              sym (ap (λ (b : Bool). cond b (cond (eqb a 0) 0 1) (suc (last_factor v))) (ne_eqb (last_factor v) 0 some))
+              ∙ e in absurd (omega (arith, here))
         ]
 
 module _ (q m : ℕ) (f : IsField q) where
@@ -80,7 +96,8 @@ module _ (q m : ℕ) (f : IsField q) where
   some-q = omega (arith, f.more_than_one)
 
   -- a sum over the first rows, as a vector
-  pub sum-is : (rows w : List ℕ) (i : ℕ) → i ≤ length rows → i ≤ length w → digits q m (sum_to q m rows w i) ≡ combination q m (take i w) (vectors_of q m (take i rows))
+  pub sum-is : (rows w : List ℕ) (i : ℕ) → i ≤ length rows → i ≤ length w
+      → digits q m (sum_to q m rows w i) ≡ combination q m (take i w) (vectors_of q m (take i rows))
   sum-is rows w zero hr hw = digits-zero q m f
   sum-is rows w (suc j) hr hw =
       let c : ℕ = get_or w j 0 in
@@ -90,44 +107,66 @@ module _ (q m : ℕ) (f : IsField q) where
       let vs : List (List ℕ) = vectors_of q m (take j rows) in
       let codes : take (suc j) w ≡ front ++ c ∷ [] = ap (λ (n : ℕ). take n w) (sym up) ∙ take_more w j 0 hw in
       let parts : vectors_of q m (take (suc j) rows) ≡ vs ++ digits q m r ∷ [] =
-      ap (λ (n : ℕ). vectors_of q m (take n rows)) (sym up) ∙ ap (vectors_of q m) (take_more rows j 0 hr) ∙ map-append (λ (r : ℕ). digits q m r) (take j rows) (r ∷ []) in
-      let row : IsVector q m (scale q c (digits q m r)) = scale-vector q m f c (digits q m r) (digits-vector q m r some-q) in
-      let len : length front ≡ length vs = omega (arith, length-take j w, length-map (take j rows) (λ (r : ℕ). digits q m r), length-take j rows) in
-      let last : combination q m (c ∷ []) (digits q m r ∷ []) ≡ scale q c (digits q m r) = plus-zero q m f (scale q c (digits q m r)) row in
-      sum-digits q m f c (sum_to q m rows w j) r ∙ ap (λ (v : List ℕ). plus q v (scale q c (digits q m r))) (sum-is rows w j (omega arith) (omega arith))
-      ∙ ap (plus q (combination q m front vs)) (sym last) ∙ sym (combination-append q m f front (c ∷ []) vs (digits q m r ∷ []) len (digits-vector q m r some-q, tt))
-      ∙ ap (λ (u : List ℕ). combination q m u (vs ++ digits q m r ∷ [])) (sym codes) ∙ ap (combination q m (take (suc j) w)) (sym parts)
+      ap (λ (n : ℕ). vectors_of q m (take n rows)) (sym up) ∙ ap (vectors_of q m) (take_more rows j 0 hr) ∙ map-append
+      (λ (r : ℕ). digits q m r) (take j rows) (r ∷ []) in
+      let row : IsVector q m (scale q c (digits q m r)) =
+      scale-vector q m f c (digits q m r) (digits-vector q m r some-q) in
+      let len : length front ≡ length vs =
+      omega (arith, length-take j w, length-map (take j rows) (λ (r : ℕ). digits q m r), length-take j rows) in
+      let last : combination q m (c ∷ []) (digits q m r ∷ []) ≡ scale q c (digits q m r) =
+      plus-zero q m f (scale q c (digits q m r)) row in
+      sum-digits q m f c (sum_to q m rows w j) r ∙ ap (λ (v : List ℕ). plus q v (scale q c (digits q m r)))
+      (sum-is rows w j (omega arith) (omega arith))
+      ∙ ap (plus q (combination q m front vs)) (sym last) ∙ sym
+      (combination-append q m f front (c ∷ []) vs (digits q m r ∷ []) len (digits-vector q m r some-q, tt))
+      ∙ ap (λ (u : List ℕ). combination q m u (vs ++ digits q m r ∷ [])) (sym codes) ∙ ap
+      (combination q m (take (suc j) w)) (sym parts)
 
   pub sum-below : (rows w : List ℕ) (i : ℕ) → sum_to q m rows w i < q ^ m
   sum-below rows w zero = power-some q m some-q
   sum-below rows w (suc j) =
-      number-below q m _ (plus-vector q m f (digits q m (sum_to q m rows w j)) (scale q (slice_index w j) (digits q m (slice_index rows j))) (digits-vector q m (sum_to q m rows w j) some-q) (scale-vector q m f (slice_index w j) (digits q m (slice_index rows j)) (digits-vector q m (slice_index rows j) some-q)))
+      number-below q m _
+      (plus-vector q m f (digits q m (sum_to q m rows w j))
+      (scale q (slice_index w j) (digits q m (slice_index rows j))) (digits-vector q m (sum_to q m rows w j) some-q)
+      (scale-vector q m f (slice_index w j) (digits q m (slice_index rows j))
+      (digits-vector q m (slice_index rows j) some-q)))
 
   zero-first : (y : ℕ) → y < q ^ m → sum_of q 1 m 0 y ≡ y
   zero-first y low =
       let v = digits-vector q m y some-q in
-      ap (λ (u : List ℕ). number q (plus q u (scale q 1 (digits q m y)))) (digits-zero q m f) ∙ ap (λ (u : List ℕ). number q (plus q (zeros m) u)) (scale-one q m f (digits q m y) v) ∙ ap (number q) (zeros-plus q m f (digits q m y) v) ∙ number-digits q m y some-q low
+      ap (λ (u : List ℕ). number q (plus q u (scale q 1 (digits q m y)))) (digits-zero q m f) ∙ ap
+      (λ (u : List ℕ). number q (plus q (zeros m) u)) (scale-one q m f (digits q m y) v) ∙ ap (number q)
+      (zeros-plus q m f (digits q m y) v) ∙ number-digits q m y some-q low
 
   minus-below : (y : ℕ) → minus_of q m f y < q ^ m
-  minus-below y = number-below q m _ (plus-vector q m f (digits q m 0) (scale q (neg q 1) (digits q m y)) (digits-vector q m 0 some-q) (scale-vector q m f (neg q 1) (digits q m y) (digits-vector q m y some-q)))
+  minus-below y =
+      number-below q m _
+      (plus-vector q m f (digits q m 0) (scale q (neg q 1) (digits q m y)) (digits-vector q m 0 some-q)
+      (scale-vector q m f (neg q 1) (digits q m y) (digits-vector q m y some-q)))
 
   -- a sum is zero where one point is minus the other
   pub to-minus : (s x : ℕ) → s < q ^ m → x < q ^ m → sum_of q 1 m s x ≡ 0 → s ≡ minus_of q m f x
-  to-minus s x s-low low e = sym (there_and_back q m f s x s-low) ∙ ap (λ (t : ℕ). sum_of q 1 m t (minus_of q m f x)) e ∙ zero-first (minus_of q m f x) (minus-below x)
+  to-minus s x s-low low e =
+      sym (there_and_back q m f s x s-low) ∙ ap (λ (t : ℕ). sum_of q 1 m t (minus_of q m f x)) e ∙ zero-first
+      (minus_of q m f x) (minus-below x)
 
   pub from-minus : (s x : ℕ) → x < q ^ m → s ≡ minus_of q m f x → sum_of q 1 m s x ≡ 0
   from-minus s x low e =
-      ap (λ (t : ℕ). sum_of q 1 m t x) e ∙ ap (λ (t : ℕ). sum_of q 1 m t x) (sym (zero-first (minus_of q m f x) (minus-below x))) ∙ back_and_there q m f 0 x (power-some q m some-q)
+      ap (λ (t : ℕ). sum_of q 1 m t x) e ∙ ap (λ (t : ℕ). sum_of q 1 m t x)
+      (sym (zero-first (minus_of q m f x) (minus-below x))) ∙ back_and_there q m f 0 x (power-some q m some-q)
 
 -- a vector whose last factor comes after the rows, over these and one more
-module _ (d : Dimensions) (f : IsField d.q) (rows : List ℕ) (x : ℕ) (x-below : x < d.q ^ d.m) (w : List ℕ) (vector : IsVector d.q (d.s + d.t) w) (one : get_or w (length rows) 0 ≡ 1) (after : weight (drop (length rows + 1) w) ≡ 0) (short : length rows < d.s + d.t) where
+module _ (d : Dimensions) (f : IsField d.q) (rows : List ℕ) (x : ℕ) (x-below : x < d.q ^ d.m) (w : List ℕ)
+    (vector : IsVector d.q (d.s + d.t) w) (one : get_or w (length rows) 0 ≡ 1)
+    (after : weight (drop (length rows + 1) w) ≡ 0) (short : length rows < d.s + d.t) where
   abbrev k : ℕ
   k = length rows
 
   abbrev s : ℕ
   s = sum_to d.q d.m rows w k
 
-  total : combination d.q d.m w (vectors_of d.q d.m (rows ++ x ∷ [])) ≡ plus d.q (digits d.q d.m s) (scale d.q 1 (digits d.q d.m x))
+  total : combination d.q d.m w (vectors_of d.q d.m (rows ++ x ∷ []))
+      ≡ plus d.q (digits d.q d.m s) (scale d.q 1 (digits d.q d.m x))
   total =
       let q : ℕ = d.q in
       let m : ℕ = d.m in
@@ -143,29 +182,39 @@ module _ (d : Dimensions) (f : IsField d.q) (rows : List ℕ) (x : ℕ) (x-below
       let whole : w ≡ front ++ 1 ∷ rest = sym (take-append-drop k w) ∙ ap (λ (l : List ℕ). front ++ l) tail in
       let len : length front ≡ length vs = omega (arith, length-take k w, length-map rows (λ (r : ℕ). digits q m r)) in
       let none : combination q m rest [] ≡ zeros m = nothing q m rest in
-      let last : combination q m (1 ∷ rest) (v ∷ []) ≡ scale q 1 v = ap (plus q (scale q 1 v)) none ∙ plus-zero q m f (scale q 1 v) (scale-vector q m f 1 v hv) in
+      let last : combination q m (1 ∷ rest) (v ∷ []) ≡ scale q 1 v =
+      ap (plus q (scale q 1 v)) none ∙ plus-zero q m f (scale q 1 v) (scale-vector q m f 1 v hv) in
       let all : take k rows ≡ rows = take_all k rows (omega arith) in
-      let first : digits q m s ≡ combination q m front vs = sum-is q m f rows w k (omega arith) (omega arith) ∙ ap (λ (l : List ℕ). combination q m front (vectors_of q m l)) all in
-      ap (λ (u : List ℕ). combination q m u (vectors_of q m (rows ++ x ∷ []))) whole ∙ ap (combination q m (front ++ 1 ∷ rest)) (map-append (λ (r : ℕ). digits q m r) rows (x ∷ []))
-      ∙ combination-append q m f front (1 ∷ rest) vs (v ∷ []) len (hv, tt) ∙ ap (λ (u : List ℕ). plus q u (combination q m (1 ∷ rest) (v ∷ []))) (sym first) ∙ ap (plus q (digits q m s)) last
+      let first : digits q m s ≡ combination q m front vs =
+      sum-is q m f rows w k (omega arith) (omega arith) ∙ ap
+      (λ (l : List ℕ). combination q m front (vectors_of q m l)) all in
+      ap (λ (u : List ℕ). combination q m u (vectors_of q m (rows ++ x ∷ []))) whole ∙ ap
+      (combination q m (front ++ 1 ∷ rest)) (map-append (λ (r : ℕ). digits q m r) rows (x ∷ []))
+      ∙ combination-append q m f front (1 ∷ rest) vs (v ∷ []) len (hv, tt) ∙ ap
+      (λ (u : List ℕ). plus q u (combination q m (1 ∷ rest) (v ∷ []))) (sym first) ∙ ap (plus q (digits q m s)) last
     where
       nothing : (q m : ℕ) (u : List ℕ) → combination q m u [] ≡ zeros m
       nothing q m [] = refl
       nothing q m (a ∷ u) = refl
 
   pub zero-to : combination d.q d.m w (vectors_of d.q d.m (rows ++ x ∷ [])) ≡ zeros d.m → s ≡ minus_of d.q d.m f x
-  zero-to e = to-minus d.q d.m f s x (sum-below d.q d.m f rows w k) x-below (ap (number d.q) (sym total ∙ e) ∙ number-zeros d.q d.m)
+  zero-to e =
+      to-minus d.q d.m f s x (sum-below d.q d.m f rows w k) x-below
+      (ap (number d.q) (sym total ∙ e) ∙ number-zeros d.q d.m)
 
   pub zero-from : s ≡ minus_of d.q d.m f x → combination d.q d.m w (vectors_of d.q d.m (rows ++ x ∷ [])) ≡ zeros d.m
   zero-from e =
       let some : 0 < d.q = omega (arith, f.more_than_one) in
-      number-same d.q d.m f _ _ (combination-vector d.q d.m f w _ (are_vectors d.q d.m (rows ++ x ∷ []) some)) (zeros-vector d.q d.m f)
+      number-same d.q d.m f _ _ (combination-vector d.q d.m f w _ (are_vectors d.q d.m (rows ++ x ∷ []) some))
+      (zeros-vector d.q d.m f)
       (ap (number d.q) total ∙ from-minus d.q d.m f s x x-below e ∙ sym (number-zeros d.q d.m))
 
 -- codes that come after the first rows change nothing of a sum over these
 pub sum-front : (q m : ℕ) (rows v w : List ℕ) (i : ℕ) → i ≤ length v → sum_to q m rows (v ++ w) i ≡ sum_to q m rows v i
 sum-front q m rows v w zero low = refl
-sum-front q m rows v w (suc j) low = ap (with_row q m rows j (sum_to q m rows (v ++ w) j)) (code-front v w j (omega arith)) ∙ ap (λ (s : ℕ). with_row q m rows j s (slice_index v j)) (sum-front q m rows v w j (omega arith))
+sum-front q m rows v w (suc j) low =
+    ap (with_row q m rows j (sum_to q m rows (v ++ w) j)) (code-front v w j (omega arith)) ∙ ap
+    (λ (s : ℕ). with_row q m rows j s (slice_index v j)) (sum-front q m rows v w j (omega arith))
   where
     code-front : (v w : List ℕ) (j : ℕ) → j < length v → slice_index (v ++ w) j ≡ slice_index v j
     code-front [] w j low = absurd (omega arith)
@@ -193,7 +242,9 @@ pub number-padded : (q : ℕ) (v : List ℕ) (t : ℕ) → number q (v ++ zeros 
 number-padded q [] t = number-zeros q t
 number-padded q (a ∷ v) t = rw (number-padded q v t) refl
 
-module _ (d : Dimensions) (f : IsField d.q) (wanted : Requirement) (words : List ForbiddenVector) (all : AreAllForbidden d wanted words) (rows : List ℕ) (below : AllByRecursion (λ x. x < d.q ^ d.m) rows) (part : length rows < d.s)
+module _ (d : Dimensions) (f : IsField d.q) (wanted : Requirement) (words : List ForbiddenVector)
+    (all : AreAllForbidden d wanted words) (rows : List ℕ) (below : AllByRecursion (λ x. x < d.q ^ d.m) rows)
+    (part : length rows < d.s)
     (allowed-so-far : is_allowed d wanted rows ≡ true) (x : ℕ) (x-below : x < d.q ^ d.m) where
   abbrev n : ℕ
   n = d.s + d.t
@@ -220,10 +271,12 @@ module _ (d : Dimensions) (f : IsField d.q) (wanted : Requirement) (words : List
   longer-fits = omega (arith, longer-length, part)
 
   -- with zeros for the block factors a word is forbidden where its factor part has to be balanced
-  forbidden-is : (w : List ℕ) (j : ℕ) → drop d.s w ≡ zeros j → is_forbidden_word d wanted w ≡ must_balance d wanted (take d.s w)
+  forbidden-is : (w : List ℕ) (j : ℕ) → drop d.s w ≡ zeros j
+      → is_forbidden_word d wanted w ≡ must_balance d wanted (take d.s w)
   forbidden-is w j block =
       let none : is_zero (drop d.s w) ≡ true = eq-eqb (weight (drop d.s w)) 0 (ap weight block ∙ weight-zeros j) in
-      ap (λ (b : Bool). cond b (must_balance d wanted (take d.s w)) (is_zero (take d.s w) || is_estimated wanted (take d.s w))) none
+      ap (λ (b : Bool). cond b (must_balance d wanted (take d.s w))
+      (is_zero (take d.s w) || is_estimated wanted (take d.s w))) none
 
   given : (k : ℕ) → k < length words → IsForbidden d wanted (slice_index_or words k any)
   given k low = all.each k any low
@@ -233,24 +286,33 @@ module _ (d : Dimensions) (f : IsField d.q) (wanted : Requirement) (words : List
   word k = vector_at words k ++ zeros d.t
 
   listed-vector : (k : ℕ) → k < length words → IsVector d.q d.s (vector_at words k)
-  listed-vector k low = subst (λ (v : List ℕ). IsVector d.q d.s v) (sym (vector-at words k any low)) (given k low).vector
+  listed-vector k low =
+      subst (λ (v : List ℕ). IsVector d.q d.s v) (sym (vector-at words k any low)) (given k low).vector
 
   word-vector : (k : ℕ) → k < length words → IsVector d.q n (word k)
-  word-vector k low = append-vector d.q d.s d.t (vector_at words k) (zeros d.t) (listed-vector k low) (zeros-vector d.q d.t f)
+  word-vector k low =
+      append-vector d.q d.s d.t (vector_at words k) (zeros d.t) (listed-vector k low) (zeros-vector d.q d.t f)
 
   word-normal : (k : ℕ) → k < length words → is_normal (word k) ≡ true
-  word-normal k low = ap (λ (c : ℕ). eqb c 1) (last-padded (vector_at words k) d.t) ∙ ap is_normal (vector-at words k any low) ∙ (given k low).normal
+  word-normal k low =
+      ap (λ (c : ℕ). eqb c 1) (last-padded (vector_at words k) d.t) ∙ ap is_normal (vector-at words k any low) ∙
+      (given k low).normal
 
   word-weight : (k : ℕ) → weight (word k) ≡ weight (vector_at words k)
-  word-weight k = let parts = weight-append (vector_at words k) (zeros d.t) in let none = weight-zeros d.t in omega arith
+  word-weight k = let parts = weight-append (vector_at words k) (zeros d.t) in let none = weight-zeros d.t in
+      omega arith
 
-  ends : (k : ℕ) → HasSum d.q d.m rows words r goal-sum k → (drop (r + 1) (word k) ≡ zeros (n - (r + 1))) × (get_or (word k) r 0 ≡ 1)
+  ends : (k : ℕ) → HasSum d.q d.m rows words r goal-sum k
+      → (drop (r + 1) (word k) ≡ zeros (n - (r + 1))) × (get_or (word k) r 0 ≡ 1)
   ends k h =
       let vector = word-vector k h.there in
       let last = last-is (word k) r (factor-padded (vector_at words k) d.t ∙ h.last) in
-      let rest : drop (r + 1) (word k) ≡ zeros (n - (r + 1)) = weightless (drop (r + 1) (word k)) (n - (r + 1)) (drop-vector d.q n (word k) (r + 1) vector).len last.0 in
+      let rest : drop (r + 1) (word k) ≡ zeros (n - (r + 1)) =
+      weightless (drop (r + 1) (word k)) (n - (r + 1)) (drop-vector d.q n (word k) (r + 1) vector).len last.0 in
       let up : suc r ≡ r + 1 = omega arith in
-      let tail : drop r (word k) ≡ get_or (word k) r 0 ∷ zeros (n - (r + 1)) = drop-cons (word k) r 0 last.2 ∙ ap (λ (l : List ℕ). get_or (word k) r 0 ∷ l) (ap (λ (j : ℕ). drop j (word k)) up ∙ rest) in
+      let tail : drop r (word k) ≡ get_or (word k) r 0 ∷ zeros (n - (r + 1)) =
+      drop-cons (word k) r 0 last.2 ∙ ap (λ (l : List ℕ). get_or (word k) r 0 ∷ l)
+      (ap (λ (j : ℕ). drop j (word k)) up ∙ rest) in
       let normal = eqb-true (last_nonzero (word k)) 1 (word-normal k h.there) in
       (rest, sym (last-top r (word k) (get_or (word k) r 0) (n - (r + 1)) tail last.1) ∙ normal)
 
@@ -265,54 +327,93 @@ module _ (d : Dimensions) (f : IsField d.q) (wanted : Requirement) (words : List
         on_rows = subst (λ (j : ℕ). drop j (word k) ≡ zeros (n - j)) (sym longer-length) e.0;
         normal = word-normal k h.there;
         hit = record {
-          zero_sum = zero-from d f rows x x-below (word k) vector e.1 (ap weight e.0 ∙ weight-zeros (n - (r + 1))) whole-part (sum-front d.q d.m rows (vector_at words k) (zeros d.t) r (omega (arith, len, part)) ∙ h.sum);
-          forbidden = forbidden-is (word k) d.t (drop-front (vector_at words k) (zeros d.t) d.s (sym len)) ∙ ap (must_balance d wanted) (take-front (vector_at words k) (zeros d.t) d.s (sym len) ∙ at) ∙ (given k h.there).forbidden;
+          zero_sum =
+              zero-from d f rows x x-below (word k) vector e.1 (ap weight e.0 ∙ weight-zeros (n - (r + 1))) whole-part
+              (sum-front d.q d.m rows (vector_at words k) (zeros d.t) r (omega (arith, len, part)) ∙ h.sum);
+          forbidden =
+              forbidden-is (word k) d.t (drop-front (vector_at words k) (zeros d.t) d.s (sym len)) ∙ ap
+              (must_balance d wanted) (take-front (vector_at words k) (zeros d.t) d.s (sym len) ∙ at) ∙
+              (given k h.there).forbidden;
         };
       }
 
   -- and each closing word is found
-  found : (other : List ℕ) → IsClosing d wanted longer other → (k : ℕ) × HasSum d.q d.m rows words r goal-sum k × (word k ≡ other)
+  found : (other : List ℕ) → IsClosing d wanted longer other
+      → (k : ℕ) × HasSum d.q d.m rows words r goal-sum k × (word k ≡ other)
   found other c =
-      let after : drop (r + 1) other ≡ zeros (n - (r + 1)) = subst (λ (j : ℕ). drop j other ≡ zeros (n - j)) longer-length c.on_rows in
+      let after : drop (r + 1) other ≡ zeros (n - (r + 1)) =
+      subst (λ (j : ℕ). drop j other ≡ zeros (n - j)) longer-length c.on_rows in
       let low : r < length other = omega (arith, c.vector.len, part) in
       let up : suc r ≡ r + 1 = omega arith in
-      let tail : drop r other ≡ get_or other r 0 ∷ zeros (n - (r + 1)) = drop-cons other r 0 low ∙ ap (λ (l : List ℕ). get_or other r 0 ∷ l) (ap (λ (j : ℕ). drop j other) up ∙ after) in
-      let more : zeros (n - r) ≡ 0 ∷ zeros (n - (r + 1)) = let e : n - r ≡ suc (n - (r + 1)) = omega (arith, part) in ap zeros e in
-      let some : get_or other r 0 ≡ 0 → ⊥ = λ z. not_before d f wanted rows below whole-part allowed-so-far x x-below other c (tail ∙ ap (λ (a : ℕ). a ∷ zeros (n - (r + 1))) z ∙ sym more) in
+      let tail : drop r other ≡ get_or other r 0 ∷ zeros (n - (r + 1)) =
+      drop-cons other r 0 low ∙ ap (λ (l : List ℕ). get_or other r 0 ∷ l) (ap (λ (j : ℕ). drop j other) up ∙ after)
+      in
+      let more : zeros (n - r) ≡ 0 ∷ zeros (n - (r + 1)) = let e : n - r ≡ suc (n - (r + 1)) = omega (arith, part) in
+      ap zeros e in
+      let some : get_or other r 0 ≡ 0 → ⊥ =
+      λ z. not_before d f wanted rows below whole-part allowed-so-far x x-below other c
+      (tail ∙ ap (λ (a : ℕ). a ∷ zeros (n - (r + 1))) z ∙ sym more) in
       let light : weight (drop (r + 1) other) ≡ 0 = ap weight after ∙ weight-zeros (n - (r + 1)) in
       let last = last-at other r low some light in
-      let one : get_or other r 0 ≡ 1 = sym (last-top r other (get_or other r 0) (n - (r + 1)) tail some) ∙ eqb-true (last_nonzero other) 1 c.normal in
+      let one : get_or other r 0 ≡ 1 =
+      sym (last-top r other (get_or other r 0) (n - (r + 1)) tail some) ∙ eqb-true (last_nonzero other) 1 c.normal
+      in
       let block : drop d.s other ≡ zeros (n - d.s) = later-zeros n (r + 1) d.s other (omega (arith, part)) after in
       let rest : n - d.s ≡ d.t = omega arith in
       let v : List ℕ = take d.s other in
-      let whole : v ++ zeros d.t ≡ other = ap (λ (j : ℕ). v ++ zeros j) (sym rest) ∙ ap (λ (l : List ℕ). v ++ l) (sym block) ∙ take-append-drop d.s other in
+      let whole : v ++ zeros d.t ≡ other =
+      ap (λ (j : ℕ). v ++ zeros j) (sym rest) ∙ ap (λ (l : List ℕ). v ++ l) (sym block) ∙ take-append-drop d.s other
+      in
       let vector : IsVector d.q d.s v = take-vector d.q n d.s d.t other c.vector refl in
-      let normal : is_normal v ≡ true = ap (λ (c : ℕ). eqb c 1) (sym (last-padded v d.t)) ∙ ap is_normal whole ∙ c.normal in
+      let normal : is_normal v ≡ true =
+      ap (λ (c : ℕ). eqb c 1) (sym (last-padded v d.t)) ∙ ap is_normal whole ∙ c.normal in
       let listed = all.all v vector normal (sym (forbidden-is other (n - d.s) block) ∙ c.hit.forbidden) in
       let k : ℕ = listed.0 in
-      let len : length (map (λ (w : ForbiddenVector). w.vector) words) ≡ length words = length-map words (λ (w : ForbiddenVector). w.vector) in
+      let len : length (map (λ (w : ForbiddenVector). w.vector) words) ≡ length words =
+      length-map words (λ (w : ForbiddenVector). w.vector) in
       let there : k < length words = omega (arith, listed.1) in
-      let at : vector_at words k ≡ v = at-any (map (λ (w : ForbiddenVector). w.vector) words) k [] v listed.1 ∙ listed.2 in
+      let at : vector_at words k ≡ v =
+      at-any (map (λ (w : ForbiddenVector). w.vector) words) k [] v listed.1 ∙ listed.2 in
       let is : word k ≡ other = ap (λ (v : List ℕ). v ++ zeros d.t) at ∙ whole in
-      let sum : sum_to d.q d.m rows other r ≡ goal-sum = zero-to d f rows x x-below other c.vector one light whole-part c.hit.zero_sum in
-      let front : sum_to d.q d.m rows v r ≡ goal-sum = sym (sum-front d.q d.m rows v (zeros d.t) r (omega (arith, vector.len, part))) ∙ ap (λ (w : List ℕ). sum_to d.q d.m rows w r) whole ∙ sum in
-      (k, record { there = there; last = ap last_factor at ∙ sym (factor-padded v d.t) ∙ ap last_factor whole ∙ last; sum = ap (λ (v : List ℕ). sum_to d.q d.m rows v r) at ∙ front }, is)
+      let sum : sum_to d.q d.m rows other r ≡ goal-sum =
+      zero-to d f rows x x-below other c.vector one light whole-part c.hit.zero_sum in
+      let front : sum_to d.q d.m rows v r ≡ goal-sum =
+      sym (sum-front d.q d.m rows v (zeros d.t) r (omega (arith, vector.len, part))) ∙ ap
+      (λ (w : List ℕ). sum_to d.q d.m rows w r) whole ∙ sum in (
+        k,
+        record {
+          there = there;
+          last = ap last_factor at ∙ sym (factor-padded v d.t) ∙ ap last_factor whole ∙ last;
+          sum = ap (λ (v : List ℕ). sum_to d.q d.m rows v r) at ∙ front;
+        },
+        is,
+      )
 
-  pub open_row : CanBeAsked d wanted → HasNone d.q d.m rows words r goal-sum (length words) → is_allowed d wanted longer ≡ true
-  open_row asked none = allowed d f wanted longer longer-fits asked (λ other c. (let w = found other c in none.none w.0 w.1.there w.1))
+  pub open_row : CanBeAsked d wanted → HasNone d.q d.m rows words r goal-sum (length words)
+      → is_allowed d wanted longer ≡ true
+  open_row asked none =
+      allowed d f wanted longer longer-fits asked (λ other c. (let w = found other c in none.none w.0 w.1.there w.1))
 
   module _ (k : ℕ) (first : IsFirst d.q d.m rows words r goal-sum k) where
     closing : IsClosing d wanted longer (word k)
     closing = closes k first.here
 
-    class-at : (j : ℕ) → HasSum d.q d.m rows words r goal-sum j → (slice_index_or words j any).class ≡ 64 * (r + 1) + weight (word j)
-    class-at j h = (given j h.there).class ∙ ap class_of (sym (vector-at words j any h.there)) ∙ ap (λ (l : ℕ). 64 * l + weight (vector_at words j)) h.last ∙ ap (λ (w : ℕ). 64 * (r + 1) + w) (sym (word-weight j))
+    class-at : (j : ℕ) → HasSum d.q d.m rows words r goal-sum j
+        → (slice_index_or words j any).class ≡ 64 * (r + 1) + weight (word j)
+    class-at j h =
+        (given j h.there).class ∙ ap class_of (sym (vector-at words j any h.there)) ∙ ap
+        (λ (l : ℕ). 64 * l + weight (vector_at words j)) h.last ∙ ap (λ (w : ℕ). 64 * (r + 1) + w)
+        (sym (word-weight j))
 
     number-at : (j : ℕ) → j < length words → (slice_index_or words j any).number ≡ number d.q (word j)
-    number-at j low = (given j low).number ∙ ap (number d.q) (sym (vector-at words j any low)) ∙ sym (number-padded d.q (vector_at words j) d.t)
+    number-at j low =
+        (given j low).number ∙ ap (number d.q) (sym (vector-at words j any low)) ∙ sym
+        (number-padded d.q (vector_at words j) d.t)
 
     -- no closing word is preferred to the first
-    best : (other : List ℕ) → IsClosing d wanted longer other → (weight (word k) < weight other) ⊎ ((weight (word k) ≡ weight other) × (number d.q other ≤ number d.q (word k)))
+    best : (other : List ℕ) → IsClosing d wanted longer other
+        → (weight (word k) < weight other)
+        ⊎ ((weight (word k) ≡ weight other) × (number d.q other ≤ number d.q (word k)))
     best other c =
         let w = found other c in
         let j : ℕ = w.0 in
@@ -346,6 +447,8 @@ module _ (d : Dimensions) (f : IsField d.q) (wanted : Requirement) (words : List
         })
         (record { each = λ other c. elim (best other c) [ inl less ↦ omega arith | inr same ↦ omega (arith, same.0) ] })
 
-    pub barring_number : (e : ForbiddenVector) → number d.q (unwrap_or (closing_word d wanted longer) []) ≡ (slice_index_or words k e).number
+    pub barring_number : (e : ForbiddenVector)
+        → number d.q (unwrap_or (closing_word d wanted longer) []) ≡ (slice_index_or words k e).number
     barring_number e =
-        ap (λ (o : Option (List ℕ)). number d.q (unwrap_or o [])) barring_word ∙ sym (number-at k first.here.there) ∙ ap (λ (w : ForbiddenVector). w.number) (at-any words k any e first.here.there)
+        ap (λ (o : Option (List ℕ)). number d.q (unwrap_or o [])) barring_word ∙ sym (number-at k first.here.there) ∙ ap
+        (λ (w : ForbiddenVector). w.number) (at-any words k any e first.here.there)

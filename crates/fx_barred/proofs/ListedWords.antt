@@ -1,5 +1,6 @@
 -- Over all factor rows: the best of listed vectors that brings a point to zero.
-use Rattle.std.proofs.Common.{ℕ, ◌≡◌, ◌≢◌, ◌<◌, ◌≤◌, ◌+◌, ◌^◌, ◌||◌, true, List, [], length, slice_index_or, Option, Some, None, refl, sym, subst, ◌∙◌, ap, arith, inl, inr}
+use Rattle.std.proofs.Common.{ℕ, ◌≡◌, ◌≢◌, ◌<◌, ◌≤◌, ◌+◌, ◌^◌, ◌||◌, true, List, [], length, slice_index_or, Option}
+use Rattle.std.proofs.Common.{Some, None, refl, sym, subst, ◌∙◌, ap, arith, inl, inr}
 use Rattle.std.specs.Prelude.{All}
 use Rattle.std.proofs.lemmas.Bool.{cases_eq}
 use Rattle.std.proofs.lemmas.List.{take_all}
@@ -33,15 +34,19 @@ module _ (q m : ℕ) (f : IsField q) (rows : List ℕ) (vectors : List (List ℕ
 
   sum-turned : (a b : ℕ) → sum_of q 1 m a b ≡ sum_of q 1 m b a
   sum-turned a b =
-      let one : (y : ℕ) → scale q 1 (digits q m y) ≡ digits q m y = λ y. scale-one q m f (digits q m y) (digits-vector q m y some) in
-      ap (number q) (ap (plus q (digits q m a)) (one b) ∙ plus-comm q f (digits q m a) (digits q m b) ∙ ap (plus q (digits q m b)) (sym (one a)))
+      let one : (y : ℕ) → scale q 1 (digits q m y) ≡ digits q m y =
+      λ y. scale-one q m f (digits q m y) (digits-vector q m y some) in
+      ap (number q)
+      (ap (plus q (digits q m a)) (one b) ∙ plus-comm q f (digits q m a) (digits q m b) ∙ ap (plus q (digits q m b))
+      (sym (one a)))
 
   abbrev total : List ℕ → ℕ
   total v = sum_to q m rows v (length rows)
 
   -- a vector brings just minus its sum to zero
   at-minus : (v : List ℕ) (x : ℕ) → x < q ^ m → sum_of q 1 m (total v) x ≡ 0 → x ≡ minus_of q m f (total v)
-  at-minus v x low e = to-minus q m f x (total v) low (sum-below q m f rows v (length rows)) (sum-turned x (total v) ∙ e)
+  at-minus v x low e =
+      to-minus q m f x (total v) low (sum-below q m f rows v (length rows)) (sum-turned x (total v) ∙ e)
 
   minus-at : (v : List ℕ) (x : ℕ) → x ≡ minus_of q m f (total v) → sum_of q 1 m (total v) x ≡ 0
   minus-at v x e = sum-turned (total v) x ∙ from-minus q m f x (total v) (sum-below q m f rows v (length rows)) e
@@ -50,21 +55,37 @@ module _ (q m : ℕ) (f : IsField q) (rows : List ℕ) (vectors : List (List ℕ
   listed-first x = λ v h. (let low = h.before in absurd (omega arith))
 
   alone : (v : List ℕ) (b : Best) → weight v ≡ b.weight → number q v ≡ b.number → IsBestOf (λ w. w ≡ v) q (Some b)
-  alone v b w n = record { word = v; holds = refl; weighs = w; counts = n; none_better = λ u e. inr (ap weight (sym e), subst (λ (l : List ℕ). number q l ≤ number q v) (sym e) (omega arith)) }
+  alone v b w n =
+      record {
+        word = v;
+        holds = refl;
+        weighs = w;
+        counts = n;
+        none_better = λ u e. inr
+            (ap weight (sym e), subst (λ (l : List ℕ). number q l ≤ number q v) (sym e) (omega arith));
+      }
 
-  pub listed-here : (i x : ℕ) (v : List ℕ) (old : Option Best) (b : Best) → slice_index_or vectors i [] ≡ v → x ≡ minus_of q m f (total v) → weight v ≡ b.weight → number q v ≡ b.number
-      → IsBestOf (IsListed q m rows vectors i x) q old → IsBestOf (IsListed q m rows vectors (i + 1) x) q (preferred old (Some b))
+  pub listed-here : (i x : ℕ) (v : List ℕ) (old : Option Best) (b : Best) → slice_index_or vectors i [] ≡ v
+      → x ≡ minus_of q m f (total v) → weight v ≡ b.weight → number q v ≡ b.number
+      → IsBestOf (IsListed q m rows vectors i x) q old
+      → IsBestOf (IsListed q m rows vectors (i + 1) x) q (preferred old (Some b))
   listed-here i x v old b is at w n h =
       preferred-best (IsListed q m rows vectors i x) (λ w. w ≡ v) (IsListed q m rows vectors (i + 1) x) q
       (λ u hu. record { place = hu.place; before = omega (arith, hu.before); is = hu.is; sum = hu.sum })
-      (λ u e. record { place = i; before = omega arith; is = is ∙ sym e; sum = ap (λ (l : List ℕ). sum_of q 1 m (total l) x) e ∙ minus-at v x at })
+      (λ u e. record {
+        place = i;
+        before = omega arith;
+        is = is ∙ sym e;
+        sum = ap (λ (l : List ℕ). sum_of q 1 m (total l) x) e ∙ minus-at v x at;
+      })
       (λ u hu. elim (cases_eq hu.place i) [
         | inl last ↦ inr (sym hu.is ∙ ap (λ (k : ℕ). slice_index_or vectors k []) last ∙ is)
         | inr other ↦ inl (record { place = hu.place; before = omega (arith, hu.before); is = hu.is; sum = hu.sum })
       ])
       old (Some b) h (alone v b w n)
 
-  pub listed-elsewhere : (i x : ℕ) (v : List ℕ) (old : Option Best) → x < q ^ m → slice_index_or vectors i [] ≡ v → x ≢ minus_of q m f (total v)
+  pub listed-elsewhere : (i x : ℕ) (v : List ℕ) (old : Option Best) → x < q ^ m → slice_index_or vectors i [] ≡ v
+      → x ≢ minus_of q m f (total v)
       → IsBestOf (IsListed q m rows vectors i x) q old → IsBestOf (IsListed q m rows vectors (i + 1) x) q old
   listed-elsewhere i x v old low is apart h =
       best-same (IsListed q m rows vectors i x) (IsListed q m rows vectors (i + 1) x) q old
@@ -78,7 +99,8 @@ module _ (q m : ℕ) (f : IsField q) (rows : List ℕ) (vectors : List (List ℕ
       h
 
 -- the listed vectors are those that are zero or to be estimated
-pub best-listed : (d : Dimensions) (wanted : Requirement) (rows : List ℕ) (vectors : List (List ℕ)) (x : ℕ) (o : Option Best) → length rows ≡ d.s → All (IsVector d.q d.s) vectors → AreFactorParts d wanted vectors
+pub best-listed : (d : Dimensions) (wanted : Requirement) (rows : List ℕ) (vectors : List (List ℕ)) (x : ℕ)
+    (o : Option Best) → length rows ≡ d.s → All (IsVector d.q d.s) vectors → AreFactorParts d wanted vectors
     → IsBestOf (IsListed d.q d.m rows vectors (length vectors) x) d.q o → IsBest d wanted rows x o
 best-listed d wanted rows vectors x o all each lists h =
     best-same (IsListed d.q d.m rows vectors (length vectors) x) (BringsToZero d wanted rows x) d.q o
@@ -86,15 +108,19 @@ best-listed d wanted rows vectors x o all each lists h =
     (let here = at-any vectors hv.place [] v hv.before in
     let is : slice_index_or vectors hv.place v ≡ v = sym here ∙ hv.is in
     let vector : IsVector d.q d.s v = subst (IsVector d.q d.s) is (each hv.place v hv.before) in
-    let passes : (is_zero v || is_estimated wanted v) ≡ true = ap (λ (l : List ℕ). is_zero l || is_estimated wanted l) (sym is) ∙ lists.each hv.place v hv.before in
+    let passes : (is_zero v || is_estimated wanted v) ≡ true =
+    ap (λ (l : List ℕ). is_zero l || is_estimated wanted l) (sym is) ∙ lists.each hv.place v hv.before in
     record {
       vector = subst (λ (k : ℕ). IsVector d.q k v) (sym all) vector;
-      factors = ap (λ (l : List ℕ). is_zero l || is_estimated wanted l) (take_all d.s v (omega (arith, vector.len))) ∙ passes;
+      factors = ap (λ (l : List ℕ). is_zero l || is_estimated wanted l) (take_all d.s v (omega (arith, vector.len))) ∙
+          passes;
       sum = hv.sum;
     }))
     (λ v hv.
     (let vector : IsVector d.q d.s v = subst (λ (k : ℕ). IsVector d.q k v) all hv.vector in
-    let passes : (is_zero v || is_estimated wanted v) ≡ true = ap (λ (l : List ℕ). is_zero l || is_estimated wanted l) (sym (take_all d.s v (omega (arith, vector.len)))) ∙ hv.factors in
+    let passes : (is_zero v || is_estimated wanted v) ≡ true =
+    ap (λ (l : List ℕ). is_zero l || is_estimated wanted l) (sym (take_all d.s v (omega (arith, vector.len)))) ∙
+    hv.factors in
     let there = lists.all v vector passes in
     record { place = there.0; before = there.1; is = at-any vectors there.0 [] v there.1 ∙ there.2; sum = hv.sum }))
     h

@@ -1,6 +1,8 @@
--- One row more than the rows of a prefix: the word with a single code, at the new row; and where the prefix is allowed, no closing
--- word is one of the rows before.
-use Rattle.std.proofs.Common.{ℕ, ◌≡◌, ◌<◌, ◌≤◌, ◌+◌, ◌-◌, ◌^◌, zero, suc, true, List, [], ◌∷◌, ◌++◌, take, drop, set, get_or, slice_index, length, length-append, subst, refl, sym, ◌∙◌, ap, arith, take-append-drop, length-take}
+-- One row more than the rows of a prefix: the word with a single code, at the new row; and where the prefix is allowed,
+-- no closing word is one of the rows before.
+use Rattle.std.proofs.Common.{ℕ, ◌≡◌, ◌<◌, ◌≤◌, ◌+◌, ◌-◌, ◌^◌, zero, suc, true, List, [], ◌∷◌, ◌++◌, take, drop, set}
+use Rattle.std.proofs.Common.{get_or, slice_index, length, length-append, subst, refl, sym, ◌∙◌, ap, arith}
+use Rattle.std.proofs.Common.{take-append-drop, length-take}
 use Rattle.std.specs.List.{AllByRecursion}
 use Rattle.std.proofs.lemmas.Bool.{both_ways}
 use Rattle.fx_designs.specs.Galois.{number, digits, IsField}
@@ -24,7 +26,8 @@ row-last [] x = refl
 row-last (r ∷ rows) x = row-last rows x
 
 -- the word with a single code, which is 1, at the new row
-module _ (d : Dimensions) (f : IsField d.q) (rows : List ℕ) (below : AllByRecursion (λ x. x < d.q ^ d.m) rows) (part : length rows < d.s + d.t) (x : ℕ) (x-below : x < d.q ^ d.m) where
+module _ (d : Dimensions) (f : IsField d.q) (rows : List ℕ) (below : AllByRecursion (λ x. x < d.q ^ d.m) rows)
+    (part : length rows < d.s + d.t) (x : ℕ) (x-below : x < d.q ^ d.m) where
   pub length-longer : length (rows ++ x ∷ []) ≡ length rows + 1
   length-longer = length-append rows (x ∷ [])
 
@@ -38,7 +41,8 @@ module _ (d : Dimensions) (f : IsField d.q) (rows : List ℕ) (below : AllByRecu
   single = set (zeros (d.s + d.t)) (length rows) 1
 
   pub vector-single : IsVector d.q (d.s + d.t) single
-  vector-single = vector-set d.q (d.s + d.t) 1 (length rows) (zeros (d.s + d.t)) f.more_than_one (zeros-vector d.q (d.s + d.t) f)
+  vector-single =
+      vector-set d.q (d.s + d.t) 1 (length rows) (zeros (d.s + d.t)) f.more_than_one (zeros-vector d.q (d.s + d.t) f)
 
   pub front-single : drop (length rows) single ≡ 1 ∷ zeros (d.s + d.t - (length rows + 1))
   front-single = first-begins d f (rows ++ x ∷ []) below-longer fits-longer (length rows) part
@@ -57,9 +61,14 @@ module _ (d : Dimensions) (f : IsField d.q) (rows : List ℕ) (below : AllByRecu
       zero-at (suc j) (suc n) = zero-at j n
 
   pub partial-single : IsPartial d (rows ++ x ∷ []) (length rows) single x
-  partial-single = subst (λ (y : ℕ). IsPartial d (rows ++ x ∷ []) (length rows) single y) (row-last rows x) (partial_first d f (rows ++ x ∷ []) below-longer fits-longer (length rows) (omega (arith, length-longer)) vector-single)
+  partial-single =
+      subst (λ (y : ℕ). IsPartial d (rows ++ x ∷ []) (length rows) single y) (row-last rows x)
+      (partial_first d f (rows ++ x ∷ []) below-longer fits-longer (length rows) (omega (arith, length-longer))
+      vector-single)
 
-module _ (d : Dimensions) (f : IsField d.q) (wanted : Requirement) (rows : List ℕ) (below : AllByRecursion (λ x. x < d.q ^ d.m) rows) (part : length rows < d.s + d.t) (allowed-so-far : is_allowed d wanted rows ≡ true) (x : ℕ) (x-below : x < d.q ^ d.m) where
+module _ (d : Dimensions) (f : IsField d.q) (wanted : Requirement) (rows : List ℕ)
+    (below : AllByRecursion (λ x. x < d.q ^ d.m) rows) (part : length rows < d.s + d.t)
+    (allowed-so-far : is_allowed d wanted rows ≡ true) (x : ℕ) (x-below : x < d.q ^ d.m) where
   abbrev q : ℕ
   q = d.q
 
@@ -76,12 +85,14 @@ module _ (d : Dimensions) (f : IsField d.q) (wanted : Requirement) (rows : List 
   some = omega (arith, f.more_than_one)
 
   -- over the rows before, with zeros after them
-  sum-before : (u : List ℕ) (rs : List (List ℕ)) (v : List ℕ) (j : ℕ) → length u ≡ length rs → IsVector q d.m v → AreVectors q d.m rs → combination q d.m (u ++ zeros j) (rs ++ v ∷ []) ≡ combination q d.m (u ++ zeros j) rs
+  sum-before : (u : List ℕ) (rs : List (List ℕ)) (v : List ℕ) (j : ℕ) → length u ≡ length rs → IsVector q d.m v
+      → AreVectors q d.m rs → combination q d.m (u ++ zeros j) (rs ++ v ∷ []) ≡ combination q d.m (u ++ zeros j) rs
   sum-before [] [] v zero e hv hr = refl
   sum-before [] [] v (suc j) e hv hr = no-combination d f (suc j) (v ∷ []) (hv, tt)
   sum-before [] (s ∷ rs) v j e hv hr = absurd (omega arith)
   sum-before (a ∷ u) [] v j e hv hr = absurd (omega arith)
-  sum-before (a ∷ u) (s ∷ rs) v j e hv hr = ap (λ (y : List ℕ). plus q (scale q a s) y) (sum-before u rs v j (omega arith) hv hr.1)
+  sum-before (a ∷ u) (s ∷ rs) v j e hv hr =
+      ap (λ (y : List ℕ). plus q (scale q a s) y) (sum-before u rs v j (omega arith) hv hr.1)
 
   -- the vectors of the longer rows
   pub vectors-longer : (rs : List ℕ) → vectors_of q d.m (rs ++ x ∷ []) ≡ vectors_of q d.m rs ++ digits q d.m x ∷ []
@@ -96,13 +107,22 @@ module _ (d : Dimensions) (f : IsField d.q) (wanted : Requirement) (rows : List 
   pub not_before : (other : List ℕ) → IsClosing d wanted longer other → drop k other ≡ zeros (n - k) → ⊥
   not_before other h front =
       let l = length-take k other in
-      let parts : take k other ++ zeros (n - k) ≡ other = ap (λ (z : List ℕ). take k other ++ z) (sym front) ∙ take-append-drop k other in
-      let same_length : length (take k other) ≡ length (vectors_of q d.m rows) = omega (arith, h.vector.len, length-vectors rows, part) in
+      let parts : take k other ++ zeros (n - k) ≡ other =
+      ap (λ (z : List ℕ). take k other ++ z) (sym front) ∙ take-append-drop k other in
+      let same_length : length (take k other) ≡ length (vectors_of q d.m rows) =
+      omega (arith, h.vector.len, length-vectors rows, part) in
       let same : combination q d.m other (vectors_of q d.m longer) ≡ combination q d.m other (vectors_of q d.m rows) =
-      ap (combination q d.m other) (vectors-longer rows) ∙ ap (λ (w : List ℕ). combination q d.m w (vectors_of q d.m rows ++ digits q d.m x ∷ [])) (sym parts)
-      ∙ sum-before (take k other) (vectors_of q d.m rows) (digits q d.m x) (n - k) same_length (digits-vector q d.m x some) (are_vectors q d.m rows some)
+      ap (combination q d.m other) (vectors-longer rows) ∙ ap
+      (λ (w : List ℕ). combination q d.m w (vectors_of q d.m rows ++ digits q d.m x ∷ [])) (sym parts)
+      ∙ sum-before (take k other) (vectors_of q d.m rows) (digits q d.m x) (n - k) same_length
+      (digits-vector q d.m x some) (are_vectors q d.m rows some)
       ∙ ap (λ (w : List ℕ). combination q d.m w (vectors_of q d.m rows)) parts in
       both_ways _
       (not_allowed d f wanted rows (omega (arith, part)) other
-      (record { vector = h.vector; on_rows = front; normal = h.normal; hit = record { zero_sum = sym same ∙ h.hit.zero_sum; forbidden = h.hit.forbidden } }))
+      (record {
+        vector = h.vector;
+        on_rows = front;
+        normal = h.normal;
+        hit = record { zero_sum = sym same ∙ h.hit.zero_sum; forbidden = h.hit.forbidden };
+      }))
       allowed-so-far

@@ -1,6 +1,7 @@
--- Over factor rows and block rows: for each point the best word that brings it to zero, of those that are forbidden with the code
--- 1 for a block row to come.
-use Rattle.std.specs.Prelude.{ℕ, ◌≡◌, ◌<◌, ◌≤◌, ◌+◌, ◌^◌, ◌⊎◌, ◌==◌, ◌&&◌, ◌||◌, nat_lt, nat_le, Bool, true, if◌then◌else◌, List, take, length, slice_index_or, Option, Some, None}
+-- Over factor rows and block rows: for each point the best word that brings it to zero, of those that are forbidden
+-- with the code 1 for a block row to come.
+use Rattle.std.specs.Prelude.{ℕ, ◌≡◌, ◌<◌, ◌≤◌, ◌+◌, ◌^◌, ◌⊎◌, ◌==◌, ◌&&◌, ◌||◌, nat_lt, nat_le, Bool, true}
+use Rattle.std.specs.Prelude.{if◌then◌else◌, List, take, length, slice_index_or, Option, Some, None}
 use Rattle.fx_designs.specs.Galois.{number}
 use Rattle.fx_designs.specs.Vectors.{IsVector, weight, is_zero}
 use Rattle.fx_designs.specs.Problems.{Dimensions, Requirement}
@@ -38,7 +39,8 @@ IsBest d wanted rows x best = IsBestOf (BringsToZero d wanted rows x) d.q best
 
 -- the table from place `first` on has it for each point
 abbrev pub AreBest : Dimensions → Requirement → List ℕ → ℕ → List (Option Best) → Type 0
-AreBest d wanted rows first tables = (x : ℕ) → x < d.q ^ d.m → IsBest d wanted rows x (slice_index_or tables (first + x) None)
+AreBest d wanted rows first tables =
+    (x : ℕ) → x < d.q ^ d.m → IsBest d wanted rows x (slice_index_or tables (first + x) None)
 
 -- whether the second is better, or as good
 abbrev pub is_better : Best → Best → Bool

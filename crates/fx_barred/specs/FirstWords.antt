@@ -1,5 +1,6 @@
 -- For each sum that a point can bring to zero, the first of the forbidden vectors that have it over the rows so far.
-use Rattle.std.specs.Prelude.{ℕ, zero, suc, ◌≡◌, ◌<◌, ◌≤◌, ◌+◌, ◌*◌, ◌^◌, List, [], map, length, slice_index, slice_index_or, All}
+use Rattle.std.specs.Prelude.{ℕ, zero, suc, ◌≡◌, ◌<◌, ◌≤◌, ◌+◌, ◌*◌, ◌^◌, List, [], map, length, slice_index}
+use Rattle.std.specs.Prelude.{slice_index_or, All}
 use Rattle.fx_designs.specs.Vectors.{IsVector}
 use Rattle.fx_demands.specs.declared.forbidden_list.ForbiddenVector.{ForbiddenVector}
 use Rattle.fx_demands.specs.EffectVectors.{last_factor, class_of, IsInOrder}
@@ -31,7 +32,8 @@ pub record HasNone (q m : ℕ) (rows : List ℕ) (words : List ForbiddenVector) 
   pub none : (k : ℕ) → k < bound → HasSum q m rows words i y k → ⊥
 
 -- the table from place `first` on has for each sum one more than the first such vector before a bound, or 0
-pub record AreFirst (q m : ℕ) (rows : List ℕ) (words : List ForbiddenVector) (i bound first : ℕ) (tables : List ℕ) : Type 0 where
+pub record AreFirst (q m : ℕ) (rows : List ℕ) (words : List ForbiddenVector) (i bound first : ℕ)
+    (tables : List ℕ) : Type 0 where
   pub none : (y : ℕ) → y < q ^ m → slice_index tables (first + y) ≡ 0 → HasNone q m rows words i y bound
   pub some : (y k : ℕ) → y < q ^ m → slice_index tables (first + y) ≡ suc k → IsFirst q m rows words i y k
 
@@ -52,4 +54,5 @@ pub record FirstWordsView : Type 0 where
 pub record AreFirstWords (reached : ReachedView) (words : List ForbiddenVector) (tables : List ℕ) : Type 0 where
   pub words_are : AreWords reached.q reached.room words
   pub tables_len : length tables ≡ reached.room * reached.q ^ reached.m
-  pub first : (i : ℕ) → i ≤ length reached.rows → i < reached.room → AreFirst reached.q reached.m reached.rows words i (length words) (i * reached.q ^ reached.m) tables
+  pub first : (i : ℕ) → i ≤ length reached.rows → i < reached.room
+      → AreFirst reached.q reached.m reached.rows words i (length words) (i * reached.q ^ reached.m) tables

@@ -1,11 +1,13 @@
 -- Acts done one after another: acts and front parts of acts compose, over loops too.
-use Rattle.std.proofs.Common.{ℕ, ◌≡◌, ◌<◌, ◌≤◌, ◌+◌, ◌++◌, suc, get_or, length, List, [], ◌∷◌, map, take, drop, Option, Some, refl, sym, ◌∙◌, ap, subst, append_assoc}
+use Rattle.std.proofs.Common.{ℕ, ◌≡◌, ◌<◌, ◌≤◌, ◌+◌, ◌++◌, suc, get_or, length, List, [], ◌∷◌, map, take, drop, Option}
+use Rattle.std.proofs.Common.{Some, refl, sym, ◌∙◌, ap, subst, append_assoc}
 use Rattle.std.proofs.lemmas.List.{append-nil, take_all, map-append, take-append-drop}
 use Rattle.std.proofs.Math.Seq.{take-add}
 use Rattle.fx_base.specs.Faults.{IsUnchanged}
 use Rattle.fx_base.specs.Pieces.{joined}
 use Rattle.fx_base.specs.Writing.{Appends, AppendsPart}
-use Rattle.fx_base.specs.Acts.{Act, ListByte, BeginFile, FileByte, EndFile, File, listed, shelved, Shelves, ShelvesPart, Event, Piece, acts_of, acts, World, Did, DidPart}
+use Rattle.fx_base.specs.Acts.{Act, ListByte, BeginFile, FileByte, EndFile, File, listed, shelved, Shelves, ShelvesPart}
+use Rattle.fx_base.specs.Acts.{Event, Piece, acts_of, acts, World, Did, DidPart}
 use Rattle.fx_base.proofs.Held.{one_more, split_at}
 use Rattle.fx_base.proofs.Joined.{joined-append}
 
@@ -86,7 +88,8 @@ pub did_more : {a b c : World} {xs ys : List Act} → Did a b xs → Did b c ys 
 did_more {a} {b} {c} {xs} {ys} p q = record {
   listing = record {
     exposed = λ text e. q.listing.exposed (text ++ listed xs) (p.listing.exposed text e)
-        ∙ ap Some (append_assoc text (listed xs) (listed ys) ∙ ap (λ (l : List ℕ). text ++ l) (sym (listed-append xs ys)));
+        ∙ ap Some (append_assoc text (listed xs) (listed ys) ∙ ap (λ (l : List ℕ). text ++ l)
+        (sym (listed-append xs ys)));
   };
   shelf = shelves_more a.files b.files c.files xs ys p.shelf q.shelf;
 }
@@ -122,7 +125,8 @@ did_piece old new files bytes a = record {
 }
 
 pub part_piece : (old new : Option (List ℕ)) (files : Option (List File)) (bytes : List ℕ) → AppendsPart old new bytes
-    → DidPart (record { written = old; files = files }) (record { written = new; files = files }) (acts_of (Piece bytes))
+    → DidPart (record { written = old; files = files }) (record { written = new; files = files })
+    (acts_of (Piece bytes))
 part_piece old new files bytes a = record {
   done = map ListByte (take a.part bytes);
   left = map ListByte (drop a.part bytes);
@@ -136,30 +140,37 @@ pub fill_more : (old mid new : Option (List File)) (bytes : List ℕ) (from n : 
     → Shelves old mid (map FileByte (take from bytes)) → Shelves mid new (map FileByte (take n (drop from bytes)))
     → Shelves old new (map FileByte (take (from + n) bytes))
 fill_more old mid new bytes from n a b = subst (λ (l : List Act). Shelves old new l)
-    (sym (map-append FileByte (take from bytes) (take n (drop from bytes))) ∙ ap (map FileByte) (sym (take-add from n bytes)))
+    (sym (map-append FileByte (take from bytes) (take n (drop from bytes))) ∙ ap (map FileByte)
+    (sym (take-add from n bytes)))
     (shelves_more old mid new _ _ a b)
 
 pub fill_part : (old mid new : Option (List File)) (bytes : List ℕ) (from : ℕ)
     → Shelves old mid (map FileByte (take from bytes)) → IsUnchanged mid new → ShelvesPart old new (map FileByte bytes)
 fill_part old mid new bytes from a same = subst (λ (l : List Act). ShelvesPart old new l)
     (sym (map-append FileByte (take from bytes) (drop from bytes)) ∙ ap (map FileByte) (take-append-drop from bytes))
-    (shelves_part_more old mid new (map FileByte (take from bytes)) (map FileByte (drop from bytes)) a (shelves_part_none mid new _ same))
+    (shelves_part_more old mid new (map FileByte (take from bytes)) (map FileByte (drop from bytes)) a
+    (shelves_part_none mid new _ same))
 
 pub fill_whole : (old new : Option (List File)) (bytes : List ℕ) (from : ℕ) → length bytes ≤ from
     → Shelves old new (map FileByte (take from bytes)) → Shelves old new (map FileByte bytes)
-fill_whole old new bytes from all a = subst (λ (l : List ℕ). Shelves old new (map FileByte l)) (take_all from bytes all) a
+fill_whole old new bytes from all a =
+    subst (λ (l : List ℕ). Shelves old new (map FileByte l)) (take_all from bytes all) a
 
 -- the loop that fills a file from pieces
-pub pieces_more : (old mid new : Option (List File)) (pieces : List (List ℕ)) (i : ℕ) (piece : List ℕ) → i < length pieces → piece ≡ get_or pieces i piece
+pub pieces_more : (old mid new : Option (List File)) (pieces : List (List ℕ)) (i : ℕ) (piece : List ℕ)
+    → i < length pieces → piece ≡ get_or pieces i piece
     → Shelves old mid (map FileByte (joined (take i pieces))) → Shelves mid new (map FileByte piece)
     → Shelves old new (map FileByte (joined (take (i + 1) pieces)))
 pieces_more old mid new pieces i piece there is a b = subst (λ (l : List Act). Shelves old new l)
     (sym (map-append FileByte (joined (take i pieces)) piece)
-    ∙ ap (map FileByte) (one_more joined joined-append pieces i piece [] (joined (take i pieces)) (joined (take i pieces) ++ piece) there is refl
+    ∙ ap (map FileByte)
+    (one_more joined joined-append pieces i piece [] (joined (take i pieces)) (joined (take i pieces) ++ piece) there
+    is refl
     (ap (λ (l : List ℕ). joined (take i pieces) ++ l) (sym (append-nil piece)))))
     (shelves_more old mid new _ _ a b)
 
-pub pieces_part : (old mid new : Option (List File)) (pieces : List (List ℕ)) (i : ℕ) (piece : List ℕ) → i < length pieces → piece ≡ get_or pieces i piece
+pub pieces_part : (old mid new : Option (List File)) (pieces : List (List ℕ)) (i : ℕ) (piece : List ℕ)
+    → i < length pieces → piece ≡ get_or pieces i piece
     → Shelves old mid (map FileByte (joined (take i pieces))) → ShelvesPart mid new (map FileByte piece)
     → ShelvesPart old new (map FileByte (joined pieces))
 pieces_part old mid new pieces i piece there is a b =
@@ -170,7 +181,8 @@ pieces_part old mid new pieces i piece there is a b =
     ∙ sym (map-append FileByte before (piece ++ after))
     ∙ ap (λ (l : List ℕ). map FileByte (before ++ (l ++ after))) (sym (append-nil piece))
     ∙ ap (map FileByte) (split_at joined joined-append pieces i piece there is))
-    (shelves_part_more old mid new (map FileByte before) _ a (shelves_part_first mid new (map FileByte piece) (map FileByte after) b))
+    (shelves_part_more old mid new (map FileByte before) _ a
+    (shelves_part_first mid new (map FileByte piece) (map FileByte after) b))
 
 pub listed-file : (bytes : List ℕ) → listed (map FileByte bytes ++ EndFile ∷ []) ≡ []
 listed-file [] = refl
@@ -187,7 +199,8 @@ part_one {a} {b} e p = subst (λ (l : List Act). DidPart a b l) (sym (append-nil
 pub did_then : {a b c : World} (xs ys : List Event) → Did a b (acts xs) → Did b c (acts ys) → Did a c (acts (xs ++ ys))
 did_then {a} {b} {c} xs ys p q = subst (λ (l : List Act). Did a c l) (sym (acts-append xs ys)) (did_more p q)
 
-pub part_then : {a b c : World} (xs ys : List Event) → Did a b (acts xs) → DidPart b c (acts ys) → DidPart a c (acts (xs ++ ys))
+pub part_then : {a b c : World} (xs ys : List Event) → Did a b (acts xs) → DidPart b c (acts ys)
+    → DidPart a c (acts (xs ++ ys))
 part_then {a} {b} {c} xs ys p q = subst (λ (l : List Act). DidPart a c l) (sym (acts-append xs ys)) (part_more p q)
 
 pub part_before : {a b : World} (xs ys : List Event) → DidPart a b (acts xs) → DidPart a b (acts (xs ++ ys))

@@ -1,5 +1,7 @@
 -- Files that lie one after another in one buffer: what a file begun, given bytes or ended does to their list.
-use Rattle.std.proofs.Common.{ℕ, ◌≡◌, ◌≤◌, ◌<◌, ◌+◌, ◌-◌, ◌++◌, true, false, length, List, [], ◌∷◌, map, take, drop, get_or, zero, suc, Some, slice_get, option_map, refl, sym, ◌∙◌, ap, ap₂, subst, arith, length-drop, length-append}
+use Rattle.std.proofs.Common.{ℕ, ◌≡◌, ◌≤◌, ◌<◌, ◌+◌, ◌-◌, ◌++◌, true, false, length, List, [], ◌∷◌, map, take, drop}
+use Rattle.std.proofs.Common.{get_or, zero, suc, Some, slice_get, option_map, refl, sym, ◌∙◌, ap, ap₂, subst, arith}
+use Rattle.std.proofs.Common.{length-drop, length-append}
 use Rattle.std.proofs.lemmas.List.{take_all, take-append-le, drop-append-le, map-append}
 use Rattle.std.proofs.Math.Seq.{drop-append_seam}
 use Rattle.std.proofs.lemmas.Option.{slice_get-map, slice_get-get_or}
@@ -52,7 +54,8 @@ within_more buffer more b w = record {
   end = let long = length-append buffer more in let end = w.end in omega arith;
 }
 
-all_within_more : (buffer more : List ℕ) (bounds : List FileBounds) → AllWithin buffer bounds → AllWithin (buffer ++ more) bounds
+all_within_more : (buffer more : List ℕ) (bounds : List FileBounds) → AllWithin buffer bounds
+    → AllWithin (buffer ++ more) bounds
 all_within_more buffer more [] w = tt
 all_within_more buffer more (b ∷ bounds) w = (within_more buffer more b w.0, all_within_more buffer more bounds w.1)
 
@@ -67,7 +70,8 @@ same_file buffer more b w =
 same_files : (buffer more : List ℕ) (bounds : List FileBounds) → AllWithin buffer bounds
     → map (file_at (buffer ++ more)) bounds ≡ map (file_at buffer) bounds
 same_files buffer more [] w = refl
-same_files buffer more (b ∷ bounds) w = ap₂ (λ (f : File) (l : List File). f ∷ l) (same_file buffer more b w.0) (same_files buffer more bounds w.1)
+same_files buffer more (b ∷ bounds) w =
+    ap₂ (λ (f : File) (l : List File). f ∷ l) (same_file buffer more b w.0) (same_files buffer more bounds w.1)
 
 -- a file begun: its name at the buffer's end
 module _ (buffer name : List ℕ) (bounds : List FileBounds) (from to : ℕ) (starts : from ≡ length buffer)
@@ -108,7 +112,8 @@ module _ (buffer more : List ℕ) (front : List FileBounds) (b : FileBounds) (to
   here : IsWithin buffer b
   here = (within_front buffer front b w).1
 
-  grown : take (to - b.content) (drop b.content (buffer ++ more)) ≡ take (b.end - b.content) (drop b.content buffer) ++ more
+  grown : take (to - b.content) (drop b.content (buffer ++ more))
+      ≡ take (b.end - b.content) (drop b.content buffer) ++ more
   grown =
       let content = here.content in
       let end = here.end in
@@ -123,11 +128,13 @@ module _ (buffer more : List ℕ) (front : List FileBounds) (b : FileBounds) (to
   fronts = map (file_at buffer) front
 
   longer_is : map (file_at (buffer ++ more)) (front ++ longer ∷ [])
-      ≡ fronts ++ record { name = (file_at buffer b).name; content = (file_at buffer b).content ++ more; ended = b.ended } ∷ []
+      ≡ fronts ++ record
+      { name = (file_at buffer b).name; content = (file_at buffer b).content ++ more; ended = b.ended } ∷ []
   longer_is = map-append (file_at (buffer ++ more)) front (longer ∷ [])
       ∙ ap₂ (λ (l : List File) (f : File). l ++ f ∷ []) (same_files buffer more front (within_front buffer front b w).0)
       (ap₂ (λ (n c : List ℕ). record { name = n; content = c; ended = b.ended })
-      (let content = here.content in let end = here.end in part_of_more buffer more b.name b.content here.name (omega arith))
+      (let content = here.content in let end = here.end in
+      part_of_more buffer more b.name b.content here.name (omega arith))
       grown)
 
   pub files_longer : map (file_at (buffer ++ more)) (front ++ longer ∷ [])
@@ -136,17 +143,20 @@ module _ (buffer more : List ℕ) (front : List FileBounds) (b : FileBounds) (to
       ∙ ap (shelved (map FileByte more)) (sym (map-append (file_at buffer) front (b ∷ [])))
 
   pub within_longer : AllWithin (buffer ++ more) (front ++ longer ∷ [])
-  within_longer = within_snoc (buffer ++ more) front longer (all_within_more buffer more front (within_front buffer front b w).0) (record {
-    name = here.name;
-    content = let content = here.content in let long = length-append buffer more in omega arith;
-    end = omega arith;
-  })
+  within_longer =
+      within_snoc (buffer ++ more) front longer (all_within_more buffer more front (within_front buffer front b w).0)
+      (record {
+        name = here.name;
+        content = let content = here.content in let long = length-append buffer more in omega arith;
+        end = omega arith;
+      })
 
   pub room_longer : room_of (map (file_at (buffer ++ more)) (front ++ longer ∷ []))
       ≡ room_of (map (file_at buffer) (front ++ b ∷ [])) + length more
   room_longer =
       let new = ap room_of longer_is
-      ∙ room_of-snoc fronts (record { name = (file_at buffer b).name; content = (file_at buffer b).content ++ more; ended = b.ended }) in
+      ∙ room_of-snoc fronts
+      (record { name = (file_at buffer b).name; content = (file_at buffer b).content ++ more; ended = b.ended }) in
       let old = ap room_of (map-append (file_at buffer) front (b ∷ [])) ∙ room_of-snoc fronts (file_at buffer b) in
       let long = length-append (file_at buffer b).content more in
       omega arith
@@ -156,7 +166,8 @@ module _ (buffer : List ℕ) (front : List FileBounds) (b : FileBounds) where
   abbrev closed : FileBounds
   closed = record { name = b.name; content = b.content; end = b.end; ended = true }
 
-  closed_is : map (file_at buffer) (front ++ closed ∷ []) ≡ map (file_at buffer) front ++ as_ended (file_at buffer b) ∷ []
+  closed_is : map (file_at buffer) (front ++ closed ∷ [])
+      ≡ map (file_at buffer) front ++ as_ended (file_at buffer b) ∷ []
   closed_is = map-append (file_at buffer) front (closed ∷ [])
 
   pub files_closed : map (file_at buffer) (front ++ closed ∷ [])
@@ -171,23 +182,27 @@ module _ (buffer : List ℕ) (front : List FileBounds) (b : FileBounds) where
       let here = parts.1 in
       within_snoc buffer front closed parts.0 (record { name = here.name; content = here.content; end = here.end })
 
-  pub room_closed : room_of (map (file_at buffer) (front ++ closed ∷ [])) ≡ room_of (map (file_at buffer) (front ++ b ∷ []))
+  pub room_closed : room_of (map (file_at buffer) (front ++ closed ∷ []))
+      ≡ room_of (map (file_at buffer) (front ++ b ∷ []))
   room_closed =
       ap room_of closed_is
       ∙ room_of-snoc (map (file_at buffer) front) (as_ended (file_at buffer b))
-      ∙ sym (ap room_of (map-append (file_at buffer) front (b ∷ [])) ∙ room_of-snoc (map (file_at buffer) front) (file_at buffer b))
+      ∙ sym (ap room_of (map-append (file_at buffer) front (b ∷ [])) ∙ room_of-snoc (map (file_at buffer) front)
+      (file_at buffer b))
 
   pub last_closed : (n : ℕ) → LastEndsAt n (front ++ b ∷ []) → LastEndsAt n (front ++ closed ∷ [])
   last_closed n e = last_is n front closed (last_of n front b e)
 
 -- What each call leaves, where `bytes` and `now` are the buffer and the bounds after it.
-pub begin_keeps : (buffer name bytes : List ℕ) (bounds now : List FileBounds) (from to buffer_before buffer_after bounds_before bounds_after used room : ℕ)
+pub begin_keeps : (buffer name bytes : List ℕ) (bounds now : List FileBounds)
+    (from to buffer_before buffer_after bounds_before bounds_after used room : ℕ)
     → IsFileBuffer buffer bounds buffer_before bounds_before used room
     → from ≡ length buffer → to ≡ length bytes → bytes ≡ buffer ++ name
     → now ≡ bounds ++ record { name = from; content = to; end = to; ended = false } ∷ []
     → length name ≤ 64 → used + 64 ≤ room → buffer_before ≤ buffer_after → bounds_before ≡ bounds_after
     → IsFileBuffer bytes now buffer_after bounds_after (used + 64) room
-begin_keeps buffer name bytes bounds now from to buffer_before buffer_after bounds_before bounds_after used room k starts ends grown more short fits taken same =
+begin_keeps buffer name bytes bounds now from to buffer_before buffer_after bounds_before bounds_after used room k
+    starts ends grown more short fits taken same =
     let ends : to ≡ length (buffer ++ name) = ends ∙ ap length grown in
     let long = length-append buffer name in
     let added = length-append bounds (record { name = from; content = to; end = to; ended = false } ∷ []) in
@@ -209,13 +224,15 @@ begin_keeps buffer name bytes bounds now from to buffer_before buffer_after boun
       bounds_reserved = omega arith;
     })
 
-pub append_keeps : (buffer more bytes : List ℕ) (bounds front now : List FileBounds) (b : FileBounds) (to buffer_before buffer_after bounds_before bounds_after used room : ℕ)
+pub append_keeps : (buffer more bytes : List ℕ) (bounds front now : List FileBounds) (b : FileBounds)
+    (to buffer_before buffer_after bounds_before bounds_after used room : ℕ)
     → IsFileBuffer buffer bounds buffer_before bounds_before used room
     → to ≡ length bytes → bytes ≡ buffer ++ more → bounds ≡ front ++ b ∷ []
     → now ≡ front ++ record { name = b.name; content = b.content; end = to; ended = b.ended } ∷ []
     → used + length more ≤ room → buffer_before ≤ buffer_after → bounds_before ≡ bounds_after
     → IsFileBuffer bytes now buffer_after bounds_after (used + length more) room
-append_keeps buffer more bytes bounds front now b to buffer_before buffer_after bounds_before bounds_after used room old ends grown was is fits taken same =
+append_keeps buffer more bytes bounds front now b to buffer_before buffer_after bounds_before bounds_after used room old
+    ends grown was is fits taken same =
     let k = rw was at old in
     let ends : to ≡ length (buffer ++ more) = ends ∙ ap length grown in
     let at_end = last_of (length buffer) front b k.last in
@@ -239,7 +256,8 @@ append_keeps buffer more bytes bounds front now b to buffer_before buffer_after 
       bounds_reserved = omega arith;
     })
 
-pub end_keeps : (buffer : List ℕ) (bounds front now : List FileBounds) (b : FileBounds) (buffer_room bounds_before bounds_after used room : ℕ)
+pub end_keeps : (buffer : List ℕ) (bounds front now : List FileBounds) (b : FileBounds)
+    (buffer_room bounds_before bounds_after used room : ℕ)
     → IsFileBuffer buffer bounds buffer_room bounds_before used room
     → bounds ≡ front ++ b ∷ []
     → now ≡ front ++ record { name = b.name; content = b.content; end = b.end; ended = true } ∷ []

@@ -1,5 +1,6 @@
 -- Lists that are appended part by part, and prefixes of them where memory runs out on the way.
-use Rattle.std.proofs.Common.{◌≡◌, ℕ, ◌+◌, ◌<◌, List, [], ◌∷◌, ◌++◌, length, take, drop, get_or, suc, Result, Ok, Err, OnErr, refl, sym, ap, subst, ◌∙◌, append_assoc, append-nil}
+use Rattle.std.proofs.Common.{◌≡◌, ℕ, ◌+◌, ◌<◌, List, [], ◌∷◌, ◌++◌, length, take, drop, get_or, suc, Result, Ok, Err}
+use Rattle.std.proofs.Common.{OnErr, refl, sym, ap, subst, ◌∙◌, append_assoc, append-nil}
 use Rattle.std.proofs.lemmas.List.{take_more, take-append-drop}
 use Rattle.std.proofs.Math.Seq.{drop-cons}
 use Rattle.fx_base.specs.Writing.{HoldsPart}
@@ -23,7 +24,8 @@ module _ {T : Type 0} where
   }
 
   -- the first part was appended, and then a prefix of the rest
-  pub past_first : (old mid new first rest : List T) → mid ≡ old ++ first → HoldsPart mid new rest → HoldsPart old new (first ++ rest)
+  pub past_first : (old mid new first rest : List T) → mid ≡ old ++ first → HoldsPart mid new rest
+      → HoldsPart old new (first ++ rest)
   past_first old mid new first rest all h = record {
     part = first ++ h.part;
     left = h.left;
@@ -47,7 +49,8 @@ module _ {A T : Type 0} (text : List A → List T) (joins : (xs ys : List A) →
       → text (take i xs) ++ (text (x ∷ []) ++ text (drop (suc i) xs)) ≡ text xs
   split_at xs i x there is =
       ap (λ (l : List T). text (take i xs) ++ l) (sym (joins (x ∷ []) (drop (suc i) xs)))
-      ∙ ap (λ (l : List A). text (take i xs) ++ text l) (ap (λ (y : A). y ∷ drop (suc i) xs) is ∙ sym (drop-cons xs i x there))
+      ∙ ap (λ (l : List A). text (take i xs) ++ text l)
+      (ap (λ (y : A). y ∷ drop (suc i) xs) is ∙ sym (drop-cons xs i x there))
       ∙ sym (joins (take i xs) (drop i xs))
       ∙ ap text (take-append-drop i xs)
 

@@ -1,5 +1,6 @@
 -- What acts do to the room that files take, and to whether a file is begun.
-use Rattle.std.proofs.Common.{ℕ, ◌≡◌, ◌+◌, ◌++◌, true, false, not, length, List, [], ◌∷◌, map, refl, ◌∙◌, arith, length-append}
+use Rattle.std.proofs.Common.{ℕ, ◌≡◌, ◌+◌, ◌++◌, true, false, not, length, List, [], ◌∷◌, map, refl, ◌∙◌, arith}
+use Rattle.std.proofs.Common.{length-append}
 use Rattle.fx_base.specs.Acts.{FileByte, File, shelved, on_last, with_byte, as_ended}
 use Rattle.fx_base.specs.Memory.{has_open, room_of}
 
@@ -20,7 +21,8 @@ part_byte byte (f ∷ []) = refl
 part_byte byte (f ∷ g ∷ []) = refl
 part_byte byte (f ∷ g ∷ h ∷ files) = part_byte byte (g ∷ h ∷ files)
 
-room_byte : (byte : ℕ) (files : List File) → has_open files ≡ true → room_of (on_last (with_byte byte) files) ≡ room_of files + 1
+room_byte : (byte : ℕ) (files : List File) → has_open files ≡ true
+    → room_of (on_last (with_byte byte) files) ≡ room_of files + 1
 room_byte byte [] begun = cc
 room_byte byte (f ∷ []) begun = let long = length-append f.content (byte ∷ []) in omega arith
 room_byte byte (f ∷ g ∷ files) begun = let rest = room_byte byte (g ∷ files) begun in omega arith

@@ -1,5 +1,6 @@
 -- Steps of reading to the end and of writing a whole piece.
-use Rattle.std.proofs.Common.{ℕ, ◌≡◌, ◌<◌, ◌≤◌, ◌+◌, ◌-◌, ◌++◌, List, [], length, take, drop, Option, Some, zero, suc, refl, sym, ◌∙◌, ap, arith, append_assoc, length-append, length-drop}
+use Rattle.std.proofs.Common.{ℕ, ◌≡◌, ◌<◌, ◌≤◌, ◌+◌, ◌-◌, ◌++◌, List, [], length, take, drop, Option, Some, zero, suc}
+use Rattle.std.proofs.Common.{refl, sym, ◌∙◌, ap, arith, append_assoc, length-append, length-drop}
 use Rattle.std.proofs.lemmas.List.{take_all, length-take-le, drop-drop}
 use Rattle.std.proofs.Math.Seq.{take-add}
 use Rattle.fx_base.specs.Reading.{Takes, TakesFrom, IsAllLeft, IsOverLimit, LeavesRest}
@@ -8,7 +9,8 @@ use Rattle.fx_base.specs.Writing.{Appends, AppendsPart}
 
 -- a front part of the piece, and then a front part of the rest
 pub appends_more : (old mid new : Option (List ℕ)) (piece : List ℕ) (from n : ℕ)
-    → Appends old mid (take from piece) → Appends mid new (take n (drop from piece)) → Appends old new (take (from + n) piece)
+    → Appends old mid (take from piece) → Appends mid new (take n (drop from piece))
+    → Appends old new (take (from + n) piece)
 appends_more old mid new piece from n a b = record {
   exposed = λ text e. b.exposed (text ++ take from piece) (a.exposed text e)
       ∙ ap Some (append_assoc text (take from piece) (take n (drop from piece))
@@ -34,7 +36,8 @@ pub record HasRead (left now : Option (List ℕ)) (bytes : List ℕ) : Type 0 wh
   pub exposed : (text : List ℕ) → left ≡ Some text → ReadFrom text now bytes
 
 pub read_more : (left mid now : Option (List ℕ)) (bytes buffer grown : List ℕ) (n : ℕ)
-    → HasRead left mid bytes → Takes mid now buffer n → n ≤ length buffer → grown ≡ bytes ++ take n buffer → HasRead left now grown
+    → HasRead left mid bytes → Takes mid now buffer n → n ≤ length buffer → grown ≡ bytes ++ take n buffer
+    → HasRead left now grown
 read_more left mid now bytes buffer grown n a b within is = record {
   exposed = λ text e.
       let old : ReadFrom text mid bytes = a.exposed text e in
@@ -61,7 +64,8 @@ drop_nil (suc n) = refl
 
 -- a read that gave nothing shows the end
 pub read_whole : (left mid now : Option (List ℕ)) (bytes buffer : List ℕ) (n limit : ℕ)
-    → HasRead left mid bytes → Takes mid now buffer n → n ≡ 0 → 0 < length buffer → length bytes ≤ limit → IsAllLeft left now limit bytes
+    → HasRead left mid bytes → Takes mid now buffer n → n ≡ 0 → 0 < length buffer → length bytes ≤ limit
+    → IsAllLeft left now limit bytes
 read_whole left mid now bytes buffer n limit a b none room within =
     let at_end : (text : List ℕ) → left ≡ Some text → drop (length bytes) text ≡ [] =
     λ text e. (b.exposed (drop (length bytes) text) (a.exposed text e).rest).end none room in
@@ -79,7 +83,8 @@ read_whole left mid now bytes buffer n limit a b none room within =
 -- more bytes than the limit were read
 pub read_over : (left now : Option (List ℕ)) (bytes : List ℕ) (limit : ℕ) → HasRead left now bytes
     → limit < length bytes → IsOverLimit left limit
-read_over left now bytes limit a over = record { exposed = λ text e. let there = (a.exposed text e).some in omega arith }
+read_over left now bytes limit a over =
+    record { exposed = λ text e. let there = (a.exposed text e).some in omega arith }
 
 -- a slice from an index to the end
 pub slice_to_end : (xs : List ℕ) (from : ℕ) → take (length xs - from) (drop from xs) ≡ drop from xs
@@ -90,11 +95,13 @@ pub read_rest_more : (left mid now : Option (List ℕ)) (bytes buffer : List ℕ
     → HasRead left mid bytes → Takes mid now buffer n → LeavesRest left now
 read_rest_more left mid now bytes buffer n a b = record {
   taken = length bytes + n;
-  exposed = λ text e. (b.exposed (drop (length bytes) text) (a.exposed text e).rest).rest ∙ ap Some (drop-drop n (length bytes) text);
+  exposed = λ text e. (b.exposed (drop (length bytes) text) (a.exposed text e).rest).rest ∙ ap Some
+      (drop-drop n (length bytes) text);
 }
 
 -- the same after a call that failed
-pub read_rest_failed : (left mid now : Option (List ℕ)) (bytes : List ℕ) → HasRead left mid bytes → IsUnchanged mid now → LeavesRest left now
+pub read_rest_failed : (left mid now : Option (List ℕ)) (bytes : List ℕ) → HasRead left mid bytes → IsUnchanged mid now
+    → LeavesRest left now
 read_rest_failed left mid now bytes a same = record {
   taken = length bytes;
   exposed = λ text e. same.exposed (drop (length bytes) text) (a.exposed text e).rest;

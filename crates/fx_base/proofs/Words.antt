@@ -1,7 +1,10 @@
 -- What acts come to in words: whole pieces and files, and a front part of the next.
-use Rattle.std.proofs.Common.{ℕ, ◌≡◌, ◌++◌, ◌⊎◌, inl, inr, false, length, List, [], ◌∷◌, map, take, refl, sym, ◌∙◌, ap, subst, append_assoc, arith}
+use Rattle.std.proofs.Common.{ℕ, ◌≡◌, ◌++◌, ◌⊎◌, inl, inr, false, length, List, [], ◌∷◌, map, take, refl, sym, ◌∙◌, ap}
+use Rattle.std.proofs.Common.{subst, append_assoc, arith}
 use Rattle.std.proofs.lemmas.List.{append-nil, take_all}
-use Rattle.fx_base.specs.Acts.{Act, ListByte, BeginFile, FileByte, EndFile, File, listed, on_last, with_byte, as_ended, shelved, Event, Piece, WholeFile, acts_of, acts, pieces, files_of, whole_file, HasCome, AtStart, InPiece, InFile, PastPiece, PastFile}
+use Rattle.fx_base.specs.Acts.{Act, ListByte, BeginFile, FileByte, EndFile, File, listed, on_last, with_byte, as_ended}
+use Rattle.fx_base.specs.Acts.{shelved, Event, Piece, WholeFile, acts_of, acts, pieces, files_of, whole_file, HasCome}
+use Rattle.fx_base.specs.Acts.{AtStart, InPiece, InFile, PastPiece, PastFile}
 use Rattle.fx_base.proofs.Doing.{listed-append, shelved-append, listed-bytes, shelved-bytes, listed-file}
 
 pub on_last-at : (change : File → File) (files : List File) (f : File) → on_last change (files ++ f ∷ [])
@@ -12,12 +15,16 @@ on_last-at change (g ∷ h ∷ files) f = ap (λ (l : List File). g ∷ l) (on_l
 
 -- bytes given to the last file
 pub shelved-content : (bytes : List ℕ) (files : List File) (f : File)
-    → shelved (map FileByte bytes) (files ++ f ∷ []) ≡ files ++ record { name = f.name; content = f.content ++ bytes; ended = f.ended } ∷ []
-shelved-content [] files f = ap (λ (c : List ℕ). files ++ record { name = f.name; content = c; ended = f.ended } ∷ []) (sym (append-nil f.content))
+    → shelved (map FileByte bytes) (files ++ f ∷ [])
+    ≡ files ++ record { name = f.name; content = f.content ++ bytes; ended = f.ended } ∷ []
+shelved-content [] files f =
+    ap (λ (c : List ℕ). files ++ record { name = f.name; content = c; ended = f.ended } ∷ [])
+    (sym (append-nil f.content))
 shelved-content (b ∷ bytes) files f =
     ap (shelved (map FileByte bytes)) (on_last-at (with_byte b) files f)
     ∙ shelved-content bytes files (with_byte b f)
-    ∙ ap (λ (c : List ℕ). files ++ record { name = f.name; content = c; ended = f.ended } ∷ []) (append_assoc f.content (b ∷ []) bytes)
+    ∙ ap (λ (c : List ℕ). files ++ record { name = f.name; content = c; ended = f.ended } ∷ [])
+    (append_assoc f.content (b ∷ []) bytes)
 
 -- a whole file
 pub shelved-whole : (name content : List ℕ) (files : List File)
@@ -40,7 +47,8 @@ pub shelved-acts : (events : List Event) (files : List File) → shelved (acts e
 shelved-acts [] files = sym (append-nil files)
 shelved-acts (Piece bytes ∷ events) files = shelved-append (map ListByte bytes) (acts events) files
     ∙ ap (shelved (acts events)) (shelved-bytes bytes files) ∙ shelved-acts events files
-shelved-acts (WholeFile name content ∷ events) files = shelved-append (acts_of (WholeFile name content)) (acts events) files
+shelved-acts (WholeFile name content ∷ events) files =
+    shelved-append (acts_of (WholeFile name content)) (acts events) files
     ∙ ap (shelved (acts events)) (shelved-whole name content files)
     ∙ shelved-acts events (files ++ whole_file name content ∷ [])
     ∙ append_assoc files (whole_file name content ∷ []) (files_of events)
@@ -80,7 +88,8 @@ comes_as events done same e p = subst (λ (l : List Act). Comes events l) (sym e
 comes_none : (events : List Event) → Comes events []
 comes_none events = record { new = []; come = AtStart; added = λ files. sym (append-nil files) }
 
-comes_piece : (bytes : List ℕ) (events : List Event) (n : ℕ) → Comes (Piece bytes ∷ events) (map ListByte (take n bytes))
+comes_piece : (bytes : List ℕ) (events : List Event) (n : ℕ)
+    → Comes (Piece bytes ∷ events) (map ListByte (take n bytes))
 comes_piece bytes events n = record {
   new = [];
   come = subst (λ (l : List ℕ). HasCome (Piece bytes ∷ events) l []) (sym (listed-bytes (take n bytes))) (InPiece n);
@@ -95,7 +104,10 @@ comes_file : (name content : List ℕ) (events : List Event) (n : ℕ)
     → Comes (WholeFile name content ∷ events) (BeginFile name ∷ map FileByte (take n content))
 comes_file name content events n = record {
   new = record { name = name; content = take n content; ended = false } ∷ [];
-  come = subst (λ (l : List ℕ). HasCome (WholeFile name content ∷ events) l (record { name = name; content = take n content; ended = false } ∷ [])) (sym (listed-content (take n content))) (InFile n);
+  come = subst
+      (λ (l : List ℕ). HasCome (WholeFile name content ∷ events) l
+      (record { name = name; content = take n content; ended = false } ∷ [])) (sym (listed-content (take n content)))
+      (InFile n);
   added = λ files. shelved-content (take n content) files (record { name = name; content = []; ended = false });
 }
 
@@ -103,7 +115,9 @@ past_pieces : (bytes : List ℕ) (events : List Event) (more : List Act) → Com
     → Comes (Piece bytes ∷ events) (acts_of (Piece bytes) ++ more)
 past_pieces bytes events more p = record {
   new = p.new;
-  come = subst (λ (l : List ℕ). HasCome (Piece bytes ∷ events) l p.new) (sym (listed-append (map ListByte bytes) more ∙ ap (λ (l : List ℕ). l ++ listed more) (listed-bytes bytes))) (PastPiece p.come);
+  come = subst (λ (l : List ℕ). HasCome (Piece bytes ∷ events) l p.new)
+      (sym (listed-append (map ListByte bytes) more ∙ ap (λ (l : List ℕ). l ++ listed more) (listed-bytes bytes)))
+      (PastPiece p.come);
   added = λ files. shelved-append (map ListByte bytes) more files
       ∙ ap (shelved more) (shelved-bytes bytes files) ∙ p.added files;
 }
@@ -112,7 +126,9 @@ past_files : (name content : List ℕ) (events : List Event) (more : List Act) �
     → Comes (WholeFile name content ∷ events) (acts_of (WholeFile name content) ++ more)
 past_files name content events more p = record {
   new = whole_file name content ∷ p.new;
-  come = subst (λ (l : List ℕ). HasCome (WholeFile name content ∷ events) l (whole_file name content ∷ p.new)) (sym (listed-append (map FileByte content ++ EndFile ∷ []) more ∙ ap (λ (l : List ℕ). l ++ listed more) (listed-file content))) (PastFile p.come);
+  come = subst (λ (l : List ℕ). HasCome (WholeFile name content ∷ events) l (whole_file name content ∷ p.new))
+      (sym (listed-append (map FileByte content ++ EndFile ∷ []) more ∙ ap (λ (l : List ℕ). l ++ listed more)
+      (listed-file content))) (PastFile p.come);
   added = λ files. shelved-append (acts_of (WholeFile name content)) more files
       ∙ ap (shelved more) (shelved-whole name content files)
       ∙ p.added (files ++ whole_file name content ∷ [])
@@ -123,11 +139,14 @@ past_files name content events more p = record {
 in_end : (name content : List ℕ) (events : List Event) (more rest : List Act) → more ++ rest ≡ EndFile ∷ []
     → Comes (WholeFile name content ∷ events) (BeginFile name ∷ (map FileByte content ++ more))
 in_end name content events [] rest e = comes_as _ _ _
-    (ap (λ (l : List Act). BeginFile name ∷ l) (append-nil (map FileByte content) ∙ ap (map FileByte) (sym (take_all (length content) content (omega arith)))))
+    (ap (λ (l : List Act). BeginFile name ∷ l)
+    (append-nil (map FileByte content) ∙ ap (map FileByte) (sym (take_all (length content) content (omega arith)))))
     (comes_file name content events (length content))
 in_end name content events (m ∷ []) rest e =
     let same : m ≡ EndFile = cc in
-    comes_as _ _ _ (ap (λ (a : Act). BeginFile name ∷ (map FileByte content ++ a ∷ [])) same ∙ sym (append-nil (acts_of (WholeFile name content))))
+    comes_as _ _ _
+    (ap (λ (a : Act). BeginFile name ∷ (map FileByte content ++ a ∷ [])) same ∙ sym
+    (append-nil (acts_of (WholeFile name content))))
     (past_files name content events [] (comes_none events))
 in_end name content events (m ∷ o ∷ more) rest e = cc
 
@@ -139,7 +158,8 @@ in_whole_file name content events (d ∷ done) rest e =
     let others : done ++ rest ≡ map FileByte content ++ EndFile ∷ [] = cc in
     comes_as _ _ (BeginFile name ∷ done) (ap (λ (a : Act). a ∷ done) same)
     (elim (cut done rest (map FileByte content) (EndFile ∷ []) others) [
-      | inl t ↦ comes_as _ _ _ (ap (λ (l : List Act). BeginFile name ∷ l) (front_of_map FileByte content done t.0 t.1)) (comes_file name content events (length done))
+      | inl t ↦ comes_as _ _ _ (ap (λ (l : List Act). BeginFile name ∷ l) (front_of_map FileByte content done t.0 t.1))
+          (comes_file name content events (length done))
       | inr t ↦ comes_as _ _ _ (ap (λ (l : List Act). BeginFile name ∷ l) t.1) (in_end name content events t.0 rest t.2)
     ])
 

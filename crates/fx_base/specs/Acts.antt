@@ -104,17 +104,19 @@ files_of [] = []
 files_of (Piece bytes ∷ events) = files_of events
 files_of (WholeFile name content ∷ events) = whole_file name content ∷ files_of events
 
--- How far acts have come in a list of events, and what they have done there: bytes listed, files shelved.
--- Events before some one are whole. Of that one some first bytes may stand, with its file not ended. Nothing of a later one stands.
+-- How far acts have come in a list of events, and what they have done there: bytes listed, files shelved. Events before
+-- some one are whole. Of that one some first bytes may stand, with its file not ended. Nothing of a later one stands.
 pub data HasCome : List Event → List ℕ → List File → Type 0 where
   AtStart : {events : List Event} → HasCome events [] []
   InPiece : {bytes : List ℕ} {events : List Event} (n : ℕ) → HasCome (Piece bytes ∷ events) (take n bytes) []
   InFile : {name content : List ℕ} {events : List Event} (n : ℕ)
-      → HasCome (WholeFile name content ∷ events) [] (record { name = name; content = take n content; ended = false } ∷ [])
+      → HasCome (WholeFile name content ∷ events) []
+      (record { name = name; content = take n content; ended = false } ∷ [])
   PastPiece : {bytes : List ℕ} {events : List Event} {listing : List ℕ} {files : List File}
       → HasCome events listing files → HasCome (Piece bytes ∷ events) (bytes ++ listing) files
   PastFile : {name content : List ℕ} {events : List Event} {listing : List ℕ} {files : List File}
-      → HasCome events listing files → HasCome (WholeFile name content ∷ events) listing (whole_file name content ∷ files)
+      → HasCome events listing files
+      → HasCome (WholeFile name content ∷ events) listing (whole_file name content ∷ files)
 
 -- what stands on listing and shelf, where the run began at this listing and these files
 pub record Stands (events : List Event) (text : List ℕ) (files : List File) (now : World) : Type 0 where

@@ -30,7 +30,8 @@ LastEndsAt n (b ∷ []) = b.end ≡ n
 LastEndsAt n (b ∷ next ∷ bounds) = LastEndsAt n (next ∷ bounds)
 
 -- the files lie in the buffer, the last at its end; they fit the room, for which all memory is taken
-pub record IsFileBuffer (buffer : List ℕ) (bounds : List FileBounds) (buffer_capacity bounds_capacity used room : ℕ) : Type 0 where
+pub record IsFileBuffer (buffer : List ℕ) (bounds : List FileBounds)
+    (buffer_capacity bounds_capacity used room : ℕ) : Type 0 where
   pub within : AllWithin buffer bounds
   pub last : LastEndsAt (length buffer) bounds
   pub counted : used ≡ room_of (map (file_at buffer) bounds)

@@ -1,5 +1,6 @@
 -- What contracts see of the sources, sinks and shelves in memory.
-use Rattle.std.specs.Prelude.{ℕ, ◌≡◌, ◌<◌, ◌≤◌, ◌+◌, min, List, [], ◌∷◌, length, Bool, true, false, not, Option, Some, None, Contains}
+use Rattle.std.specs.Prelude.{ℕ, ◌≡◌, ◌<◌, ◌≤◌, ◌+◌, min, List, [], ◌∷◌, length, Bool, true, false, not, Option, Some}
+use Rattle.std.specs.Prelude.{None, Contains}
 use Rattle.fx_base.specs.Faults.{raised}
 use Rattle.fx_base.specs.Acts.{File}
 

@@ -1,5 +1,7 @@
 -- A whole text that is read as a book is what is written of it.
-use Rattle.std.proofs.Common.{◌≡◌, ℕ, ◌+◌, ◌^◌, ◌<◌, ◌≤◌, inl, inr, Bool, true, ◌&&◌, cond, eqb, ltb, leb, List, [], ◌∷◌, ◌++◌, map, length, Option, Some, None, Result, Ok, Err, refl, sym, ap, ◌∙◌, arith, subst, append_assoc, if◌then◌else◌}
+use Rattle.std.proofs.Common.{◌≡◌, ℕ, ◌+◌, ◌^◌, ◌<◌, ◌≤◌, inl, inr, Bool, true, ◌&&◌, cond, eqb, ltb, leb, List, []}
+use Rattle.std.proofs.Common.{◌∷◌, ◌++◌, map, length, Option, Some, None, Result, Ok, Err, refl, sym, ap, ◌∙◌, arith}
+use Rattle.std.proofs.Common.{subst, append_assoc, if◌then◌else◌}
 use Rattle.std.specs.Prelude.{codes, decimal}
 use Rattle.std.specs.Option.{is_some}
 use Rattle.std.specs.Str.{bytes_eq}
@@ -20,31 +22,39 @@ use Rattle.fx_book.specs.Faults.{fault}
 use Rattle.fx_book.specs.Parts.{split, number_of, numbers_of_parts}
 use Rattle.fx_book.specs.Entries.{entries_text}
 use Rattle.fx_book.specs.Reading.{entries}
-use Rattle.fx_book.specs.Demands.{demands_of, resolution_of, resolution_within, effects_of, as_effects, after_stroke, with_effect, lists_of, may_be_asked, asked_for}
-use Rattle.fx_book.specs.Heads.{book_of, is_shape, shape_from, shape_of, may_be_beaten, whole_pattern, beat_from, beat_of, from_title, from_size, from_demands, from_beat, with_line, with_shape, with_demands, with_beat, with_marks}
+use Rattle.fx_book.specs.Demands.{demands_of, resolution_of, resolution_within, effects_of, as_effects, after_stroke}
+use Rattle.fx_book.specs.Demands.{with_effect, lists_of, may_be_asked, asked_for}
+use Rattle.fx_book.specs.Heads.{book_of, is_shape, shape_from, shape_of, may_be_beaten, whole_pattern, beat_from}
+use Rattle.fx_book.specs.Heads.{beat_of, from_title, from_size, from_demands, from_beat, with_line, with_shape}
+use Rattle.fx_book.specs.Heads.{with_demands, with_beat, with_marks}
 use Rattle.fx_book.specs.Writing.{spaced, shape_text, demands_text, beat_text, book_text}
 use Rattle.fx_book.proofs.Numerals.{part_is, parts_are}
-use Rattle.fx_book.proofs.Texts.{joined, joined_more, join_split, text_of, joined_spaced, joined_lists, same_bytes, entries_are}
+use Rattle.fx_book.proofs.Texts.{joined, joined_more, join_split, text_of, joined_spaced, joined_lists, same_bytes}
+use Rattle.fx_book.proofs.Texts.{entries_are}
 
 abbrev end : List ℕ
 end = codes "END\n"
 
 -- the first line, where something is made of it
-line_taken : (f : BookFault) (make : List ℕ → List (List ℕ) → Result Book BookFault) (lines : List (List ℕ)) (book : Book) → with_line (Err f) make lines ≡ Ok book
+line_taken : (f : BookFault) (make : List ℕ → List (List ℕ) → Result Book BookFault) (lines : List (List ℕ))
+    (book : Book) → with_line (Err f) make lines ≡ Ok book
     → (line : List ℕ) × (rest : List (List ℕ)) × (lines ≡ line ∷ rest) × (0 < length rest) × (make line rest ≡ Ok book)
 line_taken f make [] book h = cc h
 line_taken f make (line ∷ []) book h = cc h
 line_taken f make (line ∷ next ∷ lines) book h = (line, next ∷ lines, refl, omega arith, h)
 
 -- a line of spaced numbers with its end
-ended : (word : List ℕ) (ns rest : List ℕ) → (word ++ spaced ns) ++ 10 ∷ rest ≡ (word ++ (spaced ns ++ codes "\n")) ++ rest
+ended : (word : List ℕ) (ns rest : List ℕ)
+    → (word ++ spaced ns) ++ 10 ∷ rest ≡ (word ++ (spaced ns ++ codes "\n")) ++ rest
 ended word ns rest =
     append_assoc word (spaced ns) (10 ∷ rest)
-    ∙ sym (append_assoc word (spaced ns ++ codes "\n") rest ∙ ap (λ l. word ++ l) (append_assoc (spaced ns) (10 ∷ []) rest))
+    ∙ sym (append_assoc word (spaced ns ++ codes "\n") rest ∙ ap (λ l. word ++ l)
+    (append_assoc (spaced ns) (10 ∷ []) rest))
 
 module _ (shape : Shape) where
   shape_taken : (q m s t : Option ℕ) → shape_from q m s t ≡ Some shape
-      → (q ≡ Some shape.q) × (m ≡ Some shape.m) × (s ≡ Some shape.s) × (t ≡ Some shape.t) × (is_shape shape.q shape.m shape.s shape.t ≡ true)
+      → (q ≡ Some shape.q) × (m ≡ Some shape.m) × (s ≡ Some shape.s) × (t ≡ Some shape.t)
+      × (is_shape shape.q shape.m shape.s shape.t ≡ true)
   shape_taken None m s t h = cc h
   shape_taken (Some q) None s t h = cc h
   shape_taken (Some q) (Some m) None t h = cc h
@@ -61,7 +71,8 @@ module _ (shape : Shape) where
               ap (λ (x : Shape). Some x.t) e,
               subst (λ (x : Shape). is_shape x.q x.m x.s x.t ≡ true) e in',
             )
-        | inr out ↦ let z : None ≡ Some shape = sym (cond-false (is_shape q m s t) (Some (record { q = q; m = m; s = s; t = t })) None out) ∙ h in cc z
+        | inr out ↦ let z : None ≡ Some shape =
+            sym (cond-false (is_shape q m s t) (Some (record { q = q; m = m; s = s; t = t })) None out) ∙ h in cc z
       ]
 
   -- the limits of a shape that was read
@@ -90,7 +101,11 @@ module _ (shape : Shape) where
         runs = leb-true _ _ d.0;
         s = s;
         t = t;
-        rows = elim (or_cases _ _ g.1) [ inl none ↦ (let z : shape.t ≡ 0 = eqb-true _ _ none in omega arith) | inr few ↦ (let z : shape.s ≤ 30 = leb-true _ _ few in omega arith) ];
+        rows = elim (or_cases _ _ g.1) [
+          | inl none ↦ (let z : shape.t ≡ 0 = eqb-true _ _ none in omega arith)
+          | inr few ↦
+              (let z : shape.s ≤ 30 = leb-true _ _ few in omega arith)
+        ];
       }
 
   shape_is : (parts : List (List ℕ)) → shape_of parts ≡ Some shape
@@ -103,21 +118,28 @@ module _ (shape : Shape) where
   shape_is (word ∷ q ∷ m ∷ s ∷ t ∷ []) h =
       elim (cases_Bool (bytes_eq word (codes "size"))) [
         | inl is ↦
-            let k = shape_taken (number_of q) (number_of m) (number_of s) (number_of t) (sym (cond-true (bytes_eq word (codes "size")) _ _ is) ∙ h) in
+            let k = shape_taken (number_of q) (number_of m) (number_of s) (number_of t)
+            (sym (cond-true (bytes_eq word (codes "size")) _ _ is) ∙ h) in
             let l = limits k.4 in (
               l,
               ap (λ w. w ∷ q ∷ m ∷ s ∷ t ∷ []) (same_bytes word (codes "size") is)
                   ∙ ap (λ x. codes "size" ∷ x ∷ m ∷ s ∷ t ∷ []) (part_is q shape.q k.0 (omega (arith, l.q)))
-                  ∙ ap (λ x. codes "size" ∷ decimal shape.q ∷ x ∷ s ∷ t ∷ []) (part_is m shape.m k.1 (omega (arith, l.m)))
-                  ∙ ap (λ x. codes "size" ∷ decimal shape.q ∷ decimal shape.m ∷ x ∷ t ∷ []) (part_is s shape.s k.2 (omega (arith, l.s)))
-                  ∙ ap (λ x. codes "size" ∷ decimal shape.q ∷ decimal shape.m ∷ decimal shape.s ∷ x ∷ []) (part_is t shape.t k.3 (omega (arith, l.t))),
+                  ∙ ap (λ x. codes "size" ∷ decimal shape.q ∷ x ∷ s ∷ t ∷ [])
+                  (part_is m shape.m k.1 (omega (arith, l.m)))
+                  ∙ ap (λ x. codes "size" ∷ decimal shape.q ∷ decimal shape.m ∷ x ∷ t ∷ [])
+                  (part_is s shape.s k.2 (omega (arith, l.s)))
+                  ∙ ap (λ x. codes "size" ∷ decimal shape.q ∷ decimal shape.m ∷ decimal shape.s ∷ x ∷ [])
+                  (part_is t shape.t k.3 (omega (arith, l.t))),
             )
-        | inr out ↦ let z = sym (cond-false (bytes_eq word (codes "size")) (shape_from (number_of q) (number_of m) (number_of s) (number_of t)) None out) ∙ h in cc z
+        | inr out ↦ let z =
+            sym (cond-false (bytes_eq word (codes "size"))
+            (shape_from (number_of q) (number_of m) (number_of s) (number_of t)) None out) ∙ h in cc z
       ]
   shape_is (word ∷ q ∷ m ∷ s ∷ t ∷ other ∷ others) h = cc h
 
 -- the line of a resolution
-resolution_taken : (o : Option ℕ) (asked : Demands) → resolution_within o ≡ Some asked → (r : ℕ) × (o ≡ Some r) × (r < 2 ^ 127) × (Resolution r ≡ asked)
+resolution_taken : (o : Option ℕ) (asked : Demands) → resolution_within o ≡ Some asked
+    → (r : ℕ) × (o ≡ Some r) × (r < 2 ^ 127) × (Resolution r ≡ asked)
 resolution_taken None asked h = cc h
 resolution_taken (Some r) asked h =
     elim (cases_Bool (leb 3 r && leb r 99)) [
@@ -126,15 +148,18 @@ resolution_taken (Some r) asked h =
           let e : Resolution r ≡ asked = cc z in
           let high : r ≤ 99 = leb-true _ _ (and_parts _ _ in').1 in
           (r, refl, omega arith, e)
-      | inr out ↦ let z : None ≡ Some asked = sym (cond-false (leb 3 r && leb r 99) (Some (Resolution r)) None out) ∙ h in cc z
+      | inr out ↦ let z : None ≡ Some asked =
+          sym (cond-false (leb 3 r && leb r 99) (Some (Resolution r)) None out) ∙ h in cc z
     ]
 
-resolution_is : (parts : List (List ℕ)) (asked : Demands) (rest : List ℕ) → resolution_of parts ≡ Some asked → joined 32 (codes "resolution" ∷ parts) ++ 10 ∷ rest ≡ demands_text asked ++ rest
+resolution_is : (parts : List (List ℕ)) (asked : Demands) (rest : List ℕ) → resolution_of parts ≡ Some asked
+    → joined 32 (codes "resolution" ∷ parts) ++ 10 ∷ rest ≡ demands_text asked ++ rest
 resolution_is [] asked rest h = cc h
 resolution_is (part ∷ []) asked rest h =
     let k = resolution_taken (number_of part) asked h in
     ap (λ p. joined 32 (codes "resolution" ∷ p ∷ []) ++ 10 ∷ rest) (part_is part k.0 k.1 k.2)
-    ∙ ap (λ l. l ++ 10 ∷ rest) (joined_spaced (codes "resolution") (k.0 ∷ [])) ∙ ended (codes "resolution") (k.0 ∷ []) rest
+    ∙ ap (λ l. l ++ 10 ∷ rest) (joined_spaced (codes "resolution") (k.0 ∷ [])) ∙ ended (codes "resolution") (k.0 ∷ [])
+    rest
     ∙ ap (λ (d : Demands). demands_text d ++ rest) k.3
 resolution_is (part ∷ other ∷ others) asked rest h = cc h
 
@@ -142,16 +167,20 @@ numbers-effects : (ns : List ℕ) → numbers_of (effects_of ns) ≡ ns
 numbers-effects [] = refl
 numbers-effects (n ∷ ns) = ap (λ l. n ∷ l) (numbers-effects ns)
 
-stroke_taken : (o : Option (List ℕ)) (lists : EffectLists) → after_stroke (as_effects o) ≡ Some lists → (ns : List ℕ) × (o ≡ Some ns) × (record { estimate = []; nonnegligible = effects_of ns } ≡ lists)
+stroke_taken : (o : Option (List ℕ)) (lists : EffectLists) → after_stroke (as_effects o) ≡ Some lists
+    → (ns : List ℕ) × (o ≡ Some ns) × (record { estimate = []; nonnegligible = effects_of ns } ≡ lists)
 stroke_taken None lists h = cc h
 stroke_taken (Some ns) lists h = (ns, refl, cc h)
 
-effect_taken : (limit : ℕ) (o : Option ℕ) (r : Option EffectLists) (lists : EffectLists) → with_effect limit o r ≡ Some lists
-    → (n : ℕ) × (more : EffectLists) × (o ≡ Some n) × (r ≡ Some more) × (n < limit) × (record { estimate = record { 0 = n } ∷ more.estimate; nonnegligible = more.nonnegligible } ≡ lists)
+effect_taken : (limit : ℕ) (o : Option ℕ) (r : Option EffectLists) (lists : EffectLists)
+    → with_effect limit o r ≡ Some lists
+    → (n : ℕ) × (more : EffectLists) × (o ≡ Some n) × (r ≡ Some more) × (n < limit)
+    × (record { estimate = record { 0 = n } ∷ more.estimate; nonnegligible = more.nonnegligible } ≡ lists)
 effect_taken limit None r lists h = cc h
 effect_taken limit (Some n) None lists h = cc h
 effect_taken limit (Some n) (Some more) lists h =
-    let own : EffectLists = record { estimate = record { 0 = n } ∷ more.estimate; nonnegligible = more.nonnegligible } in
+    let own : EffectLists =
+    record { estimate = record { 0 = n } ∷ more.estimate; nonnegligible = more.nonnegligible } in
     elim (cases_Bool (leb 1 n && ltb n limit)) [
       | inl in' ↦
           let z : Some own ≡ Some lists = sym (cond-true (leb 1 n && ltb n limit) (Some own) None in') ∙ h in
@@ -163,109 +192,164 @@ effect_taken limit (Some n) (Some more) lists h =
 abbrev lists_parts : EffectLists → List (List ℕ)
 lists_parts lists = map decimal (numbers_of lists.estimate) ++ codes "/" ∷ map decimal (numbers_of lists.nonnegligible)
 
-lists_are : (limit : ℕ) (parts : List (List ℕ)) (lists : EffectLists) → limit ≤ 2 ^ 127 → lists_of limit parts ≡ Some lists → parts ≡ lists_parts lists
+lists_are : (limit : ℕ) (parts : List (List ℕ)) (lists : EffectLists) → limit ≤ 2 ^ 127
+    → lists_of limit parts ≡ Some lists → parts ≡ lists_parts lists
 lists_are limit [] lists top h = cc h
 lists_are limit (part ∷ parts) lists top h =
     elim (cases_Bool (bytes_eq part (codes "/"))) [
       | inl is ↦
-          let k = stroke_taken (numbers_of_parts 1 limit parts) lists (sym (cond-true (bytes_eq part (codes "/")) _ _ is) ∙ h) in
-          ap (λ p. p ∷ parts) (same_bytes part (codes "/") is) ∙ ap (λ ps. codes "/" ∷ ps) (parts_are 1 limit parts k.0 top k.1 ∙ ap (map decimal) (sym (numbers-effects k.0)))
+          let k = stroke_taken (numbers_of_parts 1 limit parts) lists
+          (sym (cond-true (bytes_eq part (codes "/")) _ _ is) ∙ h) in
+          ap (λ p. p ∷ parts) (same_bytes part (codes "/") is) ∙ ap (λ ps. codes "/" ∷ ps)
+          (parts_are 1 limit parts k.0 top k.1 ∙ ap (map decimal) (sym (numbers-effects k.0)))
           ∙ ap lists_parts k.2
       | inr other ↦
-          let k = effect_taken limit (number_of part) (lists_of limit parts) lists (sym (cond-false (bytes_eq part (codes "/")) (after_stroke (as_effects (numbers_of_parts 1 limit parts))) _ other) ∙ h) in
-          ap (λ p. p ∷ parts) (part_is part k.0 k.2 (omega (arith, k.4))) ∙ ap (λ ps. decimal k.0 ∷ ps) (lists_are limit parts k.1 top k.3) ∙ ap lists_parts k.5
+          let k = effect_taken limit (number_of part) (lists_of limit parts) lists
+          (sym (cond-false (bytes_eq part (codes "/")) (after_stroke (as_effects (numbers_of_parts 1 limit parts)))
+          _ other) ∙ h) in
+          ap (λ p. p ∷ parts) (part_is part k.0 k.2 (omega (arith, k.4))) ∙ ap (λ ps. decimal k.0 ∷ ps)
+          (lists_are limit parts k.1 top k.3) ∙ ap lists_parts k.5
     ]
 
-asked_taken : (q : ℕ) (o : Option EffectLists) (asked : Demands) → asked_for q o ≡ Some asked → (lists : EffectLists) × (o ≡ Some lists) × (Effects lists.estimate lists.nonnegligible ≡ asked)
+asked_taken : (q : ℕ) (o : Option EffectLists) (asked : Demands) → asked_for q o ≡ Some asked
+    → (lists : EffectLists) × (o ≡ Some lists) × (Effects lists.estimate lists.nonnegligible ≡ asked)
 asked_taken q None asked h = cc h
 asked_taken q (Some lists) asked h =
     elim (cases_Bool (may_be_asked q (numbers_of lists.estimate) (numbers_of lists.nonnegligible))) [
       | inl may ↦
-          let z : Some (Effects lists.estimate lists.nonnegligible) ≡ Some asked = sym (cond-true (may_be_asked q (numbers_of lists.estimate) (numbers_of lists.nonnegligible)) _ None may) ∙ h in
+          let z : Some (Effects lists.estimate lists.nonnegligible) ≡ Some asked =
+          sym (cond-true (may_be_asked q (numbers_of lists.estimate) (numbers_of lists.nonnegligible)) _ None may) ∙
+          h in
           (lists, refl, cc z)
       | inr out ↦
-          let z : None ≡ Some asked = sym (cond-false (may_be_asked q (numbers_of lists.estimate) (numbers_of lists.nonnegligible)) (Some (Effects lists.estimate lists.nonnegligible)) None out) ∙ h in cc z
+          let z : None ≡ Some asked =
+          sym (cond-false (may_be_asked q (numbers_of lists.estimate) (numbers_of lists.nonnegligible))
+          (Some (Effects lists.estimate lists.nonnegligible)) None out) ∙ h in cc z
     ]
 
-effects_line : (ns ms rest : List ℕ) → (codes "effects" ++ (spaced ns ++ (codes " /" ++ spaced ms))) ++ 10 ∷ rest ≡ (codes "effects" ++ (spaced ns ++ (codes " /" ++ (spaced ms ++ codes "\n")))) ++ rest
+effects_line : (ns ms rest : List ℕ)
+    → (codes "effects" ++ (spaced ns ++ (codes " /" ++ spaced ms))) ++ 10 ∷ rest
+    ≡ (codes "effects" ++ (spaced ns ++ (codes " /" ++ (spaced ms ++ codes "\n")))) ++ rest
 effects_line ns ms rest =
     ap (λ l. codes "effects" ++ l) (append_assoc (spaced ns) (codes " /" ++ spaced ms) (10 ∷ rest)
-    ∙ sym (append_assoc (spaced ns) (codes " /" ++ (spaced ms ++ codes "\n")) rest ∙ ap (λ l. spaced ns ++ (codes " /" ++ l)) (append_assoc (spaced ms) (10 ∷ []) rest)))
+    ∙ sym (append_assoc (spaced ns) (codes " /" ++ (spaced ms ++ codes "\n")) rest ∙ ap
+    (λ l. spaced ns ++ (codes " /" ++ l)) (append_assoc (spaced ms) (10 ∷ []) rest)))
 
-demands_are : (shape : Shape) (parts : List (List ℕ)) (asked : Demands) (rest : List ℕ) → shape.s ≤ 40 → demands_of shape parts ≡ Some asked → joined 32 parts ++ 10 ∷ rest ≡ demands_text asked ++ rest
+demands_are : (shape : Shape) (parts : List (List ℕ)) (asked : Demands) (rest : List ℕ) → shape.s ≤ 40
+    → demands_of shape parts ≡ Some asked → joined 32 parts ++ 10 ∷ rest ≡ demands_text asked ++ rest
 demands_are shape [] asked rest short h = cc h
 demands_are shape (word ∷ parts) asked rest short h =
     let effects : Option Demands = asked_for shape.q (lists_of (2 ^ shape.s) parts) in
     elim (cases_Bool (bytes_eq word (codes "resolution"))) [
       | inl is ↦
           ap (λ w. joined 32 (w ∷ parts) ++ 10 ∷ rest) (same_bytes word (codes "resolution") is)
-          ∙ resolution_is parts asked rest (sym (cond-true (bytes_eq word (codes "resolution")) (resolution_of parts) (cond (bytes_eq word (codes "effects")) effects None) is) ∙ h)
+          ∙ resolution_is parts asked rest
+          (sym (cond-true (bytes_eq word (codes "resolution")) (resolution_of parts)
+          (cond (bytes_eq word (codes "effects")) effects None) is) ∙ h)
       | inr other ↦
-          let h' = sym (cond-false (bytes_eq word (codes "resolution")) (resolution_of parts) (cond (bytes_eq word (codes "effects")) effects None) other) ∙ h in
+          let h' = sym
+          (cond-false (bytes_eq word (codes "resolution")) (resolution_of parts)
+          (cond (bytes_eq word (codes "effects")) effects None) other) ∙ h in
           elim (cases_Bool (bytes_eq word (codes "effects"))) [
             | inl is ↦
-                let k = asked_taken shape.q (lists_of (2 ^ shape.s) parts) asked (sym (cond-true (bytes_eq word (codes "effects")) effects None is) ∙ h') in
+                let k = asked_taken shape.q (lists_of (2 ^ shape.s) parts) asked
+                (sym (cond-true (bytes_eq word (codes "effects")) effects None is) ∙ h') in
                 let top : 2 ^ shape.s ≤ 2 ^ 40 = pow-le-pow_right (omega arith) short in
                 ap (λ w. joined 32 (w ∷ parts) ++ 10 ∷ rest) (same_bytes word (codes "effects") is)
-                ∙ ap (λ ps. joined 32 (codes "effects" ∷ ps) ++ 10 ∷ rest) (lists_are (2 ^ shape.s) parts k.0 (omega arith) k.1)
-                ∙ ap (λ l. l ++ 10 ∷ rest) (joined_lists (codes "effects") (numbers_of k.0.estimate) (numbers_of k.0.nonnegligible))
+                ∙ ap (λ ps. joined 32 (codes "effects" ∷ ps) ++ 10 ∷ rest)
+                (lists_are (2 ^ shape.s) parts k.0 (omega arith) k.1)
+                ∙ ap (λ l. l ++ 10 ∷ rest)
+                (joined_lists (codes "effects") (numbers_of k.0.estimate) (numbers_of k.0.nonnegligible))
                 ∙ effects_line (numbers_of k.0.estimate) (numbers_of k.0.nonnegligible) rest
                 ∙ ap (λ (d : Demands). demands_text d ++ rest) k.2
-            | inr out ↦ let z : None ≡ Some asked = sym (cond-false (bytes_eq word (codes "effects")) effects None out) ∙ h' in cc z
+            | inr out ↦ let z : None ≡ Some asked =
+                sym (cond-false (bytes_eq word (codes "effects")) effects None out) ∙ h' in cc z
           ]
     ]
 
-whole_taken : (s : ℕ) (o : Option (List ℕ)) (beat : Option (List ℕ)) → whole_pattern s o ≡ Some beat → (pattern : List ℕ) × (o ≡ Some pattern) × (Some pattern ≡ beat)
+whole_taken : (s : ℕ) (o : Option (List ℕ)) (beat : Option (List ℕ)) → whole_pattern s o ≡ Some beat
+    → (pattern : List ℕ) × (o ≡ Some pattern) × (Some pattern ≡ beat)
 whole_taken s None beat h = cc h
 whole_taken s (Some pattern) beat h =
     elim (cases_Bool (eqb (length pattern) s)) [
       | inl long ↦
-          let z : Some (Some pattern) ≡ Some beat = sym (cond-true (eqb (length pattern) s) (Some (Some pattern)) None long) ∙ h in
+          let z : Some (Some pattern) ≡ Some beat =
+          sym (cond-true (eqb (length pattern) s) (Some (Some pattern)) None long) ∙ h in
           (pattern, refl, cc z)
-      | inr out ↦ let z : None ≡ Some beat = sym (cond-false (eqb (length pattern) s) (Some (Some pattern)) None out) ∙ h in cc z
+      | inr out ↦ let z : None ≡ Some beat =
+          sym (cond-false (eqb (length pattern) s) (Some (Some pattern)) None out) ∙ h in cc z
     ]
 
-pattern_is : (s : ℕ) (allowed : Bool) (parts : List (List ℕ)) (beat : Option (List ℕ)) → beat_from s allowed parts ≡ Some beat → (pattern : List ℕ) × (parts ≡ codes "pattern" ∷ map decimal pattern) × (Some pattern ≡ beat)
+pattern_is : (s : ℕ) (allowed : Bool) (parts : List (List ℕ)) (beat : Option (List ℕ))
+    → beat_from s allowed parts ≡ Some beat
+    → (pattern : List ℕ) × (parts ≡ codes "pattern" ∷ map decimal pattern) × (Some pattern ≡ beat)
 pattern_is s allowed [] beat h = cc h
 pattern_is s allowed (word ∷ parts) beat h =
     elim (cases_Bool (bytes_eq word (codes "pattern") && allowed)) [
       | inl is ↦
-          let k = whole_taken s (numbers_of_parts 0 (2 ^ 127) parts) beat (sym (cond-true (bytes_eq word (codes "pattern") && allowed) _ None is) ∙ h) in
-          (k.0, ap (λ w. w ∷ parts) (same_bytes word (codes "pattern") (and_parts _ _ is).0) ∙ ap (λ ps. codes "pattern" ∷ ps) (parts_are 0 (2 ^ 127) parts k.0 (omega arith) k.1), k.2)
-      | inr out ↦ let z : None ≡ Some beat = sym (cond-false (bytes_eq word (codes "pattern") && allowed) (whole_pattern s (numbers_of_parts 0 (2 ^ 127) parts)) None out) ∙ h in cc z
+          let k = whole_taken s (numbers_of_parts 0 (2 ^ 127) parts) beat
+          (sym (cond-true (bytes_eq word (codes "pattern") && allowed) _ None is) ∙ h) in (
+            k.0,
+            ap (λ w. w ∷ parts) (same_bytes word (codes "pattern") (and_parts _ _ is).0) ∙ ap
+                (λ ps. codes "pattern" ∷ ps) (parts_are 0 (2 ^ 127) parts k.0 (omega arith) k.1),
+            k.2,
+          )
+      | inr out ↦ let z : None ≡ Some beat =
+          sym (cond-false (bytes_eq word (codes "pattern") && allowed)
+          (whole_pattern s (numbers_of_parts 0 (2 ^ 127) parts)) None out) ∙ h in cc z
     ]
 
-beat_is : (s : ℕ) (allowed : Bool) (line : List ℕ) (beat : Option (List ℕ)) (rest : List ℕ) → beat_of s allowed line ≡ Some beat → line ++ 10 ∷ rest ≡ beat_text beat ++ rest
+beat_is : (s : ℕ) (allowed : Bool) (line : List ℕ) (beat : Option (List ℕ)) (rest : List ℕ)
+    → beat_of s allowed line ≡ Some beat → line ++ 10 ∷ rest ≡ beat_text beat ++ rest
 beat_is s allowed line beat rest h =
     elim (cases_Bool (bytes_eq line (codes "pattern none"))) [
       | inl none ↦
-          let z : Some None ≡ Some beat = sym (cond-true (bytes_eq line (codes "pattern none")) (Some None) (beat_from s allowed (split 32 line)) none) ∙ h in
+          let z : Some None ≡ Some beat =
+          sym (cond-true (bytes_eq line (codes "pattern none")) (Some None) (beat_from s allowed (split 32 line))
+          none) ∙ h in
           let e : None ≡ beat = cc z in
-          ap (λ l. l ++ 10 ∷ rest) (same_bytes line (codes "pattern none") none) ∙ ap (λ (b : Option (List ℕ)). beat_text b ++ rest) e
+          ap (λ l. l ++ 10 ∷ rest) (same_bytes line (codes "pattern none") none) ∙ ap
+          (λ (b : Option (List ℕ)). beat_text b ++ rest) e
       | inr other ↦
-          let k = pattern_is s allowed (split 32 line) beat (sym (cond-false (bytes_eq line (codes "pattern none")) (Some None) (beat_from s allowed (split 32 line)) other) ∙ h) in
-          ap (λ l. l ++ 10 ∷ rest) (text_of 32 line (codes "pattern" ∷ map decimal k.0) k.1 ∙ joined_spaced (codes "pattern") k.0)
+          let k = pattern_is s allowed (split 32 line) beat
+          (sym (cond-false (bytes_eq line (codes "pattern none")) (Some None) (beat_from s allowed (split 32 line))
+          other) ∙ h) in
+          ap (λ l. l ++ 10 ∷ rest)
+          (text_of 32 line (codes "pattern" ∷ map decimal k.0) k.1 ∙ joined_spaced (codes "pattern") k.0)
           ∙ ended (codes "pattern") k.0 rest ∙ ap (λ (b : Option (List ℕ)). beat_text b ++ rest) k.2
     ]
 
 module _ (shape : Shape) (l : AreLimits shape) (book : Book) where
-  beat_taken : (asked : Demands) (lines : List (List ℕ)) (o : Option (Option (List ℕ))) → with_beat shape asked lines o ≡ Ok book
-      → (beat : Option (List ℕ)) × (o ≡ Some beat) × (with_marks shape asked beat (entries (dimensions_of shape) (is_some beat) 5 lines) ≡ Ok book)
+  beat_taken : (asked : Demands) (lines : List (List ℕ)) (o : Option (Option (List ℕ)))
+      → with_beat shape asked lines o ≡ Ok book
+      → (beat : Option (List ℕ)) × (o ≡ Some beat)
+      × (with_marks shape asked beat (entries (dimensions_of shape) (is_some beat) 5 lines) ≡ Ok book)
   beat_taken asked lines None h = cc h
   beat_taken asked lines (Some beat) h = (beat, refl, h)
 
-  marks_taken : (asked : Demands) (beat : Option (List ℕ)) (r : Result (List nodes.Mark) BookFault) → with_marks shape asked beat r ≡ Ok book
-      → (marks : List nodes.Mark) × (r ≡ Ok marks) × (record { head = record { question = record { shape = shape; demands = asked; least = is_some beat }; beat = beat }; marks = marks } ≡ book)
+  marks_taken : (asked : Demands) (beat : Option (List ℕ)) (r : Result (List nodes.Mark) BookFault)
+      → with_marks shape asked beat r ≡ Ok book
+      → (marks : List nodes.Mark) × (r ≡ Ok marks)
+      × (record {
+        head = record
+            { question = record { shape = shape; demands = asked; least = is_some beat }; beat = beat };
+        marks = marks;
+      }
+      ≡ book)
   marks_taken asked beat (Err stop) h = cc h
   marks_taken asked beat (Ok marks) h = (marks, refl, cc h)
 
   from_beat_text : (asked : Demands) (lines : List (List ℕ)) → from_beat shape asked lines ≡ Ok book
-      → (book.head.question.shape ≡ shape) × (book.head.question.demands ≡ asked) × (joined 10 lines ≡ beat_text book.head.beat ++ (entries_text book.marks ++ end))
+      → (book.head.question.shape ≡ shape) × (book.head.question.demands ≡ asked)
+      × (joined 10 lines ≡ beat_text book.head.beat ++ (entries_text book.marks ++ end))
   from_beat_text asked lines h =
-      let k = line_taken (fault kind.Pattern 4) (λ line rest. with_beat shape asked rest (beat_of shape.s (may_be_beaten shape asked) line)) lines book h in
+      let k = line_taken (fault kind.Pattern 4)
+      (λ line rest. with_beat shape asked rest (beat_of shape.s (may_be_beaten shape asked) line)) lines book h in
       let b = beat_taken asked k.1 (beat_of shape.s (may_be_beaten shape asked) k.0) k.4 in
       let m = marks_taken asked b.0 (entries (dimensions_of shape) (is_some b.0) 5 k.1) b.2 in
-      let after = entries_are (dimensions_of shape) (is_some b.0) l.runs (numbers_fit shape.q (shape.s + shape.t) l.q l.rows) 5 k.1 m.0 m.1 in (
+      let after =
+      entries_are (dimensions_of shape) (is_some b.0) l.runs (numbers_fit shape.q (shape.s + shape.t) l.q l.rows) 5
+      k.1 m.0 m.1 in (
         ap (λ (x : Book). x.head.question.shape) (sym m.2),
         ap (λ (x : Book). x.head.question.demands) (sym m.2),
         ap (joined 10) k.2 ∙ joined_more 10 k.0 k.1 k.3 ∙ ap (λ r. k.0 ++ 10 ∷ r) after
@@ -273,29 +357,37 @@ module _ (shape : Shape) (l : AreLimits shape) (book : Book) where
             ∙ ap (λ (x : Book). beat_text x.head.beat ++ (entries_text x.marks ++ end)) m.2,
       )
 
-  demands_taken : (lines : List (List ℕ)) (o : Option Demands) → with_demands shape lines o ≡ Ok book → (asked : Demands) × (o ≡ Some asked) × (from_beat shape asked lines ≡ Ok book)
+  demands_taken : (lines : List (List ℕ)) (o : Option Demands) → with_demands shape lines o ≡ Ok book
+      → (asked : Demands) × (o ≡ Some asked) × (from_beat shape asked lines ≡ Ok book)
   demands_taken lines None h = cc h
   demands_taken lines (Some asked) h = (asked, refl, h)
 
   from_demands_text : (lines : List (List ℕ)) → from_demands shape lines ≡ Ok book
-      → (book.head.question.shape ≡ shape) × (joined 10 lines ≡ demands_text book.head.question.demands ++ (beat_text book.head.beat ++ (entries_text book.marks ++ end)))
+      → (book.head.question.shape ≡ shape)
+      × (joined 10 lines
+      ≡ demands_text book.head.question.demands ++ (beat_text book.head.beat ++ (entries_text book.marks ++ end)))
   from_demands_text lines h =
-      let k = line_taken (fault kind.Demands 3) (λ line rest. with_demands shape rest (demands_of shape (split 32 line))) lines book h in
+      let k = line_taken (fault kind.Demands 3)
+      (λ line rest. with_demands shape rest (demands_of shape (split 32 line))) lines book h in
       let d = demands_taken k.1 (demands_of shape (split 32 k.0)) k.4 in
       let b = from_beat_text d.0 k.1 d.2 in
       let R : List ℕ = beat_text book.head.beat ++ (entries_text book.marks ++ end) in (
         b.0,
-        ap (joined 10) k.2 ∙ joined_more 10 k.0 k.1 k.3 ∙ ap (λ r. k.0 ++ 10 ∷ r) b.2 ∙ ap (λ line. line ++ 10 ∷ R) (sym (join_split 32 k.0))
+        ap (joined 10) k.2 ∙ joined_more 10 k.0 k.1 k.3 ∙ ap (λ r. k.0 ++ 10 ∷ r) b.2 ∙ ap (λ line. line ++ 10 ∷ R)
+            (sym (join_split 32 k.0))
             ∙ demands_are shape (split 32 k.0) d.0 R l.s d.1 ∙ ap (λ (x : Demands). demands_text x ++ R) (sym b.1),
       )
 
 module _ (book : Book) where
-  size_taken : (lines : List (List ℕ)) (o : Option Shape) → with_shape lines o ≡ Ok book → (shape : Shape) × (o ≡ Some shape) × (from_demands shape lines ≡ Ok book)
+  size_taken : (lines : List (List ℕ)) (o : Option Shape) → with_shape lines o ≡ Ok book
+      → (shape : Shape) × (o ≡ Some shape) × (from_demands shape lines ≡ Ok book)
   size_taken lines None h = cc h
   size_taken lines (Some shape) h = (shape, refl, h)
 
   from_size_text : (lines : List (List ℕ)) → from_size lines ≡ Ok book
-      → joined 10 lines ≡ shape_text book.head.question.shape ++ (demands_text book.head.question.demands ++ (beat_text book.head.beat ++ (entries_text book.marks ++ end)))
+      → joined 10 lines
+      ≡ shape_text book.head.question.shape
+      ++ (demands_text book.head.question.demands ++ (beat_text book.head.beat ++ (entries_text book.marks ++ end)))
   from_size_text lines h =
       let k = line_taken (fault kind.Size 2) (λ line rest. with_shape rest (shape_of (split 32 line))) lines book h in
       let s = size_taken k.1 (shape_of (split 32 k.0)) k.4 in
@@ -303,9 +395,11 @@ module _ (book : Book) where
       let i = shape_is shape (split 32 k.0) s.1 in
       let d = from_demands_text shape i.0 book k.1 s.2 in
       let numbers : List ℕ = shape.q ∷ shape.m ∷ shape.s ∷ shape.t ∷ [] in
-      let R : List ℕ = demands_text book.head.question.demands ++ (beat_text book.head.beat ++ (entries_text book.marks ++ end)) in
+      let R : List ℕ =
+      demands_text book.head.question.demands ++ (beat_text book.head.beat ++ (entries_text book.marks ++ end)) in
       ap (joined 10) k.2 ∙ joined_more 10 k.0 k.1 k.3 ∙ ap (λ r. k.0 ++ 10 ∷ r) d.1
-      ∙ ap (λ line. line ++ 10 ∷ R) (text_of 32 k.0 (codes "size" ∷ map decimal numbers) i.1 ∙ joined_spaced (codes "size") numbers)
+      ∙ ap (λ line. line ++ 10 ∷ R)
+      (text_of 32 k.0 (codes "size" ∷ map decimal numbers) i.1 ∙ joined_spaced (codes "size") numbers)
       ∙ ended (codes "size") numbers R ∙ ap (λ (x : Shape). shape_text x ++ R) (sym d.0)
 
   pub read_is_written : (text : List ℕ) → book_of text ≡ Ok book → text ≡ book_text book
@@ -314,13 +408,22 @@ module _ (book : Book) where
       elim (cases_Bool (ltb 268435456 (length text))) [
         | inl long ↦ let z = sym (cond-true (ltb 268435456 (length text)) _ _ long) ∙ h in cc z
         | inr short ↦
-            let h' : from_title (split 10 text) ≡ Ok book = sym (cond-false (ltb 268435456 (length text)) _ _ short) ∙ h in
-            let k = line_taken (fault kind.Title 1) (λ line rest. if bytes_eq line (codes "factex-book 1") then from_size rest else Err (fault kind.Title 1)) (split 10 text) book h' in
+            let h' : from_title (split 10 text) ≡ Ok book =
+            sym (cond-false (ltb 268435456 (length text)) _ _ short) ∙ h in
+            let k = line_taken (fault kind.Title 1)
+            (λ line rest. if bytes_eq line (codes "factex-book 1")
+            then from_size rest else Err (fault kind.Title 1)) (split 10 text) book h' in
             elim (cases_Bool (bytes_eq k.0 (codes "factex-book 1"))) [
               | inl is ↦
-                  let rest = from_size_text k.1 (sym (cond-true (bytes_eq k.0 (codes "factex-book 1")) (from_size k.1) (Err (fault kind.Title 1)) is) ∙ k.4) in
-                  sym (join_split 10 text) ∙ ap (joined 10) k.2 ∙ joined_more 10 k.0 k.1 k.3 ∙ ap (λ l. l ++ 10 ∷ joined 10 k.1) (same_bytes k.0 (codes "factex-book 1") is)
+                  let rest =
+                  from_size_text k.1
+                  (sym (cond-true (bytes_eq k.0 (codes "factex-book 1")) (from_size k.1)
+                  (Err (fault kind.Title 1)) is) ∙ k.4) in
+                  sym (join_split 10 text) ∙ ap (joined 10) k.2 ∙ joined_more 10 k.0 k.1 k.3 ∙ ap
+                  (λ l. l ++ 10 ∷ joined 10 k.1) (same_bytes k.0 (codes "factex-book 1") is)
                   ∙ ap (λ l. codes "factex-book 1\n" ++ l) rest
-              | inr out ↦ let z = sym (cond-false (bytes_eq k.0 (codes "factex-book 1")) (from_size k.1) (Err (fault kind.Title 1)) out) ∙ k.4 in cc z
+              | inr out ↦ let z =
+                  sym (cond-false (bytes_eq k.0 (codes "factex-book 1")) (from_size k.1) (Err (fault kind.Title 1)) out)
+                  ∙ k.4 in cc z
             ]
       ]

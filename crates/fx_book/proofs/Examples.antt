@@ -17,16 +17,25 @@ use Rattle.fx_book.specs.Writing.{book_text}
 
 abbrev book : ℕ → ℕ → ℕ → ℕ → Demands → Option (List ℕ) → List Mark → Book
 book q m s t demands beat marks =
-    record { head = record { question = record { shape = record { q = q; m = m; s = s; t = t }; demands = demands; least = is_some beat }; beat = beat }; marks = marks }
+    record {
+      head = record {
+        question = record { shape = record { q = q; m = m; s = s; t = t }; demands = demands; least = is_some beat };
+        beat = beat;
+      };
+      marks = marks;
+    }
 
--- five factors in eight runs at resolution 4: of A, B and C every child is a branch, and so is D = ABC; each row for E closes
+-- five factors in eight runs at resolution 4: of A, B and C every child is a branch, and so is D = ABC; each row for E
+-- closes
 abbrev five_in_eight : Book
 five_in_eight =
     book 2 3 5 0 (Resolution 4) None
-    (Branch 1 ∷ Branch 2 ∷ Branch 4 ∷ Branch 7 ∷ Word 6 25 ∷ Word 5 26 ∷ Word 3 28 ∷ Word 6 14 ∷ Word 5 13 ∷ Word 3 11 ∷ [])
+    (Branch 1 ∷ Branch 2 ∷ Branch 4 ∷ Branch 7 ∷ Word 6 25 ∷ Word 5 26 ∷ Word 3 28 ∷ Word 6 14 ∷ Word 5 13 ∷ Word 3 11
+    ∷ [])
 
 abbrev its_text : List ℕ
-its_text = codes "factex-book 1\nsize 2 3 5 0\nresolution 4\npattern none\nO 1\nO 2\nO 4\nO 7\nW 6 25\nW 5 26\nW 3 28\nW 6 14\nW 5 13\nW 3 11\nEND\n"
+its_text =
+    codes "factex-book 1\nsize 2 3 5 0\nresolution 4\npattern none\nO 1\nO 2\nO 4\nO 7\nW 6 25\nW 5 26\nW 3 28\nW 6 14\nW 5 13\nW 3 11\nEND\n"
 
 written : book_text five_in_eight ≡ its_text
 unfolding digits
@@ -41,18 +50,25 @@ abbrev two_in_two : Book
 two_in_two = book 2 1 2 0 (Effects (effects_of (1 ∷ 2 ∷ [])) []) None (Branch 1 ∷ Word 1 3 ∷ Word 0 2 ∷ Word 0 1 ∷ [])
 
 effects_written_and_read :
-    (book_text two_in_two ≡ codes "factex-book 1\nsize 2 1 2 0\neffects 1 2 /\npattern none\nO 1\nW 1 3\nW 0 2\nW 0 1\nEND\n")
-    × (book_of (codes "factex-book 1\nsize 2 1 2 0\neffects 1 2 /\npattern none\nO 1\nW 1 3\nW 0 2\nW 0 1\nEND\n") ≡ Ok two_in_two)
+    (book_text two_in_two
+    ≡ codes "factex-book 1\nsize 2 1 2 0\neffects 1 2 /\npattern none\nO 1\nW 1 3\nW 0 2\nW 0 1\nEND\n")
+    × (book_of (codes "factex-book 1\nsize 2 1 2 0\neffects 1 2 /\npattern none\nO 1\nW 1 3\nW 0 2\nW 0 1\nEND\n")
+    ≡ Ok two_in_two)
 unfolding book_of digits factors_of ones
 effects_written_and_read = (refl, refl)
 
 -- four factors in eight runs: no pattern is less than that of D = ABC
 abbrev four_in_eight : Book
-four_in_eight = book 2 3 4 0 (Resolution 3) (Some (0 ∷ 0 ∷ 0 ∷ 1 ∷ [])) (Branch 1 ∷ Branch 2 ∷ Branch 4 ∷ Worse 7 ∷ Worse 6 ∷ Worse 5 ∷ Worse 3 ∷ [])
+four_in_eight =
+    book 2 3 4 0 (Resolution 3) (Some (0 ∷ 0 ∷ 0 ∷ 1 ∷ []))
+    (Branch 1 ∷ Branch 2 ∷ Branch 4 ∷ Worse 7 ∷ Worse 6 ∷ Worse 5 ∷ Worse 3 ∷ [])
 
 pattern_written_and_read :
-    (book_text four_in_eight ≡ codes "factex-book 1\nsize 2 3 4 0\nresolution 3\npattern 0 0 0 1\nO 1\nO 2\nO 4\nP 7\nP 6\nP 5\nP 3\nEND\n")
-    × (book_of (codes "factex-book 1\nsize 2 3 4 0\nresolution 3\npattern 0 0 0 1\nO 1\nO 2\nO 4\nP 7\nP 6\nP 5\nP 3\nEND\n") ≡ Ok four_in_eight)
+    (book_text four_in_eight
+    ≡ codes "factex-book 1\nsize 2 3 4 0\nresolution 3\npattern 0 0 0 1\nO 1\nO 2\nO 4\nP 7\nP 6\nP 5\nP 3\nEND\n")
+    × (book_of
+    (codes "factex-book 1\nsize 2 3 4 0\nresolution 3\npattern 0 0 0 1\nO 1\nO 2\nO 4\nP 7\nP 6\nP 5\nP 3\nEND\n")
+    ≡ Ok four_in_eight)
 unfolding book_of digits
 pattern_written_and_read = (refl, refl)
 
@@ -61,6 +77,7 @@ faults :
     (book_of (codes "factex-book 1\nsize 2 3 5 0\nresolution 4\npattern none\nO 01\nEND\n") ≡ Err (fault kind.Form 5))
     × (book_of (codes "factex-book 1\nsize 2 3 5 0\nresolution 4\npattern none\nO 8\nEND\n") ≡ Err (fault kind.Range 5))
     × (book_of (codes "factex-book 1\nsize 2 3 5 0\nresolution 4\npattern none\nO 1\n") ≡ Err (fault kind.Unfinished 6))
-    × (book_of (codes "factex-book 1\nsize 2 3 5 0\nresolution 4\npattern none\nEND\nEND\n") ≡ Err (fault kind.Trailing 6))
+    × (book_of (codes "factex-book 1\nsize 2 3 5 0\nresolution 4\npattern none\nEND\nEND\n")
+    ≡ Err (fault kind.Trailing 6))
 unfolding book_of
 faults = (refl, refl, refl, refl)

@@ -12,12 +12,16 @@ use Rattle.fx_book.proofs.Lines.{entries-append}
 use Rattle.fx_book.proofs.Ranges.{range-range, range-all}
 
 -- the entries of a range, from those of its two parts
-pub entries-both : (marks : List nodes.Mark) (from middle to : ℕ) (front back all : List (List ℕ)) → from ≤ middle → middle ≤ to
-    → joined front ≡ entries_text (slice_range marks from middle) → joined back ≡ entries_text (slice_range marks middle to) → all ≡ front ++ back
+pub entries-both : (marks : List nodes.Mark) (from middle to : ℕ) (front back all : List (List ℕ)) → from ≤ middle
+    → middle ≤ to
+    → joined front ≡ entries_text (slice_range marks from middle)
+    → joined back ≡ entries_text (slice_range marks middle to) → all ≡ front ++ back
     → joined all ≡ entries_text (slice_range marks from to)
 entries-both marks from middle to front back all low high f b same =
-    ap joined same ∙ joined-append front back ∙ ap (λ (l : List ℕ). l ++ joined back) f ∙ ap (λ (l : List ℕ). entries_text (slice_range marks from middle) ++ l) b
-    ∙ sym (entries-append (slice_range marks from middle) (slice_range marks middle to)) ∙ ap entries_text (range-range marks from middle to low high)
+    ap joined same ∙ joined-append front back ∙ ap (λ (l : List ℕ). l ++ joined back) f ∙ ap
+    (λ (l : List ℕ). entries_text (slice_range marks from middle) ++ l) b
+    ∙ sym (entries-append (slice_range marks from middle) (slice_range marks middle to)) ∙ ap entries_text
+    (range-range marks from middle to low high)
 
 -- the text of a book, from its first four lines, its entries and its last line
 pub book-joined : (book : Book) (front end : List ℕ) (entries some all : List (List ℕ))
@@ -39,4 +43,5 @@ book-joined book front end entries some all f e between s a =
     ∙ ap (λ (l : List ℕ). l ++ (marks ++ codes "END\n")) f
     ∙ append_assoc (codes "factex-book 1\n") (head_text book.head) (marks ++ codes "END\n")
     ∙ ap (λ (l : List ℕ). codes "factex-book 1\n" ++ l)
-    (append_assoc shape (demands ++ beat) (marks ++ codes "END\n") ∙ ap (λ (l : List ℕ). shape ++ l) (append_assoc demands beat (marks ++ codes "END\n")))
+    (append_assoc shape (demands ++ beat) (marks ++ codes "END\n") ∙ ap (λ (l : List ℕ). shape ++ l)
+    (append_assoc demands beat (marks ++ codes "END\n")))

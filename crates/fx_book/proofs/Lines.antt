@@ -1,5 +1,6 @@
 -- The lines of a book, one at a time.
-use Rattle.std.proofs.Common.{◌≡◌, ℕ, ◌+◌, ◌<◌, Bool, true, false, cond, eqb, List, [], ◌∷◌, ◌++◌, length, Result, Ok, Err, refl, sym, ap, ◌∙◌, arith, append_assoc, None}
+use Rattle.std.proofs.Common.{◌≡◌, ℕ, ◌+◌, ◌<◌, Bool, true, false, cond, eqb, List, [], ◌∷◌, ◌++◌, length, Result, Ok}
+use Rattle.std.proofs.Common.{Err, refl, sym, ap, ◌∙◌, arith, append_assoc, None}
 use Rattle.std.proofs.lemmas.Bool.{cond-true, cond-false, ne_eqb}
 use Rattle.fx_designs.specs.Problems.{Dimensions}
 use Rattle.fx_designs.specs.Nodes as nodes
@@ -18,16 +19,18 @@ use Rattle.fx_book.specs.Reading.{entries, after_entry, is_nothing, onto}
 use Rattle.fx_book.proofs.Splits.{some_parts}
 
 -- a line of more than three parts is no entry
-pub too_many : (d : Dimensions) (b : Bool) (x y z : List ℕ) (parts : List (List ℕ)) → 0 < length parts → entry_of d b (x ∷ y ∷ z ∷ parts) ≡ Err Form
+pub too_many : (d : Dimensions) (b : Bool) (x y z : List ℕ) (parts : List (List ℕ)) → 0 < length parts
+    → entry_of d b (x ∷ y ∷ z ∷ parts) ≡ Err Form
 too_many d b x y z [] h = absurd (omega arith)
 too_many d b x y z (part ∷ parts) h = refl
 
 -- bytes are left
 pub something : (stop b : ℕ) (bytes : List ℕ) → is_nothing (split stop (b ∷ bytes)) ≡ false
-something stop b bytes = elim (eqb b stop) as (λ c. is_nothing (cond c ([] ∷ split stop bytes) (put_first b (split stop bytes))) ≡ false) [
-  | true ↦ more (split stop bytes) (some_parts stop bytes)
-  | false ↦ own b (split stop bytes)
-]
+something stop b bytes =
+    elim (eqb b stop) as (λ c. is_nothing (cond c ([] ∷ split stop bytes) (put_first b (split stop bytes))) ≡ false) [
+      | true ↦ more (split stop bytes) (some_parts stop bytes)
+      | false ↦ own b (split stop bytes)
+    ]
   where
     more : (parts : List (List ℕ)) → 0 < length parts → is_nothing ([] ∷ parts) ≡ false
     more [] h = absurd (omega arith)
@@ -43,42 +46,58 @@ something_left stop [] h = absurd (omega arith)
 something_left stop (b ∷ bytes) h = something stop b bytes
 
 module _ (d : Dimensions) (b : Bool) (n : ℕ) (line : List ℕ) where
-  step : (rest : List (List ℕ)) → 0 < length rest → entries d b n (line ∷ rest) ≡ cond (bytes_eq line (codes "END")) (cond (is_nothing rest) (Ok []) (Err (fault Trailing (n + 1)))) (after_entry n (entry_of d b (split 32 line)) (entries d b (n + 1) rest))
+  step : (rest : List (List ℕ)) → 0 < length rest
+      → entries d b n (line ∷ rest)
+      ≡ cond (bytes_eq line (codes "END")) (cond (is_nothing rest) (Ok []) (Err (fault Trailing (n + 1))))
+      (after_entry n (entry_of d b (split 32 line)) (entries d b (n + 1) rest))
   step [] h = absurd (omega arith)
   step (next ∷ lines) h = refl
 
-  pub end_followed : (rest : List (List ℕ)) → 0 < length rest → bytes_eq line (codes "END") ≡ true → is_nothing rest ≡ false → entries d b n (line ∷ rest) ≡ Err (fault Trailing (n + 1))
-  end_followed rest h e more = step rest h ∙ cond-true (bytes_eq line (codes "END")) _ _ e ∙ cond-false (is_nothing rest) _ _ more
+  pub end_followed : (rest : List (List ℕ)) → 0 < length rest → bytes_eq line (codes "END") ≡ true
+      → is_nothing rest ≡ false → entries d b n (line ∷ rest) ≡ Err (fault Trailing (n + 1))
+  end_followed rest h e more =
+      step rest h ∙ cond-true (bytes_eq line (codes "END")) _ _ e ∙ cond-false (is_nothing rest) _ _ more
 
-  pub at_entry : (rest : List (List ℕ)) → 0 < length rest → bytes_eq line (codes "END") ≡ false → entries d b n (line ∷ rest) ≡ after_entry n (entry_of d b (split 32 line)) (entries d b (n + 1) rest)
+  pub at_entry : (rest : List (List ℕ)) → 0 < length rest → bytes_eq line (codes "END") ≡ false
+      → entries d b n (line ∷ rest) ≡ after_entry n (entry_of d b (split 32 line)) (entries d b (n + 1) rest)
   at_entry rest h e = step rest h ∙ cond-false (bytes_eq line (codes "END")) _ _ e
 
-pub onto_after : (marks : List nodes.Mark) (n : ℕ) (mark : Mark) (read : Result (List nodes.Mark) BookFault) → onto marks (after_entry n (Ok mark) read) ≡ onto (marks ++ meaning_of mark ∷ []) read
+pub onto_after : (marks : List nodes.Mark) (n : ℕ) (mark : Mark) (read : Result (List nodes.Mark) BookFault)
+    → onto marks (after_entry n (Ok mark) read) ≡ onto (marks ++ meaning_of mark ∷ []) read
 onto_after marks n mark (Ok more) = ap Ok (sym (append_assoc marks (meaning_of mark ∷ []) more))
 onto_after marks n mark (Err stop) = refl
 
 -- entries after others
-pub entries-append : (marks more : List nodes.Mark) → entries_text (marks ++ more) ≡ entries_text marks ++ entries_text more
+pub entries-append : (marks more : List nodes.Mark)
+    → entries_text (marks ++ more) ≡ entries_text marks ++ entries_text more
 entries-append [] more = refl
-entries-append (mark ∷ marks) more = ap (λ l. entry_text mark ++ l) (entries-append marks more) ∙ sym (append_assoc (entry_text mark) (entries_text marks) (entries_text more))
+entries-append (mark ∷ marks) more =
+    ap (λ l. entry_text mark ++ l) (entries-append marks more) ∙ sym
+    (append_assoc (entry_text mark) (entries_text marks) (entries_text more))
 
-pub no_shape : (x y z v w : List ℕ) (parts : List (List ℕ)) → 0 < length parts → shape_of (x ∷ y ∷ z ∷ v ∷ w ∷ parts) ≡ None
+pub no_shape : (x y z v w : List ℕ) (parts : List (List ℕ)) → 0 < length parts
+    → shape_of (x ∷ y ∷ z ∷ v ∷ w ∷ parts) ≡ None
 no_shape x y z v w [] h = absurd (omega arith)
 no_shape x y z v w (part ∷ parts) h = refl
 
 -- a line that is ended has lines after it
-pub line_more : {T : Type 0} (none : T) (make : List ℕ → List (List ℕ) → T) (line : List ℕ) (rest : List (List ℕ)) → 0 < length rest → with_line none make (line ∷ rest) ≡ make line rest
+pub line_more : {T : Type 0} (none : T) (make : List ℕ → List (List ℕ) → T) (line : List ℕ) (rest : List (List ℕ))
+    → 0 < length rest → with_line none make (line ∷ rest) ≡ make line rest
 line_more none make line [] h = absurd (omega arith)
 line_more none make line (next ∷ lines) h = refl
 
 -- numbers after others
 pub spaced-append : (ns more : List ℕ) → spaced (ns ++ more) ≡ spaced ns ++ spaced more
 spaced-append [] more = refl
-spaced-append (n ∷ ns) more = ap (λ l. codes " " ++ (decimal n ++ l)) (spaced-append ns more) ∙ ap (λ l. codes " " ++ l) (sym (append_assoc (decimal n) (spaced ns) (spaced more))) ∙ sym (append_assoc (codes " ") (decimal n ++ spaced ns) (spaced more))
+spaced-append (n ∷ ns) more =
+    ap (λ l. codes " " ++ (decimal n ++ l)) (spaced-append ns more) ∙ ap (λ l. codes " " ++ l)
+    (sym (append_assoc (decimal n) (spaced ns) (spaced more))) ∙ sym
+    (append_assoc (codes " ") (decimal n ++ spaced ns) (spaced more))
 
 -- five pieces after what there was, of which the second to the fourth came together
 pub joined : (old title shape demands beat entries end : List ℕ)
-    → (((old ++ title) ++ (shape ++ (demands ++ beat))) ++ entries) ++ end ≡ old ++ (title ++ (shape ++ (demands ++ (beat ++ (entries ++ end)))))
+    → (((old ++ title) ++ (shape ++ (demands ++ beat))) ++ entries) ++ end
+    ≡ old ++ (title ++ (shape ++ (demands ++ (beat ++ (entries ++ end)))))
 joined old title shape demands beat entries end =
     append_assoc ((old ++ title) ++ (shape ++ (demands ++ beat))) entries end
     ∙ append_assoc (old ++ title) (shape ++ (demands ++ beat)) (entries ++ end)

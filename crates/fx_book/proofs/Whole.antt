@@ -1,5 +1,6 @@
 -- A whole book that was written is read.
-use Rattle.std.proofs.Common.{◌≡◌, ℕ, ◌+◌, ◌^◌, ◌<◌, ◌≤◌, Bool, true, ltb, List, [], ◌∷◌, ◌++◌, length, Option, Some, None, Ok, Err, refl, sym, ap, ◌∙◌, arith, append_assoc, eq-eqb, le-ltb, if◌then◌else◌}
+use Rattle.std.proofs.Common.{◌≡◌, ℕ, ◌+◌, ◌^◌, ◌<◌, ◌≤◌, Bool, true, ltb, List, [], ◌∷◌, ◌++◌, length, Option, Some}
+use Rattle.std.proofs.Common.{None, Ok, Err, refl, sym, ap, ◌∙◌, arith, append_assoc, eq-eqb, le-ltb, if◌then◌else◌}
 use Rattle.std.specs.Prelude.{codes}
 use Rattle.std.specs.List.{AllByRecursion}
 use Rattle.std.specs.Option.{is_some}
@@ -20,13 +21,15 @@ use Rattle.fx_book.specs.Parts.{split}
 use Rattle.fx_book.specs.Entries.{entries_text}
 use Rattle.fx_book.specs.Reading.{entries}
 use Rattle.fx_book.specs.Demands.{demands_of}
-use Rattle.fx_book.specs.Heads.{book_of, from_size, from_demands, from_beat, with_shape, with_demands, with_beat, with_marks, shape_of, beat_of, may_be_beaten}
+use Rattle.fx_book.specs.Heads.{book_of, from_size, from_demands, from_beat, with_shape, with_demands, with_beat}
+use Rattle.fx_book.specs.Heads.{with_marks, shape_of, beat_of, may_be_beaten}
 use Rattle.fx_book.specs.Writing.{spaced, shape_text, demands_text, beat_text, book_text}
 use Rattle.fx_book.specs.Valid.{AreFew, IsEntry, IsBeat, IsValidBook}
 use Rattle.fx_book.proofs.Splits.{some_parts}
 use Rattle.fx_book.proofs.Lines.{line_more}
 use Rattle.fx_book.proofs.Back.{Without, split_line, without-append, entries_back}
-use Rattle.fx_book.proofs.Books.{one_line, wide_shape, shape_back, resolution_back, effects_back, each_number, small, pattern_back, wider}
+use Rattle.fx_book.proofs.Books.{one_line, wide_shape, shape_back, resolution_back, effects_back, each_number, small}
+use Rattle.fx_book.proofs.Books.{pattern_back, wider}
 
 least_is : (s : ℕ) (least : Bool) (beat : Option (List ℕ)) → IsBeat s least beat → is_some beat ≡ least
 least_is s least None h = sym h
@@ -58,7 +61,8 @@ module _ (book : Book) (valid : IsValidBook book) where
   marks_back : entries (dimensions_of shape) (is_some beat) 5 (split 10 after_beat) ≡ Ok book.marks
   marks_back =
       entries_back (dimensions_of shape) (is_some beat) valid.question.shaped.runs
-      (numbers_fit shape.q (shape.s + shape.t) (order-bounds shape.q valid.question.shaped.order).1 (rows_fit shape valid.question.shaped))
+      (numbers_fit shape.q (shape.s + shape.t) (order-bounds shape.q valid.question.shaped.order).1
+      (rows_fit shape valid.question.shaped))
       book.marks 5 (recursion_from_All (IsEntry (dimensions_of shape) (is_some beat)) book.marks valid.marks)
 
   may : book.head.question.least ≡ true → may_be_beaten shape asked ≡ true
@@ -66,26 +70,35 @@ module _ (book : Book) (valid : IsValidBook book) where
 
   -- the line of the pattern, and what follows it
   beat_cut : (beat : Option (List ℕ)) (rest : List ℕ) → IsBeat shape.s book.head.question.least beat
-      → (line : List ℕ) × (split 10 (beat_text beat ++ rest) ≡ line ∷ split 10 rest) × (beat_of shape.s (may_be_beaten shape asked) line ≡ Some beat)
+      → (line : List ℕ) × (split 10 (beat_text beat ++ rest) ≡ line ∷ split 10 rest)
+      × (beat_of shape.s (may_be_beaten shape asked) line ≡ Some beat)
   beat_cut None rest h = (codes "pattern none", refl, refl)
   beat_cut (Some pattern) rest h =
       let each : AllByRecursion (λ a. a < 2 ^ 127) pattern = recursion_from_All (λ a. a < 2 ^ 127) pattern h.2 in
       let line : List ℕ = codes "pattern" ++ spaced pattern in
-      let own : Without 10 line = (refl, (refl, (refl, (refl, (refl, (refl, (refl, one_line pattern (wider pattern each)))))))) in (
+      let own : Without 10 line =
+      (refl, (refl, (refl, (refl, (refl, (refl, (refl, one_line pattern (wider pattern each)))))))) in (
         line,
-        ap (λ l. split 10 (codes "pattern" ++ l)) (append_assoc (spaced pattern) (10 ∷ []) rest) ∙ split_line 10 line rest own,
-        ap (λ b. beat_of shape.s b line) (may h.0) ∙ pattern_back shape.s pattern valid.question.shaped.some_factors h.1 each,
+        ap (λ l. split 10 (codes "pattern" ++ l)) (append_assoc (spaced pattern) (10 ∷ []) rest) ∙ split_line 10 line
+            rest own,
+        ap (λ b. beat_of shape.s b line) (may h.0) ∙ pattern_back shape.s pattern valid.question.shaped.some_factors h.1
+            each,
       )
 
   -- the line of the demands, and what follows it
-  demands_cut : (asked : Demands) (rest : List ℕ) → CanBeAsked (dimensions_of shape) (requirement_of asked) → AreFew asked
-      → (line : List ℕ) × (split 10 (demands_text asked ++ rest) ≡ line ∷ split 10 rest) × (demands_of shape (split 32 line) ≡ Some asked)
+  demands_cut : (asked : Demands) (rest : List ℕ) → CanBeAsked (dimensions_of shape) (requirement_of asked)
+      → AreFew asked
+      → (line : List ℕ) × (split 10 (demands_text asked ++ rest) ≡ line ∷ split 10 rest)
+      × (demands_of shape (split 32 line) ≡ Some asked)
   demands_cut (Resolution r) rest h few =
       let line : List ℕ = codes "resolution" ++ spaced (r ∷ []) in
       let small : r < 2 ^ 128 = omega (arith, h.1) in
-      let own : Without 10 line = (refl, (refl, (refl, (refl, (refl, (refl, (refl, (refl, (refl, (refl, one_line (r ∷ []) (small, tt))))))))))) in (
+      let own : Without 10 line =
+      (refl, (refl, (refl, (refl, (refl, (refl, (refl, (refl, (refl, (refl, one_line (r ∷ []) (small, tt)))))))))))
+      in (
         line,
-        ap (λ l. split 10 (codes "resolution" ++ l)) (append_assoc (spaced (r ∷ [])) (10 ∷ []) rest) ∙ split_line 10 line rest own,
+        ap (λ l. split 10 (codes "resolution" ++ l)) (append_assoc (spaced (r ∷ [])) (10 ∷ []) rest) ∙ split_line 10
+            line rest own,
         resolution_back shape r h.0 h.1,
       )
   demands_cut (Effects estimate others) rest h few =
@@ -94,10 +107,25 @@ module _ (book : Book) (valid : IsValidBook book) where
       let short = valid.question.shaped.factors in
       let line : List ℕ = codes "effects" ++ (spaced ns ++ (codes " /" ++ spaced ms)) in
       let mine : Without 10 (spaced ns) = one_line ns (small shape.s ns short (each_number shape.s ns h.estimated)) in
-      let theirs : Without 10 (codes " /" ++ spaced ms) = (refl, (refl, one_line ms (small shape.s ms short (each_number shape.s ms h.others)))) in
-      let own : Without 10 line = (refl, (refl, (refl, (refl, (refl, (refl, (refl, without-append 10 (spaced ns) (codes " /" ++ spaced ms) mine theirs))))))) in
-      let text : (spaced ns ++ (codes " /" ++ (spaced ms ++ codes "\n"))) ++ rest ≡ (spaced ns ++ (codes " /" ++ spaced ms)) ++ 10 ∷ rest =
-      append_assoc (spaced ns) (codes " /" ++ (spaced ms ++ codes "\n")) rest ∙ ap (λ l. spaced ns ++ (codes " /" ++ l)) (append_assoc (spaced ms) (10 ∷ []) rest)
+      let theirs : Without 10 (codes " /" ++ spaced ms) =
+      (refl, (refl, one_line ms (small shape.s ms short (each_number shape.s ms h.others)))) in
+      let own : Without 10 line = (
+        refl,
+        (
+          refl,
+          (
+            refl,
+            (
+              refl,
+              (refl, (refl, (refl, without-append 10 (spaced ns) (codes " /" ++ spaced ms) mine theirs))),
+            ),
+          ),
+        ),
+      ) in
+      let text : (spaced ns ++ (codes " /" ++ (spaced ms ++ codes "\n"))) ++ rest
+      ≡ (spaced ns ++ (codes " /" ++ spaced ms)) ++ 10 ∷ rest =
+      append_assoc (spaced ns) (codes " /" ++ (spaced ms ++ codes "\n")) rest ∙ ap (λ l. spaced ns ++ (codes " /" ++ l))
+      (append_assoc (spaced ms) (10 ∷ []) rest)
       ∙ sym (append_assoc (spaced ns) (codes " /" ++ spaced ms) (10 ∷ rest)) in (
         line,
         ap (λ l. split 10 (codes "effects" ++ l)) text ∙ split_line 10 line rest own,
@@ -108,30 +136,43 @@ module _ (book : Book) (valid : IsValidBook book) where
   from_beat_back =
       let cut = beat_cut beat after_beat valid.beat in
       ap (from_beat shape asked) cut.1
-      ∙ line_more (Err (fault kind.Pattern 4)) (λ line rest. with_beat shape asked rest (beat_of shape.s (may_be_beaten shape asked) line)) cut.0 (split 10 after_beat) (some_parts 10 after_beat)
+      ∙ line_more (Err (fault kind.Pattern 4))
+      (λ line rest. with_beat shape asked rest (beat_of shape.s (may_be_beaten shape asked) line)) cut.0
+      (split 10 after_beat) (some_parts 10 after_beat)
       ∙ ap (with_beat shape asked (split 10 after_beat)) cut.2 ∙ ap (with_marks shape asked beat) marks_back
-      ∙ ap (λ (least : Bool). Ok (record { head = record { question = record { shape = shape; demands = asked; least = least }; beat = beat }; marks = book.marks }))
+      ∙ ap (λ (least : Bool). Ok
+      (record {
+        head = record { question = record { shape = shape; demands = asked; least = least }; beat = beat };
+        marks = book.marks;
+      }))
       (least_is shape.s book.head.question.least beat valid.beat)
 
   from_demands_back : from_demands shape (split 10 after_shape) ≡ from_beat shape asked (split 10 after_demands)
   from_demands_back =
       let cut = demands_cut asked after_demands valid.question.asked valid.few_effects in
       ap (from_demands shape) cut.1
-      ∙ line_more (Err (fault kind.Demands 3)) (λ line rest. with_demands shape rest (demands_of shape (split 32 line))) cut.0 (split 10 after_demands) (some_parts 10 after_demands)
+      ∙ line_more (Err (fault kind.Demands 3)) (λ line rest. with_demands shape rest (demands_of shape (split 32 line)))
+      cut.0 (split 10 after_demands) (some_parts 10 after_demands)
       ∙ ap (with_demands shape (split 10 after_demands)) cut.2
 
   from_size_back : from_size (split 10 after_title) ≡ from_demands shape (split 10 after_shape)
   from_size_back =
       let numbers : List ℕ = shape.q ∷ shape.m ∷ shape.s ∷ shape.t ∷ [] in
       let line : List ℕ = codes "size" ++ spaced numbers in
-      let own : Without 10 line = (refl, (refl, (refl, (refl, one_line numbers (wide_shape shape valid.question.shaped))))) in
-      ap from_size (ap (λ l. split 10 (codes "size" ++ l)) (append_assoc (spaced numbers) (10 ∷ []) after_shape) ∙ split_line 10 line after_shape own)
-      ∙ line_more (Err (fault kind.Size 2)) (λ line rest. with_shape rest (shape_of (split 32 line))) line (split 10 after_shape) (some_parts 10 after_shape)
+      let own : Without 10 line =
+      (refl, (refl, (refl, (refl, one_line numbers (wide_shape shape valid.question.shaped))))) in
+      ap from_size
+      (ap (λ l. split 10 (codes "size" ++ l)) (append_assoc (spaced numbers) (10 ∷ []) after_shape) ∙ split_line 10
+      line after_shape own)
+      ∙ line_more (Err (fault kind.Size 2)) (λ line rest. with_shape rest (shape_of (split 32 line))) line
+      (split 10 after_shape) (some_parts 10 after_shape)
       ∙ ap (with_shape (split 10 after_shape)) (shape_back shape valid.question.shaped)
 
   pub written_back : length (book_text book) ≤ 268435456 → book_of (book_text book) ≡ Ok book
   unfolding book_of
   written_back few =
       cond-false (ltb 268435456 (length (book_text book))) _ _ (le-ltb _ _ few)
-      ∙ line_more (Err (fault kind.Title 1)) (λ line rest. if bytes_eq line (codes "factex-book 1") then from_size rest else Err (fault kind.Title 1)) (codes "factex-book 1") (split 10 after_title) (some_parts 10 after_title)
+      ∙ line_more (Err (fault kind.Title 1))
+      (λ line rest. if bytes_eq line (codes "factex-book 1") then from_size rest else Err (fault kind.Title 1))
+      (codes "factex-book 1") (split 10 after_title) (some_parts 10 after_title)
       ∙ from_size_back ∙ from_demands_back ∙ from_beat_back

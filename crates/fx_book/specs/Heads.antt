@@ -1,5 +1,6 @@
 -- The first four lines of a book, and the whole.
-use Rattle.std.specs.Prelude.{ℕ, ◌==◌, ◌^◌, ◌&&◌, ◌||◌, nat_lt, nat_le, Bool, if◌then◌else◌, List, [], ◌∷◌, length, codes, Option, Some, None, Result, Ok, Err}
+use Rattle.std.specs.Prelude.{ℕ, ◌==◌, ◌^◌, ◌&&◌, ◌||◌, nat_lt, nat_le, Bool, if◌then◌else◌, List, [], ◌∷◌, length}
+use Rattle.std.specs.Prelude.{codes, Option, Some, None, Result, Ok, Err}
 use Rattle.std.specs.Option.{is_some}
 use Rattle.std.specs.Str.{bytes_eq}
 use Rattle.fx_designs.specs.Galois.{is_order}
@@ -19,14 +20,18 @@ use Rattle.fx_book.specs.Reading.{entries}
 -- within the limits of a shape
 abbrev pub is_shape : ℕ → ℕ → ℕ → ℕ → Bool
 is_shape q m s t =
-    is_order q && (nat_le 1 m && (nat_le m 10 && (nat_le (q ^ m) 1024 && (nat_le 1 s && (nat_le s 40 && (nat_le t 10 && ((t == 0) || nat_le s 30)))))))
+    is_order q
+    && (nat_le 1 m
+    && (nat_le m 10
+    && (nat_le (q ^ m) 1024 && (nat_le 1 s && (nat_le s 40 && (nat_le t 10 && ((t == 0) || nat_le s 30)))))))
 
 abbrev pub shape_from : Option ℕ → Option ℕ → Option ℕ → Option ℕ → Option Shape
 shape_from None m s t = None
 shape_from (Some q) None s t = None
 shape_from (Some q) (Some m) None t = None
 shape_from (Some q) (Some m) (Some s) None = None
-shape_from (Some q) (Some m) (Some s) (Some t) = (if is_shape q m s t then Some (record { q = q; m = m; s = s; t = t }) else None)
+shape_from (Some q) (Some m) (Some s) (Some t) =
+    (if is_shape q m s t then Some (record { q = q; m = m; s = s; t = t }) else None)
 
 -- the shape of the parts of line 2
 abbrev pub shape_of : List (List ℕ) → Option Shape
@@ -35,7 +40,8 @@ shape_of (word ∷ []) = None
 shape_of (word ∷ q ∷ []) = None
 shape_of (word ∷ q ∷ m ∷ []) = None
 shape_of (word ∷ q ∷ m ∷ s ∷ []) = None
-shape_of (word ∷ q ∷ m ∷ s ∷ t ∷ []) = (if bytes_eq word (codes "size") then shape_from (number_of q) (number_of m) (number_of s) (number_of t) else None)
+shape_of (word ∷ q ∷ m ∷ s ∷ t ∷ []) =
+    (if bytes_eq word (codes "size") then shape_from (number_of q) (number_of m) (number_of s) (number_of t) else None)
 shape_of (word ∷ q ∷ m ∷ s ∷ t ∷ other ∷ others) = None
 
 -- whether there may be a pattern to beat: under a resolution, without block factors
@@ -49,11 +55,13 @@ whole_pattern s (Some pattern) = (if length pattern == s then Some (Some pattern
 
 abbrev pub beat_from : ℕ → Bool → List (List ℕ) → Option (Option (List ℕ))
 beat_from s allowed [] = None
-beat_from s allowed (word ∷ parts) = (if bytes_eq word (codes "pattern") && allowed then whole_pattern s (numbers_of_parts 0 (2 ^ 127) parts) else None)
+beat_from s allowed (word ∷ parts) =
+    (if bytes_eq word (codes "pattern") && allowed then whole_pattern s (numbers_of_parts 0 (2 ^ 127) parts) else None)
 
 -- the pattern to beat of line 4: none, or one of entries below 2^127, where it is allowed
 abbrev pub beat_of : ℕ → Bool → List ℕ → Option (Option (List ℕ))
-beat_of s allowed line = (if bytes_eq line (codes "pattern none") then Some None else beat_from s allowed (parts_of line))
+beat_of s allowed line =
+    (if bytes_eq line (codes "pattern none") then Some None else beat_from s allowed (parts_of line))
 
 -- what is made of a first line that is ended and the lines after it
 abbrev pub with_line : {T : Type 0} → T → (List ℕ → List (List ℕ) → T) → List (List ℕ) → T
@@ -61,25 +69,32 @@ with_line none make [] = none
 with_line none make (line ∷ []) = none
 with_line none make (line ∷ next ∷ lines) = make line (next ∷ lines)
 
-abbrev pub with_marks : Shape → demands.Demands → Option (List ℕ) → Result (List nodes.Mark) BookFault → Result Book BookFault
+abbrev pub with_marks : Shape → demands.Demands → Option (List ℕ) → Result (List nodes.Mark) BookFault
+    → Result Book BookFault
 with_marks shape asked beat (Err stop) = Err stop
 with_marks shape asked beat (Ok marks) =
-    Ok (record { head = record { question = record { shape = shape; demands = asked; least = is_some beat }; beat = beat }; marks = marks })
+    Ok (record {
+      head = record { question = record { shape = shape; demands = asked; least = is_some beat }; beat = beat };
+      marks = marks;
+    })
 
 abbrev pub with_beat : Shape → demands.Demands → List (List ℕ) → Option (Option (List ℕ)) → Result Book BookFault
 with_beat shape asked lines None = Err (fault Pattern 4)
-with_beat shape asked lines (Some beat) = with_marks shape asked beat (entries (dimensions_of shape) (is_some beat) 5 lines)
+with_beat shape asked lines (Some beat) =
+    with_marks shape asked beat (entries (dimensions_of shape) (is_some beat) 5 lines)
 
 abbrev pub from_beat : Shape → demands.Demands → List (List ℕ) → Result Book BookFault
 from_beat shape asked lines =
-    with_line (Err (fault Pattern 4)) (λ line rest. with_beat shape asked rest (beat_of shape.s (may_be_beaten shape asked) line)) lines
+    with_line (Err (fault Pattern 4))
+    (λ line rest. with_beat shape asked rest (beat_of shape.s (may_be_beaten shape asked) line)) lines
 
 abbrev pub with_demands : Shape → List (List ℕ) → Option demands.Demands → Result Book BookFault
 with_demands shape lines None = Err (fault Demands 3)
 with_demands shape lines (Some asked) = from_beat shape asked lines
 
 abbrev pub from_demands : Shape → List (List ℕ) → Result Book BookFault
-from_demands shape lines = with_line (Err (fault Demands 3)) (λ line rest. with_demands shape rest (demands_of shape (parts_of line))) lines
+from_demands shape lines =
+    with_line (Err (fault Demands 3)) (λ line rest. with_demands shape rest (demands_of shape (parts_of line))) lines
 
 abbrev pub with_shape : List (List ℕ) → Option Shape → Result Book BookFault
 with_shape lines None = Err (fault Size 2)
@@ -89,7 +104,9 @@ abbrev pub from_size : List (List ℕ) → Result Book BookFault
 from_size lines = with_line (Err (fault Size 2)) (λ line rest. with_shape rest (shape_of (parts_of line))) lines
 
 abbrev pub from_title : List (List ℕ) → Result Book BookFault
-from_title lines = with_line (Err (fault Title 1)) (λ line rest. if bytes_eq line (codes "factex-book 1") then from_size rest else Err (fault Title 1)) lines
+from_title lines =
+    with_line (Err (fault Title 1))
+    (λ line rest. if bytes_eq line (codes "factex-book 1") then from_size rest else Err (fault Title 1)) lines
 
 -- the book that a text is, or its first fault
 unfoldable pub book_of : List ℕ → Result Book BookFault

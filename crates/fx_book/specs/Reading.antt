@@ -1,5 +1,6 @@
 -- What is read from the lines of a book: its marks, or the first fault.
-use Rattle.std.specs.Prelude.{ℕ, ◌≡◌, ◌==◌, ◌+◌, Bool, true, false, if◌then◌else◌, List, [], ◌∷◌, ◌++◌, length, codes, Result, Ok, Err}
+use Rattle.std.specs.Prelude.{ℕ, ◌≡◌, ◌==◌, ◌+◌, Bool, true, false, if◌then◌else◌, List, [], ◌∷◌, ◌++◌, length, codes}
+use Rattle.std.specs.Prelude.{Result, Ok, Err}
 use Rattle.std.specs.Str.{bytes_eq}
 use Rattle.fx_designs.specs.Problems.{Dimensions}
 use Rattle.fx_designs.specs.Nodes as nodes
@@ -15,7 +16,8 @@ use Rattle.fx_book.specs.Parts.{parts_of}
 use Rattle.fx_book.specs.Entries.{entry_of}
 
 -- a mark before others, or the fault in its line, or the first one after it
-abbrev pub after_entry : ℕ → Result Mark FaultKind → Result (List nodes.Mark) BookFault → Result (List nodes.Mark) BookFault
+abbrev pub after_entry : ℕ → Result Mark FaultKind → Result (List nodes.Mark) BookFault
+    → Result (List nodes.Mark) BookFault
 after_entry line (Err kind) rest = Err (fault kind line)
 after_entry line (Ok mark) (Ok marks) = Ok (meaning_of mark ∷ marks)
 after_entry line (Ok mark) (Err stop) = Err stop
@@ -26,7 +28,8 @@ is_nothing [] = true
 is_nothing (line ∷ []) = length line == 0
 is_nothing (line ∷ next ∷ lines) = false
 
--- The marks of lines up to `END`, where the first of them has this number. The last of the lines is what no byte 10 ends.
+-- The marks of lines up to `END`, where the first of them has this number. The last of the lines is what no byte 10
+-- ends.
 abbrev pub entries : Dimensions → Bool → ℕ → List (List ℕ) → Result (List nodes.Mark) BookFault
 entries d beaten number [] = Err (fault Unfinished number)
 entries d beaten number (line ∷ []) = Err (fault Unfinished number)

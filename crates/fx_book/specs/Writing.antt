@@ -22,7 +22,9 @@ shape_text shape = codes "size" ++ (spaced (shape.q ∷ shape.m ∷ shape.s ∷ 
 
 abbrev pub demands_text : Demands → List ℕ
 demands_text (Resolution r) = codes "resolution" ++ (spaced (r ∷ []) ++ codes "\n")
-demands_text (Effects estimate nonnegligible) = codes "effects" ++ (spaced (numbers_of estimate) ++ (codes " /" ++ (spaced (numbers_of nonnegligible) ++ codes "\n")))
+demands_text (Effects estimate nonnegligible) =
+    codes "effects"
+    ++ (spaced (numbers_of estimate) ++ (codes " /" ++ (spaced (numbers_of nonnegligible) ++ codes "\n")))
 
 abbrev pub beat_text : Option (List ℕ) → List ℕ
 beat_text None = codes "pattern none\n"
@@ -34,4 +36,7 @@ head_text head = shape_text head.question.shape ++ (demands_text head.question.d
 
 abbrev pub book_text : Book → List ℕ
 book_text book =
-    codes "factex-book 1\n" ++ (shape_text book.head.question.shape ++ (demands_text book.head.question.demands ++ (beat_text book.head.beat ++ (entries_text book.marks ++ codes "END\n"))))
+    codes "factex-book 1\n"
+    ++ (shape_text book.head.question.shape
+    ++ (demands_text book.head.question.demands
+    ++ (beat_text book.head.beat ++ (entries_text book.marks ++ codes "END\n"))))

@@ -1,11 +1,14 @@
 -- The definitions, computed on small designs whose answers are known, notion by notion.
 use Rattle.std.proofs.Common.{ℕ, ◌≡◌, Bool, true, false, [], ◌∷◌, map, Some, None, refl}
 use Rattle.fx_designs.specs.Galois.{prime_of, degree_of, reduction_of, add, mul, neg, inv, digits, number, is_order}
-use Rattle.fx_designs.specs.Vectors.{weight, last_nonzero, is_normal, is_zero, same, dot, plus, minus, scale, combination, vectors_of}
-use Rattle.fx_designs.specs.Runs.{points, runs_of, is_constant, is_balanced, block, are_blocks_even, is_balanced_in_blocks, is_constant_in_blocks}
+use Rattle.fx_designs.specs.Vectors.{weight, last_nonzero, is_normal, is_zero, same, dot, plus, minus, scale}
+use Rattle.fx_designs.specs.Vectors.{combination, vectors_of}
+use Rattle.fx_designs.specs.Runs.{points, runs_of, is_constant, is_balanced, block, are_blocks_even}
+use Rattle.fx_designs.specs.Runs.{is_balanced_in_blocks, is_constant_in_blocks}
 use Rattle.fx_designs.specs.Spans.{in_span, rank_of}
 use Rattle.fx_designs.specs.Problems.{Dimensions, Requirement, AtResolution, ForEffects, Problem}
-use Rattle.fx_designs.specs.Demands.{runs, effect_of, is_of, is_told_from, must_balance, is_estimated, is_met, is_forbidden, padded, is_forbidden_word, is_allowed}
+use Rattle.fx_designs.specs.Demands.{runs, effect_of, is_of, is_told_from, must_balance, is_estimated, is_met}
+use Rattle.fx_designs.specs.Demands.{is_forbidden, padded, is_forbidden_word, is_allowed}
 use Rattle.fx_designs.specs.Patterns.{constant_words, pattern_of, resolution_of, is_less}
 use Rattle.fx_designs.specs.Canonical.{is_canonical}
 use Rattle.fx_designs.specs.Answers.{before, lists, designs, answer}
@@ -56,7 +59,8 @@ inverses = (refl, refl, refl, refl, refl, refl, refl)
 digits_and_orders :
     (digits 3 3 5 ≡ 2 ∷ 1 ∷ 0 ∷ [])
     × (number 3 (2 ∷ 1 ∷ 0 ∷ []) ≡ 5)
-    × (map is_order (0 ∷ 1 ∷ 2 ∷ 3 ∷ 4 ∷ 5 ∷ 6 ∷ 7 ∷ 8 ∷ 9 ∷ 10 ∷ 11 ∷ []) ≡ false ∷ false ∷ true ∷ true ∷ true ∷ true ∷ false ∷ true ∷ true ∷ true ∷ false ∷ false ∷ [])
+    × (map is_order (0 ∷ 1 ∷ 2 ∷ 3 ∷ 4 ∷ 5 ∷ 6 ∷ 7 ∷ 8 ∷ 9 ∷ 10 ∷ 11 ∷ [])
+    ≡ false ∷ false ∷ true ∷ true ∷ true ∷ true ∷ false ∷ true ∷ true ∷ true ∷ false ∷ false ∷ [])
 digits_and_orders = (refl, refl, refl)
 
 -- Vectors
@@ -98,10 +102,17 @@ order_of_points = (refl, refl)
 
 -- the nine runs of three three-level factors with C = A^2*B, and four columns of the field of 4, of 8 and of 9 codes
 runs_of_rules :
-    (runs_of 3 2 ((1 ∷ 0 ∷ []) ∷ (0 ∷ 1 ∷ []) ∷ (2 ∷ 1 ∷ []) ∷ []) ≡ (0 ∷ 0 ∷ 0 ∷ []) ∷ (0 ∷ 1 ∷ 1 ∷ []) ∷ (0 ∷ 2 ∷ 2 ∷ []) ∷ (1 ∷ 0 ∷ 2 ∷ []) ∷ (1 ∷ 1 ∷ 0 ∷ []) ∷ (1 ∷ 2 ∷ 1 ∷ []) ∷ (2 ∷ 0 ∷ 1 ∷ []) ∷ (2 ∷ 1 ∷ 2 ∷ []) ∷ (2 ∷ 2 ∷ 0 ∷ []) ∷ [])
-    × (runs_of 4 1 ((1 ∷ []) ∷ (2 ∷ []) ∷ (3 ∷ []) ∷ []) ≡ (0 ∷ 0 ∷ 0 ∷ []) ∷ (1 ∷ 2 ∷ 3 ∷ []) ∷ (2 ∷ 3 ∷ 1 ∷ []) ∷ (3 ∷ 1 ∷ 2 ∷ []) ∷ [])
-    × (runs_of 8 1 ((1 ∷ []) ∷ (4 ∷ []) ∷ []) ≡ (0 ∷ 0 ∷ []) ∷ (1 ∷ 4 ∷ []) ∷ (2 ∷ 3 ∷ []) ∷ (3 ∷ 7 ∷ []) ∷ (4 ∷ 6 ∷ []) ∷ (5 ∷ 2 ∷ []) ∷ (6 ∷ 5 ∷ []) ∷ (7 ∷ 1 ∷ []) ∷ [])
-    × (runs_of 9 1 ((1 ∷ []) ∷ (3 ∷ []) ∷ []) ≡ (0 ∷ 0 ∷ []) ∷ (1 ∷ 3 ∷ []) ∷ (2 ∷ 6 ∷ []) ∷ (3 ∷ 7 ∷ []) ∷ (4 ∷ 1 ∷ []) ∷ (5 ∷ 4 ∷ []) ∷ (6 ∷ 5 ∷ []) ∷ (7 ∷ 8 ∷ []) ∷ (8 ∷ 2 ∷ []) ∷ [])
+    (runs_of 3 2 ((1 ∷ 0 ∷ []) ∷ (0 ∷ 1 ∷ []) ∷ (2 ∷ 1 ∷ []) ∷ [])
+    ≡ (0 ∷ 0 ∷ 0 ∷ []) ∷ (0 ∷ 1 ∷ 1 ∷ []) ∷ (0 ∷ 2 ∷ 2 ∷ []) ∷ (1 ∷ 0 ∷ 2 ∷ []) ∷ (1 ∷ 1 ∷ 0 ∷ []) ∷ (1 ∷ 2 ∷ 1 ∷ [])
+    ∷ (2 ∷ 0 ∷ 1 ∷ []) ∷ (2 ∷ 1 ∷ 2 ∷ []) ∷ (2 ∷ 2 ∷ 0 ∷ []) ∷ [])
+    × (runs_of 4 1 ((1 ∷ []) ∷ (2 ∷ []) ∷ (3 ∷ []) ∷ [])
+    ≡ (0 ∷ 0 ∷ 0 ∷ []) ∷ (1 ∷ 2 ∷ 3 ∷ []) ∷ (2 ∷ 3 ∷ 1 ∷ []) ∷ (3 ∷ 1 ∷ 2 ∷ []) ∷ [])
+    × (runs_of 8 1 ((1 ∷ []) ∷ (4 ∷ []) ∷ [])
+    ≡ (0 ∷ 0 ∷ []) ∷ (1 ∷ 4 ∷ []) ∷ (2 ∷ 3 ∷ []) ∷ (3 ∷ 7 ∷ []) ∷ (4 ∷ 6 ∷ []) ∷ (5 ∷ 2 ∷ []) ∷ (6 ∷ 5 ∷ [])
+    ∷ (7 ∷ 1 ∷ []) ∷ [])
+    × (runs_of 9 1 ((1 ∷ []) ∷ (3 ∷ []) ∷ [])
+    ≡ (0 ∷ 0 ∷ []) ∷ (1 ∷ 3 ∷ []) ∷ (2 ∷ 6 ∷ []) ∷ (3 ∷ 7 ∷ []) ∷ (4 ∷ 1 ∷ []) ∷ (5 ∷ 4 ∷ []) ∷ (6 ∷ 5 ∷ [])
+    ∷ (7 ∷ 8 ∷ []) ∷ (8 ∷ 2 ∷ []) ∷ [])
 unfolding prime_of degree_of reduction_of add mul neg runs_of
 runs_of_rules = (refl, refl, refl, refl)
 
@@ -114,7 +125,8 @@ constant_and_balanced :
     × (is_balanced 3 (1 ∷ []) ((0 ∷ []) ∷ (0 ∷ []) ∷ (1 ∷ []) ∷ (1 ∷ []) ∷ []) ≡ false)
     × (is_balanced 3 (1 ∷ []) ((0 ∷ []) ∷ (1 ∷ []) ∷ (1 ∷ []) ∷ (2 ∷ []) ∷ []) ≡ false)
     × (is_balanced 3 (1 ∷ []) ((0 ∷ []) ∷ (1 ∷ []) ∷ (2 ∷ []) ∷ (2 ∷ []) ∷ []) ≡ false)
-unfolding prime_of degree_of reduction_of add mul neg runs_of is_constant is_balanced are_blocks_even is_balanced_in_blocks is_constant_in_blocks
+unfolding prime_of degree_of reduction_of add mul neg runs_of is_constant is_balanced are_blocks_even
+    is_balanced_in_blocks is_constant_in_blocks
 constant_and_balanced = (refl, refl, refl, refl, refl, refl, refl)
 
 -- the block of the values (0, 1) has the number 2, at three levels the number 3
@@ -124,7 +136,8 @@ blocks_of_runs :
     × (are_blocks_even 2 1 2 ((0 ∷ 0 ∷ []) ∷ (0 ∷ 1 ∷ []) ∷ (1 ∷ 0 ∷ []) ∷ (1 ∷ 1 ∷ []) ∷ []) ≡ true)
     × (are_blocks_even 2 1 2 ((0 ∷ 0 ∷ []) ∷ (0 ∷ 0 ∷ []) ∷ (1 ∷ 0 ∷ []) ∷ (1 ∷ 1 ∷ []) ∷ []) ≡ false)
     × (are_blocks_even 2 1 4 ((0 ∷ 0 ∷ 0 ∷ []) ∷ (1 ∷ 0 ∷ 0 ∷ []) ∷ (0 ∷ 1 ∷ 0 ∷ []) ∷ (1 ∷ 1 ∷ 0 ∷ []) ∷ []) ≡ false)
-unfolding prime_of degree_of reduction_of add mul neg runs_of is_constant is_balanced are_blocks_even is_balanced_in_blocks is_constant_in_blocks
+unfolding prime_of degree_of reduction_of add mul neg runs_of is_constant is_balanced are_blocks_even
+    is_balanced_in_blocks is_constant_in_blocks
 blocks_of_runs = (refl, refl, refl, refl, refl)
 
 -- constant, and balanced, in the first block and not in the second, and the other way round
@@ -135,7 +148,8 @@ in_one_block :
     × (is_balanced_in_blocks 2 1 2 (1 ∷ []) ((0 ∷ 0 ∷ []) ∷ (0 ∷ 0 ∷ []) ∷ (0 ∷ 1 ∷ []) ∷ (1 ∷ 1 ∷ []) ∷ []) ≡ false)
     × (is_balanced_in_blocks 2 1 2 (1 ∷ []) ((0 ∷ 0 ∷ []) ∷ (1 ∷ 0 ∷ []) ∷ (0 ∷ 1 ∷ []) ∷ (0 ∷ 1 ∷ []) ∷ []) ≡ false)
     × (is_balanced_in_blocks 2 1 2 (1 ∷ []) ((0 ∷ 0 ∷ []) ∷ (1 ∷ 0 ∷ []) ∷ (0 ∷ 1 ∷ []) ∷ (1 ∷ 1 ∷ []) ∷ []) ≡ true)
-unfolding prime_of degree_of reduction_of add mul neg runs_of is_constant is_balanced are_blocks_even is_balanced_in_blocks is_constant_in_blocks
+unfolding prime_of degree_of reduction_of add mul neg runs_of is_constant is_balanced are_blocks_even
+    is_balanced_in_blocks is_constant_in_blocks
 in_one_block = (refl, refl, refl, refl, refl, refl)
 
 -- eight runs in two blocks by A*B*C: it is constant in each block, and A*B in neither
@@ -144,7 +158,8 @@ confounded_with_blocks :
     × (is_constant_in_blocks 2 3 2 (1 ∷ 1 ∷ 0 ∷ []) (runs (size 2 3 3 1) (1 ∷ 2 ∷ 4 ∷ 7 ∷ [])) ≡ false)
     × (is_balanced_in_blocks 2 3 2 (1 ∷ 1 ∷ 1 ∷ []) (runs (size 2 3 3 1) (1 ∷ 2 ∷ 4 ∷ 7 ∷ [])) ≡ false)
     × (is_balanced_in_blocks 2 3 2 (1 ∷ 1 ∷ 0 ∷ []) (runs (size 2 3 3 1) (1 ∷ 2 ∷ 4 ∷ 7 ∷ [])) ≡ true)
-unfolding prime_of degree_of reduction_of add mul neg runs_of is_constant is_balanced are_blocks_even is_balanced_in_blocks is_constant_in_blocks
+unfolding prime_of degree_of reduction_of add mul neg runs_of is_constant is_balanced are_blocks_even
+    is_balanced_in_blocks is_constant_in_blocks
 confounded_with_blocks = (refl, refl, refl, refl)
 
 -- Spans
@@ -234,7 +249,9 @@ five_factors :
     × (is_met (size 2 3 5 0) (AtResolution 4) (1 ∷ 2 ∷ 4 ∷ 7 ∷ 5 ∷ []) ≡ false)
     × (is_allowed (size 2 3 5 0) (AtResolution 4) (1 ∷ 2 ∷ 4 ∷ 7 ∷ 3 ∷ []) ≡ false)
     × (is_met (size 2 3 5 0) (AtResolution 4) (1 ∷ 2 ∷ 4 ∷ 7 ∷ 3 ∷ []) ≡ false)
-unfolding prime_of degree_of reduction_of add mul neg inv runs_of is_constant is_balanced are_blocks_even is_balanced_in_blocks is_constant_in_blocks in_span must_balance is_estimated is_met is_allowed constant_words pattern_of is_canonical lists designs answer
+unfolding prime_of degree_of reduction_of add mul neg inv runs_of is_constant is_balanced are_blocks_even
+    is_balanced_in_blocks is_constant_in_blocks in_span must_balance is_estimated is_met is_allowed constant_words
+    pattern_of is_canonical lists designs answer
 five_factors = (refl, refl, refl, refl, refl, refl, refl)
 
 -- a factor at one level, and one factor of four, eight and nine levels
@@ -244,7 +261,8 @@ one_factor :
     × (is_met (size 8 1 1 0) (AtResolution 3) (1 ∷ []) ≡ true)
     × (is_met (size 9 1 1 0) (AtResolution 3) (1 ∷ []) ≡ true)
     × (is_met (size 4 1 2 0) (AtResolution 3) (1 ∷ 2 ∷ []) ≡ false)
-unfolding prime_of degree_of reduction_of add mul neg runs_of is_constant is_balanced are_blocks_even is_balanced_in_blocks is_constant_in_blocks must_balance is_estimated is_met
+unfolding prime_of degree_of reduction_of add mul neg runs_of is_constant is_balanced are_blocks_even
+    is_balanced_in_blocks is_constant_in_blocks must_balance is_estimated is_met
 one_factor = (refl, refl, refl, refl, refl)
 
 -- three factors in eight runs in two and four blocks: interactions of block rules count as block effects
@@ -261,7 +279,9 @@ in_blocks :
     × (is_canonical (size 2 3 2 1) (AtResolution 3) (1 ∷ 2 ∷ 7 ∷ []) ≡ false)
     × (is_allowed (size 2 3 3 1) (AtResolution 3) (1 ∷ 2 ∷ 4 ∷ 7 ∷ []) ≡ true)
     × (is_allowed (size 2 3 3 1) (AtResolution 3) (1 ∷ 2 ∷ 4 ∷ 4 ∷ []) ≡ false)
-unfolding prime_of degree_of reduction_of add mul neg inv runs_of is_constant is_balanced are_blocks_even is_balanced_in_blocks is_constant_in_blocks in_span must_balance is_estimated is_met is_allowed constant_words pattern_of is_canonical lists designs answer
+unfolding prime_of degree_of reduction_of add mul neg inv runs_of is_constant is_balanced are_blocks_even
+    is_balanced_in_blocks is_constant_in_blocks in_span must_balance is_estimated is_met is_allowed constant_words
+    pattern_of is_canonical lists designs answer
 in_blocks = (refl, refl, refl, refl, refl, refl, refl, refl, refl, refl, refl, refl)
 
 -- at resolution 4 an interaction may be confounded with blocks, at resolution 5 it may not; each block has equally
@@ -273,7 +293,8 @@ more_blocks :
     × (is_met (size 2 3 1 2) (AtResolution 3) (1 ∷ 2 ∷ 2 ∷ []) ≡ false)
     × (is_met (size 3 2 1 1) (AtResolution 3) (1 ∷ 3 ∷ []) ≡ true)
     × (is_met (size 3 2 1 1) (AtResolution 3) (1 ∷ 2 ∷ []) ≡ false)
-unfolding prime_of degree_of reduction_of add mul neg runs_of is_constant is_balanced are_blocks_even is_balanced_in_blocks is_constant_in_blocks must_balance is_estimated is_met
+unfolding prime_of degree_of reduction_of add mul neg runs_of is_constant is_balanced are_blocks_even
+    is_balanced_in_blocks is_constant_in_blocks must_balance is_estimated is_met
 more_blocks = (refl, refl, refl, refl, refl, refl)
 
 -- effects: of A, B, C and A*B, nothing is asked of D; two main effects in two runs are aliased
@@ -287,14 +308,17 @@ for_effects :
     × (answer (problem (size 2 1 1 0) (AtResolution 3) false) ≡ Some (1 ∷ []))
     × (is_canonical (size 2 2 2 0) (ForEffects (1 ∷ []) ([])) (0 ∷ []) ≡ false)
     × (is_canonical (size 2 1 2 0) (ForEffects (1 ∷ []) ([])) (0 ∷ []) ≡ true)
-unfolding prime_of degree_of reduction_of add mul neg inv runs_of is_constant is_balanced are_blocks_even is_balanced_in_blocks is_constant_in_blocks in_span must_balance is_estimated is_met is_allowed constant_words pattern_of is_canonical lists designs answer
+unfolding prime_of degree_of reduction_of add mul neg inv runs_of is_constant is_balanced are_blocks_even
+    is_balanced_in_blocks is_constant_in_blocks in_span must_balance is_estimated is_met is_allowed constant_words
+    pattern_of is_canonical lists designs answer
 for_effects = (refl, refl, refl, refl, refl, refl, refl, refl, refl)
 
 -- at three levels the two components of A*B are A where B stays at one level, and so cannot be told apart
 components_of_one_effect :
     (is_met (size 3 1 2 0) (ForEffects (3 ∷ []) []) (1 ∷ 0 ∷ []) ≡ false)
     × (is_met (size 3 2 2 0) (ForEffects (3 ∷ []) []) (1 ∷ 3 ∷ []) ≡ true)
-unfolding prime_of degree_of reduction_of add mul neg runs_of is_constant is_balanced are_blocks_even is_balanced_in_blocks is_constant_in_blocks must_balance is_estimated is_met
+unfolding prime_of degree_of reduction_of add mul neg runs_of is_constant is_balanced are_blocks_even
+    is_balanced_in_blocks is_constant_in_blocks must_balance is_estimated is_met
 components_of_one_effect = (refl, refl)
 
 -- effects in blocks: those to be estimated are kept from blocks, those that are not negligible are not
@@ -303,7 +327,8 @@ effects_in_blocks :
     × (is_met (size 2 2 2 1) (ForEffects (1 ∷ 2 ∷ []) []) (1 ∷ 2 ∷ 2 ∷ []) ≡ false)
     × (is_met (size 2 2 2 1) (ForEffects (1 ∷ []) (2 ∷ [])) (1 ∷ 2 ∷ 2 ∷ []) ≡ true)
     × (is_met (size 2 2 2 1) (ForEffects (1 ∷ []) (2 ∷ [])) (1 ∷ 2 ∷ 1 ∷ []) ≡ false)
-unfolding prime_of degree_of reduction_of add mul neg runs_of is_constant is_balanced are_blocks_even is_balanced_in_blocks is_constant_in_blocks must_balance is_estimated is_met
+unfolding prime_of degree_of reduction_of add mul neg runs_of is_constant is_balanced are_blocks_even
+    is_balanced_in_blocks is_constant_in_blocks must_balance is_estimated is_met
 effects_in_blocks = (refl, refl, refl, refl)
 
 -- Patterns
@@ -319,7 +344,9 @@ half :
     × (resolution_of (pattern_of (size 2 3 4 0) (1 ∷ 2 ∷ 4 ∷ 6 ∷ [])) ≡ 3)
     × (is_less (pattern_of (size 2 3 4 0) (1 ∷ 2 ∷ 4 ∷ 7 ∷ [])) (pattern_of (size 2 3 4 0) (1 ∷ 2 ∷ 4 ∷ 6 ∷ [])) ≡ true)
     × (answer (problem (size 2 3 4 0) (AtResolution 4) false) ≡ Some (1 ∷ 2 ∷ 4 ∷ 7 ∷ []))
-unfolding prime_of degree_of reduction_of add mul neg inv runs_of is_constant is_balanced are_blocks_even is_balanced_in_blocks is_constant_in_blocks in_span must_balance is_estimated is_met is_allowed constant_words pattern_of is_canonical lists designs answer
+unfolding prime_of degree_of reduction_of add mul neg inv runs_of is_constant is_balanced are_blocks_even
+    is_balanced_in_blocks is_constant_in_blocks in_span must_balance is_estimated is_met is_allowed constant_words
+    pattern_of is_canonical lists designs answer
 half = (refl, refl, refl, refl, refl, refl, refl, refl, refl)
 
 -- four three-level factors in nine runs: C = A^2*B, D = A*B
@@ -329,7 +356,9 @@ three_levels :
     × (is_met (size 3 2 4 0) (AtResolution 3) (1 ∷ 3 ∷ 5 ∷ 4 ∷ []) ≡ true)
     × (pattern_of (size 3 2 4 0) (1 ∷ 3 ∷ 5 ∷ 4 ∷ []) ≡ (0 ∷ 0 ∷ 4 ∷ 0 ∷ []))
     × (answer (problem (size 3 2 3 0) (AtResolution 3) false) ≡ Some (1 ∷ 3 ∷ 5 ∷ []))
-unfolding prime_of degree_of reduction_of add mul neg inv runs_of is_constant is_balanced are_blocks_even is_balanced_in_blocks is_constant_in_blocks in_span must_balance is_estimated is_met is_allowed constant_words pattern_of is_canonical lists designs answer
+unfolding prime_of degree_of reduction_of add mul neg inv runs_of is_constant is_balanced are_blocks_even
+    is_balanced_in_blocks is_constant_in_blocks in_span must_balance is_estimated is_met is_allowed constant_words
+    pattern_of is_canonical lists designs answer
 three_levels = (refl, refl, refl, refl, refl)
 
 -- three factors of four levels in four runs: by two factors three words, by three factors two, each with its multiples
@@ -369,7 +398,9 @@ canonical_rows :
     × (is_canonical (size 2 3 4 0) (AtResolution 3) (1 ∷ 2 ∷ 4 ∷ 7 ∷ 6 ∷ []) ≡ false)
     × (is_canonical (size 2 3 4 0) (AtResolution 3) (1 ∷ 2 ∷ []) ≡ true)
     × (is_canonical (size 2 3 4 0) (AtResolution 3) (1 ∷ 2 ∷ 8 ∷ []) ≡ false)
-unfolding prime_of degree_of reduction_of add mul neg inv runs_of is_constant is_balanced are_blocks_even is_balanced_in_blocks is_constant_in_blocks in_span must_balance is_estimated is_met is_allowed constant_words pattern_of is_canonical lists designs answer
+unfolding prime_of degree_of reduction_of add mul neg inv runs_of is_constant is_balanced are_blocks_even
+    is_balanced_in_blocks is_constant_in_blocks in_span must_balance is_estimated is_met is_allowed constant_words
+    pattern_of is_canonical lists designs answer
 canonical_rows = (refl, refl, refl, refl, refl, refl, refl, refl)
 
 -- a row outside the span is the next unit vector, also for effects; one inside it is zero or normal; a row is below
@@ -386,7 +417,9 @@ rows_that_follow :
     × (is_canonical (size 2 2 3 0) (AtResolution 3) (1 ∷ 0 ∷ 2 ∷ []) ≡ false)
     × (is_canonical (size 2 3 5 0) (AtResolution 3) (1 ∷ 2 ∷ 4 ∷ 7 ∷ 7 ∷ []) ≡ false)
     × (is_canonical (size 2 2 3 0) (ForEffects (1 ∷ []) []) [] ≡ true)
-unfolding prime_of degree_of reduction_of add mul neg inv runs_of is_constant is_balanced are_blocks_even is_balanced_in_blocks is_constant_in_blocks in_span must_balance is_estimated is_met is_allowed constant_words pattern_of is_canonical lists designs answer
+unfolding prime_of degree_of reduction_of add mul neg inv runs_of is_constant is_balanced are_blocks_even
+    is_balanced_in_blocks is_constant_in_blocks in_span must_balance is_estimated is_met is_allowed constant_words
+    pattern_of is_canonical lists designs answer
 rows_that_follow = (refl, refl, refl, refl, refl, refl, refl, refl, refl, refl, refl)
 
 -- block rows need not fall, and do not have to reach the rank
@@ -394,7 +427,9 @@ block_rows_that_follow :
     (is_canonical (size 2 2 2 2) (AtResolution 3) (1 ∷ 2 ∷ 1 ∷ 3 ∷ []) ≡ true)
     × (is_canonical (size 2 2 2 1) (ForEffects (1 ∷ []) []) (1 ∷ 1 ∷ 2 ∷ []) ≡ false)
     × (is_canonical (size 2 3 2 1) (AtResolution 3) (1 ∷ 2 ∷ 3 ∷ []) ≡ true)
-unfolding prime_of degree_of reduction_of add mul neg inv runs_of is_constant is_balanced are_blocks_even is_balanced_in_blocks is_constant_in_blocks in_span must_balance is_estimated is_met is_allowed constant_words pattern_of is_canonical lists designs answer
+unfolding prime_of degree_of reduction_of add mul neg inv runs_of is_constant is_balanced are_blocks_even
+    is_balanced_in_blocks is_constant_in_blocks in_span must_balance is_estimated is_met is_allowed constant_words
+    pattern_of is_canonical lists designs answer
 block_rows_that_follow = (refl, refl, refl)
 
 -- Answers
@@ -413,14 +448,18 @@ in_order :
     × (before (1 ∷ 2 ∷ 4 ∷ []) (1 ∷ 2 ∷ 3 ∷ []) ≡ true)
     × (before (1 ∷ 2 ∷ []) (1 ∷ 2 ∷ 3 ∷ []) ≡ true)
     × (before (1 ∷ 2 ∷ []) (1 ∷ 2 ∷ []) ≡ false)
-unfolding prime_of degree_of reduction_of add mul neg inv runs_of is_constant is_balanced are_blocks_even is_balanced_in_blocks is_constant_in_blocks in_span must_balance is_estimated is_met is_allowed constant_words pattern_of is_canonical lists designs answer
+unfolding prime_of degree_of reduction_of add mul neg inv runs_of is_constant is_balanced are_blocks_even
+    is_balanced_in_blocks is_constant_in_blocks in_span must_balance is_estimated is_met is_allowed constant_words
+    pattern_of is_canonical lists designs answer
 in_order = (refl, refl, refl, refl, refl, refl)
 
 -- of six designs that tie in the least pattern the first is the answer; without a design there is none
 first_of_the_least :
     (answer (problem (size 2 2 4 0) (ForEffects (1 ∷ []) []) true) ≡ Some (1 ∷ 2 ∷ 3 ∷ 3 ∷ []))
     × (answer (problem (size 3 1 2 0) (ForEffects (3 ∷ []) []) false) ≡ None)
-unfolding prime_of degree_of reduction_of add mul neg inv runs_of is_constant is_balanced are_blocks_even is_balanced_in_blocks is_constant_in_blocks in_span must_balance is_estimated is_met is_allowed constant_words pattern_of is_canonical lists designs answer
+unfolding prime_of degree_of reduction_of add mul neg inv runs_of is_constant is_balanced are_blocks_even
+    is_balanced_in_blocks is_constant_in_blocks in_span must_balance is_estimated is_met is_allowed constant_words
+    pattern_of is_canonical lists designs answer
 first_of_the_least = (refl, refl)
 
 -- Closing words, nodes and marks
@@ -432,21 +471,29 @@ closing_words :
     × (closing_word (size 2 3 5 0) (AtResolution 4) (1 ∷ 2 ∷ 4 ∷ 7 ∷ 6 ∷ []) ≡ Some (1 ∷ 0 ∷ 0 ∷ 1 ∷ 1 ∷ []))
     × (closing_word (size 2 3 5 0) (AtResolution 4) (1 ∷ 2 ∷ 4 ∷ 7 ∷ []) ≡ None)
     × (closing_word (size 3 2 3 0) (AtResolution 4) (1 ∷ 3 ∷ 5 ∷ []) ≡ Some (1 ∷ 2 ∷ 1 ∷ []))
-unfolding prime_of degree_of reduction_of add mul neg inv runs_of is_constant is_balanced are_blocks_even is_balanced_in_blocks is_constant_in_blocks in_span must_balance is_estimated is_met is_allowed constant_words pattern_of is_canonical lists designs answer closing_word word_of nodes marks
+unfolding prime_of degree_of reduction_of add mul neg inv runs_of is_constant is_balanced are_blocks_even
+    is_balanced_in_blocks is_constant_in_blocks in_span must_balance is_estimated is_met is_allowed constant_words
+    pattern_of is_canonical lists designs answer closing_word word_of nodes marks
 closing_words = (refl, refl, refl, refl)
 
 -- two factors in two runs cannot both be estimated: B is refused as A, and as no factor; A as no factor
 marks_of_effects :
-    (nodes (problem (size 2 1 2 0) (ForEffects (1 ∷ 2 ∷ []) []) false) ≡ ((1 ∷ []) ∷ (1 ∷ 1 ∷ []) ∷ (1 ∷ 0 ∷ []) ∷ (0 ∷ []) ∷ []))
-    × (marks (problem (size 2 1 2 0) (ForEffects (1 ∷ 2 ∷ []) []) false) ≡ (Branch 1 ∷ Word 1 3 ∷ Word 0 2 ∷ Word 0 1 ∷ []))
-unfolding prime_of degree_of reduction_of add mul neg inv runs_of is_constant is_balanced are_blocks_even is_balanced_in_blocks is_constant_in_blocks in_span must_balance is_estimated is_met is_allowed constant_words pattern_of is_canonical lists designs answer closing_word word_of nodes marks
+    (nodes (problem (size 2 1 2 0) (ForEffects (1 ∷ 2 ∷ []) []) false)
+    ≡ ((1 ∷ []) ∷ (1 ∷ 1 ∷ []) ∷ (1 ∷ 0 ∷ []) ∷ (0 ∷ []) ∷ []))
+    × (marks (problem (size 2 1 2 0) (ForEffects (1 ∷ 2 ∷ []) []) false)
+    ≡ (Branch 1 ∷ Word 1 3 ∷ Word 0 2 ∷ Word 0 1 ∷ []))
+unfolding prime_of degree_of reduction_of add mul neg inv runs_of is_constant is_balanced are_blocks_even
+    is_balanced_in_blocks is_constant_in_blocks in_span must_balance is_estimated is_met is_allowed constant_words
+    pattern_of is_canonical lists designs answer closing_word word_of nodes marks
 marks_of_effects = (refl, refl)
 
 -- A*B at three levels in three runs: where B is A, its component A^2*B is constant; where B or A is at one level, its
 -- components are one
 marks_of_components :
     marks (problem (size 3 1 2 0) (ForEffects (3 ∷ []) []) false) ≡ Branch 1 ∷ Word 1 5 ∷ Word 0 3 ∷ Word 0 1 ∷ []
-unfolding prime_of degree_of reduction_of add mul neg inv runs_of is_constant is_balanced are_blocks_even is_balanced_in_blocks is_constant_in_blocks in_span must_balance is_estimated is_met is_allowed constant_words pattern_of is_canonical lists designs answer closing_word word_of nodes marks
+unfolding prime_of degree_of reduction_of add mul neg inv runs_of is_constant is_balanced are_blocks_even
+    is_balanced_in_blocks is_constant_in_blocks in_span must_balance is_estimated is_met is_allowed constant_words
+    pattern_of is_canonical lists designs answer closing_word word_of nodes marks
 marks_of_components = refl
 
 -- three factors in four runs: without a least pattern the nodes end with the design C = A*B
@@ -455,26 +502,36 @@ marks_of_a_design :
     × (marks (problem (size 2 2 3 0) (AtResolution 3) false) ≡ (Branch 1 ∷ Branch 2 ∷ Worse 3 ∷ []))
     × (marks (problem (size 2 2 3 0) (AtResolution 4) false) ≡ (Branch 1 ∷ Branch 2 ∷ Word 3 7 ∷ []))
     × (marks (problem (size 2 2 3 0) (AtResolution 3) true) ≡ (Branch 1 ∷ Branch 2 ∷ Worse 3 ∷ []))
-unfolding prime_of degree_of reduction_of add mul neg inv runs_of is_constant is_balanced are_blocks_even is_balanced_in_blocks is_constant_in_blocks in_span must_balance is_estimated is_met is_allowed constant_words pattern_of is_canonical lists designs answer closing_word word_of nodes marks
+unfolding prime_of degree_of reduction_of add mul neg inv runs_of is_constant is_balanced are_blocks_even
+    is_balanced_in_blocks is_constant_in_blocks in_span must_balance is_estimated is_met is_allowed constant_words
+    pattern_of is_canonical lists designs answer closing_word word_of nodes marks
 marks_of_a_design = (refl, refl, refl, refl)
 
 -- one factor in four runs in two blocks: the first block row that is tried is the second run index
 marks_in_blocks :
     (nodes (problem (size 2 2 1 1) (AtResolution 3) false) ≡ ((1 ∷ []) ∷ (1 ∷ 2 ∷ []) ∷ []))
     × (marks (problem (size 2 1 1 1) (AtResolution 3) false) ≡ (Branch 1 ∷ Word 1 3 ∷ Word 0 2 ∷ []))
-unfolding prime_of degree_of reduction_of add mul neg inv runs_of is_constant is_balanced are_blocks_even is_balanced_in_blocks is_constant_in_blocks in_span must_balance is_estimated is_met is_allowed constant_words pattern_of is_canonical lists designs answer closing_word word_of nodes marks
+unfolding prime_of degree_of reduction_of add mul neg inv runs_of is_constant is_balanced are_blocks_even
+    is_balanced_in_blocks is_constant_in_blocks in_span must_balance is_estimated is_met is_allowed constant_words
+    pattern_of is_canonical lists designs answer closing_word word_of nodes marks
 marks_in_blocks = (refl, refl)
 
 -- the nodes end with the first design, though more prefixes follow
 nodes_to_the_answer :
-    nodes (problem (size 2 3 4 0) (AtResolution 3) false) ≡ ((1 ∷ []) ∷ (1 ∷ 2 ∷ []) ∷ (1 ∷ 2 ∷ 4 ∷ []) ∷ (1 ∷ 2 ∷ 4 ∷ 7 ∷ []) ∷ [])
-unfolding prime_of degree_of reduction_of add mul neg inv runs_of is_constant is_balanced are_blocks_even is_balanced_in_blocks is_constant_in_blocks in_span must_balance is_estimated is_met is_allowed constant_words pattern_of is_canonical lists designs answer closing_word word_of nodes marks
+    nodes (problem (size 2 3 4 0) (AtResolution 3) false)
+    ≡ ((1 ∷ []) ∷ (1 ∷ 2 ∷ []) ∷ (1 ∷ 2 ∷ 4 ∷ []) ∷ (1 ∷ 2 ∷ 4 ∷ 7 ∷ []) ∷ [])
+unfolding prime_of degree_of reduction_of add mul neg inv runs_of is_constant is_balanced are_blocks_even
+    is_balanced_in_blocks is_constant_in_blocks in_span must_balance is_estimated is_met is_allowed constant_words
+    pattern_of is_canonical lists designs answer closing_word word_of nodes marks
 nodes_to_the_answer = refl
 
 -- four factors in eight runs: the first design has the least pattern, and no other is better
 marks_of_a_least_pattern :
-    marks (problem (size 2 3 4 0) (AtResolution 3) true) ≡ (Branch 1 ∷ Branch 2 ∷ Branch 4 ∷ Worse 7 ∷ Worse 6 ∷ Worse 5 ∷ Worse 3 ∷ [])
-unfolding prime_of degree_of reduction_of add mul neg inv runs_of is_constant is_balanced are_blocks_even is_balanced_in_blocks is_constant_in_blocks in_span must_balance is_estimated is_met is_allowed constant_words pattern_of is_canonical lists designs answer closing_word word_of nodes marks
+    marks (problem (size 2 3 4 0) (AtResolution 3) true)
+    ≡ (Branch 1 ∷ Branch 2 ∷ Branch 4 ∷ Worse 7 ∷ Worse 6 ∷ Worse 5 ∷ Worse 3 ∷ [])
+unfolding prime_of degree_of reduction_of add mul neg inv runs_of is_constant is_balanced are_blocks_even
+    is_balanced_in_blocks is_constant_in_blocks in_span must_balance is_estimated is_met is_allowed constant_words
+    pattern_of is_canonical lists designs answer closing_word word_of nodes marks
 marks_of_a_least_pattern = refl
 
 -- matrices of another job of one's lot do not count

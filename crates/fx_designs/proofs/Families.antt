@@ -15,18 +15,19 @@ use Rattle.fx_designs.specs.Aliases.{is_aliased}
 abbrev size : ℕ → ℕ → ℕ → ℕ → Dimensions
 size q m s t = record { q = q; m = m; s = s; t = t }
 
--- after the unit vectors of four factors in eight runs come the rows that are no unit vectors, the greatest first; under
--- effects the zero row and repeated rows too
+-- after the unit vectors of four factors in eight runs come the rows that are no unit vectors, the greatest first;
+-- under effects the zero row and repeated rows too
 children_of_prefixes :
     (next_rows (size 2 3 4 0) (AtResolution 4) (1 ∷ 2 ∷ 4 ∷ []) ≡ 7 ∷ 6 ∷ 5 ∷ 3 ∷ [])
-    × (children (size 2 3 5 0) (AtResolution 4) (1 ∷ 2 ∷ 4 ∷ 6 ∷ []) ≡ (1 ∷ 2 ∷ 4 ∷ 6 ∷ 5 ∷ []) ∷ (1 ∷ 2 ∷ 4 ∷ 6 ∷ 3 ∷ []) ∷ [])
+    × (children (size 2 3 5 0) (AtResolution 4) (1 ∷ 2 ∷ 4 ∷ 6 ∷ [])
+    ≡ (1 ∷ 2 ∷ 4 ∷ 6 ∷ 5 ∷ []) ∷ (1 ∷ 2 ∷ 4 ∷ 6 ∷ 3 ∷ []) ∷ [])
     × (next_rows (size 2 1 2 0) (ForEffects (1 ∷ 2 ∷ []) []) [] ≡ 1 ∷ 0 ∷ [])
     × (next_rows (size 2 3 4 0) (AtResolution 4) (1 ∷ 2 ∷ 4 ∷ 7 ∷ []) ≡ [])
 unfolding prime_of degree_of reduction_of add mul neg inv in_span is_canonical
 children_of_prefixes = (refl, refl, refl, refl)
 
--- five factors in eight runs at resolution 4: the words 25 and 22 both refute the rows 1, 2, 4, 7, 6; 24 is forbidden and no
--- zero sum; 15, a zero sum, is of weight 4; and 25 says nothing of the first four rows
+-- five factors in eight runs at resolution 4: the words 25 and 22 both refute the rows 1, 2, 4, 7, 6; 24 is forbidden
+-- and no zero sum; 15, a zero sum, is of weight 4; and 25 says nothing of the first four rows
 refuting :
     (refutes (size 2 3 5 0) (AtResolution 4) (1 ∷ 2 ∷ 4 ∷ 7 ∷ 6 ∷ []) (1 ∷ 0 ∷ 0 ∷ 1 ∷ 1 ∷ []) ≡ true)
     × (refutes (size 2 3 5 0) (AtResolution 4) (1 ∷ 2 ∷ 4 ∷ 7 ∷ 6 ∷ []) (0 ∷ 1 ∷ 1 ∷ 0 ∷ 1 ∷ []) ≡ true)
@@ -37,8 +38,8 @@ refuting :
 unfolding prime_of degree_of reduction_of add mul neg inv must_balance is_estimated
 refuting = (refl, refl, refl, refl, refl, refl)
 
--- C = A*B in four runs: C is aliased with A*B, and not with A; at three levels C = A^2*B, so that A and B*C^2 are multiples of
--- one contrast
+-- C = A*B in four runs: C is aliased with A*B, and not with A; at three levels C = A^2*B, so that A and B*C^2 are
+-- multiples of one contrast
 alias_sets :
     (is_aliased 2 (runs_of 2 2 (vectors_of 2 2 (1 ∷ 2 ∷ 3 ∷ []))) (0 ∷ 0 ∷ 1 ∷ []) (1 ∷ 1 ∷ 0 ∷ []) ≡ true)
     × (is_aliased 2 (runs_of 2 2 (vectors_of 2 2 (1 ∷ 2 ∷ 3 ∷ []))) (0 ∷ 0 ∷ 1 ∷ []) (1 ∷ 0 ∷ 0 ∷ []) ≡ false)
@@ -47,7 +48,8 @@ alias_sets :
 unfolding prime_of degree_of reduction_of add mul neg inv runs_of is_constant is_aliased
 alias_sets = (refl, refl, refl, refl)
 
--- components of one and of two of three factors: the dictionary order of their places, and for each support rising numbers
+-- components of one and of two of three factors: the dictionary order of their places, and for each support rising
+-- numbers
 listed :
     (map (number 2) (components 2 3 2) ≡ 1 ∷ 2 ∷ 4 ∷ 3 ∷ 5 ∷ 6 ∷ [])
     × (map (number 3) (components 3 2 2) ≡ 1 ∷ 3 ∷ 4 ∷ 5 ∷ [])

@@ -1,5 +1,5 @@
--- Vectors that the runs of a design do not tell apart: alias sets (Wu and Hamada), judged from the runs. A vector is confounded
--- with blocks where it is constant inside each block, as `is_constant_in_blocks` has it.
+-- Vectors that the runs of a design do not tell apart: alias sets (Wu and Hamada), judged from the runs. A vector is
+-- confounded with blocks where it is constant inside each block, as `is_constant_in_blocks` has it.
 use Rattle.std.specs.Prelude.{ℕ, ◌-◌, Bool, List}
 use Rattle.std.specs.List.{list_any, range_with_len}
 use Rattle.fx_designs.specs.Vectors.{scale, minus}

@@ -1,7 +1,8 @@
--- Canonical prefixes: the lists of rows that are tried. A rule matrix that meets a requirement can be brought to one by a
--- change of the run indexes, by multiples of rows, under a resolution by the order of the factors, and by raising a rank
--- that is low. A row is named by its number.
-use Rattle.std.specs.Prelude.{ℕ, ◌==◌, ◌+◌, ◌-◌, ◌^◌, ◌&&◌, ◌||◌, not, nat_lt, nat_le, Bool, true, if◌then◌else◌, List, length, take, min, slice_index}
+-- Canonical prefixes: the lists of rows that are tried. A rule matrix that meets a requirement can be brought to one by
+-- a change of the run indexes, by multiples of rows, under a resolution by the order of the factors, and by raising a
+-- rank that is low. A row is named by its number.
+use Rattle.std.specs.Prelude.{ℕ, ◌==◌, ◌+◌, ◌-◌, ◌^◌, ◌&&◌, ◌||◌, not, nat_lt, nat_le, Bool, true, if◌then◌else◌, List}
+use Rattle.std.specs.Prelude.{length, take, min, slice_index}
 use Rattle.std.specs.List.{list_all, list_any, range_with_len}
 use Rattle.fx_designs.specs.Galois.{digits}
 use Rattle.fx_designs.specs.Vectors.{is_normal, vectors_of}
@@ -12,7 +13,8 @@ use Rattle.fx_designs.specs.Problems.{Dimensions, Requirement, AtResolution, For
 abbrev pub rank_at : Dimensions → List ℕ → ℕ → ℕ
 rank_at d rows k = rank_of d.q d.m (vectors_of d.q d.m (take k rows))
 
--- row k, counted from 0, is the next unit vector where it is outside the span of the rows before it, and else zero or normal
+-- row k, counted from 0, is the next unit vector where it is outside the span of the rows before it, and else zero or
+-- normal
 abbrev pub follows_at : Dimensions → List ℕ → ℕ → Bool
 follows_at d rows k =
     let r = slice_index rows k in

@@ -1,5 +1,7 @@
--- The components of effects that a listing has: normal vectors over the factors, each once, in order; and how many they are.
-use Rattle.std.specs.Prelude.{ℕ, zero, suc, ◌+◌, ◌-◌, ◌*◌, ◌^◌, Bool, true, false, if◌then◌else◌, List, [], ◌∷◌, ◌++◌, map}
+-- The components of effects that a listing has: normal vectors over the factors, each once, in order; and how many they
+-- are.
+use Rattle.std.specs.Prelude.{ℕ, zero, suc, ◌+◌, ◌-◌, ◌*◌, ◌^◌, Bool, true, false, if◌then◌else◌, List, [], ◌∷◌, ◌++◌}
+use Rattle.std.specs.Prelude.{map}
 use Rattle.std.specs.List.{flat_map, list_any, range_with_len}
 
 -- which of s factors are in a set, for each set of k of them, in dictionary order of their places

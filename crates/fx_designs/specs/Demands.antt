@@ -1,5 +1,6 @@
 -- What it is that runs meet a requirement, and the vectors that the requirement forbids.
-use Rattle.std.specs.Prelude.{ℕ, ◌==◌, ◌+◌, ◌-◌, ◌/◌, ◌^◌, ◌&&◌, ◌||◌, not, nat_lt, nat_le, Bool, if◌then◌else◌, List, ◌++◌, map, length, take, drop}
+use Rattle.std.specs.Prelude.{ℕ, ◌==◌, ◌+◌, ◌-◌, ◌/◌, ◌^◌, ◌&&◌, ◌||◌, not, nat_lt, nat_le, Bool, if◌then◌else◌, List}
+use Rattle.std.specs.Prelude.{◌++◌, map, length, take, drop}
 use Rattle.std.specs.List.{list_all, list_any}
 use Rattle.fx_designs.specs.Galois.{number}
 use Rattle.fx_designs.specs.Vectors.{weight, is_zero, same, minus, zeros, vectors_of}
@@ -18,13 +19,14 @@ effect_of u = number 2 (map (λ a. if a == 0 then 0 else 1) u)
 abbrev pub is_of : List ℕ → List ℕ → Bool
 is_of effects u = not (is_zero u) && list_any (λ e. e == effect_of u) effects
 
--- whether u, a vector of an effect to be estimated, has to be told from v: another vector of such an effect, the same effect
--- included, one of an effect that is not negligible, or the zero vector, which stands for the mean
+-- whether u, a vector of an effect to be estimated, has to be told from v: another vector of such an effect, the same
+-- effect included, one of an effect that is not negligible, or the zero vector, which stands for the mean
 abbrev pub is_told_from : List ℕ → List ℕ → List ℕ → List ℕ → Bool
 is_told_from estimate nonnegligible u v =
     is_of estimate u && ((is_of estimate v || (is_of nonnegligible v || is_zero v)) && not (same u v))
 
--- whether f, a vector over the factors, has to be balanced: it is of weight 1 to r-1, or a difference of vectors to be told apart
+-- whether f, a vector over the factors, has to be balanced: it is of weight 1 to r-1, or a difference of vectors to be
+-- told apart
 unfoldable pub must_balance : Dimensions → Requirement → List ℕ → Bool
 must_balance d (AtResolution r) f = nat_lt 0 (weight f) && nat_lt (weight f) r
 must_balance d (ForEffects estimate nonnegligible) f =
@@ -32,7 +34,8 @@ must_balance d (ForEffects estimate nonnegligible) f =
     is_told_from estimate nonnegligible u v && same f (minus d.q u v))
     (points d.q d.s)) (points d.q d.s)
 
--- whether u is a vector of an effect to be estimated: under a resolution r, of one with at most (r-1)/2 factors, rounded down
+-- whether u is a vector of an effect to be estimated: under a resolution r, of one with at most (r-1)/2 factors,
+-- rounded down
 unfoldable pub is_estimated : Requirement → List ℕ → Bool
 is_estimated (AtResolution r) u = nat_lt 0 (weight u) && nat_le (weight u) ((r - 1) / 2)
 is_estimated (ForEffects estimate nonnegligible) u = is_of estimate u
@@ -64,4 +67,5 @@ is_forbidden_word d wanted w = is_forbidden d wanted (take d.s w) (drop d.s w)
 -- whether no forbidden vector that is zero past the rows of a prefix is constant over the runs of these rows
 unfoldable pub is_allowed : Dimensions → Requirement → List ℕ → Bool
 is_allowed d wanted rows =
-    list_all (λ u. not (is_forbidden_word d wanted (padded d u) && is_constant d.q u (runs d rows))) (points d.q (length rows))
+    list_all (λ u. not (is_forbidden_word d wanted (padded d u) && is_constant d.q u (runs d rows)))
+    (points d.q (length rows))

@@ -1,6 +1,8 @@
--- The field GF(q) on the codes 0 to q-1, where q = p^n and p is prime. To the base p, a code's digits are the coefficients
--- of a polynomial over GF(p), the lowest first. Each operation reads its arguments modulo q and answers a code.
-use Rattle.std.specs.Prelude.{ℕ, ◌≡◌, ◌<◌, ◌+◌, ◌-◌, ◌*◌, ◌/◌, ◌%◌, ◌==◌, Bool, if◌then◌else◌, List, [], ◌∷◌, map, zero, suc, unwrap_or}
+-- The field GF(q) on the codes 0 to q-1, where q = p^n and p is prime. To the base p, a code's digits are the
+-- coefficients of a polynomial over GF(p), the lowest first. Each operation reads its arguments modulo q and answers a
+-- code.
+use Rattle.std.specs.Prelude.{ℕ, ◌≡◌, ◌<◌, ◌+◌, ◌-◌, ◌*◌, ◌/◌, ◌%◌, ◌==◌, Bool, if◌then◌else◌, List, [], ◌∷◌, map, zero}
+use Rattle.std.specs.Prelude.{suc, unwrap_or}
 use Rattle.std.specs.List.{range_with_len, find, list_any}
 
 -- of q = p^n the prime p, the degree n, and the coefficients of what x^n is reduced to, the lowest first;
@@ -12,7 +14,8 @@ unfoldable pub degree_of : ℕ → ℕ
 degree_of q = (if q == 4 then 2 else (if q == 8 then 3 else (if q == 9 then 2 else 1)))
 
 unfoldable pub reduction_of : ℕ → List ℕ
-reduction_of q = (if q == 4 then 1 ∷ 1 ∷ [] else (if q == 8 then 1 ∷ 1 ∷ 0 ∷ [] else (if q == 9 then 1 ∷ 2 ∷ [] else 0 ∷ [])))
+reduction_of q =
+    (if q == 4 then 1 ∷ 1 ∷ [] else (if q == 8 then 1 ∷ 1 ∷ 0 ∷ [] else (if q == 9 then 1 ∷ 2 ∷ [] else 0 ∷ [])))
 
 -- n digits of c to the base p, the lowest first, and back
 abbrev pub digits : ℕ → ℕ → ℕ → List ℕ

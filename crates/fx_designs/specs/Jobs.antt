@@ -1,6 +1,7 @@
--- Jobs: the nodes and marks of a part of a search that is worked off by itself, and the best matrix that is known where a least
--- pattern is asked (the incumbent of a branch and bound).
-use Rattle.std.specs.Prelude.{ℕ, ◌+◌, ◌&&◌, ◌||◌, not, nat_lt, Bool, true, if◌then◌else◌, List, [], map, filter, length, slice_index_or, Option, Some, None, find}
+-- Jobs: the nodes and marks of a part of a search that is worked off by itself, and the best matrix that is known where
+-- a least pattern is asked (the incumbent of a branch and bound).
+use Rattle.std.specs.Prelude.{ℕ, ◌+◌, ◌&&◌, ◌||◌, not, nat_lt, Bool, true, if◌then◌else◌, List, [], map, filter, length}
+use Rattle.std.specs.Prelude.{slice_index_or, Option, Some, None, find}
 use Rattle.std.specs.List.{list_all, list_any}
 use Rattle.fx_designs.specs.Vectors.{same}
 use Rattle.fx_designs.specs.Problems.{Dimensions, Problem}
@@ -8,7 +9,8 @@ use Rattle.fx_designs.specs.Demands.{is_allowed}
 use Rattle.fx_designs.specs.Patterns.{pattern_of, is_less}
 use Rattle.fx_designs.specs.Canonical.{is_canonical}
 use Rattle.fx_designs.specs.Answers.{before, prefixes}
-use Rattle.fx_designs.specs.Nodes.{parent, last_row, is_complete_allowed, lot_of, job_of, is_not_after, nodes, Mark, Branch, Word, Worse, word_of}
+use Rattle.fx_designs.specs.Nodes.{parent, last_row, is_complete_allowed, lot_of, job_of, is_not_after, nodes, Mark}
+use Rattle.fx_designs.specs.Nodes.{Branch, Word, Worse, word_of}
 
 -- whether a prefix or matrix is of the job j, which has m + 2 rows
 abbrev pub is_of_job : Dimensions → List ℕ → List ℕ → Bool
@@ -22,8 +24,8 @@ is_of_earlier_lot d rows matrix = nat_lt d.m (length matrix) && before (lot_of d
 abbrev pub counts_inside : Dimensions → List ℕ → List ℕ → Bool
 counts_inside d j matrix = is_of_earlier_lot d j matrix || is_of_job d j matrix
 
--- inside j, whether nothing better than this matrix can be below a prefix: it counts and stands before it, and where a least
--- pattern is asked its pattern is not greater
+-- inside j, whether nothing better than this matrix can be below a prefix: it counts and stands before it, and where a
+-- least pattern is asked its pattern is not greater
 abbrev pub excludes_inside : Problem → List ℕ → List ℕ → List ℕ → Bool
 excludes_inside p j matrix rows =
     counts_inside p.dimensions j matrix
@@ -41,8 +43,8 @@ is_branch_inside p j rows =
 unfoldable pub first_inside : Problem → List ℕ → Option (List ℕ)
 first_inside p j = find (λ matrix. is_complete_allowed p matrix && is_of_job p.dimensions j matrix) (prefixes p)
 
--- a node inside j: j itself, or a canonical prefix of it that without its last row is a branch inside j; where no least pattern
--- is asked, none that stands after the first complete allowed matrix of j
+-- a node inside j: j itself, or a canonical prefix of it that without its last row is a branch inside j; where no least
+-- pattern is asked, none that stands after the first complete allowed matrix of j
 abbrev pub is_node_inside : Problem → List ℕ → List ℕ → Bool
 is_node_inside p j rows =
     is_of_job p.dimensions j rows
@@ -73,7 +75,9 @@ first_least d matrices =
 -- where a least pattern is asked, the first of least pattern among the complete allowed matrices that pass a test
 abbrev pub best_of : Problem → (List ℕ → Bool) → Option (List ℕ)
 best_of p test =
-    (if p.least then first_least p.dimensions (filter (λ matrix. is_complete_allowed p matrix && test matrix) (prefixes p)) else None)
+    (if p.least
+    then first_least p.dimensions (filter (λ matrix. is_complete_allowed p matrix && test matrix) (prefixes p))
+    else None)
 
 -- the best of the lots before that of some rows
 unfoldable pub best_before : Problem → List ℕ → Option (List ℕ)
@@ -111,4 +115,6 @@ first_of_lot p lot = find (λ matrix. is_complete_allowed p matrix && is_in_a_jo
 
 -- the best of the lots up to and with that of some rows
 unfoldable pub best_through : Problem → List ℕ → Option (List ℕ)
-best_through p rows = best_of p (λ matrix. is_of_earlier_lot p.dimensions rows matrix || is_in_a_job p.dimensions (lot_of p.dimensions rows) matrix)
+best_through p rows =
+    best_of p (λ matrix. is_of_earlier_lot p.dimensions rows matrix
+    || is_in_a_job p.dimensions (lot_of p.dimensions rows) matrix)

@@ -1,6 +1,7 @@
--- The nodes of a problem: the prefixes that have to be looked at, and what is found at each. They are a part of the list of
--- all prefixes; no order of work stands in them.
-use Rattle.std.specs.Prelude.{ℕ, ◌==◌, ◌+◌, ◌-◌, ◌&&◌, ◌||◌, not, nat_lt, Bool, true, if◌then◌else◌, List, [], map, filter, length, take, slice_index, Option, Some, None, unwrap_or}
+-- The nodes of a problem: the prefixes that have to be looked at, and what is found at each. They are a part of the
+-- list of all prefixes; no order of work stands in them.
+use Rattle.std.specs.Prelude.{ℕ, ◌==◌, ◌+◌, ◌-◌, ◌&&◌, ◌||◌, not, nat_lt, Bool, true, if◌then◌else◌, List, [], map}
+use Rattle.std.specs.Prelude.{filter, length, take, slice_index, Option, Some, None, unwrap_or}
 use Rattle.std.specs.List.{list_any}
 use Rattle.fx_designs.specs.Galois.{number}
 use Rattle.fx_designs.specs.Vectors.{same}
@@ -25,7 +26,8 @@ is_whole p rows = length rows == p.dimensions.s + p.dimensions.t
 
 -- a complete allowed matrix: a canonical prefix with all its rows that is allowed
 abbrev pub is_complete_allowed : Problem → List ℕ → Bool
-is_complete_allowed p rows = is_whole p rows && (is_canonical p.dimensions p.requirement rows && is_allowed p.dimensions p.requirement rows)
+is_complete_allowed p rows =
+    is_whole p rows && (is_canonical p.dimensions p.requirement rows && is_allowed p.dimensions p.requirement rows)
 
 -- Prefixes with the same first m + 1 rows are in one lot,
 abbrev pub lot_of : Dimensions → List ℕ → List ℕ
@@ -37,19 +39,21 @@ job_of d rows = take (d.m + 2) rows
 
 -- whether a matrix is in the lot of a prefix, but in another job; shorter prefixes have no lot
 abbrev pub is_beside : Dimensions → List ℕ → List ℕ → Bool
-is_beside d matrix rows = nat_lt d.m (length rows) && (same (lot_of d matrix) (lot_of d rows) && not (same (job_of d matrix) (job_of d rows)))
+is_beside d matrix rows =
+    nat_lt d.m (length rows) && (same (lot_of d matrix) (lot_of d rows) && not (same (job_of d matrix) (job_of d rows)))
 
--- whether a matrix counts for a prefix where a least pattern is asked: it stands before it, and is not in another job of its
--- lot, so that the jobs of a lot can be worked off side by side
+-- whether a matrix counts for a prefix where a least pattern is asked: it stands before it, and is not in another job
+-- of its lot, so that the jobs of a lot can be worked off side by side
 abbrev pub counts : Dimensions → List ℕ → List ℕ → Bool
 counts d matrix rows = before matrix rows && not (is_beside d matrix rows)
 
--- whether nothing better than this matrix can be below a prefix: the matrix stands before it, and where a least pattern is
--- asked it counts for the prefix and its pattern is not greater than that of the prefix
+-- whether nothing better than this matrix can be below a prefix: the matrix stands before it, and where a least pattern
+-- is asked it counts for the prefix and its pattern is not greater than that of the prefix
 abbrev pub excludes : Problem → List ℕ → List ℕ → Bool
 excludes p matrix rows =
     (if p.least
-    then counts p.dimensions matrix rows && not (is_less (pattern_of p.dimensions rows) (pattern_of p.dimensions matrix))
+    then counts p.dimensions matrix rows
+    && not (is_less (pattern_of p.dimensions rows) (pattern_of p.dimensions matrix))
     else before matrix rows)
 
 -- a branch: an allowed prefix, not yet whole, that no complete allowed matrix excludes
@@ -64,8 +68,8 @@ abbrev pub is_not_after : Option (List ℕ) → List ℕ → Bool
 is_not_after None rows = true
 is_not_after (Some first) rows = not (before first rows)
 
--- a node: a canonical prefix that without its last row is empty or a branch, and where no least pattern is asked does not
--- stand after the answer
+-- a node: a canonical prefix that without its last row is empty or a branch, and where no least pattern is asked does
+-- not stand after the answer
 abbrev pub is_node : Problem → List ℕ → Bool
 is_node p rows =
     is_canonical p.dimensions p.requirement rows

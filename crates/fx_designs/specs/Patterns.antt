@@ -1,5 +1,7 @@
--- Word-length patterns and resolution (Wu and Hamada), and which pattern is less (minimum aberration, Fries and Hunter).
-use Rattle.std.specs.Prelude.{ℕ, ◌==◌, ◌+◌, ◌-◌, ◌/◌, ◌&&◌, ◌||◌, nat_lt, Bool, false, if◌then◌else◌, List, [], ◌∷◌, map, length, take, count_by}
+-- Word-length patterns and resolution (Wu and Hamada), and which pattern is less (minimum aberration, Fries and
+-- Hunter).
+use Rattle.std.specs.Prelude.{ℕ, ◌==◌, ◌+◌, ◌-◌, ◌/◌, ◌&&◌, ◌||◌, nat_lt, Bool, false, if◌then◌else◌, List, [], ◌∷◌}
+use Rattle.std.specs.Prelude.{map, length, take, count_by}
 use Rattle.std.specs.List.{range_with_len}
 use Rattle.fx_designs.specs.Vectors.{weight, vectors_of}
 use Rattle.fx_designs.specs.Runs.{points, is_constant, runs_of}
@@ -7,12 +9,14 @@ use Rattle.fx_designs.specs.Problems.{Dimensions}
 
 -- how many vectors of weight k over the factor rows are constant over their runs
 unfoldable pub constant_words : ℕ → ℕ → List (List ℕ) → ℕ → ℕ
-constant_words q m factors k = count_by (λ u. (weight u == k) && is_constant q u (runs_of q m factors)) (points q (length factors))
+constant_words q m factors k =
+    count_by (λ u. (weight u == k) && is_constant q u (runs_of q m factors)) (points q (length factors))
 
 -- A_1 to A_s, where A_k counts the defining words of weight k, a word and its nonzero multiples once;
 -- the factor rows to come have none
 unfoldable pub pattern_of : Dimensions → List ℕ → List ℕ
-pattern_of d rows = map (λ k. constant_words d.q d.m (vectors_of d.q d.m (take d.s rows)) k / (d.q - 1)) (range_with_len 1 d.s)
+pattern_of d rows =
+    map (λ k. constant_words d.q d.m (vectors_of d.q d.m (take d.s rows)) k / (d.q - 1)) (range_with_len 1 d.s)
 
 -- whether the first of two patterns of one length is smaller at the first place where they differ
 abbrev pub is_less : List ℕ → List ℕ → Bool

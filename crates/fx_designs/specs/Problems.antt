@@ -1,4 +1,5 @@
--- What is asked of a design: its dimensions, what it is to separate, and whether its word-length pattern is to be least.
+-- What is asked of a design: its dimensions, what it is to separate, and whether its word-length pattern is to be
+-- least.
 use Rattle.std.specs.Prelude.{ℕ, Bool, List}
 
 -- q levels; q^m runs; s factors; t block factors
@@ -14,7 +15,8 @@ pub data Requirement : Type 0 where
   AtResolution : ℕ → Requirement
   ForEffects : List ℕ → List ℕ → Requirement
 
--- what a search is asked for: designs of these dimensions that meet the requirement, and whether of least pattern among them
+-- what a search is asked for: designs of these dimensions that meet the requirement, and whether of least pattern among
+-- them
 pub record Problem : Type 0 where
   pub dimensions : Dimensions
   pub requirement : Requirement

@@ -27,7 +27,8 @@ count_of q u y runs = count_by (λ x. dot q u x == y) runs
 
 -- each field value comes equally often as u.x
 unfoldable pub is_balanced : ℕ → List ℕ → List (List ℕ) → Bool
-is_balanced q u runs = list_all (λ y. list_all (λ z. count_of q u y runs == count_of q u z runs) (codes_of q)) (codes_of q)
+is_balanced q u runs =
+    list_all (λ y. list_all (λ z. count_of q u y runs == count_of q u z runs) (codes_of q)) (codes_of q)
 
 -- the runs whose block values b, which stand after s levels, have the number z = b_1 + b_2 q + ..
 abbrev pub block : ℕ → ℕ → ℕ → List (List ℕ) → List (List ℕ)

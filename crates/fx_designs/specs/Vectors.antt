@@ -1,5 +1,6 @@
 -- Vectors over GF(q), as lists of codes.
-use Rattle.std.specs.Prelude.{ℕ, ◌≡◌, ◌<◌, ◌==◌, ◌&&◌, Bool, true, false, if◌then◌else◌, List, [], ◌∷◌, map, length, replicate, count_by, nat_lt}
+use Rattle.std.specs.Prelude.{ℕ, ◌≡◌, ◌<◌, ◌==◌, ◌&&◌, Bool, true, false, if◌then◌else◌, List, [], ◌∷◌, map, length}
+use Rattle.std.specs.Prelude.{replicate, count_by, nat_lt}
 use Rattle.std.specs.List.{AllByRecursion}
 use Rattle.fx_designs.specs.Galois.{add, mul, neg, digits}
 
@@ -32,8 +33,8 @@ same [] (b ∷ w) = false
 same (a ∷ v) [] = false
 same (a ∷ v) (b ∷ w) = (a == b) && same v w
 
--- the dot product; entries past the end of the shorter vector count as zeros, so that a vector over the factors leaves out
--- the block values, which stand after the levels
+-- the dot product; entries past the end of the shorter vector count as zeros, so that a vector over the factors leaves
+-- out the block values, which stand after the levels
 abbrev pub dot : ℕ → List ℕ → List ℕ → ℕ
 dot q [] w = 0
 dot q (a ∷ v) [] = 0

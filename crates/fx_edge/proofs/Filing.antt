@@ -28,7 +28,8 @@ pub kept : (made : Option (List File)) (old new : Option (List ℕ)) (name : Lis
 kept None old new name h = record { exposed = λ files e. absurd (cc e) }
 kept (Some made) None new name h = record { exposed = λ files e. absurd (cc e) }
 kept (Some made) (Some xs) None name h = absurd h
-kept (Some made) (Some xs) (Some ys) name h = record { exposed = λ files e. ap (λ (b : List ℕ). Some (made ++ open_file name b ∷ [])) h ∙ e }
+kept (Some made) (Some xs) (Some ys) name h =
+    record { exposed = λ files e. ap (λ (b : List ℕ). Some (made ++ open_file name b ∷ [])) h ∙ e }
 
 pub closed : (made now : Option (List File)) (content : Option (List ℕ)) (name : List ℕ) → Closes made now name content
     → Shelves (with_open made content name) now (EndFile ∷ [])

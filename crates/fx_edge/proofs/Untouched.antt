@@ -19,7 +19,8 @@ nothing_given {old} command left status high = record {
 }
 
 -- whatever the words are
-pub nothing_for : {A E : Type 0} (old : World) (args : Result A E) (words : A → List (List ℕ)) (left : Option (List ℕ)) (status : ℕ) → 4 ≤ status
+pub nothing_for : {A E : Type 0} (old : World) (args : Result A E) (words : A → List (List ℕ)) (left : Option (List ℕ))
+    (status : ℕ) → 4 ≤ status
     → IfOk args (λ given. GivesForSome (command_in (words given)) left old old status)
 nothing_for old (Ok given) words left status high = nothing_given (command_in (words given)) left status high
 nothing_for old (Err error) words left status high = tt

@@ -13,7 +13,8 @@ with_open (Some files) None name = None
 with_open (Some files) (Some bytes) name = Some (files ++ open_file name bytes ∷ [])
 
 -- the files of a shelf over a folder
-abbrev pub all_files : {O : Type 0} → (O → List ℕ) → (O → Option (List ℕ)) → Option (List File) → Option O → Option (List File)
+abbrev pub all_files : {O : Type 0} → (O → List ℕ) → (O → Option (List ℕ)) → Option (List File) → Option O
+    → Option (List File)
 all_files name content made None = made
 all_files name content made (Some o) = with_open made (content o) (name o)
 
@@ -29,4 +30,5 @@ pub record Creates (old new : Option (List File)) (content : Option (List ℕ)) 
 
 -- the file is among the others, with all its bytes
 pub record Closes (old new : Option (List File)) (name : List ℕ) (content : Option (List ℕ)) : Type 0 where
-  pub exposed : (files : List File) (bytes : List ℕ) → old ≡ Some files → content ≡ Some bytes → new ≡ Some (files ++ whole_file name bytes ∷ [])
+  pub exposed : (files : List File) (bytes : List ℕ) → old ≡ Some files → content ≡ Some bytes
+      → new ≡ Some (files ++ whole_file name bytes ∷ [])

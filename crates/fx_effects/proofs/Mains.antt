@@ -1,5 +1,6 @@
 -- The main effects of a range, one by one, and the numbers of its names.
-use Rattle.std.proofs.Common.{◌≡◌, ℕ, ◌^◌, ◌+◌, ◌<◌, ◌≤◌, true, List, [], ◌∷◌, ◌++◌, drop, length, Result, Ok, Err, refl, ap, ◌∙◌}
+use Rattle.std.proofs.Common.{◌≡◌, ℕ, ◌^◌, ◌+◌, ◌<◌, ◌≤◌, true, List, [], ◌∷◌, ◌++◌, drop, length, Result, Ok, Err}
+use Rattle.std.proofs.Common.{refl, ap, ◌∙◌}
 use Rattle.std.specs.Prelude.{decimal}
 use Rattle.std.proofs.lemmas.Bool.{leb-true, and_parts}
 use Rattle.std.proofs.lemmas.List.{drop_all}
@@ -21,20 +22,25 @@ module _ (w : Written) (factors : List (List ℕ)) (mains : List ℕ) (stem : Li
   abbrev rest : ℕ → Result (List ℕ) Refusal
   rest e = mains_from w factors (mains ++ e ∷ []) (left (i + 1))
 
-  next : i < count → mains_from w factors mains (left i) ≡ main_of w (place_of (stem ++ decimal (from + i)) factors) >>= rest
+  next : i < count
+      → mains_from w factors mains (left i) ≡ main_of w (place_of (stem ++ decimal (from + i)) factors) >>= rest
   next h = ap (mains_from w factors mains) (from_here stem from count i h)
 
-  pub one_more : i < count → (e : ℕ) → main_of w (place_of (stem ++ decimal (from + i)) factors) ≡ Ok e → mains_from w factors mains (left i) ≡ rest e
+  pub one_more : i < count → (e : ℕ) → main_of w (place_of (stem ++ decimal (from + i)) factors) ≡ Ok e
+      → mains_from w factors mains (left i) ≡ rest e
   one_more h e is = next h ∙ ap (λ r. r >>= rest) is
 
-  pub not_one : i < count → (refusal : Refusal) → main_of w (place_of (stem ++ decimal (from + i)) factors) ≡ Err refusal → mains_from w factors mains (left i) ≡ Err refusal
+  pub not_one : i < count → (refusal : Refusal)
+      → main_of w (place_of (stem ++ decimal (from + i)) factors) ≡ Err refusal
+      → mains_from w factors mains (left i) ≡ Err refusal
   not_one h refusal is = next h ∙ ap (λ r. r >>= rest) is
 
   pub none_left : count ≤ i → mains_from w factors mains (left i) ≡ Ok mains
   none_left h = ap (mains_from w factors mains) (drop_all i (numbered stem from count) (rw length-map-range_with_len h))
 
 pub whole : (factors : List (List ℕ)) (first last : Written) (mains : List ℕ) → is_range first.text last.text ≡ true
-    → mains_from first factors [] (names_between first.text last.text) ≡ Ok mains → range_at factors first last ≡ Ok (expression mains 1)
+    → mains_from first factors [] (names_between first.text last.text) ≡ Ok mains
+    → range_at factors first last ≡ Ok (expression mains 1)
 whole factors first last mains range is = rw (range, is) refl
 
 -- a number at the end of a name has at most 38 digits

@@ -6,5 +6,8 @@ use Rattle.fx_vectors.specs.Effects.{numbers_of}
 use Rattle.fx_demands.specs.Bars.{AreNumbers}
 use Rattle.fx_demands.proofs.Merging.{numbers-push}
 
-pub pushed : (all new : List Effect) (e : Effect) → AreNumbers (numbers_of all) → e.0 < 2 ^ 64 → new ≡ all ++ e ∷ [] → AreNumbers (numbers_of new)
-pushed all new e numbers small is = subst AreNumbers (sym (numbers-push all new e is)) (each-append (λ (n : ℕ). n < 2 ^ 64) (numbers_of all) (e.0 ∷ []) numbers (small, tt))
+pub pushed : (all new : List Effect) (e : Effect) → AreNumbers (numbers_of all) → e.0 < 2 ^ 64 → new ≡ all ++ e ∷ []
+    → AreNumbers (numbers_of new)
+pushed all new e numbers small is =
+    subst AreNumbers (sym (numbers-push all new e is))
+    (each-append (λ (n : ℕ). n < 2 ^ 64) (numbers_of all) (e.0 ∷ []) numbers (small, tt))

@@ -1,5 +1,6 @@
 -- The effects that are written in a list: ranges of names, and stars joined by bars.
-use Rattle.std.specs.Prelude.{ℕ, ◌==◌, Bool, false, not, ◌&&◌, ◌||◌, nat_le, min, List, [], ◌∷◌, ◌++◌, suc, take, drop, slice_get, count_ones, bit_or, Option, Some, None, Result, Ok, Err, if◌then◌else◌}
+use Rattle.std.specs.Prelude.{ℕ, ◌==◌, Bool, false, not, ◌&&◌, ◌||◌, nat_le, min, List, [], ◌∷◌, ◌++◌, suc, take, drop}
+use Rattle.std.specs.Prelude.{slice_get, count_ones, bit_or, Option, Some, None, Result, Ok, Err, if◌then◌else◌}
 use Rattle.std.specs.List.{list_any, prefix_len}
 use Rattle.fx_language.specs.declared.code.TheConstants.{IRREGULAR_RANGE, NUMBER_OUT_OF_RANGE}
 use Rattle.fx_language.specs.declared.symbol.Symbol.{Symbol}
@@ -14,8 +15,8 @@ use Rattle.fx_text.specs.Ranges.{is_range, names_between}
 use Rattle.fx_text.specs.Ranges.{range_end}
 use Rattle.fx_effects.specs.Factors.{main_of, mains_from}
 
--- Stars that are joined by bars, and how many factors their unions may have. Factors with no more than one in a union are a
--- range.
+-- Stars that are joined by bars, and how many factors their unions may have. Factors with no more than one in a union
+-- are a range.
 pub record Expression : Type 0 where
   pub stars : List ℕ
   pub upto : ℕ
@@ -31,7 +32,8 @@ stars_of r = if r.star == 0 then r.stars else r.stars ++ r.star ∷ []
 
 -- one more factor in the next star, or E4 where the name is no factor's
 abbrev pub with_name : List (List ℕ) → Reading → Written → Result Reading Refusal
-with_name factors r w = main_of w (place_of w.text factors) >>= (λ e. Ok (record { stars = r.stars; star = bit_or r.star e }))
+with_name factors r w =
+    main_of w (place_of w.text factors) >>= (λ e. Ok (record { stars = r.stars; star = bit_or r.star e }))
 
 -- what follows where one word or sign more is read: a bar ends a star, and a name adds a factor to it
 abbrev pub read : List (List ℕ) → Reading → Written → Result Reading Refusal
@@ -51,7 +53,8 @@ stars_len written = prefix_len (λ w. not (is At w.symbol)) written
 -- Unions of at most n factors, where 64 are as many as there can be. 29: all stars have more.
 abbrev pub at_most : List ℕ → Written → Option ℕ → Result ℕ Refusal
 at_most stars w None = Err (refusal_at NUMBER_OUT_OF_RANGE w)
-at_most stars w (Some n) = if list_any (λ e. nat_le (count_ones e) n) stars then Ok (min n 64) else Err (refusal_at NUMBER_OUT_OF_RANGE w)
+at_most stars w (Some n) =
+    if list_any (λ e. nat_le (count_ones e) n) stars then Ok (min n 64) else Err (refusal_at NUMBER_OUT_OF_RANGE w)
 
 -- the most factors of a union, by the number after `@`, or as many as there are
 abbrev pub upto_of : List ℕ → Option Written → Result ℕ Refusal
@@ -102,7 +105,8 @@ abbrev pub expressions_from : List (List ℕ) → List Expression → Bool → L
 expressions_from factors all joined [] = Ok all
 expressions_from factors all joined (w ∷ rest) =
     if begins_effect joined w
-    then expression_at factors w (take (effect_len false rest) rest) >>= (λ e. expressions_from factors (all ++ e ∷ []) (is_joining w.symbol) rest)
+    then expression_at factors w (take (effect_len false rest) rest)
+    >>= (λ e. expressions_from factors (all ++ e ∷ []) (is_joining w.symbol) rest)
     else expressions_from factors all (is_joining w.symbol) rest
 
 -- the effects of a list

@@ -19,7 +19,8 @@ effects_of expressions = in_order (effects_written expressions)
 
 -- at most 100,000 effects, or E23 at the list's word
 abbrev pub few_effects : Written → List ℕ → Result (List ℕ) Refusal
-few_effects word effects = if nat_le (length effects) MOST_EFFECTS then Ok effects else Err (refusal_at TOO_MANY_EFFECTS word)
+few_effects word effects =
+    if nat_le (length effects) MOST_EFFECTS then Ok effects else Err (refusal_at TOO_MANY_EFFECTS word)
 
 -- stars that are numbers of 64 bits
 abbrev pub AreSmall : List Expression → Type 0

@@ -1,5 +1,6 @@
 -- What a MODEL statement with ESTIMATE asks for.
-use Rattle.std.specs.Prelude.{ℕ, ◌≤◌, ◌==◌, IsTrue, nat_le, not, List, [], ◌∷◌, length, filter, Option, Some, None, Result, Ok, Err, slice_get, if◌then◌else◌}
+use Rattle.std.specs.Prelude.{ℕ, ◌≤◌, ◌==◌, IsTrue, nat_le, not, List, [], ◌∷◌, length, filter, Option, Some, None}
+use Rattle.std.specs.Prelude.{Result, Ok, Err, slice_get, if◌then◌else◌}
 use Rattle.std.specs.List.{list_all, list_any}
 use Rattle.fx_language.specs.declared.code.TheConstants.{TOO_MANY_DEMANDS, UNEXPECTED_SYMBOL}
 use Rattle.fx_language.specs.declared.symbol.Symbol.TheVariants.{Close, Open}
@@ -37,7 +38,8 @@ told_apart q word estimate others =
     then Ok (record { estimate = estimate; nonnegligible = without estimate others })
     else Err (refusal_at TOO_MANY_DEMANDS word)
 
--- There are effects in a list, or E2 at its word. The grammar lets no list be empty, so no text that it accepts is refused here.
+-- There are effects in a list, or E2 at its word. The grammar lets no list be empty, so no text that it accepts is
+-- refused here.
 abbrev pub check_some_effects : Written → List ℕ → Result (Unit {0}) Refusal
 check_some_effects word effects = if length effects == 0 then Err (refusal_at UNEXPECTED_SYMBOL word) else Ok tt
 
@@ -59,7 +61,8 @@ lists_at q factors word written other_word other_written =
 -- what follows `MODEL ESTIMATE = (`, at the word ESTIMATE: a list, and after its `)` the second word and its list
 abbrev pub lists_after : ℕ → List (List ℕ) → Written → List Written → Result EffectLists Refusal
 lists_after q factors word written =
-    lists_at q factors word (before Close written) (first_or word (after Close written)) (before Close (after Open (after Close written)))
+    lists_at q factors word (before Close written) (first_or word (after Close written))
+    (before Close (after Open (after Close written)))
 
 -- where nothing follows MODEL, which the grammar refuses too, there is no word to be named
 abbrev pub by_word : ℕ → List (List ℕ) → Option Written → List Written → Result EffectLists Refusal

@@ -1,5 +1,6 @@
 -- The code of a symbol that the grammar refuses.
-use Rattle.std.proofs.Common.{◌≡◌, ℕ, suc, ◌+◌, Bool, true, false, not, ◌&&◌, List, [], ◌∷◌, ◌++◌, take, get_or, Option, Some, None, refl, sym, ap, ap₂, subst, ◌∙◌, inl, inr, arith}
+use Rattle.std.proofs.Common.{◌≡◌, ℕ, suc, ◌+◌, Bool, true, false, not, ◌&&◌, List, [], ◌∷◌, ◌++◌, take, get_or, Option}
+use Rattle.std.proofs.Common.{Some, None, refl, sym, ap, ap₂, subst, ◌∙◌, inl, inr, arith}
 use Rattle.std.specs.Prelude.{is_some, unwrap_or, if◌then◌else◌}
 use Rattle.std.specs.List.{Any}
 use Rattle.std.proofs.lemmas.Bool.{and_parts}
@@ -38,8 +39,20 @@ module _ (a : Shape) (solid : is_solid a ≡ true) where
       by_test : (b : Bool) → (is_word s && allows_option a) ≡ b → IsGeneralCode a [] s (if b then 3 else 2)
       by_test true e =
           let p = and_parts (is_word s) (allows_option a) e in
-          inl (refl, p.0, some_any (λ o. allows a o ≡ true) (λ o. Begins a (o ∷ [])) options goes_on (Any-from_list_any (allows a) options p.1))
-      by_test false e = inr (refl, λ word option. both_ways (word_and word (list_any-from_Any (allows a) options (some_any (λ o. Begins a (o ∷ [])) (λ o. allows a o ≡ true) options is_allowed option))) e)
+          inl (
+            refl,
+            p.0,
+            some_any (λ o. allows a o ≡ true) (λ o. Begins a (o ∷ [])) options goes_on
+                (Any-from_list_any (allows a) options p.1),
+          )
+      by_test false e =
+          inr (
+            refl,
+            λ word option. both_ways
+                (word_and word
+                (list_any-from_Any (allows a) options
+                (some_any (λ o. Begins a (o ∷ [])) (λ o. allows a o ≡ true) options is_allowed option))) e,
+          )
         where
           word_and : is_word s ≡ true → allows_option a ≡ true → (is_word s && allows_option a) ≡ true
           word_and w o = ap₂ (λ x y. x && y) w o
@@ -50,7 +63,8 @@ module _ (a : Shape) (solid : is_solid a ≡ true) where
   first_code : (s : Symbol) → HasItsCode a [] s (code_of a s)
   first_code s = by_named (fault_at s a) refl
     where
-      by_named : (c : Option ℕ) → fault_at s a ≡ c → HasItsCode a [] s (unwrap_or c (if is_word s && allows_option a then 3 else 2))
+      by_named : (c : Option ℕ) → fault_at s a ≡ c
+          → HasItsCode a [] s (unwrap_or c (if is_word s && allows_option a then 3 else 2))
       by_named (Some code) e = inl (named_here code s a e)
       by_named None e = inr (λ c n. not_some (here_named c s a n) e, general s)
         where
@@ -58,15 +72,20 @@ module _ (a : Shape) (solid : is_solid a ≡ true) where
           not_some h e = let f : true ≡ false = sym h ∙ ap is_some e in cc
 
 -- and after one more symbol
-lifted : (a : Shape) (x : Symbol) (t : List Symbol) (s : Symbol) (code : ℕ) → HasItsCode (after x a) t s code → HasItsCode a (x ∷ t) s code
+lifted : (a : Shape) (x : Symbol) (t : List Symbol) (s : Symbol) (code : ℕ) → HasItsCode (after x a) t s code
+    → HasItsCode a (x ∷ t) s code
 lifted a x t s code (inl n) = inl (named_later code x a t s n)
 lifted a x t s code (inr (none, other)) = inr (λ c n. none c (later_named c x a t s n), more other)
   where
     more_option : AllowsOption (after x a) t → AllowsOption a (x ∷ t)
-    more_option h = some_any (λ o. Begins (after x a) (t ++ o ∷ [])) (λ o. Begins a (x ∷ t ++ o ∷ [])) options (λ o b. begins_more a x (t ++ o ∷ []) b) h
+    more_option h =
+        some_any (λ o. Begins (after x a) (t ++ o ∷ [])) (λ o. Begins a (x ∷ t ++ o ∷ [])) options
+        (λ o b. begins_more a x (t ++ o ∷ []) b) h
 
     less_option : AllowsOption a (x ∷ t) → AllowsOption (after x a) t
-    less_option h = some_any (λ o. Begins a (x ∷ t ++ o ∷ [])) (λ o. Begins (after x a) (t ++ o ∷ [])) options (λ o b. begins_less a x (t ++ o ∷ []) b) h
+    less_option h =
+        some_any (λ o. Begins a (x ∷ t ++ o ∷ [])) (λ o. Begins (after x a) (t ++ o ∷ [])) options
+        (λ o b. begins_less a x (t ++ o ∷ []) b) h
 
     more : IsGeneralCode (after x a) t s code → IsGeneralCode a (x ∷ t) s code
     more (inl (three, word, option)) = inl (three, word, more_option option)
@@ -81,7 +100,8 @@ record IsCoded (a : Shape) (symbols : List Symbol) (k code i : ℕ) : Type 0 whe
 same_both : (p q : ℕ × ℕ) → Some p ≡ Some q → p ≡ q
 same_both p q e = cc
 
-coded_now : (a : Shape) (s : Symbol) (rest : List Symbol) (symbols : List Symbol) (k code i : ℕ) → ended symbols ≡ s ∷ rest → is_solid a ≡ true
+coded_now : (a : Shape) (s : Symbol) (rest : List Symbol) (symbols : List Symbol) (k code i : ℕ)
+    → ended symbols ≡ s ∷ rest → is_solid a ≡ true
     → ◌≡◌ {A = Option (ℕ × ℕ)} (Some (code_of a s, k)) (Some (code, i)) → IsCoded a symbols k code i
 coded_now a s rest symbols k code i first solid e =
     let same = same_both (code_of a s, k) (code, i) e in
@@ -89,17 +109,20 @@ coded_now a s rest symbols k code i first solid e =
       j = 0;
       at = omega (arith, ap (λ (x : ℕ × ℕ). x.1) same);
       its_code = subst (λ c. HasItsCode a [] (get_or (ended symbols) 0 End) c) (ap (λ (x : ℕ × ℕ). x.0) same)
-          (subst (λ (l : List Symbol). HasItsCode a [] (get_or l 0 End) (code_of a s)) (sym first) (first_code a solid s));
+          (subst (λ (l : List Symbol). HasItsCode a [] (get_or l 0 End) (code_of a s)) (sym first)
+          (first_code a solid s));
     }
 
-coded_later : (a : Shape) (s : Symbol) (rest : List Symbol) (k code i : ℕ) → IsCoded (after s a) rest (suc k) code i → IsCoded a (s ∷ rest) k code i
+coded_later : (a : Shape) (s : Symbol) (rest : List Symbol) (k code i : ℕ) → IsCoded (after s a) rest (suc k) code i
+    → IsCoded a (s ∷ rest) k code i
 coded_later a s rest k code i c = record {
   j = suc c.j;
   at = omega (arith, c.at);
   its_code = lifted a s (take c.j rest) (get_or (ended rest) c.j End) code c.its_code;
 }
 
-coded : (a : Shape) (symbols : List Symbol) (k code i : ℕ) → is_solid a ≡ true → refused k a symbols ≡ Some (code, i) → IsCoded a symbols k code i
+coded : (a : Shape) (symbols : List Symbol) (k code i : ℕ) → is_solid a ≡ true → refused k a symbols ≡ Some (code, i)
+    → IsCoded a symbols k code i
 unfolding refused
 coded a [] k code i h e =
     elim (after_fine End a h) [
@@ -109,7 +132,9 @@ coded a [] k code i h e =
 coded a (s ∷ rest) k code i h e =
     elim (after_fine s a h) [
       | inl never ↦ coded_now a s (ended rest) (s ∷ rest) k code i refl h (rw never at e)
-      | inr solid ↦ coded_later a s rest k code i (coded (after s a) rest (suc k) code i solid (rw (not_never (after s a) solid) at e))
+      | inr solid ↦
+          coded_later a s rest k code i
+          (coded (after s a) rest (suc k) code i solid (rw (not_never (after s a) solid) at e))
     ]
 
 -- the law for programs

@@ -1,9 +1,11 @@
 -- What is left after a symbol is what the description stands for after it.
-use Rattle.std.proofs.Common.{◌≡◌, Bool, true, false, cond, ◌||◌, ◌⊎◌, List, [], ◌∷◌, ◌++◌, refl, sym, ap, subst, ◌∙◌, append_assoc, inl, inr, ⊎_elim}
+use Rattle.std.proofs.Common.{◌≡◌, Bool, true, false, cond, ◌||◌, ◌⊎◌, List, [], ◌∷◌, ◌++◌, refl, sym, ap, subst, ◌∙◌}
+use Rattle.std.proofs.Common.{append_assoc, inl, inr, ⊎_elim}
 use Rattle.std.specs.List.{flat_map, AllByRecursion}
 use Rattle.std.proofs.lemmas.Bool.{and_parts, or_cases}
 use Rattle.fx_language.specs.declared.symbol.Symbol.{Symbol}
-use Rattle.fx_language.specs.Shapes.{Shape, Never, Empty, One, Before, Either, Many, Fault, ◌▸◌, or_else, may_be_empty, after, Matches}
+use Rattle.fx_language.specs.Shapes.{Shape, Never, Empty, One, Before, Either, Many, Fault, ◌▸◌, or_else, may_be_empty}
+use Rattle.fx_language.specs.Shapes.{after, Matches}
 
 -- a sequence is one text before another
 pub parts_of : (a b : Shape) (t : List Symbol) → Matches (a ▸ b) t → Matches (Before a b) t
@@ -14,8 +16,14 @@ parts_of (Either a c) b t h = h
 parts_of (Many a) b t h = h
 parts_of (Fault code test) b t h = h
 parts_of (Before a c) b t (x, y, p, q, e) =
-    let r = parts_of c b y q in
-    (x ++ r.0, r.1, (x, r.0, p, r.2, refl), r.3, e ∙ ap (λ (l : List Symbol). x ++ l) r.4 ∙ sym (append_assoc x r.0 r.1))
+    let r = parts_of c b y q in (
+      x ++ r.0,
+      r.1,
+      (x, r.0, p, r.2, refl),
+      r.3,
+      e ∙ ap (λ (l : List Symbol). x ++ l) r.4 ∙ sym
+          (append_assoc x r.0 r.1),
+    )
 
 pub sequence_of : (a b : Shape) (t : List Symbol) → Matches (Before a b) t → Matches (a ▸ b) t
 sequence_of Never b t (x, y, p, q, e) = absurd p
@@ -24,8 +32,14 @@ sequence_of (One test) b t h = h
 sequence_of (Either a c) b t h = h
 sequence_of (Many a) b t h = h
 sequence_of (Fault code test) b t h = h
-sequence_of (Before a c) b t (x, y, (u, v, p, r, f), q, e) =
-    (u, v ++ y, p, sequence_of c b (v ++ y) (v, y, r, q, refl), e ∙ ap (λ (l : List Symbol). l ++ y) f ∙ append_assoc u v y)
+sequence_of (Before a c) b t (x, y, (u, v, p, r, f), q, e) = (
+  u,
+  v ++ y,
+  p,
+  sequence_of c b (v ++ y) (v, y, r, q, refl),
+  e ∙ ap (λ (l : List Symbol). l ++ y) f ∙ append_assoc u
+      v y,
+)
 
 pub or_else_to : (a b : Shape) (t : List Symbol) → Matches (or_else a b) t → Matches a t ⊎ Matches b t
 or_else_to Never b t h = inr h
@@ -99,8 +113,13 @@ after_sound s (Before a b) t h =
 after_sound s (Either a b) t h =
     ⊎_elim (λ p. inl (after_sound s a t p)) (λ p. inr (after_sound s b t p)) (or_else_to (after s a) (after s b) t h)
 after_sound s (Many a) t h =
-    let r = parts_of (after s a) (Many a) t h in
-    ((s ∷ r.0) ∷ r.3.0, (after_sound s a r.0 r.2, r.3.1), ap (λ (l : List Symbol). s ∷ l) (r.4 ∙ ap (λ (l : List Symbol). r.0 ++ l) r.3.2))
+    let r = parts_of (after s a) (Many a) t h in (
+      (s ∷ r.0)
+          ∷ r.3.0,
+      (after_sound s a r.0 r.2, r.3.1),
+      ap (λ (l : List Symbol). s ∷ l)
+          (r.4 ∙ ap (λ (l : List Symbol). r.0 ++ l) r.3.2),
+    )
 after_sound s (Fault code test) t h = h
 
 one_complete : (b : Bool) → b ≡ true → Matches (cond b Empty Never) []
@@ -127,7 +146,13 @@ many_complete s a t in_a [] each e = absurd (let f : s ∷ t ≡ [] = e in cc)
 many_complete s a t in_a ([] ∷ parts) each e = many_complete s a t in_a parts each.1 e
 many_complete s a t in_a ((r ∷ x) ∷ parts) each e =
     let f = head_is s r t (x ++ flat_map (λ part. part) parts) e in
-    sequence_of (after s a) (Many a) t (x, flat_map (λ part. part) parts, in_a x (subst (λ (z : Symbol). Matches a (z ∷ x)) (sym f.0) each.0), (parts, each.1, refl), f.1)
+    sequence_of (after s a) (Many a) t (
+      x,
+      flat_map (λ part. part) parts,
+      in_a x (subst (λ (z : Symbol). Matches a (z ∷ x)) (sym f.0) each.0),
+      (parts, each.1, refl),
+      f.1,
+    )
 
 -- every text with the symbol in front
 pub after_complete : (s : Symbol) (a : Shape) (t : List Symbol) → Matches a (s ∷ t) → Matches (after s a) t
@@ -140,7 +165,9 @@ after_complete s (Before a b) t ([], y, p, q, e) =
     front_right s a b t (may_be_empty a) (empty_out a p) (after_complete s b t (subst (Matches b) (sym e) q))
 after_complete s (Before a b) t (r ∷ x, y, p, q, e) =
     let f = head_is s r t (x ++ y) e in
-    front_left s a b t (may_be_empty a) (sequence_of (after s a) b t (x, y, after_complete s a x (subst (λ (z : Symbol). Matches a (z ∷ x)) (sym f.0) p), q, f.1))
+    front_left s a b t (may_be_empty a)
+    (sequence_of (after s a) b t
+    (x, y, after_complete s a x (subst (λ (z : Symbol). Matches a (z ∷ x)) (sym f.0) p), q, f.1))
 after_complete s (Either a b) t (inl h) = or_else_from (after s a) (after s b) t (inl (after_complete s a t h))
 after_complete s (Either a b) t (inr h) = or_else_from (after s a) (after s b) t (inr (after_complete s b t h))
 after_complete s (Many a) t (parts, each, e) =

@@ -3,7 +3,8 @@ use Rattle.std.proofs.Common.{◌≡◌, Bool, true, false, cond, ◌&&◌, not,
 use Rattle.std.proofs.lemmas.Bool.{and_parts, not-true}
 use Rattle.fx_language.specs.declared.symbol.Symbol.{Symbol}
 use Rattle.fx_language.specs.declared.symbol.Symbol.TheVariants.{End}
-use Rattle.fx_language.specs.Shapes.{Shape, Never, Empty, One, Before, Either, Many, Fault, ◌▸◌, or_else, may_be_empty, after, Matches}
+use Rattle.fx_language.specs.Shapes.{Shape, Never, Empty, One, Before, Either, Many, Fault, ◌▸◌, or_else, may_be_empty}
+use Rattle.fx_language.specs.Shapes.{after, Matches}
 use Rattle.fx_language.proofs.Derivatives.{or_else_to}
 
 -- no text of the description holds the end
@@ -58,7 +59,8 @@ lacks_after s (One test) h = choice (λ x. lacks_end x ≡ true) (test s) Empty 
 lacks_after s (Before a b) h =
     let p = and_parts (lacks_end a) (lacks_end b) h in
     let first = lacks_sequence (after s a) b (lacks_after s a p.0) p.1 in
-    choice (λ x. lacks_end x ≡ true) (may_be_empty a) (or_else (after s a ▸ b) (after s b)) (after s a ▸ b) (lacks_either (after s a ▸ b) (after s b) first (lacks_after s b p.1)) first
+    choice (λ x. lacks_end x ≡ true) (may_be_empty a) (or_else (after s a ▸ b) (after s b)) (after s a ▸ b)
+    (lacks_either (after s a ▸ b) (after s b) first (lacks_after s b p.1)) first
 lacks_after s (Either a b) h =
     let p = and_parts (lacks_end a) (lacks_end b) h in
     lacks_either (after s a) (after s b) (lacks_after s a p.0) (lacks_after s b p.1)
@@ -89,7 +91,8 @@ ends_after s (One test) h = choice (λ x. ends_last x ≡ true) (test s) Empty N
 ends_after s (Before a b) h =
     let p = and_parts (lacks_end a) (ends_last b) h in
     let first = ends_sequence (after s a) b (lacks_after s a p.0) p.1 in
-    choice (λ x. ends_last x ≡ true) (may_be_empty a) (or_else (after s a ▸ b) (after s b)) (after s a ▸ b) (ends_either (after s a ▸ b) (after s b) first (ends_after s b p.1)) first
+    choice (λ x. ends_last x ≡ true) (may_be_empty a) (or_else (after s a ▸ b) (after s b)) (after s a ▸ b)
+    (ends_either (after s a ▸ b) (after s b) first (ends_after s b p.1)) first
 ends_after s (Either a b) h =
     let p = and_parts (ends_last a) (ends_last b) h in
     ends_either (after s a) (after s b) (ends_after s a p.0) (ends_after s b p.1)
@@ -123,7 +126,8 @@ empty_after_end Empty h = λ t m. absurd m
 empty_after_end (One test) h = choice OnlyEmpty (test End) Empty Never (λ t m. m) (λ t m. absurd m)
 empty_after_end (Before a b) h =
     let p = and_parts (lacks_end a) (ends_last b) h in
-    rw (never_after_end a p.0) (choice OnlyEmpty (may_be_empty a) (after End b) Never (empty_after_end b p.1) (λ t m. absurd m))
+    rw (never_after_end a p.0)
+    (choice OnlyEmpty (may_be_empty a) (after End b) Never (empty_after_end b p.1) (λ t m. absurd m))
 empty_after_end (Either a b) h =
     let p = and_parts (ends_last a) (ends_last b) h in
     either_empty (after End a) (after End b) (empty_after_end a p.0) (empty_after_end b p.1)

@@ -7,10 +7,12 @@ use Rattle.fx_language.specs.Symbols.{is, is_once}
 use Rattle.fx_language.specs.Refusals.{is_rule, refused}
 use Rattle.fx_language.specs.Grammar.{program}
 use Rattle.fx_language.proofs.Rules.{refused_by_a_rule}
-use Rattle.fx_language.specs.Repeats.{is_start, has_statement, procs, begins_with, is_behind_equals, is_option_in, has_option, rule_at, or_later, repeated}
+use Rattle.fx_language.specs.Repeats.{is_start, has_statement, procs, begins_with, is_behind_equals, is_option_in}
+use Rattle.fx_language.specs.Repeats.{has_option, rule_at, or_later, repeated}
 use Rattle.fx_language.specs.FirstRefusal.{earlier, first_refusal}
 
-either : (b : Bool) (code : ℕ) (other : Option ℕ) → is_rule code ≡ true → IfSome other (λ c. is_rule c ≡ true) → IfSome (if b then Some code else other) (λ c. is_rule c ≡ true)
+either : (b : Bool) (code : ℕ) (other : Option ℕ) → is_rule code ≡ true → IfSome other (λ c. is_rule c ≡ true)
+    → IfSome (if b then Some code else other) (λ c. is_rule c ≡ true)
 either true code other h k = h
 either false code other h k = k
 
@@ -21,15 +23,20 @@ rules seen s rest =
     (either (is_start seen && is Proc s && begins_with Factex rest && nat_le 100 (procs seen)) 32 _ refl
     (either (not (is_behind_equals seen) && is_option_in seen s && has_option s seen) 28 None refl tt)))
 
-first_of : (i : ℕ) (code : Option ℕ) (more : Option (ℕ × ℕ)) → IfSome code (λ c. is_rule c ≡ true) → IfSome more (λ r. is_rule r.0 ≡ true) → IfSome (or_later i code more) (λ r. is_rule r.0 ≡ true)
+first_of : (i : ℕ) (code : Option ℕ) (more : Option (ℕ × ℕ)) → IfSome code (λ c. is_rule c ≡ true)
+    → IfSome more (λ r. is_rule r.0 ≡ true) → IfSome (or_later i code more) (λ r. is_rule r.0 ≡ true)
 first_of i None more h k = k
 first_of i (Some code) more h k = h
 
-repeats : (seen : List Symbol) (i : ℕ) (symbols : List Symbol) → IfSome (repeated seen i symbols) (λ r. is_rule r.0 ≡ true)
+repeats : (seen : List Symbol) (i : ℕ) (symbols : List Symbol)
+    → IfSome (repeated seen i symbols) (λ r. is_rule r.0 ≡ true)
 repeats seen i [] = tt
-repeats seen i (s ∷ rest) = first_of i (rule_at seen s rest) (repeated (s ∷ seen) (i + 1) rest) (rules seen s rest) (repeats (s ∷ seen) (i + 1) rest)
+repeats seen i (s ∷ rest) =
+    first_of i (rule_at seen s rest) (repeated (s ∷ seen) (i + 1) rest) (rules seen s rest)
+    (repeats (s ∷ seen) (i + 1) rest)
 
-one_of : (g r : Option (ℕ × ℕ)) → IfSome g (λ x. is_rule x.0 ≡ true) → IfSome r (λ x. is_rule x.0 ≡ true) → IfSome (earlier g r) (λ x. is_rule x.0 ≡ true)
+one_of : (g r : Option (ℕ × ℕ)) → IfSome g (λ x. is_rule x.0 ≡ true) → IfSome r (λ x. is_rule x.0 ≡ true)
+    → IfSome (earlier g r) (λ x. is_rule x.0 ≡ true)
 one_of None r h k = k
 one_of (Some g) None h k = h
 one_of (Some g) (Some r) h k = by (nat_lt r.1 g.1)
@@ -39,4 +46,5 @@ one_of (Some g) (Some r) h k = by (nat_lt r.1 g.1)
     by false = h
 
 pub first_by_a_rule : (symbols : List Symbol) → IfSome (first_refusal symbols) (λ r. is_rule r.0 ≡ true)
-first_by_a_rule symbols = one_of (refused 0 program symbols) (repeated [] 0 symbols) (refused_by_a_rule symbols) (repeats [] 0 symbols)
+first_by_a_rule symbols =
+    one_of (refused 0 program symbols) (repeated [] 0 symbols) (refused_by_a_rule symbols) (repeats [] 0 symbols)

@@ -10,10 +10,12 @@ one true next = refl
 one false next = refl
 
 -- where others have a code of their own
-pub one_or_fault : (b : Bool) (next : State) → or_else (cond b Empty Never) Never ▸ shape_of next ≡ shape_left (if b then Some next else None)
+pub one_or_fault : (b : Bool) (next : State)
+    → or_else (cond b Empty Never) Never ▸ shape_of next ≡ shape_left (if b then Some next else None)
 one_or_fault true next = refl
 one_or_fault false next = refl
 
-pub one_or_faults : (b : Bool) (next : State) → or_else (or_else (cond b Empty Never) Never) Never ▸ shape_of next ≡ shape_left (if b then Some next else None)
+pub one_or_faults : (b : Bool) (next : State)
+    → or_else (or_else (cond b Empty Never) Never) Never ▸ shape_of next ≡ shape_left (if b then Some next else None)
 one_or_faults true next = refl
 one_or_faults false next = refl

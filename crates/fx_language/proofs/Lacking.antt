@@ -1,5 +1,6 @@
 -- Texts of a description that lack a symbol.
-use Rattle.std.proofs.Common.{◌≡◌, Bool, true, false, not, ◌&&◌, ◌||◌, List, [], ◌∷◌, ◌++◌, refl, ap, ap₂, ◌∙◌, inl, inr}
+use Rattle.std.proofs.Common.{◌≡◌, Bool, true, false, not, ◌&&◌, ◌||◌, List, [], ◌∷◌, ◌++◌, refl, ap, ap₂, ◌∙◌, inl}
+use Rattle.std.proofs.Common.{inr}
 use Rattle.std.specs.List.{AllByRecursion, flat_map, list_any}
 use Rattle.std.proofs.lemmas.Bool.{and_parts, both_ways, cases_Bool, not-true}
 use Rattle.std.proofs.lemmas.List.Folds.{list_any-append}
@@ -44,10 +45,12 @@ module _ (t : Symbol) (alone : (s : Symbol) → is t s ≡ true → t ≡ s) whe
   both : (x y : List Symbol) → list_any (is t) x ≡ false → list_any (is t) y ≡ false → list_any (is t) (x ++ y) ≡ false
   both x y hx hy = list_any-append (is t) x y ∙ ap₂ (λ a b. a || b) hx hy
 
-  flat : (a : Shape) → ((x : List Symbol) → Matches a x → list_any (is t) x ≡ false) → (parts : List (List Symbol)) → AllByRecursion (Matches a) parts
+  flat : (a : Shape) → ((x : List Symbol) → Matches a x → list_any (is t) x ≡ false) → (parts : List (List Symbol))
+      → AllByRecursion (Matches a) parts
       → list_any (is t) (flat_map (λ (part : List Symbol). part) parts) ≡ false
   flat a each [] h = refl
-  flat a each (part ∷ rest) h = both part (flat_map (λ (part : List Symbol). part) rest) (each part h.0) (flat a each rest h.1)
+  flat a each (part ∷ rest) h =
+      both part (flat_map (λ (part : List Symbol). part) rest) (each part h.0) (flat a each rest h.1)
 
   pub none : (a : Shape) (text : List Symbol) → lacks t a ≡ true → Matches a text → list_any (is t) text ≡ false
   none Never text l m = absurd m

@@ -1,5 +1,6 @@
 -- Where a symbol is refused because it is left out of the language.
-use Rattle.std.proofs.Common.{◌≡◌, ℕ, Bool, true, false, ◌&&◌, ◌||◌, List, [], ◌∷◌, ◌++◌, refl, sym, ap, ap₂, subst, ◌∙◌, ◌⊎◌, inl, inr, append_assoc}
+use Rattle.std.proofs.Common.{◌≡◌, ℕ, Bool, true, false, ◌&&◌, ◌||◌, List, [], ◌∷◌, ◌++◌, refl, sym, ap, ap₂, subst}
+use Rattle.std.proofs.Common.{◌∙◌, ◌⊎◌, inl, inr, append_assoc}
 use Rattle.std.specs.List.{list_any}
 use Rattle.std.specs.Prelude.{◌==◌}
 use Rattle.std.proofs.lemmas.Bool.{and_parts, or_cases, eqb-true}
@@ -7,13 +8,17 @@ use Rattle.std.proofs.lemmas.List.Folds.{list_any-append}
 use Rattle.fx_language.specs.declared.symbol.Symbol.{Symbol}
 use Rattle.fx_language.specs.declared.symbol.Symbol.TheVariants as symbol
 use Rattle.fx_language.specs.Symbols.{is, is_left_out, is_word}
-use Rattle.fx_language.specs.Shapes.{Shape, Never, Empty, One, Before, Either, Many, Fault, Matches, guarded, maybe, ◌▸◌, ◌∣◌}
-use Rattle.fx_language.specs.Grammar.{key, name, n, no_open, replication, values, recoded, option, factors, size, model_word, model_rest, model, blocks, examine_word, examine_rest, examine, output_rest, output, proc, proc_rest, statement, step, between, unknown, program}
+use Rattle.fx_language.specs.Shapes.{Shape, Never, Empty, One, Before, Either, Many, Fault, Matches, guarded, maybe}
+use Rattle.fx_language.specs.Shapes.{◌▸◌, ◌∣◌}
+use Rattle.fx_language.specs.Grammar.{key, name, n, no_open, replication, values, recoded, option, factors, size}
+use Rattle.fx_language.specs.Grammar.{model_word, model_rest, model, blocks, examine_word, examine_rest, examine}
+use Rattle.fx_language.specs.Grammar.{output_rest, output, proc, proc_rest, statement, step, between, unknown, program}
 use Rattle.fx_language.specs.Laws.{Names, IsAtStart, IsIn, IsLeftOut}
 use Rattle.fx_language.proofs.Named.{from_parts}
 use Rattle.fx_language.proofs.Lacking.{lacks, none}
 use Rattle.fx_language.proofs.SameSymbol.{symbol_is}
-use Rattle.fx_language.proofs.Unknown.{lacks_code, other_code, none as no_code, semicolon, joined, many, between_start, proc_start, statement_start, whole_step, whole_start}
+use Rattle.fx_language.proofs.Unknown.{lacks_code, other_code, none as no_code, semicolon, joined, many, between_start}
+use Rattle.fx_language.proofs.Unknown.{proc_start, statement_start, whole_step, whole_start}
 
 -- before the semicolon that ends a statement
 
@@ -27,19 +32,24 @@ inside (Either a b) = inside a && inside b
 inside (Many a) = lacks symbol.Semicolon a && inside a
 inside (Fault code test) = true
 
-without : (a : Shape) (t : List Symbol) → lacks symbol.Semicolon a ≡ true → Matches a t → list_any (is symbol.Semicolon) t ≡ false
+without : (a : Shape) (t : List Symbol) → lacks symbol.Semicolon a ≡ true → Matches a t
+    → list_any (is symbol.Semicolon) t ≡ false
 without a t l m = none symbol.Semicolon (λ s h. sym (semicolon s h)) a t l m
 
-both_without : (t x y : List Symbol) → t ≡ x ++ y → list_any (is symbol.Semicolon) x ≡ false → list_any (is symbol.Semicolon) y ≡ false → list_any (is symbol.Semicolon) t ≡ false
-both_without t x y e h k = ap (list_any (is symbol.Semicolon)) e ∙ list_any-append (is symbol.Semicolon) x y ∙ ap₂ (λ a b. a || b) h k
+both_without : (t x y : List Symbol) → t ≡ x ++ y → list_any (is symbol.Semicolon) x ≡ false
+    → list_any (is symbol.Semicolon) y ≡ false → list_any (is symbol.Semicolon) t ≡ false
+both_without t x y e h k =
+    ap (list_any (is symbol.Semicolon)) e ∙ list_any-append (is symbol.Semicolon) x y ∙ ap₂ (λ a b. a || b) h k
 
-named_inside : (c : ℕ) (a : Shape) (t : List Symbol) (s : Symbol) → inside a ≡ true → Names c a t s → list_any (is symbol.Semicolon) t ≡ false
+named_inside : (c : ℕ) (a : Shape) (t : List Symbol) (s : Symbol) → inside a ≡ true → Names c a t s
+    → list_any (is symbol.Semicolon) t ≡ false
 named_inside c Never t s h k = absurd k
 named_inside c Empty t s h k = absurd k
 named_inside c (One test) t s h k = absurd k
 named_inside c (Before a b) t s h (inl k) = named_inside c a t s (and_parts _ _ (and_parts _ _ h).1).0 k
 named_inside c (Before a b) t s h (inr (x, y, m, k, e)) =
-    both_without t x y e (without a x (and_parts _ _ h).0 m) (named_inside c b y s (and_parts _ _ (and_parts _ _ h).1).1 k)
+    both_without t x y e (without a x (and_parts _ _ h).0 m)
+    (named_inside c b y s (and_parts _ _ (and_parts _ _ h).1).1 k)
 named_inside c (Either a b) t s h (inl k) = named_inside c a t s (and_parts _ _ h).0 k
 named_inside c (Either a b) t s h (inr k) = named_inside c b t s (and_parts _ _ h).1 k
 named_inside c (Many a) t s h (x, y, m, k, e) =
@@ -47,7 +57,8 @@ named_inside c (Many a) t s h (x, y, m, k, e) =
 named_inside c (Fault code test) t s h (e, passes, same) = ap (list_any (is symbol.Semicolon)) e
 
 -- the code by which a description is guarded is of the symbols against which it is guarded
-guarded_named : (c : ℕ) (test : Symbol → Bool) (a : Shape) (t : List Symbol) (s : Symbol) → lacks_code c a ≡ true → Names c (guarded c test a) t s → test s ≡ true
+guarded_named : (c : ℕ) (test : Symbol → Bool) (a : Shape) (t : List Symbol) (s : Symbol) → lacks_code c a ≡ true
+    → Names c (guarded c test a) t s → test s ≡ true
 guarded_named c test Never t s l h = absurd h
 guarded_named c test Empty t s l h = absurd h
 guarded_named c test (One other) t s l (inl h) = absurd h
@@ -60,9 +71,14 @@ guarded_named c test (Many a) t s l (x, y, m, h, e) = guarded_named c test a y s
 guarded_named c test (Fault code other) t s l (e, passes, same) = absurd (other_code code c l same)
 
 -- a statement whose word is first, where a code is named after y
-in_statement_of : (word w : Symbol) (t x y rest : List Symbol) → w ≡ word → t ≡ x ++ y → x ≡ w ∷ [] → y ≡ rest → list_any (is symbol.Semicolon) y ≡ false → IsIn word t rest
-in_statement_of word w t x y rest is_word e ex same lacking =
-    ([], inl refl, e ∙ ap (λ (l : List Symbol). l ++ y) ex ∙ ap₂ (λ (z : Symbol) (l : List Symbol). z ∷ l) is_word same, ap (list_any (is symbol.Semicolon)) (sym same) ∙ lacking)
+in_statement_of : (word w : Symbol) (t x y rest : List Symbol) → w ≡ word → t ≡ x ++ y → x ≡ w ∷ [] → y ≡ rest
+    → list_any (is symbol.Semicolon) y ≡ false → IsIn word t rest
+in_statement_of word w t x y rest is_word e ex same lacking = (
+  [],
+  inl refl,
+  e ∙ ap (λ (l : List Symbol). l ++ y) ex ∙ ap₂ (λ (z : Symbol) (l : List Symbol). z ∷ l) is_word same,
+  ap (list_any (is symbol.Semicolon)) (sym same) ∙ lacking,
+)
 
 -- PROC
 
@@ -70,7 +86,10 @@ in_proc : (t : List Symbol) (s : Symbol) → Names 24 proc t s → IsLeftOut t s
 in_proc t s (inl h) = absurd h
 in_proc t s (inr (x, y, (p, passed, ex), h, e)) =
     inr (inl (
-      guarded_named 24 is_left_out ((key symbol.Factex ∣ Fault 1 is_word) ▸ Many (key symbol.Nodes ▸ key symbol.Equals ▸ n) ▸ key symbol.Semicolon) y s refl h,
+      guarded_named 24 is_left_out
+          ((key symbol.Factex ∣ Fault 1 is_word) ▸ Many (key symbol.Nodes ▸ key symbol.Equals ▸ n)
+          ▸ key symbol.Semicolon)
+          y s refl h,
       y,
       in_statement_of symbol.Proc p t x y y (symbol_is symbol.Proc p passed) e ex refl
           (named_inside 24 proc_rest y s refl h),
@@ -78,13 +97,15 @@ in_proc t s (inr (x, y, (p, passed, ex), h, e)) =
 
 -- MODEL
 
-behind_minabs : (t : List Symbol) (s : Symbol) → Names 24 (maybe (key symbol.Slash ▸ key symbol.Minabs ▸ no_open) ▸ key symbol.Semicolon) t s
+behind_minabs : (t : List Symbol) (s : Symbol)
+    → Names 24 (maybe (key symbol.Slash ▸ key symbol.Minabs ▸ no_open) ▸ key symbol.Semicolon) t s
     → (t ≡ symbol.Slash ∷ symbol.Minabs ∷ []) × (is symbol.Open s ≡ true)
 behind_minabs t s (inl (inl (inl h))) = absurd h
 behind_minabs t s (inl (inl (inr (a, b, (sl, tsl, esl), inl h, e1)))) = absurd h
 behind_minabs t s (inl (inl (inr (a, b, (sl, tsl, esl), inr (c, d, (mi, tmi, emi), inl h, e2), e1)))) = absurd h
 behind_minabs t s (inl (inl (inr (a, b, (sl, tsl, esl), inr (c, d, (mi, tmi, emi), inr (e0, opens, same), e2), e1)))) = (
-  e1 ∙ ap (λ (l : List Symbol). l ++ b) esl ∙ ap (λ (l : List Symbol). sl ∷ l) (e2 ∙ ap (λ (l : List Symbol). l ++ d) emi ∙ ap (λ (l : List Symbol). mi ∷ l) e0)
+  e1 ∙ ap (λ (l : List Symbol). l ++ b) esl ∙ ap (λ (l : List Symbol). sl ∷ l)
+      (e2 ∙ ap (λ (l : List Symbol). l ++ d) emi ∙ ap (λ (l : List Symbol). mi ∷ l) e0)
       ∙ ap₂ (λ (u v : Symbol). u ∷ v ∷ []) (symbol_is symbol.Slash sl tsl) (symbol_is symbol.Minabs mi tmi),
   opens,
 )
@@ -102,13 +123,15 @@ in_model t s (inr (x, y, (p, passed, ex), inr (u, v, m, h, ev), e)) =
         u,
         inl (in_statement_of symbol.Model p t x y (u ++ symbol.Slash ∷ symbol.Minabs ∷ [])
             (symbol_is symbol.Model p passed) e ex
-            (ev ∙ ap (λ (l : List Symbol). u ++ l) last.0) (named_inside 24 model_rest y s refl (inr (u, v, m, h, ev)))),
+            (ev ∙ ap (λ (l : List Symbol). u ++ l) last.0)
+            (named_inside 24 model_rest y s refl (inr (u, v, m, h, ev)))),
       ),
     )))
 
 -- EXAMINE
 
-behind_section : (t : List Symbol) (s : Symbol) → Names 24 examine_word t s → ((t ≡ symbol.Aliasing ∷ []) ⊎ (t ≡ symbol.Aberration ∷ [])) × (is symbol.Open s ≡ true)
+behind_section : (t : List Symbol) (s : Symbol) → Names 24 examine_word t s
+    → ((t ≡ symbol.Aliasing ∷ []) ⊎ (t ≡ symbol.Aberration ∷ [])) × (is symbol.Open s ≡ true)
 behind_section t s (inl (inl h)) = absurd h
 behind_section t s (inl (inr (a, b, (w, tw, ew), inl h, e))) = absurd h
 behind_section t s (inl (inr (a, b, (w, tw, ew), inr (e0, opens, same), e))) = (
@@ -159,7 +182,8 @@ in_examine t s (inr (x, y, (p, passed, ex), inl (u, v, m, h, ev), e)) = of_secti
 
 -- a bracket, or a word after the option's `=`
 module _ (word : Symbol) where
-  replicated : (t : List Symbol) (s : Symbol) → Names 24 (guarded 24 (is symbol.OpenBracket) (key word ▸ key symbol.Equals ▸ replication)) t s
+  replicated : (t : List Symbol) (s : Symbol)
+      → Names 24 (guarded 24 (is symbol.OpenBracket) (key word ▸ key symbol.Equals ▸ replication)) t s
       → (is symbol.OpenBracket s ≡ true) ⊎ ((is_word s ≡ true) × (t ≡ word ∷ symbol.Equals ∷ []))
   replicated t s (inl (inl h)) = absurd h
   replicated t s (inl (inr (e, bracket, same))) = inl bracket
@@ -168,11 +192,13 @@ module _ (word : Symbol) where
   replicated t s (inr (x, y, inl (p, tp, ep), inl (inr (e1, bracket, same)), e)) = inl bracket
   replicated t s (inr (x, y, inl (p, tp, ep), inr (u, v, inr m, h, e1), e)) = absurd m
   replicated t s (inr (x, y, inl (p, tp, ep), inr (u, v, inl (q, tq, eq), inl (inl h), e1), e)) = absurd h
-  replicated t s (inr (x, y, inl (p, tp, ep), inr (u, v, inl (q, tq, eq), inl (inr (e2, bracket, same)), e1), e)) = inl bracket
+  replicated t s (inr (x, y, inl (p, tp, ep), inr (u, v, inl (q, tq, eq), inl (inr (e2, bracket, same)), e1), e)) =
+      inl bracket
   replicated t s (inr (x, y, inl (p, tp, ep), inr (u, v, inl (q, tq, eq), inr (e2, a_word, same), e1), e)) =
       inr (
         a_word,
-        e ∙ ap (λ (l : List Symbol). l ++ y) ep ∙ ap (λ (l : List Symbol). p ∷ l) (e1 ∙ ap (λ (l : List Symbol). l ++ v) eq ∙ ap (λ (l : List Symbol). q ∷ l) e2)
+        e ∙ ap (λ (l : List Symbol). l ++ y) ep ∙ ap (λ (l : List Symbol). p ∷ l)
+            (e1 ∙ ap (λ (l : List Symbol). l ++ v) eq ∙ ap (λ (l : List Symbol). q ∷ l) e2)
             ∙ ap₂ (λ (a b : Symbol). a ∷ b ∷ []) (symbol_is word p tp) (symbol_is symbol.Equals q tq),
       )
 
@@ -188,9 +214,11 @@ other_options =
 abbrev IsLeftOutOfOutput : List Symbol → Symbol → Type 0
 IsLeftOutOfOutput t s =
     (is symbol.OpenBracket s ≡ true)
-    ⊎ ((is_word s ≡ true) × (rest : List Symbol) × ((t ≡ rest ++ symbol.Pointrep ∷ symbol.Equals ∷ []) ⊎ (t ≡ rest ++ symbol.Designrep ∷ symbol.Equals ∷ [])))
+    ⊎ ((is_word s ≡ true) × (rest : List Symbol)
+    × ((t ≡ rest ++ symbol.Pointrep ∷ symbol.Equals ∷ []) ⊎ (t ≡ rest ++ symbol.Designrep ∷ symbol.Equals ∷ [])))
 
-in_option : (t : List Symbol) (s : Symbol) → Names 24 (guarded 24 (is symbol.OpenBracket) option) t s → IsLeftOutOfOutput t s
+in_option : (t : List Symbol) (s : Symbol) → Names 24 (guarded 24 (is symbol.OpenBracket) option) t s
+    → IsLeftOutOfOutput t s
 in_option t s (inl h) = elim (replicated symbol.Pointrep t s h) [
   | inl bracket ↦ inl bracket
   | inr k ↦ inr (k.0, [], inl k.1)
@@ -203,19 +231,42 @@ in_option t s (inr (inr h)) = inl (guarded_named 24 (is symbol.OpenBracket) othe
 
 behind_more : (front t : List Symbol) (s : Symbol) → IsLeftOutOfOutput t s → IsLeftOutOfOutput (front ++ t) s
 behind_more front t s (inl bracket) = inl bracket
-behind_more front t s (inr (word, rest, inl e)) = inr (word, front ++ rest, inl (ap (λ (l : List Symbol). front ++ l) e ∙ sym (append_assoc front rest (symbol.Pointrep ∷ symbol.Equals ∷ []))))
-behind_more front t s (inr (word, rest, inr e)) = inr (word, front ++ rest, inr (ap (λ (l : List Symbol). front ++ l) e ∙ sym (append_assoc front rest (symbol.Designrep ∷ symbol.Equals ∷ []))))
+behind_more front t s (inr (word, rest, inl e)) =
+    inr (
+      word,
+      front
+          ++ rest,
+      inl
+          (ap (λ (l : List Symbol). front ++ l) e ∙ sym
+          (append_assoc front rest (symbol.Pointrep ∷ symbol.Equals ∷ []))),
+    )
+behind_more front t s (inr (word, rest, inr e)) =
+    inr (
+      word,
+      front
+          ++ rest,
+      inr
+          (ap (λ (l : List Symbol). front ++ l) e ∙ sym
+          (append_assoc front rest (symbol.Designrep ∷ symbol.Equals ∷ []))),
+    )
 
-in_options : (t : List Symbol) (s : Symbol) → Names 24 (Many (guarded 24 (is symbol.OpenBracket) option) ▸ guarded 24 (is symbol.OpenBracket) (key symbol.Semicolon)) t s → IsLeftOutOfOutput t s
-in_options t s (inl (u, v, m, h, e)) = subst (λ (l : List Symbol). IsLeftOutOfOutput l s) (sym e) (behind_more u v s (in_option v s h))
+in_options : (t : List Symbol) (s : Symbol)
+    → Names 24
+    (Many (guarded 24 (is symbol.OpenBracket) option) ▸ guarded 24 (is symbol.OpenBracket) (key symbol.Semicolon)) t s
+    → IsLeftOutOfOutput t s
+in_options t s (inl (u, v, m, h, e)) =
+    subst (λ (l : List Symbol). IsLeftOutOfOutput l s) (sym e) (behind_more u v s (in_option v s h))
 in_options t s (inr (u, v, m, inl h, e)) = absurd h
 in_options t s (inr (u, v, m, inr (e1, bracket, same), e)) = inl bracket
 
 in_rest : (t : List Symbol) (s : Symbol) → Names 24 output_rest t s → IsLeftOutOfOutput t s
 in_rest t s h =
-    elim (from_parts 24 (guarded 24 (is symbol.OpenBracket) (key symbol.Out ▸ key symbol.Equals ▸ name)) (Many (guarded 24 (is symbol.OpenBracket) option) ▸ guarded 24 (is symbol.OpenBracket) (key symbol.Semicolon)) t s h) [
+    elim (from_parts 24 (guarded 24 (is symbol.OpenBracket) (key symbol.Out ▸ key symbol.Equals ▸ name))
+    (Many (guarded 24 (is symbol.OpenBracket) option) ▸ guarded 24 (is symbol.OpenBracket) (key symbol.Semicolon)) t
+    s h) [
       | inl k ↦ inl (guarded_named 24 (is symbol.OpenBracket) (key symbol.Out ▸ key symbol.Equals ▸ name) t s refl k)
-      | inr k ↦ subst (λ (l : List Symbol). IsLeftOutOfOutput l s) (sym k.4) (behind_more k.0 k.1 s (in_options k.1 s k.3))
+      | inr k ↦ subst (λ (l : List Symbol). IsLeftOutOfOutput l s) (sym k.4)
+          (behind_more k.0 k.1 s (in_options k.1 s k.3))
     ]
 
 in_output : (t : List Symbol) (s : Symbol) → Names 24 output t s → IsLeftOut t s
@@ -227,7 +278,13 @@ in_output t s (inr (x, y, (p, passed, ex), h, e)) = of_rest (in_rest y s h)
 
     of_rest : IsLeftOutOfOutput y s → IsLeftOut t s
     of_rest (inl bracket) =
-        inr (inr (inr (inr (bracket, y, in_statement_of symbol.Output p t x y y (symbol_is symbol.Output p passed) e ex refl lacking))))
+        inr (inr (inr
+        (inr (
+          bracket,
+          y,
+          in_statement_of symbol.Output p t x y y (symbol_is symbol.Output p passed) e ex refl
+              lacking,
+        ))))
     of_rest (inr (a_word, rest, inl last)) =
         inr (inr (inr (inl (
           a_word,
@@ -259,19 +316,42 @@ in_statement t s (inr (inr (inr (inr (inr (inl h)))))) = absurd (no_code 24 bloc
 in_statement t s (inr (inr (inr (inr (inr (inr (inl h))))))) = in_examine t s h
 in_statement t s (inr (inr (inr (inr (inr (inr (inr h))))))) = in_output t s h
 
-further : (before t rest : List Symbol) (word : Symbol) → IsAtStart before → IsIn word t rest → IsIn word (before ++ t) rest
-further before t rest word start (front, begun, e, lacking) =
-    (before ++ front, joined before front start begun, ap (λ (l : List Symbol). before ++ l) e ∙ sym (append_assoc before front (word ∷ rest)), lacking)
+further : (before t rest : List Symbol) (word : Symbol) → IsAtStart before → IsIn word t rest
+    → IsIn word (before ++ t) rest
+further before t rest word start (front, begun, e, lacking) = (
+  before ++ front,
+  joined before front start begun,
+  ap (λ (l : List Symbol). before ++ l) e ∙ sym
+      (append_assoc before front (word ∷ rest)),
+  lacking,
+)
 
 after_whole : (before t : List Symbol) (s : Symbol) → IsAtStart before → IsLeftOut t s → IsLeftOut (before ++ t) s
 after_whole before t s start (inl (unit, begun)) = inl (unit, joined before t start begun)
-after_whole before t s start (inr (inl (left, rest, h))) = inr (inl (left, rest, further before t rest symbol.Proc start h))
-after_whole before t s start (inr (inr (inl (opens, (rest, inl h))))) = inr (inr (inl (opens, (rest, inl (further before t (rest ++ symbol.Slash ∷ symbol.Minabs ∷ []) symbol.Model start h)))))
-after_whole before t s start (inr (inr (inl (opens, (rest, inr (inl h)))))) = inr (inr (inl (opens, (rest, inr (inl (further before t (rest ++ symbol.Aliasing ∷ []) symbol.Examine start h))))))
-after_whole before t s start (inr (inr (inl (opens, (rest, inr (inr h)))))) = inr (inr (inl (opens, (rest, inr (inr (further before t (rest ++ symbol.Aberration ∷ []) symbol.Examine start h))))))
-after_whole before t s start (inr (inr (inr (inl (a_word, (rest, inl h)))))) = inr (inr (inr (inl (a_word, (rest, inl (further before t (rest ++ symbol.Pointrep ∷ symbol.Equals ∷ []) symbol.Output start h))))))
-after_whole before t s start (inr (inr (inr (inl (a_word, (rest, inr h)))))) = inr (inr (inr (inl (a_word, (rest, inr (further before t (rest ++ symbol.Designrep ∷ symbol.Equals ∷ []) symbol.Output start h))))))
-after_whole before t s start (inr (inr (inr (inr (bracket, rest, h))))) = inr (inr (inr (inr (bracket, rest, further before t rest symbol.Output start h))))
+after_whole before t s start (inr (inl (left, rest, h))) =
+    inr (inl (left, rest, further before t rest symbol.Proc start h))
+after_whole before t s start (inr (inr (inl (opens, (rest, inl h))))) =
+    inr (inr (inl
+    (opens, (rest, inl (further before t (rest ++ symbol.Slash ∷ symbol.Minabs ∷ []) symbol.Model start h)))))
+after_whole before t s start (inr (inr (inl (opens, (rest, inr (inl h)))))) =
+    inr (inr (inl (opens, (rest, inr (inl (further before t (rest ++ symbol.Aliasing ∷ []) symbol.Examine start h))))))
+after_whole before t s start (inr (inr (inl (opens, (rest, inr (inr h)))))) =
+    inr (inr (inl
+    (opens, (rest, inr (inr (further before t (rest ++ symbol.Aberration ∷ []) symbol.Examine start h))))))
+after_whole before t s start (inr (inr (inr (inl (a_word, (rest, inl h)))))) =
+    inr (inr (inr
+    (inl (
+      a_word,
+      (rest, inl (further before t (rest ++ symbol.Pointrep ∷ symbol.Equals ∷ []) symbol.Output start h)),
+    ))))
+after_whole before t s start (inr (inr (inr (inl (a_word, (rest, inr h)))))) =
+    inr (inr (inr
+    (inl (
+      a_word,
+      (rest, inr (further before t (rest ++ symbol.Designrep ∷ symbol.Equals ∷ []) symbol.Output start h)),
+    ))))
+after_whole before t s start (inr (inr (inr (inr (bracket, rest, h))))) =
+    inr (inr (inr (inr (bracket, rest, further before t rest symbol.Output start h))))
 
 in_step : (t : List Symbol) (s : Symbol) → Names 24 whole_step t s → IsLeftOut t s
 in_step t s h = elim (from_parts 24 step (maybe (key symbol.Quit ▸ key symbol.Semicolon ▸ between)) t s h) [
@@ -280,7 +360,8 @@ in_step t s h = elim (from_parts 24 step (maybe (key symbol.Quit ▸ key symbol.
     | inr p ↦
         let q = p.3 in
         subst (λ (l : List Symbol). IsLeftOut l s) (sym (p.4 ∙ ap (λ (l : List Symbol). p.0 ++ l) q.4))
-        (after_whole p.0 (q.0 ++ q.1) s (proc_start p.0 p.2) (after_whole q.0 q.1 s (many statement statement_start q.0 q.2) (in_statement q.1 s q.3)))
+        (after_whole p.0 (q.0 ++ q.1) s (proc_start p.0 p.2)
+        (after_whole q.0 q.1 s (many statement statement_start q.0 q.2) (in_statement q.1 s q.3)))
   ]
   | inr k ↦ absurd (no_code 24 (maybe (key symbol.Quit ▸ key symbol.Semicolon ▸ between)) k.1 s refl k.3)
 ]
@@ -293,17 +374,21 @@ at_end t s (inl h) = absurd h
 at_end t s (inr (inl (e, passes, same))) = inl (passes, inl e)
 at_end t s (inr (inr (e, passes, same))) = absurd (not_1 same)
 
-after_steps : (t : List Symbol) (s : Symbol) → Names 24 (Many whole_step ▸ (key symbol.End ∣ unknown)) t s → IsLeftOut t s
+after_steps : (t : List Symbol) (s : Symbol) → Names 24 (Many whole_step ▸ (key symbol.End ∣ unknown)) t s
+    → IsLeftOut t s
 after_steps t s h = elim (from_parts 24 (Many whole_step) (key symbol.End ∣ unknown) t s h) [
-  | inl k ↦ subst (λ (l : List Symbol). IsLeftOut l s) (sym k.4) (after_whole k.0 k.1 s (many whole_step whole_start k.0 k.2) (in_step k.1 s k.3))
-  | inr k ↦ subst (λ (l : List Symbol). IsLeftOut l s) (sym k.4) (after_whole k.0 k.1 s (many whole_step whole_start k.0 k.2) (at_end k.1 s k.3))
+  | inl k ↦ subst (λ (l : List Symbol). IsLeftOut l s) (sym k.4)
+      (after_whole k.0 k.1 s (many whole_step whole_start k.0 k.2) (in_step k.1 s k.3))
+  | inr k ↦ subst (λ (l : List Symbol). IsLeftOut l s) (sym k.4)
+      (after_whole k.0 k.1 s (many whole_step whole_start k.0 k.2) (at_end k.1 s k.3))
 ]
 
 -- the law: where the grammar names 24, the symbol is left out of the language
 pub left_out : (t : List Symbol) (s : Symbol) → Names 24 program t s → IsLeftOut t s
 left_out t s h = elim (from_parts 24 between (Many whole_step ▸ (key symbol.End ∣ unknown)) t s h) [
   | inl k ↦ absurd (no_code 24 between t s refl k)
-  | inr k ↦ subst (λ (l : List Symbol). IsLeftOut l s) (sym k.4) (after_whole k.0 k.1 s (between_start k.0 k.2) (after_steps k.1 s k.3))
+  | inr k ↦ subst (λ (l : List Symbol). IsLeftOut l s) (sym k.4)
+      (after_whole k.0 k.1 s (between_start k.0 k.2) (after_steps k.1 s k.3))
 ]
 
 -- no other code is named
@@ -317,7 +402,8 @@ has_two_codes (Either a b) = has_two_codes a && has_two_codes b
 has_two_codes (Many a) = has_two_codes a
 has_two_codes (Fault code test) = (code == 1) || (code == 24)
 
-two_codes : (c : ℕ) (a : Shape) (t : List Symbol) (s : Symbol) → has_two_codes a ≡ true → Names c a t s → ((c == 1) || (c == 24)) ≡ true
+two_codes : (c : ℕ) (a : Shape) (t : List Symbol) (s : Symbol) → has_two_codes a ≡ true → Names c a t s
+    → ((c == 1) || (c == 24)) ≡ true
 two_codes c Never t s l h = absurd h
 two_codes c Empty t s l h = absurd h
 two_codes c (One test) t s l h = absurd h

@@ -1,9 +1,11 @@
 -- Where the grammar names the code of a symbol: at the places of its faults.
-use Rattle.std.proofs.Common.{◌≡◌, ℕ, Bool, true, false, cond, List, [], ◌∷◌, ◌++◌, Option, Some, None, refl, sym, ap, subst, ◌∙◌, ◌⊎◌, inl, inr, append_assoc}
+use Rattle.std.proofs.Common.{◌≡◌, ℕ, Bool, true, false, cond, List, [], ◌∷◌, ◌++◌, Option, Some, None, refl, sym, ap}
+use Rattle.std.proofs.Common.{subst, ◌∙◌, ◌⊎◌, inl, inr, append_assoc}
 use Rattle.std.specs.Prelude.{is_some}
 use Rattle.std.specs.List.{AllByRecursion, flat_map}
 use Rattle.fx_language.specs.declared.symbol.Symbol.{Symbol}
-use Rattle.fx_language.specs.Shapes.{Shape, Never, Empty, One, Before, Either, Many, Fault, Matches, after, may_be_empty, or_else, first_of, fault_at, ◌▸◌}
+use Rattle.fx_language.specs.Shapes.{Shape, Never, Empty, One, Before, Either, Many, Fault, Matches, after}
+use Rattle.fx_language.specs.Shapes.{may_be_empty, or_else, first_of, fault_at, ◌▸◌}
 use Rattle.fx_language.specs.Laws.{Names}
 use Rattle.fx_language.proofs.Derivatives.{empty_in, empty_out, after_sound, after_complete}
 
@@ -19,14 +21,22 @@ from_parts c (Fault code test) b t s h = h
 from_parts c (Before a d) b t s (inl n) = inl (inl n)
 from_parts c (Before a d) b t s (inr (u, v, m, n, e)) = elim (from_parts c d b v s n) [
   | inl k ↦ inl (inr (u, v, m, k, e))
-  | inr k ↦ inr (u ++ k.0, k.1, (u, k.0, m, k.2, refl), k.3, e ∙ ap (λ (l : List Symbol). u ++ l) k.4 ∙ sym (append_assoc u k.0 k.1))
+  | inr k ↦ inr (
+    u ++ k.0,
+    k.1,
+    (u, k.0, m, k.2, refl),
+    k.3,
+    e ∙ ap (λ (l : List Symbol). u ++ l) k.4 ∙ sym
+        (append_assoc u k.0 k.1),
+  )
 ]
 
 pub to_parts : (c : ℕ) (a b : Shape) (t : List Symbol) (s : Symbol) → Names c (Before a b) t s → Names c (a ▸ b) t s
 to_parts c Never b t s (inl n) = absurd n
 to_parts c Never b t s (inr (u, v, m, n, e)) = absurd m
 to_parts c Empty b t s (inl n) = absurd n
-to_parts c Empty b t s (inr (u, v, m, n, e)) = subst (λ (l : List Symbol). Names c b l s) (sym (e ∙ ap (λ (l : List Symbol). l ++ v) m)) n
+to_parts c Empty b t s (inr (u, v, m, n, e)) =
+    subst (λ (l : List Symbol). Names c b l s) (sym (e ∙ ap (λ (l : List Symbol). l ++ v) m)) n
 to_parts c (One test) b t s h = h
 to_parts c (Either a d) b t s h = h
 to_parts c (Many a) b t s h = h
@@ -34,14 +44,23 @@ to_parts c (Fault code test) b t s h = h
 to_parts c (Before a d) b t s (inl (inl n)) = inl n
 to_parts c (Before a d) b t s (inl (inr (u, v, m, n, e))) = inr (u, v, m, to_parts c d b v s (inl n), e)
 to_parts c (Before a d) b t s (inr (x, y, (u, v, p, r, f), n, e)) =
-    inr (u, v ++ y, p, to_parts c d b (v ++ y) s (inr (v, y, r, n, refl)), e ∙ ap (λ (l : List Symbol). l ++ y) f ∙ append_assoc u v y)
+    inr (
+      u,
+      v ++ y,
+      p,
+      to_parts c d b (v ++ y) s (inr (v, y, r, n, refl)),
+      e ∙ ap (λ (l : List Symbol). l ++ y) f ∙
+          append_assoc u v y,
+    )
 
-pub from_either : (c : ℕ) (a b : Shape) (t : List Symbol) (s : Symbol) → Names c (or_else a b) t s → Names c a t s ⊎ Names c b t s
+pub from_either : (c : ℕ) (a b : Shape) (t : List Symbol) (s : Symbol) → Names c (or_else a b) t s
+    → Names c a t s ⊎ Names c b t s
 from_either c Never b t s h = inr h
 from_either c a Never t s h = inl h
 from_either c a b t s h = h
 
-pub to_either : (c : ℕ) (a b : Shape) (t : List Symbol) (s : Symbol) → Names c a t s ⊎ Names c b t s → Names c (or_else a b) t s
+pub to_either : (c : ℕ) (a b : Shape) (t : List Symbol) (s : Symbol) → Names c a t s ⊎ Names c b t s
+    → Names c (or_else a b) t s
 to_either c Never b t s (inl h) = absurd h
 to_either c Never b t s (inr h) = h
 to_either c a Never t s (inl h) = h
@@ -70,7 +89,8 @@ named_here c s Empty e = absurd (none_is c e)
 named_here c s (One test) e = absurd (none_is c e)
 named_here c s (Before a b) e = elim (first_or c (fault_at s a) (cond (may_be_empty a) (fault_at s b) None) e) [
   | inl first ↦ inl (named_here c s a first)
-  | inr second ↦ let p = where_empty c (may_be_empty a) (fault_at s b) second in inr ([], [], empty_in a p.0, named_here c s b p.1, refl)
+  | inr second ↦ let p = where_empty c (may_be_empty a) (fault_at s b) second in
+      inr ([], [], empty_in a p.0, named_here c s b p.1, refl)
 ]
 named_here c s (Either a b) e = elim (first_or c (fault_at s a) (fault_at s b) e) [
   | inl first ↦ inl (named_here c s a first)
@@ -98,10 +118,13 @@ pub here_named : (c : ℕ) (s : Symbol) (a : Shape) → Names c a [] s → is_so
 here_named c s Never h = absurd h
 here_named c s Empty h = absurd h
 here_named c s (One test) h = absurd h
-here_named c s (Before a b) (inl n) = some_first (fault_at s a) (cond (may_be_empty a) (fault_at s b) None) (here_named c s a n)
+here_named c s (Before a b) (inl n) =
+    some_first (fault_at s a) (cond (may_be_empty a) (fault_at s b) None) (here_named c s a n)
 here_named c s (Before a b) (inr ([], v, m, n, e)) =
-    let more : is_some (fault_at s b) ≡ true = here_named c s b (subst (λ (l : List Symbol). Names c b l s) (sym e) n) in
-    some_second (fault_at s a) (cond (may_be_empty a) (fault_at s b) None) (ap (λ z. is_some (cond z (fault_at s b) None)) (empty_out a m) ∙ more)
+    let more : is_some (fault_at s b) ≡ true =
+    here_named c s b (subst (λ (l : List Symbol). Names c b l s) (sym e) n) in
+    some_second (fault_at s a) (cond (may_be_empty a) (fault_at s b) None)
+    (ap (λ z. is_some (cond z (fault_at s b) None)) (empty_out a m) ∙ more)
 here_named c s (Before a b) (inr (x ∷ u, v, m, n, e)) = absurd (no_front x u v e)
 here_named c s (Either a b) (inl n) = some_first (fault_at s a) (fault_at s b) (here_named c s a n)
 here_named c s (Either a b) (inr n) = some_second (fault_at s a) (fault_at s b) (here_named c s b n)
@@ -131,7 +154,8 @@ from_front c x a b t s true is first second h = elim (from_either c (after x a �
 ]
 from_front c x a b t s false is first second h = from_sequence c x a b t s first h
 
-pub named_later : (c : ℕ) (x : Symbol) (a : Shape) (t : List Symbol) (s : Symbol) → Names c (after x a) t s → Names c a (x ∷ t) s
+pub named_later : (c : ℕ) (x : Symbol) (a : Shape) (t : List Symbol) (s : Symbol) → Names c (after x a) t s
+    → Names c a (x ∷ t) s
 named_later c x Never t s h = absurd h
 named_later c x Empty t s h = absurd h
 named_later c x (One test) t s h = absurd (after_one c (test x) t s h)
@@ -157,20 +181,24 @@ named_later c x (Fault code test) t s h = absurd h
 head_is : (x y : Symbol) (t l : List Symbol) → (x ∷ t) ≡ (y ∷ l) → (x ≡ y) × (t ≡ l)
 head_is x y t l e = (cc, cc)
 
-to_front : (c : ℕ) (x : Symbol) (a b : Shape) (t : List Symbol) (s : Symbol) (empty : Bool) → Names c (after x a ▸ b) t s
+to_front : (c : ℕ) (x : Symbol) (a b : Shape) (t : List Symbol) (s : Symbol) (empty : Bool)
+    → Names c (after x a ▸ b) t s
     → Names c (cond empty (or_else (after x a ▸ b) (after x b)) (after x a ▸ b)) t s
 to_front c x a b t s true h = to_either c (after x a ▸ b) (after x b) t s (inl h)
 to_front c x a b t s false h = h
 
-to_back : (c : ℕ) (x : Symbol) (a b : Shape) (t : List Symbol) (s : Symbol) (empty : Bool) → empty ≡ true → Names c (after x b) t s
+to_back : (c : ℕ) (x : Symbol) (a b : Shape) (t : List Symbol) (s : Symbol) (empty : Bool) → empty ≡ true
+    → Names c (after x b) t s
     → Names c (cond empty (or_else (after x a ▸ b) (after x b)) (after x a ▸ b)) t s
 to_back c x a b t s true is h = to_either c (after x a ▸ b) (after x b) t s (inr h)
 to_back c x a b t s false is h = absurd (let f : false ≡ true = is in cc)
 
 many_named : (c : ℕ) (x : Symbol) (a : Shape) (t v : List Symbol) (s : Symbol)
-    → ((l : List Symbol) → Names c a (x ∷ l) s → Names c (after x a) l s) → (parts : List (List Symbol)) → AllByRecursion (Matches a) parts
+    → ((l : List Symbol) → Names c a (x ∷ l) s → Names c (after x a) l s) → (parts : List (List Symbol))
+    → AllByRecursion (Matches a) parts
     → Names c a v s → (x ∷ t) ≡ flat_map (λ (part : List Symbol). part) parts ++ v → Names c (after x a ▸ Many a) t s
-many_named c x a t v s in_a [] each n e = to_parts c (after x a) (Many a) t s (inl (in_a t (subst (λ (l : List Symbol). Names c a l s) (sym e) n)))
+many_named c x a t v s in_a [] each n e =
+    to_parts c (after x a) (Many a) t s (inl (in_a t (subst (λ (l : List Symbol). Names c a l s) (sym e) n)))
 many_named c x a t v s in_a ([] ∷ parts) each n e = many_named c x a t v s in_a parts each.1 n e
 many_named c x a t v s in_a ((y ∷ l) ∷ parts) each n e =
     let f = head_is x y t ((l ++ flat_map (λ (part : List Symbol). part) parts) ++ v) e in
@@ -182,16 +210,21 @@ many_named c x a t v s in_a ((y ∷ l) ∷ parts) each n e =
       f.1 ∙ append_assoc l (flat_map (λ (part : List Symbol). part) parts) v,
     ))
 
-pub later_named : (c : ℕ) (x : Symbol) (a : Shape) (t : List Symbol) (s : Symbol) → Names c a (x ∷ t) s → Names c (after x a) t s
+pub later_named : (c : ℕ) (x : Symbol) (a : Shape) (t : List Symbol) (s : Symbol) → Names c a (x ∷ t) s
+    → Names c (after x a) t s
 later_named c x Never t s h = absurd h
 later_named c x Empty t s h = absurd h
 later_named c x (One test) t s h = absurd h
-later_named c x (Before a b) t s (inl n) = to_front c x a b t s (may_be_empty a) (to_parts c (after x a) b t s (inl (later_named c x a t s n)))
+later_named c x (Before a b) t s (inl n) =
+    to_front c x a b t s (may_be_empty a) (to_parts c (after x a) b t s (inl (later_named c x a t s n)))
 later_named c x (Before a b) t s (inr ([], v, m, n, e)) =
-    to_back c x a b t s (may_be_empty a) (empty_out a m) (later_named c x b t s (subst (λ (l : List Symbol). Names c b l s) (sym e) n))
+    to_back c x a b t s (may_be_empty a) (empty_out a m)
+    (later_named c x b t s (subst (λ (l : List Symbol). Names c b l s) (sym e) n))
 later_named c x (Before a b) t s (inr (y ∷ u, v, m, n, e)) =
     let f = head_is x y t (u ++ v) e in
-    to_front c x a b t s (may_be_empty a) (to_parts c (after x a) b t s (inr (u, v, after_complete x a u (subst (λ (z : Symbol). Matches a (z ∷ u)) (sym f.0) m), n, f.1)))
+    to_front c x a b t s (may_be_empty a)
+    (to_parts c (after x a) b t s
+    (inr (u, v, after_complete x a u (subst (λ (z : Symbol). Matches a (z ∷ u)) (sym f.0) m), n, f.1)))
 later_named c x (Either a b) t s (inl n) = to_either c (after x a) (after x b) t s (inl (later_named c x a t s n))
 later_named c x (Either a b) t s (inr n) = to_either c (after x a) (after x b) t s (inr (later_named c x b t s n))
 later_named c x (Many a) t s (u, v, (parts, each, f), n, e) =

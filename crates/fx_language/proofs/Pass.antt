@@ -1,5 +1,6 @@
 -- What the pass keeps is what the rules ask of the symbols that were seen.
-use Rattle.std.proofs.Common.{◌≡◌, ℕ, ◌+◌, ◌<◌, Bool, true, false, cond, ◌&&◌, ◌||◌, not, List, ◌∷◌, length, get_or, take, drop, reverse, Some, None, refl, sym, ap, ap₂, ◌∙◌, arith}
+use Rattle.std.proofs.Common.{◌≡◌, ℕ, ◌+◌, ◌<◌, Bool, true, false, cond, ◌&&◌, ◌||◌, not, List, ◌∷◌, length, get_or}
+use Rattle.std.proofs.Common.{take, drop, reverse, Some, None, refl, sym, ap, ap₂, ◌∙◌, arith}
 use Rattle.std.specs.Prelude.{if◌then◌else◌, count_by, nat_le}
 use Rattle.std.specs.List.{list_any}
 use Rattle.std.proofs.Math.Seq.{drop-cons, take-suc}
@@ -7,14 +8,18 @@ use Rattle.std.proofs.Math.Numerals.{add-one}
 use Rattle.std.proofs.lemmas.List.{reverse-append}
 use Rattle.std.proofs.lemmas.List.Sums.{sum_by-cons}
 use Rattle.fx_language.specs.declared.symbol.Symbol.{Symbol}
-use Rattle.fx_language.specs.declared.symbol.Symbol.TheVariants.{Proc, Factex, Nodes, Quit, Run, Factors, Size, Model, Blocks}
+use Rattle.fx_language.specs.declared.symbol.Symbol.TheVariants.{Proc, Factex, Nodes, Quit, Run, Factors, Size, Model}
+use Rattle.fx_language.specs.declared.symbol.Symbol.TheVariants.{Blocks}
 use Rattle.fx_language.specs.Symbols.{is, is_once}
-use Rattle.fx_language.specs.Repeats.{is_start, is_behind_equals, first_words, step_words, has_statement, procs, has_option, is_option_in, begins_with, rule_at, repeated, or_later}
+use Rattle.fx_language.specs.Repeats.{is_start, is_behind_equals, first_words, step_words, has_statement, procs}
+use Rattle.fx_language.specs.Repeats.{has_option, is_option_in, begins_with, rule_at, repeated, or_later}
 use Rattle.fx_language.specs.Pasts.{past_of, past_after, begun_after, rule_of, step_has, statement_has}
 
 -- a word of the step, after one more symbol
 begun : (start ends : Bool) (word s : Symbol) (words : List Symbol) → (is Proc s || is Quit s) ≡ ends
-    → list_any (is word) (step_words (if start then s ∷ words else words)) ≡ (if start then not ends && (is word s || list_any (is word) (step_words words)) else list_any (is word) (step_words words))
+    → list_any (is word) (step_words (if start then s ∷ words else words))
+    ≡ (if start
+    then not ends && (is word s || list_any (is word) (step_words words)) else list_any (is word) (step_words words))
 begun false ends word s words e = refl
 begun true true word s words e = rw e refl
 begun true false word s words e = rw e refl
@@ -31,7 +36,8 @@ count_next false s words e =
     sum_by-cons (λ x. cond (is Proc x) 1 0) s words ∙ ap (λ b. cond b 1 0 + count_by (is Proc) words) e ∙ omega arith
 
 counted : (start proc : Bool) (s : Symbol) (words : List Symbol) → is Proc s ≡ proc
-    → count_by (is Proc) (if start then s ∷ words else words) ≡ (if start && proc then count_by (is Proc) words + 1 else count_by (is Proc) words)
+    → count_by (is Proc) (if start then s ∷ words else words)
+    ≡ (if start && proc then count_by (is Proc) words + 1 else count_by (is Proc) words)
 counted false proc s words e = refl
 counted true proc s words e = count_next proc s words e
 

@@ -21,7 +21,8 @@ use Rattle.fx_language.specs.declared.output.OutputPlace.{OutputPlace}
 use Rattle.fx_language.specs.declared.output.OutputPlace.TheVariants as output
 use Rattle.fx_language.specs.declared.values.ValuesPlace.{ValuesPlace}
 use Rattle.fx_language.specs.declared.values.ValuesPlace.TheVariants as listed
-use Rattle.fx_language.specs.Continuations.{proc_left, factors_left, setting_left, model_left, effects_left, examine_left, output_left, values_left, shape_of, shape_left}
+use Rattle.fx_language.specs.Continuations.{proc_left, factors_left, setting_left, model_left, effects_left}
+use Rattle.fx_language.specs.Continuations.{examine_left, output_left, values_left, shape_of, shape_left}
 
 in_proc_statement : (p : ProcPlace) → is_never (proc_left p) ≡ false
 in_proc_statement proc.Procedure = refl

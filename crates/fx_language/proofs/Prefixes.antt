@@ -1,5 +1,6 @@
 -- What the grammar refuses first is the first symbol with which a text begins no program.
-use Rattle.std.proofs.Common.{◌≡◌, ℕ, zero, suc, ◌+◌, ◌≤◌, true, List, [], ◌∷◌, ◌++◌, take, drop, Option, Some, None, refl, sym, ap, subst, arith, inl, inr}
+use Rattle.std.proofs.Common.{◌≡◌, ℕ, zero, suc, ◌+◌, ◌≤◌, true, List, [], ◌∷◌, ◌++◌, take, drop, Option, Some, None}
+use Rattle.std.proofs.Common.{refl, sym, ap, subst, arith, inl, inr}
 use Rattle.std.proofs.lemmas.List.{take-append-drop}
 use Rattle.std.proofs.lemmas.Bool.{cases_lt}
 use Rattle.fx_language.specs.declared.symbol.Symbol.{Symbol}
@@ -72,7 +73,9 @@ accepted_matches a (s ∷ rest) k h last e =
     elim (after_fine s a h) [
       | inl never_left ↦ absurd (let f = rw never_left at e in cc)
       | inr solid ↦
-          after_sound s a (ended rest) (accepted_matches (after s a) rest (suc k) solid (ends_after s a last) (rw (not_never (after s a) solid) at e))
+          after_sound s a (ended rest)
+          (accepted_matches (after s a) rest (suc k) solid (ends_after s a last)
+          (rw (not_never (after s a) solid) at e))
     ]
 
 -- a front part of what begins a text begins one
@@ -127,7 +130,8 @@ module _ (symbols : List Symbol) where
     where
       go : (o : Option (ℕ × ℕ)) → outcome ≡ o → (code : ℕ) × (outcome ≡ Some (code, i))
       go None e =
-          absurd (none_in_match program (ended symbols) i (accepted_matches program symbols 0 program_solid program_ends e) h)
+          absurd (none_in_match program (ended symbols) i
+          (accepted_matches program symbols 0 program_solid program_ends e) h)
       go (Some r) e =
           let same : r.1 ≡ i = one_place program (ended symbols) r.1 i (first_of_refused r.0 r.1 e) h in
           (r.0, subst (λ n. outcome ≡ Some (r.0, n)) same e)

@@ -14,15 +14,19 @@ pub record Sentences (text : List Symbol) : Type 0 where
   pub each : AllByRecursion (Matches sentence) parts
   pub is : text ≡ flat parts
 
-in_step : (parts : List (List Symbol)) → AllByRecursion (Matches statement) parts → AllByRecursion (Matches sentence) parts
+in_step : (parts : List (List Symbol)) → AllByRecursion (Matches statement) parts
+    → AllByRecursion (Matches sentence) parts
 in_step [] h = tt
 in_step (p ∷ parts) h = (inr (inr h.0), in_step parts h.1)
 
 -- a statement or a step, before others
 before : (p rest : List Symbol) → Matches top p → Sentences rest → Sentences (p ++ rest)
-before p rest (inl s) o = record { parts = p ∷ o.parts; each = (inr (inr (inl s)), o.each); is = ap (λ (l : List Symbol). p ++ l) o.is }
-before p rest (inr (inl r)) o = record { parts = p ∷ o.parts; each = (inr (inr (inr (inl r))), o.each); is = ap (λ (l : List Symbol). p ++ l) o.is }
-before p rest (inr (inr (inl q))) o = record { parts = p ∷ o.parts; each = (inl q, o.each); is = ap (λ (l : List Symbol). p ++ l) o.is }
+before p rest (inl s) o =
+    record { parts = p ∷ o.parts; each = (inr (inr (inl s)), o.each); is = ap (λ (l : List Symbol). p ++ l) o.is }
+before p rest (inr (inl r)) o =
+    record { parts = p ∷ o.parts; each = (inr (inr (inr (inl r))), o.each); is = ap (λ (l : List Symbol). p ++ l) o.is }
+before p rest (inr (inr (inl q))) o =
+    record { parts = p ∷ o.parts; each = (inl q, o.each); is = ap (λ (l : List Symbol). p ++ l) o.is }
 before p rest (inr (inr (inr st))) o =
     let s = parts_of proc (Many statement) p st in
     let own = s.3.0 in

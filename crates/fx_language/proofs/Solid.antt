@@ -1,10 +1,12 @@
 -- A description each of whose parts stands for some text: what it leaves after a symbol is Never or such again.
-use Rattle.std.proofs.Common.{◌≡◌, Bool, true, false, cond, ◌&&◌, ◌||◌, ◌⊎◌, List, [], ◌∷◌, ◌++◌, refl, inl, inr, ⊎_elim}
+use Rattle.std.proofs.Common.{◌≡◌, Bool, true, false, cond, ◌&&◌, ◌||◌, ◌⊎◌, List, [], ◌∷◌, ◌++◌, refl, inl, inr}
+use Rattle.std.proofs.Common.{⊎_elim}
 use Rattle.std.specs.List.{list_any}
 use Rattle.std.proofs.lemmas.Bool.{and_parts, or_cases}
 use Rattle.fx_language.specs.declared.symbol.Symbol.{Symbol}
 use Rattle.fx_language.specs.Keywords.{all_symbols}
-use Rattle.fx_language.specs.Shapes.{Shape, Never, Empty, One, Before, Either, Many, Fault, ◌▸◌, or_else, may_be_empty, after, is_never, Matches}
+use Rattle.fx_language.specs.Shapes.{Shape, Never, Empty, One, Before, Either, Many, Fault, ◌▸◌, or_else, may_be_empty}
+use Rattle.fx_language.specs.Shapes.{after, is_never, Matches}
 
 -- a description that only names codes
 abbrev pub is_fault : Shape → Bool
@@ -104,11 +106,13 @@ after_fine s (One test) h = cond_fine (test s) Empty Never (inr refl) (inl refl)
 after_fine s (Before a b) h =
     let p = and_parts (is_solid a) (is_solid b) h in
     let first = sequence_fine (after s a) b (after_fine s a p.0) p.1 in
-    cond_fine (may_be_empty a) (or_else (after s a ▸ b) (after s b)) (after s a ▸ b) (or_else_fine (after s a ▸ b) (after s b) first (after_fine s b p.1)) first
+    cond_fine (may_be_empty a) (or_else (after s a ▸ b) (after s b)) (after s a ▸ b)
+    (or_else_fine (after s a ▸ b) (after s b) first (after_fine s b p.1)) first
 after_fine s (Either a b) h =
     ⊎_elim
     (λ p. let q = and_parts (is_solid a) (is_solid b || is_fault b) p in
-    or_else_fine (after s a) (after s b) (after_fine s a q.0) (⊎_elim (λ x. after_fine s b x) (λ x. inl (never_after s b x)) (or_cases (is_solid b) (is_fault b) q.1)))
+    or_else_fine (after s a) (after s b) (after_fine s a q.0)
+    (⊎_elim (λ x. after_fine s b x) (λ x. inl (never_after s b x)) (or_cases (is_solid b) (is_fault b) q.1)))
     (λ p. let q = and_parts (is_fault a) (is_solid b) p in
     or_else_fine (after s a) (after s b) (inl (never_after s a q.0)) (after_fine s b q.1))
     (or_cases (is_solid a && (is_solid b || is_fault b)) (is_fault a && is_solid b) h)

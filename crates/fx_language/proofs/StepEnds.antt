@@ -71,11 +71,22 @@ opened p text h o =
     let s = parts_of proc (Many statement) p h in
     let own = s.3.0 in
     let x = s.0 in
-    let whole : Matches (Many statement) (flat own ++ flat o.statements) = (own ++ o.statements, all_cat statement own o.statements s.3.1 o.each_statement, sym (flat_cat own o.statements)) in
+    let whole : Matches (Many statement) (flat own ++ flat o.statements) = (
+      own ++ o.statements,
+      all_cat statement own o.statements s.3.1 o.each_statement,
+      sym
+          (flat_cat own o.statements),
+    ) in
     let body = cat proc (Many statement) x (flat own ++ flat o.statements) s.2 whole in
     let b : Text = (x ++ (flat own ++ flat o.statements)) ++ o.last in
-    let e : p ≡ x ++ flat own = s.4 ∙ ap (λ (l : Text). x ++ l) s.3.2 in
-    (b, o.blocks, cat step (maybe (key Quit ▸ key Semicolon ▸ between)) (x ++ (flat own ++ flat o.statements)) o.last body o.ends, o.each_block, regroup p text x (flat own) (flat o.statements) o.last (flat o.blocks) e o.is)
+    let e : p ≡ x ++ flat own = s.4 ∙ ap (λ (l : Text). x ++ l) s.3.2 in (
+      b,
+      o.blocks,
+      cat step (maybe (key Quit ▸ key Semicolon ▸ between)) (x ++ (flat own ++ flat o.statements)) o.last
+          body o.ends,
+      o.each_block,
+      regroup p text x (flat own) (flat o.statements) o.last (flat o.blocks) e o.is,
+    )
 
 started : (p text : Text) → Matches step p → Inside text → Outside (p ++ text)
 started p text h o =
@@ -113,7 +124,14 @@ closed p text (x, y, q, s, e) o = record {
   blocks = o.blocks;
   each_statement = tt;
   ends =
-      inl (x, y ++ flat o.gaps, q, (y, flat o.gaps, s, (o.gaps, o.each_gap, refl), refl), rw e (append_assoc x y (flat o.gaps)));
+      inl (
+        x,
+        y ++ flat o.gaps,
+        q,
+        (y, flat o.gaps, s, (o.gaps, o.each_gap, refl), refl),
+        rw e
+            (append_assoc x y (flat o.gaps)),
+      );
   each_block = o.each_block;
   is = ap (λ (l : Text). p ++ l) o.is ∙ sym (append_assoc p (flat o.gaps) (flat o.blocks));
 }
@@ -187,7 +205,8 @@ blocks_tops (b ∷ blocks) h =
     record {
       parts = x.0 ∷ o.parts;
       each = (inr (inr (inr x.2)), o.each);
-      is = ap (λ (l : Text). l ++ flat blocks) x.4 ∙ append_assoc x.0 x.1 (flat blocks) ∙ ap (λ (l : Text). x.0 ++ l) o.is;
+      is = ap (λ (l : Text). l ++ flat blocks) x.4 ∙ append_assoc x.0 x.1 (flat blocks) ∙ ap (λ (l : Text). x.0 ++ l)
+          o.is;
     }
 
 pub program_is_loose : (text : Text) → Matches program text → Matches loose_program text
@@ -197,7 +216,8 @@ program_is_loose text (x, y, (gaps, each, e), (z, w, (blocks, all, f), last, g),
       w,
       (gaps ++ o.parts, all_cat top gaps o.parts (sep_top gaps each) o.each, refl),
       ended last,
-      i ∙ join x y z w (flat gaps) (flat o.parts) e g (f ∙ o.is) ∙ ap (λ (l : Text). l ++ w) (sym (flat_cat gaps o.parts)),
+      i ∙ join x y z w (flat gaps) (flat o.parts) e g (f ∙ o.is) ∙ ap (λ (l : Text). l ++ w)
+          (sym (flat_cat gaps o.parts)),
     )
   where
     join : (x y z w a b : Text) → x ≡ a → y ≡ z ++ w → z ≡ b → x ++ y ≡ (a ++ b) ++ w

@@ -42,4 +42,9 @@ module _ (rows : List Spelling) (i : ℕ) (d : Spelling) (h : i < length rows) (
   pub further : (map to_ascii_lowercase word ≡ map to_ascii_lowercase (get_or rows i d).letters.now → ⊥)
       → listed_in (map row_of (drop i rows)) word ≡ listed_in (map row_of (drop (i + 1) rows)) word
   further other =
-      rw (drop-cons rows i d h, not_same (map to_ascii_lowercase (get_or rows i d).letters.now) (map to_ascii_lowercase word) (λ e. other (sym e)), add-one) refl
+      rw (
+        drop-cons rows i d h,
+        not_same (map to_ascii_lowercase (get_or rows i d).letters.now)
+            (map to_ascii_lowercase word) (λ e. other (sym e)),
+        add-one,
+      ) refl

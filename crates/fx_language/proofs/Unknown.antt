@@ -1,5 +1,6 @@
 -- Where a word is refused as one that begins no statement.
-use Rattle.std.proofs.Common.{◌≡◌, ℕ, Bool, true, not, ◌&&◌, List, [], ◌∷◌, ◌++◌, refl, sym, ap, subst, ◌∙◌, inl, inr, append_assoc}
+use Rattle.std.proofs.Common.{◌≡◌, ℕ, Bool, true, not, ◌&&◌, List, [], ◌∷◌, ◌++◌, refl, sym, ap, subst, ◌∙◌, inl, inr}
+use Rattle.std.proofs.Common.{append_assoc}
 use Rattle.std.specs.Prelude.{◌==◌}
 use Rattle.std.specs.List.{AllByRecursion, flat_map}
 use Rattle.std.proofs.lemmas.List.{append-nil}
@@ -7,7 +8,8 @@ use Rattle.std.proofs.lemmas.Bool.{and_parts, eq-eqb}
 use Rattle.fx_language.specs.declared.symbol.Symbol.{Symbol}
 use Rattle.fx_language.specs.declared.symbol.Symbol.TheVariants as symbol
 use Rattle.fx_language.specs.Symbols.{is, is_left_out, is_word}
-use Rattle.fx_language.specs.Shapes.{Shape, Never, Empty, One, Before, Either, Many, Fault, Matches, guarded, maybe, ◌▸◌, ◌∣◌}
+use Rattle.fx_language.specs.Shapes.{Shape, Never, Empty, One, Before, Either, Many, Fault, Matches, guarded, maybe}
+use Rattle.fx_language.specs.Shapes.{◌▸◌, ◌∣◌}
 use Rattle.fx_language.specs.Grammar.{key, proc, statement, step, between, unknown, program}
 use Rattle.fx_language.specs.Laws.{Names, IsAtStart, AwaitsStatement}
 use Rattle.fx_language.proofs.Derivatives.{parts_of}
@@ -67,24 +69,33 @@ ends (Fault code test) t h m = absurd m
 
 pub joined : (x y : List Symbol) → IsAtStart x → IsAtStart y → IsAtStart (x ++ y)
 joined x y h (inl e) = subst IsAtStart (sym (ap (λ (l : List Symbol). x ++ l) e ∙ append-nil x)) h
-joined x y h (inr (front, e)) = inr (x ++ front, ap (λ (l : List Symbol). x ++ l) e ∙ sym (append_assoc x front (symbol.Semicolon ∷ [])))
+joined x y h (inr (front, e)) =
+    inr (x ++ front, ap (λ (l : List Symbol). x ++ l) e ∙ sym (append_assoc x front (symbol.Semicolon ∷ [])))
 
-pub many : (a : Shape) → ((t : List Symbol) → Matches a t → IsAtStart t) → (t : List Symbol) → Matches (Many a) t → IsAtStart t
+pub many : (a : Shape) → ((t : List Symbol) → Matches a t → IsAtStart t) → (t : List Symbol) → Matches (Many a) t
+    → IsAtStart t
 many a each t (parts, all, e) = subst IsAtStart (sym e) (of_parts parts all)
   where
-    of_parts : (parts : List (List Symbol)) → AllByRecursion (Matches a) parts → IsAtStart (flat_map (λ (part : List Symbol). part) parts)
+    of_parts : (parts : List (List Symbol)) → AllByRecursion (Matches a) parts
+        → IsAtStart (flat_map (λ (part : List Symbol). part) parts)
     of_parts [] all = inl refl
-    of_parts (part ∷ rest) all = joined part (flat_map (λ (part : List Symbol). part) rest) (each part all.0) (of_parts rest all.1)
+    of_parts (part ∷ rest) all =
+        joined part (flat_map (λ (part : List Symbol). part) rest) (each part all.0) (of_parts rest all.1)
 
 pub semicolon : (s : Symbol) → is symbol.Semicolon s ≡ true → s ≡ symbol.Semicolon
 semicolon = symbol_is symbol.Semicolon
 
 pub between_start : (t : List Symbol) → Matches between t → IsAtStart t
-between_start t m = many (key symbol.Semicolon ∣ key symbol.Run ▸ key symbol.Semicolon ∣ key symbol.Quit ▸ key symbol.Semicolon)
-    (λ t m. inr (ends (key symbol.Semicolon ∣ key symbol.Run ▸ key symbol.Semicolon ∣ key symbol.Quit ▸ key symbol.Semicolon) t (semicolon, (semicolon, semicolon)) m)) t m
+between_start t m =
+    many (key symbol.Semicolon ∣ key symbol.Run ▸ key symbol.Semicolon ∣ key symbol.Quit ▸ key symbol.Semicolon)
+    (λ t m. inr
+    (ends (key symbol.Semicolon ∣ key symbol.Run ▸ key symbol.Semicolon ∣ key symbol.Quit ▸ key symbol.Semicolon) t
+    (semicolon, (semicolon, semicolon)) m)) t m
 
 pub statement_start : (t : List Symbol) → Matches statement t → IsAtStart t
-statement_start t m = inr (ends statement t (semicolon, (semicolon, (semicolon, (semicolon, (semicolon, (semicolon, (semicolon, (semicolon, tt)))))))) m)
+statement_start t m =
+    inr (ends statement t
+    (semicolon, (semicolon, (semicolon, (semicolon, (semicolon, (semicolon, (semicolon, (semicolon, tt)))))))) m)
 
 pub proc_start : (t : List Symbol) → Matches proc t → IsAtStart t
 proc_start t m = inr (ends proc t (semicolon, tt) m)
@@ -101,7 +112,8 @@ whole_step = step ▸ maybe (key symbol.Quit ▸ key symbol.Semicolon ▸ betwee
 quit_start : (t : List Symbol) → Matches (maybe (key symbol.Quit ▸ key symbol.Semicolon ▸ between)) t → IsAtStart t
 quit_start t (inl m) =
     let p = parts_of (key symbol.Quit ▸ key symbol.Semicolon) between t m in
-    subst IsAtStart (sym p.4) (joined p.0 p.1 (inr (ends (key symbol.Quit ▸ key symbol.Semicolon) p.0 semicolon p.2)) (between_start p.1 p.3))
+    subst IsAtStart (sym p.4)
+    (joined p.0 p.1 (inr (ends (key symbol.Quit ▸ key symbol.Semicolon) p.0 semicolon p.2)) (between_start p.1 p.3))
 quit_start t (inr m) = inl m
 
 pub whole_start : (t : List Symbol) → Matches whole_step t → IsAtStart t
@@ -124,10 +136,13 @@ in_proc t s (inr (x, y, (p, passed, ex), inl (inr (ey, passes, same)), e)) = (
   passes,
 )
 in_proc t s (inr (x, y, (p, passed, ex), inr (x', y', m, n, e'), e)) =
-    absurd (none 1 (guarded 24 is_left_out (Many (key symbol.Nodes ▸ key symbol.Equals ▸ key symbol.Whole) ▸ key symbol.Semicolon)) y' s refl n)
+    absurd (none 1
+    (guarded 24 is_left_out (Many (key symbol.Nodes ▸ key symbol.Equals ▸ key symbol.Whole) ▸ key symbol.Semicolon))
+    y' s refl n)
 
 -- in the first step that is not whole
-in_step : (before t : List Symbol) (s : Symbol) → IsAtStart before → Names 1 whole_step t s → (is_word s ≡ true) × AwaitsStatement (before ++ t)
+in_step : (before t : List Symbol) (s : Symbol) → IsAtStart before → Names 1 whole_step t s
+    → (is_word s ≡ true) × AwaitsStatement (before ++ t)
 in_step before t s start h = elim (from_parts 1 step (maybe (key symbol.Quit ▸ key symbol.Semicolon ▸ between)) t s h) [
   | inl n ↦ elim (from_parts 1 proc (Many statement) t s n) [
     | inl k ↦ let p = in_proc t s k in (p.1, inr (before, start, ap (λ (l : List Symbol). before ++ l) p.0))
@@ -136,12 +151,14 @@ in_step before t s start h = elim (from_parts 1 step (maybe (key symbol.Quit ▸
   | inr n ↦ absurd (none 1 (maybe (key symbol.Quit ▸ key symbol.Semicolon ▸ between)) n.1 s refl n.3)
 ]
 
-at_end : (before t : List Symbol) (s : Symbol) → IsAtStart before → Names 1 (key symbol.End ∣ unknown) t s → (is_word s ≡ true) × AwaitsStatement (before ++ t)
+at_end : (before t : List Symbol) (s : Symbol) → IsAtStart before → Names 1 (key symbol.End ∣ unknown) t s
+    → (is_word s ≡ true) × AwaitsStatement (before ++ t)
 at_end before t s start (inl n) = absurd n
 at_end before t s start (inr (inl (e, passes, same))) = absurd (not_24 same)
 at_end before t s start (inr (inr (e, passes, same))) = (passes, inl (joined before t start (inl e)))
 
-after_steps : (before t : List Symbol) (s : Symbol) → IsAtStart before → Names 1 (Many whole_step ▸ (key symbol.End ∣ unknown)) t s → (is_word s ≡ true) × AwaitsStatement (before ++ t)
+after_steps : (before t : List Symbol) (s : Symbol) → IsAtStart before
+    → Names 1 (Many whole_step ▸ (key symbol.End ∣ unknown)) t s → (is_word s ≡ true) × AwaitsStatement (before ++ t)
 after_steps before t s start h = elim (from_parts 1 (Many whole_step) (key symbol.End ∣ unknown) t s h) [
   | inl n ↦
       let r = in_step (before ++ n.0) n.1 s (joined before n.0 start (many whole_step whole_start n.0 n.2)) n.3 in

@@ -1,10 +1,14 @@
 -- What of the grammar is left at each place, in its own words.
 use Rattle.std.specs.Prelude.{Option, Some, None}
 use Rattle.fx_language.specs.declared.symbol.Symbol.{Symbol}
-use Rattle.fx_language.specs.declared.symbol.Symbol.TheVariants.{Quit, Nodes, Nlev, Minimum, Maximum, Nonnegligible, Minabs, Quoted, Decimal, Semicolon, Equals, Open, Close, OpenBracket, Slash, Star, Bar, At, Minus, End}
+use Rattle.fx_language.specs.declared.symbol.Symbol.TheVariants.{Quit, Nodes, Nlev, Minimum, Maximum, Nonnegligible}
+use Rattle.fx_language.specs.declared.symbol.Symbol.TheVariants.{Minabs, Quoted, Decimal, Semicolon, Equals, Open}
+use Rattle.fx_language.specs.declared.symbol.Symbol.TheVariants.{Close, OpenBracket, Slash, Star, Bar, At, Minus, End}
 use Rattle.fx_language.specs.Symbols.{is, is_left_out}
 use Rattle.fx_language.specs.Shapes.{Shape, Never, Empty, Many, guarded, maybe, ◌▸◌, ◌∣◌}
-use Rattle.fx_language.specs.Grammar.{key, name, n, n_or, no_open, item, factors_rest, size_rest, blocks_rest, star, effect, list, model_rest, examine_word, value, values, replication, option, output_rest, proc_rest, statement, step, between, unknown, program}
+use Rattle.fx_language.specs.Grammar.{key, name, n, n_or, no_open, item, factors_rest, size_rest, blocks_rest, star}
+use Rattle.fx_language.specs.Grammar.{effect, list, model_rest, examine_word, value, values, replication, option}
+use Rattle.fx_language.specs.Grammar.{output_rest, proc_rest, statement, step, between, unknown, program}
 use Rattle.fx_language.specs.declared.state.State.{State}
 use Rattle.fx_language.specs.declared.state.State.TheVariants as state
 use Rattle.fx_language.specs.declared.proc.ProcPlace.{ProcPlace}

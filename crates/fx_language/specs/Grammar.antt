@@ -1,7 +1,15 @@
 -- The grammar of programs, with the codes of symbols that are refused by a code of their own.
 use Rattle.std.specs.Prelude.{not, ◌&&◌, ◌||◌}
 use Rattle.fx_language.specs.declared.symbol.Symbol.{Symbol}
-use Rattle.fx_language.specs.declared.symbol.Symbol.TheVariants.{Proc, Factex, Nodes, Run, Quit, Factors, Nlev, Size, Design, Fraction, Nrunfacs, Minimum, Maximum, Model, Estimate, Nonnegligible, Resolution, Minabs, Blocks, Nblkfacs, Nblocks, Examine, Aliasing, Blocked, Confounding, Aberration, Output, Out, Pointrep, Designrep, Randomize, Novalran, Blockname, Nvals, Cvals, Uniteffect, Whole, Decimal, Quoted, Semicolon, Equals, Open, Close, OpenBracket, Slash, Star, Bar, At, Minus, End}
+use Rattle.fx_language.specs.declared.symbol.Symbol.TheVariants.{Proc, Factex, Nodes, Run, Quit, Factors, Nlev, Size}
+use Rattle.fx_language.specs.declared.symbol.Symbol.TheVariants.{Design, Fraction, Nrunfacs, Minimum, Maximum, Model}
+use Rattle.fx_language.specs.declared.symbol.Symbol.TheVariants.{Estimate, Nonnegligible, Resolution, Minabs, Blocks}
+use Rattle.fx_language.specs.declared.symbol.Symbol.TheVariants.{Nblkfacs, Nblocks, Examine, Aliasing, Blocked}
+use Rattle.fx_language.specs.declared.symbol.Symbol.TheVariants.{Confounding, Aberration, Output, Out, Pointrep}
+use Rattle.fx_language.specs.declared.symbol.Symbol.TheVariants.{Designrep, Randomize, Novalran, Blockname, Nvals}
+use Rattle.fx_language.specs.declared.symbol.Symbol.TheVariants.{Cvals, Uniteffect, Whole, Decimal, Quoted, Semicolon}
+use Rattle.fx_language.specs.declared.symbol.Symbol.TheVariants.{Equals, Open, Close, OpenBracket, Slash, Star, Bar, At}
+use Rattle.fx_language.specs.declared.symbol.Symbol.TheVariants.{Minus, End}
 use Rattle.fx_language.specs.Symbols.{is, is_word, is_output_option, is_left_out}
 use Rattle.fx_language.specs.Shapes.{Shape, Empty, One, Many, Fault, guarded, maybe, ◌▸◌, ◌∣◌}
 

@@ -1,7 +1,9 @@
 -- What the first refusal of a text is, without a word on how it is found.
 use Rattle.std.specs.Prelude.{◌≡◌, ◌↔◌, ◌⊎◌, ℕ, suc, true, false, List, [], ◌∷◌, ◌++◌, take, Some, None}
 use Rattle.fx_language.specs.declared.symbol.Symbol.{Symbol}
-use Rattle.fx_language.specs.declared.symbol.Symbol.TheVariants.{Aberration, Aliasing, Designrep, End, Equals, Examine, Minabs, Model, Open, OpenBracket, Output, Pointrep, Proc, Semicolon, Slash, Uniteffect}
+use Rattle.fx_language.specs.declared.symbol.Symbol.TheVariants.{Aberration, Aliasing, Designrep, End, Equals, Examine}
+use Rattle.fx_language.specs.declared.symbol.Symbol.TheVariants.{Minabs, Model, Open, OpenBracket, Output, Pointrep}
+use Rattle.fx_language.specs.declared.symbol.Symbol.TheVariants.{Proc, Semicolon, Slash, Uniteffect}
 use Rattle.fx_language.specs.Shapes.{Shape, Never, Empty, One, Before, Either, Many, Fault, Matches, Begins}
 use Rattle.fx_language.specs.Grammar.{program}
 use Rattle.fx_language.specs.Uncoded.{uncoded_program}
@@ -31,13 +33,14 @@ AcceptsPrograms symbols = (refused 0 program symbols ≡ None) ↔ Matches progr
 abbrev pub HasSameTexts : List Symbol → Type 0
 HasSameTexts text = Matches program text ↔ Matches uncoded_program text
 
--- The description names this code for a symbol after a text: the text leads to one of its faults, which has the code and is of
--- the symbol.
+-- The description names this code for a symbol after a text: the text leads to one of its faults, which has the code
+-- and is of the symbol.
 abbrev pub Names : ℕ → Shape → List Symbol → Symbol → Type 0
 Names code Never text s = ⊥
 Names code Empty text s = ⊥
 Names code (One test) text s = ⊥
-Names code (Before a b) text s = Names code a text s ⊎ ((x y : List Symbol) × Matches a x × Names code b y s × (text ≡ x ++ y))
+Names code (Before a b) text s =
+    Names code a text s ⊎ ((x y : List Symbol) × Matches a x × Names code b y s × (text ≡ x ++ y))
 Names code (Either a b) text s = Names code a text s ⊎ Names code b text s
 Names code (Many a) text s = (x y : List Symbol) × Matches (Many a) x × Names code a y s × (text ≡ x ++ y)
 Names code (Fault c test) text s = (text ≡ []) × (test s ≡ true) × (c ≡ code)
@@ -52,7 +55,8 @@ IsGeneralCode a text s code =
     ((code ≡ 3) × (is_word s ≡ true) × AllowsOption a text)
     ⊎ ((code ≡ 2) × (is_word s ≡ true → ¬ AllowsOption a text))
 
--- the code of a symbol that is refused after a text: the one that the description names, and the general one where it names none
+-- the code of a symbol that is refused after a text: the one that the description names, and the general one where it
+-- names none
 abbrev pub HasItsCode : Shape → List Symbol → Symbol → ℕ → Type 0
 HasItsCode a text s code = Names code a text s ⊎ (((c : ℕ) → ¬ Names c a text s) × IsGeneralCode a text s code)
 
@@ -66,20 +70,24 @@ AwaitsStatement text = IsAtStart text ⊎ ((front : List Symbol) × IsAtStart fr
 
 -- in a statement with this first word, after which these symbols follow
 abbrev pub IsIn : Symbol → List Symbol → List Symbol → Type 0
-IsIn word text rest = (front : List Symbol) × IsAtStart front × (text ≡ front ++ word ∷ rest) × (list_any (is Semicolon) rest ≡ false)
+IsIn word text rest =
+    (front : List Symbol) × IsAtStart front × (text ≡ front ++ word ∷ rest) × (list_any (is Semicolon) rest ≡ false)
 
 -- behind the MINABS of MODEL, which follows `/`, or ALIASING or ABERRATION in EXAMINE
 abbrev pub IsBehindSection : List Symbol → Type 0
 IsBehindSection text =
     (rest : List Symbol)
-    × (IsIn Model text (rest ++ Slash ∷ Minabs ∷ []) ⊎ (IsIn Examine text (rest ++ Aliasing ∷ []) ⊎ IsIn Examine text (rest ++ Aberration ∷ [])))
+    × (IsIn Model text (rest ++ Slash ∷ Minabs ∷ [])
+    ⊎ (IsIn Examine text (rest ++ Aliasing ∷ []) ⊎ IsIn Examine text (rest ++ Aberration ∷ [])))
 
 -- behind `POINTREP =` or `DESIGNREP =` in OUTPUT
 abbrev pub AwaitsReplication : List Symbol → Type 0
-AwaitsReplication text = (rest : List Symbol) × (IsIn Output text (rest ++ Pointrep ∷ Equals ∷ []) ⊎ IsIn Output text (rest ++ Designrep ∷ Equals ∷ []))
+AwaitsReplication text =
+    (rest : List Symbol)
+    × (IsIn Output text (rest ++ Pointrep ∷ Equals ∷ []) ⊎ IsIn Output text (rest ++ Designrep ∷ Equals ∷ []))
 
--- what is left out of the language: UNITEFFECT, some words of PROC, `(` behind a section or MINABS, a word for a replication, and
--- `[` in OUTPUT
+-- what is left out of the language: UNITEFFECT, some words of PROC, `(` behind a section or MINABS, a word for a
+-- replication, and `[` in OUTPUT
 abbrev pub IsLeftOut : List Symbol → Symbol → Type 0
 IsLeftOut text s =
     ((is Uniteffect s ≡ true) × IsAtStart text)

@@ -1,9 +1,12 @@
 -- What a pass over symbols keeps of those that it has seen, so that it need not look back.
 use Rattle.std.specs.Prelude.{ℕ, ◌+◌, nat_le, not, ◌&&◌, ◌||◌, Bool, false, List, Option, Some, None, if◌then◌else◌}
-use Rattle.fx_language.specs.declared.code.TheConstants.{REPEATED_OPTION, REPEATED_STATEMENT, STATEMENT_AFTER_RUN, TOO_MANY_STEPS}
+use Rattle.fx_language.specs.declared.code.TheConstants.{REPEATED_OPTION, REPEATED_STATEMENT, STATEMENT_AFTER_RUN}
+use Rattle.fx_language.specs.declared.code.TheConstants.{TOO_MANY_STEPS}
 use Rattle.fx_language.specs.declared.repeated.TheConstants.{MOST_STEPS}
 use Rattle.fx_language.specs.declared.symbol.Symbol.{Symbol}
-use Rattle.fx_language.specs.declared.symbol.Symbol.TheVariants.{Proc, Nodes, Run, Quit, Factors, Size, Model, Blocks, Output, Pointrep, Designrep, Randomize, Novalran, Blockname, Semicolon, Equals}
+use Rattle.fx_language.specs.declared.symbol.Symbol.TheVariants.{Proc, Nodes, Run, Quit, Factors, Size, Model, Blocks}
+use Rattle.fx_language.specs.declared.symbol.Symbol.TheVariants.{Output, Pointrep, Designrep, Randomize, Novalran}
+use Rattle.fx_language.specs.declared.symbol.Symbol.TheVariants.{Blockname, Semicolon, Equals}
 use Rattle.fx_language.specs.declared.repeated.Past.{Past}
 use Rattle.fx_language.specs.declared.repeated.StepPast.{StepPast}
 use Rattle.fx_language.specs.declared.repeated.StatementPast.{StatementPast}

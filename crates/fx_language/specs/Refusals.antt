@@ -1,8 +1,11 @@
 -- The first symbol of a text that the grammar refuses, and its code.
-use Rattle.std.specs.Prelude.{ℕ, suc, nat_le, Bool, not, ◌&&◌, unwrap_or, List, [], ◌∷◌, Option, Some, None, if◌then◌else◌}
+use Rattle.std.specs.Prelude.{ℕ, suc, nat_le, Bool, not, ◌&&◌, unwrap_or, List, [], ◌∷◌, Option, Some, None}
+use Rattle.std.specs.Prelude.{if◌then◌else◌}
 use Rattle.std.specs.List.{list_any}
 use Rattle.fx_language.specs.declared.symbol.Symbol.{Symbol}
-use Rattle.fx_language.specs.declared.symbol.Symbol.TheVariants.{Nodes, Nlev, Size, Design, Fraction, Nrunfacs, Estimate, Nonnegligible, Resolution, Minabs, Nblkfacs, Nblocks, Aliasing, Out, Nvals, Cvals, End}
+use Rattle.fx_language.specs.declared.symbol.Symbol.TheVariants.{Nodes, Nlev, Size, Design, Fraction, Nrunfacs}
+use Rattle.fx_language.specs.declared.symbol.Symbol.TheVariants.{Estimate, Nonnegligible, Resolution, Minabs, Nblkfacs}
+use Rattle.fx_language.specs.declared.symbol.Symbol.TheVariants.{Nblocks, Aliasing, Out, Nvals, Cvals, End}
 use Rattle.fx_language.specs.Symbols.{is_word}
 use Rattle.fx_language.specs.Shapes.{Shape, after, is_never, fault_at}
 

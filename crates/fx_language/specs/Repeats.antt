@@ -1,10 +1,13 @@
 -- The rules on words that are repeated or too late. They refuse symbols that the grammar allows.
-use Rattle.std.specs.Prelude.{ℕ, ◌+◌, nat_le, not, ◌&&◌, ◌||◌, Bool, true, false, List, [], ◌∷◌, count_by, Option, Some, None, if◌then◌else◌}
+use Rattle.std.specs.Prelude.{ℕ, ◌+◌, nat_le, not, ◌&&◌, ◌||◌, Bool, true, false, List, [], ◌∷◌, count_by, Option, Some}
+use Rattle.std.specs.Prelude.{None, if◌then◌else◌}
 use Rattle.std.specs.List.{list_any}
-use Rattle.fx_language.specs.declared.code.TheConstants.{REPEATED_OPTION, REPEATED_STATEMENT, STATEMENT_AFTER_RUN, TOO_MANY_STEPS}
+use Rattle.fx_language.specs.declared.code.TheConstants.{REPEATED_OPTION, REPEATED_STATEMENT, STATEMENT_AFTER_RUN}
+use Rattle.fx_language.specs.declared.code.TheConstants.{TOO_MANY_STEPS}
 use Rattle.fx_language.specs.declared.repeated.TheConstants.{MOST_STEPS}
 use Rattle.fx_language.specs.declared.symbol.Symbol.{Symbol}
-use Rattle.fx_language.specs.declared.symbol.Symbol.TheVariants.{Proc, Factex, Nodes, Run, Quit, Output, Semicolon, Equals}
+use Rattle.fx_language.specs.declared.symbol.Symbol.TheVariants.{Proc, Factex, Nodes, Run, Quit, Output, Semicolon}
+use Rattle.fx_language.specs.declared.symbol.Symbol.TheVariants.{Equals}
 use Rattle.fx_language.specs.Symbols.{is, is_once, is_output_option}
 
 -- What was seen is listed with its last symbol first. A statement starts at the front of the text and after each `;`.
@@ -62,7 +65,8 @@ abbrev pub rule_at : List Symbol → Symbol → List Symbol → Option ℕ
 rule_at seen s rest =
     if is_start seen && is_once s && has_statement Run seen then Some STATEMENT_AFTER_RUN
     else (if is_start seen && is_once s && has_statement s seen then Some REPEATED_STATEMENT
-    else (if is_start seen && is Proc s && begins_with Factex rest && nat_le MOST_STEPS (procs seen) then Some TOO_MANY_STEPS
+    else (if is_start seen && is Proc s && begins_with Factex rest && nat_le MOST_STEPS (procs seen)
+    then Some TOO_MANY_STEPS
     else (if not (is_behind_equals seen) && is_option_in seen s && has_option s seen then Some REPEATED_OPTION
     else None)))
 

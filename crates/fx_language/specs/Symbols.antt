@@ -1,7 +1,16 @@
 -- Symbols, and the classes of symbols that the grammar speaks of.
 use Rattle.std.specs.Prelude.{ℕ, Bool, ◌==◌, ◌||◌, nat_le}
 use Rattle.fx_language.specs.declared.symbol.Symbol.{Symbol}
-use Rattle.fx_language.specs.declared.symbol.Symbol.TheVariants.{Proc, Factex, Nodes, Run, Quit, Factors, Nlev, Size, Design, Fraction, Nrunfacs, Minimum, Maximum, Model, Estimate, Nonnegligible, Resolution, Minabs, Blocks, Nblkfacs, Nblocks, Examine, Aliasing, Blocked, Confounding, Aberration, Output, Out, Pointrep, Designrep, Randomize, Novalran, Blockname, Nvals, Cvals, Time, Nocheck, Namelen, Uniteffect, Name, Whole, Decimal, Quoted, Semicolon, Equals, Open, Close, OpenBracket, CloseBracket, Slash, Star, Bar, At, Minus, End}
+use Rattle.fx_language.specs.declared.symbol.Symbol.TheVariants.{Proc, Factex, Nodes, Run, Quit, Factors, Nlev, Size}
+use Rattle.fx_language.specs.declared.symbol.Symbol.TheVariants.{Design, Fraction, Nrunfacs, Minimum, Maximum, Model}
+use Rattle.fx_language.specs.declared.symbol.Symbol.TheVariants.{Estimate, Nonnegligible, Resolution, Minabs, Blocks}
+use Rattle.fx_language.specs.declared.symbol.Symbol.TheVariants.{Nblkfacs, Nblocks, Examine, Aliasing, Blocked}
+use Rattle.fx_language.specs.declared.symbol.Symbol.TheVariants.{Confounding, Aberration, Output, Out, Pointrep}
+use Rattle.fx_language.specs.declared.symbol.Symbol.TheVariants.{Designrep, Randomize, Novalran, Blockname, Nvals}
+use Rattle.fx_language.specs.declared.symbol.Symbol.TheVariants.{Cvals, Time, Nocheck, Namelen, Uniteffect, Name, Whole}
+use Rattle.fx_language.specs.declared.symbol.Symbol.TheVariants.{Decimal, Quoted, Semicolon, Equals, Open, Close}
+use Rattle.fx_language.specs.declared.symbol.Symbol.TheVariants.{OpenBracket, CloseBracket, Slash, Star, Bar, At, Minus}
+use Rattle.fx_language.specs.declared.symbol.Symbol.TheVariants.{End}
 
 -- the number of a symbol, in the order of the enum: keywords, other words, numbers and texts, signs, the end
 abbrev pub index : Symbol → ℕ

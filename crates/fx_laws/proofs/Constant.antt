@@ -18,17 +18,23 @@ use Rattle.fx_laws.proofs.Order.{each-all}
 use Rattle.fx_laws.proofs.CanonicalTest.{rows-vectors}
 
 module _ (q : ℕ) (f : IsField q) (u : List ℕ) where
-  has_value : (xs : List (List ℕ)) (c : ℕ) → Decides (list_all (λ x. eqb (dot q u x) c) xs) (All (λ x. dot q u x ≡ c) xs)
-  has_value xs c = all_decides (λ x. eqb (dot q u x) c) (λ x. dot q u x ≡ c) (λ x. (eqb-true (dot q u x) c, eq-eqb (dot q u x) c)) xs
+  has_value : (xs : List (List ℕ)) (c : ℕ)
+      → Decides (list_all (λ x. eqb (dot q u x) c) xs) (All (λ x. dot q u x ≡ c) xs)
+  has_value xs c =
+      all_decides (λ x. eqb (dot q u x) c) (λ x. dot q u x ≡ c) (λ x. (eqb-true (dot q u x) c, eq-eqb (dot q u x) c)) xs
 
   constant_at : (xs : List (List ℕ)) (c : ℕ) → c < q → All (λ x. dot q u x ≡ c) xs → is_constant q u xs ≡ true
   unfolding is_constant
   constant_at xs c h all =
-      list_any_at (λ c. list_all (λ x. eqb (dot q u x) c) xs) (codes_of q) c 0 (subst (λ n. c < n) (sym (length-range_with_len 0 q)) h)
-      (subst (λ c. list_all (λ x. eqb (dot q u x) c) xs ≡ true) (sym (get_or-range_with_len 0 q c 0 h ∙ zero-add c)) ((has_value xs c).1 all))
+      list_any_at (λ c. list_all (λ x. eqb (dot q u x) c) xs) (codes_of q) c 0
+      (subst (λ n. c < n) (sym (length-range_with_len 0 q)) h)
+      (subst (λ c. list_all (λ x. eqb (dot q u x) c) xs ≡ true) (sym (get_or-range_with_len 0 q c 0 h ∙ zero-add c))
+      ((has_value xs c).1 all))
 
   constant_holds : (xs : List (List ℕ)) → IsConstant q u xs → is_constant q u xs ≡ true
-  constant_holds [] h = constant_at [] 0 (omega (arith, f.more_than_one)) (All-from_get_or (λ x. dot q u x ≡ 0) [] [] (λ i low. absurd (omega arith)))
+  constant_holds [] h =
+      constant_at [] 0 (omega (arith, f.more_than_one))
+      (All-from_get_or (λ x. dot q u x ≡ 0) [] [] (λ i low. absurd (omega arith)))
   constant_holds (x ∷ xs) h =
       let first : dot q u x ≡ h.0 = All-get_or (λ x. dot q u x ≡ h.0) (x ∷ xs) 0 [] (omega arith) h.1 in
       constant_at (x ∷ xs) h.0 (subst (λ c. c < q) first (dot_code q f u x)) h.1
@@ -37,7 +43,9 @@ module _ (q : ℕ) (f : IsField q) (u : List ℕ) where
   unfolding is_constant
   constant_decides xs = (
     λ e.
-        let found = some_item (λ c. list_all (λ x. eqb (dot q u x) c) xs) (λ c. Unit {0}) (codes_of q) (each-all (λ c. Unit {0}) (codes_of q) (λ c. tt)) e in
+        let found =
+        some_item (λ c. list_all (λ x. eqb (dot q u x) c) xs) (λ c. Unit {0}) (codes_of q)
+        (each-all (λ c. Unit {0}) (codes_of q) (λ c. tt)) e in
         (found.0, (has_value xs found.0).0 found.2),
     constant_holds xs,
   )
@@ -51,5 +59,6 @@ module _ (q m : ℕ) (f : IsField q) (rows : List (List ℕ)) (hr : AreVectors q
   )
 
 -- over the runs of rules that are given by their numbers
-pub constant_sum : (q : ℕ) (f : IsField q) (u : List ℕ) (m : ℕ) (rows : List ℕ) → (is_constant q u (runs_of q m (vectors_of q m rows)) ≡ true) ↔ (combination q m u (vectors_of q m rows) ≡ zeros m)
+pub constant_sum : (q : ℕ) (f : IsField q) (u : List ℕ) (m : ℕ) (rows : List ℕ)
+    → (is_constant q u (runs_of q m (vectors_of q m rows)) ≡ true) ↔ (combination q m u (vectors_of q m rows) ≡ zeros m)
 constant_sum q f u m rows = zero_sum_decides q m f (vectors_of q m rows) (rows-vectors q m f rows) u

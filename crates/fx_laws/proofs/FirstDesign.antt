@@ -1,5 +1,6 @@
 -- The answer is the first design.
-use Rattle.std.proofs.Common.{ℕ, ◌≡◌, ◌<◌, ◌+◌, ◌^◌, ◌||◌, not, ltb, true, false, List, length, Some, None, sym, ap, ◌∙◌, subst, arith, inl, inr}
+use Rattle.std.proofs.Common.{ℕ, ◌≡◌, ◌<◌, ◌+◌, ◌^◌, ◌||◌, not, ltb, true, false, List, length, Some, None, sym, ap}
+use Rattle.std.proofs.Common.{◌∙◌, subst, arith, inl, inr}
 use Rattle.std.specs.List.{find, filter, AllByRecursion}
 use Rattle.std.proofs.lemmas.Bool.{and_parts, eqb-true, or_left, false_from_ne_true, both_ways}
 use Rattle.std.proofs.lemmas.List.Elements.{recursion_from_All}
@@ -9,16 +10,20 @@ use Rattle.fx_designs.specs.Answers.{before, lists, prefixes, is_design, is_of_l
 use Rattle.fx_laws.specs.First.{IsFirstDesign}
 use Rattle.fx_laws.proofs.Tests.{all_decides}
 use Rattle.std.proofs.lemmas.Bool.{ltb-true, lt-ltb, cases_lt}
-use Rattle.fx_laws.proofs.Order.{lists-sorted, all_lists, IsIn, found_first, first_found, none_found, found_passes, find-filter, before-self, before-not}
+use Rattle.fx_laws.proofs.Order.{lists-sorted, all_lists, IsIn, found_first, first_found, none_found, found_passes}
+use Rattle.fx_laws.proofs.Order.{find-filter, before-self, before-not}
 
 module _ (p : Problem) where
   -- what every design has, by its tests of length and range
-  pub design-rows : (rows : List ℕ) → is_design p rows ≡ true → (length rows ≡ p.dimensions.s + p.dimensions.t) × AllByRecursion (λ r. r < p.dimensions.q ^ p.dimensions.m) rows
+  pub design-rows : (rows : List ℕ) → is_design p rows ≡ true
+      → (length rows ≡ p.dimensions.s + p.dimensions.t) × AllByRecursion (λ r. r < p.dimensions.q ^ p.dimensions.m) rows
   unfolding is_canonical
   design-rows rows h =
       let parts = and_parts _ _ h in
       let canonical = and_parts _ _ (and_parts _ _ parts.1).0 in
-      let below = (all_decides (λ r. ltb r (p.dimensions.q ^ p.dimensions.m)) (λ r. r < p.dimensions.q ^ p.dimensions.m) (λ r. (λ e. ltb-true _ _ e, λ h. lt-ltb _ _ h)) rows).0 (and_parts _ _ canonical.1).0 in
+      let below =
+      (all_decides (λ r. ltb r (p.dimensions.q ^ p.dimensions.m)) (λ r. r < p.dimensions.q ^ p.dimensions.m)
+      (λ r. (λ e. ltb-true _ _ e, λ h. lt-ltb _ _ h)) rows).0 (and_parts _ _ canonical.1).0 in
       (eqb-true _ _ parts.0, recursion_from_All (λ r. r < p.dimensions.q ^ p.dimensions.m) rows below)
 
   pub there : 0 < p.dimensions.s + p.dimensions.t → (rows : List ℕ) → is_design p rows ≡ true → IsIn rows (prefixes p)
@@ -44,10 +49,15 @@ module _ (p : Problem) where
   module _ (plain : p.least ≡ false) where
     pub answer-find : answer p ≡ find (is_design p) (prefixes p)
     unfolding answer designs
-    answer-find = find-filter (is_design p) (λ rows. not p.least || is_of_least_pattern p rows) (prefixes p) (λ rows. or_left _ _ (ap not plain))
+    answer-find =
+        find-filter (is_design p) (λ rows. not p.least || is_of_least_pattern p rows) (prefixes p)
+        (λ rows. or_left _ _ (ap not plain))
 
-    pub first-answer : 0 < p.dimensions.s + p.dimensions.t → (rows : List ℕ) → IsFirstDesign p rows → answer p ≡ Some rows
-    first-answer some rows first = answer-find ∙ first_found (is_design p) (prefixes p) rows (lists-sorted _ _) (there some rows first.design) first.design first.none_before
+    pub first-answer : 0 < p.dimensions.s + p.dimensions.t → (rows : List ℕ) → IsFirstDesign p rows
+        → answer p ≡ Some rows
+    first-answer some rows first =
+        answer-find ∙ first_found (is_design p) (prefixes p) rows (lists-sorted _ _) (there some rows first.design)
+        first.design first.none_before
 
     pub none-design : 0 < p.dimensions.s + p.dimensions.t → answer p ≡ None → (rows : List ℕ) → is_design p rows ≡ false
     none-design some none rows = false_from_ne_true (is_design p rows) (λ h.
@@ -64,7 +74,9 @@ module _ (p : Problem) where
         record {
           design = found_passes (is_design p) (prefixes p) rows is;
           none_before = λ other design earlier.
-              let found = found_first (is_design p) (prefixes p) other (lists-sorted _ _) (there (some_rows rows h) other design) design in
+              let found =
+              found_first (is_design p) (prefixes p) other (lists-sorted _ _)
+              (there (some_rows rows h) other design) design in
               let same : Some found.0 ≡ Some rows = sym found.1 ∙ is in
               let e : found.0 ≡ rows = cc in
               elim (found.3) [

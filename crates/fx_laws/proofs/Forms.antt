@@ -1,5 +1,6 @@
 -- Formed rows, each 0 or normal, are canonical.
-use Rattle.std.proofs.Common.{ℕ, ◌≡◌, ◌<◌, ◌≤◌, ◌+◌, ◌-◌, min, zero, suc, Bool, true, false, cond, eqb, List, [], ◌∷◌, ◌++◌, map, length, take, append_assoc, refl, sym, subst, ◌∙◌, ap, arith, inl, inr, ◌⊎◌}
+use Rattle.std.proofs.Common.{ℕ, ◌≡◌, ◌<◌, ◌≤◌, ◌+◌, ◌-◌, min, zero, suc, Bool, true, false, cond, eqb, List, [], ◌∷◌}
+use Rattle.std.proofs.Common.{◌++◌, map, length, take, append_assoc, refl, sym, subst, ◌∙◌, ap, arith, inl, inr, ◌⊎◌}
 use Rattle.std.specs.Prelude.{nat_lt}
 use Rattle.std.specs.List.{AllByRecursion}
 use Rattle.std.proofs.lemmas.List.{append-nil}
@@ -19,7 +20,8 @@ use Rattle.fx_laws.proofs.Linear.{dot_code, dot-scale, dot-zeros}
 use Rattle.fx_laws.proofs.Space.{ext, zeros-vector, scale-vector, AreVectors}
 use Rattle.fx_laws.proofs.Separation.{inv-mul, one-mul}
 use Rattle.fx_laws.proofs.Changes.{unit-vector, mul-zero-either}
-use Rattle.fx_laws.proofs.Ranks.{spans-none, spans-old, spans-new, spans-short, unit-long, in_span-holds, in_span-none, short-scale, Spans}
+use Rattle.fx_laws.proofs.Ranks.{spans-none, spans-old, spans-new, spans-short, unit-long, in_span-holds, in_span-none}
+use Rattle.fx_laws.proofs.Ranks.{short-scale, Spans}
 use Rattle.fx_laws.proofs.Order.{each-append}
 
 false-true : {A : Type 0} (b : Bool) → b ≡ true → b ≡ false → A
@@ -55,7 +57,8 @@ last_nonzero-positive (a ∷ v) some =
     ]
 
 -- the last nonzero code of a multiple
-pub last-scale : (q : ℕ) (f : IsField q) (c : ℕ) (r : List ℕ) → 0 < c → c < q → AllByRecursion (λ a. a < q) r → last_nonzero (scale q c r) ≡ mul q c (last_nonzero r)
+pub last-scale : (q : ℕ) (f : IsField q) (c : ℕ) (r : List ℕ) → 0 < c → c < q → AllByRecursion (λ a. a < q) r
+    → last_nonzero (scale q c r) ≡ mul q c (last_nonzero r)
 last-scale q f c [] some hc h = sym (f.mul_zero c)
 last-scale q f c (a ∷ r) some hc h =
     let rest = last-scale q f c r some hc h.1 in
@@ -64,47 +67,61 @@ last-scale q f c (a ∷ r) some hc h =
           let none : last_nonzero (scale q c r) ≡ 0 = rest ∙ ap (mul q c) e ∙ f.mul_zero c in
           rw (none, e) refl
       | inr ne ↦
-          let some' : last_nonzero (scale q c r) ≡ 0 → ⊥ = λ z. ne (mul-zero-either q f (last_nonzero r) c (last-code q f r h.1) hc some (f.mul_comm (last_nonzero r) c ∙ sym rest ∙ z)) in
+          let some' : last_nonzero (scale q c r) ≡ 0 → ⊥ =
+          λ z. ne (mul-zero-either q f (last_nonzero r) c (last-code q f r h.1) hc some
+          (f.mul_comm (last_nonzero r) c ∙ sym rest ∙ z)) in
           rw (ne_eqb _ _ some', ne_eqb _ _ ne) rest
     ]
 
 module _ (q m : ℕ) (f : IsField q) where
-  pub rank-snoc : (bs xs : List (List ℕ)) (r : List ℕ) → rank_after q m bs (xs ++ r ∷ []) ≡ rank_after q m bs xs + cond (in_span q m (bs ++ xs) r) 0 1
+  pub rank-snoc : (bs xs : List (List ℕ)) (r : List ℕ)
+      → rank_after q m bs (xs ++ r ∷ []) ≡ rank_after q m bs xs + cond (in_span q m (bs ++ xs) r) 0 1
   rank-snoc bs [] r = ap (λ z. cond (in_span q m z r) 0 1 + 0) (sym (append-nil bs)) ∙ omega arith
   rank-snoc bs (x ∷ xs) r =
-      ap (λ n. cond (in_span q m bs x) 0 1 + n) (rank-snoc (bs ++ x ∷ []) xs r ∙ ap (λ z. rank_after q m (bs ++ x ∷ []) xs + cond (in_span q m z r) 0 1) (append_assoc bs (x ∷ []) xs))
+      ap (λ n. cond (in_span q m bs x) 0 1 + n)
+      (rank-snoc (bs ++ x ∷ []) xs r ∙ ap (λ z. rank_after q m (bs ++ x ∷ []) xs + cond (in_span q m z r) 0 1)
+      (append_assoc bs (x ∷ []) xs))
       ∙ omega arith
 
   -- a row at its place
-  pub new_at : (bs rows : List (List ℕ)) (k n i : ℕ) → Spans q m k bs → rank_of q m bs ≡ k → AreVectors q m rows → IsFormedTo m k rows n → i < length rows
+  pub new_at : (bs rows : List (List ℕ)) (k n i : ℕ) → Spans q m k bs → rank_of q m bs ≡ k → AreVectors q m rows
+      → IsFormedTo m k rows n → i < length rows
       → in_span q m (bs ++ take i rows) (row rows i) ≡ false → row rows i ≡ unit m (rank_of q m (bs ++ take i rows))
   new_at bs [] k n i h rk hr formed below out = absurd (omega arith)
   new_at bs (r ∷ rows) k n zero h rk hr formed below out =
       elim formed [
-        | inl s ↦ false-true (in_span q m bs r) (in_span-holds q m f bs r (h.all r hr.0 s.0)) (subst (λ z. in_span q m z r ≡ false) (append-nil bs) out)
+        | inl s ↦ false-true (in_span q m bs r) (in_span-holds q m f bs r (h.all r hr.0 s.0))
+            (subst (λ z. in_span q m z r ≡ false) (append-nil bs) out)
         | inr s ↦ s.1 ∙ ap (unit m) (sym (ap (λ z. rank_of q m z) (append-nil bs) ∙ rk))
       ]
   new_at bs (r ∷ rows) k n (suc i) h rk hr formed below out =
       let same : (bs ++ r ∷ []) ++ take i rows ≡ bs ++ r ∷ take i rows = append_assoc bs (r ∷ []) (take i rows) in
-      let out' : in_span q m ((bs ++ r ∷ []) ++ take i rows) (row rows i) ≡ false = subst (λ z. in_span q m z (row rows i) ≡ false) (sym same) out in
-      let go : (k' : ℕ) → Spans q m k' (bs ++ r ∷ []) → rank_of q m (bs ++ r ∷ []) ≡ k' → IsFormedTo m k' rows n → row rows i ≡ unit m (rank_of q m (bs ++ r ∷ take i rows)) =
-      λ k' h' rk' formed'. new_at (bs ++ r ∷ []) rows k' n i h' rk' hr.1 formed' (omega arith) out' ∙ ap (λ z. unit m (rank_of q m z)) same in
+      let out' : in_span q m ((bs ++ r ∷ []) ++ take i rows) (row rows i) ≡ false =
+      subst (λ z. in_span q m z (row rows i) ≡ false) (sym same) out in
+      let go : (k' : ℕ) → Spans q m k' (bs ++ r ∷ []) → rank_of q m (bs ++ r ∷ []) ≡ k' → IsFormedTo m k' rows n
+      → row rows i ≡ unit m (rank_of q m (bs ++ r ∷ take i rows)) =
+      λ k' h' rk' formed'. new_at (bs ++ r ∷ []) rows k' n i h' rk' hr.1 formed' (omega arith) out' ∙ ap
+      (λ z. unit m (rank_of q m z)) same in
       elim formed [
         | inl s ↦
             let is = in_span-holds q m f bs r (h.all r hr.0 s.0) in
             go k (spans-old q m f k bs r hr.0 h s.0) (rank-snoc [] bs r ∙ (rw (is, rk) (omega arith))) s.1
         | inr s ↦
             let new : r ≡ unit m k = s.1 in
-            let is = in_span-none q m f bs r h.vectors hr.0 (λ i. unit-long m k s.0 (subst (IsShort k) new (spans-short q m f k bs r h i))) in
-            go (suc k) (subst (λ x. Spans q m (suc k) (bs ++ x ∷ [])) (sym new) (spans-new q m f k bs s.0 h)) (rank-snoc [] bs r ∙ (rw (is, rk) (omega arith))) s.2
+            let is = in_span-none q m f bs r h.vectors hr.0
+            (λ i. unit-long m k s.0 (subst (IsShort k) new (spans-short q m f k bs r h i))) in
+            go (suc k) (subst (λ x. Spans q m (suc k) (bs ++ x ∷ [])) (sym new) (spans-new q m f k bs s.0 h))
+            (rank-snoc [] bs r ∙ (rw (is, rk) (omega arith))) s.2
       ]
 
   -- a row raises the rank by 1 at most
-  pub rank-reach : (bs rows : List (List ℕ)) (k : ℕ) → k ≤ length rows → rank_after q m bs rows ≤ rank_after q m bs (take k rows) + (length rows - k)
+  pub rank-reach : (bs rows : List (List ℕ)) (k : ℕ) → k ≤ length rows
+      → rank_after q m bs rows ≤ rank_after q m bs (take k rows) + (length rows - k)
   rank-reach bs [] k h = omega arith
   rank-reach bs (r ∷ rows) zero h =
       let rest = rank-reach (bs ++ r ∷ []) rows zero (omega arith) in
-      let one : (b : Bool) → cond b 0 1 ≤ 1 = λ b. elim b as (λ b. cond b 0 1 ≤ 1) [ true ↦ omega arith | false ↦ omega arith ] in
+      let one : (b : Bool) → cond b 0 1 ≤ 1 =
+      λ b. elim b as (λ b. cond b 0 1 ≤ 1) [ true ↦ omega arith | false ↦ omega arith ] in
       let here = one (in_span q m bs r) in
       omega arith
   rank-reach bs (r ∷ rows) (suc k) h =
@@ -138,21 +155,31 @@ module _ (q m : ℕ) (f : IsField q) where
   normal_factor-code r h =
       elim (cases_eq (last_nonzero r) 0) [
         | inl e ↦ rw (eq-eqb _ _ e) (omega arith, f.more_than_one)
-        | inr ne ↦ rw (ne_eqb _ _ ne) (inv-positive q f (last_nonzero r) (omega arith) (last-code q f r h), f.inv_code (last_nonzero r))
+        | inr ne ↦
+            rw (ne_eqb _ _ ne)
+            (inv-positive q f (last_nonzero r) (omega arith) (last-code q f r h), f.inv_code (last_nonzero r))
       ]
 
   -- each row scaled to a normal one
-  pub normal_scaled : (r : List ℕ) → IsVector q m r → (scale q (normal_factor r) r ≡ zeros m) ⊎ IsNormal (scale q (normal_factor r) r)
+  pub normal_scaled : (r : List ℕ) → IsVector q m r
+      → (scale q (normal_factor r) r ≡ zeros m) ⊎ IsNormal (scale q (normal_factor r) r)
   normal_scaled r h =
       elim (cases_eq (last_nonzero r) 0) [
-        | inl e ↦ inl (let z = last-zero m r h.len e in ap (scale q (normal_factor r)) z ∙ ext q m f _ _ (scale-vector q m f (normal_factor r) (zeros m) (zeros-vector q m f)) (zeros-vector q m f) (λ p. dot-scale q f (normal_factor r) (zeros m) p ∙ (rw (dot-zeros q f m p) (f.mul_zero (normal_factor r)))))
+        | inl e ↦ inl
+            (let z = last-zero m r h.len e in
+            ap (scale q (normal_factor r)) z ∙ ext q m f _ _
+            (scale-vector q m f (normal_factor r) (zeros m) (zeros-vector q m f)) (zeros-vector q m f)
+            (λ p. dot-scale q f (normal_factor r) (zeros m) p ∙
+            (rw (dot-zeros q f m p) (f.mul_zero (normal_factor r)))))
         | inr ne ↦
             let c = normal_factor-code r h.codes in
-            inr (last-scale q f (normal_factor r) r c.0 c.1 h.codes ∙ (rw (ne_eqb _ _ ne) (inv-mul q f (last_nonzero r) (omega arith) (last-code q f r h.codes))))
+            inr (last-scale q f (normal_factor r) r c.0 c.1 h.codes ∙
+            (rw (ne_eqb _ _ ne) (inv-mul q f (last_nonzero r) (omega arith) (last-code q f r h.codes))))
       ]
 
   pub scale-one : (r : List ℕ) → IsVector q m r → scale q 1 r ≡ r
-  scale-one r h = ext q m f _ _ (scale-vector q m f 1 r h) h (λ p. dot-scale q f 1 r p ∙ one-mul q f (dot q r p) (dot_code q f r p))
+  scale-one r h =
+      ext q m f _ _ (scale-vector q m f 1 r h) h (λ p. dot-scale q f 1 r p ∙ one-mul q f (dot q r p) (dot_code q f r p))
 
   normal-unit : (k : ℕ) → k < m → scale q (normal_factor (unit m k)) (unit m k) ≡ unit m k
   normal-unit k h =
@@ -163,22 +190,34 @@ module _ (q m : ℕ) (f : IsField q) where
   factors-scalars [] h = tt
   factors-scalars (r ∷ rows) h = (normal_factor-code r h.0.codes, factors-scalars rows h.1)
 
-  pub formed-scaled : (k n : ℕ) (rows : List (List ℕ)) → IsFormedTo m k rows n → IsFormedTo m k (scaled q (map normal_factor rows) rows) n
+  pub formed-scaled : (k n : ℕ) (rows : List (List ℕ)) → IsFormedTo m k rows n
+      → IsFormedTo m k (scaled q (map normal_factor rows) rows) n
   formed-scaled k n [] h = h
   formed-scaled k n (r ∷ rows) h = elim h [
     | inl s ↦ inl (short-scale q k (normal_factor r) f r s.0, formed-scaled k n rows s.1)
-    | inr s ↦ inr (s.0, subst (λ x. scale q (normal_factor x) x ≡ unit m k) (sym s.1) (normal-unit k s.0), formed-scaled (suc k) n rows s.2)
+    | inr s ↦ inr (
+      s.0,
+      subst (λ x. scale q (normal_factor x) x ≡ unit m k) (sym s.1) (normal-unit k s.0),
+      formed-scaled (suc k) n
+          rows s.2,
+    )
   ]
 
-  pub each_normal : (rows : List (List ℕ)) → AreVectors q m rows → AllByRecursion (λ r. (r ≡ zeros m) ⊎ IsNormal r) (scaled q (map normal_factor rows) rows)
+  pub each_normal : (rows : List (List ℕ)) → AreVectors q m rows
+      → AllByRecursion (λ r. (r ≡ zeros m) ⊎ IsNormal r) (scaled q (map normal_factor rows) rows)
   each_normal [] h = tt
   each_normal (r ∷ rows) h = (normal_scaled r h.0, each_normal rows h.1)
 
   -- formed rows, each 0 or normal
-  pub formed-canonical : (xs ys : List (List ℕ)) (n : ℕ) → AreVectors q m xs → AreVectors q m ys → IsFormedTo m 0 (xs ++ ys) n → AllByRecursion (λ r. (r ≡ zeros m) ⊎ IsNormal r) (xs ++ ys)
+  pub formed-canonical : (xs ys : List (List ℕ)) (n : ℕ) → AreVectors q m xs → AreVectors q m ys
+      → IsFormedTo m 0 (xs ++ ys) n → AllByRecursion (λ r. (r ≡ zeros m) ⊎ IsNormal r) (xs ++ ys)
       → min (length xs) m ≤ rank_of q m xs → IsCanonical q m (length xs) (xs ++ ys)
   formed-canonical xs ys n hx hy formed normal enough = record {
-    new_is_unit = λ k below out. new_at [] (xs ++ ys) 0 n k (spans-none q m f) refl (each-append (λ r. IsVector q m r) xs ys hx hy) formed below out;
-    old_is_normal = λ k below is. All-get_or (λ r. (r ≡ zeros m) ⊎ IsNormal r) (xs ++ ys) k [] below (All-from_recursion _ (xs ++ ys) normal);
+    new_is_unit =
+        λ k below out. new_at [] (xs ++ ys) 0 n k (spans-none q m f) refl
+        (each-append (λ r. IsVector q m r) xs ys hx hy) formed below out;
+    old_is_normal =
+        λ k below is. All-get_or (λ r. (r ≡ zeros m) ⊎ IsNormal r) (xs ++ ys) k [] below
+        (All-from_recursion _ (xs ++ ys) normal);
     reach = λ k low below. (let h = rank-reach [] xs k low in let e = take-append-le k xs ys low in rw e (omega arith));
   }

@@ -13,7 +13,9 @@ zero-add-code q f a h = f.add_comm 0 a ∙ f.add_zero a h
 -- a sum of four, regrouped
 pub add-add : (q : ℕ) (f : IsField q) (a b c d : ℕ) → add q (add q a b) (add q c d) ≡ add q (add q a c) (add q b d)
 add-add q f a b c d =
-    f.add_assoc a b (add q c d) ∙ ap (add q a) (sym (f.add_assoc b c d) ∙ ap (λ x. add q x d) (f.add_comm b c) ∙ f.add_assoc c b d) ∙ sym (f.add_assoc a c (add q b d))
+    f.add_assoc a b (add q c d) ∙ ap (add q a)
+    (sym (f.add_assoc b c d) ∙ ap (λ x. add q x d) (f.add_comm b c) ∙ f.add_assoc c b d) ∙ sym
+    (f.add_assoc a c (add q b d))
 
 pub dot_code : (q : ℕ) (f : IsField q) (v w : List ℕ) → dot q v w < q
 dot_code q f [] w = omega (arith, f.more_than_one)
@@ -35,7 +37,8 @@ dot-plus q f [] w p = sym (zero-add-code q f (dot q w p) (dot_code q f w p))
 dot-plus q f (a ∷ v) [] p = sym (f.add_zero (dot q (a ∷ v) p) (dot_code q f (a ∷ v) p))
 dot-plus q f (a ∷ v) (b ∷ w) [] = sym (f.add_zero 0 (omega (arith, f.more_than_one)))
 dot-plus q f (a ∷ v) (b ∷ w) (c ∷ p) =
-    ap (λ x. add q x (dot q (plus q v w) p)) (f.mul_comm (add q a b) c ∙ f.distributes c a b ∙ (rw (f.mul_comm c a, f.mul_comm c b) refl))
+    ap (λ x. add q x (dot q (plus q v w) p))
+    (f.mul_comm (add q a b) c ∙ f.distributes c a b ∙ (rw (f.mul_comm c a, f.mul_comm c b) refl))
     ∙ ap (add q (add q (mul q a c) (mul q b c))) (dot-plus q f v w p)
     ∙ add-add q f (mul q a c) (mul q b c) (dot q v p) (dot q w p)
 
@@ -51,19 +54,22 @@ dot-zeros q f (suc n) [] = refl
 dot-zeros q f (suc n) (b ∷ p) = rw (zero-mul q f b, dot-zeros q f n p) (f.add_zero 0 (omega (arith, f.more_than_one)))
 
 -- a sum over the levels of a run is the sum of the rows at that run
-pub dot-levels : (q : ℕ) (f : IsField q) (m : ℕ) (u : List ℕ) (rows : List (List ℕ)) (p : List ℕ) → dot q u (levels_at q rows p) ≡ dot q (combination q m u rows) p
+pub dot-levels : (q : ℕ) (f : IsField q) (m : ℕ) (u : List ℕ) (rows : List (List ℕ)) (p : List ℕ)
+    → dot q u (levels_at q rows p) ≡ dot q (combination q m u rows) p
 dot-levels q f m [] rows p = sym (dot-zeros q f m p)
 dot-levels q f m (a ∷ u) [] p = sym (dot-zeros q f m p)
 dot-levels q f m (a ∷ u) (r ∷ rows) p =
     rw (dot-plus q f (scale q a r) (combination q m u rows) p, dot-scale q f a r p, dot-levels q f m u rows p) refl
 
 -- a linear change of the run indexes keeps every sum of rows
-pub levels-plus : (q : ℕ) (f : IsField q) (a : List (List ℕ)) (v w : List ℕ) → levels_at q a (plus q v w) ≡ plus q (levels_at q a v) (levels_at q a w)
+pub levels-plus : (q : ℕ) (f : IsField q) (a : List (List ℕ)) (v w : List ℕ)
+    → levels_at q a (plus q v w) ≡ plus q (levels_at q a v) (levels_at q a w)
 levels-plus q f [] v w = refl
 levels-plus q f (r ∷ a) v w =
     rw (dot_comm q f r (plus q v w), dot-plus q f v w r, dot_comm q f v r, dot_comm q f w r, levels-plus q f a v w) refl
 
-pub levels-scale : (q : ℕ) (f : IsField q) (a : List (List ℕ)) (c : ℕ) (v : List ℕ) → levels_at q a (scale q c v) ≡ scale q c (levels_at q a v)
+pub levels-scale : (q : ℕ) (f : IsField q) (a : List (List ℕ)) (c : ℕ) (v : List ℕ)
+    → levels_at q a (scale q c v) ≡ scale q c (levels_at q a v)
 levels-scale q f [] c v = refl
 levels-scale q f (r ∷ a) c v =
     rw (dot_comm q f r (scale q c v), dot-scale q f c v r, dot_comm q f v r, levels-scale q f a c v) refl
@@ -72,8 +78,14 @@ pub levels-zeros : (q : ℕ) (f : IsField q) (a : List (List ℕ)) (n : ℕ) →
 levels-zeros q f [] n = refl
 levels-zeros q f (r ∷ a) n = rw (dot_comm q f r (zeros n), dot-zeros q f n r, levels-zeros q f a n) refl
 
-pub combination-levels : (q : ℕ) (f : IsField q) (m : ℕ) (a : List (List ℕ)) (u : List ℕ) (rows : List (List ℕ)) → combination q (length a) u (map (levels_at q a) rows) ≡ levels_at q a (combination q m u rows)
+pub combination-levels : (q : ℕ) (f : IsField q) (m : ℕ) (a : List (List ℕ)) (u : List ℕ) (rows : List (List ℕ))
+    → combination q (length a) u (map (levels_at q a) rows) ≡ levels_at q a (combination q m u rows)
 combination-levels q f m a [] rows = sym (levels-zeros q f a m)
 combination-levels q f m a (c ∷ u) [] = sym (levels-zeros q f a m)
 combination-levels q f m a (c ∷ u) (r ∷ rows) =
-    rw (levels-plus q f a (scale q c r) (combination q m u rows), levels-scale q f a c r, combination-levels q f m a u rows) refl
+    rw (
+      levels-plus q f a (scale q c r) (combination q m u rows),
+      levels-scale q f a c r,
+      combination-levels q f m a u
+          rows,
+    ) refl

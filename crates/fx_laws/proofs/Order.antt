@@ -1,15 +1,20 @@
 -- The order of lists of rows: all lists stand in it, and the first that passes a test is found.
-use Rattle.std.proofs.Common.{◌≡◌, ℕ, zero, suc, ◌<◌, ◌≤◌, Bool, true, false, ◌&&◌, eqb, ltb, List, [], ◌∷◌, ◌++◌, map, length, Some, None, refl, sym, ap, ◌∙◌, ◌⊎◌, inl, inr, arith, subst, eq-eqb, lt-ltb, le-ltb, ltb-true, eqb-true}
+use Rattle.std.proofs.Common.{◌≡◌, ℕ, zero, suc, ◌<◌, ◌≤◌, Bool, true, false, ◌&&◌, eqb, ltb, List, [], ◌∷◌, ◌++◌, map}
+use Rattle.std.proofs.Common.{length, Some, None, refl, sym, ap, ◌∙◌, ◌⊎◌, inl, inr, arith, subst, eq-eqb, lt-ltb}
+use Rattle.std.proofs.Common.{le-ltb, ltb-true, eqb-true}
 use Rattle.std.specs.Bool.{⊤}
 use Rattle.std.specs.List.{filter, find, flat_map, AllByRecursion}
-use Rattle.std.proofs.lemmas.Bool.{cond-true, cond-false, cases_Bool, and_from, and_right, or_left, or_right, or_from, or_cases, and_parts, false_from_ne_true, cases_lt}
+use Rattle.std.proofs.lemmas.Bool.{cond-true, cond-false, cases_Bool, and_from, and_right, or_left, or_right, or_from}
+use Rattle.std.proofs.lemmas.Bool.{or_cases, and_parts, false_from_ne_true, cases_lt}
 use Rattle.fx_designs.specs.Answers.{before, falling, lists}
 
-pub each-append : {X : Type 0} (P : X → Type 0) (xs ys : List X) → AllByRecursion P xs → AllByRecursion P ys → AllByRecursion P (xs ++ ys)
+pub each-append : {X : Type 0} (P : X → Type 0) (xs ys : List X) → AllByRecursion P xs → AllByRecursion P ys
+    → AllByRecursion P (xs ++ ys)
 each-append P [] ys h k = k
 each-append P (x ∷ xs) ys h k = (h.0, each-append P xs ys h.1 k)
 
-pub each-map : {X Y : Type 0} (P : Y → Type 0) (f : X → Y) (xs : List X) → AllByRecursion (λ x. P (f x)) xs → AllByRecursion P (map f xs)
+pub each-map : {X Y : Type 0} (P : Y → Type 0) (f : X → Y) (xs : List X) → AllByRecursion (λ x. P (f x)) xs
+    → AllByRecursion P (map f xs)
 each-map P f [] h = tt
 each-map P f (x ∷ xs) h = (h.0, each-map P f xs h.1)
 
@@ -17,18 +22,23 @@ pub each-all : {X : Type 0} (P : X → Type 0) (xs : List X) → ((x : X) → P 
 each-all P [] h = tt
 each-all P (x ∷ xs) h = (h x, each-all P xs h)
 
-pub each-weaker : {X : Type 0} (P Q : X → Type 0) (xs : List X) → ((x : X) → P x → Q x) → AllByRecursion P xs → AllByRecursion Q xs
+pub each-weaker : {X : Type 0} (P Q : X → Type 0) (xs : List X) → ((x : X) → P x → Q x) → AllByRecursion P xs
+    → AllByRecursion Q xs
 each-weaker P Q [] h k = tt
 each-weaker P Q (x ∷ xs) h k = (h x k.0, each-weaker P Q xs h k.1)
 
-pub each-flat_map : {X Y : Type 0} (P : Y → Type 0) (f : X → List Y) (xs : List X) → ((x : X) → AllByRecursion P (f x)) → AllByRecursion P (flat_map f xs)
+pub each-flat_map : {X Y : Type 0} (P : Y → Type 0) (f : X → List Y) (xs : List X) → ((x : X) → AllByRecursion P (f x))
+    → AllByRecursion P (flat_map f xs)
 each-flat_map P f [] h = tt
 each-flat_map P f (x ∷ xs) h = each-append P (f x) (flat_map f xs) (h x) (each-flat_map P f xs h)
 
 pub nonempty : (b k : ℕ) → AllByRecursion (λ s. 0 < length s) (lists b k)
 unfolding lists
 nonempty b zero = tt
-nonempty b (suc k) = each-flat_map (λ s. 0 < length s) (λ r. map (λ s. r ∷ s) ([] ∷ lists b k)) (falling b) (λ r. each-map (λ s. 0 < length s) (λ s. r ∷ s) ([] ∷ lists b k) (each-all _ ([] ∷ lists b k) (λ s. let e : 0 < length (r ∷ s) = omega arith in e)))
+nonempty b (suc k) =
+    each-flat_map (λ s. 0 < length s) (λ r. map (λ s. r ∷ s) ([] ∷ lists b k)) (falling b)
+    (λ r. each-map (λ s. 0 < length s) (λ s. r ∷ s) ([] ∷ lists b k)
+    (each-all _ ([] ∷ lists b k) (λ s. let e : 0 < length (r ∷ s) = omega arith in e)))
 
 pub before-self : (p : List ℕ) → before p p ≡ false
 before-self [] = refl
@@ -42,26 +52,31 @@ before-trans (a ∷ p) (b ∷ q) (c ∷ r) h k =
     elim (or_cases (ltb b a) (eqb a b && before p q) h) [
       | inl x ↦ elim (or_cases (ltb c b) (eqb b c && before q r) k) [
         | inl y ↦ let x' = ltb-true b a x in let y' = ltb-true c b y in or_left _ _ (lt-ltb c a (omega arith))
-        | inr y ↦ let x' = ltb-true b a x in let y' = eqb-true b c (and_parts _ _ y).0 in or_left _ _ (lt-ltb c a (omega arith))
+        | inr y ↦ let x' = ltb-true b a x in let y' = eqb-true b c (and_parts _ _ y).0 in
+            or_left _ _ (lt-ltb c a (omega arith))
       ]
       | inr x ↦ elim (or_cases (ltb c b) (eqb b c && before q r) k) [
-        | inl y ↦ let x' = eqb-true a b (and_parts _ _ x).0 in let y' = ltb-true c b y in or_left _ _ (lt-ltb c a (omega arith))
+        | inl y ↦ let x' = eqb-true a b (and_parts _ _ x).0 in let y' = ltb-true c b y in
+            or_left _ _ (lt-ltb c a (omega arith))
         | inr y ↦
             let x' = eqb-true a b (and_parts _ _ x).0 in
             let y' = eqb-true b c (and_parts _ _ y).0 in
-            or_right _ _ (and_from _ _ (eq-eqb a c (omega arith)) (before-trans p q r (and_parts _ _ x).1 (and_parts _ _ y).1))
+            or_right _ _
+            (and_from _ _ (eq-eqb a c (omega arith)) (before-trans p q r (and_parts _ _ x).1 (and_parts _ _ y).1))
       ]
     ]
 
 pub before-not : (p q : List ℕ) → before p q ≡ true → before q p ≡ false
-before-not p q h = false_from_ne_true (before q p) (λ k. let e = before-trans p q p h k in let f = before-self p in absurd (cc (e, f)))
+before-not p q h =
+    false_from_ne_true (before q p) (λ k. let e = before-trans p q p h k in let f = before-self p in absurd (cc (e, f)))
 
 -- each item stands before all later ones
 abbrev pub Sorted : List (List ℕ) → Type 0
 Sorted [] = ⊤
 Sorted (x ∷ xs) = AllByRecursion (λ y. before x y ≡ true) xs × Sorted xs
 
-sorted-append : (xs ys : List (List ℕ)) → Sorted xs → Sorted ys → AllByRecursion (λ x. AllByRecursion (λ y. before x y ≡ true) ys) xs → Sorted (xs ++ ys)
+sorted-append : (xs ys : List (List ℕ)) → Sorted xs → Sorted ys
+    → AllByRecursion (λ x. AllByRecursion (λ y. before x y ≡ true) ys) xs → Sorted (xs ++ ys)
 sorted-append [] ys a b c = b
 sorted-append (x ∷ xs) ys a b c = (each-append (λ y. before x y ≡ true) xs ys a.0 c.0, sorted-append xs ys a.1 b c.1)
 
@@ -70,7 +85,11 @@ before-cons r x y h = or_right _ _ (and_from _ _ (eq-eqb r r refl) h)
 
 sorted-map : (r : ℕ) (xs : List (List ℕ)) → Sorted xs → Sorted (map (λ s. r ∷ s) xs)
 sorted-map r [] h = tt
-sorted-map r (x ∷ xs) h = (each-map (λ y. before (r ∷ x) y ≡ true) (λ s. r ∷ s) xs (each-weaker (λ y. before x y ≡ true) _ xs (λ y k. before-cons r x y k) h.0), sorted-map r xs h.1)
+sorted-map r (x ∷ xs) h = (
+  each-map (λ y. before (r ∷ x) y ≡ true) (λ s. r ∷ s) xs
+      (each-weaker (λ y. before x y ≡ true) _ xs (λ y k. before-cons r x y k) h.0),
+  sorted-map r xs h.1,
+)
 
 abbrev BeginsBelow : ℕ → List ℕ → Type 0
 BeginsBelow r [] = ⊤
@@ -79,11 +98,14 @@ BeginsBelow r (c ∷ s) = c < r
 abbrev begin : ℕ → ℕ → ℕ → List (List ℕ)
 begin b k r = map (λ s. r ∷ s) ([] ∷ lists b k)
 
-begin-below : (b k r n : ℕ) → r ≤ n → AllByRecursion (λ y. 0 < length y × BeginsBelow n y) (flat_map (begin b k) (falling r))
+begin-below : (b k r n : ℕ) → r ≤ n
+    → AllByRecursion (λ y. 0 < length y × BeginsBelow n y) (flat_map (begin b k) (falling r))
 begin-below b k zero n h = tt
 begin-below b k (suc r) n h =
     each-append (λ y. 0 < length y × BeginsBelow n y) (begin b k r) (flat_map (begin b k) (falling r))
-    (each-map (λ y. 0 < length y × BeginsBelow n y) (λ s. r ∷ s) ([] ∷ lists b k) (each-all _ ([] ∷ lists b k) (λ s. let e : 0 < length (r ∷ s) = omega arith in let f : r < n = omega arith in (e, f))))
+    (each-map (λ y. 0 < length y × BeginsBelow n y) (λ s. r ∷ s) ([] ∷ lists b k)
+    (each-all _ ([] ∷ lists b k)
+    (λ s. let e : 0 < length (r ∷ s) = omega arith in let f : r < n = omega arith in (e, f))))
     (begin-below b k r n (omega arith))
 
 after-begin : (r : ℕ) (s y : List ℕ) → 0 < length y → BeginsBelow r y → before (r ∷ s) y ≡ true
@@ -100,8 +122,11 @@ sorted-begin b k (suc r) h =
     sorted-append (begin b k r) (flat_map (begin b k) (falling r))
     (sorted-map r ([] ∷ lists b k) (each-weaker (λ s. 0 < length s) _ (lists b k) nil-first (nonempty b k), h))
     (sorted-begin b k r h)
-    (each-map (λ x. AllByRecursion (λ y. before x y ≡ true) (flat_map (begin b k) (falling r))) (λ s. r ∷ s) ([] ∷ lists b k)
-    (each-all _ ([] ∷ lists b k) (λ s. each-weaker (λ y. 0 < length y × BeginsBelow r y) (λ y. before (r ∷ s) y ≡ true) (flat_map (begin b k) (falling r)) (λ y z. after-begin r s y z.0 z.1) (begin-below b k r r (omega arith)))))
+    (each-map (λ x. AllByRecursion (λ y. before x y ≡ true) (flat_map (begin b k) (falling r))) (λ s. r ∷ s)
+    ([] ∷ lists b k)
+    (each-all _ ([] ∷ lists b k)
+    (λ s. each-weaker (λ y. 0 < length y × BeginsBelow r y) (λ y. before (r ∷ s) y ≡ true)
+    (flat_map (begin b k) (falling r)) (λ y z. after-begin r s y z.0 z.1) (begin-below b k r r (omega arith)))))
 
 pub lists-sorted : (b k : ℕ) → Sorted (lists b k)
 unfolding lists
@@ -111,8 +136,14 @@ lists-sorted b (suc k) = sorted-begin b k b (lists-sorted b k)
 pub lists-short : (b k : ℕ) → AllByRecursion (λ s. length s ≤ k) (lists b k)
 unfolding lists
 lists-short b zero = tt
-lists-short b (suc k) = each-flat_map (λ s. length s ≤ suc k) (λ r. map (λ s. r ∷ s) ([] ∷ lists b k)) (falling b) (λ r. each-map (λ s. length s ≤ suc k) (λ s. r ∷ s) ([] ∷ lists b k)
-    (let e : length (r ∷ []) ≤ suc k = omega arith in e, each-weaker (λ s. length s ≤ k) _ (lists b k) (λ s h. let e : length (r ∷ s) ≤ suc k = omega arith in e) (lists-short b k)))
+lists-short b (suc k) =
+    each-flat_map (λ s. length s ≤ suc k) (λ r. map (λ s. r ∷ s) ([] ∷ lists b k)) (falling b)
+    (λ r. each-map (λ s. length s ≤ suc k) (λ s. r ∷ s) ([] ∷ lists b k) (
+      let e : length (r ∷ []) ≤ suc k = omega arith in
+          e,
+      each-weaker (λ s. length s ≤ k) _ (lists b k) (λ s h. let e : length (r ∷ s) ≤ suc k = omega arith in e)
+          (lists-short b k),
+    ))
 
 -- one of the items is x
 abbrev pub IsIn : List ℕ → List (List ℕ) → Type 0
@@ -133,21 +164,26 @@ in_map r x [] h = absurd h
 in_map r x (y ∷ xs) (inl e) = inl (ap (λ s. r ∷ s) e)
 in_map r x (y ∷ xs) (inr h) = inr (in_map r x xs h)
 
-in_begin : (b k r n : ℕ) (s : List ℕ) → r < n → IsIn s ([] ∷ lists b k) → IsIn (r ∷ s) (flat_map (begin b k) (falling n))
+in_begin : (b k r n : ℕ) (s : List ℕ) → r < n → IsIn s ([] ∷ lists b k)
+    → IsIn (r ∷ s) (flat_map (begin b k) (falling n))
 in_begin b k r zero s low h = absurd (omega arith)
 in_begin b k r (suc n) s low h =
     elim (cases_lt r n) [
       | inl a ↦ in_right (r ∷ s) (begin b k n) (flat_map (begin b k) (falling n)) (in_begin b k r n s a h)
-      | inr a ↦ let e : r ≡ n = omega arith in in_left (r ∷ s) (begin b k n) (flat_map (begin b k) (falling n)) (subst (λ z. IsIn (r ∷ s) (begin b k z)) e (in_map r s ([] ∷ lists b k) h))
+      | inr a ↦ let e : r ≡ n = omega arith in
+          in_left (r ∷ s) (begin b k n) (flat_map (begin b k) (falling n))
+          (subst (λ z. IsIn (r ∷ s) (begin b k z)) e (in_map r s ([] ∷ lists b k) h))
     ]
 
 -- each list of one to k rows below b
-pub all_lists : (b k : ℕ) (x : List ℕ) → 0 < length x → length x ≤ k → AllByRecursion (λ r. r < b) x → IsIn x (lists b k)
+pub all_lists : (b k : ℕ) (x : List ℕ) → 0 < length x → length x ≤ k → AllByRecursion (λ r. r < b) x
+    → IsIn x (lists b k)
 unfolding lists
 all_lists b zero x some short low = absurd (omega arith)
 all_lists b (suc k) [] some short low = absurd (omega arith)
 all_lists b (suc k) (r ∷ []) some short low = in_begin b k r b [] low.0 (inl refl)
-all_lists b (suc k) (r ∷ s ∷ x) some short low = in_begin b k r b (s ∷ x) low.0 (inr (all_lists b k (s ∷ x) (omega arith) (omega arith) low.1))
+all_lists b (suc k) (r ∷ s ∷ x) some short low =
+    in_begin b k r b (s ∷ x) low.0 (inr (all_lists b k (s ∷ x) (omega arith) (omega arith) low.1))
 
 -- what holds of each list holds of one that is among them
 pub each_in : (P : List ℕ → Type 0) (d : List ℕ) (xs : List (List ℕ)) → AllByRecursion P xs → IsIn d xs → P d
@@ -165,7 +201,8 @@ module _ (D : List ℕ → Bool) where
   not_first x d xs (inr h) passes fails = h
 
   -- an item that passes, of all that pass in a sorted list, and the first found
-  pub found_first : (xs : List (List ℕ)) (d : List ℕ) → Sorted xs → IsIn d xs → D d ≡ true → (e : List ℕ) × (find D xs ≡ Some e) × (D e ≡ true) × ((e ≡ d) ⊎ (before e d ≡ true))
+  pub found_first : (xs : List (List ℕ)) (d : List ℕ) → Sorted xs → IsIn d xs → D d ≡ true
+      → (e : List ℕ) × (find D xs ≡ Some e) × (D e ≡ true) × ((e ≡ d) ⊎ (before e d ≡ true))
   found_first [] d sorted there passes = absurd there
   found_first (x ∷ xs) d sorted there passes =
       elim (cases_Bool (D x)) [
@@ -177,19 +214,23 @@ module _ (D : List ℕ → Bool) where
 
   pub none_found : (xs : List (List ℕ)) → ((d : List ℕ) → D d ≡ true → ⊥) → find D xs ≡ None
   none_found [] none = refl
-  none_found (x ∷ xs) none = cond-false (D x) (Some x) (find D xs) (false_from_ne_true (D x) (none x)) ∙ none_found xs none
+  none_found (x ∷ xs) none =
+      cond-false (D x) (Some x) (find D xs) (false_from_ne_true (D x) (none x)) ∙ none_found xs none
 
   -- the item that is found passes
   pub found_passes : (xs : List (List ℕ)) (e : List ℕ) → find D xs ≡ Some e → D e ≡ true
   found_passes [] e h = absurd (cc)
   found_passes (x ∷ xs) e h =
       elim (cases_Bool (D x)) [
-        | inl holds ↦ (let s : Some x ≡ Some e = sym (cond-true (D x) (Some x) (find D xs) holds) ∙ h in let z : x ≡ e = cc in subst (λ y. D y ≡ true) z holds)
+        | inl holds ↦
+            (let s : Some x ≡ Some e = sym (cond-true (D x) (Some x) (find D xs) holds) ∙ h in let z : x ≡ e = cc in
+            subst (λ y. D y ≡ true) z holds)
         | inr fails ↦ found_passes xs e (sym (cond-false (D x) (Some x) (find D xs) fails) ∙ h)
       ]
 
   -- the first that passes, of a sorted list that has it
-  pub first_found : (xs : List (List ℕ)) (d : List ℕ) → Sorted xs → IsIn d xs → D d ≡ true → ((e : List ℕ) → D e ≡ true → before e d ≡ true → ⊥) → find D xs ≡ Some d
+  pub first_found : (xs : List (List ℕ)) (d : List ℕ) → Sorted xs → IsIn d xs → D d ≡ true
+      → ((e : List ℕ) → D e ≡ true → before e d ≡ true → ⊥) → find D xs ≡ Some d
   first_found xs d sorted there passes first =
       let e = found_first xs d sorted there passes in
       elim (e.3) [
@@ -197,10 +238,15 @@ module _ (D : List ℕ → Bool) where
         | inr earlier ↦ absurd (first e.0 e.2 earlier)
       ]
 
-pub find-filter : {X : Type 0} (D p : X → Bool) (xs : List X) → ((x : X) → p x ≡ true) → find p (filter D xs) ≡ find D xs
+pub find-filter : {X : Type 0} (D p : X → Bool) (xs : List X) → ((x : X) → p x ≡ true)
+    → find p (filter D xs) ≡ find D xs
 find-filter D p [] all = refl
 find-filter D p (x ∷ xs) all =
     elim (cases_Bool (D x)) [
-      | inl holds ↦ ap (find p) (cond-true (D x) (x ∷ filter D xs) (filter D xs) holds) ∙ cond-true (p x) (Some x) _ (all x) ∙ sym (cond-true (D x) (Some x) (find D xs) holds)
-      | inr fails ↦ ap (find p) (cond-false (D x) (x ∷ filter D xs) (filter D xs) fails) ∙ find-filter D p xs all ∙ sym (cond-false (D x) (Some x) (find D xs) fails)
+      | inl holds ↦
+          ap (find p) (cond-true (D x) (x ∷ filter D xs) (filter D xs) holds) ∙ cond-true (p x) (Some x) _ (all x) ∙ sym
+          (cond-true (D x) (Some x) (find D xs) holds)
+      | inr fails ↦
+          ap (find p) (cond-false (D x) (x ∷ filter D xs) (filter D xs) fails) ∙ find-filter D p xs all ∙ sym
+          (cond-false (D x) (Some x) (find D xs) fails)
     ]

@@ -1,5 +1,6 @@
 -- What the rows of a canonical prefix span: the vectors whose number is below q to their rank.
-use Rattle.std.proofs.Common.{ℕ, ◌≡◌, ◌<◌, ◌≤◌, ◌+◌, ◌*◌, ◌^◌, zero, suc, ltb, List, [], ◌∷◌, ◌++◌, length, take, refl, sym, subst, ◌∙◌, ap, arith, inl, inr, take-suc}
+use Rattle.std.proofs.Common.{ℕ, ◌≡◌, ◌<◌, ◌≤◌, ◌+◌, ◌*◌, ◌^◌, zero, suc, ltb, List, [], ◌∷◌, ◌++◌, length, take, refl}
+use Rattle.std.proofs.Common.{sym, subst, ◌∙◌, ap, arith, inl, inr, take-suc}
 use Rattle.std.specs.List.{AllByRecursion}
 use Rattle.std.proofs.lemmas.Bool.{cases_lt, cases_Bool, lt-ltb, le-ltb}
 use Rattle.std.proofs.Math.Nat.{pow-zero, pow-succ', mul-le-mul_left, one-le-pow, lt_of_mul-lt-mul_left}
@@ -13,7 +14,8 @@ use Rattle.fx_laws.specs.Changes.{unit, IsShort}
 use Rattle.fx_laws.specs.Canonical.{IsCanonical, row}
 use Rattle.fx_laws.proofs.Space.{AreVectors}
 use Rattle.fx_laws.proofs.Changes.{zeros-short}
-use Rattle.fx_laws.proofs.Ranks.{Spans, spans-none, spans-old, spans-new, spans-short, in_span-true, in_span-holds, in_span-none}
+use Rattle.fx_laws.proofs.Ranks.{Spans, spans-none, spans-old, spans-new, spans-short, in_span-true, in_span-holds}
+use Rattle.fx_laws.proofs.Ranks.{in_span-none}
 use Rattle.fx_laws.proofs.Forms.{rank-snoc}
 
 -- a unit vector past the end is 0
@@ -22,17 +24,20 @@ unit-past zero k h = refl
 unit-past (suc m) zero h = absurd (omega arith)
 unit-past (suc m) (suc k) h = ap (λ v. 0 ∷ v) (unit-past m k (omega arith))
 
-each-take : (P : List ℕ → Type 0) (rows : List (List ℕ)) (k : ℕ) → AllByRecursion P rows → AllByRecursion P (take k rows)
+each-take : (P : List ℕ → Type 0) (rows : List (List ℕ)) (k : ℕ) → AllByRecursion P rows
+    → AllByRecursion P (take k rows)
 each-take P rows zero h = tt
 each-take P [] (suc k) h = h
 each-take P (r ∷ rows) (suc k) h = (h.0, each-take P rows k h.1)
 
-each-row : (P : List ℕ → Type 0) (rows : List (List ℕ)) (k : ℕ) → k < length rows → AllByRecursion P rows → P (row rows k)
+each-row : (P : List ℕ → Type 0) (rows : List (List ℕ)) (k : ℕ) → k < length rows → AllByRecursion P rows
+    → P (row rows k)
 each-row P [] k h all = absurd (omega arith)
 each-row P (r ∷ rows) zero h all = all.0
 each-row P (r ∷ rows) (suc k) h all = each-row P rows k (omega arith) all.1
 
-module _ (q m s : ℕ) (f : IsField q) (rows : List (List ℕ)) (hr : AreVectors q m rows) (can : IsCanonical q m s rows) where
+module _ (q m s : ℕ) (f : IsField q) (rows : List (List ℕ)) (hr : AreVectors q m rows)
+    (can : IsCanonical q m s rows) where
   -- the rows before k span the vectors that are short at their rank
   pub canonical-spans : (k : ℕ) → k ≤ length rows → Spans q m (rank_of q m (take k rows)) (take k rows)
   canonical-spans zero h = spans-none q m f
@@ -47,7 +52,9 @@ module _ (q m s : ℕ) (f : IsField q) (rows : List (List ℕ)) (hr : AreVectors
       subst (λ z. Spans q m (rank_of q m z) z) (sym next) (elim (cases_Bool (in_span q m bs r)) [
         | inl old ↦
             let same : rank_of q m (bs ++ r ∷ []) ≡ n = up ∙ (rw old (omega arith)) in
-            subst (λ z. Spans q m z (bs ++ r ∷ [])) (sym same) (spans-old q m f n bs r hv before (spans-short q m f n bs r before (in_span-true q m f bs r before.vectors hv old)))
+            subst (λ z. Spans q m z (bs ++ r ∷ [])) (sym same)
+            (spans-old q m f n bs r hv before
+            (spans-short q m f n bs r before (in_span-true q m f bs r before.vectors hv old)))
         | inr new ↦
             let more : rank_of q m (bs ++ r ∷ []) ≡ suc n = up ∙ (rw new (omega arith)) in
             let is : r ≡ unit m n = can.new_is_unit k (omega arith) new in
@@ -55,10 +62,12 @@ module _ (q m s : ℕ) (f : IsField q) (rows : List (List ℕ)) (hr : AreVectors
               | inl low ↦ low
               | inr past ↦
                   let zero_is : r ≡ zeros m = is ∙ unit-past m n past in
-                  let there = in_span-holds q m f bs r (before.all r hv (subst (IsShort n) (sym zero_is) (zeros-short m n))) in
+                  let there =
+                  in_span-holds q m f bs r (before.all r hv (subst (IsShort n) (sym zero_is) (zeros-short m n))) in
                   absurd (cc)
             ] in
-            subst (λ z. Spans q m z (bs ++ r ∷ [])) (sym more) (subst (λ z. Spans q m (suc n) (bs ++ z ∷ [])) (sym is) (spans-new q m f n bs room before))
+            subst (λ z. Spans q m z (bs ++ r ∷ [])) (sym more)
+            (subst (λ z. Spans q m (suc n) (bs ++ z ∷ [])) (sym is) (spans-new q m f n bs room before))
       ])
 
 -- short is to have a small number
@@ -86,8 +95,11 @@ number-short q (suc m) zero f (a ∷ v) h s =
     let first : a ≡ 0 = omega arith in
     let product : q * number q v ≡ 0 = omega arith in
     let below : number q v < 1 = lt_of_mul-lt-mul_left q (omega arith) in
-    let rest : number q v ≡ 0 = omega arith in
-    (first, number-short q m zero f v (record { len = (let e = h.len in omega arith); codes = h.codes.1 }) (rw (e, rest) (omega arith)))
+    let rest : number q v ≡ 0 = omega arith in (
+      first,
+      number-short q m zero f v (record { len = (let e = h.len in omega arith); codes = h.codes.1 })
+          (rw (e, rest) (omega arith)),
+    )
 number-short q m (suc k) f [] h s = tt
 number-short q zero (suc k) f (a ∷ v) h s = absurd (let e = h.len in omega arith)
 number-short q (suc m) (suc k) f (a ∷ v) h s =
@@ -96,15 +108,19 @@ number-short q (suc m) (suc k) f (a ∷ v) h s =
     number-short q m k f v (record { len = (let e = h.len in omega arith); codes = h.codes.1 }) below
 
 -- in a canonical prefix a row is in the span of the rows before k exactly where its number is below q to their rank
-pub canonical-in_span : (q m s : ℕ) (f : IsField q) (rows : List (List ℕ)) → AreVectors q m rows → IsCanonical q m s rows → (k : ℕ) → k ≤ length rows → (v : List ℕ) → IsVector q m v
+pub canonical-in_span : (q m s : ℕ) (f : IsField q) (rows : List (List ℕ)) → AreVectors q m rows
+    → IsCanonical q m s rows → (k : ℕ) → k ≤ length rows → (v : List ℕ) → IsVector q m v
     → in_span q m (take k rows) v ≡ ltb (number q v) (q ^ rank_of q m (take k rows))
 canonical-in_span q m s f rows hr can k h v hv =
     let sp = canonical-spans q m s f rows hr can k h in
     let n : ℕ = rank_of q m (take k rows) in
     elim (cases_lt (number q v) (q ^ n)) [
-      | inl low ↦ in_span-holds q m f (take k rows) v (sp.all v hv (number-short q m n f v hv low)) ∙ sym (lt-ltb _ _ low)
+      | inl low ↦
+          in_span-holds q m f (take k rows) v (sp.all v hv (number-short q m n f v hv low)) ∙ sym (lt-ltb _ _ low)
       | inr high ↦
-          in_span-none q m f (take k rows) v sp.vectors hv (λ i. (let low = short-number q m n f v hv (spans-short q m f n (take k rows) v sp i) in omega arith)) ∙ sym (le-ltb _ _ high)
+          in_span-none q m f (take k rows) v sp.vectors hv
+          (λ i. (let low = short-number q m n f v hv (spans-short q m f n (take k rows) v sp i) in omega arith)) ∙ sym
+          (le-ltb _ _ high)
     ]
 
 -- unit vectors by their numbers

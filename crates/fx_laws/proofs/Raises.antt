@@ -1,5 +1,6 @@
 -- A vector outside the span, added to a dependent factor row, raises the rank and makes no new zero sum that counts.
-use Rattle.std.proofs.Common.{ℕ, ◌≡◌, ◌<◌, ◌≤◌, ◌+◌, Bool, true, false, cond, eqb, ◌&&◌, List, [], ◌∷◌, ◌++◌, length, refl, sym, subst, ◌∙◌, ap, ap₂, arith, inl, inr}
+use Rattle.std.proofs.Common.{ℕ, ◌≡◌, ◌<◌, ◌≤◌, ◌+◌, Bool, true, false, cond, eqb, ◌&&◌, List, [], ◌∷◌, ◌++◌, length}
+use Rattle.std.proofs.Common.{refl, sym, subst, ◌∙◌, ap, ap₂, arith, inl, inr}
 use Rattle.std.specs.List.{AllByRecursion, sum_by}
 use Rattle.std.proofs.lemmas.List.Sums.{sum_by-cons}
 use Rattle.std.proofs.lemmas.List.Elements.{recursion_from_All}
@@ -27,24 +28,31 @@ module _ (q m : ℕ) (f : IsField q) where
   zero-combination p (a ∷ u) [] h = dot-zeros q f m p
   zero-combination p (a ∷ u) (r ∷ rows) h =
       dot-plus q f (scale q a r) (combination q m u rows) p
-      ∙ ap₂ (add q) (dot-scale q f a r p ∙ ap (mul q a) h.0 ∙ f.mul_zero a) (zero-combination p u rows h.1) ∙ f.add_zero 0 (omega (arith, f.more_than_one))
+      ∙ ap₂ (add q) (dot-scale q f a r p ∙ ap (mul q a) h.0 ∙ f.mul_zero a) (zero-combination p u rows h.1) ∙ f.add_zero
+      0 (omega (arith, f.more_than_one))
 
   pub none-combination : (n : ℕ) (rows : List (List ℕ)) → AreVectors q m rows → combination q m (zeros n) rows ≡ zeros m
   none-combination n rows h = ext q m f _ _ (combination-vector q m f (zeros n) rows h) (zeros-vector q m f)
       (λ p. sym (dot-levels q f m (zeros n) rows p) ∙ dot-zeros q f n (levels_at q rows p) ∙ sym (dot-zeros q f m p))
 
-  pub plus-combination : (u v : List ℕ) (rows : List (List ℕ)) (p : List ℕ) → dot q (combination q m (plus q u v) rows) p ≡ add q (dot q (combination q m u rows) p) (dot q (combination q m v rows) p)
+  pub plus-combination : (u v : List ℕ) (rows : List (List ℕ)) (p : List ℕ)
+      → dot q (combination q m (plus q u v) rows) p
+      ≡ add q (dot q (combination q m u rows) p) (dot q (combination q m v rows) p)
   plus-combination u v rows p =
-      sym (dot-levels q f m (plus q u v) rows p) ∙ dot-plus q f u v (levels_at q rows p) ∙ ap₂ (add q) (dot-levels q f m u rows p) (dot-levels q f m v rows p)
+      sym (dot-levels q f m (plus q u v) rows p) ∙ dot-plus q f u v (levels_at q rows p) ∙ ap₂ (add q)
+      (dot-levels q f m u rows p) (dot-levels q f m v rows p)
 
-  pub scale-combination : (c : ℕ) (u : List ℕ) (rows : List (List ℕ)) (p : List ℕ) → dot q (combination q m (scale q c u) rows) p ≡ mul q c (dot q (combination q m u rows) p)
+  pub scale-combination : (c : ℕ) (u : List ℕ) (rows : List (List ℕ)) (p : List ℕ)
+      → dot q (combination q m (scale q c u) rows) p ≡ mul q c (dot q (combination q m u rows) p)
   scale-combination c u rows p =
-      sym (dot-levels q f m (scale q c u) rows p) ∙ dot-scale q f c u (levels_at q rows p) ∙ ap (mul q c) (dot-levels q f m u rows p)
+      sym (dot-levels q f m (scale q c u) rows p) ∙ dot-scale q f c u (levels_at q rows p) ∙ ap (mul q c)
+      (dot-levels q f m u rows p)
 
   module _ (w : List ℕ) where
     -- a sum over the new rows is the old sum and c times w
     pub raised-sum : (xs ys : List (List ℕ)) (u : List ℕ) → RaisedBy q w xs ys → IsVector q (length xs) u
-        → (c : ℕ) × (c < q) × ((p : List ℕ) → dot q (combination q m u ys) p ≡ add q (dot q (combination q m u xs) p) (mul q c (dot q w p)))
+        → (c : ℕ) × (c < q)
+        × ((p : List ℕ) → dot q (combination q m u ys) p ≡ add q (dot q (combination q m u xs) p) (mul q c (dot q w p)))
     raised-sum [] ys u h hu = absurd h
     raised-sum (x ∷ xs) [] u h hu = absurd h
     raised-sum (x ∷ xs) (y ∷ ys) [] h hu = absurd (let e = hu.len in omega arith)
@@ -58,8 +66,10 @@ module _ (q m : ℕ) (f : IsField q) where
                 λ p.
                     dot-plus q f (scale q a y) (combination q m u ys) p
                     ∙ ap₂ (add q) (ap (λ r. dot q (scale q a r) p) (sym s.0)) (rest.2 p)
-                    ∙ sym (f.add_assoc (dot q (scale q a x) p) (dot q (combination q m u xs) p) (mul q rest.0 (dot q w p)))
-                    ∙ ap (λ z. add q z (mul q rest.0 (dot q w p))) (sym (dot-plus q f (scale q a x) (combination q m u xs) p)),
+                    ∙ sym (f.add_assoc (dot q (scale q a x) p) (dot q (combination q m u xs) p)
+                    (mul q rest.0 (dot q w p)))
+                    ∙ ap (λ z. add q z (mul q rest.0 (dot q w p)))
+                    (sym (dot-plus q f (scale q a x) (combination q m u xs) p)),
               )
           | inr s ↦ (
             a,
@@ -68,19 +78,29 @@ module _ (q m : ℕ) (f : IsField q) where
                 let t : ℕ = dot q (combination q m u xs) p in
                 dot-plus q f (scale q a y) (combination q m u ys) p
                 ∙ ap₂ (add q)
-                (dot-scale q f a y p ∙ ap (λ r. mul q a (dot q r p)) s.0 ∙ ap (mul q a) (dot-plus q f x w p) ∙ f.distributes a (dot q x p) (dot q w p))
+                (dot-scale q f a y p ∙ ap (λ r. mul q a (dot q r p)) s.0 ∙ ap (mul q a) (dot-plus q f x w p) ∙
+                f.distributes a (dot q x p) (dot q w p))
                 (ap (λ r. dot q (combination q m u r) p) (sym s.1))
-                ∙ f.add_assoc (mul q a (dot q x p)) (mul q a (dot q w p)) t ∙ ap (add q (mul q a (dot q x p))) (f.add_comm (mul q a (dot q w p)) t) ∙ sym (f.add_assoc (mul q a (dot q x p)) t (mul q a (dot q w p)))
-                ∙ ap (λ z. add q z (mul q a (dot q w p))) (sym (dot-plus q f (scale q a x) (combination q m u xs) p ∙ ap (λ z. add q z t) (dot-scale q f a x p))),
+                ∙ f.add_assoc (mul q a (dot q x p)) (mul q a (dot q w p)) t ∙ ap (add q (mul q a (dot q x p)))
+                (f.add_comm (mul q a (dot q w p)) t) ∙ sym (f.add_assoc (mul q a (dot q x p)) t (mul q a (dot q w p)))
+                ∙ ap (λ z. add q z (mul q a (dot q w p)))
+                (sym (dot-plus q f (scale q a x) (combination q m u xs) p ∙ ap (λ z. add q z t)
+                (dot-scale q f a x p))),
           )
         ]
 
     pub raised-length : (xs ys : List (List ℕ)) → RaisedBy q w xs ys → length ys ≡ length xs
     raised-length [] ys h = absurd h
     raised-length (x ∷ xs) [] h = absurd h
-    raised-length (x ∷ xs) (y ∷ ys) h = elim h [ inl s ↦ (let e = raised-length xs ys s.1 in omega arith) | inr s ↦ (let e = ap length s.1 in omega arith) ]
+    raised-length (x ∷ xs) (y ∷ ys) h =
+        elim h [
+          | inl s ↦ (let e = raised-length xs ys s.1 in omega arith)
+          | inr s ↦
+              (let e = ap length s.1 in omega arith)
+        ]
 
-    pub raised-vectors : IsVector q m w → (xs ys : List (List ℕ)) → RaisedBy q w xs ys → AreVectors q m xs → AreVectors q m ys
+    pub raised-vectors : IsVector q m w → (xs ys : List (List ℕ)) → RaisedBy q w xs ys → AreVectors q m xs
+        → AreVectors q m ys
     raised-vectors hw [] ys h hx = absurd h
     raised-vectors hw (x ∷ xs) [] h hx = absurd h
     raised-vectors hw (x ∷ xs) (y ∷ ys) h hx = elim h [
@@ -91,7 +111,8 @@ module _ (q m : ℕ) (f : IsField q) where
     raised-snoc : (xs ys : List (List ℕ)) (r : List ℕ) → RaisedBy q w xs ys → RaisedBy q w (xs ++ r ∷ []) (ys ++ r ∷ [])
     raised-snoc [] ys r h = absurd h
     raised-snoc (x ∷ xs) [] r h = absurd h
-    raised-snoc (x ∷ xs) (y ∷ ys) r h = elim h [ inl s ↦ inl (s.0, raised-snoc xs ys r s.1) | inr s ↦ inr (s.0, ap (λ z. z ++ r ∷ []) s.1) ]
+    raised-snoc (x ∷ xs) (y ∷ ys) r h =
+        elim h [ inl s ↦ inl (s.0, raised-snoc xs ys r s.1) | inr s ↦ inr (s.0, ap (λ z. z ++ r ∷ []) s.1) ]
 
     raised-end : (bs : List (List ℕ)) (x : List ℕ) → RaisedBy q w (bs ++ x ∷ []) (bs ++ plus q x w ∷ [])
     raised-end [] x = inr (refl, refl)
@@ -100,18 +121,22 @@ module _ (q m : ℕ) (f : IsField q) where
     pub raised_by : (bs xs ys : List (List ℕ)) → RaisesAt q m w bs xs ys → RaisedBy q w xs ys
     raised_by bs [] ys h = absurd h
     raised_by bs (x ∷ xs) [] h = absurd h
-    raised_by bs (x ∷ xs) (y ∷ ys) h = elim h [ inl s ↦ inl (s.0, raised_by (bs ++ x ∷ []) xs ys s.1) | inr s ↦ inr (s.1, s.2) ]
+    raised_by bs (x ∷ xs) (y ∷ ys) h =
+        elim h [ inl s ↦ inl (s.0, raised_by (bs ++ x ∷ []) xs ys s.1) | inr s ↦ inr (s.1, s.2) ]
 
     -- w is 1 at p0
     module _ (hw : IsVector q m w) (p0 : List ℕ) (one : dot q w p0 ≡ 1) where
       -- a factor c that is 0
-      no_factor : (c : ℕ) (v v' : List ℕ) → c < q → dot q v p0 ≡ 0 → dot q v' p0 ≡ 0 → dot q v' p0 ≡ add q (dot q v p0) (mul q c (dot q w p0)) → c ≡ 0
+      no_factor : (c : ℕ) (v v' : List ℕ) → c < q → dot q v p0 ≡ 0 → dot q v' p0 ≡ 0
+          → dot q v' p0 ≡ add q (dot q v p0) (mul q c (dot q w p0)) → c ≡ 0
       no_factor c v v' hc hv hv' e =
           sym (rw (hv, one, f.mul_one c hc) (zero-add-code q f c hc)) ∙ sym e ∙ hv'
 
-      unraised : (c : ℕ) (v v' : List ℕ) → IsVector q m v → IsVector q m v' → c ≡ 0 → ((p : List ℕ) → dot q v' p ≡ add q (dot q v p) (mul q c (dot q w p))) → v' ≡ v
+      unraised : (c : ℕ) (v v' : List ℕ) → IsVector q m v → IsVector q m v' → c ≡ 0
+          → ((p : List ℕ) → dot q v' p ≡ add q (dot q v p) (mul q c (dot q w p))) → v' ≡ v
       unraised c v v' hv hv' none e = ext q m f v' v hv' hv
-          (λ p. e p ∙ ap (add q (dot q v p)) (ap (λ z. mul q z (dot q w p)) none ∙ zero-mul q f (dot q w p)) ∙ f.add_zero (dot q v p) (dot_code q f v p))
+          (λ p. e p ∙ ap (add q (dot q v p)) (ap (λ z. mul q z (dot q w p)) none ∙ zero-mul q f (dot q w p)) ∙
+          f.add_zero (dot q v p) (dot_code q f v p))
 
       less_new : (b c : Bool) → (b ≡ true → c ≡ true) → cond c 0 1 ≤ cond b 0 1
       less_new true c h = (let e = h refl in rw e (omega arith))
@@ -119,7 +144,8 @@ module _ (q m : ℕ) (f : IsField q) where
       less_new false false h = omega arith
 
       -- what is spanned by the new rows before was spanned by the old ones
-      rank-later : (bs bs' rows : List (List ℕ)) → RaisedBy q w bs bs' → AreVectors q m bs → AreVectors q m rows → ZeroAt p0 bs → ZeroAt p0 rows → rank_after q m bs rows ≤ rank_after q m bs' rows
+      rank-later : (bs bs' rows : List (List ℕ)) → RaisedBy q w bs bs' → AreVectors q m bs → AreVectors q m rows
+          → ZeroAt p0 bs → ZeroAt p0 rows → rank_after q m bs rows ≤ rank_after q m bs' rows
       rank-later bs bs' [] h hb hr zb zr = omega arith
       rank-later bs bs' (r ∷ rows) h hb hr zb zr =
           let hb' = raised-vectors hw bs bs' h hb in
@@ -127,15 +153,27 @@ module _ (q m : ℕ) (f : IsField q) where
           let s = in_span-true q m f bs' r hb' hr.0 e in
           let hu : IsVector q (length bs) s.by = subst (λ n. IsVector q n s.by) (raised-length bs bs' h) s.vector in
           let sum = raised-sum bs bs' s.by h hu in
-          let is : (p : List ℕ) → dot q r p ≡ add q (dot q (combination q m s.by bs) p) (mul q sum.0 (dot q w p)) = λ p. ap (λ v. dot q v p) (sym s.gives) ∙ sum.2 p in
-          let none : sum.0 ≡ 0 = no_factor sum.0 (combination q m s.by bs) r sum.1 (zero-combination p0 s.by bs zb) zr.0 (is p0) in
-          in_span-holds q m f bs r (record { by = s.by; vector = hu; gives = sym (unraised sum.0 (combination q m s.by bs) r (combination-vector q m f s.by bs hb) hr.0 none is) }) in
+          let is : (p : List ℕ) → dot q r p ≡ add q (dot q (combination q m s.by bs) p) (mul q sum.0 (dot q w p)) =
+          λ p. ap (λ v. dot q v p) (sym s.gives) ∙ sum.2 p in
+          let none : sum.0 ≡ 0 =
+          no_factor sum.0 (combination q m s.by bs) r sum.1 (zero-combination p0 s.by bs zb) zr.0 (is p0) in
+          in_span-holds q m f bs r
+          (record {
+            by = s.by;
+            vector = hu;
+            gives = sym
+                (unraised sum.0 (combination q m s.by bs) r (combination-vector q m f s.by bs hb) hr.0 none is);
+          }) in
           let first = less_new _ _ old in
-          let rest = rank-later (bs ++ r ∷ []) (bs' ++ r ∷ []) rows (raised-snoc bs bs' r h) (each-append (λ r. IsVector q m r) bs (r ∷ []) hb (hr.0, tt)) hr.1 (each-append (λ r. dot q r p0 ≡ 0) bs (r ∷ []) zb (zr.0, tt)) zr.1 in
+          let rest =
+          rank-later (bs ++ r ∷ []) (bs' ++ r ∷ []) rows (raised-snoc bs bs' r h)
+          (each-append (λ r. IsVector q m r) bs (r ∷ []) hb (hr.0, tt)) hr.1
+          (each-append (λ r. dot q r p0 ≡ 0) bs (r ∷ []) zb (zr.0, tt)) zr.1 in
           omega (arith, first, rest)
 
       -- the rank rises
-      pub rank-raised : (bs xs ys : List (List ℕ)) → RaisesAt q m w bs xs ys → AreVectors q m bs → AreVectors q m xs → ZeroAt p0 bs → ZeroAt p0 xs → rank_after q m bs xs + 1 ≤ rank_after q m bs ys
+      pub rank-raised : (bs xs ys : List (List ℕ)) → RaisesAt q m w bs xs ys → AreVectors q m bs → AreVectors q m xs
+          → ZeroAt p0 bs → ZeroAt p0 xs → rank_after q m bs xs + 1 ≤ rank_after q m bs ys
       rank-raised bs [] ys h hb hx zb zx = absurd h
       rank-raised bs (x ∷ xs) [] h hb hx zb zx = absurd h
       rank-raised bs (x ∷ xs) (y ∷ ys) h hb hx zb zx =
@@ -147,70 +185,108 @@ module _ (q m : ℕ) (f : IsField q) where
                 subst (λ z. rank_after q m bs (x ∷ xs) + 1 ≤ rank_after q m bs (z ∷ ys)) s.0 (omega (arith, rest))
             | inr s ↦
                 let was = in_span-holds q m f bs x s.0 in
-                let at_y : dot q y p0 ≡ 1 = ap (λ v. dot q v p0) s.1 ∙ dot-plus q f x w p0 ∙ (rw (zx.0, one) (zero-add-code q f 1 f.more_than_one)) in
+                let at_y : dot q y p0 ≡ 1 =
+                ap (λ v. dot q v p0) s.1 ∙ dot-plus q f x w p0 ∙
+                (rw (zx.0, one) (zero-add-code q f 1 f.more_than_one)) in
                 let hy : IsVector q m y = subst (IsVector q m) (sym s.1) (plus-vector q m f x w hx.0 hw) in
-                let now : in_span q m bs y ≡ false = in_span-none q m f bs y hb hy (λ i. (let bad : 0 ≡ 1 = sym (ap (λ v. dot q v p0) (sym i.gives) ∙ zero-combination p0 i.by bs zb) ∙ at_y in omega arith)) in
+                let now : in_span q m bs y ≡ false =
+                in_span-none q m f bs y hb hy
+                (λ i. (let bad : 0
+                ≡ 1 = sym (ap (λ v. dot q v p0) (sym i.gives) ∙ zero-combination p0 i.by bs zb) ∙ at_y in
+                omega arith)) in
                 let later : rank_after q m (bs ++ x ∷ []) xs ≤ rank_after q m (bs ++ y ∷ []) ys =
-                subst (λ z. rank_after q m (bs ++ x ∷ []) xs ≤ rank_after q m (bs ++ z ∷ []) ys) (sym s.1) (subst (λ z. rank_after q m (bs ++ x ∷ []) xs ≤ rank_after q m (bs ++ plus q x w ∷ []) z) s.2
+                subst (λ z. rank_after q m (bs ++ x ∷ []) xs ≤ rank_after q m (bs ++ z ∷ []) ys) (sym s.1)
+                (subst (λ z. rank_after q m (bs ++ x ∷ []) xs ≤ rank_after q m (bs ++ plus q x w ∷ []) z) s.2
                 (rank-later (bs ++ x ∷ []) (bs ++ plus q x w ∷ []) xs (raised-end bs x) hb' hx.1 zb' zx.1)) in
                 rw (was, now) (omega (arith, later))
           ]
 
-      module _ (xs ys blocks : List (List ℕ)) (h : RaisedBy q w xs ys) (hx : AreVectors q m xs) (zx : ZeroAt p0 xs) where
+      module _ (xs ys blocks : List (List ℕ)) (h : RaisedBy q w xs ys) (hx : AreVectors q m xs)
+          (zx : ZeroAt p0 xs) where
         -- a word of the new factor rows is one of the old
-        pub words_old : (u : List ℕ) → IsVector q (length xs) u → combination q m u ys ≡ zeros m → combination q m u xs ≡ zeros m
+        pub words_old : (u : List ℕ) → IsVector q (length xs) u → combination q m u ys ≡ zeros m
+            → combination q m u xs ≡ zeros m
         words_old u hu e =
             let sum = raised-sum xs ys u h hu in
-            let none = no_factor sum.0 (combination q m u xs) (combination q m u ys) sum.1 (zero-combination p0 u xs zx) (ap (λ v. dot q v p0) e ∙ dot-zeros q f m p0) (sum.2 p0) in
-            sym (unraised sum.0 (combination q m u xs) (combination q m u ys) (combination-vector q m f u xs hx) (combination-vector q m f u ys (raised-vectors hw xs ys h hx)) none sum.2) ∙ e
+            let none =
+            no_factor sum.0 (combination q m u xs) (combination q m u ys) sum.1 (zero-combination p0 u xs zx)
+            (ap (λ v. dot q v p0) e ∙ dot-zeros q f m p0) (sum.2 p0) in
+            sym (unraised sum.0 (combination q m u xs) (combination q m u ys) (combination-vector q m f u xs hx)
+            (combination-vector q m f u ys (raised-vectors hw xs ys h hx)) none sum.2) ∙ e
 
         -- first case: w is a combination of the block rows
-        pub allowed_by_block : (Forbidden : List ℕ → List ℕ → Type 0) → IsBlind q (length xs) (length blocks) Forbidden → AreVectors q m blocks → InSpan q m blocks w → IsAllowed q m Forbidden xs blocks → IsAllowed q m Forbidden ys blocks
+        pub allowed_by_block : (Forbidden : List ℕ → List ℕ → Type 0) → IsBlind q (length xs) (length blocks) Forbidden
+            → AreVectors q m blocks → InSpan q m blocks w → IsAllowed q m Forbidden xs blocks
+            → IsAllowed q m Forbidden ys blocks
         allowed_by_block Forbidden blind hb s ok = record {
           none = λ u b hu' hbv bad e.
               let hu : IsVector q (length xs) u = subst (λ n. IsVector q n u) (raised-length xs ys h) hu' in
               let hy = raised-vectors hw xs ys h hx in
               let sum = raised-sum xs ys u h hu in
-              let same_old : combination q m u ys ≡ combination q m u xs → ⊥ = λ same. ok.none u b hu hbv bad (ap (λ v. plus q v (combination q m b blocks)) (sym same) ∙ e) in
+              let same_old : combination q m u ys ≡ combination q m u xs → ⊥ =
+              λ same. ok.none u b hu hbv bad (ap (λ v. plus q v (combination q m b blocks)) (sym same) ∙ e) in
               elim (blind u b bad) [
                 | inl no_b ↦
-                    let b_none : combination q m b blocks ≡ zeros m = ap (λ v. combination q m v blocks) no_b ∙ none-combination (length blocks) blocks hb in
-                    let word : combination q m u ys ≡ zeros m = sym (ap (plus q (combination q m u ys)) b_none ∙ plus-zero q m f (combination q m u ys) (combination-vector q m f u ys hy)) ∙ e in
+                    let b_none : combination q m b blocks ≡ zeros m =
+                    ap (λ v. combination q m v blocks) no_b ∙ none-combination (length blocks) blocks hb in
+                    let word : combination q m u ys ≡ zeros m =
+                    sym (ap (plus q (combination q m u ys)) b_none ∙ plus-zero q m f (combination q m u ys)
+                    (combination-vector q m f u ys hy)) ∙ e in
                     same_old (word ∙ sym (words_old u hu word))
                 | inr more ↦ elim more [
-                  | inl no_u ↦ same_old (ap (λ v. combination q m v ys) no_u ∙ none-combination (length xs) ys hy ∙ sym (ap (λ v. combination q m v xs) no_u ∙ none-combination (length xs) xs hx))
+                  | inl no_u ↦
+                      same_old (ap (λ v. combination q m v ys) no_u ∙ none-combination (length xs) ys hy ∙ sym
+                      (ap (λ v. combination q m v xs) no_u ∙ none-combination (length xs) xs hx))
                   | inr all ↦
                       let c : ℕ = sum.0 in
                       let b' : List ℕ = plus q b (scale q c s.by) in
-                      let hb' : IsVector q (length blocks) b' = plus-vector q (length blocks) f b (scale q c s.by) hbv (scale-vector q (length blocks) f c s.by s.vector) in
-                      ok.none u b' hu hb' (all b' hb') (ext q m f _ _ (plus-vector q m f _ _ (combination-vector q m f u xs hx) (combination-vector q m f b' blocks hb)) (zeros-vector q m f)
+                      let hb' : IsVector q (length blocks) b' =
+                      plus-vector q (length blocks) f b (scale q c s.by) hbv
+                      (scale-vector q (length blocks) f c s.by s.vector) in
+                      ok.none u b' hu hb' (all b' hb')
+                      (ext q m f _ _
+                      (plus-vector q m f _ _ (combination-vector q m f u xs hx)
+                      (combination-vector q m f b' blocks hb)) (zeros-vector q m f)
                       (λ p.
                       let x : ℕ = dot q (combination q m u xs) p in
                       let y : ℕ = dot q (combination q m b blocks) p in
                       let z : ℕ = mul q c (dot q w p) in
-                      let new : add q (add q x z) y ≡ 0 = ap (λ t. add q t y) (sym (sum.2 p)) ∙ sym (dot-plus q f (combination q m u ys) (combination q m b blocks) p) ∙ ap (λ v. dot q v p) e ∙ dot-zeros q f m p in
+                      let new : add q (add q x z) y ≡ 0 =
+                      ap (λ t. add q t y) (sym (sum.2 p)) ∙ sym
+                      (dot-plus q f (combination q m u ys) (combination q m b blocks) p) ∙ ap (λ v. dot q v p) e ∙
+                      dot-zeros q f m p in
                       dot-plus q f (combination q m u xs) (combination q m b' blocks) p
-                      ∙ ap (add q x) (plus-combination b (scale q c s.by) blocks p ∙ ap (add q y) (scale-combination c s.by blocks p ∙ ap (λ v. mul q c (dot q v p)) s.gives) ∙ f.add_comm y z)
+                      ∙ ap (add q x)
+                      (plus-combination b (scale q c s.by) blocks p ∙ ap (add q y)
+                      (scale-combination c s.by blocks p ∙ ap (λ v. mul q c (dot q v p)) s.gives) ∙ f.add_comm y z)
                       ∙ sym (f.add_assoc x z y) ∙ new ∙ sym (dot-zeros q f m p)))
                 ]
               ];
         }
 
         -- second case: the block rows are 0 where w is 1
-        pub allowed_by_other : (Forbidden : List ℕ → List ℕ → Type 0) → ZeroAt p0 blocks → IsAllowed q m Forbidden xs blocks → IsAllowed q m Forbidden ys blocks
+        pub allowed_by_other : (Forbidden : List ℕ → List ℕ → Type 0) → ZeroAt p0 blocks
+            → IsAllowed q m Forbidden xs blocks → IsAllowed q m Forbidden ys blocks
         allowed_by_other Forbidden zb ok = record {
           none = λ u b hu' hbv bad e.
               let hu : IsVector q (length xs) u = subst (λ n. IsVector q n u) (raised-length xs ys h) hu' in
               let sum = raised-sum xs ys u h hu in
               let at_new : dot q (combination q m u ys) p0 ≡ 0 =
-              sym (ap (add q (dot q (combination q m u ys) p0)) (zero-combination p0 b blocks zb) ∙ f.add_zero _ (dot_code q f (combination q m u ys) p0))
-              ∙ sym (dot-plus q f (combination q m u ys) (combination q m b blocks) p0) ∙ ap (λ v. dot q v p0) e ∙ dot-zeros q f m p0 in
-              let none = no_factor sum.0 (combination q m u xs) (combination q m u ys) sum.1 (zero-combination p0 u xs zx) at_new (sum.2 p0) in
-              let same = unraised sum.0 (combination q m u xs) (combination q m u ys) (combination-vector q m f u xs hx) (combination-vector q m f u ys (raised-vectors hw xs ys h hx)) none sum.2 in
+              sym (ap (add q (dot q (combination q m u ys) p0)) (zero-combination p0 b blocks zb) ∙ f.add_zero _
+              (dot_code q f (combination q m u ys) p0))
+              ∙ sym (dot-plus q f (combination q m u ys) (combination q m b blocks) p0) ∙ ap (λ v. dot q v p0) e ∙
+              dot-zeros q f m p0 in
+              let none =
+              no_factor sum.0 (combination q m u xs) (combination q m u ys) sum.1 (zero-combination p0 u xs zx)
+              at_new (sum.2 p0) in
+              let same =
+              unraised sum.0 (combination q m u xs) (combination q m u ys) (combination-vector q m f u xs hx)
+              (combination-vector q m f u ys (raised-vectors hw xs ys h hx)) none sum.2 in
               ok.none u b hu hbv bad (ap (λ v. plus q v (combination q m b blocks)) (sym same) ∙ e);
         }
 
-pub sum_by-le : {X : Type 0} (g h : X → ℕ) (xs : List X) → AllByRecursion (λ x. g x ≤ h x) xs → sum_by g xs ≤ sum_by h xs
+pub sum_by-le : {X : Type 0} (g h : X → ℕ) (xs : List X) → AllByRecursion (λ x. g x ≤ h x) xs
+    → sum_by g xs ≤ sum_by h xs
 sum_by-le g h [] all = omega arith
 sum_by-le g h (x ∷ xs) all =
     let rest = sum_by-le g h xs all.1 in
@@ -219,7 +295,8 @@ sum_by-le g h (x ∷ xs) all =
     let e' = sum_by-cons h x xs in
     omega arith
 
-pub sum_by-each : {X : Type 0} (g h : X → ℕ) (xs : List X) → AllByRecursion (λ x. g x ≡ h x) xs → sum_by g xs ≡ sum_by h xs
+pub sum_by-each : {X : Type 0} (g h : X → ℕ) (xs : List X) → AllByRecursion (λ x. g x ≡ h x) xs
+    → sum_by g xs ≡ sum_by h xs
 sum_by-each g h [] all = refl
 sum_by-each g h (x ∷ xs) all = rw (sum_by-cons g x xs, sum_by-cons h x xs, all.0, sum_by-each g h xs all.1) refl
 
@@ -230,15 +307,24 @@ implied false true false h = omega arith
 implied false false c h = omega arith
 
 -- the words of a list of factor rows, each of which is one of another list
-pub fewer_words : (q m : ℕ) (f : IsField q) (xs ys : List (List ℕ)) (k : ℕ) → AreVectors q m xs → AreVectors q m ys → length ys ≡ length xs
-    → ((u : List ℕ) → IsVector q (length xs) u → combination q m u ys ≡ zeros m → combination q m u xs ≡ zeros m) → words q m ys k ≤ words q m xs k
+pub fewer_words : (q m : ℕ) (f : IsField q) (xs ys : List (List ℕ)) (k : ℕ) → AreVectors q m xs → AreVectors q m ys
+    → length ys ≡ length xs
+    → ((u : List ℕ) → IsVector q (length xs) u → combination q m u ys ≡ zeros m → combination q m u xs ≡ zeros m)
+    → words q m ys k ≤ words q m xs k
 unfolding words
 fewer_words q m f xs ys k hx hy len old =
     let some : 0 < q = omega (arith, f.more_than_one) in
-    let test : List (List ℕ) → List ℕ → Bool = λ rows u. eqb (number q (combination q m u rows)) 0 && eqb (weight u) k in
-    subst (λ n. sum_by (λ u. cond (test ys u) 1 0) (points q n) ≤ sum_by (λ u. cond (test xs u) 1 0) (points q (length xs))) (sym len)
-    (sum_by-le _ _ (points q (length xs)) (recursion_from_All _ _ (all-points q (length xs) some (λ u. cond (test ys u) 1 0 ≤ cond (test xs u) 1 0) (λ u hu.
+    let test : List (List ℕ) → List ℕ → Bool =
+    λ rows u. eqb (number q (combination q m u rows)) 0 && eqb (weight u) k in
+    subst (λ n. sum_by (λ u. cond (test ys u) 1 0) (points q n)
+    ≤ sum_by (λ u. cond (test xs u) 1 0) (points q (length xs))) (sym len)
+    (sum_by-le _ _ (points q (length xs))
+    (recursion_from_All _ _
+    (all-points q (length xs) some (λ u. cond (test ys u) 1 0 ≤ cond (test xs u) 1 0) (λ u hu.
     let zero_is : eqb (number q (combination q m u ys)) 0 ≡ true → eqb (number q (combination q m u xs)) 0 ≡ true = λ e.
-    let none : combination q m u ys ≡ zeros m = number-same q m f _ _ (combination-vector q m f u ys hy) (zeros-vector q m f) (eqb-true _ _ e ∙ sym (number-zeros q m)) in
+    let none : combination q m u ys ≡ zeros m =
+    number-same q m f _ _ (combination-vector q m f u ys hy) (zeros-vector q m f)
+    (eqb-true _ _ e ∙ sym (number-zeros q m)) in
     eq-eqb _ _ (ap (number q) (old u hu none) ∙ number-zeros q m) in
-    implied (eqb (number q (combination q m u ys)) 0) (eqb (number q (combination q m u xs)) 0) (eqb (weight u) k) zero_is))))
+    implied (eqb (number q (combination q m u ys)) 0) (eqb (number q (combination q m u xs)) 0) (eqb (weight u) k)
+    zero_is))))

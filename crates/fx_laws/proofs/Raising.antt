@@ -17,12 +17,16 @@ module _ (q m : ℕ) (f : IsField q) where
   zero_at p [] e = tt
   zero_at p (r ∷ rows) e = (cc, zero_at p rows (cc))
 
-  spanned_zero : (p : List ℕ) (xs ys : List (List ℕ)) → ZeroAt q m f p xs → AllByRecursion (λ y. InSpan q m xs y) ys → ZeroAt q m f p ys
+  spanned_zero : (p : List ℕ) (xs ys : List (List ℕ)) → ZeroAt q m f p xs → AllByRecursion (λ y. InSpan q m xs y) ys
+      → ZeroAt q m f p ys
   spanned_zero p xs [] z h = tt
-  spanned_zero p xs (y ∷ ys) z h = (ap (λ v. dot q v p) (sym h.0.gives) ∙ zero-combination q m f p h.0.by xs z, spanned_zero p xs ys z h.1)
+  spanned_zero p xs (y ∷ ys) z h =
+      (ap (λ v. dot q v p) (sym h.0.gives) ∙ zero-combination q m f p h.0.by xs z, spanned_zero p xs ys z h.1)
 
-  -- w outside the span of the factor rows; it is a combination of the block rows, or these are in the span of the factor rows
-  pub raise_law : (Forbidden : List ℕ → List ℕ → Type 0) (w : List ℕ) (xs zs ys : List (List ℕ)) → IsVector q m w → AreVectors q m xs → AreVectors q m ys → (InSpan q m xs w → ⊥) → RaisesAt q m w [] xs zs
+  -- w outside the span of the factor rows; it is a combination of the block rows, or these are in the span of the
+  -- factor rows
+  pub raise_law : (Forbidden : List ℕ → List ℕ → Type 0) (w : List ℕ) (xs zs ys : List (List ℕ)) → IsVector q m w
+      → AreVectors q m xs → AreVectors q m ys → (InSpan q m xs w → ⊥) → RaisesAt q m w [] xs zs
       → AllByRecursion (λ y. InSpan q m xs y) ys ⊎ (InSpan q m ys w × IsBlind q (length xs) (length ys) Forbidden)
       → Follows q m Forbidden xs ys zs ys × (rank_of q m xs + 1 ≤ rank_of q m zs)
   raise_law Forbidden w xs zs ys hw hx hy out at case =
@@ -30,7 +34,8 @@ module _ (q m : ℕ) (f : IsField q) where
         | inl i ↦ absurd (out i)
         | inr p ↦
             let z : ZeroAt q m f p.0 xs = zero_at p.0 xs p.1.none in (
-              raise_follows q m f Forbidden w p.0 xs zs ys hw p.1.one z hx hy at (elim case [ inl h ↦ inl (spanned_zero p.0 xs ys z h) | inr h ↦ inr h ]),
+              raise_follows q m f Forbidden w p.0 xs zs ys hw p.1.one z hx hy at
+                  (elim case [ inl h ↦ inl (spanned_zero p.0 xs ys z h) | inr h ↦ inr h ]),
               rank-raised q m f w hw p.0 p.1.one [] xs zs at tt hx tt z,
             )
       ]

@@ -1,5 +1,6 @@
 -- Reordering the factors reorders each zero sum.
-use Rattle.std.proofs.Common.{ℕ, ◌≡◌, ◌<◌, ◌≤◌, ◌+◌, zero, suc, cond, eqb, ◌&&◌, List, [], ◌∷◌, ◌++◌, map, length, refl, sym, subst, ◌∙◌, ap, ap₂, arith, inl, inr}
+use Rattle.std.proofs.Common.{ℕ, ◌≡◌, ◌<◌, ◌≤◌, ◌+◌, zero, suc, cond, eqb, ◌&&◌, List, [], ◌∷◌, ◌++◌, map, length, refl}
+use Rattle.std.proofs.Common.{sym, subst, ◌∙◌, ap, ap₂, arith, inl, inr}
 use Rattle.std.specs.Prelude.{nat_lt}
 use Rattle.std.specs.List.{AllByRecursion, sum_by}
 use Rattle.std.proofs.lemmas.List.Sums.{sum_by-cons}
@@ -25,7 +26,8 @@ length-swapped zero (x ∷ y ∷ xs) = refl
 length-swapped (suc k) [] = refl
 length-swapped (suc k) (x ∷ xs) = (let e = length-swapped k xs in omega arith)
 
-pub each-swapped : {X : Type 0} (P : X → Type 0) (k : ℕ) (xs : List X) → AllByRecursion P xs → AllByRecursion P (swapped k xs)
+pub each-swapped : {X : Type 0} (P : X → Type 0) (k : ℕ) (xs : List X) → AllByRecursion P xs
+    → AllByRecursion P (swapped k xs)
 each-swapped P zero [] h = h
 each-swapped P zero (x ∷ []) h = h
 each-swapped P zero (x ∷ y ∷ xs) h = (h.1.0, (h.0, h.1.1))
@@ -36,7 +38,8 @@ pub length-reordered : {X : Type 0} (ks : List ℕ) (xs : List X) → length (re
 length-reordered [] xs = refl
 length-reordered (k ∷ ks) xs = length-reordered ks (swapped k xs) ∙ length-swapped k xs
 
-pub each-reordered : {X : Type 0} (P : X → Type 0) (ks : List ℕ) (xs : List X) → AllByRecursion P xs → AllByRecursion P (reordered ks xs)
+pub each-reordered : {X : Type 0} (P : X → Type 0) (ks : List ℕ) (xs : List X) → AllByRecursion P xs
+    → AllByRecursion P (reordered ks xs)
 each-reordered P [] xs h = h
 each-reordered P (k ∷ ks) xs h = each-reordered P ks (swapped k xs) (each-swapped P k xs h)
 
@@ -47,13 +50,17 @@ plus-comm q f (a ∷ v) [] = refl
 plus-comm q f (a ∷ v) (b ∷ w) = rw (f.add_comm a b, plus-comm q f v w) refl
 
 module _ (q m : ℕ) (f : IsField q) where
-  pub swapped-combination : (k : ℕ) (u : List ℕ) (rows : List (List ℕ)) → length u ≡ length rows → combination q m u (swapped k rows) ≡ combination q m (swapped k u) rows
+  pub swapped-combination : (k : ℕ) (u : List ℕ) (rows : List (List ℕ)) → length u ≡ length rows
+      → combination q m u (swapped k rows) ≡ combination q m (swapped k u) rows
   swapped-combination zero [] [] e = refl
   swapped-combination zero (a ∷ []) (x ∷ []) e = refl
   swapped-combination zero (a ∷ b ∷ u) (x ∷ y ∷ rows) e =
-      sym (plus-assoc q f (scale q a y) (scale q b x) (combination q m u rows)) ∙ ap (λ v. plus q v (combination q m u rows)) (plus-comm q f (scale q a y) (scale q b x)) ∙ plus-assoc q f (scale q b x) (scale q a y) (combination q m u rows)
+      sym (plus-assoc q f (scale q a y) (scale q b x) (combination q m u rows)) ∙ ap
+      (λ v. plus q v (combination q m u rows)) (plus-comm q f (scale q a y) (scale q b x)) ∙ plus-assoc q f
+      (scale q b x) (scale q a y) (combination q m u rows)
   swapped-combination (suc k) [] [] e = refl
-  swapped-combination (suc k) (a ∷ u) (x ∷ rows) e = ap (plus q (scale q a x)) (swapped-combination k u rows (omega arith))
+  swapped-combination (suc k) (a ∷ u) (x ∷ rows) e =
+      ap (plus q (scale q a x)) (swapped-combination k u rows (omega arith))
   swapped-combination k [] (x ∷ rows) e = absurd (omega arith)
   swapped-combination k (a ∷ u) [] e = absurd (omega arith)
   swapped-combination k (a ∷ []) (x ∷ y ∷ rows) e = absurd (omega arith)
@@ -64,7 +71,8 @@ module _ (q m : ℕ) (f : IsField q) where
   swapped-weight zero (a ∷ []) = refl
   swapped-weight zero (a ∷ b ∷ u) =
       let c : ℕ → ℕ = λ c. cond (nat_lt 0 c) 1 0 in
-      let e1 = sum_by-cons c b (a ∷ u) in let e2 = sum_by-cons c a u in let e3 = sum_by-cons c a (b ∷ u) in let e4 = sum_by-cons c b u in omega arith
+      let e1 = sum_by-cons c b (a ∷ u) in let e2 = sum_by-cons c a u in let e3 = sum_by-cons c a (b ∷ u) in let e4 =
+      sum_by-cons c b u in omega arith
   swapped-weight (suc k) [] = refl
   swapped-weight (suc k) (a ∷ u) =
       let c : ℕ → ℕ = λ c. cond (nat_lt 0 c) 1 0 in
@@ -94,14 +102,21 @@ module _ (q m : ℕ) (f : IsField q) where
       let some : 0 < q = omega (arith, f.more_than_one) in
       let s : ℕ = length rows in
       let test : List ℕ → List ℕ → ℕ = λ v u. cond (eqb (number q v) 0 && eqb (weight u) n) 1 0 in
-      subst (λ s'. sum_by (λ u. test (combination q m u (swapped k rows)) u) (points q s') ≡ sum_by (λ u. test (combination q m u rows) u) (points q s)) (sym (length-swapped k rows))
-      (sum_by-each (λ u. test (combination q m u (swapped k rows)) u) (λ u. test (combination q m (swapped k u) rows) (swapped k u)) (points q s)
-      (recursion_from_All _ (points q s) (all-points q s some (λ u. test (combination q m u (swapped k rows)) u ≡ test (combination q m (swapped k u) rows) (swapped k u))
-      (λ u hu. ap (λ v. test v u) (swapped-combination k u rows hu.len) ∙ ap (λ x. cond (eqb (number q (combination q m (swapped k u) rows)) 0 && eqb x n) 1 0) (sym (swapped-weight k u)))))
+      subst (λ s'. sum_by (λ u. test (combination q m u (swapped k rows)) u) (points q s')
+      ≡ sum_by (λ u. test (combination q m u rows) u) (points q s)) (sym (length-swapped k rows))
+      (sum_by-each (λ u. test (combination q m u (swapped k rows)) u)
+      (λ u. test (combination q m (swapped k u) rows) (swapped k u)) (points q s)
+      (recursion_from_All _ (points q s)
+      (all-points q s some
+      (λ u. test (combination q m u (swapped k rows)) u ≡ test (combination q m (swapped k u) rows) (swapped k u))
+      (λ u hu. ap (λ v. test v u) (swapped-combination k u rows hu.len) ∙ ap
+      (λ x. cond (eqb (number q (combination q m (swapped k u) rows)) 0 && eqb x n) 1 0)
+      (sym (swapped-weight k u)))))
       ∙ points-swapped k s (λ u. test (combination q m u rows) u))
 
   -- a swap of neighbouring factors keeps what is allowed
-  pub swap_follows : (Forbidden : List ℕ → List ℕ → Type 0) (k : ℕ) (xs ys : List (List ℕ)) → IsReorderable q Forbidden → AreVectors q m xs → AreVectors q m ys → Follows q m Forbidden xs ys (swapped k xs) ys
+  pub swap_follows : (Forbidden : List ℕ → List ℕ → Type 0) (k : ℕ) (xs ys : List (List ℕ)) → IsReorderable q Forbidden
+      → AreVectors q m xs → AreVectors q m ys → Follows q m Forbidden xs ys (swapped k xs) ys
   swap_follows Forbidden k xs ys closed hx hy = record {
     factors = length-swapped k xs;
     blocks = refl;
@@ -110,34 +125,44 @@ module _ (q m : ℕ) (f : IsField q) where
     allowed = λ ok. record {
       none = λ u b hu' hb bad e.
           let hu : IsVector q (length xs) u = subst (λ n. IsVector q n u) (length-swapped k xs) hu' in
-          ok.none (swapped k u) b (swapped-vector (length xs) k u hu) hb (closed u b k bad) (ap (λ v. plus q v (combination q m b ys)) (sym (swapped-combination k u xs hu.len)) ∙ e);
+          ok.none (swapped k u) b (swapped-vector (length xs) k u hu) hb (closed u b k bad)
+          (ap (λ v. plus q v (combination q m b ys)) (sym (swapped-combination k u xs hu.len)) ∙ e);
     };
     fewer = λ n. (let e = swapped_words k xs n in omega arith);
   }
 
-  pub reorder_follows : (Forbidden : List ℕ → List ℕ → Type 0) (ks : List ℕ) (xs ys : List (List ℕ)) → IsReorderable q Forbidden → AreVectors q m xs → AreVectors q m ys → Follows q m Forbidden xs ys (reordered ks xs) ys
+  pub reorder_follows : (Forbidden : List ℕ → List ℕ → Type 0) (ks : List ℕ) (xs ys : List (List ℕ))
+      → IsReorderable q Forbidden → AreVectors q m xs → AreVectors q m ys
+      → Follows q m Forbidden xs ys (reordered ks xs) ys
   reorder_follows Forbidden [] xs ys closed hx hy = follows-same q m f Forbidden xs ys hx hy
   reorder_follows Forbidden (k ∷ ks) xs ys closed hx hy =
       let one = swap_follows Forbidden k xs ys closed hx hy in
-      follows-trans q m Forbidden xs ys (swapped k xs) ys (reordered (k ∷ ks) xs) ys one (reorder_follows Forbidden ks (swapped k xs) ys closed one.factor_vectors hy)
+      follows-trans q m Forbidden xs ys (swapped k xs) ys (reordered (k ∷ ks) xs) ys one
+      (reorder_follows Forbidden ks (swapped k xs) ys closed one.factor_vectors hy)
 
-pub reordered-inside : {X : Type 0} (x : X) (ks : List ℕ) (xs : List X) → reordered (map (λ k. suc k) ks) (x ∷ xs) ≡ x ∷ reordered ks xs
+pub reordered-inside : {X : Type 0} (x : X) (ks : List ℕ) (xs : List X)
+    → reordered (map (λ k. suc k) ks) (x ∷ xs) ≡ x ∷ reordered ks xs
 reordered-inside x [] xs = refl
 reordered-inside x (k ∷ ks) xs = reordered-inside x ks (swapped k xs)
 
-pub reordered-append : {X : Type 0} (ks js : List ℕ) (xs : List X) → reordered (ks ++ js) xs ≡ reordered js (reordered ks xs)
+pub reordered-append : {X : Type 0} (ks js : List ℕ) (xs : List X)
+    → reordered (ks ++ js) xs ≡ reordered js (reordered ks xs)
 reordered-append [] js xs = refl
 reordered-append (k ∷ ks) js xs = reordered-append ks js (swapped k xs)
 
 -- the first element moved after some others
 pub move_back : {X : Type 0} (x : X) (us xs : List X) → (ks : List ℕ) × (reordered ks (x ∷ us ++ xs) ≡ us ++ x ∷ xs)
 move_back x [] xs = ([], refl)
-move_back x (u ∷ us) xs = (let r = move_back x us xs in (0 ∷ map (λ k. suc k) r.0, reordered-inside u r.0 (x ∷ us ++ xs) ∙ ap (λ z. u ∷ z) r.1))
+move_back x (u ∷ us) xs =
+    (let r = move_back x us xs in
+    (0 ∷ map (λ k. suc k) r.0, reordered-inside u r.0 (x ∷ us ++ xs) ∙ ap (λ z. u ∷ z) r.1))
 
 -- a reordering after some elements
-pub reorder_behind : {X : Type 0} (us xs : List X) (ks : List ℕ) → (js : List ℕ) × (reordered js (us ++ xs) ≡ us ++ reordered ks xs)
+pub reorder_behind : {X : Type 0} (us xs : List X) (ks : List ℕ)
+    → (js : List ℕ) × (reordered js (us ++ xs) ≡ us ++ reordered ks xs)
 reorder_behind [] xs ks = (ks, refl)
-reorder_behind (u ∷ us) xs ks = (let r = reorder_behind us xs ks in (map (λ k. suc k) r.0, reordered-inside u r.0 (us ++ xs) ∙ ap (λ z. u ∷ z) r.1))
+reorder_behind (u ∷ us) xs ks =
+    (let r = reorder_behind us xs ks in (map (λ k. suc k) r.0, reordered-inside u r.0 (us ++ xs) ∙ ap (λ z. u ∷ z) r.1))
 
 -- unit vectors in order
 abbrev pub units_from : ℕ → ℕ → ℕ → List (List ℕ)
@@ -165,7 +190,8 @@ part m k n (r ∷ xs) h = elim h [
         others = r ∷ p.others;
         total = p.total;
         short = (short-le k n r (formed-up m k n xs s.1) s.0, p.short);
-        is = reordered-append (map (λ k. suc k) p.swaps) back.0 (r ∷ xs) ∙ ap (reordered back.0) (reordered-inside r p.swaps xs ∙ ap (λ z. r ∷ z) p.is) ∙ back.1;
+        is = reordered-append (map (λ k. suc k) p.swaps) back.0 (r ∷ xs) ∙ ap (reordered back.0)
+            (reordered-inside r p.swaps xs ∙ ap (λ z. r ∷ z) p.is) ∙ back.1;
       }
   | inr s ↦
       let p = part m (suc k) n xs s.2 in
@@ -184,17 +210,22 @@ abbrev pub FallsWeakly : ℕ → List (List ℕ) → Type 0
 FallsWeakly q [] = Unit {0}
 FallsWeakly q (x ∷ xs) = AllByRecursion (λ y. number q y ≤ number q x) xs × FallsWeakly q xs
 
-weaker : (q a b : ℕ) (xs : List (List ℕ)) → a ≤ b → AllByRecursion (λ y. number q y ≤ a) xs → AllByRecursion (λ y. number q y ≤ b) xs
+weaker : (q a b : ℕ) (xs : List (List ℕ)) → a ≤ b → AllByRecursion (λ y. number q y ≤ a) xs
+    → AllByRecursion (λ y. number q y ≤ b) xs
 weaker q a b [] h all = tt
 weaker q a b (x ∷ xs) h all = ((let e = all.0 in omega arith), weaker q a b xs h all.1)
 
-put : (q : ℕ) (r : List ℕ) (xs : List (List ℕ)) → FallsWeakly q xs → (ks : List ℕ) × FallsWeakly q (reordered ks (r ∷ xs))
+put : (q : ℕ) (r : List ℕ) (xs : List (List ℕ)) → FallsWeakly q xs
+    → (ks : List ℕ) × FallsWeakly q (reordered ks (r ∷ xs))
 put q r [] h = ([], (tt, tt))
 put q r (x ∷ xs) h =
     elim (cases_lt (number q r) (number q x)) [
       | inl low ↦
-          let p = put q r xs h.1 in
-          (0 ∷ map (λ k. suc k) p.0, subst (FallsWeakly q) (sym (reordered-inside x p.0 (r ∷ xs))) (each-reordered (λ y. number q y ≤ number q x) p.0 (r ∷ xs) (omega arith, h.0), p.1))
+          let p = put q r xs h.1 in (
+            0 ∷ map (λ k. suc k) p.0,
+            subst (FallsWeakly q) (sym (reordered-inside x p.0 (r ∷ xs)))
+                (each-reordered (λ y. number q y ≤ number q x) p.0 (r ∷ xs) (omega arith, h.0), p.1),
+          )
       | inr high ↦ ([], ((high, weaker q (number q x) (number q r) xs high h.0), h))
     ]
 
@@ -203,5 +234,10 @@ pub sort_falling : (q : ℕ) (xs : List (List ℕ)) → (ks : List ℕ) × Falls
 sort_falling q [] = ([], tt)
 sort_falling q (x ∷ xs) =
     let p = sort_falling q xs in
-    let r = put q x (reordered p.0 xs) p.1 in
-    (map (λ k. suc k) p.0 ++ r.0, subst (FallsWeakly q) (sym (reordered-append (map (λ k. suc k) p.0) r.0 (x ∷ xs) ∙ ap (reordered r.0) (reordered-inside x p.0 xs))) r.1)
+    let r = put q x (reordered p.0 xs) p.1 in (
+      map (λ k. suc k) p.0
+          ++ r.0,
+      subst (FallsWeakly q)
+          (sym (reordered-append (map (λ k. suc k) p.0) r.0 (x ∷ xs) ∙ ap (reordered r.0) (reordered-inside x p.0 xs)))
+          r.1,
+    )

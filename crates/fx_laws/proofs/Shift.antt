@@ -1,5 +1,6 @@
 -- A sum over all points stays when each point is moved by the same vector.
-use Rattle.std.proofs.Common.{ℕ, ◌≡◌, ◌<◌, ◌+◌, ◌*◌, ◌^◌, ◌/◌, ◌%◌, zero, suc, cond, eqb, List, [], ◌∷◌, map, length, refl, sym, subst, ◌∙◌, ap, arith, inl, inr}
+use Rattle.std.proofs.Common.{ℕ, ◌≡◌, ◌<◌, ◌+◌, ◌*◌, ◌^◌, ◌/◌, ◌%◌, zero, suc, cond, eqb, List, [], ◌∷◌, map, length}
+use Rattle.std.proofs.Common.{refl, sym, subst, ◌∙◌, ap, arith, inl, inr}
 use Rattle.std.specs.List.{sum_by, All}
 use Rattle.std.proofs.lemmas.List.Elements.{All-from_get_or, All-get_or}
 use Rattle.std.proofs.lemmas.Bool.{cases_eq, eq-eqb, ne_eqb}
@@ -13,7 +14,9 @@ use Rattle.fx_laws.proofs.Codes.{points-at, point-vector, length-points}
 use Rattle.fx_laws.proofs.Sums.{sum_by_flat_map, sum_by_map, sum_by-swap, sum_by-same, sum_by-pick, sum_by-ext}
 
 -- a sum over the codes in another order
-pub sum_by-turn : (q : ℕ) (h φ ψ : ℕ → ℕ) → ((c : ℕ) → c < q → φ c < q) → ((x : ℕ) → x < q → ψ x < q) → ((c : ℕ) → c < q → ψ (φ c) ≡ c) → ((x : ℕ) → x < q → φ (ψ x) ≡ x) → sum_by (λ c. h (φ c)) (codes_of q) ≡ sum_by h (codes_of q)
+pub sum_by-turn : (q : ℕ) (h φ ψ : ℕ → ℕ) → ((c : ℕ) → c < q → φ c < q) → ((x : ℕ) → x < q → ψ x < q)
+    → ((c : ℕ) → c < q → ψ (φ c) ≡ c) → ((x : ℕ) → x < q → φ (ψ x) ≡ x)
+    → sum_by (λ c. h (φ c)) (codes_of q) ≡ sum_by h (codes_of q)
 sum_by-turn q h φ ψ hφ hψ back forth =
     let turn : (c x : ℕ) → c < q → x < q → eqb x (φ c) ≡ eqb c (ψ x) = λ c x hc hx.
     elim (cases_eq x (φ c)) [
@@ -29,18 +32,21 @@ sum_by-turn q h φ ψ hφ hψ back forth =
     (λ c low' high'. ap (λ b. cond b (h x) 0) (turn c x (omega arith) (omega arith)))
     ∙ sum_by-pick (λ c. h x) (ψ x) 0 q (omega arith) (let e = hψ x (omega arith) in omega arith))
 
-pub points-sum : (q n : ℕ) (g : List ℕ → ℕ) → sum_by g (points q (suc n)) ≡ sum_by (λ c. sum_by (λ p. g (c ∷ p)) (points q n)) (codes_of q)
+pub points-sum : (q n : ℕ) (g : List ℕ → ℕ)
+    → sum_by g (points q (suc n)) ≡ sum_by (λ c. sum_by (λ p. g (c ∷ p)) (points q n)) (codes_of q)
 points-sum q n g =
     sum_by_flat_map g (λ c. map (λ p. c ∷ p) (points q n)) (codes_of q)
     ∙ sum_by-ext _ _ (codes_of q) (λ c. sum_by_map g (λ p. c ∷ p) (points q n))
 
-pub shift : (q n : ℕ) (f : IsField q) (t : List ℕ) (g : List ℕ → ℕ) → IsVector q n t → sum_by (λ p. g (plus q p t)) (points q n) ≡ sum_by g (points q n)
+pub shift : (q n : ℕ) (f : IsField q) (t : List ℕ) (g : List ℕ → ℕ) → IsVector q n t
+    → sum_by (λ p. g (plus q p t)) (points q n) ≡ sum_by g (points q n)
 shift q zero f [] g h = refl
 shift q (suc n) f [] g h = absurd (let e = h.len in omega arith)
 shift q zero f (a ∷ t) g h = absurd (let e = h.len in omega arith)
 shift q (suc n) f (a ∷ t) g h =
     points-sum q n (λ p. g (plus q p (a ∷ t)))
-    ∙ sum_by-ext _ _ (codes_of q) (λ c. shift q n f t (λ p. g (add q c a ∷ p)) (record { len = (let e = h.len in omega arith); codes = h.codes.1 }))
+    ∙ sum_by-ext _ _ (codes_of q)
+    (λ c. shift q n f t (λ p. g (add q c a ∷ p)) (record { len = (let e = h.len in omega arith); codes = h.codes.1 }))
     ∙ sum_by-turn q (λ c. sum_by (λ p. g (c ∷ p)) (points q n)) (λ c. add q c a) (λ x. add q x (neg q a))
     (λ c hc. f.add_code c a) (λ x hx. f.add_code x (neg q a))
     (λ c hc. f.add_assoc c a (neg q a) ∙ ap (add q c) (f.add_neg a) ∙ f.add_zero c hc)
@@ -73,7 +79,8 @@ point_of-place q (suc n) (a ∷ v) h =
     let hv : IsVector q n v = record { len = len; codes = h.codes.1 } in
     let rest : place q v < q ^ n = place-below q n v hv in
     let first : (a * q ^ n + place q v) / q ^ n ≡ a = div-mul-add a (q ^ n) (place q v) rest in
-    let others : (a * q ^ n + place q v) % q ^ n ≡ place q v = mul-add-mod_self_right a (q ^ n) (place q v) ∙ mod-eq_of_lt rest in
+    let others : (a * q ^ n + place q v) % q ^ n ≡ place q v =
+    mul-add-mod_self_right a (q ^ n) (place q v) ∙ mod-eq_of_lt rest in
     rw (len, first, others, point_of-place q n v hv) refl
 
 module _ (q n : ℕ) (some : 0 < q) where

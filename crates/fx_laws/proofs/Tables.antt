@@ -61,37 +61,150 @@ pub record IsTable (q : ℕ) : Type 0 where
 
 pub table_2 : IsTable 2
 unfolding add mul neg inv prime_of degree_of reduction_of
-table_2 = record { more_than_one = refl; add_code = refl; mul_code = refl; neg_code = refl; inv_code = refl; add_comm = refl; add_assoc = refl; mul_comm = refl; mul_assoc = refl; distributes = refl; add_zero = refl; mul_zero = refl; mul_one = refl; add_neg = refl; mul_inv = refl }
+table_2 = record {
+  more_than_one = refl;
+  add_code = refl;
+  mul_code = refl;
+  neg_code = refl;
+  inv_code = refl;
+  add_comm = refl;
+  add_assoc = refl;
+  mul_comm = refl;
+  mul_assoc = refl;
+  distributes = refl;
+  add_zero = refl;
+  mul_zero = refl;
+  mul_one = refl;
+  add_neg = refl;
+  mul_inv = refl;
+}
 
 pub table_3 : IsTable 3
 unfolding add mul neg inv prime_of degree_of reduction_of
-table_3 = record { more_than_one = refl; add_code = refl; mul_code = refl; neg_code = refl; inv_code = refl; add_comm = refl; add_assoc = refl; mul_comm = refl; mul_assoc = refl; distributes = refl; add_zero = refl; mul_zero = refl; mul_one = refl; add_neg = refl; mul_inv = refl }
+table_3 = record {
+  more_than_one = refl;
+  add_code = refl;
+  mul_code = refl;
+  neg_code = refl;
+  inv_code = refl;
+  add_comm = refl;
+  add_assoc = refl;
+  mul_comm = refl;
+  mul_assoc = refl;
+  distributes = refl;
+  add_zero = refl;
+  mul_zero = refl;
+  mul_one = refl;
+  add_neg = refl;
+  mul_inv = refl;
+}
 
 pub table_4 : IsTable 4
 unfolding add mul neg inv prime_of degree_of reduction_of
-table_4 = record { more_than_one = refl; add_code = refl; mul_code = refl; neg_code = refl; inv_code = refl; add_comm = refl; add_assoc = refl; mul_comm = refl; mul_assoc = refl; distributes = refl; add_zero = refl; mul_zero = refl; mul_one = refl; add_neg = refl; mul_inv = refl }
+table_4 = record {
+  more_than_one = refl;
+  add_code = refl;
+  mul_code = refl;
+  neg_code = refl;
+  inv_code = refl;
+  add_comm = refl;
+  add_assoc = refl;
+  mul_comm = refl;
+  mul_assoc = refl;
+  distributes = refl;
+  add_zero = refl;
+  mul_zero = refl;
+  mul_one = refl;
+  add_neg = refl;
+  mul_inv = refl;
+}
 
 pub table_5 : IsTable 5
 unfolding add mul neg inv prime_of degree_of reduction_of
-table_5 = record { more_than_one = refl; add_code = refl; mul_code = refl; neg_code = refl; inv_code = refl; add_comm = refl; add_assoc = refl; mul_comm = refl; mul_assoc = refl; distributes = refl; add_zero = refl; mul_zero = refl; mul_one = refl; add_neg = refl; mul_inv = refl }
+table_5 = record {
+  more_than_one = refl;
+  add_code = refl;
+  mul_code = refl;
+  neg_code = refl;
+  inv_code = refl;
+  add_comm = refl;
+  add_assoc = refl;
+  mul_comm = refl;
+  mul_assoc = refl;
+  distributes = refl;
+  add_zero = refl;
+  mul_zero = refl;
+  mul_one = refl;
+  add_neg = refl;
+  mul_inv = refl;
+}
 
 pub table_7 : IsTable 7
 unfolding add mul neg inv prime_of degree_of reduction_of
-table_7 = record { more_than_one = refl; add_code = refl; mul_code = refl; neg_code = refl; inv_code = refl; add_comm = refl; add_assoc = refl; mul_comm = refl; mul_assoc = refl; distributes = refl; add_zero = refl; mul_zero = refl; mul_one = refl; add_neg = refl; mul_inv = refl }
+table_7 = record {
+  more_than_one = refl;
+  add_code = refl;
+  mul_code = refl;
+  neg_code = refl;
+  inv_code = refl;
+  add_comm = refl;
+  add_assoc = refl;
+  mul_comm = refl;
+  mul_assoc = refl;
+  distributes = refl;
+  add_zero = refl;
+  mul_zero = refl;
+  mul_one = refl;
+  add_neg = refl;
+  mul_inv = refl;
+}
 
 pub table_8 : IsTable 8
 unfolding add mul neg inv prime_of degree_of reduction_of
-table_8 = record { more_than_one = refl; add_code = refl; mul_code = refl; neg_code = refl; inv_code = refl; add_comm = refl; add_assoc = refl; mul_comm = refl; mul_assoc = refl; distributes = refl; add_zero = refl; mul_zero = refl; mul_one = refl; add_neg = refl; mul_inv = refl }
+table_8 = record {
+  more_than_one = refl;
+  add_code = refl;
+  mul_code = refl;
+  neg_code = refl;
+  inv_code = refl;
+  add_comm = refl;
+  add_assoc = refl;
+  mul_comm = refl;
+  mul_assoc = refl;
+  distributes = refl;
+  add_zero = refl;
+  mul_zero = refl;
+  mul_one = refl;
+  add_neg = refl;
+  mul_inv = refl;
+}
 
 pub table_9 : IsTable 9
 unfolding add mul neg inv prime_of degree_of reduction_of
-table_9 = record { more_than_one = refl; add_code = refl; mul_code = refl; neg_code = refl; inv_code = refl; add_comm = refl; add_assoc = refl; mul_comm = refl; mul_assoc = refl; distributes = refl; add_zero = refl; mul_zero = refl; mul_one = refl; add_neg = refl; mul_inv = refl }
+table_9 = record {
+  more_than_one = refl;
+  add_code = refl;
+  mul_code = refl;
+  neg_code = refl;
+  inv_code = refl;
+  add_comm = refl;
+  add_assoc = refl;
+  mul_comm = refl;
+  mul_assoc = refl;
+  distributes = refl;
+  add_zero = refl;
+  mul_zero = refl;
+  mul_one = refl;
+  add_neg = refl;
+  mul_inv = refl;
+}
 
 at_pair : (q : ℕ) (p : ℕ → ℕ → Bool) (a b : ℕ) → a < q → b < q → all_pairs q p ≡ true → p a b ≡ true
 at_pair q p a b ha hb all = all_below-at q (λ y. p a y) b hb (all_below-at q (λ x. all_below q (λ y. p x y)) a ha all)
 
 at_triple : (q : ℕ) (p : ℕ → ℕ → ℕ → Bool) (a b c : ℕ) → a < q → b < q → c < q → all_triples q p ≡ true → p a b c ≡ true
-at_triple q p a b c ha hb hc all = at_pair q (p a) b c hb hc (all_below-at q (λ x. all_pairs q (λ y z. p x y z)) a ha all)
+at_triple q p a b c ha hb hc all =
+    at_pair q (p a) b c hb hc (all_below-at q (λ x. all_pairs q (λ y z. p x y z)) a ha all)
 
 add-left : (q a b : ℕ) → add q a b ≡ add q (a % q) b
 unfolding add
@@ -116,29 +229,49 @@ field_from_table q t =
     let code : (x : ℕ) → x % q < q = λ x. mod-lt x (omega arith) in
     record {
       more_than_one = big;
-      add_code = λ a b. rw (add-mod q a b) (ltb-true _ _ (at_pair q (λ a b. ltb (add q a b) q) (a % q) (b % q) (code a) (code b) t.add_code));
-      mul_code = λ a b. rw (mul-mod q a b) (ltb-true _ _ (at_pair q (λ a b. ltb (mul q a b) q) (a % q) (b % q) (code a) (code b) t.mul_code));
-      neg_code = λ a. rw (neg-mod q a) (ltb-true _ _ (all_below-at q (λ a. ltb (neg q a) q) (a % q) (code a) t.neg_code));
-      inv_code = λ a. rw (inv-mod q a) (ltb-true _ _ (all_below-at q (λ a. ltb (inv q a) q) (a % q) (code a) t.inv_code));
-      add_comm = λ a b. rw (add-mod q a b, add-mod q b a) (eqb-true _ _ (at_pair q (λ a b. eqb (add q a b) (add q b a)) (a % q) (b % q) (code a) (code b) t.add_comm));
+      add_code =
+          λ a b. rw (add-mod q a b)
+          (ltb-true _ _ (at_pair q (λ a b. ltb (add q a b) q) (a % q) (b % q) (code a) (code b) t.add_code));
+      mul_code =
+          λ a b. rw (mul-mod q a b)
+          (ltb-true _ _ (at_pair q (λ a b. ltb (mul q a b) q) (a % q) (b % q) (code a) (code b) t.mul_code));
+      neg_code =
+          λ a. rw (neg-mod q a) (ltb-true _ _ (all_below-at q (λ a. ltb (neg q a) q) (a % q) (code a) t.neg_code));
+      inv_code =
+          λ a. rw (inv-mod q a) (ltb-true _ _ (all_below-at q (λ a. ltb (inv q a) q) (a % q) (code a) t.inv_code));
+      add_comm =
+          λ a b. rw (add-mod q a b, add-mod q b a)
+          (eqb-true _ _
+          (at_pair q (λ a b. eqb (add q a b) (add q b a)) (a % q) (b % q) (code a) (code b) t.add_comm));
       add_assoc = λ a b c.
           rw (add-right q (add q a b) c, add-mod q a b, add-left q a (add q b c), add-mod q b c)
-          (eqb-true _ _ (at_triple q (λ a b c. eqb (add q (add q a b) c) (add q a (add q b c))) (a % q) (b % q) (c % q) (code a) (code b) (code c) t.add_assoc));
-      mul_comm = λ a b. rw (mul-mod q a b, mul-mod q b a) (eqb-true _ _ (at_pair q (λ a b. eqb (mul q a b) (mul q b a)) (a % q) (b % q) (code a) (code b) t.mul_comm));
+          (eqb-true _ _
+          (at_triple q (λ a b c. eqb (add q (add q a b) c) (add q a (add q b c))) (a % q) (b % q) (c % q) (code a)
+          (code b) (code c) t.add_assoc));
+      mul_comm =
+          λ a b. rw (mul-mod q a b, mul-mod q b a)
+          (eqb-true _ _
+          (at_pair q (λ a b. eqb (mul q a b) (mul q b a)) (a % q) (b % q) (code a) (code b) t.mul_comm));
       mul_assoc = λ a b c.
           rw (mul-right q (mul q a b) c, mul-mod q a b, mul-left q a (mul q b c), mul-mod q b c)
-          (eqb-true _ _ (at_triple q (λ a b c. eqb (mul q (mul q a b) c) (mul q a (mul q b c))) (a % q) (b % q) (c % q) (code a) (code b) (code c) t.mul_assoc));
+          (eqb-true _ _
+          (at_triple q (λ a b c. eqb (mul q (mul q a b) c) (mul q a (mul q b c))) (a % q) (b % q) (c % q) (code a)
+          (code b) (code c) t.mul_assoc));
       distributes = λ a b c.
           rw (mul-left q a (add q b c), add-mod q b c, mul-mod q a b, mul-mod q a c)
-          (eqb-true _ _ (at_triple q (λ a b c. eqb (mul q a (add q b c)) (add q (mul q a b) (mul q a c))) (a % q) (b % q) (c % q) (code a) (code b) (code c) t.distributes));
+          (eqb-true _ _
+          (at_triple q (λ a b c. eqb (mul q a (add q b c)) (add q (mul q a b) (mul q a c))) (a % q) (b % q) (c % q)
+          (code a) (code b) (code c) t.distributes));
       add_zero = λ a h. eqb-true _ _ (all_below-at q (λ a. eqb (add q a 0) a) a h t.add_zero);
-      mul_zero = λ a. rw (mul-left q a 0) (eqb-true _ _ (all_below-at q (λ a. eqb (mul q a 0) 0) (a % q) (code a) t.mul_zero));
+      mul_zero =
+          λ a. rw (mul-left q a 0) (eqb-true _ _ (all_below-at q (λ a. eqb (mul q a 0) 0) (a % q) (code a) t.mul_zero));
       mul_one = λ a h. eqb-true _ _ (all_below-at q (λ a. eqb (mul q a 1) a) a h t.mul_one);
       add_neg = λ a.
           rw (add-left q a (neg q a), neg-mod q a)
           (eqb-true _ _ (all_below-at q (λ a. eqb (add q a (neg q a)) 0) (a % q) (code a) t.add_neg));
       mul_inv = λ a some h.
-          let e : cond (eqb a 0) true (eqb (mul q a (inv q a)) 1) ≡ true = all_below-at q (λ a. cond (eqb a 0) true (eqb (mul q a (inv q a)) 1)) a h t.mul_inv in
+          let e : cond (eqb a 0) true (eqb (mul q a (inv q a)) 1) ≡ true =
+          all_below-at q (λ a. cond (eqb a 0) true (eqb (mul q a (inv q a)) 1)) a h t.mul_inv in
           grind (arith, nat_tests);
     }
 

@@ -11,7 +11,8 @@ use Rattle.fx_designs.specs.Runs.{points}
 use Rattle.fx_laws.proofs.Shift.{all-points, points-each}
 
 -- of each item
-pub all_decides : {X : Type 0} (p : X → Bool) (P : X → Type 0) → ((x : X) → Decides (p x) (P x)) → (xs : List X) → Decides (list_all p xs) (All P xs)
+pub all_decides : {X : Type 0} (p : X → Bool) (P : X → Type 0) → ((x : X) → Decides (p x) (P x)) → (xs : List X)
+    → Decides (list_all p xs) (All P xs)
 all_decides p P each xs = Decides-by_and p P (list_all p) each refl (λ x xs. refl) xs
 
 -- of each item, as true
@@ -24,7 +25,8 @@ range_decides p n =
     let both = all_true p (range_with_len 0 n) in (
       λ e k h.
           subst (λ z. p z ≡ true) (get_or-range_with_len 0 n k 0 h ∙ zero-add k)
-          (All-get_or (λ x. p x ≡ true) (range_with_len 0 n) k 0 (subst (λ z. k < z) (sym (length-range_with_len 0 n)) h) (both.0 e)),
+          (All-get_or (λ x. p x ≡ true) (range_with_len 0 n) k 0
+          (subst (λ z. k < z) (sym (length-range_with_len 0 n)) h) (both.0 e)),
       λ each.
           both.1 (All-from_get_or (λ x. p x ≡ true) (range_with_len 0 n) 0 (λ i h.
           let low : i < n = subst (λ z. i < z) (length-range_with_len 0 n) h in
@@ -32,7 +34,8 @@ range_decides p n =
     )
 
 -- of each vector of length n
-pub points_decides : (q n : ℕ) → 0 < q → (p : List ℕ → Bool) → Decides (list_all p (points q n)) ((u : List ℕ) → IsVector q n u → p u ≡ true)
+pub points_decides : (q n : ℕ) → 0 < q → (p : List ℕ → Bool)
+    → Decides (list_all p (points q n)) ((u : List ℕ) → IsVector q n u → p u ≡ true)
 points_decides q n some p =
     let both = all_true p (points q n) in (
       λ e u h. points-each q n some (λ u. p u ≡ true) (both.0 e) u h,
@@ -51,9 +54,11 @@ bool_same false true to from = from refl
 bool_same false false to from = refl
 
 -- some item of a list passes
-pub some_item : {X : Type 0} (p : X → Bool) (P : X → Type 0) (xs : List X) → AllByRecursion P xs → list_any p xs ≡ true → (x : X) × P x × (p x ≡ true)
+pub some_item : {X : Type 0} (p : X → Bool) (P : X → Type 0) (xs : List X) → AllByRecursion P xs → list_any p xs ≡ true
+    → (x : X) × P x × (p x ≡ true)
 some_item p P [] all e = absurd (both_ways false refl e)
 some_item {X} p P (x ∷ xs) all e =
     let go : (b : Bool) → p x ≡ b → (b || list_any p xs) ≡ true → (y : X) × P y × (p y ≡ true) =
-    λ b. elim b as (λ b. p x ≡ b → (b || list_any p xs) ≡ true → (y : X) × P y × (p y ≡ true)) [ true ↦ λ is t. (x, all.0, is) | false ↦ λ is t. some_item p P xs all.1 t ] in
+    λ b. elim b as (λ b. p x ≡ b → (b || list_any p xs) ≡ true → (y : X) × P y × (p y ≡ true))
+    [ true ↦ λ is t. (x, all.0, is) | false ↦ λ is t. some_item p P xs all.1 t ] in
     go (p x) refl e

@@ -1,5 +1,6 @@
 -- Canonical rows.
-use Rattle.std.specs.Prelude.{ℕ, ◌≡◌, ◌<◌, ◌≤◌, ◌+◌, ◌-◌, ◌^◌, ◌⊎◌, true, false, List, [], length, take, min, slice_index, slice_index_or, All}
+use Rattle.std.specs.Prelude.{ℕ, ◌≡◌, ◌<◌, ◌≤◌, ◌+◌, ◌-◌, ◌^◌, ◌⊎◌, true, false, List, [], length, take, min}
+use Rattle.std.specs.Prelude.{slice_index, slice_index_or, All}
 use Rattle.fx_designs.specs.Galois.{number}
 use Rattle.fx_designs.specs.Vectors.{zeros, vectors_of}
 use Rattle.fx_designs.specs.Spans.{in_span, rank_of}
@@ -11,10 +12,13 @@ use Rattle.fx_laws.specs.Changes.{unit}
 abbrev pub row : List (List ℕ) → ℕ → List ℕ
 row rows k = slice_index_or rows k []
 
--- the rows of a canonical prefix: a row outside the span of the rows before it is the next unit vector, every other is 0 or normal, and the first s rows can still have the rank min(s, m)
+-- the rows of a canonical prefix: a row outside the span of the rows before it is the next unit vector, every other is
+-- 0 or normal, and the first s rows can still have the rank min(s, m)
 pub record IsCanonical (q m s : ℕ) (rows : List (List ℕ)) : Type 0 where
-  pub new_is_unit : (k : ℕ) → k < length rows → in_span q m (take k rows) (row rows k) ≡ false → row rows k ≡ unit m (rank_of q m (take k rows))
-  pub old_is_normal : (k : ℕ) → k < length rows → in_span q m (take k rows) (row rows k) ≡ true → (row rows k ≡ zeros m) ⊎ IsNormal (row rows k)
+  pub new_is_unit : (k : ℕ) → k < length rows → in_span q m (take k rows) (row rows k) ≡ false
+      → row rows k ≡ unit m (rank_of q m (take k rows))
+  pub old_is_normal : (k : ℕ) → k < length rows → in_span q m (take k rows) (row rows k) ≡ true
+      → (row rows k ≡ zeros m) ⊎ IsNormal (row rows k)
   pub reach : (k : ℕ) → k ≤ s → k ≤ length rows → min s m ≤ rank_of q m (take k rows) + (s - k)
 
 -- under a resolution the first rows are the unit vectors, and the later ones are not 0, no unit vectors, and fall

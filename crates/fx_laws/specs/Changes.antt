@@ -25,4 +25,5 @@ IsShort (suc k) (a ∷ v) = IsShort k v
 -- from rank k on, each row is short or the next unit vector, up to the rank n
 abbrev pub IsFormedTo : ℕ → ℕ → List (List ℕ) → ℕ → Type 0
 IsFormedTo m k [] n = k ≡ n
-IsFormedTo m k (r ∷ rows) n = (IsShort k r × IsFormedTo m k rows n) ⊎ ((k < m) × (r ≡ unit m k) × IsFormedTo m (suc k) rows n)
+IsFormedTo m k (r ∷ rows) n =
+    (IsShort k r × IsFormedTo m k rows n) ⊎ ((k < m) × (r ≡ unit m k) × IsFormedTo m (suc k) rows n)

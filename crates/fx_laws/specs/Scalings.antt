@@ -22,4 +22,6 @@ times q (c ∷ cs) (a ∷ u) = mul q c a ∷ times q cs u
 
 -- what is forbidden stays so when entries are multiplied by nonzero codes
 abbrev pub IsScalable : ℕ → ℕ → ℕ → (List ℕ → List ℕ → Type 0) → Type 0
-IsScalable q s t Forbidden = (f b cs ds : List ℕ) → IsVector q s f → IsVector q t b → AreScalars q cs → AreScalars q ds → length cs ≡ s → length ds ≡ t → Forbidden f b → Forbidden (times q cs f) (times q ds b)
+IsScalable q s t Forbidden =
+    (f b cs ds : List ℕ) → IsVector q s f → IsVector q t b → AreScalars q cs → AreScalars q ds → length cs ≡ s
+    → length ds ≡ t → Forbidden f b → Forbidden (times q cs f) (times q ds b)

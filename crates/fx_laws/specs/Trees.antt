@@ -1,6 +1,7 @@
--- Trees of prefixes: what the nodes, the marks and the answer of a question come to, whatever it is that makes a list of rows
--- canonical or allowed. No least pattern is asked.
-use Rattle.std.specs.Prelude.{ℕ, ◌≡◌, ◌==◌, ◌+◌, ◌^◌, ◌&&◌, ◌||◌, not, nat_lt, Bool, true, if◌then◌else◌, List, [], ◌∷◌, ◌++◌, map, filter, length, Option, find}
+-- Trees of prefixes: what the nodes, the marks and the answer of a question come to, whatever it is that makes a list
+-- of rows canonical or allowed. No least pattern is asked.
+use Rattle.std.specs.Prelude.{ℕ, ◌≡◌, ◌==◌, ◌+◌, ◌^◌, ◌&&◌, ◌||◌, not, nat_lt, Bool, true, if◌then◌else◌, List, [], ◌∷◌}
+use Rattle.std.specs.Prelude.{◌++◌, map, filter, length, Option, find}
 use Rattle.std.specs.List.{list_any}
 use Rattle.fx_designs.specs.Problems.{Problem}
 use Rattle.fx_designs.specs.Demands.{is_allowed}
@@ -45,11 +46,14 @@ tree_answer t = find (is_tree_design t) (tree_prefixes t)
 
 -- allowed, not whole, and no design stands before it
 abbrev pub is_tree_branch : Tree → List ℕ → Bool
-is_tree_branch t p = t.allowed p && (nat_lt (length p) t.size && not (list_any (λ d. is_tree_design t d && before d p) (tree_prefixes t)))
+is_tree_branch t p =
+    t.allowed p
+    && (nat_lt (length p) t.size && not (list_any (λ d. is_tree_design t d && before d p) (tree_prefixes t)))
 
 -- canonical, and without its last row empty or a branch, and not after the answer
 abbrev pub is_tree_node : Tree → List ℕ → Bool
-is_tree_node t p = t.canonical p && (((length (parent p) == 0) || is_tree_branch t (parent p)) && is_not_after (tree_answer t) p)
+is_tree_node t p =
+    t.canonical p && (((length (parent p) == 0) || is_tree_branch t (parent p)) && is_not_after (tree_answer t) p)
 
 -- the nodes of a tree, in order
 unfoldable pub tree_nodes : Tree → List (List ℕ)
@@ -57,7 +61,9 @@ tree_nodes t = filter (is_tree_node t) (tree_prefixes t)
 
 -- the mark of a node
 abbrev pub tree_mark : Tree → List ℕ → Mark
-tree_mark t p = (if t.allowed p then (if is_tree_branch t p then Branch (last_row p) else Worse (last_row p)) else Word (last_row p) (t.word p))
+tree_mark t p =
+    (if t.allowed p
+    then (if is_tree_branch t p then Branch (last_row p) else Worse (last_row p)) else Word (last_row p) (t.word p))
 
 -- the marks of all nodes, in order
 unfoldable pub tree_marks : Tree → List Mark

@@ -1,5 +1,6 @@
 -- Walks through a tree of prefixes, seen as lists of the prefixes that they come by.
-use Rattle.std.specs.Prelude.{ℕ, ◌==◌, ◌&&◌, ◌||◌, nat_lt, Bool, if◌then◌else◌, List, [], ◌∷◌, ◌++◌, map, filter, length}
+use Rattle.std.specs.Prelude.{ℕ, ◌==◌, ◌&&◌, ◌||◌, nat_lt, Bool, if◌then◌else◌, List, [], ◌∷◌, ◌++◌, map, filter}
+use Rattle.std.specs.Prelude.{length}
 use Rattle.fx_designs.specs.Answers.{lists}
 use Rattle.fx_designs.specs.Nodes.{parent, last_row, Mark, Branch, Word, Worse}
 use Rattle.fx_laws.specs.Trees.{Tree}
@@ -23,4 +24,7 @@ subtree t k c = c ∷ (if t.allowed c then under t k c else [])
 
 -- the mark of a node, told from the node alone
 abbrev pub mark_at : Tree → List ℕ → Mark
-mark_at t p = (if t.allowed p then (if nat_lt (length p) t.size then Branch (last_row p) else Worse (last_row p)) else Word (last_row p) (t.word p))
+mark_at t p =
+    (if t.allowed p
+    then (if nat_lt (length p) t.size then Branch (last_row p) else Worse (last_row p))
+    else Word (last_row p) (t.word p))

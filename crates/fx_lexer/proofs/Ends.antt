@@ -1,5 +1,6 @@
 -- What the lengths of items mean.
-use Rattle.std.proofs.Common.{◌≡◌, ℕ, zero, suc, ◌+◌, ◌<◌, Bool, true, false, List, [], ◌∷◌, ◌++◌, length, Option, Some, None, refl, sym, ap, ◌∙◌, inl, inr, ◌⊎◌, arith}
+use Rattle.std.proofs.Common.{◌≡◌, ℕ, zero, suc, ◌+◌, ◌<◌, Bool, true, false, List, [], ◌∷◌, ◌++◌, length, Option, Some}
+use Rattle.std.proofs.Common.{None, refl, sym, ap, ◌∙◌, inl, inr, ◌⊎◌, arith}
 use Rattle.std.specs.Prelude.{◌==◌, nat_lt, IsTrue, Contains, slice_index_or}
 use Rattle.std.specs.List.{prefix_len, list_all}
 use Rattle.std.specs.Option.{option_map}
@@ -36,7 +37,8 @@ split sort (b ∷ bytes) =
             all = rw passes r.all;
             ended = r.ended;
           }
-      | inr fails ↦ record { front = []; rest = b ∷ bytes; joined = refl; long = rw fails refl; all = refl; ended = fails }
+      | inr fails ↦
+          record { front = []; rest = b ∷ bytes; joined = refl; long = rw fails refl; all = refl; ended = fails }
     ]
 
 -- up to the first `*/`
@@ -79,7 +81,8 @@ closing_further b bytes (Some n) e h =
       rest = h.rest;
       joined = ap (λ l. b ∷ l) h.joined;
       long = omega (arith, h.long);
-      first = closes_cons b (h.inside ++ 42 ∷ []) (sym (ends_same b h.inside (47 ∷ h.rest)) ∙ ap (λ l. ends_comment (b ∷ l)) (sym h.joined) ∙ e) h.first;
+      first = closes_cons b (h.inside ++ 42 ∷ [])
+          (sym (ends_same b h.inside (47 ∷ h.rest)) ∙ ap (λ l. ends_comment (b ∷ l)) (sym h.joined) ∙ e) h.first;
     }
 
 pub closing_is : (bytes : List ℕ) → ClosingIs bytes (closing_len bytes)
@@ -213,16 +216,19 @@ single_further q b bytes (Some n) differs h =
 
 abbrev QuotedFrom : ℕ → Bool → List ℕ → Type 0
 QuotedFrom q false bytes = QuotedIs q bytes (quoted_len q false bytes)
-QuotedFrom q true bytes = starts_with_byte q bytes ≡ true → QuotedIs q (q ∷ bytes) (option_map suc (quoted_len q true bytes))
+QuotedFrom q true bytes =
+    starts_with_byte q bytes ≡ true → QuotedIs q (q ∷ bytes) (option_map suc (quoted_len q true bytes))
 
 quoted_from : (q : ℕ) (in_pair : Bool) (bytes : List ℕ) → QuotedFrom q in_pair bytes
 quoted_from q false [] = λ h. nothing h.0 h.1 h.2
   where
     nothing : (value rest : List ℕ) → [] ≡ doubled q value ++ q ∷ rest → ⊥
     nothing [] rest j = cc j
-    nothing (x ∷ value) rest j = elim (cases_Bool (x == q)) [ inl is ↦ cc (rw is at j) | inr other ↦ cc (rw other at j) ]
+    nothing (x ∷ value) rest j =
+        elim (cases_Bool (x == q)) [ inl is ↦ cc (rw is at j) | inr other ↦ cc (rw other at j) ]
 quoted_from q true [] = λ e. absurd (cc e)
-quoted_from q true (b ∷ bytes) = λ e. rw (eqb-true b q e) (pair_further q bytes (quoted_len q false bytes) (quoted_from q false bytes))
+quoted_from q true (b ∷ bytes) =
+    λ e. rw (eqb-true b q e) (pair_further q bytes (quoted_len q false bytes) (quoted_from q false bytes))
 quoted_from q false (b ∷ bytes) =
     elim (cases_Bool (b == q)) [
       | inl is ↦
@@ -256,7 +262,11 @@ pub record Fraction (bytes : List ℕ) : Type 0 where
 none_passes : (sort : ℕ → Bool) (bytes : List ℕ) → nat_lt 0 (prefix_len sort bytes) ≡ false
     → begins_with sort bytes ≡ false
 none_passes sort [] e = refl
-none_passes sort (b ∷ bytes) e = elim (cases_Bool (sort b)) [ inl passes ↦ absurd (let k = rw passes at e in let l = ltb-false 0 (1 + prefix_len sort bytes) k in omega arith) | inr fails ↦ fails ]
+none_passes sort (b ∷ bytes) e =
+    elim (cases_Bool (sort b)) [
+      | inl passes ↦ absurd (let k = rw passes at e in let l = ltb-false 0 (1 + prefix_len sort bytes) k in omega arith)
+      | inr fails ↦ fails
+    ]
 
 pub fraction_is : (bytes : List ℕ) → Fraction bytes ⊎ ((fraction_len bytes ≡ 0) × (begins_fraction bytes ≡ false))
 fraction_is [] = inr (refl, refl)

@@ -14,7 +14,9 @@ abbrev fault : ℕ → ℕ → ℕ → Result (List Token) LexFault
 fault kind line column = Err (record { kind = kind; line = line; column = column })
 
 -- comments are no tokens, and `*` is a comment only where a statement starts
-comments : lexed (codes "a=1.5;*x;/*y*/.5") ≡ Ok (token Word 1 1 0 1 ∷ token Sign 1 2 1 2 ∷ token Decimal 1 3 2 5 ∷ token Sign 1 6 5 6 ∷ token Decimal 1 15 14 16 ∷ [])
+comments : lexed (codes "a=1.5;*x;/*y*/.5")
+    ≡ Ok (token Word 1 1 0 1 ∷ token Sign 1 2 1 2 ∷ token Decimal 1 3 2 5 ∷ token Sign 1 6 5 6
+    ∷ token Decimal 1 15 14 16 ∷ [])
 unfolding lexed
 comments = refl
 
@@ -72,7 +74,10 @@ unfolding lexed
 not_white = (refl, refl, refl, refl)
 
 -- the eleven signs, of which `*` stands elsewhere than where a statement starts
-signs : lexed (codes "a*;=()[]/|@-") ≡ Ok (token Word 1 1 0 1 ∷ token Sign 1 2 1 2 ∷ token Sign 1 3 2 3 ∷ token Sign 1 4 3 4 ∷ token Sign 1 5 4 5 ∷ token Sign 1 6 5 6 ∷ token Sign 1 7 6 7 ∷ token Sign 1 8 7 8 ∷ token Sign 1 9 8 9 ∷ token Sign 1 10 9 10 ∷ token Sign 1 11 10 11 ∷ token Sign 1 12 11 12 ∷ [])
+signs : lexed (codes "a*;=()[]/|@-")
+    ≡ Ok (token Word 1 1 0 1 ∷ token Sign 1 2 1 2 ∷ token Sign 1 3 2 3 ∷ token Sign 1 4 3 4 ∷ token Sign 1 5 4 5
+    ∷ token Sign 1 6 5 6 ∷ token Sign 1 7 6 7 ∷ token Sign 1 8 7 8 ∷ token Sign 1 9 8 9 ∷ token Sign 1 10 9 10
+    ∷ token Sign 1 11 10 11 ∷ token Sign 1 12 11 12 ∷ [])
 unfolding lexed
 signs = refl
 

@@ -1,5 +1,7 @@
 -- Which item a piece or a flaw is.
-use Rattle.std.proofs.Common.{◌≡◌, ℕ, suc, ◌+◌, ◌<◌, ◌≤◌, Bool, true, false, not, ◌||◌, List, [], ◌∷◌, ◌++◌, length, drop, Option, Some, None, Result, Ok, Err, refl, sym, ap, ap₂, ◌∙◌, inl, inr, ◌⊎◌, append_assoc, length-append, arith}
+use Rattle.std.proofs.Common.{◌≡◌, ℕ, suc, ◌+◌, ◌<◌, ◌≤◌, Bool, true, false, not, ◌||◌, List, [], ◌∷◌, ◌++◌, length}
+use Rattle.std.proofs.Common.{drop, Option, Some, None, Result, Ok, Err, refl, sym, ap, ap₂, ◌∙◌, inl, inr, ◌⊎◌}
+use Rattle.std.proofs.Common.{append_assoc, length-append, arith}
 use Rattle.std.specs.Prelude.{◌==◌, nat_le, if◌then◌else◌, Contains, codes}
 use Rattle.std.specs.List.{prefix_len, list_all, list_any}
 use Rattle.std.specs.Option.{option_map}
@@ -10,10 +12,13 @@ use Rattle.fx_lexer.specs.declared.token.Kind.{Kind}
 use Rattle.fx_lexer.specs.declared.token.Kind.TheVariants as kind
 use Rattle.fx_lexer.specs.declared.item.Item.{Item}
 use Rattle.fx_lexer.specs.Bytes.{is_white, is_digit, begins_word, is_word_byte, is_sign, is_quote}
-use Rattle.fx_lexer.specs.Extents.{begins_comment, begins_remark, starts_with_byte, closing_len, ends_comment, remark_len, fraction_len, quoted_len}
+use Rattle.fx_lexer.specs.Extents.{begins_comment, begins_remark, starts_with_byte, closing_len, ends_comment}
+use Rattle.fx_lexer.specs.Extents.{remark_len, fraction_len, quoted_len}
 use Rattle.fx_lexer.specs.Items.{item, token, gap, comment_if_closed, quoted_if_closed, limited, number, begins_number}
-use Rattle.fx_lexer.specs.TextPieces.{Piece, white, comment, remark, word, whole, decimal, quoted, sign, begins_with, begins_fraction, doubled, spelling, kind_of, HasForm, IsShort, Closes, EndsQuoted}
-use Rattle.fx_lexer.specs.Flaws.{begins_item, Flaw, open_comment, open_remark, open_quoted, stray, long_piece, flaw_text, fault_kind, IsFlaw}
+use Rattle.fx_lexer.specs.TextPieces.{Piece, white, comment, remark, word, whole, decimal, quoted, sign, begins_with}
+use Rattle.fx_lexer.specs.TextPieces.{begins_fraction, doubled, spelling, kind_of, HasForm, IsShort, Closes, EndsQuoted}
+use Rattle.fx_lexer.specs.Flaws.{begins_item, Flaw, open_comment, open_remark, open_quoted, stray, long_piece}
+use Rattle.fx_lexer.specs.Flaws.{flaw_text, fault_kind, IsFlaw}
 use Rattle.fx_lexer.proofs.Ends.{first_byte, ends_same, ClosingIs, closing_is, RemarkIs, remark_is, QuotedIs, quoted_is}
 
 -- a sort of bytes that c isn't of
@@ -27,7 +32,8 @@ either_of false y e = inr e
 -- bytes of another sort are no white space
 no_white : (sort : ℕ → Bool) (b : ℕ) → sort b ≡ true → sort 32 ≡ false → sort 9 ≡ false → sort 10 ≡ false
     → sort 13 ≡ false → is_white b ≡ false
-no_white sort b is blank tab feed back = rw (differs sort b 32 is blank, differs sort b 9 is tab, differs sort b 10 is feed, differs sort b 13 is back) refl
+no_white sort b is blank tab feed back =
+    rw (differs sort b 32 is blank, differs sort b 9 is tab, differs sort b 10 is feed, differs sort b 13 is back) refl
 
 module _ (start : Bool) (b : ℕ) (bytes : List ℕ) where
   no_remark : (b == 42) ≡ false → begins_remark start (b ∷ bytes) ≡ false
@@ -47,11 +53,13 @@ module _ (start : Bool) (b : ℕ) (bytes : List ℕ) where
 
   item_not_gap : (digits fraction : ℕ) → is_white b ≡ false → begins_comment (b ∷ bytes) ≡ false
       → begins_remark start (b ∷ bytes) ≡ false
-      → prefix_len is_digit (b ∷ bytes) ≡ digits → fraction_len (drop digits (b ∷ bytes)) ≡ fraction → item start (b ∷ bytes) ≡ not_gap digits fraction
+      → prefix_len is_digit (b ∷ bytes) ≡ digits → fraction_len (drop digits (b ∷ bytes)) ≡ fraction
+      → item start (b ∷ bytes) ≡ not_gap digits fraction
   unfolding not_gap
   item_not_gap digits fraction e f g count part =
       let part_at : ℕ → ℕ = λ n. fraction_len (drop n (b ∷ bytes)) in
-      let here : not_gap (prefix_len is_digit (b ∷ bytes)) (part_at (prefix_len is_digit (b ∷ bytes))) ≡ not_gap digits (part_at digits) =
+      let here : not_gap (prefix_len is_digit (b ∷ bytes)) (part_at (prefix_len is_digit (b ∷ bytes)))
+      ≡ not_gap digits (part_at digits) =
       ap (λ n. not_gap n (part_at n)) count
       in
       rw (e, f, g) (here ∙ ap (λ n. not_gap digits n) part)
@@ -97,13 +105,16 @@ no_fraction : (bytes : List ℕ) → begins_fraction bytes ≡ false → fractio
 no_fraction [] e = refl
 no_fraction (b ∷ bytes) e =
     elim (cases_Bool (b == 46)) [
-      | inl point ↦ (let f = rw point at e in let none : prefix_len is_digit bytes ≡ 0 = prefix_all is_digit [] bytes refl f in rw (point, none) refl)
+      | inl point ↦
+          (let f = rw point at e in let none : prefix_len is_digit bytes ≡ 0 = prefix_all is_digit [] bytes refl f in
+          rw (point, none) refl)
       | inr other ↦ rw other refl
     ]
 
 a_fraction : (digits rest : List ℕ) → 0 < length digits → list_all is_digit digits ≡ true
     → begins_with is_digit rest ≡ false → fraction_len (46 ∷ (digits ++ rest)) ≡ 1 + length digits
-a_fraction digits rest some all ended = rw (prefix_all is_digit digits rest all ended, lt-ltb 0 (length digits) some) refl
+a_fraction digits rest some all ended =
+    rw (prefix_all is_digit digits rest all ended, lt-ltb 0 (length digits) some) refl
 
 digit_no_word : (b : ℕ) → is_digit b ≡ true → begins_word b ≡ false
 digit_no_word b is =
@@ -116,12 +127,14 @@ number_byte b = is_digit b || (b == 46)
 
 number_no_word : (b : ℕ) → number_byte b ≡ true → begins_word b ≡ false
 unfolding number_byte
-number_no_word b is = elim (either_of (is_digit b) (b == 46) is) [ inl d ↦ digit_no_word b d | inr p ↦ rw (eqb-true b 46 p) refl ]
+number_no_word b is =
+    elim (either_of (is_digit b) (b == 46) is) [ inl d ↦ digit_no_word b d | inr p ↦ rw (eqb-true b 46 p) refl ]
 
 module _ (start : Bool) (b : ℕ) (bytes : List ℕ) where
   number_item : (digits rest : List ℕ) (fraction : ℕ) → number_byte b ≡ true → b ∷ bytes ≡ digits ++ rest
       → list_all is_digit digits ≡ true → begins_with is_digit rest ≡ false
-      → fraction_len rest ≡ fraction → 0 < length digits + fraction → item start (b ∷ bytes) ≡ number (length digits) fraction
+      → fraction_len rest ≡ fraction → 0 < length digits + fraction
+      → item start (b ∷ bytes) ≡ number (length digits) fraction
   unfolding number_byte
   number_item digits rest fraction is joined all ended part some =
       let count = ap (prefix_len is_digit) joined ∙ prefix_all is_digit digits rest all ended in
@@ -129,7 +142,8 @@ module _ (start : Bool) (b : ℕ) (bytes : List ℕ) where
       let white_not = no_white number_byte b is refl refl refl refl in
       let comment_not = no_comment start b bytes (differs number_byte b 47 is refl) in
       let remark_not = no_remark start b bytes (differs number_byte b 42 is refl) in
-      item_not_gap start b bytes (length digits) fraction white_not comment_not remark_not count (ap fraction_len behind ∙ part)
+      item_not_gap start b bytes (length digits) fraction white_not comment_not remark_not count
+      (ap fraction_len behind ∙ part)
       ∙ number_row start b bytes (length digits) fraction (number_no_word b is) some
 
   word_item : (name rest : List ℕ) → b ∷ bytes ≡ name ++ rest → begins_with begins_word name ≡ true
@@ -182,7 +196,8 @@ length_quoted q [] rest ended = rw (eq-eqb q q refl, ended) refl
 length_quoted q (x ∷ value) rest ended =
     elim (cases_Bool (x == q)) [
       | inl is ↦
-          let more : suc (suc (length (doubled q value) + 1)) ≡ suc (suc (length (doubled q value))) + 1 = omega arith in
+          let more : suc (suc (length (doubled q value) + 1)) ≡ suc (suc (length (doubled q value))) + 1 =
+          omega arith in
           rw (is, eq-eqb q q refl, length_quoted q value rest ended) (ap (λ n. Some n) more)
       | inr other ↦
           let more : suc (length (doubled q value) + 1) ≡ suc (length (doubled q value)) + 1 = omega arith in
@@ -231,16 +246,19 @@ module _ (start : Bool) (b : ℕ) (bytes : List ℕ) where
   without_digits : is_white b ≡ false → begins_comment (b ∷ bytes) ≡ false → begins_remark start (b ∷ bytes) ≡ false
       → is_digit b ≡ false → begins_fraction (b ∷ bytes) ≡ false
       → item start (b ∷ bytes) ≡ not_gap start b bytes 0 0
-  without_digits e f g d p = item_not_gap start b bytes 0 0 e f g (no_digits start b bytes d) (no_fraction (b ∷ bytes) p)
+  without_digits e f g d p =
+      item_not_gap start b bytes 0 0 e f g (no_digits start b bytes d) (no_fraction (b ∷ bytes) p)
 
   pointless : (b == 46) ≡ false → begins_fraction (b ∷ bytes) ≡ false
   pointless e = rw e refl
 
   quote_no_word : is_quote b ≡ true → begins_word b ≡ false
-  quote_no_word is = elim (either_of (b == 39) (b == 34) is) [ inl e ↦ rw (eqb-true b 39 e) refl | inr e ↦ rw (eqb-true b 34 e) refl ]
+  quote_no_word is =
+      elim (either_of (b == 39) (b == 34) is) [ inl e ↦ rw (eqb-true b 39 e) refl | inr e ↦ rw (eqb-true b 34 e) refl ]
 
   quote_no_digit : is_quote b ≡ true → is_digit b ≡ false
-  quote_no_digit is = elim (either_of (b == 39) (b == 34) is) [ inl e ↦ rw (eqb-true b 39 e) refl | inr e ↦ rw (eqb-true b 34 e) refl ]
+  quote_no_digit is =
+      elim (either_of (b == 39) (b == 34) is) [ inl e ↦ rw (eqb-true b 39 e) refl | inr e ↦ rw (eqb-true b 34 e) refl ]
 
   quoted_item : is_quote b ≡ true
       → item start (b ∷ bytes) ≡ quoted_if_closed (option_map suc (quoted_len b false bytes))
@@ -258,12 +276,14 @@ module _ (start : Bool) (b : ℕ) (bytes : List ℕ) where
   sign_item : is_sign b ≡ true → begins_comment (b ∷ bytes) ≡ false → begins_remark start (b ∷ bytes) ≡ false
       → item start (b ∷ bytes) ≡ token kind.Sign 1
   sign_item is comment_not remark_not =
-      without_digits (no_sign_is is_white is refl) comment_not remark_not (no_sign_is is_digit is refl) (pointless (no_sign_is (λ c. c == 46) is refl))
+      without_digits (no_sign_is is_white is refl) comment_not remark_not (no_sign_is is_digit is refl)
+      (pointless (no_sign_is (λ c. c == 46) is refl))
       ∙ sign_row start b bytes (no_sign_is begins_word is refl) (no_sign_is is_quote is refl) is
 
   -- a byte of a sort isn't one that isn't of it
   sort_other : (sort : ℕ → Bool) (c : ℕ) → sort b ≡ false → sort c ≡ true → (b == c) ≡ false
-  sort_other sort c other is = elim (cases_Bool (b == c)) [ inl e ↦ (let k = ap sort (eqb-true b c e) in cc) | inr e ↦ e ]
+  sort_other sort c other is =
+      elim (cases_Bool (b == c)) [ inl e ↦ (let k = ap sort (eqb-true b c e) in cc) | inr e ↦ e ]
 
   neither_is : (x y : Bool) → (x || y) ≡ false → (x ≡ false) × (y ≡ false)
   neither_is true y e = absurd (cc e)
@@ -271,9 +291,14 @@ module _ (start : Bool) (b : ℕ) (bytes : List ℕ) where
 
   stray_item : begins_item b bytes ≡ false → item start (b ∷ bytes) ≡ Err 3
   stray_item none =
-      let sign_not = neither_is (is_white b || begins_word b || is_digit b || begins_fraction (b ∷ bytes) || is_quote b) (is_sign b) none in
-      let quote_not = neither_is (is_white b || begins_word b || is_digit b || begins_fraction (b ∷ bytes)) (is_quote b) sign_not.0 in
-      let fraction_not = neither_is (is_white b || begins_word b || is_digit b) (begins_fraction (b ∷ bytes)) quote_not.0 in
+      let sign_not =
+      neither_is (is_white b || begins_word b || is_digit b || begins_fraction (b ∷ bytes) || is_quote b)
+      (is_sign b) none in
+      let quote_not =
+      neither_is (is_white b || begins_word b || is_digit b || begins_fraction (b ∷ bytes)) (is_quote b) sign_not.0
+      in
+      let fraction_not =
+      neither_is (is_white b || begins_word b || is_digit b) (begins_fraction (b ∷ bytes)) quote_not.0 in
       let digit_not = neither_is (is_white b || begins_word b) (is_digit b) fraction_not.0 in
       let word_not = neither_is (is_white b) (begins_word b) digit_not.0 in
       let comment_not = no_comment start b bytes (sort_other is_sign 47 sign_not.1 refl) in
@@ -321,18 +346,22 @@ module _ (start : Bool) (b : ℕ) (bytes : List ℕ) where
       → list_all is_digit digits ≡ true → begins_with is_digit rest ≡ false → begins_fraction rest ≡ false
       → item start (b ∷ bytes) ≡ limited kind.Whole (length digits) 38 4
   whole_item digits rest some joined all ended pointless =
-      number_item start b bytes digits rest 0 (digit_first digits rest some joined all) joined all ended (no_fraction rest pointless) (omega (arith, some))
+      number_item start b bytes digits rest 0 (digit_first digits rest some joined all) joined all ended
+      (no_fraction rest pointless) (omega (arith, some))
 
   decimal_item : (digits fraction rest : List ℕ) → b ∷ bytes ≡ (digits ++ 46 ∷ fraction) ++ rest
       → list_all is_digit digits ≡ true → 0 < length fraction → list_all is_digit fraction ≡ true
       → begins_with is_digit rest ≡ false
       → item start (b ∷ bytes) ≡ limited kind.Decimal (length (digits ++ 46 ∷ fraction)) 38 4
   decimal_item digits fraction rest joined all some fraction_all ended =
-      let joined' : b ∷ bytes ≡ digits ++ (46 ∷ (fraction ++ rest)) = joined ∙ append_assoc digits (46 ∷ fraction) rest in
+      let joined' : b ∷ bytes ≡ digits ++ (46 ∷ (fraction ++ rest)) =
+      joined ∙ append_assoc digits (46 ∷ fraction) rest in
       let is = point_or_digit digits (fraction ++ rest) joined' all in
       let part = a_fraction fraction rest some fraction_all ended in
-      let size : length digits + (1 + length fraction) ≡ length (digits ++ 46 ∷ fraction) = omega (arith, length-append digits (46 ∷ fraction)) in
-      number_item start b bytes digits (46 ∷ (fraction ++ rest)) (1 + length fraction) is joined' all refl part (omega arith)
+      let size : length digits + (1 + length fraction) ≡ length (digits ++ 46 ∷ fraction) =
+      omega (arith, length-append digits (46 ∷ fraction)) in
+      number_item start b bytes digits (46 ∷ (fraction ++ rest)) (1 + length fraction) is joined' all refl part
+      (omega arith)
       ∙ rw (not_zero (1 + length fraction) (omega arith)) (ap (λ n. limited kind.Decimal n 38 4) size)
 
 -- the item of a piece at the front of a text
@@ -345,18 +374,26 @@ at_front start b bytes text r joined e = ap (item start) joined ∙ e
 
 pub piece_item : (start : Bool) (p : Piece) (rest : List ℕ) (b : ℕ) (bytes : List ℕ) → b ∷ bytes ≡ spelling p ++ rest
     → HasForm start p rest → IsShort p → item start (b ∷ bytes) ≡ item_of p
-piece_item start (white w) rest b bytes joined form short = at_front start b bytes (w ∷ rest) _ joined (white_item start w rest form)
+piece_item start (white w) rest b bytes joined form short =
+    at_front start b bytes (w ∷ rest) _ joined (white_item start w rest form)
 piece_item start (comment inside) rest b bytes joined form short =
     let inner : (inside ++ 42 ∷ 47 ∷ []) ++ rest ≡ inside ++ 42 ∷ 47 ∷ rest = append_assoc inside (42 ∷ 47 ∷ []) rest in
     let found = ap closing_len inner ∙ length_closing inside rest form in
-    let size : 2 + (length inside + 2) ≡ suc (suc (length (inside ++ 42 ∷ 47 ∷ []))) = omega (arith, length-append inside (42 ∷ 47 ∷ [])) in
-    at_front start b bytes _ _ joined (comment_item start ((inside ++ 42 ∷ 47 ∷ []) ++ rest) ∙ ap (λ r. comment_if_closed (option_map (λ n. 2 + n) r)) found ∙ ap gap size)
+    let size : 2 + (length inside + 2) ≡ suc (suc (length (inside ++ 42 ∷ 47 ∷ []))) =
+    omega (arith, length-append inside (42 ∷ 47 ∷ [])) in
+    at_front start b bytes _ _ joined
+    (comment_item start ((inside ++ 42 ∷ 47 ∷ []) ++ rest) ∙ ap (λ r. comment_if_closed (option_map (λ n. 2 + n) r))
+    found ∙ ap gap size)
 piece_item start (remark inside) rest b bytes joined form short =
     let inner : (inside ++ 59 ∷ []) ++ rest ≡ inside ++ 59 ∷ rest = append_assoc inside (59 ∷ []) rest in
     let found = ap remark_len inner ∙ length_remark inside rest form.1 in
-    let size : suc (length inside + 1) ≡ suc (length (inside ++ 59 ∷ [])) = omega (arith, length-append inside (59 ∷ [])) in
-    at_front start b bytes _ _ joined (ap (λ s. item s (42 ∷ ((inside ++ 59 ∷ []) ++ rest))) form.0 ∙ remark_item ((inside ++ 59 ∷ []) ++ rest) ∙ ap (λ r. comment_if_closed (option_map suc r)) found ∙ ap gap size)
-piece_item start (word name) rest b bytes joined form short = word_item start b bytes name rest joined form.0 form.1 form.2
+    let size : suc (length inside + 1) ≡ suc (length (inside ++ 59 ∷ [])) =
+    omega (arith, length-append inside (59 ∷ [])) in
+    at_front start b bytes _ _ joined
+    (ap (λ s. item s (42 ∷ ((inside ++ 59 ∷ []) ++ rest))) form.0 ∙ remark_item ((inside ++ 59 ∷ []) ++ rest) ∙ ap
+    (λ r. comment_if_closed (option_map suc r)) found ∙ ap gap size)
+piece_item start (word name) rest b bytes joined form short =
+    word_item start b bytes name rest joined form.0 form.1 form.2
     ∙ short_is kind.Word (length name) 32 5 short
 piece_item start (whole digits) rest b bytes joined form short =
     whole_item start b bytes digits rest form.0 joined form.1 form.2 form.3
@@ -365,21 +402,31 @@ piece_item start (decimal digits fraction) rest b bytes joined form short =
     decimal_item start b bytes digits fraction rest joined form.0 form.1 form.2 form.3
     ∙ short_is kind.Decimal (length (digits ++ 46 ∷ fraction)) 38 4 short
 piece_item start (quoted q value) rest b bytes joined form short =
-    let inner : (doubled q value ++ q ∷ []) ++ rest ≡ doubled q value ++ q ∷ rest = append_assoc (doubled q value) (q ∷ []) rest in
+    let inner : (doubled q value ++ q ∷ []) ++ rest ≡ doubled q value ++ q ∷ rest =
+    append_assoc (doubled q value) (q ∷ []) rest in
     let found = ap (quoted_len q false) inner ∙ length_quoted q value rest form.1 in
-    let size : suc (length (doubled q value) + 1) ≡ suc (length (doubled q value ++ q ∷ [])) = omega (arith, length-append (doubled q value) (q ∷ [])) in
-    at_front start b bytes _ _ joined (quoted_item start q ((doubled q value ++ q ∷ []) ++ rest) form.0 ∙ ap (λ r. quoted_if_closed (option_map suc r)) found ∙ ap (token kind.Quoted) size)
-piece_item start (sign s) rest b bytes joined form short = at_front start b bytes (s ∷ rest) _ joined (sign_item start s rest form.0 form.1 form.2)
+    let size : suc (length (doubled q value) + 1) ≡ suc (length (doubled q value ++ q ∷ [])) =
+    omega (arith, length-append (doubled q value) (q ∷ [])) in
+    at_front start b bytes _ _ joined
+    (quoted_item start q ((doubled q value ++ q ∷ []) ++ rest) form.0 ∙ ap (λ r. quoted_if_closed (option_map suc r))
+    found ∙ ap (token kind.Quoted) size)
+piece_item start (sign s) rest b bytes joined form short =
+    at_front start b bytes (s ∷ rest) _ joined (sign_item start s rest form.0 form.1 form.2)
 
 -- the fault of a flaw at the front of a text
 pub flaw_item : (start : Bool) (flaw : Flaw) (b : ℕ) (bytes : List ℕ) → b ∷ bytes ≡ flaw_text flaw → IsFlaw start flaw
     → item start (b ∷ bytes) ≡ Err (fault_kind flaw)
 flaw_item start (open_comment inside) b bytes joined form =
-    at_front start b bytes _ _ joined (comment_item start inside ∙ ap (λ r. comment_if_closed (option_map (λ n. 2 + n) r)) (no_closing inside form))
+    at_front start b bytes _ _ joined
+    (comment_item start inside ∙ ap (λ r. comment_if_closed (option_map (λ n. 2 + n) r)) (no_closing inside form))
 flaw_item start (open_remark inside) b bytes joined form =
-    at_front start b bytes _ _ joined (ap (λ s. item s (42 ∷ inside)) form.0 ∙ remark_item inside ∙ ap (λ r. comment_if_closed (option_map suc r)) (no_remark_end inside form.1))
+    at_front start b bytes _ _ joined
+    (ap (λ s. item s (42 ∷ inside)) form.0 ∙ remark_item inside ∙ ap (λ r. comment_if_closed (option_map suc r))
+    (no_remark_end inside form.1))
 flaw_item start (open_quoted q inside) b bytes joined form =
-    at_front start b bytes _ _ joined (quoted_item start q inside form.0 ∙ ap (λ r. quoted_if_closed (option_map suc r)) (no_quoted_end q inside form.1))
+    at_front start b bytes _ _ joined
+    (quoted_item start q inside form.0 ∙ ap (λ r. quoted_if_closed (option_map suc r))
+    (no_quoted_end q inside form.1))
 flaw_item start (stray s rest) b bytes joined form = at_front start b bytes _ _ joined (stray_item start s rest form)
 flaw_item start (long_piece p rest) b bytes joined form = too_long p joined form.0 form.1
   where
@@ -392,7 +439,8 @@ flaw_item start (long_piece p rest) b bytes joined form = too_long p joined form
         ∙ long_is kind.Word (length name) 32 5 long
     too_long (whole digits) joined form long = whole_item start b bytes digits rest form.0 joined form.1 form.2 form.3
         ∙ long_is kind.Whole (length digits) 38 4 long
-    too_long (decimal digits fraction) joined form long = decimal_item start b bytes digits fraction rest joined form.0 form.1 form.2 form.3
+    too_long (decimal digits fraction) joined form long =
+        decimal_item start b bytes digits fraction rest joined form.0 form.1 form.2 form.3
         ∙ long_is kind.Decimal (length (digits ++ 46 ∷ fraction)) 38 4 long
     too_long (quoted q value) joined form long = absurd (long tt)
     too_long (sign s) joined form long = absurd (long tt)

@@ -1,5 +1,6 @@
 -- One byte further in a comment or a quoted text.
-use Rattle.std.proofs.Common.{◌≡◌, ℕ, suc, ◌+◌, ◌<◌, Bool, false, List, length, get_or, drop, Option, Some, None, refl, ap, arith}
+use Rattle.std.proofs.Common.{◌≡◌, ℕ, suc, ◌+◌, ◌<◌, Bool, false, List, length, get_or, drop, Option, Some, None, refl}
+use Rattle.std.proofs.Common.{ap, arith}
 use Rattle.std.specs.Option.{option_map}
 use Rattle.std.proofs.Math.Seq.{drop-cons}
 use Rattle.std.proofs.Math.Numerals.{add-one}
@@ -26,5 +27,6 @@ module _ (bytes : List ℕ) (i : ℕ) (inside : i < length bytes) where
       ≡ further (i + 1) (quoted_len q (opens_pair q in_pair (get_or bytes i 0)) (drop (i + 1) bytes))
   quoted_later q in_pair e =
       let here = rw (drop-cons bytes i 0 inside) at e in
-      let later = rw add-one at (further_suc i (quoted_len q (opens_pair q in_pair (get_or bytes i 0)) (drop (suc i) bytes))) in
+      let later =
+      rw add-one at (further_suc i (quoted_len q (opens_pair q in_pair (get_or bytes i 0)) (drop (suc i) bytes))) in
       rw (drop-cons bytes i 0 inside, here, add-one) later

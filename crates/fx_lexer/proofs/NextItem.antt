@@ -1,5 +1,6 @@
 -- One item further.
-use Rattle.std.proofs.Common.{◌∙◌, ◌≡◌, ℕ, zero, suc, ◌+◌, ◌-◌, ◌<◌, ◌≤◌, Bool, List, ◌++◌, length, get_or, take, drop, Result, Ok, Err, refl, sym, ap, subst, append_assoc, append-nil, arith}
+use Rattle.std.proofs.Common.{◌∙◌, ◌≡◌, ℕ, zero, suc, ◌+◌, ◌-◌, ◌<◌, ◌≤◌, Bool, List, ◌++◌, length, get_or, take, drop}
+use Rattle.std.proofs.Common.{Result, Ok, Err, refl, sym, ap, subst, append_assoc, append-nil, arith}
 use Rattle.std.proofs.Math.Seq.{drop-cons}
 use Rattle.std.proofs.lemmas.List.{drop_all}
 use Rattle.std.proofs.Math.Numerals.{add-one}
@@ -23,15 +24,20 @@ module _ (text : List ℕ) where
 module _ (text : List ℕ) (start : Bool) where
   -- the item at i, and then the rest
   pub item_read : (i : ℕ) (it : Item) → item start (drop i text) ≡ Ok it → 0 < it.length → i + it.length ≤ length text
-      → lexed_from text 0 start i (drop i text) ≡ in_front (tokens_of (place_after (take i text)) i it) (lexed_from text 0 (starts_after start it (get_or text i 0)) (i + it.length) (drop (i + it.length) text))
+      → lexed_from text 0 start i (drop i text)
+      ≡ in_front (tokens_of (place_after (take i text)) i it)
+      (lexed_from text 0 (starts_after start it (get_or text i 0)) (i + it.length) (drop (i + it.length) text))
   item_read i it e positive fits =
       let inside : i < length text = omega arith in
       let f = rw (drop-cons text i 0 inside) at e in
       let next = starts_after start it (get_or text i 0) in
       let g : i + 1 + (it.length - 1) ≡ i + it.length = omega arith in
       let rest = rw g at (passed_from text next (it.length - 1) (i + 1) (omega arith)) in
-      let P : ℕ → Type 0 = λ m. lexed_from text (it.length - 1) next (i + 1) (drop m text) ≡ lexed_from text 0 next (i + it.length) (drop (i + it.length) text) in
-      rw (drop-cons text i 0 inside, f) (ap (λ r. in_front (tokens_of (place_after (take i text)) i it) r) (subst P (add-one i) rest))
+      let P : ℕ → Type 0 =
+      λ m. lexed_from text (it.length - 1) next (i + 1) (drop m text)
+      ≡ lexed_from text 0 next (i + it.length) (drop (i + it.length) text) in
+      rw (drop-cons text i 0 inside, f)
+      (ap (λ r. in_front (tokens_of (place_after (take i text)) i it) r) (subst P (add-one i) rest))
 
 -- more tokens in front
 pub in_front_twice : (a b : List Token) (r : Result (List Token) LexFault)

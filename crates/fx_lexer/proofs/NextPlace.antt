@@ -1,5 +1,6 @@
 -- One byte further: its line and column.
-use Rattle.std.proofs.Common.{◌≡◌, ℕ, ◌+◌, ◌<◌, ◌≤◌, Bool, true, false, cond, not, List, length, get_or, take, reverse, refl, arith, inl, inr}
+use Rattle.std.proofs.Common.{◌≡◌, ℕ, ◌+◌, ◌<◌, ◌≤◌, Bool, true, false, cond, not, List, length, get_or, take, reverse}
+use Rattle.std.proofs.Common.{refl, arith, inl, inr}
 use Rattle.std.specs.Prelude.{◌==◌}
 use Rattle.std.proofs.Math.Seq.{take-suc}
 use Rattle.std.proofs.Math.Numerals.{add-one}
@@ -33,4 +34,10 @@ module _ (text : List ℕ) (i : ℕ) where
   line_small h = omega (arith, count_by-le-length (λ b. b == 10) (take i text), length-take i text)
 
   pub column_small : i ≤ length text → column_after (take i text) ≤ i + 1
-  column_small h = omega (arith, prefix_len-le-length (λ b. not (b == 10)) (reverse (take i text)), length-reverse (take i text), length-take i text)
+  column_small h =
+      omega (
+        arith,
+        prefix_len-le-length (λ b. not (b == 10)) (reverse (take i text)),
+        length-reverse (take i text),
+        length-take i text,
+      )

@@ -1,20 +1,27 @@
 -- What the item that a text begins with is: a piece, or a flaw.
-use Rattle.std.proofs.Common.{◌≡◌, ℕ, suc, ◌+◌, ◌<◌, ◌≤◌, Bool, true, false, ◌||◌, List, [], ◌∷◌, ◌++◌, length, drop, Option, Some, None, Result, Ok, Err, refl, sym, ap, subst, ◌∙◌, inl, inr, append_assoc, length-append, arith}
+use Rattle.std.proofs.Common.{◌≡◌, ℕ, suc, ◌+◌, ◌<◌, ◌≤◌, Bool, true, false, ◌||◌, List, [], ◌∷◌, ◌++◌, length, drop}
+use Rattle.std.proofs.Common.{Option, Some, None, Result, Ok, Err, refl, sym, ap, subst, ◌∙◌, inl, inr, append_assoc}
+use Rattle.std.proofs.Common.{length-append, arith}
 use Rattle.std.specs.Prelude.{◌==◌, nat_le, if◌then◌else◌, IsTrue}
 use Rattle.std.specs.List.{prefix_len, list_all}
 use Rattle.std.specs.Option.{option_map}
-use Rattle.std.proofs.lemmas.Bool.{eqb-true, eq-eqb, leb-true, leb-false, ltb-false, ltb-true, or_from, cases_Bool, and_parts}
+use Rattle.std.proofs.lemmas.Bool.{eqb-true, eq-eqb, leb-true, leb-false, ltb-false, ltb-true, or_from, cases_Bool}
+use Rattle.std.proofs.lemmas.Bool.{and_parts}
 use Rattle.std.proofs.Math.Seq.{drop-append_seam}
 use Rattle.fx_lexer.specs.declared.token.Kind.{Kind}
 use Rattle.fx_lexer.specs.declared.token.Kind.TheVariants as kind
 use Rattle.fx_lexer.specs.declared.item.Item.{Item}
 use Rattle.fx_lexer.specs.Bytes.{is_white, is_digit, begins_word, is_word_byte, is_sign, is_quote}
-use Rattle.fx_lexer.specs.Extents.{begins_comment, begins_remark, starts_with_byte, closing_len, remark_len, fraction_len, quoted_len}
+use Rattle.fx_lexer.specs.Extents.{begins_comment, begins_remark, starts_with_byte, closing_len, remark_len}
+use Rattle.fx_lexer.specs.Extents.{fraction_len, quoted_len}
 use Rattle.fx_lexer.specs.Items.{item, token, gap, comment_if_closed, quoted_if_closed, limited, number, begins_number}
 use Rattle.fx_lexer.specs.Lexing.{starts_after}
-use Rattle.fx_lexer.specs.TextPieces.{Piece, white, comment, remark, word, whole, decimal, quoted, sign, begins_with, begins_fraction, doubled, spelling, kind_of, starts_behind, HasForm, IsShort}
-use Rattle.fx_lexer.specs.Flaws.{Flaw, open_comment, open_remark, open_quoted, stray, long_piece, flaw_text, fault_kind, IsFlaw}
-use Rattle.fx_lexer.proofs.Ends.{first_byte, split, ClosingIs, closing_is, RemarkIs, remark_is, QuotedIs, quoted_is, Fraction, fraction_is}
+use Rattle.fx_lexer.specs.TextPieces.{Piece, white, comment, remark, word, whole, decimal, quoted, sign, begins_with}
+use Rattle.fx_lexer.specs.TextPieces.{begins_fraction, doubled, spelling, kind_of, starts_behind, HasForm, IsShort}
+use Rattle.fx_lexer.specs.Flaws.{Flaw, open_comment, open_remark, open_quoted, stray, long_piece, flaw_text, fault_kind}
+use Rattle.fx_lexer.specs.Flaws.{IsFlaw}
+use Rattle.fx_lexer.proofs.Ends.{first_byte, split, ClosingIs, closing_is, RemarkIs, remark_is, QuotedIs, quoted_is}
+use Rattle.fx_lexer.proofs.Ends.{Fraction, fraction_is}
 
 -- the item is this piece
 pub record IsPiece (start : Bool) (b : ℕ) (bytes : List ℕ) (it : Item) : Type 0 where
@@ -45,11 +52,22 @@ choose P false x y f g = g refl
 
 -- a sort of bytes that `;` isn't of
 no_semicolon : (sort : ℕ → Bool) (b : ℕ) → sort b ≡ true → sort 59 ≡ false → (b == 59) ≡ false
-no_semicolon sort b is other = elim (cases_Bool (b == 59)) [ inl e ↦ (let k = ap sort (eqb-true b 59 e) in cc) | inr e ↦ e ]
+no_semicolon sort b is other =
+    elim (cases_Bool (b == 59)) [ inl e ↦ (let k = ap sort (eqb-true b 59 e) in cc) | inr e ↦ e ]
 
 module _ (start : Bool) (b : ℕ) (bytes : List ℕ) where
   white_is : IsTrue (is_white b) → ItemIs start b bytes (gap 1)
-  white_is h = record { piece = white b; rest = bytes; joined = refl; form = h; short = tt; kind = refl; long = refl; behind = refl }
+  white_is h =
+      record {
+        piece = white b;
+        rest = bytes;
+        joined = refl;
+        form = h;
+        short = tt;
+        kind = refl;
+        long = refl;
+        behind = refl;
+      }
 
   comment_at : (inner : List ℕ) (r : Option ℕ) → ClosingIs inner r
       → ItemIs start 47 (42 ∷ inner) (comment_if_closed (option_map (λ n. 2 + n) r))
@@ -119,16 +137,28 @@ module _ (start : Bool) (b : ℕ) (bytes : List ℕ) where
   -- a word or a number, within its limit or above it
   limited_is : (p : Piece) (rest : List ℕ) (k : Kind) (n limit fault : ℕ) → b ∷ bytes ≡ spelling p ++ rest
       → HasForm start p rest
-      → Some k ≡ kind_of p → n ≡ length (spelling p) → (b == 59) ≡ starts_behind start p → fault ≡ fault_kind (long_piece p rest)
+      → Some k ≡ kind_of p → n ≡ length (spelling p) → (b == 59) ≡ starts_behind start p
+      → fault ≡ fault_kind (long_piece p rest)
       → (n ≤ limit → IsShort p) → (limit < n → ¬ IsShort p) → ItemIs start b bytes (limited k n limit fault)
   limited_is p rest k n limit fault joined form is long behind cause short over =
       choose (ItemIs start b bytes) (nat_le n limit) (token k n) (Err fault)
-      (λ h. record { piece = p; rest = rest; joined = joined; form = form; short = short (leb-true n limit h); kind = is; long = long; behind = behind })
-      (λ h. record { flaw = long_piece p rest; joined = joined; form = (form, over (leb-false n limit h)); kind = cause })
+      (λ h. record {
+        piece = p;
+        rest = rest;
+        joined = joined;
+        form = form;
+        short = short (leb-true n limit h);
+        kind = is;
+        long = long;
+        behind = behind;
+      })
+      (λ h. record
+      { flaw = long_piece p rest; joined = joined; form = (form, over (leb-false n limit h)); kind = cause })
 
   front_first : (sort : ℕ → Bool) → sort b ≡ true → (front rest : List ℕ) → b ∷ bytes ≡ front ++ rest
       → begins_with sort rest ≡ false → (tail : List ℕ) × (front ≡ b ∷ tail)
-  front_first sort is [] rest joined ended = absurd (let k : sort b ≡ begins_with sort rest = ap (begins_with sort) joined in cc)
+  front_first sort is [] rest joined ended =
+      absurd (let k : sort b ≡ begins_with sort rest = ap (begins_with sort) joined in cc)
   front_first sort is (x ∷ front) rest joined ended = (front, cc)
 
   word_found : IsTrue (begins_word b)
@@ -137,8 +167,10 @@ module _ (start : Bool) (b : ℕ) (bytes : List ℕ) where
       let r = split is_word_byte (b ∷ bytes) in
       let first = front_first is_word_byte (rw h refl) r.front r.rest r.joined r.ended in
       let begins = ap (begins_with begins_word) first.1 ∙ h in
-      limited_is (word r.front) r.rest kind.Word (prefix_len is_word_byte (b ∷ bytes)) 32 5 r.joined (begins, r.all, r.ended) refl (sym r.long)
-      (no_semicolon begins_word b h refl) refl (λ few. omega (arith, r.long, few)) (λ many short. omega (arith, r.long, many, short))
+      limited_is (word r.front) r.rest kind.Word (prefix_len is_word_byte (b ∷ bytes)) 32 5 r.joined
+      (begins, r.all, r.ended) refl (sym r.long)
+      (no_semicolon begins_word b h refl) refl (λ few. omega (arith, r.long, few))
+      (λ many short. omega (arith, r.long, many, short))
 
   all_first : (sort : ℕ → Bool) (front rest : List ℕ) → b ∷ bytes ≡ front ++ rest → 0 < length front
       → list_all sort front ≡ true → sort b ≡ true
@@ -150,28 +182,33 @@ module _ (start : Bool) (b : ℕ) (bytes : List ℕ) where
   decimal_first : (front digits rest : List ℕ) → b ∷ bytes ≡ front ++ (46 ∷ digits ++ rest)
       → list_all is_digit front ≡ true → (b == 59) ≡ false
   decimal_first [] digits rest joined all = let e : b ≡ 46 = cc in rw e refl
-  decimal_first (x ∷ front) digits rest joined all = no_semicolon is_digit b (all_first is_digit (x ∷ front) (46 ∷ digits ++ rest) joined (omega arith) all) refl
+  decimal_first (x ∷ front) digits rest joined all =
+      no_semicolon is_digit b (all_first is_digit (x ∷ front) (46 ∷ digits ++ rest) joined (omega arith) all) refl
 
-  module _ (front rest : List ℕ) (joined : b ∷ bytes ≡ front ++ rest) (all : IsTrue (list_all is_digit front)) (ended : begins_with is_digit rest ≡ false) where
+  module _ (front rest : List ℕ) (joined : b ∷ bytes ≡ front ++ rest) (all : IsTrue (list_all is_digit front))
+      (ended : begins_with is_digit rest ≡ false) where
     whole_found : begins_fraction rest ≡ false → 0 < length front
         → ItemIs start b bytes (limited kind.Whole (length front) 38 4)
     whole_found pointless some =
         limited_is (whole front) rest kind.Whole (length front) 38 4 joined (some, all, ended, pointless) refl refl
-        (no_semicolon is_digit b (all_first is_digit front rest joined some all) refl) refl (λ few. few) (λ many short. omega (arith, many, short))
+        (no_semicolon is_digit b (all_first is_digit front rest joined some all) refl) refl (λ few. few)
+        (λ many short. omega (arith, many, short))
 
     decimal_found : (f : Fraction rest) (n : ℕ) → n ≡ length front + fraction_len rest
         → ItemIs start b bytes (limited kind.Decimal n 38 4)
     decimal_found f n long =
         let is : b ∷ bytes ≡ front ++ (46 ∷ f.digits ++ f.rest) = joined ∙ ap (λ l. front ++ l) f.joined in
         let size : n ≡ length (front ++ 46 ∷ f.digits) = omega (arith, length-append front (46 ∷ f.digits), f.long) in
-        limited_is (decimal front f.digits) f.rest kind.Decimal n 38 4 (is ∙ sym (append_assoc front (46 ∷ f.digits) f.rest))
+        limited_is (decimal front f.digits) f.rest kind.Decimal n 38 4
+        (is ∙ sym (append_assoc front (46 ∷ f.digits) f.rest))
         (all, f.some, f.all, f.ended) refl size (decimal_first front f.digits f.rest is all) refl
         (λ few. omega (arith, few, size)) (λ many short. omega (arith, many, short, size))
 
     number_at : (n : ℕ) → n ≡ fraction_len rest → 0 < length front + n
         → ItemIs start b bytes (number (length front) n)
     number_at n long some =
-        choose (ItemIs start b bytes) (n == 0) (limited kind.Whole (length front) 38 4) (limited kind.Decimal (length front + n) 38 4)
+        choose (ItemIs start b bytes) (n == 0) (limited kind.Whole (length front) 38 4)
+        (limited kind.Decimal (length front + n) 38 4)
         (λ e.
         let none = eqb-true n 0 e in
         elim (fraction_is rest) [
@@ -239,8 +276,12 @@ module _ (start : Bool) (b : ℕ) (bytes : List ℕ) where
       → is_sign b ≡ false → ItemIs start b bytes (Err 3)
   stray_found no_white no_word no_number no_quote no_sign =
       let digit = no_digit no_number in
-      let letter = or_from (is_white b || begins_word b) (is_digit b) (or_from (is_white b) (begins_word b) no_white no_word) digit in
-      let point = or_from (is_white b || begins_word b || is_digit b) (begins_fraction (b ∷ bytes)) letter (no_fraction digit no_number) in
+      let letter =
+      or_from (is_white b || begins_word b) (is_digit b) (or_from (is_white b) (begins_word b) no_white no_word)
+      digit in
+      let point =
+      or_from (is_white b || begins_word b || is_digit b) (begins_fraction (b ∷ bytes)) letter
+      (no_fraction digit no_number) in
       record {
         flaw = stray b bytes;
         joined = refl;

@@ -1,5 +1,7 @@
 -- What a text is: its pieces, or pieces up to a flaw.
-use Rattle.std.proofs.Common.{◌≡◌, ℕ, zero, suc, ◌+◌, ◌-◌, ◌<◌, ◌≤◌, Bool, true, List, [], ◌∷◌, ◌++◌, length, take, Result, Ok, Err, refl, sym, ap, subst, ◌∙◌, append_assoc, length-append, append-nil, add-zero, arith}
+use Rattle.std.proofs.Common.{◌≡◌, ℕ, zero, suc, ◌+◌, ◌-◌, ◌<◌, ◌≤◌, Bool, true, List, [], ◌∷◌, ◌++◌, length, take}
+use Rattle.std.proofs.Common.{Result, Ok, Err, refl, sym, ap, subst, ◌∙◌, append_assoc, length-append, append-nil}
+use Rattle.std.proofs.Common.{add-zero, arith}
 use Rattle.std.proofs.Math.Seq.{take-append_seam}
 use Rattle.fx_lexer.specs.declared.item.Item.{Item}
 use Rattle.fx_lexer.specs.declared.token.Token.{Token}
@@ -8,7 +10,9 @@ use Rattle.fx_lexer.specs.Places.{place_after}
 use Rattle.fx_lexer.specs.Items.{item}
 use Rattle.fx_lexer.specs.Lexing.{lexed, lexed_from, in_front, at_item, tokens_of, starts_after, fault_at}
 use Rattle.fx_lexer.specs.Bytes.{begins_word}
-use Rattle.fx_lexer.specs.TextPieces.{Piece, white, comment, remark, word, whole, decimal, quoted, sign, begins_with, spelling, starts_behind, starts_behind_all, HasForm, text_of, AreFormed, tokens_among, IsMadeOf}
+use Rattle.fx_lexer.specs.TextPieces.{Piece, white, comment, remark, word, whole, decimal, quoted, sign, begins_with}
+use Rattle.fx_lexer.specs.TextPieces.{spelling, starts_behind, starts_behind_all, HasForm, text_of, AreFormed}
+use Rattle.fx_lexer.specs.TextPieces.{tokens_among, IsMadeOf}
 use Rattle.fx_lexer.specs.Flaws.{Flaw, flaw_text, fault_kind, IsFlaw, BreaksOff}
 use Rattle.fx_lexer.proofs.PieceOfItem.{IsPiece, ItemIs, item_is}
 
@@ -91,11 +95,13 @@ module _ (before : List ℕ) (start : Bool) (b : ℕ) (bytes : List ℕ) where
 
   -- the item at hand and then the rest, of which `later` tells
   from_item : (n : ℕ) → length (b ∷ bytes) ≤ suc n
-      → ((before rest : List ℕ) (start : Bool) → length rest ≤ n → Outcome before rest start (lexed_from (before ++ rest) 0 start (length before) rest))
+      → ((before rest : List ℕ) (start : Bool) → length rest ≤ n
+      → Outcome before rest start (lexed_from (before ++ rest) 0 start (length before) rest))
       → (r : Result Item ℕ) → ItemIs start b bytes r
       → Outcome before (b ∷ bytes) start
       (at_item (fault_at (place_after before))
-      (λ i. in_front (tokens_of (place_after before) (length before) i) (lexed_from (before ++ b ∷ bytes) (i.length - 1) (starts_after start i b) (length before + 1) bytes))
+      (λ i. in_front (tokens_of (place_after before) (length before) i)
+      (lexed_from (before ++ b ∷ bytes) (i.length - 1) (starts_after start i b) (length before + 1) bytes))
       r)
   from_item n few later (Err k) h =
       record {
@@ -111,9 +117,13 @@ module _ (before : List ℕ) (start : Bool) (b : ℕ) (bytes : List ℕ) where
       let size = ap length h.joined in
       let fewer : length h.rest ≤ n = omega (arith, few, size, some, length-append (spelling h.piece) h.rest) in
       let then = later (before ++ spelling h.piece) h.rest (starts_behind start h.piece) fewer in
-      let text : (before ++ spelling h.piece) ++ h.rest ≡ before ++ b ∷ bytes = append_assoc before (spelling h.piece) h.rest ∙ ap (λ l. before ++ l) (sym h.joined) in
-      let place : length (before ++ spelling h.piece) ≡ length before + it.length = omega (arith, length-append before (spelling h.piece), h.long) in
-      let past = item_passed (before ++ b ∷ bytes) (starts_behind start h.piece) (spelling h.piece) h.rest b bytes it.length (length before) h.joined some h.long in
+      let text : (before ++ spelling h.piece) ++ h.rest ≡ before ++ b ∷ bytes =
+      append_assoc before (spelling h.piece) h.rest ∙ ap (λ l. before ++ l) (sym h.joined) in
+      let place : length (before ++ spelling h.piece) ≡ length before + it.length =
+      omega (arith, length-append before (spelling h.piece), h.long) in
+      let past =
+      item_passed (before ++ b ∷ bytes) (starts_behind start h.piece) (spelling h.piece) h.rest b bytes it.length
+      (length before) h.joined some h.long in
       rw (h.behind, past) (one_more it h _ (rw (text, place) at then))
 
 pub outcome : (n : ℕ) (before rest : List ℕ) (start : Bool) → length rest ≤ n
@@ -121,15 +131,25 @@ pub outcome : (n : ℕ) (before rest : List ℕ) (start : Bool) → length rest 
 outcome n before [] start few = record { pieces = []; joined = refl; formed = tt; tokens_are = refl }
 outcome zero before (b ∷ bytes) start few = absurd (omega (arith, few))
 outcome (suc n) before (b ∷ bytes) start few =
-    rw (place_here before start b bytes) (from_item before start b bytes n few (outcome n) (item start (b ∷ bytes)) (item_is start b bytes))
+    rw (place_here before start b bytes)
+    (from_item before start b bytes n few (outcome n) (item start (b ∷ bytes)) (item_is start b bytes))
 
 abbrev pub Whole : List ℕ → Result (List Token) LexFault → Type 0
 Whole text (Ok tokens) = IsMadeOf text tokens
 Whole text (Err fault) = BreaksOff text fault
 
 whole_of : (text : List ℕ) (r : Result (List Token) LexFault) → Outcome [] text true r → Whole text r
-whole_of text (Ok tokens) h = record { pieces = h.pieces; joined = h.joined; formed = h.formed; tokens_are = h.tokens_are }
-whole_of text (Err fault) h = record { pieces = h.pieces; flaw = h.flaw; joined = h.joined; formed = h.formed; form = h.form; fault_is = h.fault_is }
+whole_of text (Ok tokens) h =
+    record { pieces = h.pieces; joined = h.joined; formed = h.formed; tokens_are = h.tokens_are }
+whole_of text (Err fault) h =
+    record {
+      pieces = h.pieces;
+      flaw = h.flaw;
+      joined = h.joined;
+      formed = h.formed;
+      form = h.form;
+      fault_is = h.fault_is;
+    }
 
 -- the tokens or the fault of a text are those of its pieces
 pub text_is : (text : List ℕ) → Whole text (lexed text)

@@ -1,5 +1,7 @@
 -- The tokens among pieces, and where they lie.
-use Rattle.std.proofs.Common.{◌≡◌, ℕ, ◌+◌, ◌-◌, ◌<◌, ◌≤◌, Bool, true, List, [], ◌∷◌, ◌++◌, length, drop, map, Option, Some, None, Result, Ok, Err, refl, sym, ap, ap₂, subst, ◌∙◌, append_assoc, length-append, append-nil, arith}
+use Rattle.std.proofs.Common.{◌≡◌, ℕ, ◌+◌, ◌-◌, ◌<◌, ◌≤◌, Bool, true, List, [], ◌∷◌, ◌++◌, length, drop, map, Option}
+use Rattle.std.proofs.Common.{Some, None, Result, Ok, Err, refl, sym, ap, ap₂, subst, ◌∙◌, append_assoc, length-append}
+use Rattle.std.proofs.Common.{append-nil, arith}
 use Rattle.std.specs.Prelude.{All, slice_range, filter_map, IfOk}
 use Rattle.std.specs.List.{cons_option}
 use Rattle.std.specs.Option.{option_map}
@@ -10,7 +12,8 @@ use Rattle.fx_lexer.specs.declared.token.Kind.{Kind}
 use Rattle.fx_lexer.specs.declared.token.LexFault.{LexFault}
 use Rattle.fx_lexer.specs.Places.{place_after}
 use Rattle.fx_lexer.specs.Lexing.{lexed, token_at, tokens_of_kind}
-use Rattle.fx_lexer.specs.TextPieces.{Piece, spelling, kind_of, starts_behind, HasForm, IsShort, text_of, AreFormed, tokens_among}
+use Rattle.fx_lexer.specs.TextPieces.{Piece, spelling, kind_of, starts_behind, HasForm, IsShort, text_of, AreFormed}
+use Rattle.fx_lexer.specs.TextPieces.{tokens_among}
 use Rattle.fx_lexer.specs.Tokens.{token_text, IsToken, AreInOrder}
 use Rattle.fx_lexer.proofs.PiecesOfText.{some_bytes, Whole, text_is}
 
@@ -26,7 +29,8 @@ module _ (before middle behind : List ℕ) (upto : ℕ) (end : upto ≡ length b
       let size : upto ≡ length (before ++ middle) = end ∙ sym (length-append before middle) in
       rw (size, ← append_assoc) (drop-append_seam (before ++ middle) behind)
 
-module _ (before : List ℕ) (p : Piece) (rest : List ℕ) (start : Bool) (form : HasForm start p rest) (short : IsShort p) where
+module _ (before : List ℕ) (p : Piece) (rest : List ℕ) (start : Bool) (form : HasForm start p rest)
+    (short : IsShort p) where
   token_is : (k : Kind) → kind_of p ≡ Some k
       → IsToken (before ++ (spelling p ++ rest)) (token_at (place_after before) (length before) k (length (spelling p)))
   token_is k is =
@@ -39,14 +43,18 @@ module _ (before : List ℕ) (p : Piece) (rest : List ℕ) (start : Bool) (form 
         some = omega (arith, some_bytes start p rest form);
         inside = omega (arith, length-append before (spelling p ++ rest), length-append (spelling p) rest);
         bytes = middle_range before (spelling p) rest (length before + length (spelling p)) refl;
-        form = subst (λ l. HasForm start p l) (sym (behind_middle before (spelling p) rest (length before + length (spelling p)) refl)) form;
+        form = subst (λ l. HasForm start p l)
+            (sym (behind_middle before (spelling p) rest (length before + length (spelling p)) refl)) form;
         short = short;
       }
 
   its_token : (o : Option Kind) → kind_of p ≡ o
-      → All (IsToken (before ++ (spelling p ++ rest))) (tokens_of_kind (place_after before) (length before) o (length (spelling p)))
+      → All (IsToken (before ++ (spelling p ++ rest)))
+      (tokens_of_kind (place_after before) (length before) o (length (spelling p)))
   its_token None is = All-nil (IsToken (before ++ (spelling p ++ rest)))
-  its_token (Some k) is = All-cons (IsToken (before ++ (spelling p ++ rest))) _ [] (token_is k is) (All-nil (IsToken (before ++ (spelling p ++ rest))))
+  its_token (Some k) is =
+      All-cons (IsToken (before ++ (spelling p ++ rest))) _ [] (token_is k is)
+      (All-nil (IsToken (before ++ (spelling p ++ rest))))
 
 pub each_token : (pieces : List Piece) (before : List ℕ) (start : Bool) → AreFormed start pieces []
     → All (IsToken (before ++ text_of pieces [])) (tokens_among before pieces)
@@ -67,17 +75,21 @@ each_of_text text = by (lexed text) (text_is text)
 module _ (before : List ℕ) (p : Piece) (rest : List ℕ) where
   text_first : (o : Option Kind) (tokens : List Token) (texts : List (List ℕ))
       → map (λ (t : Token). slice_range (before ++ (spelling p ++ rest)) t.from t.upto) tokens ≡ texts
-      → map (λ (t : Token). slice_range (before ++ (spelling p ++ rest)) t.from t.upto) (tokens_of_kind (place_after before) (length before) o (length (spelling p)) ++ tokens)
+      → map (λ (t : Token). slice_range (before ++ (spelling p ++ rest)) t.from t.upto)
+      (tokens_of_kind (place_after before) (length before) o (length (spelling p)) ++ tokens)
       ≡ cons_option (option_map (λ k. spelling p) o) texts
   text_first None tokens texts e = e
-  text_first (Some k) tokens texts e = ap₂ (λ x xs. x ∷ xs) (middle_range before (spelling p) rest (length before + length (spelling p)) refl) e
+  text_first (Some k) tokens texts e =
+      ap₂ (λ x xs. x ∷ xs) (middle_range before (spelling p) rest (length before + length (spelling p)) refl) e
 
 -- the bytes of their spans are those of the pieces
 pub texts_among : (pieces : List Piece) (before : List ℕ)
-    → map (λ (t : Token). slice_range (before ++ text_of pieces []) t.from t.upto) (tokens_among before pieces) ≡ filter_map token_text pieces
+    → map (λ (t : Token). slice_range (before ++ text_of pieces []) t.from t.upto) (tokens_among before pieces)
+    ≡ filter_map token_text pieces
 texts_among [] before = refl
 texts_among (p ∷ pieces) before =
-    text_first before p (text_of pieces []) (kind_of p) (tokens_among (before ++ spelling p) pieces) (filter_map token_text pieces)
+    text_first before p (text_of pieces []) (kind_of p) (tokens_among (before ++ spelling p) pieces)
+    (filter_map token_text pieces)
     (rw append_assoc at (texts_among pieces (before ++ spelling p)))
 
 order_sooner : (tokens : List Token) (from sooner upto : ℕ) → sooner ≤ from → AreInOrder from upto tokens
@@ -88,8 +100,10 @@ order_sooner (t ∷ tokens) from sooner upto e h = (omega (arith, e, h.0), h.1, 
 order_first : (before : List ℕ) (p : Piece) (upto : ℕ) (o : Option Kind) (tokens : List Token)
     → 0 < length (spelling p)
     → AreInOrder (length before + length (spelling p)) upto tokens
-    → AreInOrder (length before) upto (tokens_of_kind (place_after before) (length before) o (length (spelling p)) ++ tokens)
-order_first before p upto None tokens some h = order_sooner tokens (length before + length (spelling p)) (length before) upto (omega arith) h
+    → AreInOrder (length before) upto
+    (tokens_of_kind (place_after before) (length before) o (length (spelling p)) ++ tokens)
+order_first before p upto None tokens some h =
+    order_sooner tokens (length before + length (spelling p)) (length before) upto (omega arith) h
 order_first before p upto (Some k) tokens some h = (omega arith, omega (arith, some), h)
 
 -- they stand in order
@@ -98,7 +112,8 @@ pub in_order : (pieces : List Piece) (before : List ℕ) (start : Bool) → AreF
 in_order [] before start formed = rw append-nil (omega arith)
 in_order (p ∷ pieces) before start formed =
     let later = in_order pieces (before ++ spelling p) (starts_behind start p) formed.2 in
-    order_first before p (length (before ++ (spelling p ++ text_of pieces []))) (kind_of p) _ (some_bytes start p (text_of pieces []) formed.0)
+    order_first before p (length (before ++ (spelling p ++ text_of pieces []))) (kind_of p) _
+    (some_bytes start p (text_of pieces []) formed.0)
     (rw (append_assoc, length-append before (spelling p)) at later)
 
 pub in_order_of_text : (text : List ℕ) → IfOk (lexed text) (λ tokens. AreInOrder 0 (length text) tokens)

@@ -1,5 +1,6 @@
 -- What is read from pieces.
-use Rattle.std.proofs.Common.{◌≡◌, ℕ, ◌+◌, Bool, true, List, [], ◌∷◌, ◌++◌, length, take, Result, Ok, Err, refl, sym, ap, ap₂, ◌∙◌, append_assoc, length-append, append-nil, add-zero, arith}
+use Rattle.std.proofs.Common.{◌≡◌, ℕ, ◌+◌, Bool, true, List, [], ◌∷◌, ◌++◌, length, take, Result, Ok, Err, refl, sym}
+use Rattle.std.proofs.Common.{ap, ap₂, ◌∙◌, append_assoc, length-append, append-nil, add-zero, arith}
 use Rattle.std.specs.Prelude.{◌==◌}
 use Rattle.std.proofs.Math.Seq.{take-append_seam}
 use Rattle.fx_lexer.specs.declared.token.Token.{Token}
@@ -7,11 +8,15 @@ use Rattle.fx_lexer.specs.declared.token.LexFault.{LexFault}
 use Rattle.fx_lexer.specs.Places.{place_after}
 use Rattle.fx_lexer.specs.Bytes.{begins_word, is_quote}
 use Rattle.fx_lexer.specs.Lexing.{lexed, lexed_from, in_front, tokens_of_kind, starts_after, fault_at}
-use Rattle.fx_lexer.specs.TextPieces.{Piece, white, comment, remark, word, whole, decimal, quoted, sign, spelling, kind_of, starts_behind, starts_behind_all, HasForm, IsShort, text_of, AreFormed, tokens_among, IsMadeOf}
-use Rattle.fx_lexer.specs.Flaws.{Flaw, open_comment, open_remark, open_quoted, stray, long_piece, flaw_text, fault_kind, IsFlaw, BreaksOff}
+use Rattle.fx_lexer.specs.TextPieces.{Piece, white, comment, remark, word, whole, decimal, quoted, sign, spelling}
+use Rattle.fx_lexer.specs.TextPieces.{kind_of, starts_behind, starts_behind_all, HasForm, IsShort, text_of, AreFormed}
+use Rattle.fx_lexer.specs.TextPieces.{tokens_among, IsMadeOf}
+use Rattle.fx_lexer.specs.Flaws.{Flaw, open_comment, open_remark, open_quoted, stray, long_piece, flaw_text, fault_kind}
+use Rattle.fx_lexer.specs.Flaws.{IsFlaw, BreaksOff}
 use Rattle.fx_lexer.proofs.PiecesOfText.{some_bytes, item_passed}
 use Rattle.fx_lexer.proofs.NextItem.{in_front_twice}
-use Rattle.fx_lexer.proofs.ItemOfPiece.{differs, no_semicolon_number, digit_first, point_or_digit, piece_item, flaw_item}
+use Rattle.fx_lexer.proofs.ItemOfPiece.{differs, no_semicolon_number, digit_first, point_or_digit, piece_item}
+use Rattle.fx_lexer.proofs.ItemOfPiece.{flaw_item}
 
 -- whether a statement starts after a piece, by its first byte
 behind : (start : Bool) (p : Piece) (rest : List ℕ) (b : ℕ) (bytes : List ℕ) → b ∷ bytes ≡ spelling p ++ rest
@@ -24,22 +29,33 @@ behind start (word []) rest b bytes joined form = absurd (cc form.0)
 behind start (word (x ∷ name)) rest b bytes joined form =
     let same : b ≡ x = cc joined in
     differs begins_word b 59 (ap begins_word same ∙ form.0) refl
-behind start (whole digits) rest b bytes joined form = no_semicolon_number b (digit_first start b bytes digits rest form.0 joined form.1)
+behind start (whole digits) rest b bytes joined form =
+    no_semicolon_number b (digit_first start b bytes digits rest form.0 joined form.1)
 behind start (decimal digits fraction) rest b bytes joined form =
-    no_semicolon_number b (point_or_digit start b bytes digits (fraction ++ rest) (joined ∙ append_assoc digits (46 ∷ fraction) rest) form.0)
+    no_semicolon_number b
+    (point_or_digit start b bytes digits (fraction ++ rest) (joined ∙ append_assoc digits (46 ∷ fraction) rest)
+    form.0)
 behind start (quoted q value) rest b bytes joined form =
     let same : b ≡ q = cc joined in
     differs is_quote b 59 (ap is_quote same ∙ form.0) refl
 behind start (sign s) rest b bytes joined form = let same : b ≡ s = cc joined in ap (λ c. c == 59) same
 
-module _ (before : List ℕ) (start : Bool) (p : Piece) (rest : List ℕ) (form : HasForm start p rest) (short : IsShort p) where
+module _ (before : List ℕ) (start : Bool) (p : Piece) (rest : List ℕ) (form : HasForm start p rest)
+    (short : IsShort p) where
   one_read : (text bytes : List ℕ) → bytes ≡ spelling p ++ rest → text ≡ before ++ (spelling p ++ rest)
       → lexed_from text 0 start (length before) bytes
-      ≡ in_front (tokens_of_kind (place_after before) (length before) (kind_of p) (length (spelling p))) (lexed_from text 0 (starts_behind start p) (length before + length (spelling p)) rest)
-  one_read text [] joined all = absurd (let size = ap length joined in omega (arith, some_bytes start p rest form, size, length-append (spelling p) rest))
+      ≡ in_front (tokens_of_kind (place_after before) (length before) (kind_of p) (length (spelling p)))
+      (lexed_from text 0 (starts_behind start p) (length before + length (spelling p)) rest)
+  one_read text [] joined all =
+      absurd (let size = ap length joined in
+      omega (arith, some_bytes start p rest form, size, length-append (spelling p) rest))
   one_read text (b ∷ bytes) joined all =
-      let place = ap (λ l. place_after (take (length before) l)) all ∙ ap place_after (take-append_seam before (spelling p ++ rest)) in
-      let past = item_passed text (starts_behind start p) (spelling p) rest b bytes (length (spelling p)) (length before) joined (some_bytes start p rest form) refl in
+      let place =
+      ap (λ l. place_after (take (length before) l)) all ∙ ap place_after
+      (take-append_seam before (spelling p ++ rest)) in
+      let past =
+      item_passed text (starts_behind start p) (spelling p) rest b bytes (length (spelling p)) (length before)
+      joined (some_bytes start p rest form) refl in
       rw (piece_item start p rest b bytes joined form short, behind start p rest b bytes joined form, past, place) refl
 
 none_in_front : (r : Result (List Token) LexFault) → in_front [] r ≡ r
@@ -50,13 +66,21 @@ none_in_front (Err fault) = refl
 pub pieces_read : (pieces : List Piece) (before rest text : List ℕ) (start : Bool) → AreFormed start pieces rest
     → text ≡ before ++ text_of pieces rest
     → lexed_from text 0 start (length before) (text_of pieces rest)
-    ≡ in_front (tokens_among before pieces) (lexed_from text 0 (starts_behind_all start pieces) (length before + length (text_of pieces [])) rest)
+    ≡ in_front (tokens_among before pieces)
+    (lexed_from text 0 (starts_behind_all start pieces) (length before + length (text_of pieces [])) rest)
 pieces_read [] before rest text start formed all = rw (none_in_front, add-zero) refl
 pieces_read (p ∷ pieces) before rest text start formed all =
-    let first = one_read before start p (text_of pieces rest) formed.0 formed.1 text (spelling p ++ text_of pieces rest) refl all in
-    let size : length (before ++ spelling p) ≡ length before + length (spelling p) = length-append before (spelling p) in
-    let later = pieces_read pieces (before ++ spelling p) rest text (starts_behind start p) formed.2 (all ∙ sym (append_assoc before (spelling p) (text_of pieces rest))) in
-    let far : length before + length (spelling p) + length (text_of pieces []) ≡ length before + length (spelling p ++ text_of pieces []) = omega (arith, length-append (spelling p) (text_of pieces [])) in
+    let first =
+    one_read before start p (text_of pieces rest) formed.0 formed.1 text (spelling p ++ text_of pieces rest) refl
+    all in
+    let size : length (before ++ spelling p) ≡ length before + length (spelling p) =
+    length-append before (spelling p) in
+    let later =
+    pieces_read pieces (before ++ spelling p) rest text (starts_behind start p) formed.2
+    (all ∙ sym (append_assoc before (spelling p) (text_of pieces rest))) in
+    let far : length before + length (spelling p) + length (text_of pieces [])
+    ≡ length before + length (spelling p ++ text_of pieces []) =
+    omega (arith, length-append (spelling p) (text_of pieces [])) in
     first ∙ ap (in_front _) (rw (size, far) at later) ∙ in_front_twice _ _ _
 
 text_in_two : (pieces : List Piece) (rest : List ℕ) → text_of pieces rest ≡ text_of pieces [] ++ rest
@@ -95,6 +119,8 @@ fault_found text fault h =
     let rest = flaw_text h.flaw in
     let start = starts_behind_all true h.pieces in
     let first = pieces_read h.pieces [] rest text true h.formed h.joined in
-    let then = fault_behind text start (0 + length (text_of h.pieces [])) h.flaw (text_of h.pieces []) rest refl (h.joined ∙ text_in_two h.pieces rest) (omega arith) h.form in
+    let then =
+    fault_behind text start (0 + length (text_of h.pieces [])) h.flaw (text_of h.pieces []) rest refl
+    (h.joined ∙ text_in_two h.pieces rest) (omega arith) h.form in
     ap (lexed_from text 0 true 0) h.joined ∙ first ∙ ap (in_front (tokens_among [] h.pieces)) then
     ∙ ap (λ f. Err f) (sym h.fault_is)

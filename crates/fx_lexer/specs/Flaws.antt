@@ -1,10 +1,12 @@
 -- What is at fault in a text that has no tokens.
-use Rattle.std.specs.Prelude.{◌≡◌, ℕ, nat_le, ◌&&◌, ◌||◌, Bool, true, false, List, [], ◌∷◌, ◌++◌, Contains, IsTrue, codes}
+use Rattle.std.specs.Prelude.{◌≡◌, ℕ, nat_le, ◌&&◌, ◌||◌, Bool, true, false, List, [], ◌∷◌, ◌++◌, Contains, IsTrue}
+use Rattle.std.specs.Prelude.{codes}
 use Rattle.fx_lexer.specs.declared.token.LexFault.{LexFault}
 use Rattle.fx_lexer.specs.Bytes.{is_white, is_digit, begins_word, is_sign, is_quote}
 use Rattle.fx_lexer.specs.Places.{place_after, IsPlaceIn}
 use Rattle.fx_lexer.specs.Lexing.{fault_at}
-use Rattle.fx_lexer.specs.TextPieces.{Piece, word, spelling, begins_fraction, Closes, EndsQuoted, HasForm, IsShort, text_of, AreFormed, starts_behind_all}
+use Rattle.fx_lexer.specs.TextPieces.{Piece, word, spelling, begins_fraction, Closes, EndsQuoted, HasForm, IsShort}
+use Rattle.fx_lexer.specs.TextPieces.{text_of, AreFormed, starts_behind_all}
 
 -- What isn't a piece, with all that follows: a comment, a remark or a quoted text with no end; a byte that begins no
 -- item; a piece that is too long.
@@ -36,8 +38,8 @@ fault_kind (long_piece _ rest) = 4
 abbrev pub begins_item : ℕ → List ℕ → Bool
 begins_item b rest = is_white b || begins_word b || is_digit b || begins_fraction (b ∷ rest) || is_quote b || is_sign b
 
--- that it is a flaw, where a statement starts here or not: nothing ends what was begun, no item begins here, or the piece
--- is longer than its kind may be
+-- that it is a flaw, where a statement starts here or not: nothing ends what was begun, no item begins here, or the
+-- piece is longer than its kind may be
 abbrev pub IsFlaw : Bool → Flaw → Type 0
 IsFlaw start (open_comment inside) = ¬ Closes inside
 IsFlaw start (open_remark inside) = IsTrue start × ¬ Contains inside 59

@@ -1,5 +1,6 @@
 -- What a text is made of: pieces, one after another. This says what a text is; Items and Lexing compute it.
-use Rattle.std.specs.Prelude.{◌≡◌, ℕ, ◌==◌, ◌<◌, ◌≤◌, ◌&&◌, Bool, true, false, List, [], ◌∷◌, ◌++◌, length, drop, flat_map, Contains, IsTrue, Option, Some, None, if◌then◌else◌, codes}
+use Rattle.std.specs.Prelude.{◌≡◌, ℕ, ◌==◌, ◌<◌, ◌≤◌, ◌&&◌, Bool, true, false, List, [], ◌∷◌, ◌++◌, length, drop}
+use Rattle.std.specs.Prelude.{flat_map, Contains, IsTrue, Option, Some, None, if◌then◌else◌, codes}
 use Rattle.std.specs.List.{list_all}
 use Rattle.fx_lexer.specs.declared.token.Kind.{Kind}
 use Rattle.fx_lexer.specs.declared.token.Kind.TheVariants as kind
@@ -75,8 +76,8 @@ EndsQuoted quote bytes =
     × (starts_with_byte quote rest ≡ false)
 
 -- The form of a piece before the bytes `rest`, but for its length. A comment ends with its first `*/`, and a remark,
--- which is allowed only where a statement starts, with its first `;`. Words and digits go on as long as they can. A quote
--- that follows a quoted text would be one of a pair. A `/` or `*` that begins a comment or a remark is no sign.
+-- which is allowed only where a statement starts, with its first `;`. Words and digits go on as long as they can. A
+-- quote that follows a quoted text would be one of a pair. A `/` or `*` that begins a comment or a remark is no sign.
 abbrev pub HasForm : Bool → Piece → List ℕ → Type 0
 HasForm start (white b) rest = IsTrue (is_white b)
 HasForm start (comment inside) rest = ¬ Closes (inside ++ codes "*")

@@ -104,7 +104,8 @@ too_many_rows : refused_at blocks.Without (codes "output out=b pointrep=12501 ra
 unfolding refused_at
 too_many_rows = refl
 
-large_seed : refused_at blocks.Without (codes "output out=b pointrep=12500 blockname=A randomize(18446744073709551616);") 19 51
+large_seed : refused_at blocks.Without
+    (codes "output out=b pointrep=12500 blockname=A randomize(18446744073709551616);") 19 51
 unfolding refused_at
 large_seed = refl
 

@@ -1,5 +1,6 @@
 -- Recoded factors are read from left to right, one place after another.
-use Rattle.std.proofs.Common.{◌≡◌, ℕ, suc, ◌+◌, ◌-◌, ◌<◌, ◌≤◌, true, false, List, [], ◌∷◌, ◌++◌, length, drop, Ok, refl, sym, ap, ◌∙◌, arith}
+use Rattle.std.proofs.Common.{◌≡◌, ℕ, suc, ◌+◌, ◌-◌, ◌<◌, ◌≤◌, true, false, List, [], ◌∷◌, ◌++◌, length, drop, Ok, refl}
+use Rattle.std.proofs.Common.{sym, ap, ◌∙◌, arith}
 use Rattle.std.specs.Prelude.{slice_index_or}
 use Rattle.std.proofs.Math.Numerals.{add-one}
 use Rattle.std.proofs.Math.Seq.{drop-cons}
@@ -12,7 +13,8 @@ use Rattle.fx_outputs.specs.Contexts.{Context}
 use Rattle.fx_outputs.specs.Recodes.{is_recoded, recode_of, recodes_behind}
 
 -- what stands at an index stands first in what is left from there on
-first_left : (xs : List Written) (i : ℕ) (w : Written) → i < length xs → w ≡ slice_index_or xs i w → drop i xs ≡ w ∷ drop (i + 1) xs
+first_left : (xs : List Written) (i : ℕ) (w : Written) → i < length xs → w ≡ slice_index_or xs i w
+    → drop i xs ≡ w ∷ drop (i + 1) xs
 first_left xs i w h e = rw add-one (drop-cons xs i w h ∙ ap (λ v. v ∷ drop (suc i) xs) (sym e))
 
 -- the name before the word at i, and what stands before the name
@@ -33,7 +35,8 @@ two_left_next xs i name word h low n w =
     ap (λ k. drop k xs) at ∙ two_left xs i name word h low n w
 
 pub three_left : (xs : List Written) (i : ℕ) (before name word : Written) → 2 ≤ i → i < length xs
-    → before ≡ slice_index_or xs (i - 2) before → name ≡ slice_index_or xs (i - 1) name → word ≡ slice_index_or xs i word
+    → before ≡ slice_index_or xs (i - 2) before → name ≡ slice_index_or xs (i - 1) name
+    → word ≡ slice_index_or xs i word
     → drop (i - 2) xs ≡ before ∷ name ∷ word ∷ drop (i + 1) xs
 three_left xs i before name word h low b n w =
     let at : i - 2 + 1 ≡ i - 1 = omega arith in
@@ -42,22 +45,27 @@ three_left xs i before name word h low b n w =
     ∙ ap (λ l. before ∷ l) (two_left xs i name word h low n w)
 
 -- after the last name there is none
-pub none_left : (context : Context) (earlier : List Recode) (xs : List Written) → length xs ≤ 2 → recodes_behind context earlier xs ≡ Ok earlier
+pub none_left : (context : Context) (earlier : List Recode) (xs : List Written) → length xs ≤ 2
+    → recodes_behind context earlier xs ≡ Ok earlier
 none_left context earlier [] h = refl
 none_left context earlier (a ∷ []) h = refl
 none_left context earlier (a ∷ b ∷ []) h = refl
 none_left context earlier (a ∷ b ∷ w ∷ rest) h = absurd (omega arith)
 
 module _ (context : Context) (earlier : List Recode) (before name word : Written) (rest : List Written) where
-  pub refused : (reason : ParseStop) → true ≡ is_recoded before name word → IsRefused (recode_of context earlier name word rest) reason
+  pub refused : (reason : ParseStop) → true ≡ is_recoded before name word
+      → IsRefused (recode_of context earlier name word rest) reason
       → IsRefused (recodes_behind context earlier (before ∷ name ∷ word ∷ rest)) reason
   refused (stop.Refused refusal) t h = rw (← t, h) refl
   refused stop.NoMemory t h = tt
 
-  pub read : (recode : Recode) → true ≡ is_recoded before name word → recode_of context earlier name word rest ≡ Ok recode
-      → recodes_behind context earlier (before ∷ name ∷ word ∷ rest) ≡ recodes_behind context (earlier ++ recode ∷ []) (name ∷ word ∷ rest)
+  pub read : (recode : Recode) → true ≡ is_recoded before name word
+      → recode_of context earlier name word rest ≡ Ok recode
+      → recodes_behind context earlier (before ∷ name ∷ word ∷ rest)
+      ≡ recodes_behind context (earlier ++ recode ∷ []) (name ∷ word ∷ rest)
   read recode t h = rw (← t, h) refl
 
   pub passed : false ≡ is_recoded before name word
-      → recodes_behind context earlier (before ∷ name ∷ word ∷ rest) ≡ recodes_behind context earlier (name ∷ word ∷ rest)
+      → recodes_behind context earlier (before ∷ name ∷ word ∷ rest)
+      ≡ recodes_behind context earlier (name ∷ word ∷ rest)
   passed t = rw (← t) refl

@@ -29,9 +29,12 @@ module _ (context : Context) where
       through (replication_of Designrep s) _ output (IsWithinLimits context output) e (λ designrep by_design e.
       through (check_rows context.runs pointrep designrep name) _ output (IsWithinLimits context output) e (λ u few e.
       through (shuffle_of s) _ output (IsWithinLimits context output) e (λ shuffle asked e.
-      through (check_blockname context.blocks (slice_get blockname 0)) _ output (IsWithinLimits context output) e (λ u named e.
-      through (check_column context word (slice_get blockname 2)) _ output (IsWithinLimits context output) e (λ u free e.
-      through (block_values context.blocks (slice_get blockname 3) (drop 4 blockname)) _ output (IsWithinLimits context output) e (λ values given e.
+      through (check_blockname context.blocks (slice_get blockname 0)) _ output (IsWithinLimits context output) e
+      (λ u named e.
+      through (check_column context word (slice_get blockname 2)) _ output (IsWithinLimits context output) e
+      (λ u free e.
+      through (block_values context.blocks (slice_get blockname 3) (drop 4 blockname)) _ output
+      (IsWithinLimits context output) e (λ values given e.
       through (recodes_of context s) _ output (IsWithinLimits context output) e (λ recodes read e.
       let made : OutputSpec = record {
         name = name.text;
@@ -56,15 +59,18 @@ module _ (context : Context) where
   first : (outputs all : List OutputSpec) (flag : Bool) (read : Result OutputSpec Refusal)
       (later : OutputSpec → Result (List OutputSpec) Refusal) (passed : Result (List OutputSpec) Refusal)
       → ((output : OutputSpec) → read ≡ Ok output → IsWithinLimits context output)
-      → ((output : OutputSpec) → All (IsWithinLimits context) (outputs ++ output ∷ []) → later output ≡ Ok all → All (IsWithinLimits context) all)
+      → ((output : OutputSpec) → All (IsWithinLimits context) (outputs ++ output ∷ []) → later output ≡ Ok all
+      → All (IsWithinLimits context) all)
       → (passed ≡ Ok all → All (IsWithinLimits context) all)
       → All (IsWithinLimits context) outputs
       → (if flag then (read >>= later) else passed) ≡ Ok all → All (IsWithinLimits context) all
   first outputs all false read later passed within go pass h e = pass e
   first outputs all true (Err refusal) later passed within go pass h e = absurd (cc e)
-  first outputs all true (Ok output) later passed within go pass h e = go output (All-push (IsWithinLimits context) outputs output h (within output refl)) e
+  first outputs all true (Ok output) later passed within go pass h e =
+      go output (All-push (IsWithinLimits context) outputs output h (within output refl)) e
 
-  within : (statements : List (List Written)) (earlier : List (List ℕ)) (outputs all : List OutputSpec) → All (IsWithinLimits context) outputs
+  within : (statements : List (List Written)) (earlier : List (List ℕ)) (outputs all : List OutputSpec)
+      → All (IsWithinLimits context) outputs
       → outputs_behind context earlier outputs statements ≡ Ok all → All (IsWithinLimits context) all
   within [] earlier outputs all h e = let same : outputs ≡ all = cc e in subst (All (IsWithinLimits context)) same h
   within ([] ∷ rest) earlier outputs all h e = within rest earlier outputs all h e
@@ -73,7 +79,8 @@ module _ (context : Context) where
   within ((a ∷ b ∷ c ∷ []) ∷ rest) earlier outputs all h e = within rest earlier outputs all h e
   within ((a ∷ b ∷ c ∷ d ∷ options) ∷ rest) earlier outputs all h e =
       first outputs all (is Output a.symbol) (output_of context earlier a d (d ∷ options))
-      (λ output. outputs_behind context (earlier ++ output.name ∷ []) (outputs ++ output ∷ []) rest) (outputs_behind context earlier outputs rest)
+      (λ output. outputs_behind context (earlier ++ output.name ∷ []) (outputs ++ output ∷ []) rest)
+      (outputs_behind context earlier outputs rest)
       (output_within earlier a d (d ∷ options))
       (λ output good more. within rest (earlier ++ output.name ∷ []) (outputs ++ output ∷ []) all good more)
       (λ more. within rest earlier outputs all h more) h e

@@ -1,5 +1,6 @@
 -- The names of an OUTPUT statement, by the grammar.
-use Rattle.std.proofs.Common.{◌≡◌, eqb, Bool, true, false, List, [], ◌∷◌, ◌++◌, refl, sym, ap, ap₂, ◌∙◌, inl, inr, ◌⊎◌, append_assoc}
+use Rattle.std.proofs.Common.{◌≡◌, eqb, Bool, true, false, List, [], ◌∷◌, ◌++◌, refl, sym, ap, ap₂, ◌∙◌, inl, inr, ◌⊎◌}
+use Rattle.std.proofs.Common.{append_assoc}
 use Rattle.std.specs.Prelude.{if◌then◌else◌, not, ◌&&◌}
 use Rattle.std.specs.List.{AllByRecursion, flat_map, list_any}
 use Rattle.std.proofs.lemmas.Bool.{eqb-true, or_parts}
@@ -28,7 +29,8 @@ pub blockname_alone : (s : Symbol) → is symbol.Blockname s ≡ true → symbol
 blockname_alone symbol.Blockname h = refl
 blockname_alone s h = absurd (let f : false ≡ true = h in cc)
 
-passed : (before w : Written) (rest : List Written) → is symbol.Blockname w.symbol ≡ false → from_blockname (before ∷ w ∷ rest) ≡ from_blockname (w ∷ rest)
+passed : (before w : Written) (rest : List Written) → is symbol.Blockname w.symbol ≡ false
+    → from_blockname (before ∷ w ∷ rest) ≡ from_blockname (w ∷ rest)
 passed before w rest differs = rw differs refl
 
 -- no option begins in what lacks its word
@@ -41,18 +43,23 @@ skip before (w ∷ part) rest lack =
     (later.0, passed before w (part ++ rest) parts.0 ∙ later.1)
 
 -- the option begins here, or its words are passed
-begun : (before b e w : Written) (rest : List Written) → is symbol.Blockname b.symbol ≡ true → is symbol.Equals e.symbol ≡ true → is_word w.symbol ≡ true
+begun : (before b e w : Written) (rest : List Written) → is symbol.Blockname b.symbol ≡ true
+    → is symbol.Equals e.symbol ≡ true → is_word w.symbol ≡ true
     → IsRead (from_blockname (w ∷ rest)) → IsRead (from_blockname (before ∷ b ∷ e ∷ w ∷ rest))
 begun before b e w rest hb he hw later = by_sign (is symbol.Equals before.symbol) refl
   where
     other : is symbol.Blockname e.symbol ≡ false
     other = ap (λ n. eqb (index symbol.Blockname) n) (sym (eqb-true (index symbol.Equals) (index e.symbol) he))
 
-    by_sign : (sign : Bool) → is symbol.Equals before.symbol ≡ sign → IsRead (from_blockname (before ∷ b ∷ e ∷ w ∷ rest))
-    by_sign false differs = inr (record { word = b; equals = e; name = w; rest = rest; all = rw (hb, differs) refl; sign = he; is_name = hw })
+    by_sign : (sign : Bool) → is symbol.Equals before.symbol ≡ sign
+        → IsRead (from_blockname (before ∷ b ∷ e ∷ w ∷ rest))
+    by_sign false differs =
+        inr (record
+        { word = b; equals = e; name = w; rest = rest; all = rw (hb, differs) refl; sign = he; is_name = hw })
     by_sign true it = rw (hb, it) (rw other (by_word (is symbol.Blockname w.symbol) refl))
       where
-        by_word : (word : Bool) → is symbol.Blockname w.symbol ≡ word → IsRead (if word && not (is symbol.Equals e.symbol) then w ∷ rest else from_blockname (w ∷ rest))
+        by_word : (word : Bool) → is symbol.Blockname w.symbol ≡ word
+            → IsRead (if word && not (is symbol.Equals e.symbol) then w ∷ rest else from_blockname (w ∷ rest))
         by_word false differs = later
         by_word true it = rw he later
 
@@ -72,7 +79,18 @@ three : (s : List Written) (x y z : Symbol) (l : List Symbol) → symbols_in s �
 three [] x y z l h = absurd (cc h)
 three (a ∷ []) x y z l h = absurd (cc h)
 three (a ∷ b ∷ []) x y z l h = absurd (cc h)
-three (a ∷ b ∷ c ∷ others) x y z l h = record { a = a; b = b; c = c; others = others; all = refl; a_is = cc h; b_is = cc h; c_is = cc h; others_are = cc h }
+three (a ∷ b ∷ c ∷ others) x y z l h =
+    record {
+      a = a;
+      b = b;
+      c = c;
+      others = others;
+      all = refl;
+      a_is = cc h;
+      b_is = cc h;
+      c_is = cc h;
+      others_are = cc h;
+    }
 
 module _ (front rest : List Written) (later : (last : Written) → IsRead (from_blockname (last ∷ rest))) where
   -- behind what lacks the word
@@ -80,40 +98,60 @@ module _ (front rest : List Written) (later : (last : Written) → IsRead (from_
   behind before lack = let s = skip before front rest lack in rw s.1 (later s.0)
 
   -- an option without the word
-  without : (shape : Shape) (part : List Symbol) → lacks symbol.Blockname shape ≡ true → symbols_in front ≡ part → Matches shape part
+  without : (shape : Shape) (part : List Symbol) → lacks symbol.Blockname shape ≡ true → symbols_in front ≡ part
+      → Matches shape part
       → (before : Written) → IsRead (from_blockname (before ∷ front ++ rest))
   without shape part lack same m before =
-      behind before (any_written symbol.Blockname front ∙ ap (list_any (is symbol.Blockname)) same ∙ none symbol.Blockname blockname_alone shape part lack m)
+      behind before
+      (any_written symbol.Blockname front ∙ ap (list_any (is symbol.Blockname)) same ∙ none symbol.Blockname
+      blockname_alone shape part lack m)
 
 -- the option itself
 with_name : (front rest : List Written) (part : List Symbol) → symbols_in front ≡ part
-    → Matches (Before (One (is symbol.Blockname)) (Before (One (is symbol.Equals)) (Before (One is_word) (Either grammar.values Empty)))) part
-    → ((last : Written) → IsRead (from_blockname (last ∷ rest))) → (before : Written) → IsRead (from_blockname (before ∷ front ++ rest))
-with_name front rest part same (x1, y1, (b, hb, eb), (x2, y2, (e, he, ee), (x3, y3, (w, hw, ew), v, i3), i2), i1) later before =
-    let text : part ≡ b ∷ e ∷ w ∷ y3 = i1 ∙ ap₂ (λ (l k : List Symbol). l ++ k) eb (i2 ∙ ap₂ (λ (l k : List Symbol). l ++ k) ee (i3 ∙ ap (λ (l : List Symbol). l ++ y3) ew)) in
+    → Matches (Before (One (is symbol.Blockname))
+    (Before (One (is symbol.Equals)) (Before (One is_word) (Either grammar.values Empty)))) part
+    → ((last : Written) → IsRead (from_blockname (last ∷ rest))) → (before : Written)
+    → IsRead (from_blockname (before ∷ front ++ rest))
+with_name front rest part same (x1, y1, (b, hb, eb), (x2, y2, (e, he, ee), (x3, y3, (w, hw, ew), v, i3), i2), i1) later
+    before =
+    let text : part ≡ b ∷ e ∷ w ∷ y3 =
+    i1 ∙ ap₂ (λ (l k : List Symbol). l ++ k) eb
+    (i2 ∙ ap₂ (λ (l k : List Symbol). l ++ k) ee (i3 ∙ ap (λ (l : List Symbol). l ++ y3) ew)) in
     let t = three front b e w y3 (same ∙ text) in
     let read = without t.others rest later (Either grammar.values Empty) y3 refl t.others_are v t.c in
-    rw t.all (begun before t.a t.b t.c (t.others ++ rest) (ap (is symbol.Blockname) t.a_is ∙ hb) (ap (is symbol.Equals) t.b_is ∙ he) (ap is_word t.c_is ∙ hw) read)
+    rw t.all (begun before t.a t.b t.c (t.others ++ rest) (ap (is symbol.Blockname) t.a_is ∙ hb)
+    (ap (is symbol.Equals) t.b_is ∙ he) (ap is_word t.c_is ∙ hw) read)
 
 one_option : (front rest : List Written) (part : List Symbol) → symbols_in front ≡ part
     → Matches (uncoded grammar.option) part
-    → ((last : Written) → IsRead (from_blockname (last ∷ rest))) → (before : Written) → IsRead (from_blockname (before ∷ front ++ rest))
-one_option front rest part same (inl m) later = without front rest later (Before (One (is symbol.Pointrep)) (Before (One (is symbol.Equals)) grammar.n)) part refl same m
-one_option front rest part same (inr (inl m)) later = without front rest later (Before (One (is symbol.Designrep)) (Before (One (is symbol.Equals)) grammar.n)) part refl same m
+    → ((last : Written) → IsRead (from_blockname (last ∷ rest))) → (before : Written)
+    → IsRead (from_blockname (before ∷ front ++ rest))
+one_option front rest part same (inl m) later =
+    without front rest later (Before (One (is symbol.Pointrep)) (Before (One (is symbol.Equals)) grammar.n)) part refl
+    same m
+one_option front rest part same (inr (inl m)) later =
+    without front rest later (Before (One (is symbol.Designrep)) (Before (One (is symbol.Equals)) grammar.n)) part refl
+    same m
 one_option front rest part same (inr (inr (inl m))) later =
-    without front rest later (Before (One (is symbol.Randomize)) (Either (Before (One (is symbol.Open)) (Before grammar.n (One (is symbol.Close)))) Empty)) part refl same m
-one_option front rest part same (inr (inr (inr (inl m)))) later = without front rest later (One (is symbol.Novalran)) part refl same m
+    without front rest later
+    (Before (One (is symbol.Randomize))
+    (Either (Before (One (is symbol.Open)) (Before grammar.n (One (is symbol.Close)))) Empty)) part refl same m
+one_option front rest part same (inr (inr (inr (inl m)))) later =
+    without front rest later (One (is symbol.Novalran)) part refl same m
 one_option front rest part same (inr (inr (inr (inr (inl m))))) later = with_name front rest part same m later
-one_option front rest part same (inr (inr (inr (inr (inr m))))) later = without front rest later (Before grammar.recoded grammar.values) part refl same m
+one_option front rest part same (inr (inr (inr (inr (inr m))))) later =
+    without front rest later (Before grammar.recoded grammar.values) part refl same m
 
 each_option : (parts : List (List Symbol)) → AllByRecursion (Matches (uncoded grammar.option)) parts
     → (ws : List Written) (m : Symbol)
-    → symbols_in ws ++ symbol.Semicolon ∷ [] ≡ flat_map (λ (part : List Symbol). part) parts ++ m ∷ [] → (before : Written) → IsRead (from_blockname (before ∷ ws))
+    → symbols_in ws ++ symbol.Semicolon ∷ [] ≡ flat_map (λ (part : List Symbol). part) parts ++ m ∷ []
+    → (before : Written) → IsRead (from_blockname (before ∷ ws))
 each_option [] each ws m h before = rw (nothing ws m h) (inl refl)
 each_option (p ∷ parts) each ws m h before =
     let rest : List Symbol = flat_map (λ (part : List Symbol). part) parts in
     let c = cut ws p rest m (h ∙ append_assoc p rest (m ∷ [])) in
-    rw c.all (one_option c.front c.rest p c.front_is each.0 (λ last. each_option parts each.1 c.rest m c.rest_is last) before)
+    rw c.all (one_option c.front c.rest p c.front_is each.0 (λ last. each_option parts each.1 c.rest m c.rest_is last)
+    before)
 
 -- four lexemes before the options
 record Four (s : List Written) (x y z u : Symbol) (l : List Symbol) : Type 0 where
@@ -126,7 +164,8 @@ record Four (s : List Written) (x y z u : Symbol) (l : List Symbol) : Type 0 whe
   d_is : d.symbol ≡ u
   others_are : symbols_in others ++ symbol.Semicolon ∷ [] ≡ l
 
-four : (s : List Written) (x y z u : Symbol) (l : List Symbol) (m : Symbol) → symbols_in s ++ symbol.Semicolon ∷ [] ≡ x ∷ y ∷ z ∷ u ∷ (l ++ m ∷ []) → Four s x y z u (l ++ m ∷ [])
+four : (s : List Written) (x y z u : Symbol) (l : List Symbol) (m : Symbol)
+    → symbols_in s ++ symbol.Semicolon ∷ [] ≡ x ∷ y ∷ z ∷ u ∷ (l ++ m ∷ []) → Four s x y z u (l ++ m ∷ [])
 four [] x y z u l m h = absurd (cc h)
 four (a ∷ []) x y z u l m h = absurd (cc h)
 four (a ∷ b ∷ []) x y z u l m h = absurd (cc h)
@@ -135,7 +174,8 @@ four (a ∷ b ∷ c ∷ []) x y z u l m h = absurd (alone l (cc h))
     alone : (l : List Symbol) → symbol.Semicolon ∷ [] ≡ u ∷ (l ++ m ∷ []) → ⊥
     alone [] h = cc h
     alone (v ∷ l) h = cc h
-four (a ∷ b ∷ c ∷ d ∷ others) x y z u l m h = record { a = a; b = b; c = c; d = d; others = others; all = refl; d_is = cc h; others_are = cc h }
+four (a ∷ b ∷ c ∷ d ∷ others) x y z u l m h =
+    record { a = a; b = b; c = c; d = d; others = others; all = refl; d_is = cc h; others_are = cc h }
 
 uncoded_output : (s : List Symbol) → Matches grammar.output s → Matches (uncoded grammar.output) s
 uncoded_output s m = to_uncoded grammar.output s m
@@ -144,11 +184,26 @@ pub names_law : (s : List Written) → IsStatement grammar.output s → AreNames
 names_law s by_grammar = read (uncoded_output (symbols_in s ++ symbol.Semicolon ∷ []) by_grammar)
   where
     read : Matches (uncoded grammar.output) (symbols_in s ++ symbol.Semicolon ∷ []) → AreNamesRead s
-    read (x0, y0, (f, hf, ef), (x1, y1, (o, ho, eo), (x2, y2, (e, he, ee), (x3, y3, (n, hn, en), (x4, y4, (parts, each, ps), (m, hm, em), i4), i3), i2), i1), i0) =
+    read (
+      x0,
+      y0,
+      (f, hf, ef),
+      (
+        x1,
+        y1,
+        (o, ho, eo),
+        (x2, y2, (e, he, ee), (x3, y3, (n, hn, en), (x4, y4, (parts, each, ps), (m, hm, em), i4), i3), i2),
+        i1,
+      ),
+      i0,
+    )
+        =
         let flat : List Symbol = flat_map (λ (part : List Symbol). part) parts in
         let rest : y3 ≡ flat ++ m ∷ [] = i4 ∙ ap₂ (λ (l k : List Symbol). l ++ k) ps em in
         let text : symbols_in s ++ symbol.Semicolon ∷ [] ≡ f ∷ o ∷ e ∷ n ∷ (flat ++ m ∷ []) =
-        i0 ∙ ap₂ (λ (l k : List Symbol). l ++ k) ef (i1 ∙ ap₂ (λ (l k : List Symbol). l ++ k) eo (i2 ∙ ap₂ (λ (l k : List Symbol). l ++ k) ee (i3 ∙ ap₂ (λ (l k : List Symbol). l ++ k) en rest))) in
+        i0 ∙ ap₂ (λ (l k : List Symbol). l ++ k) ef
+        (i1 ∙ ap₂ (λ (l k : List Symbol). l ++ k) eo
+        (i2 ∙ ap₂ (λ (l k : List Symbol). l ++ k) ee (i3 ∙ ap₂ (λ (l k : List Symbol). l ++ k) en rest))) in
         let q = four s f o e n flat m text in
         record {
           word = q.a;

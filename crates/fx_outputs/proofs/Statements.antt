@@ -1,5 +1,6 @@
 -- OUTPUT statements are read one after another.
-use Rattle.std.proofs.Common.{◌≡◌, ℕ, suc, ◌<◌, Bool, true, false, ◌&&◌, List, [], ◌∷◌, ◌++◌, length, drop, Ok, refl, sym, subst, arith}
+use Rattle.std.proofs.Common.{◌≡◌, ℕ, suc, ◌<◌, Bool, true, false, ◌&&◌, List, [], ◌∷◌, ◌++◌, length, drop, Ok, refl}
+use Rattle.std.proofs.Common.{sym, subst, arith}
 use Rattle.std.specs.Prelude.{nat_lt, slice_index_or}
 use Rattle.std.proofs.lemmas.Bool.{ltb-true, lt-ltb, and_parts}
 use Rattle.std.proofs.lemmas.List.{map-append, append_assoc}
@@ -30,7 +31,8 @@ module _ (context : Context) (earlier : List (List ℕ)) (outputs : List OutputS
 
   first_read : (a b c d : Written) (options : List Written) (output : OutputSpec) → is Output a.symbol ≡ true
       → output_of context earlier a d (d ∷ options) ≡ Ok output
-      → outputs_behind context earlier outputs ((a ∷ b ∷ c ∷ d ∷ options) ∷ rest) ≡ outputs_behind context (earlier ++ output.name ∷ []) (outputs ++ output ∷ []) rest
+      → outputs_behind context earlier outputs ((a ∷ b ∷ c ∷ d ∷ options) ∷ rest)
+      ≡ outputs_behind context (earlier ++ output.name ∷ []) (outputs ++ output ∷ []) rest
   first_read a b c d options output begun h = rw (begun, h) refl
 
   refused_long : (s : List Written) (word name : Written) (reason : ParseStop) → begins Output s ≡ true → 3 < length s
@@ -49,7 +51,8 @@ module _ (context : Context) (earlier : List (List ℕ)) (outputs : List OutputS
   read_long : (s : List Written) (word name : Written) (output : OutputSpec) → begins Output s ≡ true → 3 < length s
       → word ≡ slice_index_or s 0 word → name ≡ slice_index_or s 3 name
       → output_of context earlier word name (drop 3 s) ≡ Ok output
-      → outputs_behind context earlier outputs (s ∷ rest) ≡ outputs_behind context (earlier ++ output.name ∷ []) (outputs ++ output ∷ []) rest
+      → outputs_behind context earlier outputs (s ∷ rest)
+      ≡ outputs_behind context (earlier ++ output.name ∷ []) (outputs ++ output ∷ []) rest
   read_long [] word name output begun long w n h = absurd (omega arith)
   read_long (a ∷ []) word name output begun long w n h = absurd (omega arith)
   read_long (a ∷ b ∷ []) word name output begun long w n h = absurd (omega arith)
@@ -70,13 +73,15 @@ module _ (context : Context) (earlier : List (List ℕ)) (outputs : List OutputS
   pub read : (s : List Written) (word name : Written) (output : OutputSpec) → true ≡ is_output s
       → word ≡ slice_index_or s 0 word → name ≡ slice_index_or s 3 name
       → output_of context earlier word name (drop 3 s) ≡ Ok output
-      → outputs_behind context earlier outputs (s ∷ rest) ≡ outputs_behind context (earlier ++ output.name ∷ []) (outputs ++ output ∷ []) rest
+      → outputs_behind context earlier outputs (s ∷ rest)
+      ≡ outputs_behind context (earlier ++ output.name ∷ []) (outputs ++ output ∷ []) rest
   read s word name output t w n h =
       let both = and_parts (begins Output s) (nat_lt 3 (length s)) (sym t) in
       read_long s word name output both.0 (ltb-true 3 (length s) both.1) w n h
 
   first_passed : (a b c d : Written) (options : List Written) → is Output a.symbol ≡ false
-      → outputs_behind context earlier outputs ((a ∷ b ∷ c ∷ d ∷ options) ∷ rest) ≡ outputs_behind context earlier outputs rest
+      → outputs_behind context earlier outputs ((a ∷ b ∷ c ∷ d ∷ options) ∷ rest)
+      ≡ outputs_behind context earlier outputs rest
   first_passed a b c d options begun = rw begun refl
 
   pub passed : (s : List Written) → false ≡ is_output s
@@ -85,9 +90,11 @@ module _ (context : Context) (earlier : List (List ℕ)) (outputs : List OutputS
   passed (a ∷ []) t = refl
   passed (a ∷ b ∷ []) t = refl
   passed (a ∷ b ∷ c ∷ []) t = refl
-  passed (a ∷ b ∷ c ∷ d ∷ options) t = first_passed a b c d options (other_word (is Output a.symbol) (length options) (sym t))
+  passed (a ∷ b ∷ c ∷ d ∷ options) t =
+      first_passed a b c d options (other_word (is Output a.symbol) (length options) (sym t))
 
 -- the name of one more output stands last
-pub one_more_name : (before earlier : List (List ℕ)) (outputs : List OutputSpec) (output : OutputSpec) → earlier ≡ before ++ names_of outputs
+pub one_more_name : (before earlier : List (List ℕ)) (outputs : List OutputSpec) (output : OutputSpec)
+    → earlier ≡ before ++ names_of outputs
     → earlier ++ output.name ∷ [] ≡ before ++ names_of (outputs ++ output ∷ [])
 one_more_name before earlier outputs output e = rw (e, map-append, append_assoc) refl

@@ -1,5 +1,6 @@
 -- The column of blocks: its name, and its values.
-use Rattle.std.specs.Prelude.{ℕ, Bool, true, false, ◌&&◌, ◌||◌, is_some, codes, List, [], Option, Some, None, Result, Ok, Err, if◌then◌else◌}
+use Rattle.std.specs.Prelude.{ℕ, Bool, true, false, ◌&&◌, ◌||◌, is_some, codes, List, [], Option, Some, None, Result}
+use Rattle.std.specs.Prelude.{Ok, Err, if◌then◌else◌}
 use Rattle.fx_language.specs.declared.code.TheConstants.{BLOCKNAME_WITHOUT_BLOCKS, REPEATED_NAME}
 use Rattle.fx_language.specs.declared.symbol.Symbol.TheVariants.{Nvals, Cvals, Equals}
 use Rattle.fx_language.specs.Symbols.{is}

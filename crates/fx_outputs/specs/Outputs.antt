@@ -17,7 +17,8 @@ use Rattle.fx_outputs.specs.Recodes.{recodes_of}
 
 -- the OUT name is not an earlier one, or E18 at the name
 abbrev pub check_new_name : List (List ℕ) → Written → Result (Unit {0}) Refusal
-check_new_name earlier name = if is_some (place_of name.text earlier) then Err (refusal_at REPEATED_OUT_NAME name) else Ok tt
+check_new_name earlier name =
+    if is_some (place_of name.text earlier) then Err (refusal_at REPEATED_OUT_NAME name) else Ok tt
 
 -- An OUTPUT statement after these OUT names: `word` is the word OUTPUT, `name` the OUT name, and `s` what stands
 -- after `OUT =`, the name first.
@@ -46,7 +47,8 @@ output_of context earlier word name s =
 
 -- The OUTPUT statements among these, in order, after the outputs that were read before. `earlier` are the OUT names
 -- that precede it in the program. An OUTPUT statement begins `OUTPUT OUT = name`.
-abbrev pub outputs_behind : Context → List (List ℕ) → List OutputSpec → List (List Written) → Result (List OutputSpec) Refusal
+abbrev pub outputs_behind : Context → List (List ℕ) → List OutputSpec → List (List Written)
+    → Result (List OutputSpec) Refusal
 outputs_behind context earlier outputs [] = Ok outputs
 outputs_behind context earlier outputs ((word ∷ out ∷ equals ∷ name ∷ options) ∷ rest) =
     if is Output word.symbol

@@ -11,7 +11,8 @@ use Rattle.fx_outputs.specs.Options.{from_option}
 
 -- a number from 1 to 200,000, or E20
 abbrev pub replication_in_range : Written → Option ℕ → Result ℕ Refusal
-replication_in_range w (Some n) = if nat_le 1 n && nat_le n MOST_ROWS then Ok n else Err (refusal_at INVALID_REPLICATION w)
+replication_in_range w (Some n) =
+    if nat_le 1 n && nat_le n MOST_ROWS then Ok n else Err (refusal_at INVALID_REPLICATION w)
 replication_in_range w None = Err (refusal_at INVALID_REPLICATION w)
 
 -- once, where no number is written

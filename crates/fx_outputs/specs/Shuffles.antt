@@ -1,5 +1,6 @@
 -- RANDOMIZE and NOVALRAN: what is shuffled, and from which seed.
-use Rattle.std.specs.Prelude.{ℕ, Bool, not, nat_lt, ◌^◌, List, drop, slice_get, Option, Some, None, Result, Ok, Err, if◌then◌else◌}
+use Rattle.std.specs.Prelude.{ℕ, Bool, not, nat_lt, ◌^◌, List, drop, slice_get, Option, Some, None, Result, Ok, Err}
+use Rattle.std.specs.Prelude.{if◌then◌else◌}
 use Rattle.fx_language.specs.declared.code.TheConstants.{SEED_TOO_LARGE}
 use Rattle.fx_language.specs.declared.symbol.Symbol.TheVariants.{Randomize, Novalran, Open}
 use Rattle.fx_text.specs.declared.refusal.Refusal.{Refusal}
@@ -12,7 +13,8 @@ use Rattle.fx_outputs.specs.Options.{from_option, has_option}
 
 -- a seed of 64 bits, or E19
 abbrev pub seed_in_range : Bool → Written → Option ℕ → Result Shuffle Refusal
-seed_in_range values w (Some n) = if nat_lt n (2 ^ 64) then Ok (shuffle.Seed n values) else Err (refusal_at SEED_TOO_LARGE w)
+seed_in_range values w (Some n) =
+    if nat_lt n (2 ^ 64) then Ok (shuffle.Seed n values) else Err (refusal_at SEED_TOO_LARGE w)
 seed_in_range values w None = Err (refusal_at SEED_TOO_LARGE w)
 
 -- by the default seed, where no number is written

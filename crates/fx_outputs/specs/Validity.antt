@@ -33,7 +33,8 @@ abbrev pub column_name : List ℕ → List ℕ
 column_name [] = codes "BLOCK"
 column_name (b ∷ name) = b ∷ name
 
--- an output whose names have 1 to 32 bytes; with blocks no factor has the name of their column, and without blocks there is none
+-- an output whose names have 1 to 32 bytes; with blocks no factor has the name of their column, and without blocks
+-- there is none
 pub record HasItsNames (context : Context) (output : OutputSpec) : Type 0 where
   pub name : IsName output.name
   pub block_name : output.block_name ≢ [] → IsName output.block_name

@@ -1,5 +1,6 @@
 -- The values that NVALS or CVALS gives in the place of a factor's levels, or of the numbers of blocks.
-use Rattle.std.specs.Prelude.{ℕ, ◌==◌, Bool, true, false, List, [], ◌∷◌, length, drop, Option, Some, None, Result, Ok, Err, if◌then◌else◌}
+use Rattle.std.specs.Prelude.{ℕ, ◌==◌, Bool, true, false, List, [], ◌∷◌, length, drop, Option, Some, None, Result, Ok}
+use Rattle.std.specs.Prelude.{Err, if◌then◌else◌}
 use Rattle.fx_language.specs.declared.code.TheConstants.{WRONG_NUMBER_OF_VALUES}
 use Rattle.fx_language.specs.declared.symbol.Symbol.TheVariants.{Quoted, Close, Minus}
 use Rattle.fx_language.specs.Symbols.{is}
@@ -40,4 +41,5 @@ values_of rest = values_from false (drop 2 rest)
 -- as many values as are wanted, or E17 at NVALS or CVALS; also where no number of values would do
 abbrev pub counted : Option ℕ → Written → List (List ℕ) → Result (List (List ℕ)) Refusal
 counted None word values = Err (refusal_at WRONG_NUMBER_OF_VALUES word)
-counted (Some wanted) word values = if length values == wanted then Ok values else Err (refusal_at WRONG_NUMBER_OF_VALUES word)
+counted (Some wanted) word values =
+    if length values == wanted then Ok values else Err (refusal_at WRONG_NUMBER_OF_VALUES word)

@@ -6,7 +6,8 @@ use Rattle.fx_outputs.specs.declared.output.OutputSpec.{OutputSpec}
 use Rattle.fx_outputs.specs.declared.shuffle.Shuffle.{Shuffle}
 use Rattle.fx_runs.specs.Runs.{RunsView}
 use Rattle.fx_runs.specs.RunBlocks.{block_of}
-use Rattle.fx_plan.specs.Plans.{Arrangement, arranged, replicated, values_of, shuffled_in_blocks, shuffled_values, shuffled_by}
+use Rattle.fx_plan.specs.Plans.{Arrangement, arranged, replicated, values_of, shuffled_in_blocks, shuffled_values}
+use Rattle.fx_plan.specs.Plans.{shuffled_by}
 use Rattle.fx_plan.specs.Tables.{text_of, records_of, arrangement, plan_of}
 
 module _ (names : List (List ℕ)) (runs : RunsView) (output : OutputSpec) where
@@ -23,14 +24,19 @@ module _ (names : List (List ℕ)) (runs : RunsView) (output : OutputSpec) where
   first_values = values_of runs.shape.q runs.shape.s output.recodes
 
   -- what is arranged by some shuffle
-  pub plan_by : (seed : ℕ) (order : List ℕ) (values : List (List (List ℕ))) (shuffle : Shuffle) → output.shuffle ≡ shuffle → order ≡ first_order → values ≡ first_values
-      → bytes (arranged shuffle seed (block_of runs) block_count (arrangement order values)) ≡ plan_of names runs output seed
+  pub plan_by : (seed : ℕ) (order : List ℕ) (values : List (List (List ℕ))) (shuffle : Shuffle)
+      → output.shuffle ≡ shuffle → order ≡ first_order → values ≡ first_values
+      → bytes (arranged shuffle seed (block_of runs) block_count (arrangement order values))
+      ≡ plan_of names runs output seed
   plan_by seed order values shuffle e1 e2 e3 =
-      ap₂ (λ (o : List ℕ) (v : List (List (List ℕ))). bytes (arranged shuffle seed (block_of runs) block_count (arrangement o v))) e2 e3
-      ∙ ap (λ (s : Shuffle). bytes (arranged s seed (block_of runs) block_count (arrangement first_order first_values))) (sym e1)
+      ap₂ (λ (o : List ℕ) (v : List (List (List ℕ))). bytes
+      (arranged shuffle seed (block_of runs) block_count (arrangement o v))) e2 e3
+      ∙ ap (λ (s : Shuffle). bytes (arranged s seed (block_of runs) block_count (arrangement first_order first_values)))
+      (sym e1)
 
   -- rows and values that are shuffled
-  pub shuffled_parts : (g h : Lcg) (too : Bool) (n : ℕ) (before order : List ℕ) (values shuffled : List (List (List ℕ))) → (order, h) ≡ shuffled_in_blocks g (block_of runs) n before
+  pub shuffled_parts : (g h : Lcg) (too : Bool) (n : ℕ) (before order : List ℕ) (values shuffled : List (List (List ℕ)))
+      → (order, h) ≡ shuffled_in_blocks g (block_of runs) n before
       → shuffled ≡ shuffled_values too h values
       → bytes (arrangement order shuffled) ≡ bytes (shuffled_by g too (block_of runs) n (arrangement before values))
   shuffled_parts g h too n before order values shuffled e1 e2 =

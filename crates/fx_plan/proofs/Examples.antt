@@ -14,7 +14,8 @@ replications = refl
 -- a factor that is recoded has its own values
 values :
     (values_at 2 (record { place = 2; values = codes "low" ∷ codes "high" ∷ [] } ∷ []) 1 ≡ codes "-1" ∷ codes "1" ∷ [])
-    × (values_at 2 (record { place = 2; values = codes "low" ∷ codes "high" ∷ [] } ∷ []) 2 ≡ codes "low" ∷ codes "high" ∷ [])
+    × (values_at 2 (record { place = 2; values = codes "low" ∷ codes "high" ∷ [] } ∷ []) 2
+    ≡ codes "low" ∷ codes "high" ∷ [])
 values = (refl, refl)
 
 -- the block column comes first, where there are blocks; its name is BLOCK unless another is chosen
@@ -39,6 +40,7 @@ unfolding drawn
 draws = (refl, refl)
 
 -- fields with a comma or a quote are quoted, and an empty one is not
-lines : text_of ((codes "lo,w" ∷ [] ∷ codes "h\"i" ∷ []) ∷ (codes "1" ∷ codes "-2.5" ∷ codes "a b" ∷ []) ∷ []) ≡ codes "\"lo,w\",,\"h\"\"i\"\n1,-2.5,a b\n"
+lines : text_of ((codes "lo,w" ∷ [] ∷ codes "h\"i" ∷ []) ∷ (codes "1" ∷ codes "-2.5" ∷ codes "a b" ∷ []) ∷ [])
+    ≡ codes "\"lo,w\",,\"h\"\"i\"\n1,-2.5,a b\n"
 unfolding escaped fields_text is_blank
 lines = refl

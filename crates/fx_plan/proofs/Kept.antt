@@ -1,9 +1,11 @@
 -- What holds of each item of a list, of which runs and values are shuffled.
-use Rattle.std.proofs.Common.{ℕ, ◌≡◌, ◌<◌, ◌+◌, ◌-◌, ◌==◌, zero, suc, List, [], ◌∷◌, length, map, filter, replicate, set, get_or, swap, refl, sym, subst, ◌∙◌, ap, arith, inl, inr, All, length-set}
+use Rattle.std.proofs.Common.{ℕ, ◌≡◌, ◌<◌, ◌+◌, ◌-◌, ◌==◌, zero, suc, List, [], ◌∷◌, length, map, filter, replicate}
+use Rattle.std.proofs.Common.{set, get_or, swap, refl, sym, subst, ◌∙◌, ap, arith, inl, inr, All, length-set}
 use Rattle.std.specs.List.{AllByRecursion, flat_map, range_with_len}
 use Rattle.std.proofs.Math.ListN.{get_or-eq_default}
 use Rattle.std.proofs.lemmas.Bool.{cases_lt}
-use Rattle.std.proofs.lemmas.List.Elements.{All-set, All-append, All-filter, All-replicate, recursion_from_All, All-from_recursion}
+use Rattle.std.proofs.lemmas.List.Elements.{All-set, All-append, All-filter, All-replicate, recursion_from_All}
+use Rattle.std.proofs.lemmas.List.Elements.{All-from_recursion}
 use Rattle.std.proofs.lemmas.List.FromFn.{get_or-range_with_len, length-range_with_len}
 use Rattle.rand_pcg.specs.Lcg.{Lcg}
 use Rattle.fx_plan.specs.Draws.{drawn, exchanged, shuffled, each_shuffled, all_shuffled}
@@ -27,12 +29,14 @@ module _ {X : Type 0} (P : X → Type 0) where
   exchanged_keeps : (k : ℕ) (g : Lcg) (xs : List X) → All P xs → All P (exchanged g k xs).0
   exchanged_keeps zero g xs h = h
   exchanged_keeps (suc k) g xs h =
-      exchanged_keeps k (drawn g (k + 2)).1 (swap xs (k + 1) (drawn g (k + 2)).0) (swap_keeps xs (k + 1) (drawn g (k + 2)).0 h)
+      exchanged_keeps k (drawn g (k + 2)).1 (swap xs (k + 1) (drawn g (k + 2)).0)
+      (swap_keeps xs (k + 1) (drawn g (k + 2)).0 h)
 
   pub shuffled_keeps : (g : Lcg) (xs : List X) → All P xs → All P (shuffled g xs).0
   shuffled_keeps g xs h = exchanged_keeps (length xs - 1) g xs h
 
-  pub flat_map_keeps : {Y : Type 0} (f : Y → List X) (ys : List Y) → AllByRecursion (λ y. All P (f y)) ys → All P (flat_map f ys)
+  pub flat_map_keeps : {Y : Type 0} (f : Y → List X) (ys : List Y) → AllByRecursion (λ y. All P (f y)) ys
+      → All P (flat_map f ys)
   flat_map_keeps f [] h = λ k d low. absurd (omega arith)
   flat_map_keeps f (y ∷ ys) h = All-append P (f y) (flat_map f ys) h.0 (flat_map_keeps f ys h.1)
 
@@ -41,28 +45,34 @@ module _ {X : Type 0} (P : X → Type 0) where
   repeated_keeps (suc n) xs h = All-append P xs (repeated n xs) h (repeated_keeps n xs h)
 
 -- what shuffling keeps of a list, it keeps of each of some lists
-pub each_keeps : {X : Type 0} (Q : List X → Type 0) → ((g : Lcg) (xs : List X) → Q xs → Q (shuffled g xs).0) → (lists : List (List X)) (g : Lcg) → AllByRecursion Q lists → AllByRecursion Q (each_shuffled g lists).0
+pub each_keeps : {X : Type 0} (Q : List X → Type 0) → ((g : Lcg) (xs : List X) → Q xs → Q (shuffled g xs).0)
+    → (lists : List (List X)) (g : Lcg) → AllByRecursion Q lists → AllByRecursion Q (each_shuffled g lists).0
 each_keeps Q kept [] g h = tt
 each_keeps Q kept (xs ∷ lists) g h = (kept g xs h.0, each_keeps Q kept lists (shuffled g xs).1 h.1)
 
-each_filter : (P : ℕ → Type 0) (block : ℕ → ℕ) (xs : List ℕ) (zs : List ℕ) → All P xs → AllByRecursion (All P) (map (λ z. filter (λ x. block x == z) xs) zs)
+each_filter : (P : ℕ → Type 0) (block : ℕ → ℕ) (xs : List ℕ) (zs : List ℕ) → All P xs
+    → AllByRecursion (All P) (map (λ z. filter (λ x. block x == z) xs) zs)
 each_filter P block xs [] h = tt
 each_filter P block xs (z ∷ zs) h = (All-filter (λ x. block x == z) P xs h, each_filter P block xs zs h)
 
 -- each run of an order that is shuffled was in it
-pub order_keeps : (P : ℕ → Type 0) (g : Lcg) (block : ℕ → ℕ) (n : ℕ) (xs : List ℕ) → All P xs → All P (shuffled_in_blocks g block n xs).0
+pub order_keeps : (P : ℕ → Type 0) (g : Lcg) (block : ℕ → ℕ) (n : ℕ) (xs : List ℕ) → All P xs
+    → All P (shuffled_in_blocks g block n xs).0
 order_keeps P g block n xs h =
     let groups : List (List ℕ) = by_group block n xs in
     let all : All (All P) groups = All-from_recursion (All P) groups (each_filter P block xs (range_with_len 0 n) h) in
-    let mixed : AllByRecursion (All P) (shuffled g groups).0 = recursion_from_All (All P) (shuffled g groups).0 (shuffled_keeps (All P) g groups all) in
-    flat_map_keeps P (λ group. group) (all_shuffled g groups).0 (each_keeps (All P) (λ g xs. shuffled_keeps P g xs) (shuffled g groups).0 (shuffled g groups).1 mixed)
+    let mixed : AllByRecursion (All P) (shuffled g groups).0 =
+    recursion_from_All (All P) (shuffled g groups).0 (shuffled_keeps (All P) g groups all) in
+    flat_map_keeps P (λ group. group) (all_shuffled g groups).0
+    (each_keeps (All P) (λ g xs. shuffled_keeps P g xs) (shuffled g groups).0 (shuffled g groups).1 mixed)
 
 range_low : (n : ℕ) → All (λ k. k < n) (range_with_len 0 n)
 range_low n k d low =
     let there : k < n = omega (arith, length-range_with_len 0 n) in
     subst (λ (x : ℕ). x < n) (sym (get_or-range_with_len 0 n k d there)) (omega arith)
 
-times_low : (each n : ℕ) (ks : List ℕ) → AllByRecursion (λ k. k < n) ks → AllByRecursion (λ k. All (λ x. x < n) (replicate each k)) ks
+times_low : (each n : ℕ) (ks : List ℕ) → AllByRecursion (λ k. k < n) ks
+    → AllByRecursion (λ k. All (λ x. x < n) (replicate each k)) ks
 times_low each n [] h = tt
 times_low each n (k ∷ ks) h = (All-replicate (λ x. x < n) each k h.0, times_low each n ks h.1)
 
@@ -75,18 +85,23 @@ replicated_low each all n =
 
 pub length-swap : {X : Type 0} (xs : List X) (i j : ℕ) → length (swap xs i j) ≡ length xs
 length-swap [] i j = refl
-length-swap (d ∷ ys) i j = length-set (set (d ∷ ys) i (get_or (d ∷ ys) j d)) j (get_or (d ∷ ys) i d) ∙ length-set (d ∷ ys) i (get_or (d ∷ ys) j d)
+length-swap (d ∷ ys) i j =
+    length-set (set (d ∷ ys) i (get_or (d ∷ ys) j d)) j (get_or (d ∷ ys) i d) ∙ length-set (d ∷ ys) i
+    (get_or (d ∷ ys) j d)
 
 length-exchanged : {X : Type 0} (k : ℕ) (g : Lcg) (xs : List X) → length (exchanged g k xs).0 ≡ length xs
 length-exchanged zero g xs = refl
 length-exchanged (suc k) g xs =
-    length-exchanged k (drawn g (k + 2)).1 (swap xs (k + 1) (drawn g (k + 2)).0) ∙ length-swap xs (k + 1) (drawn g (k + 2)).0
+    length-exchanged k (drawn g (k + 2)).1 (swap xs (k + 1) (drawn g (k + 2)).0) ∙ length-swap xs (k + 1)
+    (drawn g (k + 2)).0
 
 -- each list is as long as before
-pub lengths_kept : {X : Type 0} (n : ℕ) (g : Lcg) (lists : List (List X)) → All (λ l. length l ≡ n) lists → All (λ l. length l ≡ n) (each_shuffled g lists).0
+pub lengths_kept : {X : Type 0} (n : ℕ) (g : Lcg) (lists : List (List X)) → All (λ l. length l ≡ n) lists
+    → All (λ l. length l ≡ n) (each_shuffled g lists).0
 lengths_kept n g lists h =
     All-from_recursion (λ l. length l ≡ n) (each_shuffled g lists).0
-    (each_keeps (λ l. length l ≡ n) (λ g xs e. length-exchanged (length xs - 1) g xs ∙ e) lists g (recursion_from_All (λ l. length l ≡ n) lists h))
+    (each_keeps (λ l. length l ≡ n) (λ g xs e. length-exchanged (length xs - 1) g xs ∙ e) lists g
+    (recursion_from_All (λ l. length l ≡ n) lists h))
 
 pub length-each : {X : Type 0} (g : Lcg) (lists : List (List X)) → length (each_shuffled g lists).0 ≡ length lists
 length-each g [] = refl

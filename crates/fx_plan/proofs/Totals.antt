@@ -1,5 +1,6 @@
 -- Sums over lists that are shuffled: how often anything is in them.
-use Rattle.std.proofs.Common.{ℕ, ◌≡◌, ◌<◌, ◌+◌, ◌-◌, ◌*◌, zero, suc, Bool, true, false, cond, eqb, List, [], ◌∷◌, length, filter, replicate, swap, refl, sym, ◌∙◌, ap, ap₂, arith, All}
+use Rattle.std.proofs.Common.{ℕ, ◌≡◌, ◌<◌, ◌+◌, ◌-◌, ◌*◌, zero, suc, Bool, true, false, cond, eqb, List, [], ◌∷◌}
+use Rattle.std.proofs.Common.{length, filter, replicate, swap, refl, sym, ◌∙◌, ap, ap₂, arith, All}
 use Rattle.std.specs.List.{sum_by, flat_map, range_with_len, AllByRecursion}
 use Rattle.std.proofs.lemmas.List.Sums.{sum_by-cons, sum_by-append}
 use Rattle.std.proofs.lemmas.List.Folds.{sum_by-replicate}
@@ -29,7 +30,8 @@ module _ {X : Type 0} (f : X → ℕ) where
   shuffled_total g [] = refl
   shuffled_total g (x ∷ xs) = exchanged_total (length (x ∷ xs) - 1) g (x ∷ xs) (omega arith)
 
-  pub each_total : (lists : List (List X)) (g : Lcg) → sum_by (λ l. sum_by f l) (each_shuffled g lists).0 ≡ sum_by (λ l. sum_by f l) lists
+  pub each_total : (lists : List (List X)) (g : Lcg)
+      → sum_by (λ l. sum_by f l) (each_shuffled g lists).0 ≡ sum_by (λ l. sum_by f l) lists
   each_total [] g = refl
   each_total (xs ∷ lists) g =
       sum_by-cons (λ l. sum_by f l) (shuffled g xs).0 (each_shuffled (shuffled g xs).1 lists).0
@@ -38,7 +40,8 @@ module _ {X : Type 0} (f : X → ℕ) where
 
   pub repeated_total : (n : ℕ) (xs : List X) → sum_by f (repeated n xs) ≡ n * sum_by f xs
   repeated_total zero xs = omega arith
-  repeated_total (suc n) xs = sum_by-append f xs (repeated n xs) ∙ ap (λ (x : ℕ). sum_by f xs + x) (repeated_total n xs) ∙ omega arith
+  repeated_total (suc n) xs =
+      sum_by-append f xs (repeated n xs) ∙ ap (λ (x : ℕ). sum_by f xs + x) (repeated_total n xs) ∙ omega arith
 
 same_test : (a b : ℕ) → eqb a b ≡ eqb b a
 same_test a b = grind (arith, nat_tests)
@@ -46,24 +49,30 @@ same_test a b = grind (arith, nat_tests)
 module _ (f : ℕ → ℕ) (block : ℕ → ℕ) (n : ℕ) where
   in_its_group : (x : ℕ) → block x < n → sum_by (λ z. cond (eqb (block x) z) (f x) 0) (range_with_len 0 n) ≡ f x
   in_its_group x low =
-      sum_by-ext (λ z. cond (eqb (block x) z) (f x) 0) (λ z. cond (eqb z (block x)) (f x) 0) (range_with_len 0 n) (λ z. ap (λ (b : Bool). cond b (f x) 0) (same_test (block x) z))
+      sum_by-ext (λ z. cond (eqb (block x) z) (f x) 0) (λ z. cond (eqb z (block x)) (f x) 0) (range_with_len 0 n)
+      (λ z. ap (λ (b : Bool). cond b (f x) 0) (same_test (block x) z))
       ∙ sum_by-pick (λ z. f x) (block x) 0 n (omega arith) (omega arith)
 
-  all_in_groups : (xs : List ℕ) → AllByRecursion (λ x. block x < n) xs → sum_by (λ x. sum_by (λ z. cond (eqb (block x) z) (f x) 0) (range_with_len 0 n)) xs ≡ sum_by f xs
+  all_in_groups : (xs : List ℕ) → AllByRecursion (λ x. block x < n) xs
+      → sum_by (λ x. sum_by (λ z. cond (eqb (block x) z) (f x) 0) (range_with_len 0 n)) xs ≡ sum_by f xs
   all_in_groups [] h = refl
   all_in_groups (x ∷ xs) h =
       sum_by-cons (λ x. sum_by (λ z. cond (eqb (block x) z) (f x) 0) (range_with_len 0 n)) x xs
       ∙ ap₂ (λ (a b : ℕ). a + b) (in_its_group x h.0) (all_in_groups xs h.1) ∙ sym (sum_by-cons f x xs)
 
-  groups_total : (xs : List ℕ) → AllByRecursion (λ x. block x < n) xs → sum_by (λ l. sum_by f l) (by_group block n xs) ≡ sum_by f xs
+  groups_total : (xs : List ℕ) → AllByRecursion (λ x. block x < n) xs
+      → sum_by (λ l. sum_by f l) (by_group block n xs) ≡ sum_by f xs
   groups_total xs h =
       sum_by_map (λ l. sum_by f l) (λ z. filter (λ x. eqb (block x) z) xs) (range_with_len 0 n)
-      ∙ sum_by-ext (λ z. sum_by f (filter (λ x. eqb (block x) z) xs)) (λ z. sum_by (λ x. cond (eqb (block x) z) (f x) 0) xs) (range_with_len 0 n) (λ z. sum_by-filter f (λ x. eqb (block x) z) xs)
+      ∙ sum_by-ext (λ z. sum_by f (filter (λ x. eqb (block x) z) xs))
+      (λ z. sum_by (λ x. cond (eqb (block x) z) (f x) 0) xs) (range_with_len 0 n)
+      (λ z. sum_by-filter f (λ x. eqb (block x) z) xs)
       ∙ sum_by-swap (λ z x. cond (eqb (block x) z) (f x) 0) (range_with_len 0 n) xs
       ∙ all_in_groups xs h
 
   -- nothing is lost and nothing added where runs are shuffled in blocks
-  pub order_total : (g : Lcg) (xs : List ℕ) → All (λ x. block x < n) xs → sum_by f (shuffled_in_blocks g block n xs).0 ≡ sum_by f xs
+  pub order_total : (g : Lcg) (xs : List ℕ) → All (λ x. block x < n) xs
+      → sum_by f (shuffled_in_blocks g block n xs).0 ≡ sum_by f xs
   order_total g xs h =
       let groups : List (List ℕ) = by_group block n xs in
       sum_by_flat_map f (λ group. group) (all_shuffled g groups).0
@@ -72,10 +81,12 @@ module _ (f : ℕ → ℕ) (block : ℕ → ℕ) (n : ℕ) where
       ∙ groups_total xs (recursion_from_All (λ x. block x < n) xs h)
 
 -- how often a run is among the replicated ones
-pub replicated_total : (each all n k : ℕ) → k < n → sum_by (λ x. cond (eqb x k) 1 0) (replicated each all (range_with_len 0 n)) ≡ each * all
+pub replicated_total : (each all n k : ℕ) → k < n
+    → sum_by (λ x. cond (eqb x k) 1 0) (replicated each all (range_with_len 0 n)) ≡ each * all
 replicated_total each all n k low =
     let f : ℕ → ℕ = λ x. cond (eqb x k) 1 0 in
-    let times : (x : ℕ) → sum_by f (replicate each x) ≡ cond (eqb x k) each 0 = λ x. sum_by-replicate f each x ∙ by_test (eqb x k) in
+    let times : (x : ℕ) → sum_by f (replicate each x) ≡ cond (eqb x k) each 0 =
+    λ x. sum_by-replicate f each x ∙ by_test (eqb x k) in
     repeated_total f all (flat_map (λ x. replicate each x) (range_with_len 0 n))
     ∙ ap (λ (t : ℕ). all * t)
     (sum_by_flat_map f (λ x. replicate each x) (range_with_len 0 n)

@@ -47,8 +47,8 @@ shuffled_by g asked block n a = record {
   values = shuffled_values asked (shuffled_in_blocks g block n a.order).1 a.values;
 }
 
--- With RANDOMIZE the runs are shuffled, where `block` is the block of each, of which there are n; then the values of each
--- factor, except with NOVALRAN. All draws are of one generator: that of RANDOMIZE's seed, or else of `seed`.
+-- With RANDOMIZE the runs are shuffled, where `block` is the block of each, of which there are n; then the values of
+-- each factor, except with NOVALRAN. All draws are of one generator: that of RANDOMIZE's seed, or else of `seed`.
 abbrev pub arranged : Shuffle → ℕ → (ℕ → ℕ) → ℕ → Arrangement → Arrangement
 arranged Kept seed block n a = a
 arranged (Default values) seed block n a = shuffled_by (generator seed) values block n a

@@ -1,5 +1,6 @@
 -- The lines of a plan's file.
-use Rattle.std.specs.Prelude.{ℕ, ◌≡◌, ◌+◌, ◌==◌, ◌^◌, length, false, if◌then◌else◌, List, [], ◌∷◌, ◌++◌, map, Some, Vec, slice_index, slice_index_or, codes, decimal}
+use Rattle.std.specs.Prelude.{ℕ, ◌≡◌, ◌+◌, ◌==◌, ◌^◌, length, false, if◌then◌else◌, List, [], ◌∷◌, ◌++◌, map, Some, Vec}
+use Rattle.std.specs.Prelude.{slice_index, slice_index_or, codes, decimal}
 use Rattle.std.specs.Global.{Global}
 use Rattle.std.specs.List.{flat_map, range_with_len}
 use Rattle.csv.specs.Writing.{default_writer, row_text, writer_setup, fields_written, has_written, text_written}
@@ -21,7 +22,8 @@ block_field (value ∷ values) z = slice_index_or (value ∷ values) z []
 
 -- the fields of the levels of a run: of each of s factors the value of its code
 abbrev pub level_fields : ℕ → List (List (List ℕ)) → List ℕ → List (List ℕ)
-level_fields s values x = map (λ i. slice_index_or (slice_index_or values i []) (slice_index x i) []) (range_with_len 0 s)
+level_fields s values x =
+    map (λ i. slice_index_or (slice_index_or values i []) (slice_index x i) []) (range_with_len 0 s)
 
 -- the fields of the head line: with blocks the name of their column, and the names of the factors
 abbrev pub head_fields : ℕ → List ℕ → List (List ℕ) → List (List ℕ)
@@ -30,7 +32,8 @@ head_fields t block_name names = (if t == 0 then [] else column_name block_name 
 -- the fields of run k
 abbrev pub run_fields : RunsView → List (List ℕ) → List (List (List ℕ)) → ℕ → List (List ℕ)
 run_fields runs block_values values k =
-    (if runs.shape.t == 0 then [] else block_field block_values (block_of runs k) ∷ []) ++ level_fields runs.shape.s values (run_at runs k)
+    (if runs.shape.t == 0 then [] else block_field block_values (block_of runs k) ∷ [])
+    ++ level_fields runs.shape.s values (run_at runs k)
 
 -- the records of a plan: the head line, and a line for each run in the order
 abbrev pub records_of : List (List ℕ) → RunsView → OutputSpec → Arrangement → List (List (List ℕ))
@@ -56,7 +59,8 @@ arrangement order values = record { order = order; values = values }
 abbrev pub arrangement_of : RunsView → OutputSpec → ℕ → Arrangement
 arrangement_of runs output seed =
     arranged output.shuffle seed (block_of runs) (runs.shape.q ^ runs.shape.t)
-    (arrangement (replicated output.pointrep output.designrep (range_with_len 0 (length runs.rows))) (values_of runs.shape.q runs.shape.s output.recodes))
+    (arrangement (replicated output.pointrep output.designrep (range_with_len 0 (length runs.rows)))
+    (values_of runs.shape.q runs.shape.s output.recodes))
 
 -- the bytes of the plan of some runs for an output
 abbrev pub plan_of : List (List ℕ) → RunsView → OutputSpec → ℕ → List ℕ

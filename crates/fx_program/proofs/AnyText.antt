@@ -1,5 +1,6 @@
 -- Whatever a text says, each of its steps is valid, so that what is claimed of valid steps holds of each.
-use Rattle.std.proofs.Common.{◌≡◌, ◌≤◌, ◌++◌, Bool, true, false, ℕ, List, [], ◌∷◌, length, Option, Some, None, Result, Ok, Err, refl, sym, subst, arith, All}
+use Rattle.std.proofs.Common.{◌≡◌, ◌≤◌, ◌++◌, Bool, true, false, ℕ, List, [], ◌∷◌, length, Option, Some, None, Result}
+use Rattle.std.proofs.Common.{Ok, Err, refl, sym, subst, arith, All}
 use Rattle.std.specs.Prelude.{is_some, nat_lt, if◌then◌else◌}
 use Rattle.std.proofs.lemmas.List.Elements.{All-nil, All-push}
 use Rattle.fx_lexer.specs.declared.token.Token.{Token}
@@ -28,7 +29,8 @@ use Rattle.fx_effects.specs.Models.{lists_of}
 use Rattle.fx_statements.specs.Contexts.{context}
 use Rattle.fx_statements.specs.Components.{check_components, components_place}
 use Rattle.fx_statements.specs.Goals.{Goal, AtLeast, Highest, effects_in, effects_wanted, goal_by}
-use Rattle.fx_statements.specs.Steps.{Meaning, asked_by, examine_of, factors_by, head_of, factor_limit, some_factors, step_by, step_of}
+use Rattle.fx_statements.specs.Steps.{Meaning, asked_by, examine_of, factors_by, head_of, factor_limit, some_factors}
+use Rattle.fx_statements.specs.Steps.{step_by, step_of}
 use Rattle.fx_statements.specs.Programs.{accepted, program_of, steps_behind}
 use Rattle.fx_statements.specs.Valid.{is_count}
 use Rattle.fx_statements.proofs.Bounds.{counted, kept, unsaid, without}
@@ -39,38 +41,49 @@ use Rattle.fx_program.specs.Claims.{EachStep}
 use Rattle.fx_answer.specs.ValidSteps.{CanBeSought, IsOfKind, IsValidStep}
 
 -- the goal is of the kind that the settings say
-by_effects : (q : ℕ) (factors : List (List ℕ)) (s : List Written) (goal : Goal) → effects_in q factors s ≡ Ok goal → IsOfKind criterion.Effects goal
+by_effects : (q : ℕ) (factors : List (List ℕ)) (s : List Written) (goal : Goal) → effects_in q factors s ≡ Ok goal
+    → IsOfKind criterion.Effects goal
 by_effects q factors s goal e =
     let lists = bind_ok (lists_of q factors s) _ goal e in
     subst (IsOfKind criterion.Effects) (same_ok _ goal lists.2) tt
 
-effects_kind : (q : ℕ) (factors : List (List ℕ)) (model : Option (List Written)) (goal : Goal) → effects_wanted q factors model ≡ Ok goal
+effects_kind : (q : ℕ) (factors : List (List ℕ)) (model : Option (List Written)) (goal : Goal)
+    → effects_wanted q factors model ≡ Ok goal
     → IsOfKind criterion.Effects goal
 effects_kind q factors None goal e = by_effects q factors [] goal e
 effects_kind q factors (Some s) goal e = by_effects q factors s goal e
 
-goal_kind : (q : ℕ) (factors : List (List ℕ)) (statements : List (List Written)) (kind : Criterion) (goal : Goal) → goal_by q factors statements kind ≡ Ok goal
+goal_kind : (q : ℕ) (factors : List (List ℕ)) (statements : List (List Written)) (kind : Criterion) (goal : Goal)
+    → goal_by q factors statements kind ≡ Ok goal
     → IsOfKind kind goal
-goal_kind q factors statements (criterion.Resolution r) goal e = subst (IsOfKind (criterion.Resolution r)) (same_ok (AtLeast r) goal e) refl
+goal_kind q factors statements (criterion.Resolution r) goal e =
+    subst (IsOfKind (criterion.Resolution r)) (same_ok (AtLeast r) goal e) refl
 goal_kind q factors statements criterion.Highest goal e = subst (IsOfKind criterion.Highest) (same_ok Highest goal e) tt
-goal_kind q factors statements criterion.Effects goal e = effects_kind q factors (statement_of word.Model statements) goal e
+goal_kind q factors statements criterion.Effects goal e =
+    effects_kind q factors (statement_of word.Model statements) goal e
 
 -- and the effects that it names may be asked for
-by_lists : (q : ℕ) (factors : List (List ℕ)) → length factors ≤ 40 → (s : List Written) (goal : Goal) → effects_in q factors s ≡ Ok goal → CanBeSought q (length factors) goal
+by_lists : (q : ℕ) (factors : List (List ℕ)) → length factors ≤ 40 → (s : List Written) (goal : Goal)
+    → effects_in q factors s ≡ Ok goal → CanBeSought q (length factors) goal
 by_lists q factors few s goal e =
     let lists = bind_ok (lists_of q factors s) _ goal e in
     subst (CanBeSought q (length factors)) (same_ok _ goal lists.2) (lists_told factors few q s lists.0 lists.1)
 
-by_model : (q : ℕ) (factors : List (List ℕ)) → length factors ≤ 40 → (model : Option (List Written)) (goal : Goal) → effects_wanted q factors model ≡ Ok goal
+by_model : (q : ℕ) (factors : List (List ℕ)) → length factors ≤ 40 → (model : Option (List Written)) (goal : Goal)
+    → effects_wanted q factors model ≡ Ok goal
     → CanBeSought q (length factors) goal
 by_model q factors few None goal e = by_lists q factors few [] goal e
 by_model q factors few (Some s) goal e = by_lists q factors few s goal e
 
-goal_sought : (q : ℕ) (factors : List (List ℕ)) → length factors ≤ 40 → (statements : List (List Written)) (kind : Criterion) (goal : Goal) → goal_by q factors statements kind ≡ Ok goal
+goal_sought : (q : ℕ) (factors : List (List ℕ)) → length factors ≤ 40
+    → (statements : List (List Written)) (kind : Criterion) (goal : Goal) → goal_by q factors statements kind ≡ Ok goal
     → CanBeSought q (length factors) goal
-goal_sought q factors few statements (criterion.Resolution r) goal e = subst (CanBeSought q (length factors)) (same_ok (AtLeast r) goal e) tt
-goal_sought q factors few statements criterion.Highest goal e = subst (CanBeSought q (length factors)) (same_ok Highest goal e) tt
-goal_sought q factors few statements criterion.Effects goal e = by_model q factors few (statement_of word.Model statements) goal e
+goal_sought q factors few statements (criterion.Resolution r) goal e =
+    subst (CanBeSought q (length factors)) (same_ok (AtLeast r) goal e) tt
+goal_sought q factors few statements criterion.Highest goal e =
+    subst (CanBeSought q (length factors)) (same_ok Highest goal e) tt
+goal_sought q factors few statements criterion.Effects goal e =
+    by_model q factors few (statement_of word.Model statements) goal e
 
 no_more_than_40 : (b : Bool) (n : ℕ) → n ≤ (if b then 30 else 40) → n ≤ 40
 no_more_than_40 true n h = omega (arith, h)
@@ -79,23 +92,31 @@ no_more_than_40 false n h = h
 -- what is read of a step with these factors
 abbrev IsRead : List (List ℕ) → StepSettings × Goal → Type 0
 IsRead factors asked =
-    (are_valid asked.0 ≡ true) × IsOfKind asked.0.criterion asked.1 × (is_count (length factors) asked.0.blocks ≡ true) × CanBeSought asked.0.q (length factors) asked.1
+    (are_valid asked.0 ≡ true) × IsOfKind asked.0.criterion asked.1 × (is_count (length factors) asked.0.blocks ≡ true)
+    × CanBeSought asked.0.q (length factors) asked.1
 
-asked_read : (factors : List (List ℕ)) (head named : List Written) (statements : List (List Written)) (asked : StepSettings × Goal) → 1 ≤ length factors
-    → length factors ≤ factor_limit statements → asked_by factors (step_said head named statements) statements ≡ Ok asked → IsRead factors asked
+asked_read : (factors : List (List ℕ)) (head named : List Written) (statements : List (List Written))
+    (asked : StepSettings × Goal) → 1 ≤ length factors
+    → length factors ≤ factor_limit statements
+    → asked_by factors (step_said head named statements) statements ≡ Ok asked → IsRead factors asked
 asked_read factors head named statements asked one few e =
     let said : StepSaid = step_said head named statements in
     let first = bind_ok (unblocked_of (length factors) said) _ asked e in
     let goal = bind_ok (goal_by first.0.q factors statements first.0.criterion) _ asked first.2 in
     let settings = bind_ok (step_settings_of first.0 said) _ asked goal.2 in
-    let listed = bind_ok (check_components first.0.q (length factors) goal.0 (components_place statements)) _ asked settings.2 in
+    let listed =
+    bind_ok (check_components first.0.q (length factors) goal.0 (components_place statements)) _ asked settings.2 in
     let same = kept first.0 said settings.0 settings.1 in
-    let short : length factors ≤ 40 = no_more_than_40 (is_some (statement_of word.Blocks statements)) (length factors) few in
+    let short : length factors ≤ 40 =
+    no_more_than_40 (is_some (statement_of word.Blocks statements)) (length factors) few in
     subst (IsRead factors) (same_ok (settings.0, goal.0) asked listed.2) (
       valid (length factors) said first.0 settings.0 first.1 settings.1,
-      subst (λ kind. IsOfKind kind goal.0) (sym same.0) (goal_kind first.0.q factors statements first.0.criterion goal.0 goal.1),
-      counted statements (length factors) settings.0.blocks (λ none. without first.0 said settings.0 (unsaid head named statements said refl none) settings.1) one few,
-      subst (λ q. CanBeSought q (length factors) goal.0) (sym same.1) (goal_sought first.0.q factors short statements first.0.criterion goal.0 goal.1),
+      subst (λ kind. IsOfKind kind goal.0) (sym same.0)
+          (goal_kind first.0.q factors statements first.0.criterion goal.0 goal.1),
+      counted statements (length factors) settings.0.blocks
+          (λ none. without first.0 said settings.0 (unsaid head named statements said refl none) settings.1) one few,
+      subst (λ q. CanBeSought q (length factors) goal.0) (sym same.1)
+          (goal_sought first.0.q factors short statements first.0.criterion goal.0 goal.1),
     )
 
 some_same : (proc : Place) (found factors : List (List ℕ)) → some_factors proc found ≡ Ok factors → found ≡ factors
@@ -104,27 +125,41 @@ some_same proc (name ∷ found) factors e = same_ok (name ∷ found) factors e
 
 some_named : (proc : Place) (found factors : List (List ℕ)) → some_factors proc found ≡ Ok factors → 1 ≤ length factors
 some_named proc [] factors e = absurd (cc e)
-some_named proc (name ∷ found) factors e = subst (λ (l : List (List ℕ)). 1 ≤ length l) (same_ok (name ∷ found) factors e) (omega arith)
+some_named proc (name ∷ found) factors e =
+    subst (λ (l : List (List ℕ)). 1 ≤ length l) (same_ok (name ∷ found) factors e) (omega arith)
 
 -- what holds of each valid step holds of each step of a text
 module _ (Claimed : Meaning → Type 0) (claim : (step : Meaning) → IsValidStep step → Claimed step) where
-  step_read : (earlier : List (List ℕ)) (statements : List (List Written)) (factors : Option (List Written)) (step : Meaning)
+  step_read : (earlier : List (List ℕ)) (statements : List (List Written)) (factors : Option (List Written))
+      (step : Meaning)
       → step_by earlier statements factors ≡ Ok step → Claimed step
   step_read earlier statements None step e = absurd (cc e)
   step_read earlier statements (Some given) step e =
       let proc = start_of (head_of statements) in
       let factors = bind_ok (factors_by proc (factor_limit statements) given) _ step e in
       let found = bind_ok (named.factors_of (factor_limit statements) given) (some_factors proc) factors.0 factors.1 in
-      let asked = bind_ok (asked_by factors.0 (step_said (head_of statements) given statements) statements) _ step factors.2 in
+      let asked =
+      bind_ok (asked_by factors.0 (step_said (head_of statements) given statements) statements) _ step factors.2 in
       let outputs = bind_ok (outputs_of (context factors.0 asked.0.0) earlier statements) _ step asked.2 in
-      let whole : Meaning = record { factors = factors.0; settings = asked.0.0; goal = asked.0.1; examine = examine_of statements; outputs = outputs.0 } in
+      let whole : Meaning =
+      record {
+        factors = factors.0;
+        settings = asked.0.0;
+        goal = asked.0.1;
+        examine = examine_of statements;
+        outputs = outputs.0;
+      } in
       let one = some_named proc found.0 factors.0 found.2 in
-      let few : length factors.0 ≤ factor_limit statements = subst (λ (l : List (List ℕ)). length l ≤ factor_limit statements) (some_same proc found.0 factors.0 found.2) (factors_within (factor_limit statements) given found.0 found.1) in
+      let few : length factors.0 ≤ factor_limit statements =
+      subst (λ (l : List (List ℕ)). length l ≤ factor_limit statements) (some_same proc found.0 factors.0 found.2)
+      (factors_within (factor_limit statements) given found.0 found.1) in
       let read = asked_read factors.0 (head_of statements) given statements asked.0 one few asked.1 in
-      subst Claimed (same_ok whole step outputs.2) (claim whole (record { settings = read.0; goal = read.1; factors = read.2; effects = read.3 }))
+      subst Claimed (same_ok whole step outputs.2)
+      (claim whole (record { settings = read.0; goal = read.1; factors = read.2; effects = read.3 }))
 
   -- step by step
-  all_read : (earlier : List (List ℕ)) (done : List Meaning) (groups : List (List (List Written))) (steps : List Meaning) → All Claimed done
+  all_read : (earlier : List (List ℕ)) (done : List Meaning) (groups : List (List (List Written)))
+      (steps : List Meaning) → All Claimed done
       → steps_behind earlier done groups ≡ Ok steps → All Claimed steps
   all_read earlier done [] steps all e = subst (All Claimed) (same_ok done steps e) all
   all_read earlier done (group ∷ groups) steps all e =
@@ -133,16 +168,20 @@ module _ (Claimed : Meaning → Type 0) (claim : (step : Meaning) → IsValidSte
       (All-push Claimed done step.0 all (step_read earlier group (statement_of word.Factors group) step.0 step.1))
       step.2
 
-  accepted_read : (text : List ℕ) (tokens : List Token) (refused : Option (ℕ × ℕ)) (steps : List Meaning) → accepted text tokens refused ≡ Ok steps
+  accepted_read : (text : List ℕ) (tokens : List Token) (refused : Option (ℕ × ℕ)) (steps : List Meaning)
+      → accepted text tokens refused ≡ Ok steps
       → All Claimed steps
   accepted_read text tokens (Some refused) steps e = absurd (cc e)
-  accepted_read text tokens None steps e = all_read [] [] (steps_of (statements_of (written text tokens))) steps (All-nil Claimed) e
+  accepted_read text tokens None steps e =
+      all_read [] [] (steps_of (statements_of (written text tokens))) steps (All-nil Claimed) e
 
-  program_read : (text : List ℕ) (tokens : List Token) (steps : List Meaning) → program_of text tokens ≡ Ok steps → All Claimed steps
+  program_read : (text : List ℕ) (tokens : List Token) (steps : List Meaning) → program_of text tokens ≡ Ok steps
+      → All Claimed steps
   unfolding program_of
   program_read text tokens steps e = accepted_read text tokens (first_refusal (symbols_of text tokens)) steps e
 
-  all_told : (program : Result (List Meaning) Refusal) → ((steps : List Meaning) → program ≡ Ok steps → All Claimed steps) → EachStep Claimed (or_refused program)
+  all_told : (program : Result (List Meaning) Refusal)
+      → ((steps : List Meaning) → program ≡ Ok steps → All Claimed steps) → EachStep Claimed (or_refused program)
   all_told (Ok steps) all = all steps refl
   all_told (Err refusal) all = tt
 
@@ -150,7 +189,8 @@ module _ (Claimed : Meaning → Type 0) (claim : (step : Meaning) → IsValidSte
   lexed_told text (Ok tokens) = all_told (program_of text tokens) (program_read text tokens)
   lexed_told text (Err fault) = tt
 
-  short_told : (text : List ℕ) (b : Bool) → EachStep Claimed (if b then Err (at_front 25) else program_by text (lexed text))
+  short_told : (text : List ℕ) (b : Bool)
+      → EachStep Claimed (if b then Err (at_front 25) else program_by text (lexed text))
   short_told text true = tt
   short_told text false = lexed_told text (lexed text)
 

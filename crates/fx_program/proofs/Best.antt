@@ -1,5 +1,7 @@
--- The design of a valid step is as it asks, and none is better: of the questions of the step the next, or each before it, has no answer.
-use Rattle.std.proofs.Common.{ℕ, ◌≡◌, ◌<◌, ◌≤◌, ◌+◌, ◌||◌, ◌&&◌, Bool, true, false, List, [], ◌∷◌, length, Some, None, refl, sym, ap, ◌∙◌, subst, arith, inl, inr, ◌⊎◌, IsTrue, eqb, eqb-true}
+-- The design of a valid step is as it asks, and none is better: of the questions of the step the next, or each before
+-- it, has no answer.
+use Rattle.std.proofs.Common.{ℕ, ◌≡◌, ◌<◌, ◌≤◌, ◌+◌, ◌||◌, ◌&&◌, Bool, true, false, List, [], ◌∷◌, length, Some, None}
+use Rattle.std.proofs.Common.{refl, sym, ap, ◌∙◌, subst, arith, inl, inr, ◌⊎◌, IsTrue, eqb, eqb-true}
 use Rattle.std.specs.Prelude.{nat_le, not, max, if◌then◌else◌}
 use Rattle.std.specs.List.{list_any, list_all}
 use Rattle.std.proofs.lemmas.Bool.{leb-true, ltb-true, cases_Bool, and_parts, both_ways, eqb-true}
@@ -33,13 +35,18 @@ use Rattle.fx_settings.specs.Valid.{are_blocks, has_blocks, has_most, stand_toge
 use Rattle.fx_statements.specs.Goals.{Goal, AtLeast, Highest, ForEffects}
 use Rattle.fx_statements.specs.Steps.{Meaning}
 use Rattle.fx_statements.specs.Questions as asked
-use Rattle.fx_statements.specs.Questions.{Answered, Unanswered, Conclusion, Until, block_factors, conclusion_of, least_exponent, lowest, outcome_of, question_for, requirement_for, run_factors, seeks_highest, series, until}
-use Rattle.fx_statements.proofs.Concluded.{HasEnding, IsOfFirst, IsOfLast, of-first, of-last, none-of_all, none-of_first}
-use Rattle.fx_program.specs.StepClaims.{Allows, HasHighestOfAll, HasLeastOfAll, HasLeastSize, HasMostBlocks, HasNoneAtAll, HasWhatItAsks, IsAsItAsks, IsOfKind, IsValidStep, required}
+use Rattle.fx_statements.specs.Questions.{Answered, Unanswered, Conclusion, Until, block_factors, conclusion_of}
+use Rattle.fx_statements.specs.Questions.{least_exponent, lowest, outcome_of, question_for, requirement_for}
+use Rattle.fx_statements.specs.Questions.{run_factors, seeks_highest, series, until}
+use Rattle.fx_statements.proofs.Concluded.{HasEnding, IsOfFirst, IsOfLast, of-first, of-last, none-of_all}
+use Rattle.fx_statements.proofs.Concluded.{none-of_first}
+use Rattle.fx_program.specs.StepClaims.{Allows, HasHighestOfAll, HasLeastOfAll, HasLeastSize, HasMostBlocks}
+use Rattle.fx_program.specs.StepClaims.{HasNoneAtAll, HasWhatItAsks, IsAsItAsks, IsOfKind, IsValidStep, required}
 
 -- Numbers of levels
 
-at_level : (levels : List ℕ) (P : ℕ → Bool) (q : ℕ) → list_all P levels ≡ true → list_any (λ x. eqb x q) levels ≡ true → P q ≡ true
+at_level : (levels : List ℕ) (P : ℕ → Bool) (q : ℕ) → list_all P levels ≡ true → list_any (λ x. eqb x q) levels ≡ true
+    → P q ≡ true
 at_level [] P q all among = absurd (both_ways _ refl among)
 at_level (x ∷ levels) P q all among =
     let both = and_parts (P x) (list_all P levels) all in
@@ -110,8 +117,10 @@ kind_of_highest (criterion.Resolution r) goal h e = absurd (subst (IsOfKind (cri
 kind_of_highest criterion.Highest goal h e = refl
 kind_of_highest criterion.Effects goal h e = absurd (subst (IsOfKind criterion.Effects) e h)
 
-reducible_by : (kind : Criterion) (goal : Goal) → IsOfKind kind goal → is_criterion kind ≡ true → IsReducible (required goal)
-reducible_by (criterion.Resolution r) (AtLeast n) h e = (let three = leb-true 3 r (and_parts (nat_le 3 r) (nat_le r 99) e).0 in omega (arith, three, h))
+reducible_by : (kind : Criterion) (goal : Goal) → IsOfKind kind goal → is_criterion kind ≡ true
+    → IsReducible (required goal)
+reducible_by (criterion.Resolution r) (AtLeast n) h e =
+    (let three = leb-true 3 r (and_parts (nat_le 3 r) (nat_le r 99) e).0 in omega (arith, three, h))
 reducible_by (criterion.Resolution r) Highest h e = absurd h
 reducible_by (criterion.Resolution r) (ForEffects estimate besides) h e = absurd h
 reducible_by criterion.Highest (AtLeast n) h e = absurd h
@@ -121,10 +130,12 @@ reducible_by criterion.Effects (AtLeast n) h e = absurd h
 reducible_by criterion.Effects Highest h e = absurd h
 reducible_by criterion.Effects (ForEffects estimate besides) h e = tt
 
-exponent_fits : (q : ℕ) (size : Size) (b : Blocks) → is_level q ≡ true → are_blocks q size b ≡ true → least_exponent b ≤ greatest q
+exponent_fits : (q : ℕ) (size : Size) (b : Blocks) → is_level q ≡ true → are_blocks q size b ≡ true
+    → least_exponent b ≤ greatest q
 exponent_fits q size blocks.Without level e = some_size q level
 exponent_fits q size (blocks.Factors t) level e = some_size q level
-exponent_fits q size (blocks.PerBlock k) level e = (let low : k < greatest q = ltb-true k (greatest q) (and_parts _ _ e).1 in omega (arith, low))
+exponent_fits q size (blocks.PerBlock k) level e =
+    (let low : k < greatest q = ltb-true k (greatest q) (and_parts _ _ e).1 in omega (arith, low))
 exponent_fits q size blocks.Most level e = some_size q level
 
 size_or : (size : Size) → (size ≡ Minimum) ⊎ ((m : ℕ) × (size ≡ Runs m))
@@ -142,7 +153,8 @@ sized q m s t = record { q = q; m = m; s = s; t = t }
 
 same_dimensions : (a b : Dimensions) → a.q ≡ b.q → a.m ≡ b.m → a.s ≡ b.s → a.t ≡ b.t → a ≡ b
 same_dimensions a b eq em es et =
-    ap (λ q. sized q a.m a.s a.t) eq ∙ ap (λ m. sized b.q m a.s a.t) em ∙ ap (λ s. sized b.q b.m s a.t) es ∙ ap (λ t. sized b.q b.m b.s t) et
+    ap (λ q. sized q a.m a.s a.t) eq ∙ ap (λ m. sized b.q m a.s a.t) em ∙ ap (λ s. sized b.q b.m s a.t) es ∙ ap
+    (λ t. sized b.q b.m b.s t) et
 
 module _ (step : Meaning) (valid : IsValidStep step) where
   abbrev q : ℕ
@@ -161,14 +173,19 @@ module _ (step : Meaning) (valid : IsValidStep step) where
   given = (and_parts _ _ (and_parts _ _ valid.settings).0).1
 
   reducible : IsReducible (required step.goal)
-  reducible = reducible_by step.settings.criterion step.goal valid.goal (and_parts _ _ (and_parts _ _ (and_parts _ _ valid.settings).0).0).1
+  reducible =
+      reducible_by step.settings.criterion step.goal valid.goal
+      (and_parts _ _ (and_parts _ _ (and_parts _ _ valid.settings).0).0).1
 
   together : stand_together step.settings.size step.settings.criterion step.settings.least step.settings.blocks ≡ true
   together = (and_parts _ _ valid.settings).1
 
   -- neither least aberration nor the highest resolution in blocks
-  no_blocks : (step.settings.least || is_highest step.settings.criterion) ≡ true → has_blocks step.settings.blocks ≡ false
-  no_blocks h = not_both' (has_blocks step.settings.blocks) (step.settings.least || is_highest step.settings.criterion) (and_parts _ _ (and_parts _ _ together).0).1 h
+  no_blocks : (step.settings.least || is_highest step.settings.criterion) ≡ true
+      → has_blocks step.settings.blocks ≡ false
+  no_blocks h =
+      not_both' (has_blocks step.settings.blocks) (step.settings.least || is_highest step.settings.criterion)
+      (and_parts _ _ (and_parts _ _ together).0).1 h
     where
       not_both' : (a b : Bool) → not (a && b) ≡ true → b ≡ true → a ≡ false
       not_both' true true e h = absurd (cc e)
@@ -177,7 +194,8 @@ module _ (step : Meaning) (valid : IsValidStep step) where
 
   -- the least size with neither, and not with the most blocks
   with_least_size : step.settings.size ≡ Minimum
-      → (is_highest step.settings.criterion ≡ false) × (step.settings.least ≡ false) × (has_most step.settings.blocks ≡ false)
+      → (is_highest step.settings.criterion ≡ false) × (step.settings.least ≡ false)
+      × (has_most step.settings.blocks ≡ false)
   with_least_size e =
       let none = not_both (is_minimum step.settings.size) _ (and_parts _ _ together).1 (ap is_minimum e) in
       let first = neither _ _ none in
@@ -189,7 +207,9 @@ module _ (step : Meaning) (valid : IsValidStep step) where
   highest_kind e = kind_of_highest step.settings.criterion step.goal valid.goal e
 
   highest_unblocked : step.goal ≡ Highest → step.settings.blocks ≡ blocks.Without
-  highest_unblocked e = unblocked step.settings.blocks (no_blocks (or_right' step.settings.least (is_highest step.settings.criterion) (highest_kind e)))
+  highest_unblocked e =
+      unblocked step.settings.blocks
+      (no_blocks (or_right' step.settings.least (is_highest step.settings.criterion) (highest_kind e)))
     where
       or_right' : (a b : Bool) → b ≡ true → (a || b) ≡ true
       or_right' true b h = refl
@@ -206,7 +226,8 @@ module _ (step : Meaning) (valid : IsValidStep step) where
 
   -- what a question requires
   requires_same : (n : ℕ) → (step.goal ≡ Highest → ⊥) → (question n).requirement ≡ required step.goal
-  requires_same n other = elim (highest_or step.goal) [ inl e ↦ absurd (other e) | inr same ↦ same step.settings.least n ]
+  requires_same n other =
+      elim (highest_or step.goal) [ inl e ↦ absurd (other e) | inr same ↦ same step.settings.least n ]
 
   requires_least : (n : ℕ) → step.settings.least ≡ true → (question n).requirement ≡ required step.goal
   requires_least n least = ap (λ b. requirement_for b step.goal n) least ∙ elim (highest_or step.goal) [
@@ -214,20 +235,26 @@ module _ (step : Meaning) (valid : IsValidStep step) where
     | inr same ↦ same true n
   ]
 
-  requires_resolution : (n : ℕ) → step.settings.least ≡ false → step.goal ≡ Highest → (question n).requirement ≡ AtResolution n
-  requires_resolution n plain e = ap (λ b. requirement_for b step.goal n) plain ∙ ap (λ goal. requirement_for false goal n) e
+  requires_resolution : (n : ℕ) → step.settings.least ≡ false → step.goal ≡ Highest
+      → (question n).requirement ≡ AtResolution n
+  requires_resolution n plain e =
+      ap (λ b. requirement_for b step.goal n) plain ∙ ap (λ goal. requirement_for false goal n) e
 
   -- a question without an answer
-  unanswered : (n : ℕ) (wanted : Requirement) → (question n).requirement ≡ wanted → IsReducible wanted → answer (question n) ≡ None
+  unanswered : (n : ℕ) (wanted : Requirement) → (question n).requirement ≡ wanted → IsReducible wanted
+      → answer (question n) ≡ None
       → NoneMeets (question n).dimensions wanted
   unanswered n wanted is low none =
-      let some : 0 < length step.factors + block_factors step.settings.blocks (run_factors step.settings.size n) n = omega (arith, leb-true 1 (length step.factors) (and_parts _ _ valid.factors).0) in
+      let some : 0 < length step.factors + block_factors step.settings.blocks (run_factors step.settings.size n) n =
+      omega (arith, leb-true 1 (length step.factors) (and_parts _ _ valid.factors).0) in
       let reduced : IsReducible (question n).requirement = subst IsReducible (sym is) low in
-      subst (NoneMeets (question n).dimensions) is ((none-exactly (question n) field reduced).0 ((no_answer (question n) some).0 none))
+      subst (NoneMeets (question n).dimensions) is
+      ((none-exactly (question n) field reduced).0 ((no_answer (question n) some).0 none))
 
   -- and its answer, where it has one
   answered : (n : ℕ) (rows : List ℕ) → answer (question n) ≡ Some rows
-      → (length rows ≡ (question n).dimensions.s + (question n).dimensions.t) × (is_met (question n).dimensions (question n).requirement rows ≡ true)
+      → (length rows ≡ (question n).dimensions.s + (question n).dimensions.t)
+      × (is_met (question n).dimensions (question n).requirement rows ≡ true)
   answered n rows is =
       let parts = and_parts _ _ (answer-design (question n) rows is) in
       (eqb-true _ _ parts.0, (and_parts _ _ parts.1).1)
@@ -239,21 +266,29 @@ module _ (step : Meaning) (valid : IsValidStep step) where
     levels = refl;
     factors = refl;
     runs = runs_again step.settings.size n;
-    sizes = λ e. (let is : run_factors step.settings.size n ≡ n = ap (λ size. run_factors size n) e in
-        (subst (λ m. least_exponent step.settings.blocks ≤ m) (sym is) (sizes e).0, subst (λ m. m ≤ greatest q) (sym is) (sizes e).1));
+    sizes = λ e. (let is : run_factors step.settings.size n ≡ n = ap (λ size. run_factors size n) e in (
+      subst (λ m. least_exponent step.settings.blocks ≤ m) (sym is) (sizes e).0,
+      subst (λ m. m ≤ greatest q) (sym is)
+          (sizes e).1,
+    ));
     blocks = blocks_again step.settings.blocks (run_factors step.settings.size n) n;
-    some_blocks = λ e. (let is : block_factors step.settings.blocks (run_factors step.settings.size n) n ≡ n = ap (λ b. block_factors b (run_factors step.settings.size n) n) e in
+    some_blocks =
+        λ e. (let is : block_factors step.settings.blocks (run_factors step.settings.size n) n
+        ≡ n = ap (λ b. block_factors b (run_factors step.settings.size n) n) e in
         subst (λ t. 1 ≤ t) (sym is) (some e));
   }
 
-  allowed_is : (d : Dimensions) (n : ℕ) → Allows step d → run_factors step.settings.size n ≡ d.m → block_factors step.settings.blocks d.m n ≡ d.t
+  allowed_is : (d : Dimensions) (n : ℕ) → Allows step d → run_factors step.settings.size n ≡ d.m
+      → block_factors step.settings.blocks d.m n ≡ d.t
       → (question n).dimensions ≡ d
   allowed_is d n h runs blocks =
-      same_dimensions (question n).dimensions d (sym h.levels) runs (sym h.factors) (ap (λ m. block_factors step.settings.blocks m n) runs ∙ blocks)
+      same_dimensions (question n).dimensions d (sym h.levels) runs (sym h.factors)
+      (ap (λ m. block_factors step.settings.blocks m n) runs ∙ blocks)
 
   -- the outcome for a size
   abbrev at_size : Size → Conclusion
-  at_size size = conclusion_of (series question (lowest step size) (asked.highest step size) (until size)) step.settings.budget
+  at_size size =
+      conclusion_of (series question (lowest step size) (asked.highest step size) (until size)) step.settings.budget
 
   module _ (least : step.settings.size ≡ Minimum) where
     is_least : outcome_of step ≡ at_size Minimum
@@ -262,12 +297,15 @@ module _ (step : Meaning) (valid : IsValidStep step) where
     first_found : (rows : List ℕ) (count : ℕ) → HasEnding (outcome_of step) (Design rows count)
         → IsOfFirst question (least_exponent step.settings.blocks) (greatest q) step.settings.budget rows
     first_found rows count e =
-        of-first question (least_exponent step.settings.blocks) (greatest q) step.settings.budget rows count (ap (λ (c : Conclusion). c.ending) (sym is_least) ∙ e)
+        of-first question (least_exponent step.settings.blocks) (greatest q) step.settings.budget rows count
+        (ap (λ (c : Conclusion). c.ending) (sym is_least) ∙ e)
 
-    none_found : (count : ℕ) → HasEnding (outcome_of step) (NoDesign count) → (n : ℕ) → least_exponent step.settings.blocks ≤ n → n ≤ greatest q
+    none_found : (count : ℕ) → HasEnding (outcome_of step) (NoDesign count) → (n : ℕ)
+        → least_exponent step.settings.blocks ≤ n → n ≤ greatest q
         → answer (question n) ≡ None
     none_found count e =
-        none-of_all question (least_exponent step.settings.blocks) (greatest q) step.settings.budget count (ap (λ (c : Conclusion). c.ending) (sym is_least) ∙ e)
+        none-of_all question (least_exponent step.settings.blocks) (greatest q) step.settings.budget count
+        (ap (λ (c : Conclusion). c.ending) (sym is_least) ∙ e)
 
   module _ (m : ℕ) (fixed : step.settings.size ≡ Runs m) where
     abbrev low : ℕ
@@ -279,18 +317,24 @@ module _ (step : Meaning) (valid : IsValidStep step) where
     is_fixed : outcome_of step ≡ at_size (Runs m)
     is_fixed = ap at_size fixed
 
-    last_found : (rows : List ℕ) (count : ℕ) → HasEnding (outcome_of step) (Design rows count) → IsOfLast question low high step.settings.budget rows
-    last_found rows count e = of-last question low high step.settings.budget rows count (ap (λ (c : Conclusion). c.ending) (sym is_fixed) ∙ e)
+    last_found : (rows : List ℕ) (count : ℕ) → HasEnding (outcome_of step) (Design rows count)
+        → IsOfLast question low high step.settings.budget rows
+    last_found rows count e =
+        of-last question low high step.settings.budget rows count (ap (λ (c : Conclusion). c.ending) (sym is_fixed) ∙ e)
 
     first_none : (count : ℕ) → HasEnding (outcome_of step) (NoDesign count) → answer (question low) ≡ None
-    first_none count e = none-of_first question low high step.settings.budget count (ap (λ (c : Conclusion). c.ending) (sym is_fixed) ∙ e)
+    first_none count e =
+        none-of_first question low high step.settings.budget count
+        (ap (λ (c : Conclusion). c.ending) (sym is_fixed) ∙ e)
 
     -- where the most blocks are asked, the questions are for 1 to m block factors
     low_most : step.settings.blocks ≡ blocks.Most → low ≡ 1
     low_most e = ap (λ b. if has_most b then 1 else 3) e
 
     high_most : step.settings.blocks ≡ blocks.Most → high ≡ m
-    high_most e = ap (λ b. if has_most b then m else (if seeks_highest step.settings.least step.goal then max 3 (length step.factors + 1) else 3)) e
+    high_most e =
+        ap (λ b. if has_most b
+        then m else (if seeks_highest step.settings.least step.goal then max 3 (length step.factors + 1) else 3)) e
 
     -- where the highest resolution is, they are for 3 and up
     low_highest : step.goal ≡ Highest → low ≡ 3
@@ -298,7 +342,9 @@ module _ (step : Meaning) (valid : IsValidStep step) where
 
     high_highest : step.goal ≡ Highest → step.settings.least ≡ false → high ≡ max 3 (length step.factors + 1)
     high_highest e plain =
-        ap (λ b. if has_most b then m else (if seeks_highest step.settings.least step.goal then max 3 (length step.factors + 1) else 3)) (highest_unblocked e)
+        ap (λ b. if has_most b
+        then m else (if seeks_highest step.settings.least step.goal then max 3 (length step.factors + 1) else 3))
+        (highest_unblocked e)
         ∙ ap (λ least. if seeks_highest least step.goal then max 3 (length step.factors + 1) else 3) plain
         ∙ ap (λ goal. if seeks_highest false goal then max 3 (length step.factors + 1) else 3) e
 
@@ -306,7 +352,8 @@ module _ (step : Meaning) (valid : IsValidStep step) where
   d = (outcome_of step).dimensions
 
   -- runs that meet what a question requires meet what the step does
-  met_required : (n : ℕ) (rows : List ℕ) → (step.goal ≡ Highest → 3 ≤ n) → is_met (question n).dimensions (question n).requirement rows ≡ true
+  met_required : (n : ℕ) (rows : List ℕ) → (step.goal ≡ Highest → 3 ≤ n)
+      → is_met (question n).dimensions (question n).requirement rows ≡ true
       → is_met (question n).dimensions (required step.goal) rows ≡ true
   unfolding is_met
   met_required n rows three met = elim (highest_or step.goal) [
@@ -326,7 +373,8 @@ module _ (step : Meaning) (valid : IsValidStep step) where
   ]
 
   as_asked : (n : ℕ) (rows : List ℕ) → d ≡ (question n).dimensions → answer (question n) ≡ Some rows
-      → (step.settings.size ≡ Minimum → (least_exponent step.settings.blocks ≤ n) × (n ≤ greatest q)) → (step.settings.blocks ≡ blocks.Most → 1 ≤ n)
+      → (step.settings.size ≡ Minimum → (least_exponent step.settings.blocks ≤ n) × (n ≤ greatest q))
+      → (step.settings.blocks ≡ blocks.Most → 1 ≤ n)
       → (step.goal ≡ Highest → 3 ≤ n) → IsAsItAsks step d rows
   as_asked n rows dims is sizes some three =
       let own = answered n rows is in
@@ -340,15 +388,18 @@ module _ (step : Meaning) (valid : IsValidStep step) where
   what_it_asks rows count e = elim (size_or step.settings.size) [
     | inl least ↦
         let h = first_found least rows count e in
-        as_asked h.n rows (ap (λ (c : Conclusion). c.dimensions) (is_least least) ∙ h.answers.dimensions) h.answers.answer_is
+        as_asked h.n rows (ap (λ (c : Conclusion). c.dimensions) (is_least least) ∙ h.answers.dimensions)
+        h.answers.answer_is
         (λ z. (h.from, h.upto (exponent_fits q step.settings.size step.settings.blocks level given)))
         (λ most. absurd (most_fixed most least)) (λ highest. absurd (highest_fixed highest least))
     | inr fixed ↦
         let m = fixed.0 in
         let h = last_found m fixed.1 rows count e in
-        as_asked h.n rows (ap (λ (c : Conclusion). c.dimensions) (is_fixed m fixed.1) ∙ h.answers.dimensions) h.answers.answer_is
+        as_asked h.n rows (ap (λ (c : Conclusion). c.dimensions) (is_fixed m fixed.1) ∙ h.answers.dimensions)
+        h.answers.answer_is
         (λ least. absurd (let bad : Minimum ≡ Runs m = sym least ∙ fixed.1 in cc bad))
-        (λ most. subst (λ k. k ≤ h.n) (low_most m fixed.1 most) h.from) (λ highest. subst (λ k. k ≤ h.n) (low_highest m fixed.1 highest) h.from)
+        (λ most. subst (λ k. k ≤ h.n) (low_most m fixed.1 most) h.from)
+        (λ highest. subst (λ k. k ≤ h.n) (low_highest m fixed.1 highest) h.from)
   ]
 
   pub least_of_all : HasLeastOfAll step
@@ -357,10 +408,13 @@ module _ (step : Meaning) (valid : IsValidStep step) where
     | inr fixed ↦
         let m = fixed.0 in
         let h = last_found m fixed.1 rows count e in
-        let dims : d ≡ (question h.n).dimensions = ap (λ (c : Conclusion). c.dimensions) (is_fixed m fixed.1) ∙ h.answers.dimensions in
+        let dims : d ≡ (question h.n).dimensions =
+        ap (λ (c : Conclusion). c.dimensions) (is_fixed m fixed.1) ∙ h.answers.dimensions in
         subst (λ d. HasLeastPattern d (required step.goal) rows) (sym dims)
         (subst (λ wanted. HasLeastPattern (question h.n).dimensions wanted rows) (requires_least h.n least)
-        (λ factors blocks matrix met. least-of_all (question h.n) field (subst IsReducible (sym (requires_least h.n least)) reducible) rows factors blocks least h.answers.answer_is matrix met))
+        (λ factors blocks matrix met. least-of_all (question h.n) field
+        (subst IsReducible (sym (requires_least h.n least)) reducible) rows factors blocks least h.answers.answer_is
+        matrix met))
   ]
 
   -- where each smaller size that it allows has no answer
@@ -368,18 +422,21 @@ module _ (step : Meaning) (valid : IsValidStep step) where
   least_size rows count other e h less = elim (size_or step.settings.size) [
     | inl least ↦
         let first = first_found least rows count e in
-        let dims : d ≡ (question first.n).dimensions = ap (λ (c : Conclusion). c.dimensions) (is_least least) ∙ first.answers.dimensions in
+        let dims : d ≡ (question first.n).dimensions =
+        ap (λ (c : Conclusion). c.dimensions) (is_least least) ∙ first.answers.dimensions in
         let runs : d.m ≡ first.n = ap (λ (d : Dimensions). d.m) dims ∙ ap (λ size. run_factors size first.n) least in
         let facts = with_least_size least in
         subst (λ d. NoneMeets d (required step.goal))
         (allowed_is other other.m h (ap (λ size. run_factors size other.m) least)
         (same_blocks step.settings.blocks other.m other.m other.t facts.2 ∙ sym h.blocks))
-        (unanswered other.m (required step.goal) (requires_same other.m (λ highest. highest_fixed highest least)) reducible
+        (unanswered other.m (required step.goal) (requires_same other.m (λ highest. highest_fixed highest least))
+        reducible
         (first.none_before other.m (h.sizes least).0 (omega (arith, less, runs))))
     | inr fixed ↦
         let m = fixed.0 in
         let last = last_found m fixed.1 rows count e in
-        let dims : d ≡ (question last.n).dimensions = ap (λ (c : Conclusion). c.dimensions) (is_fixed m fixed.1) ∙ last.answers.dimensions in
+        let dims : d ≡ (question last.n).dimensions =
+        ap (λ (c : Conclusion). c.dimensions) (is_fixed m fixed.1) ∙ last.answers.dimensions in
         let runs : d.m ≡ m = ap (λ (d : Dimensions). d.m) dims ∙ ap (λ size. run_factors size last.n) fixed.1 in
         let own : other.m ≡ m = h.runs ∙ ap (λ size. run_factors size other.m) fixed.1 in
         absurd (omega (arith, less, runs, own))
@@ -393,31 +450,38 @@ module _ (step : Meaning) (valid : IsValidStep step) where
         let m = fixed.0 in
         let last = last_found m fixed.1 rows count e in
         let n : ℕ = last.n in
-        let dims : d ≡ (question n).dimensions = ap (λ (c : Conclusion). c.dimensions) (is_fixed m fixed.1) ∙ last.answers.dimensions in
+        let dims : d ≡ (question n).dimensions =
+        ap (λ (c : Conclusion). c.dimensions) (is_fixed m fixed.1) ∙ last.answers.dimensions in
         let at = λ (m n : ℕ). ap (λ b. block_factors b m n) most in
         let runs = λ (n : ℕ). ap (λ size. run_factors size n) fixed.1 in
         let own : (question n).dimensions.t ≡ n = at (run_factors step.settings.size n) n in
         let above : (question n).dimensions.t < other.t = subst (λ (d : Dimensions). d.t < other.t) dims more in
         let one_more : (question (n + 1)).dimensions ≡ with_block (question n).dimensions =
-        same_dimensions (question (n + 1)).dimensions (with_block (question n).dimensions) refl (runs (n + 1) ∙ sym (runs n)) refl
+        same_dimensions (question (n + 1)).dimensions (with_block (question n).dimensions) refl
+        (runs (n + 1) ∙ sym (runs n)) refl
         (at (run_factors step.settings.size (n + 1)) (n + 1) ∙ sym (ap (λ t. t + 1) own)) in
-        let none : NoneMeets (with_block (question n).dimensions) (required step.goal) ⊎ ((question n).dimensions.m ≤ (question n).dimensions.t) =
+        let none : NoneMeets (with_block (question n).dimensions) (required step.goal)
+        ⊎ ((question n).dimensions.m ≤ (question n).dimensions.t) =
         elim last.none_next [
           | inl end ↦ inr (omega (arith, end, high_most m fixed.1 most, runs n, own))
           | inr unmet ↦ inl (subst (λ d. NoneMeets d (required step.goal)) one_more
-              (unanswered (n + 1) (required step.goal) (requires_same (n + 1) (λ highest. most_not_highest most highest)) reducible unmet))
+              (unanswered (n + 1) (required step.goal)
+              (requires_same (n + 1) (λ highest. most_not_highest most highest)) reducible unmet))
         ] in
         let same : with_blocks (question n).dimensions other.t ≡ other =
         same_dimensions (with_blocks (question n).dimensions other.t) other (sym h.levels)
         (runs n ∙ sym (h.runs ∙ ap (λ size. run_factors size other.m) fixed.1)) (sym h.factors) refl in
-        subst (λ d. NoneMeets d (required step.goal)) same (most-blocks (question n).dimensions field (required step.goal) none other.t above)
+        subst (λ d. NoneMeets d (required step.goal)) same
+        (most-blocks (question n).dimensions field (required step.goal) none other.t above)
   ]
 
-  next_highest : (m : ℕ) → step.settings.size ≡ Runs m → step.goal ≡ Highest → (n : ℕ) → (question (n + 1)).dimensions ≡ (question n).dimensions
+  next_highest : (m : ℕ) → step.settings.size ≡ Runs m → step.goal ≡ Highest → (n : ℕ)
+      → (question (n + 1)).dimensions ≡ (question n).dimensions
   next_highest m fixed e n =
       let runs = λ (n : ℕ). ap (λ size. run_factors size n) fixed in
       let none = λ (n : ℕ). ap (λ b. block_factors b (run_factors step.settings.size n) n) (highest_unblocked e) in
-      same_dimensions (question (n + 1)).dimensions (question n).dimensions refl (runs (n + 1) ∙ sym (runs n)) refl (none (n + 1) ∙ sym (none n))
+      same_dimensions (question (n + 1)).dimensions (question n).dimensions refl (runs (n + 1) ∙ sym (runs n)) refl
+      (none (n + 1) ∙ sym (none n))
 
   -- where the question for the next resolution has no answer, or there is no word
   pub highest_of_all : HasHighestOfAll step
@@ -427,14 +491,17 @@ module _ (step : Meaning) (valid : IsValidStep step) where
         let m = fixed.0 in
         let last = last_found m fixed.1 rows count ends in
         let n : ℕ = last.n in
-        let dims : d ≡ (question n).dimensions = ap (λ (c : Conclusion). c.dimensions) (is_fixed m fixed.1) ∙ last.answers.dimensions in
+        let dims : d ≡ (question n).dimensions =
+        ap (λ (c : Conclusion). c.dimensions) (is_fixed m fixed.1) ∙ last.answers.dimensions in
         let own = answered n rows last.answers.answer_is in
-        let plain_blocks : (question n).dimensions.t ≡ 0 = ap (λ b. block_factors b (run_factors step.settings.size n) n) (highest_unblocked e) in
+        let plain_blocks : (question n).dimensions.t ≡ 0 =
+        ap (λ b. block_factors b (run_factors step.settings.size n) n) (highest_unblocked e) in
         subst (λ d. HighestOfAll d rows) (sym dims) (elim (cases_Bool step.settings.least) [
           | inl least ↦
               let wanted : required step.goal ≡ AtResolution 3 = ap required e in
               highest-least (question n).dimensions field 3 rows plain_blocks own.0
-              (subst (λ wanted. is_met (question n).dimensions wanted rows ≡ true) (requires_least n least ∙ wanted) own.1)
+              (subst (λ wanted. is_met (question n).dimensions wanted rows ≡ true) (requires_least n least ∙ wanted)
+              own.1)
               (subst (λ wanted. HasLeastPattern (question n).dimensions wanted rows) wanted
               (subst (λ d. HasLeastPattern d (required step.goal) rows) dims (least_of_all rows count least ends)))
           | inr plain ↦
@@ -445,37 +512,45 @@ module _ (step : Meaning) (valid : IsValidStep step) where
               (elim last.none_next [
                 | inl end ↦ inr (omega (arith, end, high_highest m fixed.1 e plain))
                 | inr unmet ↦ inl (subst (λ d. NoneMeets d (AtResolution (n + 1))) (next_highest m fixed.1 e n)
-                    (unanswered (n + 1) (AtResolution (n + 1)) (requires_resolution (n + 1) plain e) (omega (arith, from)) unmet))
+                    (unanswered (n + 1) (AtResolution (n + 1)) (requires_resolution (n + 1) plain e)
+                    (omega (arith, from)) unmet))
               ])
         ])
   ]
 
   -- of a fixed size the first question requires what the step does
-  requires_first : (m : ℕ) (fixed : step.settings.size ≡ Runs m) → (question (low m fixed)).requirement ≡ required step.goal
+  requires_first : (m : ℕ) (fixed : step.settings.size ≡ Runs m)
+      → (question (low m fixed)).requirement ≡ required step.goal
   requires_first m fixed = elim (highest_or step.goal) [
     | inr same ↦ same step.settings.least (low m fixed)
     | inl e ↦ elim (cases_Bool step.settings.least) [
       | inl least ↦ requires_least (low m fixed) least
-      | inr plain ↦ requires_resolution (low m fixed) plain e ∙ ap AtResolution (low_highest m fixed e) ∙ sym (ap required e)
+      | inr plain ↦
+          requires_resolution (low m fixed) plain e ∙ ap AtResolution (low_highest m fixed e) ∙ sym (ap required e)
     ]
   ]
 
-  none_fixed : (other : Dimensions) → Allows step other → (m : ℕ) (fixed : step.settings.size ≡ Runs m) → answer (question (low m fixed)) ≡ None
+  none_fixed : (other : Dimensions) → Allows step other → (m : ℕ) (fixed : step.settings.size ≡ Runs m)
+      → answer (question (low m fixed)) ≡ None
       → NoneMeets other (required step.goal)
   none_fixed other h m fixed unmet =
       let n : ℕ = low m fixed in
-      let none : NoneMeets (question n).dimensions (required step.goal) = unanswered n (required step.goal) (requires_first m fixed) reducible unmet in
+      let none : NoneMeets (question n).dimensions (required step.goal) =
+      unanswered n (required step.goal) (requires_first m fixed) reducible unmet in
       let runs = λ (n : ℕ). ap (λ size. run_factors size n) fixed in
       let same_runs : run_factors step.settings.size n ≡ other.m = runs n ∙ sym (h.runs ∙ runs other.m) in
       elim (most_or step.settings.blocks) [
         | inr plain ↦
             subst (λ d. NoneMeets d (required step.goal))
-            (allowed_is other n h same_runs (same_blocks step.settings.blocks other.m n other.t plain ∙ sym h.blocks)) none
+            (allowed_is other n h same_runs (same_blocks step.settings.blocks other.m n other.t plain ∙ sym h.blocks))
+            none
         | inl most ↦
-            let own : (question n).dimensions.t ≡ 1 = ap (λ b. block_factors b (run_factors step.settings.size n) n) most ∙ low_most m fixed most in
+            let own : (question n).dimensions.t ≡ 1 =
+            ap (λ b. block_factors b (run_factors step.settings.size n) n) most ∙ low_most m fixed most in
             let from : 1 ≤ other.t = h.some_blocks most in
             let same : with_blocks (question n).dimensions other.t ≡ other =
-            same_dimensions (with_blocks (question n).dimensions other.t) other (sym h.levels) same_runs (sym h.factors) refl in
+            same_dimensions (with_blocks (question n).dimensions other.t) other (sym h.levels) same_runs (sym h.factors)
+            refl in
             subst (λ d. NoneMeets d (required step.goal)) same
             (none-with_more (question n).dimensions field (required step.goal) other.t (omega (arith, own, from)) none)
       ]
@@ -488,7 +563,9 @@ module _ (step : Meaning) (valid : IsValidStep step) where
         subst (λ d. NoneMeets d (required step.goal))
         (allowed_is other other.m h (ap (λ size. run_factors size other.m) least)
         (same_blocks step.settings.blocks other.m other.m other.t facts.2 ∙ sym h.blocks))
-        (unanswered other.m (required step.goal) (requires_same other.m (λ highest. highest_fixed highest least)) reducible
-        (none_found least count e other.m (h.sizes least).0 (subst (λ q. other.m ≤ greatest q) h.levels (h.sizes least).1)))
+        (unanswered other.m (required step.goal) (requires_same other.m (λ highest. highest_fixed highest least))
+        reducible
+        (none_found least count e other.m (h.sizes least).0
+        (subst (λ q. other.m ≤ greatest q) h.levels (h.sizes least).1)))
     | inr fixed ↦ none_fixed other h fixed.0 fixed.1 (first_none fixed.0 fixed.1 count e)
   ]

@@ -1,5 +1,6 @@
 -- How a command ends: what was read, what was given, and what its status says.
-use Rattle.std.proofs.Common.{ℕ, ◌≡◌, ◌<◌, ◌≤◌, ◌∷◌, ◌∙◌, List, Option, Some, Result, Ok, Err, false, true, refl, sym, subst, arith, [], ap, inl, length}
+use Rattle.std.proofs.Common.{ℕ, ◌≡◌, ◌<◌, ◌≤◌, ◌∷◌, ◌∙◌, List, Option, Some, Result, Ok, Err, false, true, refl, sym}
+use Rattle.std.proofs.Common.{subst, arith, [], ap, inl, length}
 use Rattle.std.specs.Prelude.{IfOk, IsErrAnd, nat_le, unwrap_or}
 use Rattle.std.proofs.lemmas.Bool.{false≢true, lt-leb}
 use Rattle.fx_base.specs.Reading.{HasReadCause, IsAllLeft, IsOverLimit}
@@ -17,7 +18,8 @@ use Rattle.fx_program.specs.Texts.{program_in}
 use Rattle.fx_program.specs.Claims.{SomeHasNone}
 use Rattle.fx_program.specs.Output.{Output}
 use Rattle.fx_program.specs.Commands.{Command, command_for, unread}
-use Rattle.fx_program.specs.Outside.{Ends, GivesForSome, IsCarriedOut, Outside, ShelfView, SinkView, SourceView, faults_of, outside, world_of}
+use Rattle.fx_program.specs.Outside.{Ends, GivesForSome, IsCarriedOut, Outside, ShelfView, SinkView, SourceView}
+use Rattle.fx_program.specs.Outside.{faults_of, outside, world_of}
 use Rattle.fx_program.proofs.Endings.{error_is, gives_part, stopped_high}
 use Rattle.fx_program.proofs.Limits.{is_over_limit, over_limit, same_over_limit}
 use Rattle.fx_program.proofs.Statuses.{none_where_one}

@@ -1,15 +1,18 @@
 -- How a stage of the program ends: all was done, or it stopped.
-use Rattle.std.proofs.Common.{ℕ, ◌≡◌, ◌<◌, ◌≤◌, ◌∷◌, ◌∙◌, List, Result, Ok, Err, refl, sym, subst, arith, [], ap, inl, inr}
+use Rattle.std.proofs.Common.{ℕ, ◌≡◌, ◌<◌, ◌≤◌, ◌∷◌, ◌∙◌, List, Result, Ok, Err, refl, sym, subst, arith, [], ap, inl}
+use Rattle.std.proofs.Common.{inr}
 use Rattle.std.specs.Prelude.{IsErrAnd}
 use Rattle.fx_base.specs.Acts.{Event, Piece, acts, World, Did, DidPart}
 use Rattle.fx_base.specs.Faults.{Rose}
 use Rattle.fx_base.specs.Writing.{Appends, AppendsPart}
-use Rattle.fx_base.proofs.Doing.{did_one, did_piece, did_then, part_before, part_none, part_one, part_piece, part_then, part_whole}
+use Rattle.fx_base.proofs.Doing.{did_one, did_piece, did_then, part_before, part_none, part_one, part_piece, part_then}
+use Rattle.fx_base.proofs.Doing.{part_whole}
 use Rattle.fx_program.specs.declared.stop.Stop.{Stop}
 use Rattle.fx_program.specs.declared.stop.Stop.TheVariants as stop
 use Rattle.fx_program.specs.Stops.{HasCause, exit_status}
 use Rattle.fx_program.specs.Output.{Output, Gives, message, with_files}
-use Rattle.fx_program.specs.Outside.{Ends, HaveSameRooms, Lists, Outside, ShelfView, ShelvesFiles, SinkView, Writes, faults_of, outside}
+use Rattle.fx_program.specs.Outside.{Ends, HaveSameRooms, Lists, Outside, ShelfView, ShelvesFiles, SinkView, Writes}
+use Rattle.fx_program.specs.Outside.{faults_of, outside}
 
 -- what is given where all was done, and where it stopped
 pub gives_whole : {a b : World} (output : Output) (status : ℕ) → status ≡ output.status → Did a b (acts output.events)

@@ -1,5 +1,6 @@
 -- Files that were shelved one after another by calls that have no listing.
-use Rattle.std.proofs.Common.{ℕ, ◌≡◌, ◌<◌, ◌≤◌, ◌+◌, List, [], ◌∷◌, ◌++◌, Option, Some, Result, Ok, Err, false, length, map, take, drop, get_or, take_all, refl, sym, ap, ap₂, subst, ◌∙◌, inl}
+use Rattle.std.proofs.Common.{ℕ, ◌≡◌, ◌<◌, ◌≤◌, ◌+◌, List, [], ◌∷◌, ◌++◌, Option, Some, Result, Ok, Err, false, length}
+use Rattle.std.proofs.Common.{map, take, drop, get_or, take_all, refl, sym, ap, ap₂, subst, ◌∙◌, inl}
 use Rattle.std.specs.Prelude.{IsErrAnd}
 use Rattle.std.proofs.lemmas.Result.{on_ok_weaker}
 use Rattle.std.proofs.Math.Seq.{drop-cons}
@@ -7,7 +8,8 @@ use Rattle.std.proofs.Math.Numerals.{add-one}
 use Rattle.std.proofs.lemmas.List.{append-nil, map-append, map_more, take-append-drop}
 use Rattle.fx_base.specs.Acts.{Act, Event, WholeFile, File, Did, DidPart, Shelves, ShelvesPart, acts, acts_of, listed}
 use Rattle.fx_base.specs.Writing.{Appends}
-use Rattle.fx_base.proofs.Doing.{did_none, did_one, did_then, listed-append, listed-file, part_before, part_one, part_then, part_whole}
+use Rattle.fx_base.proofs.Doing.{did_none, did_one, did_then, listed-append, listed-file, part_before, part_one}
+use Rattle.fx_base.proofs.Doing.{part_then, part_whole}
 use Rattle.fx_base.specs.Faults.{Rose}
 use Rattle.fx_program.specs.declared.stop.Stop.{Stop}
 use Rattle.fx_program.specs.declared.stop.Stop.TheVariants as stop
@@ -18,18 +20,21 @@ use Rattle.fx_program.proofs.Endings.{error_is, same_stop}
 
 -- acts on the shelf alone list nothing
 unlisted : (old : Option (List ℕ)) (bytes : List ℕ) → bytes ≡ [] → Appends old old bytes
-unlisted old bytes none = subst (Appends old old) (sym none) (record { exposed = λ text e. e ∙ ap Some (sym (append-nil text)) })
+unlisted old bytes none =
+    subst (Appends old old) (sym none) (record { exposed = λ text e. e ∙ ap Some (sym (append-nil text)) })
 
 first_none : {X : Type 0} (xs ys : List X) → xs ++ ys ≡ [] → xs ≡ []
 first_none [] ys e = refl
 first_none (x ∷ xs) ys e = absurd (cc e)
 
 -- one file
-did_file : (old new : Option (List File)) (name content : List ℕ) (written : Option (List ℕ)) → Shelves old new (acts_of (WholeFile name content))
+did_file : (old new : Option (List File)) (name content : List ℕ) (written : Option (List ℕ))
+    → Shelves old new (acts_of (WholeFile name content))
     → Did (world written old) (world written new) (acts_of (WholeFile name content))
 did_file old new name content written did = record { listing = unlisted written _ (listed-file content); shelf = did }
 
-part_file : (old new : Option (List File)) (name content : List ℕ) (written : Option (List ℕ)) → ShelvesPart old new (acts_of (WholeFile name content))
+part_file : (old new : Option (List File)) (name content : List ℕ) (written : Option (List ℕ))
+    → ShelvesPart old new (acts_of (WholeFile name content))
     → DidPart (world written old) (world written new) (acts_of (WholeFile name content))
 part_file old new name content written part = record {
   done = part.done;
@@ -37,7 +42,8 @@ part_file old new name content written part = record {
   front = part.front;
   did = record {
     listing = unlisted written _
-        (first_none (listed part.done) (listed part.left) (sym (listed-append part.done part.left) ∙ ap listed part.front ∙ listed-file content));
+        (first_none (listed part.done) (listed part.left)
+        (sym (listed-append part.done part.left) ∙ ap listed part.front ∙ listed-file content));
     shelf = part.did;
   };
 }

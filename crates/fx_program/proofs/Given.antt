@@ -1,5 +1,6 @@
 -- What is given for a step, by its outcome.
-use Rattle.std.proofs.Common.{ℕ, ◌≡◌, ◌≤◌, ◌+◌, ◌^◌, length, List, [], ◌++◌, Option, Some, None, refl, sym, ap, ap₂, subst, ◌∙◌}
+use Rattle.std.proofs.Common.{ℕ, ◌≡◌, ◌≤◌, ◌+◌, ◌^◌, length, List, [], ◌++◌, Option, Some, None, refl, sym, ap, ap₂}
+use Rattle.std.proofs.Common.{subst, ◌∙◌}
 use Rattle.fx_designs.specs.Problems.{Dimensions, Problem}
 use Rattle.fx_designs.specs.Outcomes.{Ending, Design, NoDesign, BudgetEnded}
 use Rattle.fx_vectors.specs.declared.shape.Shape.{Shape}
@@ -31,31 +32,40 @@ module _ (shape : Shape) where
   with_rows rows = record { shape = shape; rows = rows }
 
   -- a matrix has the sections of the ending's
-  pub with_matrix : (step : Meaning) (books : List ℕ) (ending : Ending) (matrix : MatrixView) → HasMatrix shape ending (Some matrix)
-      → rules (dimensions_of matrix.shape) step.factors matrix.rows ++ (books ++ examined step matrix) ≡ sections (dimensions_of shape) step books ending
+  pub with_matrix : (step : Meaning) (books : List ℕ) (ending : Ending) (matrix : MatrixView)
+      → HasMatrix shape ending (Some matrix)
+      → rules (dimensions_of matrix.shape) step.factors matrix.rows ++ (books ++ examined step matrix)
+      ≡ sections (dimensions_of shape) step books ending
   with_matrix step books (Design rows count) matrix h =
-      ap (λ (x : MatrixView). rules (dimensions_of x.shape) step.factors x.rows ++ (books ++ examined step x)) (same_some matrix (with_rows rows) h.0)
+      ap (λ (x : MatrixView). rules (dimensions_of x.shape) step.factors x.rows ++ (books ++ examined step x))
+      (same_some matrix (with_rows rows) h.0)
   with_matrix step books (NoDesign count) matrix h = absurd (cc h)
   with_matrix step books (BudgetEnded None budget) matrix h = absurd (cc h)
   with_matrix step books (BudgetEnded (Some rows) budget) matrix h =
-      ap (λ (x : MatrixView). rules (dimensions_of x.shape) step.factors x.rows ++ (books ++ examined step x)) (same_some matrix (with_rows rows) h.0)
+      ap (λ (x : MatrixView). rules (dimensions_of x.shape) step.factors x.rows ++ (books ++ examined step x))
+      (same_some matrix (with_rows rows) h.0)
 
   -- and is whole
-  pub rows_are : (ending : Ending) (matrix : MatrixView) → HasMatrix shape ending (Some matrix) → length matrix.rows ≡ shape.s + shape.t
-  rows_are (Design rows count) matrix h = ap (λ (x : MatrixView). length x.rows) (same_some matrix (with_rows rows) h.0) ∙ h.1
+  pub rows_are : (ending : Ending) (matrix : MatrixView) → HasMatrix shape ending (Some matrix)
+      → length matrix.rows ≡ shape.s + shape.t
+  rows_are (Design rows count) matrix h =
+      ap (λ (x : MatrixView). length x.rows) (same_some matrix (with_rows rows) h.0) ∙ h.1
   rows_are (NoDesign count) matrix h = absurd (cc h)
   rows_are (BudgetEnded None budget) matrix h = absurd (cc h)
-  rows_are (BudgetEnded (Some rows) budget) matrix h = ap (λ (x : MatrixView). length x.rows) (same_some matrix (with_rows rows) h.0) ∙ h.1
+  rows_are (BudgetEnded (Some rows) budget) matrix h =
+      ap (λ (x : MatrixView). length x.rows) (same_some matrix (with_rows rows) h.0) ∙ h.1
 
   -- of the outcome's shape
   pub shape_is : (ending : Ending) (matrix : MatrixView) → HasMatrix shape ending (Some matrix) → matrix.shape ≡ shape
   shape_is (Design rows count) matrix h = ap (λ (x : MatrixView). x.shape) (same_some matrix (with_rows rows) h.0)
   shape_is (NoDesign count) matrix h = absurd (cc h)
   shape_is (BudgetEnded None budget) matrix h = absurd (cc h)
-  shape_is (BudgetEnded (Some rows) budget) matrix h = ap (λ (x : MatrixView). x.shape) (same_some matrix (with_rows rows) h.0)
+  shape_is (BudgetEnded (Some rows) budget) matrix h =
+      ap (λ (x : MatrixView). x.shape) (same_some matrix (with_rows rows) h.0)
 
   -- without a matrix there are only the lines of the books
-  pub without_matrix : (step : Meaning) (books : List ℕ) (ending : Ending) → HasMatrix shape ending None → books ≡ sections (dimensions_of shape) step books ending
+  pub without_matrix : (step : Meaning) (books : List ℕ) (ending : Ending) → HasMatrix shape ending None
+      → books ≡ sections (dimensions_of shape) step books ending
   without_matrix step books (Design rows count) h = absurd (cc h.0)
   without_matrix step books (NoDesign count) h = refl
   without_matrix step books (BudgetEnded None budget) h = refl
@@ -69,7 +79,8 @@ unfolding step_lines
 all_lines number d step books ending lines after head rest = ap₂ (λ (x y : List ℕ). x ++ y) head rest
 
 -- the matrix of an outcome is that of its ending
-pub matrix_is : (shape : Shape) (ending : Ending) (matrix : Option MatrixView) → HasMatrix shape ending matrix → matrix_in (dimensions_of shape) ending ≡ matrix
+pub matrix_is : (shape : Shape) (ending : Ending) (matrix : Option MatrixView) → HasMatrix shape ending matrix
+    → matrix_in (dimensions_of shape) ending ≡ matrix
 matrix_is shape (Design rows count) matrix h = sym h.0
 matrix_is shape (NoDesign count) matrix h = sym h
 matrix_is shape (BudgetEnded None budget) matrix h = sym h
@@ -79,17 +90,20 @@ matrix_is shape (BudgetEnded (Some rows) budget) matrix h = sym h.0
 pub is_given : (seed number : ℕ) (step : Meaning) (outcome : Outcome) → IsOutcome step outcome
     → step_output seed number step
     ≡ with_files (book_files number outcome.books ++ plan_files seed step outcome.matrix)
-    (step_lines number (dimensions_of outcome.shape) step (book_lines number outcome.books) (ending_in outcome) ++ output_lines seed step outcome.matrix)
+    (step_lines number (dimensions_of outcome.shape) step (book_lines number outcome.books) (ending_in outcome)
+    ++ output_lines seed step outcome.matrix)
     (status_of (ending_in outcome))
 is_given seed number step outcome is =
     ap (λ (c : Conclusion). ending_given seed number c.dimensions step (books_of step) c.ending) (sym is.concluded)
-    ∙ (ap (λ books. ending_given seed number (dimensions_of outcome.shape) step books (ending_in outcome)) (sym is.books)
+    ∙ (ap (λ books. ending_given seed number (dimensions_of outcome.shape) step books (ending_in outcome))
+    (sym is.books)
     ∙ by_matrix)
   where
     all : Option MatrixView → Output
     all matrix =
         with_files (book_files number outcome.books ++ plan_files seed step matrix)
-        (step_lines number (dimensions_of outcome.shape) step (book_lines number outcome.books) (ending_in outcome) ++ output_lines seed step matrix)
+        (step_lines number (dimensions_of outcome.shape) step (book_lines number outcome.books) (ending_in outcome)
+        ++ output_lines seed step matrix)
         (status_of (ending_in outcome))
 
     by_matrix : all (matrix_in (dimensions_of outcome.shape) (ending_in outcome)) ≡ all outcome.matrix
@@ -109,20 +123,24 @@ again blocks.Most m n = refl
 of_step : (step : Meaning) → AreOfStep step (outcome_of step).dimensions
 of_step step =
     let one = step-question step in
-    let is : (outcome_of step).dimensions ≡ (question_for step one.1.n).dimensions = one.2 ∙ ap (λ (p : Problem). p.dimensions) one.1.is in
+    let is : (outcome_of step).dimensions ≡ (question_for step one.1.n).dimensions =
+    one.2 ∙ ap (λ (p : Problem). p.dimensions) one.1.is in
     subst (AreOfStep step) (sym is) (record {
       levels = refl;
       block_factors = again step.settings.blocks (run_factors step.settings.size one.1.n) one.1.n;
     })
 
 -- and its matrix, where it has one, is a design of the step
-pub is_design : (step : Step) (outcome : Outcome) (matrix : MatrixView) → IsOutcome (meaning_of step) outcome → outcome.matrix ≡ Some matrix
+pub is_design : (step : Step) (outcome : Outcome) (matrix : MatrixView) → IsOutcome (meaning_of step) outcome
+    → outcome.matrix ≡ Some matrix
     → IsDesignOf step matrix
 is_design step outcome matrix is e =
-    let there : HasMatrix outcome.shape (ending_in outcome) (Some matrix) = subst (HasMatrix outcome.shape (ending_in outcome)) e outcome.whole in
+    let there : HasMatrix outcome.shape (ending_in outcome) (Some matrix) =
+    subst (HasMatrix outcome.shape (ending_in outcome)) e outcome.whole in
     let shape : matrix.shape ≡ outcome.shape = shape_is outcome.shape (ending_in outcome) matrix there in
     let own : AreOfStep (meaning_of step) (dimensions_of matrix.shape) =
-    subst (AreOfStep (meaning_of step)) (sym (ap dimensions_of shape ∙ ap (λ (c : Conclusion). c.dimensions) is.concluded)) (of_step (meaning_of step)) in
+    subst (AreOfStep (meaning_of step))
+    (sym (ap dimensions_of shape ∙ ap (λ (c : Conclusion). c.dimensions) is.concluded)) (of_step (meaning_of step)) in
     record {
       complete = rows_are outcome.shape (ending_in outcome) matrix there ∙ ap (λ (z : Shape). z.s + z.t) (sym shape);
       levels = own.levels;

@@ -14,10 +14,12 @@ had_none place None value n e = refl
 had_none place (Some m) value n e = absurd (cc e)
 
 -- and is one more
-pub one_more : (threads seed : Option ℕ) (n : ℕ) → threads ≡ None → count_of (record { threads = Some n; seed = seed }) ≡ count_of (record { threads = threads; seed = seed }) + 1
+pub one_more : (threads seed : Option ℕ) (n : ℕ) → threads ≡ None
+    → count_of (record { threads = Some n; seed = seed }) ≡ count_of (record { threads = threads; seed = seed }) + 1
 one_more threads None n e = rw e refl
 one_more threads (Some m) n e = rw e refl
 
-pub one_more_seed : (threads seed : Option ℕ) (n : ℕ) → seed ≡ None → count_of (record { threads = threads; seed = Some n }) ≡ count_of (record { threads = threads; seed = seed }) + 1
+pub one_more_seed : (threads seed : Option ℕ) (n : ℕ) → seed ≡ None
+    → count_of (record { threads = threads; seed = Some n }) ≡ count_of (record { threads = threads; seed = seed }) + 1
 one_more_seed None seed n e = rw e refl
 one_more_seed (Some m) seed n e = rw e refl

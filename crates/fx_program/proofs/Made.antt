@@ -1,5 +1,6 @@
 -- The text of `make`, step by step, and that it is short.
-use Rattle.std.proofs.Common.{ℕ, Bool, true, false, ◌≡◌, ◌≤◌, ◌<◌, ◌+◌, ◌*◌, ◌%◌, List, [], ◌∷◌, ◌++◌, length, refl, sym, ap, subst, ◌∙◌, arith, zero, suc, append_assoc}
+use Rattle.std.proofs.Common.{ℕ, Bool, true, false, ◌≡◌, ◌≤◌, ◌<◌, ◌+◌, ◌*◌, ◌%◌, List, [], ◌∷◌, ◌++◌, length, refl}
+use Rattle.std.proofs.Common.{sym, ap, subst, ◌∙◌, arith, zero, suc, append_assoc}
 use Rattle.std.specs.Prelude.{decimal, codes, if◌then◌else◌, ◌==◌}
 use Rattle.std.specs.List.{flat_map, range_with_len}
 use Rattle.std.proofs.Math.Numerals.{add-one}
@@ -9,7 +10,8 @@ use Rattle.std.proofs.lemmas.List.{append-nil, length-append, map-id}
 use Rattle.std.proofs.lemmas.List.FromFn.{map-range_with_len_more}
 use Rattle.fx_base.specs.Writing.{HoldsPart}
 use Rattle.fx_base.proofs.Held.{in_first}
-use Rattle.fx_program.specs.Making.{factors_at, factors_line, levels_at, made_text, model_line, runs_at, size_line, step_text}
+use Rattle.fx_program.specs.Making.{factors_at, factors_line, levels_at, made_text, model_line, runs_at, size_line}
+use Rattle.fx_program.specs.Making.{step_text}
 
 -- one text behind another
 pub joined : (out text : List ℕ) (whole rest : List ℕ) → whole ≡ out ++ text → whole ++ rest ≡ out ++ (text ++ rest)
@@ -35,18 +37,22 @@ one_step_more n =
     ∙ ap (λ (l : List ℕ). flat_map step_text (range_with_len 1 n) ++ l) (append-nil (step_text (n + 1)))
 
 -- what holds a prefix of the text of some steps holds one of the text of more steps
-pub held_by_more : (old new : List ℕ) (i more : ℕ) → HoldsPart old new (made_text i) → HoldsPart old new (made_text (i + more))
-held_by_more old new i zero h = let same : i ≡ i + 0 = omega arith in subst (λ (n : ℕ). HoldsPart old new (made_text n)) same h
+pub held_by_more : (old new : List ℕ) (i more : ℕ) → HoldsPart old new (made_text i)
+    → HoldsPart old new (made_text (i + more))
+held_by_more old new i zero h = let same : i ≡ i + 0 = omega arith in
+    subst (λ (n : ℕ). HoldsPart old new (made_text n)) same h
 held_by_more old new i (suc more) h =
     let same : i + more + 1 ≡ i + suc more = omega arith in
     subst (λ (n : ℕ). HoldsPart old new (made_text n)) same
-    (subst (HoldsPart old new) (sym (one_step_more (i + more))) (in_first old new (made_text (i + more)) (step_text (i + more + 1)) (held_by_more old new i more h)))
+    (subst (HoldsPart old new) (sym (one_step_more (i + more)))
+    (in_first old new (made_text (i + more)) (step_text (i + more + 1)) (held_by_more old new i more h)))
 
 either : (c : Bool) (a b n : ℕ) → a < n → b < n → (if c then a else b) < n
 either true a b n first second = first
 either false a b n first second = second
 
-model_short : (c : Bool) → length (if c then codes "model resolution=max / minabs;\n" else codes "model resolution=max;\n") ≤ 31
+model_short : (c : Bool)
+    → length (if c then codes "model resolution=max / minabs;\n" else codes "model resolution=max;\n") ≤ 31
 model_short true = omega arith
 model_short false = omega arith
 
@@ -70,7 +76,9 @@ size_line_short runs few = omega (arith, number_short runs few, length-append (d
 step_short : (k : ℕ) → length (step_text k) ≤ 150
 step_short k =
     let few_levels : levels_at k < 100 = either (k % 3 == 0) 3 2 100 (omega arith) (omega arith) in
-    let few_runs : runs_at k < 100 = either (k % 3 == 0) 27 (if k % 2 == 0 then 16 else 32) 100 (omega arith) (either (k % 2 == 0) 16 32 100 (omega arith) (omega arith)) in
+    let few_runs : runs_at k < 100 =
+    either (k % 3 == 0) 27 (if k % 2 == 0 then 16 else 32) 100 (omega arith)
+    (either (k % 2 == 0) 16 32 100 (omega arith) (omega arith)) in
     omega (
       arith,
       factors_line_short (factors_at k) (levels_at k) (omega arith) few_levels,
@@ -89,7 +97,10 @@ pub made_text_short : (n : ℕ) → length (made_text n) ≤ n * 150
 made_text_short zero = rw no_steps (omega arith)
 made_text_short (suc n) =
     let h : length (made_text n) ≤ n * 150 = made_text_short n in
-    let more : length (made_text (n + 1)) ≡ length (made_text n) + length (step_text (n + 1)) = ap length (one_step_more n) ∙ length-append (made_text n) (step_text (n + 1)) in
-    let same : length (made_text (suc n)) ≡ length (made_text (n + 1)) = ap (λ (k : ℕ). length (made_text k)) (sym (add-one n)) in
+    let more : length (made_text (n + 1)) ≡ length (made_text n) + length (step_text (n + 1)) =
+    ap length (one_step_more n) ∙ length-append (made_text n) (step_text (n + 1)) in
+    let same : length (made_text (suc n)) ≡ length (made_text (n + 1)) =
+    ap (λ (k : ℕ). length (made_text k)) (sym (add-one n)) in
     let short : length (step_text (n + 1)) ≤ 150 = step_short (n + 1) in
-    within (length (made_text n)) (length (step_text (n + 1))) (length (made_text (n + 1))) (length (made_text (suc n))) n h short more same
+    within (length (made_text n)) (length (step_text (n + 1))) (length (made_text (n + 1))) (length (made_text (suc n)))
+    n h short more same

@@ -1,5 +1,6 @@
 -- What the statuses of a step say: 1 that no rule matrix at all meets what it asks, 2 that its nodes pass the budget.
-use Rattle.std.proofs.Common.{ℕ, ◌≡◌, ◌<◌, ◌≤◌, ◌+◌, true, List, Option, Some, None, length, take, drop, refl, sym, subst, ap, ◌∙◌, arith, inl, inr}
+use Rattle.std.proofs.Common.{ℕ, ◌≡◌, ◌<◌, ◌≤◌, ◌+◌, true, List, Option, Some, None, length, take, drop, refl, sym}
+use Rattle.std.proofs.Common.{subst, ap, ◌∙◌, arith, inl, inr}
 use Rattle.std.proofs.lemmas.Bool.{cases_lt, both_ways}
 use Rattle.std.proofs.lemmas.List.{take-append-drop}
 use Rattle.fx_designs.specs.Galois.{IsField}
@@ -11,7 +12,8 @@ use Rattle.fx_designs.specs.Outcomes.{Ending, Design, NoDesign, BudgetEnded}
 use Rattle.fx_designs.specs.Matrices.{NoneMeets}
 use Rattle.fx_reduction.proofs.NoDesign.{named_matrix}
 use Rattle.fx_statements.specs.Steps.{Meaning}
-use Rattle.fx_statements.specs.Questions.{Conclusion, Found, asked, concluded, cut_short, last_found, last_of, left_at, nodes_of, outcome_of, questions_of}
+use Rattle.fx_statements.specs.Questions.{Conclusion, Found, asked, concluded, cut_short, last_found, last_of, left_at}
+use Rattle.fx_statements.specs.Questions.{nodes_of, outcome_of, questions_of}
 use Rattle.fx_statements.proofs.Concluded.{passed, within}
 use Rattle.fx_program.specs.Statuses.{status_of}
 use Rattle.fx_program.specs.StepClaims.{Allows, IsValidStep, required}
@@ -23,7 +25,8 @@ none_at_one (NoDesign count) e = (count, refl)
 none_at_one (BudgetEnded left budget) e = absurd (omega (arith, e))
 
 -- rows that meet a requirement are those of a rule matrix that does
-some_meets : (d : Dimensions) (f : IsField d.q) (wanted : Requirement) (rows : List ℕ) → length rows ≡ d.s + d.t → is_met d wanted rows ≡ true
+some_meets : (d : Dimensions) (f : IsField d.q) (wanted : Requirement) (rows : List ℕ) → length rows ≡ d.s + d.t
+    → is_met d wanted rows ≡ true
     → NoneMeets d wanted → ⊥
 unfolding is_met
 some_meets d f wanted rows len met none =
@@ -59,7 +62,8 @@ module _ (step : Meaning) where
       ap (λ (c : Conclusion). status_of c.ending) end.1 ∙ cut end.0.question (left_at budget end.0)
 
   module _ (valid : IsValidStep step) where
-    pub one_told : status_of (outcome_of step).ending ≡ 1 → (d : Dimensions) → Allows step d → NoneMeets d (required step.goal)
+    pub one_told : status_of (outcome_of step).ending ≡ 1 → (d : Dimensions) → Allows step d
+        → NoneMeets d (required step.goal)
     one_told one d h = (let none = none_at_one (outcome_of step).ending one in none_at_all step valid none.0 d none.1 h)
 
     by_found : (p : Problem) (found : Option Found) (count : ℕ) → outcome_of step ≡ concluded p found count
@@ -71,5 +75,8 @@ module _ (step : Meaning) where
         let f : IsField d.q = subst IsField (sym own.allowed.levels) (field step valid) in
         absurd (some_meets d f (required step.goal) found.rows own.whole own.met (none d own.allowed))
 
-    pub one_comes : nodes_of ps ≤ budget → ((d : Dimensions) → Allows step d → NoneMeets d (required step.goal)) → status_of (outcome_of step).ending ≡ 1
-    one_comes few none = by_found (last_of (questions_of step).first ps) (last_found None ps) (nodes_of ps) (within (questions_of step) budget few) none
+    pub one_comes : nodes_of ps ≤ budget → ((d : Dimensions) → Allows step d → NoneMeets d (required step.goal))
+        → status_of (outcome_of step).ending ≡ 1
+    one_comes few none =
+        by_found (last_of (questions_of step).first ps) (last_found None ps) (nodes_of ps)
+        (within (questions_of step) budget few) none

@@ -26,5 +26,6 @@ module _ (text : List ℕ) (short : length text ≤ 1048576) where
     pub refused : (refusal : Refusal) → program_of text tokens ≡ Err refusal → program_in text ≡ Err (Refused refusal)
     refused refusal e = by_meaning (Err refusal) e
 
-    pub read : (steps : List Step) → program_of text tokens ≡ Ok (map meaning_of steps) → program_in text ≡ Ok (map meaning_of steps)
+    pub read : (steps : List Step) → program_of text tokens ≡ Ok (map meaning_of steps)
+        → program_in text ≡ Ok (map meaning_of steps)
     read steps e = by_meaning (Ok (map meaning_of steps)) e

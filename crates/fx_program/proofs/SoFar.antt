@@ -1,5 +1,6 @@
 -- What was given for the steps so far, and what is given at the end.
-use Rattle.std.proofs.Common.{ℕ, Bool, true, false, ◌≡◌, ◌<◌, ◌≤◌, ◌+◌, List, [], ◌∷◌, ◌++◌, map, length, drop, get_or, refl, sym, ap, subst, ◌∙◌, append_assoc, append-nil}
+use Rattle.std.proofs.Common.{ℕ, Bool, true, false, ◌≡◌, ◌<◌, ◌≤◌, ◌+◌, List, [], ◌∷◌, ◌++◌, map, length, drop, get_or}
+use Rattle.std.proofs.Common.{refl, sym, ap, subst, ◌∙◌, append_assoc, append-nil}
 use Rattle.std.specs.Prelude.{nat_le, if◌then◌else◌}
 use Rattle.std.proofs.Math.Seq.{drop-cons}
 use Rattle.std.proofs.Math.Numerals.{add-one}
@@ -81,7 +82,9 @@ module _ {seed : ℕ} {old new : Outside} {whole : Output} {number status : ℕ}
         → Ends whole old now ended
     stopped {now} why ends ended h =
         let events = (step_output seed number step).events in
-        let later = more_events seed (number + 1) (s.done ++ events) (worse status (step_output seed number step).status) steps in
+        let later =
+        more_events seed (number + 1) (s.done ++ events) (worse status (step_output seed number step).status) steps
+        in
         let whole_is : whole.events ≡ (s.done ++ events) ++ later.0 = ap (λ (o : Output). o.events) next_left
         ∙ later.1 in
         subst (Ends whole old now) (error_is ended why h) (record {
@@ -99,7 +102,8 @@ pub no_source : SourceView
 no_source = record { left = None; faults = 0; sure = false }
 
 -- the next of the steps that are left
-pub next_step : {X : Type 0} (f : X → Meaning) (xs : List X) (i : ℕ) (d : X) → i < length xs → map f (drop i xs) ≡ f (get_or xs i d) ∷ map f (drop (i + 1) xs)
+pub next_step : {X : Type 0} (f : X → Meaning) (xs : List X) (i : ℕ) (d : X) → i < length xs
+    → map f (drop i xs) ≡ f (get_or xs i d) ∷ map f (drop (i + 1) xs)
 next_step f xs i d h =
     let next : drop i xs ≡ get_or xs i d ∷ drop (i + 1) xs = rw (add-one i) (drop-cons xs i d h) in
     ap (map f) next

@@ -1,5 +1,6 @@
 -- The status of a program: the greatest of those of its steps.
-use Rattle.std.proofs.Common.{ℕ, ◌≡◌, ◌≤◌, ◌+◌, Bool, true, false, List, [], ◌∷◌, ◌++◌, Result, Ok, Err, refl, sym, ◌∙◌, ◌⊎◌, inl, inr, arith, All}
+use Rattle.std.proofs.Common.{ℕ, ◌≡◌, ◌≤◌, ◌+◌, Bool, true, false, List, [], ◌∷◌, ◌++◌, Result, Ok, Err, refl, sym, ◌∙◌}
+use Rattle.std.proofs.Common.{◌⊎◌, inl, inr, arith, All}
 use Rattle.std.specs.Prelude.{nat_le, if◌then◌else◌}
 use Rattle.std.specs.List.{Contains}
 use Rattle.std.proofs.lemmas.List.Elements.{All-nil, All-cons, All-contains, All-contains_itself, All-head, All-tail}
@@ -22,7 +23,8 @@ head step steps = All-head (Contains (step ∷ steps)) step steps (All-contains_
 
 later : (step : Meaning) (steps : List Meaning) (other : Meaning) → Contains steps other → Contains (step ∷ steps) other
 later step steps other there =
-    All-contains (Contains (step ∷ steps)) steps other (All-tail (Contains (step ∷ steps)) step steps (All-contains_itself (step ∷ steps))) there
+    All-contains (Contains (step ∷ steps)) steps other
+    (All-tail (Contains (step ∷ steps)) step steps (All-contains_itself (step ∷ steps))) there
 
 -- the greater of two statuses is one of them, and neither is above it
 one_of_both : (a b : ℕ) → (worse a b ≡ a) ⊎ (worse a b ≡ b)
@@ -35,28 +37,43 @@ one_of_both a b = go (nat_le a b)
 above_both : (a b : ℕ) → (a ≤ worse a b) × (b ≤ worse a b)
 above_both a b = grind (arith, worse)
 
-one_more : (step : Meaning) (steps : List Meaning) (status : ℕ) → SomeEndsWith status steps → SomeEndsWith status (step ∷ steps)
-one_more step steps status some = record { step = some.step; among = later step steps some.step some.among; ends = some.ends }
+one_more : (step : Meaning) (steps : List Meaning) (status : ℕ) → SomeEndsWith status steps
+    → SomeEndsWith status (step ∷ steps)
+one_more step steps status some =
+    record { step = some.step; among = later step steps some.step some.among; ends = some.ends }
 
 -- what the steps from some one on add to a status
 module _ (seed : ℕ) where
   pub final : ℕ → List Event → ℕ → List Meaning → ℕ
   final number events status steps = (steps_output seed number events status steps).status
 
-  not_below : (number : ℕ) (events : List Event) (status : ℕ) (steps : List Meaning) → status ≤ final number events status steps
+  not_below : (number : ℕ) (events : List Event) (status : ℕ) (steps : List Meaning)
+      → status ≤ final number events status steps
   unfolding final
   not_below number events status [] = omega arith
   not_below number events status (step ∷ steps) =
       let given = step_output seed number step in
-      omega (arith, (above_both status given.status).0, not_below (number + 1) (events ++ given.events) (worse status given.status) steps)
+      omega (
+        arith,
+        (above_both status given.status).0,
+        not_below (number + 1) (events ++ given.events)
+            (worse status given.status) steps,
+      )
 
-  each_below : (number : ℕ) (events : List Event) (status : ℕ) (steps : List Meaning) → All (λ step. step_status step ≤ final number events status steps) steps
+  each_below : (number : ℕ) (events : List Event) (status : ℕ) (steps : List Meaning)
+      → All (λ step. step_status step ≤ final number events status steps) steps
   unfolding final
   each_below number events status [] = All-nil (λ (x : Meaning). step_status x ≤ status)
   each_below number events status (step ∷ steps) =
       let given = step_output seed number step in
       All-cons (λ (x : Meaning). step_status x ≤ final number events status (step ∷ steps)) step steps
-      (omega (arith, same_status seed number step, (above_both status given.status).1, not_below (number + 1) (events ++ given.events) (worse status given.status) steps))
+      (omega (
+        arith,
+        same_status seed number step,
+        (above_both status given.status).1,
+        not_below (number + 1)
+            (events ++ given.events) (worse status given.status) steps,
+      ))
       (each_below (number + 1) (events ++ given.events) (worse status given.status) steps)
 
   reached : (number : ℕ) (events : List Event) (status : ℕ) (steps : List Meaning)
@@ -68,7 +85,9 @@ module _ (seed : ℕ) where
       elim (reached (number + 1) (events ++ given.events) (worse status given.status) steps) [
         | inl same ↦ elim (one_of_both status given.status) [
           | inl before ↦ inl (same ∙ before)
-          | inr now ↦ inr (record { step = step; among = head step steps; ends = sym (same_status seed number step) ∙ sym now ∙ sym same })
+          | inr now ↦
+              inr (record
+              { step = step; among = head step steps; ends = sym (same_status seed number step) ∙ sym now ∙ sym same })
         ]
         | inr some ↦ inr (one_more step steps _ some)
       ]
@@ -84,7 +103,8 @@ module _ (seed : ℕ) where
   }
 
 -- so that status 1 of a text says of one of its steps that there is no design at all
-some_has_none : (seed : ℕ) (program : Result (List Meaning) TextFault) → EachStep IsValidStep program → (program_output seed program).status ≡ 1
+some_has_none : (seed : ℕ) (program : Result (List Meaning) TextFault) → EachStep IsValidStep program
+    → (program_output seed program).status ≡ 1
     → SomeHasNone program
 some_has_none seed (Err fault) valid one = absurd (omega (arith, one))
 some_has_none seed (Ok steps) valid one =
@@ -99,5 +119,7 @@ some_has_none seed (Ok steps) valid one =
       none = one_told some.step (All-contains IsValidStep steps some.step valid some.among) ends;
     }
 
-pub none_where_one : (seed : ℕ) (text : List ℕ) → (program_output seed (program_in text)).status ≡ 1 → SomeHasNone (program_in text)
-none_where_one seed text one = some_has_none seed (program_in text) (any_text IsValidStep (λ step valid. valid) text) one
+pub none_where_one : (seed : ℕ) (text : List ℕ) → (program_output seed (program_in text)).status ≡ 1
+    → SomeHasNone (program_in text)
+none_where_one seed text one =
+    some_has_none seed (program_in text) (any_text IsValidStep (λ step valid. valid) text) one

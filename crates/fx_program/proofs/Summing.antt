@@ -1,5 +1,6 @@
 -- The summary of a program, step by step.
-use Rattle.std.proofs.Common.{ℕ, Bool, ◌≡◌, ◌≤◌, ◌<◌, ◌+◌, ◌^◌, List, [], ◌∷◌, ◌++◌, length, Ok, Err, Result, refl, sym, ap, ap₂, ◌∙◌, arith}
+use Rattle.std.proofs.Common.{ℕ, Bool, ◌≡◌, ◌≤◌, ◌<◌, ◌+◌, ◌^◌, List, [], ◌∷◌, ◌++◌, length, Ok, Err, Result, refl, sym}
+use Rattle.std.proofs.Common.{ap, ap₂, ◌∙◌, arith}
 use Rattle.std.specs.Prelude.{count_by, sum_by}
 use Rattle.std.proofs.Common.{cond}
 use Rattle.std.proofs.lemmas.List.{map-append, length-map}
@@ -17,7 +18,8 @@ use Rattle.fx_program.proofs.SoFar.{worse_low}
 use Rattle.fx_program.specs.Summed.{HasRoom, IsSummaryOf, with_ending}
 
 -- one ending more
-count_more : (p : Ending → Bool) (endings : List Ending) (ending : Ending) → count_by p (endings ++ ending ∷ []) ≡ count_by p endings + cond (p ending) 1 0
+count_more : (p : Ending → Bool) (endings : List Ending) (ending : Ending)
+    → count_by p (endings ++ ending ∷ []) ≡ count_by p endings + cond (p ending) 1 0
 count_more p endings ending = fold-append (λ (n : ℕ) (x : Ending). n + cond (p x) 1 0) 0 endings (ending ∷ [])
 
 -- one step more
@@ -38,11 +40,15 @@ module _ (steps : List Meaning) (summary : Summary) (so_far : IsSummaryOf steps 
   endings = map-append (λ (step : Meaning). (outcome_of step).ending) steps (step ∷ [])
 
   module _ (ending : Ending) (e : (outcome_of step).ending ≡ ending) where
-    counts : (p : Ending → Bool) → count_by p (endings_of (steps ++ step ∷ [])) ≡ count_by p (endings_of steps) + cond (p ending) 1 0
-    counts p = ap (count_by p) endings ∙ count_more p (endings_of steps) (outcome_of step).ending ∙ ap (λ (x : Ending). count_by p (endings_of steps) + cond (p x) 1 0) e
+    counts : (p : Ending → Bool)
+        → count_by p (endings_of (steps ++ step ∷ [])) ≡ count_by p (endings_of steps) + cond (p ending) 1 0
+    counts p =
+        ap (count_by p) endings ∙ count_more p (endings_of steps) (outcome_of step).ending ∙ ap
+        (λ (x : Ending). count_by p (endings_of steps) + cond (p x) 1 0) e
 
     sums : sum_by nodes_in (endings_of (steps ++ step ∷ [])) ≡ sum_by nodes_in (endings_of steps) + nodes_in ending
-    sums = ap (sum_by nodes_in) endings ∙ sum_by_push nodes_in (endings_of steps) (outcome_of step).ending ∙ ap (λ (x : Ending). sum_by nodes_in (endings_of steps) + nodes_in x) e
+    sums = ap (sum_by nodes_in) endings ∙ sum_by_push nodes_in (endings_of steps) (outcome_of step).ending ∙ ap
+        (λ (x : Ending). sum_by nodes_in (endings_of steps) + nodes_in x) e
 
     status_is : (program_output 0 (Ok (steps ++ step ∷ []))).status ≡ worse summary.status (status_of ending)
     status_is =
@@ -50,11 +56,15 @@ module _ (steps : List Meaning) (summary : Summary) (so_far : IsSummaryOf steps 
         ∙ ap (λ (n : ℕ). worse n (status_of (outcome_of step).ending)) (sym so_far.status)
         ∙ ap (λ (x : Ending). worse summary.status (status_of x)) e
 
-  pub by_ending : (ending : Ending) → (outcome_of step).ending ≡ ending → IsSummaryOf (steps ++ step ∷ []) (with_ending summary ending)
+  pub by_ending : (ending : Ending) → (outcome_of step).ending ≡ ending
+      → IsSummaryOf (steps ++ step ∷ []) (with_ending summary ending)
   by_ending (Design rows count) e =
-      let designs : count_by is_design (endings_of (steps ++ step ∷ [])) ≡ count_by is_design (endings_of steps) + 1 = counts (Design rows count) e is_design in
-      let without : count_by is_without (endings_of (steps ++ step ∷ [])) ≡ count_by is_without (endings_of steps) + 0 = counts (Design rows count) e is_without in
-      let cut_short : count_by is_cut_short (endings_of (steps ++ step ∷ [])) ≡ count_by is_cut_short (endings_of steps) + 0 = counts (Design rows count) e is_cut_short in
+      let designs : count_by is_design (endings_of (steps ++ step ∷ [])) ≡ count_by is_design (endings_of steps) + 1 =
+      counts (Design rows count) e is_design in
+      let without : count_by is_without (endings_of (steps ++ step ∷ [])) ≡ count_by is_without (endings_of steps) + 0 =
+      counts (Design rows count) e is_without in
+      let cut_short : count_by is_cut_short (endings_of (steps ++ step ∷ []))
+      ≡ count_by is_cut_short (endings_of steps) + 0 = counts (Design rows count) e is_cut_short in
       let nodes = sums (Design rows count) e in
       record {
         designs = omega (arith, designs, so_far.designs);
@@ -64,9 +74,12 @@ module _ (steps : List Meaning) (summary : Summary) (so_far : IsSummaryOf steps 
         status = sym (status_is (Design rows count) e);
       }
   by_ending (NoDesign count) e =
-      let designs : count_by is_design (endings_of (steps ++ step ∷ [])) ≡ count_by is_design (endings_of steps) + 0 = counts (NoDesign count) e is_design in
-      let without : count_by is_without (endings_of (steps ++ step ∷ [])) ≡ count_by is_without (endings_of steps) + 1 = counts (NoDesign count) e is_without in
-      let cut_short : count_by is_cut_short (endings_of (steps ++ step ∷ [])) ≡ count_by is_cut_short (endings_of steps) + 0 = counts (NoDesign count) e is_cut_short in
+      let designs : count_by is_design (endings_of (steps ++ step ∷ [])) ≡ count_by is_design (endings_of steps) + 0 =
+      counts (NoDesign count) e is_design in
+      let without : count_by is_without (endings_of (steps ++ step ∷ [])) ≡ count_by is_without (endings_of steps) + 1 =
+      counts (NoDesign count) e is_without in
+      let cut_short : count_by is_cut_short (endings_of (steps ++ step ∷ []))
+      ≡ count_by is_cut_short (endings_of steps) + 0 = counts (NoDesign count) e is_cut_short in
       let nodes = sums (NoDesign count) e in
       record {
         designs = omega (arith, designs, so_far.designs);
@@ -76,9 +89,12 @@ module _ (steps : List Meaning) (summary : Summary) (so_far : IsSummaryOf steps 
         status = sym (status_is (NoDesign count) e);
       }
   by_ending (BudgetEnded left budget) e =
-      let designs : count_by is_design (endings_of (steps ++ step ∷ [])) ≡ count_by is_design (endings_of steps) + 0 = counts (BudgetEnded left budget) e is_design in
-      let without : count_by is_without (endings_of (steps ++ step ∷ [])) ≡ count_by is_without (endings_of steps) + 0 = counts (BudgetEnded left budget) e is_without in
-      let cut_short : count_by is_cut_short (endings_of (steps ++ step ∷ [])) ≡ count_by is_cut_short (endings_of steps) + 1 = counts (BudgetEnded left budget) e is_cut_short in
+      let designs : count_by is_design (endings_of (steps ++ step ∷ [])) ≡ count_by is_design (endings_of steps) + 0 =
+      counts (BudgetEnded left budget) e is_design in
+      let without : count_by is_without (endings_of (steps ++ step ∷ [])) ≡ count_by is_without (endings_of steps) + 0 =
+      counts (BudgetEnded left budget) e is_without in
+      let cut_short : count_by is_cut_short (endings_of (steps ++ step ∷ []))
+      ≡ count_by is_cut_short (endings_of steps) + 1 = counts (BudgetEnded left budget) e is_cut_short in
       let nodes = sums (BudgetEnded left budget) e in
       record {
         designs = omega (arith, designs, so_far.designs);
@@ -95,9 +111,11 @@ low_with summary (NoDesign count) low = worse_low summary.status 1 low (omega ar
 low_with summary (BudgetEnded left budget) low = worse_low summary.status 2 low (omega arith)
 
 -- there is room where fewer than 2^64 steps were summed up
-pub has_room : (steps : List Meaning) (summary : Summary) → IsSummaryOf steps summary → length steps + 1 < 2 ^ 64 → summary.nodes + 2 ^ 64 ≤ 2 ^ 128 → HasRoom summary
+pub has_room : (steps : List Meaning) (summary : Summary) → IsSummaryOf steps summary → length steps + 1 < 2 ^ 64
+    → summary.nodes + 2 ^ 64 ≤ 2 ^ 128 → HasRoom summary
 has_room steps summary is few nodes =
-    let long : length (endings_of steps) ≡ length steps = length-map steps (λ (step : Meaning). (outcome_of step).ending) in
+    let long : length (endings_of steps) ≡ length steps =
+    length-map steps (λ (step : Meaning). (outcome_of step).ending) in
     record {
       designs = omega (arith, count_by-le-length is_design (endings_of steps), is.designs, long);
       without = omega (arith, count_by-le-length is_without (endings_of steps), is.without, long);
@@ -106,17 +124,24 @@ has_room steps summary is few nodes =
     }
 
 -- what is given for `large` has the status of a run
-pub large_status : (program : Result (List Meaning) TextFault) → (large_output program).status ≡ (program_output 0 program).status
+pub large_status : (program : Result (List Meaning) TextFault)
+    → (large_output program).status ≡ (program_output 0 program).status
 large_status (Ok steps) = refl
 large_status (Err fault) = refl
 
 -- the lines of a summary
-pub summed_up : (steps : List Meaning) (summary : Summary) (n : ℕ) (bytes : List ℕ) → IsSummaryOf steps summary → n ≡ length steps
-    → bytes ≡ five_lines n summary.designs summary.without summary.cut_short summary.nodes → large_output (Ok steps) ≡ message bytes summary.status
+pub summed_up : (steps : List Meaning) (summary : Summary) (n : ℕ) (bytes : List ℕ) → IsSummaryOf steps summary
+    → n ≡ length steps
+    → bytes ≡ five_lines n summary.designs summary.without summary.cut_short summary.nodes
+    → large_output (Ok steps) ≡ message bytes summary.status
 summed_up steps summary n bytes is len lines =
-    let long : n ≡ length (endings_of steps) = len ∙ sym (length-map steps (λ (step : Meaning). (outcome_of step).ending)) in
-    let same : five_lines n summary.designs summary.without summary.cut_short summary.nodes ≡ summary_lines (endings_of steps) =
+    let long : n ≡ length (endings_of steps) =
+    len ∙ sym (length-map steps (λ (step : Meaning). (outcome_of step).ending)) in
+    let same : five_lines n summary.designs summary.without summary.cut_short summary.nodes
+    ≡ summary_lines (endings_of steps) =
     ap (λ (k : ℕ). five_lines k summary.designs summary.without summary.cut_short summary.nodes) long
-    ∙ ap₂ (λ (a b : ℕ). five_lines (length (endings_of steps)) a b summary.cut_short summary.nodes) is.designs is.without
-    ∙ ap₂ (λ (a b : ℕ). five_lines (length (endings_of steps)) (count_by is_design (endings_of steps)) (count_by is_without (endings_of steps)) a b) is.cut_short is.nodes in
+    ∙ ap₂ (λ (a b : ℕ). five_lines (length (endings_of steps)) a b summary.cut_short summary.nodes) is.designs
+    is.without
+    ∙ ap₂ (λ (a b : ℕ). five_lines (length (endings_of steps)) (count_by is_design (endings_of steps))
+    (count_by is_without (endings_of steps)) a b) is.cut_short is.nodes in
     sym (ap₂ (λ (l : List ℕ) (s : ℕ). message l s) (lines ∙ same) is.status)

@@ -8,6 +8,7 @@ module _ {X : Type 0} (f : X → List ℕ) where
   no_word [] h = refl
   no_word (x ∷ xs) h = absurd (omega (arith, h))
 
-  pub some_words : (xs : List X) (x : X) (rest : List X) → xs ≡ x ∷ rest → settings_of (map f xs) ≡ command_with (f x) (map f rest)
+  pub some_words : (xs : List X) (x : X) (rest : List X) → xs ≡ x ∷ rest
+      → settings_of (map f xs) ≡ command_with (f x) (map f rest)
   unfolding settings_of
   some_words xs x rest e = ap (λ (l : List X). settings_of (map f l)) e

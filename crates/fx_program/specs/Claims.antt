@@ -13,8 +13,8 @@ abbrev pub EachStep : (Meaning → Type 0) → Result (List Meaning) TextFault �
 EachStep Claimed (Ok steps) = All Claimed steps
 EachStep Claimed (Err fault) = Unit {0}
 
--- some step of the program has no design at all: it ends with status 1, and the runs of no rule matrix meet what is required, in no
--- dimensions that it allows
+-- some step of the program has no design at all: it ends with status 1, and the runs of no rule matrix meet what is
+-- required, in no dimensions that it allows
 pub record SomeHasNone (program : Result (List Meaning) TextFault) : Type 0 where
   pub steps : List Meaning
   pub accepted : program ≡ Ok steps

@@ -1,5 +1,7 @@
 -- What the words of the command line ask for.
-use Rattle.std.specs.Prelude.{ℕ, ◌+◌, ◌^◌, ◌<◌, ◌≤◌, nat_le, nat_lt, ◌&&◌, Bool, true, false, unwrap_or, is_some, List, [], ◌∷◌, ◌++◌, if◌then◌else◌, Option, Some, None, Result, Ok, Err, Vec, map, take, drop, length, codes, decimal}
+use Rattle.std.specs.Prelude.{ℕ, ◌+◌, ◌^◌, ◌<◌, ◌≤◌, nat_le, nat_lt, ◌&&◌, Bool, true, false, unwrap_or, is_some, List}
+use Rattle.std.specs.Prelude.{[], ◌∷◌, ◌++◌, if◌then◌else◌, Option, Some, None, Result, Ok, Err, Vec, map, take, drop}
+use Rattle.std.specs.Prelude.{length, codes, decimal}
 use Rattle.std.specs.List.{list_all}
 use Rattle.std.specs.Str.{bytes_eq}
 use Rattle.std.specs.Str.Parse.{digits_value}
@@ -27,7 +29,8 @@ is_number digits = list_all is_digit digits && nat_le 1 (length digits) && nat_l
 
 -- the seed that these digits write: a number below 2^64
 abbrev pub seed_of : List ℕ → Option ℕ
-seed_of digits = if is_number digits && nat_lt (digits_value 10 digits) (2 ^ 64) then Some (digits_value 10 digits) else None
+seed_of digits =
+    if is_number digits && nat_lt (digits_value 10 digits) (2 ^ 64) then Some (digits_value 10 digits) else None
 
 -- the value of an option of the word at this place, or 4 where there is none
 abbrev pub value_at : {T : Type 0} → ℕ → Option T → Result T WordFault
@@ -36,7 +39,9 @@ value_at place (Some n) = Ok n
 
 -- the number of threads that these digits write: 1 to 64
 abbrev pub threads_of : List ℕ → Option ℕ
-threads_of digits = if is_number digits && (nat_le 1 (digits_value 10 digits) && nat_le (digits_value 10 digits) 64) then Some (digits_value 10 digits) else None
+threads_of digits =
+    if is_number digits && (nat_le 1 (digits_value 10 digits) && nat_le (digits_value 10 digits) 64)
+    then Some (digits_value 10 digits) else None
 
 -- the value of an option of the word at this place, and 5 where the option had a value before
 abbrev pub once : {T : Type 0} → ℕ → Option T → Option T → Result T WordFault
@@ -52,7 +57,8 @@ abbrev pub add_seed : Options → Result ℕ WordFault → Result Options WordFa
 add_seed given (Ok n) = Ok (record { threads = given.threads; seed = Some n })
 add_seed given (Err fault) = Err fault
 
--- the options with that of the word at this place, by what follows `--threads=` in it, or else `--seed=`; 3 where neither does
+-- the options with that of the word at this place, by what follows `--threads=` in it, or else `--seed=`; 3 where
+-- neither does
 abbrev pub with_option : ℕ → Options → Option (List ℕ) → Option (List ℕ) → Result Options WordFault
 with_option place given (Some digits) seed = add_threads given (once place given.threads (threads_of digits))
 with_option place given None (Some digits) = add_seed given (once place given.seed (seed_of digits))
@@ -67,7 +73,8 @@ abbrev pub options_behind : ℕ → Bool → Result Options WordFault → List (
 options_behind place has_seed (Err fault) words = Err fault
 options_behind place has_seed (Ok given) [] = Ok given
 options_behind place has_seed (Ok given) (word ∷ words) =
-    options_behind (place + 1) has_seed (with_option place given (after (codes "--threads=") word) (seed_in has_seed word)) words
+    options_behind (place + 1) has_seed
+    (with_option place given (after (codes "--threads=") word) (seed_in has_seed word)) words
 
 -- how many options are given
 abbrev pub count_of : Options → ℕ
@@ -84,7 +91,9 @@ run_with (Ok given) = Ok (Run (unwrap_or given.threads 1) (unwrap_or given.seed 
 
 -- the number of steps that these digits write: 1 to 100
 abbrev pub steps_of : List ℕ → Option ℕ
-steps_of digits = if is_number digits && (nat_le 1 (digits_value 10 digits) && nat_le (digits_value 10 digits) 100) then Some (digits_value 10 digits) else None
+steps_of digits =
+    if is_number digits && (nat_le 1 (digits_value 10 digits) && nat_le (digits_value 10 digits) 100)
+    then Some (digits_value 10 digits) else None
 
 -- the number of steps of the word at this place
 abbrev pub steps_at : ℕ → List ℕ → Result ℕ WordFault
@@ -134,8 +143,8 @@ command_with word options =
     then make_with options
     else (if bytes_eq word (codes "large") then large_with options else word_fault 2 1))))
 
--- 1: there is no word. 2: the first word is no command. 3: a word is no option of the command. 4: a number is none of 1 to 20 digits,
--- or is not in its range. 5: the option is repeated. 6: the number of `make` or `large` is missing.
+-- 1: there is no word. 2: the first word is no command. 3: a word is no option of the command. 4: a number is none of 1
+-- to 20 digits, or is not in its range. 5: the option is repeated. 6: the number of `make` or `large` is missing.
 unfoldable pub settings_of : List (List ℕ) → Result Settings WordFault
 settings_of [] = word_fault 1 1
 settings_of (word ∷ options) = command_with word options

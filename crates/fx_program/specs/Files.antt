@@ -42,7 +42,8 @@ file_name name = str_to_ascii_lowercase name ++ codes ".csv"
 
 -- the file that an OUTPUT statement asks for: the plan of a design, by the program's seed
 abbrev pub plan_file : ℕ → List (List ℕ) → MatrixView → OutputSpec → Event
-plan_file seed factors matrix output = WholeFile (file_name output.name) (plan_of factors (design_of matrix) output seed)
+plan_file seed factors matrix output =
+    WholeFile (file_name output.name) (plan_of factors (design_of matrix) output seed)
 
 -- the files of a step's plans, in the order of its OUTPUT statements; none without a matrix
 abbrev pub plan_files : ℕ → Meaning → Option MatrixView → List Event

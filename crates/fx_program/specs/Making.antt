@@ -1,5 +1,6 @@
 -- The text of `make`: a program of many steps, to try the program on.
-use Rattle.std.specs.Prelude.{ℕ, ◌≡◌, ◌+◌, ◌%◌, ◌==◌, if◌then◌else◌, List, ◌++◌, length, codes, decimal, Result, Ok, Err}
+use Rattle.std.specs.Prelude.{ℕ, ◌≡◌, ◌+◌, ◌%◌, ◌==◌, if◌then◌else◌, List, ◌++◌, length, codes, decimal, Result, Ok}
+use Rattle.std.specs.Prelude.{Err}
 use Rattle.std.specs.List.{flat_map, range_with_len}
 use Rattle.fx_statements.specs.Steps.{Meaning}
 use Rattle.fx_program.specs.declared.text.TextFault.{TextFault}
@@ -18,7 +19,8 @@ runs_at k = if k % 3 == 0 then 27 else (if k % 2 == 0 then 16 else 32)
 
 -- its factors
 abbrev pub factors_line : ℕ → List ℕ
-factors_line k = codes "factors X1-X" ++ (decimal (factors_at k) ++ (codes " / nlev=" ++ (decimal (levels_at k) ++ codes ";\n")))
+factors_line k =
+    codes "factors X1-X" ++ (decimal (factors_at k) ++ (codes " / nlev=" ++ (decimal (levels_at k) ++ codes ";\n")))
 
 -- its size
 abbrev pub size_line : ℕ → List ℕ
@@ -30,7 +32,8 @@ model_line k = if k % 4 == 0 then codes "model resolution=max / minabs;\n" else 
 
 -- its five lines
 abbrev pub step_text : ℕ → List ℕ
-step_text k = codes "proc factex nodes=20000;\n" ++ (factors_line k ++ (size_line k ++ (model_line k ++ codes "run;\n")))
+step_text k =
+    codes "proc factex nodes=20000;\n" ++ (factors_line k ++ (size_line k ++ (model_line k ++ codes "run;\n")))
 
 -- the text of the steps 1 to n
 unfoldable pub made_text : ℕ → List ℕ

@@ -62,11 +62,13 @@ reason_of code = listed_at reasons code
 -- `factex: `, the rule by its letter and number, the place, and what the rule says
 abbrev pub line_at : List ℕ → ℕ → ℕ → ℕ → List ℕ → List ℕ
 line_at letter code line column reason =
-    codes "factex: " ++ letter ++ decimal code ++ codes " " ++ decimal line ++ codes ":" ++ decimal column ++ codes " " ++ reason ++ codes "\n"
+    codes "factex: " ++ letter ++ decimal code ++ codes " " ++ decimal line ++ codes ":" ++ decimal column ++ codes " "
+    ++ reason ++ codes "\n"
 
 -- the line of a fault: a lexical rule has the letter L, every other the letter E
 abbrev pub fault_line : TextFault → List ℕ
-fault_line (Lexical fault) = line_at (codes "L") fault.kind fault.line fault.column (listed_at lexical_reasons fault.kind)
+fault_line (Lexical fault) =
+    line_at (codes "L") fault.kind fault.line fault.column (listed_at lexical_reasons fault.kind)
 fault_line (Refused refusal) = line_at (codes "E") refusal.code refusal.line refusal.column (reason_of refusal.code)
 
 -- the table has a row for this number
@@ -75,5 +77,7 @@ has_row table code = list_any (λ row. row.0 == code) table
 
 -- a fault with a row in its table of messages, at a place in the text
 abbrev pub HasItsMessage : List ℕ → TextFault → Type 0
-HasItsMessage text (Lexical fault) = (has_row lexical_reasons fault.kind ≡ true) × IsPlaceIn text fault.line fault.column
-HasItsMessage text (Refused refusal) = (has_row reasons refusal.code ≡ true) × IsPlaceIn text refusal.line refusal.column
+HasItsMessage text (Lexical fault) =
+    (has_row lexical_reasons fault.kind ≡ true) × IsPlaceIn text fault.line fault.column
+HasItsMessage text (Refused refusal) =
+    (has_row reasons refusal.code ≡ true) × IsPlaceIn text refusal.line refusal.column

@@ -1,5 +1,6 @@
 -- What the program gives: pieces of listing and files, and a status.
-use Rattle.std.specs.Prelude.{ℕ, ◌≡◌, ◌+◌, ◌<◌, nat_le, if◌then◌else◌, List, [], ◌∷◌, ◌++◌, map, Option, Result, Ok, Err}
+use Rattle.std.specs.Prelude.{ℕ, ◌≡◌, ◌+◌, ◌<◌, nat_le, if◌then◌else◌, List, [], ◌∷◌, ◌++◌, map, Option, Result, Ok}
+use Rattle.std.specs.Prelude.{Err}
 use Rattle.fx_base.specs.Acts.{Event, Piece, acts, World, File, Did, DidPart}
 use Rattle.fx_designs.specs.Problems.{Dimensions}
 use Rattle.fx_designs.specs.Outcomes.{Ending}
@@ -33,8 +34,8 @@ message bytes status = record { events = Piece bytes ∷ []; status = status }
 abbrev pub with_files : List Event → List ℕ → ℕ → Output
 with_files files bytes status = record { events = files ++ Piece bytes ∷ []; status = status }
 
--- what is given for the step of this number in these dimensions that has these books and ends so, by the program's seed: the files
--- of its books and then of its plans, then its lines with those that name the files, and its status
+-- what is given for the step of this number in these dimensions that has these books and ends so, by the program's
+-- seed: the files of its books and then of its plans, then its lines with those that name the files, and its status
 abbrev pub ending_given : ℕ → ℕ → Dimensions → Meaning → List NamedBook → Ending → Output
 ending_given seed number d step books ending =
     with_files (book_files number books ++ plan_files seed step (matrix_in d ending))
@@ -43,7 +44,8 @@ ending_given seed number d step books ending =
 
 -- what is given for a step, by its outcome and its books
 abbrev pub step_output : ℕ → ℕ → Meaning → Output
-step_output seed number step = ending_given seed number (outcome_of step).dimensions step (books_of step) (outcome_of step).ending
+step_output seed number step =
+    ending_given seed number (outcome_of step).dimensions step (books_of step) (outcome_of step).ending
 
 -- the status of a step, whatever its number and the seed
 abbrev pub step_status : Meaning → ℕ
@@ -74,8 +76,8 @@ abbrev pub large_output : Result (List Meaning) TextFault → Output
 large_output (Ok steps) = message (summary_lines (endings_of steps)) (program_output 0 (Ok steps)).status
 large_output (Err fault) = program_output 0 (Err fault)
 
--- what is given for `check` and the book that a text is, or its first fault: what the book claims, where it is accepted, or the line
--- of the fault or of the first false entry
+-- what is given for `check` and the book that a text is, or its first fault: what the book claims, where it is
+-- accepted, or the line of the fault or of the first false entry
 abbrev pub verdict_output : Result Book BookFault → Output
 verdict_output (Ok book) =
     let verdict = verdict_of (flaw_of (claim_of book.head) book.marks) in

@@ -21,8 +21,9 @@ required (AtLeast r) = AtResolution r
 required Highest = AtResolution 3
 required (ForEffects estimate besides) = problems.ForEffects estimate besides
 
--- Dimensions that a step allows: its levels and factors; its runs, for the least size any number from the least that makes more than one
--- run, and in blocks of q^k runs more than one block, to the greatest; its block factors, for the most blocks any number from 1.
+-- Dimensions that a step allows: its levels and factors; its runs, for the least size any number from the least that
+-- makes more than one run, and in blocks of q^k runs more than one block, to the greatest; its block factors, for the
+-- most blocks any number from 1.
 pub record Allows (step : Meaning) (d : Dimensions) : Type 0 where
   pub levels : d.q ≡ step.settings.q
   pub factors : d.s ≡ length step.factors
@@ -43,7 +44,8 @@ HasWhatItAsks step = (rows : List ℕ) (count : ℕ)
     → (outcome_of step).ending ≡ Design rows count
     → IsAsItAsks step (outcome_of step).dimensions rows
 
--- where the step ends without a design, the runs of no rule matrix at all meet what is required, in no dimensions that it allows
+-- where the step ends without a design, the runs of no rule matrix at all meet what is required, in no dimensions that
+-- it allows
 abbrev pub HasNoneAtAll : Meaning → Type 0
 HasNoneAtAll step = (count : ℕ) (d : Dimensions)
     → (outcome_of step).ending ≡ NoDesign count
@@ -64,7 +66,8 @@ HasHighestOfAll step = (rows : List ℕ) (count : ℕ)
     → (outcome_of step).ending ≡ Design rows count
     → HighestOfAll (outcome_of step).dimensions rows
 
--- in fewer runs than the design's no rule matrix meets what is required, where the step allows them: with the least size, that is
+-- in fewer runs than the design's no rule matrix meets what is required, where the step allows them: with the least
+-- size, that is
 abbrev pub HasLeastSize : Meaning → Type 0
 HasLeastSize step = (rows : List ℕ) (count : ℕ) (d : Dimensions)
     → (outcome_of step).ending ≡ Design rows count

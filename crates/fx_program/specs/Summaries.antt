@@ -42,4 +42,5 @@ five_lines steps designs without cut_short nodes =
 -- the summary of steps that end so
 abbrev pub summary_lines : List Ending → List ℕ
 summary_lines endings =
-    five_lines (length endings) (count_by is_design endings) (count_by is_without endings) (count_by is_cut_short endings) (sum_by nodes_in endings)
+    five_lines (length endings) (count_by is_design endings) (count_by is_without endings)
+    (count_by is_cut_short endings) (sum_by nodes_in endings)

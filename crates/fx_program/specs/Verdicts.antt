@@ -10,7 +10,8 @@ use Rattle.fx_checker.specs.Verdicts as reasons
 
 -- at which line a book is rejected, and the code of the reason: a letter and a number
 abbrev pub rejected_line : ℕ → List ℕ → ℕ → List ℕ
-rejected_line line letter number = codes "rejected line " ++ (decimal line ++ (codes " " ++ (letter ++ (decimal number ++ codes "\n"))))
+rejected_line line letter number =
+    codes "rejected line " ++ (decimal line ++ (codes " " ++ (letter ++ (decimal number ++ codes "\n"))))
 
 -- the line of the first fault of a text that is no book
 abbrev pub book_fault_line : BookFault → List ℕ

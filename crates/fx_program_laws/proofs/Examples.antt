@@ -1,4 +1,5 @@
--- Words and texts, with all that is given for them: the definitions, computed from the bytes of a text to those of its listing.
+-- Words and texts, with all that is given for them: the definitions, computed from the bytes of a text to those of its
+-- listing.
 use Rattle.std.proofs.Common.{◌≡◌, ℕ, List, [], ◌∷◌, ◌++◌, Option, Some, None, Ok, ap, refl}
 use Rattle.std.proofs.lemmas.Option.{none-some}
 use Rattle.std.specs.Prelude.{codes}
@@ -6,7 +7,8 @@ use Rattle.std.specs.Fmt.{digits}
 use Rattle.std.specs.Option.{option_map}
 use Rattle.fx_base.specs.Acts.{Piece, WholeFile, ListByte, Did, World}
 use Rattle.fx_designs.specs.Galois.{prime_of, degree_of, reduction_of, add, mul, neg, inv}
-use Rattle.fx_designs.specs.Runs.{runs_of, is_constant, is_balanced, are_blocks_even, is_balanced_in_blocks, is_constant_in_blocks}
+use Rattle.fx_designs.specs.Runs.{runs_of, is_constant, is_balanced, are_blocks_even, is_balanced_in_blocks}
+use Rattle.fx_designs.specs.Runs.{is_constant_in_blocks}
 use Rattle.fx_designs.specs.Aliases.{is_aliased}
 use Rattle.fx_designs.specs.Spans.{in_span}
 use Rattle.fx_designs.specs.Demands.{must_balance, is_estimated, is_met, is_allowed}
@@ -40,7 +42,11 @@ use Rattle.fx_program.specs.Outside.{GivesForSome}
 
 -- what is given for the word `run` and a text
 given : List ℕ → Output
-unfolding digits prime_of degree_of reduction_of add mul neg inv runs_of is_constant is_balanced in_span must_balance is_met is_allowed is_canonical lists designs answer nodes lexed refused bars_of factors_of program_of settings_of program_in step_lines is_aliased is_constant_in_blocks lib.Count.ones constant_words pattern_of first_least best_before carried conclusion_of are_blocks_even is_balanced_in_blocks is_estimated finished closing_word word_of marks
+unfolding digits prime_of degree_of reduction_of add mul neg inv runs_of is_constant is_balanced in_span must_balance
+    is_met is_allowed is_canonical lists designs answer nodes lexed refused bars_of factors_of program_of settings_of
+    program_in step_lines is_aliased is_constant_in_blocks lib.Count.ones constant_words pattern_of first_least
+    best_before carried conclusion_of are_blocks_even is_balanced_in_blocks is_estimated finished closing_word word_of
+    marks
 given text = output_of (codes "run" ∷ []) text
 
 -- what is given for a step that has one book
@@ -57,21 +63,30 @@ nothing = (refl, refl)
 -- refused: what is no token
 lexical :
     (given (codes "proc factex; factors A B C; /* run;") ≡ message (codes "factex: L1 1:29 comment is not closed\n") 3)
-    × (given (codes "proc factex; factors A B C; output out=a A cvals=('x);") ≡ message (codes "factex: L2 1:51 string is not closed\n") 3)
-    × (given (codes "proc factex; factors A B C; size design=8%;") ≡ message (codes "factex: L3 1:42 character is not allowed\n") 3)
-    × (given (codes "proc factex; factors A B C; size design=000000000000000000000000000000000000008;") ≡ message (codes "factex: L4 1:41 number is too long\n") 3)
-    × (given (codes "proc factex; factors a23456789012345678901234567890123;") ≡ message (codes "factex: L5 1:22 name is too long\n") 3)
+    × (given (codes "proc factex; factors A B C; output out=a A cvals=('x);")
+    ≡ message (codes "factex: L2 1:51 string is not closed\n") 3)
+    × (given (codes "proc factex; factors A B C; size design=8%;")
+    ≡ message (codes "factex: L3 1:42 character is not allowed\n") 3)
+    × (given (codes "proc factex; factors A B C; size design=000000000000000000000000000000000000008;")
+    ≡ message (codes "factex: L4 1:41 number is too long\n") 3)
+    × (given (codes "proc factex; factors a23456789012345678901234567890123;")
+    ≡ message (codes "factex: L5 1:22 name is too long\n") 3)
 unfolding given
 lexical = (refl, refl, refl, refl, refl)
 
 -- refused: what no program goes on with
 by_the_grammar :
-    (given (codes "proc factex; factors A B C; title x;") ≡ message (codes "factex: E1 1:29 statement is not known\n") 3)
-    × (given (codes "proc factex; factors A B C; size design=max;") ≡ message (codes "factex: E2 1:41 unexpected word or end\n") 3)
-    × (given (codes "proc factex; factors A B C; size runs=8;") ≡ message (codes "factex: E3 1:34 option is not known\n") 3)
+    (given (codes "proc factex; factors A B C; title x;")
+    ≡ message (codes "factex: E1 1:29 statement is not known\n") 3)
+    × (given (codes "proc factex; factors A B C; size design=max;")
+    ≡ message (codes "factex: E2 1:41 unexpected word or end\n") 3)
+    × (given (codes "proc factex; factors A B C; size runs=8;")
+    ≡ message (codes "factex: E3 1:34 option is not known\n") 3)
     × (given (codes "proc factex time=60;") ≡ message (codes "factex: E24 1:13 not kept in this profile\n") 3)
-    × (given (codes "proc factex; factors A B C; size design=8; size design=8;") ≡ message (codes "factex: E26 1:44 statement is repeated in the step\n") 3)
-    × (given (codes "proc factex; factors A B C; run; size design=8;") ≡ message (codes "factex: E27 1:34 statement after RUN\n") 3)
+    × (given (codes "proc factex; factors A B C; size design=8; size design=8;")
+    ≡ message (codes "factex: E26 1:44 statement is repeated in the step\n") 3)
+    × (given (codes "proc factex; factors A B C; run; size design=8;")
+    ≡ message (codes "factex: E27 1:34 statement after RUN\n") 3)
     × (given (codes "proc factex nodes=1 nodes=2;") ≡ message (codes "factex: E28 1:21 option is repeated\n") 3)
 unfolding given
 by_the_grammar = (refl, refl, refl, refl, refl, refl, refl)
@@ -81,98 +96,132 @@ by_the_factors :
     (given (codes "proc factex; factors X1-X3 X2;") ≡ message (codes "factex: E5 1:28 name is repeated\n") 3)
     × (given (codes "proc factex; run;") ≡ message (codes "factex: E7 1:1 step has no FACTORS statement\n") 3)
     × (given (codes "proc factex; factors A X1-X40;") ≡ message (codes "factex: E10 1:24 too many factors\n") 3)
-    × (given (codes "proc factex; factors X5-X2;") ≡ message (codes "factex: E30 1:22 range of names is not regular\n") 3)
+    × (given (codes "proc factex; factors X5-X2;")
+    ≡ message (codes "factex: E30 1:22 range of names is not regular\n") 3)
 unfolding given
 by_the_factors = (refl, refl, refl, refl)
 
 -- refused: the settings of a step
 by_the_settings :
-    (given (codes "proc factex; factors A B / nlev=6;") ≡ message (codes "factex: E6 1:33 number of levels is not 2, 3, 4, 5, 7, 8 or 9\n") 3)
-    × (given (codes "proc factex; factors A B C; size design=12;") ≡ message (codes "factex: E8 1:41 size is not a power of the number of levels\n") 3)
-    × (given (codes "proc factex; factors A B C; size design=2048;") ≡ message (codes "factex: E9 1:41 more than 1024 runs\n") 3)
+    (given (codes "proc factex; factors A B / nlev=6;")
+    ≡ message (codes "factex: E6 1:33 number of levels is not 2, 3, 4, 5, 7, 8 or 9\n") 3)
+    × (given (codes "proc factex; factors A B C; size design=12;")
+    ≡ message (codes "factex: E8 1:41 size is not a power of the number of levels\n") 3)
+    × (given (codes "proc factex; factors A B C; size design=2048;")
+    ≡ message (codes "factex: E9 1:41 more than 1024 runs\n") 3)
     × (given (codes "proc factex; factors X1-X11;") ≡ message (codes "factex: E9 1:14 more than 1024 runs\n") 3)
-    × (given (codes "proc factex; factors A B C; model resolution=2;") ≡ message (codes "factex: E11 1:46 resolution is not from 3 to 99\n") 3)
-    × (given (codes "proc factex; factors A B C; model e=(A) / minabs;") ≡ message (codes "factex: E12 1:43 MINABS with ESTIMATE\n") 3)
-    × (given (codes "proc factex; factors A B C; blocks nblkfacs=1;") ≡ message (codes "factex: E13 1:29 MINABS or RESOLUTION=MAX with BLOCKS\n") 3)
-    × (given (codes "proc factex; factors A B C; size design=min;") ≡ message (codes "factex: E14 1:41 minimum size with a maximum or MINABS\n") 3)
+    × (given (codes "proc factex; factors A B C; model resolution=2;")
+    ≡ message (codes "factex: E11 1:46 resolution is not from 3 to 99\n") 3)
+    × (given (codes "proc factex; factors A B C; model e=(A) / minabs;")
+    ≡ message (codes "factex: E12 1:43 MINABS with ESTIMATE\n") 3)
+    × (given (codes "proc factex; factors A B C; blocks nblkfacs=1;")
+    ≡ message (codes "factex: E13 1:29 MINABS or RESOLUTION=MAX with BLOCKS\n") 3)
+    × (given (codes "proc factex; factors A B C; size design=min;")
+    ≡ message (codes "factex: E14 1:41 minimum size with a maximum or MINABS\n") 3)
     × (given (codes "proc factex nodes=0; factors A;") ≡ message (codes "factex: E29 1:19 number is out of range\n") 3)
-    × (given (codes "proc factex; factors A B C; model r=3; blocks nblocks=3;") ≡ message (codes "factex: E15 1:55 blocks are not a power of the number of levels\n") 3)
-    × (given (codes "proc factex; factors A B C; model r=3; blocks nblkfacs=4;") ≡ message (codes "factex: E16 1:56 more blocks than runs\n") 3)
+    × (given (codes "proc factex; factors A B C; model r=3; blocks nblocks=3;")
+    ≡ message (codes "factex: E15 1:55 blocks are not a power of the number of levels\n") 3)
+    × (given (codes "proc factex; factors A B C; model r=3; blocks nblkfacs=4;")
+    ≡ message (codes "factex: E16 1:56 more blocks than runs\n") 3)
 unfolding given
 by_the_settings = (refl, refl, refl, refl, refl, refl, refl, refl, refl, refl, refl)
 
 -- refused: the effects of a step
 by_the_effects :
-    (given (codes "proc factex; factors A B C; model e=(A B*Z);") ≡ message (codes "factex: E4 1:42 factor is not known\n") 3)
-    × (given (codes "proc factex; factors A B C; model e=(A*B@1);") ≡ message (codes "factex: E29 1:42 number is out of range\n") 3)
-    × (given (codes "proc factex; factors A B C D / nlev=9; size design=81; model e=(A*B*C*D);") ≡ message (codes "factex: E22 1:62 more than 2000000 demands\n") 3)
-    × (given (codes "proc factex; factors X1-X40; size design=4; model e=(X1*X2*X3*X4); examine aliasing;") ≡ message (codes "factex: E23 1:76 more than 100000 effects\n") 3)
+    (given (codes "proc factex; factors A B C; model e=(A B*Z);")
+    ≡ message (codes "factex: E4 1:42 factor is not known\n") 3)
+    × (given (codes "proc factex; factors A B C; model e=(A*B@1);")
+    ≡ message (codes "factex: E29 1:42 number is out of range\n") 3)
+    × (given (codes "proc factex; factors A B C D / nlev=9; size design=81; model e=(A*B*C*D);")
+    ≡ message (codes "factex: E22 1:62 more than 2000000 demands\n") 3)
+    × (given (codes "proc factex; factors X1-X40; size design=4; model e=(X1*X2*X3*X4); examine aliasing;")
+    ≡ message (codes "factex: E23 1:76 more than 100000 effects\n") 3)
 unfolding given
 by_the_effects = (refl, refl, refl, refl)
 
 -- refused: the files of a step
 by_the_outputs :
-    (given (codes "proc factex; factors A B C; output out=a Z nvals=(1 2);") ≡ message (codes "factex: E4 1:42 factor is not known\n") 3)
-    × (given (codes "proc factex; factors A B C; model r=3; blocks nblkfacs=1; output out=a blockname=B;") ≡ message (codes "factex: E5 1:82 name is repeated\n") 3)
-    × (given (codes "proc factex; factors A B C; output out=a A nvals=(1 2 3);") ≡ message (codes "factex: E17 1:44 number of values differs from number of levels\n") 3)
-    × (given (codes "proc factex; factors A B C; output out=a; output out=A;") ≡ message (codes "factex: E18 1:54 OUT name is repeated\n") 3)
-    × (given (codes "proc factex; factors A B C; output out=a randomize(18446744073709551616);") ≡ message (codes "factex: E19 1:52 seed is too large\n") 3)
-    × (given (codes "proc factex; factors A B C; output out=a pointrep=0;") ≡ message (codes "factex: E20 1:51 replication is not from 1 to 200000\n") 3)
-    × (given (codes "proc factex; factors A B C; output out=a pointrep=30000;") ≡ message (codes "factex: E21 1:40 more than 200000 rows\n") 3)
-    × (given (codes "proc factex; factors A B C; output out=a A nvals=(1 2) a nvals=(1 2);") ≡ message (codes "factex: E28 1:56 option is repeated\n") 3)
-    × (given (codes "proc factex; factors A B C; output out=a blockname=day;") ≡ message (codes "factex: E31 1:42 BLOCKNAME without BLOCKS\n") 3)
+    (given (codes "proc factex; factors A B C; output out=a Z nvals=(1 2);")
+    ≡ message (codes "factex: E4 1:42 factor is not known\n") 3)
+    × (given (codes "proc factex; factors A B C; model r=3; blocks nblkfacs=1; output out=a blockname=B;")
+    ≡ message (codes "factex: E5 1:82 name is repeated\n") 3)
+    × (given (codes "proc factex; factors A B C; output out=a A nvals=(1 2 3);")
+    ≡ message (codes "factex: E17 1:44 number of values differs from number of levels\n") 3)
+    × (given (codes "proc factex; factors A B C; output out=a; output out=A;")
+    ≡ message (codes "factex: E18 1:54 OUT name is repeated\n") 3)
+    × (given (codes "proc factex; factors A B C; output out=a randomize(18446744073709551616);")
+    ≡ message (codes "factex: E19 1:52 seed is too large\n") 3)
+    × (given (codes "proc factex; factors A B C; output out=a pointrep=0;")
+    ≡ message (codes "factex: E20 1:51 replication is not from 1 to 200000\n") 3)
+    × (given (codes "proc factex; factors A B C; output out=a pointrep=30000;")
+    ≡ message (codes "factex: E21 1:40 more than 200000 rows\n") 3)
+    × (given (codes "proc factex; factors A B C; output out=a A nvals=(1 2) a nvals=(1 2);")
+    ≡ message (codes "factex: E28 1:56 option is repeated\n") 3)
+    × (given (codes "proc factex; factors A B C; output out=a blockname=day;")
+    ≡ message (codes "factex: E31 1:42 BLOCKNAME without BLOCKS\n") 3)
 unfolding given
 by_the_outputs = (refl, refl, refl, refl, refl, refl, refl, refl, refl)
 
 -- a third of three factors of three levels
 third_of_three_levels :
-    given (codes "proc factex;factors A B C / nlev=3;size fraction=3;model resolution=3;") ≡ message (codes "step 1\nfactors 3 levels 3\ndesign 9 runs\nresolution 3\nnodes 3\nrules\n  C = A^2*B\n") 0
+    given (codes "proc factex;factors A B C / nlev=3;size fraction=3;model resolution=3;")
+    ≡ message (codes "step 1\nfactors 3 levels 3\ndesign 9 runs\nresolution 3\nnodes 3\nrules\n  C = A^2*B\n") 0
 unfolding given
 third_of_three_levels = refl
 
 -- the sections come in their own order
 with_sections :
     given (codes "proc factex;factors A B C;size design=4;model r=3;examine aliasing design;")
-    ≡ message (codes "step 1\nfactors 3 levels 2\ndesign 4 runs\nresolution 3\nnodes 3\nrules\n  C = A*B\npoints A B C\n  1 -1 -1 -1\n  2 -1 1 1\n  3 1 -1 1\n  4 1 1 -1\naliasing\n  A = B*C\n  B = A*C\n  C = A*B\n") 0
+    ≡ message (codes
+    "step 1\nfactors 3 levels 2\ndesign 4 runs\nresolution 3\nnodes 3\nrules\n  C = A*B\npoints A B C\n  1 -1 -1 -1\n  2 -1 1 1\n  3 1 -1 1\n  4 1 1 -1\naliasing\n  A = B*C\n  B = A*C\n  C = A*B\n") 0
 unfolding given
 with_sections = refl
 
 -- the components of A*B cannot be told apart in three runs
 components :
     given (codes "proc factex;factors A B / nlev=3;size design=3;model estimate=(A*B);")
-    ≡ booked (codes "step1-1.book") (codes "factex-book 1\nsize 3 1 2 0\neffects 3 /\npattern none\nO 1\nW 1 5\nW 0 3\nW 0 1\nEND\n")
+    ≡ booked (codes "step1-1.book")
+    (codes "factex-book 1\nsize 3 1 2 0\neffects 3 /\npattern none\nO 1\nW 1 5\nW 0 3\nW 0 1\nEND\n")
     (codes "step 1\nfactors 2 levels 3\nno design in 3 runs\nnodes 4\nbook step1-1.book\n") 1
 unfolding given booked
 components = refl
 
 -- B is constant, so that C introduces the second run index
 late_index :
-    given (codes "proc factex;factors A B C D;size nrunfacs=2;model estimate=(A*B C A*C);") ≡ message (codes "step 1\nfactors 4 levels 2\ndesign 4 runs\nresolution 1\nnodes 10\nrules\n  B = 0\n  D = A*C\n") 0
+    given (codes "proc factex;factors A B C D;size nrunfacs=2;model estimate=(A*B C A*C);")
+    ≡ message (codes "step 1\nfactors 4 levels 2\ndesign 4 runs\nresolution 1\nnodes 10\nrules\n  B = 0\n  D = A*C\n") 0
 unfolding given
 late_index = refl
 
 -- four factors of two levels in eight runs
 half :
-    given (codes "proc factex;factors A B C D;size design=8;model resolution=4;") ≡ message (codes "step 1\nfactors 4 levels 2\ndesign 8 runs\nresolution 4\nnodes 4\nrules\n  D = A*B*C\n") 0
+    given (codes "proc factex;factors A B C D;size design=8;model resolution=4;")
+    ≡ message (codes "step 1\nfactors 4 levels 2\ndesign 8 runs\nresolution 4\nnodes 4\nrules\n  D = A*B*C\n") 0
 unfolding given
 half = refl
 
 -- the least aberration, and the words of each weight; a budget that ends before a design is found
 least_aberration :
     (given (codes "proc factex;factors A B C;size design=4;model resolution=max/minabs;examine aberration;")
-    ≡ booked (codes "step1-1.book") (codes "factex-book 1\nsize 2 2 3 0\nresolution 3\npattern 0 0 1\nO 1\nO 2\nP 3\nEND\n")
+    ≡ booked (codes "step1-1.book")
+    (codes "factex-book 1\nsize 2 2 3 0\nresolution 3\npattern 0 0 1\nO 1\nO 2\nP 3\nEND\n")
     (codes "step 1\nfactors 3 levels 2\ndesign 4 runs\nresolution 3 least aberration\nnodes 3\nrules\n  C = A*B\nbook step1-1.book\naberration\n  A3 1\n") 0)
-    × (given (codes "proc factex nodes=2;factors A B C;size design=4;model resolution=3/minabs;") ≡ message (codes "step 1\nfactors 3 levels 2\nbudget ended after 2 nodes\n") 2)
+    × (given (codes "proc factex nodes=2;factors A B C;size design=4;model resolution=3/minabs;")
+    ≡ message (codes "step 1\nfactors 3 levels 2\nbudget ended after 2 nodes\n") 2)
 unfolding given booked
 least_aberration = (refl, refl)
 
 -- the highest resolution, with a model or without; a budget that ends where the next resolution is tried
 highest_resolution :
     (given (codes "proc factex;factors A B C;size design=4;model r=max;")
-    ≡ booked (codes "step1-2.book") (codes "factex-book 1\nsize 2 2 3 0\nresolution 4\npattern none\nO 1\nO 2\nW 3 7\nEND\n")
+    ≡ booked (codes "step1-2.book")
+    (codes "factex-book 1\nsize 2 2 3 0\nresolution 4\npattern none\nO 1\nO 2\nW 3 7\nEND\n")
     (codes "step 1\nfactors 3 levels 2\ndesign 4 runs\nresolution 3 highest\nnodes 6\nrules\n  C = A*B\nbook step1-2.book\n") 0)
-    × (given (codes "proc factex;factors A B;size design=4;") ≡ message (codes "step 1\nfactors 2 levels 2\ndesign 4 runs\nno defining words\nnodes 2\nrules\n  none\n") 0)
-    × (given (codes "proc factex nodes=4;factors A B C;size design=4;model r=max;") ≡ message (codes "step 1\nfactors 3 levels 2\nbudget ended after 4 nodes\ndesign 4 runs not proved best\nresolution 3\nrules\n  C = A*B\n") 2)
+    × (given (codes "proc factex;factors A B;size design=4;")
+    ≡ message (codes "step 1\nfactors 2 levels 2\ndesign 4 runs\nno defining words\nnodes 2\nrules\n  none\n") 0)
+    × (given (codes "proc factex nodes=4;factors A B C;size design=4;model r=max;")
+    ≡ message (codes
+    "step 1\nfactors 3 levels 2\nbudget ended after 4 nodes\ndesign 4 runs not proved best\nresolution 3\nrules\n  C = A*B\n") 2)
 unfolding given booked
 highest_resolution = (refl, refl, refl)
 
@@ -180,53 +229,72 @@ highest_resolution = (refl, refl, refl)
 least_size :
     given (codes "proc factex;factors A B;size design=min;model r=3;")
     ≡ booked (codes "step1-1.book") (codes "factex-book 1\nsize 2 1 2 0\nresolution 3\npattern none\nO 1\nEND\n")
-    (codes "step 1\nfactors 2 levels 2\ndesign 4 runs\nno defining words\nnodes 3\nrules\n  none\nbook step1-1.book\n") 0
+    (codes "step 1\nfactors 2 levels 2\ndesign 4 runs\nno defining words\nnodes 3\nrules\n  none\nbook step1-1.book\n")
+    0
 unfolding given booked
 least_size = refl
 
 -- blocks: as many as can be, and none
 in_blocks :
     (given (codes "proc factex;factors A B;size design=4;model r=3;blocks nblocks=max;")
-    ≡ booked (codes "step1-2.book") (codes "factex-book 1\nsize 2 2 2 2\nresolution 3\npattern none\nO 1\nO 2\nO 3\nW 3 12\nW 2 10\nW 1 9\nW 0 8\nW 2 6\nW 1 5\nW 0 4\nEND\n")
+    ≡ booked (codes "step1-2.book")
+    (codes "factex-book 1\nsize 2 2 2 2\nresolution 3\npattern none\nO 1\nO 2\nO 3\nW 3 12\nW 2 10\nW 1 9\nW 0 8\nW 2 6\nW 1 5\nW 0 4\nEND\n")
     (codes "step 1\nfactors 2 levels 2\ndesign 4 runs in 2 blocks\nno defining words\nnodes 13\nrules\n  [1] = A*B\nbook step1-2.book\n") 0)
     × (given (codes "proc factex;factors A B C;size design=4;model r=3;blocks nblocks=2;")
-    ≡ booked (codes "step1-1.book") (codes "factex-book 1\nsize 2 2 3 1\nresolution 3\npattern none\nO 1\nO 2\nO 3\nW 3 12\nW 2 10\nW 1 9\nW 0 8\nEND\n")
+    ≡ booked (codes "step1-1.book")
+    (codes "factex-book 1\nsize 2 2 3 1\nresolution 3\npattern none\nO 1\nO 2\nO 3\nW 3 12\nW 2 10\nW 1 9\nW 0 8\nEND\n")
     (codes "step 1\nfactors 3 levels 2\nno design in 4 runs with 2 blocks\nnodes 7\nbook step1-1.book\n") 1)
 unfolding given booked
 in_blocks = (refl, refl)
 
 -- three factors of four levels in 16 runs
 four_levels :
-    given (codes "proc factex;factors A B C/nlev=4;size design=16;model resolution=3;") ≡ message (codes "step 1\nfactors 3 levels 4\ndesign 16 runs\nresolution 3\nnodes 3\nrules\n  C = A^3*B\n") 0
+    given (codes "proc factex;factors A B C/nlev=4;size design=16;model resolution=3;")
+    ≡ message (codes "step 1\nfactors 3 levels 4\ndesign 16 runs\nresolution 3\nnodes 3\nrules\n  C = A^3*B\n") 0
 unfolding given
 four_levels = refl
 
 -- three factors of five levels in 25 runs
 five_levels :
-    given (codes "proc factex;factors A B C/nlev=5;size design=25;model resolution=3;") ≡ message (codes "step 1\nfactors 3 levels 5\ndesign 25 runs\nresolution 3\nnodes 3\nrules\n  C = A^4*B\n") 0
+    given (codes "proc factex;factors A B C/nlev=5;size design=25;model resolution=3;")
+    ≡ message (codes "step 1\nfactors 3 levels 5\ndesign 25 runs\nresolution 3\nnodes 3\nrules\n  C = A^4*B\n") 0
 unfolding given
 five_levels = refl
 
 -- three steps, of which the second needs more nodes than it is allowed, and the third has no design: the greatest
 -- status decides
 three_steps :
-    given (codes "proc factex;factors A;model r=3;proc factex nodes=1;factors A B;model r=3;proc factex;factors A B C;size design=2;model r=3;") ≡ record { events = Piece (codes "step 1\nfactors 1 levels 2\ndesign 2 runs\nno defining words\nnodes 1\nrules\n  none\n") ∷ Piece (codes "step 2\nfactors 2 levels 2\nbudget ended after 1 nodes\n") ∷ WholeFile (codes "step3-1.book") (codes "factex-book 1\nsize 2 1 3 0\nresolution 3\npattern none\nO 1\nEND\n") ∷ Piece (codes "step 3\nfactors 3 levels 2\nno design in 2 runs\nnodes 1\nbook step3-1.book\n") ∷ []; status = 2 }
+    given (codes
+    "proc factex;factors A;model r=3;proc factex nodes=1;factors A B;model r=3;proc factex;factors A B C;size design=2;model r=3;") ≡ record { events = Piece (codes "step 1\nfactors 1 levels 2\ndesign 2 runs\nno defining words\nnodes 1\nrules\n  none\n") ∷ Piece (codes "step 2\nfactors 2 levels 2\nbudget ended after 1 nodes\n") ∷ WholeFile (codes "step3-1.book") (codes "factex-book 1\nsize 2 1 3 0\nresolution 3\npattern none\nO 1\nEND\n") ∷ Piece (codes "step 3\nfactors 3 levels 2\nno design in 2 runs\nnodes 1\nbook step3-1.book\n") ∷ []; status = 2 }
 unfolding given
 three_steps = refl
 
 -- a step without a design, and one with a design after it
 none_and_design :
-    given (codes "proc factex;factors A B C;size design=2;model r=3;proc factex;factors A;model r=3;") ≡ record { events = WholeFile (codes "step1-1.book") (codes "factex-book 1\nsize 2 1 3 0\nresolution 3\npattern none\nO 1\nEND\n") ∷ Piece (codes "step 1\nfactors 3 levels 2\nno design in 2 runs\nnodes 1\nbook step1-1.book\n") ∷ Piece (codes "step 2\nfactors 1 levels 2\ndesign 2 runs\nno defining words\nnodes 1\nrules\n  none\n") ∷ []; status = 1 }
+    given (codes "proc factex;factors A B C;size design=2;model r=3;proc factex;factors A;model r=3;")
+    ≡ record {
+      events = WholeFile (codes "step1-1.book")
+          (codes "factex-book 1\nsize 2 1 3 0\nresolution 3\npattern none\nO 1\nEND\n")
+          ∷ Piece (codes "step 1\nfactors 3 levels 2\nno design in 2 runs\nnodes 1\nbook step1-1.book\n")
+          ∷ Piece (codes "step 2\nfactors 1 levels 2\ndesign 2 runs\nno defining words\nnodes 1\nrules\n  none\n") ∷ [];
+      status = 1;
+    }
 unfolding given
 none_and_design = refl
 
 -- a book that is accepted, one with a word that is none of the prefix, one that ends too early, and a text that is none
 judged :
-    (output_of (codes "check" ∷ []) (codes "factex-book 1\nsize 2 2 3 0\nresolution 4\npattern none\nO 1\nO 2\nW 3 7\nEND\n") ≡ message (codes "accepted\nsize 2 2 3 0\nresolution 4\npattern none\n") 0)
-    × (output_of (codes "check" ∷ []) (codes "factex-book 1\nsize 2 2 3 0\nresolution 4\npattern none\nO 1\nO 2\nW 3 5\nEND\n") ≡ message (codes "rejected line 7 K3\n") 1)
-    × (output_of (codes "check" ∷ []) (codes "factex-book 1\nsize 2 2 3 0\nresolution 4\npattern none\nO 1\nO 2\nEND\n") ≡ message (codes "rejected line 7 K6\n") 1)
+    (output_of (codes "check" ∷ [])
+    (codes "factex-book 1\nsize 2 2 3 0\nresolution 4\npattern none\nO 1\nO 2\nW 3 7\nEND\n")
+    ≡ message (codes "accepted\nsize 2 2 3 0\nresolution 4\npattern none\n") 0)
+    × (output_of (codes "check" ∷ [])
+    (codes "factex-book 1\nsize 2 2 3 0\nresolution 4\npattern none\nO 1\nO 2\nW 3 5\nEND\n")
+    ≡ message (codes "rejected line 7 K3\n") 1)
+    × (output_of (codes "check" ∷ []) (codes "factex-book 1\nsize 2 2 3 0\nresolution 4\npattern none\nO 1\nO 2\nEND\n")
+    ≡ message (codes "rejected line 7 K6\n") 1)
     × (output_of (codes "check" ∷ []) (codes "proc factex;\n") ≡ message (codes "rejected line 1 B2\n") 1)
-unfolding digits prime_of degree_of reduction_of add mul neg inv runs_of is_constant is_balanced in_span must_balance is_canonical settings_of book_of first_flaw
+unfolding digits prime_of degree_of reduction_of add mul neg inv runs_of is_constant is_balanced in_span must_balance
+    is_canonical settings_of book_of first_flaw
 judged = (refl, refl, refl, refl)
 
 -- words: the first fault, whatever the text says
@@ -289,14 +357,19 @@ numbers_of_steps = (refl, refl, refl, refl, refl, refl, refl, refl, refl, refl)
 
 -- the text of two steps; a step of three levels that asks for least aberration
 made_steps :
-    (output_of (codes "make" ∷ codes "2" ∷ []) (codes "proc") ≡ message (codes "proc factex nodes=20000;\nfactors X1-X6 / nlev=2;\nsize design=32;\nmodel resolution=max;\nrun;\nproc factex nodes=20000;\nfactors X1-X7 / nlev=2;\nsize design=16;\nmodel resolution=max;\nrun;\n") 0)
-    × (step_text 12 ≡ codes "proc factex nodes=20000;\nfactors X1-X5 / nlev=3;\nsize design=27;\nmodel resolution=max / minabs;\nrun;\n")
+    (output_of (codes "make" ∷ codes "2" ∷ []) (codes "proc")
+    ≡ message (codes
+    "proc factex nodes=20000;\nfactors X1-X6 / nlev=2;\nsize design=32;\nmodel resolution=max;\nrun;\nproc factex nodes=20000;\nfactors X1-X7 / nlev=2;\nsize design=16;\nmodel resolution=max;\nrun;\n") 0)
+    × (step_text 12
+    ≡ codes "proc factex nodes=20000;\nfactors X1-X5 / nlev=3;\nsize design=27;\nmodel resolution=max / minabs;\nrun;\n")
 unfolding digits settings_of made_text
 made_steps = (refl, refl)
 
 -- a summary of outcomes of each kind
 summed_up :
-    summary_lines (NoDesign 7 ∷ Design (4 ∷ []) 55 ∷ BudgetEnded None 20000 ∷ BudgetEnded (Some (4 ∷ [])) 20000 ∷ Design [] 1 ∷ Design [] 0 ∷ [])
+    summary_lines
+    (NoDesign 7 ∷ Design (4 ∷ []) 55 ∷ BudgetEnded None 20000 ∷ BudgetEnded (Some (4 ∷ [])) 20000 ∷ Design [] 1
+    ∷ Design [] 0 ∷ [])
     ≡ codes "steps 6\ndesigns 3\nnone 1\nended 2\nnodes 40063\n"
 unfolding digits
 summed_up = refl
@@ -304,14 +377,16 @@ summed_up = refl
 -- the messages of texts that are too long to be written here
 long_texts :
     (fault_line (at_front 25) ≡ codes "factex: E25 1:1 text is over 1048576 bytes\n")
-    × (fault_line (Refused (record { code = 32; line = 101; column = 1 })) ≡ codes "factex: E32 101:1 more than 100 steps\n")
+    × (fault_line (Refused (record { code = 32; line = 101; column = 1 }))
+    ≡ codes "factex: E32 101:1 more than 100 steps\n")
 unfolding digits
 long_texts = (refl, refl)
 
 -- the two bytes are appended, and nothing is said of a shelf that exposes nothing
 one_and_two : Did (world (Some (7 ∷ [])) None) (world (Some (7 ∷ 1 ∷ 2 ∷ [])) None) (ListByte 1 ∷ ListByte 2 ∷ [])
 one_and_two = record {
-  listing = record { exposed = λ text e. ap (λ (o : Option (List ℕ)). option_map (λ (t : List ℕ). t ++ 1 ∷ 2 ∷ []) o) e };
+  listing = record
+      { exposed = λ text e. ap (λ (o : Option (List ℕ)). option_map (λ (t : List ℕ). t ++ 1 ∷ 2 ∷ []) o) e };
   shelf = record { exposed = λ files e. absurd (none-some files e) };
 }
 

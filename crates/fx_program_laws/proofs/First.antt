@@ -1,5 +1,6 @@
 -- The design that is given is the first of the last question that has one.
-use Rattle.std.proofs.Common.{ℕ, ◌≡◌, ◌<◌, ◌≤◌, ◌+◌, true, false, List, [], ◌∷◌, ◌++◌, Option, Some, None, length, All, refl, subst, ap, ◌∙◌, arith}
+use Rattle.std.proofs.Common.{ℕ, ◌≡◌, ◌<◌, ◌≤◌, ◌+◌, true, false, List, [], ◌∷◌, ◌++◌, Option, Some, None, length, All}
+use Rattle.std.proofs.Common.{refl, subst, ap, ◌∙◌, arith}
 use Rattle.std.specs.List.{AllByRecursion}
 use Rattle.std.proofs.lemmas.List.Elements.{recursion_from_All}
 use Rattle.fx_designs.specs.Problems.{Problem}
@@ -11,7 +12,8 @@ use Rattle.fx_laws.proofs.Order.{each-all, each-map}
 use Rattle.fx_reduction.proofs.LeastPattern.{no_answer}
 use Rattle.fx_tree.specs.Laws.{IsFirstOfLeastPattern}
 use Rattle.fx_statements.specs.Steps.{Meaning}
-use Rattle.fx_statements.specs.Questions.{Found, asked, concluded, found_by, last_found, last_of, lowest, nodes_of, outcome_of, question_for, questions_of}
+use Rattle.fx_statements.specs.Questions.{Found, asked, concluded, found_by, last_found, last_of, lowest, nodes_of}
+use Rattle.fx_statements.specs.Questions.{outcome_of, question_for, questions_of}
 use Rattle.fx_statements.proofs.Concluded.{each_asked, within}
 use Rattle.fx_program.specs.StepClaims.{HasNoDesign, IsLastWithDesign}
 use Rattle.fx_program_laws.proofs.Least.{first-least-answer}
@@ -34,19 +36,25 @@ module _ (step : Meaning) (some : 1 ≤ length step.factors) where
   none_answer : (p : Problem) → IsOfStep p → HasNoDesign p → answer p ≡ None
   none_answer p own none = (no_answer p own.1).1 none
 
-  none_answers : (later : List Problem) → AllByRecursion IsOfStep later → AllByRecursion HasNoDesign later → AllByRecursion (λ p. answer p ≡ None) later
+  none_answers : (later : List Problem) → AllByRecursion IsOfStep later → AllByRecursion HasNoDesign later
+      → AllByRecursion (λ p. answer p ≡ None) later
   none_answers [] own none = tt
   none_answers (p ∷ later) own none = (none_answer p own.0 none.0, none_answers later own.1 none.1)
 
-  stays : (earlier : Option Found) (later : List Problem) → AllByRecursion (λ p. answer p ≡ None) later → last_found earlier later ≡ earlier
+  stays : (earlier : Option Found) (later : List Problem) → AllByRecursion (λ p. answer p ≡ None) later
+      → last_found earlier later ≡ earlier
   stays earlier [] none = refl
-  stays earlier (p ∷ later) none = ap (λ own. last_found (found_by earlier p own) later) none.0 ∙ stays earlier later none.1
+  stays earlier (p ∷ later) none =
+      ap (λ own. last_found (found_by earlier p own) later) none.0 ∙ stays earlier later none.1
 
   last_at : (before : Option Found) (earlier later : List Problem) (p : Problem) (rows : List ℕ) → answer p ≡ Some rows
-      → AllByRecursion (λ p. answer p ≡ None) later → last_found before (earlier ++ p ∷ later) ≡ Some (record { question = p; rows = rows })
+      → AllByRecursion (λ p. answer p ≡ None) later
+      → last_found before (earlier ++ p ∷ later) ≡ Some (record { question = p; rows = rows })
   last_at before [] later p rows is none =
-      ap (λ own. last_found (found_by before p own) later) is ∙ stays (Some (record { question = p; rows = rows })) later none
-  last_at before (x ∷ earlier) later p rows is none = last_at (found_by before x (answer x)) earlier later p rows is none
+      ap (λ own. last_found (found_by before p own) later) is ∙ stays (Some (record { question = p; rows = rows }))
+      later none
+  last_at before (x ∷ earlier) later p rows is none =
+      last_at (found_by before x (answer x)) earlier later p rows is none
 
   behind : (earlier later : List Problem) → AllByRecursion IsOfStep (earlier ++ later) → AllByRecursion IsOfStep later
   behind [] later all = all
@@ -57,12 +65,14 @@ module _ (step : Meaning) (some : 1 ≤ length step.factors) where
       own : AllByRecursion IsOfStep (p ∷ last.later)
       own = behind last.earlier (p ∷ last.later) (subst (AllByRecursion IsOfStep) last.among all_of_step)
 
-      design_is : (rows : List ℕ) → answer p ≡ Some rows → outcome_of step ≡ record { dimensions = p.dimensions; ending = Design rows (nodes_of ps) }
+      design_is : (rows : List ℕ) → answer p ≡ Some rows
+          → outcome_of step ≡ record { dimensions = p.dimensions; ending = Design rows (nodes_of ps) }
       design_is rows is =
           within (questions_of step) step.settings.budget few
           ∙ ap (λ found. concluded (last_of (questions_of step).first ps) found (nodes_of ps))
           (ap (last_found None) last.among
-          ∙ last_at None last.earlier last.later p rows is (none_answers last.later own.1 (recursion_from_All HasNoDesign last.later last.none_later)))
+          ∙ last_at None last.earlier last.later p rows is
+          (none_answers last.later own.1 (recursion_from_All HasNoDesign last.later last.none_later)))
 
       pub first_given : (rows : List ℕ) → step.settings.least ≡ false → IsFirstDesign p rows
           → outcome_of step ≡ record { dimensions = p.dimensions; ending = Design rows (nodes_of ps) }
@@ -73,7 +83,8 @@ module _ (step : Meaning) (some : 1 ≤ length step.factors) where
       first_least_given rows least first = design_is rows (first-least-answer p (own.0.0 ∙ least) own.0.1 rows first)
 
     pub none_given : All HasNoDesign ps
-        → outcome_of step ≡ record { dimensions = (last_of (questions_of step).first ps).dimensions; ending = NoDesign (nodes_of ps) }
+        → outcome_of step
+        ≡ record { dimensions = (last_of (questions_of step).first ps).dimensions; ending = NoDesign (nodes_of ps) }
     none_given none =
         within (questions_of step) step.settings.budget few
         ∙ ap (λ found. concluded (last_of (questions_of step).first ps) found (nodes_of ps))

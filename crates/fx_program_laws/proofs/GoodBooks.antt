@@ -1,5 +1,7 @@
 -- The books of a step whose questions may be asked are read from their texts as they are, and are accepted.
-use Rattle.std.proofs.Common.{ℕ, ◌≡◌, ◌<◌, ◌≤◌, ◌+◌, ◌-◌, zero, suc, true, false, List, [], ◌∷◌, ◌++◌, length, Option, Some, None, Ok, IsTrue, refl, sym, ap, ◌∙◌, subst, arith, inl, inr, append-nil, append_assoc, Bool, leb}
+use Rattle.std.proofs.Common.{ℕ, ◌≡◌, ◌<◌, ◌≤◌, ◌+◌, ◌-◌, zero, suc, true, false, List, [], ◌∷◌, ◌++◌, length, Option}
+use Rattle.std.proofs.Common.{Some, None, Ok, IsTrue, refl, sym, ap, ◌∙◌, subst, arith, inl, inr, append-nil}
+use Rattle.std.proofs.Common.{append_assoc, Bool, leb}
 use Rattle.std.specs.Prelude.{codes, find}
 use Rattle.std.specs.List.{AllByRecursion, range_with_len}
 use Rattle.std.proofs.lemmas.Bool.{cases_Bool, cond-true, cond-false, and_parts, leb-true, ltb-false}
@@ -25,7 +27,8 @@ use Rattle.fx_checker.specs.Verdicts.{verdict_of}
 use Rattle.fx_checker.specs.declared.verdict.Verdict.TheVariants.{Accepted}
 use Rattle.fx_checker.proofs.Good.{in_turn_none}
 use Rattle.fx_statements.specs.Goals.{Goal, AtLeast, Highest, ForEffects}
-use Rattle.fx_statements.specs.Questions.{Turn, asked, highest, lowest, nodes_of, passes, question_for, questions_of, requirement_for, turns}
+use Rattle.fx_statements.specs.Questions.{Turn, asked, highest, lowest, nodes_of, passes, question_for, questions_of}
+use Rattle.fx_statements.specs.Questions.{requirement_for, turns}
 use Rattle.fx_statements.specs.Steps.{Meaning}
 use Rattle.fx_statements.proofs.Concluded.{each_asked}
 use Rattle.fx_book.specs.QuestionBooks.{book_for, demands_for, has_book, shape_of}
@@ -59,63 +62,85 @@ is_accepted text book read none =
     ap verdict_output read
     ∙ ap (λ flaw. message (verdict_lines book.head (verdict_of flaw)) (verdict_status (verdict_of flaw))) none
 
-accepted_book : (p : Problem) → IsFinished 5000000 p → (number : ℕ) → has_book p ≡ true → IsAcceptedBook (record { question = number; book = book_for p })
+accepted_book : (p : Problem) → IsFinished 5000000 p → (number : ℕ) → has_book p ≡ true
+    → IsAcceptedBook (record { question = number; book = book_for p })
 unfolding marks
 accepted_book p finished number has =
     let may : MayBeAsked p = finished.0 in
     let book : Book = book_for p in
-    let valid : IsValidBook book = books.valid p may.shaped may.asked may.least may.few (omega (arith, finished.1)) has in
+    let valid : IsValidBook book =
+    books.valid p may.shaped may.asked may.least may.few (omega (arith, finished.1)) has in
     let short : length book.marks ≤ 5000000 = omega (arith, finished.1, length-map (nodes p) (mark_of p)) in
     let read = written_back book valid (book_short book valid short) in
-    let none = in_turn_none (claim_of book.head) (children (claim_of book.head).problem []) 0 book.marks (books.good_book p may.shaped may.asked has) in
+    let none =
+    in_turn_none (claim_of book.head) (children (claim_of book.head).problem []) 0 book.marks
+    (books.good_book p may.shaped may.asked has) in
     record { read = read; accepted = is_accepted (book_text book) book read none }
 
-each_book : (number : ℕ) (ps : List Problem) → AllByRecursion (IsFinished 5000000) ps → AllByRecursion IsAcceptedBook (books_from number ps)
+each_book : (number : ℕ) (ps : List Problem) → AllByRecursion (IsFinished 5000000) ps
+    → AllByRecursion IsAcceptedBook (books_from number ps)
 each_book number [] all = tt
-each_book number (p ∷ ps) all = each-append IsAcceptedBook (book_at number p) (books_from (number + 1) ps) own (each_book (number + 1) ps all.1)
+each_book number (p ∷ ps) all =
+    each-append IsAcceptedBook (book_at number p) (books_from (number + 1) ps) own (each_book (number + 1) ps all.1)
   where
     own : AllByRecursion IsAcceptedBook (book_at number p)
     own = elim (cases_Bool (has_book p)) [
-      | inl has ↦ subst (AllByRecursion IsAcceptedBook) (sym (cond-true (has_book p) _ _ has)) (accepted_book p all.0 number has, tt)
+      | inl has ↦
+          subst (AllByRecursion IsAcceptedBook) (sym (cond-true (has_book p) _ _ has))
+          (accepted_book p all.0 number has, tt)
       | inr none ↦ subst (AllByRecursion IsAcceptedBook) (sym (cond-false (has_book p) _ _ none)) tt
     ]
 
 -- of questions that may be asked, those that are finished within the budget
-finished-in : (budget : ℕ) (earlier ps : List Problem) (end : Option Turn) → find (passes budget) (turns earlier ps) ≡ end
+finished-in : (budget : ℕ) (earlier ps : List Problem) (end : Option Turn)
+    → find (passes budget) (turns earlier ps) ≡ end
     → AllByRecursion (IsFinished budget) earlier → nodes_of earlier ≤ budget → AllByRecursion MayBeAsked ps
     → AllByRecursion (IsFinished budget) (finished_before (earlier ++ ps) end)
-finished-in budget earlier [] None e done few all = subst (AllByRecursion (IsFinished budget)) (sym (append-nil earlier)) done
+finished-in budget earlier [] None e done few all =
+    subst (AllByRecursion (IsFinished budget)) (sym (append-nil earlier)) done
 finished-in budget earlier [] (Some turn) e done few all = absurd (cc e)
 finished-in budget earlier (p ∷ ps) end e done few all =
     let own : Turn = record { earlier = earlier; question = p } in
     elim (cases_Bool (passes budget own)) [
-      | inl here ↦ subst (λ end. AllByRecursion (IsFinished budget) (finished_before (earlier ++ p ∷ ps) end)) (sym (cond-true (passes budget own) (Some own) _ here) ∙ e) done
+      | inl here ↦
+          subst (λ end. AllByRecursion (IsFinished budget) (finished_before (earlier ++ p ∷ ps) end))
+          (sym (cond-true (passes budget own) (Some own) _ here) ∙ e) done
       | inr later ↦
-          let within : nodes_of earlier + length (nodes p) ≤ budget = ltb-false budget (nodes_of earlier + length (nodes p)) later in
+          let within : nodes_of earlier + length (nodes p) ≤ budget =
+          ltb-false budget (nodes_of earlier + length (nodes p)) later in
           let more = sum_by_push (λ (p : Problem). length (nodes p)) earlier p in
           subst (λ l. AllByRecursion (IsFinished budget) (finished_before l end)) (append_assoc earlier (p ∷ []) ps)
           (finished-in budget (earlier ++ p ∷ []) ps end (sym (cond-false (passes budget own) (Some own) _ later) ∙ e)
-          (each-append (IsFinished budget) earlier (p ∷ []) done ((all.0, omega (arith, within)), tt)) (omega (arith, more, within)) all.1)
+          (each-append (IsFinished budget) earlier (p ∷ []) done ((all.0, omega (arith, within)), tt))
+          (omega (arith, more, within)) all.1)
     ]
 
-within_5000000 : (budget : ℕ) (ps : List Problem) → budget ≤ 5000000 → AllByRecursion (IsFinished budget) ps → AllByRecursion (IsFinished 5000000) ps
+within_5000000 : (budget : ℕ) (ps : List Problem) → budget ≤ 5000000 → AllByRecursion (IsFinished budget) ps
+    → AllByRecursion (IsFinished 5000000) ps
 within_5000000 budget [] few all = tt
 within_5000000 budget (p ∷ ps) few all = ((all.0.0, omega (arith, all.0.1, few)), within_5000000 budget ps few all.1)
 
 -- what holds for the numbers of a range
 in_range : (P : ℕ → Type 0) (a n : ℕ) → ((k : ℕ) → a ≤ k → k < a + n → P k) → AllByRecursion P (range_with_len a n)
 in_range P a zero each = tt
-in_range P a (suc n) each = (each a (omega arith) (omega arith), in_range P (a + 1) n (λ k low high. each k (omega (arith, low)) (omega (arith, high))))
+in_range P a (suc n) each = (
+  each a (omega arith) (omega arith),
+  in_range P (a + 1) n
+      (λ k low high. each k (omega (arith, low)) (omega (arith, high))),
+)
 
-module _ (step : Meaning) (some : lowest step step.settings.size ≤ highest step step.settings.size) (few : step.settings.budget ≤ 5000000)
-    (may : (n : ℕ) → lowest step step.settings.size ≤ n → n ≤ highest step step.settings.size → MayBeAsked (question_for step n)) where
+module _ (step : Meaning) (some : lowest step step.settings.size ≤ highest step step.settings.size)
+    (few : step.settings.budget ≤ 5000000)
+    (may : (n : ℕ) → lowest step step.settings.size ≤ n → n ≤ highest step step.settings.size
+    → MayBeAsked (question_for step n)) where
   all_asked : AllByRecursion MayBeAsked (asked (questions_of step))
   all_asked =
       let low : ℕ = lowest step step.settings.size in
       let high : ℕ = highest step step.settings.size in
       each_asked MayBeAsked (questions_of step) (may low (omega arith) some)
       (each-map MayBeAsked (question_for step) (range_with_len (low + 1) (high - low))
-      (in_range (λ n. MayBeAsked (question_for step n)) (low + 1) (high - low) (λ k above below. may k (omega (arith, above)) (omega (arith, below)))))
+      (in_range (λ n. MayBeAsked (question_for step n)) (low + 1) (high - low)
+      (λ k above below. may k (omega (arith, above)) (omega (arith, below)))))
 
   pub all_accepted : HasAcceptedBooks step
   unfolding finished
@@ -128,16 +153,19 @@ module _ (step : Meaning) (some : lowest step step.settings.size ≤ highest ste
       (finished-in budget [] ps (find (passes budget) (turns [] ps)) refl tt (omega arith) all_asked)))
 
 -- the questions of a valid step may be asked
-few_of : (q s : ℕ) (least : Bool) (goal : Goal) (n : ℕ) → CanBeSought q s goal → AreFew (demands_for (requirement_for least goal n))
+few_of : (q s : ℕ) (least : Bool) (goal : Goal) (n : ℕ) → CanBeSought q s goal
+    → AreFew (demands_for (requirement_for least goal n))
 few_of q s least (AtLeast r) n sought = tt
 few_of q s true Highest n sought = tt
 few_of q s false Highest n sought = tt
-few_of q s least (ForEffects estimate others) n sought = (omega (arith, sought.1, length-map estimate by_number), omega (arith, sought.2, length-map others by_number))
+few_of q s least (ForEffects estimate others) n sought =
+    (omega (arith, sought.1, length-map estimate by_number), omega (arith, sought.2, length-map others by_number))
   where
     by_number : ℕ → Effect
     by_number n = record { 0 = n }
 
-may_be_asked : (step : Meaning) (valid : IsValidStep step) (n : ℕ) → lowest step step.settings.size ≤ n → n ≤ highest step step.settings.size → MayBeAsked (question_for step n)
+may_be_asked : (step : Meaning) (valid : IsValidStep step) (n : ℕ) → lowest step step.settings.size ≤ n
+    → n ≤ highest step step.settings.size → MayBeAsked (question_for step n)
 may_be_asked step valid n low high = record {
   shaped = (shape_valid step valid n low high).shaped;
   asked = requirement_valid step valid n low high;
@@ -152,4 +180,5 @@ few_nodes x valid =
 
 pub step_accepted : (step : Meaning) → IsValidStep step → HasAcceptedBooks step
 step_accepted step valid =
-    all_accepted step (some_numbers step valid (lowest step step.settings.size) refl) (few_nodes step.settings valid.settings) (may_be_asked step valid)
+    all_accepted step (some_numbers step valid (lowest step step.settings.size) refl)
+    (few_nodes step.settings valid.settings) (may_be_asked step valid)

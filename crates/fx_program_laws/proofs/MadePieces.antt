@@ -1,5 +1,6 @@
 -- The text of `make` in words, numbers and signs.
-use Rattle.std.proofs.Common.{ℕ, ◌≡◌, ◌<◌, ◌≤◌, ◌+◌, ◌%◌, zero, suc, Bool, true, false, not, ◌&&◌, List, [], ◌∷◌, ◌++◌, length, refl, sym, ap, ◌∙◌, subst, arith, Ok, inl, inr}
+use Rattle.std.proofs.Common.{ℕ, ◌≡◌, ◌<◌, ◌≤◌, ◌+◌, ◌%◌, zero, suc, Bool, true, false, not, ◌&&◌, List, [], ◌∷◌, ◌++◌}
+use Rattle.std.proofs.Common.{length, refl, sym, ap, ◌∙◌, subst, arith, Ok, inl, inr}
 use Rattle.std.specs.Fmt.{digits}
 use Rattle.std.specs.Prelude.{nat_lt, nat_le, codes, decimal, ◌==◌}
 use Rattle.std.specs.List.{AllByRecursion, list_all, flat_map, range_with_len}
@@ -7,7 +8,9 @@ use Rattle.std.proofs.lemmas.Bool.{and_parts, cases_eq, ltb-true, leb-true}
 use Rattle.fx_lexer.specs.Bytes.{is_white, is_digit, begins_word, is_word_byte, is_sign}
 use Rattle.fx_lexer.specs.Extents.{begins_comment, begins_remark}
 use Rattle.fx_lexer.specs.Lexing.{lexed}
-use Rattle.fx_lexer.specs.TextPieces.{Piece, white, comment, remark, word, whole, decimal as decimal_piece, quoted, sign, spelling, HasForm, IsShort, AreFormed, starts_behind, starts_behind_all, begins_with, begins_fraction, text_of, tokens_among}
+use Rattle.fx_lexer.specs.TextPieces.{Piece, white, comment, remark, word, whole, decimal as decimal_piece, quoted}
+use Rattle.fx_lexer.specs.TextPieces.{sign, spelling, HasForm, IsShort, AreFormed, starts_behind, starts_behind_all}
+use Rattle.fx_lexer.specs.TextPieces.{begins_with, begins_fraction, text_of, tokens_among}
 use Rattle.fx_lexer.proofs.TextOfPieces.{tokens_read}
 use Rattle.fx_program.specs.Making.{factors_at, levels_at, runs_at, made_text, step_text}
 
@@ -18,8 +21,11 @@ abbrev has_form : Bool → Piece → List ℕ → Bool
 has_form start (white b) rest = is_white b
 has_form start (comment inside) rest = false
 has_form start (remark inside) rest = false
-has_form start (word name) rest = begins_with begins_word name && (list_all is_word_byte name && not (begins_with is_word_byte rest))
-has_form start (whole digits) rest = nat_lt 0 (length digits) && (list_all is_digit digits && (not (begins_with is_digit rest) && not (begins_fraction rest)))
+has_form start (word name) rest =
+    begins_with begins_word name && (list_all is_word_byte name && not (begins_with is_word_byte rest))
+has_form start (whole digits) rest =
+    nat_lt 0 (length digits)
+    && (list_all is_digit digits && (not (begins_with is_digit rest) && not (begins_fraction rest)))
 has_form start (decimal_piece digits fraction) rest = false
 has_form start (quoted quote value) rest = false
 has_form start (sign b) rest = is_sign b && (not (begins_comment (b ∷ rest)) && not (begins_remark start (b ∷ rest)))
@@ -36,7 +42,8 @@ is_short (sign b) = true
 
 abbrev are_formed : Bool → List Piece → List ℕ → Bool
 are_formed start [] rest = true
-are_formed start (p ∷ pieces) rest = has_form start p (text_of pieces rest) && (is_short p && are_formed (starts_behind start p) pieces rest)
+are_formed start (p ∷ pieces) rest =
+    has_form start p (text_of pieces rest) && (is_short p && are_formed (starts_behind start p) pieces rest)
 
 not_so : (b : Bool) → not b ≡ true → b ≡ false
 not_so true e = sym e
@@ -72,12 +79,17 @@ short_decided (decimal_piece digits fraction) e = absurd (cc e)
 short_decided (quoted quote value) e = tt
 short_decided (sign b) e = tt
 
-formed_decided : (start : Bool) (pieces : List Piece) (rest : List ℕ) → are_formed start pieces rest ≡ true → AreFormed start pieces rest
+formed_decided : (start : Bool) (pieces : List Piece) (rest : List ℕ) → are_formed start pieces rest ≡ true
+    → AreFormed start pieces rest
 formed_decided start [] rest e = tt
 formed_decided start (p ∷ pieces) rest e =
     let a = and_parts _ _ e in
-    let b = and_parts _ _ a.1 in
-    (form_decided start p (text_of pieces rest) a.0, short_decided p b.0, formed_decided (starts_behind start p) pieces rest b.1)
+    let b = and_parts _ _ a.1 in (
+      form_decided start p (text_of pieces rest) a.0,
+      short_decided p b.0,
+      formed_decided (starts_behind start p) pieces
+          rest b.1,
+    )
 
 -- ---- pieces after pieces
 
@@ -85,10 +97,15 @@ pub text-append : (ps qs : List Piece) (rest : List ℕ) → text_of (ps ++ qs) 
 text-append [] qs rest = refl
 text-append (p ∷ ps) qs rest = ap (λ (l : List ℕ). spelling p ++ l) (text-append ps qs rest)
 
-formed-append : (start : Bool) (ps qs : List Piece) (rest : List ℕ) → AreFormed start ps (text_of qs rest) → AreFormed (starts_behind_all start ps) qs rest → AreFormed start (ps ++ qs) rest
+formed-append : (start : Bool) (ps qs : List Piece) (rest : List ℕ) → AreFormed start ps (text_of qs rest)
+    → AreFormed (starts_behind_all start ps) qs rest → AreFormed start (ps ++ qs) rest
 formed-append start [] qs rest first second = second
-formed-append start (p ∷ ps) qs rest first second =
-    (subst (HasForm start p) (sym (text-append ps qs rest)) first.0, first.1, formed-append (starts_behind start p) ps qs rest first.2 second)
+formed-append start (p ∷ ps) qs rest first second = (
+  subst (HasForm start p) (sym (text-append ps qs rest)) first.0,
+  first.1,
+  formed-append (starts_behind start p) ps
+      qs rest first.2 second,
+)
 
 -- ---- the pieces of a step
 
@@ -103,7 +120,9 @@ model_end true = blank ∷ sign 47 ∷ blank ∷ word (codes "minabs") ∷ sign 
 model_end false = sign 59 ∷ line_end ∷ []
 
 abbrev proc_pieces : List Piece
-proc_pieces = word (codes "proc") ∷ blank ∷ word (codes "factex") ∷ blank ∷ word (codes "nodes") ∷ sign 61 ∷ whole (codes "20000") ∷ sign 59 ∷ line_end ∷ []
+proc_pieces =
+    word (codes "proc") ∷ blank ∷ word (codes "factex") ∷ blank ∷ word (codes "nodes") ∷ sign 61 ∷ whole (codes "20000")
+    ∷ sign 59 ∷ line_end ∷ []
 
 abbrev factors_pieces : List ℕ → List ℕ → List Piece
 factors_pieces last levels =
@@ -114,33 +133,78 @@ abbrev size_pieces : List ℕ → List Piece
 size_pieces runs = word (codes "size") ∷ blank ∷ word (codes "design") ∷ sign 61 ∷ whole runs ∷ sign 59 ∷ line_end ∷ []
 
 abbrev model_pieces : Bool → List Piece
-model_pieces least = word (codes "model") ∷ blank ∷ word (codes "resolution") ∷ sign 61 ∷ word (codes "max") ∷ model_end least
+model_pieces least =
+    word (codes "model") ∷ blank ∷ word (codes "resolution") ∷ sign 61 ∷ word (codes "max") ∷ model_end least
 
 abbrev run_pieces : List Piece
 run_pieces = word (codes "run") ∷ sign 59 ∷ line_end ∷ []
 
 -- those of the step of this number, of twelve kinds
 abbrev pub step_pieces : ℕ → List Piece
-step_pieces r = proc_pieces ++ (factors_pieces (decimal (factors_at r)) (decimal (levels_at r)) ++ (size_pieces (decimal (runs_at r)) ++ (model_pieces (r % 4 == 0) ++ run_pieces)))
+step_pieces r =
+    proc_pieces
+    ++ (factors_pieces (decimal (factors_at r)) (decimal (levels_at r))
+    ++ (size_pieces (decimal (runs_at r)) ++ (model_pieces (r % 4 == 0) ++ run_pieces)))
 
 -- what holds for the numbers below n
 pub each_below : (P : ℕ → Type 0) (a n : ℕ) → AllByRecursion P (range_with_len a n) → (r : ℕ) → a ≤ r → r < a + n → P r
 each_below P a zero all r low high = absurd (omega arith)
 each_below P a (suc n) all r low high =
-    elim (cases_eq r a) [ inl here ↦ subst P (sym here) all.0 | inr other ↦ each_below P (a + 1) n all.1 r (omega arith) (omega arith) ]
+    elim (cases_eq r a)
+    [ inl here ↦ subst P (sym here) all.0 | inr other ↦ each_below P (a + 1) n all.1 r (omega arith) (omega arith) ]
 
 step_is : (r : ℕ) → r < 12 → (rest : List ℕ) → text_of (step_pieces r) rest ≡ step_text r ++ rest
 unfolding digits
 step_is r low =
-    each_below (λ r. (rest : List ℕ) → text_of (step_pieces r) rest ≡ step_text r ++ rest) 0 12
-    (λ rest. refl, (λ rest. refl, (λ rest. refl, (λ rest. refl, (λ rest. refl, (λ rest. refl, (λ rest. refl, (λ rest. refl, (λ rest. refl, (λ rest. refl, (λ rest. refl, (λ rest. refl, tt))))))))))))
+    each_below (λ r. (rest : List ℕ) → text_of (step_pieces r) rest ≡ step_text r ++ rest) 0 12 (
+      λ rest. refl,
+      (
+        λ rest. refl,
+        (
+          λ rest. refl,
+          (
+            λ rest. refl,
+            (
+              λ rest. refl,
+              (
+                λ rest. refl,
+                (
+                  λ rest. refl,
+                  (λ rest. refl, (λ rest. refl, (λ rest. refl, (λ rest. refl, (λ rest. refl, tt))))),
+                ),
+              ),
+            ),
+          ),
+        ),
+      ),
+    )
     r (omega arith) (omega arith)
 
 step_formed : (r : ℕ) → r < 12 → (rest : List ℕ) → are_formed true (step_pieces r) rest ≡ true
 unfolding digits
 step_formed r low =
-    each_below (λ r. (rest : List ℕ) → are_formed true (step_pieces r) rest ≡ true) 0 12
-    (λ rest. refl, (λ rest. refl, (λ rest. refl, (λ rest. refl, (λ rest. refl, (λ rest. refl, (λ rest. refl, (λ rest. refl, (λ rest. refl, (λ rest. refl, (λ rest. refl, (λ rest. refl, tt))))))))))))
+    each_below (λ r. (rest : List ℕ) → are_formed true (step_pieces r) rest ≡ true) 0 12 (
+      λ rest. refl,
+      (
+        λ rest. refl,
+        (
+          λ rest. refl,
+          (
+            λ rest. refl,
+            (
+              λ rest. refl,
+              (
+                λ rest. refl,
+                (
+                  λ rest. refl,
+                  (λ rest. refl, (λ rest. refl, (λ rest. refl, (λ rest. refl, (λ rest. refl, tt))))),
+                ),
+              ),
+            ),
+          ),
+        ),
+      ),
+    )
     r (omega arith) (omega arith)
 
 step_ends : (r : ℕ) → r < 12 → starts_behind_all true (step_pieces r) ≡ true
@@ -174,13 +238,21 @@ pieces_text (k ∷ ks) =
 pieces_formed : (ks : List ℕ) → AreFormed true (pieces_of ks) []
 pieces_formed [] = tt
 pieces_formed (k ∷ ks) =
-    formed-append true (step_pieces (k % 12)) (pieces_of ks) [] (formed_decided true (step_pieces (k % 12)) (text_of (pieces_of ks) []) (step_formed (k % 12) (omega arith) (text_of (pieces_of ks) [])))
-    (subst (λ (start : Bool). AreFormed start (pieces_of ks) []) (sym (step_ends (k % 12) (omega arith))) (pieces_formed ks))
+    formed-append true (step_pieces (k % 12)) (pieces_of ks) []
+    (formed_decided true (step_pieces (k % 12)) (text_of (pieces_of ks) [])
+    (step_formed (k % 12) (omega arith) (text_of (pieces_of ks) [])))
+    (subst (λ (start : Bool). AreFormed start (pieces_of ks) []) (sym (step_ends (k % 12) (omega arith)))
+    (pieces_formed ks))
 
 -- the tokens of the text
-pub made_tokens : (n : ℕ) → (made_text n ≡ text_of (pieces_of (range_with_len 1 n)) []) × (lexed (made_text n) ≡ Ok (tokens_among [] (pieces_of (range_with_len 1 n))))
+pub made_tokens : (n : ℕ)
+    → (made_text n ≡ text_of (pieces_of (range_with_len 1 n)) [])
+    × (lexed (made_text n) ≡ Ok (tokens_among [] (pieces_of (range_with_len 1 n))))
 unfolding made_text
 made_tokens n =
     let ks : List ℕ = range_with_len 1 n in
-    let joined : flat_map step_text ks ≡ text_of (pieces_of ks) [] = sym (pieces_text ks) in
-    (joined, tokens_read (flat_map step_text ks) (tokens_among [] (pieces_of ks)) (record { pieces = pieces_of ks; joined = joined; formed = pieces_formed ks; tokens_are = refl }))
+    let joined : flat_map step_text ks ≡ text_of (pieces_of ks) [] = sym (pieces_text ks) in (
+      joined,
+      tokens_read (flat_map step_text ks) (tokens_among [] (pieces_of ks))
+          (record { pieces = pieces_of ks; joined = joined; formed = pieces_formed ks; tokens_are = refl }),
+    )

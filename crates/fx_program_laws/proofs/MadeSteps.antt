@@ -1,5 +1,6 @@
 -- The steps of the text of `make`, each of which has a meaning.
-use Rattle.std.proofs.Common.{ℕ, ◌≡◌, ◌<◌, ◌≤◌, ◌+◌, ◌%◌, zero, suc, false, List, [], ◌∷◌, ◌++◌, length, refl, sym, ap, ◌∙◌, arith, append_assoc, append-nil, None, Ok}
+use Rattle.std.proofs.Common.{ℕ, ◌≡◌, ◌<◌, ◌≤◌, ◌+◌, ◌%◌, zero, suc, false, List, [], ◌∷◌, ◌++◌, length, refl, sym, ap}
+use Rattle.std.proofs.Common.{◌∙◌, arith, append_assoc, append-nil, None, Ok}
 use Rattle.std.specs.Fmt.{digits}
 use Rattle.std.specs.Prelude.{not, nat_lt}
 use Rattle.std.specs.List.{prefix_len, range_with_len}
@@ -17,7 +18,8 @@ use Rattle.fx_program.specs.Making.{HasSteps, made_text}
 use Rattle.fx_program.specs.Texts.{program_in}
 use Rattle.fx_program.proofs.Made.{made_text_short}
 use Rattle.fx_program_laws.proofs.MadePieces.{each_below, made_tokens, pieces_of, step_pieces}
-use Rattle.fx_program_laws.proofs.MadeSymbols.{all_symbols, none_refused, symbols, symbols_are, symbols_of_steps, written_among, written_are, written-append}
+use Rattle.fx_program_laws.proofs.MadeSymbols.{all_symbols, none_refused, symbols, symbols_are, symbols_of_steps}
+use Rattle.fx_program_laws.proofs.MadeSymbols.{written_among, written_are, written-append}
 
 -- the statements of a step that follows the bytes before
 abbrev statements_at : ℕ → List ℕ → List (List Written)
@@ -27,39 +29,126 @@ statements_at r before = statements_of (written_among before (step_pieces r))
 abbrev BeginStep : List (List Written) → Type 0
 BeginStep statements = prefix_len (λ s. not (ends_step s)) statements ≡ 0
 
-cut_behind : (r : ℕ) → r < 12 → (before : List ℕ) (rest : List Written) → statements_of (written_among before (step_pieces r) ++ rest) ≡ statements_at r before ++ statements_of rest
+cut_behind : (r : ℕ) → r < 12 → (before : List ℕ) (rest : List Written)
+    → statements_of (written_among before (step_pieces r) ++ rest) ≡ statements_at r before ++ statements_of rest
 unfolding digits
 cut_behind r low =
-    each_below (λ r. (before : List ℕ) (rest : List Written) → statements_of (written_among before (step_pieces r) ++ rest) ≡ statements_at r before ++ statements_of rest) 0 12
-    (λ b w. refl, (λ b w. refl, (λ b w. refl, (λ b w. refl, (λ b w. refl, (λ b w. refl, (λ b w. refl, (λ b w. refl, (λ b w. refl, (λ b w. refl, (λ b w. refl, (λ b w. refl, tt))))))))))))
+    each_below
+    (λ r. (before : List ℕ) (rest : List Written)
+    → statements_of (written_among before (step_pieces r) ++ rest) ≡ statements_at r before ++ statements_of rest) 0
+    12 (
+      λ b w. refl,
+      (
+        λ b w. refl,
+        (
+          λ b w. refl,
+          (
+            λ b w. refl,
+            (
+              λ b w. refl,
+              (
+                λ b w. refl,
+                (λ b w. refl, (λ b w. refl, (λ b w. refl, (λ b w. refl, (λ b w. refl, (λ b w. refl, tt)))))),
+              ),
+            ),
+          ),
+        ),
+      ),
+    )
     r (omega arith) (omega arith)
 
 begins : (r : ℕ) → r < 12 → (before : List ℕ) (rest : List (List Written)) → BeginStep (statements_at r before ++ rest)
 unfolding digits
 begins r low =
-    each_below (λ r. (before : List ℕ) (rest : List (List Written)) → BeginStep (statements_at r before ++ rest)) 0 12
-    (λ b w. refl, (λ b w. refl, (λ b w. refl, (λ b w. refl, (λ b w. refl, (λ b w. refl, (λ b w. refl, (λ b w. refl, (λ b w. refl, (λ b w. refl, (λ b w. refl, (λ b w. refl, tt))))))))))))
+    each_below (λ r. (before : List ℕ) (rest : List (List Written)) → BeginStep (statements_at r before ++ rest)) 0 12 (
+      λ b w. refl,
+      (
+        λ b w. refl,
+        (
+          λ b w. refl,
+          (
+            λ b w. refl,
+            (
+              λ b w. refl,
+              (
+                λ b w. refl,
+                (λ b w. refl, (λ b w. refl, (λ b w. refl, (λ b w. refl, (λ b w. refl, (λ b w. refl, tt)))))),
+              ),
+            ),
+          ),
+        ),
+      ),
+    )
     r (omega arith) (omega arith)
 
 abbrev IsOneStep : ℕ → Type 0
-IsOneStep r = (before : List ℕ) (rest : List (List Written)) → BeginStep rest → steps_of (statements_at r before ++ rest) ≡ statements_at r before ∷ steps_of rest
+IsOneStep r =
+    (before : List ℕ) (rest : List (List Written)) → BeginStep rest
+    → steps_of (statements_at r before ++ rest) ≡ statements_at r before ∷ steps_of rest
 
 one_step : (r : ℕ) → r < 12 → IsOneStep r
 unfolding digits
 one_step r low =
-    each_below IsOneStep 0 12
-    (λ b w e. rw e refl, (λ b w e. rw e refl, (λ b w e. rw e refl, (λ b w e. rw e refl, (λ b w e. rw e refl, (λ b w e. rw e refl, (λ b w e. rw e refl, (λ b w e. rw e refl, (λ b w e. rw e refl, (λ b w e. rw e refl, (λ b w e. rw e refl, (λ b w e. rw e refl, tt))))))))))))
+    each_below IsOneStep 0 12 (
+      λ b w e. rw e refl,
+      (
+        λ b w e. rw e refl,
+        (
+          λ b w e. rw e refl,
+          (
+            λ b w e. rw e refl,
+            (
+              λ b w e. rw e refl,
+              (
+                λ b w e. rw e refl,
+                (
+                  λ b w e. rw e refl,
+                  (
+                    λ b w e. rw e refl,
+                    (λ b w e. rw e refl, (λ b w e. rw e refl, (λ b w e. rw e refl, (λ b w e. rw e refl, tt)))),
+                  ),
+                ),
+              ),
+            ),
+          ),
+        ),
+      ),
+    )
     r (omega arith) (omega arith)
 
 -- each has a meaning
 abbrev HasMeaning : ℕ → Type 0
-HasMeaning r = (earlier : List (List ℕ)) (before : List ℕ) → (m : Meaning) × (step_of earlier (statements_at r before) ≡ Ok m)
+HasMeaning r =
+    (earlier : List (List ℕ)) (before : List ℕ) → (m : Meaning) × (step_of earlier (statements_at r before) ≡ Ok m)
 
 meaning_at : (r : ℕ) → r < 12 → HasMeaning r
 unfolding digits
 meaning_at r low =
-    each_below HasMeaning 0 12
-    (λ e b. (_, refl), (λ e b. (_, refl), (λ e b. (_, refl), (λ e b. (_, refl), (λ e b. (_, refl), (λ e b. (_, refl), (λ e b. (_, refl), (λ e b. (_, refl), (λ e b. (_, refl), (λ e b. (_, refl), (λ e b. (_, refl), (λ e b. (_, refl), tt))))))))))))
+    each_below HasMeaning 0 12 (
+      λ e b. (_, refl),
+      (
+        λ e b. (_, refl),
+        (
+          λ e b. (_, refl),
+          (
+            λ e b. (_, refl),
+            (
+              λ e b. (_, refl),
+              (
+                λ e b. (_, refl),
+                (
+                  λ e b. (_, refl),
+                  (
+                    λ e b. (_, refl),
+                    (λ e b. (_, refl), (λ e b. (_, refl), (λ e b. (_, refl), (λ e b. (_, refl), tt)))),
+                  ),
+                ),
+              ),
+            ),
+          ),
+        ),
+      ),
+    )
     r (omega arith) (omega arith)
 
 -- the steps of these numbers, behind the bytes before
@@ -71,14 +160,20 @@ begins_all : (ks : List ℕ) (before : List ℕ) → BeginStep (statements_of (w
 begins_all [] before = refl
 begins_all (k ∷ ks) before =
     let after : List ℕ = before ++ text_of (step_pieces (k % 12)) [] in
-    let whole = ap statements_of (written-append (step_pieces (k % 12)) (pieces_of ks) before) ∙ cut_behind (k % 12) (omega arith) before (written_among after (pieces_of ks)) in
-    ap (prefix_len (λ s. not (ends_step s))) whole ∙ begins (k % 12) (omega arith) before (statements_of (written_among after (pieces_of ks)))
+    let whole =
+    ap statements_of (written-append (step_pieces (k % 12)) (pieces_of ks) before) ∙ cut_behind (k % 12)
+    (omega arith) before (written_among after (pieces_of ks)) in
+    ap (prefix_len (λ s. not (ends_step s))) whole ∙ begins (k % 12) (omega arith) before
+    (statements_of (written_among after (pieces_of ks)))
 
-steps_are : (ks : List ℕ) (before : List ℕ) → steps_of (statements_of (written_among before (pieces_of ks))) ≡ steps_at before ks
+steps_are : (ks : List ℕ) (before : List ℕ)
+    → steps_of (statements_of (written_among before (pieces_of ks))) ≡ steps_at before ks
 steps_are [] before = refl
 steps_are (k ∷ ks) before =
     let after : List ℕ = before ++ text_of (step_pieces (k % 12)) [] in
-    let whole = ap statements_of (written-append (step_pieces (k % 12)) (pieces_of ks) before) ∙ cut_behind (k % 12) (omega arith) before (written_among after (pieces_of ks)) in
+    let whole =
+    ap statements_of (written-append (step_pieces (k % 12)) (pieces_of ks) before) ∙ cut_behind (k % 12)
+    (omega arith) before (written_among after (pieces_of ks)) in
     ap steps_of whole
     ∙ one_step (k % 12) (omega arith) before (statements_of (written_among after (pieces_of ks))) (begins_all ks after)
     ∙ ap (λ (l : List (List (List Written))). statements_at (k % 12) before ∷ l) (steps_are ks after)
@@ -89,11 +184,14 @@ record AreMeant (ks : List ℕ) (before : List ℕ) (earlier : List (List ℕ)) 
   pub are : steps_behind earlier done (steps_at before ks) ≡ Ok (done ++ out)
   pub many : length out ≡ length ks
 
-meant : (ks : List ℕ) (before : List ℕ) (earlier : List (List ℕ)) (done : List Meaning) → AreMeant ks before earlier done
-meant [] before earlier done = record { out = []; are = ap (λ (l : List Meaning). Ok l) (sym (append-nil done)); many = refl }
+meant : (ks : List ℕ) (before : List ℕ) (earlier : List (List ℕ)) (done : List Meaning)
+    → AreMeant ks before earlier done
+meant [] before earlier done =
+    record { out = []; are = ap (λ (l : List Meaning). Ok l) (sym (append-nil done)); many = refl }
 meant (k ∷ ks) before earlier done =
     let m = meaning_at (k % 12) (omega arith) earlier before in
-    let later = meant ks (before ++ text_of (step_pieces (k % 12)) []) (earlier ++ names_of m.0.outputs) (done ++ m.0 ∷ []) in
+    let later =
+    meant ks (before ++ text_of (step_pieces (k % 12)) []) (earlier ++ names_of m.0.outputs) (done ++ m.0 ∷ []) in
     record {
       out = m.0 ∷ later.out;
       are = rw m.1 (later.are ∙ ap (λ (l : List Meaning). Ok l) (append_assoc done (m.0 ∷ []) later.out));
@@ -104,19 +202,25 @@ length-range : (a n : ℕ) → length (range_with_len a n) ≡ n
 length-range a zero = refl
 length-range a (suc n) = ap suc (length-range (a + 1) n)
 
-program_is : (n : ℕ) → n ≤ 100 → (tokens : List Token) → tokens ≡ tokens_among [] (pieces_of (range_with_len 1 n)) → made_text n ≡ text_of (pieces_of (range_with_len 1 n)) []
+program_is : (n : ℕ) → n ≤ 100 → (tokens : List Token) → tokens ≡ tokens_among [] (pieces_of (range_with_len 1 n))
+    → made_text n ≡ text_of (pieces_of (range_with_len 1 n)) []
     → (out : List Meaning) × (program_of (made_text n) tokens ≡ Ok out) × (length out ≡ n)
 unfolding program_of
 program_is n many tokens are text =
     let ks : List ℕ = range_with_len 1 n in
     let ws : List Written = written_among [] (pieces_of ks) in
     let written_is : written (made_text n) tokens ≡ ws =
-    ap (λ (t : List Token). written (made_text n) t) are ∙ ap (λ (l : List ℕ). written l (tokens_among [] (pieces_of ks))) text ∙ written_are (pieces_of ks) [] in
-    let symbols_is : symbols_of (made_text n) tokens ≡ symbols_of_steps ks = symbols_are (made_text n) tokens ∙ ap symbols written_is ∙ all_symbols ks [] in
+    ap (λ (t : List Token). written (made_text n) t) are ∙ ap
+    (λ (l : List ℕ). written l (tokens_among [] (pieces_of ks))) text ∙ written_are (pieces_of ks) [] in
+    let symbols_is : symbols_of (made_text n) tokens ≡ symbols_of_steps ks =
+    symbols_are (made_text n) tokens ∙ ap symbols written_is ∙ all_symbols ks [] in
     let long : length ks ≡ n = length-range 1 n in
-    let none : first_refusal (symbols_of (made_text n) tokens) ≡ None = ap first_refusal symbols_is ∙ none_refused ks (omega (arith, long)) in
+    let none : first_refusal (symbols_of (made_text n) tokens) ≡ None =
+    ap first_refusal symbols_is ∙ none_refused ks (omega (arith, long)) in
     let m = meant ks [] [] [] in
-    let all : accepted (made_text n) tokens None ≡ Ok m.out = ap (λ (l : List Written). steps_behind [] [] (steps_of (statements_of l))) written_is ∙ ap (steps_behind [] []) (steps_are ks []) ∙ m.are in
+    let all : accepted (made_text n) tokens None ≡ Ok m.out =
+    ap (λ (l : List Written). steps_behind [] [] (steps_of (statements_of l))) written_is ∙ ap (steps_behind [] [])
+    (steps_are ks []) ∙ m.are in
     (m.out, ap (accepted (made_text n) tokens) none ∙ all, m.many ∙ long)
 
 -- the text of n steps is a program of n steps
@@ -126,5 +230,6 @@ made_program n many =
     let t = made_tokens n in
     let short = made_text_short n in
     let p = program_is n many (tokens_among [] (pieces_of (range_with_len 1 n))) refl t.0 in
-    let within : nat_lt 1048576 (length (made_text n)) ≡ false = false_from_ne_true _ (λ e. (let long = ltb-true 1048576 (length (made_text n)) e in omega arith)) in
+    let within : nat_lt 1048576 (length (made_text n)) ≡ false =
+    false_from_ne_true _ (λ e. (let long = ltb-true 1048576 (length (made_text n)) e in omega arith)) in
     rw (within, t.1, p.1) p.2

@@ -1,5 +1,6 @@
 -- Each fault of a text has its message and its place.
-use Rattle.std.proofs.Common.{◌≡◌, ℕ, zero, suc, ◌≤◌, Bool, true, false, ◌&&◌, List, [], length, Result, Ok, Err, refl, subst, arith}
+use Rattle.std.proofs.Common.{◌≡◌, ℕ, zero, suc, ◌≤◌, Bool, true, false, ◌&&◌, List, [], length, Result, Ok, Err, refl}
+use Rattle.std.proofs.Common.{subst, arith}
 use Rattle.std.specs.Prelude.{IfErr, nat_le, nat_lt, if◌then◌else◌}
 use Rattle.std.proofs.lemmas.Bool.{and_parts, leb-true, leb-false}
 use Rattle.fx_lexer.specs.declared.token.Token.{Token}
@@ -22,7 +23,8 @@ abbrev all_rows : List (ℕ × List ℕ) → ℕ → Bool
 all_rows table zero = true
 all_rows table (suc n) = has_row table (suc n) && all_rows table n
 
-below : (table : List (ℕ × List ℕ)) (n code : ℕ) → all_rows table n ≡ true → 1 ≤ code → code ≤ n → has_row table code ≡ true
+below : (table : List (ℕ × List ℕ)) (n code : ℕ) → all_rows table n ≡ true → 1 ≤ code → code ≤ n
+    → has_row table code ≡ true
 below table zero code all from upto = absurd (omega (arith, from, upto))
 below table (suc n) code all from upto = by_test (nat_le code n) refl (λ within. below table n code parts.1 from within)
   where
@@ -37,20 +39,25 @@ below table (suc n) code all from upto = by_test (nat_le code n) refl (λ within
     by_test false e earlier = subst (λ c. has_row table c ≡ true) (last e) parts.0
 
 row_of : (code : ℕ) → is_rule code ≡ true → has_row reasons code ≡ true
-row_of code rule = let p = and_parts (nat_le 1 code) (nat_le code 32) rule in below reasons 32 code refl (leb-true 1 code p.0) (leb-true code 32 p.1)
+row_of code rule = let p = and_parts (nat_le 1 code) (nat_le code 32) rule in
+    below reasons 32 code refl (leb-true 1 code p.0) (leb-true code 32 p.1)
 
 lexical_row : (kind : ℕ) → is_lexical_rule kind ≡ true → has_row lexical_reasons kind ≡ true
-lexical_row kind rule = let p = and_parts (nat_le 1 kind) (nat_le kind 5) rule in below lexical_reasons 5 kind refl (leb-true 1 kind p.0) (leb-true kind 5 p.1)
+lexical_row kind rule = let p = and_parts (nat_le 1 kind) (nat_le kind 5) rule in
+    below lexical_reasons 5 kind refl (leb-true 1 kind p.0) (leb-true kind 5 p.1)
 
 at_its_front : (text : List ℕ) → IsPlaceIn text 1 1
 at_its_front text = record { before = []; after = text; joined = refl; line_is = refl; column_is = refl }
 
-with_tokens : (text : List ℕ) (program : Result (List Meaning) Refusal) → IfErr program (IsByRule (IsPlaceIn text)) → IfErr (or_refused program) (HasItsMessage text)
+with_tokens : (text : List ℕ) (program : Result (List Meaning) Refusal) → IfErr program (IsByRule (IsPlaceIn text))
+    → IfErr (or_refused program) (HasItsMessage text)
 with_tokens text (Ok steps) h = tt
 with_tokens text (Err refusal) h = (row_of refusal.code h.rule, h.place)
 
-lexically : (text : List ℕ) (r : Result (List Token) LexFault) → lexed text ≡ r → IfErr (program_by text r) (HasItsMessage text)
-lexically text (Ok tokens) e = with_tokens text (program_of text tokens) (placed.refused text tokens (tokens_placed text tokens e))
+lexically : (text : List ℕ) (r : Result (List Token) LexFault) → lexed text ≡ r
+    → IfErr (program_by text r) (HasItsMessage text)
+lexically text (Ok tokens) e =
+    with_tokens text (program_of text tokens) (placed.refused text tokens (tokens_placed text tokens e))
 lexically text (Err fault) e = let h = fault_placed text fault e in (lexical_row fault.kind h.rule, h.place)
 
 pub each_fault : (text : List ℕ) → IfErr (program_in text) (HasItsMessage text)

@@ -1,5 +1,6 @@
 -- Names of files: when two of them are the same, without regard to case.
-use Rattle.std.proofs.Common.{ℕ, ◌≡◌, ◌<◌, ◌≤◌, ◌+◌, ◌^◌, ◌∙◌, Bool, true, false, cond, List, [], ◌∷◌, ◌++◌, map, refl, sym, ap, arith, inl, inr}
+use Rattle.std.proofs.Common.{ℕ, ◌≡◌, ◌<◌, ◌≤◌, ◌+◌, ◌^◌, ◌∙◌, Bool, true, false, cond, List, [], ◌∷◌, ◌++◌, map, refl}
+use Rattle.std.proofs.Common.{sym, ap, arith, inl, inr}
 use Rattle.std.specs.Prelude.{codes, decimal, nat_lt}
 use Rattle.std.specs.Char.{to_ascii_lowercase}
 use Rattle.std.specs.Str.Parse.{AllDigits, digits_value}
@@ -37,22 +38,31 @@ low_digits (c ∷ ds) h =
 -- a lowercase letter stays as it is
 twice : (c : ℕ) → to_ascii_lowercase (to_ascii_lowercase c) ≡ to_ascii_lowercase c
 twice c =
-    let go : (a b : Bool) → nat_lt c 65 ≡ a → nat_lt c 91 ≡ b → to_ascii_lowercase (cond a c (cond b (c + 32) c)) ≡ cond a c (cond b (c + 32) c) =
-    λ a. elim a as (λ a. (b : Bool) → nat_lt c 65 ≡ a → nat_lt c 91 ≡ b → to_ascii_lowercase (cond a c (cond b (c + 32) c)) ≡ cond a c (cond b (c + 32) c)) [
+    let go : (a b : Bool) → nat_lt c 65 ≡ a → nat_lt c 91 ≡ b
+    → to_ascii_lowercase (cond a c (cond b (c + 32) c)) ≡ cond a c (cond b (c + 32) c) =
+    λ a. elim a as
+    (λ a. (b : Bool) → nat_lt c 65 ≡ a → nat_lt c 91 ≡ b
+    → to_ascii_lowercase (cond a c (cond b (c + 32) c)) ≡ cond a c (cond b (c + 32) c)) [
       | true ↦ λ b ea eb. rw ea refl
-      | false ↦ λ b. elim b as (λ b. nat_lt c 65 ≡ false → nat_lt c 91 ≡ b → to_ascii_lowercase (cond b (c + 32) c) ≡ cond b (c + 32) c) [
-        | true ↦ λ ea eb.
-            (let most = ltb-true c 91 eb in
-            let least : nat_lt (c + 32) 65 ≡ false = false_from_ne_true _ (λ e. (let low = ltb-true (c + 32) 65 e in let up = not_below c 65 ea in omega arith)) in
-            let over : nat_lt (c + 32) 91 ≡ false = false_from_ne_true _ (λ e. (let low = ltb-true (c + 32) 91 e in let up = not_below c 65 ea in omega arith)) in
-            rw (least, over) refl)
-        | false ↦ λ ea eb. rw (ea, eb) refl
-      ]
+      | false ↦ λ b. elim b as
+          (λ b. nat_lt c 65 ≡ false → nat_lt c 91 ≡ b → to_ascii_lowercase (cond b (c + 32) c) ≡ cond b (c + 32) c) [
+            | true ↦ λ ea eb.
+                (let most = ltb-true c 91 eb in
+                let least : nat_lt (c + 32) 65 ≡ false =
+                false_from_ne_true _
+                (λ e. (let low = ltb-true (c + 32) 65 e in let up = not_below c 65 ea in omega arith)) in
+                let over : nat_lt (c + 32) 91 ≡ false =
+                false_from_ne_true _
+                (λ e. (let low = ltb-true (c + 32) 91 e in let up = not_below c 65 ea in omega arith)) in
+                rw (least, over) refl)
+            | false ↦ λ ea eb. rw (ea, eb) refl
+          ]
     ] in
     go (nat_lt c 65) (nat_lt c 91) refl refl
   where
     not_below : (c n : ℕ) → nat_lt c n ≡ false → n ≤ c
-    not_below c n e = elim (cases_lt c n) [ inl less ↦ absurd (both_ways (nat_lt c n) e (lt-ltb c n less)) | inr le ↦ le ]
+    not_below c n e =
+        elim (cases_lt c n) [ inl less ↦ absurd (both_ways (nat_lt c n) e (lt-ltb c n less)) | inr le ↦ le ]
 
 lower_twice : (a : List ℕ) → lower (lower a) ≡ lower a
 lower_twice [] = refl
@@ -62,15 +72,23 @@ lower_twice (c ∷ a) = rw (twice c, lower_twice a) refl
 pub plans_differ : (a b : List ℕ) → is_same_name a b ≡ false → is_same_name (file_name a) (file_name b) ≡ false
 plans_differ a b apart =
     differ_from (file_name a) (file_name b) (λ e.
-    let left : lower (file_name a) ≡ lower a ++ codes ".csv" = map-append to_ascii_lowercase (lower a) (codes ".csv") ∙ ap (λ (l : List ℕ). l ++ codes ".csv") (lower_twice a) in
-    let right : lower (file_name b) ≡ lower b ++ codes ".csv" = map-append to_ascii_lowercase (lower b) (codes ".csv") ∙ ap (λ (l : List ℕ). l ++ codes ".csv") (lower_twice b) in
-    both_ways (is_same_name a b) apart (same_from a b (append_cancel_right (lower a) (lower b) (codes ".csv") (sym left ∙ e ∙ right))))
+    let left : lower (file_name a) ≡ lower a ++ codes ".csv" =
+    map-append to_ascii_lowercase (lower a) (codes ".csv") ∙ ap (λ (l : List ℕ). l ++ codes ".csv") (lower_twice a)
+    in
+    let right : lower (file_name b) ≡ lower b ++ codes ".csv" =
+    map-append to_ascii_lowercase (lower b) (codes ".csv") ∙ ap (λ (l : List ℕ). l ++ codes ".csv") (lower_twice b)
+    in
+    both_ways (is_same_name a b) apart
+    (same_from a b (append_cancel_right (lower a) (lower b) (codes ".csv") (sym left ∙ e ∙ right))))
 
 -- digits before a byte that is none
-cut : (ds es rest more : List ℕ) (stop : ℕ) → AllDigits 10 ds → AllDigits 10 es → stop < 48 → ds ++ stop ∷ rest ≡ es ++ stop ∷ more → (ds ≡ es) × (rest ≡ more)
+cut : (ds es rest more : List ℕ) (stop : ℕ) → AllDigits 10 ds → AllDigits 10 es → stop < 48
+    → ds ++ stop ∷ rest ≡ es ++ stop ∷ more → (ds ≡ es) × (rest ≡ more)
 cut [] [] rest more stop hd he low e = (refl, cc e)
-cut [] (c ∷ es) rest more stop hd he low e = absurd (let range = digit_from_value c he.0 in let same : stop ≡ c = cc e in omega (arith, range.0, same))
-cut (c ∷ ds) [] rest more stop hd he low e = absurd (let range = digit_from_value c hd.0 in let same : c ≡ stop = cc e in omega (arith, range.0, same))
+cut [] (c ∷ es) rest more stop hd he low e =
+    absurd (let range = digit_from_value c he.0 in let same : stop ≡ c = cc e in omega (arith, range.0, same))
+cut (c ∷ ds) [] rest more stop hd he low e =
+    absurd (let range = digit_from_value c hd.0 in let same : c ≡ stop = cc e in omega (arith, range.0, same))
 cut (c ∷ ds) (b ∷ es) rest more stop hd he low e =
     let head : c ≡ b = cc e in
     let tail : ds ++ stop ∷ rest ≡ es ++ stop ∷ more = cc e in
@@ -87,23 +105,33 @@ same_number : (m n : ℕ) → m < 10 ^ 64 → n < 10 ^ 64 → decimal m ≡ deci
 same_number m n hm hn e = sym (value m hm) ∙ ap (digits_value 10) e ∙ value n hn
 
 -- the name of a book has no case
-lower_book : (k q : ℕ) → k < 10 ^ 64 → q < 10 ^ 64 → lower (book_name k q) ≡ codes "step" ++ (decimal k ++ 45 ∷ (decimal q ++ codes ".book"))
+lower_book : (k q : ℕ) → k < 10 ^ 64 → q < 10 ^ 64
+    → lower (book_name k q) ≡ codes "step" ++ (decimal k ++ 45 ∷ (decimal q ++ codes ".book"))
 lower_book k q hk hq =
     let tail : lower (decimal q ++ codes ".book") ≡ decimal q ++ codes ".book" =
-    map-append to_ascii_lowercase (decimal q) (codes ".book") ∙ ap (λ (l : List ℕ). l ++ codes ".book") (low_digits (decimal q) (numeral q hq)) in
+    map-append to_ascii_lowercase (decimal q) (codes ".book") ∙ ap (λ (l : List ℕ). l ++ codes ".book")
+    (low_digits (decimal q) (numeral q hq)) in
     ap (λ (l : List ℕ). codes "step" ++ l)
     (map-append to_ascii_lowercase (decimal k) (45 ∷ (decimal q ++ codes ".book"))
     ∙ ap (λ (l : List ℕ). l ++ lower (45 ∷ (decimal q ++ codes ".book"))) (low_digits (decimal k) (numeral k hk))
     ∙ ap (λ (l : List ℕ). decimal k ++ 45 ∷ l) tail)
 
 -- books of different steps, or of different questions
-pub books_differ : (k q j r : ℕ) → k < 10 ^ 64 → q < 10 ^ 64 → j < 10 ^ 64 → r < 10 ^ 64 → ((k ≡ j) × (q ≡ r) → ⊥) → is_same_name (book_name k q) (book_name j r) ≡ false
+pub books_differ : (k q j r : ℕ) → k < 10 ^ 64 → q < 10 ^ 64 → j < 10 ^ 64 → r < 10 ^ 64 → ((k ≡ j) × (q ≡ r) → ⊥)
+    → is_same_name (book_name k q) (book_name j r) ≡ false
 books_differ k q j r hk hq hj hr apart =
     differ_from (book_name k q) (book_name j r) (λ e.
-    let whole : codes "step" ++ (decimal k ++ 45 ∷ (decimal q ++ codes ".book")) ≡ codes "step" ++ (decimal j ++ 45 ∷ (decimal r ++ codes ".book")) = sym (lower_book k q hk hq) ∙ e ∙ lower_book j r hj hr in
-    let behind : decimal k ++ 45 ∷ (decimal q ++ codes ".book") ≡ decimal j ++ 45 ∷ (decimal r ++ codes ".book") = cc whole in
-    let step = cut (decimal k) (decimal j) (decimal q ++ codes ".book") (decimal r ++ codes ".book") 45 (numeral k hk) (numeral j hj) (omega arith) behind in
-    let question = cut (decimal q) (decimal r) (codes "book") (codes "book") 46 (numeral q hq) (numeral r hr) (omega arith) step.1 in
+    let whole : codes "step" ++ (decimal k ++ 45 ∷ (decimal q ++ codes ".book"))
+    ≡ codes "step" ++ (decimal j ++ 45 ∷ (decimal r ++ codes ".book")) =
+    sym (lower_book k q hk hq) ∙ e ∙ lower_book j r hj hr in
+    let behind : decimal k ++ 45 ∷ (decimal q ++ codes ".book") ≡ decimal j ++ 45 ∷ (decimal r ++ codes ".book") =
+    cc whole in
+    let step =
+    cut (decimal k) (decimal j) (decimal q ++ codes ".book") (decimal r ++ codes ".book") 45 (numeral k hk)
+    (numeral j hj) (omega arith) behind in
+    let question =
+    cut (decimal q) (decimal r) (codes "book") (codes "book") 46 (numeral q hq) (numeral r hr) (omega arith) step.1
+    in
     apart (same_number k j hk hj step.0, same_number q r hq hr question.0))
 
 -- the last byte
@@ -119,7 +147,8 @@ last_behind (c ∷ []) b ys = refl
 last_behind (c ∷ d ∷ xs) b ys = last_behind (d ∷ xs) b ys
 
 -- a book and a plan
-pub book_and_plan_differ : (k q : ℕ) (name : List ℕ) → k < 10 ^ 64 → q < 10 ^ 64 → is_same_name (book_name k q) (file_name name) ≡ false
+pub book_and_plan_differ : (k q : ℕ) (name : List ℕ) → k < 10 ^ 64 → q < 10 ^ 64
+    → is_same_name (book_name k q) (file_name name) ≡ false
 unfolding last
 book_and_plan_differ k q name hk hq =
     differ_from (book_name k q) (file_name name) (λ e.
@@ -127,6 +156,8 @@ book_and_plan_differ k q name hk hq =
     ap last (lower_book k q hk hq)
     ∙ last_behind (codes "step" ++ decimal k) 45 (decimal q ++ codes ".book")
     ∙ last_behind (45 ∷ decimal q) 46 (codes "book") in
-    let plan : last (lower (file_name name)) ≡ 118 = ap last (map-append to_ascii_lowercase (lower name) (codes ".csv")) ∙ last_behind (lower (lower name)) 46 (codes "csv") in
+    let plan : last (lower (file_name name)) ≡ 118 =
+    ap last (map-append to_ascii_lowercase (lower name) (codes ".csv")) ∙ last_behind (lower (lower name)) 46
+    (codes "csv") in
     let same : 107 ≡ 118 = sym book ∙ ap last e ∙ plan in
     omega arith)

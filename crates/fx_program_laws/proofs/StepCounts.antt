@@ -1,5 +1,7 @@
 -- What any text bounds: its steps, the factors and questions of each; and its OUT names, which differ.
-use Rattle.std.proofs.Common.{ℕ, ◌≡◌, ◌<◌, ◌≤◌, ◌+◌, ◌-◌, ◌^◌, ◌∙◌, zero, suc, max, Bool, true, false, List, [], ◌∷◌, ◌++◌, length, length-append, refl, sym, subst, ap, arith, append-nil, Option, Some, None, Result, Ok, Err, inl, inr, cond}
+use Rattle.std.proofs.Common.{ℕ, ◌≡◌, ◌<◌, ◌≤◌, ◌+◌, ◌-◌, ◌^◌, ◌∙◌, zero, suc, max, Bool, true, false, List, [], ◌∷◌}
+use Rattle.std.proofs.Common.{◌++◌, length, length-append, refl, sym, subst, ap, arith, append-nil, Option, Some, None}
+use Rattle.std.proofs.Common.{Result, Ok, Err, inl, inr, cond}
 use Rattle.std.specs.Prelude.{nat_lt, nat_le, if◌then◌else◌, find, IfOk}
 use Rattle.std.specs.List.{AllByRecursion, IsDistinct, flat_map, range_with_len}
 use Rattle.std.proofs.lemmas.Bool.{and_parts, cases_lt, leb-true, ltb-false}
@@ -34,15 +36,18 @@ use Rattle.fx_settings.specs.Said.{step_said}
 use Rattle.fx_settings.specs.Valid.{is_size}
 use Rattle.fx_designs.specs.Problems.{Problem}
 use Rattle.fx_statements.specs.Contexts.{context}
-use Rattle.fx_statements.specs.Steps.{Meaning, asked_by, examine_of, factor_limit, factors_by, head_of, some_factors, step_by, step_of}
+use Rattle.fx_statements.specs.Steps.{Meaning, asked_by, examine_of, factor_limit, factors_by, head_of, some_factors}
+use Rattle.fx_statements.specs.Steps.{step_by, step_of}
 use Rattle.fx_statements.specs.Programs.{accepted, program_of, steps_behind}
-use Rattle.fx_statements.specs.Questions.{Questions, Turn, asked, highest, is_last, lowest, passes, question_for, questions_of, turns, up_to}
+use Rattle.fx_statements.specs.Questions.{Questions, Turn, asked, highest, is_last, lowest, passes, question_for}
+use Rattle.fx_statements.specs.Questions.{questions_of, turns, up_to}
 use Rattle.fx_answer.specs.Books.{finished, finished_before}
 use Rattle.fx_program.specs.Texts.{at_front, or_refused, program_by, program_in}
 
 -- ---- factors
 
-added_few : (limit : ℕ) (names more : List (List ℕ)) (item : Item) → named.added limit names item ≡ Ok more → length more ≤ limit
+added_few : (limit : ℕ) (names more : List (List ℕ)) (item : Item) → named.added limit names item ≡ Ok more
+    → length more ≤ limit
 added_few limit names more item e =
     let regular = unless_ok _ _ more _ e in
     let fits = unless_ok (nat_lt limit (length names + length (item_names item))) _ more _ regular.1 in
@@ -51,7 +56,8 @@ added_few limit names more item e =
     let within = ltb-false limit (length names + length (item_names item)) fits.0 in
     omega (arith, within, length-append names (item_names item), ap length is)
 
-all_few : (limit : ℕ) (names found : List (List ℕ)) (items : List Item) → length names ≤ limit → named.all_added limit names items ≡ Ok found → length found ≤ limit
+all_few : (limit : ℕ) (names found : List (List ℕ)) (items : List Item) → length names ≤ limit
+    → named.all_added limit names items ≡ Ok found → length found ≤ limit
 all_few limit names found [] few e = subst (λ (l : List (List ℕ)). length l ≤ limit) (same_ok names found e) few
 all_few limit names found (item ∷ items) few e =
     let more = bind_ok (named.added limit names item) _ found e in
@@ -75,33 +81,47 @@ record IsReadBehind (earlier : List (List ℕ)) (step : Meaning) : Type 0 where
   pub few : length step.factors ≤ 40
   pub names : IsDistinct is_same_name (earlier ++ names_of step.outputs)
 
-step_read : (earlier : List (List ℕ)) (statements : List (List Written)) (factors : Option (List Written)) (step : Meaning)
+step_read : (earlier : List (List ℕ)) (statements : List (List Written)) (factors : Option (List Written))
+    (step : Meaning)
     → IsDistinct is_same_name earlier → step_by earlier statements factors ≡ Ok step → IsReadBehind earlier step
 step_read earlier statements None step differ e = absurd (cc e)
 step_read earlier statements (Some given) step differ e =
     let proc = start_of (head_of statements) in
     let factors = bind_ok (factors_by proc (factor_limit statements) given) _ step e in
     let found = bind_ok (named.factors_of (factor_limit statements) given) (some_factors proc) factors.0 factors.1 in
-    let asked = bind_ok (asked_by factors.0 (step_said (head_of statements) given statements) statements) _ step factors.2 in
+    let asked =
+    bind_ok (asked_by factors.0 (step_said (head_of statements) given statements) statements) _ step factors.2 in
     let outputs = bind_ok (outputs_of (context factors.0 asked.0.0) earlier statements) _ step asked.2 in
-    let whole : Meaning = record { factors = factors.0; settings = asked.0.0; goal = asked.0.1; examine = examine_of statements; outputs = outputs.0 } in
+    let whole : Meaning =
+    record {
+      factors = factors.0;
+      settings = asked.0.0;
+      goal = asked.0.1;
+      examine = examine_of statements;
+      outputs = outputs.0;
+    } in
     let few = all_few (factor_limit statements) [] found.0 (items_of given) (omega arith) found.1 in
     let same = same_named proc found.0 factors.0 found.2 in
     let most : factor_limit statements ≤ 40 = limit_is _ in
     subst (IsReadBehind earlier) (same_ok whole step outputs.2)
-    (record { few = subst (λ (l : List (List ℕ)). length l ≤ 40) same (omega (arith, few, most)); names = all_differ (context factors.0 asked.0.0) earlier statements outputs.0 differ outputs.1 })
+    (record {
+      few = subst (λ (l : List (List ℕ)). length l ≤ 40) same (omega (arith, few, most));
+      names = all_differ (context factors.0 asked.0.0) earlier statements outputs.0 differ outputs.1;
+    })
 
 record AreReadBehind (steps done : List Meaning) (groups : ℕ) : Type 0 where
   pub few : AllByRecursion (λ (step : Meaning). length step.factors ≤ 40) steps
   pub names : IsDistinct is_same_name (out_names_of steps)
   pub many : length steps ≡ length done + groups
 
-few-push : (done : List Meaning) (step : Meaning) → AllByRecursion (λ (step : Meaning). length step.factors ≤ 40) done → length step.factors ≤ 40 → AllByRecursion (λ (step : Meaning). length step.factors ≤ 40) (done ++ step ∷ [])
+few-push : (done : List Meaning) (step : Meaning) → AllByRecursion (λ (step : Meaning). length step.factors ≤ 40) done
+    → length step.factors ≤ 40 → AllByRecursion (λ (step : Meaning). length step.factors ≤ 40) (done ++ step ∷ [])
 few-push [] step all one = (one, tt)
 few-push (other ∷ done) step all one = (all.0, few-push done step all.1 one)
 
 all_read : (earlier : List (List ℕ)) (done : List Meaning) (groups : List (List (List Written))) (steps : List Meaning)
-    → earlier ≡ out_names_of done → IsDistinct is_same_name earlier → AllByRecursion (λ (step : Meaning). length step.factors ≤ 40) done
+    → earlier ≡ out_names_of done → IsDistinct is_same_name earlier
+    → AllByRecursion (λ (step : Meaning). length step.factors ≤ 40) done
     → steps_behind earlier done groups ≡ Ok steps → AreReadBehind steps done (length groups)
 all_read earlier done [] steps are differ few e =
     let same : done ≡ steps = same_ok done steps e in
@@ -114,9 +134,12 @@ all_read earlier done (group ∷ groups) steps are differ few e =
     let step = bind_ok (step_of earlier group) _ steps e in
     let read = step_read earlier group (statement_of word.Factors group) step.0 differ step.1 in
     let names : earlier ++ names_of step.0.outputs ≡ out_names_of (done ++ step.0 ∷ []) =
-    ap (λ (l : List (List ℕ)). l ++ names_of step.0.outputs) are ∙ ap (λ (l : List (List ℕ)). out_names_of done ++ l) (sym (append-nil (names_of step.0.outputs)))
+    ap (λ (l : List (List ℕ)). l ++ names_of step.0.outputs) are ∙ ap (λ (l : List (List ℕ)). out_names_of done ++ l)
+    (sym (append-nil (names_of step.0.outputs)))
     ∙ sym (flat_map-append (λ (step : Meaning). names_of step.outputs) done (step.0 ∷ [])) in
-    let later = all_read (earlier ++ names_of step.0.outputs) (done ++ step.0 ∷ []) groups steps names read.names (few-push done step.0 few read.few) step.2 in
+    let later =
+    all_read (earlier ++ names_of step.0.outputs) (done ++ step.0 ∷ []) groups steps names read.names
+    (few-push done step.0 few read.few) step.2 in
     record { few = later.few; names = later.names; many = omega (arith, later.many, length-append done (step.0 ∷ [])) }
 
 -- ---- how many steps there are
@@ -129,7 +152,8 @@ statements_few : (ws : List Written) → length (statements_of ws) ≤ length ws
 statements_few [] = omega arith
 statements_few (w ∷ ws) =
     let rest = statements_few ws in
-    let go : (b : Bool) → length (if b then [] ∷ statements_of ws else in_front w (statements_of ws)) ≤ suc (length ws) =
+    let go : (b : Bool)
+    → length (if b then [] ∷ statements_of ws else in_front w (statements_of ws)) ≤ suc (length ws) =
     λ b. elim b as (λ b. length (if b then [] ∷ statements_of ws else in_front w (statements_of ws)) ≤ suc (length ws)) [
       | true ↦ omega (arith, rest)
       | false ↦ fewer_statements w (statements_of ws) (length ws) rest
@@ -141,7 +165,8 @@ steps_few [] = omega arith
 steps_few (s ∷ ss) =
     let rest = steps_few ss in
     let go : (b : Bool) → length (if b then (s ∷ rest_of_step ss) ∷ steps_of ss else steps_of ss) ≤ suc (length ss) =
-    λ b. elim b as (λ b. length (if b then (s ∷ rest_of_step ss) ∷ steps_of ss else steps_of ss) ≤ suc (length ss)) [ true ↦ omega (arith, rest) | false ↦ omega (arith, rest) ] in
+    λ b. elim b as (λ b. length (if b then (s ∷ rest_of_step ss) ∷ steps_of ss else steps_of ss) ≤ suc (length ss))
+    [ true ↦ omega (arith, rest) | false ↦ omega (arith, rest) ] in
     go _
 
 tokens_few : (from upto : ℕ) (tokens : List Token) → AreInOrder from upto tokens → from + length tokens ≤ upto
@@ -154,30 +179,42 @@ pub record AreSteps (steps : List Meaning) : Type 0 where
   pub names : IsDistinct is_same_name (out_names_of steps)
   pub many : length steps ≤ 1048576
 
-accepted_read : (text : List ℕ) (tokens : List Token) (refused : Option (ℕ × ℕ)) (steps : List Meaning) → length tokens ≤ 1048576 → accepted text tokens refused ≡ Ok steps → AreSteps steps
+accepted_read : (text : List ℕ) (tokens : List Token) (refused : Option (ℕ × ℕ)) (steps : List Meaning)
+    → length tokens ≤ 1048576 → accepted text tokens refused ≡ Ok steps → AreSteps steps
 accepted_read text tokens (Some refused) steps few e = absurd (cc e)
 accepted_read text tokens None steps few e =
     let ws : List Written = written text tokens in
     let read = all_read [] [] (steps_of (statements_of ws)) steps refl none_differ tt e in
     let count = steps_few (statements_of ws) in
     let statements = statements_few ws in
-    record { few = read.few; names = read.names; many = omega (arith, read.many, count, statements, length-map tokens (λ (t : Token). written_at text t), few) }
+    record {
+      few = read.few;
+      names = read.names;
+      many = omega (arith, read.many, count, statements, length-map tokens (λ (t : Token). written_at text t), few);
+    }
 
-program_read : (text : List ℕ) (tokens : List Token) (steps : List Meaning) → length tokens ≤ 1048576 → program_of text tokens ≡ Ok steps → AreSteps steps
+program_read : (text : List ℕ) (tokens : List Token) (steps : List Meaning) → length tokens ≤ 1048576
+    → program_of text tokens ≡ Ok steps → AreSteps steps
 unfolding program_of
 program_read text tokens steps few e = accepted_read text tokens (first_refusal (symbols_of text tokens)) steps few e
 
-unrefused : (program : Result (List Meaning) Refusal) (steps : List Meaning) → or_refused program ≡ Ok steps → program ≡ Ok steps
+unrefused : (program : Result (List Meaning) Refusal) (steps : List Meaning) → or_refused program ≡ Ok steps
+    → program ≡ Ok steps
 unrefused (Ok given) steps e = let same : given ≡ steps = cc e in ap (λ (l : List Meaning). Ok l) same
 unrefused (Err refusal) steps e = absurd (cc e)
 
-lexed_read : (text : List ℕ) (r : Result (List Token) LexFault) (steps : List Meaning) → lexed text ≡ r → length text ≤ 1048576 → program_by text r ≡ Ok steps → AreSteps steps
+lexed_read : (text : List ℕ) (r : Result (List Token) LexFault) (steps : List Meaning) → lexed text ≡ r
+    → length text ≤ 1048576 → program_by text r ≡ Ok steps → AreSteps steps
 lexed_read text (Ok tokens) steps is short e =
-    let order : AreInOrder 0 (length text) tokens = subst (λ (r : Result (List Token) LexFault). IfOk r (λ tokens. AreInOrder 0 (length text) tokens)) is (in_order_of_text text) in
-    program_read text tokens steps (omega (arith, tokens_few 0 (length text) tokens order, short)) (unrefused (program_of text tokens) steps e)
+    let order : AreInOrder 0 (length text) tokens =
+    subst (λ (r : Result (List Token) LexFault). IfOk r (λ tokens. AreInOrder 0 (length text) tokens)) is
+    (in_order_of_text text) in
+    program_read text tokens steps (omega (arith, tokens_few 0 (length text) tokens order, short))
+    (unrefused (program_of text tokens) steps e)
 lexed_read text (Err fault) steps is short e = absurd (cc e)
 
-short_read : (text : List ℕ) (b : Bool) (steps : List Meaning) → nat_lt 1048576 (length text) ≡ b → (if b then Err (at_front 25) else program_by text (lexed text)) ≡ Ok steps → AreSteps steps
+short_read : (text : List ℕ) (b : Bool) (steps : List Meaning) → nat_lt 1048576 (length text) ≡ b
+    → (if b then Err (at_front 25) else program_by text (lexed text)) ≡ Ok steps → AreSteps steps
 short_read text true steps long e = absurd (cc e)
 short_read text false steps long e = lexed_read text (lexed text) steps refl (ltb-false 1048576 (length text) long) e
 
@@ -210,48 +247,61 @@ few_indexes q m two fits =
       | inr few ↦ few
     ]
 
-highest_few : (step : Meaning) (size : Size) → 2 ≤ step.settings.q → is_size step.settings.q size ≡ true → length step.factors ≤ 40 → highest step size ≤ 41
-highest_few step Minimum two valid few = let most = count_by-le-length (λ m. nat_le (step.settings.q ^ (m + 1)) 1024) (range_with_len 0 10) in omega (arith, most)
+highest_few : (step : Meaning) (size : Size) → 2 ≤ step.settings.q → is_size step.settings.q size ≡ true
+    → length step.factors ≤ 40 → highest step size ≤ 41
+highest_few step Minimum two valid few = let most =
+    count_by-le-length (λ m. nat_le (step.settings.q ^ (m + 1)) 1024) (range_with_len 0 10) in omega (arith, most)
 highest_few step (Runs m) two valid few =
     let parts = and_parts (nat_le 1 m) (nat_le (step.settings.q ^ m) 1024) valid in
     let fits = few_indexes step.settings.q m two (leb-true _ _ parts.1) in
     let go : (a b : Bool) → (if a then m else (if b then max 3 (length step.factors + 1) else 3)) ≤ 41 =
     λ a b. elim a as (λ a. (if a then m else (if b then max 3 (length step.factors + 1) else 3)) ≤ 41) [
       | true ↦ omega (arith, fits)
-      | false ↦ elim b as (λ b. (if b then max 3 (length step.factors + 1) else 3) ≤ 41) [ true ↦ omega (arith, few) | false ↦ omega arith ]
+      | false ↦ elim b as (λ b. (if b then max 3 (length step.factors + 1) else 3) ≤ 41)
+          [ true ↦ omega (arith, few) | false ↦ omega arith ]
     ] in
     go _ _
 
-turns_few : (earlier ps : List Problem) → AllByRecursion (λ (t : Turn). length t.earlier ≤ length earlier + length ps) (turns earlier ps)
+turns_few : (earlier ps : List Problem)
+    → AllByRecursion (λ (t : Turn). length t.earlier ≤ length earlier + length ps) (turns earlier ps)
 turns_few earlier [] = tt
 turns_few earlier (p ∷ ps) = (
   omega arith,
   each (turns (earlier ++ p ∷ []) ps) (turns_few (earlier ++ p ∷ []) ps),
 )
   where
-    each : (ts : List Turn) → AllByRecursion (λ (t : Turn). length t.earlier ≤ length (earlier ++ p ∷ []) + length ps) ts → AllByRecursion (λ (t : Turn). length t.earlier ≤ length earlier + suc (length ps)) ts
+    each : (ts : List Turn)
+        → AllByRecursion (λ (t : Turn). length t.earlier ≤ length (earlier ++ p ∷ []) + length ps) ts
+        → AllByRecursion (λ (t : Turn). length t.earlier ≤ length earlier + suc (length ps)) ts
     each [] all = tt
     each (t ∷ ts) all = (omega (arith, all.0, length-append earlier (p ∷ [])), each ts all.1)
 
-finished_few : (n : ℕ) (ps : List Problem) (test : Turn → Bool) (ts : List Turn) → length ps ≤ n → AllByRecursion (λ (t : Turn). length t.earlier ≤ n) ts → length (finished_before ps (find test ts)) ≤ n
+finished_few : (n : ℕ) (ps : List Problem) (test : Turn → Bool) (ts : List Turn) → length ps ≤ n
+    → AllByRecursion (λ (t : Turn). length t.earlier ≤ n) ts → length (finished_before ps (find test ts)) ≤ n
 finished_few n ps test [] few all = few
 finished_few n ps test (t ∷ ts) few all =
     let go : (b : Bool) → length (finished_before ps (cond b (Some t) (find test ts))) ≤ n =
-    λ b. elim b as (λ b. length (finished_before ps (cond b (Some t) (find test ts))) ≤ n) [ true ↦ all.0 | false ↦ finished_few n ps test ts few all.1 ] in
+    λ b. elim b as (λ b. length (finished_before ps (cond b (Some t) (find test ts))) ≤ n)
+    [ true ↦ all.0 | false ↦ finished_few n ps test ts few all.1 ] in
     go (test t)
 
-pub questions_few : (step : Meaning) → 2 ≤ step.settings.q → is_size step.settings.q step.settings.size ≡ true → length step.factors ≤ 40 → length (finished (questions_of step) step.settings.budget) ≤ 42
+pub questions_few : (step : Meaning) → 2 ≤ step.settings.q → is_size step.settings.q step.settings.size ≡ true
+    → length step.factors ≤ 40 → length (finished (questions_of step) step.settings.budget) ≤ 42
 unfolding finished
 questions_few step two valid few =
     let q : Questions = questions_of step in
     let most = highest_few step step.settings.size two valid few in
     let low : ℕ = lowest step step.settings.size in
     let high : ℕ = highest step step.settings.size in
-    let others : length q.others ≡ high - low = length-map (range_with_len (low + 1) (high - low)) (question_for step) ∙ range-length (low + 1) (high - low) in
+    let others : length q.others ≡ high - low =
+    length-map (range_with_len (low + 1) (high - low)) (question_for step) ∙ range-length (low + 1) (high - low) in
     let count = up_to-few (is_last q.until) (q.first ∷ q.others) in
     let all : length (asked q) ≤ 42 = omega (arith, count, others, most) in
-    finished_few 42 (asked q) (passes step.settings.budget) (turns [] (asked q)) all (each (turns [] (asked q)) (turns_few [] (asked q)) all)
+    finished_few 42 (asked q) (passes step.settings.budget) (turns [] (asked q)) all
+    (each (turns [] (asked q)) (turns_few [] (asked q)) all)
   where
-    each : (ts : List Turn) → AllByRecursion (λ (t : Turn). length t.earlier ≤ 0 + length (asked (questions_of step))) ts → length (asked (questions_of step)) ≤ 42 → AllByRecursion (λ (t : Turn). length t.earlier ≤ 42) ts
+    each : (ts : List Turn)
+        → AllByRecursion (λ (t : Turn). length t.earlier ≤ 0 + length (asked (questions_of step))) ts
+        → length (asked (questions_of step)) ≤ 42 → AllByRecursion (λ (t : Turn). length t.earlier ≤ 42) ts
     each [] all many = tt
     each (t ∷ ts) all many = (omega (arith, all.0, many), each ts all.1 many)

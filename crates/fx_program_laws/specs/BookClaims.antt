@@ -19,7 +19,8 @@ use Rattle.fx_program.specs.Verdicts.{verdict_lines}
 -- a book that is read from its text as it is, and that the command `check` accepts, with status 0
 pub record IsAcceptedBook (named : NamedBook) : Type 0 where
   pub read : book_of (book_text named.book) ≡ Ok named.book
-  pub accepted : output_of (codes "check" ∷ []) (book_text named.book) ≡ message (verdict_lines named.book.head Accepted) 0
+  pub accepted : output_of (codes "check" ∷ []) (book_text named.book)
+      ≡ message (verdict_lines named.book.head Accepted) 0
 
 -- each book of a step is one
 abbrev pub HasAcceptedBooks : Meaning → Type 0

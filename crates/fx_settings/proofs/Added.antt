@@ -1,5 +1,6 @@
 -- What comes of adding the names of a range.
-use Rattle.std.proofs.Common.{◌≡◌, ℕ, ◌+◌, ◌-◌, ◌<◌, ◌≤◌, Bool, true, false, List, ◌++◌, length, Some, Result, Ok, Err, refl, sym, ap, ap₂, ◌∙◌, arith}
+use Rattle.std.proofs.Common.{◌≡◌, ℕ, ◌+◌, ◌-◌, ◌<◌, ◌≤◌, Bool, true, false, List, ◌++◌, length, Some, Result, Ok, Err}
+use Rattle.std.proofs.Common.{refl, sym, ap, ap₂, ◌∙◌, arith}
 use Rattle.std.specs.Prelude.{nat_lt, if◌then◌else◌, IfErr, OnOk}
 use Rattle.std.proofs.lemmas.Bool.{lt-ltb, le-ltb}
 use Rattle.std.proofs.lemmas.List.{length-append}
@@ -13,7 +14,8 @@ use Rattle.fx_text.specs.Ranges.{is_range, names_between, number_at_end, numbere
 use Rattle.fx_settings.specs.Items.{item}
 use Rattle.fx_settings.specs.Factors.{added, are_known, known_at}
 
-module _ (limit : ℕ) (names : List (List ℕ)) (first last : Written) (regular : is_range first.text last.text ≡ true) where
+module _ (limit : ℕ) (names : List (List ℕ)) (first last : Written)
+    (regular : is_range first.text last.text ≡ true) where
   abbrev from : ℕ
   from = number_at_end first.text
 
@@ -22,7 +24,9 @@ module _ (limit : ℕ) (names : List (List ℕ)) (first last : Written) (regular
 
   -- all of it, after the test of the range
   abbrev by_count : Bool → Result (List (List ℕ)) Refusal
-  by_count many = if many then Err (refusal_at 10 first) else (if are_known all names then Err (refusal_at 5 first) else Ok (names ++ all))
+  by_count many =
+      if many then Err (refusal_at 10 first)
+      else (if are_known all names then Err (refusal_at 5 first) else Ok (names ++ all))
 
   counted : length all ≡ number_at_end last.text + 1 - from
   counted = length-map-range_with_len _ _ _
@@ -30,31 +34,41 @@ module _ (limit : ℕ) (names : List (List ℕ)) (first last : Written) (regular
   is_counted : added limit names (item first (Some last)) ≡ by_count (nat_lt limit (length names + length all))
   is_counted = rw regular refl
 
-  pub too_many : limit < length names + (number_at_end last.text + 1 - from) → added limit names (item first (Some last)) ≡ Err (refusal_at 10 first)
+  pub too_many : limit < length names + (number_at_end last.text + 1 - from)
+      → added limit names (item first (Some last)) ≡ Err (refusal_at 10 first)
   too_many h = is_counted ∙ ap by_count (lt-ltb limit (length names + length all) (omega (arith, h, counted)))
 
-  module _ (start count : ℕ) (is_start : start ≡ from) (is_count : count ≡ number_at_end last.text + 1 - from) (room : length names + count ≤ limit) where
+  module _ (start count : ℕ) (is_start : start ≡ from) (is_count : count ≡ number_at_end last.text + 1 - from)
+      (room : length names + count ≤ limit) where
     new : numbered (stem first.text) start count ≡ all
     new = ap₂ (numbered (stem first.text)) is_start is_count
 
-    fits : added limit names (item first (Some last)) ≡ (if are_known all names then Err (refusal_at 5 first) else Ok (names ++ all))
+    fits : added limit names (item first (Some last))
+        ≡ (if are_known all names then Err (refusal_at 5 first) else Ok (names ++ all))
     fits = is_counted ∙ ap by_count (le-ltb limit (length names + length all) (omega (arith, room, is_count, counted)))
 
-    pub is_added : (r : Result (Unit {0}) ParseStop) (more : List (List ℕ)) → OnOk r (more ≡ names ++ numbered (stem first.text) start count)
-        → OnOk r (are_known (numbered (stem first.text) start count) names ≡ false) → OnOk r (added limit names (item first (Some last)) ≡ Ok more)
+    pub is_added : (r : Result (Unit {0}) ParseStop) (more : List (List ℕ))
+        → OnOk r (more ≡ names ++ numbered (stem first.text) start count)
+        → OnOk r (are_known (numbered (stem first.text) start count) names ≡ false)
+        → OnOk r (added limit names (item first (Some last)) ≡ Ok more)
     is_added (Ok u) more grown fresh = fits ∙ rw (← new, fresh) (ap Ok (sym grown))
     is_added (Err e) more grown fresh = tt
 
-    pub is_refused : (r : Result (Unit {0}) ParseStop) → IfErr r (IsRefused (known_at first (are_known (numbered (stem first.text) start count) names)))
+    pub is_refused : (r : Result (Unit {0}) ParseStop)
+        → IfErr r (IsRefused (known_at first (are_known (numbered (stem first.text) start count) names)))
         → IfErr r (IsRefused (added limit names (item first (Some last))))
     is_refused (Ok u) h = tt
     is_refused (Err stop.NoMemory) h = tt
-    is_refused (Err (stop.Refused refusal)) h = fits ∙ rw (← new) (go (are_known (numbered (stem first.text) start count) names) h)
+    is_refused (Err (stop.Refused refusal)) h =
+        fits ∙ rw (← new) (go (are_known (numbered (stem first.text) start count) names) h)
       where
-        go : (known : Bool) → known_at first known ≡ Err refusal → (if known then Err (refusal_at 5 first) else Ok (names ++ numbered (stem first.text) start count)) ≡ Err refusal
+        go : (known : Bool) → known_at first known ≡ Err refusal
+            → (if known then Err (refusal_at 5 first) else Ok (names ++ numbered (stem first.text) start count))
+            ≡ Err refusal
         go true e = cc
         go false e = absurd (cc e)
 
-    pub is_within : (r : Result (Unit {0}) ParseStop) (more : List (List ℕ)) → OnOk r (more ≡ names ++ numbered (stem first.text) start count) → OnOk r (length more ≤ limit)
+    pub is_within : (r : Result (Unit {0}) ParseStop) (more : List (List ℕ))
+        → OnOk r (more ≡ names ++ numbered (stem first.text) start count) → OnOk r (length more ≤ limit)
     is_within (Ok u) more grown = rw (grown, length-append, length-map-range_with_len) room
     is_within (Err e) more grown = tt

@@ -1,5 +1,6 @@
 -- The names of a step's factors differ from one another.
-use Rattle.std.proofs.Common.{◌≡◌, ℕ, ◌+◌, ◌-◌, ◌^◌, ◌<◌, Bool, true, false, not, List, [], ◌∷◌, ◌++◌, length, Option, Some, None, Result, Ok, Err, refl, subst, arith}
+use Rattle.std.proofs.Common.{◌≡◌, ℕ, ◌+◌, ◌-◌, ◌^◌, ◌<◌, Bool, true, false, not, List, [], ◌∷◌, ◌++◌, length, Option}
+use Rattle.std.proofs.Common.{Some, None, Result, Ok, Err, refl, subst, arith}
 use Rattle.std.specs.Prelude.{is_some, nat_lt, nat_le, ◌&&◌, if◌then◌else◌}
 use Rattle.std.specs.List.{AllByRecursion, IsDistinct, list_all}
 use Rattle.std.specs.Str.Parse.{digits_value}
@@ -30,23 +31,29 @@ plain_is_below digits e =
     let some = and_parts (list_all is_digit digits) (nat_le 1 (length digits)) short.0 in
     is_below digits (some.0, leb-true 1 (length digits) some.1, leb-true (length digits) 38 short.1)
 
-range_differs : (first last : List ℕ) → is_range first last ≡ true → IsDistinct is_same_name (numbered (stem first) (number_at_end first) (number_at_end last + 1 - number_at_end first))
+range_differs : (first last : List ℕ) → is_range first last ≡ true
+    → IsDistinct is_same_name
+    (numbered (stem first) (number_at_end first) (number_at_end last + 1 - number_at_end first))
 range_differs first last regular =
     let small = plain_is_below (ending last) (plain first last regular).1 in
-    numbered_differ (stem first) (number_at_end first) (number_at_end last + 1 - number_at_end first) (omega (arith, order first last regular, small))
+    numbered_differ (stem first) (number_at_end first) (number_at_end last + 1 - number_at_end first)
+    (omega (arith, order first last regular, small))
 
-item_differs : (first : Written) (last : Option Written) → is_regular_from first last ≡ true → IsDistinct is_same_name (names_from first last)
+item_differs : (first : Written) (last : Option Written) → is_regular_from first last ≡ true
+    → IsDistinct is_same_name (names_from first last)
 unfolding IsDistinct
 item_differs first None regular = (tt, tt)
 item_differs first (Some last) regular = range_differs first.text last.text regular
 
 -- what is accepted is not refused
-pub accepted : {A : Type 0} (b : Bool) (refusal : Refusal) (r : Result A Refusal) (x : A) → (if b then Err refusal else r) ≡ Ok x → (b ≡ false) × (r ≡ Ok x)
+pub accepted : {A : Type 0} (b : Bool) (refusal : Refusal) (r : Result A Refusal) (x : A)
+    → (if b then Err refusal else r) ≡ Ok x → (b ≡ false) × (r ≡ Ok x)
 accepted true refusal r x e = absurd (cc e)
 accepted false refusal r x e = (refl, e)
 
 -- what is given on was read
-pub read : {A B : Type 0} (r : Result A Refusal) (f : A → Result B Refusal) (x : B) → (r >>= f) ≡ Ok x → (a : A) × (r ≡ Ok a) × (f a ≡ Ok x)
+pub read : {A B : Type 0} (r : Result A Refusal) (f : A → Result B Refusal) (x : B) → (r >>= f) ≡ Ok x
+    → (a : A) × (r ≡ Ok a) × (f a ≡ Ok x)
 read (Ok a) f x e = (a, refl, e)
 read (Err refusal) f x e = absurd (cc e)
 
@@ -58,7 +65,8 @@ added_differ limit names item more h e =
     let new = accepted (are_known (names_of item) names) _ _ more few.1 in
     let same : names ++ names_of item ≡ more = cc new.1 in
     let differ = item_differs item.first item.last (not-false (is_regular item) regular.0) in
-    subst (IsDistinct is_same_name) same (joined_differ names (names_of item) h differ (are_new names (names_of item) new.0))
+    subst (IsDistinct is_same_name) same
+    (joined_differ names (names_of item) h differ (are_new names (names_of item) new.0))
 
 all_differ : (limit : ℕ) (items : List Item) (names all : List (List ℕ)) → IsDistinct is_same_name names
     → all_added limit names items ≡ Ok all → IsDistinct is_same_name all
@@ -67,5 +75,6 @@ all_differ limit (item ∷ items) names all h e =
     let one = read (added limit names item) (λ more. all_added limit more items) all e in
     all_differ limit items one.0 all (added_differ limit names item one.0 h one.1) one.2
 
-pub factors_differ : (limit : ℕ) (statement : List Written) (names : List (List ℕ)) → factors_of limit statement ≡ Ok names → IsDistinct is_same_name names
+pub factors_differ : (limit : ℕ) (statement : List Written) (names : List (List ℕ))
+    → factors_of limit statement ≡ Ok names → IsDistinct is_same_name names
 factors_differ limit statement names e = all_differ limit (items_of statement) [] names none_differ e

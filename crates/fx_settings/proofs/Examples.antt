@@ -32,7 +32,8 @@ said_by (proc ∷ factors ∷ rest) = step_said proc factors (proc ∷ factors �
 -- the settings of a step of s factors, whose PROC and FACTORS statements stand first
 settings : ℕ → List ℕ → Result StepSettings Refusal
 unfolding lexed among said_by
-settings s text = let said = said_by (among text (lexed text)) in unblocked_of s said >>= (λ (x : StepSettings). step_settings_of x said)
+settings s text = let said = said_by (among text (lexed text)) in
+    unblocked_of s said >>= (λ (x : StepSettings). step_settings_of x said)
 
 -- a step of q levels, with these statements on its second line
 with_levels : List ℕ → List ℕ → List ℕ
@@ -221,11 +222,17 @@ unfolding levels_and_budget refused_first
 usual_and_given = (refl, refl, refl, refl, refl, refl, refl, refl)
 
 in_order :
-    (levels_and_budget (codes "proc factex nodes=0;factors A/nlev=6;size design=12;model r=2;blocks nblocks=3;") ≡ refused_first 6 36)
-    × (levels_and_budget (codes "proc factex nodes=0;factors A/nlev=2;size design=12;model r=2;blocks nblocks=3;") ≡ refused_first 29 19)
-    × (levels_and_budget (codes "proc factex nodes=1;factors A/nlev=2;size design=12;model r=2;blocks nblocks=3;") ≡ refused_first 8 50)
-    × (levels_and_budget (codes "proc factex nodes=1;factors A/nlev=2;size design=2;model r=2;blocks nblocks=3;") ≡ refused_first 11 60)
-    × (levels_and_budget (codes "proc factex nodes=1;factors A/nlev=2;size design=min;model r=max;blocks nblocks=3;") ≡ refused_first 13 66)
-    × (levels_and_budget (codes "proc factex nodes=1;factors A/nlev=2;size design=2;model r=3;blocks nblocks=3;") ≡ refused_first 15 77)
+    (levels_and_budget (codes "proc factex nodes=0;factors A/nlev=6;size design=12;model r=2;blocks nblocks=3;")
+    ≡ refused_first 6 36)
+    × (levels_and_budget (codes "proc factex nodes=0;factors A/nlev=2;size design=12;model r=2;blocks nblocks=3;")
+    ≡ refused_first 29 19)
+    × (levels_and_budget (codes "proc factex nodes=1;factors A/nlev=2;size design=12;model r=2;blocks nblocks=3;")
+    ≡ refused_first 8 50)
+    × (levels_and_budget (codes "proc factex nodes=1;factors A/nlev=2;size design=2;model r=2;blocks nblocks=3;")
+    ≡ refused_first 11 60)
+    × (levels_and_budget (codes "proc factex nodes=1;factors A/nlev=2;size design=min;model r=max;blocks nblocks=3;")
+    ≡ refused_first 13 66)
+    × (levels_and_budget (codes "proc factex nodes=1;factors A/nlev=2;size design=2;model r=3;blocks nblocks=3;")
+    ≡ refused_first 15 77)
 unfolding levels_and_budget refused_first
 in_order = (refl, refl, refl, refl, refl, refl)

@@ -12,12 +12,15 @@ use Rattle.fx_text.proofs.Placed as placed
 use Rattle.fx_text.proofs.Placed.{IsPlaced, ArePlaced, Placed}
 
 module _ (P : ℕ → ℕ → Type 0) where
-  items : (behind : Bool) (s : List Written) → ArePlaced P s → AllByRecursion (λ (i : Item). IsPlaced P i.first) (items_from behind s)
+  items : (behind : Bool) (s : List Written) → ArePlaced P s
+      → AllByRecursion (λ (i : Item). IsPlaced P i.first) (items_from behind s)
   items behind [] h = tt
   items behind (w ∷ rest) h = by_test (behind || is Minus w.symbol) (items (is Minus w.symbol) rest h.1)
     where
       by_test : (b : Bool) → AllByRecursion (λ (i : Item). IsPlaced P i.first) (items_from (is Minus w.symbol) rest)
-          → AllByRecursion (λ (i : Item). IsPlaced P i.first) (if b then items_from (is Minus w.symbol) rest else item w (range_end rest) ∷ items_from (is Minus w.symbol) rest)
+          → AllByRecursion (λ (i : Item). IsPlaced P i.first)
+          (if b then items_from (is Minus w.symbol) rest
+          else item w (range_end rest) ∷ items_from (is Minus w.symbol) rest)
       by_test true later = later
       by_test false later = (h.0, later)
 
@@ -27,9 +30,12 @@ module _ (P : ℕ → ℕ → Type 0) where
       (placed.both P (nat_lt limit (length names + length (names_of i))) _ _ (placed.written P 10 i.first refl h)
       (placed.both P (are_known (names_of i) names) _ _ (placed.written P 5 i.first refl h) tt))
 
-  all : (limit : ℕ) (names : List (List ℕ)) (s : List Item) → AllByRecursion (λ (i : Item). IsPlaced P i.first) s → Placed P (all_added limit names s)
+  all : (limit : ℕ) (names : List (List ℕ)) (s : List Item) → AllByRecursion (λ (i : Item). IsPlaced P i.first) s
+      → Placed P (all_added limit names s)
   all limit names [] h = tt
-  all limit names (i ∷ s) h = placed.chain P (added limit names i) (λ more. all_added limit more s) (one limit names i h.0) (λ more. all limit more s h.1)
+  all limit names (i ∷ s) h =
+      placed.chain P (added limit names i) (λ more. all_added limit more s) (one limit names i h.0)
+      (λ more. all limit more s h.1)
 
   pub factors : (limit : ℕ) (s : List Written) → ArePlaced P s → Placed P (factors_of limit s)
   factors limit s h = all limit [] (items_of s) (items false _ (placed.before_it P Slash _ (placed.dropped P 1 s h)))

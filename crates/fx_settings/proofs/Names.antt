@@ -1,5 +1,6 @@
 -- The names of factors have 1 to 32 bytes.
-use Rattle.std.proofs.Common.{◌≡◌, ℕ, zero, suc, ◌+◌, ◌-◌, ◌^◌, ◌<◌, ◌≤◌, true, not, List, [], ◌∷◌, ◌++◌, length, map, Option, Some, None, Ok, sym, ap, subst, ◌∙◌, arith}
+use Rattle.std.proofs.Common.{◌≡◌, ℕ, zero, suc, ◌+◌, ◌-◌, ◌^◌, ◌<◌, ◌≤◌, true, not, List, [], ◌∷◌, ◌++◌, length, map}
+use Rattle.std.proofs.Common.{Option, Some, None, Ok, sym, ap, subst, ◌∙◌, arith}
 use Rattle.std.specs.Prelude.{All, decimal, ◌&&◌, nat_lt, nat_le}
 use Rattle.std.specs.List.{AllByRecursion, flat_map, list_all}
 use Rattle.std.proofs.lemmas.Bool.{and_parts, leb-true, not-false}
@@ -28,7 +29,8 @@ abbrev HasItemNames : Written → Option Written → Type 0
 HasItemNames first None = IsName first.text
 HasItemNames first (Some last) = IsName first.text × IsName last.text
 
-each_item : (written : List (List Written)) (items : List Item) → AreItems written items → HasNames (flat_map (λ (part : List Written). part) written)
+each_item : (written : List (List Written)) (items : List Item) → AreItems written items
+    → HasNames (flat_map (λ (part : List Written). part) written)
     → AllByRecursion (λ (i : Item). HasItemNames i.first i.last) items
 each_item [] [] h names = tt
 each_item [] (i ∷ items) h names = absurd h
@@ -38,20 +40,26 @@ each_item (p ∷ written) (i ∷ items) h names = by_last i.last h.0.1 (each_ite
     rest : List Written
     rest = flat_map (λ (part : List Written). part) written
 
-    by_last : (last : Option Written) → IsWrittenAs p i.first last → (HasNames rest → AllByRecursion (λ (i : Item). HasItemNames i.first i.last) items) → HasItemNames i.first last × AllByRecursion (λ (i : Item). HasItemNames i.first i.last) items
+    by_last : (last : Option Written) → IsWrittenAs p i.first last
+        → (HasNames rest → AllByRecursion (λ (i : Item). HasItemNames i.first i.last) items)
+        → HasItemNames i.first last × AllByRecursion (λ (i : Item). HasItemNames i.first i.last) items
     by_last None e later =
         let here : HasNames (i.first ∷ rest) = subst (λ (l : List Written). HasNames (l ++ rest)) e names in
         (here.0 h.0.0, later here.1)
     by_last (Some last) (minus, hm, hl, e) later =
-        let here : HasNames (i.first ∷ minus ∷ last ∷ rest) = subst (λ (l : List Written). HasNames (l ++ rest)) e names in
+        let here : HasNames (i.first ∷ minus ∷ last ∷ rest) =
+        subst (λ (l : List Written). HasNames (l ++ rest)) e names in
         ((here.0 h.0.0, here.1.1.0 hl), later here.1.1.1)
 
 -- a number up to that of the last name has no more digits than it
-no_longer : (first last : List ℕ) (n : ℕ) → is_range first last ≡ true → n ≤ number_at_end last → length (decimal n) ≤ length (ending last)
+no_longer : (first last : List ℕ) (n : ℕ) → is_range first last ≡ true → n ≤ number_at_end last
+    → length (decimal n) ≤ length (ending last)
 no_longer first last n regular upto =
     let whole = (plain first last regular).1 in
     let numeral = (and_parts (is_numeral (ending last)) _ whole).0 in
-    let short = and_parts (list_all is_digit (ending last) && nat_le 1 (length (ending last))) (nat_le (length (ending last)) 38) numeral in
+    let short =
+    and_parts (list_all is_digit (ending last) && nat_le 1 (length (ending last)))
+    (nat_le (length (ending last)) 38) numeral in
     let some = and_parts (list_all is_digit (ending last)) (nat_le 1 (length (ending last))) short.0 in
     let k : ℕ = length (ending last) in
     let most : k ≤ 38 = leb-true k 38 short.1 in
@@ -66,7 +74,8 @@ same_stems first last regular =
     let most = and_parts _ (nat_le (number_at_end first) (number_at_end last)) regular in
     let same = (and_parts _ (is_same_name (stem first) (stem last)) most.0).1 in
     let folded = (bytes_eq-Decides (map to_ascii_lowercase (stem first)) (map to_ascii_lowercase (stem last))).0 same in
-    sym (length-map (stem first) to_ascii_lowercase) ∙ ap (λ (l : List ℕ). length l) folded ∙ length-map (stem last) to_ascii_lowercase
+    sym (length-map (stem first) to_ascii_lowercase) ∙ ap (λ (l : List ℕ). length l) folded ∙ length-map (stem last)
+    to_ascii_lowercase
 
 some_stem : (first last : List ℕ) → is_range first last ≡ true → 1 ≤ length (stem first)
 some_stem first last regular =
@@ -80,29 +89,39 @@ some_stem first last regular =
     omega (arith, some, long)
 
 whole_name : (name : List ℕ) → length (stem name) + length (ending name) ≡ length name
-whole_name name = sym (length-append (stem name) (ending name)) ∙ ap (λ (l : List ℕ). length l) (take-append-drop (stem_len name) name)
+whole_name name =
+    sym (length-append (stem name) (ending name)) ∙ ap (λ (l : List ℕ). length l)
+    (take-append-drop (stem_len name) name)
 
 -- the names of a range, each with a number from `from` on
-in_range : (first last : List ℕ) → is_range first last ≡ true → IsName last → (from count : ℕ) → from + count ≤ number_at_end last + 1 → AllByRecursion IsName (numbered (stem first) from count)
+in_range : (first last : List ℕ) → is_range first last ≡ true → IsName last → (from count : ℕ)
+    → from + count ≤ number_at_end last + 1 → AllByRecursion IsName (numbered (stem first) from count)
 in_range first last regular is from zero upto = tt
 in_range first last regular is from (suc count) upto =
     let digits = no_longer first last from regular (omega (arith, upto)) in
     let name : IsName (stem first ++ decimal from) =
-    let long = length-append (stem first) (decimal from) in
-    (omega (arith, long, some_stem first last regular), omega (arith, long, digits, same_stems first last regular, whole_name last, is.1)) in
+    let long = length-append (stem first) (decimal from) in (
+      omega (arith, long, some_stem first last regular),
+      omega
+          (arith, long, digits, same_stems first last regular, whole_name last, is.1),
+    ) in
     (name, in_range first last regular is (from + 1) count (omega (arith, upto)))
 
-of_item : (first : Written) (last : Option Written) → is_regular_from first last ≡ true → HasItemNames first last → AllByRecursion IsName (names_from first last)
+of_item : (first : Written) (last : Option Written) → is_regular_from first last ≡ true → HasItemNames first last
+    → AllByRecursion IsName (names_from first last)
 of_item first None regular is = (is, tt)
 of_item first (Some last) regular is =
     let ends = order first.text last.text regular in
-    in_range first.text last.text regular is.1 (number_at_end first.text) (number_at_end last.text + 1 - number_at_end first.text) (omega (arith, ends))
+    in_range first.text last.text regular is.1 (number_at_end first.text)
+    (number_at_end last.text + 1 - number_at_end first.text) (omega (arith, ends))
 
-more : (names new : List (List ℕ)) → AllByRecursion IsName names → AllByRecursion IsName new → AllByRecursion IsName (names ++ new)
+more : (names new : List (List ℕ)) → AllByRecursion IsName names → AllByRecursion IsName new
+    → AllByRecursion IsName (names ++ new)
 more [] new h k = k
 more (x ∷ names) new h k = (h.0, more names new h.1 k)
 
-all_names : (limit : ℕ) (items : List Item) (names all : List (List ℕ)) → AllByRecursion (λ (i : Item). HasItemNames i.first i.last) items → AllByRecursion IsName names
+all_names : (limit : ℕ) (items : List Item) (names all : List (List ℕ))
+    → AllByRecursion (λ (i : Item). HasItemNames i.first i.last) items → AllByRecursion IsName names
     → all_added limit names items ≡ Ok all → AllByRecursion IsName all
 all_names limit [] names all is h e = let same : names ≡ all = cc e in subst (AllByRecursion IsName) same h
 all_names limit (item ∷ items) names all is h e =
@@ -119,7 +138,8 @@ front_names : (a b : List Written) → HasNames (a ++ b) → HasNames a
 front_names [] b h = tt
 front_names (w ∷ a) b h = (h.0, front_names a b h.1)
 
-pub factor_names : (limit : ℕ) (s : List Written) (names : List (List ℕ)) → IsStatement grammar.factors s → HasNames s → factors_of limit s ≡ Ok names → All IsName names
+pub factor_names : (limit : ℕ) (s : List Written) (names : List (List ℕ)) → IsStatement grammar.factors s → HasNames s
+    → factors_of limit s ≡ Ok names → All IsName names
 factor_names limit s names by_grammar are e =
     let r = items_law s by_grammar in
     let front : List Written = flat_map (λ (part : List Written). part) r.written in

@@ -11,13 +11,18 @@ module _ (stem : List ℕ) (from count i : ℕ) (h : i < count) where
   abbrev all : List (List ℕ)
   all = numbered stem from count
 
-  pub known_here : (names : List (List ℕ)) → is_some (place_of (stem ++ decimal (from + i)) names) ≡ true → are_known (drop i all) names ≡ true
-  known_here names e = ap (λ l. are_known l names) (from_here stem from count i h) ∙ ap (λ b. b || are_known (drop (i + 1) all) names) e
+  pub known_here : (names : List (List ℕ)) → is_some (place_of (stem ++ decimal (from + i)) names) ≡ true
+      → are_known (drop i all) names ≡ true
+  known_here names e =
+      ap (λ l. are_known l names) (from_here stem from count i h) ∙ ap (λ b. b || are_known (drop (i + 1) all) names) e
 
-  pub not_here : (names : List (List ℕ)) → is_some (place_of (stem ++ decimal (from + i)) names) ≡ false → are_known (drop i all) names ≡ are_known (drop (i + 1) all) names
-  not_here names e = ap (λ l. are_known l names) (from_here stem from count i h) ∙ ap (λ b. b || are_known (drop (i + 1) all) names) e
+  pub not_here : (names : List (List ℕ)) → is_some (place_of (stem ++ decimal (from + i)) names) ≡ false
+      → are_known (drop i all) names ≡ are_known (drop (i + 1) all) names
+  not_here names e =
+      ap (λ l. are_known l names) (from_here stem from count i h) ∙ ap (λ b. b || are_known (drop (i + 1) all) names) e
 
-pub none_left : (stem : List ℕ) (from count i : ℕ) → count ≤ i → (names : List (List ℕ)) → are_known (drop i (numbered stem from count)) names ≡ false
+pub none_left : (stem : List ℕ) (from count i : ℕ) → count ≤ i → (names : List (List ℕ))
+    → are_known (drop i (numbered stem from count)) names ≡ false
 none_left stem from count i h names = ap (λ l. are_known l names) (none_after stem from count i h)
 
 -- what stands in front

@@ -1,5 +1,6 @@
 -- A stem with different numbers makes different names.
-use Rattle.std.proofs.Common.{◌≡◌, ℕ, zero, suc, ◌+◌, ◌^◌, ◌<◌, ◌≤◌, false, List, [], ◌∷◌, ◌++◌, map, refl, sym, ap, ap₂, ◌∙◌, inl, inr, arith}
+use Rattle.std.proofs.Common.{◌≡◌, ℕ, zero, suc, ◌+◌, ◌^◌, ◌<◌, ◌≤◌, false, List, [], ◌∷◌, ◌++◌, map, refl, sym, ap}
+use Rattle.std.proofs.Common.{ap₂, ◌∙◌, inl, inr, arith}
 use Rattle.std.specs.Prelude.{decimal}
 use Rattle.std.specs.Char.{to_ascii_lowercase}
 use Rattle.std.specs.List.{AllByRecursion, IsDistinct}
@@ -23,11 +24,15 @@ no_case (c ∷ cs) all =
 differ : (stem : List ℕ) (m n : ℕ) → m < n → n < 10 ^ 64 → is_same_name (stem ++ decimal m) (stem ++ decimal n) ≡ false
 differ stem m n less small = elim (cases_Bool (is_same_name (stem ++ decimal m) (stem ++ decimal n))) [
   | inl same ↦
-      let folded = (bytes_eq-Decides (map to_ascii_lowercase (stem ++ decimal m)) (map to_ascii_lowercase (stem ++ decimal n))).0 same in
+      let folded =
+      (bytes_eq-Decides (map to_ascii_lowercase (stem ++ decimal m)) (map to_ascii_lowercase (stem ++ decimal n))).0
+      same in
       let at_m = decimal_is_IsNumeral_wide m (omega (arith, less, small)) in
       let at_n = decimal_is_IsNumeral_wide n small in
       let behind : map to_ascii_lowercase (decimal m) ≡ map to_ascii_lowercase (decimal n) =
-      append_cancel_left (map to_ascii_lowercase stem) _ _ (sym (map-append to_ascii_lowercase stem (decimal m)) ∙ folded ∙ map-append to_ascii_lowercase stem (decimal n)) in
+      append_cancel_left (map to_ascii_lowercase stem) _ _
+      (sym (map-append to_ascii_lowercase stem (decimal m)) ∙ folded ∙ map-append to_ascii_lowercase stem (decimal n))
+      in
       let digits : decimal m ≡ decimal n = sym (no_case (decimal m) at_m.0.1) ∙ behind ∙ no_case (decimal n) at_n.0.1 in
       let equal : m ≡ n = sym at_m.1 ∙ ap (digits_value 10) digits ∙ at_n.1 in
       absurd (omega (arith, less, equal))
@@ -37,11 +42,18 @@ differ stem m n less small = elim (cases_Bool (is_same_name (stem ++ decimal m) 
 differ_from_later : (stem : List ℕ) (m from count : ℕ) → m < from → from + count ≤ 10 ^ 64
     → AllByRecursion (λ name. is_same_name (stem ++ decimal m) name ≡ false) (numbered stem from count)
 differ_from_later stem m from zero less small = tt
-differ_from_later stem m from (suc count) less small =
-    (differ stem m from less (omega (arith, small)), differ_from_later stem m (from + 1) count (omega (arith, less)) (omega (arith, small)))
+differ_from_later stem m from (suc count) less small = (
+  differ stem m from less (omega (arith, small)),
+  differ_from_later stem m (from + 1) count (omega (arith, less))
+      (omega (arith, small)),
+)
 
-pub numbered_differ : (stem : List ℕ) (from count : ℕ) → from + count ≤ 10 ^ 64 → IsDistinct is_same_name (numbered stem from count)
+pub numbered_differ : (stem : List ℕ) (from count : ℕ) → from + count ≤ 10 ^ 64
+    → IsDistinct is_same_name (numbered stem from count)
 unfolding IsDistinct
 numbered_differ stem from zero small = tt
-numbered_differ stem from (suc count) small =
-    (differ_from_later stem from (from + 1) count (omega arith) (omega (arith, small)), numbered_differ stem (from + 1) count (omega (arith, small)))
+numbered_differ stem from (suc count) small = (
+  differ_from_later stem from (from + 1) count (omega arith) (omega (arith, small)),
+  numbered_differ stem (from + 1)
+      count (omega (arith, small)),
+)

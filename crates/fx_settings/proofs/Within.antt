@@ -9,20 +9,25 @@ use Rattle.fx_settings.specs.Items.{Item, is_regular, items_of, names_of}
 use Rattle.fx_settings.specs.Factors.{added, all_added, are_known, factors_of}
 
 module _ (limit : ℕ) where
-  added_within : (names : List (List ℕ)) (item : Item) (more : List (List ℕ)) → added limit names item ≡ Ok more → length more ≤ limit
+  added_within : (names : List (List ℕ)) (item : Item) (more : List (List ℕ)) → added limit names item ≡ Ok more
+      → length more ≤ limit
   added_within names item more e =
       let regular = unless_ok (not (is_regular item)) _ more (refusal_at 30 item.first) e in
-      let few = unless_ok (nat_lt limit (length names + length (names_of item))) _ more (refusal_at 10 item.first) regular.1 in
+      let few = unless_ok (nat_lt limit (length names + length (names_of item))) _ more (refusal_at 10 item.first)
+      regular.1 in
       let new = unless_ok (are_known (names_of item) names) _ more (refusal_at 5 item.first) few.1 in
       let room = ltb-false limit (length names + length (names_of item)) few.0 in
       let long = length-append names (names_of item) in
-      subst (λ (l : List (List ℕ)). length l ≤ limit) (same_ok (names ++ names_of item) more new.1) (omega (arith, room, long))
+      subst (λ (l : List (List ℕ)). length l ≤ limit) (same_ok (names ++ names_of item) more new.1)
+      (omega (arith, room, long))
 
-  all_within : (names : List (List ℕ)) (items : List Item) (all : List (List ℕ)) → length names ≤ limit → all_added limit names items ≡ Ok all → length all ≤ limit
+  all_within : (names : List (List ℕ)) (items : List Item) (all : List (List ℕ)) → length names ≤ limit
+      → all_added limit names items ≡ Ok all → length all ≤ limit
   all_within names [] all few e = subst (λ (l : List (List ℕ)). length l ≤ limit) (same_ok names all e) few
   all_within names (item ∷ items) all few e =
       let first = bind_ok (added limit names item) _ all e in
       all_within first.0 items all (added_within names item first.0 first.1) first.2
 
-  pub factors_within : (statement : List Written) (all : List (List ℕ)) → factors_of limit statement ≡ Ok all → length all ≤ limit
+  pub factors_within : (statement : List Written) (all : List (List ℕ)) → factors_of limit statement ≡ Ok all
+      → length all ≤ limit
   factors_within statement all e = all_within [] (items_of statement) all (omega arith) e

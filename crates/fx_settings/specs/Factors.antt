@@ -1,5 +1,6 @@
 -- The factors that a FACTORS statement names.
-use Rattle.std.specs.Prelude.{ℕ, ◌+◌, nat_lt, not, Bool, List, [], ◌∷◌, ◌++◌, length, is_some, Result, Ok, Err, if◌then◌else◌}
+use Rattle.std.specs.Prelude.{ℕ, ◌+◌, nat_lt, not, Bool, List, [], ◌∷◌, ◌++◌, length, is_some, Result, Ok, Err}
+use Rattle.std.specs.Prelude.{if◌then◌else◌}
 use Rattle.std.specs.List.{list_any}
 use Rattle.fx_language.specs.declared.code.TheConstants.{IRREGULAR_RANGE, REPEATED_NAME, TOO_MANY_FACTORS}
 use Rattle.fx_text.specs.declared.refusal.Refusal.{Refusal}
@@ -16,8 +17,8 @@ are_known new names = list_any (λ name. is_some (place_of name names)) new
 abbrev pub known_at : Written → Bool → Result (Unit {0}) Refusal
 known_at first known = if known then Err (refusal_at REPEATED_NAME first) else Ok tt
 
--- The names with those of one more item, where at most `limit` are allowed. 30: its range is not regular. 10: there are too
--- many. 5: a name is repeated.
+-- The names with those of one more item, where at most `limit` are allowed. 30: its range is not regular. 10: there are
+-- too many. 5: a name is repeated.
 abbrev pub added : ℕ → List (List ℕ) → Item → Result (List (List ℕ)) Refusal
 added limit names item =
     if not (is_regular item) then Err (refusal_at IRREGULAR_RANGE item.first)

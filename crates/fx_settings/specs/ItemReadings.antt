@@ -10,7 +10,8 @@ use Rattle.fx_settings.specs.Items.{Item, items_of}
 abbrev pub IsWrittenAs : List Written → Written → Option Written → Type 0
 IsWrittenAs written first None = written ≡ first ∷ []
 IsWrittenAs written first (Some last) =
-    (minus : Written) × (is Minus minus.symbol ≡ true) × (is_word last.symbol ≡ true) × (written ≡ first ∷ minus ∷ last ∷ [])
+    (minus : Written) × (is Minus minus.symbol ≡ true) × (is_word last.symbol ≡ true)
+    × (written ≡ first ∷ minus ∷ last ∷ [])
 
 -- an item as it is written
 abbrev pub IsItem : List Written → Item → Type 0

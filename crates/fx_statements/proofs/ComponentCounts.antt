@@ -1,5 +1,6 @@
 -- How many components there are, from one number of factors to the next.
-use Rattle.std.proofs.Common.{◌≡◌, ℕ, zero, suc, ◌+◌, ◌-◌, ◌*◌, ◌/◌, ◌^◌, ◌<◌, ◌≤◌, true, sym, ap, ap₂, subst, ◌∙◌, arith, inl, inr}
+use Rattle.std.proofs.Common.{◌≡◌, ℕ, zero, suc, ◌+◌, ◌-◌, ◌*◌, ◌/◌, ◌^◌, ◌<◌, ◌≤◌, true, sym, ap, ap₂, subst, ◌∙◌}
+use Rattle.std.proofs.Common.{arith, inl, inr}
 use Rattle.std.specs.Prelude.{nat_lt}
 use Rattle.std.proofs.lemmas.Bool.{cases_lt, lt-ltb}
 use Rattle.std.proofs.Math.Nat.{div-eq_of_eq-mul_left, div-le_self, mul-le-mul, pow-suc, pow-zero}
@@ -42,9 +43,11 @@ module _ (q s k : ℕ) where
       ap₂ (λ i j. choose s i * (q - 1) ^ j) more less ∙ ap (λ p. choose s (suc (suc k)) * p) (pow-suc (q - 1) k)
 
   regroup : (c d p x r : ℕ) → suc (suc k) * d ≡ r * c → c * p * r * x ≡ d * (p * x) * (k + 2)
-  regroup c d p x r h = let m : suc (suc k) * d * (p * x) ≡ r * c * (p * x) = ap (λ z. z * (p * x)) h in omega (arith, m)
+  regroup c d p x r h = let m : suc (suc k) * d * (p * x) ≡ r * c * (p * x) = ap (λ z. z * (p * x)) h in
+      omega (arith, m)
 
-  pub next_count : (next : ℕ) → next ≡ component_count q s (k + 1) → next * (s - k - 1) * (q - 1) / (k + 2) ≡ component_count q s (k + 2)
+  pub next_count : (next : ℕ) → next ≡ component_count q s (k + 1)
+      → next * (s - k - 1) * (q - 1) / (k + 2) ≡ component_count q s (k + 2)
   next_count next is =
       let left : s - k - 1 ≡ s - suc k = omega arith in
       let all : next * (s - k - 1) * (q - 1) ≡ component_count q s (k + 2) * (k + 2) =
@@ -55,13 +58,15 @@ module _ (q s k : ℕ) where
       div-eq_of_eq-mul_left some all
 
   pub count_more : listed_count q s (k + 1) ≡ listed_count q s k + component_count q s (k + 1)
-  count_more = ap (listed_count q s) (add-one k) ∙ ap (λ i. listed_count q s k + component_count q s i) (sym (add-one k))
+  count_more =
+      ap (listed_count q s) (add-one k) ∙ ap (λ i. listed_count q s k + component_count q s i) (sym (add-one k))
 
 pub count_first : (q s : ℕ) → component_count q s 1 ≡ s
 count_first q s =
     let one = choose_next s zero in
     let none : 1 - 1 ≡ 0 = omega arith in
-    let plain : component_count q s 1 ≡ choose s 1 * 1 = ap (λ j. choose s 1 * (q - 1) ^ j) none ∙ ap (λ p. choose s 1 * p) (pow-zero (q - 1)) in
+    let plain : component_count q s 1 ≡ choose s 1 * 1 =
+    ap (λ j. choose s 1 * (q - 1) ^ j) none ∙ ap (λ p. choose s 1 * p) (pow-zero (q - 1)) in
     omega (arith, one, plain)
 
 -- with more factors there are no fewer
@@ -75,7 +80,8 @@ grows q s k (suc n) =
 pub are_many : (q s k d : ℕ) → k < d → 100000 < listed_count q s (k + 1) → nat_lt 100000 (listed_count q s d) ≡ true
 are_many q s k d below many =
     let e : d - (k + 1) + (k + 1) ≡ d = omega (arith, below) in
-    let h : listed_count q s (k + 1) ≤ listed_count q s d = subst (λ i. listed_count q s (k + 1) ≤ listed_count q s i) e (grows q s (k + 1) (d - (k + 1))) in
+    let h : listed_count q s (k + 1) ≤ listed_count q s d =
+    subst (λ i. listed_count q s (k + 1) ≤ listed_count q s i) e (grows q s (k + 1) (d - (k + 1))) in
     lt-ltb 100000 (listed_count q s d) (omega (arith, h, many))
 
 -- a number that stays small

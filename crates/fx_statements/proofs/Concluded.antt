@@ -1,6 +1,7 @@
--- What an outcome of questions says of their answers; of questions for one number after another, which is answered last, and that
--- the next has no answer, or those before it have none.
-use Rattle.std.proofs.Common.{ℕ, ◌≡◌, ◌<◌, ◌≤◌, ◌+◌, ◌-◌, zero, suc, Bool, List, [], ◌∷◌, ◌++◌, length, map, All, Option, Some, None, refl, sym, subst, ◌∙◌, ap, arith, inl, inr, ◌⊎◌}
+-- What an outcome of questions says of their answers; of questions for one number after another, which is answered
+-- last, and that the next has no answer, or those before it have none.
+use Rattle.std.proofs.Common.{ℕ, ◌≡◌, ◌<◌, ◌≤◌, ◌+◌, ◌-◌, zero, suc, Bool, List, [], ◌∷◌, ◌++◌, length, map, All}
+use Rattle.std.proofs.Common.{Option, Some, None, refl, sym, subst, ◌∙◌, ap, arith, inl, inr, ◌⊎◌}
 use Rattle.std.specs.Prelude.{is_some, not, if◌then◌else◌, find}
 use Rattle.std.specs.List.{AllByRecursion, range_with_len}
 use Rattle.std.proofs.lemmas.Bool.{cases_Bool, cases_eq, cases_lt, cond-true, cond-false, le-ltb, lt-ltb}
@@ -11,7 +12,10 @@ use Rattle.fx_designs.specs.Problems.{Dimensions, Problem}
 use Rattle.fx_designs.specs.Answers.{answer}
 use Rattle.fx_designs.specs.Outcomes.{Ending, Design, NoDesign}
 use Rattle.fx_statements.specs.Steps.{Meaning}
-use Rattle.fx_statements.specs.Questions.{Answered, Conclusion, Found, Questions, Turn, Unanswered, Until, asked, concluded, conclusion_by, conclusion_of, cut_short, found_by, highest, is_last, last_found, last_of, left_at, lowest, nodes_of, outcome_of, passes, question_for, questions_of, series, turns, up_to}
+use Rattle.fx_statements.specs.Questions.{Answered, Conclusion, Found, Questions, Turn, Unanswered, Until, asked}
+use Rattle.fx_statements.specs.Questions.{concluded, conclusion_by, conclusion_of, cut_short, found_by, highest}
+use Rattle.fx_statements.specs.Questions.{is_last, last_found, last_of, left_at, lowest, nodes_of, outcome_of, passes}
+use Rattle.fx_statements.specs.Questions.{question_for, questions_of, series, turns, up_to}
 
 same_some : {A : Type 0} (x y : A) → Some x ≡ Some y → x ≡ y
 same_some x y e = cc
@@ -26,7 +30,8 @@ abbrev pub asked_from : (ℕ → Problem) → Until → ℕ → ℕ → List Pro
 asked_from question ends a n = up_to (is_last ends) (map question (range_with_len a n))
 
 -- what was found stays, or something later is found
-stays_by : (found : Found) (p : Problem) (ps : List Problem) (own : Option (List ℕ)) → ((found : Found) → last_found (Some found) ps ≡ None → ⊥)
+stays_by : (found : Found) (p : Problem) (ps : List Problem) (own : Option (List ℕ))
+    → ((found : Found) → last_found (Some found) ps ≡ None → ⊥)
     → last_found (found_by (Some found) p own) ps ≡ None → ⊥
 stays_by found p ps None rest e = rest found e
 stays_by found p ps (Some rows) rest e = rest (record { question = p; rows = rows }) e
@@ -47,7 +52,8 @@ module _ (question : ℕ → Problem) where
   abbrev pub NoneAt : ℕ → ℕ → Type 0
   NoneAt n high = (n ≡ high) ⊎ (answer (question n) ≡ None)
 
-  -- where it ends with the first that has none, the last answer is that of n, and the next question has none, if there is a next
+  -- where it ends with the first that has none, the last answer is that of n, and the next question has none, if there
+  -- is a next
   pub record IsLastAnswered (found : Found) (low high n : ℕ) : Type 0 where
     pub from : low ≤ n
     pub below : n < high
@@ -55,8 +61,10 @@ module _ (question : ℕ → Problem) where
     pub none_next : NoneAt (n + 1) high
 
   first_step : (found : Found) (a n : ℕ) (own : Option (List ℕ)) → answer (question a) ≡ own
-      → (last_found None (asked_from question Answered (a + 1) n) ≡ Some found → (k : ℕ) × IsFirstAnswered found (a + 1) (a + 1 + n) k)
-      → last_found (found_by None (question a) own) (if is_some own then [] else asked_from question Answered (a + 1) n) ≡ Some found
+      → (last_found None (asked_from question Answered (a + 1) n) ≡ Some found
+      → (k : ℕ) × IsFirstAnswered found (a + 1) (a + 1 + n) k)
+      → last_found (found_by None (question a) own) (if is_some own then [] else asked_from question Answered (a + 1) n)
+      ≡ Some found
       → (k : ℕ) × IsFirstAnswered found a (a + suc n) k
   first_step found a n None is later e =
       let rest = later e in (
@@ -89,8 +97,10 @@ module _ (question : ℕ → Problem) where
 
   -- and where there is none, no question has an answer
   none_step : (a n : ℕ) (own : Option (List ℕ)) → answer (question a) ≡ own
-      → (last_found None (asked_from question Answered (a + 1) n) ≡ None → (k : ℕ) → a + 1 ≤ k → k < a + 1 + n → answer (question k) ≡ None)
-      → last_found (found_by None (question a) own) (if is_some own then [] else asked_from question Answered (a + 1) n) ≡ None
+      → (last_found None (asked_from question Answered (a + 1) n) ≡ None → (k : ℕ) → a + 1 ≤ k → k < a + 1 + n
+      → answer (question k) ≡ None)
+      → last_found (found_by None (question a) own) (if is_some own then [] else asked_from question Answered (a + 1) n)
+      ≡ None
       → (k : ℕ) → a ≤ k → k < a + suc n → answer (question k) ≡ None
   none_step a n None is later e k low high = elim (cases_eq k a) [
     | inl here ↦ ap (λ n. answer (question n)) here ∙ is
@@ -108,53 +118,63 @@ module _ (question : ℕ → Problem) where
   IsLast found earlier a high = ((earlier ≡ Some found) × NoneAt a high) ⊎ ((k : ℕ) × IsLastAnswered found a high k)
 
   last_step : (found : Found) (earlier : Option Found) (a n : ℕ) (own : Option (List ℕ)) → answer (question a) ≡ own
-      → ((earlier : Option Found) → last_found earlier (asked_from question Unanswered (a + 1) n) ≡ Some found → IsLast found earlier (a + 1) (a + 1 + n))
-      → last_found (found_by earlier (question a) own) (if not (is_some own) then [] else asked_from question Unanswered (a + 1) n) ≡ Some found
+      → ((earlier : Option Found) → last_found earlier (asked_from question Unanswered (a + 1) n) ≡ Some found
+      → IsLast found earlier (a + 1) (a + 1 + n))
+      → last_found (found_by earlier (question a) own)
+      (if not (is_some own) then [] else asked_from question Unanswered (a + 1) n) ≡ Some found
       → IsLast found earlier a (a + suc n)
   last_step found earlier a n None is later e = inl (e, inr is)
-  last_step found earlier a n (Some rows) is later e = elim (later (Some (record { question = question a; rows = rows })) e) [
-    | inl here ↦
-        let same : record { question = question a; rows = rows } ≡ found = same_some _ _ here.0 in
-        inr (
-          a,
+  last_step found earlier a n (Some rows) is later e =
+      elim (later (Some (record { question = question a; rows = rows })) e) [
+        | inl here ↦
+            let same : record { question = question a; rows = rows } ≡ found = same_some _ _ here.0 in
+            inr (
+              a,
+              record {
+                from = omega arith;
+                below = omega arith;
+                found_at =
+                    subst (λ found. IsFoundAt question found a) same (record { question_is = refl; answer_is = is });
+                none_next = up (a + 1) here.1;
+              },
+            )
+        | inr rest ↦ inr (
+          rest.0,
           record {
-            from = omega arith;
-            below = omega arith;
-            found_at = subst (λ found. IsFoundAt question found a) same (record { question_is = refl; answer_is = is });
-            none_next = up (a + 1) here.1;
+            from = omega (arith, rest.1.from);
+            below = omega (arith, rest.1.below);
+            found_at = rest.1.found_at;
+            none_next = up (rest.0 + 1) rest.1.none_next;
           },
         )
-    | inr rest ↦ inr (
-      rest.0,
-      record {
-        from = omega (arith, rest.1.from);
-        below = omega (arith, rest.1.below);
-        found_at = rest.1.found_at;
-        none_next = up (rest.0 + 1) rest.1.none_next;
-      },
-    )
-  ]
+      ]
     where
       up : (k : ℕ) → NoneAt k (a + 1 + n) → NoneAt k (a + suc n)
       up k h = elim h [ inl end ↦ inl (omega (arith, end)) | inr none ↦ inr none ]
 
-  last_one : (found : Found) (earlier : Option Found) (a n : ℕ) → last_found earlier (asked_from question Unanswered a n) ≡ Some found
+  last_one : (found : Found) (earlier : Option Found) (a n : ℕ)
+      → last_found earlier (asked_from question Unanswered a n) ≡ Some found
       → IsLast found earlier a (a + n)
   last_one found earlier a zero e = inl (e, inl (omega arith))
-  last_one found earlier a (suc n) e = last_step found earlier a n (answer (question a)) refl (λ earlier. last_one found earlier (a + 1) n) e
+  last_one found earlier a (suc n) e =
+      last_step found earlier a n (answer (question a)) refl (λ earlier. last_one found earlier (a + 1) n) e
 
   pub last-answered : (found : Found) (a n : ℕ) → last_found None (asked_from question Unanswered a n) ≡ Some found
       → (k : ℕ) × IsLastAnswered found a (a + n) k
   last-answered found a n e = elim (last_one found None a n e) [ inl none ↦ absurd (cc none.0) | inr last ↦ last ]
 
   -- and where there is none, the first question has no answer
-  first_none : (a : ℕ) (ps : List Problem) (own : Option (List ℕ)) → answer (question a) ≡ own → last_found (found_by None (question a) own) ps ≡ None
+  first_none : (a : ℕ) (ps : List Problem) (own : Option (List ℕ)) → answer (question a) ≡ own
+      → last_found (found_by None (question a) own) ps ≡ None
       → answer (question a) ≡ None
   first_none a ps None is e = is
   first_none a ps (Some rows) is e = absurd (some_stays (record { question = question a; rows = rows }) ps e)
 
-  pub none-first : (a n : ℕ) → last_found None (asked_from question Unanswered a (suc n)) ≡ None → answer (question a) ≡ None
-  none-first a n e = first_none a (if not (is_some (answer (question a))) then [] else asked_from question Unanswered (a + 1) n) (answer (question a)) refl e
+  pub none-first : (a n : ℕ) → last_found None (asked_from question Unanswered a (suc n)) ≡ None
+      → answer (question a) ≡ None
+  none-first a n e =
+      first_none a (if not (is_some (answer (question a))) then [] else asked_from question Unanswered (a + 1) n)
+      (answer (question a)) refl e
 
 -- Where the outcome is a design it is the last that was found, and where it is none there was none
 
@@ -169,16 +189,19 @@ module _ (rows : List ℕ) (count : ℕ) where
     pub dimensions : conclusion.dimensions ≡ found.question.dimensions
     pub rows_are : found.rows ≡ rows
 
-  not_cut_short : (p : Problem) (left : Option Found) (budget : ℕ) → HasEnding (cut_short p left budget) (Design rows count) → ⊥
+  not_cut_short : (p : Problem) (left : Option Found) (budget : ℕ)
+      → HasEnding (cut_short p left budget) (Design rows count) → ⊥
   not_cut_short p None budget e = cc e
   not_cut_short p (Some found) budget e = cc e
 
-  by_found : (p : Problem) (ps : List Problem) (n : ℕ) (found : Option Found) → last_found None ps ≡ found → HasEnding (concluded p found n) (Design rows count)
+  by_found : (p : Problem) (ps : List Problem) (n : ℕ) (found : Option Found) → last_found None ps ≡ found
+      → HasEnding (concluded p found n) (Design rows count)
       → IsLastFound ps (concluded p found n)
   by_found p ps n None is e = absurd (cc e)
   by_found p ps n (Some found) is e = record { found = found; last = is; dimensions = refl; rows_are = cc e }
 
-  by_turn : (p : Problem) (ps : List Problem) (budget : ℕ) (turn : Option Turn) → HasEnding (conclusion_by p ps budget turn) (Design rows count)
+  by_turn : (p : Problem) (ps : List Problem) (budget : ℕ) (turn : Option Turn)
+      → HasEnding (conclusion_by p ps budget turn) (Design rows count)
       → IsLastFound ps (conclusion_by p ps budget turn)
   by_turn p ps budget None e = by_found p ps (nodes_of ps) (last_found None ps) refl e
   by_turn p ps budget (Some turn) e = absurd (not_cut_short turn.question (left_at budget turn) budget e)
@@ -187,26 +210,32 @@ module _ (rows : List ℕ) (count : ℕ) where
       → IsLastFound (asked questions) (conclusion_of questions budget)
   unfolding conclusion_of
   design-found questions budget e =
-      by_turn (last_of questions.first (asked questions)) (asked questions) budget (find (passes budget) (turns [] (asked questions))) e
+      by_turn (last_of questions.first (asked questions)) (asked questions) budget
+      (find (passes budget) (turns [] (asked questions))) e
 
-not_cut : (count : ℕ) (p : Problem) (left : Option Found) (budget : ℕ) → HasEnding (cut_short p left budget) (NoDesign count) → ⊥
+not_cut : (count : ℕ) (p : Problem) (left : Option Found) (budget : ℕ)
+    → HasEnding (cut_short p left budget) (NoDesign count) → ⊥
 not_cut count p None budget e = cc e
 not_cut count p (Some found) budget e = cc e
 
-none_by_found : (count : ℕ) (p : Problem) (n : ℕ) (found : Option Found) → HasEnding (concluded p found n) (NoDesign count) → found ≡ None
+none_by_found : (count : ℕ) (p : Problem) (n : ℕ) (found : Option Found)
+    → HasEnding (concluded p found n) (NoDesign count) → found ≡ None
 none_by_found count p n None e = refl
 none_by_found count p n (Some found) e = absurd (cc e)
 
-none_by_turn : (count : ℕ) (p : Problem) (ps : List Problem) (budget : ℕ) (turn : Option Turn) → HasEnding (conclusion_by p ps budget turn) (NoDesign count)
+none_by_turn : (count : ℕ) (p : Problem) (ps : List Problem) (budget : ℕ) (turn : Option Turn)
+    → HasEnding (conclusion_by p ps budget turn) (NoDesign count)
     → last_found None ps ≡ None
 none_by_turn count p ps budget None e = none_by_found count p (nodes_of ps) (last_found None ps) e
 none_by_turn count p ps budget (Some turn) e = absurd (not_cut count turn.question (left_at budget turn) budget e)
 
-none-found : (count : ℕ) (questions : Questions) (budget : ℕ) → HasEnding (conclusion_of questions budget) (NoDesign count)
+none-found : (count : ℕ) (questions : Questions) (budget : ℕ)
+    → HasEnding (conclusion_of questions budget) (NoDesign count)
     → last_found None (asked questions) ≡ None
 unfolding conclusion_of
 none-found count questions budget e =
-    none_by_turn count (last_of questions.first (asked questions)) (asked questions) budget (find (passes budget) (turns [] (asked questions))) e
+    none_by_turn count (last_of questions.first (asked questions)) (asked questions) budget
+    (find (passes budget) (turns [] (asked questions))) e
 
 -- The outcome of a series of questions
 
@@ -219,7 +248,8 @@ module _ (question : ℕ → Problem) (low high : ℕ) (ends : Until) (budget : 
     pub dimensions : outcome.dimensions ≡ (question n).dimensions
     pub answer_is : answer (question n) ≡ Some rows
 
-  answer_of : (rows : List ℕ) (count n : ℕ) (last : IsLastFound rows count (asked (series question low high ends)) outcome)
+  answer_of : (rows : List ℕ) (count n : ℕ)
+      (last : IsLastFound rows count (asked (series question low high ends)) outcome)
       → IsFoundAt question last.found n → IsAnswerOf rows n
   answer_of rows count n last at = record {
     dimensions = last.dimensions ∙ ap (λ (p : Problem). p.dimensions) at.question_is;
@@ -235,7 +265,8 @@ module _ (question : ℕ → Problem) (low high budget : ℕ) where
     pub answers : IsAnswerOf question low high Answered budget rows n
     pub none_before : (k : ℕ) → low ≤ k → k < n → answer (question k) ≡ None
 
-  pub of-first : (rows : List ℕ) (count : ℕ) → HasEnding (conclusion_of (series question low high Answered) budget) (Design rows count) → IsOfFirst rows
+  pub of-first : (rows : List ℕ) (count : ℕ)
+      → HasEnding (conclusion_of (series question low high Answered) budget) (Design rows count) → IsOfFirst rows
   of-first rows count e =
       let last = design-found rows count (series question low high Answered) budget e in
       let first = first-answered question last.found low (suc (high - low)) last.last in
@@ -255,7 +286,8 @@ module _ (question : ℕ → Problem) (low high budget : ℕ) where
     pub answers : IsAnswerOf question low high Unanswered budget rows n
     pub none_next : (high ≤ n) ⊎ (answer (question (n + 1)) ≡ None)
 
-  pub of-last : (rows : List ℕ) (count : ℕ) → HasEnding (conclusion_of (series question low high Unanswered) budget) (Design rows count) → IsOfLast rows
+  pub of-last : (rows : List ℕ) (count : ℕ)
+      → HasEnding (conclusion_of (series question low high Unanswered) budget) (Design rows count) → IsOfLast rows
   of-last rows count e =
       let found = design-found rows count (series question low high Unanswered) budget e in
       let last = last-answered question found.found low (suc (high - low)) found.last in
@@ -274,10 +306,14 @@ module _ (question : ℕ → Problem) (low high budget : ℕ) where
   pub none-of_all : (count : ℕ) → HasEnding (conclusion_of (series question low high Answered) budget) (NoDesign count)
       → (k : ℕ) → low ≤ k → k ≤ high → answer (question k) ≡ None
   none-of_all count e k from to =
-      none-answered question low (suc (high - low)) (none-found count (series question low high Answered) budget e) k from (omega (arith, from, to))
+      none-answered question low (suc (high - low)) (none-found count (series question low high Answered) budget e) k
+      from (omega (arith, from, to))
 
-  pub none-of_first : (count : ℕ) → HasEnding (conclusion_of (series question low high Unanswered) budget) (NoDesign count) → answer (question low) ≡ None
-  none-of_first count e = none-first question low (high - low) (none-found count (series question low high Unanswered) budget e)
+  pub none-of_first : (count : ℕ)
+      → HasEnding (conclusion_of (series question low high Unanswered) budget) (NoDesign count)
+      → answer (question low) ≡ None
+  none-of_first count e =
+      none-first question low (high - low) (none-found count (series question low high Unanswered) budget e)
 
 -- The outcome of any questions
 
@@ -291,9 +327,11 @@ pub record IsLastAnswer (ps : List Problem) (p : Problem) (rows : List ℕ) : Ty
 
 -- the last that was found is what was found before, and no question has an answer, or it is the answer of one of them
 abbrev pub LastOf : Option Found → List Problem → Found → Type 0
-LastOf earlier ps found = ((earlier ≡ Some found) × AllByRecursion (λ p. answer p ≡ None) ps) ⊎ IsLastAnswer ps found.question found.rows
+LastOf earlier ps found =
+    ((earlier ≡ Some found) × AllByRecursion (λ p. answer p ≡ None) ps) ⊎ IsLastAnswer ps found.question found.rows
 
-later_one : (p : Problem) (ps : List Problem) (found : Found) → IsLastAnswer ps found.question found.rows → IsLastAnswer (p ∷ ps) found.question found.rows
+later_one : (p : Problem) (ps : List Problem) (found : Found) → IsLastAnswer ps found.question found.rows
+    → IsLastAnswer (p ∷ ps) found.question found.rows
 later_one p ps found h = record {
   earlier = p ∷ h.earlier;
   later = h.later;
@@ -302,9 +340,11 @@ later_one p ps found h = record {
   none_later = h.none_later;
 }
 
-found_step : (earlier : Option Found) (p : Problem) (ps : List Problem) (found : Found) (own : Option (List ℕ)) → answer p ≡ own
+found_step : (earlier : Option Found) (p : Problem) (ps : List Problem) (found : Found) (own : Option (List ℕ))
+    → answer p ≡ own
     → LastOf (found_by earlier p own) ps found → LastOf earlier (p ∷ ps) found
-found_step earlier p ps found None is h = elim h [ inl none ↦ inl (none.0, (is, none.1)) | inr last ↦ inr (later_one p ps found last) ]
+found_step earlier p ps found None is h =
+    elim h [ inl none ↦ inl (none.0, (is, none.1)) | inr last ↦ inr (later_one p ps found last) ]
 found_step earlier p ps found (Some rows) is h = elim h [
   | inl none ↦
       let same : record { question = p; rows = rows } ≡ found = same_some _ _ none.0 in
@@ -318,9 +358,11 @@ found_step earlier p ps found (Some rows) is h = elim h [
   | inr last ↦ inr (later_one p ps found last)
 ]
 
-last_of_all : (earlier : Option Found) (ps : List Problem) (found : Found) → last_found earlier ps ≡ Some found → LastOf earlier ps found
+last_of_all : (earlier : Option Found) (ps : List Problem) (found : Found) → last_found earlier ps ≡ Some found
+    → LastOf earlier ps found
 last_of_all earlier [] found e = inl (e, tt)
-last_of_all earlier (p ∷ ps) found e = found_step earlier p ps found (answer p) refl (last_of_all (found_by earlier p (answer p)) ps found e)
+last_of_all earlier (p ∷ ps) found e =
+    found_step earlier p ps found (answer p) refl (last_of_all (found_by earlier p (answer p)) ps found e)
 
 -- a design is the last answer, and the dimensions are those of its question
 pub record IsDesignOf (questions : Questions) (conclusion : Conclusion) (rows : List ℕ) : Type 0 where
@@ -328,7 +370,8 @@ pub record IsDesignOf (questions : Questions) (conclusion : Conclusion) (rows : 
   pub dimensions : conclusion.dimensions ≡ question.dimensions
   pub last : IsLastAnswer (asked questions) question rows
 
-pub design-of : (questions : Questions) (budget : ℕ) (rows : List ℕ) (count : ℕ) → HasEnding (conclusion_of questions budget) (Design rows count)
+pub design-of : (questions : Questions) (budget : ℕ) (rows : List ℕ) (count : ℕ)
+    → HasEnding (conclusion_of questions budget) (Design rows count)
     → IsDesignOf questions (conclusion_of questions budget) rows
 design-of questions budget rows count e =
     let found = design-found rows count questions budget e in
@@ -343,7 +386,8 @@ design-of questions budget rows count e =
 
 -- without one there is no answer
 none_found_step : (p : Problem) (ps : List Problem) (own : Option (List ℕ)) → answer p ≡ own
-    → (last_found None ps ≡ None → AllByRecursion (λ p. answer p ≡ None) ps) → last_found (found_by None p own) ps ≡ None
+    → (last_found None ps ≡ None → AllByRecursion (λ p. answer p ≡ None) ps)
+    → last_found (found_by None p own) ps ≡ None
     → (answer p ≡ None) × AllByRecursion (λ p. answer p ≡ None) ps
 none_found_step p ps None is rest e = (is, rest e)
 none_found_step p ps (Some rows) is rest e = absurd (some_stays (record { question = p; rows = rows }) ps e)
@@ -355,7 +399,8 @@ no_answers (p ∷ ps) e = none_found_step p ps (answer p) refl (no_answers ps) e
 pub none-of : (questions : Questions) (budget count : ℕ) → HasEnding (conclusion_of questions budget) (NoDesign count)
     → All (λ p. answer p ≡ None) (asked questions)
 none-of questions budget count e =
-    All-from_recursion (λ p. answer p ≡ None) (asked questions) (no_answers (asked questions) (none-found count questions budget e))
+    All-from_recursion (λ p. answer p ≡ None) (asked questions)
+    (no_answers (asked questions) (none-found count questions budget e))
 
 -- The nodes
 
@@ -367,11 +412,13 @@ nodes_more ps p = sum_by_push (λ p. length (nodes p)) ps p
 
 module _ (budget : ℕ) where
   -- the nodes within the budget are passed by no question
-  all_within : (earlier ps : List Problem) → nodes_of earlier + nodes_of ps ≤ budget → find (passes budget) (turns earlier ps) ≡ None
+  all_within : (earlier ps : List Problem) → nodes_of earlier + nodes_of ps ≤ budget
+      → find (passes budget) (turns earlier ps) ≡ None
   all_within earlier [] few = refl
   all_within earlier (p ∷ ps) few =
       let here : nodes_of earlier + length (nodes p) ≤ budget = omega (arith, few, nodes_and p ps) in
-      let rest : nodes_of (earlier ++ p ∷ []) + nodes_of ps ≤ budget = omega (arith, few, nodes_and p ps, nodes_more earlier p) in
+      let rest : nodes_of (earlier ++ p ∷ []) + nodes_of ps ≤ budget =
+      omega (arith, few, nodes_and p ps, nodes_more earlier p) in
       cond-false _ _ _ (le-ltb budget _ here) ∙ all_within (earlier ++ p ∷ []) ps rest
 
   -- and more are passed by some
@@ -381,15 +428,20 @@ module _ (budget : ℕ) where
   some_passes earlier (p ∷ ps) few more = elim (cases_lt budget (nodes_of earlier + length (nodes p))) [
     | inl here ↦ (record { earlier = earlier; question = p }, cond-true _ _ _ (lt-ltb budget _ here))
     | inr within ↦
-        let rest = some_passes (earlier ++ p ∷ []) ps (omega (arith, within, nodes_more earlier p)) (omega (arith, more, nodes_and p ps, nodes_more earlier p)) in
+        let rest =
+        some_passes (earlier ++ p ∷ []) ps (omega (arith, within, nodes_more earlier p))
+        (omega (arith, more, nodes_and p ps, nodes_more earlier p)) in
         (rest.0, cond-false _ _ _ (le-ltb budget _ within) ∙ rest.1)
   ]
 
 -- what is concluded where the budget is not passed
 abbrev pub finished_by : Questions → Conclusion
-finished_by questions = concluded (last_of questions.first (asked questions)) (last_found None (asked questions)) (nodes_of (asked questions))
+finished_by questions =
+    concluded (last_of questions.first (asked questions)) (last_found None (asked questions))
+    (nodes_of (asked questions))
 
-pub within : (questions : Questions) (budget : ℕ) → nodes_of (asked questions) ≤ budget → conclusion_of questions budget ≡ finished_by questions
+pub within : (questions : Questions) (budget : ℕ) → nodes_of (asked questions) ≤ budget
+    → conclusion_of questions budget ≡ finished_by questions
 unfolding conclusion_of
 within questions budget few =
     ap (conclusion_by (last_of questions.first (asked questions)) (asked questions) budget)
@@ -423,61 +475,75 @@ module _ (P : Problem → Type 0) where
   kept_up_to ends [] h = h
   kept_up_to ends (p ∷ ps) h = elim (cases_Bool (ends p)) [
     | inl last ↦ (h.0, subst (AllByRecursion P) (sym (cond-true (ends p) [] (up_to ends ps) last)) tt)
-    | inr more ↦ (h.0, subst (AllByRecursion P) (sym (cond-false (ends p) [] (up_to ends ps) more)) (kept_up_to ends ps h.1))
+    | inr more ↦
+        (h.0, subst (AllByRecursion P) (sym (cond-false (ends p) [] (up_to ends ps) more)) (kept_up_to ends ps h.1))
   ]
 
   kept_last : (p : Problem) (ps : List Problem) → P p → AllByRecursion P ps → P (last_of p ps)
   kept_last p [] one all = one
   kept_last p (next ∷ others) one all = kept_last next others all.0 all.1
 
-  kept_by_answer : (earlier : Option Found) (p : Problem) (own : Option (List ℕ)) → IfFound earlier → P p → IfFound (found_by earlier p own)
+  kept_by_answer : (earlier : Option Found) (p : Problem) (own : Option (List ℕ)) → IfFound earlier → P p
+      → IfFound (found_by earlier p own)
   kept_by_answer earlier p None before one = before
   kept_by_answer earlier p (Some rows) before one = one
 
-  kept_found : (earlier : Option Found) (ps : List Problem) → IfFound earlier → AllByRecursion P ps → IfFound (last_found earlier ps)
+  kept_found : (earlier : Option Found) (ps : List Problem) → IfFound earlier → AllByRecursion P ps
+      → IfFound (last_found earlier ps)
   kept_found earlier [] before all = before
-  kept_found earlier (p ∷ ps) before all = kept_found (found_by earlier p (answer p)) ps (kept_by_answer earlier p (answer p) before all.0) all.1
+  kept_found earlier (p ∷ ps) before all =
+      kept_found (found_by earlier p (answer p)) ps (kept_by_answer earlier p (answer p) before all.0) all.1
 
-  kept_turn : (test : Turn → Bool) (earlier ps : List Problem) (turn : Turn) → AllByRecursion P earlier → AllByRecursion P ps
+  kept_turn : (test : Turn → Bool) (earlier ps : List Problem) (turn : Turn) → AllByRecursion P earlier
+      → AllByRecursion P ps
       → find test (turns earlier ps) ≡ Some turn → InTurn turn
   kept_turn test earlier [] turn before all e = absurd (cc e)
   kept_turn test earlier (p ∷ ps) turn before all e =
       let own : Turn = record { earlier = earlier; question = p } in
       elim (cases_Bool (test own)) [
         | inl here ↦ subst InTurn (same_some own turn (sym (cond-true (test own) _ _ here) ∙ e)) (before, all.0)
-        | inr later ↦ kept_turn test (earlier ++ p ∷ []) ps turn (each-and earlier p before all.0) all.1 (sym (cond-false (test own) _ _ later) ∙ e)
+        | inr later ↦
+            kept_turn test (earlier ++ p ∷ []) ps turn (each-and earlier p before all.0) all.1
+            (sym (cond-false (test own) _ _ later) ∙ e)
       ]
     where
       each-and : (xs : List Problem) (p : Problem) → AllByRecursion P xs → P p → AllByRecursion P (xs ++ p ∷ [])
       each-and [] p h one = (one, tt)
       each-and (x ∷ xs) p h one = (h.0, each-and xs p h.1 one)
 
-  in_concluded : (p : Problem) (found : Option Found) (count : ℕ) → P p → IfFound found → OneWith (concluded p found count).dimensions
+  in_concluded : (p : Problem) (found : Option Found) (count : ℕ) → P p → IfFound found
+      → OneWith (concluded p found count).dimensions
   in_concluded p None count one before = (p, one, refl)
   in_concluded p (Some found) count one before = (found.question, before, refl)
 
-  in_cut_short : (p : Problem) (left : Option Found) (budget : ℕ) → P p → IfFound left → OneWith (cut_short p left budget).dimensions
+  in_cut_short : (p : Problem) (left : Option Found) (budget : ℕ) → P p → IfFound left
+      → OneWith (cut_short p left budget).dimensions
   in_cut_short p None budget one before = (p, one, refl)
   in_cut_short p (Some found) budget one before = (found.question, before, refl)
 
   in_conclusion : (p : Problem) (ps : List Problem) (budget : ℕ) (turn : Option Turn) → P p → AllByRecursion P ps
       → ((own : Turn) → turn ≡ Some own → InTurn own) → OneWith (conclusion_by p ps budget turn).dimensions
-  in_conclusion p ps budget None one all each = in_concluded p (last_found None ps) (nodes_of ps) one (kept_found None ps tt all)
+  in_conclusion p ps budget None one all each =
+      in_concluded p (last_found None ps) (nodes_of ps) one (kept_found None ps tt all)
   in_conclusion p ps budget (Some turn) one all each =
       let here = each turn refl in
       in_cut_short turn.question (left_at budget turn) budget here.1
       (kept_by_answer (last_found None turn.earlier) turn.question _ (kept_found None turn.earlier tt here.0) here.1)
 
-  pub each_asked : (questions : Questions) → P questions.first → AllByRecursion P questions.others → AllByRecursion P (asked questions)
-  each_asked questions one others = kept_up_to (is_last questions.until) (questions.first ∷ questions.others) (one, others)
+  pub each_asked : (questions : Questions) → P questions.first → AllByRecursion P questions.others
+      → AllByRecursion P (asked questions)
+  each_asked questions one others =
+      kept_up_to (is_last questions.until) (questions.first ∷ questions.others) (one, others)
 
   pub dimensions-of : (questions : Questions) (budget : ℕ) → P questions.first → AllByRecursion P questions.others
       → OneWith (conclusion_of questions budget).dimensions
   unfolding conclusion_of
   dimensions-of questions budget one others =
       let all = each_asked questions one others in
-      in_conclusion (last_of questions.first (asked questions)) (asked questions) budget (find (passes budget) (turns [] (asked questions)))
-      (kept_last questions.first (asked questions) one all) all (λ turn e. kept_turn (passes budget) [] (asked questions) turn tt all e)
+      in_conclusion (last_of questions.first (asked questions)) (asked questions) budget
+      (find (passes budget) (turns [] (asked questions)))
+      (kept_last questions.first (asked questions) one all) all
+      (λ turn e. kept_turn (passes budget) [] (asked questions) turn tt all e)
 
 -- those of a step's outcome are those of one of its questions, for a number from the first to the last
 pub record IsForSome (question : ℕ → Problem) (low high : ℕ) (p : Problem) : Type 0 where
@@ -490,10 +556,15 @@ each_for : (question : ℕ → Problem) (low high a n : ℕ) → low ≤ a → (
     → AllByRecursion (IsForSome question low high) (map question (range_with_len a n))
 each_for question low high a zero from upto = tt
 each_for question low high a (suc n) from upto =
-    let fits : a + suc n ≤ high + 1 = elim upto [ inl none ↦ absurd (omega (arith, none)) | inr fits ↦ fits ] in
-    (record { n = a; from = from; upto = inl (omega (arith, fits)); is = refl }, each_for question low high (a + 1) n (omega (arith, from)) (inr (omega (arith, fits))))
+    let fits : a + suc n ≤ high + 1 = elim upto [ inl none ↦ absurd (omega (arith, none)) | inr fits ↦ fits ] in (
+      record { n = a; from = from; upto = inl (omega (arith, fits)); is = refl },
+      each_for question low high (a + 1) n
+          (omega (arith, from)) (inr (omega (arith, fits))),
+    )
 
-pub step-question : (step : Meaning) → OneWith (IsForSome (question_for step) (lowest step step.settings.size) (highest step step.settings.size)) (outcome_of step).dimensions
+pub step-question : (step : Meaning)
+    → OneWith (IsForSome (question_for step) (lowest step step.settings.size) (highest step step.settings.size))
+    (outcome_of step).dimensions
 step-question step =
     let low = lowest step step.settings.size in
     let high = highest step step.settings.size in

@@ -1,5 +1,6 @@
 -- Where components are listed, a place asks for them.
-use Rattle.std.proofs.Common.{◌≡◌, ℕ, ◌≤◌, Bool, true, false, ◌||◌, List, [], ◌∷◌, Option, Some, None, Result, Ok, Err, refl, sym, ap, ap₂, ◌∙◌}
+use Rattle.std.proofs.Common.{◌≡◌, ℕ, ◌≤◌, Bool, true, false, ◌||◌, List, [], ◌∷◌, Option, Some, None, Result, Ok, Err}
+use Rattle.std.proofs.Common.{refl, sym, ap, ap₂, ◌∙◌}
 use Rattle.std.specs.Prelude.{nat_lt, min, if◌then◌else◌, ◌&&◌}
 use Rattle.std.proofs.lemmas.Bool.{ltb-false}
 use Rattle.fx_designs.specs.Components.{listed_count}
@@ -10,7 +11,8 @@ use Rattle.fx_text.specs.declared.refusal.Refusal.{Refusal}
 use Rattle.fx_text.specs.Phrases.{has}
 use Rattle.fx_text.specs.Refusals.{place_at, refused_at}
 use Rattle.fx_text.specs.Written.{Written, begins}
-use Rattle.fx_statements.specs.Components.{check_components, components_asked, components_place, first_components, listed_factors, place_or}
+use Rattle.fx_statements.specs.Components.{check_components, components_asked, components_place, first_components}
+use Rattle.fx_statements.specs.Components.{listed_factors, place_or}
 use Rattle.fx_statements.specs.Goals.{Goal}
 use Rattle.fx_statements.specs.Steps.{asks, examine_of}
 use Rattle.fx_statements.specs.Valid.{HasFewComponents}
@@ -23,16 +25,23 @@ no_word (w ∷ rest) e = by_word (is Aliasing w.symbol) (is Blocked w.symbol) re
     by_word : (a b : Bool) → is Aliasing w.symbol ≡ a → is Blocked w.symbol ≡ b
         → (first_components rest ≡ None → (has Aliasing rest ≡ false) × (has Blocked rest ≡ false))
         → (has Aliasing (w ∷ rest) ≡ false) × (has Blocked (w ∷ rest) ≡ false)
-    by_word true b ha hb later = absurd (let found : Some (place_at w) ≡ None = sym (ap (λ x. if x || is Blocked w.symbol then Some (place_at w) else first_components rest) ha) ∙ e in cc)
-    by_word false true ha hb later = absurd (let found : Some (place_at w) ≡ None = sym (ap₂ (λ x y. if x || y then Some (place_at w) else first_components rest) ha hb) ∙ e in cc)
+    by_word true b ha hb later =
+        absurd (let found : Some (place_at w)
+        ≡ None = sym (ap (λ x. if x || is Blocked w.symbol then Some (place_at w) else first_components rest) ha) ∙ e
+        in cc)
+    by_word false true ha hb later =
+        absurd (let found : Some (place_at w)
+        ≡ None = sym (ap₂ (λ x y. if x || y then Some (place_at w) else first_components rest) ha hb) ∙ e in cc)
     by_word false false ha hb later =
         let none = later (sym (ap₂ (λ x y. if x || y then Some (place_at w) else first_components rest) ha hb) ∙ e) in
         (ap₂ (λ x y. x || y) ha none.0, ap₂ (λ x y. x || y) hb none.1)
 
-none_asked : (s : List Written) → components_asked s ≡ None → ((begins Examine s && has Aliasing s) ≡ false) × ((begins Examine s && has Blocked s) ≡ false)
+none_asked : (s : List Written) → components_asked s ≡ None
+    → ((begins Examine s && has Aliasing s) ≡ false) × ((begins Examine s && has Blocked s) ≡ false)
 none_asked s e = by_start (begins Examine s) e
   where
-    by_start : (b : Bool) → (if b then first_components s else None) ≡ None → ((b && has Aliasing s) ≡ false) × ((b && has Blocked s) ≡ false)
+    by_start : (b : Bool) → (if b then first_components s else None) ≡ None
+        → ((b && has Aliasing s) ≡ false) × ((b && has Blocked s) ≡ false)
     by_start true e = no_word s e
     by_start false e = (refl, refl)
 
@@ -40,7 +49,8 @@ neither : (found : Option Place) (rest : Option Place) → place_or found rest �
 neither None rest e = (refl, e)
 neither (Some place) rest e = absurd (cc e)
 
-none_listed : (statements : List (List Written)) → components_place statements ≡ None → (asks Aliasing statements ≡ false) × (asks Blocked statements ≡ false)
+none_listed : (statements : List (List Written)) → components_place statements ≡ None
+    → (asks Aliasing statements ≡ false) × (asks Blocked statements ≡ false)
 none_listed [] e = (refl, refl)
 none_listed (s ∷ statements) e =
     let parts = neither (components_asked s) (components_place statements) e in
@@ -48,17 +58,20 @@ none_listed (s ∷ statements) e =
     let later = none_listed statements parts.1 in
     (ap₂ (λ x y. x || y) here.0 later.0, ap₂ (λ x y. x || y) here.1 later.1)
 
-pub few_components : (q s : ℕ) (goal : Goal) (statements : List (List Written)) → check_components q s goal (components_place statements) ≡ Ok tt
+pub few_components : (q s : ℕ) (goal : Goal) (statements : List (List Written))
+    → check_components q s goal (components_place statements) ≡ Ok tt
     → HasFewComponents q s goal (examine_of statements)
 few_components q s goal statements e asked = by_place (components_place statements) refl e
   where
-    by_place : (place : Option Place) → components_place statements ≡ place → check_components q s goal place ≡ Ok tt → listed_count q s (min s (listed_factors goal)) ≤ 100000
+    by_place : (place : Option Place) → components_place statements ≡ place → check_components q s goal place ≡ Ok tt
+        → listed_count q s (min s (listed_factors goal)) ≤ 100000
     by_place None none e =
         let nothing = none_listed statements none in
         absurd (let f : false ≡ true = sym (ap₂ (λ x y. x || y) nothing.0 nothing.1) ∙ asked in cc)
     by_place (Some place) found e = by_count (nat_lt 100000 (listed_count q s (min s (listed_factors goal)))) refl e
       where
-        by_count : (b : Bool) → nat_lt 100000 (listed_count q s (min s (listed_factors goal))) ≡ b → ◌≡◌ {A = Result (Unit {0}) Refusal} (if b then Err (refused_at 23 place) else Ok tt) (Ok tt)
+        by_count : (b : Bool) → nat_lt 100000 (listed_count q s (min s (listed_factors goal))) ≡ b
+            → ◌≡◌ {A = Result (Unit {0}) Refusal} (if b then Err (refused_at 23 place) else Ok tt) (Ok tt)
             → listed_count q s (min s (listed_factors goal)) ≤ 100000
         by_count true many e = absurd (cc e)
         by_count false few e = ltb-false 100000 (listed_count q s (min s (listed_factors goal))) few

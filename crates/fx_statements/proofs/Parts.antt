@@ -1,5 +1,6 @@
 -- What holds of the statements of an accepted text, and of its names.
-use Rattle.std.proofs.Common.{◌≡◌, ℕ, zero, suc, Bool, true, false, List, [], ◌∷◌, ◌++◌, take, drop, Option, Some, None, Result, Ok, refl, sym, ap, subst, ◌∙◌, append_assoc}
+use Rattle.std.proofs.Common.{◌≡◌, ℕ, zero, suc, Bool, true, false, List, [], ◌∷◌, ◌++◌, take, drop, Option, Some, None}
+use Rattle.std.proofs.Common.{Result, Ok, refl, sym, ap, subst, ◌∙◌, append_assoc}
 use Rattle.std.specs.Prelude.{All, if◌then◌else◌, nat_lt}
 use Rattle.std.proofs.lemmas.List.{append-nil}
 use Rattle.std.specs.List.{AllByRecursion}
@@ -23,18 +24,21 @@ use Rattle.fx_statements.specs.declared.step.Step.{Step}
 use Rattle.fx_statements.specs.Programs.{out_names}
 use Rattle.fx_statements.specs.Steps.{factors_by, some_factors}
 
-pub each_taken : {A : Type 0} (P : A → Type 0) (n : ℕ) (xs : List A) → AllByRecursion P xs → AllByRecursion P (take n xs)
+pub each_taken : {A : Type 0} (P : A → Type 0) (n : ℕ) (xs : List A) → AllByRecursion P xs
+    → AllByRecursion P (take n xs)
 each_taken P zero xs h = tt
 each_taken P (suc n) [] h = tt
 each_taken P (suc n) (x ∷ xs) h = (h.0, each_taken P n xs h.1)
 
-pub each_dropped : {A : Type 0} (P : A → Type 0) (n : ℕ) (xs : List A) → AllByRecursion P xs → AllByRecursion P (drop n xs)
+pub each_dropped : {A : Type 0} (P : A → Type 0) (n : ℕ) (xs : List A) → AllByRecursion P xs
+    → AllByRecursion P (drop n xs)
 each_dropped P zero xs h = h
 each_dropped P (suc n) [] h = tt
 each_dropped P (suc n) (x ∷ xs) h = each_dropped P n xs h.1
 
 -- of the statement that begins with a word too
-pub found : (P : List Written → Type 0) (word : Symbol) (statements : List (List Written)) (s : List Written) → AllByRecursion P statements
+pub found : (P : List Written → Type 0) (word : Symbol) (statements : List (List Written)) (s : List Written)
+    → AllByRecursion P statements
     → statement_of word statements ≡ Some s → P s × (begins word s ≡ true)
 found P word [] s h e = absurd (cc e)
 found P word (x ∷ statements) s h e = by_start (begins word x) refl e (λ later. found P word statements s h.1 later)
@@ -58,18 +62,22 @@ pub none_refused : (symbols : List Symbol) → first_refusal symbols ≡ None �
 none_refused symbols e = no_earlier (refused 0 program symbols) (repeated [] 0 symbols) e
 
 -- the factors that are accepted have names
-pub named_factors : (proc : Place) (most : ℕ) (named : List Written) (factors : List (List ℕ)) → IsStatement grammar.factors named → HasNames named
+pub named_factors : (proc : Place) (most : ℕ) (named : List Written) (factors : List (List ℕ))
+    → IsStatement grammar.factors named → HasNames named
     → factors_by proc most named ≡ Ok factors → All IsName factors
 named_factors proc most named factors by_grammar names e =
     let read = bind_ok (factors_of most named) (some_factors proc) factors e in
     factor_names most named factors by_grammar names (read.1 ∙ some read.0 read.2)
   where
-    some : (all : List (List ℕ)) → some_factors proc all ≡ Ok factors → ◌≡◌ {A = Result (List (List ℕ)) Refusal} (Ok all) (Ok factors)
+    some : (all : List (List ℕ)) → some_factors proc all ≡ Ok factors
+        → ◌≡◌ {A = Result (List (List ℕ)) Refusal} (Ok all) (Ok factors)
     some [] e = absurd (cc e)
     some (x ∷ all) e = e
 
 -- the OUT names of steps, with those of one more
-pub names_of_more : (steps : List Step) (step : Step) → out_names (steps ++ step ∷ []) ≡ out_names steps ++ names_of step.outputs
+pub names_of_more : (steps : List Step) (step : Step)
+    → out_names (steps ++ step ∷ []) ≡ out_names steps ++ names_of step.outputs
 names_of_more [] step = append-nil (names_of step.outputs)
 names_of_more (x ∷ steps) step =
-    ap (λ (l : List (List ℕ)). names_of x.outputs ++ l) (names_of_more steps step) ∙ sym (append_assoc (names_of x.outputs) (out_names steps) (names_of step.outputs))
+    ap (λ (l : List (List ℕ)). names_of x.outputs ++ l) (names_of_more steps step) ∙ sym
+    (append_assoc (names_of x.outputs) (out_names steps) (names_of step.outputs))

@@ -1,5 +1,6 @@
 -- A text that is no program is refused by a rule, at a place of the text.
-use Rattle.std.proofs.Common.{◌≡◌, ℕ, zero, suc, Bool, true, false, List, [], ◌∷◌, ◌++◌, length, Option, Some, None, refl, sym, append-nil}
+use Rattle.std.proofs.Common.{◌≡◌, ℕ, zero, suc, Bool, true, false, List, [], ◌∷◌, ◌++◌, length, Option, Some, None}
+use Rattle.std.proofs.Common.{refl, sym, append-nil}
 use Rattle.std.specs.Prelude.{IfSome, nat_lt, min, slice_get, if◌then◌else◌}
 use Rattle.std.specs.List.{AllByRecursion}
 use Rattle.fx_designs.specs.Components.{listed_count}
@@ -25,8 +26,10 @@ use Rattle.fx_settings.specs.Factors.{factors_of}
 use Rattle.fx_outputs.specs.Outputs.{names_of, outputs_of}
 use Rattle.fx_statements.specs.Contexts.{context}
 use Rattle.fx_statements.specs.Goals.{Goal, effects_in, effects_wanted, goal_by}
-use Rattle.fx_statements.specs.Components.{listed_factors, is_for_components, first_components, components_asked, place_or, components_place, check_components}
-use Rattle.fx_statements.specs.Steps.{Meaning, factor_limit, some_factors, factors_by, head_of, asked_by, step_by, step_of}
+use Rattle.fx_statements.specs.Components.{listed_factors, is_for_components, first_components, components_asked}
+use Rattle.fx_statements.specs.Components.{place_or, components_place, check_components}
+use Rattle.fx_statements.specs.Steps.{Meaning, factor_limit, some_factors, factors_by, head_of, asked_by, step_by}
+use Rattle.fx_statements.specs.Steps.{step_of}
 use Rattle.fx_statements.specs.Programs.{steps_behind, place_in, accepted, program_of}
 use Rattle.fx_text.proofs.Placed as placed
 use Rattle.fx_text.proofs.Placed.{IsPlaced, ArePlaced, AreAllPlaced, Placed}
@@ -40,10 +43,12 @@ module _ (P : ℕ → ℕ → Type 0) (front : P 1 1) where
   wanted : (q : ℕ) (names : List (List ℕ)) (s : List Written) → ArePlaced P s → Placed P (effects_in q names s)
   wanted q names s h = placed.chain P (lists_of q names s) _ (effects.lists P q names s front h) (λ lists. tt)
 
-  goal : (q : ℕ) (names : List (List ℕ)) (statements : List (List Written)) (c : Criterion) → AreAllPlaced P statements → Placed P (goal_by q names statements c)
+  goal : (q : ℕ) (names : List (List ℕ)) (statements : List (List Written)) (c : Criterion) → AreAllPlaced P statements
+      → Placed P (goal_by q names statements c)
   goal q names statements (criterion.Resolution r) h = tt
   goal q names statements criterion.Highest h = tt
-  goal q names statements criterion.Effects h = of_model (statement_of symbol.Model statements) (placed.statement P symbol.Model statements h)
+  goal q names statements criterion.Effects h =
+      of_model (statement_of symbol.Model statements) (placed.statement P symbol.Model statements h)
     where
       of_model : (s : Option (List Written)) → IfSome s (ArePlaced P) → Placed P (effects_wanted q names s)
       of_model None h = wanted q names [] tt
@@ -53,7 +58,8 @@ module _ (P : ℕ → ℕ → Type 0) (front : P 1 1) where
   first_place [] h = tt
   first_place (w ∷ rest) h = by_test (is_for_components w) (first_place rest h.1)
     where
-      by_test : (b : Bool) → IfSome (first_components rest) (IsPlace P) → IfSome (if b then Some (place_at w) else first_components rest) (IsPlace P)
+      by_test : (b : Bool) → IfSome (first_components rest) (IsPlace P)
+          → IfSome (if b then Some (place_at w) else first_components rest) (IsPlace P)
       by_test true later = h.0
       by_test false later = later
 
@@ -68,21 +74,28 @@ module _ (P : ℕ → ℕ → Type 0) (front : P 1 1) where
       by_test true = first_place s h
       by_test false = tt
 
-  listing_place : (statements : List (List Written)) → AreAllPlaced P statements → IfSome (components_place statements) (IsPlace P)
+  listing_place : (statements : List (List Written)) → AreAllPlaced P statements
+      → IfSome (components_place statements) (IsPlace P)
   listing_place [] h = tt
-  listing_place (s ∷ rest) h = either_place (components_asked s) (components_place rest) (asked_place s h.0) (listing_place rest h.1)
+  listing_place (s ∷ rest) h =
+      either_place (components_asked s) (components_place rest) (asked_place s h.0) (listing_place rest h.1)
 
-  few_components : (q s : ℕ) (g : Goal) (place : Option Place) → IfSome place (IsPlace P) → Placed P (check_components q s g place)
+  few_components : (q s : ℕ) (g : Goal) (place : Option Place) → IfSome place (IsPlace P)
+      → Placed P (check_components q s g place)
   few_components q s g None h = tt
-  few_components q s g (Some place) h = placed.both P (nat_lt 100000 (listed_count q s (min s (listed_factors g)))) _ _ (placed.here P 23 place refl h) tt
+  few_components q s g (Some place) h =
+      placed.both P (nat_lt 100000 (listed_count q s (min s (listed_factors g)))) _ _ (placed.here P 23 place refl h) tt
 
-  asked : (names : List (List ℕ)) (said : StepSaid) (statements : List (List Written)) → IsSaidPlaced P said → AreAllPlaced P statements → Placed P (asked_by names said statements)
+  asked : (names : List (List ℕ)) (said : StepSaid) (statements : List (List Written)) → IsSaidPlaced P said
+      → AreAllPlaced P statements → Placed P (asked_by names said statements)
   asked names said statements k h =
       placed.chain P (unblocked_of (length names) said) _ (settings.unblocked P said k (length names)) (λ unblocked.
-      placed.chain P (goal_by unblocked.q names statements unblocked.criterion) _ (goal unblocked.q names statements unblocked.criterion h) (λ g.
+      placed.chain P (goal_by unblocked.q names statements unblocked.criterion) _
+      (goal unblocked.q names statements unblocked.criterion h) (λ g.
       placed.chain P (step_settings_of unblocked said) _ (settings.settings P said k unblocked) (λ x.
       placed.chain P (check_components unblocked.q (length names) g (components_place statements)) _
-      (few_components unblocked.q (length names) g (components_place statements) (listing_place statements h)) (λ listed. tt))))
+      (few_components unblocked.q (length names) g (components_place statements) (listing_place statements h))
+      (λ listed. tt))))
 
   head : (statements : List (List Written)) → AreAllPlaced P statements → ArePlaced P (head_of statements)
   head [] h = tt
@@ -92,8 +105,10 @@ module _ (P : ℕ → ℕ → Type 0) (front : P 1 1) where
   some proc [] h = placed.here P 7 proc refl h
   some proc (name ∷ names) h = tt
 
-  step : (earlier : List (List ℕ)) (statements : List (List Written)) → AreAllPlaced P statements → Placed P (step_of earlier statements)
-  step earlier statements h = of_factors (statement_of symbol.Factors statements) (placed.statement P symbol.Factors statements h)
+  step : (earlier : List (List ℕ)) (statements : List (List Written)) → AreAllPlaced P statements
+      → Placed P (step_of earlier statements)
+  step earlier statements h =
+      of_factors (statement_of symbol.Factors statements) (placed.statement P symbol.Factors statements h)
     where
       proc : ArePlaced P (head_of statements)
       proc = head statements h
@@ -101,40 +116,57 @@ module _ (P : ℕ → ℕ → Type 0) (front : P 1 1) where
       start : IsPlace P (start_of (head_of statements))
       start = placed.start P (head_of statements) front proc
 
-      of_factors : (named : Option (List Written)) → IfSome named (ArePlaced P) → Placed P (step_by earlier statements named)
+      of_factors : (named : Option (List Written)) → IfSome named (ArePlaced P)
+          → Placed P (step_by earlier statements named)
       of_factors None k = placed.here P 7 (start_of (head_of statements)) refl start
       of_factors (Some named) k =
           placed.chain P (factors_by (start_of (head_of statements)) (factor_limit statements) named) _
-          (placed.chain P (factors_of (factor_limit statements) named) _ (factors.factors P (factor_limit statements) named k) (λ names. some (start_of (head_of statements)) names start)) (λ names.
+          (placed.chain P (factors_of (factor_limit statements) named) _
+          (factors.factors P (factor_limit statements) named k)
+          (λ names. some (start_of (head_of statements)) names start)) (λ names.
           placed.chain P (asked_by names (step_said (head_of statements) named statements) statements) _
-          (asked names (step_said (head_of statements) named statements) statements (settings.said P (head_of statements) named statements front proc k h) h) (λ x.
-          placed.chain P (outputs_of (context names x.0) earlier statements) _ (outputs.outputs P (context names x.0) earlier statements h) (λ o. tt)))
+          (asked names (step_said (head_of statements) named statements) statements
+          (settings.said P (head_of statements) named statements front proc k h) h) (λ x.
+          placed.chain P (outputs_of (context names x.0) earlier statements) _
+          (outputs.outputs P (context names x.0) earlier statements h) (λ o. tt)))
 
-  steps : (earlier : List (List ℕ)) (done : List Meaning) (all : List (List (List Written))) → AllByRecursion (AreAllPlaced P) all → Placed P (steps_behind earlier done all)
+  steps : (earlier : List (List ℕ)) (done : List Meaning) (all : List (List (List Written)))
+      → AllByRecursion (AreAllPlaced P) all → Placed P (steps_behind earlier done all)
   steps earlier done [] h = tt
   steps earlier done (s ∷ rest) h =
-      placed.chain P (step_of earlier s) (λ (meaning : Meaning). steps_behind (earlier ++ names_of meaning.outputs) (done ++ meaning ∷ []) rest)
+      placed.chain P (step_of earlier s)
+      (λ (meaning : Meaning). steps_behind (earlier ++ names_of meaning.outputs) (done ++ meaning ∷ []) rest)
       (step earlier s h.0) (λ meaning. steps (earlier ++ names_of meaning.outputs) (done ++ meaning ∷ []) rest h.1)
 
-all_written : (text : List ℕ) (tokens : List Token) → AllByRecursion (λ (t : Token). IsPlaceIn text t.line t.column) tokens → ArePlaced (IsPlaceIn text) (written text tokens)
+all_written : (text : List ℕ) (tokens : List Token)
+    → AllByRecursion (λ (t : Token). IsPlaceIn text t.line t.column) tokens
+    → ArePlaced (IsPlaceIn text) (written text tokens)
 all_written text [] h = tt
 all_written text (t ∷ tokens) h = (h.0, all_written text tokens h.1)
 
-place_of_token : (text : List ℕ) (tokens : List Token) (i : ℕ) → AllByRecursion (λ (t : Token). IsPlaceIn text t.line t.column) tokens → IsPlace (IsPlaceIn text) (place_in text (slice_get tokens i))
-place_of_token text [] i h = record { before = text; after = []; joined = sym (append-nil text); line_is = refl; column_is = refl }
+place_of_token : (text : List ℕ) (tokens : List Token) (i : ℕ)
+    → AllByRecursion (λ (t : Token). IsPlaceIn text t.line t.column) tokens
+    → IsPlace (IsPlaceIn text) (place_in text (slice_get tokens i))
+place_of_token text [] i h =
+    record { before = text; after = []; joined = sym (append-nil text); line_is = refl; column_is = refl }
 place_of_token text (t ∷ tokens) zero h = h.0
 place_of_token text (t ∷ tokens) (suc i) h = place_of_token text tokens i h.1
 
 -- the law for a text with these tokens
-pub refused : (text : List ℕ) (tokens : List Token) → AllByRecursion (λ (t : Token). IsPlaceIn text t.line t.column) tokens → Placed (IsPlaceIn text) (program_of text tokens)
+pub refused : (text : List ℕ) (tokens : List Token)
+    → AllByRecursion (λ (t : Token). IsPlaceIn text t.line t.column) tokens
+    → Placed (IsPlaceIn text) (program_of text tokens)
 unfolding program_of
 refused text tokens h = of_first (first_refusal (symbols_of text tokens)) (first_by_a_rule (symbols_of text tokens))
   where
     front : IsPlaceIn text 1 1
     front = record { before = []; after = text; joined = refl; line_is = refl; column_is = refl }
 
-    of_first : (r : Option (ℕ × ℕ)) → IfSome r (λ x. is_rule x.0 ≡ true) → Placed (IsPlaceIn text) (accepted text tokens r)
-    of_first (Some r) rule = placed.here (IsPlaceIn text) r.0 (place_in text (slice_get tokens r.1)) rule (place_of_token text tokens r.1 h)
+    of_first : (r : Option (ℕ × ℕ)) → IfSome r (λ x. is_rule x.0 ≡ true)
+        → Placed (IsPlaceIn text) (accepted text tokens r)
+    of_first (Some r) rule =
+        placed.here (IsPlaceIn text) r.0 (place_in text (slice_get tokens r.1)) rule (place_of_token text tokens r.1 h)
     of_first None rule =
         steps (IsPlaceIn text) front [] [] (steps_of (statements_of (written text tokens)))
-        (placed.steps (IsPlaceIn text) (statements_of (written text tokens)) (placed.statements (IsPlaceIn text) (written text tokens) (all_written text tokens h)))
+        (placed.steps (IsPlaceIn text) (statements_of (written text tokens))
+        (placed.statements (IsPlaceIn text) (written text tokens) (all_written text tokens h)))

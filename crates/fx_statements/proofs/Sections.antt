@@ -27,7 +27,8 @@ passes : (word s : Symbol) → is_section word ≡ true → is word s ≡ true �
 passes word s h e = ap is_section (symbol_is word s e) ∙ h
 
 -- a word that `(` must not follow
-no_open_behind : (word : Symbol) (text : List Symbol) → is_section word ≡ true → Matches (Before (One (is word)) grammar.no_open) text → AreSections text
+no_open_behind : (word : Symbol) (text : List Symbol) → is_section word ≡ true
+    → Matches (Before (One (is word)) grammar.no_open) text → AreSections text
 no_open_behind word text h (x, y, (s, hs, es), n, e) = by_end n
   where
     whole : y ≡ [] → text ≡ s ∷ []
@@ -47,11 +48,13 @@ one text (inr (inr (inl m))) = alone symbol.Confounding text refl m
 one text (inr (inr (inr (inl m)))) = alone symbol.Design text refl m
 one text (inr (inr (inr (inr m)))) = no_open_behind symbol.Aberration text refl m
 
-all : (parts : List (List Symbol)) → AllByRecursion (Matches grammar.examine_word) parts → AreSections (flat_map (λ (part : List Symbol). part) parts)
+all : (parts : List (List Symbol)) → AllByRecursion (Matches grammar.examine_word) parts
+    → AreSections (flat_map (λ (part : List Symbol). part) parts)
 all [] h = tt
 all (p ∷ parts) h = both p (flat_map (λ (part : List Symbol). part) parts) (one p h.0) (all parts h.1)
 
-each_written : (s : List Written) → AreSections (symbols_in s) → AllByRecursion (λ (w : Written). is_section w.symbol ≡ true) s
+each_written : (s : List Written) → AreSections (symbols_in s)
+    → AllByRecursion (λ (w : Written). is_section w.symbol ≡ true) s
 each_written [] h = tt
 each_written (w ∷ s) h = (h.0, each_written s h.1)
 
@@ -65,7 +68,9 @@ other section s h e = elim (cases_Bool (is section s)) [
 ]
 
 pub sections_law : (s : List Written) → IsStatement grammar.examine s → AreSectionsRead s
-sections_law [] (x0, r0, (k, tk, ek), (x1, r1, (parts, each, ps), (z, tz, ez), e1), e0) = absurd (short r0 (x1 ++ z ∷ []) (e0 ∙ ap (λ (l : List Symbol). l ++ r0) ek) (e1 ∙ ap (λ (l : List Symbol). x1 ++ l) ez))
+sections_law [] (x0, r0, (k, tk, ek), (x1, r1, (parts, each, ps), (z, tz, ez), e1), e0) =
+    absurd (short r0 (x1 ++ z ∷ []) (e0 ∙ ap (λ (l : List Symbol). l ++ r0) ek)
+    (e1 ∙ ap (λ (l : List Symbol). x1 ++ l) ez))
   where
     some : (x : List Symbol) → [] ≡ x ++ z ∷ [] → ⊥
     some [] h = cc h
@@ -74,13 +79,15 @@ sections_law [] (x0, r0, (k, tk, ek), (x1, r1, (parts, each, ps), (z, tz, ez), e
     short : (r0 rest : List Symbol) → symbol.Semicolon ∷ [] ≡ k ∷ r0 → r0 ≡ x1 ++ z ∷ [] → ⊥
     short r0 rest h same = let none : [] ≡ r0 = cc h in some x1 (none ∙ same)
 sections_law (w ∷ s) (x0, r0, (k, tk, ek), (x1, r1, (parts, each, ps), (z, tz, ez), e1), e0) =
-    let whole : w.symbol ∷ (symbols_in s ++ symbol.Semicolon ∷ []) ≡ k ∷ (x1 ++ z ∷ []) = e0 ∙ ap₂ (λ (l n : List Symbol). l ++ n) ek (e1 ∙ ap (λ (l : List Symbol). x1 ++ l) ez) in
+    let whole : w.symbol ∷ (symbols_in s ++ symbol.Semicolon ∷ []) ≡ k ∷ (x1 ++ z ∷ []) =
+    e0 ∙ ap₂ (λ (l n : List Symbol). l ++ n) ek (e1 ∙ ap (λ (l : List Symbol). x1 ++ l) ez) in
     let first : w.symbol ≡ k = cc whole in
     let rest : symbols_in s ++ symbol.Semicolon ∷ [] ≡ x1 ++ ([] ++ z ∷ []) = cc whole in
     let c = cut s x1 [] z rest in
     let none : c.rest ≡ [] = nothing c.rest z c.rest_is in
     let front : s ≡ c.front = c.all ∙ ap (λ (l : List Written). c.front ++ l) none ∙ append-nil c.front in
-    let symbols : symbols_in s ≡ flat_map (λ (part : List Symbol). part) parts = ap symbols_in front ∙ c.front_is ∙ ps in
+    let symbols : symbols_in s ≡ flat_map (λ (part : List Symbol). part) parts =
+    ap symbols_in front ∙ c.front_is ∙ ps in
     let word : is symbol.Examine w.symbol ≡ true = ap (is symbol.Examine) first ∙ tk in
     record {
       first = w;

@@ -1,5 +1,6 @@
 -- The steps of a text, one after another.
-use Rattle.std.proofs.Common.{◌≡◌, ℕ, suc, ◌+◌, ◌-◌, ◌<◌, true, not, List, [], ◌∷◌, ◌++◌, length, take, drop, get_or, Some, Ok, refl, sym, ap, ap₂, ◌∙◌, arith}
+use Rattle.std.proofs.Common.{◌≡◌, ℕ, suc, ◌+◌, ◌-◌, ◌<◌, true, not, List, [], ◌∷◌, ◌++◌, length, take, drop, get_or}
+use Rattle.std.proofs.Common.{Some, Ok, refl, sym, ap, ap₂, ◌∙◌, arith}
 use Rattle.std.specs.Prelude.{if◌then◌else◌}
 use Rattle.std.specs.List.{prefix_len}
 use Rattle.std.proofs.Math.Seq.{drop-cons}
@@ -20,7 +21,8 @@ use Rattle.fx_statements.specs.declared.wanted.Wanted.{Wanted}
 use Rattle.fx_statements.specs.Contexts.{context}
 use Rattle.fx_statements.specs.Goals.{criterion_of, goal_of}
 use Rattle.fx_statements.specs.Valid.{settings_in}
-use Rattle.fx_statements.specs.Steps.{Meaning, asked_by, examine_of, factors_by, head_of, factor_limit, step_by, step_of}
+use Rattle.fx_statements.specs.Steps.{Meaning, asked_by, examine_of, factors_by, head_of, factor_limit, step_by}
+use Rattle.fx_statements.specs.Steps.{step_of}
 use Rattle.fx_statements.proofs.Bounds.{same_settings}
 use Rattle.fx_text.proofs.Stops.{stopped}
 use Rattle.fx_statements.specs.Programs.{steps_behind}
@@ -35,51 +37,83 @@ module _ (statements : List (List Written)) (i len : ℕ) (d : List Written) (h 
   from_here : drop i statements ≡ proc ∷ rest
   from_here = rw (add-one i) (drop-cons statements i d h)
 
-  slice : len ≡ prefix_len (λ s. not (ends_step s)) rest → take (i + (1 + len) - i) (drop i statements) ≡ proc ∷ rest_of_step rest
+  slice : len ≡ prefix_len (λ s. not (ends_step s)) rest
+      → take (i + (1 + len) - i) (drop i statements) ≡ proc ∷ rest_of_step rest
   slice e =
       let long : i + (1 + len) - i ≡ suc len = omega arith in
       ap₂ take long from_here ∙ ap (λ n. proc ∷ take n rest) e
 
   step_here : begins Proc proc ≡ true → steps_of (drop i statements) ≡ (proc ∷ rest_of_step rest) ∷ steps_of rest
-  step_here e = ap steps_of from_here ∙ ap (λ b. if b then (proc ∷ rest_of_step rest) ∷ steps_of rest else steps_of rest) e
+  step_here e =
+      ap steps_of from_here ∙ ap (λ b. if b then (proc ∷ rest_of_step rest) ∷ steps_of rest else steps_of rest) e
 
   pub one_step : (earlier : List (List ℕ)) (done : List Meaning) (meaning : Meaning) → begins Proc proc ≡ true
-      → len ≡ prefix_len (λ s. not (ends_step s)) rest → step_of earlier (take (i + (1 + len) - i) (drop i statements)) ≡ Ok meaning
-      → steps_behind earlier done (steps_of (drop i statements)) ≡ steps_behind (earlier ++ names_of meaning.outputs) (done ++ meaning ∷ []) (steps_of rest)
+      → len ≡ prefix_len (λ s. not (ends_step s)) rest
+      → step_of earlier (take (i + (1 + len) - i) (drop i statements)) ≡ Ok meaning
+      → steps_behind earlier done (steps_of (drop i statements))
+      ≡ steps_behind (earlier ++ names_of meaning.outputs) (done ++ meaning ∷ []) (steps_of rest)
   one_step earlier done meaning e long is =
       ap (steps_behind earlier done) (step_here e)
-      ∙ ap (λ r. r >>= (λ (m : Meaning). steps_behind (earlier ++ names_of m.outputs) (done ++ m ∷ []) (steps_of rest))) (ap (step_of earlier) (sym (slice long)) ∙ is)
+      ∙ ap (λ r. r >>= (λ (m : Meaning). steps_behind (earlier ++ names_of m.outputs) (done ++ m ∷ []) (steps_of rest)))
+      (ap (step_of earlier) (sym (slice long)) ∙ is)
 
   -- a step that is refused
-  pub step_refused : (earlier : List (List ℕ)) (done : List Meaning) → begins Proc proc ≡ true → len ≡ prefix_len (λ s. not (ends_step s)) rest
+  pub step_refused : (earlier : List (List ℕ)) (done : List Meaning) → begins Proc proc ≡ true
+      → len ≡ prefix_len (λ s. not (ends_step s)) rest
       → (reason : ParseStop) → IsRefused (step_of earlier (take (i + (1 + len) - i) (drop i statements))) reason
       → IsRefused (steps_behind earlier done (steps_of (drop i statements))) reason
   step_refused earlier done e long reason h =
       rw (step_here e) (stopped (step_of earlier (proc ∷ rest_of_step rest)) _ reason (rw (slice long) at h))
 
 -- one step, from its parts
-module _ (earlier : List (List ℕ)) (statements : List (List Written)) (named : List Written) (factors : List (List ℕ)) (settings : StepSettings) (wanted : Wanted) (outputs : List OutputSpec)
+module _ (earlier : List (List ℕ)) (statements : List (List Written)) (named : List Written) (factors : List (List ℕ))
+    (settings : StepSettings) (wanted : Wanted) (outputs : List OutputSpec)
     (is_named : factors_by (start_of (head_of statements)) (factor_limit statements) named ≡ Ok factors)
-    (is_asked : asked_by factors (step_said (head_of statements) named statements) statements ≡ Ok (settings, goal_of wanted))
+    (is_asked : asked_by factors (step_said (head_of statements) named statements) statements
+    ≡ Ok (settings, goal_of wanted))
     (are_outputs : outputs_of (context factors settings) earlier statements ≡ Ok outputs) where
-  whole : step_by earlier statements (Some named) ≡ Ok (record { factors = factors; settings = settings; goal = goal_of wanted; examine = examine_of statements; outputs = outputs })
+  whole : step_by earlier statements (Some named)
+      ≡ Ok (record {
+        factors = factors;
+        settings = settings;
+        goal = goal_of wanted;
+        examine = examine_of statements;
+        outputs = outputs;
+      })
   whole = rw (is_named, is_asked, are_outputs) refl
 
   pub step_is : (examine : Examine) → examine ≡ examine_of statements → criterion_of wanted ≡ settings.criterion
-      → step_by earlier statements (Some named) ≡ Ok (record { factors = factors; settings = settings_in settings.q settings.budget settings.size wanted settings.least settings.blocks; goal = goal_of wanted; examine = examine; outputs = outputs })
+      → step_by earlier statements (Some named)
+      ≡ Ok (record {
+        factors = factors;
+        settings = settings_in settings.q settings.budget settings.size wanted settings.least settings.blocks;
+        goal = goal_of wanted;
+        examine = examine;
+        outputs = outputs;
+      })
   step_is examine listed kind =
       whole
-      ∙ ap₂ (λ (x : StepSettings) (e : Examine). Ok (record { factors = factors; settings = x; goal = goal_of wanted; examine = e; outputs = outputs })) (sym (same_settings settings wanted kind)) (sym listed)
+      ∙ ap₂ (λ (x : StepSettings) (e : Examine). Ok
+      (record { factors = factors; settings = x; goal = goal_of wanted; examine = e; outputs = outputs }))
+      (sym (same_settings settings wanted kind)) (sym listed)
 
 -- a step whose settings are refused
-pub settings_refused : (earlier : List (List ℕ)) (statements : List (List Written)) (named : List Written) (factors : List (List ℕ)) → factors_by (start_of (head_of statements)) (factor_limit statements) named ≡ Ok factors
-    → (reason : ParseStop) → IsRefused (asked_by factors (step_said (head_of statements) named statements) statements) reason → IsRefused (step_by earlier statements (Some named)) reason
-settings_refused earlier statements named factors is_named reason h = rw is_named (stopped (asked_by factors (step_said (head_of statements) named statements) statements) _ reason h)
+pub settings_refused : (earlier : List (List ℕ)) (statements : List (List Written)) (named : List Written)
+    (factors : List (List ℕ)) → factors_by (start_of (head_of statements)) (factor_limit statements) named ≡ Ok factors
+    → (reason : ParseStop)
+    → IsRefused (asked_by factors (step_said (head_of statements) named statements) statements) reason
+    → IsRefused (step_by earlier statements (Some named)) reason
+settings_refused earlier statements named factors is_named reason h =
+    rw is_named (stopped (asked_by factors (step_said (head_of statements) named statements) statements) _ reason h)
 
 -- a step whose outputs are refused
-module _ (earlier : List (List ℕ)) (statements : List (List Written)) (named : List Written) (factors : List (List ℕ)) (settings : StepSettings) (wanted : Wanted)
+module _ (earlier : List (List ℕ)) (statements : List (List Written)) (named : List Written) (factors : List (List ℕ))
+    (settings : StepSettings) (wanted : Wanted)
     (is_named : factors_by (start_of (head_of statements)) (factor_limit statements) named ≡ Ok factors)
-    (is_asked : asked_by factors (step_said (head_of statements) named statements) statements ≡ Ok (settings, goal_of wanted)) where
-  pub outputs_refused : (reason : ParseStop) → IsRefused (outputs_of (context factors settings) earlier statements) reason → IsRefused (step_by earlier statements (Some named)) reason
+    (is_asked : asked_by factors (step_said (head_of statements) named statements) statements
+    ≡ Ok (settings, goal_of wanted)) where
+  pub outputs_refused : (reason : ParseStop)
+      → IsRefused (outputs_of (context factors settings) earlier statements) reason
+      → IsRefused (step_by earlier statements (Some named)) reason
   outputs_refused (stop.Refused refusal) h = rw (is_named, is_asked, h) refl
   outputs_refused stop.NoMemory h = tt

@@ -47,12 +47,14 @@ refused_at code column = Err (record { code = code; line = 1; column = column })
 
 -- ranges of names: from 9 to 11, from 0 on, of one name, with the stem of the first
 ranges :
-    (factors (codes "proc factex;factors A X9-X11 b;") ≡ Ok ((codes "A" ∷ codes "X9" ∷ codes "X10" ∷ codes "X11" ∷ codes "b" ∷ []) ∷ []))
+    (factors (codes "proc factex;factors A X9-X11 b;")
+    ≡ Ok ((codes "A" ∷ codes "X9" ∷ codes "X10" ∷ codes "X11" ∷ codes "b" ∷ []) ∷ []))
     × (factors (codes "proc factex;factors X0-X2;") ≡ Ok ((codes "X0" ∷ codes "X1" ∷ codes "X2" ∷ []) ∷ []))
     × (factors (codes "proc factex;factors X3-X3;") ≡ Ok ((codes "X3" ∷ []) ∷ []))
     × (factors (codes "proc factex;factors x1-X3;") ≡ Ok ((codes "x1" ∷ codes "x2" ∷ codes "x3" ∷ []) ∷ []))
     × (factors (codes "proc factex;factors A1B1-A1B2;") ≡ Ok ((codes "A1B1" ∷ codes "A1B2" ∷ []) ∷ []))
-    × (factors (codes "proc factex;factors Size Model Run;") ≡ Ok ((codes "Size" ∷ codes "Model" ∷ codes "Run" ∷ []) ∷ []))
+    × (factors (codes "proc factex;factors Size Model Run;")
+    ≡ Ok ((codes "Size" ∷ codes "Model" ∷ codes "Run" ∷ []) ∷ []))
 unfolding factors refused_at
 ranges = (refl, refl, refl, refl, refl, refl)
 
@@ -81,39 +83,52 @@ names_and_limits = (refl, refl, refl, refl, refl, refl, refl)
 -- effects that are joined by bars: all unions, those of at most so many factors, with products among the parts; fewer
 -- factors first, then by the places of the factors
 bars :
-    (goals (codes "proc factex;factors A B C D;size design=8;model e=(A|B|C);") ≡ Ok (ForEffects (1 ∷ 2 ∷ 4 ∷ 3 ∷ 5 ∷ 6 ∷ 7 ∷ []) [] ∷ []))
-    × (goals (codes "proc factex;factors A B C D;size design=8;model e=(A|B|C@2);") ≡ Ok (ForEffects (1 ∷ 2 ∷ 4 ∷ 3 ∷ 5 ∷ 6 ∷ []) [] ∷ []))
-    × (goals (codes "proc factex;factors A B C D;size design=8;model e=(A|B|C@9);") ≡ Ok (ForEffects (1 ∷ 2 ∷ 4 ∷ 3 ∷ 5 ∷ 6 ∷ 7 ∷ []) [] ∷ []))
-    × (goals (codes "proc factex;factors A B C D;size design=8;model e=(A|B@1);") ≡ Ok (ForEffects (1 ∷ 2 ∷ []) [] ∷ []))
-    × (goals (codes "proc factex;factors A B C D;size design=8;model e=(A*B|C);") ≡ Ok (ForEffects (4 ∷ 3 ∷ 7 ∷ []) [] ∷ []))
+    (goals (codes "proc factex;factors A B C D;size design=8;model e=(A|B|C);")
+    ≡ Ok (ForEffects (1 ∷ 2 ∷ 4 ∷ 3 ∷ 5 ∷ 6 ∷ 7 ∷ []) [] ∷ []))
+    × (goals (codes "proc factex;factors A B C D;size design=8;model e=(A|B|C@2);")
+    ≡ Ok (ForEffects (1 ∷ 2 ∷ 4 ∷ 3 ∷ 5 ∷ 6 ∷ []) [] ∷ []))
+    × (goals (codes "proc factex;factors A B C D;size design=8;model e=(A|B|C@9);")
+    ≡ Ok (ForEffects (1 ∷ 2 ∷ 4 ∷ 3 ∷ 5 ∷ 6 ∷ 7 ∷ []) [] ∷ []))
+    × (goals (codes "proc factex;factors A B C D;size design=8;model e=(A|B@1);")
+    ≡ Ok (ForEffects (1 ∷ 2 ∷ []) [] ∷ []))
+    × (goals (codes "proc factex;factors A B C D;size design=8;model e=(A*B|C);")
+    ≡ Ok (ForEffects (4 ∷ 3 ∷ 7 ∷ []) [] ∷ []))
     × (goals (codes "proc factex;factors A B C D;size design=8;model e=(A*B|C@1);") ≡ Ok (ForEffects (4 ∷ []) [] ∷ []))
-    × (goals (codes "proc factex;factors A B C D;size design=8;model e=(A*B|B*C);") ≡ Ok (ForEffects (3 ∷ 6 ∷ 7 ∷ []) [] ∷ []))
-    × (goals (codes "proc factex;factors A B C D;size design=8;model e=(A*D B*C);") ≡ Ok (ForEffects (9 ∷ 6 ∷ []) [] ∷ []))
+    × (goals (codes "proc factex;factors A B C D;size design=8;model e=(A*B|B*C);")
+    ≡ Ok (ForEffects (3 ∷ 6 ∷ 7 ∷ []) [] ∷ []))
+    × (goals (codes "proc factex;factors A B C D;size design=8;model e=(A*D B*C);")
+    ≡ Ok (ForEffects (9 ∷ 6 ∷ []) [] ∷ []))
 unfolding goals
 bars = (refl, refl, refl, refl, refl, refl, refl, refl)
 
 -- products, in which a factor counts once; a list is a set; ranges are main effects; names in any spelling
 products :
     (goals (codes "proc factex;factors A B C D;size design=8;model e=(A*B*A);") ≡ Ok (ForEffects (3 ∷ []) [] ∷ []))
-    × (goals (codes "proc factex;factors A B C D;size design=8;model e=(B A A*B B*A);") ≡ Ok (ForEffects (1 ∷ 2 ∷ 3 ∷ []) [] ∷ []))
+    × (goals (codes "proc factex;factors A B C D;size design=8;model e=(B A A*B B*A);")
+    ≡ Ok (ForEffects (1 ∷ 2 ∷ 3 ∷ []) [] ∷ []))
     × (goals (codes "proc factex;factors A B C D;size design=8;model e=(a D);") ≡ Ok (ForEffects (1 ∷ 8 ∷ []) [] ∷ []))
-    × (goals (codes "proc factex;factors X1-X3;size design=8;model e=(X1-X3);") ≡ Ok (ForEffects (1 ∷ 2 ∷ 4 ∷ []) [] ∷ []))
-    × (goals (codes "proc factex;factors X1-X3;size design=8;model e=(X2-X3 X1*X3);") ≡ Ok (ForEffects (2 ∷ 4 ∷ 5 ∷ []) [] ∷ []))
+    × (goals (codes "proc factex;factors X1-X3;size design=8;model e=(X1-X3);")
+    ≡ Ok (ForEffects (1 ∷ 2 ∷ 4 ∷ []) [] ∷ []))
+    × (goals (codes "proc factex;factors X1-X3;size design=8;model e=(X2-X3 X1*X3);")
+    ≡ Ok (ForEffects (2 ∷ 4 ∷ 5 ∷ []) [] ∷ []))
 unfolding goals
 products = (refl, refl, refl, refl, refl)
 
 -- those that are to be estimated are taken out of those that are not negligible
 two_lists :
-    (goals (codes "proc factex;factors A B C D;size design=8;model e=(A B)n=(B C A*C);") ≡ Ok (ForEffects (1 ∷ 2 ∷ []) (4 ∷ 5 ∷ []) ∷ []))
+    (goals (codes "proc factex;factors A B C D;size design=8;model e=(A B)n=(B C A*C);")
+    ≡ Ok (ForEffects (1 ∷ 2 ∷ []) (4 ∷ 5 ∷ []) ∷ []))
     × (goals (codes "proc factex;factors A B C D;size design=8;model e=(A)n=(A);") ≡ Ok (ForEffects (1 ∷ []) [] ∷ []))
-    × (goals (codes "proc factex;factors A B C D;size design=8;model e=(B)n=(A C);") ≡ Ok (ForEffects (2 ∷ []) (1 ∷ 4 ∷ []) ∷ []))
+    × (goals (codes "proc factex;factors A B C D;size design=8;model e=(B)n=(A C);")
+    ≡ Ok (ForEffects (2 ∷ []) (1 ∷ 4 ∷ []) ∷ []))
 unfolding goals
 two_lists = (refl, refl, refl)
 
 -- other goals
 other_goals :
     (goals (codes "proc factex;factors A B;") ≡ Ok (Highest ∷ []))
-    × (goals (codes "proc factex;factors A B;model r=5;proc factex;factors A;model r=max;") ≡ Ok (AtLeast 5 ∷ Highest ∷ []))
+    × (goals (codes "proc factex;factors A B;model r=5;proc factex;factors A;model r=max;")
+    ≡ Ok (AtLeast 5 ∷ Highest ∷ []))
 unfolding goals
 other_goals = (refl, refl)
 
@@ -132,46 +147,73 @@ refused_effects = (refl, refl, refl, refl, refl, refl, refl)
 
 -- 2,000,000 pairs, and more: 1,000 vectors to be estimated, at five levels, and as many others, or 1,004
 pairs :
-    (goals (codes "proc factex;factors A B C D E F/nlev=5;size design=25;model e=(A B A*B A*C A*B*C A*B*D A*C*D A*B*C*D A*B*C*E A*B*D*E)n=(C D A*D A*E A*B*E A*C*E A*D*E A*C*D*E B*C*D*E A*B*C*F);") ≡ Ok (ForEffects (1 ∷ 2 ∷ 3 ∷ 5 ∷ 7 ∷ 11 ∷ 13 ∷ 15 ∷ 23 ∷ 27 ∷ []) (4 ∷ 8 ∷ 9 ∷ 17 ∷ 19 ∷ 21 ∷ 25 ∷ 39 ∷ 29 ∷ 30 ∷ []) ∷ []))
-    × (goals (codes "proc factex;factors A B C D E F/nlev=5;size design=25;model e=(A B A*B A*C A*B*C A*B*D A*C*D A*B*C*D A*B*C*E A*B*D*E)n=(C D A*D A*E A*B*E A*C*E A*D*E A*C*D*E B*C*D*E A*B*C*F E);") ≡ refused_at 22 61)
+    (goals (codes
+    "proc factex;factors A B C D E F/nlev=5;size design=25;model e=(A B A*B A*C A*B*C A*B*D A*C*D A*B*C*D A*B*C*E A*B*D*E)n=(C D A*D A*E A*B*E A*C*E A*D*E A*C*D*E B*C*D*E A*B*C*F);") ≡ Ok (ForEffects (1 ∷ 2 ∷ 3 ∷ 5 ∷ 7 ∷ 11 ∷ 13 ∷ 15 ∷ 23 ∷ 27 ∷ []) (4 ∷ 8 ∷ 9 ∷ 17 ∷ 19 ∷ 21 ∷ 25 ∷ 39 ∷ 29 ∷ 30 ∷ []) ∷ []))
+    × (goals (codes
+    "proc factex;factors A B C D E F/nlev=5;size design=25;model e=(A B A*B A*C A*B*C A*B*D A*C*D A*B*C*D A*B*C*E A*B*D*E)n=(C D A*D A*E A*B*E A*C*E A*D*E A*C*D*E B*C*D*E A*B*C*F E);") ≡ refused_at 22 61)
 unfolding goals refused_at
 pairs = (refl, refl)
 
 -- each section, in one statement or in several
 sections_asked :
-    (sections (codes "proc factex;factors A B;model r=3;") ≡ Ok (record { aliasing = false; blocked = false; design = false; aberration = false } ∷ []))
-    × (sections (codes "proc factex;factors A B;model r=3;examine;") ≡ Ok (record { aliasing = false; blocked = false; design = false; aberration = false } ∷ []))
-    × (sections (codes "proc factex;factors A B;model r=3;examine confounding;") ≡ Ok (record { aliasing = false; blocked = false; design = false; aberration = false } ∷ []))
-    × (sections (codes "proc factex;factors A B;model r=3;examine aliasing;") ≡ Ok (record { aliasing = true; blocked = false; design = false; aberration = false } ∷ []))
-    × (sections (codes "proc factex;factors A B;model r=3;examine blocked;") ≡ Ok (record { aliasing = false; blocked = true; design = false; aberration = false } ∷ []))
-    × (sections (codes "proc factex;factors A B;model r=3;examine design;") ≡ Ok (record { aliasing = false; blocked = false; design = true; aberration = false } ∷ []))
-    × (sections (codes "proc factex;factors A B;model r=3;examine aberration;") ≡ Ok (record { aliasing = false; blocked = false; design = false; aberration = true } ∷ []))
-    × (sections (codes "proc factex;factors A B;model r=3;examine design blocked;run;examine aliasing;") ≡ Ok (record { aliasing = true; blocked = true; design = true; aberration = false } ∷ []))
+    (sections (codes "proc factex;factors A B;model r=3;")
+    ≡ Ok (record { aliasing = false; blocked = false; design = false; aberration = false } ∷ []))
+    × (sections (codes "proc factex;factors A B;model r=3;examine;")
+    ≡ Ok (record { aliasing = false; blocked = false; design = false; aberration = false } ∷ []))
+    × (sections (codes "proc factex;factors A B;model r=3;examine confounding;")
+    ≡ Ok (record { aliasing = false; blocked = false; design = false; aberration = false } ∷ []))
+    × (sections (codes "proc factex;factors A B;model r=3;examine aliasing;")
+    ≡ Ok (record { aliasing = true; blocked = false; design = false; aberration = false } ∷ []))
+    × (sections (codes "proc factex;factors A B;model r=3;examine blocked;")
+    ≡ Ok (record { aliasing = false; blocked = true; design = false; aberration = false } ∷ []))
+    × (sections (codes "proc factex;factors A B;model r=3;examine design;")
+    ≡ Ok (record { aliasing = false; blocked = false; design = true; aberration = false } ∷ []))
+    × (sections (codes "proc factex;factors A B;model r=3;examine aberration;")
+    ≡ Ok (record { aliasing = false; blocked = false; design = false; aberration = true } ∷ []))
+    × (sections (codes "proc factex;factors A B;model r=3;examine design blocked;run;examine aliasing;")
+    ≡ Ok (record { aliasing = true; blocked = true; design = true; aberration = false } ∷ []))
 unfolding sections
 sections_asked = (refl, refl, refl, refl, refl, refl, refl, refl)
 
 -- at three levels: three values of a factor, 3^t of the column of blocks, at most 200,000 rows of 9 runs, of 729 with
 -- the least size
 files_of_three_levels :
-    (files (codes "proc factex;factors A B C/nlev=3;size design=9;model r=3;output out=a A nvals=(1 2 3);") ≡ Ok (1 ∷ []))
-    × (files (codes "proc factex;factors A B C/nlev=3;size design=9;model r=3;output out=a A nvals=(1 2);") ≡ refused_at 17 73)
-    × (files (codes "proc factex;factors A B C/nlev=3;size design=9;model r=3;blocks nblkfacs=1;output out=a blockname=d nvals=(1 2 3);") ≡ Ok (1 ∷ []))
-    × (files (codes "proc factex;factors A B C/nlev=3;size design=9;model r=3;blocks nblkfacs=1;output out=a blockname=d nvals=(1 2);") ≡ refused_at 17 101)
-    × (files (codes "proc factex;factors A B C/nlev=3;size design=9;model r=3;blocks nblocks=9;output out=a blockname=d nvals=(1 2 3 4 5 6 7 8 9);") ≡ Ok (1 ∷ []))
-    × (files (codes "proc factex;factors A B C/nlev=3;size design=9;model r=3;output out=a pointrep=22222;") ≡ Ok (1 ∷ []))
-    × (files (codes "proc factex;factors A B C/nlev=3;size design=9;model r=3;output out=a pointrep=22223;") ≡ refused_at 21 69)
-    × (files (codes "proc factex;factors A B C/nlev=3;size design=9;model r=3;output out=a pointrep=150 designrep=149;") ≡ refused_at 21 69)
-    × (files (codes "proc factex;factors A B C/nlev=3;size design=9;model r=3;output out=a pointrep=149 designrep=149;") ≡ Ok (1 ∷ []))
-    × (files (codes "proc factex;factors A B C/nlev=3;size design=min;model r=3;output out=a pointrep=274;") ≡ Ok (1 ∷ []))
-    × (files (codes "proc factex;factors A B C/nlev=3;size design=min;model r=3;output out=a pointrep=275;") ≡ refused_at 21 71)
-    × (files (codes "proc factex;factors A B C/nlev=3;size design=min;model r=3;blocks size=3;output out=a blockname=d nvals=(1 2 3);") ≡ refused_at 17 99)
+    (files (codes "proc factex;factors A B C/nlev=3;size design=9;model r=3;output out=a A nvals=(1 2 3);")
+    ≡ Ok (1 ∷ []))
+    × (files (codes "proc factex;factors A B C/nlev=3;size design=9;model r=3;output out=a A nvals=(1 2);")
+    ≡ refused_at 17 73)
+    × (files (codes
+    "proc factex;factors A B C/nlev=3;size design=9;model r=3;blocks nblkfacs=1;output out=a blockname=d nvals=(1 2 3);") ≡ Ok (1 ∷ []))
+    × (files (codes
+    "proc factex;factors A B C/nlev=3;size design=9;model r=3;blocks nblkfacs=1;output out=a blockname=d nvals=(1 2);")
+    ≡ refused_at 17 101)
+    × (files (codes
+    "proc factex;factors A B C/nlev=3;size design=9;model r=3;blocks nblocks=9;output out=a blockname=d nvals=(1 2 3 4 5 6 7 8 9);") ≡ Ok (1 ∷ []))
+    × (files (codes "proc factex;factors A B C/nlev=3;size design=9;model r=3;output out=a pointrep=22222;")
+    ≡ Ok (1 ∷ []))
+    × (files (codes "proc factex;factors A B C/nlev=3;size design=9;model r=3;output out=a pointrep=22223;")
+    ≡ refused_at 21 69)
+    × (files (codes "proc factex;factors A B C/nlev=3;size design=9;model r=3;output out=a pointrep=150 designrep=149;")
+    ≡ refused_at 21 69)
+    × (files (codes "proc factex;factors A B C/nlev=3;size design=9;model r=3;output out=a pointrep=149 designrep=149;")
+    ≡ Ok (1 ∷ []))
+    × (files (codes "proc factex;factors A B C/nlev=3;size design=min;model r=3;output out=a pointrep=274;")
+    ≡ Ok (1 ∷ []))
+    × (files (codes "proc factex;factors A B C/nlev=3;size design=min;model r=3;output out=a pointrep=275;")
+    ≡ refused_at 21 71)
+    × (files (codes
+    "proc factex;factors A B C/nlev=3;size design=min;model r=3;blocks size=3;output out=a blockname=d nvals=(1 2 3);")
+    ≡ refused_at 17 99)
 unfolding files refused_at
 files_of_three_levels = (refl, refl, refl, refl, refl, refl, refl, refl, refl, refl, refl, refl)
 
 -- OUT names differ over all steps, in any spelling; the greatest seed
 names_of_files :
-    (files (codes "proc factex;factors A B;model r=3;output out=a;output out=b;proc factex;factors A;model r=3;output out=c;") ≡ Ok (2 ∷ 1 ∷ []))
-    × (files (codes "proc factex;factors A B;model r=3;output out=a;proc factex;factors A;model r=3;output out=A;") ≡ refused_at 18 91)
+    (files (codes
+    "proc factex;factors A B;model r=3;output out=a;output out=b;proc factex;factors A;model r=3;output out=c;")
+    ≡ Ok (2 ∷ 1 ∷ []))
+    × (files (codes "proc factex;factors A B;model r=3;output out=a;proc factex;factors A;model r=3;output out=A;")
+    ≡ refused_at 18 91)
     × (files (codes "proc factex;factors A B;output out=a randomize(18446744073709551615);") ≡ Ok (1 ∷ []))
     × (files (codes "proc factex;factors A B;output out=a randomize(18446744073709551616);") ≡ refused_at 19 48)
 unfolding files refused_at

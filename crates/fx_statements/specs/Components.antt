@@ -1,6 +1,7 @@
--- Listings of components, which EXAMINE asks for by ALIASING and BLOCKED: of how many factors components are listed, and which
--- listings are too long.
-use Rattle.std.specs.Prelude.{ℕ, ◌||◌, nat_lt, min, max, Bool, List, [], ◌∷◌, Option, Some, None, Result, Ok, Err, if◌then◌else◌}
+-- Listings of components, which EXAMINE asks for by ALIASING and BLOCKED: of how many factors components are listed,
+-- and which listings are too long.
+use Rattle.std.specs.Prelude.{ℕ, ◌||◌, nat_lt, min, max, Bool, List, [], ◌∷◌, Option, Some, None, Result, Ok, Err}
+use Rattle.std.specs.Prelude.{if◌then◌else◌}
 use Rattle.fx_designs.specs.Components.{listed_count}
 use Rattle.fx_language.specs.declared.code.TheConstants.{TOO_MANY_EFFECTS}
 use Rattle.fx_text.specs.declared.refusal.Refusal.{Refusal}
@@ -45,4 +46,6 @@ components_place (s ∷ statements) = place_or (components_asked s) (components_
 -- at most 100,000 components may be listed in a step of s factors, or E23 at the word that asks for them
 abbrev pub check_components : ℕ → ℕ → Goal → Option Place → Result (Unit {0}) Refusal
 check_components q s goal None = Ok tt
-check_components q s goal (Some place) = if nat_lt MOST_COMPONENTS (listed_count q s (min s (listed_factors goal))) then Err (refused_at TOO_MANY_EFFECTS place) else Ok tt
+check_components q s goal (Some place) =
+    if nat_lt MOST_COMPONENTS (listed_count q s (min s (listed_factors goal)))
+    then Err (refused_at TOO_MANY_EFFECTS place) else Ok tt

@@ -25,13 +25,16 @@ ending_by end.Budget matrix count = BudgetEnded (rows_if matrix) count
 
 -- the matrix that comes with an ending: that of its design or of an ended budget, whole and of this shape; else none
 abbrev pub HasMatrix : Shape → Ending → Option MatrixView → Type 0
-HasMatrix shape (Design rows count) matrix = (matrix ≡ Some (record { shape = shape; rows = rows })) × (length rows ≡ shape.s + shape.t)
+HasMatrix shape (Design rows count) matrix =
+    (matrix ≡ Some (record { shape = shape; rows = rows })) × (length rows ≡ shape.s + shape.t)
 HasMatrix shape (NoDesign count) matrix = matrix ≡ None
 HasMatrix shape (BudgetEnded None budget) matrix = matrix ≡ None
-HasMatrix shape (BudgetEnded (Some rows) budget) matrix = (matrix ≡ Some (record { shape = shape; rows = rows })) × (length rows ≡ shape.s + shape.t)
+HasMatrix shape (BudgetEnded (Some rows) budget) matrix =
+    (matrix ≡ Some (record { shape = shape; rows = rows })) × (length rows ≡ shape.s + shape.t)
 
 -- and that it does has one proof
-pub HasMatrix-prop : (shape : Shape) (ending : Ending) (matrix : Option MatrixView) → IsProp (HasMatrix shape ending matrix)
+pub HasMatrix-prop : (shape : Shape) (ending : Ending) (matrix : Option MatrixView)
+    → IsProp (HasMatrix shape ending matrix)
 HasMatrix-prop shape (Design rows count) matrix = Prim.hlevel props
 HasMatrix-prop shape (NoDesign count) matrix = Prim.hlevel props
 HasMatrix-prop shape (BudgetEnded None budget) matrix = Prim.hlevel props

@@ -12,8 +12,8 @@ use Rattle.fx_effects.specs.Models.{lists_of}
 use Rattle.fx_statements.specs.declared.wanted.Wanted.{Wanted}
 use Rattle.fx_statements.specs.declared.wanted.Wanted.TheVariants as wanted
 
--- At least a resolution; the highest one; or that effects to be estimated can be distinguished from one another and from others that
--- are not negligible. An effect is the sum of 2^(i-1) over its factors i.
+-- At least a resolution; the highest one; or that effects to be estimated can be distinguished from one another and
+-- from others that are not negligible. An effect is the sum of 2^(i-1) over its factors i.
 pub data Goal : Type 0 where
   AtLeast : ℕ → Goal
   Highest : Goal

@@ -1,5 +1,6 @@
 -- The questions that a step asks, and the outcome that they lead to within the step's budget.
-use Rattle.std.specs.Prelude.{ℕ, ◌+◌, ◌-◌, nat_lt, not, max, Bool, true, false, if◌then◌else◌, List, [], ◌∷◌, ◌++◌, map, length, sum_by, Option, Some, None, is_some, find}
+use Rattle.std.specs.Prelude.{ℕ, ◌+◌, ◌-◌, nat_lt, not, max, Bool, true, false, if◌then◌else◌, List, [], ◌∷◌, ◌++◌, map}
+use Rattle.std.specs.Prelude.{length, sum_by, Option, Some, None, is_some, find}
 use Rattle.std.specs.List.{range_with_len}
 use Rattle.fx_designs.specs.Problems.{Dimensions, Problem, Requirement, AtResolution}
 use Rattle.fx_designs.specs.Problems as problems
@@ -35,27 +36,30 @@ abbrev pub run_factors : Size → ℕ → ℕ
 run_factors (Runs m) n = m
 run_factors Minimum n = n
 
--- the number of block factors in q^m runs: a fixed one, that of blocks of q^k runs, or n where as many blocks as can be are wanted
+-- the number of block factors in q^m runs: a fixed one, that of blocks of q^k runs, or n where as many blocks as can be
+-- are wanted
 abbrev pub block_factors : Blocks → ℕ → ℕ → ℕ
 block_factors blocks.Without m n = 0
 block_factors (blocks.Factors t) m n = t
 block_factors (blocks.PerBlock k) m n = m - k
 block_factors blocks.Most m n = n
 
--- what is required of one design: the resolution n where the highest is wanted, but for a least pattern, since of the designs with
--- one each has the highest resolution
+-- what is required of one design: the resolution n where the highest is wanted, but for a least pattern, since of the
+-- designs with one each has the highest resolution
 abbrev pub requirement_for : Bool → Goal → ℕ → Requirement
 requirement_for least (AtLeast r) n = AtResolution r
 requirement_for true Highest n = AtResolution 3
 requirement_for false Highest n = AtResolution n
 requirement_for least (ForEffects estimate besides) n = problems.ForEffects estimate besides
 
--- the question of a step for the number n: of run factors, of block factors or of the resolution, whichever the step leaves free
+-- the question of a step for the number n: of run factors, of block factors or of the resolution, whichever the step
+-- leaves free
 abbrev pub question_for : Meaning → ℕ → Problem
 question_for step n =
     let m = run_factors step.settings.size n in
     record {
-      dimensions = record { q = step.settings.q; m = m; s = length step.factors; t = block_factors step.settings.blocks m n };
+      dimensions =
+          record { q = step.settings.q; m = m; s = length step.factors; t = block_factors step.settings.blocks m n };
       requirement = requirement_for step.settings.least step.goal n;
       least = step.settings.least;
     }
@@ -78,8 +82,8 @@ abbrev pub lowest : Meaning → Size → ℕ
 lowest step Minimum = least_exponent step.settings.blocks
 lowest step (Runs m) = if has_most step.settings.blocks then 1 else 3
 
--- the last: the greatest size; as many block factors as run factors; the resolution of a design without defining words. A step that
--- leaves nothing free asks one question
+-- the last: the greatest size; as many block factors as run factors; the resolution of a design without defining words.
+-- A step that leaves nothing free asks one question
 abbrev pub highest : Meaning → Size → ℕ
 highest step Minimum = greatest step.settings.q
 highest step (Runs m) =
@@ -100,7 +104,8 @@ series question low high ends =
 -- the questions of a step
 abbrev pub questions_of : Meaning → Questions
 questions_of step =
-    series (question_for step) (lowest step step.settings.size) (highest step step.settings.size) (until step.settings.size)
+    series (question_for step) (lowest step step.settings.size) (highest step step.settings.size)
+    (until step.settings.size)
 
 -- whether the asking ends with a question that has an answer, or has none
 abbrev pub ends_with : Until → Bool → Bool
@@ -158,7 +163,8 @@ abbrev pub last_of : Problem → List Problem → Problem
 last_of p [] = p
 last_of p (next ∷ others) = last_of next others
 
--- The outcome of a step: how it ends, and the dimensions of the matrix or, where there is none, of the last question that is asked.
+-- The outcome of a step: how it ends, and the dimensions of the matrix or, where there is none, of the last question
+-- that is asked.
 pub record Conclusion : Type 0 where
   pub dimensions : Dimensions
   pub ending : Ending
@@ -171,11 +177,14 @@ concluded p (Some found) count = record { dimensions = found.question.dimensions
 -- where the budget ended in the question p: with what was found by then
 abbrev pub cut_short : Problem → Option Found → ℕ → Conclusion
 cut_short p None budget = record { dimensions = p.dimensions; ending = BudgetEnded None budget }
-cut_short p (Some found) budget = record { dimensions = found.question.dimensions; ending = BudgetEnded (Some found.rows) budget }
+cut_short p (Some found) budget =
+    record { dimensions = found.question.dimensions; ending = BudgetEnded (Some found.rows) budget }
 
--- what was found where the budget ended: the matrix that the search of the last question carries, else the last design of those before
+-- what was found where the budget ended: the matrix that the search of the last question carries, else the last design
+-- of those before
 abbrev pub left_at : ℕ → Turn → Option Found
-left_at budget turn = found_by (last_found None turn.earlier) turn.question (carried turn.question (budget - nodes_of turn.earlier))
+left_at budget turn =
+    found_by (last_found None turn.earlier) turn.question (carried turn.question (budget - nodes_of turn.earlier))
 
 -- the outcome of the questions that are asked, the last of which is p, by the first with which the budget is passed
 abbrev pub conclusion_by : Problem → List Problem → ℕ → Option Turn → Conclusion

@@ -1,4 +1,5 @@
--- That the lists of MODEL are read between the parentheses that the grammar has, and the sections of EXAMINE where it has them.
+-- That the lists of MODEL are read between the parentheses that the grammar has, and the sections of EXAMINE where it
+-- has them.
 use Rattle.std.specs.Prelude.{◌≡◌, ◌⊎◌, ◌||◌, Bool, ℕ, true, false, List, [], ◌∷◌, ◌++◌}
 use Rattle.std.specs.List.{AllByRecursion}
 use Rattle.fx_language.specs.declared.symbol.Symbol.{Symbol}
@@ -22,11 +23,13 @@ pub record HasList (written : List Written) : Type 0 where
   pub closes : is symbol.Close close.symbol ≡ true
   pub between : has symbol.Close list ≡ false
 
--- what is read as the second list, after the first one: nothing where there is no `(`, or what is between its parentheses
+-- what is read as the second list, after the first one: nothing where there is no `(`, or what is between its
+-- parentheses
 abbrev pub IsSecondRead : List Written → Type 0
 IsSecondRead rest =
     ((has symbol.Open rest ≡ false) × (after symbol.Open rest ≡ []))
-    ⊎ ((second : HasList rest) × (is symbol.Nonnegligible second.word.symbol ≡ true) × (before symbol.Close (after symbol.Open rest) ≡ second.list))
+    ⊎ ((second : HasList rest) × (is symbol.Nonnegligible second.word.symbol ≡ true)
+    × (before symbol.Close (after symbol.Open rest) ≡ second.list))
 
 -- what is read from a MODEL statement with ESTIMATE
 pub record IsModelRead (s : List Written) : Type 0 where
@@ -36,11 +39,16 @@ pub record IsModelRead (s : List Written) : Type 0 where
   pub first : HasList parts
   pub word : is symbol.Estimate first.word.symbol ≡ true
   pub second : IsSecondRead first.rest
-  pub read : (q : ℕ) (factors : List (List ℕ)) → lists_of q factors s ≡ lists_at q factors first.word first.list (first_or first.word first.rest) (before symbol.Close (after symbol.Open first.rest))
+  pub read : (q : ℕ) (factors : List (List ℕ))
+      → lists_of q factors s
+      ≡ lists_at q factors first.word first.list (first_or first.word first.rest)
+      (before symbol.Close (after symbol.Open first.rest))
 
 -- a word for a section of the listing
 abbrev pub is_section : Symbol → Bool
-is_section s = is symbol.Aliasing s || is symbol.Blocked s || is symbol.Confounding s || is symbol.Design s || is symbol.Aberration s
+is_section s =
+    is symbol.Aliasing s || is symbol.Blocked s || is symbol.Confounding s || is symbol.Design s
+    || is symbol.Aberration s
 
 -- what is read from an EXAMINE statement: its words after the first, each of which is a section
 pub record AreSectionsRead (s : List Written) : Type 0 where

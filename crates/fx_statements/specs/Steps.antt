@@ -1,5 +1,6 @@
 -- What a step means.
-use Rattle.std.specs.Prelude.{ℕ, ◌&&◌, Bool, List, [], ◌∷◌, length, is_some, Option, Some, None, Result, Ok, Err, if◌then◌else◌}
+use Rattle.std.specs.Prelude.{ℕ, ◌&&◌, Bool, List, [], ◌∷◌, length, is_some, Option, Some, None, Result, Ok, Err}
+use Rattle.std.specs.Prelude.{if◌then◌else◌}
 use Rattle.std.specs.List.{list_any}
 use Rattle.fx_language.specs.declared.code.TheConstants.{NO_FACTORS}
 use Rattle.fx_language.specs.declared.symbol.Symbol.{Symbol}
@@ -79,7 +80,8 @@ step_by earlier statements (Some named) = do
   factors ← factors_by (start_of (head_of statements)) (factor_limit statements) named
   asked ← asked_by factors (step_said (head_of statements) named statements) statements
   outputs ← outputs_of (context factors asked.0) earlier statements
-  Ok (record { factors = factors; settings = asked.0; goal = asked.1; examine = examine_of statements; outputs = outputs })
+  Ok (record
+      { factors = factors; settings = asked.0; goal = asked.1; examine = examine_of statements; outputs = outputs })
 
 -- the meaning of a step, whose PROC statement is first
 abbrev pub step_of : List (List ℕ) → List (List Written) → Result Meaning Refusal

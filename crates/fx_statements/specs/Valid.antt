@@ -28,12 +28,14 @@ settings_in q budget size wanted least blocks =
 -- where effects are wanted, they may be asked for, with s factors of q levels
 abbrev pub CanBeWanted : ℕ → ℕ → Wanted → Type 0
 CanBeWanted q s wanted =
-    (estimate nonnegligible : List Effect) → wanted ≡ Effects estimate nonnegligible → CanBeTold q s (numbers_of estimate) (numbers_of nonnegligible)
+    (estimate nonnegligible : List Effect) → wanted ≡ Effects estimate nonnegligible
+    → CanBeTold q s (numbers_of estimate) (numbers_of nonnegligible)
 
 -- at most 100,000 effects in each list
 abbrev pub HasFewEffects : Wanted → Type 0
 HasFewEffects wanted =
-    (estimate nonnegligible : List Effect) → wanted ≡ Effects estimate nonnegligible → (length estimate ≤ MOST_EFFECTS) × (length nonnegligible ≤ MOST_EFFECTS)
+    (estimate nonnegligible : List Effect) → wanted ≡ Effects estimate nonnegligible
+    → (length estimate ≤ MOST_EFFECTS) × (length nonnegligible ≤ MOST_EFFECTS)
 
 -- where components are listed, they are at most 100,000
 abbrev pub HasFewComponents : ℕ → ℕ → Goal → Examine → Type 0

@@ -4,7 +4,8 @@ use Rattle.std.specs.List.{list_all}
 use Rattle.std.specs.Str.{IsAscii, IsUtf8}
 use Rattle.std.specs.Str.Parse.{digits_value, ParsesUnsigned}
 use Rattle.std.proofs.lemmas.Str.{IsUtf8-from_ascii}
-use Rattle.std.proofs.lemmas.Str.Parse.{IsDigitsTest, IsNumeralModel, numerals_by_value, digits_value_short, parse_gives}
+use Rattle.std.proofs.lemmas.Str.Parse.{IsDigitsTest, IsNumeralModel, numerals_by_value, digits_value_short}
+use Rattle.std.proofs.lemmas.Str.Parse.{parse_gives}
 use Rattle.std.proofs.lemmas.Bool.{leb-true, le-leb, and_from, and_parts}
 use Rattle.fx_lexer.specs.Bytes.{is_digit}
 use Rattle.fx_text.specs.Numbers.{IsNumber}
@@ -39,5 +40,6 @@ fits n h = omega (arith, h)
 pub is_below : (bytes : List ℕ) → IsNumber bytes → digits_value 10 bytes < 10 ^ 38
 is_below bytes h = digits_value_short digits bytes 38 h.0 h.2
 
-pub is_read : {E : Type 0} (bytes : List ℕ) (r : Result ℕ E) → ParsesUnsigned 128 10 bytes r → IsNumber bytes → r ≡ Ok (digits_value 10 bytes)
+pub is_read : {E : Type 0} (bytes : List ℕ) (r : Result ℕ E) → ParsesUnsigned 128 10 bytes r → IsNumber bytes
+    → r ≡ Ok (digits_value 10 bytes)
 is_read bytes r reads h = parse_gives digits 128 bytes r reads h.0 h.1 (fits (digits_value 10 bytes) (is_below bytes h))

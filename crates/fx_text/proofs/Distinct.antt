@@ -1,5 +1,6 @@
 -- Names that differ from one another, without regard to case.
-use Rattle.std.proofs.Common.{◌≡◌, ℕ, Bool, true, false, not, cond, List, [], ◌∷◌, ◌++◌, length, map, Some, None, refl, sym, ◌∙◌, arith}
+use Rattle.std.proofs.Common.{◌≡◌, ℕ, Bool, true, false, not, cond, List, [], ◌∷◌, ◌++◌, length, map, Some, None, refl}
+use Rattle.std.proofs.Common.{sym, ◌∙◌, arith}
 use Rattle.std.specs.Prelude.{is_some, nat_lt}
 use Rattle.std.specs.Bool.{one_answer}
 use Rattle.std.specs.Char.{to_ascii_lowercase}
@@ -13,7 +14,8 @@ use Rattle.fx_text.specs.Names.{is_same_name, place_of}
 same_turned : (a b : List ℕ) → is_same_name a b ≡ is_same_name b a
 same_turned a b =
     let d = bytes_eq-Decides (map to_ascii_lowercase b) (map to_ascii_lowercase a) in
-    one_answer _ _ (bytes_eq-Decides (map to_ascii_lowercase a) (map to_ascii_lowercase b)) ((λ t. sym (d.0 t)), λ e. d.1 (sym e))
+    one_answer _ _ (bytes_eq-Decides (map to_ascii_lowercase a) (map to_ascii_lowercase b))
+    ((λ t. sym (d.0 t)), λ e. d.1 (sym e))
 
 -- the name differs from each of the others
 abbrev pub IsNew : List (List ℕ) → List ℕ → Type 0
@@ -21,7 +23,8 @@ IsNew names name = AllByRecursion (λ other. is_same_name name other ≡ false) 
 
 pub not_found : (names : List (List ℕ)) (name : List ℕ) → is_some (place_of name names) ≡ false → IsNew names name
 not_found names name e =
-    let far = ltb-false (position_or_len (is_same_name name) names) (length names) (no_place (nat_lt (position_or_len (is_same_name name) names) (length names)) _ e) in
+    let far = ltb-false (position_or_len (is_same_name name) names) (length names)
+    (no_place (nat_lt (position_or_len (is_same_name name) names) (length names)) _ e) in
     recursion_from_All (λ other. is_same_name name other ≡ false) names
     (λ i d h. not-true _ (prefix_len_passes (λ other. not (is_same_name name other)) names i d (omega (arith, h, far))))
   where
@@ -30,17 +33,20 @@ not_found names name e =
     no_place false n e = refl
 
 -- what differs from a name and from those after it
-apart : (x : List ℕ) (names new : List (List ℕ)) → AllByRecursion (IsNew (x ∷ names)) new → IsNew new x × AllByRecursion (IsNew names) new
+apart : (x : List ℕ) (names new : List (List ℕ)) → AllByRecursion (IsNew (x ∷ names)) new
+    → IsNew new x × AllByRecursion (IsNew names) new
 apart x names [] h = (tt, tt)
 apart x names (name ∷ new) h =
     let rest = apart x names new h.1 in
     ((same_turned x name ∙ h.0.0, rest.0), (h.0.1, rest.1))
 
-both : {X : Type 0} (P : X → Type 0) (xs ys : List X) → AllByRecursion P xs → AllByRecursion P ys → AllByRecursion P (xs ++ ys)
+both : {X : Type 0} (P : X → Type 0) (xs ys : List X) → AllByRecursion P xs → AllByRecursion P ys
+    → AllByRecursion P (xs ++ ys)
 both P [] ys h k = k
 both P (x ∷ xs) ys h k = (h.0, both P xs ys h.1 k)
 
-pub joined_differ : (names new : List (List ℕ)) → IsDistinct is_same_name names → IsDistinct is_same_name new → AllByRecursion (IsNew names) new
+pub joined_differ : (names new : List (List ℕ)) → IsDistinct is_same_name names → IsDistinct is_same_name new
+    → AllByRecursion (IsNew names) new
     → IsDistinct is_same_name (names ++ new)
 unfolding IsDistinct
 joined_differ [] new h k e = k

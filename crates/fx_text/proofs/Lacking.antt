@@ -24,7 +24,8 @@ take_more : (n : ℕ) (w : Written) (xs : List Written) → take (1 + n) (w ∷ 
 take_more n w xs = let e : 1 + n ≡ suc n = omega arith in rw e refl
 
 -- what is before a symbol, in front of it
-pub before_part : (t : Symbol) (a : List Written) (c : Written) (b : List Written) → has t a ≡ false → is t c.symbol ≡ true → before t (a ++ c ∷ b) ≡ a
+pub before_part : (t : Symbol) (a : List Written) (c : Written) (b : List Written) → has t a ≡ false
+    → is t c.symbol ≡ true → before t (a ++ c ∷ b) ≡ a
 before_part t [] c b h it = rw it refl
 before_part t (w ∷ a) c b h it =
     let parts = or_parts (is t w.symbol) (has t a) h in

@@ -1,5 +1,6 @@
 -- Refusals by a rule, at the places of what is written.
-use Rattle.std.proofs.Common.{◌≡◌, ℕ, zero, suc, Bool, true, false, List, [], ◌∷◌, take, drop, Some, None, Result, Ok, Err}
+use Rattle.std.proofs.Common.{◌≡◌, ℕ, zero, suc, Bool, true, false, List, [], ◌∷◌, take, drop, Some, None, Result, Ok}
+use Rattle.std.proofs.Common.{Err}
 use Rattle.std.specs.Prelude.{IfErr, IfSome, slice_get, if◌then◌else◌}
 use Rattle.std.specs.List.{AllByRecursion}
 use Rattle.fx_language.specs.declared.symbol.Symbol.{Symbol}
@@ -31,13 +32,15 @@ abbrev pub Placed : {A : Type 0} → (ℕ → ℕ → Type 0) → Result A Refus
 Placed P result = IfErr result (IsByRule P)
 
 module _ (P : ℕ → ℕ → Type 0) where
-  pub here : (code : ℕ) (place : Place) → is_rule code ≡ true → P place.line place.column → IsByRule P (refused_at code place)
+  pub here : (code : ℕ) (place : Place) → is_rule code ≡ true → P place.line place.column
+      → IsByRule P (refused_at code place)
   here code place rule at = record { rule = rule; place = at }
 
   pub written : (code : ℕ) (w : Written) → is_rule code ≡ true → IsPlaced P w → IsByRule P (refusal_at code w)
   written code w rule at = record { rule = rule; place = at }
 
-  pub chain : {A B : Type 0} (x : Result A Refusal) (f : A → Result B Refusal) → Placed P x → ((value : A) → Placed P (f value)) → Placed P (x >>= f)
+  pub chain : {A B : Type 0} (x : Result A Refusal) (f : A → Result B Refusal) → Placed P x
+      → ((value : A) → Placed P (f value)) → Placed P (x >>= f)
   chain (Ok value) f first later = later value
   chain (Err refusal) f first later = first
 
@@ -84,7 +87,8 @@ module _ (P : ℕ → ℕ → Type 0) where
   start [] front h = front
   start (w ∷ s) front h = h.0
 
-  in_front_of : (w : Written) (statements : List (List Written)) → IsPlaced P w → AreAllPlaced P statements → AreAllPlaced P (in_front w statements)
+  in_front_of : (w : Written) (statements : List (List Written)) → IsPlaced P w → AreAllPlaced P statements
+      → AreAllPlaced P (in_front w statements)
   in_front_of w [] first h = ((first, tt), tt)
   in_front_of w (s ∷ rest) first h = ((first, h.0), h.1)
 
@@ -92,7 +96,8 @@ module _ (P : ℕ → ℕ → Type 0) where
   statements [] h = tt
   statements (w ∷ rest) h = by_test (is symbol.Semicolon w.symbol) (statements rest h.1)
     where
-      by_test : (b : Bool) → AreAllPlaced P (statements_of rest) → AreAllPlaced P (if b then [] ∷ statements_of rest else in_front w (statements_of rest))
+      by_test : (b : Bool) → AreAllPlaced P (statements_of rest)
+          → AreAllPlaced P (if b then [] ∷ statements_of rest else in_front w (statements_of rest))
       by_test true later = (tt, later)
       by_test false later = in_front_of w (statements_of rest) h.0 later
 
@@ -105,14 +110,17 @@ module _ (P : ℕ → ℕ → Type 0) where
   steps [] h = tt
   steps (s ∷ rest) h = by_test (begins symbol.Proc s) (steps rest h.1)
     where
-      by_test : (b : Bool) → AllByRecursion (AreAllPlaced P) (steps_of rest) → AllByRecursion (AreAllPlaced P) (if b then (s ∷ rest_of_step rest) ∷ steps_of rest else steps_of rest)
+      by_test : (b : Bool) → AllByRecursion (AreAllPlaced P) (steps_of rest)
+          → AllByRecursion (AreAllPlaced P) (if b then (s ∷ rest_of_step rest) ∷ steps_of rest else steps_of rest)
       by_test true later = ((h.0, all_taken _ rest h.1), later)
       by_test false later = later
 
-  pub statement : (word : Symbol) (s : List (List Written)) → AreAllPlaced P s → IfSome (statement_of word s) (ArePlaced P)
+  pub statement : (word : Symbol) (s : List (List Written)) → AreAllPlaced P s
+      → IfSome (statement_of word s) (ArePlaced P)
   statement word [] h = tt
   statement word (s ∷ rest) h = by_test (begins word s) (statement word rest h.1)
     where
-      by_test : (b : Bool) → IfSome (statement_of word rest) (ArePlaced P) → IfSome (if b then Some s else statement_of word rest) (ArePlaced P)
+      by_test : (b : Bool) → IfSome (statement_of word rest) (ArePlaced P)
+          → IfSome (if b then Some s else statement_of word rest) (ArePlaced P)
       by_test true later = h.0
       by_test false later = later

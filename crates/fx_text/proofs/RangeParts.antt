@@ -4,7 +4,8 @@ use Rattle.std.proofs.lemmas.Bool.{leb-true, and_parts}
 use Rattle.fx_text.specs.Ranges.{ending, is_plain, is_range, number_at_end}
 
 module _ (first last : List ℕ) (range : is_range first last ≡ true) where
-  parts : (is_plain (ending first) ≡ true) × (is_plain (ending last) ≡ true) × (number_at_end first ≤ number_at_end last)
+  parts : (is_plain (ending first) ≡ true) × (is_plain (ending last) ≡ true)
+      × (number_at_end first ≤ number_at_end last)
   parts =
       let a = and_parts _ _ range in
       let b = and_parts _ _ a.0 in

@@ -1,5 +1,6 @@
 -- The statements of a program are those of which the grammar makes it.
-use Rattle.std.proofs.Common.{◌≡◌, ℕ, eqb, Bool, true, false, ◌||◌, List, [], ◌∷◌, ◌++◌, None, refl, sym, ap, ap₂, subst, ◌∙◌, append_assoc, inl, inr, ◌⊎◌}
+use Rattle.std.proofs.Common.{◌≡◌, ℕ, eqb, Bool, true, false, ◌||◌, List, [], ◌∷◌, ◌++◌, None, refl, sym, ap, ap₂}
+use Rattle.std.proofs.Common.{subst, ◌∙◌, append_assoc, inl, inr, ◌⊎◌}
 use Rattle.std.specs.List.{list_any, flat_map, AllByRecursion}
 use Rattle.std.proofs.lemmas.Bool.{eqb-true, or_parts}
 use Rattle.std.proofs.lemmas.List.{append_cancel_right}
@@ -45,12 +46,14 @@ record IsEnded (text : List Symbol) : Type 0 where
 ended : (a : Shape) (text : List Symbol) → Ends a → Matches a text → IsEnded text
 ended Never text e m = absurd m
 ended Empty text e m = absurd e
-ended (One test) text e (s, passed, one) = record { body = []; lacking = refl; all = one ∙ ap (λ x. x ∷ []) (sym (semicolon_alone s (e s passed))) }
+ended (One test) text e (s, passed, one) =
+    record { body = []; lacking = refl; all = one ∙ ap (λ x. x ∷ []) (sym (semicolon_alone s (e s passed))) }
 ended (Before a b) text e (x, y, m, n, joined) =
     let o = ended b y e.1 n in
     record {
       body = x ++ o.body;
-      lacking = list_any-append (is word.Semicolon) x o.body ∙ ap₂ (λ b c. b || c) (none word.Semicolon semicolon_alone a x e.0 m) o.lacking;
+      lacking = list_any-append (is word.Semicolon) x o.body ∙ ap₂ (λ b c. b || c)
+          (none word.Semicolon semicolon_alone a x e.0 m) o.lacking;
       all = joined ∙ ap (λ (l : List Symbol). x ++ l) o.all ∙ sym (append_assoc x o.body (word.Semicolon ∷ []));
     }
 ended (Either a b) text e (inl m) = ended a text e.0 m
@@ -124,10 +127,13 @@ none_written (w ∷ text) h = absurd (cc h)
 
 module _ (s : List Written) where
   -- a statement that begins with one word does not begin with another
-  apart : (first other : Symbol) (rest : Shape) → is first other ≡ false → begins first s ≡ true → IsStatement (Before (One (is other)) rest) s → ⊥
-  apart first other rest differ begun (x, y, (a, passed, e), n, all) = by_symbol s a (ap (λ (l : List Symbol). l ++ y) e) all begun passed differ
+  apart : (first other : Symbol) (rest : Shape) → is first other ≡ false → begins first s ≡ true
+      → IsStatement (Before (One (is other)) rest) s → ⊥
+  apart first other rest differ begun (x, y, (a, passed, e), n, all) =
+      by_symbol s a (ap (λ (l : List Symbol). l ++ y) e) all begun passed differ
     where
-      by_symbol : (s : List Written) (a : Symbol) → x ++ y ≡ a ∷ y → symbols_in s ++ word.Semicolon ∷ [] ≡ x ++ y → begins first s ≡ true → is other a ≡ true → is first other ≡ false → ⊥
+      by_symbol : (s : List Written) (a : Symbol) → x ++ y ≡ a ∷ y → symbols_in s ++ word.Semicolon ∷ [] ≡ x ++ y
+          → begins first s ≡ true → is other a ≡ true → is first other ≡ false → ⊥
       by_symbol [] a front all begun passed differ = let f : false ≡ true = begun in cc
       by_symbol (w ∷ s) a front all begun passed differ =
           let same : w.symbol ≡ a = cc (all ∙ front) in
@@ -164,13 +170,17 @@ module _ (s : List Written) where
     output = other word.Output grammar.output output;
   }
     where
-      other : (first : Symbol) (shape : Shape) → (is first own ≡ false) ⊎ IsStatement shape s → begins first s ≡ true → IsStatement shape s
+      other : (first : Symbol) (shape : Shape) → (is first own ≡ false) ⊎ IsStatement shape s → begins first s ≡ true
+          → IsStatement shape s
       other first shape (inl differ) begun = absurd (apart first own rest differ begun m)
       other first shape (inr is) begun = is
 
   by_its_word : IsStatement grammar.sentence s → IsByItsWord s
-  by_its_word (inl m) = by_word word.Quit (One (is word.Semicolon)) m (inl refl) (inl refl) (inl refl) (inl refl) (inl refl) (inl refl) (inl refl)
-  by_its_word (inr (inl m)) = by_word word.Proc grammar.proc_rest m (inr m) (inl refl) (inl refl) (inl refl) (inl refl) (inl refl) (inl refl)
+  by_its_word (inl m) =
+      by_word word.Quit (One (is word.Semicolon)) m (inl refl) (inl refl) (inl refl) (inl refl) (inl refl) (inl refl)
+      (inl refl)
+  by_its_word (inr (inl m)) =
+      by_word word.Proc grammar.proc_rest m (inr m) (inl refl) (inl refl) (inl refl) (inl refl) (inl refl) (inl refl)
   by_its_word (inr (inr (inl m))) = record {
     proc = λ begun. absurd (empty word.Proc begun m);
     factors = λ begun. absurd (empty word.Factors begun m);
@@ -180,31 +190,52 @@ module _ (s : List Written) where
     examine = λ begun. absurd (empty word.Examine begun m);
     output = λ begun. absurd (empty word.Output begun m);
   }
-  by_its_word (inr (inr (inr (inl m)))) = by_word word.Run (One (is word.Semicolon)) m (inl refl) (inl refl) (inl refl) (inl refl) (inl refl) (inl refl) (inl refl)
-  by_its_word (inr (inr (inr (inr (inl m))))) = by_word word.Factors grammar.factors_rest m (inl refl) (inr m) (inl refl) (inl refl) (inl refl) (inl refl) (inl refl)
-  by_its_word (inr (inr (inr (inr (inr (inl m)))))) = by_word word.Size grammar.size_rest m (inl refl) (inl refl) (inr m) (inl refl) (inl refl) (inl refl) (inl refl)
-  by_its_word (inr (inr (inr (inr (inr (inr (inl m))))))) = by_word word.Model grammar.model_rest m (inl refl) (inl refl) (inl refl) (inr m) (inl refl) (inl refl) (inl refl)
-  by_its_word (inr (inr (inr (inr (inr (inr (inr (inl m)))))))) = by_word word.Blocks grammar.blocks_rest m (inl refl) (inl refl) (inl refl) (inl refl) (inr m) (inl refl) (inl refl)
-  by_its_word (inr (inr (inr (inr (inr (inr (inr (inr (inl m))))))))) = by_word word.Examine grammar.examine_rest m (inl refl) (inl refl) (inl refl) (inl refl) (inl refl) (inr m) (inl refl)
-  by_its_word (inr (inr (inr (inr (inr (inr (inr (inr (inr m))))))))) = by_word word.Output grammar.output_rest m (inl refl) (inl refl) (inl refl) (inl refl) (inl refl) (inl refl) (inr m)
+  by_its_word (inr (inr (inr (inl m)))) =
+      by_word word.Run (One (is word.Semicolon)) m (inl refl) (inl refl) (inl refl) (inl refl) (inl refl) (inl refl)
+      (inl refl)
+  by_its_word (inr (inr (inr (inr (inl m))))) =
+      by_word word.Factors grammar.factors_rest m (inl refl) (inr m) (inl refl) (inl refl) (inl refl) (inl refl)
+      (inl refl)
+  by_its_word (inr (inr (inr (inr (inr (inl m)))))) =
+      by_word word.Size grammar.size_rest m (inl refl) (inl refl) (inr m) (inl refl) (inl refl) (inl refl) (inl refl)
+  by_its_word (inr (inr (inr (inr (inr (inr (inl m))))))) =
+      by_word word.Model grammar.model_rest m (inl refl) (inl refl) (inl refl) (inr m) (inl refl) (inl refl) (inl refl)
+  by_its_word (inr (inr (inr (inr (inr (inr (inr (inl m)))))))) =
+      by_word word.Blocks grammar.blocks_rest m (inl refl) (inl refl) (inl refl) (inl refl) (inr m) (inl refl)
+      (inl refl)
+  by_its_word (inr (inr (inr (inr (inr (inr (inr (inr (inl m))))))))) =
+      by_word word.Examine grammar.examine_rest m (inl refl) (inl refl) (inl refl) (inl refl) (inl refl) (inr m)
+      (inl refl)
+  by_its_word (inr (inr (inr (inr (inr (inr (inr (inr (inr m))))))))) =
+      by_word word.Output grammar.output_rest m (inl refl) (inl refl) (inl refl) (inl refl) (inl refl) (inl refl)
+      (inr m)
 
 -- the statements of sentences, one after another
-all_of_sentences : (parts : List (List Symbol)) → AllByRecursion (Matches grammar.sentence) parts → (text : List Written)
+all_of_sentences : (parts : List (List Symbol)) → AllByRecursion (Matches grammar.sentence) parts
+    → (text : List Written)
     → symbols_in text ≡ flat_map (λ (part : List Symbol). part) parts → AllByRecursion IsByItsWord (statements_of text)
-all_of_sentences [] h text is = subst (λ (t : List Written). AllByRecursion IsByItsWord (statements_of t)) (sym (none_written text is)) tt
+all_of_sentences [] h text is =
+    subst (λ (t : List Written). AllByRecursion IsByItsWord (statements_of t)) (sym (none_written text is)) tt
 all_of_sentences (p ∷ parts) h text is =
     let rest : List Symbol = flat_map (λ (part : List Symbol). part) parts in
     let e = ended grammar.sentence p sentence_ends h.0 in
-    let c = cut text e.body rest e.lacking (is ∙ ap (λ (l : List Symbol). l ++ rest) e.all ∙ append_assoc e.body (word.Semicolon ∷ []) rest) in
-    let m : IsStatement grammar.sentence c.statement = subst (Matches grammar.sentence) (e.all ∙ ap (λ (l : List Symbol). l ++ word.Semicolon ∷ []) (sym c.statement_is)) h.0 in
-    subst (AllByRecursion IsByItsWord) (sym c.are) (by_its_word c.statement m, all_of_sentences parts h.1 c.others c.others_are)
+    let c = cut text e.body rest e.lacking
+    (is ∙ ap (λ (l : List Symbol). l ++ rest) e.all ∙ append_assoc e.body (word.Semicolon ∷ []) rest) in
+    let m : IsStatement grammar.sentence c.statement =
+    subst (Matches grammar.sentence)
+    (e.all ∙ ap (λ (l : List Symbol). l ++ word.Semicolon ∷ []) (sym c.statement_is)) h.0 in
+    subst (AllByRecursion IsByItsWord) (sym c.are)
+    (by_its_word c.statement m, all_of_sentences parts h.1 c.others c.others_are)
 
-of_the_grammar : (text : List Written) → refused 0 grammar.program (symbols_in text) ≡ None → AllByRecursion IsByItsWord (statements_of text)
+of_the_grammar : (text : List Written) → refused 0 grammar.program (symbols_in text) ≡ None
+    → AllByRecursion IsByItsWord (statements_of text)
 of_the_grammar text none =
     let q = sequence_of (symbols_in text ++ word.End ∷ []) (accepted_to_match (symbols_in text) none) in
     let last : q.last ≡ word.End ∷ [] = q.end.2 ∙ ap (λ x. x ∷ []) (end_alone q.end.0 q.end.1) in
-    let same : symbols_in text ++ word.End ∷ [] ≡ q.sentences ++ word.End ∷ [] = q.all ∙ ap (λ (l : List Symbol). q.sentences ++ l) last in
-    all_of_sentences q.are.parts q.are.each text (append_cancel_right (symbols_in text) q.sentences (word.End ∷ []) same ∙ q.are.is)
+    let same : symbols_in text ++ word.End ∷ [] ≡ q.sentences ++ word.End ∷ [] =
+    q.all ∙ ap (λ (l : List Symbol). q.sentences ++ l) last in
+    all_of_sentences q.are.parts q.are.each text
+    (append_cancel_right (symbols_in text) q.sentences (word.End ∷ []) same ∙ q.are.is)
   where
     end_alone : (s : Symbol) → is word.End s ≡ true → s ≡ word.End
     end_alone word.End h = refl
@@ -219,23 +250,28 @@ in_each (w ∷ text) (first, h) = place (is word.Semicolon w.symbol) (statements
     front [] h = ((first, tt), tt)
     front (s ∷ rest) h = ((first, h.0), h.1)
 
-    place : (b : Bool) (rest : List (List Written)) → AllByRecursion HasNames rest → AllByRecursion HasNames (if b then [] ∷ rest else in_front w rest)
+    place : (b : Bool) (rest : List (List Written)) → AllByRecursion HasNames rest
+        → AllByRecursion HasNames (if b then [] ∷ rest else in_front w rest)
     place true rest h = (tt, h)
     place false rest h = front rest h
 
-names_of_tokens : (text : List ℕ) (tokens : List Token) → AllByRecursion (IsToken text) tokens → HasNames (written text tokens)
+names_of_tokens : (text : List ℕ) (tokens : List Token) → AllByRecursion (IsToken text) tokens
+    → HasNames (written text tokens)
 names_of_tokens text [] h = tt
 names_of_tokens text (t ∷ tokens) h = (is_name text t h.0, names_of_tokens text tokens h.1)
 
 same_symbols : (text : List ℕ) (tokens : List Token) → symbols_in (written text tokens) ≡ symbols_of text tokens
 same_symbols text [] = refl
-same_symbols text (t ∷ tokens) = ap (λ (l : List Symbol). symbol_of t.kind (slice_range text t.from t.upto) ∷ l) (same_symbols text tokens)
+same_symbols text (t ∷ tokens) =
+    ap (λ (l : List Symbol). symbol_of t.kind (slice_range text t.from t.upto) ∷ l) (same_symbols text tokens)
 
-both : (statements : List (List Written)) → AllByRecursion IsByItsWord statements → AllByRecursion HasNames statements → AllByRecursion IsAccepted statements
+both : (statements : List (List Written)) → AllByRecursion IsByItsWord statements → AllByRecursion HasNames statements
+    → AllByRecursion IsAccepted statements
 both [] h k = tt
 both (s ∷ rest) h k = (record { by_its_word = h.0; names = k.0 }, both rest h.1 k.1)
 
-pub are_accepted : (text : List ℕ) (tokens : List Token) → All (IsToken text) tokens → refused 0 grammar.program (symbols_of text tokens) ≡ None
+pub are_accepted : (text : List ℕ) (tokens : List Token) → All (IsToken text) tokens
+    → refused 0 grammar.program (symbols_of text tokens) ≡ None
     → AllByRecursion IsAccepted (statements_of (written text tokens))
 are_accepted text tokens all none =
     let ws = written text tokens in

@@ -1,5 +1,6 @@
 -- Ranges of names, as X2-X5.
-use Rattle.std.specs.Prelude.{ℕ, ◌+◌, ◌-◌, ◌==◌, nat_le, not, ◌&&◌, Bool, false, List, [], ◌∷◌, ◌++◌, length, map, take, drop, reverse, decimal, Option, Some, None, if◌then◌else◌}
+use Rattle.std.specs.Prelude.{ℕ, ◌+◌, ◌-◌, ◌==◌, nat_le, not, ◌&&◌, Bool, false, List, [], ◌∷◌, ◌++◌, length, map, take}
+use Rattle.std.specs.Prelude.{drop, reverse, decimal, Option, Some, None, if◌then◌else◌}
 use Rattle.std.specs.List.{list_all, prefix_len, range_with_len}
 use Rattle.std.specs.Str.Parse.{digits_value}
 use Rattle.fx_lexer.specs.Bytes.{is_digit}

@@ -14,7 +14,13 @@ pub record Written : Type 0 where
 
 -- what a token of the text is
 abbrev pub written_at : List ℕ → Token → Written
-written_at text t = record { symbol = symbol_of t.kind (slice_range text t.from t.upto); text = slice_range text t.from t.upto; line = t.line; column = t.column }
+written_at text t =
+    record {
+      symbol = symbol_of t.kind (slice_range text t.from t.upto);
+      text = slice_range text t.from t.upto;
+      line = t.line;
+      column = t.column;
+    }
 
 -- what is written in the text, in order
 abbrev pub written : List ℕ → List Token → List Written

@@ -1,7 +1,9 @@
 -- The first of least pattern is what the definitions compute.
-use Rattle.std.proofs.Common.{◌≡◌, ℕ, ◌<◌, ◌+◌, Bool, true, false, not, ◌&&◌, ◌||◌, cond, eqb, List, [], ◌∷◌, length, Option, Some, None, refl, sym, subst, ap, ap₂, ◌∙◌, inl, inr}
+use Rattle.std.proofs.Common.{◌≡◌, ℕ, ◌<◌, ◌+◌, Bool, true, false, not, ◌&&◌, ◌||◌, cond, eqb, List, [], ◌∷◌, length}
+use Rattle.std.proofs.Common.{Option, Some, None, refl, sym, subst, ap, ap₂, ◌∙◌, inl, inr}
 use Rattle.std.specs.List.{filter, find, list_all, AllByRecursion}
-use Rattle.std.proofs.lemmas.Bool.{cond-true, cond-false, cases_Bool, and_parts, and_from, and_left, false_from_ne_true, not-true, not_from_false, eqb-true}
+use Rattle.std.proofs.lemmas.Bool.{cond-true, cond-false, cases_Bool, and_parts, and_from, and_left, false_from_ne_true}
+use Rattle.std.proofs.lemmas.Bool.{not-true, not_from_false, eqb-true}
 use Rattle.fx_designs.specs.Galois.{IsField}
 use Rattle.fx_designs.specs.Problems.{Problem}
 use Rattle.fx_designs.specs.Canonical.{is_canonical}
@@ -19,27 +21,33 @@ use Rattle.fx_tree.proofs.Patterns.{is-ranked}
 
 pub find-both : (C Q : List ℕ → Bool) (xs : List (List ℕ)) → find Q (filter C xs) ≡ find (λ y. C y && Q y) xs
 find-both C Q [] = refl
-find-both C Q (x ∷ xs) = elim (C x) as (λ b. find Q (cond b (x ∷ filter C xs) (filter C xs)) ≡ cond (b && Q x) (Some x) (find (λ y. C y && Q y) xs)) [
-  | true ↦ ap (λ o. cond (Q x) (Some x) o) (find-both C Q xs)
-  | false ↦ find-both C Q xs
-]
+find-both C Q (x ∷ xs) =
+    elim (C x) as
+    (λ b. find Q (cond b (x ∷ filter C xs) (filter C xs)) ≡ cond (b && Q x) (Some x) (find (λ y. C y && Q y) xs)) [
+      | true ↦ ap (λ o. cond (Q x) (Some x) o) (find-both C Q xs)
+      | false ↦ find-both C Q xs
+    ]
 
 pub find-same : (D E : List ℕ → Bool) → ((x : List ℕ) → D x ≡ E x) → (xs : List (List ℕ)) → find D xs ≡ find E xs
 find-same D E h [] = refl
 find-same D E h (x ∷ xs) = ap₂ (λ b o. cond b (Some x) o) (h x) (find-same D E h xs)
 
-all-kept : (C g : List ℕ → Bool) (xs : List (List ℕ)) → ((y : List ℕ) → C y ≡ true → g y ≡ true) → list_all g (filter C xs) ≡ true
+all-kept : (C g : List ℕ → Bool) (xs : List (List ℕ)) → ((y : List ℕ) → C y ≡ true → g y ≡ true)
+    → list_all g (filter C xs) ≡ true
 all-kept C g [] h = refl
 all-kept C g (x ∷ xs) h = elim (cases_Bool (C x)) [
   | inl a ↦ ap (list_all g) (cond-true (C x) (x ∷ filter C xs) _ a) ∙ and_from _ _ (h x a) (all-kept C g xs h)
   | inr a ↦ ap (list_all g) (cond-false (C x) (x ∷ filter C xs) _ a) ∙ all-kept C g xs h
 ]
 
-all-at : (C g : List ℕ → Bool) (xs : List (List ℕ)) (b : List ℕ) → IsIn b xs → C b ≡ true → list_all g (filter C xs) ≡ true → g b ≡ true
+all-at : (C g : List ℕ → Bool) (xs : List (List ℕ)) (b : List ℕ) → IsIn b xs → C b ≡ true
+    → list_all g (filter C xs) ≡ true → g b ≡ true
 all-at C g [] b there own h = absurd there
 all-at C g (x ∷ xs) b there own h = elim (cases_Bool (C x)) [
   | inl a ↦
-      let parts = and_parts (g x) (list_all g (filter C xs)) (sym (ap (list_all g) (cond-true (C x) (x ∷ filter C xs) _ a)) ∙ h) in
+      let parts =
+      and_parts (g x) (list_all g (filter C xs)) (sym (ap (list_all g) (cond-true (C x) (x ∷ filter C xs) _ a)) ∙ h)
+      in
       elim there [ inl e ↦ subst (λ z. g z ≡ true) e parts.0 | inr k ↦ all-at C g xs b k own parts.1 ]
   | inr a ↦
       let rest = sym (ap (list_all g) (cond-false (C x) (x ∷ filter C xs) _ a)) ∙ h in
@@ -50,12 +58,15 @@ all-at C g (x ∷ xs) b there own h = elim (cases_Bool (C x)) [
 module _ (x : Ranked) (law : IsRanked x) (D : List ℕ → Bool) where
   abbrev FirstIn : List (List ℕ) → Option (List ℕ) → Type 0
   FirstIn xs None = (d : List ℕ) → IsIn d xs → D d ≡ true → ⊥
-  FirstIn xs (Some b) = (D b ≡ true) × ((d : List ℕ) → IsIn d xs → D d ≡ true → x.less d b ≡ false) × ((d : List ℕ) → IsIn d xs → D d ≡ true → before d b ≡ true → x.less b d ≡ true)
+  FirstIn xs (Some b) =
+      (D b ≡ true) × ((d : List ℕ) → IsIn d xs → D d ≡ true → x.less d b ≡ false)
+      × ((d : List ℕ) → IsIn d xs → D d ≡ true → before d b ≡ true → x.less b d ≡ true)
 
   self-less : (c : List ℕ) → x.less c c ≡ false
   self-less c = false_from_ne_true (x.less c c) (λ z. clash (x.less c c) z (law.not_both c c z))
 
-  alone : (y : List ℕ) (ys : List (List ℕ)) → AllByRecursion (λ z. before y z ≡ true) ys → D y ≡ true → ((d : List ℕ) → IsIn d ys → D d ≡ true → x.less d y ≡ false) → FirstIn (y ∷ ys) (Some y)
+  alone : (y : List ℕ) (ys : List (List ℕ)) → AllByRecursion (λ z. before y z ≡ true) ys → D y ≡ true
+      → ((d : List ℕ) → IsIn d ys → D d ≡ true → x.less d y ≡ false) → FirstIn (y ∷ ys) (Some y)
   alone y ys late own h = (
     own,
     λ d there e. elim there [ inl is ↦ subst (λ z. x.less z y ≡ false) is (self-less y) | inr k ↦ h d k e ],
@@ -78,11 +89,13 @@ module _ (x : Ranked) (law : IsRanked x) (D : List ℕ → Bool) where
       ]
     where
       skip : (o : Option (List ℕ)) → D y ≡ false → FirstIn ys o → FirstIn (y ∷ ys) o
-      skip None out k = λ d there e. elim there [ inl is ↦ clash (D d) e (subst (λ z. D z ≡ false) is out) | inr t ↦ k d t e ]
+      skip None out k =
+          λ d there e. elim there [ inl is ↦ clash (D d) e (subst (λ z. D z ≡ false) is out) | inr t ↦ k d t e ]
       skip (Some b) out k = (
         k.0,
         λ d there e. elim there [ inl is ↦ clash (D d) e (subst (λ z. D z ≡ false) is out) | inr t ↦ k.1 d t e ],
-        λ d there e first. elim there [ inl is ↦ clash (D d) e (subst (λ z. D z ≡ false) is out) | inr t ↦ k.2 d t e first ],
+        λ d there e first. elim there
+            [ inl is ↦ clash (D d) e (subst (λ z. D z ≡ false) is out) | inr t ↦ k.2 d t e first ],
       )
 
       more : (o : Option (List ℕ)) → D y ≡ true → FirstIn ys o → (o : Option (List ℕ)) × FirstIn (y ∷ ys) o
@@ -92,15 +105,21 @@ module _ (x : Ranked) (law : IsRanked x) (D : List ℕ → Bool) where
           Some b,
           (
             k.0,
-            λ d there e. elim there [ inl is ↦ subst (λ z. x.less z b ≡ false) is (law.not_both b y low) | inr t ↦ k.1 d t e ],
+            λ d there e. elim there
+                [ inl is ↦ subst (λ z. x.less z b ≡ false) is (law.not_both b y low) | inr t ↦ k.1 d t e ],
             λ d there e first. elim there [ inl is ↦ subst (λ z. x.less b z ≡ true) is low | inr t ↦ k.2 d t e first ],
           ),
         )
-        | inr high ↦ (Some y, alone y ys h.0 own (λ d t e. false_from_ne_true _ (λ z. clash (x.less d b) (law.apart d y b z high) (k.1 d t e))))
+        | inr high ↦ (
+          Some y,
+          alone y ys h.0 own
+              (λ d t e. false_from_ne_true _ (λ z. clash (x.less d b) (law.apart d y b z high) (k.1 d t e))),
+        )
       ]
 
   -- where all that pass stand in the list, it is the first of least pattern of all
-  pub first_exists : (xs : List (List ℕ)) → Sorted xs → ((d : List ℕ) → D d ≡ true → IsIn d xs) → (o : Option (List ℕ)) × IsFirstLeast x D o
+  pub first_exists : (xs : List (List ℕ)) → Sorted xs → ((d : List ℕ) → D d ≡ true → IsIn d xs)
+      → (o : Option (List ℕ)) × IsFirstLeast x D o
   first_exists xs sorted all = let k = first_in xs sorted in (k.0, go k.0 k.1)
     where
       go : (o : Option (List ℕ)) → FirstIn xs o → IsFirstLeast x D o
@@ -118,16 +137,22 @@ module _ (p : Problem) (f : IsField p.dimensions.q) (some : 0 < p.dimensions.s +
   least_of ms rows = list_all (λ other. not (is_less (pattern_of p.dimensions other) (pattern_of p.dimensions rows))) ms
 
   -- the definition computes it
-  pub first_is : (D : List ℕ → Bool) (xs : List (List ℕ)) → Sorted xs → ((d : List ℕ) → D d ≡ true → IsIn d xs) → (o : Option (List ℕ)) → IsFirstLeast x D o → find (least_of (filter D xs)) (filter D xs) ≡ o
+  pub first_is : (D : List ℕ → Bool) (xs : List (List ℕ)) → Sorted xs → ((d : List ℕ) → D d ≡ true → IsIn d xs)
+      → (o : Option (List ℕ)) → IsFirstLeast x D o → find (least_of (filter D xs)) (filter D xs) ≡ o
   first_is D xs sorted all None h =
-      find-both D (least_of (filter D xs)) xs ∙ none_found (λ y. D y && least_of (filter D xs) y) xs (λ d e. h d (and_parts (D d) _ e).0)
+      find-both D (least_of (filter D xs)) xs ∙ none_found (λ y. D y && least_of (filter D xs) y) xs
+      (λ d e. h d (and_parts (D d) _ e).0)
   first_is D xs sorted all (Some b) h =
       find-both D (least_of (filter D xs)) xs
       ∙ first_found (λ y. D y && least_of (filter D xs) y) xs b sorted (all b h.0)
-      (and_from _ _ h.0 (all-kept D (λ other. not (is_less (pattern_of p.dimensions other) (pattern_of p.dimensions b))) xs (λ y e. not_from_false _ (h.1 y e))))
+      (and_from _ _ h.0
+      (all-kept D (λ other. not (is_less (pattern_of p.dimensions other) (pattern_of p.dimensions b))) xs
+      (λ y e. not_from_false _ (h.1 y e))))
       (λ e passes first.
       let parts = and_parts (D e) _ passes in
-      let none = all-at D (λ other. not (is_less (pattern_of p.dimensions other) (pattern_of p.dimensions e))) xs b (all b h.0) h.0 parts.1 in
+      let none =
+      all-at D (λ other. not (is_less (pattern_of p.dimensions other) (pattern_of p.dimensions e))) xs b (all b h.0)
+      h.0 parts.1 in
       clash (x.less b e) (h.2 e parts.0 first) (not-true _ none))
 
   abbrev designs_that : (List ℕ → Bool) → List ℕ → Bool
@@ -137,9 +162,11 @@ module _ (p : Problem) (f : IsField p.dimensions.q) (some : 0 < p.dimensions.s +
   there test d h = design-in x law d (and_parts _ (test d) h).0 some
 
   module _ (least : p.least ≡ true) where
-    pub best-is : (test : List ℕ → Bool) (o : Option (List ℕ)) → IsFirstLeast x (designs_that test) o → best_of p test ≡ o
+    pub best-is : (test : List ℕ → Bool) (o : Option (List ℕ)) → IsFirstLeast x (designs_that test) o
+        → best_of p test ≡ o
     unfolding first_least
-    best-is test o h = cond-true p.least _ _ least ∙ first_is (designs_that test) (prefixes p) (lists-sorted _ _) (there test) o h
+    best-is test o h =
+        cond-true p.least _ _ least ∙ first_is (designs_that test) (prefixes p) (lists-sorted _ _) (there test) o h
 
     pub best-least : (test : List ℕ → Bool) → IsFirstLeast x (designs_that test) (best_of p test)
     best-least test =
@@ -149,7 +176,10 @@ module _ (p : Problem) (f : IsField p.dimensions.q) (some : 0 < p.dimensions.s +
     design-same : (rows : List ℕ) → is_design p rows ≡ is_tree_design (tree_of p) rows
     design-same rows =
         elim (cases_Bool (eqb (length rows) (p.dimensions.s + p.dimensions.t))) [
-          | inl whole ↦ ap (λ b. eqb (length rows) (p.dimensions.s + p.dimensions.t) && (is_canonical p.dimensions p.requirement rows && b)) (met-prefix p.dimensions f p.requirement rows (eqb-true _ _ whole))
+          | inl whole ↦
+              ap (λ b. eqb (length rows) (p.dimensions.s + p.dimensions.t)
+              && (is_canonical p.dimensions p.requirement rows && b))
+              (met-prefix p.dimensions f p.requirement rows (eqb-true _ _ whole))
           | inr part ↦ and_left _ _ part ∙ sym (and_left _ _ part)
         ]
 
@@ -157,15 +187,18 @@ module _ (p : Problem) (f : IsField p.dimensions.q) (some : 0 < p.dimensions.s +
     pub answer-least : (o : Option (List ℕ)) → IsFirstLeast x (is_tree_design (tree_of p)) o → answer p ≡ o
     unfolding answer designs
     answer-least o h =
-        find-same (λ rows. not p.least || is_of_least_pattern p rows) (is_of_least_pattern p) (λ rows. ap (λ b. not b || is_of_least_pattern p rows) least) (designs p)
-        ∙ first_is (is_design p) (prefixes p) (lists-sorted _ _) (λ d e. design-in x law d (sym (design-same d) ∙ e) some) o
+        find-same (λ rows. not p.least || is_of_least_pattern p rows) (is_of_least_pattern p)
+        (λ rows. ap (λ b. not b || is_of_least_pattern p rows) least) (designs p)
+        ∙ first_is (is_design p) (prefixes p) (lists-sorted _ _)
+        (λ d e. design-in x law d (sym (design-same d) ∙ e) some) o
         (same_tests x (is_tree_design (tree_of p)) (is_design p) (λ d. sym (design-same d)) o h)
 
     -- so it is the first of least pattern
     pub answer-is-first : (o : Option (List ℕ)) → answer p ≡ o → IsFirstLeast x (is_design p) o
     answer-is-first o is =
         let all : List ℕ → Bool = λ d. true in
-        let h = same_tests x (designs_that all) (is_tree_design (tree_of p)) (λ d. and_true (is_tree_design (tree_of p) d)) (best_of p all) (best-least all) in
+        let h = same_tests x (designs_that all) (is_tree_design (tree_of p))
+        (λ d. and_true (is_tree_design (tree_of p) d)) (best_of p all) (best-least all) in
         subst (IsFirstLeast x (is_design p)) (sym (answer-least (best_of p all) h) ∙ is)
         (same_tests x (is_tree_design (tree_of p)) (is_design p) (λ d. sym (design-same d)) (best_of p all) h)
       where

@@ -1,6 +1,8 @@
 -- What is found at a prefix with its last row, and what is then the best so far.
-use Rattle.std.proofs.Common.{◌≡◌, ℕ, ◌<◌, ◌+◌, true, false, ltb, List, [], ◌∷◌, ◌++◌, length, Option, Some, None, ap, ◌∙◌, inl, inr, arith}
-use Rattle.std.proofs.lemmas.Bool.{cond-true, cond-false, cases_Bool, and_parts, and_from, and_left, and_right, eq-eqb, le-ltb, lt-ltb, not-true, not-false, and_cases}
+use Rattle.std.proofs.Common.{◌≡◌, ℕ, ◌<◌, ◌+◌, true, false, ltb, List, [], ◌∷◌, ◌++◌, length, Option, Some, None, ap}
+use Rattle.std.proofs.Common.{◌∙◌, inl, inr, arith}
+use Rattle.std.proofs.lemmas.Bool.{cond-true, cond-false, cases_Bool, and_parts, and_from, and_left, and_right, eq-eqb}
+use Rattle.std.proofs.lemmas.Bool.{le-ltb, lt-ltb, not-true, not-false, and_cases}
 use Rattle.fx_designs.specs.Galois.{IsField}
 use Rattle.fx_designs.specs.Problems.{Problem}
 use Rattle.fx_designs.specs.Demands.{is_allowed}
@@ -43,33 +45,41 @@ module _ (p : Problem) (f : IsField p.dimensions.q) (q : List ℕ) (r : ℕ) whe
   barred-shut out = elim (cases_Bool p.least) [
     | inl e ↦ record {
       shut = opens-least p e c ∙ and_left _ _ out;
-      mark = mark-least p e c ∙ cond-false (is_allowed p.dimensions p.requirement c) _ _ out ∙ ap (λ n. Word n (word_of p c)) (last-row q r);
+      mark = mark-least p e c ∙ cond-false (is_allowed p.dimensions p.requirement c) _ _ out ∙ ap
+          (λ n. Word n (word_of p c)) (last-row q r);
     }
     | inr e ↦ record {
       shut = opens-plain p e c ∙ out;
-      mark = mark-plain p e c ∙ cond-false (is_allowed p.dimensions p.requirement c) _ _ out ∙ ap (λ n. Word n (word_of p c)) (last-row q r);
+      mark = mark-plain p e c ∙ cond-false (is_allowed p.dimensions p.requirement c) _ _ out ∙ ap
+          (λ n. Word n (word_of p c)) (last-row q r);
     }
   ]
 
-  pub barred-best : (o : Option (List ℕ)) → is_allowed p.dimensions p.requirement c ≡ false → IsBestAt p (is_counted x c) o → IsBestAt p (is_counted_through x c) o
+  pub barred-best : (o : Option (List ℕ)) → is_allowed p.dimensions p.requirement c ≡ false
+      → IsBestAt p (is_counted x c) o → IsBestAt p (is_counted_through x c) o
   barred-best o out h = record { first = λ e. barred_best x (is-ranked p f) c o (h.first e) out }
 
-  worse-mark : p.least ≡ true → is_allowed p.dimensions p.requirement c ≡ true → is_branch p c ≡ false → search_mark p c ≡ Worse r
+  worse-mark : p.least ≡ true → is_allowed p.dimensions p.requirement c ≡ true → is_branch p c ≡ false
+      → search_mark p c ≡ Worse r
   worse-mark e allowed out =
-      mark-least p e c ∙ cond-true (is_allowed p.dimensions p.requirement c) _ _ allowed ∙ cond-false (is_branch p c) _ _ out ∙ ap Worse (last-row q r)
+      mark-least p e c ∙ cond-true (is_allowed p.dimensions p.requirement c) _ _ allowed ∙ cond-false (is_branch p c) _
+      _ out ∙ ap Worse (last-row q r)
 
   loses : (o : Option (List ℕ)) → is_beaten p o c ≡ true → (p.least ≡ true) × Loses x c o
   loses None h = absurd (cc h)
   loses (Some b) h = let parts = and_parts p.least _ h in (parts.0, not-true _ parts.1)
 
   -- an allowed prefix that the best so far beats
-  pub beaten-shut : (o : Option (List ℕ)) → is_beaten p o c ≡ true → is_allowed p.dimensions p.requirement c ≡ true → IsBestAt p (is_counted x c) o → IsShut p c (Worse r)
+  pub beaten-shut : (o : Option (List ℕ)) → is_beaten p o c ≡ true → is_allowed p.dimensions p.requirement c ≡ true
+      → IsBestAt p (is_counted x c) o → IsShut p c (Worse r)
   beaten-shut o beaten allowed h =
       let lost = loses o beaten in
-      let out : is_branch p c ≡ false = branch-ranked p lost.0 c ∙ loses_branch x (is-ranked p f) c o (h.first lost.0) lost.1 in
+      let out : is_branch p c ≡ false =
+      branch-ranked p lost.0 c ∙ loses_branch x (is-ranked p f) c o (h.first lost.0) lost.1 in
       record { shut = opens-least p lost.0 c ∙ out; mark = worse-mark lost.0 allowed out }
 
-  pub beaten-best : (o : Option (List ℕ)) → is_beaten p o c ≡ true → IsBestAt p (is_counted x c) o → IsBestAt p (is_counted_through x c) o
+  pub beaten-best : (o : Option (List ℕ)) → is_beaten p o c ≡ true → IsBestAt p (is_counted x c) o
+      → IsBestAt p (is_counted_through x c) o
   beaten-best o beaten h = record { first = λ e. beaten_best x (is-ranked p f) c o (h.first e) (loses o beaten).1 }
 
   wins : (o : Option (List ℕ)) → p.least ≡ true → is_beaten p o c ≡ false → Wins x c o
@@ -77,36 +87,46 @@ module _ (p : Problem) (f : IsField p.dimensions.q) (q : List ℕ) (r : ℕ) whe
   wins (Some b) e h = elim (and_cases _ _ h) [ inl out ↦ clash p.least e out | inr k ↦ not-false _ k ]
 
   -- an allowed prefix that is not whole and not beaten
-  pub open-walked : (o : Option (List ℕ)) → is_beaten p o c ≡ false → is_allowed p.dimensions p.requirement c ≡ true → length c < p.dimensions.s + p.dimensions.t → IsBestAt p (is_counted x c) o → IsOpen p c r
+  pub open-walked : (o : Option (List ℕ)) → is_beaten p o c ≡ false → is_allowed p.dimensions p.requirement c ≡ true
+      → length c < p.dimensions.s + p.dimensions.t → IsBestAt p (is_counted x c) o → IsOpen p c r
   open-walked o unbeaten allowed part h = elim (cases_Bool p.least) [
     | inl e ↦
-        let branch : is_branch p c ≡ true = branch-ranked p e c ∙ wins_branch x (is-ranked p f) c o (h.first e) allowed part (wins o e unbeaten) in
+        let branch : is_branch p c ≡ true =
+        branch-ranked p e c ∙ wins_branch x (is-ranked p f) c o (h.first e) allowed part (wins o e unbeaten) in
         record {
           is_expanded = opens-least p e c ∙ branch;
-          mark = mark-least p e c ∙ cond-true (is_allowed p.dimensions p.requirement c) _ _ allowed ∙ cond-true (is_branch p c) _ _ branch ∙ ap Branch (last-row q r);
+          mark = mark-least p e c ∙ cond-true (is_allowed p.dimensions p.requirement c) _ _ allowed ∙ cond-true
+              (is_branch p c) _ _ branch ∙ ap Branch (last-row q r);
         }
     | inr e ↦ record {
       is_expanded = opens-plain p e c ∙ allowed;
-      mark = mark-plain p e c ∙ cond-true (is_allowed p.dimensions p.requirement c) _ _ allowed ∙ cond-true (ltb (length c) (p.dimensions.s + p.dimensions.t)) _ _ (lt-ltb _ _ part) ∙ ap Branch (last-row q r);
+      mark = mark-plain p e c ∙ cond-true (is_allowed p.dimensions p.requirement c) _ _ allowed ∙ cond-true
+          (ltb (length c) (p.dimensions.s + p.dimensions.t)) _ _ (lt-ltb _ _ part) ∙ ap Branch (last-row q r);
     }
   ]
 
-  module _ (whole : length c ≡ p.dimensions.s + p.dimensions.t) (canonical : is_canonical p.dimensions p.requirement c ≡ true) (allowed : is_allowed p.dimensions p.requirement c ≡ true) where
+  module _ (whole : length c ≡ p.dimensions.s + p.dimensions.t)
+      (canonical : is_canonical p.dimensions p.requirement c ≡ true)
+      (allowed : is_allowed p.dimensions p.requirement c ≡ true) where
     design : is_tree_design (tree_of p) c ≡ true
     design = and_from _ _ (eq-eqb (length c) (p.dimensions.s + p.dimensions.t) whole) (and_from _ _ canonical allowed)
 
     -- a whole prefix, where a least pattern is asked
     pub whole-shut : p.least ≡ true → IsShut p c (Worse r)
     whole-shut e =
-        let out : is_branch p c ≡ false = and_right _ _ (and_left _ _ (le-ltb (length c) (p.dimensions.s + p.dimensions.t) (omega arith))) in
+        let out : is_branch p c ≡ false =
+        and_right _ _ (and_left _ _ (le-ltb (length c) (p.dimensions.s + p.dimensions.t) (omega arith))) in
         record { shut = opens-least p e c ∙ out; mark = worse-mark e allowed out }
 
-    pub better-best : (o : Option (List ℕ)) → is_beaten p o c ≡ false → IsBestAt p (is_counted x c) o → IsBestAt p (is_counted_through x c) (Some c)
-    better-best o unbeaten h = record { first = λ e. better_best x (is-ranked p f) c o (h.first e) design (wins o e unbeaten) }
+    pub better-best : (o : Option (List ℕ)) → is_beaten p o c ≡ false → IsBestAt p (is_counted x c) o
+        → IsBestAt p (is_counted_through x c) (Some c)
+    better-best o unbeaten h =
+        record { first = λ e. better_best x (is-ranked p f) c o (h.first e) design (wins o e unbeaten) }
 
     -- a whole prefix, where none is asked: the first design
     pub first-design : p.least ≡ false → (is_tree_design (search_tree p) c ≡ true) × (search_mark p c ≡ Worse r)
     first-design e = (
       design-plain p e c ∙ design,
-      mark-plain p e c ∙ cond-true (is_allowed p.dimensions p.requirement c) _ _ allowed ∙ cond-false (ltb (length c) (p.dimensions.s + p.dimensions.t)) _ _ (le-ltb _ _ (omega arith)) ∙ ap Worse (last-row q r),
+      mark-plain p e c ∙ cond-true (is_allowed p.dimensions p.requirement c) _ _ allowed ∙ cond-false
+          (ltb (length c) (p.dimensions.s + p.dimensions.t)) _ _ (le-ltb _ _ (omega arith)) ∙ ap Worse (last-row q r),
     )

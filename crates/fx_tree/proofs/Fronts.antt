@@ -1,5 +1,6 @@
 -- The first rows of lists, and where the lists stand.
-use Rattle.std.proofs.Common.{◌≡◌, ℕ, zero, suc, ◌≤◌, Bool, true, false, not, ◌&&◌, ◌||◌, eqb, ltb, List, [], ◌∷◌, length, take, refl, ap, inl, inr, arith}
+use Rattle.std.proofs.Common.{◌≡◌, ℕ, zero, suc, ◌≤◌, Bool, true, false, not, ◌&&◌, ◌||◌, eqb, ltb, List, [], ◌∷◌}
+use Rattle.std.proofs.Common.{length, take, refl, ap, inl, inr, arith}
 use Rattle.std.specs.List.{list_all}
 use Rattle.std.proofs.lemmas.Bool.{cases_Bool, and_parts, and_right, eqb-true, ltb-true, le-ltb}
 use Rattle.fx_designs.specs.Vectors.{same}
@@ -16,7 +17,8 @@ front-extends (suc k) [] (b ∷ j) e = refl
 front-extends (suc k) (a ∷ rows) (b ∷ j) e = ap (λ z. eqb a b && z) (front-extends k rows j (omega arith))
 
 -- a list stands before another by their first k rows, or has the same ones
-pub front-before : (k : ℕ) (d q : List ℕ) → k ≤ length d → k ≤ length q → (before d q && not (same (take k d) (take k q))) ≡ before (take k d) (take k q)
+pub front-before : (k : ℕ) (d q : List ℕ) → k ≤ length d → k ≤ length q
+    → (before d q && not (same (take k d) (take k q))) ≡ before (take k d) (take k q)
 front-before zero d q h g = and_right _ _ refl
 front-before (suc k) [] q h g = absurd (omega arith)
 front-before (suc k) (a ∷ d) [] h g = absurd (omega arith)
@@ -38,8 +40,10 @@ pub before-front : (k : ℕ) (d q : List ℕ) → length q ≤ k → k ≤ lengt
 before-front k d [] h g = refl
 before-front zero d (b ∷ q) h g = absurd (omega arith)
 before-front (suc k) [] (b ∷ q) h g = absurd (omega arith)
-before-front (suc k) (a ∷ d) (b ∷ q) h g = ap (λ z. ltb b a || (eqb a b && z)) (before-front k d q (omega arith) (omega arith))
+before-front (suc k) (a ∷ d) (b ∷ q) h g =
+    ap (λ z. ltb b a || (eqb a b && z)) (before-front k d q (omega arith) (omega arith))
 
 pub ranged-all : (b : ℕ) (rows : List ℕ) → list_all (λ r. ltb r b) rows ≡ true → Ranged b rows
 ranged-all b [] h = tt
-ranged-all b (r ∷ rows) h = let parts = and_parts (ltb r b) (list_all (λ r. ltb r b) rows) h in (ltb-true r b parts.0, ranged-all b rows parts.1)
+ranged-all b (r ∷ rows) h = let parts = and_parts (ltb r b) (list_all (λ r. ltb r b) rows) h in
+    (ltb-true r b parts.0, ranged-all b rows parts.1)

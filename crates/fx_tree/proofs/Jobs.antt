@@ -1,7 +1,10 @@
 -- The nodes and the marks inside a job, and those of a problem in its jobs.
-use Rattle.std.proofs.Common.{◌≡◌, ℕ, zero, suc, ◌≤◌, ◌+◌, ◌-◌, ◌^◌, Bool, true, false, not, ◌&&◌, ◌||◌, cond, if◌then◌else◌, eqb, ltb, List, [], ◌∷◌, ◌++◌, map, length, take, Some, None, refl, sym, subst, ap, ap₂, ◌∙◌, inl, inr, arith, append-nil, length-append, lt-ltb}
+use Rattle.std.proofs.Common.{◌≡◌, ℕ, zero, suc, ◌≤◌, ◌+◌, ◌-◌, ◌^◌, Bool, true, false, not, ◌&&◌, ◌||◌, cond}
+use Rattle.std.proofs.Common.{if◌then◌else◌, eqb, ltb, List, [], ◌∷◌, ◌++◌, map, length, take, Some, None, refl, sym}
+use Rattle.std.proofs.Common.{subst, ap, ap₂, ◌∙◌, inl, inr, arith, append-nil, length-append, lt-ltb}
 use Rattle.std.specs.List.{filter, find, list_any, AllByRecursion}
-use Rattle.std.proofs.lemmas.Bool.{cond-true, cond-false, cases_Bool, and_parts, and_from, and_left, and_right, or_left, or_right, eqb-true, false_from_ne_true, not_from_false, not-true}
+use Rattle.std.proofs.lemmas.Bool.{cond-true, cond-false, cases_Bool, and_parts, and_from, and_left, and_right, or_left}
+use Rattle.std.proofs.lemmas.Bool.{or_right, eqb-true, false_from_ne_true, not_from_false, not-true}
 use Rattle.std.proofs.lemmas.List.{take-append-le, take_all}
 use Rattle.fx_designs.specs.Galois.{IsField}
 use Rattle.fx_designs.specs.Vectors.{same}
@@ -10,14 +13,16 @@ use Rattle.fx_designs.specs.Demands.{is_allowed}
 use Rattle.fx_designs.specs.Canonical.{is_canonical}
 use Rattle.fx_designs.specs.Patterns.{pattern_of, is_less}
 use Rattle.fx_designs.specs.Answers.{before, prefixes}
-use Rattle.fx_designs.specs.Nodes.{parent, last_row, lot_of, job_of, counts, excludes, is_branch, is_complete_allowed, is_not_after, Branch, Word, Worse, word_of}
+use Rattle.fx_designs.specs.Nodes.{parent, last_row, lot_of, job_of, counts, excludes, is_branch, is_complete_allowed}
+use Rattle.fx_designs.specs.Nodes.{is_not_after, Branch, Word, Worse, word_of}
 use Rattle.fx_laws.specs.Trees.{Tree, tree_of, is_tree_design}
 use Rattle.fx_laws.specs.Walks.{through, is_candidate, subtree, mark_at}
 use Rattle.fx_laws.proofs.Order.{each-all, each_in}
 use Rattle.fx_laws.proofs.Candidates.{parent-append}
 use Rattle.fx_laws.proofs.Nodes.{filter_same, design-candidate}
 use Rattle.fx_tree.proofs.Firsts.{find-both}
-use Rattle.fx_designs.specs.Jobs.{is_of_job, is_of_earlier_lot, excludes_inside, is_branch_inside, first_inside, is_node_inside, nodes_inside, mark_inside, marks_inside}
+use Rattle.fx_designs.specs.Jobs.{is_of_job, is_of_earlier_lot, excludes_inside, is_branch_inside, first_inside}
+use Rattle.fx_designs.specs.Jobs.{is_node_inside, nodes_inside, mark_inside, marks_inside}
 use Rattle.fx_tree.specs.Ranked.{extends}
 use Rattle.fx_tree.specs.Search.{ranked, is_expanded, search_tree, search_mark}
 use Rattle.fx_tree.specs.Inside.{is_own, is_branch_in, is_node_in, nodes_in}
@@ -29,7 +34,8 @@ use Rattle.fx_tree.proofs.Lots.{Ranged}
 use Rattle.fx_tree.proofs.Fronts.{front-extends, front-before, before-front, ranged-all}
 use Rattle.fx_tree.proofs.Inside.{nodes_in_are, after_is}
 use Rattle.fx_tree.proofs.Parts.{all-from}
-use Rattle.fx_tree.proofs.SearchTree.{opens-least, opens-plain, mark-least, mark-plain, no-design, design-plain, walked-law}
+use Rattle.fx_tree.proofs.SearchTree.{opens-least, opens-plain, mark-least, mark-plain, no-design, design-plain}
+use Rattle.fx_tree.proofs.SearchTree.{walked-law}
 
 find-same : (D E : List ℕ → Bool) → ((x : List ℕ) → D x ≡ E x) → (xs : List (List ℕ)) → find D xs ≡ find E xs
 find-same D E h [] = refl
@@ -39,12 +45,15 @@ find-never : (D : List ℕ → Bool) → ((x : List ℕ) → D x ≡ false) → 
 find-never D h [] = refl
 find-never D h (x ∷ xs) = cond-false (D x) _ _ (h x) ∙ find-never D h xs
 
-map-kept : {Y : Type 0} (f g : List ℕ → Y) (q : List ℕ → Bool) → ((x : List ℕ) → q x ≡ true → f x ≡ g x) → (xs : List (List ℕ)) → map f (filter q xs) ≡ map g (filter q xs)
+map-kept : {Y : Type 0} (f g : List ℕ → Y) (q : List ℕ → Bool) → ((x : List ℕ) → q x ≡ true → f x ≡ g x)
+    → (xs : List (List ℕ)) → map f (filter q xs) ≡ map g (filter q xs)
 map-kept f g q h [] = refl
 map-kept f g q h (x ∷ xs) =
     elim (cases_Bool (q x)) [
-      | inl a ↦ ap (map f) (cond-true (q x) _ _ a) ∙ ap₂ (λ y l. y ∷ l) (h x a) (map-kept f g q h xs) ∙ sym (ap (map g) (cond-true (q x) (x ∷ filter q xs) _ a))
-      | inr a ↦ ap (map f) (cond-false (q x) _ _ a) ∙ map-kept f g q h xs ∙ sym (ap (map g) (cond-false (q x) (x ∷ filter q xs) _ a))
+      | inl a ↦ ap (map f) (cond-true (q x) _ _ a) ∙ ap₂ (λ y l. y ∷ l) (h x a) (map-kept f g q h xs) ∙ sym
+          (ap (map g) (cond-true (q x) (x ∷ filter q xs) _ a))
+      | inr a ↦ ap (map f) (cond-false (q x) _ _ a) ∙ map-kept f g q h xs ∙ sym
+          (ap (map g) (cond-false (q x) (x ∷ filter q xs) _ a))
     ]
 
 -- the same choice of what counts inside a job, by truth tables
@@ -56,7 +65,8 @@ least-table true false false n = refl
 least-table false s true n = refl
 least-table false s false n = refl
 
-module _ (p : Problem) (f : IsField p.dimensions.q) (j : List ℕ) (job : length j ≡ p.dimensions.m + 2) (room : p.dimensions.m + 2 ≤ p.dimensions.s + p.dimensions.t) where
+module _ (p : Problem) (f : IsField p.dimensions.q) (j : List ℕ) (job : length j ≡ p.dimensions.m + 2)
+    (room : p.dimensions.m + 2 ≤ p.dimensions.s + p.dimensions.t) where
   abbrev d : Dimensions
   d = p.dimensions
 
@@ -70,15 +80,19 @@ module _ (p : Problem) (f : IsField p.dimensions.q) (j : List ℕ) (job : length
   of-job rows = front-extends (d.m + 2) rows j job
 
   whole : (m : List ℕ) → is_complete_allowed p m ≡ true → length m ≡ d.s + d.t
-  whole m h = eqb-true (length m) (d.s + d.t) (and_parts (eqb (length m) (d.s + d.t)) (is_canonical d p.requirement m && is_allowed d p.requirement m) h).0
+  whole m h =
+      eqb-true (length m) (d.s + d.t)
+      (and_parts (eqb (length m) (d.s + d.t)) (is_canonical d p.requirement m && is_allowed d p.requirement m) h).0
 
   -- an earlier lot: before the rows, and not in their lot
-  earlier : (m q : List ℕ) → is_complete_allowed p m ≡ true → extends q j ≡ true → is_of_earlier_lot d j m ≡ (before m q && not (same (lot_of d m) (lot_of d q)))
+  earlier : (m q : List ℕ) → is_complete_allowed p m ≡ true → extends q j ≡ true
+      → is_of_earlier_lot d j m ≡ (before m q && not (same (lot_of d m) (lot_of d q)))
   earlier m q h e =
       let s = split_of q j e in
       let len = whole m h in
       let long : length q ≡ length j + length s.0 = ap length s.1 ∙ length-append j s.0 in
-      let lots : take (d.m + 1) q ≡ take (d.m + 1) j = ap (take (d.m + 1)) s.1 ∙ take-append-le (d.m + 1) j s.0 (omega arith) in
+      let lots : take (d.m + 1) q ≡ take (d.m + 1) j =
+      ap (take (d.m + 1)) s.1 ∙ take-append-le (d.m + 1) j s.0 (omega arith) in
       ap (λ b. b && before (lot_of d m) (lot_of d j)) (lt-ltb d.m (length m) (omega arith))
       ∙ ap (before (lot_of d m)) (sym lots)
       ∙ sym (front-before (d.m + 1) m q (omega arith) (omega arith))
@@ -86,10 +100,12 @@ module _ (p : Problem) (f : IsField p.dimensions.q) (j : List ℕ) (job : length
   jobs-of : (m q : List ℕ) → extends q j ≡ true → same (job_of d m) (job_of d q) ≡ is_of_job d j m
   jobs-of m q e =
       let s = split_of q j e in
-      ap (same (job_of d m)) (ap (take (d.m + 2)) s.1 ∙ take-append-le (d.m + 2) j s.0 (omega arith) ∙ take_all (d.m + 2) j (omega arith))
+      ap (same (job_of d m))
+      (ap (take (d.m + 2)) s.1 ∙ take-append-le (d.m + 2) j s.0 (omega arith) ∙ take_all (d.m + 2) j (omega arith))
 
   module _ (least : p.least ≡ true) where
-    excludes-least : (m q : List ℕ) → extends q j ≡ true → (is_complete_allowed p m && excludes_inside p j m q) ≡ (is_complete_allowed p m && excludes p m q)
+    excludes-least : (m q : List ℕ) → extends q j ≡ true
+        → (is_complete_allowed p m && excludes_inside p j m q) ≡ (is_complete_allowed p m && excludes p m q)
     excludes-least m q e =
         elim (cases_Bool (is_complete_allowed p m)) [
           | inr out ↦ and_left _ _ out ∙ sym (and_left _ _ out)
@@ -100,23 +116,28 @@ module _ (p : Problem) (f : IsField p.dimensions.q) (j : List ℕ) (job : length
               let some : ltb d.m (length q) ≡ true = lt-ltb d.m (length q) (omega arith) in
               ap (λ b. is_complete_allowed p m && b) (
               ap₂ (λ a b. (a || is_of_job d j m) && (before m q && b)) (earlier m q h e) (ap (λ b. not b || n) least)
-              ∙ ap (λ b. ((before m q && not (same (lot_of d m) (lot_of d q))) || b) && (before m q && n)) (sym (jobs-of m q e))
+              ∙ ap (λ b. ((before m q && not (same (lot_of d m) (lot_of d q))) || b) && (before m q && n))
+              (sym (jobs-of m q e))
               ∙ least-table (before m q) (same (lot_of d m) (lot_of d q)) (same (job_of d m) (job_of d q)) n
-              ∙ ap (λ b. (before m q && not (b && (same (lot_of d m) (lot_of d q) && not (same (job_of d m) (job_of d q))))) && n) (sym some)
+              ∙ ap (λ b.
+              (before m q && not (b && (same (lot_of d m) (lot_of d q) && not (same (job_of d m) (job_of d q)))))
+              && n) (sym some)
               ∙ sym (cond-true p.least (counts d m q && n) (before m q) least))
         ]
 
     -- inside a job a branch is a branch of the problem
     pub branch-least : (q : List ℕ) → extends q j ≡ true → is_branch_inside p j q ≡ is_branch p q
     branch-least q e = ap (λ b. is_allowed d p.requirement q && (ltb (length q) (d.s + d.t) && not b))
-        (any-same (λ m. is_complete_allowed p m && excludes_inside p j m q) (λ m. is_complete_allowed p m && excludes p m q) (λ m. excludes-least m q e) (prefixes p))
+        (any-same (λ m. is_complete_allowed p m && excludes_inside p j m q)
+        (λ m. is_complete_allowed p m && excludes p m q) (λ m. excludes-least m q e) (prefixes p))
 
     own-never : (m : List ℕ) → is_own T j m ≡ false
     own-never m = and_left _ _ (no-design p least m)
 
     branch-in-least : (q : List ℕ) → is_branch_in T j q ≡ is_branch p q
     branch-in-least q =
-        let none : list_any (λ m. is_own T j m && before m q) (prefixes p) ≡ false = any-never _ (λ m. and_left _ _ (own-never m)) (prefixes p) in
+        let none : list_any (λ m. is_own T j m && before m q) (prefixes p) ≡ false =
+        any-never _ (λ m. and_left _ _ (own-never m)) (prefixes p) in
         ap₂ (λ a b. a && (ltb (length q) (d.s + d.t) && not b)) (opens-least p least q) none
         ∙ fold (is_allowed d p.requirement q) (ltb (length q) (d.s + d.t)) _
       where
@@ -129,21 +150,32 @@ module _ (p : Problem) (f : IsField p.dimensions.q) (j : List ℕ) (job : length
     pub same-branch-least : (q : List ℕ) → extends q j ≡ true → is_branch_inside p j q ≡ is_branch_in T j q
     same-branch-least q e = branch-least q e ∙ sym (branch-in-least q)
 
-    last-least : (rows : List ℕ) → (p.least || is_not_after (first_inside p j) rows) ≡ is_not_after (find (is_own T j) (prefixes p)) rows
-    last-least rows = or_left _ _ least ∙ sym (ap (λ o. is_not_after o rows) (find-never (is_own T j) own-never (prefixes p)))
+    last-least : (rows : List ℕ)
+        → (p.least || is_not_after (first_inside p j) rows) ≡ is_not_after (find (is_own T j) (prefixes p)) rows
+    last-least rows =
+        or_left _ _ least ∙ sym (ap (λ o. is_not_after o rows) (find-never (is_own T j) own-never (prefixes p)))
 
   module _ (plain : p.least ≡ false) (branch : is_branch p (lot_of d j) ≡ true) where
     -- no complete allowed matrix stands before the lot
     none-before : (m : List ℕ) → is_complete_allowed p m ≡ true → before m (lot_of d j) ≡ false
     none-before m h =
-        let parts = and_parts (ltb (length (lot_of d j)) (d.s + d.t)) _ (and_parts (is_allowed d p.requirement (lot_of d j)) _ branch).1 in
-        let none : list_any (λ m. is_complete_allowed p m && excludes p m (lot_of d j)) (prefixes p) ≡ false = not-true _ parts.1 in
+        let parts =
+        and_parts (ltb (length (lot_of d j)) (d.s + d.t)) _
+        (and_parts (is_allowed d p.requirement (lot_of d j)) _ branch).1 in
+        let none : list_any (λ m. is_complete_allowed p m && excludes p m (lot_of d j)) (prefixes p) ≡ false =
+        not-true _ parts.1 in
         let one : (is_complete_allowed p m && excludes p m (lot_of d j)) ≡ false =
-        each_in (λ m. (is_complete_allowed p m && excludes p m (lot_of d j)) ≡ false) m (prefixes p) (none-each (λ m. is_complete_allowed p m && excludes p m (lot_of d j)) (prefixes p) none) (design-in (ranked p) (is-ranked p f) m h (omega arith)) in
-        let is : excludes p m (lot_of d j) ≡ before m (lot_of d j) = cond-false p.least (counts d m (lot_of d j) && not (is_less (pattern_of d (lot_of d j)) (pattern_of d m))) (before m (lot_of d j)) plain in
-        false_from_ne_true _ (λ e. clash (is_complete_allowed p m && excludes p m (lot_of d j)) (and_from _ _ h (is ∙ e)) one)
+        each_in (λ m. (is_complete_allowed p m && excludes p m (lot_of d j)) ≡ false) m (prefixes p)
+        (none-each (λ m. is_complete_allowed p m && excludes p m (lot_of d j)) (prefixes p) none)
+        (design-in (ranked p) (is-ranked p f) m h (omega arith)) in
+        let is : excludes p m (lot_of d j) ≡ before m (lot_of d j) =
+        cond-false p.least (counts d m (lot_of d j) && not (is_less (pattern_of d (lot_of d j)) (pattern_of d m)))
+        (before m (lot_of d j)) plain in
+        false_from_ne_true _
+        (λ e. clash (is_complete_allowed p m && excludes p m (lot_of d j)) (and_from _ _ h (is ∙ e)) one)
       where
-        none-each : (g : List ℕ → Bool) (xs : List (List ℕ)) → list_any g xs ≡ false → AllByRecursion (λ y. g y ≡ false) xs
+        none-each : (g : List ℕ → Bool) (xs : List (List ℕ)) → list_any g xs ≡ false
+            → AllByRecursion (λ y. g y ≡ false) xs
         none-each g [] h = tt
         none-each g (y ∷ ys) h = elim (cases_Bool (g y)) [
           | inl a ↦ clash (list_any g (y ∷ ys)) (or_left _ _ a) h
@@ -161,12 +193,15 @@ module _ (p : Problem) (f : IsField p.dimensions.q) (j : List ℕ) (job : length
         lot-short (suc k) [] = omega arith
         lot-short (suc k) (a ∷ rows) = let z = lot-short k rows in omega arith
 
-    excludes-plain : (m q : List ℕ) → (is_complete_allowed p m && excludes_inside p j m q) ≡ (is_own T j m && before m q)
+    excludes-plain : (m q : List ℕ)
+        → (is_complete_allowed p m && excludes_inside p j m q) ≡ (is_own T j m && before m q)
     excludes-plain m q =
         elim (cases_Bool (is_complete_allowed p m)) [
           | inr out ↦ and_left _ _ out ∙ sym (and_left _ _ (and_left _ _ (design-plain p plain m ∙ out)))
           | inl h ↦
-              ap₂ (λ a b. a && b) h (ap₂ (λ a b. (a || is_of_job d j m) && (before m q && b)) (none-earlier m h) (or_left _ _ (not_from_false _ plain)))
+              ap₂ (λ a b. a && b) h
+              (ap₂ (λ a b. (a || is_of_job d j m) && (before m q && b)) (none-earlier m h)
+              (or_left _ _ (not_from_false _ plain)))
               ∙ order (is_of_job d j m) (before m q)
               ∙ ap₂ (λ a b. (a && b) && before m q) (sym (design-plain p plain m ∙ h)) (of-job m)
         ]
@@ -178,34 +213,47 @@ module _ (p : Problem) (f : IsField p.dimensions.q) (j : List ℕ) (job : length
 
     pub same-branch-plain : (q : List ℕ) → is_branch_inside p j q ≡ is_branch_in T j q
     same-branch-plain q = ap₂ (λ a b. a && (ltb (length q) (d.s + d.t) && not b)) (sym (opens-plain p plain q))
-        (any-same (λ m. is_complete_allowed p m && excludes_inside p j m q) (λ m. is_own T j m && before m q) (λ m. excludes-plain m q) (prefixes p))
+        (any-same (λ m. is_complete_allowed p m && excludes_inside p j m q) (λ m. is_own T j m && before m q)
+        (λ m. excludes-plain m q) (prefixes p))
 
-    last-plain : (rows : List ℕ) → (p.least || is_not_after (first_inside p j) rows) ≡ is_not_after (find (is_own T j) (prefixes p)) rows
+    last-plain : (rows : List ℕ)
+        → (p.least || is_not_after (first_inside p j) rows) ≡ is_not_after (find (is_own T j) (prefixes p)) rows
     unfolding first_inside
-    last-plain rows = or-false plain ∙ ap (λ o. is_not_after o rows) (find-same (λ m. is_complete_allowed p m && is_of_job d j m) (is_own T j) (λ m. ap₂ (λ a b. a && b) (sym (design-plain p plain m)) (of-job m)) (prefixes p))
+    last-plain rows =
+        or-false plain ∙ ap (λ o. is_not_after o rows)
+        (find-same (λ m. is_complete_allowed p m && is_of_job d j m) (is_own T j)
+        (λ m. ap₂ (λ a b. a && b) (sym (design-plain p plain m)) (of-job m)) (prefixes p))
       where
         or-false : {a b : Bool} → a ≡ false → (a || b) ≡ b
         or-false e = rw e refl
 
   module _ (canonical : is_canonical d p.requirement j ≡ true) (branch : is_branch p (lot_of d j) ≡ true) where
     same-branch : (q : List ℕ) → extends q j ≡ true → is_branch_inside p j q ≡ is_branch_in T j q
-    same-branch q e = elim (cases_Bool p.least) [ inl h ↦ same-branch-least h q e | inr h ↦ same-branch-plain h branch q ]
+    same-branch q e =
+        elim (cases_Bool p.least) [ inl h ↦ same-branch-least h q e | inr h ↦ same-branch-plain h branch q ]
 
-    same-last : (rows : List ℕ) → (p.least || is_not_after (first_inside p j) rows) ≡ is_not_after (find (is_own T j) (prefixes p)) rows
+    same-last : (rows : List ℕ)
+        → (p.least || is_not_after (first_inside p j) rows) ≡ is_not_after (find (is_own T j) (prefixes p)) rows
     same-last rows = elim (cases_Bool p.least) [ inl h ↦ last-least h rows | inr h ↦ last-plain h branch rows ]
 
     node-same : (rows : List ℕ) → is_node_inside p j rows ≡ is_node_in T j rows
     node-same rows =
         elim (cases_Bool (extends rows j)) [
           | inr out ↦ and_left _ _ (of-job rows ∙ out) ∙ sym (and_left _ _ out)
-          | inl e ↦ ap₂ (λ a b. a && (is_canonical d p.requirement rows && b)) (of-job rows) (ap₂ (λ a b. a && b) (up (split_of rows j e).0 (split_of rows j e).1) (same-last rows))
+          | inl e ↦ ap₂ (λ a b. a && (is_canonical d p.requirement rows && b)) (of-job rows)
+              (ap₂ (λ a b. a && b) (up (split_of rows j e).0 (split_of rows j e).1) (same-last rows))
         ]
       where
-        up : (s : List ℕ) → rows ≡ j ++ s → (same rows j || is_branch_inside p j (parent rows)) ≡ (same rows j || is_branch_in T j (parent rows))
+        up : (s : List ℕ) → rows ≡ j ++ s
+            → (same rows j || is_branch_inside p j (parent rows)) ≡ (same rows j || is_branch_in T j (parent rows))
         up [] e =
             let own : same rows j ≡ true = ap (λ l. same l j) (e ∙ append-nil j) ∙ same-self j in
             or_left _ _ own ∙ sym (or_left _ _ own)
-        up (r ∷ s) e = ap (λ b. same rows j || b) (same-branch (parent rows) (subst (λ l. extends l j ≡ true) (sym (ap parent e ∙ parent-append j r s)) (extends-append j (parent (r ∷ s)))))
+        up (r ∷ s) e =
+            ap (λ b. same rows j || b)
+            (same-branch (parent rows)
+            (subst (λ l. extends l j ≡ true) (sym (ap parent e ∙ parent-append j r s))
+            (extends-append j (parent (r ∷ s)))))
 
     pub inside-in : nodes_inside p j ≡ nodes_in T j
     unfolding nodes_inside nodes_in
@@ -219,7 +267,8 @@ module _ (p : Problem) (f : IsField p.dimensions.q) (j : List ℕ) (job : length
     pub nodes-inside : nodes_inside p j ≡ through D (subtree T (d.s + d.t - length j) j)
     nodes-inside = inside-in ∙ go j job canonical job-ranged
       where
-        go : (l : List ℕ) → length l ≡ d.m + 2 → is_canonical d p.requirement l ≡ true → Ranged (d.q ^ d.m) l → nodes_in T l ≡ through D (subtree T (d.s + d.t - length l) l)
+        go : (l : List ℕ) → length l ≡ d.m + 2 → is_canonical d p.requirement l ≡ true → Ranged (d.q ^ d.m) l
+            → nodes_in T l ≡ through D (subtree T (d.s + d.t - length l) l)
         go [] h c r = absurd (omega arith)
         go (a ∷ l) h c r = nodes_in_are T (walked-law p f) a l (d.s + d.t - length (a ∷ l)) (omega arith) c r
 
@@ -228,20 +277,30 @@ module _ (p : Problem) (f : IsField p.dimensions.q) (j : List ℕ) (job : length
     unfolding marks_inside nodes_inside
     marks-inside = map-kept (mark_inside p j) (search_mark p) (is_node_inside p j) one (prefixes p)
       where
-        plain-mark : (rows : List ℕ) → p.least ≡ false → is_node_in T j rows ≡ true → (b : Bool) → is_allowed d p.requirement rows ≡ b → mark_inside p j rows ≡ mark_at (tree_of p) rows
-        plain-mark rows h node false a = cond-false (is_allowed d p.requirement rows) _ _ a ∙ sym (cond-false (is_allowed d p.requirement rows) _ _ a)
+        plain-mark : (rows : List ℕ) → p.least ≡ false → is_node_in T j rows ≡ true → (b : Bool)
+            → is_allowed d p.requirement rows ≡ b → mark_inside p j rows ≡ mark_at (tree_of p) rows
+        plain-mark rows h node false a =
+            cond-false (is_allowed d p.requirement rows) _ _ a ∙ sym
+            (cond-false (is_allowed d p.requirement rows) _ _ a)
         plain-mark rows h node true a =
-            let last = (and_parts (same rows j || is_branch_in T j (parent rows)) _ (and_parts (is_canonical d p.requirement rows) _ (and_parts (extends rows j) _ node).1).1).1 in
+            let last =
+            (and_parts (same rows j || is_branch_in T j (parent rows)) _
+            (and_parts (is_canonical d p.requirement rows) _ (and_parts (extends rows j) _ node).1).1).1 in
             let none : list_any (λ m. is_own T j m && before m rows) (prefixes p) ≡ false = seen-none j job rows last in
             let is : is_branch_inside p j rows ≡ ltb (length rows) (d.s + d.t) =
-            same-branch-plain h branch rows ∙ ap₂ (λ a b. a && (ltb (length rows) (d.s + d.t) && not b)) (opens-plain p h rows ∙ a) none ∙ unit (ltb (length rows) (d.s + d.t)) in
-            cond-true (is_allowed d p.requirement rows) _ _ a ∙ ap (λ b. if b then Branch (last_row rows) else Worse (last_row rows)) is ∙ sym (cond-true (is_allowed d p.requirement rows) _ _ a)
+            same-branch-plain h branch rows ∙ ap₂ (λ a b. a && (ltb (length rows) (d.s + d.t) && not b))
+            (opens-plain p h rows ∙ a) none ∙ unit (ltb (length rows) (d.s + d.t)) in
+            cond-true (is_allowed d p.requirement rows) _ _ a ∙ ap
+            (λ b. if b then Branch (last_row rows) else Worse (last_row rows)) is ∙ sym
+            (cond-true (is_allowed d p.requirement rows) _ _ a)
           where
             unit : (a : Bool) → (true && (a && true)) ≡ a
             unit true = refl
             unit false = refl
 
-            seen-none : (l : List ℕ) → length l ≡ d.m + 2 → (rows : List ℕ) → is_not_after (find (is_own T l) (prefixes p)) rows ≡ true → list_any (λ m. is_own T l m && before m rows) (prefixes p) ≡ false
+            seen-none : (l : List ℕ) → length l ≡ d.m + 2 → (rows : List ℕ)
+                → is_not_after (find (is_own T l) (prefixes p)) rows ≡ true
+                → list_any (λ m. is_own T l m && before m rows) (prefixes p) ≡ false
             seen-none [] h rows e = absurd (omega arith)
             seen-none (a ∷ l) h rows e = not-true _ (sym (after_is T (walked-law p f) a l rows) ∙ e)
 
@@ -249,16 +308,21 @@ module _ (p : Problem) (f : IsField p.dimensions.q) (j : List ℕ) (job : length
         one rows h = elim (cases_Bool p.least) [
           | inl e ↦
               let own : extends rows j ≡ true = sym (of-job rows) ∙ (and_parts (is_of_job d j rows) _ h).0 in
-              ap (λ b. if is_allowed d p.requirement rows then (if b then Branch (last_row rows) else Worse (last_row rows)) else Word (last_row rows) (word_of p rows)) (branch-least e rows own)
+              ap (λ b. if is_allowed d p.requirement rows
+              then (if b then Branch (last_row rows) else Worse (last_row rows))
+              else Word (last_row rows) (word_of p rows)) (branch-least e rows own)
               ∙ sym (mark-least p e rows)
-          | inr e ↦ plain-mark rows e (sym (node-same rows) ∙ h) (is_allowed d p.requirement rows) refl ∙ sym (mark-plain p e rows)
+          | inr e ↦ plain-mark rows e (sym (node-same rows) ∙ h) (is_allowed d p.requirement rows) refl ∙ sym
+              (mark-plain p e rows)
         ]
 
     -- the first complete allowed matrix of the job is the first design from it on
-    pub first-inside : p.least ≡ false → is_expanded p (parent j) ≡ true → first_inside p j ≡ find D (subtree T (d.s + d.t - length j) j)
+    pub first-inside : p.least ≡ false → is_expanded p (parent j) ≡ true
+        → first_inside p j ≡ find D (subtree T (d.s + d.t - length j) j)
     unfolding first_inside
     first-inside plain open' =
-        find-same (λ m. is_complete_allowed p m && is_of_job d j m) (λ y. (extends y j && is_candidate T y) && D y) agree (prefixes p)
+        find-same (λ m. is_complete_allowed p m && is_of_job d j m) (λ y. (extends y j && is_candidate T y) && D y)
+        agree (prefixes p)
         ∙ sym (find-both (λ y. extends y j && is_candidate T y) D (prefixes p))
         ∙ ap (find D) (go j job canonical job-ranged open')
       where
@@ -269,8 +333,13 @@ module _ (p : Problem) (f : IsField p.dimensions.q) (j : List ℕ) (job : length
         turn false false c h = refl
 
         agree : (m : List ℕ) → (is_complete_allowed p m && is_of_job d j m) ≡ ((extends m j && is_candidate T m) && D m)
-        agree m = ap₂ (λ a b. a && b) (sym (design-plain p plain m)) (of-job m) ∙ turn (D m) (extends m j) (is_candidate T m) (λ e. design-candidate T (walked-law p f) m e)
+        agree m = ap₂ (λ a b. a && b) (sym (design-plain p plain m)) (of-job m) ∙ turn (D m) (extends m j)
+            (is_candidate T m) (λ e. design-candidate T (walked-law p f) m e)
 
-        go : (l : List ℕ) → length l ≡ d.m + 2 → is_canonical d p.requirement l ≡ true → Ranged (d.q ^ d.m) l → is_expanded p (parent l) ≡ true → filter (λ y. extends y l && is_candidate T y) (prefixes p) ≡ subtree T (d.s + d.t - length l) l
+        go : (l : List ℕ) → length l ≡ d.m + 2 → is_canonical d p.requirement l ≡ true → Ranged (d.q ^ d.m) l
+            → is_expanded p (parent l) ≡ true
+            → filter (λ y. extends y l && is_candidate T y) (prefixes p) ≡ subtree T (d.s + d.t - length l) l
         go [] h c r o = absurd (omega arith)
-        go (a ∷ l) h c r o = all-from T (walked-law p f) a l (d.s + d.t - length (a ∷ l)) (omega arith) r (and_from _ _ c (or_right _ _ o))
+        go (a ∷ l) h c r o =
+            all-from T (walked-law p f) a l (d.s + d.t - length (a ∷ l)) (omega arith) r
+            (and_from _ _ c (or_right _ _ o))

@@ -1,7 +1,10 @@
 -- What counts_for above the jobs, and the prefixes of one job.
-use Rattle.std.proofs.Common.{◌≡◌, ◌≢◌, ℕ, zero, suc, ◌+◌, ◌<◌, ◌≤◌, Bool, true, false, not, ◌&&◌, ◌||◌, cond, eqb, ltb, List, [], ◌∷◌, ◌++◌, map, length, take, get_or, refl, sym, ap, ap₂, ◌∙◌, inl, inr, arith, subst, eq-eqb, ne_eqb, le-leb, eqb-true, append-nil, length-append, take_all}
+use Rattle.std.proofs.Common.{◌≡◌, ◌≢◌, ℕ, zero, suc, ◌+◌, ◌<◌, ◌≤◌, Bool, true, false, not, ◌&&◌, ◌||◌, cond, eqb, ltb}
+use Rattle.std.proofs.Common.{List, [], ◌∷◌, ◌++◌, map, length, take, get_or, refl, sym, ap, ap₂, ◌∙◌, inl, inr, arith}
+use Rattle.std.proofs.Common.{subst, eq-eqb, ne_eqb, le-leb, eqb-true, append-nil, length-append, take_all}
 use Rattle.std.specs.List.{filter, flat_map}
-use Rattle.std.proofs.lemmas.Bool.{cases_Bool, and_from, and_left, and_right, or_from, and_parts, false_from_ne_true, not_from_true, not_from_false, lt-leb}
+use Rattle.std.proofs.lemmas.Bool.{cases_Bool, and_from, and_left, and_right, or_from, and_parts, false_from_ne_true}
+use Rattle.std.proofs.lemmas.Bool.{not_from_true, not_from_false, lt-leb}
 use Rattle.std.proofs.lemmas.List.{take-append-le}
 use Rattle.std.proofs.lemmas.List.Elements.{filter-append}
 use Rattle.fx_designs.specs.Vectors.{same}
@@ -10,33 +13,46 @@ use Rattle.fx_laws.specs.Trees.{is_tree_design, children_of}
 use Rattle.fx_laws.proofs.Through.{filter-none}
 use Rattle.fx_laws.proofs.Order.{each-map, each-all}
 use Rattle.fx_tree.specs.Ranked.{Ranked, IsRanked, counts_for, extends, is_counted}
-use Rattle.fx_tree.proofs.Place.{same-self, split_of, extends-less, extends-not_before, before-shift, before-apart, take-same, goes_on, child_of, of_child, falling-any, any-never}
+use Rattle.fx_tree.proofs.Place.{same-self, split_of, extends-less, extends-not_before, before-shift, before-apart}
+use Rattle.fx_tree.proofs.Place.{take-same, goes_on, child_of, of_child, falling-any, any-never}
 
 module _ (x : Ranked) (law : IsRanked x) (p : List ℕ) (part : length p < x.tree.size) where
   abbrev rows : List ℕ
   rows = children_of x.tree p
 
   -- outside the lots every design before a child counts_for
-  pub short_seen : length p < x.lot → (i : ℕ) → i < length rows → (d : List ℕ) → is_counted x (p ++ get_or rows i 0 ∷ []) d ≡ (is_counted x p d || (is_tree_design x.tree d && of_child x law p part (take i rows) d))
+  pub short_seen : length p < x.lot → (i : ℕ) → i < length rows → (d : List ℕ)
+      → is_counted x (p ++ get_or rows i 0 ∷ []) d
+      ≡ (is_counted x p d || (is_tree_design x.tree d && of_child x law p part (take i rows) d))
   short_seen short i low d =
       elim (cases_Bool (is_tree_design x.tree d)) [
         | inr out ↦ and_left _ _ out ∙ sym (or_from _ _ (and_left _ _ out) (and_left _ _ out))
         | inl h ↦
-            let full = eqb-true (length d) x.tree.size (and_parts (eqb (length d) x.tree.size) (x.tree.canonical d && x.tree.allowed d) h).0 in
+            let full =
+            eqb-true (length d) x.tree.size
+            (and_parts (eqb (length d) x.tree.size) (x.tree.canonical d && x.tree.allowed d) h).0 in
             let r : ℕ = get_or rows i 0 in
             let long : length (p ++ r ∷ []) ≡ length p + 1 = length-append p (r ∷ []) in
-            let free : (l : List ℕ) → length l ≤ x.lot → counts_for x d l ≡ before d l = λ l z. unit (before d l) _ (not_from_false _ (and_left _ _ (lt-leb (x.lot + 1) (length l) (omega arith)))) in
+            let free : (l : List ℕ) → length l ≤ x.lot → counts_for x d l ≡ before d l =
+            λ l z. unit (before d l) _
+            (not_from_false _ (and_left _ _ (lt-leb (x.lot + 1) (length l) (omega arith)))) in
             ap₂ (λ a b. a && b) h (free (p ++ r ∷ []) (omega arith))
             ∙ (elim (cases_Bool (extends d p)) [
               | inl e ↦
                   let k = goes_on x law p part d h e in
-                  let own : of_child x law p part (take i rows) d ≡ ltb r k.0 = child_of x law p part d k.0 k.1 k.2 (take i rows) ∙ falling-any (λ j. x.tree.canonical (p ++ j ∷ [])) k.0 k.3 x.tree.rows i (law.ranged p k.0 k.3) low in
-                  let here : before d (p ++ r ∷ []) ≡ ltb r k.0 = ap (λ l. before l (p ++ r ∷ [])) k.2 ∙ before-shift p (k.0 ∷ k.1) (r ∷ []) ∙ plain (ltb r k.0) (eqb k.0 r) in
+                  let own : of_child x law p part (take i rows) d ≡ ltb r k.0 =
+                  child_of x law p part d k.0 k.1 k.2 (take i rows) ∙ falling-any
+                  (λ j. x.tree.canonical (p ++ j ∷ [])) k.0 k.3 x.tree.rows i (law.ranged p k.0 k.3) low in
+                  let here : before d (p ++ r ∷ []) ≡ ltb r k.0 =
+                  ap (λ l. before l (p ++ r ∷ [])) k.2 ∙ before-shift p (k.0 ∷ k.1) (r ∷ []) ∙ plain (ltb r k.0)
+                  (eqb k.0 r) in
                   let gone : counts_for x d p ≡ false = and_left _ _ (extends-not_before d p e) in
                   here ∙ sym (ap₂ (λ a b. (a && b) || (a && of_child x law p part (take i rows) d)) h gone ∙ own)
               | inr e ↦
-                  let none : of_child x law p part (take i rows) d ≡ false = any-never (λ j. extends d (p ++ j ∷ [])) (λ j. extends-less d p (j ∷ []) e) (take i rows) in
-                  before-apart d p (r ∷ []) (omega arith) e ∙ sym (free p (omega arith)) ∙ sym (ap₂ (λ a b. (a && counts_for x d p) || (a && b)) h none ∙ nothing (counts_for x d p))
+                  let none : of_child x law p part (take i rows) d ≡ false =
+                  any-never (λ j. extends d (p ++ j ∷ [])) (λ j. extends-less d p (j ∷ []) e) (take i rows) in
+                  before-apart d p (r ∷ []) (omega arith) e ∙ sym (free p (omega arith)) ∙ sym
+                  (ap₂ (λ a b. (a && counts_for x d p) || (a && b)) h none ∙ nothing (counts_for x d p))
             ])
       ]
     where
@@ -59,7 +75,9 @@ module _ (x : Ranked) (law : IsRanked x) (p : List ℕ) (part : length p < x.tre
       elim (cases_Bool (is_tree_design x.tree d)) [
         | inr out ↦ and_left _ _ out ∙ sym (and_left _ _ out)
         | inl h ↦
-            let full = eqb-true (length d) x.tree.size (and_parts (eqb (length d) x.tree.size) (x.tree.canonical d && x.tree.allowed d) h).0 in
+            let full =
+            eqb-true (length d) x.tree.size
+            (and_parts (eqb (length d) x.tree.size) (x.tree.canonical d && x.tree.allowed d) h).0 in
             let long : length (p ++ r ∷ []) ≡ length p + 1 = length-append p (r ∷ []) in
             ap₂ (λ a b. a && b) h (elim (cases_Bool (extends d p)) [
               | inl e ↦ split d e (omega arith)
@@ -75,31 +93,44 @@ module _ (x : Ranked) (law : IsRanked x) (p : List ℕ) (part : length p < x.tre
 
       apart : (d : List ℕ) → extends d p ≡ false → length p ≤ length d → counts_for x d (p ++ r ∷ []) ≡ counts_for x d p
       apart d e low =
-          let other : same (take x.lot d) (take x.lot (p ++ r ∷ [])) ≡ false = false_from_ne_true (same (take x.lot d) (take x.lot (p ++ r ∷ []))) (λ z. let w = take-same x.lot d p (subst (λ l. same (take x.lot d) l ≡ true) lot_is z) in absurd (cc (w, e))) in
-          ap₂ (λ u v. u && not v) (before-apart d p (r ∷ []) low e) (and_right _ _ (and_left _ _ other) ∙ sym (and_left _ _ (lt-leb (x.lot + 1) (length p) (omega arith))))
+          let other : same (take x.lot d) (take x.lot (p ++ r ∷ [])) ≡ false =
+          false_from_ne_true (same (take x.lot d) (take x.lot (p ++ r ∷ [])))
+          (λ z. let w = take-same x.lot d p (subst (λ l. same (take x.lot d) l ≡ true) lot_is z) in
+          absurd (cc (w, e))) in
+          ap₂ (λ u v. u && not v) (before-apart d p (r ∷ []) low e)
+          (and_right _ _ (and_left _ _ other) ∙ sym (and_left _ _ (lt-leb (x.lot + 1) (length p) (omega arith))))
 
       split : (d : List ℕ) → extends d p ≡ true → length p < length d → counts_for x d (p ++ r ∷ []) ≡ counts_for x d p
       split d e low =
           let gone : counts_for x d p ≡ false = and_left _ _ (extends-not_before d p e) in
           elim (cases_Bool (same (take (x.lot + 1) d) (take (x.lot + 1) (p ++ r ∷ [])))) [
             | inl a ↦
-                let own : extends d (p ++ r ∷ []) ≡ true = take-same (x.lot + 1) d (p ++ r ∷ []) (subst (λ l. same (take (x.lot + 1) d) l ≡ true) job_is a) in
+                let own : extends d (p ++ r ∷ []) ≡ true =
+                take-same (x.lot + 1) d (p ++ r ∷ []) (subst (λ l. same (take (x.lot + 1) d) l ≡ true) job_is a) in
                 and_left _ _ (extends-not_before d (p ++ r ∷ []) own) ∙ sym gone
             | inr a ↦
                 let k = split_of d p e in
                 let lot_same : same (take x.lot d) (take x.lot (p ++ r ∷ [])) ≡ true =
-                ap₂ same (ap (take x.lot) k.1 ∙ take-append-le x.lot p k.0 (omega arith) ∙ take_all x.lot p (omega arith)) lot_is ∙ same-self p in
+                ap₂ same (ap (take x.lot) k.1 ∙ take-append-le x.lot p k.0 (omega arith) ∙ take_all x.lot p
+                (omega arith)) lot_is ∙ same-self p in
                 let long : length (p ++ r ∷ []) ≡ length p + 1 = length-append p (r ∷ []) in
-                and_right _ _ (not_from_true _ (and_from _ _ (le-leb (x.lot + 1) (length (p ++ r ∷ [])) (omega arith)) (and_from _ _ lot_same (not_from_false _ a)))) ∙ sym gone
+                and_right _ _
+                (not_from_true _
+                (and_from _ _ (le-leb (x.lot + 1) (length (p ++ r ∷ [])) (omega arith))
+                (and_from _ _ lot_same (not_from_false _ a)))) ∙ sym gone
           ]
 
 -- the prefixes that begin with j are j and those below it
-map-filter : (f : List ℕ → Bool) (r : ℕ) (ls : List (List ℕ)) → filter f (map (λ s. r ∷ s) ls) ≡ map (λ s. r ∷ s) (filter (λ s. f (r ∷ s)) ls)
+map-filter : (f : List ℕ → Bool) (r : ℕ) (ls : List (List ℕ))
+    → filter f (map (λ s. r ∷ s) ls) ≡ map (λ s. r ∷ s) (filter (λ s. f (r ∷ s)) ls)
 map-filter f r [] = refl
-map-filter f r (l ∷ ls) = elim (f (r ∷ l)) as (λ b. cond b ((r ∷ l) ∷ filter f (map (λ s. r ∷ s) ls)) (filter f (map (λ s. r ∷ s) ls)) ≡ map (λ s. r ∷ s) (cond b (l ∷ filter (λ s. f (r ∷ s)) ls) (filter (λ s. f (r ∷ s)) ls))) [
-  | true ↦ ap (λ z. (r ∷ l) ∷ z) (map-filter f r ls)
-  | false ↦ map-filter f r ls
-]
+map-filter f r (l ∷ ls) =
+    elim (f (r ∷ l)) as
+    (λ b. cond b ((r ∷ l) ∷ filter f (map (λ s. r ∷ s) ls)) (filter f (map (λ s. r ∷ s) ls))
+    ≡ map (λ s. r ∷ s) (cond b (l ∷ filter (λ s. f (r ∷ s)) ls) (filter (λ s. f (r ∷ s)) ls))) [
+      | true ↦ ap (λ z. (r ∷ l) ∷ z) (map-filter f r ls)
+      | false ↦ map-filter f r ls
+    ]
 
 map-map : {A B C : Type 0} (f : B → C) (g : A → B) (xs : List A) → map f (map g xs) ≡ map (λ a. f (g a)) xs
 map-map f g [] = refl
@@ -116,28 +147,41 @@ same-filter f g h (l ∷ ls) = cc (h l, same-filter f g h ls)
 abbrev begun : ℕ → ℕ → ℕ → List (List ℕ)
 begun b k r = map (λ s. r ∷ s) ([] ∷ lists b k)
 
-only : (b k r : ℕ) (j : List ℕ) (n : ℕ) → r < n → filter (λ s. extends s (r ∷ j)) (flat_map (begun b k) (falling n)) ≡ map (λ s. r ∷ s) (filter (λ s. extends s j) ([] ∷ lists b k))
+only : (b k r : ℕ) (j : List ℕ) (n : ℕ) → r < n
+    → filter (λ s. extends s (r ∷ j)) (flat_map (begun b k) (falling n))
+    ≡ map (λ s. r ∷ s) (filter (λ s. extends s j) ([] ∷ lists b k))
 only b k r j n low = go n low
   where
     other : (m : ℕ) → m ≢ r → filter (λ s. extends s (r ∷ j)) (begun b k m) ≡ []
-    other m ne = filter-none (λ s. extends s (r ∷ j)) (begun b k m) (each-map (λ s. extends s (r ∷ j) ≡ false) (λ s. m ∷ s) ([] ∷ lists b k) (each-all _ ([] ∷ lists b k) (λ s. and_left _ _ (ne_eqb m r ne))))
+    other m ne =
+        filter-none (λ s. extends s (r ∷ j)) (begun b k m)
+        (each-map (λ s. extends s (r ∷ j) ≡ false) (λ s. m ∷ s) ([] ∷ lists b k)
+        (each-all _ ([] ∷ lists b k) (λ s. and_left _ _ (ne_eqb m r ne))))
 
     own : filter (λ s. extends s (r ∷ j)) (begun b k r) ≡ map (λ s. r ∷ s) (filter (λ s. extends s j) ([] ∷ lists b k))
-    own = map-filter (λ s. extends s (r ∷ j)) r ([] ∷ lists b k) ∙ ap (map (λ s. r ∷ s)) (same-filter (λ s. eqb r r && extends s j) (λ s. extends s j) (λ s. ap (λ z. z && extends s j) (eq-eqb r r refl)) ([] ∷ lists b k))
+    own = map-filter (λ s. extends s (r ∷ j)) r ([] ∷ lists b k) ∙ ap (map (λ s. r ∷ s))
+        (same-filter (λ s. eqb r r && extends s j) (λ s. extends s j)
+        (λ s. ap (λ z. z && extends s j) (eq-eqb r r refl)) ([] ∷ lists b k))
 
     past : (m : ℕ) → m ≤ r → filter (λ s. extends s (r ∷ j)) (flat_map (begun b k) (falling m)) ≡ []
     past zero le = refl
-    past (suc m) le = let ne : m ≢ r = λ z. omega arith in filter-append (λ s. extends s (r ∷ j)) (begun b k m) (flat_map (begun b k) (falling m)) ∙ ap₂ (λ u v. u ++ v) (other m ne) (past m (omega arith))
+    past (suc m) le = let ne : m ≢ r = λ z. omega arith in
+        filter-append (λ s. extends s (r ∷ j)) (begun b k m) (flat_map (begun b k) (falling m)) ∙ ap₂ (λ u v. u ++ v)
+        (other m ne) (past m (omega arith))
 
-    go : (n : ℕ) → r < n → filter (λ s. extends s (r ∷ j)) (flat_map (begun b k) (falling n)) ≡ map (λ s. r ∷ s) (filter (λ s. extends s j) ([] ∷ lists b k))
+    go : (n : ℕ) → r < n
+        → filter (λ s. extends s (r ∷ j)) (flat_map (begun b k) (falling n))
+        ≡ map (λ s. r ∷ s) (filter (λ s. extends s j) ([] ∷ lists b k))
     go zero low = absurd (omega arith)
     go (suc m) low = elim (cases_Bool (eqb m r)) [
       | inl a ↦
           let e = eqb-true m r a in
-          filter-append (λ s. extends s (r ∷ j)) (begun b k m) (flat_map (begun b k) (falling m)) ∙ ap₂ (λ u v. u ++ v) (ap (λ z. filter (λ s. extends s (r ∷ j)) (begun b k z)) e ∙ own) (past m (omega arith)) ∙ append-nil _
+          filter-append (λ s. extends s (r ∷ j)) (begun b k m) (flat_map (begun b k) (falling m)) ∙ ap₂ (λ u v. u ++ v)
+          (ap (λ z. filter (λ s. extends s (r ∷ j)) (begun b k z)) e ∙ own) (past m (omega arith)) ∙ append-nil _
       | inr a ↦
           let ne : m ≢ r = λ z. let w = eq-eqb m r z in absurd (cc (w, a)) in
-          filter-append (λ s. extends s (r ∷ j)) (begun b k m) (flat_map (begun b k) (falling m)) ∙ ap₂ (λ u v. u ++ v) (other m ne) (go m (omega arith))
+          filter-append (λ s. extends s (r ∷ j)) (begun b k m) (flat_map (begun b k) (falling m)) ∙ ap₂ (λ u v. u ++ v)
+          (other m ne) (go m (omega arith))
     ]
 
 -- each row is below b
@@ -146,11 +190,13 @@ Ranged b [] = Unit {0}
 Ranged b (r ∷ s) = (r < b) × Ranged b s
 
 -- those of the lists that begin with a nonempty j
-pub beginning : (b k : ℕ) (r : ℕ) (j : List ℕ) → Ranged b (r ∷ j) → filter (λ s. extends s (r ∷ j)) (lists b (suc (length j + k))) ≡ map (λ s. (r ∷ j) ++ s) ([] ∷ lists b k)
+pub beginning : (b k : ℕ) (r : ℕ) (j : List ℕ) → Ranged b (r ∷ j)
+    → filter (λ s. extends s (r ∷ j)) (lists b (suc (length j + k))) ≡ map (λ s. (r ∷ j) ++ s) ([] ∷ lists b k)
 unfolding lists
 beginning b k r [] h =
     let e : 0 + k ≡ k = omega arith in
-    only b (0 + k) r [] b h.0 ∙ ap (map (λ s. r ∷ s)) (filter-all ([] ∷ lists b (0 + k))) ∙ ap (λ n. map (λ s. r ∷ s) ([] ∷ lists b n)) e
+    only b (0 + k) r [] b h.0 ∙ ap (map (λ s. r ∷ s)) (filter-all ([] ∷ lists b (0 + k))) ∙ ap
+    (λ n. map (λ s. r ∷ s) ([] ∷ lists b n)) e
 beginning b k r (q ∷ j) h =
     let e : suc (length j) + k ≡ suc (length j + k) = omega arith in
     only b (suc (length j) + k) r (q ∷ j) b h.0

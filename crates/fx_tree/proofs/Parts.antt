@@ -1,7 +1,10 @@
 -- The nodes of a tree that begin with some rows, and those below them.
-use Rattle.std.proofs.Common.{◌≡◌, ℕ, suc, ◌<◌, ◌+◌, Bool, true, false, not, ◌&&◌, cond, eqb, ltb, List, [], ◌∷◌, ◌++◌, map, length, refl, sym, ap, ◌∙◌, inl, inr, arith, append-nil, length-append, map-id, lt-ltb, le-ltb}
+use Rattle.std.proofs.Common.{◌≡◌, ℕ, suc, ◌<◌, ◌+◌, Bool, true, false, not, ◌&&◌, cond, eqb, ltb, List, [], ◌∷◌, ◌++◌}
+use Rattle.std.proofs.Common.{map, length, refl, sym, ap, ◌∙◌, inl, inr, arith, append-nil, length-append, map-id}
+use Rattle.std.proofs.Common.{lt-ltb, le-ltb}
 use Rattle.std.specs.List.{filter, AllByRecursion}
-use Rattle.std.proofs.lemmas.Bool.{cond-true, cond-false, cases_Bool, and_parts, and_from, and_left, and_right, eqb-true}
+use Rattle.std.proofs.lemmas.Bool.{cond-true, cond-false, cases_Bool, and_parts, and_from, and_left, and_right}
+use Rattle.std.proofs.lemmas.Bool.{eqb-true}
 use Rattle.fx_designs.specs.Answers.{before, lists}
 use Rattle.fx_laws.specs.Trees.{Tree, IsTree, tree_prefixes, is_tree_design}
 use Rattle.fx_laws.specs.Walks.{through, is_candidate, under, subtree}
@@ -25,7 +28,9 @@ block E D C xs sorted inside near =
     ap (filter E) (sym (cut D C inside F xs sorted (each-all _ xs (λ y. refl))))
     ∙ sym (filter-and (λ y. C y && not (F y)) E xs)
     ∙ filter_same (λ y. (C y && not (F y)) && E y) (λ y. (E y && C y) && not (F' y)) xs (each-all _ xs agree)
-    ∙ cut (λ y. D y && E y) (λ y. E y && C y) (λ y h. let k = and_parts (D y) (E y) h in and_from _ _ k.1 (inside y k.0)) F' xs sorted (each-all _ xs (λ y. refl))
+    ∙ cut (λ y. D y && E y) (λ y. E y && C y)
+    (λ y h. let k = and_parts (D y) (E y) h in and_from _ _ k.1 (inside y k.0)) F' xs sorted
+    (each-all _ xs (λ y. refl))
     ∙ through-same (λ y. D y && E y) D (λ y. E y && C y) (λ y h. unit (D y) (E y) (and_parts (E y) (C y) h).0) xs
   where
     F : List ℕ → Bool
@@ -57,7 +62,8 @@ block E D C xs sorted inside near =
       | inr e ↦ and_right _ _ e ∙ sym (and_left _ _ (and_left _ _ e))
     ]
 
-module _ (t : Tree) (law : IsTree t) (r : ℕ) (tail : List ℕ) (k : ℕ) (deep : length (r ∷ tail) + k ≡ t.size) (ranged : Ranged t.rows (r ∷ tail))
+module _ (t : Tree) (law : IsTree t) (r : ℕ) (tail : List ℕ) (k : ℕ) (deep : length (r ∷ tail) + k ≡ t.size)
+    (ranged : Ranged t.rows (r ∷ tail))
     (candidate : is_candidate t (r ∷ tail) ≡ true) where
   abbrev front : List ℕ
   front = r ∷ tail
@@ -68,16 +74,20 @@ module _ (t : Tree) (law : IsTree t) (r : ℕ) (tail : List ℕ) (k : ℕ) (deep
   all-from =
       let size : t.size ≡ suc (length tail + k) = omega arith in
       filter-and (λ y. extends y front) (is_candidate t) (tree_prefixes t)
-      ∙ ap (filter (is_candidate t)) (ap (λ n. filter (λ y. extends y front) (lists t.rows n)) size ∙ beginning t.rows k r tail ranged)
+      ∙ ap (filter (is_candidate t))
+      (ap (λ n. filter (λ y. extends y front) (lists t.rows n)) size ∙ beginning t.rows k r tail ranged)
       ∙ ap (λ l. filter (is_candidate t) (l ∷ map (λ s. front ++ s) (lists t.rows k))) (append-nil front)
       ∙ cond-true (is_candidate t front) _ _ candidate
       ∙ (elim (cases_Bool (t.allowed front)) [
         | inl a ↦ ap (λ l. front ∷ l) (sym (cond-true (t.allowed front) (under t k front) [] a))
-        | inr a ↦ ap (λ l. front ∷ l) (under-none t law k front (omega arith) a ∙ sym (cond-false (t.allowed front) (under t k front) [] a))
+        | inr a ↦ ap (λ l. front ∷ l)
+            (under-none t law k front (omega arith) a ∙ sym (cond-false (t.allowed front) (under t k front) [] a))
       ])
 
-module _ (t : Tree) (law : IsTree t) (r : ℕ) (tail : List ℕ) (k : ℕ) (deep : length (r ∷ tail) + k ≡ t.size) (ranged : Ranged t.rows (r ∷ tail))
-    (candidate : is_candidate t (r ∷ tail) ≡ true) (none : (d : List ℕ) → is_tree_design t d ≡ true → before d (r ∷ tail) ≡ true → ⊥) where
+module _ (t : Tree) (law : IsTree t) (r : ℕ) (tail : List ℕ) (k : ℕ) (deep : length (r ∷ tail) + k ≡ t.size)
+    (ranged : Ranged t.rows (r ∷ tail))
+    (candidate : is_candidate t (r ∷ tail) ≡ true)
+    (none : (d : List ℕ) → is_tree_design t d ≡ true → before d (r ∷ tail) ≡ true → ⊥) where
   abbrev c : List ℕ
   c = r ∷ tail
 
@@ -101,37 +111,52 @@ module _ (t : Tree) (law : IsTree t) (r : ℕ) (tail : List ℕ) (k : ℕ) (deep
   pub nodes-from : filter (λ y. extends y c) walked-nodes ≡ through (is_tree_design t) (subtree t k c)
   unfolding under
   nodes-from =
-      ap (λ l. filter (λ y. extends y c) (through (is_tree_design t) (filter (is_candidate t) l))) (map-id (tree_prefixes t))
-      ∙ block (λ y. extends y c) (is_tree_design t) (is_candidate t) (tree_prefixes t) (lists-sorted t.rows t.size) (design-candidate t law) near
+      ap (λ l. filter (λ y. extends y c) (through (is_tree_design t) (filter (is_candidate t) l)))
+      (map-id (tree_prefixes t))
+      ∙ block (λ y. extends y c) (is_tree_design t) (is_candidate t) (tree_prefixes t) (lists-sorted t.rows t.size)
+      (design-candidate t law) near
       ∙ ap (through (is_tree_design t)) (all-from t law r tail k deep ranged candidate)
 
   under-longer : AllByRecursion (λ y. ltb (length c) (length y) ≡ true) (map (λ s. c ++ s) (lists t.rows k))
   under-longer =
       each-map (λ y. ltb (length c) (length y) ≡ true) (λ s. c ++ s) (lists t.rows k)
-      (each-weaker (λ s. 0 < length s) _ (lists t.rows k) (λ s h. lt-ltb _ _ (omega (arith, length-append c s, h))) (nonempty t.rows k))
+      (each-weaker (λ s. 0 < length s) _ (lists t.rows k) (λ s h. lt-ltb _ _ (omega (arith, length-append c s, h)))
+      (nonempty t.rows k))
 
-  longer-kept : (xs : List (List ℕ)) → AllByRecursion (λ y. ltb (length c) (length y) ≡ true) xs → AllByRecursion (λ y. ltb (length c) (length y) ≡ true) (filter (is_candidate t) xs)
+  longer-kept : (xs : List (List ℕ)) → AllByRecursion (λ y. ltb (length c) (length y) ≡ true) xs
+      → AllByRecursion (λ y. ltb (length c) (length y) ≡ true) (filter (is_candidate t) xs)
   longer-kept [] h = tt
-  longer-kept (y ∷ ys) h = elim (is_candidate t y) as (λ b. AllByRecursion (λ y. ltb (length c) (length y) ≡ true) (cond b (y ∷ filter (is_candidate t) ys) (filter (is_candidate t) ys))) [
-    | true ↦ (h.0, longer-kept ys h.1)
-    | false ↦ longer-kept ys h.1
-  ]
+  longer-kept (y ∷ ys) h =
+      elim (is_candidate t y) as
+      (λ b. AllByRecursion (λ y. ltb (length c) (length y) ≡ true)
+      (cond b (y ∷ filter (is_candidate t) ys) (filter (is_candidate t) ys))) [
+        | true ↦ (h.0, longer-kept ys h.1)
+        | false ↦ longer-kept ys h.1
+      ]
 
   -- the nodes that are longer than c and begin with it, where c is open
-  pub nodes-below : t.allowed c ≡ true → length c < t.size → filter (λ y. extends y c && ltb (length c) (length y)) walked-nodes ≡ through (is_tree_design t) (under t k c)
+  pub nodes-below : t.allowed c ≡ true → length c < t.size
+      → filter (λ y. extends y c && ltb (length c) (length y)) walked-nodes ≡ through (is_tree_design t) (under t k c)
   unfolding under
   nodes-below open' part =
       let E : List ℕ → Bool = λ y. extends y c && ltb (length c) (length y) in
       ap (λ l. filter E (through (is_tree_design t) (filter (is_candidate t) l))) (map-id (tree_prefixes t))
-      ∙ block E (is_tree_design t) (is_candidate t) (tree_prefixes t) (lists-sorted t.rows t.size) (design-candidate t law)
-      (λ d y h first e. let long = full d h in and_from _ _ (near d y h first (and_parts (extends y c) (ltb (length c) (length y)) e).0) (lt-ltb _ _ (omega arith)))
+      ∙ block E (is_tree_design t) (is_candidate t) (tree_prefixes t) (lists-sorted t.rows t.size)
+      (design-candidate t law)
+      (λ d y h first e. let long = full d h in
+      and_from _ _ (near d y h first (and_parts (extends y c) (ltb (length c) (length y)) e).0)
+      (lt-ltb _ _ (omega arith)))
       ∙ ap (through (is_tree_design t)) (
-      filter_same (λ y. E y && is_candidate t y) (λ y. (extends y c && is_candidate t y) && ltb (length c) (length y)) (tree_prefixes t)
+      filter_same (λ y. E y && is_candidate t y) (λ y. (extends y c && is_candidate t y) && ltb (length c) (length y))
+      (tree_prefixes t)
       (each-all _ (tree_prefixes t) (λ y. swap (extends y c) (ltb (length c) (length y)) (is_candidate t y)))
       ∙ filter-and (λ y. extends y c && is_candidate t y) (λ y. ltb (length c) (length y)) (tree_prefixes t)
-      ∙ ap (filter (λ y. ltb (length c) (length y))) (all-from t law r tail k deep ranged candidate ∙ ap (λ l. c ∷ l) (cond-true (t.allowed c) (under t k c) [] open'))
+      ∙ ap (filter (λ y. ltb (length c) (length y)))
+      (all-from t law r tail k deep ranged candidate ∙ ap (λ l. c ∷ l)
+      (cond-true (t.allowed c) (under t k c) [] open'))
       ∙ cond-false (ltb (length c) (length c)) _ _ (le-ltb (length c) (length c) (omega arith))
-      ∙ filter-all (λ y. ltb (length c) (length y)) (under t k c) (longer-kept (map (λ s. c ++ s) (lists t.rows k)) under-longer))
+      ∙ filter-all (λ y. ltb (length c) (length y)) (under t k c)
+      (longer-kept (map (λ s. c ++ s) (lists t.rows k)) under-longer))
     where
       swap : (a b c : Bool) → ((a && b) && c) ≡ ((a && c) && b)
       swap true b true = elim b as (λ z. (z && true) ≡ z) [ true ↦ refl | false ↦ refl ]

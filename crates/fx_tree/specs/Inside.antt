@@ -13,11 +13,16 @@ is_own t j d = is_tree_design t d && extends d j
 
 -- allowed, not whole, and no design that begins with j stands before it
 abbrev pub is_branch_in : Tree → List ℕ → List ℕ → Bool
-is_branch_in t j p = t.allowed p && (nat_lt (length p) t.size && not (list_any (λ d. is_own t j d && before d p) (tree_prefixes t)))
+is_branch_in t j p =
+    t.allowed p && (nat_lt (length p) t.size && not (list_any (λ d. is_own t j d && before d p) (tree_prefixes t)))
 
--- j itself, or what begins with j and is without its last row such a branch, and not after the first design that begins with j
+-- j itself, or what begins with j and is without its last row such a branch, and not after the first design that begins
+-- with j
 abbrev pub is_node_in : Tree → List ℕ → List ℕ → Bool
-is_node_in t j p = extends p j && (t.canonical p && ((same p j || is_branch_in t j (parent p)) && is_not_after (find (is_own t j) (tree_prefixes t)) p))
+is_node_in t j p =
+    extends p j
+    && (t.canonical p
+    && ((same p j || is_branch_in t j (parent p)) && is_not_after (find (is_own t j) (tree_prefixes t)) p))
 
 unfoldable pub nodes_in : Tree → List ℕ → List (List ℕ)
 nodes_in t j = filter (is_node_in t j) (tree_prefixes t)

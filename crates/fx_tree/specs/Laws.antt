@@ -13,8 +13,8 @@ pub record IsJob (p : Problem) (job : List ℕ) : Type 0 where
   pub canonical : is_canonical p.dimensions p.requirement job ≡ true
   pub lot : is_branch p (lot_of p.dimensions job) ≡ true
 
--- The nodes inside a job are the problem's nodes in it, where a least pattern is asked; else where the answer is not before the
--- job.
+-- The nodes inside a job are the problem's nodes in it, where a least pattern is asked; else where the answer is not
+-- before the job.
 abbrev pub NodesOfJob : Problem → Type 0
 NodesOfJob p = (job : List ℕ)
     → IsJob p job
@@ -23,10 +23,13 @@ NodesOfJob p = (job : List ℕ)
 
 -- the pattern of a prefix that extends another is not less than that of the other
 abbrev pub PatternsGrow : Problem → Type 0
-PatternsGrow p = (rows more : List ℕ) → is_less (pattern_of p.dimensions (rows ++ more)) (pattern_of p.dimensions rows) ≡ false
+PatternsGrow p =
+    (rows more : List ℕ) → is_less (pattern_of p.dimensions (rows ++ more)) (pattern_of p.dimensions rows) ≡ false
 
 -- a design of which no other has a less pattern, and before which no other has as little
 pub record IsFirstOfLeastPattern (p : Problem) (rows : List ℕ) : Type 0 where
   pub design : is_design p rows ≡ true
-  pub least : (other : List ℕ) → is_design p other ≡ true → is_less (pattern_of p.dimensions other) (pattern_of p.dimensions rows) ≡ false
-  pub first : (other : List ℕ) → is_design p other ≡ true → before other rows ≡ true → is_less (pattern_of p.dimensions rows) (pattern_of p.dimensions other) ≡ true
+  pub least : (other : List ℕ) → is_design p other ≡ true
+      → is_less (pattern_of p.dimensions other) (pattern_of p.dimensions rows) ≡ false
+  pub first : (other : List ℕ) → is_design p other ≡ true → before other rows ≡ true
+      → is_less (pattern_of p.dimensions rows) (pattern_of p.dimensions other) ≡ true

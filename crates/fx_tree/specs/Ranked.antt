@@ -1,5 +1,6 @@
 -- Trees whose prefixes have patterns: what counts, branches, and the best so far.
-use Rattle.std.specs.Prelude.{ℕ, ◌≡◌, ◌<◌, ◌+◌, ◌&&◌, ◌||◌, ◌==◌, not, nat_lt, nat_le, Bool, true, false, if◌then◌else◌, List, [], ◌∷◌, ◌++◌, length, take, Option, Some, None, ⊤}
+use Rattle.std.specs.Prelude.{ℕ, ◌≡◌, ◌<◌, ◌+◌, ◌&&◌, ◌||◌, ◌==◌, not, nat_lt, nat_le, Bool, true, false, if◌then◌else◌}
+use Rattle.std.specs.Prelude.{List, [], ◌∷◌, ◌++◌, length, take, Option, Some, None, ⊤}
 use Rattle.std.specs.List.{list_any}
 use Rattle.fx_designs.specs.Vectors.{same}
 use Rattle.fx_designs.specs.Answers.{before}
@@ -27,7 +28,10 @@ extends (a ∷ d) (b ∷ q) = (a == b) && extends d q
 
 -- whether d counts for p: it stands before it, and is not in another job of its lot
 abbrev pub counts_for : Ranked → List ℕ → List ℕ → Bool
-counts_for x d p = before d p && not (nat_le (x.lot + 1) (length p) && (same (take x.lot d) (take x.lot p) && not (same (take (x.lot + 1) d) (take (x.lot + 1) p))))
+counts_for x d p =
+    before d p
+    && not (nat_le (x.lot + 1) (length p)
+    && (same (take x.lot d) (take x.lot p) && not (same (take (x.lot + 1) d) (take (x.lot + 1) p))))
 
 -- the designs that count for p
 abbrev pub is_counted : Ranked → List ℕ → List ℕ → Bool
@@ -39,16 +43,28 @@ is_counted_through x p d = is_counted x p d || (is_tree_design x.tree d && exten
 
 -- allowed, not whole, and less than each design that counts
 abbrev pub is_ranked_branch : Ranked → List ℕ → Bool
-is_ranked_branch x p = x.tree.allowed p && (nat_lt (length p) x.tree.size && not (list_any (λ d. is_counted x p d && not (x.less p d)) (tree_prefixes x.tree)))
+is_ranked_branch x p =
+    x.tree.allowed p
+    && (nat_lt (length p) x.tree.size
+    && not (list_any (λ d. is_counted x p d && not (x.less p d)) (tree_prefixes x.tree)))
 
 -- the tree whose allowed prefixes are the branches
 abbrev pub branches : Ranked → Tree
-branches x = record { rows = x.tree.rows; size = x.tree.size; canonical = x.tree.canonical; allowed = is_ranked_branch x; word = x.tree.word }
+branches x =
+    record {
+      rows = x.tree.rows;
+      size = x.tree.size;
+      canonical = x.tree.canonical;
+      allowed = is_ranked_branch x;
+      word = x.tree.word;
+    }
 
 -- the first of least pattern among the lists that pass a test, or none where none passes
 abbrev pub IsFirstLeast : Ranked → (List ℕ → Bool) → Option (List ℕ) → Type 0
 IsFirstLeast x P None = (d : List ℕ) → P d ≡ true → ⊥
-IsFirstLeast x P (Some b) = (P b ≡ true) × ((d : List ℕ) → P d ≡ true → x.less d b ≡ false) × ((d : List ℕ) → P d ≡ true → before d b ≡ true → x.less b d ≡ true)
+IsFirstLeast x P (Some b) =
+    (P b ≡ true) × ((d : List ℕ) → P d ≡ true → x.less d b ≡ false)
+    × ((d : List ℕ) → P d ≡ true → before d b ≡ true → x.less b d ≡ true)
 
 -- a prefix is not greater or greater than the best so far
 abbrev pub Wins : Ranked → List ℕ → Option (List ℕ) → Type 0

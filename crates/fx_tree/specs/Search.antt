@@ -17,7 +17,8 @@ ranked p = record {
   less = λ a b. is_less (pattern_of p.dimensions a) (pattern_of p.dimensions b);
 }
 
--- whether a search goes on below a prefix: where it is allowed, and where a least pattern is asked, where it is a branch
+-- whether a search goes on below a prefix: where it is allowed, and where a least pattern is asked, where it is a
+-- branch
 unfoldable pub is_expanded : Problem → List ℕ → Bool
 is_expanded p rows = (if p.least then is_branch p rows else is_allowed p.dimensions p.requirement rows)
 

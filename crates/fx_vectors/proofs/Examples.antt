@@ -41,12 +41,15 @@ askable =
     record {
       some = omega arith;
       estimated = record {
-        each = All-from_recursion (λ e. (0 < e) × (e < 2 ^ 4)) (1 ∷ 2 ∷ 4 ∷ 8 ∷ 3 ∷ [])
-            ((lit< tt, lit< tt), ((lit< tt, lit< tt), ((lit< tt, lit< tt), ((lit< tt, lit< tt), ((lit< tt, lit< tt), tt)))));
+        each = All-from_recursion (λ e. (0 < e) × (e < 2 ^ 4)) (1 ∷ 2 ∷ 4 ∷ 8 ∷ 3 ∷ []) (
+          (lit< tt, lit< tt),
+          ((lit< tt, lit< tt), ((lit< tt, lit< tt), ((lit< tt, lit< tt), ((lit< tt, lit< tt), tt)))),
+        );
         in_order = refl;
       };
       others = record {
-        each = All-from_recursion (λ e. (0 < e) × (e < 2 ^ 4)) (5 ∷ 9 ∷ []) ((lit< tt, lit< tt), ((lit< tt, lit< tt), tt));
+        each = All-from_recursion (λ e. (0 < e) × (e < 2 ^ 4)) (5 ∷ 9 ∷ [])
+            ((lit< tt, lit< tt), ((lit< tt, lit< tt), tt));
         in_order = refl;
       };
       apart = refl;
@@ -54,10 +57,19 @@ askable =
     }
 
 -- of the half fractions of four two-level factors the one of least pattern may be asked for
-least_half_fraction : IsValid (record { shape = record { q = 2; m = 3; s = 4; t = 0 }; demands = Resolution 4; least = true })
+least_half_fraction : IsValid
+    (record { shape = record { q = 2; m = 3; s = 4; t = 0 }; demands = Resolution 4; least = true })
 least_half_fraction =
     record {
-      shaped = record { order = refl; some_indexes = omega arith; runs = omega arith; some_factors = omega arith; factors = omega arith; block_factors = omega arith; factors_in_blocks = λ h. absurd (omega arith) };
+      shaped = record {
+        order = refl;
+        some_indexes = omega arith;
+        runs = omega arith;
+        some_factors = omega arith;
+        factors = omega arith;
+        block_factors = omega arith;
+        factors_in_blocks = λ h. absurd (omega arith);
+      };
       asked = (omega arith, omega arith);
       least = λ h. (refl, refl);
     }

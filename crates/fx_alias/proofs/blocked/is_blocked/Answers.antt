@@ -12,4 +12,5 @@ returns-then-class_number-ne0 c =
     c.contains.ensures
     ∙ (ap (has c.args.span.now) c.factor_sum.ensures.sum
     ∙ (sym (c.requires.span.decides c.args.u.now c.requires.vector)
-    ∙ sym (not_constant _ _ (c.class_number.ensures.constant ∙ ne_eqb c.class_number.result 0 c.if-class_number-ne0.true))))
+    ∙ sym (not_constant _ _
+    (c.class_number.ensures.constant ∙ ne_eqb c.class_number.result 0 c.if-class_number-ne0.true))))

@@ -5,4 +5,7 @@ use Rattle.fx_runs.specs.Runs.{design_of}
 use Rattle.fx_alias.proofs.blocked.put_lines.Given as goal
 
 abbrev pub invariant-loop-u : goal.invariant-loop-u
-invariant-loop-u l = l.out ≡ l.fn.out ++ flat_map (component_line (map (λ n. n.now) l.names)) (filter (is_blocked (design_of l.matrix)) (take l.u-index l.components))
+invariant-loop-u l =
+    l.out ≡ l.fn.out
+    ++ flat_map (component_line (map (λ n. n.now) l.names))
+    (filter (is_blocked (design_of l.matrix)) (take l.u-index l.components))

@@ -12,11 +12,18 @@ use Rattle.fx_alias.proofs.blocked.put_section.Goals as goal
 
 pub returns : goal.returns
 returns c =
-    let names : map (λ n. n.now) c.as_slice.result.now ≡ c.args.step.now.factors = ap (map (λ n. n.now)) c.as_slice.ensures.value ∙ c.in_ok-names.ensures in
-    let lines : List (List ℕ) → List (List ℕ) → List ℕ = λ names components. or_none (flat_map (component_line names) (filter (is_blocked (design_of c.args.matrix.now)) components)) in
-    let components : c.in_ok-components.components ≡ listed c.args.matrix.now.shape.q c.args.matrix.now.shape.s (goal_of c.args.step.now.wanted) =
-    c.in_ok-components.ensures.components ∙ ap (λ (z : Shape). listed z.q z.s (goal_of c.args.step.now.wanted)) c.shape.ensures.shape in
+    let names : map (λ n. n.now) c.as_slice.result.now ≡ c.args.step.now.factors =
+    ap (map (λ n. n.now)) c.as_slice.ensures.value ∙ c.in_ok-names.ensures in
+    let lines : List (List ℕ) → List (List ℕ) → List ℕ =
+    λ names components. or_none
+    (flat_map (component_line names) (filter (is_blocked (design_of c.args.matrix.now)) components)) in
+    let components : c.in_ok-components.components
+    ≡ listed c.args.matrix.now.shape.q c.args.matrix.now.shape.s (goal_of c.args.step.now.wanted) =
+    c.in_ok-components.ensures.components ∙ ap (λ (z : Shape). listed z.q z.s (goal_of c.args.step.now.wanted))
+    c.shape.ensures.shape in
     let all =
     ap₂ (λ (a b : List ℕ). a ++ b) c.in_ok-put.ensures.ok (ap₂ lines names components)
-    ∙ append_assoc c.args.out.now (codes "blocked\n") (lines c.args.step.now.factors (listed c.args.matrix.now.shape.q c.args.matrix.now.shape.s (goal_of c.args.step.now.wanted))) in
+    ∙ append_assoc c.args.out.now (codes "blocked\n")
+    (lines c.args.step.now.factors
+    (listed c.args.matrix.now.shape.q c.args.matrix.now.shape.s (goal_of c.args.step.now.wanted))) in
     subst (λ (l : List ℕ). OnOk c.put_blocked.result (c.put_blocked.new.out ≡ l)) all c.put_blocked.ensures

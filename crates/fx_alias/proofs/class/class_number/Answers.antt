@@ -16,7 +16,8 @@ returns-then-weight-eq0-clause-number c =
     let m : ℕ = c.args.matrix.now.shape.m in
     let f : IsField q = is_order-field q c.shape.ensures.valid.shaped.order in
     let none : weight c.sum_of_rules-sum.result ≡ 0 = search rules in
-    sym (weightless_number q f m _ (combination-vector q m f c.args.u.now _ (rows-vectors q m f c.args.matrix.now.rows)) (ap weight (sym c.sum_of_rules-sum.ensures.sum) ∙ none))
+    sym (weightless_number q f m _ (combination-vector q m f c.args.u.now _ (rows-vectors q m f c.args.matrix.now.rows))
+    (ap weight (sym c.sum_of_rules-sum.ensures.sum) ∙ none))
 
 pub returns-clause-number : goal.returns-clause-number
 unfolding class_number
@@ -24,19 +25,22 @@ returns-clause-number c =
     let q : ℕ = c.args.matrix.now.shape.q in
     let order : c.field-field.result ≡ q = search rules in
     c.number.ensures.number ∙ ap (number c.field-field.result) c.normal.ensures.multiple
-    ∙ ap (λ (x : ℕ). number x (scale x (inv x (last_nonzero c.sum_of_rules-sum.result)) c.sum_of_rules-sum.result)) order
+    ∙ ap (λ (x : ℕ). number x (scale x (inv x (last_nonzero c.sum_of_rules-sum.result)) c.sum_of_rules-sum.result))
+    order
     ∙ ap (λ (s : List ℕ). number q (scale q (inv q (last_nonzero s)) s)) c.sum_of_rules-sum.ensures.sum
 
 pub returns-then-weight-eq0-clause-constant : goal.returns-then-weight-eq0-clause-constant
 returns-then-weight-eq0-clause-constant c =
     let q : ℕ = c.args.matrix.now.shape.q in
-    constant_number q (is_order-field q c.shape.ensures.valid.shaped.order) c.args.matrix.now.shape.m c.args.matrix.now.rows c.args.u.now
+    constant_number q (is_order-field q c.shape.ensures.valid.shaped.order) c.args.matrix.now.shape.m
+    c.args.matrix.now.rows c.args.u.now
     ∙ ap (λ (z : ℕ). eqb z 0) (sym (returns-then-weight-eq0-clause-number c))
 
 pub returns-clause-constant : goal.returns-clause-constant
 returns-clause-constant c =
     let q : ℕ = c.args.matrix.now.shape.q in
-    constant_number q (is_order-field q c.shape.ensures.valid.shaped.order) c.args.matrix.now.shape.m c.args.matrix.now.rows c.args.u.now
+    constant_number q (is_order-field q c.shape.ensures.valid.shaped.order) c.args.matrix.now.shape.m
+    c.args.matrix.now.rows c.args.u.now
     ∙ ap (λ (z : ℕ). eqb z 0) (sym (returns-clause-number c))
 
 pub returns-then-weight-eq0-clause-below : goal.returns-then-weight-eq0-clause-below

@@ -22,17 +22,28 @@ loop-i-init c =
           rw c.zero-sum.ensures.zeros
           (zeros-plus c.field-field.result c.from-m.result f _
           (combination-vector c.field-field.result c.from-m.result f c.args.u.now _
-          (are_vectors c.field-field.result c.from-m.result (drop c.args.first c.args.matrix.now.rows) (omega (arith, f.more_than_one)))));
+          (are_vectors c.field-field.result c.from-m.result (drop c.args.first c.args.matrix.now.rows)
+          (omega (arith, f.more_than_one)))));
     }
 
 pub loop-i-preserved : goal.loop-i-preserved
 loop-i-preserved c =
     let f : IsField c.field-field.result = field_of (goal.at.loop-i-preserved c).After-from-m in
     record {
-      vector = subst (λ n. IsVector c.field-field.result n c.add_scaled.new.self) c.loop-i.invariant.vector.len c.add_scaled.ensures.vector;
+      vector = subst (λ n. IsVector c.field-field.result n c.add_scaled.new.self) c.loop-i.invariant.vector.len
+          c.add_scaled.ensures.vector;
       so_far =
-          rw (c.add_scaled.ensures.sum, c.of_number-row.ensures.digits, c.code.ensures, c.from.ensures, c.row.ensures.row, sym (get_or-drop c.args.first c.args.matrix.now.rows c.loop-i.i 0))
-          (sum_more c.field-field.result c.from-m.result f c.args.u.now (drop c.args.first c.args.matrix.now.rows) c.loop-i.i c.loop-i.sum (omega arith) (omega (arith, c.requires.complete, length-drop c.args.first c.args.matrix.now.rows))
+          rw (
+            c.add_scaled.ensures.sum,
+            c.of_number-row.ensures.digits,
+            c.code.ensures,
+            c.from.ensures,
+            c.row.ensures.row,
+            sym (get_or-drop c.args.first c.args.matrix.now.rows c.loop-i.i 0),
+          )
+          (sum_more c.field-field.result c.from-m.result f c.args.u.now (drop c.args.first c.args.matrix.now.rows)
+          c.loop-i.i c.loop-i.sum (omega arith)
+          (omega (arith, c.requires.complete, length-drop c.args.first c.args.matrix.now.rows))
           ∙ c.loop-i.invariant.so_far);
     }
 
@@ -42,6 +53,7 @@ returns-clause-sum c =
     let q : c.field-field.result ≡ c.args.matrix.now.shape.q = search rules in
     let m : c.from-m.result ≡ c.args.matrix.now.shape.m = search rules in
     let all =
-    sum_past c.field-field.result c.from-m.result f c.args.u.now (drop c.args.first c.args.matrix.now.rows) c.loop-i.i c.loop-i.sum _
+    sum_past c.field-field.result c.from-m.result f c.args.u.now (drop c.args.first c.args.matrix.now.rows) c.loop-i.i
+    c.loop-i.sum _
     (omega arith) c.loop-i.invariant.vector c.loop-i.invariant.so_far in
     rw (← q, ← m) all

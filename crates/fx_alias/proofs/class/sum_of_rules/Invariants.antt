@@ -6,6 +6,7 @@ abbrev pub invariant-loop-i : goal.invariant-loop-i
 invariant-loop-i l = record {
   vector : IsVector l.field l.m l.sum;
   so_far :
-      plus l.field l.sum (combination l.field l.m (drop l.i l.u) (vectors_of l.field l.m (drop l.i (drop l.first l.matrix.rows))))
+      plus l.field l.sum
+      (combination l.field l.m (drop l.i l.u) (vectors_of l.field l.m (drop l.i (drop l.first l.matrix.rows))))
       ≡ combination l.field l.m l.u (vectors_of l.field l.m (drop l.first l.matrix.rows));
 }

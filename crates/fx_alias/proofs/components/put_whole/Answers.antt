@@ -8,6 +8,8 @@ pub returns : goal.returns
 returns c =
     let none : c.args.count ≡ 0 = omega arith in
     let count : into_iter_len c.loop-v.v-iterator ≡ length (into_iter_items c.loop-v.v-iterator) = search rules in
-    let left : into_iter_items c.loop-v.v-iterator ≡ [] = nil_from_length (into_iter_items c.loop-v.v-iterator) (sym count ∙ c.in-None.ensures.steps.0) in
+    let left : into_iter_items c.loop-v.v-iterator ≡ [] =
+    nil_from_length (into_iter_items c.loop-v.v-iterator) (sym count ∙ c.in-None.ensures.steps.0) in
     sym (append-nil c.loop-v.found) ∙ ap (λ l. c.loop-v.found ++ l) (sym left) ∙ c.loop-v.invariant
-    ∙ ap (λ l. c.args.found.now ++ l) (sym (whole c.args.q c.args.chosen.now.items)) ∙ ap (λ (n : ℕ). c.args.found.now ++ begun_with c.args.q c.args.chosen.now.items n 0) (sym none)
+    ∙ ap (λ l. c.args.found.now ++ l) (sym (whole c.args.q c.args.chosen.now.items)) ∙ ap
+    (λ (n : ℕ). c.args.found.now ++ begun_with c.args.q c.args.chosen.now.items n 0) (sym none)

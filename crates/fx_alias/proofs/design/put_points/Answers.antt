@@ -12,5 +12,6 @@ loop-k-preserved c =
     c.in_ok-put_point.ensures ∙ ap (λ (l : List ℕ). l ++ line c.loop-k.k) c.loop-k.invariant
     ∙ append_assoc c.args.out.now (flat_map line done) (line c.loop-k.k)
     ∙ ap (λ (l : List ℕ). c.args.out.now ++ l)
-    (ap (λ (l : List ℕ). flat_map line done ++ l) (sym (append-nil (line c.loop-k.k))) ∙ sym (flat_map-append line done (c.loop-k.k ∷ []))
+    (ap (λ (l : List ℕ). flat_map line done ++ l) (sym (append-nil (line c.loop-k.k))) ∙ sym
+    (flat_map-append line done (c.loop-k.k ∷ []))
     ∙ ap (flat_map line) (next_place c.loop-k.k))

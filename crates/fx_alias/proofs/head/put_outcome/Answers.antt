@@ -13,9 +13,16 @@ returns-in_ok-put_matrix-in-Design c =
     let outcome = c.args.outcome.now in
     let step : Meaning = meaning_of c.args.step.now in
     let has = rw c.in-Design.is at outcome.whole in
-    let first = c.in_ok-put_matrix-in-Design.ensures ∙ ap (λ (claim : List ℕ). c.args.out.now ++ matrix_lines [] claim outcome.matrix) c.claim_of.ensures in
-    let lines = behind c.args.out.now (matrix_lines [] (claim_of step) outcome.matrix) _ (nodes_line outcome.nodes) _ first (design-lines step outcome.shape outcome.matrix outcome.nodes has) in
-    let e = lines ∙ ap (λ z. c.args.out.now ++ outcome_lines step (dimensions_of outcome.shape) (ending_by z outcome.matrix outcome.nodes)) (sym c.in-Design.is) in
+    let first =
+    c.in_ok-put_matrix-in-Design.ensures ∙ ap
+    (λ (claim : List ℕ). c.args.out.now ++ matrix_lines [] claim outcome.matrix) c.claim_of.ensures in
+    let lines =
+    behind c.args.out.now (matrix_lines [] (claim_of step) outcome.matrix) _ (nodes_line outcome.nodes) _ first
+    (design-lines step outcome.shape outcome.matrix outcome.nodes has) in
+    let e = lines ∙ ap
+    (λ z. c.args.out.now
+    ++ outcome_lines step (dimensions_of outcome.shape) (ending_by z outcome.matrix outcome.nodes))
+    (sym c.in-Design.is) in
     subst (λ (l : List ℕ). OnOk c.put_nodes.result (c.put_nodes.new.out ≡ l)) e c.put_nodes.ensures
 
 pub returns-in_ok-put_budget-in-Budget : goal.returns-in_ok-put_budget-in-Budget
@@ -23,6 +30,12 @@ returns-in_ok-put_budget-in-Budget c =
     let outcome = c.args.outcome.now in
     let step : Meaning = meaning_of c.args.step.now in
     let has = rw c.in-Budget.is at outcome.whole in
-    let lines = behind c.args.out.now (budget_line outcome.nodes) _ (matrix_lines (codes " not proved best") [] outcome.matrix) _ c.in_ok-put_budget-in-Budget.ensures (budget-lines step outcome.shape outcome.matrix outcome.nodes has) in
-    let e = lines ∙ ap (λ z. c.args.out.now ++ outcome_lines step (dimensions_of outcome.shape) (ending_by z outcome.matrix outcome.nodes)) (sym c.in-Budget.is) in
-    subst (λ (l : List ℕ). OnOk c.put_matrix-in-Budget.result (c.put_matrix-in-Budget.new.out ≡ l)) e c.put_matrix-in-Budget.ensures
+    let lines =
+    behind c.args.out.now (budget_line outcome.nodes) _ (matrix_lines (codes " not proved best") [] outcome.matrix)
+    _ c.in_ok-put_budget-in-Budget.ensures (budget-lines step outcome.shape outcome.matrix outcome.nodes has) in
+    let e = lines ∙ ap
+    (λ z. c.args.out.now
+    ++ outcome_lines step (dimensions_of outcome.shape) (ending_by z outcome.matrix outcome.nodes))
+    (sym c.in-Budget.is) in
+    subst (λ (l : List ℕ). OnOk c.put_matrix-in-Budget.result (c.put_matrix-in-Budget.new.out ≡ l)) e
+    c.put_matrix-in-Budget.ensures

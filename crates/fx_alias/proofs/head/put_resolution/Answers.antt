@@ -11,7 +11,8 @@ use Rattle.fx_alias.proofs.head.put_resolution.Goals as goal
 pub resolution-r-requires : goal.resolution-r-requires
 resolution-r-requires c =
     let d : Dimensions = dimensions_of c.args.matrix.now.shape in
-    let len : length c.in_ok-pattern.pattern ≡ d.s = ap length c.in_ok-pattern.ensures ∙ length-pattern d c.args.matrix.now.rows in
+    let len : length c.in_ok-pattern.pattern ≡ d.s =
+    ap length c.in_ok-pattern.ensures ∙ length-pattern d c.args.matrix.now.rows in
     let s : c.shape-shape.result.s ≡ d.s = ap (λ (z : Shape). z.s) c.shape-shape.ensures.shape in
     omega (arith, len, s, c.shape-shape.ensures.rows)
 
@@ -22,4 +23,5 @@ returns-then-from-len c =
     let r : c.from.result ≡ resolution_of a = c.from.ensures ∙ c.resolution-r.ensures ∙ ap resolution_of is in
     let n : c.len.result ≡ length a = c.len.ensures ∙ ap length is in
     let none : length a < resolution_of a = omega (arith, r, n, c.if-from-len.true) in
-    subst (λ (l : List ℕ). OnOk c.put.result (c.put.new.out ≡ c.args.out.now ++ l)) (no-words c.args.claim.now a none) c.put.ensures.ok
+    subst (λ (l : List ℕ). OnOk c.put.result (c.put.new.out ≡ c.args.out.now ++ l)) (no-words c.args.claim.now a none)
+    c.put.ensures.ok

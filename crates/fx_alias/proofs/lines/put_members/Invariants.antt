@@ -6,4 +6,5 @@ use Rattle.fx_alias.proofs.lines.put_members.Given as goal
 abbrev pub invariant-loop-i : goal.invariant-loop-i
 invariant-loop-i l =
     let names = map (λ n. n.now) l.names in
-    l.out ++ joined names l.is_first (at_places l.components (drop l.i-index l.places)) ≡ l.initial.out ++ joined names true (at_places l.components l.places)
+    l.out ++ joined names l.is_first (at_places l.components (drop l.i-index l.places))
+    ≡ l.initial.out ++ joined names true (at_places l.components l.places)

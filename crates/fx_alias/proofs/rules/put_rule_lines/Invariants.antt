@@ -8,6 +8,7 @@ invariant-loop-k l =
     let m = l.matrix.shape.m in
     let all = subjects l.factors l.blocks in
     record {
-      lines : l.out ++ rule_lines q m (map (λ n. n.now) l.introduced.items) (drop l.k all) (drop l.k l.matrix.rows) ≡ l.initial.out ++ rule_lines q m [] all l.matrix.rows;
+      lines : l.out ++ rule_lines q m (map (λ n. n.now) l.introduced.items) (drop l.k all) (drop l.k l.matrix.rows)
+          ≡ l.initial.out ++ rule_lines q m [] all l.matrix.rows;
       few : length l.introduced.items ≤ m;
     }

@@ -1,4 +1,5 @@
-use Rattle.std.proofs.Common.{rules, ℕ, ◌≡◌, ◌<◌, ◌+◌, ◌-◌, List, [], ◌∷◌, ◌++◌, length, None, is_some, sym, ap, ◌∙◌, subst, arith}
+use Rattle.std.proofs.Common.{rules, ℕ, ◌≡◌, ◌<◌, ◌+◌, ◌-◌, List, [], ◌∷◌, ◌++◌, length, None, is_some, sym, ap, ◌∙◌}
+use Rattle.std.proofs.Common.{subst, arith}
 use Rattle.std.specs.Option.{option_or}
 use Rattle.std.proofs.lemmas.Result.{IfOk-weaker}
 use Rattle.fx_designs.specs.Jobs.{carried}
@@ -8,12 +9,14 @@ use Rattle.fx_designs.specs.Problems.{Problem}
 use Rattle.fx_statements.specs.Steps.{meaning_of}
 use Rattle.fx_statements.specs.Questions.{found_by, last_found, nodes_of, question_for, until}
 use Rattle.fx_answer.specs.Standing.{StandsFor, books_in_asking, conclusion_in_asking, questions_above}
-use Rattle.fx_answer.proofs.Answered.{found-of, found-stands, found-whole, left-is-whole, left-of, left-stands, nothing-stands}
+use Rattle.fx_answer.proofs.Answered.{found-of, found-stands, found-whole, left-is-whole, left-of, left-stands}
+use Rattle.fx_answer.proofs.Answered.{nothing-stands}
 use Rattle.fx_answer.proofs.Asking.{books_so_far, come_more, ended, nodes_more, past}
 use Rattle.fx_answer.proofs.answering.+asking.Goals as goal
 
 -- the nodes of the question that is finished now
-more : (earlier : List Problem) (p : Problem) (before count : ℕ) → before ≡ nodes_of earlier → count ≡ length (nodes p) → before + count ≡ nodes_of (earlier ++ p ∷ [])
+more : (earlier : List Problem) (p : Problem) (before count : ℕ) → before ≡ nodes_of earlier → count ≡ length (nodes p)
+    → before + count ≡ nodes_of (earlier ++ p ∷ [])
 more earlier p before count is counted = let e = nodes_more earlier p in omega (arith, e, is, counted)
 
 pub ask_from-go_on-requires : goal.ask_from-go_on-requires
@@ -35,14 +38,27 @@ ask_from-go_on-requires g t c lifetimes live =
             search rules,
             (
               search rules,
-              (c.requires.threads, (c.requires.low, (c.requires.high, (omega (arith, c.requires.within, h.4), (of, (dimensions, (answered, (found, found-whole question c.in-Found.matrix h.0 h.1)))))))),
+              (
+                c.requires.threads,
+                (
+                  c.requires.low,
+                  (
+                    c.requires.high,
+                    (
+                      omega (arith, c.requires.within, h.4),
+                      (of, (dimensions, (answered, (found, found-whole question c.in-Found.matrix h.0 h.1)))),
+                    ),
+                  ),
+                ),
+              ),
             ),
           ),
         ),
       ),
     )
 
-pub ask_from-returns-in_ok-add_answer-in-Found-clause-concluded : goal.ask_from-returns-in_ok-add_answer-in-Found-clause-concluded
+pub ask_from-returns-in_ok-add_answer-in-Found-clause-concluded :
+    goal.ask_from-returns-in_ok-add_answer-in-Found-clause-concluded
 ask_from-returns-in_ok-add_answer-in-Found-clause-concluded g t c =
     let step = meaning_of c.args.step.now in
     let question = c.in_ok-question.question in
@@ -51,11 +67,14 @@ ask_from-returns-in_ok-add_answer-in-Found-clause-concluded g t c =
     let h = rw c.in-Found.is at c.in_ok-matrix.ensures.answer in
     let counted : c.in-Found.nodes ≡ length (nodes p) = h.2 ∙ ap (λ p. length (nodes p)) same in
     IfOk-weaker c.go_on.result _ _ (λ outcome after earlier is stands.
-    after (earlier ++ p ∷ []) (more earlier p c.args.finished.nodes c.in-Found.nodes is counted) (found-stands question c.in-Found.matrix h.0 h.1 p same earlier)
-    ∙ sym (past step (conclusion_in_asking step) earlier c.args.n c.requires.high (omega (arith, is, counted, h.4, c.requires.within))))
+    after (earlier ++ p ∷ []) (more earlier p c.args.finished.nodes c.in-Found.nodes is counted)
+    (found-stands question c.in-Found.matrix h.0 h.1 p same earlier)
+    ∙ sym (past step (conclusion_in_asking step) earlier c.args.n c.requires.high
+    (omega (arith, is, counted, h.4, c.requires.within))))
     c.go_on.ensures.concluded
 
-pub ask_from-returns-in_ok-add_answer-in-Found-clause-books : goal.ask_from-returns-in_ok-add_answer-in-Found-clause-books
+pub ask_from-returns-in_ok-add_answer-in-Found-clause-books :
+    goal.ask_from-returns-in_ok-add_answer-in-Found-clause-books
 ask_from-returns-in_ok-add_answer-in-Found-clause-books g t c =
     let step = meaning_of c.args.step.now in
     let p = question_for step c.args.n in
@@ -63,12 +82,16 @@ ask_from-returns-in_ok-add_answer-in-Found-clause-books g t c =
     let h = rw c.in-Found.is at c.in_ok-matrix.ensures.answer in
     let counted : c.in-Found.nodes ≡ length (nodes p) = h.2 ∙ ap (λ p. length (nodes p)) same in
     IfOk-weaker c.go_on.result _ _ (λ outcome after earlier is come before.
-    after (earlier ++ p ∷ []) (more earlier p c.args.finished.nodes c.in-Found.nodes is counted) (come_more step earlier c.args.n p come)
-    (books_so_far step earlier c.args.n p come _ _ _ _ same c.question_number-number.ensures before c.in_ok-add_answer-in-Found.ensures)
-    ∙ sym (past step books_in_asking earlier c.args.n c.requires.high (omega (arith, is, counted, h.4, c.requires.within))))
+    after (earlier ++ p ∷ []) (more earlier p c.args.finished.nodes c.in-Found.nodes is counted)
+    (come_more step earlier c.args.n p come)
+    (books_so_far step earlier c.args.n p come _ _ _ _ same c.question_number-number.ensures before
+    c.in_ok-add_answer-in-Found.ensures)
+    ∙ sym (past step books_in_asking earlier c.args.n c.requires.high
+    (omega (arith, is, counted, h.4, c.requires.within))))
     c.go_on.ensures.books
 
-pub ask_from-returns-in_ok-add_absence-in-Nothing-clause-concluded : goal.ask_from-returns-in_ok-add_absence-in-Nothing-clause-concluded
+pub ask_from-returns-in_ok-add_absence-in-Nothing-clause-concluded :
+    goal.ask_from-returns-in_ok-add_absence-in-Nothing-clause-concluded
 ask_from-returns-in_ok-add_absence-in-Nothing-clause-concluded g t c =
     let step = meaning_of c.args.step.now in
     let p = question_for step c.args.n in
@@ -76,11 +99,14 @@ ask_from-returns-in_ok-add_absence-in-Nothing-clause-concluded g t c =
     let h = rw c.in-Nothing.is at c.in_ok-matrix.ensures.answer in
     let counted : c.in-Nothing.nodes ≡ length (nodes p) = h.1 ∙ ap (λ p. length (nodes p)) same in
     IfOk-weaker c.go_on-in-Nothing.result _ _ (λ outcome after earlier is stands.
-    after (earlier ++ p ∷ []) (more earlier p c.args.finished.nodes c.in-Nothing.nodes is counted) (nothing-stands p c.args.finished.found earlier (ap answer (sym same) ∙ h.0) stands)
-    ∙ sym (past step (conclusion_in_asking step) earlier c.args.n c.requires.high (omega (arith, is, counted, h.3, c.requires.within))))
+    after (earlier ++ p ∷ []) (more earlier p c.args.finished.nodes c.in-Nothing.nodes is counted)
+    (nothing-stands p c.args.finished.found earlier (ap answer (sym same) ∙ h.0) stands)
+    ∙ sym (past step (conclusion_in_asking step) earlier c.args.n c.requires.high
+    (omega (arith, is, counted, h.3, c.requires.within))))
     c.go_on-in-Nothing.ensures.concluded
 
-pub ask_from-returns-in_ok-add_absence-in-Nothing-clause-books : goal.ask_from-returns-in_ok-add_absence-in-Nothing-clause-books
+pub ask_from-returns-in_ok-add_absence-in-Nothing-clause-books :
+    goal.ask_from-returns-in_ok-add_absence-in-Nothing-clause-books
 ask_from-returns-in_ok-add_absence-in-Nothing-clause-books g t c =
     let step = meaning_of c.args.step.now in
     let p = question_for step c.args.n in
@@ -88,22 +114,29 @@ ask_from-returns-in_ok-add_absence-in-Nothing-clause-books g t c =
     let h = rw c.in-Nothing.is at c.in_ok-matrix.ensures.answer in
     let counted : c.in-Nothing.nodes ≡ length (nodes p) = h.1 ∙ ap (λ p. length (nodes p)) same in
     IfOk-weaker c.go_on-in-Nothing.result _ _ (λ outcome after earlier is come before.
-    after (earlier ++ p ∷ []) (more earlier p c.args.finished.nodes c.in-Nothing.nodes is counted) (come_more step earlier c.args.n p come)
-    (books_so_far step earlier c.args.n p come _ _ _ _ same c.question_number-number.ensures before c.in_ok-add_absence-in-Nothing.ensures)
-    ∙ sym (past step books_in_asking earlier c.args.n c.requires.high (omega (arith, is, counted, h.3, c.requires.within))))
+    after (earlier ++ p ∷ []) (more earlier p c.args.finished.nodes c.in-Nothing.nodes is counted)
+    (come_more step earlier c.args.n p come)
+    (books_so_far step earlier c.args.n p come _ _ _ _ same c.question_number-number.ensures before
+    c.in_ok-add_absence-in-Nothing.ensures)
+    ∙ sym (past step books_in_asking earlier c.args.n c.requires.high
+    (omega (arith, is, counted, h.3, c.requires.within))))
     c.go_on-in-Nothing.ensures.books
 
 pub ask_from-cut_short-requires-clause-whole : goal.ask_from-cut_short-requires-clause-whole
 ask_from-cut_short-requires-clause-whole g t c =
     let h = rw c.in-Budget.is at c.in_ok-matrix.ensures.answer in
-    rw c.or.ensures (left-is-whole c.in_ok-question.question (c.args.step.now.budget - c.args.finished.nodes) c.in-Budget.best c.args.finished.found h.1 h.2 c.requires.whole)
+    rw c.or.ensures
+    (left-is-whole c.in_ok-question.question (c.args.step.now.budget - c.args.finished.nodes) c.in-Budget.best
+    c.args.finished.found h.1 h.2 c.requires.whole)
 
 pub ask_from-returns-in-Budget-clause-of_step : goal.ask_from-returns-in-Budget-clause-of_step
 ask_from-returns-in-Budget-clause-of_step g t c =
     let h = rw c.in-Budget.is at c.in_ok-matrix.ensures.answer in
     let of = c.in_ok-question.ensures.of_step in
     c.cut_short.ensures.of_step (meaning_of c.args.step.now) of
-    (rw c.or.ensures (left-of c.in_ok-question.question (c.args.step.now.budget - c.args.finished.nodes) (meaning_of c.args.step.now) c.in-Budget.best c.args.finished.found h.2 of c.requires.found))
+    (rw c.or.ensures
+    (left-of c.in_ok-question.question (c.args.step.now.budget - c.args.finished.nodes) (meaning_of c.args.step.now)
+    c.in-Budget.best c.args.finished.found h.2 of c.requires.found))
 
 pub ask_from-returns-in-Budget-clause-concluded : goal.ask_from-returns-in-Budget-clause-concluded
 ask_from-returns-in-Budget-clause-concluded g t c = λ earlier is stands.
@@ -116,13 +149,17 @@ ask_from-returns-in-Budget-clause-concluded g t c = λ earlier is stands.
     let found_before = c.args.finished.found in
     let h = rw c.in-Budget.is at c.in_ok-matrix.ensures.answer in
     let spent : budget - nodes_before ≡ budget - nodes_of earlier = ap (λ n. budget - n) is in
-    let passed : budget - nodes_before < length (nodes p) = subst (λ p. budget - nodes_before < length (nodes p)) same h.0 in
+    let passed : budget - nodes_before < length (nodes p) =
+    subst (λ p. budget - nodes_before < length (nodes p)) same h.0 in
     let left = found_by (last_found None earlier) p (carried p (budget - nodes_of earlier)) in
     let found : StandsFor (option_or c.in-Budget.best found_before) left =
-    subst (λ n. StandsFor (option_or c.in-Budget.best found_before) (found_by (last_found None earlier) p (carried p n))) spent
-    (left-stands question (budget - nodes_before) c.in-Budget.best found_before (last_found None earlier) p h.1 h.2 same stands) in
+    subst (λ n. StandsFor (option_or c.in-Budget.best found_before)
+    (found_by (last_found None earlier) p (carried p n))) spent
+    (left-stands question (budget - nodes_before) c.in-Budget.best found_before (last_found None earlier) p h.1 h.2 same
+    stands) in
     c.cut_short.ensures.concluded p left (sym (ap (λ (p : Problem). p.dimensions) same)) (rw c.or.ensures found)
-    ∙ sym (ended (conclusion_in_asking step) budget (until step.settings.size) earlier p (questions_above step c.args.n) (omega (arith, is, passed, c.requires.within)))
+    ∙ sym (ended (conclusion_in_asking step) budget (until step.settings.size) earlier p (questions_above step c.args.n)
+    (omega (arith, is, passed, c.requires.within)))
 
 pub ask_from-returns-in-Budget-clause-books : goal.ask_from-returns-in-Budget-clause-books
 ask_from-returns-in-Budget-clause-books g t c = λ earlier is come before.
@@ -131,10 +168,13 @@ ask_from-returns-in-Budget-clause-books g t c = λ earlier is come before.
     let same = c.in_ok-question.ensures.problem in
     let budget = c.args.step.now.budget in
     let h = rw c.in-Budget.is at c.in_ok-matrix.ensures.answer in
-    let passed : budget - c.args.finished.nodes < length (nodes p) = subst (λ p. budget - c.args.finished.nodes < length (nodes p)) same h.0 in
+    let passed : budget - c.args.finished.nodes < length (nodes p) =
+    subst (λ p. budget - c.args.finished.nodes < length (nodes p)) same h.0 in
     c.cut_short.ensures.books
     ∙ (before
-    ∙ sym (ended books_in_asking budget (until step.settings.size) earlier p (questions_above step c.args.n) (omega (arith, is, passed, c.requires.within))))
+    ∙ sym (ended books_in_asking budget (until step.settings.size) earlier p (questions_above step c.args.n)
+    (omega (arith, is, passed, c.requires.within))))
 
 pub go_on-returns-then-n-highest-clause-of_step : goal.go_on-returns-then-n-highest-clause-of_step
-go_on-returns-then-n-highest-clause-of_step g t c = c.concluded.ensures.of_step (meaning_of c.args.step.now) c.requires.shape c.requires.found
+go_on-returns-then-n-highest-clause-of_step g t c =
+    c.concluded.ensures.of_step (meaning_of c.args.step.now) c.requires.shape c.requires.found

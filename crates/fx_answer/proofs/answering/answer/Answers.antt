@@ -8,7 +8,8 @@ use Rattle.fx_answer.proofs.Valid.{kept_valid, some_numbers}
 use Rattle.fx_answer.proofs.answering.answer.Goals as goal
 
 pub ask_from-requires-clause-high : goal.ask_from-requires-clause-high
-ask_from-requires-clause-high g c lifetimes live = some_numbers (meaning_of c.args.step.now) (kept_valid c.args.step.now) c.lowest.result c.lowest.ensures
+ask_from-requires-clause-high g c lifetimes live =
+    some_numbers (meaning_of c.args.step.now) (kept_valid c.args.step.now) c.lowest.result c.lowest.ensures
 
 pub returns : goal.returns
 returns g c =
@@ -19,7 +20,8 @@ returns g c =
       concluded = h.0.1 [] refl tt ∙ ap (conclusion_from step []) c.lowest.ensures ∙ whole step;
       factors = h.0.0.factors;
       few_blocks = h.0.0.few_blocks;
-      books = h.1 [] refl (c.lowest.ensures ∙ sym (omega arith)) c.new.ensures ∙ ap (all_books_from step []) c.lowest.ensures ∙ whole_books step;
+      books = h.1 [] refl (c.lowest.ensures ∙ sym (omega arith)) c.new.ensures ∙ ap (all_books_from step [])
+          c.lowest.ensures ∙ whole_books step;
     }) (both result _ _ (both result _ _ ensured.of_step ensured.concluded) ensured.books)
   where
     both : {T E : Type 0} (r : Result T E) (P Q : T → Type 0) → IfOk r P → IfOk r Q → IfOk r (λ x. P x × Q x)

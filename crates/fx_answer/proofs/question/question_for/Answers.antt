@@ -17,9 +17,13 @@ returns-clause-valid c =
       shaped = c.shape_for.ensures.of_step.shaped;
       asked =
           subst (λ r. CanBeAsked (dimensions_of c.shape_for.result) r) (sym wanted)
-          (subst (λ d. CanBeAsked d (requirement_for step.least (goal_of step.wanted) c.args.n)) (sym c.shape_for.ensures.dimensions)
+          (subst (λ d. CanBeAsked d (requirement_for step.least (goal_of step.wanted) c.args.n))
+          (sym c.shape_for.ensures.dimensions)
           (requirement_valid (meaning_of step) (kept_valid step) c.args.n low high));
       least = λ h.
-          let valid = least_valid (meaning_of step) (kept_valid step) c.args.n low high h in
-          (subst (λ r. IsTrue (is_resolution r)) (sym wanted) valid.0, ap (λ d. d.t) c.shape_for.ensures.dimensions ∙ valid.1);
+          let valid = least_valid (meaning_of step) (kept_valid step) c.args.n low high h in (
+            subst (λ r. IsTrue (is_resolution r)) (sym wanted) valid.0,
+            ap (λ d. d.t) c.shape_for.ensures.dimensions ∙
+                valid.1,
+          );
     }

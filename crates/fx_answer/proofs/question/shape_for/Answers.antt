@@ -5,7 +5,8 @@ use Rattle.fx_answer.specs.Standing.{IsShapeOf}
 use Rattle.fx_answer.proofs.Valid.{kept_valid, shape_valid}
 use Rattle.fx_answer.proofs.question.shape_for.Goals as goal
 
-shape_with : (step : Meaning) (q m s t m' s' t' : ℕ) → m ≡ m' → s ≡ s' → t ≡ t' → IsShapeOf step (record { q = q; m = m'; s = s'; t = t' }) → IsShapeOf step (record { q = q; m = m; s = s; t = t })
+shape_with : (step : Meaning) (q m s t m' s' t' : ℕ) → m ≡ m' → s ≡ s' → t ≡ t'
+    → IsShapeOf step (record { q = q; m = m'; s = s'; t = t' }) → IsShapeOf step (record { q = q; m = m; s = s; t = t })
 shape_with step q m s t m' s' t' em es et h =
     subst (λ x. IsShapeOf step (record { q = q; m = x; s = s; t = t })) (sym em)
     (subst (λ x. IsShapeOf step (record { q = q; m = m'; s = x; t = t })) (sym es)
@@ -17,5 +18,6 @@ returns-clause-of_step c =
     let m = run_factors step.size c.args.n in
     shape_with (meaning_of step) step.q c.run_factors-m.result c.len.result c.block_factors.result
     m (length step.factors) (block_factors step.blocks m c.args.n)
-    c.run_factors-m.ensures c.len.ensures (c.block_factors.ensures ∙ ap (λ x. block_factors step.blocks x c.args.n) c.run_factors-m.ensures)
+    c.run_factors-m.ensures c.len.ensures
+    (c.block_factors.ensures ∙ ap (λ x. block_factors step.blocks x c.args.n) c.run_factors-m.ensures)
     (shape_valid (meaning_of step) (kept_valid step) c.args.n c.requires.low c.requires.high)

@@ -11,16 +11,23 @@ loop-x-preserved c =
     let v = c.lightest.result in
     let tables = c.loop-x.tables in
     let at : place ≡ c.args.first + c.loop-x.x = omega (arith, c.from.ensures) in
-    let there : place < length tables = omega (arith, at, c.loop-x.invariant.len, c.requires.there, c.loop-x-test.true, c.size-x-end.ensures.points) in
+    let there : place < length tables =
+    omega (arith, at, c.loop-x.invariant.len, c.requires.there, c.loop-x-test.true, c.size-x-end.ensures.points) in
     record {
       len = length-set tables place v ∙ c.loop-x.invariant.len;
-      kept = λ k low. get_or-set_other tables place k v None (λ (e : k ≡ place). omega arith) ∙ c.loop-x.invariant.kept k low;
-      within = made-next (λ y o. IsWithin c.args.reached.now.q (length c.args.reached.now.rows) o) tables c.args.first c.loop-x.x place v at there c.lightest.ensures.within c.loop-x.invariant.within;
+      kept = λ k low. get_or-set_other tables place k v None (λ (e : k ≡ place). omega arith) ∙ c.loop-x.invariant.kept
+          k low;
+      within = made-next (λ y o. IsWithin c.args.reached.now.q (length c.args.reached.now.rows) o) tables c.args.first
+          c.loop-x.x place v at there c.lightest.ensures.within c.loop-x.invariant.within;
       best = λ d r eq em rows some half.
-          made-next (λ y o. IsBest d (AtResolution r) c.args.reached.now.rows y o) tables c.args.first c.loop-x.x place v at there (c.lightest.ensures.best d r eq em rows some half) (c.loop-x.invariant.best d r eq em rows some half);
+          made-next (λ y o. IsBest d (AtResolution r) c.args.reached.now.rows y o) tables c.args.first c.loop-x.x place
+          v at there (c.lightest.ensures.best d r eq em rows some half)
+          (c.loop-x.invariant.best d r eq em rows some half);
     }
 
 pub returns-clause-best : goal.returns-clause-best
 returns-clause-best c d r eq em rows some half x low =
-    let size : d.q ^ d.m ≡ c.args.reached.now.q ^ c.args.reached.now.m = ap (λ (k : ℕ). k ^ d.m) eq ∙ ap (λ (k : ℕ). c.args.reached.now.q ^ k) em in
-    c.loop-x.invariant.best d r eq em rows some half x (omega (arith, low, size, c.loop-x-test.false, c.size-x-end.ensures.points))
+    let size : d.q ^ d.m ≡ c.args.reached.now.q ^ c.args.reached.now.m =
+    ap (λ (k : ℕ). k ^ d.m) eq ∙ ap (λ (k : ℕ). c.args.reached.now.q ^ k) em in
+    c.loop-x.invariant.best d r eq em rows some half x
+    (omega (arith, low, size, c.loop-x-test.false, c.size-x-end.ensures.points))

@@ -16,9 +16,14 @@ loop-k-init c =
       len = c.clear.ensures.len;
       kept = c.clear.ensures.kept;
       first =
-          first-start r.q r.m r.rows c.args.words.now (length r.rows) c.start_of-k.result (c.len-n.result * c.from-size.result) c.clear.new.tables
+          first-start r.q r.m r.rows c.args.words.now (length r.rows) c.start_of-k.result
+          (c.len-n.result * c.from-size.result) c.clear.new.tables
           (λ y low. c.clear.ensures.zeros y (omega (arith, c.from-size.ensures, c.size.ensures.points)))
-          (λ k before low last. (let class = c.start_of-k.ensures.before k any before in let at = last-of-class r.q r.room c.args.words.now k any c.requires.words (omega (arith, c.room-room.ensures.room, c.room-room.ensures.fits)) low in omega (arith, c.len-n.ensures.count)));
+          (λ k before low last.
+          (let class = c.start_of-k.ensures.before k any before in
+          let at = last-of-class r.q r.room c.args.words.now k any c.requires.words
+          (omega (arith, c.room-room.ensures.room, c.room-room.ensures.fits)) low in
+          omega (arith, c.len-n.ensures.count)));
     }
 
 pub loop-k-preserved : goal.loop-k-preserved
@@ -34,14 +39,17 @@ loop-k-preserved c =
     let under = c.start_of-k-end.ensures.before k any c.loop-k-test.true in
     let at = last-of-class r.q r.room words k any c.requires.words small there in
     let last : last_factor (vector_at words k) ≡ length r.rows + 1 = omega (arith, c.len-n.ensures.count) in
-    let total : sum_to r.q r.m r.rows (vector_at words k) (length r.rows) ≡ sum = ap (λ (v : List ℕ). sum_to r.q r.m r.rows v (length r.rows)) (vector-at words k c.index-words-k.result there) ∙ sym c.sum-sum.ensures.sum in
+    let total : sum_to r.q r.m r.rows (vector_at words k) (length r.rows) ≡ sum =
+    ap (λ (v : List ℕ). sum_to r.q r.m r.rows v (length r.rows)) (vector-at words k c.index-words-k.result there) ∙
+    sym c.sum-sum.ensures.sum in
     let has : HasSum r.q r.m r.rows words (length r.rows) sum k = record { there = there; last = last; sum = total } in
     let place : first + c.from.result ≡ first + sum = ap (λ (n : ℕ). first + n) c.from.ensures in
     record {
       len = c.put_first.ensures.len ∙ c.loop-k.invariant.len;
       kept = λ j low. c.put_first.ensures.others j (λ e. omega arith) ∙ c.loop-k.invariant.kept j low;
       first =
-          first-more r.q r.m r.rows words (length r.rows) k first sum c.loop-k.tables c.put_first.new.tables has c.sum-sum.ensures.below
+          first-more r.q r.m r.rows words (length r.rows) k first sum c.loop-k.tables c.put_first.new.tables has
+          c.sum-sum.ensures.below
           (λ j apart. c.put_first.ensures.others j (λ e. apart (e ∙ place)))
           (rw place at c.put_first.ensures.here) c.loop-k.invariant.first;
     }
@@ -51,10 +59,15 @@ returns-clause-first c =
     let r = c.args.reached.now in
     let words : List ForbiddenVector = c.args.words.now in
     let small : r.room ≤ 40 = omega (arith, c.room-room.ensures.room, c.room-room.ensures.fits) in
-    let place : c.len-n.result * c.from-size.result ≡ length r.rows * r.q ^ r.m = ap (λ (n : ℕ). n * c.from-size.result) c.len-n.ensures.count ∙ ap (λ (n : ℕ). length r.rows * n) (c.from-size.ensures ∙ c.size.ensures.points) in
+    let place : c.len-n.result * c.from-size.result ≡ length r.rows * r.q ^ r.m =
+    ap (λ (n : ℕ). n * c.from-size.result) c.len-n.ensures.count ∙ ap (λ (n : ℕ). length r.rows * n)
+    (c.from-size.ensures ∙ c.size.ensures.points) in
     subst (λ (p : ℕ). AreFirst r.q r.m r.rows words (length r.rows) (length words) p c.loop-k.tables) place
     (first-end r.q r.m r.rows words (length r.rows) c.loop-k.k (c.len-n.result * c.from-size.result) c.loop-k.tables
-    (λ k after low last. (let class = c.start_of-k-end.ensures.after k any (omega (arith, c.loop-k-test.false)) low in let at = last-of-class r.q r.room words k any c.requires.words small low in omega (arith, c.len-n.ensures.count)))
+    (λ k after low last.
+    (let class = c.start_of-k-end.ensures.after k any (omega (arith, c.loop-k-test.false)) low in
+    let at = last-of-class r.q r.room words k any c.requires.words small low in
+    omega (arith, c.len-n.ensures.count)))
     c.loop-k.invariant.first)
 
 on-true : (b : Bool) (P : Type 0) → b ≡ true → OnTrue b P → P
@@ -64,7 +77,10 @@ pub returns-then-is_full-clause-first : goal.returns-then-is_full-clause-first
 returns-then-is_full-clause-first c =
     let r = c.args.reached.now in
     let words : List ForbiddenVector = c.args.words.now in
-    let place : c.len-n.result * c.from-size.result ≡ length r.rows * r.q ^ r.m = ap (λ (n : ℕ). n * c.from-size.result) c.len-n.ensures.count ∙ ap (λ (n : ℕ). length r.rows * n) (c.from-size.ensures ∙ c.size.ensures.points) in
+    let place : c.len-n.result * c.from-size.result ≡ length r.rows * r.q ^ r.m =
+    ap (λ (n : ℕ). n * c.from-size.result) c.len-n.ensures.count ∙ ap (λ (n : ℕ). length r.rows * n)
+    (c.from-size.ensures ∙ c.size.ensures.points) in
     let full = on-true c.is_full.result _ c.if-is_full.true c.is_full.ensures in
     subst (λ (p : ℕ). AreFirst r.q r.m r.rows words (length r.rows) (length words) p c.loop-k.tables) place
-    (first-full r.q r.m r.rows words (length r.rows) c.loop-k.k (c.len-n.result * c.from-size.result) c.loop-k.tables (λ y low. full y (omega (arith, c.from-size.ensures, c.size.ensures.points))) c.loop-k.invariant.first)
+    (first-full r.q r.m r.rows words (length r.rows) c.loop-k.k (c.len-n.result * c.from-size.result) c.loop-k.tables
+    (λ y low. full y (omega (arith, c.from-size.ensures, c.size.ensures.points))) c.loop-k.invariant.first)

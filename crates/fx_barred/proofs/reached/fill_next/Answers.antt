@@ -1,4 +1,5 @@
-use Rattle.std.proofs.Common.{◌≡◌, ◌<◌, ◌+◌, ◌≢◌, ◌∙◌, ℕ, List, [], length, set, slice_index_or, length-set, ap, arith, inl, inr}
+use Rattle.std.proofs.Common.{◌≡◌, ◌<◌, ◌+◌, ◌≢◌, ◌∙◌, ℕ, List, [], length, set, slice_index_or, length-set, ap, arith}
+use Rattle.std.proofs.Common.{inl, inr}
 use Rattle.std.proofs.lemmas.Bool.{cases_eq}
 use Rattle.std.proofs.lemmas.List.{get_or-set_other}
 use Rattle.std.proofs.lemmas.Grind.{get_or-set_at}
@@ -15,10 +16,12 @@ loop-w-preserved c =
     let before : List (List ℕ) = c.args.before.now in
     let made : List ℕ = c.fill_set.new.set in
     let there : i < length after = omega (arith, c.loop-w.invariant.len, c.requires.there, c.loop-w-test.true) in
-    let other : (k : ℕ) → k ≢ i → slice_index_or (set after i made) k [] ≡ slice_index_or after k [] = λ k ne. get_or-set_other after i k made [] ne in
+    let other : (k : ℕ) → k ≢ i → slice_index_or (set after i made) k [] ≡ slice_index_or after k [] =
+    λ k ne. get_or-set_other after i k made [] ne in
     let fits : old + w + 1 < length before = omega (arith, c.requires.sets, c.loop-w-test.true) in
     let same : c.index-before-old.result ≡ slice_index_or before (old + (w + 1)) [] =
-    c.index-before-old.is ∙ at-any before (old + w + 1) c.index-before-old.result [] fits ∙ ap (λ k. slice_index_or before k []) (let e : old + w + 1 ≡ old + (w + 1) = omega arith in e) in
+    c.index-before-old.is ∙ at-any before (old + w + 1) c.index-before-old.result [] fits ∙ ap
+    (λ k. slice_index_or before k []) (let e : old + w + 1 ≡ old + (w + 1) = omega arith in e) in
     let lighter : c.index-before-old-in-loop-w.result ≡ slice_index_or before (old + w) [] =
     c.index-before-old-in-loop-w.is ∙ at-any before (old + w) c.index-before-old-in-loop-w.result [] (omega arith) in
     record {
@@ -30,7 +33,11 @@ loop-w-preserved c =
             | inl here ↦
                 let at : v + 1 ≡ i = omega (arith, here) in
                 ap (λ s. has s x) (get_or-set_at after i (v + 1) made [] at there)
-                ∙ made_value c.args.sums.now.q c.args.sums.now.m c.args.first old w v x c.args.multiples.now before made c.index-before-old.result c.index-before-old-in-loop-w.result (c.fill_set.ensures x point) same lighter here
-            | inr less ↦ ap (λ s. has s x) (other (v + 1) (λ (e : v + 1 ≡ i). less (omega arith))) ∙ c.loop-w.invariant.next v x (omega arith) point
+                ∙ made_value c.args.sums.now.q c.args.sums.now.m c.args.first old w v x c.args.multiples.now before made
+                c.index-before-old.result c.index-before-old-in-loop-w.result (c.fill_set.ensures x point) same
+                lighter here
+            | inr less ↦
+                ap (λ s. has s x) (other (v + 1) (λ (e : v + 1 ≡ i). less (omega arith))) ∙ c.loop-w.invariant.next v x
+                (omega arith) point
           ];
     }

@@ -14,5 +14,8 @@ invariant-loop-w l = record {
   next : (w x : ℕ) → w < l.w → x < l.sums.q ^ l.sums.m
       → has (slice_index_or l.after (w + 1) []) x
       ≡ (has (slice_index_or l.before (l.old + (w + 1)) []) x
-      || list_any (λ c. nat_lt 0 c && has (slice_index_or l.before (l.old + w) []) (sum_of l.sums.q 1 l.sums.m x (slice_index l.multiples (l.first + c)))) (codes_of l.sums.q));
+      || list_any
+      (λ c. nat_lt 0 c
+      && has (slice_index_or l.before (l.old + w) [])
+      (sum_of l.sums.q 1 l.sums.m x (slice_index l.multiples (l.first + c)))) (codes_of l.sums.q));
 }

@@ -15,11 +15,14 @@ returns-then-count-eq0-clause-rest g c = read_rest_more _ _ _ _ _ _ c.reads.inva
 
 pub returns-in_err-extend_from_slice-clause-rest :
     goal.returns-in_err-extend_from_slice-clause-rest
-returns-in_err-extend_from_slice-clause-rest g c = read_rest_more _ _ _ _ _ _ c.reads.invariant.read c.in_ok-count.ensures.taken
+returns-in_err-extend_from_slice-clause-rest g c =
+    read_rest_more _ _ _ _ _ _ c.reads.invariant.read c.in_ok-count.ensures.taken
 
 pub returns-then-len-limit-clause-answer : goal.returns-then-len-limit-clause-answer
 returns-then-len-limit-clause-answer g c =
-    let read = read_more _ _ _ _ _ _ _ c.reads.invariant.read c.in_ok-count.ensures.taken c.in_ok-count.ensures.within c.in_ok-extend_from_slice.ensures.ok in
+    let read =
+    read_more _ _ _ _ _ _ _ c.reads.invariant.read c.in_ok-count.ensures.taken c.in_ok-count.ensures.within
+    c.in_ok-extend_from_slice.ensures.ok in
     read_over _ _ _ _ read (omega (arith, c.if-len-limit.true))
 
 pub returns-then-len-limit-clause-rest : goal.returns-then-len-limit-clause-rest
@@ -27,7 +30,8 @@ returns-then-len-limit-clause-rest g c = read_rest_more _ _ _ _ _ _ c.reads.inva
 
 pub reads-preserved : goal.reads-preserved
 reads-preserved g c = record {
-  read = read_more _ _ _ _ _ _ _ c.reads.invariant.read c.in_ok-count.ensures.taken c.in_ok-count.ensures.within c.in_ok-extend_from_slice.ensures.ok;
+  read = read_more _ _ _ _ _ _ _ c.reads.invariant.read c.in_ok-count.ensures.taken c.in_ok-count.ensures.within
+      c.in_ok-extend_from_slice.ensures.ok;
   same = c.in_ok-count.ensures.cause.unchanged ∙ c.reads.invariant.same;
   unchanged = c.in_ok-count.ensures.unchanged ∙ c.reads.invariant.unchanged;
   small = omega (arith, c.if-len-limit.false);

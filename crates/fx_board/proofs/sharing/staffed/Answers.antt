@@ -15,13 +15,23 @@ loop-i-preserved g c =
     let more = c.in_ok-push.ensures.ok in
     let i = c.loop-i.invariant in
     record {
-      start = subst (AreReady (g.J.Jobs.is_ready c.args.jobs.now)) (sym more) (ready_more (g.J.Jobs.is_ready c.args.jobs.now) c.loop-i.staff c.in_ok-worker.worker i.start c.in_ok-worker.ensures);
+      start = subst (AreReady (g.J.Jobs.is_ready c.args.jobs.now)) (sym more)
+          (ready_more (g.J.Jobs.is_ready c.args.jobs.now) c.loop-i.staff c.in_ok-worker.worker i.start
+          c.in_ok-worker.ensures);
       count = omega (arith, ap length more, length-append c.loop-i.staff (c.in_ok-worker.worker ∷ []), i.count);
-      most = omega (arith, ap length more, length-append c.loop-i.staff (c.in_ok-worker.worker ∷ []), i.count, c.loop-i-test.true, c.requires.most.1);
+      most = omega (
+        arith,
+        ap length more,
+        length-append c.loop-i.staff (c.in_ok-worker.worker ∷ []),
+        i.count,
+        c.loop-i-test.true,
+        c.requires.most.1,
+      );
     }
 
 pub returns-clause-ready : goal.returns-clause-ready
-returns-clause-ready g c = subst (AreReady (g.J.Jobs.is_ready c.args.jobs.now)) (sym c.into_vec.ensures) c.loop-i.invariant.start
+returns-clause-ready g c =
+    subst (AreReady (g.J.Jobs.is_ready c.args.jobs.now)) (sym c.into_vec.ensures) c.loop-i.invariant.start
 
 pub returns-clause-wanted : goal.returns-clause-wanted
 returns-clause-wanted g c = omega (arith, ap length c.into_vec.ensures, c.loop-i.invariant.count, c.loop-i-test.false)

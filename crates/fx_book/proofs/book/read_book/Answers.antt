@@ -1,4 +1,5 @@
-use Rattle.std.proofs.Common.{◌≡◌, ℕ, ◌+◌, ◌-◌, ◌∙◌, ◌∷◌, List, ap, sym, subst, take, drop, arith, Err, le-ltb, ltb, length, true, if◌then◌else◌}
+use Rattle.std.proofs.Common.{◌≡◌, ℕ, ◌+◌, ◌-◌, ◌∙◌, ◌∷◌, List, ap, sym, subst, take, drop, arith, Err, le-ltb, ltb}
+use Rattle.std.proofs.Common.{length, true, if◌then◌else◌}
 use Rattle.std.specs.Prelude.{codes}
 use Rattle.std.specs.Str.{bytes_eq}
 use Rattle.std.proofs.lemmas.Bool.{cond-true, cond-false}
@@ -18,10 +19,14 @@ returns-clause-read c =
     let end : ℕ = c.next_stop-end.result in
     let rest : List (List ℕ) = split 10 (drop (end + 1) bytes) in
     let line : List ℕ = take (end - 0) (drop 0 bytes) in
-    let cut : split 10 bytes ≡ line ∷ rest = c.next_stop-end.ensures.more (omega (arith, c.next_stop-end.ensures.within, c.if-end-bytes.false)) in
+    let cut : split 10 bytes ≡ line ∷ rest =
+    c.next_stop-end.ensures.more (omega (arith, c.next_stop-end.ensures.within, c.if-end-bytes.false)) in
     let is : bytes_eq line (codes "factex-book 1") ≡ true = sym c.is_word.ensures ∙ c.if-not-is_word.false in
     let e : book_of bytes ≡ from_size rest =
-    cond-false (ltb 268435456 (length bytes)) _ _ (le-ltb _ _ (omega (arith, c.if-bytes-gt-MOST_BYTES.false))) ∙ ap from_title cut
-    ∙ line_more (Err (fault kind.Title 1)) (λ line rest. if bytes_eq line (codes "factex-book 1") then from_size rest else Err (fault kind.Title 1)) line rest (some_parts 10 (drop (end + 1) bytes))
+    cond-false (ltb 268435456 (length bytes)) _ _ (le-ltb _ _ (omega (arith, c.if-bytes-gt-MOST_BYTES.false))) ∙ ap
+    from_title cut
+    ∙ line_more (Err (fault kind.Title 1))
+    (λ line rest. if bytes_eq line (codes "factex-book 1") then from_size rest else Err (fault kind.Title 1)) line
+    rest (some_parts 10 (drop (end + 1) bytes))
     ∙ cond-true (bytes_eq line (codes "factex-book 1")) _ _ is in
     subst (λ r. IsReading r c.from_size.result) (sym e) c.from_size.ensures.read

@@ -11,4 +11,5 @@ returns g t c =
     let back : List (List ℕ) = c.in_ok-back.field-0 in
     let ordered = c.requires.ordered in
     entries-both c.args.marks.now from middle to front back c.append.new.self (omega arith) (omega arith)
-    (rw c.in_ok-pieces.was at c.join-back.ensures.second) (rw c.in_ok-back.was at c.join-back.ensures.first) c.in_ok-append.ensures.ok
+    (rw c.in_ok-pieces.was at c.join-back.ensures.second) (rw c.in_ok-back.was at c.join-back.ensures.first)
+    c.in_ok-append.ensures.ok

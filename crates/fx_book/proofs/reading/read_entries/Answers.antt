@@ -1,4 +1,5 @@
-use Rattle.std.proofs.Common.{◌≡◌, ℕ, ◌+◌, ◌-◌, ◌∙◌, ◌∷◌, [], List, ap, sym, take, drop, arith, Bool, Ok, Err, length-drop}
+use Rattle.std.proofs.Common.{◌≡◌, ℕ, ◌+◌, ◌-◌, ◌∙◌, ◌∷◌, [], List, ap, sym, take, drop, arith, Bool, Ok, Err}
+use Rattle.std.proofs.Common.{length-drop}
 use Rattle.fx_designs.specs.Problems.{Dimensions}
 use Rattle.std.proofs.Common.{length-append}
 use Rattle.std.proofs.lemmas.List.Elements.{All-push}
@@ -23,7 +24,9 @@ returns-then-at-bytes-clause-read c =
     rw c.stop-then-at-bytes.ensures
     (c.loop-at.invariant.so_far
     ∙ ap (onto c.loop-at.marks) (ap (entries d b c.loop-at.line) cut
-    ∙ end_followed d b c.loop-at.line line (split 10 after) (some_parts 10 after) (sym c.is_word.ensures ∙ c.if-is_word.true) (something_left 10 after (omega (arith, length-drop (c.next_stop-end.result + 1) bytes)))))
+    ∙ end_followed d b c.loop-at.line line (split 10 after) (some_parts 10 after)
+    (sym c.is_word.ensures ∙ c.if-is_word.true)
+    (something_left 10 after (omega (arith, length-drop (c.next_stop-end.result + 1) bytes)))))
 
 pub returns-in-Err-clause-read : goal.returns-in-Err-clause-read
 returns-in-Err-clause-read c =
@@ -37,7 +40,8 @@ returns-in-Err-clause-read c =
     rw c.stop-in-Err.ensures
     (c.loop-at.invariant.so_far
     ∙ ap (onto c.loop-at.marks) (ap (entries d b c.loop-at.line) cut
-    ∙ at_entry d b c.loop-at.line line (split 10 after) (some_parts 10 after) (sym c.is_word.ensures ∙ c.if-is_word.false)
+    ∙ at_entry d b c.loop-at.line line (split 10 after) (some_parts 10 after)
+    (sym c.is_word.ensures ∙ c.if-is_word.false)
     ∙ ap (λ r. after_entry c.loop-at.line r (entries d b (c.loop-at.line + 1) (split 10 after))) is))
 
 pub loop-at-preserved : goal.loop-at-preserved
@@ -53,13 +57,17 @@ loop-at-preserved c =
     let is : entry_of d b (split 32 line) ≡ Ok c.in-Ok.mark = sym c.entry.ensures.entry ∙ c.in-Ok.is in
     record {
       within = omega (arith, within, c.if-end-bytes.false);
-      few = rw c.in_ok-push-in-Ok.ensures.ok (omega (arith, c.loop-at.invariant.few, from, length-append c.loop-at.marks (meaning_of c.in-Ok.mark ∷ [])));
-      valid = rw c.in_ok-push-in-Ok.ensures.ok (All-push (IsEntry d b) c.loop-at.marks (meaning_of c.in-Ok.mark) c.loop-at.invariant.valid c.in-Ok.ensures.valid);
+      few = rw c.in_ok-push-in-Ok.ensures.ok
+          (omega (arith, c.loop-at.invariant.few, from, length-append c.loop-at.marks (meaning_of c.in-Ok.mark ∷ [])));
+      valid = rw c.in_ok-push-in-Ok.ensures.ok
+          (All-push (IsEntry d b) c.loop-at.marks (meaning_of c.in-Ok.mark) c.loop-at.invariant.valid
+          c.in-Ok.ensures.valid);
       line = omega (arith, from, c.loop-at.invariant.line);
       so_far =
           c.loop-at.invariant.so_far
           ∙ ap (onto c.loop-at.marks) (ap (entries d b c.loop-at.line) cut
-          ∙ at_entry d b c.loop-at.line line (split 10 after) (some_parts 10 after) (sym c.is_word.ensures ∙ c.if-is_word.false)
+          ∙ at_entry d b c.loop-at.line line (split 10 after) (some_parts 10 after)
+          (sym c.is_word.ensures ∙ c.if-is_word.false)
           ∙ ap (λ r. after_entry c.loop-at.line r (entries d b (c.loop-at.line + 1) (split 10 after))) is)
           ∙ onto_after c.loop-at.marks c.loop-at.line c.in-Ok.mark (entries d b (c.loop-at.line + 1) (split 10 after))
           ∙ ap (λ ms. onto ms (entries d b (c.loop-at.line + 1) (split 10 after))) (sym c.in_ok-push-in-Ok.ensures.ok);

@@ -24,7 +24,8 @@ loop-at-preserved c =
           ∙ ap (λ (l : List ℕ). l ++ entries_text range) c.loop-at.invariant.so_far
           ∙ append_assoc c.args.out.now (entries_text before) (entries_text range)
           ∙ ap (λ (l : List ℕ). c.args.out.now ++ l)
-          (sym (entries-append before range) ∙ ap entries_text (range-range marks from at next c.loop-at.invariant.low (omega arith)));
+          (sym (entries-append before range) ∙ ap entries_text
+          (range-range marks from at next c.loop-at.invariant.low (omega arith)));
     }
 
 pub returns-in_err-put_some_entries-clause-err : goal.returns-in_err-put_some_entries-clause-err
@@ -34,5 +35,8 @@ returns-in_err-put_some_entries-clause-err c =
     let to : ℕ = c.args.to in
     let at : ℕ = c.loop-at.at in
     at_err c.from_residual.result
-    (subst (HoldsPart c.args.out.now c.put_some_entries.new.out) (sym (entries-append (slice_range marks from at) (slice_range marks at to)) ∙ ap entries_text (range-range marks from at to c.loop-at.invariant.low c.loop-at.invariant.within))
-    (past_first _ _ _ (entries_text (slice_range marks from at)) _ c.loop-at.invariant.so_far (nothing _ _ _ c.in_err-put_some_entries.ensures.err)))
+    (subst (HoldsPart c.args.out.now c.put_some_entries.new.out)
+    (sym (entries-append (slice_range marks from at) (slice_range marks at to)) ∙ ap entries_text
+    (range-range marks from at to c.loop-at.invariant.low c.loop-at.invariant.within))
+    (past_first _ _ _ (entries_text (slice_range marks from at)) _ c.loop-at.invariant.so_far
+    (nothing _ _ _ c.in_err-put_some_entries.ensures.err)))

@@ -1,4 +1,5 @@
-use Rattle.std.proofs.Common.{ℕ, ◌≡◌, ◌-◌, ◌<◌, ◌≤◌, suc, List, ◌∷◌, ◌++◌, length, take, drop, get_or, sym, ap, ◌∙◌, arith}
+use Rattle.std.proofs.Common.{ℕ, ◌≡◌, ◌-◌, ◌<◌, ◌≤◌, suc, List, ◌∷◌, ◌++◌, length, take, drop, get_or, sym, ap, ◌∙◌}
+use Rattle.std.proofs.Common.{arith}
 use Rattle.std.specs.List.{slice_range}
 use Rattle.std.proofs.Math.Seq.{drop-cons}
 use Rattle.fx_designs.specs.Nodes as nodes
@@ -7,7 +8,8 @@ use Rattle.fx_book.specs.Entries.{entry_text, entries_text}
 use Rattle.fx_book.proofs.writing.put_some_entries.Goals as goal
 
 -- an item, and those after it up to a place
-cons-range : {T : Type 0} (xs : List T) (i to : ℕ) (x : T) → i < to → to ≤ length xs → x ≡ get_or xs i x → x ∷ slice_range xs (suc i) to ≡ slice_range xs i to
+cons-range : {T : Type 0} (xs : List T) (i to : ℕ) (x : T) → i < to → to ≤ length xs → x ≡ get_or xs i x
+    → x ∷ slice_range xs (suc i) to ≡ slice_range xs i to
 cons-range {T} xs i to x low high is =
     let e : to - i ≡ suc (to - suc i) = omega arith in
     ap (λ (y : T). y ∷ take (to - suc i) (drop (suc i) xs)) is
@@ -34,7 +36,8 @@ loop-i-preserved c =
           c.put_entry.ensures.text
           ∙ ap (λ (l : List ℕ). entry_text mark ++ l)
           (c.loop-i.invariant.so_far ∙ ap (λ (k : ℕ). entries_text (slice_range marks k c.args.to)) next)
-          ∙ ap entries_text (cons-range marks i c.args.to mark (omega arith) (omega arith) c.get_near-mark.ensures.mark);
+          ∙ ap entries_text
+          (cons-range marks i c.args.to mark (omega arith) (omega arith) c.get_near-mark.ensures.mark);
       low = omega arith;
       short = omega arith;
     }

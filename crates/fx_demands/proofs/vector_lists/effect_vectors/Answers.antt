@@ -7,5 +7,8 @@ use Rattle.fx_demands.proofs.vector_lists.effect_vectors.Goals as goal
 
 pub longer-requires-clause-vectors : goal.longer-requires-clause-vectors
 longer-requires-clause-vectors c =
-    let all : All (IsVector c.args.field c.loop-i.i) (vectors_to c.args.field c.args.effect.now.0 c.loop-i.i) = all-vectors c.args.field c.args.effect.now.0 c.loop-i.i (omega (arith, c.q-known.ensures.least, c.q-known.ensures.order)) in
-    subst (λ (n : ℕ). All (IsVector c.args.field n) c.loop-i.vectors) (sym c.from.ensures) (subst (λ (l : List (List ℕ)). All (IsVector c.args.field c.loop-i.i) l) (sym c.loop-i.invariant) all)
+    let all : All (IsVector c.args.field c.loop-i.i) (vectors_to c.args.field c.args.effect.now.0 c.loop-i.i) =
+    all-vectors c.args.field c.args.effect.now.0 c.loop-i.i
+    (omega (arith, c.q-known.ensures.least, c.q-known.ensures.order)) in
+    subst (λ (n : ℕ). All (IsVector c.args.field n) c.loop-i.vectors) (sym c.from.ensures)
+    (subst (λ (l : List (List ℕ)). All (IsVector c.args.field c.loop-i.i) l) (sym c.loop-i.invariant) all)

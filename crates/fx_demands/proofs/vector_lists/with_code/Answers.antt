@@ -11,10 +11,12 @@ longer_vector : (c : After-from-2) → IsVector c.args.field (c.args.len + 1) (c
 longer_vector c = push-vector c.args.field c.args.len c.args.v.now c.args.c c.requires.vector c.requires.code
 
 -- the number of the longer vector
-sum_is : (c : After-from-2) → c.number.result + c.from-2.result * c.pow-power.result ≡ number c.args.field (c.args.v.now ++ c.args.c ∷ [])
+sum_is : (c : After-from-2)
+    → c.number.result + c.from-2.result * c.pow-power.result ≡ number c.args.field (c.args.v.now ++ c.args.c ∷ [])
 sum_is c =
     rw (c.number.ensures.number, c.from-2.ensures, c.pow-power.ensures, c.from.ensures, c.q.ensures.order)
-    (ap (λ (n : ℕ). number c.args.field c.args.v.now + c.args.c * c.args.field ^ n) (sym c.requires.vector.len) ∙ sym (number-push c.args.field c.args.v.now c.args.c))
+    (ap (λ (n : ℕ). number c.args.field c.args.v.now + c.args.c * c.args.field ^ n) (sym c.requires.vector.len) ∙ sym
+    (number-push c.args.field c.args.v.now c.args.c))
 
 total_fits : (c : After-from-2) → c.number.result + c.from-2.result * c.pow-power.result < 2 ^ 127
 total_fits c =
@@ -37,4 +39,5 @@ overflow_add-number c = let fits = total_fits (goal.at.overflow_add-number c).Af
 pub returns : goal.returns
 returns c =
     let a = (goal.at.returns c).After-from-2 in
-    c.of_number.ensures.digits ∙ ap (digits c.args.field (c.args.len + 1)) (sum_is a) ∙ digits-number c.args.field (c.args.len + 1) (c.args.v.now ++ c.args.c ∷ []) (longer_vector a)
+    c.of_number.ensures.digits ∙ ap (digits c.args.field (c.args.len + 1)) (sum_is a) ∙ digits-number c.args.field
+    (c.args.len + 1) (c.args.v.now ++ c.args.c ∷ []) (longer_vector a)

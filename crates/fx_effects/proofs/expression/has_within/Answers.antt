@@ -7,5 +7,6 @@ use Rattle.fx_effects.proofs.expression.has_within.Goals as goal
 
 pub returns : goal.returns
 returns c =
-    c.is_some_within.ensures ∙ ap (λ (l : List Effect). list_any (λ e. nat_le (count_ones e.0) c.args.n) l) c.as_slice.ensures
+    c.is_some_within.ensures ∙ ap (λ (l : List Effect). list_any (λ e. nat_le (count_ones e.0) c.args.n) l)
+    c.as_slice.ensures
     ∙ any-numbers (λ e. nat_le (count_ones e) c.args.n) c.args.stars.now

@@ -7,12 +7,16 @@ use Rattle.fx_effects.specs.Expressions.{Expression, begins_effect, effect_len, 
 use Rattle.fx_effects.proofs.Joined.{small_more, next, read, passed}
 use Rattle.fx_text.proofs.Stops.{refused, stopped}
 use Rattle.fx_effects.proofs.expressions.expressions_of.Goals as goal
-use Rattle.fx_effects.proofs.expressions.expressions_of.Goals.{then-begins_effect+in_ok-expression+in_ok-push, else-begins_effect}
+use Rattle.fx_effects.proofs.expressions.expressions_of.Goals.{then-begins_effect+in_ok-expression+in_ok-push}
+use Rattle.fx_effects.proofs.expressions.expressions_of.Goals.{else-begins_effect}
 
 -- an effect that is refused
-at_effect : (factors : List (List ℕ)) (all : List Expression) (joined : Bool) (w : Written) (rest : List Written) → begins_effect joined w ≡ true → (reason : ParseStop) → IsRefused (expression_at factors w (take (effect_len false rest) rest)) reason
+at_effect : (factors : List (List ℕ)) (all : List Expression) (joined : Bool) (w : Written) (rest : List Written)
+    → begins_effect joined w ≡ true → (reason : ParseStop)
+    → IsRefused (expression_at factors w (take (effect_len false rest) rest)) reason
     → IsRefused (expressions_from factors all joined (w ∷ rest)) reason
-at_effect factors all joined w rest some reason h = rw some (stopped (expression_at factors w (take (effect_len false rest) rest)) _ reason h)
+at_effect factors all joined w rest some reason h =
+    rw some (stopped (expression_at factors w (take (effect_len false rest) rest)) _ reason h)
 
 pub loop-i-preserved : goal.loop-i-preserved
 loop-i-preserved c =
@@ -21,16 +25,22 @@ loop-i-preserved c =
     let w = c.index-written-i.result in
     let rest = drop (c.loop-i.i + 1) written in
     let joined = c.loop-i.joined in
-    let so_far = c.loop-i.invariant.1 ∙ ap (expressions_from factors c.loop-i.all joined) (next written c.loop-i.i w (omega arith) c.index-written-i.is) in
+    let so_far =
+    c.loop-i.invariant.1 ∙ ap (expressions_from factors c.loop-i.all joined)
+    (next written c.loop-i.i w (omega arith) c.index-written-i.is) in
     elim c.if-begins_effect.branch [
       | then-begins_effect+in_ok-expression+in_ok-push b ↦
-          let one = rw (b.effect_rest-rest.ensures, take_rest written (c.loop-i.i + 1)) at b.in_ok-expression.ensures.ok in
+          let one = rw (b.effect_rest-rest.ensures, take_rest written (c.loop-i.i + 1)) at b.in_ok-expression.ensures.ok
+          in
           rw (b.all-is, b.in_ok-push.ensures.ok, c.is_joining-joined.ensures) (
-            small_more c.loop-i.all b.in_ok-expression.expression c.loop-i.invariant.0 b.in_ok-expression.ensures.numbers,
-            so_far ∙ read factors c.loop-i.all joined w rest (sym b.if-begins_effect.ensures) b.in_ok-expression.expression one,
+            small_more c.loop-i.all b.in_ok-expression.expression c.loop-i.invariant.0
+                b.in_ok-expression.ensures.numbers,
+            so_far ∙ read factors c.loop-i.all joined w rest (sym b.if-begins_effect.ensures)
+                b.in_ok-expression.expression one,
           )
       | else-begins_effect b ↦
-          rw (b.all-is, c.is_joining-joined.ensures) (c.loop-i.invariant.0, so_far ∙ passed factors c.loop-i.all joined w rest (sym b.if-begins_effect.ensures))
+          rw (b.all-is, c.is_joining-joined.ensures)
+          (c.loop-i.invariant.0, so_far ∙ passed factors c.loop-i.all joined w rest (sym b.if-begins_effect.ensures))
     ]
 
 pub loop-i-init : goal.loop-i-init
@@ -41,15 +51,21 @@ returns-in_err-expression-clause-refused c =
     let written = c.args.written.now in
     let factors = c.args.factors.now in
     let w = c.index-written-i.result in
-    let so_far = c.loop-i.invariant.1 ∙ ap (expressions_from factors c.loop-i.all c.loop-i.joined) (next written c.loop-i.i w c.loop-i-test.true c.index-written-i.is) in
-    let one = rw (c.effect_rest-rest.ensures, take_rest written (c.loop-i.i + 1)) at c.in_err-expression.ensures.refused in
+    let so_far =
+    c.loop-i.invariant.1 ∙ ap (expressions_from factors c.loop-i.all c.loop-i.joined)
+    (next written c.loop-i.i w c.loop-i-test.true c.index-written-i.is) in
+    let one = rw (c.effect_rest-rest.ensures, take_rest written (c.loop-i.i + 1)) at c.in_err-expression.ensures.refused
+    in
     refused _ _ c.in_err-expression.field-0.0 c.from_residual.ensures.1
-    (rw so_far (at_effect factors c.loop-i.all c.loop-i.joined w (drop (c.loop-i.i + 1) written) (sym c.begins_effect.ensures ∙ c.if-begins_effect.true) c.in_err-expression.field-0.0 one))
+    (rw so_far
+    (at_effect factors c.loop-i.all c.loop-i.joined w (drop (c.loop-i.i + 1) written)
+    (sym c.begins_effect.ensures ∙ c.if-begins_effect.true) c.in_err-expression.field-0.0 one))
 
 pub returns-clause-ok : goal.returns-clause-ok
 returns-clause-ok c =
     c.loop-i.invariant.1
-    ∙ ap (expressions_from c.args.factors.now c.loop-i.all c.loop-i.joined) (drop_all c.loop-i.i c.args.written.now c.loop-i-test.false)
+    ∙ ap (expressions_from c.args.factors.now c.loop-i.all c.loop-i.joined)
+    (drop_all c.loop-i.i c.args.written.now c.loop-i-test.false)
 
 pub returns-clause-numbers : goal.returns-clause-numbers
 returns-clause-numbers c = c.loop-i.invariant.0

@@ -5,4 +5,5 @@ use Rattle.fx_effects.proofs.expressions.expressions_of.Given as goal
 
 abbrev pub invariant-loop-i : goal.invariant-loop-i
 invariant-loop-i l =
-    AreSmall l.all × (expressions_of l.factors l.written ≡ expressions_from l.factors l.all l.joined (drop l.i l.written))
+    AreSmall l.all
+    × (expressions_of l.factors l.written ≡ expressions_from l.factors l.all l.joined (drop l.i l.written))

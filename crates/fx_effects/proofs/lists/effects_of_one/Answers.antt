@@ -9,6 +9,9 @@ use Rattle.fx_effects.proofs.lists.effects_of_one.Goals as goal
 pub returns-clause-many : goal.returns-clause-many
 returns-clause-many c =
     let e = c.index-expressions-0.result in
-    let all : c.args.expressions.now ≡ e ∷ [] = only c.args.expressions.now e c.requires.one (omega arith) c.index-expressions-0.is in
+    let all : c.args.expressions.now ≡ e ∷ [] =
+    only c.args.expressions.now e c.requires.one (omega arith) c.index-expressions-0.is in
     let small : AreNumbers e.stars = (subst AreSmall all c.requires.small).0 in
-    subst (λ (l : List ℕ). IfErr c.bars.result (IsCause l)) (ap (λ (x : Expression). bars_of x.stars x.upto) c.expression.view_is ∙ one_is e small ∙ ap effects_of (sym all)) c.bars.ensures.many
+    subst (λ (l : List ℕ). IfErr c.bars.result (IsCause l))
+    (ap (λ (x : Expression). bars_of x.stars x.upto) c.expression.view_is ∙ one_is e small ∙ ap effects_of (sym all))
+    c.bars.ensures.many

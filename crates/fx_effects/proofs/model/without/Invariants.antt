@@ -4,4 +4,6 @@ use Rattle.fx_effects.specs.Models.{without}
 use Rattle.fx_effects.proofs.model.without.Given as goal
 
 abbrev pub invariant-loop-e : goal.invariant-loop-e
-invariant-loop-e l = without (numbers_of l.estimate) (numbers_of l.effects) ≡ numbers_of l.others ++ without (numbers_of l.estimate) (numbers_of (drop l.e-index l.effects))
+invariant-loop-e l =
+    without (numbers_of l.estimate) (numbers_of l.effects)
+    ≡ numbers_of l.others ++ without (numbers_of l.estimate) (numbers_of (drop l.e-index l.effects))

@@ -16,11 +16,18 @@ pub returns-clause-ok : goal.returns-clause-ok
 returns-clause-ok c =
     let first = c.args.first.now in
     let last = c.args.last.now in
-    let range : is_range first.text last.text ≡ true = ap₂ is_range (sym c.text-low.ensures) (sym c.text-high.ensures) ∙ sym c.if-not-is_range.ensures.value in
-    let low : c.number_at_end-from.result ≡ number_at_end first.text = c.number_at_end-from.ensures ∙ ap number_at_end c.text-low.ensures in
-    let high : c.number_at_end-upto.result ≡ number_at_end last.text = c.number_at_end-upto.ensures ∙ ap number_at_end c.text-high.ensures in
-    let count : c.number_at_end-upto.result - c.number_at_end-from.result + 1 ≡ number_at_end last.text + 1 - number_at_end first.text =
+    let range : is_range first.text last.text ≡ true =
+    ap₂ is_range (sym c.text-low.ensures) (sym c.text-high.ensures) ∙ sym c.if-not-is_range.ensures.value in
+    let low : c.number_at_end-from.result ≡ number_at_end first.text =
+    c.number_at_end-from.ensures ∙ ap number_at_end c.text-low.ensures in
+    let high : c.number_at_end-upto.result ≡ number_at_end last.text =
+    c.number_at_end-upto.ensures ∙ ap number_at_end c.text-high.ensures in
+    let count : c.number_at_end-upto.result - c.number_at_end-from.result + 1
+    ≡ number_at_end last.text + 1 - number_at_end first.text =
     omega (arith, low, high, order first.text last.text range) in
-    let between : names_between first.text last.text ≡ numbered (stem first.text) c.number_at_end-from.result (c.number_at_end-upto.result - c.number_at_end-from.result + 1) =
+    let between : names_between first.text last.text
+    ≡ numbered (stem first.text) c.number_at_end-from.result
+    (c.number_at_end-upto.result - c.number_at_end-from.result + 1) =
     sym (ap₂ (numbered (stem first.text)) low count) in
-    whole c.args.factors.now first last (numbers_of c.in_ok-stars.stars) range (ap (mains_from first c.args.factors.now _) between ∙ c.in_ok-stars.ensures.ok)
+    whole c.args.factors.now first last (numbers_of c.in_ok-stars.stars) range
+    (ap (mains_from first c.args.factors.now _) between ∙ c.in_ok-stars.ensures.ok)

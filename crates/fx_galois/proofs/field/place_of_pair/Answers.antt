@@ -14,8 +14,15 @@ returns-clause-place c =
       | in-5 w ↦ rw (w.first-is, w.in-5.is) refl
       | in-7 w ↦ rw (w.first-is, w.in-7.is) refl
       | in-8 w ↦ rw (w.first-is, w.in-8.is) refl
-      | in_default w ↦ rw (w.first-is, last_order c.args.q c.requires.order (search rules) (search rules) (search rules) (search rules) (search rules) (search rules)) refl
+      | in_default w ↦
+          rw (
+            w.first-is,
+            last_order c.args.q c.requires.order (search rules) (search rules) (search rules) (search rules)
+                (search rules) (search rules),
+          ) refl
     ]
 
 pub returns-clause-within : goal.returns-clause-within
-returns-clause-within c = subst (λ x. x < 248) (sym (returns-clause-place c)) (pair_place-below c.args.q c.args.a c.args.b c.requires.order c.requires.left c.requires.right)
+returns-clause-within c =
+    subst (λ x. x < 248) (sym (returns-clause-place c))
+    (pair_place-below c.args.q c.args.a c.args.b c.requires.order c.requires.left c.requires.right)

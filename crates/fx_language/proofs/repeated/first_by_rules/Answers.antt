@@ -12,7 +12,8 @@ returns-in-Some c =
     let i = c.loop-i.i in
     let follows = rw (take_rest symbols (i + 1)) at c.begins_with-factex_follows.ensures in
     let rule = rw (c.loop-i.invariant.0, follows) at (sym c.in-Some.ensures) in
-    sym (c.loop-i.invariant.1 ∙ repeated_here symbols i (omega arith) c.in-Some.code (rule_is (reverse (take i symbols)) (drop (i + 1) symbols) (get_or symbols i Proc) ∙ rule))
+    sym (c.loop-i.invariant.1 ∙ repeated_here symbols i (omega arith) c.in-Some.code
+    (rule_is (reverse (take i symbols)) (drop (i + 1) symbols) (get_or symbols i Proc) ∙ rule))
 
 pub loop-i-preserved : goal.loop-i-preserved
 loop-i-preserved c =
@@ -24,6 +25,7 @@ loop-i-preserved c =
           ∙ ap (λ (p : Past). past_after p (get_or symbols i Proc)) c.loop-i.invariant.0
           ∙ past_here symbols i (omega arith),
       c.loop-i.invariant.1
-          ∙ repeated_later symbols i (omega arith) (rule_is (reverse (take i symbols)) (drop (i + 1) symbols) (get_or symbols i Proc) ∙ rule),
+          ∙ repeated_later symbols i (omega arith)
+          (rule_is (reverse (take i symbols)) (drop (i + 1) symbols) (get_or symbols i Proc) ∙ rule),
       omega (arith, c.after-past.ensures.procs, c.loop-i.invariant.2),
     )

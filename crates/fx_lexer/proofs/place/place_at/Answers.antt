@@ -8,4 +8,8 @@ next_place-place-requires c =
     let l = ap (λ (p : Place). p.line) c.loop-i.invariant in
     let k = ap (λ (p : Place). p.column) c.loop-i.invariant in
     let short : c.loop-i.i ≤ 1048576 = omega arith in
-    rw c.loop-i.invariant (omega (arith, line_small c.args.text.now c.loop-i.i (omega arith)), omega (arith, column_small c.args.text.now c.loop-i.i (omega arith)))
+    rw c.loop-i.invariant (
+      omega (arith, line_small c.args.text.now c.loop-i.i (omega arith)),
+      omega
+          (arith, column_small c.args.text.now c.loop-i.i (omega arith)),
+    )

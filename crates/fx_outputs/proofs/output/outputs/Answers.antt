@@ -21,8 +21,11 @@ returns-in_err-output-clause-refused c =
     let one = rw c.from.ensures at c.in_err-output.ensures.refused in
     let first = rw c.lexemes-lexemes.ensures at c.index-lexemes-0.is in
     let third = rw c.lexemes-lexemes.ensures at c.index-lexemes-3.is in
-    let more = refused context c.loop-statement.earlier c.loop-statement.outputs (drop (suc i) all) s c.index-lexemes-0.result c.index-lexemes-3.result reason c.if-is_output.ensures first third one in
-    let whole : IsRefused (outputs_of context c.args.earlier.now all) reason = rw (c.loop-statement.invariant.meaning, left) more in
+    let more =
+    refused context c.loop-statement.earlier c.loop-statement.outputs (drop (suc i) all) s c.index-lexemes-0.result
+    c.index-lexemes-3.result reason c.if-is_output.ensures first third one in
+    let whole : IsRefused (outputs_of context c.args.earlier.now all) reason =
+    rw (c.loop-statement.invariant.meaning, left) more in
     let p = err_from_is_err_and c.from_residual.result c.from_residual.ensures.1 in
     rw (p.1, p.2) whole
 
@@ -41,16 +44,23 @@ loop-statement-preserved c =
           let one = rw w.from.ensures at w.in_ok-output.ensures.ok in
           let first = rw w.lexemes-lexemes.ensures at w.index-lexemes-0.is in
           let third = rw w.lexemes-lexemes.ensures at w.index-lexemes-3.is in
-          let more = read context earlier outputs (drop (suc i) all) s w.index-lexemes-0.result w.index-lexemes-3.result w.in_ok-output.output w.if-is_output.ensures first third one in
-          let names : c.if-is_output.earlier ≡ earlier ++ w.in_ok-output.output.name ∷ [] = w.earlier-is ∙ w.in_ok-output.ensures.name in
-          let files : c.if-is_output.outputs ≡ outputs ++ w.in_ok-output.output ∷ [] = w.outputs-is ∙ w.in_ok-push.ensures.ok in
+          let more =
+          read context earlier outputs (drop (suc i) all) s w.index-lexemes-0.result w.index-lexemes-3.result
+          w.in_ok-output.output w.if-is_output.ensures first third one in
+          let names : c.if-is_output.earlier ≡ earlier ++ w.in_ok-output.output.name ∷ [] =
+          w.earlier-is ∙ w.in_ok-output.ensures.name in
+          let files : c.if-is_output.outputs ≡ outputs ++ w.in_ok-output.output ∷ [] =
+          w.outputs-is ∙ w.in_ok-push.ensures.ok in
           record {
             meaning = rw (add-one, names, files) (so_far ∙ more);
-            names = rw (names, files) (one_more_name c.args.earlier.now earlier outputs w.in_ok-output.output c.loop-statement.invariant.names);
+            names = rw (names, files)
+                (one_more_name c.args.earlier.now earlier outputs w.in_ok-output.output
+                c.loop-statement.invariant.names);
           }
       | else-is_output w ↦
           record {
-            meaning = rw (add-one, w.earlier-is, w.outputs-is) (so_far ∙ passed context earlier outputs (drop (suc i) all) s w.if-is_output.ensures);
+            meaning = rw (add-one, w.earlier-is, w.outputs-is)
+                (so_far ∙ passed context earlier outputs (drop (suc i) all) s w.if-is_output.ensures);
             names = rw (w.earlier-is, w.outputs-is) c.loop-statement.invariant.names;
           }
     ]
@@ -58,6 +68,7 @@ loop-statement-preserved c =
 pub returns-clause-within_limits : goal.returns-clause-within_limits
 returns-clause-within_limits c =
     let context = c.args.context.now in
-    let none_left : drop c.loop-statement.statement-index c.args.statements.now ≡ [] = drop_all c.loop-statement.statement-index c.args.statements.now c.loop-statement-test.false in
+    let none_left : drop c.loop-statement.statement-index c.args.statements.now ≡ [] =
+    drop_all c.loop-statement.statement-index c.args.statements.now c.loop-statement-test.false in
     let whole = rw none_left at c.loop-statement.invariant.meaning in
     all_within context c.args.earlier.now c.args.statements.now c.loop-statement.outputs whole

@@ -5,7 +5,8 @@ use Rattle.fx_outputs.specs.Values.{inside, unquoted}
 use Rattle.fx_outputs.proofs.value.inside.Goals as goal
 
 -- a text that is not empty begins with its quote
-some_text : (text : List ℕ) → false ≡ (length text == 0) → inside text ≡ unquoted (get_or text 0 0) false (take (length text - 1) (drop 1 text))
+some_text : (text : List ℕ) → false ≡ (length text == 0)
+    → inside text ≡ unquoted (get_or text 0 0) false (take (length text - 1) (drop 1 text))
 some_text [] none = absurd (let e : false ≡ true = none in cc)
 some_text (quote ∷ rest) none = ap (unquoted quote false) (sym (take_rest (quote ∷ rest) 1))
 
@@ -17,5 +18,6 @@ returns c =
     let bytes = c.loop-b.bytes in
     let text = c.args.text.now in
     sym (c.loop-b.invariant
-    ∙ ap (λ rest. bytes ++ unquoted (get_or text 0 0) c.loop-b.met rest) (drop_all c.loop-b.b-index (take (length text - 1) (drop 1 text)) c.loop-b-test.false)
+    ∙ ap (λ rest. bytes ++ unquoted (get_or text 0 0) c.loop-b.met rest)
+    (drop_all c.loop-b.b-index (take (length text - 1) (drop 1 text)) c.loop-b-test.false)
     ∙ append-nil bytes)

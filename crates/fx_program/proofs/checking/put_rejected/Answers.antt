@@ -4,9 +4,11 @@ use Rattle.fx_program.specs.Verdicts.{rejected_line}
 use Rattle.fx_program.proofs.checking.put_rejected.Goals as goal
 
 -- six pieces, one after another
-six : (old a b c d e f : List ℕ) → (((((old ++ a) ++ b) ++ c) ++ d) ++ e) ++ f ≡ old ++ (a ++ (b ++ (c ++ (d ++ (e ++ f)))))
+six : (old a b c d e f : List ℕ)
+    → (((((old ++ a) ++ b) ++ c) ++ d) ++ e) ++ f ≡ old ++ (a ++ (b ++ (c ++ (d ++ (e ++ f)))))
 six old a b c d e f =
-    append_assoc ((((old ++ a) ++ b) ++ c) ++ d) e f ∙ append_assoc (((old ++ a) ++ b) ++ c) d (e ++ f) ∙ append_assoc ((old ++ a) ++ b) c (d ++ (e ++ f))
+    append_assoc ((((old ++ a) ++ b) ++ c) ++ d) e f ∙ append_assoc (((old ++ a) ++ b) ++ c) d (e ++ f) ∙ append_assoc
+    ((old ++ a) ++ b) c (d ++ (e ++ f))
     ∙ append_assoc (old ++ a) b (c ++ (d ++ (e ++ f))) ∙ append_assoc old a (b ++ (c ++ (d ++ (e ++ f))))
 
 pub returns : goal.returns

@@ -21,6 +21,9 @@ returns-in_err-put_step-clause-err c =
     let old = c.args.out.now in
     let new = c.put_step.new.out in
     let here : HoldsPart old new (made_text (i + 1)) =
-    subst (HoldsPart old new) (sym (one_step_more i)) (past_first old c.loop-i.out new (made_text i) (step_text (i + 1)) c.loop-i.invariant c.in_err-put_step.ensures.err) in
+    subst (HoldsPart old new) (sym (one_step_more i))
+    (past_first old c.loop-i.out new (made_text i) (step_text (i + 1)) c.loop-i.invariant
+    c.in_err-put_step.ensures.err) in
     let all : i + 1 + (c.args.n - (i + 1)) ≡ c.args.n = omega arith in
-    at_err c.from_residual.result (subst (λ (n : ℕ). HoldsPart old new (made_text n)) all (held_by_more old new (i + 1) (c.args.n - (i + 1)) here))
+    at_err c.from_residual.result
+    (subst (λ (n : ℕ). HoldsPart old new (made_text n)) all (held_by_more old new (i + 1) (c.args.n - (i + 1)) here))

@@ -12,19 +12,23 @@ returns-in_err-make_text g c = lists_none _ c.from_residual.result c.from_residu
 
 pub read_program-requires : goal.read_program-requires
 read_program-requires g c =
-    let text : c.as_slice.result.now ≡ made_text c.args.n = c.as_slice.ensures ∙ c.in_ok-make_text.ensures.ok ∙ ap (λ l. l ++ made_text c.args.n) c.new-text.ensures in
+    let text : c.as_slice.result.now ≡ made_text c.args.n =
+    c.as_slice.ensures ∙ c.in_ok-make_text.ensures.ok ∙ ap (λ l. l ++ made_text c.args.n) c.new-text.ensures in
     omega (arith, ap length text, made_text_short c.args.n, c.ranges.n)
 
 pub returns-in-Ok : goal.returns-in-Ok
 returns-in-Ok g c =
-    let text : c.as_slice.result.now ≡ made_text c.args.n = c.as_slice.ensures ∙ c.in_ok-make_text.ensures.ok ∙ ap (λ l. l ++ made_text c.args.n) c.new-text.ensures in
+    let text : c.as_slice.result.now ≡ made_text c.args.n =
+    c.as_slice.ensures ∙ c.in_ok-make_text.ensures.ok ∙ ap (λ l. l ++ made_text c.args.n) c.new-text.ensures in
     lists_by
-    (ap large_output (ap program_in (sym text) ∙ c.in-Ok.ensures.program) ∙ ap (λ steps. large_output (Ok (map meaning_of steps))) (sym c.as_slice-in-Ok.ensures))
+    (ap large_output (ap program_in (sym text) ∙ c.in-Ok.ensures.program) ∙ ap
+    (λ steps. large_output (Ok (map meaning_of steps))) (sym c.as_slice-in-Ok.ensures))
     c.sum_up.ensures
 
 pub returns-in-Err-Fault : goal.returns-in-Err-Fault
 returns-in-Err-Fault g c =
-    let text : c.as_slice.result.now ≡ made_text c.args.n = c.as_slice.ensures ∙ c.in_ok-make_text.ensures.ok ∙ ap (λ l. l ++ made_text c.args.n) c.new-text.ensures in
+    let text : c.as_slice.result.now ≡ made_text c.args.n =
+    c.as_slice.ensures ∙ c.in_ok-make_text.ensures.ok ∙ ap (λ l. l ++ made_text c.args.n) c.new-text.ensures in
     let found = rw c.in-Err-Fault.field-0-is at c.in-Err-Fault.ensures.fault in
     lists_by (ap large_output (ap program_in (sym text) ∙ found)) (c.refuse.ensures.output 0)
 

@@ -11,11 +11,13 @@ use Rattle.fx_program.proofs.run.lines_of.Goals as goal
 
 pub rules_listing-requires-clause-complete : goal.rules_listing-requires-clause-complete
 rules_listing-requires-clause-complete c =
-    (let design = is_design c.args.step.now c.args.outcome.now c.in-Some.matrix c.requires c.in-Some.is in design.complete)
+    (let design = is_design c.args.step.now c.args.outcome.now c.in-Some.matrix c.requires c.in-Some.is in
+    design.complete)
 
 pub rules_listing-requires-clause-factors : goal.rules_listing-requires-clause-factors
 rules_listing-requires-clause-factors c =
-    (let design = is_design c.args.step.now c.args.outcome.now c.in-Some.matrix c.requires c.in-Some.is in design.factors)
+    (let design = is_design c.args.step.now c.args.outcome.now c.in-Some.matrix c.requires c.in-Some.is in
+    design.factors)
 
 pub examine_listing-requires-clause-few : goal.examine_listing-requires-clause-few
 examine_listing-requires-clause-few c =

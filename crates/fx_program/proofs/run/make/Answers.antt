@@ -10,5 +10,7 @@ returns-in_err-make_text g c = lists_none _ c.from_residual.result c.from_residu
 pub returns : goal.returns
 returns g c =
     lists_by
-    (ap (λ l. message l 0) (sym (c.as_slice.ensures ∙ c.in_ok-make_text.ensures.ok ∙ ap (λ l. l ++ made_text c.args.n) c.new-text.ensures)))
+    (ap (λ l. message l 0)
+    (sym (c.as_slice.ensures ∙ c.in_ok-make_text.ensures.ok ∙ ap (λ l. l ++ made_text c.args.n)
+    c.new-text.ensures)))
     c.list.ensures.output

@@ -10,5 +10,7 @@ returns-in_err-put_fault-clause-output g c seed = lists_none _ c.from_residual.r
 pub returns-clause-output : goal.returns-clause-output
 returns-clause-output g c seed =
     lists_by
-    (ap (λ l. message l 3) (sym (c.as_slice.ensures ∙ c.in_ok-put_fault.ensures ∙ ap (λ l. l ++ fault_line c.args.fault) c.new-line.ensures)))
+    (ap (λ l. message l 3)
+    (sym (c.as_slice.ensures ∙ c.in_ok-put_fault.ensures ∙ ap (λ l. l ++ fault_line c.args.fault)
+    c.new-line.ensures)))
     c.list.ensures.output

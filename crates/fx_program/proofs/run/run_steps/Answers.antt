@@ -1,6 +1,7 @@
 use Rattle.std.proofs.Common.{◌+◌, ◌<◌, ◌∷◌, arith, map, drop, sym, ap, subst, ◌∙◌}
 use Rattle.fx_statements.specs.Steps.{meaning_of}
-use Rattle.fx_program.proofs.SoFar.{all_given, before_steps, next_step, no_source, no_step, one_more, stopped, worse_low}
+use Rattle.fx_program.proofs.SoFar.{all_given, before_steps, next_step, no_source, no_step, one_more, stopped}
+use Rattle.fx_program.proofs.SoFar.{worse_low}
 use Rattle.fx_program.proofs.run.run_steps.Goals as goal
 
 pub loop-i-init : goal.loop-i-init
@@ -12,7 +13,9 @@ loop-i-init g c = record {
 
 pub returns-in_err-ended : goal.returns-in_err-ended
 returns-in_err-ended g c =
-    let next = next_step meaning_of c.args.steps.now c.loop-i.i c.index-steps-i.result c.loop-i-test.true ∙ ap (λ s. meaning_of s ∷ map meaning_of (drop (c.loop-i.i + 1) c.args.steps.now)) (sym c.index-steps-i.is) in
+    let next =
+    next_step meaning_of c.args.steps.now c.loop-i.i c.index-steps-i.result c.loop-i-test.true ∙ ap
+    (λ s. meaning_of s ∷ map meaning_of (drop (c.loop-i.i + 1) c.args.steps.now)) (sym c.index-steps-i.is) in
     record {
       whatever = λ source.
           stopped (c.loop-i.invariant.so_far source) next
@@ -22,7 +25,9 @@ returns-in_err-ended g c =
 
 pub loop-i-preserved : goal.loop-i-preserved
 loop-i-preserved g c =
-    let next = next_step meaning_of c.args.steps.now c.loop-i.i c.index-steps-i.result c.loop-i-test.true ∙ ap (λ s. meaning_of s ∷ map meaning_of (drop (c.loop-i.i + 1) c.args.steps.now)) (sym c.index-steps-i.is) in
+    let next =
+    next_step meaning_of c.args.steps.now c.loop-i.i c.index-steps-i.result c.loop-i-test.true ∙ ap
+    (λ s. meaning_of s ∷ map meaning_of (drop (c.loop-i.i + 1) c.args.steps.now)) (sym c.index-steps-i.is) in
     let ends = c.in_ok-ended.ensures.whatever in
     record {
       low =

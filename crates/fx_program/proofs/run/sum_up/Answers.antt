@@ -17,8 +17,10 @@ pub returns : goal.returns
 returns g c =
     let summary = c.in_ok-summary.summary in
     let lines = five_lines (length c.args.steps.now) summary.designs summary.without summary.cut_short summary.nodes in
-    let bytes = c.as_slice.ensures ∙ c.in_ok-put_summary.ensures ∙ ap (λ (l : List ℕ). l ++ lines) c.new-lines.ensures in
+    let bytes =
+    c.as_slice.ensures ∙ c.in_ok-put_summary.ensures ∙ ap (λ (l : List ℕ). l ++ lines) c.new-lines.ensures in
     lists_by
-    (summed_up (map meaning_of c.args.steps.now) summary (length c.args.steps.now) c.as_slice.result.now c.in_ok-summary.ensures.summary
+    (summed_up (map meaning_of c.args.steps.now) summary (length c.args.steps.now) c.as_slice.result.now
+    c.in_ok-summary.ensures.summary
     (sym (length-map c.args.steps.now meaning_of)) bytes)
     c.list.ensures.output

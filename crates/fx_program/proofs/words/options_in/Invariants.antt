@@ -6,4 +6,5 @@ abbrev pub invariant-loop-word : goal.invariant-loop-word
 invariant-loop-word l =
     (l.at ≡ l.place + count_of l.given)
     × IfSome l.given.threads AreThreads
-    × (options_behind l.at l.has_seed (Ok l.given) (bytes_of (drop l.word-index l.words)) ≡ options_in l.place l.has_seed (bytes_of l.words))
+    × (options_behind l.at l.has_seed (Ok l.given) (bytes_of (drop l.word-index l.words))
+    ≡ options_in l.place l.has_seed (bytes_of l.words))

@@ -7,7 +7,8 @@ pub returns-in-Some-clause-settings : goal.returns-in-Some-clause-settings
 returns-in-Some-clause-settings c =
     c.command_with.ensures.settings
     ∙ ap (λ w. command_with w (map (λ v. v.items) c.in-Some.options.now)) c.as_slice.ensures.value
-    ∙ sym (some_words (λ v. v.items) c.args.words.now c.in-Some.command.now c.in-Some.options.now c.in-Some.ensures.cases.0)
+    ∙ sym (some_words (λ v. v.items) c.args.words.now c.in-Some.command.now c.in-Some.options.now
+    c.in-Some.ensures.cases.0)
 
 pub returns-in-None-clause-settings : goal.returns-in-None-clause-settings
 returns-in-None-clause-settings c = sym (no_word (λ v. v.items) c.args.words.now c.in-None.ensures.cases)

@@ -12,7 +12,8 @@ returns c =
     let valid = c.are_balanced.ensures.valid in
     let two = (order-bounds c.args.runs.now.shape.q valid.shaped.order).0 in
     c.are_balanced.ensures.balanced
-    ∙ each-same c.args.runs.now EachBlock (omega arith) (λ f. not (is_zero f) && is_among c.of_effect.result.inner c.of_effect.result.outer c.of_effect.result.most f)
+    ∙ each-same c.args.runs.now EachBlock (omega arith)
+    (λ f. not (is_zero f) && is_among c.of_effect.result.inner c.of_effect.result.outer c.of_effect.result.most f)
     (λ f. not (is_zero f) && eqb c.args.e (effect_of f))
     (λ f h.
     let few : length f ≤ 40 = omega (arith, h.len, valid.shaped.factors) in

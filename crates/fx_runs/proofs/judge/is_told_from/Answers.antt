@@ -15,8 +15,12 @@ returns-clause-balanced c =
     let valid = c.are_balanced.ensures.valid in
     let two = (order-bounds shape.q valid.shaped.order).0 in
     c.are_balanced.ensures.balanced
-    ∙ each-same c.args.runs.now AllRuns (omega arith) (λ f. not (is_zero f) && is_among c.of_differences.result.inner c.of_differences.result.outer c.of_differences.result.most f)
+    ∙ each-same c.args.runs.now AllRuns (omega arith)
+    (λ f. not (is_zero f)
+    && is_among c.of_differences.result.inner c.of_differences.result.outer c.of_differences.result.most f)
     (λ f. not (is_zero f) && differs shape.q c.args.u c.args.v (effect_of f))
     (λ f h.
     let few : length f ≤ 40 = omega (arith, h.len, valid.shaped.factors) in
-    ap (λ (b : Bool). not (is_zero f) && b) (c.of_differences.ensures f few ∙ ap (λ (z : Shape). differs z.q c.args.u c.args.v (effect_of f)) c.shape.ensures.shape))
+    ap (λ (b : Bool). not (is_zero f) && b)
+    (c.of_differences.ensures f few ∙ ap (λ (z : Shape). differs z.q c.args.u c.args.v (effect_of f))
+    c.shape.ensures.shape))

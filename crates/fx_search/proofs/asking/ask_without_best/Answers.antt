@@ -19,7 +19,8 @@ front_of-requires-clause-canonical c =
 
 pub walk-requires-clause-canonical : goal.walk-requires-clause-canonical
 walk-requires-clause-canonical c =
-    ap (λ x. is_canonical (dimensions_of c.args.question.now.shape) (requirement_of c.args.question.now.demands) x.rows) c.new-prefix.ensures
+    ap (λ x. is_canonical (dimensions_of c.args.question.now.shape) (requirement_of c.args.question.now.demands) x.rows)
+    c.new-prefix.ensures
     ∙ canonical-none (dimensions_of c.args.question.now.shape) (requirement_of c.args.question.now.demands)
 
 pub returns-in-Found : goal.returns-in-Found
@@ -28,8 +29,17 @@ returns-in-Found c =
     let p : Problem = problem_of question in
     let f = is_order-field question.shape.q c.requires.valid.shaped.order in
     let h = rw (c.new-prefix.ensures, c.new-marks.ensures, c.in-Found.is, sub-zero) at c.in_ok-end.ensures.ended.ends in
-    let r = whole_found p f (omega (arith, c.requires.valid.shaped.some_factors)) c.args.budget _ _ h in
-    ((r.0, c.in_ok-end.ensures.ended.shape, c.len-nodes.ensures ∙ r.1, r.2, omega (arith, c.len-nodes.ensures, h.fits)), tt)
+    let r = whole_found p f (omega (arith, c.requires.valid.shaped.some_factors)) c.args.budget _ _ h in (
+      (
+        r.0,
+        c.in_ok-end.ensures.ended.shape,
+        c.len-nodes.ensures ∙ r.1,
+        r.2,
+        omega
+            (arith, c.len-nodes.ensures, h.fits),
+      ),
+      tt,
+    )
 
 pub returns-in-Closed : goal.returns-in-Closed
 returns-in-Closed c =
@@ -37,10 +47,14 @@ returns-in-Closed c =
     let p : Problem = problem_of question in
     let f = is_order-field question.shape.q c.requires.valid.shaped.order in
     let some : 0 < question.shape.s + question.shape.t = omega (arith, c.requires.valid.shaped.some_factors) in
-    let h = rw (c.new-prefix.ensures, c.new-marks.ensures, c.in-Closed.is, sub-zero) at c.in_ok-end.ensures.ended.ends in
+    let h = rw (c.new-prefix.ensures, c.new-marks.ensures, c.in-Closed.is, sub-zero) at c.in_ok-end.ensures.ended.ends
+    in
     let r = whole_closed p f some c.args.budget _ _ _ h in
-    let none = closed_plain p f some c.args.budget _ _ _ h c.requires.plain in
-    ((none, c.len-nodes.ensures ∙ r.0, r.1, omega (arith, c.len-nodes.ensures, h.fits)), none_at_all question c.requires.valid none)
+    let none = closed_plain p f some c.args.budget _ _ _ h c.requires.plain in (
+      (none, c.len-nodes.ensures ∙ r.0, r.1, omega (arith, c.len-nodes.ensures, h.fits)),
+      none_at_all question
+          c.requires.valid none,
+    )
 
 pub returns-in-Spent : goal.returns-in-Spent
 returns-in-Spent c =

@@ -8,7 +8,9 @@ use Rattle.fx_settings.proofs.factors.factors_of.Goals as goal
 pub returns-clause-distinct : goal.returns-clause-distinct
 returns-clause-distinct c =
     let names = c.loop-i.names in
-    let none_left : drop c.loop-i.i c.lexemes-items.result.now ≡ [] = drop_all c.loop-i.i c.lexemes-items.result.now c.loop-i-test.false in
+    let none_left : drop c.loop-i.i c.lexemes-items.result.now ≡ [] =
+    drop_all c.loop-i.i c.lexemes-items.result.now c.loop-i-test.false in
     let all : factors_of c.args.limit c.args.statement.now ≡ Ok names =
-    c.loop-i.invariant.1 ∙ ap (λ items. all_added c.args.limit names (items_from c.loop-i.behind_minus items)) none_left in
+    c.loop-i.invariant.1 ∙ ap (λ items. all_added c.args.limit names (items_from c.loop-i.behind_minus items)) none_left
+    in
     factors_differ c.args.limit c.args.statement.now names all

@@ -1,4 +1,5 @@
-use Rattle.std.proofs.Common.{◌≡◌, ℕ, List, length, get_or, Option, Some, None, IfSome, Ok, Err, IfOk, IfErr, map, refl, sym, ap, subst, ltb, ◌∙◌}
+use Rattle.std.proofs.Common.{◌≡◌, ℕ, List, length, get_or, Option, Some, None, IfSome, Ok, Err, IfOk, IfErr, map, refl}
+use Rattle.std.proofs.Common.{sym, ap, subst, ltb, ◌∙◌}
 use Rattle.std.specs.Prelude.{slice_get}
 use Rattle.std.specs.Option.{is_some, option_map}
 use Rattle.std.proofs.lemmas.Option.{slice_get_past, slice_get_read}
@@ -21,9 +22,11 @@ use Rattle.fx_statements.proofs.parsing.parse.Goals as goal
 use Rattle.fx_statements.proofs.parsing.parse.Goals.{After-steps}
 
 -- what `get` finds
-got : (tokens : List Token) (i : ℕ) (r : Option (Bor Token)) → is_some r ≡ ltb i (length tokens) → IfSome r (λ x. x.now ≡ get_or tokens i x.now) → option_map (λ x. x.now) r ≡ slice_get tokens i
+got : (tokens : List Token) (i : ℕ) (r : Option (Bor Token)) → is_some r ≡ ltb i (length tokens)
+    → IfSome r (λ x. x.now ≡ get_or tokens i x.now) → option_map (λ x. x.now) r ≡ slice_get tokens i
 got tokens i None none is = sym (slice_get_past tokens i (ltb-false i (length tokens) (sym none)))
-got tokens i (Some x) some is = sym (slice_get_read tokens (length tokens) i x.now refl (ltb-true i (length tokens) (sym some)) is)
+got tokens i (Some x) some is =
+    sym (slice_get_read tokens (length tokens) i x.now refl (ltb-true i (length tokens) (sym some)) is)
 
 -- the meaning of a text of which the grammar and its words refuse nothing
 accepted_all : (c : After-steps) → program_of c.args.text.now c.args.tokens.now ≡ meaning_of_all c.as_slice-4.result.now
@@ -32,16 +35,23 @@ accepted_all c =
     let text = c.args.text.now in
     let tokens = c.args.tokens.now in
     let symbols : c.as_slice.result.now ≡ symbols_of text tokens = c.as_slice.ensures ∙ c.in_ok-symbols.ensures in
-    let none : first_refusal (symbols_of text tokens) ≡ None = ap first_refusal (sym symbols) ∙ sym c.first_refusal.ensures ∙ c.in_default.is in
-    ap (accepted text tokens) none ∙ ap meaning_of_all (sym (c.as_slice-4.ensures ∙ c.in_ok-statements.ensures ∙ ap statements_of (c.as_slice-3.ensures ∙ c.in_ok-lexemes.ensures)))
+    let none : first_refusal (symbols_of text tokens) ≡ None =
+    ap first_refusal (sym symbols) ∙ sym c.first_refusal.ensures ∙ c.in_default.is in
+    ap (accepted text tokens) none ∙ ap meaning_of_all
+    (sym (c.as_slice-4.ensures ∙ c.in_ok-statements.ensures ∙ ap statements_of
+    (c.as_slice-3.ensures ∙ c.in_ok-lexemes.ensures)))
 
 pub steps-requires : goal.steps-requires
 steps-requires c =
     let text = c.args.text.now in
     let tokens = c.args.tokens.now in
     let symbols : c.as_slice.result.now ≡ symbols_of text tokens = c.as_slice.ensures ∙ c.in_ok-symbols.ensures in
-    let none : first_refusal (symbols_of text tokens) ≡ None = ap first_refusal (sym symbols) ∙ sym c.first_refusal.ensures ∙ c.in_default.is in
-    subst (AllByRecursion IsAccepted) (sym (c.as_slice-4.ensures ∙ c.in_ok-statements.ensures ∙ ap statements_of (c.as_slice-3.ensures ∙ c.in_ok-lexemes.ensures))) (are_accepted text tokens c.requires.tokens (none_refused (symbols_of text tokens) none))
+    let none : first_refusal (symbols_of text tokens) ≡ None =
+    ap first_refusal (sym symbols) ∙ sym c.first_refusal.ensures ∙ c.in_default.is in
+    subst (AllByRecursion IsAccepted)
+    (sym (c.as_slice-4.ensures ∙ c.in_ok-statements.ensures ∙ ap statements_of
+    (c.as_slice-3.ensures ∙ c.in_ok-lexemes.ensures)))
+    (are_accepted text tokens c.requires.tokens (none_refused (symbols_of text tokens) none))
 
 pub returns-in_err-symbols-clause-refused : goal.returns-in_err-symbols-clause-refused
 returns-in_err-symbols-clause-refused c = refused _ _ stop.NoMemory c.from_residual.ensures.1 tt
@@ -58,8 +68,10 @@ returns-in-Some-clause-refused c =
     let text = c.args.text.now in
     let tokens = c.args.tokens.now in
     let symbols : c.as_slice.result.now ≡ symbols_of text tokens = c.as_slice.ensures ∙ c.in_ok-symbols.ensures in
-    let found : first_refusal (symbols_of text tokens) ≡ Some (c.in-Some.code, c.in-Some.at) = ap first_refusal (sym symbols) ∙ sym c.in-Some.ensures in
-    let token = got c.as_slice-in-Some.result.now c.in-Some.at c.get.result c.get.ensures.lookup.0 c.get.ensures.lookup.1 in
+    let found : first_refusal (symbols_of text tokens) ≡ Some (c.in-Some.code, c.in-Some.at) =
+    ap first_refusal (sym symbols) ∙ sym c.in-Some.ensures in
+    let token =
+    got c.as_slice-in-Some.result.now c.in-Some.at c.get.result c.get.ensures.lookup.0 c.get.ensures.lookup.1 in
     let place = rw (c.as_slice-in-Some.ensures) at (c.place_in-place.ensures ∙ ap (place_in text) token) in
     ap (accepted text tokens) found ∙ ap Err (sym (c.at.ensures ∙ ap (refused_at c.in-Some.code) place))
 

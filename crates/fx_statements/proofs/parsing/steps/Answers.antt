@@ -27,7 +27,8 @@ loop-i-preserved c =
     record {
       meaning =
           c.loop-i.invariant.meaning
-          ∙ one_step statements i c.rest_len-len.result c.index-statements-i.result c.loop-i-test.true c.loop-i.earlier (map meaning_of c.loop-i.program) (meaning_of step) proc long c.in_ok-step.ensures.step
+          ∙ one_step statements i c.rest_len-len.result c.index-statements-i.result c.loop-i-test.true c.loop-i.earlier
+          (map meaning_of c.loop-i.program) (meaning_of step) proc long c.in_ok-step.ensures.step
           ∙ ap₂ (λ e p. steps_behind e p (steps_of (drop (i + 1) statements)))
           (sym c.in_ok-step.ensures.names)
           (sym (ap (map meaning_of) c.in_ok-push.ensures.ok ∙ map-append meaning_of c.loop-i.program (step ∷ [])));
@@ -39,7 +40,8 @@ loop-i-preserved c =
 
 pub loop-i-init : goal.loop-i-init
 loop-i-init c = record {
-  meaning = ap₂ (λ e p. steps_behind e (map meaning_of p) (steps_of c.args.statements.now)) (sym c.new-earlier.ensures) (sym c.new-program.ensures);
+  meaning = ap₂ (λ e p. steps_behind e (map meaning_of p) (steps_of c.args.statements.now)) (sym c.new-earlier.ensures)
+      (sym c.new-program.ensures);
   names = c.new-earlier.ensures ∙ ap out_names (sym c.new-program.ensures);
   differ = subst (IsDistinct is_same_name) (sym c.new-earlier.ensures) none_differ;
 }
@@ -48,7 +50,8 @@ pub step_of-requires-clause-accepted : goal.step_of-requires-clause-accepted
 step_of-requires-clause-accepted c =
     let statements = c.args.statements.now in
     let i = c.loop-i.i in
-    each_taken IsAccepted (i + (1 + c.rest_len-len.result) - i) (drop i statements) (each_dropped IsAccepted i statements c.requires)
+    each_taken IsAccepted (i + (1 + c.rest_len-len.result) - i) (drop i statements)
+    (each_dropped IsAccepted i statements c.requires)
 
 pub step_of-requires-clause-differ : goal.step_of-requires-clause-differ
 step_of-requires-clause-differ c = c.loop-i.invariant.differ
@@ -65,7 +68,8 @@ returns-in_err-step-clause-refused c =
     let proc = ap (begins Proc) (sym c.index-statements-i.is) ∙ sym c.if-not-begins.ensures in
     refused _ _ c.in_err-step.field-0.0 c.from_residual.ensures.1
     (rw c.loop-i.invariant.meaning
-    (step_refused statements i c.rest_len-len.result c.index-statements-i.result c.loop-i-test.true c.loop-i.earlier (map meaning_of c.loop-i.program) proc long c.in_err-step.field-0.0 c.in_err-step.ensures.refused))
+    (step_refused statements i c.rest_len-len.result c.index-statements-i.result c.loop-i-test.true c.loop-i.earlier
+    (map meaning_of c.loop-i.program) proc long c.in_err-step.field-0.0 c.in_err-step.ensures.refused))
 
 pub returns-in_err-push-clause-refused : goal.returns-in_err-push-clause-refused
 returns-in_err-push-clause-refused c = refused _ _ stop.NoMemory c.from_residual-in_err-push.ensures.1 tt
@@ -73,4 +77,5 @@ returns-in_err-push-clause-refused c = refused _ _ stop.NoMemory c.from_residual
 pub returns-clause-program : goal.returns-clause-program
 returns-clause-program c =
     c.loop-i.invariant.meaning
-    ∙ ap (λ rest. steps_behind c.loop-i.earlier (map meaning_of c.loop-i.program) (steps_of rest)) (drop_all c.loop-i.i c.args.statements.now c.loop-i-test.false)
+    ∙ ap (λ rest. steps_behind c.loop-i.earlier (map meaning_of c.loop-i.program) (steps_of rest))
+    (drop_all c.loop-i.i c.args.statements.now c.loop-i-test.false)

@@ -8,7 +8,8 @@ use Rattle.fx_statements.proofs.parsing.steps.Given as goal
 
 abbrev pub invariant-loop-i : goal.invariant-loop-i
 invariant-loop-i l = record {
-  meaning : steps_behind [] [] (steps_of l.statements) ≡ steps_behind l.earlier (map meaning_of l.program) (steps_of (drop l.i l.statements));
+  meaning : steps_behind [] [] (steps_of l.statements)
+      ≡ steps_behind l.earlier (map meaning_of l.program) (steps_of (drop l.i l.statements));
   names : l.earlier ≡ out_names l.program;
   differ : IsDistinct is_same_name l.earlier;
 }

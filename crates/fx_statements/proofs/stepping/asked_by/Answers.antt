@@ -20,18 +20,25 @@ use Rattle.fx_statements.proofs.stepping.asked_by.Goals as goal
 
 -- the meaning of what is asked, part by part
 module _ (factors : List (List ℕ)) (said : StepSaid) (statements : List (List Written)) where
-  at_settings : (refusal : Refusal) → Err refusal ≡ unblocked_of (length factors) said → asked_by factors said statements ≡ Err refusal
+  at_settings : (refusal : Refusal) → Err refusal ≡ unblocked_of (length factors) said
+      → asked_by factors said statements ≡ Err refusal
   at_settings refusal e = rw (← e) refl
 
   module _ (unblocked : StepSettings) (one : Ok unblocked ≡ unblocked_of (length factors) said) where
-    at_goal : (reason : ParseStop) → IsRefused (goal_by unblocked.q factors statements unblocked.criterion) reason → IsRefused (asked_by factors said statements) reason
+    at_goal : (reason : ParseStop) → IsRefused (goal_by unblocked.q factors statements unblocked.criterion) reason
+        → IsRefused (asked_by factors said statements) reason
     at_goal reason h = rw (← one) (stopped (goal_by unblocked.q factors statements unblocked.criterion) _ reason h)
 
-    module _ (wanted : Goal) (settings : StepSettings) (two : goal_by unblocked.q factors statements unblocked.criterion ≡ Ok wanted) (three : Ok settings ≡ step_settings_of unblocked said) where
-      at_listing : (refusal : Refusal) → Err refusal ≡ check_components unblocked.q (length factors) wanted (components_place statements) → asked_by factors said statements ≡ Err refusal
+    module _ (wanted : Goal) (settings : StepSettings)
+        (two : goal_by unblocked.q factors statements unblocked.criterion ≡ Ok wanted)
+        (three : Ok settings ≡ step_settings_of unblocked said) where
+      at_listing : (refusal : Refusal)
+          → Err refusal ≡ check_components unblocked.q (length factors) wanted (components_place statements)
+          → asked_by factors said statements ≡ Err refusal
       at_listing refusal e = rw (← one, two, ← three, ← e) refl
 
-      all_asked : Ok tt ≡ check_components unblocked.q (length factors) wanted (components_place statements) → asked_by factors said statements ≡ Ok (settings, wanted)
+      all_asked : Ok tt ≡ check_components unblocked.q (length factors) wanted (components_place statements)
+          → asked_by factors said statements ≡ Ok (settings, wanted)
       all_asked e = rw (← one, two, ← three, ← e) refl
 
 pub returns-in_err-unblocked-clause-refused : goal.returns-in_err-unblocked-clause-refused
@@ -42,37 +49,52 @@ returns-in_err-unblocked-clause-refused c =
 pub returns-in_err-wanted-clause-refused : goal.returns-in_err-wanted-clause-refused
 returns-in_err-wanted-clause-refused c =
     refused _ _ c.in_err-wanted.field-0.0 c.from_residual-in_err-wanted.ensures.1
-    (at_goal c.args.factors.now c.args.said c.args.statements.now c.in_ok-unblocked.unblocked c.in_ok-unblocked.ensures.value _ c.in_err-wanted.ensures.refused)
+    (at_goal c.args.factors.now c.args.said c.args.statements.now c.in_ok-unblocked.unblocked
+    c.in_ok-unblocked.ensures.value _ c.in_err-wanted.ensures.refused)
 
 pub returns-in_err-check_components-clause-refused : goal.returns-in_err-check_components-clause-refused
 returns-in_err-check_components-clause-refused c =
     refused _ _ (stop.Refused c.in_err-check_components.field-0.0) c.from_residual-in_err-check_components.ensures.1
-    (at_listing c.args.factors.now c.args.said c.args.statements.now c.in_ok-unblocked.unblocked c.in_ok-unblocked.ensures.value _ _ c.in_ok-wanted.ensures.goal c.in_ok-settings.ensures.value _ c.in_err-check_components.ensures)
+    (at_listing c.args.factors.now c.args.said c.args.statements.now c.in_ok-unblocked.unblocked
+    c.in_ok-unblocked.ensures.value _ _ c.in_ok-wanted.ensures.goal c.in_ok-settings.ensures.value _
+    c.in_err-check_components.ensures)
 
 pub returns-clause-asked : goal.returns-clause-asked
 returns-clause-asked c =
-    all_asked c.args.factors.now c.args.said c.args.statements.now c.in_ok-unblocked.unblocked c.in_ok-unblocked.ensures.value _ _ c.in_ok-wanted.ensures.goal c.in_ok-settings.ensures.value c.in_ok-check_components.ensures
+    all_asked c.args.factors.now c.args.said c.args.statements.now c.in_ok-unblocked.unblocked
+    c.in_ok-unblocked.ensures.value _ _ c.in_ok-wanted.ensures.goal c.in_ok-settings.ensures.value
+    c.in_ok-check_components.ensures
 
 pub returns-clause-settings_valid : goal.returns-clause-settings_valid
-returns-clause-settings_valid c = c.in_ok-settings.ensures.valid (length c.args.factors.now) (sym c.in_ok-unblocked.ensures.value)
+returns-clause-settings_valid c =
+    c.in_ok-settings.ensures.valid (length c.args.factors.now) (sym c.in_ok-unblocked.ensures.value)
 
 pub returns-clause-kind : goal.returns-clause-kind
-returns-clause-kind c = c.in_ok-wanted.ensures.kind ∙ sym (kept c.in_ok-unblocked.unblocked c.args.said c.in_ok-settings.settings (sym c.in_ok-settings.ensures.value)).0
+returns-clause-kind c =
+    c.in_ok-wanted.ensures.kind ∙ sym
+    (kept c.in_ok-unblocked.unblocked c.args.said c.in_ok-settings.settings (sym c.in_ok-settings.ensures.value)).0
 
 pub returns-clause-few_effects : goal.returns-clause-few_effects
 returns-clause-few_effects c = c.in_ok-wanted.ensures.few
 
 pub returns-clause-askable : goal.returns-clause-askable
 returns-clause-askable c =
-    let same = kept c.in_ok-unblocked.unblocked c.args.said c.in_ok-settings.settings (sym c.in_ok-settings.ensures.value) in
+    let same =
+    kept c.in_ok-unblocked.unblocked c.args.said c.in_ok-settings.settings (sym c.in_ok-settings.ensures.value) in
     λ estimate nonnegligible is.
-    subst (λ q. CanBeTold q (length c.args.factors.now) (numbers_of estimate) (numbers_of nonnegligible)) (sym same.1) (c.in_ok-wanted.ensures.askable estimate nonnegligible is)
+    subst (λ q. CanBeTold q (length c.args.factors.now) (numbers_of estimate) (numbers_of nonnegligible)) (sym same.1)
+    (c.in_ok-wanted.ensures.askable estimate nonnegligible is)
 
 pub returns-clause-unblocked : goal.returns-clause-unblocked
-returns-clause-unblocked c = λ none. without c.in_ok-unblocked.unblocked c.args.said c.in_ok-settings.settings none (sym c.in_ok-settings.ensures.value)
+returns-clause-unblocked c =
+    λ none. without c.in_ok-unblocked.unblocked c.args.said c.in_ok-settings.settings none
+    (sym c.in_ok-settings.ensures.value)
 
 pub returns-clause-few_components : goal.returns-clause-few_components
 returns-clause-few_components c =
-    let same = kept c.in_ok-unblocked.unblocked c.args.said c.in_ok-settings.settings (sym c.in_ok-settings.ensures.value) in
-    subst (λ q. HasFewComponents q (length c.args.factors.now) (goal_of c.in_ok-wanted.wanted) (examine_of c.args.statements.now)) (sym same.1)
-    (few_components c.in_ok-unblocked.unblocked.q (length c.args.factors.now) (goal_of c.in_ok-wanted.wanted) c.args.statements.now (sym c.in_ok-check_components.ensures))
+    let same =
+    kept c.in_ok-unblocked.unblocked c.args.said c.in_ok-settings.settings (sym c.in_ok-settings.ensures.value) in
+    subst (λ q. HasFewComponents q (length c.args.factors.now) (goal_of c.in_ok-wanted.wanted)
+    (examine_of c.args.statements.now)) (sym same.1)
+    (few_components c.in_ok-unblocked.unblocked.q (length c.args.factors.now) (goal_of c.in_ok-wanted.wanted)
+    c.args.statements.now (sym c.in_ok-check_components.ensures))

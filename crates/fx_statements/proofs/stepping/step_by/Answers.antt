@@ -30,26 +30,38 @@ invariant_of-result c =
     let same = same_settings settings wanted c.in_ok-settings.ensures.kind in
     let factors = c.in_ok-factors.factors in
     let s = ap length c.as_slice.ensures in
-    let read = c.context_of-context.ensures ∙ ap (λ factors. context factors settings) c.as_slice-2.ensures ∙ ap (context factors) (sym same) in
+    let read =
+    c.context_of-context.ensures ∙ ap (λ factors. context factors settings) c.as_slice-2.ensures ∙ ap
+    (context factors) (sym same) in
     let outputs = c.in_ok-outputs.outputs in
     record {
       factor_count =
           counted statements (length c.in_ok-factors.factors) _
-          (λ none. c.in_ok-settings.ensures.unblocked (unsaid c.head_of-proc.result c.args.named.now statements c.step_said-said.result c.step_said-said.ensures none))
+          (λ none. c.in_ok-settings.ensures.unblocked
+          (unsaid c.head_of-proc.result c.args.named.now statements c.step_said-said.result c.step_said-said.ensures
+          none))
           bounds.0 (omega (arith, bounds.1, c.factor_limit.ensures.value));
       distinct = c.in_ok-factors.ensures.distinct;
       settings_valid = subst (λ x. are_valid x ≡ true) (sym same) c.in_ok-settings.ensures.settings_valid;
       effects_askable = subst (λ s. CanBeWanted settings.q s wanted) s c.in_ok-settings.ensures.askable;
       outputs_within_limits =
           subst (λ x. All (IsWithinLimits x) outputs) read c.in_ok-outputs.ensures.within_limits;
-      factor_names = named_factors c.place.result c.factor_limit.result c.args.named.now factors c.requires.by_grammar c.requires.names c.in_ok-factors.ensures.factors;
+      factor_names =
+          named_factors c.place.result c.factor_limit.result c.args.named.now factors c.requires.by_grammar
+          c.requires.names c.in_ok-factors.ensures.factors;
       few_effects = c.in_ok-settings.ensures.few_effects;
       few_components =
           subst (λ e. HasFewComponents settings.q (length factors) (goal_of wanted) e) (sym c.examine_of.ensures)
-          (subst (λ n. HasFewComponents settings.q n (goal_of wanted) (examine_of statements)) s c.in_ok-settings.ensures.few_components);
+          (subst (λ n. HasFewComponents settings.q n (goal_of wanted) (examine_of statements)) s
+          c.in_ok-settings.ensures.few_components);
       output_names =
-          subst (λ x. All (HasItsNames x) outputs) read (all_have_names c.context_of-context.result c.args.earlier.now statements outputs c.requires.accepted c.in_ok-outputs.ensures.ok);
-      out_names_differ = behind_differ c.args.earlier.now (names_of outputs) (all_differ c.context_of-context.result c.args.earlier.now statements outputs c.requires.differ c.in_ok-outputs.ensures.ok);
+          subst (λ x. All (HasItsNames x) outputs) read
+          (all_have_names c.context_of-context.result c.args.earlier.now statements outputs c.requires.accepted
+          c.in_ok-outputs.ensures.ok);
+      out_names_differ =
+          behind_differ c.args.earlier.now (names_of outputs)
+          (all_differ c.context_of-context.result c.args.earlier.now statements outputs c.requires.differ
+          c.in_ok-outputs.ensures.ok);
     }
 
 pub returns-clause-step : goal.returns-clause-step
@@ -60,14 +72,19 @@ returns-clause-step c =
     let settings = c.in_ok-settings.settings in
     let wanted = c.in_ok-settings.wanted in
     let is_named : factors_by (start_of (head_of statements)) (factor_limit statements) named ≡ Ok factors =
-    ap₂ (λ place most. factors_by place most named) (sym (c.place.ensures ∙ ap start_of c.head_of-proc.ensures)) (sym c.factor_limit.ensures.value) ∙ c.in_ok-factors.ensures.factors in
-    let is_asked : asked_by factors (step_said (head_of statements) named statements) statements ≡ Ok (settings, goal_of wanted) =
-    ap₂ (λ names said. asked_by names said statements) (sym c.as_slice.ensures) (sym (c.step_said-said.ensures ∙ ap (λ p. step_said p named statements) c.head_of-proc.ensures))
+    ap₂ (λ place most. factors_by place most named) (sym (c.place.ensures ∙ ap start_of c.head_of-proc.ensures))
+    (sym c.factor_limit.ensures.value) ∙ c.in_ok-factors.ensures.factors in
+    let is_asked : asked_by factors (step_said (head_of statements) named statements) statements
+    ≡ Ok (settings, goal_of wanted) =
+    ap₂ (λ names said. asked_by names said statements) (sym c.as_slice.ensures)
+    (sym (c.step_said-said.ensures ∙ ap (λ p. step_said p named statements) c.head_of-proc.ensures))
     ∙ c.in_ok-settings.ensures.asked in
     let are_outputs : outputs_of (context factors settings) c.args.earlier.now statements ≡ Ok c.in_ok-outputs.outputs =
-    ap (λ x. outputs_of x c.args.earlier.now statements) (sym (c.context_of-context.ensures ∙ ap (λ names. context names settings) c.as_slice-2.ensures))
+    ap (λ x. outputs_of x c.args.earlier.now statements)
+    (sym (c.context_of-context.ensures ∙ ap (λ names. context names settings) c.as_slice-2.ensures))
     ∙ c.in_ok-outputs.ensures.ok in
-    step_is c.args.earlier.now statements named factors settings wanted c.in_ok-outputs.outputs is_named is_asked are_outputs c.examine_of.result c.examine_of.ensures c.in_ok-settings.ensures.kind
+    step_is c.args.earlier.now statements named factors settings wanted c.in_ok-outputs.outputs is_named is_asked
+    are_outputs c.examine_of.result c.examine_of.ensures c.in_ok-settings.ensures.kind
 
 pub returns-in_err-outputs-clause-refused : goal.returns-in_err-outputs-clause-refused
 returns-in_err-outputs-clause-refused c =
@@ -77,35 +94,49 @@ returns-in_err-outputs-clause-refused c =
     let settings = c.in_ok-settings.settings in
     let reason = c.in_err-outputs.field-0.0 in
     let is_named : factors_by (start_of (head_of statements)) (factor_limit statements) named ≡ Ok factors =
-    ap₂ (λ place most. factors_by place most named) (sym (c.place.ensures ∙ ap start_of c.head_of-proc.ensures)) (sym c.factor_limit.ensures.value) ∙ c.in_ok-factors.ensures.factors in
-    let is_asked : asked_by factors (step_said (head_of statements) named statements) statements ≡ Ok (settings, goal_of c.in_ok-settings.wanted) =
-    ap₂ (λ names said. asked_by names said statements) (sym c.as_slice.ensures) (sym (c.step_said-said.ensures ∙ ap (λ p. step_said p named statements) c.head_of-proc.ensures))
+    ap₂ (λ place most. factors_by place most named) (sym (c.place.ensures ∙ ap start_of c.head_of-proc.ensures))
+    (sym c.factor_limit.ensures.value) ∙ c.in_ok-factors.ensures.factors in
+    let is_asked : asked_by factors (step_said (head_of statements) named statements) statements
+    ≡ Ok (settings, goal_of c.in_ok-settings.wanted) =
+    ap₂ (λ names said. asked_by names said statements) (sym c.as_slice.ensures)
+    (sym (c.step_said-said.ensures ∙ ap (λ p. step_said p named statements) c.head_of-proc.ensures))
     ∙ c.in_ok-settings.ensures.asked in
     let refused : IsRefused (outputs_of (context factors settings) c.args.earlier.now statements) reason =
-    subst (λ x. IsRefused (outputs_of x c.args.earlier.now statements) reason) (c.context_of-context.ensures ∙ ap (λ names. context names settings) c.as_slice-2.ensures) c.in_err-outputs.ensures.refused in
+    subst (λ x. IsRefused (outputs_of x c.args.earlier.now statements) reason)
+    (c.context_of-context.ensures ∙ ap (λ names. context names settings) c.as_slice-2.ensures)
+    c.in_err-outputs.ensures.refused in
     let p = err_from_is_err_and c.from_residual-in_err-outputs.result c.from_residual-in_err-outputs.ensures.1 in
-    rw (p.1, p.2) (outputs_refused c.args.earlier.now statements named factors settings c.in_ok-settings.wanted is_named is_asked reason refused)
+    rw (p.1, p.2)
+    (outputs_refused c.args.earlier.now statements named factors settings c.in_ok-settings.wanted is_named is_asked
+    reason refused)
 
 pub returns-clause-differ : goal.returns-clause-differ
 returns-clause-differ c =
     subst (IsDistinct is_same_name) (sym c.in_ok-outputs.ensures.names)
-    (all_differ c.context_of-context.result c.args.earlier.now c.args.statements.now c.in_ok-outputs.outputs c.requires.differ c.in_ok-outputs.ensures.ok)
+    (all_differ c.context_of-context.result c.args.earlier.now c.args.statements.now c.in_ok-outputs.outputs
+    c.requires.differ c.in_ok-outputs.ensures.ok)
 
 pub returns-in_err-factors-clause-refused : goal.returns-in_err-factors-clause-refused
 returns-in_err-factors-clause-refused c =
     let statements = c.args.statements.now in
-    let factors = rw (c.place.ensures ∙ ap start_of c.head_of-proc.ensures, c.factor_limit.ensures.value) at c.in_err-factors.ensures.refused in
-    refused _ _ c.in_err-factors.field-0.0 c.from_residual.ensures.1 (stopped (factors_by (start_of (head_of statements)) (factor_limit statements) c.args.named.now) _ _ factors)
+    let factors =
+    rw (c.place.ensures ∙ ap start_of c.head_of-proc.ensures, c.factor_limit.ensures.value) at
+    c.in_err-factors.ensures.refused in
+    refused _ _ c.in_err-factors.field-0.0 c.from_residual.ensures.1
+    (stopped (factors_by (start_of (head_of statements)) (factor_limit statements) c.args.named.now) _ _ factors)
 
 pub returns-in_err-settings-clause-refused : goal.returns-in_err-settings-clause-refused
 returns-in_err-settings-clause-refused c =
     let statements = c.args.statements.now in
     let named = c.args.named.now in
-    let is_named = rw (c.place.ensures ∙ ap start_of c.head_of-proc.ensures, c.factor_limit.ensures.value) at c.in_ok-factors.ensures.factors in
+    let is_named =
+    rw (c.place.ensures ∙ ap start_of c.head_of-proc.ensures, c.factor_limit.ensures.value) at
+    c.in_ok-factors.ensures.factors in
     let said = c.step_said-said.ensures ∙ ap (λ p. step_said p named statements) c.head_of-proc.ensures in
     let asked = rw (c.as_slice.ensures, said) at c.in_err-settings.ensures.refused in
     refused _ _ c.in_err-settings.field-0.0 c.from_residual-in_err-settings.ensures.1
-    (settings_refused c.args.earlier.now statements named c.in_ok-factors.factors is_named c.in_err-settings.field-0.0 asked)
+    (settings_refused c.args.earlier.now statements named c.in_ok-factors.factors is_named c.in_err-settings.field-0.0
+    asked)
 
 pub returns-clause-names : goal.returns-clause-names
 returns-clause-names c = c.in_ok-outputs.ensures.names

@@ -6,12 +6,15 @@ use Rattle.fx_text.specs.Written.{Written, written, written_at}
 use Rattle.fx_text.proofs.lexeme.lexemes.Goals as goal
 
 -- the symbol at an index is the token's
-own_symbol : (text : List ℕ) (tokens : List Token) (symbols : List Symbol) (i : ℕ) (d : Symbol) (t : Token) → i < length tokens → symbols ≡ map (λ t. (written_at text t).symbol) tokens
+own_symbol : (text : List ℕ) (tokens : List Token) (symbols : List Symbol) (i : ℕ) (d : Symbol) (t : Token)
+    → i < length tokens → symbols ≡ map (λ t. (written_at text t).symbol) tokens
     → get_or symbols i d ≡ (written_at text (get_or tokens i t)).symbol
-own_symbol text tokens symbols i d t within are = rw are (get_or-map (λ t. (written_at text t).symbol) tokens i t d within)
+own_symbol text tokens symbols i d t within are =
+    rw are (get_or-map (λ t. (written_at text t).symbol) tokens i t d within)
 
 -- what is written, with one lexeme more
-one_more : (text : List ℕ) (tokens : List Token) (done : List Written) (i : ℕ) (t : Token) (w : Written) → i < length tokens → done ≡ written text (take i tokens) → w ≡ written_at text (get_or tokens i t)
+one_more : (text : List ℕ) (tokens : List Token) (done : List Written) (i : ℕ) (t : Token) (w : Written)
+    → i < length tokens → done ≡ written text (take i tokens) → w ≡ written_at text (get_or tokens i t)
     → done ++ w ∷ [] ≡ written text (take (i + 1) tokens)
 one_more text tokens done i t w within so_far is = rw (so_far, is, take_more tokens i t within, map-append) refl
 
@@ -31,7 +34,8 @@ loop-i-preserved c =
     let within = rw c.as_slice-token-items.ensures at c.loop-i-test.true in
     let is = rw c.as_slice-token-items.ensures at c.lexeme_at.ensures in
     c.in_ok-push.ensures.ok
-    ∙ one_more c.args.text.now c.args.tokens.now c.loop-i.lexemes c.loop-i.i _ c.lexeme_at.result within c.loop-i.invariant is
+    ∙ one_more c.args.text.now c.args.tokens.now c.loop-i.lexemes c.loop-i.i _ c.lexeme_at.result within
+    c.loop-i.invariant is
 
 pub returns : goal.returns
 returns c =

@@ -5,4 +5,6 @@ use Rattle.std.proofs.lemmas.Slice.Eq.{bytes_eq-Decides}
 use Rattle.fx_text.proofs.name.is_same_name.Goals as goal
 
 pub returns : goal.returns
-returns c = one_answer _ _ c.eq_ignore_ascii_case.ensures.test (bytes_eq-Decides (map to_ascii_lowercase c.args.a.now) (map to_ascii_lowercase c.args.b.now))
+returns c =
+    one_answer _ _ c.eq_ignore_ascii_case.ensures.test
+    (bytes_eq-Decides (map to_ascii_lowercase c.args.a.now) (map to_ascii_lowercase c.args.b.now))

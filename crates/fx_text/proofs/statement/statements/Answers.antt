@@ -9,4 +9,10 @@ loop-at-preserved c =
     let some : 0 < length (drop c.loop-at.at all) = rw length-drop (omega (arith, c.loop-at-test.true)) in
     let len = c.statement_len-len.ensures in
     let rest = take_rest all c.loop-at.at in
-    rw (← drop-drop (c.statement_len-len.result + 1) c.loop-at.at all, c.in_ok-push.ensures.ok, c.new.ensures, len, rest) (cut_behind c.loop-at.statements all (drop c.loop-at.at all) some c.loop-at.invariant)
+    rw (
+      ← drop-drop (c.statement_len-len.result + 1) c.loop-at.at all,
+      c.in_ok-push.ensures.ok,
+      c.new.ensures,
+      len,
+      rest,
+    ) (cut_behind c.loop-at.statements all (drop c.loop-at.at all) some c.loop-at.invariant)

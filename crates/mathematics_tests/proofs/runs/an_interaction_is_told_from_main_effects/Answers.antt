@@ -10,7 +10,14 @@ unfolding factors_of ones
 askable =
     record {
       some = omega arith;
-      estimated = record { each = All-from_recursion (λ e. (0 < e) × (e < 2 ^ 4)) (1 ∷ 2 ∷ 4 ∷ 8 ∷ 3 ∷ []) ((lit< tt, lit< tt), ((lit< tt, lit< tt), ((lit< tt, lit< tt), ((lit< tt, lit< tt), ((lit< tt, lit< tt), tt))))); in_order = refl };
+      estimated =
+          record {
+            each = All-from_recursion (λ e. (0 < e) × (e < 2 ^ 4)) (1 ∷ 2 ∷ 4 ∷ 8 ∷ 3 ∷ []) (
+              (lit< tt, lit< tt),
+              ((lit< tt, lit< tt), ((lit< tt, lit< tt), ((lit< tt, lit< tt), ((lit< tt, lit< tt), tt)))),
+            );
+            in_order = refl;
+          };
       others = record { each = All-from_recursion (λ e. (0 < e) × (e < 2 ^ 4)) [] tt; in_order = refl };
       apart = refl;
       pairs = lit≤ tt;

@@ -10,8 +10,13 @@ unfolding factors_of ones
 askable =
     record {
       some = omega arith;
-      estimated = record { each = All-from_recursion (λ e. (0 < e) × (e < 2 ^ 3)) (3 ∷ []) ((lit< tt, lit< tt), tt); in_order = refl };
-      others = record { each = All-from_recursion (λ e. (0 < e) × (e < 2 ^ 3)) (4 ∷ []) ((lit< tt, lit< tt), tt); in_order = refl };
+      estimated =
+          record {
+            each = All-from_recursion (λ e. (0 < e) × (e < 2 ^ 3)) (3 ∷ []) ((lit< tt, lit< tt), tt);
+            in_order = refl;
+          };
+      others = record
+          { each = All-from_recursion (λ e. (0 < e) × (e < 2 ^ 3)) (4 ∷ []) ((lit< tt, lit< tt), tt); in_order = refl };
       apart = refl;
       pairs = lit≤ tt;
     }

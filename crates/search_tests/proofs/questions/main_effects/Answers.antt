@@ -1,4 +1,5 @@
-use Rattle.std.proofs.Common.{ℕ, ◌≡◌, ◌<◌, ◌≤◌, ◌^◌, List, [], ◌∷◌, true, false, eqb, inl, inr, sym, subst, refl, ap, arith, lit<, lit≤}
+use Rattle.std.proofs.Common.{ℕ, ◌≡◌, ◌<◌, ◌≤◌, ◌^◌, List, [], ◌∷◌, true, false, eqb, inl, inr, sym, subst, refl, ap}
+use Rattle.std.proofs.Common.{arith, lit<, lit≤}
 use Rattle.std.specs.List.{list_any}
 use Rattle.std.proofs.lemmas.Bool.{eqb-true, both_ways}
 use Rattle.fx_vectors.proofs.Balances.{either_true}
@@ -30,13 +31,16 @@ few-pairs q order =
                         | inl e ↦ subst (λ k. pair_count k (1 ∷ 2 ∷ []) [] ≤ 2000000) (sym (eqb-true q 5 e)) (lit≤ tt)
                         | inr r3 ↦
                             elim (either_true (eqb q 7) (list_any (λ n. eqb q n) (8 ∷ 9 ∷ [])) r3) [
-                              | inl e ↦ subst (λ k. pair_count k (1 ∷ 2 ∷ []) [] ≤ 2000000) (sym (eqb-true q 7 e)) (lit≤ tt)
+                              | inl e ↦ subst (λ k. pair_count k (1 ∷ 2 ∷ []) [] ≤ 2000000) (sym (eqb-true q 7 e))
+                                  (lit≤ tt)
                               | inr r4 ↦
                                   elim (either_true (eqb q 8) (list_any (λ n. eqb q n) (9 ∷ [])) r4) [
-                                    | inl e ↦ subst (λ k. pair_count k (1 ∷ 2 ∷ []) [] ≤ 2000000) (sym (eqb-true q 8 e)) (lit≤ tt)
+                                    | inl e ↦ subst (λ k. pair_count k (1 ∷ 2 ∷ []) [] ≤ 2000000) (sym (eqb-true q 8 e))
+                                        (lit≤ tt)
                                     | inr r5 ↦
                                         elim (either_true (eqb q 9) (list_any (λ n. eqb q n) ([])) r5) [
-                                          | inl e ↦ subst (λ k. pair_count k (1 ∷ 2 ∷ []) [] ≤ 2000000) (sym (eqb-true q 9 e)) (lit≤ tt)
+                                          | inl e ↦ subst (λ k. pair_count k (1 ∷ 2 ∷ []) [] ≤ 2000000)
+                                              (sym (eqb-true q 9 e)) (lit≤ tt)
                                           | inr r6 ↦
                                               absurd (both_ways false refl r6)
                                         ]
@@ -54,15 +58,25 @@ askable q s two pairs =
     let four : 2 ^ 2 ≡ 4 = refl in
     record {
       some = omega arith;
-      estimated = record { each = All-from_recursion (λ e. (0 < e) × (e < 2 ^ s)) (1 ∷ 2 ∷ []) ((lit< tt, omega arith), ((lit< tt, omega arith), tt)); in_order = refl };
+      estimated =
+          record {
+            each = All-from_recursion (λ e. (0 < e) × (e < 2 ^ s)) (1 ∷ 2 ∷ [])
+                ((lit< tt, omega arith), ((lit< tt, omega arith), tt));
+            in_order = refl;
+          };
       others = record { each = All-from_recursion (λ e. (0 < e) × (e < 2 ^ s)) [] tt; in_order = refl };
       apart = refl;
       pairs = pairs;
     }
 
-valid : (shape : Shape) (estimate others : List Effect) → IsShape shape → 2 ≤ shape.s → pair_count shape.q (1 ∷ 2 ∷ []) [] ≤ 2000000 → numbers_of estimate ≡ 1 ∷ 2 ∷ [] → numbers_of others ≡ [] → IsValid (record { shape = shape; demands = Effects estimate others; least = false })
-valid shape estimate others shaped two pairs e o = record { shaped = shaped; asked = rw (e, o) (askable shape.q shape.s two pairs); least = λ h. absurd (cc) }
+valid : (shape : Shape) (estimate others : List Effect) → IsShape shape → 2 ≤ shape.s
+    → pair_count shape.q (1 ∷ 2 ∷ []) [] ≤ 2000000 → numbers_of estimate ≡ 1 ∷ 2 ∷ [] → numbers_of others ≡ []
+    → IsValid (record { shape = shape; demands = Effects estimate others; least = false })
+valid shape estimate others shaped two pairs e o =
+    record { shaped = shaped; asked = rw (e, o) (askable shape.q shape.s two pairs); least = λ h. absurd (cc) }
 
 pub returns-clause-valid : goal.returns-clause-valid
 returns-clause-valid c =
-    valid c.args.shape c.in_ok-estimate.estimate c.new.result c.requires.shaped c.requires.factors (few-pairs c.args.shape.q c.requires.shaped.order) (ap numbers_of c.in_ok-estimate.ensures) (ap numbers_of c.new.ensures)
+    valid c.args.shape c.in_ok-estimate.estimate c.new.result c.requires.shaped c.requires.factors
+    (few-pairs c.args.shape.q c.requires.shaped.order) (ap numbers_of c.in_ok-estimate.ensures)
+    (ap numbers_of c.new.ensures)

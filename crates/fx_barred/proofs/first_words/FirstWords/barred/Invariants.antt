@@ -9,7 +9,8 @@ use Rattle.fx_barred.proofs.first_words.FirstWords.barred.Given as goal
 abbrev pub IsSaid : FirstWordsView → List ℕ → ℕ → Type 0
 IsSaid v set x =
     (has set x ≡ true → (k : ℕ) × IsFirst v.q v.m v.rows v.words (length v.rows) (sum_of v.q (neg v.q 1) v.m 0 x) k)
-    × (has set x ≡ false → HasNone v.q v.m v.rows v.words (length v.rows) (sum_of v.q (neg v.q 1) v.m 0 x) (length v.words))
+    × (has set x ≡ false
+    → HasNone v.q v.m v.rows v.words (length v.rows) (sum_of v.q (neg v.q 1) v.m 0 x) (length v.words))
 
 abbrev pub invariant-loop-x : goal.invariant-loop-x
 invariant-loop-x l = record {

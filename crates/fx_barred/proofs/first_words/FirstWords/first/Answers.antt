@@ -1,4 +1,5 @@
-use Rattle.std.proofs.Common.{ℕ, ◌≡◌, ◌<◌, ◌≤◌, ◌+◌, ◌-◌, ◌*◌, ◌^◌, ◌∙◌, suc, length, slice_index, slice_index_or, mul-le-mul_right, sym, subst, ap, arith}
+use Rattle.std.proofs.Common.{ℕ, ◌≡◌, ◌<◌, ◌≤◌, ◌+◌, ◌-◌, ◌*◌, ◌^◌, ◌∙◌, suc, length, slice_index, slice_index_or}
+use Rattle.std.proofs.Common.{mul-le-mul_right, sym, subst, ap, arith}
 use Rattle.fx_designs.specs.Galois.{neg}
 use Rattle.fx_points.specs.Sums.{sum_of}
 use Rattle.fx_barred.specs.FirstWords.{FirstWordsView, IsFirst}
@@ -13,18 +14,25 @@ returns-else-found-eq0-clause-some c =
     let size : ℕ = r.q ^ r.m in
     let y : ℕ = c.minus.result in
     let found : ℕ = c.index-found.result.now in
-    let room : n < r.room = subst (λ (v : FirstWordsView). length v.rows < v.room) (sym c.self.view_is) c.requires.room in
+    let room : n < r.room =
+    subst (λ (v : FirstWordsView). length v.rows < v.room) (sym c.self.view_is) c.requires.room in
     let place : c.len.result * c.from-size.result + c.from.result ≡ n * size + y =
-    ap (λ (k : ℕ). k * c.from-size.result + c.from.result) c.len.ensures.count ∙ ap (λ (k : ℕ). n * k + c.from.result) (c.from-size.ensures ∙ c.size.ensures.points) ∙ ap (λ (k : ℕ). n * size + k) c.from.ensures in
+    ap (λ (k : ℕ). k * c.from-size.result + c.from.result) c.len.ensures.count ∙ ap (λ (k : ℕ). n * k + c.from.result)
+    (c.from-size.ensures ∙ c.size.ensures.points) ∙ ap (λ (k : ℕ). n * size + k) c.from.ensures in
     let wide = mul-le-mul_right size (let low : n + 1 ≤ r.room = omega arith in low) in
     let next : (n + 1) * size ≡ n * size + size = spread n size in
-    let there : n * size + y < length s.tables.items = omega (arith, c.minus.ensures.below, c.self.invariant.tables_len) in
+    let there : n * size + y < length s.tables.items =
+    omega (arith, c.minus.ensures.below, c.self.invariant.tables_len) in
     let read : found ≡ slice_index s.tables.items (n * size + y) =
-    c.index-found.ensures ∙ ap (λ (k : ℕ). slice_index_or s.tables.items k found) place ∙ at-any s.tables.items (n * size + y) found 0 there in
+    c.index-found.ensures ∙ ap (λ (k : ℕ). slice_index_or s.tables.items k found) place ∙ at-any s.tables.items
+    (n * size + y) found 0 there in
     let up : found ≡ suc (found - 1) = omega (arith, c.if-found-eq0.false) in
-    let first = (c.self.invariant.first n (omega arith) room).some y (found - 1) c.minus.ensures.below (sym read ∙ up) in
-    let at : IsFirst r.q r.m r.rows s.words n (sum_of r.q (neg r.q 1) r.m 0 c.args.row) (found - 1) = subst (λ (y : ℕ). IsFirst r.q r.m r.rows s.words n y (found - 1)) c.minus.ensures.negative first in
-    subst (λ (v : FirstWordsView). IsFirst v.q v.m v.rows v.words (length v.rows) (sum_of v.q (neg v.q 1) v.m 0 c.args.row) (found - 1)) c.self.view_is at
+    let first =
+    (c.self.invariant.first n (omega arith) room).some y (found - 1) c.minus.ensures.below (sym read ∙ up) in
+    let at : IsFirst r.q r.m r.rows s.words n (sum_of r.q (neg r.q 1) r.m 0 c.args.row) (found - 1) =
+    subst (λ (y : ℕ). IsFirst r.q r.m r.rows s.words n y (found - 1)) c.minus.ensures.negative first in
+    subst (λ (v : FirstWordsView). IsFirst v.q v.m v.rows v.words (length v.rows)
+    (sum_of v.q (neg v.q 1) v.m 0 c.args.row) (found - 1)) c.self.view_is at
   where
     spread : (n k : ℕ) → (n + 1) * k ≡ n * k + k
     spread n k = omega arith

@@ -1,4 +1,5 @@
-use Rattle.std.proofs.Common.{ℕ, ◌≡◌, ◌<◌, ◌≤◌, ◌+◌, ◌*◌, ◌^◌, ◌++◌, ◌∷◌, [], ◌∙◌, List, length, length-append, slice_index, refl, sym, subst, ap, arith}
+use Rattle.std.proofs.Common.{ℕ, ◌≡◌, ◌<◌, ◌≤◌, ◌+◌, ◌*◌, ◌^◌, ◌++◌, ◌∷◌, [], ◌∙◌, List, length, length-append}
+use Rattle.std.proofs.Common.{slice_index, refl, sym, subst, ap, arith}
 use Rattle.fx_demands.specs.declared.forbidden_list.ForbiddenVector.{ForbiddenVector}
 use Rattle.fx_barred.specs.Reached.{ReachedView}
 use Rattle.fx_barred.specs.FirstWords.{AreFirstWords, AreFirst}
@@ -15,17 +16,27 @@ invariant_of-self c =
     let now : c.push.new.self ≡ next = c.push.ensures in
     let old : c.as_mut_slice.result.now ≡ s.tables.items = c.as_mut_slice.ensures.value in
     let len : length c.fill.new.tables ≡ length s.tables.items = c.fill.ensures.len ∙ ap length old in
-    let new = written s.tables.len c.fill.new.tables s.tables.items len (omega (arith, c.fill.ensures.len, c.as_mut_slice.ensures.len)) in
-    let kept : (k : ℕ) → k < (length r.rows + 1) * r.q ^ r.m → slice_index c.fill.new.tables k ≡ slice_index s.tables.items k =
+    let new = written s.tables.len c.fill.new.tables s.tables.items len
+    (omega (arith, c.fill.ensures.len, c.as_mut_slice.ensures.len)) in
+    let kept : (k : ℕ) → k < (length r.rows + 1) * r.q ^ r.m
+    → slice_index c.fill.new.tables k ≡ slice_index s.tables.items k =
     λ k low.
-    c.fill.ensures.kept k (subst (λ (v : ReachedView). k < length v.rows * v.q ^ v.m) (sym now) (subst (λ (n : ℕ). k < n * r.q ^ r.m) (sym long) low))
+    c.fill.ensures.kept k
+    (subst (λ (v : ReachedView). k < length v.rows * v.q ^ v.m) (sym now)
+    (subst (λ (n : ℕ). k < n * r.q ^ r.m) (sym long) low))
     ∙ ap (λ (l : List ℕ). slice_index l k) old in
-    let first : AreFirst next.q next.m next.rows s.words (length r.rows + 1) (length s.words) ((length r.rows + 1) * r.q ^ r.m) c.fill.new.tables =
-    subst (λ (n : ℕ). AreFirst next.q next.m next.rows s.words n (length s.words) (n * r.q ^ r.m) c.fill.new.tables) long
-    (subst (λ (v : ReachedView). AreFirst v.q v.m v.rows s.words (length v.rows) (length s.words) (length v.rows * v.q ^ v.m) c.fill.new.tables) now
-    (subst (λ (l : List ForbiddenVector). AreFirst c.push.new.self.q c.push.new.self.m c.push.new.self.rows l (length c.push.new.self.rows) (length l) (length c.push.new.self.rows * c.push.new.self.q ^ c.push.new.self.m) c.fill.new.tables) c.as_slice.ensures c.fill.ensures.first)) in
+    let first : AreFirst next.q next.m next.rows s.words (length r.rows + 1) (length s.words)
+    ((length r.rows + 1) * r.q ^ r.m) c.fill.new.tables =
+    subst (λ (n : ℕ). AreFirst next.q next.m next.rows s.words n (length s.words) (n * r.q ^ r.m) c.fill.new.tables)
+    long
+    (subst (λ (v : ReachedView). AreFirst v.q v.m v.rows s.words (length v.rows) (length s.words)
+    (length v.rows * v.q ^ v.m) c.fill.new.tables) now
+    (subst (λ (l : List ForbiddenVector). AreFirst c.push.new.self.q c.push.new.self.m c.push.new.self.rows l
+    (length c.push.new.self.rows) (length l) (length c.push.new.self.rows * c.push.new.self.q ^ c.push.new.self.m)
+    c.fill.new.tables) c.as_slice.ensures c.fill.ensures.first)) in
     subst (λ (l : List ℕ). AreFirstWords c.push.new.self s.words l) (sym new)
-    (subst (λ (v : ReachedView). AreFirstWords v s.words c.fill.new.tables) (sym now) (words_push r c.args.row s.words s.tables.items c.fill.new.tables c.self.invariant len kept (λ more. first)))
+    (subst (λ (v : ReachedView). AreFirstWords v s.words c.fill.new.tables) (sym now)
+    (words_push r c.args.row s.words s.tables.items c.fill.new.tables c.self.invariant len kept (λ more. first)))
 
 pub invariant_of-self-else-len-room : goal.invariant_of-self-else-len-room
 invariant_of-self-else-len-room c =
@@ -35,6 +46,9 @@ invariant_of-self-else-len-room c =
     let long = length-append r.rows (c.args.row ∷ []) in
     let now : c.push.new.self ≡ next = c.push.ensures in
     let full : r.room ≤ length r.rows + 1 =
-    subst (λ (n : ℕ). r.room ≤ n) long (subst (λ (v : ReachedView). v.room ≤ length v.rows) now (omega (arith, c.room.ensures.room, c.len.ensures.count, c.if-len-room.false))) in
+    subst (λ (n : ℕ). r.room ≤ n) long
+    (subst (λ (v : ReachedView). v.room ≤ length v.rows) now
+    (omega (arith, c.room.ensures.room, c.len.ensures.count, c.if-len-room.false))) in
     subst (λ (v : ReachedView). AreFirstWords v s.words s.tables.items) (sym now)
-    (words_push r c.args.row s.words s.tables.items s.tables.items c.self.invariant refl (λ k low. refl) (λ more. absurd (omega arith)))
+    (words_push r c.args.row s.words s.tables.items s.tables.items c.self.invariant refl (λ k low. refl)
+    (λ more. absurd (omega arith)))

@@ -9,4 +9,7 @@ loop-j-init c =
     let s = c.self.inside in
     let f = is_order-field s.sums.q c.self.invariant.order in
     let some : 0 < s.sums.q = omega (arith, f.more_than_one) in
-    record { point = subst (λ (v : ReachedView). 0 < v.q ^ v.m) c.self.view_is (power-some s.sums.q s.sums.m some); so_far = refl }
+    record {
+      point = subst (λ (v : ReachedView). 0 < v.q ^ v.m) c.self.view_is (power-some s.sums.q s.sums.m some);
+      so_far = refl;
+    }

@@ -11,9 +11,12 @@ overflow_add-result c =
     let n : ℕ = length c.self.inside.rows.items in
     let f = is_order-field s.sums.q c.self.invariant.order in
     let space : n < s.room = subst (λ (v : ReachedView). length v.rows < v.room) (sym c.self.view_is) c.requires.room in
-    let word : c.args.number < s.sums.q ^ n = subst (λ (v : ReachedView). c.args.number < v.q ^ length v.rows) (sym c.self.view_is) c.requires.word in
+    let word : c.args.number < s.sums.q ^ n =
+    subst (λ (v : ReachedView). c.args.number < v.q ^ length v.rows) (sym c.self.view_is) c.requires.word in
     let read : c.index.result.now ≡ s.sums.q ^ c.len.result =
-    c.index.ensures ∙ at-any s.powers.items c.len.result c.index.result.now 0 (omega (arith, c.len.ensures.value, c.self.invariant.powers_len, space)) ∙ c.self.invariant.powers_are c.len.result (omega (arith, c.len.ensures.value, space)) in
+    c.index.ensures ∙ at-any s.powers.items c.len.result c.index.result.now 0
+    (omega (arith, c.len.ensures.value, c.self.invariant.powers_len, space)) ∙ c.self.invariant.powers_are
+    c.len.result (omega (arith, c.len.ensures.value, space)) in
     let at : c.index.result.now ≡ s.sums.q ^ n = read ∙ ap (λ k. s.sums.q ^ k) c.len.ensures.value in
     let fits = power-fits s.sums.q (suc n) c.self.invariant.small (omega (arith, space, c.self.invariant.rows_fit)) in
     let up = pow-succ' s.sums.q n in

@@ -9,11 +9,13 @@ pub invariant_of-self : goal.invariant_of-self
 invariant_of-self c =
     let room = rw (← c.self.view_is) at c.requires.room in
     let counted = c.self.invariant.counted in
-    append_keeps _ _ _ _ _ _ _ _ _ _ _ _ _ _ c.self.invariant (search rules) c.in-Ok.ensures.items c.in-Some.ensures.items c.push_reserved.ensures.items
+    append_keeps _ _ _ _ _ _ _ _ _ _ _ _ _ _ c.self.invariant (search rules) c.in-Ok.ensures.items
+    c.in-Some.ensures.items c.push_reserved.ensures.items
     (omega arith) c.in-Ok.ensures.capacity (sym (c.push_reserved.ensures.capacity ∙ c.in-Some.ensures.capacity))
 
 pub returns-clause-after : goal.returns-clause-after
-returns-clause-after c = rw (← c.self.view_is, c.in-Ok.ensures.items, c.in-Some.ensures.items, c.push_reserved.ensures.items)
+returns-clause-after c =
+    rw (← c.self.view_is, c.in-Ok.ensures.items, c.in-Some.ensures.items, c.push_reserved.ensures.items)
     (ap (λ (files : List File). record { files = files; room = c.self.inside.room })
     (files_longer _ _ _ _ _ (search rules) (rw c.in-Some.ensures.items at c.self.invariant.within)
     (last_of _ c.pop.new.self.items c.in-Some.last (rw c.in-Some.ensures.items at c.self.invariant.last))))

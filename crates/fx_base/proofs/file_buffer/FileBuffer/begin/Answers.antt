@@ -9,7 +9,8 @@ pub invariant_of-self : goal.invariant_of-self
 invariant_of-self c =
     let room = rw (← c.self.view_is) at c.requires.room in
     let counted = c.self.invariant.counted in
-    begin_keeps _ _ _ _ _ _ _ _ _ _ _ _ _ c.self.invariant (search rules) (search rules) c.in-Ok.ensures.items c.push_reserved.ensures.items
+    begin_keeps _ _ _ _ _ _ _ _ _ _ _ _ _ c.self.invariant (search rules) (search rules) c.in-Ok.ensures.items
+    c.push_reserved.ensures.items
     c.requires.name (omega arith) c.in-Ok.ensures.capacity (sym c.push_reserved.ensures.capacity)
 
 pub returns-clause-after : goal.returns-clause-after

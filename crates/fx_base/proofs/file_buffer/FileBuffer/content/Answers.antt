@@ -14,4 +14,5 @@ pub returns : goal.returns
 returns c =
     let asked = rw (← c.self.view_is) at c.requires in
     let there = rw length-map at asked in
-    rw (← c.self.view_is, c.part.ensures, c.deref.ensures.value) (part_here (λ (f : File). f.content) _ _ _ _ there c.index-at.ensures)
+    rw (← c.self.view_is, c.part.ensures, c.deref.ensures.value)
+    (part_here (λ (f : File). f.content) _ _ _ _ there c.index-at.ensures)

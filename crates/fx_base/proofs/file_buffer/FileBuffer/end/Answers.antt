@@ -15,7 +15,9 @@ returns-clause-after c = rw (← c.self.view_is, c.in-Some.ensures.items, c.push
     (ap (λ (files : List File). record { files = files; room = c.self.inside.room }) (files_closed _ _ _))
 
 pub returns-clause-ended : goal.returns-clause-ended
-returns-clause-ended c = ap (λ (s : FilesInMemory). has_open s.files) (returns-clause-after c) ∙ open_ended c.args.self.now.files
+returns-clause-ended c =
+    ap (λ (s : FilesInMemory). has_open s.files) (returns-clause-after c) ∙ open_ended c.args.self.now.files
 
 pub returns-clause-taken : goal.returns-clause-taken
-returns-clause-taken c = ap (λ (s : FilesInMemory). room_of s.files) (returns-clause-after c) ∙ room_ended c.args.self.now.files
+returns-clause-taken c =
+    ap (λ (s : FilesInMemory). room_of s.files) (returns-clause-after c) ∙ room_ended c.args.self.now.files

@@ -9,10 +9,14 @@ part-requires c =
     let asked = rw (← c.self.view_is) at c.requires in
     let there = rw length-map at asked in
     let w = within_here _ _ _ _ c.self.invariant.within there c.index-at.ensures in
-    record { order = w.name; within = rw c.deref.ensures.value (let content = w.content in let end = w.end in omega arith) }
+    record {
+      order = w.name;
+      within = rw c.deref.ensures.value (let content = w.content in let end = w.end in omega arith);
+    }
 
 pub returns : goal.returns
 returns c =
     let asked = rw (← c.self.view_is) at c.requires in
     let there = rw length-map at asked in
-    rw (← c.self.view_is, c.part.ensures, c.deref.ensures.value) (part_here (λ (f : File). f.name) _ _ _ _ there c.index-at.ensures)
+    rw (← c.self.view_is, c.part.ensures, c.deref.ensures.value)
+    (part_here (λ (f : File). f.name) _ _ _ _ there c.index-at.ensures)

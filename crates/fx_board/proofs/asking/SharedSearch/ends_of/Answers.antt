@@ -22,7 +22,10 @@ ends-requires-clause-jobs g c κs within =
         earlier_is = c.earlier.ensures.rows;
         sized = c.earlier.ensures.sized;
       };
-      rows_are = next-are w.question.now h.placed.valid w.prefix.rows w.bound jobs.rows jobs.end c.requires.next h.placed.bound;
+      rows_are =
+          next-are w.question.now h.placed.valid w.prefix.rows w.bound jobs.rows jobs.end c.requires.next
+          h.placed.bound;
     } in
-    subst (λ (m : MatrixView). AreJobsOf c.args.self.now.question.now c.candidates.result.now m jobs.rows earlier) (sym c.lot.ensures)
+    subst (λ (m : MatrixView). AreJobsOf c.args.self.now.question.now c.candidates.result.now m jobs.rows earlier)
+    (sym c.lot.ensures)
     (subst (λ (z : Question). AreJobsOf z c.candidates.result.now w.prefix jobs.rows earlier) c.requires.question made)

@@ -12,10 +12,12 @@ use Rattle.fx_board.proofs.lot_jobs.LotJobs.ends.Goals as goal
 -- the ends by number, as those of the jobs in order
 abbrev AreByNumber : Question → List ℕ → List ℕ → ℕ → ℕ → List JobEnd → Type 0
 AreByNumber question lot rows limit count ends =
-    AreEndsFrom (λ n k end. IsEndOfJob question (job_at lot rows n) k end) (λ n. length (nodes_inside (problem_of question) (job_at lot rows n))) limit count 0 ends
+    AreEndsFrom (λ n k end. IsEndOfJob question (job_at lot rows n) k end)
+    (λ n. length (nodes_inside (problem_of question) (job_at lot rows n))) limit count 0 ends
 
 pub share-requires-clause-count : goal.share-requires-clause-count
-share-requires-clause-count g c κs within = (c.len-count.ensures, omega (arith, c.len-count.ensures, c.requires.jobs.rows_are.few))
+share-requires-clause-count g c κs within =
+    (c.len-count.ensures, omega (arith, c.len-count.ensures, c.requires.jobs.rows_are.few))
 
 pub returns-clause-ends : goal.returns-clause-ends
 returns-clause-ends g c =
@@ -23,8 +25,10 @@ returns-clause-ends g c =
     let l : List ℕ = s.lot.now.rows in
     let rows : List ℕ = s.rows.now in
     IfOk-weaker c.share.result _ _ (λ worked h.
-    let all : AreByNumber s.question.now l rows c.args.limit (length rows) worked.ends = subst (λ n. AreByNumber s.question.now l rows c.args.limit n worked.ends) c.len-count.ensures h in
-    (ends-are s.question.now c.requires.jobs.lot_is.valid l c.requires.jobs.lot_is.is_lot rows c.requires.jobs.rows_are c.args.limit [] rows worked.ends refl all).0) c.share.ensures.ends
+    let all : AreByNumber s.question.now l rows c.args.limit (length rows) worked.ends =
+    subst (λ n. AreByNumber s.question.now l rows c.args.limit n worked.ends) c.len-count.ensures h in
+    (ends-are s.question.now c.requires.jobs.lot_is.valid l c.requires.jobs.lot_is.is_lot rows c.requires.jobs.rows_are
+    c.args.limit [] rows worked.ends refl all).0) c.share.ensures.ends
 
 pub returns-clause-sized : goal.returns-clause-sized
 returns-clause-sized g c =
@@ -32,11 +36,15 @@ returns-clause-sized g c =
     let l : List ℕ = s.lot.now.rows in
     let rows : List ℕ = s.rows.now in
     IfOk-weaker c.share.result _ _ (λ worked h.
-    let all : AreByNumber s.question.now l rows c.args.limit (length rows) worked.ends = subst (λ n. AreByNumber s.question.now l rows c.args.limit n worked.ends) c.len-count.ensures h in
-    (ends-are s.question.now c.requires.jobs.lot_is.valid l c.requires.jobs.lot_is.is_lot rows c.requires.jobs.rows_are c.args.limit [] rows worked.ends refl all).1) c.share.ensures.ends
+    let all : AreByNumber s.question.now l rows c.args.limit (length rows) worked.ends =
+    subst (λ n. AreByNumber s.question.now l rows c.args.limit n worked.ends) c.len-count.ensures h in
+    (ends-are s.question.now c.requires.jobs.lot_is.valid l c.requires.jobs.lot_is.is_lot rows c.requires.jobs.rows_are
+    c.args.limit [] rows worked.ends refl all).1) c.share.ensures.ends
 
 pub share-requires-clause-ready : goal.share-requires-clause-ready
-share-requires-clause-ready g c κs within = λ worker has. record { jobs = c.requires.jobs; searcher = c.requires.searchers worker has }
+share-requires-clause-ready g c κs within =
+    λ worker has. record { jobs = c.requires.jobs; searcher = c.requires.searchers worker has }
 
 pub returns-clause-searchers : goal.returns-clause-searchers
-returns-clause-searchers g c = IfOk-weaker c.share.result _ _ (λ worked h worker has. (h worker has).searcher) c.share.ensures.ready
+returns-clause-searchers g c =
+    IfOk-weaker c.share.result _ _ (λ worked h worker has. (h worker has).searcher) c.share.ensures.ready

@@ -13,7 +13,8 @@ use Rattle.fx_language.proofs.effects.EffectPlace.next.Goals as goal
 
 -- a name begins a range of names, or a product
 first_name : (b : Bool) (list : EffectList)
-    → or_else (cond b Empty Never ▸ key Minus ▸ name) (cond b Empty Never ▸ Many (key Star ▸ name) ▸ crossed) ▸ more_effects list
+    → or_else (cond b Empty Never ▸ key Minus ▸ name) (cond b Empty Never ▸ Many (key Star ▸ name) ▸ crossed)
+    ▸ more_effects list
     ≡ shape_left (if b then Some (Effects list place.Name) else None)
 first_name true list = refl
 first_name false list = refl
@@ -37,7 +38,8 @@ returns-in-First c =
     ∙ ap shape_left (sym c.any_word.ensures)
 
 pub returns-in-Name : goal.returns-in-Name
-returns-in-Name c = ap (λ place. after c.args.symbol (effects_left c.args.list place)) c.in-Name.is ∙ c.behind_name.ensures
+returns-in-Name c =
+    ap (λ place. after c.args.symbol (effects_left c.args.list place)) c.in-Name.is ∙ c.behind_name.ensures
 
 pub returns-in-Range : goal.returns-in-Range
 returns-in-Range c =
@@ -52,7 +54,8 @@ returns-in-Factor c =
     ∙ ap shape_left (sym c.any_word-in-Factor.ensures)
 
 pub returns-in-Product : goal.returns-in-Product
-returns-in-Product c = ap (λ place. after c.args.symbol (effects_left c.args.list place)) c.in-Product.is ∙ c.behind_product.ensures
+returns-in-Product c =
+    ap (λ place. after c.args.symbol (effects_left c.args.list place)) c.in-Product.is ∙ c.behind_product.ensures
 
 pub returns-in-Bound : goal.returns-in-Bound
 returns-in-Bound c =
@@ -61,4 +64,5 @@ returns-in-Bound c =
     ∙ ap shape_left (sym c.only-in-Bound.ensures)
 
 pub returns-in-More : goal.returns-in-More
-returns-in-More c = ap (λ place. after c.args.symbol (effects_left c.args.list place)) c.in-More.is ∙ c.behind_effect.ensures
+returns-in-More c =
+    ap (λ place. after c.args.symbol (effects_left c.args.list place)) c.in-More.is ∙ c.behind_effect.ensures

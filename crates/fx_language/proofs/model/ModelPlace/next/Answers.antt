@@ -27,7 +27,8 @@ returns-in-Equals c =
     ∙ ap shape_left (sym c.only.ensures)
 
 pub returns-in-Slash : goal.returns-in-Slash
-returns-in-Slash c = ap (λ place. after c.args.symbol (model_left place)) c.in-Slash.is ∙ c.option_or_end-in-Slash.ensures
+returns-in-Slash c =
+    ap (λ place. after c.args.symbol (model_left place)) c.in-Slash.is ∙ c.option_or_end-in-Slash.ensures
 
 pub returns-in-Option : goal.returns-in-Option
 returns-in-Option c =

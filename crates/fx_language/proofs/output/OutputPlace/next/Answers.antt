@@ -42,7 +42,8 @@ returns-in-Replication c =
     ∙ ap shape_left (sym c.only-in-Replication.ensures)
 
 pub returns-in-Randomize : goal.returns-in-Randomize
-returns-in-Randomize c = ap (λ place. after c.args.symbol (output_left place)) c.in-Randomize.is ∙ c.seed_or_option.ensures
+returns-in-Randomize c =
+    ap (λ place. after c.args.symbol (output_left place)) c.in-Randomize.is ∙ c.seed_or_option.ensures
 
 pub returns-in-Seed : goal.returns-in-Seed
 returns-in-Seed c =
@@ -69,10 +70,12 @@ returns-in-BlockColumn c =
     ∙ ap shape_left (sym c.any_word-in-BlockColumn.ensures)
 
 pub returns-in-BlockValues : goal.returns-in-BlockValues
-returns-in-BlockValues c = ap (λ place. after c.args.symbol (output_left place)) c.in-BlockValues.is ∙ c.values_or_option.ensures
+returns-in-BlockValues c =
+    ap (λ place. after c.args.symbol (output_left place)) c.in-BlockValues.is ∙ c.values_or_option.ensures
 
 pub returns-in-ValuesOrFactor : goal.returns-in-ValuesOrFactor
-returns-in-ValuesOrFactor c = ap (λ place. after c.args.symbol (output_left place)) c.in-ValuesOrFactor.is ∙ c.rest_or_values.ensures
+returns-in-ValuesOrFactor c =
+    ap (λ place. after c.args.symbol (output_left place)) c.in-ValuesOrFactor.is ∙ c.rest_or_values.ensures
 
 pub returns-in-Factor : goal.returns-in-Factor
 returns-in-Factor c = ap (λ place. after c.args.symbol (output_left place)) c.in-Factor.is ∙ c.values.ensures

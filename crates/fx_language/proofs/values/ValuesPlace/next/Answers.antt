@@ -36,7 +36,8 @@ pub returns-in-Unsigned : goal.returns-in-Unsigned
 returns-in-Unsigned c = ap (λ place. after c.args.symbol (values_left place)) c.in-Unsigned.is ∙ c.unsigned.ensures
 
 pub returns-in-MoreNumbers : goal.returns-in-MoreNumbers
-returns-in-MoreNumbers c = ap (λ place. after c.args.symbol (values_left place)) c.in-MoreNumbers.is ∙ c.number_or_end.ensures
+returns-in-MoreNumbers c =
+    ap (λ place. after c.args.symbol (values_left place)) c.in-MoreNumbers.is ∙ c.number_or_end.ensures
 
 pub returns-in-Text : goal.returns-in-Text
 returns-in-Text c =

@@ -11,7 +11,9 @@ use Rattle.fx_vectors.proofs.matrix.Matrix.sum.Goals as goal
 use Rattle.fx_vectors.proofs.matrix.Matrix.sum.Goals.{After-from-m}
 
 field_of : (c : After-from-m) → IsField c.field-field.result
-field_of c = is_order-field c.field-field.result (subst (λ q. IsTrue (is_order q)) (sym c.field-field.ensures) c.self.invariant.shaped.order)
+field_of c =
+    is_order-field c.field-field.result
+    (subst (λ q. IsTrue (is_order q)) (sym c.field-field.ensures) c.self.invariant.shaped.order)
 
 pub zero-sum-requires : goal.zero-sum-requires
 zero-sum-requires c = omega (arith, indexes_fit c.self.inside.shape c.self.invariant.shaped)
@@ -32,18 +34,28 @@ pub loop-i-preserved : goal.loop-i-preserved
 loop-i-preserved c =
     let f : IsField c.field-field.result = field_of (goal.at.loop-i-preserved c).After-from-m in
     record {
-      vector = subst (λ n. IsVector c.field-field.result n c.add_scaled.new.self) c.loop-i.invariant.vector.len c.add_scaled.ensures.vector;
+      vector = subst (λ n. IsVector c.field-field.result n c.add_scaled.new.self) c.loop-i.invariant.vector.len
+          c.add_scaled.ensures.vector;
       so_far =
-          rw (c.add_scaled.ensures.sum, c.of_number-row.ensures.digits, c.code.ensures, c.from.ensures, c.row.ensures.row)
-          (sum_more c.field-field.result c.from-m.result f c.args.u.now c.args.self.now.rows c.loop-i.i c.loop-i.sum (omega (arith, c.requires.len)) (omega arith)
+          rw (
+            c.add_scaled.ensures.sum,
+            c.of_number-row.ensures.digits,
+            c.code.ensures,
+            c.from.ensures,
+            c.row.ensures.row,
+          )
+          (sum_more c.field-field.result c.from-m.result f c.args.u.now c.args.self.now.rows c.loop-i.i c.loop-i.sum
+          (omega (arith, c.requires.len)) (omega arith)
           ∙ c.loop-i.invariant.so_far);
     }
 
 pub returns-clause-sum : goal.returns-clause-sum
 returns-clause-sum c =
     let f : IsField c.field-field.result = field_of (goal.at.returns-clause-sum c).After-from-m in
-    let q : c.field-field.result ≡ c.args.self.now.shape.q = c.field-field.ensures ∙ ap (λ (z : MatrixView). z.shape.q) c.self.view_is in
-    let m : c.from-m.result ≡ c.args.self.now.shape.m = c.from-m.ensures ∙ ap (λ (z : MatrixView). z.shape.m) c.self.view_is in
+    let q : c.field-field.result ≡ c.args.self.now.shape.q =
+    c.field-field.ensures ∙ ap (λ (z : MatrixView). z.shape.q) c.self.view_is in
+    let m : c.from-m.result ≡ c.args.self.now.shape.m =
+    c.from-m.ensures ∙ ap (λ (z : MatrixView). z.shape.m) c.self.view_is in
     let all =
     sum_past c.field-field.result c.from-m.result f c.args.u.now c.args.self.now.rows c.loop-i.i c.loop-i.sum _
     (omega (arith, c.requires.len)) c.loop-i.invariant.vector c.loop-i.invariant.so_far in

@@ -7,13 +7,16 @@ use Rattle.fx_vectors.proofs.vector.Vector.number.Goals.{In-loop-i}
 
 -- the number of the codes from the one before i on, of which the loop has that from i on
 next_is : (c : In-loop-i)
-    → c.loop-i.number * c.from-q.result + get_or c.args.self.now (c.loop-i.i - 1) 0 ≡ number c.args.field (drop (c.loop-i.i - 1) c.args.self.now)
+    → c.loop-i.number * c.from-q.result + get_or c.args.self.now (c.loop-i.i - 1) 0
+    ≡ number c.args.field (drop (c.loop-i.i - 1) c.args.self.now)
 next_is c =
     let q : c.from-q.result ≡ c.args.field = c.from-q.ensures ∙ c.q.ensures.order in
     rw (q, c.loop-i.invariant) (number_before c.args.field c.args.self.now c.loop-i.i c.loop-i-test.true (omega arith))
 
 next_fits : (c : In-loop-i) → c.loop-i.number * c.from-q.result + get_or c.args.self.now (c.loop-i.i - 1) 0 < 2 ^ 128
-next_fits c = rw (next_is c) (number_fits c.args.field _ c.args.self.now (c.loop-i.i - 1) c.q.ensures.most (omega arith) c.requires)
+next_fits c =
+    rw (next_is c)
+    (number_fits c.args.field _ c.args.self.now (c.loop-i.i - 1) c.q.ensures.most (omega arith) c.requires)
 
 pub overflow_mul-number : goal.overflow_mul-number
 overflow_mul-number c = omega (arith, next_fits c)

@@ -9,13 +9,21 @@ pub invariant_of-result : goal.invariant_of-result
 invariant_of-result c =
     let s : Shape = c.args.shape in
     let made : List ℕ = replicate 41 (c.from.result + 1) in
-    let full : (k : ℕ) → k ≤ s.s → slice_index made k ≡ s.s + 1 = λ k hk. at-alike 41 (c.from.result + 1) k (omega (arith, c.requires.factors)) ∙ ap (λ n. n + 1) c.from.ensures in
-    let start : AreCounts s c.in_ok-classes.classes.points [] c.in_ok-counts.counts.items made = c.in_ok-counts.ensures made (omega (arith, c.requires.factors)) full in
-    let classes : AreOf s c.in_ok-classes.classes = record { levels = c.in_ok-classes.ensures.levels ∙ c.field.ensures; indexes = c.in_ok-classes.ensures.indexes } in
+    let full : (k : ℕ) → k ≤ s.s → slice_index made k ≡ s.s + 1 =
+    λ k hk. at-alike 41 (c.from.result + 1) k (omega (arith, c.requires.factors)) ∙ ap (λ n. n + 1) c.from.ensures
+    in
+    let start : AreCounts s c.in_ok-classes.classes.points [] c.in_ok-counts.counts.items made =
+    c.in_ok-counts.ensures made (omega (arith, c.requires.factors)) full in
+    let classes : AreOf s c.in_ok-classes.classes =
+    record { levels = c.in_ok-classes.ensures.levels ∙ c.field.ensures; indexes = c.in_ok-classes.ensures.indexes }
+    in
     let shape : c.new.result.shape ≡ s = ap (λ (z : MatrixView). z.shape) c.new.ensures in
     let rows : c.new.result.rows ≡ [] = ap (λ (z : MatrixView). z.rows) c.new.ensures in
     record {
       classes = subst (λ (z : Shape). AreOf z c.in_ok-classes.classes) (sym shape) classes;
-      counts = subst (λ (v : List ℕ). AreCounts c.new.result.shape c.in_ok-classes.classes.points v c.in_ok-counts.counts.items made) (sym rows)
-          (subst (λ (z : Shape). AreCounts z c.in_ok-classes.classes.points [] c.in_ok-counts.counts.items made) (sym shape) start);
+      counts = subst
+          (λ (v : List ℕ). AreCounts c.new.result.shape c.in_ok-classes.classes.points v c.in_ok-counts.counts.items
+          made) (sym rows)
+          (subst (λ (z : Shape). AreCounts z c.in_ok-classes.classes.points [] c.in_ok-counts.counts.items made)
+          (sym shape) start);
     }
