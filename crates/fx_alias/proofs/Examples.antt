@@ -22,7 +22,12 @@ use Rattle.fx_alias.specs.Blocked.{blocked_section}
 use Rattle.fx_alias.specs.Points.{design_section}
 use Rattle.fx_alias.specs.Heads.{head_lines}
 use Rattle.fx_alias.specs.Products.{product}
-use Rattle.fx_alias.specs.Rules.{rules}
+use Rattle.fx_alias.specs.ComponentOrder.{is_before}
+use Rattle.fx_alias.specs.Rules.{rule_line, rules}
+use Rattle.fx_designs.specs.Canonical.{is_canonical}
+use Rattle.fx_designs.specs.Spans.{in_span}
+use Rattle.fx_designs.specs.Problems.{AtResolution}
+use Rattle.fx_tree.specs.Introduced.{introducing}
 use Rattle.fx_alias.specs.Patterns.{pattern_lines}
 
 abbrev size : ℕ → ℕ → ℕ → Dimensions
@@ -184,3 +189,20 @@ confounded :
     × (blocked_section (codes "A" ∷ codes "B" ∷ []) (two_factors 0) (components 2 2 2) ≡ codes "blocked\n  none\n")
 unfolding digits is_constant is_constant_in_blocks runs_of add mul neg prime_of degree_of reduction_of
 confounded = (refl, refl)
+
+-- the fraction D = A*B*C of eight runs: canonical, with a rule for its last row alone, over the three names before it
+a_rule :
+    (is_canonical (size 2 3 4) (AtResolution 4) (1 ∷ 2 ∷ 4 ∷ 7 ∷ []) ≡ true)
+    × (introducing 2 0 (1 ∷ 2 ∷ 4 ∷ 7 ∷ []) (codes "A" ∷ codes "B" ∷ codes "C" ∷ codes "D" ∷ [])
+    ≡ codes "A" ∷ codes "B" ∷ codes "C" ∷ [])
+    × (rule_line 2 3 (codes "A" ∷ codes "B" ∷ codes "C" ∷ []) (record { name = codes "D"; is_block = false }) 7
+    ≡ codes "  D = A*B*C\n")
+unfolding is_canonical in_span digits add degree_of mul prime_of reduction_of
+a_rule = (refl, refl, refl)
+
+-- with fewer factors; with a first factor of its own; with the same factors and the less number
+an_order :
+    (is_before 3 (0 ∷ 1 ∷ 0 ∷ []) (1 ∷ 1 ∷ 0 ∷ []) ≡ true) × (is_before 3 (1 ∷ 1 ∷ 0 ∷ []) (0 ∷ 1 ∷ 0 ∷ []) ≡ false)
+    × (is_before 3 (1 ∷ 0 ∷ 1 ∷ []) (0 ∷ 1 ∷ 1 ∷ []) ≡ true) × (is_before 3 (0 ∷ 1 ∷ 1 ∷ []) (1 ∷ 0 ∷ 1 ∷ []) ≡ false)
+    × (is_before 3 (1 ∷ 1 ∷ 0 ∷ []) (2 ∷ 1 ∷ 0 ∷ []) ≡ true) × (is_before 3 (1 ∷ 1 ∷ 0 ∷ []) (1 ∷ 1 ∷ 0 ∷ []) ≡ false)
+an_order = (refl, refl, refl, refl, refl, refl)

@@ -12,7 +12,7 @@ use Rattle.fx_designs.specs.Components.{choose, component_count, listed_count}
 use Rattle.fx_designs.specs.Components.{supports, codes_before, normal_vectors, components}
 
 -- how many factors are in a set
-abbrev trues : List Bool → ℕ
+abbrev pub trues : List Bool → ℕ
 trues [] = 0
 trues (true ∷ b) = suc (trues b)
 trues (false ∷ b) = trues b
@@ -30,12 +30,12 @@ each : {X : Type 0} (P : X → Type 0) (xs : List X) → ((x : X) → P x) → A
 each P [] h = tt
 each P (x ∷ xs) h = (h x, each P xs h)
 
-any_true : (b : List Bool) → list_any (λ x. x) b ≡ true → 0 < trues b
+pub any_true : (b : List Bool) → list_any (λ x. x) b ≡ true → 0 < trues b
 any_true [] e = absurd (search rules)
 any_true (true ∷ b) e = omega arith
 any_true (false ∷ b) e = any_true b e
 
-none_true : (b : List Bool) → list_any (λ x. x) b ≡ false → trues b ≡ 0
+pub none_true : (b : List Bool) → list_any (λ x. x) b ≡ false → trues b ≡ 0
 none_true [] e = refl
 none_true (true ∷ b) e = absurd (search rules)
 none_true (false ∷ b) e = none_true b e
@@ -94,7 +94,7 @@ less g n [] h = tt
 less g n (x ∷ xs) h = (ap suc h.0, less g n xs h.1)
 
 -- a set of k factors has k of them
-all_of : (k s : ℕ) → AllByRecursion (λ b. trues b ≡ k) (supports k s)
+pub all_of : (k s : ℕ) → AllByRecursion (λ b. trues b ≡ k) (supports k s)
 all_of zero zero = (refl, tt)
 all_of (suc k) zero = tt
 all_of zero (suc s) = mapped (λ b. trues b ≡ 0) (λ set. false ∷ set) (supports zero s) (all_of zero s)

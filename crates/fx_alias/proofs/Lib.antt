@@ -12,3 +12,6 @@ mod Walk
 mod Enumerating
 mod Heads
 mod Subjects
+mod Exact
+mod Rising
+mod RuleLines

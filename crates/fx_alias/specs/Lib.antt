@@ -2,6 +2,7 @@ pub mod Heads
 pub mod Products
 pub mod Rules
 pub mod Classes
+pub mod ComponentOrder
 pub mod ClassNumbers
 pub mod Aliasing
 pub mod Points

@@ -22,7 +22,8 @@ pub use design::design_listing;
 pub use head::head_listing;
 pub use laws::{
     aliased_where_class_numbers_agree, aliased_where_sums_are_multiples, classes_by_number,
-    components_are_counted, each_component_once,
+    components_are_counted, components_are_the_normal_vectors, each_component_once,
+    each_row_has_its_rule,
 };
 pub use pattern::pattern_listing;
 pub use rules::rules_listing;
