@@ -9,3 +9,4 @@ pub mod Arranged
 pub mod Words
 pub mod Totals
 pub mod Rows
+mod Designs
