@@ -50,12 +50,7 @@ pub fn blocked_listing(
 }
 
 /// Appends the section.
-pub(crate) fn put_section(
-    alloc: Global,
-    step: &Step,
-    matrix: &Matrix,
-    out: &mut Bytes,
-) -> Result<(), NoMemory>
+fn put_section(alloc: Global, step: &Step, matrix: &Matrix, out: &mut Bytes) -> Result<(), NoMemory>
     requires complete { length matrix.now.rows ≡ matrix.now.shape.s + matrix.now.shape.t }
     requires factors { matrix.now.shape.s ≡ length step.now.factors }
     requires few { matrix.now.shape.q ^ matrix.now.shape.t ≤ 1024 }

@@ -39,12 +39,7 @@ pub fn design_listing(
 }
 
 /// Appends the section.
-pub(crate) fn put_section(
-    alloc: Global,
-    step: &Step,
-    matrix: &Matrix,
-    out: &mut Bytes,
-) -> Result<(), NoMemory>
+fn put_section(alloc: Global, step: &Step, matrix: &Matrix, out: &mut Bytes) -> Result<(), NoMemory>
     requires complete { length matrix.now.rows ≡ matrix.now.shape.s + matrix.now.shape.t }
     requires few { matrix.now.shape.q ^ matrix.now.shape.t ≤ 1024 }
     ensures { OnOk result

@@ -28,7 +28,7 @@ pub fn pattern_listing(alloc: Global, matrix: &Matrix, out: &mut Bytes) -> Resul
 }
 
 /// Appends the section.
-pub(crate) fn put_section(alloc: Global, matrix: &Matrix, out: &mut Bytes) -> Result<(), NoMemory>
+fn put_section(alloc: Global, matrix: &Matrix, out: &mut Bytes) -> Result<(), NoMemory>
     ensures { OnOk result
         (out.new
         ≡ out.old

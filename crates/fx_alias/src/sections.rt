@@ -10,7 +10,10 @@ ghost use Rattle.fx_alias.specs.Patterns.{pattern_lines};
 ghost use Rattle.fx_alias.specs.Points.{design_section};
 ghost use Rattle.fx_alias.specs.Sections.{examined};
 
-use crate::{aliasing, blocked, design, pattern};
+use crate::aliasing::alias_listing;
+use crate::blocked::blocked_listing;
+use crate::design::design_listing;
+use crate::pattern::pattern_listing;
 use fx_base::{Bytes, NoMemory, put};
 use fx_statements::Step;
 use fx_vectors::Matrix;
@@ -71,7 +74,7 @@ fn put_design(alloc: Global, step: &Step, matrix: &Matrix, out: &mut Bytes) -> R
         then design_section step.now.factors (design_of matrix.now) else [])) }
 {
     if step.examine.design {
-        design::put_section(alloc, step, matrix, out)
+        design_listing(alloc, step, matrix, out)
     } else {
         Ok(())
     }
@@ -88,7 +91,7 @@ fn put_aliases(alloc: Global, step: &Step, matrix: &Matrix, out: &mut Bytes) -> 
         (listed matrix.now.shape.q matrix.now.shape.s (goal_of step.now.wanted)) else [])) }
 {
     if step.examine.aliasing {
-        aliasing::put_section(alloc, step, matrix, out)
+        alias_listing(alloc, step, matrix, out)
     } else {
         Ok(())
     }
@@ -106,7 +109,7 @@ fn put_blocked(alloc: Global, step: &Step, matrix: &Matrix, out: &mut Bytes) -> 
         (listed matrix.now.shape.q matrix.now.shape.s (goal_of step.now.wanted)) else [])) }
 {
     if step.examine.blocked {
-        blocked::put_section(alloc, step, matrix, out)
+        blocked_listing(alloc, step, matrix, out)
     } else {
         Ok(())
     }
@@ -121,7 +124,7 @@ fn put_pattern(alloc: Global, step: &Step, matrix: &Matrix, out: &mut Bytes) -> 
         else [])) }
 {
     if step.examine.aberration {
-        pattern::put_section(alloc, matrix, out)
+        pattern_listing(alloc, matrix, out)
     } else {
         Ok(())
     }

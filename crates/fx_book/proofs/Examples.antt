@@ -1,5 +1,5 @@
 -- Books and their texts, computed.
-use Rattle.std.proofs.Common.{◌≡◌, List, [], ◌∷◌, refl, Option, Some, None, Ok, Err, ℕ}
+use Rattle.std.proofs.Common.{◌≡◌, List, [], ◌∷◌, length, refl, Option, Some, None, Ok, Err, ℕ}
 use Rattle.std.specs.Prelude.{codes}
 use Rattle.std.specs.Fmt.{digits}
 use Rattle.std.specs.Int.Count.{ones}
@@ -81,3 +81,8 @@ faults :
     ≡ Err (fault kind.Trailing 6))
 unfolding book_of
 faults = (refl, refl, refl, refl)
+
+-- a text of one byte more than 268,435,456 is no book, whatever it says
+limit : (text : List ℕ) → length text ≡ 268435457 → book_of text ≡ Err (fault kind.TooLong 1)
+unfolding book_of
+limit text long = rw long refl

@@ -72,6 +72,9 @@ pub const TOO_MANY_EFFECTS: u8 = 23;
 /// A part of the statement language that this product omits.
 pub const NOT_IN_PROFILE: u8 = 24;
 
+/// A text of more than 1,048,576 bytes.
+pub const TEXT_TOO_LONG: u8 = 25;
+
 /// A statement that its step has already.
 pub const REPEATED_STATEMENT: u8 = 26;
 

@@ -13,3 +13,4 @@ mod Summing
 mod Commands
 pub mod Made
 pub mod GivenOptions
+mod WordFaults

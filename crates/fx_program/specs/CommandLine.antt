@@ -149,6 +149,11 @@ unfoldable pub settings_of : List (List ℕ) → Result Settings WordFault
 settings_of [] = word_fault 1 1
 settings_of (word ∷ options) = command_with word options
 
+-- a fault of these words: of one of the six codes, at one of them or where one more would be
+pub record IsWordFault (words : List (List ℕ)) (fault : WordFault) : Type 0 where
+  pub code : (1 ≤ fault.code) × (fault.code ≤ 6)
+  pub word : (1 ≤ fault.word) × (fault.word ≤ length words + 1)
+
 -- from 1 to 64 threads
 abbrev pub AreThreads : ℕ → Type 0
 AreThreads n = (0 < n) × (n ≤ 64)

@@ -12,6 +12,7 @@ mod status;
 mod stop;
 mod summary;
 mod text;
+pub mod word_code;
 mod words;
 
 pub use making::make_text;

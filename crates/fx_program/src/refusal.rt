@@ -2,7 +2,7 @@ ghost use Rattle.std.specs.Prelude.{◌≡◌, ◌++◌, map, OnOk};
 ghost use Rattle.fx_program.specs.Reasons.{row_of};
 ghost use Rattle.fx_program.specs.Messages.{fault_line, lexical_reasons, line_at, listed_at, reason_of, reasons};
 
-use crate::text::{TEXT_TOO_LONG, TextFault};
+use crate::text::TextFault;
 use fx_base::{Bytes, NoMemory, put, put_number};
 use fx_language::code;
 
@@ -149,7 +149,7 @@ fn reasons() -> [Reason; 32]
         row(code::TOO_MANY_DEMANDS, b"more than 2000000 demands"),
         row(code::TOO_MANY_EFFECTS, b"more than 100000 effects"),
         row(code::NOT_IN_PROFILE, b"not kept in this profile"),
-        row(TEXT_TOO_LONG, b"text is over 1048576 bytes"),
+        row(code::TEXT_TOO_LONG, b"text is over 1048576 bytes"),
         row(
             code::REPEATED_STATEMENT,
             b"statement is repeated in the step",

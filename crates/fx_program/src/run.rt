@@ -34,12 +34,13 @@ use crate::session::Session;
 use crate::status::{status_of, worse};
 use crate::stop::{REFUSED, Stop, exit_status};
 use crate::summary::{put_summary, summary_of};
-use crate::text::{TEXT_TOO_LONG, TextFault, TextStop, at_front, read_program};
+use crate::text::{TextFault, TextStop, at_front, read_program};
 use crate::words::{Settings, WordFault, read_words, word_line};
 use fx_alias::{examine_listing, head_listing, rules_listing};
 use fx_answer::answer;
 use fx_base::{Bytes, NoMemory, Shelf, Sink, Source, Taken, read_all, write_all};
 use fx_board::FreeGate;
+use fx_language::code;
 use fx_statements::{Outcome, Step};
 use fx_vectors::Matrix;
 use std::alloc::Global;
@@ -167,7 +168,7 @@ fn run<R: Threads + Sync, S: Source, K: Sink, F: Shelf>(
 {
     let text = match read_all(session.alloc, source, TEXT_LIMIT)? {
         Taken::Whole(text) => text,
-        Taken::TooLong => return refuse(session.alloc, at_front(TEXT_TOO_LONG), listing),
+        Taken::TooLong => return refuse(session.alloc, at_front(code::TEXT_TOO_LONG), listing),
     };
     match read_program(session.alloc, text.as_slice()) {
         Ok(program) => run_steps(session, program.as_slice(), listing, shelf),

@@ -6,9 +6,6 @@ use fx_lexer::{LexFault, LexStop, lex};
 use fx_statements::{ParseStop, Program, Refusal, parse};
 use std::alloc::Global;
 
-/// The code of a text that is too long, as messages print it.
-pub(crate) const TEXT_TOO_LONG: u8 = 25;
-
 /// Why a text has no program.
 #[derive(Debug, Clone, Copy)]
 pub enum TextFault {

@@ -1,10 +1,11 @@
-ghost use Rattle.std.specs.Prelude.{◌≡◌, ◌≤◌, ◌+◌, ◌++◌, codes, length, true, false, Option, Some, is_some, IfOk, IfSome};
+ghost use Rattle.std.specs.Prelude.{◌≡◌, ◌≤◌, ◌+◌, ◌++◌, codes, length, true, false, Option, Some, is_some, IfErr, IfOk, IfSome};
 ghost use Rattle.std.specs.List.{list_all};
 ghost use Rattle.std.specs.Str.{bytes_eq};
 ghost use Rattle.fx_lexer.specs.Bytes.{is_digit};
 ghost use Rattle.fx_program.specs.CommandLine.{
   AreThreads,
   HasThreads,
+  IsWordFault,
   after,
   bytes_of,
   check_with,
@@ -26,6 +27,7 @@ ghost use Rattle.fx_program.specs.CommandLine.{
   word_line,
 };
 
+use crate::word_code;
 use arrayvec::ArrayVec;
 use fx_text::number;
 use itoa::Buffer;
@@ -66,9 +68,7 @@ pub enum Settings {
 /// Why the words are refused.
 #[derive(Clone, Copy, PartialEq, Eq)]
 pub struct WordFault {
-    /// 1: there is no word. 2: the first word is no command. 3: the word is no option of the command.
-    /// 4: the number is not one of 1 to 20 digits, or is not in its range. 5: the option is repeated.
-    /// 6: the number of `make` or `large` is missing.
+    /// One of `word_code`.
     pub code: u8,
     /// Which word, counted from 1; where one is missing, its place.
     pub word: u32,
@@ -78,10 +78,14 @@ pub struct WordFault {
 pub fn read_words(words: &[Vec<u8>]) -> Result<Settings, WordFault>
     ensures settings { result ≡ settings_of (bytes_of words.now) }
     ensures threads { IfOk result HasThreads }
+    ensures fault { IfErr result (IsWordFault (bytes_of words.now)) }
 {
     match words.split_first() {
         Some((command, options)) => command_with(command.as_slice(), options),
-        None => Err(WordFault { code: 1, word: 1 }),
+        None => Err(WordFault {
+            code: word_code::NO_WORD,
+            word: 1,
+        }),
     }
 }
 
@@ -109,7 +113,10 @@ fn command_with(command: &[u8], options: &[Vec<u8>]) -> Result<Settings, WordFau
     if command == b"large".as_slice() {
         return large_with(options);
     }
-    Err(WordFault { code: 2, word: 1 })
+    Err(WordFault {
+        code: word_code::UNKNOWN_COMMAND,
+        word: 1,
+    })
 }
 
 /// The settings of `run`, with one thread and the seed 0 where they are not given.
@@ -132,7 +139,10 @@ fn check_with(options: &[Vec<u8>]) -> Result<Settings, WordFault>
     if options.is_empty() {
         Ok(Settings::Check)
     } else {
-        Err(WordFault { code: 3, word: 2 })
+        Err(WordFault {
+            code: word_code::UNKNOWN_OPTION,
+            word: 2,
+        })
     }
 }
 
@@ -142,13 +152,19 @@ fn make_with(words: &[Vec<u8>]) -> Result<Settings, WordFault>
     ensures settings { result ≡ make_with (bytes_of words.now) }
 {
     let Some((word, others)) = words.split_first() else {
-        return Err(WordFault { code: 6, word: 2 });
+        return Err(WordFault {
+            code: word_code::MISSING_NUMBER,
+            word: 2,
+        });
     };
     let n = steps_at(2, word.as_slice())?;
     if others.is_empty() {
         Ok(Settings::Make { n })
     } else {
-        Err(WordFault { code: 3, word: 3 })
+        Err(WordFault {
+            code: word_code::UNKNOWN_OPTION,
+            word: 3,
+        })
     }
 }
 
@@ -158,7 +174,10 @@ fn large_with(words: &[Vec<u8>]) -> Result<Settings, WordFault>
     ensures settings { result ≡ large_with (bytes_of words.now) }
 {
     let Some((word, others)) = words.split_first() else {
-        return Err(WordFault { code: 6, word: 2 });
+        return Err(WordFault {
+            code: word_code::MISSING_NUMBER,
+            word: 2,
+        });
     };
     let n = steps_at(2, word.as_slice())?;
     let given = options_in(3, false, others)?;
@@ -217,7 +236,7 @@ fn with_option(
         }
     }
     Err(WordFault {
-        code: 3,
+        code: word_code::UNKNOWN_OPTION,
         word: place,
     })
 }
@@ -229,7 +248,7 @@ fn steps_at(place: u32, word: &[u8]) -> Result<u8, WordFault>
     match steps_of(word) {
         Some(n) => Ok(n),
         None => Err(WordFault {
-            code: 4,
+            code: word_code::INVALID_NUMBER,
             word: place,
         }),
     }
@@ -255,14 +274,14 @@ fn once<T: Drop>(place: u32, had: bool, value: Option<T>) -> Result<T, WordFault
 {
     if had {
         return Err(WordFault {
-            code: 5,
+            code: word_code::REPEATED_OPTION,
             word: place,
         });
     }
     match value {
         Some(value) => Ok(value),
         None => Err(WordFault {
-            code: 4,
+            code: word_code::INVALID_NUMBER,
             word: place,
         }),
     }

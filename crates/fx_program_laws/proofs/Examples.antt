@@ -27,10 +27,13 @@ use Rattle.fx_statements.specs.Questions.{conclusion_of}
 use Rattle.fx_answer.specs.Books.{finished}
 use Rattle.fx_alias.specs.Sections.{step_lines}
 use Rattle.fx_book.specs.Heads.{book_of}
+use Rattle.fx_book.specs.declared.fault.FaultKind.TheVariants as kind
+use Rattle.fx_book.specs.Faults.{fault}
 use Rattle.fx_checker.specs.Books.{first_flaw}
 use Rattle.fx_program.specs.CommandLine.{settings_of, word_fault}
 use Rattle.fx_program.specs.declared.words.Settings.TheVariants.{Run, Make, Large}
 use Rattle.fx_program.specs.Messages.{fault_line}
+use Rattle.fx_program.specs.Verdicts.{book_fault_line}
 use Rattle.fx_program.specs.Texts.{program_in, at_front}
 use Rattle.fx_program.specs.declared.text.TextFault.TheVariants.{Refused}
 use Rattle.fx_designs.specs.Outcomes.{Design, NoDesign, BudgetEnded}
@@ -177,6 +180,14 @@ with_sections :
 unfolding given
 with_sections = refl
 
+-- all sections, in their own order whatever that of the text
+all_sections :
+    given (codes "proc factex;factors A B C D;size design=8;model r=3;blocks nblkfacs=1;examine aberration blocked aliasing design;")
+    ≡ message (codes
+    "step 1\nfactors 4 levels 2\ndesign 8 runs in 2 blocks\nresolution 4\nnodes 6\nrules\n  D = A*B*C\n  [1] = B*C\npoints BLOCK A B C D\n  1 1 -1 -1 -1 -1\n  2 2 -1 -1 1 1\n  3 2 -1 1 -1 1\n  4 1 -1 1 1 -1\n  5 1 1 -1 -1 1\n  6 2 1 -1 1 -1\n  7 2 1 1 -1 -1\n  8 1 1 1 1 1\naliasing\n  A\n  B\n  C\n  D\n  A*B = C*D\n  A*C = B*D\n  A*D = B*C\nblocked\n  A*D\n  B*C\naberration\n  A4 1\n") 0
+unfolding given
+all_sections = refl
+
 -- the components of A*B cannot be told apart in three runs
 components :
     given (codes "proc factex;factors A B / nlev=3;size design=3;model estimate=(A*B);")
@@ -309,6 +320,11 @@ refused_words :
 unfolding digits settings_of
 refused_words = (refl, refl, refl, refl, refl, refl, refl)
 
+-- a text that is too long is refused at its first line
+too_long : book_fault_line (fault kind.TooLong 1) ≡ codes "rejected line 1 B1\n"
+unfolding digits
+too_long = refl
+
 -- the seed of `run`: at most once, and at most 20 digits below 2^64
 seeds :
     (settings_of (codes "run" ∷ []) ≡ Ok (Run 1 0))
@@ -348,12 +364,13 @@ numbers_of_steps :
     × (settings_of (codes "make" ∷ []) ≡ word_fault 6 2)
     × (settings_of (codes "large" ∷ []) ≡ word_fault 6 2)
     × (settings_of (codes "make" ∷ codes "0" ∷ codes "1" ∷ []) ≡ word_fault 4 2)
+    × (settings_of (codes "large" ∷ codes "0" ∷ codes "--seed=1" ∷ []) ≡ word_fault 4 2)
     × (settings_of (codes "large" ∷ codes "101" ∷ []) ≡ word_fault 4 2)
     × (settings_of (codes "make" ∷ codes "--threads=2" ∷ []) ≡ word_fault 4 2)
     × (settings_of (codes "make" ∷ codes "000000000000000000001" ∷ []) ≡ word_fault 4 2)
     × (settings_of (codes "make" ∷ codes "1" ∷ codes "1" ∷ []) ≡ word_fault 3 3)
 unfolding settings_of
-numbers_of_steps = (refl, refl, refl, refl, refl, refl, refl, refl, refl, refl)
+numbers_of_steps = (refl, refl, refl, refl, refl, refl, refl, refl, refl, refl, refl)
 
 -- the text of two steps; a step of three levels that asks for least aberration
 made_steps :

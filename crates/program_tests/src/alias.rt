@@ -1,7 +1,9 @@
 ghost use Rattle.std.specs.Prelude.{◌≡◌, ◌≤◌, ◌+◌, ◌^◌, IsTrue, length};
 ghost use Rattle.fx_vectors.specs.Shape.{IsShape};
 
-use fx_alias::{alias_listing, blocked_listing, design_listing, head_listing, rules_listing};
+use fx_alias::{
+    alias_listing, blocked_listing, design_listing, head_listing, pattern_listing, rules_listing,
+};
 use fx_base::Bytes;
 use fx_lexer::lex;
 use fx_statements::{End, Outcome, Program, Step, parse};
@@ -343,4 +345,26 @@ fn without_blocks_nothing_is_confounded(rt: HostRuntime) {
     let program = program_of(&rt, rt.alloc(), text.as_bytes());
     assert!(rt; program.len() == 1);
     assert!(rt; has_runs_and_blocked(&rt, rt.alloc(), program.get(0), &matrix, expected));
+}
+
+/// Whether the word-length pattern of a matrix is listed so.
+fn has_pattern(rt: &impl Abort, alloc: Global, matrix: &Matrix, expected: &str) -> bool {
+    let mut out = Bytes::new(alloc);
+    pattern_listing(alloc, matrix, &mut out).expect(rt, "memory");
+    out.as_slice() == expected.as_bytes()
+}
+
+#[test]
+fn word_length_patterns_are_listed(rt: HostRuntime) {
+    let shape = Shape {
+        q: 2,
+        m: 3,
+        s: 5,
+        t: 0,
+    };
+    // The words are ABD, ACE and BCDE.
+    let fraction = matrix_of(&rt, shape, &[1, 2, 4, 3, 5]);
+    assert!(rt; has_pattern(&rt, rt.alloc(), &fraction, "aberration\n  A3 2\n  A4 1\n"));
+    let full = matrix_of(&rt, Shape { s: 3, ..shape }, &[1, 2, 4]);
+    assert!(rt; has_pattern(&rt, rt.alloc(), &full, "aberration\n  none\n"));
 }

@@ -20,6 +20,26 @@ const PLAN: &str = "A,B,C\n-1,-1,\"lo,w\"\n-1,1,hi\n1,-1,hi\n1,1,\"lo,w\"\n";
 
 const BARRED: &str = "proc factex; factors A; model resolution=3; output out=Factex_Barred;";
 
+/// Two steps without a design, and a plan.
+const BOOKS: &str = "\
+proc factex; factors A B / nlev=3; size design=3; model estimate=(A*B); run;
+proc factex; factors A B C; size design=2; model resolution=3; run;
+proc factex; factors A B; size design=4; model resolution=3; output out=factex_beside;
+";
+
+/// What is written to the files of that program, by their names.
+const BOOK_FILES: [(&str, &str); 3] = [
+    (
+        "step1-1.book",
+        "factex-book 1\nsize 3 1 2 0\neffects 3 /\npattern none\nO 1\nW 1 5\nW 0 3\nW 0 1\nEND\n",
+    ),
+    (
+        "step2-1.book",
+        "factex-book 1\nsize 2 1 3 0\nresolution 3\npattern none\nO 1\nEND\n",
+    ),
+    ("factex_beside.csv", "A,B\n-1,-1\n-1,1\n1,-1\n1,1\n"),
+];
+
 /// The words of a command line, between blanks.
 fn args_in(rt: &impl Abort, alloc: Global, line: &str) -> Args {
     let mut args = Vec::new(alloc);
@@ -67,6 +87,28 @@ fn a_plan_is_written_to_the_folder(rt: HostRuntime) {
     fs::remove_file(&rt, "factex_test.csv").expect(&rt, "a plan");
     assert!(rt; ran.status == 0);
     assert!(rt; held.as_slice() == PLAN.as_bytes());
+}
+
+/// Each book and each plan has a file of its own name.
+#[test]
+fn books_and_plans_are_written_to_the_folder(rt: HostRuntime) {
+    let alloc = rt.alloc();
+    let args = args_in(&rt, alloc, "factex run");
+    let mut shelf = FolderShelf::new(CurrentFolder::new(&rt));
+    let ran = start(
+        &rt,
+        alloc,
+        Ok(args),
+        BOOKS.as_bytes(),
+        Vec::new(alloc),
+        &mut shelf,
+    );
+    assert!(rt; ran.status == 1);
+    for (name, content) in BOOK_FILES {
+        let held = fs::read(&rt, name).expect(&rt, "a file");
+        fs::remove_file(&rt, name).expect(&rt, "a file");
+        assert!(rt; held.as_slice() == content.as_bytes());
+    }
 }
 
 /// A folder of the plan's name stands in the way.

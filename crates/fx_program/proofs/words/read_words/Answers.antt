@@ -1,5 +1,6 @@
 use Rattle.std.proofs.Common.{map, sym, ap, ◌∙◌}
-use Rattle.fx_program.specs.CommandLine.{command_with}
+use Rattle.fx_program.specs.CommandLine.{bytes_of, command_with}
+use Rattle.fx_program.proofs.WordFaults.{words-fault}
 use Rattle.fx_program.proofs.Wording.{no_word, some_words}
 use Rattle.fx_program.proofs.words.read_words.Goals as goal
 
@@ -12,3 +13,7 @@ returns-in-Some-clause-settings c =
 
 pub returns-in-None-clause-settings : goal.returns-in-None-clause-settings
 returns-in-None-clause-settings c = sym (no_word (λ v. v.items) c.args.words.now c.in-None.ensures.cases)
+
+pub returns-in-Some-clause-fault : goal.returns-in-Some-clause-fault
+returns-in-Some-clause-fault c =
+    words-fault (bytes_of c.args.words.now) c.command_with.result (returns-in-Some-clause-settings c)

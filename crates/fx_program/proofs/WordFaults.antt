@@ -1,0 +1,133 @@
+-- A fault of the words is of one of the six codes, at a word.
+use Rattle.std.proofs.Common.{ℕ, ◌≡◌, ◌≤◌, ◌+◌, Bool, true, false, cond, List, [], ◌∷◌, length, arith, subst, sym}
+use Rattle.std.specs.Prelude.{Option, Some, None, Result, Ok, Err, IfErr, codes}
+use Rattle.std.specs.Str.{bytes_eq}
+use Rattle.fx_program.specs.declared.words.Options.{Options}
+use Rattle.fx_program.specs.declared.words.Settings.{Settings}
+use Rattle.fx_program.specs.declared.words.WordFault.{WordFault}
+use Rattle.fx_program.specs.CommandLine
+
+-- a fault at a word from 1 to the last
+record IsWithin (last : ℕ) (fault : WordFault) : Type 0 where
+  pub code : (1 ≤ fault.code) × (fault.code ≤ 6)
+  pub word : (1 ≤ fault.word) × (fault.word ≤ last)
+
+abbrev Within : {T : Type 0} → ℕ → Result T WordFault → Type 0
+Within last result = IfErr result (IsWithin last)
+
+either : {T : Type 0} (last : ℕ) (b : Bool) (x y : Result T WordFault) → Within last x → Within last y
+    → Within last (cond b x y)
+either last true x y hx hy = hx
+either last false x y hx hy = hy
+
+module _ (last place : ℕ) (from : 1 ≤ place) (to : place ≤ last) where
+  fault_here : (code : ℕ) → 1 ≤ code → code ≤ 6 → IsWithin last (record { code = code; word = place })
+  fault_here code low high = record { code = (low, high); word = (from, to) }
+
+  value_within : {T : Type 0} (value : Option T) → Within last (CommandLine.value_at place value)
+  value_within None = fault_here 4 (omega arith) (omega arith)
+  value_within (Some n) = tt
+
+  once_within : {T : Type 0} (earlier value : Option T) → Within last (CommandLine.once place earlier value)
+  once_within (Some n) value = fault_here 5 (omega arith) (omega arith)
+  once_within None value = value_within value
+
+  threads_within : (given : Options) (r : Result ℕ WordFault) → Within last r
+      → Within last (CommandLine.add_threads given r)
+  threads_within given (Ok n) h = tt
+  threads_within given (Err fault) h = h
+
+  seed_within : (given : Options) (r : Result ℕ WordFault) → Within last r → Within last (CommandLine.add_seed given r)
+  seed_within given (Ok n) h = tt
+  seed_within given (Err fault) h = h
+
+  option_within : (given : Options) (threads seed : Option (List ℕ))
+      → Within last (CommandLine.with_option place given threads seed)
+  option_within given (Some digits) seed =
+      threads_within given _ (once_within given.threads (CommandLine.threads_of digits))
+  option_within given None (Some digits) = seed_within given _ (once_within given.seed (CommandLine.seed_of digits))
+  option_within given None None = fault_here 3 (omega arith) (omega arith)
+
+options_behind_within : (last place : ℕ) (has_seed : Bool) (r : Result Options WordFault) (words : List (List ℕ))
+    → 1 ≤ place → place + length words ≤ last + 1 → Within last r
+    → Within last (CommandLine.options_behind place has_seed r words)
+options_behind_within last place has_seed (Err fault) words from to h = h
+options_behind_within last place has_seed (Ok given) [] from to h = tt
+options_behind_within last place has_seed (Ok given) (word ∷ words) from to h =
+    options_behind_within last (place + 1) has_seed _ words (omega arith) (omega (arith, to))
+    (option_within last place from (omega (arith, to)) given _ _)
+
+options_within : (last place : ℕ) (has_seed : Bool) (words : List (List ℕ)) → 1 ≤ place → place + length words ≤ last + 1
+    → Within last (CommandLine.options_in place has_seed words)
+options_within last place has_seed words from to =
+    options_behind_within last place has_seed (Ok (record { threads = None; seed = None })) words from to tt
+
+run_within : (last : ℕ) (r : Result Options WordFault) → Within last r → Within last (CommandLine.run_with r)
+run_within last (Ok given) h = tt
+run_within last (Err fault) h = h
+
+check_within : (last : ℕ) (options : List (List ℕ)) → length options + 2 ≤ last + 1
+    → Within last (CommandLine.check_with options)
+check_within last [] fits = tt
+check_within last (other ∷ others) fits =
+    fault_here last 2 (omega arith) (omega (arith, fits)) 3 (omega arith) (omega arith)
+
+alone_within : (last : ℕ) (others : List (List ℕ)) (r : Result ℕ WordFault) → length others + 3 ≤ last + 1
+    → Within last r → Within last (CommandLine.alone others r)
+alone_within last others (Err fault) fits h = h
+alone_within last [] (Ok n) fits h = tt
+alone_within last (other ∷ others) (Ok n) fits h =
+    fault_here last 3 (omega arith) (omega (arith, fits)) 3 (omega arith) (omega arith)
+
+made_within : (last : ℕ) (r : Result ℕ WordFault) → Within last r → Within last (CommandLine.made_by r)
+made_within last (Ok n) h = tt
+made_within last (Err fault) h = h
+
+make_within : (last : ℕ) (options : List (List ℕ)) → length options + 2 ≤ last → 2 ≤ last
+    → Within last (CommandLine.make_with options)
+make_within last [] fits some = fault_here last 2 (omega arith) some 6 (omega arith) (omega arith)
+make_within last (word ∷ others) fits some =
+    made_within last _ (alone_within last others _ (omega (arith, fits))
+    (value_within last 2 (omega arith) some (CommandLine.steps_of word)))
+
+large_by_within : (last n : ℕ) (r : Result Options WordFault) → Within last r → Within last (CommandLine.large_by n r)
+large_by_within last n (Ok given) h = tt
+large_by_within last n (Err fault) h = h
+
+large_behind_within : (last : ℕ) (others : List (List ℕ)) (r : Result ℕ WordFault) → length others + 3 ≤ last + 1
+    → Within last r → Within last (CommandLine.large_behind others r)
+large_behind_within last others (Err fault) fits h = h
+large_behind_within last others (Ok n) fits h =
+    large_by_within last n _ (options_within last 3 false others (omega arith) (omega (arith, fits)))
+
+large_within : (last : ℕ) (options : List (List ℕ)) → length options + 2 ≤ last → 2 ≤ last
+    → Within last (CommandLine.large_with options)
+large_within last [] fits some = fault_here last 2 (omega arith) some 6 (omega arith) (omega arith)
+large_within last (word ∷ others) fits some =
+    large_behind_within last others _ (omega (arith, fits))
+    (value_within last 2 (omega arith) some (CommandLine.steps_of word))
+
+command_within : (last : ℕ) (word : List ℕ) (options : List (List ℕ)) → length options + 2 ≤ last
+    → Within last (CommandLine.command_with word options)
+command_within last word options fits =
+    let some : 2 ≤ last = omega (arith, fits) in
+    either last (bytes_eq word (codes "run")) _ _
+    (run_within last _ (options_within last 2 true options (omega arith) (omega (arith, fits))))
+    (either last (bytes_eq word (codes "check")) _ _ (check_within last options (omega (arith, fits)))
+    (either last (bytes_eq word (codes "make")) _ _ (make_within last options fits some)
+    (either last (bytes_eq word (codes "large")) _ _ (large_within last options fits some)
+    (fault_here last 1 (omega arith) (omega (arith, some)) 2 (omega arith) (omega arith)))))
+
+settings_within : (words : List (List ℕ)) → Within (length words + 1) (CommandLine.settings_of words)
+unfolding CommandLine.settings_of
+settings_within [] = fault_here 1 1 (omega arith) (omega arith) 1 (omega arith) (omega arith)
+settings_within (word ∷ options) = command_within (length (word ∷ options) + 1) word options (omega arith)
+
+pub words-fault : (words : List (List ℕ)) (r : Result Settings WordFault) → r ≡ CommandLine.settings_of words
+    → IfErr r (CommandLine.IsWordFault words)
+words-fault words r is =
+    weaker r (subst (Within (length words + 1)) (sym is) (settings_within words))
+  where
+    weaker : (r : Result Settings WordFault) → Within (length words + 1) r → IfErr r (CommandLine.IsWordFault words)
+    weaker (Ok settings) h = tt
+    weaker (Err fault) h = record { code = h.code; word = h.word }
