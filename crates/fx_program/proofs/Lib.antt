@@ -10,6 +10,7 @@ pub mod None
 pub mod AnyText
 pub mod Statuses
 mod Summing
+pub mod ProvedBooks
 mod Commands
 pub mod Made
 pub mod GivenOptions

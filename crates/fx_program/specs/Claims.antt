@@ -1,8 +1,12 @@
--- What is claimed of each step of a program, and of the program's status.
+-- What is claimed of each step of a program, of the program's status, and of a book that is accepted.
 use Rattle.std.specs.Prelude.{ℕ, ◌≡◌, ◌<◌, ◌≤◌, List, Result, Ok, Err, All}
 use Rattle.std.specs.List.{Contains}
 use Rattle.fx_designs.specs.Problems.{Dimensions}
 use Rattle.fx_designs.specs.Matrices.{NoneMeets}
+use Rattle.fx_vectors.specs.Question.{problem_of}
+use Rattle.fx_vectors.specs.declared.book.Book.{Book}
+use Rattle.fx_book.specs.Heads.{book_of}
+use Rattle.fx_checker.specs.Laws.{NoMatrix}
 use Rattle.fx_statements.specs.Steps.{Meaning}
 use Rattle.fx_program.specs.Output.{step_status}
 use Rattle.fx_program.specs.StepClaims.{Allows, required}
@@ -33,3 +37,10 @@ pub record SomeEndsWith (status : ℕ) (steps : List Meaning) : Type 0 where
 pub record IsGreatest (status : ℕ) (steps : List Meaning) : Type 0 where
   pub each : All (λ step. step_status step ≤ status) steps
   pub some : 0 < status → SomeEndsWith status steps
+
+-- a text that is a book whose claim holds: the runs of no rule matrix at all, canonical or not, meet what its head
+-- asks, or, where the head has a pattern, none of those that do has a less one
+pub record IsProvedBook (text : List ℕ) : Type 0 where
+  pub book : Book
+  pub read : book_of text ≡ Ok book
+  pub claim : NoMatrix (problem_of book.head.question) book.head.beat

@@ -1,4 +1,4 @@
-ghost use Rattle.std.specs.Prelude.{◌≡◌, ◌↔◌, ◌<◌, ◌≤◌, List, ℕ, Ok, IfErr, true, false, length, All};
+ghost use Rattle.std.specs.Prelude.{◌≡◌, ◌↔◌, ◌<◌, ◌≤◌, [], ◌∷◌, List, ℕ, Ok, IfErr, true, false, codes, length, All};
 ghost use Rattle.std.specs.List.{IsDistinct};
 ghost use Rattle.fx_program.specs.Messages.{HasItsMessage};
 ghost use Rattle.fx_designs.specs.Matrices.{NoneMeets};
@@ -14,7 +14,7 @@ ghost use Rattle.fx_program.specs.Files.{names_among};
 ghost use Rattle.fx_program.specs.Texts.{program_in};
 ghost use Rattle.fx_designs.specs.Outcomes.{Design, NoDesign};
 ghost use Rattle.fx_program.specs.declared.words.Settings.TheVariants.{Large, Run};
-ghost use Rattle.fx_program.specs.Commands.{output_for};
+ghost use Rattle.fx_program.specs.Commands.{output_for, output_of};
 ghost use Rattle.fx_program.specs.Output.{ending_given, program_output, step_output};
 ghost use Rattle.fx_tree.specs.Laws.{IsFirstOfLeastPattern};
 ghost use Rattle.fx_program.specs.StepClaims.{
@@ -30,7 +30,7 @@ ghost use Rattle.fx_program.specs.StepClaims.{
   IsValidStep,
   required,
 };
-ghost use Rattle.fx_program.specs.Claims.{EachStep, IsGreatest};
+ghost use Rattle.fx_program.specs.Claims.{EachStep, IsGreatest, IsProvedBook};
 
 /// What is given for a step with some factors, where the nodes of the questions that are asked for it
 /// are within its budget: status 0 with the files and the lines of the first design of the canonical
@@ -144,6 +144,13 @@ pub fn claims_of_none_have_books()
 /// `check` accepts it, with status 0.
 pub fn books_are_accepted_in_any_text()
     ensures { (text : List ℕ) → EachStep HasAcceptedBooks (program_in text) }
+{}
+
+/// Whatever a text says: where `check` of it ends with status 0, it is a book, and its claim holds: the
+/// runs of no rule matrix at all, canonical or not, meet what its head asks, or, where the head has a
+/// pattern, none of those that do has a less one. It does not matter who wrote it.
+pub fn accepted_books_prove_their_claims()
+    ensures { (text : List ℕ) → (output_of (codes "check" ∷ []) text).status ≡ 0 → IsProvedBook text }
 {}
 
 /// Each fault of a text has a row in the table of messages, so that its line names a reason, and a place
