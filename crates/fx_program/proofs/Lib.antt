@@ -5,7 +5,6 @@ mod Limits
 mod SoFar
 mod Filing
 mod Given
-pub mod Best
 pub mod None
 pub mod AnyText
 pub mod Statuses

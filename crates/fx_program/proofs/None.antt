@@ -16,8 +16,9 @@ use Rattle.fx_statements.specs.Questions.{Conclusion, Found, asked, concluded, c
 use Rattle.fx_statements.specs.Questions.{nodes_of, outcome_of, questions_of}
 use Rattle.fx_statements.proofs.Concluded.{passed, within}
 use Rattle.fx_program.specs.Statuses.{status_of}
-use Rattle.fx_program.specs.StepClaims.{Allows, IsValidStep, required}
-use Rattle.fx_program.proofs.Best.{field, none_at_all, what_it_asks}
+use Rattle.fx_answer.specs.StepClaims.{Allows, required}
+use Rattle.fx_answer.specs.ValidSteps.{IsValidStep}
+use Rattle.fx_answer.proofs.Best.{field, none_at_all, what_it_asks}
 
 none_at_one : (ending : Ending) → status_of ending ≡ 1 → (count : ℕ) × (ending ≡ NoDesign count)
 none_at_one (Design rows count) e = absurd (omega (arith, e))

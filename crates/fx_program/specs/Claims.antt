@@ -9,13 +9,17 @@ use Rattle.fx_book.specs.Heads.{book_of}
 use Rattle.fx_checker.specs.Laws.{NoMatrix}
 use Rattle.fx_statements.specs.Steps.{Meaning}
 use Rattle.fx_program.specs.Output.{step_status}
-use Rattle.fx_program.specs.StepClaims.{Allows, required}
+use Rattle.fx_answer.specs.StepClaims.{Allows, ClaimsHold, OfOutcome, required}
 use Rattle.fx_program.specs.declared.text.TextFault.{TextFault}
 
 -- a claim on each step of a program; a text that is refused has none
 abbrev pub EachStep : (Meaning → Type 0) → Result (List Meaning) TextFault → Type 0
 EachStep Claimed (Ok steps) = All Claimed steps
 EachStep Claimed (Err fault) = Unit {0}
+
+-- what is claimed of the outcome of each step holds of all rule matrices, canonical or not
+abbrev pub AllClaimsHold : Result (List Meaning) TextFault → Type 0
+AllClaimsHold program = EachStep (OfOutcome ClaimsHold) program
 
 -- some step of the program has no design at all: it ends with status 1, and the runs of no rule matrix meet what is
 -- required, in no dimensions that it allows

@@ -7,7 +7,7 @@ ghost use Rattle.fx_answer.specs.Outcomes.{IsOutcome};
 ghost use Rattle.fx_program.specs.CommandLine.{HasThreads, bytes_of, settings_of};
 ghost use Rattle.fx_program.specs.Making.{made_text};
 ghost use Rattle.fx_program.specs.Texts.{program_in};
-ghost use Rattle.fx_program.specs.Claims.{IsProvedBook, SomeHasNone};
+ghost use Rattle.fx_program.specs.Claims.{AllClaimsHold, IsProvedBook, SomeHasNone};
 ghost use Rattle.fx_program.specs.declared.words.Settings.TheVariants.{Check};
 ghost use Rattle.fx_program.specs.Stops.{HasStatusCause, exit_status};
 ghost use Rattle.fx_program.specs.declared.stop.Stop.TheVariants as stop;
@@ -97,6 +97,12 @@ pub fn factex<R: Threads + Sync, S: Source, K: Sink, F: Shelf>(
     ensures none_at_all { result ≡ 1 → (text : List ℕ)
         → (command_in (bytes_of words.now)).text_run (S.left source.old) ≡ Some text
         → SomeHasNone (program_in text) }
+
+    // With a status below 3, what is claimed of the outcome of each step of the text that is run holds of all
+    // rule matrices: that none at all meets what it asks, or that none is better than its design.
+    ensures claims { result < 3 → (text : List ℕ)
+        → (command_in (bytes_of words.now)).text_run (S.left source.old) ≡ Some text
+        → AllClaimsHold (program_in text) }
 
     // With `check`, status 0 comes only of a book whose claim holds of all rule matrices.
     ensures accepted { result ≡ 0 → settings_of (bytes_of words.now) ≡ Ok Check

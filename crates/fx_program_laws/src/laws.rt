@@ -17,7 +17,7 @@ ghost use Rattle.fx_program.specs.declared.words.Settings.TheVariants.{Large, Ru
 ghost use Rattle.fx_program.specs.Commands.{output_for, output_of};
 ghost use Rattle.fx_program.specs.Output.{ending_given, program_output, step_output};
 ghost use Rattle.fx_tree.specs.Laws.{IsFirstOfLeastPattern};
-ghost use Rattle.fx_program.specs.StepClaims.{
+ghost use Rattle.fx_answer.specs.StepClaims.{
   Allows,
   HasHighestOfAll,
   HasLeastOfAll,
@@ -27,9 +27,10 @@ ghost use Rattle.fx_program.specs.StepClaims.{
   HasNoneAtAll,
   HasWhatItAsks,
   IsLastWithDesign,
-  IsValidStep,
+  OfOutcome,
   required,
 };
+ghost use Rattle.fx_answer.specs.ValidSteps.{IsValidStep};
 ghost use Rattle.fx_program.specs.Claims.{EachStep, IsGreatest, IsProvedBook};
 
 /// What is given for a step with some factors, where the nodes of the questions that are asked for it
@@ -93,37 +94,37 @@ pub fn valid_steps_in_any_text()
 /// Whatever a text says: where a step of its program ends with a design, this has a row for each
 /// factor and block factor, in dimensions that the step allows, and its runs meet what is required.
 pub fn designs_meet_what_is_asked_in_any_text()
-    ensures { (text : List ℕ) → EachStep HasWhatItAsks (program_in text) }
+    ensures { (text : List ℕ) → EachStep (OfOutcome HasWhatItAsks) (program_in text) }
 {}
 
 /// Whatever a text says: where a step of its program ends without a design, the runs of no rule matrix at
 /// all meet what is required, in no dimensions that the step allows.
 pub fn no_design_in_any_text()
-    ensures { (text : List ℕ) → EachStep HasNoneAtAll (program_in text) }
+    ensures { (text : List ℕ) → EachStep (OfOutcome HasNoneAtAll) (program_in text) }
 {}
 
 /// Whatever a text says: where a step of its program asks for least aberration and ends with a design,
 /// the pattern of no rule matrix at all that meets the resolution asked for, canonical or not, is less.
 pub fn least_pattern_in_any_text()
-    ensures { (text : List ℕ) → EachStep HasLeastOfAll (program_in text) }
+    ensures { (text : List ℕ) → EachStep (OfOutcome HasLeastOfAll) (program_in text) }
 {}
 
 /// Whatever a text says: where a step of its program asks for the highest resolution and ends with a
 /// design, no rule matrix at all of as many runs, canonical or not, has a higher resolution.
 pub fn highest_resolution_in_any_text()
-    ensures { (text : List ℕ) → EachStep HasHighestOfAll (program_in text) }
+    ensures { (text : List ℕ) → EachStep (OfOutcome HasHighestOfAll) (program_in text) }
 {}
 
 /// Whatever a text says: where a step of its program asks for the least size and ends with a design, the
 /// runs of no rule matrix at all of fewer runs meet what is required.
 pub fn least_size_in_any_text()
-    ensures { (text : List ℕ) → EachStep HasLeastSize (program_in text) }
+    ensures { (text : List ℕ) → EachStep (OfOutcome HasLeastSize) (program_in text) }
 {}
 
 /// Whatever a text says: where a step of its program asks for the most blocks and ends with a design, the
 /// runs of no rule matrix at all with more block factors meet what is required.
 pub fn most_blocks_in_any_text()
-    ensures { (text : List ℕ) → EachStep HasMostBlocks (program_in text) }
+    ensures { (text : List ℕ) → EachStep (OfOutcome HasMostBlocks) (program_in text) }
 {}
 
 /// What the status of a program says: 0 that each step has a design or that there is no step, 1 that

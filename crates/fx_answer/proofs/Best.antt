@@ -40,8 +40,9 @@ use Rattle.fx_statements.specs.Questions.{least_exponent, lowest, outcome_of, qu
 use Rattle.fx_statements.specs.Questions.{run_factors, seeks_highest, series, until}
 use Rattle.fx_statements.proofs.Concluded.{HasEnding, IsOfFirst, IsOfLast, of-first, of-last, none-of_all}
 use Rattle.fx_statements.proofs.Concluded.{none-of_first}
-use Rattle.fx_program.specs.StepClaims.{Allows, HasHighestOfAll, HasLeastOfAll, HasLeastSize, HasMostBlocks}
-use Rattle.fx_program.specs.StepClaims.{HasNoneAtAll, HasWhatItAsks, IsAsItAsks, IsOfKind, IsValidStep, required}
+use Rattle.fx_answer.specs.StepClaims.{Allows, ClaimsHold, HasHighestOfAll, HasLeastOfAll, HasLeastSize, HasMostBlocks}
+use Rattle.fx_answer.specs.StepClaims.{HasNoneAtAll, HasWhatItAsks, IsAsItAsks, OfOutcome, required}
+use Rattle.fx_answer.specs.ValidSteps.{IsOfKind, IsValidStep}
 
 -- Numbers of levels
 
@@ -384,7 +385,7 @@ module _ (step : Meaning) (valid : IsValidStep step) where
         met = met_required n rows three own.1;
       })
 
-  pub what_it_asks : HasWhatItAsks step
+  pub what_it_asks : OfOutcome HasWhatItAsks step
   what_it_asks rows count e = elim (size_or step.settings.size) [
     | inl least ↦
         let h = first_found least rows count e in
@@ -402,7 +403,7 @@ module _ (step : Meaning) (valid : IsValidStep step) where
         (λ highest. subst (λ k. k ≤ h.n) (low_highest m fixed.1 highest) h.from)
   ]
 
-  pub least_of_all : HasLeastOfAll step
+  pub least_of_all : OfOutcome HasLeastOfAll step
   least_of_all rows count least e = elim (size_or step.settings.size) [
     | inl small ↦ absurd (both_ways _ (with_least_size small).1 least)
     | inr fixed ↦
@@ -418,7 +419,7 @@ module _ (step : Meaning) (valid : IsValidStep step) where
   ]
 
   -- where each smaller size that it allows has no answer
-  pub least_size : HasLeastSize step
+  pub least_size : OfOutcome HasLeastSize step
   least_size rows count other e h less = elim (size_or step.settings.size) [
     | inl least ↦
         let first = first_found least rows count e in
@@ -443,7 +444,7 @@ module _ (step : Meaning) (valid : IsValidStep step) where
   ]
 
   -- where the question for one block factor more has no answer, or there are as many as run indexes
-  pub most_blocks : HasMostBlocks step
+  pub most_blocks : OfOutcome HasMostBlocks step
   most_blocks rows count other most e h more = elim (size_or step.settings.size) [
     | inl least ↦ absurd (most_fixed most least)
     | inr fixed ↦
@@ -484,7 +485,7 @@ module _ (step : Meaning) (valid : IsValidStep step) where
       (none (n + 1) ∙ sym (none n))
 
   -- where the question for the next resolution has no answer, or there is no word
-  pub highest_of_all : HasHighestOfAll step
+  pub highest_of_all : OfOutcome HasHighestOfAll step
   highest_of_all rows count e ends = elim (size_or step.settings.size) [
     | inl least ↦ absurd (highest_fixed e least)
     | inr fixed ↦
@@ -556,7 +557,7 @@ module _ (step : Meaning) (valid : IsValidStep step) where
       ]
 
   -- without a design no question has an answer, or the first has none, and so no later one
-  pub none_at_all : HasNoneAtAll step
+  pub none_at_all : OfOutcome HasNoneAtAll step
   none_at_all count other e h = elim (size_or step.settings.size) [
     | inl least ↦
         let facts = with_least_size least in
@@ -569,3 +570,13 @@ module _ (step : Meaning) (valid : IsValidStep step) where
         (subst (λ q. other.m ≤ greatest q) h.levels (h.sizes least).1)))
     | inr fixed ↦ none_fixed other h fixed.0 fixed.1 (first_none fixed.0 fixed.1 count e)
   ]
+
+  pub claims_hold : OfOutcome ClaimsHold step
+  claims_hold = record {
+    as_asked = what_it_asks;
+    none_at_all = none_at_all;
+    least_pattern = least_of_all;
+    highest_resolution = highest_of_all;
+    least_size = least_size;
+    most_blocks = most_blocks;
+  }
