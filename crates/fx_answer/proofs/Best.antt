@@ -36,13 +36,15 @@ use Rattle.fx_statements.specs.Goals.{Goal, AtLeast, Highest, ForEffects}
 use Rattle.fx_statements.specs.Steps.{Meaning}
 use Rattle.fx_statements.specs.Questions as asked
 use Rattle.fx_statements.specs.Questions.{Answered, Unanswered, Conclusion, Until, block_factors, conclusion_of}
-use Rattle.fx_statements.specs.Questions.{least_exponent, lowest, outcome_of, question_for, requirement_for}
-use Rattle.fx_statements.specs.Questions.{run_factors, seeks_highest, series, until}
+use Rattle.fx_statements.specs.Questions.{least_exponent, lowest, outcome_of, question_for, questions_of}
+use Rattle.fx_statements.specs.Questions.{requirement_for, run_factors, seeks_highest, series, until}
 use Rattle.fx_statements.proofs.Concluded.{HasEnding, IsOfFirst, IsOfLast, of-first, of-last, none-of_all}
-use Rattle.fx_statements.proofs.Concluded.{none-of_first}
+use Rattle.fx_statements.proofs.Concluded.{none-of_first, IsQuestionOf, each-of_step}
 use Rattle.fx_answer.specs.StepClaims.{Allows, ClaimsHold, HasHighestOfAll, HasLeastOfAll, HasLeastSize, HasMostBlocks}
-use Rattle.fx_answer.specs.StepClaims.{HasNoneAtAll, HasWhatItAsks, IsAsItAsks, OfOutcome, required}
+use Rattle.fx_answer.specs.StepClaims.{HasNoneAtAll, HasWhatItAsks, IsAsItAsks, LeavesNoneOfLeastSize, OfOutcome}
+use Rattle.fx_answer.specs.StepClaims.{required}
 use Rattle.fx_answer.specs.ValidSteps.{IsOfKind, IsValidStep}
+use Rattle.fx_answer.proofs.Left.{IsLeftOf, left-of, left_met, none-left}
 
 -- Numbers of levels
 
@@ -373,35 +375,53 @@ module _ (step : Meaning) (valid : IsValidStep step) where
     ]
   ]
 
-  as_asked : (n : ℕ) (rows : List ℕ) → d ≡ (question n).dimensions → answer (question n) ≡ Some rows
-      → (step.settings.size ≡ Minimum → (least_exponent step.settings.blocks ≤ n) × (n ≤ greatest q))
-      → (step.settings.blocks ≡ blocks.Most → 1 ≤ n)
-      → (step.goal ≡ Highest → 3 ≤ n) → IsAsItAsks step d rows
-  as_asked n rows dims is sizes some three =
-      let own = answered n rows is in
-      subst (λ d. IsAsItAsks step d rows) (sym dims) (record {
-        allowed = allowed n sizes some;
-        whole = own.0;
-        met = met_required n rows three own.1;
+  -- a number of a question of the step is one that the step allows
+  own_fits : (n : ℕ) → lowest step step.settings.size ≤ n
+      → (n ≤ asked.highest step step.settings.size) ⊎ (n ≡ lowest step step.settings.size)
+      → step.settings.size ≡ Minimum
+      → (least_exponent step.settings.blocks ≤ n) × (n ≤ greatest q)
+  own_fits n from upto e =
+      let low : lowest step step.settings.size ≡ least_exponent step.settings.blocks = ap (lowest step) e in
+      let high : asked.highest step step.settings.size ≡ greatest q = ap (asked.highest step) e in
+      let fits = exponent_fits q step.settings.size step.settings.blocks level given in
+      (omega (arith, from, low), elim upto [ inl h ↦ omega (arith, h, high) | inr h ↦ omega (arith, h, low, fits) ])
+
+  own_some : (n : ℕ) → lowest step step.settings.size ≤ n → step.settings.blocks ≡ blocks.Most → 1 ≤ n
+  own_some n from most = elim (size_or step.settings.size) [
+    | inl least ↦ absurd (most_fixed most least)
+    | inr fixed ↦
+        let is : lowest step step.settings.size ≡ low fixed.0 fixed.1 = ap (lowest step) fixed.1 in
+        omega (arith, from, is, low_most fixed.0 fixed.1 most)
+  ]
+
+  own_three : (n : ℕ) → lowest step step.settings.size ≤ n → step.goal ≡ Highest → 3 ≤ n
+  own_three n from e = elim (size_or step.settings.size) [
+    | inl least ↦ absurd (highest_fixed e least)
+    | inr fixed ↦
+        let is : lowest step step.settings.size ≡ low fixed.0 fixed.1 = ap (lowest step) fixed.1 in
+        omega (arith, from, is, low_highest fixed.0 fixed.1 e)
+  ]
+
+  -- the matrix is of one of the step's questions
+  pub what_it_asks : OfOutcome HasWhatItAsks step
+  what_it_asks rows e =
+      let each = each-of_step step in
+      let own = left-of (IsQuestionOf step) (questions_of step) step.settings.budget rows each.0 each.1 e in
+      let n : ℕ = own.holds.n in
+      let is : own.question ≡ question n = own.holds.is in
+      let met =
+      left_met (question n) field rows (subst (λ (p : Problem). IsLeftOf p rows) is own.left) in
+      subst (λ d. IsAsItAsks step d rows) (sym (own.dimensions ∙ ap (λ (p : Problem). p.dimensions) is)) (record {
+        allowed = allowed n (own_fits n own.holds.from own.holds.upto) (own_some n own.holds.from);
+        whole = met.0;
+        met = met_required n rows (own_three n own.holds.from) met.1;
       })
 
-  pub what_it_asks : OfOutcome HasWhatItAsks step
-  what_it_asks rows count e = elim (size_or step.settings.size) [
-    | inl least ↦
-        let h = first_found least rows count e in
-        as_asked h.n rows (ap (λ (c : Conclusion). c.dimensions) (is_least least) ∙ h.answers.dimensions)
-        h.answers.answer_is
-        (λ z. (h.from, h.upto (exponent_fits q step.settings.size step.settings.blocks level given)))
-        (λ most. absurd (most_fixed most least)) (λ highest. absurd (highest_fixed highest least))
-    | inr fixed ↦
-        let m = fixed.0 in
-        let h = last_found m fixed.1 rows count e in
-        as_asked h.n rows (ap (λ (c : Conclusion). c.dimensions) (is_fixed m fixed.1) ∙ h.answers.dimensions)
-        h.answers.answer_is
-        (λ least. absurd (let bad : Minimum ≡ Runs m = sym least ∙ fixed.1 in cc bad))
-        (λ most. subst (λ k. k ≤ h.n) (low_most m fixed.1 most) h.from)
-        (λ highest. subst (λ k. k ≤ h.n) (low_highest m fixed.1 highest) h.from)
-  ]
+  pub none_left : OfOutcome LeavesNoneOfLeastSize step
+  none_left left budget least e =
+      let each = each-of_step step in
+      none-left (IsQuestionOf step) (λ p own. ap (λ (p : Problem). p.least) own.is ∙ (with_least_size least).1)
+      (questions_of step) step.settings.budget left budget (ap until least) each.0 each.1 e
 
   pub least_of_all : OfOutcome HasLeastOfAll step
   least_of_all rows count least e = elim (size_or step.settings.size) [
@@ -574,6 +594,7 @@ module _ (step : Meaning) (valid : IsValidStep step) where
   pub claims_hold : OfOutcome ClaimsHold step
   claims_hold = record {
     as_asked = what_it_asks;
+    none_left = none_left;
     none_at_all = none_at_all;
     least_pattern = least_of_all;
     highest_resolution = highest_of_all;

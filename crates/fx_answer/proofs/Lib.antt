@@ -2,4 +2,5 @@ pub mod Asking
 pub mod Booked
 pub mod Answered
 pub mod Valid
+mod Left
 pub mod Best

@@ -1,10 +1,10 @@
 -- What is claimed of the outcome of a step, over all rule matrices, canonical or not.
-use Rattle.std.specs.Prelude.{ℕ, ◌≡◌, ◌<◌, ◌≤◌, ◌+◌, true, false, List, ◌∷◌, ◌++◌, length, All}
+use Rattle.std.specs.Prelude.{ℕ, ◌≡◌, ◌<◌, ◌≤◌, ◌+◌, true, false, List, ◌∷◌, ◌++◌, length, All, Option, Some, None}
 use Rattle.fx_designs.specs.Problems.{Dimensions, Problem, Requirement, AtResolution}
 use Rattle.fx_designs.specs.Problems as problems
 use Rattle.fx_designs.specs.Answers.{is_design}
 use Rattle.fx_designs.specs.Demands.{is_met}
-use Rattle.fx_designs.specs.Outcomes.{Design, NoDesign}
+use Rattle.fx_designs.specs.Outcomes.{Ending, Design, NoDesign, BudgetEnded}
 use Rattle.fx_designs.specs.Matrices.{NoneMeets}
 use Rattle.fx_reduction.specs.Resolutions.{HasLeastPattern, HighestOfAll}
 use Rattle.fx_settings.specs.declared.settings.Size.TheVariants.{Minimum}
@@ -37,11 +37,24 @@ pub record IsAsItAsks (step : Meaning) (d : Dimensions) (rows : List ℕ) : Type
   pub whole : length rows ≡ d.s + d.t
   pub met : is_met d (required step.goal) rows ≡ true
 
--- the design is as the step asks
+-- the rows of the matrix that comes with an ending: of its design, or of what is left where the budget ended
+abbrev pub rows_in : Ending → Option (List ℕ)
+rows_in (Design rows count) = Some rows
+rows_in (NoDesign count) = None
+rows_in (BudgetEnded left budget) = left
+
+-- each matrix is as the step asks, also one that is left where the budget ended
 abbrev pub HasWhatItAsks : Meaning → Conclusion → Type 0
-HasWhatItAsks step outcome = (rows : List ℕ) (count : ℕ)
-    → outcome.ending ≡ Design rows count
+HasWhatItAsks step outcome = (rows : List ℕ)
+    → rows_in outcome.ending ≡ Some rows
     → IsAsItAsks step outcome.dimensions rows
+
+-- where the budget ended in the search for the least size, none is left
+abbrev pub LeavesNoneOfLeastSize : Meaning → Conclusion → Type 0
+LeavesNoneOfLeastSize step outcome = (left : Option (List ℕ)) (budget : ℕ)
+    → step.settings.size ≡ Minimum
+    → outcome.ending ≡ BudgetEnded left budget
+    → left ≡ None
 
 -- without a design the runs of no rule matrix at all meet what is required, in no dimensions that the step allows
 abbrev pub HasNoneAtAll : Meaning → Conclusion → Type 0
@@ -85,6 +98,7 @@ HasMostBlocks step outcome = (rows : List ℕ) (count : ℕ) (d : Dimensions)
 -- all of these
 pub record ClaimsHold (step : Meaning) (outcome : Conclusion) : Type 0 where
   pub as_asked : HasWhatItAsks step outcome
+  pub none_left : LeavesNoneOfLeastSize step outcome
   pub none_at_all : HasNoneAtAll step outcome
   pub least_pattern : HasLeastOfAll step outcome
   pub highest_resolution : HasHighestOfAll step outcome

@@ -1,15 +1,19 @@
 -- What is claimed of each step of a program, of the program's status, and of a book that is accepted.
-use Rattle.std.specs.Prelude.{ℕ, ◌≡◌, ◌<◌, ◌≤◌, List, Result, Ok, Err, All}
+use Rattle.std.specs.Prelude.{ℕ, ◌≡◌, ◌<◌, ◌≤◌, List, Some, Result, Ok, Err, All}
 use Rattle.std.specs.List.{Contains}
 use Rattle.fx_designs.specs.Problems.{Dimensions}
 use Rattle.fx_designs.specs.Matrices.{NoneMeets}
+use Rattle.fx_vectors.specs.Matrix.{MatrixView}
 use Rattle.fx_vectors.specs.Question.{problem_of}
+use Rattle.fx_vectors.specs.Shape.{dimensions_of}
 use Rattle.fx_vectors.specs.declared.book.Book.{Book}
 use Rattle.fx_book.specs.Heads.{book_of}
 use Rattle.fx_checker.specs.Laws.{NoMatrix}
+use Rattle.fx_statements.specs.Questions.{outcome_of}
 use Rattle.fx_statements.specs.Steps.{Meaning}
+use Rattle.fx_program.specs.Files.{matrix_in}
 use Rattle.fx_program.specs.Output.{step_status}
-use Rattle.fx_answer.specs.StepClaims.{Allows, ClaimsHold, OfOutcome, required}
+use Rattle.fx_answer.specs.StepClaims.{Allows, ClaimsHold, IsAsItAsks, OfOutcome, required}
 use Rattle.fx_program.specs.declared.text.TextFault.{TextFault}
 
 -- a claim on each step of a program; a text that is refused has none
@@ -20,6 +24,12 @@ EachStep Claimed (Err fault) = Unit {0}
 -- what is claimed of the outcome of each step holds of all rule matrices, canonical or not
 abbrev pub AllClaimsHold : Result (List Meaning) TextFault → Type 0
 AllClaimsHold program = EachStep (OfOutcome ClaimsHold) program
+
+-- the matrix of which the listing and the plans of a step are made, if there is one, is as the step asks
+abbrev pub HasMatrixAsAsked : Meaning → Type 0
+HasMatrixAsAsked step = (matrix : MatrixView)
+    → matrix_in (outcome_of step).dimensions (outcome_of step).ending ≡ Some matrix
+    → IsAsItAsks step (dimensions_of matrix.shape) matrix.rows
 
 -- some step of the program has no design at all: it ends with status 1, and the runs of no rule matrix meet what is
 -- required, in no dimensions that it allows

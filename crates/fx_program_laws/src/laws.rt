@@ -25,13 +25,13 @@ ghost use Rattle.fx_answer.specs.StepClaims.{
   HasMostBlocks,
   HasNoDesign,
   HasNoneAtAll,
-  HasWhatItAsks,
+  LeavesNoneOfLeastSize,
   IsLastWithDesign,
   OfOutcome,
   required,
 };
 ghost use Rattle.fx_answer.specs.ValidSteps.{IsValidStep};
-ghost use Rattle.fx_program.specs.Claims.{EachStep, IsGreatest, IsProvedBook};
+ghost use Rattle.fx_program.specs.Claims.{EachStep, HasMatrixAsAsked, IsGreatest, IsProvedBook};
 
 /// What is given for a step with some factors, where the nodes of the questions that are asked for it
 /// are within its budget: status 0 with the files and the lines of the first design of the canonical
@@ -91,10 +91,13 @@ pub fn valid_steps_in_any_text()
     ensures { (text : List ℕ) → EachStep IsValidStep (program_in text) }
 {}
 
-/// Whatever a text says: where a step of its program ends with a design, this has a row for each
-/// factor and block factor, in dimensions that the step allows, and its runs meet what is required.
+/// Whatever a text says: the matrix of which the listing and the plans of a step are made, its design or
+/// what is left where the budget ended, has a row for each factor and block factor, in dimensions that the
+/// step allows, and its runs meet what is required. Where the budget ended in the search for the least
+/// size, there is none.
 pub fn designs_meet_what_is_asked_in_any_text()
-    ensures { (text : List ℕ) → EachStep (OfOutcome HasWhatItAsks) (program_in text) }
+    ensures as_asked { (text : List ℕ) → EachStep HasMatrixAsAsked (program_in text) }
+    ensures none_left { (text : List ℕ) → EachStep (OfOutcome LeavesNoneOfLeastSize) (program_in text) }
 {}
 
 /// Whatever a text says: where a step of its program ends without a design, the runs of no rule matrix at
