@@ -11,8 +11,8 @@ use Rattle.fx_designs.specs.Problems.{Dimensions, Problem}
 use Rattle.fx_designs.specs.Demands.{is_met}
 use Rattle.fx_designs.specs.Answers.{answer, prefixes}
 use Rattle.fx_designs.specs.Patterns.{pattern_of, is_less}
-use Rattle.fx_designs.specs.Nodes.{nodes, is_complete_allowed}
-use Rattle.fx_designs.specs.Jobs.{best_of, best_before, carried, first_least, is_of_earlier_lot}
+use Rattle.fx_designs.specs.Nodes.{is_complete_allowed}
+use Rattle.fx_designs.specs.Jobs.{best_of, best_before, carried, first_least}
 use Rattle.fx_designs.specs.Outcomes.{BudgetEnded}
 use Rattle.fx_reduction.proofs.LeastPattern.{answer-design}
 use Rattle.fx_reduction.proofs.Prefix.{met-prefix}

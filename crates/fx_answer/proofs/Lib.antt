@@ -3,4 +3,6 @@ pub mod Booked
 pub mod Answered
 pub mod Valid
 mod Left
+pub mod StepSettings
+mod NextResolution
 pub mod Best

@@ -20,7 +20,7 @@ use Rattle.fx_answer.specs.StepClaims.{Allows, required, rows_in}
 use Rattle.fx_answer.specs.ValidSteps.{IsValidStep}
 use Rattle.fx_answer.proofs.Best.{field, none_at_all, what_it_asks}
 
-none_at_one : (ending : Ending) → status_of ending ≡ 1 → (count : ℕ) × (ending ≡ NoDesign count)
+pub none_at_one : (ending : Ending) → status_of ending ≡ 1 → (count : ℕ) × (ending ≡ NoDesign count)
 none_at_one (Design rows count) e = absurd (omega (arith, e))
 none_at_one (NoDesign count) e = (count, refl)
 none_at_one (BudgetEnded left budget) e = absurd (omega (arith, e))
