@@ -45,6 +45,7 @@ use Rattle.fx_answer.specs.ValidSteps.{IsValidStep}
 use Rattle.fx_answer.proofs.StepSettings.{order_of, most_or, not_both, neither, same_blocks, runs_again}
 use Rattle.fx_answer.proofs.StepSettings.{blocks_again, highest_or, kind_of_highest, reducible_by, exponent_fits}
 use Rattle.fx_answer.proofs.StepSettings.{size_or, unblocked, same_dimensions}
+use Rattle.fx_answer.proofs.FullBlocks.{fewer_than_indexes, goal-estimated}
 use Rattle.fx_answer.proofs.NextResolution.{exact_resolution, full_resolution}
 use Rattle.fx_answer.proofs.Valid.{some_numbers}
 use Rattle.fx_answer.proofs.Left.{IsLeftOf, left-of, left_met, none-left}
@@ -676,10 +677,10 @@ module _ (step : Meaning) (valid : IsValidStep step) where
     | inr fixed ↦ absurd (one_size fixed.0 fixed.1 rows count other e h less)
   ]
 
-  -- behind the most blocks that for one block factor more, unless there are as many as run indexes
+  -- behind the most blocks that for one block factor more
   pub more_blocks_asked : (rows : List ℕ) (count : ℕ) → step.settings.blocks ≡ blocks.Most
       → HasEnding (outcome_of step) (Design rows count)
-      → (d.m ≤ d.t) ⊎ IsAsked step (with_block d) (required step.goal) None
+      → IsAsked step (with_block d) (required step.goal) None
   more_blocks_asked rows count most e = elim (size_or step.settings.size) [
     | inl least ↦ absurd (most_fixed most least)
     | inr fixed ↦
@@ -688,13 +689,21 @@ module _ (step : Meaning) (valid : IsValidStep step) where
         let n : ℕ = last.n in
         let dims : d ≡ (question n).dimensions =
         ap (λ (c : Conclusion). c.dimensions) (is_fixed m fixed.1) ∙ last.answers.dimensions in
-        let own : d.t ≡ n =
-        ap (λ (d : Dimensions). d.t) dims ∙ ap (λ b. block_factors b (run_factors step.settings.size n) n) most in
-        let runs : d.m ≡ m = ap (λ (d : Dimensions). d.m) dims ∙ ap (λ size. run_factors size n) fixed.1 in
+        let same = requires_same n (λ highest. most_not_highest most highest) in
         elim (next_asked m fixed.1 rows last (with_block d) (required step.goal)
         (one_more m fixed.1 most n ∙ ap with_block (sym dims))
         (requires_same (n + 1) (λ highest. most_not_highest most highest))) [
-          | inl end ↦ inl (omega (arith, end, high_most m fixed.1 most, runs, own))
-          | inr next ↦ inr next.1
+          | inl end ↦
+              let own = answered n rows last.answers.answer_is in
+              let blocks_are : (question n).dimensions.t ≡ n =
+              ap (λ b. block_factors b (run_factors step.settings.size n) n) most in
+              let runs : (question n).dimensions.m ≡ m = ap (λ size. run_factors size n) fixed.1 in
+              let fewer =
+              fewer_than_indexes (question n).dimensions field (required step.goal)
+              (goal-estimated (question n).dimensions field step.goal reducible
+              (leb-true 1 (length step.factors) (and_parts _ _ valid.factors).0) valid.effects) rows own.0
+              (subst (λ wanted. is_met (question n).dimensions wanted rows ≡ true) same own.1) in
+              absurd (omega (arith, end, high_most m fixed.1 most, runs, blocks_are, fewer))
+          | inr next ↦ next.1
         ]
   ]

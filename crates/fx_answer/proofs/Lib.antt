@@ -5,4 +5,5 @@ pub mod Valid
 mod Left
 pub mod StepSettings
 mod NextResolution
+mod FullBlocks
 pub mod Best

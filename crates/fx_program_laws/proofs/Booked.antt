@@ -181,7 +181,6 @@ module _ (seed number : ℕ) (step : Meaning) where
         (design_below rows count e)
 
     pub block_book : MostBlocksHasBook seed number step
-    block_book rows count most e = elim (more_blocks_asked step valid rows count most e) [
-      | inl full ↦ inl full
-      | inr next ↦ inr (unanswered_book (with_block d) (required step.goal) next (design_below rows count e))
-    ]
+    block_book rows count most e =
+        unanswered_book (with_block d) (required step.goal) (more_blocks_asked step valid rows count most e)
+        (design_below rows count e)

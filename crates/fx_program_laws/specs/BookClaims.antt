@@ -1,5 +1,5 @@
 -- What is claimed of the books of a step.
-use Rattle.std.specs.Prelude.{ℕ, ◌≡◌, ◌<◌, ◌≤◌, ◌⊎◌, ◌+◌, true, false, List, [], ◌∷◌, Option, Some, None, Ok, All}
+use Rattle.std.specs.Prelude.{ℕ, ◌≡◌, ◌<◌, ◌⊎◌, ◌+◌, true, false, List, [], ◌∷◌, Option, Some, None, Ok, All}
 use Rattle.std.specs.Prelude.{codes}
 use Rattle.std.specs.Prelude.{is_some, slice_get}
 use Rattle.std.specs.List.{Contains}
@@ -87,11 +87,9 @@ LeastSizeHasBooks seed number step = (rows : List ℕ) (count : ℕ) (d : Dimens
     → d.m < (outcome_of step).dimensions.m
     → HasBook seed number step d (required step.goal) None
 
--- where the most blocks are asked, one that there is no design with one block factor more, unless there are as many as
--- run indexes
+-- where the most blocks are asked, one that there is no design with one block factor more
 abbrev pub MostBlocksHasBook : ℕ → ℕ → Meaning → Type 0
 MostBlocksHasBook seed number step = (rows : List ℕ) (count : ℕ)
     → step.settings.blocks ≡ Most
     → (outcome_of step).ending ≡ Design rows count
-    → ((outcome_of step).dimensions.m ≤ (outcome_of step).dimensions.t)
-    ⊎ HasBook seed number step (with_block (outcome_of step).dimensions) (required step.goal) None
+    → HasBook seed number step (with_block (outcome_of step).dimensions) (required step.goal) None

@@ -145,8 +145,7 @@ pub fn greatest_status_decides()
 /// step and of the question. So there are the books of all questions that are asked, where the step ends
 /// without a design; where it has one, the book of the next resolution for the highest, unless there are
 /// no defining words; a book under the pattern of the design for least aberration; the books of all
-/// smaller sizes for the least; and the book of one more block factor for the most blocks, unless there
-/// are as many as run indexes.
+/// smaller sizes for the least; and the book of one more block factor for the most blocks.
 pub fn claims_have_books()
     ensures finished { (seed number : ℕ) (step : Meaning) → HasABookForEach seed number step }
     ensures none { (seed number : ℕ) (step : Meaning) → (step_output seed number step).status ≡ 1
