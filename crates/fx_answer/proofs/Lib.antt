@@ -2,3 +2,8 @@ pub mod Asking
 pub mod Booked
 pub mod Answered
 pub mod Valid
+mod Left
+pub mod StepSettings
+mod NextResolution
+mod FullBlocks
+pub mod Best

@@ -1,4 +1,5 @@
 pub mod Books
 pub mod Outcomes
 pub mod Standing
+pub mod StepClaims
 pub mod ValidSteps

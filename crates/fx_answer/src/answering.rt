@@ -17,6 +17,7 @@ ghost use Rattle.fx_statements.specs.Questions.{
   Found,
 };
 ghost use Rattle.fx_answer.specs.Outcomes.{IsOutcome};
+ghost use Rattle.fx_answer.specs.StepClaims.{ClaimsHold};
 ghost use Rattle.fx_answer.specs.Standing.{
   IsOf,
   IsOutcomeOf,
@@ -70,7 +71,11 @@ pub fn answer<R: Threads + Sync, G: Gate>(
     gate: &G,
 ) -> Result<Outcome, NoMemory>
     requires { (0 < threads) × (threads ≤ 64) }
-    ensures { IfOk result (IsOutcome (meaning_of step.now)) }
+    ensures outcome { IfOk result (IsOutcome (meaning_of step.now)) }
+
+    // What is claimed of the outcome holds of all rule matrices, canonical or not: that none meets what is
+    // asked, or none is better.
+    ensures claims { IfOk result (λ outcome. ClaimsHold (meaning_of step.now) (conclusion_in outcome)) }
 {
     let none = Finished {
         found: None,

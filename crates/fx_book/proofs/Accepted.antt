@@ -8,13 +8,13 @@ use Rattle.std.specs.Str.{bytes_eq}
 use Rattle.std.proofs.lemmas.Bool.{cond-true, cond-false, cases_Bool, and_parts, or_cases, eqb-true, ltb-true, leb-true}
 use Rattle.std.proofs.Math.Nat.{pow-le-pow_right}
 use Rattle.fx_designs.specs.Nodes as nodes
-use Rattle.fx_vectors.specs.Shape.{dimensions_of}
+use Rattle.fx_vectors.specs.Shape.{IsShape, dimensions_of}
 use Rattle.fx_vectors.specs.Effects.{numbers_of}
 use Rattle.fx_vectors.specs.declared.shape.Shape.{Shape}
 use Rattle.fx_vectors.specs.declared.book.Book.{Book}
 use Rattle.fx_vectors.specs.declared.question.Demands.{Demands}
 use Rattle.fx_vectors.specs.declared.question.Demands.TheVariants.{Resolution, Effects}
-use Rattle.fx_vectors.proofs.Limits.{order-bounds, numbers_fit}
+use Rattle.fx_vectors.proofs.Limits.{order-bounds, numbers_fit, rows_fit}
 use Rattle.fx_book.specs.declared.demands.EffectLists.{EffectLists}
 use Rattle.fx_book.specs.declared.fault.BookFault.{BookFault}
 use Rattle.fx_book.specs.declared.fault.FaultKind.TheVariants as kind
@@ -32,11 +32,14 @@ use Rattle.fx_book.proofs.Numerals.{part_is, parts_are}
 use Rattle.fx_book.proofs.Texts.{joined, joined_more, join_split, text_of, joined_spaced, joined_lists, same_bytes}
 use Rattle.fx_book.proofs.Texts.{entries_are}
 
+abbrev title : List ℕ
+title = codes "factex-book 1"
+
 abbrev end : List ℕ
 end = codes "END\n"
 
 -- the first line, where something is made of it
-line_taken : (f : BookFault) (make : List ℕ → List (List ℕ) → Result Book BookFault) (lines : List (List ℕ))
+pub line_taken : (f : BookFault) (make : List ℕ → List (List ℕ) → Result Book BookFault) (lines : List (List ℕ))
     (book : Book) → with_line (Err f) make lines ≡ Ok book
     → (line : List ℕ) × (rest : List (List ℕ)) × (lines ≡ line ∷ rest) × (0 < length rest) × (make line rest ≡ Ok book)
 line_taken f make [] book h = cc h
@@ -76,13 +79,13 @@ module _ (shape : Shape) where
       ]
 
   -- the limits of a shape that was read
-  record AreLimits : Type 0 where
-    q : shape.q ≤ 9
-    m : shape.m ≤ 10
-    runs : shape.q ^ shape.m ≤ 1024
-    s : shape.s ≤ 40
-    t : shape.t ≤ 10
-    rows : shape.s + shape.t ≤ 40
+  pub record AreLimits : Type 0 where
+    pub shaped : IsShape shape
+    pub q : shape.q ≤ 9
+    pub m : shape.m ≤ 10
+    pub s : shape.s ≤ 40
+    pub t : shape.t ≤ 10
+    pub rows : shape.s + shape.t ≤ 40
 
   limits : is_shape shape.q shape.m shape.s shape.t ≡ true → AreLimits
   limits h =
@@ -95,20 +98,29 @@ module _ (shape : Shape) where
       let g = and_parts _ _ f.1 in
       let s : shape.s ≤ 40 = leb-true _ _ f.0 in
       let t : shape.t ≤ 10 = leb-true _ _ g.0 in
+      let shaped : IsShape shape =
       record {
+        order = a.0;
+        some_indexes = leb-true _ _ b.0;
+        runs = leb-true _ _ d.0;
+        some_factors = leb-true _ _ e.0;
+        factors = s;
+        block_factors = t;
+        factors_in_blocks = λ some. elim (or_cases _ _ g.1) [
+          | inl none ↦ absurd (let z : shape.t ≡ 0 = eqb-true _ _ none in omega (arith, z, some))
+          | inr few ↦ leb-true _ _ few
+        ];
+      } in
+      record {
+        shaped = shaped;
         q = (order-bounds shape.q a.0).1;
         m = leb-true _ _ c.0;
-        runs = leb-true _ _ d.0;
         s = s;
         t = t;
-        rows = elim (or_cases _ _ g.1) [
-          | inl none ↦ (let z : shape.t ≡ 0 = eqb-true _ _ none in omega arith)
-          | inr few ↦
-              (let z : shape.s ≤ 30 = leb-true _ _ few in omega arith)
-        ];
+        rows = rows_fit shape shaped;
       }
 
-  shape_is : (parts : List (List ℕ)) → shape_of parts ≡ Some shape
+  pub shape_is : (parts : List (List ℕ)) → shape_of parts ≡ Some shape
       → AreLimits × (parts ≡ codes "size" ∷ map decimal (shape.q ∷ shape.m ∷ shape.s ∷ shape.t ∷ []))
   shape_is [] h = cc h
   shape_is (word ∷ []) h = cc h
@@ -167,7 +179,7 @@ numbers-effects : (ns : List ℕ) → numbers_of (effects_of ns) ≡ ns
 numbers-effects [] = refl
 numbers-effects (n ∷ ns) = ap (λ l. n ∷ l) (numbers-effects ns)
 
-stroke_taken : (o : Option (List ℕ)) (lists : EffectLists) → after_stroke (as_effects o) ≡ Some lists
+pub stroke_taken : (o : Option (List ℕ)) (lists : EffectLists) → after_stroke (as_effects o) ≡ Some lists
     → (ns : List ℕ) × (o ≡ Some ns) × (record { estimate = []; nonnegligible = effects_of ns } ≡ lists)
 stroke_taken None lists h = cc h
 stroke_taken (Some ns) lists h = (ns, refl, cc h)
@@ -320,14 +332,14 @@ beat_is s allowed line beat rest h =
     ]
 
 module _ (shape : Shape) (l : AreLimits shape) (book : Book) where
-  beat_taken : (asked : Demands) (lines : List (List ℕ)) (o : Option (Option (List ℕ)))
+  pub beat_taken : (asked : Demands) (lines : List (List ℕ)) (o : Option (Option (List ℕ)))
       → with_beat shape asked lines o ≡ Ok book
       → (beat : Option (List ℕ)) × (o ≡ Some beat)
       × (with_marks shape asked beat (entries (dimensions_of shape) (is_some beat) 5 lines) ≡ Ok book)
   beat_taken asked lines None h = cc h
   beat_taken asked lines (Some beat) h = (beat, refl, h)
 
-  marks_taken : (asked : Demands) (beat : Option (List ℕ)) (r : Result (List nodes.Mark) BookFault)
+  pub marks_taken : (asked : Demands) (beat : Option (List ℕ)) (r : Result (List nodes.Mark) BookFault)
       → with_marks shape asked beat r ≡ Ok book
       → (marks : List nodes.Mark) × (r ≡ Ok marks)
       × (record {
@@ -348,7 +360,8 @@ module _ (shape : Shape) (l : AreLimits shape) (book : Book) where
       let b = beat_taken asked k.1 (beat_of shape.s (may_be_beaten shape asked) k.0) k.4 in
       let m = marks_taken asked b.0 (entries (dimensions_of shape) (is_some b.0) 5 k.1) b.2 in
       let after =
-      entries_are (dimensions_of shape) (is_some b.0) l.runs (numbers_fit shape.q (shape.s + shape.t) l.q l.rows) 5
+      entries_are (dimensions_of shape) (is_some b.0) l.shaped.runs (numbers_fit shape.q (shape.s + shape.t) l.q l.rows)
+      5
       k.1 m.0 m.1 in (
         ap (λ (x : Book). x.head.question.shape) (sym m.2),
         ap (λ (x : Book). x.head.question.demands) (sym m.2),
@@ -357,7 +370,7 @@ module _ (shape : Shape) (l : AreLimits shape) (book : Book) where
             ∙ ap (λ (x : Book). beat_text x.head.beat ++ (entries_text x.marks ++ end)) m.2,
       )
 
-  demands_taken : (lines : List (List ℕ)) (o : Option Demands) → with_demands shape lines o ≡ Ok book
+  pub demands_taken : (lines : List (List ℕ)) (o : Option Demands) → with_demands shape lines o ≡ Ok book
       → (asked : Demands) × (o ≡ Some asked) × (from_beat shape asked lines ≡ Ok book)
   demands_taken lines None h = cc h
   demands_taken lines (Some asked) h = (asked, refl, h)
@@ -379,7 +392,7 @@ module _ (shape : Shape) (l : AreLimits shape) (book : Book) where
       )
 
 module _ (book : Book) where
-  size_taken : (lines : List (List ℕ)) (o : Option Shape) → with_shape lines o ≡ Ok book
+  pub size_taken : (lines : List (List ℕ)) (o : Option Shape) → with_shape lines o ≡ Ok book
       → (shape : Shape) × (o ≡ Some shape) × (from_demands shape lines ≡ Ok book)
   size_taken lines None h = cc h
   size_taken lines (Some shape) h = (shape, refl, h)
@@ -402,6 +415,22 @@ module _ (book : Book) where
       (text_of 32 k.0 (codes "size" ∷ map decimal numbers) i.1 ∙ joined_spaced (codes "size") numbers)
       ∙ ended (codes "size") numbers R ∙ ap (λ (x : Shape). shape_text x ++ R) (sym d.0)
 
+  pub title_taken : (lines : List (List ℕ)) → from_title lines ≡ Ok book
+      → (rest : List (List ℕ)) × (lines ≡ title ∷ rest) × (0 < length rest) × (from_size rest ≡ Ok book)
+  title_taken lines h =
+      let k = line_taken (fault kind.Title 1)
+      (λ line rest. if bytes_eq line title then from_size rest else Err (fault kind.Title 1)) lines book h in
+      elim (cases_Bool (bytes_eq k.0 title)) [
+        | inl is ↦ (
+          k.1,
+          k.2 ∙ ap (λ line. line ∷ k.1) (same_bytes k.0 title is),
+          k.3,
+          sym (cond-true (bytes_eq k.0 title) (from_size k.1) (Err (fault kind.Title 1)) is) ∙ k.4,
+        )
+        | inr out ↦
+            let z = sym (cond-false (bytes_eq k.0 title) (from_size k.1) (Err (fault kind.Title 1)) out) ∙ k.4 in cc z
+      ]
+
   pub read_is_written : (text : List ℕ) → book_of text ≡ Ok book → text ≡ book_text book
   unfolding book_of
   read_is_written text h =
@@ -410,20 +439,7 @@ module _ (book : Book) where
         | inr short ↦
             let h' : from_title (split 10 text) ≡ Ok book =
             sym (cond-false (ltb 268435456 (length text)) _ _ short) ∙ h in
-            let k = line_taken (fault kind.Title 1)
-            (λ line rest. if bytes_eq line (codes "factex-book 1")
-            then from_size rest else Err (fault kind.Title 1)) (split 10 text) book h' in
-            elim (cases_Bool (bytes_eq k.0 (codes "factex-book 1"))) [
-              | inl is ↦
-                  let rest =
-                  from_size_text k.1
-                  (sym (cond-true (bytes_eq k.0 (codes "factex-book 1")) (from_size k.1)
-                  (Err (fault kind.Title 1)) is) ∙ k.4) in
-                  sym (join_split 10 text) ∙ ap (joined 10) k.2 ∙ joined_more 10 k.0 k.1 k.3 ∙ ap
-                  (λ l. l ++ 10 ∷ joined 10 k.1) (same_bytes k.0 (codes "factex-book 1") is)
-                  ∙ ap (λ l. codes "factex-book 1\n" ++ l) rest
-              | inr out ↦ let z =
-                  sym (cond-false (bytes_eq k.0 (codes "factex-book 1")) (from_size k.1) (Err (fault kind.Title 1)) out)
-                  ∙ k.4 in cc z
-            ]
+            let k = title_taken (split 10 text) h' in
+            sym (join_split 10 text) ∙ ap (joined 10) k.1 ∙ joined_more 10 title k.0 k.2
+            ∙ ap (λ l. codes "factex-book 1\n" ++ l) (from_size_text k.0 k.3)
       ]

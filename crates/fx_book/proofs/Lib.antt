@@ -12,4 +12,5 @@ mod Examples
 mod Numerals
 mod Texts
 mod Accepted
+pub mod ValidTexts
 pub mod QuestionBooks

@@ -27,3 +27,8 @@ pub fn books_come_back()
 pub fn only_books_are_read()
     ensures { (text : List ℕ) (book : Book) → book_of text ≡ Ok book → text ≡ book_text book }
 {}
+
+/// What is read as a book is valid.
+pub fn read_books_are_valid()
+    ensures { (text : List ℕ) (book : Book) → book_of text ≡ Ok book → IsValidBook book }
+{}

@@ -18,7 +18,7 @@ mod writing;
 
 pub use book::read_book;
 pub use fault::{BookFault, BookStop, FaultKind};
-pub use laws::{books_come_back, entries_come_back, only_books_are_read};
+pub use laws::{books_come_back, entries_come_back, only_books_are_read, read_books_are_valid};
 pub use pieces::book_pieces;
 pub use question_book::{absence_book, least_book};
 pub use writing::{write_book, write_head};

@@ -10,18 +10,19 @@ use Rattle.fx_base.specs.Acts.{acts}
 use Rattle.fx_base.proofs.Doing.{part_none}
 use Rattle.fx_program.specs.declared.stop.Stop.{Stop}
 use Rattle.fx_program.specs.declared.words.Settings.{Settings}
-use Rattle.fx_program.specs.declared.words.Settings.TheVariants.{Run, Large}
+use Rattle.fx_program.specs.declared.words.Settings.TheVariants.{Check, Run, Large}
 use Rattle.fx_program.specs.declared.words.WordFault.{WordFault}
 use Rattle.fx_program.specs.Stops.{HasCause, exit_status, stop_of}
 use Rattle.fx_program.specs.Making.{made_text}
 use Rattle.fx_program.specs.Texts.{program_in}
-use Rattle.fx_program.specs.Claims.{SomeHasNone}
+use Rattle.fx_program.specs.Claims.{IsProvedBook, SomeHasNone}
 use Rattle.fx_program.specs.Output.{Output}
-use Rattle.fx_program.specs.Commands.{Command, command_for, unread}
+use Rattle.fx_program.specs.Commands.{Command, command_for, command_of, unread}
 use Rattle.fx_program.specs.Outside.{Ends, GivesForSome, IsCarriedOut, Outside, ShelfView, SinkView, SourceView}
 use Rattle.fx_program.specs.Outside.{faults_of, outside, world_of}
 use Rattle.fx_program.proofs.Endings.{error_is, gives_part, stopped_high}
 use Rattle.fx_program.proofs.Limits.{is_over_limit, over_limit, same_over_limit}
+use Rattle.fx_program.proofs.ProvedBooks.{proved_book}
 use Rattle.fx_program.proofs.Statuses.{none_where_one}
 use Rattle.fx_program.proofs.Summing.{large_status}
 
@@ -139,6 +140,13 @@ none_given (Ok (Large n threads)) left text exposed one program e =
     (none_where_one 0 (made_text n) (sym (large_status (program_in (made_text n))) ∙ one))
 none_given _ left text exposed one program e = absurd (cc e)
 
+-- where `check` ends with status 0, the text of the source is a book whose claim holds
+pub book_proved : {old new : Outside} {ended : Result ℕ Stop} → IsCarriedOut (command_of Check) old new ended
+    → exit_status ended ≡ 0 → (text : List ℕ) → old.source.left ≡ Some text → IsProvedBook text
+book_proved done accepted text e =
+    subst IsProvedBook (sym (done.exposed refl text e))
+    (proved_book done.text (sym (done.ends.gives.same (omega (arith, accepted))) ∙ accepted))
+
 module _ {asked settings : Result Settings WordFault} {old new : Outside} {ended : Result ℕ Stop}
     (same : asked ≡ settings)
     (done : IsCarriedOut (command_for asked) old new ended) where
@@ -159,3 +167,7 @@ module _ {asked settings : Result Settings WordFault} {old new : Outside} {ended
       → old.source.left ≡ Some text
       → new.source.left ≡ Some []
   read_to_end = carried_out.read_to_end
+
+  pub accepted : exit_status ended ≡ 0 → settings ≡ Ok Check → (text : List ℕ) → old.source.left ≡ Some text
+      → IsProvedBook text
+  accepted zero is = book_proved (subst (λ s. IsCarriedOut (command_for s) old new ended) is carried_out) zero

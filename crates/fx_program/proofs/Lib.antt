@@ -5,11 +5,11 @@ mod Limits
 mod SoFar
 mod Filing
 mod Given
-pub mod Best
 pub mod None
 pub mod AnyText
 pub mod Statuses
 mod Summing
+pub mod ProvedBooks
 mod Commands
 pub mod Made
 pub mod GivenOptions

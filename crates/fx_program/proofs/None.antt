@@ -16,10 +16,11 @@ use Rattle.fx_statements.specs.Questions.{Conclusion, Found, asked, concluded, c
 use Rattle.fx_statements.specs.Questions.{nodes_of, outcome_of, questions_of}
 use Rattle.fx_statements.proofs.Concluded.{passed, within}
 use Rattle.fx_program.specs.Statuses.{status_of}
-use Rattle.fx_program.specs.StepClaims.{Allows, IsValidStep, required}
-use Rattle.fx_program.proofs.Best.{field, none_at_all, what_it_asks}
+use Rattle.fx_answer.specs.StepClaims.{Allows, required, rows_in}
+use Rattle.fx_answer.specs.ValidSteps.{IsValidStep}
+use Rattle.fx_answer.proofs.Best.{field, none_at_all, what_it_asks}
 
-none_at_one : (ending : Ending) → status_of ending ≡ 1 → (count : ℕ) × (ending ≡ NoDesign count)
+pub none_at_one : (ending : Ending) → status_of ending ≡ 1 → (count : ℕ) × (ending ≡ NoDesign count)
 none_at_one (Design rows count) e = absurd (omega (arith, e))
 none_at_one (NoDesign count) e = (count, refl)
 none_at_one (BudgetEnded left budget) e = absurd (omega (arith, e))
@@ -71,7 +72,7 @@ module _ (step : Meaning) where
     by_found p None count is none = ap (λ (c : Conclusion). status_of c.ending) is
     by_found p (Some found) count is none =
         let d : Dimensions = (outcome_of step).dimensions in
-        let own = what_it_asks step valid found.rows count (ap (λ (c : Conclusion). c.ending) is) in
+        let own = what_it_asks step valid found.rows (ap (λ (c : Conclusion). rows_in c.ending) is) in
         let f : IsField d.q = subst IsField (sym own.allowed.levels) (field step valid) in
         absurd (some_meets d f (required step.goal) found.rows own.whole own.met (none d own.allowed))
 

@@ -10,7 +10,7 @@ use Rattle.fx_program.specs.Texts.{program_in}
 use Rattle.fx_program.specs.declared.text.TextFault.{TextFault}
 use Rattle.fx_program.specs.Output.{program_output, step_output, step_status, steps_output, worse}
 use Rattle.fx_program.specs.Claims.{EachStep, IsGreatest, SomeEndsWith, SomeHasNone}
-use Rattle.fx_program.specs.StepClaims.{IsValidStep}
+use Rattle.fx_answer.specs.ValidSteps.{IsValidStep}
 use Rattle.fx_program.proofs.AnyText.{any_text}
 use Rattle.fx_program.proofs.None.{one_told}
 

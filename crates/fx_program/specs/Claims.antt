@@ -1,17 +1,35 @@
--- What is claimed of each step of a program, and of the program's status.
-use Rattle.std.specs.Prelude.{ℕ, ◌≡◌, ◌<◌, ◌≤◌, List, Result, Ok, Err, All}
+-- What is claimed of each step of a program, of the program's status, and of a book that is accepted.
+use Rattle.std.specs.Prelude.{ℕ, ◌≡◌, ◌<◌, ◌≤◌, List, Some, Result, Ok, Err, All}
 use Rattle.std.specs.List.{Contains}
 use Rattle.fx_designs.specs.Problems.{Dimensions}
 use Rattle.fx_designs.specs.Matrices.{NoneMeets}
+use Rattle.fx_vectors.specs.Matrix.{MatrixView}
+use Rattle.fx_vectors.specs.Question.{problem_of}
+use Rattle.fx_vectors.specs.Shape.{dimensions_of}
+use Rattle.fx_vectors.specs.declared.book.Book.{Book}
+use Rattle.fx_book.specs.Heads.{book_of}
+use Rattle.fx_checker.specs.Laws.{NoMatrix}
+use Rattle.fx_statements.specs.Questions.{outcome_of}
 use Rattle.fx_statements.specs.Steps.{Meaning}
+use Rattle.fx_program.specs.Files.{matrix_in}
 use Rattle.fx_program.specs.Output.{step_status}
-use Rattle.fx_program.specs.StepClaims.{Allows, required}
+use Rattle.fx_answer.specs.StepClaims.{Allows, ClaimsHold, IsAsItAsks, OfOutcome, required}
 use Rattle.fx_program.specs.declared.text.TextFault.{TextFault}
 
 -- a claim on each step of a program; a text that is refused has none
 abbrev pub EachStep : (Meaning → Type 0) → Result (List Meaning) TextFault → Type 0
 EachStep Claimed (Ok steps) = All Claimed steps
 EachStep Claimed (Err fault) = Unit {0}
+
+-- what is claimed of the outcome of each step holds of all rule matrices, canonical or not
+abbrev pub AllClaimsHold : Result (List Meaning) TextFault → Type 0
+AllClaimsHold program = EachStep (OfOutcome ClaimsHold) program
+
+-- the matrix of which the listing and the plans of a step are made, if there is one, is as the step asks
+abbrev pub HasMatrixAsAsked : Meaning → Type 0
+HasMatrixAsAsked step = (matrix : MatrixView)
+    → matrix_in (outcome_of step).dimensions (outcome_of step).ending ≡ Some matrix
+    → IsAsItAsks step (dimensions_of matrix.shape) matrix.rows
 
 -- some step of the program has no design at all: it ends with status 1, and the runs of no rule matrix meet what is
 -- required, in no dimensions that it allows
@@ -33,3 +51,10 @@ pub record SomeEndsWith (status : ℕ) (steps : List Meaning) : Type 0 where
 pub record IsGreatest (status : ℕ) (steps : List Meaning) : Type 0 where
   pub each : All (λ step. step_status step ≤ status) steps
   pub some : 0 < status → SomeEndsWith status steps
+
+-- a text that is a book whose claim holds: the runs of no rule matrix at all, canonical or not, meet what its head
+-- asks, or, where the head has a pattern, none of those that do has a less one
+pub record IsProvedBook (text : List ℕ) : Type 0 where
+  pub book : Book
+  pub read : book_of text ≡ Ok book
+  pub claim : NoMatrix (problem_of book.head.question) book.head.beat

@@ -12,5 +12,4 @@ pub mod Output
 pub mod Commands
 pub mod Outside
 pub mod Summed
-pub mod StepClaims
 pub mod Claims

@@ -7,7 +7,8 @@ ghost use Rattle.fx_answer.specs.Outcomes.{IsOutcome};
 ghost use Rattle.fx_program.specs.CommandLine.{HasThreads, bytes_of, settings_of};
 ghost use Rattle.fx_program.specs.Making.{made_text};
 ghost use Rattle.fx_program.specs.Texts.{program_in};
-ghost use Rattle.fx_program.specs.Claims.{SomeHasNone};
+ghost use Rattle.fx_program.specs.Claims.{AllClaimsHold, IsProvedBook, SomeHasNone};
+ghost use Rattle.fx_program.specs.declared.words.Settings.TheVariants.{Check};
 ghost use Rattle.fx_program.specs.Stops.{HasStatusCause, exit_status};
 ghost use Rattle.fx_program.specs.declared.stop.Stop.TheVariants as stop;
 ghost use Rattle.fx_program.specs.Files.{book_lines};
@@ -97,6 +98,18 @@ pub fn factex<R: Threads + Sync, S: Source, K: Sink, F: Shelf>(
     ensures none_at_all { result ≡ 1 → (text : List ℕ)
         → (command_in (bytes_of words.now)).text_run (S.left source.old) ≡ Some text
         → SomeHasNone (program_in text) }
+
+    // With a status below 3, what is claimed of the outcome of each step of the text that is run holds of all
+    // rule matrices: that none at all meets what it asks, or that none is better than its design.
+    ensures claims { result < 3 → (text : List ℕ)
+        → (command_in (bytes_of words.now)).text_run (S.left source.old) ≡ Some text
+        → AllClaimsHold (program_in text) }
+
+    // With `check`, status 0 comes only of a book whose claim holds of all rule matrices.
+    ensures accepted { result ≡ 0 → settings_of (bytes_of words.now) ≡ Ok Check
+        → (text : List ℕ)
+        → S.left source.old ≡ Some text
+        → IsProvedBook text }
 
     // Where the source is read, the statuses of steps and of books come only with it read to its end,
     // but where it has more bytes than a book may have.
@@ -243,9 +256,13 @@ fn lines_of(alloc: Global, number: usize, step: &Step, outcome: &Outcome) -> Res
 
 /// The command `check`: reads a book, and lists whether it is accepted.
 fn check<S: Source, K: Sink>(alloc: Global, source: &mut S, listing: &mut K) -> Result<u8, Stop>
-    ensures { (shelf : ShelfView) → shelf.begun ≡ false → IsCarriedOut (command_of Settings.Check)
+    ensures done { (shelf : ShelfView) → shelf.begun ≡ false → IsCarriedOut (command_of Settings.Check)
         (outside (source_view S.Source source.old) (sink_view K.Sink listing.old) shelf)
         (outside (source_view S.Source source.new) (sink_view K.Sink listing.new) shelf) result }
+    ensures accepted { exit_status result ≡ 0
+        → (text : List ℕ)
+        → S.left source.old ≡ Some text
+        → IsProvedBook text }
 {
     match read_all(alloc, source, BOOK_LIMIT)? {
         Taken::Whole(text) => list_judgement(listing, judge(alloc, text)?),

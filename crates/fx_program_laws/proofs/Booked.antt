@@ -1,102 +1,186 @@
--- Where a step ends without a design, each question that is asked for it has its book among the step's files.
-use Rattle.std.proofs.Common.{ℕ, ◌≡◌, ◌+◌, not, zero, suc, List, [], ◌∷◌, ◌++◌, map, Option, Some, None, is_some, refl}
-use Rattle.std.proofs.Common.{sym, ap, subst, arith}
-use Rattle.std.specs.Prelude.{find, slice_get}
-use Rattle.std.specs.List.{AllByRecursion, Contains}
+-- The book of each finished question that has one is among the files of the step, and so those behind its claims are.
+use Rattle.std.proofs.Common.{ℕ, ◌≡◌, ◌+◌, ◌||◌, not, Bool, true, false, zero, suc, List, [], ◌∷◌, ◌++◌, map}
+use Rattle.std.proofs.Common.{Option, Some, None}
+use Rattle.std.proofs.Common.{is_some, refl, sym, ap, ◌∙◌, subst, arith, inl, inr}
+use Rattle.std.specs.Prelude.{find, slice_get, if◌then◌else◌}
+use Rattle.std.specs.List.{Contains}
+use Rattle.std.specs.Option.{option_map}
 use Rattle.std.proofs.lemmas.Bool.{cond-true, or_right}
-use Rattle.std.proofs.lemmas.List.Elements.{Contains-append_left, Contains-append_right, Contains-get_or}
-use Rattle.fx_designs.specs.Problems.{Problem}
+use Rattle.std.proofs.lemmas.List.{map-append}
+use Rattle.std.proofs.lemmas.List.Elements.{All-get_or, Contains-append_left, Contains-append_right, Contains-get_or}
+use Rattle.std.proofs.lemmas.Option.{get_or_from_slice_get, slice_get_within}
+use Rattle.fx_designs.specs.Problems.{Dimensions, Problem, Requirement}
 use Rattle.fx_designs.specs.Answers.{answer}
+use Rattle.fx_designs.specs.Outcomes.{Design}
+use Rattle.fx_designs.specs.Patterns.{pattern_of}
+use Rattle.fx_base.specs.Acts.{Event, WholeFile}
+use Rattle.fx_reduction.specs.Strengths.{with_block}
+use Rattle.fx_vectors.specs.Question.{requirement_of}
 use Rattle.fx_vectors.specs.declared.book.NamedBook.{NamedBook}
 use Rattle.fx_statements.specs.Steps.{Meaning}
-use Rattle.fx_statements.specs.Questions.{Found, Turn, asked, concluded, conclusion_by, conclusion_of, cut_short}
-use Rattle.fx_statements.specs.Questions.{found_by, last_found, last_of, left_at, nodes_of, outcome_of, passes}
-use Rattle.fx_statements.specs.Questions.{questions_of, turns}
-use Rattle.fx_statements.proofs.Concluded.{some_stays}
-use Rattle.fx_book.specs.QuestionBooks.{book_for, has_book}
+use Rattle.fx_statements.specs.Questions.{Turn, asked, conclusion_by, conclusion_of, cut_short, last_of, left_at}
+use Rattle.fx_statements.specs.Questions.{outcome_of, passes, questions_of, turns, Found}
+use Rattle.fx_statements.proofs.Concluded.{none-of}
+use Rattle.fx_book.specs.QuestionBooks.{beat_of, book_for, demands_for, has_book}
+use Rattle.fx_book.specs.Writing.{book_text}
 use Rattle.fx_answer.specs.Books.{book_at, books_from, books_of, finished, finished_before}
-use Rattle.fx_program.specs.Files.{book_file, book_files}
+use Rattle.fx_answer.specs.StepClaims.{required}
+use Rattle.fx_answer.specs.ValidSteps.{IsValidStep}
+use Rattle.fx_answer.proofs.Best.{IsAsked, highest_asked, least_asked, more_blocks_asked, smaller_asked}
+use Rattle.fx_program.specs.Files.{book_file, book_files, book_name}
 use Rattle.fx_program.specs.Output.{step_output}
-use Rattle.fx_program_laws.specs.BookClaims.{HasABookForEach}
 use Rattle.fx_program.specs.Statuses.{status_of}
+use Rattle.fx_program.proofs.None.{none_at_one}
+use Rattle.fx_program_laws.specs.BookClaims.{HasABookForEach, HasABookForEachAsked, HasBook, HighestHasBook}
+use Rattle.fx_program_laws.specs.BookClaims.{LeastPatternHasBook, LeastSizeHasBooks, MostBlocksHasBook}
+use Rattle.fx_program_laws.proofs.ValidBooks.{requirement_back}
 
--- nothing was found, so no question has an answer
-none_by : (p : Problem) (ps : List Problem) (own : Option (List ℕ)) → answer p ≡ own
-    → (last_found None ps ≡ None → AllByRecursion (λ p. answer p ≡ None) ps)
-    → last_found (found_by None p own) ps ≡ None → (answer p ≡ None) × AllByRecursion (λ p. answer p ≡ None) ps
-none_by p ps None is later e = (is, later e)
-none_by p ps (Some rows) is later e = absurd (some_stays (record { question = p; rows = rows }) ps e)
+abbrev named : ℕ → Problem → NamedBook
+named n p = record { question = n; book = book_for p }
 
-none_answered : (ps : List Problem) → last_found None ps ≡ None → AllByRecursion (λ p. answer p ≡ None) ps
-none_answered [] e = tt
-none_answered (p ∷ ps) e = none_by p ps (answer p) refl (none_answered ps) e
+abbrev posed : Dimensions → Requirement → Bool → Problem
+posed d wanted least = record { dimensions = d; requirement = wanted; least = least }
 
--- a book of its own for each of them
-own_book : (number : ℕ) (p : Problem) → answer p ≡ None
-    → book_at number p ≡ record { question = number; book = book_for p } ∷ []
-own_book number p is = cond-true (has_book p) _ _ (or_right p.least _ (ap (λ o. not (is_some o)) is))
+-- the book of a question among those of many, which are numbered from n on
+among : (number n k : ℕ) (ps : List Problem) (p : Problem) → slice_get ps k ≡ Some p → has_book p ≡ true
+    → Contains (book_files number (books_from n ps)) (book_file number (named (n + k) p))
+among number n k [] p e has = absurd (cc e)
+among number n zero (q ∷ ps) p e has =
+    let same : q ≡ p = cc e in
+    let own : book_at n q ≡ named n q ∷ [] =
+    cond-true (has_book q) (named n q ∷ []) [] (ap has_book same ∙ has) in
+    let rest : List Event = book_files number (books_from (n + 1) ps) in
+    let files : book_files number (books_from n (q ∷ ps)) ≡ book_file number (named n q) ∷ rest =
+    ap (λ l. map (book_file number) (l ++ books_from (n + 1) ps)) own in
+    let here : n ≡ n + zero = omega arith in
+    subst (λ l. Contains l (book_file number (named (n + zero) p))) (sym files)
+    (subst (λ k. Contains (book_file number (named n q) ∷ rest) (book_file number (named k p))) here
+    (subst (λ p. Contains (book_file number (named n q) ∷ rest) (book_file number (named n p))) same
+    (Contains-get_or (book_file number (named n q) ∷ rest) 0 (book_file number (named n q)) (omega arith))))
+among number n (suc k) (q ∷ ps) p e has =
+    let next : n + 1 + k ≡ n + suc k = omega arith in
+    let files : book_files number (books_from n (q ∷ ps))
+    ≡ book_files number (book_at n q) ++ book_files number (books_from (n + 1) ps) =
+    map-append (book_file number) (book_at n q) (books_from (n + 1) ps) in
+    subst (λ l. Contains l (book_file number (named (n + suc k) p))) (sym files)
+    (subst (λ i. Contains (book_files number (book_at n q) ++ book_files number (books_from (n + 1) ps))
+    (book_file number (named i p))) next
+    (Contains-append_right (book_files number (book_at n q)) _ _ (among number (n + 1) k ps p e has)))
 
-module _ (number : ℕ) where
-  abbrev named : ℕ → Problem → NamedBook
-  named n p = record { question = n; book = book_for p }
-
-  among : (n k : ℕ) (ps : List Problem) (p : Problem) → AllByRecursion (λ p. answer p ≡ None) ps
-      → slice_get ps k ≡ Some p
-      → Contains (map (book_file number) (books_from n ps)) (book_file number (named (n + k) p))
-  among n k [] p none e = absurd (cc e)
-  among n zero (q ∷ ps) p none e =
-      let same : q ≡ p = cc e in
-      let own : map (book_file number) (books_from n (q ∷ ps))
-      ≡ book_file number (named n q) ∷ map (book_file number) (books_from (n + 1) ps) =
-      ap (λ l. map (book_file number) (l ++ books_from (n + 1) ps)) (own_book n q none.0) in
-      subst (λ l. Contains l (book_file number (named (n + 0) p))) (sym own)
-      (subst (λ k. Contains (book_file number (named n q) ∷ map (book_file number) (books_from (n + 1) ps))
-      (book_file number (named k p))) (let z : n ≡ n + 0 = omega arith in z)
-      (subst (λ p. Contains (book_file number (named n q) ∷ map (book_file number) (books_from (n + 1) ps))
-      (book_file number (named n p))) same
-      (Contains-get_or (book_file number (named n q) ∷ map (book_file number) (books_from (n + 1) ps)) 0
-      (book_file number (named n q)) (omega arith))))
-  among n (suc k) (q ∷ ps) p none e =
-      let own : map (book_file number) (books_from n (q ∷ ps))
-      ≡ book_file number (named n q) ∷ map (book_file number) (books_from (n + 1) ps) =
-      ap (λ l. map (book_file number) (l ++ books_from (n + 1) ps)) (own_book n q none.0) in
-      subst (λ l. Contains l (book_file number (named (n + suc k) p))) (sym own)
-      (subst (λ i. Contains (book_file number (named n q) ∷ map (book_file number) (books_from (n + 1) ps))
-      (book_file number (named i p))) (let z : n + 1 + k ≡ n + suc k = omega arith in z)
-      (Contains-append_right (book_file number (named n q) ∷ []) _ _ (among (n + 1) k ps p none.1 e)))
-
--- how a step ends that has status 1
-module _ (step : Meaning) where
+module _ (seed number : ℕ) (step : Meaning) where
   abbrev ps : List Problem
   ps = asked (questions_of step)
 
-  by_found : (last : Problem) (found : Option Found) (count : ℕ) → status_of (concluded last found count).ending ≡ 1
-      → found ≡ None
-  by_found last None count one = refl
-  by_found last (Some found) count one = absurd (omega (arith, one))
-
-  by_left : (p : Problem) (left : Option Found) (budget : ℕ) → status_of (cut_short p left budget).ending ≡ 1 → ⊥
-  by_left p None budget one = omega (arith, one)
-  by_left p (Some found) budget one = omega (arith, one)
-
-  by_end : (last : Problem) (end : Option Turn) → status_of (conclusion_by last ps step.settings.budget end).ending ≡ 1
-      → (last_found None ps ≡ None) × (finished_before ps end ≡ ps)
-  by_end last None one = (by_found last (last_found None ps) (nodes_of ps) one, refl)
-  by_end last (Some turn) one =
-      absurd (by_left turn.question (left_at step.settings.budget turn) step.settings.budget one)
-
-  ended : status_of (outcome_of step).ending ≡ 1
-      → (last_found None ps ≡ None) × (finished (questions_of step) step.settings.budget ≡ ps)
-  unfolding conclusion_of finished
-  ended one = by_end (last_of (questions_of step).first ps) (find (passes step.settings.budget) (turns [] ps)) one
-
-  pub booked : (seed number : ℕ) → (step_output seed number step).status ≡ 1 → HasABookForEach seed number step
-  booked seed number one k p at =
-      let end = ended one in
-      let is : books_of step ≡ books_from 1 ps = ap (books_from 1) end.1 in
-      let there = among number 1 k ps p (none_answered ps end.0) at in
-      let own : Contains (book_files number (books_of step)) (book_file number (named number (k + 1) p)) =
-      subst (λ l. Contains (map (book_file number) l) (book_file number (named number (k + 1) p))) (sym is)
-      (subst (λ i. Contains (map (book_file number) (books_from 1 ps)) (book_file number (named number i p)))
-      (let z : 1 + k ≡ k + 1 = omega arith in z) there) in
+  pub booked : HasABookForEach seed number step
+  booked k p at has =
+      let own : Contains (book_files number (books_of step)) (book_file number (named (k + 1) p)) =
+      subst (λ i. Contains (book_files number (books_of step)) (book_file number (named i p)))
+      (let z : 1 + k ≡ k + 1 = omega arith in z)
+      (among number 1 k (finished (questions_of step) step.settings.budget) p at has) in
       Contains-append_left _ _ _ (Contains-append_left (book_files number (books_of step)) _ _ own)
+
+  -- where the budget does not end, each question that is asked is finished
+  cut : (p : Problem) (left : Option Found) (budget : ℕ) → status_of (cut_short p left budget).ending ≡ 2
+  cut p None budget = refl
+  cut p (Some found) budget = refl
+
+  by_end : (last : Problem) (end : Option Turn)
+      → (status_of (conclusion_by last ps step.settings.budget end).ending ≡ 2 → ⊥) → finished_before ps end ≡ ps
+  by_end last None below = refl
+  by_end last (Some turn) below =
+      absurd (below (cut turn.question (left_at step.settings.budget turn) step.settings.budget))
+
+  all_finished : (status_of (outcome_of step).ending ≡ 2 → ⊥)
+      → finished (questions_of step) step.settings.budget ≡ ps
+  unfolding conclusion_of finished
+  all_finished below =
+      by_end (last_of (questions_of step).first ps) (find (passes step.settings.budget) (turns [] ps)) below
+
+  asked_booked : (status_of (outcome_of step).ending ≡ 2 → ⊥) → (k : ℕ) (p : Problem) → slice_get ps k ≡ Some p
+      → has_book p ≡ true
+      → Contains (step_output seed number step).events (WholeFile (book_name number (k + 1)) (book_text (book_for p)))
+  asked_booked below k p at has = booked k p (ap (λ l. slice_get l k) (all_finished below) ∙ at) has
+
+  has_unanswered : (p : Problem) → answer p ≡ None → has_book p ≡ true
+  has_unanswered p is = or_right p.least _ (ap (λ o. not (is_some o)) is)
+
+  pub none_booked : (step_output seed number step).status ≡ 1 → HasABookForEachAsked seed number step
+  none_booked one k p at =
+      let none = none_at_one (outcome_of step).ending one in
+      let all = none-of (questions_of step) step.settings.budget none.0 none.1 in
+      let own : answer p ≡ None =
+      subst (λ p. answer p ≡ None) (get_or_from_slice_get ps k p p at)
+      (All-get_or (λ p. answer p ≡ None) ps k p (slice_get_within ps k p at) all) in
+      asked_booked (λ two. omega (arith, one, two)) k p at (has_unanswered p own)
+
+  -- the book of a question that is behind a claim
+  module _ (d : Dimensions) (wanted : Requirement) (own : Option (List ℕ)) (q : IsAsked step d wanted own)
+      (below : status_of (outcome_of step).ending ≡ 2 → ⊥) where
+    has_book_of : (beat : Option (List ℕ)) → beat_of q.question ≡ beat → has_book q.question ≡ true
+        → HasBook seed number step d wanted beat
+    has_book_of beat is has = record {
+      question = q.place + 1;
+      book = book_for q.question;
+      among = asked_booked below q.place q.question q.asked_at has;
+      about =
+          ap (λ d. posed d (requirement_of (demands_for q.question.requirement)) (is_some (beat_of q.question)))
+          q.dimensions
+          ∙ ap (λ wanted. posed d wanted (is_some (beat_of q.question)))
+          (requirement_back q.question.requirement ∙ q.requirement)
+          ∙ ap (λ beat. posed d wanted (is_some beat)) is;
+      pattern = is;
+    }
+
+  one_way : (b : Bool) → ◌≡◌ {A = Option (List ℕ)} (if b then None else None) None
+  one_way true = refl
+  one_way false = refl
+
+  no_pattern : (p : Problem) → answer p ≡ None → beat_of p ≡ None
+  no_pattern p none =
+      ap (λ o. if p.least then option_map (pattern_of p.dimensions) o else None) none ∙ one_way p.least
+
+  with_pattern : (p : Problem) (rows : List ℕ) → p.least ≡ true → answer p ≡ Some rows
+      → beat_of p ≡ Some (pattern_of p.dimensions rows)
+  with_pattern p rows least is =
+      ap (λ o. if p.least then option_map (pattern_of p.dimensions) o else None) is
+      ∙ cond-true p.least (Some (pattern_of p.dimensions rows)) None least
+
+  unanswered_book : (d : Dimensions) (wanted : Requirement) → IsAsked step d wanted None
+      → (status_of (outcome_of step).ending ≡ 2 → ⊥)
+      → HasBook seed number step d wanted None
+  unanswered_book d wanted q below =
+      has_book_of d wanted None q below None (no_pattern q.question q.answer_is)
+      (has_unanswered q.question q.answer_is)
+
+  -- a design is no ended budget
+  design_below : (rows : List ℕ) (count : ℕ) → (outcome_of step).ending ≡ Design rows count
+      → status_of (outcome_of step).ending ≡ 2 → ⊥
+  design_below rows count e two = omega (arith, two, ap status_of e)
+
+  module _ (valid : IsValidStep step) where
+    abbrev d : Dimensions
+    d = (outcome_of step).dimensions
+
+    pub highest_book : HighestHasBook seed number step
+    highest_book rows count goal plain e = elim (highest_asked step valid rows count goal plain e) [
+      | inl full ↦ inl full
+      | inr next ↦ inr (unanswered_book d _ next (design_below rows count e))
+    ]
+
+    pub least_book : LeastPatternHasBook seed number step
+    least_book rows count least e =
+        let q = least_asked step valid rows count least e in
+        let own : q.question.least ≡ true = q.least ∙ least in
+        has_book_of d (required step.goal) (Some rows) q (design_below rows count e) (Some (pattern_of d rows))
+        (with_pattern q.question rows own q.answer_is ∙ ap (λ d. Some (pattern_of d rows)) q.dimensions)
+        (ap (λ b. b || not (is_some (answer q.question))) own)
+
+    pub size_books : LeastSizeHasBooks seed number step
+    size_books rows count other e h less =
+        unanswered_book other (required step.goal) (smaller_asked step valid rows count other e h less)
+        (design_below rows count e)
+
+    pub block_book : MostBlocksHasBook seed number step
+    block_book rows count most e =
+        unanswered_book (with_block d) (required step.goal) (more_blocks_asked step valid rows count most e)
+        (design_below rows count e)

@@ -236,14 +236,17 @@ highest_resolution :
 unfolding given booked
 highest_resolution = (refl, refl, refl)
 
--- the least size
+-- the least size; a budget that ends there leaves no design, and the books of the sizes before
 least_size :
-    given (codes "proc factex;factors A B;size design=min;model r=3;")
+    (given (codes "proc factex;factors A B;size design=min;model r=3;")
     ≡ booked (codes "step1-1.book") (codes "factex-book 1\nsize 2 1 2 0\nresolution 3\npattern none\nO 1\nEND\n")
     (codes "step 1\nfactors 2 levels 2\ndesign 4 runs\nno defining words\nnodes 3\nrules\n  none\nbook step1-1.book\n")
-    0
+    0)
+    × (given (codes "proc factex nodes=2;factors A B;size design=min;model r=3;")
+    ≡ booked (codes "step1-1.book") (codes "factex-book 1\nsize 2 1 2 0\nresolution 3\npattern none\nO 1\nEND\n")
+    (codes "step 1\nfactors 2 levels 2\nbudget ended after 2 nodes\nbook step1-1.book\n") 2)
 unfolding given booked
-least_size = refl
+least_size = (refl, refl)
 
 -- blocks: as many as can be, and none
 in_blocks :

@@ -27,7 +27,7 @@ use Rattle.fx_program.specs.declared.text.TextFault.{TextFault}
 use Rattle.fx_program.specs.Claims.{EachStep}
 use Rattle.fx_answer.specs.ValidSteps.{IsValidStep}
 use Rattle.fx_program.proofs.AnyText.{any_text}
-use Rattle.fx_program.proofs.Best.{order_of}
+use Rattle.fx_answer.proofs.StepSettings.{order_of}
 use Rattle.fx_program_laws.proofs.NameSpellings.{books_differ, plans_differ, book_and_plan_differ, differ_from}
 use Rattle.fx_program_laws.proofs.NameSpellings.{same_from}
 use Rattle.fx_program_laws.proofs.StepCounts.{AreSteps, out_names_of, questions_few, steps_of_text}

@@ -15,7 +15,7 @@ use Rattle.fx_statements.specs.Steps.{Meaning}
 use Rattle.fx_statements.specs.Questions.{Found, asked, concluded, found_by, last_found, last_of, lowest, nodes_of}
 use Rattle.fx_statements.specs.Questions.{outcome_of, question_for, questions_of}
 use Rattle.fx_statements.proofs.Concluded.{each_asked, within}
-use Rattle.fx_program.specs.StepClaims.{HasNoDesign, IsLastWithDesign}
+use Rattle.fx_answer.specs.StepClaims.{HasNoDesign, IsLastWithDesign}
 use Rattle.fx_program_laws.proofs.Least.{first-least-answer}
 
 module _ (step : Meaning) (some : 1 ≤ length step.factors) where

@@ -3,6 +3,7 @@ pub mod ValidBooks
 mod BookLengths
 mod GoodBooks
 mod Booked
+mod Listed
 mod Least
 mod First
 mod Messages

@@ -47,7 +47,7 @@ numbers_back : (numbers : List ℕ) → numbers_of (effects_of numbers) ≡ numb
 numbers_back [] = refl
 numbers_back (n ∷ numbers) = ap (λ l. n ∷ l) (numbers_back numbers)
 
-requirement_back : (wanted : Requirement) → requirement_of (demands_for wanted) ≡ wanted
+pub requirement_back : (wanted : Requirement) → requirement_of (demands_for wanted) ≡ wanted
 requirement_back (AtResolution r) = refl
 requirement_back (ForEffects estimate besides) =
     ap (λ l. ForEffects l (numbers_of (effects_of besides))) (numbers_back estimate) ∙ ap (ForEffects estimate)

@@ -1,16 +1,26 @@
 -- What is claimed of the books of a step.
-use Rattle.std.specs.Prelude.{ℕ, ◌≡◌, ◌+◌, [], ◌∷◌, Some, Ok, All, codes, slice_get}
+use Rattle.std.specs.Prelude.{ℕ, ◌≡◌, ◌<◌, ◌⊎◌, ◌+◌, true, false, List, [], ◌∷◌, Option, Some, None, Ok, All}
+use Rattle.std.specs.Prelude.{codes}
+use Rattle.std.specs.Prelude.{is_some, slice_get}
 use Rattle.std.specs.List.{Contains}
 use Rattle.fx_base.specs.Acts.{WholeFile}
-use Rattle.fx_designs.specs.Problems.{Problem}
+use Rattle.fx_designs.specs.Outcomes.{Design}
+use Rattle.fx_designs.specs.Patterns.{pattern_of, resolution_of}
+use Rattle.fx_designs.specs.Problems.{Dimensions, Problem, Requirement, AtResolution}
+use Rattle.fx_reduction.specs.Strengths.{with_block}
+use Rattle.fx_settings.specs.declared.settings.Blocks.TheVariants.{Most}
+use Rattle.fx_vectors.specs.Question.{problem_of}
+use Rattle.fx_vectors.specs.declared.book.Book.{Book}
 use Rattle.fx_vectors.specs.declared.book.NamedBook.{NamedBook}
 use Rattle.fx_book.specs.Heads.{book_of}
 use Rattle.fx_book.specs.Writing.{book_text}
 use Rattle.fx_checker.specs.declared.verdict.Verdict.TheVariants.{Accepted}
-use Rattle.fx_statements.specs.Questions.{asked, questions_of}
+use Rattle.fx_statements.specs.Goals.{Highest}
+use Rattle.fx_statements.specs.Questions.{asked, outcome_of, questions_of}
 use Rattle.fx_statements.specs.Steps.{Meaning}
-use Rattle.fx_book.specs.QuestionBooks.{book_for}
-use Rattle.fx_answer.specs.Books.{books_of}
+use Rattle.fx_book.specs.QuestionBooks.{book_for, has_book}
+use Rattle.fx_answer.specs.Books.{books_of, finished}
+use Rattle.fx_answer.specs.StepClaims.{Allows, required}
 use Rattle.fx_program.specs.Files.{book_name}
 use Rattle.fx_program.specs.Commands.{output_of}
 use Rattle.fx_program.specs.Output.{message, step_output}
@@ -26,8 +36,60 @@ pub record IsAcceptedBook (named : NamedBook) : Type 0 where
 abbrev pub HasAcceptedBooks : Meaning → Type 0
 HasAcceptedBooks step = All IsAcceptedBook (books_of step)
 
--- the files of a step have the book of each question that is asked for it
+-- the files of a step have the book of each of its questions that is finished and has one: under the numbers of the
+-- step and of the question
 abbrev pub HasABookForEach : ℕ → ℕ → Meaning → Type 0
 HasABookForEach seed number step = (k : ℕ) (p : Problem)
+    → slice_get (finished (questions_of step) step.settings.budget) k ≡ Some p
+    → has_book p ≡ true
+    → Contains (step_output seed number step).events (WholeFile (book_name number (k + 1)) (book_text (book_for p)))
+
+-- and of each question that is asked
+abbrev pub HasABookForEachAsked : ℕ → ℕ → Meaning → Type 0
+HasABookForEachAsked seed number step = (k : ℕ) (p : Problem)
     → slice_get (asked (questions_of step)) k ≡ Some p
     → Contains (step_output seed number step).events (WholeFile (book_name number (k + 1)) (book_text (book_for p)))
+
+-- The files of a step have a book that claims that the runs of no rule matrix of these dimensions meet what is wanted,
+-- or, with a pattern, that none of those that do has a less one.
+pub record HasBook (seed number : ℕ) (step : Meaning) (d : Dimensions) (wanted : Requirement) (beat : Option (List ℕ))
+    : Type 0 where
+  pub question : ℕ
+  pub book : Book
+  pub among : Contains (step_output seed number step).events
+      (WholeFile (book_name number question) (book_text book))
+  pub about : problem_of book.head.question ≡ record { dimensions = d; requirement = wanted; least = is_some beat }
+  pub pattern : book.head.beat ≡ beat
+
+-- where the highest resolution is asked, one that none has the next, unless the design has no defining words
+abbrev pub HighestHasBook : ℕ → ℕ → Meaning → Type 0
+HighestHasBook seed number step = (rows : List ℕ) (count : ℕ)
+    → step.goal ≡ Highest
+    → step.settings.least ≡ false
+    → (outcome_of step).ending ≡ Design rows count
+    → (resolution_of (pattern_of (outcome_of step).dimensions rows) ≡ (outcome_of step).dimensions.s + 1)
+    ⊎ HasBook seed number step (outcome_of step).dimensions
+    (AtResolution (resolution_of (pattern_of (outcome_of step).dimensions rows) + 1)) None
+
+-- where least aberration is asked, one that none has a less pattern than the design
+abbrev pub LeastPatternHasBook : ℕ → ℕ → Meaning → Type 0
+LeastPatternHasBook seed number step = (rows : List ℕ) (count : ℕ)
+    → step.settings.least ≡ true
+    → (outcome_of step).ending ≡ Design rows count
+    → HasBook seed number step (outcome_of step).dimensions (required step.goal)
+    (Some (pattern_of (outcome_of step).dimensions rows))
+
+-- for each smaller size that the step allows, one that there is no design: with the least size, that is
+abbrev pub LeastSizeHasBooks : ℕ → ℕ → Meaning → Type 0
+LeastSizeHasBooks seed number step = (rows : List ℕ) (count : ℕ) (d : Dimensions)
+    → (outcome_of step).ending ≡ Design rows count
+    → Allows step d
+    → d.m < (outcome_of step).dimensions.m
+    → HasBook seed number step d (required step.goal) None
+
+-- where the most blocks are asked, one that there is no design with one block factor more
+abbrev pub MostBlocksHasBook : ℕ → ℕ → Meaning → Type 0
+MostBlocksHasBook seed number step = (rows : List ℕ) (count : ℕ)
+    → step.settings.blocks ≡ Most
+    → (outcome_of step).ending ≡ Design rows count
+    → HasBook seed number step (with_block (outcome_of step).dimensions) (required step.goal) None

@@ -1,1 +1,2 @@
 pub mod BookClaims
+pub mod Endings

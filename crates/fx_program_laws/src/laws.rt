@@ -1,23 +1,31 @@
-ghost use Rattle.std.specs.Prelude.{◌≡◌, ◌↔◌, ◌<◌, ◌≤◌, List, ℕ, Ok, IfErr, true, false, length, All};
+ghost use Rattle.std.specs.Prelude.{◌≡◌, ◌↔◌, ◌<◌, ◌≤◌, [], ◌∷◌, List, ℕ, Ok, IfErr, true, false, codes, length, All};
 ghost use Rattle.std.specs.List.{IsDistinct};
 ghost use Rattle.fx_program.specs.Messages.{HasItsMessage};
 ghost use Rattle.fx_designs.specs.Matrices.{NoneMeets};
 ghost use Rattle.fx_designs.specs.Problems.{Dimensions, Problem};
 ghost use Rattle.fx_laws.specs.First.{IsFirstDesign};
 ghost use Rattle.fx_statements.specs.Steps.{Meaning};
-ghost use Rattle.fx_program_laws.specs.BookClaims.{HasABookForEach, HasAcceptedBooks};
+ghost use Rattle.fx_program_laws.specs.BookClaims.{
+  HasABookForEach,
+  HasABookForEachAsked,
+  HasAcceptedBooks,
+  HighestHasBook,
+  LeastPatternHasBook,
+  LeastSizeHasBooks,
+  MostBlocksHasBook,
+};
 ghost use Rattle.fx_statements.specs.Questions.{asked, last_of, nodes_of, questions_of};
 ghost use Rattle.fx_program.specs.Making.{HasSteps, made_text};
-ghost use Rattle.fx_answer.specs.Books.{books_of};
 ghost use Rattle.fx_text.specs.Names.{is_same_name};
 ghost use Rattle.fx_program.specs.Files.{names_among};
 ghost use Rattle.fx_program.specs.Texts.{program_in};
 ghost use Rattle.fx_designs.specs.Outcomes.{Design, NoDesign};
 ghost use Rattle.fx_program.specs.declared.words.Settings.TheVariants.{Large, Run};
-ghost use Rattle.fx_program.specs.Commands.{output_for};
-ghost use Rattle.fx_program.specs.Output.{ending_given, program_output, step_output};
+ghost use Rattle.fx_program.specs.Commands.{output_for, output_of};
+ghost use Rattle.fx_program.specs.Output.{program_output, step_output};
+ghost use Rattle.fx_program_laws.specs.Endings.{EndsWith};
 ghost use Rattle.fx_tree.specs.Laws.{IsFirstOfLeastPattern};
-ghost use Rattle.fx_program.specs.StepClaims.{
+ghost use Rattle.fx_answer.specs.StepClaims.{
   Allows,
   HasHighestOfAll,
   HasLeastOfAll,
@@ -25,17 +33,18 @@ ghost use Rattle.fx_program.specs.StepClaims.{
   HasMostBlocks,
   HasNoDesign,
   HasNoneAtAll,
-  HasWhatItAsks,
+  LeavesNoneOfLeastSize,
   IsLastWithDesign,
-  IsValidStep,
+  OfOutcome,
   required,
 };
-ghost use Rattle.fx_program.specs.Claims.{EachStep, IsGreatest};
+ghost use Rattle.fx_answer.specs.ValidSteps.{IsValidStep};
+ghost use Rattle.fx_program.specs.Claims.{EachStep, HasMatrixAsAsked, IsGreatest, IsProvedBook};
 
-/// What is given for a step with some factors, where the nodes of the questions that are asked for it
-/// are within its budget: status 0 with the files and the lines of the first design of the canonical
-/// list, where least aberration is asked the first of least pattern, of the last question that has
-/// one; or status 1 and the lines that say that there is no design, where no question has one.
+/// The outcome of a step with some factors, where the nodes of the questions that are asked for it are
+/// within its budget, and what is given for it: status 0 with the files and the lines of the first design
+/// of the canonical list, where least aberration is asked the first of least pattern, of the last question
+/// that has one; or status 1 and the lines that say that there is no design, where no question has one.
 pub fn first_design_is_given()
     ensures design { (seed number : ℕ) (step : Meaning) (p : Problem) (rows : List ℕ)
         → 1 ≤ length step.factors
@@ -43,24 +52,19 @@ pub fn first_design_is_given()
         → IsLastWithDesign (asked (questions_of step)) p
         → step.settings.least ≡ false
         → IsFirstDesign p rows
-        → step_output seed number step
-        ≡ ending_given seed number p.dimensions step (books_of step)
-        (Design rows (nodes_of (asked (questions_of step)))) }
+        → EndsWith seed number step p.dimensions (Design rows (nodes_of (asked (questions_of step)))) }
     ensures least { (seed number : ℕ) (step : Meaning) (p : Problem) (rows : List ℕ)
         → 1 ≤ length step.factors
         → nodes_of (asked (questions_of step)) ≤ step.settings.budget
         → IsLastWithDesign (asked (questions_of step)) p
         → step.settings.least ≡ true
         → IsFirstOfLeastPattern p rows
-        → step_output seed number step
-        ≡ ending_given seed number p.dimensions step (books_of step)
-        (Design rows (nodes_of (asked (questions_of step)))) }
+        → EndsWith seed number step p.dimensions (Design rows (nodes_of (asked (questions_of step)))) }
     ensures none { (seed number : ℕ) (step : Meaning) → 1 ≤ length step.factors
         → nodes_of (asked (questions_of step)) ≤ step.settings.budget
         → All HasNoDesign (asked (questions_of step))
-        → step_output seed number step
-        ≡ ending_given seed number
-        (last_of (questions_of step).first (asked (questions_of step))).dimensions step (books_of step)
+        → EndsWith seed number step
+        (last_of (questions_of step).first (asked (questions_of step))).dimensions
         (NoDesign (nodes_of (asked (questions_of step)))) }
 {}
 
@@ -90,40 +94,43 @@ pub fn valid_steps_in_any_text()
     ensures { (text : List ℕ) → EachStep IsValidStep (program_in text) }
 {}
 
-/// Whatever a text says: where a step of its program ends with a design, this has a row for each
-/// factor and block factor, in dimensions that the step allows, and its runs meet what is required.
+/// Whatever a text says: the matrix of which the listing and the plans of a step are made, its design or
+/// what is left where the budget ended, has a row for each factor and block factor, in dimensions that the
+/// step allows, and its runs meet what is required. Where the budget ended in the search for the least
+/// size, there is none.
 pub fn designs_meet_what_is_asked_in_any_text()
-    ensures { (text : List ℕ) → EachStep HasWhatItAsks (program_in text) }
+    ensures as_asked { (text : List ℕ) → EachStep HasMatrixAsAsked (program_in text) }
+    ensures none_left { (text : List ℕ) → EachStep (OfOutcome LeavesNoneOfLeastSize) (program_in text) }
 {}
 
 /// Whatever a text says: where a step of its program ends without a design, the runs of no rule matrix at
 /// all meet what is required, in no dimensions that the step allows.
 pub fn no_design_in_any_text()
-    ensures { (text : List ℕ) → EachStep HasNoneAtAll (program_in text) }
+    ensures { (text : List ℕ) → EachStep (OfOutcome HasNoneAtAll) (program_in text) }
 {}
 
 /// Whatever a text says: where a step of its program asks for least aberration and ends with a design,
 /// the pattern of no rule matrix at all that meets the resolution asked for, canonical or not, is less.
 pub fn least_pattern_in_any_text()
-    ensures { (text : List ℕ) → EachStep HasLeastOfAll (program_in text) }
+    ensures { (text : List ℕ) → EachStep (OfOutcome HasLeastOfAll) (program_in text) }
 {}
 
 /// Whatever a text says: where a step of its program asks for the highest resolution and ends with a
 /// design, no rule matrix at all of as many runs, canonical or not, has a higher resolution.
 pub fn highest_resolution_in_any_text()
-    ensures { (text : List ℕ) → EachStep HasHighestOfAll (program_in text) }
+    ensures { (text : List ℕ) → EachStep (OfOutcome HasHighestOfAll) (program_in text) }
 {}
 
 /// Whatever a text says: where a step of its program asks for the least size and ends with a design, the
 /// runs of no rule matrix at all of fewer runs meet what is required.
 pub fn least_size_in_any_text()
-    ensures { (text : List ℕ) → EachStep HasLeastSize (program_in text) }
+    ensures { (text : List ℕ) → EachStep (OfOutcome HasLeastSize) (program_in text) }
 {}
 
 /// Whatever a text says: where a step of its program asks for the most blocks and ends with a design, the
 /// runs of no rule matrix at all with more block factors meet what is required.
 pub fn most_blocks_in_any_text()
-    ensures { (text : List ℕ) → EachStep HasMostBlocks (program_in text) }
+    ensures { (text : List ℕ) → EachStep (OfOutcome HasMostBlocks) (program_in text) }
 {}
 
 /// What the status of a program says: 0 that each step has a design or that there is no step, 1 that
@@ -133,17 +140,37 @@ pub fn greatest_status_decides()
         → IsGreatest (program_output seed (Ok steps)).status steps }
 {}
 
-/// Where a step ends without a design, each question that is asked for it has its book among the step's
-/// files: the marks of all its nodes, named by the number of the step and its own.
-pub fn claims_of_none_have_books()
-    ensures { (seed number : ℕ) (step : Meaning) → (step_output seed number step).status ≡ 1
-        → HasABookForEach seed number step }
+/// Each claim has its book among the files of the step, whatever the status. Each finished question
+/// without an answer, or for a least pattern, has one: the marks of its nodes, under the numbers of the
+/// step and of the question. So there are the books of all questions that are asked, where the step ends
+/// without a design; where it has one, the book of the next resolution for the highest, unless there are
+/// no defining words; a book under the pattern of the design for least aberration; the books of all
+/// smaller sizes for the least; and the book of one more block factor for the most blocks.
+pub fn claims_have_books()
+    ensures finished { (seed number : ℕ) (step : Meaning) → HasABookForEach seed number step }
+    ensures none { (seed number : ℕ) (step : Meaning) → (step_output seed number step).status ≡ 1
+        → HasABookForEachAsked seed number step }
+    ensures highest { (seed number : ℕ) (text : List ℕ)
+        → EachStep (HighestHasBook seed number) (program_in text) }
+    ensures least_pattern { (seed number : ℕ) (text : List ℕ)
+        → EachStep (LeastPatternHasBook seed number) (program_in text) }
+    ensures least_size { (seed number : ℕ) (text : List ℕ)
+        → EachStep (LeastSizeHasBooks seed number) (program_in text) }
+    ensures most_blocks { (seed number : ℕ) (text : List ℕ)
+        → EachStep (MostBlocksHasBook seed number) (program_in text) }
 {}
 
 /// Whatever a text says: each book of each step of its program is read from its file as it is, and
 /// `check` accepts it, with status 0.
 pub fn books_are_accepted_in_any_text()
     ensures { (text : List ℕ) → EachStep HasAcceptedBooks (program_in text) }
+{}
+
+/// Whatever a text says: where `check` of it ends with status 0, it is a book, and its claim holds: the
+/// runs of no rule matrix at all, canonical or not, meet what its head asks, or, where the head has a
+/// pattern, none of those that do has a less one. It does not matter who wrote it.
+pub fn accepted_books_prove_their_claims()
+    ensures { (text : List ℕ) → (output_of (codes "check" ∷ []) text).status ≡ 0 → IsProvedBook text }
 {}
 
 /// Each fault of a text has a row in the table of messages, so that its line names a reason, and a place

@@ -1,8 +1,9 @@
 -- What an outcome of questions says of their answers; of questions for one number after another, which is answered
 -- last, and that the next has no answer, or those before it have none.
-use Rattle.std.proofs.Common.{ℕ, ◌≡◌, ◌<◌, ◌≤◌, ◌+◌, ◌-◌, zero, suc, Bool, List, [], ◌∷◌, ◌++◌, length, map, All}
+use Rattle.std.proofs.Common.{ℕ, ◌≡◌, ◌<◌, ◌≤◌, ◌+◌, ◌-◌, zero, suc, Bool, true, false, List, [], ◌∷◌, ◌++◌, length}
+use Rattle.std.proofs.Common.{map, All}
 use Rattle.std.proofs.Common.{Option, Some, None, refl, sym, subst, ◌∙◌, ap, arith, inl, inr, ◌⊎◌}
-use Rattle.std.specs.Prelude.{is_some, not, if◌then◌else◌, find}
+use Rattle.std.specs.Prelude.{is_some, not, if◌then◌else◌, find, slice_get}
 use Rattle.std.specs.List.{AllByRecursion, range_with_len}
 use Rattle.std.proofs.lemmas.Bool.{cases_Bool, cases_eq, cases_lt, cond-true, cond-false, le-ltb, lt-ltb}
 use Rattle.std.proofs.lemmas.List.Elements.{All-from_recursion}
@@ -29,6 +30,24 @@ pub record IsFoundAt (question : ℕ → Problem) (found : Found) (n : ℕ) : Ty
 abbrev pub asked_from : (ℕ → Problem) → Until → ℕ → ℕ → List Problem
 asked_from question ends a n = up_to (is_last ends) (map question (range_with_len a n))
 
+-- a question is asked where the asking did not end before it
+pub asked_at : (question : ℕ → Problem) (ends : Until) (a n i : ℕ) → i < n
+    → ((j : ℕ) → j < i → is_last ends (question (a + j)) ≡ false)
+    → slice_get (asked_from question ends a n) i ≡ Some (question (a + i))
+asked_at question ends a zero i low on = absurd (omega (arith, low))
+asked_at question ends a (suc n) zero low on =
+    (let here : a ≡ a + 0 = omega arith in ap (λ k. Some (question k)) here)
+asked_at question ends a (suc n) (suc i) low on =
+    let here : a ≡ a + 0 = omega arith in
+    let next : (j : ℕ) → a + 1 + j ≡ a + suc j = λ j. omega arith in
+    let first : is_last ends (question a) ≡ false =
+    ap (λ k. is_last ends (question k)) here ∙ on 0 (omega arith) in
+    ap (λ l. slice_get l i)
+    (cond-false (is_last ends (question a)) [] (asked_from question ends (a + 1) n) first)
+    ∙ asked_at question ends (a + 1) n i (omega (arith, low))
+    (λ j less. ap (λ k. is_last ends (question k)) (next j) ∙ on (suc j) (omega (arith, less)))
+    ∙ ap (λ k. Some (question k)) (next i)
+
 -- what was found stays, or something later is found
 stays_by : (found : Found) (p : Problem) (ps : List Problem) (own : Option (List ℕ))
     → ((found : Found) → last_found (Some found) ps ≡ None → ⊥)
@@ -52,12 +71,13 @@ module _ (question : ℕ → Problem) where
   abbrev pub NoneAt : ℕ → ℕ → Type 0
   NoneAt n high = (n ≡ high) ⊎ (answer (question n) ≡ None)
 
-  -- where it ends with the first that has none, the last answer is that of n, and the next question has none, if there
-  -- is a next
+  -- where it ends with the first that has none, the last answer is that of n, each question before it has one, and the
+  -- next has none, if there is a next
   pub record IsLastAnswered (found : Found) (low high n : ℕ) : Type 0 where
     pub from : low ≤ n
     pub below : n < high
     pub found_at : IsFoundAt question found n
+    pub some_upto : (k : ℕ) → low ≤ k → k ≤ n → is_some (answer (question k)) ≡ true
     pub none_next : NoneAt (n + 1) high
 
   first_step : (found : Found) (a n : ℕ) (own : Option (List ℕ)) → answer (question a) ≡ own
@@ -135,6 +155,7 @@ module _ (question : ℕ → Problem) where
                 below = omega arith;
                 found_at =
                     subst (λ found. IsFoundAt question found a) same (record { question_is = refl; answer_is = is });
+                some_upto = λ k low high. has_answer k (omega (arith, low, high));
                 none_next = up (a + 1) here.1;
               },
             )
@@ -144,11 +165,18 @@ module _ (question : ℕ → Problem) where
             from = omega (arith, rest.1.from);
             below = omega (arith, rest.1.below);
             found_at = rest.1.found_at;
+            some_upto = λ k low high. elim (cases_eq k a) [
+              | inl here ↦ has_answer k here
+              | inr other ↦ rest.1.some_upto k (omega (arith, low, other)) high
+            ];
             none_next = up (rest.0 + 1) rest.1.none_next;
           },
         )
       ]
     where
+      has_answer : (k : ℕ) → k ≡ a → is_some (answer (question k)) ≡ true
+      has_answer k here = ap (λ n. is_some (answer (question n))) here ∙ ap is_some is
+
       up : (k : ℕ) → NoneAt k (a + 1 + n) → NoneAt k (a + suc n)
       up k h = elim h [ inl end ↦ inl (omega (arith, end)) | inr none ↦ inr none ]
 
@@ -284,6 +312,7 @@ module _ (question : ℕ → Problem) (low high budget : ℕ) where
     pub from : low ≤ n
     pub upto : low ≤ high → n ≤ high
     pub answers : IsAnswerOf question low high Unanswered budget rows n
+    pub some_upto : (k : ℕ) → low ≤ k → k ≤ n → is_some (answer (question k)) ≡ true
     pub none_next : (high ≤ n) ⊎ (answer (question (n + 1)) ≡ None)
 
   pub of-last : (rows : List ℕ) (count : ℕ)
@@ -296,6 +325,7 @@ module _ (question : ℕ → Problem) (low high budget : ℕ) where
         from = last.1.from;
         upto = λ some. omega (arith, some, last.1.below);
         answers = answer_of question low high Unanswered budget rows count last.0 found last.1.found_at;
+        some_upto = last.1.some_upto;
         none_next = elim last.1.none_next [
           | inl end ↦ inl (omega (arith, end))
           | inr none ↦ inr none
@@ -464,7 +494,7 @@ module _ (P : Problem → Type 0) where
   IfFound (Some found) = P found.question
 
   -- of that of a turn, and of those before it
-  abbrev InTurn : Turn → Type 0
+  abbrev pub InTurn : Turn → Type 0
   InTurn turn = AllByRecursion P turn.earlier × P turn.question
 
   -- of one with these dimensions
@@ -494,7 +524,7 @@ module _ (P : Problem → Type 0) where
   kept_found earlier (p ∷ ps) before all =
       kept_found (found_by earlier p (answer p)) ps (kept_by_answer earlier p (answer p) before all.0) all.1
 
-  kept_turn : (test : Turn → Bool) (earlier ps : List Problem) (turn : Turn) → AllByRecursion P earlier
+  pub kept_turn : (test : Turn → Bool) (earlier ps : List Problem) (turn : Turn) → AllByRecursion P earlier
       → AllByRecursion P ps
       → find test (turns earlier ps) ≡ Some turn → InTurn turn
   kept_turn test earlier [] turn before all e = absurd (cc e)
@@ -562,13 +592,22 @@ each_for question low high a (suc n) from upto =
           (omega (arith, from)) (inr (omega (arith, fits))),
     )
 
-pub step-question : (step : Meaning)
-    → OneWith (IsForSome (question_for step) (lowest step step.settings.size) (highest step step.settings.size))
-    (outcome_of step).dimensions
-step-question step =
+-- a question of a step
+abbrev pub IsQuestionOf : Meaning → Problem → Type 0
+IsQuestionOf step p =
+    IsForSome (question_for step) (lowest step step.settings.size) (highest step step.settings.size) p
+
+pub each-of_step : (step : Meaning)
+    → IsQuestionOf step (questions_of step).first × AllByRecursion (IsQuestionOf step) (questions_of step).others
+each-of_step step =
     let low = lowest step step.settings.size in
-    let high = highest step step.settings.size in
-    dimensions-of (IsForSome (question_for step) low high) (questions_of step) step.settings.budget
-    (record { n = low; from = omega arith; upto = inr refl; is = refl })
-    (each_for (question_for step) low high (low + 1) (high - low) (omega arith)
-    (elim (cases_lt low high) [ inl less ↦ inr (omega (arith, less)) | inr over ↦ inl (omega (arith, over)) ]))
+    let high = highest step step.settings.size in (
+      record { n = low; from = omega arith; upto = inr refl; is = refl },
+      each_for (question_for step) low high (low + 1) (high - low) (omega arith)
+          (elim (cases_lt low high) [ inl less ↦ inr (omega (arith, less)) | inr over ↦ inl (omega (arith, over)) ]),
+    )
+
+pub step-question : (step : Meaning) → OneWith (IsQuestionOf step) (outcome_of step).dimensions
+step-question step =
+    let each = each-of_step step in
+    dimensions-of (IsQuestionOf step) (questions_of step) step.settings.budget each.0 each.1

@@ -1,8 +1,10 @@
-use Rattle.std.proofs.Common.{[], Result, Ok, Err, refl, sym, ap, ◌∙◌, arith}
+use Rattle.std.proofs.Common.{[], Result, Ok, Err, refl, sym, ap, ◌∙◌, arith, subst}
 use Rattle.std.specs.Prelude.{IfOk}
 use Rattle.std.proofs.lemmas.Result.{IfOk-weaker}
 use Rattle.fx_statements.specs.Steps.{meaning_of}
 use Rattle.fx_answer.specs.Standing.{all_books_from, conclusion_from}
+use Rattle.fx_answer.specs.StepClaims.{ClaimsHold}
+use Rattle.fx_answer.proofs.Best.{claims_hold}
 use Rattle.fx_answer.proofs.Asking.{whole, whole_books}
 use Rattle.fx_answer.proofs.Valid.{kept_valid, some_numbers}
 use Rattle.fx_answer.proofs.answering.answer.Goals as goal
@@ -11,8 +13,8 @@ pub ask_from-requires-clause-high : goal.ask_from-requires-clause-high
 ask_from-requires-clause-high g c lifetimes live =
     some_numbers (meaning_of c.args.step.now) (kept_valid c.args.step.now) c.lowest.result c.lowest.ensures
 
-pub returns : goal.returns
-returns g c =
+pub returns-clause-outcome : goal.returns-clause-outcome
+returns-clause-outcome g c =
     let step = meaning_of c.args.step.now in
     let result = c.ask_from.result in
     let ensured = c.ask_from.ensures in
@@ -27,3 +29,10 @@ returns g c =
     both : {T E : Type 0} (r : Result T E) (P Q : T → Type 0) → IfOk r P → IfOk r Q → IfOk r (λ x. P x × Q x)
     both (Ok x) P Q p q = (p, q)
     both (Err e) P Q p q = tt
+
+pub returns-clause-claims : goal.returns-clause-claims
+returns-clause-claims g c =
+    IfOk-weaker c.ask_from.result _ _
+    (λ outcome is. subst (ClaimsHold (meaning_of c.args.step.now)) (sym is.concluded)
+    (claims_hold (meaning_of c.args.step.now) (kept_valid c.args.step.now)))
+    (returns-clause-outcome g c)

@@ -1,4 +1,7 @@
-use Rattle.fx_program.proofs.Commands.{given, none_at_all, read_to_end}
+use Rattle.fx_answer.specs.StepClaims.{ClaimsHold, OfOutcome}
+use Rattle.fx_answer.proofs.Best.{claims_hold}
+use Rattle.fx_program.proofs.AnyText.{any_text}
+use Rattle.fx_program.proofs.Commands.{accepted, given, none_at_all, read_to_end}
 use Rattle.fx_program.proofs.run.factex.Goals as goal
 
 pub returns-clause-output : goal.returns-clause-output
@@ -7,6 +10,13 @@ returns-clause-output g c = rw c.exit_status.ensures (given c.read_words.ensures
 pub returns-clause-none_at_all : goal.returns-clause-none_at_all
 returns-clause-none_at_all g c =
     rw c.exit_status.ensures (none_at_all c.read_words.ensures.settings c.carry_out.ensures.done)
+
+pub returns-clause-claims : goal.returns-clause-claims
+returns-clause-claims g c low text run = any_text (OfOutcome ClaimsHold) claims_hold text
+
+pub returns-clause-accepted : goal.returns-clause-accepted
+returns-clause-accepted g c =
+    rw c.exit_status.ensures (accepted c.read_words.ensures.settings c.carry_out.ensures.done)
 
 pub returns-clause-read_to_end : goal.returns-clause-read_to_end
 returns-clause-read_to_end g c =

@@ -12,21 +12,21 @@ returns-in_err-outcome g c = writes_none _ c.from_residual.result c.from_residua
 pub returns-in_err-shelve_files : goal.returns-in_err-shelve_files
 returns-in_err-shelve_files g c =
     writes_by (is_given c.args.session.now.seed c.args.number
-    (meaning_of c.args.step.now) c.in_ok-outcome.outcome c.in_ok-outcome.ensures)
+    (meaning_of c.args.step.now) c.in_ok-outcome.outcome c.in_ok-outcome.ensures.outcome)
     (stopped_in_files _ _ _ _ c.in_err-shelve_files.field-0.0 c.in_err-shelve_files.ensures
     c.from_residual-in_err-shelve_files.result c.from_residual-in_err-shelve_files.ensures.1)
 
 pub returns-in_err-lines : goal.returns-in_err-lines
 returns-in_err-lines g c =
     writes_by (is_given c.args.session.now.seed c.args.number
-    (meaning_of c.args.step.now) c.in_ok-outcome.outcome c.in_ok-outcome.ensures)
+    (meaning_of c.args.step.now) c.in_ok-outcome.outcome c.in_ok-outcome.ensures.outcome)
     (stopped_after_files _ _ _ c.in_ok-shelve_files.ensures _
     c.from_residual-in_err-lines.result c.from_residual-in_err-lines.ensures.1)
 
 pub returns-in_err-put_output_lines : goal.returns-in_err-put_output_lines
 returns-in_err-put_output_lines g c =
     writes_by (is_given c.args.session.now.seed c.args.number
-    (meaning_of c.args.step.now) c.in_ok-outcome.outcome c.in_ok-outcome.ensures)
+    (meaning_of c.args.step.now) c.in_ok-outcome.outcome c.in_ok-outcome.ensures.outcome)
     (stopped_after_files _ _ _ c.in_ok-shelve_files.ensures _
     c.from_residual-in_err-put_output_lines.result c.from_residual-in_err-put_output_lines.ensures.1)
 
@@ -39,7 +39,7 @@ returns g c =
     (λ (l : List ℕ). l ++ output_lines seed step outcome.matrix) c.in_ok-lines.ensures in
     let status = c.status_of.ensures.status outcome.matrix outcome.nodes in
     writes_by
-    (is_given seed c.args.number step outcome c.in_ok-outcome.ensures
+    (is_given seed c.args.number step outcome c.in_ok-outcome.ensures.outcome
     ∙ ap₂ (λ (l : List ℕ) (n : ℕ). with_files
     (book_files c.args.number outcome.books ++ plan_files seed step outcome.matrix) l n) (sym bytes) (sym status))
     (after_files _ _ _ c.in_ok-shelve_files.ensures c.list.ensures.output)

@@ -38,7 +38,7 @@ loop-step-preserved g c =
     let is : c.with_ending-summary.result ≡ with_ending c.loop-step.summary (ending_in outcome) =
     c.with_ending-summary.ensures.summary outcome.matrix in
     let ending : (outcome_of step).ending ≡ ending_in outcome =
-    sym (ap (λ (x : Conclusion). x.ending) c.in_ok-outcome.ensures.concluded) in
+    sym (ap (λ (x : Conclusion). x.ending) c.in_ok-outcome.ensures.outcome.concluded) in
     record {
       so_far = subst (IsSummaryOf (map meaning_of (take (i + 1) c.args.steps.now))) (sym is)
           (subst (λ (l : List Meaning). IsSummaryOf l (with_ending c.loop-step.summary (ending_in outcome))) (sym more)

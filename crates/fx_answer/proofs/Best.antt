@@ -1,13 +1,14 @@
 -- The design of a valid step is as it asks, and none is better: of the questions of the step the next, or each before
 -- it, has no answer.
-use Rattle.std.proofs.Common.{ℕ, ◌≡◌, ◌<◌, ◌≤◌, ◌+◌, ◌||◌, ◌&&◌, Bool, true, false, List, [], ◌∷◌, length, Some, None}
-use Rattle.std.proofs.Common.{refl, sym, ap, ◌∙◌, subst, arith, inl, inr, ◌⊎◌, IsTrue, eqb, eqb-true}
-use Rattle.std.specs.Prelude.{nat_le, not, max, if◌then◌else◌}
-use Rattle.std.specs.List.{list_any, list_all}
-use Rattle.std.proofs.lemmas.Bool.{leb-true, ltb-true, cases_Bool, and_parts, both_ways, eqb-true}
-use Rattle.fx_designs.specs.Galois.{IsField, is_order}
+use Rattle.std.proofs.Common.{ℕ, suc, ◌≡◌, ◌<◌, ◌≤◌, ◌+◌, ◌-◌, ◌||◌, ◌&&◌, Bool, true, false, List, length}
+use Rattle.std.proofs.Common.{Option, Some, None}
+use Rattle.std.proofs.Common.{refl, sym, ap, ◌∙◌, subst, arith, inl, inr, ◌⊎◌, eqb-true}
+use Rattle.std.specs.Prelude.{not, max, if◌then◌else◌, is_some, slice_get}
+use Rattle.std.proofs.lemmas.Bool.{leb-true, cases_Bool, cases_lt, and_parts, both_ways, eqb-true}
+use Rattle.fx_designs.specs.Galois.{IsField}
 use Rattle.fx_designs.specs.Problems.{Dimensions, Problem, Requirement, AtResolution}
 use Rattle.fx_designs.specs.Demands.{is_met}
+use Rattle.fx_designs.specs.Patterns.{pattern_of, resolution_of}
 use Rattle.fx_designs.specs.Answers.{answer}
 use Rattle.fx_designs.specs.Outcomes.{Design, NoDesign}
 use Rattle.fx_designs.specs.Matrices.{NoneMeets}
@@ -23,138 +24,41 @@ use Rattle.fx_reduction.proofs.NoDesign.{none-exactly}
 use Rattle.fx_reduction.proofs.ShortWords.{highest, highest-least}
 use Rattle.fx_settings.specs.declared.settings.Size.{Size}
 use Rattle.fx_settings.specs.declared.settings.Size.TheVariants.{Runs, Minimum}
-use Rattle.fx_settings.specs.declared.settings.Blocks.{Blocks}
 use Rattle.fx_settings.specs.declared.settings.Blocks.TheVariants as blocks
-use Rattle.fx_settings.specs.declared.settings.Criterion.{Criterion}
-use Rattle.fx_settings.specs.declared.settings.Criterion.TheVariants as criterion
 use Rattle.fx_settings.specs.Sizes.{is_minimum}
-use Rattle.fx_settings.specs.Models.{is_criterion, is_highest}
+use Rattle.fx_settings.specs.Models.{is_highest}
 use Rattle.fx_settings.specs.Powers.{greatest}
 use Rattle.fx_settings.specs.Settings.{is_level}
 use Rattle.fx_settings.specs.Valid.{are_blocks, has_blocks, has_most, stand_together}
-use Rattle.fx_statements.specs.Goals.{Goal, AtLeast, Highest, ForEffects}
+use Rattle.fx_statements.specs.Goals.{Highest}
 use Rattle.fx_statements.specs.Steps.{Meaning}
 use Rattle.fx_statements.specs.Questions as asked
 use Rattle.fx_statements.specs.Questions.{Answered, Unanswered, Conclusion, Until, block_factors, conclusion_of}
-use Rattle.fx_statements.specs.Questions.{least_exponent, lowest, outcome_of, question_for, requirement_for}
-use Rattle.fx_statements.specs.Questions.{run_factors, seeks_highest, series, until}
+use Rattle.fx_statements.specs.Questions.{least_exponent, lowest, outcome_of, question_for, questions_of}
+use Rattle.fx_statements.specs.Questions.{is_last, requirement_for, run_factors, seeks_highest, series, until}
 use Rattle.fx_statements.proofs.Concluded.{HasEnding, IsOfFirst, IsOfLast, of-first, of-last, none-of_all}
-use Rattle.fx_statements.proofs.Concluded.{none-of_first}
-use Rattle.fx_program.specs.StepClaims.{Allows, HasHighestOfAll, HasLeastOfAll, HasLeastSize, HasMostBlocks}
-use Rattle.fx_program.specs.StepClaims.{HasNoneAtAll, HasWhatItAsks, IsAsItAsks, IsOfKind, IsValidStep, required}
+use Rattle.fx_statements.proofs.Concluded.{none-of_first, IsQuestionOf, asked_at, each-of_step}
+use Rattle.fx_answer.specs.StepClaims.{Allows, ClaimsHold, HasHighestOfAll, HasLeastOfAll, HasLeastSize, HasMostBlocks}
+use Rattle.fx_answer.specs.StepClaims.{HasNoneAtAll, HasWhatItAsks, IsAsItAsks, LeavesNoneOfLeastSize, OfOutcome}
+use Rattle.fx_answer.specs.StepClaims.{required}
+use Rattle.fx_answer.specs.ValidSteps.{IsValidStep}
+use Rattle.fx_answer.proofs.StepSettings.{order_of, most_or, not_both, neither, same_blocks, runs_again}
+use Rattle.fx_answer.proofs.StepSettings.{blocks_again, highest_or, kind_of_highest, reducible_by, exponent_fits}
+use Rattle.fx_answer.proofs.StepSettings.{size_or, unblocked, same_dimensions}
+use Rattle.fx_answer.proofs.FullBlocks.{fewer_than_indexes, goal-estimated}
+use Rattle.fx_answer.proofs.NextResolution.{exact_resolution, full_resolution}
+use Rattle.fx_answer.proofs.Valid.{some_numbers}
+use Rattle.fx_answer.proofs.Left.{IsLeftOf, left-of, left_met, none-left}
 
--- Numbers of levels
-
-at_level : (levels : List ℕ) (P : ℕ → Bool) (q : ℕ) → list_all P levels ≡ true → list_any (λ x. eqb x q) levels ≡ true
-    → P q ≡ true
-at_level [] P q all among = absurd (both_ways _ refl among)
-at_level (x ∷ levels) P q all among =
-    let both = and_parts (P x) (list_all P levels) all in
-    elim (cases_Bool (eqb x q)) [
-      | inl same ↦ subst (λ y. P y ≡ true) (eqb-true x q same) both.0
-      | inr other ↦ at_level levels P q both.1 (ap (λ b. b || list_any (λ x. eqb x q) levels) (sym other) ∙ among)
-    ]
-
-abbrev levels : List ℕ
-levels = 2 ∷ 3 ∷ 4 ∷ 5 ∷ 7 ∷ 8 ∷ 9 ∷ []
-
-pub order_of : (q : ℕ) → is_level q ≡ true → IsTrue (is_order q)
-order_of q h = at_level levels is_order q refl h
-
-some_size : (q : ℕ) → is_level q ≡ true → 1 ≤ greatest q
-some_size q h = leb-true 1 (greatest q) (at_level levels (λ q. nat_le 1 (greatest q)) q refl h)
-
--- What goes together
-
--- the most blocks are asked or not
-most_or : (b : Blocks) → (b ≡ blocks.Most) ⊎ (has_most b ≡ false)
-most_or blocks.Without = inr refl
-most_or (blocks.Factors t) = inr refl
-most_or (blocks.PerBlock k) = inr refl
-most_or blocks.Most = inl refl
-
-not_both : (a b : Bool) → not (a && b) ≡ true → a ≡ true → b ≡ false
-not_both true true e h = absurd (cc e)
-not_both true false e h = refl
-not_both false b e h = absurd (cc h)
-
-none_of : (a b c : Bool) → (a || (b || c)) ≡ false → (a ≡ false) × (b ≡ false) × (c ≡ false)
-none_of false false false e = (refl, refl, refl)
-none_of true b c e = absurd (cc e)
-none_of false true c e = absurd (cc e)
-none_of false false true e = absurd (cc e)
-
-neither : (a b : Bool) → (a || b) ≡ false → (a ≡ false) × (b ≡ false)
-neither false false e = (refl, refl)
-neither true b e = absurd (cc e)
-neither false true e = absurd (cc e)
-
--- the block factors do not hang on the number of the question, but for the most blocks
-same_blocks : (b : Blocks) (m n k : ℕ) → has_most b ≡ false → block_factors b m n ≡ block_factors b m k
-same_blocks blocks.Without m n k e = refl
-same_blocks (blocks.Factors t) m n k e = refl
-same_blocks (blocks.PerBlock p) m n k e = refl
-same_blocks blocks.Most m n k e = absurd (cc e)
-
-runs_again : (size : Size) (n : ℕ) → run_factors size n ≡ run_factors size (run_factors size n)
-runs_again (Runs m) n = refl
-runs_again Minimum n = refl
-
-blocks_again : (b : Blocks) (m n : ℕ) → block_factors b m n ≡ block_factors b m (block_factors b m n)
-blocks_again blocks.Without m n = refl
-blocks_again (blocks.Factors t) m n = refl
-blocks_again (blocks.PerBlock k) m n = refl
-blocks_again blocks.Most m n = refl
-
--- the highest resolution is wanted or not
-highest_or : (goal : Goal) → (goal ≡ Highest) ⊎ ((least : Bool) (n : ℕ) → requirement_for least goal n ≡ required goal)
-highest_or (AtLeast r) = inr (λ least n. refl)
-highest_or Highest = inl refl
-highest_or (ForEffects estimate besides) = inr (λ least n. refl)
-
-kind_of_highest : (kind : Criterion) (goal : Goal) → IsOfKind kind goal → goal ≡ Highest → is_highest kind ≡ true
-kind_of_highest (criterion.Resolution r) goal h e = absurd (subst (IsOfKind (criterion.Resolution r)) e h)
-kind_of_highest criterion.Highest goal h e = refl
-kind_of_highest criterion.Effects goal h e = absurd (subst (IsOfKind criterion.Effects) e h)
-
-reducible_by : (kind : Criterion) (goal : Goal) → IsOfKind kind goal → is_criterion kind ≡ true
-    → IsReducible (required goal)
-reducible_by (criterion.Resolution r) (AtLeast n) h e =
-    (let three = leb-true 3 r (and_parts (nat_le 3 r) (nat_le r 99) e).0 in omega (arith, three, h))
-reducible_by (criterion.Resolution r) Highest h e = absurd h
-reducible_by (criterion.Resolution r) (ForEffects estimate besides) h e = absurd h
-reducible_by criterion.Highest (AtLeast n) h e = absurd h
-reducible_by criterion.Highest Highest h e = omega arith
-reducible_by criterion.Highest (ForEffects estimate besides) h e = absurd h
-reducible_by criterion.Effects (AtLeast n) h e = absurd h
-reducible_by criterion.Effects Highest h e = absurd h
-reducible_by criterion.Effects (ForEffects estimate besides) h e = tt
-
-exponent_fits : (q : ℕ) (size : Size) (b : Blocks) → is_level q ≡ true → are_blocks q size b ≡ true
-    → least_exponent b ≤ greatest q
-exponent_fits q size blocks.Without level e = some_size q level
-exponent_fits q size (blocks.Factors t) level e = some_size q level
-exponent_fits q size (blocks.PerBlock k) level e =
-    (let low : k < greatest q = ltb-true k (greatest q) (and_parts _ _ e).1 in omega (arith, low))
-exponent_fits q size blocks.Most level e = some_size q level
-
-size_or : (size : Size) → (size ≡ Minimum) ⊎ ((m : ℕ) × (size ≡ Runs m))
-size_or Minimum = inl refl
-size_or (Runs m) = inr (m, refl)
-
-unblocked : (b : Blocks) → has_blocks b ≡ false → b ≡ blocks.Without
-unblocked blocks.Without e = refl
-unblocked (blocks.Factors t) e = absurd (cc e)
-unblocked (blocks.PerBlock k) e = absurd (cc e)
-unblocked blocks.Most e = absurd (cc e)
-
-abbrev sized : ℕ → ℕ → ℕ → ℕ → Dimensions
-sized q m s t = record { q = q; m = m; s = s; t = t }
-
-same_dimensions : (a b : Dimensions) → a.q ≡ b.q → a.m ≡ b.m → a.s ≡ b.s → a.t ≡ b.t → a ≡ b
-same_dimensions a b eq em es et =
-    ap (λ q. sized q a.m a.s a.t) eq ∙ ap (λ m. sized b.q m a.s a.t) em ∙ ap (λ s. sized b.q b.m s a.t) es ∙ ap
-    (λ t. sized b.q b.m b.s t) et
+-- A question of a step that is asked, requires this of designs of these dimensions, and has this answer
+pub record IsAsked (step : Meaning) (d : Dimensions) (wanted : Requirement) (own : Option (List ℕ)) : Type 0 where
+  pub place : ℕ
+  pub question : Problem
+  pub asked_at : slice_get (asked.asked (questions_of step)) place ≡ Some question
+  pub dimensions : question.dimensions ≡ d
+  pub requirement : question.requirement ≡ wanted
+  pub least : question.least ≡ step.settings.least
+  pub answer_is : answer question ≡ own
 
 module _ (step : Meaning) (valid : IsValidStep step) where
   abbrev q : ℕ
@@ -372,37 +276,55 @@ module _ (step : Meaning) (valid : IsValidStep step) where
     ]
   ]
 
-  as_asked : (n : ℕ) (rows : List ℕ) → d ≡ (question n).dimensions → answer (question n) ≡ Some rows
-      → (step.settings.size ≡ Minimum → (least_exponent step.settings.blocks ≤ n) × (n ≤ greatest q))
-      → (step.settings.blocks ≡ blocks.Most → 1 ≤ n)
-      → (step.goal ≡ Highest → 3 ≤ n) → IsAsItAsks step d rows
-  as_asked n rows dims is sizes some three =
-      let own = answered n rows is in
-      subst (λ d. IsAsItAsks step d rows) (sym dims) (record {
-        allowed = allowed n sizes some;
-        whole = own.0;
-        met = met_required n rows three own.1;
-      })
+  -- a number of a question of the step is one that the step allows
+  own_fits : (n : ℕ) → lowest step step.settings.size ≤ n
+      → (n ≤ asked.highest step step.settings.size) ⊎ (n ≡ lowest step step.settings.size)
+      → step.settings.size ≡ Minimum
+      → (least_exponent step.settings.blocks ≤ n) × (n ≤ greatest q)
+  own_fits n from upto e =
+      let low : lowest step step.settings.size ≡ least_exponent step.settings.blocks = ap (lowest step) e in
+      let high : asked.highest step step.settings.size ≡ greatest q = ap (asked.highest step) e in
+      let fits = exponent_fits q step.settings.size step.settings.blocks level given in
+      (omega (arith, from, low), elim upto [ inl h ↦ omega (arith, h, high) | inr h ↦ omega (arith, h, low, fits) ])
 
-  pub what_it_asks : HasWhatItAsks step
-  what_it_asks rows count e = elim (size_or step.settings.size) [
-    | inl least ↦
-        let h = first_found least rows count e in
-        as_asked h.n rows (ap (λ (c : Conclusion). c.dimensions) (is_least least) ∙ h.answers.dimensions)
-        h.answers.answer_is
-        (λ z. (h.from, h.upto (exponent_fits q step.settings.size step.settings.blocks level given)))
-        (λ most. absurd (most_fixed most least)) (λ highest. absurd (highest_fixed highest least))
+  own_some : (n : ℕ) → lowest step step.settings.size ≤ n → step.settings.blocks ≡ blocks.Most → 1 ≤ n
+  own_some n from most = elim (size_or step.settings.size) [
+    | inl least ↦ absurd (most_fixed most least)
     | inr fixed ↦
-        let m = fixed.0 in
-        let h = last_found m fixed.1 rows count e in
-        as_asked h.n rows (ap (λ (c : Conclusion). c.dimensions) (is_fixed m fixed.1) ∙ h.answers.dimensions)
-        h.answers.answer_is
-        (λ least. absurd (let bad : Minimum ≡ Runs m = sym least ∙ fixed.1 in cc bad))
-        (λ most. subst (λ k. k ≤ h.n) (low_most m fixed.1 most) h.from)
-        (λ highest. subst (λ k. k ≤ h.n) (low_highest m fixed.1 highest) h.from)
+        let is : lowest step step.settings.size ≡ low fixed.0 fixed.1 = ap (lowest step) fixed.1 in
+        omega (arith, from, is, low_most fixed.0 fixed.1 most)
   ]
 
-  pub least_of_all : HasLeastOfAll step
+  own_three : (n : ℕ) → lowest step step.settings.size ≤ n → step.goal ≡ Highest → 3 ≤ n
+  own_three n from e = elim (size_or step.settings.size) [
+    | inl least ↦ absurd (highest_fixed e least)
+    | inr fixed ↦
+        let is : lowest step step.settings.size ≡ low fixed.0 fixed.1 = ap (lowest step) fixed.1 in
+        omega (arith, from, is, low_highest fixed.0 fixed.1 e)
+  ]
+
+  -- the matrix is of one of the step's questions
+  pub what_it_asks : OfOutcome HasWhatItAsks step
+  what_it_asks rows e =
+      let each = each-of_step step in
+      let own = left-of (IsQuestionOf step) (questions_of step) step.settings.budget rows each.0 each.1 e in
+      let n : ℕ = own.holds.n in
+      let is : own.question ≡ question n = own.holds.is in
+      let met =
+      left_met (question n) field rows (subst (λ (p : Problem). IsLeftOf p rows) is own.left) in
+      subst (λ d. IsAsItAsks step d rows) (sym (own.dimensions ∙ ap (λ (p : Problem). p.dimensions) is)) (record {
+        allowed = allowed n (own_fits n own.holds.from own.holds.upto) (own_some n own.holds.from);
+        whole = met.0;
+        met = met_required n rows (own_three n own.holds.from) met.1;
+      })
+
+  pub none_left : OfOutcome LeavesNoneOfLeastSize step
+  none_left left budget least e =
+      let each = each-of_step step in
+      none-left (IsQuestionOf step) (λ p own. ap (λ (p : Problem). p.least) own.is ∙ (with_least_size least).1)
+      (questions_of step) step.settings.budget left budget (ap until least) each.0 each.1 e
+
+  pub least_of_all : OfOutcome HasLeastOfAll step
   least_of_all rows count least e = elim (size_or step.settings.size) [
     | inl small ↦ absurd (both_ways _ (with_least_size small).1 least)
     | inr fixed ↦
@@ -417,8 +339,21 @@ module _ (step : Meaning) (valid : IsValidStep step) where
         matrix met))
   ]
 
+  -- of a fixed size it allows no smaller one
+  one_size : (m : ℕ) (fixed : step.settings.size ≡ Runs m) (rows : List ℕ) (count : ℕ) (other : Dimensions)
+      → HasEnding (outcome_of step) (Design rows count)
+      → Allows step other
+      → other.m < d.m → ⊥
+  one_size m fixed rows count other e h less =
+      let last = last_found m fixed rows count e in
+      let dims : d ≡ (question last.n).dimensions =
+      ap (λ (c : Conclusion). c.dimensions) (is_fixed m fixed) ∙ last.answers.dimensions in
+      let runs : d.m ≡ m = ap (λ (d : Dimensions). d.m) dims ∙ ap (λ size. run_factors size last.n) fixed in
+      let own : other.m ≡ m = h.runs ∙ ap (λ size. run_factors size other.m) fixed in
+      omega (arith, less, runs, own)
+
   -- where each smaller size that it allows has no answer
-  pub least_size : HasLeastSize step
+  pub least_size : OfOutcome HasLeastSize step
   least_size rows count other e h less = elim (size_or step.settings.size) [
     | inl least ↦
         let first = first_found least rows count e in
@@ -432,18 +367,22 @@ module _ (step : Meaning) (valid : IsValidStep step) where
         (unanswered other.m (required step.goal) (requires_same other.m (λ highest. highest_fixed highest least))
         reducible
         (first.none_before other.m (h.sizes least).0 (omega (arith, less, runs))))
-    | inr fixed ↦
-        let m = fixed.0 in
-        let last = last_found m fixed.1 rows count e in
-        let dims : d ≡ (question last.n).dimensions =
-        ap (λ (c : Conclusion). c.dimensions) (is_fixed m fixed.1) ∙ last.answers.dimensions in
-        let runs : d.m ≡ m = ap (λ (d : Dimensions). d.m) dims ∙ ap (λ size. run_factors size last.n) fixed.1 in
-        let own : other.m ≡ m = h.runs ∙ ap (λ size. run_factors size other.m) fixed.1 in
-        absurd (omega (arith, less, runs, own))
+    | inr fixed ↦ absurd (one_size fixed.0 fixed.1 rows count other e h less)
   ]
 
+  -- where the most blocks are asked, the next question is for one block factor more
+  one_more : (m : ℕ) → step.settings.size ≡ Runs m → step.settings.blocks ≡ blocks.Most → (n : ℕ)
+      → (question (n + 1)).dimensions ≡ with_block (question n).dimensions
+  one_more m fixed most n =
+      let at = λ (m n : ℕ). ap (λ b. block_factors b m n) most in
+      let runs = λ (n : ℕ). ap (λ size. run_factors size n) fixed in
+      same_dimensions (question (n + 1)).dimensions (with_block (question n).dimensions) refl
+      (runs (n + 1) ∙ sym (runs n)) refl
+      (at (run_factors step.settings.size (n + 1)) (n + 1)
+      ∙ sym (ap (λ t. t + 1) (at (run_factors step.settings.size n) n)))
+
   -- where the question for one block factor more has no answer, or there are as many as run indexes
-  pub most_blocks : HasMostBlocks step
+  pub most_blocks : OfOutcome HasMostBlocks step
   most_blocks rows count other most e h more = elim (size_or step.settings.size) [
     | inl least ↦ absurd (most_fixed most least)
     | inr fixed ↦
@@ -456,15 +395,11 @@ module _ (step : Meaning) (valid : IsValidStep step) where
         let runs = λ (n : ℕ). ap (λ size. run_factors size n) fixed.1 in
         let own : (question n).dimensions.t ≡ n = at (run_factors step.settings.size n) n in
         let above : (question n).dimensions.t < other.t = subst (λ (d : Dimensions). d.t < other.t) dims more in
-        let one_more : (question (n + 1)).dimensions ≡ with_block (question n).dimensions =
-        same_dimensions (question (n + 1)).dimensions (with_block (question n).dimensions) refl
-        (runs (n + 1) ∙ sym (runs n)) refl
-        (at (run_factors step.settings.size (n + 1)) (n + 1) ∙ sym (ap (λ t. t + 1) own)) in
         let none : NoneMeets (with_block (question n).dimensions) (required step.goal)
         ⊎ ((question n).dimensions.m ≤ (question n).dimensions.t) =
         elim last.none_next [
           | inl end ↦ inr (omega (arith, end, high_most m fixed.1 most, runs n, own))
-          | inr unmet ↦ inl (subst (λ d. NoneMeets d (required step.goal)) one_more
+          | inr unmet ↦ inl (subst (λ d. NoneMeets d (required step.goal)) (one_more m fixed.1 most n)
               (unanswered (n + 1) (required step.goal)
               (requires_same (n + 1) (λ highest. most_not_highest most highest)) reducible unmet))
         ] in
@@ -484,7 +419,7 @@ module _ (step : Meaning) (valid : IsValidStep step) where
       (none (n + 1) ∙ sym (none n))
 
   -- where the question for the next resolution has no answer, or there is no word
-  pub highest_of_all : HasHighestOfAll step
+  pub highest_of_all : OfOutcome HasHighestOfAll step
   highest_of_all rows count e ends = elim (size_or step.settings.size) [
     | inl least ↦ absurd (highest_fixed e least)
     | inr fixed ↦
@@ -556,7 +491,7 @@ module _ (step : Meaning) (valid : IsValidStep step) where
       ]
 
   -- without a design no question has an answer, or the first has none, and so no later one
-  pub none_at_all : HasNoneAtAll step
+  pub none_at_all : OfOutcome HasNoneAtAll step
   none_at_all count other e h = elim (size_or step.settings.size) [
     | inl least ↦
         let facts = with_least_size least in
@@ -568,4 +503,207 @@ module _ (step : Meaning) (valid : IsValidStep step) where
         (none_found least count e other.m (h.sizes least).0
         (subst (λ q. other.m ≤ greatest q) h.levels (h.sizes least).1)))
     | inr fixed ↦ none_fixed other h fixed.0 fixed.1 (first_none fixed.0 fixed.1 count e)
+  ]
+
+  pub claims_hold : OfOutcome ClaimsHold step
+  claims_hold = record {
+    as_asked = what_it_asks;
+    none_left = none_left;
+    none_at_all = none_at_all;
+    least_pattern = least_of_all;
+    highest_resolution = highest_of_all;
+    least_size = least_size;
+    most_blocks = most_blocks;
+  }
+
+  -- The questions behind what is claimed
+
+  -- the asking ends with no question before that for n
+  abbrev IsBefore : ℕ → Type 0
+  IsBefore n = (k : ℕ) → lowest step step.settings.size ≤ k → k < n
+      → is_last (until step.settings.size) (question k) ≡ false
+
+  place_of : (n : ℕ) → lowest step step.settings.size ≤ n → n ≤ asked.highest step step.settings.size → IsBefore n
+      → slice_get (asked.asked (questions_of step)) (n - lowest step step.settings.size) ≡ Some (question n)
+  place_of n from top on =
+      let low : ℕ = lowest step step.settings.size in
+      let i : ℕ = n - low in
+      let is : low + i ≡ n = omega (arith, from) in
+      asked_at question (until step.settings.size) low (suc (asked.highest step step.settings.size - low)) i
+      (omega (arith, from, top)) (λ j less. on (low + j) (omega arith) (omega (arith, less, is)))
+      ∙ ap (λ k. Some (question k)) is
+
+  asked_for : (n : ℕ) (d : Dimensions) (wanted : Requirement) (own : Option (List ℕ))
+      → lowest step step.settings.size ≤ n
+      → n ≤ asked.highest step step.settings.size
+      → IsBefore n
+      → (question n).dimensions ≡ d
+      → (question n).requirement ≡ wanted
+      → answer (question n) ≡ own → IsAsked step d wanted own
+  asked_for n d wanted own from top on dims requires is = record {
+    place = n - lowest step step.settings.size;
+    question = question n;
+    asked_at = place_of n from top on;
+    dimensions = dims;
+    requirement = requires;
+    least = refl;
+    answer_is = is;
+  }
+
+  -- of a fixed size each question before an unanswered one has an answer
+  before_fixed : (m : ℕ) (fixed : step.settings.size ≡ Runs m) (n : ℕ)
+      → ((k : ℕ) → low m fixed ≤ k → k < n → is_some (answer (question k)) ≡ true) → IsBefore n
+  before_fixed m fixed n some k from below =
+      let is : lowest step step.settings.size ≡ low m fixed = ap (lowest step) fixed in
+      ap (λ size. is_last (until size) (question k)) fixed ∙ ap not (some k (omega (arith, from, is)) below)
+
+  -- of the least size each question before the first answer has none
+  before_least : (least : step.settings.size ≡ Minimum) (rows : List ℕ)
+      (first : IsOfFirst question (least_exponent step.settings.blocks) (greatest q) step.settings.budget rows) (n : ℕ)
+      → n ≤ first.n → IsBefore n
+  before_least least rows first n upto k from below =
+      let is : lowest step step.settings.size ≡ least_exponent step.settings.blocks = ap (lowest step) least in
+      ap (λ size. is_last (until size) (question k)) least
+      ∙ ap is_some (first.none_before k (omega (arith, from, is)) (omega (arith, below, upto)))
+
+  -- the question after the last that has an answer, if it is asked
+  next_asked : (m : ℕ) (fixed : step.settings.size ≡ Runs m) (rows : List ℕ)
+      (last : IsOfLast question (low m fixed) (high m fixed) step.settings.budget rows) (d : Dimensions)
+      (wanted : Requirement)
+      → (question (last.n + 1)).dimensions ≡ d
+      → (question (last.n + 1)).requirement ≡ wanted
+      → (high m fixed ≤ last.n) ⊎ ((answer (question (last.n + 1)) ≡ None) × IsAsked step d wanted None)
+  next_asked m fixed rows last d wanted dims requires = elim (cases_lt last.n (high m fixed)) [
+    | inr end ↦ inl end
+    | inl more ↦ elim last.none_next [
+      | inl end ↦ absurd (omega (arith, end, more))
+      | inr unmet ↦
+          let lowest_is : lowest step step.settings.size ≡ low m fixed = ap (lowest step) fixed in
+          let highest_is : asked.highest step step.settings.size ≡ high m fixed = ap (asked.highest step) fixed in
+          inr (
+            unmet,
+            asked_for (last.n + 1) d wanted None (omega (arith, last.from, lowest_is)) (omega (arith, more, highest_is))
+                (before_fixed m fixed (last.n + 1) (λ k from below. last.some_upto k from (omega (arith, below)))) dims
+                requires unmet,
+          )
+    ]
+  ]
+
+  -- behind a least pattern is the only question
+  pub least_asked : (rows : List ℕ) (count : ℕ) → step.settings.least ≡ true
+      → HasEnding (outcome_of step) (Design rows count)
+      → IsAsked step d (required step.goal) (Some rows)
+  least_asked rows count least e = elim (size_or step.settings.size) [
+    | inl small ↦ absurd (both_ways _ (with_least_size small).1 least)
+    | inr fixed ↦
+        let m = fixed.0 in
+        let last = last_found m fixed.1 rows count e in
+        let n : ℕ = last.n in
+        let lowest_is : lowest step step.settings.size ≡ low m fixed.1 = ap (lowest step) fixed.1 in
+        let highest_is : asked.highest step step.settings.size ≡ high m fixed.1 = ap (asked.highest step) fixed.1 in
+        let some : low m fixed.1 ≤ high m fixed.1 =
+        subst (λ size. lowest step size ≤ asked.highest step size) fixed.1
+        (some_numbers step valid (lowest step step.settings.size) refl) in
+        let dims : d ≡ (question n).dimensions =
+        ap (λ (c : Conclusion). c.dimensions) (is_fixed m fixed.1) ∙ last.answers.dimensions in
+        asked_for n d (required step.goal) (Some rows) (omega (arith, last.from, lowest_is))
+        (omega (arith, last.upto some, highest_is))
+        (before_fixed m fixed.1 n (λ k from below. last.some_upto k from (omega (arith, below)))) (sym dims)
+        (requires_least n least) last.answers.answer_is
+  ]
+
+  -- behind the highest resolution that for the next, unless there are no defining words
+  pub highest_asked : (rows : List ℕ) (count : ℕ) → step.goal ≡ Highest → step.settings.least ≡ false
+      → HasEnding (outcome_of step) (Design rows count)
+      → (resolution_of (pattern_of d rows) ≡ d.s + 1)
+      ⊎ IsAsked step d (AtResolution (resolution_of (pattern_of d rows) + 1)) None
+  highest_asked rows count e plain ends = elim (size_or step.settings.size) [
+    | inl least ↦ absurd (highest_fixed e least)
+    | inr fixed ↦
+        let m = fixed.0 in
+        let last = last_found m fixed.1 rows count ends in
+        let n : ℕ = last.n in
+        let dims : d ≡ (question n).dimensions =
+        ap (λ (c : Conclusion). c.dimensions) (is_fixed m fixed.1) ∙ last.answers.dimensions in
+        let own = answered n rows last.answers.answer_is in
+        let from : 3 ≤ n = subst (λ k. k ≤ n) (low_highest m fixed.1 e) last.from in
+        let plain_blocks : d.t ≡ 0 =
+        ap (λ (d : Dimensions). d.t) dims
+        ∙ ap (λ b. block_factors b (run_factors step.settings.size n) n) (highest_unblocked e) in
+        let field_d : IsField d.q = subst (λ (d : Dimensions). IsField d.q) (sym dims) field in
+        let whole : length rows ≡ d.s + d.t =
+        subst (λ (d : Dimensions). length rows ≡ d.s + d.t) (sym dims) own.0 in
+        let met : is_met d (AtResolution n) rows ≡ true =
+        subst (λ d. is_met d (AtResolution n) rows ≡ true) (sym dims)
+        (subst (λ wanted. is_met (question n).dimensions wanted rows ≡ true) (requires_resolution n plain e) own.1) in
+        elim (next_asked m fixed.1 rows last d (AtResolution (n + 1)) (next_highest m fixed.1 e n ∙ sym dims)
+        (requires_resolution (n + 1) plain e)) [
+          | inl end ↦
+              let factors : d.s ≡ length step.factors = ap (λ (d : Dimensions). d.s) dims in
+              inl (full_resolution d field_d rows n plain_blocks whole met
+              (omega (arith, end, high_highest m fixed.1 e plain, factors)))
+          | inr next ↦ elim (exact_resolution d field_d rows n plain_blocks whole met
+              (subst (λ d. NoneMeets d (AtResolution (n + 1))) (next_highest m fixed.1 e n ∙ sym dims)
+              (unanswered (n + 1) (AtResolution (n + 1)) (requires_resolution (n + 1) plain e) (omega (arith, from))
+              next.0))) [
+                | inl full ↦ inl full
+                | inr is ↦ inr (subst (λ r. IsAsked step d (AtResolution (r + 1)) None) (sym is) next.1)
+              ]
+        ]
+  ]
+
+  -- behind the least size that for each smaller one
+  pub smaller_asked : (rows : List ℕ) (count : ℕ) (other : Dimensions)
+      → HasEnding (outcome_of step) (Design rows count)
+      → Allows step other
+      → other.m < d.m → IsAsked step other (required step.goal) None
+  smaller_asked rows count other e h less = elim (size_or step.settings.size) [
+    | inl least ↦
+        let first = first_found least rows count e in
+        let dims : d ≡ (question first.n).dimensions =
+        ap (λ (c : Conclusion). c.dimensions) (is_least least) ∙ first.answers.dimensions in
+        let runs : d.m ≡ first.n = ap (λ (d : Dimensions). d.m) dims ∙ ap (λ size. run_factors size first.n) least in
+        let facts = with_least_size least in
+        let low : lowest step step.settings.size ≡ least_exponent step.settings.blocks = ap (lowest step) least in
+        let high : asked.highest step step.settings.size ≡ greatest q = ap (asked.highest step) least in
+        let from : least_exponent step.settings.blocks ≤ other.m = (h.sizes least).0 in
+        let top : other.m ≤ greatest q = subst (λ q. other.m ≤ greatest q) h.levels (h.sizes least).1 in
+        asked_for other.m other (required step.goal) None (omega (arith, from, low)) (omega (arith, top, high))
+        (before_least least rows first other.m (omega (arith, less, runs)))
+        (allowed_is other other.m h (ap (λ size. run_factors size other.m) least)
+        (same_blocks step.settings.blocks other.m other.m other.t facts.2 ∙ sym h.blocks))
+        (requires_same other.m (λ highest. highest_fixed highest least))
+        (first.none_before other.m from (omega (arith, less, runs)))
+    | inr fixed ↦ absurd (one_size fixed.0 fixed.1 rows count other e h less)
+  ]
+
+  -- behind the most blocks that for one block factor more
+  pub more_blocks_asked : (rows : List ℕ) (count : ℕ) → step.settings.blocks ≡ blocks.Most
+      → HasEnding (outcome_of step) (Design rows count)
+      → IsAsked step (with_block d) (required step.goal) None
+  more_blocks_asked rows count most e = elim (size_or step.settings.size) [
+    | inl least ↦ absurd (most_fixed most least)
+    | inr fixed ↦
+        let m = fixed.0 in
+        let last = last_found m fixed.1 rows count e in
+        let n : ℕ = last.n in
+        let dims : d ≡ (question n).dimensions =
+        ap (λ (c : Conclusion). c.dimensions) (is_fixed m fixed.1) ∙ last.answers.dimensions in
+        let same = requires_same n (λ highest. most_not_highest most highest) in
+        elim (next_asked m fixed.1 rows last (with_block d) (required step.goal)
+        (one_more m fixed.1 most n ∙ ap with_block (sym dims))
+        (requires_same (n + 1) (λ highest. most_not_highest most highest))) [
+          | inl end ↦
+              let own = answered n rows last.answers.answer_is in
+              let blocks_are : (question n).dimensions.t ≡ n =
+              ap (λ b. block_factors b (run_factors step.settings.size n) n) most in
+              let runs : (question n).dimensions.m ≡ m = ap (λ size. run_factors size n) fixed.1 in
+              let fewer =
+              fewer_than_indexes (question n).dimensions field (required step.goal)
+              (goal-estimated (question n).dimensions field step.goal reducible
+              (leb-true 1 (length step.factors) (and_parts _ _ valid.factors).0) valid.effects) rows own.0
+              (subst (λ wanted. is_met (question n).dimensions wanted rows ≡ true) same own.1) in
+              absurd (omega (arith, end, high_most m fixed.1 most, runs, blocks_are, fewer))
+          | inr next ↦ next.1
+        ]
   ]

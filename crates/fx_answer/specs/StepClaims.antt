@@ -1,19 +1,18 @@
--- What is claimed of a step that has a design, or has none, over all rule matrices, canonical or not.
-use Rattle.std.specs.Prelude.{ℕ, ◌≡◌, ◌<◌, ◌≤◌, ◌+◌, true, false, List, ◌∷◌, ◌++◌, length, All}
+-- What is claimed of the outcome of a step, over all rule matrices, canonical or not.
+use Rattle.std.specs.Prelude.{ℕ, ◌≡◌, ◌<◌, ◌≤◌, ◌+◌, true, false, List, ◌∷◌, ◌++◌, length, All, Option, Some, None}
 use Rattle.fx_designs.specs.Problems.{Dimensions, Problem, Requirement, AtResolution}
 use Rattle.fx_designs.specs.Problems as problems
 use Rattle.fx_designs.specs.Answers.{is_design}
 use Rattle.fx_designs.specs.Demands.{is_met}
-use Rattle.fx_designs.specs.Outcomes.{Design, NoDesign}
+use Rattle.fx_designs.specs.Outcomes.{Ending, Design, NoDesign, BudgetEnded}
 use Rattle.fx_designs.specs.Matrices.{NoneMeets}
 use Rattle.fx_reduction.specs.Resolutions.{HasLeastPattern, HighestOfAll}
 use Rattle.fx_settings.specs.declared.settings.Size.TheVariants.{Minimum}
 use Rattle.fx_settings.specs.declared.settings.Blocks.TheVariants.{Most}
 use Rattle.fx_settings.specs.Powers.{greatest}
 use Rattle.fx_statements.specs.Goals.{Goal, AtLeast, Highest, ForEffects}
-use Rattle.fx_statements.specs.Questions.{block_factors, least_exponent, outcome_of, run_factors}
+use Rattle.fx_statements.specs.Questions.{Conclusion, block_factors, least_exponent, outcome_of, run_factors}
 use Rattle.fx_statements.specs.Steps.{Meaning}
-pub use Rattle.fx_answer.specs.ValidSteps.{IsOfKind, IsValidStep}
 
 -- what is required of each design of a step; where the highest resolution is wanted, a resolution of at least 3
 abbrev pub required : Goal → Requirement
@@ -38,51 +37,77 @@ pub record IsAsItAsks (step : Meaning) (d : Dimensions) (rows : List ℕ) : Type
   pub whole : length rows ≡ d.s + d.t
   pub met : is_met d (required step.goal) rows ≡ true
 
--- the design of a step is as it asks
-abbrev pub HasWhatItAsks : Meaning → Type 0
-HasWhatItAsks step = (rows : List ℕ) (count : ℕ)
-    → (outcome_of step).ending ≡ Design rows count
-    → IsAsItAsks step (outcome_of step).dimensions rows
+-- the rows of the matrix that comes with an ending: of its design, or of what is left where the budget ended
+abbrev pub rows_in : Ending → Option (List ℕ)
+rows_in (Design rows count) = Some rows
+rows_in (NoDesign count) = None
+rows_in (BudgetEnded left budget) = left
 
--- where the step ends without a design, the runs of no rule matrix at all meet what is required, in no dimensions that
--- it allows
-abbrev pub HasNoneAtAll : Meaning → Type 0
-HasNoneAtAll step = (count : ℕ) (d : Dimensions)
-    → (outcome_of step).ending ≡ NoDesign count
+-- each matrix is as the step asks, also one that is left where the budget ended
+abbrev pub HasWhatItAsks : Meaning → Conclusion → Type 0
+HasWhatItAsks step outcome = (rows : List ℕ)
+    → rows_in outcome.ending ≡ Some rows
+    → IsAsItAsks step outcome.dimensions rows
+
+-- where the budget ended in the search for the least size, none is left
+abbrev pub LeavesNoneOfLeastSize : Meaning → Conclusion → Type 0
+LeavesNoneOfLeastSize step outcome = (left : Option (List ℕ)) (budget : ℕ)
+    → step.settings.size ≡ Minimum
+    → outcome.ending ≡ BudgetEnded left budget
+    → left ≡ None
+
+-- without a design the runs of no rule matrix at all meet what is required, in no dimensions that the step allows
+abbrev pub HasNoneAtAll : Meaning → Conclusion → Type 0
+HasNoneAtAll step outcome = (count : ℕ) (d : Dimensions)
+    → outcome.ending ≡ NoDesign count
     → Allows step d
     → NoneMeets d (required step.goal)
 
 -- where least aberration is asked, the pattern of no rule matrix that meets what is required is less than the design's
-abbrev pub HasLeastOfAll : Meaning → Type 0
-HasLeastOfAll step = (rows : List ℕ) (count : ℕ)
+abbrev pub HasLeastOfAll : Meaning → Conclusion → Type 0
+HasLeastOfAll step outcome = (rows : List ℕ) (count : ℕ)
     → step.settings.least ≡ true
-    → (outcome_of step).ending ≡ Design rows count
-    → HasLeastPattern (outcome_of step).dimensions (required step.goal) rows
+    → outcome.ending ≡ Design rows count
+    → HasLeastPattern outcome.dimensions (required step.goal) rows
 
 -- where the highest resolution is asked, no rule matrix has a higher one than the design
-abbrev pub HasHighestOfAll : Meaning → Type 0
-HasHighestOfAll step = (rows : List ℕ) (count : ℕ)
+abbrev pub HasHighestOfAll : Meaning → Conclusion → Type 0
+HasHighestOfAll step outcome = (rows : List ℕ) (count : ℕ)
     → step.goal ≡ Highest
-    → (outcome_of step).ending ≡ Design rows count
-    → HighestOfAll (outcome_of step).dimensions rows
+    → outcome.ending ≡ Design rows count
+    → HighestOfAll outcome.dimensions rows
 
 -- in fewer runs than the design's no rule matrix meets what is required, where the step allows them: with the least
 -- size, that is
-abbrev pub HasLeastSize : Meaning → Type 0
-HasLeastSize step = (rows : List ℕ) (count : ℕ) (d : Dimensions)
-    → (outcome_of step).ending ≡ Design rows count
+abbrev pub HasLeastSize : Meaning → Conclusion → Type 0
+HasLeastSize step outcome = (rows : List ℕ) (count : ℕ) (d : Dimensions)
+    → outcome.ending ≡ Design rows count
     → Allows step d
-    → d.m < (outcome_of step).dimensions.m
+    → d.m < outcome.dimensions.m
     → NoneMeets d (required step.goal)
 
 -- where the most blocks are asked, no rule matrix with more block factors than the design's meets what is required
-abbrev pub HasMostBlocks : Meaning → Type 0
-HasMostBlocks step = (rows : List ℕ) (count : ℕ) (d : Dimensions)
+abbrev pub HasMostBlocks : Meaning → Conclusion → Type 0
+HasMostBlocks step outcome = (rows : List ℕ) (count : ℕ) (d : Dimensions)
     → step.settings.blocks ≡ Most
-    → (outcome_of step).ending ≡ Design rows count
+    → outcome.ending ≡ Design rows count
     → Allows step d
-    → (outcome_of step).dimensions.t < d.t
+    → outcome.dimensions.t < d.t
     → NoneMeets d (required step.goal)
+
+-- all of these
+pub record ClaimsHold (step : Meaning) (outcome : Conclusion) : Type 0 where
+  pub as_asked : HasWhatItAsks step outcome
+  pub none_left : LeavesNoneOfLeastSize step outcome
+  pub none_at_all : HasNoneAtAll step outcome
+  pub least_pattern : HasLeastOfAll step outcome
+  pub highest_resolution : HasHighestOfAll step outcome
+  pub least_size : HasLeastSize step outcome
+  pub most_blocks : HasMostBlocks step outcome
+
+-- a claim on the outcome of a step
+abbrev pub OfOutcome : (Meaning → Conclusion → Type 0) → Meaning → Type 0
+OfOutcome Claimed step = Claimed step (outcome_of step)
 
 -- a problem without a canonical matrix that meets its requirement
 abbrev pub HasNoDesign : Problem → Type 0

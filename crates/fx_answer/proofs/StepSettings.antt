@@ -1,0 +1,133 @@
+-- The settings of a step: orders of fields, what goes together, and dimensions.
+use Rattle.std.proofs.Common.{ℕ, ◌≡◌, ◌<◌, ◌≤◌, ◌||◌, ◌&&◌, Bool, true, false, List, [], ◌∷◌}
+use Rattle.std.proofs.Common.{refl, sym, ap, ◌∙◌, subst, arith, inl, inr, ◌⊎◌, IsTrue, eqb, eqb-true}
+use Rattle.std.specs.Prelude.{nat_le, not}
+use Rattle.std.specs.List.{list_any, list_all}
+use Rattle.std.proofs.lemmas.Bool.{leb-true, ltb-true, cases_Bool, and_parts, both_ways, eqb-true}
+use Rattle.fx_designs.specs.Galois.{is_order}
+use Rattle.fx_designs.specs.Problems.{Dimensions}
+use Rattle.fx_reduction.specs.Reduction.{IsReducible}
+use Rattle.fx_settings.specs.declared.settings.Size.{Size}
+use Rattle.fx_settings.specs.declared.settings.Size.TheVariants.{Runs, Minimum}
+use Rattle.fx_settings.specs.declared.settings.Blocks.{Blocks}
+use Rattle.fx_settings.specs.declared.settings.Blocks.TheVariants as blocks
+use Rattle.fx_settings.specs.declared.settings.Criterion.{Criterion}
+use Rattle.fx_settings.specs.declared.settings.Criterion.TheVariants as criterion
+use Rattle.fx_settings.specs.Models.{is_criterion, is_highest}
+use Rattle.fx_settings.specs.Powers.{greatest}
+use Rattle.fx_settings.specs.Settings.{is_level}
+use Rattle.fx_settings.specs.Valid.{are_blocks, has_blocks, has_most}
+use Rattle.fx_statements.specs.Goals.{Goal, AtLeast, Highest, ForEffects}
+use Rattle.fx_statements.specs.Questions.{block_factors}
+use Rattle.fx_statements.specs.Questions.{least_exponent}
+use Rattle.fx_statements.specs.Questions.{requirement_for, run_factors}
+use Rattle.fx_answer.specs.StepClaims.{required}
+use Rattle.fx_answer.specs.ValidSteps.{IsOfKind}
+
+-- Numbers of levels
+
+at_level : (levels : List ℕ) (P : ℕ → Bool) (q : ℕ) → list_all P levels ≡ true → list_any (λ x. eqb x q) levels ≡ true
+    → P q ≡ true
+at_level [] P q all among = absurd (both_ways _ refl among)
+at_level (x ∷ levels) P q all among =
+    let both = and_parts (P x) (list_all P levels) all in
+    elim (cases_Bool (eqb x q)) [
+      | inl same ↦ subst (λ y. P y ≡ true) (eqb-true x q same) both.0
+      | inr other ↦ at_level levels P q both.1 (ap (λ b. b || list_any (λ x. eqb x q) levels) (sym other) ∙ among)
+    ]
+
+abbrev levels : List ℕ
+levels = 2 ∷ 3 ∷ 4 ∷ 5 ∷ 7 ∷ 8 ∷ 9 ∷ []
+
+pub order_of : (q : ℕ) → is_level q ≡ true → IsTrue (is_order q)
+order_of q h = at_level levels is_order q refl h
+
+pub some_size : (q : ℕ) → is_level q ≡ true → 1 ≤ greatest q
+some_size q h = leb-true 1 (greatest q) (at_level levels (λ q. nat_le 1 (greatest q)) q refl h)
+
+-- What goes together
+
+-- the most blocks are asked or not
+pub most_or : (b : Blocks) → (b ≡ blocks.Most) ⊎ (has_most b ≡ false)
+most_or blocks.Without = inr refl
+most_or (blocks.Factors t) = inr refl
+most_or (blocks.PerBlock k) = inr refl
+most_or blocks.Most = inl refl
+
+pub not_both : (a b : Bool) → not (a && b) ≡ true → a ≡ true → b ≡ false
+not_both true true e h = absurd (cc e)
+not_both true false e h = refl
+not_both false b e h = absurd (cc h)
+
+pub neither : (a b : Bool) → (a || b) ≡ false → (a ≡ false) × (b ≡ false)
+neither false false e = (refl, refl)
+neither true b e = absurd (cc e)
+neither false true e = absurd (cc e)
+
+-- the block factors do not hang on the number of the question, but for the most blocks
+pub same_blocks : (b : Blocks) (m n k : ℕ) → has_most b ≡ false → block_factors b m n ≡ block_factors b m k
+same_blocks blocks.Without m n k e = refl
+same_blocks (blocks.Factors t) m n k e = refl
+same_blocks (blocks.PerBlock p) m n k e = refl
+same_blocks blocks.Most m n k e = absurd (cc e)
+
+pub runs_again : (size : Size) (n : ℕ) → run_factors size n ≡ run_factors size (run_factors size n)
+runs_again (Runs m) n = refl
+runs_again Minimum n = refl
+
+pub blocks_again : (b : Blocks) (m n : ℕ) → block_factors b m n ≡ block_factors b m (block_factors b m n)
+blocks_again blocks.Without m n = refl
+blocks_again (blocks.Factors t) m n = refl
+blocks_again (blocks.PerBlock k) m n = refl
+blocks_again blocks.Most m n = refl
+
+-- the highest resolution is wanted or not
+pub highest_or : (goal : Goal)
+    → (goal ≡ Highest) ⊎ ((least : Bool) (n : ℕ) → requirement_for least goal n ≡ required goal)
+highest_or (AtLeast r) = inr (λ least n. refl)
+highest_or Highest = inl refl
+highest_or (ForEffects estimate besides) = inr (λ least n. refl)
+
+pub kind_of_highest : (kind : Criterion) (goal : Goal) → IsOfKind kind goal → goal ≡ Highest → is_highest kind ≡ true
+kind_of_highest (criterion.Resolution r) goal h e = absurd (subst (IsOfKind (criterion.Resolution r)) e h)
+kind_of_highest criterion.Highest goal h e = refl
+kind_of_highest criterion.Effects goal h e = absurd (subst (IsOfKind criterion.Effects) e h)
+
+pub reducible_by : (kind : Criterion) (goal : Goal) → IsOfKind kind goal → is_criterion kind ≡ true
+    → IsReducible (required goal)
+reducible_by (criterion.Resolution r) (AtLeast n) h e =
+    (let three = leb-true 3 r (and_parts (nat_le 3 r) (nat_le r 99) e).0 in omega (arith, three, h))
+reducible_by (criterion.Resolution r) Highest h e = absurd h
+reducible_by (criterion.Resolution r) (ForEffects estimate besides) h e = absurd h
+reducible_by criterion.Highest (AtLeast n) h e = absurd h
+reducible_by criterion.Highest Highest h e = omega arith
+reducible_by criterion.Highest (ForEffects estimate besides) h e = absurd h
+reducible_by criterion.Effects (AtLeast n) h e = absurd h
+reducible_by criterion.Effects Highest h e = absurd h
+reducible_by criterion.Effects (ForEffects estimate besides) h e = tt
+
+pub exponent_fits : (q : ℕ) (size : Size) (b : Blocks) → is_level q ≡ true → are_blocks q size b ≡ true
+    → least_exponent b ≤ greatest q
+exponent_fits q size blocks.Without level e = some_size q level
+exponent_fits q size (blocks.Factors t) level e = some_size q level
+exponent_fits q size (blocks.PerBlock k) level e =
+    (let low : k < greatest q = ltb-true k (greatest q) (and_parts _ _ e).1 in omega (arith, low))
+exponent_fits q size blocks.Most level e = some_size q level
+
+pub size_or : (size : Size) → (size ≡ Minimum) ⊎ ((m : ℕ) × (size ≡ Runs m))
+size_or Minimum = inl refl
+size_or (Runs m) = inr (m, refl)
+
+pub unblocked : (b : Blocks) → has_blocks b ≡ false → b ≡ blocks.Without
+unblocked blocks.Without e = refl
+unblocked (blocks.Factors t) e = absurd (cc e)
+unblocked (blocks.PerBlock k) e = absurd (cc e)
+unblocked blocks.Most e = absurd (cc e)
+
+abbrev pub sized : ℕ → ℕ → ℕ → ℕ → Dimensions
+sized q m s t = record { q = q; m = m; s = s; t = t }
+
+pub same_dimensions : (a b : Dimensions) → a.q ≡ b.q → a.m ≡ b.m → a.s ≡ b.s → a.t ≡ b.t → a ≡ b
+same_dimensions a b eq em es et =
+    ap (λ q. sized q a.m a.s a.t) eq ∙ ap (λ m. sized b.q m a.s a.t) em ∙ ap (λ s. sized b.q b.m s a.t) es ∙ ap
+    (λ t. sized b.q b.m b.s t) et

@@ -1,0 +1,22 @@
+use Rattle.fx_program.proofs.AnyText.{any_text}
+use Rattle.fx_program_laws.specs.BookClaims.{HighestHasBook, LeastPatternHasBook, LeastSizeHasBooks, MostBlocksHasBook}
+use Rattle.fx_program_laws.proofs.Booked.{block_book, booked, highest_book, least_book, none_booked, size_books}
+use Rattle.fx_program_laws.proofs.laws.claims_have_books.Goals as goal
+
+pub returns-clause-finished : goal.returns-clause-finished
+returns-clause-finished c = booked
+
+pub returns-clause-none : goal.returns-clause-none
+returns-clause-none c = none_booked
+
+pub returns-clause-highest : goal.returns-clause-highest
+returns-clause-highest c seed number = any_text (HighestHasBook seed number) (highest_book seed number)
+
+pub returns-clause-least_pattern : goal.returns-clause-least_pattern
+returns-clause-least_pattern c seed number = any_text (LeastPatternHasBook seed number) (least_book seed number)
+
+pub returns-clause-least_size : goal.returns-clause-least_size
+returns-clause-least_size c seed number = any_text (LeastSizeHasBooks seed number) (size_books seed number)
+
+pub returns-clause-most_blocks : goal.returns-clause-most_blocks
+returns-clause-most_blocks c seed number = any_text (MostBlocksHasBook seed number) (block_book seed number)
