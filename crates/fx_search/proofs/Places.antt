@@ -1,6 +1,9 @@
 -- Where a walk is, seen from its parts, and what is known of its question and prefix by equal ones.
-use Rattle.std.proofs.Common.{◌≡◌, ◌≢◌, ◌<◌, ◌≤◌, ◌+◌, ◌-◌, ℕ, Bool, List, Option, Some, refl, sym, ap, subst, ◌∙◌, arith}
-use Rattle.std.proofs.Common.{length}
+use Rattle.std.proofs.Common.{◌≡◌, ◌≢◌, ◌<◌, ◌≤◌, ◌+◌, ◌-◌, ℕ, Bool, List, Option, Some, refl, sym, ap, subst, ◌∙◌}
+use Rattle.std.proofs.Common.{arith}
+use Rattle.std.proofs.Common.{length, [], ◌∷◌}
+use Rattle.fx_search.specs.Asked.{IsRight}
+use Rattle.fx_search.specs.declared.asking.Asked.{Asked}
 use Rattle.std.proofs.lemmas.List.{length-take-le}
 use Rattle.fx_designs.specs.Nodes.{Mark, parent}
 use Rattle.fx_designs.specs.Problems.{Problem}
@@ -40,12 +43,10 @@ module _ {I : Type 0} (standing : I → Standing) (question : Question) where
         question_is = same ∙ h.question_is;
         candidates = shape ∙ h.candidates;
         shape = ap (λ m. m.shape) prefix ∙ h.shape;
-        at = record {
-          pruner_problem = problem ∙ h.at.pruner_problem;
-          pruner_rows = rows ∙ h.at.pruner_rows ∙ sym here;
-          incumbent_problem = known ∙ h.at.incumbent_problem;
-          incumbent_rows = standing_rows ∙ h.at.incumbent_rows ∙ sym here;
-        };
+        pruner_problem = problem ∙ h.pruner_problem;
+        pruner_rows = rows ∙ h.pruner_rows ∙ sym here;
+        incumbent_problem = known ∙ h.incumbent_problem;
+        incumbent_rows = standing_rows ∙ h.incumbent_rows ∙ sym here;
       }
 
   -- it is there by its own question
@@ -81,12 +82,6 @@ module _ {I : Type 0} (standing : I → Standing) (question : Question) where
   visited-over rows d limit stopped Spent old w room h = absurd h
   visited-over rows d limit stopped Cut old w room h = absurd h
 
--- what holds of a question, rows and a number holds of equal ones
-pub by-equals : (P : Question → List ℕ → ℕ → Type 0) (q r : Question) (k l : List ℕ) (m n : ℕ) → q ≡ r → k ≡ l → m ≡ n
-    → P r l n → P q k m
-by-equals P q r k l m n same rows number h =
-    subst (λ z. P z k m) (sym same) (subst (λ z. P r z m) (sym rows) (subst (P r l) (sym number) h))
-
 module _ {I : Type 0} (standing : I → Standing) (question : Question) where
   -- what a walk that can go on needs, by its question
   pub paused-as : (w : Walk I) → IsAt standing question w → IsInner (problem_of question) w.prefix.rows
@@ -116,13 +111,12 @@ module _ {I : Type 0} (standing : I → Standing) (question : Question) where
         open_ = up.1;
       })) (omega (arith, bound)) (omega (arith, limit, h.limit))
 
--- where a walk of lots is, by equal parts
-pub so-as : (w : Walk Ranked) (question : Question) (limit bound : ℕ) (rows : List ℕ) (marks : List Mark)
-    (best earlier : Option (List ℕ)) → w.question.now ≡ question → w.limit ≡ limit → w.bound ≡ bound
-    → w.prefix.rows ≡ rows → w.marks ≡ marks → (standing_with_best w.incumbent).best ≡ best
-    → (so : IsSoFar (problem_of question) limit rows bound marks best)
-    × IsInLot (problem_of question) rows bound so.done earlier
-    → (so : IsSoFar (problem_of w.question.now) w.limit w.prefix.rows w.bound w.marks
-    (standing_with_best w.incumbent).best)
-    × IsInLot (problem_of w.question.now) w.prefix.rows w.bound so.done earlier
-so-as w question limit bound rows marks best earlier a b c d e f h = rw (a, b, c, d, e, f) h
+-- an answer to a question within a limit is one to an equal question within an equal limit
+pub right-of : (asked : Asked) (walked question : Question) (limit budget : ℕ) → walked ≡ question → limit ≡ budget
+    → IsRight walked limit asked → IsRight question budget asked
+right-of asked walked question limit budget same is h =
+    subst (λ z. IsRight z budget asked) same (subst (λ k. IsRight walked k asked) is h)
+
+pub some-of : (xs : List ℕ) → (xs ≡ [] → ⊥) → 0 < length xs
+some-of [] h = absurd (h refl)
+some-of (x ∷ xs) h = omega arith

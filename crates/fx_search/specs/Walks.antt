@@ -1,8 +1,10 @@
 -- Where a walk is.
-use Rattle.std.specs.Prelude.{ℕ, ◌≡◌, ◌<◌, ◌≤◌, ◌⊎◌, true, false, List, [], ◌∷◌, ◌++◌, length, drop, filter, Option}
+use Rattle.std.specs.Prelude.{ℕ, ◌≡◌, ◌<◌, ◌≤◌, ◌-◌, ◌⊎◌, Bool, true, false, List, [], ◌∷◌, ◌++◌, length, drop, filter}
+use Rattle.std.specs.Prelude.{Option}
 use Rattle.std.specs.Prelude.{Some}
 use Rattle.std.specs.Prelude.{None}
 use Rattle.fx_designs.specs.Answers.{falling}
+use Rattle.fx_designs.specs.Nodes.{Mark}
 use Rattle.fx_laws.specs.Trees.{Tree, children_of}
 use Rattle.fx_designs.specs.Problems.{Problem}
 use Rattle.fx_tree.specs.declared.front.Front.{Front}
@@ -13,7 +15,7 @@ use Rattle.fx_vectors.specs.Shape.{dimensions_of}
 use Rattle.fx_vectors.specs.declared.question.Question.{Question}
 use Rattle.fx_vectors.specs.Question.{IsValid, problem_of}
 use Rattle.fx_search.specs.Pruning.{size_of, count_of_rows}
-use Rattle.fx_search.specs.Standing.{Standing, StandAt, kept_rows, standing_of}
+use Rattle.fx_search.specs.Standing.{Standing, kept_rows, standing_of}
 use Rattle.fx_search.specs.declared.job.JobEnd.{JobEnd}
 use Rattle.fx_search.specs.declared.job.JobEnd.TheVariants.{Found, Closed, Spent, Cut}
 use Rattle.fx_search.specs.declared.ranked.Ranked.{Ranked}
@@ -51,7 +53,10 @@ pub record IsAt {I : Type 0} (standing : I → Standing) (question : Question) (
   pub question_is : w.question.now ≡ question
   pub candidates : w.candidates.now ≡ question.shape
   pub shape : w.prefix.shape ≡ question.shape
-  pub at : StandAt (problem_of question) w.prefix.rows w.pruner.problem w.pruner.prefix (standing w.incumbent)
+  pub pruner_problem : w.pruner.problem ≡ problem_of question
+  pub pruner_rows : w.pruner.prefix ≡ w.prefix.rows
+  pub incumbent_problem : (standing w.incumbent).problem ≡ problem_of question
+  pub incumbent_rows : (standing w.incumbent).prefix ≡ w.prefix.rows
 
 -- a canonical prefix that is empty or expanded, and not whole
 pub record IsInner (p : Problem) (rows : List ℕ) : Type 0 where
@@ -98,6 +103,11 @@ pub record IsStart {I : Type 0} (standing : I → Standing) (w : Walk I) : Type 
   pub marks : w.marks ≡ []
   pub best : (standing w.incumbent).best ≡ None
   pub all : LeftFrom (search_tree (problem_of w.question.now)) [] 0 w.bound
+
+-- whether more marks were added to some, or are more than the limit allows
+abbrev pub IsTaken : ℕ → List Mark → List Mark → List Mark → Bool → Type 0
+IsTaken limit old more new true = (new ≡ old ++ more) × (length new ≤ limit)
+IsTaken limit old more new false = (limit - length old < length more) × (new ≡ old)
 
 -- the matrix, where there is one, has all rows, and there are some
 abbrev pub IsWhole : Problem → Option MatrixView → Type 0

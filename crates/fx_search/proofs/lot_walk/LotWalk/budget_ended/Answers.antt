@@ -16,7 +16,8 @@ returns c =
     let some : 0 < question.shape.s + question.shape.t = omega (arith, c.requires.valid.shaped.some_factors) in (
       (
         whole_spent p f some c.args.self.now.walk.limit c.requires.spent,
-        c.kept.ensures.rows ∙ ap (kept_of question) c.matrix_of.ensures.rows ∙ carried_is p f some c.args.self.now.walk.limit
+        c.kept.ensures.rows ∙ ap (kept_of question) c.matrix_of.ensures.rows ∙ carried_is p f some
+            c.args.self.now.walk.limit
             (kept_rows c.args.self.now.earlier) c.requires.carried,
         c.kept.ensures.sized _ (c.matrix_of.ensures.sized p.dimensions c.requires.sized),
       ),

@@ -28,8 +28,8 @@ other-spent question limit lot old earlier (Spent n) other fits h = let past : l
 other-spent question limit lot old earlier Cut other fits h = absurd h
 
 -- the marks of one end fit and are added
-module _ (question : Question) (limit : ℕ) (lot : List ℕ) (old new ms : List Mark) (n : ℕ) (fits : length old ≤ limit)
-    (room : length ms ≤ limit - length old) (more : new ≡ old ++ ms) (earlier best : Option (List ℕ)) where
+module _ (question : Question) (limit : ℕ) (lot : List ℕ) (old new ms : List Mark) (n : ℕ) (fits : length new ≤ limit)
+    (more : new ≡ old ++ ms) (earlier best : Option (List ℕ)) where
   long : length new ≡ length old + length ms
   long = ap length more ∙ length-append old ms
 
@@ -37,14 +37,18 @@ module _ (question : Question) (limit : ℕ) (lot : List ℕ) (old new ms : List
       → best ≡ better (ranked (problem_of question)) earlier (rows_of b)
       → IsAdded question limit old earlier (Closed b n ms ∷ []) new best true
   closed-added b h is =
-      (omega (arith, long, room, fits), omega (arith, long, h.0), more ∙ ap (λ l. old ++ l) (sym (append-nil ms)), is)
+      (fits, omega (arith, long, h.0), more ∙ ap (λ l. old ++ l) (sym (append-nil ms)), is)
 
-pub returns-then-self-len : goal.returns-then-self-len
-returns-then-self-len c = record {
+pub returns-then-not-branch : goal.returns-then-not-branch
+returns-then-not-branch c = record {
   same = refl;
   standing = refl;
   added = rw c.in-Closed.is
-      (omega (arith, c.if-self-len.true, c.len.ensures, c.len-2.ensures, (rw c.in-Closed.is at c.requires.addable).0));
+      (omega (
+        arith,
+        (rw c.if-not-branch.true at c.in_ok-take.ensures.taken).0,
+        (rw c.in-Closed.is at c.requires.addable).0,
+      ));
 }
 
 pub join_best-requires : goal.join_best-requires
@@ -52,14 +56,14 @@ join_best-requires c =
     let w : Walk Ranked = c.args.self.now in
     let p : Problem = problem_of w.question.now in
     let s : Standing = standing_with_best w.incumbent in
-    let at = c.requires.paused.at.at in
+    let at = c.requires.paused.at in
     record {
       of_lot = subst (λ z. IsOfLot z s.prefix c.in-Closed.best) (sym at.incumbent_problem)
           (subst (λ l. IsOfLot p l c.in-Closed.best) (sym at.incumbent_rows)
           (rw c.in-Closed.is at c.requires.addable).1);
       part = subst (λ z. length s.prefix < size_of z) (sym at.incumbent_problem)
           (subst (λ l. length l < size_of p) (sym at.incumbent_rows) c.requires.paused.inner.part);
-      rows = c.len-3.ensures.count ∙ ap length (sym at.incumbent_rows);
+      rows = c.len.ensures.count ∙ ap length (sym at.incumbent_rows);
     }
 
 pub returns : goal.returns
@@ -68,16 +72,15 @@ returns c =
     let s : Standing = standing_with_best w.incumbent in
     let is = c.join_best.ensures in
     let best = ap (λ (z : Standing). z.best) is in
-    let room : length c.in-Closed.marks ≤ w.limit - length w.marks =
-    omega (arith, c.if-self-len.false, c.len.ensures, c.len-2.ensures) in
+    let taken = rw c.if-not-branch.false at c.in_ok-take.ensures.taken in
     record {
       same = refl;
       standing = is ∙ ap (λ (b : Option (List ℕ)). record s { best = b }) (sym best);
       added = rw c.in-Closed.is
-          (closed-added w.question.now w.limit w.prefix.rows w.marks c.append.new.self c.in-Closed.marks
-          c.in-Closed.nodes c.requires.fits room c.in_ok-append.ensures.ok s.best
+          (closed-added w.question.now w.limit w.prefix.rows w.marks c.take.new.marks c.in-Closed.marks
+          c.in-Closed.nodes taken.1 taken.0 s.best
           (standing_with_best c.join_best.new.incumbent).best
           c.in-Closed.best (rw c.in-Closed.is at c.requires.addable)
           (best ∙ ap (λ (z : Problem). better (ranked z) s.best (rows_of c.in-Closed.best))
-          c.requires.paused.at.at.incumbent_problem));
+          c.requires.paused.at.incumbent_problem));
     }

@@ -39,7 +39,8 @@ paused-on w v same standing h = subst (IsPaused standing_with_best) (sym same) (
 })
 
 -- what an end came to, said of the walk before the first
-module _ (w v : Walk Ranked) (same : IsSame w v) (ends : List JobEnd) (old new : List Mark) (earlier best : Option (List ℕ))
+module _ (w v : Walk Ranked) (same : IsSame w v) (ends : List JobEnd) (old new : List Mark)
+    (earlier best : Option (List ℕ))
     (a : Bool) where
   added-on : IsAdded v.question.now v.limit old earlier ends new best a
       → IsAdded w.question.now w.limit old earlier ends new best a

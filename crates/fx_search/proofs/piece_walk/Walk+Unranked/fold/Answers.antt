@@ -73,8 +73,8 @@ returns-in-TooMany-clause-done c =
     (folded-to w c.args.round.pieces c.args.round.after c.args.ends u.marks TooMany c.requires.ahead c.requires.ends
     (rw c.in-TooMany.is at c.in_ok-fold_all.ensures.folded))
 
-pub returns-then-self-len-clause-done : goal.returns-then-self-len-clause-done
-returns-then-self-len-clause-done c =
+pub returns-then-not-branch-clause-done : goal.returns-then-not-branch-clause-done
+returns-then-not-branch-clause-done c =
     let w : Walk Unranked = c.args.self.now in
     let u : Walk Unranked = c.fold_all.new.self in
     let all = folded-to w c.args.round.pieces c.args.round.after c.args.ends u.marks AllClosed c.requires.ahead
@@ -82,30 +82,21 @@ returns-then-self-len-clause-done c =
     let limit : u.limit ≡ w.limit = ap (λ (z : Walk Unranked). z.limit) c.fold_all.ensures.same in
     spent-right w c.requires.ahead.placed
     (after-past w.question.now w.limit (rest-at w) c.args.round.after u.marks [] all.0
-    (omega (arith, limit, c.if-self-len.true, c.len.ensures, c.len-2.ensures)))
-
--- the marks after the last piece are added
-module _ (w : Walk Unranked) (marks now new : List Mark) (limit : ℕ)
-    (h : IsFolding w.question.now w.limit (rest-at w) marks [] [] now) (same : limit ≡ w.limit)
-    (room : length marks ≤ limit - length now) (is : new ≡ now ++ marks) where
-  fits : length new ≤ w.limit
-  fits = let here = h.done.fits in omega (arith, ap length is, length-append now marks, room, same, here)
-
-  done-after : IsDoneTo (problem_of w.question.now) w.limit (rest-at w) new
-  done-after = after-done w.question.now w.limit (rest-at w) marks now [] h new is fits
+    (omega (arith, limit, (rw c.if-not-branch.true at c.in_ok-take.ensures.taken).0)))
 
 pub closed-requires-clause-closed : goal.closed-requires-clause-closed
 closed-requires-clause-closed c =
     let w : Walk Unranked = c.args.self.now in
     let u : Walk Unranked = c.fold_all.new.self in
     let p : Problem = problem_of w.question.now in
-    let new : List Mark = c.append.new.self in
+    let new : List Mark = c.take.new.marks in
     let all = folded-to w c.args.round.pieces c.args.round.after c.args.ends u.marks AllClosed c.requires.ahead
     c.requires.ends (rw c.in-AllClosed.is at c.in_ok-fold_all.ensures.folded) in
     let limit : u.limit ≡ w.limit = ap (λ (z : Walk Unranked). z.limit) c.fold_all.ensures.same in
-    let room : length c.args.round.after ≤ u.limit - length u.marks =
-    omega (arith, c.if-self-len.false, c.len.ensures, c.len-2.ensures) in
-    let done = done-after w c.args.round.after u.marks new u.limit all.0 limit room c.in_ok-append.ensures.ok in
+    let taken = rw c.if-not-branch.false at c.in_ok-take.ensures.taken in
+    let done =
+    after-done w.question.now w.limit (rest-at w) c.args.round.after u.marks [] all.0 new taken.0
+    (omega (arith, limit, taken.1)) in
     let end : IsAtEnd w = c.requires.last c.if-is_last.true in
     let none : rest-at w ≡ [] = rest-end p w.prefix.rows w.bound end.1 end.0 in
     subst (λ (z : Walk Unranked). IsClosed (search_tree (problem_of z.question.now))
@@ -117,16 +108,17 @@ pub returns-clause-done : goal.returns-clause-done
 returns-clause-done c =
     let w : Walk Unranked = c.args.self.now in
     let u : Walk Unranked = c.fold_all.new.self in
-    let new : List Mark = c.append.new.self in
+    let new : List Mark = c.take.new.marks in
     let all = folded-to w c.args.round.pieces c.args.round.after c.args.ends u.marks AllClosed c.requires.ahead
     c.requires.ends (rw c.in-AllClosed.is at c.in_ok-fold_all.ensures.folded) in
     let limit : u.limit ≡ w.limit = ap (λ (z : Walk Unranked). z.limit) c.fold_all.ensures.same in
-    let room : length c.args.round.after ≤ u.limit - length u.marks =
-    omega (arith, c.if-self-len.false, c.len.ensures, c.len-2.ensures) in
-    let done = done-after w c.args.round.after u.marks new u.limit all.0 limit room c.in_ok-append.ensures.ok in
+    let taken = rw c.if-not-branch.false at c.in_ok-take.ensures.taken in
+    let done =
+    after-done w.question.now w.limit (rest-at w) c.args.round.after u.marks [] all.0 new taken.0
+    (omega (arith, limit, taken.1)) in
     let some = c.requires.some c.if-is_last.false in (
       subst (λ (z : Walk Unranked). IsAhead (record z { marks = new }) [] []) (sym c.fold_all.ensures.same)
           (ahead-of-none (record w { marks = new })
           (placed-as w new w.bound (omega arith) c.requires.ahead.placed) done),
-      omega (arith, ap length c.in_ok-append.ensures.ok, length-append u.marks c.args.round.after, all.1, some),
+      omega (arith, ap length taken.0, length-append u.marks c.args.round.after, all.1, some),
     )

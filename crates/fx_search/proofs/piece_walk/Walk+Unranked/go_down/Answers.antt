@@ -13,7 +13,7 @@ use Rattle.fx_search.specs.Walks.{IsInner, LeftFrom, standing_without_best}
 use Rattle.fx_search.specs.declared.unranked.Unranked.{Unranked}
 use Rattle.fx_search.specs.declared.walk.Walk.{Walk}
 use Rattle.fx_search.proofs.LotSteps.{all-below}
-use Rattle.fx_search.proofs.Places.{at-as, at-own, by-equals, paused-as}
+use Rattle.fx_search.proofs.Places.{at-as, at-own, paused-as}
 use Rattle.fx_search.proofs.Valid.{field_of}
 use Rattle.fx_search.proofs.piece_walk.Walk+Unranked.go_down.Goals as goal
 
@@ -24,9 +24,7 @@ begin_children-requires c =
     let pushed = c.in_ok-push.ensures in
     record {
       at = at-own standing_without_best w.question.now v pushed.at;
-      canonical = by-equals (λ z l n. (search_tree (problem_of z)).canonical l ≡ true) v.question.now w.question.now
-          v.prefix.rows (w.prefix.rows ++ c.args.row ∷ []) 0 0 pushed.at.question_is pushed.rows refl
-          c.requires.next.canonical;
+      canonical = rw (pushed.at.question_is, pushed.rows) c.requires.next.canonical;
     }
 
 pub returns-clause-down : goal.returns-clause-down
@@ -45,9 +43,7 @@ returns-clause-down c =
     let expanded : is_expanded p child ≡ true = opens-plain p h.plain child ∙ c.requires.open_ in
     let bound : u.bound ≤ count_of_rows p =
     subst (λ z. u.bound ≤ count_of_rows (problem_of z)) pushed.at.question_is all.bound in
-    let left : LeftFrom (search_tree p) child 0 u.bound =
-    by-equals (λ z l n. LeftFrom (search_tree (problem_of z)) l 0 u.bound) question v.question.now child v.prefix.rows 0
-    0 (sym pushed.at.question_is) (sym pushed.rows) refl all.all in
+    let left : LeftFrom (search_tree p) child 0 u.bound = rw (pushed.at.question_is, pushed.rows) at all.all in
     let there : Walk Unranked = record v { bound = u.bound } in
     subst (λ z. IsChildPlaced w c.args.row z) (sym all.same)
     (record {

@@ -5,12 +5,8 @@ use Rattle.fx_search.specs.Walks.{IsNoneBelow, standing_without_best}
 use Rattle.fx_search.specs.declared.unranked.Unranked.{Unranked}
 use Rattle.fx_search.specs.declared.walk.Walk.{Walk}
 use Rattle.fx_search.proofs.PieceSteps.{ahead-leave}
-use Rattle.fx_search.proofs.Places.{paused-left}
+use Rattle.fx_search.proofs.Places.{paused-left, some-of}
 use Rattle.fx_search.proofs.piece_walk.Walk+Unranked.list.Goals as goal
-
-some-of : (xs : List ℕ) → (xs ≡ [] → ⊥) → 0 < length xs
-some-of [] h = absurd (h refl)
-some-of (x ∷ xs) h = omega arith
 
 pub returns-then-is_empty-clause-last : goal.returns-then-is_empty-clause-last
 returns-then-is_empty-clause-last c is =

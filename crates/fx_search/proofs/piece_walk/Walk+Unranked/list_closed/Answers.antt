@@ -18,7 +18,7 @@ returns-clause-ahead c =
     let f = is_order-field question.shape.q h.placed.paused.at.valid.shaped.order in
     let shut = barred-shut p f q row c.requires.closed in
     let word : c.word-word.result ≡ word_of p (q ++ row ∷ []) =
-    rw (h.placed.paused.at.at.pruner_problem, h.placed.paused.at.at.pruner_rows) at c.word-word.ensures in
+    rw (h.placed.paused.at.pruner_problem, h.placed.paused.at.pruner_rows) at c.word-word.ensures in
     ahead-closed c.args.self.now c.args.round.now.pieces c.args.round.now.after h row c.requires.next
     (Word row (word_of p (q ++ row ∷ []))) shut.mark shut.shut c.push.new.self
     (c.in_ok-push.ensures.ok ∙ ap (λ n. c.args.round.now.after ++ Word row n ∷ []) word)

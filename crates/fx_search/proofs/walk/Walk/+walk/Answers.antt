@@ -1,6 +1,6 @@
 use Rattle.std.proofs.Common.{Bool, ◌≡◌, ℕ, suc, ◌<◌, ◌≤◌, ◌+◌, ◌-◌, ◌^◌, true, false, length, List, [], ◌∷◌}
 use Rattle.std.proofs.Common.{◌++◌, arith, refl, sym, ap, ◌∙◌, subst, length-append, append-nil}
-use Rattle.std.proofs.Common.{inl, inr}
+use Rattle.std.proofs.Common.{inl, inr, slice_index_or}
 use Rattle.fx_designs.specs.Problems.{Problem}
 use Rattle.fx_designs.specs.Nodes.{Mark, parent}
 use Rattle.fx_laws.specs.Trees.{children_of}
@@ -28,7 +28,7 @@ use Rattle.fx_search.proofs.Lots.{whole-end}
 use Rattle.fx_search.proofs.Steps.{full, below_end, below_closed, left-init, left-skip, left-next}
 use Rattle.fx_search.proofs.Steps.{left-low, inside_child, over_child}
 use Rattle.fx_search.proofs.Valid.{field_of, law_of, ranked_of}
-use Rattle.fx_search.proofs.Places.{at-own, by-equals, else-closed, visited-over}
+use Rattle.fx_search.proofs.Places.{at-own, else-closed, visited-over}
 use Rattle.fx_search.proofs.walk.Walk.+walk.Goals as goal
 
 -- a row follows where it extends the prefix
@@ -39,6 +39,21 @@ follow_at : (question : Question) → IsValid question → (p : List ℕ) (front
 follow_at question valid p front x can is =
     follows-extends (dimensions_of question.shape) (field_of question valid) (requirement_of question.demands) p front x
     can is
+
+-- the child by the row below the bound of what is left is the next, where the row follows
+next-child : (question : Question) → IsValid question → (q : List ℕ) (front : Front) (i n : ℕ) (may : Bool)
+    → (search_tree (problem_of question)).canonical q ≡ true → IsFrontOf question q front → 0 < n
+    → may ≡ follows (dimensions_of question.shape) (requirement_of question.demands) front (n - 1) → may ≡ true
+    → LeftFrom (search_tree (problem_of question)) q i n
+    → (i < length (children_of (search_tree (problem_of question)) q))
+    × (n - 1 ≡ slice_index_or (children_of (search_tree (problem_of question)) q) i 0)
+    × LeftFrom (search_tree (problem_of question)) q (i + 1) (n - 1)
+    × ((search_tree (problem_of question)).canonical (q ++ (n - 1) ∷ []) ≡ true)
+next-child question valid q front i n may can front-is some looked follows left =
+    let up : n ≡ suc (n - 1) = omega (arith, some) in
+    let here = sym (follow_at question valid q front (n - 1) can front-is.front_is) ∙ sym looked ∙ follows in
+    let next = left-next (search_tree (problem_of question)) q i n (n - 1) up here left in
+    (next.0, next.1, next.2, here)
 
 left_init : (question : Question) → IsValid question → (p : List ℕ) (front : Front) (bound : ℕ)
     → (search_tree (problem_of question)).canonical p ≡ true → front ≡ front_of (dimensions_of question.shape) p
@@ -88,7 +103,8 @@ walk_child-returns-in-Some-clause-ended g t c =
     let w : Walk g.row.I.Denot = c.args.self.now in
     visited-over g.I.Incumbent.standing w.question.now w.prefix.rows (w.prefix.rows ++ c.args.row ∷ []) w.limit
     (g.C.Cutter.stopped c.cut.new.self) c.in-Some.end w.marks c.visit.new.self
-    (omega (arith, c.requires.fits, c.len.ensures, c.if-len-self.false)) (rw c.in-Some.is at c.in_ok-end.ensures.visited)
+    (omega (arith, c.requires.fits, c.len.ensures, c.if-len-self.false))
+    (rw c.in-Some.is at c.in_ok-end.ensures.visited)
 
 pub walk_child-next_front-next-requires : goal.walk_child-next_front-next-requires
 walk_child-next_front-next-requires g t c =
@@ -110,8 +126,6 @@ walk_child-walk_below-requires g t c κs within =
     let front : Front = c.next_front-next.result in
     let h = rw c.in-None.is at c.in_ok-end.ensures.visited in
     let grown : length d ≡ length q + 1 = length-append q (c.args.row ∷ []) in
-    let own = λ (P : Question → List ℕ → Type 0). by-equals (λ z l n. P z l) v.question.now question v.prefix.rows d 0 0
-    h.at.question_is h.rows refl in
     let before : (search_tree p).canonical q ≡ true =
     (law_of question c.requires.at.valid).canonical q c.args.row c.requires.child.canonical in
     let rank : front.rank ≤ question.shape.m =
@@ -123,7 +137,8 @@ walk_child-walk_below-requires g t c κs within =
     ∙ front-next p.dimensions (field_of question c.requires.at.valid) p.requirement q c.args.row c.args.front before
     c.requires.child.below c.requires.front.front_is in (
       let rows : length v.prefix.rows ≡ length d = ap length h.rows in
-          let size : size_of (problem_of v.question.now) ≡ size_of p = ap (λ z. size_of (problem_of z)) h.at.question_is in
+          let size : size_of (problem_of v.question.now) ≡ size_of p =
+          ap (λ z. size_of (problem_of z)) h.at.question_is in
           let part = c.requires.child.part in
           omega (arith, rows, size, grown, part),
       (
@@ -133,10 +148,10 @@ walk_child-walk_below-requires g t c κs within =
           (
             at-own g.I.Incumbent.standing question v h.at,
             (
-              own (λ z l. IsInner (problem_of z) l)
+              rw (h.at.question_is, h.rows)
                   (record { part = h.part; canonical = c.requires.child.canonical; open_ = inr h.expanded }),
               (
-                own (λ z l. IsFrontOf z l front) (record { front_is = front_is; rank = rank }),
+                rw (h.at.question_is, h.rows) (record { front_is = front_is; rank = rank }),
                 (
                   omega (
                     arith,
@@ -148,10 +163,8 @@ walk_child-walk_below-requires g t c κs within =
                     c.if-len-self.false,
                   ),
                   (
-                    own (λ z l. IsBestAt (problem_of z) (is_counted (ranked (problem_of z)) l)
-                        (g.I.Incumbent.standing v.incumbent).best) h.best,
-                    own (λ z l. z.least ≡ true → z.shape.m + 1 < length l)
-                        (λ least. omega (arith, grown, c.requires.inside least)),
+                    rw (h.at.question_is, h.rows) h.best,
+                    rw (h.at.question_is, h.rows) (λ least. omega (arith, grown, c.requires.inside least)),
                   ),
                 ),
               ),
@@ -165,20 +178,6 @@ pub walk_child-returns-in_err-end-in-None-clause-cutter : goal.walk_child-return
 walk_child-returns-in_err-end-in-None-clause-cutter g t c =
     g.met.C.Cutter.goes_on c.args.cutter.now c.cut.new.self _ c.cut.ensures.step c.in_err-end-in-None.ensures.cutter
 
--- the walk below the child d, from v to u, as one of the question and the limit of the walk before
-module _ {I : Type 0} (standing : I → Standing) (question : Question) (d : List ℕ) (old : List Mark) (limit : ℕ)
-    (stopped : Bool) (v u : Walk I) (end : End) (h : IsEntered standing question d old v) (same : v.limit ≡ limit)
-    (over : IsOver standing v.question.now v.prefix.rows v.prefix.rows
-    (under (search_tree (problem_of v.question.now)) (size_of (problem_of v.question.now) - length v.prefix.rows)
-    v.prefix.rows) v.limit stopped v.marks u end) where
-  over-below : IsOver standing question d d
-      (under (search_tree (problem_of question)) (size_of (problem_of question) - length d) d) limit stopped v.marks u end
-  over-below =
-      by-equals
-      (λ z l n. IsOver standing z l l
-      (under (search_tree (problem_of z)) (size_of (problem_of z) - length l) l) n stopped v.marks u end) question
-      v.question.now d v.prefix.rows limit v.limit (sym h.at.question_is) (sym h.rows) (sym same) over
-
 pub walk_child-leave-requires : goal.walk_child-leave-requires
 walk_child-leave-requires g t c =
     let w : Walk g.row.I.Denot = c.args.self.now in
@@ -186,8 +185,7 @@ walk_child-leave-requires g t c =
     let u : Walk g.row.I.Denot = c.walk_below.new.self in
     let d : List ℕ = w.prefix.rows ++ c.args.row ∷ [] in
     let o = rw c.in-None.is at c.in_ok-end.ensures.visited in
-    let h = over-below g.I.Incumbent.standing w.question.now d w.marks w.limit _ v u Closed o c.visit.ensures.limit
-    (rw c.in-Closed.is at c.in_ok-end-in-None.ensures.ended) in
+    let h = rw (o.at.question_is, o.rows, c.visit.ensures.limit, c.in-Closed.is) at c.in_ok-end-in-None.ensures.ended in
     record {
       at = at-own g.I.Incumbent.standing w.question.now u h.back;
       some = omega (arith, ap length h.ends.back, length-append w.prefix.rows (c.args.row ∷ []));
@@ -208,8 +206,7 @@ walk_child-returns-in-Closed-clause-ended g t c =
     let q : List ℕ = w.prefix.rows in
     let d : List ℕ = q ++ c.args.row ∷ [] in
     let o = rw c.in-None.is at c.in_ok-end.ensures.visited in
-    let h = over-below g.I.Incumbent.standing question d w.marks w.limit _ v u Closed o c.visit.ensures.limit
-    (rw c.in-Closed.is at c.in_ok-end-in-None.ensures.ended) in
+    let h = rw (o.at.question_is, o.rows, c.visit.ensures.limit, c.in-Closed.is) at c.in_ok-end-in-None.ensures.ended in
     let left = c.leave.ensures in
     let at = subst (λ z. IsAt g.I.Incumbent.standing z x) h.back.question_is left.at in
     let back : x.prefix.rows ≡ q = left.rows ∙ ap parent h.ends.back ∙ parent-push q c.args.row in
@@ -239,8 +236,7 @@ walk_child-returns-in_default-clause-ended g t c =
     let end = c.in_ok-end-in-None.end in
     let stopped : Bool = g.C.Cutter.stopped c.walk_below.new.cutter in
     let o = rw c.in-None.is at c.in_ok-end.ensures.visited in
-    let h = over-below g.I.Incumbent.standing question d w.marks w.limit stopped v u end o c.visit.ensures.limit
-    c.in_ok-end-in-None.ensures.ended in
+    let h = rw (o.at.question_is, o.rows, c.visit.ensures.limit) at c.in_ok-end-in-None.ensures.ended in
     record {
       shape = h.shape;
       back = else-closed end _ c.in_default.not-Closed;
@@ -268,7 +264,8 @@ walk_below-loop-row-init g t c =
       prefix = refl;
       done = 0;
       left = left_init w.question.now c.requires.at.valid w.prefix.rows c.args.front c.row_bound-row.result
-          c.requires.inner.canonical c.requires.front.front_is c.row_bound-row.ensures.most c.row_bound-row.ensures.none;
+          c.requires.inner.canonical c.requires.front.front_is c.row_bound-row.ensures.most
+          c.row_bound-row.ensures.none;
       marks = sym (append-nil w.marks);
       none = refl;
       fits = c.requires.fits;
@@ -295,13 +292,9 @@ walk_below-walk_child-requires g t c κs within =
     let q : List ℕ = w.prefix.rows in
     let i = c.loop-row.invariant in
     let r : ℕ = c.loop-row.row - 1 in
-    let up : c.loop-row.row ≡ suc r = omega (arith, c.loop-row-test.true) in
-    let here : (search_tree p).canonical (q ++ r ∷ []) ≡ true =
-    sym (follow_at question c.requires.at.valid q c.args.front r c.requires.inner.canonical c.requires.front.front_is) ∙
-    sym c.may_follow.ensures ∙ c.if-may_follow.true in
-    let next = left-next (search_tree p) q i.done c.loop-row.row r up here i.left in
-    let own = λ (P : Question → List ℕ → Type 0). by-equals (λ z l n. P z l) v.question.now question v.prefix.rows q 0 0
-    i.at.question_is i.prefix refl in
+    let next =
+    next-child question c.requires.at.valid q c.args.front i.done c.loop-row.row _ c.requires.inner.canonical
+    c.requires.front (omega (arith, c.loop-row-test.true)) c.may_follow.ensures c.if-may_follow.true i.left in
     let below : r < (search_tree p).rows =
     omega (arith, c.loop-row.auto.row, c.loop-row-test.true, c.row_bound-row.ensures.most) in
     let best : IsBestAt p (is_counted (ranked p) (q ++ r ∷ [])) (g.I.Incumbent.standing v.incumbent).best =
@@ -312,7 +305,8 @@ walk_below-walk_child-requires g t c κs within =
           (inl (c.requires.inside e)) i.done next.0 _ (i.best.first e);
     }) in (
       let rows : length v.prefix.rows ≡ length q = ap length i.prefix in
-          let size : size_of (problem_of v.question.now) ≡ size_of p = ap (λ z. size_of (problem_of z)) i.at.question_is in
+          let size : size_of (problem_of v.question.now) ≡ size_of p =
+          ap (λ z. size_of (problem_of z)) i.at.question_is in
           omega (arith, rows, size),
       (
         within.0,
@@ -321,17 +315,15 @@ walk_below-walk_child-requires g t c κs within =
           (
             at-own g.I.Incumbent.standing question v i.at,
             (
-              own (λ z l. IsChild (problem_of z) l r)
-                  (record { part = c.requires.inner.part; below = below; canonical = here }),
+              rw (i.at.question_is, i.prefix)
+                  (record { part = c.requires.inner.part; below = below; canonical = next.3 }),
               (
-                own (λ z l. IsFrontOf z l c.args.front) c.requires.front,
+                rw (i.at.question_is, i.prefix) c.requires.front,
                 (
                   omega (arith, i.limit, i.fits),
                   (
-                    own (λ z l. IsBestAt (problem_of z) (is_counted (ranked (problem_of z)) (l ++ r ∷ []))
-                        (g.I.Incumbent.standing v.incumbent).best) best,
-                    own (λ z l. z.least ≡ true → z.shape.m + 1 ≤ length l)
-                        (λ least. omega (arith, c.requires.inside least)),
+                    rw (i.at.question_is, i.prefix) best,
+                    rw (i.at.question_is, i.prefix) (λ least. omega (arith, c.requires.inside least)),
                   ),
                 ),
               ),
@@ -349,23 +341,6 @@ pub walk_below-returns-in_default-clause-cutter : goal.walk_below-returns-in_def
 walk_below-returns-in_default-clause-cutter g t c =
     g.met.C.Cutter.goes_on c.args.cutter.now c.loop-row.cutter _ c.loop-row.invariant.cutter c.in_ok-end.ensures.cutter
 
--- the walk of the child by r, from v to u, as one of the question, the prefix and the limit of the walk before
-module _ {I : Type 0} (standing : I → Standing) (question : Question) (q : List ℕ) (limit r : ℕ) (stopped : Bool)
-    (v u : Walk I) (end : End) (at : IsAt standing question v) (prefix : v.prefix.rows ≡ q) (same : v.limit ≡ limit)
-    (over : IsOver standing v.question.now v.prefix.rows (v.prefix.rows ++ r ∷ [])
-    (subtree (search_tree (problem_of v.question.now))
-    (size_of (problem_of v.question.now) - length (v.prefix.rows ++ r ∷ [])) (v.prefix.rows ++ r ∷ []))
-    v.limit stopped v.marks u end) where
-  over-one : IsOver standing question q (q ++ r ∷ [])
-      (subtree (search_tree (problem_of question)) (size_of (problem_of question) - length (q ++ r ∷ [])) (q ++ r ∷ []))
-      limit stopped v.marks u end
-  over-one =
-      by-equals
-      (λ z l n. IsOver standing z l (l ++ r ∷ [])
-      (subtree (search_tree (problem_of z)) (size_of (problem_of z) - length (l ++ r ∷ [])) (l ++ r ∷ [])) n stopped
-      v.marks u end) question v.question.now q v.prefix.rows limit v.limit (sym at.question_is) (sym prefix) (sym same)
-      over
-
 pub walk_below-returns-in_default-clause-ended : goal.walk_below-returns-in_default-clause-ended
 walk_below-returns-in_default-clause-ended g t c =
     let w : Walk g.row.I.Denot = c.args.self.now in
@@ -376,15 +351,12 @@ walk_below-returns-in_default-clause-ended g t c =
     let q : List ℕ = w.prefix.rows in
     let i = c.loop-row.invariant in
     let r : ℕ = c.loop-row.row - 1 in
-    let up : c.loop-row.row ≡ suc r = omega (arith, c.loop-row-test.true) in
-    let here : (search_tree p).canonical (q ++ r ∷ []) ≡ true =
-    sym (follow_at question c.requires.at.valid q c.args.front r c.requires.inner.canonical c.requires.front.front_is) ∙
-    sym c.may_follow.ensures ∙ c.if-may_follow.true in
-    let next = left-next (search_tree p) q i.done c.loop-row.row r up here i.left in
+    let next =
+    next-child question c.requires.at.valid q c.args.front i.done c.loop-row.row _ c.requires.inner.canonical
+    c.requires.front (omega (arith, c.loop-row-test.true)) c.may_follow.ensures c.if-may_follow.true i.left in
     let stopped : Bool = g.C.Cutter.stopped c.walk_child.new.cutter in
     let end = c.in_ok-end.end in
-    let h = over-one g.I.Incumbent.standing question q w.limit r stopped v u end i.at i.prefix i.limit
-    c.in_ok-end.ensures.ended in
+    let h = rw (i.at.question_is, i.prefix, i.limit) at c.in_ok-end.ensures.ended in
     record {
       shape = h.shape;
       back = else-closed end _ c.in_default.not-Closed;
@@ -404,13 +376,10 @@ walk_below-loop-row-preserved-in-Closed g t c =
     let q : List ℕ = w.prefix.rows in
     let i = c.loop-row.invariant in
     let r : ℕ = c.loop-row.row - 1 in
-    let up : c.loop-row.row ≡ suc r = omega (arith, c.loop-row-test.true) in
-    let here : (search_tree p).canonical (q ++ r ∷ []) ≡ true =
-    sym (follow_at question c.requires.at.valid q c.args.front r c.requires.inner.canonical c.requires.front.front_is) ∙
-    sym c.may_follow.ensures ∙ c.if-may_follow.true in
-    let next = left-next (search_tree p) q i.done c.loop-row.row r up here i.left in
-    let h = over-one g.I.Incumbent.standing question q w.limit r _ v u Closed i.at i.prefix i.limit
-    (rw c.in-Closed.is at c.in_ok-end.ensures.ended) in
+    let next =
+    next-child question c.requires.at.valid q c.args.front i.done c.loop-row.row _ c.requires.inner.canonical
+    c.requires.front (omega (arith, c.loop-row-test.true)) c.may_follow.ensures c.if-may_follow.true i.left in
+    let h = rw (i.at.question_is, i.prefix, i.limit, c.in-Closed.is) at c.in_ok-end.ensures.ended in
     let best = rw next.1 at h.best in
     let step =
     over_child (search_tree p) (law_of question c.requires.at.valid) q (search_mark p) w.limit i.done r false w.marks

@@ -25,12 +25,10 @@ returns-clause-at g c =
       question_is = refl;
       candidates = c.requires.candidates;
       shape = ap (λ m. m.shape) c.new-prefix.ensures;
-      at = record {
-        pruner_problem = c.in_ok-pruner.ensures.problem;
-        pruner_rows = c.in_ok-pruner.ensures.start ∙ sym rows;
-        incumbent_problem = ap (λ s. s.problem) standing;
-        incumbent_rows = ap (λ s. s.prefix) standing ∙ sym rows;
-      };
+      pruner_problem = c.in_ok-pruner.ensures.problem;
+      pruner_rows = c.in_ok-pruner.ensures.start ∙ sym rows;
+      incumbent_problem = ap (λ s. s.problem) standing;
+      incumbent_rows = ap (λ s. s.prefix) standing ∙ sym rows;
     }
 
 pub returns-clause-start : goal.returns-clause-start

@@ -30,9 +30,10 @@ walk_part-requires-clause-best g c =
     let p : Problem = problem_of question in
     let j : List ℕ = c.args.job.now.rows in
     let job = c.requires.job in
-    job_begins p (field_of question c.requires.at.valid) j job.rows (job-room p j job.rows job.lot) job.canonical job.lot
+    job_begins p (field_of question c.requires.at.valid) j job.rows (job-room p j job.rows job.lot) job.canonical
+    job.lot
     (g.I.Incumbent.standing c.begin.new.self).best
-    (λ e. ap (λ s. s.best) (c.begin.ensures.ranked (least_at c.requires.at.at.incumbent_problem e)) ∙
+    (λ e. ap (λ s. s.best) (c.begin.ensures.ranked (least_at c.requires.at.incumbent_problem e)) ∙
     c.requires.earlier e)
 
 pub returns-in-Found-clause-end : goal.returns-in-Found-clause-end
@@ -86,7 +87,7 @@ pub returns-in-Closed-clause-sized : goal.returns-in-Closed-clause-sized
 returns-in-Closed-clause-sized g c =
     let ended = rw c.in-Closed.is at c.in_ok-end.ensures.ended in
     let problem = ap (λ (z : Walk g.row.I.Denot). (g.I.Incumbent.standing z.incumbent).problem)
-    c.take_marks-marks.ensures.same ∙ ended.back.at.incumbent_problem in
+    c.take_marks-marks.ensures.same ∙ ended.back.incumbent_problem in
     c.own.ensures.sized _
     (subst (λ z. HasDimensions z.dimensions c.best_matrix.result) problem c.best_matrix.ensures.dimensions)
 

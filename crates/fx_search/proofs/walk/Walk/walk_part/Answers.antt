@@ -1,4 +1,5 @@
-use Rattle.std.proofs.Common.{◌≡◌, ◌<◌, ◌≤◌, ◌+◌, ◌-◌, ◌^◌, ◌++◌, ◌∷◌, [], ℕ, List, length, slice_index, true, sym, ap, subst}
+use Rattle.std.proofs.Common.{◌≡◌, ◌<◌, ◌≤◌, ◌+◌, ◌-◌, ◌^◌, ◌++◌, ◌∷◌, [], ℕ, List, length, slice_index, true, sym, ap}
+use Rattle.std.proofs.Common.{subst}
 use Rattle.std.proofs.Common.{◌∙◌, ◌⊎◌, ⊎_elim, inl, inr, refl, arith}
 use Rattle.std.specs.Prelude.{IfOk}
 use Rattle.std.proofs.lemmas.List.{length-take-le}
@@ -15,7 +16,6 @@ use Rattle.fx_search.specs.SearchPieces.{piece_candidates}
 use Rattle.fx_search.specs.Walks.{IsChild}
 use Rattle.fx_search.specs.declared.walk.Walk.{Walk}
 use Rattle.fx_search.proofs.Begins.{split-last}
-use Rattle.fx_search.proofs.Places.{by-equals}
 use Rattle.fx_search.proofs.Starts.{expanded-allowed}
 use Rattle.fx_search.proofs.Valid.{law_of}
 use Rattle.fx_search.proofs.walk.Walk.walk_part.Goals as goal
@@ -55,8 +55,7 @@ front-front-requires-clause-canonical g c =
     let v : Walk g.row.I.Denot = c.go_to.new.self in
     let j : List ℕ = c.args.part.now.rows in
     let there = c.in_ok-go_to.ensures in
-    by-equals (λ z l n. (search_tree (problem_of z)).canonical l ≡ true) v.question.now question v.prefix.rows (parent j)
-    0 0 there.at.question_is (there.rows ∙ ap (λ m. m.rows) c.without_the_last_row-above.ensures) refl
+    rw (there.at.question_is, there.rows, c.without_the_last_row-above.ensures)
     (parent-canonical question c.requires.at.valid j c.requires.part.some c.requires.part.canonical)
 
 -- the rows of a walk at the parent of a prefix, with the last row of that
@@ -74,8 +73,7 @@ walk_child-requires-clause-child g c =
     let h = c.requires.part in
     let there = c.in_ok-go_to.ensures in
     let rows : v.prefix.rows ≡ parent j = there.rows ∙ ap (λ m. m.rows) c.without_the_last_row-above.ensures in
-    by-equals (λ z l n. IsChild (problem_of z) l c.row-row.result) v.question.now question v.prefix.rows v.prefix.rows 0
-    0 there.at.question_is refl refl
+    rw there.at.question_is
     (record {
       part = omega (arith, h.fits, h.some, ap length rows, length-take-le (length j - 1) j (omega arith));
       below = subst (λ (z : Shape). c.row-row.result < z.q ^ z.m) h.shape c.row-row.ensures.below;
@@ -94,11 +92,7 @@ walk_child-requires-clause-best g c =
     let rows : v.prefix.rows ≡ parent j = there.rows ∙ ap (λ m. m.rows) c.without_the_last_row-above.ensures in
     let is = whole v.prefix.rows j row c.len.result c.requires.part.some rows c.row-row.ensures.row c.len.ensures.count
     in
-    by-equals (λ z l n. IsBestAt (problem_of z) (is_counted (ranked (problem_of z)) l)
-    (g.I.Incumbent.standing v.incumbent).best) v.question.now question (v.prefix.rows ++ row ∷ []) j 0 0
-    there.at.question_is is refl
-    (subst (λ o. IsBestAt (problem_of question) (is_counted (ranked (problem_of question)) j) o) (sym there.best)
-    c.requires.best)
+    rw (there.at.question_is, is, there.best) c.requires.best
 
 pub walk_child-requires-clause-inside : goal.walk_child-requires-clause-inside
 walk_child-requires-clause-inside g c =
@@ -107,8 +101,7 @@ walk_child-requires-clause-inside g c =
     let j : List ℕ = c.args.part.now.rows in
     let there = c.in_ok-go_to.ensures in
     let rows : v.prefix.rows ≡ parent j = there.rows ∙ ap (λ m. m.rows) c.without_the_last_row-above.ensures in
-    by-equals (λ z l n. z.least ≡ true → z.shape.m + 1 ≤ length v.prefix.rows) v.question.now question [] [] 0 0
-    there.at.question_is refl refl
+    rw there.at.question_is
     (λ e. omega (arith, c.requires.inside e, ap length rows, length-take-le (length j - 1) j (omega arith)))
 
 pub returns-clause-ended : goal.returns-clause-ended
@@ -123,13 +116,4 @@ returns-clause-ended g c =
     let rows : v.prefix.rows ≡ parent j = there.rows ∙ ap (λ m. m.rows) c.without_the_last_row-above.ensures in
     let is = whole v.prefix.rows j row c.len.result c.requires.part.some rows c.row-row.ensures.row c.len.ensures.count
     in
-    let one = by-equals (λ z l n. IfOk c.walk_child.result
-    (IsOver g.I.Incumbent.standing z l (v.prefix.rows ++ row ∷ [])
-    (piece_candidates (problem_of z) (v.prefix.rows ++ row ∷ [])) c.args.limit stopped c.new.result u)) question
-    v.question.now (parent j) v.prefix.rows 0 0 (sym there.at.question_is) (sym rows) refl c.walk_child.ensures.ended in
-    let two = subst (λ l. IfOk c.walk_child.result
-    (IsOver g.I.Incumbent.standing question (parent j) l (piece_candidates (problem_of question) l) c.args.limit stopped
-    c.new.result u)) is one in
-    subst (λ (ms : List Mark). IfOk c.walk_child.result
-    (IsOver g.I.Incumbent.standing question (parent j) j (piece_candidates (problem_of question) j) c.args.limit stopped
-    ms u)) c.new.ensures two
+    rw (there.at.question_is, is, rows, c.new.ensures) at c.walk_child.ensures.ended
