@@ -1,5 +1,5 @@
 -- Where a walk is, seen from its parts, and what is known of its question and prefix by equal ones.
-use Rattle.std.proofs.Common.{◌≡◌, ◌≢◌, ◌<◌, ◌≤◌, ◌+◌, ◌-◌, ℕ, Bool, List, Option, Some, refl, sym, ap, subst, ◌∙◌}
+use Rattle.std.proofs.Common.{◌≡◌, ◌≢◌, ◌<◌, ◌≤◌, ◌+◌, ◌-◌, ℕ, Bool, List, Some, refl, sym, ap, subst, ◌∙◌}
 use Rattle.std.proofs.Common.{arith}
 use Rattle.std.proofs.Common.{length, [], ◌∷◌}
 use Rattle.fx_search.specs.Asked.{IsRight}
@@ -14,9 +14,7 @@ use Rattle.fx_vectors.specs.Question.{problem_of}
 use Rattle.fx_search.specs.Ends.{IfClosed, IsOver, IsVisited}
 use Rattle.fx_search.specs.Pruning.{size_of, count_of_rows}
 use Rattle.fx_search.specs.Standing.{Standing}
-use Rattle.fx_search.specs.LotWalks.{IsInLot, IsSoFar}
-use Rattle.fx_search.specs.Walks.{IsAt, IsInner, IsPaused, standing_with_best}
-use Rattle.fx_search.specs.declared.ranked.Ranked.{Ranked}
+use Rattle.fx_search.specs.Walks.{IsAt, IsInner, IsPaused}
 use Rattle.fx_search.specs.declared.walk.End.{End}
 use Rattle.fx_search.specs.declared.walk.End.TheVariants.{Found, Closed, Spent, Cut}
 use Rattle.fx_search.specs.declared.walk.Walk.{Walk}

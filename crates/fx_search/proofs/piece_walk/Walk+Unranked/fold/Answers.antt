@@ -1,4 +1,4 @@
-use Rattle.std.proofs.Common.{◌≡◌, ◌<◌, ◌≤◌, ◌+◌, ◌-◌, ◌++◌, [], ℕ, List, None, length, length-append, sym, ap}
+use Rattle.std.proofs.Common.{◌≡◌, ◌<◌, ◌+◌, ◌-◌, [], ℕ, List, None, length, length-append, sym, ap}
 use Rattle.std.proofs.Common.{subst, ◌∙◌, arith}
 use Rattle.fx_designs.specs.Nodes.{Mark}
 use Rattle.fx_designs.specs.Problems.{Problem}
@@ -9,7 +9,7 @@ use Rattle.fx_vectors.specs.Question.{problem_of}
 use Rattle.fx_search.specs.Ends.{IsFound, IsClosed, IsSpent}
 use Rattle.fx_search.specs.Asked.{IsRight}
 use Rattle.fx_search.specs.LotWalks.{candidates_of}
-use Rattle.fx_search.specs.SearchPieces.{IsAhead, IsAtEnd, IsPlacedAt, IsDoneTo, IsFolding, IsFoldedTo, AreFolded}
+use Rattle.fx_search.specs.SearchPieces.{IsAhead, IsAtEnd, IsPlacedAt, IsFoldedTo, AreFolded}
 use Rattle.fx_search.specs.SearchPieces.{ArePieceEnds, rest_of}
 use Rattle.fx_search.specs.declared.asking.Asked.TheVariants.{Budget}
 use Rattle.fx_search.specs.declared.job.JobEnd.{JobEnd}

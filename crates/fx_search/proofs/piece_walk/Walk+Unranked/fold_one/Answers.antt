@@ -1,6 +1,5 @@
 use Rattle.std.proofs.Common.{◌∷◌, List, subst}
 use Rattle.fx_designs.specs.Nodes.{Mark}
-use Rattle.fx_vectors.specs.declared.question.Question.{Question}
 use Rattle.fx_search.specs.SearchPieces.{IsFolding}
 use Rattle.fx_search.proofs.PieceSteps.{before-past, closed-past, closed-folded, found-past, found-folded, spent-folded}
 use Rattle.fx_search.proofs.piece_walk.Walk+Unranked.fold_one.Goals as goal

@@ -2,9 +2,9 @@ use Rattle.std.proofs.Common.{Bool, ◌≡◌, ℕ, suc, ◌<◌, ◌≤◌, ◌
 use Rattle.std.proofs.Common.{◌++◌, arith, refl, sym, ap, ◌∙◌, subst, length-append, append-nil}
 use Rattle.std.proofs.Common.{inl, inr, slice_index_or}
 use Rattle.fx_designs.specs.Problems.{Problem}
-use Rattle.fx_designs.specs.Nodes.{Mark, parent}
+use Rattle.fx_designs.specs.Nodes.{parent}
 use Rattle.fx_laws.specs.Trees.{children_of}
-use Rattle.fx_laws.specs.Walks.{subtree, under}
+use Rattle.fx_laws.specs.Walks.{under}
 use Rattle.fx_laws.proofs.Candidates.{parent-push}
 use Rattle.fx_vectors.specs.declared.question.Question.{Question}
 use Rattle.fx_vectors.specs.declared.shape.Shape.{Shape}
@@ -18,11 +18,9 @@ use Rattle.fx_tree.specs.Ranked.{is_counted}
 use Rattle.fx_tree.specs.Search.{search_tree, search_mark, ranked, IsBestAt}
 use Rattle.fx_tree.proofs.Branches.{start_best, end_best, enter_best, leave_best}
 use Rattle.fx_search.specs.Pruning.{size_of}
-use Rattle.fx_search.specs.Ends.{Ends, IsEntered, IsOver}
-use Rattle.fx_search.specs.Standing.{Standing}
-use Rattle.fx_search.specs.Walks.{IsAt, IsChild, IsFrontOf, IsInner, LeftFrom}
+use Rattle.fx_search.specs.Ends.{Ends}
+use Rattle.fx_search.specs.Walks.{IsAt, IsFrontOf, LeftFrom}
 use Rattle.fx_search.specs.declared.walk.Walk.{Walk}
-use Rattle.fx_search.specs.declared.walk.End.{End}
 use Rattle.fx_search.specs.declared.walk.End.TheVariants.{Closed}
 use Rattle.fx_search.proofs.Lots.{whole-end}
 use Rattle.fx_search.proofs.Steps.{full, below_end, below_closed, left-init, left-skip, left-next}

@@ -1,19 +1,14 @@
-use Rattle.std.proofs.Common.{◌≡◌, ◌<◌, ◌≤◌, ◌+◌, ◌-◌, ◌^◌, ◌++◌, ◌∷◌, [], ℕ, List, length, slice_index, true, sym, ap}
+use Rattle.std.proofs.Common.{◌≡◌, ◌<◌, ◌-◌, ◌^◌, ◌++◌, ◌∷◌, [], ℕ, List, length, slice_index, true, sym, ap}
 use Rattle.std.proofs.Common.{subst}
-use Rattle.std.proofs.Common.{◌∙◌, ◌⊎◌, ⊎_elim, inl, inr, refl, arith}
-use Rattle.std.specs.Prelude.{IfOk}
+use Rattle.std.proofs.Common.{◌∙◌, ◌⊎◌, ⊎_elim, inl, inr, arith}
 use Rattle.std.proofs.lemmas.List.{length-take-le}
 use Rattle.fx_designs.specs.Problems.{Problem}
 use Rattle.fx_designs.specs.Demands.{is_allowed}
-use Rattle.fx_designs.specs.Nodes.{parent, last_row, Mark}
-use Rattle.fx_tree.specs.Ranked.{is_counted}
-use Rattle.fx_tree.specs.Search.{search_tree, ranked, IsBestAt}
+use Rattle.fx_designs.specs.Nodes.{parent, last_row}
+use Rattle.fx_tree.specs.Search.{search_tree}
 use Rattle.fx_vectors.specs.declared.question.Question.{Question}
 use Rattle.fx_vectors.specs.declared.shape.Shape.{Shape}
 use Rattle.fx_vectors.specs.Question.{IsValid, problem_of}
-use Rattle.fx_search.specs.Ends.{IsOver}
-use Rattle.fx_search.specs.SearchPieces.{piece_candidates}
-use Rattle.fx_search.specs.Walks.{IsChild}
 use Rattle.fx_search.specs.declared.walk.Walk.{Walk}
 use Rattle.fx_search.proofs.Begins.{split-last}
 use Rattle.fx_search.proofs.Starts.{expanded-allowed}
