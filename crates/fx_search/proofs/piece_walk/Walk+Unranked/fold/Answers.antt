@@ -30,9 +30,9 @@ rest-at w = rest_of (problem_of w.question.now) w.prefix.rows w.bound
 -- what the fold of all came to
 folded-to : (w : Walk Unranked) (pieces : List Piece) (marks : List Mark) (ends : List JobEnd) (new : List Mark)
     (f : Folded) → IsAhead w pieces marks → ArePieceEnds w.question.now (w.limit - length w.marks) 0 pieces ends
-    → AreFolded w.question.now w.limit pieces ends w.marks new f
+    → AreFolded w.limit pieces ends w.marks new f
     → IsFoldedTo w.question.now w.limit (rest-at w) marks [] [] (length w.marks + length pieces) new f
-folded-to w pieces marks ends new f h are folded = folded (rest-at w) marks (start-folding w pieces marks ends h are)
+folded-to w pieces marks ends new f h are folded = folded w.question.now (rest-at w) marks (start-folding w pieces marks ends h are)
 
 -- there are more nodes than the limit
 spent-right : (w : Walk Unranked) → IsPlacedAt w
@@ -48,77 +48,67 @@ spent-right w h spent =
 pub found-requires-clause-shape : goal.found-requires-clause-shape
 found-requires-clause-shape c =
     let w : Walk Unranked = c.args.self.now in
-    let u : Walk Unranked = c.fold_all.new.self in
+    let now : List Mark = c.fold_all.new.marks in
     let found =
-    folded-to w c.args.round.pieces c.args.round.after c.args.ends u.marks (Design c.in-Design.matrix)
+    folded-to w c.args.round.pieces c.args.round.after c.args.ends now (Design c.in-Design.matrix)
     c.requires.ahead c.requires.ends (rw c.in-Design.is at c.in_ok-fold_all.ensures.folded) in
-    found.1 ∙ ap (λ (z : Walk Unranked). z.question.now.shape) (sym c.fold_all.ensures.same)
+    found.1
 
 pub found-requires-clause-found : goal.found-requires-clause-found
 found-requires-clause-found c =
     let w : Walk Unranked = c.args.self.now in
-    let u : Walk Unranked = c.fold_all.new.self in
+    let now : List Mark = c.fold_all.new.marks in
     let found =
-    folded-to w c.args.round.pieces c.args.round.after c.args.ends u.marks (Design c.in-Design.matrix)
+    folded-to w c.args.round.pieces c.args.round.after c.args.ends now (Design c.in-Design.matrix)
     c.requires.ahead c.requires.ends (rw c.in-Design.is at c.in_ok-fold_all.ensures.folded) in
-    subst (λ (z : Walk Unranked). IsFound (search_tree (problem_of z.question.now))
-    (search_mark (problem_of z.question.now)) z.limit (candidates_of (problem_of z.question.now)) [] u.marks
-    c.in-Design.matrix.rows) (sym c.fold_all.ensures.same) found.0
+    found.0
 
 pub returns-in-TooMany-clause-done : goal.returns-in-TooMany-clause-done
 returns-in-TooMany-clause-done c =
     let w : Walk Unranked = c.args.self.now in
-    let u : Walk Unranked = c.fold_all.new.self in
+    let now : List Mark = c.fold_all.new.marks in
     spent-right w c.requires.ahead.placed
-    (folded-to w c.args.round.pieces c.args.round.after c.args.ends u.marks TooMany c.requires.ahead c.requires.ends
+    (folded-to w c.args.round.pieces c.args.round.after c.args.ends now TooMany c.requires.ahead c.requires.ends
     (rw c.in-TooMany.is at c.in_ok-fold_all.ensures.folded))
 
 pub returns-then-not-branch-clause-done : goal.returns-then-not-branch-clause-done
 returns-then-not-branch-clause-done c =
     let w : Walk Unranked = c.args.self.now in
-    let u : Walk Unranked = c.fold_all.new.self in
-    let all = folded-to w c.args.round.pieces c.args.round.after c.args.ends u.marks AllClosed c.requires.ahead
+    let now : List Mark = c.fold_all.new.marks in
+    let all = folded-to w c.args.round.pieces c.args.round.after c.args.ends now AllClosed c.requires.ahead
     c.requires.ends (rw c.in-AllClosed.is at c.in_ok-fold_all.ensures.folded) in
-    let limit : u.limit ≡ w.limit = ap (λ (z : Walk Unranked). z.limit) c.fold_all.ensures.same in
     spent-right w c.requires.ahead.placed
-    (after-past w.question.now w.limit (rest-at w) c.args.round.after u.marks [] all.0
-    (omega (arith, limit, (rw c.if-not-branch.true at c.in_ok-take.ensures.taken).0)))
+    (after-past w.question.now w.limit (rest-at w) c.args.round.after now [] all.0
+    (rw c.if-not-branch.true at c.in_ok-take.ensures.taken).0)
 
 pub closed-requires-clause-closed : goal.closed-requires-clause-closed
 closed-requires-clause-closed c =
     let w : Walk Unranked = c.args.self.now in
-    let u : Walk Unranked = c.fold_all.new.self in
+    let now : List Mark = c.fold_all.new.marks in
     let p : Problem = problem_of w.question.now in
     let new : List Mark = c.take.new.marks in
-    let all = folded-to w c.args.round.pieces c.args.round.after c.args.ends u.marks AllClosed c.requires.ahead
+    let all = folded-to w c.args.round.pieces c.args.round.after c.args.ends now AllClosed c.requires.ahead
     c.requires.ends (rw c.in-AllClosed.is at c.in_ok-fold_all.ensures.folded) in
-    let limit : u.limit ≡ w.limit = ap (λ (z : Walk Unranked). z.limit) c.fold_all.ensures.same in
     let taken = rw c.if-not-branch.false at c.in_ok-take.ensures.taken in
     let done =
-    after-done w.question.now w.limit (rest-at w) c.args.round.after u.marks [] all.0 new taken.0
-    (omega (arith, limit, taken.1)) in
+    after-done w.question.now w.limit (rest-at w) c.args.round.after now [] all.0 new taken.0
+    taken.1 in
     let end : IsAtEnd w = c.requires.last c.if-is_last.true in
     let none : rest-at w ≡ [] = rest-end p w.prefix.rows w.bound end.1 end.0 in
-    subst (λ (z : Walk Unranked). IsClosed (search_tree (problem_of z.question.now))
-    (search_mark (problem_of z.question.now)) z.limit (candidates_of (problem_of z.question.now)) [] [] new [])
-    (sym c.fold_all.ensures.same)
-    (done-all p w.limit new (done-same p w.limit (rest-at w) [] new none done))
+    done-all p w.limit new (done-same p w.limit (rest-at w) [] new none done)
 
 pub returns-clause-done : goal.returns-clause-done
 returns-clause-done c =
     let w : Walk Unranked = c.args.self.now in
-    let u : Walk Unranked = c.fold_all.new.self in
+    let now : List Mark = c.fold_all.new.marks in
     let new : List Mark = c.take.new.marks in
-    let all = folded-to w c.args.round.pieces c.args.round.after c.args.ends u.marks AllClosed c.requires.ahead
+    let all = folded-to w c.args.round.pieces c.args.round.after c.args.ends now AllClosed c.requires.ahead
     c.requires.ends (rw c.in-AllClosed.is at c.in_ok-fold_all.ensures.folded) in
-    let limit : u.limit ≡ w.limit = ap (λ (z : Walk Unranked). z.limit) c.fold_all.ensures.same in
     let taken = rw c.if-not-branch.false at c.in_ok-take.ensures.taken in
     let done =
-    after-done w.question.now w.limit (rest-at w) c.args.round.after u.marks [] all.0 new taken.0
-    (omega (arith, limit, taken.1)) in
+    after-done w.question.now w.limit (rest-at w) c.args.round.after now [] all.0 new taken.0
+    taken.1 in
     let some = c.requires.some c.if-is_last.false in (
-      subst (λ (z : Walk Unranked). IsAhead (record z { marks = new }) [] []) (sym c.fold_all.ensures.same)
-          (ahead-of-none (record w { marks = new })
-          (placed-as w new w.bound (omega arith) c.requires.ahead.placed) done),
-      omega (arith, ap length taken.0, length-append u.marks c.args.round.after, all.1, some),
+      ahead-of-none (record w { marks = new }) (placed-as w new w.bound (omega arith) c.requires.ahead.placed) done,
+      omega (arith, ap length taken.0, length-append now c.args.round.after, all.1, some),
     )
