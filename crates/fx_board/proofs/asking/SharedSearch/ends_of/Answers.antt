@@ -1,8 +1,11 @@
-use Rattle.std.proofs.Common.{sym, subst}
-use Rattle.fx_vectors.specs.Matrix.{MatrixView}
+use Rattle.std.proofs.Common.{◌≡◌, ◌∙◌, ap, sym, subst}
+use Rattle.fx_designs.specs.Jobs.{best_before}
+use Rattle.fx_vectors.specs.Question.{problem_of}
+use Rattle.fx_search.specs.Folds.{IsLot}
+use Rattle.fx_search.specs.LotWalks.{lot_view}
 use Rattle.fx_vectors.specs.declared.question.Question.{Question}
 use Rattle.fx_search.specs.declared.lot_walk.LotWalk.{LotWalk}
-use Rattle.fx_board.specs.Lots.{AreJobsOf}
+use Rattle.fx_board.specs.Lots.{AreJobsOf, AreRowsOf}
 use Rattle.fx_board.proofs.LotFacts.{next-are}
 use Rattle.fx_board.proofs.asking.SharedSearch.ends_of.Goals as goal
 
@@ -12,20 +15,21 @@ ends-requires-clause-jobs g c κs within =
     let jobs = c.args.jobs.now in
     let h = c.requires.at in
     let earlier = c.earlier.result in
-    let made : AreJobsOf w.question.now c.candidates.result.now w.prefix jobs.rows earlier = record {
+    let v = lot_view w in
+    let rows : c.lot.result.now.rows ≡ v.rows = c.lot.ensures.rows in
+    let lot = c.lot.result.now in
+    let at = h.placed.paused.at in
+    let made : AreJobsOf v.question c.candidates.result.now lot jobs.rows earlier = record {
       lot_is = record {
-        valid = h.placed.valid;
+        valid = at.valid;
         least = h.placed.least;
         candidates_are = c.candidates.ensures;
-        shape = h.placed.shape;
-        is_lot = h.in_lot.lot;
-        earlier_is = c.earlier.ensures.rows;
+        shape = c.lot.ensures.shape;
+        is_lot = subst (IsLot (problem_of v.question)) (sym rows) h.in_lot.lot;
+        earlier_is = c.earlier.ensures.rows ∙ ap (best_before (problem_of v.question)) (sym rows);
         sized = c.earlier.ensures.sized;
       };
-      rows_are =
-          next-are w.question.now h.placed.valid w.prefix.rows w.bound jobs.rows jobs.end c.requires.next
-          h.placed.bound;
+      rows_are = subst (λ l. AreRowsOf v.question l jobs.rows) (sym rows)
+          (next-are v.question at.valid v.rows v.bound jobs.rows jobs.end c.requires.next h.placed.paused.bound);
     } in
-    subst (λ (m : MatrixView). AreJobsOf c.args.self.now.question.now c.candidates.result.now m jobs.rows earlier)
-    (sym c.lot.ensures)
-    (subst (λ (z : Question). AreJobsOf z c.candidates.result.now w.prefix jobs.rows earlier) c.requires.question made)
+    subst (λ (z : Question). AreJobsOf z c.candidates.result.now lot jobs.rows earlier) c.requires.question made

@@ -43,8 +43,8 @@ returns-clause-sized g c =
 
 pub share-requires-clause-ready : goal.share-requires-clause-ready
 share-requires-clause-ready g c κs within =
-    λ worker has. record { jobs = c.requires.jobs; searcher = c.requires.searchers worker has }
+    λ worker has. record { jobs = c.requires.jobs; at = c.requires.ready worker has }
 
-pub returns-clause-searchers : goal.returns-clause-searchers
-returns-clause-searchers g c =
-    IfOk-weaker c.share.result _ _ (λ worked h worker has. (h worker has).searcher) c.share.ensures.ready
+pub returns-clause-ready : goal.returns-clause-ready
+returns-clause-ready g c =
+    IfOk-weaker c.share.result _ _ (λ worked h worker has. (h worker has).at) c.share.ensures.ready
