@@ -11,5 +11,5 @@ pub mod Whole
 mod Examples
 mod Numerals
 mod Texts
-mod Accepted
+pub mod Accepted
 pub mod QuestionBooks

@@ -1,11 +1,10 @@
 -- The design of a valid step is as it asks, and none is better: of the questions of the step the next, or each before
 -- it, has no answer.
 use Rattle.std.proofs.Common.{ℕ, ◌≡◌, ◌<◌, ◌≤◌, ◌+◌, ◌||◌, ◌&&◌, Bool, true, false, List, [], ◌∷◌, length, Some, None}
-use Rattle.std.proofs.Common.{refl, sym, ap, ◌∙◌, subst, arith, inl, inr, ◌⊎◌, IsTrue, eqb, eqb-true}
+use Rattle.std.proofs.Common.{refl, sym, ap, ◌∙◌, subst, arith, inl, inr, ◌⊎◌, eqb-true}
 use Rattle.std.specs.Prelude.{nat_le, not, max, if◌then◌else◌}
-use Rattle.std.specs.List.{list_any, list_all}
-use Rattle.std.proofs.lemmas.Bool.{leb-true, ltb-true, cases_Bool, and_parts, both_ways, eqb-true}
-use Rattle.fx_designs.specs.Galois.{IsField, is_order}
+use Rattle.std.proofs.lemmas.Bool.{leb-true, ltb-true, cases_Bool, and_parts, both_ways, eqb-true, or_parts, or_right}
+use Rattle.fx_designs.specs.Galois.{IsField}
 use Rattle.fx_designs.specs.Problems.{Dimensions, Problem, Requirement, AtResolution}
 use Rattle.fx_designs.specs.Demands.{is_met}
 use Rattle.fx_designs.specs.Answers.{answer}
@@ -40,29 +39,15 @@ use Rattle.fx_statements.specs.Questions.{least_exponent, lowest, outcome_of, qu
 use Rattle.fx_statements.specs.Questions.{run_factors, seeks_highest, series, until}
 use Rattle.fx_statements.proofs.Concluded.{HasEnding, IsOfFirst, IsOfLast, of-first, of-last, none-of_all}
 use Rattle.fx_statements.proofs.Concluded.{none-of_first}
+use Rattle.fx_answer.proofs.Valid.{order_of, some_size}
 use Rattle.fx_program.specs.StepClaims.{Allows, HasHighestOfAll, HasLeastOfAll, HasLeastSize, HasMostBlocks}
 use Rattle.fx_program.specs.StepClaims.{HasNoneAtAll, HasWhatItAsks, IsAsItAsks, IsOfKind, IsValidStep, required}
+use Rattle.fx_program.proofs.Given.{blocks_again}
 
 -- Numbers of levels
 
-at_level : (levels : List ℕ) (P : ℕ → Bool) (q : ℕ) → list_all P levels ≡ true → list_any (λ x. eqb x q) levels ≡ true
-    → P q ≡ true
-at_level [] P q all among = absurd (both_ways _ refl among)
-at_level (x ∷ levels) P q all among =
-    let both = and_parts (P x) (list_all P levels) all in
-    elim (cases_Bool (eqb x q)) [
-      | inl same ↦ subst (λ y. P y ≡ true) (eqb-true x q same) both.0
-      | inr other ↦ at_level levels P q both.1 (ap (λ b. b || list_any (λ x. eqb x q) levels) (sym other) ∙ among)
-    ]
-
 abbrev levels : List ℕ
 levels = 2 ∷ 3 ∷ 4 ∷ 5 ∷ 7 ∷ 8 ∷ 9 ∷ []
-
-pub order_of : (q : ℕ) → is_level q ≡ true → IsTrue (is_order q)
-order_of q h = at_level levels is_order q refl h
-
-some_size : (q : ℕ) → is_level q ≡ true → 1 ≤ greatest q
-some_size q h = leb-true 1 (greatest q) (at_level levels (λ q. nat_le 1 (greatest q)) q refl h)
 
 -- What goes together
 
@@ -84,11 +69,6 @@ none_of true b c e = absurd (cc e)
 none_of false true c e = absurd (cc e)
 none_of false false true e = absurd (cc e)
 
-neither : (a b : Bool) → (a || b) ≡ false → (a ≡ false) × (b ≡ false)
-neither false false e = (refl, refl)
-neither true b e = absurd (cc e)
-neither false true e = absurd (cc e)
-
 -- the block factors do not hang on the number of the question, but for the most blocks
 same_blocks : (b : Blocks) (m n k : ℕ) → has_most b ≡ false → block_factors b m n ≡ block_factors b m k
 same_blocks blocks.Without m n k e = refl
@@ -99,12 +79,6 @@ same_blocks blocks.Most m n k e = absurd (cc e)
 runs_again : (size : Size) (n : ℕ) → run_factors size n ≡ run_factors size (run_factors size n)
 runs_again (Runs m) n = refl
 runs_again Minimum n = refl
-
-blocks_again : (b : Blocks) (m n : ℕ) → block_factors b m n ≡ block_factors b m (block_factors b m n)
-blocks_again blocks.Without m n = refl
-blocks_again (blocks.Factors t) m n = refl
-blocks_again (blocks.PerBlock k) m n = refl
-blocks_again blocks.Most m n = refl
 
 -- the highest resolution is wanted or not
 highest_or : (goal : Goal) → (goal ≡ Highest) ⊎ ((least : Bool) (n : ℕ) → requirement_for least goal n ≡ required goal)
@@ -198,8 +172,8 @@ module _ (step : Meaning) (valid : IsValidStep step) where
       × (has_most step.settings.blocks ≡ false)
   with_least_size e =
       let none = not_both (is_minimum step.settings.size) _ (and_parts _ _ together).1 (ap is_minimum e) in
-      let first = neither _ _ none in
-      let second = neither _ _ first.0 in
+      let first = or_parts _ _ none in
+      let second = or_parts _ _ first.0 in
       (second.0, second.1, first.1)
 
   -- where the highest resolution is wanted there are no blocks, and the size is fixed
@@ -209,11 +183,7 @@ module _ (step : Meaning) (valid : IsValidStep step) where
   highest_unblocked : step.goal ≡ Highest → step.settings.blocks ≡ blocks.Without
   highest_unblocked e =
       unblocked step.settings.blocks
-      (no_blocks (or_right' step.settings.least (is_highest step.settings.criterion) (highest_kind e)))
-    where
-      or_right' : (a b : Bool) → b ≡ true → (a || b) ≡ true
-      or_right' true b h = refl
-      or_right' false b h = h
+      (no_blocks (or_right step.settings.least (is_highest step.settings.criterion) (highest_kind e)))
 
   highest_fixed : step.goal ≡ Highest → step.settings.size ≡ Minimum → ⊥
   highest_fixed e least = both_ways _ (with_least_size least).0 (highest_kind e)

@@ -10,26 +10,15 @@ use Rattle.fx_designs.specs.Answers.{answer}
 use Rattle.fx_vectors.specs.declared.book.NamedBook.{NamedBook}
 use Rattle.fx_statements.specs.Steps.{Meaning}
 use Rattle.fx_statements.specs.Questions.{Found, Turn, asked, concluded, conclusion_by, conclusion_of, cut_short}
-use Rattle.fx_statements.specs.Questions.{found_by, last_found, last_of, left_at, nodes_of, outcome_of, passes}
+use Rattle.fx_statements.specs.Questions.{last_found, last_of, left_at, nodes_of, outcome_of, passes}
 use Rattle.fx_statements.specs.Questions.{questions_of, turns}
-use Rattle.fx_statements.proofs.Concluded.{some_stays}
+use Rattle.fx_statements.proofs.Concluded.{no_answers}
 use Rattle.fx_book.specs.QuestionBooks.{book_for, has_book}
 use Rattle.fx_answer.specs.Books.{book_at, books_from, books_of, finished, finished_before}
 use Rattle.fx_program.specs.Files.{book_file, book_files}
 use Rattle.fx_program.specs.Output.{step_output}
 use Rattle.fx_program_laws.specs.BookClaims.{HasABookForEach}
 use Rattle.fx_program.specs.Statuses.{status_of}
-
--- nothing was found, so no question has an answer
-none_by : (p : Problem) (ps : List Problem) (own : Option (List ℕ)) → answer p ≡ own
-    → (last_found None ps ≡ None → AllByRecursion (λ p. answer p ≡ None) ps)
-    → last_found (found_by None p own) ps ≡ None → (answer p ≡ None) × AllByRecursion (λ p. answer p ≡ None) ps
-none_by p ps None is later e = (is, later e)
-none_by p ps (Some rows) is later e = absurd (some_stays (record { question = p; rows = rows }) ps e)
-
-none_answered : (ps : List Problem) → last_found None ps ≡ None → AllByRecursion (λ p. answer p ≡ None) ps
-none_answered [] e = tt
-none_answered (p ∷ ps) e = none_by p ps (answer p) refl (none_answered ps) e
 
 -- a book of its own for each of them
 own_book : (number : ℕ) (p : Problem) → answer p ≡ None
@@ -94,7 +83,7 @@ module _ (step : Meaning) where
   booked seed number one k p at =
       let end = ended one in
       let is : books_of step ≡ books_from 1 ps = ap (books_from 1) end.1 in
-      let there = among number 1 k ps p (none_answered ps end.0) at in
+      let there = among number 1 k ps p (no_answers ps end.0) at in
       let own : Contains (book_files number (books_of step)) (book_file number (named number (k + 1) p)) =
       subst (λ l. Contains (map (book_file number) l) (book_file number (named number (k + 1) p))) (sym is)
       (subst (λ i. Contains (map (book_file number) (books_from 1 ps)) (book_file number (named number i p)))
