@@ -8,6 +8,8 @@ use Rattle.std.proofs.lemmas.List.Sums.{sum_by-cons}
 use Rattle.std.proofs.lemmas.List.Concat.{length-flat_map}
 use Rattle.std.proofs.lemmas.List.FromFn.{length-range_with_len}
 use Rattle.std.proofs.lemmas.Grind.{flat_map-append}
+use Rattle.fx_base.proofs.Lists.{each-append, each-map, each-all}
+use Rattle.fx_base.proofs.Ranges.{range_push}
 use Rattle.fx_designs.specs.Components.{choose, component_count, listed_count}
 use Rattle.fx_designs.specs.Components.{supports, codes_before, normal_vectors, components}
 
@@ -25,10 +27,6 @@ sum_same g n (x ∷ xs) h =
   where
     more : (l n : ℕ) → n + l * n ≡ suc l * n
     more l n = grind arith
-
-each : {X : Type 0} (P : X → Type 0) (xs : List X) → ((x : X) → P x) → AllByRecursion P xs
-each P [] h = tt
-each P (x ∷ xs) h = (h x, each P xs h)
 
 pub any_true : (b : List Bool) → list_any (λ x. x) b ≡ true → 0 < trues b
 any_true [] e = absurd (search rules)
@@ -61,7 +59,7 @@ length-normal q (false ∷ b) = length-map (normal_vectors q b) (λ v. 0 ∷ v) 
 length-normal q (true ∷ b) =
     length-flat_map (λ v. map (λ c. c ∷ v) (codes_before q b)) (normal_vectors q b)
     ∙ sum_same (λ v. length (map (λ c. c ∷ v) (codes_before q b))) (length (codes_before q b)) (normal_vectors q b)
-    (each (λ v. length (map (λ c. c ∷ v) (codes_before q b)) ≡ length (codes_before q b)) (normal_vectors q b)
+    (each-all (λ v. length (map (λ c. c ∷ v) (codes_before q b)) ≡ length (codes_before q b)) (normal_vectors q b)
     (λ v. length-map (codes_before q b) (λ c. c ∷ v)))
     ∙ times_codes q b (length (normal_vectors q b)) (length-normal q b) (list_any (λ x. x) b) refl
 
@@ -78,16 +76,6 @@ length-supports (suc k) (suc s) =
     ∙ ap₂ (λ (a b : ℕ). a + b) (length-map (supports k s) (λ set. true ∷ set) ∙ length-supports k s)
     (length-map (supports (suc k) s) (λ set. false ∷ set) ∙ length-supports (suc k) s)
 
-both : {X : Type 0} (P : X → Type 0) (xs ys : List X) → AllByRecursion P xs → AllByRecursion P ys
-    → AllByRecursion P (xs ++ ys)
-both P [] ys h k = k
-both P (x ∷ xs) ys h k = (h.0, both P xs ys h.1 k)
-
-mapped : {X Y : Type 0} (P : Y → Type 0) (g : X → Y) (xs : List X) → AllByRecursion (λ x. P (g x)) xs
-    → AllByRecursion P (map g xs)
-mapped P g [] h = tt
-mapped P g (x ∷ xs) h = (h.0, mapped P g xs h.1)
-
 less : {X : Type 0} (g : X → ℕ) (n : ℕ) (xs : List X) → AllByRecursion (λ x. g x ≡ n) xs
     → AllByRecursion (λ x. suc (g x) ≡ suc n) xs
 less g n [] h = tt
@@ -97,11 +85,12 @@ less g n (x ∷ xs) h = (ap suc h.0, less g n xs h.1)
 pub all_of : (k s : ℕ) → AllByRecursion (λ b. trues b ≡ k) (supports k s)
 all_of zero zero = (refl, tt)
 all_of (suc k) zero = tt
-all_of zero (suc s) = mapped (λ b. trues b ≡ 0) (λ set. false ∷ set) (supports zero s) (all_of zero s)
+all_of zero (suc s) = each-map (λ b. trues b ≡ 0) (λ set. false ∷ set) (supports zero s) (all_of zero s)
 all_of (suc k) (suc s) =
-    both (λ b. trues b ≡ suc k) (map (λ set. true ∷ set) (supports k s)) (map (λ set. false ∷ set) (supports (suc k) s))
-    (mapped (λ b. trues b ≡ suc k) (λ set. true ∷ set) (supports k s) (less trues k (supports k s) (all_of k s)))
-    (mapped (λ b. trues b ≡ suc k) (λ set. false ∷ set) (supports (suc k) s) (all_of (suc k) s))
+    each-append (λ b. trues b ≡ suc k) (map (λ set. true ∷ set) (supports k s))
+    (map (λ set. false ∷ set) (supports (suc k) s))
+    (each-map (λ b. trues b ≡ suc k) (λ set. true ∷ set) (supports k s) (less trues k (supports k s) (all_of k s)))
+    (each-map (λ b. trues b ≡ suc k) (λ set. false ∷ set) (supports (suc k) s) (all_of (suc k) s))
 
 lengths_of : (q k : ℕ) (sets : List (List Bool)) → AllByRecursion (λ b. trues b ≡ k) sets
     → AllByRecursion (λ b. length (normal_vectors q b) ≡ (q - 1) ^ (k - 1)) sets
@@ -115,13 +104,6 @@ length-of q s k =
     (lengths_of q k (supports k s) (all_of k s))
     ∙ ap (λ (n : ℕ). n * (q - 1) ^ (k - 1)) (length-supports k s)
 
-range_more : (a n : ℕ) → range_with_len a (n + 1) ≡ range_with_len a n ++ (a + n) ∷ []
-range_more a zero = ap (λ (x : ℕ). x ∷ []) (omega arith)
-range_more a (suc n) =
-    let e : suc n + 1 ≡ suc (n + 1) = omega arith in
-    rw e (ap (λ (l : List ℕ). a ∷ l)
-    (range_more (a + 1) n ∙ ap (λ (x : ℕ). range_with_len (a + 1) n ++ x ∷ []) (omega arith)))
-
 -- as many as the rule on listings counts
 pub length-components : (q s d : ℕ) → length (components q s d) ≡ listed_count q s d
 length-components q s zero = refl
@@ -130,7 +112,7 @@ length-components q s (suc d) =
     let e : suc d ≡ d + 1 = omega arith in
     ap (λ (n : ℕ). length (flat_map of (range_with_len 0 n))) e
     ∙ ap (λ (l : List ℕ). length (flat_map of l))
-    (range_more 0 d ∙ ap (λ (x : ℕ). range_with_len 0 d ++ x ∷ []) (omega arith))
+    (range_push 0 d d (omega arith))
     ∙ ap length (flat_map-append of (range_with_len 0 d) (d ∷ []))
     ∙ length-append (flat_map of (range_with_len 0 d)) (of d ++ [])
     ∙ ap₂ (λ (a b : ℕ). a + b) (length-components q s d)

@@ -1,43 +1,10 @@
 -- Places in classes, and the lines of classes.
-use Rattle.std.proofs.Common.{ℕ, ◌≡◌, ◌<◌, ◌||◌, Bool, true, false, cond, eqb, List, [], ◌∷◌, ◌++◌, ◌+◌, length, map}
-use Rattle.std.proofs.Common.{filter, take, get_or, refl, sym, subst, ◌∙◌, ap, arith, All, append_assoc, append-nil}
-use Rattle.std.specs.List.{list_any, range_with_len, AllByRecursion, flat_map}
+use Rattle.std.proofs.Common.{ℕ, ◌≡◌, ◌<◌, Bool, true, false, cond, List, [], ◌∷◌, ◌++◌, ◌+◌, length, map}
+use Rattle.std.proofs.Common.{filter, take, get_or, refl, sym, ◌∙◌, ap, append_assoc, append-nil}
+use Rattle.std.specs.List.{flat_map}
 use Rattle.std.proofs.lemmas.List.{map-append, take_more}
-use Rattle.std.proofs.lemmas.List.Elements.{All-filter, All-from_recursion, filter-append}
-use Rattle.std.proofs.lemmas.List.FromFn.{length-range_with_len, get_or-range_with_len}
+use Rattle.std.proofs.lemmas.List.Elements.{filter-append}
 use Rattle.std.proofs.lemmas.Grind.{flat_map-append}
-use Rattle.fx_alias.specs.Classes.{numbered_behind}
-
-join : {X : Type 0} (P : X → Type 0) (xs ys : List X) → AllByRecursion P xs → AllByRecursion P ys
-    → AllByRecursion P (xs ++ ys)
-join P [] ys h k = k
-join P (x ∷ xs) ys h k = (h.0, join P xs ys h.1 k)
-
-one_or_none : {X : Type 0} (P : X → Type 0) (b : Bool) (x : X) → P x → AllByRecursion P (cond b [] (x ∷ []))
-one_or_none P true x h = tt
-one_or_none P false x h = (h, tt)
-
-members : {X : Type 0} (P : X → Type 0) (number : X → ℕ) (items before rest : List X) → All P items
-    → AllByRecursion (All P) (numbered_behind number items before rest)
-members P number items before [] h = tt
-members P number items before (u ∷ rest) h =
-    join (All P) _ (numbered_behind number items (before ++ u ∷ []) rest)
-    (one_or_none (All P) (eqb (number u) 0 || list_any (λ v. eqb (number u) (number v)) before)
-    (filter (λ v. eqb (number u) (number v)) items) (All-filter (λ v. eqb (number u) (number v)) P items h))
-    (members P number items (before ++ u ∷ []) rest h)
-
--- the places are below their number
-pub range_low : (n : ℕ) → All (λ k. k < n) (range_with_len 0 n)
-range_low n k d low =
-    let there : k < n = omega (arith, length-range_with_len 0 n) in
-    subst (λ (x : ℕ). x < n) (sym (get_or-range_with_len 0 n k d there)) (omega arith)
-
--- each place in a class is one of the places
-pub members_there : (number : ℕ → ℕ) (n : ℕ)
-    → All (All (λ i. i < n)) (numbered_behind number (range_with_len 0 n) [] (range_with_len 0 n))
-members_there number n =
-    All-from_recursion (All (λ i. i < n)) _
-    (members (λ i. i < n) number (range_with_len 0 n) [] (range_with_len 0 n) (range_low n))
 
 -- the line of one more class, where there is one
 pub next_line : (line : List (List ℕ) → List ℕ) (at : List ℕ → List (List ℕ)) (start done now : List ℕ)

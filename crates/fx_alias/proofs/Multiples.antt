@@ -22,6 +22,7 @@ use Rattle.fx_laws.proofs.Scalings.{mul-positive}
 use Rattle.fx_laws.proofs.Forms.{inv-positive, last-code, scale-one}
 use Rattle.fx_reduction.proofs.Cancelling.{negated_twice, cancelled}
 use Rattle.fx_designs.specs.Aliases.{is_aliased}
+use Rattle.fx_laws.proofs.Weights.{last_nonzero-zeros}
 use Rattle.fx_alias.specs.Classes.{IsMultiple, class_number}
 
 module _ (q : ℕ) (f : IsField q) where
@@ -175,10 +176,6 @@ module _ (q : ℕ) (f : IsField q) where
   scale-zeros c zero = refl
   scale-zeros c (suc n) = ap₂ (λ (x : ℕ) (w : List ℕ). x ∷ w) (f.mul_zero c) (scale-zeros c n)
 
-  last-zeros : (n : ℕ) → last_nonzero (zeros n) ≡ 0
-  last-zeros zero = refl
-  last-zeros (suc n) = rw (last-zeros n) refl
-
   pub zero_number : (m : ℕ) → class_number q (zeros m) ≡ 0
   unfolding class_number
   zero_number m = ap (number q) (scale-zeros (inv q (last_nonzero (zeros m))) m) ∙ number-zeros q m
@@ -199,7 +196,8 @@ module _ (q : ℕ) (f : IsField q) where
 
   -- no multiple of zeros is another
   pub multiple_of_zeros : (m : ℕ) (s t : List ℕ) → IsMultiple q s t → t ≡ zeros m → last_nonzero s ≡ 0
-  multiple_of_zeros m s t h e = ap last_nonzero (h.is ∙ ap (scale q h.factor) e ∙ scale-zeros h.factor m) ∙ last-zeros m
+  multiple_of_zeros m s t h e =
+      ap last_nonzero (h.is ∙ ap (scale q h.factor) e ∙ scale-zeros h.factor m) ∙ last_nonzero-zeros m
 
   -- a vector without nonzero codes has the class number 0
   pub weightless_number : (m : ℕ) (s : List ℕ) → IsVector q m s → weight s ≡ 0 → class_number q s ≡ 0

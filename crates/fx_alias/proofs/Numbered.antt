@@ -2,20 +2,14 @@
 use Rattle.std.proofs.Common.{ℕ, ◌≡◌, ◌||◌, Bool, true, false, cond, eqb, List, [], ◌∷◌, ◌++◌, filter, refl, sym, ◌∙◌}
 use Rattle.std.proofs.Common.{ap₂}
 use Rattle.std.specs.List.{list_any}
+use Rattle.std.proofs.lemmas.List.Elements.{filter_agree}
+use Rattle.fx_base.proofs.Lists.{list_any_agree}
 use Rattle.fx_designs.specs.Galois.{IsField}
 use Rattle.fx_designs.specs.Vectors.{combination, vectors_of}
 use Rattle.fx_designs.specs.Runs.{is_constant, runs_of}
 use Rattle.fx_designs.specs.Aliases.{is_aliased}
 use Rattle.fx_alias.specs.Classes.{class_number, constants, classes, classes_behind, class_of, numbered_behind}
 use Rattle.fx_alias.proofs.ClassNumbers.{constant_number, aliased_number}
-
-pub filter_same : {X : Type 0} (p r : X → Bool) (xs : List X) → ((x : X) → p x ≡ r x) → filter p xs ≡ filter r xs
-filter_same p r [] h = refl
-filter_same {X} p r (x ∷ xs) h = ap₂ (λ (b : Bool) (l : List X). cond b (x ∷ l) l) (h x) (filter_same p r xs h)
-
-pub any_same : {X : Type 0} (p r : X → Bool) (xs : List X) → ((x : X) → p x ≡ r x) → list_any p xs ≡ list_any r xs
-any_same p r [] h = refl
-any_same p r (x ∷ xs) h = ap₂ (λ (a b : Bool). a || b) (h x) (any_same p r xs h)
 
 abbrev unless : Bool → List (List ℕ) → List (List (List ℕ))
 unless b class = cond b [] (class ∷ [])
@@ -29,7 +23,7 @@ module _ (q : ℕ) (f : IsField q) (m : ℕ) (rows : List ℕ) (components : Lis
 
   pub constants_by_number : constants q runs components ≡ filter (λ u. eqb (number_of u) 0) components
   constants_by_number =
-      filter_same (λ u. is_constant q u runs) (λ u. eqb (number_of u) 0) components (λ u. constant_number q f m rows u)
+      filter_agree (λ u. is_constant q u runs) (λ u. eqb (number_of u) 0) (λ u. constant_number q f m rows u) components
 
   one : (before : List (List ℕ)) (u : List ℕ) (b : Bool) → is_constant q u runs ≡ b
       → unless (is_constant q u runs || list_any (λ v. is_aliased q runs u v) before) (class_of q runs components u)
@@ -43,8 +37,8 @@ module _ (q : ℕ) (f : IsField q) (m : ℕ) (rows : List ℕ) (components : Lis
       let same : (v : List ℕ) → is_aliased q runs u v ≡ eqb (number_of u) (number_of v) =
       λ v. aliased_number q f m rows u v e in
       rw (e, some) (ap₂ unless
-      (any_same (λ v. is_aliased q runs u v) (λ v. eqb (number_of u) (number_of v)) before same)
-      (filter_same (λ v. is_aliased q runs u v) (λ v. eqb (number_of u) (number_of v)) components same))
+      (list_any_agree (λ v. is_aliased q runs u v) (λ v. eqb (number_of u) (number_of v)) same before)
+      (filter_agree (λ v. is_aliased q runs u v) (λ v. eqb (number_of u) (number_of v)) same components))
 
   behind : (before rest : List (List ℕ))
       → classes_behind q runs components before rest ≡ numbered_behind number_of components before rest

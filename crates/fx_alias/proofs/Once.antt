@@ -6,6 +6,7 @@ use Rattle.std.proofs.lemmas.Bool.{eq-eqb, cases_eq, ne_eqb}
 use Rattle.std.proofs.lemmas.List.Sums.{sum_by-cons, sum_by-append}
 use Rattle.std.proofs.lemmas.List.Folds.{list_any-append, list_any_at}
 use Rattle.std.proofs.lemmas.List.Elements.{recursion_from_All}
+use mathlib.Core.Bool.{or-false}
 use Rattle.fx_laws.proofs.Blocks.{sum_by-filter}
 use Rattle.fx_laws.proofs.Sums.{sum_by-ext, sum_by-plus, sum_by-zero}
 use Rattle.fx_alias.specs.Classes.{numbered_behind}
@@ -36,11 +37,7 @@ module _ {X : Type 0} (number : X → ℕ) (items : List X) (f : X → ℕ) wher
   one_more : (before : List X) (u : X) (k : ℕ) → has (before ++ u ∷ []) k ≡ (has before k || eqb k (number u))
   one_more before u k =
       list_any-append (λ w. eqb k (number w)) before (u ∷ []) ∙ ap (λ (b : Bool). has before k || b)
-      (or_false (eqb k (number u)))
-    where
-      or_false : (b : Bool) → (b || false) ≡ b
-      or_false true = refl
-      or_false false = refl
+      (or-false (eqb k (number u)))
 
   found : (u v : X) (before : List X)
       → cond (eqb (number u) 0 || has before (number u)) 0 (cond (eqb (number u) (number v)) (f v) 0)

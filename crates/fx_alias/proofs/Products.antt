@@ -1,17 +1,8 @@
 -- The ends of products and of listings.
-use Rattle.std.proofs.Common.{ℕ, ◌≡◌, ◌<◌, ◌≤◌, zero, suc, List, [], ◌∷◌, ◌++◌, map, length, drop, get_or, refl, ap}
+use Rattle.std.proofs.Common.{ℕ, ◌≡◌, ◌<◌, zero, suc, List, [], ◌∷◌, ◌++◌, map, length, drop, get_or, refl, ap}
 use Rattle.std.proofs.Common.{◌∙◌, append_assoc, arith}
 use Rattle.std.specs.Prelude.{◌==◌, if◌then◌else◌}
-use Rattle.std.proofs.lemmas.List.{drop_all}
 use Rattle.fx_alias.specs.Products.{term, terms}
-
-no_entry : (names : List (List ℕ)) → terms names [] ≡ []
-no_entry [] = refl
-no_entry (n ∷ names) = refl
-
--- no term comes after the last entry
-pub no_terms : (names : List (List ℕ)) (u : List ℕ) (i : ℕ) → length u ≤ i → terms (drop i names) (drop i u) ≡ []
-no_terms names u i h = ap (terms (drop i names)) (drop_all i u h) ∙ no_entry (drop i names)
 
 -- one piece after another
 pub behind : (old first now piece all : List ℕ) → now ≡ old ++ first → first ++ piece ≡ all → now ++ piece ≡ old ++ all

@@ -9,7 +9,9 @@ use Rattle.fx_designs.specs.Galois.{number}
 use Rattle.fx_designs.specs.Vectors.{weight}
 use Rattle.fx_designs.specs.Components.{supports, codes_before, normal_vectors, components}
 use Rattle.fx_alias.specs.ComponentOrder.{is_before, is_first_set, support_of, IsRising}
-use Rattle.fx_alias.proofs.Enumerating.{any_kept, codes-below, flat, join, mapped}
+use Rattle.fx_base.proofs.Lists.{each-all, each-append}
+use Rattle.fx_base.proofs.Ranges.{each-range}
+use Rattle.fx_alias.proofs.Enumerating.{codes-below, flat, mapped}
 use Rattle.fx_alias.proofs.Lengths.{all_of, trues}
 
 module _ {X : Type 0} (first : X → X → Bool) where
@@ -23,11 +25,11 @@ module _ {X : Type 0} (first : X → X → Bool) where
 
   across-append : (xs ys zs : List X) → Across xs ys → Across xs zs → Across xs (ys ++ zs)
   across-append [] ys zs h k = tt
-  across-append (x ∷ xs) ys zs h k = (join _ ys zs h.0 k.0, across-append xs ys zs h.1 k.1)
+  across-append (x ∷ xs) ys zs h k = (each-append _ ys zs h.0 k.0, across-append xs ys zs h.1 k.1)
 
   rising-append : (xs ys : List X) → IsRising first xs → IsRising first ys → Across xs ys → IsRising first (xs ++ ys)
   rising-append [] ys hx hy h = hy
-  rising-append (x ∷ xs) ys hx hy h = (join _ xs ys hx.0 h.0, rising-append xs ys hx.1 hy h.1)
+  rising-append (x ∷ xs) ys hx hy h = (each-append _ xs ys hx.0 h.0, rising-append xs ys hx.1 hy h.1)
 
   module _ {Y : Type 0} (order : Y → Y → Bool) (Q : Y → Type 0) where
     rising-map : (f : Y → X) → ((y z : Y) → Q y → Q z → order y z ≡ true → first (f y) (f z) ≡ true)
@@ -77,13 +79,13 @@ rising-sets zero zero = (tt, tt)
 rising-sets (suc k) zero = tt
 rising-sets zero (suc s) =
     rising-map is_first_set is_first_set (λ set. Unit {0}) (λ set. false ∷ set) (λ a b ha hb h. h) (supports zero s)
-    (any_kept (supports zero s)) (rising-sets zero s)
+    (each-all (λ x. Unit {0}) (supports zero s) (λ x. tt)) (rising-sets zero s)
 rising-sets (suc k) (suc s) =
     rising-append is_first_set (map (λ set. true ∷ set) (supports k s)) (map (λ set. false ∷ set) (supports (suc k) s))
     (rising-map is_first_set is_first_set (λ set. Unit {0}) (λ set. true ∷ set) (λ a b ha hb h. h) (supports k s)
-    (any_kept (supports k s)) (rising-sets k s))
+    (each-all (λ x. Unit {0}) (supports k s) (λ x. tt)) (rising-sets k s))
     (rising-map is_first_set is_first_set (λ set. Unit {0}) (λ set. false ∷ set) (λ a b ha hb h. h) (supports (suc k) s)
-    (any_kept (supports (suc k) s)) (rising-sets (suc k) s))
+    (each-all (λ x. Unit {0}) (supports (suc k) s) (λ x. tt)) (rising-sets (suc k) s))
     (heads (supports k s) (supports (suc k) s))
   where
     head : (a : List Bool) (bs : List (List Bool))
@@ -141,7 +143,7 @@ module _ (q : ℕ) (some : 2 ≤ q) where
   numbers-rise (false ∷ later) =
       rising-map by_number by_number (λ v. Unit {0}) (λ v. 0 ∷ v)
       (λ u v hu hv h. lt-ltb _ _ (further 0 0 (number q u) (number q v) (omega (arith, some)) (ltb-true _ _ h)))
-      (normal_vectors q later) (any_kept (normal_vectors q later)) (numbers-rise later)
+      (normal_vectors q later) (each-all (λ x. Unit {0}) (normal_vectors q later) (λ x. tt)) (numbers-rise later)
   numbers-rise (true ∷ later) =
       let codes = codes_before q later in
       let low = codes-below q later some in
@@ -156,17 +158,13 @@ module _ (q : ℕ) (some : 2 ≤ q) where
       (map (λ c. c ∷ u) codes) (map (λ c. c ∷ v) codes)
       (mapped _ (λ c. c < q) (λ c. c ∷ u) (λ c hc. (c, hc, refl)) codes low)
       (mapped _ (λ c. c < q) (λ c. c ∷ v) (λ c hc. (c, refl)) codes low))
-      (normal_vectors q later) (any_kept (normal_vectors q later)) (numbers-rise later)
+      (normal_vectors q later) (each-all (λ x. Unit {0}) (normal_vectors q later) (λ x. tt)) (numbers-rise later)
 
   codes-positive : (later : List Bool) → AllByRecursion (λ c. ltb 0 c ≡ true) (codes_before q later)
   codes-positive later = by_test (list_any (λ b. b) later)
     where
-      positive : (a n : ℕ) → 0 < a → AllByRecursion (λ c. ltb 0 c ≡ true) (range_with_len a n)
-      positive a zero h = tt
-      positive a (suc n) h = (lt-ltb 0 a h, positive (a + 1) n (omega arith))
-
       by_test : (b : Bool) → AllByRecursion (λ c. ltb 0 c ≡ true) (cond b (range_with_len 1 (q - 1)) (1 ∷ []))
-      by_test true = positive 1 (q - 1) (omega arith)
+      by_test true = each-range (λ c. ltb 0 c ≡ true) 1 (q - 1) (λ c low high. lt-ltb 0 c (omega (arith, low)))
       by_test false = (refl, tt)
 
   supports-are : (set : List Bool) → AllByRecursion (λ v. support_of v ≡ set) (normal_vectors q set)
@@ -229,4 +227,4 @@ module _ (q : ℕ) (some : 2 ≤ q) where
       (lt-ltb (weight u) (weight v) (omega (arith, hu, hv, ltb-true j k h))))
       (flat_map (normal_vectors q) (supports (j + 1) s)) (flat_map (normal_vectors q) (supports (k + 1) s))
       (weights-are (j + 1) s) (weights-are (k + 1) s))
-      (range_with_len 0 d) (any_kept (range_with_len 0 d)) (rising-range 0 d)
+      (range_with_len 0 d) (each-all (λ x. Unit {0}) (range_with_len 0 d) (λ x. tt)) (rising-range 0 d)

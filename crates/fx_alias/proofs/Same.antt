@@ -1,17 +1,17 @@
 -- Classes by numbers that are the same.
-use Rattle.std.proofs.Common.{ℕ, zero, suc, ◌≡◌, ◌≤◌, ◌<◌, ◌+◌, ◌||◌, Bool, true, false, cond, eqb, not, List, [], ◌∷◌}
+use Rattle.std.proofs.Common.{ℕ, ◌≡◌, ◌<◌, ◌+◌, ◌||◌, Bool, cond, eqb, not, List, [], ◌∷◌}
 use Rattle.std.proofs.Common.{◌++◌, length, map, filter, get_or, refl, sym, ◌∙◌, ap, ap₂, arith, ext_get_or}
 use Rattle.std.specs.List.{list_any, range_with_len, AllByRecursion}
-use Rattle.std.proofs.lemmas.Bool.Decides.{nat_tests}
 use Rattle.std.proofs.lemmas.Bool.{eq-eqb}
 use Rattle.std.proofs.lemmas.List.{get_or-map}
 use Rattle.std.proofs.lemmas.List.FromFn.{length-map-range_with_len, get_or-map-range_with_len}
+use Rattle.std.proofs.lemmas.List.Elements.{filter_agree}
+use mathlib.Core.Bool.{not-not}
+use Rattle.fx_base.proofs.Numbers.{eqb_comm}
+use Rattle.fx_base.proofs.Lists.{filter_agree_each, list_any_agree}
+use Rattle.fx_base.proofs.Ranges.{each-range}
 use Rattle.fx_alias.specs.Classes.{numbered_behind}
 use Rattle.fx_alias.proofs.Walk.{is_first, added, filter_mapped, numbered_mapped}
-use Rattle.fx_alias.proofs.Numbered.{filter_same, any_same}
-
-same_test : (a b : ℕ) → eqb a b ≡ eqb b a
-same_test a b = grind (arith, nat_tests)
 
 -- what a place adds, told by the group of its number
 pub added_first : (number : ℕ → ℕ) (n i : ℕ) (group : List ℕ) → i < n
@@ -21,19 +21,11 @@ pub added_first : (number : ℕ → ℕ) (n i : ℕ) (group : List ℕ) → i < 
 added_first number n i group low is =
     let p : ℕ → Bool = λ j. eqb (number j) (number i) in
     let first = ap (λ (l : List ℕ). eqb (get_or l 0 0) i) is ∙ is_first p n i low (eq-eqb (number i) (number i) refl) in
-    let twice : (b : Bool) → not (not b) ≡ b = not_not in
+    let twice : (b : Bool) → not (not b) ≡ b = not-not in
     ap₂ (λ (b : Bool) (l : List ℕ). cond (eqb (number i) 0 || b) [] (l ∷ []))
-    (ap not first ∙ twice (list_any p (range_with_len 0 i)) ∙ any_same p (λ v. eqb (number i) (number v))
-    (range_with_len 0 i) (λ v. same_test (number v) (number i)))
-    (is ∙ filter_same p (λ v. eqb (number i) (number v)) (range_with_len 0 n) (λ v. same_test (number v) (number i)))
-  where
-    not_not : (b : Bool) → not (not b) ≡ b
-    not_not true = refl
-    not_not false = refl
-
-filter_each : (p r : ℕ → Bool) (xs : List ℕ) → AllByRecursion (λ x. p x ≡ r x) xs → filter p xs ≡ filter r xs
-filter_each p r [] h = refl
-filter_each p r (x ∷ xs) h = ap₂ (λ (b : Bool) (l : List ℕ). cond b (x ∷ l) l) h.0 (filter_each p r xs h.1)
+    (ap not first ∙ twice (list_any p (range_with_len 0 i)) ∙ list_any_agree p (λ v. eqb (number i) (number v))
+    (λ v. eqb_comm (number v) (number i)) (range_with_len 0 i))
+    (is ∙ filter_agree p (λ v. eqb (number i) (number v)) (λ v. eqb_comm (number v) (number i)) (range_with_len 0 n))
 
 any_each : (p r : ℕ → Bool) (xs : List ℕ) → AllByRecursion (λ x. p x ≡ r x) xs → list_any p xs ≡ list_any r xs
 any_each p r [] h = refl
@@ -60,13 +52,8 @@ module _ (f g : ℕ → ℕ) where
       (ap₂ (λ (b : Bool) (l : List ℕ). cond b [] (l ∷ []))
       (ap₂ (λ (a b : Bool). a || b) (ap (λ (z : ℕ). eqb z 0) r.0)
       (any_each (λ v. eqb (f x) (f v)) (λ v. eqb (g x) (g v)) before (tests (f x) (g x) before r.0 k)))
-      (filter_each (λ v. eqb (f x) (f v)) (λ v. eqb (g x) (g v)) items (tests (f x) (g x) items r.0 h)))
+      (filter_agree_each (λ v. eqb (f x) (f v)) (λ v. eqb (g x) (g v)) items (tests (f x) (g x) items r.0 h)))
       (numbered_same items (before ++ x ∷ []) rest h (snoc before x k r.0) r.1)
-
-range_each : (P : ℕ → Type 0) (a n : ℕ) → ((i : ℕ) → a ≤ i → i < a + n → P i) → AllByRecursion P (range_with_len a n)
-range_each P a zero h = tt
-range_each P a (suc n) h =
-    (h a (omega arith) (omega arith), range_each P (a + 1) n (λ i low high. h i (omega arith) (omega arith)))
 
 -- a list is what stands at its places
 pub at_all : (xs : List (List ℕ)) → map (λ i. get_or xs i []) (range_with_len 0 (length xs)) ≡ xs
@@ -78,7 +65,7 @@ at_all xs =
 same_at : (number : List ℕ → ℕ) (components : List (List ℕ)) (numbers : List ℕ) → numbers ≡ map number components
     → AllByRecursion (λ i. number (get_or components i []) ≡ get_or numbers i 0) (range_with_len 0 (length components))
 same_at number components numbers is =
-    range_each (λ i. number (get_or components i []) ≡ get_or numbers i 0) 0 (length components)
+    each-range (λ i. number (get_or components i []) ≡ get_or numbers i 0) 0 (length components)
     (λ i low high. sym (get_or-map number components i [] 0 (omega arith)) ∙ ap (λ (l : List ℕ). get_or l i 0) (sym is))
 
 -- the classes of components by the numbers at their places
@@ -111,7 +98,7 @@ zeros_at number components numbers is =
     let places : List ℕ = range_with_len 0 (length components) in
     let at : ℕ → List ℕ = λ i. get_or components i [] in
     ap (map at)
-    (filter_each (λ i. eqb (get_or numbers i 0) 0) (λ i. eqb (number (at i)) 0) places
+    (filter_agree_each (λ i. eqb (get_or numbers i 0) 0) (λ i. eqb (number (at i)) 0) places
     (zero_tests (λ i. number (at i)) (λ i. get_or numbers i 0) places (same_at number components numbers is)))
     ∙ sym (filter_mapped at number (λ u. eqb (number u) 0) places)
     ∙ ap (filter (λ u. eqb (number u) 0)) (at_all components)

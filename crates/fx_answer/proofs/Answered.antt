@@ -1,15 +1,16 @@
 -- What the answer of a question adds to what was found before.
 use Rattle.std.proofs.Common.{ℕ, ◌≡◌, ◌+◌, ◌&&◌, ◌||◌, Bool, true, false, length, filter, List, [], ◌∷◌, ◌++◌}
-use Rattle.std.proofs.Common.{slice_index_or, Option, Some, None, refl, sym, ap, ◌∙◌, subst, inl, inr, eqb-true}
+use Rattle.std.proofs.Common.{slice_index_or, Option, Some, None, refl, sym, ap, ◌∙◌, subst, eqb-true}
 use Rattle.std.specs.Prelude.{not}
-use Rattle.std.specs.List.{find, list_all}
+use Rattle.std.specs.List.{list_all}
 use Rattle.std.specs.Option.{option_or}
-use Rattle.std.proofs.lemmas.Bool.{cases_Bool, cond-true, cond-false, and_parts}
+use Rattle.std.proofs.lemmas.Bool.{cond-true, cond-false, and_parts}
 use Rattle.fx_designs.specs.Answers.{answer, designs, is_design, is_of_least_pattern, prefixes}
 use Rattle.fx_designs.specs.Patterns.{pattern_of, is_less}
 use Rattle.fx_designs.specs.Nodes.{nodes, is_complete_allowed}
 use Rattle.fx_designs.specs.Jobs.{best_of, best_before, carried, first_least, is_of_earlier_lot}
 use Rattle.fx_designs.specs.Problems.{Problem}
+use Rattle.fx_laws.proofs.Order.{found_in_filter}
 use Rattle.fx_vectors.specs.declared.shape.Shape.{Shape}
 use Rattle.fx_vectors.specs.declared.question.Question.{Question}
 use Rattle.fx_vectors.specs.Shape.{dimensions_of}
@@ -21,32 +22,13 @@ use Rattle.fx_statements.specs.Questions.{Found, found_by, last_found}
 use Rattle.fx_answer.specs.Standing.{IsOf, IsShapeOf, IsWhole, StandsFor}
 use Rattle.fx_answer.proofs.Asking.{found_more}
 
-same_some : {A : Type 0} (x y : A) → Some x ≡ Some y → x ≡ y
-same_some x y e = cc
-
--- what is found of those that pass a test passes it
-found-kept : (E D : List ℕ → Bool) (xs : List (List ℕ)) (r : List ℕ) → find E (filter D xs) ≡ Some r → D r ≡ true
-found-kept E D [] r h = absurd (cc h)
-found-kept E D (x ∷ xs) r h = elim (cases_Bool (D x)) [
-  | inl holds ↦
-      let kept : find E (x ∷ filter D xs) ≡ Some r =
-      ap (find E) (sym (cond-true (D x) (x ∷ filter D xs) (filter D xs) holds)) ∙ h in
-      elim (cases_Bool (E x)) [
-        | inl here ↦
-            subst (λ y. D y ≡ true) (same_some x r (sym (cond-true (E x) (Some x) (find E (filter D xs)) here) ∙ kept))
-            holds
-        | inr other ↦ found-kept E D xs r (sym (cond-false (E x) (Some x) (find E (filter D xs)) other) ∙ kept)
-      ]
-  | inr fails ↦ found-kept E D xs r (ap (find E) (sym (cond-false (D x) (x ∷ filter D xs) (filter D xs) fails)) ∙ h)
-]
-
 -- the answer has a row for each factor and for each block factor
 answer-whole : (p : Problem) (rows : List ℕ) → answer p ≡ Some rows → length rows ≡ p.dimensions.s + p.dimensions.t
 unfolding answer designs
 answer-whole p rows is =
     eqb-true _ _
     (and_parts _ _
-    (found-kept (λ rows. not p.least || is_of_least_pattern p rows) (is_design p) (prefixes p) rows is)).0
+    (found_in_filter (is_design p) (λ rows. not p.least || is_of_least_pattern p rows) (prefixes p) rows is)).0
 
 -- and so has the matrix that is left where the budget ended
 left-whole : (p : Problem) (b : Bool) → p.least ≡ b → (test : List ℕ → Bool) (rows : List ℕ)
@@ -57,9 +39,9 @@ left-whole p false e test rows is =
 left-whole p true e test rows is =
     let among = filter (λ matrix. is_complete_allowed p matrix && test matrix) (prefixes p) in
     let kept =
-    found-kept
-    (λ rows. list_all (λ other. not (is_less (pattern_of p.dimensions other) (pattern_of p.dimensions rows)))
-    among) (λ matrix. is_complete_allowed p matrix && test matrix) (prefixes p) rows
+    found_in_filter (λ matrix. is_complete_allowed p matrix && test matrix)
+    (λ rows. list_all (λ other. not (is_less (pattern_of p.dimensions other) (pattern_of p.dimensions rows))) among)
+    (prefixes p) rows
     (sym (cond-true p.least _ _ e) ∙ is) in
     eqb-true _ _ (and_parts _ _ (and_parts _ _ kept).0).0
 

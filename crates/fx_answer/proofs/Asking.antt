@@ -5,7 +5,6 @@ use Rattle.std.proofs.Common.{length-append, Some, lt-ltb, le-ltb, eqb, eqb-true
 use Rattle.std.specs.Prelude.{find}
 use Rattle.std.specs.List.{range_with_len}
 use Rattle.std.proofs.lemmas.Bool.{cases_Bool, cond-true, cond-false, cases_eq, or_right, or_from, false_from_ne_true}
-use Rattle.std.proofs.lemmas.List.Sums.{sum_by_push}
 use Rattle.fx_designs.specs.Problems.{Problem}
 use Rattle.fx_designs.specs.Answers.{answer}
 use Rattle.fx_designs.specs.Nodes.{nodes}
@@ -17,10 +16,6 @@ use Rattle.fx_vectors.specs.declared.book.NamedBook.{NamedBook}
 use Rattle.fx_answer.specs.Books.{book_at, books_from, books_of, finished}
 use Rattle.fx_answer.specs.Standing.{ComeBefore, all_books_from, conclusion_from, questions_above, value_after}
 use Rattle.fx_answer.specs.Standing.{value_from, value_past}
-
--- with one question more there are its nodes more
-pub nodes_more : (ps : List Problem) (p : Problem) → nodes_of (ps ++ p ∷ []) ≡ nodes_of ps + length (nodes p)
-nodes_more ps p = sum_by_push (λ p. length (nodes p)) ps p
 
 -- and its answer is the last, if it has one
 pub found_more : (earlier : Option Found) (ps : List Problem) (p : Problem)

@@ -102,8 +102,8 @@ module _ (step : Meaning) (valid : IsValidStep step) where
       × (has_most step.settings.blocks ≡ false)
   with_least_size e =
       let none = not_both (is_minimum step.settings.size) _ (and_parts _ _ together).1 (ap is_minimum e) in
-      let first = neither _ _ none in
-      let second = neither _ _ first.0 in
+      let first = or_parts _ _ none in
+      let second = or_parts _ _ first.0 in
       (second.0, second.1, first.1)
 
   -- where the highest resolution is wanted there are no blocks, and the size is fixed
@@ -113,11 +113,7 @@ module _ (step : Meaning) (valid : IsValidStep step) where
   highest_unblocked : step.goal ≡ Highest → step.settings.blocks ≡ blocks.Without
   highest_unblocked e =
       unblocked step.settings.blocks
-      (no_blocks (or_right' step.settings.least (is_highest step.settings.criterion) (highest_kind e)))
-    where
-      or_right' : (a b : Bool) → b ≡ true → (a || b) ≡ true
-      or_right' true b h = refl
-      or_right' false b h = h
+      (no_blocks (or_right step.settings.least (is_highest step.settings.criterion) (highest_kind e)))
 
   highest_fixed : step.goal ≡ Highest → step.settings.size ≡ Minimum → ⊥
   highest_fixed e least = both_ways _ (with_least_size least).0 (highest_kind e)

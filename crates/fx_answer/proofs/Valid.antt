@@ -36,7 +36,8 @@ use Rattle.fx_answer.specs.Standing.{IsShapeOf}
 use Rattle.fx_answer.specs.ValidSteps.{CanBeSought, IsOfKind, IsValidStep}
 
 -- what holds at each of some numbers of levels holds at one of them
-at_level : (levels : List ℕ) (P : ℕ → Bool) (q : ℕ) → list_all P levels ≡ true → list_any (λ x. eqb x q) levels ≡ true
+pub at_level : (levels : List ℕ) (P : ℕ → Bool) (q : ℕ) → list_all P levels ≡ true
+    → list_any (λ x. eqb x q) levels ≡ true
     → P q ≡ true
 at_level [] P q all among = absurd (both_ways _ refl among)
 at_level (x ∷ levels) P q all among =
@@ -50,20 +51,20 @@ abbrev levels : List ℕ
 levels = 2 ∷ 3 ∷ 4 ∷ 5 ∷ 7 ∷ 8 ∷ 9 ∷ []
 
 -- the levels that a step may have are the orders of fields, at least 2, and the runs of the greatest size at most 1,024
-order_of : (q : ℕ) → is_level q ≡ true → IsTrue (is_order q)
+pub order_of : (q : ℕ) → is_level q ≡ true → IsTrue (is_order q)
 order_of q h = at_level levels is_order q refl h
 
 most_runs : (q : ℕ) → is_level q ≡ true → q ^ greatest q ≤ 1024
 most_runs q h = leb-true (q ^ greatest q) 1024 (at_level levels (λ q. nat_le (q ^ greatest q) 1024) q refl h)
 
-one : (q : ℕ) → is_level q ≡ true → 1 ≤ greatest q
-one q h = leb-true 1 (greatest q) (at_level levels (λ q. nat_le 1 (greatest q)) q refl h)
+pub some_size : (q : ℕ) → is_level q ≡ true → 1 ≤ greatest q
+some_size q h = leb-true 1 (greatest q) (at_level levels (λ q. nat_le 1 (greatest q)) q refl h)
 
 power_up : (q i j : ℕ) → 2 ≤ q → i ≤ j → q ^ i ≤ q ^ j
 power_up q i j h le = pow-le-pow_right (omega (arith, h)) le
 
 -- as many block factors as 1,024 blocks have are at most ten
-few_factors : (q t : ℕ) → 2 ≤ q → q ^ t ≤ 1024 → t ≤ 10
+pub few_factors : (q t : ℕ) → 2 ≤ q → q ^ t ≤ 1024 → t ≤ 10
 few_factors q t h few = elim (cases_Bool (nat_le t 10)) [
   | inl le ↦ leb-true t 10 le
   | inr more ↦
@@ -312,11 +313,11 @@ module _ (step : Meaning) (valid : IsValidStep step) where
 
   -- there is such a number
   sizes_fit : (given : Blocks) → are_blocks x.q Minimum given ≡ true → least_exponent given ≤ greatest x.q
-  sizes_fit blocks.Without are = one x.q (bounds.level x valid.settings)
-  sizes_fit (blocks.Factors t) are = one x.q (bounds.level x valid.settings)
+  sizes_fit blocks.Without are = some_size x.q (bounds.level x valid.settings)
+  sizes_fit (blocks.Factors t) are = some_size x.q (bounds.level x valid.settings)
   sizes_fit (blocks.PerBlock k) are = let fits : k < greatest x.q =
       ltb-true k (greatest x.q) (and_parts (is_minimum Minimum) _ are).1 in omega (arith, fits)
-  sizes_fit blocks.Most are = one x.q (bounds.level x valid.settings)
+  sizes_fit blocks.Most are = some_size x.q (bounds.level x valid.settings)
 
   at_least_one : (size : Size) → x.size ≡ size → lowest step size ≤ highest step size
   at_least_one Minimum is =

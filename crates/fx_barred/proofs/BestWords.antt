@@ -1,14 +1,15 @@
 -- Best words, as rows come.
-use Rattle.std.proofs.Common.{ℕ, ◌≡◌, ◌<◌, ◌≤◌, ◌+◌, ◌*◌, ◌^◌, ◌⊎◌, zero, suc, Bool, true, false, cond, eqb, ◌&&◌, ◌||◌}
+use Rattle.std.proofs.Common.{ℕ, ◌≡◌, ◌<◌, ◌≤◌, ◌+◌, ◌*◌, ◌^◌, ◌⊎◌, suc, Bool, true, false, cond, eqb, ◌&&◌, ◌||◌}
 use Rattle.std.proofs.Common.{List, [], ◌∷◌, ◌++◌, take, drop, set, length, slice_index, slice_index_or, Option, Some}
 use Rattle.std.proofs.Common.{None, length-append, take-append-drop, drop-cons, refl, sym, subst, ◌∙◌, ap, arith, inl}
 use Rattle.std.proofs.Common.{inr}
 use Rattle.std.specs.Prelude.{nat_lt, nat_le}
 use Rattle.std.proofs.Math.Nat.{pow-succ', mul-le-mul_left}
-use Rattle.std.proofs.lemmas.List.{get_or-set_other}
+use Rattle.std.proofs.lemmas.List.{get_or-set_other, get_or_push, take-append-le, drop_all}
 use Rattle.std.proofs.lemmas.Grind.{get_or-set_at}
 use Rattle.std.proofs.lemmas.Bool.{cases_eq, cases_lt, eq-eqb, eqb-true, ltb-true, lt-ltb, leb-true, le-leb, both_ways}
-use Rattle.std.proofs.lemmas.Bool.{and_parts, and_from, or_left, or_right}
+use Rattle.std.proofs.lemmas.Bool.{and_parts, and_from, or_left, or_right, or_cases}
+use Rattle.fx_base.proofs.Lists.{each-get_or}
 use Rattle.fx_designs.specs.Galois.{number, digits, IsField}
 use Rattle.fx_designs.specs.Vectors.{IsVector, weight, is_zero, plus, scale}
 use Rattle.fx_designs.specs.Problems.{Dimensions, Requirement}
@@ -17,7 +18,6 @@ use Rattle.fx_laws.proofs.Codes.{digits-vector}
 use Rattle.fx_laws.proofs.Reorders.{plus-comm}
 use Rattle.fx_laws.proofs.Ranks.{plus-assoc}
 use Rattle.fx_laws.proofs.Forms.{scale-one}
-use Rattle.fx_vectors.proofs.Balances.{either_true}
 use Rattle.fx_demands.proofs.Completing.{weight-cons, weight-append, mark-some}
 use Rattle.fx_demands.proofs.EffectVectors.{number-push, push-vector}
 use Rattle.fx_demands.proofs.Supports.{take-vector}
@@ -30,8 +30,7 @@ use Rattle.fx_barred.specs.BestWords.{BringsToZero, IsNoWorse, IsBestWord, IsBes
 use Rattle.fx_barred.specs.BestWords.{preferred, with_code}
 use Rattle.fx_barred.proofs.Firsts.{sum-before, with-none}
 use Rattle.fx_barred.proofs.EffectBars.{sum-front}
-use Rattle.fx_barred.proofs.Longer.{row-last}
-use Rattle.fx_barred.proofs.Steps.{each-at}
+pub use Rattle.std.proofs.lemmas.List.{take-append-le as take-before}
 
 no-worse-follows : (q : ℕ) (u v w : List ℕ) → IsNoWorse q u v → IsNoWorse q v w → IsNoWorse q u w
 no-worse-follows q u v w (inl a) (inl b) = inl (omega arith)
@@ -56,7 +55,7 @@ best-same P R q (Some b) to from h =
 better-is : (q : ℕ) (a b : Best) (u v : List ℕ) → weight u ≡ a.weight → number q u ≡ a.number → weight v ≡ b.weight
     → number q v ≡ b.number → is_better a b ≡ true → IsNoWorse q v u
 better-is q a b u v wu nu wv nv is =
-    elim (either_true (nat_lt b.weight a.weight) ((eqb b.weight a.weight) && nat_le a.number b.number) is) [
+    elim (or_cases (nat_lt b.weight a.weight) ((eqb b.weight a.weight) && nat_le a.number b.number) is) [
       | inl less ↦ let l = ltb-true b.weight a.weight less in inl (omega arith)
       | inr same ↦
           let parts = and_parts (eqb b.weight a.weight) (nat_le a.number b.number) same in
@@ -129,11 +128,6 @@ module _ (P S R : List ℕ → Type 0) (q : ℕ) (p : (v : List ℕ) → P v →
                 [ inl x ↦ ha.none_better v x | inr y ↦ no-worse-follows q ha.word hb.word v over (hb.none_better v y) ];
           }
 
-pub take-before : (s : ℕ) (u w : List ℕ) → s ≤ length u → take s (u ++ w) ≡ take s u
-take-before zero u w low = refl
-take-before (suc s) [] w low = absurd (omega arith)
-take-before (suc s) (a ∷ u) w low = ap (λ (l : List ℕ). a ∷ l) (take-before s u w (omega arith))
-
 -- one row more
 module _ (d : Dimensions) (f : IsField d.q) (wanted : Requirement) (rows : List ℕ) (r : ℕ) (blocks : d.s ≤ length rows)
     (x : ℕ) where
@@ -175,10 +169,11 @@ module _ (d : Dimensions) (f : IsField d.q) (wanted : Requirement) (rows : List 
       → sum_to q m longer (u ++ c ∷ []) (length longer) ≡ sum_of q c m (sum_to q m rows u n) r
   sum-last u c len =
       let up : length longer ≡ suc n = omega (arith, long) in
-      let code : slice_index (u ++ c ∷ []) n ≡ c = ap (slice_index (u ++ c ∷ [])) (sym len) ∙ row-last u c in
+      let code : slice_index (u ++ c ∷ []) n ≡ c =
+      ap (slice_index (u ++ c ∷ [])) (sym len) ∙ get_or_push u c 0 (length u) refl in
       ap (sum_to q m longer (u ++ c ∷ [])) up
       ∙ ap (λ (k : ℕ). with_row q m longer n (sum_to q m longer (u ++ c ∷ []) n) k) code
-      ∙ ap (λ (k : ℕ). sum_of q c m (sum_to q m longer (u ++ c ∷ []) n) k) (row-last rows r)
+      ∙ ap (λ (k : ℕ). sum_of q c m (sum_to q m longer (u ++ c ∷ []) n) k) (get_or_push rows r 0 (length rows) refl)
       ∙ ap (λ (k : ℕ). sum_of q c m k r)
       (sum-before q m rows r (u ++ c ∷ []) n (omega arith) ∙ sum-front q m rows u (c ∷ []) n (omega (arith, len)))
 
@@ -187,7 +182,7 @@ module _ (d : Dimensions) (f : IsField d.q) (wanted : Requirement) (rows : List 
   extend c u low h = record {
     vector = subst (λ (k : ℕ). IsVector q k (u ++ c ∷ [])) (sym long) (push-vector q n u c h.vector low);
     factors = ap (λ (l : List ℕ). is_zero l || is_estimated wanted l)
-        (take-before d.s u (c ∷ []) (omega (arith, blocks, h.vector.len))) ∙ h.factors;
+        (take-append-le d.s u (c ∷ []) (omega (arith, blocks, h.vector.len))) ∙ h.factors;
     sum = ap (λ (k : ℕ). sum_of q 1 m k x) (sum-last u c h.vector.len) ∙ turn (sum_to q m rows u n) c ∙ h.sum;
   }
 
@@ -201,7 +196,7 @@ module _ (d : Dimensions) (f : IsField d.q) (wanted : Requirement) (rows : List 
       let c : ℕ = slice_index v n in
       let u : List ℕ = take n v in
       let len : length v ≡ suc n = omega (arith, h.vector.len, long) in
-      let rest : drop (suc n) v ≡ [] = nothing (suc n) v (omega (arith, len)) in
+      let rest : drop (suc n) v ≡ [] = drop_all (suc n) v (omega (arith, len)) in
       let whole : v ≡ u ++ c ∷ [] =
       sym (take-append-drop n v) ∙ ap (λ (l : List ℕ). u ++ l)
       (drop-cons v n 0 (omega (arith, len)) ∙ ap (λ (l : List ℕ). c ∷ l) rest) in
@@ -212,19 +207,13 @@ module _ (d : Dimensions) (f : IsField d.q) (wanted : Requirement) (rows : List 
         brings = record {
           vector = vector;
           factors = ap (λ (l : List ℕ). is_zero l || is_estimated wanted l)
-              (sym (take-before d.s u (c ∷ []) (omega (arith, blocks, vector.len))) ∙ ap (take d.s) (sym whole)) ∙
+              (sym (take-append-le d.s u (c ∷ []) (omega (arith, blocks, vector.len))) ∙ ap (take d.s) (sym whole)) ∙
               h.factors;
           sum = sym (turn (sum_to q m rows u n) c) ∙ ap (λ (k : ℕ). sum_of q 1 m k x)
               (sym (sum-last u c vector.len) ∙ ap (λ (w : List ℕ). sum_to q m longer w (length longer)) (sym whole)) ∙
               h.sum;
         };
       }
-    where
-      nothing : (k : ℕ) (v : List ℕ) → length v ≤ k → drop k v ≡ []
-      nothing zero [] low = refl
-      nothing zero (a ∷ v) low = absurd (omega arith)
-      nothing (suc k) [] low = refl
-      nothing (suc k) (a ∷ v) low = nothing k v (omega arith)
 
   -- those whose code for the new row is below a bound, or is a code
   abbrev pub Below : ℕ → List ℕ → Type 0
@@ -249,7 +238,11 @@ module _ (d : Dimensions) (f : IsField d.q) (wanted : Requirement) (rows : List 
         let len = h.holds.vector.len in
         record {
           word = h.word ++ c ∷ [];
-          holds = (extend c h.word code h.holds, ap (slice_index (h.word ++ c ∷ [])) (sym len) ∙ row-last h.word c);
+          holds = (
+            extend c h.word code h.holds,
+            ap (slice_index (h.word ++ c ∷ [])) (sym len) ∙ get_or_push h.word c 0
+                (length h.word) refl,
+          );
           weighs = omega (arith, heavier h.word, h.weighs, weighs);
           counts = omega (arith, more h.word len, h.counts, counts);
           none_better = λ v hv.
@@ -282,7 +275,8 @@ module _ (d : Dimensions) (f : IsField d.q) (wanted : Requirement) (rows : List 
   pub best-first : (o : Option Best) → x < q ^ m → IsBest d wanted rows x o → IsBestOf (Below 1) q o
   best-first o low h =
       let none : sum_of q 0 m x r ≡ x =
-      ap (λ (k : ℕ). sum_of q 0 m x k) (sym (row-last rows r)) ∙ with-none q m f longer n x low in
+      ap (λ (k : ℕ). sum_of q 0 m x k) (sym (get_or_push rows r 0 (length rows) refl)) ∙ with-none q m f longer n x low
+      in
       best-same (At 0) (Below 1) q o (λ v hv. (hv.0, omega (arith, hv.1))) (λ v hv. (hv.0, omega (arith, hv.1)))
       (at-zero o (subst (λ (k : ℕ). IsBest d wanted rows k o) (sym none) h))
 
@@ -299,7 +293,7 @@ module _ (d : Dimensions) (f : IsField d.q) (wanted : Requirement) (rows : List 
   pub best-last : (found : Option Best) → IsBestOf (Below q) q found → IsBest d wanted longer x found
   best-last found h =
       best-same (Below q) (BringsToZero d wanted longer x) q found (λ v hv. hv.0)
-      (λ v hv. (hv, each-at (λ (a : ℕ). a < q) v n hv.vector.codes (omega (arith, hv.vector.len, long)))) h
+      (λ v hv. (hv, each-get_or (λ (a : ℕ). a < q) v n 0 hv.vector.codes (omega (arith, hv.vector.len, long)))) h
 
 -- bounds
 pub within-more : (q n : ℕ) (o : Option Best) → 0 < q → IsWithin q n o → IsWithin q (n + 1) o

@@ -5,6 +5,7 @@ use Rattle.std.proofs.Common.{refl, sym, subst, ◌∙◌, ap, arith, inl, inr}
 use Rattle.std.specs.Prelude.{unwrap_or}
 use Rattle.std.specs.List.{AllByRecursion}
 use Rattle.std.proofs.lemmas.Bool.{eq-eqb, ne_eqb, eqb-true}
+use Rattle.std.proofs.lemmas.List.{take_at, drop_at, take-append-le}
 use Rattle.fx_designs.specs.Galois.{number, IsField}
 use Rattle.fx_designs.specs.Vectors.{IsVector, weight, zeros, is_zero, vectors_of, combination, last_nonzero}
 use Rattle.fx_designs.specs.Problems.{Dimensions, Requirement}
@@ -13,9 +14,10 @@ use Rattle.fx_designs.specs.Closing.{closing_word}
 use Rattle.fx_laws.proofs.Codes.{number-zeros}
 use Rattle.fx_laws.proofs.Ranks.{append-vector}
 use Rattle.fx_laws.proofs.Space.{zeros-vector}
+use Rattle.fx_laws.proofs.Weights.{weight-zeros}
 use Rattle.fx_vectors.specs.Question.{CanBeAsked}
 use Rattle.fx_demands.specs.Completions.{IsClosing}
-use Rattle.fx_demands.proofs.Completing.{weight-cons, weight-append, weight-split, weight-zeros, number-split}
+use Rattle.fx_demands.proofs.Completing.{weight-cons, weight-append, weight-split, number-split}
 use Rattle.fx_demands.proofs.Closings.{last-top}
 use Rattle.fx_demands.proofs.Choice.{word_is, not_allowed, allowed}
 use Rattle.fx_demands.proofs.Supports.{take-vector}
@@ -23,9 +25,8 @@ use Rattle.fx_points.specs.Sums.{sum_of}
 use Rattle.fx_barred.specs.FirstWords.{sum_to}
 use Rattle.fx_barred.specs.declared.best_words.Best.{Best}
 use Rattle.fx_barred.specs.BestWords.{BringsToZero, IsBestWord}
-use Rattle.fx_barred.proofs.EffectBars.{sum-front, take-front, drop-front, sum-below, to-minus, from-minus, zero-to}
+use Rattle.fx_barred.proofs.EffectBars.{sum-front, sum-below, to-minus, from-minus, zero-to}
 use Rattle.fx_barred.proofs.EffectBars.{zero-from}
-use Rattle.fx_barred.proofs.BestWords.{take-before}
 use Rattle.fx_barred.proofs.Longer.{not_before, length-longer, fits-longer}
 
 module _ (d : Dimensions) (f : IsField d.q) (wanted : Requirement) (rows : List ℕ)
@@ -62,10 +63,10 @@ module _ (d : Dimensions) (f : IsField d.q) (wanted : Requirement) (rows : List 
   -- a vector over the rows with these
   module _ (u : List ℕ) (len : length u ≡ k) where
     pub front-is : take k (u ++ rest) ≡ u
-    front-is = take-front u rest k (sym len)
+    front-is = take_at u rest k len
 
     pub rest-is : drop k (u ++ rest) ≡ rest
-    rest-is = drop-front u rest k (sym len)
+    rest-is = drop_at u rest k len
 
     pub weight-more : weight (u ++ rest) ≡ weight u + 1
     weight-more = let parts = weight-append u rest in omega (arith, light-rest)
@@ -83,7 +84,7 @@ module _ (d : Dimensions) (f : IsField d.q) (wanted : Requirement) (rows : List 
         ≡ (is_zero (take d.s u) || is_estimated wanted (take d.s u))
     forbidden-is =
         let w : List ℕ = u ++ rest in
-        let factors : take d.s w ≡ take d.s u = take-before d.s u rest (omega (arith, len, blocks)) in
+        let factors : take d.s w ≡ take d.s u = take-append-le d.s u rest (omega (arith, len, blocks)) in
         let all = weight-split d.s w in
         let mine = weight-split d.s u in
         let same = ap weight factors in

@@ -6,7 +6,8 @@ use Rattle.std.proofs.Common.{inl, inr}
 use Rattle.std.specs.Prelude.{unwrap_or, Option}
 use Rattle.std.specs.List.{AllByRecursion}
 use Rattle.std.proofs.lemmas.Bool.{cases_eq, cases_lt, eq-eqb, ne_eqb, eqb-true}
-use Rattle.std.proofs.lemmas.List.{take_more, take_all, length-map, map-append}
+use Rattle.std.proofs.lemmas.List.{take_more, take_all, length-map, map-append, take_at, drop_at, get_or_default}
+use Rattle.std.proofs.lemmas.List.{get_or_append_left}
 use Rattle.fx_designs.specs.Galois.{number, digits, neg, IsField}
 use Rattle.fx_designs.specs.Vectors.{IsVector, weight, zeros, is_zero, plus, scale, combination, vectors_of, is_normal}
 use Rattle.fx_designs.specs.Vectors.{last_nonzero}
@@ -17,15 +18,16 @@ use Rattle.fx_laws.proofs.Codes.{number-zeros, digits-vector, number-digits, num
 use Rattle.fx_laws.proofs.Forms.{scale-one}
 use Rattle.fx_laws.proofs.Ranks.{zeros-plus, plus-zero, combination-append, append-vector, number-same}
 use Rattle.fx_laws.proofs.Space.{zeros-vector, plus-vector, scale-vector, combination-vector}
+use Rattle.fx_laws.proofs.Weights.{weight-zeros, zeros_from_weight}
 use Rattle.fx_vectors.proofs.Steps.{are_vectors, drop-vector}
 use Rattle.fx_vectors.proofs.Supports.{bit}
 use Rattle.fx_vectors.specs.Question.{CanBeAsked}
 use Rattle.fx_demands.specs.declared.forbidden_list.ForbiddenVector.{ForbiddenVector}
 use Rattle.fx_demands.specs.EffectVectors.{last_factor, class_of, IsForbidden, AreAllForbidden}
 use Rattle.fx_demands.specs.Completions.{IsClosing}
-use Rattle.fx_demands.proofs.Completing.{weight-zeros, weight-append, weightless}
-use Rattle.fx_demands.proofs.Closings.{last-top, last-zeros}
-use Rattle.fx_demands.proofs.Choice.{word_is, not_allowed, allowed}
+use Rattle.fx_demands.proofs.Completing.{weight-append}
+use Rattle.fx_demands.proofs.Closings.{last-top, later-zeros}
+use Rattle.fx_demands.proofs.Choice.{word_is, not_allowed, allowed, last-padded, number-padded}
 use Rattle.fx_demands.proofs.Lasts.{last-at, last-zero}
 use Rattle.fx_demands.proofs.Supports.{take-vector}
 use Rattle.fx_points.specs.Sums.{sum_of}
@@ -34,9 +36,7 @@ use Rattle.fx_points.proofs.Halves.{power-some}
 use Rattle.fx_barred.specs.FirstWords.{sum_to, vector_at, HasSum, HasNone, IsFirst}
 use Rattle.fx_barred.proofs.Firsts.{vector-at}
 use Rattle.fx_barred.proofs.Longer.{not_before}
-use Rattle.fx_barred.proofs.Bars.{later-zeros}
 use Rattle.fx_barred.specs.Reach.{with_row}
-use Rattle.fx_barred.proofs.Tables.{at-any}
 
 code-zero : (a : ℕ) → bit a ≡ 0 → a ≡ 0
 code-zero a e =
@@ -213,34 +213,12 @@ module _ (d : Dimensions) (f : IsField d.q) (rows : List ℕ) (x : ℕ) (x-below
 pub sum-front : (q m : ℕ) (rows v w : List ℕ) (i : ℕ) → i ≤ length v → sum_to q m rows (v ++ w) i ≡ sum_to q m rows v i
 sum-front q m rows v w zero low = refl
 sum-front q m rows v w (suc j) low =
-    ap (with_row q m rows j (sum_to q m rows (v ++ w) j)) (code-front v w j (omega arith)) ∙ ap
+    ap (with_row q m rows j (sum_to q m rows (v ++ w) j)) (get_or_append_left v w 0 j (omega arith)) ∙ ap
     (λ (s : ℕ). with_row q m rows j s (slice_index v j)) (sum-front q m rows v w j (omega arith))
-  where
-    code-front : (v w : List ℕ) (j : ℕ) → j < length v → slice_index (v ++ w) j ≡ slice_index v j
-    code-front [] w j low = absurd (omega arith)
-    code-front (a ∷ v) w zero low = refl
-    code-front (a ∷ v) w (suc j) low = code-front v w j (omega arith)
-
--- a vector over the factors, with zeros for the block factors
-last-padded : (v : List ℕ) (t : ℕ) → last_nonzero (v ++ zeros t) ≡ last_nonzero v
-last-padded [] t = last-zeros t
-last-padded (a ∷ v) t = rw (last-padded v t) refl
 
 factor-padded : (v : List ℕ) (t : ℕ) → last_factor (v ++ zeros t) ≡ last_factor v
 factor-padded [] t = last-zero (zeros t) (weight-zeros t)
 factor-padded (a ∷ v) t = rw (factor-padded v t) refl
-
-pub take-front : (v w : List ℕ) (i : ℕ) → i ≡ length v → take i (v ++ w) ≡ v
-take-front [] w i e = rw e refl
-take-front (a ∷ v) w i e = rw e (ap (λ (l : List ℕ). a ∷ l) (take-front v w (length v) refl))
-
-pub drop-front : (v w : List ℕ) (i : ℕ) → i ≡ length v → drop i (v ++ w) ≡ w
-drop-front [] w i e = rw e refl
-drop-front (a ∷ v) w i e = rw e (drop-front v w (length v) refl)
-
-pub number-padded : (q : ℕ) (v : List ℕ) (t : ℕ) → number q (v ++ zeros t) ≡ number q v
-number-padded q [] t = number-zeros q t
-number-padded q (a ∷ v) t = rw (number-padded q v t) refl
 
 module _ (d : Dimensions) (f : IsField d.q) (wanted : Requirement) (words : List ForbiddenVector)
     (all : AreAllForbidden d wanted words) (rows : List ℕ) (below : AllByRecursion (λ x. x < d.q ^ d.m) rows)
@@ -295,7 +273,7 @@ module _ (d : Dimensions) (f : IsField d.q) (wanted : Requirement) (words : List
 
   word-normal : (k : ℕ) → k < length words → is_normal (word k) ≡ true
   word-normal k low =
-      ap (λ (c : ℕ). eqb c 1) (last-padded (vector_at words k) d.t) ∙ ap is_normal (vector-at words k any low) ∙
+      ap (λ (c : ℕ). eqb c 1) (last-padded d.t (vector_at words k)) ∙ ap is_normal (vector-at words k any low) ∙
       (given k low).normal
 
   word-weight : (k : ℕ) → weight (word k) ≡ weight (vector_at words k)
@@ -308,7 +286,7 @@ module _ (d : Dimensions) (f : IsField d.q) (wanted : Requirement) (words : List
       let vector = word-vector k h.there in
       let last = last-is (word k) r (factor-padded (vector_at words k) d.t ∙ h.last) in
       let rest : drop (r + 1) (word k) ≡ zeros (n - (r + 1)) =
-      weightless (drop (r + 1) (word k)) (n - (r + 1)) (drop-vector d.q n (word k) (r + 1) vector).len last.0 in
+      zeros_from_weight (drop (r + 1) (word k)) (n - (r + 1)) (drop-vector d.q n (word k) (r + 1) vector).len last.0 in
       let up : suc r ≡ r + 1 = omega arith in
       let tail : drop r (word k) ≡ get_or (word k) r 0 ∷ zeros (n - (r + 1)) =
       drop-cons (word k) r 0 last.2 ∙ ap (λ (l : List ℕ). get_or (word k) r 0 ∷ l)
@@ -331,8 +309,8 @@ module _ (d : Dimensions) (f : IsField d.q) (wanted : Requirement) (words : List
               zero-from d f rows x x-below (word k) vector e.1 (ap weight e.0 ∙ weight-zeros (n - (r + 1))) whole-part
               (sum-front d.q d.m rows (vector_at words k) (zeros d.t) r (omega (arith, len, part)) ∙ h.sum);
           forbidden =
-              forbidden-is (word k) d.t (drop-front (vector_at words k) (zeros d.t) d.s (sym len)) ∙ ap
-              (must_balance d wanted) (take-front (vector_at words k) (zeros d.t) d.s (sym len) ∙ at) ∙
+              forbidden-is (word k) d.t (drop_at (vector_at words k) (zeros d.t) d.s len) ∙ ap
+              (must_balance d wanted) (take_at (vector_at words k) (zeros d.t) d.s len ∙ at) ∙
               (given k h.there).forbidden;
         };
       }
@@ -366,14 +344,14 @@ module _ (d : Dimensions) (f : IsField d.q) (wanted : Requirement) (words : List
       in
       let vector : IsVector d.q d.s v = take-vector d.q n d.s d.t other c.vector refl in
       let normal : is_normal v ≡ true =
-      ap (λ (c : ℕ). eqb c 1) (sym (last-padded v d.t)) ∙ ap is_normal whole ∙ c.normal in
+      ap (λ (c : ℕ). eqb c 1) (sym (last-padded d.t v)) ∙ ap is_normal whole ∙ c.normal in
       let listed = all.all v vector normal (sym (forbidden-is other (n - d.s) block) ∙ c.hit.forbidden) in
       let k : ℕ = listed.0 in
       let len : length (map (λ (w : ForbiddenVector). w.vector) words) ≡ length words =
       length-map words (λ (w : ForbiddenVector). w.vector) in
       let there : k < length words = omega (arith, listed.1) in
       let at : vector_at words k ≡ v =
-      at-any (map (λ (w : ForbiddenVector). w.vector) words) k [] v listed.1 ∙ listed.2 in
+      get_or_default (map (λ (w : ForbiddenVector). w.vector) words) k [] v listed.1 ∙ listed.2 in
       let is : word k ≡ other = ap (λ (v : List ℕ). v ++ zeros d.t) at ∙ whole in
       let sum : sum_to d.q d.m rows other r ≡ goal-sum =
       zero-to d f rows x x-below other c.vector one light whole-part c.hit.zero_sum in
@@ -408,7 +386,7 @@ module _ (d : Dimensions) (f : IsField d.q) (wanted : Requirement) (words : List
     number-at : (j : ℕ) → j < length words → (slice_index_or words j any).number ≡ number d.q (word j)
     number-at j low =
         (given j low).number ∙ ap (number d.q) (sym (vector-at words j any low)) ∙ sym
-        (number-padded d.q (vector_at words j) d.t)
+        (number-padded d.q d.t (vector_at words j))
 
     -- no closing word is preferred to the first
     best : (other : List ℕ) → IsClosing d wanted longer other
@@ -451,4 +429,4 @@ module _ (d : Dimensions) (f : IsField d.q) (wanted : Requirement) (words : List
         → number d.q (unwrap_or (closing_word d wanted longer) []) ≡ (slice_index_or words k e).number
     barring_number e =
         ap (λ (o : Option (List ℕ)). number d.q (unwrap_or o [])) barring_word ∙ sym (number-at k first.here.there) ∙ ap
-        (λ (w : ForbiddenVector). w.number) (at-any words k any e first.here.there)
+        (λ (w : ForbiddenVector). w.number) (get_or_default words k any e first.here.there)

@@ -3,6 +3,8 @@ use Rattle.std.proofs.Common.{ℕ, ◌≡◌, ◌≢◌, ◌<◌, ◌≤◌, ◌
 use Rattle.std.proofs.Common.{◌++◌, take, length, length-append, length-take, mul-le-mul_right, slice_index}
 use Rattle.std.proofs.Common.{slice_index_or, refl, sym, subst, ap, ◌∙◌, arith, inl, inr}
 use Rattle.std.proofs.lemmas.Bool.{cases_eq, cases_lt, eq-eqb, ne_eqb}
+use Rattle.std.proofs.lemmas.List.{get_or_append_left}
+use Rattle.fx_base.proofs.Numbers.{add_one-mul}
 use Rattle.fx_designs.specs.Galois.{number, digits, IsField}
 use Rattle.fx_designs.specs.Vectors.{plus, scale}
 use Rattle.fx_laws.proofs.Codes.{digits-vector, number-digits}
@@ -15,7 +17,6 @@ use Rattle.fx_barred.specs.Reach.{with_row}
 use Rattle.fx_barred.specs.FirstWords.{sum_to, vector_at, HasSum, IsFirst, AreFirst, AreWords, AreFirstWords}
 use Rattle.fx_barred.specs.Reached.{ReachedView}
 use Rattle.fx_barred.proofs.Tables.{all-but-last}
-use Rattle.fx_barred.proofs.Bars.{row-before}
 
 -- no times a row
 pub with-none : (q m : ℕ) (f : IsField q) (rows : List ℕ) (j x : ℕ) → x < q ^ m → with_row q m rows j x 0 ≡ x
@@ -32,7 +33,7 @@ sum-before q m rows x v zero low = refl
 sum-before q m rows x v (suc j) low =
     ap (λ (r : ℕ). number q
     (plus q (digits q m (sum_to q m (rows ++ x ∷ []) v j)) (scale q (slice_index v j) (digits q m r))))
-    (row-before rows x j (omega arith))
+    (get_or_append_left rows (x ∷ []) 0 j (omega arith))
     ∙ ap (λ (s : ℕ). with_row q m rows j s (slice_index v j)) (sum-before q m rows x v j (omega arith))
 
 -- a vector of a list
@@ -222,10 +223,7 @@ words_push reached x words tables other h len kept new =
   where
     below : (i y n size : ℕ) → i ≤ n → y < size → i * size + y < (n + 1) * size
     below i y n size le low = let wide = mul-le-mul_right size le in let next : (n + 1) * size ≡ n * size + size =
-        spread n size in omega arith
-      where
-        spread : (n k : ℕ) → (n + 1) * k ≡ n * k + k
-        spread n k = omega arith
+        add_one-mul n size in omega arith
 
 -- with no rows
 pub words_start : (reached : ReachedView) (words : List ForbiddenVector) (tables : List ℕ) → reached.rows ≡ []

@@ -5,13 +5,12 @@ use Rattle.std.proofs.Common.{drop, length, sym, subst, ◌∙◌, ap, arith, in
 use Rattle.std.specs.Prelude.{nat_lt, nat_le}
 use Rattle.std.specs.List.{AllByRecursion}
 use Rattle.std.proofs.lemmas.Bool.{cases_eq, cases_lt, eq-eqb, eqb-true, lt-ltb, leb-true, le-leb, and_parts, and_from}
-use Rattle.std.proofs.lemmas.Bool.{or_left, or_right}
+use Rattle.std.proofs.lemmas.Bool.{or_left, or_right, or_cases}
 use Rattle.std.proofs.lemmas.List.{take_all}
 use Rattle.fx_designs.specs.Galois.{number, IsField}
 use Rattle.fx_designs.specs.Vectors.{weight, is_zero}
 use Rattle.fx_designs.specs.Problems.{Dimensions, Requirement, AtResolution}
 use Rattle.fx_designs.specs.Demands.{is_estimated, is_forbidden_word}
-use Rattle.fx_vectors.proofs.Balances.{either_true}
 use Rattle.fx_demands.specs.Completions.{IsCompletion, IsNoHit}
 use Rattle.fx_barred.specs.Reach.{reaches, greatest_word}
 use Rattle.fx_barred.specs.BestWords.{BringsToZero, IsBestWord}
@@ -71,7 +70,7 @@ module _ (d : Dimensions) (f : IsField d.q) (r : ℕ) (rows : List ℕ) (below :
       → weight u ≤ most
   unfolding is_estimated
   passes-light u len is =
-      elim (either_true (is_zero u) (nat_lt 0 (weight u) && nat_le (weight u) most)
+      elim (or_cases (is_zero u) (nat_lt 0 (weight u) && nat_le (weight u) most)
       (ap (λ (l : List ℕ). is_zero l || is_estimated wanted l) (sym (whole u len)) ∙ is)) [
         | inl none ↦ let z = eqb-true (weight u) 0 none in omega arith
         | inr parts ↦ leb-true (weight u) most (and_parts _ _ parts).1

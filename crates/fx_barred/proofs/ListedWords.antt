@@ -3,7 +3,7 @@ use Rattle.std.proofs.Common.{ℕ, ◌≡◌, ◌≢◌, ◌<◌, ◌≤◌, ◌
 use Rattle.std.proofs.Common.{Some, None, refl, sym, subst, ◌∙◌, ap, arith, inl, inr}
 use Rattle.std.specs.Prelude.{All}
 use Rattle.std.proofs.lemmas.Bool.{cases_eq}
-use Rattle.std.proofs.lemmas.List.{take_all}
+use Rattle.std.proofs.lemmas.List.{take_all, get_or_default}
 use Rattle.fx_designs.specs.Galois.{number, digits, IsField}
 use Rattle.fx_designs.specs.Vectors.{IsVector, weight, is_zero, plus, scale}
 use Rattle.fx_designs.specs.Problems.{Dimensions, Requirement}
@@ -19,7 +19,6 @@ use Rattle.fx_barred.specs.declared.best_words.Best.{Best}
 use Rattle.fx_barred.specs.BestWords.{BringsToZero, IsBestOf, IsBest, preferred}
 use Rattle.fx_barred.proofs.BestWords.{preferred-best, best-same}
 use Rattle.fx_barred.proofs.EffectBars.{to-minus, from-minus, sum-below}
-use Rattle.fx_barred.proofs.Tables.{at-any}
 
 -- one of the first i vectors of a list, which brings x to zero
 pub record IsListed (q m : ℕ) (rows : List ℕ) (vectors : List (List ℕ)) (i x : ℕ) (v : List ℕ) : Type 0 where
@@ -105,7 +104,7 @@ pub best-listed : (d : Dimensions) (wanted : Requirement) (rows : List ℕ) (vec
 best-listed d wanted rows vectors x o all each lists h =
     best-same (IsListed d.q d.m rows vectors (length vectors) x) (BringsToZero d wanted rows x) d.q o
     (λ v hv.
-    (let here = at-any vectors hv.place [] v hv.before in
+    (let here = get_or_default vectors hv.place [] v hv.before in
     let is : slice_index_or vectors hv.place v ≡ v = sym here ∙ hv.is in
     let vector : IsVector d.q d.s v = subst (IsVector d.q d.s) is (each hv.place v hv.before) in
     let passes : (is_zero v || is_estimated wanted v) ≡ true =
@@ -122,5 +121,10 @@ best-listed d wanted rows vectors x o all each lists h =
     ap (λ (l : List ℕ). is_zero l || is_estimated wanted l) (sym (take_all d.s v (omega (arith, vector.len)))) ∙
     hv.factors in
     let there = lists.all v vector passes in
-    record { place = there.0; before = there.1; is = at-any vectors there.0 [] v there.1 ∙ there.2; sum = hv.sum }))
+    record {
+      place = there.0;
+      before = there.1;
+      is = get_or_default vectors there.0 [] v there.1 ∙ there.2;
+      sum = hv.sum;
+    }))
     h

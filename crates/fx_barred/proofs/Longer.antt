@@ -1,10 +1,12 @@
 -- One row more than the rows of a prefix: the word with a single code, at the new row; and where the prefix is allowed,
 -- no closing word is one of the rows before.
 use Rattle.std.proofs.Common.{ℕ, ◌≡◌, ◌<◌, ◌≤◌, ◌+◌, ◌-◌, ◌^◌, zero, suc, true, List, [], ◌∷◌, ◌++◌, take, drop, set}
-use Rattle.std.proofs.Common.{get_or, slice_index, length, length-append, subst, refl, sym, ◌∙◌, ap, arith}
+use Rattle.std.proofs.Common.{get_or, length, length-append, subst, refl, sym, ◌∙◌, ap, arith}
 use Rattle.std.proofs.Common.{take-append-drop, length-take}
 use Rattle.std.specs.List.{AllByRecursion}
 use Rattle.std.proofs.lemmas.Bool.{both_ways}
+use Rattle.std.proofs.lemmas.List.{get_or_push}
+use Rattle.fx_base.proofs.Lists.{each-append}
 use Rattle.fx_designs.specs.Galois.{number, digits, IsField}
 use Rattle.fx_designs.specs.Vectors.{IsVector, zeros, plus, scale, combination, vectors_of}
 use Rattle.fx_designs.specs.Problems.{Dimensions, Requirement}
@@ -17,13 +19,7 @@ use Rattle.fx_demands.proofs.Completing.{no-combination}
 use Rattle.fx_demands.proofs.Choice.{not_allowed}
 use Rattle.fx_demands.proofs.Closings.{length-zeros, first-begins, partial_first}
 use Rattle.fx_barred.proofs.Reach.{vector-set, number-set}
-use Rattle.fx_laws.proofs.Order.{each-append}
 use Rattle.fx_laws.proofs.Space.{zeros-vector}
-
--- the last of the rows
-pub row-last : (rows : List ℕ) (x : ℕ) → slice_index (rows ++ x ∷ []) (length rows) ≡ x
-row-last [] x = refl
-row-last (r ∷ rows) x = row-last rows x
 
 -- the word with a single code, which is 1, at the new row
 module _ (d : Dimensions) (f : IsField d.q) (rows : List ℕ) (below : AllByRecursion (λ x. x < d.q ^ d.m) rows)
@@ -62,7 +58,7 @@ module _ (d : Dimensions) (f : IsField d.q) (rows : List ℕ) (below : AllByRecu
 
   pub partial-single : IsPartial d (rows ++ x ∷ []) (length rows) single x
   partial-single =
-      subst (λ (y : ℕ). IsPartial d (rows ++ x ∷ []) (length rows) single y) (row-last rows x)
+      subst (λ (y : ℕ). IsPartial d (rows ++ x ∷ []) (length rows) single y) (get_or_push rows x 0 (length rows) refl)
       (partial_first d f (rows ++ x ∷ []) below-longer fits-longer (length rows) (omega (arith, length-longer))
       vector-single)
 

@@ -86,10 +86,6 @@ pub read_over : (left now : Option (List ℕ)) (bytes : List ℕ) (limit : ℕ) 
 read_over left now bytes limit a over =
     record { exposed = λ text e. let there = (a.exposed text e).some in omega arith }
 
--- a slice from an index to the end
-pub slice_to_end : (xs : List ℕ) (from : ℕ) → take (length xs - from) (drop from xs) ≡ drop from xs
-slice_to_end xs from = take_all (length xs - from) (drop from xs) (let left = length-drop from xs in omega arith)
-
 -- what is left after the bytes that were read and a call that took more
 pub read_rest_more : (left mid now : Option (List ℕ)) (bytes buffer : List ℕ) (n : ℕ)
     → HasRead left mid bytes → Takes mid now buffer n → LeavesRest left now

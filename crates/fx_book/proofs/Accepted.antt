@@ -175,7 +175,7 @@ resolution_is (part ∷ []) asked rest h =
     ∙ ap (λ (d : Demands). demands_text d ++ rest) k.3
 resolution_is (part ∷ other ∷ others) asked rest h = cc h
 
-numbers-effects : (ns : List ℕ) → numbers_of (effects_of ns) ≡ ns
+pub numbers-effects : (ns : List ℕ) → numbers_of (effects_of ns) ≡ ns
 numbers-effects [] = refl
 numbers-effects (n ∷ ns) = ap (λ l. n ∷ l) (numbers-effects ns)
 

@@ -122,10 +122,10 @@ no_end (nodes.Branch row) = refl
 no_end (nodes.Word row word) = refl
 no_end (nodes.Worse row) = refl
 
-module _ (d : Dimensions) (beaten : Bool) (runs : d.q ^ d.m ≤ 1024) (words : d.q ^ (d.s + d.t) < 2 ^ 127) where
-  plain : (n : ℕ) → n < 2 ^ 128 → AllDigits 10 (decimal n)
-  plain n low = (decimal_is_IsNumeral_wide n (omega arith)).0.1
+pub plain : (n : ℕ) → n < 2 ^ 128 → AllDigits 10 (decimal n)
+plain n low = (decimal_is_IsNumeral_wide n (omega arith)).0.1
 
+module _ (d : Dimensions) (beaten : Bool) (runs : d.q ^ d.m ≤ 1024) (words : d.q ^ (d.s + d.t) < 2 ^ 127) where
   one_line : (m : nodes.Mark) → IsEntry d beaten m → Without 10 (line_of m)
   one_line (nodes.Branch row) h =
       (refl, (refl, digits_without 10 (omega arith) (decimal row) (plain row (omega (arith, h)))))

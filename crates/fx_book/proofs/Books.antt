@@ -24,10 +24,7 @@ use Rattle.fx_book.specs.Demands.{demands_of, lists_of, effects_of, as_effects, 
 use Rattle.fx_book.proofs.Listed.{effects-numbers}
 use Rattle.fx_book.specs.Heads.{is_shape, shape_of, whole_pattern, beat_of, beat_from}
 use Rattle.fx_book.specs.Writing.{spaced}
-use Rattle.fx_book.proofs.Back.{Without, split_line, split_last, without-append, digits_without, number_back}
-
-plain : (n : ℕ) → n < 2 ^ 128 → AllDigits 10 (decimal n)
-plain n low = (decimal_is_IsNumeral_wide n (omega arith)).0.1
+use Rattle.fx_book.proofs.Back.{Without, split_line, split_last, without-append, digits_without, number_back, plain}
 
 without_number : (stop n : ℕ) → stop < 48 → n < 2 ^ 128 → Without stop (decimal n)
 without_number stop n s low = digits_without stop s (decimal n) (plain n low)

@@ -11,6 +11,6 @@ pub mod Whole
 mod Examples
 mod Numerals
 mod Texts
-mod Accepted
+pub mod Accepted
 pub mod ValidTexts
 pub mod QuestionBooks

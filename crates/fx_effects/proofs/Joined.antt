@@ -2,10 +2,8 @@
 use Rattle.std.proofs.Common.{◌≡◌, ◌≤◌, ◌<◌, ◌^◌, ◌+◌, ℕ, Bool, true, false, Ok, get_or, suc, zero, List, [], ◌∷◌, ◌++◌}
 use Rattle.std.proofs.Common.{take, drop, length, sym, subst, ap, ap₂, ◌∙◌, refl, arith}
 use Rattle.std.proofs.lemmas.List.{append_assoc, append-nil}
-use Rattle.std.proofs.Math.Seq.{drop-cons}
-use Rattle.std.proofs.Math.Numerals.{add-one}
+use Rattle.fx_base.proofs.Lists.{each-append}
 use Rattle.fx_text.specs.Written.{Written}
-use Rattle.fx_laws.proofs.Order.{each-append}
 use Rattle.fx_demands.specs.Bars.{bars_of, in_order, AreNumbers}
 use Rattle.fx_demands.proofs.Ordered.{has-left, has-right, in_order-has, in_order-only, in_order-sorted, sorted-shorter}
 use Rattle.fx_demands.proofs.Merging.{in_order-parts}
@@ -71,12 +69,6 @@ only (x ∷ y ∷ all) e one some is = absurd (omega arith)
 
 pub one_is : (e : Expression) → AreNumbers e.stars → bars_of e.stars e.upto ≡ effects_of (e ∷ [])
 one_is e h = (bars-ordered e.stars e.upto h).ordered ∙ ap in_order (sym (append-nil (bars_of e.stars e.upto)))
-
--- what is written, from some place on
-pub next : (written : List Written) (i : ℕ) (w : Written) → i < length written → w ≡ get_or written i w
-    → drop i written ≡ w ∷ drop (i + 1) written
-next written i w h is =
-    rw (add-one i) (drop-cons written i w h ∙ ap (λ (v : Written). v ∷ drop (suc i) written) (sym is))
 
 module _ (factors : List (List ℕ)) (all : List Expression) (joined : Bool) (w : Written) (rest : List Written) where
   pub passed : begins_effect joined w ≡ false

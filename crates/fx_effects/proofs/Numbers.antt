@@ -1,6 +1,6 @@
 -- Stars are numbers of 64 bits.
 use Rattle.std.proofs.Common.{◌≡◌, ◌<◌, ◌^◌, ◌++◌, ◌∷◌, [], ℕ, List, sym, subst}
-use Rattle.fx_laws.proofs.Order.{each-append}
+use Rattle.fx_base.proofs.Lists.{each-append}
 use Rattle.fx_vectors.specs.declared.effect.Effect.{Effect}
 use Rattle.fx_vectors.specs.Effects.{numbers_of}
 use Rattle.fx_demands.specs.Bars.{AreNumbers}

@@ -10,6 +10,7 @@ use Rattle.std.proofs.lemmas.List.Quantifiers.{position-Some}
 use Rattle.std.proofs.lemmas.Nat.{le_or_l, or_lt, pow_pos}
 use Rattle.std.proofs.Math.Nat.{pow-le-pow_right}
 use Rattle.std.proofs.Math.Pow.{pow-lt}
+use Rattle.fx_base.proofs.Lists.{each-append, each-map, each-weaker}
 use Rattle.fx_language.specs.declared.symbol.Symbol.TheVariants.{Bar, Close, Open}
 use Rattle.fx_language.specs.Symbols.{is, is_word}
 use Rattle.fx_text.specs.declared.refusal.ParseStop.{ParseStop}
@@ -19,7 +20,6 @@ use Rattle.fx_text.specs.Refusals.{refusal_at}
 use Rattle.fx_text.proofs.Chains.{bind_ok, same_ok, if_ok, unless_ok}
 use Rattle.fx_text.specs.Phrases.{after, before}
 use Rattle.fx_text.specs.Ranges.{is_range, names_between, range_end}
-use Rattle.fx_laws.proofs.Order.{each-append, each-map, each-weaker}
 use Rattle.fx_vectors.specs.Effects.{pair_count}
 use Rattle.fx_vectors.specs.Question.{CanBeTold}
 use Rattle.fx_demands.specs.Bars.{AreNumbers, AreOrdered, bars_of, in_order, unions, within}

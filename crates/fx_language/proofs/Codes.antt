@@ -5,6 +5,7 @@ use Rattle.std.specs.Prelude.{is_some, unwrap_or, if◌then◌else◌}
 use Rattle.std.specs.List.{Any}
 use Rattle.std.proofs.lemmas.Bool.{and_parts}
 use Rattle.std.proofs.lemmas.List.Folds.{Any-from_list_any, list_any-from_Any}
+use Rattle.std.proofs.lemmas.Option.{same_Some}
 use Rattle.fx_language.specs.declared.symbol.Symbol.{Symbol}
 use Rattle.fx_language.specs.declared.symbol.Symbol.TheVariants.{End}
 use Rattle.fx_language.specs.Symbols.{is_word}
@@ -97,14 +98,11 @@ record IsCoded (a : Shape) (symbols : List Symbol) (k code i : ℕ) : Type 0 whe
   at : i ≡ k + j
   its_code : HasItsCode a (take j symbols) (get_or (ended symbols) j End) code
 
-same_both : (p q : ℕ × ℕ) → Some p ≡ Some q → p ≡ q
-same_both p q e = cc
-
 coded_now : (a : Shape) (s : Symbol) (rest : List Symbol) (symbols : List Symbol) (k code i : ℕ)
     → ended symbols ≡ s ∷ rest → is_solid a ≡ true
     → ◌≡◌ {A = Option (ℕ × ℕ)} (Some (code_of a s, k)) (Some (code, i)) → IsCoded a symbols k code i
 coded_now a s rest symbols k code i first solid e =
-    let same = same_both (code_of a s, k) (code, i) e in
+    let same = same_Some (code_of a s, k) (code, i) e in
     record {
       j = 0;
       at = omega (arith, ap (λ (x : ℕ × ℕ). x.1) same);

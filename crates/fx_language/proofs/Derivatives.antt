@@ -1,8 +1,9 @@
 -- What is left after a symbol is what the description stands for after it.
-use Rattle.std.proofs.Common.{◌≡◌, Bool, true, false, cond, ◌||◌, ◌⊎◌, List, [], ◌∷◌, ◌++◌, refl, sym, ap, subst, ◌∙◌}
+use Rattle.std.proofs.Common.{◌≡◌, Bool, true, false, cond, ◌⊎◌, List, [], ◌∷◌, ◌++◌, refl, sym, ap, subst, ◌∙◌}
 use Rattle.std.proofs.Common.{append_assoc, inl, inr, ⊎_elim}
 use Rattle.std.specs.List.{flat_map, AllByRecursion}
 use Rattle.std.proofs.lemmas.Bool.{and_parts, or_cases}
+use mathlib.Core.Bool.{or-true}
 use Rattle.fx_language.specs.declared.symbol.Symbol.{Symbol}
 use Rattle.fx_language.specs.Shapes.{Shape, Never, Empty, One, Before, Either, Many, Fault, ◌▸◌, or_else, may_be_empty}
 use Rattle.fx_language.specs.Shapes.{after, Matches}
@@ -63,7 +64,7 @@ empty_in (Either a b) h =
 empty_in (Many a) h = ([], tt, refl)
 empty_in (Fault code test) h = absurd (let f : false ≡ true = h in cc)
 
-no_cons : {A : Type 0} (x : A) (xs ys : List A) → [] ≡ (x ∷ xs) ++ ys → ⊥
+pub no_cons : {A : Type 0} (x : A) (xs ys : List A) → [] ≡ (x ∷ xs) ++ ys → ⊥
 no_cons x xs ys e = cc
 
 pub empty_out : (a : Shape) → Matches a [] → may_be_empty a ≡ true
@@ -73,11 +74,7 @@ empty_out (One test) (s, p, e) = absurd (let f : [] ≡ s ∷ [] = e in cc)
 empty_out (Before a b) ([], y, p, q, e) = rw (empty_out a p) (empty_out b (subst (Matches b) (sym e) q))
 empty_out (Before a b) (s ∷ x, y, p, q, e) = absurd (no_cons s x y e)
 empty_out (Either a b) (inl h) = rw (empty_out a h) refl
-empty_out (Either a b) (inr h) = rw (empty_out b h) (or_true (may_be_empty a))
-  where
-    or_true : (x : Bool) → (x || true) ≡ true
-    or_true true = refl
-    or_true false = refl
+empty_out (Either a b) (inr h) = rw (empty_out b h) (or-true (may_be_empty a))
 empty_out (Many a) h = refl
 empty_out (Fault code test) h = absurd h
 
@@ -136,7 +133,7 @@ front_right : (s : Symbol) (a b : Shape) (t : List Symbol) (e : Bool) → e ≡ 
 front_right s a b t true is h = or_else_from (after s a ▸ b) (after s b) t (inr h)
 front_right s a b t false is h = absurd (let f : false ≡ true = is in cc)
 
-head_is : (s r : Symbol) (t x : List Symbol) → (s ∷ t) ≡ (r ∷ x) → (s ≡ r) × (t ≡ x)
+pub head_is : (s r : Symbol) (t x : List Symbol) → (s ∷ t) ≡ (r ∷ x) → (s ≡ r) × (t ≡ x)
 head_is s r t x e = (cc, cc)
 
 many_complete : (s : Symbol) (a : Shape) (t : List Symbol)

@@ -1,6 +1,6 @@
 -- Nothing stands after the end of a text.
 use Rattle.std.proofs.Common.{◌≡◌, Bool, true, false, cond, ◌&&◌, not, List, [], refl, ⊎_elim}
-use Rattle.std.proofs.lemmas.Bool.{and_parts, not-true}
+use Rattle.std.proofs.lemmas.Bool.{and_parts, not-true, and_from}
 use Rattle.fx_language.specs.declared.symbol.Symbol.{Symbol}
 use Rattle.fx_language.specs.declared.symbol.Symbol.TheVariants.{End}
 use Rattle.fx_language.specs.Shapes.{Shape, Never, Empty, One, Before, Either, Many, Fault, ◌▸◌, or_else, may_be_empty}
@@ -27,10 +27,6 @@ ends_last (Either a b) = ends_last a && ends_last b
 ends_last (Many a) = lacks_end a
 ends_last (Fault code test) = true
 
-and_of : (a b : Bool) → a ≡ true → b ≡ true → (a && b) ≡ true
-and_of true b h k = k
-and_of false b h k = absurd (let f : false ≡ true = h in cc)
-
 -- a test of descriptions that holds of what is built from those of which it holds
 choice : (P : Shape → Type 0) (b : Bool) (x y : Shape) → P x → P y → P (cond b x y)
 choice P true x y h k = h
@@ -39,18 +35,18 @@ choice P false x y h k = k
 lacks_sequence : (a b : Shape) → lacks_end a ≡ true → lacks_end b ≡ true → lacks_end (a ▸ b) ≡ true
 lacks_sequence Never b h k = refl
 lacks_sequence Empty b h k = k
-lacks_sequence (One test) b h k = and_of _ _ h k
+lacks_sequence (One test) b h k = and_from _ _ h k
 lacks_sequence (Before a c) b h k =
     let p = and_parts (lacks_end a) (lacks_end c) h in
-    and_of _ _ p.0 (lacks_sequence c b p.1 k)
-lacks_sequence (Either a c) b h k = and_of _ _ h k
-lacks_sequence (Many a) b h k = and_of _ _ h k
+    and_from _ _ p.0 (lacks_sequence c b p.1 k)
+lacks_sequence (Either a c) b h k = and_from _ _ h k
+lacks_sequence (Many a) b h k = and_from _ _ h k
 lacks_sequence (Fault code test) b h k = k
 
 lacks_either : (a b : Shape) → lacks_end a ≡ true → lacks_end b ≡ true → lacks_end (or_else a b) ≡ true
 lacks_either Never b h k = k
 lacks_either a Never h k = h
-lacks_either a b h k = and_of (lacks_end a) (lacks_end b) h k
+lacks_either a b h k = and_from (lacks_end a) (lacks_end b) h k
 
 lacks_after : (s : Symbol) (a : Shape) → lacks_end a ≡ true → lacks_end (after s a) ≡ true
 lacks_after s Never h = refl
@@ -70,18 +66,18 @@ lacks_after s (Fault code test) h = refl
 ends_sequence : (a b : Shape) → lacks_end a ≡ true → ends_last b ≡ true → ends_last (a ▸ b) ≡ true
 ends_sequence Never b h k = refl
 ends_sequence Empty b h k = k
-ends_sequence (One test) b h k = and_of _ _ h k
+ends_sequence (One test) b h k = and_from _ _ h k
 ends_sequence (Before a c) b h k =
     let p = and_parts (lacks_end a) (lacks_end c) h in
-    and_of _ _ p.0 (ends_sequence c b p.1 k)
-ends_sequence (Either a c) b h k = and_of _ _ h k
-ends_sequence (Many a) b h k = and_of _ _ h k
+    and_from _ _ p.0 (ends_sequence c b p.1 k)
+ends_sequence (Either a c) b h k = and_from _ _ h k
+ends_sequence (Many a) b h k = and_from _ _ h k
 ends_sequence (Fault code test) b h k = k
 
 ends_either : (a b : Shape) → ends_last a ≡ true → ends_last b ≡ true → ends_last (or_else a b) ≡ true
 ends_either Never b h k = k
 ends_either a Never h k = h
-ends_either a b h k = and_of (ends_last a) (ends_last b) h k
+ends_either a b h k = and_from (ends_last a) (ends_last b) h k
 
 -- it holds of what is left after a symbol
 pub ends_after : (s : Symbol) (a : Shape) → ends_last a ≡ true → ends_last (after s a) ≡ true

@@ -1,6 +1,6 @@
 -- Texts of a description that lack a symbol.
 use Rattle.std.proofs.Common.{◌≡◌, Bool, true, false, not, ◌&&◌, ◌||◌, List, [], ◌∷◌, ◌++◌, refl, ap, ap₂, ◌∙◌, inl}
-use Rattle.std.proofs.Common.{inr}
+use Rattle.std.proofs.Common.{inr, sym}
 use Rattle.std.specs.List.{AllByRecursion, flat_map, list_any}
 use Rattle.std.proofs.lemmas.Bool.{and_parts, both_ways, cases_Bool, not-true}
 use Rattle.std.proofs.lemmas.List.Folds.{list_any-append}
@@ -8,6 +8,7 @@ use Rattle.fx_language.specs.declared.symbol.Symbol.{Symbol}
 use Rattle.fx_language.specs.declared.symbol.Symbol.TheVariants as symbol
 use Rattle.fx_language.specs.Symbols.{is}
 use Rattle.fx_language.specs.Shapes.{Shape, Never, Empty, One, Before, Either, Many, Fault, Matches}
+use Rattle.fx_language.proofs.SameSymbol.{symbol_is}
 
 -- no text of the description has this symbol
 abbrev pub lacks : Symbol → Shape → Bool
@@ -19,26 +20,10 @@ lacks t (Either a b) = lacks t a && lacks t b
 lacks t (Many a) = lacks t a
 lacks t (Fault code test) = true
 
-pub equals_alone : (s : Symbol) → is symbol.Equals s ≡ true → symbol.Equals ≡ s
-equals_alone symbol.Equals h = refl
-equals_alone s h = absurd (let f : false ≡ true = h in cc)
-
-pub slash_alone : (s : Symbol) → is symbol.Slash s ≡ true → symbol.Slash ≡ s
-slash_alone symbol.Slash h = refl
-slash_alone s h = absurd (let f : false ≡ true = h in cc)
-
-pub open_alone : (s : Symbol) → is symbol.Open s ≡ true → symbol.Open ≡ s
-open_alone symbol.Open h = refl
-open_alone s h = absurd (let f : false ≡ true = h in cc)
-
-pub close_alone : (s : Symbol) → is symbol.Close s ≡ true → symbol.Close ≡ s
-close_alone symbol.Close h = refl
-close_alone s h = absurd (let f : false ≡ true = h in cc)
-
-module _ (t : Symbol) (alone : (s : Symbol) → is t s ≡ true → t ≡ s) where
+module _ (t : Symbol) where
   other : (test : Symbol → Bool) (s : Symbol) → not (test t) ≡ true → test s ≡ true → is t s ≡ false
   other test s lack passed = elim (cases_Bool (is t s)) [
-    | inl it ↦ absurd (both_ways (test t) (not-true (test t) lack) (ap test (alone s it) ∙ passed))
+    | inl it ↦ absurd (both_ways (test t) (not-true (test t) lack) (ap test (sym (symbol_is t s it)) ∙ passed))
     | inr differs ↦ differs
   ]
 

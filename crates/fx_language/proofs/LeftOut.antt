@@ -34,7 +34,7 @@ inside (Fault code test) = true
 
 without : (a : Shape) (t : List Symbol) → lacks symbol.Semicolon a ≡ true → Matches a t
     → list_any (is symbol.Semicolon) t ≡ false
-without a t l m = none symbol.Semicolon (λ s h. sym (semicolon s h)) a t l m
+without a t l m = none symbol.Semicolon a t l m
 
 both_without : (t x y : List Symbol) → t ≡ x ++ y → list_any (is symbol.Semicolon) x ≡ false
     → list_any (is symbol.Semicolon) y ≡ false → list_any (is symbol.Semicolon) t ≡ false

@@ -7,7 +7,7 @@ use Rattle.fx_language.specs.declared.symbol.Symbol.{Symbol}
 use Rattle.fx_language.specs.Shapes.{Shape, Never, Empty, One, Before, Either, Many, Fault, Matches, after}
 use Rattle.fx_language.specs.Shapes.{may_be_empty, or_else, first_of, fault_at, ◌▸◌}
 use Rattle.fx_language.specs.Laws.{Names}
-use Rattle.fx_language.proofs.Derivatives.{empty_in, empty_out, after_sound, after_complete}
+use Rattle.fx_language.proofs.Derivatives.{empty_in, empty_out, after_sound, after_complete, no_cons, head_is}
 
 -- in a sequence, in both forms of it
 
@@ -111,9 +111,6 @@ some_second : (x y : Option ℕ) → is_some y ≡ true → is_some (first_of x 
 some_second None y h = h
 some_second (Some d) y h = refl
 
-no_front : (s : Symbol) (u v : List Symbol) → [] ≡ (s ∷ u) ++ v → ⊥
-no_front s u v e = cc e
-
 pub here_named : (c : ℕ) (s : Symbol) (a : Shape) → Names c a [] s → is_some (fault_at s a) ≡ true
 here_named c s Never h = absurd h
 here_named c s Empty h = absurd h
@@ -125,11 +122,11 @@ here_named c s (Before a b) (inr ([], v, m, n, e)) =
     here_named c s b (subst (λ (l : List Symbol). Names c b l s) (sym e) n) in
     some_second (fault_at s a) (cond (may_be_empty a) (fault_at s b) None)
     (ap (λ z. is_some (cond z (fault_at s b) None)) (empty_out a m) ∙ more)
-here_named c s (Before a b) (inr (x ∷ u, v, m, n, e)) = absurd (no_front x u v e)
+here_named c s (Before a b) (inr (x ∷ u, v, m, n, e)) = absurd (no_cons x u v e)
 here_named c s (Either a b) (inl n) = some_first (fault_at s a) (fault_at s b) (here_named c s a n)
 here_named c s (Either a b) (inr n) = some_second (fault_at s a) (fault_at s b) (here_named c s b n)
 here_named c s (Many a) ([], v, m, n, e) = here_named c s a (subst (λ (l : List Symbol). Names c a l s) (sym e) n)
-here_named c s (Many a) (x ∷ u, v, m, n, e) = absurd (no_front x u v e)
+here_named c s (Many a) (x ∷ u, v, m, n, e) = absurd (no_cons x u v e)
 here_named c s (Fault code test) (e, passed, is) = ap (λ b. is_some (cond b (Some code) None)) passed
 
 -- after one more symbol
@@ -177,9 +174,6 @@ named_later c x (Many a) t s h = elim (from_parts c (after x a) (Many a) t s h) 
       )
 ]
 named_later c x (Fault code test) t s h = absurd h
-
-head_is : (x y : Symbol) (t l : List Symbol) → (x ∷ t) ≡ (y ∷ l) → (x ≡ y) × (t ≡ l)
-head_is x y t l e = (cc, cc)
 
 to_front : (c : ℕ) (x : Symbol) (a b : Shape) (t : List Symbol) (s : Symbol) (empty : Bool)
     → Names c (after x a ▸ b) t s

@@ -6,6 +6,7 @@ use Rattle.std.proofs.lemmas.List.{drop-map}
 use Rattle.std.proofs.lemmas.List.Sums.{sum_by-cons}
 use Rattle.std.proofs.lemmas.List.Elements.{All-from_recursion, recursion_from_All}
 use Rattle.std.proofs.lemmas.Bool.{cases_eq, eq-eqb, ne_eqb, eqb-true}
+use Rattle.fx_base.proofs.Lists.{each-map}
 use Rattle.fx_designs.specs.Galois.{add, neg, IsField, number, digits}
 use Rattle.fx_designs.specs.Vectors.{dot, plus, scale, zeros, combination, IsVector}
 use Rattle.fx_designs.specs.Runs.{points, levels_at, runs_of, block}
@@ -58,11 +59,6 @@ pub All-unmap : {X Y : Type 0} (P : X → Type 0) (f : Y → X) (ys : List Y) �
     → AllByRecursion (λ y. P (f y)) ys
 All-unmap P f [] h = tt
 All-unmap P f (y ∷ ys) h = (h.0, All-unmap P f ys h.1)
-
-pub All-remap : {X Y : Type 0} (P : X → Type 0) (f : Y → X) (ys : List Y) → AllByRecursion (λ y. P (f y)) ys
-    → AllByRecursion P (map f ys)
-All-remap P f [] h = tt
-All-remap P f (y ∷ ys) h = (h.0, All-remap P f ys h.1)
 
 -- the levels of the first rows alone count
 dot-front : (q : ℕ) (u : List ℕ) (rows : List (List ℕ)) (p : List ℕ)
@@ -192,7 +188,7 @@ module _ (q m s : ℕ) (f : IsField q) (rows : List (List ℕ)) (u : List ℕ) (
         All-from_recursion (λ x. dot q u x ≡ dot q h.by (digits q (length blocks) b)) _
             (held (λ x. dot q u x ≡ dot q h.by (digits q (length blocks) b)) (λ x. eqb (number q (drop s x)) b)
             (runs_of q m rows)
-            (All-remap (λ x. eqb (number q (drop s x)) b ≡ true → dot q u x ≡ dot q h.by (digits q (length blocks) b))
+            (each-map (λ x. eqb (number q (drop s x)) b ≡ true → dot q u x ≡ dot q h.by (digits q (length blocks) b))
             (λ p. levels_at q rows p) (points q m)
             (recursion_from_All _ (points q m)
             (all-points q m some

@@ -7,11 +7,12 @@ use Rattle.std.proofs.lemmas.List.{map-append}
 use Rattle.std.proofs.lemmas.List.Elements.{filter-append}
 use Rattle.std.proofs.lemmas.Bool.{cond-true, cond-false, cases_Bool, false_from_ne_true, and_left, and_right, and_from}
 use Rattle.std.proofs.lemmas.Bool.{or_left, or_right, or_from}
+use Rattle.fx_base.proofs.Lists.{each-map, each-all, each-weaker}
 use Rattle.fx_designs.specs.Answers.{falling, lists}
 use Rattle.fx_designs.specs.Nodes.{parent}
 use Rattle.fx_laws.specs.Trees.{Tree, IsTree, children_of}
 use Rattle.fx_laws.specs.Walks.{is_candidate, under, subtree}
-use Rattle.fx_laws.proofs.Order.{each-map, each-all, each-weaker, nonempty}
+use Rattle.fx_laws.proofs.Order.{nonempty}
 use Rattle.fx_laws.proofs.Through.{filter-none}
 
 take-left : (c s : List ℕ) (k : ℕ) → take (length c + k) (c ++ s) ≡ c ++ take k s

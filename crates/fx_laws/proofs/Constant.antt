@@ -6,6 +6,7 @@ use Rattle.std.proofs.lemmas.Bool.{eq-eqb, eqb-true}
 use Rattle.std.proofs.lemmas.List.Folds.{list_any_at}
 use Rattle.std.proofs.lemmas.List.FromFn.{length-range_with_len, get_or-range_with_len}
 use Rattle.std.proofs.lemmas.List.Elements.{All-get_or, All-from_get_or}
+use Rattle.fx_base.proofs.Lists.{each-all}
 use Rattle.fx_designs.specs.Galois.{IsField, codes_of}
 use Rattle.fx_designs.specs.Vectors.{dot, combination, vectors_of, zeros}
 use Rattle.fx_designs.specs.Runs.{is_constant, runs_of}
@@ -14,7 +15,6 @@ use Rattle.fx_laws.proofs.Linear.{dot_code}
 use Rattle.fx_laws.proofs.Tests.{all_decides, some_item}
 use Rattle.fx_laws.proofs.Bridge.{zero_constant, constant_zero}
 use Rattle.fx_laws.proofs.Space.{AreVectors}
-use Rattle.fx_laws.proofs.Order.{each-all}
 use Rattle.fx_laws.proofs.CanonicalTest.{rows-vectors}
 
 module _ (q : ℕ) (f : IsField q) (u : List ℕ) where

@@ -1,14 +1,12 @@
 -- Under a resolution the rows can be put in falling order.
-use Rattle.std.proofs.Common.{ℕ, ◌≡◌, ◌<◌, ◌≤◌, ◌+◌, ◌-◌, min, zero, suc, true, cond, List, [], ◌∷◌, ◌++◌, map, length}
-use Rattle.std.proofs.Common.{append_assoc, length-append, zero-add, refl, sym, subst, ◌∙◌, ap, ap₂, arith, inl, inr}
+use Rattle.std.proofs.Common.{ℕ, ◌≡◌, ◌<◌, ◌≤◌, ◌+◌, ◌-◌, min, zero, suc, List, [], ◌∷◌, ◌++◌, map, length}
+use Rattle.std.proofs.Common.{append_assoc, length-append, refl, sym, subst, ◌∙◌, ap, ap₂, arith, inl, inr}
 use Rattle.std.proofs.Common.{◌⊎◌}
-use Rattle.std.specs.Prelude.{nat_lt}
 use Rattle.std.specs.List.{AllByRecursion}
 use Rattle.std.proofs.lemmas.List.{length-map, map-append, get_or-append-add, get_or_append_left}
 use Rattle.std.proofs.lemmas.List.Elements.{All-get_or, All-from_recursion}
-use Rattle.std.proofs.lemmas.List.Sums.{sum_by-cons}
 use Rattle.std.proofs.lemmas.Bool.{cases_eq}
-use Rattle.std.proofs.lemmas.Bool.Decides.{nat_tests}
+use Rattle.fx_base.proofs.Lists.{each-append, each-append_parts}
 use Rattle.fx_designs.specs.Galois.{add, mul, neg, IsField, number}
 use Rattle.fx_designs.specs.Vectors.{dot, plus, scale, zeros, combination, IsVector, weight}
 use Rattle.fx_laws.specs.Facts.{IsNormal}
@@ -18,7 +16,7 @@ use Rattle.fx_laws.specs.Canonical.{IsCanonical, IsFalling, row}
 use Rattle.fx_laws.specs.Raises.{IsAllowed, IsBlind}
 use Rattle.fx_laws.specs.Scalings.{scaled, IsScalable}
 use Rattle.fx_laws.specs.Reorders.{reordered, IsReorderable}
-use Rattle.fx_laws.proofs.Linear.{zero-mul, dot-plus, dot-scale, dot-zeros}
+use Rattle.fx_laws.proofs.Linear.{zero-mul, dot-plus, dot-scale, dot-zeros, neg-positive}
 use Rattle.fx_laws.proofs.Space.{ext, zeros-vector, plus-vector, scale-vector, combination-vector, AreVectors}
 use Rattle.fx_laws.proofs.Separation.{add-mul}
 use Rattle.fx_laws.proofs.Changes.{to_form, scale-none}
@@ -30,27 +28,7 @@ use Rattle.fx_laws.proofs.Follows.{Follows, follows-trans, formed-append, change
 use Rattle.fx_laws.proofs.Forms.{normal_factor, factors-scalars, formed-scaled, each_normal, formed-canonical}
 use Rattle.fx_laws.proofs.Forms.{scale-one}
 use Rattle.fx_laws.proofs.Whole.{scale_follows, scaled-append}
-use Rattle.fx_laws.proofs.Order.{each-append}
-
-pub weight-none : (u : List ℕ) → weight (0 ∷ u) ≡ weight u
-weight-none u = sum_by-cons (λ c. cond (nat_lt 0 c) 1 0) 0 u ∙ zero-add (weight u)
-
-pub weight-some : (a : ℕ) (u : List ℕ) → 0 < a → weight (a ∷ u) ≡ 1 + weight u
-weight-some a u h =
-    let t : nat_lt 0 a ≡ true = grind (arith, nat_tests) in
-    sum_by-cons (λ c. cond (nat_lt 0 c) 1 0) a u ∙ ap (λ b. cond b 1 0 + weight u) t
-
-weight-one : (u : List ℕ) → weight (1 ∷ u) ≡ 1 + weight u
-weight-one u = weight-some 1 u (omega arith)
-
-pub weight-zeros : (n : ℕ) → weight (zeros n) ≡ 0
-weight-zeros zero = refl
-weight-zeros (suc n) = weight-none (zeros n) ∙ weight-zeros n
-
-each-left : {X : Type 0} (P : X → Type 0) (xs ys : List X) → AllByRecursion P (xs ++ ys)
-    → AllByRecursion P xs × AllByRecursion P ys
-each-left P [] ys h = (tt, h)
-each-left P (x ∷ xs) ys h = (let r = each-left P xs ys h.1 in ((h.0, r.0), r.1))
+use Rattle.fx_laws.proofs.Weights.{weight-some, weight-none, weight-zeros}
 
 pub formed-join : (m k j n : ℕ) (xs ys : List (List ℕ)) → IsFormedTo m k xs j → IsFormedTo m j ys n
     → IsFormedTo m k (xs ++ ys) n
@@ -116,7 +94,7 @@ module _ (q m : ℕ) (f : IsField q) where
   free-zero x xs h free e =
       let z = zeros-vector q (length xs) f in
       let one : weight (1 ∷ zeros (length xs)) ≡ 1 =
-      weight-one (zeros (length xs)) ∙ ap (λ (n : ℕ). 1 + n) (weight-zeros (length xs)) in
+      weight-some 1 (zeros (length xs)) (omega arith) ∙ ap (λ (n : ℕ). 1 + n) (weight-zeros (length xs)) in
       free (1 ∷ zeros (length xs))
       (record { len = (let e' = z.len in omega arith); codes = (f.more_than_one, z.codes) }) (rw one (omega arith))
       (rw one (omega arith))
@@ -134,14 +112,6 @@ module _ (q m : ℕ) (f : IsField q) where
       ∙ sym (add-mul q f 1 (neg q 1) (dot q x p)) ∙ ap (λ z. mul q z (dot q x p)) (f.add_neg 1) ∙ zero-mul q f
       (dot q x p) ∙ sym (dot-zeros q f m p))
 
-  neg-positive : 0 < neg q 1
-  neg-positive =
-      elim (cases_eq (neg q 1) 0) [
-        | inl e ↦ absurd
-            (let bad : 1 ≡ 0 = sym (f.add_zero 1 f.more_than_one) ∙ ap (add q 1) (sym e) ∙ f.add_neg 1 in omega arith)
-        | inr ne ↦ omega arith
-      ]
-
   differs : (x : List ℕ) (ys : List (List ℕ)) → IsVector q m x → AreVectors q m ys
       → ((u : List ℕ) → IsVector q (length ys) u → weight u ≡ 1 → plus q x (combination q m u ys) ≡ zeros m → ⊥)
       → AllByRecursion (λ y. x ≡ y → ⊥) ys
@@ -150,7 +120,8 @@ module _ (q m : ℕ) (f : IsField q) where
       let z = zeros-vector q (length ys) f in (
         (λ e. free (neg q 1 ∷ zeros (length ys))
             (record { len = (let e' = z.len in omega arith); codes = (f.neg_code 1, z.codes) })
-            (weight-some (neg q 1) (zeros (length ys)) neg-positive ∙ ap (λ (n : ℕ). 1 + n) (weight-zeros (length ys)))
+            (weight-some (neg q 1) (zeros (length ys)) (neg-positive q f) ∙ ap (λ (n : ℕ). 1 + n)
+            (weight-zeros (length ys)))
             (ap (λ v. plus q x (plus q (scale q (neg q 1) v) (combination q m (zeros (length ys)) ys))) (sym e) ∙ ap
             (λ v. plus q x (plus q (scale q (neg q 1) x) v)) (none-combination q m f (length ys) ys h.1) ∙ negated x
             hx)),
@@ -166,7 +137,7 @@ module _ (q m : ℕ) (f : IsField q) where
   free-differs : (x : List ℕ) (xs : List (List ℕ)) → AreVectors q m (x ∷ xs) → IsWordFree (x ∷ xs)
       → AllByRecursion (λ y. x ≡ y → ⊥) xs
   free-differs x xs h free = differs x xs h.0 h.1 (λ u hu one e.
-      let two : weight (1 ∷ u) ≡ 2 = weight-one u ∙ ap (λ (n : ℕ). 1 + n) one in
+      let two : weight (1 ∷ u) ≡ 2 = weight-some 1 u (omega arith) ∙ ap (λ (n : ℕ). 1 + n) one in
       free (1 ∷ u) (record { len = (let e' = hu.len in omega arith); codes = (f.more_than_one, hu.codes) })
       (rw two (omega arith)) (rw two (omega arith))
       (ap (λ v. plus q v (combination q m u xs)) (scale-one q m f x h.0) ∙ e))
@@ -196,7 +167,7 @@ module _ (q m : ℕ) (f : IsField q) where
   free-units k (suc j) zs h free =
       let rest = free-units (suc k) j zs h.1 (free-tail (unit m k) (units_from m (suc k) j ++ zs) h free) in
       let here =
-      (each-left (λ y. unit m k ≡ y → ⊥) (units_from m (suc k) j) zs
+      (each-append_parts (λ y. unit m k ≡ y → ⊥) (units_from m (suc k) j) zs
       (free-differs (unit m k) (units_from m (suc k) j ++ zs) h free)).1 in (
         rest.0,
         λ i low high. elim (cases_eq k i) [
@@ -212,7 +183,7 @@ module _ (q m : ℕ) (f : IsField q) where
       → IsFalling q m s ((units_from m 0 n ++ os) ++ ys)
   falling_rows n s os ys len is h free w =
       let split = free-units 0 n os h free in
-      let ho : AreVectors q m os = (each-left (λ r. IsVector q m r) (units_from m 0 n) os h).1 in
+      let ho : AreVectors q m os = (each-append_parts (λ r. IsVector q m r) (units_from m 0 n) os h).1 in
       let size : n + length os ≡ s =
       (let e = length-append (units_from m 0 n) os in let e' = length-units m 0 n in omega arith) in
       let assoc : (units_from m 0 n ++ os) ++ ys ≡ units_from m 0 n ++ (os ++ ys) =
@@ -293,7 +264,7 @@ module _ (q m : ℕ) (f : IsField q) where
       subst (λ r. IsFormedTo m 0 r made.1.rank) (scaled-append q m f x2 y2)
       (formed-scaled q m f 0 made.1.rank (x2 ++ y2) formed) in
       let normal =
-      each-left (λ v. (v ≡ zeros m) ⊎ IsNormal v) x3 y3
+      each-append_parts (λ v. (v ≡ zeros m) ⊎ IsNormal v) x3 y3
       (subst (λ r. AllByRecursion (λ v. (v ≡ zeros m) ⊎ IsNormal v) r) (scaled-append q m f x2 y2)
       (each_normal q m f (x2 ++ y2)
       (each-append (λ r. IsVector q m r) x2 y2 second.factor_vectors second.block_vectors))) in

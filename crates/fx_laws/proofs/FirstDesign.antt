@@ -1,6 +1,6 @@
 -- The answer is the first design.
 use Rattle.std.proofs.Common.{ℕ, ◌≡◌, ◌<◌, ◌+◌, ◌^◌, ◌||◌, not, ltb, true, false, List, length, Some, None, sym, ap}
-use Rattle.std.proofs.Common.{◌∙◌, subst, arith, inl, inr}
+use Rattle.std.proofs.Common.{◌∙◌, subst, arith, inl, inr, ◌&&◌}
 use Rattle.std.specs.List.{find, filter, AllByRecursion}
 use Rattle.std.proofs.lemmas.Bool.{and_parts, eqb-true, or_left, false_from_ne_true, both_ways}
 use Rattle.std.proofs.lemmas.List.Elements.{recursion_from_All}
@@ -10,8 +10,10 @@ use Rattle.fx_designs.specs.Answers.{before, lists, prefixes, is_design, is_of_l
 use Rattle.fx_laws.specs.First.{IsFirstDesign}
 use Rattle.fx_laws.proofs.Tests.{all_decides}
 use Rattle.std.proofs.lemmas.Bool.{ltb-true, lt-ltb, cases_lt}
-use Rattle.fx_laws.proofs.Order.{lists-sorted, all_lists, IsIn, found_first, first_found, none_found, found_passes}
-use Rattle.fx_laws.proofs.Order.{find-filter, before-self, before-not}
+use mathlib.Core.Bool.{and-true}
+use Rattle.fx_base.proofs.Lists.{find-filter, find_agree}
+use Rattle.fx_laws.proofs.Order.{lists-sorted, all_lists, IsIn, found_first, first_found, found_passes}
+use Rattle.fx_laws.proofs.Order.{before-self, before-not}
 
 module _ (p : Problem) where
   -- what every design has, by its tests of length and range
@@ -50,8 +52,11 @@ module _ (p : Problem) where
     pub answer-find : answer p ≡ find (is_design p) (prefixes p)
     unfolding answer designs
     answer-find =
-        find-filter (is_design p) (λ rows. not p.least || is_of_least_pattern p rows) (prefixes p)
-        (λ rows. or_left _ _ (ap not plain))
+        let least = λ (rows : List ℕ). not p.least || is_of_least_pattern p rows in
+        find-filter (is_design p) least (prefixes p)
+        ∙ find_agree (λ rows. is_design p rows && least rows) (is_design p)
+        (λ rows. ap (λ b. is_design p rows && b) (or_left _ _ (ap not plain)) ∙ and-true (is_design p rows))
+        (prefixes p)
 
     pub first-answer : 0 < p.dimensions.s + p.dimensions.t → (rows : List ℕ) → IsFirstDesign p rows
         → answer p ≡ Some rows
@@ -64,9 +69,6 @@ module _ (p : Problem) where
         let found = found_first (is_design p) (prefixes p) rows (lists-sorted _ _) (there some rows h) h in
         let bad : Some found.0 ≡ None = sym found.1 ∙ sym answer-find ∙ none in
         absurd (cc))
-
-    pub none-answer : ((rows : List ℕ) → is_design p rows ≡ true → ⊥) → answer p ≡ None
-    none-answer none = answer-find ∙ none_found (is_design p) (prefixes p) none
 
     pub answer-first : (rows : List ℕ) → answer p ≡ Some rows → IsFirstDesign p rows
     answer-first rows h =

@@ -4,6 +4,7 @@ use Rattle.std.proofs.Common.{subst, ◌∙◌, ap, ap₂, arith, inl, inr, ◌�
 use Rattle.std.specs.List.{AllByRecursion}
 use Rattle.std.proofs.lemmas.List.{length-map, map-append}
 use Rattle.std.proofs.lemmas.Bool.{cases_eq, cases_lt, cases_Bool}
+use Rattle.fx_base.proofs.Lists.{each-append}
 use Rattle.fx_designs.specs.Galois.{add, mul, inv, IsField}
 use Rattle.fx_designs.specs.Vectors.{dot, plus, scale, zeros, IsVector}
 use Rattle.fx_laws.specs.Spans.{InSpan}
@@ -18,7 +19,6 @@ use Rattle.fx_laws.proofs.Changes.{dot-scale-right}
 use Rattle.fx_laws.proofs.Ranks.{map-vectors, rank-formed, rank-change, spans-none, in_span-true}
 use Rattle.fx_laws.proofs.Raises.{ZeroAt, fewer_words, raised_by, raised-length, raised-vectors, rank-raised, words_old}
 use Rattle.fx_laws.proofs.Raises.{allowed_by_block, allowed_by_other, none-combination}
-use Rattle.fx_laws.proofs.Order.{each-append}
 
 -- the second matrix has the shape of the first, is allowed if it is, and has no more words of any weight
 pub record Follows (q m : ℕ) (Forbidden : List ℕ → List ℕ → Type 0) (f b f' b' : List (List ℕ)) : Type 0 where

@@ -6,9 +6,10 @@ use Rattle.std.specs.List.{AllByRecursion}
 use Rattle.std.proofs.lemmas.List.{append-nil}
 use Rattle.std.proofs.lemmas.List.{take-append-le}
 use Rattle.std.proofs.lemmas.List.Elements.{All-get_or, All-from_recursion}
-use Rattle.std.proofs.lemmas.Bool.{cases_eq, eq-eqb, ne_eqb}
+use Rattle.std.proofs.lemmas.Bool.{cases_eq, eq-eqb, ne_eqb, both_ways}
 use Rattle.std.proofs.lemmas.Bool.Decides.{nat_tests}
 use Rattle.std.proofs.lemmas.List.Sums.{sum_by-cons}
+use Rattle.fx_base.proofs.Lists.{each-append}
 use Rattle.fx_designs.specs.Galois.{mul, inv, IsField}
 use Rattle.fx_designs.specs.Vectors.{dot, scale, zeros, IsVector, weight, last_nonzero}
 use Rattle.fx_laws.specs.Facts.{IsNormal}
@@ -22,10 +23,7 @@ use Rattle.fx_laws.proofs.Separation.{inv-mul, one-mul}
 use Rattle.fx_laws.proofs.Changes.{unit-vector, mul-zero-either}
 use Rattle.fx_laws.proofs.Ranks.{spans-none, spans-old, spans-new, spans-short, unit-long, in_span-holds, in_span-none}
 use Rattle.fx_laws.proofs.Ranks.{short-scale, Spans}
-use Rattle.fx_laws.proofs.Order.{each-append}
-
-false-true : {A : Type 0} (b : Bool) → b ≡ true → b ≡ false → A
-false-true b e e' = absurd (cc)
+use Rattle.fx_laws.proofs.Weights.{last_nonzero-zeros}
 
 pub inv-positive : (q : ℕ) (f : IsField q) (a : ℕ) → 0 < a → a < q → 0 < inv q a
 inv-positive q f a some h =
@@ -90,8 +88,9 @@ module _ (q m : ℕ) (f : IsField q) where
   new_at bs [] k n i h rk hr formed below out = absurd (omega arith)
   new_at bs (r ∷ rows) k n zero h rk hr formed below out =
       elim formed [
-        | inl s ↦ false-true (in_span q m bs r) (in_span-holds q m f bs r (h.all r hr.0 s.0))
-            (subst (λ z. in_span q m z r ≡ false) (append-nil bs) out)
+        | inl s ↦ (absurd
+            (both_ways (in_span q m bs r) (subst (λ z. in_span q m z r ≡ false) (append-nil bs) out)
+            (in_span-holds q m f bs r (h.all r hr.0 s.0))))
         | inr s ↦ s.1 ∙ ap (unit m) (sym (ap (λ z. rank_of q m z) (append-nil bs) ∙ rk))
       ]
   new_at bs (r ∷ rows) k n (suc i) h rk hr formed below out =
@@ -142,13 +141,9 @@ module _ (q m : ℕ) (f : IsField q) where
         | inr ne ↦ (let e' = ne_eqb _ _ ne in let h' = rw e' at h in absurd (ne h'))
       ]
 
-  last-zeros : (n : ℕ) → last_nonzero (zeros n) ≡ 0
-  last-zeros zero = refl
-  last-zeros (suc n) = rw (last-zeros n) refl
-
   pub last-unit : (n k : ℕ) → k < n → last_nonzero (unit n k) ≡ 1
   last-unit zero k h = absurd (omega arith)
-  last-unit (suc n) zero h = rw (last-zeros n) refl
+  last-unit (suc n) zero h = rw (last_nonzero-zeros n) refl
   last-unit (suc n) (suc k) h = rw (last-unit n k (omega arith)) refl
 
   normal_factor-code : (r : List ℕ) → AllByRecursion (λ a. a < q) r → (0 < normal_factor r) × (normal_factor r < q)

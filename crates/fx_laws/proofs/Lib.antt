@@ -23,6 +23,7 @@ pub mod Permutations
 pub mod Follows
 pub mod Forms
 pub mod Whole
+pub mod Weights
 pub mod Falling
 pub mod Prefixes
 pub mod Through

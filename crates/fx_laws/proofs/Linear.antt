@@ -1,6 +1,7 @@
 -- Sums and products of vectors, over any field.
-use Rattle.std.proofs.Common.{ℕ, ◌≡◌, ◌<◌, zero, suc, List, [], ◌∷◌, map, length, refl, sym, ◌∙◌, ap, arith}
-use Rattle.fx_designs.specs.Galois.{add, mul, IsField}
+use Rattle.std.proofs.Common.{ℕ, ◌≡◌, ◌<◌, zero, suc, List, [], ◌∷◌, length, refl, sym, ◌∙◌, ap, arith, inl, inr}
+use Rattle.std.proofs.lemmas.Bool.{cases_eq}
+use Rattle.fx_designs.specs.Galois.{add, mul, neg, IsField}
 use Rattle.fx_designs.specs.Vectors.{dot, plus, scale, zeros, combination}
 use Rattle.fx_designs.specs.Runs.{levels_at}
 
@@ -9,6 +10,14 @@ zero-mul q f a = f.mul_comm 0 a ∙ f.mul_zero a
 
 pub zero-add-code : (q : ℕ) (f : IsField q) (a : ℕ) → a < q → add q 0 a ≡ a
 zero-add-code q f a h = f.add_comm 0 a ∙ f.add_zero a h
+
+pub neg-positive : (q : ℕ) → IsField q → 0 < neg q 1
+neg-positive q f =
+    elim (cases_eq (neg q 1) 0) [
+      | inl e ↦ absurd
+          (let bad : 1 ≡ 0 = sym (f.add_zero 1 f.more_than_one) ∙ ap (add q 1) (sym e) ∙ f.add_neg 1 in omega arith)
+      | inr ne ↦ omega arith
+    ]
 
 -- a sum of four, regrouped
 pub add-add : (q : ℕ) (f : IsField q) (a b c d : ℕ) → add q (add q a b) (add q c d) ≡ add q (add q a c) (add q b d)
@@ -77,15 +86,3 @@ levels-scale q f (r ∷ a) c v =
 pub levels-zeros : (q : ℕ) (f : IsField q) (a : List (List ℕ)) (n : ℕ) → levels_at q a (zeros n) ≡ zeros (length a)
 levels-zeros q f [] n = refl
 levels-zeros q f (r ∷ a) n = rw (dot_comm q f r (zeros n), dot-zeros q f n r, levels-zeros q f a n) refl
-
-pub combination-levels : (q : ℕ) (f : IsField q) (m : ℕ) (a : List (List ℕ)) (u : List ℕ) (rows : List (List ℕ))
-    → combination q (length a) u (map (levels_at q a) rows) ≡ levels_at q a (combination q m u rows)
-combination-levels q f m a [] rows = sym (levels-zeros q f a m)
-combination-levels q f m a (c ∷ u) [] = sym (levels-zeros q f a m)
-combination-levels q f m a (c ∷ u) (r ∷ rows) =
-    rw (
-      levels-plus q f a (scale q c r) (combination q m u rows),
-      levels-scale q f a c r,
-      combination-levels q f m a u
-          rows,
-    ) refl

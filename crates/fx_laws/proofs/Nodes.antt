@@ -5,6 +5,7 @@ use Rattle.std.proofs.Common.{inr, arith, subst, eq-eqb, lt-ltb, take-append-dro
 use Rattle.std.specs.List.{filter, list_any, find, AllByRecursion}
 use Rattle.std.proofs.lemmas.Bool.{cond-true, cond-false, cases_Bool, and_from, and_left, and_right, or_left, or_right}
 use Rattle.std.proofs.lemmas.Bool.{or_from, and_parts, or_parts, false_from_ne_true, not_from_true, not_from_false}
+use Rattle.fx_base.proofs.Lists.{each-all, each-weaker, filter_agree_each, each-both}
 use Rattle.fx_designs.specs.Answers.{before}
 use Rattle.fx_designs.specs.Nodes.{parent, is_not_after}
 use Rattle.fx_laws.specs.Trees.{Tree, IsTree, tree_prefixes, is_tree_design, tree_answer, is_tree_branch, is_tree_node}
@@ -12,18 +13,8 @@ use Rattle.fx_laws.specs.Trees.{tree_nodes, tree_mark, tree_marks}
 use Rattle.fx_laws.specs.Walks.{through, is_candidate, under, mark_at}
 use Rattle.fx_laws.proofs.Through.{filter-none}
 use Rattle.fx_laws.proofs.Candidates.{closed-append}
-use Rattle.fx_laws.proofs.Order.{Sorted, lists-sorted, lists-short, before-self, before-trans, each-all, each-weaker}
+use Rattle.fx_laws.proofs.Order.{Sorted, lists-sorted, lists-short, before-self, before-trans}
 use Rattle.fx_laws.proofs.Order.{nonempty}
-
-pub filter_same : (p q : List ℕ → Bool) (xs : List (List ℕ)) → AllByRecursion (λ x. p x ≡ q x) xs
-    → filter p xs ≡ filter q xs
-filter_same p q [] h = refl
-filter_same p q (x ∷ xs) h = cc (h.0, filter_same p q xs h.1)
-
-pub each-both : (P Q : List ℕ → Type 0) (xs : List (List ℕ)) → AllByRecursion P xs → AllByRecursion Q xs
-    → AllByRecursion (λ x. P x × Q x) xs
-each-both P Q [] h k = tt
-each-both P Q (x ∷ xs) h k = ((h.0, k.0), each-both P Q xs h.1 k.1)
 
 pub any-less : (P Q : List ℕ → Bool) → ((x : List ℕ) → Q x ≡ true → P x ≡ true) → (xs : List (List ℕ))
     → list_any P xs ≡ false → list_any Q xs ≡ false
@@ -45,7 +36,7 @@ find-candidates D C h (x ∷ xs) =
           (cond-false (D x) (Some x) (find D xs) out)
     ]
 
-map_same : {Y : Type 0} (f g : List ℕ → Y) (p : List ℕ → Bool) → ((x : List ℕ) → p x ≡ true → f x ≡ g x)
+pub map_same : {Y : Type 0} (f g : List ℕ → Y) (p : List ℕ → Bool) → ((x : List ℕ) → p x ≡ true → f x ≡ g x)
     → (xs : List (List ℕ)) → map f (filter p xs) ≡ map g (filter p xs)
 map_same f g p h [] = refl
 map_same f g p h (x ∷ xs) =
@@ -199,7 +190,7 @@ module _ (t : Tree) (law : IsTree t) where
   pub nodes_are : tree_nodes t ≡ through (is_tree_design t) (under t t.size [])
   unfolding tree_nodes under
   nodes_are =
-      filter_same (is_tree_node t) (λ p. is_candidate t p && not (any_before p)) (tree_prefixes t)
+      filter_agree_each (is_tree_node t) (λ p. is_candidate t p && not (any_before p)) (tree_prefixes t)
       (each-weaker (λ p. (0 < length p) × (length p ≤ t.size)) _ (tree_prefixes t) (λ p h. is_cut p h.0 h.1)
       (each-both _ _ (tree_prefixes t) (nonempty t.rows t.size) (lists-short t.rows t.size)))
       ∙ cut (is_tree_design t) (is_candidate t) design-candidate any_before (tree_prefixes t)

@@ -7,25 +7,8 @@ use Rattle.std.specs.List.{filter, find, flat_map, AllByRecursion}
 use Rattle.std.proofs.lemmas.Bool.{cond-true, cond-false, cases_Bool, and_from, and_right, or_left, or_right, or_from}
 use Rattle.std.proofs.lemmas.Bool.{or_cases, and_parts, false_from_ne_true, cases_lt}
 use Rattle.fx_designs.specs.Answers.{before, falling, lists}
-
-pub each-append : {X : Type 0} (P : X → Type 0) (xs ys : List X) → AllByRecursion P xs → AllByRecursion P ys
-    → AllByRecursion P (xs ++ ys)
-each-append P [] ys h k = k
-each-append P (x ∷ xs) ys h k = (h.0, each-append P xs ys h.1 k)
-
-pub each-map : {X Y : Type 0} (P : Y → Type 0) (f : X → Y) (xs : List X) → AllByRecursion (λ x. P (f x)) xs
-    → AllByRecursion P (map f xs)
-each-map P f [] h = tt
-each-map P f (x ∷ xs) h = (h.0, each-map P f xs h.1)
-
-pub each-all : {X : Type 0} (P : X → Type 0) (xs : List X) → ((x : X) → P x) → AllByRecursion P xs
-each-all P [] h = tt
-each-all P (x ∷ xs) h = (h x, each-all P xs h)
-
-pub each-weaker : {X : Type 0} (P Q : X → Type 0) (xs : List X) → ((x : X) → P x → Q x) → AllByRecursion P xs
-    → AllByRecursion Q xs
-each-weaker P Q [] h k = tt
-each-weaker P Q (x ∷ xs) h k = (h x k.0, each-weaker P Q xs h k.1)
+pub use Rattle.fx_base.proofs.Lists.{each-append, each-map, each-all}
+use Rattle.fx_base.proofs.Lists.{each-weaker, find-filter}
 
 pub each-flat_map : {X Y : Type 0} (P : Y → Type 0) (f : X → List Y) (xs : List X) → ((x : X) → AllByRecursion P (f x))
     → AllByRecursion P (flat_map f xs)
@@ -238,15 +221,8 @@ module _ (D : List ℕ → Bool) where
         | inr earlier ↦ absurd (first e.0 e.2 earlier)
       ]
 
-pub find-filter : {X : Type 0} (D p : X → Bool) (xs : List X) → ((x : X) → p x ≡ true)
-    → find p (filter D xs) ≡ find D xs
-find-filter D p [] all = refl
-find-filter D p (x ∷ xs) all =
-    elim (cases_Bool (D x)) [
-      | inl holds ↦
-          ap (find p) (cond-true (D x) (x ∷ filter D xs) (filter D xs) holds) ∙ cond-true (p x) (Some x) _ (all x) ∙ sym
-          (cond-true (D x) (Some x) (find D xs) holds)
-      | inr fails ↦
-          ap (find p) (cond-false (D x) (x ∷ filter D xs) (filter D xs) fails) ∙ find-filter D p xs all ∙ sym
-          (cond-false (D x) (Some x) (find D xs) fails)
-    ]
+-- what is found of those that pass a test passes it
+pub found_in_filter : (D E : List ℕ → Bool) (xs : List (List ℕ)) (x : List ℕ) → find E (filter D xs) ≡ Some x
+    → D x ≡ true
+found_in_filter D E xs x h =
+    (and_parts _ _ (found_passes (λ y. D y && E y) xs x (sym (find-filter D E xs) ∙ h))).0

@@ -24,12 +24,6 @@ unit-past zero k h = refl
 unit-past (suc m) zero h = absurd (omega arith)
 unit-past (suc m) (suc k) h = ap (λ v. 0 ∷ v) (unit-past m k (omega arith))
 
-each-take : (P : List ℕ → Type 0) (rows : List (List ℕ)) (k : ℕ) → AllByRecursion P rows
-    → AllByRecursion P (take k rows)
-each-take P rows zero h = tt
-each-take P [] (suc k) h = h
-each-take P (r ∷ rows) (suc k) h = (h.0, each-take P rows k h.1)
-
 each-row : (P : List ℕ → Type 0) (rows : List (List ℕ)) (k : ℕ) → k < length rows → AllByRecursion P rows
     → P (row rows k)
 each-row P [] k h all = absurd (omega arith)

@@ -5,6 +5,7 @@ use Rattle.std.specs.List.{AllByRecursion, sum_by}
 use Rattle.std.proofs.lemmas.List.Sums.{sum_by-cons}
 use Rattle.std.proofs.lemmas.List.Elements.{recursion_from_All}
 use Rattle.std.proofs.lemmas.Bool.{eq-eqb, eqb-true}
+use Rattle.fx_base.proofs.Lists.{each-append}
 use Rattle.fx_designs.specs.Galois.{add, mul, IsField, number}
 use Rattle.fx_designs.specs.Vectors.{dot, plus, scale, zeros, combination, IsVector, weight}
 use Rattle.fx_designs.specs.Runs.{levels_at, points}
@@ -16,7 +17,6 @@ use Rattle.fx_laws.proofs.Linear.{zero-mul, zero-add-code, dot_code, dot-plus, d
 use Rattle.fx_laws.proofs.Space.{ext, zeros-vector, plus-vector, scale-vector, combination-vector, AreVectors}
 use Rattle.fx_laws.proofs.Shift.{all-points}
 use Rattle.fx_laws.proofs.Ranks.{in_span-true, in_span-holds, in_span-none, plus-zero, number-same}
-use Rattle.fx_laws.proofs.Order.{each-append}
 
 module _ (q m : ℕ) (f : IsField q) where
   -- the rows are 0 at p

@@ -18,8 +18,8 @@ use Rattle.fx_laws.proofs.Space.{ext, zeros-vector, plus-vector, scale-vector, c
 use Rattle.fx_laws.proofs.Changes.{unit-vector, short-zeros, zeros-short, change-combination, scale-none, short_more}
 use Rattle.fx_laws.proofs.Changes.{unit_short, add-over}
 use Rattle.fx_laws.proofs.Separation.{add-mul, one-mul}
-use Rattle.std.proofs.lemmas.List.{length-map}
-use Rattle.fx_laws.proofs.Order.{each-append}
+use Rattle.std.proofs.lemmas.List.{length-map, map_push}
+use Rattle.fx_base.proofs.Lists.{each-append}
 use Rattle.fx_laws.proofs.Tests.{bool_same}
 
 pub plus-assoc : (q : ℕ) (f : IsField q) (v w x : List ℕ) → plus q (plus q v w) x ≡ plus q v (plus q w x)
@@ -259,10 +259,6 @@ module _ (q m : ℕ) (f : IsField q) where
       sym (add-over q f (dot q w p) (dot q v p) (dot_code q f w p) (dot_code q f v p)) ∙ ap (add q (dot q w p)) one ∙
       f.add_zero (dot q w p) (dot_code q f w p))
 
-  pub map-snoc : (a : List ℕ → List ℕ) (bs : List (List ℕ)) (r : List ℕ) → map a (bs ++ r ∷ []) ≡ map a bs ++ a r ∷ []
-  map-snoc a [] r = refl
-  map-snoc a (b ∷ bs) r = rw (map-snoc a bs r) refl
-
   pub map-vectors : (a : List ℕ → List ℕ) → IsChange q m a → (bs : List (List ℕ)) → AreVectors q m bs
       → AreVectors q m (map a bs)
   map-vectors a h [] hb = tt
@@ -292,5 +288,5 @@ module _ (q m : ℕ) (f : IsField q) where
   rank-change a h bs [] hb hr = refl
   rank-change a h bs (r ∷ rows) hb hr =
       ap₂ (λ (x y : ℕ). x + y) (ap (λ b. cond b 0 1) (in_span-change a h bs r hb hr.0))
-      (ap (λ x. rank_after q m x (map a rows)) (sym (map-snoc a bs r)) ∙ rank-change a h (bs ++ r ∷ []) rows
+      (ap (λ x. rank_after q m x (map a rows)) (sym (map_push a bs r)) ∙ rank-change a h (bs ++ r ∷ []) rows
       (each-append (λ r. IsVector q m r) bs (r ∷ []) hb (hr.0, tt)) hr.1)

@@ -34,10 +34,6 @@ each-swapped P zero (x ∷ y ∷ xs) h = (h.1.0, (h.0, h.1.1))
 each-swapped P (suc k) [] h = h
 each-swapped P (suc k) (x ∷ xs) h = (h.0, each-swapped P k xs h.1)
 
-pub length-reordered : {X : Type 0} (ks : List ℕ) (xs : List X) → length (reordered ks xs) ≡ length xs
-length-reordered [] xs = refl
-length-reordered (k ∷ ks) xs = length-reordered ks (swapped k xs) ∙ length-swapped k xs
-
 pub each-reordered : {X : Type 0} (P : X → Type 0) (ks : List ℕ) (xs : List X) → AllByRecursion P xs
     → AllByRecursion P (reordered ks xs)
 each-reordered P [] xs h = h

@@ -20,7 +20,7 @@ use Rattle.fx_laws.proofs.Changes.{mul-zero-either}
 use Rattle.fx_laws.proofs.Raises.{sum_by-each}
 
 module _ (q : ℕ) (f : IsField q) where
-  scale-scale : (a c : ℕ) (v : List ℕ) → scale q a (scale q c v) ≡ scale q (mul q c a) v
+  pub scale-scale : (a c : ℕ) (v : List ℕ) → scale q a (scale q c v) ≡ scale q (mul q c a) v
   scale-scale a c [] = refl
   scale-scale a c (x ∷ v) = rw (sym (f.mul_assoc a c x) ∙ ap (λ z. mul q z x) (f.mul_comm a c), scale-scale a c v) refl
 

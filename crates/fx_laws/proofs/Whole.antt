@@ -3,6 +3,7 @@ use Rattle.std.proofs.Common.{ℕ, ◌≡◌, ◌≤◌, ◌+◌, min, List, [],
 use Rattle.std.proofs.Common.{◌⊎◌}
 use Rattle.std.specs.List.{AllByRecursion}
 use Rattle.std.proofs.lemmas.List.{length-map, map-append}
+use Rattle.fx_base.proofs.Lists.{each-append}
 use Rattle.fx_designs.specs.Galois.{IsField}
 use Rattle.fx_designs.specs.Vectors.{scale, zeros, IsVector}
 use Rattle.fx_laws.specs.Facts.{IsNormal}
@@ -17,7 +18,6 @@ use Rattle.fx_laws.proofs.Ranks.{rank-formed, rank-change, spans-none}
 use Rattle.fx_laws.proofs.Scalings.{scaled-length, scaled-vectors, scaled_words, scaled_allowed}
 use Rattle.fx_laws.proofs.Follows.{Follows, follows-trans, formed-append, change_follows, raise_rank}
 use Rattle.fx_laws.proofs.Forms.{normal_factor, factors-scalars, formed-scaled, each_normal, formed-canonical}
-use Rattle.fx_laws.proofs.Order.{each-append}
 
 module _ (q m : ℕ) (f : IsField q) where
   -- nonzero multiples of rows keep what is allowed

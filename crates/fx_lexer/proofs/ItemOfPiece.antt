@@ -1,13 +1,14 @@
 -- Which item a piece or a flaw is.
 use Rattle.std.proofs.Common.{◌≡◌, ℕ, suc, ◌+◌, ◌<◌, ◌≤◌, Bool, true, false, not, ◌||◌, List, [], ◌∷◌, ◌++◌, length}
-use Rattle.std.proofs.Common.{drop, Option, Some, None, Result, Ok, Err, refl, sym, ap, ap₂, ◌∙◌, inl, inr, ◌⊎◌}
+use Rattle.std.proofs.Common.{drop, Option, Some, None, Result, Ok, Err, refl, sym, ap, ap₂, ◌∙◌, inl, inr}
 use Rattle.std.proofs.Common.{append_assoc, length-append, arith}
 use Rattle.std.specs.Prelude.{◌==◌, nat_le, if◌then◌else◌, Contains, codes}
 use Rattle.std.specs.List.{prefix_len, list_all, list_any}
 use Rattle.std.specs.Option.{option_map}
-use Rattle.std.proofs.lemmas.Bool.{eqb-true, eq-eqb, leb-true, le-leb, lt-leb, lt-ltb, cases_Bool, and_parts}
+use Rattle.std.proofs.lemmas.Bool.{eqb-true, eq-eqb, leb-true, le-leb, lt-leb, lt-ltb, cases_Bool, and_parts, or_parts}
 use Rattle.std.proofs.Math.Seq.{drop-append_seam}
 use Rattle.std.proofs.lemmas.List.Elements.{Contains-append_right}
+use Rattle.std.proofs.lemmas.Bool.{or_cases, not-true}
 use Rattle.fx_lexer.specs.declared.token.Kind.{Kind}
 use Rattle.fx_lexer.specs.declared.token.Kind.TheVariants as kind
 use Rattle.fx_lexer.specs.declared.item.Item.{Item}
@@ -24,10 +25,6 @@ use Rattle.fx_lexer.proofs.Ends.{first_byte, ends_same, ClosingIs, closing_is, R
 -- a sort of bytes that c isn't of
 pub differs : (sort : ℕ → Bool) (b c : ℕ) → sort b ≡ true → sort c ≡ false → (b == c) ≡ false
 differs sort b c is other = elim (cases_Bool (b == c)) [ inl e ↦ (let k = ap sort (eqb-true b c e) in cc) | inr e ↦ e ]
-
-either_of : (x y : Bool) → (x || y) ≡ true → (x ≡ true) ⊎ (y ≡ true)
-either_of true y e = inl refl
-either_of false y e = inr e
 
 -- bytes of another sort are no white space
 no_white : (sort : ℕ → Bool) (b : ℕ) → sort b ≡ true → sort 32 ≡ false → sort 9 ≡ false → sort 10 ≡ false
@@ -128,7 +125,7 @@ number_byte b = is_digit b || (b == 46)
 number_no_word : (b : ℕ) → number_byte b ≡ true → begins_word b ≡ false
 unfolding number_byte
 number_no_word b is =
-    elim (either_of (is_digit b) (b == 46) is) [ inl d ↦ digit_no_word b d | inr p ↦ rw (eqb-true b 46 p) refl ]
+    elim (or_cases (is_digit b) (b == 46) is) [ inl d ↦ digit_no_word b d | inr p ↦ rw (eqb-true b 46 p) refl ]
 
 module _ (start : Bool) (b : ℕ) (bytes : List ℕ) where
   number_item : (digits rest : List ℕ) (fraction : ℕ) → number_byte b ≡ true → b ∷ bytes ≡ digits ++ rest
@@ -232,14 +229,10 @@ none_of : (list : List ℕ) (b : ℕ) (p : ℕ → Bool) → list_any (λ c. c =
 none_of [] b p found none = absurd (cc found)
 none_of (c ∷ list) b p found none =
     let is = and_parts (not (p c)) (list_all (λ c. not (p c)) list) none in
-    elim (either_of (c == b) (list_any (λ c. c == b) list) found) [
-      | inl here ↦ (let e = ap p (eqb-true c b here) in let f = negated (p c) is.0 in cc)
+    elim (or_cases (c == b) (list_any (λ c. c == b) list) found) [
+      | inl here ↦ (let e = ap p (eqb-true c b here) in let f = not-true (p c) is.0 in cc)
       | inr later ↦ none_of list b p later is.1
     ]
-  where
-    negated : (v : Bool) → not v ≡ true → v ≡ false
-    negated true e = sym e
-    negated false e = refl
 
 module _ (start : Bool) (b : ℕ) (bytes : List ℕ) where
   -- where the byte is no digit and no fraction begins
@@ -254,11 +247,11 @@ module _ (start : Bool) (b : ℕ) (bytes : List ℕ) where
 
   quote_no_word : is_quote b ≡ true → begins_word b ≡ false
   quote_no_word is =
-      elim (either_of (b == 39) (b == 34) is) [ inl e ↦ rw (eqb-true b 39 e) refl | inr e ↦ rw (eqb-true b 34 e) refl ]
+      elim (or_cases (b == 39) (b == 34) is) [ inl e ↦ rw (eqb-true b 39 e) refl | inr e ↦ rw (eqb-true b 34 e) refl ]
 
   quote_no_digit : is_quote b ≡ true → is_digit b ≡ false
   quote_no_digit is =
-      elim (either_of (b == 39) (b == 34) is) [ inl e ↦ rw (eqb-true b 39 e) refl | inr e ↦ rw (eqb-true b 34 e) refl ]
+      elim (or_cases (b == 39) (b == 34) is) [ inl e ↦ rw (eqb-true b 39 e) refl | inr e ↦ rw (eqb-true b 34 e) refl ]
 
   quoted_item : is_quote b ≡ true
       → item start (b ∷ bytes) ≡ quoted_if_closed (option_map suc (quoted_len b false bytes))
@@ -285,22 +278,18 @@ module _ (start : Bool) (b : ℕ) (bytes : List ℕ) where
   sort_other sort c other is =
       elim (cases_Bool (b == c)) [ inl e ↦ (let k = ap sort (eqb-true b c e) in cc) | inr e ↦ e ]
 
-  neither_is : (x y : Bool) → (x || y) ≡ false → (x ≡ false) × (y ≡ false)
-  neither_is true y e = absurd (cc e)
-  neither_is false y e = (refl, e)
-
   stray_item : begins_item b bytes ≡ false → item start (b ∷ bytes) ≡ Err 3
   stray_item none =
       let sign_not =
-      neither_is (is_white b || begins_word b || is_digit b || begins_fraction (b ∷ bytes) || is_quote b)
+      or_parts (is_white b || begins_word b || is_digit b || begins_fraction (b ∷ bytes) || is_quote b)
       (is_sign b) none in
       let quote_not =
-      neither_is (is_white b || begins_word b || is_digit b || begins_fraction (b ∷ bytes)) (is_quote b) sign_not.0
+      or_parts (is_white b || begins_word b || is_digit b || begins_fraction (b ∷ bytes)) (is_quote b) sign_not.0
       in
       let fraction_not =
-      neither_is (is_white b || begins_word b || is_digit b) (begins_fraction (b ∷ bytes)) quote_not.0 in
-      let digit_not = neither_is (is_white b || begins_word b) (is_digit b) fraction_not.0 in
-      let word_not = neither_is (is_white b) (begins_word b) digit_not.0 in
+      or_parts (is_white b || begins_word b || is_digit b) (begins_fraction (b ∷ bytes)) quote_not.0 in
+      let digit_not = or_parts (is_white b || begins_word b) (is_digit b) fraction_not.0 in
+      let word_not = or_parts (is_white b) (begins_word b) digit_not.0 in
       let comment_not = no_comment start b bytes (sort_other is_sign 47 sign_not.1 refl) in
       let remark_not = no_remark start b bytes (sort_other is_sign 42 sign_not.1 refl) in
       without_digits word_not.0 comment_not remark_not digit_not.1 fraction_not.1

@@ -22,6 +22,7 @@ use Rattle.fx_lexer.specs.Flaws.{Flaw, open_comment, open_remark, open_quoted, s
 use Rattle.fx_lexer.specs.Flaws.{IsFlaw}
 use Rattle.fx_lexer.proofs.Ends.{first_byte, split, ClosingIs, closing_is, RemarkIs, remark_is, QuotedIs, quoted_is}
 use Rattle.fx_lexer.proofs.Ends.{Fraction, fraction_is}
+use Rattle.fx_lexer.proofs.ItemOfPiece.{differs}
 
 -- the item is this piece
 pub record IsPiece (start : Bool) (b : ℕ) (bytes : List ℕ) (it : Item) : Type 0 where
@@ -49,11 +50,6 @@ choose : (P : Result Item ℕ → Type 0) (b : Bool) (x y : Result Item ℕ) →
     → P (if b then x else y)
 choose P true x y f g = f refl
 choose P false x y f g = g refl
-
--- a sort of bytes that `;` isn't of
-no_semicolon : (sort : ℕ → Bool) (b : ℕ) → sort b ≡ true → sort 59 ≡ false → (b == 59) ≡ false
-no_semicolon sort b is other =
-    elim (cases_Bool (b == 59)) [ inl e ↦ (let k = ap sort (eqb-true b 59 e) in cc) | inr e ↦ e ]
 
 module _ (start : Bool) (b : ℕ) (bytes : List ℕ) where
   white_is : IsTrue (is_white b) → ItemIs start b bytes (gap 1)
@@ -131,7 +127,7 @@ module _ (start : Bool) (b : ℕ) (bytes : List ℕ) where
             short = tt;
             kind = refl;
             long = rw (length-append (doubled b r.value) (b ∷ [])) (omega (arith, r.long));
-            behind = no_semicolon is_quote b h refl;
+            behind = differs is_quote b 59 h refl;
           }
 
   -- a word or a number, within its limit or above it
@@ -169,7 +165,7 @@ module _ (start : Bool) (b : ℕ) (bytes : List ℕ) where
       let begins = ap (begins_with begins_word) first.1 ∙ h in
       limited_is (word r.front) r.rest kind.Word (prefix_len is_word_byte (b ∷ bytes)) 32 5 r.joined
       (begins, r.all, r.ended) refl (sym r.long)
-      (no_semicolon begins_word b h refl) refl (λ few. omega (arith, r.long, few))
+      (differs begins_word b 59 h refl) refl (λ few. omega (arith, r.long, few))
       (λ many short. omega (arith, r.long, many, short))
 
   all_first : (sort : ℕ → Bool) (front rest : List ℕ) → b ∷ bytes ≡ front ++ rest → 0 < length front
@@ -183,7 +179,7 @@ module _ (start : Bool) (b : ℕ) (bytes : List ℕ) where
       → list_all is_digit front ≡ true → (b == 59) ≡ false
   decimal_first [] digits rest joined all = let e : b ≡ 46 = cc in rw e refl
   decimal_first (x ∷ front) digits rest joined all =
-      no_semicolon is_digit b (all_first is_digit (x ∷ front) (46 ∷ digits ++ rest) joined (omega arith) all) refl
+      differs is_digit b 59 (all_first is_digit (x ∷ front) (46 ∷ digits ++ rest) joined (omega arith) all) refl
 
   module _ (front rest : List ℕ) (joined : b ∷ bytes ≡ front ++ rest) (all : IsTrue (list_all is_digit front))
       (ended : begins_with is_digit rest ≡ false) where
@@ -191,7 +187,7 @@ module _ (start : Bool) (b : ℕ) (bytes : List ℕ) where
         → ItemIs start b bytes (limited kind.Whole (length front) 38 4)
     whole_found pointless some =
         limited_is (whole front) rest kind.Whole (length front) 38 4 joined (some, all, ended, pointless) refl refl
-        (no_semicolon is_digit b (all_first is_digit front rest joined some all) refl) refl (λ few. few)
+        (differs is_digit b 59 (all_first is_digit front rest joined some all) refl) refl (λ few. few)
         (λ many short. omega (arith, many, short))
 
     decimal_found : (f : Fraction rest) (n : ℕ) → n ≡ length front + fraction_len rest

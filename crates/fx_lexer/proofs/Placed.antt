@@ -1,5 +1,5 @@
 -- The tokens of a text and its first fault are at places of the text.
-use Rattle.std.proofs.Common.{◌≡◌, ℕ, true, List, [], ◌∷◌, ◌++◌, length, Option, Some, None, Ok, Err, refl, sym, ap}
+use Rattle.std.proofs.Common.{◌≡◌, ℕ, true, List, [], ◌∷◌, ◌++◌, length, Option, Some, None, Ok, Err, refl, sym}
 use Rattle.std.proofs.Common.{subst, ◌∙◌, append_assoc}
 use Rattle.std.specs.List.{AllByRecursion}
 use Rattle.fx_lexer.specs.declared.token.Token.{Token}
@@ -12,11 +12,7 @@ use Rattle.fx_lexer.specs.TextPieces.{remark, decimal, quoted, sign}
 use Rattle.fx_lexer.specs.Flaws.{Flaw, open_comment, open_remark, open_quoted, stray, long_piece, flaw_text, fault_kind}
 use Rattle.fx_lexer.specs.Flaws.{is_lexical_rule, IsByLexicalRule}
 use Rattle.fx_lexer.proofs.PiecesOfText.{made_of, breaks_off}
-
-pub joined : (pieces : List Piece) (rest : List ℕ) → text_of pieces rest ≡ text_of pieces [] ++ rest
-joined [] rest = refl
-joined (p ∷ pieces) rest =
-    ap (λ l. spelling p ++ l) (joined pieces rest) ∙ sym (append_assoc (spelling p) (text_of pieces []) rest)
+use Rattle.fx_lexer.proofs.TextOfPieces.{text_of-append}
 
 tokens : (text before : List ℕ) (pieces : List Piece) → text ≡ before ++ text_of pieces []
     → AllByRecursion (λ (t : Token). IsPlaceIn text t.line t.column) (tokens_among before pieces)
@@ -65,7 +61,7 @@ fault_placed text fault e =
       place = record {
         before = text_of broken.pieces [];
         after = flaw_text broken.flaw;
-        joined = broken.joined ∙ joined broken.pieces (flaw_text broken.flaw);
+        joined = broken.joined ∙ text_of-append broken.pieces (flaw_text broken.flaw);
         line_is = refl;
         column_is = refl;
       };

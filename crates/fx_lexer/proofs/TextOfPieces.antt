@@ -83,9 +83,9 @@ pieces_read (p ∷ pieces) before rest text start formed all =
     omega (arith, length-append (spelling p) (text_of pieces [])) in
     first ∙ ap (in_front _) (rw (size, far) at later) ∙ in_front_twice _ _ _
 
-text_in_two : (pieces : List Piece) (rest : List ℕ) → text_of pieces rest ≡ text_of pieces [] ++ rest
-text_in_two [] rest = refl
-text_in_two (p ∷ pieces) rest = ap (λ l. spelling p ++ l) (text_in_two pieces rest)
+pub text_of-append : (pieces : List Piece) (rest : List ℕ) → text_of pieces rest ≡ text_of pieces [] ++ rest
+text_of-append [] rest = refl
+text_of-append (p ∷ pieces) rest = ap (λ l. spelling p ++ l) (text_of-append pieces rest)
     ∙ sym (append_assoc (spelling p) (text_of pieces []) rest)
 
 -- a text that is made of pieces has their tokens
@@ -121,6 +121,6 @@ fault_found text fault h =
     let first = pieces_read h.pieces [] rest text true h.formed h.joined in
     let then =
     fault_behind text start (0 + length (text_of h.pieces [])) h.flaw (text_of h.pieces []) rest refl
-    (h.joined ∙ text_in_two h.pieces rest) (omega arith) h.form in
+    (h.joined ∙ text_of-append h.pieces rest) (omega arith) h.form in
     ap (lexed_from text 0 true 0) h.joined ∙ first ∙ ap (in_front (tokens_among [] h.pieces)) then
     ∙ ap (λ f. Err f) (sym h.fault_is)

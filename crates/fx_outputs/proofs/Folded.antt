@@ -14,12 +14,9 @@ use Rattle.std.specs.Cmp.Lexicographic.{slice_cmp}
 use Rattle.std.specs.BTreeSet.{insert_key}
 use Rattle.std.proofs.lemmas.Map.Text.{is_eq-slice_cmp}
 use Rattle.std.proofs.lemmas.Slice.Eq.{bytes_eq-Decides}
+use mathlib.Core.Bool.{or_self_left}
 use Rattle.fx_text.specs.Names.{is_same_name, place_of}
 use Rattle.fx_outputs.specs.Earlier.{AreFolded}
-
-twice : (a b : Bool) → (a || b) ≡ (a || (a || b))
-twice true b = refl
-twice false b = refl
 
 swapped : (a b c : Bool) → (a || (b || c)) ≡ (b || (a || c))
 swapped true true c = refl
@@ -49,7 +46,7 @@ module _ {A : Type 0} (form : List ℕ) (key : Vec ℕ A) where
       let same : key.items ≡ x.items =
       (bytes_eq-Decides key.items x.items).0 (sym (is_eq-slice_cmp key.items x.items) ∙ ap is_eq is) in
       let alike : is_it key ≡ is_it x = ap (bytes_eq form) same in
-      rw alike (twice (is_it x) (list_any is_it keys))
+      rw alike ((sym (or_self_left (is_it x) (list_any is_it keys))))
   by_order x keys Greater is rest = ap (λ b. is_it x || b) rest ∙ swapped (is_it x) (is_it key) (list_any is_it keys)
 
   pub inserted : (keys : List (Vec ℕ A))

@@ -1,9 +1,8 @@
 -- Recoded factors are read from left to right, one place after another.
-use Rattle.std.proofs.Common.{◌≡◌, ℕ, suc, ◌+◌, ◌-◌, ◌<◌, ◌≤◌, true, false, List, [], ◌∷◌, ◌++◌, length, drop, Ok, refl}
-use Rattle.std.proofs.Common.{sym, ap, ◌∙◌, arith}
+use Rattle.std.proofs.Common.{◌≡◌, ℕ, ◌+◌, ◌-◌, ◌<◌, ◌≤◌, true, false, List, [], ◌∷◌, ◌++◌, length, drop, Ok, refl}
+use Rattle.std.proofs.Common.{ap, ◌∙◌, arith}
 use Rattle.std.specs.Prelude.{slice_index_or}
-use Rattle.std.proofs.Math.Numerals.{add-one}
-use Rattle.std.proofs.Math.Seq.{drop-cons}
+use Rattle.fx_base.proofs.Lists.{drop_read}
 use Rattle.fx_text.specs.declared.refusal.ParseStop.{ParseStop}
 use Rattle.fx_text.specs.declared.refusal.ParseStop.TheVariants as stop
 use Rattle.fx_text.specs.Written.{Written}
@@ -12,20 +11,15 @@ use Rattle.fx_outputs.specs.declared.recode.Recode.{Recode}
 use Rattle.fx_outputs.specs.Contexts.{Context}
 use Rattle.fx_outputs.specs.Recodes.{is_recoded, recode_of, recodes_behind}
 
--- what stands at an index stands first in what is left from there on
-first_left : (xs : List Written) (i : ℕ) (w : Written) → i < length xs → w ≡ slice_index_or xs i w
-    → drop i xs ≡ w ∷ drop (i + 1) xs
-first_left xs i w h e = rw add-one (drop-cons xs i w h ∙ ap (λ v. v ∷ drop (suc i) xs) (sym e))
-
 -- the name before the word at i, and what stands before the name
 two_left : (xs : List Written) (i : ℕ) (name word : Written) → 2 ≤ i → i < length xs
     → name ≡ slice_index_or xs (i - 1) name → word ≡ slice_index_or xs i word
     → drop (i - 1) xs ≡ name ∷ word ∷ drop (i + 1) xs
 two_left xs i name word h low n w =
     let at : i - 1 + 1 ≡ i = omega arith in
-    first_left xs (i - 1) name (omega arith) n
+    drop_read xs (i - 1) name (omega arith) n
     ∙ ap (λ k. name ∷ drop k xs) at
-    ∙ ap (λ l. name ∷ l) (first_left xs i word low w)
+    ∙ ap (λ l. name ∷ l) (drop_read xs i word low w)
 
 pub two_left_next : (xs : List Written) (i : ℕ) (name word : Written) → 2 ≤ i → i < length xs
     → name ≡ slice_index_or xs (i - 1) name → word ≡ slice_index_or xs i word
@@ -40,7 +34,7 @@ pub three_left : (xs : List Written) (i : ℕ) (before name word : Written) → 
     → drop (i - 2) xs ≡ before ∷ name ∷ word ∷ drop (i + 1) xs
 three_left xs i before name word h low b n w =
     let at : i - 2 + 1 ≡ i - 1 = omega arith in
-    first_left xs (i - 2) before (omega arith) b
+    drop_read xs (i - 2) before (omega arith) b
     ∙ ap (λ k. before ∷ drop k xs) at
     ∙ ap (λ l. before ∷ l) (two_left xs i name word h low n w)
 

@@ -5,6 +5,7 @@ use Rattle.std.specs.Prelude.{All, codes, is_some, if◌then◌else◌, not, ◌
 use Rattle.std.specs.List.{AllByRecursion, IsDistinct}
 use Rattle.std.proofs.lemmas.List.{append-nil, map-append}
 use Rattle.std.proofs.lemmas.List.Elements.{All-nil, All-push}
+use Rattle.fx_base.proofs.Lists.{each-all}
 use Rattle.fx_language.specs.declared.symbol.Symbol.{Symbol}
 use Rattle.fx_language.specs.declared.symbol.Symbol.TheVariants.{Output, Pointrep, Designrep, Blockname, Equals}
 use Rattle.fx_language.specs.Symbols.{is, is_word}
@@ -200,10 +201,6 @@ apart : (earlier : List (List ℕ)) (name : List ℕ) → IsDistinct is_same_nam
 apart earlier name h new =
     distinct.joined_differ earlier (name ∷ []) h (distinct.one_differs name) (distinct.not_found earlier name new, tt)
 
-any : {A : Type 0} (xs : List A) → AllByRecursion (λ (x : A). Unit {0}) xs
-any [] = tt
-any (x ∷ xs) = (tt, any xs)
-
 pub all_differ : (context : Context) (earlier : List (List ℕ)) (statements : List (List Written))
     (outputs : List OutputSpec) → IsDistinct is_same_name earlier
     → outputs_of context earlier statements ≡ Ok outputs → IsDistinct is_same_name (earlier ++ names_of outputs)
@@ -218,5 +215,5 @@ all_differ context earlier statements outputs h e =
       ap (λ (l : List (List ℕ)). l ++ output.name ∷ []) kept.1 ∙ append_assoc earlier (names_of done) (output.name ∷ [])
           ∙ ap (λ (l : List (List ℕ)). earlier ++ l) (sym (map-append (λ (o : OutputSpec). o.name) done (output ∷ []))),
     ))
-    statements earlier [] outputs (any statements) (h, sym (append-nil earlier)) e in
+    statements earlier [] outputs (each-all (λ x. Unit {0}) statements (λ x. tt)) (h, sym (append-nil earlier)) e in
     subst (IsDistinct is_same_name) last.1.1 last.1.0

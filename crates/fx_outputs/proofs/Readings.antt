@@ -25,10 +25,6 @@ from_blockname s = from_option symbol.Blockname s
 abbrev IsRead : List Written → Type 0
 IsRead s = (s ≡ []) ⊎ HasBlockName s
 
-pub blockname_alone : (s : Symbol) → is symbol.Blockname s ≡ true → symbol.Blockname ≡ s
-blockname_alone symbol.Blockname h = refl
-blockname_alone s h = absurd (let f : false ≡ true = h in cc)
-
 passed : (before w : Written) (rest : List Written) → is symbol.Blockname w.symbol ≡ false
     → from_blockname (before ∷ w ∷ rest) ≡ from_blockname (w ∷ rest)
 passed before w rest differs = rw differs refl
@@ -103,8 +99,8 @@ module _ (front rest : List Written) (later : (last : Written) → IsRead (from_
       → (before : Written) → IsRead (from_blockname (before ∷ front ++ rest))
   without shape part lack same m before =
       behind before
-      (any_written symbol.Blockname front ∙ ap (list_any (is symbol.Blockname)) same ∙ none symbol.Blockname
-      blockname_alone shape part lack m)
+      (any_written symbol.Blockname front ∙ ap (list_any (is symbol.Blockname)) same ∙ none symbol.Blockname shape part
+      lack m)
 
 -- the option itself
 with_name : (front rest : List Written) (part : List Symbol) → symbols_in front ≡ part
@@ -177,11 +173,8 @@ four (a ∷ b ∷ c ∷ []) x y z u l m h = absurd (alone l (cc h))
 four (a ∷ b ∷ c ∷ d ∷ others) x y z u l m h =
     record { a = a; b = b; c = c; d = d; others = others; all = refl; d_is = cc h; others_are = cc h }
 
-uncoded_output : (s : List Symbol) → Matches grammar.output s → Matches (uncoded grammar.output) s
-uncoded_output s m = to_uncoded grammar.output s m
-
 pub names_law : (s : List Written) → IsStatement grammar.output s → AreNamesRead s
-names_law s by_grammar = read (uncoded_output (symbols_in s ++ symbol.Semicolon ∷ []) by_grammar)
+names_law s by_grammar = read (to_uncoded grammar.output (symbols_in s ++ symbol.Semicolon ∷ []) by_grammar)
   where
     read : Matches (uncoded grammar.output) (symbols_in s ++ symbol.Semicolon ∷ []) → AreNamesRead s
     read (

@@ -1,13 +1,14 @@
 -- What holds of each item of a list, of which runs and values are shuffled.
 use Rattle.std.proofs.Common.{ℕ, ◌≡◌, ◌<◌, ◌+◌, ◌-◌, ◌==◌, zero, suc, List, [], ◌∷◌, length, map, filter, replicate}
-use Rattle.std.proofs.Common.{set, get_or, swap, refl, sym, subst, ◌∙◌, ap, arith, inl, inr, All, length-set}
+use Rattle.std.proofs.Common.{set, get_or, swap, refl, sym, subst, ◌∙◌, arith, inl, inr, All}
 use Rattle.std.specs.List.{AllByRecursion, flat_map, range_with_len}
 use Rattle.std.proofs.Math.ListN.{get_or-eq_default}
 use Rattle.std.proofs.lemmas.Bool.{cases_lt}
 use Rattle.std.proofs.lemmas.List.Elements.{All-set, All-append, All-filter, All-replicate, recursion_from_All}
 use Rattle.std.proofs.lemmas.List.Elements.{All-from_recursion}
-use Rattle.std.proofs.lemmas.List.FromFn.{get_or-range_with_len, length-range_with_len}
+use Rattle.std.proofs.lemmas.List.Edits.{length-swap}
 use Rattle.rand_pcg.specs.Lcg.{Lcg}
+use Rattle.fx_base.proofs.Ranges.{All-range}
 use Rattle.fx_plan.specs.Draws.{drawn, exchanged, shuffled, each_shuffled, all_shuffled}
 use Rattle.fx_runs.specs.Groups.{by_group}
 use Rattle.fx_plan.specs.Plans.{repeated, replicated, shuffled_in_blocks}
@@ -66,11 +67,6 @@ order_keeps P g block n xs h =
     flat_map_keeps P (λ group. group) (all_shuffled g groups).0
     (each_keeps (All P) (λ g xs. shuffled_keeps P g xs) (shuffled g groups).0 (shuffled g groups).1 mixed)
 
-range_low : (n : ℕ) → All (λ k. k < n) (range_with_len 0 n)
-range_low n k d low =
-    let there : k < n = omega (arith, length-range_with_len 0 n) in
-    subst (λ (x : ℕ). x < n) (sym (get_or-range_with_len 0 n k d there)) (omega arith)
-
 times_low : (each n : ℕ) (ks : List ℕ) → AllByRecursion (λ k. k < n) ks
     → AllByRecursion (λ k. All (λ x. x < n) (replicate each k)) ks
 times_low each n [] h = tt
@@ -81,13 +77,7 @@ pub replicated_low : (each all n : ℕ) → All (λ k. k < n) (replicated each a
 replicated_low each all n =
     repeated_keeps (λ k. k < n) all (flat_map (λ x. replicate each x) (range_with_len 0 n))
     (flat_map_keeps (λ k. k < n) (λ x. replicate each x) (range_with_len 0 n)
-    (times_low each n (range_with_len 0 n) (recursion_from_All (λ k. k < n) (range_with_len 0 n) (range_low n))))
-
-pub length-swap : {X : Type 0} (xs : List X) (i j : ℕ) → length (swap xs i j) ≡ length xs
-length-swap [] i j = refl
-length-swap (d ∷ ys) i j =
-    length-set (set (d ∷ ys) i (get_or (d ∷ ys) j d)) j (get_or (d ∷ ys) i d) ∙ length-set (d ∷ ys) i
-    (get_or (d ∷ ys) j d)
+    (times_low each n (range_with_len 0 n) (recursion_from_All (λ k. k < n) (range_with_len 0 n) (All-range n))))
 
 length-exchanged : {X : Type 0} (k : ℕ) (g : Lcg) (xs : List X) → length (exchanged g k xs).0 ≡ length xs
 length-exchanged zero g xs = refl
@@ -102,7 +92,3 @@ lengths_kept n g lists h =
     All-from_recursion (λ l. length l ≡ n) (each_shuffled g lists).0
     (each_keeps (λ l. length l ≡ n) (λ g xs e. length-exchanged (length xs - 1) g xs ∙ e) lists g
     (recursion_from_All (λ l. length l ≡ n) lists h))
-
-pub length-each : {X : Type 0} (g : Lcg) (lists : List (List X)) → length (each_shuffled g lists).0 ≡ length lists
-length-each g [] = refl
-length-each g (xs ∷ lists) = ap suc (length-each (shuffled g xs).1 lists)

@@ -6,14 +6,14 @@ use Rattle.std.proofs.lemmas.List.Sums.{sum_by-cons, sum_by-append}
 use Rattle.std.proofs.lemmas.List.Folds.{sum_by-replicate}
 use Rattle.std.proofs.lemmas.List.Sorted.{sum_by-IsPermutation, IsPermutation-swap}
 use Rattle.std.proofs.lemmas.List.Elements.{recursion_from_All}
-use Rattle.std.proofs.lemmas.Bool.Decides.{nat_tests}
+use Rattle.std.proofs.lemmas.List.Edits.{length-swap}
 use Rattle.fx_laws.proofs.Sums.{sum_by-ext, sum_by_flat_map, sum_by_map, sum_by-swap, sum_by-pick}
 use Rattle.fx_laws.proofs.Blocks.{sum_by-filter}
 use Rattle.rand_pcg.specs.Lcg.{Lcg}
+use Rattle.fx_base.proofs.Numbers.{eqb_comm}
 use Rattle.fx_plan.specs.Draws.{drawn, exchanged, shuffled, each_shuffled, all_shuffled}
 use Rattle.fx_runs.specs.Groups.{by_group}
 use Rattle.fx_plan.specs.Plans.{repeated, replicated, shuffled_in_blocks}
-use Rattle.fx_plan.proofs.Kept.{length-swap}
 use Rattle.fx_plan.proofs.Words.{drawn_low}
 
 module _ {X : Type 0} (f : X → ℕ) where
@@ -43,14 +43,11 @@ module _ {X : Type 0} (f : X → ℕ) where
   repeated_total (suc n) xs =
       sum_by-append f xs (repeated n xs) ∙ ap (λ (x : ℕ). sum_by f xs + x) (repeated_total n xs) ∙ omega arith
 
-same_test : (a b : ℕ) → eqb a b ≡ eqb b a
-same_test a b = grind (arith, nat_tests)
-
 module _ (f : ℕ → ℕ) (block : ℕ → ℕ) (n : ℕ) where
   in_its_group : (x : ℕ) → block x < n → sum_by (λ z. cond (eqb (block x) z) (f x) 0) (range_with_len 0 n) ≡ f x
   in_its_group x low =
       sum_by-ext (λ z. cond (eqb (block x) z) (f x) 0) (λ z. cond (eqb z (block x)) (f x) 0) (range_with_len 0 n)
-      (λ z. ap (λ (b : Bool). cond b (f x) 0) (same_test (block x) z))
+      (λ z. ap (λ (b : Bool). cond b (f x) 0) (eqb_comm (block x) z))
       ∙ sum_by-pick (λ z. f x) (block x) 0 n (omega arith) (omega arith)
 
   all_in_groups : (xs : List ℕ) → AllByRecursion (λ x. block x < n) xs

@@ -119,7 +119,7 @@ asked_read factors head named statements asked one few e =
           (goal_sought first.0.q factors short statements first.0.criterion goal.0 goal.1),
     )
 
-some_same : (proc : Place) (found factors : List (List ℕ)) → some_factors proc found ≡ Ok factors → found ≡ factors
+pub some_same : (proc : Place) (found factors : List (List ℕ)) → some_factors proc found ≡ Ok factors → found ≡ factors
 some_same proc [] factors e = absurd (cc e)
 some_same proc (name ∷ found) factors e = same_ok (name ∷ found) factors e
 

@@ -3,6 +3,7 @@ use Rattle.std.proofs.Common.{ℕ, ◌≡◌, ◌<◌, ◌≤◌, ◌∷◌, ◌
 use Rattle.std.proofs.Common.{subst, arith, [], ap, inl, length}
 use Rattle.std.specs.Prelude.{IfOk, IsErrAnd, nat_le, unwrap_or}
 use Rattle.std.proofs.lemmas.Bool.{false≢true, lt-leb}
+use Rattle.std.proofs.lemmas.Option.{same_Some}
 use Rattle.fx_base.specs.Reading.{HasReadCause, IsAllLeft, IsOverLimit}
 use Rattle.fx_base.specs.declared.reading.ReadStop.{ReadStop}
 use Rattle.fx_base.specs.declared.reading.ReadStop.TheVariants as read
@@ -125,9 +126,6 @@ module _ (command : Command) {old new : SourceView} (sure : new.sure ≡ old.sur
 pub not_read : (limit : ℕ) (text : List ℕ) → limit < length text → nat_le (length text) limit ≡ false
 not_read limit text long = lt-leb (length text) limit long
 
-some_is : {A : Type 0} (x y : A) → Some x ≡ Some y → x ≡ y
-some_is x y e = cc e
-
 -- where what a command gives has status 1, some step of the program that it runs has no design at all
 none_given : (settings : Result Settings WordFault) (left : Option (List ℕ)) (text : List ℕ)
     → ((command_for settings).reads ≡ true → (known : List ℕ) → left ≡ Some known → known ≡ text)
@@ -136,7 +134,7 @@ none_given : (settings : Result Settings WordFault) (left : Option (List ℕ)) (
 none_given (Ok (Run threads seed)) left text exposed one program e =
     subst (λ (t : List ℕ). SomeHasNone (program_in t)) (sym (exposed refl program e)) (none_where_one seed text one)
 none_given (Ok (Large n threads)) left text exposed one program e =
-    subst (λ (t : List ℕ). SomeHasNone (program_in t)) (some_is (made_text n) program e)
+    subst (λ (t : List ℕ). SomeHasNone (program_in t)) (same_Some (made_text n) program e)
     (none_where_one 0 (made_text n) (sym (large_status (program_in (made_text n))) ∙ one))
 none_given _ left text exposed one program e = absurd (cc e)
 

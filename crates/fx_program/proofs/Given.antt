@@ -1,6 +1,7 @@
 -- What is given for a step, by its outcome.
 use Rattle.std.proofs.Common.{ℕ, ◌≡◌, ◌≤◌, ◌+◌, ◌^◌, length, List, [], ◌++◌, Option, Some, None, refl, sym, ap, ap₂}
 use Rattle.std.proofs.Common.{subst, ◌∙◌}
+use Rattle.std.proofs.lemmas.Option.{same_Some}
 use Rattle.fx_designs.specs.Problems.{Dimensions, Problem}
 use Rattle.fx_designs.specs.Outcomes.{Ending, Design, NoDesign, BudgetEnded}
 use Rattle.fx_vectors.specs.declared.shape.Shape.{Shape}
@@ -24,9 +25,6 @@ use Rattle.fx_plan.specs.Steps.{IsDesignOf}
 use Rattle.fx_program.specs.Files.{book_files, book_lines, matrix_in, output_lines, plan_files}
 use Rattle.fx_program.specs.Output.{Output, ending_given, step_output, with_files}
 
-same_some : {A : Type 0} (x y : A) → Some x ≡ Some y → x ≡ y
-same_some x y e = cc
-
 module _ (shape : Shape) where
   abbrev with_rows : List ℕ → MatrixView
   with_rows rows = record { shape = shape; rows = rows }
@@ -38,30 +36,30 @@ module _ (shape : Shape) where
       ≡ sections (dimensions_of shape) step books ending
   with_matrix step books (Design rows count) matrix h =
       ap (λ (x : MatrixView). rules (dimensions_of x.shape) step.factors x.rows ++ (books ++ examined step x))
-      (same_some matrix (with_rows rows) h.0)
+      (same_Some matrix (with_rows rows) h.0)
   with_matrix step books (NoDesign count) matrix h = absurd (cc h)
   with_matrix step books (BudgetEnded None budget) matrix h = absurd (cc h)
   with_matrix step books (BudgetEnded (Some rows) budget) matrix h =
       ap (λ (x : MatrixView). rules (dimensions_of x.shape) step.factors x.rows ++ (books ++ examined step x))
-      (same_some matrix (with_rows rows) h.0)
+      (same_Some matrix (with_rows rows) h.0)
 
   -- and is whole
   pub rows_are : (ending : Ending) (matrix : MatrixView) → HasMatrix shape ending (Some matrix)
       → length matrix.rows ≡ shape.s + shape.t
   rows_are (Design rows count) matrix h =
-      ap (λ (x : MatrixView). length x.rows) (same_some matrix (with_rows rows) h.0) ∙ h.1
+      ap (λ (x : MatrixView). length x.rows) (same_Some matrix (with_rows rows) h.0) ∙ h.1
   rows_are (NoDesign count) matrix h = absurd (cc h)
   rows_are (BudgetEnded None budget) matrix h = absurd (cc h)
   rows_are (BudgetEnded (Some rows) budget) matrix h =
-      ap (λ (x : MatrixView). length x.rows) (same_some matrix (with_rows rows) h.0) ∙ h.1
+      ap (λ (x : MatrixView). length x.rows) (same_Some matrix (with_rows rows) h.0) ∙ h.1
 
   -- of the outcome's shape
   pub shape_is : (ending : Ending) (matrix : MatrixView) → HasMatrix shape ending (Some matrix) → matrix.shape ≡ shape
-  shape_is (Design rows count) matrix h = ap (λ (x : MatrixView). x.shape) (same_some matrix (with_rows rows) h.0)
+  shape_is (Design rows count) matrix h = ap (λ (x : MatrixView). x.shape) (same_Some matrix (with_rows rows) h.0)
   shape_is (NoDesign count) matrix h = absurd (cc h)
   shape_is (BudgetEnded None budget) matrix h = absurd (cc h)
   shape_is (BudgetEnded (Some rows) budget) matrix h =
-      ap (λ (x : MatrixView). x.shape) (same_some matrix (with_rows rows) h.0)
+      ap (λ (x : MatrixView). x.shape) (same_Some matrix (with_rows rows) h.0)
 
   -- without a matrix there are only the lines of the books
   pub without_matrix : (step : Meaning) (books : List ℕ) (ending : Ending) → HasMatrix shape ending None
@@ -114,11 +112,11 @@ record AreOfStep (step : Meaning) (d : Dimensions) : Type 0 where
   levels : d.q ≡ step.settings.q
   block_factors : d.t ≡ block_factors step.settings.blocks d.m d.t
 
-again : (b : Blocks) (m n : ℕ) → block_factors b m n ≡ block_factors b m (block_factors b m n)
-again blocks.Without m n = refl
-again (blocks.Factors t) m n = refl
-again (blocks.PerBlock k) m n = refl
-again blocks.Most m n = refl
+pub blocks_again : (b : Blocks) (m n : ℕ) → block_factors b m n ≡ block_factors b m (block_factors b m n)
+blocks_again blocks.Without m n = refl
+blocks_again (blocks.Factors t) m n = refl
+blocks_again (blocks.PerBlock k) m n = refl
+blocks_again blocks.Most m n = refl
 
 of_step : (step : Meaning) → AreOfStep step (outcome_of step).dimensions
 of_step step =
@@ -127,7 +125,7 @@ of_step step =
     one.2 ∙ ap (λ (p : Problem). p.dimensions) one.1.is in
     subst (AreOfStep step) (sym is) (record {
       levels = refl;
-      block_factors = again step.settings.blocks (run_factors step.settings.size one.1.n) one.1.n;
+      block_factors = blocks_again step.settings.blocks (run_factors step.settings.size one.1.n) one.1.n;
     })
 
 -- and its matrix, where it has one, is a design of the step

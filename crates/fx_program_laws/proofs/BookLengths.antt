@@ -8,9 +8,9 @@ use Rattle.std.proofs.Math.Nat.{pow-le-pow_right, suc-mul}
 use Rattle.std.proofs.lemmas.Fmt.{length-decimal-le_wide}
 use Rattle.std.proofs.lemmas.List.{length-map}
 use Rattle.std.proofs.lemmas.List.Elements.{recursion_from_All}
+use Rattle.fx_base.proofs.Lists.{each-weaker}
 use Rattle.fx_designs.specs.Problems.{Dimensions}
 use Rattle.fx_designs.specs.Nodes.{Mark, Branch, Word, Worse}
-use Rattle.fx_laws.proofs.Order.{each-weaker}
 use Rattle.fx_vectors.specs.Effects.{AreEffects, numbers_of}
 use Rattle.fx_vectors.specs.Question.{CanBeAsked, requirement_of}
 use Rattle.fx_vectors.specs.Shape.{IsShape, dimensions_of}

@@ -7,9 +7,10 @@ use Rattle.std.specs.List.{AllByRecursion, IsDistinct}
 use Rattle.std.proofs.lemmas.Bool.{and_parts, both_ways}
 use Rattle.std.proofs.lemmas.List.Elements.{recursion_from_All}
 use Rattle.fx_base.specs.Acts.{Event, Piece, WholeFile}
+use Rattle.fx_base.proofs.Lists.{each-weaker, each-append}
 use Rattle.fx_designs.specs.Problems.{Problem}
 use Rattle.fx_text.specs.Names.{is_same_name}
-use Rattle.fx_text.proofs.Distinct.{joined_differ, none_differ}
+use Rattle.fx_text.proofs.Distinct.{joined_differ, none_differ, behind_differ}
 use Rattle.fx_vectors.proofs.Limits.{order-bounds}
 use Rattle.fx_vectors.specs.Matrix.{MatrixView}
 use Rattle.fx_vectors.specs.declared.book.NamedBook.{NamedBook}
@@ -26,8 +27,8 @@ use Rattle.fx_program.specs.Texts.{program_in}
 use Rattle.fx_program.specs.declared.text.TextFault.{TextFault}
 use Rattle.fx_program.specs.Claims.{EachStep}
 use Rattle.fx_answer.specs.ValidSteps.{IsValidStep}
+use Rattle.fx_answer.proofs.Valid.{order_of}
 use Rattle.fx_program.proofs.AnyText.{any_text}
-use Rattle.fx_answer.proofs.StepSettings.{order_of}
 use Rattle.fx_program_laws.proofs.NameSpellings.{books_differ, plans_differ, book_and_plan_differ, differ_from}
 use Rattle.fx_program_laws.proofs.NameSpellings.{same_from}
 use Rattle.fx_program_laws.proofs.StepCounts.{AreSteps, out_names_of, questions_few, steps_of_text}
@@ -55,21 +56,6 @@ cross P Q names (x ∷ new) all later h =
 
 turned : (a b : Name) → is_same_name a b ≡ false → is_same_name b a ≡ false
 turned a b e = differ_from b a (λ same. both_ways (is_same_name a b) e (same_from a b (sym same)))
-
-each-map : {X Y : Type 0} (P : Y → Type 0) (f : X → Y) (xs : List X) → AllByRecursion (λ x. P (f x)) xs
-    → AllByRecursion P (map f xs)
-each-map P f [] all = tt
-each-map P f (x ∷ xs) all = (all.0, each-map P f xs all.1)
-
-each-as : {X : Type 0} (P Q : X → Type 0) (xs : List X) → ((x : X) → P x → Q x) → AllByRecursion P xs
-    → AllByRecursion Q xs
-each-as P Q [] f all = tt
-each-as P Q (x ∷ xs) f all = (f x all.0, each-as P Q xs f all.1)
-
-each-append : {X : Type 0} (P : X → Type 0) (xs ys : List X) → AllByRecursion P xs → AllByRecursion P ys
-    → AllByRecursion P (xs ++ ys)
-each-append P [] ys all more = more
-each-append P (x ∷ xs) ys all more = (all.0, each-append P xs ys all.1 more)
 
 -- ---- the names of a step
 
@@ -112,7 +98,7 @@ each-book number least [] h = tt
 each-book number least (b ∷ books) h =
     let later = each-book number (b.question + 1) books h.2 in (
       (b.question, h.0, h.1, refl),
-      each-as (IsBookOf number (b.question + 1)) (IsBookOf number least)
+      each-weaker (IsBookOf number (b.question + 1)) (IsBookOf number least)
           (book_names number books) (λ name is. (is.0, omega (arith, h.0, is.1), is.2, is.3)) later,
     )
 
@@ -169,7 +155,7 @@ each-plan : (outs : List Name) → AllByRecursion (IsPlanOf outs) (map file_name
 each-plan [] = tt
 each-plan (x ∷ outs) = (
   (x, inl refl, refl),
-  each-as (IsPlanOf outs) (IsPlanOf (x ∷ outs)) (map file_name outs)
+  each-weaker (IsPlanOf outs) (IsPlanOf (x ∷ outs)) (map file_name outs)
       (λ name is. (is.0, inr is.1, is.2)) (each-plan outs),
 )
 
@@ -193,11 +179,6 @@ front_differ (x ∷ xs) ys h = (front_each x xs ys h.0, front_differ xs ys h.1)
         → AllByRecursion (λ other. is_same_name x other ≡ false) xs
     front_each x [] ys h = tt
     front_each x (y ∷ xs) ys h = (h.0, front_each x xs ys h.1)
-
-back_differ : (xs ys : List Name) → IsDistinct is_same_name (xs ++ ys) → IsDistinct is_same_name ys
-unfolding IsDistinct
-back_differ [] ys h = h
-back_differ (x ∷ xs) ys h = back_differ xs ys h.1
 
 at : (x name : Name) (names : List Name) → AllByRecursion (λ other. is_same_name x other ≡ false) names → In name names
     → is_same_name x name ≡ false
@@ -303,10 +284,11 @@ module _ (number : ℕ) (step : Meaning) (small : IsSmall number) (few : HasFew 
   step_each outs =
       each-append (IsNameOf number (names_of step.outputs ++ outs)) (book_names number (books_of step))
       (plan_names step matrix_of_step)
-      (each-as (IsBookOf number 1) (IsNameOf number (names_of step.outputs ++ outs)) (book_names number (books_of step))
+      (each-weaker (IsBookOf number 1) (IsNameOf number (names_of step.outputs ++ outs))
+      (book_names number (books_of step))
       (λ name is. inl (number, omega arith, small, (is.0, omega arith, is.2, is.3)))
       (each-book number 1 (books_of step) rise))
-      (each-as (IsPlanOf (names_of step.outputs)) (IsNameOf number (names_of step.outputs ++ outs))
+      (each-weaker (IsPlanOf (names_of step.outputs)) (IsNameOf number (names_of step.outputs ++ outs))
       (plan_names step matrix_of_step) (λ name is. inr (is.0, in_left is.0 (names_of step.outputs) outs is.1, is.2))
       (plans_given step matrix_of_step))
 
@@ -343,17 +325,17 @@ all_told number (step ∷ steps) small few names =
     let outs : List Name = out_names_of steps in
     let own : IsDistinct is_same_name (names_of step.outputs) = front_differ (names_of step.outputs) outs names in
     let later =
-    all_told (number + 1) steps (omega (arith, small)) few.1 (back_differ (names_of step.outputs) outs names) in
+    all_told (number + 1) steps (omega (arith, small)) few.1 (behind_differ (names_of step.outputs) outs names) in
     let number_small : IsSmall number = omega (arith, small) in
     let matrix : Option MatrixView = matrix_in (outcome_of step).dimensions (outcome_of step).ending in
     let mine : AllByRecursion (λ other. IsBookOf number 1 other ⊎ IsPlanOf (names_of step.outputs) other)
     (step_names number step) =
     each-append (λ other. IsBookOf number 1 other ⊎ IsPlanOf (names_of step.outputs) other)
     (book_names number (books_of step)) (plan_names step matrix)
-    (each-as (IsBookOf number 1) (λ other. IsBookOf number 1 other ⊎ IsPlanOf (names_of step.outputs) other)
+    (each-weaker (IsBookOf number 1) (λ other. IsBookOf number 1 other ⊎ IsPlanOf (names_of step.outputs) other)
     (book_names number (books_of step)) (λ name is. inl is)
     (each-book number 1 (books_of step) (rise number step number_small few.0)))
-    (each-as (IsPlanOf (names_of step.outputs))
+    (each-weaker (IsPlanOf (names_of step.outputs))
     (λ other. IsBookOf number 1 other ⊎ IsPlanOf (names_of step.outputs) other) (plan_names step matrix)
     (λ name is. inr is) (plans_given step matrix)) in
     record {
@@ -364,7 +346,7 @@ all_told number (step ∷ steps) small few names =
           (λ name other is was. later_differs number step number_small few.0 outs names name other is was));
       each = each-append (IsNameOf number (names_of step.outputs ++ outs)) (step_names number step)
           (all_names (number + 1) steps) (step_each number step number_small few.0 outs)
-          (each-as (IsNameOf (number + 1) outs) (IsNameOf number (names_of step.outputs ++ outs))
+          (each-weaker (IsNameOf (number + 1) outs) (IsNameOf number (names_of step.outputs ++ outs))
           (all_names (number + 1) steps) (wider number (names_of step.outputs) outs) later.each);
     }
   where

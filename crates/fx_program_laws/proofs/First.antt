@@ -3,12 +3,12 @@ use Rattle.std.proofs.Common.{ℕ, ◌≡◌, ◌<◌, ◌≤◌, ◌+◌, true,
 use Rattle.std.proofs.Common.{refl, subst, ap, ◌∙◌, arith}
 use Rattle.std.specs.List.{AllByRecursion}
 use Rattle.std.proofs.lemmas.List.Elements.{recursion_from_All}
+use Rattle.fx_base.proofs.Lists.{each-map, each-all}
 use Rattle.fx_designs.specs.Problems.{Problem}
 use Rattle.fx_designs.specs.Answers.{answer}
 use Rattle.fx_designs.specs.Outcomes.{Design, NoDesign}
 use Rattle.fx_laws.specs.First.{IsFirstDesign}
 use Rattle.fx_laws.proofs.FirstDesign.{first-answer}
-use Rattle.fx_laws.proofs.Order.{each-all, each-map}
 use Rattle.fx_reduction.proofs.LeastPattern.{no_answer}
 use Rattle.fx_tree.specs.Laws.{IsFirstOfLeastPattern}
 use Rattle.fx_statements.specs.Steps.{Meaning}

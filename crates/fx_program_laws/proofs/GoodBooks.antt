@@ -1,5 +1,5 @@
 -- The books of a step whose questions may be asked are read from their texts as they are, and are accepted.
-use Rattle.std.proofs.Common.{ℕ, ◌≡◌, ◌<◌, ◌≤◌, ◌+◌, ◌-◌, zero, suc, true, false, List, [], ◌∷◌, ◌++◌, length, Option}
+use Rattle.std.proofs.Common.{ℕ, ◌≡◌, ◌≤◌, ◌+◌, ◌-◌, true, false, List, [], ◌∷◌, ◌++◌, length, Option}
 use Rattle.std.proofs.Common.{Some, None, Ok, IsTrue, refl, sym, ap, ◌∙◌, subst, arith, inl, inr, append-nil}
 use Rattle.std.proofs.Common.{append_assoc, Bool, leb}
 use Rattle.std.specs.Prelude.{codes, find}
@@ -8,9 +8,10 @@ use Rattle.std.proofs.lemmas.Bool.{cases_Bool, cond-true, cond-false, and_parts,
 use Rattle.std.proofs.lemmas.List.{length-map}
 use Rattle.std.proofs.lemmas.List.Elements.{All-from_recursion}
 use Rattle.std.proofs.lemmas.List.Sums.{sum_by_push}
+use Rattle.fx_base.proofs.Lists.{each-append, each-map}
+use Rattle.fx_base.proofs.Ranges.{each-range}
 use Rattle.fx_designs.specs.Problems.{Problem}
 use Rattle.fx_designs.specs.Nodes.{mark_of, marks, nodes}
-use Rattle.fx_laws.proofs.Order.{each-append, each-map}
 use Rattle.fx_vectors.specs.Question.{CanBeAsked, is_resolution}
 use Rattle.fx_vectors.specs.Shape.{IsShape}
 use Rattle.fx_vectors.specs.declared.effect.Effect.{Effect}
@@ -120,15 +121,6 @@ within_5000000 : (budget : ℕ) (ps : List Problem) → budget ≤ 5000000 → A
 within_5000000 budget [] few all = tt
 within_5000000 budget (p ∷ ps) few all = ((all.0.0, omega (arith, all.0.1, few)), within_5000000 budget ps few all.1)
 
--- what holds for the numbers of a range
-in_range : (P : ℕ → Type 0) (a n : ℕ) → ((k : ℕ) → a ≤ k → k < a + n → P k) → AllByRecursion P (range_with_len a n)
-in_range P a zero each = tt
-in_range P a (suc n) each = (
-  each a (omega arith) (omega arith),
-  in_range P (a + 1) n
-      (λ k low high. each k (omega (arith, low)) (omega (arith, high))),
-)
-
 module _ (step : Meaning) (some : lowest step step.settings.size ≤ highest step step.settings.size)
     (few : step.settings.budget ≤ 5000000)
     (may : (n : ℕ) → lowest step step.settings.size ≤ n → n ≤ highest step step.settings.size
@@ -139,7 +131,7 @@ module _ (step : Meaning) (some : lowest step step.settings.size ≤ highest ste
       let high : ℕ = highest step step.settings.size in
       each_asked MayBeAsked (questions_of step) (may low (omega arith) some)
       (each-map MayBeAsked (question_for step) (range_with_len (low + 1) (high - low))
-      (in_range (λ n. MayBeAsked (question_for step n)) (low + 1) (high - low)
+      (each-range (λ n. MayBeAsked (question_for step n)) (low + 1) (high - low)
       (λ k above below. may k (omega (arith, above)) (omega (arith, below)))))
 
   pub all_accepted : HasAcceptedBooks step

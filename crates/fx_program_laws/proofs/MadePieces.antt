@@ -4,7 +4,7 @@ use Rattle.std.proofs.Common.{length, refl, sym, ap, ◌∙◌, subst, arith, Ok
 use Rattle.std.specs.Fmt.{digits}
 use Rattle.std.specs.Prelude.{nat_lt, nat_le, codes, decimal, ◌==◌}
 use Rattle.std.specs.List.{AllByRecursion, list_all, flat_map, range_with_len}
-use Rattle.std.proofs.lemmas.Bool.{and_parts, cases_eq, ltb-true, leb-true}
+use Rattle.std.proofs.lemmas.Bool.{and_parts, cases_eq, ltb-true, leb-true, not-true}
 use Rattle.fx_lexer.specs.Bytes.{is_white, is_digit, begins_word, is_word_byte, is_sign}
 use Rattle.fx_lexer.specs.Extents.{begins_comment, begins_remark}
 use Rattle.fx_lexer.specs.Lexing.{lexed}
@@ -45,10 +45,6 @@ are_formed start [] rest = true
 are_formed start (p ∷ pieces) rest =
     has_form start p (text_of pieces rest) && (is_short p && are_formed (starts_behind start p) pieces rest)
 
-not_so : (b : Bool) → not b ≡ true → b ≡ false
-not_so true e = sym e
-not_so false e = refl
-
 form_decided : (start : Bool) (p : Piece) (rest : List ℕ) → has_form start p rest ≡ true → HasForm start p rest
 form_decided start (white b) rest e = e
 form_decided start (comment inside) rest e = absurd (cc e)
@@ -56,18 +52,18 @@ form_decided start (remark inside) rest e = absurd (cc e)
 form_decided start (word name) rest e =
     let a = and_parts _ _ e in
     let b = and_parts _ _ a.1 in
-    (a.0, b.0, not_so _ b.1)
+    (a.0, b.0, not-true _ b.1)
 form_decided start (whole digits) rest e =
     let a = and_parts _ _ e in
     let b = and_parts _ _ a.1 in
     let c = and_parts _ _ b.1 in
-    (ltb-true 0 (length digits) a.0, b.0, not_so _ c.0, not_so _ c.1)
+    (ltb-true 0 (length digits) a.0, b.0, not-true _ c.0, not-true _ c.1)
 form_decided start (decimal_piece digits fraction) rest e = absurd (cc e)
 form_decided start (quoted quote value) rest e = absurd (cc e)
 form_decided start (sign b) rest e =
     let a = and_parts _ _ e in
     let c = and_parts _ _ a.1 in
-    (a.0, not_so _ c.0, not_so _ c.1)
+    (a.0, not-true _ c.0, not-true _ c.1)
 
 short_decided : (p : Piece) → is_short p ≡ true → IsShort p
 short_decided (white b) e = tt

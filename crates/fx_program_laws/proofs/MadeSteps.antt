@@ -1,10 +1,11 @@
 -- The steps of the text of `make`, each of which has a meaning.
-use Rattle.std.proofs.Common.{ℕ, ◌≡◌, ◌<◌, ◌≤◌, ◌+◌, ◌%◌, zero, suc, false, List, [], ◌∷◌, ◌++◌, length, refl, sym, ap}
+use Rattle.std.proofs.Common.{ℕ, ◌≡◌, ◌<◌, ◌≤◌, ◌+◌, ◌%◌, suc, false, List, [], ◌∷◌, ◌++◌, length, refl, sym, ap}
 use Rattle.std.proofs.Common.{◌∙◌, arith, append_assoc, append-nil, None, Ok}
 use Rattle.std.specs.Fmt.{digits}
 use Rattle.std.specs.Prelude.{not, nat_lt}
 use Rattle.std.specs.List.{prefix_len, range_with_len}
 use Rattle.std.proofs.lemmas.Bool.{false_from_ne_true, ltb-true}
+use Rattle.std.proofs.lemmas.List.FromFn.{length-range_with_len}
 use Rattle.fx_lexer.specs.declared.token.Token.{Token}
 use Rattle.fx_lexer.specs.TextPieces.{text_of, tokens_among}
 use Rattle.fx_language.specs.Keywords.{symbols_of}
@@ -198,10 +199,6 @@ meant (k ∷ ks) before earlier done =
       many = ap suc later.many;
     }
 
-length-range : (a n : ℕ) → length (range_with_len a n) ≡ n
-length-range a zero = refl
-length-range a (suc n) = ap suc (length-range (a + 1) n)
-
 program_is : (n : ℕ) → n ≤ 100 → (tokens : List Token) → tokens ≡ tokens_among [] (pieces_of (range_with_len 1 n))
     → made_text n ≡ text_of (pieces_of (range_with_len 1 n)) []
     → (out : List Meaning) × (program_of (made_text n) tokens ≡ Ok out) × (length out ≡ n)
@@ -214,7 +211,7 @@ program_is n many tokens are text =
     (λ (l : List ℕ). written l (tokens_among [] (pieces_of ks))) text ∙ written_are (pieces_of ks) [] in
     let symbols_is : symbols_of (made_text n) tokens ≡ symbols_of_steps ks =
     symbols_are (made_text n) tokens ∙ ap symbols written_is ∙ all_symbols ks [] in
-    let long : length ks ≡ n = length-range 1 n in
+    let long : length ks ≡ n = length-range_with_len 1 n in
     let none : first_refusal (symbols_of (made_text n) tokens) ≡ None =
     ap first_refusal symbols_is ∙ none_refused ks (omega (arith, long)) in
     let m = meant ks [] [] [] in

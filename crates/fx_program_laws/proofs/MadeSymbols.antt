@@ -2,8 +2,8 @@
 use Rattle.std.proofs.Common.{ℕ, ◌≡◌, ◌<◌, ◌≤◌, ◌+◌, ◌%◌, Bool, true, false, List, [], ◌∷◌, ◌++◌, map, length, refl}
 use Rattle.std.proofs.Common.{sym, ap, ap₂, ◌∙◌, arith, append_assoc, append-nil, Option, Some, None}
 use Rattle.std.specs.Fmt.{digits}
-use Rattle.std.specs.Prelude.{slice_range, nat_le, if◌then◌else◌, ◌==◌}
-use Rattle.std.proofs.lemmas.Bool.{both_ways, false_from_ne_true, leb-true}
+use Rattle.std.specs.Prelude.{slice_range, if◌then◌else◌, ◌==◌}
+use Rattle.std.proofs.lemmas.Bool.{both_ways, lt-leb}
 use Rattle.std.proofs.lemmas.List.{map-append}
 use Rattle.fx_lexer.specs.declared.token.Kind.{Kind}
 use Rattle.fx_lexer.specs.declared.token.Token.{Token}
@@ -235,13 +235,10 @@ at_front = record {
       };
 }
 
-few : (n : ℕ) → n < 100 → nat_le 100 n ≡ false
-few n low = false_from_ne_true (nat_le 100 n) (λ e. (let most = leb-true 100 n e in omega arith))
-
 walk_of_step : (least : Bool) (n : ℕ) (rest : List Symbol) → n < 100
     → walk (after_step n) (step_symbols least) rest ≡ Some (after_step (n + 1))
-walk_of_step true n rest low = rw (few n low) refl
-walk_of_step false n rest low = rw (few n low) refl
+walk_of_step true n rest low = rw (lt-leb 100 n low) refl
+walk_of_step false n rest low = rw (lt-leb 100 n low) refl
 
 walk_of_first : (least : Bool) (rest : List Symbol) → walk at_front (step_symbols least) rest ≡ Some (after_step 1)
 walk_of_first true rest = refl

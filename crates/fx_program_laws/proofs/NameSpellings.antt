@@ -1,14 +1,15 @@
 -- Names of files: when two of them are the same, without regard to case.
-use Rattle.std.proofs.Common.{ℕ, ◌≡◌, ◌<◌, ◌≤◌, ◌+◌, ◌^◌, ◌∙◌, Bool, true, false, cond, List, [], ◌∷◌, ◌++◌, map, refl}
-use Rattle.std.proofs.Common.{sym, ap, arith, inl, inr}
-use Rattle.std.specs.Prelude.{codes, decimal, nat_lt}
+use Rattle.std.proofs.Common.{ℕ, ◌≡◌, ◌<◌, ◌≤◌, ◌+◌, ◌^◌, ◌∙◌, true, false, List, [], ◌∷◌, ◌++◌, map, refl}
+use Rattle.std.proofs.Common.{sym, ap, arith}
+use Rattle.std.specs.Prelude.{codes, decimal}
 use Rattle.std.specs.Char.{to_ascii_lowercase}
 use Rattle.std.specs.Str.Parse.{AllDigits, digits_value}
-use Rattle.std.proofs.lemmas.Bool.{both_ways, cases_lt, false_from_ne_true, lt-ltb, ltb-true}
+use Rattle.std.proofs.lemmas.Bool.{both_ways, false_from_ne_true, lt-ltb}
 use Rattle.std.proofs.lemmas.Fmt.{decimal_is_IsNumeral_wide}
 use Rattle.std.proofs.lemmas.List.{append_cancel_right, map-append}
 use Rattle.std.proofs.lemmas.Slice.Eq.{bytes_eq-Decides}
 use Rattle.std.proofs.lemmas.Str.Parse.{digit_from_value}
+use Rattle.std.proofs.lemmas.Str.Ascii.{lowercase-lowercase}
 use Rattle.fx_text.specs.Names.{is_same_name}
 use Rattle.fx_program.specs.Files.{book_name, file_name}
 
@@ -35,38 +36,9 @@ low_digits (c ∷ ds) h =
     let here : to_ascii_lowercase c ≡ c = low_digit c range.1 in
     ap (λ (x : ℕ). x ∷ lower ds) here ∙ ap (λ (l : List ℕ). c ∷ l) (low_digits ds h.1)
 
--- a lowercase letter stays as it is
-twice : (c : ℕ) → to_ascii_lowercase (to_ascii_lowercase c) ≡ to_ascii_lowercase c
-twice c =
-    let go : (a b : Bool) → nat_lt c 65 ≡ a → nat_lt c 91 ≡ b
-    → to_ascii_lowercase (cond a c (cond b (c + 32) c)) ≡ cond a c (cond b (c + 32) c) =
-    λ a. elim a as
-    (λ a. (b : Bool) → nat_lt c 65 ≡ a → nat_lt c 91 ≡ b
-    → to_ascii_lowercase (cond a c (cond b (c + 32) c)) ≡ cond a c (cond b (c + 32) c)) [
-      | true ↦ λ b ea eb. rw ea refl
-      | false ↦ λ b. elim b as
-          (λ b. nat_lt c 65 ≡ false → nat_lt c 91 ≡ b → to_ascii_lowercase (cond b (c + 32) c) ≡ cond b (c + 32) c) [
-            | true ↦ λ ea eb.
-                (let most = ltb-true c 91 eb in
-                let least : nat_lt (c + 32) 65 ≡ false =
-                false_from_ne_true _
-                (λ e. (let low = ltb-true (c + 32) 65 e in let up = not_below c 65 ea in omega arith)) in
-                let over : nat_lt (c + 32) 91 ≡ false =
-                false_from_ne_true _
-                (λ e. (let low = ltb-true (c + 32) 91 e in let up = not_below c 65 ea in omega arith)) in
-                rw (least, over) refl)
-            | false ↦ λ ea eb. rw (ea, eb) refl
-          ]
-    ] in
-    go (nat_lt c 65) (nat_lt c 91) refl refl
-  where
-    not_below : (c n : ℕ) → nat_lt c n ≡ false → n ≤ c
-    not_below c n e =
-        elim (cases_lt c n) [ inl less ↦ absurd (both_ways (nat_lt c n) e (lt-ltb c n less)) | inr le ↦ le ]
-
 lower_twice : (a : List ℕ) → lower (lower a) ≡ lower a
 lower_twice [] = refl
-lower_twice (c ∷ a) = rw (twice c, lower_twice a) refl
+lower_twice (c ∷ a) = rw (lowercase-lowercase c, lower_twice a) refl
 
 -- plans of different OUT names
 pub plans_differ : (a b : List ℕ) → is_same_name a b ≡ false → is_same_name (file_name a) (file_name b) ≡ false

@@ -1,15 +1,14 @@
 -- What any text bounds: its steps, the factors and questions of each; and its OUT names, which differ.
-use Rattle.std.proofs.Common.{ℕ, ◌≡◌, ◌<◌, ◌≤◌, ◌+◌, ◌-◌, ◌^◌, ◌∙◌, zero, suc, max, Bool, true, false, List, [], ◌∷◌}
+use Rattle.std.proofs.Common.{ℕ, ◌≡◌, ◌≤◌, ◌+◌, ◌-◌, ◌^◌, ◌∙◌, suc, max, Bool, true, false, List, [], ◌∷◌}
 use Rattle.std.proofs.Common.{◌++◌, length, length-append, refl, sym, subst, ap, arith, append-nil, Option, Some, None}
-use Rattle.std.proofs.Common.{Result, Ok, Err, inl, inr, cond}
+use Rattle.std.proofs.Common.{Result, Ok, Err, cond}
 use Rattle.std.specs.Prelude.{nat_lt, nat_le, if◌then◌else◌, find, IfOk}
 use Rattle.std.specs.List.{AllByRecursion, IsDistinct, flat_map, range_with_len}
-use Rattle.std.proofs.lemmas.Bool.{and_parts, cases_lt, leb-true, ltb-false}
+use Rattle.std.proofs.lemmas.Bool.{and_parts, leb-true, ltb-false}
 use Rattle.std.proofs.lemmas.List.{length-map}
 use Rattle.std.proofs.lemmas.List.Concat.{flat_map-append}
 use Rattle.std.proofs.lemmas.List.Sums.{count_by-le-length}
-use Rattle.std.proofs.lemmas.Nat.{pow_below}
-use Rattle.std.proofs.Math.Nat.{pow-le-pow_left}
+use Rattle.std.proofs.lemmas.List.FromFn.{length-range_with_len}
 use Rattle.fx_lexer.specs.declared.token.Token.{Token}
 use Rattle.fx_lexer.specs.declared.token.LexFault.{LexFault}
 use Rattle.fx_lexer.specs.Lexing.{lexed}
@@ -22,12 +21,11 @@ use Rattle.fx_text.specs.declared.refusal.Refusal.{Refusal}
 use Rattle.fx_text.specs.Names.{is_same_name}
 use Rattle.fx_text.specs.Phrases.{start_of}
 use Rattle.fx_text.specs.Written.{Written, written, written_at}
-use Rattle.fx_lexer.specs.declared.place.Place.{Place}
 use Rattle.fx_text.specs.Statements.{in_front, statement_of, statements_of, steps_of, rest_of_step}
-use Rattle.fx_text.proofs.Chains.{bind_ok, same_ok, unless_ok}
+use Rattle.fx_text.proofs.Chains.{bind_ok, same_ok}
 use Rattle.fx_text.proofs.Distinct.{none_differ}
 use Rattle.fx_settings.specs.Factors as named
-use Rattle.fx_settings.specs.Items.{Item, items_of, names_of as item_names}
+use Rattle.fx_settings.specs.Items.{items_of}
 use Rattle.fx_outputs.specs.Outputs.{names_of, outputs_of}
 use Rattle.fx_outputs.proofs.Names.{all_differ}
 use Rattle.fx_settings.specs.declared.settings.Size.{Size}
@@ -35,6 +33,7 @@ use Rattle.fx_settings.specs.declared.settings.Size.TheVariants.{Runs, Minimum}
 use Rattle.fx_settings.specs.Said.{step_said}
 use Rattle.fx_settings.specs.Valid.{is_size}
 use Rattle.fx_designs.specs.Problems.{Problem}
+use Rattle.fx_settings.proofs.Within.{all_within}
 use Rattle.fx_statements.specs.Contexts.{context}
 use Rattle.fx_statements.specs.Steps.{Meaning, asked_by, examine_of, factor_limit, factors_by, head_of, some_factors}
 use Rattle.fx_statements.specs.Steps.{step_by, step_of}
@@ -42,30 +41,11 @@ use Rattle.fx_statements.specs.Programs.{accepted, program_of, steps_behind}
 use Rattle.fx_statements.specs.Questions.{Questions, Turn, asked, highest, is_last, lowest, passes, question_for}
 use Rattle.fx_statements.specs.Questions.{questions_of, turns, up_to}
 use Rattle.fx_answer.specs.Books.{finished, finished_before}
+use Rattle.fx_answer.proofs.Valid.{few_factors}
 use Rattle.fx_program.specs.Texts.{at_front, or_refused, program_by, program_in}
+use Rattle.fx_program.proofs.AnyText.{some_same}
 
 -- ---- factors
-
-added_few : (limit : ℕ) (names more : List (List ℕ)) (item : Item) → named.added limit names item ≡ Ok more
-    → length more ≤ limit
-added_few limit names more item e =
-    let regular = unless_ok _ _ more _ e in
-    let fits = unless_ok (nat_lt limit (length names + length (item_names item))) _ more _ regular.1 in
-    let new = unless_ok (named.are_known (item_names item) names) _ more _ fits.1 in
-    let is : names ++ item_names item ≡ more = same_ok _ more new.1 in
-    let within = ltb-false limit (length names + length (item_names item)) fits.0 in
-    omega (arith, within, length-append names (item_names item), ap length is)
-
-all_few : (limit : ℕ) (names found : List (List ℕ)) (items : List Item) → length names ≤ limit
-    → named.all_added limit names items ≡ Ok found → length found ≤ limit
-all_few limit names found [] few e = subst (λ (l : List (List ℕ)). length l ≤ limit) (same_ok names found e) few
-all_few limit names found (item ∷ items) few e =
-    let more = bind_ok (named.added limit names item) _ found e in
-    all_few limit more.0 found items (added_few limit names more.0 item more.1) more.2
-
-same_named : (proc : Place) (found factors : List (List ℕ)) → some_factors proc found ≡ Ok factors → found ≡ factors
-same_named proc [] factors e = absurd (cc e)
-same_named proc (name ∷ found) factors e = same_ok (name ∷ found) factors e
 
 limit_is : (b : Bool) → (if b then 30 else 40) ≤ 40
 limit_is true = omega arith
@@ -100,8 +80,8 @@ step_read earlier statements (Some given) step differ e =
       examine = examine_of statements;
       outputs = outputs.0;
     } in
-    let few = all_few (factor_limit statements) [] found.0 (items_of given) (omega arith) found.1 in
-    let same = same_named proc found.0 factors.0 found.2 in
+    let few = all_within (factor_limit statements) [] (items_of given) found.0 (omega arith) found.1 in
+    let same = some_same proc found.0 factors.0 found.2 in
     let most : factor_limit statements ≤ 40 = limit_is _ in
     subst (IsReadBehind earlier) (same_ok whole step outputs.2)
     (record {
@@ -233,27 +213,13 @@ up_to-few ends (p ∷ ps) =
     let here = go (ends p) in
     omega (arith, here)
 
-range-length : (a n : ℕ) → length (range_with_len a n) ≡ n
-range-length a zero = refl
-range-length a (suc n) = ap suc (range-length (a + 1) n)
-
-few_indexes : (q m : ℕ) → 2 ≤ q → q ^ m ≤ 1024 → m ≤ 10
-few_indexes q m two fits =
-    elim (cases_lt 10 m) [
-      | inl more ↦
-          let least : 2 ^ m ≤ q ^ m = pow-le-pow_left two m in
-          let above : 2 ^ 10 < 2 ^ m = pow_below 10 m more in
-          absurd (omega arith)
-      | inr few ↦ few
-    ]
-
 highest_few : (step : Meaning) (size : Size) → 2 ≤ step.settings.q → is_size step.settings.q size ≡ true
     → length step.factors ≤ 40 → highest step size ≤ 41
 highest_few step Minimum two valid few = let most =
     count_by-le-length (λ m. nat_le (step.settings.q ^ (m + 1)) 1024) (range_with_len 0 10) in omega (arith, most)
 highest_few step (Runs m) two valid few =
     let parts = and_parts (nat_le 1 m) (nat_le (step.settings.q ^ m) 1024) valid in
-    let fits = few_indexes step.settings.q m two (leb-true _ _ parts.1) in
+    let fits = few_factors step.settings.q m two (leb-true _ _ parts.1) in
     let go : (a b : Bool) → (if a then m else (if b then max 3 (length step.factors + 1) else 3)) ≤ 41 =
     λ a b. elim a as (λ a. (if a then m else (if b then max 3 (length step.factors + 1) else 3)) ≤ 41) [
       | true ↦ omega (arith, fits)
@@ -294,7 +260,8 @@ questions_few step two valid few =
     let low : ℕ = lowest step step.settings.size in
     let high : ℕ = highest step step.settings.size in
     let others : length q.others ≡ high - low =
-    length-map (range_with_len (low + 1) (high - low)) (question_for step) ∙ range-length (low + 1) (high - low) in
+    length-map (range_with_len (low + 1) (high - low)) (question_for step) ∙ length-range_with_len (low + 1)
+    (high - low) in
     let count = up_to-few (is_last q.until) (q.first ∷ q.others) in
     let all : length (asked q) ≤ 42 = omega (arith, count, others, most) in
     finished_few 42 (asked q) (passes step.settings.budget) (turns [] (asked q)) all

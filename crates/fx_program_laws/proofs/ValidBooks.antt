@@ -8,10 +8,10 @@ use Rattle.std.specs.Option.{option_map}
 use Rattle.std.proofs.Math.Nat.{div-le_self, mul-pos}
 use Rattle.std.proofs.lemmas.Bool.{both_ways, cases_Bool, cond-true, cond-false, and_parts, eqb-true}
 use Rattle.std.proofs.lemmas.List.{length-map, length-take}
-use Rattle.std.proofs.lemmas.List.FromFn.{length-range_with_len}
 use Rattle.std.proofs.lemmas.List.Sums.{count_by-le-length}
 use Rattle.std.proofs.lemmas.List.Elements.{All-from_recursion, All-filter, All-get_or, recursion_from_All}
 use Rattle.std.proofs.lemmas.List.Elements.{filter_passes}
+use Rattle.fx_base.proofs.Lists.{each-map, each-all, each-weaker, each-both}
 use Rattle.fx_designs.specs.Galois.{IsField, digits, number}
 use Rattle.fx_designs.specs.Vectors.{IsVector, last_nonzero, is_normal, zeros, weight, vectors_of}
 use Rattle.fx_designs.specs.Runs.{is_constant, points, runs_of}
@@ -25,9 +25,10 @@ use Rattle.fx_designs.specs.Nodes.{word_of}
 use Rattle.fx_laws.proofs.Tables.{is_order-field}
 use Rattle.fx_laws.proofs.CanonicalTest.{canonical_decides}
 use Rattle.fx_laws.proofs.Codes.{length-points, number-below}
-use Rattle.fx_laws.proofs.Order.{each-all, each-map, each-weaker, nonempty}
+use Rattle.fx_laws.proofs.Order.{nonempty}
 use Rattle.fx_laws.proofs.Ranks.{append-vector}
 use Rattle.fx_laws.proofs.Space.{zeros-vector}
+use Rattle.fx_reduction.proofs.ShortWords.{pattern-length}
 use Rattle.fx_vectors.specs.Effects.{numbers_of}
 use Rattle.fx_vectors.specs.Question.{CanBeAsked, is_resolution, requirement_of}
 use Rattle.fx_vectors.specs.Shape.{IsShape}
@@ -41,17 +42,13 @@ use Rattle.fx_checker.specs.declared.verdict.Reason.TheVariants.{Beats, OtherRow
 use Rattle.fx_checker.proofs.Existence.{word_exists}
 use Rattle.fx_checker.proofs.Marks.{claim_over, none_good, some_good}
 use Rattle.fx_book.specs.QuestionBooks.{beat_of, book_for, demands_for, has_book, head_for, shape_of}
-
--- requirements are those of the demands that are made of them
-numbers_back : (numbers : List ℕ) → numbers_of (effects_of numbers) ≡ numbers
-numbers_back [] = refl
-numbers_back (n ∷ numbers) = ap (λ l. n ∷ l) (numbers_back numbers)
+use Rattle.fx_book.proofs.Accepted.{numbers-effects}
 
 pub requirement_back : (wanted : Requirement) → requirement_of (demands_for wanted) ≡ wanted
 requirement_back (AtResolution r) = refl
 requirement_back (ForEffects estimate besides) =
-    ap (λ l. ForEffects l (numbers_of (effects_of besides))) (numbers_back estimate) ∙ ap (ForEffects estimate)
-    (numbers_back besides)
+    ap (λ l. ForEffects l (numbers_of (effects_of besides))) (numbers-effects estimate) ∙ ap (ForEffects estimate)
+    (numbers-effects besides)
 
 -- a book has no pattern to beat, and its question no answer; or it has that of the least answer
 told : (p : Problem) (least : Bool) (own : Option (List ℕ)) → (least || not (is_some own)) ≡ true
@@ -101,10 +98,6 @@ module _ (d : Dimensions) (f : IsField d.q) (small : d.q ≤ 9) (few : d.s ≤ 4
       each-map (λ a. a < 2 ^ 127) (λ k. constant_words d.q d.m (vectors_of d.q d.m (take d.s rows)) k / (d.q - 1))
       (range_with_len 1 d.s) (each-all _ (range_with_len 1 d.s) (count_fits rows))
 
-  pattern_long : (rows : List ℕ) → length (pattern_of d rows) ≡ d.s
-  unfolding pattern_of
-  pattern_long rows = length-map (range_with_len 1 d.s) _ ∙ length-range_with_len 1 d.s
-
 -- marks in turn have no flaw at some prefix
 HasNoFlaw : Claim → Mark → Type 0
 HasNoFlaw x mark = (rows : List ℕ) × (flaw x rows mark ≡ None)
@@ -115,11 +108,6 @@ unfolding AreInTurn HasNoFlaw
 none_flawed x prefixes [] h = tt
 none_flawed x [] (mark ∷ entries) h = absurd h
 none_flawed x (rows ∷ others) (mark ∷ entries) h = ((rows, h.0), none_flawed x (turns x rows mark others) entries h.1)
-
-each_both : {X : Type 0} (P Q : X → Type 0) (xs : List X) → AllByRecursion P xs → AllByRecursion Q xs
-    → AllByRecursion (λ x. P x × Q x) xs
-each_both P Q [] p q = tt
-each_both P Q (x ∷ xs) p q = ((p.0, q.0), each_both P Q xs p.1 q.1)
 
 -- the marks of a question that may be asked
 module _ (p : Problem) (shaped : IsShape (shape_of p.dimensions)) (asked : CanBeAsked p.dimensions p.requirement) where
@@ -187,7 +175,7 @@ module _ (p : Problem) (shaped : IsShape (shape_of p.dimensions)) (asked : CanBe
       let node : All (λ c. is_node p c ≡ true) (filter (is_node p) (prefixes p)) =
       filter_passes (is_node p) (prefixes p) in
       let both =
-      each_both (λ c. 0 < length c) (λ c. is_node p c ≡ true) (filter (is_node p) (prefixes p))
+      each-both (λ c. 0 < length c) (λ c. is_node p c ≡ true) (filter (is_node p) (prefixes p))
       (recursion_from_All _ _ more) (recursion_from_All _ _ node) in
       each-map (IsEntry d true) (mark_of p) (filter (is_node p) (prefixes p))
       (each-weaker _ (λ c. IsEntry d true (mark_of p c)) (filter (is_node p) (prefixes p))
@@ -225,7 +213,7 @@ module _ (p : Problem) (shaped : IsShape (shape_of p.dimensions)) (asked : CanBe
   of_beat : (beat : Option (List ℕ)) → IsGood (claim_over p (is_some beat) beat) (marks p)
       → AllByRecursion (IsEntry d (is_some beat)) (marks p)
   of_beat None h = each-weaker _ (IsEntry d false) (marks p) (λ mark both. unbeaten mark both.0 both.1)
-      (each_both (IsEntry d true) (HasNoFlaw (claim_over p false None)) (marks p) entries
+      (each-both (IsEntry d true) (HasNoFlaw (claim_over p false None)) (marks p) entries
       (none_flawed (claim_over p false None) (children p []) (marks p) h))
   of_beat (Some pattern) h = entries
 
@@ -238,7 +226,7 @@ module _ (p : Problem) (shaped : IsShape (shape_of p.dimensions)) (asked : CanBe
     | inr least ↦
         subst (λ b. IsBeat d.s (is_some b) b) (sym least.3) (
           refl,
-          pattern_long d f (order-bounds d.q shaped.order).1 shaped.factors least.0,
+          pattern-length d least.0,
           All-from_recursion _ _ (pattern_fits d f (order-bounds d.q shaped.order).1 shaped.factors least.0),
         )
   ]

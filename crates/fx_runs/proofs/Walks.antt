@@ -7,11 +7,12 @@ use Rattle.std.specs.Bool.{Decides}
 use Rattle.std.specs.List.{list_any, list_all}
 use Rattle.std.proofs.Math.Nat.{pow-suc, one-le-pow}
 use Rattle.std.proofs.lemmas.Bool.{cases_eq, eq-eqb, ne_eqb, eqb-true, both_ways, and_parts, and_from, or_left}
-use Rattle.std.proofs.lemmas.Bool.{or_right, le-leb, leb-true}
+use Rattle.std.proofs.lemmas.Bool.{or_right, le-leb, leb-true, or_cases}
 use Rattle.std.proofs.lemmas.Bool.Decides.{nat_tests}
 use Rattle.std.proofs.lemmas.Grind.{common_steps}
 use Rattle.std.proofs.lemmas.Nat.{or_lt, xor_lt}
 use Rattle.std.proofs.lemmas.List.Sums.{sum_by-cons}
+use Rattle.fx_base.proofs.Numbers.{eqb_comm}
 use Rattle.fx_designs.specs.Galois.{IsField}
 use Rattle.fx_designs.specs.Problems.{Dimensions, AtResolution, ForEffects}
 use Rattle.fx_designs.specs.Vectors.{IsVector, weight, is_zero}
@@ -30,7 +31,7 @@ use Rattle.fx_runs.specs.declared.walk.Within.TheVariants.{AllRuns, EachBlock}
 use Rattle.fx_runs.specs.Supports.{bit_of, is_among, is_balanced_over, each_balanced, AreBalancedFrom}
 use Rattle.fx_vectors.proofs.Supports.{bit-small, is_zero-effect}
 use Rattle.fx_vectors.proofs.Differences.{or-bit, xor-bit, differs-cons}
-use Rattle.fx_vectors.proofs.Balances.{either_true, balances-is}
+use Rattle.fx_vectors.proofs.Balances.{balances-is}
 
 -- supports of at most some factors
 pub among-light : (n most : ℕ) (f : List ℕ) → length f ≤ n → is_among 0 (2 ^ n - 1) most f ≡ nat_le (weight f) most
@@ -158,10 +159,7 @@ among-effect e most f h =
     let same : bit_xor e 0 ≡ e = grind (arith, common_steps) in
     let found : is_among (bit_xor e 0) (bit_xor e 0) most f ≡ eqb (effect_of f) (bit_xor e 0) =
     among-differs 2 e 0 most f h in
-    (rw same at found) ∙ turn (effect_of f) e
-  where
-    turn : (a b : ℕ) → eqb a b ≡ eqb b a
-    turn a b = grind (arith, nat_tests)
+    (rw same at found) ∙ eqb_comm (effect_of f) e
 
 module _ (runs : RunsView) (within : Within) where
   abbrev q : ℕ
@@ -300,7 +298,7 @@ module _ (runs : RunsView) (within : Within) where
         (each_balanced runs within (λ f. not (is_zero f) && b f)) e in
         whole.1 (λ f h t.
         let p = and_parts (not (is_zero f)) (a f || b f) t in
-        elim (either_true (a f) (b f) p.1) [
+        elim (or_cases (a f) (b f) p.1) [
           | inl x ↦ one.0 both.0 f h (and_from _ _ p.0 x)
           | inr y ↦ two.0 both.1 f h (and_from _ _ p.0 y)
         ]))

@@ -1,21 +1,20 @@
 -- The names of a step's factors differ from one another.
-use Rattle.std.proofs.Common.{◌≡◌, ℕ, ◌+◌, ◌-◌, ◌^◌, ◌<◌, Bool, true, false, not, List, [], ◌∷◌, ◌++◌, length, Option}
-use Rattle.std.proofs.Common.{Some, None, Result, Ok, Err, refl, subst, arith}
-use Rattle.std.specs.Prelude.{is_some, nat_lt, nat_le, ◌&&◌, if◌then◌else◌}
+use Rattle.std.proofs.Common.{◌≡◌, ℕ, ◌+◌, ◌-◌, ◌^◌, ◌<◌, true, false, not, List, [], ◌∷◌, ◌++◌, length, Option}
+use Rattle.std.proofs.Common.{Some, None, Ok, subst, arith}
+use Rattle.std.specs.Prelude.{is_some, nat_lt, nat_le, ◌&&◌}
 use Rattle.std.specs.List.{AllByRecursion, IsDistinct, list_all}
 use Rattle.std.specs.Str.Parse.{digits_value}
 use Rattle.std.proofs.lemmas.Bool.{leb-true, not-false, and_parts, or_parts}
 use Rattle.fx_lexer.specs.Bytes.{is_digit}
-use Rattle.fx_text.specs.declared.refusal.Refusal.{Refusal}
 use Rattle.fx_text.specs.Written.{Written}
 use Rattle.fx_text.specs.Names.{is_same_name, place_of}
-use Rattle.fx_text.specs.Refusals.{◌>>=◌}
 use Rattle.fx_text.proofs.Digits.{is_below}
 use Rattle.fx_text.proofs.Distinct.{IsNew, joined_differ, none_differ, not_found}
 use Rattle.fx_text.specs.Ranges.{is_range, is_numeral, is_plain, numbered, stem, ending, number_at_end}
 use Rattle.fx_settings.specs.Items.{Item, is_regular, is_regular_from, names_of, names_from, items_of}
 use Rattle.fx_settings.specs.Factors.{are_known, added, all_added, factors_of}
 use Rattle.fx_text.proofs.RangeParts.{plain, order}
+use Rattle.fx_text.proofs.Chains.{unless_ok, bind_ok}
 use Rattle.fx_settings.proofs.NumbersDiffer.{numbered_differ}
 
 are_new : (names new : List (List ℕ)) → are_known new names ≡ false → AllByRecursion (IsNew names) new
@@ -45,24 +44,12 @@ unfolding IsDistinct
 item_differs first None regular = (tt, tt)
 item_differs first (Some last) regular = range_differs first.text last.text regular
 
--- what is accepted is not refused
-pub accepted : {A : Type 0} (b : Bool) (refusal : Refusal) (r : Result A Refusal) (x : A)
-    → (if b then Err refusal else r) ≡ Ok x → (b ≡ false) × (r ≡ Ok x)
-accepted true refusal r x e = absurd (cc e)
-accepted false refusal r x e = (refl, e)
-
--- what is given on was read
-pub read : {A B : Type 0} (r : Result A Refusal) (f : A → Result B Refusal) (x : B) → (r >>= f) ≡ Ok x
-    → (a : A) × (r ≡ Ok a) × (f a ≡ Ok x)
-read (Ok a) f x e = (a, refl, e)
-read (Err refusal) f x e = absurd (cc e)
-
 added_differ : (limit : ℕ) (names : List (List ℕ)) (item : Item) (more : List (List ℕ)) → IsDistinct is_same_name names
     → added limit names item ≡ Ok more → IsDistinct is_same_name more
 added_differ limit names item more h e =
-    let regular = accepted (not (is_regular item)) _ _ more e in
-    let few = accepted (nat_lt limit (length names + length (names_of item))) _ _ more regular.1 in
-    let new = accepted (are_known (names_of item) names) _ _ more few.1 in
+    let regular = unless_ok (not (is_regular item)) _ more _ e in
+    let few = unless_ok (nat_lt limit (length names + length (names_of item))) _ more _ regular.1 in
+    let new = unless_ok (are_known (names_of item) names) _ more _ few.1 in
     let same : names ++ names_of item ≡ more = cc new.1 in
     let differ = item_differs item.first item.last (not-false (is_regular item) regular.0) in
     subst (IsDistinct is_same_name) same
@@ -72,7 +59,7 @@ all_differ : (limit : ℕ) (items : List Item) (names all : List (List ℕ)) →
     → all_added limit names items ≡ Ok all → IsDistinct is_same_name all
 all_differ limit [] names all h e = let same : names ≡ all = cc e in subst (IsDistinct is_same_name) same h
 all_differ limit (item ∷ items) names all h e =
-    let one = read (added limit names item) (λ more. all_added limit more items) all e in
+    let one = bind_ok (added limit names item) (λ more. all_added limit more items) all e in
     all_differ limit items one.0 all (added_differ limit names item one.0 h one.1) one.2
 
 pub factors_differ : (limit : ℕ) (statement : List Written) (names : List (List ℕ))

@@ -10,6 +10,7 @@ use Rattle.std.proofs.lemmas.Slice.Eq.{bytes_eq-Decides}
 use Rattle.std.specs.Char.{to_ascii_lowercase}
 use Rattle.std.proofs.lemmas.Fmt.{length-decimal-le_wide}
 use Rattle.std.proofs.lemmas.Str.Parse.{digits_value_short}
+use Rattle.fx_base.proofs.Lists.{each-append}
 use Rattle.fx_lexer.specs.Bytes.{is_digit}
 use Rattle.fx_language.specs.Grammar as grammar
 use Rattle.fx_text.specs.Names.{IsName, is_same_name}
@@ -18,10 +19,10 @@ use Rattle.fx_text.specs.Sentences.{HasNames, IsStatement}
 use Rattle.fx_text.specs.Written.{Written}
 use Rattle.fx_text.proofs.Digits.{digits}
 use Rattle.fx_text.proofs.RangeParts.{order, plain}
+use Rattle.fx_text.proofs.Chains.{unless_ok, bind_ok}
 use Rattle.fx_settings.specs.Items.{Item, is_regular, is_regular_from, items_of, names_from, names_of}
 use Rattle.fx_settings.specs.Factors.{added, all_added, are_known, factors_of}
 use Rattle.fx_settings.specs.ItemReadings.{AreItems, IsWrittenAs}
-use Rattle.fx_settings.proofs.Distinct.{accepted, read}
 use Rattle.fx_settings.proofs.ItemReadings.{items_law}
 
 -- names, or those of a range, whose last name is one
@@ -115,23 +116,19 @@ of_item first (Some last) regular is =
     in_range first.text last.text regular is.1 (number_at_end first.text)
     (number_at_end last.text + 1 - number_at_end first.text) (omega (arith, ends))
 
-more : (names new : List (List ℕ)) → AllByRecursion IsName names → AllByRecursion IsName new
-    → AllByRecursion IsName (names ++ new)
-more [] new h k = k
-more (x ∷ names) new h k = (h.0, more names new h.1 k)
-
 all_names : (limit : ℕ) (items : List Item) (names all : List (List ℕ))
     → AllByRecursion (λ (i : Item). HasItemNames i.first i.last) items → AllByRecursion IsName names
     → all_added limit names items ≡ Ok all → AllByRecursion IsName all
 all_names limit [] names all is h e = let same : names ≡ all = cc e in subst (AllByRecursion IsName) same h
 all_names limit (item ∷ items) names all is h e =
-    let one = read (added limit names item) (λ more. all_added limit more items) all e in
-    let regular = accepted (not (is_regular item)) _ _ one.0 one.1 in
-    let few = accepted (nat_lt limit (length names + length (names_of item))) _ _ one.0 regular.1 in
-    let new = accepted (are_known (names_of item) names) _ _ one.0 few.1 in
+    let one = bind_ok (added limit names item) (λ more. all_added limit more items) all e in
+    let regular = unless_ok (not (is_regular item)) _ one.0 _ one.1 in
+    let few = unless_ok (nat_lt limit (length names + length (names_of item))) _ one.0 _ regular.1 in
+    let new = unless_ok (are_known (names_of item) names) _ one.0 _ few.1 in
     let same : names ++ names_of item ≡ one.0 = cc new.1 in
     let here = of_item item.first item.last (not-false (is_regular item) regular.0) is.0 in
-    all_names limit items one.0 all is.1 (subst (AllByRecursion IsName) same (more names (names_of item) h here)) one.2
+    all_names limit items one.0 all is.1
+    (subst (AllByRecursion IsName) same (each-append IsName names (names_of item) h here)) one.2
 
 -- what holds of each of some holds of each of a part
 front_names : (a b : List Written) → HasNames (a ++ b) → HasNames a

@@ -3,7 +3,7 @@ use Rattle.std.proofs.Common.{◌≡◌, ℕ, zero, suc, ◌-◌, ◌^◌, ◌�
 use Rattle.std.proofs.Common.{Ok, refl, sym, ap, subst, ◌∙◌, arith}
 use Rattle.std.specs.Prelude.{nat_le, ◌==◌, is_some, option_map}
 use Rattle.std.specs.List.{AllByRecursion}
-use Rattle.std.proofs.lemmas.Bool.{le-leb, lt-ltb, ltb-false, and_from}
+use Rattle.std.proofs.lemmas.Bool.{le-leb, lt-ltb, ltb-false, and_from, not-false}
 use Rattle.fx_settings.specs.declared.said.BlocksSaid.{BlocksSaid}
 use Rattle.fx_settings.specs.declared.said.BlocksWord.{BlocksWord}
 use Rattle.fx_settings.specs.declared.said.BlocksWord.TheVariants as word
@@ -23,10 +23,6 @@ use Rattle.fx_settings.specs.Settings.{levels_of, rules, undivided, unblocked_of
 use Rattle.fx_settings.specs.Settings.{step_settings_of}
 use Rattle.fx_settings.specs.Valid.{is_size, are_blocks, has_blocks, has_most, are_valid}
 use Rattle.fx_settings.proofs.Rules.{accepted}
-
-holds : (b : Bool) → not b ≡ false → b ≡ true
-holds true e = refl
-holds false e = absurd (cc e)
 
 positive : (n : ℕ) → (n == 0) ≡ false → 1 ≤ n
 positive zero e = absurd (cc e)
@@ -94,9 +90,9 @@ all_kept s said
     let least : Bool = least_of said.model in
     let highest : Bool = is_highest (criterion_of said.model) in
     let same = as_said q size said.blocks in
-    let numbers = and_from _ _ (holds _ level) (holds _ budget) in
+    let numbers = and_from _ _ (not-false _ level) (not-false _ budget) in
     let sized = and_from _ _ numbers (size_fits q (run_factors_of q s said.size) some few) in
-    let judged = and_from _ _ sized (holds _ criterion) in
+    let judged = and_from _ _ sized (not-false _ criterion) in
     let apart = ap (λ b. not (b && (least || highest))) same.0 ∙ ap not maximum in
     let small = ap (λ b. not (is_minimum size && (highest || least || b))) same.1 ∙ ap not minimum in
     and_from _ _ (and_from _ _ judged (blocks_fit q size said.blocks several few_blocks))

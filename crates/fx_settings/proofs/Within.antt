@@ -21,7 +21,7 @@ module _ (limit : ℕ) where
       subst (λ (l : List (List ℕ)). length l ≤ limit) (same_ok (names ++ names_of item) more new.1)
       (omega (arith, room, long))
 
-  all_within : (names : List (List ℕ)) (items : List Item) (all : List (List ℕ)) → length names ≤ limit
+  pub all_within : (names : List (List ℕ)) (items : List Item) (all : List (List ℕ)) → length names ≤ limit
       → all_added limit names items ≡ Ok all → length all ≤ limit
   all_within names [] all few e = subst (λ (l : List (List ℕ)). length l ≤ limit) (same_ok names all e) few
   all_within names (item ∷ items) all few e =

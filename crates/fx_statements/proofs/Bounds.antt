@@ -1,10 +1,10 @@
 -- What the settings of a step leave of its numbers.
 use Rattle.std.proofs.Common.{◌≡◌, ℕ, ◌^◌, ◌≤◌, Bool, true, false, not, ◌&&◌, ◌||◌, List, [], ◌∷◌, Option, Some, None}
-use Rattle.std.proofs.Common.{Ok, refl, sym, ap, subst, ◌∙◌, inl, inr, ◌⊎◌, arith}
+use Rattle.std.proofs.Common.{Ok, refl, sym, ap, subst, ◌∙◌, inl, inr, arith}
 use Rattle.std.specs.Prelude.{nat_le, nat_lt, ◌==◌, is_some, if◌then◌else◌}
 use Rattle.std.specs.List.{list_all, list_any}
 use Rattle.std.specs.Option.{option_and_then}
-use Rattle.std.proofs.lemmas.Bool.{leb-true, le-leb, ltb-false, eqb-true, not-true, and_from, and_parts}
+use Rattle.std.proofs.lemmas.Bool.{leb-true, le-leb, ltb-false, eqb-true, not-true, and_from, and_parts, cases_Bool}
 use Rattle.std.proofs.Math.Nat.{pow-le-pow_right}
 use Rattle.fx_settings.specs.declared.settings.StepSettings.{StepSettings}
 use Rattle.fx_settings.specs.declared.settings.Size.{Size}
@@ -26,10 +26,6 @@ use Rattle.fx_statements.specs.Goals.{criterion_of}
 use Rattle.fx_statements.specs.Valid.{is_count, settings_in}
 use Rattle.fx_statements.specs.Steps.{factor_limit}
 
-either_way : (b : Bool) → (b ≡ true) ⊎ (b ≡ false)
-either_way true = inl refl
-either_way false = inr refl
-
 -- a number among some, each of which is from 2 to 9
 among : (levels : List ℕ) (q : ℕ) → list_all (λ x. nat_le 2 x && nat_le x 9) levels ≡ true
     → list_any (λ x. x == q) levels ≡ true → (2 ≤ q) × (q ≤ 9)
@@ -37,7 +33,7 @@ among [] q all some = absurd (cc some)
 among (x ∷ levels) q all some =
     let both = and_parts (nat_le 2 x && nat_le x 9) (list_all (λ x. nat_le 2 x && nat_le x 9) levels) all in
     let ends = and_parts (nat_le 2 x) (nat_le x 9) both.0 in
-    elim (either_way (x == q)) [
+    elim (cases_Bool (x == q)) [
       | inl same ↦ let e = eqb-true x q same in
           (omega (arith, e, leb-true 2 x ends.0), omega (arith, e, leb-true x 9 ends.1))
       | inr other ↦ among levels q both.1 (ap (λ b. b || list_any (λ x. x == q) levels) (sym other) ∙ some)

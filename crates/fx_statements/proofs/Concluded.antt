@@ -6,8 +6,8 @@ use Rattle.std.proofs.Common.{Option, Some, None, refl, sym, subst, ◌∙◌, a
 use Rattle.std.specs.Prelude.{is_some, not, if◌then◌else◌, find, slice_get}
 use Rattle.std.specs.List.{AllByRecursion, range_with_len}
 use Rattle.std.proofs.lemmas.Bool.{cases_Bool, cases_eq, cases_lt, cond-true, cond-false, le-ltb, lt-ltb}
-use Rattle.std.proofs.lemmas.List.Elements.{All-from_recursion}
 use Rattle.std.proofs.lemmas.List.Sums.{sum_by-cons, sum_by_push}
+use Rattle.std.proofs.lemmas.Option.{same_Some}
 use Rattle.fx_designs.specs.Nodes.{nodes}
 use Rattle.fx_designs.specs.Problems.{Dimensions, Problem}
 use Rattle.fx_designs.specs.Answers.{answer}
@@ -17,9 +17,6 @@ use Rattle.fx_statements.specs.Questions.{Answered, Conclusion, Found, Questions
 use Rattle.fx_statements.specs.Questions.{concluded, conclusion_by, conclusion_of, cut_short, found_by, highest}
 use Rattle.fx_statements.specs.Questions.{is_last, last_found, last_of, left_at, lowest, nodes_of, outcome_of, passes}
 use Rattle.fx_statements.specs.Questions.{question_for, questions_of, series, turns, up_to}
-
-same_some : {A : Type 0} (x y : A) → Some x ≡ Some y → x ≡ y
-same_some x y e = cc
 
 -- the question for n was answered with these rows
 pub record IsFoundAt (question : ℕ → Problem) (found : Found) (n : ℕ) : Type 0 where
@@ -100,7 +97,7 @@ module _ (question : ℕ → Problem) where
         },
       )
   first_step found a n (Some rows) is later e =
-      let same : record { question = question a; rows = rows } ≡ found = same_some _ _ e in (
+      let same : record { question = question a; rows = rows } ≡ found = same_Some _ _ e in (
         a,
         record {
           from = omega arith;
@@ -147,7 +144,7 @@ module _ (question : ℕ → Problem) where
   last_step found earlier a n (Some rows) is later e =
       elim (later (Some (record { question = question a; rows = rows })) e) [
         | inl here ↦
-            let same : record { question = question a; rows = rows } ≡ found = same_some _ _ here.0 in
+            let same : record { question = question a; rows = rows } ≡ found = same_Some _ _ here.0 in
             inr (
               a,
               record {
@@ -360,59 +357,11 @@ abbrev pub LastOf : Option Found → List Problem → Found → Type 0
 LastOf earlier ps found =
     ((earlier ≡ Some found) × AllByRecursion (λ p. answer p ≡ None) ps) ⊎ IsLastAnswer ps found.question found.rows
 
-later_one : (p : Problem) (ps : List Problem) (found : Found) → IsLastAnswer ps found.question found.rows
-    → IsLastAnswer (p ∷ ps) found.question found.rows
-later_one p ps found h = record {
-  earlier = p ∷ h.earlier;
-  later = h.later;
-  among = ap (λ ps. p ∷ ps) h.among;
-  answer_is = h.answer_is;
-  none_later = h.none_later;
-}
-
-found_step : (earlier : Option Found) (p : Problem) (ps : List Problem) (found : Found) (own : Option (List ℕ))
-    → answer p ≡ own
-    → LastOf (found_by earlier p own) ps found → LastOf earlier (p ∷ ps) found
-found_step earlier p ps found None is h =
-    elim h [ inl none ↦ inl (none.0, (is, none.1)) | inr last ↦ inr (later_one p ps found last) ]
-found_step earlier p ps found (Some rows) is h = elim h [
-  | inl none ↦
-      let same : record { question = p; rows = rows } ≡ found = same_some _ _ none.0 in
-      inr (subst (λ found. IsLastAnswer (p ∷ ps) found.question found.rows) same (record {
-        earlier = [];
-        later = ps;
-        among = refl;
-        answer_is = is;
-        none_later = All-from_recursion (λ p. answer p ≡ None) ps none.1;
-      }))
-  | inr last ↦ inr (later_one p ps found last)
-]
-
-last_of_all : (earlier : Option Found) (ps : List Problem) (found : Found) → last_found earlier ps ≡ Some found
-    → LastOf earlier ps found
-last_of_all earlier [] found e = inl (e, tt)
-last_of_all earlier (p ∷ ps) found e =
-    found_step earlier p ps found (answer p) refl (last_of_all (found_by earlier p (answer p)) ps found e)
-
 -- a design is the last answer, and the dimensions are those of its question
 pub record IsDesignOf (questions : Questions) (conclusion : Conclusion) (rows : List ℕ) : Type 0 where
   pub question : Problem
   pub dimensions : conclusion.dimensions ≡ question.dimensions
   pub last : IsLastAnswer (asked questions) question rows
-
-pub design-of : (questions : Questions) (budget : ℕ) (rows : List ℕ) (count : ℕ)
-    → HasEnding (conclusion_of questions budget) (Design rows count)
-    → IsDesignOf questions (conclusion_of questions budget) rows
-design-of questions budget rows count e =
-    let found = design-found rows count questions budget e in
-    elim (last_of_all None (asked questions) found.found found.last) [
-      | inl none ↦ absurd (cc none.0)
-      | inr last ↦ record {
-        question = found.found.question;
-        dimensions = found.dimensions;
-        last = subst (IsLastAnswer (asked questions) found.found.question) found.rows_are last;
-      }
-    ]
 
 -- without one there is no answer
 none_found_step : (p : Problem) (ps : List Problem) (own : Option (List ℕ)) → answer p ≡ own
@@ -422,22 +371,16 @@ none_found_step : (p : Problem) (ps : List Problem) (own : Option (List ℕ)) �
 none_found_step p ps None is rest e = (is, rest e)
 none_found_step p ps (Some rows) is rest e = absurd (some_stays (record { question = p; rows = rows }) ps e)
 
-no_answers : (ps : List Problem) → last_found None ps ≡ None → AllByRecursion (λ p. answer p ≡ None) ps
+pub no_answers : (ps : List Problem) → last_found None ps ≡ None → AllByRecursion (λ p. answer p ≡ None) ps
 no_answers [] e = tt
 no_answers (p ∷ ps) e = none_found_step p ps (answer p) refl (no_answers ps) e
-
-pub none-of : (questions : Questions) (budget count : ℕ) → HasEnding (conclusion_of questions budget) (NoDesign count)
-    → All (λ p. answer p ≡ None) (asked questions)
-none-of questions budget count e =
-    All-from_recursion (λ p. answer p ≡ None) (asked questions)
-    (no_answers (asked questions) (none-found count questions budget e))
 
 -- The nodes
 
 nodes_and : (p : Problem) (ps : List Problem) → nodes_of (p ∷ ps) ≡ length (nodes p) + nodes_of ps
 nodes_and p ps = sum_by-cons (λ p. length (nodes p)) p ps
 
-nodes_more : (ps : List Problem) (p : Problem) → nodes_of (ps ++ p ∷ []) ≡ nodes_of ps + length (nodes p)
+pub nodes_more : (ps : List Problem) (p : Problem) → nodes_of (ps ++ p ∷ []) ≡ nodes_of ps + length (nodes p)
 nodes_more ps p = sum_by_push (λ p. length (nodes p)) ps p
 
 module _ (budget : ℕ) where
@@ -531,7 +474,7 @@ module _ (P : Problem → Type 0) where
   kept_turn test earlier (p ∷ ps) turn before all e =
       let own : Turn = record { earlier = earlier; question = p } in
       elim (cases_Bool (test own)) [
-        | inl here ↦ subst InTurn (same_some own turn (sym (cond-true (test own) _ _ here) ∙ e)) (before, all.0)
+        | inl here ↦ subst InTurn (same_Some own turn (sym (cond-true (test own) _ _ here) ∙ e)) (before, all.0)
         | inr later ↦
             kept_turn test (earlier ++ p ∷ []) ps turn (each-and earlier p before all.0) all.1
             (sym (cond-false (test own) _ _ later) ∙ e)

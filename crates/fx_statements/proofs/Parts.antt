@@ -1,5 +1,5 @@
 -- What holds of the statements of an accepted text, and of its names.
-use Rattle.std.proofs.Common.{◌≡◌, ℕ, zero, suc, Bool, true, false, List, [], ◌∷◌, ◌++◌, take, drop, Option, Some, None}
+use Rattle.std.proofs.Common.{◌≡◌, ℕ, Bool, true, false, List, [], ◌∷◌, ◌++◌, Option, Some, None}
 use Rattle.std.proofs.Common.{Result, Ok, refl, sym, ap, subst, ◌∙◌, append_assoc}
 use Rattle.std.specs.Prelude.{All, if◌then◌else◌, nat_lt}
 use Rattle.std.proofs.lemmas.List.{append-nil}
@@ -23,18 +23,6 @@ use Rattle.fx_outputs.specs.Outputs.{names_of}
 use Rattle.fx_statements.specs.declared.step.Step.{Step}
 use Rattle.fx_statements.specs.Programs.{out_names}
 use Rattle.fx_statements.specs.Steps.{factors_by, some_factors}
-
-pub each_taken : {A : Type 0} (P : A → Type 0) (n : ℕ) (xs : List A) → AllByRecursion P xs
-    → AllByRecursion P (take n xs)
-each_taken P zero xs h = tt
-each_taken P (suc n) [] h = tt
-each_taken P (suc n) (x ∷ xs) h = (h.0, each_taken P n xs h.1)
-
-pub each_dropped : {A : Type 0} (P : A → Type 0) (n : ℕ) (xs : List A) → AllByRecursion P xs
-    → AllByRecursion P (drop n xs)
-each_dropped P zero xs h = h
-each_dropped P (suc n) [] h = tt
-each_dropped P (suc n) (x ∷ xs) h = each_dropped P n xs h.1
 
 -- of the statement that begins with a word too
 pub found : (P : List Written → Type 0) (word : Symbol) (statements : List (List Written)) (s : List Written)

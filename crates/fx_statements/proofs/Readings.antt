@@ -14,7 +14,7 @@ use Rattle.fx_text.specs.Phrases.{after, before, has}
 use Rattle.fx_effects.specs.Models.{first_or, lists_at, lists_after, lists_of}
 use Rattle.fx_text.specs.Sentences.{IsStatement}
 use Rattle.fx_text.proofs.Cut.{cut, nothing}
-use Rattle.fx_text.proofs.Lacking.{none, open_alone, close_alone, any_written, after_part, before_part}
+use Rattle.fx_text.proofs.Lacking.{none, any_written, after_part, before_part}
 use Rattle.fx_settings.proofs.Readings.{turned}
 use Rattle.fx_statements.specs.Readings.{HasList, IsSecondRead, IsModelRead}
 
@@ -64,8 +64,8 @@ listed first next text (
   opens = to;
   closes = tc;
   between = list_any-append (is symbol.Close) a4 a5 ∙ ap₂ (λ x y. x || y)
-      (none symbol.Close close_alone grammar.effect a4 refl f)
-      (none symbol.Close close_alone (Many grammar.effect) a5 refl fs);
+      (none symbol.Close grammar.effect a4 refl f)
+      (none symbol.Close (Many grammar.effect) a5 refl fs);
   next_is = n;
   text_is =
       i1 ∙ ap₂ (λ (x y : List Symbol). x ++ y) ew
@@ -281,8 +281,9 @@ model_law s (x0, r0, (k, tk, ek), (x1, r1, word, (x2, r2, opt, (z, tz, ez), e2),
             (f.rest_is ∙ append_assoc t.rest x2 (z ∷ []) ∙ ap (λ (l : List Symbol). l ++ (x2 ++ z ∷ [])) whole))
         | inr empty ↦
             no_second f.list.rest x2 z
-            (none symbol.Open open_alone
-            (Either (Before (One (is symbol.Slash)) (Before (One (is symbol.Minabs)) grammar.no_open)) Empty) x2 refl
+            (none symbol.Open
+            (Either (Before (One (is symbol.Slash)) (Before (One (is symbol.Minabs)) grammar.no_open)) Empty) x2
+            refl
             opt) (f.rest_is ∙ ap (λ (l : List Symbol). (l ++ x2) ++ z ∷ []) empty)
       ] in
       inl (record {

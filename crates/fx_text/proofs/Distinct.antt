@@ -9,6 +9,7 @@ use Rattle.std.proofs.lemmas.Bool.{ltb-false, not-true}
 use Rattle.std.proofs.lemmas.List.Elements.{recursion_from_All}
 use Rattle.std.proofs.lemmas.List.Sums.{prefix_len_passes}
 use Rattle.std.proofs.lemmas.Slice.Eq.{bytes_eq-Decides}
+use Rattle.fx_base.proofs.Lists.{each-append}
 use Rattle.fx_text.specs.Names.{is_same_name, place_of}
 
 same_turned : (a b : List ℕ) → is_same_name a b ≡ is_same_name b a
@@ -40,11 +41,6 @@ apart x names (name ∷ new) h =
     let rest = apart x names new h.1 in
     ((same_turned x name ∙ h.0.0, rest.0), (h.0.1, rest.1))
 
-both : {X : Type 0} (P : X → Type 0) (xs ys : List X) → AllByRecursion P xs → AllByRecursion P ys
-    → AllByRecursion P (xs ++ ys)
-both P [] ys h k = k
-both P (x ∷ xs) ys h k = (h.0, both P xs ys h.1 k)
-
 pub joined_differ : (names new : List (List ℕ)) → IsDistinct is_same_name names → IsDistinct is_same_name new
     → AllByRecursion (IsNew names) new
     → IsDistinct is_same_name (names ++ new)
@@ -52,7 +48,7 @@ unfolding IsDistinct
 joined_differ [] new h k e = k
 joined_differ (x ∷ names) new h k e =
     let each = apart x names new e in
-    (both (λ other. is_same_name x other ≡ false) names new h.0 each.0, joined_differ names new h.1 k each.1)
+    (each-append (λ other. is_same_name x other ≡ false) names new h.0 each.0, joined_differ names new h.1 k each.1)
 
 pub one_differs : (name : List ℕ) → IsDistinct is_same_name (name ∷ [])
 unfolding IsDistinct

@@ -6,7 +6,7 @@ use Rattle.fx_language.specs.declared.symbol.Symbol.{Symbol}
 use Rattle.fx_language.specs.Symbols.{is}
 use Rattle.fx_text.specs.Written.{Written}
 use Rattle.fx_text.specs.Phrases.{after, before, has}
-pub use Rattle.fx_language.proofs.Lacking.{lacks, equals_alone, slash_alone, open_alone, close_alone, none}
+pub use Rattle.fx_language.proofs.Lacking.{lacks, none}
 
 -- the same of what is written
 pub any_written : (t : Symbol) (s : List Written) → has t s ≡ list_any (is t) (map (λ (w : Written). w.symbol) s)

@@ -1,5 +1,5 @@
 -- Refusals by a rule, at the places of what is written.
-use Rattle.std.proofs.Common.{◌≡◌, ℕ, zero, suc, Bool, true, false, List, [], ◌∷◌, take, drop, Some, None, Result, Ok}
+use Rattle.std.proofs.Common.{◌≡◌, ℕ, zero, suc, Bool, true, false, List, [], ◌∷◌, take, drop, Some, Result, Ok}
 use Rattle.std.proofs.Common.{Err}
 use Rattle.std.specs.Prelude.{IfErr, IfSome, slice_get, if◌then◌else◌}
 use Rattle.std.specs.List.{AllByRecursion}
@@ -10,7 +10,6 @@ use Rattle.fx_lexer.specs.declared.place.Place.{Place}
 use Rattle.fx_text.specs.declared.refusal.Refusal.{Refusal}
 use Rattle.fx_text.specs.Written.{Written, begins}
 use Rattle.fx_text.specs.Phrases.{start_of, before, after}
-use Rattle.fx_text.specs.Ranges.{first_of, range_end}
 use Rattle.fx_text.specs.Statements.{in_front, statements_of, rest_of_step, steps_of, statement_of}
 use Rattle.fx_text.specs.Refusals.{refused_at, refusal_at, IsByRule, ◌>>=◌}
 use Rattle.fx_language.specs.Refusals.{is_rule}
@@ -73,15 +72,6 @@ module _ (P : ℕ → ℕ → Type 0) where
       by_test : (b : Bool) → ArePlaced P (after symbol s) → ArePlaced P (if b then s else after symbol s)
       by_test true later = h.1
       by_test false later = later
-
-  pub last_of_range : (s : List Written) → ArePlaced P s → IfSome (range_end s) (IsPlaced P)
-  last_of_range [] h = tt
-  last_of_range (w ∷ rest) h = by_test (is symbol.Minus w.symbol) rest h.1
-    where
-      by_test : (b : Bool) (s : List Written) → ArePlaced P s → IfSome (if b then first_of s else None) (IsPlaced P)
-      by_test true [] h = tt
-      by_test true (v ∷ s) h = h.0
-      by_test false s h = tt
 
   pub start : (s : List Written) → P 1 1 → ArePlaced P s → P (start_of s).line (start_of s).column
   start [] front h = front

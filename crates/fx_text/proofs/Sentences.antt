@@ -19,14 +19,11 @@ use Rattle.fx_lexer.specs.Tokens.{IsToken}
 use Rattle.fx_language.specs.Keywords.{symbol_of, symbols_of}
 use Rattle.std.proofs.lemmas.List.Elements.{recursion_from_All}
 use Rattle.std.specs.Prelude.{All, slice_range, if◌then◌else◌}
+use Rattle.fx_language.proofs.SameSymbol.{symbol_is}
 use Rattle.fx_text.specs.Statements.{in_front, statements_of}
 use Rattle.fx_text.specs.Sentences.{symbols_in, IsStatement, IsByItsWord, HasNames, IsAccepted}
 use Rattle.fx_text.proofs.Wholes.{is_name}
 use Rattle.fx_text.proofs.Lacking.{lacks, none}
-
-pub semicolon_alone : (s : Symbol) → is word.Semicolon s ≡ true → word.Semicolon ≡ s
-semicolon_alone word.Semicolon h = refl
-semicolon_alone s h = absurd (let f : false ≡ true = h in cc)
 
 -- each text of the description has one semicolon, its last symbol
 abbrev Ends : Shape → Type 0
@@ -47,13 +44,13 @@ ended : (a : Shape) (text : List Symbol) → Ends a → Matches a text → IsEnd
 ended Never text e m = absurd m
 ended Empty text e m = absurd e
 ended (One test) text e (s, passed, one) =
-    record { body = []; lacking = refl; all = one ∙ ap (λ x. x ∷ []) (sym (semicolon_alone s (e s passed))) }
+    record { body = []; lacking = refl; all = one ∙ ap (λ x. x ∷ []) (symbol_is word.Semicolon s (e s passed)) }
 ended (Before a b) text e (x, y, m, n, joined) =
     let o = ended b y e.1 n in
     record {
       body = x ++ o.body;
       lacking = list_any-append (is word.Semicolon) x o.body ∙ ap₂ (λ b c. b || c)
-          (none word.Semicolon semicolon_alone a x e.0 m) o.lacking;
+          (none word.Semicolon a x e.0 m) o.lacking;
       all = joined ∙ ap (λ (l : List Symbol). x ++ l) o.all ∙ sym (append_assoc x o.body (word.Semicolon ∷ []));
     }
 ended (Either a b) text e (inl m) = ended a text e.0 m
@@ -231,15 +228,11 @@ of_the_grammar : (text : List Written) → refused 0 grammar.program (symbols_in
     → AllByRecursion IsByItsWord (statements_of text)
 of_the_grammar text none =
     let q = sequence_of (symbols_in text ++ word.End ∷ []) (accepted_to_match (symbols_in text) none) in
-    let last : q.last ≡ word.End ∷ [] = q.end.2 ∙ ap (λ x. x ∷ []) (end_alone q.end.0 q.end.1) in
+    let last : q.last ≡ word.End ∷ [] = q.end.2 ∙ ap (λ x. x ∷ []) (symbol_is word.End q.end.0 q.end.1) in
     let same : symbols_in text ++ word.End ∷ [] ≡ q.sentences ++ word.End ∷ [] =
     q.all ∙ ap (λ (l : List Symbol). q.sentences ++ l) last in
     all_of_sentences q.are.parts q.are.each text
     (append_cancel_right (symbols_in text) q.sentences (word.End ∷ []) same ∙ q.are.is)
-  where
-    end_alone : (s : Symbol) → is word.End s ≡ true → s ≡ word.End
-    end_alone word.End h = refl
-    end_alone s h = absurd (let f : false ≡ true = h in cc)
 
 -- names in the statements of what has names
 in_each : (text : List Written) → HasNames text → AllByRecursion HasNames (statements_of text)

@@ -1,7 +1,7 @@
 -- Branches, and the best so far.
 use Rattle.std.proofs.Common.{◌≡◌, ℕ, ◌+◌, ◌<◌, ◌≤◌, Bool, true, false, not, ◌&&◌, ◌||◌, eqb, ltb, leb, List, [], ◌∷◌}
 use Rattle.std.proofs.Common.{◌++◌, length, take, get_or, Option, Some, None, refl, sym, ap, ap₂, ◌∙◌, ◌⊎◌, inl, inr}
-use Rattle.std.proofs.Common.{arith, subst, lt-ltb, le-ltb, ltb-true, eqb-true, append_assoc, append-nil, length-append}
+use Rattle.std.proofs.Common.{arith, subst, lt-ltb, ltb-true, eqb-true, append_assoc, append-nil, length-append}
 use Rattle.std.proofs.Common.{take_all}
 use Rattle.std.specs.List.{list_any, AllByRecursion}
 use Rattle.std.proofs.lemmas.Bool.{cond-true, cases_Bool, and_from, and_left, and_right, and_parts, or_parts}
@@ -19,7 +19,7 @@ use Rattle.fx_tree.proofs.Lots.{short_seen}
 use Rattle.fx_tree.proofs.Place.{split_of, extends-append, before-longer, extends-not_before, take-same, all_children}
 use Rattle.fx_tree.proofs.Place.{child_seen, any-never}
 
-any-none : {X : Type 0} (f : X → Bool) (xs : List X) → list_any f xs ≡ false → AllByRecursion (λ y. f y ≡ false) xs
+pub any-none : {X : Type 0} (f : X → Bool) (xs : List X) → list_any f xs ≡ false → AllByRecursion (λ y. f y ≡ false) xs
 any-none f [] h = tt
 any-none f (y ∷ ys) h = let parts = or_parts (f y) (list_any f ys) h in (parts.0, any-none f ys parts.1)
 
@@ -218,9 +218,6 @@ module _ (x : Ranked) (law : IsRanked x) where
         wins : (o : Option (List ℕ)) → Wins x c o → better x o (Some c) ≡ Some c
         wins None w = refl
         wins (Some b) w = cond-true (x.less c b) (Some c) (Some b) w
-
-  pub long_branch : (c : List ℕ) → x.tree.size ≤ length c → is_ranked_branch x c ≡ false
-  long_branch c h = and_right _ _ (and_left _ _ (le-ltb _ _ h))
 
   module _ (p : List ℕ) (part : length p < x.tree.size) where
     abbrev kids : List ℕ

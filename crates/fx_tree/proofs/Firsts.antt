@@ -1,38 +1,25 @@
 -- The first of least pattern is what the definitions compute.
-use Rattle.std.proofs.Common.{◌≡◌, ℕ, ◌<◌, ◌+◌, Bool, true, false, not, ◌&&◌, ◌||◌, cond, eqb, List, [], ◌∷◌, length}
-use Rattle.std.proofs.Common.{Option, Some, None, refl, sym, subst, ap, ap₂, ◌∙◌, inl, inr}
+use Rattle.std.proofs.Common.{◌≡◌, ℕ, ◌<◌, ◌+◌, Bool, true, false, not, ◌&&◌, ◌||◌, List, [], ◌∷◌}
+use Rattle.std.proofs.Common.{Option, Some, None, refl, sym, subst, ap, ◌∙◌, inl, inr}
 use Rattle.std.specs.List.{filter, find, list_all, AllByRecursion}
-use Rattle.std.proofs.lemmas.Bool.{cond-true, cond-false, cases_Bool, and_parts, and_from, and_left, false_from_ne_true}
-use Rattle.std.proofs.lemmas.Bool.{not-true, not_from_false, eqb-true}
+use Rattle.std.proofs.lemmas.Bool.{cond-true, cond-false, cases_Bool, and_parts, and_from, false_from_ne_true}
+use Rattle.std.proofs.lemmas.Bool.{not-true, not_from_false}
+use Rattle.fx_base.proofs.Lists.{find_agree, find-filter}
 use Rattle.fx_designs.specs.Galois.{IsField}
 use Rattle.fx_designs.specs.Problems.{Problem}
-use Rattle.fx_designs.specs.Canonical.{is_canonical}
 use Rattle.fx_designs.specs.Patterns.{pattern_of, is_less}
 use Rattle.fx_designs.specs.Answers.{before, prefixes, is_design, is_of_least_pattern, designs, answer}
 use Rattle.fx_laws.specs.Trees.{tree_of, is_tree_design}
-use Rattle.fx_laws.proofs.Order.{Sorted, IsIn, first_found, none_found, lists-sorted, before-not, each_in}
-use Rattle.fx_reduction.proofs.Prefix.{met-prefix}
+use Rattle.fx_laws.proofs.Order.{Sorted, IsIn, first_found, none_found, lists-sorted, before-not, each_in, before-self}
 use Rattle.fx_designs.specs.Jobs.{first_least, best_of}
 use Rattle.fx_tree.specs.Ranked.{Ranked, IsRanked, IsFirstLeast}
 use Rattle.fx_tree.specs.Search.{ranked}
 use Rattle.fx_tree.proofs.Best.{clash, same_tests}
 use Rattle.fx_tree.proofs.Branches.{design-in}
 use Rattle.fx_tree.proofs.Patterns.{is-ranked}
+use Rattle.fx_tree.proofs.Nodes.{design-same}
 
-pub find-both : (C Q : List ℕ → Bool) (xs : List (List ℕ)) → find Q (filter C xs) ≡ find (λ y. C y && Q y) xs
-find-both C Q [] = refl
-find-both C Q (x ∷ xs) =
-    elim (C x) as
-    (λ b. find Q (cond b (x ∷ filter C xs) (filter C xs)) ≡ cond (b && Q x) (Some x) (find (λ y. C y && Q y) xs)) [
-      | true ↦ ap (λ o. cond (Q x) (Some x) o) (find-both C Q xs)
-      | false ↦ find-both C Q xs
-    ]
-
-pub find-same : (D E : List ℕ → Bool) → ((x : List ℕ) → D x ≡ E x) → (xs : List (List ℕ)) → find D xs ≡ find E xs
-find-same D E h [] = refl
-find-same D E h (x ∷ xs) = ap₂ (λ b o. cond b (Some x) o) (h x) (find-same D E h xs)
-
-all-kept : (C g : List ℕ → Bool) (xs : List (List ℕ)) → ((y : List ℕ) → C y ≡ true → g y ≡ true)
+pub all-kept : (C g : List ℕ → Bool) (xs : List (List ℕ)) → ((y : List ℕ) → C y ≡ true → g y ≡ true)
     → list_all g (filter C xs) ≡ true
 all-kept C g [] h = refl
 all-kept C g (x ∷ xs) h = elim (cases_Bool (C x)) [
@@ -40,7 +27,7 @@ all-kept C g (x ∷ xs) h = elim (cases_Bool (C x)) [
   | inr a ↦ ap (list_all g) (cond-false (C x) (x ∷ filter C xs) _ a) ∙ all-kept C g xs h
 ]
 
-all-at : (C g : List ℕ → Bool) (xs : List (List ℕ)) (b : List ℕ) → IsIn b xs → C b ≡ true
+pub all-at : (C g : List ℕ → Bool) (xs : List (List ℕ)) (b : List ℕ) → IsIn b xs → C b ≡ true
     → list_all g (filter C xs) ≡ true → g b ≡ true
 all-at C g [] b there own h = absurd there
 all-at C g (x ∷ xs) b there own h = elim (cases_Bool (C x)) [
@@ -71,13 +58,10 @@ module _ (x : Ranked) (law : IsRanked x) (D : List ℕ → Bool) where
     own,
     λ d there e. elim there [ inl is ↦ subst (λ z. x.less z y ≡ false) is (self-less y) | inr k ↦ h d k e ],
     λ d there e first. elim there [
-      | inl is ↦ clash (before y y) (subst (λ z. before z y ≡ true) (sym is) first) (before-self' y)
+      | inl is ↦ clash (before y y) (subst (λ z. before z y ≡ true) (sym is) first) (before-self y)
       | inr k ↦ clash (before d y) first (before-not y d (each_in (λ z. before y z ≡ true) d ys late k))
     ],
   )
-    where
-      before-self' : (y : List ℕ) → before y y ≡ false
-      before-self' y = false_from_ne_true (before y y) (λ z. clash (before y y) z (before-not y y z))
 
   first_in : (xs : List (List ℕ)) → Sorted xs → (o : Option (List ℕ)) × FirstIn xs o
   first_in [] h = (None, λ d there e. there)
@@ -140,10 +124,10 @@ module _ (p : Problem) (f : IsField p.dimensions.q) (some : 0 < p.dimensions.s +
   pub first_is : (D : List ℕ → Bool) (xs : List (List ℕ)) → Sorted xs → ((d : List ℕ) → D d ≡ true → IsIn d xs)
       → (o : Option (List ℕ)) → IsFirstLeast x D o → find (least_of (filter D xs)) (filter D xs) ≡ o
   first_is D xs sorted all None h =
-      find-both D (least_of (filter D xs)) xs ∙ none_found (λ y. D y && least_of (filter D xs) y) xs
+      find-filter D (least_of (filter D xs)) xs ∙ none_found (λ y. D y && least_of (filter D xs) y) xs
       (λ d e. h d (and_parts (D d) _ e).0)
   first_is D xs sorted all (Some b) h =
-      find-both D (least_of (filter D xs)) xs
+      find-filter D (least_of (filter D xs)) xs
       ∙ first_found (λ y. D y && least_of (filter D xs) y) xs b sorted (all b h.0)
       (and_from _ _ h.0
       (all-kept D (λ other. not (is_less (pattern_of p.dimensions other) (pattern_of p.dimensions b))) xs
@@ -173,25 +157,15 @@ module _ (p : Problem) (f : IsField p.dimensions.q) (some : 0 < p.dimensions.s +
         let k = first_exists x law (designs_that test) (prefixes p) (lists-sorted _ _) (there test) in
         subst (IsFirstLeast x (designs_that test)) (sym (best-is test k.0 k.1)) k.1
 
-    design-same : (rows : List ℕ) → is_design p rows ≡ is_tree_design (tree_of p) rows
-    design-same rows =
-        elim (cases_Bool (eqb (length rows) (p.dimensions.s + p.dimensions.t))) [
-          | inl whole ↦
-              ap (λ b. eqb (length rows) (p.dimensions.s + p.dimensions.t)
-              && (is_canonical p.dimensions p.requirement rows && b))
-              (met-prefix p.dimensions f p.requirement rows (eqb-true _ _ whole))
-          | inr part ↦ and_left _ _ part ∙ sym (and_left _ _ part)
-        ]
-
     -- the answer is the first of least pattern of all designs
     pub answer-least : (o : Option (List ℕ)) → IsFirstLeast x (is_tree_design (tree_of p)) o → answer p ≡ o
     unfolding answer designs
     answer-least o h =
-        find-same (λ rows. not p.least || is_of_least_pattern p rows) (is_of_least_pattern p)
+        find_agree (λ rows. not p.least || is_of_least_pattern p rows) (is_of_least_pattern p)
         (λ rows. ap (λ b. not b || is_of_least_pattern p rows) least) (designs p)
         ∙ first_is (is_design p) (prefixes p) (lists-sorted _ _)
-        (λ d e. design-in x law d (sym (design-same d) ∙ e) some) o
-        (same_tests x (is_tree_design (tree_of p)) (is_design p) (λ d. sym (design-same d)) o h)
+        (λ d e. design-in x law d (sym (design-same p f d) ∙ e) some) o
+        (same_tests x (is_tree_design (tree_of p)) (is_design p) (λ d. sym (design-same p f d)) o h)
 
     -- so it is the first of least pattern
     pub answer-is-first : (o : Option (List ℕ)) → answer p ≡ o → IsFirstLeast x (is_design p) o
@@ -200,7 +174,7 @@ module _ (p : Problem) (f : IsField p.dimensions.q) (some : 0 < p.dimensions.s +
         let h = same_tests x (designs_that all) (is_tree_design (tree_of p))
         (λ d. and_true (is_tree_design (tree_of p) d)) (best_of p all) (best-least all) in
         subst (IsFirstLeast x (is_design p)) (sym (answer-least (best_of p all) h) ∙ is)
-        (same_tests x (is_tree_design (tree_of p)) (is_design p) (λ d. sym (design-same d)) (best_of p all) h)
+        (same_tests x (is_tree_design (tree_of p)) (is_design p) (λ d. sym (design-same p f d)) (best_of p all) h)
       where
         and_true : (b : Bool) → (b && true) ≡ b
         and_true true = refl

@@ -5,17 +5,18 @@ use Rattle.std.proofs.Common.{inr, subst, ne_eqb, lt-ltb, append-nil, length-app
 use Rattle.std.specs.List.{filter, list_any, find, AllByRecursion}
 use Rattle.std.proofs.lemmas.Bool.{cond-true, cond-false, cases_Bool, and_from, and_right, or_left, or_right, and_parts}
 use Rattle.std.proofs.lemmas.Bool.{not_from_true, not_from_false}
+use Rattle.fx_base.proofs.Lists.{each-map, each-weaker, each-both, filter_agree_each}
 use Rattle.fx_designs.specs.Vectors.{same}
 use Rattle.fx_designs.specs.Answers.{before, lists}
 use Rattle.fx_designs.specs.Nodes.{parent, is_not_after}
 use Rattle.fx_laws.specs.Trees.{Tree, IsTree, tree_prefixes, is_tree_design}
 use Rattle.fx_laws.specs.Walks.{through, is_candidate, under, subtree}
-use Rattle.fx_laws.proofs.Order.{each-map, each-weaker, nonempty, lists-sorted, lists-short, before-trans}
+use Rattle.fx_laws.proofs.Order.{nonempty, lists-sorted, lists-short, before-trans}
 use Rattle.fx_laws.proofs.Candidates.{closed-append, parent-append, under-none}
-use Rattle.fx_laws.proofs.Nodes.{first_decides, cut, filter_same, each-both, any-less, parent-before}
+use Rattle.fx_laws.proofs.Nodes.{first_decides, cut, any-less, parent-before}
+use Rattle.fx_laws.proofs.Weights.{same-self}
 use Rattle.fx_tree.specs.Ranked.{extends}
 use Rattle.fx_tree.specs.Inside.{is_own, is_branch_in, is_node_in, nodes_in}
-use Rattle.fx_tree.proofs.Place.{same-self}
 use Rattle.fx_tree.proofs.Lots.{Ranged, beginning}
 
 pub filter-and : (a b : List ℕ → Bool) (xs : List (List ℕ)) → filter (λ p. a p && b p) xs ≡ filter b (filter a xs)
@@ -116,7 +117,7 @@ module _ (t : Tree) (law : IsTree t) (r : ℕ) (tail : List ℕ) where
   filter-map : (ls : List (List ℕ)) → AllByRecursion (λ s. 0 < length s) ls
       → filter rest (map (λ s. j ++ s) ls) ≡ filter (is_candidate t) (map (λ s. j ++ s) ls)
   filter-map ls h =
-      filter_same rest (is_candidate t) (map (λ s. j ++ s) ls)
+      filter_agree_each rest (is_candidate t) (map (λ s. j ++ s) ls)
       (each-map (λ q. rest q ≡ is_candidate t q) (λ s. j ++ s) ls (each-weaker (λ s. 0 < length s) _ ls rest_is h))
 
   pub nodes_in_are : (k : ℕ) → length j + k ≡ t.size → t.canonical j ≡ true → Ranged t.rows j
@@ -138,7 +139,7 @@ module _ (t : Tree) (law : IsTree t) (r : ℕ) (tail : List ℕ) where
         | inr a ↦ ap (λ l. j ∷ l)
             (under-none t law k j (omega arith) a ∙ sym (cond-false (t.allowed j) (under t k j) [] a))
       ] in
-      filter_same (is_node_in t j) (λ p. (extends p j && rest p) && not (some p)) (tree_prefixes t)
+      filter_agree_each (is_node_in t j) (λ p. (extends p j && rest p) && not (some p)) (tree_prefixes t)
       (each-weaker (λ p. (0 < length p) × (length p ≤ t.size)) _ (tree_prefixes t) (λ p h. is_cut p h.0 h.1)
       (each-both _ _ (tree_prefixes t) (nonempty t.rows t.size) (lists-short t.rows t.size)))
       ∙ cut (is_own t j) (λ p. extends p j && rest p) own_inside some (tree_prefixes t) (lists-sorted t.rows t.size)

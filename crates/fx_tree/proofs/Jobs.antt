@@ -1,11 +1,12 @@
 -- The nodes and the marks inside a job, and those of a problem in its jobs.
-use Rattle.std.proofs.Common.{◌≡◌, ℕ, zero, suc, ◌≤◌, ◌+◌, ◌-◌, ◌^◌, Bool, true, false, not, ◌&&◌, ◌||◌, cond}
-use Rattle.std.proofs.Common.{if◌then◌else◌, eqb, ltb, List, [], ◌∷◌, ◌++◌, map, length, take, Some, None, refl, sym}
+use Rattle.std.proofs.Common.{◌≡◌, ℕ, zero, suc, ◌≤◌, ◌+◌, ◌-◌, ◌^◌, Bool, true, false, not, ◌&&◌, ◌||◌}
+use Rattle.std.proofs.Common.{if◌then◌else◌, eqb, ltb, List, [], ◌∷◌, ◌++◌, map, length, take, None, refl, sym}
 use Rattle.std.proofs.Common.{subst, ap, ap₂, ◌∙◌, inl, inr, arith, append-nil, length-append, lt-ltb}
 use Rattle.std.specs.List.{filter, find, list_any, AllByRecursion}
 use Rattle.std.proofs.lemmas.Bool.{cond-true, cond-false, cases_Bool, and_parts, and_from, and_left, and_right, or_left}
 use Rattle.std.proofs.lemmas.Bool.{or_right, eqb-true, false_from_ne_true, not_from_false, not-true}
 use Rattle.std.proofs.lemmas.List.{take-append-le, take_all}
+use Rattle.fx_base.proofs.Lists.{each-all, filter_agree_each, find_agree, find-filter, list_any_agree}
 use Rattle.fx_designs.specs.Galois.{IsField}
 use Rattle.fx_designs.specs.Vectors.{same}
 use Rattle.fx_designs.specs.Problems.{Dimensions, Problem}
@@ -17,19 +18,19 @@ use Rattle.fx_designs.specs.Nodes.{parent, last_row, lot_of, job_of, counts, exc
 use Rattle.fx_designs.specs.Nodes.{is_not_after, Branch, Word, Worse, word_of}
 use Rattle.fx_laws.specs.Trees.{Tree, tree_of, is_tree_design}
 use Rattle.fx_laws.specs.Walks.{through, is_candidate, subtree, mark_at}
-use Rattle.fx_laws.proofs.Order.{each-all, each_in}
+use Rattle.fx_laws.proofs.Order.{each_in}
 use Rattle.fx_laws.proofs.Candidates.{parent-append}
-use Rattle.fx_laws.proofs.Nodes.{filter_same, design-candidate}
-use Rattle.fx_tree.proofs.Firsts.{find-both}
+use Rattle.fx_laws.proofs.Nodes.{design-candidate, map_same}
 use Rattle.fx_designs.specs.Jobs.{is_of_job, is_of_earlier_lot, excludes_inside, is_branch_inside, first_inside}
 use Rattle.fx_designs.specs.Jobs.{is_node_inside, nodes_inside, mark_inside, marks_inside}
+use Rattle.fx_laws.proofs.Weights.{same-self}
 use Rattle.fx_tree.specs.Ranked.{extends}
 use Rattle.fx_tree.specs.Search.{ranked, is_expanded, search_tree, search_mark}
 use Rattle.fx_tree.specs.Inside.{is_own, is_branch_in, is_node_in, nodes_in}
 use Rattle.fx_tree.proofs.Best.{clash}
 use Rattle.fx_tree.proofs.Branches.{design-in}
 use Rattle.fx_tree.proofs.Patterns.{is-ranked}
-use Rattle.fx_tree.proofs.Place.{split_of, extends-append, any-same, any-never, same-self}
+use Rattle.fx_tree.proofs.Place.{split_of, extends-append, any-never}
 use Rattle.fx_tree.proofs.Lots.{Ranged}
 use Rattle.fx_tree.proofs.Fronts.{front-extends, front-before, before-front, ranged-all}
 use Rattle.fx_tree.proofs.Inside.{nodes_in_are, after_is}
@@ -37,24 +38,9 @@ use Rattle.fx_tree.proofs.Parts.{all-from}
 use Rattle.fx_tree.proofs.SearchTree.{opens-least, opens-plain, mark-least, mark-plain, no-design, design-plain}
 use Rattle.fx_tree.proofs.SearchTree.{walked-law}
 
-find-same : (D E : List ℕ → Bool) → ((x : List ℕ) → D x ≡ E x) → (xs : List (List ℕ)) → find D xs ≡ find E xs
-find-same D E h [] = refl
-find-same D E h (x ∷ xs) = ap₂ (λ b o. cond b (Some x) o) (h x) (find-same D E h xs)
-
 find-never : (D : List ℕ → Bool) → ((x : List ℕ) → D x ≡ false) → (xs : List (List ℕ)) → find D xs ≡ None
 find-never D h [] = refl
 find-never D h (x ∷ xs) = cond-false (D x) _ _ (h x) ∙ find-never D h xs
-
-map-kept : {Y : Type 0} (f g : List ℕ → Y) (q : List ℕ → Bool) → ((x : List ℕ) → q x ≡ true → f x ≡ g x)
-    → (xs : List (List ℕ)) → map f (filter q xs) ≡ map g (filter q xs)
-map-kept f g q h [] = refl
-map-kept f g q h (x ∷ xs) =
-    elim (cases_Bool (q x)) [
-      | inl a ↦ ap (map f) (cond-true (q x) _ _ a) ∙ ap₂ (λ y l. y ∷ l) (h x a) (map-kept f g q h xs) ∙ sym
-          (ap (map g) (cond-true (q x) (x ∷ filter q xs) _ a))
-      | inr a ↦ ap (map f) (cond-false (q x) _ _ a) ∙ map-kept f g q h xs ∙ sym
-          (ap (map g) (cond-false (q x) (x ∷ filter q xs) _ a))
-    ]
 
 -- the same choice of what counts inside a job, by truth tables
 least-table : (a s j n : Bool) → (((a && not s) || j) && (a && n)) ≡ ((a && not (s && not j)) && n)
@@ -128,7 +114,7 @@ module _ (p : Problem) (f : IsField p.dimensions.q) (j : List ℕ) (job : length
     -- inside a job a branch is a branch of the problem
     pub branch-least : (q : List ℕ) → extends q j ≡ true → is_branch_inside p j q ≡ is_branch p q
     branch-least q e = ap (λ b. is_allowed d p.requirement q && (ltb (length q) (d.s + d.t) && not b))
-        (any-same (λ m. is_complete_allowed p m && excludes_inside p j m q)
+        (list_any_agree (λ m. is_complete_allowed p m && excludes_inside p j m q)
         (λ m. is_complete_allowed p m && excludes p m q) (λ m. excludes-least m q e) (prefixes p))
 
     own-never : (m : List ℕ) → is_own T j m ≡ false
@@ -213,7 +199,7 @@ module _ (p : Problem) (f : IsField p.dimensions.q) (j : List ℕ) (job : length
 
     pub same-branch-plain : (q : List ℕ) → is_branch_inside p j q ≡ is_branch_in T j q
     same-branch-plain q = ap₂ (λ a b. a && (ltb (length q) (d.s + d.t) && not b)) (sym (opens-plain p plain q))
-        (any-same (λ m. is_complete_allowed p m && excludes_inside p j m q) (λ m. is_own T j m && before m q)
+        (list_any_agree (λ m. is_complete_allowed p m && excludes_inside p j m q) (λ m. is_own T j m && before m q)
         (λ m. excludes-plain m q) (prefixes p))
 
     last-plain : (rows : List ℕ)
@@ -221,7 +207,7 @@ module _ (p : Problem) (f : IsField p.dimensions.q) (j : List ℕ) (job : length
     unfolding first_inside
     last-plain rows =
         or-false plain ∙ ap (λ o. is_not_after o rows)
-        (find-same (λ m. is_complete_allowed p m && is_of_job d j m) (is_own T j)
+        (find_agree (λ m. is_complete_allowed p m && is_of_job d j m) (is_own T j)
         (λ m. ap₂ (λ a b. a && b) (sym (design-plain p plain m)) (of-job m)) (prefixes p))
       where
         or-false : {a b : Bool} → a ≡ false → (a || b) ≡ b
@@ -257,7 +243,7 @@ module _ (p : Problem) (f : IsField p.dimensions.q) (j : List ℕ) (job : length
 
     pub inside-in : nodes_inside p j ≡ nodes_in T j
     unfolding nodes_inside nodes_in
-    inside-in = filter_same (is_node_inside p j) (is_node_in T j) (prefixes p) (each-all _ (prefixes p) node-same)
+    inside-in = filter_agree_each (is_node_inside p j) (is_node_in T j) (prefixes p) (each-all _ (prefixes p) node-same)
 
     pub job-ranged : Ranged (d.q ^ d.m) j
     unfolding is_canonical
@@ -275,7 +261,7 @@ module _ (p : Problem) (f : IsField p.dimensions.q) (j : List ℕ) (job : length
     -- and their marks are those that a search makes
     pub marks-inside : marks_inside p j ≡ map (search_mark p) (nodes_inside p j)
     unfolding marks_inside nodes_inside
-    marks-inside = map-kept (mark_inside p j) (search_mark p) (is_node_inside p j) one (prefixes p)
+    marks-inside = map_same (mark_inside p j) (search_mark p) (is_node_inside p j) one (prefixes p)
       where
         plain-mark : (rows : List ℕ) → p.least ≡ false → is_node_in T j rows ≡ true → (b : Bool)
             → is_allowed d p.requirement rows ≡ b → mark_inside p j rows ≡ mark_at (tree_of p) rows
@@ -321,9 +307,9 @@ module _ (p : Problem) (f : IsField p.dimensions.q) (j : List ℕ) (job : length
         → first_inside p j ≡ find D (subtree T (d.s + d.t - length j) j)
     unfolding first_inside
     first-inside plain open' =
-        find-same (λ m. is_complete_allowed p m && is_of_job d j m) (λ y. (extends y j && is_candidate T y) && D y)
+        find_agree (λ m. is_complete_allowed p m && is_of_job d j m) (λ y. (extends y j && is_candidate T y) && D y)
         agree (prefixes p)
-        ∙ sym (find-both (λ y. extends y j && is_candidate T y) D (prefixes p))
+        ∙ sym (find-filter (λ y. extends y j && is_candidate T y) D (prefixes p))
         ∙ ap (find D) (go j job canonical job-ranged open')
       where
         turn : (a b c : Bool) → (a ≡ true → c ≡ true) → (a && b) ≡ ((b && c) && a)

@@ -1,10 +1,11 @@
 -- The nodes of a problem in a job, and in the jobs of a lot.
-use Rattle.std.proofs.Common.{◌≡◌, ℕ, zero, suc, ◌<◌, ◌≤◌, ◌+◌, ◌-◌, ◌^◌, Bool, true, false, not, ◌&&◌, ◌||◌, eqb, ltb}
+use Rattle.std.proofs.Common.{◌≡◌, ℕ, suc, ◌<◌, ◌≤◌, ◌+◌, ◌-◌, ◌^◌, Bool, true, false, not, ◌&&◌, ◌||◌, eqb, ltb}
 use Rattle.std.proofs.Common.{List, [], ◌∷◌, ◌++◌, length, take, drop, Option, Some, None, refl, sym, subst, ap, ap₂}
 use Rattle.std.proofs.Common.{◌∙◌, inl, inr, arith, length-append, take-append-drop}
-use Rattle.std.specs.List.{filter, find, flat_map, list_any, AllByRecursion}
-use Rattle.std.proofs.lemmas.Bool.{cond-true, cond-false, cases_Bool, and_parts, and_from, and_left, and_right, or_left}
+use Rattle.std.specs.List.{filter, find, flat_map, list_any}
+use Rattle.std.proofs.lemmas.Bool.{cond-true, cond-false, cases_Bool, and_parts, and_from, and_left, and_right}
 use Rattle.std.proofs.lemmas.Bool.{or_right, or_cases, not-true, ne_eqb, eqb-true, lt-ltb}
+use Rattle.fx_base.proofs.Lists.{each-all, filter_agree_each, find_agree, find-filter}
 use Rattle.fx_designs.specs.Galois.{IsField}
 use Rattle.fx_designs.specs.Problems.{Problem}
 use Rattle.fx_designs.specs.Demands.{is_allowed}
@@ -15,34 +16,21 @@ use Rattle.fx_designs.specs.Nodes.{parent, lot_of, counts, excludes, is_branch, 
 use Rattle.fx_designs.specs.Nodes.{nodes}
 use Rattle.fx_laws.specs.Trees.{Tree, tree_of, tree_answer, is_tree_design, children_of}
 use Rattle.fx_laws.specs.Walks.{through, is_candidate, under, subtree}
-use Rattle.fx_laws.proofs.Order.{each_in, each-all, lists-sorted}
+use Rattle.fx_laws.proofs.Order.{each_in, lists-sorted}
 use Rattle.fx_laws.proofs.Candidates.{closed-append, under-step}
-use Rattle.fx_laws.proofs.Nodes.{filter_same, first_decides, design-candidate}
+use Rattle.fx_laws.proofs.Nodes.{first_decides, design-candidate}
 use Rattle.fx_tree.proofs.Nodes.{answer-same}
 use Rattle.fx_designs.specs.Jobs.{is_of_job, nodes_inside, is_in_a_job, nodes_of_lot, first_of_lot}
 use Rattle.fx_tree.specs.Ranked.{extends}
 use Rattle.fx_tree.specs.Search.{ranked, is_expanded, search_tree}
 use Rattle.fx_tree.proofs.Best.{clash}
-use Rattle.fx_tree.proofs.Branches.{design-in}
+use Rattle.fx_tree.proofs.Branches.{design-in, any-none}
 use Rattle.fx_tree.proofs.Patterns.{is-ranked}
 use Rattle.fx_tree.proofs.Lots.{Ranged}
 use Rattle.fx_tree.proofs.Fronts.{front-extends, ranged-all}
 use Rattle.fx_tree.proofs.Parts.{all-from, nodes-from, nodes-below}
-use Rattle.fx_tree.proofs.Firsts.{find-both, find-same}
 use Rattle.fx_tree.proofs.SearchTree.{opens-least, opens-plain, no-design, design-plain, walked-law, nodes-walked}
 use Rattle.fx_tree.proofs.Jobs.{nodes-inside, job-ranged}
-
-none-each : (g : List ℕ → Bool) (xs : List (List ℕ)) → list_any g xs ≡ false → AllByRecursion (λ y. g y ≡ false) xs
-none-each g [] h = tt
-none-each g (y ∷ ys) h = elim (cases_Bool (g y)) [
-  | inl a ↦ clash (list_any g (y ∷ ys)) (or_left _ _ a) h
-  | inr a ↦ (a, none-each g ys (sym (ap (λ b. b || list_any g ys) a) ∙ h))
-]
-
-front-short : (k : ℕ) (rows : List ℕ) → k ≤ length rows → length (take k rows) ≡ k
-front-short zero rows h = refl
-front-short (suc k) [] h = absurd (omega arith)
-front-short (suc k) (a ∷ rows) h = let z = front-short k rows (omega arith) in omega arith
 
 module _ (p : Problem) (f : IsField p.dimensions.q) (some : 0 < p.dimensions.s + p.dimensions.t) where
   abbrev T : Tree
@@ -71,7 +59,7 @@ module _ (p : Problem) (f : IsField p.dimensions.q) (some : 0 < p.dimensions.s +
         not-true _ parts.1 in
         let one : (is_complete_allowed p m && excludes p m q) ≡ false =
         each_in (λ m. (is_complete_allowed p m && excludes p m q) ≡ false) m (prefixes p)
-        (none-each (λ m. is_complete_allowed p m && excludes p m q) (prefixes p) none)
+        (any-none (λ m. is_complete_allowed p m && excludes p m q) (prefixes p) none)
         (design-in (ranked p) (is-ranked p f) m own some) in
         let is : excludes p m q ≡ before m q =
         cond-false p.least
@@ -95,7 +83,7 @@ module _ (p : Problem) (f : IsField p.dimensions.q) (some : 0 < p.dimensions.s +
         (first_decides (is_tree_design (tree_of p)) (prefixes p) (lists-sorted _ _) q) in
         clash (is_tree_design (tree_of p) m && before m q) (and_from _ _ design first)
         (each_in (λ z. (is_tree_design (tree_of p) z && before z q) ≡ false) m (prefixes p)
-        (none-each (λ z. is_tree_design (tree_of p) z && before z q) (prefixes p) is_counted) there)
+        (any-none (λ z. is_tree_design (tree_of p) z && before z q) (prefixes p) is_counted) there)
   ]
     where
       go : (o : Option (List ℕ)) → tree_answer (tree_of p) ≡ o → is_not_after (tree_answer (tree_of p)) q ≡ true →
@@ -123,7 +111,7 @@ module _ (p : Problem) (f : IsField p.dimensions.q) (some : 0 < p.dimensions.s +
       → is_branch p (lot_of p.dimensions j) ≡ true → (p.least || is_not_after (answer p) j) ≡ true
       → filter (is_of_job p.dimensions j) (nodes p) ≡ nodes_inside p j
   job-nodes j job room canonical branch last =
-      filter_same (is_of_job p.dimensions j) (λ y. extends y j) (nodes p)
+      filter_agree_each (is_of_job p.dimensions j) (λ y. extends y j) (nodes p)
       (each-all _ (nodes p) (λ y. front-extends (p.dimensions.m + 2) y j job))
       ∙ ap (filter (λ y. extends y j)) (nodes-walked p f)
       ∙ go j job canonical (job-ranged p f j job room canonical branch)
@@ -155,7 +143,7 @@ module _ (p : Problem) (f : IsField p.dimensions.q) (some : 0 < p.dimensions.s +
     pub lot-nodes : nodes_of_lot p l ≡ through D (under T (p.dimensions.s + p.dimensions.t - length l) l)
     unfolding nodes_of_lot
     lot-nodes =
-        filter_same (is_in_a_job p.dimensions l) (λ y. extends y l && ltb (length l) (length y)) (nodes p)
+        filter_agree_each (is_in_a_job p.dimensions l) (λ y. extends y l && ltb (length l) (length y)) (nodes p)
         (each-all _ (nodes p) test)
         ∙ ap (filter (λ y. extends y l && ltb (length l) (length y))) (nodes-walked p f)
         ∙ go l lot canonical lot-ranged (branch-open l branch) (parent-open l (branch-open l branch))
@@ -206,9 +194,9 @@ module _ (p : Problem) (f : IsField p.dimensions.q) (some : 0 < p.dimensions.s +
         → first_of_lot p l ≡ find D (under T (p.dimensions.s + p.dimensions.t - length l) l)
     unfolding first_of_lot
     first-of-lot plain =
-        find-same (λ m. is_complete_allowed p m && is_in_a_job p.dimensions l m)
+        find_agree (λ m. is_complete_allowed p m && is_in_a_job p.dimensions l m)
         (λ y. (extends y l && is_candidate T y) && D y) agree (prefixes p)
-        ∙ sym (find-both (λ y. extends y l && is_candidate T y) D (prefixes p))
+        ∙ sym (find-filter (λ y. extends y l && is_candidate T y) D (prefixes p))
         ∙ ap (find D) (go l lot canonical lot-ranged (branch-open l branch) (parent-open l (branch-open l branch)))
         ∙ cond-false (D l) _ _ short
       where

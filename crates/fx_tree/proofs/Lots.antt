@@ -6,14 +6,17 @@ use Rattle.std.specs.List.{filter, flat_map}
 use Rattle.std.proofs.lemmas.Bool.{cases_Bool, and_from, and_left, and_right, or_from, and_parts, false_from_ne_true}
 use Rattle.std.proofs.lemmas.Bool.{not_from_true, not_from_false, lt-leb}
 use Rattle.std.proofs.lemmas.List.{take-append-le}
-use Rattle.std.proofs.lemmas.List.Elements.{filter-append}
+use Rattle.std.proofs.lemmas.List.Elements.{filter-append, filter_agree}
+use Rattle.std.proofs.lemmas.Simd.{map-map}
+use mathlib.Core.Bool.{or-false}
+use Rattle.fx_base.proofs.Lists.{each-map, each-all}
 use Rattle.fx_designs.specs.Vectors.{same}
 use Rattle.fx_designs.specs.Answers.{falling, lists, before}
 use Rattle.fx_laws.specs.Trees.{is_tree_design, children_of}
 use Rattle.fx_laws.proofs.Through.{filter-none}
-use Rattle.fx_laws.proofs.Order.{each-map, each-all}
+use Rattle.fx_laws.proofs.Weights.{same-self}
 use Rattle.fx_tree.specs.Ranked.{Ranked, IsRanked, counts_for, extends, is_counted}
-use Rattle.fx_tree.proofs.Place.{same-self, split_of, extends-less, extends-not_before, before-shift, before-apart}
+use Rattle.fx_tree.proofs.Place.{split_of, extends-less, extends-not_before, before-shift, before-apart}
 use Rattle.fx_tree.proofs.Place.{take-same, goes_on, child_of, of_child, falling-any, any-never}
 
 module _ (x : Ranked) (law : IsRanked x) (p : List ℕ) (part : length p < x.tree.size) where
@@ -52,7 +55,7 @@ module _ (x : Ranked) (law : IsRanked x) (p : List ℕ) (part : length p < x.tre
                   let none : of_child x law p part (take i rows) d ≡ false =
                   any-never (λ j. extends d (p ++ j ∷ [])) (λ j. extends-less d p (j ∷ []) e) (take i rows) in
                   before-apart d p (r ∷ []) (omega arith) e ∙ sym (free p (omega arith)) ∙ sym
-                  (ap₂ (λ a b. (a && counts_for x d p) || (a && b)) h none ∙ nothing (counts_for x d p))
+                  (ap₂ (λ a b. (a && counts_for x d p) || (a && b)) h none ∙ or-false (counts_for x d p))
             ])
       ]
     where
@@ -64,10 +67,6 @@ module _ (x : Ranked) (law : IsRanked x) (p : List ℕ) (part : length p < x.tre
       unit : (a b : Bool) → b ≡ true → (a && b) ≡ a
       unit true b z = z
       unit false b z = refl
-
-      nothing : (a : Bool) → (a || false) ≡ a
-      nothing true = refl
-      nothing false = refl
 
   -- the jobs of a lot see what their lot sees, and not each other
   pub job_seen : length p ≡ x.lot → (r : ℕ) → (d : List ℕ) → is_counted x (p ++ r ∷ []) d ≡ is_counted x p d
@@ -132,17 +131,9 @@ map-filter f r (l ∷ ls) =
       | false ↦ map-filter f r ls
     ]
 
-map-map : {A B C : Type 0} (f : B → C) (g : A → B) (xs : List A) → map f (map g xs) ≡ map (λ a. f (g a)) xs
-map-map f g [] = refl
-map-map f g (x ∷ xs) = ap (λ l. f (g x) ∷ l) (map-map f g xs)
-
 filter-all : (ls : List (List ℕ)) → filter (λ s. true) ls ≡ ls
 filter-all [] = refl
 filter-all (l ∷ ls) = ap (λ z. l ∷ z) (filter-all ls)
-
-same-filter : (f g : List ℕ → Bool) → ((s : List ℕ) → f s ≡ g s) → (ls : List (List ℕ)) → filter f ls ≡ filter g ls
-same-filter f g h [] = refl
-same-filter f g h (l ∷ ls) = cc (h l, same-filter f g h ls)
 
 abbrev begun : ℕ → ℕ → ℕ → List (List ℕ)
 begun b k r = map (λ s. r ∷ s) ([] ∷ lists b k)
@@ -160,7 +151,7 @@ only b k r j n low = go n low
 
     own : filter (λ s. extends s (r ∷ j)) (begun b k r) ≡ map (λ s. r ∷ s) (filter (λ s. extends s j) ([] ∷ lists b k))
     own = map-filter (λ s. extends s (r ∷ j)) r ([] ∷ lists b k) ∙ ap (map (λ s. r ∷ s))
-        (same-filter (λ s. eqb r r && extends s j) (λ s. extends s j)
+        (filter_agree (λ s. eqb r r && extends s j) (λ s. extends s j)
         (λ s. ap (λ z. z && extends s j) (eq-eqb r r refl)) ([] ∷ lists b k))
 
     past : (m : ℕ) → m ≤ r → filter (λ s. extends s (r ∷ j)) (flat_map (begun b k) (falling m)) ≡ []

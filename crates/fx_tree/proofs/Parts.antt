@@ -5,14 +5,15 @@ use Rattle.std.proofs.Common.{lt-ltb, le-ltb}
 use Rattle.std.specs.List.{filter, AllByRecursion}
 use Rattle.std.proofs.lemmas.Bool.{cond-true, cond-false, cases_Bool, and_parts, and_from, and_left, and_right}
 use Rattle.std.proofs.lemmas.Bool.{eqb-true}
+use Rattle.fx_base.proofs.Lists.{each-map, each-all, each-weaker, filter_agree_each, list_any_agree}
 use Rattle.fx_designs.specs.Answers.{before, lists}
 use Rattle.fx_laws.specs.Trees.{Tree, IsTree, tree_prefixes, is_tree_design}
 use Rattle.fx_laws.specs.Walks.{through, is_candidate, under, subtree}
-use Rattle.fx_laws.proofs.Order.{Sorted, each-map, each-weaker, each-all, nonempty, lists-sorted}
+use Rattle.fx_laws.proofs.Order.{Sorted, nonempty, lists-sorted}
 use Rattle.fx_laws.proofs.Candidates.{under-none}
-use Rattle.fx_laws.proofs.Nodes.{cut, filter_same, some_before, design-candidate}
+use Rattle.fx_laws.proofs.Nodes.{cut, some_before, design-candidate}
 use Rattle.fx_tree.specs.Ranked.{extends}
-use Rattle.fx_tree.proofs.Place.{split_of, before-apart, any-same}
+use Rattle.fx_tree.proofs.Place.{split_of, before-apart}
 use Rattle.fx_tree.proofs.Lots.{Ranged, beginning}
 use Rattle.fx_tree.proofs.Inside.{filter-and, through-same}
 
@@ -27,7 +28,7 @@ pub block : (E D C : List ℕ → Bool) (xs : List (List ℕ)) → Sorted xs →
 block E D C xs sorted inside near =
     ap (filter E) (sym (cut D C inside F xs sorted (each-all _ xs (λ y. refl))))
     ∙ sym (filter-and (λ y. C y && not (F y)) E xs)
-    ∙ filter_same (λ y. (C y && not (F y)) && E y) (λ y. (E y && C y) && not (F' y)) xs (each-all _ xs agree)
+    ∙ filter_agree_each (λ y. (C y && not (F y)) && E y) (λ y. (E y && C y) && not (F' y)) xs (each-all _ xs agree)
     ∙ cut (λ y. D y && E y) (λ y. E y && C y)
     (λ y h. let k = and_parts (D y) (E y) h in and_from _ _ k.1 (inside y k.0)) F' xs sorted
     (each-all _ xs (λ y. refl))
@@ -48,13 +49,15 @@ block E D C xs sorted inside near =
     turn false b c d e h = rw h refl
 
     same-seen : (y : List ℕ) → E y ≡ true → F y ≡ F' y
-    same-seen y e = any-same (λ z. D z && before z y) (λ z. (D z && E z) && before z y) (λ z. elim (cases_Bool (D z)) [
-      | inr out ↦ and_left _ _ out ∙ sym (and_left _ _ (and_left _ _ out))
-      | inl holds ↦ elim (cases_Bool (before z y)) [
-        | inr late ↦ and_right _ _ late ∙ sym (and_right _ _ late)
-        | inl first ↦ and_from _ _ holds first ∙ sym (and_from _ _ (and_from _ _ holds (near z y holds first e)) first)
-      ]
-    ]) xs
+    same-seen y e =
+        list_any_agree (λ z. D z && before z y) (λ z. (D z && E z) && before z y) (λ z. elim (cases_Bool (D z)) [
+          | inr out ↦ and_left _ _ out ∙ sym (and_left _ _ (and_left _ _ out))
+          | inl holds ↦ elim (cases_Bool (before z y)) [
+            | inr late ↦ and_right _ _ late ∙ sym (and_right _ _ late)
+            | inl first ↦
+                and_from _ _ holds first ∙ sym (and_from _ _ (and_from _ _ holds (near z y holds first e)) first)
+          ]
+        ]) xs
 
     agree : (y : List ℕ) → ((C y && not (F y)) && E y) ≡ ((E y && C y) && not (F' y))
     agree y = elim (cases_Bool (E y)) [
@@ -147,7 +150,8 @@ module _ (t : Tree) (law : IsTree t) (r : ℕ) (tail : List ℕ) (k : ℕ) (deep
       and_from _ _ (near d y h first (and_parts (extends y c) (ltb (length c) (length y)) e).0)
       (lt-ltb _ _ (omega arith)))
       ∙ ap (through (is_tree_design t)) (
-      filter_same (λ y. E y && is_candidate t y) (λ y. (extends y c && is_candidate t y) && ltb (length c) (length y))
+      filter_agree_each (λ y. E y && is_candidate t y)
+      (λ y. (extends y c && is_candidate t y) && ltb (length c) (length y))
       (tree_prefixes t)
       (each-all _ (tree_prefixes t) (λ y. swap (extends y c) (ltb (length c) (length y)) (is_candidate t y)))
       ∙ filter-and (λ y. extends y c && is_candidate t y) (λ y. ltb (length c) (length y)) (tree_prefixes t)

@@ -15,18 +15,12 @@ use Rattle.fx_designs.specs.Answers.{before}
 use Rattle.fx_designs.specs.Nodes.{counts}
 use Rattle.fx_reduction.proofs.Extensions.{prefix-words}
 use Rattle.fx_reduction.proofs.PatternOrder.{less-self, less-trans, less-either, not_above}
-use Rattle.std.specs.List.{range_with_len}
-use Rattle.std.proofs.lemmas.List.{length-map}
-use Rattle.std.proofs.lemmas.List.FromFn.{length-range_with_len}
+use Rattle.fx_reduction.proofs.ShortWords.{pattern-length}
 use Rattle.fx_tree.proofs.Nodes.{is-tree}
 use Rattle.fx_tree.specs.Ranked.{IsRanked, counts_for}
 use Rattle.fx_tree.specs.Search.{ranked}
 use Rattle.fx_tree.proofs.Best.{clash}
 use Rattle.fx_tree.proofs.Place.{extends-not_before, take-same}
-
-pattern-length : (d : Dimensions) (rows : List ℕ) → length (pattern_of d rows) ≡ d.s
-unfolding pattern_of
-pattern-length d rows = length-map (range_with_len 1 d.s) _ ∙ length-range_with_len 1 d.s
 
 -- no entry smaller: not less
 entries-not_less : (a b : List ℕ) → ((k : ℕ) → slice_index a k ≤ slice_index b k) → is_less b a ≡ false

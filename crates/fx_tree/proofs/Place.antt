@@ -6,16 +6,15 @@ use Rattle.std.specs.List.{filter, list_any}
 use Rattle.std.proofs.lemmas.Bool.{cond-true, cond-false, cases_Bool, and_from, and_left, and_right, or_left, or_right}
 use Rattle.std.proofs.lemmas.Bool.{or_from, and_parts, not_from_true, not_from_false}
 use Rattle.std.proofs.lemmas.List.{take-append-le}
+use mathlib.Core.Bool.{or-false}
+use Rattle.fx_base.proofs.Lists.{list_any_agree}
 use Rattle.fx_designs.specs.Vectors.{same}
 use Rattle.fx_designs.specs.Answers.{falling, before}
 use Rattle.fx_laws.specs.Trees.{is_tree_design, children_of}
 use Rattle.fx_laws.proofs.Candidates.{closed-append}
 use Rattle.fx_laws.proofs.Order.{before-trans}
+use Rattle.fx_laws.proofs.Weights.{same-self}
 use Rattle.fx_tree.specs.Ranked.{Ranked, IsRanked, counts_for, extends, is_counted, is_counted_through}
-
-pub same-self : (p : List ℕ) → same p p ≡ true
-same-self [] = refl
-same-self (a ∷ p) = and_from _ _ (eq-eqb a a refl) (same-self p)
 
 pub split_of : (d p : List ℕ) → extends d p ≡ true → (s : List ℕ) × (d ≡ p ++ s)
 split_of d [] h = (d, refl)
@@ -147,10 +146,6 @@ falling-all q r (suc n) on low =
           ap (list_any (hits r)) (cond-false (q n) (n ∷ filter q (falling n)) _ a) ∙ falling-all q r n on (omega arith)
     ]
 
-pub any-same : {X : Type 0} (f g : X → Bool) → ((x : X) → f x ≡ g x) → (xs : List X) → list_any f xs ≡ list_any g xs
-any-same f g h [] = refl
-any-same f g h (x ∷ xs) = ap₂ (λ a b. a || b) (h x) (any-same f g h xs)
-
 pub any-never : {X : Type 0} (f : X → Bool) → ((x : X) → f x ≡ false) → (xs : List X) → list_any f xs ≡ false
 any-never f h [] = refl
 any-never f h (x ∷ xs) = or_from _ _ (h x) (any-never f h xs)
@@ -188,7 +183,7 @@ module _ (x : Ranked) (law : IsRanked x) (p : List ℕ) (part : length p < x.tre
   pub child_of : (d : List ℕ) (r : ℕ) (s : List ℕ) → d ≡ p ++ r ∷ s → (rs : List ℕ)
       → of_child rs d ≡ list_any (hits r) rs
   child_of d r s z rs =
-      any-same (λ j. extends d (p ++ j ∷ [])) (hits r)
+      list_any_agree (λ j. extends d (p ++ j ∷ [])) (hits r)
       (λ j. ap (λ l. extends l (p ++ j ∷ [])) z ∙ extends-shift p (r ∷ s) (j ∷ [])) rs
 
   -- at the end every design from p on has been seen
@@ -210,9 +205,6 @@ module _ (x : Ranked) (law : IsRanked x) (p : List ℕ) (part : length p < x.tre
   module _ (job : x.lot < length p) (i : ℕ) (low : i < length rows) where
     abbrev r : ℕ
     r = get_or rows i 0
-
-    takes_same : (k : ℕ) (t : List ℕ) → k ≤ length p → take k (p ++ t) ≡ take k p
-    takes_same k t h = take-append-le k p t h
 
     -- which designs count for the child at i
     pub child_seen : (d : List ℕ)
@@ -236,8 +228,8 @@ module _ (x : Ranked) (law : IsRanked x) (p : List ℕ) (part : length p < x.tre
                     ap (λ l. before l (p ++ r ∷ [])) k.2 ∙ before-shift p (k.0 ∷ k.1) (r ∷ []) ∙ plain (ltb r k.0)
                     (eqb k.0 r) in
                     let job_same : same (take (x.lot + 1) d) (take (x.lot + 1) (p ++ r ∷ [])) ≡ true =
-                    ap₂ same (ap (take (x.lot + 1)) k.2 ∙ takes_same (x.lot + 1) (k.0 ∷ k.1) (omega arith))
-                    (takes_same (x.lot + 1) (r ∷ []) (omega arith)) ∙ same-self (take (x.lot + 1) p) in
+                    ap₂ same (ap (take (x.lot + 1)) k.2 ∙ take-append-le (x.lot + 1) p (k.0 ∷ k.1) (omega arith))
+                    (take-append-le (x.lot + 1) p (r ∷ []) (omega arith)) ∙ same-self (take (x.lot + 1) p) in
                     let free : not
                     (leb (x.lot + 1) (length (p ++ r ∷ []))
                     && (same (take x.lot d) (take x.lot (p ++ r ∷ []))
@@ -254,9 +246,10 @@ module _ (x : Ranked) (law : IsRanked x) (p : List ℕ) (part : length p < x.tre
                     (le-leb (x.lot + 1) (length (p ++ r ∷ [])) (omega arith) ∙ sym
                     (le-leb (x.lot + 1) (length p) (omega arith)))
                     (ap₂ (λ u v. same (take x.lot d) u && not (same (take (x.lot + 1) d) v))
-                    (takes_same x.lot (r ∷ []) (omega arith)) (takes_same (x.lot + 1) (r ∷ []) (omega arith)))) in
+                    (take-append-le x.lot p (r ∷ []) (omega arith))
+                    (take-append-le (x.lot + 1) p (r ∷ []) (omega arith)))) in
                     same_counts ∙ sym
-                    (ap₂ (λ a b. (a && counts_for x d p) || (a && b)) h none ∙ nothing (counts_for x d p))
+                    (ap₂ (λ a b. (a && counts_for x d p) || (a && b)) h none ∙ or-false (counts_for x d p))
               ])
         ]
       where
@@ -268,7 +261,3 @@ module _ (x : Ranked) (law : IsRanked x) (p : List ℕ) (part : length p < x.tre
         unit : (a b : Bool) → b ≡ true → (a && b) ≡ a
         unit true b z = z
         unit false b z = refl
-
-        nothing : (a : Bool) → (a || false) ≡ a
-        nothing true = refl
-        nothing false = refl

@@ -3,6 +3,8 @@ use Rattle.std.proofs.Common.{◌≡◌, ℕ, ◌+◌, Bool, true, false, not, �
 use Rattle.std.proofs.Common.{length, refl, sym, ap, ap₂, ◌∙◌, inl, inr, arith, map-id}
 use Rattle.std.specs.List.{filter}
 use Rattle.std.proofs.lemmas.Bool.{cond-true, cond-false, cases_Bool, and_left, and_right, or_left, eqb-true, le-ltb}
+use mathlib.Core.Bool.{and-true, and_assoc}
+use Rattle.fx_base.proofs.Lists.{each-all, filter_agree_each, map_agree, list_any_agree}
 use Rattle.fx_designs.specs.Galois.{IsField}
 use Rattle.fx_designs.specs.Problems.{Problem}
 use Rattle.fx_designs.specs.Demands.{is_allowed}
@@ -14,26 +16,13 @@ use Rattle.fx_designs.specs.Nodes.{nodes, marks, mark_of}
 use Rattle.fx_laws.specs.Trees.{IsTree, tree_of, is_tree_design}
 use Rattle.fx_laws.specs.Walks.{through, is_candidate, under, mark_at}
 use Rattle.fx_laws.proofs.Through.{through-none}
-use Rattle.fx_laws.proofs.Nodes.{nodes_are, marks_are, filter_same}
-use Rattle.fx_laws.proofs.Order.{each-all}
+use Rattle.fx_laws.proofs.Nodes.{nodes_are, marks_are}
 use Rattle.fx_tree.proofs.Nodes.{is-tree, nodes-same, marks-same}
 use Rattle.fx_tree.specs.Ranked.{is_counted, is_ranked_branch}
 use Rattle.fx_tree.specs.Search.{ranked, is_expanded, search_tree, search_mark}
 use Rattle.fx_tree.proofs.Branches.{branches_law}
-use Rattle.fx_tree.proofs.Place.{any-never, any-same}
+use Rattle.fx_tree.proofs.Place.{any-never}
 use Rattle.fx_tree.proofs.Patterns.{is-ranked, counts-same}
-
-and-regroup : (a b c : Bool) → (a && (b && c)) ≡ ((a && b) && c)
-and-regroup true b c = refl
-and-regroup false b c = refl
-
-and-unit : (a : Bool) → (a && true) ≡ a
-and-unit true = refl
-and-unit false = refl
-
-map-same : {X Y : Type 0} (f g : X → Y) → ((x : X) → f x ≡ g x) → (xs : List X) → map f xs ≡ map g xs
-map-same f g h [] = refl
-map-same f g h (x ∷ xs) = ap₂ (λ y ys. y ∷ ys) (h x) (map-same f g h xs)
 
 pub through-agree : (D E : List ℕ → Bool) → ((p : List ℕ) → D p ≡ E p) → (xs : List (List ℕ))
     → through D xs ≡ through E xs
@@ -63,7 +52,7 @@ module _ (p : Problem) where
   branch-ranked e rows =
       ap (λ b. is_allowed p.dimensions p.requirement rows
       && (ltb (length rows) (p.dimensions.s + p.dimensions.t) && not b))
-      (any-same (λ matrix. is_complete_allowed p matrix && excludes p matrix rows)
+      (list_any_agree (λ matrix. is_complete_allowed p matrix && excludes p matrix rows)
       (λ d. is_counted (ranked p) rows d && not ((ranked p).less rows d)) one (prefixes p))
     where
       one : (d : List ℕ)
@@ -74,8 +63,8 @@ module _ (p : Problem) where
           (cond-true p.least
           (counts p.dimensions d rows && not (is_less (pattern_of p.dimensions rows) (pattern_of p.dimensions d)))
           (before d rows) e)
-          ∙ and-regroup (is_complete_allowed p d) (counts p.dimensions d rows)
-          (not (is_less (pattern_of p.dimensions rows) (pattern_of p.dimensions d)))
+          ∙ sym (and_assoc (is_complete_allowed p d) (counts p.dimensions d rows)
+          (not (is_less (pattern_of p.dimensions rows) (pattern_of p.dimensions d))))
           ∙ ap (λ b. (is_complete_allowed p d && b)
           && not (is_less (pattern_of p.dimensions rows) (pattern_of p.dimensions d))) (counts-same p d rows)
 
@@ -105,7 +94,8 @@ module _ (p : Problem) where
   pub under-plain : p.least ≡ false → (k : ℕ) (c : List ℕ) → under (search_tree p) k c ≡ under (tree_of p) k c
   unfolding under
   under-plain e k c =
-      filter_same (is_candidate (search_tree p)) (is_candidate (tree_of p)) _ (each-all _ _ (λ d. candidate-plain e d))
+      filter_agree_each (is_candidate (search_tree p)) (is_candidate (tree_of p)) _
+      (each-all _ _ (λ d. candidate-plain e d))
 
   candidate-least : p.least ≡ true → (rows : List ℕ) → is_node p rows ≡ is_candidate (search_tree p) rows
   candidate-least e rows =
@@ -113,7 +103,7 @@ module _ (p : Problem) where
       && ((eqb (length (parent rows)) 0 || is_branch p (parent rows)) && b))
       (or_left p.least (is_not_after (answer p) rows) e)
       ∙ ap (λ b. is_canonical p.dimensions p.requirement rows && b)
-      (and-unit (eqb (length (parent rows)) 0 || is_branch p (parent rows)))
+      (and-true (eqb (length (parent rows)) 0 || is_branch p (parent rows)))
       ∙ ap (λ b. is_canonical p.dimensions p.requirement rows && (eqb (length (parent rows)) 0 || b))
       (sym (opens-least e (parent rows)))
 
@@ -136,7 +126,7 @@ module _ (p : Problem) where
     unfolding nodes under
     nodes-walked = elim (cases_Bool p.least) [
       | inl e ↦
-          filter_same (is_node p) (is_candidate (search_tree p)) (prefixes p)
+          filter_agree_each (is_node p) (is_candidate (search_tree p)) (prefixes p)
           (each-all _ (prefixes p) (λ rows. candidate-least e rows))
           ∙ ap (filter (is_candidate (search_tree p))) (sym (map-id (prefixes p)))
           ∙ sym (through-none (is_tree_design (search_tree p)) _
@@ -151,9 +141,9 @@ module _ (p : Problem) where
     pub marks-walked : marks p ≡ map (search_mark p) (nodes p)
     unfolding marks
     marks-walked = elim (cases_Bool p.least) [
-      | inl e ↦ map-same (mark_of p) (search_mark p) (λ rows. sym (mark-least e rows)) (nodes p)
+      | inl e ↦ map_agree (mark_of p) (search_mark p) (λ rows. sym (mark-least e rows)) (nodes p)
       | inr e ↦
           marks-same p f e ∙ marks_are (tree_of p) (is-tree p f)
           ∙ ap (map (mark_at (tree_of p))) (sym (nodes-same p f e))
-          ∙ map-same (mark_at (tree_of p)) (search_mark p) (λ rows. sym (mark-plain e rows)) (nodes p)
+          ∙ map_agree (mark_at (tree_of p)) (search_mark p) (λ rows. sym (mark-plain e rows)) (nodes p)
     ]

@@ -2,9 +2,9 @@ use Rattle.std.proofs.Common.{◌≡◌, ◌<◌, ◌++◌, ◌∙◌, ℕ, List
 use Rattle.std.specs.Prelude.{OnOk}
 use Rattle.fx_designs.specs.Problems.{Dimensions}
 use Rattle.fx_designs.specs.Patterns.{pattern_of, resolution_of}
+use Rattle.fx_reduction.proofs.ShortWords.{pattern-length}
 use Rattle.fx_vectors.specs.declared.shape.Shape.{Shape}
 use Rattle.fx_vectors.specs.Shape.{dimensions_of}
-use Rattle.fx_words.proofs.Entries.{length-pattern}
 use Rattle.fx_alias.proofs.Heads.{no-words}
 use Rattle.fx_alias.proofs.head.put_resolution.Goals as goal
 
@@ -12,7 +12,7 @@ pub resolution-r-requires : goal.resolution-r-requires
 resolution-r-requires c =
     let d : Dimensions = dimensions_of c.args.matrix.now.shape in
     let len : length c.in_ok-pattern.pattern ≡ d.s =
-    ap length c.in_ok-pattern.ensures ∙ length-pattern d c.args.matrix.now.rows in
+    ap length c.in_ok-pattern.ensures ∙ pattern-length d c.args.matrix.now.rows in
     let s : c.shape-shape.result.s ≡ d.s = ap (λ (z : Shape). z.s) c.shape-shape.ensures.shape in
     omega (arith, len, s, c.shape-shape.ensures.rows)
 

@@ -8,10 +8,11 @@ use Rattle.fx_designs.specs.Nodes.{nodes}
 use Rattle.fx_designs.specs.Problems.{Problem}
 use Rattle.fx_statements.specs.Steps.{meaning_of}
 use Rattle.fx_statements.specs.Questions.{found_by, last_found, nodes_of, question_for, until}
+use Rattle.fx_statements.proofs.Concluded.{nodes_more}
 use Rattle.fx_answer.specs.Standing.{StandsFor, books_in_asking, conclusion_in_asking, questions_above}
 use Rattle.fx_answer.proofs.Answered.{found-of, found-stands, found-whole, left-is-whole, left-of, left-stands}
 use Rattle.fx_answer.proofs.Answered.{nothing-stands}
-use Rattle.fx_answer.proofs.Asking.{books_so_far, come_more, ended, nodes_more, past}
+use Rattle.fx_answer.proofs.Asking.{books_so_far, come_more, ended, past}
 use Rattle.fx_answer.proofs.answering.+asking.Goals as goal
 
 -- the nodes of the question that is finished now

@@ -2,6 +2,7 @@ use Rattle.std.proofs.Common.{◌≡◌, ◌<◌, ◌+◌, ◌^◌, ◌∙◌, �
 use Rattle.std.proofs.Common.{subst, ap, arith, inl, inr}
 use Rattle.std.specs.Prelude.{All}
 use Rattle.std.proofs.lemmas.Bool.{cases_eq}
+use Rattle.std.proofs.lemmas.List.{get_or_default}
 use Rattle.fx_designs.specs.Galois.{IsField, number}
 use Rattle.fx_designs.specs.Vectors.{IsVector}
 use Rattle.fx_laws.proofs.Tables.{is_order-field}
@@ -12,7 +13,6 @@ use Rattle.fx_barred.specs.declared.best_words.Best.{Best}
 use Rattle.fx_barred.specs.BestWords.{IsBestOf, IsWithin}
 use Rattle.fx_barred.proofs.BestWords.{preferred-within}
 use Rattle.fx_barred.proofs.ListedWords.{IsListed, listed-first, listed-here, listed-elsewhere, best-listed}
-use Rattle.fx_barred.proofs.Tables.{at-any}
 use Rattle.fx_barred.proofs.best_words.fill_listed.Goals as goal
 
 pub loop-v-init : goal.loop-v-init
@@ -40,7 +40,7 @@ loop-v-preserved c =
     let i : ℕ = c.loop-v.v-index in
     let v : List ℕ = c.v-item.result in
     let f : IsField q = is_order-field q c.q-known.ensures.known in
-    let is : slice_index_or vectors i [] ≡ v = at-any vectors i [] v c.loop-v-test.true ∙ sym c.v-item.is in
+    let is : slice_index_or vectors i [] ≡ v = get_or_default vectors i [] v c.loop-v-test.true ∙ sym c.v-item.is in
     let vector : IsVector q c.args.reached.now.room v =
     subst (IsVector q c.args.reached.now.room) (sym c.v-item.is) (c.requires.vectors i v c.loop-v-test.true) in
     let x0 : ℕ = c.from-in-loop-v.result in

@@ -1,10 +1,10 @@
 use Rattle.std.proofs.Common.{◌≡◌, ◌<◌, ◌+◌, ◌≢◌, ◌∙◌, ℕ, List, [], length, set, slice_index_or, length-set, ap, arith}
 use Rattle.std.proofs.Common.{inl, inr}
 use Rattle.std.proofs.lemmas.Bool.{cases_eq}
-use Rattle.std.proofs.lemmas.List.{get_or-set_other}
+use Rattle.std.proofs.lemmas.List.{get_or-set_other, get_or_default}
 use Rattle.std.proofs.lemmas.Grind.{get_or-set_at}
 use Rattle.fx_points.specs.Points.{has}
-use Rattle.fx_barred.proofs.Tables.{at-any, made_value}
+use Rattle.fx_barred.proofs.Tables.{made_value}
 use Rattle.fx_barred.proofs.reached.fill_next.Goals as goal
 
 pub loop-w-preserved : goal.loop-w-preserved
@@ -20,10 +20,11 @@ loop-w-preserved c =
     λ k ne. get_or-set_other after i k made [] ne in
     let fits : old + w + 1 < length before = omega (arith, c.requires.sets, c.loop-w-test.true) in
     let same : c.index-before-old.result ≡ slice_index_or before (old + (w + 1)) [] =
-    c.index-before-old.is ∙ at-any before (old + w + 1) c.index-before-old.result [] fits ∙ ap
+    c.index-before-old.is ∙ get_or_default before (old + w + 1) c.index-before-old.result [] fits ∙ ap
     (λ k. slice_index_or before k []) (let e : old + w + 1 ≡ old + (w + 1) = omega arith in e) in
     let lighter : c.index-before-old-in-loop-w.result ≡ slice_index_or before (old + w) [] =
-    c.index-before-old-in-loop-w.is ∙ at-any before (old + w) c.index-before-old-in-loop-w.result [] (omega arith) in
+    c.index-before-old-in-loop-w.is ∙ get_or_default before (old + w) c.index-before-old-in-loop-w.result []
+    (omega arith) in
     record {
       len = length-set after i made ∙ c.loop-w.invariant.len;
       kept = other 0 (λ (e : 0 ≡ i). omega arith) ∙ c.loop-w.invariant.kept;

@@ -1,11 +1,11 @@
 use Rattle.std.proofs.Common.{◌∙◌, arith, length-drop}
-use Rattle.fx_base.proofs.Steps.{slice_to_end}
+use Rattle.std.proofs.lemmas.List.{take_rest}
 use Rattle.fx_base.proofs.Doing.{fill_more, fill_part, fill_whole, shelves_part_whole}
 use Rattle.fx_base.proofs.writing.fill.Goals as goal
 
 pub loop-from-preserved : goal.loop-from-preserved
 loop-from-preserved g c =
-    let rest = slice_to_end c.args.content.now c.loop-from.from in
+    let rest = take_rest c.args.content.now c.loop-from.from in
     let within = rw rest at c.in_ok-from.ensures.within in
     let taken = rw rest at c.in_ok-from.ensures.taken in
     let long = length-drop c.loop-from.from c.args.content.now in

@@ -1,10 +1,11 @@
 use Rattle.std.proofs.Common.{◌∙◌, arith, length-drop}
-use Rattle.fx_base.proofs.Steps.{appends_more, appends_part, slice_to_end}
+use Rattle.std.proofs.lemmas.List.{take_rest}
+use Rattle.fx_base.proofs.Steps.{appends_more, appends_part}
 use Rattle.fx_base.proofs.writing.write_all.Goals as goal
 
 pub loop-from-preserved : goal.loop-from-preserved
 loop-from-preserved g c =
-    let rest = slice_to_end c.args.piece.now c.loop-from.from in
+    let rest = take_rest c.args.piece.now c.loop-from.from in
     let within = rw rest at c.in_ok-from.ensures.within in
     let taken = rw rest at c.in_ok-from.ensures.taken in
     let long = length-drop c.loop-from.from c.args.piece.now in

@@ -1,10 +1,11 @@
 use Rattle.std.proofs.Common.{◌≡◌, ◌+◌, ◌∙◌, ℕ, List, Bool, true, ◌∷◌, take, drop, false, ap, sym, refl, arith}
 use Rattle.std.proofs.lemmas.List.{take_rest, drop_all}
+use Rattle.fx_base.proofs.Lists.{drop_read}
 use Rattle.fx_text.specs.declared.refusal.ParseStop.{ParseStop}
 use Rattle.fx_text.specs.Written.{Written}
 use Rattle.fx_text.specs.Refusals.{IsRefused}
 use Rattle.fx_effects.specs.Expressions.{Expression, begins_effect, effect_len, expression_at, expressions_from}
-use Rattle.fx_effects.proofs.Joined.{small_more, next, read, passed}
+use Rattle.fx_effects.proofs.Joined.{small_more, read, passed}
 use Rattle.fx_text.proofs.Stops.{refused, stopped}
 use Rattle.fx_effects.proofs.expressions.expressions_of.Goals as goal
 use Rattle.fx_effects.proofs.expressions.expressions_of.Goals.{then-begins_effect+in_ok-expression+in_ok-push}
@@ -27,7 +28,7 @@ loop-i-preserved c =
     let joined = c.loop-i.joined in
     let so_far =
     c.loop-i.invariant.1 ∙ ap (expressions_from factors c.loop-i.all joined)
-    (next written c.loop-i.i w (omega arith) c.index-written-i.is) in
+    (drop_read written c.loop-i.i w (omega arith) c.index-written-i.is) in
     elim c.if-begins_effect.branch [
       | then-begins_effect+in_ok-expression+in_ok-push b ↦
           let one = rw (b.effect_rest-rest.ensures, take_rest written (c.loop-i.i + 1)) at b.in_ok-expression.ensures.ok
@@ -53,7 +54,7 @@ returns-in_err-expression-clause-refused c =
     let w = c.index-written-i.result in
     let so_far =
     c.loop-i.invariant.1 ∙ ap (expressions_from factors c.loop-i.all c.loop-i.joined)
-    (next written c.loop-i.i w c.loop-i-test.true c.index-written-i.is) in
+    (drop_read written c.loop-i.i w c.loop-i-test.true c.index-written-i.is) in
     let one = rw (c.effect_rest-rest.ensures, take_rest written (c.loop-i.i + 1)) at c.in_err-expression.ensures.refused
     in
     refused _ _ c.in_err-expression.field-0.0 c.from_residual.ensures.1

@@ -1,13 +1,14 @@
 use Rattle.std.proofs.Common.{◌≡◌, ℕ, List, ◌+◌, ◌-◌, ◌++◌, ◌∷◌, [], map, drop, sym, ap, ap₂, subst, ◌∙◌, not}
 use Rattle.std.specs.List.{IsDistinct, prefix_len}
 use Rattle.std.proofs.lemmas.List.{take_rest, drop_all, map-append}
+use Rattle.fx_base.proofs.Lists.{each-take, each-drop}
 use Rattle.fx_language.specs.declared.symbol.Symbol.TheVariants.{Proc}
 use Rattle.fx_text.specs.declared.refusal.ParseStop.TheVariants as stop
 use Rattle.fx_text.specs.Written.{begins}
 use Rattle.fx_text.specs.Statements.{ends_step, steps_of}
 use Rattle.fx_statements.specs.Steps.{meaning_of}
 use Rattle.fx_statements.specs.Programs.{out_names, steps_behind}
-use Rattle.fx_statements.proofs.Parts.{each_dropped, each_taken, names_of_more}
+use Rattle.fx_statements.proofs.Parts.{names_of_more}
 use Rattle.fx_outputs.specs.Outputs.{names_of}
 use Rattle.fx_text.specs.Names.{is_same_name}
 use Rattle.fx_text.specs.Sentences.{IsAccepted}
@@ -50,8 +51,8 @@ pub step_of-requires-clause-accepted : goal.step_of-requires-clause-accepted
 step_of-requires-clause-accepted c =
     let statements = c.args.statements.now in
     let i = c.loop-i.i in
-    each_taken IsAccepted (i + (1 + c.rest_len-len.result) - i) (drop i statements)
-    (each_dropped IsAccepted i statements c.requires)
+    each-take IsAccepted (i + (1 + c.rest_len-len.result) - i) (drop i statements)
+    (each-drop IsAccepted i statements c.requires)
 
 pub step_of-requires-clause-differ : goal.step_of-requires-clause-differ
 step_of-requires-clause-differ c = c.loop-i.invariant.differ

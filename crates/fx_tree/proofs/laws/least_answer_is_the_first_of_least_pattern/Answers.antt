@@ -1,4 +1,5 @@
-use Rattle.std.proofs.Common.{◌≡◌, Bool, true, false, Some, None, refl}
+use Rattle.std.proofs.Common.{Some, None}
+use Rattle.std.proofs.lemmas.Bool.{false_from_ne_true}
 use Rattle.fx_designs.specs.Answers.{is_design}
 use Rattle.fx_laws.proofs.Tables.{is_order-field}
 use Rattle.fx_tree.proofs.Firsts.{answer-is-first}
@@ -11,8 +12,5 @@ returns-clause-there c p rows known some least is =
 
 pub returns-clause-none : goal.returns-clause-none
 returns-clause-none c p known some least is rows =
-    no (is_design p rows) (answer-is-first p (is_order-field p.dimensions.q known) some least None is rows)
-  where
-    no : (b : Bool) → (b ≡ true → ⊥) → b ≡ false
-    no true h = absurd (h refl)
-    no false h = refl
+    false_from_ne_true (is_design p rows)
+    (answer-is-first p (is_order-field p.dimensions.q known) some least None is rows)

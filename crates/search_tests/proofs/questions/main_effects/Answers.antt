@@ -1,8 +1,7 @@
 use Rattle.std.proofs.Common.{ℕ, ◌≡◌, ◌<◌, ◌≤◌, ◌^◌, List, [], ◌∷◌, true, false, eqb, inl, inr, sym, subst, refl, ap}
 use Rattle.std.proofs.Common.{arith, lit<, lit≤}
 use Rattle.std.specs.List.{list_any}
-use Rattle.std.proofs.lemmas.Bool.{eqb-true, both_ways}
-use Rattle.fx_vectors.proofs.Balances.{either_true}
+use Rattle.std.proofs.lemmas.Bool.{eqb-true, both_ways, or_cases}
 use Rattle.std.specs.Int.Count.{ones}
 use Rattle.std.proofs.lemmas.List.Elements.{All-from_recursion}
 use Rattle.std.proofs.Math.Nat.{pow-le-pow_right}
@@ -18,27 +17,27 @@ use Rattle.search_tests.proofs.questions.main_effects.Goals as goal
 few-pairs : (q : ℕ) → is_order q ≡ true → pair_count q (1 ∷ 2 ∷ []) [] ≤ 2000000
 unfolding factors_of ones
 few-pairs q order =
-    elim (either_true (eqb q 2) (list_any (λ n. eqb q n) (3 ∷ 4 ∷ 5 ∷ 7 ∷ 8 ∷ 9 ∷ [])) order) [
+    elim (or_cases (eqb q 2) (list_any (λ n. eqb q n) (3 ∷ 4 ∷ 5 ∷ 7 ∷ 8 ∷ 9 ∷ [])) order) [
       | inl e ↦ subst (λ k. pair_count k (1 ∷ 2 ∷ []) [] ≤ 2000000) (sym (eqb-true q 2 e)) (lit≤ tt)
       | inr r0 ↦
-          elim (either_true (eqb q 3) (list_any (λ n. eqb q n) (4 ∷ 5 ∷ 7 ∷ 8 ∷ 9 ∷ [])) r0) [
+          elim (or_cases (eqb q 3) (list_any (λ n. eqb q n) (4 ∷ 5 ∷ 7 ∷ 8 ∷ 9 ∷ [])) r0) [
             | inl e ↦ subst (λ k. pair_count k (1 ∷ 2 ∷ []) [] ≤ 2000000) (sym (eqb-true q 3 e)) (lit≤ tt)
             | inr r1 ↦
-                elim (either_true (eqb q 4) (list_any (λ n. eqb q n) (5 ∷ 7 ∷ 8 ∷ 9 ∷ [])) r1) [
+                elim (or_cases (eqb q 4) (list_any (λ n. eqb q n) (5 ∷ 7 ∷ 8 ∷ 9 ∷ [])) r1) [
                   | inl e ↦ subst (λ k. pair_count k (1 ∷ 2 ∷ []) [] ≤ 2000000) (sym (eqb-true q 4 e)) (lit≤ tt)
                   | inr r2 ↦
-                      elim (either_true (eqb q 5) (list_any (λ n. eqb q n) (7 ∷ 8 ∷ 9 ∷ [])) r2) [
+                      elim (or_cases (eqb q 5) (list_any (λ n. eqb q n) (7 ∷ 8 ∷ 9 ∷ [])) r2) [
                         | inl e ↦ subst (λ k. pair_count k (1 ∷ 2 ∷ []) [] ≤ 2000000) (sym (eqb-true q 5 e)) (lit≤ tt)
                         | inr r3 ↦
-                            elim (either_true (eqb q 7) (list_any (λ n. eqb q n) (8 ∷ 9 ∷ [])) r3) [
+                            elim (or_cases (eqb q 7) (list_any (λ n. eqb q n) (8 ∷ 9 ∷ [])) r3) [
                               | inl e ↦ subst (λ k. pair_count k (1 ∷ 2 ∷ []) [] ≤ 2000000) (sym (eqb-true q 7 e))
                                   (lit≤ tt)
                               | inr r4 ↦
-                                  elim (either_true (eqb q 8) (list_any (λ n. eqb q n) (9 ∷ [])) r4) [
+                                  elim (or_cases (eqb q 8) (list_any (λ n. eqb q n) (9 ∷ [])) r4) [
                                     | inl e ↦ subst (λ k. pair_count k (1 ∷ 2 ∷ []) [] ≤ 2000000) (sym (eqb-true q 8 e))
                                         (lit≤ tt)
                                     | inr r5 ↦
-                                        elim (either_true (eqb q 9) (list_any (λ n. eqb q n) ([])) r5) [
+                                        elim (or_cases (eqb q 9) (list_any (λ n. eqb q n) ([])) r5) [
                                           | inl e ↦ subst (λ k. pair_count k (1 ∷ 2 ∷ []) [] ≤ 2000000)
                                               (sym (eqb-true q 9 e)) (lit≤ tt)
                                           | inr r6 ↦

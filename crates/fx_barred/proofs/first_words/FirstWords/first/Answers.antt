@@ -1,9 +1,10 @@
 use Rattle.std.proofs.Common.{ℕ, ◌≡◌, ◌<◌, ◌≤◌, ◌+◌, ◌-◌, ◌*◌, ◌^◌, ◌∙◌, suc, length, slice_index, slice_index_or}
 use Rattle.std.proofs.Common.{mul-le-mul_right, sym, subst, ap, arith}
+use Rattle.std.proofs.lemmas.List.{get_or_default}
+use Rattle.fx_base.proofs.Numbers.{add_one-mul}
 use Rattle.fx_designs.specs.Galois.{neg}
 use Rattle.fx_points.specs.Sums.{sum_of}
 use Rattle.fx_barred.specs.FirstWords.{FirstWordsView, IsFirst}
-use Rattle.fx_barred.proofs.Tables.{at-any}
 use Rattle.fx_barred.proofs.first_words.FirstWords.first.Goals as goal
 
 pub returns-else-found-eq0-clause-some : goal.returns-else-found-eq0-clause-some
@@ -20,11 +21,11 @@ returns-else-found-eq0-clause-some c =
     ap (λ (k : ℕ). k * c.from-size.result + c.from.result) c.len.ensures.count ∙ ap (λ (k : ℕ). n * k + c.from.result)
     (c.from-size.ensures ∙ c.size.ensures.points) ∙ ap (λ (k : ℕ). n * size + k) c.from.ensures in
     let wide = mul-le-mul_right size (let low : n + 1 ≤ r.room = omega arith in low) in
-    let next : (n + 1) * size ≡ n * size + size = spread n size in
+    let next : (n + 1) * size ≡ n * size + size = add_one-mul n size in
     let there : n * size + y < length s.tables.items =
     omega (arith, c.minus.ensures.below, c.self.invariant.tables_len) in
     let read : found ≡ slice_index s.tables.items (n * size + y) =
-    c.index-found.ensures ∙ ap (λ (k : ℕ). slice_index_or s.tables.items k found) place ∙ at-any s.tables.items
+    c.index-found.ensures ∙ ap (λ (k : ℕ). slice_index_or s.tables.items k found) place ∙ get_or_default s.tables.items
     (n * size + y) found 0 there in
     let up : found ≡ suc (found - 1) = omega (arith, c.if-found-eq0.false) in
     let first =
@@ -33,6 +34,3 @@ returns-else-found-eq0-clause-some c =
     subst (λ (y : ℕ). IsFirst r.q r.m r.rows s.words n y (found - 1)) c.minus.ensures.negative first in
     subst (λ (v : FirstWordsView). IsFirst v.q v.m v.rows v.words (length v.rows)
     (sum_of v.q (neg v.q 1) v.m 0 c.args.row) (found - 1)) c.self.view_is at
-  where
-    spread : (n k : ℕ) → (n + 1) * k ≡ n * k + k
-    spread n k = omega arith

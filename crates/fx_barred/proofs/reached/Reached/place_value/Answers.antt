@@ -1,7 +1,8 @@
 use Rattle.std.proofs.Common.{◌≡◌, ◌<◌, ◌≤◌, ◌+◌, ◌*◌, ◌^◌, ◌∙◌, ℕ, suc, length, sym, subst, ap, arith}
+use Rattle.std.proofs.lemmas.List.{get_or_default}
 use Rattle.std.proofs.Math.Nat.{pow-succ', mul-le-mul_right}
 use Rattle.fx_barred.specs.Reached.{ReachedView}
-use Rattle.fx_barred.proofs.Tables.{at-any, power-fits}
+use Rattle.fx_barred.proofs.Tables.{power-fits}
 use Rattle.fx_barred.proofs.reached.Reached.place_value.Goals as goal
 use Rattle.fx_barred.proofs.reached.Reached.place_value.Goals.{After-index}
 
@@ -30,7 +31,7 @@ read c =
     let more : suc code * q ^ j ≤ q * q ^ j = mul-le-mul_right (q ^ j) low in
     let spread : suc code * q ^ j ≡ code * q ^ j + q ^ j = grind arith in
     record {
-      value = c.index.ensures ∙ at-any s.powers.items j c.index.result.now 0
+      value = c.index.ensures ∙ get_or_default s.powers.items j c.index.result.now 0
           (omega (arith, c.self.invariant.powers_len, few)) ∙ c.self.invariant.powers_are j (omega arith) ∙ ap
           (λ (k : ℕ). k ^ j) same;
       next = subst (λ (k : ℕ). code * q ^ j + q ^ j ≤ q ^ k) (sym plus_one) (omega arith);

@@ -1,8 +1,9 @@
 use Rattle.std.proofs.Common.{◌≡◌, ◌<◌, ◌≤◌, ◌+◌, ◌*◌, ◌^◌, ◌∙◌, [], length, slice_index_or, sym, subst, ap, arith}
+use Rattle.std.proofs.lemmas.List.{get_or_default}
 use Rattle.fx_points.specs.Points.{has}
 use Rattle.fx_barred.specs.Reach.{reaches}
 use Rattle.fx_barred.specs.Reached.{ReachedView}
-use Rattle.fx_barred.proofs.Tables.{place-below, at-any}
+use Rattle.fx_barred.proofs.Tables.{place-below}
 use Rattle.fx_barred.proofs.reached.Reached.points.Goals as goal
 
 pub returns : goal.returns
@@ -19,6 +20,6 @@ returns c x low =
     c.self.invariant.within left in
     let is_at : c.place.result ≡ length c.self.inside.rows.items * (c.self.inside.most + 1) + c.args.left =
     c.place.ensures ∙ ap (λ k. k * (c.self.inside.most + 1) + c.args.left) c.len.ensures.value in
-    c.index.ensures ∙ ap (λ k. slice_index_or c.self.inside.sets.items k c.index.result.now) is_at ∙ at-any
+    c.index.ensures ∙ ap (λ k. slice_index_or c.self.inside.sets.items k c.index.result.now) is_at ∙ get_or_default
     c.self.inside.sets.items _ c.index.result.now [] (omega (arith, c.self.invariant.sets_len))) in
     ap (λ s. has s x) at ∙ h ∙ ap (λ (v : ReachedView). reaches v.q v.m v.rows (length v.rows) c.args.left x) is

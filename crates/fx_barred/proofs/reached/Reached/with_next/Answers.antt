@@ -1,8 +1,9 @@
 use Rattle.std.proofs.Common.{◌≡◌, ◌<◌, ◌≤◌, ◌*◌, ◌^◌, ◌∙◌, ℕ, suc, length, sym, subst, ap, arith}
+use Rattle.std.proofs.lemmas.List.{get_or_default}
 use Rattle.std.proofs.Math.Nat.{pow-succ', mul-le-mul_left}
 use Rattle.fx_laws.proofs.Tables.{is_order-field}
 use Rattle.fx_barred.specs.Reached.{ReachedView}
-use Rattle.fx_barred.proofs.Tables.{at-any, power-fits}
+use Rattle.fx_barred.proofs.Tables.{power-fits}
 use Rattle.fx_barred.proofs.reached.Reached.with_next.Goals as goal
 
 pub overflow_add-result : goal.overflow_add-result
@@ -14,7 +15,7 @@ overflow_add-result c =
     let word : c.args.number < s.sums.q ^ n =
     subst (λ (v : ReachedView). c.args.number < v.q ^ length v.rows) (sym c.self.view_is) c.requires.word in
     let read : c.index.result.now ≡ s.sums.q ^ c.len.result =
-    c.index.ensures ∙ at-any s.powers.items c.len.result c.index.result.now 0
+    c.index.ensures ∙ get_or_default s.powers.items c.len.result c.index.result.now 0
     (omega (arith, c.len.ensures.value, c.self.invariant.powers_len, space)) ∙ c.self.invariant.powers_are
     c.len.result (omega (arith, c.len.ensures.value, space)) in
     let at : c.index.result.now ≡ s.sums.q ^ n = read ∙ ap (λ k. s.sums.q ^ k) c.len.ensures.value in

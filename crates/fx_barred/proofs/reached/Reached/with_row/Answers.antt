@@ -1,12 +1,12 @@
 use Rattle.std.proofs.Common.{◌≡◌, ◌<◌, ◌+◌, ◌*◌, ◌^◌, ◌∙◌, ℕ, length, slice_index, slice_index_or, sym, subst, ap}
 use Rattle.std.proofs.Common.{arith}
+use Rattle.std.proofs.lemmas.List.{get_or_default}
 use Rattle.fx_points.specs.Sums.{sum_of}
 use Rattle.fx_points.proofs.Additions.{sum_multiple}
 use Rattle.fx_laws.proofs.Tables.{is_order-field}
 use Rattle.fx_barred.specs.Reach.{with_row}
 use Rattle.fx_barred.specs.Reached.{ReachedView}
 use Rattle.fx_barred.proofs.Firsts.{with-none}
-use Rattle.fx_barred.proofs.Tables.{at-any}
 use Rattle.fx_barred.proofs.reached.Reached.with_row.Goals as goal
 
 pub returns-then-c-eq0-clause-total : goal.returns-then-c-eq0-clause-total
@@ -30,7 +30,7 @@ returns-clause-total c =
     let some : 0 < code = omega (arith, c.if-c-eq0.false) in
     let multiple : c.index.result.now ≡ sum_of s.sums.q code s.sums.m 0 (slice_index s.rows.items c.args.j) =
     c.index.ensures ∙ ap (λ k. slice_index_or s.multiples.items (9 * c.args.j + k) c.index.result.now) c.from.ensures
-    ∙ at-any s.multiples.items (9 * c.args.j + code) c.index.result.now 0
+    ∙ get_or_default s.multiples.items (9 * c.args.j + code) c.index.result.now 0
     (omega (arith, c.self.invariant.multiples_len, c.self.invariant.within, c.self.invariant.small, low, code_low)) ∙
     c.self.invariant.multiples_are c.args.j low code some code_low in
     subst (λ (v : ReachedView). c.plus.result ≡ with_row v.q v.m v.rows c.args.j c.args.x code) c.self.view_is

@@ -1,8 +1,8 @@
 use Rattle.std.proofs.Common.{◌≡◌, ◌≤◌, ◌+◌, ℕ, List, [], ◌∙◌, replicate, slice_index, sym, subst, ap, arith}
+use Rattle.std.proofs.lemmas.List.{get_or-replicate}
 use Rattle.fx_vectors.specs.Matrix.{MatrixView}
 use Rattle.fx_vectors.specs.declared.shape.Shape.{Shape}
 use Rattle.fx_words.specs.Tables.{AreOf, AreCounts}
-use Rattle.fx_words.proofs.Starts.{at-alike}
 use Rattle.fx_words.proofs.tally.Tally.new.Goals as goal
 
 pub invariant_of-result : goal.invariant_of-result
@@ -10,7 +10,8 @@ invariant_of-result c =
     let s : Shape = c.args.shape in
     let made : List ℕ = replicate 41 (c.from.result + 1) in
     let full : (k : ℕ) → k ≤ s.s → slice_index made k ≡ s.s + 1 =
-    λ k hk. at-alike 41 (c.from.result + 1) k (omega (arith, c.requires.factors)) ∙ ap (λ n. n + 1) c.from.ensures
+    λ k hk. get_or-replicate 41 k (c.from.result + 1) 0 (omega (arith, c.requires.factors)) ∙ ap (λ n. n + 1)
+    c.from.ensures
     in
     let start : AreCounts s c.in_ok-classes.classes.points [] c.in_ok-counts.counts.items made =
     c.in_ok-counts.ensures made (omega (arith, c.requires.factors)) full in
