@@ -14,3 +14,4 @@ mod Commands
 pub mod Made
 pub mod GivenOptions
 mod WordFaults
+pub mod Complete

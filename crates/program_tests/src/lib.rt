@@ -5,6 +5,8 @@
 #[cfg(test)]
 mod alias;
 #[cfg(test)]
+mod complete;
+#[cfg(test)]
 mod edge;
 #[cfg(test)]
 mod plan;
