@@ -1,20 +1,15 @@
 use Rattle.std.proofs.Common.{true, false, ◌≡◌, ◌∙◌, ◌+◌, ◌-◌, ◌≤◌, ◌<◌, ◌++◌, [], ◌∷◌, ℕ, List, Option, length}
-use Rattle.std.proofs.Common.{length-append, append-nil, refl, sym, ap, subst, arith}
+use Rattle.std.proofs.Common.{length-append, append-nil, refl, sym, ap, arith}
 use Rattle.fx_designs.specs.Problems.{Problem}
 use Rattle.fx_designs.specs.Nodes.{Mark}
 use Rattle.fx_tree.specs.Ranked.{better}
 use Rattle.fx_tree.specs.Search.{ranked}
 use Rattle.fx_vectors.specs.Matrix.{MatrixView}
-use Rattle.fx_vectors.specs.Question.{problem_of}
-use Rattle.fx_vectors.specs.declared.question.Question.{Question}
-use Rattle.fx_search.specs.LotWalks.{AreAddable, IsAdded, IsOfLot}
-use Rattle.fx_search.specs.Pruning.{size_of}
+use Rattle.fx_search.specs.LotWalks.{AreAddable, IsAdded}
 use Rattle.fx_search.specs.Walks.{standing_with_best}
 use Rattle.fx_search.specs.Standing.{Standing, rows_of}
 use Rattle.fx_search.specs.declared.job.JobEnd.{JobEnd}
 use Rattle.fx_search.specs.declared.job.JobEnd.TheVariants.{Closed, Found, Spent, Cut}
-use Rattle.fx_search.specs.declared.ranked.Ranked.{Ranked}
-use Rattle.fx_search.specs.declared.walk.Walk.{Walk}
 use Rattle.fx_search.proofs.lot_walk.add.Goals as goal
 
 -- an end that is not Closed passes the limit

@@ -1,13 +1,12 @@
-use Rattle.std.proofs.Common.{Bool, true, false, ◌≡◌, ◌∙◌, ◌<◌, ◌≤◌, ◌-◌, ℕ, List, [], ◌∷◌, Option, length, refl, sym, ap}
+use Rattle.std.proofs.Common.{◌≡◌, ◌∙◌, ◌<◌, ◌-◌, ℕ, [], ◌∷◌, length, refl, sym}
+use Rattle.std.proofs.Common.{ap}
 use Rattle.std.proofs.Common.{subst, rules}
 use Rattle.std.proofs.lemmas.List.{nil_from_length}
 use Rattle.std.specs.Vec.Iter.{into_iter_items, into_iter_len}
-use Rattle.fx_designs.specs.Nodes.{Mark}
-use Rattle.fx_search.specs.LotWalks.{AreAddable, IsAdded}
+use Rattle.fx_search.specs.LotWalks.{AreAddable}
 use Rattle.fx_search.specs.Walks.{standing_with_best}
 use Rattle.fx_search.specs.Pruning.{size_of}
 use Rattle.fx_search.specs.Standing.{Standing}
-use Rattle.fx_search.specs.declared.job.JobEnd.{JobEnd}
 use Rattle.fx_search.specs.declared.ranked.Ranked.{Ranked}
 use Rattle.fx_search.proofs.Adding.{adding-start, adding-one, adding-next, adding-many, adding-all}
 use Rattle.fx_search.proofs.lot_walk.add_all.Goals as goal
