@@ -1,6 +1,5 @@
 ghost use Rattle.std.specs.Prelude.{◌≡◌, ◌<◌, ◌≤◌, ◌+◌, ◌⊎◌, [], true, false, length, take, IfOk, OnOk};
 ghost use Rattle.std.specs.Option.{option_copied};
-ghost use Rattle.fx_designs.specs.Demands.{is_allowed};
 ghost use Rattle.fx_designs.specs.Jobs.{best_before};
 ghost use Rattle.fx_designs.specs.Nodes.{parent};
 ghost use Rattle.fx_tree.specs.Laws.{IsJob};
@@ -10,14 +9,13 @@ ghost use Rattle.fx_vectors.specs.Question.{problem_of};
 ghost use Rattle.fx_search.specs.Ends.{IsOver};
 ghost use Rattle.fx_search.specs.JobEnds.{IsJobEnd, IsSized};
 ghost use Rattle.fx_search.specs.SearchPieces.{IsPiece, IsPieceEnd, piece_candidates};
-ghost use Rattle.fx_search.specs.Pruning.{size_of};
 ghost use Rattle.fx_search.specs.Walks.{IsAt, IsReadyAfter, IsWhole, standing_with_best, standing_without_best};
 ghost use Rattle.fx_search.specs.Standing.{FitsDimensions, HasDimensions, kept_rows, rows_of};
 
 use crate::best::Best;
 use crate::cutter::Cutter;
 use crate::incumbent::Incumbent;
-use crate::job::{JobEnd, own, remember, without_the_last_row};
+use crate::job::{JobEnd, own, remember};
 use crate::ranked::Ranked;
 use crate::unranked::Unranked;
 use crate::walk::{End, Walk};
@@ -155,8 +153,7 @@ impl<'a, I: Incumbent> Walk<'a, I> {
             IfOk result (IsOver I.standing self.old.question.now (parent part.now.rows) part.now.rows
             (piece_candidates p part.now.rows) limit (C.stopped cutter.new) [] self.new) }
     {
-        let above = without_the_last_row(part);
-        self.go_to(&above)?;
+        self.go_to_parent(part)?;
         self.marks = Marks::new(self.alloc);
         let row = part.row(part.len() - 1);
         self.limit = limit as usize;
@@ -164,35 +161,34 @@ impl<'a, I: Incumbent> Walk<'a, I> {
         self.walk_child(front, row, cutter)
     }
 
-    /// Goes to a prefix that is empty or allowed, and not whole.
-    fn go_to(&mut self, prefix: &Matrix) -> Result<(), NoMemory>
+    /// Goes to a piece without its last row.
+    fn go_to_parent(&mut self, piece: &Matrix) -> Result<(), NoMemory>
         requires at { IsAt I.standing self.old.question.now self.old }
-        requires shape { prefix.now.shape ≡ self.old.question.now.shape }
-        requires part { length prefix.now.rows < size_of (problem_of self.old.question.now) }
-        requires allowed { let p = problem_of self.old.question.now in
-            (length prefix.now.rows ≡ 0) ⊎ (is_allowed p.dimensions p.requirement prefix.now.rows ≡ true) }
+        requires piece { IsPiece self.old.question.now piece.now }
         ensures question { self.new.question ≡ self.old.question }
         ensures at { OnOk result (IsAt I.standing self.old.question.now self.new) }
-        ensures rows { OnOk result (self.new.prefix.rows ≡ prefix.now.rows) }
+        ensures rows { OnOk result (self.new.prefix.rows ≡ parent piece.now.rows) }
         ensures best { OnOk result ((I.standing self.new.incumbent).best ≡ (I.standing self.old.incumbent).best) }
     {
-        let same = self.common(prefix);
+        let count = piece.len() - 1;
+        let same = self.common(piece, count);
         while self.prefix.len() > same {
-            let _row = self.leave();
+            self.leave();
         }
-        for i in same..prefix.len() {
-            self.push(prefix.row(i))?;
+        for i in same..count {
+            self.push(piece.row(i))?;
         }
         Ok(())
     }
 
-    /// How many first rows it has in common with a matrix.
-    fn common(&self, other: &Matrix) -> usize
+    /// How many of the first `count` rows of a matrix it begins with.
+    fn common(&self, other: &Matrix, count: usize) -> usize
+        requires { count ≤ length other.now.rows }
         ensures own { result ≤ length self.now.prefix.rows }
-        ensures other { result ≤ length other.now.rows }
+        ensures other { result ≤ count }
         ensures same { take result self.now.prefix.rows ≡ take result other.now.rows }
     {
-        let most = self.prefix.len().min(other.len());
+        let most = self.prefix.len().min(count);
         for i in 0..most {
             if self.prefix.row(i) != other.row(i) {
                 return i;

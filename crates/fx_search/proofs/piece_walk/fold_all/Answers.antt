@@ -1,4 +1,4 @@
-use Rattle.std.proofs.Common.{◌≡◌, ◌∙◌, ◌≤◌, ℕ, List, [], ◌∷◌, length, refl, sym, ap, subst, arith, rules}
+use Rattle.std.proofs.Common.{◌≡◌, ◌∙◌, ℕ, List, [], ◌∷◌, length, sym, ap, arith, rules}
 use Rattle.std.proofs.lemmas.List.{nil_from_length}
 use Rattle.std.specs.Vec.Iter.{into_iter_items, into_iter_len}
 use Rattle.fx_designs.specs.Nodes.{Mark}
@@ -67,7 +67,8 @@ loop-piece-preserved c =
           (c.in-Some-next.end ∷ into_iter_items c.next-in-loop-piece.new.self) now =
           rw (steps, more) at was.0 in
           let both =
-          one question tail marks (into_iter_items c.next.new.self) (into_iter_items c.next-in-loop-piece.new.self) here in
+          one question tail marks (into_iter_items c.next.new.self) (into_iter_items c.next-in-loop-piece.new.self) here
+          in
           (both.0, omega (arith, was.1, both.1, ap length steps)));
     }
 

@@ -1,12 +1,12 @@
 use Rattle.std.proofs.Common.{◌≡◌, ◌<◌, ◌+◌, ◌-◌, [], ℕ, List, None, length, length-append, sym, ap}
-use Rattle.std.proofs.Common.{subst, ◌∙◌, arith}
+use Rattle.std.proofs.Common.{arith}
 use Rattle.fx_designs.specs.Nodes.{Mark}
 use Rattle.fx_designs.specs.Problems.{Problem}
-use Rattle.fx_tree.specs.Search.{search_tree, search_mark}
+use Rattle.fx_tree.specs.Search.{search_tree}
 use Rattle.fx_laws.proofs.Tables.{is_order-field}
 use Rattle.fx_vectors.specs.declared.question.Question.{Question}
 use Rattle.fx_vectors.specs.Question.{problem_of}
-use Rattle.fx_search.specs.Ends.{IsFound, IsClosed, IsSpent}
+use Rattle.fx_search.specs.Ends.{IsSpent}
 use Rattle.fx_search.specs.Asked.{IsRight}
 use Rattle.fx_search.specs.LotWalks.{candidates_of}
 use Rattle.fx_search.specs.SearchPieces.{IsAhead, IsAtEnd, IsPlacedAt, IsFoldedTo, AreFolded}
@@ -32,7 +32,8 @@ folded-to : (w : Walk Unranked) (pieces : List Piece) (marks : List Mark) (ends 
     (f : Folded) → IsAhead w pieces marks → ArePieceEnds w.question.now (w.limit - length w.marks) 0 pieces ends
     → AreFolded w.limit pieces ends w.marks new f
     → IsFoldedTo w.question.now w.limit (rest-at w) marks [] [] (length w.marks + length pieces) new f
-folded-to w pieces marks ends new f h are folded = folded w.question.now (rest-at w) marks (start-folding w pieces marks ends h are)
+folded-to w pieces marks ends new f h are folded =
+    folded w.question.now (rest-at w) marks (start-folding w pieces marks ends h are)
 
 -- there are more nodes than the limit
 spent-right : (w : Walk Unranked) → IsPlacedAt w

@@ -1,9 +1,7 @@
 use Rattle.std.proofs.Common.{◌≡◌, ◌<◌, ◌-◌, ◌^◌, ◌++◌, ◌∷◌, [], ℕ, List, length, slice_index, true, sym, ap}
 use Rattle.std.proofs.Common.{subst}
-use Rattle.std.proofs.Common.{◌∙◌, ◌⊎◌, ⊎_elim, inl, inr, arith}
+use Rattle.std.proofs.Common.{◌∙◌, arith}
 use Rattle.std.proofs.lemmas.List.{length-take-le}
-use Rattle.fx_designs.specs.Problems.{Problem}
-use Rattle.fx_designs.specs.Demands.{is_allowed}
 use Rattle.fx_designs.specs.Nodes.{parent, last_row}
 use Rattle.fx_tree.specs.Search.{search_tree}
 use Rattle.fx_vectors.specs.declared.question.Question.{Question}
@@ -11,7 +9,6 @@ use Rattle.fx_vectors.specs.declared.shape.Shape.{Shape}
 use Rattle.fx_vectors.specs.Question.{IsValid, problem_of}
 use Rattle.fx_search.specs.declared.walk.Walk.{Walk}
 use Rattle.fx_search.proofs.Begins.{split-last}
-use Rattle.fx_search.proofs.Starts.{expanded-allowed}
 use Rattle.fx_search.proofs.Valid.{law_of}
 use Rattle.fx_search.proofs.walk.Walk.walk_part.Goals as goal
 
@@ -23,34 +20,13 @@ parent-canonical question valid j some can =
     (law_of question valid).canonical (parent j) (last_row j)
     (ap (search_tree (problem_of question)).canonical (split-last j some) ∙ can)
 
-pub go_to-requires-clause-part : goal.go_to-requires-clause-part
-go_to-requires-clause-part g c =
-    let j : List ℕ = c.args.part.now.rows in
-    let h = c.requires.part in
-    omega (
-      arith,
-      h.fits,
-      h.some,
-      ap length (ap (λ m. m.rows) c.without_the_last_row-above.ensures),
-      length-take-le (length j - 1) j (omega arith),
-    )
-
-pub go_to-requires-clause-allowed : goal.go_to-requires-clause-allowed
-go_to-requires-clause-allowed g c =
-    let p : Problem = problem_of c.args.self.now.question.now in
-    let j : List ℕ = c.args.part.now.rows in
-    let above : c.without_the_last_row-above.result.rows ≡ parent j =
-    ap (λ m. m.rows) c.without_the_last_row-above.ensures in
-    subst (λ l. (length l ≡ 0) ⊎ (is_allowed p.dimensions p.requirement l ≡ true)) (sym above)
-    (⊎_elim (λ none. inl none) (λ e. inr (expanded-allowed p (parent j) e)) c.requires.part.open_)
-
 pub front-front-requires-clause-canonical : goal.front-front-requires-clause-canonical
 front-front-requires-clause-canonical g c =
     let question : Question = c.args.self.now.question.now in
-    let v : Walk g.row.I.Denot = c.go_to.new.self in
+    let v : Walk g.row.I.Denot = c.go_to_parent.new.self in
     let j : List ℕ = c.args.part.now.rows in
-    let there = c.in_ok-go_to.ensures in
-    rw (there.at.question_is, there.rows, c.without_the_last_row-above.ensures)
+    let there = c.in_ok-go_to_parent.ensures in
+    rw (there.at.question_is, there.rows)
     (parent-canonical question c.requires.at.valid j c.requires.part.some c.requires.part.canonical)
 
 -- the rows of a walk at the parent of a prefix, with the last row of that
@@ -63,11 +39,11 @@ whole rows j row n some is last count =
 pub walk_child-requires-clause-child : goal.walk_child-requires-clause-child
 walk_child-requires-clause-child g c =
     let question : Question = c.args.self.now.question.now in
-    let v : Walk g.row.I.Denot = c.go_to.new.self in
+    let v : Walk g.row.I.Denot = c.go_to_parent.new.self in
     let j : List ℕ = c.args.part.now.rows in
     let h = c.requires.part in
-    let there = c.in_ok-go_to.ensures in
-    let rows : v.prefix.rows ≡ parent j = there.rows ∙ ap (λ m. m.rows) c.without_the_last_row-above.ensures in
+    let there = c.in_ok-go_to_parent.ensures in
+    let rows : v.prefix.rows ≡ parent j = there.rows in
     rw there.at.question_is
     (record {
       part = omega (arith, h.fits, h.some, ap length rows, length-take-le (length j - 1) j (omega arith));
@@ -80,11 +56,11 @@ walk_child-requires-clause-child g c =
 pub walk_child-requires-clause-best : goal.walk_child-requires-clause-best
 walk_child-requires-clause-best g c =
     let question : Question = c.args.self.now.question.now in
-    let v : Walk g.row.I.Denot = c.go_to.new.self in
+    let v : Walk g.row.I.Denot = c.go_to_parent.new.self in
     let j : List ℕ = c.args.part.now.rows in
     let row : ℕ = c.row-row.result in
-    let there = c.in_ok-go_to.ensures in
-    let rows : v.prefix.rows ≡ parent j = there.rows ∙ ap (λ m. m.rows) c.without_the_last_row-above.ensures in
+    let there = c.in_ok-go_to_parent.ensures in
+    let rows : v.prefix.rows ≡ parent j = there.rows in
     let is = whole v.prefix.rows j row c.len.result c.requires.part.some rows c.row-row.ensures.row c.len.ensures.count
     in
     rw (there.at.question_is, is, there.best) c.requires.best
@@ -92,23 +68,23 @@ walk_child-requires-clause-best g c =
 pub walk_child-requires-clause-inside : goal.walk_child-requires-clause-inside
 walk_child-requires-clause-inside g c =
     let question : Question = c.args.self.now.question.now in
-    let v : Walk g.row.I.Denot = c.go_to.new.self in
+    let v : Walk g.row.I.Denot = c.go_to_parent.new.self in
     let j : List ℕ = c.args.part.now.rows in
-    let there = c.in_ok-go_to.ensures in
-    let rows : v.prefix.rows ≡ parent j = there.rows ∙ ap (λ m. m.rows) c.without_the_last_row-above.ensures in
+    let there = c.in_ok-go_to_parent.ensures in
+    let rows : v.prefix.rows ≡ parent j = there.rows in
     rw there.at.question_is
     (λ e. omega (arith, c.requires.inside e, ap length rows, length-take-le (length j - 1) j (omega arith)))
 
 pub returns-clause-ended : goal.returns-clause-ended
 returns-clause-ended g c =
     let question : Question = c.args.self.now.question.now in
-    let v : Walk g.row.I.Denot = c.go_to.new.self in
+    let v : Walk g.row.I.Denot = c.go_to_parent.new.self in
     let u : Walk g.row.I.Denot = c.walk_child.new.self in
     let j : List ℕ = c.args.part.now.rows in
     let row : ℕ = c.row-row.result in
-    let there = c.in_ok-go_to.ensures in
+    let there = c.in_ok-go_to_parent.ensures in
     let stopped = g.C.Cutter.stopped c.walk_child.new.cutter in
-    let rows : v.prefix.rows ≡ parent j = there.rows ∙ ap (λ m. m.rows) c.without_the_last_row-above.ensures in
+    let rows : v.prefix.rows ≡ parent j = there.rows in
     let is = whole v.prefix.rows j row c.len.result c.requires.part.some rows c.row-row.ensures.row c.len.ensures.count
     in
     rw (there.at.question_is, is, rows, c.new.ensures) at c.walk_child.ensures.ended
