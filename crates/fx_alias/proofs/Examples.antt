@@ -16,14 +16,14 @@ use Rattle.fx_settings.specs.declared.settings.Size.TheVariants.{Runs, Minimum}
 use Rattle.fx_settings.specs.declared.settings.Criterion.TheVariants as criterion
 use Rattle.fx_settings.specs.declared.settings.Blocks.TheVariants.{Without}
 use Rattle.fx_statements.specs.Goals.{Goal, AtLeast, Highest, ForEffects}
-use Rattle.fx_statements.specs.Steps.{Meaning}
+use Rattle.fx_statements.specs.Steps.{Meaning, examine_of}
 use Rattle.fx_alias.specs.Aliasing.{alias_section}
 use Rattle.fx_alias.specs.Blocked.{blocked_section}
 use Rattle.fx_alias.specs.Points.{design_section}
 use Rattle.fx_alias.specs.Heads.{head_lines}
 use Rattle.fx_alias.specs.Products.{product}
 use Rattle.fx_alias.specs.ComponentOrder.{is_before}
-use Rattle.fx_alias.specs.Rules.{rule_line, rules}
+use Rattle.fx_alias.specs.Rules.{rule_line, rules_section}
 use Rattle.fx_designs.specs.Canonical.{is_canonical}
 use Rattle.fx_designs.specs.Spans.{in_span}
 use Rattle.fx_designs.specs.Problems.{AtResolution}
@@ -43,7 +43,7 @@ step_of s size goal least = record {
   settings =
       record { q = 2; budget = 1000000; size = size; criterion = criterion.Highest; least = least; blocks = Without };
   goal = goal;
-  examine = record { aliasing = false; blocked = false; design = false; aberration = false };
+  examine = examine_of [];
   outputs = [];
 }
 
@@ -123,16 +123,16 @@ products = (refl, refl, refl)
 -- coefficients and products of up to nine levels; a row that is zero; rows that all introduce a run index, and one
 -- that introduces the second after a row that is zero
 rules_of_rows :
-    (rules (size 7 3 4) (codes "A" ∷ codes "B" ∷ codes "C" ∷ codes "D" ∷ []) (1 ∷ 7 ∷ 49 ∷ 69 ∷ [])
+    (rules_section (size 7 3 4) (codes "A" ∷ codes "B" ∷ codes "C" ∷ codes "D" ∷ []) (1 ∷ 7 ∷ 49 ∷ 69 ∷ [])
     ≡ codes "rules\n  D = A^6*B^2*C\n")
-    × (rules (size 8 2 4) (codes "A" ∷ codes "B" ∷ codes "C" ∷ codes "D" ∷ []) (1 ∷ 8 ∷ 15 ∷ 12 ∷ [])
+    × (rules_section (size 8 2 4) (codes "A" ∷ codes "B" ∷ codes "C" ∷ codes "D" ∷ []) (1 ∷ 8 ∷ 15 ∷ 12 ∷ [])
     ≡ codes "rules\n  C = A^7*B\n  D = A^4*B\n")
-    × (rules (size 9 2 4) (codes "A" ∷ codes "B" ∷ codes "C" ∷ codes "D" ∷ []) (1 ∷ 9 ∷ 17 ∷ 9 ∷ [])
+    × (rules_section (size 9 2 4) (codes "A" ∷ codes "B" ∷ codes "C" ∷ codes "D" ∷ []) (1 ∷ 9 ∷ 17 ∷ 9 ∷ [])
     ≡ codes "rules\n  C = A^8*B\n  D = B\n")
-    × (rules (size 2 2 3) (codes "Speed" ∷ codes "Feed" ∷ codes "C" ∷ []) (1 ∷ 0 ∷ 2 ∷ [])
+    × (rules_section (size 2 2 3) (codes "Speed" ∷ codes "Feed" ∷ codes "C" ∷ []) (1 ∷ 0 ∷ 2 ∷ [])
     ≡ codes "rules\n  Feed = 0\n")
-    × (rules (size 2 2 2) (codes "A" ∷ codes "B" ∷ []) (1 ∷ 2 ∷ []) ≡ codes "rules\n  none\n")
-    × (rules (size 2 2 4) (codes "A" ∷ codes "B" ∷ codes "C" ∷ codes "D" ∷ []) (1 ∷ 0 ∷ 2 ∷ 3 ∷ [])
+    × (rules_section (size 2 2 2) (codes "A" ∷ codes "B" ∷ []) (1 ∷ 2 ∷ []) ≡ codes "rules\n  none\n")
+    × (rules_section (size 2 2 4) (codes "A" ∷ codes "B" ∷ codes "C" ∷ codes "D" ∷ []) (1 ∷ 0 ∷ 2 ∷ 3 ∷ [])
     ≡ codes "rules\n  B = 0\n  D = A*C\n")
 unfolding digits
 rules_of_rows = (refl, refl, refl, refl, refl, refl)
@@ -140,15 +140,15 @@ rules_of_rows = (refl, refl, refl, refl, refl, refl)
 -- Block factors come after the factors. One that introduces a run index is that run factor, and the products after it
 -- have its name.
 rules_of_blocks :
-    (rules (in_blocks 2 3 3 1) (codes "A" ∷ codes "B" ∷ codes "C" ∷ []) (1 ∷ 2 ∷ 4 ∷ 7 ∷ [])
+    (rules_section (in_blocks 2 3 3 1) (codes "A" ∷ codes "B" ∷ codes "C" ∷ []) (1 ∷ 2 ∷ 4 ∷ 7 ∷ [])
     ≡ codes "rules\n  [1] = A*B*C\n")
-    × (rules (in_blocks 2 3 3 2) (codes "A" ∷ codes "B" ∷ codes "C" ∷ []) (1 ∷ 2 ∷ 4 ∷ 6 ∷ 5 ∷ [])
+    × (rules_section (in_blocks 2 3 3 2) (codes "A" ∷ codes "B" ∷ codes "C" ∷ []) (1 ∷ 2 ∷ 4 ∷ 6 ∷ 5 ∷ [])
     ≡ codes "rules\n  [1] = B*C\n  [2] = A*C\n")
-    × (rules (in_blocks 3 3 3 3) (codes "A" ∷ codes "B" ∷ codes "C" ∷ []) (1 ∷ 3 ∷ 4 ∷ 9 ∷ 15 ∷ 0 ∷ [])
+    × (rules_section (in_blocks 3 3 3 3) (codes "A" ∷ codes "B" ∷ codes "C" ∷ []) (1 ∷ 3 ∷ 4 ∷ 9 ∷ 15 ∷ 0 ∷ [])
     ≡ codes "rules\n  C = A*B\n  [1] = run factor 3\n  [2] = B^2*[1]\n  [3] = 0\n")
-    × (rules (in_blocks 2 3 1 2) (codes "A" ∷ []) (1 ∷ 2 ∷ 4 ∷ [])
+    × (rules_section (in_blocks 2 3 1 2) (codes "A" ∷ []) (1 ∷ 2 ∷ 4 ∷ [])
     ≡ codes "rules\n  [1] = run factor 2\n  [2] = run factor 3\n")
-    × (rules (in_blocks 2 10 1 10) (codes "A" ∷ []) (1 ∷ 1 ∷ 1 ∷ 1 ∷ 1 ∷ 1 ∷ 1 ∷ 1 ∷ 1 ∷ 1 ∷ 2 ∷ [])
+    × (rules_section (in_blocks 2 10 1 10) (codes "A" ∷ []) (1 ∷ 1 ∷ 1 ∷ 1 ∷ 1 ∷ 1 ∷ 1 ∷ 1 ∷ 1 ∷ 1 ∷ 2 ∷ [])
     ≡ codes "rules\n  [1] = A\n  [2] = A\n  [3] = A\n  [4] = A\n  [5] = A\n  [6] = A\n  [7] = A\n  [8] = A\n  [9] = A\n  [10] = run factor 2\n")
 unfolding digits
 rules_of_blocks = (refl, refl, refl, refl, refl)

@@ -9,7 +9,8 @@ use Rattle.fx_vectors.specs.Shape.{dimensions_of}
 use Rattle.fx_vectors.specs.Matrix.{MatrixView}
 use Rattle.fx_statements.specs.Endings.{HasMatrix, rows_if, rows_of}
 use Rattle.fx_statements.specs.Steps.{Meaning}
-use Rattle.fx_alias.specs.Heads.{budget_line, claim_of, matrix_lines, nodes_line, outcome_lines, resolution_line}
+use Rattle.fx_alias.specs.Heads.{budget_line, resolution_claim, matrix_lines, nodes_line, outcome_lines}
+use Rattle.fx_alias.specs.Heads.{resolution_line}
 
 -- no weight has a word
 pub no-words : (claim : List ℕ) (a : List ℕ) → length a < resolution_of a
@@ -19,9 +20,9 @@ no-words claim a h = sym (cond-true _ (codes "no defining words\n") _ (lt-ltb (l
 -- the lines of a search that ended with a design
 pub design-lines : (step : Meaning) (shape : Shape) (matrix : Option MatrixView) (n : ℕ)
     → HasMatrix shape (Design (rows_of matrix) n) matrix
-    → matrix_lines [] (claim_of step) matrix ++ nodes_line n
+    → matrix_lines [] (resolution_claim step) matrix ++ nodes_line n
     ≡ outcome_lines step (dimensions_of shape) (Design (rows_of matrix) n)
-design-lines step shape matrix n h = ap (λ o. matrix_lines [] (claim_of step) o ++ nodes_line n) h.0
+design-lines step shape matrix n h = ap (λ o. matrix_lines [] (resolution_claim step) o ++ nodes_line n) h.0
 
 -- the lines of a budget that ended
 pub budget-lines : (step : Meaning) (shape : Shape) (matrix : Option MatrixView) (n : ℕ)

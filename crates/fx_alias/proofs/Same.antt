@@ -8,7 +8,7 @@ use Rattle.std.proofs.lemmas.List.FromFn.{length-map-range_with_len, get_or-map-
 use Rattle.std.proofs.lemmas.List.Elements.{filter_agree}
 use mathlib.Core.Bool.{not-not}
 use Rattle.fx_base.proofs.Numbers.{eqb_comm}
-use Rattle.fx_base.proofs.Lists.{filter_agree_each, list_any_agree}
+use Rattle.fx_base.proofs.Lists.{filter_agree_each, list_any_agree, each-append}
 use Rattle.fx_base.proofs.Ranges.{each-range}
 use Rattle.fx_alias.specs.Classes.{numbered_behind}
 use Rattle.fx_alias.proofs.Walk.{is_first, added, filter_mapped, numbered_mapped}
@@ -37,11 +37,6 @@ module _ (f g : ℕ → ℕ) where
   tests k l [] e h = tt
   tests k l (x ∷ xs) e h = (ap₂ eqb e h.0, tests k l xs e h.1)
 
-  snoc : (xs : List ℕ) (x : ℕ) → AllByRecursion (λ x. f x ≡ g x) xs → f x ≡ g x
-      → AllByRecursion (λ x. f x ≡ g x) (xs ++ x ∷ [])
-  snoc [] x h e = (e, tt)
-  snoc (y ∷ xs) x h e = (h.0, snoc xs x h.1 e)
-
   -- numbers that are the same give the same classes
   pub numbered_same : (items before rest : List ℕ) → AllByRecursion (λ x. f x ≡ g x) items
       → AllByRecursion (λ x. f x ≡ g x) before → AllByRecursion (λ x. f x ≡ g x) rest
@@ -53,7 +48,7 @@ module _ (f g : ℕ → ℕ) where
       (ap₂ (λ (a b : Bool). a || b) (ap (λ (z : ℕ). eqb z 0) r.0)
       (any_each (λ v. eqb (f x) (f v)) (λ v. eqb (g x) (g v)) before (tests (f x) (g x) before r.0 k)))
       (filter_agree_each (λ v. eqb (f x) (f v)) (λ v. eqb (g x) (g v)) items (tests (f x) (g x) items r.0 h)))
-      (numbered_same items (before ++ x ∷ []) rest h (snoc before x k r.0) r.1)
+      (numbered_same items (before ++ x ∷ []) rest h (each-append (λ x. f x ≡ g x) before (x ∷ []) k (r.0, tt)) r.1)
 
 -- a list is what stands at its places
 pub at_all : (xs : List (List ℕ)) → map (λ i. get_or xs i []) (range_with_len 0 (length xs)) ≡ xs

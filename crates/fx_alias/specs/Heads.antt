@@ -59,8 +59,8 @@ highest_claim Highest = codes " highest"
 highest_claim (ForEffects estimate nonnegligible) = []
 
 -- what is claimed of the resolution of a step's design: that the pattern is the least, or that it is the highest
-abbrev pub claim_of : Meaning → List ℕ
-claim_of step = if step.settings.least then codes " least aberration" else highest_claim step.goal
+abbrev pub resolution_claim : Meaning → List ℕ
+resolution_claim step = if step.settings.least then codes " least aberration" else highest_claim step.goal
 
 -- a design and its resolution, with a caveat on the one and a claim on the other
 abbrev pub design_lines : List ℕ → List ℕ → Dimensions → List ℕ → List ℕ
@@ -73,7 +73,7 @@ matrix_lines caveat claim (Some matrix) = design_lines caveat claim (dimensions_
 
 -- how the search of the step ended, with its design, if any; and the number of nodes of a finished search
 abbrev pub outcome_lines : Meaning → Dimensions → Ending → List ℕ
-outcome_lines step d (Design rows count) = design_lines [] (claim_of step) d rows ++ nodes_line count
+outcome_lines step d (Design rows count) = design_lines [] (resolution_claim step) d rows ++ nodes_line count
 outcome_lines step d (NoDesign count) = no_design_line step.settings.size d ++ nodes_line count
 outcome_lines step d (BudgetEnded None budget) = budget_line budget
 outcome_lines step d (BudgetEnded (Some rows) budget) =

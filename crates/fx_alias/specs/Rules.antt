@@ -71,8 +71,9 @@ or_none [] = codes "  none\n"
 or_none (b ∷ lines) = b ∷ lines
 
 -- the section of the rules of a design of these dimensions, by the names of its factors and its rows
-abbrev pub rules : Dimensions → List (List ℕ) → List ℕ → List ℕ
-rules d factors rows = codes "rules\n" ++ or_none (rule_lines d.q d.m [] (subjects factors (block_names d.t)) rows)
+abbrev pub rules_section : Dimensions → List (List ℕ) → List ℕ → List ℕ
+rules_section d factors rows =
+    codes "rules\n" ++ or_none (rule_lines d.q d.m [] (subjects factors (block_names d.t)) rows)
 
 -- the names of the rows
 abbrev pub row_names : Dimensions → List (List ℕ) → List (List ℕ)

@@ -7,12 +7,12 @@ use Rattle.fx_vectors.specs.Shape.{dimensions_of}
 use Rattle.fx_vectors.specs.Matrix.{MatrixView}
 use Rattle.fx_runs.specs.Runs.{design_of}
 use Rattle.fx_statements.specs.Steps.{Meaning}
-use Rattle.fx_alias.specs.Aliasing.{alias_section, listed}
+use Rattle.fx_alias.specs.Aliasing.{alias_section, listed_components}
 use Rattle.fx_alias.specs.Blocked.{blocked_section}
 use Rattle.fx_alias.specs.Heads.{head_lines}
 use Rattle.fx_alias.specs.Patterns.{pattern_lines}
 use Rattle.fx_alias.specs.Points.{design_section}
-use Rattle.fx_alias.specs.Rules.{rules}
+use Rattle.fx_alias.specs.Rules.{rules_section}
 
 -- the sections of a design that the step asks for, in this order: its runs, its aliases, what is confounded with
 -- blocks, its word-length pattern
@@ -21,9 +21,10 @@ examined step matrix =
     (if step.examine.design then design_section step.factors (design_of matrix) else [])
     ++ (if step.examine.aliasing
     then alias_section step.factors matrix.shape.q (design_of matrix).rows
-    (listed matrix.shape.q matrix.shape.s step.goal) else [])
+    (listed_components matrix.shape.q matrix.shape.s step.goal) else [])
     ++ (if step.examine.blocked
-    then blocked_section step.factors (design_of matrix) (listed matrix.shape.q matrix.shape.s step.goal) else [])
+    then blocked_section step.factors (design_of matrix) (listed_components matrix.shape.q matrix.shape.s step.goal)
+    else [])
     ++ (if step.examine.aberration then pattern_lines (pattern_of (dimensions_of matrix.shape) matrix.rows) else [])
 
 -- the rule matrix of these dimensions with these rows
@@ -32,7 +33,7 @@ matrix_of d rows = record { shape = record { q = d.q; m = d.m; s = d.s; t = d.t 
 
 -- what is listed of a matrix: its rules, then the lines of the step's books, and the sections that the step asks for
 abbrev pub matrix_sections : Dimensions → Meaning → List ℕ → List ℕ → List ℕ
-matrix_sections d step books rows = rules d step.factors rows ++ (books ++ examined step (matrix_of d rows))
+matrix_sections d step books rows = rules_section d step.factors rows ++ (books ++ examined step (matrix_of d rows))
 
 -- the lines after the head, with those of the books
 abbrev pub sections : Dimensions → Meaning → List ℕ → Ending → List ℕ

@@ -4,7 +4,7 @@ ghost use Rattle.fx_designs.specs.Galois.{number};
 ghost use Rattle.fx_designs.specs.Vectors.{IsVector, combination, vectors_of};
 ghost use Rattle.fx_runs.specs.Runs.{design_of};
 ghost use Rattle.fx_statements.specs.Goals.{goal_of};
-ghost use Rattle.fx_alias.specs.Aliasing.{listed};
+ghost use Rattle.fx_alias.specs.Aliasing.{listed_components};
 ghost use Rattle.fx_alias.specs.BlockSpans.{IsBlockSpan};
 ghost use Rattle.fx_alias.specs.Blocked.{blocked_section, component_line, is_blocked};
 ghost use Rattle.fx_alias.specs.Rules.{or_none};
@@ -41,7 +41,7 @@ pub fn blocked_listing(
     ensures ok { OnOk result
         (out.new
         ≡ out.old ++ blocked_section step.now.factors (design_of matrix.now)
-        (listed matrix.now.shape.q matrix.now.shape.s (goal_of step.now.wanted))) }
+        (listed_components matrix.now.shape.q matrix.now.shape.s (goal_of step.now.wanted))) }
     ensures err { OnErr result (out.new ≡ out.old) }
 {
     let mut lines = Bytes::new(alloc);
@@ -57,7 +57,7 @@ fn put_section(alloc: Global, step: &Step, matrix: &Matrix, out: &mut Bytes) -> 
     ensures { OnOk result
         (out.new
         ≡ out.old ++ blocked_section step.now.factors (design_of matrix.now)
-        (listed matrix.now.shape.q matrix.now.shape.s (goal_of step.now.wanted))) }
+        (listed_components matrix.now.shape.q matrix.now.shape.s (goal_of step.now.wanted))) }
 {
     let components = listed_components(alloc, &step.wanted, matrix.shape())?;
     let span = block_span(matrix);

@@ -6,7 +6,7 @@ ghost use Rattle.fx_vectors.specs.Shape.{IsShape, dimensions_of};
 ghost use Rattle.fx_statements.specs.Goals.{goal_of};
 ghost use Rattle.fx_statements.specs.Outcomes.{ending_in};
 ghost use Rattle.fx_statements.specs.Steps.{meaning_of};
-ghost use Rattle.fx_alias.specs.Heads.{blocks_words, budget_line, claim_of, design_line, head_lines, heading, highest_claim, matrix_lines, no_design_line, nodes_line, outcome_lines, resolution_line, runs_words};
+ghost use Rattle.fx_alias.specs.Heads.{blocks_words, budget_line, resolution_claim, design_line, head_lines, heading, highest_claim, matrix_lines, no_design_line, nodes_line, outcome_lines, resolution_line, runs_words};
 
 use fx_base::{Bytes, NoMemory, put, put_number};
 use fx_settings::greatest;
@@ -202,7 +202,7 @@ fn put_matrix(
 /// What is claimed of the resolution of a design of the step: that no pattern is less, or that no
 /// resolution is higher.
 fn claim_of(step: &Step) -> &'static [u8]
-    ensures { result.now ≡ claim_of (meaning_of step.now) }
+    ensures { result.now ≡ resolution_claim (meaning_of step.now) }
 {
     if step.least {
         b" least aberration"

@@ -1,7 +1,7 @@
 ghost use Rattle.std.specs.Prelude.{◌≡◌, ◌<◌, ◌≤◌, [], ◌++◌, All, OnOk, IfOk, true, if◌then◌else◌, length, map, codes};
 ghost use Rattle.fx_alias.specs.ClassNumbers.{at_places};
 ghost use Rattle.fx_alias.specs.Products.{product};
-ghost use Rattle.fx_alias.specs.Aliasing.{class_line, joined, mean_line};
+ghost use Rattle.fx_alias.specs.Aliasing.{class_line, equated_products, mean_line};
 
 use crate::product::put_product;
 use fx_base::{Bytes, Items, NoMemory, put};
@@ -72,7 +72,7 @@ fn put_members(
     requires there { All (λ i. i < length components.now) places.now }
     ensures { OnOk result
         (out.new ≡ out.old
-        ++ joined (map (λ n. n.now) names.now) true (at_places components.now places.now)) }
+        ++ equated_products (map (λ n. n.now) names.now) true (at_places components.now places.now)) }
 {
     let mut is_first = true;
     for i in places {

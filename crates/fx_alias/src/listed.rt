@@ -2,7 +2,7 @@ ghost use Rattle.std.specs.Prelude.{◌≡◌, All, IfOk};
 ghost use Rattle.fx_designs.specs.Vectors.{IsVector};
 ghost use Rattle.fx_vectors.specs.Shape.{IsShape};
 ghost use Rattle.fx_statements.specs.Goals.{goal_of};
-ghost use Rattle.fx_alias.specs.Aliasing.{listed};
+ghost use Rattle.fx_alias.specs.Aliasing.{listed_components};
 
 use crate::components::list_components;
 use fx_base::{Items, NoMemory};
@@ -18,7 +18,7 @@ pub(crate) fn listed_components(
 ) -> Result<Items<Vector>, NoMemory>
     requires { IsShape shape }
     ensures components { IfOk result (λ found. found
-        ≡ listed shape.q shape.s (goal_of wanted.now)) }
+        ≡ listed_components shape.q shape.s (goal_of wanted.now)) }
     ensures each { IfOk result (All (λ u. IsVector shape.q shape.s u)) }
 {
     list_components(alloc, shape.q, shape.s, listed_factors(wanted).min(shape.s))

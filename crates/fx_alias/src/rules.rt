@@ -1,7 +1,7 @@
 ghost use Rattle.std.specs.Prelude.{◌≡◌, ◌++◌, [], ◌==◌, ◌+◌, ◌<◌, ◌≤◌, ◌^◌, map, length, slice_index_or, OnErr, OnOk, IfOk};
 ghost use Rattle.fx_designs.specs.Galois.{digits};
 ghost use Rattle.fx_vectors.specs.Shape.{IsShape, dimensions_of};
-ghost use Rattle.fx_alias.specs.Rules.{block_name, block_names, introduction, left_side, or_none, rule_lines, rule_of, rules, run_factor_line, subjects};
+ghost use Rattle.fx_alias.specs.Rules.{block_name, block_names, introduction, left_side, or_none, rule_lines, rule_of, rules_section, run_factor_line, subjects};
 
 use crate::product::put_product;
 use fx_base::{Bytes, NoMemory, put, put_number};
@@ -30,7 +30,7 @@ pub fn rules_listing(
     ensures ok { OnOk result
         (out.new
         ≡ out.old
-        ++ rules (dimensions_of matrix.now.shape) step.now.factors matrix.now.rows) }
+        ++ rules_section (dimensions_of matrix.now.shape) step.now.factors matrix.now.rows) }
     ensures err { OnErr result (out.new ≡ out.old) }
 {
     let mut lines = Bytes::new(alloc);
@@ -45,7 +45,7 @@ fn put_section(alloc: Global, step: &Step, matrix: &Matrix, out: &mut Bytes) -> 
     ensures { OnOk result
         (out.new
         ≡ out.old
-        ++ rules (dimensions_of matrix.now.shape) step.now.factors matrix.now.rows) }
+        ++ rules_section (dimensions_of matrix.now.shape) step.now.factors matrix.now.rows) }
 {
     let blocks = block_names(alloc, matrix.shape().t)?;
     put(out, b"rules\n")?;

@@ -4,7 +4,7 @@ ghost use Rattle.fx_vectors.specs.Shape.{dimensions_of};
 ghost use Rattle.fx_runs.specs.Runs.{design_of};
 ghost use Rattle.fx_statements.specs.Goals.{goal_of};
 ghost use Rattle.fx_statements.specs.Steps.{meaning_of};
-ghost use Rattle.fx_alias.specs.Aliasing.{alias_section, listed};
+ghost use Rattle.fx_alias.specs.Aliasing.{alias_section, listed_components};
 ghost use Rattle.fx_alias.specs.Blocked.{blocked_section};
 ghost use Rattle.fx_alias.specs.Patterns.{pattern_lines};
 ghost use Rattle.fx_alias.specs.Points.{design_section};
@@ -88,7 +88,7 @@ fn put_aliases(alloc: Global, step: &Step, matrix: &Matrix, out: &mut Bytes) -> 
         (out.new
         ≡ out.old ++ (if step.now.examine.aliasing
         then alias_section step.now.factors matrix.now.shape.q (design_of matrix.now).rows
-        (listed matrix.now.shape.q matrix.now.shape.s (goal_of step.now.wanted)) else [])) }
+        (listed_components matrix.now.shape.q matrix.now.shape.s (goal_of step.now.wanted)) else [])) }
 {
     if step.examine.aliasing {
         alias_listing(alloc, step, matrix, out)
@@ -106,7 +106,7 @@ fn put_blocked(alloc: Global, step: &Step, matrix: &Matrix, out: &mut Bytes) -> 
         (out.new
         ≡ out.old ++ (if step.now.examine.blocked
         then blocked_section step.now.factors (design_of matrix.now)
-        (listed matrix.now.shape.q matrix.now.shape.s (goal_of step.now.wanted)) else [])) }
+        (listed_components matrix.now.shape.q matrix.now.shape.s (goal_of step.now.wanted)) else [])) }
 {
     if step.examine.blocked {
         blocked_listing(alloc, step, matrix, out)

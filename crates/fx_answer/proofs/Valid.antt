@@ -25,7 +25,7 @@ use Rattle.fx_vectors.specs.declared.effect.Effect.{Effect}
 use Rattle.fx_statements.specs.declared.step.Step.{Step}
 use Rattle.fx_statements.specs.declared.wanted.Wanted.{Wanted}
 use Rattle.fx_statements.specs.declared.wanted.Wanted.TheVariants as wanted
-use Rattle.fx_statements.specs.Goals.{Goal, AtLeast, Highest, ForEffects, criterion_of, goal_of}
+use Rattle.fx_statements.specs.Goals.{Goal, AtLeast, Highest, ForEffects, criterion_wanted, goal_of}
 use Rattle.fx_statements.specs.Valid.{CanBeWanted, HasFewEffects}
 use Rattle.fx_statements.specs.Steps.{Meaning, meaning_of}
 use Rattle.fx_statements.specs.Questions.{block_factors, highest, least_exponent, lowest, requirement_for, run_factors}
@@ -337,7 +337,7 @@ module _ (step : Meaning) (valid : IsValidStep step) where
   some_numbers n is = subst (λ k. k ≤ highest step x.size) (sym is) (at_least_one x.size refl)
 
 -- a step that is kept is valid
-kept_kind : (w : Wanted) → IsOfKind (criterion_of w) (goal_of w)
+kept_kind : (w : Wanted) → IsOfKind (criterion_wanted w) (goal_of w)
 kept_kind (wanted.Resolution r) = refl
 kept_kind wanted.Highest = tt
 kept_kind (wanted.Effects estimate others) = tt

@@ -26,13 +26,13 @@ use Rattle.fx_points.proofs.Additions.{sum-digits}
 use Rattle.fx_barred.specs.Reach.{with_row}
 use Rattle.fx_barred.specs.FirstWords.{sum_to}
 use Rattle.fx_barred.specs.declared.best_words.Best.{Best}
-use Rattle.fx_barred.specs.BestWords.{BringsToZero, IsNoWorse, IsBestWord, IsBestOf, IsBest, IsWithin, is_better}
+use Rattle.fx_barred.specs.BestWords.{BringsToZero, IsNoWorseWord, IsBestWord, IsBestOf, IsBest, IsWithin, is_better}
 use Rattle.fx_barred.specs.BestWords.{preferred, with_code}
 use Rattle.fx_barred.proofs.Firsts.{sum-before, with-none}
 use Rattle.fx_barred.proofs.EffectBars.{sum-front}
 pub use Rattle.std.proofs.lemmas.List.{take-append-le as take-before}
 
-no-worse-follows : (q : ℕ) (u v w : List ℕ) → IsNoWorse q u v → IsNoWorse q v w → IsNoWorse q u w
+no-worse-follows : (q : ℕ) (u v w : List ℕ) → IsNoWorseWord q u v → IsNoWorseWord q v w → IsNoWorseWord q u w
 no-worse-follows q u v w (inl a) (inl b) = inl (omega arith)
 no-worse-follows q u v w (inl a) (inr b) = inl (omega (arith, b.0))
 no-worse-follows q u v w (inr a) (inl b) = inl (omega (arith, a.0))
@@ -53,7 +53,7 @@ best-same P R q (Some b) to from h =
 
 -- what a comparison says
 better-is : (q : ℕ) (a b : Best) (u v : List ℕ) → weight u ≡ a.weight → number q u ≡ a.number → weight v ≡ b.weight
-    → number q v ≡ b.number → is_better a b ≡ true → IsNoWorse q v u
+    → number q v ≡ b.number → is_better a b ≡ true → IsNoWorseWord q v u
 better-is q a b u v wu nu wv nv is =
     elim (or_cases (nat_lt b.weight a.weight) ((eqb b.weight a.weight) && nat_le a.number b.number) is) [
       | inl less ↦ let l = ltb-true b.weight a.weight less in inl (omega arith)
@@ -65,7 +65,7 @@ better-is q a b u v wu nu wv nv is =
     ]
 
 not-better-is : (q : ℕ) (a b : Best) (u v : List ℕ) → weight u ≡ a.weight → number q u ≡ a.number → weight v ≡ b.weight
-    → number q v ≡ b.number → is_better a b ≡ false → IsNoWorse q u v
+    → number q v ≡ b.number → is_better a b ≡ false → IsNoWorseWord q u v
 not-better-is q a b u v wu nu wv nv is =
     elim (cases_lt b.weight a.weight) [
       | inl less ↦ absurd (both_ways _ is (or_left _ _ (lt-ltb b.weight a.weight less)))
@@ -228,7 +228,8 @@ module _ (d : Dimensions) (f : IsField d.q) (wanted : Requirement) (rows : List 
     more : (u : List ℕ) → length u ≡ n → number q (u ++ c ∷ []) ≡ number q u + c * q ^ n
     more u e = number-push q u c ∙ ap (λ (k : ℕ). number q u + c * q ^ k) e
 
-    raised : (u v : List ℕ) → length u ≡ n → length v ≡ n → IsNoWorse q u v → IsNoWorse q (u ++ c ∷ []) (v ++ c ∷ [])
+    raised : (u v : List ℕ) → length u ≡ n → length v ≡ n → IsNoWorseWord q u v
+        → IsNoWorseWord q (u ++ c ∷ []) (v ++ c ∷ [])
     raised u v ul vl (inl less) = inl (omega (arith, heavier u, heavier v))
     raised u v ul vl (inr same) =
         inr (omega (arith, same.0, heavier u, heavier v), omega (arith, same.1, more u ul, more v vl))
@@ -251,7 +252,7 @@ module _ (d : Dimensions) (f : IsField d.q) (wanted : Requirement) (rows : List 
               let brings : BringsToZero d wanted rows (sum_of q c m x r) u =
               subst (λ (k : ℕ). BringsToZero d wanted rows (sum_of q k m x r) u) hv.1 parts.brings in
               let whole : v ≡ u ++ c ∷ [] = parts.whole ∙ ap (λ (k : ℕ). u ++ k ∷ []) hv.1 in
-              subst (λ (w : List ℕ). IsNoWorse q (h.word ++ c ∷ []) w) (sym whole)
+              subst (λ (w : List ℕ). IsNoWorseWord q (h.word ++ c ∷ []) w) (sym whole)
               (raised h.word u len brings.vector.len (h.none_better u brings)));
         }
 

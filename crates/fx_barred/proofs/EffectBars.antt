@@ -23,7 +23,7 @@ use Rattle.fx_vectors.proofs.Steps.{are_vectors, drop-vector}
 use Rattle.fx_vectors.proofs.Supports.{bit}
 use Rattle.fx_vectors.specs.Question.{CanBeAsked}
 use Rattle.fx_demands.specs.declared.forbidden_list.ForbiddenVector.{ForbiddenVector}
-use Rattle.fx_demands.specs.EffectVectors.{last_factor, class_of, IsForbidden, AreAllForbidden}
+use Rattle.fx_demands.specs.EffectVectors.{last_factor, sorting_class, IsForbiddenVector, AreAllForbidden}
 use Rattle.fx_demands.specs.Completions.{IsClosing}
 use Rattle.fx_demands.proofs.Completing.{weight-append}
 use Rattle.fx_demands.proofs.Closings.{last-top, later-zeros}
@@ -256,7 +256,7 @@ module _ (d : Dimensions) (f : IsField d.q) (wanted : Requirement) (words : List
       ap (λ (b : Bool). cond b (must_balance d wanted (take d.s w))
       (is_zero (take d.s w) || is_estimated wanted (take d.s w))) none
 
-  given : (k : ℕ) → k < length words → IsForbidden d wanted (slice_index_or words k any)
+  given : (k : ℕ) → k < length words → IsForbiddenVector d wanted (slice_index_or words k any)
   given k low = all.each k any low
 
   -- a vector of the list, as a word
@@ -379,7 +379,7 @@ module _ (d : Dimensions) (f : IsField d.q) (wanted : Requirement) (words : List
     class-at : (j : ℕ) → HasSum d.q d.m rows words r goal-sum j
         → (slice_index_or words j any).class ≡ 64 * (r + 1) + weight (word j)
     class-at j h =
-        (given j h.there).class ∙ ap class_of (sym (vector-at words j any h.there)) ∙ ap
+        (given j h.there).class ∙ ap sorting_class (sym (vector-at words j any h.there)) ∙ ap
         (λ (l : ℕ). 64 * l + weight (vector_at words j)) h.last ∙ ap (λ (w : ℕ). 64 * (r + 1) + w)
         (sym (word-weight j))
 

@@ -11,7 +11,7 @@ use Rattle.fx_laws.proofs.Codes.{digits-vector, number-digits}
 use Rattle.fx_laws.proofs.Changes.{scale-none}
 use Rattle.fx_laws.proofs.Ranks.{plus-zero}
 use Rattle.fx_demands.specs.declared.forbidden_list.ForbiddenVector.{ForbiddenVector}
-use Rattle.fx_demands.specs.EffectVectors.{last_factor, class_of}
+use Rattle.fx_demands.specs.EffectVectors.{last_factor, sorting_class}
 use Rattle.fx_demands.proofs.Completing.{weight-length}
 use Rattle.fx_barred.specs.Reach.{with_row}
 use Rattle.fx_barred.specs.FirstWords.{sum_to, vector_at, HasSum, IsFirst, AreFirst, AreWords, AreFirstWords}
@@ -164,7 +164,8 @@ pub last-of-class : (q s : ℕ) (words : List ForbiddenVector) (k : ℕ) (d : Fo
 last-of-class q s words k d h small low =
     let is = h.each k d low in
     let at = vector-at words k d low in
-    let class : (slice_index_or words k d).class ≡ class_of (vector_at words k) = is.1 ∙ ap class_of (sym at) in
+    let class : (slice_index_or words k d).class ≡ sorting_class (vector_at words k) =
+    is.1 ∙ ap sorting_class (sym at) in
     let len : length (vector_at words k) ≡ s = ap length at ∙ is.0.len in
     let few = weight-length (vector_at words k) in
     (omega arith, omega arith)

@@ -17,8 +17,8 @@ pub record BringsToZero (d : Dimensions) (wanted : Requirement) (rows : List ℕ
   pub sum : sum_of d.q 1 d.m (sum_to d.q d.m rows u (length rows)) x ≡ 0
 
 -- u has less weight than v, or the same weight and no less a number
-abbrev pub IsNoWorse : ℕ → List ℕ → List ℕ → Type 0
-IsNoWorse q u v = (weight u < weight v) ⊎ ((weight u ≡ weight v) × (number q v ≤ number q u))
+abbrev pub IsNoWorseWord : ℕ → List ℕ → List ℕ → Type 0
+IsNoWorseWord q u v = (weight u < weight v) ⊎ ((weight u ≡ weight v) × (number q v ≤ number q u))
 
 -- a word of this weight and number has a property, and of those that have it none is better
 pub record IsBestWord (P : List ℕ → Type 0) (q : ℕ) (best : Best) : Type 0 where
@@ -26,7 +26,7 @@ pub record IsBestWord (P : List ℕ → Type 0) (q : ℕ) (best : Best) : Type 0
   pub holds : P word
   pub weighs : weight word ≡ best.weight
   pub counts : number q word ≡ best.number
-  pub none_better : (v : List ℕ) → P v → IsNoWorse q word v
+  pub none_better : (v : List ℕ) → P v → IsNoWorseWord q word v
 
 -- the best word that has a property, or that none has it
 abbrev pub IsBestOf : (List ℕ → Type 0) → ℕ → Option Best → Type 0

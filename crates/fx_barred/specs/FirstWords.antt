@@ -3,7 +3,7 @@ use Rattle.std.specs.Prelude.{ℕ, zero, suc, ◌≡◌, ◌<◌, ◌≤◌, ◌
 use Rattle.std.specs.Prelude.{slice_index_or, All}
 use Rattle.fx_designs.specs.Vectors.{IsVector}
 use Rattle.fx_demands.specs.declared.forbidden_list.ForbiddenVector.{ForbiddenVector}
-use Rattle.fx_demands.specs.EffectVectors.{last_factor, class_of, IsInOrder}
+use Rattle.fx_demands.specs.EffectVectors.{last_factor, sorting_class, IsInOrder}
 use Rattle.fx_barred.specs.Reach.{with_row}
 use Rattle.fx_barred.specs.Reached.{ReachedView}
 
@@ -39,7 +39,7 @@ pub record AreFirst (q m : ℕ) (rows : List ℕ) (words : List ForbiddenVector)
 
 -- vectors over s factors, with their classes, in order
 pub record AreWords (q s : ℕ) (words : List ForbiddenVector) : Type 0 where
-  pub each : All (λ word. IsVector q s word.vector × (word.class ≡ class_of word.vector)) words
+  pub each : All (λ word. IsVector q s word.vector × (word.class ≡ sorting_class word.vector)) words
   pub in_order : IsInOrder words
 
 -- what clauses see: rows of m codes of a field, at most `room` of them, and forbidden vectors over so many factors

@@ -2,7 +2,7 @@
 use Rattle.std.proofs.Common.{◌≡◌, ◌≤◌, ◌<◌, ◌^◌, ◌+◌, ℕ, Bool, true, false, Ok, get_or, suc, zero, List, [], ◌∷◌, ◌++◌}
 use Rattle.std.proofs.Common.{take, drop, length, sym, subst, ap, ap₂, ◌∙◌, refl, arith}
 use Rattle.std.proofs.lemmas.List.{append_assoc, append-nil}
-use Rattle.fx_base.proofs.Lists.{each-append}
+use Rattle.fx_base.proofs.Lists.{each-append, each-take}
 use Rattle.fx_text.specs.Written.{Written}
 use Rattle.fx_demands.specs.Bars.{bars_of, in_order, AreNumbers}
 use Rattle.fx_demands.proofs.Ordered.{has-left, has-right, in_order-has, in_order-only, in_order-sorted, sorted-shorter}
@@ -14,15 +14,6 @@ use Rattle.fx_demands.proofs.Stars.{bars-ordered}
 use Rattle.fx_effects.specs.Expressions.{Expression, begins_effect, effect_len, expression_at, expressions_from}
 use Rattle.fx_effects.specs.Expressions.{is_joining}
 use Rattle.fx_effects.specs.Lists.{effects_written, effects_of, AreSmall}
-
-pub small_more : (all : List Expression) (e : Expression) → AreSmall all → AreNumbers e.stars → AreSmall (all ++ e ∷ [])
-small_more [] e h s = (s, tt)
-small_more (x ∷ all) e h s = (h.0, small_more all e h.1 s)
-
-pub small_take : (k : ℕ) (all : List Expression) → AreSmall all → AreSmall (take k all)
-small_take zero all h = tt
-small_take (suc k) [] h = tt
-small_take (suc k) (x ∷ all) h = (h.0, small_take k all h.1)
 
 pub small_drop : (k : ℕ) (all : List Expression) → AreSmall all → AreSmall (drop k all)
 small_drop zero all h = h
@@ -90,7 +81,7 @@ cause_more xs ys NoMemory h many = tt
 module _ (all front back : List Expression) (k : ℕ) (hf : front ≡ take k all) (hb : back ≡ drop k all)
     (small : AreSmall all) where
   pub small_front : AreSmall front
-  small_front = subst AreSmall (sym hf) (small_take k all small)
+  small_front = subst AreSmall (sym hf) (each-take (λ (e : Expression). AreNumbers e.stars) k all small)
 
   pub small_back : AreSmall back
   small_back = subst AreSmall (sym hb) (small_drop k all small)

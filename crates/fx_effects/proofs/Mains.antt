@@ -10,7 +10,7 @@ use Rattle.fx_text.specs.Written.{Written}
 use Rattle.fx_text.specs.Names.{place_of}
 use Rattle.fx_text.specs.Refusals.{◌>>=◌}
 use Rattle.fx_text.proofs.Digits.{is_below}
-use Rattle.fx_text.specs.Ranges.{ending, is_plain, is_range, names_between, number_at_end, numbered}
+use Rattle.fx_text.specs.Ranges.{digits_at_end, is_plain, is_range, names_between, number_at_end, numbered}
 use Rattle.fx_text.proofs.Numbered.{from_here}
 use Rattle.fx_effects.specs.Factors.{main_of, mains_from}
 use Rattle.fx_effects.specs.Expressions.{range_at, expression}
@@ -44,9 +44,10 @@ pub whole : (factors : List (List ℕ)) (first last : Written) (mains : List ℕ
 whole factors first last mains range is = rw (range, is) refl
 
 -- a number at the end of a name has at most 38 digits
-pub number_is_short : (name : List ℕ) → is_plain (ending name) ≡ true → number_at_end name < 10 ^ 38
+pub number_is_short : (name : List ℕ) → is_plain (digits_at_end name) ≡ true → number_at_end name < 10 ^ 38
 number_is_short name plain =
     let a = and_parts _ _ plain in
     let b = and_parts _ _ a.0 in
     let c = and_parts _ _ b.0 in
-    is_below (ending name) (c.0, leb-true 1 (length (ending name)) c.1, leb-true (length (ending name)) 38 b.1)
+    is_below (digits_at_end name)
+    (c.0, leb-true 1 (length (digits_at_end name)) c.1, leb-true (length (digits_at_end name)) 38 b.1)

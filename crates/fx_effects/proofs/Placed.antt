@@ -8,7 +8,7 @@ use Rattle.fx_vectors.specs.Effects.{pair_count}
 use Rattle.fx_text.specs.Written.{Written}
 use Rattle.fx_text.specs.Names.{place_of}
 use Rattle.fx_text.specs.Numbers.{number_of}
-use Rattle.fx_text.specs.Phrases.{after, before}
+use Rattle.fx_text.specs.Phrases.{after, preceding}
 use Rattle.fx_text.specs.Ranges.{is_range, names_between, range_end}
 use Rattle.fx_effects.specs.Factors.{main_of, mains_from}
 use Rattle.fx_effects.specs.Expressions.{Expression, Reading, stars_of, read, all_read, stars_len, at_most, upto_of}
@@ -133,7 +133,8 @@ module _ (P : ℕ → ℕ → Type 0) where
       of_word : (w : Option Written) → IfSome w (IsPlaced P) → Placed P (by_word q factors w (after symbol.Open s))
       of_word None k = placed.here P 2 (record { line = 1; column = 1 }) refl front
       of_word (Some w) k =
-          two q factors w (before symbol.Close list) (first_or w rest) (before symbol.Close (after symbol.Open rest)) k
+          two q factors w (preceding symbol.Close list) (first_or w rest)
+          (preceding symbol.Close (after symbol.Open rest)) k
           (placed.before_it P symbol.Close list in_list)
           (or_first w rest k in_rest)
           (placed.before_it P symbol.Close (after symbol.Open rest) (placed.after_it P symbol.Open rest in_rest))

@@ -18,7 +18,7 @@ use Rattle.fx_text.specs.Written.{Written}
 use Rattle.fx_text.specs.Names.{is_same_name, place_of}
 use Rattle.fx_text.specs.Refusals.{refusal_at}
 use Rattle.fx_text.proofs.Chains.{bind_ok, same_ok, if_ok, unless_ok}
-use Rattle.fx_text.specs.Phrases.{after, before}
+use Rattle.fx_text.specs.Phrases.{after, preceding}
 use Rattle.fx_text.specs.Ranges.{is_range, names_between, range_end}
 use Rattle.fx_vectors.specs.Effects.{pair_count}
 use Rattle.fx_vectors.specs.Question.{CanBeTold}
@@ -286,7 +286,8 @@ module _ (factors : List (List ℕ)) where
   all_told q word written (Ok lists) is apart =
       let rest = after Close written in
       can_be_told q lists
-      (lists_at-of q word (before Close written) (first_or word rest) (before Close (after Open rest)) lists is) apart
+      (lists_at-of q word (preceding Close written) (first_or word rest) (preceding Close (after Open rest)) lists is)
+      apart
   all_told q word written (Err stop) is apart = tt
 
   -- the effects of a statement may be asked for, and are few
@@ -303,9 +304,10 @@ module _ (factors : List (List ℕ)) where
       go (Some word) is =
           let written = after Open statement in
           let rest = after Close written in
-          let of = lists_at-of q word (before Close written) (first_or word rest) (before Close (after Open rest)) lists
+          let of = lists_at-of q word (preceding Close written) (first_or word rest) (preceding Close (after Open rest))
+          lists
           is in
           let apart =
-          lists_at-apart few q word (before Close written) (first_or word rest) (before Close (after Open rest))
+          lists_at-apart few q word (preceding Close written) (first_or word rest) (preceding Close (after Open rest))
           lists is in
           (can_be_told q lists of apart, apart.few_estimate, apart.few_nonnegligible)

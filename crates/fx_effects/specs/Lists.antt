@@ -1,5 +1,6 @@
 -- The set of effects that a list represents.
 use Rattle.std.specs.Prelude.{ℕ, nat_le, List, [], ◌∷◌, ◌++◌, length, Result, Ok, Err, if◌then◌else◌}
+use Rattle.std.specs.List.{AllByRecursion}
 use Rattle.fx_language.specs.declared.code.TheConstants.{TOO_MANY_EFFECTS}
 use Rattle.fx_text.specs.declared.refusal.Refusal.{Refusal}
 use Rattle.fx_text.specs.Written.{Written}
@@ -24,5 +25,4 @@ few_effects word effects =
 
 -- stars that are numbers of 64 bits
 abbrev pub AreSmall : List Expression → Type 0
-AreSmall [] = Unit {0}
-AreSmall (e ∷ rest) = AreNumbers e.stars × AreSmall rest
+AreSmall expressions = AllByRecursion (λ (e : Expression). AreNumbers e.stars) expressions

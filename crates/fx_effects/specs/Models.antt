@@ -5,7 +5,7 @@ use Rattle.std.specs.List.{list_all, list_any}
 use Rattle.fx_language.specs.declared.code.TheConstants.{TOO_MANY_DEMANDS, UNEXPECTED_SYMBOL}
 use Rattle.fx_language.specs.declared.symbol.Symbol.TheVariants.{Close, Open}
 use Rattle.fx_text.specs.declared.refusal.Refusal.{Refusal}
-use Rattle.fx_text.specs.Phrases.{after, before}
+use Rattle.fx_text.specs.Phrases.{after, preceding}
 use Rattle.fx_text.specs.Written.{Written}
 use Rattle.fx_text.specs.Refusals.{refusal_at, refused_at, ◌>>=◌}
 use Rattle.fx_vectors.specs.Effects.{are_in_order, pair_count}
@@ -61,8 +61,8 @@ lists_at q factors word written other_word other_written =
 -- what follows `MODEL ESTIMATE = (`, at the word ESTIMATE: a list, and after its `)` the second word and its list
 abbrev pub lists_after : ℕ → List (List ℕ) → Written → List Written → Result EffectLists Refusal
 lists_after q factors word written =
-    lists_at q factors word (before Close written) (first_or word (after Close written))
-    (before Close (after Open (after Close written)))
+    lists_at q factors word (preceding Close written) (first_or word (after Close written))
+    (preceding Close (after Open (after Close written)))
 
 -- where nothing follows MODEL, which the grammar refuses too, there is no word to be named
 abbrev pub by_word : ℕ → List (List ℕ) → Option Written → List Written → Result EffectLists Refusal

@@ -9,7 +9,7 @@ use Rattle.std.proofs.lemmas.Option.{same_Some}
 use Rattle.fx_language.specs.declared.symbol.Symbol.{Symbol}
 use Rattle.fx_language.specs.declared.symbol.Symbol.TheVariants.{End}
 use Rattle.fx_language.specs.Symbols.{is_word}
-use Rattle.fx_language.specs.Shapes.{Shape, Begins, after, is_never, fault_at}
+use Rattle.fx_language.specs.Shapes.{Shape, Begins, derivative, is_never, fault_code}
 use Rattle.fx_language.specs.Grammar.{program}
 use Rattle.fx_language.specs.Refusals.{allows, allows_option, options, code_of, refused}
 use Rattle.fx_language.specs.Laws.{AllowsOption, IsGeneralCode, HasItsCode, ended}
@@ -25,13 +25,13 @@ module _ (a : Shape) (solid : is_solid a ≡ true) where
   goes_on : (s : Symbol) → allows a s ≡ true → Begins a (s ∷ [])
   goes_on s h = elim (after_fine s a solid) [
     | inl never ↦ absurd (let f : false ≡ true = ap (λ x. not (is_never x)) (sym never) ∙ h in cc)
-    | inr left ↦ begins_more a s [] (inhabited (after s a) left)
+    | inr left ↦ begins_more a s [] (inhabited (derivative s a) left)
   ]
 
   is_allowed : (s : Symbol) → Begins a (s ∷ []) → allows a s ≡ true
   is_allowed s h = elim (after_fine s a solid) [
-    | inl never ↦ absurd (no_text (after s a) [] never (begins_less a s [] h))
-    | inr left ↦ ap not (not_never (after s a) left)
+    | inl never ↦ absurd (no_text (derivative s a) [] never (begins_less a s [] h))
+    | inr left ↦ ap not (not_never (derivative s a) left)
   ]
 
   general : (s : Symbol) → IsGeneralCode a [] s (if is_word s && allows_option a then 3 else 2)
@@ -62,33 +62,33 @@ module _ (a : Shape) (solid : is_solid a ≡ true) where
           both_ways t f = let x : true ≡ false = sym t ∙ f in cc
 
   first_code : (s : Symbol) → HasItsCode a [] s (code_of a s)
-  first_code s = by_named (fault_at s a) refl
+  first_code s = by_named (fault_code s a) refl
     where
-      by_named : (c : Option ℕ) → fault_at s a ≡ c
+      by_named : (c : Option ℕ) → fault_code s a ≡ c
           → HasItsCode a [] s (unwrap_or c (if is_word s && allows_option a then 3 else 2))
       by_named (Some code) e = inl (named_here code s a e)
       by_named None e = inr (λ c n. not_some (here_named c s a n) e, general s)
         where
-          not_some : is_some (fault_at s a) ≡ true → fault_at s a ≡ None → ⊥
+          not_some : is_some (fault_code s a) ≡ true → fault_code s a ≡ None → ⊥
           not_some h e = let f : true ≡ false = sym h ∙ ap is_some e in cc
 
 -- and after one more symbol
-lifted : (a : Shape) (x : Symbol) (t : List Symbol) (s : Symbol) (code : ℕ) → HasItsCode (after x a) t s code
+lifted : (a : Shape) (x : Symbol) (t : List Symbol) (s : Symbol) (code : ℕ) → HasItsCode (derivative x a) t s code
     → HasItsCode a (x ∷ t) s code
 lifted a x t s code (inl n) = inl (named_later code x a t s n)
 lifted a x t s code (inr (none, other)) = inr (λ c n. none c (later_named c x a t s n), more other)
   where
-    more_option : AllowsOption (after x a) t → AllowsOption a (x ∷ t)
+    more_option : AllowsOption (derivative x a) t → AllowsOption a (x ∷ t)
     more_option h =
-        some_any (λ o. Begins (after x a) (t ++ o ∷ [])) (λ o. Begins a (x ∷ t ++ o ∷ [])) options
+        some_any (λ o. Begins (derivative x a) (t ++ o ∷ [])) (λ o. Begins a (x ∷ t ++ o ∷ [])) options
         (λ o b. begins_more a x (t ++ o ∷ []) b) h
 
-    less_option : AllowsOption a (x ∷ t) → AllowsOption (after x a) t
+    less_option : AllowsOption a (x ∷ t) → AllowsOption (derivative x a) t
     less_option h =
-        some_any (λ o. Begins a (x ∷ t ++ o ∷ [])) (λ o. Begins (after x a) (t ++ o ∷ [])) options
+        some_any (λ o. Begins a (x ∷ t ++ o ∷ [])) (λ o. Begins (derivative x a) (t ++ o ∷ [])) options
         (λ o b. begins_less a x (t ++ o ∷ []) b) h
 
-    more : IsGeneralCode (after x a) t s code → IsGeneralCode a (x ∷ t) s code
+    more : IsGeneralCode (derivative x a) t s code → IsGeneralCode a (x ∷ t) s code
     more (inl (three, word, option)) = inl (three, word, more_option option)
     more (inr (two, never)) = inr (two, λ word option. never word (less_option option))
 
@@ -111,7 +111,8 @@ coded_now a s rest symbols k code i first solid e =
           (first_code a solid s));
     }
 
-coded_later : (a : Shape) (s : Symbol) (rest : List Symbol) (k code i : ℕ) → IsCoded (after s a) rest (suc k) code i
+coded_later : (a : Shape) (s : Symbol) (rest : List Symbol) (k code i : ℕ)
+    → IsCoded (derivative s a) rest (suc k) code i
     → IsCoded a (s ∷ rest) k code i
 coded_later a s rest k code i c = record {
   j = suc c.j;
@@ -125,14 +126,14 @@ unfolding refused
 coded a [] k code i h e =
     elim (after_fine End a h) [
       | inl never ↦ coded_now a End [] [] k code i refl h (rw never at e)
-      | inr solid ↦ absurd (let f : None ≡ Some (code, i) = rw (not_never (after End a) solid) at e in cc)
+      | inr solid ↦ absurd (let f : None ≡ Some (code, i) = rw (not_never (derivative End a) solid) at e in cc)
     ]
 coded a (s ∷ rest) k code i h e =
     elim (after_fine s a h) [
       | inl never ↦ coded_now a s (ended rest) (s ∷ rest) k code i refl h (rw never at e)
       | inr solid ↦
           coded_later a s rest k code i
-          (coded (after s a) rest (suc k) code i solid (rw (not_never (after s a) solid) at e))
+          (coded (derivative s a) rest (suc k) code i solid (rw (not_never (derivative s a) solid) at e))
     ]
 
 -- the law for programs

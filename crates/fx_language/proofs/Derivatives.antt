@@ -6,7 +6,7 @@ use Rattle.std.proofs.lemmas.Bool.{and_parts, or_cases}
 use mathlib.Core.Bool.{or-true}
 use Rattle.fx_language.specs.declared.symbol.Symbol.{Symbol}
 use Rattle.fx_language.specs.Shapes.{Shape, Never, Empty, One, Before, Either, Many, Fault, ◌▸◌, or_else, may_be_empty}
-use Rattle.fx_language.specs.Shapes.{after, Matches}
+use Rattle.fx_language.specs.Shapes.{derivative, Matches}
 
 -- a sequence is one text before another
 pub parts_of : (a b : Shape) (t : List Symbol) → Matches (a ▸ b) t → Matches (Before a b) t
@@ -83,34 +83,37 @@ one_sound true t h = (refl, h)
 one_sound false t h = absurd h
 
 front_sound : (s : Symbol) (a b : Shape) (t : List Symbol) (e : Bool) → may_be_empty a ≡ e
-    → ((x : List Symbol) → Matches (after s a) x → Matches a (s ∷ x))
-    → (Matches (after s b) t → Matches b (s ∷ t))
-    → Matches (cond e (or_else (after s a ▸ b) (after s b)) (after s a ▸ b)) t → Matches (Before a b) (s ∷ t)
+    → ((x : List Symbol) → Matches (derivative s a) x → Matches a (s ∷ x))
+    → (Matches (derivative s b) t → Matches b (s ∷ t))
+    → Matches (cond e (or_else (derivative s a ▸ b) (derivative s b)) (derivative s a ▸ b)) t
+    → Matches (Before a b) (s ∷ t)
 front_sound s a b t e is in_a in_b h = go e is h
   where
-    first : Matches (after s a ▸ b) t → Matches (Before a b) (s ∷ t)
+    first : Matches (derivative s a ▸ b) t → Matches (Before a b) (s ∷ t)
     first h =
-        let r = parts_of (after s a) b t h in
+        let r = parts_of (derivative s a) b t h in
         (s ∷ r.0, r.1, in_a r.0 r.2, r.3, ap (λ (l : List Symbol). s ∷ l) r.4)
 
     go : (e : Bool) → may_be_empty a ≡ e
-        → Matches (cond e (or_else (after s a ▸ b) (after s b)) (after s a ▸ b)) t
+        → Matches (cond e (or_else (derivative s a ▸ b) (derivative s b)) (derivative s a ▸ b)) t
         → Matches (Before a b) (s ∷ t)
     go true e h =
-        ⊎_elim first (λ q. ([], s ∷ t, empty_in a e, in_b q, refl)) (or_else_to (after s a ▸ b) (after s b) t h)
+        ⊎_elim first (λ q. ([], s ∷ t, empty_in a e, in_b q, refl))
+        (or_else_to (derivative s a ▸ b) (derivative s b) t h)
     go false e h = first h
 
 -- a text after the symbol
-pub after_sound : (s : Symbol) (a : Shape) (t : List Symbol) → Matches (after s a) t → Matches a (s ∷ t)
+pub after_sound : (s : Symbol) (a : Shape) (t : List Symbol) → Matches (derivative s a) t → Matches a (s ∷ t)
 after_sound s Never t h = h
 after_sound s Empty t h = absurd h
 after_sound s (One test) t h = let p = one_sound (test s) t h in (s, p.0, ap (λ (l : List Symbol). s ∷ l) p.1)
 after_sound s (Before a b) t h =
     front_sound s a b t (may_be_empty a) refl (λ x p. after_sound s a x p) (λ q. after_sound s b t q) h
 after_sound s (Either a b) t h =
-    ⊎_elim (λ p. inl (after_sound s a t p)) (λ p. inr (after_sound s b t p)) (or_else_to (after s a) (after s b) t h)
+    ⊎_elim (λ p. inl (after_sound s a t p)) (λ p. inr (after_sound s b t p))
+    (or_else_to (derivative s a) (derivative s b) t h)
 after_sound s (Many a) t h =
-    let r = parts_of (after s a) (Many a) t h in (
+    let r = parts_of (derivative s a) (Many a) t h in (
       (s ∷ r.0)
           ∷ r.3.0,
       (after_sound s a r.0 r.2, r.3.1),
@@ -123,27 +126,27 @@ one_complete : (b : Bool) → b ≡ true → Matches (cond b Empty Never) []
 one_complete true h = refl
 one_complete false h = absurd (let f : false ≡ true = h in cc)
 
-front_left : (s : Symbol) (a b : Shape) (t : List Symbol) (e : Bool) → Matches (after s a ▸ b) t
-    → Matches (cond e (or_else (after s a ▸ b) (after s b)) (after s a ▸ b)) t
-front_left s a b t true h = or_else_from (after s a ▸ b) (after s b) t (inl h)
+front_left : (s : Symbol) (a b : Shape) (t : List Symbol) (e : Bool) → Matches (derivative s a ▸ b) t
+    → Matches (cond e (or_else (derivative s a ▸ b) (derivative s b)) (derivative s a ▸ b)) t
+front_left s a b t true h = or_else_from (derivative s a ▸ b) (derivative s b) t (inl h)
 front_left s a b t false h = h
 
-front_right : (s : Symbol) (a b : Shape) (t : List Symbol) (e : Bool) → e ≡ true → Matches (after s b) t
-    → Matches (cond e (or_else (after s a ▸ b) (after s b)) (after s a ▸ b)) t
-front_right s a b t true is h = or_else_from (after s a ▸ b) (after s b) t (inr h)
+front_right : (s : Symbol) (a b : Shape) (t : List Symbol) (e : Bool) → e ≡ true → Matches (derivative s b) t
+    → Matches (cond e (or_else (derivative s a ▸ b) (derivative s b)) (derivative s a ▸ b)) t
+front_right s a b t true is h = or_else_from (derivative s a ▸ b) (derivative s b) t (inr h)
 front_right s a b t false is h = absurd (let f : false ≡ true = is in cc)
 
 pub head_is : (s r : Symbol) (t x : List Symbol) → (s ∷ t) ≡ (r ∷ x) → (s ≡ r) × (t ≡ x)
 head_is s r t x e = (cc, cc)
 
 many_complete : (s : Symbol) (a : Shape) (t : List Symbol)
-    → ((x : List Symbol) → Matches a (s ∷ x) → Matches (after s a) x) → (parts : List (List Symbol))
-    → AllByRecursion (Matches a) parts → s ∷ t ≡ flat_map (λ part. part) parts → Matches (after s a ▸ Many a) t
+    → ((x : List Symbol) → Matches a (s ∷ x) → Matches (derivative s a) x) → (parts : List (List Symbol))
+    → AllByRecursion (Matches a) parts → s ∷ t ≡ flat_map (λ part. part) parts → Matches (derivative s a ▸ Many a) t
 many_complete s a t in_a [] each e = absurd (let f : s ∷ t ≡ [] = e in cc)
 many_complete s a t in_a ([] ∷ parts) each e = many_complete s a t in_a parts each.1 e
 many_complete s a t in_a ((r ∷ x) ∷ parts) each e =
     let f = head_is s r t (x ++ flat_map (λ part. part) parts) e in
-    sequence_of (after s a) (Many a) t (
+    sequence_of (derivative s a) (Many a) t (
       x,
       flat_map (λ part. part) parts,
       in_a x (subst (λ (z : Symbol). Matches a (z ∷ x)) (sym f.0) each.0),
@@ -152,21 +155,23 @@ many_complete s a t in_a ((r ∷ x) ∷ parts) each e =
     )
 
 -- every text with the symbol in front
-pub after_complete : (s : Symbol) (a : Shape) (t : List Symbol) → Matches a (s ∷ t) → Matches (after s a) t
+pub after_complete : (s : Symbol) (a : Shape) (t : List Symbol) → Matches a (s ∷ t) → Matches (derivative s a) t
 after_complete s Never t h = h
 after_complete s Empty t h = absurd (let f : s ∷ t ≡ [] = h in cc)
 after_complete s (One test) t (r, p, e) =
     let q = head_is s r t [] e in
-    subst (λ (l : List Symbol). Matches (after s (One test)) l) (sym q.1) (one_complete (test s) (ap test q.0 ∙ p))
+    subst (λ (l : List Symbol). Matches (derivative s (One test)) l) (sym q.1) (one_complete (test s) (ap test q.0 ∙ p))
 after_complete s (Before a b) t ([], y, p, q, e) =
     front_right s a b t (may_be_empty a) (empty_out a p) (after_complete s b t (subst (Matches b) (sym e) q))
 after_complete s (Before a b) t (r ∷ x, y, p, q, e) =
     let f = head_is s r t (x ++ y) e in
     front_left s a b t (may_be_empty a)
-    (sequence_of (after s a) b t
+    (sequence_of (derivative s a) b t
     (x, y, after_complete s a x (subst (λ (z : Symbol). Matches a (z ∷ x)) (sym f.0) p), q, f.1))
-after_complete s (Either a b) t (inl h) = or_else_from (after s a) (after s b) t (inl (after_complete s a t h))
-after_complete s (Either a b) t (inr h) = or_else_from (after s a) (after s b) t (inr (after_complete s b t h))
+after_complete s (Either a b) t (inl h) =
+    or_else_from (derivative s a) (derivative s b) t (inl (after_complete s a t h))
+after_complete s (Either a b) t (inr h) =
+    or_else_from (derivative s a) (derivative s b) t (inr (after_complete s b t h))
 after_complete s (Many a) t (parts, each, e) =
     many_complete s a t (λ x p. after_complete s a x p) parts each e
 after_complete s (Fault code test) t h = h

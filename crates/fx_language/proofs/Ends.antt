@@ -4,7 +4,7 @@ use Rattle.std.proofs.lemmas.Bool.{and_parts, not-true, and_from}
 use Rattle.fx_language.specs.declared.symbol.Symbol.{Symbol}
 use Rattle.fx_language.specs.declared.symbol.Symbol.TheVariants.{End}
 use Rattle.fx_language.specs.Shapes.{Shape, Never, Empty, One, Before, Either, Many, Fault, ◌▸◌, or_else, may_be_empty}
-use Rattle.fx_language.specs.Shapes.{after, Matches}
+use Rattle.fx_language.specs.Shapes.{derivative, Matches}
 use Rattle.fx_language.proofs.Derivatives.{or_else_to}
 
 -- no text of the description holds the end
@@ -48,19 +48,20 @@ lacks_either Never b h k = k
 lacks_either a Never h k = h
 lacks_either a b h k = and_from (lacks_end a) (lacks_end b) h k
 
-lacks_after : (s : Symbol) (a : Shape) → lacks_end a ≡ true → lacks_end (after s a) ≡ true
+lacks_after : (s : Symbol) (a : Shape) → lacks_end a ≡ true → lacks_end (derivative s a) ≡ true
 lacks_after s Never h = refl
 lacks_after s Empty h = refl
 lacks_after s (One test) h = choice (λ x. lacks_end x ≡ true) (test s) Empty Never refl refl
 lacks_after s (Before a b) h =
     let p = and_parts (lacks_end a) (lacks_end b) h in
-    let first = lacks_sequence (after s a) b (lacks_after s a p.0) p.1 in
-    choice (λ x. lacks_end x ≡ true) (may_be_empty a) (or_else (after s a ▸ b) (after s b)) (after s a ▸ b)
-    (lacks_either (after s a ▸ b) (after s b) first (lacks_after s b p.1)) first
+    let first = lacks_sequence (derivative s a) b (lacks_after s a p.0) p.1 in
+    choice (λ x. lacks_end x ≡ true) (may_be_empty a) (or_else (derivative s a ▸ b) (derivative s b))
+    (derivative s a ▸ b)
+    (lacks_either (derivative s a ▸ b) (derivative s b) first (lacks_after s b p.1)) first
 lacks_after s (Either a b) h =
     let p = and_parts (lacks_end a) (lacks_end b) h in
-    lacks_either (after s a) (after s b) (lacks_after s a p.0) (lacks_after s b p.1)
-lacks_after s (Many a) h = lacks_sequence (after s a) (Many a) (lacks_after s a h) h
+    lacks_either (derivative s a) (derivative s b) (lacks_after s a p.0) (lacks_after s b p.1)
+lacks_after s (Many a) h = lacks_sequence (derivative s a) (Many a) (lacks_after s a h) h
 lacks_after s (Fault code test) h = refl
 
 ends_sequence : (a b : Shape) → lacks_end a ≡ true → ends_last b ≡ true → ends_last (a ▸ b) ≡ true
@@ -80,22 +81,23 @@ ends_either a Never h k = h
 ends_either a b h k = and_from (ends_last a) (ends_last b) h k
 
 -- it holds of what is left after a symbol
-pub ends_after : (s : Symbol) (a : Shape) → ends_last a ≡ true → ends_last (after s a) ≡ true
+pub ends_after : (s : Symbol) (a : Shape) → ends_last a ≡ true → ends_last (derivative s a) ≡ true
 ends_after s Never h = refl
 ends_after s Empty h = refl
 ends_after s (One test) h = choice (λ x. ends_last x ≡ true) (test s) Empty Never refl refl
 ends_after s (Before a b) h =
     let p = and_parts (lacks_end a) (ends_last b) h in
-    let first = ends_sequence (after s a) b (lacks_after s a p.0) p.1 in
-    choice (λ x. ends_last x ≡ true) (may_be_empty a) (or_else (after s a ▸ b) (after s b)) (after s a ▸ b)
-    (ends_either (after s a ▸ b) (after s b) first (ends_after s b p.1)) first
+    let first = ends_sequence (derivative s a) b (lacks_after s a p.0) p.1 in
+    choice (λ x. ends_last x ≡ true) (may_be_empty a) (or_else (derivative s a ▸ b) (derivative s b))
+    (derivative s a ▸ b)
+    (ends_either (derivative s a ▸ b) (derivative s b) first (ends_after s b p.1)) first
 ends_after s (Either a b) h =
     let p = and_parts (ends_last a) (ends_last b) h in
-    ends_either (after s a) (after s b) (ends_after s a p.0) (ends_after s b p.1)
-ends_after s (Many a) h = ends_sequence (after s a) (Many a) (lacks_after s a h) h
+    ends_either (derivative s a) (derivative s b) (ends_after s a p.0) (ends_after s b p.1)
+ends_after s (Many a) h = ends_sequence (derivative s a) (Many a) (lacks_after s a h) h
 ends_after s (Fault code test) h = refl
 
-never_after_end : (a : Shape) → lacks_end a ≡ true → after End a ≡ Never
+never_after_end : (a : Shape) → lacks_end a ≡ true → derivative End a ≡ Never
 never_after_end Never h = refl
 never_after_end Empty h = refl
 never_after_end (One test) h = rw (not-true (test End) h) refl
@@ -116,16 +118,16 @@ either_empty : (a b : Shape) → OnlyEmpty a → OnlyEmpty b → OnlyEmpty (or_e
 either_empty a b f g t h = ⊎_elim (λ p. f t p) (λ p. g t p) (or_else_to a b t h)
 
 -- after the end nothing is left
-pub empty_after_end : (a : Shape) → ends_last a ≡ true → OnlyEmpty (after End a)
+pub empty_after_end : (a : Shape) → ends_last a ≡ true → OnlyEmpty (derivative End a)
 empty_after_end Never h = λ t m. absurd m
 empty_after_end Empty h = λ t m. absurd m
 empty_after_end (One test) h = choice OnlyEmpty (test End) Empty Never (λ t m. m) (λ t m. absurd m)
 empty_after_end (Before a b) h =
     let p = and_parts (lacks_end a) (ends_last b) h in
     rw (never_after_end a p.0)
-    (choice OnlyEmpty (may_be_empty a) (after End b) Never (empty_after_end b p.1) (λ t m. absurd m))
+    (choice OnlyEmpty (may_be_empty a) (derivative End b) Never (empty_after_end b p.1) (λ t m. absurd m))
 empty_after_end (Either a b) h =
     let p = and_parts (ends_last a) (ends_last b) h in
-    either_empty (after End a) (after End b) (empty_after_end a p.0) (empty_after_end b p.1)
+    either_empty (derivative End a) (derivative End b) (empty_after_end a p.0) (empty_after_end b p.1)
 empty_after_end (Many a) h = rw (never_after_end a h) (λ t m. absurd m)
 empty_after_end (Fault code test) h = λ t m. absurd m

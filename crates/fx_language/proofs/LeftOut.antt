@@ -13,7 +13,7 @@ use Rattle.fx_language.specs.Shapes.{◌▸◌, ◌∣◌}
 use Rattle.fx_language.specs.Grammar.{key, name, n, no_open, replication, values, recoded, option, factors, size}
 use Rattle.fx_language.specs.Grammar.{model_word, model_rest, model, blocks, examine_word, examine_rest, examine}
 use Rattle.fx_language.specs.Grammar.{output_rest, output, proc, proc_rest, statement, step, between, unknown, program}
-use Rattle.fx_language.specs.Laws.{Names, IsAtStart, IsIn, IsLeftOut}
+use Rattle.fx_language.specs.Laws.{Names, IsAtStart, IsInStatement, IsLeftOut}
 use Rattle.fx_language.proofs.Named.{from_parts}
 use Rattle.fx_language.proofs.Lacking.{lacks, none}
 use Rattle.fx_language.proofs.SameSymbol.{symbol_is}
@@ -72,7 +72,7 @@ guarded_named c test (Fault code other) t s l (e, passes, same) = absurd (other_
 
 -- a statement whose word is first, where a code is named after y
 in_statement_of : (word w : Symbol) (t x y rest : List Symbol) → w ≡ word → t ≡ x ++ y → x ≡ w ∷ [] → y ≡ rest
-    → list_any (is symbol.Semicolon) y ≡ false → IsIn word t rest
+    → list_any (is symbol.Semicolon) y ≡ false → IsInStatement word t rest
 in_statement_of word w t x y rest is_word e ex same lacking = (
   [],
   inl refl,
@@ -139,12 +139,10 @@ behind_section t s (inl (inr (a, b, (w, tw, ew), inr (e0, opens, same), e))) = (
       ∙ ap₂ (λ (z : Symbol) (l : List Symbol). z ∷ l) (symbol_is symbol.Aliasing w tw) e0),
   opens,
 )
-behind_section t s (inr (inl h)) = absurd h
-behind_section t s (inr (inr (inl h))) = absurd h
-behind_section t s (inr (inr (inr (inl h)))) = absurd h
-behind_section t s (inr (inr (inr (inr (inl h))))) = absurd h
-behind_section t s (inr (inr (inr (inr (inr (a, b, (w, tw, ew), inl h, e)))))) = absurd h
-behind_section t s (inr (inr (inr (inr (inr (a, b, (w, tw, ew), inr (e0, opens, same), e)))))) = (
+behind_section t s (inr (inr h)) = absurd h
+behind_section t s (inr (inl (inl h))) = absurd h
+behind_section t s (inr (inl (inr (a, b, (w, tw, ew), inl h, e)))) = absurd h
+behind_section t s (inr (inl (inr (a, b, (w, tw, ew), inr (e0, opens, same), e)))) = (
   inr (e ∙ ap (λ (l : List Symbol). l ++ b) ew
       ∙ ap₂ (λ (z : Symbol) (l : List Symbol). z ∷ l) (symbol_is symbol.Aberration w tw) e0),
   opens,
@@ -316,8 +314,8 @@ in_statement t s (inr (inr (inr (inr (inr (inl h)))))) = absurd (no_code 24 bloc
 in_statement t s (inr (inr (inr (inr (inr (inr (inl h))))))) = in_examine t s h
 in_statement t s (inr (inr (inr (inr (inr (inr (inr h))))))) = in_output t s h
 
-further : (before t rest : List Symbol) (word : Symbol) → IsAtStart before → IsIn word t rest
-    → IsIn word (before ++ t) rest
+further : (before t rest : List Symbol) (word : Symbol) → IsAtStart before → IsInStatement word t rest
+    → IsInStatement word (before ++ t) rest
 further before t rest word start (front, begun, e, lacking) = (
   before ++ front,
   joined before front start begun,

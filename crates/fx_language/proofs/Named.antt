@@ -3,9 +3,10 @@ use Rattle.std.proofs.Common.{◌≡◌, ℕ, Bool, true, false, cond, List, [],
 use Rattle.std.proofs.Common.{subst, ◌∙◌, ◌⊎◌, inl, inr, append_assoc}
 use Rattle.std.specs.Prelude.{is_some}
 use Rattle.std.specs.List.{AllByRecursion, flat_map}
+use Rattle.std.specs.Option.{option_or}
 use Rattle.fx_language.specs.declared.symbol.Symbol.{Symbol}
-use Rattle.fx_language.specs.Shapes.{Shape, Never, Empty, One, Before, Either, Many, Fault, Matches, after}
-use Rattle.fx_language.specs.Shapes.{may_be_empty, or_else, first_of, fault_at, ◌▸◌}
+use Rattle.fx_language.specs.Shapes.{Shape, Never, Empty, One, Before, Either, Many, Fault, Matches, derivative}
+use Rattle.fx_language.specs.Shapes.{may_be_empty, or_else, fault_code, ◌▸◌}
 use Rattle.fx_language.specs.Laws.{Names}
 use Rattle.fx_language.proofs.Derivatives.{empty_in, empty_out, after_sound, after_complete, no_cons, head_is}
 
@@ -75,7 +76,7 @@ none_is c e = cc e
 same_code : (d c : ℕ) → ◌≡◌ {A = Option ℕ} (Some d) (Some c) → d ≡ c
 same_code d c e = cc e
 
-first_or : (c : ℕ) (x y : Option ℕ) → first_of x y ≡ Some c → (x ≡ Some c) ⊎ (y ≡ Some c)
+first_or : (c : ℕ) (x y : Option ℕ) → option_or x y ≡ Some c → (x ≡ Some c) ⊎ (y ≡ Some c)
 first_or c None y e = inr e
 first_or c (Some d) y e = inl e
 
@@ -83,16 +84,16 @@ where_empty : (c : ℕ) (b : Bool) (y : Option ℕ) → cond b y None ≡ Some c
 where_empty c true y e = (refl, e)
 where_empty c false y e = absurd (none_is c e)
 
-pub named_here : (c : ℕ) (s : Symbol) (a : Shape) → fault_at s a ≡ Some c → Names c a [] s
+pub named_here : (c : ℕ) (s : Symbol) (a : Shape) → fault_code s a ≡ Some c → Names c a [] s
 named_here c s Never e = absurd (none_is c e)
 named_here c s Empty e = absurd (none_is c e)
 named_here c s (One test) e = absurd (none_is c e)
-named_here c s (Before a b) e = elim (first_or c (fault_at s a) (cond (may_be_empty a) (fault_at s b) None) e) [
+named_here c s (Before a b) e = elim (first_or c (fault_code s a) (cond (may_be_empty a) (fault_code s b) None) e) [
   | inl first ↦ inl (named_here c s a first)
-  | inr second ↦ let p = where_empty c (may_be_empty a) (fault_at s b) second in
+  | inr second ↦ let p = where_empty c (may_be_empty a) (fault_code s b) second in
       inr ([], [], empty_in a p.0, named_here c s b p.1, refl)
 ]
-named_here c s (Either a b) e = elim (first_or c (fault_at s a) (fault_at s b) e) [
+named_here c s (Either a b) e = elim (first_or c (fault_code s a) (fault_code s b) e) [
   | inl first ↦ inl (named_here c s a first)
   | inr second ↦ inr (named_here c s b second)
 ]
@@ -103,28 +104,28 @@ named_here c s (Fault code test) e = by_test (test s) e
     by_test true e = (refl, refl, same_code code c e)
     by_test false e = absurd (none_is c e)
 
-some_first : (x y : Option ℕ) → is_some x ≡ true → is_some (first_of x y) ≡ true
+some_first : (x y : Option ℕ) → is_some x ≡ true → is_some (option_or x y) ≡ true
 some_first None y h = absurd (let f : false ≡ true = h in cc)
 some_first (Some d) y h = refl
 
-some_second : (x y : Option ℕ) → is_some y ≡ true → is_some (first_of x y) ≡ true
+some_second : (x y : Option ℕ) → is_some y ≡ true → is_some (option_or x y) ≡ true
 some_second None y h = h
 some_second (Some d) y h = refl
 
-pub here_named : (c : ℕ) (s : Symbol) (a : Shape) → Names c a [] s → is_some (fault_at s a) ≡ true
+pub here_named : (c : ℕ) (s : Symbol) (a : Shape) → Names c a [] s → is_some (fault_code s a) ≡ true
 here_named c s Never h = absurd h
 here_named c s Empty h = absurd h
 here_named c s (One test) h = absurd h
 here_named c s (Before a b) (inl n) =
-    some_first (fault_at s a) (cond (may_be_empty a) (fault_at s b) None) (here_named c s a n)
+    some_first (fault_code s a) (cond (may_be_empty a) (fault_code s b) None) (here_named c s a n)
 here_named c s (Before a b) (inr ([], v, m, n, e)) =
-    let more : is_some (fault_at s b) ≡ true =
+    let more : is_some (fault_code s b) ≡ true =
     here_named c s b (subst (λ (l : List Symbol). Names c b l s) (sym e) n) in
-    some_second (fault_at s a) (cond (may_be_empty a) (fault_at s b) None)
-    (ap (λ z. is_some (cond z (fault_at s b) None)) (empty_out a m) ∙ more)
+    some_second (fault_code s a) (cond (may_be_empty a) (fault_code s b) None)
+    (ap (λ z. is_some (cond z (fault_code s b) None)) (empty_out a m) ∙ more)
 here_named c s (Before a b) (inr (x ∷ u, v, m, n, e)) = absurd (no_cons x u v e)
-here_named c s (Either a b) (inl n) = some_first (fault_at s a) (fault_at s b) (here_named c s a n)
-here_named c s (Either a b) (inr n) = some_second (fault_at s a) (fault_at s b) (here_named c s b n)
+here_named c s (Either a b) (inl n) = some_first (fault_code s a) (fault_code s b) (here_named c s a n)
+here_named c s (Either a b) (inr n) = some_second (fault_code s a) (fault_code s b) (here_named c s b n)
 here_named c s (Many a) ([], v, m, n, e) = here_named c s a (subst (λ (l : List Symbol). Names c a l s) (sym e) n)
 here_named c s (Many a) (x ∷ u, v, m, n, e) = absurd (no_cons x u v e)
 here_named c s (Fault code test) (e, passed, is) = ap (λ b. is_some (cond b (Some code) None)) passed
@@ -136,33 +137,35 @@ after_one c true t s h = h
 after_one c false t s h = h
 
 from_sequence : (c : ℕ) (x : Symbol) (a b : Shape) (t : List Symbol) (s : Symbol)
-    → (Names c (after x a) t s → Names c a (x ∷ t) s) → Names c (after x a ▸ b) t s → Names c (Before a b) (x ∷ t) s
-from_sequence c x a b t s first h = elim (from_parts c (after x a) b t s h) [
+    → (Names c (derivative x a) t s → Names c a (x ∷ t) s) → Names c (derivative x a ▸ b) t s
+    → Names c (Before a b) (x ∷ t) s
+from_sequence c x a b t s first h = elim (from_parts c (derivative x a) b t s h) [
   | inl n ↦ inl (first n)
   | inr n ↦ inr (x ∷ n.0, n.1, after_sound x a n.0 n.2, n.3, ap (λ (l : List Symbol). x ∷ l) n.4)
 ]
 
 from_front : (c : ℕ) (x : Symbol) (a b : Shape) (t : List Symbol) (s : Symbol) (empty : Bool) → may_be_empty a ≡ empty
-    → (Names c (after x a) t s → Names c a (x ∷ t) s) → (Names c (after x b) t s → Names c b (x ∷ t) s)
-    → Names c (cond empty (or_else (after x a ▸ b) (after x b)) (after x a ▸ b)) t s → Names c (Before a b) (x ∷ t) s
-from_front c x a b t s true is first second h = elim (from_either c (after x a ▸ b) (after x b) t s h) [
+    → (Names c (derivative x a) t s → Names c a (x ∷ t) s) → (Names c (derivative x b) t s → Names c b (x ∷ t) s)
+    → Names c (cond empty (or_else (derivative x a ▸ b) (derivative x b)) (derivative x a ▸ b)) t s
+    → Names c (Before a b) (x ∷ t) s
+from_front c x a b t s true is first second h = elim (from_either c (derivative x a ▸ b) (derivative x b) t s h) [
   | inl n ↦ from_sequence c x a b t s first n
   | inr n ↦ inr ([], x ∷ t, empty_in a is, second n, refl)
 ]
 from_front c x a b t s false is first second h = from_sequence c x a b t s first h
 
-pub named_later : (c : ℕ) (x : Symbol) (a : Shape) (t : List Symbol) (s : Symbol) → Names c (after x a) t s
+pub named_later : (c : ℕ) (x : Symbol) (a : Shape) (t : List Symbol) (s : Symbol) → Names c (derivative x a) t s
     → Names c a (x ∷ t) s
 named_later c x Never t s h = absurd h
 named_later c x Empty t s h = absurd h
 named_later c x (One test) t s h = absurd (after_one c (test x) t s h)
 named_later c x (Before a b) t s h =
     from_front c x a b t s (may_be_empty a) refl (λ n. named_later c x a t s n) (λ n. named_later c x b t s n) h
-named_later c x (Either a b) t s h = elim (from_either c (after x a) (after x b) t s h) [
+named_later c x (Either a b) t s h = elim (from_either c (derivative x a) (derivative x b) t s h) [
   | inl n ↦ inl (named_later c x a t s n)
   | inr n ↦ inr (named_later c x b t s n)
 ]
-named_later c x (Many a) t s h = elim (from_parts c (after x a) (Many a) t s h) [
+named_later c x (Many a) t s h = elim (from_parts c (derivative x a) (Many a) t s h) [
   | inl n ↦ ([], x ∷ t, ([], tt, refl), named_later c x a t s n, refl)
   | inr n ↦
       let m = n.3 in (
@@ -176,27 +179,28 @@ named_later c x (Many a) t s h = elim (from_parts c (after x a) (Many a) t s h) 
 named_later c x (Fault code test) t s h = absurd h
 
 to_front : (c : ℕ) (x : Symbol) (a b : Shape) (t : List Symbol) (s : Symbol) (empty : Bool)
-    → Names c (after x a ▸ b) t s
-    → Names c (cond empty (or_else (after x a ▸ b) (after x b)) (after x a ▸ b)) t s
-to_front c x a b t s true h = to_either c (after x a ▸ b) (after x b) t s (inl h)
+    → Names c (derivative x a ▸ b) t s
+    → Names c (cond empty (or_else (derivative x a ▸ b) (derivative x b)) (derivative x a ▸ b)) t s
+to_front c x a b t s true h = to_either c (derivative x a ▸ b) (derivative x b) t s (inl h)
 to_front c x a b t s false h = h
 
 to_back : (c : ℕ) (x : Symbol) (a b : Shape) (t : List Symbol) (s : Symbol) (empty : Bool) → empty ≡ true
-    → Names c (after x b) t s
-    → Names c (cond empty (or_else (after x a ▸ b) (after x b)) (after x a ▸ b)) t s
-to_back c x a b t s true is h = to_either c (after x a ▸ b) (after x b) t s (inr h)
+    → Names c (derivative x b) t s
+    → Names c (cond empty (or_else (derivative x a ▸ b) (derivative x b)) (derivative x a ▸ b)) t s
+to_back c x a b t s true is h = to_either c (derivative x a ▸ b) (derivative x b) t s (inr h)
 to_back c x a b t s false is h = absurd (let f : false ≡ true = is in cc)
 
 many_named : (c : ℕ) (x : Symbol) (a : Shape) (t v : List Symbol) (s : Symbol)
-    → ((l : List Symbol) → Names c a (x ∷ l) s → Names c (after x a) l s) → (parts : List (List Symbol))
+    → ((l : List Symbol) → Names c a (x ∷ l) s → Names c (derivative x a) l s) → (parts : List (List Symbol))
     → AllByRecursion (Matches a) parts
-    → Names c a v s → (x ∷ t) ≡ flat_map (λ (part : List Symbol). part) parts ++ v → Names c (after x a ▸ Many a) t s
+    → Names c a v s → (x ∷ t) ≡ flat_map (λ (part : List Symbol). part) parts ++ v
+    → Names c (derivative x a ▸ Many a) t s
 many_named c x a t v s in_a [] each n e =
-    to_parts c (after x a) (Many a) t s (inl (in_a t (subst (λ (l : List Symbol). Names c a l s) (sym e) n)))
+    to_parts c (derivative x a) (Many a) t s (inl (in_a t (subst (λ (l : List Symbol). Names c a l s) (sym e) n)))
 many_named c x a t v s in_a ([] ∷ parts) each n e = many_named c x a t v s in_a parts each.1 n e
 many_named c x a t v s in_a ((y ∷ l) ∷ parts) each n e =
     let f = head_is x y t ((l ++ flat_map (λ (part : List Symbol). part) parts) ++ v) e in
-    to_parts c (after x a) (Many a) t s (inr (
+    to_parts c (derivative x a) (Many a) t s (inr (
       l,
       flat_map (λ (part : List Symbol). part) parts ++ v,
       after_complete x a l (subst (λ (z : Symbol). Matches a (z ∷ l)) (sym f.0) each.0),
@@ -205,22 +209,24 @@ many_named c x a t v s in_a ((y ∷ l) ∷ parts) each n e =
     ))
 
 pub later_named : (c : ℕ) (x : Symbol) (a : Shape) (t : List Symbol) (s : Symbol) → Names c a (x ∷ t) s
-    → Names c (after x a) t s
+    → Names c (derivative x a) t s
 later_named c x Never t s h = absurd h
 later_named c x Empty t s h = absurd h
 later_named c x (One test) t s h = absurd h
 later_named c x (Before a b) t s (inl n) =
-    to_front c x a b t s (may_be_empty a) (to_parts c (after x a) b t s (inl (later_named c x a t s n)))
+    to_front c x a b t s (may_be_empty a) (to_parts c (derivative x a) b t s (inl (later_named c x a t s n)))
 later_named c x (Before a b) t s (inr ([], v, m, n, e)) =
     to_back c x a b t s (may_be_empty a) (empty_out a m)
     (later_named c x b t s (subst (λ (l : List Symbol). Names c b l s) (sym e) n))
 later_named c x (Before a b) t s (inr (y ∷ u, v, m, n, e)) =
     let f = head_is x y t (u ++ v) e in
     to_front c x a b t s (may_be_empty a)
-    (to_parts c (after x a) b t s
+    (to_parts c (derivative x a) b t s
     (inr (u, v, after_complete x a u (subst (λ (z : Symbol). Matches a (z ∷ u)) (sym f.0) m), n, f.1)))
-later_named c x (Either a b) t s (inl n) = to_either c (after x a) (after x b) t s (inl (later_named c x a t s n))
-later_named c x (Either a b) t s (inr n) = to_either c (after x a) (after x b) t s (inr (later_named c x b t s n))
+later_named c x (Either a b) t s (inl n) =
+    to_either c (derivative x a) (derivative x b) t s (inl (later_named c x a t s n))
+later_named c x (Either a b) t s (inr n) =
+    to_either c (derivative x a) (derivative x b) t s (inr (later_named c x b t s n))
 later_named c x (Many a) t s (u, v, (parts, each, f), n, e) =
     many_named c x a t v s (λ l k. later_named c x a l s k) parts each n (e ∙ ap (λ (l : List Symbol). l ++ v) f)
 later_named c x (Fault code test) t s (e, passed, same) = absurd (let f : x ∷ t ≡ [] = e in cc)

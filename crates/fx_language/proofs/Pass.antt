@@ -13,7 +13,7 @@ use Rattle.fx_language.specs.declared.symbol.Symbol.TheVariants.{Blocks}
 use Rattle.fx_language.specs.Symbols.{is, is_once}
 use Rattle.fx_language.specs.Repeats.{is_start, is_behind_equals, first_words, step_words, has_statement, procs}
 use Rattle.fx_language.specs.Repeats.{has_option, is_option_in, begins_with, rule_at, repeated, or_later}
-use Rattle.fx_language.specs.Pasts.{past_of, past_after, begun_after, rule_of, step_has, statement_has}
+use Rattle.fx_language.specs.Pasts.{past_of, past_after, begun_after, rule_code, step_has, statement_has}
 
 -- a word of the step, after one more symbol
 begun : (start ends : Bool) (word s : Symbol) (words : List Symbol) → (is Proc s || is Quit s) ≡ ends
@@ -67,7 +67,7 @@ option_twice true Nodes seen = refl
 option_twice true s seen = refl
 
 pub rule_is : (seen rest : List Symbol) (s : Symbol)
-    → rule_at seen s rest ≡ rule_of (past_of seen) s (begins_with Factex rest)
+    → rule_at seen s rest ≡ rule_code (past_of seen) s (begins_with Factex rest)
 rule_is seen rest s =
     ap₂
     (λ a b. if is_start seen && is_once s && has_statement Run seen then Some 27

@@ -22,7 +22,7 @@ use Rattle.fx_language.specs.declared.output.OutputPlace.TheVariants as output
 use Rattle.fx_language.specs.declared.values.ValuesPlace.{ValuesPlace}
 use Rattle.fx_language.specs.declared.values.ValuesPlace.TheVariants as listed
 use Rattle.fx_language.specs.Continuations.{proc_left, factors_left, setting_left, model_left, effects_left}
-use Rattle.fx_language.specs.Continuations.{examine_left, output_left, values_left, shape_of, shape_left}
+use Rattle.fx_language.specs.Continuations.{examine_left, output_left, values_left, shape_at, shape_left}
 
 in_proc_statement : (p : ProcPlace) → is_never (proc_left p) ≡ false
 in_proc_statement proc.Procedure = refl
@@ -56,7 +56,7 @@ in_values : (p : ValuesPlace) → is_never (values_left p) ≡ false
 in_values listed.Number = refl
 in_values p = refl
 
-pub at_place : (p : State) → is_never (shape_of p) ≡ false
+pub at_place : (p : State) → is_never (shape_at p) ≡ false
 at_place state.Between = refl
 at_place state.Closing = refl
 at_place state.Ended = refl

@@ -5,7 +5,7 @@ use Rattle.std.proofs.lemmas.List.{take-append-drop}
 use Rattle.std.proofs.lemmas.Bool.{cases_lt}
 use Rattle.fx_language.specs.declared.symbol.Symbol.{Symbol}
 use Rattle.fx_language.specs.declared.symbol.Symbol.TheVariants.{End}
-use Rattle.fx_language.specs.Shapes.{Shape, Never, Matches, Begins, after}
+use Rattle.fx_language.specs.Shapes.{Shape, Never, Matches, Begins, derivative}
 use Rattle.fx_language.specs.Grammar.{program}
 use Rattle.fx_language.specs.Refusals.{refused, code_of}
 use Rattle.fx_language.specs.Laws.{ended, IsFirstRefused}
@@ -13,23 +13,23 @@ use Rattle.fx_language.proofs.Derivatives.{after_sound, after_complete}
 use Rattle.fx_language.proofs.Solid.{is_solid, inhabited, after_fine, not_never}
 use Rattle.fx_language.proofs.Ends.{ends_last, ends_after, empty_after_end}
 
-pub begins_more : (a : Shape) (s : Symbol) (text : List Symbol) → Begins (after s a) text → Begins a (s ∷ text)
+pub begins_more : (a : Shape) (s : Symbol) (text : List Symbol) → Begins (derivative s a) text → Begins a (s ∷ text)
 begins_more a s text h = (h.0, after_sound s a (text ++ h.0) h.1)
 
-pub begins_less : (a : Shape) (s : Symbol) (text : List Symbol) → Begins a (s ∷ text) → Begins (after s a) text
+pub begins_less : (a : Shape) (s : Symbol) (text : List Symbol) → Begins a (s ∷ text) → Begins (derivative s a) text
 begins_less a s text h = (h.0, after_complete s a (text ++ h.0) h.1)
 
 pub no_text : (a : Shape) (text : List Symbol) → a ≡ Never → Begins a text → ⊥
 no_text a text e h = subst (λ (x : Shape). Matches x (text ++ h.0)) e h.1
 
-at_first : (a : Shape) (s : Symbol) (text : List Symbol) → is_solid a ≡ true → after s a ≡ Never
+at_first : (a : Shape) (s : Symbol) (text : List Symbol) → is_solid a ≡ true → derivative s a ≡ Never
     → IsFirstRefused a (s ∷ text) 0
 at_first a s text h e = record {
   before = inhabited a h;
-  with_it = λ b. no_text (after s a) [] e (begins_less a s [] b);
+  with_it = λ b. no_text (derivative s a) [] e (begins_less a s [] b);
 }
 
-one_later : (a : Shape) (s : Symbol) (text : List Symbol) (j : ℕ) → IsFirstRefused (after s a) text j
+one_later : (a : Shape) (s : Symbol) (text : List Symbol) (j : ℕ) → IsFirstRefused (derivative s a) text j
     → IsFirstRefused a (s ∷ text) (suc j)
 one_later a s text j r = record {
   before = begins_more a s (take j text) r.before;
@@ -47,14 +47,15 @@ refused_first a [] k code i h e =
     elim (after_fine End a h) [
       | inl never_left ↦
           (0, same_place (code_of a End, k) (code, i) (rw never_left at e), at_first a End [] h never_left)
-      | inr solid ↦ absurd (let f : None ≡ Some (code, i) = rw (not_never (after End a) solid) at e in cc)
+      | inr solid ↦ absurd (let f : None ≡ Some (code, i) = rw (not_never (derivative End a) solid) at e in cc)
     ]
 refused_first a (s ∷ rest) k code i h e =
     elim (after_fine s a h) [
       | inl never_left ↦
           (0, same_place (code_of a s, k) (code, i) (rw never_left at e), at_first a s (ended rest) h never_left)
       | inr solid ↦
-          let r = refused_first (after s a) rest (suc k) code i solid (rw (not_never (after s a) solid) at e) in
+          let r = refused_first (derivative s a) rest (suc k) code i solid (rw (not_never (derivative s a) solid) at e)
+          in
           (suc r.0, omega (arith, r.1), one_later a s (ended rest) r.0 r.2)
     ]
 
@@ -66,16 +67,16 @@ accepted_matches a [] k h last e =
     elim (after_fine End a h) [
       | inl never_left ↦ absurd (let f = rw never_left at e in cc)
       | inr solid ↦
-          let t = inhabited (after End a) solid in
-          after_sound End a [] (subst (Matches (after End a)) (empty_after_end a last t.0 t.1) t.1)
+          let t = inhabited (derivative End a) solid in
+          after_sound End a [] (subst (Matches (derivative End a)) (empty_after_end a last t.0 t.1) t.1)
     ]
 accepted_matches a (s ∷ rest) k h last e =
     elim (after_fine s a h) [
       | inl never_left ↦ absurd (let f = rw never_left at e in cc)
       | inr solid ↦
           after_sound s a (ended rest)
-          (accepted_matches (after s a) rest (suc k) solid (ends_after s a last)
-          (rw (not_never (after s a) solid) at e))
+          (accepted_matches (derivative s a) rest (suc k) solid (ends_after s a last)
+          (rw (not_never (derivative s a) solid) at e))
     ]
 
 -- a front part of what begins a text begins one
@@ -84,7 +85,7 @@ shorter a text zero n h b = (take n text ++ b.0, b.1)
 shorter a text (suc m) zero h b = absurd (omega arith)
 shorter a [] (suc m) (suc n) h b = b
 shorter a (s ∷ text) (suc m) (suc n) h b =
-    begins_more a s (take m text) (shorter (after s a) text m n (omega arith) (begins_less a s (take n text) b))
+    begins_more a s (take m text) (shorter (derivative s a) text m n (omega arith) (begins_less a s (take n text) b))
 
 one_place : (a : Shape) (text : List Symbol) (i j : ℕ) → IsFirstRefused a text i → IsFirstRefused a text j
     → i ≡ j

@@ -1,12 +1,13 @@
 -- The grammar refuses a symbol by the number of a rule.
 use Rattle.std.proofs.Common.{◌≡◌, ℕ, suc, Bool, true, false, ◌&&◌, cond, List, [], ◌∷◌, Option, Some, None, refl}
 use Rattle.std.specs.Prelude.{IfSome, unwrap_or, if◌then◌else◌}
+use Rattle.std.specs.Option.{option_or}
 use Rattle.std.proofs.lemmas.Bool.{and_parts}
 use Rattle.fx_language.specs.declared.symbol.Symbol.{Symbol}
 use Rattle.fx_language.specs.declared.symbol.Symbol.TheVariants.{End}
 use Rattle.fx_language.specs.Symbols.{is_word}
-use Rattle.fx_language.specs.Shapes.{Shape, Never, Empty, One, Before, Either, Many, Fault, after, may_be_empty}
-use Rattle.fx_language.specs.Shapes.{or_else, first_of, fault_at, ◌▸◌}
+use Rattle.fx_language.specs.Shapes.{Shape, Never, Empty, One, Before, Either, Many, Fault, derivative, may_be_empty}
+use Rattle.fx_language.specs.Shapes.{or_else, fault_code, ◌▸◌}
 use Rattle.fx_language.specs.Refusals.{is_rule, allows, allows_option, code_of, refused}
 use Rattle.fx_language.specs.Grammar.{program}
 
@@ -98,38 +99,38 @@ one_of : (b : Bool) (x y : Shape) → NamesRules x → NamesRules y → NamesRul
 one_of true x y h k = h
 one_of false x y h k = k
 
-later : (s : Symbol) (a : Shape) → NamesRules a → NamesRules (after s a)
+later : (s : Symbol) (a : Shape) → NamesRules a → NamesRules (derivative s a)
 later s Never h = tt
 later s Empty h = tt
 later s (One test) h = one_of (test s) Empty Never tt tt
 later s (Before a b) h =
-    let first = before (after s a) b (later s a h.0) h.1 in
-    one_of (may_be_empty a) (or_else (after s a ▸ b) (after s b)) (after s a ▸ b)
-    (either (after s a ▸ b) (after s b) first (later s b h.1)) first
-later s (Either a b) h = either (after s a) (after s b) (later s a h.0) (later s b h.1)
-later s (Many a) h = before (after s a) (Many a) (later s a h) h
+    let first = before (derivative s a) b (later s a h.0) h.1 in
+    one_of (may_be_empty a) (or_else (derivative s a ▸ b) (derivative s b)) (derivative s a ▸ b)
+    (either (derivative s a ▸ b) (derivative s b) first (later s b h.1)) first
+later s (Either a b) h = either (derivative s a) (derivative s b) (later s a h.0) (later s b h.1)
+later s (Many a) h = before (derivative s a) (Many a) (later s a h) h
 later s (Fault code test) h = tt
 
 -- so the code of each symbol that it refuses is that of a rule
 
 first : (a b : Option ℕ) → IfSome a (λ c. is_rule c ≡ true) → IfSome b (λ c. is_rule c ≡ true)
-    → IfSome (first_of a b) (λ c. is_rule c ≡ true)
+    → IfSome (option_or a b) (λ c. is_rule c ≡ true)
 first None b h k = k
 first (Some code) b h k = h
 
-named : (s : Symbol) (a : Shape) → NamesRules a → IfSome (fault_at s a) (λ c. is_rule c ≡ true)
+named : (s : Symbol) (a : Shape) → NamesRules a → IfSome (fault_code s a) (λ c. is_rule c ≡ true)
 named s Never h = tt
 named s Empty h = tt
 named s (One test) h = tt
 named s (Before a b) h =
-    first (fault_at s a) (cond (may_be_empty a) (fault_at s b) None) (named s a h.0)
+    first (fault_code s a) (cond (may_be_empty a) (fault_code s b) None) (named s a h.0)
     (by (may_be_empty a) (named s b h.1))
   where
-    by : (e : Bool) → IfSome (fault_at s b) (λ c. is_rule c ≡ true)
-        → IfSome (cond e (fault_at s b) None) (λ c. is_rule c ≡ true)
+    by : (e : Bool) → IfSome (fault_code s b) (λ c. is_rule c ≡ true)
+        → IfSome (cond e (fault_code s b) None) (λ c. is_rule c ≡ true)
     by true k = k
     by false k = tt
-named s (Either a b) h = first (fault_at s a) (fault_at s b) (named s a h.0) (named s b h.1)
+named s (Either a b) h = first (fault_code s a) (fault_code s b) (named s a h.0) (named s b h.1)
 named s (Many a) h = named s a h
 named s (Fault code test) h = by (test s)
   where
@@ -138,7 +139,7 @@ named s (Fault code test) h = by (test s)
     by false = tt
 
 coded : (left : Shape) (s : Symbol) → NamesRules left → is_rule (code_of left s) ≡ true
-coded left s h = of_named (fault_at s left) (named s left h) (is_word s && allows_option left)
+coded left s h = of_named (fault_code s left) (named s left h) (is_word s && allows_option left)
   where
     of_named : (c : Option ℕ) → IfSome c (λ c. is_rule c ≡ true) → (b : Bool)
         → is_rule (unwrap_or c (if b then 3 else 2)) ≡ true
@@ -154,10 +155,10 @@ each i left [] h = by (allows left End)
     by : (b : Bool) → IfSome (if b then None else Some (code_of left End, i)) (λ (r : ℕ × ℕ). is_rule r.0 ≡ true)
     by true = tt
     by false = coded left End h
-each i left (s ∷ rest) h = by (allows left s) (each (suc i) (after s left) rest (later s left h))
+each i left (s ∷ rest) h = by (allows left s) (each (suc i) (derivative s left) rest (later s left h))
   where
-    by : (b : Bool) → IfSome (refused (suc i) (after s left) rest) (λ r. is_rule r.0 ≡ true)
-        → IfSome (if b then refused (suc i) (after s left) rest else Some (code_of left s, i))
+    by : (b : Bool) → IfSome (refused (suc i) (derivative s left) rest) (λ r. is_rule r.0 ≡ true)
+        → IfSome (if b then refused (suc i) (derivative s left) rest else Some (code_of left s, i))
         (λ (r : ℕ × ℕ). is_rule r.0 ≡ true)
     by true k = k
     by false k = coded left s h

@@ -1,12 +1,13 @@
 -- A program is a sequence of statements, and then the end of its text.
 use Rattle.std.proofs.Common.{◌≡◌, List, [], ◌∷◌, ◌++◌, refl, sym, ap, ap₂, ◌∙◌, append_assoc, inl, inr}
 use Rattle.std.specs.List.{AllByRecursion}
+use Rattle.fx_base.proofs.Lists.{each-append}
 use Rattle.fx_language.specs.declared.symbol.Symbol.{Symbol}
 use Rattle.fx_language.specs.declared.symbol.Symbol.TheVariants.{End}
 use Rattle.fx_language.specs.Shapes.{Many, Matches}
 use Rattle.fx_language.specs.Grammar.{key, proc, sentence, statement, program}
 use Rattle.fx_language.proofs.Derivatives.{parts_of}
-use Rattle.fx_language.proofs.StepEnds.{top, flat, flat_cat, all_cat, program_is_loose}
+use Rattle.fx_language.proofs.StepEnds.{top, flat, flat_cat, program_is_loose}
 
 -- statements, one after another
 pub record Sentences (text : List Symbol) : Type 0 where
@@ -33,7 +34,7 @@ before p rest (inr (inr (inr st))) o =
     let x = s.0 in
     record {
       parts = x ∷ (own ++ o.parts);
-      each = (inr (inl s.2), all_cat sentence own o.parts (in_step own s.3.1) o.each);
+      each = (inr (inl s.2), each-append (Matches sentence) own o.parts (in_step own s.3.1) o.each);
       is =
           ap₂ (λ (l m : List Symbol). l ++ m) (s.4 ∙ ap (λ (l : List Symbol). x ++ l) s.3.2) o.is
           ∙ append_assoc x (flat own) (flat o.parts)

@@ -6,7 +6,7 @@ use Rattle.std.proofs.lemmas.Bool.{and_parts, or_cases}
 use Rattle.fx_language.specs.declared.symbol.Symbol.{Symbol}
 use Rattle.fx_language.specs.Keywords.{all_symbols}
 use Rattle.fx_language.specs.Shapes.{Shape, Never, Empty, One, Before, Either, Many, Fault, ◌▸◌, or_else, may_be_empty}
-use Rattle.fx_language.specs.Shapes.{after, is_never, Matches}
+use Rattle.fx_language.specs.Shapes.{derivative, is_never, Matches}
 
 -- a description that only names codes
 abbrev pub is_fault : Shape → Bool
@@ -49,7 +49,7 @@ inhabited (Fault code test) h = absurd (let f : false ≡ true = h in cc)
 abbrev IsFine : Shape → Type 0
 IsFine a = (a ≡ Never) ⊎ (is_solid a ≡ true)
 
-never_after : (s : Symbol) (a : Shape) → is_fault a ≡ true → after s a ≡ Never
+never_after : (s : Symbol) (a : Shape) → is_fault a ≡ true → derivative s a ≡ Never
 never_after s Never h = absurd (let f : false ≡ true = h in cc)
 never_after s Empty h = absurd (let f : false ≡ true = h in cc)
 never_after s (One test) h = absurd (let f : false ≡ true = h in cc)
@@ -99,24 +99,24 @@ cond_fine true x y h k = h
 cond_fine false x y h k = k
 
 -- what is left is Never, or solid again
-pub after_fine : (s : Symbol) (a : Shape) → is_solid a ≡ true → IsFine (after s a)
+pub after_fine : (s : Symbol) (a : Shape) → is_solid a ≡ true → IsFine (derivative s a)
 after_fine s Never h = inl refl
 after_fine s Empty h = inl refl
 after_fine s (One test) h = cond_fine (test s) Empty Never (inr refl) (inl refl)
 after_fine s (Before a b) h =
     let p = and_parts (is_solid a) (is_solid b) h in
-    let first = sequence_fine (after s a) b (after_fine s a p.0) p.1 in
-    cond_fine (may_be_empty a) (or_else (after s a ▸ b) (after s b)) (after s a ▸ b)
-    (or_else_fine (after s a ▸ b) (after s b) first (after_fine s b p.1)) first
+    let first = sequence_fine (derivative s a) b (after_fine s a p.0) p.1 in
+    cond_fine (may_be_empty a) (or_else (derivative s a ▸ b) (derivative s b)) (derivative s a ▸ b)
+    (or_else_fine (derivative s a ▸ b) (derivative s b) first (after_fine s b p.1)) first
 after_fine s (Either a b) h =
     ⊎_elim
     (λ p. let q = and_parts (is_solid a) (is_solid b || is_fault b) p in
-    or_else_fine (after s a) (after s b) (after_fine s a q.0)
+    or_else_fine (derivative s a) (derivative s b) (after_fine s a q.0)
     (⊎_elim (λ x. after_fine s b x) (λ x. inl (never_after s b x)) (or_cases (is_solid b) (is_fault b) q.1)))
     (λ p. let q = and_parts (is_fault a) (is_solid b) p in
-    or_else_fine (after s a) (after s b) (inl (never_after s a q.0)) (after_fine s b q.1))
+    or_else_fine (derivative s a) (derivative s b) (inl (never_after s a q.0)) (after_fine s b q.1))
     (or_cases (is_solid a && (is_solid b || is_fault b)) (is_fault a && is_solid b) h)
-after_fine s (Many a) h = sequence_fine (after s a) (Many a) (after_fine s a h) h
+after_fine s (Many a) h = sequence_fine (derivative s a) (Many a) (after_fine s a h) h
 after_fine s (Fault code test) h = inl refl
 
 pub not_never : (a : Shape) → is_solid a ≡ true → is_never a ≡ false

@@ -1,6 +1,7 @@
 -- The grammar in which a step may be followed by anything that begins a statement of the program has the same programs.
 use Rattle.std.proofs.Common.{◌≡◌, List, [], ◌∷◌, ◌++◌, refl, sym, ap, ◌∙◌, append_assoc, inl, inr}
 use Rattle.std.specs.List.{flat_map, AllByRecursion}
+use Rattle.fx_base.proofs.Lists.{each-append}
 use Rattle.fx_language.specs.declared.symbol.Symbol.{Symbol}
 use Rattle.fx_language.specs.declared.symbol.Symbol.TheVariants.{Semicolon, Run, Quit, End}
 use Rattle.fx_language.specs.Shapes.{Shape, Many, maybe, Matches, ◌▸◌, ◌∣◌}
@@ -29,11 +30,6 @@ cat a b x y p q = sequence_of a b (x ++ y) (x, y, p, q, refl)
 pub flat_cat : (a b : List Text) → flat (a ++ b) ≡ flat a ++ flat b
 flat_cat [] b = refl
 flat_cat (p ∷ a) b = ap (λ (l : Text). p ++ l) (flat_cat a b) ∙ sym (append_assoc p (flat a) (flat b))
-
-pub all_cat : (S : Shape) (a b : List Text) → AllByRecursion (Matches S) a → AllByRecursion (Matches S) b
-    → AllByRecursion (Matches S) (a ++ b)
-all_cat S [] b h k = k
-all_cat S (p ∷ a) b h k = (h.0, all_cat S a b h.1 k)
 
 record Outside (text : Text) : Type 0 where
   gaps : List Text
@@ -73,7 +69,7 @@ opened p text h o =
     let x = s.0 in
     let whole : Matches (Many statement) (flat own ++ flat o.statements) = (
       own ++ o.statements,
-      all_cat statement own o.statements s.3.1 o.each_statement,
+      each-append (Matches statement) own o.statements s.3.1 o.each_statement,
       sym
           (flat_cat own o.statements),
     ) in
@@ -187,7 +183,7 @@ quit_tops r text (inr e) o = record { parts = o.parts; each = o.each; is = rw e 
 quit_tops r text (inl (u, v, q, (w, z, s, (gaps, each, e), f), g)) o =
     record {
       parts = (u ++ w) ∷ (gaps ++ o.parts);
-      each = (inr (inr (inl (u, w, q, s, refl))), all_cat top gaps o.parts (sep_top gaps each) o.each);
+      each = (inr (inr (inl (u, w, q, s, refl))), each-append (Matches top) gaps o.parts (sep_top gaps each) o.each);
       is =
           spread r text u v w z (flat gaps) (flat o.parts) g f e o.is
           ∙ ap (λ (l : Text). (u ++ w) ++ l) (sym (flat_cat gaps o.parts));
@@ -214,7 +210,7 @@ program_is_loose text (x, y, (gaps, each, e), (z, w, (blocks, all, f), last, g),
     let o = blocks_tops blocks all in (
       flat (gaps ++ o.parts),
       w,
-      (gaps ++ o.parts, all_cat top gaps o.parts (sep_top gaps each) o.each, refl),
+      (gaps ++ o.parts, each-append (Matches top) gaps o.parts (sep_top gaps each) o.each, refl),
       ended last,
       i ∙ join x y z w (flat gaps) (flat o.parts) e g (f ∙ o.is) ∙ ap (λ (l : Text). l ++ w)
           (sym (flat_cat gaps o.parts)),

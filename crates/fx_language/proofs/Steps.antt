@@ -5,23 +5,23 @@ use Rattle.std.proofs.Math.Seq.{drop-cons}
 use Rattle.std.proofs.Math.Numerals.{add-one}
 use Rattle.fx_language.specs.declared.symbol.Symbol.{Symbol}
 use Rattle.fx_language.specs.declared.symbol.Symbol.TheVariants.{Proc, End}
-use Rattle.fx_language.specs.Shapes.{Shape, Never, after, is_never}
+use Rattle.fx_language.specs.Shapes.{Shape, Never, derivative, is_never}
 use Rattle.fx_language.specs.Refusals.{code_of, refused}
 
-pub end_refused : (i : ℕ) (a : Shape) → after End a ≡ Never → refused i a [] ≡ Some (code_of a End, i)
+pub end_refused : (i : ℕ) (a : Shape) → derivative End a ≡ Never → refused i a [] ≡ Some (code_of a End, i)
 unfolding refused
 end_refused i a e = rw e refl
 
-pub end_allowed : (i : ℕ) (a b : Shape) → after End a ≡ b → is_never b ≡ false → refused i a [] ≡ None
+pub end_allowed : (i : ℕ) (a b : Shape) → derivative End a ≡ b → is_never b ≡ false → refused i a [] ≡ None
 unfolding refused
 end_allowed i a b e live = rw (e, live) refl
 
-one_refused : (i : ℕ) (a : Shape) (s : Symbol) (rest : List Symbol) → after s a ≡ Never
+one_refused : (i : ℕ) (a : Shape) (s : Symbol) (rest : List Symbol) → derivative s a ≡ Never
     → refused i a (s ∷ rest) ≡ Some (code_of a s, i)
 unfolding refused
 one_refused i a s rest e = rw e refl
 
-one_allowed : (i : ℕ) (a b : Shape) (s : Symbol) (rest : List Symbol) → after s a ≡ b → is_never b ≡ false
+one_allowed : (i : ℕ) (a b : Shape) (s : Symbol) (rest : List Symbol) → derivative s a ≡ b → is_never b ≡ false
     → refused i a (s ∷ rest) ≡ refused (suc i) b rest
 unfolding refused
 one_allowed i a b s rest e live = rw (e, live) refl
@@ -33,11 +33,11 @@ module _ (symbols : List Symbol) (i : ℕ) (h : i < length symbols) where
   next_first : drop i symbols ≡ next ∷ drop (i + 1) symbols
   next_first = rw (add-one i) (drop-cons symbols i Proc h)
 
-  pub next_refused : (a : Shape) → after next a ≡ Never
+  pub next_refused : (a : Shape) → derivative next a ≡ Never
       → refused i a (drop i symbols) ≡ Some (code_of a next, i)
   next_refused a e = ap (λ l. refused i a l) next_first ∙ one_refused i a next (drop (i + 1) symbols) e
 
-  pub next_allowed : (a b : Shape) → after next a ≡ b → is_never b ≡ false
+  pub next_allowed : (a b : Shape) → derivative next a ≡ b → is_never b ≡ false
       → refused i a (drop i symbols) ≡ refused (i + 1) b (drop (i + 1) symbols)
   next_allowed a b e live =
       ap (λ l. refused i a l) next_first

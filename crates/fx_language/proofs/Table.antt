@@ -8,7 +8,7 @@ use Rattle.std.proofs.Math.Numerals.{add-one}
 use Rattle.fx_language.specs.declared.keyword.Spelling.{Spelling}
 use Rattle.fx_language.specs.declared.symbol.Symbol.TheVariants.{Proc}
 use Rattle.fx_language.specs.Keywords.{is_same, listed_in}
-use Rattle.fx_language.specs.Spellings.{row_of}
+use Rattle.fx_language.specs.Spellings.{spelling_row}
 
 -- what a list gives after its end
 abbrev pub any : Spelling
@@ -36,11 +36,11 @@ not_same x y h = go (is_same x y) refl
 
 module _ (rows : List Spelling) (i : ℕ) (d : Spelling) (h : i < length rows) (word : List ℕ) where
   pub here : map to_ascii_lowercase word ≡ map to_ascii_lowercase (get_or rows i d).letters.now
-      → listed_in (map row_of (drop i rows)) word ≡ (get_or rows i d).symbol
+      → listed_in (map spelling_row (drop i rows)) word ≡ (get_or rows i d).symbol
   here e = rw (drop-cons rows i d h, e, same_self (map to_ascii_lowercase (get_or rows i d).letters.now)) refl
 
   pub further : (map to_ascii_lowercase word ≡ map to_ascii_lowercase (get_or rows i d).letters.now → ⊥)
-      → listed_in (map row_of (drop i rows)) word ≡ listed_in (map row_of (drop (i + 1) rows)) word
+      → listed_in (map spelling_row (drop i rows)) word ≡ listed_in (map spelling_row (drop (i + 1) rows)) word
   further other =
       rw (
         drop-cons rows i d h,

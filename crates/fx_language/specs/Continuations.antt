@@ -72,16 +72,16 @@ factors_left factors.Equals = key Equals ▸ n ▸ ending
 factors_left factors.Levels = n ▸ ending
 
 -- the word that is allowed in the place of a number
-abbrev pub word_of : Extreme → Symbol
-word_of extreme.Minimum = Minimum
-word_of extreme.Maximum = Maximum
+abbrev pub extreme_word : Extreme → Symbol
+extreme_word extreme.Minimum = Minimum
+extreme_word extreme.Maximum = Maximum
 
 -- what is left at a place in a SIZE or BLOCKS statement
 abbrev pub setting_left : SettingPlace → Shape
 setting_left setting.SizeWord = size_rest ▸ in_step
 setting_left setting.BlocksWord = blocks_rest ▸ in_step
-setting_left (setting.Equals e) = key Equals ▸ n_or (word_of e) ▸ ending
-setting_left (setting.Value e) = n_or (word_of e) ▸ ending
+setting_left (setting.Equals e) = key Equals ▸ n_or (extreme_word e) ▸ ending
+setting_left (setting.Value e) = n_or (extreme_word e) ▸ ending
 
 -- the option of MODEL, where it is given, and the end of MODEL
 abbrev pub model_option : Shape
@@ -164,22 +164,22 @@ values_left listed.Text = in_output (listed_values kind.Texts)
 values_left listed.MoreTexts = in_output (Many (key Quoted) ▸ key Close)
 
 -- what is left at a place
-abbrev pub shape_of : State → Shape
-shape_of state.Between = program
-shape_of state.Closing = key Semicolon ▸ program
-shape_of state.Ended = Empty
-shape_of state.Step = in_step
-shape_of state.StatementEnd = ending
-shape_of (state.Proc p) = proc_left p
-shape_of (state.Factors p) = factors_left p
-shape_of (state.Setting p) = setting_left p
-shape_of (state.Model p) = model_left p
-shape_of (state.Effects l p) = effects_left l p
-shape_of (state.Examine p) = examine_left p
-shape_of (state.Output p) = output_left p
-shape_of (state.Values p) = values_left p
+abbrev pub shape_at : State → Shape
+shape_at state.Between = program
+shape_at state.Closing = key Semicolon ▸ program
+shape_at state.Ended = Empty
+shape_at state.Step = in_step
+shape_at state.StatementEnd = ending
+shape_at (state.Proc p) = proc_left p
+shape_at (state.Factors p) = factors_left p
+shape_at (state.Setting p) = setting_left p
+shape_at (state.Model p) = model_left p
+shape_at (state.Effects l p) = effects_left l p
+shape_at (state.Examine p) = examine_left p
+shape_at (state.Output p) = output_left p
+shape_at (state.Values p) = values_left p
 
 -- the same, and no text where there is no place
 abbrev pub shape_left : Option State → Shape
 shape_left None = Never
-shape_left (Some place) = shape_of place
+shape_left (Some place) = shape_at place

@@ -4,13 +4,13 @@ use Rattle.fx_language.specs.declared.symbol.Symbol.{Symbol}
 use Rattle.fx_language.specs.declared.symbol.Symbol.TheVariants.{Proc, Factex, Nodes, Run, Quit, Factors, Nlev, Size}
 use Rattle.fx_language.specs.declared.symbol.Symbol.TheVariants.{Design, Fraction, Nrunfacs, Minimum, Maximum, Model}
 use Rattle.fx_language.specs.declared.symbol.Symbol.TheVariants.{Estimate, Nonnegligible, Resolution, Minabs, Blocks}
-use Rattle.fx_language.specs.declared.symbol.Symbol.TheVariants.{Nblkfacs, Nblocks, Examine, Aliasing, Blocked}
-use Rattle.fx_language.specs.declared.symbol.Symbol.TheVariants.{Confounding, Aberration, Output, Out, Pointrep}
+use Rattle.fx_language.specs.declared.symbol.Symbol.TheVariants.{Nblkfacs, Nblocks, Examine, Aliasing}
+use Rattle.fx_language.specs.declared.symbol.Symbol.TheVariants.{Aberration, Output, Out, Pointrep}
 use Rattle.fx_language.specs.declared.symbol.Symbol.TheVariants.{Designrep, Randomize, Novalran, Blockname, Nvals}
 use Rattle.fx_language.specs.declared.symbol.Symbol.TheVariants.{Cvals, Uniteffect, Whole, Decimal, Quoted, Semicolon}
 use Rattle.fx_language.specs.declared.symbol.Symbol.TheVariants.{Equals, Open, Close, OpenBracket, Slash, Star, Bar, At}
 use Rattle.fx_language.specs.declared.symbol.Symbol.TheVariants.{Minus, End}
-use Rattle.fx_language.specs.Symbols.{is, is_word, is_output_option, is_left_out}
+use Rattle.fx_language.specs.Symbols.{is, is_word, is_output_option, is_left_out, is_plain_section}
 use Rattle.fx_language.specs.Shapes.{Shape, Empty, One, Many, Fault, guarded, maybe, ◌▸◌, ◌∣◌}
 
 -- this symbol
@@ -97,7 +97,7 @@ blocks = key Blocks ▸ blocks_rest
 
 -- a section of the listing
 abbrev pub examine_word : Shape
-examine_word = key Aliasing ▸ no_open ∣ key Blocked ∣ key Confounding ∣ key Design ∣ key Aberration ▸ no_open
+examine_word = key Aliasing ▸ no_open ∣ key Aberration ▸ no_open ∣ One is_plain_section
 
 -- after the word EXAMINE
 abbrev pub examine_rest : Shape

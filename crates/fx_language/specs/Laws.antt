@@ -69,29 +69,30 @@ abbrev pub AwaitsStatement : List Symbol → Type 0
 AwaitsStatement text = IsAtStart text ⊎ ((front : List Symbol) × IsAtStart front × (text ≡ front ++ Proc ∷ []))
 
 -- in a statement with this first word, after which these symbols follow
-abbrev pub IsIn : Symbol → List Symbol → List Symbol → Type 0
-IsIn word text rest =
+abbrev pub IsInStatement : Symbol → List Symbol → List Symbol → Type 0
+IsInStatement word text rest =
     (front : List Symbol) × IsAtStart front × (text ≡ front ++ word ∷ rest) × (list_any (is Semicolon) rest ≡ false)
 
 -- behind the MINABS of MODEL, which follows `/`, or ALIASING or ABERRATION in EXAMINE
 abbrev pub IsBehindSection : List Symbol → Type 0
 IsBehindSection text =
     (rest : List Symbol)
-    × (IsIn Model text (rest ++ Slash ∷ Minabs ∷ [])
-    ⊎ (IsIn Examine text (rest ++ Aliasing ∷ []) ⊎ IsIn Examine text (rest ++ Aberration ∷ [])))
+    × (IsInStatement Model text (rest ++ Slash ∷ Minabs ∷ [])
+    ⊎ (IsInStatement Examine text (rest ++ Aliasing ∷ []) ⊎ IsInStatement Examine text (rest ++ Aberration ∷ [])))
 
 -- behind `POINTREP =` or `DESIGNREP =` in OUTPUT
 abbrev pub AwaitsReplication : List Symbol → Type 0
 AwaitsReplication text =
     (rest : List Symbol)
-    × (IsIn Output text (rest ++ Pointrep ∷ Equals ∷ []) ⊎ IsIn Output text (rest ++ Designrep ∷ Equals ∷ []))
+    × (IsInStatement Output text (rest ++ Pointrep ∷ Equals ∷ [])
+    ⊎ IsInStatement Output text (rest ++ Designrep ∷ Equals ∷ []))
 
 -- what is left out of the language: UNITEFFECT, some words of PROC, `(` behind a section or MINABS, a word for a
 -- replication, and `[` in OUTPUT
 abbrev pub IsLeftOut : List Symbol → Symbol → Type 0
 IsLeftOut text s =
     ((is Uniteffect s ≡ true) × IsAtStart text)
-    ⊎ (((is_left_out s ≡ true) × (rest : List Symbol) × IsIn Proc text rest)
+    ⊎ (((is_left_out s ≡ true) × (rest : List Symbol) × IsInStatement Proc text rest)
     ⊎ (((is Open s ≡ true) × IsBehindSection text)
     ⊎ (((is_word s ≡ true) × AwaitsReplication text)
-    ⊎ ((is OpenBracket s ≡ true) × (rest : List Symbol) × IsIn Output text rest))))
+    ⊎ ((is OpenBracket s ≡ true) × (rest : List Symbol) × IsInStatement Output text rest))))

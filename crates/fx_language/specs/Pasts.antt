@@ -13,29 +13,37 @@ use Rattle.fx_language.specs.declared.repeated.StatementPast.{StatementPast}
 use Rattle.fx_language.specs.Symbols.{is, is_once}
 use Rattle.fx_language.specs.Repeats.{is_start, is_behind_equals, procs, has_statement, is_in, has_option}
 
--- what is kept where these symbols were seen, the last one first
+-- what is kept of a step where these symbols were seen, the last one first
+abbrev pub step_past_of : List Symbol → StepPast
+step_past_of seen = record {
+  run = has_statement Run seen;
+  factors = has_statement Factors seen;
+  size = has_statement Size seen;
+  model = has_statement Model seen;
+  blocks = has_statement Blocks seen;
+}
+
+-- of a statement
+abbrev pub statement_past_of : List Symbol → StatementPast
+statement_past_of seen = record {
+  proc = is_in Proc seen;
+  output = is_in Output seen;
+  nodes = has_option Nodes seen;
+  pointrep = has_option Pointrep seen;
+  designrep = has_option Designrep seen;
+  randomize = has_option Randomize seen;
+  novalran = has_option Novalran seen;
+  blockname = has_option Blockname seen;
+}
+
+-- all that is kept
 abbrev pub past_of : List Symbol → Past
 past_of seen = record {
   start = is_start seen;
   behind_equals = is_behind_equals seen;
   procs = procs seen;
-  step = record {
-    run = has_statement Run seen;
-    factors = has_statement Factors seen;
-    size = has_statement Size seen;
-    model = has_statement Model seen;
-    blocks = has_statement Blocks seen;
-  };
-  statement = record {
-    proc = is_in Proc seen;
-    output = is_in Output seen;
-    nodes = has_option Nodes seen;
-    pointrep = has_option Pointrep seen;
-    designrep = has_option Designrep seen;
-    randomize = has_option Randomize seen;
-    novalran = has_option Novalran seen;
-    blockname = has_option Blockname seen;
-  };
+  step = step_past_of seen;
+  statement = statement_past_of seen;
 }
 
 -- the step has a statement that begins as this one does, and may have one alone
@@ -57,8 +65,8 @@ statement_has p Blockname = p.output && p.blockname
 statement_has p s = false
 
 -- the code by which a rule refuses the symbol
-abbrev pub rule_of : Past → Symbol → Bool → Option ℕ
-rule_of p s factex_follows =
+abbrev pub rule_code : Past → Symbol → Bool → Option ℕ
+rule_code p s factex_follows =
     if p.start && is_once s && p.step.run then Some STATEMENT_AFTER_RUN
     else (if p.start && step_has p.step s then Some REPEATED_STATEMENT
     else (if p.start && is Proc s && factex_follows && nat_le MOST_STEPS p.procs then Some TOO_MANY_STEPS

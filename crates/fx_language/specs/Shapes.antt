@@ -1,6 +1,7 @@
 -- Descriptions of texts of symbols: which texts a description represents, and what it leaves after a symbol.
 use Rattle.std.specs.Prelude.{◌≡◌, ℕ, Bool, true, false, ◌&&◌, ◌||◌, cond, ◌⊎◌, List, [], ◌∷◌, ◌++◌, Option, Some, None}
 use Rattle.std.specs.List.{flat_map, AllByRecursion}
+use Rattle.std.specs.Option.{option_or}
 use Rattle.fx_language.specs.declared.symbol.Symbol.{Symbol}
 
 -- A description of texts: no text, the empty one, one symbol of a sort, one description before another, either of
@@ -67,35 +68,30 @@ may_be_empty (Either a b) = may_be_empty a || may_be_empty b
 may_be_empty (Many a) = true
 may_be_empty (Fault code test) = false
 
--- what may follow the symbol, where it is first in a text
-abbrev pub after : Symbol → Shape → Shape
-after s Never = Never
-after s Empty = Never
-after s (One test) = cond (test s) Empty Never
-after s (Before a b) = cond (may_be_empty a) (or_else (after s a ▸ b) (after s b)) (after s a ▸ b)
-after s (Either a b) = or_else (after s a) (after s b)
-after s (Many a) = after s a ▸ Many a
-after s (Fault code test) = Never
+-- the derivative by a symbol: what may follow it, where it is first in a text
+abbrev pub derivative : Symbol → Shape → Shape
+derivative s Never = Never
+derivative s Empty = Never
+derivative s (One test) = cond (test s) Empty Never
+derivative s (Before a b) = cond (may_be_empty a) (or_else (derivative s a ▸ b) (derivative s b)) (derivative s a ▸ b)
+derivative s (Either a b) = or_else (derivative s a) (derivative s b)
+derivative s (Many a) = derivative s a ▸ Many a
+derivative s (Fault code test) = Never
 
 -- it represents no text
 abbrev pub is_never : Shape → Bool
 is_never Never = true
 is_never a = false
 
--- the first of two codes, where there is one
-abbrev pub first_of : Option ℕ → Option ℕ → Option ℕ
-first_of None b = b
-first_of (Some code) b = Some code
-
 -- the code that the description names for a symbol that stands next
-abbrev pub fault_at : Symbol → Shape → Option ℕ
-fault_at s Never = None
-fault_at s Empty = None
-fault_at s (One test) = None
-fault_at s (Before a b) = first_of (fault_at s a) (cond (may_be_empty a) (fault_at s b) None)
-fault_at s (Either a b) = first_of (fault_at s a) (fault_at s b)
-fault_at s (Many a) = fault_at s a
-fault_at s (Fault code test) = cond (test s) (Some code) None
+abbrev pub fault_code : Symbol → Shape → Option ℕ
+fault_code s Never = None
+fault_code s Empty = None
+fault_code s (One test) = None
+fault_code s (Before a b) = option_or (fault_code s a) (cond (may_be_empty a) (fault_code s b) None)
+fault_code s (Either a b) = option_or (fault_code s a) (fault_code s b)
+fault_code s (Many a) = fault_code s a
+fault_code s (Fault code test) = cond (test s) (Some code) None
 
 -- the same texts, where some symbols have this code at each place of them
 abbrev pub guarded : ℕ → (Symbol → Bool) → Shape → Shape

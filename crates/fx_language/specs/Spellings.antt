@@ -4,5 +4,5 @@ use Rattle.fx_language.specs.declared.keyword.Spelling.{Spelling}
 use Rattle.fx_language.specs.declared.symbol.Symbol.{Symbol}
 
 -- the row of the table for a spelling
-abbrev pub row_of : Spelling → List ℕ × Symbol
-row_of s = (s.letters.now, s.symbol)
+abbrev pub spelling_row : Spelling → List ℕ × Symbol
+spelling_row s = (s.letters.now, s.symbol)

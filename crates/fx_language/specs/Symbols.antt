@@ -89,3 +89,11 @@ is_once s = is Factors s || is Size s || is Model s || is Blocks s
 -- the words of PROC that this product doesn't keep
 abbrev pub is_left_out : Symbol → Bool
 is_left_out s = is Time s || is Nocheck s || is Namelen s
+
+-- the sections of the listing after which `(` is as after any other word
+abbrev pub is_plain_section : Symbol → Bool
+is_plain_section s = is Blocked s || is Confounding s || is Design s
+
+-- the sections of the listing
+abbrev pub is_section : Symbol → Bool
+is_section s = is Aliasing s || is Aberration s || is_plain_section s

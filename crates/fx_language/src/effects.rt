@@ -1,6 +1,6 @@
 ghost use Rattle.std.specs.Prelude.{◌≡◌};
-ghost use Rattle.fx_language.specs.Shapes.{after};
-ghost use Rattle.fx_language.specs.Continuations.{effects_left, list_left, shape_left, shape_of};
+ghost use Rattle.fx_language.specs.Shapes.{derivative};
+ghost use Rattle.fx_language.specs.Continuations.{effects_left, list_left, shape_left, shape_at};
 
 use crate::model::ModelPlace;
 use crate::state::{State, any_word, only};
@@ -39,7 +39,7 @@ pub enum EffectPlace {
 impl EffectPlace {
     /// The place after the symbol, or None where the grammar refuses it.
     pub(crate) fn next(self, list: EffectList, symbol: Symbol) -> Option<State>
-        ensures { after symbol (effects_left list self) ≡ shape_left result }
+        ensures { derivative symbol (effects_left list self) ≡ shape_left result }
     {
         match self {
             Self::Equals => only(Symbol::Equals, symbol, State::Effects(list, Self::Open)),
@@ -57,7 +57,7 @@ impl EffectPlace {
 
 /// The place after a symbol that follows the first name of an effect.
 fn behind_name(list: EffectList, symbol: Symbol) -> Option<State>
-    ensures { after symbol (effects_left list EffectPlace.Name) ≡ shape_left result }
+    ensures { derivative symbol (effects_left list EffectPlace.Name) ≡ shape_left result }
 {
     match symbol {
         Symbol::Minus => Some(State::Effects(list, EffectPlace::Range)),
@@ -67,7 +67,7 @@ fn behind_name(list: EffectList, symbol: Symbol) -> Option<State>
 
 /// The place after a symbol that follows a name of a product.
 fn behind_product(list: EffectList, symbol: Symbol) -> Option<State>
-    ensures { after symbol (effects_left list EffectPlace.Product) ≡ shape_left result }
+    ensures { derivative symbol (effects_left list EffectPlace.Product) ≡ shape_left result }
 {
     match symbol {
         Symbol::Star | Symbol::Bar => Some(State::Effects(list, EffectPlace::Factor)),
@@ -78,7 +78,7 @@ fn behind_product(list: EffectList, symbol: Symbol) -> Option<State>
 
 /// The place after a symbol that follows a whole effect.
 fn behind_effect(list: EffectList, symbol: Symbol) -> Option<State>
-    ensures { after symbol (effects_left list EffectPlace.More) ≡ shape_left result }
+    ensures { derivative symbol (effects_left list EffectPlace.More) ≡ shape_left result }
 {
     match symbol {
         Symbol::Close => Some(list.behind()),
@@ -89,7 +89,7 @@ fn behind_effect(list: EffectList, symbol: Symbol) -> Option<State>
 impl EffectList {
     /// The place after the list.
     fn behind(self) -> State
-        ensures { shape_of result ≡ list_left self }
+        ensures { shape_at result ≡ list_left self }
     {
         match self {
             EffectList::Estimate => State::Model(ModelPlace::Nonnegligible),

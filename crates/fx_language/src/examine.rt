@@ -1,5 +1,5 @@
 ghost use Rattle.std.specs.Prelude.{◌≡◌};
-ghost use Rattle.fx_language.specs.Shapes.{after, fault_at};
+ghost use Rattle.fx_language.specs.Shapes.{derivative, fault_code};
 ghost use Rattle.fx_language.specs.Continuations.{examine_left, shape_left};
 
 use crate::code;
@@ -18,7 +18,7 @@ pub enum ExaminePlace {
 impl ExaminePlace {
     /// The place after the symbol, or None where the grammar refuses it.
     pub(crate) fn next(self, symbol: Symbol) -> Option<State>
-        ensures { after symbol (examine_left self) ≡ shape_left result }
+        ensures { derivative symbol (examine_left self) ≡ shape_left result }
     {
         match symbol {
             Symbol::Aliasing | Symbol::Aberration => Some(State::Examine(Self::NoOpen)),
@@ -32,7 +32,7 @@ impl ExaminePlace {
 
     /// The code that the grammar names for the symbol here.
     pub(crate) fn named_code(self, symbol: Symbol) -> Option<u8>
-        ensures { result ≡ fault_at symbol (examine_left self) }
+        ensures { result ≡ fault_code symbol (examine_left self) }
     {
         match (self, symbol) {
             (Self::NoOpen, Symbol::Open) => Some(code::NOT_IN_PROFILE),

@@ -1,5 +1,5 @@
 ghost use Rattle.std.specs.Prelude.{◌≡◌};
-ghost use Rattle.fx_language.specs.Shapes.{after};
+ghost use Rattle.fx_language.specs.Shapes.{derivative};
 ghost use Rattle.fx_language.specs.Continuations.{factors_left, shape_left};
 
 use crate::state::{State, any_word, only};
@@ -27,7 +27,7 @@ pub enum FactorsPlace {
 impl FactorsPlace {
     /// The place after the symbol, or None where the grammar refuses it.
     pub(crate) fn next(self, symbol: Symbol) -> Option<State>
-        ensures { after symbol (factors_left self) ≡ shape_left result }
+        ensures { derivative symbol (factors_left self) ≡ shape_left result }
     {
         match self {
             Self::First => any_word(symbol, State::Factors(Self::Name)),
@@ -43,7 +43,7 @@ impl FactorsPlace {
 
 /// The place after a symbol that follows a name.
 fn behind_name(symbol: Symbol) -> Option<State>
-    ensures { after symbol (factors_left FactorsPlace.Name) ≡ shape_left result }
+    ensures { derivative symbol (factors_left FactorsPlace.Name) ≡ shape_left result }
 {
     match symbol {
         Symbol::Minus => Some(State::Factors(FactorsPlace::Range)),
@@ -53,7 +53,7 @@ fn behind_name(symbol: Symbol) -> Option<State>
 
 /// The place after a symbol that follows a name or a range.
 fn behind_item(symbol: Symbol) -> Option<State>
-    ensures { after symbol (factors_left FactorsPlace.More) ≡ shape_left result }
+    ensures { derivative symbol (factors_left FactorsPlace.More) ≡ shape_left result }
 {
     match symbol {
         Symbol::Slash => Some(State::Factors(FactorsPlace::Option)),

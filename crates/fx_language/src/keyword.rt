@@ -1,6 +1,6 @@
 ghost use Rattle.std.specs.Prelude.{◌≡◌, ◌++◌, map};
 ghost use Rattle.fx_language.specs.Keywords.{keywords, listed_in, short_forms};
-ghost use Rattle.fx_language.specs.Spellings.{row_of};
+ghost use Rattle.fx_language.specs.Spellings.{spelling_row};
 
 use crate::symbol::Symbol;
 
@@ -12,14 +12,14 @@ pub struct Spelling {
 }
 
 fn row(letters: &'static [u8], symbol: Symbol) -> Spelling
-    ensures { row_of result ≡ (letters.now, symbol) }
+    ensures { spelling_row result ≡ (letters.now, symbol) }
 {
     Spelling { letters, symbol }
 }
 
 /// Each keyword, and after them the short forms of some.
 pub fn spellings() -> [Spelling; 47]
-    ensures { map row_of result ≡ keywords ++ short_forms }
+    ensures { map spelling_row result ≡ keywords ++ short_forms }
 {
     [
         row(b"proc", Symbol::Proc),
@@ -74,7 +74,7 @@ pub fn spellings() -> [Spelling; 47]
 
 /// What a word represents among these spellings, without regard to case.
 pub fn look_up(spellings: &[Spelling], word: &[u8]) -> Symbol
-    ensures { result ≡ listed_in (map row_of spellings.now) word.now }
+    ensures { result ≡ listed_in (map spelling_row spellings.now) word.now }
 {
     for spelling in spellings {
         if word.eq_ignore_ascii_case(spelling.letters) {

@@ -1,7 +1,7 @@
 //! What the grammar refuses and accepts, without a word on how a symbol is judged.
 ghost use Rattle.std.specs.Prelude.{◌≡◌, ◌⊎◌, ◌↔◌, ◌∷◌, ℕ, true, Some, List, take, get_or};
 ghost use Rattle.fx_language.specs.declared.symbol.Symbol.{Symbol};
-ghost use Rattle.fx_language.specs.Shapes.{Shape, Before, Matches, after, ◌▸◌};
+ghost use Rattle.fx_language.specs.Shapes.{Shape, Before, Matches, derivative, ◌▸◌};
 ghost use Rattle.fx_language.specs.declared.symbol.Symbol.TheVariants.{End};
 ghost use Rattle.fx_language.specs.Grammar.{program};
 ghost use Rattle.fx_language.specs.Refusals.{refused};
@@ -32,7 +32,7 @@ pub fn sequence_is_one_before_another()
 /// What a description leaves after a symbol are its texts that begin with the symbol, without it.
 pub fn after_is_what_follows()
     ensures { (s : Symbol) (a : Shape) (text : List Symbol)
-        → Matches (after s a) text ↔ Matches a (s ∷ text) }
+        → Matches (derivative s a) text ↔ Matches a (s ∷ text) }
 {}
 
 /// A symbol that the grammar refuses has the code that the grammar names for it there. Where it names

@@ -1,5 +1,5 @@
 ghost use Rattle.std.specs.Prelude.{◌≡◌};
-ghost use Rattle.fx_language.specs.Shapes.{after, fault_at};
+ghost use Rattle.fx_language.specs.Shapes.{derivative, fault_code};
 ghost use Rattle.fx_language.specs.Continuations.{model_left, shape_left};
 
 use crate::code;
@@ -29,7 +29,7 @@ pub enum ModelPlace {
 impl ModelPlace {
     /// The place after the symbol, or None where the grammar refuses it.
     pub(crate) fn next(self, symbol: Symbol) -> Option<State>
-        ensures { after symbol (model_left self) ≡ shape_left result }
+        ensures { derivative symbol (model_left self) ≡ shape_left result }
     {
         match self {
             Self::Word => match symbol {
@@ -57,7 +57,7 @@ impl ModelPlace {
 
     /// The code that the grammar names for the symbol here.
     pub(crate) fn named_code(self, symbol: Symbol) -> Option<u8>
-        ensures { result ≡ fault_at symbol (model_left self) }
+        ensures { result ≡ fault_code symbol (model_left self) }
     {
         match (self, symbol) {
             (Self::End, Symbol::Open) => Some(code::NOT_IN_PROFILE),
@@ -68,7 +68,7 @@ impl ModelPlace {
 
 /// The place after the `/` before the option, or after `;`.
 fn option_or_end(symbol: Symbol) -> Option<State>
-    ensures { after symbol (model_left ModelPlace.Slash) ≡ shape_left result }
+    ensures { derivative symbol (model_left ModelPlace.Slash) ≡ shape_left result }
 {
     match symbol {
         Symbol::Slash => Some(State::Model(ModelPlace::Option)),

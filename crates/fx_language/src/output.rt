@@ -1,5 +1,5 @@
 ghost use Rattle.std.specs.Prelude.{◌≡◌};
-ghost use Rattle.fx_language.specs.Shapes.{after, fault_at};
+ghost use Rattle.fx_language.specs.Shapes.{derivative, fault_code};
 ghost use Rattle.fx_language.specs.Continuations.{output_left, shape_left};
 
 use crate::code;
@@ -44,7 +44,7 @@ pub enum OutputPlace {
 impl OutputPlace {
     /// The place after the symbol, or None where the grammar refuses it.
     pub(crate) fn next(self, symbol: Symbol) -> Option<State>
-        ensures { after symbol (output_left self) ≡ shape_left result }
+        ensures { derivative symbol (output_left self) ≡ shape_left result }
     {
         match self {
             Self::Out => only(Symbol::Out, symbol, State::Output(Self::Equals)),
@@ -70,7 +70,7 @@ impl OutputPlace {
 
     /// The code that the grammar names for the symbol here.
     pub(crate) fn named_code(self, symbol: Symbol) -> Option<u8>
-        ensures { result ≡ fault_at symbol (output_left self) }
+        ensures { result ≡ fault_code symbol (output_left self) }
     {
         match symbol {
             Symbol::OpenBracket => Some(code::NOT_IN_PROFILE),
@@ -84,7 +84,7 @@ impl OutputPlace {
 
 /// The place after the first word of an option, or after `;`.
 fn option(symbol: Symbol) -> Option<State>
-    ensures { after symbol (output_left OutputPlace.Options) ≡ shape_left result }
+    ensures { derivative symbol (output_left OutputPlace.Options) ≡ shape_left result }
 {
     match symbol {
         Symbol::Pointrep | Symbol::Designrep => {
@@ -100,7 +100,7 @@ fn option(symbol: Symbol) -> Option<State>
 
 /// The place after `(`, or after the first word of an option, or after `;`.
 fn seed_or_option(symbol: Symbol) -> Option<State>
-    ensures { after symbol (output_left OutputPlace.Randomize) ≡ shape_left result }
+    ensures { derivative symbol (output_left OutputPlace.Randomize) ≡ shape_left result }
 {
     match symbol {
         Symbol::Open => Some(State::Output(OutputPlace::Seed)),
@@ -111,7 +111,7 @@ fn seed_or_option(symbol: Symbol) -> Option<State>
 /// The place after `=`, where NVALS or CVALS begins the block column's values, or after the word that
 /// begins the values of a factor of that name.
 fn rest_or_values(kind: ValueKind, symbol: Symbol) -> Option<State>
-    ensures { after symbol (output_left (OutputPlace.ValuesOrFactor kind)) ≡ shape_left result }
+    ensures { derivative symbol (output_left (OutputPlace.ValuesOrFactor kind)) ≡ shape_left result }
 {
     match symbol {
         Symbol::Equals => Some(State::Values(ValuesPlace::Open(kind))),
@@ -121,7 +121,7 @@ fn rest_or_values(kind: ValueKind, symbol: Symbol) -> Option<State>
 
 /// The place after the word that begins the values of a factor.
 fn values(symbol: Symbol) -> Option<State>
-    ensures { after symbol (output_left OutputPlace.Factor) ≡ shape_left result }
+    ensures { derivative symbol (output_left OutputPlace.Factor) ≡ shape_left result }
 {
     match symbol {
         Symbol::Nvals => Some(State::Values(ValuesPlace::Equals(ValueKind::Numbers))),
@@ -132,7 +132,7 @@ fn values(symbol: Symbol) -> Option<State>
 
 /// The place after the first word of the block column's values, of an option, or after `;`.
 fn values_or_option(symbol: Symbol) -> Option<State>
-    ensures { after symbol (output_left OutputPlace.BlockValues) ≡ shape_left result }
+    ensures { derivative symbol (output_left OutputPlace.BlockValues) ≡ shape_left result }
 {
     match symbol {
         Symbol::Nvals => Some(State::Output(OutputPlace::ValuesOrFactor(ValueKind::Numbers))),

@@ -1,5 +1,5 @@
 ghost use Rattle.std.specs.Prelude.{◌≡◌};
-ghost use Rattle.fx_language.specs.Shapes.{after, fault_at};
+ghost use Rattle.fx_language.specs.Shapes.{derivative, fault_code};
 ghost use Rattle.fx_language.specs.Continuations.{proc_left, shape_left};
 
 use crate::code;
@@ -22,7 +22,7 @@ pub enum ProcPlace {
 impl ProcPlace {
     /// The place after the symbol, or None where the grammar refuses it.
     pub(crate) fn next(self, symbol: Symbol) -> Option<State>
-        ensures { after symbol (proc_left self) ≡ shape_left result }
+        ensures { derivative symbol (proc_left self) ≡ shape_left result }
     {
         match self {
             Self::Procedure => only(Symbol::Factex, symbol, State::Proc(Self::Options)),
@@ -38,7 +38,7 @@ impl ProcPlace {
 
     /// The code that the grammar names for the symbol here.
     pub(crate) fn named_code(self, symbol: Symbol) -> Option<u8>
-        ensures { result ≡ fault_at symbol (proc_left self) }
+        ensures { result ≡ fault_code symbol (proc_left self) }
     {
         match symbol {
             Symbol::Time | Symbol::Nocheck | Symbol::Namelen => Some(code::NOT_IN_PROFILE),

@@ -2,7 +2,7 @@ ghost use Rattle.std.specs.Prelude.{◌≡◌, []};
 ghost use Rattle.fx_language.specs.Grammar.{program};
 ghost use Rattle.fx_language.specs.Refusals.{refused};
 ghost use Rattle.fx_language.specs.FirstRefusal.{earlier, first_refusal};
-ghost use Rattle.fx_language.specs.Continuations.{shape_of};
+ghost use Rattle.fx_language.specs.Continuations.{shape_at};
 
 use crate::repeated::first_by_rules;
 use crate::state::State;
@@ -55,7 +55,7 @@ pub fn first_by_grammar(symbols: &[Symbol]) -> Option<(u8, usize)>
 
 /// The refusal of the end, at this index, where the grammar refuses it.
 fn refused_end(state: State, end: usize) -> Option<(u8, usize)>
-    ensures { result ≡ refused end (shape_of state) [] }
+    ensures { result ≡ refused end (shape_at state) [] }
 {
     match state.next(Symbol::End) {
         Some(_) => None,

@@ -1,6 +1,6 @@
 ghost use Rattle.std.specs.Prelude.{◌≡◌, ◌≤◌, ◌<◌, ◌+◌, ◌^◌, []};
 ghost use Rattle.fx_language.specs.Repeats.{begins_with, repeated};
-ghost use Rattle.fx_language.specs.Pasts.{begun_after, in_after, option_after, past_after, past_of, rule_of, statement_after, statement_has, step_after, step_has};
+ghost use Rattle.fx_language.specs.Pasts.{begun_after, in_after, option_after, past_after, past_of, rule_code, statement_after, statement_has, step_after, step_has};
 
 use crate::code;
 use crate::symbol::Symbol;
@@ -98,7 +98,7 @@ impl Past {
 
     /// The code by which the symbol `s` is refused.
     fn rule(self, s: Symbol, factex_follows: bool) -> Option<u8>
-        ensures { result ≡ rule_of self s factex_follows }
+        ensures { result ≡ rule_code self s factex_follows }
     {
         if self.start && s.is_once() && self.step.run {
             return Some(code::STATEMENT_AFTER_RUN);

@@ -1,6 +1,6 @@
 ghost use Rattle.std.specs.Prelude.{◌≡◌};
-ghost use Rattle.fx_language.specs.Shapes.{after};
-ghost use Rattle.fx_language.specs.Continuations.{setting_left, shape_left, word_of};
+ghost use Rattle.fx_language.specs.Shapes.{derivative};
+ghost use Rattle.fx_language.specs.Continuations.{setting_left, shape_left, extreme_word};
 
 use crate::state::{State, only};
 use crate::symbol::Symbol;
@@ -28,7 +28,7 @@ pub enum Extreme {
 impl SettingPlace {
     /// The place after the symbol, or None where the grammar refuses it.
     pub(crate) fn next(self, symbol: Symbol) -> Option<State>
-        ensures { after symbol (setting_left self) ≡ shape_left result }
+        ensures { derivative symbol (setting_left self) ≡ shape_left result }
     {
         match self {
             Self::SizeWord => match symbol {
@@ -58,7 +58,7 @@ impl SettingPlace {
 
 impl Extreme {
     fn word(self) -> Symbol
-        ensures { result ≡ word_of self }
+        ensures { result ≡ extreme_word self }
     {
         match self {
             Self::Minimum => Symbol::Minimum,

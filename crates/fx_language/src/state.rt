@@ -1,9 +1,9 @@
 ghost use Rattle.std.specs.Prelude.{◌≡◌, Some, None, if◌then◌else◌, ◌&&◌};
 ghost use Rattle.fx_language.specs.Symbols.{is, is_word};
-ghost use Rattle.fx_language.specs.Shapes.{after, fault_at};
+ghost use Rattle.fx_language.specs.Shapes.{derivative, fault_code};
 ghost use Rattle.fx_language.specs.Refusals.{allows, allows_option, code_of};
 ghost use Rattle.fx_language.specs.Grammar.{program, unknown};
-ghost use Rattle.fx_language.specs.Continuations.{in_step, shape_left, shape_of};
+ghost use Rattle.fx_language.specs.Continuations.{in_step, shape_left, shape_at};
 
 use crate::code;
 use crate::effects::{EffectList, EffectPlace};
@@ -42,7 +42,7 @@ pub enum State {
 impl State {
     /// The place after the symbol, or None where the grammar refuses it.
     pub(crate) fn next(self, symbol: Symbol) -> Option<State>
-        ensures { after symbol (shape_of self) ≡ shape_left result }
+        ensures { derivative symbol (shape_at self) ≡ shape_left result }
     {
         match self {
             State::Between => outside_step(symbol),
@@ -63,7 +63,7 @@ impl State {
 
     /// The code of a symbol that the grammar refuses here.
     pub(crate) fn code(self, symbol: Symbol) -> u8
-        ensures { result ≡ code_of (shape_of self) symbol }
+        ensures { result ≡ code_of (shape_at self) symbol }
     {
         match self.named_code(symbol) {
             Some(code) => code,
@@ -73,7 +73,7 @@ impl State {
 
     /// The code of a symbol for which the grammar names none here.
     fn general_code(self, symbol: Symbol) -> u8
-        ensures { result ≡ if is_word symbol && allows_option (shape_of self) then 3 else 2 }
+        ensures { result ≡ if is_word symbol && allows_option (shape_at self) then 3 else 2 }
     {
         if symbol.is_word() && self.allows_option() {
             code::UNKNOWN_OPTION
@@ -84,7 +84,7 @@ impl State {
 
     /// The code that the grammar names for the symbol here.
     fn named_code(self, symbol: Symbol) -> Option<u8>
-        ensures { result ≡ fault_at symbol (shape_of self) }
+        ensures { result ≡ fault_code symbol (shape_at self) }
     {
         match self {
             State::Between | State::Step => unknown_statement(symbol),
@@ -100,7 +100,7 @@ impl State {
 
     /// Whether an option is allowed here.
     fn allows_option(self) -> bool
-        ensures { result ≡ allows_option (shape_of self) }
+        ensures { result ≡ allows_option (shape_at self) }
     {
         let options = [
             Symbol::Nodes,
@@ -125,7 +125,7 @@ impl State {
 
     #[tactic(auto, using(crate::proofs::Places::never_left))]
     fn allows(self, symbol: Symbol) -> bool
-        ensures { result ≡ allows (shape_of self) symbol }
+        ensures { result ≡ allows (shape_at self) symbol }
     {
         self.next(symbol).is_some()
     }
@@ -133,7 +133,7 @@ impl State {
 
 /// The code of a word that begins no statement.
 fn unknown_statement(symbol: Symbol) -> Option<u8>
-    ensures { result ≡ fault_at symbol unknown }
+    ensures { result ≡ fault_code symbol unknown }
 {
     match symbol {
         Symbol::Uniteffect => Some(code::NOT_IN_PROFILE),
@@ -149,7 +149,7 @@ pub(crate) fn if_word(symbol: Symbol, code: u8) -> Option<u8>
 }
 
 fn outside_step(symbol: Symbol) -> Option<State>
-    ensures { after symbol program ≡ shape_left result }
+    ensures { derivative symbol program ≡ shape_left result }
 {
     match symbol {
         Symbol::Semicolon => Some(State::Between),
@@ -161,7 +161,7 @@ fn outside_step(symbol: Symbol) -> Option<State>
 }
 
 fn inside_step(symbol: Symbol) -> Option<State>
-    ensures { after symbol in_step ≡ shape_left result }
+    ensures { derivative symbol in_step ≡ shape_left result }
 {
     match symbol {
         Symbol::Semicolon => Some(State::Step),

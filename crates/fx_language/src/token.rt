@@ -1,7 +1,7 @@
 ghost use Rattle.std.specs.Prelude.{◌≡◌, ◌++◌, ◌<◌, map, length, IfOk, All};
 ghost use Rattle.fx_lexer.specs.Tokens.{IsToken};
 ghost use Rattle.fx_language.specs.Keywords.{keywords, short_forms, sign, symbol_of, symbols_of};
-ghost use Rattle.fx_language.specs.Spellings.{row_of};
+ghost use Rattle.fx_language.specs.Spellings.{spelling_row};
 
 use crate::keyword::{Spelling, look_up, spellings};
 use crate::symbol::{Symbol, Symbols};
@@ -28,7 +28,7 @@ pub fn symbols(alloc: Global, text: &[u8], tokens: &Tokens) -> Result<Symbols, N
 
 /// The symbol of a token of this kind with these bytes.
 fn symbol_of(spellings: &[Spelling], kind: Kind, bytes: &[u8]) -> Symbol
-    requires keywords { map row_of spellings.now ≡ keywords ++ short_forms }
+    requires keywords { map spelling_row spellings.now ≡ keywords ++ short_forms }
     requires some { 0 < length bytes.now }
     ensures { result ≡ symbol_of kind bytes.now }
 {

@@ -1,5 +1,5 @@
 ghost use Rattle.std.specs.Prelude.{◌≡◌};
-ghost use Rattle.fx_language.specs.Shapes.{after, fault_at};
+ghost use Rattle.fx_language.specs.Shapes.{derivative, fault_code};
 ghost use Rattle.fx_language.specs.Continuations.{shape_left, values_left};
 
 use crate::code;
@@ -36,7 +36,7 @@ pub enum ValuesPlace {
 impl ValuesPlace {
     /// The place after the symbol, or None where the grammar refuses it.
     pub(crate) fn next(self, symbol: Symbol) -> Option<State>
-        ensures { after symbol (values_left self) ≡ shape_left result }
+        ensures { derivative symbol (values_left self) ≡ shape_left result }
     {
         match self {
             Self::Equals(kind) => { only(Symbol::Equals, symbol, State::Values(Self::Open(kind))) }
@@ -56,7 +56,7 @@ impl ValuesPlace {
 
     /// The code that the grammar names for the symbol here.
     pub(crate) fn named_code(self, symbol: Symbol) -> Option<u8>
-        ensures { result ≡ fault_at symbol (values_left self) }
+        ensures { result ≡ fault_code symbol (values_left self) }
     {
         match symbol {
             Symbol::OpenBracket => Some(code::NOT_IN_PROFILE),
@@ -67,7 +67,7 @@ impl ValuesPlace {
 
 /// The place after the first symbol of another number, or after `)`.
 fn number_or_end(symbol: Symbol) -> Option<State>
-    ensures { after symbol (values_left ValuesPlace.MoreNumbers) ≡ shape_left result }
+    ensures { derivative symbol (values_left ValuesPlace.MoreNumbers) ≡ shape_left result }
 {
     match symbol {
         Symbol::Close => Some(State::Output(OutputPlace::Options)),
@@ -77,7 +77,7 @@ fn number_or_end(symbol: Symbol) -> Option<State>
 
 /// The place after another text, or after `)`.
 fn text_or_end(symbol: Symbol) -> Option<State>
-    ensures { after symbol (values_left ValuesPlace.MoreTexts) ≡ shape_left result }
+    ensures { derivative symbol (values_left ValuesPlace.MoreTexts) ≡ shape_left result }
 {
     match symbol {
         Symbol::Quoted => Some(State::Values(ValuesPlace::MoreTexts)),
@@ -88,7 +88,7 @@ fn text_or_end(symbol: Symbol) -> Option<State>
 
 /// The place after the first symbol of a number.
 fn signed(symbol: Symbol) -> Option<State>
-    ensures { after symbol (values_left ValuesPlace.Number) ≡ shape_left result }
+    ensures { derivative symbol (values_left ValuesPlace.Number) ≡ shape_left result }
 {
     match symbol {
         Symbol::Minus => Some(State::Values(ValuesPlace::Unsigned)),
@@ -98,7 +98,7 @@ fn signed(symbol: Symbol) -> Option<State>
 
 /// The place after a number without its sign.
 fn unsigned(symbol: Symbol) -> Option<State>
-    ensures { after symbol (values_left ValuesPlace.Unsigned) ≡ shape_left result }
+    ensures { derivative symbol (values_left ValuesPlace.Unsigned) ≡ shape_left result }
 {
     match symbol {
         Symbol::Whole | Symbol::Decimal => Some(State::Values(ValuesPlace::MoreNumbers)),

@@ -7,7 +7,7 @@ use Rattle.std.specs.Option.{option_map}
 use Rattle.std.proofs.lemmas.Bool.{eqb-true, eq-eqb, ltb-true, ltb-false, cases_Bool, and_parts}
 use Rattle.fx_lexer.specs.Bytes.{is_digit}
 use Rattle.fx_lexer.specs.Extents.{starts_with_byte, closing_len, ends_comment, remark_len, fraction_len, quoted_len}
-use Rattle.fx_lexer.specs.TextPieces.{begins_with, begins_fraction, Closes, EndsQuoted, doubled}
+use Rattle.fx_lexer.specs.TextPieces.{begins_with, begins_fraction, HasCommentEnd, EndsQuoted, doubled}
 
 -- the first byte, where it is known
 pub first_byte : (c : ℕ) (bytes : List ℕ) → starts_with_byte c bytes ≡ true → (rest : List ℕ) × (bytes ≡ c ∷ rest)
@@ -47,20 +47,21 @@ pub record Closed (bytes : List ℕ) (n : ℕ) : Type 0 where
   pub rest : List ℕ
   pub joined : bytes ≡ inside ++ 42 ∷ 47 ∷ rest
   pub long : length inside + 2 ≡ n
-  pub first : ¬ Closes (inside ++ 42 ∷ [])
+  pub first : ¬ HasCommentEnd (inside ++ 42 ∷ [])
 
 abbrev pub ClosingIs : List ℕ → Option ℕ → Type 0
-ClosingIs bytes None = ¬ Closes bytes
+ClosingIs bytes None = ¬ HasCommentEnd bytes
 ClosingIs bytes (Some n) = Closed bytes n
 
-closes_cons : (b : ℕ) (bytes : List ℕ) → ends_comment (b ∷ bytes) ≡ false → ¬ Closes bytes → ¬ Closes (b ∷ bytes)
+closes_cons : (b : ℕ) (bytes : List ℕ) → ends_comment (b ∷ bytes) ≡ false → ¬ HasCommentEnd bytes
+    → ¬ HasCommentEnd (b ∷ bytes)
 closes_cons b bytes e later h = at_front h.0 h.1 h.2
   where
     at_front : (before behind : List ℕ) → b ∷ bytes ≡ before ++ 42 ∷ 47 ∷ behind → ⊥
     at_front [] behind j = cc (ap ends_comment j)
     at_front (x ∷ before) behind j = later (before, behind, cc j)
 
-closes_nil : ¬ Closes []
+closes_nil : ¬ HasCommentEnd []
 closes_nil h = nothing h.0 h.1 h.2
   where
     nothing : (before behind : List ℕ) → [] ≡ before ++ 42 ∷ 47 ∷ behind → ⊥

@@ -15,9 +15,11 @@ use Rattle.fx_lexer.specs.declared.item.Item.{Item}
 use Rattle.fx_lexer.specs.Bytes.{is_white, is_digit, begins_word, is_word_byte, is_sign, is_quote}
 use Rattle.fx_lexer.specs.Extents.{begins_comment, begins_remark, starts_with_byte, closing_len, ends_comment}
 use Rattle.fx_lexer.specs.Extents.{remark_len, fraction_len, quoted_len}
-use Rattle.fx_lexer.specs.Items.{item, token, gap, comment_if_closed, quoted_if_closed, limited, number, begins_number}
+use Rattle.fx_lexer.specs.Items.{item, token, gap, comment_if_closed, quoted_if_closed, limited, item_of_number}
+use Rattle.fx_lexer.specs.Items.{begins_number}
 use Rattle.fx_lexer.specs.TextPieces.{Piece, white, comment, remark, word, whole, decimal, quoted, sign, begins_with}
-use Rattle.fx_lexer.specs.TextPieces.{begins_fraction, doubled, spelling, kind_of, HasForm, IsShort, Closes, EndsQuoted}
+use Rattle.fx_lexer.specs.TextPieces.{begins_fraction, doubled, spelling, kind_of, HasForm, HasAllowedLength}
+use Rattle.fx_lexer.specs.TextPieces.{HasCommentEnd, EndsQuoted}
 use Rattle.fx_lexer.specs.Flaws.{begins_item, Flaw, open_comment, open_remark, open_quoted, stray, long_piece}
 use Rattle.fx_lexer.specs.Flaws.{flaw_text, fault_kind, IsFlaw}
 use Rattle.fx_lexer.proofs.Ends.{first_byte, ends_same, ClosingIs, closing_is, RemarkIs, remark_is, QuotedIs, quoted_is}
@@ -43,7 +45,7 @@ module _ (start : Bool) (b : ℕ) (bytes : List ℕ) where
   not_gap : ℕ → ℕ → Result Item ℕ
   not_gap digits fraction =
       if begins_word b then limited kind.Word (prefix_len is_word_byte (b ∷ bytes)) 32 5
-      else (if begins_number digits fraction then number digits fraction
+      else (if begins_number digits fraction then item_of_number digits fraction
       else (if is_quote b then quoted_if_closed (option_map suc (quoted_len b false bytes))
       else (if is_sign b then token kind.Sign 1
       else Err 3)))
@@ -67,7 +69,7 @@ module _ (start : Bool) (b : ℕ) (bytes : List ℕ) where
   word_row digits fraction e = rw e refl
 
   number_row : (digits fraction : ℕ) → begins_word b ≡ false → 0 < digits + fraction
-      → not_gap digits fraction ≡ number digits fraction
+      → not_gap digits fraction ≡ item_of_number digits fraction
   unfolding not_gap
   number_row digits fraction e some =
       let f : begins_number digits fraction ≡ true = lt-ltb 0 (digits + fraction) some in
@@ -131,7 +133,7 @@ module _ (start : Bool) (b : ℕ) (bytes : List ℕ) where
   number_item : (digits rest : List ℕ) (fraction : ℕ) → number_byte b ≡ true → b ∷ bytes ≡ digits ++ rest
       → list_all is_digit digits ≡ true → begins_with is_digit rest ≡ false
       → fraction_len rest ≡ fraction → 0 < length digits + fraction
-      → item start (b ∷ bytes) ≡ number (length digits) fraction
+      → item start (b ∷ bytes) ≡ item_of_number (length digits) fraction
   unfolding number_byte
   number_item digits rest fraction is joined all ended part some =
       let count = ap (prefix_len is_digit) joined ∙ prefix_all is_digit digits rest all ended in
@@ -159,7 +161,7 @@ module _ (start : Bool) (b : ℕ) (bytes : List ℕ) where
       ∙ ap (λ n. limited kind.Word n 32 5) count
 
 -- the lengths of the items that are closed
-length_closing : (inside rest : List ℕ) → ¬ Closes (inside ++ 42 ∷ [])
+length_closing : (inside rest : List ℕ) → ¬ HasCommentEnd (inside ++ 42 ∷ [])
     → closing_len (inside ++ 42 ∷ 47 ∷ rest) ≡ Some (length inside + 2)
 length_closing [] rest first = refl
 length_closing (x ∷ inside) rest first =
@@ -170,7 +172,7 @@ length_closing (x ∷ inside) rest first =
           let tail = first_byte 47 (inside ++ 42 ∷ []) is.1 in
           absurd (first ([], tail.0, ap₂ (λ a l. a ∷ l) (eqb-true x 42 is.0) tail.1))
       | inr goes_on ↦
-          let inner : ¬ Closes (inside ++ 42 ∷ []) = λ h. first (x ∷ h.0, h.1, ap (λ l. x ∷ l) h.2) in
+          let inner : ¬ HasCommentEnd (inside ++ 42 ∷ []) = λ h. first (x ∷ h.0, h.1, ap (λ l. x ∷ l) h.2) in
           let more : suc (length inside + 2) ≡ suc (length inside) + 2 = omega arith in
           rw (goes_on, length_closing inside rest inner) (ap (λ n. Some n) more)
     ]
@@ -202,7 +204,7 @@ length_quoted q (x ∷ value) rest ended =
     ]
 
 -- a comment, a remark or a quoted text with no end
-no_closing : (bytes : List ℕ) → ¬ Closes bytes → closing_len bytes ≡ None
+no_closing : (bytes : List ℕ) → ¬ HasCommentEnd bytes → closing_len bytes ≡ None
 no_closing bytes none = by (closing_len bytes) (closing_is bytes)
   where
     by : (r : Option ℕ) → ClosingIs bytes r → r ≡ None
@@ -362,7 +364,7 @@ at_front : (start : Bool) (b : ℕ) (bytes text : List ℕ) (r : Result Item ℕ
 at_front start b bytes text r joined e = ap (item start) joined ∙ e
 
 pub piece_item : (start : Bool) (p : Piece) (rest : List ℕ) (b : ℕ) (bytes : List ℕ) → b ∷ bytes ≡ spelling p ++ rest
-    → HasForm start p rest → IsShort p → item start (b ∷ bytes) ≡ item_of p
+    → HasForm start p rest → HasAllowedLength p → item start (b ∷ bytes) ≡ item_of p
 piece_item start (white w) rest b bytes joined form short =
     at_front start b bytes (w ∷ rest) _ joined (white_item start w rest form)
 piece_item start (comment inside) rest b bytes joined form short =
@@ -419,7 +421,7 @@ flaw_item start (open_quoted q inside) b bytes joined form =
 flaw_item start (stray s rest) b bytes joined form = at_front start b bytes _ _ joined (stray_item start s rest form)
 flaw_item start (long_piece p rest) b bytes joined form = too_long p joined form.0 form.1
   where
-    too_long : (p : Piece) → b ∷ bytes ≡ spelling p ++ rest → HasForm start p rest → ¬ IsShort p
+    too_long : (p : Piece) → b ∷ bytes ≡ spelling p ++ rest → HasForm start p rest → ¬ HasAllowedLength p
         → item start (b ∷ bytes) ≡ Err (fault_kind (long_piece p rest))
     too_long (white w) joined form long = absurd (long tt)
     too_long (comment inside) joined form long = absurd (long tt)

@@ -14,10 +14,12 @@ use Rattle.fx_lexer.specs.declared.item.Item.{Item}
 use Rattle.fx_lexer.specs.Bytes.{is_white, is_digit, begins_word, is_word_byte, is_sign, is_quote}
 use Rattle.fx_lexer.specs.Extents.{begins_comment, begins_remark, starts_with_byte, closing_len, remark_len}
 use Rattle.fx_lexer.specs.Extents.{fraction_len, quoted_len}
-use Rattle.fx_lexer.specs.Items.{item, token, gap, comment_if_closed, quoted_if_closed, limited, number, begins_number}
+use Rattle.fx_lexer.specs.Items.{item, token, gap, comment_if_closed, quoted_if_closed, limited, item_of_number}
+use Rattle.fx_lexer.specs.Items.{begins_number}
 use Rattle.fx_lexer.specs.Lexing.{starts_after}
 use Rattle.fx_lexer.specs.TextPieces.{Piece, white, comment, remark, word, whole, decimal, quoted, sign, begins_with}
-use Rattle.fx_lexer.specs.TextPieces.{begins_fraction, doubled, spelling, kind_of, starts_behind, HasForm, IsShort}
+use Rattle.fx_lexer.specs.TextPieces.{begins_fraction, doubled, spelling, kind_of, starts_behind, HasForm}
+use Rattle.fx_lexer.specs.TextPieces.{HasAllowedLength}
 use Rattle.fx_lexer.specs.Flaws.{Flaw, open_comment, open_remark, open_quoted, stray, long_piece, flaw_text, fault_kind}
 use Rattle.fx_lexer.specs.Flaws.{IsFlaw}
 use Rattle.fx_lexer.proofs.Ends.{first_byte, split, ClosingIs, closing_is, RemarkIs, remark_is, QuotedIs, quoted_is}
@@ -30,7 +32,7 @@ pub record IsPiece (start : Bool) (b : ℕ) (bytes : List ℕ) (it : Item) : Typ
   pub rest : List ℕ
   pub joined : b ∷ bytes ≡ spelling piece ++ rest
   pub form : HasForm start piece rest
-  pub short : IsShort piece
+  pub short : HasAllowedLength piece
   pub kind : it.kind ≡ kind_of piece
   pub long : it.length ≡ length (spelling piece)
   pub behind : starts_after start it b ≡ starts_behind start piece
@@ -135,7 +137,8 @@ module _ (start : Bool) (b : ℕ) (bytes : List ℕ) where
       → HasForm start p rest
       → Some k ≡ kind_of p → n ≡ length (spelling p) → (b == 59) ≡ starts_behind start p
       → fault ≡ fault_kind (long_piece p rest)
-      → (n ≤ limit → IsShort p) → (limit < n → ¬ IsShort p) → ItemIs start b bytes (limited k n limit fault)
+      → (n ≤ limit → HasAllowedLength p) → (limit < n → ¬ HasAllowedLength p)
+      → ItemIs start b bytes (limited k n limit fault)
   limited_is p rest k n limit fault joined form is long behind cause short over =
       choose (ItemIs start b bytes) (nat_le n limit) (token k n) (Err fault)
       (λ h. record {
@@ -201,7 +204,7 @@ module _ (start : Bool) (b : ℕ) (bytes : List ℕ) where
         (λ few. omega (arith, few, size)) (λ many short. omega (arith, many, short, size))
 
     number_at : (n : ℕ) → n ≡ fraction_len rest → 0 < length front + n
-        → ItemIs start b bytes (number (length front) n)
+        → ItemIs start b bytes (item_of_number (length front) n)
     number_at n long some =
         choose (ItemIs start b bytes) (n == 0) (limited kind.Whole (length front) 38 4)
         (limited kind.Decimal (length front + n) 38 4)
@@ -225,7 +228,7 @@ module _ (start : Bool) (b : ℕ) (bytes : List ℕ) where
   part_len = fraction_len (drop whole_len (b ∷ bytes))
 
   number_found : IsTrue (begins_number whole_len part_len)
-      → ItemIs start b bytes (number whole_len part_len)
+      → ItemIs start b bytes (item_of_number whole_len part_len)
   number_found h =
       let r = split is_digit (b ∷ bytes) in
       let after : drop whole_len (b ∷ bytes) ≡ r.rest =
@@ -235,7 +238,7 @@ module _ (start : Bool) (b : ℕ) (bytes : List ℕ) where
       in
       let fraction = ap fraction_len after in
       let some = ltb-true 0 (whole_len + part_len) h in
-      let P : ℕ → Type 0 = λ n. ItemIs start b bytes (number n part_len) in
+      let P : ℕ → Type 0 = λ n. ItemIs start b bytes (item_of_number n part_len) in
       subst P r.long (number_at r.front r.rest r.joined r.all r.ended _ fraction (omega (arith, some, r.long)))
 
   sign_found : begins_comment (b ∷ bytes) ≡ false → begins_remark start (b ∷ bytes) ≡ false → IsTrue (is_sign b)

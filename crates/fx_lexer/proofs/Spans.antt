@@ -12,7 +12,8 @@ use Rattle.fx_lexer.specs.declared.token.Kind.{Kind}
 use Rattle.fx_lexer.specs.declared.token.LexFault.{LexFault}
 use Rattle.fx_lexer.specs.Places.{place_after}
 use Rattle.fx_lexer.specs.Lexing.{lexed, token_at, tokens_of_kind}
-use Rattle.fx_lexer.specs.TextPieces.{Piece, spelling, kind_of, starts_behind, HasForm, IsShort, text_of, AreFormed}
+use Rattle.fx_lexer.specs.TextPieces.{Piece, spelling, kind_of, starts_behind, HasForm, HasAllowedLength, text_of}
+use Rattle.fx_lexer.specs.TextPieces.{AreFormed}
 use Rattle.fx_lexer.specs.TextPieces.{tokens_among}
 use Rattle.fx_lexer.specs.Tokens.{token_text, IsToken, AreInOrder}
 use Rattle.fx_lexer.proofs.PiecesOfText.{some_bytes, Whole, text_is}
@@ -30,7 +31,7 @@ module _ (before middle behind : List ℕ) (upto : ℕ) (end : upto ≡ length b
       rw (size, ← append_assoc) (drop-append_seam (before ++ middle) behind)
 
 module _ (before : List ℕ) (p : Piece) (rest : List ℕ) (start : Bool) (form : HasForm start p rest)
-    (short : IsShort p) where
+    (short : HasAllowedLength p) where
   token_is : (k : Kind) → kind_of p ≡ Some k
       → IsToken (before ++ (spelling p ++ rest)) (token_at (place_after before) (length before) k (length (spelling p)))
   token_is k is =

@@ -9,7 +9,8 @@ use Rattle.fx_lexer.specs.Places.{place_after}
 use Rattle.fx_lexer.specs.Bytes.{begins_word, is_quote}
 use Rattle.fx_lexer.specs.Lexing.{lexed, lexed_from, in_front, tokens_of_kind, starts_after, fault_at}
 use Rattle.fx_lexer.specs.TextPieces.{Piece, white, comment, remark, word, whole, decimal, quoted, sign, spelling}
-use Rattle.fx_lexer.specs.TextPieces.{kind_of, starts_behind, starts_behind_all, HasForm, IsShort, text_of, AreFormed}
+use Rattle.fx_lexer.specs.TextPieces.{kind_of, starts_behind, starts_behind_all, HasForm, HasAllowedLength, text_of}
+use Rattle.fx_lexer.specs.TextPieces.{AreFormed}
 use Rattle.fx_lexer.specs.TextPieces.{tokens_among, IsMadeOf}
 use Rattle.fx_lexer.specs.Flaws.{Flaw, open_comment, open_remark, open_quoted, stray, long_piece, flaw_text, fault_kind}
 use Rattle.fx_lexer.specs.Flaws.{IsFlaw, BreaksOff}
@@ -41,7 +42,7 @@ behind start (quoted q value) rest b bytes joined form =
 behind start (sign s) rest b bytes joined form = let same : b ≡ s = cc joined in ap (λ c. c == 59) same
 
 module _ (before : List ℕ) (start : Bool) (p : Piece) (rest : List ℕ) (form : HasForm start p rest)
-    (short : IsShort p) where
+    (short : HasAllowedLength p) where
   one_read : (text bytes : List ℕ) → bytes ≡ spelling p ++ rest → text ≡ before ++ (spelling p ++ rest)
       → lexed_from text 0 start (length before) bytes
       ≡ in_front (tokens_of_kind (place_after before) (length before) (kind_of p) (length (spelling p)))

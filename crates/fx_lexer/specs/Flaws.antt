@@ -5,7 +5,8 @@ use Rattle.fx_lexer.specs.declared.token.LexFault.{LexFault}
 use Rattle.fx_lexer.specs.Bytes.{is_white, is_digit, begins_word, is_sign, is_quote}
 use Rattle.fx_lexer.specs.Places.{place_after, IsPlaceIn}
 use Rattle.fx_lexer.specs.Lexing.{fault_at}
-use Rattle.fx_lexer.specs.TextPieces.{Piece, word, spelling, begins_fraction, Closes, EndsQuoted, HasForm, IsShort}
+use Rattle.fx_lexer.specs.TextPieces.{Piece, word, spelling, begins_fraction, HasCommentEnd, EndsQuoted, HasForm}
+use Rattle.fx_lexer.specs.TextPieces.{HasAllowedLength}
 use Rattle.fx_lexer.specs.TextPieces.{text_of, AreFormed, starts_behind_all}
 
 -- What isn't a piece, with all that follows: a comment, a remark or a quoted text with no end; a byte that begins no
@@ -41,11 +42,11 @@ begins_item b rest = is_white b || begins_word b || is_digit b || begins_fractio
 -- that it is a flaw, where a statement starts here or not: nothing ends what was begun, no item begins here, or the
 -- piece is longer than its kind may be
 abbrev pub IsFlaw : Bool → Flaw → Type 0
-IsFlaw start (open_comment inside) = ¬ Closes inside
+IsFlaw start (open_comment inside) = ¬ HasCommentEnd inside
 IsFlaw start (open_remark inside) = IsTrue start × ¬ Contains inside 59
 IsFlaw start (open_quoted quote inside) = IsTrue (is_quote quote) × ¬ EndsQuoted quote inside
 IsFlaw start (stray b rest) = begins_item b rest ≡ false
-IsFlaw start (long_piece p rest) = HasForm start p rest × ¬ IsShort p
+IsFlaw start (long_piece p rest) = HasForm start p rest × ¬ HasAllowedLength p
 
 -- the text is pieces up to a flaw, and this is its fault, with the place where the flaw begins
 pub record BreaksOff (text : List ℕ) (fault : LexFault) : Type 0 where

@@ -36,8 +36,8 @@ abbrev pub begins_number : ℕ → ℕ → Bool
 begins_number whole fraction = nat_lt 0 (whole + fraction)
 
 -- a number of so many bytes before its point, and so many from the point on
-abbrev pub number : ℕ → ℕ → Result Item ℕ
-number whole fraction =
+abbrev pub item_of_number : ℕ → ℕ → Result Item ℕ
+item_of_number whole fraction =
     if fraction == 0 then limited kind.Whole whole 38 4 else limited kind.Decimal (whole + fraction) 38 4
 
 -- the token that a text begins with, which begins with no gap, or the kind of its fault
@@ -47,7 +47,7 @@ token_item (b ∷ bytes) =
     let whole = prefix_len is_digit (b ∷ bytes) in
     let fraction = fraction_len (drop whole (b ∷ bytes)) in
     if begins_word b then limited kind.Word (prefix_len is_word_byte (b ∷ bytes)) 32 5
-    else (if begins_number whole fraction then number whole fraction
+    else (if begins_number whole fraction then item_of_number whole fraction
     else (if is_quote b then quoted_if_closed (option_map suc (quoted_len b false bytes))
     else (if is_sign b then token kind.Sign 1
     else Err 3)))

@@ -66,8 +66,8 @@ abbrev pub begins_fraction : List ℕ → Bool
 begins_fraction bytes = starts_with_byte 46 bytes && begins_with is_digit (drop 1 bytes)
 
 -- `*/` is somewhere in these bytes
-abbrev pub Closes : List ℕ → Type 0
-Closes bytes = (before : List ℕ) × (behind : List ℕ) × (bytes ≡ before ++ (codes "*/" ++ behind))
+abbrev pub HasCommentEnd : List ℕ → Type 0
+HasCommentEnd bytes = (before : List ℕ) × (behind : List ℕ) × (bytes ≡ before ++ (codes "*/" ++ behind))
 
 -- the bytes after a quote reach its end: a value with its quotes doubled, and a quote that isn't the first of a pair
 abbrev pub EndsQuoted : ℕ → List ℕ → Type 0
@@ -80,7 +80,7 @@ EndsQuoted quote bytes =
 -- quote that follows a quoted text would be one of a pair. A `/` or `*` that begins a comment or a remark is no sign.
 abbrev pub HasForm : Bool → Piece → List ℕ → Type 0
 HasForm start (white b) rest = IsTrue (is_white b)
-HasForm start (comment inside) rest = ¬ Closes (inside ++ codes "*")
+HasForm start (comment inside) rest = ¬ HasCommentEnd (inside ++ codes "*")
 HasForm start (remark inside) rest = IsTrue start × ¬ Contains inside 59
 HasForm start (word name) rest =
     IsTrue (begins_with begins_word name) × IsTrue (list_all is_word_byte name)
@@ -96,11 +96,11 @@ HasForm start (sign b) rest =
     IsTrue (is_sign b) × (begins_comment (b ∷ rest) ≡ false) × (begins_remark start (b ∷ rest) ≡ false)
 
 -- a word has at most 32 bytes, a number 38
-abbrev pub IsShort : Piece → Type 0
-IsShort (word name) = length name ≤ 32
-IsShort (whole digits) = length digits ≤ 38
-IsShort (decimal digits fraction) = length (digits ++ (codes "." ++ fraction)) ≤ 38
-IsShort _ = Unit {0}
+abbrev pub HasAllowedLength : Piece → Type 0
+HasAllowedLength (word name) = length name ≤ 32
+HasAllowedLength (whole digits) = length digits ≤ 38
+HasAllowedLength (decimal digits fraction) = length (digits ++ (codes "." ++ fraction)) ≤ 38
+HasAllowedLength _ = Unit {0}
 
 -- the bytes of the pieces, and then the rest
 abbrev pub text_of : List Piece → List ℕ → List ℕ
@@ -111,7 +111,7 @@ text_of (p ∷ pieces) rest = spelling p ++ text_of pieces rest
 abbrev pub AreFormed : Bool → List Piece → List ℕ → Type 0
 AreFormed start [] rest = Unit {0}
 AreFormed start (p ∷ pieces) rest =
-    HasForm start p (text_of pieces rest) × IsShort p × AreFormed (starts_behind start p) pieces rest
+    HasForm start p (text_of pieces rest) × HasAllowedLength p × AreFormed (starts_behind start p) pieces rest
 
 -- whether a statement starts after all of them
 abbrev pub starts_behind_all : Bool → List Piece → Bool

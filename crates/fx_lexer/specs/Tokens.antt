@@ -3,7 +3,7 @@ use Rattle.std.specs.Prelude.{◌≡◌, ℕ, ◌<◌, ◌≤◌, Bool, List, []
 use Rattle.std.specs.Option.{option_map}
 use Rattle.fx_lexer.specs.declared.token.Token.{Token}
 use Rattle.fx_lexer.specs.Places.{line_after, column_after}
-use Rattle.fx_lexer.specs.TextPieces.{Piece, spelling, kind_of, HasForm, IsShort}
+use Rattle.fx_lexer.specs.TextPieces.{Piece, spelling, kind_of, HasForm, HasAllowedLength}
 
 -- the bytes of a piece that is a token
 abbrev pub token_text : Piece → Option (List ℕ)
@@ -24,7 +24,7 @@ pub record IsToken (text : List ℕ) (t : Token) : Type 0 where
   pub inside : t.upto ≤ length text
   pub bytes : slice_range text t.from t.upto ≡ spelling piece
   pub form : HasForm start piece (drop t.upto text)
-  pub short : IsShort piece
+  pub short : HasAllowedLength piece
 
 -- the tokens lie between these places, one after another
 abbrev pub AreInOrder : ℕ → ℕ → List Token → Type 0

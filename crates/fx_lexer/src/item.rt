@@ -1,5 +1,5 @@
 ghost use Rattle.std.specs.Prelude.{◌≡◌, ◌+◌, ◌<◌, ◌≤◌, ◌^◌, None, Some, length, IfOk};
-ghost use Rattle.fx_lexer.specs.Items.{begins_number, item, limited, number, token_item};
+ghost use Rattle.fx_lexer.specs.Items.{begins_number, item, limited, item_of_number, token_item};
 
 use crate::byte::{begins_word, is_quote, is_sign, is_white};
 use crate::extent::{
@@ -122,7 +122,7 @@ fn begins_number(whole: usize, fraction: usize) -> bool
 
 fn number(whole: usize, fraction: usize) -> Result<Item, u8>
     requires { whole + fraction < 2 ^ 64 }
-    ensures { result ≡ number whole fraction }
+    ensures { result ≡ item_of_number whole fraction }
 {
     if fraction == 0 {
         limited_item(Kind::Whole, whole, MOST_NUMBER_BYTES, LONG_NUMBER)

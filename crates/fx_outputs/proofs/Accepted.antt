@@ -17,7 +17,7 @@ use Rattle.fx_outputs.specs.Contexts.{Context}
 use Rattle.fx_outputs.specs.declared.context.BlockCount.{BlockCount}
 use Rattle.fx_outputs.specs.declared.context.BlockCount.TheVariants as blocks
 use Rattle.fx_outputs.specs.Replications.{replication_in_range, replication_at}
-use Rattle.fx_outputs.specs.Values.{values_of, counted}
+use Rattle.fx_outputs.specs.Values.{values_of, checked_values}
 use Rattle.fx_outputs.specs.BlockColumns.{begins_values, values_wanted, block_values}
 use Rattle.fx_outputs.specs.Recodes.{is_recoded, factor_at, has_values, unused_place, recode_of, recodes_behind}
 use Rattle.fx_outputs.specs.Validity.{IsRecode, AreRecodes}
@@ -49,7 +49,7 @@ pub repeated : (w : Option Written) (p : ℕ) → replication_at w ≡ Ok p → 
 repeated None p e = let same : 1 ≡ p = cc e in omega arith
 repeated (Some w) p e = in_range w (number_of w) p e
 
-pub as_many : (n : ℕ) (word : Written) (all values : List (List ℕ)) → counted (Some n) word all ≡ Ok values
+pub as_many : (n : ℕ) (word : Written) (all values : List (List ℕ)) → checked_values (Some n) word all ≡ Ok values
     → length values ≡ n
 as_many n word all values e =
     let kept = kept_if (length all == n) all values (refusal_at 17 word) e in
@@ -60,13 +60,13 @@ abbrev AreForBlocks : BlockCount → List (List ℕ) → Type 0
 AreForBlocks count values = values ≢ [] → count ≡ blocks.Fixed (length values)
 
 of_blocks : (count : BlockCount) (word : Written) (all values : List (List ℕ))
-    → counted (values_wanted count) word all ≡ Ok values → AreForBlocks count values
+    → checked_values (values_wanted count) word all ≡ Ok values → AreForBlocks count values
 of_blocks blocks.Without word all values e = absurd (cc e)
 of_blocks blocks.Open word all values e = absurd (cc e)
 of_blocks (blocks.Fixed n) word all values e = λ _. ap blocks.Fixed (sym (as_many n word all values e))
 
 either_values : (b : Bool) (count : BlockCount) (word : Written) (all values : List (List ℕ))
-    → (if b then counted (values_wanted count) word all else Ok []) ≡ Ok values → AreForBlocks count values
+    → (if b then checked_values (values_wanted count) word all else Ok []) ≡ Ok values → AreForBlocks count values
 either_values true count word all values e = of_blocks count word all values e
 either_values false count word all values e = let none : [] ≡ values = cc e in λ some. absurd (some (sym none))
 
@@ -93,7 +93,8 @@ module _ (context : Context) where
       let place = place_of name.text context.factors in
       through (factor_at name place) _ recode (IsNext earlier recode) e (λ factor told e.
       through (unused_place earlier name factor) _ recode (IsNext earlier recode) e (λ new fresh e.
-      through (counted (Some context.q) word (values_of rest)) _ recode (IsNext earlier recode) e (λ values enough e.
+      through (checked_values (Some context.q) word (values_of rest)) _ recode (IsNext earlier recode) e
+      (λ values enough e.
       let at = is_factor name place factor told in
       let inside = (position-Some (is_same_name name.text) context.factors at.0 [] at.1).0 in
       let first = kept_unless (has_values earlier factor) factor new (refusal_at 28 name) fresh in

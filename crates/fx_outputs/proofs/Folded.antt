@@ -16,7 +16,7 @@ use Rattle.std.proofs.lemmas.Map.Text.{is_eq-slice_cmp}
 use Rattle.std.proofs.lemmas.Slice.Eq.{bytes_eq-Decides}
 use mathlib.Core.Bool.{or_self_left}
 use Rattle.fx_text.specs.Names.{is_same_name, place_of}
-use Rattle.fx_outputs.specs.Earlier.{AreFolded}
+use Rattle.fx_outputs.specs.Earlier.{AreLowercase}
 
 swapped : (a b c : Bool) → (a || (b || c)) ≡ (b || (a || c))
 swapped true true c = refl
@@ -82,8 +82,8 @@ place-any name names =
 -- one more name
 pub folded-more : {A : Type 0} (names : List (List ℕ)) (keys : List (Vec ℕ A)) (name : List ℕ) (key : Vec ℕ A)
     → key.items ≡ str_to_ascii_lowercase name
-    → AreFolded names keys
-    → AreFolded (names ++ name ∷ []) (insert_key (λ (x y : Vec ℕ A). slice_cmp nat_cmp x.items y.items) keys key)
+    → AreLowercase names keys
+    → AreLowercase (names ++ name ∷ []) (insert_key (λ (x y : Vec ℕ A). slice_cmp nat_cmp x.items y.items) keys key)
 folded-more names keys name key is h = λ q.
     inserted (str_to_ascii_lowercase q) key keys
     ∙ ap₂ (λ a b. a || b) (ap (bytes_eq (str_to_ascii_lowercase q)) is) (h q ∙ place-any q names)

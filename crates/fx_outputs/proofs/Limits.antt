@@ -15,13 +15,13 @@ use Rattle.fx_outputs.specs.Replications.{replication_of, check_rows}
 use Rattle.fx_outputs.specs.Shuffles.{shuffle_of}
 use Rattle.fx_outputs.specs.BlockColumns.{check_blockname, check_column, name_or_empty, block_values}
 use Rattle.fx_outputs.specs.Recodes.{recodes_of}
-use Rattle.fx_outputs.specs.Outputs.{check_new_name, output_of, outputs_behind, outputs_of}
+use Rattle.fx_outputs.specs.Outputs.{check_new_name, output_spec, outputs_behind, outputs_of}
 use Rattle.fx_outputs.specs.Validity.{IsWithinLimits}
 use Rattle.fx_outputs.proofs.Accepted.{through, kept_if, repeated, values_of_blocks, all_recoded}
 
 module _ (context : Context) where
   output_within : (earlier : List (List ℕ)) (word name : Written) (s : List Written) (output : OutputSpec)
-      → output_of context earlier word name s ≡ Ok output → IsWithinLimits context output
+      → output_spec context earlier word name s ≡ Ok output → IsWithinLimits context output
   output_within earlier word name s output e =
       let blockname = from_option Blockname s in
       through (check_new_name earlier name) _ output (IsWithinLimits context output) e (λ u fresh e.
@@ -78,7 +78,7 @@ module _ (context : Context) where
   within ((a ∷ b ∷ []) ∷ rest) earlier outputs all h e = within rest earlier outputs all h e
   within ((a ∷ b ∷ c ∷ []) ∷ rest) earlier outputs all h e = within rest earlier outputs all h e
   within ((a ∷ b ∷ c ∷ d ∷ options) ∷ rest) earlier outputs all h e =
-      first outputs all (is Output a.symbol) (output_of context earlier a d (d ∷ options))
+      first outputs all (is Output a.symbol) (output_spec context earlier a d (d ∷ options))
       (λ output. outputs_behind context (earlier ++ output.name ∷ []) (outputs ++ output ∷ []) rest)
       (outputs_behind context earlier outputs rest)
       (output_within earlier a d (d ∷ options))

@@ -22,7 +22,7 @@ use Rattle.fx_outputs.specs.Shuffles.{shuffle_of}
 use Rattle.fx_outputs.specs.BlockColumns.{check_blockname, check_column, check_free, has_blocks, name_or_empty}
 use Rattle.fx_outputs.specs.BlockColumns.{block_values}
 use Rattle.fx_outputs.specs.Recodes.{recodes_of}
-use Rattle.fx_outputs.specs.Outputs.{check_new_name, names_of, output_of, outputs_behind, outputs_of}
+use Rattle.fx_outputs.specs.Outputs.{check_new_name, names_of, output_spec, outputs_behind, outputs_of}
 use Rattle.fx_outputs.specs.Readings.{HasBlockName}
 use Rattle.fx_outputs.specs.Validity.{HasItsNames, column_name}
 use Rattle.fx_outputs.proofs.Accepted.{through}
@@ -33,7 +33,8 @@ use Rattle.fx_outputs.proofs.Readings.{names_law}
 module _ (context : Context) (Q : List Written → Type 0) (P : List (List ℕ) → List OutputSpec → Type 0)
     (read : (earlier : List (List ℕ)) (outputs : List OutputSpec) (a b c d : Written) (options : List Written)
     (output : OutputSpec)
-    → Q (a ∷ b ∷ c ∷ d ∷ options) → is Output a.symbol ≡ true → output_of context earlier a d (d ∷ options) ≡ Ok output
+    → Q (a ∷ b ∷ c ∷ d ∷ options) → is Output a.symbol ≡ true
+    → output_spec context earlier a d (d ∷ options) ≡ Ok output
     → P earlier outputs → P (earlier ++ output.name ∷ []) (outputs ++ output ∷ [])) where
   one : (earlier : List (List ℕ)) (outputs all : List OutputSpec) (flag : Bool) (given : Result OutputSpec Refusal)
       (later : OutputSpec → Result (List OutputSpec) Refusal) (passed : Result (List OutputSpec) Refusal)
@@ -56,7 +57,7 @@ module _ (context : Context) (Q : List Written → Type 0) (P : List (List ℕ) 
   holds_of_all ((a ∷ b ∷ []) ∷ rest) earlier outputs all each h e = holds_of_all rest earlier outputs all each.1 h e
   holds_of_all ((a ∷ b ∷ c ∷ []) ∷ rest) earlier outputs all each h e = holds_of_all rest earlier outputs all each.1 h e
   holds_of_all ((a ∷ b ∷ c ∷ d ∷ options) ∷ rest) earlier outputs all each h e =
-      one earlier outputs all (is Output a.symbol) (output_of context earlier a d (d ∷ options))
+      one earlier outputs all (is Output a.symbol) (output_spec context earlier a d (d ∷ options))
       (λ output. outputs_behind context (earlier ++ output.name ∷ []) (outputs ++ output ∷ []) rest)
       (outputs_behind context earlier outputs rest)
       (λ output begun taken. read earlier outputs a b c d options output each.0 begun taken h)
@@ -74,7 +75,7 @@ record IsTaken (context : Context) (earlier : List (List ℕ)) (word name : Writ
   block_name_is : output.block_name ≡ name_or_empty (slice_get (from_option Blockname s) 2)
 
 taken : (context : Context) (earlier : List (List ℕ)) (word name : Written) (s : List Written) (output : OutputSpec)
-    → output_of context earlier word name s ≡ Ok output → IsTaken context earlier word name s output
+    → output_spec context earlier word name s ≡ Ok output → IsTaken context earlier word name s output
 taken context earlier word name s output e =
     let blockname = from_option Blockname s in
     let Goal : Type 0 = IsTaken context earlier word name s output in
@@ -128,7 +129,7 @@ is_free factors name w e =
 its_names : (context : Context) (earlier : List (List ℕ)) (a b c d : Written) (options : List Written)
     (output : OutputSpec)
     → IsAccepted (a ∷ b ∷ c ∷ d ∷ options) → is Output a.symbol ≡ true
-    → output_of context earlier a d (d ∷ options) ≡ Ok output → HasItsNames context output
+    → output_spec context earlier a d (d ∷ options) ≡ Ok output → HasItsNames context output
 its_names context earlier a b c d options output accepted begun e =
     let t = taken context earlier a d (d ∷ options) output e in
     let r = names_law (a ∷ b ∷ c ∷ d ∷ options) (accepted.by_its_word.output begun) in

@@ -15,12 +15,12 @@ use Rattle.fx_outputs.specs.Contexts.{Context}
 use Rattle.fx_outputs.specs.Options.{from_option, has_option}
 use Rattle.fx_outputs.specs.Replications.{replication_in_range, replication_at, replication_of, check_rows}
 use Rattle.fx_outputs.specs.Shuffles.{seed_in_range, seeded, seed_written, shuffle_of}
-use Rattle.fx_outputs.specs.Values.{values_of, counted}
+use Rattle.fx_outputs.specs.Values.{values_of, checked_values}
 use Rattle.fx_outputs.specs.BlockColumns.{has_blocks, values_wanted, check_blockname, check_free, check_column}
 use Rattle.fx_outputs.specs.BlockColumns.{begins_values, block_values}
 use Rattle.fx_outputs.specs.Recodes.{is_recoded, factor_at, has_values, unused_place, recode_of, recodes_behind}
 use Rattle.fx_outputs.specs.Recodes.{recodes_of}
-use Rattle.fx_outputs.specs.Outputs.{check_new_name, output_of, outputs_behind, outputs_of}
+use Rattle.fx_outputs.specs.Outputs.{check_new_name, output_spec, outputs_behind, outputs_of}
 use Rattle.fx_text.proofs.Placed as placed
 use Rattle.fx_text.proofs.Placed.{IsPlaced, ArePlaced, AreAllPlaced, Placed}
 
@@ -90,7 +90,7 @@ module _ (P : ℕ → ℕ → Type 0) where
   column context output (Some w) at h = free context.factors w.text w h
 
   as_many : (wanted : Option ℕ) (w : Written) (values : List (List ℕ)) → IsPlaced P w
-      → Placed P (counted wanted w values)
+      → Placed P (checked_values wanted w values)
   as_many None w values h = placed.written P 17 w refl h
   as_many (Some wanted) w values h = placed.both P (length values == wanted) _ _ tt (placed.written P 17 w refl h)
 
@@ -107,7 +107,8 @@ module _ (P : ℕ → ℕ → Type 0) where
       (of_place (place_of name.text context.factors)) (λ factor.
       placed.chain P (unused_place earlier name factor) _
       (placed.both P (has_values earlier factor) _ _ (placed.written P 28 name refl at_name) tt) (λ place.
-      placed.chain P (counted (Some context.q) w (values_of rest)) _ (as_many (Some context.q) w (values_of rest) at_w)
+      placed.chain P (checked_values (Some context.q) w (values_of rest)) _
+      (as_many (Some context.q) w (values_of rest) at_w)
       (λ given. tt)))
     where
       of_place : (place : Option ℕ) → Placed P (factor_at name place)
@@ -126,7 +127,7 @@ module _ (P : ℕ → ℕ → Type 0) where
       (recodes context earlier (name ∷ w ∷ rest) h.1)
 
   output : (context : Context) (earlier : List (List ℕ)) (word name : Written) (s : List Written) → IsPlaced P word
-      → IsPlaced P name → ArePlaced P s → Placed P (output_of context earlier word name s)
+      → IsPlaced P name → ArePlaced P s → Placed P (output_spec context earlier word name s)
   output context earlier word name s at_word at_name h =
       placed.chain P (check_new_name earlier name) _ (new_name earlier name at_name) (λ u.
       placed.chain P (replication_of symbol.Pointrep s) _ (replication symbol.Pointrep s h) (λ pointrep.
@@ -154,7 +155,7 @@ module _ (P : ℕ → ℕ → Type 0) where
   all context earlier outputs ((a ∷ b ∷ c ∷ []) ∷ rest) h = all context earlier outputs rest h.1
   all context earlier outputs ((a ∷ b ∷ c ∷ d ∷ options) ∷ rest) h =
       placed.both P (is symbol.Output a.symbol) _ _
-      (placed.chain P (output_of context earlier a d (d ∷ options)) _
+      (placed.chain P (output_spec context earlier a d (d ∷ options)) _
       (output context earlier a d (d ∷ options) h.0.0 h.0.1.1.1.0 (h.0.1.1.1))
       (λ o. all context (earlier ++ o.name ∷ []) (outputs ++ o ∷ []) rest h.1))
       (all context earlier outputs rest h.1)

@@ -12,7 +12,7 @@ use Rattle.fx_language.specs.Grammar as grammar
 use Rattle.fx_language.specs.Uncoded.{uncoded}
 use Rattle.fx_language.proofs.Uncoded.{to_uncoded}
 use Rattle.fx_text.specs.Written.{Written}
-use Rattle.fx_text.specs.Phrases.{has}
+use Rattle.fx_text.specs.Phrases.{has_symbol}
 use Rattle.fx_text.specs.Sentences.{symbols_in, IsStatement}
 use Rattle.fx_text.proofs.Cut.{cut, nothing}
 use Rattle.fx_text.proofs.Lacking.{any_written, lacks, none}
@@ -30,11 +30,11 @@ passed : (before w : Written) (rest : List Written) → is symbol.Blockname w.sy
 passed before w rest differs = rw differs refl
 
 -- no option begins in what lacks its word
-skip : (before : Written) (part rest : List Written) → has symbol.Blockname part ≡ false
+skip : (before : Written) (part rest : List Written) → has_symbol symbol.Blockname part ≡ false
     → (last : Written) × (from_blockname (before ∷ part ++ rest) ≡ from_blockname (last ∷ rest))
 skip before [] rest lack = (before, refl)
 skip before (w ∷ part) rest lack =
-    let parts = or_parts (is symbol.Blockname w.symbol) (has symbol.Blockname part) lack in
+    let parts = or_parts (is symbol.Blockname w.symbol) (has_symbol symbol.Blockname part) lack in
     let later = skip w part rest parts.1 in
     (later.0, passed before w (part ++ rest) parts.0 ∙ later.1)
 
@@ -90,7 +90,8 @@ three (a ∷ b ∷ c ∷ others) x y z l h =
 
 module _ (front rest : List Written) (later : (last : Written) → IsRead (from_blockname (last ∷ rest))) where
   -- behind what lacks the word
-  behind : (before : Written) → has symbol.Blockname front ≡ false → IsRead (from_blockname (before ∷ front ++ rest))
+  behind : (before : Written) → has_symbol symbol.Blockname front ≡ false
+      → IsRead (from_blockname (before ∷ front ++ rest))
   behind before lack = let s = skip before front rest lack in rw s.1 (later s.0)
 
   -- an option without the word

@@ -11,7 +11,7 @@ use Rattle.fx_text.specs.Refusals.{refusal_at}
 use Rattle.fx_outputs.specs.Contexts.{Context}
 use Rattle.fx_outputs.specs.declared.context.BlockCount.{BlockCount}
 use Rattle.fx_outputs.specs.declared.context.BlockCount.TheVariants as blocks
-use Rattle.fx_outputs.specs.Values.{values_of, counted}
+use Rattle.fx_outputs.specs.Values.{values_of, checked_values}
 
 -- the step has blocks
 abbrev pub has_blocks : BlockCount → Bool
@@ -55,4 +55,4 @@ begins_values word rest = (is Nvals word.symbol || is Cvals word.symbol) && begi
 abbrev pub block_values : BlockCount → Option Written → List Written → Result (List (List ℕ)) Refusal
 block_values count None rest = Ok []
 block_values count (Some word) rest =
-    if begins_values word rest then counted (values_wanted count) word (values_of rest) else Ok []
+    if begins_values word rest then checked_values (values_wanted count) word (values_of rest) else Ok []

@@ -5,8 +5,8 @@ use Rattle.std.specs.Str.{bytes_eq, str_to_ascii_lowercase}
 use Rattle.fx_text.specs.Names.{place_of}
 
 -- a name is one of the names, without regard to case, where its lowercase form is one of theirs
-abbrev pub AreFolded : {A : Type 0} → List (List ℕ) → List (Vec ℕ A) → Type 0
-AreFolded {A} names forms =
+abbrev pub AreLowercase : {A : Type 0} → List (List ℕ) → List (Vec ℕ A) → Type 0
+AreLowercase {A} names forms =
     (name : List ℕ)
     → list_any (λ (form : Vec ℕ A). bytes_eq (str_to_ascii_lowercase name) form.items) forms
     ≡ is_some (place_of name names)

@@ -22,8 +22,8 @@ check_new_name earlier name =
 
 -- An OUTPUT statement after these OUT names: `word` is the word OUTPUT, `name` the OUT name, and `s` what stands
 -- after `OUT =`, the name first.
-abbrev pub output_of : Context → List (List ℕ) → Written → Written → List Written → Result OutputSpec Refusal
-output_of context earlier word name s =
+abbrev pub output_spec : Context → List (List ℕ) → Written → Written → List Written → Result OutputSpec Refusal
+output_spec context earlier word name s =
     let blockname = from_option Blockname s in
     do
       _ ← check_new_name earlier name
@@ -52,7 +52,7 @@ abbrev pub outputs_behind : Context → List (List ℕ) → List OutputSpec → 
 outputs_behind context earlier outputs [] = Ok outputs
 outputs_behind context earlier outputs ((word ∷ out ∷ equals ∷ name ∷ options) ∷ rest) =
     if is Output word.symbol
-    then (output_of context earlier word name (name ∷ options)
+    then (output_spec context earlier word name (name ∷ options)
     >>= λ output. outputs_behind context (earlier ++ output.name ∷ []) (outputs ++ output ∷ []) rest)
     else outputs_behind context earlier outputs rest
 outputs_behind context earlier outputs (s ∷ rest) = outputs_behind context earlier outputs rest

@@ -11,7 +11,7 @@ use Rattle.fx_text.specs.Names.{place_of}
 use Rattle.fx_text.specs.Refusals.{refusal_at, ◌>>=◌}
 use Rattle.fx_outputs.specs.declared.recode.Recode.{Recode}
 use Rattle.fx_outputs.specs.Contexts.{Context}
-use Rattle.fx_outputs.specs.Values.{values_of, counted}
+use Rattle.fx_outputs.specs.Values.{values_of, checked_values}
 
 -- a recoded factor's name: a word that is no option, and `=` is neither in front of it nor after it
 abbrev pub is_recoded : Written → Written → Written → Bool
@@ -38,7 +38,7 @@ abbrev pub recode_of : Context → List Recode → Written → Written → List 
 recode_of context earlier name word rest = do
   factor ← factor_at name (place_of name.text context.factors)
   place ← unused_place earlier name factor
-  values ← counted (Some context.q) word (values_of rest)
+  values ← checked_values (Some context.q) word (values_of rest)
   Ok (record { place = place; values = values })
 
 -- the recoded factors from left to right, after those that are earlier; each name has something in front of it

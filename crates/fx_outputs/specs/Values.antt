@@ -39,7 +39,7 @@ abbrev pub values_of : List Written → List (List ℕ)
 values_of rest = values_from false (drop 2 rest)
 
 -- as many values as are wanted, or E17 at NVALS or CVALS; also where no number of values would do
-abbrev pub counted : Option ℕ → Written → List (List ℕ) → Result (List (List ℕ)) Refusal
-counted None word values = Err (refusal_at WRONG_NUMBER_OF_VALUES word)
-counted (Some wanted) word values =
+abbrev pub checked_values : Option ℕ → Written → List (List ℕ) → Result (List (List ℕ)) Refusal
+checked_values None word values = Err (refusal_at WRONG_NUMBER_OF_VALUES word)
+checked_values (Some wanted) word values =
     if length values == wanted then Ok values else Err (refusal_at WRONG_NUMBER_OF_VALUES word)

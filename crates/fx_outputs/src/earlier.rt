@@ -27,13 +27,13 @@ impl Drop for EarlierNames {
 
 impl Model for EarlierNames {
     ghost use Rattle.std.specs.Prelude.{List, ℕ};
-    ghost use Rattle.fx_outputs.specs.Earlier.{AreFolded};
+    ghost use Rattle.fx_outputs.specs.Earlier.{AreLowercase};
 
     ghost Value = { List (List ℕ) };
 
     ghost view = { λ n. n.names.items };
 
-    ghost invariant = { λ n. AreFolded n.names.items n.folded.keys };
+    ghost invariant = { λ n. AreLowercase n.names.items n.folded.keys };
 }
 
 impl EarlierNames {

@@ -2,7 +2,7 @@ ghost use Rattle.std.specs.Prelude.{◌≡◌, ◌++◌, ◌∷◌, [], ◌&&◌
 ghost use Rattle.fx_language.specs.declared.symbol.Symbol.TheVariants.{Output};
 ghost use Rattle.fx_text.specs.Written.{begins};
 ghost use Rattle.fx_text.specs.Refusals.{IsRefused};
-ghost use Rattle.fx_outputs.specs.Outputs.{check_new_name, names_of, output_of, outputs_of};
+ghost use Rattle.fx_outputs.specs.Outputs.{check_new_name, names_of, output_spec, outputs_of};
 ghost use Rattle.fx_outputs.specs.Validity.{IsWithinLimits};
 
 use crate::block::{block_name, block_values, check_blockname, check_column};
@@ -104,10 +104,10 @@ fn output(
     phrase: &Phrase<'_>,
 ) -> Result<OutputSpec, ParseStop>
     ensures ok { IfOk result (λ output.
-        output_of context.now earlier.old word.now name.now phrase.now ≡ Ok output) }
+        output_spec context.now earlier.old word.now name.now phrase.now ≡ Ok output) }
     ensures name { IfOk result (λ output. earlier.new ≡ earlier.old ++ output.name ∷ []) }
     ensures refused { IfErr result
-        (IsRefused (output_of context.now earlier.old word.now name.now phrase.now)) }
+        (IsRefused (output_spec context.now earlier.old word.now name.now phrase.now)) }
 {
     let blockname = from_option(Symbol::Blockname, phrase);
     add_name(alloc, earlier, name)?;

@@ -2,7 +2,7 @@
 
 ghost use Rattle.std.specs.Prelude.{◌≡◌, ◌∷◌, IfOk, IfErr};
 ghost use Rattle.fx_text.specs.Refusals.{IsRefused};
-ghost use Rattle.fx_outputs.specs.Values.{counted, inside, value_of, values_of};
+ghost use Rattle.fx_outputs.specs.Values.{checked_values, inside, value_of, values_of};
 
 use fx_base::{Bytes, NoMemory};
 use fx_language::{Symbol, code};
@@ -20,8 +20,8 @@ pub fn counted_values(
     word: &Lexeme<'_>,
     rest: &Phrase<'_>,
 ) -> Result<Names, ParseStop>
-    ensures ok { IfOk result (λ values. counted wanted word.now (values_of rest.now) ≡ Ok values) }
-    ensures refused { IfErr result (IsRefused (counted wanted word.now (values_of rest.now))) }
+    ensures ok { IfOk result (λ values. checked_values wanted word.now (values_of rest.now) ≡ Ok values) }
+    ensures refused { IfErr result (IsRefused (checked_values wanted word.now (values_of rest.now))) }
 {
     match wanted {
         None => Err(ParseStop::Refused(word.refused(code::WRONG_NUMBER_OF_VALUES))),

@@ -11,7 +11,7 @@ use Rattle.rand_pcg.specs.Lcg.{Lcg}
 use Rattle.fx_base.proofs.Ranges.{All-range}
 use Rattle.fx_plan.specs.Draws.{drawn, exchanged, shuffled, each_shuffled, all_shuffled}
 use Rattle.fx_runs.specs.Groups.{by_group}
-use Rattle.fx_plan.specs.Plans.{repeated, replicated, shuffled_in_blocks}
+use Rattle.fx_plan.specs.Plans.{copies, replicated, shuffled_in_blocks}
 
 module _ {X : Type 0} (P : X → Type 0) where
   at_any : (d : X) (ys : List X) (i : ℕ) → All P (d ∷ ys) → P (get_or (d ∷ ys) i d)
@@ -41,9 +41,9 @@ module _ {X : Type 0} (P : X → Type 0) where
   flat_map_keeps f [] h = λ k d low. absurd (omega arith)
   flat_map_keeps f (y ∷ ys) h = All-append P (f y) (flat_map f ys) h.0 (flat_map_keeps f ys h.1)
 
-  pub repeated_keeps : (n : ℕ) (xs : List X) → All P xs → All P (repeated n xs)
+  pub repeated_keeps : (n : ℕ) (xs : List X) → All P xs → All P (copies n xs)
   repeated_keeps zero xs h = λ k d low. absurd (omega arith)
-  repeated_keeps (suc n) xs h = All-append P xs (repeated n xs) h (repeated_keeps n xs h)
+  repeated_keeps (suc n) xs h = All-append P xs (copies n xs) h (repeated_keeps n xs h)
 
 -- what shuffling keeps of a list, it keeps of each of some lists
 pub each_keeps : {X : Type 0} (Q : List X → Type 0) → ((g : Lcg) (xs : List X) → Q xs → Q (shuffled g xs).0)

@@ -13,7 +13,7 @@ use Rattle.rand_pcg.specs.Lcg.{Lcg}
 use Rattle.fx_base.proofs.Numbers.{eqb_comm}
 use Rattle.fx_plan.specs.Draws.{drawn, exchanged, shuffled, each_shuffled, all_shuffled}
 use Rattle.fx_runs.specs.Groups.{by_group}
-use Rattle.fx_plan.specs.Plans.{repeated, replicated, shuffled_in_blocks}
+use Rattle.fx_plan.specs.Plans.{copies, replicated, shuffled_in_blocks}
 use Rattle.fx_plan.proofs.Words.{drawn_low}
 
 module _ {X : Type 0} (f : X → ℕ) where
@@ -38,10 +38,10 @@ module _ {X : Type 0} (f : X → ℕ) where
       ∙ ap₂ (λ (a b : ℕ). a + b) (shuffled_total g xs) (each_total lists (shuffled g xs).1)
       ∙ sym (sum_by-cons (λ l. sum_by f l) xs lists)
 
-  pub repeated_total : (n : ℕ) (xs : List X) → sum_by f (repeated n xs) ≡ n * sum_by f xs
+  pub repeated_total : (n : ℕ) (xs : List X) → sum_by f (copies n xs) ≡ n * sum_by f xs
   repeated_total zero xs = omega arith
   repeated_total (suc n) xs =
-      sum_by-append f xs (repeated n xs) ∙ ap (λ (x : ℕ). sum_by f xs + x) (repeated_total n xs) ∙ omega arith
+      sum_by-append f xs (copies n xs) ∙ ap (λ (x : ℕ). sum_by f xs + x) (repeated_total n xs) ∙ omega arith
 
 module _ (f : ℕ → ℕ) (block : ℕ → ℕ) (n : ℕ) where
   in_its_group : (x : ℕ) → block x < n → sum_by (λ z. cond (eqb (block x) z) (f x) 0) (range_with_len 0 n) ≡ f x

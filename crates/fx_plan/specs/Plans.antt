@@ -10,13 +10,13 @@ use Rattle.fx_runs.specs.Levels.{default_values}
 use Rattle.fx_plan.specs.Draws.{generator, each_shuffled, all_shuffled}
 
 -- a whole list so many times
-abbrev pub repeated : {X : Type 0} → ℕ → List X → List X
-repeated zero xs = []
-repeated (suc n) xs = xs ++ repeated n xs
+abbrev pub copies : {X : Type 0} → ℕ → List X → List X
+copies zero xs = []
+copies (suc n) xs = xs ++ copies n xs
 
 -- each item `each` times in succession, and that whole list `all` times
 abbrev pub replicated : {X : Type 0} → ℕ → ℕ → List X → List X
-replicated each all xs = repeated all (flat_map (λ x. replicate each x) xs)
+replicated each all xs = copies all (flat_map (λ x. replicate each x) xs)
 
 -- items in random order, where each of n blocks stays together: the blocks are shuffled, and then each of them
 abbrev pub shuffled_in_blocks : {X : Type 0} → Lcg → (X → ℕ) → ℕ → List X → List X × Lcg

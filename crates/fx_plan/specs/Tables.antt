@@ -8,12 +8,8 @@ use Rattle.csv.specs.declared.writer.Writer.{Writer}
 use Rattle.fx_runs.specs.Runs.{RunsView}
 use Rattle.fx_runs.specs.RunBlocks.{block_of, run_at}
 use Rattle.fx_outputs.specs.declared.output.OutputSpec.{OutputSpec}
+use Rattle.fx_outputs.specs.Validity.{column_name}
 use Rattle.fx_plan.specs.Plans.{Arrangement, arranged, replicated, values_of}
-
--- the name of the block column
-abbrev pub column_name : List ℕ → List ℕ
-column_name [] = codes "BLOCK"
-column_name (b ∷ name) = b ∷ name
 
 -- the field of a block, counted from 0: its value, or its number from 1 where the text has no values
 abbrev pub block_field : List (List ℕ) → ℕ → List ℕ

@@ -28,7 +28,7 @@ use Rattle.fx_settings.proofs.Valid.{valid}
 use Rattle.fx_effects.specs.Models.{lists_of}
 use Rattle.fx_statements.specs.Contexts.{context}
 use Rattle.fx_statements.specs.Components.{check_components, components_place}
-use Rattle.fx_statements.specs.Goals.{Goal, AtLeast, Highest, effects_in, effects_wanted, goal_by}
+use Rattle.fx_statements.specs.Goals.{Goal, AtLeast, Highest, effects_goal, effects_wanted, goal_by}
 use Rattle.fx_statements.specs.Steps.{Meaning, asked_by, examine_of, factors_by, head_of, factor_limit, some_factors}
 use Rattle.fx_statements.specs.Steps.{step_by, step_of}
 use Rattle.fx_statements.specs.Programs.{accepted, program_of, steps_behind}
@@ -41,7 +41,7 @@ use Rattle.fx_program.specs.Claims.{EachStep}
 use Rattle.fx_answer.specs.ValidSteps.{CanBeSought, IsOfKind, IsValidStep}
 
 -- the goal is of the kind that the settings say
-by_effects : (q : ℕ) (factors : List (List ℕ)) (s : List Written) (goal : Goal) → effects_in q factors s ≡ Ok goal
+by_effects : (q : ℕ) (factors : List (List ℕ)) (s : List Written) (goal : Goal) → effects_goal q factors s ≡ Ok goal
     → IsOfKind criterion.Effects goal
 by_effects q factors s goal e =
     let lists = bind_ok (lists_of q factors s) _ goal e in
@@ -64,7 +64,7 @@ goal_kind q factors statements criterion.Effects goal e =
 
 -- and the effects that it names may be asked for
 by_lists : (q : ℕ) (factors : List (List ℕ)) → length factors ≤ 40 → (s : List Written) (goal : Goal)
-    → effects_in q factors s ≡ Ok goal → CanBeSought q (length factors) goal
+    → effects_goal q factors s ≡ Ok goal → CanBeSought q (length factors) goal
 by_lists q factors few s goal e =
     let lists = bind_ok (lists_of q factors s) _ goal e in
     subst (CanBeSought q (length factors)) (same_ok _ goal lists.2) (lists_told factors few q s lists.0 lists.1)
@@ -137,7 +137,8 @@ module _ (Claimed : Meaning → Type 0) (claim : (step : Meaning) → IsValidSte
   step_read earlier statements (Some given) step e =
       let proc = start_of (head_of statements) in
       let factors = bind_ok (factors_by proc (factor_limit statements) given) _ step e in
-      let found = bind_ok (named.factors_of (factor_limit statements) given) (some_factors proc) factors.0 factors.1 in
+      let found =
+      bind_ok (named.names_of_factors (factor_limit statements) given) (some_factors proc) factors.0 factors.1 in
       let asked =
       bind_ok (asked_by factors.0 (step_said (head_of statements) given statements) statements) _ step factors.2 in
       let outputs = bind_ok (outputs_of (context factors.0 asked.0.0) earlier statements) _ step asked.2 in

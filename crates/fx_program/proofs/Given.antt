@@ -12,7 +12,7 @@ use Rattle.fx_statements.specs.Steps.{Meaning, meaning_of}
 use Rattle.fx_statements.specs.Outcomes.{ending_in, HasMatrix}
 use Rattle.fx_vectors.specs.Shape.{dimensions_of}
 use Rattle.fx_alias.specs.Heads.{head_lines}
-use Rattle.fx_alias.specs.Rules.{rules}
+use Rattle.fx_alias.specs.Rules.{rules_section}
 use Rattle.fx_alias.specs.Sections.{examined, sections, step_lines}
 use Rattle.fx_settings.specs.declared.settings.Blocks.{Blocks}
 use Rattle.fx_settings.specs.declared.settings.Blocks.TheVariants as blocks
@@ -32,15 +32,15 @@ module _ (shape : Shape) where
   -- a matrix has the sections of the ending's
   pub with_matrix : (step : Meaning) (books : List ℕ) (ending : Ending) (matrix : MatrixView)
       → HasMatrix shape ending (Some matrix)
-      → rules (dimensions_of matrix.shape) step.factors matrix.rows ++ (books ++ examined step matrix)
+      → rules_section (dimensions_of matrix.shape) step.factors matrix.rows ++ (books ++ examined step matrix)
       ≡ sections (dimensions_of shape) step books ending
   with_matrix step books (Design rows count) matrix h =
-      ap (λ (x : MatrixView). rules (dimensions_of x.shape) step.factors x.rows ++ (books ++ examined step x))
+      ap (λ (x : MatrixView). rules_section (dimensions_of x.shape) step.factors x.rows ++ (books ++ examined step x))
       (same_Some matrix (with_rows rows) h.0)
   with_matrix step books (NoDesign count) matrix h = absurd (cc h)
   with_matrix step books (BudgetEnded None budget) matrix h = absurd (cc h)
   with_matrix step books (BudgetEnded (Some rows) budget) matrix h =
-      ap (λ (x : MatrixView). rules (dimensions_of x.shape) step.factors x.rows ++ (books ++ examined step x))
+      ap (λ (x : MatrixView). rules_section (dimensions_of x.shape) step.factors x.rows ++ (books ++ examined step x))
       (same_Some matrix (with_rows rows) h.0)
 
   -- and is whole

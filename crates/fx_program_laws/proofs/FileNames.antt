@@ -7,7 +7,7 @@ use Rattle.std.specs.List.{AllByRecursion, IsDistinct}
 use Rattle.std.proofs.lemmas.Bool.{and_parts, both_ways}
 use Rattle.std.proofs.lemmas.List.Elements.{recursion_from_All}
 use Rattle.fx_base.specs.Acts.{Event, Piece, WholeFile}
-use Rattle.fx_base.proofs.Lists.{each-weaker, each-append}
+use Rattle.fx_base.proofs.Lists.{each-weaker, each-append, each-append_parts}
 use Rattle.fx_designs.specs.Problems.{Problem}
 use Rattle.fx_text.specs.Names.{is_same_name}
 use Rattle.fx_text.proofs.Distinct.{joined_differ, none_differ, behind_differ}
@@ -173,12 +173,8 @@ given_apart step (Some matrix) h = plans_apart (names_of step.outputs) h
 front_differ : (xs ys : List Name) → IsDistinct is_same_name (xs ++ ys) → IsDistinct is_same_name xs
 unfolding IsDistinct
 front_differ [] ys h = tt
-front_differ (x ∷ xs) ys h = (front_each x xs ys h.0, front_differ xs ys h.1)
-  where
-    front_each : (x : Name) (xs ys : List Name) → AllByRecursion (λ other. is_same_name x other ≡ false) (xs ++ ys)
-        → AllByRecursion (λ other. is_same_name x other ≡ false) xs
-    front_each x [] ys h = tt
-    front_each x (y ∷ xs) ys h = (h.0, front_each x xs ys h.1)
+front_differ (x ∷ xs) ys h =
+    ((each-append_parts (λ other. is_same_name x other ≡ false) xs ys h.0).0, front_differ xs ys h.1)
 
 at : (x name : Name) (names : List Name) → AllByRecursion (λ other. is_same_name x other ≡ false) names → In name names
     → is_same_name x name ≡ false

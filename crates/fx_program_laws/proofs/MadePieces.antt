@@ -9,7 +9,8 @@ use Rattle.fx_lexer.specs.Bytes.{is_white, is_digit, begins_word, is_word_byte, 
 use Rattle.fx_lexer.specs.Extents.{begins_comment, begins_remark}
 use Rattle.fx_lexer.specs.Lexing.{lexed}
 use Rattle.fx_lexer.specs.TextPieces.{Piece, white, comment, remark, word, whole, decimal as decimal_piece, quoted}
-use Rattle.fx_lexer.specs.TextPieces.{sign, spelling, HasForm, IsShort, AreFormed, starts_behind, starts_behind_all}
+use Rattle.fx_lexer.specs.TextPieces.{sign, spelling, HasForm, HasAllowedLength, AreFormed, starts_behind}
+use Rattle.fx_lexer.specs.TextPieces.{starts_behind_all}
 use Rattle.fx_lexer.specs.TextPieces.{begins_with, begins_fraction, text_of, tokens_among}
 use Rattle.fx_lexer.proofs.TextOfPieces.{tokens_read}
 use Rattle.fx_program.specs.Making.{factors_at, levels_at, runs_at, made_text, step_text}
@@ -65,7 +66,7 @@ form_decided start (sign b) rest e =
     let c = and_parts _ _ a.1 in
     (a.0, not-true _ c.0, not-true _ c.1)
 
-short_decided : (p : Piece) → is_short p ≡ true → IsShort p
+short_decided : (p : Piece) → is_short p ≡ true → HasAllowedLength p
 short_decided (white b) e = tt
 short_decided (comment inside) e = tt
 short_decided (remark inside) e = tt

@@ -20,7 +20,7 @@ use Rattle.fx_language.specs.Keywords.{symbol_of, symbols_of}
 use Rattle.fx_language.specs.Grammar.{program}
 use Rattle.fx_language.specs.Refusals.{refused}
 use Rattle.fx_language.specs.declared.repeated.Past.{Past}
-use Rattle.fx_language.specs.Pasts.{past_of, past_after, rule_of}
+use Rattle.fx_language.specs.Pasts.{past_of, past_after, rule_code}
 use Rattle.fx_language.specs.Continuations.{in_step}
 use Rattle.fx_language.specs.Repeats.{repeated, or_later, rule_at, begins_with}
 use Rattle.fx_language.specs.FirstRefusal.{first_refusal}
@@ -167,7 +167,7 @@ is_none (Some code) = false
 abbrev walk : Past → List Symbol → List Symbol → Option Past
 walk p [] rest = Some p
 walk p (s ∷ ss) rest =
-    if is_none (rule_of p s (begins_with Factex (ss ++ rest))) then walk (past_after p s) ss rest else None
+    if is_none (rule_code p s (begins_with Factex (ss ++ rest))) then walk (past_after p s) ss rest else None
 
 none_is : (o : Option ℕ) → is_none o ≡ true → o ≡ None
 none_is None e = refl
@@ -179,21 +179,21 @@ walked : (ss rest seen : List Symbol) (i : ℕ) (p after : Past) → past_of see
     → repeated seen i (ss ++ rest) ≡ None
 walked [] rest seen i p after is e h = let same : p ≡ after = cc e in h seen i (is ∙ same)
 walked (s ∷ ss) rest seen i p after is e h =
-    let go : (b : Bool) → is_none (rule_of p s (begins_with Factex (ss ++ rest))) ≡ b
+    let go : (b : Bool) → is_none (rule_code p s (begins_with Factex (ss ++ rest))) ≡ b
     → (if b then walk (past_after p s) ss rest else None) ≡ Some after → repeated seen i ((s ∷ ss) ++ rest) ≡ None =
     λ b. elim b as
-    (λ b. is_none (rule_of p s (begins_with Factex (ss ++ rest))) ≡ b
+    (λ b. is_none (rule_code p s (begins_with Factex (ss ++ rest))) ≡ b
     → (if b then walk (past_after p s) ss rest else None) ≡ Some after → repeated seen i ((s ∷ ss) ++ rest) ≡ None) [
       | true ↦ λ none go_on.
           (let rule : rule_at seen s (ss ++ rest)
-          ≡ None = rule_is seen (ss ++ rest) s ∙ ap (λ (q : Past). rule_of q s (begins_with Factex (ss ++ rest))) is ∙
+          ≡ None = rule_is seen (ss ++ rest) s ∙ ap (λ (q : Past). rule_code q s (begins_with Factex (ss ++ rest))) is ∙
           none_is _ none in
           ap (λ (o : Option ℕ). or_later i o (repeated (s ∷ seen) (i + 1) (ss ++ rest))) rule
           ∙ walked ss rest (s ∷ seen) (i + 1) (past_after p s) after
           (past_next s seen ∙ ap (λ (q : Past). past_after q s) is) go_on h)
       | false ↦ λ none stop. absurd (cc stop)
     ] in
-    go (is_none (rule_of p s (begins_with Factex (ss ++ rest)))) refl e
+    go (is_none (rule_code p s (begins_with Factex (ss ++ rest)))) refl e
 
 -- what is kept after a step, where so many PROC statements were seen
 abbrev after_step : ℕ → Past

@@ -9,6 +9,7 @@ use Rattle.std.proofs.lemmas.List.{length-map}
 use Rattle.std.proofs.lemmas.List.Concat.{flat_map-append}
 use Rattle.std.proofs.lemmas.List.Sums.{count_by-le-length}
 use Rattle.std.proofs.lemmas.List.FromFn.{length-range_with_len}
+use Rattle.fx_base.proofs.Lists.{each-append}
 use Rattle.fx_lexer.specs.declared.token.Token.{Token}
 use Rattle.fx_lexer.specs.declared.token.LexFault.{LexFault}
 use Rattle.fx_lexer.specs.Lexing.{lexed}
@@ -68,7 +69,8 @@ step_read earlier statements None step differ e = absurd (cc e)
 step_read earlier statements (Some given) step differ e =
     let proc = start_of (head_of statements) in
     let factors = bind_ok (factors_by proc (factor_limit statements) given) _ step e in
-    let found = bind_ok (named.factors_of (factor_limit statements) given) (some_factors proc) factors.0 factors.1 in
+    let found =
+    bind_ok (named.names_of_factors (factor_limit statements) given) (some_factors proc) factors.0 factors.1 in
     let asked =
     bind_ok (asked_by factors.0 (step_said (head_of statements) given statements) statements) _ step factors.2 in
     let outputs = bind_ok (outputs_of (context factors.0 asked.0.0) earlier statements) _ step asked.2 in
@@ -94,11 +96,6 @@ record AreReadBehind (steps done : List Meaning) (groups : ℕ) : Type 0 where
   pub names : IsDistinct is_same_name (out_names_of steps)
   pub many : length steps ≡ length done + groups
 
-few-push : (done : List Meaning) (step : Meaning) → AllByRecursion (λ (step : Meaning). length step.factors ≤ 40) done
-    → length step.factors ≤ 40 → AllByRecursion (λ (step : Meaning). length step.factors ≤ 40) (done ++ step ∷ [])
-few-push [] step all one = (one, tt)
-few-push (other ∷ done) step all one = (all.0, few-push done step all.1 one)
-
 all_read : (earlier : List (List ℕ)) (done : List Meaning) (groups : List (List (List Written))) (steps : List Meaning)
     → earlier ≡ out_names_of done → IsDistinct is_same_name earlier
     → AllByRecursion (λ (step : Meaning). length step.factors ≤ 40) done
@@ -119,7 +116,7 @@ all_read earlier done (group ∷ groups) steps are differ few e =
     ∙ sym (flat_map-append (λ (step : Meaning). names_of step.outputs) done (step.0 ∷ [])) in
     let later =
     all_read (earlier ++ names_of step.0.outputs) (done ++ step.0 ∷ []) groups steps names read.names
-    (few-push done step.0 few read.few) step.2 in
+    (each-append (λ (step : Meaning). length step.factors ≤ 40) done (step.0 ∷ []) few (read.few, tt)) step.2 in
     record { few = later.few; names = later.names; many = omega (arith, later.many, length-append done (step.0 ∷ [])) }
 
 -- ---- how many steps there are

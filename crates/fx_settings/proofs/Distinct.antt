@@ -10,9 +10,9 @@ use Rattle.fx_text.specs.Written.{Written}
 use Rattle.fx_text.specs.Names.{is_same_name, place_of}
 use Rattle.fx_text.proofs.Digits.{is_below}
 use Rattle.fx_text.proofs.Distinct.{IsNew, joined_differ, none_differ, not_found}
-use Rattle.fx_text.specs.Ranges.{is_range, is_numeral, is_plain, numbered, stem, ending, number_at_end}
+use Rattle.fx_text.specs.Ranges.{is_range, is_numeral, is_plain, numbered, stem, digits_at_end, number_at_end}
 use Rattle.fx_settings.specs.Items.{Item, is_regular, is_regular_from, names_of, names_from, items_of}
-use Rattle.fx_settings.specs.Factors.{are_known, added, all_added, factors_of}
+use Rattle.fx_settings.specs.Factors.{are_known, added, all_added, names_of_factors}
 use Rattle.fx_text.proofs.RangeParts.{plain, order}
 use Rattle.fx_text.proofs.Chains.{unless_ok, bind_ok}
 use Rattle.fx_settings.proofs.NumbersDiffer.{numbered_differ}
@@ -34,7 +34,7 @@ range_differs : (first last : List ℕ) → is_range first last ≡ true
     → IsDistinct is_same_name
     (numbered (stem first) (number_at_end first) (number_at_end last + 1 - number_at_end first))
 range_differs first last regular =
-    let small = plain_is_below (ending last) (plain first last regular).1 in
+    let small = plain_is_below (digits_at_end last) (plain first last regular).1 in
     numbered_differ (stem first) (number_at_end first) (number_at_end last + 1 - number_at_end first)
     (omega (arith, order first last regular, small))
 
@@ -63,5 +63,5 @@ all_differ limit (item ∷ items) names all h e =
     all_differ limit items one.0 all (added_differ limit names item one.0 h one.1) one.2
 
 pub factors_differ : (limit : ℕ) (statement : List Written) (names : List (List ℕ))
-    → factors_of limit statement ≡ Ok names → IsDistinct is_same_name names
+    → names_of_factors limit statement ≡ Ok names → IsDistinct is_same_name names
 factors_differ limit statement names e = all_differ limit (items_of statement) [] names none_differ e

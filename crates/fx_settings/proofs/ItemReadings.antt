@@ -11,7 +11,7 @@ use Rattle.fx_language.specs.Shapes.{Shape, Empty, One, Before, Either, Matches}
 use Rattle.fx_language.specs.Grammar as grammar
 use Rattle.fx_language.proofs.SameSymbol.{symbol_is}
 use Rattle.fx_text.specs.Written.{Written, begins}
-use Rattle.fx_text.specs.Phrases.{before, has}
+use Rattle.fx_text.specs.Phrases.{preceding, has_symbol}
 use Rattle.fx_text.specs.Ranges.{range_end}
 use Rattle.fx_text.specs.Sentences.{symbols_in, IsStatement}
 use Rattle.fx_text.proofs.Lacking.{before_none, before_part}
@@ -151,7 +151,7 @@ read_again (p ∷ written) (i ∷ read) h = by_last i.last h.0.1 ∙ ap (λ l. i
 
 -- items have no `/`
 no_slash : (written : List (List Written)) (read : List Item) → AreItems written read
-    → has symbol.Slash (flat_map (λ (part : List Written). part) written) ≡ false
+    → has_symbol symbol.Slash (flat_map (λ (part : List Written). part) written) ≡ false
 no_slash [] [] h = refl
 no_slash [] (i ∷ read) h = absurd h
 no_slash (p ∷ written) [] h = absurd h
@@ -163,18 +163,18 @@ no_slash (p ∷ written) (i ∷ read) h = by_last i.last h.0.1 (no_slash written
     other : (s : Symbol) → is symbol.Minus s ≡ true → is symbol.Slash s ≡ false
     other s e = ap (is symbol.Slash) (symbol_is symbol.Minus s e)
 
-    by_last : (last : Option Written) → IsWrittenAs p i.first last → has symbol.Slash rest ≡ false
-        → has symbol.Slash (p ++ rest) ≡ false
+    by_last : (last : Option Written) → IsWrittenAs p i.first last → has_symbol symbol.Slash rest ≡ false
+        → has_symbol symbol.Slash (p ++ rest) ≡ false
     by_last None e later = rw e (rw (no_sign symbol.Slash i.first.symbol refl h.0.0) later)
     by_last (Some last) (minus, hm, hl, e) later =
         let first = no_sign symbol.Slash i.first.symbol refl h.0.0 in
         rw e (rw (first, other minus.symbol hm, no_sign symbol.Slash last.symbol refl hl) later)
 
 -- what is before the first `/`
-before_all : (front options : List Written) → has symbol.Slash front ≡ false
-    → (options ≡ []) ⊎ (begins symbol.Slash options ≡ true) → before symbol.Slash (front ++ options) ≡ front
+before_all : (front options : List Written) → has_symbol symbol.Slash front ≡ false
+    → (options ≡ []) ⊎ (begins symbol.Slash options ≡ true) → preceding symbol.Slash (front ++ options) ≡ front
 before_all front options lack (inl empty) =
-    ap (before symbol.Slash) (ap (λ l. front ++ l) empty ∙ append-nil front) ∙ before_none symbol.Slash front lack
+    ap (preceding symbol.Slash) (ap (λ l. front ++ l) empty ∙ append-nil front) ∙ before_none symbol.Slash front lack
 before_all front [] lack (inr some) = absurd (let f : false ≡ true = some in cc)
 before_all front (w ∷ options) lack (inr some) = before_part symbol.Slash front w options lack some
 
@@ -232,7 +232,7 @@ items_law (word ∷ ws) (
       statement = ap (λ (l : List Written). word ∷ l) all.all;
       items = subst (AreItems all.written)
           (sym (ap (items_from false)
-          (ap (before symbol.Slash) all.all ∙ before_all front all.others (no_slash all.written all.read all.are)
+          (ap (preceding symbol.Slash) all.all ∙ before_all front all.others (no_slash all.written all.read all.are)
           options) ∙ read_again all.written all.read all.are)) all.are;
       behind = options;
     }

@@ -7,7 +7,7 @@ use Rattle.fx_language.specs.Symbols.{is}
 use Rattle.fx_text.specs.Written.{Written}
 use Rattle.fx_text.specs.Ranges.{range_end}
 use Rattle.fx_settings.specs.Items.{Item, item, items_from, items_of, is_regular, names_of}
-use Rattle.fx_settings.specs.Factors.{are_known, added, all_added, factors_of}
+use Rattle.fx_settings.specs.Factors.{are_known, added, all_added, names_of_factors}
 use Rattle.fx_text.proofs.Placed as placed
 use Rattle.fx_text.proofs.Placed.{IsPlaced, ArePlaced, Placed}
 
@@ -37,5 +37,5 @@ module _ (P : ℕ → ℕ → Type 0) where
       placed.chain P (added limit names i) (λ more. all_added limit more s) (one limit names i h.0)
       (λ more. all limit more s h.1)
 
-  pub factors : (limit : ℕ) (s : List Written) → ArePlaced P s → Placed P (factors_of limit s)
+  pub factors : (limit : ℕ) (s : List Written) → ArePlaced P s → Placed P (names_of_factors limit s)
   factors limit s h = all limit [] (items_of s) (items false _ (placed.before_it P Slash _ (placed.dropped P 1 s h)))

@@ -10,18 +10,19 @@ use Rattle.std.proofs.lemmas.Slice.Eq.{bytes_eq-Decides}
 use Rattle.std.specs.Char.{to_ascii_lowercase}
 use Rattle.std.proofs.lemmas.Fmt.{length-decimal-le_wide}
 use Rattle.std.proofs.lemmas.Str.Parse.{digits_value_short}
-use Rattle.fx_base.proofs.Lists.{each-append}
+use Rattle.fx_base.proofs.Lists.{each-append, each-append_parts}
 use Rattle.fx_lexer.specs.Bytes.{is_digit}
+use Rattle.fx_language.specs.Symbols.{is_word}
 use Rattle.fx_language.specs.Grammar as grammar
 use Rattle.fx_text.specs.Names.{IsName, is_same_name}
-use Rattle.fx_text.specs.Ranges.{ending, is_numeral, is_plain, is_range, number_at_end, numbered, stem, stem_len}
+use Rattle.fx_text.specs.Ranges.{digits_at_end, is_numeral, is_plain, is_range, number_at_end, numbered, stem, stem_len}
 use Rattle.fx_text.specs.Sentences.{HasNames, IsStatement}
 use Rattle.fx_text.specs.Written.{Written}
 use Rattle.fx_text.proofs.Digits.{digits}
 use Rattle.fx_text.proofs.RangeParts.{order, plain}
 use Rattle.fx_text.proofs.Chains.{unless_ok, bind_ok}
 use Rattle.fx_settings.specs.Items.{Item, is_regular, is_regular_from, items_of, names_from, names_of}
-use Rattle.fx_settings.specs.Factors.{added, all_added, are_known, factors_of}
+use Rattle.fx_settings.specs.Factors.{added, all_added, are_known, names_of_factors}
 use Rattle.fx_settings.specs.ItemReadings.{AreItems, IsWrittenAs}
 use Rattle.fx_settings.proofs.ItemReadings.{items_law}
 
@@ -54,19 +55,19 @@ each_item (p ∷ written) (i ∷ items) h names = by_last i.last h.0.1 (each_ite
 
 -- a number up to that of the last name has no more digits than it
 no_longer : (first last : List ℕ) (n : ℕ) → is_range first last ≡ true → n ≤ number_at_end last
-    → length (decimal n) ≤ length (ending last)
+    → length (decimal n) ≤ length (digits_at_end last)
 no_longer first last n regular upto =
     let whole = (plain first last regular).1 in
-    let numeral = (and_parts (is_numeral (ending last)) _ whole).0 in
+    let numeral = (and_parts (is_numeral (digits_at_end last)) _ whole).0 in
     let short =
-    and_parts (list_all is_digit (ending last) && nat_le 1 (length (ending last)))
-    (nat_le (length (ending last)) 38) numeral in
-    let some = and_parts (list_all is_digit (ending last)) (nat_le 1 (length (ending last))) short.0 in
-    let k : ℕ = length (ending last) in
+    and_parts (list_all is_digit (digits_at_end last) && nat_le 1 (length (digits_at_end last)))
+    (nat_le (length (digits_at_end last)) 38) numeral in
+    let some = and_parts (list_all is_digit (digits_at_end last)) (nat_le 1 (length (digits_at_end last))) short.0 in
+    let k : ℕ = length (digits_at_end last) in
     let most : k ≤ 38 = leb-true k 38 short.1 in
     let positive : 1 ≤ k = leb-true 1 k some.1 in
-    let value : number_at_end last < 10 ^ k = digits_value_short digits (ending last) k some.0 (omega arith) in
-    let small : number_at_end last < 10 ^ 38 = digits_value_short digits (ending last) 38 some.0 most in
+    let value : number_at_end last < 10 ^ k = digits_value_short digits (digits_at_end last) k some.0 (omega arith) in
+    let small : number_at_end last < 10 ^ 38 = digits_value_short digits (digits_at_end last) 38 some.0 most in
     length-decimal-le_wide k n (omega (arith, positive)) (omega (arith, upto, value)) (omega (arith, upto, small))
 
 -- the stems of a range are as long as one another, and not empty
@@ -82,16 +83,16 @@ some_stem : (first last : List ℕ) → is_range first last ≡ true → 1 ≤ l
 some_stem first last regular =
     let most = and_parts _ (nat_le (number_at_end first) (number_at_end last)) regular in
     let same = and_parts _ (is_same_name (stem first) (stem last)) most.0 in
-    let plain_last = and_parts _ (is_plain (ending last)) same.0 in
-    let plain_first = and_parts (nat_le 1 (stem_len first)) (is_plain (ending first)) plain_last.0 in
+    let plain_last = and_parts _ (is_plain (digits_at_end last)) same.0 in
+    let plain_first = and_parts (nat_le 1 (stem_len first)) (is_plain (digits_at_end first)) plain_last.0 in
     let some = leb-true 1 (stem_len first) plain_first.0 in
     let inside : stem_len first ≤ length first = omega arith in
     let long = length-take-le (stem_len first) first inside in
     omega (arith, some, long)
 
-whole_name : (name : List ℕ) → length (stem name) + length (ending name) ≡ length name
+whole_name : (name : List ℕ) → length (stem name) + length (digits_at_end name) ≡ length name
 whole_name name =
-    sym (length-append (stem name) (ending name)) ∙ ap (λ (l : List ℕ). length l)
+    sym (length-append (stem name) (digits_at_end name)) ∙ ap (λ (l : List ℕ). length l)
     (take-append-drop (stem_len name) name)
 
 -- the names of a range, each with a number from `from` on
@@ -130,16 +131,13 @@ all_names limit (item ∷ items) names all is h e =
     all_names limit items one.0 all is.1
     (subst (AllByRecursion IsName) same (each-append IsName names (names_of item) h here)) one.2
 
--- what holds of each of some holds of each of a part
-front_names : (a b : List Written) → HasNames (a ++ b) → HasNames a
-front_names [] b h = tt
-front_names (w ∷ a) b h = (h.0, front_names a b h.1)
-
 pub factor_names : (limit : ℕ) (s : List Written) (names : List (List ℕ)) → IsStatement grammar.factors s → HasNames s
-    → factors_of limit s ≡ Ok names → All IsName names
+    → names_of_factors limit s ≡ Ok names → All IsName names
 factor_names limit s names by_grammar are e =
     let r = items_law s by_grammar in
     let front : List Written = flat_map (λ (part : List Written). part) r.written in
     let written = subst HasNames r.statement are in
-    let items = each_item r.written (items_of s) r.items (front_names front r.options written.1) in
+    let items =
+    each_item r.written (items_of s) r.items
+    ((each-append_parts (λ w. is_word w.symbol ≡ true → IsName w.text) front r.options written.1).0) in
     All-from_recursion IsName names (all_names limit (items_of s) [] names items tt e)

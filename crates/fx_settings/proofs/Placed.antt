@@ -19,7 +19,7 @@ use Rattle.fx_settings.specs.declared.said.BlocksSaid.{BlocksSaid}
 use Rattle.fx_settings.specs.declared.said.StepSaid.{StepSaid}
 use Rattle.fx_settings.specs.declared.rule.Rule.{Rule}
 use Rattle.fx_settings.specs.declared.settings.StepSettings.{StepSettings}
-use Rattle.fx_settings.specs.Said.{value_at, value_of, first_place, last_place, size_said}
+use Rattle.fx_settings.specs.Said.{value_at, value_after_equals, first_place, last_place, size_said}
 use Rattle.fx_settings.specs.Said.{resolution_said, model_said, blocks_said, step_said}
 use Rattle.fx_settings.specs.Rules.{first_refusal, unless_refused}
 use Rattle.fx_settings.specs.Settings.{value_place, size_place, resolution_place, minabs_place, blocks_place}
@@ -65,7 +65,7 @@ chained f Q None h each = tt
 chained f Q (Some x) h each = each x h
 
 module _ (P : ℕ → ℕ → Type 0) where
-  value : (s : List Written) → ArePlaced P s → IfSome (value_of s) (IsValuePlaced P)
+  value : (s : List Written) → ArePlaced P s → IfSome (value_after_equals s) (IsValuePlaced P)
   value s h =
       mapped value_at (IsValuePlaced P) (slice_get (after symbol.Equals s) 0)
       (placed.at P 0 _ (placed.after_it P symbol.Equals s h)) (λ w k. k)
@@ -82,7 +82,7 @@ module _ (P : ℕ → ℕ → Type 0) where
       of_front (w ∷ l) h = by_test (is which w.symbol) w h.0
 
   sizes : (s : List Written) → ArePlaced P s → IfSome (size_said s) (IsSizePlaced P)
-  sizes s h = mapped _ (IsSizePlaced P) (value_of s) (value s h) (λ v k. k)
+  sizes s h = mapped _ (IsSizePlaced P) (value_after_equals s) (value s h) (λ v k. k)
 
   models : (s : List Written) → ArePlaced P s → IfSome (model_said s) (IsModelPlaced P)
   models s h = by_test (begins symbol.Estimate (drop 1 s))
@@ -94,12 +94,13 @@ module _ (P : ℕ → ℕ → Type 0) where
       at_minabs = last symbol.Minabs s h
 
       by_test : (b : Bool) → let effects : Option ModelSaid = Some (record { resolution = None; minabs = minabs }) in
-          IfSome (if b then effects else option_map (resolution_said minabs) (value_of s)) (IsModelPlaced P)
+          IfSome (if b then effects else option_map (resolution_said minabs) (value_after_equals s)) (IsModelPlaced P)
       by_test true = (tt, at_minabs)
-      by_test false = mapped _ (IsModelPlaced P) (value_of s) (value s h) (λ v k. (k, at_minabs))
+      by_test false = mapped _ (IsModelPlaced P) (value_after_equals s) (value s h) (λ v k. (k, at_minabs))
 
   in_blocks : (s : List Written) → P 1 1 → ArePlaced P s → IfSome (blocks_said s) (AreBlocksPlaced P)
-  in_blocks s front h = mapped _ (AreBlocksPlaced P) (value_of s) (value s h) (λ v k. (placed.start P s front h, k))
+  in_blocks s front h =
+      mapped _ (AreBlocksPlaced P) (value_after_equals s) (value s h) (λ v k. (placed.start P s front h, k))
 
   pub said : (proc factors : List Written) (statements : List (List Written)) → P 1 1 → ArePlaced P proc
       → ArePlaced P factors → AreAllPlaced P statements → IsSaidPlaced P (step_said proc factors statements)

@@ -6,10 +6,10 @@ use Rattle.fx_text.specs.declared.refusal.Refusal.{Refusal}
 use Rattle.fx_text.specs.Refusals.{refused_at, ◌>>=◌}
 use Rattle.fx_text.proofs.Chains.{bind_ok, same_ok}
 use Rattle.fx_settings.specs.declared.rule.Rule.{Rule}
-use Rattle.fx_settings.specs.Rules.{first_refusal, unless_refused, IsKept, IsJudged}
+use Rattle.fx_settings.specs.Rules.{first_refusal, unless_refused, DoesNotApply, IsJudged}
 
 -- after a rule that is kept the others decide
-behind : {A : Type 0} (rule : Rule) (rules : List Rule) (r : Result A Refusal) → IsKept rule → IsJudged rules r
+behind : {A : Type 0} (rule : Rule) (rules : List Rule) (r : Result A Refusal) → DoesNotApply rule → IsJudged rules r
     → IsJudged (rule ∷ rules) r
 behind rule rules (Ok x) kept h = (kept, h)
 behind rule rules (Err refusal) kept h = record {
@@ -41,7 +41,7 @@ judged (rule ∷ rules) x = by_test rule.applies refl (judged rules x)
     by_test false e later = behind rule rules (unless_refused rules x) e later
 
 -- where none refuses all are kept
-pub all_kept : (rules : List Rule) → first_refusal rules ≡ Ok tt → AllByRecursion IsKept rules
+pub all_kept : (rules : List Rule) → first_refusal rules ≡ Ok tt → AllByRecursion DoesNotApply rules
 all_kept rules e = subst (λ r. IsJudged rules (r >>= same)) e (judged rules tt)
   where
     same : Unit {0} → Result (Unit {0}) Refusal
@@ -49,7 +49,7 @@ all_kept rules e = subst (λ r. IsJudged rules (r >>= same)) e (judged rules tt)
 
 -- what is accepted is the value, which keeps every rule
 pub accepted : {A : Type 0} (rules : List Rule) (x y : A) → unless_refused rules x ≡ Ok y
-    → AllByRecursion IsKept rules × (x ≡ y)
+    → AllByRecursion DoesNotApply rules × (x ≡ y)
 accepted rules x y e =
     let first = bind_ok (first_refusal rules) (λ none. Ok x) y e in
     (all_kept rules first.1, same_ok x y first.2)

@@ -14,10 +14,10 @@ use Rattle.fx_settings.specs.declared.settings.Size.TheVariants.{Runs, Minimum}
 use Rattle.fx_settings.specs.declared.settings.Blocks.{Blocks}
 use Rattle.fx_settings.specs.declared.settings.Blocks.TheVariants as blocks
 use Rattle.fx_settings.specs.Powers.{exponent_or, greatest}
-use Rattle.fx_settings.specs.Rules.{IsKept}
-use Rattle.fx_settings.specs.Sizes.{run_factors_of, is_zero, are_too_many_runs, size_of, is_minimum}
+use Rattle.fx_settings.specs.Rules.{DoesNotApply}
+use Rattle.fx_settings.specs.Sizes.{run_factors_of, is_given_zero, are_too_many_runs, size_of, is_minimum}
 use Rattle.fx_settings.specs.Models.{criterion_of, least_of, is_highest}
-use Rattle.fx_settings.specs.Blocks.{are_most, most_run_factors, block_factors, block_factors_of, is_too_many}
+use Rattle.fx_settings.specs.Blocks.{are_most, most_run_factors, block_factors_by_word, block_factors_of, is_too_many}
 use Rattle.fx_settings.specs.Blocks.{are_too_many_blocks, blocks_by, blocks_of}
 use Rattle.fx_settings.specs.Settings.{levels_of, rules, undivided, unblocked_of, block_rules, divided}
 use Rattle.fx_settings.specs.Settings.{step_settings_of}
@@ -28,7 +28,8 @@ positive : (n : ℕ) → (n == 0) ≡ false → 1 ≤ n
 positive zero e = absurd (cc e)
 positive (suc n) e = omega arith
 
-size_fits : (q : ℕ) (m : Option ℕ) → is_zero m ≡ false → are_too_many_runs q m ≡ false → is_size q (size_of m) ≡ true
+size_fits : (q : ℕ) (m : Option ℕ) → is_given_zero m ≡ false → are_too_many_runs q m ≡ false
+    → is_size q (size_of m) ≡ true
 size_fits q None some few = refl
 size_fits q (Some m) some few =
     and_from (nat_le 1 m) (nat_le (q ^ m) 1024) (le-leb 1 m (positive m some))
@@ -38,21 +39,22 @@ factors_fit : (q : ℕ) (size : Size) (t : ℕ) → 1 ≤ t → is_too_many q si
     → are_blocks q size (blocks.Factors t) ≡ true
 factors_fit q size t one few = and_from (nat_le 1 t) (not (is_too_many q size t)) (le-leb 1 t one) (ap not few)
 
-by_word : (q : ℕ) (size : Size) (w : BlocksWord) (n : ℕ) → let t = block_factors q (most_run_factors q size) w n in
+by_word : (q : ℕ) (size : Size) (w : BlocksWord) (n : ℕ) → let t =
+    block_factors_by_word q (most_run_factors q size) w n in
     1 ≤ t → is_too_many q size t ≡ false → are_blocks q size (blocks_by q size w t) ≡ true
-by_word q (Runs m) w n one few = factors_fit q (Runs m) (block_factors q m w n) one few
+by_word q (Runs m) w n one few = factors_fit q (Runs m) (block_factors_by_word q m w n) one few
 by_word q Minimum word.Nblkfacs n one few = factors_fit q Minimum n one few
 by_word q Minimum word.Nblocks n one few = factors_fit q Minimum (exponent_or 0 q n) one few
 by_word q Minimum word.Size n one few =
     lt-ltb (greatest q - (greatest q - exponent_or (greatest q) q n)) (greatest q) (omega (arith, one))
 
 blocks_fit : (q : ℕ) (size : Size) (said : Option BlocksSaid) → let t = block_factors_of q size said in
-    is_zero t ≡ false → are_too_many_blocks q size t ≡ false → are_blocks q size (blocks_of q size said t) ≡ true
+    is_given_zero t ≡ false → are_too_many_blocks q size t ≡ false → are_blocks q size (blocks_of q size said t) ≡ true
 blocks_fit q size None some few = refl
 blocks_fit q size (Some said) some few = by_number said.value.number some few
   where
-    by_number : (n : Option ℕ) → let t = option_map (block_factors q (most_run_factors q size) said.word) n in
-        is_zero t ≡ false → are_too_many_blocks q size t ≡ false
+    by_number : (n : Option ℕ) → let t = option_map (block_factors_by_word q (most_run_factors q size) said.word) n in
+        is_given_zero t ≡ false → are_too_many_blocks q size t ≡ false
         → are_blocks q size (blocks_of q size (Some said) t) ≡ true
     by_number None some few = refl
     by_number (Some n) some few = by_word q size said.word n (positive _ some) few
@@ -70,17 +72,18 @@ as_said : (q : ℕ) (size : Size) (said : Option BlocksSaid) → let t = block_f
 as_said q size None = (refl, refl)
 as_said q size (Some said) = by_number said.value.number
   where
-    by_number : (n : Option ℕ) → let t = option_map (block_factors q (most_run_factors q size) said.word) n in
+    by_number : (n : Option ℕ) → let t = option_map (block_factors_by_word q (most_run_factors q size) said.word) n in
         let given = blocks_of q size (Some said) t in (has_blocks given ≡ true) × (has_most given ≡ not (is_some n))
     by_number None = (refl, refl)
     by_number (Some n) = some_blocks q size said.word _
 
 -- the rules on blocks are kept
 abbrev AreBlocksKept : StepSettings → StepSaid → Type 0
-AreBlocksKept x said = AllByRecursion IsKept (block_rules x.q x.size said)
+AreBlocksKept x said = AllByRecursion DoesNotApply (block_rules x.q x.size said)
 
 -- what keeps all rules is valid
-all_kept : (s : ℕ) (said : StepSaid) → AllByRecursion IsKept (rules s said) → AreBlocksKept (undivided s said) said
+all_kept : (s : ℕ) (said : StepSaid) → AllByRecursion DoesNotApply (rules s said)
+    → AreBlocksKept (undivided s said) said
     → are_valid (divided (undivided s said) said) ≡ true
 all_kept s said
     (level, (budget, (some, (few, (criterion, (effects, (maximum, (minimum, none))))))))

@@ -6,7 +6,7 @@ use Rattle.fx_text.specs.Refusals.{refusal_at}
 use Rattle.fx_text.specs.Written.{Written}
 use Rattle.fx_text.proofs.Chains.{bind_ok, same_ok, unless_ok}
 use Rattle.fx_settings.specs.Items.{Item, is_regular, items_of, names_of}
-use Rattle.fx_settings.specs.Factors.{added, all_added, are_known, factors_of}
+use Rattle.fx_settings.specs.Factors.{added, all_added, are_known, names_of_factors}
 
 module _ (limit : ℕ) where
   added_within : (names : List (List ℕ)) (item : Item) (more : List (List ℕ)) → added limit names item ≡ Ok more
@@ -28,6 +28,6 @@ module _ (limit : ℕ) where
       let first = bind_ok (added limit names item) _ all e in
       all_within first.0 items all (added_within names item first.0 first.1) first.2
 
-  pub factors_within : (statement : List Written) (all : List (List ℕ)) → factors_of limit statement ≡ Ok all
+  pub factors_within : (statement : List Written) (all : List (List ℕ)) → names_of_factors limit statement ≡ Ok all
       → length all ≤ limit
   factors_within statement all e = all_within [] (items_of statement) all (omega arith) e

@@ -22,15 +22,16 @@ most_run_factors q Minimum = greatest q
 
 -- The number of block factors of m run factors by the number n after this word, 0 where there is none. NBLKFACS: t = n.
 -- NBLOCKS: n = q^t. SIZE: n = q^k, k below m, and t = m - k.
-abbrev pub block_factors : ℕ → ℕ → BlocksWord → ℕ → ℕ
-block_factors q m word.Nblkfacs n = n
-block_factors q m word.Nblocks n = exponent_or 0 q n
-block_factors q m word.Size n = m - exponent_or m q n
+abbrev pub block_factors_by_word : ℕ → ℕ → BlocksWord → ℕ → ℕ
+block_factors_by_word q m word.Nblkfacs n = n
+block_factors_by_word q m word.Nblocks n = exponent_or 0 q n
+block_factors_by_word q m word.Size n = m - exponent_or m q n
 
 -- the same of a BLOCKS statement, which may ask for the most
 abbrev pub block_factors_of : ℕ → Size → Option BlocksSaid → Option ℕ
 block_factors_of q size None = None
-block_factors_of q size (Some said) = option_map (block_factors q (most_run_factors q size) said.word) said.value.number
+block_factors_of q size (Some said) =
+    option_map (block_factors_by_word q (most_run_factors q size) said.word) said.value.number
 
 -- more blocks than runs, or than the most runs where the size is the least
 abbrev pub is_too_many : ℕ → Size → ℕ → Bool

@@ -32,5 +32,5 @@ all_added limit names [] = Ok names
 all_added limit names (item ∷ items) = added limit names item >>= (λ more. all_added limit more items)
 
 -- the names of a step's factors, where at most `limit` may be
-abbrev pub factors_of : ℕ → List Written → Result (List (List ℕ)) Refusal
-factors_of limit statement = all_added limit [] (items_of statement)
+abbrev pub names_of_factors : ℕ → List Written → Result (List (List ℕ)) Refusal
+names_of_factors limit statement = all_added limit [] (items_of statement)

@@ -3,7 +3,7 @@ use Rattle.std.specs.Prelude.{ℕ, Bool, true, false, ◌||◌, List, [], ◌∷
 use Rattle.fx_language.specs.declared.symbol.Symbol.TheVariants.{Slash, Minus}
 use Rattle.fx_language.specs.Symbols.{is}
 use Rattle.fx_text.specs.Written.{Written}
-use Rattle.fx_text.specs.Phrases.{before}
+use Rattle.fx_text.specs.Phrases.{preceding}
 use Rattle.fx_text.specs.Ranges.{is_range, names_between, range_end}
 
 -- a name, or the first and the last name of a range
@@ -24,7 +24,7 @@ items_from behind_minus (w ∷ rest) =
 
 -- the items of a FACTORS statement
 abbrev pub items_of : List Written → List Item
-items_of statement = items_from false (before Slash (drop 1 statement))
+items_of statement = items_from false (preceding Slash (drop 1 statement))
 
 -- one name is regular, and a range has to be one
 abbrev pub is_regular_from : Written → Option Written → Bool

@@ -20,8 +20,8 @@ abbrev pub unless_refused : {A : Type 0} → List Rule → A → Result A Refusa
 unless_refused rules x = first_refusal rules >>= (λ none. Ok x)
 
 -- a rule does not apply
-abbrev pub IsKept : Rule → Type 0
-IsKept rule = rule.applies ≡ false
+abbrev pub DoesNotApply : Rule → Type 0
+DoesNotApply rule = rule.applies ≡ false
 
 -- a refusal is by the first of these rules that applies
 pub record IsByFirst (rules : List Rule) (refusal : Refusal) : Type 0 where
@@ -29,11 +29,11 @@ pub record IsByFirst (rules : List Rule) (refusal : Refusal) : Type 0 where
   pub rule : Rule
   pub later : List Rule
   pub order : rules ≡ earlier ++ rule ∷ later
-  pub none_before : AllByRecursion IsKept earlier
+  pub none_before : AllByRecursion DoesNotApply earlier
   pub applies : rule.applies ≡ true
   pub refusal_is : refusal ≡ refused_at rule.code rule.place
 
 -- what is accepted keeps every rule, and what is refused is refused by the first that applies
 abbrev pub IsJudged : {A : Type 0} → List Rule → Result A Refusal → Type 0
-IsJudged rules (Ok x) = AllByRecursion IsKept rules
+IsJudged rules (Ok x) = AllByRecursion DoesNotApply rules
 IsJudged rules (Err refusal) = IsByFirst rules refusal

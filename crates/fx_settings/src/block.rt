@@ -1,5 +1,5 @@
 ghost use Rattle.std.specs.Prelude.{◌≡◌, ℕ, ◌≤◌, ◌<◌, Some, false, IfSome};
-ghost use Rattle.fx_settings.specs.Blocks.{are_most, are_too_many_blocks, block_factors, block_factors_of, blocks_by};
+ghost use Rattle.fx_settings.specs.Blocks.{are_most, are_too_many_blocks, block_factors_by_word, block_factors_of, blocks_by};
 ghost use Rattle.fx_settings.specs.Blocks.{blocks_of, is_too_many, most_run_factors};
 
 use crate::power::{exponent_or, greatest, is_within};
@@ -42,7 +42,7 @@ fn most_run_factors(q: u8, size: Size) -> u8
 
 /// The number of block factors of `m` run factors by the number after this word.
 fn block_factors(q: u8, m: u8, word: BlocksWord, n: u128) -> u128
-    ensures { result ≡ block_factors q m word n }
+    ensures { result ≡ block_factors_by_word q m word n }
 {
     let m = u128::from(m);
     match word {

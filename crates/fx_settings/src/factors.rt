@@ -7,7 +7,7 @@ ghost use Rattle.fx_text.specs.Names.{is_same_name};
 ghost use Rattle.fx_text.specs.Refusals.{IsRefused};
 ghost use Rattle.fx_text.specs.Ranges.{numbered, range_end, stem};
 ghost use Rattle.fx_settings.specs.Items.{item};
-ghost use Rattle.fx_settings.specs.Factors.{added, are_known, factors_of, known_at};
+ghost use Rattle.fx_settings.specs.Factors.{added, are_known, names_of_factors, known_at};
 
 use fx_base::{Bytes, NoMemory};
 use fx_language::{Symbol, code};
@@ -24,8 +24,8 @@ use std::alloc::Global;
 /// At the first item with one of these, in this order: E30, its range is not regular; E10, there are
 /// more than `limit` factors; E5, a name is repeated. And `NoMemory`.
 pub fn factors_of(alloc: Global, statement: &Phrase<'_>, limit: usize) -> Result<Names, ParseStop>
-    ensures names { IfOk result (λ names. factors_of limit statement.now ≡ Ok names) }
-    ensures refused { IfErr result (IsRefused (factors_of limit statement.now)) }
+    ensures names { IfOk result (λ names. names_of_factors limit statement.now ≡ Ok names) }
+    ensures refused { IfErr result (IsRefused (names_of_factors limit statement.now)) }
     ensures bound { IfOk result (λ names. length names ≤ limit) }
     ensures distinct { IfOk result (IsDistinct is_same_name) }
 {

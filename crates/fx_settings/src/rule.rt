@@ -1,6 +1,6 @@
 ghost use Rattle.std.specs.Prelude.{◌≡◌, ◌≤◌, ◌<◌, drop, IfOk, IfSome};
 ghost use Rattle.std.specs.List.{AllByRecursion};
-ghost use Rattle.fx_settings.specs.Rules.{IsKept, first_refusal};
+ghost use Rattle.fx_settings.specs.Rules.{DoesNotApply, first_refusal};
 ghost use Rattle.fx_settings.specs.Settings.{block_rules_by, blocks_with_maximum, minabs_with_effects};
 ghost use Rattle.fx_settings.specs.Settings.{minimum_with_maximum, rules_by};
 
@@ -42,7 +42,7 @@ impl Rule {
 /// The refusal by the first rule that applies.
 pub(crate) fn first_refusal(rules: &[Rule]) -> Result<(), Refusal>
     ensures refused { result ≡ first_refusal rules.now }
-    ensures kept { IfOk result (λ _. AllByRecursion IsKept rules.now) }
+    ensures kept { IfOk result (λ _. AllByRecursion DoesNotApply rules.now) }
 {
     for rule in rules {
         if rule.applies {
@@ -57,7 +57,7 @@ pub(crate) fn first_refusal(rules: &[Rule]) -> Result<(), Refusal>
 pub(crate) fn later_rules(q: u8, m: Option<u128>, said: StepSaid) -> [Rule; 7]
     requires { 2 ≤ q }
     ensures rules { result ≡ drop 1 (rules_by q m said) }
-    ensures bound { AllByRecursion IsKept result → IfSome m (λ m. m ≤ 10) }
+    ensures bound { AllByRecursion DoesNotApply result → IfSome m (λ m. m ≤ 10) }
 {
     let budget = budget_of(said);
     let at_nodes = said.value_place(said.nodes);
@@ -80,7 +80,7 @@ pub(crate) fn later_rules(q: u8, m: Option<u128>, said: StepSaid) -> [Rule; 7]
 pub(crate) fn block_rules(t: Option<u128>, q: u8, size: Size, said: StepSaid) -> [Rule; 2]
     requires { 2 ≤ q }
     ensures rules { result ≡ block_rules_by t q size said }
-    ensures bound { AllByRecursion IsKept result → IfSome t (λ t. t < 256) }
+    ensures bound { AllByRecursion DoesNotApply result → IfSome t (λ t. t < 256) }
 {
     let at_blocks = said.block_value_place();
     [

@@ -22,7 +22,7 @@ use Rattle.fx_text.specs.Statements.{statement_of}
 use Rattle.fx_settings.proofs.Rules.{accepted}
 use Rattle.fx_language.specs.declared.symbol.Symbol.TheVariants as word
 use Rattle.fx_statements.specs.declared.wanted.Wanted.{Wanted}
-use Rattle.fx_statements.specs.Goals.{criterion_of}
+use Rattle.fx_statements.specs.Goals.{criterion_wanted}
 use Rattle.fx_statements.specs.Valid.{is_count, settings_in}
 use Rattle.fx_statements.specs.Steps.{factor_limit}
 
@@ -105,7 +105,7 @@ kept first said x e =
     (accepted (block_rules first.q first.size said) (divided first said) x e).1 (refl, refl)
 
 -- the settings that a step keeps
-pub same_settings : (x : StepSettings) (wanted : Wanted) → criterion_of wanted ≡ x.criterion
+pub same_settings : (x : StepSettings) (wanted : Wanted) → criterion_wanted wanted ≡ x.criterion
     → settings_in x.q x.budget x.size wanted x.least x.blocks ≡ x
 same_settings x wanted kind =
     ap (λ (k : Criterion). record

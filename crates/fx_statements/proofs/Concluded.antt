@@ -8,6 +8,7 @@ use Rattle.std.specs.List.{AllByRecursion, range_with_len}
 use Rattle.std.proofs.lemmas.Bool.{cases_Bool, cases_eq, cases_lt, cond-true, cond-false, le-ltb, lt-ltb}
 use Rattle.std.proofs.lemmas.List.Sums.{sum_by-cons, sum_by_push}
 use Rattle.std.proofs.lemmas.Option.{same_Some}
+use Rattle.fx_base.proofs.Lists.{each-append}
 use Rattle.fx_designs.specs.Nodes.{nodes}
 use Rattle.fx_designs.specs.Problems.{Dimensions, Problem}
 use Rattle.fx_designs.specs.Answers.{answer}
@@ -476,13 +477,9 @@ module _ (P : Problem → Type 0) where
       elim (cases_Bool (test own)) [
         | inl here ↦ subst InTurn (same_Some own turn (sym (cond-true (test own) _ _ here) ∙ e)) (before, all.0)
         | inr later ↦
-            kept_turn test (earlier ++ p ∷ []) ps turn (each-and earlier p before all.0) all.1
+            kept_turn test (earlier ++ p ∷ []) ps turn (each-append P earlier (p ∷ []) before (all.0, tt)) all.1
             (sym (cond-false (test own) _ _ later) ∙ e)
       ]
-    where
-      each-and : (xs : List Problem) (p : Problem) → AllByRecursion P xs → P p → AllByRecursion P (xs ++ p ∷ [])
-      each-and [] p h one = (one, tt)
-      each-and (x ∷ xs) p h one = (h.0, each-and xs p h.1 one)
 
   in_concluded : (p : Problem) (found : Option Found) (count : ℕ) → P p → IfFound found
       → OneWith (concluded p found count).dimensions

@@ -8,7 +8,7 @@ use Rattle.fx_lexer.specs.declared.place.Place.{Place}
 use Rattle.fx_language.specs.declared.symbol.Symbol.TheVariants.{Aliasing, Blocked, Examine}
 use Rattle.fx_language.specs.Symbols.{is}
 use Rattle.fx_text.specs.declared.refusal.Refusal.{Refusal}
-use Rattle.fx_text.specs.Phrases.{has}
+use Rattle.fx_text.specs.Phrases.{has_symbol}
 use Rattle.fx_text.specs.Refusals.{place_at, refused_at}
 use Rattle.fx_text.specs.Written.{Written, begins}
 use Rattle.fx_statements.specs.Components.{check_components, components_asked, components_place, first_components}
@@ -18,13 +18,14 @@ use Rattle.fx_statements.specs.Steps.{asks, examine_of}
 use Rattle.fx_statements.specs.Valid.{HasFewComponents}
 
 -- a statement without either word asks for no listing
-no_word : (s : List Written) → first_components s ≡ None → (has Aliasing s ≡ false) × (has Blocked s ≡ false)
+no_word : (s : List Written) → first_components s ≡ None
+    → (has_symbol Aliasing s ≡ false) × (has_symbol Blocked s ≡ false)
 no_word [] e = (refl, refl)
 no_word (w ∷ rest) e = by_word (is Aliasing w.symbol) (is Blocked w.symbol) refl refl (λ e. no_word rest e)
   where
     by_word : (a b : Bool) → is Aliasing w.symbol ≡ a → is Blocked w.symbol ≡ b
-        → (first_components rest ≡ None → (has Aliasing rest ≡ false) × (has Blocked rest ≡ false))
-        → (has Aliasing (w ∷ rest) ≡ false) × (has Blocked (w ∷ rest) ≡ false)
+        → (first_components rest ≡ None → (has_symbol Aliasing rest ≡ false) × (has_symbol Blocked rest ≡ false))
+        → (has_symbol Aliasing (w ∷ rest) ≡ false) × (has_symbol Blocked (w ∷ rest) ≡ false)
     by_word true b ha hb later =
         absurd (let found : Some (place_at w)
         ≡ None = sym (ap (λ x. if x || is Blocked w.symbol then Some (place_at w) else first_components rest) ha) ∙ e
@@ -37,11 +38,11 @@ no_word (w ∷ rest) e = by_word (is Aliasing w.symbol) (is Blocked w.symbol) re
         (ap₂ (λ x y. x || y) ha none.0, ap₂ (λ x y. x || y) hb none.1)
 
 none_asked : (s : List Written) → components_asked s ≡ None
-    → ((begins Examine s && has Aliasing s) ≡ false) × ((begins Examine s && has Blocked s) ≡ false)
+    → ((begins Examine s && has_symbol Aliasing s) ≡ false) × ((begins Examine s && has_symbol Blocked s) ≡ false)
 none_asked s e = by_start (begins Examine s) e
   where
     by_start : (b : Bool) → (if b then first_components s else None) ≡ None
-        → ((b && has Aliasing s) ≡ false) × ((b && has Blocked s) ≡ false)
+        → ((b && has_symbol Aliasing s) ≡ false) × ((b && has_symbol Blocked s) ≡ false)
     by_start true e = no_word s e
     by_start false e = (refl, refl)
 

@@ -17,7 +17,7 @@ use Rattle.fx_text.specs.Sentences.{HasNames, IsStatement}
 use Rattle.fx_text.specs.Statements.{statement_of}
 use Rattle.fx_text.specs.Written.{Written, begins}
 use Rattle.fx_text.proofs.Chains.{bind_ok}
-use Rattle.fx_settings.specs.Factors.{factors_of}
+use Rattle.fx_settings.specs.Factors.{names_of_factors}
 use Rattle.fx_settings.proofs.Names.{factor_names}
 use Rattle.fx_outputs.specs.Outputs.{names_of}
 use Rattle.fx_statements.specs.declared.step.Step.{Step}
@@ -54,7 +54,7 @@ pub named_factors : (proc : Place) (most : ℕ) (named : List Written) (factors 
     → IsStatement grammar.factors named → HasNames named
     → factors_by proc most named ≡ Ok factors → All IsName factors
 named_factors proc most named factors by_grammar names e =
-    let read = bind_ok (factors_of most named) (some_factors proc) factors e in
+    let read = bind_ok (names_of_factors most named) (some_factors proc) factors e in
     factor_names most named factors by_grammar names (read.1 ∙ some read.0 read.2)
   where
     some : (all : List (List ℕ)) → some_factors proc all ≡ Ok factors

@@ -22,10 +22,10 @@ use Rattle.fx_settings.specs.declared.said.StepSaid.{StepSaid}
 use Rattle.fx_settings.specs.Said.{step_said}
 use Rattle.fx_settings.specs.Settings.{unblocked_of, step_settings_of}
 use Rattle.fx_effects.specs.Models.{lists_of}
-use Rattle.fx_settings.specs.Factors.{factors_of}
+use Rattle.fx_settings.specs.Factors.{names_of_factors}
 use Rattle.fx_outputs.specs.Outputs.{names_of, outputs_of}
 use Rattle.fx_statements.specs.Contexts.{context}
-use Rattle.fx_statements.specs.Goals.{Goal, effects_in, effects_wanted, goal_by}
+use Rattle.fx_statements.specs.Goals.{Goal, effects_goal, effects_wanted, goal_by}
 use Rattle.fx_statements.specs.Components.{listed_factors, is_for_components, first_components, components_asked}
 use Rattle.fx_statements.specs.Components.{place_or, components_place, check_components}
 use Rattle.fx_statements.specs.Steps.{Meaning, factor_limit, some_factors, factors_by, head_of, asked_by, step_by}
@@ -40,7 +40,7 @@ use Rattle.fx_effects.proofs.Placed as effects
 use Rattle.fx_outputs.proofs.Placed as outputs
 
 module _ (P : ℕ → ℕ → Type 0) (front : P 1 1) where
-  wanted : (q : ℕ) (names : List (List ℕ)) (s : List Written) → ArePlaced P s → Placed P (effects_in q names s)
+  wanted : (q : ℕ) (names : List (List ℕ)) (s : List Written) → ArePlaced P s → Placed P (effects_goal q names s)
   wanted q names s h = placed.chain P (lists_of q names s) _ (effects.lists P q names s front h) (λ lists. tt)
 
   goal : (q : ℕ) (names : List (List ℕ)) (statements : List (List Written)) (c : Criterion) → AreAllPlaced P statements
@@ -121,7 +121,7 @@ module _ (P : ℕ → ℕ → Type 0) (front : P 1 1) where
       of_factors None k = placed.here P 7 (start_of (head_of statements)) refl start
       of_factors (Some named) k =
           placed.chain P (factors_by (start_of (head_of statements)) (factor_limit statements) named) _
-          (placed.chain P (factors_of (factor_limit statements) named) _
+          (placed.chain P (names_of_factors (factor_limit statements) named) _
           (factors.factors P (factor_limit statements) named k)
           (λ names. some (start_of (head_of statements)) names start)) (λ names.
           placed.chain P (asked_by names (step_said (head_of statements) named statements) statements) _

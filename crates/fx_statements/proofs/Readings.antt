@@ -10,7 +10,7 @@ use Rattle.fx_language.specs.Symbols.{is}
 use Rattle.fx_language.specs.Shapes.{Shape, Empty, One, Before, Either, Many, Matches}
 use Rattle.fx_language.specs.Grammar as grammar
 use Rattle.fx_text.specs.Written.{Written, begins}
-use Rattle.fx_text.specs.Phrases.{after, before, has}
+use Rattle.fx_text.specs.Phrases.{after, preceding, has_symbol}
 use Rattle.fx_effects.specs.Models.{first_or, lists_at, lists_after, lists_of}
 use Rattle.fx_text.specs.Sentences.{IsStatement}
 use Rattle.fx_text.proofs.Cut.{cut, nothing}
@@ -176,11 +176,11 @@ no_second rest x m lack h =
     let c = cut rest x [] m h in
     let empty : c.rest ≡ [] = nothing c.rest m c.rest_is in
     let whole : rest ≡ c.front ++ [] = c.all ∙ ap (λ l. c.front ++ l) empty in
-    let lacks : has symbol.Open c.front ≡ false =
+    let lacks : has_symbol symbol.Open c.front ≡ false =
     any_written symbol.Open c.front ∙ ap (list_any (is symbol.Open)) c.front_is ∙ lack in
     let plain : c.front ++ [] ≡ c.front = append-nil c.front in
     inl (
-      ap (has symbol.Open) (whole ∙ plain) ∙ lacks,
+      ap (has_symbol symbol.Open) (whole ∙ plain) ∙ lacks,
       ap (after symbol.Open) whole ∙ after_part symbol.Open c.front []
           lacks,
     )
@@ -189,9 +189,9 @@ one_second : (rest : List Written) (z : List Symbol) (m : Symbol) → Found rest
     → IsSecondRead rest
 one_second rest z m f =
     let l = f.list in
-    let between : before symbol.Close (after symbol.Open rest) ≡ l.list =
-    ap (λ x. before symbol.Close (after symbol.Open x)) l.all
-    ∙ ap (before symbol.Close)
+    let between : preceding symbol.Close (after symbol.Open rest) ≡ l.list =
+    ap (λ x. preceding symbol.Close (after symbol.Open x)) l.all
+    ∙ ap (preceding symbol.Close)
     (after_open l.word l.equals l.open_ (l.list ++ l.close ∷ l.rest)
     (turned symbol.Nonnegligible symbol.Open l.word.symbol f.word_is)
     (turned symbol.Equals symbol.Open l.equals.symbol l.sign) l.opens)
@@ -221,7 +221,7 @@ read_lists : (model : Written) (parts : List Written) (first : HasList parts) �
     → is symbol.Estimate first.word.symbol ≡ true → (q : ℕ) (factors : List (List ℕ))
     → lists_of q factors (model ∷ parts)
     ≡ lists_at q factors first.word first.list (first_or first.word first.rest)
-    (before symbol.Close (after symbol.Open first.rest))
+    (preceding symbol.Close (after symbol.Open first.rest))
 read_lists model parts l tm te q factors =
     let x : List Written = l.list ++ l.close ∷ l.rest in
     let opened : after symbol.Open (model ∷ l.word ∷ l.equals ∷ l.open_ ∷ x) ≡ x =
@@ -233,7 +233,7 @@ read_lists model parts l tm te q factors =
     ap (λ (p : List Written). lists_of q factors (model ∷ p)) l.all
     ∙ ap (lists_after q factors l.word) opened
     ∙ ap₂ (λ (first rest : List Written). lists_at q factors l.word first (first_or l.word rest)
-    (before symbol.Close (after symbol.Open rest)))
+    (preceding symbol.Close (after symbol.Open rest)))
     (before_part symbol.Close l.list l.close l.rest l.between l.closes) closed
 
 -- what is left of the first symbol

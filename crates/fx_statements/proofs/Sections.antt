@@ -1,28 +1,24 @@
 -- The sections of an EXAMINE statement, by the grammar.
 use Rattle.std.proofs.Common.{◌≡◌, true, false, ◌||◌, List, [], ◌∷◌, ◌++◌, refl, sym, ap, ap₂, subst, ◌∙◌, inl, inr}
 use Rattle.std.specs.List.{AllByRecursion, flat_map}
-use Rattle.std.proofs.lemmas.Bool.{cases_Bool}
+use Rattle.std.proofs.lemmas.Bool.{cases_Bool, or_right}
 use Rattle.std.proofs.lemmas.List.{append-nil}
+use Rattle.fx_base.proofs.Lists.{each-append}
 use Rattle.fx_language.specs.declared.symbol.Symbol.{Symbol}
 use Rattle.fx_language.specs.declared.symbol.Symbol.TheVariants as symbol
-use Rattle.fx_language.specs.Symbols.{is}
+use Rattle.fx_language.specs.Symbols.{is, is_section, is_plain_section}
 use Rattle.fx_language.specs.Shapes.{Before, One, Matches}
 use Rattle.fx_language.specs.Grammar as grammar
 use Rattle.fx_language.proofs.SameSymbol.{symbol_is}
-use Rattle.fx_text.specs.Phrases.{has}
+use Rattle.fx_text.specs.Phrases.{has_symbol}
 use Rattle.fx_text.specs.Sentences.{symbols_in, IsStatement}
 use Rattle.fx_text.specs.Written.{Written}
 use Rattle.fx_text.proofs.Cut.{cut, nothing}
-use Rattle.fx_statements.specs.Readings.{AreSectionsRead, is_section}
+use Rattle.fx_statements.specs.Readings.{AreSectionsRead}
 
 abbrev AreSections : List Symbol → Type 0
 AreSections text = AllByRecursion (λ s. is_section s ≡ true) text
 
-both : (x y : List Symbol) → AreSections x → AreSections y → AreSections (x ++ y)
-both [] y h k = k
-both (s ∷ x) y h k = (h.0, both x y h.1 k)
-
--- a symbol that is one of the five
 passes : (word s : Symbol) → is_section word ≡ true → is word s ≡ true → is_section s ≡ true
 passes word s h e = ap is_section (symbol_is word s e) ∙ h
 
@@ -38,20 +34,17 @@ no_open_behind word text h (x, y, (s, hs, es), n, e) = by_end n
     by_end (inl none) = rw (whole none) (passes word s h hs, tt)
     by_end (inr fault) = absurd fault
 
-alone : (word : Symbol) (text : List Symbol) → is_section word ≡ true → Matches (One (is word)) text → AreSections text
-alone word text h (s, hs, es) = rw es (passes word s h hs, tt)
-
 one : (text : List Symbol) → Matches grammar.examine_word text → AreSections text
 one text (inl m) = no_open_behind symbol.Aliasing text refl m
-one text (inr (inl m)) = alone symbol.Blocked text refl m
-one text (inr (inr (inl m))) = alone symbol.Confounding text refl m
-one text (inr (inr (inr (inl m)))) = alone symbol.Design text refl m
-one text (inr (inr (inr (inr m)))) = no_open_behind symbol.Aberration text refl m
+one text (inr (inl m)) = no_open_behind symbol.Aberration text refl m
+one text (inr (inr (s, plain, only))) =
+    rw only (or_right (is symbol.Aliasing s || is symbol.Aberration s) (is_plain_section s) plain, tt)
 
 all : (parts : List (List Symbol)) → AllByRecursion (Matches grammar.examine_word) parts
     → AreSections (flat_map (λ (part : List Symbol). part) parts)
 all [] h = tt
-all (p ∷ parts) h = both p (flat_map (λ (part : List Symbol). part) parts) (one p h.0) (all parts h.1)
+all (p ∷ parts) h =
+    each-append (λ s. is_section s ≡ true) p (flat_map (λ (part : List Symbol). part) parts) (one p h.0) (all parts h.1)
 
 each_written : (s : List Written) → AreSections (symbols_in s)
     → AllByRecursion (λ (w : Written). is_section w.symbol ≡ true) s
@@ -95,5 +88,5 @@ sections_law (w ∷ s) (x0, r0, (k, tk, ek), (x1, r1, (parts, each, ps), (z, tz,
       statement = refl;
       word = word;
       each = each_written s (subst AreSections (sym symbols) (all parts each));
-      asked = λ section h. ap (λ b. b || has section s) (other section w.symbol h word);
+      asked = λ section h. ap (λ b. b || has_symbol section s) (other section w.symbol h word);
     }

@@ -19,7 +19,7 @@ use Rattle.fx_text.specs.Phrases.{start_of}
 use Rattle.fx_statements.specs.declared.examine.Examine.{Examine}
 use Rattle.fx_statements.specs.declared.wanted.Wanted.{Wanted}
 use Rattle.fx_statements.specs.Contexts.{context}
-use Rattle.fx_statements.specs.Goals.{criterion_of, goal_of}
+use Rattle.fx_statements.specs.Goals.{criterion_wanted, goal_of}
 use Rattle.fx_statements.specs.Valid.{settings_in}
 use Rattle.fx_statements.specs.Steps.{Meaning, asked_by, examine_of, factors_by, head_of, factor_limit, step_by}
 use Rattle.fx_statements.specs.Steps.{step_of}
@@ -82,7 +82,7 @@ module _ (earlier : List (List ℕ)) (statements : List (List Written)) (named :
       })
   whole = rw (is_named, is_asked, are_outputs) refl
 
-  pub step_is : (examine : Examine) → examine ≡ examine_of statements → criterion_of wanted ≡ settings.criterion
+  pub step_is : (examine : Examine) → examine ≡ examine_of statements → criterion_wanted wanted ≡ settings.criterion
       → step_by earlier statements (Some named)
       ≡ Ok (record {
         factors = factors;

@@ -12,7 +12,7 @@ use Rattle.fx_demands.specs.Bars.{bars_of}
 use Rattle.fx_vectors.specs.Effects.{factors_of}
 use Rattle.fx_statements.specs.declared.examine.Examine.{Examine}
 use Rattle.fx_statements.specs.Goals.{Goal, AtLeast, Highest, ForEffects}
-use Rattle.fx_statements.specs.Steps.{Meaning}
+use Rattle.fx_statements.specs.Steps.{Meaning, examine_of}
 use Rattle.fx_statements.specs.Programs.{program_of}
 
 by : List ℕ → Result (List Token) LexFault → Result (List Meaning) Refusal
@@ -157,21 +157,21 @@ pairs = (refl, refl)
 -- each section, in one statement or in several
 sections_asked :
     (sections (codes "proc factex;factors A B;model r=3;")
-    ≡ Ok (record { aliasing = false; blocked = false; design = false; aberration = false } ∷ []))
+    ≡ Ok (examine_of [] ∷ []))
     × (sections (codes "proc factex;factors A B;model r=3;examine;")
-    ≡ Ok (record { aliasing = false; blocked = false; design = false; aberration = false } ∷ []))
+    ≡ Ok (examine_of [] ∷ []))
     × (sections (codes "proc factex;factors A B;model r=3;examine confounding;")
-    ≡ Ok (record { aliasing = false; blocked = false; design = false; aberration = false } ∷ []))
+    ≡ Ok (examine_of [] ∷ []))
     × (sections (codes "proc factex;factors A B;model r=3;examine aliasing;")
-    ≡ Ok (record { aliasing = true; blocked = false; design = false; aberration = false } ∷ []))
+    ≡ Ok (record (examine_of []) { aliasing = true } ∷ []))
     × (sections (codes "proc factex;factors A B;model r=3;examine blocked;")
-    ≡ Ok (record { aliasing = false; blocked = true; design = false; aberration = false } ∷ []))
+    ≡ Ok (record (examine_of []) { blocked = true } ∷ []))
     × (sections (codes "proc factex;factors A B;model r=3;examine design;")
-    ≡ Ok (record { aliasing = false; blocked = false; design = true; aberration = false } ∷ []))
+    ≡ Ok (record (examine_of []) { design = true } ∷ []))
     × (sections (codes "proc factex;factors A B;model r=3;examine aberration;")
-    ≡ Ok (record { aliasing = false; blocked = false; design = false; aberration = true } ∷ []))
+    ≡ Ok (record (examine_of []) { aberration = true } ∷ []))
     × (sections (codes "proc factex;factors A B;model r=3;examine design blocked;run;examine aliasing;")
-    ≡ Ok (record { aliasing = true; blocked = true; design = true; aberration = false } ∷ []))
+    ≡ Ok (record (examine_of []) { aliasing = true; blocked = true; design = true } ∷ []))
 unfolding sections
 sections_asked = (refl, refl, refl, refl, refl, refl, refl, refl)
 

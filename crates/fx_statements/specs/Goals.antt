@@ -26,19 +26,19 @@ goal_of wanted.Highest = Highest
 goal_of (wanted.Effects estimate nonnegligible) = ForEffects (numbers_of estimate) (numbers_of nonnegligible)
 
 -- and of what kind it is
-abbrev pub criterion_of : Wanted → Criterion
-criterion_of (wanted.Resolution r) = criterion.Resolution r
-criterion_of wanted.Highest = criterion.Highest
-criterion_of (wanted.Effects estimate nonnegligible) = criterion.Effects
+abbrev pub criterion_wanted : Wanted → Criterion
+criterion_wanted (wanted.Resolution r) = criterion.Resolution r
+criterion_wanted wanted.Highest = criterion.Highest
+criterion_wanted (wanted.Effects estimate nonnegligible) = criterion.Effects
 
 -- the effects that a MODEL statement names
-abbrev pub effects_in : ℕ → List (List ℕ) → List Written → Result Goal Refusal
-effects_in q factors s = lists_of q factors s >>= (λ lists. Ok (ForEffects lists.estimate lists.nonnegligible))
+abbrev pub effects_goal : ℕ → List (List ℕ) → List Written → Result Goal Refusal
+effects_goal q factors s = lists_of q factors s >>= (λ lists. Ok (ForEffects lists.estimate lists.nonnegligible))
 
 -- and that of a step, where it has one
 abbrev pub effects_wanted : ℕ → List (List ℕ) → Option (List Written) → Result Goal Refusal
-effects_wanted q factors None = effects_in q factors []
-effects_wanted q factors (Some s) = effects_in q factors s
+effects_wanted q factors None = effects_goal q factors []
+effects_wanted q factors (Some s) = effects_goal q factors s
 
 -- what a step with these factors wants, where it is of this kind
 abbrev pub goal_by : ℕ → List (List ℕ) → List (List Written) → Criterion → Result Goal Refusal

@@ -1,12 +1,12 @@
 -- That the lists of MODEL are read between the parentheses that the grammar has, and the sections of EXAMINE where it
 -- has them.
-use Rattle.std.specs.Prelude.{◌≡◌, ◌⊎◌, ◌||◌, Bool, ℕ, true, false, List, [], ◌∷◌, ◌++◌}
+use Rattle.std.specs.Prelude.{◌≡◌, ◌⊎◌, ℕ, true, false, List, [], ◌∷◌, ◌++◌}
 use Rattle.std.specs.List.{AllByRecursion}
 use Rattle.fx_language.specs.declared.symbol.Symbol.{Symbol}
 use Rattle.fx_language.specs.declared.symbol.Symbol.TheVariants as symbol
-use Rattle.fx_language.specs.Symbols.{is}
+use Rattle.fx_language.specs.Symbols.{is, is_section}
 use Rattle.fx_text.specs.Written.{Written}
-use Rattle.fx_text.specs.Phrases.{after, before, has}
+use Rattle.fx_text.specs.Phrases.{after, preceding, has_symbol}
 use Rattle.fx_effects.specs.Models.{first_or, lists_at, lists_of}
 
 -- a list of effects with its word: `word = ( list )`, where no `)` is in the list
@@ -21,15 +21,15 @@ pub record HasList (written : List Written) : Type 0 where
   pub sign : is symbol.Equals equals.symbol ≡ true
   pub opens : is symbol.Open open_.symbol ≡ true
   pub closes : is symbol.Close close.symbol ≡ true
-  pub between : has symbol.Close list ≡ false
+  pub between : has_symbol symbol.Close list ≡ false
 
 -- what is read as the second list, after the first one: nothing where there is no `(`, or what is between its
 -- parentheses
 abbrev pub IsSecondRead : List Written → Type 0
 IsSecondRead rest =
-    ((has symbol.Open rest ≡ false) × (after symbol.Open rest ≡ []))
+    ((has_symbol symbol.Open rest ≡ false) × (after symbol.Open rest ≡ []))
     ⊎ ((second : HasList rest) × (is symbol.Nonnegligible second.word.symbol ≡ true)
-    × (before symbol.Close (after symbol.Open rest) ≡ second.list))
+    × (preceding symbol.Close (after symbol.Open rest) ≡ second.list))
 
 -- what is read from a MODEL statement with ESTIMATE
 pub record IsModelRead (s : List Written) : Type 0 where
@@ -42,13 +42,7 @@ pub record IsModelRead (s : List Written) : Type 0 where
   pub read : (q : ℕ) (factors : List (List ℕ))
       → lists_of q factors s
       ≡ lists_at q factors first.word first.list (first_or first.word first.rest)
-      (before symbol.Close (after symbol.Open first.rest))
-
--- a word for a section of the listing
-abbrev pub is_section : Symbol → Bool
-is_section s =
-    is symbol.Aliasing s || is symbol.Blocked s || is symbol.Confounding s || is symbol.Design s
-    || is symbol.Aberration s
+      (preceding symbol.Close (after symbol.Open first.rest))
 
 -- what is read from an EXAMINE statement: its words after the first, each of which is a section
 pub record AreSectionsRead (s : List Written) : Type 0 where
@@ -57,4 +51,4 @@ pub record AreSectionsRead (s : List Written) : Type 0 where
   pub statement : s ≡ first ∷ sections
   pub word : is symbol.Examine first.symbol ≡ true
   pub each : AllByRecursion (λ (w : Written). is_section w.symbol ≡ true) sections
-  pub asked : (section : Symbol) → is_section section ≡ true → has section s ≡ has section sections
+  pub asked : (section : Symbol) → is_section section ≡ true → has_symbol section s ≡ has_symbol section sections

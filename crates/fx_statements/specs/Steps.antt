@@ -10,11 +10,11 @@ use Rattle.fx_lexer.specs.declared.place.Place.{Place}
 use Rattle.fx_text.specs.Written.{Written, begins}
 use Rattle.fx_text.specs.Statements.{statement_of}
 use Rattle.fx_text.specs.Refusals.{refused_at, ◌>>=◌}
-use Rattle.fx_settings.specs.Factors.{factors_of}
+use Rattle.fx_settings.specs.Factors.{names_of_factors}
 use Rattle.fx_settings.specs.declared.settings.StepSettings.{StepSettings}
 use Rattle.fx_settings.specs.declared.said.StepSaid.{StepSaid}
 use Rattle.fx_settings.specs.Said.{step_said}
-use Rattle.fx_text.specs.Phrases.{has, start_of}
+use Rattle.fx_text.specs.Phrases.{has_symbol, start_of}
 use Rattle.fx_settings.specs.Settings.{step_settings_of, unblocked_of}
 use Rattle.fx_outputs.specs.declared.output.OutputSpec.{OutputSpec}
 use Rattle.fx_outputs.specs.Outputs.{outputs_of}
@@ -44,11 +44,11 @@ some_factors proc (name ∷ names) = Ok (name ∷ names)
 
 -- the factors by a FACTORS statement, at most so many
 abbrev pub factors_by : Place → ℕ → List Written → Result (List (List ℕ)) Refusal
-factors_by proc most named = factors_of most named >>= some_factors proc
+factors_by proc most named = names_of_factors most named >>= some_factors proc
 
 -- an EXAMINE statement has this word
 abbrev pub asks : Symbol → List (List Written) → Bool
-asks section statements = list_any (λ s. begins word.Examine s && has section s) statements
+asks section statements = list_any (λ s. begins word.Examine s && has_symbol section s) statements
 
 -- the sections that are asked for
 abbrev pub examine_of : List (List Written) → Examine

@@ -14,7 +14,7 @@ use Rattle.fx_statements.specs.declared.wanted.Wanted.TheVariants.{Effects}
 use Rattle.fx_statements.specs.declared.components.TheConstants.{MOST_COMPONENTS}
 use Rattle.fx_statements.specs.declared.examine.Examine.{Examine}
 use Rattle.fx_statements.specs.Components.{listed_factors}
-use Rattle.fx_statements.specs.Goals.{Goal, criterion_of}
+use Rattle.fx_statements.specs.Goals.{Goal, criterion_wanted}
 
 -- at least one factor, and at most 40, with blocks 30
 abbrev pub is_count : ℕ → Blocks → Bool
@@ -23,7 +23,7 @@ is_count s blocks = nat_le 1 s && nat_le s (if has_blocks blocks then 30 else 40
 -- the settings of a step, by what it keeps of them
 abbrev pub settings_in : ℕ → ℕ → Size → Wanted → Bool → Blocks → StepSettings
 settings_in q budget size wanted least blocks =
-    record { q = q; budget = budget; size = size; criterion = criterion_of wanted; least = least; blocks = blocks }
+    record { q = q; budget = budget; size = size; criterion = criterion_wanted wanted; least = least; blocks = blocks }
 
 -- where effects are wanted, they may be asked for, with s factors of q levels
 abbrev pub CanBeWanted : ℕ → ℕ → Wanted → Type 0

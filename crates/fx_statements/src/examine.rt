@@ -1,7 +1,7 @@
 ghost use Rattle.std.specs.Prelude.{◌≡◌, ◌&&◌};
 ghost use Rattle.fx_language.specs.declared.symbol.Symbol.TheVariants as word;
 ghost use Rattle.fx_text.specs.Written.{begins};
-ghost use Rattle.fx_text.specs.Phrases.{has};
+ghost use Rattle.fx_text.specs.Phrases.{has_symbol};
 ghost use Rattle.fx_statements.specs.Steps.{asks, examine_of};
 
 use fx_language::Symbol;
@@ -40,7 +40,7 @@ fn asks(section: Symbol, statements: &[Statement<'_>]) -> bool
 }
 
 fn has_section(section: Symbol, statement: &Statement<'_>) -> bool
-    ensures { result ≡ (begins word.Examine statement.now && has section statement.now) }
+    ensures { result ≡ (begins word.Examine statement.now && has_symbol section statement.now) }
 {
     statement.begins(Symbol::Examine) && statement.has(section)
 }

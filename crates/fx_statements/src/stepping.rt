@@ -9,7 +9,7 @@ ghost use Rattle.fx_text.specs.Names.{is_same_name};
 ghost use Rattle.fx_text.specs.Refusals.{IsRefused};
 ghost use Rattle.fx_outputs.specs.Outputs.{names_of};
 ghost use Rattle.fx_statements.specs.Contexts.{block_count, context, most_runs};
-ghost use Rattle.fx_statements.specs.Goals.{criterion_of, goal_of};
+ghost use Rattle.fx_statements.specs.Goals.{criterion_wanted, goal_of};
 ghost use Rattle.fx_statements.specs.Valid.{CanBeWanted, HasFewComponents, HasFewEffects};
 ghost use Rattle.fx_statements.specs.Steps.{asked_by, examine_of, factor_limit, factors_by, head_of, meaning_of, step_by, step_of};
 
@@ -124,7 +124,7 @@ fn asked_by(
     ensures asked { IfOk result (λ asked.
         asked_by factors.now said statements.now ≡ Ok (asked.0, goal_of asked.1)) }
     ensures settings_valid { IfOk result (λ asked. are_valid asked.0 ≡ true) }
-    ensures kind { IfOk result (λ asked. criterion_of asked.1 ≡ asked.0.criterion) }
+    ensures kind { IfOk result (λ asked. criterion_wanted asked.1 ≡ asked.0.criterion) }
     ensures askable { IfOk result (λ asked. CanBeWanted asked.0.q (length factors.now) asked.1) }
     ensures few_effects { IfOk result (λ asked. HasFewEffects asked.1) }
     ensures few_components { IfOk result (λ asked.

@@ -4,7 +4,7 @@ ghost use Rattle.fx_text.specs.Statements.{statement_of};
 ghost use Rattle.fx_language.specs.declared.symbol.Symbol.TheVariants.{Model};
 ghost use Rattle.fx_settings.specs.declared.settings.Criterion.TheVariants as criterion;
 ghost use Rattle.fx_settings.specs.Settings.{is_level};
-ghost use Rattle.fx_statements.specs.Goals.{criterion_of, effects_in, effects_wanted, goal_by, goal_of};
+ghost use Rattle.fx_statements.specs.Goals.{criterion_wanted, effects_goal, effects_wanted, goal_by, goal_of};
 ghost use Rattle.fx_statements.specs.Valid.{CanBeWanted, HasFewEffects};
 
 use fx_base::Bytes;
@@ -62,7 +62,7 @@ pub(crate) fn wanted_by(
     requires few { length factors.now ≤ 40 }
     ensures goal { IfOk result (λ wanted.
         goal_by q factors.now statements.now criterion ≡ Ok (goal_of wanted)) }
-    ensures kind { IfOk result (λ wanted. criterion_of wanted ≡ criterion) }
+    ensures kind { IfOk result (λ wanted. criterion_wanted wanted ≡ criterion) }
     ensures askable { IfOk result (CanBeWanted q (length factors.now)) }
     ensures few { IfOk result HasFewEffects }
     ensures refused { IfErr result (IsRefused (goal_by q factors.now statements.now criterion)) }
@@ -85,7 +85,7 @@ fn effects_wanted(
     requires few { length factors.now ≤ 40 }
     ensures goal { IfOk result (λ wanted.
         effects_wanted q factors.now (statement_of Model statements.now) ≡ Ok (goal_of wanted)) }
-    ensures kind { IfOk result (λ wanted. criterion_of wanted ≡ criterion.Effects) }
+    ensures kind { IfOk result (λ wanted. criterion_wanted wanted ≡ criterion.Effects) }
     ensures askable { IfOk result (CanBeWanted q (length factors.now)) }
     ensures few { IfOk result HasFewEffects }
     ensures refused { IfErr result
@@ -106,11 +106,11 @@ fn effects_in(
     requires level { is_level q ≡ true }
     requires few { length factors.now ≤ 40 }
     ensures goal { IfOk result (λ wanted.
-        effects_in q factors.now statement.now ≡ Ok (goal_of wanted)) }
-    ensures kind { IfOk result (λ wanted. criterion_of wanted ≡ criterion.Effects) }
+        effects_goal q factors.now statement.now ≡ Ok (goal_of wanted)) }
+    ensures kind { IfOk result (λ wanted. criterion_wanted wanted ≡ criterion.Effects) }
     ensures askable { IfOk result (CanBeWanted q (length factors.now)) }
     ensures few { IfOk result HasFewEffects }
-    ensures refused { IfErr result (IsRefused (effects_in q factors.now statement.now)) }
+    ensures refused { IfErr result (IsRefused (effects_goal q factors.now statement.now)) }
 {
     let field = Field::of(q).unwrap();
     let effects = effects_of(alloc, field, factors, statement)?;

@@ -9,7 +9,7 @@ use Rattle.fx_language.specs.Symbols.{is}
 use Rattle.fx_lexer.specs.declared.place.Place.{Place}
 use Rattle.fx_text.specs.declared.refusal.Refusal.{Refusal}
 use Rattle.fx_text.specs.Written.{Written, begins}
-use Rattle.fx_text.specs.Phrases.{start_of, before, after}
+use Rattle.fx_text.specs.Phrases.{start_of, preceding, after}
 use Rattle.fx_text.specs.Statements.{in_front, statements_of, rest_of_step, steps_of, statement_of}
 use Rattle.fx_text.specs.Refusals.{refused_at, refusal_at, IsByRule, ◌>>=◌}
 use Rattle.fx_language.specs.Refusals.{is_rule}
@@ -62,7 +62,7 @@ module _ (P : ℕ → ℕ → Type 0) where
   at zero (w ∷ s) h = h.0
   at (suc n) (w ∷ s) h = at n s h.1
 
-  pub before_it : (symbol : Symbol) (s : List Written) → ArePlaced P s → ArePlaced P (before symbol s)
+  pub before_it : (symbol : Symbol) (s : List Written) → ArePlaced P s → ArePlaced P (preceding symbol s)
   before_it symbol s h = taken _ s h
 
   pub after_it : (symbol : Symbol) (s : List Written) → ArePlaced P s → ArePlaced P (after symbol s)

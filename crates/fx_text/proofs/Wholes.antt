@@ -8,7 +8,7 @@ use Rattle.std.proofs.lemmas.Bool.{and_parts, not-true}
 use Rattle.fx_lexer.specs.declared.token.Kind.{Kind}
 use Rattle.fx_lexer.specs.declared.token.Kind.TheVariants as kind
 use Rattle.fx_lexer.specs.declared.token.Token.{Token}
-use Rattle.fx_lexer.specs.TextPieces.{Piece, word, whole, kind_of, spelling, HasForm, IsShort}
+use Rattle.fx_lexer.specs.TextPieces.{Piece, word, whole, kind_of, spelling, HasForm, HasAllowedLength}
 use Rattle.fx_lexer.specs.Tokens.{IsToken}
 use Rattle.fx_language.specs.declared.symbol.Symbol.{Symbol}
 use Rattle.fx_language.specs.declared.symbol.Symbol.TheVariants.{Whole, Semicolon, Equals, Open, Close, OpenBracket}
@@ -75,7 +75,8 @@ number_if kind.Decimal bytes h e = absurd (let f : false ≡ true = e in cc)
 number_if kind.Quoted bytes h e = absurd (let f : false ≡ true = e in cc)
 number_if kind.Sign bytes h e = absurd (let f : false ≡ true = sym (sign_is_none (slice_index bytes 0)) ∙ e in cc)
 
-of_kind : (p : Piece) (start : Bool) (rest : List ℕ) → kind_of p ≡ Some kind.Whole → HasForm start p rest → IsShort p
+of_kind : (p : Piece) (start : Bool) (rest : List ℕ) → kind_of p ≡ Some kind.Whole → HasForm start p rest
+    → HasAllowedLength p
     → IsNumber (spelling p)
 of_kind (whole digits) start rest e form short = (form.1, form.0, short)
 of_kind p start rest e form short = absurd (cc e)
@@ -114,7 +115,8 @@ name_if kind.Decimal bytes h e = absurd (let f : false ≡ true = e in cc)
 name_if kind.Quoted bytes h e = absurd (let f : false ≡ true = e in cc)
 name_if kind.Sign bytes h e = absurd (let f : false ≡ true = sym (no_word (slice_index bytes 0)) ∙ e in cc)
 
-a_name : (p : Piece) (start : Bool) (rest : List ℕ) → kind_of p ≡ Some kind.Word → HasForm start p rest → IsShort p
+a_name : (p : Piece) (start : Bool) (rest : List ℕ) → kind_of p ≡ Some kind.Word → HasForm start p rest
+    → HasAllowedLength p
     → IsName (spelling p)
 a_name (word []) start rest e form short = absurd (let f : false ≡ true = form.0 in cc)
 a_name (word (b ∷ name)) start rest e form short = (omega arith, short)

@@ -13,12 +13,12 @@ start_of [] = record { line = 1; column = 1 }
 start_of (w ∷ rest) = place_at w
 
 -- this symbol is written there
-abbrev pub has : Symbol → List Written → Bool
-has symbol written = list_any (λ w. is symbol w.symbol) written
+abbrev pub has_symbol : Symbol → List Written → Bool
+has_symbol symbol written = list_any (λ w. is symbol w.symbol) written
 
 -- what precedes the first such symbol
-abbrev pub before : Symbol → List Written → List Written
-before symbol written = take (prefix_len (λ w. not (is symbol w.symbol)) written) written
+abbrev pub preceding : Symbol → List Written → List Written
+preceding symbol written = take (prefix_len (λ w. not (is symbol w.symbol)) written) written
 
 -- what follows it
 abbrev pub after : Symbol → List Written → List Written

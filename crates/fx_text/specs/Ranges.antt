@@ -10,14 +10,14 @@ use Rattle.fx_text.specs.Written.{Written}
 use Rattle.fx_text.specs.Names.{is_same_name}
 
 -- the first of some
-abbrev pub first_of : List Written → Option Written
-first_of [] = None
-first_of (w ∷ rest) = Some w
+abbrev pub first_written : List Written → Option Written
+first_written [] = None
+first_written (w ∷ rest) = Some w
 
 -- the last name of a range, where `-` follows the first
 abbrev pub range_end : List Written → Option Written
 range_end [] = None
-range_end (w ∷ rest) = if is Minus w.symbol then first_of rest else None
+range_end (w ∷ rest) = if is Minus w.symbol then first_written rest else None
 
 -- how much of a name precedes the longest run of digits at its end
 abbrev pub stem_len : List ℕ → ℕ
@@ -28,8 +28,8 @@ abbrev pub stem : List ℕ → List ℕ
 stem name = take (stem_len name) name
 
 -- the digits at its end
-abbrev pub ending : List ℕ → List ℕ
-ending name = drop (stem_len name) name
+abbrev pub digits_at_end : List ℕ → List ℕ
+digits_at_end name = drop (stem_len name) name
 
 -- the first byte is `0`
 abbrev pub begins_with_zero : List ℕ → Bool
@@ -50,12 +50,12 @@ is_plain digits = is_numeral digits && not (has_leading_zero digits)
 
 -- the number that the digits at its end write
 abbrev pub number_at_end : List ℕ → ℕ
-number_at_end name = digits_value 10 (ending name)
+number_at_end name = digits_value 10 (digits_at_end name)
 
 -- two names with the same stem, which is not empty, that end in numbers, the first not above the last
 abbrev pub is_range : List ℕ → List ℕ → Bool
 is_range first last =
-    nat_le 1 (stem_len first) && is_plain (ending first) && is_plain (ending last)
+    nat_le 1 (stem_len first) && is_plain (digits_at_end first) && is_plain (digits_at_end last)
     && is_same_name (stem first) (stem last) && nat_le (number_at_end first) (number_at_end last)
 
 -- a stem with each of some numbers in turn

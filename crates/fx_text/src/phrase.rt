@@ -1,7 +1,7 @@
 ghost use Rattle.std.specs.Prelude.{◌≡◌, ◌≤◌, not, drop, length, slice_get, MatchOption, None, Some};
 ghost use Rattle.std.specs.List.{prefix_len};
 ghost use Rattle.fx_language.specs.Symbols.{is};
-ghost use Rattle.fx_text.specs.Phrases.{after, before, has, start_of};
+ghost use Rattle.fx_text.specs.Phrases.{after, preceding, has_symbol, start_of};
 ghost use Rattle.fx_text.specs.Statements.{ends_step};
 ghost use Rattle.fx_text.specs.Written.{begins};
 
@@ -49,7 +49,7 @@ impl<'a> Phrase<'a> {
 
     /// Whether it contains this symbol.
     pub fn has(&self, symbol: Symbol) -> bool
-        ensures { result ≡ has symbol self.now }
+        ensures { result ≡ has_symbol symbol self.now }
     {
         self.lexemes.iter().any(|w| w.is(symbol))
     }
@@ -86,7 +86,7 @@ impl<'a> Phrase<'a> {
 
     /// The part before the first such symbol, all of it where there is none.
     pub fn before(&self, symbol: Symbol) -> Phrase<'a>
-        ensures { result ≡ before symbol self.now }
+        ensures { result ≡ preceding symbol self.now }
     {
         Phrase::new(&self.lexemes[..self.len_before(symbol)])
     }

@@ -3,7 +3,7 @@
 ghost use Rattle.std.specs.Prelude.{◌≡◌, ◌≤◌, ◌++◌, true, decimal, reverse, length, IfOk, MatchOption, None, Some};
 ghost use Rattle.std.specs.List.{list_all, prefix_len};
 ghost use Rattle.fx_lexer.specs.Bytes.{is_digit};
-ghost use Rattle.fx_text.specs.Ranges.{begins_with_zero, ending, has_leading_zero, is_numeral, is_plain, is_range, number_at_end, range_end, stem, stem_len};
+ghost use Rattle.fx_text.specs.Ranges.{begins_with_zero, digits_at_end, has_leading_zero, is_numeral, is_plain, is_range, number_at_end, range_end, stem, stem_len};
 
 use crate::lexeme::{Lexeme, number};
 use crate::name::is_same_name;
@@ -29,8 +29,8 @@ pub fn range_end<'b, 'a>(lexemes: &'b [Lexeme<'a>]) -> Option<&'b Lexeme<'a>>
 pub fn is_range(first: &[u8], last: &[u8]) -> bool
     ensures value { result ≡ is_range first.now last.now }
     ensures plain { result ≡ true
-        → (is_plain (ending first.now) ≡ true)
-        × (is_plain (ending last.now) ≡ true) }
+        → (is_plain (digits_at_end first.now) ≡ true)
+        × (is_plain (digits_at_end last.now) ≡ true) }
     ensures order { result ≡ true → number_at_end first.now ≤ number_at_end last.now }
 {
     1 <= stem_len(first)
@@ -49,7 +49,7 @@ pub fn stem(name: &[u8]) -> &[u8]
 
 /// The number at the end of a name.
 pub fn number_at_end(name: &[u8]) -> u128
-    requires { is_plain (ending name.now) ≡ true }
+    requires { is_plain (digits_at_end name.now) ≡ true }
     ensures { result ≡ number_at_end name.now }
 {
     number(ending(name))
@@ -66,7 +66,7 @@ pub fn numbered_name(alloc: Global, stem: &[u8], number: u128) -> Result<Bytes, 
 
 /// The digits at the end of a name.
 fn ending(name: &[u8]) -> &[u8]
-    ensures { result.now ≡ ending name.now }
+    ensures { result.now ≡ digits_at_end name.now }
 {
     &name[stem_len(name)..]
 }

@@ -3,7 +3,7 @@ ghost use Rattle.fx_designs.specs.Patterns.{pattern_of, is_less};
 ghost use Rattle.fx_designs.specs.Vectors.{vectors_of};
 ghost use Rattle.fx_vectors.specs.Matrix.{MatrixView};
 ghost use Rattle.fx_vectors.specs.Shape.{IsShape, dimensions_of};
-ghost use Rattle.fx_words.specs.Tables.{AreOf, IsLevel, AreCounts, AreAdded, IsAdded};
+ghost use Rattle.fx_words.specs.Tables.{AreOf, IsLevel, IsTally, AreAdded, IsAdded};
 
 use crate::classes::Classes;
 use crate::level;
@@ -39,7 +39,7 @@ impl Drop for Tally {
 
 impl Model for Tally {
     ghost use Rattle.fx_vectors.specs.Matrix.{MatrixView};
-    ghost use Rattle.fx_words.specs.Tables.{AreOf, AreCounts};
+    ghost use Rattle.fx_words.specs.Tables.{AreOf, IsTally};
 
     ghost Value = { MatrixView };
 
@@ -47,7 +47,7 @@ impl Model for Tally {
 
     ghost invariant = { λ x. record {
       classes : AreOf x.prefix.shape x.classes;
-      counts : AreCounts x.prefix.shape x.classes.points x.prefix.rows x.counts.items x.made;
+      counts : IsTally x.prefix.shape x.classes.points x.prefix.rows x.counts.items x.made;
     } };
 }
 
@@ -191,7 +191,7 @@ fn level_of<'a>(
     prefix: &Matrix,
     classes: &Classes,
 ) -> &'a [u128]
-    requires { AreCounts prefix.now.shape classes.now.points prefix.now.rows counts.now made.now }
+    requires { IsTally prefix.now.shape classes.now.points prefix.now.rows counts.now made.now }
     ensures { IsLevel prefix.now.shape.q prefix.now.shape.m (slice_index made.now (length prefix.now.rows))
         (vectors_of prefix.now.shape.q prefix.now.shape.m prefix.now.rows) classes.now.points result.now }
 {
@@ -215,7 +215,7 @@ fn counts_of_no_rows(alloc: Global, shape: Shape, classes: &Classes) -> Result<V
     ensures { IfOk result (λ counts.
         (made : List ℕ) → shape.s < length made
         → ((k : ℕ) → k ≤ shape.s → slice_index made k ≡ shape.s + 1)
-        → AreCounts shape classes.now.points [] counts.items made) }
+        → IsTally shape classes.now.points [] counts.items made) }
 {
     // Zero alone is the sum of no rows, and it is kept first.
     let kept = classes.len();
@@ -230,10 +230,10 @@ fn counts_of_no_rows(alloc: Global, shape: Shape, classes: &Classes) -> Result<V
 
 /// Makes the counts of the first `weights` weights, as far as they are not made.
 fn make(counts: &mut [u128], made: &mut [usize], prefix: &Matrix, classes: &Classes, weights: usize)
-    requires counts { AreCounts prefix.now.shape classes.now.points prefix.now.rows counts.old made.old }
+    requires counts { IsTally prefix.now.shape classes.now.points prefix.now.rows counts.old made.old }
     requires classes { AreOf prefix.now.shape classes.now }
     requires weights { weights ≤ prefix.now.shape.s + 1 }
-    ensures counts { AreCounts prefix.now.shape classes.now.points prefix.now.rows counts.new made.new }
+    ensures counts { IsTally prefix.now.shape classes.now.points prefix.now.rows counts.new made.new }
     ensures made { weights ≤ slice_index made.new (length prefix.now.rows) }
 {
     let len = prefix.len();
@@ -254,11 +254,11 @@ fn make_next(
     k: usize,
     weights: usize,
 )
-    requires counts { AreCounts prefix.now.shape classes.now.points prefix.now.rows counts.old made.old }
+    requires counts { IsTally prefix.now.shape classes.now.points prefix.now.rows counts.old made.old }
     requires classes { AreOf prefix.now.shape classes.now }
     requires row { k < length prefix.now.rows }
     requires weights { weights ≤ slice_index made.old k }
-    ensures counts { AreCounts prefix.now.shape classes.now.points prefix.now.rows counts.new made.new }
+    ensures counts { IsTally prefix.now.shape classes.now.points prefix.now.rows counts.new made.new }
     ensures made { weights ≤ slice_index made.new (k + 1) }
 {
     for weight in made[k + 1]..weights {
@@ -269,7 +269,7 @@ fn make_next(
 
 /// Adds the counts of the next weight for the first k rows and one more.
 fn add_weight(counts: &mut [u128], made: &[usize], prefix: &Matrix, classes: &Classes, k: usize)
-    requires counts { AreCounts prefix.now.shape classes.now.points prefix.now.rows counts.old made.now }
+    requires counts { IsTally prefix.now.shape classes.now.points prefix.now.rows counts.old made.now }
     requires classes { AreOf prefix.now.shape classes.now }
     requires row { k < length prefix.now.rows }
     requires known { slice_index made.now (k + 1) < slice_index made.now k }
@@ -302,7 +302,7 @@ fn add_zeros(
     k: usize,
     row: u16,
 )
-    requires counts { AreCounts prefix.now.shape classes.now.points prefix.now.rows counts.old made.now }
+    requires counts { IsTally prefix.now.shape classes.now.points prefix.now.rows counts.old made.now }
     requires classes { AreOf prefix.now.shape classes.now }
     requires room { k < length prefix.now.rows }
     requires known { slice_index made.now (k + 1) < slice_index made.now k }
@@ -327,7 +327,7 @@ fn add_first(
     k: usize,
     row: u16,
 )
-    requires counts { AreCounts prefix.now.shape classes.now.points prefix.now.rows counts.old made.now }
+    requires counts { IsTally prefix.now.shape classes.now.points prefix.now.rows counts.old made.now }
     requires classes { AreOf prefix.now.shape classes.now }
     requires room { k < length prefix.now.rows }
     requires row { row < prefix.now.shape.q ^ prefix.now.shape.m }

@@ -3,7 +3,7 @@ use Rattle.std.specs.Prelude.{OnOk, codes}
 use Rattle.fx_vectors.specs.Shape.{dimensions_of}
 use Rattle.fx_statements.specs.Endings.{ending_by}
 use Rattle.fx_statements.specs.Steps.{Meaning, meaning_of}
-use Rattle.fx_alias.specs.Heads.{budget_line, claim_of, matrix_lines, nodes_line, outcome_lines}
+use Rattle.fx_alias.specs.Heads.{budget_line, resolution_claim, matrix_lines, nodes_line, outcome_lines}
 use Rattle.fx_alias.proofs.Heads.{budget-lines, design-lines}
 use Rattle.fx_alias.proofs.Products.{behind}
 use Rattle.fx_alias.proofs.head.put_outcome.Goals as goal
@@ -17,7 +17,7 @@ returns-in_ok-put_matrix-in-Design c =
     c.in_ok-put_matrix-in-Design.ensures ∙ ap
     (λ (claim : List ℕ). c.args.out.now ++ matrix_lines [] claim outcome.matrix) c.claim_of.ensures in
     let lines =
-    behind c.args.out.now (matrix_lines [] (claim_of step) outcome.matrix) _ (nodes_line outcome.nodes) _ first
+    behind c.args.out.now (matrix_lines [] (resolution_claim step) outcome.matrix) _ (nodes_line outcome.nodes) _ first
     (design-lines step outcome.shape outcome.matrix outcome.nodes has) in
     let e = lines ∙ ap
     (λ z. c.args.out.now

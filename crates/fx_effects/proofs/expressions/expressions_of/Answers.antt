@@ -1,15 +1,16 @@
-use Rattle.std.proofs.Common.{◌≡◌, ◌+◌, ◌∙◌, ℕ, List, Bool, true, ◌∷◌, take, drop, false, ap, sym, refl, arith}
+use Rattle.std.proofs.Common.{◌≡◌, ◌+◌, ◌∙◌, ℕ, List, Bool, true, ◌∷◌, take, drop, false, ap, sym, refl, arith, []}
 use Rattle.std.proofs.lemmas.List.{take_rest, drop_all}
-use Rattle.fx_base.proofs.Lists.{drop_read}
+use Rattle.fx_base.proofs.Lists.{drop_read, each-append}
 use Rattle.fx_text.specs.declared.refusal.ParseStop.{ParseStop}
 use Rattle.fx_text.specs.Written.{Written}
 use Rattle.fx_text.specs.Refusals.{IsRefused}
 use Rattle.fx_effects.specs.Expressions.{Expression, begins_effect, effect_len, expression_at, expressions_from}
-use Rattle.fx_effects.proofs.Joined.{small_more, read, passed}
+use Rattle.fx_effects.proofs.Joined.{read, passed}
 use Rattle.fx_text.proofs.Stops.{refused, stopped}
 use Rattle.fx_effects.proofs.expressions.expressions_of.Goals as goal
 use Rattle.fx_effects.proofs.expressions.expressions_of.Goals.{then-begins_effect+in_ok-expression+in_ok-push}
 use Rattle.fx_effects.proofs.expressions.expressions_of.Goals.{else-begins_effect}
+use Rattle.fx_demands.specs.Bars.{AreNumbers}
 
 -- an effect that is refused
 at_effect : (factors : List (List ℕ)) (all : List Expression) (joined : Bool) (w : Written) (rest : List Written)
@@ -34,8 +35,8 @@ loop-i-preserved c =
           let one = rw (b.effect_rest-rest.ensures, take_rest written (c.loop-i.i + 1)) at b.in_ok-expression.ensures.ok
           in
           rw (b.all-is, b.in_ok-push.ensures.ok, c.is_joining-joined.ensures) (
-            small_more c.loop-i.all b.in_ok-expression.expression c.loop-i.invariant.0
-                b.in_ok-expression.ensures.numbers,
+            each-append (λ (e : Expression). AreNumbers e.stars) c.loop-i.all (b.in_ok-expression.expression ∷ [])
+                c.loop-i.invariant.0 (b.in_ok-expression.ensures.numbers, tt),
             so_far ∙ read factors c.loop-i.all joined w rest (sym b.if-begins_effect.ensures)
                 b.in_ok-expression.expression one,
           )

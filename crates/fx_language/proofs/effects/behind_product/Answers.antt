@@ -1,7 +1,7 @@
 use Rattle.std.proofs.Common.{◌≡◌, ◌≢◌, ◌∙◌, refl}
 use Rattle.fx_language.specs.declared.symbol.Symbol.{Symbol}
 use Rattle.fx_language.specs.declared.symbol.Symbol.TheVariants.{Star, Bar, At}
-use Rattle.fx_language.specs.Shapes.{after}
+use Rattle.fx_language.specs.Shapes.{derivative}
 use Rattle.fx_language.specs.declared.effects.EffectList.{EffectList}
 use Rattle.fx_language.specs.declared.effects.EffectPlace.TheVariants as place
 use Rattle.fx_language.specs.Continuations.{effects_left}
@@ -9,7 +9,7 @@ use Rattle.fx_language.proofs.effects.behind_product.Goals as goal
 
 -- a symbol that continues no product
 skipped : (list : EffectList) (s : Symbol) → s ≢ Star → s ≢ Bar → s ≢ At
-    → after s (effects_left list place.Product) ≡ after s (effects_left list place.More)
+    → derivative s (effects_left list place.Product) ≡ derivative s (effects_left list place.More)
 skipped list Star h k l = absurd (h refl)
 skipped list Bar h k l = absurd (k refl)
 skipped list At h k l = absurd (l refl)

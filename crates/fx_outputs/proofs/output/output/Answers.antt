@@ -14,7 +14,7 @@ use Rattle.fx_outputs.specs.declared.shuffle.Shuffle.{Shuffle}
 use Rattle.fx_outputs.specs.BlockColumns.{block_values, check_blockname, check_column, name_or_empty}
 use Rattle.fx_outputs.specs.Contexts.{Context}
 use Rattle.fx_outputs.specs.Options.{from_option}
-use Rattle.fx_outputs.specs.Outputs.{check_new_name, output_of}
+use Rattle.fx_outputs.specs.Outputs.{check_new_name, output_spec}
 use Rattle.fx_outputs.specs.Recodes.{recodes_of}
 use Rattle.fx_outputs.specs.Replications.{check_rows, replication_of}
 use Rattle.fx_outputs.specs.Shuffles.{shuffle_of}
@@ -23,7 +23,7 @@ use Rattle.fx_outputs.proofs.output.output.Goals as goal
 -- the meaning of a statement, part by part
 module _ (context : Context) (earlier : List (List ℕ)) (word name : Written) (s : List Written) where
   abbrev meaning : Result OutputSpec Refusal
-  meaning = output_of context earlier word name s
+  meaning = output_spec context earlier word name s
 
   module _ (fresh : check_new_name earlier name ≡ Ok tt) where
     at_pointrep : (refusal : Refusal) → Err refusal ≡ replication_of Pointrep s → meaning ≡ Err refusal

@@ -3,7 +3,7 @@ use Rattle.fx_vectors.specs.Shape.{dimensions_of}
 use Rattle.fx_statements.specs.Outcomes.{ending_in, HasMatrix}
 use Rattle.fx_statements.specs.Steps.{Meaning, meaning_of}
 use Rattle.fx_alias.specs.Heads.{head_lines}
-use Rattle.fx_alias.specs.Rules.{rules}
+use Rattle.fx_alias.specs.Rules.{rules_section}
 use Rattle.fx_alias.specs.Sections.{examined}
 use Rattle.fx_program.specs.Files.{book_lines}
 use Rattle.fx_program.proofs.Given.{all_lines, is_design, with_matrix, without_matrix}
@@ -28,7 +28,7 @@ returns-in_ok-examine_listing-in-Some c =
     let outcome = c.args.outcome.now in
     let step : Meaning = meaning_of c.args.step.now in
     let matrix = c.in-Some.matrix in
-    let rows = rules (dimensions_of matrix.shape) step.factors matrix.rows in
+    let rows = rules_section (dimensions_of matrix.shape) step.factors matrix.rows in
     let books = book_lines c.args.number outcome.books in
     let head = head_lines c.args.number step (dimensions_of outcome.shape) (ending_in outcome) in
     let there = subst (HasMatrix outcome.shape (ending_in outcome)) c.in-Some.is outcome.whole in

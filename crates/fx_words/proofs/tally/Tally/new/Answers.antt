@@ -2,7 +2,7 @@ use Rattle.std.proofs.Common.{◌≡◌, ◌≤◌, ◌+◌, ℕ, List, [], ◌�
 use Rattle.std.proofs.lemmas.List.{get_or-replicate}
 use Rattle.fx_vectors.specs.Matrix.{MatrixView}
 use Rattle.fx_vectors.specs.declared.shape.Shape.{Shape}
-use Rattle.fx_words.specs.Tables.{AreOf, AreCounts}
+use Rattle.fx_words.specs.Tables.{AreOf, IsTally}
 use Rattle.fx_words.proofs.tally.Tally.new.Goals as goal
 
 pub invariant_of-result : goal.invariant_of-result
@@ -13,7 +13,7 @@ invariant_of-result c =
     λ k hk. get_or-replicate 41 k (c.from.result + 1) 0 (omega (arith, c.requires.factors)) ∙ ap (λ n. n + 1)
     c.from.ensures
     in
-    let start : AreCounts s c.in_ok-classes.classes.points [] c.in_ok-counts.counts.items made =
+    let start : IsTally s c.in_ok-classes.classes.points [] c.in_ok-counts.counts.items made =
     c.in_ok-counts.ensures made (omega (arith, c.requires.factors)) full in
     let classes : AreOf s c.in_ok-classes.classes =
     record { levels = c.in_ok-classes.ensures.levels ∙ c.field.ensures; indexes = c.in_ok-classes.ensures.indexes }
@@ -23,8 +23,8 @@ invariant_of-result c =
     record {
       classes = subst (λ (z : Shape). AreOf z c.in_ok-classes.classes) (sym shape) classes;
       counts = subst
-          (λ (v : List ℕ). AreCounts c.new.result.shape c.in_ok-classes.classes.points v c.in_ok-counts.counts.items
+          (λ (v : List ℕ). IsTally c.new.result.shape c.in_ok-classes.classes.points v c.in_ok-counts.counts.items
           made) (sym rows)
-          (subst (λ (z : Shape). AreCounts z c.in_ok-classes.classes.points [] c.in_ok-counts.counts.items made)
+          (subst (λ (z : Shape). IsTally z c.in_ok-classes.classes.points [] c.in_ok-counts.counts.items made)
           (sym shape) start);
     }
