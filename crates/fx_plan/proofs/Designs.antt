@@ -25,7 +25,7 @@ use Rattle.fx_runs.proofs.Points.{rows-vector}
 use Rattle.fx_plan.specs.Draws.{drawn, each_shuffled, exchanged, generator, shuffled}
 use Rattle.fx_plan.specs.Plans.{Arrangement, arranged, replicated, shuffled_in_blocks, shuffled_values, values_of}
 use Rattle.fx_plan.specs.Tables.{arrangement_of, records_of}
-use Rattle.fx_plan.proofs.Kept.{length-swap}
+use Rattle.std.proofs.lemmas.List.Edits.{length-swap}
 use Rattle.fx_plan.proofs.Rows.{plan_total}
 use Rattle.fx_plan.proofs.Totals.{repeated_total}
 use Rattle.fx_plan.proofs.Words.{drawn_low}
