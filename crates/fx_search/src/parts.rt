@@ -1,4 +1,4 @@
-ghost use Rattle.std.specs.Prelude.{◌≡◌, ◌<◌, ◌≤◌, ◌+◌, ◌⊎◌, [], true, false, length, take, IfOk, OnOk};
+ghost use Rattle.std.specs.Prelude.{◌≡◌, ◌<◌, ◌≤◌, ◌+◌, [], true, false, length, take, IfOk, OnOk};
 ghost use Rattle.std.specs.Option.{option_copied};
 ghost use Rattle.fx_designs.specs.Jobs.{best_before};
 ghost use Rattle.fx_designs.specs.Nodes.{parent};
@@ -62,7 +62,8 @@ impl<'a> Walk<'a, Unranked<'a>> {
         requires limit { limit ≤ 5000000 }
         ensures cutter { C.may_become cutter.old cutter.new }
         ensures question { self.new.question ≡ self.old.question }
-        ensures ready { IfOk result (λ end. IsReadyAfter end (IsAt standing_without_best self.old.question.now self.new)) }
+        ensures ready { IfOk result (λ end.
+            IsReadyAfter end (IsAt standing_without_best self.old.question.now self.new)) }
         ensures end { IfOk result (IsPieceEnd self.old.question.now piece.now.rows limit (C.stopped cutter.new)) }
     {
         let end = self.walk_part(piece, limit, cutter)?;
@@ -104,7 +105,8 @@ impl<'a, I: Incumbent> Walk<'a, I> {
         requires at { IsAt I.standing self.old.question.now self.old }
         requires shape { job.now.shape ≡ self.old.question.now.shape }
         requires job { IsJob (problem_of self.old.question.now) job.now.rows }
-        requires earlier { self.old.question.now.least ≡ true → kept_rows earlier ≡ best_before (problem_of self.old.question.now) job.now.rows }
+        requires earlier { self.old.question.now.least ≡ true
+            → kept_rows earlier ≡ best_before (problem_of self.old.question.now) job.now.rows }
         requires sized { FitsDimensions (problem_of self.old.question.now).dimensions earlier }
         requires limit { limit ≤ 5000000 }
         ensures cutter { C.may_become cutter.old cutter.new }
@@ -145,7 +147,8 @@ impl<'a, I: Incumbent> Walk<'a, I> {
         requires part { IsPiece self.old.question.now part.now }
         requires best { let p = problem_of self.old.question.now in
             IsBestAt p (is_counted (ranked p) part.now.rows) (I.standing self.old.incumbent).best }
-        requires inside { self.old.question.now.least ≡ true → self.old.question.now.shape.m + 1 < length part.now.rows }
+        requires inside { self.old.question.now.least ≡ true
+            → self.old.question.now.shape.m + 1 < length part.now.rows }
         requires limit { limit ≤ 5000000 }
         ensures cutter { C.may_become cutter.old cutter.new }
         ensures question { self.new.question ≡ self.old.question }

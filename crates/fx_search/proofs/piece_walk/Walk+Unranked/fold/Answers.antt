@@ -8,9 +8,9 @@ use Rattle.fx_vectors.specs.declared.question.Question.{Question}
 use Rattle.fx_vectors.specs.Question.{problem_of}
 use Rattle.fx_search.specs.Ends.{IsSpent}
 use Rattle.fx_search.specs.Asked.{IsRight}
-use Rattle.fx_search.specs.LotWalks.{candidates_of}
+use Rattle.fx_search.specs.LotWalks.{candidates_of, rest_of}
 use Rattle.fx_search.specs.SearchPieces.{IsAhead, IsAtEnd, IsPlacedAt, IsFoldedTo, AreFolded}
-use Rattle.fx_search.specs.SearchPieces.{ArePieceEnds, rest_of}
+use Rattle.fx_search.specs.SearchPieces.{ArePieceEnds}
 use Rattle.fx_search.specs.declared.asking.Asked.TheVariants.{Budget}
 use Rattle.fx_search.specs.declared.job.JobEnd.{JobEnd}
 use Rattle.fx_search.specs.declared.pieces.Piece.{Piece}
@@ -19,7 +19,7 @@ use Rattle.fx_search.specs.declared.piece_walk.Folded.TheVariants.{AllClosed, De
 use Rattle.fx_search.specs.declared.unranked.Unranked.{Unranked}
 use Rattle.fx_search.specs.declared.walk.Walk.{Walk}
 use Rattle.fx_search.proofs.PieceSteps.{after-past, after-done, start-folding, placed-as, ahead-of-none, rest-end}
-use Rattle.fx_search.proofs.PieceSteps.{done-all, done-same}
+use Rattle.fx_search.proofs.Done.{done-all, done-same}
 use Rattle.fx_search.proofs.Whole.{whole_spent, carried-plain}
 use Rattle.fx_search.proofs.piece_walk.Walk+Unranked.fold.Goals as goal
 
