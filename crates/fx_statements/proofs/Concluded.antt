@@ -8,6 +8,7 @@ use Rattle.std.specs.List.{AllByRecursion, range_with_len}
 use Rattle.std.proofs.lemmas.Bool.{cases_Bool, cases_eq, cases_lt, cond-true, cond-false, le-ltb, lt-ltb}
 use Rattle.std.proofs.lemmas.List.Sums.{sum_by-cons, sum_by_push}
 use Rattle.std.proofs.lemmas.Option.{same_Some}
+use Rattle.std.proofs.lemmas.List.Elements.{All-from_recursion}
 use Rattle.fx_base.proofs.Lists.{each-append}
 use Rattle.fx_designs.specs.Nodes.{nodes}
 use Rattle.fx_designs.specs.Problems.{Dimensions, Problem}
@@ -345,25 +346,6 @@ module _ (question : ℕ → Problem) (low high budget : ℕ) where
 
 -- The outcome of any questions
 
--- these rows are the answer of the question p among some, and no later one has an answer
-pub record IsLastAnswer (ps : List Problem) (p : Problem) (rows : List ℕ) : Type 0 where
-  pub earlier : List Problem
-  pub later : List Problem
-  pub among : ps ≡ earlier ++ p ∷ later
-  pub answer_is : answer p ≡ Some rows
-  pub none_later : All (λ p. answer p ≡ None) later
-
--- the last that was found is what was found before, and no question has an answer, or it is the answer of one of them
-abbrev pub LastOf : Option Found → List Problem → Found → Type 0
-LastOf earlier ps found =
-    ((earlier ≡ Some found) × AllByRecursion (λ p. answer p ≡ None) ps) ⊎ IsLastAnswer ps found.question found.rows
-
--- a design is the last answer, and the dimensions are those of its question
-pub record IsDesignOf (questions : Questions) (conclusion : Conclusion) (rows : List ℕ) : Type 0 where
-  pub question : Problem
-  pub dimensions : conclusion.dimensions ≡ question.dimensions
-  pub last : IsLastAnswer (asked questions) question rows
-
 -- without one there is no answer
 none_found_step : (p : Problem) (ps : List Problem) (own : Option (List ℕ)) → answer p ≡ own
     → (last_found None ps ≡ None → AllByRecursion (λ p. answer p ≡ None) ps)
@@ -375,6 +357,12 @@ none_found_step p ps (Some rows) is rest e = absurd (some_stays (record { questi
 pub no_answers : (ps : List Problem) → last_found None ps ≡ None → AllByRecursion (λ p. answer p ≡ None) ps
 no_answers [] e = tt
 no_answers (p ∷ ps) e = none_found_step p ps (answer p) refl (no_answers ps) e
+
+pub none-of : (questions : Questions) (budget count : ℕ) → HasEnding (conclusion_of questions budget) (NoDesign count)
+    → All (λ p. answer p ≡ None) (asked questions)
+none-of questions budget count e =
+    All-from_recursion (λ p. answer p ≡ None) (asked questions)
+    (no_answers (asked questions) (none-found count questions budget e))
 
 -- The nodes
 
