@@ -4,7 +4,7 @@ use Rattle.std.proofs.Common.{ℕ, suc, ◌≡◌, ◌<◌, ◌≤◌, ◌+◌, 
 use Rattle.std.proofs.Common.{Option, Some, None}
 use Rattle.std.proofs.Common.{refl, sym, ap, ◌∙◌, subst, arith, inl, inr, ◌⊎◌, eqb-true}
 use Rattle.std.specs.Prelude.{not, max, if◌then◌else◌, is_some, slice_get}
-use Rattle.std.proofs.lemmas.Bool.{leb-true, cases_Bool, cases_lt, and_parts, both_ways, eqb-true}
+use Rattle.std.proofs.lemmas.Bool.{leb-true, cases_Bool, cases_lt, and_parts, both_ways, eqb-true, or_parts, or_right}
 use Rattle.fx_designs.specs.Galois.{IsField}
 use Rattle.fx_designs.specs.Problems.{Dimensions, Problem, Requirement, AtResolution}
 use Rattle.fx_designs.specs.Demands.{is_met}
@@ -42,12 +42,12 @@ use Rattle.fx_answer.specs.StepClaims.{Allows, ClaimsHold, HasHighestOfAll, HasL
 use Rattle.fx_answer.specs.StepClaims.{HasNoneAtAll, HasWhatItAsks, IsAsItAsks, LeavesNoneOfLeastSize, OfOutcome}
 use Rattle.fx_answer.specs.StepClaims.{required}
 use Rattle.fx_answer.specs.ValidSteps.{IsValidStep}
-use Rattle.fx_answer.proofs.StepSettings.{order_of, most_or, not_both, neither, same_blocks, runs_again}
+use Rattle.fx_answer.proofs.StepSettings.{most_or, not_both, same_blocks, runs_again}
 use Rattle.fx_answer.proofs.StepSettings.{blocks_again, highest_or, kind_of_highest, reducible_by, exponent_fits}
 use Rattle.fx_answer.proofs.StepSettings.{size_or, unblocked, same_dimensions}
 use Rattle.fx_answer.proofs.FullBlocks.{fewer_than_indexes, goal-estimated}
 use Rattle.fx_answer.proofs.NextResolution.{exact_resolution, full_resolution}
-use Rattle.fx_answer.proofs.Valid.{some_numbers}
+use Rattle.fx_answer.proofs.Valid.{order_of, some_numbers}
 use Rattle.fx_answer.proofs.Left.{IsLeftOf, left-of, left_met, none-left}
 
 -- A question of a step that is asked, requires this of designs of these dimensions, and has this answer

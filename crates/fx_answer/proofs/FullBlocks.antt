@@ -19,7 +19,7 @@ use Rattle.fx_laws.specs.Raises.{IsAllowed}
 use Rattle.fx_laws.specs.Spans.{InSpan, Separates}
 use Rattle.fx_laws.proofs.Changes.{scale-none}
 use Rattle.fx_laws.proofs.Codes.{digits-vector, number-digits, number-weight}
-use Rattle.fx_laws.proofs.Falling.{weight-some, weight-zeros}
+use Rattle.fx_laws.proofs.Weights.{weight-some, weight-zeros}
 use Rattle.fx_laws.proofs.Linear.{dot-levels, dot-plus, dot-scale, dot-zeros}
 use Rattle.fx_laws.proofs.Raises.{none-combination, scale-combination}
 use Rattle.fx_laws.proofs.Ranks.{zeros-plus}

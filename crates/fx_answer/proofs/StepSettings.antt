@@ -23,27 +23,7 @@ use Rattle.fx_statements.specs.Questions.{least_exponent}
 use Rattle.fx_statements.specs.Questions.{requirement_for, run_factors}
 use Rattle.fx_answer.specs.StepClaims.{required}
 use Rattle.fx_answer.specs.ValidSteps.{IsOfKind}
-
--- Numbers of levels
-
-at_level : (levels : List ℕ) (P : ℕ → Bool) (q : ℕ) → list_all P levels ≡ true → list_any (λ x. eqb x q) levels ≡ true
-    → P q ≡ true
-at_level [] P q all among = absurd (both_ways _ refl among)
-at_level (x ∷ levels) P q all among =
-    let both = and_parts (P x) (list_all P levels) all in
-    elim (cases_Bool (eqb x q)) [
-      | inl same ↦ subst (λ y. P y ≡ true) (eqb-true x q same) both.0
-      | inr other ↦ at_level levels P q both.1 (ap (λ b. b || list_any (λ x. eqb x q) levels) (sym other) ∙ among)
-    ]
-
-abbrev levels : List ℕ
-levels = 2 ∷ 3 ∷ 4 ∷ 5 ∷ 7 ∷ 8 ∷ 9 ∷ []
-
-pub order_of : (q : ℕ) → is_level q ≡ true → IsTrue (is_order q)
-order_of q h = at_level levels is_order q refl h
-
-pub some_size : (q : ℕ) → is_level q ≡ true → 1 ≤ greatest q
-some_size q h = leb-true 1 (greatest q) (at_level levels (λ q. nat_le 1 (greatest q)) q refl h)
+use Rattle.fx_answer.proofs.Valid.{some_size}
 
 -- What goes together
 
@@ -58,11 +38,6 @@ pub not_both : (a b : Bool) → not (a && b) ≡ true → a ≡ true → b ≡ f
 not_both true true e h = absurd (cc e)
 not_both true false e h = refl
 not_both false b e h = absurd (cc h)
-
-pub neither : (a b : Bool) → (a || b) ≡ false → (a ≡ false) × (b ≡ false)
-neither false false e = (refl, refl)
-neither true b e = absurd (cc e)
-neither false true e = absurd (cc e)
 
 -- the block factors do not hang on the number of the question, but for the most blocks
 pub same_blocks : (b : Blocks) (m n k : ℕ) → has_most b ≡ false → block_factors b m n ≡ block_factors b m k

@@ -20,6 +20,7 @@ use Rattle.fx_statements.specs.Questions.{Conclusion, block_factors, outcome_of,
 use Rattle.fx_statements.proofs.Concluded.{step-question}
 use Rattle.fx_answer.specs.Books.{books_of}
 use Rattle.fx_answer.specs.Outcomes.{IsOutcome}
+use Rattle.fx_answer.proofs.StepSettings.{blocks_again}
 use Rattle.fx_program.specs.Statuses.{status_of}
 use Rattle.fx_plan.specs.Steps.{IsDesignOf}
 use Rattle.fx_program.specs.Files.{book_files, book_lines, matrix_in, output_lines, plan_files}
@@ -111,12 +112,6 @@ is_given seed number step outcome is =
 record AreOfStep (step : Meaning) (d : Dimensions) : Type 0 where
   levels : d.q ≡ step.settings.q
   block_factors : d.t ≡ block_factors step.settings.blocks d.m d.t
-
-pub blocks_again : (b : Blocks) (m n : ℕ) → block_factors b m n ≡ block_factors b m (block_factors b m n)
-blocks_again blocks.Without m n = refl
-blocks_again (blocks.Factors t) m n = refl
-blocks_again (blocks.PerBlock k) m n = refl
-blocks_again blocks.Most m n = refl
 
 of_step : (step : Meaning) → AreOfStep step (outcome_of step).dimensions
 of_step step =

@@ -34,3 +34,4 @@ pub mod AllowedFronts
 pub mod NormalWords
 pub mod ShortWords
 pub mod BlockCounts
+mod ClaimExamples
