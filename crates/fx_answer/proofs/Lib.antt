@@ -7,3 +7,4 @@ pub mod StepSettings
 mod NextResolution
 mod FullBlocks
 pub mod Best
+mod Examples
