@@ -58,7 +58,7 @@ gives-within words left written files status h =
     let fits = come-fits come.come in
     rw (is_listed, is_shelved, sym same) fits
 
-none-rose : (a b c d : ℕ) → b ≡ 0 → d ≡ 0 → SomeRose (0 ∷ a ∷ c ∷ []) (0 ∷ b ∷ d ∷ []) → ⊥
+pub none-rose : (a b c d : ℕ) → b ≡ 0 → d ≡ 0 → SomeRose (0 ∷ a ∷ c ∷ []) (0 ∷ b ∷ d ∷ []) → ⊥
 none-rose a b c d hb hd (inl rose) = omega (arith, rose)
 none-rose a b c d hb hd (inr (inl rose)) = omega (arith, rose, hb)
 none-rose a b c d hb hd (inr (inr (inl rose))) = omega (arith, rose, hd)

@@ -15,3 +15,4 @@ pub mod Made
 pub mod GivenOptions
 mod WordFaults
 pub mod Complete
+mod Examples
