@@ -82,11 +82,11 @@ pub record IsPaused {I : Type 0} (standing : I → Standing) (w : Walk I) : Type
   pub bound : w.bound ≤ count_of_rows (problem_of w.question.now)
   pub limit : w.limit ≤ 5000000
 
--- no child of the prefix by a row below a bound is there
+-- the prefix has no child by a row below a bound
 abbrev pub IsNoneBelow : Problem → List ℕ → ℕ → Type 0
 IsNoneBelow p rows bound = (r : ℕ) → r < bound → (search_tree p).canonical (rows ++ r ∷ []) ≡ false
 
--- the greatest row below a bound by which there is one
+-- the greatest row below a bound by which it has one
 pub record IsNextRow (p : Problem) (rows : List ℕ) (bound row : ℕ) : Type 0 where
   pub low : row < bound
   pub canonical : (search_tree p).canonical (rows ++ row ∷ []) ≡ true
@@ -104,7 +104,7 @@ pub record IsStart {I : Type 0} (standing : I → Standing) (w : Walk I) : Type 
   pub best : (standing w.incumbent).best ≡ None
   pub all : LeftFrom (search_tree (problem_of w.question.now)) [] 0 w.bound
 
--- whether more marks were added to some, or are more than the limit allows
+-- more marks were added to some, or are more than the limit allows
 abbrev pub IsTaken : ℕ → List Mark → List Mark → List Mark → Bool → Type 0
 IsTaken limit old more new true = (new ≡ old ++ more) × (length new ≤ limit)
 IsTaken limit old more new false = (limit - length old < length more) × (new ≡ old)
