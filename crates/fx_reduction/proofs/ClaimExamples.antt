@@ -1,13 +1,13 @@
 -- What the claims on all rule matrices speak of: also matrices that are not canonical refute them.
-use Rattle.std.proofs.Common.{ℕ, ◌≡◌, ◌<◌, ◌≤◌, true, [], ◌∷◌, List, refl, arith}
+use Rattle.std.proofs.Common.{ℕ, ◌<◌, ◌≤◌, true, [], ◌∷◌, refl, arith}
 use Rattle.std.proofs.lemmas.Bool.{both_ways}
 use Rattle.std.proofs.lemmas.List.Elements.{All-from_recursion}
 use Rattle.fx_designs.specs.Galois.{prime_of, degree_of, reduction_of, add, mul, neg, inv}
 use Rattle.fx_designs.specs.Vectors.{IsVector}
 use Rattle.fx_designs.specs.Runs.{runs_of, is_constant, is_balanced, are_blocks_even, is_balanced_in_blocks}
 use Rattle.fx_designs.specs.Problems.{Dimensions, AtResolution}
-use Rattle.fx_designs.specs.Demands.{must_balance, is_estimated, do_runs_meet}
-use Rattle.fx_designs.specs.Patterns.{constant_words, pattern_of, resolution_of}
+use Rattle.fx_designs.specs.Demands.{must_balance, is_estimated}
+use Rattle.fx_designs.specs.Patterns.{constant_words, pattern_of}
 use Rattle.fx_designs.specs.Matrices.{IsRuleMatrix, NoneMeets}
 use Rattle.fx_reduction.specs.Resolutions.{HasLeastPattern, HighestOfAll}
 
