@@ -30,12 +30,13 @@ standing_with_best x = standing_of x.tally.shape x.r x.tally.rows (kept_rows x.b
 abbrev pub standing_without_best : Unranked → Standing
 standing_without_best x = record { problem = problem_of x.question.now; prefix = x.prefix.rows; best = None }
 
--- what others see of a walk: its question and limit, the rows of its prefix, the bound, and the number of its marks
+-- what others see of a walk: its question and limit, the rows of its prefix, the bound, its marks and their number
 pub record WalkView : Type 0 where
   pub question : Question
   pub limit : ℕ
   pub rows : List ℕ
   pub bound : ℕ
+  pub marks : List Mark
   pub count : ℕ
 
 abbrev pub walk_view : {I : Type 0} → Walk I → WalkView
@@ -44,6 +45,7 @@ walk_view w = record {
   limit = w.limit;
   rows = w.prefix.rows;
   bound = w.bound;
+  marks = w.marks;
   count = length w.marks;
 }
 
