@@ -1,5 +1,5 @@
 -- Which dimensions a step allows.
-use Rattle.std.proofs.Common.{ℕ, ◌≡◌, ◌≤◌, true, false, [], ◌∷◌, refl, arith}
+use Rattle.std.proofs.Common.{ℕ, false, [], refl, arith}
 use Rattle.std.specs.Prelude.{codes, replicate}
 use Rattle.fx_designs.specs.Problems.{Dimensions}
 use Rattle.fx_settings.specs.declared.settings.Size.{Size}

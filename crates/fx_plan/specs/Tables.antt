@@ -1,6 +1,6 @@
 -- The lines of a plan's file.
 use Rattle.std.specs.Prelude.{ℕ, ◌≡◌, ◌+◌, ◌==◌, ◌^◌, length, false, if◌then◌else◌, List, [], ◌∷◌, ◌++◌, map, Some, Vec}
-use Rattle.std.specs.Prelude.{slice_index, slice_index_or, codes, decimal}
+use Rattle.std.specs.Prelude.{slice_index, slice_index_or, decimal}
 use Rattle.std.specs.Global.{Global}
 use Rattle.std.specs.List.{flat_map, range_with_len}
 use Rattle.csv.specs.Writing.{default_writer, row_text, writer_setup, fields_written, has_written, text_written}

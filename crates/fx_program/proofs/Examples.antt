@@ -1,8 +1,8 @@
 -- What commands read and run, and what an output and a status exclude.
-use Rattle.std.proofs.Common.{ℕ, ◌≡◌, true, false, List, [], ◌∷◌, length, Some, None, Ok, Option, ap, refl, arith}
+use Rattle.std.proofs.Common.{ℕ, ◌≡◌, true, false, List, [], ◌∷◌, length, Some, None, Option, ap, refl, arith}
 use Rattle.std.specs.Prelude.{codes, unwrap_or}
 use Rattle.std.proofs.lemmas.List.Elements.{at_from_Contains}
-use Rattle.fx_base.specs.Acts.{File, Piece, WholeFile, whole_file}
+use Rattle.fx_base.specs.Acts.{File, WholeFile, whole_file}
 use Rattle.fx_base.specs.Memory.{room_of}
 use Rattle.fx_program.specs.declared.words.Settings.TheVariants.{Run, Check, Make, Large}
 use Rattle.fx_program.specs.CommandLine.{word_fault}

@@ -14,8 +14,6 @@ use Rattle.fx_vectors.specs.Shape.{dimensions_of}
 use Rattle.fx_alias.specs.Heads.{head_lines}
 use Rattle.fx_alias.specs.Rules.{rules_section}
 use Rattle.fx_alias.specs.Sections.{examined, sections, step_lines}
-use Rattle.fx_settings.specs.declared.settings.Blocks.{Blocks}
-use Rattle.fx_settings.specs.declared.settings.Blocks.TheVariants as blocks
 use Rattle.fx_statements.specs.Questions.{Conclusion, block_factors, outcome_of, question_for, run_factors}
 use Rattle.fx_statements.proofs.Concluded.{step-question}
 use Rattle.fx_answer.specs.Books.{books_of}
