@@ -7,7 +7,7 @@ use Rattle.fx_designs.specs.Vectors.{vectors_of}
 use Rattle.fx_designs.specs.Runs.{is_constant, is_constant_in_blocks, runs_of}
 use Rattle.fx_designs.specs.Aliases.{is_aliased}
 use Rattle.fx_designs.specs.Components.{components}
-use Rattle.fx_designs.specs.Problems.{Dimensions}
+use Rattle.fx_designs.specs.Problems.{Dimensions, AtResolution}
 use Rattle.fx_designs.specs.Patterns.{constant_words, pattern_of}
 use Rattle.fx_designs.specs.Outcomes.{Design, NoDesign, BudgetEnded}
 use Rattle.fx_runs.specs.Runs.{RunsView}
@@ -26,7 +26,6 @@ use Rattle.fx_alias.specs.ComponentOrder.{is_before}
 use Rattle.fx_alias.specs.Rules.{rule_line, rules_section}
 use Rattle.fx_designs.specs.Canonical.{is_canonical}
 use Rattle.fx_designs.specs.Spans.{in_span}
-use Rattle.fx_designs.specs.Problems.{AtResolution}
 use Rattle.fx_tree.specs.Introduced.{introducing}
 use Rattle.fx_alias.specs.Patterns.{pattern_lines}
 

@@ -10,8 +10,8 @@ use Rattle.std.proofs.lemmas.List.FromFn.{length-range_with_len}
 use Rattle.std.proofs.lemmas.Grind.{flat_map-append}
 use Rattle.fx_base.proofs.Lists.{each-append, each-map, each-all}
 use Rattle.fx_base.proofs.Ranges.{range_push}
-use Rattle.fx_designs.specs.Components.{choose, component_count, listed_count}
-use Rattle.fx_designs.specs.Components.{supports, codes_before, normal_vectors, components}
+use Rattle.fx_designs.specs.Components.{choose, component_count, listed_count, supports, codes_before, normal_vectors}
+use Rattle.fx_designs.specs.Components.{components}
 
 -- how many factors are in a set
 abbrev pub trues : List Bool → ℕ

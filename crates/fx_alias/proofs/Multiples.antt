@@ -1,9 +1,8 @@
 -- What it is that vectors are aliased, told from their sums over the rules.
 use Rattle.std.proofs.Common.{ℕ, zero, suc, ◌≤◌, ◌≡◌, ◌<◌, ◌+◌, ◌-◌, ◌*◌, ◌↔◌, Bool, true, eqb, List, [], ◌∷◌, refl}
-use Rattle.std.proofs.Common.{sym, subst, ◌∙◌, ap, ap₂, arith, inl, inr}
+use Rattle.std.proofs.Common.{sym, subst, ◌∙◌, ap, ap₂, arith, inl, inr, mul-pos}
 use Rattle.std.specs.Bool.{Decides}
 use Rattle.std.specs.List.{range_with_len, AllByRecursion}
-use Rattle.std.proofs.Common.{mul-pos}
 use Rattle.std.proofs.lemmas.Bool.{eq-eqb, eqb-true, ltb-true, lt-ltb, cases_eq, ne_eqb}
 use Rattle.fx_vectors.proofs.Normals.{normal-scale, one-normal}
 use Rattle.std.proofs.lemmas.List.Folds.{list_any_at}

@@ -1,6 +1,6 @@
 -- The components of a listing are in order.
-use Rattle.std.proofs.Common.{ℕ, zero, suc, ◌≡◌, ◌<◌, ◌≤◌, ◌+◌, ◌*◌, ◌-◌, ◌&&◌, ◌||◌, not, Bool, true, false, cond, ltb, eqb}
-use Rattle.std.proofs.Common.{List, [], ◌∷◌, ◌++◌, map, map-id, refl, sym, ◌∙◌, ap, subst, arith, rules}
+use Rattle.std.proofs.Common.{ℕ, zero, suc, ◌≡◌, ◌<◌, ◌≤◌, ◌+◌, ◌*◌, ◌-◌, ◌&&◌, ◌||◌, not, Bool, true, false, cond, ltb}
+use Rattle.std.proofs.Common.{eqb, List, [], ◌∷◌, ◌++◌, map, map-id, refl, sym, ◌∙◌, ap, subst, arith, rules}
 use Rattle.std.proofs.Math.Nat.{mul-suc, mul-le-mul_left}
 use Rattle.std.specs.List.{AllByRecursion, flat_map, list_any, range_with_len}
 use Rattle.std.proofs.lemmas.Bool.{lt-ltb, ltb-true, eq-eqb}
@@ -47,7 +47,8 @@ module _ {X : Type 0} (first : X → X → Bool) where
         → (ys : List Y) → AllByRecursion Q ys → IsRising order ys → IsRising first (flat_map f ys)
     rising-flat f each between [] all h = tt
     rising-flat f each between (y ∷ ys) all h =
-        rising-append (f y) (flat_map f ys) (each y all.0) (rising-flat f each between ys all.1 h.1) (later ys all.1 h.0)
+        rising-append (f y) (flat_map f ys) (each y all.0) (rising-flat f each between ys all.1 h.1)
+        (later ys all.1 h.0)
       where
         later : (zs : List Y) → AllByRecursion Q zs → AllByRecursion (λ z. order y z ≡ true) zs
             → Across (f y) (flat_map f zs)

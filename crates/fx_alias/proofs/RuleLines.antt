@@ -1,7 +1,6 @@
 -- The line of one row among the rules of a matrix.
-use Rattle.std.proofs.Common.{ℕ, ◌≡◌, ◌<◌, ◌≤◌, ◌+◌, ◌^◌, zero, suc, true, List, [], ◌∷◌, ◌++◌, map}
-use Rattle.std.proofs.Common.{length, take, drop, refl, sym, ap, ◌∙◌, subst, inl, inr, arith, append_assoc, append-nil}
-use Rattle.std.proofs.Common.{drop-cons, take-suc}
+use Rattle.std.proofs.Common.{ℕ, ◌≡◌, ◌<◌, ◌≤◌, ◌+◌, ◌^◌, zero, suc, true, List, [], ◌∷◌, ◌++◌, map, length, take, drop}
+use Rattle.std.proofs.Common.{refl, sym, ap, ◌∙◌, subst, inl, inr, arith, append_assoc, append-nil, drop-cons, take-suc}
 use Rattle.std.specs.Prelude.{◌==◌, nat_le, slice_index, slice_index_or}
 use Rattle.std.proofs.lemmas.Bool.{cases_Bool, leb-true, leb-false}
 use Rattle.std.proofs.lemmas.List.{length-map, length-append, map-append, take-append-drop}
@@ -15,8 +14,8 @@ use Rattle.fx_designs.specs.Canonical.{is_canonical}
 use Rattle.fx_tree.specs.Introduced.{introducing}
 use Rattle.fx_tree.proofs.RuleLevels.{levels}
 use Rattle.fx_tree.proofs.Walks.{canonical-fronts}
-use Rattle.fx_alias.specs.Rules.{Subject, block_names, HasItsRule, introduction, row_names, rule_line, rule_lines, rule_of}
-use Rattle.fx_alias.specs.Rules.{subjects}
+use Rattle.fx_alias.specs.Rules.{Subject, block_names, HasItsRule, introduction, row_names, rule_line, rule_lines}
+use Rattle.fx_alias.specs.Rules.{rule_of, subjects}
 use Rattle.fx_alias.proofs.Subjects.{subjects-from}
 
 -- only the items of the rows count
@@ -67,7 +66,8 @@ module _ (q m : ℕ) where
 
   listed : (old : List (List ℕ)) (subs later : List Subject) (rows after : List ℕ) (k : ℕ) (subject : Subject) (row : ℕ)
       → drop k subs ≡ subject ∷ later → drop k rows ≡ row ∷ after
-      → Listed q m (old ++ introducing q (length old) (take k rows) (names subs)) subject row (rule_lines q m old subs rows)
+      → Listed q m (old ++ introducing q (length old) (take k rows) (names subs)) subject row
+      (rule_lines q m old subs rows)
   listed old subs later rows after zero subject row es er =
       subst (λ b. Listed q m b subject row (rule_lines q m old subs rows)) (sym (append-nil old))
       (subst (λ x. Listed q m old subject row (rule_lines q m old x rows)) (sym es)
@@ -92,7 +92,8 @@ module _ (q m : ℕ) where
         rw other (behind _ subject row (rule_of old s.name (digits q m r)) _ rest)
   ]
 
-pub its_rule : (d : Dimensions) (f : IsField d.q) (wanted : Requirement) (factors : List (List ℕ)) (rows : List ℕ) (k : ℕ)
+pub its_rule : (d : Dimensions) (f : IsField d.q) (wanted : Requirement) (factors : List (List ℕ)) (rows : List ℕ)
+    (k : ℕ)
     → is_canonical d wanted rows ≡ true → length rows ≡ d.s + d.t → length factors ≡ d.s → k < d.s + d.t
     → HasItsRule d factors rows k
 its_rule d f wanted factors rows k can long count low =

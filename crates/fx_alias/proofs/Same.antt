@@ -1,6 +1,6 @@
 -- Classes by numbers that are the same.
-use Rattle.std.proofs.Common.{ℕ, ◌≡◌, ◌<◌, ◌||◌, Bool, cond, eqb, not, List, [], ◌∷◌}
-use Rattle.std.proofs.Common.{◌++◌, length, map, filter, get_or, refl, sym, ◌∙◌, ap, ap₂, arith, ext_get_or}
+use Rattle.std.proofs.Common.{ℕ, ◌≡◌, ◌<◌, ◌||◌, Bool, cond, eqb, not, List, [], ◌∷◌, ◌++◌, length, map, filter, get_or}
+use Rattle.std.proofs.Common.{refl, sym, ◌∙◌, ap, ap₂, arith, ext_get_or}
 use Rattle.std.specs.List.{list_any, range_with_len, AllByRecursion}
 use Rattle.std.proofs.lemmas.Bool.{eq-eqb}
 use Rattle.std.proofs.lemmas.List.{get_or-map}

@@ -1,8 +1,7 @@
 -- The design of a valid step is as it asks, and none is better: of the questions of the step the next, or each before
 -- it, has no answer.
-use Rattle.std.proofs.Common.{ℕ, suc, ◌≡◌, ◌<◌, ◌≤◌, ◌+◌, ◌-◌, ◌||◌, ◌&&◌, Bool, true, false, List, length}
-use Rattle.std.proofs.Common.{Option, Some, None}
-use Rattle.std.proofs.Common.{refl, sym, ap, ◌∙◌, subst, arith, inl, inr, ◌⊎◌, eqb-true}
+use Rattle.std.proofs.Common.{ℕ, suc, ◌≡◌, ◌<◌, ◌≤◌, ◌+◌, ◌-◌, ◌||◌, ◌&&◌, Bool, true, false, List, length, Option}
+use Rattle.std.proofs.Common.{Some, None, refl, sym, ap, ◌∙◌, subst, arith, inl, inr, ◌⊎◌, eqb-true}
 use Rattle.std.specs.Prelude.{not, max, if◌then◌else◌, is_some, slice_get}
 use Rattle.std.proofs.lemmas.Bool.{leb-true, cases_Bool, cases_lt, and_parts, both_ways, eqb-true, or_parts, or_right}
 use Rattle.fx_designs.specs.Galois.{IsField}
@@ -34,17 +33,17 @@ use Rattle.fx_statements.specs.Goals.{Highest}
 use Rattle.fx_statements.specs.Steps.{Meaning}
 use Rattle.fx_statements.specs.Questions as asked
 use Rattle.fx_statements.specs.Questions.{Answered, Unanswered, Conclusion, Until, block_factors, conclusion_of}
-use Rattle.fx_statements.specs.Questions.{least_exponent, lowest, outcome_of, question_for, questions_of}
-use Rattle.fx_statements.specs.Questions.{is_last, requirement_for, run_factors, seeks_highest, series, until}
+use Rattle.fx_statements.specs.Questions.{least_exponent, lowest, outcome_of, question_for, questions_of, is_last}
+use Rattle.fx_statements.specs.Questions.{requirement_for, run_factors, seeks_highest, series, until}
 use Rattle.fx_statements.proofs.Concluded.{HasEnding, IsOfFirst, IsOfLast, of-first, of-last, none-of_all}
 use Rattle.fx_statements.proofs.Concluded.{none-of_first, IsQuestionOf, asked_at, each-of_step}
 use Rattle.fx_answer.specs.StepClaims.{Allows, ClaimsHold, HasHighestOfAll, HasLeastOfAll, HasLeastSize, HasMostBlocks}
 use Rattle.fx_answer.specs.StepClaims.{HasNoneAtAll, HasWhatItAsks, IsAsItAsks, LeavesNoneOfLeastSize, OfOutcome}
 use Rattle.fx_answer.specs.StepClaims.{required}
 use Rattle.fx_answer.specs.ValidSteps.{IsValidStep}
-use Rattle.fx_answer.proofs.StepSettings.{most_or, not_both, same_blocks, runs_again}
-use Rattle.fx_answer.proofs.StepSettings.{blocks_again, highest_or, kind_of_highest, reducible_by, exponent_fits}
-use Rattle.fx_answer.proofs.StepSettings.{size_or, unblocked, same_dimensions}
+use Rattle.fx_answer.proofs.StepSettings.{most_or, not_both, same_blocks, runs_again, blocks_again, highest_or}
+use Rattle.fx_answer.proofs.StepSettings.{kind_of_highest, reducible_by, exponent_fits, size_or, unblocked}
+use Rattle.fx_answer.proofs.StepSettings.{same_dimensions}
 use Rattle.fx_answer.proofs.FullBlocks.{fewer_than_indexes, goal-estimated}
 use Rattle.fx_answer.proofs.NextResolution.{exact_resolution, full_resolution}
 use Rattle.fx_answer.proofs.Valid.{order_of, some_numbers}

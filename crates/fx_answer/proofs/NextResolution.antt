@@ -1,6 +1,5 @@
 -- Rows that meet a resolution, where none meets the next: that is their own, or they have no defining words.
-use Rattle.std.proofs.Common.{ℕ, ◌≡◌, ◌<◌, ◌≤◌, ◌+◌, true, List, length, take, drop, sym, subst, arith, inl, inr}
-use Rattle.std.proofs.Common.{◌⊎◌}
+use Rattle.std.proofs.Common.{ℕ, ◌≡◌, ◌<◌, ◌≤◌, ◌+◌, true, List, length, take, drop, sym, subst, arith, inl, inr, ◌⊎◌}
 use Rattle.std.proofs.lemmas.Bool.{cases_lt, both_ways}
 use Rattle.std.proofs.lemmas.List.{take-append-drop}
 use Rattle.fx_designs.specs.Galois.{IsField}

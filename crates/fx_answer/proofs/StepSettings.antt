@@ -1,6 +1,5 @@
 -- The settings of a step: orders of fields, what goes together, and dimensions.
-use Rattle.std.proofs.Common.{ℕ, ◌≡◌, ◌<◌, ◌≤◌, ◌&&◌, Bool, true, false}
-use Rattle.std.proofs.Common.{refl, ap, ◌∙◌, subst, arith, inl, inr, ◌⊎◌}
+use Rattle.std.proofs.Common.{ℕ, ◌≡◌, ◌<◌, ◌≤◌, ◌&&◌, Bool, true, false, refl, ap, ◌∙◌, subst, arith, inl, inr, ◌⊎◌}
 use Rattle.std.specs.Prelude.{nat_le, not}
 use Rattle.std.proofs.lemmas.Bool.{leb-true, ltb-true, and_parts}
 use Rattle.fx_designs.specs.Problems.{Dimensions}
@@ -16,9 +15,7 @@ use Rattle.fx_settings.specs.Powers.{greatest}
 use Rattle.fx_settings.specs.Settings.{is_level}
 use Rattle.fx_settings.specs.Valid.{are_blocks, has_blocks, has_most}
 use Rattle.fx_statements.specs.Goals.{Goal, AtLeast, Highest, ForEffects}
-use Rattle.fx_statements.specs.Questions.{block_factors}
-use Rattle.fx_statements.specs.Questions.{least_exponent}
-use Rattle.fx_statements.specs.Questions.{requirement_for, run_factors}
+use Rattle.fx_statements.specs.Questions.{block_factors, least_exponent, requirement_for, run_factors}
 use Rattle.fx_answer.specs.StepClaims.{required}
 use Rattle.fx_answer.specs.ValidSteps.{IsOfKind}
 use Rattle.fx_answer.proofs.Valid.{some_size}

@@ -1,8 +1,7 @@
 -- Best words, as rows come.
-use Rattle.std.proofs.Common.{ℕ, ◌≡◌, ◌<◌, ◌≤◌, ◌+◌, ◌*◌, ◌^◌, ◌⊎◌, suc, Bool, true, false, cond, eqb, ◌&&◌, ◌||◌}
-use Rattle.std.proofs.Common.{List, [], ◌∷◌, ◌++◌, take, drop, set, length, slice_index, slice_index_or, Option, Some}
-use Rattle.std.proofs.Common.{None, length-append, take-append-drop, drop-cons, refl, sym, subst, ◌∙◌, ap, arith, inl}
-use Rattle.std.proofs.Common.{inr}
+use Rattle.std.proofs.Common.{ℕ, ◌≡◌, ◌<◌, ◌≤◌, ◌+◌, ◌*◌, ◌^◌, ◌⊎◌, suc, Bool, true, false, cond, eqb, ◌&&◌, ◌||◌, List}
+use Rattle.std.proofs.Common.{[], ◌∷◌, ◌++◌, take, drop, set, length, slice_index, slice_index_or, Option, Some, None}
+use Rattle.std.proofs.Common.{length-append, take-append-drop, drop-cons, refl, sym, subst, ◌∙◌, ap, arith, inl, inr}
 use Rattle.std.specs.Prelude.{nat_lt, nat_le}
 use Rattle.std.proofs.Math.Nat.{pow-succ', mul-le-mul_left}
 use Rattle.std.proofs.lemmas.List.{get_or-set_other, get_or_push, take-append-le, drop_all}

@@ -25,8 +25,7 @@ use Rattle.fx_points.specs.Sums.{sum_of}
 use Rattle.fx_barred.specs.FirstWords.{sum_to}
 use Rattle.fx_barred.specs.declared.best_words.Best.{Best}
 use Rattle.fx_barred.specs.BestWords.{BringsToZero, IsBestWord}
-use Rattle.fx_barred.proofs.EffectBars.{sum-front, sum-below, to-minus, from-minus, zero-to}
-use Rattle.fx_barred.proofs.EffectBars.{zero-from}
+use Rattle.fx_barred.proofs.EffectBars.{sum-front, sum-below, to-minus, from-minus, zero-to, zero-from}
 use Rattle.fx_barred.proofs.Longer.{not_before, length-longer, fits-longer}
 
 module _ (d : Dimensions) (f : IsField d.q) (wanted : Requirement) (rows : List ℕ)

@@ -1,8 +1,8 @@
 -- One row more than the rows of a prefix: the word with a single code, at the new row; and where the prefix is allowed,
 -- no closing word is one of the rows before.
 use Rattle.std.proofs.Common.{ℕ, ◌≡◌, ◌<◌, ◌≤◌, ◌+◌, ◌-◌, ◌^◌, zero, suc, true, List, [], ◌∷◌, ◌++◌, take, drop, set}
-use Rattle.std.proofs.Common.{get_or, length, length-append, subst, refl, sym, ◌∙◌, ap, arith}
-use Rattle.std.proofs.Common.{take-append-drop, length-take}
+use Rattle.std.proofs.Common.{get_or, length, length-append, subst, refl, sym, ◌∙◌, ap, arith, take-append-drop}
+use Rattle.std.proofs.Common.{length-take}
 use Rattle.std.specs.List.{AllByRecursion}
 use Rattle.std.proofs.lemmas.Bool.{both_ways}
 use Rattle.std.proofs.lemmas.List.{get_or_push}
@@ -12,14 +12,13 @@ use Rattle.fx_designs.specs.Vectors.{IsVector, zeros, plus, scale, combination, 
 use Rattle.fx_designs.specs.Problems.{Dimensions, Requirement}
 use Rattle.fx_designs.specs.Demands.{is_allowed}
 use Rattle.fx_laws.proofs.Codes.{digits-vector, number-zeros}
-use Rattle.fx_laws.proofs.Space.{AreVectors}
+use Rattle.fx_laws.proofs.Space.{AreVectors, zeros-vector}
 use Rattle.fx_vectors.proofs.Steps.{are_vectors}
 use Rattle.fx_demands.specs.Completions.{IsPartial, IsClosing}
 use Rattle.fx_demands.proofs.Completing.{no-combination}
 use Rattle.fx_demands.proofs.Choice.{not_allowed}
 use Rattle.fx_demands.proofs.Closings.{length-zeros, first-begins, partial_first}
 use Rattle.fx_barred.proofs.Reach.{vector-set, number-set}
-use Rattle.fx_laws.proofs.Space.{zeros-vector}
 
 -- the word with a single code, which is 1, at the new row
 module _ (d : Dimensions) (f : IsField d.q) (rows : List ℕ) (below : AllByRecursion (λ x. x < d.q ^ d.m) rows)

@@ -1,6 +1,6 @@
 -- Steps of reading to the end and of writing a whole piece.
-use Rattle.std.proofs.Common.{ℕ, ◌≡◌, ◌<◌, ◌≤◌, ◌+◌, ◌++◌, List, [], length, take, drop, Option, Some, zero, suc}
-use Rattle.std.proofs.Common.{refl, sym, ◌∙◌, ap, arith, append_assoc, length-append, length-drop}
+use Rattle.std.proofs.Common.{ℕ, ◌≡◌, ◌<◌, ◌≤◌, ◌+◌, ◌++◌, List, [], length, take, drop, Option, Some, zero, suc, refl}
+use Rattle.std.proofs.Common.{sym, ◌∙◌, ap, arith, append_assoc, length-append, length-drop}
 use Rattle.std.proofs.lemmas.List.{take_all, length-take-le, drop-drop}
 use Rattle.std.proofs.Math.Seq.{take-add}
 use Rattle.fx_base.specs.Reading.{Takes, TakesFrom, IsAllLeft, IsOverLimit, LeavesRest}

@@ -1,8 +1,7 @@
 -- What is read as a book is a valid book.
-use Rattle.std.proofs.Common.{◌≡◌, ℕ, ◌+◌, ◌^◌, ◌<◌, ◌≤◌, inl, inr, Bool, true, ◌&&◌, cond, eqb, ltb, leb, List}
-use Rattle.std.proofs.Common.{[], ◌∷◌, ◌++◌, length, Option, Some, None, Result, Ok, Err, refl, sym, ◌∙◌}
-use Rattle.std.proofs.Common.{arith}
-use Rattle.std.proofs.Common.{subst, length-append}
+use Rattle.std.proofs.Common.{◌≡◌, ℕ, ◌+◌, ◌^◌, ◌<◌, ◌≤◌, inl, inr, Bool, true, ◌&&◌, cond, eqb, ltb, leb, List, []}
+use Rattle.std.proofs.Common.{◌∷◌, ◌++◌, length, Option, Some, None, Result, Ok, Err, refl, sym, ◌∙◌, arith, subst}
+use Rattle.std.proofs.Common.{length-append}
 use Rattle.std.specs.Prelude.{codes}
 use Rattle.std.specs.List.{AllByRecursion}
 use Rattle.std.specs.Option.{is_some}
@@ -34,8 +33,8 @@ use Rattle.fx_book.specs.Entries.{ranged, short_entry, word_entry, entry_of, ent
 use Rattle.fx_book.specs.Reading.{entries, after_entry, is_nothing}
 use Rattle.fx_book.specs.Demands.{demands_of, resolution_of, resolution_within, effects_of, as_effects, after_stroke}
 use Rattle.fx_book.specs.Demands.{with_effect, lists_of, may_be_asked, asked_for}
-use Rattle.fx_book.specs.Heads.{book_of, from_title, from_size, with_shape, with_demands, from_beat}
-use Rattle.fx_book.specs.Heads.{with_beat, shape_of, may_be_beaten, whole_pattern, beat_from, beat_of}
+use Rattle.fx_book.specs.Heads.{book_of, from_title, from_size, with_shape, with_demands, from_beat, with_beat}
+use Rattle.fx_book.specs.Heads.{shape_of, may_be_beaten, whole_pattern, beat_from, beat_of}
 use Rattle.fx_book.specs.Writing.{shape_text, demands_text, beat_text, book_text}
 use Rattle.fx_book.specs.Valid.{IsEntry, IsBeat, AreDemands, IsValidBook}
 use Rattle.fx_book.proofs.Askable.{askable}

@@ -11,8 +11,7 @@ use Rattle.fx_text.specs.Written.{Written}
 use Rattle.fx_text.specs.Numbers.{number_of}
 use Rattle.fx_text.specs.Names.{place_of}
 use Rattle.fx_text.specs.Refusals.{refusal_at, ◌>>=◌}
-use Rattle.fx_text.specs.Ranges.{is_range, names_between}
-use Rattle.fx_text.specs.Ranges.{range_end}
+use Rattle.fx_text.specs.Ranges.{is_range, names_between, range_end}
 use Rattle.fx_effects.specs.Factors.{main_of, mains_from}
 
 -- Stars that are joined by bars, and how many factors their unions may have. Factors with no more than one in a union

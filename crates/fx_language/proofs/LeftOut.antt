@@ -17,8 +17,8 @@ use Rattle.fx_language.specs.Laws.{Names, IsAtStart, IsInStatement, IsLeftOut}
 use Rattle.fx_language.proofs.Named.{from_parts}
 use Rattle.fx_language.proofs.Lacking.{lacks, none}
 use Rattle.fx_language.proofs.SameSymbol.{symbol_is}
-use Rattle.fx_language.proofs.Unknown.{lacks_code, other_code, none as no_code, joined, many, between_start}
-use Rattle.fx_language.proofs.Unknown.{proc_start, statement_start, whole_step, whole_start}
+use Rattle.fx_language.proofs.Unknown.{lacks_code, other_code, none as no_code, joined, many, between_start, proc_start}
+use Rattle.fx_language.proofs.Unknown.{statement_start, whole_step, whole_start}
 
 -- before the semicolon that ends a statement
 

@@ -4,12 +4,11 @@ use Rattle.fx_language.specs.declared.symbol.Symbol.{Symbol}
 use Rattle.fx_language.specs.declared.symbol.Symbol.TheVariants.{Proc, Factex, Nodes, Run, Quit, Factors, Nlev, Size}
 use Rattle.fx_language.specs.declared.symbol.Symbol.TheVariants.{Design, Fraction, Nrunfacs, Minimum, Maximum, Model}
 use Rattle.fx_language.specs.declared.symbol.Symbol.TheVariants.{Estimate, Nonnegligible, Resolution, Minabs, Blocks}
-use Rattle.fx_language.specs.declared.symbol.Symbol.TheVariants.{Nblkfacs, Nblocks, Examine, Aliasing}
-use Rattle.fx_language.specs.declared.symbol.Symbol.TheVariants.{Aberration, Output, Out, Pointrep}
-use Rattle.fx_language.specs.declared.symbol.Symbol.TheVariants.{Designrep, Randomize, Novalran, Blockname, Nvals}
-use Rattle.fx_language.specs.declared.symbol.Symbol.TheVariants.{Cvals, Uniteffect, Whole, Decimal, Quoted, Semicolon}
-use Rattle.fx_language.specs.declared.symbol.Symbol.TheVariants.{Equals, Open, Close, OpenBracket, Slash, Star, Bar, At}
-use Rattle.fx_language.specs.declared.symbol.Symbol.TheVariants.{Minus, End}
+use Rattle.fx_language.specs.declared.symbol.Symbol.TheVariants.{Nblkfacs, Nblocks, Examine, Aliasing, Aberration}
+use Rattle.fx_language.specs.declared.symbol.Symbol.TheVariants.{Output, Out, Pointrep, Designrep, Randomize, Novalran}
+use Rattle.fx_language.specs.declared.symbol.Symbol.TheVariants.{Blockname, Nvals, Cvals, Uniteffect, Whole, Decimal}
+use Rattle.fx_language.specs.declared.symbol.Symbol.TheVariants.{Quoted, Semicolon, Equals, Open, Close, OpenBracket}
+use Rattle.fx_language.specs.declared.symbol.Symbol.TheVariants.{Slash, Star, Bar, At, Minus, End}
 use Rattle.fx_language.specs.Symbols.{is, is_word, is_output_option, is_left_out, is_plain_section}
 use Rattle.fx_language.specs.Shapes.{Shape, Empty, One, Many, Fault, guarded, maybe, ◌▸◌, ◌∣◌}
 

@@ -12,10 +12,9 @@ use Rattle.fx_designs.specs.Vectors.{dot, plus, scale, zeros, combination, IsVec
 use Rattle.fx_designs.specs.Runs.{points, levels_at, runs_of, block}
 use Rattle.fx_laws.specs.Facts.{IsConstantInBlocks, IsBalancedInBlocks}
 use Rattle.fx_laws.specs.Spans.{InSpan, Separates}
-use Rattle.fx_laws.proofs.Codes.{number-zeros}
+use Rattle.fx_laws.proofs.Codes.{number-zeros, digits-number}
 use Rattle.fx_laws.proofs.Linear.{zero-add-code, dot_code, dot_comm, dot-plus, dot-scale, dot-zeros, dot-levels}
 use Rattle.fx_laws.proofs.Linear.{levels-plus, levels-scale, levels-zeros}
-use Rattle.fx_laws.proofs.Codes.{digits-number}
 use Rattle.fx_laws.proofs.Sums.{sum_by_map, sum_by-ext}
 use Rattle.fx_laws.proofs.Shift.{shift, all-points, points-each}
 use Rattle.fx_laws.proofs.Space.{ext, zeros-vector, plus-vector, scale-vector, combination-vector, AreVectors}

@@ -19,11 +19,10 @@ use Rattle.fx_designs.specs.Canonical.{rank_at, follows_at, reaches_at, is_unit,
 use Rattle.fx_laws.specs.Facts.{IsNormal}
 use Rattle.fx_laws.specs.Changes.{unit}
 use Rattle.fx_laws.specs.Canonical.{AreFalling, IsOrdered, IsCanonicalPrefix, row}
-use Rattle.fx_laws.proofs.Codes.{digits-vector, digits-number, number-digits}
+use Rattle.fx_laws.proofs.Codes.{digits-vector, digits-number, number-digits, number-zeros}
 use Rattle.fx_laws.proofs.Space.{AreVectors, zeros-vector}
 use Rattle.fx_laws.proofs.Ranks.{in_span-holds}
 use Rattle.fx_laws.proofs.Raises.{none-combination}
-use Rattle.fx_laws.proofs.Codes.{number-zeros}
 use Rattle.fx_laws.proofs.Prefixes.{number-unit, digits-unit, unit-past}
 use Rattle.fx_laws.proofs.Tests.{all_decides, range_decides}
 

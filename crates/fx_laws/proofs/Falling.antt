@@ -1,7 +1,6 @@
 -- Under a resolution the rows can be put in falling order.
 use Rattle.std.proofs.Common.{ℕ, ◌≡◌, ◌<◌, ◌≤◌, ◌+◌, ◌-◌, min, zero, suc, List, [], ◌∷◌, ◌++◌, map, length}
-use Rattle.std.proofs.Common.{append_assoc, length-append, refl, sym, subst, ◌∙◌, ap, ap₂, arith, inl, inr}
-use Rattle.std.proofs.Common.{◌⊎◌}
+use Rattle.std.proofs.Common.{append_assoc, length-append, refl, sym, subst, ◌∙◌, ap, ap₂, arith, inl, inr, ◌⊎◌}
 use Rattle.std.specs.List.{AllByRecursion}
 use Rattle.std.proofs.lemmas.List.{length-map, map-append, get_or-append-add, get_or_append_left}
 use Rattle.std.proofs.lemmas.List.Elements.{All-get_or, All-from_recursion}

@@ -2,18 +2,18 @@
 use Rattle.std.proofs.Common.{ℕ, ◌≡◌, ◌<◌, ◌+◌, ◌^◌, ◌||◌, not, ltb, true, false, List, length, Some, None, sym, ap}
 use Rattle.std.proofs.Common.{◌∙◌, subst, arith, inl, inr, ◌&&◌}
 use Rattle.std.specs.List.{find, filter, AllByRecursion}
-use Rattle.std.proofs.lemmas.Bool.{and_parts, eqb-true, or_left, false_from_ne_true, both_ways}
+use Rattle.std.proofs.lemmas.Bool.{and_parts, eqb-true, or_left, false_from_ne_true, both_ways, ltb-true, lt-ltb}
+use Rattle.std.proofs.lemmas.Bool.{cases_lt}
 use Rattle.std.proofs.lemmas.List.Elements.{recursion_from_All}
 use Rattle.fx_designs.specs.Problems.{Problem}
 use Rattle.fx_designs.specs.Canonical.{is_canonical}
 use Rattle.fx_designs.specs.Answers.{before, lists, prefixes, is_design, is_of_least_pattern, designs, answer}
 use Rattle.fx_laws.specs.First.{IsFirstDesign}
 use Rattle.fx_laws.proofs.Tests.{all_decides}
-use Rattle.std.proofs.lemmas.Bool.{ltb-true, lt-ltb, cases_lt}
 use mathlib.Core.Bool.{and-true}
 use Rattle.fx_base.proofs.Lists.{find-filter, find_agree}
-use Rattle.fx_laws.proofs.Order.{lists-sorted, all_lists, IsIn, found_first, first_found, found_passes}
-use Rattle.fx_laws.proofs.Order.{before-self, before-not}
+use Rattle.fx_laws.proofs.Order.{lists-sorted, all_lists, IsIn, found_first, first_found, found_passes, before-self}
+use Rattle.fx_laws.proofs.Order.{before-not}
 
 module _ (p : Problem) where
   -- what every design has, by its tests of length and range

@@ -13,8 +13,7 @@ use Rattle.fx_laws.specs.Trees.{tree_nodes, tree_mark, tree_marks}
 use Rattle.fx_laws.specs.Walks.{through, is_candidate, under, mark_at}
 use Rattle.fx_laws.proofs.Through.{filter-none}
 use Rattle.fx_laws.proofs.Candidates.{closed-append}
-use Rattle.fx_laws.proofs.Order.{Sorted, lists-sorted, lists-short, before-self, before-trans}
-use Rattle.fx_laws.proofs.Order.{nonempty}
+use Rattle.fx_laws.proofs.Order.{Sorted, lists-sorted, lists-short, before-self, before-trans, nonempty}
 
 pub any-less : (P Q : List ℕ → Bool) → ((x : List ℕ) → Q x ≡ true → P x ≡ true) → (xs : List (List ℕ))
     → list_any P xs ≡ false → list_any Q xs ≡ false

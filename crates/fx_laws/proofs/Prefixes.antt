@@ -5,15 +5,13 @@ use Rattle.std.specs.List.{AllByRecursion}
 use Rattle.std.proofs.lemmas.Bool.{cases_lt, cases_Bool, lt-ltb, le-ltb}
 use Rattle.std.proofs.Math.Nat.{pow-zero, pow-succ', mul-le-mul_left, one-le-pow, lt_of_mul-lt-mul_left}
 use Rattle.fx_designs.specs.Galois.{IsField, number, digits}
-use Rattle.fx_laws.proofs.Codes.{number-zeros}
-use Rattle.fx_laws.proofs.Changes.{unit-vector}
-use Rattle.fx_laws.proofs.Codes.{digits-number}
+use Rattle.fx_laws.proofs.Codes.{number-zeros, digits-number}
+use Rattle.fx_laws.proofs.Changes.{unit-vector, zeros-short}
 use Rattle.fx_designs.specs.Vectors.{zeros, IsVector}
 use Rattle.fx_designs.specs.Spans.{in_span, rank_of}
 use Rattle.fx_laws.specs.Changes.{unit, IsShort}
 use Rattle.fx_laws.specs.Canonical.{IsCanonical, row}
 use Rattle.fx_laws.proofs.Space.{AreVectors}
-use Rattle.fx_laws.proofs.Changes.{zeros-short}
 use Rattle.fx_laws.proofs.Ranks.{Spans, spans-none, spans-old, spans-new, spans-short, in_span-true, in_span-holds}
 use Rattle.fx_laws.proofs.Ranks.{in_span-none}
 use Rattle.fx_laws.proofs.Forms.{rank-snoc}

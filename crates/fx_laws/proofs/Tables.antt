@@ -1,7 +1,7 @@
 -- The laws of the seven fields, each computed over its whole table.
-use Rattle.std.proofs.Common.{ℕ, ◌≡◌, ◌<◌, ◌%◌, Bool, true, eqb, ltb, cond, refl, sym, arith, zero-add, length}
+use Rattle.std.proofs.Common.{ℕ, ◌≡◌, ◌<◌, ◌%◌, Bool, true, eqb, ltb, cond, refl, sym, arith, zero-add, length, subst}
+use Rattle.std.proofs.Common.{inl, inr}
 use Rattle.std.specs.Prelude.{IsTrue}
-use Rattle.std.proofs.Common.{subst, inl, inr}
 use Rattle.std.specs.List.{range_with_len, list_all}
 use Rattle.std.proofs.lemmas.Bool.{eqb-true, cases_eq}
 use borrow.Author.Tests.{ltb-true}

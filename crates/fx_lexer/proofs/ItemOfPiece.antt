@@ -6,9 +6,9 @@ use Rattle.std.specs.Prelude.{◌==◌, nat_le, if◌then◌else◌, Contains, c
 use Rattle.std.specs.List.{prefix_len, list_all, list_any}
 use Rattle.std.specs.Option.{option_map}
 use Rattle.std.proofs.lemmas.Bool.{eqb-true, eq-eqb, leb-true, le-leb, lt-leb, lt-ltb, cases_Bool, and_parts, or_parts}
+use Rattle.std.proofs.lemmas.Bool.{or_cases, not-true}
 use Rattle.std.proofs.Math.Seq.{drop-append_seam}
 use Rattle.std.proofs.lemmas.List.Elements.{Contains-append_right}
-use Rattle.std.proofs.lemmas.Bool.{or_cases, not-true}
 use Rattle.fx_lexer.specs.declared.token.Kind.{Kind}
 use Rattle.fx_lexer.specs.declared.token.Kind.TheVariants as kind
 use Rattle.fx_lexer.specs.declared.item.Item.{Item}

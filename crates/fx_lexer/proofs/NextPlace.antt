@@ -1,6 +1,5 @@
 -- One byte further: its line and column.
-use Rattle.std.proofs.Common.{ℕ, ◌+◌, ◌≤◌, not, List, length, take, reverse}
-use Rattle.std.proofs.Common.{arith}
+use Rattle.std.proofs.Common.{ℕ, ◌+◌, ◌≤◌, not, List, length, take, reverse, arith}
 use Rattle.std.specs.Prelude.{◌==◌}
 use Rattle.std.proofs.lemmas.List.{length-take, length-reverse}
 use Rattle.std.proofs.lemmas.List.Sums.{count_by-le-length, prefix_len-le-length}

@@ -13,8 +13,7 @@ use Rattle.fx_lexer.specs.declared.token.LexFault.{LexFault}
 use Rattle.fx_lexer.specs.Places.{place_after}
 use Rattle.fx_lexer.specs.Lexing.{lexed, token_at, tokens_of_kind}
 use Rattle.fx_lexer.specs.TextPieces.{Piece, spelling, kind_of, starts_behind, HasForm, HasAllowedLength, text_of}
-use Rattle.fx_lexer.specs.TextPieces.{AreFormed}
-use Rattle.fx_lexer.specs.TextPieces.{tokens_among}
+use Rattle.fx_lexer.specs.TextPieces.{AreFormed, tokens_among}
 use Rattle.fx_lexer.specs.Tokens.{token_text, IsToken, AreInOrder}
 use Rattle.fx_lexer.proofs.PiecesOfText.{some_bytes, Whole, text_is}
 

@@ -10,8 +10,7 @@ use Rattle.fx_lexer.specs.Bytes.{begins_word, is_quote}
 use Rattle.fx_lexer.specs.Lexing.{lexed, lexed_from, in_front, tokens_of_kind, starts_after, fault_at}
 use Rattle.fx_lexer.specs.TextPieces.{Piece, white, comment, remark, word, whole, decimal, quoted, sign, spelling}
 use Rattle.fx_lexer.specs.TextPieces.{kind_of, starts_behind, starts_behind_all, HasForm, HasAllowedLength, text_of}
-use Rattle.fx_lexer.specs.TextPieces.{AreFormed}
-use Rattle.fx_lexer.specs.TextPieces.{tokens_among, IsMadeOf}
+use Rattle.fx_lexer.specs.TextPieces.{AreFormed, tokens_among, IsMadeOf}
 use Rattle.fx_lexer.specs.Flaws.{Flaw, open_comment, open_remark, open_quoted, stray, long_piece, flaw_text, fault_kind}
 use Rattle.fx_lexer.specs.Flaws.{IsFlaw, BreaksOff}
 use Rattle.fx_lexer.proofs.PiecesOfText.{some_bytes, item_passed}

@@ -6,8 +6,7 @@ use Rattle.fx_lexer.specs.Bytes.{is_white, is_digit, begins_word, is_sign, is_qu
 use Rattle.fx_lexer.specs.Places.{place_after, IsPlaceIn}
 use Rattle.fx_lexer.specs.Lexing.{fault_at}
 use Rattle.fx_lexer.specs.TextPieces.{Piece, word, spelling, begins_fraction, HasCommentEnd, EndsQuoted, HasForm}
-use Rattle.fx_lexer.specs.TextPieces.{HasAllowedLength}
-use Rattle.fx_lexer.specs.TextPieces.{text_of, AreFormed, starts_behind_all}
+use Rattle.fx_lexer.specs.TextPieces.{HasAllowedLength, text_of, AreFormed, starts_behind_all}
 
 -- What isn't a piece, with all that follows: a comment, a remark or a quoted text with no end; a byte that begins no
 -- item; a piece that is too long.

@@ -1,6 +1,6 @@
 -- Plans of a design: how many lines they have, and what the shuffled values are.
-use Rattle.std.proofs.Common.{ℕ, ◌≡◌, ◌<◌, ◌+◌, ◌-◌, ◌*◌, ◌^◌, zero, suc, Bool, true, false, List, [], ◌∷◌}
-use Rattle.std.proofs.Common.{length, replicate, swap, refl, sym, subst, ◌∙◌, ap, arith, IsPermutation}
+use Rattle.std.proofs.Common.{ℕ, ◌≡◌, ◌<◌, ◌+◌, ◌-◌, ◌*◌, ◌^◌, zero, suc, Bool, true, false, List, [], ◌∷◌, length}
+use Rattle.std.proofs.Common.{replicate, swap, refl, sym, subst, ◌∙◌, ap, arith, IsPermutation}
 use Rattle.std.specs.List.{AllZip, flat_map, range_with_len, sum_by}
 use Rattle.std.proofs.lemmas.List.{length-map}
 use Rattle.std.proofs.lemmas.List.FromFn.{length-range_with_len}
@@ -41,10 +41,12 @@ design-runs matrix known whole =
     record {
       shaped = known.shaped;
       each =
-          All-map (λ x. IsVector q (matrix.shape.s + matrix.shape.t) x) (λ p. levels_at q rules p) (points q matrix.shape.m)
+          All-map (λ x. IsVector q (matrix.shape.s + matrix.shape.t) x) (λ p. levels_at q rules p)
+          (points q matrix.shape.m)
           (all-points q matrix.shape.m (omega (arith, f.more_than_one))
           (λ p. IsVector q (matrix.shape.s + matrix.shape.t) (levels_at q rules p))
-          (λ p h. subst (λ n. IsVector q n (levels_at q rules p)) whole (rows-vector q f matrix.shape.m matrix.rows p)));
+          (λ p h. subst (λ n. IsVector q n (levels_at q rules p)) whole
+          (rows-vector q f matrix.shape.m matrix.rows p)));
     }
 
 module _ {X : Type 0} where
@@ -54,7 +56,8 @@ module _ {X : Type 0} where
       let j : ℕ = (drawn g (k + 2)).0 in
       let low : j < k + 2 = drawn_low g (k + 2) (omega arith) in
       let next : List X = swap xs (k + 1) j in
-      IsPermutation-trans xs next _ (IsPermutation-swap xs next (k + 1) j (omega (arith, h)) (omega (arith, low, h)) refl)
+      IsPermutation-trans xs next _
+      (IsPermutation-swap xs next (k + 1) j (omega (arith, h)) (omega (arith, low, h)) refl)
       (exchanged-permutation k (drawn g (k + 2)).1 next (omega (arith, h, length-swap xs (k + 1) j)))
 
   shuffled-permutation : (g : Lcg) (xs : List X) → IsPermutation xs (shuffled g xs).0
@@ -97,7 +100,8 @@ constant {X} c (x ∷ xs) = sum_by-cons (λ (y : X). c) x xs ∙ ap (λ n. c + n
 
 replicated-length : (each all n : ℕ) → sum_by (λ x. 1) (replicated each all (range_with_len 0 n)) ≡ n * (each * all)
 replicated-length each all n =
-    let own : (x : ℕ) → sum_by (λ y. 1) (replicate each x) ≡ each = λ x. sum_by-replicate (λ y. 1) each x ∙ omega arith in
+    let own : (x : ℕ) → sum_by (λ y. 1) (replicate each x) ≡ each =
+    λ x. sum_by-replicate (λ y. 1) each x ∙ omega arith in
     repeated_total (λ x. 1) all (flat_map (λ x. replicate each x) (range_with_len 0 n))
     ∙ ap (λ t. all * t)
     (sum_by_flat_map (λ x. 1) (λ x. replicate each x) (range_with_len 0 n)
@@ -123,4 +127,5 @@ record-count names matrix output seed known whole =
     let rows : length a.order ≡ length runs.rows * (output.pointrep * output.designrep) =
     sym (constant 1 a.order ∙ omega arith) ∙ plan_total (λ x. 1) runs output seed (design-runs matrix known whole)
     ∙ replicated-length output.pointrep output.designrep (length runs.rows) in
-    ap suc (length-map a.order _ ∙ rows ∙ ap (λ n. n * (output.pointrep * output.designrep)) (run-count matrix)) ∙ omega arith
+    ap suc (length-map a.order _ ∙ rows ∙ ap (λ n. n * (output.pointrep * output.designrep)) (run-count matrix)) ∙ omega
+    arith

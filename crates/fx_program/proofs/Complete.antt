@@ -1,9 +1,10 @@
 -- What a command has done is no more than what is defined of it, so it needs no more room.
-use Rattle.std.proofs.Common.{ℕ, ◌≡◌, ◌≤◌, ◌+◌, true, List, [], ◌∷◌, length, Some, refl, sym, ap, ◌∙◌, arith}
-use Rattle.std.proofs.Common.{◌<◌, ◌≢◌, inl, inr, length-append}
+use Rattle.std.proofs.Common.{ℕ, ◌≡◌, ◌≤◌, ◌+◌, true, List, [], ◌∷◌, length, Some, refl, sym, ap, ◌∙◌, arith, ◌<◌, ◌≢◌}
+use Rattle.std.proofs.Common.{inl, inr, length-append}
 use Rattle.std.specs.Prelude.{Result, Ok, Err}
 use Rattle.std.proofs.lemmas.List.{length-take}
-use Rattle.fx_base.specs.Acts.{Event, Piece, File, files_of, listed, pieces, HasCome, AtStart, InPiece, InFile, PastPiece, PastFile}
+use Rattle.fx_base.specs.Acts.{Event, Piece, File, files_of, listed, pieces, HasCome, AtStart, InPiece, InFile}
+use Rattle.fx_base.specs.Acts.{PastPiece, PastFile}
 use Rattle.fx_base.specs.Memory.{room_of}
 use Rattle.fx_base.proofs.Words.{comes}
 use Rattle.fx_program.specs.CommandLine.{settings_of}
@@ -65,13 +66,15 @@ none-rose a b c d hb hd (inr (inr (inl rose))) = omega (arith, rose, hd)
 none-rose a b c d hb hd (inr (inr (inr none))) = none
 
 -- over an empty listing and an empty shelf that have room for all that is defined, and a source that never fails
-pub not-failed : (words : List (List ℕ)) (left written : List ℕ) (files : List File) (status a b c d room shelf_room : ℕ)
+pub not-failed : (words : List (List ℕ)) (left written : List ℕ) (files : List File)
+    (status a b c d room shelf_room : ℕ)
     → GivesForSome (command_in words) (Some left) (world (Some []) (Some [])) (world (Some written) (Some files)) status
     → HasStatusCause (0 ∷ a ∷ c ∷ []) (0 ∷ b ∷ d ∷ []) status
     → length (pieces (output_of words left).events) < room → (length written < room → b ≡ 0)
     → room_of (files_of (output_of words left).events) + 64 ≤ shelf_room → (room_of files + 64 ≤ shelf_room → d ≡ 0)
     → status ≢ 4
-not-failed words left written files status a b c d room shelf_room gives cause enough sure shelf_enough shelf_sure four =
+not-failed words left written files status a b c d room shelf_room gives cause enough sure shelf_enough shelf_sure
+    four =
     let within = gives-within words left written files status gives in
     none-rose a b c d (sure (omega (arith, within.0, enough))) (shelf_sure (omega (arith, within.1, shelf_enough)))
     (cause.failed four)

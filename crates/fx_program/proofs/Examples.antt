@@ -17,7 +17,8 @@ use Rattle.fx_program.proofs.Complete.{none-rose}
 texts_run :
     ((command_of (Run 1 0)).text_run (Some (codes "x")) ≡ Some (codes "x"))
     × ((command_of (Large 2 1)).text_run (Some (codes "x")) ≡ Some (made_text 2))
-    × ((command_of Check).text_run (Some (codes "x")) ≡ None) × ((command_of (Make 2)).text_run (Some (codes "x")) ≡ None)
+    × ((command_of Check).text_run (Some (codes "x")) ≡ None)
+    × ((command_of (Make 2)).text_run (Some (codes "x")) ≡ None)
     × ((command_for (word_fault 1 1)).text_run (Some (codes "x")) ≡ None)
 texts_run = (refl, refl, refl, refl, refl)
 

@@ -1,14 +1,13 @@
 -- What was given for the steps so far, and what is given at the end.
 use Rattle.std.proofs.Common.{ℕ, Bool, true, false, ◌≡◌, ◌<◌, ◌≤◌, ◌+◌, List, [], ◌∷◌, ◌++◌, map, length, drop, get_or}
 use Rattle.std.proofs.Common.{refl, sym, ap, subst, ◌∙◌, append_assoc, append-nil}
-use Rattle.std.specs.Prelude.{nat_le, if◌then◌else◌}
+use Rattle.std.specs.Prelude.{nat_le, if◌then◌else◌, IsErrAnd, None, Ok, Err, Result}
 use Rattle.std.proofs.Math.Seq.{drop-cons}
 use Rattle.std.proofs.Math.Numerals.{add-one}
 use Rattle.std.proofs.lemmas.List.{drop_all}
 use Rattle.fx_base.specs.Acts.{Event, acts, Did, DidPart}
 use Rattle.fx_base.proofs.Doing.{did_none, did_then, part_then, part_before}
 use Rattle.fx_statements.specs.Steps.{Meaning}
-use Rattle.std.specs.Prelude.{IsErrAnd, None, Ok, Err, Result}
 use Rattle.fx_program.specs.declared.stop.Stop.{Stop}
 use Rattle.fx_program.specs.Stops.{HasCause, exit_status}
 use Rattle.fx_program.specs.Output.{Output, Gives, step_output, steps_output, worse}

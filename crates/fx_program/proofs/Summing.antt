@@ -1,8 +1,7 @@
 -- The summary of a program, step by step.
 use Rattle.std.proofs.Common.{ℕ, Bool, ◌≡◌, ◌≤◌, ◌<◌, ◌+◌, ◌^◌, List, [], ◌∷◌, ◌++◌, length, Ok, Err, Result, refl, sym}
-use Rattle.std.proofs.Common.{ap, ap₂, ◌∙◌, arith}
+use Rattle.std.proofs.Common.{ap, ap₂, ◌∙◌, arith, cond}
 use Rattle.std.specs.Prelude.{count_by, sum_by}
-use Rattle.std.proofs.Common.{cond}
 use Rattle.std.proofs.lemmas.List.{map-append, length-map}
 use Rattle.std.proofs.lemmas.List.Sums.{count_by-le-length, fold-append, sum_by_push}
 use Rattle.fx_base.specs.Acts.{Event}

@@ -57,7 +57,8 @@ options_behind_within last place has_seed (Ok given) (word ∷ words) from to h 
     options_behind_within last (place + 1) has_seed _ words (omega arith) (omega (arith, to))
     (option_within last place from (omega (arith, to)) given _ _)
 
-options_within : (last place : ℕ) (has_seed : Bool) (words : List (List ℕ)) → 1 ≤ place → place + length words ≤ last + 1
+options_within : (last place : ℕ) (has_seed : Bool) (words : List (List ℕ)) → 1 ≤ place
+    → place + length words ≤ last + 1
     → Within last (CommandLine.options_in place has_seed words)
 options_within last place has_seed words from to =
     options_behind_within last place has_seed (Ok (record { threads = None; seed = None })) words from to tt

@@ -182,7 +182,8 @@ with_sections = refl
 
 -- all sections, in their own order whatever that of the text
 all_sections :
-    given (codes "proc factex;factors A B;size design=4;model r=3;blocks nblkfacs=1;examine aberration blocked aliasing design;")
+    given (codes
+    "proc factex;factors A B;size design=4;model r=3;blocks nblkfacs=1;examine aberration blocked aliasing design;")
     ≡ message (codes
     "step 1\nfactors 2 levels 2\ndesign 4 runs in 2 blocks\nno defining words\nnodes 3\nrules\n  [1] = A*B\npoints BLOCK A B\n  1 1 -1 -1\n  2 2 -1 1\n  3 2 1 -1\n  4 1 1 1\naliasing\n  A\n  B\n  A*B\nblocked\n  A*B\naberration\n  none\n") 0
 unfolding given

@@ -1,8 +1,6 @@
 -- The first design of least pattern is the answer.
-use Rattle.std.proofs.Common.{ℕ, ◌≡◌, ◌<◌, ◌+◌, ◌&&◌, ◌||◌, not, Bool, true, List}
-use Rattle.std.proofs.Common.{Some, ◌∙◌, inl, inr}
-use Rattle.std.proofs.lemmas.Bool.{and_parts, and_from, or_cases, or_right}
-use Rattle.std.proofs.lemmas.Bool.{both_ways, not-true, not_from_false}
+use Rattle.std.proofs.Common.{ℕ, ◌≡◌, ◌<◌, ◌+◌, ◌&&◌, ◌||◌, not, Bool, true, List, Some, ◌∙◌, inl, inr}
+use Rattle.std.proofs.lemmas.Bool.{and_parts, and_from, or_cases, or_right, both_ways, not-true, not_from_false}
 use Rattle.fx_base.proofs.Lists.{find-filter}
 use Rattle.fx_designs.specs.Problems.{Problem}
 use Rattle.fx_designs.specs.Patterns.{pattern_of, is_less}

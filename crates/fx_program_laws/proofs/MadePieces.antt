@@ -10,8 +10,7 @@ use Rattle.fx_lexer.specs.Extents.{begins_comment, begins_remark}
 use Rattle.fx_lexer.specs.Lexing.{lexed}
 use Rattle.fx_lexer.specs.TextPieces.{Piece, white, comment, remark, word, whole, decimal as decimal_piece, quoted}
 use Rattle.fx_lexer.specs.TextPieces.{sign, spelling, HasForm, HasAllowedLength, AreFormed, starts_behind}
-use Rattle.fx_lexer.specs.TextPieces.{starts_behind_all}
-use Rattle.fx_lexer.specs.TextPieces.{begins_with, begins_fraction, text_of, tokens_among}
+use Rattle.fx_lexer.specs.TextPieces.{starts_behind_all, begins_with, begins_fraction, text_of, tokens_among}
 use Rattle.fx_lexer.proofs.TextOfPieces.{tokens_read}
 use Rattle.fx_program.specs.Making.{factors_at, levels_at, runs_at, made_text, step_text}
 

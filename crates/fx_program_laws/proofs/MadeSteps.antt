@@ -1,6 +1,6 @@
 -- The steps of the text of `make`, each of which has a meaning.
-use Rattle.std.proofs.Common.{ℕ, ◌≡◌, ◌<◌, ◌≤◌, ◌%◌, suc, false, List, [], ◌∷◌, ◌++◌, length, refl, sym, ap}
-use Rattle.std.proofs.Common.{◌∙◌, arith, append_assoc, append-nil, None, Ok}
+use Rattle.std.proofs.Common.{ℕ, ◌≡◌, ◌<◌, ◌≤◌, ◌%◌, suc, false, List, [], ◌∷◌, ◌++◌, length, refl, sym, ap, ◌∙◌, arith}
+use Rattle.std.proofs.Common.{append_assoc, append-nil, None, Ok}
 use Rattle.std.specs.Fmt.{digits}
 use Rattle.std.specs.Prelude.{not, nat_lt}
 use Rattle.std.specs.List.{prefix_len, range_with_len}

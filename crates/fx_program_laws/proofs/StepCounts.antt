@@ -1,7 +1,7 @@
 -- What any text bounds: its steps, the factors and questions of each; and its OUT names, which differ.
-use Rattle.std.proofs.Common.{ℕ, ◌≡◌, ◌≤◌, ◌+◌, ◌-◌, ◌^◌, ◌∙◌, suc, max, Bool, true, false, List, [], ◌∷◌}
-use Rattle.std.proofs.Common.{◌++◌, length, length-append, refl, sym, subst, ap, arith, append-nil, Option, Some, None}
-use Rattle.std.proofs.Common.{Result, Ok, Err, cond}
+use Rattle.std.proofs.Common.{ℕ, ◌≡◌, ◌≤◌, ◌+◌, ◌-◌, ◌^◌, ◌∙◌, suc, max, Bool, true, false, List, [], ◌∷◌, ◌++◌, length}
+use Rattle.std.proofs.Common.{length-append, refl, sym, subst, ap, arith, append-nil, Option, Some, None, Result, Ok}
+use Rattle.std.proofs.Common.{Err, cond}
 use Rattle.std.specs.Prelude.{nat_lt, nat_le, if◌then◌else◌, find, IfOk}
 use Rattle.std.specs.List.{AllByRecursion, IsDistinct, flat_map, range_with_len}
 use Rattle.std.proofs.lemmas.Bool.{and_parts, leb-true, ltb-false}

@@ -1,6 +1,5 @@
 -- What is claimed of the books of a step.
-use Rattle.std.specs.Prelude.{ℕ, ◌≡◌, ◌<◌, ◌⊎◌, ◌+◌, true, false, List, [], ◌∷◌, Option, Some, None, Ok, All}
-use Rattle.std.specs.Prelude.{codes}
+use Rattle.std.specs.Prelude.{ℕ, ◌≡◌, ◌<◌, ◌⊎◌, ◌+◌, true, false, List, [], ◌∷◌, Option, Some, None, Ok, All, codes}
 use Rattle.std.specs.Prelude.{is_some, slice_get}
 use Rattle.std.specs.List.{Contains}
 use Rattle.fx_base.specs.Acts.{WholeFile}

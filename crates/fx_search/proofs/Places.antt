@@ -1,6 +1,5 @@
 -- Where a walk is, seen from its parts, and what is known of its question and prefix by equal ones.
-use Rattle.std.proofs.Common.{◌≡◌, ◌≢◌, ◌<◌, ◌≤◌, ◌+◌, ◌-◌, ℕ, Bool, List, Some, refl, sym, ap, subst, ◌∙◌}
-use Rattle.std.proofs.Common.{arith}
+use Rattle.std.proofs.Common.{◌≡◌, ◌≢◌, ◌<◌, ◌≤◌, ◌+◌, ◌-◌, ℕ, Bool, List, Some, refl, sym, ap, subst, ◌∙◌, arith}
 use Rattle.std.proofs.Common.{length, [], ◌∷◌}
 use Rattle.fx_search.specs.Asked.{IsRight}
 use Rattle.fx_search.specs.declared.asking.Asked.{Asked}

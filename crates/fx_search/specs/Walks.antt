@@ -1,8 +1,6 @@
 -- Where a walk is.
 use Rattle.std.specs.Prelude.{ℕ, ◌≡◌, ◌<◌, ◌≤◌, ◌-◌, ◌⊎◌, Bool, true, false, List, [], ◌∷◌, ◌++◌, length, drop, filter}
-use Rattle.std.specs.Prelude.{Option}
-use Rattle.std.specs.Prelude.{Some}
-use Rattle.std.specs.Prelude.{None}
+use Rattle.std.specs.Prelude.{Option, Some, None}
 use Rattle.fx_designs.specs.Answers.{falling}
 use Rattle.fx_designs.specs.Nodes.{Mark}
 use Rattle.fx_laws.specs.Trees.{Tree, children_of}

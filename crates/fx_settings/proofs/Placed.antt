@@ -19,8 +19,8 @@ use Rattle.fx_settings.specs.declared.said.BlocksSaid.{BlocksSaid}
 use Rattle.fx_settings.specs.declared.said.StepSaid.{StepSaid}
 use Rattle.fx_settings.specs.declared.rule.Rule.{Rule}
 use Rattle.fx_settings.specs.declared.settings.StepSettings.{StepSettings}
-use Rattle.fx_settings.specs.Said.{value_at, value_after_equals, first_place, last_place, size_said}
-use Rattle.fx_settings.specs.Said.{resolution_said, model_said, blocks_said, step_said}
+use Rattle.fx_settings.specs.Said.{value_at, value_after_equals, first_place, last_place, size_said, resolution_said}
+use Rattle.fx_settings.specs.Said.{model_said, blocks_said, step_said}
 use Rattle.fx_settings.specs.Rules.{first_refusal, unless_refused}
 use Rattle.fx_settings.specs.Settings.{value_place, size_place, resolution_place, minabs_place, blocks_place}
 use Rattle.fx_settings.specs.Settings.{block_value_place, rules, undivided, unblocked_of, block_rules, divided}

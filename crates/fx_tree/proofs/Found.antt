@@ -1,6 +1,6 @@
 -- What is found at a prefix with its last row, and what is then the best so far.
 use Rattle.std.proofs.Common.{◌≡◌, ℕ, ◌<◌, ◌+◌, true, false, ltb, List, [], ◌∷◌, ◌++◌, length, Option, Some, None, ap}
-use Rattle.std.proofs.Common.{◌∙◌, inl, inr, arith}
+use Rattle.std.proofs.Common.{◌∙◌, inl, inr, arith, length-append, slice_index, ◌-◌}
 use Rattle.std.proofs.lemmas.Bool.{cond-true, cond-false, cases_Bool, and_parts, and_from, and_left, and_right, eq-eqb}
 use Rattle.std.proofs.lemmas.Bool.{le-ltb, lt-ltb, not-true, not-false, and_cases}
 use Rattle.fx_designs.specs.Galois.{IsField}
@@ -16,7 +16,6 @@ use Rattle.fx_tree.proofs.Best.{clash}
 use Rattle.fx_tree.proofs.Branches.{wins_branch, loses_branch, barred_best, beaten_best, better_best}
 use Rattle.fx_tree.proofs.Patterns.{is-ranked}
 use Rattle.fx_tree.proofs.SearchTree.{opens-least, opens-plain, mark-least, mark-plain, branch-ranked, design-plain}
-use Rattle.std.proofs.Common.{length-append, slice_index, ◌-◌}
 
 last-row : (p : List ℕ) (r : ℕ) → last_row (p ++ r ∷ []) ≡ r
 last-row p r =

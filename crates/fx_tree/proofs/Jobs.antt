@@ -1,7 +1,7 @@
 -- The nodes and the marks inside a job, and those of a problem in its jobs.
-use Rattle.std.proofs.Common.{◌≡◌, ℕ, zero, suc, ◌≤◌, ◌+◌, ◌-◌, ◌^◌, Bool, true, false, not, ◌&&◌, ◌||◌}
-use Rattle.std.proofs.Common.{if◌then◌else◌, eqb, ltb, List, [], ◌∷◌, ◌++◌, map, length, take, None, refl, sym}
-use Rattle.std.proofs.Common.{subst, ap, ap₂, ◌∙◌, inl, inr, arith, append-nil, length-append, lt-ltb}
+use Rattle.std.proofs.Common.{◌≡◌, ℕ, zero, suc, ◌≤◌, ◌+◌, ◌-◌, ◌^◌, Bool, true, false, not, ◌&&◌, ◌||◌, if◌then◌else◌}
+use Rattle.std.proofs.Common.{eqb, ltb, List, [], ◌∷◌, ◌++◌, map, length, take, None, refl, sym, subst, ap, ap₂, ◌∙◌}
+use Rattle.std.proofs.Common.{inl, inr, arith, append-nil, length-append, lt-ltb}
 use Rattle.std.specs.List.{filter, find, list_any, AllByRecursion}
 use Rattle.std.proofs.lemmas.Bool.{cond-true, cond-false, cases_Bool, and_parts, and_from, and_left, and_right, or_left}
 use Rattle.std.proofs.lemmas.Bool.{or_right, eqb-true, false_from_ne_true, not_from_false, not-true}

@@ -16,8 +16,8 @@ use Rattle.fx_laws.specs.Trees.{is_tree_design, children_of}
 use Rattle.fx_laws.proofs.Through.{filter-none}
 use Rattle.fx_laws.proofs.Weights.{same-self}
 use Rattle.fx_tree.specs.Ranked.{Ranked, IsRanked, counts_for, extends, is_counted}
-use Rattle.fx_tree.proofs.Place.{split_of, extends-less, extends-not_before, before-shift, before-apart}
-use Rattle.fx_tree.proofs.Place.{take-same, goes_on, child_of, of_child, falling-any, any-never}
+use Rattle.fx_tree.proofs.Place.{split_of, extends-less, extends-not_before, before-shift, before-apart, take-same}
+use Rattle.fx_tree.proofs.Place.{goes_on, child_of, of_child, falling-any, any-never}
 
 module _ (x : Ranked) (law : IsRanked x) (p : List ℕ) (part : length p < x.tree.size) where
   abbrev rows : List ℕ

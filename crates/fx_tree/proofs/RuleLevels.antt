@@ -162,7 +162,8 @@ module _ (q : ℕ) (f : IsField q) where
       → count (same (introducing q 0 rows (levels p)) c) ≡ count (same (take n p) c) =
       λ p hp. ap (λ l. count (same l c)) (first_indexes m rows p hp fits) in
       sum_by_map (λ x. count (same (introducing q 0 rows x) c)) levels (points q m)
-      ∙ sum_by-each (λ p. count (same (introducing q 0 rows (levels p)) c)) (λ p. count (same (take n p) c)) (points q m)
+      ∙ sum_by-each (λ p. count (same (introducing q 0 rows (levels p)) c)) (λ p. count (same (take n p) c))
+      (points q m)
       (recursion_from_All _ (points q m) (all-points q m some _ here))
       ∙ beginning m (introduced q 0 rows) c h fits
 

@@ -1,6 +1,5 @@
 -- What the limits of a shape say of its numbers.
-use Rattle.std.proofs.Common.{ℕ, ◌<◌, ◌≤◌, ◌+◌, ◌^◌, arith, inl, inr, IsTrue}
-use Rattle.std.proofs.Common.{lit<}
+use Rattle.std.proofs.Common.{ℕ, ◌<◌, ◌≤◌, ◌+◌, ◌^◌, arith, inl, inr, IsTrue, lit<}
 use Rattle.std.proofs.lemmas.Bool.{cases_lt}
 use Rattle.std.proofs.lemmas.Bool.Decides.{nat_tests}
 use Rattle.std.proofs.Math.Nat.{pow-le-pow_left, pow-le-pow_right}

@@ -1,7 +1,7 @@
 -- One turn of each loop over the codes of a vector or the rows of a matrix.
-use Rattle.std.proofs.Common.{◌≡◌, ℕ, ◌<◌, ◌≤◌, ◌+◌, ◌*◌, ◌-◌, ◌/◌, ◌%◌, ◌^◌, ◌++◌, zero, suc}
-use Rattle.std.proofs.Common.{List, [], ◌∷◌, get_or, drop, take, length, arith, sym, ap, ◌∙◌, refl, add-one, lit<}
-use Rattle.std.proofs.Common.{append_assoc, drop-cons, Bool, true, false, cond, eqb}
+use Rattle.std.proofs.Common.{◌≡◌, ℕ, ◌<◌, ◌≤◌, ◌+◌, ◌*◌, ◌-◌, ◌/◌, ◌%◌, ◌^◌, ◌++◌, zero, suc, List, [], ◌∷◌, get_or}
+use Rattle.std.proofs.Common.{drop, take, length, arith, sym, ap, ◌∙◌, refl, add-one, lit<, append_assoc, drop-cons}
+use Rattle.std.proofs.Common.{Bool, true, false, cond, eqb}
 use Rattle.std.proofs.lemmas.List.{take_more}
 use Rattle.std.proofs.lemmas.Bool.Decides.{nat_tests}
 use Rattle.std.proofs.Math.ListN.{drop_of_length-le}

@@ -1,7 +1,6 @@
 use Rattle.std.proofs.Common.{◌≡◌, ℕ, ◌+◌, ◌-◌, ◌∙◌, ◌∷◌, [], List, ap, sym, take, drop, arith, Bool, Ok, Err}
-use Rattle.std.proofs.Common.{length-drop}
+use Rattle.std.proofs.Common.{length-drop, length-append}
 use Rattle.fx_designs.specs.Problems.{Dimensions}
-use Rattle.std.proofs.Common.{length-append}
 use Rattle.std.proofs.lemmas.List.Elements.{All-push}
 use Rattle.fx_vectors.specs.Marks.{meaning_of}
 use Rattle.fx_book.specs.Valid.{IsEntry}

@@ -6,8 +6,7 @@ use Rattle.fx_text.specs.Refusals.{IsRefused}
 use Rattle.fx_settings.specs.Said.{step_said}
 use Rattle.fx_text.specs.Phrases.{start_of}
 use Rattle.fx_settings.specs.Valid.{are_valid}
-use Rattle.fx_outputs.specs.Outputs.{outputs_of}
-use Rattle.fx_outputs.specs.Outputs.{names_of}
+use Rattle.fx_outputs.specs.Outputs.{outputs_of, names_of}
 use Rattle.fx_outputs.specs.Validity.{HasItsNames, IsWithinLimits}
 use Rattle.fx_outputs.proofs.Names.{all_differ, all_have_names}
 use Rattle.fx_text.proofs.Distinct.{behind_differ}

@@ -5,13 +5,12 @@ use Rattle.fx_laws.proofs.Tables.{is_order-field}
 use Rattle.fx_vectors.specs.declared.shape.Shape.{Shape}
 use Rattle.fx_vectors.specs.Matrix.{IsMatrix}
 use Rattle.fx_vectors.proofs.Limits.{order-bounds}
-use Rattle.fx_words.specs.Spreads.{so_far}
+use Rattle.fx_words.specs.Spreads.{so_far, AreAlike}
 use Rattle.fx_words.proofs.Counts.{put}
 use Rattle.fx_words.proofs.Levels.{so_far-fits}
 use Rattle.fx_words.proofs.Steps.{places_of, place_from, place_lighter, place_to, bound_at, without, with_entry}
 use Rattle.fx_words.proofs.Steps.{alike_in_shape, runs_in_shape}
 use Rattle.fx_words.proofs.tally.add_first.Goals as goal
-use Rattle.fx_words.specs.Spreads.{AreAlike}
 use Rattle.fx_words.specs.Tables.{difference}
 
 pub bounds-counts-from : goal.bounds-counts-from

@@ -1,5 +1,4 @@
-use Rattle.std.proofs.Common.{◌≡◌, ◌<◌, ◌+◌, ◌-◌, [], ℕ, List, None, length, length-append, sym, ap}
-use Rattle.std.proofs.Common.{arith}
+use Rattle.std.proofs.Common.{◌≡◌, ◌<◌, ◌+◌, ◌-◌, [], ℕ, List, None, length, length-append, sym, ap, arith}
 use Rattle.fx_designs.specs.Nodes.{Mark}
 use Rattle.fx_designs.specs.Problems.{Problem}
 use Rattle.fx_tree.specs.Search.{search_tree}
@@ -9,8 +8,7 @@ use Rattle.fx_vectors.specs.Question.{problem_of}
 use Rattle.fx_search.specs.Ends.{IsSpent}
 use Rattle.fx_search.specs.Asked.{IsRight}
 use Rattle.fx_search.specs.LotWalks.{candidates_of, rest_of}
-use Rattle.fx_search.specs.SearchPieces.{IsAhead, IsAtEnd, IsPlacedAt, IsFoldedTo, AreFolded}
-use Rattle.fx_search.specs.SearchPieces.{ArePieceEnds}
+use Rattle.fx_search.specs.SearchPieces.{IsAhead, IsAtEnd, IsPlacedAt, IsFoldedTo, AreFolded, ArePieceEnds}
 use Rattle.fx_search.specs.declared.asking.Asked.TheVariants.{Budget}
 use Rattle.fx_search.specs.declared.job.JobEnd.{JobEnd}
 use Rattle.fx_search.specs.declared.pieces.Piece.{Piece}

@@ -1,6 +1,5 @@
-use Rattle.std.proofs.Common.{Bool, ◌≡◌, ℕ, suc, ◌<◌, ◌≤◌, ◌+◌, ◌-◌, ◌^◌, true, false, length, List, [], ◌∷◌}
-use Rattle.std.proofs.Common.{◌++◌, arith, refl, sym, ap, ◌∙◌, subst, length-append, append-nil}
-use Rattle.std.proofs.Common.{inl, inr, slice_index_or}
+use Rattle.std.proofs.Common.{Bool, ◌≡◌, ℕ, suc, ◌<◌, ◌≤◌, ◌+◌, ◌-◌, ◌^◌, true, false, length, List, [], ◌∷◌, ◌++◌}
+use Rattle.std.proofs.Common.{arith, refl, sym, ap, ◌∙◌, subst, length-append, append-nil, inl, inr, slice_index_or}
 use Rattle.fx_designs.specs.Problems.{Problem}
 use Rattle.fx_designs.specs.Nodes.{parent}
 use Rattle.fx_laws.specs.Trees.{children_of}
@@ -23,8 +22,8 @@ use Rattle.fx_search.specs.Walks.{IsAt, IsFrontOf, LeftFrom}
 use Rattle.fx_search.specs.declared.walk.Walk.{Walk}
 use Rattle.fx_search.specs.declared.walk.End.TheVariants.{Closed}
 use Rattle.fx_search.proofs.Lots.{whole-end}
-use Rattle.fx_search.proofs.Steps.{full, below_end, below_closed, left-init, left-skip, left-next}
-use Rattle.fx_search.proofs.Steps.{left-low, inside_child, over_child}
+use Rattle.fx_search.proofs.Steps.{full, below_end, below_closed, left-init, left-skip, left-next, left-low}
+use Rattle.fx_search.proofs.Steps.{inside_child, over_child}
 use Rattle.fx_search.proofs.Valid.{field_of, law_of, ranked_of}
 use Rattle.fx_search.proofs.Places.{at-own, else-closed, visited-over}
 use Rattle.fx_search.proofs.walk.Walk.+walk.Goals as goal
