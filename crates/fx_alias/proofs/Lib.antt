@@ -14,4 +14,4 @@ mod Heads
 mod Subjects
 mod Exact
 mod Rising
-mod RuleLines
+pub mod RuleLines

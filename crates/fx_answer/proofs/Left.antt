@@ -57,7 +57,7 @@ best_allowed p true e test rows is =
     (sym (cond-true p.least _ _ e) ∙ is) in
     (and_parts _ _ kept).0
 
-carried_allowed : (p : Problem) (budget : ℕ) (rows : List ℕ) → carried p budget ≡ Some rows
+pub carried_allowed : (p : Problem) (budget : ℕ) (rows : List ℕ) → carried p budget ≡ Some rows
     → is_complete_allowed p rows ≡ true
 unfolding carried best_before
 carried_allowed p budget rows is = best_allowed p p.least refl _ rows is

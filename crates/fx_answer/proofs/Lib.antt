@@ -2,7 +2,7 @@ pub mod Asking
 pub mod Booked
 pub mod Answered
 pub mod Valid
-mod Left
+pub mod Left
 pub mod StepSettings
 mod NextResolution
 mod FullBlocks

@@ -280,7 +280,14 @@ five_levels = refl
 -- status decides
 three_steps :
     given (codes
-    "proc factex;factors A;model r=3;proc factex nodes=1;factors A B;model r=3;proc factex;factors A B C;size design=2;model r=3;") ≡ record { events = Piece (codes "step 1\nfactors 1 levels 2\ndesign 2 runs\nno defining words\nnodes 1\nrules\n  none\n") ∷ Piece (codes "step 2\nfactors 2 levels 2\nbudget ended after 1 nodes\n") ∷ WholeFile (codes "step3-1.book") (codes "factex-book 1\nsize 2 1 3 0\nresolution 3\npattern none\nO 1\nEND\n") ∷ Piece (codes "step 3\nfactors 3 levels 2\nno design in 2 runs\nnodes 1\nbook step3-1.book\n") ∷ []; status = 2 }
+    "proc factex;factors A;model r=3;proc factex nodes=1;factors A B;model r=3;proc factex;factors A B C;size design=2;model r=3;")
+    ≡ record {
+      events = Piece (codes "step 1\nfactors 1 levels 2\ndesign 2 runs\nno defining words\nnodes 1\nrules\n  none\n")
+          ∷ Piece (codes "step 2\nfactors 2 levels 2\nbudget ended after 1 nodes\n")
+          ∷ WholeFile (codes "step3-1.book") (codes "factex-book 1\nsize 2 1 3 0\nresolution 3\npattern none\nO 1\nEND\n")
+          ∷ Piece (codes "step 3\nfactors 3 levels 2\nno design in 2 runs\nnodes 1\nbook step3-1.book\n") ∷ [];
+      status = 2;
+    }
 unfolding given
 three_steps = refl
 

@@ -13,3 +13,4 @@ pub mod MadeSteps
 pub mod NameSpellings
 pub mod StepCounts
 pub mod FileNames
+mod PrintedRules

@@ -20,7 +20,7 @@ module _ (P : Dimensions → List ℕ → Type 0) (d : Dimensions) where
       (let same : matrix_of d rows ≡ matrix = cc e in
       subst (λ (m : MatrixView). P (dimensions_of m.shape) m.rows) same own)
 
-  of_ending : (ending : Ending) (matrix : MatrixView) → ((rows : List ℕ) → rows_in ending ≡ Some rows → P d rows)
+  pub of_ending : (ending : Ending) (matrix : MatrixView) → ((rows : List ℕ) → rows_in ending ≡ Some rows → P d rows)
       → matrix_in d ending ≡ Some matrix
       → P (dimensions_of matrix.shape) matrix.rows
   of_ending (Design rows count) matrix each e = of_rows rows matrix (each rows refl) e

@@ -1,2 +1,3 @@
 pub mod BookClaims
 pub mod Endings
+pub mod PrintedRules

@@ -24,6 +24,7 @@ ghost use Rattle.fx_program.specs.declared.words.Settings.TheVariants.{Large, Ru
 ghost use Rattle.fx_program.specs.Commands.{output_for, output_of};
 ghost use Rattle.fx_program.specs.Output.{program_output, step_output};
 ghost use Rattle.fx_program_laws.specs.Endings.{EndsWith};
+ghost use Rattle.fx_program_laws.specs.PrintedRules.{HasRulesThatGiveTheLevels};
 ghost use Rattle.fx_tree.specs.Laws.{IsFirstOfLeastPattern};
 ghost use Rattle.fx_answer.specs.StepClaims.{
   Allows,
@@ -101,6 +102,12 @@ pub fn valid_steps_in_any_text()
 pub fn designs_meet_what_is_asked_in_any_text()
     ensures as_asked { (text : List ℕ) → EachStep HasMatrixAsAsked (program_in text) }
     ensures none_left { (text : List ℕ) → EachStep (OfOutcome LeavesNoneOfLeastSize) (program_in text) }
+{}
+
+/// Whatever a text says: the rules of each matrix that is printed give the level of each factor and block factor at
+/// every run, and those that introduce run indexes have each combination of levels in equally many runs.
+pub fn rules_give_the_levels_in_any_text()
+    ensures { (text : List ℕ) → EachStep HasRulesThatGiveTheLevels (program_in text) }
 {}
 
 /// Whatever a text says: where a step of its program ends without a design, the runs of no rule matrix at
