@@ -1,11 +1,12 @@
 #!/usr/bin/env python3
 """Refuses each growth of memory of the built program in turn: python3 bench/memory.py PROGRAM [OPTION..] [FILE..]
 
-Each of the files, or each text of crates/examples/data where none is named, is run, and each book that it writes is checked,
-as is a file whose name ends in .book, once for each call of malloc or realloc that a whole run makes: that call alone is
-refused, and then that call and all after it. Wanted is status 5, with a listing that is the beginning of the whole one, and
-files that are whole, but one that may be cut off. Options are added to the word run, as --threads=4. Prints one line a
-text, and ends with status 1 where one trial came out otherwise. Needs cc.
+Each of the files, or each text of crates/examples/data where none is named, is run, and each book that it writes is
+checked, as is a file whose name ends in .book; one in .csv is judged at two levels; once for each call of malloc or
+realloc that a whole run makes: that call alone is refused, and then that call and all after it. Wanted is status 5, with
+a listing that is the beginning of the whole one, and files that are whole, but one that may be cut off. Options are added
+to the word run, as --threads=4. Prints one line a text, and ends with status 1 where one trial came out otherwise. Needs
+cc.
 """
 
 import os
@@ -108,7 +109,8 @@ def main():
         for path in paths:
             name = os.path.basename(path)
             with open(path, "rb") as file:
-                jobs = [(name, ["check"] if name.endswith(".book") else ["run"] + options, file.read())]
+                words = {".book": ["check"], ".csv": ["judge", "2"]}.get(os.path.splitext(name)[1], ["run"] + options)
+                jobs = [(name, words, file.read())]
             while jobs:
                 title, words, text = jobs.pop()
                 growths, bad, files = tried(program, shim, words, text)

@@ -1,5 +1,6 @@
 //! Runs the example programs that it is given by name, and prints the listing, the files and the status
-//! of each; of a book it prints what `check` lists. The gate compares what it prints with `stdout`.
+//! of each; of a book it prints what `check` lists, and a plan it judges at two levels. The gate compares
+//! what it prints with `stdout`.
 #![tactic(auto)]
 
 use fx_base::{Bytes, MemorySink, MemorySource, SureShelf};
@@ -30,7 +31,11 @@ fn main(rt: HostRuntime) -> io::Result<()> {
 fn run_examples<R: Env + Files + Print + AllocGlobal + Threads + Sync>(rt: &R) -> io::Result<()> {
     for name in env::args(rt)?.skip(1) {
         let text = fs::read(rt, name.as_str())?;
-        let ended = ran(rt, rt.alloc(), b"run", text)?;
+        let ended = if name.as_str().ends_with(".csv") {
+            ran(rt, rt.alloc(), &[b"judge", b"2"], text)?
+        } else {
+            ran(rt, rt.alloc(), &[b"run"], text)?
+        };
         println!(rt; "== {name}")?;
         rt.print(ended.listing.as_str())?;
         print_files(rt, &ended.shelf)?;
@@ -51,7 +56,7 @@ fn print_files<R: Print + AllocGlobal + Threads + Sync>(
             let checked = ran(
                 rt,
                 rt.alloc(),
-                b"check",
+                &[b"check"],
                 shelf.content(i).to_vec(rt.alloc())?,
             )?;
             rt.print(checked.listing.as_str())?;
@@ -63,14 +68,17 @@ fn print_files<R: Print + AllocGlobal + Threads + Sync>(
     Ok(())
 }
 
-/// What the program under this word comes to for this text.
+/// What the program under these words comes to for this text.
 fn ran<R: Threads + Sync>(
     rt: &R,
     alloc: Global,
-    command: &[u8],
+    command: &[&[u8]],
     text: Vec<u8>,
 ) -> Result<Ended, AllocError> {
-    let words = vec![in alloc; command.to_vec(alloc)?]?;
+    let mut words = Vec::new(alloc);
+    for word in command {
+        words.push(word.to_vec(alloc)?)?;
+    }
     let mut source = MemorySource::new(Bytes::from_vec(text), STEP, Bytes::new(alloc));
     let (Ok(mut listing), Ok(mut shelf)) = (
         MemorySink::new(alloc, STEP, ROOM, Bytes::new(alloc)),

@@ -10,7 +10,7 @@ use Rattle.fx_laws.proofs.Codes.{digits-number, digits-vector, number-below}
 use Rattle.fx_laws.proofs.Ranks.{in_span-holds, in_span-true, number-same}
 use Rattle.fx_laws.proofs.Space.{combination-vector}
 use Rattle.fx_laws.proofs.Tests.{bool_same}
-use Rattle.fx_points.specs.Points.{has}
+use Rattle.fx_points.specs.Points.{PointsView, has}
 use Rattle.fx_vectors.specs.Matrix.{MatrixView}
 use Rattle.fx_runs.proofs.Confounding.{constant_in_span}
 use Rattle.fx_vectors.proofs.Steps.{are_vectors}
@@ -38,7 +38,7 @@ module _ (matrix : MatrixView) (f : IsField matrix.shape.q) (runs : matrix.shape
       (sum-vector (digits q matrix.shape.t place)) in omega (arith, fits, runs)
 
   -- with the next sum
-  pub next_sum : (k : ℕ) (old new : List ℕ) → HasSums matrix old k
+  pub next_sum : (k : ℕ) (old new : PointsView) → HasSums matrix old k
       → ((y : ℕ) → y < 1024 → has new y ≡ ((y == block_sum matrix k) || has old y)) → HasSums matrix new (k + 1)
   next_sum k old new sums is = record {
     only = λ n low has_n. elim (or_cases _ _ (sym (is n low) ∙ has_n)) [
@@ -63,13 +63,13 @@ module _ (matrix : MatrixView) (f : IsField matrix.shape.q) (runs : matrix.shape
       ap (plus q (scale q a r)) (front n u rules (let l : length u ≤ n = omega (arith, few) in l))
 
   -- with all of them
-  module _ (words : List ℕ) (complete : length matrix.rows ≡ matrix.shape.s + matrix.shape.t)
-      (sums : HasSums matrix words (q ^ matrix.shape.t)) where
+  module _ (set : PointsView) (complete : length matrix.rows ≡ matrix.shape.s + matrix.shape.t)
+      (sums : HasSums matrix set (q ^ matrix.shape.t)) where
     count : length blocks ≡ matrix.shape.t
     count = let l = length-map (drop matrix.shape.s matrix.rows) (λ r. digits q m r) in let d =
         length-drop matrix.shape.s matrix.rows in omega (arith, l, d, complete)
 
-    to : (v : List ℕ) → IsVector q m v → has words (number q v) ≡ true → in_span q m blocks v ≡ true
+    to : (v : List ℕ) → IsVector q m v → has set (number q v) ≡ true → in_span q m blocks v ≡ true
     to v vector has_v =
         let low = number-below q m v vector in
         let o = sums.only (number q v) (omega (arith, low, runs)) has_v in
@@ -80,22 +80,22 @@ module _ (matrix : MatrixView) (f : IsField matrix.shape.q) (runs : matrix.shape
           gives = number-same q m f _ v (sum-vector (digits q matrix.shape.t o.0)) vector o.2;
         })
 
-    from : (v : List ℕ) → IsVector q m v → in_span q m blocks v ≡ true → has words (number q v) ≡ true
+    from : (v : List ℕ) → IsVector q m v → in_span q m blocks v ≡ true → has set (number q v) ≡ true
     from v vector spans =
         let s = in_span-true q m f blocks v (are_vectors q m (drop matrix.shape.s matrix.rows) some) vector spans in
         let by : IsVector q matrix.shape.t s.by = subst (λ n. IsVector q n s.by) count s.vector in
         let is : block_sum matrix (number q s.by) ≡ number q v =
         ap (λ u. number q (combination q m u blocks)) (digits-number q matrix.shape.t s.by by) ∙ ap (number q)
         s.gives in
-        subst (λ n. has words n ≡ true) is (sums.each (number q s.by) (number-below q matrix.shape.t s.by by))
+        subst (λ n. has set n ≡ true) is (sums.each (number q s.by) (number-below q matrix.shape.t s.by by))
 
     spanned : (v : List ℕ) → IsVector q m v
-        → has words (number q v) ≡ in_span q m (drop matrix.shape.s (vectors_of q m matrix.rows)) v
+        → has set (number q v) ≡ in_span q m (drop matrix.shape.s (vectors_of q m matrix.rows)) v
     spanned v vector =
-        subst (λ bs. has words (number q v) ≡ in_span q m bs v)
+        subst (λ bs. has set (number q v) ≡ in_span q m bs v)
         (sym (drop-map (λ r. digits q m r) matrix.shape.s matrix.rows)) (bool_same _ _ (to v vector) (from v vector))
 
-    pub all_sums : IsBlockSpan matrix words
+    pub all_sums : IsBlockSpan matrix set
     all_sums = record {
       decides = λ u vector.
           let rules = vectors_of q m matrix.rows in

@@ -9,7 +9,7 @@ use Rattle.fx_designs.specs.Vectors.{IsVector, is_normal, last_nonzero, same, we
 use Rattle.fx_designs.specs.Components.{supports, codes_before, normal_vectors, components}
 use Rattle.fx_laws.proofs.Sums.{sum_by-ext, sum_by-pick, sum_by-same, sum_by-zero, sum_by_flat_map, sum_by_map}
 use Rattle.fx_laws.proofs.Raises.{sum_by-each}
-use Rattle.fx_alias.proofs.Enumerating.{next_weight}
+use Rattle.fx_components.proofs.Enumerating.{next_weight}
 use Rattle.fx_alias.proofs.Lengths.{all_of, any_true, none_true, trues}
 
 abbrev bit : Bool → ℕ

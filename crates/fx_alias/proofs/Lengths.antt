@@ -4,7 +4,6 @@ use Rattle.std.proofs.Common.{◌++◌, length, map, refl, sym, ◌∙◌, ap, a
 use Rattle.std.proofs.Math.Nat.{pow-zero}
 use Rattle.std.specs.List.{flat_map, list_any, range_with_len, sum_by, AllByRecursion}
 use Rattle.std.proofs.lemmas.List.{length-map, append-nil}
-use Rattle.std.proofs.lemmas.List.Sums.{sum_by-cons}
 use Rattle.std.proofs.lemmas.List.Concat.{length-flat_map}
 use Rattle.std.proofs.lemmas.List.FromFn.{length-range_with_len}
 use Rattle.std.proofs.lemmas.Grind.{flat_map-append}
@@ -12,21 +11,13 @@ use Rattle.fx_base.proofs.Lists.{each-append, each-map, each-all}
 use Rattle.fx_base.proofs.Ranges.{range_push}
 use Rattle.fx_designs.specs.Components.{choose, component_count, listed_count, supports, codes_before, normal_vectors}
 use Rattle.fx_designs.specs.Components.{components}
+use Rattle.fx_laws.proofs.Sums.{sum_by_equal}
 
 -- how many factors are in a set
 abbrev pub trues : List Bool → ℕ
 trues [] = 0
 trues (true ∷ b) = suc (trues b)
 trues (false ∷ b) = trues b
-
-sum_same : {X : Type 0} (g : X → ℕ) (n : ℕ) (xs : List X) → AllByRecursion (λ x. g x ≡ n) xs
-    → sum_by g xs ≡ length xs * n
-sum_same g n [] h = omega arith
-sum_same g n (x ∷ xs) h =
-    sum_by-cons g x xs ∙ ap₂ (λ (a b : ℕ). a + b) h.0 (sum_same g n xs h.1) ∙ more (length xs) n
-  where
-    more : (l n : ℕ) → n + l * n ≡ suc l * n
-    more l n = grind arith
 
 pub any_true : (b : List Bool) → list_any (λ x. x) b ≡ true → 0 < trues b
 any_true [] e = absurd (search rules)
@@ -58,7 +49,7 @@ length-normal q [] = sym (pow-zero (q - 1))
 length-normal q (false ∷ b) = length-map (normal_vectors q b) (λ v. 0 ∷ v) ∙ length-normal q b
 length-normal q (true ∷ b) =
     length-flat_map (λ v. map (λ c. c ∷ v) (codes_before q b)) (normal_vectors q b)
-    ∙ sum_same (λ v. length (map (λ c. c ∷ v) (codes_before q b))) (length (codes_before q b)) (normal_vectors q b)
+    ∙ sum_by_equal (λ v. length (map (λ c. c ∷ v) (codes_before q b))) (length (codes_before q b)) (normal_vectors q b)
     (each-all (λ v. length (map (λ c. c ∷ v) (codes_before q b)) ≡ length (codes_before q b)) (normal_vectors q b)
     (λ v. length-map (codes_before q b) (λ c. c ∷ v)))
     ∙ times_codes q b (length (normal_vectors q b)) (length-normal q b) (list_any (λ x. x) b) refl
@@ -100,7 +91,7 @@ lengths_of q k (b ∷ sets) h = (length-normal q b ∙ ap (λ (n : ℕ). (q - 1)
 length-of : (q s k : ℕ) → length (flat_map (normal_vectors q) (supports k s)) ≡ component_count q s k
 length-of q s k =
     length-flat_map (normal_vectors q) (supports k s)
-    ∙ sum_same (λ b. length (normal_vectors q b)) ((q - 1) ^ (k - 1)) (supports k s)
+    ∙ sum_by_equal (λ b. length (normal_vectors q b)) ((q - 1) ^ (k - 1)) (supports k s)
     (lengths_of q k (supports k s) (all_of k s))
     ∙ ap (λ (n : ℕ). n * (q - 1) ^ (k - 1)) (length-supports k s)
 

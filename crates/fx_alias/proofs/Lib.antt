@@ -1,5 +1,4 @@
 mod Examples
-mod Products
 mod BlockSums
 mod Members
 mod Numbered
@@ -9,7 +8,6 @@ mod ClassNumbers
 mod Multiples
 mod Lengths
 mod Walk
-mod Enumerating
 mod Heads
 mod Subjects
 mod Exact

@@ -11,7 +11,7 @@ use Rattle.fx_designs.specs.Components.{supports, codes_before, normal_vectors, 
 use Rattle.fx_alias.specs.ComponentOrder.{is_before, is_first_set, support_of, IsRising}
 use Rattle.fx_base.proofs.Lists.{each-all, each-append}
 use Rattle.fx_base.proofs.Ranges.{each-range}
-use Rattle.fx_alias.proofs.Enumerating.{codes-below, flat, mapped}
+use Rattle.fx_components.proofs.Enumerating.{codes-below, flat, mapped}
 use Rattle.fx_alias.proofs.Lengths.{all_of, trues}
 
 module _ {X : Type 0} (first : X → X → Bool) where

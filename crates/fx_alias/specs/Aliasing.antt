@@ -5,7 +5,7 @@ use Rattle.fx_designs.specs.Components.{components}
 use Rattle.fx_statements.specs.Goals.{Goal}
 use Rattle.fx_statements.specs.Components.{listed_factors}
 use Rattle.fx_alias.specs.Classes.{classes, constants}
-use Rattle.fx_alias.specs.Products.{product}
+use Rattle.fx_components.specs.Products.{product}
 
 -- the components of s factors that the sections of a step list, by what it wants
 abbrev pub listed_components : ℕ → ℕ → Goal → List (List ℕ)

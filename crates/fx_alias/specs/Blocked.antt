@@ -3,8 +3,8 @@ use Rattle.std.specs.Prelude.{ℕ, ◌^◌, ◌&&◌, not, Bool, List, ◌++◌,
 use Rattle.std.specs.List.{flat_map}
 use Rattle.fx_designs.specs.Runs.{is_constant, is_constant_in_blocks}
 use Rattle.fx_runs.specs.Runs.{RunsView}
-use Rattle.fx_alias.specs.Products.{product}
-use Rattle.fx_alias.specs.Rules.{or_none}
+use Rattle.fx_components.specs.Products.{product}
+use Rattle.fx_components.specs.Lines.{or_none}
 
 -- constant inside each block, and not over all runs
 abbrev pub is_blocked : RunsView → List ℕ → Bool

@@ -1,6 +1,6 @@
 -- The head of a step's listing.
-use Rattle.std.specs.Prelude.{ℕ, ◌^◌, ◌==◌, nat_lt, if◌then◌else◌, List, [], ◌++◌, length, Option, Some, None, codes}
-use Rattle.std.specs.Prelude.{decimal}
+use Rattle.std.specs.Prelude.{ℕ, ◌^◌, ◌==◌, nat_lt, Bool, false, if◌then◌else◌, List, [], ◌++◌, length, Option, Some}
+use Rattle.std.specs.Prelude.{None, codes, decimal}
 use Rattle.fx_designs.specs.Problems.{Dimensions}
 use Rattle.fx_designs.specs.Patterns.{pattern_of, resolution_of}
 use Rattle.fx_designs.specs.Outcomes.{Ending, Design, NoDesign, BudgetEnded}
@@ -8,8 +8,11 @@ use Rattle.fx_vectors.specs.Shape.{dimensions_of}
 use Rattle.fx_vectors.specs.Matrix.{MatrixView}
 use Rattle.fx_settings.specs.declared.settings.Size.{Size}
 use Rattle.fx_settings.specs.declared.settings.Size.TheVariants.{Runs, Minimum}
+use Rattle.fx_settings.specs.declared.settings.Blocks.{Blocks}
 use Rattle.fx_settings.specs.Powers.{greatest}
+use Rattle.fx_settings.specs.Valid.{has_blocks}
 use Rattle.fx_statements.specs.Goals.{Goal, AtLeast, Highest, ForEffects}
+use Rattle.fx_statements.specs.Questions.{Conclusion}
 use Rattle.fx_statements.specs.Steps.{Meaning}
 
 -- the number of the step, its factors and their levels
@@ -52,33 +55,52 @@ resolution_line claim a =
 abbrev pub nodes_line : ℕ → List ℕ
 nodes_line count = codes "nodes " ++ (decimal count ++ codes "\n")
 
--- that a resolution is the highest, where that is what is wanted
-abbrev pub highest_claim : Goal → List ℕ
-highest_claim (AtLeast r) = []
-highest_claim Highest = codes " highest"
-highest_claim (ForEffects estimate nonnegligible) = []
+-- that a resolution is the highest, where that is what is wanted; in blocks a line of its own claims it
+abbrev pub highest_claim : Blocks → Goal → List ℕ
+highest_claim blocks (AtLeast r) = []
+highest_claim blocks Highest = if has_blocks blocks then [] else codes " highest"
+highest_claim blocks (ForEffects estimate nonnegligible) = []
 
 -- what is claimed of the resolution of a step's design: that the pattern is the least, or that it is the highest
 abbrev pub resolution_claim : Meaning → List ℕ
-resolution_claim step = if step.settings.least then codes " least aberration" else highest_claim step.goal
+resolution_claim step =
+    if step.settings.least then codes " least aberration" else highest_claim step.settings.blocks step.goal
 
--- a design and its resolution, with a caveat on the one and a claim on the other
-abbrev pub design_lines : List ℕ → List ℕ → Dimensions → List ℕ → List ℕ
-design_lines caveat claim d rows = design_line caveat d ++ resolution_line claim (pattern_of d rows)
+-- whether the highest resolution is wanted in blocks
+abbrev pub seeks_in_blocks : Blocks → Goal → Bool
+seeks_in_blocks blocks (AtLeast r) = false
+seeks_in_blocks blocks Highest = has_blocks blocks
+seeks_in_blocks blocks (ForEffects estimate nonnegligible) = false
+
+-- the resolution that a design meets with its blocks, and what is claimed of it
+abbrev pub clear_to : List ℕ → ℕ → List ℕ
+clear_to claim r = codes "blocks clear to resolution " ++ (decimal r ++ (claim ++ codes "\n"))
+
+-- this line, where the highest resolution is wanted in blocks
+abbrev pub clear_line : Meaning → List ℕ → ℕ → List ℕ
+clear_line step claim r = if seeks_in_blocks step.settings.blocks step.goal then clear_to claim r else []
+
+-- a design, its resolution, with a caveat on the one and a claim on the other, and what its blocks are clear to
+abbrev pub design_lines : List ℕ → List ℕ → List ℕ → Dimensions → List ℕ → List ℕ
+design_lines caveat claim clear d rows = design_line caveat d ++ (resolution_line claim (pattern_of d rows) ++ clear)
 
 -- those lines for a matrix, where there is one
-abbrev pub matrix_lines : List ℕ → List ℕ → Option MatrixView → List ℕ
-matrix_lines caveat claim None = []
-matrix_lines caveat claim (Some matrix) = design_lines caveat claim (dimensions_of matrix.shape) matrix.rows
+abbrev pub matrix_lines : List ℕ → List ℕ → List ℕ → Option MatrixView → List ℕ
+matrix_lines caveat claim clear None = []
+matrix_lines caveat claim clear (Some matrix) =
+    design_lines caveat claim clear (dimensions_of matrix.shape) matrix.rows
 
 -- how the search of the step ended, with its design, if any; and the number of nodes of a finished search
-abbrev pub outcome_lines : Meaning → Dimensions → Ending → List ℕ
-outcome_lines step d (Design rows count) = design_lines [] (resolution_claim step) d rows ++ nodes_line count
-outcome_lines step d (NoDesign count) = no_design_line step.settings.size d ++ nodes_line count
-outcome_lines step d (BudgetEnded None budget) = budget_line budget
-outcome_lines step d (BudgetEnded (Some rows) budget) =
-    budget_line budget ++ design_lines (codes " not proved best") [] d rows
+abbrev pub outcome_lines : Meaning → Dimensions → ℕ → Ending → List ℕ
+outcome_lines step d reached (Design rows count) =
+    design_lines [] (resolution_claim step) (clear_line step (codes " highest") reached) d rows ++ nodes_line count
+outcome_lines step d reached (NoDesign count) = no_design_line step.settings.size d ++ nodes_line count
+outcome_lines step d reached (BudgetEnded None budget) = budget_line budget
+outcome_lines step d reached (BudgetEnded (Some rows) budget) =
+    budget_line budget ++ design_lines (codes " not proved best") [] (clear_line step [] reached) d rows
 
 -- the head of the step of this number
-abbrev pub head_lines : ℕ → Meaning → Dimensions → Ending → List ℕ
-head_lines number step d ending = heading number (length step.factors) d.q ++ outcome_lines step d ending
+abbrev pub head_lines : ℕ → Meaning → Conclusion → List ℕ
+head_lines number step outcome =
+    heading number (length step.factors) outcome.dimensions.q
+    ++ outcome_lines step outcome.dimensions outcome.reached outcome.ending

@@ -1,5 +1,4 @@
 pub mod Heads
-pub mod Products
 pub mod Rules
 pub mod Classes
 pub mod ComponentOrder

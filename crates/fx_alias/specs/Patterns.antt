@@ -1,6 +1,6 @@
 -- The section of a word-length pattern.
 use Rattle.std.specs.Prelude.{ℕ, ◌==◌, ◌+◌, if◌then◌else◌, List, [], ◌∷◌, ◌++◌, codes, decimal}
-use Rattle.fx_alias.specs.Rules.{or_none}
+use Rattle.fx_components.specs.Lines.{or_none}
 
 -- how many words of weight k there are
 abbrev pub words_line : ℕ → ℕ → List ℕ

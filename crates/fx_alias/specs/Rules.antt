@@ -7,7 +7,8 @@ use Rattle.fx_designs.specs.Vectors.{IsVector, dot, vectors_of}
 use Rattle.fx_designs.specs.Runs.{levels_at}
 use Rattle.fx_designs.specs.Problems.{Dimensions}
 use Rattle.fx_tree.specs.Introduced.{introduced, introducing}
-use Rattle.fx_alias.specs.Products.{product}
+use Rattle.fx_components.specs.Lines.{or_none}
+use Rattle.fx_components.specs.Products.{product}
 
 -- whose rule a row is: that of the factor or of the block factor of this name
 pub record Subject : Type 0 where
@@ -64,11 +65,6 @@ rule_lines q m introduced (subject ∷ later) (row ∷ rows) =
     (if row == q ^ length introduced
     then introduction subject (length introduced + 1) ++ rule_lines q m (introduced ++ subject.name ∷ []) later rows
     else rule_of introduced subject.name (digits q m row) ++ rule_lines q m introduced later rows)
-
--- the lines, or a line that says that there are none
-abbrev pub or_none : List ℕ → List ℕ
-or_none [] = codes "  none\n"
-or_none (b ∷ lines) = b ∷ lines
 
 -- the section of the rules of a design of these dimensions, by the names of its factors and its rows
 abbrev pub rules_section : Dimensions → List (List ℕ) → List ℕ → List ℕ

@@ -6,6 +6,7 @@ use Rattle.fx_designs.specs.Outcomes.{Ending, Design, NoDesign, BudgetEnded}
 use Rattle.fx_vectors.specs.Shape.{dimensions_of}
 use Rattle.fx_vectors.specs.Matrix.{MatrixView}
 use Rattle.fx_runs.specs.Runs.{design_of}
+use Rattle.fx_statements.specs.Questions.{Conclusion}
 use Rattle.fx_statements.specs.Steps.{Meaning}
 use Rattle.fx_alias.specs.Aliasing.{alias_section, listed_components}
 use Rattle.fx_alias.specs.Blocked.{blocked_section}
@@ -42,6 +43,7 @@ sections d step books (NoDesign count) = books
 sections d step books (BudgetEnded None budget) = books
 sections d step books (BudgetEnded (Some rows) budget) = matrix_sections d step books rows
 
--- all lines of the step of this number, in these dimensions, with the lines of its books
-unfoldable pub step_lines : ℕ → Dimensions → Meaning → List ℕ → Ending → List ℕ
-step_lines number d step books ending = head_lines number step d ending ++ sections d step books ending
+-- all lines of the step of this number, with the lines of its books, by its outcome
+unfoldable pub step_lines : ℕ → Meaning → List ℕ → Conclusion → List ℕ
+step_lines number step books outcome =
+    head_lines number step outcome ++ sections outcome.dimensions step books outcome.ending

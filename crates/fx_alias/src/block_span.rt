@@ -13,7 +13,7 @@ pub(crate) fn block_span(matrix: &Matrix) -> PointSet
     ensures { IsBlockSpan matrix.now result }
 {
     let shape = matrix.shape();
-    let mut span = PointSet::empty();
+    let mut span = PointSet::empty(shape.field(), shape.m);
     for place in 0..u16::from(shape.q).pow(u32::from(shape.t)) {
         span.insert(block_sum(matrix, place));
     }

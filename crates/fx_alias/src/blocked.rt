@@ -7,14 +7,14 @@ ghost use Rattle.fx_statements.specs.Goals.{goal_of};
 ghost use Rattle.fx_alias.specs.Aliasing.{listed_components};
 ghost use Rattle.fx_alias.specs.BlockSpans.{IsBlockSpan};
 ghost use Rattle.fx_alias.specs.Blocked.{blocked_section, component_line, is_blocked};
-ghost use Rattle.fx_alias.specs.Rules.{or_none};
+ghost use Rattle.fx_components.specs.Lines.{or_none};
 
 use crate::block_span::block_span;
 use crate::class::{class_number, sum_of_rules};
 use crate::lines::lent;
 use crate::listed::listed_components;
-use crate::product::put_product;
 use fx_base::{Bytes, Items, NoMemory, put};
+use fx_components::put_product;
 use fx_points::PointSet;
 use fx_statements::Step;
 use fx_vectors::{Matrix, Vector};

@@ -5,12 +5,13 @@ ghost use Rattle.fx_designs.specs.Patterns.{pattern_of};
 ghost use Rattle.fx_vectors.specs.Shape.{IsShape, dimensions_of};
 ghost use Rattle.fx_statements.specs.Goals.{goal_of};
 ghost use Rattle.fx_statements.specs.Outcomes.{ending_in};
+ghost use Rattle.fx_statements.specs.Questions.{conclusion_in};
 ghost use Rattle.fx_statements.specs.Steps.{meaning_of};
-ghost use Rattle.fx_alias.specs.Heads.{blocks_words, budget_line, resolution_claim, design_line, head_lines, heading, highest_claim, matrix_lines, no_design_line, nodes_line, outcome_lines, resolution_line, runs_words};
+ghost use Rattle.fx_alias.specs.Heads.{blocks_words, budget_line, clear_line, clear_to, design_line, head_lines, heading, highest_claim, matrix_lines, no_design_line, nodes_line, outcome_lines, resolution_claim, resolution_line, runs_words, seeks_in_blocks};
 
 use fx_base::{Bytes, NoMemory, put, put_number};
 use fx_settings::greatest;
-use fx_statements::{End, Outcome, Size, Step, Wanted};
+use fx_statements::{Blocks, End, Outcome, Size, Step, Wanted};
 use fx_vectors::{Matrix, Shape};
 use fx_words::{pattern_of, resolution};
 use std::alloc::Global;
@@ -33,8 +34,7 @@ pub fn head_listing(
     ensures ok { OnOk result
         (out.new
         ≡ out.old
-        ++ head_lines number (meaning_of step.now) (dimensions_of outcome.now.shape)
-        (ending_in outcome.now)) }
+        ++ head_lines number (meaning_of step.now) (conclusion_in outcome.now)) }
     ensures err { OnErr result (out.new ≡ out.old) }
 {
     let mut lines = Bytes::new(alloc);
@@ -53,8 +53,7 @@ fn put_head(
     ensures { OnOk result
         (out.new
         ≡ out.old
-        ++ head_lines number (meaning_of step.now) (dimensions_of outcome.now.shape)
-        (ending_in outcome.now)) }
+        ++ head_lines number (meaning_of step.now) (conclusion_in outcome.now)) }
 {
     put_heading(out, number, step.factors.len(), outcome.shape.q)?;
     put_outcome(alloc, out, step, outcome)
@@ -84,12 +83,12 @@ fn put_outcome(
     ensures { OnOk result
         (out.new
         ≡ out.old
-        ++ outcome_lines (meaning_of step.now) (dimensions_of outcome.now.shape)
+        ++ outcome_lines (meaning_of step.now) (dimensions_of outcome.now.shape) outcome.now.reached
         (ending_in outcome.now)) }
 {
     match outcome.end {
         End::Design => {
-            put_matrix(alloc, out, b"", claim_of(step), &outcome.matrix)?;
+            put_matrix(alloc, out, step, outcome, b"", claim_of(step), b" highest")?;
             put_nodes(out, outcome.nodes)
         }
         End::NoDesign => {
@@ -98,7 +97,7 @@ fn put_outcome(
         }
         End::Budget => {
             put_budget(out, outcome.nodes)?;
-            put_matrix(alloc, out, b" not proved best", b"", &outcome.matrix)
+            put_matrix(alloc, out, step, outcome, b" not proved best", b"", b"")
         }
     }
 }
@@ -181,22 +180,60 @@ fn put_budget(out: &mut Bytes, budget: u64) -> Result<(), NoMemory>
     put(out, b" nodes\n")
 }
 
-/// Appends a design and its resolution, where there is one, with a caveat on the one and a claim on
-/// the other.
+/// Appends the design of an outcome, if it has one: its line with a caveat, that of its resolution
+/// with a claim, and, where the highest resolution is wanted in blocks, that of its blocks with another.
 fn put_matrix(
     alloc: Global,
     out: &mut Bytes,
+    step: &Step,
+    outcome: &Outcome,
     caveat: &[u8],
     claim: &[u8],
-    matrix: &Option<Matrix>,
+    clear: &[u8],
 ) -> Result<(), NoMemory>
-    ensures { OnOk result (out.new ≡ out.old ++ matrix_lines caveat.now claim.now matrix.now) }
+    ensures { OnOk result
+        (out.new
+        ≡ out.old
+        ++ matrix_lines caveat.now claim.now
+        (clear_line (meaning_of step.now) clear.now outcome.now.reached) outcome.now.matrix) }
 {
-    let Some(matrix) = matrix else {
+    let Some(matrix) = &outcome.matrix else {
         return Ok(());
     };
     put_design(out, caveat, matrix.shape())?;
-    put_resolution(alloc, out, claim, matrix)
+    put_resolution(alloc, out, claim, matrix)?;
+    put_clear(out, step, clear, outcome.reached)
+}
+
+/// Appends the resolution that a design meets with its blocks, and what is claimed of it, where the
+/// highest is wanted in blocks.
+fn put_clear(out: &mut Bytes, step: &Step, claim: &[u8], r: u8) -> Result<(), NoMemory>
+    ensures { OnOk result (out.new ≡ out.old ++ clear_line (meaning_of step.now) claim.now r) }
+{
+    if seeks_in_blocks(&step.wanted, step.blocks) {
+        return put_clear_to(out, claim, r);
+    }
+    Ok(())
+}
+
+/// Appends that the blocks are clear to this resolution, and what is claimed of it.
+fn put_clear_to(out: &mut Bytes, claim: &[u8], r: u8) -> Result<(), NoMemory>
+    ensures { OnOk result (out.new ≡ out.old ++ clear_to claim.now r) }
+{
+    put(out, b"blocks clear to resolution ")?;
+    put_number(out, u128::from(r))?;
+    put(out, claim)?;
+    put(out, b"\n")
+}
+
+/// Whether the highest resolution is wanted in blocks.
+fn seeks_in_blocks(wanted: &Wanted, blocks: Blocks) -> bool
+    ensures { result ≡ seeks_in_blocks blocks (goal_of wanted.now) }
+{
+    match wanted {
+        Wanted::Highest => blocks.are_some(),
+        Wanted::Resolution { .. } | Wanted::Effects { .. } => false,
+    }
 }
 
 /// What is claimed of the resolution of a design of the step: that no pattern is less, or that no
@@ -207,16 +244,16 @@ fn claim_of(step: &Step) -> &'static [u8]
     if step.least {
         b" least aberration"
     } else {
-        highest_claim(&step.wanted)
+        highest_claim(&step.wanted, step.blocks)
     }
 }
 
-/// That no resolution is higher, where the highest is wanted.
-fn highest_claim(wanted: &Wanted) -> &'static [u8]
-    ensures { result.now ≡ highest_claim (goal_of wanted.now) }
+/// That no resolution is higher, where the highest is wanted; in blocks it is claimed elsewhere.
+fn highest_claim(wanted: &Wanted, blocks: Blocks) -> &'static [u8]
+    ensures { result.now ≡ highest_claim blocks (goal_of wanted.now) }
 {
     match wanted {
-        Wanted::Highest => b" highest",
+        Wanted::Highest => { if blocks.are_some() { b"" } else { b" highest" } }
         Wanted::Resolution { .. } | Wanted::Effects { .. } => b"",
     }
 }
@@ -235,7 +272,7 @@ fn put_resolution(
         (pattern_of (dimensions_of matrix.now.shape) matrix.now.rows)) }
 {
     let pattern = pattern_of(alloc, matrix)?;
-    // A design has at most 40 factors.
+    // A design has at most `MOST_FACTORS` factors.
     let _shape = matrix.shape();
     let r = resolution(&pattern);
     if usize::from(r) > pattern.len() {

@@ -5,14 +5,12 @@ mod aliasing;
 mod block_span;
 mod blocked;
 mod class;
-mod components;
 mod design;
 mod head;
 mod laws;
 mod lines;
 mod listed;
 mod pattern;
-mod product;
 mod rules;
 mod sections;
 

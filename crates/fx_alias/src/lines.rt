@@ -1,10 +1,10 @@
 ghost use Rattle.std.specs.Prelude.{◌≡◌, ◌<◌, ◌≤◌, [], ◌++◌, All, OnOk, IfOk, true, if◌then◌else◌, length, map, codes};
 ghost use Rattle.fx_alias.specs.ClassNumbers.{at_places};
-ghost use Rattle.fx_alias.specs.Products.{product};
+ghost use Rattle.fx_components.specs.Products.{product};
 ghost use Rattle.fx_alias.specs.Aliasing.{class_line, equated_products, mean_line};
 
-use crate::product::put_product;
 use fx_base::{Bytes, Items, NoMemory, put};
+use fx_components::put_product;
 use fx_text::Names;
 use fx_vectors::Vector;
 use std::alloc::Global;

@@ -4,8 +4,8 @@ ghost use Rattle.fx_vectors.specs.Shape.{IsShape};
 ghost use Rattle.fx_statements.specs.Goals.{goal_of};
 ghost use Rattle.fx_alias.specs.Aliasing.{listed_components};
 
-use crate::components::list_components;
 use fx_base::{Items, NoMemory};
+use fx_components::list_components;
 use fx_statements::{Wanted, listed_factors};
 use fx_vectors::{Shape, Vector};
 use std::alloc::Global;

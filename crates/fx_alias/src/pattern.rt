@@ -2,7 +2,7 @@ ghost use Rattle.std.specs.Prelude.{◌≡◌, ◌++◌, ◌==◌, ℕ, List, if
 ghost use Rattle.fx_designs.specs.Patterns.{pattern_of};
 ghost use Rattle.fx_vectors.specs.Shape.{dimensions_of};
 ghost use Rattle.fx_alias.specs.Patterns.{pattern_lines, words_line, words_lines};
-ghost use Rattle.fx_alias.specs.Rules.{or_none};
+ghost use Rattle.fx_components.specs.Lines.{or_none};
 
 use fx_base::{Bytes, NoMemory, put, put_number};
 use fx_vectors::{Matrix, Pattern};

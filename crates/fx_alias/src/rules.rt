@@ -1,10 +1,11 @@
 ghost use Rattle.std.specs.Prelude.{◌≡◌, ◌++◌, [], ◌==◌, ◌+◌, ◌<◌, ◌≤◌, ◌^◌, map, length, slice_index_or, OnErr, OnOk, IfOk};
 ghost use Rattle.fx_designs.specs.Galois.{digits};
 ghost use Rattle.fx_vectors.specs.Shape.{IsShape, dimensions_of};
-ghost use Rattle.fx_alias.specs.Rules.{block_name, block_names, introduction, left_side, or_none, rule_lines, rule_of, rules_section, run_factor_line, subjects};
+ghost use Rattle.fx_components.specs.Lines.{or_none};
+ghost use Rattle.fx_alias.specs.Rules.{block_name, block_names, introduction, left_side, rule_lines, rule_of, rules_section, run_factor_line, subjects};
 
-use crate::product::put_product;
 use fx_base::{Bytes, NoMemory, put, put_number};
+use fx_components::put_product;
 use fx_statements::Step;
 use fx_text::Names;
 use fx_vectors::{Matrix, Shape, Vector};

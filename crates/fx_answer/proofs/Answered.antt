@@ -15,10 +15,11 @@ use Rattle.fx_vectors.specs.declared.shape.Shape.{Shape}
 use Rattle.fx_vectors.specs.declared.question.Question.{Question}
 use Rattle.fx_vectors.specs.Shape.{dimensions_of}
 use Rattle.fx_vectors.specs.Matrix.{MatrixView}
-use Rattle.fx_vectors.specs.Question.{problem_of}
-use Rattle.fx_search.specs.Standing.{rows_of, HasDimensions}
+use Rattle.fx_vectors.specs.Question.{problem_of, requirement_of}
+use Rattle.fx_search.specs.Standing.{best_rows, HasDimensions}
+use Rattle.fx_search.proofs.Whole.{shape-same}
 use Rattle.fx_statements.specs.Steps.{Meaning}
-use Rattle.fx_statements.specs.Questions.{Found, found_by, last_found}
+use Rattle.fx_statements.specs.Questions.{Found, found_by, last_found, reached_by, resolution_wanted}
 use Rattle.fx_answer.specs.Standing.{IsOf, IsShapeOf, IsWhole, StandsFor}
 use Rattle.fx_answer.proofs.Asking.{found_more}
 
@@ -51,9 +52,6 @@ unfolding carried best_before
 carried-whole p budget rows is =
     left-whole p p.least refl (is_of_earlier_lot p.dimensions (slice_index_or (nodes p) budget [])) rows is
 
-shape-same : (a b : Shape) → dimensions_of a ≡ dimensions_of b → a ≡ b
-shape-same a b e = ap (λ d. record { q = d.q; m = d.m; s = d.s; t = d.t }) e
-
 -- the matrix of a question's answer
 module _ (question : Question) (matrix : MatrixView) (is : answer (problem_of question) ≡ Some matrix.rows)
     (sized : matrix.shape ≡ question.shape) where
@@ -71,6 +69,14 @@ module _ (question : Question) (matrix : MatrixView) (is : answer (problem_of qu
       subst (StandsFor (Some matrix)) (sym (found_more None earlier p ∙ ap (found_by (last_found None earlier) p) own))
       (refl, ap dimensions_of sized ∙ ap (λ (p : Problem). p.dimensions) same)
 
+  -- and its resolution is reached
+  pub found-reached : (p : Problem) → problem_of question ≡ p → (earlier : List Problem)
+      → resolution_wanted (requirement_of question.demands) ≡ reached_by (last_found None (earlier ++ p ∷ []))
+  found-reached p same earlier =
+      let own : answer p ≡ Some matrix.rows = ap answer (sym same) ∙ is in
+      ap (λ (p : Problem). resolution_wanted p.requirement) same
+      ∙ sym (ap reached_by (found_more None earlier p ∙ ap (found_by (last_found None earlier) p) own))
+
 -- a question without answer adds nothing
 pub nothing-stands : (p : Problem) (found : Option MatrixView) (earlier : List Problem) → answer p ≡ None
     → StandsFor found (last_found None earlier)
@@ -78,9 +84,14 @@ pub nothing-stands : (p : Problem) (found : Option MatrixView) (earlier : List P
 nothing-stands p found earlier is stands =
     subst (StandsFor found) (sym (found_more None earlier p ∙ ap (found_by (last_found None earlier) p) is)) stands
 
+pub nothing-reached : (p : Problem) (earlier : List Problem) → answer p ≡ None
+    → reached_by (last_found None earlier) ≡ reached_by (last_found None (earlier ++ p ∷ []))
+nothing-reached p earlier is =
+    sym (ap reached_by (found_more None earlier p ∙ ap (found_by (last_found None earlier) p) is))
+
 -- what is left where the budget ended in a question
 module _ (question : Question) (budget : ℕ) where
-  pub left-is-whole : (best found : Option MatrixView) → rows_of best ≡ carried (problem_of question) budget
+  pub left-is-whole : (best found : Option MatrixView) → best_rows best ≡ carried (problem_of question) budget
       → HasDimensions (dimensions_of question.shape) best → IsWhole found
       → IsWhole (option_or best found)
   left-is-whole None found is sized whole = whole
@@ -95,7 +106,7 @@ module _ (question : Question) (budget : ℕ) where
       subst (IsShapeOf step) (sym (shape-same matrix.shape question.shape sized)) shape
 
   pub left-stands : (best found : Option MatrixView) (before : Option Found) (p : Problem)
-      → rows_of best ≡ carried (problem_of question) budget → HasDimensions (dimensions_of question.shape) best
+      → best_rows best ≡ carried (problem_of question) budget → HasDimensions (dimensions_of question.shape) best
       → problem_of question ≡ p → StandsFor found before
       → StandsFor (option_or best found) (found_by before p (carried p budget))
   left-stands None found before p is sized same stands =

@@ -3,7 +3,7 @@
 use Rattle.std.proofs.Common.{ℕ, suc, ◌≡◌, ◌<◌, ◌≤◌, ◌+◌, ◌-◌, ◌||◌, ◌&&◌, Bool, true, false, List, length, Option}
 use Rattle.std.proofs.Common.{Some, None, refl, sym, ap, ◌∙◌, subst, arith, inl, inr, ◌⊎◌, eqb-true}
 use Rattle.std.specs.Prelude.{not, max, if◌then◌else◌, is_some, slice_get}
-use Rattle.std.proofs.lemmas.Bool.{leb-true, cases_Bool, cases_lt, and_parts, both_ways, eqb-true, or_parts, or_right}
+use Rattle.std.proofs.lemmas.Bool.{leb-true, cases_Bool, cases_lt, and_parts, both_ways, eqb-true, or_parts}
 use Rattle.fx_designs.specs.Galois.{IsField}
 use Rattle.fx_designs.specs.Problems.{Dimensions, Problem, Requirement, AtResolution}
 use Rattle.fx_designs.specs.Demands.{is_met}
@@ -13,10 +13,12 @@ use Rattle.fx_designs.specs.Outcomes.{Design, NoDesign}
 use Rattle.fx_designs.specs.Matrices.{NoneMeets}
 use Rattle.fx_laws.proofs.Tables.{is_order-field}
 use Rattle.fx_reduction.specs.Reduction.{IsReducible}
+use Rattle.fx_reduction.specs.BlockedResolutions.{IsHighestInBlocks, top_resolution}
 use Rattle.fx_reduction.specs.Resolutions.{HasLeastPattern, HighestOfAll}
 use Rattle.fx_reduction.specs.Strengths.{with_block}
 use Rattle.fx_reduction.specs.MostBlocks.{with_blocks}
 use Rattle.fx_reduction.proofs.BlockCounts.{most-blocks, none-with_more}
+use Rattle.fx_reduction.proofs.BlockedResolutions.{none-higher}
 use Rattle.fx_reduction.proofs.Effects.{meet_less}
 use Rattle.fx_reduction.proofs.LeastPattern.{least-of_all, no_answer, answer-design}
 use Rattle.fx_reduction.proofs.NoDesign.{none-exactly}
@@ -34,15 +36,15 @@ use Rattle.fx_statements.specs.Steps.{Meaning}
 use Rattle.fx_statements.specs.Questions as asked
 use Rattle.fx_statements.specs.Questions.{Answered, Unanswered, Conclusion, Until, block_factors, conclusion_of}
 use Rattle.fx_statements.specs.Questions.{least_exponent, lowest, outcome_of, question_for, questions_of, is_last}
-use Rattle.fx_statements.specs.Questions.{requirement_for, run_factors, seeks_highest, series, until}
+use Rattle.fx_statements.specs.Questions.{requirement_for, resolution_wanted, run_factors, seeks_highest, series, until}
 use Rattle.fx_statements.proofs.Concluded.{HasEnding, IsOfFirst, IsOfLast, of-first, of-last, none-of_all}
 use Rattle.fx_statements.proofs.Concluded.{none-of_first, IsQuestionOf, asked_at, each-of_step}
 use Rattle.fx_answer.specs.StepClaims.{Allows, ClaimsHold, HasHighestOfAll, HasLeastOfAll, HasLeastSize, HasMostBlocks}
-use Rattle.fx_answer.specs.StepClaims.{HasNoneAtAll, HasWhatItAsks, IsAsItAsks, LeavesNoneOfLeastSize, OfOutcome}
-use Rattle.fx_answer.specs.StepClaims.{required}
+use Rattle.fx_answer.specs.StepClaims.{HasHighestInBlocks, HasNoneAtAll, HasWhatItAsks, IsAsItAsks, OfOutcome}
+use Rattle.fx_answer.specs.StepClaims.{LeavesNoneOfLeastSize, MeetsWhatItReached, required}
 use Rattle.fx_answer.specs.ValidSteps.{IsValidStep}
-use Rattle.fx_answer.proofs.StepSettings.{most_or, not_both, same_blocks, runs_again, blocks_again, highest_or}
-use Rattle.fx_answer.proofs.StepSettings.{kind_of_highest, reducible_by, exponent_fits, size_or, unblocked}
+use Rattle.fx_answer.proofs.StepSettings.{most_or, not_both, not_most, same_blocks, runs_again, blocks_again}
+use Rattle.fx_answer.proofs.StepSettings.{highest_or, kind_of_highest, reducible_by, exponent_fits, size_or, unblocked}
 use Rattle.fx_answer.proofs.StepSettings.{same_dimensions}
 use Rattle.fx_answer.proofs.FullBlocks.{fewer_than_indexes, goal-estimated}
 use Rattle.fx_answer.proofs.NextResolution.{exact_resolution, full_resolution}
@@ -83,17 +85,10 @@ module _ (step : Meaning) (valid : IsValidStep step) where
   together : stand_together step.settings.size step.settings.criterion step.settings.least step.settings.blocks ≡ true
   together = (and_parts _ _ valid.settings).1
 
-  -- neither least aberration nor the highest resolution in blocks
-  no_blocks : (step.settings.least || is_highest step.settings.criterion) ≡ true
-      → has_blocks step.settings.blocks ≡ false
-  no_blocks h =
-      not_both' (has_blocks step.settings.blocks) (step.settings.least || is_highest step.settings.criterion)
-      (and_parts _ _ (and_parts _ _ together).0).1 h
-    where
-      not_both' : (a b : Bool) → not (a && b) ≡ true → b ≡ true → a ≡ false
-      not_both' true true e h = absurd (cc e)
-      not_both' true false e h = absurd (cc h)
-      not_both' false b e h = refl
+  -- no least aberration in blocks
+  plain_in_blocks : has_blocks step.settings.blocks ≡ true → step.settings.least ≡ false
+  plain_in_blocks h =
+      (or_parts _ _ (not_both (has_blocks step.settings.blocks) _ (and_parts _ _ (and_parts _ _ together).0).1 h)).0
 
   -- the least size with neither, and not with the most blocks
   with_least_size : step.settings.size ≡ Minimum
@@ -105,14 +100,14 @@ module _ (step : Meaning) (valid : IsValidStep step) where
       let second = or_parts _ _ first.0 in
       (second.0, second.1, first.1)
 
-  -- where the highest resolution is wanted there are no blocks, and the size is fixed
+  -- where the highest resolution is wanted, the most blocks are not, and the size is fixed
   highest_kind : step.goal ≡ Highest → is_highest step.settings.criterion ≡ true
   highest_kind e = kind_of_highest step.settings.criterion step.goal valid.goal e
 
-  highest_unblocked : step.goal ≡ Highest → step.settings.blocks ≡ blocks.Without
-  highest_unblocked e =
-      unblocked step.settings.blocks
-      (no_blocks (or_right step.settings.least (is_highest step.settings.criterion) (highest_kind e)))
+  highest_not_most : step.goal ≡ Highest → has_most step.settings.blocks ≡ false
+  highest_not_most e =
+      not_most step.settings.blocks (is_highest step.settings.criterion) step.settings.least
+      (and_parts _ _ (and_parts _ _ together).0).1 (highest_kind e)
 
   highest_fixed : step.goal ≡ Highest → step.settings.size ≡ Minimum → ⊥
   highest_fixed e least = both_ways _ (with_least_size least).0 (highest_kind e)
@@ -121,7 +116,7 @@ module _ (step : Meaning) (valid : IsValidStep step) where
   most_fixed e least = both_ways _ (with_least_size least).2 (ap has_most e)
 
   most_not_highest : step.settings.blocks ≡ blocks.Most → step.goal ≡ Highest → ⊥
-  most_not_highest e h = (let bad : blocks.Most ≡ blocks.Without = sym e ∙ highest_unblocked h in absurd (cc bad))
+  most_not_highest e h = both_ways _ (highest_not_most h) (ap has_most e)
 
   -- what a question requires
   requires_same : (n : ℕ) → (step.goal ≡ Highest → ⊥) → (question n).requirement ≡ required step.goal
@@ -237,13 +232,13 @@ module _ (step : Meaning) (valid : IsValidStep step) where
 
     -- where the highest resolution is, they are for 3 and up
     low_highest : step.goal ≡ Highest → low ≡ 3
-    low_highest e = ap (λ b. if has_most b then 1 else 3) (highest_unblocked e)
+    low_highest e = ap (λ b. if b then 1 else 3) (highest_not_most e)
 
     high_highest : step.goal ≡ Highest → step.settings.least ≡ false → high ≡ max 3 (length step.factors + 1)
     high_highest e plain =
-        ap (λ b. if has_most b
+        ap (λ b. if b
         then m else (if seeks_highest step.settings.least step.goal then max 3 (length step.factors + 1) else 3))
-        (highest_unblocked e)
+        (highest_not_most e)
         ∙ ap (λ least. if seeks_highest least step.goal then max 3 (length step.factors + 1) else 3) plain
         ∙ ap (λ goal. if seeks_highest false goal then max 3 (length step.factors + 1) else 3) e
 
@@ -409,13 +404,15 @@ module _ (step : Meaning) (valid : IsValidStep step) where
       → (question (n + 1)).dimensions ≡ (question n).dimensions
   next_highest m fixed e n =
       let runs = λ (n : ℕ). ap (λ size. run_factors size n) fixed in
-      let none = λ (n : ℕ). ap (λ b. block_factors b (run_factors step.settings.size n) n) (highest_unblocked e) in
-      same_dimensions (question (n + 1)).dimensions (question n).dimensions refl (runs (n + 1) ∙ sym (runs n)) refl
-      (none (n + 1) ∙ sym (none n))
+      let same : run_factors step.settings.size (n + 1) ≡ run_factors step.settings.size n =
+      runs (n + 1) ∙ sym (runs n) in
+      same_dimensions (question (n + 1)).dimensions (question n).dimensions refl same refl
+      (ap (λ m. block_factors step.settings.blocks m (n + 1)) same
+      ∙ same_blocks step.settings.blocks (run_factors step.settings.size n) (n + 1) n (highest_not_most e))
 
   -- where the question for the next resolution has no answer, or there is no word
   pub highest_of_all : OfOutcome HasHighestOfAll step
-  highest_of_all rows count e ends = elim (size_or step.settings.size) [
+  highest_of_all rows count e without ends = elim (size_or step.settings.size) [
     | inl least ↦ absurd (highest_fixed e least)
     | inr fixed ↦
         let m = fixed.0 in
@@ -425,7 +422,7 @@ module _ (step : Meaning) (valid : IsValidStep step) where
         ap (λ (c : Conclusion). c.dimensions) (is_fixed m fixed.1) ∙ last.answers.dimensions in
         let own = answered n rows last.answers.answer_is in
         let plain_blocks : (question n).dimensions.t ≡ 0 =
-        ap (λ b. block_factors b (run_factors step.settings.size n) n) (highest_unblocked e) in
+        ap (λ b. block_factors b (run_factors step.settings.size n) n) (unblocked step.settings.blocks without) in
         subst (λ d. HighestOfAll d rows) (sym dims) (elim (cases_Bool step.settings.least) [
           | inl least ↦
               let wanted : required step.goal ≡ AtResolution 3 = ap required e in
@@ -446,6 +443,69 @@ module _ (step : Meaning) (valid : IsValidStep step) where
                     (omega (arith, from)) unmet))
               ])
         ])
+  ]
+
+  -- the resolution of the question that was answered is reached
+  reached_is : (m : ℕ) (fixed : step.settings.size ≡ Runs m) → step.goal ≡ Highest → step.settings.least ≡ false
+      → (rows : List ℕ) (last : IsOfLast question (low m fixed) (high m fixed) step.settings.budget rows)
+      → (outcome_of step).reached ≡ last.n
+  reached_is m fixed e plain rows last =
+      ap (λ (c : Conclusion). c.reached) (is_fixed m fixed) ∙ last.answers.reached
+      ∙ ap resolution_wanted (requires_resolution last.n plain e)
+
+  pub meets_reached : OfOutcome MeetsWhatItReached step
+  meets_reached rows e some ends =
+      let each = each-of_step step in
+      let plain = plain_in_blocks some in
+      let own = left-of (IsQuestionOf step) (questions_of step) step.settings.budget rows each.0 each.1 ends in
+      let n : ℕ = own.holds.n in
+      let is : own.question ≡ question n = own.holds.is in
+      let asks : (question n).requirement ≡ AtResolution n = requires_resolution n plain e in
+      let reached : (outcome_of step).reached ≡ n =
+      own.reached (λ p one. ap (λ (p : Problem). p.least) one.is ∙ plain)
+      ∙ ap resolution_wanted (ap (λ (p : Problem). p.requirement) is ∙ asks) in
+      let met = left_met (question n) field rows (subst (λ (p : Problem). IsLeftOf p rows) is own.left) in
+      let at : is_met (question n).dimensions (AtResolution n) rows ≡ true =
+      subst (λ wanted. is_met (question n).dimensions wanted rows ≡ true) asks met.1 in
+      let dims : d ≡ (question n).dimensions = own.dimensions ∙ ap (λ (p : Problem). p.dimensions) is in (
+        subst (λ r. 3 ≤ r) (sym reached) (own_three n own.holds.from e),
+        subst (λ d. is_met d (AtResolution (outcome_of step).reached) rows ≡ true) (sym dims)
+            (subst (λ r. is_met (question n).dimensions (AtResolution r) rows ≡ true) (sym reached) at),
+      )
+
+  -- where the question for the next resolution has no answer, or none is asked
+  pub highest_in_blocks : OfOutcome HasHighestInBlocks step
+  highest_in_blocks rows count e some ends = elim (size_or step.settings.size) [
+    | inl least ↦ absurd (highest_fixed e least)
+    | inr fixed ↦
+        let m = fixed.0 in
+        let plain = plain_in_blocks some in
+        let last = last_found m fixed.1 rows count ends in
+        let n : ℕ = last.n in
+        let top : high m fixed.1 ≡ max 3 (length step.factors + 1) = high_highest m fixed.1 e plain in
+        let dims : d ≡ (question n).dimensions =
+        ap (λ (c : Conclusion). c.dimensions) (is_fixed m fixed.1) ∙ last.answers.dimensions in
+        let own : IsHighestInBlocks (question n).dimensions rows n = record {
+          from = subst (λ k. k ≤ n) (low_highest m fixed.1 e) last.from;
+          upto = subst (λ k. n ≤ k) top
+              (last.upto (let low_is = low_highest m fixed.1 e in omega (arith, low_is, top)));
+          met =
+              subst (λ wanted. is_met (question n).dimensions wanted rows ≡ true) (requires_resolution n plain e)
+              (answered n rows last.answers.answer_is).1;
+          none_above = λ k more upto. elim last.none_next [
+            | inl end ↦
+                let cap : k ≤ max 3 (length step.factors + 1) = upto in absurd (omega (arith, end, top, more, cap))
+            | inr unmet ↦
+                none-higher (question n).dimensions field (n + 1) k (omega (arith, more))
+                (subst (λ d. NoneMeets d (AtResolution (n + 1))) (next_highest m fixed.1 e n)
+                (unanswered (n + 1) (AtResolution (n + 1)) (requires_resolution (n + 1) plain e)
+                (let from : 3 ≤ n = subst (λ k. k ≤ n) (low_highest m fixed.1 e) last.from in omega (arith, from))
+                unmet))
+          ];
+        } in
+        subst (λ d. IsHighestInBlocks d rows (outcome_of step).reached) (sym dims)
+        (subst (IsHighestInBlocks (question n).dimensions rows)
+        (sym (reached_is m fixed.1 e plain rows last)) own)
   ]
 
   -- of a fixed size the first question requires what the step does
@@ -507,6 +567,8 @@ module _ (step : Meaning) (valid : IsValidStep step) where
     none_at_all = none_at_all;
     least_pattern = least_of_all;
     highest_resolution = highest_of_all;
+    reached = meets_reached;
+    highest_in_blocks = highest_in_blocks;
     least_size = least_size;
     most_blocks = most_blocks;
   }
@@ -609,10 +671,11 @@ module _ (step : Meaning) (valid : IsValidStep step) where
 
   -- behind the highest resolution that for the next, unless there are no defining words
   pub highest_asked : (rows : List ℕ) (count : ℕ) → step.goal ≡ Highest → step.settings.least ≡ false
+      → has_blocks step.settings.blocks ≡ false
       → HasEnding (outcome_of step) (Design rows count)
       → (resolution_of (pattern_of d rows) ≡ d.s + 1)
       ⊎ IsAsked step d (AtResolution (resolution_of (pattern_of d rows) + 1)) None
-  highest_asked rows count e plain ends = elim (size_or step.settings.size) [
+  highest_asked rows count e plain without ends = elim (size_or step.settings.size) [
     | inl least ↦ absurd (highest_fixed e least)
     | inr fixed ↦
         let m = fixed.0 in
@@ -624,7 +687,7 @@ module _ (step : Meaning) (valid : IsValidStep step) where
         let from : 3 ≤ n = subst (λ k. k ≤ n) (low_highest m fixed.1 e) last.from in
         let plain_blocks : d.t ≡ 0 =
         ap (λ (d : Dimensions). d.t) dims
-        ∙ ap (λ b. block_factors b (run_factors step.settings.size n) n) (highest_unblocked e) in
+        ∙ ap (λ b. block_factors b (run_factors step.settings.size n) n) (unblocked step.settings.blocks without) in
         let field_d : IsField d.q = subst (λ (d : Dimensions). IsField d.q) (sym dims) field in
         let whole : length rows ≡ d.s + d.t =
         subst (λ (d : Dimensions). length rows ≡ d.s + d.t) (sym dims) own.0 in
@@ -644,6 +707,36 @@ module _ (step : Meaning) (valid : IsValidStep step) where
                 | inl full ↦ inl full
                 | inr is ↦ inr (subst (λ r. IsAsked step d (AtResolution (r + 1)) None) (sym is) next.1)
               ]
+        ]
+  ]
+
+  -- behind the highest resolution in blocks that for the next, unless it is the highest that is asked for
+  pub next_in_blocks_asked : (rows : List ℕ) (count : ℕ) → step.goal ≡ Highest
+      → has_blocks step.settings.blocks ≡ true
+      → HasEnding (outcome_of step) (Design rows count)
+      → ((outcome_of step).reached ≡ top_resolution d)
+      ⊎ IsAsked step d (AtResolution ((outcome_of step).reached + 1)) None
+  next_in_blocks_asked rows count e some ends = elim (size_or step.settings.size) [
+    | inl least ↦ absurd (highest_fixed e least)
+    | inr fixed ↦
+        let m = fixed.0 in
+        let plain = plain_in_blocks some in
+        let last = last_found m fixed.1 rows count ends in
+        let n : ℕ = last.n in
+        let reached : (outcome_of step).reached ≡ n = reached_is m fixed.1 e plain rows last in
+        let dims : d ≡ (question n).dimensions =
+        ap (λ (c : Conclusion). c.dimensions) (is_fixed m fixed.1) ∙ last.answers.dimensions in
+        elim (next_asked m fixed.1 rows last d (AtResolution (n + 1)) (next_highest m fixed.1 e n ∙ sym dims)
+        (requires_resolution (n + 1) plain e)) [
+          | inl end ↦
+              let top : high m fixed.1 ≡ max 3 (length step.factors + 1) = high_highest m fixed.1 e plain in
+              let upto : (outcome_of step).reached ≤ max 3 (d.s + 1) =
+              (highest_in_blocks rows count e some ends).upto in
+              let factors : d.s ≡ length step.factors = ap (λ (d : Dimensions). d.s) dims in
+              let full : (outcome_of step).reached ≡ max 3 (d.s + 1) =
+              omega (arith, reached, end, top, upto, factors) in
+              inl full
+          | inr next ↦ inr (subst (λ r. IsAsked step d (AtResolution (r + 1)) None) (sym reached) next.1)
         ]
   ]
 

@@ -7,7 +7,7 @@ use Rattle.std.specs.Prelude.{find, is_some, not, if◌then◌else◌}
 use Rattle.std.specs.List.{AllByRecursion, list_all}
 use Rattle.std.proofs.lemmas.Bool.{cases_Bool, cond-true, cond-false, and_parts}
 use Rattle.fx_designs.specs.Galois.{IsField}
-use Rattle.fx_designs.specs.Problems.{Dimensions, Problem}
+use Rattle.fx_designs.specs.Problems.{Problem}
 use Rattle.fx_designs.specs.Demands.{is_met}
 use Rattle.fx_designs.specs.Answers.{answer, prefixes}
 use Rattle.fx_designs.specs.Patterns.{pattern_of, is_less}
@@ -16,14 +16,13 @@ use Rattle.fx_designs.specs.Jobs.{best_of, best_before, carried, first_least}
 use Rattle.fx_designs.specs.Outcomes.{BudgetEnded}
 use Rattle.fx_reduction.proofs.LeastPattern.{answer-design}
 use Rattle.fx_reduction.proofs.Prefix.{met-prefix}
-use Rattle.fx_statements.specs.Questions.{Answered, Found, Questions, Turn, asked, concluded, conclusion_by}
+use Rattle.fx_statements.specs.Questions.{Answered, Conclusion, Found, Questions, Turn, asked, concluded, conclusion_by}
 use Rattle.fx_statements.specs.Questions.{conclusion_of, cut_short, found_by, is_last, last_found, last_of, left_at}
-use Rattle.fx_statements.specs.Questions.{nodes_of, passes, turns, up_to}
+use Rattle.fx_statements.specs.Questions.{nodes_of, passes, reached_at, reached_beside, reached_by, resolution_wanted}
+use Rattle.fx_statements.specs.Questions.{turns, up_to}
 use Rattle.fx_statements.proofs.Concluded.{HasEnding, InTurn, each_asked, kept_turn}
 use Rattle.fx_answer.specs.StepClaims.{rows_in}
-
-same_some : {A : Type 0} (x y : A) → Some x ≡ Some y → x ≡ y
-same_some x y e = cc e
+use Rattle.fx_base.proofs.Options.{same_some}
 
 -- what is found of those that pass a test passes it
 found-kept : (E D : List ℕ → Bool) (xs : List (List ℕ)) (r : List ℕ) → find E (filter D xs) ≡ Some r → D r ≡ true
@@ -35,7 +34,7 @@ found-kept E D (x ∷ xs) r h = elim (cases_Bool (D x)) [
       elim (cases_Bool (E x)) [
         | inl here ↦
             subst (λ y. D y ≡ true)
-            (same_some x r (sym (cond-true (E x) (Some x) (find E (filter D xs)) here) ∙ kept)) holds
+            (same_some (sym (cond-true (E x) (Some x) (find E (filter D xs)) here) ∙ kept)) holds
         | inr other ↦ found-kept E D xs r (sym (cond-false (E x) (Some x) (find E (filter D xs)) other) ∙ kept)
       ]
   | inr fails ↦
@@ -78,7 +77,16 @@ left_met p f rows left = elim left [
       (whole, met-prefix p.dimensions f p.requirement rows whole ∙ (and_parts _ _ parts.1).1)
 ]
 
+-- a search that is not asked for a least pattern carries nothing
+none_carried : (p : Problem) → p.least ≡ false → (budget : ℕ) → carried p budget ≡ None
+unfolding carried best_before
+none_carried p e budget = cond-false p.least _ _ e
+
 module _ (P : Problem → Type 0) where
+  -- no such question asks for a least pattern
+  abbrev pub ArePlain : Type 0
+  ArePlain = (p : Problem) → P p → p.least ≡ false
+
   -- what was found is of such a question
   abbrev IfLeft : Option Found → Type 0
   IfLeft None = Unit {0}
@@ -95,48 +103,62 @@ module _ (P : Problem → Type 0) where
   left_last earlier (p ∷ ps) before all =
       left_last (found_by earlier p (answer p)) ps (left_by earlier p (answer p) (λ rows is. inl is) before all.0) all.1
 
-  -- these rows are of a question of these dimensions
-  pub record IsLeft (d : Dimensions) (rows : List ℕ) : Type 0 where
+  -- these rows are of a question of the outcome's dimensions, whose resolution is reached where they are its answer
+  pub record IsLeft (outcome : Conclusion) (rows : List ℕ) : Type 0 where
     pub question : Problem
     pub holds : P question
-    pub dimensions : d ≡ question.dimensions
+    pub dimensions : outcome.dimensions ≡ question.dimensions
+    pub reached : ArePlain → outcome.reached ≡ resolution_wanted question.requirement
     pub left : IsLeftOf question rows
-
-  of_found : (found : Found) (rows : List ℕ) → P found.question × IsLeftOf found.question found.rows
-      → Some found.rows ≡ Some rows
-      → IsLeft found.question.dimensions rows
-  of_found found rows h e = record {
-    question = found.question;
-    holds = h.0;
-    dimensions = refl;
-    left = subst (IsLeftOf found.question) (same_some found.rows rows e) h.1;
-  }
 
   in_concluded : (p : Problem) (found : Option Found) (n : ℕ) (rows : List ℕ) → IfLeft found
       → rows_in (concluded p found n).ending ≡ Some rows
-      → IsLeft (concluded p found n).dimensions rows
+      → IsLeft (concluded p found n) rows
   in_concluded p None n rows h e = absurd (cc e)
-  in_concluded p (Some found) n rows h e = of_found found rows h e
+  in_concluded p (Some found) n rows h e = record {
+    question = found.question;
+    holds = h.0;
+    dimensions = refl;
+    reached = λ plain. refl;
+    left = subst (IsLeftOf found.question) (same_some e) h.1;
+  }
 
-  in_cut_short : (p : Problem) (left : Option Found) (budget : ℕ) (rows : List ℕ) → IfLeft left
-      → rows_in (cut_short p left budget).ending ≡ Some rows
-      → IsLeft (cut_short p left budget).dimensions rows
-  in_cut_short p None budget rows h e = absurd (cc e)
-  in_cut_short p (Some found) budget rows h e = of_found found rows h e
+  in_cut_short : (p : Problem) (left : Option Found) (reached budget : ℕ) (rows : List ℕ) → IfLeft left
+      → (ArePlain → reached ≡ reached_by left)
+      → rows_in (cut_short p left reached budget).ending ≡ Some rows
+      → IsLeft (cut_short p left reached budget) rows
+  in_cut_short p None reached budget rows h is e = absurd (cc e)
+  in_cut_short p (Some found) reached budget rows h is e = record {
+    question = found.question;
+    holds = h.0;
+    dimensions = refl;
+    reached = is;
+    left = subst (IsLeftOf found.question) (same_some e) h.1;
+  }
+
+  -- where nothing is carried, what was found before is left
+  reached_left : (budget : ℕ) (turn : Turn) → P turn.question → ArePlain
+      → reached_at budget turn ≡ reached_by (left_at budget turn)
+  reached_left budget turn one plain =
+      let before = last_found None turn.earlier in
+      let none : carried turn.question (budget - nodes_of turn.earlier) ≡ None =
+      none_carried turn.question (plain turn.question one) (budget - nodes_of turn.earlier) in
+      ap (λ left. reached_beside left before) none
+      ∙ sym (ap (λ left. reached_by (found_by before turn.question left)) none)
 
   in_conclusion : (p : Problem) (ps : List Problem) (budget : ℕ) (turn : Option Turn) (rows : List ℕ)
       → AllByRecursion P ps
       → ((own : Turn) → turn ≡ Some own → InTurn P own)
       → rows_in (conclusion_by p ps budget turn).ending ≡ Some rows
-      → IsLeft (conclusion_by p ps budget turn).dimensions rows
+      → IsLeft (conclusion_by p ps budget turn) rows
   in_conclusion p ps budget None rows all each e =
       in_concluded p (last_found None ps) (nodes_of ps) rows (left_last None ps tt all) e
   in_conclusion p ps budget (Some turn) rows all each e =
       let here = each turn refl in
       let n : ℕ = budget - nodes_of turn.earlier in
-      in_cut_short turn.question (left_at budget turn) budget rows
+      in_cut_short turn.question (left_at budget turn) (reached_at budget turn) budget rows
       (left_by (last_found None turn.earlier) turn.question (carried turn.question n) (λ rows is. inr (n, is))
-      (left_last None turn.earlier tt here.0) here.1) e
+      (left_last None turn.earlier tt here.0) here.1) (reached_left budget turn here.1) e
 
   in_turn : (questions : Questions) (budget : ℕ) → P questions.first → AllByRecursion P questions.others
       → (turn : Turn)
@@ -147,7 +169,7 @@ module _ (P : Problem → Type 0) where
   pub left-of : (questions : Questions) (budget : ℕ) (rows : List ℕ) → P questions.first
       → AllByRecursion P questions.others
       → rows_in (conclusion_of questions budget).ending ≡ Some rows
-      → IsLeft (conclusion_of questions budget).dimensions rows
+      → IsLeft (conclusion_of questions budget) rows
   unfolding conclusion_of
   left-of questions budget rows one others e =
       in_conclusion (last_of questions.first (asked questions)) (asked questions) budget
@@ -155,11 +177,7 @@ module _ (P : Problem → Type 0) where
       (in_turn questions budget one others) e
 
 -- Where the asking ends with the first answer, no question but the last has one, so that nothing was found before the
--- one in which the budget ended; and a search that is not asked for a least pattern carries nothing.
-
-none_carried : (p : Problem) → p.least ≡ false → (budget : ℕ) → carried p budget ≡ None
-unfolding carried best_before
-none_carried p e budget = cond-false p.least _ _ e
+-- one in which the budget ended.
 
 found_more : (earlier : Option Found) (xs : List Problem) (p : Problem)
     → last_found earlier (xs ++ p ∷ []) ≡ found_by (last_found earlier xs) p (answer p)
@@ -186,7 +204,7 @@ none_in_turn test earlier (p ∷ qs) turn none e =
     elim (cases_Bool (test own)) [
       | inl here ↦
           subst (λ (t : Turn). last_found None t.earlier ≡ None)
-          (same_some own turn (sym (cond-true (test own) _ _ here) ∙ e)) none
+          (same_some (sym (cond-true (test own) _ _ here) ∙ e)) none
       | inr later ↦
           after_answer test earlier qs turn p (answer p) refl none (λ more. none_in_turn test more qs turn)
           (sym (cond-false (test own) _ _ later) ∙ e)
@@ -197,10 +215,10 @@ not_cut : (p : Problem) (found : Option Found) (n : ℕ) (rows : Option (List �
 not_cut p None n rows b e = cc e
 not_cut p (Some found) n rows b e = cc e
 
-by_none : (p : Problem) (left : Option Found) (budget : ℕ) (rows : Option (List ℕ)) (b : ℕ) → left ≡ None
-    → HasEnding (cut_short p left budget) (BudgetEnded rows b) → rows ≡ None
-by_none p None budget rows b is e = cc e
-by_none p (Some found) budget rows b is e = absurd (cc is)
+by_none : (p : Problem) (left : Option Found) (reached budget : ℕ) (rows : Option (List ℕ)) (b : ℕ) → left ≡ None
+    → HasEnding (cut_short p left reached budget) (BudgetEnded rows b) → rows ≡ None
+by_none p None reached budget rows b is e = cc e
+by_none p (Some found) reached budget rows b is e = absurd (cc is)
 
 module _ (P : Problem → Type 0) (plain : (p : Problem) → P p → p.least ≡ false) where
   nothing_by : (p : Problem) (ps : List Problem) (budget : ℕ) (turn : Option Turn) (rows : Option (List ℕ)) (b : ℕ)
@@ -213,7 +231,7 @@ module _ (P : Problem → Type 0) (plain : (p : Problem) → P p → p.least ≡
       let none : left_at budget turn ≡ None =
       ap (λ l. found_by l turn.question (carried turn.question n)) here.1
       ∙ ap (found_by None turn.question) (none_carried turn.question (plain turn.question here.0.1) n) in
-      by_none turn.question (left_at budget turn) budget rows b none e
+      by_none turn.question (left_at budget turn) (reached_at budget turn) budget rows b none e
 
   pub none-left : (questions : Questions) (budget : ℕ) (rows : Option (List ℕ)) (b : ℕ) → questions.until ≡ Answered
       → P questions.first

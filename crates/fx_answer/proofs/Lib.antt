@@ -2,6 +2,7 @@ pub mod Asking
 pub mod Booked
 pub mod Answered
 pub mod Valid
+mod Shapes
 pub mod Left
 pub mod StepSettings
 mod NextResolution

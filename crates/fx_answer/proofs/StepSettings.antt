@@ -1,5 +1,6 @@
 -- The settings of a step: orders of fields, what goes together, and dimensions.
-use Rattle.std.proofs.Common.{ℕ, ◌≡◌, ◌<◌, ◌≤◌, ◌&&◌, Bool, true, false, refl, ap, ◌∙◌, subst, arith, inl, inr, ◌⊎◌}
+use Rattle.std.proofs.Common.{ℕ, ◌≡◌, ◌<◌, ◌≤◌, ◌&&◌, ◌||◌, Bool, true, false, refl, ap, ◌∙◌, subst, arith, inl, inr}
+use Rattle.std.proofs.Common.{◌⊎◌}
 use Rattle.std.specs.Prelude.{nat_le, not}
 use Rattle.std.proofs.lemmas.Bool.{leb-true, ltb-true, and_parts}
 use Rattle.fx_designs.specs.Problems.{Dimensions}
@@ -33,6 +34,17 @@ pub not_both : (a b : Bool) → not (a && b) ≡ true → a ≡ true → b ≡ f
 not_both true true e h = absurd (cc e)
 not_both true false e h = refl
 not_both false b e h = absurd (cc h)
+
+-- with the highest resolution the most blocks are not asked
+pub not_most : (b : Blocks) (highest least : Bool)
+    → not (has_blocks b && (least || (highest && has_most b))) ≡ true
+    → highest ≡ true → has_most b ≡ false
+not_most blocks.Without highest least e h = refl
+not_most (blocks.Factors t) highest least e h = refl
+not_most (blocks.PerBlock k) highest least e h = refl
+not_most blocks.Most true true e h = absurd (cc e)
+not_most blocks.Most true false e h = absurd (cc e)
+not_most blocks.Most false least e h = absurd (cc h)
 
 -- the block factors do not hang on the number of the question, but for the most blocks
 pub same_blocks : (b : Blocks) (m n k : ℕ) → has_most b ≡ false → block_factors b m n ≡ block_factors b m k

@@ -22,15 +22,16 @@ use Rattle.fx_settings.specs.Valid.{are_blocks, is_size, has_blocks, has_most, s
 use Rattle.fx_settings.specs.declared.settings.Criterion.{Criterion}
 use Rattle.fx_settings.specs.declared.settings.Criterion.TheVariants as criterion
 use Rattle.fx_vectors.specs.declared.effect.Effect.{Effect}
+use Rattle.fx_vectors.specs.declared.shape.TheConstants.{MOST_FACTORS, MOST_FACTORS_IN_BLOCKS}
 use Rattle.fx_statements.specs.declared.step.Step.{Step}
 use Rattle.fx_statements.specs.declared.wanted.Wanted.{Wanted}
 use Rattle.fx_statements.specs.declared.wanted.Wanted.TheVariants as wanted
 use Rattle.fx_statements.specs.Goals.{Goal, AtLeast, Highest, ForEffects, criterion_wanted, goal_of}
-use Rattle.fx_statements.specs.Valid.{CanBeWanted, HasFewEffects}
+use Rattle.fx_statements.specs.Valid.{CanBeWanted, HasFewEffects, most_factors_of}
 use Rattle.fx_statements.specs.Steps.{Meaning, meaning_of}
 use Rattle.fx_statements.specs.Questions.{block_factors, highest, least_exponent, lowest, requirement_for, run_factors}
 use Rattle.fx_statements.specs.Questions.{seeks_highest}
-use Rattle.fx_statements.proofs.Bounds.{no_more_than_9}
+use Rattle.fx_statements.proofs.Bounds.{no_more_than_9, most_of_all, most_of_many}
 use Rattle.fx_statements.proofs.Bounds as bounds
 use Rattle.fx_answer.specs.Standing.{IsShapeOf}
 use Rattle.fx_answer.specs.ValidSteps.{CanBeSought, IsOfKind, IsValidStep}
@@ -110,17 +111,13 @@ blocks_fit size blocks.Most q n h are runs most =
     let up = power_up q n (run_factors size n) h (most refl) in
     omega (arith, up, runs)
 
--- with block factors there are at most 30 factors
-few_in_blocks : (given : Blocks) (s m n : ℕ) → nat_le s (if has_blocks given then 30 else 40) ≡ true
-    → 0 < block_factors given m n → s ≤ 30
-few_in_blocks blocks.Without s m n few some = absurd (omega (arith, some))
-few_in_blocks (blocks.Factors t) s m n few some = leb-true s 30 few
-few_in_blocks (blocks.PerBlock k) s m n few some = leb-true s 30 few
-few_in_blocks blocks.Most s m n few some = leb-true s 30 few
-
-few : (b : Bool) (s : ℕ) → nat_le s (if b then 30 else 40) ≡ true → s ≤ 40
-few true s h = let low = leb-true s 30 h in omega (arith, low)
-few false s h = leb-true s 40 h
+-- with block factors there are fewer factors
+few_in_blocks : (q : ℕ) (given : Blocks) (s m n : ℕ) → s ≤ most_factors_of q (has_blocks given)
+    → 0 < block_factors given m n → s ≤ MOST_FACTORS_IN_BLOCKS
+few_in_blocks q blocks.Without s m n few some = absurd (omega (arith, some))
+few_in_blocks q (blocks.Factors t) s m n few some = few
+few_in_blocks q (blocks.PerBlock k) s m n few some = few
+few_in_blocks q blocks.Most s m n few some = few
 
 most_has : (given : Blocks) → has_most given ≡ true → has_blocks given ≡ true
 most_has blocks.Most h = refl
@@ -144,7 +141,7 @@ module _ (step : Meaning) (n : ℕ) where
   block_numbers Minimum high most = omega arith
 
   resolutions : (size : Size) → is_minimum size ≡ false → has_most step.settings.blocks ≡ false
-      → length step.factors ≤ 40 → lowest step size ≤ n → n ≤ highest step size
+      → length step.factors ≤ MOST_FACTORS → lowest step size ≤ n → n ≤ highest step size
       → seeks_highest step.settings.least step.goal ≡ true → (3 ≤ n) × (n ≤ 99)
   resolutions Minimum fixed one few low high seeks = absurd (both_ways _ fixed refl)
   resolutions (Runs m) fixed one few low high seeks =
@@ -221,10 +218,13 @@ module _ (step : Meaning) (valid : IsValidStep step) where
   some_factors : 1 ≤ length step.factors
   some_factors = leb-true 1 (length step.factors) (and_parts _ _ valid.factors).0
 
-  few_factors_in : length step.factors ≤ 40
-  few_factors_in = few (has_blocks x.blocks) (length step.factors) (and_parts _ _ valid.factors).1
+  counted_in : length step.factors ≤ most_factors_of x.q (has_blocks x.blocks)
+  counted_in = leb-true (length step.factors) _ (and_parts _ _ valid.factors).1
 
-  -- where the highest resolution is sought, the size is fixed and there are no blocks
+  few_factors_in : length step.factors ≤ MOST_FACTORS
+  few_factors_in = omega (arith, counted_in, most_of_all x.q (has_blocks x.blocks))
+
+  -- where the highest resolution is sought, the size is fixed, and not the most blocks are asked
   fixed : seeks_highest x.least step.goal ≡ true → is_minimum x.size ≡ false
   fixed seeks =
       go x.size (is_highest x.criterion) (is_sought x.least x.criterion step.goal valid.goal seeks).0
@@ -245,7 +245,7 @@ module _ (step : Meaning) (valid : IsValidStep step) where
       sought = is_sought x.least x.criterion step.goal valid.goal seeks
 
       go : (given : Blocks) (highest least : Bool) → highest ≡ true → least ≡ false
-          → (has_blocks given && (least || highest)) ≡ false → has_most given ≡ false
+          → (has_blocks given && (least || (highest && has_most given))) ≡ false → has_most given ≡ false
       go blocks.Without highest least h plain out = refl
       go (blocks.Factors t) highest least h plain out = refl
       go (blocks.PerBlock k) highest least h plain out = refl
@@ -285,8 +285,9 @@ module _ (step : Meaning) (valid : IsValidStep step) where
         runs = runs.1;
         some_factors = some_factors;
         factors = few_factors_in;
+        factors_of_many_levels = λ many. omega (arith, counted_in, most_of_many x.q (has_blocks x.blocks) many);
         block_factors = few_factors x.q (block_factors x.blocks m n) (no_more_than_9 x.q level).0 few_blocks;
-        factors_in_blocks = few_in_blocks x.blocks (length step.factors) m n (and_parts _ _ valid.factors).1;
+        factors_in_blocks = few_in_blocks x.q x.blocks (length step.factors) m n counted_in;
       };
       factors = refl;
       few_blocks = few_blocks;

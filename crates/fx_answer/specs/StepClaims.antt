@@ -6,10 +6,12 @@ use Rattle.fx_designs.specs.Answers.{is_design}
 use Rattle.fx_designs.specs.Demands.{is_met}
 use Rattle.fx_designs.specs.Outcomes.{Ending, Design, NoDesign, BudgetEnded}
 use Rattle.fx_designs.specs.Matrices.{NoneMeets}
+use Rattle.fx_reduction.specs.BlockedResolutions.{IsHighestInBlocks}
 use Rattle.fx_reduction.specs.Resolutions.{HasLeastPattern, HighestOfAll}
 use Rattle.fx_settings.specs.declared.settings.Size.TheVariants.{Minimum}
 use Rattle.fx_settings.specs.declared.settings.Blocks.TheVariants.{Most}
 use Rattle.fx_settings.specs.Powers.{greatest}
+use Rattle.fx_settings.specs.Valid.{has_blocks}
 use Rattle.fx_statements.specs.Goals.{Goal, AtLeast, Highest, ForEffects}
 use Rattle.fx_statements.specs.Questions.{Conclusion, block_factors, least_exponent, outcome_of, run_factors}
 use Rattle.fx_statements.specs.Steps.{Meaning}
@@ -70,12 +72,30 @@ HasLeastOfAll step outcome = (rows : List ℕ) (count : ℕ)
     → outcome.ending ≡ Design rows count
     → HasLeastPattern outcome.dimensions (required step.goal) rows
 
--- where the highest resolution is asked, no rule matrix has a higher one than the design
+-- where the highest resolution is asked, without blocks, no rule matrix has a higher one than the design
 abbrev pub HasHighestOfAll : Meaning → Conclusion → Type 0
 HasHighestOfAll step outcome = (rows : List ℕ) (count : ℕ)
     → step.goal ≡ Highest
+    → has_blocks step.settings.blocks ≡ false
     → outcome.ending ≡ Design rows count
     → HighestOfAll outcome.dimensions rows
+
+-- where it is asked in blocks, each matrix meets the resolution that was reached with its blocks, also one that is left
+-- where the budget ended
+abbrev pub MeetsWhatItReached : Meaning → Conclusion → Type 0
+MeetsWhatItReached step outcome = (rows : List ℕ)
+    → step.goal ≡ Highest
+    → has_blocks step.settings.blocks ≡ true
+    → rows_in outcome.ending ≡ Some rows
+    → (3 ≤ outcome.reached) × (is_met outcome.dimensions (AtResolution outcome.reached) rows ≡ true)
+
+-- and no rule matrix with as many block factors meets a higher one than the design
+abbrev pub HasHighestInBlocks : Meaning → Conclusion → Type 0
+HasHighestInBlocks step outcome = (rows : List ℕ) (count : ℕ)
+    → step.goal ≡ Highest
+    → has_blocks step.settings.blocks ≡ true
+    → outcome.ending ≡ Design rows count
+    → IsHighestInBlocks outcome.dimensions rows outcome.reached
 
 -- in fewer runs than the design's no rule matrix meets what is required, where the step allows them: with the least
 -- size, that is
@@ -102,6 +122,8 @@ pub record ClaimsHold (step : Meaning) (outcome : Conclusion) : Type 0 where
   pub none_at_all : HasNoneAtAll step outcome
   pub least_pattern : HasLeastOfAll step outcome
   pub highest_resolution : HasHighestOfAll step outcome
+  pub reached : MeetsWhatItReached step outcome
+  pub highest_in_blocks : HasHighestInBlocks step outcome
   pub least_size : HasLeastSize step outcome
   pub most_blocks : HasMostBlocks step outcome
 

@@ -2,6 +2,7 @@ ghost use Rattle.std.specs.Prelude.{◌≡◌, ◌<◌, ◌≤◌, ◌+◌, ◌^
 ghost use Rattle.fx_designs.specs.Answers.{answer};
 ghost use Rattle.fx_designs.specs.Problems.{Problem};
 ghost use Rattle.fx_vectors.specs.Shape.{IsShape, dimensions_of};
+ghost use Rattle.fx_search.specs.Standing.{best_rows};
 ghost use Rattle.fx_statements.specs.Steps.{Meaning, meaning_of};
 ghost use Rattle.fx_statements.specs.Questions.{
   concluded,
@@ -13,6 +14,8 @@ ghost use Rattle.fx_statements.specs.Questions.{
   lowest,
   nodes_of,
   question_for,
+  reached_beside,
+  reached_by,
   until,
   Found,
 };
@@ -33,7 +36,7 @@ ghost use Rattle.fx_answer.specs.Standing.{
 ghost use Rattle.fx_answer.specs.Books.{books_from};
 
 use crate::booking::{add_absence, add_answer, question_number};
-use crate::question::{highest, lowest, question_for};
+use crate::question::{highest, lowest, question_for, resolution_wanted};
 use fx_base::NoMemory;
 use fx_board::{Alone, Asked, Gate, ask_after};
 use fx_statements::{End, Outcome, Size, Step};
@@ -46,6 +49,8 @@ use std::thread::Threads;
 struct Finished {
     /// The last design that was found.
     found: Option<Matrix>,
+    /// The resolution of the question that it answers, or 0.
+    reached: u8,
     /// The nodes of all together.
     nodes: u64,
     /// The books of those that have one.
@@ -79,6 +84,7 @@ pub fn answer<R: Threads + Sync, G: Gate>(
 {
     let none = Finished {
         found: None,
+        reached: 0,
         nodes: 0,
         books: Books::new(alloc),
     };
@@ -106,6 +112,7 @@ fn ask_from<R: Threads + Sync, G: Gate>(
     ensures concluded { IfOk result (λ outcome. (earlier : List Problem)
         → finished.nodes ≡ nodes_of earlier
         → StandsFor finished.found (last_found None earlier)
+        → finished.reached ≡ reached_by (last_found None earlier)
         → conclusion_in outcome ≡ conclusion_from (meaning_of step.now) earlier n) }
     ensures books { IfOk result (λ outcome. (earlier : List Problem)
         → finished.nodes ≡ nodes_of earlier
@@ -116,6 +123,7 @@ fn ask_from<R: Threads + Sync, G: Gate>(
     let question = question_for(alloc, step, n)?;
     let shape = question.shape;
     let number = question_number(step, n);
+    let reached = resolution_wanted(&question.demands);
     let mut books = finished.books;
     match ask_after(
         rt,
@@ -134,6 +142,7 @@ fn ask_from<R: Threads + Sync, G: Gate>(
             add_answer(alloc, &mut books, number, question, &matrix, marks)?;
             let finished = Finished {
                 found: Some(matrix),
+                reached,
                 nodes: finished.nodes + nodes,
                 books,
             };
@@ -143,12 +152,16 @@ fn ask_from<R: Threads + Sync, G: Gate>(
             add_absence(&mut books, number, question, marks)?;
             let finished = Finished {
                 found: finished.found,
+                reached: finished.reached,
                 nodes: finished.nodes + nodes,
                 books,
             };
             go_on(rt, alloc, step, threads, gate, n, shape, false, finished)
         }
-        Asked::Budget { best } => Ok(cut_short(shape, best.or(finished.found), step.budget, books)),
+        Asked::Budget { best } => {
+            let reached = reached_beside(&best, finished.reached);
+            Ok(cut_short(shape, best.or(finished.found), reached, step.budget, books))
+        }
     }
 }
 
@@ -178,6 +191,7 @@ fn go_on<R: Threads + Sync, G: Gate>(
     ensures concluded { IfOk result (λ outcome. (earlier : List Problem)
         → finished.nodes ≡ nodes_of earlier
         → StandsFor finished.found (last_found None earlier)
+        → finished.reached ≡ reached_by (last_found None earlier)
         → conclusion_in outcome ≡ conclusion_past (meaning_of step.now) earlier n) }
     ensures books { IfOk result (λ outcome. (earlier : List Problem)
         → finished.nodes ≡ nodes_of earlier
@@ -209,12 +223,14 @@ fn concluded(shape: Shape, finished: Finished) -> Outcome
     ensures concluded { (p : Problem) (last : Option Found)
         → p.dimensions ≡ dimensions_of shape
         → StandsFor finished.found last
+        → finished.reached ≡ reached_by last
         → conclusion_in result ≡ concluded p last finished.nodes }
     ensures of_step { (step : Meaning) → IsShapeOf step shape → IsOf step finished.found → IsOutcomeOf step result }
     ensures books { result.books ≡ finished.books }
 {
     let Finished {
         found,
+        reached,
         nodes,
         books,
     } = finished;
@@ -224,6 +240,7 @@ fn concluded(shape: Shape, finished: Finished) -> Outcome
             shape: matrix.shape(),
             matrix: Some(matrix),
             nodes,
+            reached,
             books,
         },
         None => Outcome {
@@ -231,20 +248,34 @@ fn concluded(shape: Shape, finished: Finished) -> Outcome
             shape,
             matrix: None,
             nodes,
+            reached,
             books,
         },
     }
 }
 
-/// The outcome where the budget ended in a question of this shape, with what was found by then, and
-/// the books of the questions before.
-fn cut_short(shape: Shape, found: Option<Matrix>, budget: u64, books: Books) -> Outcome
+/// The resolution that was reached where the budget ended: that of the questions before, unless the
+/// search left a matrix of its own, which need not be an answer.
+fn reached_beside(best: &Option<Matrix>, reached: u8) -> u8
+    ensures { (before : Option Found)
+        → reached ≡ reached_by before
+        → result ≡ reached_beside (best_rows best.now) before }
+{
+    match best {
+        Some(_) => 0,
+        None => reached,
+    }
+}
+
+/// The outcome where the budget ended in a question of this shape, with what was found by then, the
+/// resolution that was reached, and the books of the questions before.
+fn cut_short(shape: Shape, found: Option<Matrix>, reached: u8, budget: u64, books: Books) -> Outcome
     requires shape { IsShape shape }
     requires whole { IsWhole found }
     ensures concluded { (p : Problem) (left : Option Found)
         → p.dimensions ≡ dimensions_of shape
         → StandsFor found left
-        → conclusion_in result ≡ cut_short p left budget }
+        → conclusion_in result ≡ cut_short p left reached budget }
     ensures of_step { (step : Meaning) → IsShapeOf step shape → IsOf step found → IsOutcomeOf step result }
     ensures books { result.books ≡ books }
 {
@@ -257,6 +288,7 @@ fn cut_short(shape: Shape, found: Option<Matrix>, budget: u64, books: Books) -> 
         shape,
         matrix: found,
         nodes: budget,
+        reached,
         books,
     }
 }

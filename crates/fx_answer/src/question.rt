@@ -11,6 +11,7 @@ ghost use Rattle.fx_statements.specs.Questions.{
   lowest,
   question_for,
   requirement_for,
+  resolution_wanted,
   run_factors,
   seeks_highest,
 };
@@ -142,5 +143,15 @@ fn demands_for(alloc: Global, wanted: &Wanted, least: bool, n: u8) -> Result<Dem
             estimate: Effects::from_slice(alloc, estimate.as_slice())?,
             nonnegligible: Effects::from_slice(alloc, nonnegligible.as_slice())?,
         }),
+    }
+}
+
+/// The resolution that is demanded, or 0 where effects are to be estimated.
+pub(crate) fn resolution_wanted(demands: &Demands) -> u8
+    ensures { result ≡ resolution_wanted (requirement_of demands.now) }
+{
+    match demands {
+        Demands::Resolution { r } => *r,
+        Demands::Effects { .. } => 0,
     }
 }

@@ -29,7 +29,6 @@ use Rattle.fx_barred.specs.BestWords.{BringsToZero, IsNoWorseWord, IsBestWord, I
 use Rattle.fx_barred.specs.BestWords.{preferred, with_code}
 use Rattle.fx_barred.proofs.Firsts.{sum-before, with-none}
 use Rattle.fx_barred.proofs.EffectBars.{sum-front}
-pub use Rattle.std.proofs.lemmas.List.{take-append-le as take-before}
 
 no-worse-follows : (q : ℕ) (u v w : List ℕ) → IsNoWorseWord q u v → IsNoWorseWord q v w → IsNoWorseWord q u w
 no-worse-follows q u v w (inl a) (inl b) = inl (omega arith)

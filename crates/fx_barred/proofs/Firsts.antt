@@ -17,6 +17,7 @@ use Rattle.fx_barred.specs.Reach.{with_row}
 use Rattle.fx_barred.specs.FirstWords.{sum_to, vector_at, HasSum, IsFirst, AreFirst, AreWords, AreFirstWords}
 use Rattle.fx_barred.specs.Reached.{ReachedView}
 use Rattle.fx_barred.proofs.Tables.{all-but-last}
+use Rattle.fx_vectors.specs.declared.shape.TheConstants.{MOST_FACTORS}
 
 -- no times a row
 pub with-none : (q m : ℕ) (f : IsField q) (rows : List ℕ) (j x : ℕ) → x < q ^ m → with_row q m rows j x 0 ≡ x
@@ -157,7 +158,8 @@ module _ (q m : ℕ) (rows : List ℕ) (words : List ForbiddenVector) (i : ℕ) 
   first-full b first tables full h = record { none = λ y low z. absurd (full y low z); some = h.some }
 
 -- what a class says of the last factor
-pub last-of-class : (q s : ℕ) (words : List ForbiddenVector) (k : ℕ) (d : ForbiddenVector) → AreWords q s words → s ≤ 40
+pub last-of-class : (q s : ℕ) (words : List ForbiddenVector) (k : ℕ) (d : ForbiddenVector) → AreWords q s words
+    → s ≤ MOST_FACTORS
     → k < length words
     → (64 * last_factor (vector_at words k) ≤ (slice_index_or words k d).class)
     × ((slice_index_or words k d).class < 64 * last_factor (vector_at words k) + 64)

@@ -75,8 +75,9 @@ pub(crate) fn fill_listed(
         → length reached.now.rows ≡ d.s → AreFactorParts d wanted vectors.now
         → AreBest d wanted reached.now.rows first tables.new }
 {
-    // Its order, once read, is known to be one of the seven.
+    // Its order, once read, is known to be one of the seven, and words of all its rows to have numbers.
     let _known = reached.q();
+    let _words = reached.room();
     clear(tables, first, usize::from(reached.size()));
     for v in vectors {
         let x = reached.minus(reached.sum(v));
@@ -89,13 +90,13 @@ pub(crate) fn fill_listed(
 }
 
 /// The points that have a word in the table from place `first` on.
-pub fn points_with_words(tables: &[Option<Best>], first: usize, size: u16) -> PointSet
-    requires size { size ≤ 1024 }
-    requires there { first + size ≤ length tables.now }
-    ensures { (x : ℕ) → x < size → has result x ≡ is_some (slice_index_or tables.now (first + x) None) }
+pub fn points_with_words(reached: &Reached, tables: &[Option<Best>], first: usize) -> PointSet
+    requires there { first + reached.now.q ^ reached.now.m ≤ length tables.now }
+    ensures { (x : ℕ) → x < reached.now.q ^ reached.now.m
+        → has result x ≡ is_some (slice_index_or tables.now (first + x) None) }
 {
-    let mut set = PointSet::empty();
-    for x in 0..size {
+    let mut set = reached.no_points();
+    for x in 0..reached.size() {
         if tables[first + usize::from(x)].is_some() {
             set.insert(x);
         }

@@ -11,6 +11,7 @@ ghost use Rattle.fx_points.specs.Points.{has};
 ghost use Rattle.fx_barred.specs.BestWords.{AreBest, AreWithin};
 ghost use Rattle.fx_points.specs.Sums.{sum_of};
 ghost use Rattle.fx_barred.specs.FirstWords.{FirstWordsView, AreFirstWords, AreWords, AreFirst, IsFirst, HasNone, vector_at};
+ghost use Rattle.fx_vectors.specs.declared.shape.TheConstants.{MOST_FACTORS};
 
 use crate::best_words::{Best, fill_listed};
 use crate::reached::{Reached, filled};
@@ -69,7 +70,8 @@ impl FirstWords {
     ) -> Result<FirstWords, NoMemory>
         requires runs { field ^ m ≤ 1024 }
         requires some { 1 ≤ s }
-        requires room { s ≤ 40 }
+        requires room { s ≤ MOST_FACTORS }
+        requires fits { field ^ s < 2 ^ 127 }
         requires words { AreWords field s words }
         ensures { IfOk result (λ first.
             first ≡ record { q = field; m = m; room = s; words = words; rows = [] }) }
@@ -123,7 +125,7 @@ impl FirstWords {
             (sum_of self.now.q (neg self.now.q 1) self.now.m 0 x)
             (length self.now.words) }
     {
-        let mut set = PointSet::empty();
+        let mut set = self.reached.no_points();
         for x in 0..self.size() {
             if self.first(x).is_some() {
                 set.insert(x);
@@ -202,7 +204,7 @@ fn fill(reached: &Reached, words: &[ForbiddenVector], tables: &mut [usize])
         AreFirst reached.now.q reached.now.m reached.now.rows words.now i (length words.now)
         (i * reached.now.q ^ reached.now.m) tables.new }
 {
-    // There are at most 40 rows.
+    // There are at most `MOST_FACTORS` rows.
     let _room = reached.room();
     let n = reached.len();
     let size = usize::from(reached.size());
@@ -259,7 +261,7 @@ fn put_first(tables: &mut [usize], place: usize, k: usize)
 /// How many vectors have their last factor before the one at this position.
 fn start_of(words: &[ForbiddenVector], last: usize) -> usize
     requires order { IsInOrder words.now }
-    requires last { last ≤ 50 }
+    requires last { last ≤ MOST_FACTORS + 1 }
     ensures bound { result ≤ length words.now }
     ensures before { (k : ℕ) (d : ForbiddenVector) → k < result
         → (slice_index_or words.now k d).class < 64 * last }

@@ -14,20 +14,26 @@ use Rattle.fx_vectors.specs.declared.shape.Shape.{Shape}
 use Rattle.fx_vectors.specs.declared.book.Book.{Book}
 use Rattle.fx_vectors.specs.declared.question.Demands.{Demands}
 use Rattle.fx_vectors.specs.declared.question.Demands.TheVariants.{Resolution, Effects}
-use Rattle.fx_vectors.proofs.Limits.{order-bounds, numbers_fit, rows_fit}
+use Rattle.fx_vectors.proofs.Limits.{order-bounds, words_fit}
+use Rattle.fx_vectors.specs.declared.shape.TheConstants.{MOST_FACTORS, MOST_FACTORS_OF_MANY_LEVELS}
+use Rattle.fx_vectors.specs.declared.shape.TheConstants.{MOST_FACTORS_IN_BLOCKS}
 use Rattle.fx_book.specs.declared.demands.EffectLists.{EffectLists}
 use Rattle.fx_book.specs.declared.fault.BookFault.{BookFault}
 use Rattle.fx_book.specs.declared.fault.FaultKind.TheVariants as kind
 use Rattle.fx_book.specs.Faults.{fault}
+use Rattle.fx_book.specs.declared.version.Version.{Version}
+use Rattle.fx_book.specs.declared.version.Version.TheVariants.{First, Second}
+use Rattle.fx_book.specs.Versions.{title_of, version_of, most_factors_in}
 use Rattle.fx_book.specs.Parts.{split, number_of, numbers_of_parts}
 use Rattle.fx_book.specs.Entries.{entries_text}
 use Rattle.fx_book.specs.Reading.{entries}
-use Rattle.fx_book.specs.Demands.{demands_of, resolution_of, resolution_within, effects_of, as_effects, after_stroke}
+use Rattle.fx_book.specs.Demands.{demands_of, resolution_demands, resolution_within, numbered_effects, as_effects}
+use Rattle.fx_book.specs.Demands.{after_stroke}
 use Rattle.fx_book.specs.Demands.{with_effect, lists_of, may_be_asked, asked_for}
 use Rattle.fx_book.specs.Heads.{book_of, is_shape, shape_from, shape_of, may_be_beaten, whole_pattern, beat_from}
-use Rattle.fx_book.specs.Heads.{beat_of, from_title, from_size, from_demands, from_beat, with_line, with_shape}
-use Rattle.fx_book.specs.Heads.{with_demands, with_beat, with_marks}
-use Rattle.fx_book.specs.Writing.{spaced, shape_text, demands_text, beat_text, book_text}
+use Rattle.fx_book.specs.Heads.{beat_of, from_title, with_version, from_size, from_demands, from_beat, with_line}
+use Rattle.fx_book.specs.Heads.{with_shape, with_demands, with_beat, with_marks}
+use Rattle.fx_book.specs.Writing.{spaced, shape_text, demands_text, beat_text, text_in}
 use Rattle.fx_book.proofs.Numerals.{part_is, parts_are}
 use Rattle.fx_book.proofs.Texts.{joined, joined_more, join_split, text_of, joined_spaced, joined_lists, same_bytes}
 use Rattle.fx_book.proofs.Texts.{entries_are}
@@ -54,40 +60,56 @@ ended word ns rest =
     ∙ sym (append_assoc word (spaced ns ++ codes "\n") rest ∙ ap (λ l. word ++ l)
     (append_assoc (spaced ns) (10 ∷ []) rest))
 
-module _ (shape : Shape) where
-  shape_taken : (q m s t : Option ℕ) → shape_from q m s t ≡ Some shape
+few_factors : (version : Version) (q s : ℕ) → s ≤ most_factors_in version q
+    → (s ≤ MOST_FACTORS) × (3 < q → s ≤ MOST_FACTORS_OF_MANY_LEVELS)
+few_factors First q s h = (omega (arith, h), λ many. h)
+few_factors Second q s h =
+    elim (cases_Bool (leb q 3)) [
+      | inl few ↦ let low : s ≤ MOST_FACTORS =
+          subst (λ n. s ≤ n) (cond-true (leb q 3) MOST_FACTORS MOST_FACTORS_OF_MANY_LEVELS few) h in
+          (low, λ many. absurd (let z = leb-true q 3 few in omega (arith, z, many)))
+      | inr many ↦ let low : s ≤ MOST_FACTORS_OF_MANY_LEVELS =
+          subst (λ n. s ≤ n) (cond-false (leb q 3) MOST_FACTORS MOST_FACTORS_OF_MANY_LEVELS many) h in
+          (omega (arith, low), λ more. low)
+    ]
+
+module _ (version : Version) (shape : Shape) where
+  shape_taken : (q m s t : Option ℕ) → shape_from version q m s t ≡ Some shape
       → (q ≡ Some shape.q) × (m ≡ Some shape.m) × (s ≡ Some shape.s) × (t ≡ Some shape.t)
-      × (is_shape shape.q shape.m shape.s shape.t ≡ true)
+      × (is_shape version shape.q shape.m shape.s shape.t ≡ true)
   shape_taken None m s t h = cc h
   shape_taken (Some q) None s t h = cc h
   shape_taken (Some q) (Some m) None t h = cc h
   shape_taken (Some q) (Some m) (Some s) None h = cc h
   shape_taken (Some q) (Some m) (Some s) (Some t) h =
-      elim (cases_Bool (is_shape q m s t)) [
+      elim (cases_Bool (is_shape version q m s t)) [
         | inl in' ↦
             let own : Shape = record { q = q; m = m; s = s; t = t } in
-            let z : Some own ≡ Some shape = sym (cond-true (is_shape q m s t) (Some own) None in') ∙ h in
+            let z : Some own ≡ Some shape = sym (cond-true (is_shape version q m s t) (Some own) None in') ∙ h in
             let e : own ≡ shape = cc z in (
               ap (λ (x : Shape). Some x.q) e,
               ap (λ (x : Shape). Some x.m) e,
               ap (λ (x : Shape). Some x.s) e,
               ap (λ (x : Shape). Some x.t) e,
-              subst (λ (x : Shape). is_shape x.q x.m x.s x.t ≡ true) e in',
+              subst (λ (x : Shape). is_shape version x.q x.m x.s x.t ≡ true) e in',
             )
         | inr out ↦ let z : None ≡ Some shape =
-            sym (cond-false (is_shape q m s t) (Some (record { q = q; m = m; s = s; t = t })) None out) ∙ h in cc z
+            sym (cond-false (is_shape version q m s t) (Some (record { q = q; m = m; s = s; t = t })) None out) ∙ h in
+            cc z
       ]
 
   -- the limits of a shape that was read
   pub record AreLimits : Type 0 where
-    pub shaped : IsShape shape
+    pub order : 2 ≤ shape.q
     pub q : shape.q ≤ 9
     pub m : shape.m ≤ 10
-    pub s : shape.s ≤ 40
+    pub runs : shape.q ^ shape.m ≤ 1024
+    pub s : shape.s ≤ MOST_FACTORS
     pub t : shape.t ≤ 10
-    pub rows : shape.s + shape.t ≤ 40
+    pub rows : shape.s + shape.t ≤ MOST_FACTORS
+    pub shaped : IsShape shape
 
-  limits : is_shape shape.q shape.m shape.s shape.t ≡ true → AreLimits
+  limits : is_shape version shape.q shape.m shape.s shape.t ≡ true → AreLimits
   limits h =
       let a = and_parts _ _ h in
       let b = and_parts _ _ a.1 in
@@ -96,31 +118,40 @@ module _ (shape : Shape) where
       let e = and_parts _ _ d.1 in
       let f = and_parts _ _ e.1 in
       let g = and_parts _ _ f.1 in
-      let s : shape.s ≤ 40 = leb-true _ _ f.0 in
+      let most = few_factors version shape.q shape.s (leb-true _ _ f.0) in
+      let s : shape.s ≤ MOST_FACTORS = most.0 in
+      let blocks : 0 < shape.t → shape.s ≤ MOST_FACTORS_IN_BLOCKS =
+      λ some. elim (or_cases _ _ g.1) [
+        | inl none ↦ absurd (let z : shape.t ≡ 0 = eqb-true _ _ none in omega (arith, z, some))
+        | inr few ↦
+            leb-true _ _ few
+      ] in
       let t : shape.t ≤ 10 = leb-true _ _ g.0 in
-      let shaped : IsShape shape =
       record {
-        order = a.0;
-        some_indexes = leb-true _ _ b.0;
-        runs = leb-true _ _ d.0;
-        some_factors = leb-true _ _ e.0;
-        factors = s;
-        block_factors = t;
-        factors_in_blocks = λ some. elim (or_cases _ _ g.1) [
-          | inl none ↦ absurd (let z : shape.t ≡ 0 = eqb-true _ _ none in omega (arith, z, some))
-          | inr few ↦ leb-true _ _ few
-        ];
-      } in
-      record {
-        shaped = shaped;
+        order = (order-bounds shape.q a.0).0;
         q = (order-bounds shape.q a.0).1;
         m = leb-true _ _ c.0;
+        runs = leb-true _ _ d.0;
         s = s;
         t = t;
-        rows = rows_fit shape shaped;
+        rows = elim (or_cases _ _ g.1) [
+          | inl none ↦ (let z : shape.t ≡ 0 = eqb-true _ _ none in omega arith)
+          | inr few ↦
+              (let z : shape.s ≤ MOST_FACTORS_IN_BLOCKS = leb-true _ _ few in omega arith)
+        ];
+        shaped = record {
+          order = a.0;
+          some_indexes = leb-true _ _ b.0;
+          runs = leb-true _ _ d.0;
+          some_factors = leb-true _ _ e.0;
+          factors = s;
+          factors_of_many_levels = most.1;
+          block_factors = t;
+          factors_in_blocks = blocks;
+        };
       }
 
-  pub shape_is : (parts : List (List ℕ)) → shape_of parts ≡ Some shape
+  pub shape_is : (parts : List (List ℕ)) → shape_of version parts ≡ Some shape
       → AreLimits × (parts ≡ codes "size" ∷ map decimal (shape.q ∷ shape.m ∷ shape.s ∷ shape.t ∷ []))
   shape_is [] h = cc h
   shape_is (word ∷ []) h = cc h
@@ -145,7 +176,7 @@ module _ (shape : Shape) where
             )
         | inr out ↦ let z =
             sym (cond-false (bytes_eq word (codes "size"))
-            (shape_from (number_of q) (number_of m) (number_of s) (number_of t)) None out) ∙ h in cc z
+            (shape_from version (number_of q) (number_of m) (number_of s) (number_of t)) None out) ∙ h in cc z
       ]
   shape_is (word ∷ q ∷ m ∷ s ∷ t ∷ other ∷ others) h = cc h
 
@@ -164,7 +195,7 @@ resolution_taken (Some r) asked h =
           sym (cond-false (leb 3 r && leb r 99) (Some (Resolution r)) None out) ∙ h in cc z
     ]
 
-resolution_is : (parts : List (List ℕ)) (asked : Demands) (rest : List ℕ) → resolution_of parts ≡ Some asked
+resolution_is : (parts : List (List ℕ)) (asked : Demands) (rest : List ℕ) → resolution_demands parts ≡ Some asked
     → joined 32 (codes "resolution" ∷ parts) ++ 10 ∷ rest ≡ demands_text asked ++ rest
 resolution_is [] asked rest h = cc h
 resolution_is (part ∷ []) asked rest h =
@@ -175,12 +206,12 @@ resolution_is (part ∷ []) asked rest h =
     ∙ ap (λ (d : Demands). demands_text d ++ rest) k.3
 resolution_is (part ∷ other ∷ others) asked rest h = cc h
 
-pub numbers-effects : (ns : List ℕ) → numbers_of (effects_of ns) ≡ ns
+pub numbers-effects : (ns : List ℕ) → numbers_of (numbered_effects ns) ≡ ns
 numbers-effects [] = refl
 numbers-effects (n ∷ ns) = ap (λ l. n ∷ l) (numbers-effects ns)
 
 pub stroke_taken : (o : Option (List ℕ)) (lists : EffectLists) → after_stroke (as_effects o) ≡ Some lists
-    → (ns : List ℕ) × (o ≡ Some ns) × (record { estimate = []; nonnegligible = effects_of ns } ≡ lists)
+    → (ns : List ℕ) × (o ≡ Some ns) × (record { estimate = []; nonnegligible = numbered_effects ns } ≡ lists)
 stroke_taken None lists h = cc h
 stroke_taken (Some ns) lists h = (ns, refl, cc h)
 
@@ -247,7 +278,7 @@ effects_line ns ms rest =
     ∙ sym (append_assoc (spaced ns) (codes " /" ++ (spaced ms ++ codes "\n")) rest ∙ ap
     (λ l. spaced ns ++ (codes " /" ++ l)) (append_assoc (spaced ms) (10 ∷ []) rest)))
 
-demands_are : (shape : Shape) (parts : List (List ℕ)) (asked : Demands) (rest : List ℕ) → shape.s ≤ 40
+demands_are : (shape : Shape) (parts : List (List ℕ)) (asked : Demands) (rest : List ℕ) → shape.s ≤ MOST_FACTORS
     → demands_of shape parts ≡ Some asked → joined 32 parts ++ 10 ∷ rest ≡ demands_text asked ++ rest
 demands_are shape [] asked rest short h = cc h
 demands_are shape (word ∷ parts) asked rest short h =
@@ -256,17 +287,17 @@ demands_are shape (word ∷ parts) asked rest short h =
       | inl is ↦
           ap (λ w. joined 32 (w ∷ parts) ++ 10 ∷ rest) (same_bytes word (codes "resolution") is)
           ∙ resolution_is parts asked rest
-          (sym (cond-true (bytes_eq word (codes "resolution")) (resolution_of parts)
+          (sym (cond-true (bytes_eq word (codes "resolution")) (resolution_demands parts)
           (cond (bytes_eq word (codes "effects")) effects None) is) ∙ h)
       | inr other ↦
           let h' = sym
-          (cond-false (bytes_eq word (codes "resolution")) (resolution_of parts)
+          (cond-false (bytes_eq word (codes "resolution")) (resolution_demands parts)
           (cond (bytes_eq word (codes "effects")) effects None) other) ∙ h in
           elim (cases_Bool (bytes_eq word (codes "effects"))) [
             | inl is ↦
                 let k = asked_taken shape.q (lists_of (2 ^ shape.s) parts) asked
                 (sym (cond-true (bytes_eq word (codes "effects")) effects None is) ∙ h') in
-                let top : 2 ^ shape.s ≤ 2 ^ 40 = pow-le-pow_right (omega arith) short in
+                let top : 2 ^ shape.s ≤ 2 ^ 63 = pow-le-pow_right (omega arith) short in
                 ap (λ w. joined 32 (w ∷ parts) ++ 10 ∷ rest) (same_bytes word (codes "effects") is)
                 ∙ ap (λ ps. joined 32 (codes "effects" ∷ ps) ++ 10 ∷ rest)
                 (lists_are (2 ^ shape.s) parts k.0 (omega arith) k.1)
@@ -331,11 +362,11 @@ beat_is s allowed line beat rest h =
           ∙ ended (codes "pattern") k.0 rest ∙ ap (λ (b : Option (List ℕ)). beat_text b ++ rest) k.2
     ]
 
-module _ (shape : Shape) (l : AreLimits shape) (book : Book) where
+module _ (version : Version) (shape : Shape) (l : AreLimits version shape) (book : Book) where
   pub beat_taken : (asked : Demands) (lines : List (List ℕ)) (o : Option (Option (List ℕ)))
-      → with_beat shape asked lines o ≡ Ok book
+      → with_beat version shape asked lines o ≡ Ok book
       → (beat : Option (List ℕ)) × (o ≡ Some beat)
-      × (with_marks shape asked beat (entries (dimensions_of shape) (is_some beat) 5 lines) ≡ Ok book)
+      × (with_marks shape asked beat (entries version (dimensions_of shape) (is_some beat) 5 lines) ≡ Ok book)
   beat_taken asked lines None h = cc h
   beat_taken asked lines (Some beat) h = (beat, refl, h)
 
@@ -351,95 +382,126 @@ module _ (shape : Shape) (l : AreLimits shape) (book : Book) where
   marks_taken asked beat (Err stop) h = cc h
   marks_taken asked beat (Ok marks) h = (marks, refl, cc h)
 
-  from_beat_text : (asked : Demands) (lines : List (List ℕ)) → from_beat shape asked lines ≡ Ok book
+  from_beat_text : (asked : Demands) (lines : List (List ℕ)) → from_beat version shape asked lines ≡ Ok book
       → (book.head.question.shape ≡ shape) × (book.head.question.demands ≡ asked)
-      × (joined 10 lines ≡ beat_text book.head.beat ++ (entries_text book.marks ++ end))
+      × (joined 10 lines ≡ beat_text book.head.beat ++ (entries_text version (dimensions_of shape) book.marks ++ end))
   from_beat_text asked lines h =
       let k = line_taken (fault kind.Pattern 4)
-      (λ line rest. with_beat shape asked rest (beat_of shape.s (may_be_beaten shape asked) line)) lines book h in
+      (λ line rest. with_beat version shape asked rest (beat_of shape.s (may_be_beaten shape asked) line)) lines
+      book h in
       let b = beat_taken asked k.1 (beat_of shape.s (may_be_beaten shape asked) k.0) k.4 in
-      let m = marks_taken asked b.0 (entries (dimensions_of shape) (is_some b.0) 5 k.1) b.2 in
+      let m = marks_taken asked b.0 (entries version (dimensions_of shape) (is_some b.0) 5 k.1) b.2 in
       let after =
-      entries_are (dimensions_of shape) (is_some b.0) l.shaped.runs (numbers_fit shape.q (shape.s + shape.t) l.q l.rows)
-      5
-      k.1 m.0 m.1 in (
+      entries_are version (dimensions_of shape) (is_some b.0) (omega (arith, l.order)) (omega (arith, l.q))
+      (omega (arith, l.rows)) l.runs (words_fit shape l.shaped (shape.s + shape.t) (omega arith)) 5 k.1 m.0 m.1 in (
         ap (λ (x : Book). x.head.question.shape) (sym m.2),
         ap (λ (x : Book). x.head.question.demands) (sym m.2),
         ap (joined 10) k.2 ∙ joined_more 10 k.0 k.1 k.3 ∙ ap (λ r. k.0 ++ 10 ∷ r) after
-            ∙ beat_is shape.s (may_be_beaten shape asked) k.0 b.0 (entries_text m.0 ++ end) b.1
-            ∙ ap (λ (x : Book). beat_text x.head.beat ++ (entries_text x.marks ++ end)) m.2,
+            ∙ beat_is shape.s (may_be_beaten shape asked) k.0 b.0
+            (entries_text version (dimensions_of shape) m.0 ++ end) b.1
+            ∙ ap (λ (x : Book). beat_text x.head.beat ++ (entries_text version (dimensions_of shape) x.marks ++ end))
+            m.2,
       )
 
-  pub demands_taken : (lines : List (List ℕ)) (o : Option Demands) → with_demands shape lines o ≡ Ok book
-      → (asked : Demands) × (o ≡ Some asked) × (from_beat shape asked lines ≡ Ok book)
+  pub demands_taken : (lines : List (List ℕ)) (o : Option Demands) → with_demands version shape lines o ≡ Ok book
+      → (asked : Demands) × (o ≡ Some asked) × (from_beat version shape asked lines ≡ Ok book)
   demands_taken lines None h = cc h
   demands_taken lines (Some asked) h = (asked, refl, h)
 
-  from_demands_text : (lines : List (List ℕ)) → from_demands shape lines ≡ Ok book
+  from_demands_text : (lines : List (List ℕ)) → from_demands version shape lines ≡ Ok book
       → (book.head.question.shape ≡ shape)
       × (joined 10 lines
-      ≡ demands_text book.head.question.demands ++ (beat_text book.head.beat ++ (entries_text book.marks ++ end)))
+      ≡ demands_text book.head.question.demands
+      ++ (beat_text book.head.beat ++ (entries_text version (dimensions_of shape) book.marks ++ end)))
   from_demands_text lines h =
       let k = line_taken (fault kind.Demands 3)
-      (λ line rest. with_demands shape rest (demands_of shape (split 32 line))) lines book h in
+      (λ line rest. with_demands version shape rest (demands_of shape (split 32 line))) lines book h in
       let d = demands_taken k.1 (demands_of shape (split 32 k.0)) k.4 in
       let b = from_beat_text d.0 k.1 d.2 in
-      let R : List ℕ = beat_text book.head.beat ++ (entries_text book.marks ++ end) in (
+      let R : List ℕ = beat_text book.head.beat ++ (entries_text version (dimensions_of shape) book.marks ++ end) in (
         b.0,
         ap (joined 10) k.2 ∙ joined_more 10 k.0 k.1 k.3 ∙ ap (λ r. k.0 ++ 10 ∷ r) b.2 ∙ ap (λ line. line ++ 10 ∷ R)
             (sym (join_split 32 k.0))
             ∙ demands_are shape (split 32 k.0) d.0 R l.s d.1 ∙ ap (λ (x : Demands). demands_text x ++ R) (sym b.1),
       )
 
-module _ (book : Book) where
-  pub size_taken : (lines : List (List ℕ)) (o : Option Shape) → with_shape lines o ≡ Ok book
-      → (shape : Shape) × (o ≡ Some shape) × (from_demands shape lines ≡ Ok book)
+module _ (version : Version) (book : Book) where
+  pub size_taken : (lines : List (List ℕ)) (o : Option Shape) → with_shape version lines o ≡ Ok book
+      → (shape : Shape) × (o ≡ Some shape) × (from_demands version shape lines ≡ Ok book)
   size_taken lines None h = cc h
   size_taken lines (Some shape) h = (shape, refl, h)
 
-  from_size_text : (lines : List (List ℕ)) → from_size lines ≡ Ok book
+  from_size_text : (lines : List (List ℕ)) → from_size version lines ≡ Ok book
       → joined 10 lines
       ≡ shape_text book.head.question.shape
-      ++ (demands_text book.head.question.demands ++ (beat_text book.head.beat ++ (entries_text book.marks ++ end)))
+      ++ (demands_text book.head.question.demands
+      ++ (beat_text book.head.beat
+      ++ (entries_text version (dimensions_of book.head.question.shape) book.marks ++ end)))
   from_size_text lines h =
-      let k = line_taken (fault kind.Size 2) (λ line rest. with_shape rest (shape_of (split 32 line))) lines book h in
-      let s = size_taken k.1 (shape_of (split 32 k.0)) k.4 in
+      let k = line_taken (fault kind.Size 2) (λ line rest. with_shape version rest (shape_of version (split 32 line)))
+      lines book h in
+      let s = size_taken k.1 (shape_of version (split 32 k.0)) k.4 in
       let shape : Shape = s.0 in
-      let i = shape_is shape (split 32 k.0) s.1 in
-      let d = from_demands_text shape i.0 book k.1 s.2 in
+      let i = shape_is version shape (split 32 k.0) s.1 in
+      let d = from_demands_text version shape i.0 book k.1 s.2 in
       let numbers : List ℕ = shape.q ∷ shape.m ∷ shape.s ∷ shape.t ∷ [] in
       let R : List ℕ =
-      demands_text book.head.question.demands ++ (beat_text book.head.beat ++ (entries_text book.marks ++ end)) in
-      ap (joined 10) k.2 ∙ joined_more 10 k.0 k.1 k.3 ∙ ap (λ r. k.0 ++ 10 ∷ r) d.1
+      demands_text book.head.question.demands
+      ++ (beat_text book.head.beat
+      ++ (entries_text version (dimensions_of book.head.question.shape) book.marks ++ end)) in
+      let after : joined 10 k.1 ≡ R =
+      d.1 ∙ ap (λ (x : Shape). demands_text book.head.question.demands
+      ++ (beat_text book.head.beat ++ (entries_text version (dimensions_of x) book.marks ++ end))) (sym d.0) in
+      ap (joined 10) k.2 ∙ joined_more 10 k.0 k.1 k.3 ∙ ap (λ r. k.0 ++ 10 ∷ r) after
       ∙ ap (λ line. line ++ 10 ∷ R)
       (text_of 32 k.0 (codes "size" ∷ map decimal numbers) i.1 ∙ joined_spaced (codes "size") numbers)
       ∙ ended (codes "size") numbers R ∙ ap (λ (x : Shape). shape_text x ++ R) (sym d.0)
 
-  pub title_taken : (lines : List (List ℕ)) → from_title lines ≡ Ok book
-      → (rest : List (List ℕ)) × (lines ≡ title ∷ rest) × (0 < length rest) × (from_size rest ≡ Ok book)
-  title_taken lines h =
-      let k = line_taken (fault kind.Title 1)
-      (λ line rest. if bytes_eq line title then from_size rest else Err (fault kind.Title 1)) lines book h in
-      elim (cases_Bool (bytes_eq k.0 title)) [
-        | inl is ↦ (
-          k.1,
-          k.2 ∙ ap (λ line. line ∷ k.1) (same_bytes k.0 title is),
-          k.3,
-          sym (cond-true (bytes_eq k.0 title) (from_size k.1) (Err (fault kind.Title 1)) is) ∙ k.4,
-        )
-        | inr out ↦
-            let z = sym (cond-false (bytes_eq k.0 title) (from_size k.1) (Err (fault kind.Title 1)) out) ∙ k.4 in cc z
-      ]
+pub version_taken : (lines : List (List ℕ)) (o : Option Version) (book : Book) → with_version lines o ≡ Ok book
+    → (version : Version) × (o ≡ Some version) × (from_size version lines ≡ Ok book)
+version_taken lines None book h = cc h
+version_taken lines (Some version) book h = (version, refl, h)
 
-  pub read_is_written : (text : List ℕ) → book_of text ≡ Ok book → text ≡ book_text book
-  unfolding book_of
-  read_is_written text h =
-      elim (cases_Bool (ltb 268435456 (length text))) [
-        | inl long ↦ let z = sym (cond-true (ltb 268435456 (length text)) _ _ long) ∙ h in cc z
-        | inr short ↦
-            let h' : from_title (split 10 text) ≡ Ok book =
-            sym (cond-false (ltb 268435456 (length text)) _ _ short) ∙ h in
-            let k = title_taken (split 10 text) h' in
-            sym (join_split 10 text) ∙ ap (joined 10) k.1 ∙ joined_more 10 title k.0 k.2
-            ∙ ap (λ l. codes "factex-book 1\n" ++ l) (from_size_text k.0 k.3)
-      ]
+title_is : (line : List ℕ) (version : Version) → version_of line ≡ Some version → line ≡ title_of version
+title_is line version h =
+    elim (cases_Bool (bytes_eq line (codes "factex-book 1"))) [
+      | inl one ↦
+          let z : Some First ≡ Some version =
+          sym (cond-true (bytes_eq line (codes "factex-book 1")) (Some First)
+          (cond (bytes_eq line (codes "factex-book 2")) (Some Second) None) one) ∙ h in
+          let e : First ≡ version = cc z in
+          same_bytes line (codes "factex-book 1") one ∙ ap title_of e
+      | inr other ↦
+          let h' = sym
+          (cond-false (bytes_eq line (codes "factex-book 1")) (Some First)
+          (cond (bytes_eq line (codes "factex-book 2")) (Some Second) None) other) ∙ h in
+          elim (cases_Bool (bytes_eq line (codes "factex-book 2"))) [
+            | inl two ↦
+                let z : Some Second ≡ Some version =
+                sym (cond-true (bytes_eq line (codes "factex-book 2")) (Some Second) None two) ∙ h' in
+                let e : Second ≡ version = cc z in
+                same_bytes line (codes "factex-book 2") two ∙ ap title_of e
+            | inr out ↦ let z : None ≡ Some version =
+                sym (cond-false (bytes_eq line (codes "factex-book 2")) (Some Second) None out) ∙ h' in cc z
+          ]
+    ]
+
+pub read_is_written : (text : List ℕ) (book : Book) → book_of text ≡ Ok book
+    → (version : Version) × (text ≡ text_in version book)
+unfolding book_of
+read_is_written text book h =
+    elim (cases_Bool (ltb 268435456 (length text))) [
+      | inl long ↦ let z = sym (cond-true (ltb 268435456 (length text)) _ _ long) ∙ h in cc z
+      | inr short ↦
+          let h' : from_title (split 10 text) ≡ Ok book =
+          sym (cond-false (ltb 268435456 (length text)) _ _ short) ∙ h in
+          let k = line_taken (fault kind.Title 1) (λ line rest. with_version rest (version_of line)) (split 10 text)
+          book h' in
+          let v = version_taken k.1 (version_of k.0) book k.4 in
+          let rest = from_size_text v.0 book k.1 v.2 in (
+            v.0,
+            sym (join_split 10 text) ∙ ap (joined 10) k.2 ∙ joined_more 10 k.0 k.1 k.3 ∙ ap
+                (λ l. l ++ 10 ∷ joined 10 k.1) (title_is k.0 v.0 v.1)
+                ∙ ap (λ l. title_of v.0 ++ 10 ∷ l) rest,
+          )
+    ]

@@ -14,13 +14,17 @@ use Rattle.fx_vectors.specs.Shape.{IsShape}
 use Rattle.fx_vectors.specs.declared.shape.Shape.{Shape}
 use Rattle.fx_vectors.proofs.Limits.{order-bounds, indexes_fit}
 use Rattle.fx_vectors.specs.declared.question.Demands.TheVariants.{Resolution, Effects}
+use Rattle.fx_book.specs.declared.version.Version.{Version}
+use Rattle.fx_book.specs.Versions.{most_factors_in}
 use Rattle.fx_book.specs.Parts.{split, numbers_of_parts}
 use Rattle.std.proofs.Math.Nat.{pow-le-pow_right}
 use Rattle.std.proofs.lemmas.List.{length-map}
 use Rattle.fx_vectors.specs.declared.effect.Effect.{Effect}
 use Rattle.fx_vectors.specs.Effects.{numbers_of, AreEffects}
 use Rattle.fx_vectors.specs.Question.{CanBeTold}
-use Rattle.fx_book.specs.Demands.{demands_of, lists_of, effects_of, as_effects, after_stroke, asked_for, may_be_asked}
+use Rattle.fx_vectors.specs.declared.shape.TheConstants.{MOST_FACTORS, MOST_FACTORS_IN_BLOCKS}
+use Rattle.fx_book.specs.Demands.{demands_of, lists_of, numbered_effects, as_effects, after_stroke, asked_for}
+use Rattle.fx_book.specs.Demands.{may_be_asked}
 use Rattle.fx_book.proofs.Listed.{effects-numbers}
 use Rattle.fx_book.specs.Heads.{is_shape, shape_of, whole_pattern, beat_of, beat_from}
 use Rattle.fx_book.specs.Writing.{spaced}
@@ -43,11 +47,11 @@ one_line [] h = tt
 one_line (n ∷ ns) h =
     (refl, without-append 10 (decimal n) (spaced ns) (without_number 10 n (omega arith) h.0) (one_line ns h.1))
 
-module _ (shape : Shape) (h : IsShape shape) where
-  limits : is_shape shape.q shape.m shape.s shape.t ≡ true
+module _ (version : Version) (shape : Shape) (h : IsShape shape) (may : shape.s ≤ most_factors_in version shape.q) where
+  limits : is_shape version shape.q shape.m shape.s shape.t ≡ true
   limits =
       let m = indexes_fit shape h in
-      let blocks : (eqb shape.t 0 || leb shape.s 30) ≡ true =
+      let blocks : (eqb shape.t 0 || leb shape.s MOST_FACTORS_IN_BLOCKS) ≡ true =
       elim (cases_eq shape.t 0) [
         | inl z ↦ or_left _ _ (eq-eqb _ _ z)
         | inr some ↦ or_right _ _ (le-leb _ _ (h.factors_in_blocks (omega arith)))
@@ -56,7 +60,7 @@ module _ (shape : Shape) (h : IsShape shape) where
       (and_from _ _ (le-leb 1 shape.m h.some_indexes)
       (and_from _ _ (le-leb shape.m 10 m) (and_from _ _ (le-leb _ _ h.runs)
       (and_from _ _ (le-leb 1 shape.s h.some_factors)
-      (and_from _ _ (le-leb _ _ h.factors) (and_from _ _ (le-leb _ _ h.block_factors) blocks))))))
+      (and_from _ _ (le-leb _ _ may) (and_from _ _ (le-leb _ _ h.block_factors) blocks))))))
 
   pub wide_shape : AllByRecursion (λ a. a < 2 ^ 128) (shape.q ∷ shape.m ∷ shape.s ∷ shape.t ∷ [])
   wide_shape =
@@ -64,19 +68,20 @@ module _ (shape : Shape) (h : IsShape shape) where
       let m = indexes_fit shape h in
       (omega arith, (omega arith, (omega (arith, h.factors), (omega (arith, h.block_factors), tt))))
 
-  pub shape_back : shape_of (split 32 (codes "size" ++ spaced (shape.q ∷ shape.m ∷ shape.s ∷ shape.t ∷ [])))
+  pub shape_back : shape_of version (split 32 (codes "size" ++ spaced (shape.q ∷ shape.m ∷ shape.s ∷ shape.t ∷ [])))
       ≡ Some shape
   shape_back =
       let parts : split 32 (codes "size" ++ spaced (shape.q ∷ shape.m ∷ shape.s ∷ shape.t ∷ []))
       ≡ codes "size" ∷ map decimal (shape.q ∷ shape.m ∷ shape.s ∷ shape.t ∷ []) =
       ap (λ l. codes "size" ∷ l) (spaced_parts shape.q (shape.m ∷ shape.s ∷ shape.t ∷ []) wide_shape) in
-      ap shape_of parts
+      ap (shape_of version) parts
       ∙ (rw (
         number_back shape.q wide_shape.0,
         number_back shape.m wide_shape.1.0,
         number_back shape.s wide_shape.1.1.0,
         number_back shape.t wide_shape.1.1.1.0,
-      ) (cond-true (is_shape shape.q shape.m shape.s shape.t) _ _ limits))
+      )
+      (cond-true (is_shape version shape.q shape.m shape.s shape.t) _ _ limits))
 
 pub resolution_back : (shape : Shape) (r : ℕ) → 3 ≤ r → r ≤ 99
     → demands_of shape (split 32 (codes "resolution" ++ spaced (r ∷ []))) ≡ Some (Resolution r)
@@ -153,7 +158,7 @@ no_stroke (c ∷ cs) some h = let e = digit_from_value c h.0 in and_left _ _ (ne
 lists_back : (limit : ℕ) (ns ms : List ℕ) → limit ≤ 2 ^ 64 → AllByRecursion (λ n. (1 ≤ n) × (n < limit)) ns
     → AllByRecursion (λ n. (1 ≤ n) × (n < limit)) ms
     → lists_of limit (map decimal ns ++ codes "/" ∷ map decimal ms)
-    ≡ Some (record { estimate = effects_of ns; nonnegligible = effects_of ms })
+    ≡ Some (record { estimate = numbered_effects ns; nonnegligible = numbered_effects ms })
 lists_back limit [] ms top h k =
     ap (λ (o : Option (List ℕ)). after_stroke (as_effects o)) (numbers_back 1 limit ms (omega arith) k)
 lists_back limit (n ∷ ns) ms top h k =
@@ -163,15 +168,15 @@ lists_back limit (n ∷ ns) ms top h k =
     ∙ (rw (number_back n small, lists_back limit ns ms top h.1 k)
     (cond-true (leb 1 n && ltb n limit) _ _ (and_from _ _ (le-leb _ _ h.0.0) (lt-ltb _ _ h.0.1))))
 
-narrow : (s : ℕ) (ns : List ℕ) → s ≤ 40 → AllByRecursion (λ n. (0 < n) × (n < 2 ^ s)) ns
+narrow : (s : ℕ) (ns : List ℕ) → s ≤ MOST_FACTORS → AllByRecursion (λ n. (0 < n) × (n < 2 ^ s)) ns
     → AllByRecursion (λ n. (1 ≤ n) × (n < 2 ^ s)) ns
 narrow s [] few h = tt
 narrow s (n ∷ ns) few h = ((omega (arith, h.0.0), h.0.1), narrow s ns few h.1)
 
-pub small : (s : ℕ) (ns : List ℕ) → s ≤ 40 → AllByRecursion (λ n. (0 < n) × (n < 2 ^ s)) ns
+pub small : (s : ℕ) (ns : List ℕ) → s ≤ MOST_FACTORS → AllByRecursion (λ n. (0 < n) × (n < 2 ^ s)) ns
     → AllByRecursion (λ n. n < 2 ^ 128) ns
 small s [] few h = tt
-small s (n ∷ ns) few h = let top : 2 ^ s ≤ 2 ^ 40 = pow-le-pow_right (omega arith) few in
+small s (n ∷ ns) few h = let top : 2 ^ s ≤ 2 ^ 63 = pow-le-pow_right (omega arith) few in
     (omega (arith, h.0.1, top), small s ns few h.1)
 
 pub each_number : (s : ℕ) (ns : List ℕ) → AreEffects s ns → AllByRecursion (λ n. (0 < n) × (n < 2 ^ s)) ns
@@ -183,7 +188,7 @@ may q s ns ms h few others =
     and_from _ _ (lt-ltb _ _ h.some) (and_from _ _ (le-leb _ _ few) (and_from _ _ (le-leb _ _ others)
     (and_from _ _ h.estimated.in_order (and_from _ _ h.others.in_order (and_from _ _ (le-leb _ _ h.pairs) h.apart)))))
 
-pub effects_back : (shape : Shape) (estimate others : List Effect) → shape.s ≤ 40
+pub effects_back : (shape : Shape) (estimate others : List Effect) → shape.s ≤ MOST_FACTORS
     → CanBeTold shape.q shape.s (numbers_of estimate) (numbers_of others)
     → length estimate ≤ 100000 → length others ≤ 100000
     → demands_of shape
@@ -195,7 +200,7 @@ effects_back shape (e ∷ estimate) others short h few besides =
     let ms : List ℕ = numbers_of others in
     let mine = each_number shape.s (e.0 ∷ ns) h.estimated in
     let theirs = each_number shape.s ms h.others in
-    let top : 2 ^ shape.s ≤ 2 ^ 40 = pow-le-pow_right (omega arith) short in
+    let top : 2 ^ shape.s ≤ 2 ^ 63 = pow-le-pow_right (omega arith) short in
     let parts : split 32 (codes "effects" ++ (spaced (e.0 ∷ ns) ++ (codes " /" ++ spaced ms)))
     ≡ codes "effects" ∷ (map decimal (e.0 ∷ ns) ++ codes "/" ∷ map decimal ms) =
     ap (λ l. split 32 (codes "effects " ++ l)) (append_assoc (decimal e.0) (spaced ns) (codes " /" ++ spaced ms))
@@ -205,7 +210,7 @@ effects_back shape (e ∷ estimate) others short h few besides =
     ≡ Some (record { estimate = e ∷ estimate; nonnegligible = others }) =
     lists_back (2 ^ shape.s) (e.0 ∷ ns) ms (omega arith) (narrow shape.s (e.0 ∷ ns) short mine)
     (narrow shape.s ms short theirs)
-    ∙ ap (λ (l : List Effect). Some (record { estimate = l; nonnegligible = effects_of ms }))
+    ∙ ap (λ (l : List Effect). Some (record { estimate = l; nonnegligible = numbered_effects ms }))
     (effects-numbers (e ∷ estimate))
     ∙ ap (λ (l : List Effect). Some (record { estimate = e ∷ estimate; nonnegligible = l })) (effects-numbers others) in
     ap (demands_of shape) parts ∙ ap (asked_for shape.q) read

@@ -6,42 +6,47 @@ use Rattle.fx_vectors.specs.declared.book.Book.{Book}
 use Rattle.fx_designs.specs.Nodes as nodes
 use Rattle.fx_base.specs.Pieces.{joined}
 use Rattle.fx_base.proofs.Joined.{joined-append}
+use Rattle.fx_designs.specs.Problems.{Dimensions}
+use Rattle.fx_vectors.specs.Shape.{dimensions_of}
+use Rattle.fx_book.specs.declared.version.Version.TheVariants.{Second}
 use Rattle.fx_book.specs.Entries.{entries_text}
 use Rattle.fx_book.specs.Writing.{head_text, shape_text, demands_text, beat_text, book_text}
 use Rattle.fx_book.proofs.Lines.{entries-append}
 use Rattle.fx_book.proofs.Ranges.{range-range, range-all}
 
 -- the entries of a range, from those of its two parts
-pub entries-both : (marks : List nodes.Mark) (from middle to : ℕ) (front back all : List (List ℕ)) → from ≤ middle
-    → middle ≤ to
-    → joined front ≡ entries_text (slice_range marks from middle)
-    → joined back ≡ entries_text (slice_range marks middle to) → all ≡ front ++ back
-    → joined all ≡ entries_text (slice_range marks from to)
-entries-both marks from middle to front back all low high f b same =
+pub entries-both : (d : Dimensions) (marks : List nodes.Mark) (from middle to : ℕ) (front back all : List (List ℕ))
+    → from ≤ middle → middle ≤ to
+    → joined front ≡ entries_text Second d (slice_range marks from middle)
+    → joined back ≡ entries_text Second d (slice_range marks middle to) → all ≡ front ++ back
+    → joined all ≡ entries_text Second d (slice_range marks from to)
+entries-both d marks from middle to front back all low high f b same =
     ap joined same ∙ joined-append front back ∙ ap (λ (l : List ℕ). l ++ joined back) f ∙ ap
-    (λ (l : List ℕ). entries_text (slice_range marks from middle) ++ l) b
-    ∙ sym (entries-append (slice_range marks from middle) (slice_range marks middle to)) ∙ ap entries_text
-    (range-range marks from middle to low high)
+    (λ (l : List ℕ). entries_text Second d (slice_range marks from middle) ++ l) b
+    ∙ sym (entries-append Second d (slice_range marks from middle) (slice_range marks middle to)) ∙ ap
+    (entries_text Second d) (range-range marks from middle to low high)
 
 -- the text of a book, from its first four lines, its entries and its last line
 pub book-joined : (book : Book) (front end : List ℕ) (entries some all : List (List ℕ))
-    → front ≡ codes "factex-book 1\n" ++ head_text book.head → end ≡ codes "END\n"
-    → joined entries ≡ entries_text (slice_range book.marks 0 (length book.marks))
+    → front ≡ codes "factex-book 2\n" ++ head_text book.head → end ≡ codes "END\n"
+    → joined entries
+    ≡ entries_text Second (dimensions_of book.head.question.shape) (slice_range book.marks 0 (length book.marks))
     → some ≡ (front ∷ []) ++ entries → all ≡ some ++ end ∷ []
     → joined all ≡ book_text book
 book-joined book front end entries some all f e between s a =
     let shape : List ℕ = shape_text book.head.question.shape in
     let demands : List ℕ = demands_text book.head.question.demands in
     let beat : List ℕ = beat_text book.head.beat in
-    let marks : List ℕ = entries_text book.marks in
+    let d : Dimensions = dimensions_of book.head.question.shape in
+    let marks : List ℕ = entries_text Second d book.marks in
     let end_is : joined (end ∷ []) ≡ codes "END\n" = append-nil end ∙ e in
     ap joined (a ∙ ap (λ (l : List (List ℕ)). l ++ end ∷ []) s)
     ∙ joined-append (front ∷ entries) (end ∷ [])
     ∙ ap (λ (l : List ℕ). (front ++ joined entries) ++ l) end_is
     ∙ append_assoc front (joined entries) (codes "END\n")
-    ∙ ap (λ (l : List ℕ). front ++ (l ++ codes "END\n")) (between ∙ ap entries_text (range-all book.marks))
+    ∙ ap (λ (l : List ℕ). front ++ (l ++ codes "END\n")) (between ∙ ap (entries_text Second d) (range-all book.marks))
     ∙ ap (λ (l : List ℕ). l ++ (marks ++ codes "END\n")) f
-    ∙ append_assoc (codes "factex-book 1\n") (head_text book.head) (marks ++ codes "END\n")
-    ∙ ap (λ (l : List ℕ). codes "factex-book 1\n" ++ l)
+    ∙ append_assoc (codes "factex-book 2\n") (head_text book.head) (marks ++ codes "END\n")
+    ∙ ap (λ (l : List ℕ). codes "factex-book 2\n" ++ l)
     (append_assoc shape (demands ++ beat) (marks ++ codes "END\n") ∙ ap (λ (l : List ℕ). shape ++ l)
     (append_assoc demands beat (marks ++ codes "END\n")))

@@ -5,6 +5,7 @@ mod Ranges
 mod Joins
 pub mod Listed
 mod Askable
+mod Placing
 mod Back
 mod Books
 pub mod Whole

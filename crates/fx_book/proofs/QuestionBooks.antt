@@ -13,7 +13,7 @@ use Rattle.fx_vectors.specs.declared.question.Demands.TheVariants.{Resolution, E
 use Rattle.fx_vectors.specs.declared.book.Book.{Book}
 use Rattle.fx_vectors.specs.Question.{problem_of, requirement_of}
 use Rattle.fx_vectors.specs.Effects.{numbers_of}
-use Rattle.fx_book.specs.Demands.{effects_of}
+use Rattle.fx_book.specs.Demands.{numbered_effects}
 use Rattle.fx_book.specs.QuestionBooks.{beat_of, book_for, demands_for}
 use Rattle.fx_book.proofs.Listed.{effects-numbers}
 
@@ -21,7 +21,7 @@ use Rattle.fx_book.proofs.Listed.{effects-numbers}
 demands_back : (demands : Demands) → demands_for (requirement_of demands) ≡ demands
 demands_back (Resolution r) = refl
 demands_back (Effects estimate others) =
-    ap (λ l. Effects l (effects_of (numbers_of others))) (effects-numbers estimate)
+    ap (λ l. Effects l (numbered_effects (numbers_of others))) (effects-numbers estimate)
     ∙ ap (Effects estimate) (effects-numbers others)
 
 -- a book by its parts

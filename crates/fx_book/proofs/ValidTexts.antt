@@ -1,8 +1,8 @@
 -- What is read as a book is a valid book.
-use Rattle.std.proofs.Common.{◌≡◌, ℕ, ◌+◌, ◌^◌, ◌<◌, ◌≤◌, inl, inr, Bool, true, ◌&&◌, cond, eqb, ltb, leb, List, []}
-use Rattle.std.proofs.Common.{◌∷◌, ◌++◌, length, Option, Some, None, Result, Ok, Err, refl, sym, ◌∙◌, arith, subst}
-use Rattle.std.proofs.Common.{length-append}
-use Rattle.std.specs.Prelude.{codes}
+use Rattle.std.proofs.Common.{◌≡◌, ℕ, ◌+◌, ◌^◌, ◌<◌, ◌≤◌, inl, inr, Bool, true, false, ◌&&◌, cond, eqb, ltb, leb, List}
+use Rattle.std.proofs.Common.{[], ◌∷◌, ◌++◌, length, All, Option, Some, None, Result, Ok, Err, refl, sym, ap, ◌∙◌}
+use Rattle.std.proofs.Common.{arith, subst, length-append, IsTrue}
+use Rattle.std.specs.Prelude.{codes, decimal}
 use Rattle.std.specs.List.{AllByRecursion}
 use Rattle.std.specs.Option.{is_some}
 use Rattle.std.specs.Str.{bytes_eq}
@@ -11,45 +11,53 @@ use Rattle.std.proofs.lemmas.Bool.{ltb-false}
 use Rattle.std.proofs.lemmas.List.Elements.{All-from_recursion}
 use Rattle.fx_designs.specs.Problems.{Dimensions}
 use Rattle.fx_designs.specs.Nodes as nodes
-use Rattle.fx_vectors.specs.Shape.{dimensions_of}
+use Rattle.fx_vectors.specs.Shape.{IsShape, dimensions_of}
 use Rattle.fx_vectors.specs.Effects.{numbers_of}
 use Rattle.fx_vectors.specs.Marks.{meaning_of}
 use Rattle.fx_vectors.specs.declared.mark.Mark.{Mark}
 use Rattle.fx_vectors.specs.declared.mark.Mark.TheVariants.{Branch, Word, Worse}
-use Rattle.fx_vectors.specs.Question.{is_resolution, requirement_of}
+use Rattle.fx_vectors.specs.Question.{IsValid, CanBeAsked, is_resolution, requirement_of}
 use Rattle.fx_vectors.specs.declared.shape.Shape.{Shape}
 use Rattle.fx_vectors.specs.declared.effect.Effect.{Effect}
 use Rattle.fx_vectors.specs.declared.book.Book.{Book}
 use Rattle.fx_vectors.specs.declared.question.Demands.{Demands}
 use Rattle.fx_vectors.specs.declared.question.Demands.TheVariants.{Resolution, Effects}
+use Rattle.fx_vectors.proofs.Limits.{words_fit}
 use Rattle.fx_book.specs.declared.demands.EffectLists.{EffectLists}
 use Rattle.fx_book.specs.declared.fault.FaultKind.{FaultKind}
 use Rattle.fx_book.specs.declared.fault.FaultKind.TheVariants.{Form, Range}
 use Rattle.fx_book.specs.declared.fault.FaultKind.TheVariants as kind
 use Rattle.fx_book.specs.declared.fault.BookFault.{BookFault}
+use Rattle.fx_book.specs.declared.version.Version.{Version}
 use Rattle.fx_book.specs.Faults.{fault}
+use Rattle.fx_book.specs.Versions.{title_of, version_of}
 use Rattle.fx_book.specs.Parts.{split, number_of, with_number, numbers_of_parts}
-use Rattle.fx_book.specs.Entries.{ranged, short_entry, word_entry, entry_of, entry_text, entries_text}
+use Rattle.fx_book.specs.Words.{word_written}
+use Rattle.fx_book.specs.Entries.{ranged, short_entry, with_word, word_entry, entry_of, entry_text, entries_text}
 use Rattle.fx_book.specs.Reading.{entries, after_entry, is_nothing}
-use Rattle.fx_book.specs.Demands.{demands_of, resolution_of, resolution_within, effects_of, as_effects, after_stroke}
+use Rattle.fx_book.specs.Demands.{demands_of, resolution_demands, resolution_within, numbered_effects, as_effects}
+use Rattle.fx_book.specs.Demands.{after_stroke}
 use Rattle.fx_book.specs.Demands.{with_effect, lists_of, may_be_asked, asked_for}
-use Rattle.fx_book.specs.Heads.{book_of, from_title, from_size, with_shape, with_demands, from_beat, with_beat}
-use Rattle.fx_book.specs.Heads.{shape_of, may_be_beaten, whole_pattern, beat_from, beat_of}
-use Rattle.fx_book.specs.Writing.{shape_text, demands_text, beat_text, book_text}
-use Rattle.fx_book.specs.Valid.{IsEntry, IsBeat, AreDemands, IsValidBook}
+use Rattle.fx_book.specs.Heads.{book_of, from_title, with_version, from_size, with_shape, from_demands, with_demands}
+use Rattle.fx_book.specs.Heads.{from_beat, with_beat, with_marks, shape_of, may_be_beaten, whole_pattern, beat_from}
+use Rattle.fx_book.specs.Heads.{beat_of}
+use Rattle.fx_book.specs.Writing.{text_in, shape_text, demands_text, beat_text, book_text}
+use Rattle.fx_book.specs.Valid.{IsEntry, IsBeat, AreFew, AreDemands, IsValidBook}
 use Rattle.fx_book.proofs.Askable.{askable}
-use Rattle.fx_book.proofs.Accepted.{AreLimits, line_taken, title_taken, size_taken, demands_taken, beat_taken}
+use Rattle.fx_book.proofs.Texts.{written_word}
+use Rattle.fx_book.proofs.Accepted.{AreLimits, line_taken, version_taken, size_taken, demands_taken, beat_taken}
 use Rattle.fx_book.proofs.Accepted.{marks_taken, shape_is, read_is_written, stroke_taken}
 
-module _ (d : Dimensions) (beaten : Bool) where
+module _ (version : Version) (d : Dimensions) (beaten : Bool) (order : 0 < d.q) (small : d.q < 2 ^ 127)
+    (rows : d.s + d.t < 2 ^ 127) (words : d.q ^ (d.s + d.t) < 2 ^ 127) where
   in_range : (row : ℕ) (own mark : Mark) → ranged d row own ≡ Ok mark → (row < d.q ^ d.m) × (own ≡ mark)
   in_range row own mark h =
       elim (cases_Bool (ltb row (d.q ^ d.m))) [
         | inl low ↦
             let z : Ok own ≡ Ok mark = sym (cond-true (ltb row (d.q ^ d.m)) (Ok own) (Err Range) low) ∙ h in
             (ltb-true _ _ low, cc z)
-        | inr out ↦
-            let z : Err Range ≡ Ok mark = sym (cond-false (ltb row (d.q ^ d.m)) (Ok own) (Err Range) out) ∙ h in cc z
+        | inr out ↦ let z : Err Range ≡ Ok mark = sym (cond-false (ltb row (d.q ^ d.m)) (Ok own) (Err Range) out) ∙ h in
+            cc z
       ]
 
   short_valid : (letter : List ℕ) (o : Option ℕ) (mark : Mark) → short_entry d beaten letter o ≡ Ok mark
@@ -66,50 +74,40 @@ module _ (d : Dimensions) (beaten : Bool) where
             (cond (bytes_eq letter (codes "P") && beaten) (ranged d row (Worse row)) (Err Form)) other) ∙ h in
             elim (cases_Bool (bytes_eq letter (codes "P") && beaten)) [
               | inl p ↦
-                  let r =
-                  in_range row (Worse row) mark
+                  let r = in_range row (Worse row) mark
                   (sym (cond-true (bytes_eq letter (codes "P") && beaten) _ _ p) ∙ h') in
                   subst (λ (m : Mark). IsEntry d beaten (meaning_of m)) r.1 (r.0, (and_parts _ _ p).1)
               | inr out ↦ let z : Err Form ≡ Ok mark =
-                  sym (cond-false (bytes_eq letter (codes "P") && beaten) (ranged d row (Worse row)) (Err Form) out)
-                  ∙ h' in cc z
+                  sym (cond-false (bytes_eq letter (codes "P") && beaten) (ranged d row (Worse row)) (Err Form) out) ∙
+                  h' in cc z
             ]
       ]
 
-  abbrev is_word : ℕ → Bool
-  is_word word = ltb 0 word && ltb word (d.q ^ (d.s + d.t))
-
-  word_valid : (letter : List ℕ) (row word : Option ℕ) (mark : Mark) → word_entry d letter row word ≡ Ok mark
-      → IsEntry d beaten (meaning_of mark)
-  word_valid letter None word mark h = cc h
-  word_valid letter (Some row) None mark h = cc h
-  word_valid letter (Some row) (Some word) mark h =
-      let own : Result Mark FaultKind = cond (is_word word) (ranged d row (Word row word)) (Err Range) in
+  word_valid : (letter : List ℕ) (o : Option ℕ) (r : Result ℕ FaultKind) (mark : Mark) (parts : List (List ℕ))
+      → word_written version d parts ≡ r → word_entry d letter o r ≡ Ok mark → IsEntry d beaten (meaning_of mark)
+  word_valid letter None r mark parts was h = cc h
+  word_valid letter (Some row) r mark parts was h =
       elim (cases_Bool (bytes_eq letter (codes "W"))) [
-        | inr out ↦
-            let z : Err Form ≡ Ok mark = sym (cond-false (bytes_eq letter (codes "W")) own (Err Form) out) ∙ h in cc z
-        | inl w ↦
-            let h' : own ≡ Ok mark = sym (cond-true (bytes_eq letter (codes "W")) own (Err Form) w) ∙ h in
-            elim (cases_Bool (is_word word)) [
-              | inl is ↦
-                  let p = and_parts _ _ is in
-                  let r =
-                  in_range row (Word row word) mark
-                  (sym (cond-true (is_word word) (ranged d row (Word row word)) (Err Range) is) ∙ h') in
-                  subst (λ (m : Mark). IsEntry d beaten (meaning_of m)) r.1
-                  (r.0, ltb-true _ _ p.0, ltb-true _ _ p.1)
-              | inr out ↦ let z : Err Range ≡ Ok mark =
-                  sym (cond-false (is_word word) (ranged d row (Word row word)) (Err Range) out) ∙ h' in cc z
-            ]
+        | inr out ↦ let z : Err Form ≡ Ok mark =
+            sym (cond-false (bytes_eq letter (codes "W")) (with_word d row r) (Err Form) out) ∙ h in cc z
+        | inl w ↦ own r was (sym (cond-true (bytes_eq letter (codes "W")) (with_word d row r) (Err Form) w) ∙ h)
       ]
+    where
+      own : (r : Result ℕ FaultKind) → word_written version d parts ≡ r → with_word d row r ≡ Ok mark
+          → IsEntry d beaten (meaning_of mark)
+      own (Err kind) was h = cc h
+      own (Ok word) was h =
+          let r = in_range row (Word row word) mark h in
+          let written = written_word d order small rows words version parts word was in
+          subst (λ (m : Mark). IsEntry d beaten (meaning_of m)) r.1 (r.0, written.some, written.below)
 
-  entry_valid : (parts : List (List ℕ)) (mark : Mark) → entry_of d beaten parts ≡ Ok mark
+  entry_valid : (parts : List (List ℕ)) (mark : Mark) → entry_of version d beaten parts ≡ Ok mark
       → IsEntry d beaten (meaning_of mark)
   entry_valid [] mark h = cc h
   entry_valid (letter ∷ []) mark h = cc h
   entry_valid (letter ∷ row ∷ []) mark h = short_valid letter (number_of row) mark h
-  entry_valid (letter ∷ row ∷ word ∷ []) mark h = word_valid letter (number_of row) (number_of word) mark h
-  entry_valid (letter ∷ row ∷ word ∷ other ∷ others) mark h = cc h
+  entry_valid (letter ∷ row ∷ part ∷ parts) mark h =
+      word_valid letter (number_of row) (word_written version d (part ∷ parts)) mark (part ∷ parts) refl h
 
   entry_first : (n : ℕ) (r : Result Mark FaultKind) (rest : Result (List nodes.Mark) BookFault)
       (marks : List nodes.Mark) → after_entry n r rest ≡ Ok marks
@@ -118,8 +116,8 @@ module _ (d : Dimensions) (beaten : Bool) where
   entry_first n (Ok mark) (Err stop) marks h = cc h
   entry_first n (Ok mark) (Ok more) marks h = (mark, more, refl, refl, cc h)
 
-  entries_valid : (n : ℕ) (lines : List (List ℕ)) (marks : List nodes.Mark) → entries d beaten n lines ≡ Ok marks
-      → AllByRecursion (IsEntry d beaten) marks
+  entries_valid : (n : ℕ) (lines : List (List ℕ)) (marks : List nodes.Mark)
+      → entries version d beaten n lines ≡ Ok marks → AllByRecursion (IsEntry d beaten) marks
   entries_valid n [] marks h = cc h
   entries_valid n (line ∷ []) marks h = cc h
   entries_valid n (line ∷ next ∷ lines) marks h =
@@ -134,35 +132,49 @@ module _ (d : Dimensions) (beaten : Bool) where
               | inr more ↦ let z = sym (cond-false (is_nothing (next ∷ lines)) _ _ more) ∙ h' in cc z
             ]
         | inr other ↦
-            let k =
-            entry_first n (entry_of d beaten (split 32 line)) (entries d beaten (n + 1) (next ∷ lines)) marks
+            let k = entry_first n (entry_of version d beaten (split 32 line))
+            (entries version d beaten (n + 1) (next ∷ lines)) marks
             (sym (cond-false (bytes_eq line (codes "END")) _ _ other) ∙ h) in
             subst (AllByRecursion (IsEntry d beaten)) k.4
             (entry_valid (split 32 line) k.0 k.2, entries_valid (n + 1) (next ∷ lines) k.1 k.3)
       ]
 
 -- a line for each entry
-entries_long : (marks : List nodes.Mark) → length marks ≤ length (entries_text marks)
-entries_long [] = omega arith
-entries_long (nodes.Branch row ∷ marks) =
-    omega (arith, entries_long marks, length-append (entry_text (nodes.Branch row)) (entries_text marks))
-entries_long (nodes.Word row word ∷ marks) =
-    omega (arith, entries_long marks, length-append (entry_text (nodes.Word row word)) (entries_text marks))
-entries_long (nodes.Worse row ∷ marks) =
-    omega (arith, entries_long marks, length-append (entry_text (nodes.Worse row)) (entries_text marks))
+entries_long : (version : Version) (d : Dimensions) (marks : List nodes.Mark)
+    → length marks ≤ length (entries_text version d marks)
+entries_long version d [] = omega arith
+entries_long version d (nodes.Branch row ∷ marks) =
+    omega (
+      arith,
+      entries_long version d marks,
+      length-append (entry_text version d (nodes.Branch row))
+          (entries_text version d marks),
+    )
+entries_long version d (nodes.Word row word ∷ marks) =
+    omega (
+      arith,
+      entries_long version d marks,
+      length-append (entry_text version d (nodes.Word row word))
+          (entries_text version d marks),
+    )
+entries_long version d (nodes.Worse row ∷ marks) =
+    omega (
+      arith,
+      entries_long version d marks,
+      length-append (entry_text version d (nodes.Worse row))
+          (entries_text version d marks),
+    )
 
 -- the numbers of parts are within their bounds
 numbers_within : (least limit : ℕ) (parts : List (List ℕ)) (numbers : List ℕ)
-    → numbers_of_parts least limit parts ≡ Some numbers
-    → AllByRecursion (λ n. (least ≤ n) × (n < limit)) numbers
-numbers_within least limit [] numbers h =
-    (let e : [] ≡ numbers = cc h in subst (AllByRecursion (λ n. (least ≤ n) × (n < limit))) e tt)
+    → numbers_of_parts least limit parts ≡ Some numbers → AllByRecursion (λ n. (least ≤ n) × (n < limit)) numbers
+numbers_within least limit [] numbers h = let e : [] ≡ numbers = cc h in
+    subst (AllByRecursion (λ n. (least ≤ n) × (n < limit))) e tt
 numbers_within least limit (part ∷ parts) numbers h =
     let k = taken (number_of part) (numbers_of_parts least limit parts) numbers h in
     subst (AllByRecursion (λ n. (least ≤ n) × (n < limit))) k.4 (k.3, numbers_within least limit parts k.1 k.2)
   where
-    taken : (o : Option ℕ) (rest : Option (List ℕ)) (numbers : List ℕ)
-        → with_number least limit o rest ≡ Some numbers
+    taken : (o : Option ℕ) (rest : Option (List ℕ)) (numbers : List ℕ) → with_number least limit o rest ≡ Some numbers
         → (n : ℕ) × (ns : List ℕ) × (rest ≡ Some ns) × ((least ≤ n) × (n < limit)) × (n ∷ ns ≡ numbers)
     taken None rest numbers h = cc h
     taken (Some n) None numbers h = cc h
@@ -190,7 +202,7 @@ module _ (shape : Shape) where
             sym (cond-false (leb 3 r && leb r 99) (Some (Resolution r)) None out) ∙ h in cc z
       ]
 
-  resolution_valid : (parts : List (List ℕ)) (asked : Demands) → resolution_of parts ≡ Some asked
+  resolution_valid : (parts : List (List ℕ)) (asked : Demands) → resolution_demands parts ≡ Some asked
       → AreDemands shape asked
   resolution_valid [] asked h = cc h
   resolution_valid (part ∷ []) asked h = resolution_asked (number_of part) asked h
@@ -200,7 +212,7 @@ module _ (shape : Shape) where
   IsWithin limit e = (0 < e.0) × (e.0 < limit)
 
   effects_within : (limit : ℕ) (ns : List ℕ) → AllByRecursion (λ n. (1 ≤ n) × (n < limit)) ns
-      → AllByRecursion (IsWithin limit) (effects_of ns)
+      → AllByRecursion (IsWithin limit) (numbered_effects ns)
   effects_within limit [] h = tt
   effects_within limit (n ∷ ns) h = ((omega (arith, h.0.0), h.0.1), effects_within limit ns h.1)
 
@@ -209,8 +221,8 @@ module _ (shape : Shape) where
     others : AllByRecursion (IsWithin limit) lists.nonnegligible
 
   first_effect : (limit : ℕ) (o : Option ℕ) (r : Option EffectLists) (lists : EffectLists)
-      → with_effect limit o r ≡ Some lists
-      → ((more : EffectLists) → r ≡ Some more → AreWithin limit more) → AreWithin limit lists
+      → with_effect limit o r ≡ Some lists → ((more : EffectLists) → r ≡ Some more → AreWithin limit more)
+      → AreWithin limit lists
   first_effect limit None r lists h rest = cc h
   first_effect limit (Some n) None lists h rest = cc h
   first_effect limit (Some n) (Some more) lists h rest =
@@ -225,8 +237,8 @@ module _ (shape : Shape) where
             let w = rest more refl in
             subst (AreWithin limit) e
             (record { estimate = ((omega (arith, one), ltb-true _ _ p.1), w.estimate); others = w.others })
-        | inr out ↦
-            let z : None ≡ Some lists = sym (cond-false (leb 1 n && ltb n limit) (Some own) None out) ∙ h in cc z
+        | inr out ↦ let z : None ≡ Some lists = sym (cond-false (leb 1 n && ltb n limit) (Some own) None out) ∙ h in
+            cc z
       ]
 
   lists_within : (limit : ℕ) (parts : List (List ℕ)) (lists : EffectLists) → lists_of limit parts ≡ Some lists
@@ -241,8 +253,8 @@ module _ (shape : Shape) where
             (record { estimate = tt; others = effects_within limit k.0 (numbers_within 1 limit parts k.0 k.1) })
         | inr other ↦
             first_effect limit (number_of part) (lists_of limit parts) lists
-            (sym (cond-false (bytes_eq part (codes "/")) (after_stroke (as_effects (numbers_of_parts 1 limit parts)))
-            _ other) ∙ h) (lists_within limit parts)
+            (sym (cond-false (bytes_eq part (codes "/")) (after_stroke (as_effects (numbers_of_parts 1 limit parts))) _
+            other) ∙ h) (lists_within limit parts)
       ]
 
   effects_valid : (o : Option EffectLists) (asked : Demands)
@@ -251,18 +263,20 @@ module _ (shape : Shape) where
   effects_valid None asked within h = cc h
   effects_valid (Some lists) asked within h =
       let w = within lists refl in
-      let own : Demands = Effects lists.estimate lists.nonnegligible in
-      let test : Bool = may_be_asked shape.q (numbers_of lists.estimate) (numbers_of lists.nonnegligible) in
-      elim (cases_Bool test) [
+      elim (cases_Bool (may_be_asked shape.q (numbers_of lists.estimate) (numbers_of lists.nonnegligible))) [
         | inl may ↦
-            let z : Some own ≡ Some asked = sym (cond-true test (Some own) None may) ∙ h in
-            let e : own ≡ asked = cc z in
-            let a =
-            askable shape.q shape.s lists.estimate lists.nonnegligible
+            let z : Some (Effects lists.estimate lists.nonnegligible) ≡ Some asked =
+            sym (cond-true (may_be_asked shape.q (numbers_of lists.estimate) (numbers_of lists.nonnegligible)) _
+            None may) ∙ h in
+            let e : Effects lists.estimate lists.nonnegligible ≡ asked = cc z in
+            let a = askable shape.q shape.s lists.estimate lists.nonnegligible
             (All-from_recursion (IsWithin (2 ^ shape.s)) lists.estimate w.estimate)
             (All-from_recursion (IsWithin (2 ^ shape.s)) lists.nonnegligible w.others) may in
             subst (λ (d : Demands). AreDemands shape d) e (a.0, (a.1, a.2))
-        | inr out ↦ let z : None ≡ Some asked = sym (cond-false test (Some own) None out) ∙ h in cc z
+        | inr out ↦
+            let z : None ≡ Some asked =
+            sym (cond-false (may_be_asked shape.q (numbers_of lists.estimate) (numbers_of lists.nonnegligible))
+            (Some (Effects lists.estimate lists.nonnegligible)) None out) ∙ h in cc z
       ]
 
   demands_valid : (parts : List (List ℕ)) (asked : Demands) → demands_of shape parts ≡ Some asked
@@ -270,14 +284,15 @@ module _ (shape : Shape) where
   demands_valid [] asked h = cc h
   demands_valid (word ∷ parts) asked h =
       let effects : Option Demands = asked_for shape.q (lists_of (2 ^ shape.s) parts) in
-      let others : Option Demands = cond (bytes_eq word (codes "effects")) effects None in
       elim (cases_Bool (bytes_eq word (codes "resolution"))) [
         | inl is ↦
             resolution_valid parts asked
-            (sym (cond-true (bytes_eq word (codes "resolution")) (resolution_of parts) others is) ∙ h)
+            (sym (cond-true (bytes_eq word (codes "resolution")) (resolution_demands parts)
+            (cond (bytes_eq word (codes "effects")) effects None) is) ∙ h)
         | inr other ↦
-            let h' =
-            sym (cond-false (bytes_eq word (codes "resolution")) (resolution_of parts) others other) ∙ h in
+            let h' = sym
+            (cond-false (bytes_eq word (codes "resolution")) (resolution_demands parts)
+            (cond (bytes_eq word (codes "effects")) effects None) other) ∙ h in
             elim (cases_Bool (bytes_eq word (codes "effects"))) [
               | inl is ↦
                   effects_valid (lists_of (2 ^ shape.s) parts) asked (lists_within (2 ^ shape.s) parts)
@@ -309,8 +324,7 @@ whole_valid s (Some pattern) beat h each =
           sym (cond-false (eqb (length pattern) s) (Some (Some pattern)) None out) ∙ h in cc z
     ]
 
-from_zero : (ns : List ℕ) → AllByRecursion (λ n. (0 ≤ n) × (n < 2 ^ 127)) ns
-    → AllByRecursion (λ a. a < 2 ^ 127) ns
+from_zero : (ns : List ℕ) → AllByRecursion (λ n. (0 ≤ n) × (n < 2 ^ 127)) ns → AllByRecursion (λ a. a < 2 ^ 127) ns
 from_zero [] h = tt
 from_zero (n ∷ ns) h = (h.0.1, from_zero ns h.1)
 
@@ -318,45 +332,57 @@ pattern_valid : (s : ℕ) (allowed : Bool) (parts : List (List ℕ)) (beat : Opt
     → beat_from s allowed parts ≡ Some beat → IsBeatOf s allowed beat
 pattern_valid s allowed [] beat h = cc h
 pattern_valid s allowed (word ∷ parts) beat h =
-    let own : Option (Option (List ℕ)) = whole_pattern s (numbers_of_parts 0 (2 ^ 127) parts) in
     elim (cases_Bool (bytes_eq word (codes "pattern") && allowed)) [
       | inl is ↦
-          let whole = whole_valid s (numbers_of_parts 0 (2 ^ 127) parts) beat
-          (sym (cond-true (bytes_eq word (codes "pattern") && allowed) own None is) ∙ h)
+          let own = whole_valid s (numbers_of_parts 0 (2 ^ 127) parts) beat
+          (sym (cond-true (bytes_eq word (codes "pattern") && allowed) _ None is) ∙ h)
           (λ pattern e. from_zero pattern (numbers_within 0 (2 ^ 127) parts pattern e)) in
-          record { pattern = whole.pattern; may = λ some. (and_parts _ _ is).1 }
+          record { pattern = own.pattern; may = λ some. (and_parts _ _ is).1 }
       | inr out ↦ let z : None ≡ Some beat =
-          sym (cond-false (bytes_eq word (codes "pattern") && allowed) own None out) ∙ h in cc z
+          sym (cond-false (bytes_eq word (codes "pattern") && allowed)
+          (whole_pattern s (numbers_of_parts 0 (2 ^ 127) parts)) None out) ∙ h in cc z
     ]
 
 beat_valid : (s : ℕ) (allowed : Bool) (line : List ℕ) (beat : Option (List ℕ)) → beat_of s allowed line ≡ Some beat
     → IsBeatOf s allowed beat
 beat_valid s allowed line beat h =
-    let own : Option (Option (List ℕ)) = beat_from s allowed (split 32 line) in
     elim (cases_Bool (bytes_eq line (codes "pattern none"))) [
       | inl none ↦
           let z : Some None ≡ Some beat =
-          sym (cond-true (bytes_eq line (codes "pattern none")) (Some None) own none) ∙ h in
+          sym (cond-true (bytes_eq line (codes "pattern none")) (Some None) (beat_from s allowed (split 32 line))
+          none) ∙ h in
           let e : None ≡ beat = cc z in
           subst (IsBeatOf s allowed) e (record { pattern = refl; may = λ some. cc some })
       | inr other ↦
           pattern_valid s allowed (split 32 line) beat
-          (sym (cond-false (bytes_eq line (codes "pattern none")) (Some None) own other) ∙ h)
+          (sym (cond-false (bytes_eq line (codes "pattern none")) (Some None) (beat_from s allowed (split 32 line))
+          other)
+          ∙ h)
     ]
 
-module _ (book : Book) (few : length book.marks ≤ 268435456) where
-  from_beat_valid : (shape : Shape) → AreLimits shape → (asked : Demands) → AreDemands shape asked
-      → (lines : List (List ℕ)) → from_beat shape asked lines ≡ Ok book → IsValidBook book
+module _ (version : Version) (book : Book) (few : length book.marks ≤ 268435456) where
+  from_beat_valid : (shape : Shape) → AreLimits version shape → (asked : Demands) → AreDemands shape asked
+      → (lines : List (List ℕ)) → from_beat version shape asked lines ≡ Ok book → IsValidBook book
   from_beat_valid shape l asked may lines e =
-      let k =
-      line_taken (fault kind.Pattern 4)
-      (λ line rest. with_beat shape asked rest (beat_of shape.s (may_be_beaten shape asked) line)) lines book e in
-      let b = beat_taken shape l book asked k.1 (beat_of shape.s (may_be_beaten shape asked) k.0) k.4 in
-      let m = marks_taken shape l book asked b.0 (entries (dimensions_of shape) (is_some b.0) 5 k.1) b.2 in
+      let k = line_taken (fault kind.Pattern 4)
+      (λ line rest. with_beat version shape asked rest (beat_of shape.s (may_be_beaten shape asked) line)) lines
+      book e in
+      let b = beat_taken version shape l book asked k.1 (beat_of shape.s (may_be_beaten shape asked) k.0) k.4 in
+      let m = marks_taken version shape l book asked b.0 (entries version (dimensions_of shape) (is_some b.0) 5 k.1) b.2
+      in
       let beat = beat_valid shape.s (may_be_beaten shape asked) k.0 b.0 b.1 in
+      let own : Book =
+      record {
+        head = record
+            { question = record { shape = shape; demands = asked; least = is_some b.0 }; beat = b.0 };
+        marks = m.0;
+      }
+      in
       let least : is_some b.0 ≡ true → (is_resolution (requirement_of asked) ≡ true) × (shape.t ≡ 0) =
       λ some. (let p = and_parts _ _ (beat.may some) in (p.1, eqb-true _ _ p.0)) in
-      let marks = entries_valid (dimensions_of shape) (is_some b.0) 5 k.1 m.0 m.1 in
+      let marks =
+      entries_valid version (dimensions_of shape) (is_some b.0) (omega (arith, l.order)) (omega (arith, l.q))
+      (omega (arith, l.rows)) (words_fit shape l.shaped (shape.s + shape.t) (omega arith)) 5 k.1 m.0 m.1 in
       subst IsValidBook m.2 (record {
         question = record { shaped = l.shaped; asked = may.0; least = least };
         few_effects = may.1;
@@ -365,31 +391,33 @@ module _ (book : Book) (few : length book.marks ≤ 268435456) where
         few_marks = subst (λ (x : Book). length x.marks ≤ 268435456) (sym m.2) few;
       })
 
-  from_size_valid : (lines : List (List ℕ)) → from_size lines ≡ Ok book → IsValidBook book
+  from_size_valid : (lines : List (List ℕ)) → from_size version lines ≡ Ok book → IsValidBook book
   from_size_valid lines e =
-      let k =
-      line_taken (fault kind.Size 2) (λ line rest. with_shape rest (shape_of (split 32 line))) lines book e in
-      let s = size_taken book k.1 (shape_of (split 32 k.0)) k.4 in
-      let l = (shape_is s.0 (split 32 k.0) s.1).0 in
-      let j =
-      line_taken (fault kind.Demands 3) (λ line rest. with_demands s.0 rest (demands_of s.0 (split 32 line))) k.1
-      book s.2 in
-      let a = demands_taken s.0 l book j.1 (demands_of s.0 (split 32 j.0)) j.4 in
+      let k = line_taken (fault kind.Size 2) (λ line rest. with_shape version rest (shape_of version (split 32 line)))
+      lines book e in
+      let s = size_taken version book k.1 (shape_of version (split 32 k.0)) k.4 in
+      let l = (shape_is version s.0 (split 32 k.0) s.1).0 in
+      let j = line_taken (fault kind.Demands 3)
+      (λ line rest. with_demands version s.0 rest (demands_of s.0 (split 32 line))) k.1 book s.2 in
+      let a = demands_taken version s.0 l book j.1 (demands_of s.0 (split 32 j.0)) j.4 in
       from_beat_valid s.0 l a.0 (demands_valid s.0 (split 32 j.0) a.0 a.1) j.1 a.2
 
-few_entries : (book : Book) → length (book_text book) ≤ 268435456 → length book.marks ≤ 268435456
-few_entries book few =
+few_entries : (version : Version) (book : Book) (text : List ℕ) → text ≡ text_in version book → length text ≤ 268435456
+    → length book.marks ≤ 268435456
+few_entries version book text is few =
     let shape : List ℕ = shape_text book.head.question.shape in
     let demands : List ℕ = demands_text book.head.question.demands in
     let beat : List ℕ = beat_text book.head.beat in
-    let entries : List ℕ = entries_text book.marks in
+    let entries : List ℕ = entries_text version (dimensions_of book.head.question.shape) book.marks in
     let last : List ℕ = codes "END\n" in
-    let a = length-append (codes "factex-book 1\n") (shape ++ (demands ++ (beat ++ (entries ++ last)))) in
-    let b = length-append shape (demands ++ (beat ++ (entries ++ last))) in
-    let c = length-append demands (beat ++ (entries ++ last)) in
-    let d = length-append beat (entries ++ last) in
-    let e = length-append entries last in
-    omega (arith, few, a, b, c, d, e, entries_long book.marks)
+    let front : List ℕ = codes "\n" ++ (shape ++ (demands ++ (beat ++ (entries ++ last)))) in
+    let a : length (text_in version book) ≤ 268435456 = subst (λ (l : List ℕ). length l ≤ 268435456) is few in
+    let b = length-append (title_of version) front in
+    let c = length-append shape (demands ++ (beat ++ (entries ++ last))) in
+    let d = length-append demands (beat ++ (entries ++ last)) in
+    let e = length-append beat (entries ++ last) in
+    let f = length-append entries last in
+    omega (arith, a, b, c, d, e, f, entries_long version (dimensions_of book.head.question.shape) book.marks)
 
 pub read_is_valid : (text : List ℕ) (book : Book) → book_of text ≡ Ok book → IsValidBook book
 unfolding book_of
@@ -399,9 +427,10 @@ read_is_valid text book h =
       | inr short ↦
           let h' : from_title (split 10 text) ≡ Ok book =
           sym (cond-false (ltb 268435456 (length text)) _ _ short) ∙ h in
-          let k = title_taken book (split 10 text) h' in
+          let k = line_taken (fault kind.Title 1) (λ line rest. with_version rest (version_of line)) (split 10 text)
+          book h' in
+          let v = version_taken k.1 (version_of k.0) book k.4 in
+          let w = read_is_written text book h in
           let low : length text ≤ 268435456 = ltb-false _ _ short in
-          let written : length (book_text book) ≤ 268435456 =
-          subst (λ (l : List ℕ). length l ≤ 268435456) (read_is_written book text h) low in
-          from_size_valid book (few_entries book written) k.0 k.3
+          from_size_valid v.0 book (few_entries w.0 book text w.1 low) k.1 v.2
     ]

@@ -1,29 +1,34 @@
 -- A whole book that was written is read.
-use Rattle.std.proofs.Common.{◌≡◌, ℕ, ◌+◌, ◌^◌, ◌<◌, ◌≤◌, Bool, true, ltb, List, [], ◌∷◌, ◌++◌, length, Option, Some}
-use Rattle.std.proofs.Common.{None, Ok, Err, refl, sym, ap, ◌∙◌, arith, append_assoc, eq-eqb, le-ltb, if◌then◌else◌}
+use Rattle.std.proofs.Common.{◌≡◌, ℕ, ◌+◌, ◌^◌, ◌<◌, ◌≤◌, Bool, true, false, inl, inr, ltb, leb, subst, le-leb, List}
+use Rattle.std.proofs.Common.{[], ◌∷◌, ◌++◌, length, Option, Some, None, Ok, Err, refl, sym, ap, ◌∙◌, arith}
+use Rattle.std.proofs.Common.{append_assoc, eq-eqb, le-ltb, if◌then◌else◌}
 use Rattle.std.specs.Prelude.{codes}
 use Rattle.std.specs.List.{AllByRecursion}
 use Rattle.std.specs.Option.{is_some}
 use Rattle.std.specs.Str.{bytes_eq}
-use Rattle.std.proofs.lemmas.Bool.{cond-false, and_from}
+use Rattle.std.proofs.lemmas.Bool.{cond-true, cond-false, cases_Bool, cases_lt, both_ways, and_from}
 use Rattle.std.proofs.lemmas.List.Elements.{recursion_from_All}
-use Rattle.fx_vectors.specs.Shape.{dimensions_of}
+use Rattle.fx_vectors.specs.Shape.{IsShape, dimensions_of}
 use Rattle.fx_vectors.specs.Effects.{numbers_of}
 use Rattle.fx_vectors.specs.Question.{CanBeAsked, requirement_of}
 use Rattle.fx_vectors.specs.declared.shape.Shape.{Shape}
 use Rattle.fx_vectors.specs.declared.book.Book.{Book}
 use Rattle.fx_vectors.specs.declared.question.Demands.{Demands}
 use Rattle.fx_vectors.specs.declared.question.Demands.TheVariants.{Resolution, Effects}
-use Rattle.fx_vectors.proofs.Limits.{order-bounds, numbers_fit, rows_fit}
+use Rattle.fx_vectors.proofs.Limits.{order-bounds, words_fit, rows_fit}
+use Rattle.fx_vectors.specs.declared.shape.TheConstants.{MOST_FACTORS, MOST_FACTORS_OF_MANY_LEVELS}
 use Rattle.fx_book.specs.declared.fault.FaultKind.TheVariants as kind
 use Rattle.fx_book.specs.Faults.{fault}
 use Rattle.fx_book.specs.Parts.{split}
 use Rattle.fx_book.specs.Entries.{entries_text}
 use Rattle.fx_book.specs.Reading.{entries}
 use Rattle.fx_book.specs.Demands.{demands_of}
-use Rattle.fx_book.specs.Heads.{book_of, from_size, from_demands, from_beat, with_shape, with_demands, with_beat}
-use Rattle.fx_book.specs.Heads.{with_marks, shape_of, beat_of, may_be_beaten}
-use Rattle.fx_book.specs.Writing.{spaced, shape_text, demands_text, beat_text, book_text}
+use Rattle.fx_book.specs.Heads.{book_of, from_title, with_version, from_size, from_demands, from_beat, with_shape}
+use Rattle.fx_book.specs.Heads.{with_demands, with_beat, with_marks, shape_of, beat_of, may_be_beaten}
+use Rattle.fx_book.specs.declared.version.Version.{Version}
+use Rattle.fx_book.specs.declared.version.Version.TheVariants.{First, Second}
+use Rattle.fx_book.specs.Versions.{title_of, version_of, most_factors_in}
+use Rattle.fx_book.specs.Writing.{spaced, shape_text, demands_text, beat_text, text_in, book_text}
 use Rattle.fx_book.specs.Valid.{AreFew, IsEntry, IsBeat, IsValidBook}
 use Rattle.fx_book.proofs.Splits.{some_parts}
 use Rattle.fx_book.proofs.Lines.{line_more}
@@ -31,11 +36,22 @@ use Rattle.fx_book.proofs.Back.{Without, split_line, without-append, entries_bac
 use Rattle.fx_book.proofs.Books.{one_line, wide_shape, shape_back, resolution_back, effects_back, each_number, small}
 use Rattle.fx_book.proofs.Books.{pattern_back, wider}
 
+plain_title : (version : Version) → Without 10 (title_of version)
+plain_title First =
+    (refl, (refl, (refl, (refl, (refl, (refl, (refl, (refl, (refl, (refl, (refl, (refl, (refl, tt)))))))))))))
+plain_title Second =
+    (refl, (refl, (refl, (refl, (refl, (refl, (refl, (refl, (refl, (refl, (refl, (refl, (refl, tt)))))))))))))
+
+own_title : (version : Version) → version_of (title_of version) ≡ Some version
+own_title First = refl
+own_title Second = refl
+
 least_is : (s : ℕ) (least : Bool) (beat : Option (List ℕ)) → IsBeat s least beat → is_some beat ≡ least
 least_is s least None h = sym h
 least_is s least (Some pattern) h = sym h.0
 
-module _ (book : Book) (valid : IsValidBook book) where
+module _ (version : Version) (book : Book) (valid : IsValidBook book)
+    (few_factors : book.head.question.shape.s ≤ most_factors_in version book.head.question.shape.q) where
   abbrev shape : Shape
   shape = book.head.question.shape
 
@@ -47,7 +63,7 @@ module _ (book : Book) (valid : IsValidBook book) where
 
   -- the text after the line of the pattern, of the demands, of the shape and of the title
   abbrev after_beat : List ℕ
-  after_beat = entries_text book.marks ++ codes "END\n"
+  after_beat = entries_text version (dimensions_of shape) book.marks ++ codes "END\n"
 
   abbrev after_demands : List ℕ
   after_demands = beat_text beat ++ after_beat
@@ -58,11 +74,13 @@ module _ (book : Book) (valid : IsValidBook book) where
   abbrev after_title : List ℕ
   after_title = shape_text shape ++ after_shape
 
-  marks_back : entries (dimensions_of shape) (is_some beat) 5 (split 10 after_beat) ≡ Ok book.marks
+  marks_back : entries version (dimensions_of shape) (is_some beat) 5 (split 10 after_beat) ≡ Ok book.marks
   marks_back =
-      entries_back (dimensions_of shape) (is_some beat) valid.question.shaped.runs
-      (numbers_fit shape.q (shape.s + shape.t) (order-bounds shape.q valid.question.shaped.order).1
-      (rows_fit shape valid.question.shaped))
+      entries_back version (dimensions_of shape) (is_some beat)
+      (omega (arith, (order-bounds shape.q valid.question.shaped.order).0))
+      (omega (arith, (order-bounds shape.q valid.question.shaped.order).1))
+      (omega (arith, rows_fit shape valid.question.shaped)) valid.question.shaped.runs
+      (words_fit shape valid.question.shaped (shape.s + shape.t) (omega arith))
       book.marks 5 (recursion_from_All (IsEntry (dimensions_of shape) (is_some beat)) book.marks valid.marks)
 
   may : book.head.question.least ≡ true → may_be_beaten shape asked ≡ true
@@ -132,14 +150,14 @@ module _ (book : Book) (valid : IsValidBook book) where
         effects_back shape estimate others short h few.0 few.1,
       )
 
-  from_beat_back : from_beat shape asked (split 10 after_demands) ≡ Ok book
+  from_beat_back : from_beat version shape asked (split 10 after_demands) ≡ Ok book
   from_beat_back =
       let cut = beat_cut beat after_beat valid.beat in
-      ap (from_beat shape asked) cut.1
+      ap (from_beat version shape asked) cut.1
       ∙ line_more (Err (fault kind.Pattern 4))
-      (λ line rest. with_beat shape asked rest (beat_of shape.s (may_be_beaten shape asked) line)) cut.0
+      (λ line rest. with_beat version shape asked rest (beat_of shape.s (may_be_beaten shape asked) line)) cut.0
       (split 10 after_beat) (some_parts 10 after_beat)
-      ∙ ap (with_beat shape asked (split 10 after_beat)) cut.2 ∙ ap (with_marks shape asked beat) marks_back
+      ∙ ap (with_beat version shape asked (split 10 after_beat)) cut.2 ∙ ap (with_marks shape asked beat) marks_back
       ∙ ap (λ (least : Bool). Ok
       (record {
         head = record { question = record { shape = shape; demands = asked; least = least }; beat = beat };
@@ -147,32 +165,56 @@ module _ (book : Book) (valid : IsValidBook book) where
       }))
       (least_is shape.s book.head.question.least beat valid.beat)
 
-  from_demands_back : from_demands shape (split 10 after_shape) ≡ from_beat shape asked (split 10 after_demands)
+  from_demands_back : from_demands version shape (split 10 after_shape)
+      ≡ from_beat version shape asked (split 10 after_demands)
   from_demands_back =
       let cut = demands_cut asked after_demands valid.question.asked valid.few_effects in
-      ap (from_demands shape) cut.1
-      ∙ line_more (Err (fault kind.Demands 3)) (λ line rest. with_demands shape rest (demands_of shape (split 32 line)))
-      cut.0 (split 10 after_demands) (some_parts 10 after_demands)
-      ∙ ap (with_demands shape (split 10 after_demands)) cut.2
+      ap (from_demands version shape) cut.1
+      ∙ line_more (Err (fault kind.Demands 3))
+      (λ line rest. with_demands version shape rest (demands_of shape (split 32 line))) cut.0 (split 10 after_demands)
+      (some_parts 10 after_demands)
+      ∙ ap (with_demands version shape (split 10 after_demands)) cut.2
 
-  from_size_back : from_size (split 10 after_title) ≡ from_demands shape (split 10 after_shape)
+  from_size_back : from_size version (split 10 after_title) ≡ from_demands version shape (split 10 after_shape)
   from_size_back =
       let numbers : List ℕ = shape.q ∷ shape.m ∷ shape.s ∷ shape.t ∷ [] in
       let line : List ℕ = codes "size" ++ spaced numbers in
       let own : Without 10 line =
-      (refl, (refl, (refl, (refl, one_line numbers (wide_shape shape valid.question.shaped))))) in
-      ap from_size
+      (refl, (refl, (refl, (refl, one_line numbers (wide_shape version shape valid.question.shaped few_factors)))))
+      in
+      ap (from_size version)
       (ap (λ l. split 10 (codes "size" ++ l)) (append_assoc (spaced numbers) (10 ∷ []) after_shape) ∙ split_line 10
       line after_shape own)
-      ∙ line_more (Err (fault kind.Size 2)) (λ line rest. with_shape rest (shape_of (split 32 line))) line
-      (split 10 after_shape) (some_parts 10 after_shape)
-      ∙ ap (with_shape (split 10 after_shape)) (shape_back shape valid.question.shaped)
+      ∙ line_more (Err (fault kind.Size 2)) (λ line rest. with_shape version rest (shape_of version (split 32 line)))
+      line (split 10 after_shape) (some_parts 10 after_shape)
+      ∙ ap (with_shape version (split 10 after_shape)) (shape_back version shape valid.question.shaped few_factors)
 
-  pub written_back : length (book_text book) ≤ 268435456 → book_of (book_text book) ≡ Ok book
+  pub written_back : length (text_in version book) ≤ 268435456 → book_of (text_in version book) ≡ Ok book
   unfolding book_of
   written_back few =
-      cond-false (ltb 268435456 (length (book_text book))) _ _ (le-ltb _ _ few)
-      ∙ line_more (Err (fault kind.Title 1))
-      (λ line rest. if bytes_eq line (codes "factex-book 1") then from_size rest else Err (fault kind.Title 1))
-      (codes "factex-book 1") (split 10 after_title) (some_parts 10 after_title)
+      cond-false (ltb 268435456 (length (text_in version book))) _ _ (le-ltb _ _ few)
+      ∙ ap from_title (split_line 10 (title_of version) after_title (plain_title version))
+      ∙ line_more (Err (fault kind.Title 1)) (λ line rest. with_version rest (version_of line)) (title_of version)
+      (split 10 after_title) (some_parts 10 after_title)
+      ∙ ap (with_version (split 10 after_title)) (own_title version)
       ∙ from_size_back ∙ from_demands_back ∙ from_beat_back
+
+-- a valid shape is within the limits of the second version
+second_fits : (shape : Shape) → IsShape shape → shape.s ≤ most_factors_in Second shape.q
+second_fits shape h =
+    elim (cases_Bool (leb shape.q 3)) [
+      | inl few ↦
+          subst (λ n. shape.s ≤ n) (sym (cond-true (leb shape.q 3) MOST_FACTORS MOST_FACTORS_OF_MANY_LEVELS few)) h.factors
+      | inr many ↦
+          subst (λ n. shape.s ≤ n) (sym (cond-false (leb shape.q 3) MOST_FACTORS MOST_FACTORS_OF_MANY_LEVELS many))
+          (h.factors_of_many_levels (over shape.q many))
+    ]
+  where
+    over : (q : ℕ) → leb q 3 ≡ false → 3 < q
+    over q h = elim (cases_lt 3 q) [ inl more ↦ more | inr few ↦ absurd (both_ways _ h (le-leb q 3 few)) ]
+
+-- what is written of a valid book is read
+pub book_back : (book : Book) → IsValidBook book → length (book_text book) ≤ 268435456
+    → book_of (book_text book) ≡ Ok book
+book_back book valid few =
+    written_back Second book valid (second_fits book.head.question.shape valid.question.shaped) few

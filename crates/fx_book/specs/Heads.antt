@@ -10,39 +10,45 @@ use Rattle.fx_vectors.specs.Question.{is_resolution, requirement_of}
 use Rattle.fx_vectors.specs.declared.shape.Shape.{Shape}
 use Rattle.fx_vectors.specs.declared.question.Demands as demands
 use Rattle.fx_vectors.specs.declared.book.Book.{Book}
+use Rattle.fx_vectors.specs.declared.shape.TheConstants.{MOST_FACTORS_IN_BLOCKS}
 use Rattle.fx_book.specs.declared.fault.BookFault.{BookFault}
 use Rattle.fx_book.specs.declared.fault.FaultKind.TheVariants.{TooLong, Title, Size, Demands, Pattern}
+use Rattle.fx_book.specs.declared.version.Version.{Version}
 use Rattle.fx_book.specs.Faults.{fault}
+use Rattle.fx_book.specs.Versions.{version_of, most_factors_in}
 use Rattle.fx_book.specs.Parts.{lines_of, parts_of, number_of, numbers_of_parts}
 use Rattle.fx_book.specs.Demands.{demands_of}
 use Rattle.fx_book.specs.Reading.{entries}
 
 -- within the limits of a shape
-abbrev pub is_shape : ℕ → ℕ → ℕ → ℕ → Bool
-is_shape q m s t =
+abbrev pub is_shape : Version → ℕ → ℕ → ℕ → ℕ → Bool
+is_shape version q m s t =
     is_order q
     && (nat_le 1 m
     && (nat_le m 10
-    && (nat_le (q ^ m) 1024 && (nat_le 1 s && (nat_le s 40 && (nat_le t 10 && ((t == 0) || nat_le s 30)))))))
+    && (nat_le (q ^ m) 1024
+    && (nat_le 1 s
+    && (nat_le s (most_factors_in version q) && (nat_le t 10 && ((t == 0) || nat_le s MOST_FACTORS_IN_BLOCKS)))))))
 
-abbrev pub shape_from : Option ℕ → Option ℕ → Option ℕ → Option ℕ → Option Shape
-shape_from None m s t = None
-shape_from (Some q) None s t = None
-shape_from (Some q) (Some m) None t = None
-shape_from (Some q) (Some m) (Some s) None = None
-shape_from (Some q) (Some m) (Some s) (Some t) =
-    (if is_shape q m s t then Some (record { q = q; m = m; s = s; t = t }) else None)
+abbrev pub shape_from : Version → Option ℕ → Option ℕ → Option ℕ → Option ℕ → Option Shape
+shape_from version None m s t = None
+shape_from version (Some q) None s t = None
+shape_from version (Some q) (Some m) None t = None
+shape_from version (Some q) (Some m) (Some s) None = None
+shape_from version (Some q) (Some m) (Some s) (Some t) =
+    (if is_shape version q m s t then Some (record { q = q; m = m; s = s; t = t }) else None)
 
 -- the shape of the parts of line 2
-abbrev pub shape_of : List (List ℕ) → Option Shape
-shape_of [] = None
-shape_of (word ∷ []) = None
-shape_of (word ∷ q ∷ []) = None
-shape_of (word ∷ q ∷ m ∷ []) = None
-shape_of (word ∷ q ∷ m ∷ s ∷ []) = None
-shape_of (word ∷ q ∷ m ∷ s ∷ t ∷ []) =
-    (if bytes_eq word (codes "size") then shape_from (number_of q) (number_of m) (number_of s) (number_of t) else None)
-shape_of (word ∷ q ∷ m ∷ s ∷ t ∷ other ∷ others) = None
+abbrev pub shape_of : Version → List (List ℕ) → Option Shape
+shape_of version [] = None
+shape_of version (word ∷ []) = None
+shape_of version (word ∷ q ∷ []) = None
+shape_of version (word ∷ q ∷ m ∷ []) = None
+shape_of version (word ∷ q ∷ m ∷ s ∷ []) = None
+shape_of version (word ∷ q ∷ m ∷ s ∷ t ∷ []) =
+    (if bytes_eq word (codes "size")
+    then shape_from version (number_of q) (number_of m) (number_of s) (number_of t) else None)
+shape_of version (word ∷ q ∷ m ∷ s ∷ t ∷ other ∷ others) = None
 
 -- whether there may be a pattern to beat: under a resolution, without block factors
 abbrev pub may_be_beaten : Shape → demands.Demands → Bool
@@ -78,35 +84,40 @@ with_marks shape asked beat (Ok marks) =
       marks = marks;
     })
 
-abbrev pub with_beat : Shape → demands.Demands → List (List ℕ) → Option (Option (List ℕ)) → Result Book BookFault
-with_beat shape asked lines None = Err (fault Pattern 4)
-with_beat shape asked lines (Some beat) =
-    with_marks shape asked beat (entries (dimensions_of shape) (is_some beat) 5 lines)
+abbrev pub with_beat : Version → Shape → demands.Demands → List (List ℕ) → Option (Option (List ℕ))
+    → Result Book BookFault
+with_beat version shape asked lines None = Err (fault Pattern 4)
+with_beat version shape asked lines (Some beat) =
+    with_marks shape asked beat (entries version (dimensions_of shape) (is_some beat) 5 lines)
 
-abbrev pub from_beat : Shape → demands.Demands → List (List ℕ) → Result Book BookFault
-from_beat shape asked lines =
+abbrev pub from_beat : Version → Shape → demands.Demands → List (List ℕ) → Result Book BookFault
+from_beat version shape asked lines =
     with_line (Err (fault Pattern 4))
-    (λ line rest. with_beat shape asked rest (beat_of shape.s (may_be_beaten shape asked) line)) lines
+    (λ line rest. with_beat version shape asked rest (beat_of shape.s (may_be_beaten shape asked) line)) lines
 
-abbrev pub with_demands : Shape → List (List ℕ) → Option demands.Demands → Result Book BookFault
-with_demands shape lines None = Err (fault Demands 3)
-with_demands shape lines (Some asked) = from_beat shape asked lines
+abbrev pub with_demands : Version → Shape → List (List ℕ) → Option demands.Demands → Result Book BookFault
+with_demands version shape lines None = Err (fault Demands 3)
+with_demands version shape lines (Some asked) = from_beat version shape asked lines
 
-abbrev pub from_demands : Shape → List (List ℕ) → Result Book BookFault
-from_demands shape lines =
-    with_line (Err (fault Demands 3)) (λ line rest. with_demands shape rest (demands_of shape (parts_of line))) lines
+abbrev pub from_demands : Version → Shape → List (List ℕ) → Result Book BookFault
+from_demands version shape lines =
+    with_line (Err (fault Demands 3)) (λ line rest. with_demands version shape rest (demands_of shape (parts_of line)))
+    lines
 
-abbrev pub with_shape : List (List ℕ) → Option Shape → Result Book BookFault
-with_shape lines None = Err (fault Size 2)
-with_shape lines (Some shape) = from_demands shape lines
+abbrev pub with_shape : Version → List (List ℕ) → Option Shape → Result Book BookFault
+with_shape version lines None = Err (fault Size 2)
+with_shape version lines (Some shape) = from_demands version shape lines
 
-abbrev pub from_size : List (List ℕ) → Result Book BookFault
-from_size lines = with_line (Err (fault Size 2)) (λ line rest. with_shape rest (shape_of (parts_of line))) lines
+abbrev pub from_size : Version → List (List ℕ) → Result Book BookFault
+from_size version lines =
+    with_line (Err (fault Size 2)) (λ line rest. with_shape version rest (shape_of version (parts_of line))) lines
+
+abbrev pub with_version : List (List ℕ) → Option Version → Result Book BookFault
+with_version lines None = Err (fault Title 1)
+with_version lines (Some version) = from_size version lines
 
 abbrev pub from_title : List (List ℕ) → Result Book BookFault
-from_title lines =
-    with_line (Err (fault Title 1))
-    (λ line rest. if bytes_eq line (codes "factex-book 1") then from_size rest else Err (fault Title 1)) lines
+from_title lines = with_line (Err (fault Title 1)) (λ line rest. with_version rest (version_of line)) lines
 
 -- the book that a text is, or its first fault
 unfoldable pub book_of : List ℕ → Result Book BookFault

@@ -1,5 +1,8 @@
 pub mod Faults
 pub mod Parts
+pub mod Versions
+pub mod Words
+pub mod Placing
 pub mod Entries
 pub mod Reading
 pub mod Demands

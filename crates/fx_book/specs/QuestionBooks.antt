@@ -10,7 +10,7 @@ use Rattle.fx_vectors.specs.declared.question.Demands.{Demands}
 use Rattle.fx_vectors.specs.declared.question.Demands.TheVariants.{Resolution, Effects}
 use Rattle.fx_vectors.specs.declared.book.Head.{Head}
 use Rattle.fx_vectors.specs.declared.book.Book.{Book}
-use Rattle.fx_book.specs.Demands.{effects_of}
+use Rattle.fx_book.specs.Demands.{numbered_effects}
 
 -- a question has a book where it has no answer, or asks for a least pattern
 abbrev pub has_book : Problem → Bool
@@ -26,7 +26,7 @@ shape_of d = record { q = d.q; m = d.m; s = d.s; t = d.t }
 
 abbrev pub demands_for : Requirement → Demands
 demands_for (AtResolution r) = Resolution r
-demands_for (ForEffects estimate besides) = Effects (effects_of estimate) (effects_of besides)
+demands_for (ForEffects estimate besides) = Effects (numbered_effects estimate) (numbered_effects besides)
 
 -- what the book of a question is about: a least pattern only where there is one to beat
 abbrev pub head_for : Problem → Head

@@ -11,6 +11,7 @@ use Rattle.fx_book.specs.declared.fault.FaultKind.TheVariants.{Unfinished, Trail
 use Rattle.fx_book.specs.declared.fault.BookFault.{BookFault}
 use Rattle.fx_book.specs.declared.fault.BookStop.{BookStop}
 use Rattle.fx_book.specs.declared.fault.BookStop.TheVariants.{Fault, NoMemory}
+use Rattle.fx_book.specs.declared.version.Version.{Version}
 use Rattle.fx_book.specs.Faults.{fault}
 use Rattle.fx_book.specs.Parts.{parts_of}
 use Rattle.fx_book.specs.Entries.{entry_of}
@@ -30,13 +31,14 @@ is_nothing (line ∷ next ∷ lines) = false
 
 -- The marks of lines up to `END`, where the first of them has this number. The last of the lines is what no byte 10
 -- ends.
-abbrev pub entries : Dimensions → Bool → ℕ → List (List ℕ) → Result (List nodes.Mark) BookFault
-entries d beaten number [] = Err (fault Unfinished number)
-entries d beaten number (line ∷ []) = Err (fault Unfinished number)
-entries d beaten number (line ∷ next ∷ lines) =
+abbrev pub entries : Version → Dimensions → Bool → ℕ → List (List ℕ) → Result (List nodes.Mark) BookFault
+entries version d beaten number [] = Err (fault Unfinished number)
+entries version d beaten number (line ∷ []) = Err (fault Unfinished number)
+entries version d beaten number (line ∷ next ∷ lines) =
     (if bytes_eq line (codes "END")
     then (if is_nothing (next ∷ lines) then Ok [] else Err (fault Trailing (number + 1)))
-    else after_entry number (entry_of d beaten (parts_of line)) (entries d beaten (number + 1) (next ∷ lines)))
+    else after_entry number (entry_of version d beaten (parts_of line))
+    (entries version d beaten (number + 1) (next ∷ lines)))
 
 -- these marks before those that are read
 abbrev pub onto : List nodes.Mark → Result (List nodes.Mark) BookFault → Result (List nodes.Mark) BookFault

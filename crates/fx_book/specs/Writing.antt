@@ -6,7 +6,11 @@ use Rattle.fx_vectors.specs.declared.question.Demands.{Demands}
 use Rattle.fx_vectors.specs.declared.question.Demands.TheVariants.{Resolution, Effects}
 use Rattle.fx_vectors.specs.declared.book.Book.{Book}
 use Rattle.fx_vectors.specs.declared.book.Head.{Head}
+use Rattle.fx_vectors.specs.Shape.{dimensions_of}
+use Rattle.fx_book.specs.declared.version.Version.{Version}
+use Rattle.fx_book.specs.declared.version.Version.TheVariants.{Second}
 use Rattle.fx_book.specs.Entries.{entries_text}
+use Rattle.fx_book.specs.Versions.{title_of}
 
 -- numbers, a blank before each
 abbrev pub spaced : List ℕ → List ℕ
@@ -34,9 +38,16 @@ beat_text (Some pattern) = codes "pattern" ++ (spaced pattern ++ codes "\n")
 abbrev pub head_text : Head → List ℕ
 head_text head = shape_text head.question.shape ++ (demands_text head.question.demands ++ beat_text head.beat)
 
-abbrev pub book_text : Book → List ℕ
-book_text book =
-    codes "factex-book 1\n"
+-- the text of a book in a version
+abbrev pub text_in : Version → Book → List ℕ
+text_in version book =
+    title_of version
+    ++ (codes "\n"
     ++ (shape_text book.head.question.shape
     ++ (demands_text book.head.question.demands
-    ++ (beat_text book.head.beat ++ (entries_text book.marks ++ codes "END\n"))))
+    ++ (beat_text book.head.beat
+    ++ (entries_text version (dimensions_of book.head.question.shape) book.marks ++ codes "END\n")))))
+
+-- the text that is written
+abbrev pub book_text : Book → List ℕ
+book_text book = text_in Second book

@@ -10,8 +10,9 @@ use crate::beat::beat_of;
 use crate::demands::demands_of;
 use crate::fault::{BookStop, FaultKind};
 use crate::head::shape_of;
-use crate::part::{is_word, next_stop};
+use crate::part::next_stop;
 use crate::reading::{read_entries, stop};
+use crate::version::{Version, version_of};
 use fx_vectors::{Book, Demands, Head, Question, Shape};
 use std::alloc::Global;
 
@@ -35,35 +36,41 @@ pub fn read_book(alloc: Global, bytes: &[u8]) -> Result<Book, BookStop>
     if end == bytes.len() {
         return Err(stop(FaultKind::Title, 1));
     }
-    if !is_word(&bytes[0..end], b"factex-book 1") {
-        return Err(stop(FaultKind::Title, 1));
+    match version_of(&bytes[0..end]) {
+        None => Err(stop(FaultKind::Title, 1)),
+        Some(version) => from_size(alloc, version, bytes, end + 1),
     }
-    from_size(alloc, bytes, end + 1)
 }
 
 /// The book whose line 2 begins at `at`.
-fn from_size(alloc: Global, bytes: &[u8], at: usize) -> Result<Book, BookStop>
+fn from_size(alloc: Global, version: Version, bytes: &[u8], at: usize) -> Result<Book, BookStop>
     requires at { at ≤ length bytes.now }
     requires few { length bytes.now ≤ 268435456 }
-    ensures read { IsReading (from_size (lines_of (drop at bytes.now))) result }
+    ensures read { IsReading (from_size version (lines_of (drop at bytes.now))) result }
     ensures valid { IfOk result IsValidBook }
 {
     let end = next_stop(bytes, at, b'\n');
     if end == bytes.len() {
         return Err(stop(FaultKind::Size, 2));
     }
-    match shape_of(&bytes[at..end]) {
+    match shape_of(version, &bytes[at..end]) {
         None => Err(stop(FaultKind::Size, 2)),
-        Some(shape) => from_demands(alloc, bytes, end + 1, shape),
+        Some(shape) => from_demands(alloc, version, bytes, end + 1, shape),
     }
 }
 
 /// The book of this shape whose line 3 begins at `at`.
-fn from_demands(alloc: Global, bytes: &[u8], at: usize, shape: Shape) -> Result<Book, BookStop>
+fn from_demands(
+    alloc: Global,
+    version: Version,
+    bytes: &[u8],
+    at: usize,
+    shape: Shape,
+) -> Result<Book, BookStop>
     requires at { at ≤ length bytes.now }
     requires few { length bytes.now ≤ 268435456 }
     requires shaped { IsShape shape }
-    ensures read { IsReading (from_demands shape (lines_of (drop at bytes.now))) result }
+    ensures read { IsReading (from_demands version shape (lines_of (drop at bytes.now))) result }
     ensures valid { IfOk result IsValidBook }
 {
     let end = next_stop(bytes, at, b'\n');
@@ -72,13 +79,14 @@ fn from_demands(alloc: Global, bytes: &[u8], at: usize, shape: Shape) -> Result<
     }
     match demands_of(alloc, shape, &bytes[at..end])? {
         None => Err(stop(FaultKind::Demands, 3)),
-        Some(demands) => from_beat(alloc, bytes, end + 1, shape, demands),
+        Some(demands) => from_beat(alloc, version, bytes, end + 1, shape, demands),
     }
 }
 
 /// The book of this shape and these demands whose line 4 begins at `at`.
 fn from_beat(
     alloc: Global,
+    version: Version,
     bytes: &[u8],
     at: usize,
     shape: Shape,
@@ -88,7 +96,7 @@ fn from_beat(
     requires few { length bytes.now ≤ 268435456 }
     requires shaped { IsShape shape }
     requires asked { AreDemands shape demands }
-    ensures read { IsReading (from_beat shape demands (lines_of (drop at bytes.now))) result }
+    ensures read { IsReading (from_beat version shape demands (lines_of (drop at bytes.now))) result }
     ensures valid { IfOk result IsValidBook }
 {
     let end = next_stop(bytes, at, b'\n');
@@ -100,7 +108,15 @@ fn from_beat(
         None => Err(stop(FaultKind::Pattern, 4)),
         Some(beat) => {
             let beaten = beat.is_some();
-            match read_entries(alloc, bytes, end + 1, shape, word_count(shape), beaten) {
+            match read_entries(
+                alloc,
+                bytes,
+                end + 1,
+                version,
+                shape,
+                word_count(shape),
+                beaten,
+            ) {
                 Err(e) => Err(e),
                 Ok(marks) => Ok(Book {
                     head: Head {

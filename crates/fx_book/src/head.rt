@@ -5,11 +5,12 @@ ghost use Rattle.fx_book.specs.Parts.{parts_of};
 ghost use Rattle.fx_book.specs.Heads.{shape_of, shape_from};
 
 use crate::part::{is_word, next_stop, number};
-use fx_vectors::Shape;
+use crate::version::Version;
+use fx_vectors::{MOST_FACTORS_IN_BLOCKS, Shape};
 
 /// The shape of line 2: a word and four numbers.
-pub(crate) fn shape_of(line: &[u8]) -> Option<Shape>
-    ensures shape { result ≡ shape_of (parts_of line.now) }
+pub(crate) fn shape_of(version: Version, line: &[u8]) -> Option<Shape>
+    ensures shape { result ≡ shape_of version (parts_of line.now) }
     ensures valid { IfSome result IsShape }
 {
     let word = next_stop(line, 0, b' ');
@@ -36,6 +37,7 @@ pub(crate) fn shape_of(line: &[u8]) -> Option<Shape>
         return None;
     }
     shape_from(
+        version,
         number(&line[word + 1..q]),
         number(&line[q + 1..m]),
         number(&line[m + 1..s]),
@@ -43,8 +45,14 @@ pub(crate) fn shape_of(line: &[u8]) -> Option<Shape>
     )
 }
 
-fn shape_from(q: Option<u128>, m: Option<u128>, s: Option<u128>, t: Option<u128>) -> Option<Shape>
-    ensures shape { result ≡ shape_from q m s t }
+fn shape_from(
+    version: Version,
+    q: Option<u128>,
+    m: Option<u128>,
+    s: Option<u128>,
+    t: Option<u128>,
+) -> Option<Shape>
+    ensures shape { result ≡ shape_from version q m s t }
     ensures valid { IfSome result IsShape }
 {
     let q = q?;
@@ -56,9 +64,9 @@ fn shape_from(q: Option<u128>, m: Option<u128>, s: Option<u128>, t: Option<u128>
         && m <= 10
         && has_few_runs(q, m)
         && 1 <= s
-        && s <= 40
+        && s <= version.most_factors(q)
         && t <= 10
-        && (t == 0 || s <= 30)
+        && (t == 0 || s <= MOST_FACTORS_IN_BLOCKS as u128)
     {
         Some(Shape {
             q: q as u8,

@@ -14,11 +14,17 @@ mod pieces;
 mod question_book;
 mod reading;
 mod tail;
+mod version;
+mod word;
 mod writing;
 
 pub use book::read_book;
 pub use fault::{BookFault, BookStop, FaultKind};
-pub use laws::{books_come_back, entries_come_back, only_books_are_read, read_books_are_valid};
+pub use laws::{
+    books_come_back, entries_come_back, only_books_are_read, read_books_are_valid,
+    rewritten_books_are_the_same,
+};
 pub use pieces::book_pieces;
 pub use question_book::{absence_book, least_book};
+pub use version::Version;
 pub use writing::{write_book, write_head};

@@ -1,8 +1,9 @@
-ghost use Rattle.std.specs.Prelude.{◌≡◌, ◌<◌, ◌≤◌, ◌^◌, ◌-◌, ◌++◌, [], ◌∷◌, if◌then◌else◌, IfOk, OnOk, ℕ, List, length, map, All};
+ghost use Rattle.std.specs.Prelude.{◌≡◌, ◌<◌, ◌≤◌, ◌^◌, ◌+◌, ◌-◌, ◌++◌, [], ◌∷◌, if◌then◌else◌, IfOk, OnOk, ℕ, List, length, map, All};
 ghost use Rattle.std.specs.List.{range_with_len};
 ghost use Rattle.fx_designs.specs.Vectors.{IsVector};
 ghost use Rattle.fx_designs.specs.Problems.{Dimensions, ForEffects};
 ghost use Rattle.fx_vectors.specs.Effects.{numbers_of, AreEffects};
+ghost use Rattle.fx_vectors.specs.declared.shape.TheConstants.{MOST_FACTORS};
 ghost use Rattle.fx_demands.specs.EffectVectors.{vectors_to, vectors_of_all, with_codes, AreFactorParts};
 
 use fx_base::{Items, NoMemory};
@@ -25,7 +26,8 @@ pub fn effect_vectors(
     s: u8,
     effect: &Effect,
 ) -> Result<Vectors, NoMemory>
-    requires { s ≤ 40 }
+    requires room { s ≤ MOST_FACTORS }
+    requires fits { field ^ s < 2 ^ 127 }
     ensures { IfOk result (λ vectors. vectors ≡ vectors_to field effect.now.0 s) }
 {
     // Its order, once read, is known to be one of the seven.
@@ -48,7 +50,8 @@ fn longer(
     len: usize,
     has_factor: bool,
 ) -> Result<Vectors, NoMemory>
-    requires room { len < 40 }
+    requires room { len < MOST_FACTORS }
+    requires fits { field ^ (len + 1) < 2 ^ 127 }
     requires vectors { All (λ v. IsVector field len v) vectors.now }
     ensures { IfOk result (λ all.
         all ≡ with_codes vectors.now (if has_factor then range_with_len 1 (field - 1) else range_with_len 0 1)) }
@@ -69,7 +72,8 @@ fn with_each_code(
     first: u8,
     end: u8,
 ) -> Result<Vectors, NoMemory>
-    requires room { len < 40 }
+    requires room { len < MOST_FACTORS }
+    requires fits { field ^ (len + 1) < 2 ^ 127 }
     requires vectors { All (λ v. IsVector field len v) vectors.now }
     requires codes { end ≤ field }
     requires order { first ≤ end }
@@ -90,7 +94,8 @@ fn add_with_code(
     c: u8,
     all: &mut Vectors,
 ) -> Result<(), NoMemory>
-    requires room { len < 40 }
+    requires room { len < MOST_FACTORS }
+    requires fits { field ^ (len + 1) < 2 ^ 127 }
     requires vectors { All (λ v. IsVector field len v) vectors.now }
     requires code { c < field }
     ensures { OnOk result (all.new ≡ all.old ++ map (λ v. v ++ c ∷ []) vectors.now) }
@@ -103,7 +108,8 @@ fn add_with_code(
 
 /// The vector, which has `len` codes, with one code more.
 fn with_code(field: Field, v: &Vector, len: usize, c: u8) -> Vector
-    requires room { len < 40 }
+    requires room { len < MOST_FACTORS }
+    requires fits { field ^ (len + 1) < 2 ^ 127 }
     requires vector { IsVector field len v.now }
     requires code { c < field }
     ensures { result ≡ v.now ++ c ∷ [] }
@@ -126,7 +132,8 @@ pub fn factor_parts(
     s: u8,
     estimate: &Effects,
 ) -> Result<Vectors, NoMemory>
-    requires factors { s ≤ 40 }
+    requires factors { s ≤ MOST_FACTORS }
+    requires fits { field ^ s < 2 ^ 127 }
     requires estimate { AreEffects s (numbers_of estimate.now) }
     ensures vectors { IfOk result (All (λ v. IsVector field s v)) }
     ensures lists { (d : Dimensions) (besides : List ℕ) → d.q ≡ field → d.s ≡ s
@@ -146,7 +153,8 @@ pub(crate) fn vectors_of(
     s: u8,
     effects: &Effects,
 ) -> Result<Vectors, NoMemory>
-    requires { s ≤ 40 }
+    requires room { s ≤ MOST_FACTORS }
+    requires fits { field ^ s < 2 ^ 127 }
     ensures { IfOk result (λ vectors. vectors ≡ vectors_of_all field s (numbers_of effects.now)) }
 {
     // Its order, once read, is known to be one of the seven.
@@ -161,7 +169,8 @@ pub(crate) fn vectors_of(
 
 /// Adds copies of the vectors, which have `s` codes.
 fn add_all(field: Field, s: u8, vectors: &Vectors, all: &mut Vectors) -> Result<(), NoMemory>
-    requires room { s ≤ 40 }
+    requires room { s ≤ MOST_FACTORS }
+    requires fits { field ^ s < 2 ^ 127 }
     requires vectors { All (λ v. IsVector field s v) vectors.now }
     ensures { OnOk result (all.new ≡ all.old ++ vectors.now) }
 {

@@ -6,9 +6,10 @@ use Rattle.std.proofs.lemmas.Bool.{and_from}
 use Rattle.fx_vectors.specs.Effects.{are_in_order, pair_count}
 use Rattle.fx_demands.specs.declared.unions.TheConstants.{MOST_EFFECTS}
 use Rattle.fx_demands.specs.Bars.{AreOrdered}
-use Rattle.fx_demands.proofs.Ordered.{Sorted, has-unfilter, ordered-sorted}
+use Rattle.fx_demands.proofs.Ordered.{Sorted, ordered-sorted}
 use Rattle.fx_demands.proofs.Stars.{sorted-in_order}
 use Rattle.fx_effects.specs.Models.{AreApart, without}
+use Rattle.fx_base.proofs.Members.{has-unfilter}
 
 module _ (p : ℕ → Bool) where
   sorted-filter : (xs : List ℕ) → Sorted xs → Sorted (filter p xs)

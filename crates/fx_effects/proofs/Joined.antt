@@ -3,9 +3,10 @@ use Rattle.std.proofs.Common.{◌≡◌, ◌≤◌, ◌<◌, ◌^◌, ℕ, Bool,
 use Rattle.std.proofs.Common.{take, drop, length, sym, subst, ap, ap₂, ◌∙◌, refl, arith}
 use Rattle.std.proofs.lemmas.List.{append_assoc, append-nil}
 use Rattle.fx_base.proofs.Lists.{each-append, each-take}
+use Rattle.fx_base.proofs.Members.{has-left, has-right}
 use Rattle.fx_text.specs.Written.{Written}
 use Rattle.fx_demands.specs.Bars.{bars_of, in_order, AreNumbers, IsCause}
-use Rattle.fx_demands.proofs.Ordered.{has-left, has-right, in_order-has, in_order-only, in_order-sorted, sorted-shorter}
+use Rattle.fx_demands.proofs.Ordered.{in_order-has, in_order-only, in_order-sorted, sorted-shorter}
 use Rattle.fx_demands.proofs.Merging.{in_order-parts}
 use Rattle.fx_demands.specs.declared.effect_stop.EffectStop.{EffectStop}
 use Rattle.fx_demands.specs.declared.effect_stop.EffectStop.TheVariants.{TooMany, NoMemory}

@@ -11,6 +11,8 @@ use Rattle.std.proofs.lemmas.Nat.{le_or_l, or_lt, pow_pos}
 use Rattle.std.proofs.Math.Nat.{pow-le-pow_right}
 use Rattle.std.proofs.Math.Pow.{pow-lt}
 use Rattle.fx_base.proofs.Lists.{each-append, each-map, each-weaker}
+use Rattle.fx_base.specs.Members.{Has}
+use Rattle.fx_base.proofs.Members.{has-unfilter, each-has, has-each}
 use Rattle.fx_language.specs.declared.symbol.Symbol.TheVariants.{Bar, Close, Open}
 use Rattle.fx_language.specs.Symbols.{is, is_word}
 use Rattle.fx_text.specs.declared.refusal.ParseStop.{ParseStop}
@@ -22,8 +24,9 @@ use Rattle.fx_text.specs.Phrases.{after, preceding}
 use Rattle.fx_text.specs.Ranges.{is_range, names_between, range_end}
 use Rattle.fx_vectors.specs.Effects.{pair_count}
 use Rattle.fx_vectors.specs.Question.{CanBeTold}
+use Rattle.fx_vectors.specs.declared.shape.TheConstants.{MOST_FACTORS}
 use Rattle.fx_demands.specs.Bars.{AreNumbers, AreOrdered, bars_of, in_order, unions, within}
-use Rattle.fx_demands.proofs.Ordered.{Has, has-unfilter, in_order-only, in_order-ordered}
+use Rattle.fx_demands.proofs.Ordered.{in_order-only, in_order-ordered}
 use Rattle.fx_effects.specs.Factors.{main_of, mains_from}
 use Rattle.fx_effects.specs.Expressions.{Expression, Reading, stars_of, with_name, read, all_read, stars_len, upto_of}
 use Rattle.fx_effects.specs.Expressions.{expression, bars_at, range_at, by_last, expression_at, begins_effect}
@@ -32,16 +35,6 @@ use Rattle.fx_effects.specs.Lists.{effects_of, effects_written, few_effects}
 use Rattle.fx_effects.specs.Models.{EffectLists, AreApart, by_word, first_or, lists_at, lists_after, lists_of}
 use Rattle.fx_effects.specs.Models.{check_some_effects, without}
 use Rattle.fx_effects.proofs.Apart.{are_apart}
-
--- what holds of each of some numbers
-member : (P : ℕ → Type 0) (u : ℕ) (xs : List ℕ) → AllByRecursion P xs → Has u xs → P u
-member P u [] all h = absurd h
-member P u (x ∷ xs) all (inl e) = subst P (sym e) all.0
-member P u (x ∷ xs) all (inr h) = member P u xs all.1 h
-
-each-member : (P : ℕ → Type 0) (xs : List ℕ) → ((u : ℕ) → Has u xs → P u) → AllByRecursion P xs
-each-member P [] each = tt
-each-member P (x ∷ xs) each = (each x (inl refl), each-member P xs (λ u h. each u (inr h)))
 
 -- effects of s factors
 module _ (s : ℕ) where
@@ -66,8 +59,8 @@ module _ (s : ℕ) where
   bars-of : (stars : List ℕ) (upto : ℕ) → AreOf stars → AreOf (bars_of stars upto)
   unfolding bars_of
   bars-of stars upto h =
-      each-member IsOf (in_order (within upto (unions stars))) (λ u there.
-      member IsOf u (unions stars) (unions-of stars h)
+      each-has IsOf (in_order (within upto (unions stars))) (λ u there.
+      has-each IsOf u (unions stars) (unions-of stars h)
       (has-unfilter (λ u. nat_le (count_ones u) upto) u (unions stars)
       (in_order-only u (within upto (unions stars)) there)).0)
 
@@ -95,13 +88,13 @@ module _ (s : ℕ) where
 
   set-of : (all : List Expression) → AreAllOf all → AreOf (effects_of all)
   set-of all h =
-      each-member IsOf (effects_of all)
-      (λ u there. member IsOf u (effects_written all) (written-of all h)
+      each-has IsOf (effects_of all)
+      (λ u there. has-each IsOf u (effects_written all) (written-of all h)
       (in_order-only u (effects_written all) there))
 
   without-of : (others effects : List ℕ) → AreOf effects → AreOf (without others effects)
   without-of others effects h =
-      each-member IsOf (without others effects) (λ u there. member IsOf u effects h (has-unfilter _ u effects there).0)
+      each-has IsOf (without others effects) (λ u there. has-each IsOf u effects h (has-unfilter _ u effects there).0)
 
 module _ (factors : List (List ℕ)) where
   abbrev s : ℕ
@@ -229,13 +222,13 @@ module _ (factors : List (List ℕ)) where
           elim (cases_eq n 0)
           [ inl e ↦ absurd (let same : true ≡ false = sym (eq-eqb n 0 e) ∙ h in cc) | inr some ↦ omega (arith, some) ]
 
-  -- numbers of 64 bits, where there are at most 40 factors
-  small : s ≤ 40 → (effects : List ℕ) → AreOf s effects → AreNumbers effects
+  -- numbers of 64 bits, where there are no more factors than there may be
+  small : s ≤ MOST_FACTORS → (effects : List ℕ) → AreOf s effects → AreNumbers effects
   small few effects of =
       each-weaker (IsOf s) (λ e. e < 2 ^ 64) effects
-      (λ e own. let top : 2 ^ s ≤ 2 ^ 40 = pow-le-pow_right (omega arith) few in omega (arith, own.1, top)) of
+      (λ e own. let top : 2 ^ s ≤ 2 ^ MOST_FACTORS = pow-le-pow_right (omega arith) few in omega (arith, own.1, top)) of
 
-  lists_at-apart : s ≤ 40
+  lists_at-apart : s ≤ MOST_FACTORS
       → (q : ℕ) (word : Written) (written : List Written) (other_word : Written) (other_written : List Written)
       (lists : EffectLists)
       → lists_at q factors word written other_word other_written ≡ Ok lists → AreApart q lists
@@ -291,7 +284,7 @@ module _ (factors : List (List ℕ)) where
   all_told q word written (Err stop) is apart = tt
 
   -- the effects of a statement may be asked for, and are few
-  pub lists_told : s ≤ 40 → (q : ℕ) (statement : List Written) (lists : EffectLists)
+  pub lists_told : s ≤ MOST_FACTORS → (q : ℕ) (statement : List Written) (lists : EffectLists)
       → lists_of q factors statement ≡ Ok lists
       → CanBeTold q s lists.estimate lists.nonnegligible × (length lists.estimate ≤ 100000)
       × (length lists.nonnegligible ≤ 100000)

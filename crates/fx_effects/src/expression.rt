@@ -4,6 +4,7 @@ ghost use Rattle.fx_language.specs.declared.symbol.Symbol.TheVariants.{At};
 ghost use Rattle.fx_language.specs.Symbols.{is};
 ghost use Rattle.fx_text.specs.Refusals.{IsRefused};
 ghost use Rattle.fx_vectors.specs.Effects.{numbers_of};
+ghost use Rattle.fx_vectors.specs.declared.shape.TheConstants.{MOST_FACTORS};
 ghost use Rattle.fx_demands.specs.Bars.{AreNumbers};
 ghost use Rattle.fx_effects.specs.Expressions.{at_most, bars_at, expression_at, stars_len, upto_of};
 
@@ -45,7 +46,7 @@ pub(crate) fn expression_at(
     first: &Lexeme<'_>,
     rest: &[Lexeme<'_>],
 ) -> Result<Expression, ParseStop>
-    requires { length factors.now ≤ 40 }
+    requires { length factors.now ≤ MOST_FACTORS }
     ensures ok { IfOk result (λ e. expression_at factors.now first.now rest.now ≡ Ok e) }
     ensures numbers { IfOk result (λ e. AreNumbers e.stars) }
     ensures refused { IfErr result (IsRefused (expression_at factors.now first.now rest.now)) }
@@ -63,7 +64,7 @@ fn bars_at(
     first: &Lexeme<'_>,
     rest: &[Lexeme<'_>],
 ) -> Result<Expression, ParseStop>
-    requires { length factors.now ≤ 40 }
+    requires { length factors.now ≤ MOST_FACTORS }
     ensures ok { IfOk result (λ e. bars_at factors.now first.now rest.now ≡ Ok e) }
     ensures numbers { IfOk result (λ e. AreNumbers e.stars) }
     ensures refused { IfErr result (IsRefused (bars_at factors.now first.now rest.now)) }

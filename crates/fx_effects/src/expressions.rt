@@ -2,6 +2,7 @@ ghost use Rattle.std.specs.Prelude.{◌≡◌, ◌≤◌, false, length, take, O
 ghost use Rattle.fx_text.specs.Refusals.{IsRefused};
 ghost use Rattle.fx_effects.specs.Lists.{AreSmall};
 ghost use Rattle.fx_effects.specs.Expressions.{begins_effect, effect_len, expressions_of, is_joining};
+ghost use Rattle.fx_vectors.specs.declared.shape.TheConstants.{MOST_FACTORS};
 
 use crate::expression::{Expression, expression_at};
 use fx_base::{Bytes, Items};
@@ -22,7 +23,7 @@ pub(crate) fn expressions_of(
     factors: &[Bytes],
     written: &[Lexeme<'_>],
 ) -> Result<Expressions, ParseStop>
-    requires { length factors.now ≤ 40 }
+    requires { length factors.now ≤ MOST_FACTORS }
     ensures ok { IfOk result (λ all. expressions_of factors.now written.now ≡ Ok all) }
     ensures numbers { IfOk result AreSmall }
     ensures refused { IfErr result (IsRefused (expressions_of factors.now written.now)) }

@@ -1,6 +1,7 @@
 ghost use Rattle.std.specs.Prelude.{◌≡◌, ◌≤◌, ◌<◌, ◌^◌, length, Ok, Err, IfOk, IfErr};
 ghost use Rattle.fx_text.specs.Names.{place_of};
 ghost use Rattle.fx_effects.specs.Factors.{main_of};
+ghost use Rattle.fx_vectors.specs.declared.shape.TheConstants.{MOST_FACTORS};
 
 use fx_base::Bytes;
 use fx_language::code;
@@ -17,7 +18,7 @@ pub(crate) fn main_effect(
     place: &Lexeme<'_>,
     name: &[u8],
 ) -> Result<Effect, Refusal>
-    requires { length factors.now ≤ 40 }
+    requires { length factors.now ≤ MOST_FACTORS }
     ensures ok { IfOk result (λ e. main_of place.now (place_of name.now factors.now) ≡ Ok e.0) }
     ensures refused { IfErr result (λ refusal.
         main_of place.now (place_of name.now factors.now) ≡ Err refusal) }
@@ -30,7 +31,7 @@ pub(crate) fn main_effect(
 
 /// 2^i.
 fn bit(i: usize) -> u64
-    requires { i < 40 }
+    requires { i < MOST_FACTORS }
     ensures { result ≡ 2 ^ i }
 {
     1 << i

@@ -2,6 +2,7 @@ ghost use Rattle.std.specs.Prelude.{◌≡◌, ◌≤◌, length, Ok, IfOk, IfEr
 ghost use Rattle.fx_text.specs.Refusals.{IsRefused};
 ghost use Rattle.fx_vectors.specs.Effects.{numbers_of};
 ghost use Rattle.fx_vectors.specs.Question.{CanBeTold};
+ghost use Rattle.fx_vectors.specs.declared.shape.TheConstants.{MOST_FACTORS};
 ghost use Rattle.fx_demands.specs.declared.unions.TheConstants.{MOST_EFFECTS};
 ghost use Rattle.fx_demands.specs.Bars.{AreOrdered};
 ghost use Rattle.fx_effects.specs.Models.{AreApart, first_or, lists_at, lists_after, lists_of, check_some_effects, told_apart, without};
@@ -37,7 +38,7 @@ impl Model for ModelEffects {
 }
 
 /// The effects of a statement `MODEL ESTIMATE = ( .. )`, which may go on by `NONNEGLIGIBLE = ( .. )`,
-/// in a step with these factors, of which there are at most 40.
+/// in a step with these factors, of which there are at most `MOST_FACTORS`.
 ///
 /// # Errors
 ///
@@ -52,7 +53,7 @@ pub fn effects_of(
     factors: &[Bytes],
     statement: &Phrase<'_>,
 ) -> Result<ModelEffects, ParseStop>
-    requires { length factors.now ≤ 40 }
+    requires { length factors.now ≤ MOST_FACTORS }
     ensures ok { IfOk result (λ effects. lists_of field factors.now statement.now ≡ Ok effects) }
     ensures askable { IfOk result (λ effects.
         CanBeTold field (length factors.now) effects.estimate
@@ -78,7 +79,7 @@ fn effects_after<'a>(
     word: &'a Lexeme<'a>,
     written: &Phrase<'a>,
 ) -> Result<ModelEffects, ParseStop>
-    requires { length factors.now ≤ 40 }
+    requires { length factors.now ≤ MOST_FACTORS }
     ensures ok { IfOk result (λ effects.
         lists_after field factors.now word.now written.now ≡ Ok effects) }
     ensures apart { IfOk result (AreApart field) }
@@ -109,7 +110,7 @@ fn lists_at(
     other_word: &Lexeme<'_>,
     other_written: &[Lexeme<'_>],
 ) -> Result<ModelEffects, ParseStop>
-    requires { length factors.now ≤ 40 }
+    requires { length factors.now ≤ MOST_FACTORS }
     ensures ok { IfOk result (λ effects.
         lists_at field factors.now word.now written.now other_word.now
         other_written.now

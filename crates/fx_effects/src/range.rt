@@ -2,6 +2,7 @@ ghost use Rattle.std.specs.Prelude.{◌≡◌, ◌≤◌, ◌+◌, ◌^◌, leng
 ghost use Rattle.fx_text.specs.Refusals.{IsRefused};
 ghost use Rattle.fx_text.specs.Ranges.{numbered, stem};
 ghost use Rattle.fx_vectors.specs.Effects.{numbers_of};
+ghost use Rattle.fx_vectors.specs.declared.shape.TheConstants.{MOST_FACTORS};
 ghost use Rattle.fx_demands.specs.Bars.{AreNumbers};
 ghost use Rattle.fx_effects.specs.Factors.{mains_from};
 ghost use Rattle.fx_effects.specs.Expressions.{range_at};
@@ -25,7 +26,7 @@ pub(crate) fn range_at(
     first: &Lexeme<'_>,
     last: &Lexeme<'_>,
 ) -> Result<Expression, ParseStop>
-    requires { length factors.now ≤ 40 }
+    requires { length factors.now ≤ MOST_FACTORS }
     ensures ok { IfOk result (λ e. range_at factors.now first.now last.now ≡ Ok e) }
     ensures numbers { IfOk result (λ e. AreNumbers e.stars) }
     ensures refused { IfErr result (IsRefused (range_at factors.now first.now last.now)) }
@@ -48,7 +49,7 @@ fn mains(
     from: u128,
     count: u128,
 ) -> Result<Effects, ParseStop>
-    requires few { length factors.now ≤ 40 }
+    requires few { length factors.now ≤ MOST_FACTORS }
     requires numbers { from + count ≤ 2 ^ 128 }
     ensures ok { IfOk result (λ mains.
         mains_from first.now factors.now []

@@ -1,6 +1,7 @@
 ghost use Rattle.std.specs.Prelude.{◌≡◌, ◌≤◌, length, [], Ok, Err, IfOk, IfErr, OnOk};
 ghost use Rattle.fx_text.specs.Refusals.{IsRefused};
 ghost use Rattle.fx_vectors.specs.Effects.{numbers_of};
+ghost use Rattle.fx_vectors.specs.declared.shape.TheConstants.{MOST_FACTORS};
 ghost use Rattle.fx_demands.specs.Bars.{AreNumbers};
 ghost use Rattle.fx_effects.specs.Expressions.{all_read, read, stars_of, with_name};
 
@@ -53,7 +54,7 @@ impl Stars {
         factors: &[Bytes],
         written: &[Lexeme<'_>],
     ) -> Result<(), ParseStop>
-        requires { length factors.now ≤ 40 }
+        requires { length factors.now ≤ MOST_FACTORS }
         ensures ok { OnOk result (all_read factors.now self.old written.now ≡ Ok self.new) }
         ensures refused { IfErr result (IsRefused (all_read factors.now self.old written.now)) }
     {
@@ -65,7 +66,7 @@ impl Stars {
 
     /// Reads one more word or sign.
     pub(crate) fn read(&mut self, factors: &[Bytes], w: &Lexeme<'_>) -> Result<(), ParseStop>
-        requires { length factors.now ≤ 40 }
+        requires { length factors.now ≤ MOST_FACTORS }
         ensures ok { OnOk result (read factors.now self.old w.now ≡ Ok self.new) }
         ensures refused { IfErr result (IsRefused (read factors.now self.old w.now)) }
     {
@@ -82,7 +83,7 @@ impl Stars {
 
     /// Adds a factor to the star.
     fn read_name(&mut self, factors: &[Bytes], w: &Lexeme<'_>) -> Result<(), Refusal>
-        requires { length factors.now ≤ 40 }
+        requires { length factors.now ≤ MOST_FACTORS }
         ensures ok { OnOk result (with_name factors.now self.old w.now ≡ Ok self.new) }
         ensures refused { IfErr result (λ refusal. with_name factors.now self.old w.now ≡ Err refusal) }
     {

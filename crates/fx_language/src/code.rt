@@ -27,7 +27,7 @@ pub const SIZE_NOT_A_POWER: u8 = 8;
 /// More than 1,024 runs.
 pub const TOO_MANY_RUNS: u8 = 9;
 
-/// More than 40 factors, or than 30 with BLOCKS.
+/// More factors than a design with so many levels, in blocks or not, may have.
 pub const TOO_MANY_FACTORS: u8 = 10;
 
 /// A resolution outside of 3 to 99.

@@ -12,7 +12,8 @@ use Rattle.fx_laws.specs.First.{IsFirstDesign}
 use Rattle.fx_laws.proofs.Tests.{all_decides}
 use mathlib.Core.Bool.{and-true}
 use Rattle.fx_base.proofs.Lists.{find-filter, find_agree}
-use Rattle.fx_laws.proofs.Order.{lists-sorted, all_lists, IsIn, found_first, first_found, found_passes, before-self}
+use Rattle.fx_base.specs.Members.{Has}
+use Rattle.fx_laws.proofs.Order.{lists-sorted, all_lists, found_first, first_found, found_passes, before-self}
 use Rattle.fx_laws.proofs.Order.{before-not}
 
 module _ (p : Problem) where
@@ -28,7 +29,7 @@ module _ (p : Problem) where
       (λ r. (λ e. ltb-true _ _ e, λ h. lt-ltb _ _ h)) rows).0 (and_parts _ _ canonical.1).0 in
       (eqb-true _ _ parts.0, recursion_from_All (λ r. r < p.dimensions.q ^ p.dimensions.m) rows below)
 
-  pub there : 0 < p.dimensions.s + p.dimensions.t → (rows : List ℕ) → is_design p rows ≡ true → IsIn rows (prefixes p)
+  pub there : 0 < p.dimensions.s + p.dimensions.t → (rows : List ℕ) → is_design p rows ≡ true → Has rows (prefixes p)
   there some rows h =
       let d = design-rows rows h in
       let len = d.0 in

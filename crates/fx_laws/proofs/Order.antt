@@ -7,8 +7,9 @@ use Rattle.std.specs.List.{filter, find, flat_map, AllByRecursion}
 use Rattle.std.proofs.lemmas.Bool.{cond-true, cond-false, cases_Bool, and_from, and_right, or_left, or_right, or_from}
 use Rattle.std.proofs.lemmas.Bool.{or_cases, and_parts, false_from_ne_true, cases_lt}
 use Rattle.fx_designs.specs.Answers.{before, falling, lists}
-pub use Rattle.fx_base.proofs.Lists.{each-append, each-map, each-all}
-use Rattle.fx_base.proofs.Lists.{each-weaker, find-filter}
+use Rattle.fx_base.specs.Members.{Has}
+use Rattle.fx_base.proofs.Lists.{each-all, each-append, each-map, each-weaker, find-filter}
+use Rattle.fx_base.proofs.Members.{has-each, has-left, has-map, has-right}
 
 pub each-flat_map : {X Y : Type 0} (P : Y → Type 0) (f : X → List Y) (xs : List X) → ((x : X) → AllByRecursion P (f x))
     → AllByRecursion P (flat_map f xs)
@@ -128,39 +129,20 @@ lists-short b (suc k) =
           (lists-short b k),
     ))
 
--- one of the items is x
-abbrev pub IsIn : List ℕ → List (List ℕ) → Type 0
-IsIn x [] = ⊥
-IsIn x (y ∷ ys) = (y ≡ x) ⊎ IsIn x ys
-
-in_left : (x : List ℕ) (xs ys : List (List ℕ)) → IsIn x xs → IsIn x (xs ++ ys)
-in_left x [] ys h = absurd h
-in_left x (y ∷ xs) ys (inl e) = inl e
-in_left x (y ∷ xs) ys (inr h) = inr (in_left x xs ys h)
-
-in_right : (x : List ℕ) (xs ys : List (List ℕ)) → IsIn x ys → IsIn x (xs ++ ys)
-in_right x [] ys h = h
-in_right x (y ∷ xs) ys h = inr (in_right x xs ys h)
-
-in_map : (r : ℕ) (x : List ℕ) (xs : List (List ℕ)) → IsIn x xs → IsIn (r ∷ x) (map (λ s. r ∷ s) xs)
-in_map r x [] h = absurd h
-in_map r x (y ∷ xs) (inl e) = inl (ap (λ s. r ∷ s) e)
-in_map r x (y ∷ xs) (inr h) = inr (in_map r x xs h)
-
-in_begin : (b k r n : ℕ) (s : List ℕ) → r < n → IsIn s ([] ∷ lists b k)
-    → IsIn (r ∷ s) (flat_map (begin b k) (falling n))
+in_begin : (b k r n : ℕ) (s : List ℕ) → r < n → Has s ([] ∷ lists b k)
+    → Has (r ∷ s) (flat_map (begin b k) (falling n))
 in_begin b k r zero s low h = absurd (omega arith)
 in_begin b k r (suc n) s low h =
     elim (cases_lt r n) [
-      | inl a ↦ in_right (r ∷ s) (begin b k n) (flat_map (begin b k) (falling n)) (in_begin b k r n s a h)
+      | inl a ↦ has-right (r ∷ s) (begin b k n) (flat_map (begin b k) (falling n)) (in_begin b k r n s a h)
       | inr a ↦ let e : r ≡ n = omega arith in
-          in_left (r ∷ s) (begin b k n) (flat_map (begin b k) (falling n))
-          (subst (λ z. IsIn (r ∷ s) (begin b k z)) e (in_map r s ([] ∷ lists b k) h))
+          has-left (r ∷ s) (begin b k n) (flat_map (begin b k) (falling n))
+          (subst (λ z. Has (r ∷ s) (begin b k z)) e (has-map (λ x. r ∷ x) s ([] ∷ lists b k) h))
     ]
 
 -- each list of one to k rows below b
 pub all_lists : (b k : ℕ) (x : List ℕ) → 0 < length x → length x ≤ k → AllByRecursion (λ r. r < b) x
-    → IsIn x (lists b k)
+    → Has x (lists b k)
 unfolding lists
 all_lists b zero x some short low = absurd (omega arith)
 all_lists b (suc k) [] some short low = absurd (omega arith)
@@ -168,23 +150,17 @@ all_lists b (suc k) (r ∷ []) some short low = in_begin b k r b [] low.0 (inl r
 all_lists b (suc k) (r ∷ s ∷ x) some short low =
     in_begin b k r b (s ∷ x) low.0 (inr (all_lists b k (s ∷ x) (omega arith) (omega arith) low.1))
 
--- what holds of each list holds of one that is among them
-pub each_in : (P : List ℕ → Type 0) (d : List ℕ) (xs : List (List ℕ)) → AllByRecursion P xs → IsIn d xs → P d
-each_in P d [] all h = absurd h
-each_in P d (x ∷ xs) all (inl e) = subst P e all.0
-each_in P d (x ∷ xs) all (inr h) = each_in P d xs all.1 h
-
-first_is : (x d : List ℕ) (xs : List (List ℕ)) → Sorted (x ∷ xs) → IsIn d (x ∷ xs) → (x ≡ d) ⊎ (before x d ≡ true)
-first_is x d xs sorted (inl e) = inl e
-first_is x d xs sorted (inr h) = inr (each_in (λ y. before x y ≡ true) d xs sorted.0 h)
+first_is : (x d : List ℕ) (xs : List (List ℕ)) → Sorted (x ∷ xs) → Has d (x ∷ xs) → (x ≡ d) ⊎ (before x d ≡ true)
+first_is x d xs sorted (inl e) = inl (sym e)
+first_is x d xs sorted (inr h) = inr (has-each (λ y. before x y ≡ true) d xs sorted.0 h)
 
 module _ (D : List ℕ → Bool) where
-  not_first : (x d : List ℕ) (xs : List (List ℕ)) → IsIn d (x ∷ xs) → D d ≡ true → D x ≡ false → IsIn d xs
-  not_first x d xs (inl e) passes fails = let z : D x ≡ true = ap D e ∙ passes in absurd (cc)
+  not_first : (x d : List ℕ) (xs : List (List ℕ)) → Has d (x ∷ xs) → D d ≡ true → D x ≡ false → Has d xs
+  not_first x d xs (inl e) passes fails = let z : D x ≡ true = sym (ap D e) ∙ passes in absurd (cc)
   not_first x d xs (inr h) passes fails = h
 
   -- an item that passes, of all that pass in a sorted list, and the first found
-  pub found_first : (xs : List (List ℕ)) (d : List ℕ) → Sorted xs → IsIn d xs → D d ≡ true
+  pub found_first : (xs : List (List ℕ)) (d : List ℕ) → Sorted xs → Has d xs → D d ≡ true
       → (e : List ℕ) × (find D xs ≡ Some e) × (D e ≡ true) × ((e ≡ d) ⊎ (before e d ≡ true))
   found_first [] d sorted there passes = absurd there
   found_first (x ∷ xs) d sorted there passes =
@@ -212,7 +188,7 @@ module _ (D : List ℕ → Bool) where
       ]
 
   -- the first that passes, of a sorted list that has it
-  pub first_found : (xs : List (List ℕ)) (d : List ℕ) → Sorted xs → IsIn d xs → D d ≡ true
+  pub first_found : (xs : List (List ℕ)) (d : List ℕ) → Sorted xs → Has d xs → D d ≡ true
       → ((e : List ℕ) → D e ≡ true → before e d ≡ true → ⊥) → find D xs ≡ Some d
   first_found xs d sorted there passes first =
       let e = found_first xs d sorted there passes in

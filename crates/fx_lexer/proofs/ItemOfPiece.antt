@@ -15,7 +15,7 @@ use Rattle.fx_lexer.specs.declared.item.Item.{Item}
 use Rattle.fx_lexer.specs.Bytes.{is_white, is_digit, begins_word, is_word_byte, is_sign, is_quote}
 use Rattle.fx_lexer.specs.Extents.{begins_comment, begins_remark, starts_with_byte, closing_len, ends_comment}
 use Rattle.fx_lexer.specs.Extents.{remark_len, fraction_len, quoted_len}
-use Rattle.fx_lexer.specs.Items.{item, token, gap, comment_if_closed, quoted_if_closed, limited, item_of_number}
+use Rattle.fx_lexer.specs.Items.{first_item, token, gap, comment_if_closed, quoted_if_closed, limited, item_of_number}
 use Rattle.fx_lexer.specs.Items.{begins_number}
 use Rattle.fx_lexer.specs.TextPieces.{Piece, white, comment, remark, word, whole, decimal, quoted, sign, begins_with}
 use Rattle.fx_lexer.specs.TextPieces.{begins_fraction, doubled, spelling, kind_of, HasForm, HasAllowedLength}
@@ -53,7 +53,7 @@ module _ (start : Bool) (b : ℕ) (bytes : List ℕ) where
   item_not_gap : (digits fraction : ℕ) → is_white b ≡ false → begins_comment (b ∷ bytes) ≡ false
       → begins_remark start (b ∷ bytes) ≡ false
       → prefix_len is_digit (b ∷ bytes) ≡ digits → fraction_len (drop digits (b ∷ bytes)) ≡ fraction
-      → item start (b ∷ bytes) ≡ not_gap digits fraction
+      → first_item start (b ∷ bytes) ≡ not_gap digits fraction
   unfolding not_gap
   item_not_gap digits fraction e f g count part =
       let part_at : ℕ → ℕ = λ n. fraction_len (drop n (b ∷ bytes)) in
@@ -133,7 +133,7 @@ module _ (start : Bool) (b : ℕ) (bytes : List ℕ) where
   number_item : (digits rest : List ℕ) (fraction : ℕ) → number_byte b ≡ true → b ∷ bytes ≡ digits ++ rest
       → list_all is_digit digits ≡ true → begins_with is_digit rest ≡ false
       → fraction_len rest ≡ fraction → 0 < length digits + fraction
-      → item start (b ∷ bytes) ≡ item_of_number (length digits) fraction
+      → first_item start (b ∷ bytes) ≡ item_of_number (length digits) fraction
   unfolding number_byte
   number_item digits rest fraction is joined all ended part some =
       let count = ap (prefix_len is_digit) joined ∙ prefix_all is_digit digits rest all ended in
@@ -147,7 +147,7 @@ module _ (start : Bool) (b : ℕ) (bytes : List ℕ) where
 
   word_item : (name rest : List ℕ) → b ∷ bytes ≡ name ++ rest → begins_with begins_word name ≡ true
       → list_all is_word_byte name ≡ true → begins_with is_word_byte rest ≡ false
-      → item start (b ∷ bytes) ≡ limited kind.Word (length name) 32 5
+      → first_item start (b ∷ bytes) ≡ limited kind.Word (length name) 32 5
   word_item [] rest joined begins all ended = absurd (cc begins)
   word_item (x ∷ name) rest joined begins all ended =
       let same : b ≡ x = cc joined in
@@ -240,7 +240,7 @@ module _ (start : Bool) (b : ℕ) (bytes : List ℕ) where
   -- where the byte is no digit and no fraction begins
   without_digits : is_white b ≡ false → begins_comment (b ∷ bytes) ≡ false → begins_remark start (b ∷ bytes) ≡ false
       → is_digit b ≡ false → begins_fraction (b ∷ bytes) ≡ false
-      → item start (b ∷ bytes) ≡ not_gap start b bytes 0 0
+      → first_item start (b ∷ bytes) ≡ not_gap start b bytes 0 0
   without_digits e f g d p =
       item_not_gap start b bytes 0 0 e f g (no_digits start b bytes d) (no_fraction (b ∷ bytes) p)
 
@@ -256,7 +256,7 @@ module _ (start : Bool) (b : ℕ) (bytes : List ℕ) where
       elim (or_cases (b == 39) (b == 34) is) [ inl e ↦ rw (eqb-true b 39 e) refl | inr e ↦ rw (eqb-true b 34 e) refl ]
 
   quoted_item : is_quote b ≡ true
-      → item start (b ∷ bytes) ≡ quoted_if_closed (option_map suc (quoted_len b false bytes))
+      → first_item start (b ∷ bytes) ≡ quoted_if_closed (option_map suc (quoted_len b false bytes))
   quoted_item is =
       let white_not = no_white is_quote b is refl refl refl refl in
       let comment_not = no_comment start b bytes (differs is_quote b 47 is refl) in
@@ -269,7 +269,7 @@ module _ (start : Bool) (b : ℕ) (bytes : List ℕ) where
   no_sign_is p is none = none_of (codes ";=()[]/*|@-") b p is none
 
   sign_item : is_sign b ≡ true → begins_comment (b ∷ bytes) ≡ false → begins_remark start (b ∷ bytes) ≡ false
-      → item start (b ∷ bytes) ≡ token kind.Sign 1
+      → first_item start (b ∷ bytes) ≡ token kind.Sign 1
   sign_item is comment_not remark_not =
       without_digits (no_sign_is is_white is refl) comment_not remark_not (no_sign_is is_digit is refl)
       (pointless (no_sign_is (λ c. c == 46) is refl))
@@ -280,7 +280,7 @@ module _ (start : Bool) (b : ℕ) (bytes : List ℕ) where
   sort_other sort c other is =
       elim (cases_Bool (b == c)) [ inl e ↦ (let k = ap sort (eqb-true b c e) in cc) | inr e ↦ e ]
 
-  stray_item : begins_item b bytes ≡ false → item start (b ∷ bytes) ≡ Err 3
+  stray_item : begins_item b bytes ≡ false → first_item start (b ∷ bytes) ≡ Err 3
   stray_item none =
       let sign_not =
       or_parts (is_white b || begins_word b || is_digit b || begins_fraction (b ∷ bytes) || is_quote b)
@@ -297,14 +297,15 @@ module _ (start : Bool) (b : ℕ) (bytes : List ℕ) where
       without_digits word_not.0 comment_not remark_not digit_not.1 fraction_not.1
       ∙ stray_row start b bytes word_not.1 quote_not.1 sign_not.1
 
-  white_item : is_white b ≡ true → item start (b ∷ bytes) ≡ gap 1
+  white_item : is_white b ≡ true → first_item start (b ∷ bytes) ≡ gap 1
   white_item is = rw is refl
 
 pub comment_item : (start : Bool) (inner : List ℕ)
-    → item start (47 ∷ 42 ∷ inner) ≡ comment_if_closed (option_map (λ n. 2 + n) (closing_len inner))
+    → first_item start (47 ∷ 42 ∷ inner) ≡ comment_if_closed (option_map (λ n. 2 + n) (closing_len inner))
 comment_item start inner = refl
 
-pub remark_item : (bytes : List ℕ) → item true (42 ∷ bytes) ≡ comment_if_closed (option_map suc (remark_len bytes))
+pub remark_item : (bytes : List ℕ)
+    → first_item true (42 ∷ bytes) ≡ comment_if_closed (option_map suc (remark_len bytes))
 remark_item bytes = refl
 
 -- a word or a number is short enough or too long
@@ -335,7 +336,7 @@ module _ (start : Bool) (b : ℕ) (bytes : List ℕ) where
 
   whole_item : (digits rest : List ℕ) → 0 < length digits → b ∷ bytes ≡ digits ++ rest
       → list_all is_digit digits ≡ true → begins_with is_digit rest ≡ false → begins_fraction rest ≡ false
-      → item start (b ∷ bytes) ≡ limited kind.Whole (length digits) 38 4
+      → first_item start (b ∷ bytes) ≡ limited kind.Whole (length digits) 38 4
   whole_item digits rest some joined all ended pointless =
       number_item start b bytes digits rest 0 (digit_first digits rest some joined all) joined all ended
       (no_fraction rest pointless) (omega (arith, some))
@@ -343,7 +344,7 @@ module _ (start : Bool) (b : ℕ) (bytes : List ℕ) where
   decimal_item : (digits fraction rest : List ℕ) → b ∷ bytes ≡ (digits ++ 46 ∷ fraction) ++ rest
       → list_all is_digit digits ≡ true → 0 < length fraction → list_all is_digit fraction ≡ true
       → begins_with is_digit rest ≡ false
-      → item start (b ∷ bytes) ≡ limited kind.Decimal (length (digits ++ 46 ∷ fraction)) 38 4
+      → first_item start (b ∷ bytes) ≡ limited kind.Decimal (length (digits ++ 46 ∷ fraction)) 38 4
   decimal_item digits fraction rest joined all some fraction_all ended =
       let joined' : b ∷ bytes ≡ digits ++ (46 ∷ (fraction ++ rest)) =
       joined ∙ append_assoc digits (46 ∷ fraction) rest in
@@ -359,12 +360,13 @@ module _ (start : Bool) (b : ℕ) (bytes : List ℕ) where
 abbrev pub item_of : Piece → Result Item ℕ
 item_of p = Ok (record { kind = kind_of p; length = length (spelling p) })
 
-at_front : (start : Bool) (b : ℕ) (bytes text : List ℕ) (r : Result Item ℕ) → b ∷ bytes ≡ text → item start text ≡ r
-    → item start (b ∷ bytes) ≡ r
-at_front start b bytes text r joined e = ap (item start) joined ∙ e
+at_front : (start : Bool) (b : ℕ) (bytes text : List ℕ) (r : Result Item ℕ) → b ∷ bytes ≡ text
+    → first_item start text ≡ r
+    → first_item start (b ∷ bytes) ≡ r
+at_front start b bytes text r joined e = ap (first_item start) joined ∙ e
 
 pub piece_item : (start : Bool) (p : Piece) (rest : List ℕ) (b : ℕ) (bytes : List ℕ) → b ∷ bytes ≡ spelling p ++ rest
-    → HasForm start p rest → HasAllowedLength p → item start (b ∷ bytes) ≡ item_of p
+    → HasForm start p rest → HasAllowedLength p → first_item start (b ∷ bytes) ≡ item_of p
 piece_item start (white w) rest b bytes joined form short =
     at_front start b bytes (w ∷ rest) _ joined (white_item start w rest form)
 piece_item start (comment inside) rest b bytes joined form short =
@@ -381,7 +383,7 @@ piece_item start (remark inside) rest b bytes joined form short =
     let size : suc (length inside + 1) ≡ suc (length (inside ++ 59 ∷ [])) =
     omega (arith, length-append inside (59 ∷ [])) in
     at_front start b bytes _ _ joined
-    (ap (λ s. item s (42 ∷ ((inside ++ 59 ∷ []) ++ rest))) form.0 ∙ remark_item ((inside ++ 59 ∷ []) ++ rest) ∙ ap
+    (ap (λ s. first_item s (42 ∷ ((inside ++ 59 ∷ []) ++ rest))) form.0 ∙ remark_item ((inside ++ 59 ∷ []) ++ rest) ∙ ap
     (λ r. comment_if_closed (option_map suc r)) found ∙ ap gap size)
 piece_item start (word name) rest b bytes joined form short =
     word_item start b bytes name rest joined form.0 form.1 form.2
@@ -406,13 +408,13 @@ piece_item start (sign s) rest b bytes joined form short =
 
 -- the fault of a flaw at the front of a text
 pub flaw_item : (start : Bool) (flaw : Flaw) (b : ℕ) (bytes : List ℕ) → b ∷ bytes ≡ flaw_text flaw → IsFlaw start flaw
-    → item start (b ∷ bytes) ≡ Err (fault_kind flaw)
+    → first_item start (b ∷ bytes) ≡ Err (fault_kind flaw)
 flaw_item start (open_comment inside) b bytes joined form =
     at_front start b bytes _ _ joined
     (comment_item start inside ∙ ap (λ r. comment_if_closed (option_map (λ n. 2 + n) r)) (no_closing inside form))
 flaw_item start (open_remark inside) b bytes joined form =
     at_front start b bytes _ _ joined
-    (ap (λ s. item s (42 ∷ inside)) form.0 ∙ remark_item inside ∙ ap (λ r. comment_if_closed (option_map suc r))
+    (ap (λ s. first_item s (42 ∷ inside)) form.0 ∙ remark_item inside ∙ ap (λ r. comment_if_closed (option_map suc r))
     (no_remark_end inside form.1))
 flaw_item start (open_quoted q inside) b bytes joined form =
     at_front start b bytes _ _ joined
@@ -422,7 +424,7 @@ flaw_item start (stray s rest) b bytes joined form = at_front start b bytes _ _ 
 flaw_item start (long_piece p rest) b bytes joined form = too_long p joined form.0 form.1
   where
     too_long : (p : Piece) → b ∷ bytes ≡ spelling p ++ rest → HasForm start p rest → ¬ HasAllowedLength p
-        → item start (b ∷ bytes) ≡ Err (fault_kind (long_piece p rest))
+        → first_item start (b ∷ bytes) ≡ Err (fault_kind (long_piece p rest))
     too_long (white w) joined form long = absurd (long tt)
     too_long (comment inside) joined form long = absurd (long tt)
     too_long (remark inside) joined form long = absurd (long tt)

@@ -8,7 +8,7 @@ use Rattle.fx_lexer.specs.declared.item.Item.{Item}
 use Rattle.fx_lexer.specs.declared.token.Token.{Token}
 use Rattle.fx_lexer.specs.declared.token.LexFault.{LexFault}
 use Rattle.fx_lexer.specs.Places.{place_after}
-use Rattle.fx_lexer.specs.Items.{item}
+use Rattle.fx_lexer.specs.Items.{first_item}
 use Rattle.fx_lexer.specs.Lexing.{lexed, lexed_from, in_front, tokens_of, starts_after}
 
 module _ (text : List ℕ) where
@@ -23,7 +23,8 @@ module _ (text : List ℕ) where
 
 module _ (text : List ℕ) (start : Bool) where
   -- the item at i, and then the rest
-  pub item_read : (i : ℕ) (it : Item) → item start (drop i text) ≡ Ok it → 0 < it.length → i + it.length ≤ length text
+  pub item_read : (i : ℕ) (it : Item) → first_item start (drop i text) ≡ Ok it → 0 < it.length
+      → i + it.length ≤ length text
       → lexed_from text 0 start i (drop i text)
       ≡ in_front (tokens_of (place_after (take i text)) i it)
       (lexed_from text 0 (starts_after start it (get_or text i 0)) (i + it.length) (drop (i + it.length) text))

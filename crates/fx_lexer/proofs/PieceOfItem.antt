@@ -14,7 +14,7 @@ use Rattle.fx_lexer.specs.declared.item.Item.{Item}
 use Rattle.fx_lexer.specs.Bytes.{is_white, is_digit, begins_word, is_word_byte, is_sign, is_quote}
 use Rattle.fx_lexer.specs.Extents.{begins_comment, begins_remark, starts_with_byte, closing_len, remark_len}
 use Rattle.fx_lexer.specs.Extents.{fraction_len, quoted_len}
-use Rattle.fx_lexer.specs.Items.{item, token, gap, comment_if_closed, quoted_if_closed, limited, item_of_number}
+use Rattle.fx_lexer.specs.Items.{first_item, token, gap, comment_if_closed, quoted_if_closed, limited, item_of_number}
 use Rattle.fx_lexer.specs.Items.{begins_number}
 use Rattle.fx_lexer.specs.Lexing.{starts_after}
 use Rattle.fx_lexer.specs.TextPieces.{Piece, white, comment, remark, word, whole, decimal, quoted, sign, begins_with}
@@ -288,7 +288,7 @@ module _ (start : Bool) (b : ℕ) (bytes : List ℕ) where
         kind = refl;
       }
 
-  pub item_is : ItemIs start b bytes (item start (b ∷ bytes))
+  pub item_is : ItemIs start b bytes (first_item start (b ∷ bytes))
   item_is =
       choose (ItemIs start b bytes) (is_white b) _ _ white_is (λ no_white.
       choose (ItemIs start b bytes) (begins_comment (b ∷ bytes)) _ _ comment_found (λ no_comment.

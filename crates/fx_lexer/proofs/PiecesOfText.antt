@@ -7,7 +7,7 @@ use Rattle.fx_lexer.specs.declared.item.Item.{Item}
 use Rattle.fx_lexer.specs.declared.token.Token.{Token}
 use Rattle.fx_lexer.specs.declared.token.LexFault.{LexFault}
 use Rattle.fx_lexer.specs.Places.{place_after}
-use Rattle.fx_lexer.specs.Items.{item}
+use Rattle.fx_lexer.specs.Items.{first_item}
 use Rattle.fx_lexer.specs.Lexing.{lexed, lexed_from, in_front, at_item, tokens_of, starts_after, fault_at}
 use Rattle.fx_lexer.specs.Bytes.{begins_word}
 use Rattle.fx_lexer.specs.TextPieces.{Piece, white, comment, remark, word, whole, decimal, quoted, sign, begins_with}
@@ -132,7 +132,7 @@ outcome n before [] start few = record { pieces = []; joined = refl; formed = tt
 outcome zero before (b ∷ bytes) start few = absurd (omega (arith, few))
 outcome (suc n) before (b ∷ bytes) start few =
     rw (place_here before start b bytes)
-    (from_item before start b bytes n few (outcome n) (item start (b ∷ bytes)) (item_is start b bytes))
+    (from_item before start b bytes n few (outcome n) (first_item start (b ∷ bytes)) (item_is start b bytes))
 
 abbrev pub Whole : List ℕ → Result (List Token) LexFault → Type 0
 Whole text (Ok tokens) = IsMadeOf text tokens

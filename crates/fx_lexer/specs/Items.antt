@@ -53,9 +53,9 @@ token_item (b ∷ bytes) =
     else Err 3)))
 
 -- the item that a text begins with, or the kind of its fault; `start`: a statement starts here
-abbrev pub item : Bool → List ℕ → Result Item ℕ
-item start [] = gap 0
-item start (b ∷ bytes) =
+abbrev pub first_item : Bool → List ℕ → Result Item ℕ
+first_item start [] = gap 0
+first_item start (b ∷ bytes) =
     if is_white b then gap 1
     else (if begins_comment (b ∷ bytes) then comment_if_closed (option_map (λ n. 2 + n) (closing_len (drop 1 bytes)))
     else (if begins_remark start (b ∷ bytes) then comment_if_closed (remark_len (b ∷ bytes))

@@ -8,7 +8,7 @@ use Rattle.fx_lexer.specs.declared.token.LexStop.{LexStop}
 use Rattle.fx_lexer.specs.declared.token.LexStop.TheVariants as stop
 use Rattle.fx_lexer.specs.declared.item.Item.{Item}
 use Rattle.fx_lexer.specs.declared.place.Place.{Place}
-use Rattle.fx_lexer.specs.Items.{item}
+use Rattle.fx_lexer.specs.Items.{first_item}
 use Rattle.fx_lexer.specs.Places.{place_after}
 
 -- the token of n bytes at `at`
@@ -51,7 +51,7 @@ lexed_from text zero start at (b ∷ rest) =
     let place = place_after (take at text) in
     at_item (fault_at place)
     (λ i. in_front (tokens_of place at i) (lexed_from text (i.length - 1) (starts_after start i b) (at + 1) rest))
-    (item start (b ∷ rest))
+    (first_item start (b ∷ rest))
 
 -- the tokens of the text, or its first fault
 unfoldable pub lexed : List ℕ → Result (List Token) LexFault

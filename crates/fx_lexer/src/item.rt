@@ -1,5 +1,5 @@
 ghost use Rattle.std.specs.Prelude.{◌≡◌, ◌+◌, ◌<◌, ◌≤◌, ◌^◌, None, Some, length, IfOk};
-ghost use Rattle.fx_lexer.specs.Items.{begins_number, item, limited, item_of_number, token_item};
+ghost use Rattle.fx_lexer.specs.Items.{begins_number, first_item, limited, item_of_number, token_item};
 
 use crate::byte::{begins_word, is_quote, is_sign, is_white};
 use crate::extent::{
@@ -36,7 +36,7 @@ pub struct Item {
 /// starts here.
 pub fn first_item(start: bool, bytes: &[u8]) -> Result<Item, u8>
     requires { 0 < length bytes.now }
-    ensures value { result ≡ item start bytes.now }
+    ensures value { result ≡ first_item start bytes.now }
     ensures bound { IfOk result (λ i. (0 < i.length) × (i.length ≤ length bytes.now)) }
 {
     let b = bytes[0];

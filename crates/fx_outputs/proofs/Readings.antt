@@ -11,11 +11,12 @@ use Rattle.fx_language.specs.Shapes.{Shape, Empty, One, Before, Either, Matches}
 use Rattle.fx_language.specs.Grammar as grammar
 use Rattle.fx_language.specs.Uncoded.{uncoded}
 use Rattle.fx_language.proofs.Uncoded.{to_uncoded}
+use Rattle.fx_language.proofs.Lacking.{lacks, none}
 use Rattle.fx_text.specs.Written.{Written}
 use Rattle.fx_text.specs.Phrases.{has_symbol}
 use Rattle.fx_text.specs.Sentences.{symbols_in, IsStatement}
 use Rattle.fx_text.proofs.Cut.{cut, nothing}
-use Rattle.fx_text.proofs.Lacking.{any_written, lacks, none}
+use Rattle.fx_text.proofs.Lacking.{any_written}
 use Rattle.fx_outputs.specs.Options.{from_option}
 use Rattle.fx_outputs.specs.Readings.{HasBlockName, AreNamesRead}
 

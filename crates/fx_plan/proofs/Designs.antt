@@ -6,14 +6,13 @@ use Rattle.std.proofs.lemmas.List.{length-map}
 use Rattle.std.proofs.lemmas.List.FromFn.{length-range_with_len}
 use Rattle.std.proofs.lemmas.List.Elements.{All-map}
 use Rattle.std.proofs.lemmas.List.Folds.{sum_by-replicate}
-use Rattle.std.proofs.lemmas.List.Sums.{sum_by-cons}
 use Rattle.std.proofs.lemmas.List.Sorted.{IsPermutation-refl, IsPermutation-swap, IsPermutation-trans}
 use Rattle.rand_pcg.specs.Lcg.{Lcg}
 use Rattle.fx_designs.specs.Vectors.{IsVector, vectors_of}
 use Rattle.fx_designs.specs.Runs.{points, runs_of, levels_at}
 use Rattle.fx_laws.proofs.Codes.{length-points}
 use Rattle.fx_laws.proofs.Shift.{all-points}
-use Rattle.fx_laws.proofs.Sums.{sum_by-ext, sum_by_flat_map}
+use Rattle.fx_laws.proofs.Sums.{sum_by-ext, sum_by_flat_map, sum_by-constant}
 use Rattle.fx_laws.proofs.Tables.{is_order-field}
 use Rattle.fx_vectors.specs.Matrix.{IsMatrix, MatrixView}
 use Rattle.fx_outputs.specs.declared.output.OutputSpec.{OutputSpec}
@@ -91,13 +90,6 @@ pub values-reordered : (runs : RunsView) (output : OutputSpec) (seed : ℕ)
 values-reordered runs output seed =
     arranged-values output.shuffle seed (block_of runs) (runs.shape.q ^ runs.shape.t) _
 
-constant : {X : Type 0} (c : ℕ) (xs : List X) → sum_by (λ x. c) xs ≡ length xs * c
-constant c [] = omega arith
-constant {X} c (x ∷ xs) = sum_by-cons (λ (y : X). c) x xs ∙ ap (λ n. c + n) (constant c xs) ∙ one_more (length xs)
-  where
-    one_more : (l : ℕ) → c + l * c ≡ suc l * c
-    one_more l = grind arith
-
 replicated-length : (each all n : ℕ) → sum_by (λ x. 1) (replicated each all (range_with_len 0 n)) ≡ n * (each * all)
 replicated-length each all n =
     let own : (x : ℕ) → sum_by (λ y. 1) (replicate each x) ≡ each =
@@ -106,7 +98,7 @@ replicated-length each all n =
     ∙ ap (λ t. all * t)
     (sum_by_flat_map (λ x. 1) (λ x. replicate each x) (range_with_len 0 n)
     ∙ sum_by-ext (λ x. sum_by (λ y. 1) (replicate each x)) (λ x. each) (range_with_len 0 n) own
-    ∙ constant each (range_with_len 0 n) ∙ ap (λ l. l * each) (length-range_with_len 0 n))
+    ∙ sum_by-constant each (range_with_len 0 n) ∙ ap (λ l. l * each) (length-range_with_len 0 n))
     ∙ in_order all n each
   where
     in_order : (a n e : ℕ) → a * (n * e) ≡ n * (e * a)
@@ -125,7 +117,8 @@ record-count names matrix output seed known whole =
     let runs = design_of matrix in
     let a = arrangement_of runs output seed in
     let rows : length a.order ≡ length runs.rows * (output.pointrep * output.designrep) =
-    sym (constant 1 a.order ∙ omega arith) ∙ plan_total (λ x. 1) runs output seed (design-runs matrix known whole)
+    sym (sum_by-constant 1 a.order ∙ omega arith) ∙ plan_total (λ x. 1) runs output seed
+    (design-runs matrix known whole)
     ∙ replicated-length output.pointrep output.designrep (length runs.rows) in
     ap suc (length-map a.order _ ∙ rows ∙ ap (λ n. n * (output.pointrep * output.designrep)) (run-count matrix)) ∙ omega
     arith

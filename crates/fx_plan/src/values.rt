@@ -1,5 +1,6 @@
 ghost use Rattle.std.specs.Prelude.{◌≡◌, ◌≤◌, ◌∷◌, ◌++◌, [], All, IfOk, OnOk, length, map};
 ghost use Rattle.fx_plan.specs.Plans.{values_at, values_of};
+ghost use Rattle.fx_vectors.specs.declared.shape.TheConstants.{MOST_FACTORS};
 
 use fx_base::{Bytes, NoMemory};
 use fx_runs::default_values;
@@ -13,7 +14,7 @@ pub(crate) fn values_of(
     s: u8,
     recodes: &[Recode],
 ) -> Result<Vec<Vec<Bytes>>, NoMemory>
-    requires few { s ≤ 40 }
+    requires few { s ≤ MOST_FACTORS }
     requires recodes { All (λ r. length r.values ≡ q) recodes.now }
     ensures values { IfOk result (λ values. map (λ v. v.items) values.items
         ≡ values_of q s recodes.now) }

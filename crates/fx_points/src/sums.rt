@@ -1,7 +1,8 @@
-ghost use Rattle.std.specs.Prelude.{◌≡◌, ◌<◌, ◌≤◌, ◌==◌, ◌||◌, ◌*◌, ◌/◌, ◌%◌, ◌^◌, ℕ, bit_xor, length, slice_index, IsTrue, IfOk};
+ghost use Rattle.std.specs.Prelude.{[], ◌≡◌, ◌<◌, ◌≤◌, ◌==◌, ◌||◌, ◌*◌, ◌/◌, ◌%◌, ◌^◌, ℕ, bit_xor, length, slice_index, IsTrue, IfOk};
 ghost use Rattle.fx_designs.specs.Galois.{is_order, neg};
 ghost use Rattle.fx_points.specs.Sums.{SumsView, AreSums, sum_of, is_even};
 
+use crate::point_set::PointSet;
 use fx_base::{NoMemory, Values};
 use fx_demands::sum_with;
 use fx_galois::Field;
@@ -111,6 +112,13 @@ impl Sums {
         })
     }
 
+    /// A set without points.
+    pub fn no_points(&self) -> PointSet
+        ensures { result ≡ record { q = self.now.q; m = self.now.m; numbers = [] } }
+    {
+        PointSet::empty(self.field, self.m)
+    }
+
     /// The field of the codes.
     pub fn field(&self) -> Field
         ensures { result ≡ self.now.q }
@@ -189,7 +197,7 @@ impl Sums {
     }
 }
 
-fn power(field: Field, n: u8) -> u16
+pub(crate) fn power(field: Field, n: u8) -> u16
     requires { field ^ n ≤ 1024 }
     ensures { result ≡ field ^ n }
 {
@@ -263,7 +271,7 @@ fn quotients(alloc: Global, count: u16, width: u16) -> Result<Vec<u16>, NoMemory
 }
 
 /// Whether sums are taken bit by bit: at two, four and eight levels.
-fn is_even(field: Field) -> bool
+pub(crate) fn is_even(field: Field) -> bool
     ensures even { result ≡ is_even field }
     ensures known { IsTrue (is_order field) }
 {

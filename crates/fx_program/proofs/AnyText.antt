@@ -1,6 +1,6 @@
 -- Whatever a text says, each of its steps is valid, so that what is claimed of valid steps holds of each.
 use Rattle.std.proofs.Common.{◌≡◌, ◌≤◌, ◌++◌, Bool, true, false, ℕ, List, [], ◌∷◌, length, Option, Some, None, Result}
-use Rattle.std.proofs.Common.{Ok, Err, refl, sym, subst, arith, All}
+use Rattle.std.proofs.Common.{Ok, Err, refl, sym, subst, arith, All, ◌∙◌}
 use Rattle.std.specs.Prelude.{is_some, nat_lt, if◌then◌else◌}
 use Rattle.std.proofs.lemmas.List.Elements.{All-nil, All-push}
 use Rattle.fx_lexer.specs.declared.token.Token.{Token}
@@ -22,7 +22,7 @@ use Rattle.fx_settings.specs.declared.settings.Criterion.TheVariants as criterio
 use Rattle.fx_settings.specs.declared.said.StepSaid.{StepSaid}
 use Rattle.fx_settings.specs.Said.{step_said}
 use Rattle.fx_text.specs.Phrases.{start_of}
-use Rattle.fx_settings.specs.Settings.{step_settings_of, unblocked_of}
+use Rattle.fx_settings.specs.Settings.{step_settings_of, unblocked_of, levels_of}
 use Rattle.fx_settings.specs.Valid.{are_valid}
 use Rattle.fx_settings.proofs.Valid.{valid}
 use Rattle.fx_effects.specs.Models.{lists_of}
@@ -32,13 +32,14 @@ use Rattle.fx_statements.specs.Goals.{Goal, AtLeast, Highest, effects_goal, effe
 use Rattle.fx_statements.specs.Steps.{Meaning, asked_by, examine_of, factors_by, head_of, factor_limit, some_factors}
 use Rattle.fx_statements.specs.Steps.{step_by, step_of}
 use Rattle.fx_statements.specs.Programs.{accepted, program_of, steps_behind}
-use Rattle.fx_statements.specs.Valid.{is_count}
-use Rattle.fx_statements.proofs.Bounds.{counted, kept, unsaid, without}
+use Rattle.fx_statements.specs.Valid.{is_count, most_factors_of}
+use Rattle.fx_statements.proofs.Bounds.{counted, kept, levels_said, most_of_all, unsaid, without}
 use Rattle.fx_settings.proofs.Within.{factors_within}
 use Rattle.fx_effects.proofs.Within.{lists_told}
 use Rattle.fx_program.specs.Texts.{at_front, or_refused, program_by, program_in}
 use Rattle.fx_program.specs.Claims.{EachStep}
 use Rattle.fx_answer.specs.ValidSteps.{CanBeSought, IsOfKind, IsValidStep}
+use Rattle.fx_vectors.specs.declared.shape.TheConstants.{MOST_FACTORS}
 
 -- the goal is of the kind that the settings say
 by_effects : (q : ℕ) (factors : List (List ℕ)) (s : List Written) (goal : Goal) → effects_goal q factors s ≡ Ok goal
@@ -63,19 +64,20 @@ goal_kind q factors statements criterion.Effects goal e =
     effects_kind q factors (statement_of word.Model statements) goal e
 
 -- and the effects that it names may be asked for
-by_lists : (q : ℕ) (factors : List (List ℕ)) → length factors ≤ 40 → (s : List Written) (goal : Goal)
+by_lists : (q : ℕ) (factors : List (List ℕ)) → length factors ≤ MOST_FACTORS → (s : List Written) (goal : Goal)
     → effects_goal q factors s ≡ Ok goal → CanBeSought q (length factors) goal
 by_lists q factors few s goal e =
     let lists = bind_ok (lists_of q factors s) _ goal e in
     subst (CanBeSought q (length factors)) (same_ok _ goal lists.2) (lists_told factors few q s lists.0 lists.1)
 
-by_model : (q : ℕ) (factors : List (List ℕ)) → length factors ≤ 40 → (model : Option (List Written)) (goal : Goal)
+by_model : (q : ℕ) (factors : List (List ℕ)) → length factors ≤ MOST_FACTORS
+    → (model : Option (List Written)) (goal : Goal)
     → effects_wanted q factors model ≡ Ok goal
     → CanBeSought q (length factors) goal
 by_model q factors few None goal e = by_lists q factors few [] goal e
 by_model q factors few (Some s) goal e = by_lists q factors few s goal e
 
-goal_sought : (q : ℕ) (factors : List (List ℕ)) → length factors ≤ 40
+goal_sought : (q : ℕ) (factors : List (List ℕ)) → length factors ≤ MOST_FACTORS
     → (statements : List (List Written)) (kind : Criterion) (goal : Goal) → goal_by q factors statements kind ≡ Ok goal
     → CanBeSought q (length factors) goal
 goal_sought q factors few statements (criterion.Resolution r) goal e =
@@ -85,19 +87,16 @@ goal_sought q factors few statements criterion.Highest goal e =
 goal_sought q factors few statements criterion.Effects goal e =
     by_model q factors few (statement_of word.Model statements) goal e
 
-no_more_than_40 : (b : Bool) (n : ℕ) → n ≤ (if b then 30 else 40) → n ≤ 40
-no_more_than_40 true n h = omega (arith, h)
-no_more_than_40 false n h = h
-
 -- what is read of a step with these factors
 abbrev IsRead : List (List ℕ) → StepSettings × Goal → Type 0
 IsRead factors asked =
-    (are_valid asked.0 ≡ true) × IsOfKind asked.0.criterion asked.1 × (is_count (length factors) asked.0.blocks ≡ true)
+    (are_valid asked.0 ≡ true) × IsOfKind asked.0.criterion asked.1
+    × (is_count asked.0.q (length factors) asked.0.blocks ≡ true)
     × CanBeSought asked.0.q (length factors) asked.1
 
 asked_read : (factors : List (List ℕ)) (head named : List Written) (statements : List (List Written))
     (asked : StepSettings × Goal) → 1 ≤ length factors
-    → length factors ≤ factor_limit statements
+    → length factors ≤ factor_limit named statements
     → asked_by factors (step_said head named statements) statements ≡ Ok asked → IsRead factors asked
 asked_read factors head named statements asked one few e =
     let said : StepSaid = step_said head named statements in
@@ -107,14 +106,17 @@ asked_read factors head named statements asked one few e =
     let listed =
     bind_ok (check_components first.0.q (length factors) goal.0 (components_place statements)) _ asked settings.2 in
     let same = kept first.0 said settings.0 settings.1 in
-    let short : length factors ≤ 40 =
-    no_more_than_40 (is_some (statement_of word.Blocks statements)) (length factors) few in
+    let levels : settings.0.q ≡ levels_of said = same.1 ∙ levels_said (length factors) said first.0 first.1 in
+    let most = most_of_all (levels_of said) (is_some (statement_of word.Blocks statements)) in
+    let short : length factors ≤ MOST_FACTORS = omega (arith, few, most) in
     subst (IsRead factors) (same_ok (settings.0, goal.0) asked listed.2) (
       valid (length factors) said first.0 settings.0 first.1 settings.1,
       subst (λ kind. IsOfKind kind goal.0) (sym same.0)
           (goal_kind first.0.q factors statements first.0.criterion goal.0 goal.1),
-      counted statements (length factors) settings.0.blocks
-          (λ none. without first.0 said settings.0 (unsaid head named statements said refl none) settings.1) one few,
+      counted settings.0.q statements (length factors) settings.0.blocks
+          (λ none. without first.0 said settings.0 (unsaid head named statements said refl none) settings.1) one
+          (subst (λ q. length factors ≤ most_factors_of q (is_some (statement_of word.Blocks statements))) (sym levels)
+          few),
       subst (λ q. CanBeSought q (length factors) goal.0) (sym same.1)
           (goal_sought first.0.q factors short statements first.0.criterion goal.0 goal.1),
     )
@@ -136,9 +138,9 @@ module _ (Claimed : Meaning → Type 0) (claim : (step : Meaning) → IsValidSte
   step_read earlier statements None step e = absurd (cc e)
   step_read earlier statements (Some given) step e =
       let proc = start_of (head_of statements) in
-      let factors = bind_ok (factors_by proc (factor_limit statements) given) _ step e in
+      let factors = bind_ok (factors_by proc (factor_limit given statements) given) _ step e in
       let found =
-      bind_ok (named.names_of_factors (factor_limit statements) given) (some_factors proc) factors.0 factors.1 in
+      bind_ok (named.names_of_factors (factor_limit given statements) given) (some_factors proc) factors.0 factors.1 in
       let asked =
       bind_ok (asked_by factors.0 (step_said (head_of statements) given statements) statements) _ step factors.2 in
       let outputs = bind_ok (outputs_of (context factors.0 asked.0.0) earlier statements) _ step asked.2 in
@@ -151,9 +153,9 @@ module _ (Claimed : Meaning → Type 0) (claim : (step : Meaning) → IsValidSte
         outputs = outputs.0;
       } in
       let one = some_named proc found.0 factors.0 found.2 in
-      let few : length factors.0 ≤ factor_limit statements =
-      subst (λ (l : List (List ℕ)). length l ≤ factor_limit statements) (some_same proc found.0 factors.0 found.2)
-      (factors_within (factor_limit statements) given found.0 found.1) in
+      let few : length factors.0 ≤ factor_limit given statements =
+      subst (λ (l : List (List ℕ)). length l ≤ factor_limit given statements) (some_same proc found.0 factors.0 found.2)
+      (factors_within (factor_limit given statements) given found.0 found.1) in
       let read = asked_read factors.0 (head_of statements) given statements asked.0 one few asked.1 in
       subst Claimed (same_ok whole step outputs.2)
       (claim whole (record { settings = read.0; goal = read.1; factors = read.2; effects = read.3 }))

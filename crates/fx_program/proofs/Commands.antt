@@ -13,7 +13,7 @@ use Rattle.fx_program.specs.declared.stop.Stop.{Stop}
 use Rattle.fx_program.specs.declared.words.Settings.{Settings}
 use Rattle.fx_program.specs.declared.words.Settings.TheVariants.{Check, Run, Large}
 use Rattle.fx_program.specs.declared.words.WordFault.{WordFault}
-use Rattle.fx_program.specs.Stops.{HasCause, exit_status, stop_of}
+use Rattle.fx_program.specs.Stops.{HasCause, exit_status, reading_stop}
 use Rattle.fx_program.specs.Making.{made_text}
 use Rattle.fx_program.specs.Texts.{program_in}
 use Rattle.fx_program.specs.Claims.{IsProvedBook, SomeHasNone}
@@ -49,7 +49,7 @@ unread_done ends = record {
 
 -- the cause where reading failed
 read_cause : (why : ReadStop) (before now : ℕ) (others : List ℕ) → HasReadCause before now (Err why)
-    → HasCause {T = ℕ} (before ∷ others) (now ∷ others) (Err (stop_of why))
+    → HasCause {T = ℕ} (before ∷ others) (now ∷ others) (Err (reading_stop why))
 read_cause read.NoMemory before now others same = record {
   failed = λ e. absurd (cc e);
   unchanged = λ e. ap (λ n. n ∷ others) same;
@@ -61,7 +61,7 @@ read_cause read.ReadFault before now others rose = record {
 
 module _ (command : Command) {old new : SourceView} (sure : new.sure ≡ old.sure) where
   pub read_failed : (why : ReadStop) (listing : SinkView) (shelf : ShelfView) (ended : Result ℕ Stop)
-      → IsErrAnd ended (λ e. e ≡ stop_of why)
+      → IsErrAnd ended (λ e. e ≡ reading_stop why)
       → HasReadCause old.faults new.faults (Err why)
       → IsCarriedOut command (outside old listing shelf) (outside new listing shelf) ended
   read_failed why listing shelf ended h cause =
@@ -72,15 +72,15 @@ module _ (command : Command) {old new : SourceView} (sure : new.sure ≡ old.sur
         exposed = λ read known e. sym (ap (λ (o : Option (List ℕ)). unwrap_or o []) e);
         ends =
             subst (Ends output (outside old listing shelf) (outside new listing shelf))
-            (error_is ended (stop_of why) h) (record {
+            (error_is ended (reading_stop why) h) (record {
               low = tt;
-              gives = gives_part output (exit_status (Err (stop_of why))) (stopped_high (stop_of why))
+              gives = gives_part output (exit_status (Err (reading_stop why))) (stopped_high (reading_stop why))
                   (part_none _ (acts output.events));
               cause = read_cause why _ _ _ cause;
               rooms = record { source = sure; listing = refl; shelf = refl };
               closed = tt;
             });
-        read_to_end = λ low. absurd (omega (arith, low, stopped_above ended (stop_of why) h));
+        read_to_end = λ low. absurd (omega (arith, low, stopped_above ended (reading_stop why) h));
       }
 
   -- a stage that follows on reading

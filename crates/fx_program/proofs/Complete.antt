@@ -7,13 +7,14 @@ use Rattle.fx_base.specs.Acts.{Event, Piece, File, files_of, listed, pieces, Has
 use Rattle.fx_base.specs.Acts.{PastPiece, PastFile}
 use Rattle.fx_base.specs.Memory.{room_of}
 use Rattle.fx_base.proofs.Words.{comes}
+use Rattle.fx_base.proofs.Options.{same_some}
 use Rattle.fx_program.specs.CommandLine.{settings_of}
 use Rattle.fx_program.specs.Commands.{command_for, output_for, output_of, command_in}
 use Rattle.fx_program.specs.Output.{world}
 use Rattle.fx_program.specs.Outside.{GivesForSome}
 use Rattle.fx_program.specs.Stops.{HasStatusCause, SomeRose}
 use Rattle.fx_program.specs.declared.words.Settings.{Settings}
-use Rattle.fx_program.specs.declared.words.Settings.TheVariants.{Run, Check, Make, Large}
+use Rattle.fx_program.specs.declared.words.Settings.TheVariants.{Run, Check, Make, Large, Judge}
 use Rattle.fx_program.specs.declared.words.WordFault.{WordFault}
 
 -- as far as events have come, they have listed no more bytes than all of them, and shelved no more files
@@ -32,14 +33,12 @@ come-fits (PastPiece {bytes} {events} {listing} come) =
     (omega (arith, rest.0, all, length-append bytes listing), rest.1)
 come-fits (PastFile come) = (let rest = come-fits come in (rest.0, omega (arith, rest.1)))
 
-pub some-of : {A : Type 0} {x y : A} → Some x ≡ Some y → x ≡ y
-some-of e = cc
-
 -- a command whose output hangs on the text reads it
 same-output : (asked : Result Settings WordFault) (text known : List ℕ)
     → ((command_for asked).reads ≡ true → known ≡ text) → output_for asked text ≡ output_for asked known
 same-output (Ok (Run threads seed)) text known h = ap (output_for (Ok (Run threads seed))) (sym (h refl))
 same-output (Ok Check) text known h = ap (output_for (Ok Check)) (sym (h refl))
+same-output (Ok (Judge q)) text known h = ap (output_for (Ok (Judge q))) (sym (h refl))
 same-output (Ok (Make n)) text known h = refl
 same-output (Ok (Large n threads)) text known h = refl
 same-output (Err fault) text known h = refl
@@ -52,8 +51,8 @@ gives-within words left written files status h =
     let events = (output_of words h.text).events in
     let part = h.gives.part in
     let come = comes events part.done part.left part.front in
-    let is_listed : written ≡ listed part.done = some-of (part.did.listing.exposed [] refl) in
-    let is_shelved : files ≡ come.new = some-of (part.did.shelf.exposed [] refl) ∙ come.added [] in
+    let is_listed : written ≡ listed part.done = same_some (part.did.listing.exposed [] refl) in
+    let is_shelved : files ≡ come.new = same_some (part.did.shelf.exposed [] refl) ∙ come.added [] in
     let same : output_of words h.text ≡ output_of words left =
     same-output (settings_of words) h.text left (λ reads. h.exposed reads left refl) in
     let fits = come-fits come.come in

@@ -14,7 +14,8 @@ use Rattle.fx_vectors.specs.Shape.{dimensions_of}
 use Rattle.fx_alias.specs.Heads.{head_lines}
 use Rattle.fx_alias.specs.Rules.{rules_section}
 use Rattle.fx_alias.specs.Sections.{examined, sections, step_lines}
-use Rattle.fx_statements.specs.Questions.{Conclusion, block_factors, outcome_of, question_for, run_factors}
+use Rattle.fx_statements.specs.Questions.{Conclusion, block_factors, conclusion_in, outcome_of, question_for}
+use Rattle.fx_statements.specs.Questions.{run_factors}
 use Rattle.fx_statements.proofs.Concluded.{step-question}
 use Rattle.fx_answer.specs.Books.{books_of}
 use Rattle.fx_answer.specs.Outcomes.{IsOutcome}
@@ -22,7 +23,7 @@ use Rattle.fx_answer.proofs.StepSettings.{blocks_again}
 use Rattle.fx_program.specs.Statuses.{status_of}
 use Rattle.fx_plan.specs.Steps.{IsDesignOf}
 use Rattle.fx_program.specs.Files.{book_files, book_lines, matrix_in, output_lines, plan_files}
-use Rattle.fx_program.specs.Output.{Output, ending_given, step_output, with_files}
+use Rattle.fx_program.specs.Output.{Output, outcome_given, step_output, with_files}
 
 module _ (shape : Shape) where
   abbrev with_rows : List ℕ → MatrixView
@@ -69,11 +70,12 @@ module _ (shape : Shape) where
   without_matrix step books (BudgetEnded (Some rows) budget) h = absurd (cc h.0)
 
 -- head and sections, one after the other
-pub all_lines : (number : ℕ) (d : Dimensions) (step : Meaning) (books : List ℕ) (ending : Ending) (lines after : List ℕ)
-    → lines ≡ [] ++ head_lines number step d ending → after ≡ sections d step books ending
-    → lines ++ after ≡ step_lines number d step books ending
+pub all_lines : (number : ℕ) (step : Meaning) (books : List ℕ) (outcome : Conclusion) (lines after : List ℕ)
+    → lines ≡ [] ++ head_lines number step outcome
+    → after ≡ sections outcome.dimensions step books outcome.ending
+    → lines ++ after ≡ step_lines number step books outcome
 unfolding step_lines
-all_lines number d step books ending lines after head rest = ap₂ (λ (x y : List ℕ). x ++ y) head rest
+all_lines number step books outcome lines after head rest = ap₂ (λ (x y : List ℕ). x ++ y) head rest
 
 -- the matrix of an outcome is that of its ending
 pub matrix_is : (shape : Shape) (ending : Ending) (matrix : Option MatrixView) → HasMatrix shape ending matrix
@@ -87,19 +89,17 @@ matrix_is shape (BudgetEnded (Some rows) budget) matrix h = sym h.0
 pub is_given : (seed number : ℕ) (step : Meaning) (outcome : Outcome) → IsOutcome step outcome
     → step_output seed number step
     ≡ with_files (book_files number outcome.books ++ plan_files seed step outcome.matrix)
-    (step_lines number (dimensions_of outcome.shape) step (book_lines number outcome.books) (ending_in outcome)
+    (step_lines number step (book_lines number outcome.books) (conclusion_in outcome)
     ++ output_lines seed step outcome.matrix)
     (status_of (ending_in outcome))
 is_given seed number step outcome is =
-    ap (λ (c : Conclusion). ending_given seed number c.dimensions step (books_of step) c.ending) (sym is.concluded)
-    ∙ (ap (λ books. ending_given seed number (dimensions_of outcome.shape) step books (ending_in outcome))
-    (sym is.books)
-    ∙ by_matrix)
+    ap (outcome_given seed number step (books_of step)) (sym is.concluded)
+    ∙ (ap (λ books. outcome_given seed number step books (conclusion_in outcome)) (sym is.books) ∙ by_matrix)
   where
     all : Option MatrixView → Output
     all matrix =
         with_files (book_files number outcome.books ++ plan_files seed step matrix)
-        (step_lines number (dimensions_of outcome.shape) step (book_lines number outcome.books) (ending_in outcome)
+        (step_lines number step (book_lines number outcome.books) (conclusion_in outcome)
         ++ output_lines seed step matrix)
         (status_of (ending_in outcome))
 

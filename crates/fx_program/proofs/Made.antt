@@ -10,7 +10,8 @@ use Rattle.std.proofs.lemmas.List.{append-nil, length-append, map-id}
 use Rattle.std.proofs.lemmas.List.FromFn.{map-range_with_len_more}
 use Rattle.fx_base.specs.Writing.{HoldsPart}
 use Rattle.fx_base.proofs.Held.{in_first}
-use Rattle.fx_program.specs.Making.{factors_at, factors_line, levels_at, made_text, model_line, runs_at, size_line}
+use Rattle.fx_program.specs.Making.{made_factors, factors_line, made_levels, made_text, model_line, made_runs}
+use Rattle.fx_program.specs.Making.{size_line}
 use Rattle.fx_program.specs.Making.{step_text}
 
 -- one text behind another
@@ -75,14 +76,14 @@ size_line_short runs few = omega (arith, number_short runs few, length-append (d
 
 step_short : (k : ℕ) → length (step_text k) ≤ 150
 step_short k =
-    let few_levels : levels_at k < 100 = either (k % 3 == 0) 3 2 100 (omega arith) (omega arith) in
-    let few_runs : runs_at k < 100 =
+    let few_levels : made_levels k < 100 = either (k % 3 == 0) 3 2 100 (omega arith) (omega arith) in
+    let few_runs : made_runs k < 100 =
     either (k % 3 == 0) 27 (if k % 2 == 0 then 16 else 32) 100 (omega arith)
     (either (k % 2 == 0) 16 32 100 (omega arith) (omega arith)) in
     omega (
       arith,
-      factors_line_short (factors_at k) (levels_at k) (omega arith) few_levels,
-      size_line_short (runs_at k) few_runs,
+      factors_line_short (made_factors k) (made_levels k) (omega arith) few_levels,
+      size_line_short (made_runs k) few_runs,
       model_short (k % 4 == 0),
       length-append (factors_line k) (size_line k ++ (model_line k ++ codes "run;\n")),
       length-append (size_line k) (model_line k ++ codes "run;\n"),

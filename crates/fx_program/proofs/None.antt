@@ -13,7 +13,7 @@ use Rattle.fx_designs.specs.Matrices.{NoneMeets}
 use Rattle.fx_reduction.proofs.NoDesign.{named_matrix}
 use Rattle.fx_statements.specs.Steps.{Meaning}
 use Rattle.fx_statements.specs.Questions.{Conclusion, Found, asked, concluded, cut_short, last_found, last_of, left_at}
-use Rattle.fx_statements.specs.Questions.{nodes_of, outcome_of, questions_of}
+use Rattle.fx_statements.specs.Questions.{nodes_of, outcome_of, questions_of, reached_at}
 use Rattle.fx_statements.proofs.Concluded.{passed, within}
 use Rattle.fx_program.specs.Statuses.{status_of}
 use Rattle.fx_answer.specs.StepClaims.{Allows, required, rows_in}
@@ -42,9 +42,9 @@ module _ (step : Meaning) where
   abbrev budget : ℕ
   budget = step.settings.budget
 
-  cut : (p : Problem) (left : Option Found) → status_of (cut_short p left budget).ending ≡ 2
-  cut p None = refl
-  cut p (Some found) = refl
+  cut : (p : Problem) (left : Option Found) (reached : ℕ) → status_of (cut_short p left reached budget).ending ≡ 2
+  cut p None reached = refl
+  cut p (Some found) reached = refl
 
   not_cut : (p : Problem) (found : Option Found) (count : ℕ) → status_of (concluded p found count).ending ≡ 2 → ⊥
   not_cut p None count e = omega (arith, e)
@@ -61,6 +61,7 @@ module _ (step : Meaning) where
   two_comes more =
       let end = passed (questions_of step) budget more in
       ap (λ (c : Conclusion). status_of c.ending) end.1 ∙ cut end.0.question (left_at budget end.0)
+      (reached_at budget end.0)
 
   module _ (valid : IsValidStep step) where
     pub one_told : status_of (outcome_of step).ending ≡ 1 → (d : Dimensions) → Allows step d

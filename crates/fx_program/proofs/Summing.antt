@@ -11,7 +11,7 @@ use Rattle.fx_statements.specs.Questions.{outcome_of}
 use Rattle.fx_program.specs.declared.text.TextFault.{TextFault}
 use Rattle.fx_program.specs.declared.summary.Summary.{Summary}
 use Rattle.fx_program.specs.Statuses.{status_of}
-use Rattle.fx_program.specs.Summaries.{five_lines, is_cut_short, is_design, is_without, nodes_in, summary_lines}
+use Rattle.fx_program.specs.Summaries.{five_lines, is_cut_short, has_design, is_without, nodes_spent, summary_lines}
 use Rattle.fx_program.specs.Output.{endings_of, large_output, message, program_output, step_output, steps_output, worse}
 use Rattle.fx_program.proofs.SoFar.{worse_low}
 use Rattle.fx_program.specs.Summed.{HasRoom, IsSummaryOf, with_ending}
@@ -45,9 +45,10 @@ module _ (steps : List Meaning) (summary : Summary) (so_far : IsSummaryOf steps 
         ap (count_by p) endings ∙ count_more p (endings_of steps) (outcome_of step).ending ∙ ap
         (λ (x : Ending). count_by p (endings_of steps) + cond (p x) 1 0) e
 
-    sums : sum_by nodes_in (endings_of (steps ++ step ∷ [])) ≡ sum_by nodes_in (endings_of steps) + nodes_in ending
-    sums = ap (sum_by nodes_in) endings ∙ sum_by_push nodes_in (endings_of steps) (outcome_of step).ending ∙ ap
-        (λ (x : Ending). sum_by nodes_in (endings_of steps) + nodes_in x) e
+    sums : sum_by nodes_spent (endings_of (steps ++ step ∷ []))
+        ≡ sum_by nodes_spent (endings_of steps) + nodes_spent ending
+    sums = ap (sum_by nodes_spent) endings ∙ sum_by_push nodes_spent (endings_of steps) (outcome_of step).ending ∙ ap
+        (λ (x : Ending). sum_by nodes_spent (endings_of steps) + nodes_spent x) e
 
     status_is : (program_output 0 (Ok (steps ++ step ∷ []))).status ≡ worse summary.status (status_of ending)
     status_is =
@@ -58,8 +59,8 @@ module _ (steps : List Meaning) (summary : Summary) (so_far : IsSummaryOf steps 
   pub by_ending : (ending : Ending) → (outcome_of step).ending ≡ ending
       → IsSummaryOf (steps ++ step ∷ []) (with_ending summary ending)
   by_ending (Design rows count) e =
-      let designs : count_by is_design (endings_of (steps ++ step ∷ [])) ≡ count_by is_design (endings_of steps) + 1 =
-      counts (Design rows count) e is_design in
+      let designs : count_by has_design (endings_of (steps ++ step ∷ [])) ≡ count_by has_design (endings_of steps) + 1 =
+      counts (Design rows count) e has_design in
       let without : count_by is_without (endings_of (steps ++ step ∷ [])) ≡ count_by is_without (endings_of steps) + 0 =
       counts (Design rows count) e is_without in
       let cut_short : count_by is_cut_short (endings_of (steps ++ step ∷ []))
@@ -73,8 +74,8 @@ module _ (steps : List Meaning) (summary : Summary) (so_far : IsSummaryOf steps 
         status = sym (status_is (Design rows count) e);
       }
   by_ending (NoDesign count) e =
-      let designs : count_by is_design (endings_of (steps ++ step ∷ [])) ≡ count_by is_design (endings_of steps) + 0 =
-      counts (NoDesign count) e is_design in
+      let designs : count_by has_design (endings_of (steps ++ step ∷ [])) ≡ count_by has_design (endings_of steps) + 0 =
+      counts (NoDesign count) e has_design in
       let without : count_by is_without (endings_of (steps ++ step ∷ [])) ≡ count_by is_without (endings_of steps) + 1 =
       counts (NoDesign count) e is_without in
       let cut_short : count_by is_cut_short (endings_of (steps ++ step ∷ []))
@@ -88,8 +89,8 @@ module _ (steps : List Meaning) (summary : Summary) (so_far : IsSummaryOf steps 
         status = sym (status_is (NoDesign count) e);
       }
   by_ending (BudgetEnded left budget) e =
-      let designs : count_by is_design (endings_of (steps ++ step ∷ [])) ≡ count_by is_design (endings_of steps) + 0 =
-      counts (BudgetEnded left budget) e is_design in
+      let designs : count_by has_design (endings_of (steps ++ step ∷ [])) ≡ count_by has_design (endings_of steps) + 0 =
+      counts (BudgetEnded left budget) e has_design in
       let without : count_by is_without (endings_of (steps ++ step ∷ [])) ≡ count_by is_without (endings_of steps) + 0 =
       counts (BudgetEnded left budget) e is_without in
       let cut_short : count_by is_cut_short (endings_of (steps ++ step ∷ []))
@@ -116,7 +117,7 @@ has_room steps summary is few nodes =
     let long : length (endings_of steps) ≡ length steps =
     length-map steps (λ (step : Meaning). (outcome_of step).ending) in
     record {
-      designs = omega (arith, count_by-le-length is_design (endings_of steps), is.designs, long);
+      designs = omega (arith, count_by-le-length has_design (endings_of steps), is.designs, long);
       without = omega (arith, count_by-le-length is_without (endings_of steps), is.without, long);
       cut_short = omega (arith, count_by-le-length is_cut_short (endings_of steps), is.cut_short, long);
       nodes = nodes;
@@ -141,6 +142,6 @@ summed_up steps summary n bytes is len lines =
     ap (λ (k : ℕ). five_lines k summary.designs summary.without summary.cut_short summary.nodes) long
     ∙ ap₂ (λ (a b : ℕ). five_lines (length (endings_of steps)) a b summary.cut_short summary.nodes) is.designs
     is.without
-    ∙ ap₂ (λ (a b : ℕ). five_lines (length (endings_of steps)) (count_by is_design (endings_of steps))
+    ∙ ap₂ (λ (a b : ℕ). five_lines (length (endings_of steps)) (count_by has_design (endings_of steps))
     (count_by is_without (endings_of steps)) a b) is.cut_short is.nodes in
     sym (ap₂ (λ (l : List ℕ) (s : ℕ). message l s) (lines ∙ same) is.status)

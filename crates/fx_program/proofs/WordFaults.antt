@@ -24,7 +24,7 @@ module _ (last place : ℕ) (from : 1 ≤ place) (to : place ≤ last) where
   fault_here : (code : ℕ) → 1 ≤ code → code ≤ 6 → IsWithin last (record { code = code; word = place })
   fault_here code low high = record { code = (low, high); word = (from, to) }
 
-  value_within : {T : Type 0} (value : Option T) → Within last (CommandLine.value_at place value)
+  value_within : {T : Type 0} (value : Option T) → Within last (CommandLine.value_or_fault place value)
   value_within None = fault_here 4 (omega arith) (omega arith)
   value_within (Some n) = tt
 
@@ -89,7 +89,7 @@ make_within : (last : ℕ) (options : List (List ℕ)) → length options + 2 �
 make_within last [] fits some = fault_here last 2 (omega arith) some 6 (omega arith) (omega arith)
 make_within last (word ∷ others) fits some =
     made_within last _ (alone_within last others _ (omega (arith, fits))
-    (value_within last 2 (omega arith) some (CommandLine.steps_of word)))
+    (value_within last 2 (omega arith) some (CommandLine.step_count word)))
 
 large_by_within : (last n : ℕ) (r : Result Options WordFault) → Within last r → Within last (CommandLine.large_by n r)
 large_by_within last n (Ok given) h = tt
@@ -106,7 +106,18 @@ large_within : (last : ℕ) (options : List (List ℕ)) → length options + 2 �
 large_within last [] fits some = fault_here last 2 (omega arith) some 6 (omega arith) (omega arith)
 large_within last (word ∷ others) fits some =
     large_behind_within last others _ (omega (arith, fits))
-    (value_within last 2 (omega arith) some (CommandLine.steps_of word))
+    (value_within last 2 (omega arith) some (CommandLine.step_count word))
+
+judged_within : (last : ℕ) (r : Result ℕ WordFault) → Within last r → Within last (CommandLine.judged_by r)
+judged_within last (Ok q) h = tt
+judged_within last (Err fault) h = h
+
+judge_within : (last : ℕ) (options : List (List ℕ)) → length options + 2 ≤ last → 2 ≤ last
+    → Within last (CommandLine.judge_with options)
+judge_within last [] fits some = fault_here last 2 (omega arith) some 6 (omega arith) (omega arith)
+judge_within last (word ∷ others) fits some =
+    judged_within last _ (alone_within last others _ (omega (arith, fits))
+    (value_within last 2 (omega arith) some (CommandLine.order_of word)))
 
 command_within : (last : ℕ) (word : List ℕ) (options : List (List ℕ)) → length options + 2 ≤ last
     → Within last (CommandLine.command_with word options)
@@ -117,7 +128,8 @@ command_within last word options fits =
     (either last (bytes_eq word (codes "check")) _ _ (check_within last options (omega (arith, fits)))
     (either last (bytes_eq word (codes "make")) _ _ (make_within last options fits some)
     (either last (bytes_eq word (codes "large")) _ _ (large_within last options fits some)
-    (fault_here last 1 (omega arith) (omega (arith, some)) 2 (omega arith) (omega arith)))))
+    (either last (bytes_eq word (codes "judge")) _ _ (judge_within last options fits some)
+    (fault_here last 1 (omega arith) (omega (arith, some)) 2 (omega arith) (omega arith))))))
 
 settings_within : (words : List (List ℕ)) → Within (length words + 1) (CommandLine.settings_of words)
 unfolding CommandLine.settings_of

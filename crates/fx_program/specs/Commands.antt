@@ -3,10 +3,12 @@ use Rattle.std.specs.Prelude.{ℕ, nat_le, List, length, Option, Some, None, Res
 use Rattle.fx_book.specs.Heads.{book_of}
 use Rattle.fx_program.specs.CommandLine.{settings_of, word_line}
 use Rattle.fx_program.specs.Texts.{program_in}
+use Rattle.fx_judge.specs.Reading.{plan_of_text}
+use Rattle.fx_program.specs.Judging.{judged_output}
 use Rattle.fx_program.specs.Making.{made_text}
 use Rattle.fx_program.specs.Output.{Output, large_output, message, program_output, verdict_output}
 use Rattle.fx_program.specs.declared.words.Settings.{Settings}
-use Rattle.fx_program.specs.declared.words.Settings.TheVariants.{Run, Check, Make, Large}
+use Rattle.fx_program.specs.declared.words.Settings.TheVariants.{Run, Check, Make, Large, Judge}
 use Rattle.fx_program.specs.declared.words.WordFault.{WordFault}
 
 -- A command: what it gives for a text of the source; whether it reads the source, and whether it reads such a text to
@@ -37,6 +39,12 @@ command_of (Run threads seed) = record {
 }
 command_of Check = reading 268435456 (λ text. verdict_output (book_of text))
 command_of (Make n) = unread (message (made_text n) 0) None
+command_of (Judge q) = record {
+  output = λ text. judged_output (plan_of_text q text);
+  reads = true;
+  reads_all_of = λ text. true;
+  text_run = λ left. None;
+}
 command_of (Large n threads) = unread (large_output (program_in (made_text n))) (Some (made_text n))
 
 -- the command of settings, or what is given for the first fault of the words

@@ -9,6 +9,7 @@ pub mod Making
 pub mod Summaries
 pub mod Verdicts
 pub mod Output
+pub mod Judging
 pub mod Commands
 pub mod Outside
 pub mod Summed

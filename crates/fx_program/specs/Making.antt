@@ -6,25 +6,25 @@ use Rattle.fx_statements.specs.Steps.{Meaning}
 use Rattle.fx_program.specs.declared.text.TextFault.{TextFault}
 
 -- the number of levels of the step of number k: 3 where k is a multiple of 3, else 2
-abbrev pub levels_at : ℕ → ℕ
-levels_at k = if k % 3 == 0 then 3 else 2
+abbrev pub made_levels : ℕ → ℕ
+made_levels k = if k % 3 == 0 then 3 else 2
 
 -- its number of factors, 5 to 10
-abbrev pub factors_at : ℕ → ℕ
-factors_at k = 5 + k % 6
+abbrev pub made_factors : ℕ → ℕ
+made_factors k = 5 + k % 6
 
 -- its number of runs: 27 with three levels, and with two 16 where k is even, else 32
-abbrev pub runs_at : ℕ → ℕ
-runs_at k = if k % 3 == 0 then 27 else (if k % 2 == 0 then 16 else 32)
+abbrev pub made_runs : ℕ → ℕ
+made_runs k = if k % 3 == 0 then 27 else (if k % 2 == 0 then 16 else 32)
 
 -- its factors
 abbrev pub factors_line : ℕ → List ℕ
 factors_line k =
-    codes "factors X1-X" ++ (decimal (factors_at k) ++ (codes " / nlev=" ++ (decimal (levels_at k) ++ codes ";\n")))
+    codes "factors X1-X" ++ (decimal (made_factors k) ++ (codes " / nlev=" ++ (decimal (made_levels k) ++ codes ";\n")))
 
 -- its size
 abbrev pub size_line : ℕ → List ℕ
-size_line k = codes "size design=" ++ (decimal (runs_at k) ++ codes ";\n")
+size_line k = codes "size design=" ++ (decimal (made_runs k) ++ codes ";\n")
 
 -- its model, with least aberration where k is a multiple of 4
 abbrev pub model_line : ℕ → List ℕ

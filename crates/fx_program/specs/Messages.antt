@@ -20,7 +20,7 @@ reasons =
     (10, codes "too many factors") ∷
     (11, codes "resolution is not from 3 to 99") ∷
     (12, codes "MINABS with ESTIMATE") ∷
-    (13, codes "MINABS or RESOLUTION=MAX with BLOCKS") ∷
+    (13, codes "MINABS with BLOCKS, or two maxima") ∷
     (14, codes "minimum size with a maximum or MINABS") ∷
     (15, codes "blocks are not a power of the number of levels") ∷
     (16, codes "more blocks than runs") ∷

@@ -2,7 +2,6 @@
 use Rattle.std.specs.Prelude.{ℕ, ◌≡◌, ◌+◌, ◌<◌, nat_le, if◌then◌else◌, List, [], ◌∷◌, ◌++◌, map, Option, Result, Ok}
 use Rattle.std.specs.Prelude.{Err}
 use Rattle.fx_base.specs.Acts.{Event, Piece, acts, World, File, Did, DidPart}
-use Rattle.fx_designs.specs.Problems.{Dimensions}
 use Rattle.fx_designs.specs.Outcomes.{Ending}
 use Rattle.fx_alias.specs.Sections.{step_lines}
 use Rattle.fx_vectors.specs.declared.book.Book.{Book}
@@ -11,7 +10,7 @@ use Rattle.fx_book.specs.declared.fault.BookFault.{BookFault}
 use Rattle.fx_checker.specs.Books.{flaw_of}
 use Rattle.fx_checker.specs.Claims.{claim_of}
 use Rattle.fx_checker.specs.Verdicts.{verdict_of}
-use Rattle.fx_statements.specs.Questions.{outcome_of}
+use Rattle.fx_statements.specs.Questions.{Conclusion, outcome_of}
 use Rattle.fx_statements.specs.Steps.{Meaning}
 use Rattle.fx_answer.specs.Books.{books_of}
 use Rattle.fx_program.specs.Messages.{fault_line}
@@ -34,18 +33,18 @@ message bytes status = record { events = Piece bytes ∷ []; status = status }
 abbrev pub with_files : List Event → List ℕ → ℕ → Output
 with_files files bytes status = record { events = files ++ Piece bytes ∷ []; status = status }
 
--- what is given for the step of this number in these dimensions that has these books and ends so, by the program's
--- seed: the files of its books and then of its plans, then its lines with those that name the files, and its status
-abbrev pub ending_given : ℕ → ℕ → Dimensions → Meaning → List NamedBook → Ending → Output
-ending_given seed number d step books ending =
-    with_files (book_files number books ++ plan_files seed step (matrix_in d ending))
-    (step_lines number d step (book_lines number books) ending ++ output_lines seed step (matrix_in d ending))
-    (status_of ending)
+-- what is given for the step of this number with these books and this outcome, by the program's seed: the files of its
+-- books and then of its plans, then its lines with those that name the files, and its status
+abbrev pub outcome_given : ℕ → ℕ → Meaning → List NamedBook → Conclusion → Output
+outcome_given seed number step books outcome =
+    let matrix = matrix_in outcome.dimensions outcome.ending in
+    with_files (book_files number books ++ plan_files seed step matrix)
+    (step_lines number step (book_lines number books) outcome ++ output_lines seed step matrix)
+    (status_of outcome.ending)
 
 -- what is given for a step, by its outcome and its books
 abbrev pub step_output : ℕ → ℕ → Meaning → Output
-step_output seed number step =
-    ending_given seed number (outcome_of step).dimensions step (books_of step) (outcome_of step).ending
+step_output seed number step = outcome_given seed number step (books_of step) (outcome_of step)
 
 -- the status of a step, whatever its number and the seed
 abbrev pub step_status : Meaning → ℕ

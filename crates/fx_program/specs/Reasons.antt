@@ -3,5 +3,5 @@ use Rattle.std.specs.Prelude.{ℕ, List}
 use Rattle.fx_program.specs.declared.refusal.Reason.{Reason}
 
 -- a row of the table
-abbrev pub row_of : Reason → ℕ × List ℕ
-row_of reason = (reason.code, reason.text.now)
+abbrev pub reason_row : Reason → ℕ × List ℕ
+reason_row reason = (reason.code, reason.text.now)

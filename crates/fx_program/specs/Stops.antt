@@ -7,9 +7,9 @@ use Rattle.fx_program.specs.declared.stop.Stop.{Stop}
 use Rattle.fx_program.specs.declared.stop.Stop.TheVariants as stop
 
 -- why the program stops where the text was not read
-abbrev pub stop_of : ReadStop → Stop
-stop_of read.ReadFault = stop.Failed
-stop_of read.NoMemory = stop.NoMemory
+abbrev pub reading_stop : ReadStop → Stop
+reading_stop read.ReadFault = stop.Failed
+reading_stop read.NoMemory = stop.NoMemory
 
 -- the exit status
 abbrev pub exit_status : Result ℕ Stop → ℕ

@@ -3,10 +3,10 @@ use Rattle.std.specs.Prelude.{ℕ, Bool, true, false, List, ◌++◌, length, co
 use Rattle.fx_designs.specs.Outcomes.{Ending, Design, NoDesign, BudgetEnded}
 
 -- with a design
-abbrev pub is_design : Ending → Bool
-is_design (Design rows count) = true
-is_design (NoDesign count) = false
-is_design (BudgetEnded left budget) = false
+abbrev pub has_design : Ending → Bool
+has_design (Design rows count) = true
+has_design (NoDesign count) = false
+has_design (BudgetEnded left budget) = false
 
 -- without one
 abbrev pub is_without : Ending → Bool
@@ -21,10 +21,10 @@ is_cut_short (NoDesign count) = false
 is_cut_short (BudgetEnded left budget) = true
 
 -- the nodes of an outcome, which are the budget where it ended
-abbrev pub nodes_in : Ending → ℕ
-nodes_in (Design rows count) = count
-nodes_in (NoDesign count) = count
-nodes_in (BudgetEnded left budget) = budget
+abbrev pub nodes_spent : Ending → ℕ
+nodes_spent (Design rows count) = count
+nodes_spent (NoDesign count) = count
+nodes_spent (BudgetEnded left budget) = budget
 
 -- a line of a word and a number
 abbrev pub counted : List ℕ → ℕ → List ℕ
@@ -42,5 +42,5 @@ five_lines steps designs without cut_short nodes =
 -- the summary of steps that end so
 abbrev pub summary_lines : List Ending → List ℕ
 summary_lines endings =
-    five_lines (length endings) (count_by is_design endings) (count_by is_without endings)
-    (count_by is_cut_short endings) (sum_by nodes_in endings)
+    five_lines (length endings) (count_by has_design endings) (count_by is_without endings)
+    (count_by is_cut_short endings) (sum_by nodes_spent endings)

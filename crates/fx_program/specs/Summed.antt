@@ -3,15 +3,15 @@ use Rattle.std.specs.Prelude.{◌≡◌, ◌+◌, ◌^◌, ◌<◌, ◌≤◌, L
 use Rattle.fx_designs.specs.Outcomes.{Ending, Design, NoDesign, BudgetEnded}
 use Rattle.fx_statements.specs.Steps.{Meaning}
 use Rattle.fx_program.specs.Output.{endings_of, program_output, worse}
-use Rattle.fx_program.specs.Summaries.{is_cut_short, is_design, is_without, nodes_in}
+use Rattle.fx_program.specs.Summaries.{is_cut_short, has_design, is_without, nodes_spent}
 use Rattle.fx_program.specs.declared.summary.Summary.{Summary}
 
 -- the counts of the ways in which these steps end, their nodes together, and the status of a run
 pub record IsSummaryOf (steps : List Meaning) (summary : Summary) : Type 0 where
-  pub designs : summary.designs ≡ count_by is_design (endings_of steps)
+  pub designs : summary.designs ≡ count_by has_design (endings_of steps)
   pub without : summary.without ≡ count_by is_without (endings_of steps)
   pub cut_short : summary.cut_short ≡ count_by is_cut_short (endings_of steps)
-  pub nodes : summary.nodes ≡ sum_by nodes_in (endings_of steps)
+  pub nodes : summary.nodes ≡ sum_by nodes_spent (endings_of steps)
   pub status : summary.status ≡ (program_output 0 (Ok steps)).status
 
 -- a summary of fewer than 2^64 steps with one step more, which ends so

@@ -1,6 +1,6 @@
-ghost use Rattle.std.specs.Prelude.{◌≡◌, ◌≤◌, ◌++◌, false, length, Some};
+ghost use Rattle.std.specs.Prelude.{◌≡◌, ◌≤◌, ◌++◌, false, length, All, Some};
 ghost use Rattle.fx_statements.specs.Steps.{meaning_of};
-ghost use Rattle.fx_answer.specs.Outcomes.{IsOutcome};
+ghost use Rattle.fx_answer.specs.Outcomes.{HasShape, IsOutcome};
 ghost use Rattle.fx_plan.specs.Steps.{IsDesignOf};
 ghost use Rattle.fx_program.specs.Files.{book_files, book_name, file_name, plan_files};
 ghost use Rattle.fx_program.specs.Outside.{ShelvesFiles, shelf_view};
@@ -49,7 +49,8 @@ fn shelve_books<R: Threads + Sync, F: Shelf>(
     books: &Books,
     shelf: &mut F,
 ) -> Result<(), Stop>
-    requires { F.begun shelf.old ≡ false }
+    requires shapes { All HasShape books.now }
+    requires ended { F.begun shelf.old ≡ false }
     ensures { ShelvesFiles (book_files number books.now)
         (shelf_view F.Shelf shelf.old) (shelf_view F.Shelf shelf.new) result }
 {

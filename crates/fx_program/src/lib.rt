@@ -3,6 +3,7 @@
 
 mod checking;
 mod files;
+mod judging;
 mod making;
 mod output_lines;
 mod refusal;

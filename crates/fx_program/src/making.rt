@@ -1,6 +1,6 @@
 ghost use Rattle.std.specs.Prelude.{◌≡◌, ◌++◌, OnErr, OnOk};
 ghost use Rattle.fx_base.specs.Writing.{HoldsPart};
-ghost use Rattle.fx_program.specs.Making.{factors_at, factors_line, levels_at, made_text, model_line, runs_at, size_line, step_text};
+ghost use Rattle.fx_program.specs.Making.{made_factors, factors_line, made_levels, made_text, model_line, made_runs, size_line, step_text};
 
 use fx_base::{Bytes, NoMemory, put, put_number};
 
@@ -60,21 +60,21 @@ fn put_size(out: &mut Bytes, k: u8) -> Result<(), NoMemory>
 
 /// The number of levels of the step of this number.
 fn levels_at(k: u8) -> u8
-    ensures { result ≡ levels_at k }
+    ensures { result ≡ made_levels k }
 {
     if k % 3 == 0 { 3 } else { 2 }
 }
 
 /// Its number of factors.
 fn factors_at(k: u8) -> u8
-    ensures { result ≡ factors_at k }
+    ensures { result ≡ made_factors k }
 {
     5 + k % 6
 }
 
 /// Its number of runs.
 fn runs_at(k: u8) -> u8
-    ensures { result ≡ runs_at k }
+    ensures { result ≡ made_runs k }
 {
     if k % 3 == 0 {
         27

@@ -1,5 +1,5 @@
 ghost use Rattle.std.specs.Prelude.{◌≡◌, ◌++◌, map, OnOk};
-ghost use Rattle.fx_program.specs.Reasons.{row_of};
+ghost use Rattle.fx_program.specs.Reasons.{reason_row};
 ghost use Rattle.fx_program.specs.Messages.{fault_line, lexical_reasons, line_at, listed_at, reason_of, reasons};
 
 use crate::text::TextFault;
@@ -70,7 +70,7 @@ fn reason_of(code: u8) -> &'static [u8]
 
 /// What stands beside the number in a table, or nothing.
 fn listed_at(reasons: &[Reason], code: u8) -> &'static [u8]
-    ensures { result.now ≡ listed_at (map row_of reasons.now) code }
+    ensures { result.now ≡ listed_at (map reason_row reasons.now) code }
 {
     for reason in reasons {
         if reason.code == code {
@@ -81,14 +81,14 @@ fn listed_at(reasons: &[Reason], code: u8) -> &'static [u8]
 }
 
 fn row(code: u8, text: &'static [u8]) -> Reason
-    ensures { row_of result ≡ (code, text.now) }
+    ensures { reason_row result ≡ (code, text.now) }
 {
     Reason { code, text }
 }
 
 /// What the lexical rules say.
 fn lexical_reasons() -> [Reason; 5]
-    ensures { map row_of result ≡ lexical_reasons }
+    ensures { map reason_row result ≡ lexical_reasons }
 {
     [
         row(1, b"comment is not closed"),
@@ -101,7 +101,7 @@ fn lexical_reasons() -> [Reason; 5]
 
 /// What the rules with the letter E say.
 fn reasons() -> [Reason; 32]
-    ensures { map row_of result ≡ reasons }
+    ensures { map reason_row result ≡ reasons }
 {
     [
         row(code::UNKNOWN_STATEMENT, b"statement is not known"),
@@ -124,7 +124,7 @@ fn reasons() -> [Reason; 32]
         row(code::MINABS_WITH_ESTIMATE, b"MINABS with ESTIMATE"),
         row(
             code::MAXIMUM_WITH_BLOCKS,
-            b"MINABS or RESOLUTION=MAX with BLOCKS",
+            b"MINABS with BLOCKS, or two maxima",
         ),
         row(
             code::MINIMUM_WITH_MAXIMUM,

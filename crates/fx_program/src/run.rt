@@ -1,10 +1,11 @@
-ghost use Rattle.std.specs.Prelude.{◌≡◌, ◌<◌, ◌≤◌, ◌⊎◌, [], ◌∷◌, ℕ, List, Option, Some, false, Ok, Err, map, ◌++◌, IfOk, IsErr, true};
-ghost use Rattle.fx_vectors.specs.Shape.{dimensions_of};
+ghost use Rattle.std.specs.Prelude.{◌≡◌, ◌<◌, ◌≤◌, ◌⊎◌, [], ◌∷◌, ℕ, List, Option, Some, false, Ok, Err, map, ◌++◌, IfOk, IsErr, IsTrue, true};
 ghost use Rattle.fx_statements.specs.Steps.{meaning_of};
-ghost use Rattle.fx_statements.specs.Outcomes.{ending_in};
+ghost use Rattle.fx_statements.specs.Questions.{conclusion_in};
 ghost use Rattle.fx_alias.specs.Sections.{step_lines};
 ghost use Rattle.fx_answer.specs.Outcomes.{IsOutcome};
-ghost use Rattle.fx_program.specs.CommandLine.{HasThreads, bytes_of, settings_of};
+ghost use Rattle.fx_program.specs.CommandLine.{HasOrder, HasThreads, bytes_of, settings_of};
+ghost use Rattle.fx_designs.specs.Galois.{is_order};
+ghost use Rattle.fx_program.specs.Judging.{judged_output};
 ghost use Rattle.fx_program.specs.Making.{made_text};
 ghost use Rattle.fx_program.specs.Texts.{program_in};
 ghost use Rattle.fx_program.specs.Claims.{AllClaimsHold, IsProvedBook, SomeHasNone};
@@ -28,6 +29,7 @@ ghost use Rattle.fx_program.specs.Outside.{
 
 use crate::checking::{BOOK_LIMIT, Judgement, judge, judge_too_long};
 use crate::files::shelve_files;
+use crate::judging::{PLAN_LIMIT, TOO_LONG, put_plan_fault, read_and_drop};
 use crate::making::make_text;
 use crate::output_lines::{put_book_lines, put_output_lines};
 use crate::refusal::put_fault;
@@ -41,6 +43,8 @@ use fx_alias::{examine_listing, head_listing, rules_listing};
 use fx_answer::answer;
 use fx_base::{Bytes, NoMemory, Shelf, Sink, Source, Taken, read_all, write_all};
 use fx_board::FreeGate;
+use fx_galois::Field;
+use fx_judge::{Plan, PlanFault, PlanStop, judge_listing};
 use fx_language::code;
 use fx_statements::{Outcome, Step};
 use fx_vectors::Matrix;
@@ -57,10 +61,10 @@ const TEXT_LIMIT: usize = 1048576;
 ///
 /// The exit status:
 ///
-/// - 0: each step has a design, or there is no step; or the book is accepted;
+/// - 0: each step has a design, or there is no step; or the book is accepted, or the plan judged;
 /// - 1: some step has none, and no budget ended; or the book is rejected;
 /// - 2: the budget of some step ended;
-/// - 3: the words or the text are refused;
+/// - 3: the words, the text or the plan are refused;
 /// - 4: a call on the source, the listing or the shelf failed;
 /// - 5: memory ran out.
 pub fn factex<R: Threads + Sync, S: Source, K: Sink, F: Shelf>(
@@ -131,6 +135,7 @@ fn carry_out<R: Threads + Sync, S: Source, K: Sink, F: Shelf>(
     shelf: &mut F,
 ) -> Result<u8, Stop>
     requires threads { IfOk asked HasThreads }
+    requires order { IfOk asked HasOrder }
     requires shelf { F.begun shelf.old ≡ false }
     ensures done { IsCarriedOut (command_for asked)
         (outside (source_view S.Source source.old) (sink_view K.Sink listing.old) (shelf_view F.Shelf shelf.old))
@@ -151,6 +156,7 @@ fn carry_out<R: Threads + Sync, S: Source, K: Sink, F: Shelf>(
                 run(&session, source, listing, shelf)
             }
             Settings::Check => check(alloc, source, listing),
+            Settings::Judge { q } => judge_text(alloc, q, source, listing),
             Settings::Make { n } => make(alloc, n, listing),
             Settings::Large { n, threads } => {
                 let session = Session {
@@ -235,8 +241,8 @@ fn lines_of(alloc: Global, number: usize, step: &Step, outcome: &Outcome) -> Res
     requires { IsOutcome (meaning_of step.now) outcome.now }
     ensures { IfOk result (λ lines.
         lines
-        ≡ step_lines number (dimensions_of outcome.now.shape) (meaning_of step.now)
-        (book_lines number outcome.now.books) (ending_in outcome.now)) }
+        ≡ step_lines number (meaning_of step.now) (book_lines number outcome.now.books)
+        (conclusion_in outcome.now)) }
 {
     let mut lines = Bytes::new(alloc);
     head_listing(alloc, number, step, outcome, &mut lines)?;
@@ -277,6 +283,52 @@ fn list_judgement<K: Sink>(listing: &mut K, judgement: Judgement) -> Result<u8, 
         (sink_view K.Sink listing.old) (sink_view K.Sink listing.new) result }
 {
     list(listing, judgement.lines.as_slice(), judgement.status)
+}
+
+/// The command `judge`, at these levels: reads a plan that was made elsewhere, and lists what its runs
+/// show.
+fn judge_text<S: Source, K: Sink>(
+    alloc: Global,
+    q: u8,
+    source: &mut S,
+    listing: &mut K,
+) -> Result<u8, Stop>
+    requires { IsTrue (is_order q) }
+    ensures { (shelf : ShelfView) → shelf.begun ≡ false → IsCarriedOut (command_of (Settings.Judge q))
+        (outside (source_view S.Source source.old) (sink_view K.Sink listing.old) shelf)
+        (outside (source_view S.Source source.new) (sink_view K.Sink listing.new) shelf) result }
+{
+    let field = Field::of(q).unwrap();
+    let text = match read_all(alloc, source, PLAN_LIMIT)? {
+        Taken::Whole(text) => text,
+        Taken::TooLong => return refuse_plan(alloc, TOO_LONG, listing),
+    };
+    match read_and_drop(alloc, text, field) {
+        Ok(plan) => list_plan(alloc, &plan, listing),
+        Err(PlanStop::Refused(fault)) => refuse_plan(alloc, fault, listing),
+        Err(PlanStop::NoMemory) => Err(Stop::NoMemory),
+    }
+}
+
+/// Lists what the runs of a plan show.
+fn list_plan<K: Sink>(alloc: Global, plan: &Plan, listing: &mut K) -> Result<u8, Stop>
+    ensures { Lists (judged_output (Ok plan.now))
+        (sink_view K.Sink listing.old) (sink_view K.Sink listing.new) result }
+{
+    let mut lines = Bytes::new(alloc);
+    judge_listing(alloc, plan, &mut lines)?;
+    list(listing, lines.as_slice(), 0)
+}
+
+/// Lists where a text is refused as a plan, and why.
+fn refuse_plan<K: Sink>(alloc: Global, fault: PlanFault, listing: &mut K) -> Result<u8, Stop>
+    ensures refused { IfOk result (λ status. status ≡ 3) }
+    ensures output { Lists (judged_output (Err fault))
+        (sink_view K.Sink listing.old) (sink_view K.Sink listing.new) result }
+{
+    let mut line = Bytes::new(alloc);
+    put_plan_fault(&mut line, fault)?;
+    list(listing, line.as_slice(), REFUSED)
 }
 
 /// The command `make`, for a text of so many steps.

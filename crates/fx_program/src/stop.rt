@@ -45,9 +45,9 @@ impl From<NoMemory> for Stop {
 
 impl From<ReadStop> for Stop {
     ghost use Rattle.std.specs.Prelude.{◌≡◌};
-    ghost use Rattle.fx_program.specs.Stops.{stop_of};
+    ghost use Rattle.fx_program.specs.Stops.{reading_stop};
 
-    ghost from_gives = { λ why e. e ≡ stop_of why };
+    ghost from_gives = { λ why e. e ≡ reading_stop why };
 
     fn from(why: ReadStop) -> Stop {
         match why {

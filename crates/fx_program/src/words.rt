@@ -1,27 +1,32 @@
-ghost use Rattle.std.specs.Prelude.{◌≡◌, ◌≤◌, ◌+◌, ◌++◌, codes, length, true, false, Option, Some, is_some, IfErr, IfOk, IfSome};
+ghost use Rattle.std.specs.Prelude.{◌≡◌, ◌≤◌, ◌+◌, ◌++◌, codes, length, true, false, Option, Some, is_some, IfErr, IfOk, IfSome, IsTrue};
 ghost use Rattle.std.specs.List.{list_all};
 ghost use Rattle.std.specs.Str.{bytes_eq};
+ghost use Rattle.fx_designs.specs.Galois.{is_order};
 ghost use Rattle.fx_lexer.specs.Bytes.{is_digit};
 ghost use Rattle.fx_program.specs.CommandLine.{
   AreThreads,
+  HasOrder,
   HasThreads,
   IsWordFault,
-  after,
+  after_prefix,
   bytes_of,
   check_with,
   command_with,
-  count_of,
-  is_number,
+  is_decimal,
+  judge_with,
   large_with,
   make_with,
   once,
+  option_count,
   options_in,
+  order_at,
+  order_of,
   run_with,
   seed_in,
   seed_of,
   settings_of,
   steps_at,
-  steps_of,
+  step_count,
   threads_of,
   with_option,
   word_line,
@@ -29,6 +34,7 @@ ghost use Rattle.fx_program.specs.CommandLine.{
 
 use crate::word_code;
 use arrayvec::ArrayVec;
+use fx_galois::Field;
 use fx_text::number;
 use itoa::Buffer;
 
@@ -63,6 +69,11 @@ pub enum Settings {
         /// How many threads search, 1 to 64.
         threads: u8,
     },
+    /// Judges the plan that is read.
+    Judge {
+        /// How many levels its factors have.
+        q: u8,
+    },
 }
 
 /// Why the words are refused.
@@ -78,6 +89,7 @@ pub struct WordFault {
 pub fn read_words(words: &[Vec<u8>]) -> Result<Settings, WordFault>
     ensures settings { result ≡ settings_of (bytes_of words.now) }
     ensures threads { IfOk result HasThreads }
+    ensures order { IfOk result HasOrder }
     ensures fault { IfErr result (IsWordFault (bytes_of words.now)) }
 {
     match words.split_first() {
@@ -100,6 +112,7 @@ struct Options {
 fn command_with(command: &[u8], options: &[Vec<u8>]) -> Result<Settings, WordFault>
     ensures settings { result ≡ command_with command.now (bytes_of options.now) }
     ensures threads { IfOk result HasThreads }
+    ensures order { IfOk result HasOrder }
 {
     if command == b"run".as_slice() {
         return run_with(options);
@@ -113,6 +126,9 @@ fn command_with(command: &[u8], options: &[Vec<u8>]) -> Result<Settings, WordFau
     if command == b"large".as_slice() {
         return large_with(options);
     }
+    if command == b"judge".as_slice() {
+        return judge_with(options);
+    }
     Err(WordFault {
         code: word_code::UNKNOWN_COMMAND,
         word: 1,
@@ -122,6 +138,7 @@ fn command_with(command: &[u8], options: &[Vec<u8>]) -> Result<Settings, WordFau
 /// The settings of `run`, with one thread and the seed 0 where they are not given.
 fn run_with(options: &[Vec<u8>]) -> Result<Settings, WordFault>
     ensures threads { IfOk result HasThreads }
+    ensures order { IfOk result HasOrder }
     ensures settings { result ≡ run_with (options_in 2 true (bytes_of options.now)) }
 {
     let given = options_in(2, true, options)?;
@@ -134,6 +151,7 @@ fn run_with(options: &[Vec<u8>]) -> Result<Settings, WordFault>
 /// The settings of `check`, after which there is no word.
 fn check_with(options: &[Vec<u8>]) -> Result<Settings, WordFault>
     ensures threads { IfOk result HasThreads }
+    ensures order { IfOk result HasOrder }
     ensures settings { result ≡ check_with (bytes_of options.now) }
 {
     if options.is_empty() {
@@ -149,6 +167,7 @@ fn check_with(options: &[Vec<u8>]) -> Result<Settings, WordFault>
 /// The settings of `make`: the number of steps is the one word after the command.
 fn make_with(words: &[Vec<u8>]) -> Result<Settings, WordFault>
     ensures threads { IfOk result HasThreads }
+    ensures order { IfOk result HasOrder }
     ensures settings { result ≡ make_with (bytes_of words.now) }
 {
     let Some((word, others)) = words.split_first() else {
@@ -171,6 +190,7 @@ fn make_with(words: &[Vec<u8>]) -> Result<Settings, WordFault>
 /// The settings of `large`: the number of steps, and then at most the number of threads.
 fn large_with(words: &[Vec<u8>]) -> Result<Settings, WordFault>
     ensures threads { IfOk result HasThreads }
+    ensures order { IfOk result HasOrder }
     ensures settings { result ≡ large_with (bytes_of words.now) }
 {
     let Some((word, others)) = words.split_first() else {
@@ -185,6 +205,29 @@ fn large_with(words: &[Vec<u8>]) -> Result<Settings, WordFault>
         n,
         threads: given.threads.unwrap_or(1),
     })
+}
+
+/// The settings of `judge`: the number of levels is the one word after the command.
+fn judge_with(words: &[Vec<u8>]) -> Result<Settings, WordFault>
+    ensures threads { IfOk result HasThreads }
+    ensures order { IfOk result HasOrder }
+    ensures settings { result ≡ judge_with (bytes_of words.now) }
+{
+    let Some((word, others)) = words.split_first() else {
+        return Err(WordFault {
+            code: word_code::MISSING_NUMBER,
+            word: 2,
+        });
+    };
+    let q = order_at(2, word.as_slice())?;
+    if others.is_empty() {
+        Ok(Settings::Judge { q })
+    } else {
+        Err(WordFault {
+            code: word_code::UNKNOWN_OPTION,
+            word: 3,
+        })
+    }
 }
 
 /// The options of words from this place on.
@@ -215,9 +258,9 @@ fn with_option(
     requires { IfSome given.threads AreThreads }
     ensures threads { IfOk result (λ more. IfSome more.threads AreThreads) }
     ensures options { result
-        ≡ with_option place given (after (codes "--threads=") word.now) (seed_in has_seed word.now) }
-    ensures count { IfOk result (λ more. count_of more ≡ count_of given + 1) }
-    ensures few { count_of given ≤ 2 }
+        ≡ with_option place given (after_prefix (codes "--threads=") word.now) (seed_in has_seed word.now) }
+    ensures count { IfOk result (λ more. option_count more ≡ option_count given + 1) }
+    ensures few { option_count given ≤ 2 }
 {
     if let Some(digits) = word.strip_prefix(THREADS) {
         let threads = once(place, given.threads.is_some(), threads_of(digits))?;
@@ -256,13 +299,41 @@ fn steps_at(place: u32, word: &[u8]) -> Result<u8, WordFault>
 
 /// The number of steps that these digits write, 1 to 100.
 fn steps_of(digits: &[u8]) -> Option<u8>
-    ensures { result ≡ steps_of digits.now }
+    ensures { result ≡ step_count digits.now }
 {
     if !is_number(digits) {
         return None;
     }
     match u8::try_from(number(digits)) {
         Ok(n) if 1 <= n && n <= 100 => Some(n),
+        _ => None,
+    }
+}
+
+/// The number of levels of the word at this place.
+fn order_at(place: u32, word: &[u8]) -> Result<u8, WordFault>
+    ensures order { result ≡ order_at place word.now }
+    ensures known { IfOk result (λ q. IsTrue (is_order q)) }
+{
+    match order_of(word) {
+        Some(q) => Ok(q),
+        None => Err(WordFault {
+            code: word_code::INVALID_NUMBER,
+            word: place,
+        }),
+    }
+}
+
+/// The number of levels that these digits write, one of the seven that there are.
+fn order_of(digits: &[u8]) -> Option<u8>
+    ensures order { result ≡ order_of digits.now }
+    ensures known { IfSome result (λ q. IsTrue (is_order q)) }
+{
+    if !is_number(digits) {
+        return None;
+    }
+    match u8::try_from(number(digits)) {
+        Ok(q) if Field::of(q).is_some() => Some(q),
         _ => None,
     }
 }
@@ -313,7 +384,7 @@ fn seed_of(digits: &[u8]) -> Option<u64>
 
 /// Whether these are 1 to 20 decimal digits.
 fn is_number(digits: &[u8]) -> bool
-    ensures { result ≡ is_number digits.now }
+    ensures { result ≡ is_decimal digits.now }
 {
     are_digits(digits) && 1 <= digits.len() && digits.len() <= 20
 }

@@ -1,8 +1,8 @@
 -- How long the text of a book may be.
 use Rattle.std.proofs.Common.{ℕ, ◌≡◌, ◌<◌, ◌≤◌, ◌+◌, ◌*◌, ◌^◌, List, [], ◌∷◌, ◌++◌, length, Option, Some, None, ap}
-use Rattle.std.proofs.Common.{arith, length-append, lit<, Bool, inl, inr}
-use Rattle.std.proofs.lemmas.Bool.{cases_lt}
-use Rattle.std.specs.Prelude.{codes, decimal}
+use Rattle.std.proofs.Common.{arith, length-append, lit<, Bool, inl, inr, sym, subst, ◌∙◌}
+use Rattle.std.proofs.lemmas.Bool.{cases_Bool, leb-true, cases_lt, cond-true, cond-false, eq-eqb, ne_eqb}
+use Rattle.std.specs.Prelude.{◌==◌, codes, decimal, map}
 use Rattle.std.specs.List.{AllByRecursion}
 use Rattle.std.proofs.Math.Nat.{pow-le-pow_right, suc-mul}
 use Rattle.std.proofs.lemmas.Fmt.{length-decimal-le_wide}
@@ -10,6 +10,9 @@ use Rattle.std.proofs.lemmas.List.{length-map}
 use Rattle.std.proofs.lemmas.List.Elements.{recursion_from_All}
 use Rattle.fx_base.proofs.Lists.{each-weaker}
 use Rattle.fx_designs.specs.Problems.{Dimensions}
+use Rattle.fx_designs.specs.Vectors.{weight}
+use Rattle.fx_laws.proofs.Codes.{digits-vector}
+use Rattle.fx_laws.proofs.Weights.{weight-none, weight-some}
 use Rattle.fx_designs.specs.Nodes.{Mark, Branch, Word, Worse}
 use Rattle.fx_vectors.specs.Effects.{AreEffects, numbers_of}
 use Rattle.fx_vectors.specs.Question.{CanBeAsked, requirement_of}
@@ -19,7 +22,10 @@ use Rattle.fx_vectors.specs.declared.shape.Shape.{Shape}
 use Rattle.fx_vectors.specs.declared.question.Demands.{Demands}
 use Rattle.fx_vectors.specs.declared.question.Demands.TheVariants.{Resolution, Effects}
 use Rattle.fx_vectors.specs.declared.book.Book.{Book}
-use Rattle.fx_vectors.proofs.Limits.{indexes_fit, numbers_fit, order-bounds}
+use Rattle.fx_vectors.proofs.Limits.{indexes_fit, order-bounds, rows_fit, words_fit}
+use Rattle.fx_vectors.specs.declared.shape.TheConstants.{MOST_FACTORS}
+use Rattle.fx_book.specs.declared.version.Version.TheVariants.{Second}
+use Rattle.fx_book.specs.Words.{after_blanks, entries_from, entry_part, is_short, vector_of, word_parts}
 use Rattle.fx_book.specs.Entries.{entry_text, entries_text}
 use Rattle.fx_book.specs.Valid.{AreFew, IsBeat, IsEntry, IsValidBook}
 use Rattle.fx_book.specs.Writing.{beat_text, book_text, demands_text, shape_text, spaced}
@@ -40,37 +46,108 @@ spaced_short k (n ∷ numbers) some low =
     let more = suc-mul (length numbers) (k + 1) in
     omega (arith, own, rest, joined, blank, more)
 
--- a line of at most 47 bytes for each entry
-entry_short : (d : Dimensions) (beaten : Bool) (mark : Mark) → d.q ^ d.m ≤ 1024 → d.q ^ (d.s + d.t) < 2 ^ 127
-    → IsEntry d beaten mark → length (entry_text mark) ≤ 47
-entry_short d beaten (Branch row) few small h =
-    let own = short 4 row (omega arith) (omega (arith, h, few)) (omega (arith, h, few)) in
-    omega (arith, own, length-append (codes "O ") (decimal row ++ codes "\n"), length-append (decimal row) (codes "\n"))
-entry_short d beaten (Word row word) few small h =
-    let top : 2 ^ 127 < 10 ^ 39 = lit< tt in
-    let own = short 4 row (omega arith) (omega (arith, h.0, few)) (omega (arith, h.0, few)) in
-    let other = short 39 word (omega arith) (omega (arith, h.2, small, top)) (omega (arith, h.2, small)) in
-    omega (
-      arith,
-      own,
-      other,
-      length-append (codes "W ") (decimal row ++ (codes " " ++ (decimal word ++ codes "\n"))),
-      length-append (decimal row) (codes " " ++ (decimal word ++ codes "\n")),
-      length-append (codes " ") (decimal word ++ codes "\n"),
-      length-append (decimal word) (codes "\n"),
-    )
-entry_short d beaten (Worse row) few small h =
-    let own = short 4 row (omega arith) (omega (arith, h.0, few)) (omega (arith, h.0, few)) in
-    omega (arith, own, length-append (codes "P ") (decimal row ++ codes "\n"), length-append (decimal row) (codes "\n"))
+-- the places and the codes of a word, with a blank before each
+places_short : (q place : ℕ) (v : List ℕ) → q ≤ 9 → place + length v ≤ 100 → AllByRecursion (λ c. c < q) v
+    → length (after_blanks (map entry_part (entries_from place v))) ≤ 5 * weight v
+places_short q place [] small long low = omega arith
+places_short q place (code ∷ v) small long low =
+    let rest = places_short q (place + 1) v small (omega (arith, long)) low.1 in
+    let later : List (ℕ × ℕ) = entries_from (place + 1) v in
+    let tail : List ℕ = after_blanks (map entry_part later) in
+    elim (cases_lt 0 code) [
+      | inr none ↦
+          let zero : code ≡ 0 = omega (arith, none) in
+          let same : weight (code ∷ v) ≡ weight v = ap (λ c. weight (c ∷ v)) zero ∙ weight-none v in
+          let places : entries_from place (code ∷ v) ≡ later =
+          cond-true (code == 0) later ((place, code) ∷ later) (eq-eqb code 0 zero) in
+          subst (λ n. length (after_blanks (map entry_part (entries_from place (code ∷ v)))) ≤ 5 * n) (sym same)
+          (subst (λ l. length (after_blanks (map entry_part l)) ≤ 5 * weight v) (sym places) rest)
+      | inl some ↦
+          let more : weight (code ∷ v) ≡ 1 + weight v = weight-some code v some in
+          let places : entries_from place (code ∷ v) ≡ (place, code) ∷ later =
+          cond-false (code == 0) later ((place, code) ∷ later) (ne_eqb code 0 (λ e. absurd (omega (arith, e, some)))) in
+          let first = short 2 place (omega arith) (omega (arith, long)) (omega (arith, long)) in
+          let second = short 1 code (omega arith) (omega (arith, small, low.0)) (omega (arith, small, low.0)) in
+          let own : length (after_blanks (map entry_part ((place, code) ∷ later))) ≤ 5 * (1 + weight v) =
+          omega (
+            arith,
+            rest,
+            first,
+            second,
+            length-append (codes " ") (entry_part (place, code) ++ tail),
+            length-append (entry_part (place, code)) tail,
+            length-append (decimal place) (codes ":" ++ decimal code),
+            length-append (codes ":") (decimal code),
+          ) in
+          subst (λ n. length (after_blanks (map entry_part (entries_from place (code ∷ v)))) ≤ 5 * n) (sym more)
+          (subst (λ l. length (after_blanks (map entry_part l)) ≤ 5 * (1 + weight v)) (sym places) own)
+    ]
 
-entries_short : (d : Dimensions) (beaten : Bool) (marks : List Mark) → d.q ^ d.m ≤ 1024 → d.q ^ (d.s + d.t) < 2 ^ 127
-    → AllByRecursion (IsEntry d beaten) marks
-    → length (entries_text marks) ≤ 47 * length marks
-entries_short d beaten [] few small h = omega arith
-entries_short d beaten (mark ∷ marks) few small h =
-    let own = entry_short d beaten mark few small h.0 in
-    let rest = entries_short d beaten marks few small h.1 in
-    omega (arith, own, rest, length-append (entry_text mark) (entries_text marks))
+-- a word with the blanks before its parts
+word_short : (d : Dimensions) (word : ℕ) → 0 < d.q → d.q ≤ 9 → d.s + d.t ≤ 99 → word < 2 ^ 127
+    → length (after_blanks (word_parts Second d word)) ≤ 41
+word_short d word some small few low =
+    let v : List ℕ = vector_of d word in
+    let is = digits-vector d.q (d.s + d.t) word some in
+    elim (cases_Bool (is_short d word)) [
+      | inl light ↦
+          let places = places_short d.q 1 v small (omega (arith, is.len, few)) is.codes in
+          let few_places : weight v ≤ 8 = leb-true (weight v) 8 light in
+          rw light (omega (arith, places, few_places))
+      | inr heavy ↦
+          let top : 2 ^ 127 < 10 ^ 39 = lit< tt in
+          let own = short 39 word (omega arith) (omega (arith, low, top)) (omega (arith, low)) in
+          rw heavy (omega (
+            arith,
+            own,
+            length-append (codes " ") ((codes "#" ++ decimal word) ++ []),
+            length-append (codes "#" ++ decimal word) [],
+            length-append (codes "#") (decimal word),
+          ))
+    ]
+
+-- a line of at most 48 bytes for each entry
+module _ (d : Dimensions) (some : 0 < d.q) (small : d.q ≤ 9) (rows : d.s + d.t ≤ 99) (few : d.q ^ d.m ≤ 1024)
+    (words : d.q ^ (d.s + d.t) < 2 ^ 127) (beaten : Bool) where
+  entry_short : (mark : Mark) → IsEntry d beaten mark → length (entry_text Second d mark) ≤ 48
+  entry_short (Branch row) h =
+      let own = short 4 row (omega arith) (omega (arith, h, few)) (omega (arith, h, few)) in
+      omega (
+        arith,
+        own,
+        length-append (codes "O ") (decimal row ++ codes "\n"),
+        length-append (decimal row)
+            (codes "\n"),
+      )
+  entry_short (Word row word) h =
+      let own = short 4 row (omega arith) (omega (arith, h.0, few)) (omega (arith, h.0, few)) in
+      let parts : List ℕ = after_blanks (word_parts Second d word) in
+      let other = word_short d word some small rows (omega (arith, h.2, words)) in
+      omega (
+        arith,
+        own,
+        other,
+        length-append (codes "W ") (decimal row ++ (parts ++ codes "\n")),
+        length-append (decimal row) (parts ++ codes "\n"),
+        length-append parts (codes "\n"),
+      )
+  entry_short (Worse row) h =
+      let own = short 4 row (omega arith) (omega (arith, h.0, few)) (omega (arith, h.0, few)) in
+      omega (
+        arith,
+        own,
+        length-append (codes "P ") (decimal row ++ codes "\n"),
+        length-append (decimal row)
+            (codes "\n"),
+      )
+
+  entries_short : (marks : List Mark) → AllByRecursion (IsEntry d beaten) marks
+      → length (entries_text Second d marks) ≤ 48 * length marks
+  entries_short [] h = omega arith
+  entries_short (mark ∷ marks) h =
+      let own = entry_short mark h.0 in
+      let rest = entries_short marks h.1 in
+      omega (arith, own, rest, length-append (entry_text Second d mark) (entries_text Second d marks))
 
 shape_short : (shape : Shape) → IsShape shape → length (shape_text shape) ≤ 100
 shape_short shape h =
@@ -98,22 +175,21 @@ shape_short shape h =
           (spaced numbers) (codes "\n"),
     )
 
--- effects of at most 40 factors
-effects_short : (s : ℕ) (effects : List Effect) → s ≤ 40 → AreEffects s (numbers_of effects) → length effects ≤ 100000
-    → length (spaced (numbers_of effects)) ≤ 1400000
+effects_short : (s : ℕ) (effects : List Effect) → s ≤ MOST_FACTORS → AreEffects s (numbers_of effects)
+    → length effects ≤ 100000 → length (spaced (numbers_of effects)) ≤ 2000000
 effects_short s effects few h count =
-    let top : 2 ^ s ≤ 2 ^ 40 = pow-le-pow_right (omega arith) few in
-    let low : 2 ^ 40 < 10 ^ 13 = lit< tt in
-    let all = spaced_short 13 (numbers_of effects) (omega arith)
-    (each-weaker (λ n. (0 < n) × (n < 2 ^ s)) (λ n. (n < 10 ^ 13) × (n < 2 ^ 128)) (numbers_of effects)
+    let top : 2 ^ s ≤ 2 ^ MOST_FACTORS = pow-le-pow_right (omega arith) few in
+    let low : 2 ^ MOST_FACTORS < 10 ^ 19 = lit< tt in
+    let all = spaced_short 19 (numbers_of effects) (omega arith)
+    (each-weaker (λ n. (0 < n) × (n < 2 ^ s)) (λ n. (n < 10 ^ 19) × (n < 2 ^ 128)) (numbers_of effects)
     (λ n own. (omega (arith, own.1, top, low), omega (arith, own.1, top)))
     (recursion_from_All (λ n. (0 < n) × (n < 2 ^ s)) (numbers_of effects) h.each)) in
     let long = length-map effects (λ (e : Effect). e.0) in
     omega (arith, all, long, count)
 
-demands_short : (shape : Shape) (demands : Demands) → shape.s ≤ 40
+demands_short : (shape : Shape) (demands : Demands) → shape.s ≤ MOST_FACTORS
     → CanBeAsked (dimensions_of shape) (requirement_of demands) → AreFew demands
-    → length (demands_text demands) ≤ 2900000
+    → length (demands_text demands) ≤ 4100000
 demands_short shape (Resolution r) small h few =
     let own = short 4 r (omega arith) (omega (arith, h.1)) (omega (arith, h.1)) in
     omega (
@@ -140,8 +216,8 @@ demands_short shape (Effects estimate others) small h few =
       length-append o (codes "\n"),
     )
 
-beat_short : (s : ℕ) (least : Bool) (beat : Option (List ℕ)) → s ≤ 40 → IsBeat s least beat
-    → length (beat_text beat) ≤ 2000
+beat_short : (s : ℕ) (least : Bool) (beat : Option (List ℕ)) → s ≤ MOST_FACTORS → IsBeat s least beat
+    → length (beat_text beat) ≤ 3000
 beat_short s least None small h = omega arith
 beat_short s least (Some pattern) small h =
     let top : 2 ^ 127 < 10 ^ 39 = lit< tt in
@@ -163,23 +239,20 @@ pub book_short : (book : Book) → IsValidBook book → length book.marks ≤ 50
 book_short book valid few =
     let shape : Shape = book.head.question.shape in
     let own : IsShape shape = valid.question.shaped in
-    let rows : ℕ = shape.s + shape.t in
-    let all : rows ≤ 40 =
-    (elim (cases_lt 0 shape.t) [
-      | inl some ↦ (let less = own.factors_in_blocks some in omega (arith, less, own.block_factors))
-      | inr none ↦
-          omega (arith, none, own.factors)
-    ]) in
-    let words = numbers_fit shape.q rows (order-bounds shape.q own.order).1 all in
+    let bounds = order-bounds shape.q own.order in
+    let rows = rows_fit shape own in
+    let words = words_fit shape own (shape.s + shape.t) (omega arith) in
     let first = shape_short shape own in
     let second = demands_short shape book.head.question.demands own.factors valid.question.asked valid.few_effects in
     let third = beat_short shape.s book.head.question.least book.head.beat own.factors valid.beat in
     let rest =
-    entries_short (dimensions_of shape) _ book.marks own.runs words (recursion_from_All _ book.marks valid.marks) in
+    entries_short (dimensions_of shape) (omega (arith, bounds.0)) bounds.1 (omega (arith, rows)) own.runs words _
+    book.marks
+    (recursion_from_All _ book.marks valid.marks) in
     let s : List ℕ = shape_text shape in
     let d : List ℕ = demands_text book.head.question.demands in
     let b : List ℕ = beat_text book.head.beat in
-    let e : List ℕ = entries_text book.marks in
+    let e : List ℕ = entries_text Second (dimensions_of shape) book.marks in
     omega (
       arith,
       few,
@@ -187,7 +260,8 @@ book_short book valid few =
       second,
       third,
       rest,
-      length-append (codes "factex-book 1\n") (s ++ (d ++ (b ++ (e ++ codes "END\n")))),
+      length-append (codes "factex-book 2") (codes "\n" ++ (s ++ (d ++ (b ++ (e ++ codes "END\n"))))),
+      length-append (codes "\n") (s ++ (d ++ (b ++ (e ++ codes "END\n")))),
       length-append s (d ++ (b ++ (e ++ codes "END\n"))),
       length-append d (b ++ (e ++ codes "END\n")),
       length-append b (e ++ codes "END\n"),

@@ -18,19 +18,21 @@ use Rattle.fx_vectors.specs.Question.{requirement_of}
 use Rattle.fx_vectors.specs.declared.book.NamedBook.{NamedBook}
 use Rattle.fx_statements.specs.Steps.{Meaning}
 use Rattle.fx_statements.specs.Questions.{Turn, asked, conclusion_by, conclusion_of, cut_short, last_of, left_at}
-use Rattle.fx_statements.specs.Questions.{outcome_of, passes, questions_of, turns, Found}
+use Rattle.fx_statements.specs.Questions.{outcome_of, passes, questions_of, reached_at, turns, Found}
 use Rattle.fx_statements.proofs.Concluded.{none-of}
 use Rattle.fx_book.specs.QuestionBooks.{beat_of, book_for, demands_for, has_book}
 use Rattle.fx_book.specs.Writing.{book_text}
 use Rattle.fx_answer.specs.Books.{book_at, books_from, books_of, finished, finished_before}
 use Rattle.fx_answer.specs.StepClaims.{required}
 use Rattle.fx_answer.specs.ValidSteps.{IsValidStep}
-use Rattle.fx_answer.proofs.Best.{IsAsked, highest_asked, least_asked, more_blocks_asked, smaller_asked}
+use Rattle.fx_answer.proofs.Best.{IsAsked, highest_asked, least_asked, more_blocks_asked, next_in_blocks_asked}
+use Rattle.fx_answer.proofs.Best.{smaller_asked}
 use Rattle.fx_program.specs.Files.{book_file, book_files, book_name}
 use Rattle.fx_program.specs.Output.{step_output}
 use Rattle.fx_program.specs.Statuses.{status_of}
 use Rattle.fx_program.proofs.None.{none_at_one}
 use Rattle.fx_program_laws.specs.BookClaims.{HasABookForEach, HasABookForEachAsked, HasBook, HighestHasBook}
+use Rattle.fx_program_laws.specs.BookClaims.{HighestInBlocksHasBook}
 use Rattle.fx_program_laws.specs.BookClaims.{LeastPatternHasBook, LeastSizeHasBooks, MostBlocksHasBook}
 use Rattle.fx_program_laws.proofs.ValidBooks.{requirement_back}
 
@@ -79,15 +81,18 @@ module _ (seed number : ℕ) (step : Meaning) where
       Contains-append_left _ _ _ (Contains-append_left (book_files number (books_of step)) _ _ own)
 
   -- where the budget does not end, each question that is asked is finished
-  cut : (p : Problem) (left : Option Found) (budget : ℕ) → status_of (cut_short p left budget).ending ≡ 2
-  cut p None budget = refl
-  cut p (Some found) budget = refl
+  cut : (p : Problem) (left : Option Found) (reached budget : ℕ)
+      → status_of (cut_short p left reached budget).ending ≡ 2
+  cut p None reached budget = refl
+  cut p (Some found) reached budget = refl
 
   by_end : (last : Problem) (end : Option Turn)
       → (status_of (conclusion_by last ps step.settings.budget end).ending ≡ 2 → ⊥) → finished_before ps end ≡ ps
   by_end last None below = refl
   by_end last (Some turn) below =
-      absurd (below (cut turn.question (left_at step.settings.budget turn) step.settings.budget))
+      absurd (below
+      (cut turn.question (left_at step.settings.budget turn) (reached_at step.settings.budget turn)
+      step.settings.budget))
 
   all_finished : (status_of (outcome_of step).ending ≡ 2 → ⊥)
       → finished (questions_of step) step.settings.budget ≡ ps
@@ -161,8 +166,14 @@ module _ (seed number : ℕ) (step : Meaning) where
     d = (outcome_of step).dimensions
 
     pub highest_book : HighestHasBook seed number step
-    highest_book rows count goal plain e = elim (highest_asked step valid rows count goal plain e) [
+    highest_book rows count goal plain without e = elim (highest_asked step valid rows count goal plain without e) [
       | inl full ↦ inl full
+      | inr next ↦ inr (unanswered_book d _ next (design_below rows count e))
+    ]
+
+    pub highest_book_in_blocks : HighestInBlocksHasBook seed number step
+    highest_book_in_blocks rows count goal some e = elim (next_in_blocks_asked step valid rows count goal some e) [
+      | inl top ↦ inl top
       | inr next ↦ inr (unanswered_book d _ next (design_below rows count e))
     ]
 

@@ -98,7 +98,7 @@ by_the_grammar = (refl, refl, refl, refl, refl, refl, refl)
 by_the_factors :
     (given (codes "proc factex; factors X1-X3 X2;") ≡ message (codes "factex: E5 1:28 name is repeated\n") 3)
     × (given (codes "proc factex; run;") ≡ message (codes "factex: E7 1:1 step has no FACTORS statement\n") 3)
-    × (given (codes "proc factex; factors A X1-X40;") ≡ message (codes "factex: E10 1:24 too many factors\n") 3)
+    × (given (codes "proc factex; factors A X1-X63;") ≡ message (codes "factex: E10 1:24 too many factors\n") 3)
     × (given (codes "proc factex; factors X5-X2;")
     ≡ message (codes "factex: E30 1:22 range of names is not regular\n") 3)
 unfolding given
@@ -117,8 +117,8 @@ by_the_settings :
     ≡ message (codes "factex: E11 1:46 resolution is not from 3 to 99\n") 3)
     × (given (codes "proc factex; factors A B C; model e=(A) / minabs;")
     ≡ message (codes "factex: E12 1:43 MINABS with ESTIMATE\n") 3)
-    × (given (codes "proc factex; factors A B C; blocks nblkfacs=1;")
-    ≡ message (codes "factex: E13 1:29 MINABS or RESOLUTION=MAX with BLOCKS\n") 3)
+    × (given (codes "proc factex; factors A B C; blocks nblkfacs=max;")
+    ≡ message (codes "factex: E13 1:29 MINABS with BLOCKS, or two maxima\n") 3)
     × (given (codes "proc factex; factors A B C; size design=min;")
     ≡ message (codes "factex: E14 1:41 minimum size with a maximum or MINABS\n") 3)
     × (given (codes "proc factex nodes=0; factors A;") ≡ message (codes "factex: E29 1:19 number is out of range\n") 3)
@@ -193,7 +193,7 @@ all_sections = refl
 components :
     given (codes "proc factex;factors A B / nlev=3;size design=3;model estimate=(A*B);")
     ≡ booked (codes "step1-1.book")
-    (codes "factex-book 1\nsize 3 1 2 0\neffects 3 /\npattern none\nO 1\nW 1 5\nW 0 3\nW 0 1\nEND\n")
+    (codes "factex-book 2\nsize 3 1 2 0\neffects 3 /\npattern none\nO 1\nW 1 1:2 2:1\nW 0 2:1\nW 0 1:1\nEND\n")
     (codes "step 1\nfactors 2 levels 3\nno design in 3 runs\nnodes 4\nbook step1-1.book\n") 1
 unfolding given booked
 components = refl
@@ -216,7 +216,7 @@ half = refl
 least_aberration :
     (given (codes "proc factex;factors A B C;size design=4;model resolution=max/minabs;examine aberration;")
     ≡ booked (codes "step1-1.book")
-    (codes "factex-book 1\nsize 2 2 3 0\nresolution 3\npattern 0 0 1\nO 1\nO 2\nP 3\nEND\n")
+    (codes "factex-book 2\nsize 2 2 3 0\nresolution 3\npattern 0 0 1\nO 1\nO 2\nP 3\nEND\n")
     (codes "step 1\nfactors 3 levels 2\ndesign 4 runs\nresolution 3 least aberration\nnodes 3\nrules\n  C = A*B\nbook step1-1.book\naberration\n  A3 1\n") 0)
     × (given (codes "proc factex nodes=2;factors A B C;size design=4;model resolution=3/minabs;")
     ≡ message (codes "step 1\nfactors 3 levels 2\nbudget ended after 2 nodes\n") 2)
@@ -227,7 +227,7 @@ least_aberration = (refl, refl)
 highest_resolution :
     (given (codes "proc factex;factors A B C;size design=4;model r=max;")
     ≡ booked (codes "step1-2.book")
-    (codes "factex-book 1\nsize 2 2 3 0\nresolution 4\npattern none\nO 1\nO 2\nW 3 7\nEND\n")
+    (codes "factex-book 2\nsize 2 2 3 0\nresolution 4\npattern none\nO 1\nO 2\nW 3 1:1 2:1 3:1\nEND\n")
     (codes "step 1\nfactors 3 levels 2\ndesign 4 runs\nresolution 3 highest\nnodes 6\nrules\n  C = A*B\nbook step1-2.book\n") 0)
     × (given (codes "proc factex;factors A B;size design=4;")
     ≡ message (codes "step 1\nfactors 2 levels 2\ndesign 4 runs\nno defining words\nnodes 2\nrules\n  none\n") 0)
@@ -240,11 +240,11 @@ highest_resolution = (refl, refl, refl)
 -- the least size; a budget that ends there leaves no design, and the books of the sizes before
 least_size :
     (given (codes "proc factex;factors A B;size design=min;model r=3;")
-    ≡ booked (codes "step1-1.book") (codes "factex-book 1\nsize 2 1 2 0\nresolution 3\npattern none\nO 1\nEND\n")
+    ≡ booked (codes "step1-1.book") (codes "factex-book 2\nsize 2 1 2 0\nresolution 3\npattern none\nO 1\nEND\n")
     (codes "step 1\nfactors 2 levels 2\ndesign 4 runs\nno defining words\nnodes 3\nrules\n  none\nbook step1-1.book\n")
     0)
     × (given (codes "proc factex nodes=2;factors A B;size design=min;model r=3;")
-    ≡ booked (codes "step1-1.book") (codes "factex-book 1\nsize 2 1 2 0\nresolution 3\npattern none\nO 1\nEND\n")
+    ≡ booked (codes "step1-1.book") (codes "factex-book 2\nsize 2 1 2 0\nresolution 3\npattern none\nO 1\nEND\n")
     (codes "step 1\nfactors 2 levels 2\nbudget ended after 2 nodes\nbook step1-1.book\n") 2)
 unfolding given booked
 least_size = (refl, refl)
@@ -253,14 +253,28 @@ least_size = (refl, refl)
 in_blocks :
     (given (codes "proc factex;factors A B;size design=4;model r=3;blocks nblocks=max;")
     ≡ booked (codes "step1-2.book")
-    (codes "factex-book 1\nsize 2 2 2 2\nresolution 3\npattern none\nO 1\nO 2\nO 3\nW 3 12\nW 2 10\nW 1 9\nW 0 8\nW 2 6\nW 1 5\nW 0 4\nEND\n")
+    (codes "factex-book 2\nsize 2 2 2 2\nresolution 3\npattern none\nO 1\nO 2\nO 3\nW 3 3:1 4:1\nW 2 2:1 4:1\nW 1 1:1 4:1\nW 0 4:1\nW 2 2:1 3:1\nW 1 1:1 3:1\nW 0 3:1\nEND\n")
     (codes "step 1\nfactors 2 levels 2\ndesign 4 runs in 2 blocks\nno defining words\nnodes 13\nrules\n  [1] = A*B\nbook step1-2.book\n") 0)
     × (given (codes "proc factex;factors A B C;size design=4;model r=3;blocks nblocks=2;")
     ≡ booked (codes "step1-1.book")
-    (codes "factex-book 1\nsize 2 2 3 1\nresolution 3\npattern none\nO 1\nO 2\nO 3\nW 3 12\nW 2 10\nW 1 9\nW 0 8\nEND\n")
+    (codes "factex-book 2\nsize 2 2 3 1\nresolution 3\npattern none\nO 1\nO 2\nO 3\nW 3 3:1 4:1\nW 2 2:1 4:1\nW 1 1:1 4:1\nW 0 4:1\nEND\n")
     (codes "step 1\nfactors 3 levels 2\nno design in 4 runs with 2 blocks\nnodes 7\nbook step1-1.book\n") 1)
 unfolding given booked
 in_blocks = (refl, refl)
+
+-- the highest resolution in blocks: the last that is asked for; and where the budget ends after the first
+highest_in_blocks :
+    (given (codes "proc factex;factors A B;size design=4;blocks nblocks=2;")
+    ≡ message (codes
+    "step 1\nfactors 2 levels 2\ndesign 4 runs in 2 blocks\nno defining words\nblocks clear to resolution 3 highest\nnodes 3\nrules\n  [1] = A*B\n") 0)
+    × (given (codes "proc factex;factors A B C;size design=8;model r=max;blocks nblocks=2;")
+    ≡ message (codes
+    "step 1\nfactors 3 levels 2\ndesign 8 runs in 2 blocks\nno defining words\nblocks clear to resolution 4 highest\nnodes 8\nrules\n  [1] = A*B*C\n") 0)
+    × (given (codes "proc factex nodes=7;factors A B C;size design=8;model r=max;blocks nblocks=2;")
+    ≡ message (codes
+    "step 1\nfactors 3 levels 2\nbudget ended after 7 nodes\ndesign 8 runs in 2 blocks not proved best\nno defining words\nblocks clear to resolution 3\nrules\n  [1] = A*B*C\n") 2)
+unfolding given
+highest_in_blocks = (refl, refl, refl)
 
 -- three factors of four levels in 16 runs
 four_levels :
@@ -284,7 +298,8 @@ three_steps :
     ≡ record {
       events = Piece (codes "step 1\nfactors 1 levels 2\ndesign 2 runs\nno defining words\nnodes 1\nrules\n  none\n")
           ∷ Piece (codes "step 2\nfactors 2 levels 2\nbudget ended after 1 nodes\n")
-          ∷ WholeFile (codes "step3-1.book") (codes "factex-book 1\nsize 2 1 3 0\nresolution 3\npattern none\nO 1\nEND\n")
+          ∷ WholeFile (codes "step3-1.book")
+          (codes "factex-book 2\nsize 2 1 3 0\nresolution 3\npattern none\nO 1\nEND\n")
           ∷ Piece (codes "step 3\nfactors 3 levels 2\nno design in 2 runs\nnodes 1\nbook step3-1.book\n") ∷ [];
       status = 2;
     }
@@ -296,7 +311,7 @@ none_and_design :
     given (codes "proc factex;factors A B C;size design=2;model r=3;proc factex;factors A;model r=3;")
     ≡ record {
       events = WholeFile (codes "step1-1.book")
-          (codes "factex-book 1\nsize 2 1 3 0\nresolution 3\npattern none\nO 1\nEND\n")
+          (codes "factex-book 2\nsize 2 1 3 0\nresolution 3\npattern none\nO 1\nEND\n")
           ∷ Piece (codes "step 1\nfactors 3 levels 2\nno design in 2 runs\nnodes 1\nbook step1-1.book\n")
           ∷ Piece (codes "step 2\nfactors 1 levels 2\ndesign 2 runs\nno defining words\nnodes 1\nrules\n  none\n") ∷ [];
       status = 1;

@@ -8,12 +8,15 @@ use Rattle.std.proofs.lemmas.Bool.{and_parts, both_ways}
 use Rattle.std.proofs.lemmas.List.Elements.{recursion_from_All}
 use Rattle.fx_base.specs.Acts.{Event, Piece, WholeFile}
 use Rattle.fx_base.proofs.Lists.{each-weaker, each-append, each-append_parts}
+use Rattle.fx_base.specs.Members.{Has}
+use Rattle.fx_base.proofs.Members.{has-left, has-right, has-each}
 use Rattle.fx_designs.specs.Problems.{Problem}
 use Rattle.fx_text.specs.Names.{is_same_name}
 use Rattle.fx_text.proofs.Distinct.{joined_differ, none_differ, behind_differ}
 use Rattle.fx_vectors.proofs.Limits.{order-bounds}
 use Rattle.fx_vectors.specs.Matrix.{MatrixView}
 use Rattle.fx_vectors.specs.declared.book.NamedBook.{NamedBook}
+use Rattle.fx_vectors.specs.declared.shape.TheConstants.{MOST_FACTORS}
 use Rattle.fx_outputs.specs.declared.output.OutputSpec.{OutputSpec}
 use Rattle.fx_outputs.specs.Outputs.{names_of}
 use Rattle.fx_settings.specs.Settings.{is_level}
@@ -133,23 +136,9 @@ unfolding IsDistinct
 plans_apart [] h = tt
 plans_apart (x ∷ names) h = (plans_against x names h.0, plans_apart names h.1)
 
--- a name among others
-abbrev In : Name → List Name → Type 0
-In name [] = ⊥
-In name (x ∷ names) = (name ≡ x) ⊎ In name names
-
-in_left : (name : Name) (xs ys : List Name) → In name xs → In name (xs ++ ys)
-in_left name [] ys h = absurd h
-in_left name (x ∷ xs) ys (inl e) = inl e
-in_left name (x ∷ xs) ys (inr h) = inr (in_left name xs ys h)
-
-in_right : (name : Name) (xs ys : List Name) → In name ys → In name (xs ++ ys)
-in_right name [] ys h = h
-in_right name (x ∷ xs) ys h = inr (in_right name xs ys h)
-
 -- the name of the plan of one of these OUT names
 abbrev IsPlanOf : List Name → Name → Type 0
-IsPlanOf outs name = (out : Name) × In out outs × (name ≡ file_name out)
+IsPlanOf outs name = (out : Name) × Has out outs × (name ≡ file_name out)
 
 each-plan : (outs : List Name) → AllByRecursion (IsPlanOf outs) (map file_name outs)
 each-plan [] = tt
@@ -176,18 +165,13 @@ front_differ [] ys h = tt
 front_differ (x ∷ xs) ys h =
     ((each-append_parts (λ other. is_same_name x other ≡ false) xs ys h.0).0, front_differ xs ys h.1)
 
-at : (x name : Name) (names : List Name) → AllByRecursion (λ other. is_same_name x other ≡ false) names → In name names
-    → is_same_name x name ≡ false
-at x name [] all h = absurd h
-at x name (y ∷ names) all (inl e) = subst (λ (n : Name). is_same_name x n ≡ false) (sym e) all.0
-at x name (y ∷ names) all (inr h) = at x name names all.1 h
-
-across : (xs ys : List Name) (a b : Name) → IsDistinct is_same_name (xs ++ ys) → In a xs → In b ys
+across : (xs ys : List Name) (a b : Name) → IsDistinct is_same_name (xs ++ ys) → Has a xs → Has b ys
     → is_same_name a b ≡ false
 unfolding IsDistinct
 across [] ys a b h left right = absurd left
 across (x ∷ xs) ys a b h (inl e) right =
-    subst (λ (n : Name). is_same_name n b ≡ false) (sym e) (at x b (xs ++ ys) h.0 (in_right b xs ys right))
+    subst (λ (n : Name). is_same_name n b ≡ false) (sym e)
+    (has-each (λ other. is_same_name x other ≡ false) b (xs ++ ys) h.0 (has-right b xs ys right))
 across (x ∷ xs) ys a b h (inr left) right = across xs ys a b h.1 left right
 
 -- ---- the names of all steps
@@ -246,7 +230,7 @@ IsNameOf number outs name = ((k : ℕ) × (number ≤ k) × IsSmall k × IsBookO
 
 -- a step has few questions
 abbrev HasFew : Meaning → Type 0
-HasFew step = length (finished (questions_of step) step.settings.budget) ≤ 42
+HasFew step = length (finished (questions_of step) step.settings.budget) ≤ MOST_FACTORS + 2
 
 record AreTold (number : ℕ) (steps : List Meaning) : Type 0 where
   pub differ : IsDistinct is_same_name (all_names number steps)
@@ -285,7 +269,7 @@ module _ (number : ℕ) (step : Meaning) (small : IsSmall number) (few : HasFew 
       (λ name is. inl (number, omega arith, small, (is.0, omega arith, is.2, is.3)))
       (each-book number 1 (books_of step) rise))
       (each-weaker (IsPlanOf (names_of step.outputs)) (IsNameOf number (names_of step.outputs ++ outs))
-      (plan_names step matrix_of_step) (λ name is. inr (is.0, in_left is.0 (names_of step.outputs) outs is.1, is.2))
+      (plan_names step matrix_of_step) (λ name is. inr (is.0, has-left is.0 (names_of step.outputs) outs is.1, is.2))
       (plans_given step matrix_of_step))
 
   -- a name of it, and one of a later step
@@ -349,7 +333,7 @@ all_told number (step ∷ steps) small few names =
     wider : (number : ℕ) (own outs : List Name) (name : Name) → IsNameOf (number + 1) outs name
         → IsNameOf number (own ++ outs) name
     wider number own outs name (inl is) = inl (is.0, omega (arith, is.1), is.2, is.3)
-    wider number own outs name (inr is) = inr (is.0, in_right is.0 own outs is.1, is.2)
+    wider number own outs name (inr is) = inr (is.0, has-right is.0 own outs is.1, is.2)
 
 -- ---- of any text
 
@@ -357,11 +341,11 @@ two_levels : (q : ℕ) → is_level q ≡ true → 2 ≤ q
 two_levels q e = (order-bounds q (order_of q e)).0
 
 few_each : (steps : List Meaning) → AllByRecursion IsValidStep steps
-    → AllByRecursion (λ (step : Meaning). length step.factors ≤ 40) steps → AllByRecursion HasFew steps
+    → AllByRecursion (λ (step : Meaning). length step.factors ≤ MOST_FACTORS) steps → AllByRecursion HasFew steps
 few_each [] valid few = tt
 few_each (step ∷ steps) valid few = (questions_of_step step valid.0 few.0, few_each steps valid.1 few.1)
   where
-    questions_of_step : (step : Meaning) → IsValidStep step → length step.factors ≤ 40 → HasFew step
+    questions_of_step : (step : Meaning) → IsValidStep step → length step.factors ≤ MOST_FACTORS → HasFew step
     questions_of_step step valid few =
         let a = and_parts _ _ valid.settings in
         let b = and_parts _ _ a.0 in

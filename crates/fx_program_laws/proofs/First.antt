@@ -12,8 +12,8 @@ use Rattle.fx_laws.proofs.FirstDesign.{first-answer}
 use Rattle.fx_reduction.proofs.LeastPattern.{no_answer}
 use Rattle.fx_tree.specs.Laws.{IsFirstOfLeastPattern}
 use Rattle.fx_statements.specs.Steps.{Meaning}
-use Rattle.fx_statements.specs.Questions.{Found, asked, concluded, found_by, last_found, last_of, lowest, nodes_of}
-use Rattle.fx_statements.specs.Questions.{outcome_of, question_for, questions_of}
+use Rattle.fx_statements.specs.Questions.{Conclusion, Found, asked, concluded, found_by, last_found, last_of, lowest}
+use Rattle.fx_statements.specs.Questions.{nodes_of, outcome_of, question_for, questions_of, resolution_wanted}
 use Rattle.fx_statements.proofs.Concluded.{each_asked, within}
 use Rattle.fx_answer.specs.StepClaims.{HasNoDesign, IsLastWithDesign}
 use Rattle.fx_program_laws.proofs.Least.{first-least-answer}
@@ -25,6 +25,14 @@ module _ (step : Meaning) (some : 1 ≤ length step.factors) where
 
   abbrev ps : List Problem
   ps = asked (questions_of step)
+
+  -- the outcome with this answer
+  abbrev designed : Problem → List ℕ → Conclusion
+  designed p rows = record {
+    dimensions = p.dimensions;
+    ending = Design rows (nodes_of ps);
+    reached = resolution_wanted p.requirement;
+  }
 
   of_step : (n : ℕ) → IsOfStep (question_for step n)
   of_step n = (refl, omega (arith, some))
@@ -66,7 +74,7 @@ module _ (step : Meaning) (some : 1 ≤ length step.factors) where
       own = behind last.earlier (p ∷ last.later) (subst (AllByRecursion IsOfStep) last.among all_of_step)
 
       design_is : (rows : List ℕ) → answer p ≡ Some rows
-          → outcome_of step ≡ record { dimensions = p.dimensions; ending = Design rows (nodes_of ps) }
+          → outcome_of step ≡ designed p rows
       design_is rows is =
           within (questions_of step) step.settings.budget few
           ∙ ap (λ found. concluded (last_of (questions_of step).first ps) found (nodes_of ps))
@@ -75,16 +83,20 @@ module _ (step : Meaning) (some : 1 ≤ length step.factors) where
           (none_answers last.later own.1 (recursion_from_All HasNoDesign last.later last.none_later)))
 
       pub first_given : (rows : List ℕ) → step.settings.least ≡ false → IsFirstDesign p rows
-          → outcome_of step ≡ record { dimensions = p.dimensions; ending = Design rows (nodes_of ps) }
+          → outcome_of step ≡ designed p rows
       first_given rows plain first = design_is rows (first-answer p (own.0.0 ∙ plain) own.0.1 rows first)
 
       pub first_least_given : (rows : List ℕ) → step.settings.least ≡ true → IsFirstOfLeastPattern p rows
-          → outcome_of step ≡ record { dimensions = p.dimensions; ending = Design rows (nodes_of ps) }
+          → outcome_of step ≡ designed p rows
       first_least_given rows least first = design_is rows (first-least-answer p (own.0.0 ∙ least) own.0.1 rows first)
 
     pub none_given : All HasNoDesign ps
         → outcome_of step
-        ≡ record { dimensions = (last_of (questions_of step).first ps).dimensions; ending = NoDesign (nodes_of ps) }
+        ≡ record {
+          dimensions = (last_of (questions_of step).first ps).dimensions;
+          ending = NoDesign (nodes_of ps);
+          reached = 0;
+        }
     none_given none =
         within (questions_of step) step.settings.budget few
         ∙ ap (λ found. concluded (last_of (questions_of step).first ps) found (nodes_of ps))

@@ -20,7 +20,7 @@ use Rattle.fx_vectors.specs.declared.book.Book.{Book}
 use Rattle.fx_book.specs.Heads.{book_of}
 use Rattle.fx_book.specs.Valid.{AreFew, IsValidBook}
 use Rattle.fx_book.specs.Writing.{book_text}
-use Rattle.fx_book.proofs.Whole.{written_back}
+use Rattle.fx_book.proofs.Whole.{book_back}
 use Rattle.fx_checker.specs.Books.{children, flaw_of}
 use Rattle.fx_checker.specs.Claims.{claim_of}
 use Rattle.fx_checker.specs.Verdicts.{verdict_of}
@@ -71,7 +71,7 @@ accepted_book p finished number has =
     let valid : IsValidBook book =
     books.valid p may.shaped may.asked may.least may.few (omega (arith, finished.1)) has in
     let short : length book.marks ≤ 5000000 = omega (arith, finished.1, length-map (nodes p) (mark_of p)) in
-    let read = written_back book valid (book_short book valid short) in
+    let read = book_back book valid (book_short book valid short) in
     let none =
     in_turn_none (claim_of book.head) (children (claim_of book.head).problem []) 0 book.marks
     (books.good_book p may.shaped may.asked has) in

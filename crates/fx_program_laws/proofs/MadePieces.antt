@@ -12,7 +12,7 @@ use Rattle.fx_lexer.specs.TextPieces.{Piece, white, comment, remark, word, whole
 use Rattle.fx_lexer.specs.TextPieces.{sign, spelling, HasForm, HasAllowedLength, AreFormed, starts_behind}
 use Rattle.fx_lexer.specs.TextPieces.{starts_behind_all, begins_with, begins_fraction, text_of, tokens_among}
 use Rattle.fx_lexer.proofs.TextOfPieces.{tokens_read}
-use Rattle.fx_program.specs.Making.{factors_at, levels_at, runs_at, made_text, step_text}
+use Rattle.fx_program.specs.Making.{made_factors, made_levels, made_runs, made_text, step_text}
 
 -- ---- the form of pieces, decided
 
@@ -139,8 +139,8 @@ run_pieces = word (codes "run") ∷ sign 59 ∷ line_end ∷ []
 abbrev pub step_pieces : ℕ → List Piece
 step_pieces r =
     proc_pieces
-    ++ (factors_pieces (decimal (factors_at r)) (decimal (levels_at r))
-    ++ (size_pieces (decimal (runs_at r)) ++ (model_pieces (r % 4 == 0) ++ run_pieces)))
+    ++ (factors_pieces (decimal (made_factors r)) (decimal (made_levels r))
+    ++ (size_pieces (decimal (made_runs r)) ++ (model_pieces (r % 4 == 0) ++ run_pieces)))
 
 -- what holds for the numbers below n
 pub each_below : (P : ℕ → Type 0) (a n : ℕ) → AllByRecursion P (range_with_len a n) → (r : ℕ) → a ≤ r → r < a + n → P r

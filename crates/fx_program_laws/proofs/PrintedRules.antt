@@ -32,7 +32,8 @@ rules_give step valid rows e =
     let d = (outcome_of step).dimensions in
     let wanted = own.question.requirement in
     let can : is_canonical d wanted rows ≡ true =
-    subst (λ (x : Dimensions). is_canonical x wanted rows ≡ true) (sym own.dimensions) (canonical own.question rows own.left) in
+    subst (λ (x : Dimensions). is_canonical x wanted rows ≡ true) (sym own.dimensions)
+    (canonical own.question rows own.left) in
     let f : IsField d.q = subst IsField (sym asked.allowed.levels) (field step valid) in
     record {
       rules = λ k low. its_rule d f wanted step.factors rows k can asked.whole (sym asked.allowed.factors) low;

@@ -2,7 +2,7 @@
 use Rattle.std.proofs.Common.{ℕ, ◌≡◌, ◌≤◌, ◌+◌, ◌-◌, ◌^◌, ◌∙◌, suc, max, Bool, true, false, List, [], ◌∷◌, ◌++◌, length}
 use Rattle.std.proofs.Common.{length-append, refl, sym, subst, ap, arith, append-nil, Option, Some, None, Result, Ok}
 use Rattle.std.proofs.Common.{Err, cond}
-use Rattle.std.specs.Prelude.{nat_lt, nat_le, if◌then◌else◌, find, IfOk}
+use Rattle.std.specs.Prelude.{nat_lt, nat_le, if◌then◌else◌, find, IfOk, is_some}
 use Rattle.std.specs.List.{AllByRecursion, IsDistinct, flat_map, range_with_len}
 use Rattle.std.proofs.lemmas.Bool.{and_parts, leb-true, ltb-false}
 use Rattle.std.proofs.lemmas.List.{length-map}
@@ -31,26 +31,23 @@ use Rattle.fx_outputs.specs.Outputs.{names_of, outputs_of}
 use Rattle.fx_outputs.proofs.Names.{all_differ}
 use Rattle.fx_settings.specs.declared.settings.Size.{Size}
 use Rattle.fx_settings.specs.declared.settings.Size.TheVariants.{Runs, Minimum}
-use Rattle.fx_settings.specs.Said.{step_said}
+use Rattle.fx_settings.specs.Said.{step_said, value_after_equals}
 use Rattle.fx_settings.specs.Valid.{is_size}
 use Rattle.fx_designs.specs.Problems.{Problem}
 use Rattle.fx_settings.proofs.Within.{all_within}
+use Rattle.fx_settings.specs.Settings.{number_or}
 use Rattle.fx_statements.specs.Contexts.{context}
 use Rattle.fx_statements.specs.Steps.{Meaning, asked_by, examine_of, factor_limit, factors_by, head_of, some_factors}
 use Rattle.fx_statements.specs.Steps.{step_by, step_of}
 use Rattle.fx_statements.specs.Programs.{accepted, program_of, steps_behind}
 use Rattle.fx_statements.specs.Questions.{Questions, Turn, asked, highest, is_last, lowest, passes, question_for}
 use Rattle.fx_statements.specs.Questions.{questions_of, turns, up_to}
+use Rattle.fx_statements.proofs.Bounds.{most_of_all}
 use Rattle.fx_answer.specs.Books.{finished, finished_before}
 use Rattle.fx_answer.proofs.Valid.{few_factors}
 use Rattle.fx_program.specs.Texts.{at_front, or_refused, program_by, program_in}
 use Rattle.fx_program.proofs.AnyText.{some_same}
-
--- ---- factors
-
-limit_is : (b : Bool) → (if b then 30 else 40) ≤ 40
-limit_is true = omega arith
-limit_is false = omega arith
+use Rattle.fx_vectors.specs.declared.shape.TheConstants.{MOST_FACTORS}
 
 -- ---- what is read of a step
 
@@ -59,7 +56,7 @@ abbrev pub out_names_of : List Meaning → List (List ℕ)
 out_names_of steps = flat_map (λ (step : Meaning). names_of step.outputs) steps
 
 record IsReadBehind (earlier : List (List ℕ)) (step : Meaning) : Type 0 where
-  pub few : length step.factors ≤ 40
+  pub few : length step.factors ≤ MOST_FACTORS
   pub names : IsDistinct is_same_name (earlier ++ names_of step.outputs)
 
 step_read : (earlier : List (List ℕ)) (statements : List (List Written)) (factors : Option (List Written))
@@ -68,9 +65,9 @@ step_read : (earlier : List (List ℕ)) (statements : List (List Written)) (fact
 step_read earlier statements None step differ e = absurd (cc e)
 step_read earlier statements (Some given) step differ e =
     let proc = start_of (head_of statements) in
-    let factors = bind_ok (factors_by proc (factor_limit statements) given) _ step e in
+    let factors = bind_ok (factors_by proc (factor_limit given statements) given) _ step e in
     let found =
-    bind_ok (named.names_of_factors (factor_limit statements) given) (some_factors proc) factors.0 factors.1 in
+    bind_ok (named.names_of_factors (factor_limit given statements) given) (some_factors proc) factors.0 factors.1 in
     let asked =
     bind_ok (asked_by factors.0 (step_said (head_of statements) given statements) statements) _ step factors.2 in
     let outputs = bind_ok (outputs_of (context factors.0 asked.0.0) earlier statements) _ step asked.2 in
@@ -82,28 +79,29 @@ step_read earlier statements (Some given) step differ e =
       examine = examine_of statements;
       outputs = outputs.0;
     } in
-    let few = all_within (factor_limit statements) [] (items_of given) found.0 (omega arith) found.1 in
+    let few = all_within (factor_limit given statements) [] (items_of given) found.0 (omega arith) found.1 in
     let same = some_same proc found.0 factors.0 found.2 in
-    let most : factor_limit statements ≤ 40 = limit_is _ in
+    let most : factor_limit given statements ≤ MOST_FACTORS =
+    most_of_all (number_or 2 (value_after_equals given)) (is_some (statement_of word.Blocks statements)) in
     subst (IsReadBehind earlier) (same_ok whole step outputs.2)
     (record {
-      few = subst (λ (l : List (List ℕ)). length l ≤ 40) same (omega (arith, few, most));
+      few = subst (λ (l : List (List ℕ)). length l ≤ MOST_FACTORS) same (omega (arith, few, most));
       names = all_differ (context factors.0 asked.0.0) earlier statements outputs.0 differ outputs.1;
     })
 
 record AreReadBehind (steps done : List Meaning) (groups : ℕ) : Type 0 where
-  pub few : AllByRecursion (λ (step : Meaning). length step.factors ≤ 40) steps
+  pub few : AllByRecursion (λ (step : Meaning). length step.factors ≤ MOST_FACTORS) steps
   pub names : IsDistinct is_same_name (out_names_of steps)
   pub many : length steps ≡ length done + groups
 
 all_read : (earlier : List (List ℕ)) (done : List Meaning) (groups : List (List (List Written))) (steps : List Meaning)
     → earlier ≡ out_names_of done → IsDistinct is_same_name earlier
-    → AllByRecursion (λ (step : Meaning). length step.factors ≤ 40) done
+    → AllByRecursion (λ (step : Meaning). length step.factors ≤ MOST_FACTORS) done
     → steps_behind earlier done groups ≡ Ok steps → AreReadBehind steps done (length groups)
 all_read earlier done [] steps are differ few e =
     let same : done ≡ steps = same_ok done steps e in
     record {
-      few = subst (AllByRecursion (λ (step : Meaning). length step.factors ≤ 40)) same few;
+      few = subst (AllByRecursion (λ (step : Meaning). length step.factors ≤ MOST_FACTORS)) same few;
       names = subst (IsDistinct is_same_name) (are ∙ ap out_names_of same) differ;
       many = omega (arith, ap length same);
     }
@@ -116,7 +114,8 @@ all_read earlier done (group ∷ groups) steps are differ few e =
     ∙ sym (flat_map-append (λ (step : Meaning). names_of step.outputs) done (step.0 ∷ [])) in
     let later =
     all_read (earlier ++ names_of step.0.outputs) (done ++ step.0 ∷ []) groups steps names read.names
-    (each-append (λ (step : Meaning). length step.factors ≤ 40) done (step.0 ∷ []) few (read.few, tt)) step.2 in
+    (each-append (λ (step : Meaning). length step.factors ≤ MOST_FACTORS) done (step.0 ∷ []) few (read.few, tt)) step.2
+    in
     record { few = later.few; names = later.names; many = omega (arith, later.many, length-append done (step.0 ∷ [])) }
 
 -- ---- how many steps there are
@@ -152,7 +151,7 @@ tokens_few from upto (t ∷ tokens) h = let rest = tokens_few t.upto upto tokens
 
 -- what is known of the steps of a text
 pub record AreSteps (steps : List Meaning) : Type 0 where
-  pub few : AllByRecursion (λ (step : Meaning). length step.factors ≤ 40) steps
+  pub few : AllByRecursion (λ (step : Meaning). length step.factors ≤ MOST_FACTORS) steps
   pub names : IsDistinct is_same_name (out_names_of steps)
   pub many : length steps ≤ 1048576
 
@@ -211,16 +210,16 @@ up_to-few ends (p ∷ ps) =
     omega (arith, here)
 
 highest_few : (step : Meaning) (size : Size) → 2 ≤ step.settings.q → is_size step.settings.q size ≡ true
-    → length step.factors ≤ 40 → highest step size ≤ 41
+    → length step.factors ≤ MOST_FACTORS → highest step size ≤ MOST_FACTORS + 1
 highest_few step Minimum two valid few = let most =
     count_by-le-length (λ m. nat_le (step.settings.q ^ (m + 1)) 1024) (range_with_len 0 10) in omega (arith, most)
 highest_few step (Runs m) two valid few =
     let parts = and_parts (nat_le 1 m) (nat_le (step.settings.q ^ m) 1024) valid in
     let fits = few_factors step.settings.q m two (leb-true _ _ parts.1) in
-    let go : (a b : Bool) → (if a then m else (if b then max 3 (length step.factors + 1) else 3)) ≤ 41 =
-    λ a b. elim a as (λ a. (if a then m else (if b then max 3 (length step.factors + 1) else 3)) ≤ 41) [
+    let go : (a b : Bool) → (if a then m else (if b then max 3 (length step.factors + 1) else 3)) ≤ MOST_FACTORS + 1 =
+    λ a b. elim a as (λ a. (if a then m else (if b then max 3 (length step.factors + 1) else 3)) ≤ MOST_FACTORS + 1) [
       | true ↦ omega (arith, fits)
-      | false ↦ elim b as (λ b. (if b then max 3 (length step.factors + 1) else 3) ≤ 41)
+      | false ↦ elim b as (λ b. (if b then max 3 (length step.factors + 1) else 3) ≤ MOST_FACTORS + 1)
           [ true ↦ omega (arith, few) | false ↦ omega arith ]
     ] in
     go _ _
@@ -249,7 +248,7 @@ finished_few n ps test (t ∷ ts) few all =
     go (test t)
 
 pub questions_few : (step : Meaning) → 2 ≤ step.settings.q → is_size step.settings.q step.settings.size ≡ true
-    → length step.factors ≤ 40 → length (finished (questions_of step) step.settings.budget) ≤ 42
+    → length step.factors ≤ MOST_FACTORS → length (finished (questions_of step) step.settings.budget) ≤ MOST_FACTORS + 2
 unfolding finished
 questions_few step two valid few =
     let q : Questions = questions_of step in
@@ -260,12 +259,13 @@ questions_few step two valid few =
     length-map (range_with_len (low + 1) (high - low)) (question_for step) ∙ length-range_with_len (low + 1)
     (high - low) in
     let count = up_to-few (is_last q.until) (q.first ∷ q.others) in
-    let all : length (asked q) ≤ 42 = omega (arith, count, others, most) in
-    finished_few 42 (asked q) (passes step.settings.budget) (turns [] (asked q)) all
+    let all : length (asked q) ≤ MOST_FACTORS + 2 = omega (arith, count, others, most) in
+    finished_few (MOST_FACTORS + 2) (asked q) (passes step.settings.budget) (turns [] (asked q)) all
     (each (turns [] (asked q)) (turns_few [] (asked q)) all)
   where
     each : (ts : List Turn)
         → AllByRecursion (λ (t : Turn). length t.earlier ≤ 0 + length (asked (questions_of step))) ts
-        → length (asked (questions_of step)) ≤ 42 → AllByRecursion (λ (t : Turn). length t.earlier ≤ 42) ts
+        → length (asked (questions_of step)) ≤ MOST_FACTORS + 2
+        → AllByRecursion (λ (t : Turn). length t.earlier ≤ MOST_FACTORS + 2) ts
     each [] all many = tt
     each (t ∷ ts) all many = (omega (arith, all.0, many), each ts all.1 many)

@@ -32,11 +32,11 @@ use Rattle.fx_reduction.proofs.ShortWords.{pattern-length}
 use Rattle.fx_vectors.specs.Effects.{numbers_of}
 use Rattle.fx_vectors.specs.Question.{CanBeAsked, is_resolution, requirement_of}
 use Rattle.fx_vectors.specs.Shape.{IsShape}
-use Rattle.fx_vectors.proofs.Limits.{numbers_fit, order-bounds}
+use Rattle.fx_vectors.proofs.Limits.{order-bounds, words_fit}
 use Rattle.fx_demands.proofs.Choice.{chosen}
-use Rattle.fx_book.specs.Demands.{effects_of}
+use Rattle.fx_book.specs.Demands.{numbered_effects}
 use Rattle.fx_book.specs.Valid.{AreFew, IsBeat, IsEntry, IsValidBook}
-use Rattle.fx_checker.specs.Books.{AreInTurn, Claim, IsGood, children, flaw, turns}
+use Rattle.fx_checker.specs.Books.{AreInTurn, Claim, IsGood, children, flaw, turns_after}
 use Rattle.fx_checker.specs.Claims.{claim_of}
 use Rattle.fx_checker.specs.declared.verdict.Reason.TheVariants.{Beats, OtherRow}
 use Rattle.fx_checker.proofs.Existence.{word_exists}
@@ -47,7 +47,7 @@ use Rattle.fx_book.proofs.Accepted.{numbers-effects}
 pub requirement_back : (wanted : Requirement) → requirement_of (demands_for wanted) ≡ wanted
 requirement_back (AtResolution r) = refl
 requirement_back (ForEffects estimate besides) =
-    ap (λ l. ForEffects l (numbers_of (effects_of besides))) (numbers-effects estimate) ∙ ap (ForEffects estimate)
+    ap (λ l. ForEffects l (numbers_of (numbered_effects besides))) (numbers-effects estimate) ∙ ap (ForEffects estimate)
     (numbers-effects besides)
 
 -- a book has no pattern to beat, and its question no answer; or it has that of the least answer
@@ -76,7 +76,7 @@ some_number q some (a ∷ u) v h = by_last (eqb (last_nonzero u) 0) refl (some_n
         omega (arith, product)
 
 -- counts of words are small
-module _ (d : Dimensions) (f : IsField d.q) (small : d.q ≤ 9) (few : d.s ≤ 40) where
+module _ (d : Dimensions) (f : IsField d.q) (small : (n : ℕ) → n ≤ d.s → d.q ^ n < 2 ^ 127) where
   count_fits : (rows : List ℕ) (k : ℕ)
       → constant_words d.q d.m (vectors_of d.q d.m (take d.s rows)) k / (d.q - 1) < 2 ^ 127
   unfolding constant_words
@@ -87,9 +87,9 @@ module _ (d : Dimensions) (f : IsField d.q) (small : d.q ≤ 9) (few : d.s ≤ 4
       let part = div-le_self count (d.q - 1) in
       let all = count_by-le-length test (points d.q (length factors)) in
       let long = length-points d.q (length factors) in
-      let short : length factors ≤ 40 =
-      omega (arith, length-map (take d.s rows) (digits d.q d.m), length-take d.s rows, few) in
-      let fits = numbers_fit d.q (length factors) small short in
+      let short : length factors ≤ d.s =
+      omega (arith, length-map (take d.s rows) (digits d.q d.m), length-take d.s rows) in
+      let fits = small (length factors) short in
       omega (arith, part, all, long, fits)
 
   pattern_fits : (rows : List ℕ) → AllByRecursion (λ a. a < 2 ^ 127) (pattern_of d rows)
@@ -107,7 +107,8 @@ none_flawed : (x : Claim) (prefixes : List (List ℕ)) (entries : List Mark) →
 unfolding AreInTurn HasNoFlaw
 none_flawed x prefixes [] h = tt
 none_flawed x [] (mark ∷ entries) h = absurd h
-none_flawed x (rows ∷ others) (mark ∷ entries) h = ((rows, h.0), none_flawed x (turns x rows mark others) entries h.1)
+none_flawed x (rows ∷ others) (mark ∷ entries) h =
+    ((rows, h.0), none_flawed x (turns_after x rows mark others) entries h.1)
 
 -- the marks of a question that may be asked
 module _ (p : Problem) (shaped : IsShape (shape_of p.dimensions)) (asked : CanBeAsked p.dimensions p.requirement) where
@@ -227,7 +228,8 @@ module _ (p : Problem) (shaped : IsShape (shape_of p.dimensions)) (asked : CanBe
         subst (λ b. IsBeat d.s (is_some b) b) (sym least.3) (
           refl,
           pattern-length d least.0,
-          All-from_recursion _ _ (pattern_fits d f (order-bounds d.q shaped.order).1 shaped.factors least.0),
+          All-from_recursion _ _
+              (pattern_fits d f (λ n short. words_fit (shape_of d) shaped n (omega (arith, short))) least.0),
         )
   ]
 

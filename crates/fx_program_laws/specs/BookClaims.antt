@@ -6,8 +6,10 @@ use Rattle.fx_base.specs.Acts.{WholeFile}
 use Rattle.fx_designs.specs.Outcomes.{Design}
 use Rattle.fx_designs.specs.Patterns.{pattern_of, resolution_of}
 use Rattle.fx_designs.specs.Problems.{Dimensions, Problem, Requirement, AtResolution}
+use Rattle.fx_reduction.specs.BlockedResolutions.{top_resolution}
 use Rattle.fx_reduction.specs.Strengths.{with_block}
 use Rattle.fx_settings.specs.declared.settings.Blocks.TheVariants.{Most}
+use Rattle.fx_settings.specs.Valid.{has_blocks}
 use Rattle.fx_vectors.specs.Question.{problem_of}
 use Rattle.fx_vectors.specs.declared.book.Book.{Book}
 use Rattle.fx_vectors.specs.declared.book.NamedBook.{NamedBook}
@@ -60,15 +62,27 @@ pub record HasBook (seed number : ℕ) (step : Meaning) (d : Dimensions) (wanted
   pub about : problem_of book.head.question ≡ record { dimensions = d; requirement = wanted; least = is_some beat }
   pub pattern : book.head.beat ≡ beat
 
--- where the highest resolution is asked, one that none has the next, unless the design has no defining words
+-- where the highest resolution is asked, without blocks, one that none has the next, unless the design has no defining
+-- words
 abbrev pub HighestHasBook : ℕ → ℕ → Meaning → Type 0
 HighestHasBook seed number step = (rows : List ℕ) (count : ℕ)
     → step.goal ≡ Highest
     → step.settings.least ≡ false
+    → has_blocks step.settings.blocks ≡ false
     → (outcome_of step).ending ≡ Design rows count
     → (resolution_of (pattern_of (outcome_of step).dimensions rows) ≡ (outcome_of step).dimensions.s + 1)
     ⊎ HasBook seed number step (outcome_of step).dimensions
     (AtResolution (resolution_of (pattern_of (outcome_of step).dimensions rows) + 1)) None
+
+-- where it is asked in blocks, one that none meets the next after that which was reached, unless it is the highest that
+-- is asked for
+abbrev pub HighestInBlocksHasBook : ℕ → ℕ → Meaning → Type 0
+HighestInBlocksHasBook seed number step = (rows : List ℕ) (count : ℕ)
+    → step.goal ≡ Highest
+    → has_blocks step.settings.blocks ≡ true
+    → (outcome_of step).ending ≡ Design rows count
+    → ((outcome_of step).reached ≡ top_resolution (outcome_of step).dimensions)
+    ⊎ HasBook seed number step (outcome_of step).dimensions (AtResolution ((outcome_of step).reached + 1)) None
 
 -- where least aberration is asked, one that none has a less pattern than the design
 abbrev pub LeastPatternHasBook : ℕ → ℕ → Meaning → Type 0

@@ -1,13 +1,11 @@
 -- How a step ends, and what is given for it.
 use Rattle.std.specs.Prelude.{ℕ, ◌≡◌}
-use Rattle.fx_designs.specs.Problems.{Dimensions}
-use Rattle.fx_designs.specs.Outcomes.{Ending}
-use Rattle.fx_statements.specs.Questions.{outcome_of}
+use Rattle.fx_statements.specs.Questions.{Conclusion, outcome_of}
 use Rattle.fx_statements.specs.Steps.{Meaning}
 use Rattle.fx_answer.specs.Books.{books_of}
-use Rattle.fx_program.specs.Output.{ending_given, step_output}
+use Rattle.fx_program.specs.Output.{outcome_given, step_output}
 
--- the outcome of a step has these dimensions and this ending, and what is given for the step is by these
-pub record EndsWith (seed number : ℕ) (step : Meaning) (d : Dimensions) (ending : Ending) : Type 0 where
-  pub outcome : outcome_of step ≡ record { dimensions = d; ending = ending }
-  pub output : step_output seed number step ≡ ending_given seed number d step (books_of step) ending
+-- this is the outcome of a step, and what is given for the step is by it
+pub record EndsWith (seed number : ℕ) (step : Meaning) (outcome : Conclusion) : Type 0 where
+  pub outcome_is : outcome_of step ≡ outcome
+  pub output : step_output seed number step ≡ outcome_given seed number step (books_of step) outcome

@@ -10,11 +10,12 @@ ghost use Rattle.fx_program_laws.specs.BookClaims.{
   HasABookForEachAsked,
   HasAcceptedBooks,
   HighestHasBook,
+  HighestInBlocksHasBook,
   LeastPatternHasBook,
   LeastSizeHasBooks,
   MostBlocksHasBook,
 };
-ghost use Rattle.fx_statements.specs.Questions.{asked, last_of, nodes_of, questions_of};
+ghost use Rattle.fx_statements.specs.Questions.{asked, last_of, nodes_of, questions_of, resolution_wanted};
 ghost use Rattle.fx_program.specs.Making.{HasSteps, made_text};
 ghost use Rattle.fx_text.specs.Names.{is_same_name};
 ghost use Rattle.fx_program.specs.Files.{names_among};
@@ -28,6 +29,7 @@ ghost use Rattle.fx_program_laws.specs.PrintedRules.{HasRulesThatGiveTheLevels};
 ghost use Rattle.fx_tree.specs.Laws.{IsFirstOfLeastPattern};
 ghost use Rattle.fx_answer.specs.StepClaims.{
   Allows,
+  HasHighestInBlocks,
   HasHighestOfAll,
   HasLeastOfAll,
   HasLeastSize,
@@ -35,6 +37,7 @@ ghost use Rattle.fx_answer.specs.StepClaims.{
   HasNoDesign,
   HasNoneAtAll,
   LeavesNoneOfLeastSize,
+  MeetsWhatItReached,
   IsLastWithDesign,
   OfOutcome,
   required,
@@ -53,20 +56,30 @@ pub fn first_design_is_given()
         → IsLastWithDesign (asked (questions_of step)) p
         → step.settings.least ≡ false
         → IsFirstDesign p rows
-        → EndsWith seed number step p.dimensions (Design rows (nodes_of (asked (questions_of step)))) }
+        → EndsWith seed number step (record {
+          dimensions = p.dimensions;
+          ending = Design rows (nodes_of (asked (questions_of step)));
+          reached = resolution_wanted p.requirement;
+        }) }
     ensures least { (seed number : ℕ) (step : Meaning) (p : Problem) (rows : List ℕ)
         → 1 ≤ length step.factors
         → nodes_of (asked (questions_of step)) ≤ step.settings.budget
         → IsLastWithDesign (asked (questions_of step)) p
         → step.settings.least ≡ true
         → IsFirstOfLeastPattern p rows
-        → EndsWith seed number step p.dimensions (Design rows (nodes_of (asked (questions_of step)))) }
+        → EndsWith seed number step (record {
+          dimensions = p.dimensions;
+          ending = Design rows (nodes_of (asked (questions_of step)));
+          reached = resolution_wanted p.requirement;
+        }) }
     ensures none { (seed number : ℕ) (step : Meaning) → 1 ≤ length step.factors
         → nodes_of (asked (questions_of step)) ≤ step.settings.budget
         → All HasNoDesign (asked (questions_of step))
-        → EndsWith seed number step
-        (last_of (questions_of step).first (asked (questions_of step))).dimensions
-        (NoDesign (nodes_of (asked (questions_of step)))) }
+        → EndsWith seed number step (record {
+          dimensions = (last_of (questions_of step).first (asked (questions_of step))).dimensions;
+          ending = NoDesign (nodes_of (asked (questions_of step)));
+          reached = 0;
+        }) }
 {}
 
 /// Status 2 comes of a step exactly where the nodes of the questions that are asked for it are more
@@ -122,10 +135,19 @@ pub fn least_pattern_in_any_text()
     ensures { (text : List ℕ) → EachStep (OfOutcome HasLeastOfAll) (program_in text) }
 {}
 
-/// Whatever a text says: where a step of its program asks for the highest resolution and ends with a
-/// design, no rule matrix at all of as many runs, canonical or not, has a higher resolution.
+/// Whatever a text says: where a step of its program asks for the highest resolution, without blocks, and
+/// ends with a design, no rule matrix at all of as many runs, canonical or not, has a higher resolution.
 pub fn highest_resolution_in_any_text()
     ensures { (text : List ℕ) → EachStep (OfOutcome HasHighestOfAll) (program_in text) }
+{}
+
+/// Whatever a text says: where a step of its program asks for the highest resolution in blocks, its matrix,
+/// also one that is left where the budget ended, meets the resolution that is printed with its blocks
+/// (`met`); and where it ends with a design, no rule matrix at all of as many runs and block factors,
+/// canonical or not, meets a higher one, up to that of a design without defining words (`highest`).
+pub fn highest_resolution_in_blocks_in_any_text()
+    ensures met { (text : List ℕ) → EachStep (OfOutcome MeetsWhatItReached) (program_in text) }
+    ensures highest { (text : List ℕ) → EachStep (OfOutcome HasHighestInBlocks) (program_in text) }
 {}
 
 /// Whatever a text says: where a step of its program asks for the least size and ends with a design, the
@@ -151,7 +173,7 @@ pub fn greatest_status_decides()
 /// without an answer, or for a least pattern, has one: the marks of its nodes, under the numbers of the
 /// step and of the question. So there are the books of all questions that are asked, where the step ends
 /// without a design; where it has one, the book of the next resolution for the highest, unless there are
-/// no defining words; a book under the pattern of the design for least aberration; the books of all
+/// no defining words, and for the highest in blocks, unless it is the highest there is; a book under the pattern of the design for least aberration; the books of all
 /// smaller sizes for the least; and the book of one more block factor for the most blocks.
 pub fn claims_have_books()
     ensures finished { (seed number : ℕ) (step : Meaning) → HasABookForEach seed number step }
@@ -159,6 +181,8 @@ pub fn claims_have_books()
         → HasABookForEachAsked seed number step }
     ensures highest { (seed number : ℕ) (text : List ℕ)
         → EachStep (HighestHasBook seed number) (program_in text) }
+    ensures highest_in_blocks { (seed number : ℕ) (text : List ℕ)
+        → EachStep (HighestInBlocksHasBook seed number) (program_in text) }
     ensures least_pattern { (seed number : ℕ) (text : List ℕ)
         → EachStep (LeastPatternHasBook seed number) (program_in text) }
     ensures least_size { (seed number : ℕ) (text : List ℕ)

@@ -34,4 +34,5 @@ pub mod AllowedFronts
 pub mod NormalWords
 pub mod ShortWords
 pub mod BlockCounts
+pub mod BlockedResolutions
 mod ClaimExamples

@@ -7,3 +7,4 @@ pub mod Strengths
 pub mod Words
 pub mod Resolutions
 pub mod MostBlocks
+pub mod BlockedResolutions

@@ -32,6 +32,7 @@ use Rattle.fx_runs.specs.Supports.{bit_of, is_among, is_balanced_over, each_bala
 use Rattle.fx_vectors.proofs.Supports.{bit-small, is_zero-effect}
 use Rattle.fx_vectors.proofs.Differences.{or-bit, xor-bit, differs-cons}
 use Rattle.fx_vectors.proofs.Balances.{balances-is}
+use Rattle.fx_vectors.specs.declared.shape.TheConstants.{MOST_FACTORS}
 
 -- supports of at most some factors
 pub among-light : (n most : ℕ) (f : List ℕ) → length f ≤ n → is_among 0 (2 ^ n - 1) most f ≡ nat_le (weight f) most
@@ -357,8 +358,8 @@ module _ (runs : RunsView) (within : Within) where
         (numbers_of estimate)) (is_zero-effect x)
         ∙ sym (balances-is d f (ForEffects (numbers_of estimate) (numbers_of besides)) asked x h))
 
-    pub each-light : (r : ℕ) (among : List ℕ → Bool) → s ≤ 40
-        → ((x : List ℕ) → length x ≤ 40 → among x ≡ nat_le (weight x) (r - 1)) → 3 ≤ r
+    pub each-light : (r : ℕ) (among : List ℕ → Bool) → s ≤ MOST_FACTORS
+        → ((x : List ℕ) → length x ≤ MOST_FACTORS → among x ≡ nat_le (weight x) (r - 1)) → 3 ≤ r
         → each_balanced runs within (λ x. not (is_zero x) && among x)
         ≡ each_balanced runs within (must_balance d (AtResolution r))
     unfolding must_balance
@@ -373,8 +374,8 @@ module _ (runs : RunsView) (within : Within) where
     unfolding is_estimated
     each-estimated estimate besides = each-any some_code (λ e x. eqb e (effect_of x)) estimate
 
-    pub each-few : (r : ℕ) (among : List ℕ → Bool) → s ≤ 40
-        → ((x : List ℕ) → length x ≤ 40 → among x ≡ nat_le (weight x) ((r - 1) / 2))
+    pub each-few : (r : ℕ) (among : List ℕ → Bool) → s ≤ MOST_FACTORS
+        → ((x : List ℕ) → length x ≤ MOST_FACTORS → among x ≡ nat_le (weight x) ((r - 1) / 2))
         → each_balanced runs within (λ x. not (is_zero x) && among x)
         ≡ each_balanced runs within (is_estimated (AtResolution r))
     unfolding is_estimated

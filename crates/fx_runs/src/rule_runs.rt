@@ -2,6 +2,7 @@ ghost use Rattle.std.specs.Prelude.{◌≡◌, ◌+◌, ◌^◌, ◌<◌, ◌≤
 ghost use Rattle.fx_designs.specs.Vectors.{IsVector, vectors_of};
 ghost use Rattle.fx_designs.specs.Runs.{levels_at, runs_of};
 ghost use Rattle.fx_laws.specs.Facts.{point_of};
+ghost use Rattle.fx_vectors.specs.declared.shape.TheConstants.{MOST_FACTORS};
 
 use crate::runs::Runs;
 use fx_base::{Items, NoMemory};
@@ -43,7 +44,7 @@ fn rules_of(alloc: Global, field: Field, matrix: &Matrix) -> Result<Items<Vector
 
 /// The levels and block values that the rules give at the point p.
 fn levels(field: Field, rules: &Items<Vector>, p: &Vector) -> Vector
-    requires few { length rules.now ≤ 40 }
+    requires few { length rules.now ≤ MOST_FACTORS }
     requires point { IsVector field (length p.now) p.now }
     requires rules { All (λ r. IsVector field (length p.now) r) rules.now }
     ensures { result ≡ levels_at field rules.now p.now }
@@ -57,7 +58,7 @@ fn levels(field: Field, rules: &Items<Vector>, p: &Vector) -> Vector
 
 /// The run indexes of run k, counted from 0.
 fn point(field: Field, m: u8, k: u16) -> Vector
-    requires room { m ≤ 40 }
+    requires room { m ≤ MOST_FACTORS }
     requires runs { field ^ m ≤ 1024 }
     requires below { k < field ^ m }
     ensures indexes { result ≡ point_of field m k }

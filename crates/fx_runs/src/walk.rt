@@ -3,15 +3,13 @@ ghost use Rattle.fx_designs.specs.Vectors.{IsVector, is_zero, weight};
 ghost use Rattle.fx_designs.specs.Demands.{effect_of};
 ghost use Rattle.fx_runs.specs.Runs.{AreRuns};
 ghost use Rattle.fx_vectors.specs.Supports.{differs};
+ghost use Rattle.fx_vectors.specs.declared.shape.TheConstants.{MOST_FACTORS};
 ghost use Rattle.fx_runs.specs.Supports.{bit_of, is_among, each_balanced, is_balanced_over, AreBalancedFrom};
 
 use crate::balance::is_balanced;
 use crate::block_balance::is_balanced_in_blocks;
 use crate::runs::Runs;
-use fx_vectors::Vector;
-
-/// No vector has more codes.
-const MOST_FACTORS: usize = 40;
+use fx_vectors::{MOST_FACTORS, Vector};
 
 /// Where a vector is to be balanced.
 #[derive(Clone, Copy)]
@@ -35,7 +33,7 @@ impl Supports {
     /// The sets of at most `most` factors.
     pub(crate) fn of_at_most(most: usize) -> Supports
         ensures { (f : List ℕ)
-            → length f ≤ 40
+            → length f ≤ MOST_FACTORS
             → is_among result.inner result.outer result.most f ≡ nat_le (weight f) most }
     {
         Supports {
@@ -48,7 +46,7 @@ impl Supports {
     /// The effect `e` alone.
     pub(crate) fn of_effect(e: u64) -> Supports
         ensures { (f : List ℕ)
-            → length f ≤ 40
+            → length f ≤ MOST_FACTORS
             → is_among result.inner result.outer result.most f ≡ (e == effect_of f) }
     {
         Supports {
@@ -62,7 +60,7 @@ impl Supports {
     /// where 0 represents the zero vector.
     pub(crate) fn of_differences(q: u8, u: u64, v: u64) -> Supports
         ensures { (f : List ℕ)
-            → length f ≤ 40
+            → length f ≤ MOST_FACTORS
             → is_among result.inner result.outer result.most f
             ≡ differs q u v (effect_of f) }
     {

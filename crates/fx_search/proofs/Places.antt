@@ -11,7 +11,7 @@ use Rattle.fx_tree.specs.Search.{search_tree}
 use Rattle.fx_vectors.specs.declared.question.Question.{Question}
 use Rattle.fx_vectors.specs.Question.{problem_of}
 use Rattle.fx_search.specs.Ends.{IfClosed, IsOver, IsVisited}
-use Rattle.fx_search.specs.Pruning.{size_of, count_of_rows}
+use Rattle.fx_search.specs.Pruning.{full_length, count_of_rows}
 use Rattle.fx_search.specs.Standing.{Standing}
 use Rattle.fx_search.specs.Walks.{IsAt, IsInner, IsPaused}
 use Rattle.fx_search.specs.declared.walk.End.{End}
@@ -54,7 +54,8 @@ module _ {I : Type 0} (standing : I → Standing) (question : Question) where
   pub visited-over : (rows d : List ℕ) (limit : ℕ) (stopped : Bool) (end : End) (old : List Mark) (w : Walk I)
       → length old + 1 ≤ limit → IsVisited standing question rows d old w (Some end)
       → IsOver standing question rows d
-      (subtree (search_tree (problem_of question)) (size_of (problem_of question) - length d) d) limit stopped old w end
+      (subtree (search_tree (problem_of question)) (full_length (problem_of question) - length d) d) limit stopped old w
+      end
   visited-over rows d limit stopped Found old w room h = record {
     shape = h.shape;
     back = tt;
@@ -114,6 +115,7 @@ pub right-of : (asked : Asked) (walked question : Question) (limit budget : ℕ)
 right-of asked walked question limit budget same is h =
     subst (λ z. IsRight z budget asked) same (subst (λ k. IsRight walked k asked) is h)
 
-pub some-of : (xs : List ℕ) → (xs ≡ [] → ⊥) → 0 < length xs
+-- a list that is not empty has an item
+pub some-of : {X : Type 0} (xs : List X) → (xs ≡ [] → ⊥) → 0 < length xs
 some-of [] h = absurd (h refl)
 some-of (x ∷ xs) h = omega arith

@@ -12,7 +12,7 @@ use Rattle.fx_vectors.specs.Matrix.{MatrixView}
 use Rattle.fx_vectors.specs.Shape.{dimensions_of}
 use Rattle.fx_vectors.specs.declared.question.Question.{Question}
 use Rattle.fx_vectors.specs.Question.{IsValid, problem_of}
-use Rattle.fx_search.specs.Pruning.{size_of, count_of_rows}
+use Rattle.fx_search.specs.Pruning.{full_length, count_of_rows}
 use Rattle.fx_search.specs.Standing.{Standing, kept_rows, standing_of}
 use Rattle.fx_search.specs.declared.job.JobEnd.{JobEnd}
 use Rattle.fx_search.specs.declared.job.JobEnd.TheVariants.{Found, Closed, Spent, Cut}
@@ -60,13 +60,13 @@ pub record IsAt {I : Type 0} (standing : I → Standing) (question : Question) (
 
 -- a canonical prefix that is empty or expanded, and not whole
 pub record IsInner (p : Problem) (rows : List ℕ) : Type 0 where
-  pub part : length rows < size_of p
+  pub part : length rows < full_length p
   pub canonical : (search_tree p).canonical rows ≡ true
   pub open_ : (length rows ≡ 0) ⊎ (is_expanded p rows ≡ true)
 
 -- the prefix has a child by this row
 pub record IsChild (p : Problem) (rows : List ℕ) (row : ℕ) : Type 0 where
-  pub part : length rows < size_of p
+  pub part : length rows < full_length p
   pub below : row < count_of_rows p
   pub canonical : (search_tree p).canonical (rows ++ row ∷ []) ≡ true
 
@@ -83,8 +83,8 @@ pub record IsPaused {I : Type 0} (standing : I → Standing) (w : Walk I) : Type
   pub limit : w.limit ≤ 5000000
 
 -- the prefix has no child by a row below a bound
-abbrev pub IsNoneBelow : Problem → List ℕ → ℕ → Type 0
-IsNoneBelow p rows bound = (r : ℕ) → r < bound → (search_tree p).canonical (rows ++ r ∷ []) ≡ false
+abbrev pub IsNoCanonicalBelow : Problem → List ℕ → ℕ → Type 0
+IsNoCanonicalBelow p rows bound = (r : ℕ) → r < bound → (search_tree p).canonical (rows ++ r ∷ []) ≡ false
 
 -- the greatest row below a bound by which it has one
 pub record IsNextRow (p : Problem) (rows : List ℕ) (bound row : ℕ) : Type 0 where
@@ -110,9 +110,9 @@ IsTaken limit old more new true = (new ≡ old ++ more) × (length new ≤ limit
 IsTaken limit old more new false = (limit - length old < length more) × (new ≡ old)
 
 -- the matrix, where there is one, has all rows, and there are some
-abbrev pub IsWhole : Problem → Option MatrixView → Type 0
-IsWhole p None = Unit {0}
-IsWhole p (Some matrix) = (length matrix.rows ≡ size_of p) × (0 < length matrix.rows)
+abbrev pub IsComplete : Problem → Option MatrixView → Type 0
+IsComplete p None = Unit {0}
+IsComplete p (Some matrix) = (length matrix.rows ≡ full_length p) × (0 < length matrix.rows)
 
 -- what holds where a job or a piece was closed
 abbrev pub IsReadyAfter : JobEnd → Type 0 → Type 0

@@ -9,8 +9,8 @@ ghost use Rattle.fx_vectors.specs.Question.{problem_of};
 ghost use Rattle.fx_search.specs.Ends.{IsOver};
 ghost use Rattle.fx_search.specs.JobEnds.{IsJobEnd, IsSized};
 ghost use Rattle.fx_search.specs.SearchPieces.{IsPiece, IsPieceEnd, piece_candidates};
-ghost use Rattle.fx_search.specs.Walks.{IsAt, IsReadyAfter, IsWhole, standing_with_best, standing_without_best};
-ghost use Rattle.fx_search.specs.Standing.{FitsDimensions, HasDimensions, kept_rows, rows_of};
+ghost use Rattle.fx_search.specs.Walks.{IsAt, IsReadyAfter, IsComplete, standing_with_best, standing_without_best};
+ghost use Rattle.fx_search.specs.Standing.{FitsDimensions, HasDimensions, kept_rows, best_rows};
 
 use crate::best::Best;
 use crate::cutter::Cutter;
@@ -29,8 +29,8 @@ impl<'a> Walk<'a, Ranked> {
         requires least { self.old.question.now.least ≡ true }
         requires start { self.old.prefix.rows ≡ [] }
         requires shape { HasDimensions (problem_of self.old.question.now).dimensions (option_copied best) }
-        requires whole { IsWhole (problem_of self.old.question.now) (option_copied best) }
-        ensures rows { kept_rows result ≡ rows_of (option_copied best.entry) }
+        requires whole { IsComplete (problem_of self.old.question.now) (option_copied best) }
+        ensures rows { kept_rows result ≡ best_rows (option_copied best.entry) }
         ensures sized { FitsDimensions (problem_of self.old.question.now).dimensions result }
         ensures question { self.new.question ≡ self.old.question }
         ensures at { IsAt standing_with_best self.old.question.now self.new }

@@ -11,7 +11,7 @@ use Rattle.fx_text.specs.declared.refusal.ParseStop.TheVariants as stop
 use Rattle.fx_text.specs.Written.{Written}
 use Rattle.fx_text.specs.Refusals.{refusal_at, IsRefused}
 use Rattle.fx_text.specs.Ranges.{is_range, names_between, number_at_end, numbered, stem}
-use Rattle.fx_settings.specs.Items.{item}
+use Rattle.fx_settings.specs.Items.{item_of}
 use Rattle.fx_settings.specs.Factors.{added, are_known, known_at}
 
 module _ (limit : ℕ) (names : List (List ℕ)) (first last : Written)
@@ -31,11 +31,11 @@ module _ (limit : ℕ) (names : List (List ℕ)) (first last : Written)
   counted : length all ≡ number_at_end last.text + 1 - from
   counted = length-map-range_with_len _ _ _
 
-  is_counted : added limit names (item first (Some last)) ≡ by_count (nat_lt limit (length names + length all))
+  is_counted : added limit names (item_of first (Some last)) ≡ by_count (nat_lt limit (length names + length all))
   is_counted = rw regular refl
 
   pub too_many : limit < length names + (number_at_end last.text + 1 - from)
-      → added limit names (item first (Some last)) ≡ Err (refusal_at 10 first)
+      → added limit names (item_of first (Some last)) ≡ Err (refusal_at 10 first)
   too_many h = is_counted ∙ ap by_count (lt-ltb limit (length names + length all) (omega (arith, h, counted)))
 
   module _ (start count : ℕ) (is_start : start ≡ from) (is_count : count ≡ number_at_end last.text + 1 - from)
@@ -43,20 +43,20 @@ module _ (limit : ℕ) (names : List (List ℕ)) (first last : Written)
     new : numbered (stem first.text) start count ≡ all
     new = ap₂ (numbered (stem first.text)) is_start is_count
 
-    fits : added limit names (item first (Some last))
+    fits : added limit names (item_of first (Some last))
         ≡ (if are_known all names then Err (refusal_at 5 first) else Ok (names ++ all))
     fits = is_counted ∙ ap by_count (le-ltb limit (length names + length all) (omega (arith, room, is_count, counted)))
 
     pub is_added : (r : Result (Unit {0}) ParseStop) (more : List (List ℕ))
         → OnOk r (more ≡ names ++ numbered (stem first.text) start count)
         → OnOk r (are_known (numbered (stem first.text) start count) names ≡ false)
-        → OnOk r (added limit names (item first (Some last)) ≡ Ok more)
+        → OnOk r (added limit names (item_of first (Some last)) ≡ Ok more)
     is_added (Ok u) more grown fresh = fits ∙ rw (← new, fresh) (ap Ok (sym grown))
     is_added (Err e) more grown fresh = tt
 
     pub is_refused : (r : Result (Unit {0}) ParseStop)
         → IfErr r (IsRefused (known_at first (are_known (numbered (stem first.text) start count) names)))
-        → IfErr r (IsRefused (added limit names (item first (Some last))))
+        → IfErr r (IsRefused (added limit names (item_of first (Some last))))
     is_refused (Ok u) h = tt
     is_refused (Err stop.NoMemory) h = tt
     is_refused (Err (stop.Refused refusal)) h =

@@ -187,18 +187,21 @@ most_blocks = (refl, refl, refl)
 
 -- what cannot be combined: BLOCKS, and the least size
 not_together :
-    (blocks (codes "2") 3 (codes "blocks nblkfacs=1;") ≡ refused 13 1)
-    × (blocks (codes "2") 3 (codes "model r=max;blocks nblkfacs=1;") ≡ refused 13 13)
+    (blocks (codes "2") 3 (codes "blocks nblkfacs=1;") ≡ Ok (Factors 1))
+    × (blocks (codes "2") 3 (codes "model r=max;blocks nblkfacs=1;") ≡ Ok (Factors 1))
+    × (blocks (codes "2") 3 (codes "blocks size=min;") ≡ refused 13 1)
+    × (blocks (codes "2") 3 (codes "model r=max;blocks nblkfacs=max;") ≡ refused 13 13)
     × (blocks (codes "2") 3 (codes "model r=3/minabs;blocks nblkfacs=1;") ≡ refused 13 18)
     × (blocks (codes "2") 3 (codes "model e=(A);blocks nblkfacs=1;") ≡ Ok (Factors 1))
     × (size (codes "2") 3 (codes "size design=min;") ≡ refused 14 13)
     × (size (codes "2") 3 (codes "size design=min;model r=max;") ≡ refused 14 13)
+    × (size (codes "2") 3 (codes "size design=min;blocks size=2;") ≡ refused 14 13)
     × (size (codes "2") 3 (codes "size design=min;model r=3/minabs;") ≡ refused 14 13)
     × (size (codes "2") 3 (codes "size design=min;model r=3;blocks nblocks=max;") ≡ refused 14 13)
     × (size (codes "2") 3 (codes "size design=min;model e=(A);") ≡ Ok Minimum)
     × (size (codes "2") 3 (codes "size design=8;model r=max;") ≡ Ok (Runs 3))
 unfolding blocks size refused
-not_together = (refl, refl, refl, refl, refl, refl, refl, refl, refl, refl)
+not_together = (refl, refl, refl, refl, refl, refl, refl, refl, refl, refl, refl, refl, refl)
 
 -- NLEV and NODES, and which refusal comes first
 
@@ -230,7 +233,7 @@ in_order :
     ≡ refused_first 8 50)
     × (levels_and_budget (codes "proc factex nodes=1;factors A/nlev=2;size design=2;model r=2;blocks nblocks=3;")
     ≡ refused_first 11 60)
-    × (levels_and_budget (codes "proc factex nodes=1;factors A/nlev=2;size design=min;model r=max;blocks nblocks=3;")
+    × (levels_and_budget (codes "proc factex nodes=1;factors A/nlev=2;size design=min;model r=max;blocks nblocks=max;")
     ≡ refused_first 13 66)
     × (levels_and_budget (codes "proc factex nodes=1;factors A/nlev=2;size design=2;model r=3;blocks nblocks=3;")
     ≡ refused_first 15 77)

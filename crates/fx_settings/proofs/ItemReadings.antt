@@ -15,7 +15,7 @@ use Rattle.fx_text.specs.Phrases.{preceding, has_symbol}
 use Rattle.fx_text.specs.Ranges.{range_end}
 use Rattle.fx_text.specs.Sentences.{symbols_in, IsStatement}
 use Rattle.fx_text.proofs.Lacking.{before_none, before_part}
-use Rattle.fx_settings.specs.Items.{Item, item, items_from}
+use Rattle.fx_settings.specs.Items.{Item, item_of, items_from}
 use Rattle.fx_settings.specs.ItemReadings.{IsItem, IsWrittenAs, AreItems, AreItemsRead}
 
 -- a word is no sign
@@ -46,7 +46,7 @@ name_alone (w ∷ ws) a rest m word h =
     let same : w.symbol ≡ a = cc h in
     record {
       written = w ∷ [];
-      read = item w None;
+      read = item_of w None;
       others = ws;
       is_item = (ap is_word same ∙ word, refl);
       all = refl;
@@ -69,7 +69,7 @@ range (w ∷ v ∷ u ∷ ws) a b c rest m ha hb hc h =
     let third : u.symbol ≡ c = cc h in
     record {
       written = w ∷ v ∷ u ∷ [];
-      read = item w (Some u);
+      read = item_of w (Some u);
       others = ws;
       is_item = (ap is_word first ∙ ha, (v, ap (is symbol.Minus) second ∙ hb, ap is_word third ∙ hc, refl));
       all = refl;
@@ -144,7 +144,7 @@ read_again (p ∷ written) (i ∷ read) h = by_last i.last h.0.1 ∙ ap (λ l. i
     rest = flat_map (λ (part : List Written). part) written
 
     by_last : (last : Option Written) → IsWrittenAs p i.first last
-        → items_from false (p ++ rest) ≡ item i.first last ∷ items_from false rest
+        → items_from false (p ++ rest) ≡ item_of i.first last ∷ items_from false rest
     by_last None e = rw e (rw (no_sign symbol.Minus i.first.symbol refl h.0.0, no_range written read h.1) refl)
     by_last (Some last) (minus, hm, hl, e) =
         rw e (rw (no_sign symbol.Minus i.first.symbol refl h.0.0, hm, no_sign symbol.Minus last.symbol refl hl) refl)

@@ -6,7 +6,7 @@ use Rattle.fx_language.specs.declared.symbol.Symbol.TheVariants.{Minus, Slash}
 use Rattle.fx_language.specs.Symbols.{is}
 use Rattle.fx_text.specs.Written.{Written}
 use Rattle.fx_text.specs.Ranges.{range_end}
-use Rattle.fx_settings.specs.Items.{Item, item, items_from, items_of, is_regular, names_of}
+use Rattle.fx_settings.specs.Items.{Item, item_of, items_from, items_of, is_regular, names_of}
 use Rattle.fx_settings.specs.Factors.{are_known, added, all_added, names_of_factors}
 use Rattle.fx_text.proofs.Placed as placed
 use Rattle.fx_text.proofs.Placed.{IsPlaced, ArePlaced, Placed}
@@ -20,7 +20,7 @@ module _ (P : ℕ → ℕ → Type 0) where
       by_test : (b : Bool) → AllByRecursion (λ (i : Item). IsPlaced P i.first) (items_from (is Minus w.symbol) rest)
           → AllByRecursion (λ (i : Item). IsPlaced P i.first)
           (if b then items_from (is Minus w.symbol) rest
-          else item w (range_end rest) ∷ items_from (is Minus w.symbol) rest)
+          else item_of w (range_end rest) ∷ items_from (is Minus w.symbol) rest)
       by_test true later = later
       by_test false later = (h.0, later)
 

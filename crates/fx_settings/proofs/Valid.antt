@@ -96,7 +96,11 @@ all_kept s said
     let numbers = and_from _ _ (not-false _ level) (not-false _ budget) in
     let sized = and_from _ _ numbers (size_fits q (run_factors_of q s said.size) some few) in
     let judged = and_from _ _ sized (not-false _ criterion) in
-    let apart = ap (λ b. not (b && (least || highest))) same.0 ∙ ap not maximum in
+    let apart =
+    ap (λ b. not
+    (b && (least || (highest && has_most (blocks_of q size said.blocks (block_factors_of q size said.blocks))))))
+    same.0
+    ∙ ap (λ b. not (is_some said.blocks && (least || (highest && b)))) same.1 ∙ ap not maximum in
     let small = ap (λ b. not (is_minimum size && (highest || least || b))) same.1 ∙ ap not minimum in
     and_from _ _ (and_from _ _ judged (blocks_fit q size said.blocks several few_blocks))
     (and_from _ _ (and_from _ _ (ap not effects) apart) small)

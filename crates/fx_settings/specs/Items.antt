@@ -12,15 +12,15 @@ pub record Item : Type 0 where
   pub last : Option Written
 
 -- an item by its parts
-abbrev pub item : Written → Option Written → Item
-item first last = record { first = first; last = last }
+abbrev pub item_of : Written → Option Written → Item
+item_of first last = record { first = first; last = last }
 
 -- the items, where `-` precedes the first lexeme or not: all that is neither `-` nor after one begins an item
 abbrev pub items_from : Bool → List Written → List Item
 items_from behind_minus [] = []
 items_from behind_minus (w ∷ rest) =
     if behind_minus || is Minus w.symbol then items_from (is Minus w.symbol) rest
-    else item w (range_end rest) ∷ items_from (is Minus w.symbol) rest
+    else item_of w (range_end rest) ∷ items_from (is Minus w.symbol) rest
 
 -- the items of a FACTORS statement
 abbrev pub items_of : List Written → List Item
@@ -33,7 +33,7 @@ is_regular_from first (Some last) = is_range first.text last.text
 
 -- whether an item can represent names
 abbrev pub is_regular : Item → Bool
-is_regular item = is_regular_from item.first item.last
+is_regular item_of = is_regular_from item_of.first item_of.last
 
 -- one name, or those of a range
 abbrev pub names_from : Written → Option Written → List (List ℕ)
@@ -42,4 +42,4 @@ names_from first (Some last) = names_between first.text last.text
 
 -- the names that an item represents
 abbrev pub names_of : Item → List (List ℕ)
-names_of item = names_from item.first item.last
+names_of item_of = names_from item_of.first item_of.last

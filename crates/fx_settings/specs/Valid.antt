@@ -39,12 +39,12 @@ has_most (blocks.Factors t) = false
 has_most (blocks.PerBlock k) = false
 has_most blocks.Most = true
 
--- What goes together: least aberration not with effects; blocks neither with least aberration nor with the highest
--- resolution; and the least size with none of these and not with the most blocks.
+-- What goes together: least aberration not with effects; blocks not with least aberration, and the most blocks not with
+-- the highest resolution; and the least size with neither of these and not with the most blocks.
 abbrev pub stand_together : Size → Criterion → Bool → Blocks → Bool
 stand_together size criterion least given =
     not (least && is_effects criterion)
-    && not (has_blocks given && (least || is_highest criterion))
+    && not (has_blocks given && (least || (is_highest criterion && has_most given)))
     && not (is_minimum size && (is_highest criterion || least || has_most given))
 
 -- the settings keep every rule that speaks of them alone

@@ -6,7 +6,7 @@ ghost use Rattle.fx_language.specs.Symbols.{is};
 ghost use Rattle.fx_text.specs.Names.{is_same_name};
 ghost use Rattle.fx_text.specs.Refusals.{IsRefused};
 ghost use Rattle.fx_text.specs.Ranges.{numbered, range_end, stem};
-ghost use Rattle.fx_settings.specs.Items.{item};
+ghost use Rattle.fx_settings.specs.Items.{item_of};
 ghost use Rattle.fx_settings.specs.Factors.{added, are_known, names_of_factors, known_at};
 
 use fx_base::{Bytes, NoMemory};
@@ -53,12 +53,12 @@ fn add(
     requires { length names.old ≤ limit }
     ensures added { OnOk result
         (added limit names.old
-        (item first.now (option_map (λ w. w.now) last.entry))
+        (item_of first.now (option_map (λ w. w.now) last.entry))
         ≡ Ok names.new) }
     ensures refused { IfErr result
         (IsRefused
         (added limit names.old
-        (item first.now (option_map (λ w. w.now) last.entry)))) }
+        (item_of first.now (option_map (λ w. w.now) last.entry)))) }
     ensures bound { OnOk result (length names.new ≤ limit) }
 {
     match last {
@@ -74,8 +74,8 @@ fn add_name(
     name: &Lexeme<'_>,
 ) -> Result<(), ParseStop>
     requires { length names.old ≤ limit }
-    ensures added { OnOk result (added limit names.old (item name.now None) ≡ Ok names.new) }
-    ensures refused { IfErr result (IsRefused (added limit names.old (item name.now None))) }
+    ensures added { OnOk result (added limit names.old (item_of name.now None) ≡ Ok names.new) }
+    ensures refused { IfErr result (IsRefused (added limit names.old (item_of name.now None))) }
     ensures bound { OnOk result (length names.new ≤ limit) }
 {
     if limit <= names.len() {
@@ -97,9 +97,9 @@ fn add_range(
 ) -> Result<(), ParseStop>
     requires { length names.old ≤ limit }
     ensures added { OnOk result
-        (added limit names.old (item first.now (Some last.now)) ≡ Ok names.new) }
+        (added limit names.old (item_of first.now (Some last.now)) ≡ Ok names.new) }
     ensures refused { IfErr result
-        (IsRefused (added limit names.old (item first.now (Some last.now)))) }
+        (IsRefused (added limit names.old (item_of first.now (Some last.now)))) }
     ensures bound { OnOk result (length names.new ≤ limit) }
 {
     let (low, high) = (first.text(), last.text());

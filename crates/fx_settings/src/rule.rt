@@ -96,11 +96,12 @@ fn minabs_with_effects(said: StepSaid) -> bool
     least_of(said.model) && has_effects(said.model)
 }
 
-/// BLOCKS with MINABS or with the highest resolution.
+/// BLOCKS with MINABS, or the most blocks with the highest resolution.
 fn blocks_with_maximum(said: StepSaid) -> bool
     ensures { result ≡ blocks_with_maximum said }
 {
-    said.blocks.is_some() && (least_of(said.model) || has_highest(said.model))
+    said.blocks.is_some()
+        && (least_of(said.model) || has_highest(said.model) && are_most(said.blocks))
 }
 
 /// The least size with the highest resolution, with MINABS or with the most blocks.

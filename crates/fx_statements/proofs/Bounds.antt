@@ -1,11 +1,13 @@
 -- What the settings of a step leave of its numbers.
-use Rattle.std.proofs.Common.{◌≡◌, ℕ, ◌^◌, ◌≤◌, Bool, true, false, not, ◌&&◌, ◌||◌, List, [], ◌∷◌, Option, Some, None}
+use Rattle.std.proofs.Common.{◌≡◌, ℕ, ◌^◌, ◌<◌, ◌≤◌, Bool, true, false, not, ◌&&◌, ◌||◌, List, [], ◌∷◌, Option, Some}
+use Rattle.std.proofs.Common.{None}
 use Rattle.std.proofs.Common.{Ok, refl, sym, ap, subst, ◌∙◌, inl, inr, arith}
 use Rattle.std.specs.Prelude.{nat_le, nat_lt, ◌==◌, is_some, if◌then◌else◌}
 use Rattle.std.specs.List.{list_all, list_any}
 use Rattle.std.specs.Option.{option_and_then}
 use Rattle.std.proofs.lemmas.Bool.{leb-true, le-leb, ltb-false, eqb-true, not-true, and_from, and_parts, cases_Bool}
 use Rattle.std.proofs.Math.Nat.{pow-le-pow_right}
+use Rattle.std.proofs.lemmas.Bool.{ne_eqb}
 use Rattle.fx_settings.specs.declared.settings.StepSettings.{StepSettings}
 use Rattle.fx_settings.specs.declared.settings.Size.{Size}
 use Rattle.fx_settings.specs.declared.settings.Size.TheVariants.{Runs, Minimum}
@@ -13,7 +15,8 @@ use Rattle.fx_settings.specs.declared.settings.Blocks.{Blocks}
 use Rattle.fx_settings.specs.declared.settings.Criterion.{Criterion}
 use Rattle.fx_settings.specs.declared.settings.Blocks.TheVariants.{Factors}
 use Rattle.fx_settings.specs.Blocks.{block_factors_of, blocks_of}
-use Rattle.fx_settings.specs.Settings.{block_rules, divided, is_level, step_settings_of}
+use Rattle.fx_settings.specs.Settings.{block_rules, divided, is_level, step_settings_of, levels_of, rules, undivided}
+use Rattle.fx_settings.specs.Settings.{unblocked_of}
 use Rattle.fx_settings.specs.Valid.{are_valid, is_size, are_blocks, has_blocks}
 use Rattle.fx_settings.specs.declared.said.StepSaid.{StepSaid}
 use Rattle.fx_settings.specs.Said.{blocks_said, step_said}
@@ -23,8 +26,10 @@ use Rattle.fx_settings.proofs.Rules.{accepted}
 use Rattle.fx_language.specs.declared.symbol.Symbol.TheVariants as word
 use Rattle.fx_statements.specs.declared.wanted.Wanted.{Wanted}
 use Rattle.fx_statements.specs.Goals.{criterion_wanted}
-use Rattle.fx_statements.specs.Valid.{is_count, settings_in}
+use Rattle.fx_statements.specs.Valid.{is_count, settings_in, most_factors_of}
 use Rattle.fx_statements.specs.Steps.{factor_limit}
+use Rattle.fx_vectors.specs.declared.shape.TheConstants.{MOST_FACTORS, MOST_FACTORS_IN_BLOCKS}
+use Rattle.fx_vectors.specs.declared.shape.TheConstants.{MOST_FACTORS_OF_MANY_LEVELS}
 
 -- a number among some, each of which is from 2 to 9
 among : (levels : List ℕ) (q : ℕ) → list_all (λ x. nat_le 2 x && nat_le x 9) levels ≡ true
@@ -82,20 +87,49 @@ pub unsaid : (proc named : List Written) (statements : List (List Written)) (sai
     → said ≡ step_said proc named statements → statement_of word.Blocks statements ≡ None → said.blocks ≡ None
 unsaid proc named statements said is none = ap (λ (x : StepSaid). x.blocks) is ∙ ap (option_and_then blocks_said) none
 
-no_more : (b : Bool) (found : Option (List Written)) (n : ℕ) → (found ≡ None → b ≡ false) → 1 ≤ n
-    → n ≤ (if is_some found then 30 else 40)
-    → (nat_le 1 n && nat_le n (if b then 30 else 40)) ≡ true
-no_more true None n h one few = absurd (let f : true ≡ false = h refl in cc)
-no_more true (Some s) n h one few = and_from (nat_le 1 n) (nat_le n 30) (le-leb 1 n one) (le-leb n 30 few)
-no_more false None n h one few = and_from (nat_le 1 n) (nat_le n 40) (le-leb 1 n one) (le-leb n 40 few)
-no_more false (Some s) n h one few =
-    and_from (nat_le 1 n) (nat_le n 40) (le-leb 1 n one) (le-leb n 40 (omega (arith, few)))
+many_levels : (q : ℕ) → 3 < q → ((q == 2) || (q == 3)) ≡ false
+many_levels q many =
+    rw (ne_eqb q 2 (λ e. absurd (omega (arith, e, many))), ne_eqb q 3 (λ e. absurd (omega (arith, e, many)))) refl
 
-pub counted : (statements : List (List Written)) (s : ℕ) (given : Blocks)
+-- the greatest of these limits, the one for many levels, and the least
+pub most_of_all : (q : ℕ) (b : Bool) → most_factors_of q b ≤ MOST_FACTORS
+most_of_all q true = omega arith
+most_of_all q false =
+    elim ((q == 2) || (q == 3)) as (λ c. (if c then MOST_FACTORS else MOST_FACTORS_OF_MANY_LEVELS) ≤ MOST_FACTORS) [
+      | true ↦ omega arith
+      | false ↦ omega arith
+    ]
+
+pub most_of_many : (q : ℕ) (b : Bool) → 3 < q → most_factors_of q b ≤ MOST_FACTORS_OF_MANY_LEVELS
+most_of_many q true many = omega arith
+most_of_many q false many = rw (many_levels q many) (omega arith)
+
+fewest_in_blocks : (q : ℕ) → MOST_FACTORS_IN_BLOCKS ≤ most_factors_of q false
+fewest_in_blocks q =
+    elim ((q == 2) || (q == 3)) as
+    (λ c. MOST_FACTORS_IN_BLOCKS ≤ (if c then MOST_FACTORS else MOST_FACTORS_OF_MANY_LEVELS)) [
+      | true ↦ omega arith
+      | false ↦ omega arith
+    ]
+
+no_more : (q : ℕ) (b : Bool) (found : Option (List Written)) (n : ℕ) → (found ≡ None → b ≡ false) → 1 ≤ n
+    → n ≤ most_factors_of q (is_some found) → (nat_le 1 n && nat_le n (most_factors_of q b)) ≡ true
+no_more q true None n h one few = absurd (let f : true ≡ false = h refl in cc)
+no_more q true (Some s) n h one few = and_from (nat_le 1 n) _ (le-leb 1 n one) (le-leb n _ few)
+no_more q false None n h one few = and_from (nat_le 1 n) _ (le-leb 1 n one) (le-leb n _ few)
+no_more q false (Some s) n h one few =
+    and_from (nat_le 1 n) _ (le-leb 1 n one) (le-leb n _ (omega (arith, few, fewest_in_blocks q)))
+
+pub counted : (q : ℕ) (statements : List (List Written)) (s : ℕ) (given : Blocks)
     → (statement_of word.Blocks statements ≡ None → has_blocks given ≡ false)
-    → 1 ≤ s → s ≤ factor_limit statements → is_count s given ≡ true
-counted statements s given without one few =
-    no_more (has_blocks given) (statement_of word.Blocks statements) s without one few
+    → 1 ≤ s → s ≤ most_factors_of q (is_some (statement_of word.Blocks statements)) → is_count q s given ≡ true
+counted q statements s given without one few =
+    no_more q (has_blocks given) (statement_of word.Blocks statements) s without one few
+
+-- what is judged before the blocks has the levels that the step says
+pub levels_said : (s : ℕ) (said : StepSaid) (x : StepSettings) → unblocked_of s said ≡ Ok x → x.q ≡ levels_of said
+levels_said s said x e =
+    subst (λ (y : StepSettings). y.q ≡ levels_of said) (accepted (rules s said) (undivided s said) x e).1 refl
 
 -- what blocks leave of the other settings
 pub kept : (first : StepSettings) (said : StepSaid) (x : StepSettings) → step_settings_of first said ≡ Ok x

@@ -6,6 +6,7 @@ use Rattle.std.proofs.lemmas.Bool.{cases_lt, lt-ltb}
 use Rattle.std.proofs.Math.Nat.{div-eq_of_eq-mul_left, div-le_self, mul-le-mul, pow-suc, pow-zero}
 use Rattle.std.proofs.Math.Numerals.{add-one}
 use Rattle.fx_designs.specs.Components.{choose, component_count, listed_count}
+use Rattle.fx_vectors.specs.declared.shape.TheConstants.{MOST_FACTORS}
 
 -- a set of k and one more, in k + 1 ways
 choose_next : (n k : ℕ) → suc k * choose n (suc k) ≡ (n - k) * choose n k
@@ -85,9 +86,10 @@ are_many q s k d below many =
     lt-ltb 100000 (listed_count q s d) (omega (arith, h, many))
 
 -- a number that stays small
-pub small_next : (next r x k n : ℕ) → n ≡ next * r * x / (k + 2) → next ≤ 100000 → r ≤ 40 → x ≤ 8 → n ≤ 32000000
+pub small_next : (next r x k n : ℕ) → n ≡ next * r * x / (k + 2) → next ≤ 100000 → r ≤ MOST_FACTORS → x ≤ 8
+    → n ≤ 32000000
 small_next next r x k n is few left levels =
-    let a : next * r ≤ 100000 * 40 = mul-le-mul few left in
-    let b : next * r * x ≤ 100000 * 40 * 8 = mul-le-mul a levels in
+    let a : next * r ≤ 100000 * MOST_FACTORS = mul-le-mul few left in
+    let b : next * r * x ≤ 100000 * MOST_FACTORS * 8 = mul-le-mul a levels in
     let c : next * r * x / (k + 2) ≤ next * r * x = div-le_self (next * r * x) (k + 2) in
     omega (arith, is, b, c)

@@ -17,7 +17,8 @@ use Rattle.fx_statements.specs.Steps.{Meaning}
 use Rattle.fx_statements.specs.Questions.{Answered, Conclusion, Found, Questions, Turn, Unanswered, Until, asked}
 use Rattle.fx_statements.specs.Questions.{concluded, conclusion_by, conclusion_of, cut_short, found_by, highest}
 use Rattle.fx_statements.specs.Questions.{is_last, last_found, last_of, left_at, lowest, nodes_of, outcome_of, passes}
-use Rattle.fx_statements.specs.Questions.{question_for, questions_of, series, turns, up_to}
+use Rattle.fx_statements.specs.Questions.{question_for, questions_of, reached_at, resolution_wanted, series, turns}
+use Rattle.fx_statements.specs.Questions.{up_to}
 
 -- the question for n was answered with these rows
 pub record IsFoundAt (question : ℕ → Problem) (found : Found) (n : ℕ) : Type 0 where
@@ -213,24 +214,27 @@ module _ (rows : List ℕ) (count : ℕ) where
     pub found : Found
     pub last : last_found None ps ≡ Some found
     pub dimensions : conclusion.dimensions ≡ found.question.dimensions
+    pub reached : conclusion.reached ≡ resolution_wanted found.question.requirement
     pub rows_are : found.rows ≡ rows
 
-  not_cut_short : (p : Problem) (left : Option Found) (budget : ℕ)
-      → HasEnding (cut_short p left budget) (Design rows count) → ⊥
-  not_cut_short p None budget e = cc e
-  not_cut_short p (Some found) budget e = cc e
+  not_cut_short : (p : Problem) (left : Option Found) (reached budget : ℕ)
+      → HasEnding (cut_short p left reached budget) (Design rows count) → ⊥
+  not_cut_short p None reached budget e = cc e
+  not_cut_short p (Some found) reached budget e = cc e
 
   by_found : (p : Problem) (ps : List Problem) (n : ℕ) (found : Option Found) → last_found None ps ≡ found
       → HasEnding (concluded p found n) (Design rows count)
       → IsLastFound ps (concluded p found n)
   by_found p ps n None is e = absurd (cc e)
-  by_found p ps n (Some found) is e = record { found = found; last = is; dimensions = refl; rows_are = cc e }
+  by_found p ps n (Some found) is e =
+      record { found = found; last = is; dimensions = refl; reached = refl; rows_are = cc e }
 
   by_turn : (p : Problem) (ps : List Problem) (budget : ℕ) (turn : Option Turn)
       → HasEnding (conclusion_by p ps budget turn) (Design rows count)
       → IsLastFound ps (conclusion_by p ps budget turn)
   by_turn p ps budget None e = by_found p ps (nodes_of ps) (last_found None ps) refl e
-  by_turn p ps budget (Some turn) e = absurd (not_cut_short turn.question (left_at budget turn) budget e)
+  by_turn p ps budget (Some turn) e =
+      absurd (not_cut_short turn.question (left_at budget turn) (reached_at budget turn) budget e)
 
   design-found : (questions : Questions) (budget : ℕ) → HasEnding (conclusion_of questions budget) (Design rows count)
       → IsLastFound (asked questions) (conclusion_of questions budget)
@@ -239,10 +243,10 @@ module _ (rows : List ℕ) (count : ℕ) where
       by_turn (last_of questions.first (asked questions)) (asked questions) budget
       (find (passes budget) (turns [] (asked questions))) e
 
-not_cut : (count : ℕ) (p : Problem) (left : Option Found) (budget : ℕ)
-    → HasEnding (cut_short p left budget) (NoDesign count) → ⊥
-not_cut count p None budget e = cc e
-not_cut count p (Some found) budget e = cc e
+not_cut : (count : ℕ) (p : Problem) (left : Option Found) (reached budget : ℕ)
+    → HasEnding (cut_short p left reached budget) (NoDesign count) → ⊥
+not_cut count p None reached budget e = cc e
+not_cut count p (Some found) reached budget e = cc e
 
 none_by_found : (count : ℕ) (p : Problem) (n : ℕ) (found : Option Found)
     → HasEnding (concluded p found n) (NoDesign count) → found ≡ None
@@ -253,7 +257,8 @@ none_by_turn : (count : ℕ) (p : Problem) (ps : List Problem) (budget : ℕ) (t
     → HasEnding (conclusion_by p ps budget turn) (NoDesign count)
     → last_found None ps ≡ None
 none_by_turn count p ps budget None e = none_by_found count p (nodes_of ps) (last_found None ps) e
-none_by_turn count p ps budget (Some turn) e = absurd (not_cut count turn.question (left_at budget turn) budget e)
+none_by_turn count p ps budget (Some turn) e =
+    absurd (not_cut count turn.question (left_at budget turn) (reached_at budget turn) budget e)
 
 none-found : (count : ℕ) (questions : Questions) (budget : ℕ)
     → HasEnding (conclusion_of questions budget) (NoDesign count)
@@ -269,9 +274,10 @@ module _ (question : ℕ → Problem) (low high : ℕ) (ends : Until) (budget : 
   abbrev outcome : Conclusion
   outcome = conclusion_of (series question low high ends) budget
 
-  -- these rows are the answer of the question for n, and of its dimensions
+  -- these rows are the answer of the question for n, and of its dimensions; and its resolution is reached
   pub record IsAnswerOf (rows : List ℕ) (n : ℕ) : Type 0 where
     pub dimensions : outcome.dimensions ≡ (question n).dimensions
+    pub reached : outcome.reached ≡ resolution_wanted (question n).requirement
     pub answer_is : answer (question n) ≡ Some rows
 
   answer_of : (rows : List ℕ) (count n : ℕ)
@@ -279,6 +285,7 @@ module _ (question : ℕ → Problem) (low high : ℕ) (ends : Until) (budget : 
       → IsFoundAt question last.found n → IsAnswerOf rows n
   answer_of rows count n last at = record {
     dimensions = last.dimensions ∙ ap (λ (p : Problem). p.dimensions) at.question_is;
+    reached = last.reached ∙ ap (λ (p : Problem). resolution_wanted p.requirement) at.question_is;
     answer_is = at.answer_is ∙ ap Some last.rows_are;
   }
 
@@ -409,7 +416,9 @@ within questions budget few =
     (all_within budget [] (asked questions) (let none : nodes_of [] ≡ 0 = refl in omega (arith, few, none)))
 
 pub passed : (questions : Questions) (budget : ℕ) → budget < nodes_of (asked questions)
-    → (turn : Turn) × (conclusion_of questions budget ≡ cut_short turn.question (left_at budget turn) budget)
+    → (turn : Turn)
+    × (conclusion_of questions budget
+    ≡ cut_short turn.question (left_at budget turn) (reached_at budget turn) budget)
 unfolding conclusion_of
 passed questions budget more =
     let none : nodes_of [] ≡ 0 = refl in
@@ -473,10 +482,10 @@ module _ (P : Problem → Type 0) where
   in_concluded p None count one before = (p, one, refl)
   in_concluded p (Some found) count one before = (found.question, before, refl)
 
-  in_cut_short : (p : Problem) (left : Option Found) (budget : ℕ) → P p → IfFound left
-      → OneWith (cut_short p left budget).dimensions
-  in_cut_short p None budget one before = (p, one, refl)
-  in_cut_short p (Some found) budget one before = (found.question, before, refl)
+  in_cut_short : (p : Problem) (left : Option Found) (reached budget : ℕ) → P p → IfFound left
+      → OneWith (cut_short p left reached budget).dimensions
+  in_cut_short p None reached budget one before = (p, one, refl)
+  in_cut_short p (Some found) reached budget one before = (found.question, before, refl)
 
   in_conclusion : (p : Problem) (ps : List Problem) (budget : ℕ) (turn : Option Turn) → P p → AllByRecursion P ps
       → ((own : Turn) → turn ≡ Some own → InTurn own) → OneWith (conclusion_by p ps budget turn).dimensions
@@ -484,7 +493,7 @@ module _ (P : Problem → Type 0) where
       in_concluded p (last_found None ps) (nodes_of ps) one (kept_found None ps tt all)
   in_conclusion p ps budget (Some turn) one all each =
       let here = each turn refl in
-      in_cut_short turn.question (left_at budget turn) budget here.1
+      in_cut_short turn.question (left_at budget turn) (reached_at budget turn) budget here.1
       (kept_by_answer (last_found None turn.earlier) turn.question _ (kept_found None turn.earlier tt here.0) here.1)
 
   pub each_asked : (questions : Questions) → P questions.first → AllByRecursion P questions.others

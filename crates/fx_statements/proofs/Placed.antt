@@ -120,9 +120,9 @@ module _ (P : ℕ → ℕ → Type 0) (front : P 1 1) where
           → Placed P (step_by earlier statements named)
       of_factors None k = placed.here P 7 (start_of (head_of statements)) refl start
       of_factors (Some named) k =
-          placed.chain P (factors_by (start_of (head_of statements)) (factor_limit statements) named) _
-          (placed.chain P (names_of_factors (factor_limit statements) named) _
-          (factors.factors P (factor_limit statements) named k)
+          placed.chain P (factors_by (start_of (head_of statements)) (factor_limit named statements) named) _
+          (placed.chain P (names_of_factors (factor_limit named statements) named) _
+          (factors.factors P (factor_limit named statements) named k)
           (λ names. some (start_of (head_of statements)) names start)) (λ names.
           placed.chain P (asked_by names (step_said (head_of statements) named statements) statements) _
           (asked names (step_said (head_of statements) named statements) statements

@@ -9,12 +9,13 @@ use Rattle.fx_language.specs.declared.symbol.Symbol.TheVariants as symbol
 use Rattle.fx_language.specs.Symbols.{is}
 use Rattle.fx_language.specs.Shapes.{Shape, Empty, One, Before, Either, Many, Matches}
 use Rattle.fx_language.specs.Grammar as grammar
+use Rattle.fx_language.proofs.Lacking.{none}
 use Rattle.fx_text.specs.Written.{Written, begins}
 use Rattle.fx_text.specs.Phrases.{after, preceding, has_symbol}
 use Rattle.fx_effects.specs.Models.{first_or, lists_at, lists_after, lists_of}
 use Rattle.fx_text.specs.Sentences.{IsStatement}
 use Rattle.fx_text.proofs.Cut.{cut, nothing}
-use Rattle.fx_text.proofs.Lacking.{none, any_written, after_part, before_part}
+use Rattle.fx_text.proofs.Lacking.{any_written, after_part, before_part}
 use Rattle.fx_settings.proofs.Readings.{turned}
 use Rattle.fx_statements.specs.Readings.{HasList, IsSecondRead, IsModelRead}
 

@@ -68,7 +68,7 @@ module _ (statements : List (List Written)) (i len : ℕ) (d : List Written) (h 
 -- one step, from its parts
 module _ (earlier : List (List ℕ)) (statements : List (List Written)) (named : List Written) (factors : List (List ℕ))
     (settings : StepSettings) (wanted : Wanted) (outputs : List OutputSpec)
-    (is_named : factors_by (start_of (head_of statements)) (factor_limit statements) named ≡ Ok factors)
+    (is_named : factors_by (start_of (head_of statements)) (factor_limit named statements) named ≡ Ok factors)
     (is_asked : asked_by factors (step_said (head_of statements) named statements) statements
     ≡ Ok (settings, goal_of wanted))
     (are_outputs : outputs_of (context factors settings) earlier statements ≡ Ok outputs) where
@@ -99,7 +99,8 @@ module _ (earlier : List (List ℕ)) (statements : List (List Written)) (named :
 
 -- a step whose settings are refused
 pub settings_refused : (earlier : List (List ℕ)) (statements : List (List Written)) (named : List Written)
-    (factors : List (List ℕ)) → factors_by (start_of (head_of statements)) (factor_limit statements) named ≡ Ok factors
+    (factors : List (List ℕ))
+    → factors_by (start_of (head_of statements)) (factor_limit named statements) named ≡ Ok factors
     → (reason : ParseStop)
     → IsRefused (asked_by factors (step_said (head_of statements) named statements) statements) reason
     → IsRefused (step_by earlier statements (Some named)) reason
@@ -109,7 +110,7 @@ settings_refused earlier statements named factors is_named reason h =
 -- a step whose outputs are refused
 module _ (earlier : List (List ℕ)) (statements : List (List Written)) (named : List Written) (factors : List (List ℕ))
     (settings : StepSettings) (wanted : Wanted)
-    (is_named : factors_by (start_of (head_of statements)) (factor_limit statements) named ≡ Ok factors)
+    (is_named : factors_by (start_of (head_of statements)) (factor_limit named statements) named ≡ Ok factors)
     (is_asked : asked_by factors (step_said (head_of statements) named statements) statements
     ≡ Ok (settings, goal_of wanted)) where
   pub outputs_refused : (reason : ParseStop)

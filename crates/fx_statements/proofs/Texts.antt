@@ -68,17 +68,23 @@ irregular_ranges :
 unfolding factors refused_at
 irregular_ranges = (refl, refl, refl, refl, refl)
 
--- a name again, in another spelling or in a range; more than 40 factors, or than 30 with BLOCKS
+-- a name again, in another spelling or in a range; more factors than there may be: 63 at two and three levels, 40 at
+-- others, which are judged before they are refused, and 30 with BLOCKS
 names_and_limits :
     (factors (codes "proc factex;factors A a;") ≡ refused_at 5 23)
     × (factors (codes "proc factex;factors X2 X1-X3;") ≡ refused_at 5 24)
-    × (factors (codes "proc factex;factors X1-X41;") ≡ refused_at 10 21)
-    × (factors (codes "proc factex;factors X1-X40;") ≡ refused_at 9 13)
+    × (factors (codes "proc factex;factors X1-X64;") ≡ refused_at 10 21)
+    × (factors (codes "proc factex;factors X1-X63;") ≡ refused_at 9 13)
+    × (factors (codes "proc factex;factors X1-X64/nlev=3;") ≡ refused_at 10 21)
+    × (factors (codes "proc factex;factors X1-X63/nlev=3;") ≡ refused_at 9 13)
+    × (factors (codes "proc factex;factors X1-X41/nlev=4;") ≡ refused_at 10 21)
+    × (factors (codes "proc factex;factors X1-X40/nlev=4;") ≡ refused_at 9 13)
+    × (factors (codes "proc factex;factors X1-X41/nlev=1;") ≡ refused_at 10 21)
     × (factors (codes "proc factex;factors X1-X31;blocks size=2;model r=3;size design=8;") ≡ refused_at 10 21)
     × (factors (codes "proc factex;factors X1-X30;blocks size=8;model r=3;size design=8;") ≡ refused_at 15 40)
     × (factors (codes "proc factex;model r=3;") ≡ refused_at 7 1)
 unfolding factors refused_at
-names_and_limits = (refl, refl, refl, refl, refl, refl, refl)
+names_and_limits = (refl, refl, refl, refl, refl, refl, refl, refl, refl, refl, refl, refl)
 
 -- effects that are joined by bars: all unions, those of at most so many factors, with products among the parts; fewer
 -- factors first, then by the places of the factors

@@ -163,22 +163,38 @@ abbrev pub last_of : Problem → List Problem → Problem
 last_of p [] = p
 last_of p (next ∷ others) = last_of next others
 
--- The outcome of a step: how it ends, and the dimensions of the matrix or, where there is none, of the last question
--- that is asked.
+-- The outcome of a step: how it ends; the dimensions of the matrix or, where there is none, of the last question that
+-- is asked; and the resolution that was reached, that of the question whose answer the matrix is, or else 0.
 pub record Conclusion : Type 0 where
   pub dimensions : Dimensions
   pub ending : Ending
+  pub reached : ℕ
+
+-- the resolution that a question asks for, or 0 where it asks for effects
+abbrev pub resolution_wanted : Requirement → ℕ
+resolution_wanted (AtResolution r) = r
+resolution_wanted (problems.ForEffects estimate besides) = 0
+
+-- that of the question that was answered
+abbrev pub reached_by : Option Found → ℕ
+reached_by None = 0
+reached_by (Some found) = resolution_wanted found.question.requirement
 
 -- after so many nodes in all, with the last design that was found or, where the last question is p, with none
 abbrev pub concluded : Problem → Option Found → ℕ → Conclusion
-concluded p None count = record { dimensions = p.dimensions; ending = NoDesign count }
-concluded p (Some found) count = record { dimensions = found.question.dimensions; ending = Design found.rows count }
+concluded p None count = record { dimensions = p.dimensions; ending = NoDesign count; reached = 0 }
+concluded p (Some found) count = record {
+  dimensions = found.question.dimensions;
+  ending = Design found.rows count;
+  reached = resolution_wanted found.question.requirement;
+}
 
--- where the budget ended in the question p: with what was found by then
-abbrev pub cut_short : Problem → Option Found → ℕ → Conclusion
-cut_short p None budget = record { dimensions = p.dimensions; ending = BudgetEnded None budget }
-cut_short p (Some found) budget =
-    record { dimensions = found.question.dimensions; ending = BudgetEnded (Some found.rows) budget }
+-- where the budget ended in the question p: with what was found by then, and the resolution that was reached
+abbrev pub cut_short : Problem → Option Found → ℕ → ℕ → Conclusion
+cut_short p None reached budget =
+    record { dimensions = p.dimensions; ending = BudgetEnded None budget; reached = reached }
+cut_short p (Some found) reached budget =
+    record { dimensions = found.question.dimensions; ending = BudgetEnded (Some found.rows) budget; reached = reached }
 
 -- what was found where the budget ended: the matrix that the search of the last question carries, else the last design
 -- of those before
@@ -186,10 +202,20 @@ abbrev pub left_at : ℕ → Turn → Option Found
 left_at budget turn =
     found_by (last_found None turn.earlier) turn.question (carried turn.question (budget - nodes_of turn.earlier))
 
+-- a matrix that a search carries need not be an answer; where there is none, what was found before is one
+abbrev pub reached_beside : Option (List ℕ) → Option Found → ℕ
+reached_beside None before = reached_by before
+reached_beside (Some rows) before = 0
+
+-- the resolution that was reached where the budget ended
+abbrev pub reached_at : ℕ → Turn → ℕ
+reached_at budget turn =
+    reached_beside (carried turn.question (budget - nodes_of turn.earlier)) (last_found None turn.earlier)
+
 -- the outcome of the questions that are asked, the last of which is p, by the first with which the budget is passed
 abbrev pub conclusion_by : Problem → List Problem → ℕ → Option Turn → Conclusion
 conclusion_by p ps budget None = concluded p (last_found None ps) (nodes_of ps)
-conclusion_by p ps budget (Some turn) = cut_short turn.question (left_at budget turn) budget
+conclusion_by p ps budget (Some turn) = cut_short turn.question (left_at budget turn) (reached_at budget turn) budget
 
 -- the outcome of questions within a budget
 unfoldable pub conclusion_of : Questions → ℕ → Conclusion
@@ -203,4 +229,5 @@ outcome_of step = conclusion_of (questions_of step) step.settings.budget
 
 -- that which an outcome states
 abbrev pub conclusion_in : Outcome → Conclusion
-conclusion_in outcome = record { dimensions = dimensions_of outcome.shape; ending = ending_in outcome }
+conclusion_in outcome =
+    record { dimensions = dimensions_of outcome.shape; ending = ending_in outcome; reached = outcome.reached }

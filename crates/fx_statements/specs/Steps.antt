@@ -13,16 +13,16 @@ use Rattle.fx_text.specs.Refusals.{refused_at, ◌>>=◌}
 use Rattle.fx_settings.specs.Factors.{names_of_factors}
 use Rattle.fx_settings.specs.declared.settings.StepSettings.{StepSettings}
 use Rattle.fx_settings.specs.declared.said.StepSaid.{StepSaid}
-use Rattle.fx_settings.specs.Said.{step_said}
+use Rattle.fx_settings.specs.Said.{step_said, value_after_equals}
 use Rattle.fx_text.specs.Phrases.{has_symbol, start_of}
-use Rattle.fx_settings.specs.Settings.{step_settings_of, unblocked_of}
+use Rattle.fx_settings.specs.Settings.{step_settings_of, unblocked_of, number_or}
 use Rattle.fx_outputs.specs.declared.output.OutputSpec.{OutputSpec}
 use Rattle.fx_outputs.specs.Outputs.{outputs_of}
 use Rattle.fx_statements.specs.declared.examine.Examine.{Examine}
 use Rattle.fx_statements.specs.declared.step.Step.{Step}
 use Rattle.fx_statements.specs.Goals.{Goal, goal_by, goal_of}
 use Rattle.fx_statements.specs.Components.{check_components, components_place}
-use Rattle.fx_statements.specs.Valid.{settings_in}
+use Rattle.fx_statements.specs.Valid.{most_factors_of, settings_in}
 use Rattle.fx_statements.specs.Contexts.{context}
 
 -- a step, without where its parts lie in memory
@@ -33,9 +33,10 @@ pub record Meaning : Type 0 where
   pub examine : Examine
   pub outputs : List OutputSpec
 
--- how many factors a step may have: fewer with blocks
-abbrev pub factor_limit : List (List Written) → ℕ
-factor_limit statements = if is_some (statement_of word.Blocks statements) then 30 else 40
+-- how many factors a step may have, by its FACTORS statement, which says their levels, and whether there are blocks
+abbrev pub factor_limit : List Written → List (List Written) → ℕ
+factor_limit named statements =
+    most_factors_of (number_or 2 (value_after_equals named)) (is_some (statement_of word.Blocks statements))
 
 -- E7 where there are none: `proc` is the place of PROC
 abbrev pub some_factors : Place → List (List ℕ) → Result (List (List ℕ)) Refusal
@@ -77,7 +78,7 @@ asked_by factors said statements = do
 abbrev pub step_by : List (List ℕ) → List (List Written) → Option (List Written) → Result Meaning Refusal
 step_by earlier statements None = Err (refused_at NO_FACTORS (start_of (head_of statements)))
 step_by earlier statements (Some named) = do
-  factors ← factors_by (start_of (head_of statements)) (factor_limit statements) named
+  factors ← factors_by (start_of (head_of statements)) (factor_limit named statements) named
   asked ← asked_by factors (step_said (head_of statements) named statements) statements
   outputs ← outputs_of (context factors asked.0) earlier statements
   Ok (record

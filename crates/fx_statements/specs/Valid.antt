@@ -1,5 +1,5 @@
 -- Which steps there may be.
-use Rattle.std.specs.Prelude.{ℕ, ◌≡◌, ◌≤◌, nat_le, ◌&&◌, ◌||◌, min, Bool, true, List, length, if◌then◌else◌}
+use Rattle.std.specs.Prelude.{ℕ, ◌≡◌, ◌≤◌, nat_le, ◌&&◌, ◌||◌, ◌==◌, min, Bool, true, List, length, if◌then◌else◌}
 use Rattle.fx_designs.specs.Components.{listed_count}
 use Rattle.fx_demands.specs.declared.unions.TheConstants.{MOST_EFFECTS}
 use Rattle.fx_settings.specs.declared.settings.StepSettings.{StepSettings}
@@ -9,6 +9,8 @@ use Rattle.fx_settings.specs.Valid.{has_blocks}
 use Rattle.fx_vectors.specs.declared.effect.Effect.{Effect}
 use Rattle.fx_vectors.specs.Effects.{numbers_of}
 use Rattle.fx_vectors.specs.Question.{CanBeTold}
+use Rattle.fx_vectors.specs.declared.shape.TheConstants.{MOST_FACTORS, MOST_FACTORS_IN_BLOCKS}
+use Rattle.fx_vectors.specs.declared.shape.TheConstants.{MOST_FACTORS_OF_MANY_LEVELS}
 use Rattle.fx_statements.specs.declared.wanted.Wanted.{Wanted}
 use Rattle.fx_statements.specs.declared.wanted.Wanted.TheVariants.{Effects}
 use Rattle.fx_statements.specs.declared.components.TheConstants.{MOST_COMPONENTS}
@@ -16,9 +18,15 @@ use Rattle.fx_statements.specs.declared.examine.Examine.{Examine}
 use Rattle.fx_statements.specs.Components.{listed_factors}
 use Rattle.fx_statements.specs.Goals.{Goal, criterion_wanted}
 
--- at least one factor, and at most 40, with blocks 30
-abbrev pub is_count : ℕ → Blocks → Bool
-is_count s blocks = nat_le 1 s && nat_le s (if has_blocks blocks then 30 else 40)
+-- the most factors of q levels, in blocks or not
+abbrev pub most_factors_of : ℕ → Bool → ℕ
+most_factors_of q in_blocks =
+    if in_blocks then MOST_FACTORS_IN_BLOCKS
+    else (if (q == 2) || (q == 3) then MOST_FACTORS else MOST_FACTORS_OF_MANY_LEVELS)
+
+-- at least one factor, and no more than there may be
+abbrev pub is_count : ℕ → ℕ → Blocks → Bool
+is_count q s blocks = nat_le 1 s && nat_le s (most_factors_of q (has_blocks blocks))
 
 -- the settings of a step, by what it keeps of them
 abbrev pub settings_in : ℕ → ℕ → Size → Wanted → Bool → Blocks → StepSettings

@@ -4,6 +4,7 @@ ghost use Rattle.fx_settings.specs.Settings.{is_level};
 ghost use Rattle.fx_statements.specs.declared.components.TheConstants.{MOST_COMPONENTS};
 ghost use Rattle.fx_statements.specs.Goals.{goal_of};
 ghost use Rattle.fx_statements.specs.Components.{check_components, components_asked, components_place, first_components, is_for_components, listed_factors};
+ghost use Rattle.fx_vectors.specs.declared.shape.TheConstants.{MOST_FACTORS};
 
 use crate::wanted::Wanted;
 use fx_language::{Symbol, code};
@@ -26,7 +27,7 @@ pub(crate) fn check_components(
     statements: &[Statement<'_>],
 ) -> Result<(), Refusal>
     requires level { is_level q ≡ true }
-    requires few { s ≤ 40 }
+    requires few { s ≤ MOST_FACTORS }
     ensures { result
         ≡ check_components q s (goal_of wanted.now) (components_place statements.now) }
 {
@@ -104,7 +105,7 @@ pub fn listed_factors(wanted: &Wanted) -> u8
 /// last nonzero code is 1.
 fn are_too_many(q: u8, s: u8, d: u8) -> bool
     requires level { is_level q ≡ true }
-    requires few { s ≤ 40 }
+    requires few { s ≤ MOST_FACTORS }
     requires some { d ≤ s }
     ensures { result ≡ nat_lt MOST_COMPONENTS (listed_count q s d) }
 {

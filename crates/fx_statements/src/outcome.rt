@@ -24,6 +24,9 @@ pub struct Outcome {
     pub matrix: Option<Matrix>,
     /// The number of nodes of all questions, or the budget with `Budget`.
     pub nodes: u64,
+    /// The resolution of the question whose answer the matrix is. 0 where there is none, where effects
+    /// are asked for, and where the matrix is no answer but the best of a search that was cut short.
+    pub reached: u8,
     /// The books of the finished questions.
     pub books: Books,
     ghost shaped: { IsShape shape },
@@ -38,6 +41,7 @@ impl Drop for Outcome {
             shape: _,
             matrix: _,
             nodes: _,
+            reached: _,
             books: _,
         } = self;
     }

@@ -21,8 +21,8 @@ use fx_text::Names;
 /// components, and its outputs are within its limits. Names have 1 to 32 bytes, no two OUT names are
 /// the same, and no factor has the name of the column of blocks.
 pub struct Step {
-    /// The names of its factors, 1 to 40, and at most 30 with blocks. They differ without regard to
-    /// case.
+    /// The names of its factors, at least one, and no more than a design with so many levels, in
+    /// blocks or not, may have. They differ without regard to case.
     pub factors: Names,
     /// The number of levels of each factor: 2, 3, 4, 5, 7, 8 or 9.
     pub q: u8,
@@ -40,7 +40,7 @@ pub struct Step {
     pub outputs: Outputs,
     /// The greatest number of nodes, from 1 to 5,000,000.
     pub budget: u64,
-    ghost factor_count: { IsTrue (is_count (length factors) blocks) },
+    ghost factor_count: { IsTrue (is_count q (length factors) blocks) },
     ghost distinct: { IsDistinct is_same_name factors } by { Prim.hlevel props },
     ghost settings_valid: { IsTrue (are_valid (settings_in q budget size wanted least blocks)) },
     ghost factor_names: { All IsName factors },

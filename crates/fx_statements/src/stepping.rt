@@ -1,17 +1,20 @@
-ghost use Rattle.std.specs.Prelude.{◌≡◌, ℕ, ◌++◌, ◌≤◌, ◌^◌, true, false, Some, None, Ok, length, IfOk, IfErr};
+ghost use Rattle.std.specs.Prelude.{◌≡◌, ℕ, ◌++◌, ◌≤◌, ◌^◌, true, false, is_some, Some, None, Ok, length, IfOk, IfErr};
+ghost use Rattle.fx_language.specs.declared.symbol.Symbol.TheVariants as word;
+ghost use Rattle.fx_text.specs.Statements.{statement_of};
 ghost use Rattle.std.specs.List.{AllByRecursion, IsDistinct};
 ghost use Rattle.fx_language.specs.Grammar as grammar;
 ghost use Rattle.fx_text.specs.Sentences.{HasNames, IsAccepted, IsStatement};
 ghost use Rattle.fx_settings.specs.declared.settings.Blocks.TheVariants.{Factors};
-ghost use Rattle.fx_settings.specs.Settings.{is_level};
+ghost use Rattle.fx_settings.specs.Settings.{is_level, levels_of};
 ghost use Rattle.fx_settings.specs.Valid.{are_valid, has_blocks, is_size};
 ghost use Rattle.fx_text.specs.Names.{is_same_name};
 ghost use Rattle.fx_text.specs.Refusals.{IsRefused};
 ghost use Rattle.fx_outputs.specs.Outputs.{names_of};
 ghost use Rattle.fx_statements.specs.Contexts.{block_count, context, most_runs};
 ghost use Rattle.fx_statements.specs.Goals.{criterion_wanted, goal_of};
-ghost use Rattle.fx_statements.specs.Valid.{CanBeWanted, HasFewComponents, HasFewEffects};
-ghost use Rattle.fx_statements.specs.Steps.{asked_by, examine_of, factor_limit, factors_by, head_of, meaning_of, step_by, step_of};
+ghost use Rattle.fx_statements.specs.Valid.{CanBeWanted, HasFewComponents, HasFewEffects, most_factors_of};
+ghost use Rattle.fx_statements.specs.Steps.{asked_by, examine_of, factors_by, head_of, meaning_of, step_by, step_of};
+ghost use Rattle.fx_vectors.specs.declared.shape.TheConstants.{MOST_FACTORS};
 
 use crate::components::check_components;
 use crate::examine::examine_of;
@@ -21,10 +24,11 @@ use fx_base::Bytes;
 use fx_language::{Symbol, code};
 use fx_outputs::{BlockCount, EarlierNames, OutputContext, outputs};
 use fx_settings::{
-    Blocks, Size, StepSaid, StepSettings, factors_of, greatest, step_said, step_settings_of,
-    unblocked_of,
+    Blocks, Size, StepSaid, StepSettings, factors_of, greatest, levels_of, step_said,
+    step_settings_of, unblocked_of,
 };
 use fx_text::{Names, ParseStop, Phrase, Place, Refusal, Statement, find};
+use fx_vectors::{MOST_FACTORS, MOST_FACTORS_IN_BLOCKS, MOST_FACTORS_OF_MANY_LEVELS};
 use std::alloc::Global;
 
 /// The step of some statements, the first of which is its PROC statement. `earlier` are the OUT
@@ -70,8 +74,13 @@ fn step_by(
         (IsRefused (step_by earlier.old statements.now (Some named.now))) }
 {
     let proc = head_of(statements);
-    let factors = factors_by(alloc, proc.place(), factor_limit(statements), named)?;
     let said = step_said(&proc, named, statements);
+    let factors = factors_by(
+        alloc,
+        proc.place(),
+        factor_limit(levels_of(said), statements),
+        named,
+    )?;
     let (settings, wanted) = asked_by(alloc, factors.as_slice(), said, statements)?;
     let context = context_of(factors.as_slice(), settings);
     let outputs = outputs(alloc, &context, earlier, statements)?;
@@ -120,10 +129,11 @@ fn asked_by(
     statements: &[Statement<'_>],
 ) -> Result<(StepSettings, Wanted), ParseStop>
     requires some { 1 ≤ length factors.now }
-    requires few { length factors.now ≤ 40 }
+    requires few { length factors.now ≤ MOST_FACTORS }
     ensures asked { IfOk result (λ asked.
         asked_by factors.now said statements.now ≡ Ok (asked.0, goal_of asked.1)) }
     ensures settings_valid { IfOk result (λ asked. are_valid asked.0 ≡ true) }
+    ensures levels { IfOk result (λ asked. asked.0.q ≡ levels_of said) }
     ensures kind { IfOk result (λ asked. criterion_wanted asked.1 ≡ asked.0.criterion) }
     ensures askable { IfOk result (λ asked. CanBeWanted asked.0.q (length factors.now) asked.1) }
     ensures few_effects { IfOk result (λ asked. HasFewEffects asked.1) }
@@ -153,21 +163,23 @@ fn head_of<'a>(statements: &[Statement<'a>]) -> Statement<'a>
     }
 }
 
-/// How many factors a step may have: fewer with blocks.
-fn factor_limit(statements: &[Statement<'_>]) -> usize
-    ensures value { result ≡ factor_limit statements.now }
-    ensures bound { result ≤ 40 }
+/// How many factors of q levels a step may have: fewer with blocks.
+fn factor_limit(q: u128, statements: &[Statement<'_>]) -> usize
+    ensures value { result ≡ most_factors_of q (is_some (statement_of word.Blocks statements.now)) }
+    ensures bound { result ≤ MOST_FACTORS }
 {
     if find(Symbol::Blocks, statements).is_some() {
-        30
+        MOST_FACTORS_IN_BLOCKS
+    } else if q == 2 || q == 3 {
+        MOST_FACTORS
     } else {
-        40
+        MOST_FACTORS_OF_MANY_LEVELS
     }
 }
 
 /// What the OUTPUT statements of the step are read against.
 fn context_of<'a>(factors: &'a [Bytes], settings: StepSettings) -> OutputContext<'a>
-    requires few { length factors.now ≤ 40 }
+    requires few { length factors.now ≤ MOST_FACTORS }
     requires valid { are_valid settings ≡ true }
     ensures { result ≡ context factors.now settings }
 {

@@ -6,6 +6,7 @@ ghost use Rattle.fx_settings.specs.declared.settings.Criterion.TheVariants as cr
 ghost use Rattle.fx_settings.specs.Settings.{is_level};
 ghost use Rattle.fx_statements.specs.Goals.{criterion_wanted, effects_goal, effects_wanted, goal_by, goal_of};
 ghost use Rattle.fx_statements.specs.Valid.{CanBeWanted, HasFewEffects};
+ghost use Rattle.fx_vectors.specs.declared.shape.TheConstants.{MOST_FACTORS};
 
 use fx_base::Bytes;
 use fx_effects::effects_of;
@@ -59,7 +60,7 @@ pub(crate) fn wanted_by(
     criterion: Criterion,
 ) -> Result<Wanted, ParseStop>
     requires level { is_level q ≡ true }
-    requires few { length factors.now ≤ 40 }
+    requires few { length factors.now ≤ MOST_FACTORS }
     ensures goal { IfOk result (λ wanted.
         goal_by q factors.now statements.now criterion ≡ Ok (goal_of wanted)) }
     ensures kind { IfOk result (λ wanted. criterion_wanted wanted ≡ criterion) }
@@ -82,7 +83,7 @@ fn effects_wanted(
     statements: &[Statement<'_>],
 ) -> Result<Wanted, ParseStop>
     requires level { is_level q ≡ true }
-    requires few { length factors.now ≤ 40 }
+    requires few { length factors.now ≤ MOST_FACTORS }
     ensures goal { IfOk result (λ wanted.
         effects_wanted q factors.now (statement_of Model statements.now) ≡ Ok (goal_of wanted)) }
     ensures kind { IfOk result (λ wanted. criterion_wanted wanted ≡ criterion.Effects) }
@@ -104,7 +105,7 @@ fn effects_in(
     statement: &Phrase<'_>,
 ) -> Result<Wanted, ParseStop>
     requires level { is_level q ≡ true }
-    requires few { length factors.now ≤ 40 }
+    requires few { length factors.now ≤ MOST_FACTORS }
     ensures goal { IfOk result (λ wanted.
         effects_goal q factors.now statement.now ≡ Ok (goal_of wanted)) }
     ensures kind { IfOk result (λ wanted. criterion_wanted wanted ≡ criterion.Effects) }

@@ -20,10 +20,10 @@ use Rattle.fx_language.specs.Keywords.{symbol_of, symbols_of}
 use Rattle.std.proofs.lemmas.List.Elements.{recursion_from_All}
 use Rattle.std.specs.Prelude.{All, slice_range, if◌then◌else◌}
 use Rattle.fx_language.proofs.SameSymbol.{symbol_is}
+use Rattle.fx_language.proofs.Lacking.{lacks, none}
 use Rattle.fx_text.specs.Statements.{in_front, statements_of}
 use Rattle.fx_text.specs.Sentences.{symbols_in, IsStatement, IsByItsWord, HasNames, IsAccepted}
 use Rattle.fx_text.proofs.Wholes.{is_name}
-use Rattle.fx_text.proofs.Lacking.{lacks, none}
 
 -- each text of the description has one semicolon, its last symbol
 abbrev Ends : Shape → Type 0

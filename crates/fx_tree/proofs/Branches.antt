@@ -11,13 +11,15 @@ use Rattle.fx_designs.specs.Vectors.{same}
 use Rattle.fx_designs.specs.Answers.{before}
 use Rattle.fx_laws.specs.Trees.{IsTree, is_tree_design, children_of, tree_prefixes}
 use Rattle.fx_laws.proofs.Candidates.{closed-append}
-use Rattle.fx_laws.proofs.Order.{before-self, IsIn, all_lists, each_in}
+use Rattle.fx_laws.proofs.Order.{before-self, all_lists}
 use Rattle.fx_tree.specs.Ranked.{Ranked, IsRanked, counts_for, is_ranked_branch, IsFirstLeast, IsPartBest, better}
 use Rattle.fx_tree.specs.Ranked.{extends, is_counted, is_counted_through, branches, Wins, Loses}
 use Rattle.fx_tree.proofs.Best.{joins, clash, same_tests}
 use Rattle.fx_tree.proofs.Lots.{short_seen}
 use Rattle.fx_tree.proofs.Place.{split_of, extends-append, before-longer, extends-not_before, take-same, all_children}
 use Rattle.fx_tree.proofs.Place.{child_seen, any-never}
+use Rattle.fx_base.specs.Members.{Has}
+use Rattle.fx_base.proofs.Members.{has-each}
 
 pub any-none : {X : Type 0} (f : X → Bool) (xs : List X) → list_any f xs ≡ false → AllByRecursion (λ y. f y ≡ false) xs
 any-none f [] h = tt
@@ -38,7 +40,7 @@ module _ (x : Ranked) (law : IsRanked x) where
       )
 
   -- a design is one of the prefixes
-  pub design-in : (d : List ℕ) → is_tree_design x.tree d ≡ true → 0 < x.tree.size → IsIn d (tree_prefixes x.tree)
+  pub design-in : (d : List ℕ) → is_tree_design x.tree d ≡ true → 0 < x.tree.size → Has d (tree_prefixes x.tree)
   design-in d h some =
       let parts = and_parts (eqb (length d) x.tree.size) (x.tree.canonical d && x.tree.allowed d) h in
       let full = eqb-true (length d) x.tree.size parts.0 in
@@ -54,7 +56,7 @@ module _ (x : Ranked) (law : IsRanked x) where
       let short = ltb-true (length c) x.tree.size parts.0 in
       let own = and_parts (is_tree_design x.tree d) (counts_for x d c) k in
       let z : beats c d ≡ false =
-      each_in (λ d. beats c d ≡ false) d (tree_prefixes x.tree)
+      has-each (λ d. beats c d ≡ false) d (tree_prefixes x.tree)
       (any-none (beats c) (tree_prefixes x.tree) (not-true _ parts.1)) (design-in d own.0 (omega arith)) in
       elim (cases_Bool (x.less c d)) [
         | inl e ↦ e

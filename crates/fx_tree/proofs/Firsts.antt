@@ -5,12 +5,14 @@ use Rattle.std.specs.List.{filter, find, list_all, AllByRecursion}
 use Rattle.std.proofs.lemmas.Bool.{cond-true, cond-false, cases_Bool, and_parts, and_from, false_from_ne_true, not-true}
 use Rattle.std.proofs.lemmas.Bool.{not_from_false}
 use Rattle.fx_base.proofs.Lists.{find_agree, find-filter}
+use Rattle.fx_base.specs.Members.{Has}
+use Rattle.fx_base.proofs.Members.{has-each}
 use Rattle.fx_designs.specs.Galois.{IsField}
 use Rattle.fx_designs.specs.Problems.{Problem}
 use Rattle.fx_designs.specs.Patterns.{pattern_of, is_less}
 use Rattle.fx_designs.specs.Answers.{before, prefixes, is_design, is_of_least_pattern, designs, answer}
 use Rattle.fx_laws.specs.Trees.{tree_of, is_tree_design}
-use Rattle.fx_laws.proofs.Order.{Sorted, IsIn, first_found, none_found, lists-sorted, before-not, each_in, before-self}
+use Rattle.fx_laws.proofs.Order.{Sorted, first_found, none_found, lists-sorted, before-not, before-self}
 use Rattle.fx_designs.specs.Jobs.{first_least, best_of}
 use Rattle.fx_tree.specs.Ranked.{Ranked, IsRanked, IsFirstLeast}
 use Rattle.fx_tree.specs.Search.{ranked}
@@ -27,7 +29,7 @@ all-kept C g (x ∷ xs) h = elim (cases_Bool (C x)) [
   | inr a ↦ ap (list_all g) (cond-false (C x) (x ∷ filter C xs) _ a) ∙ all-kept C g xs h
 ]
 
-pub all-at : (C g : List ℕ → Bool) (xs : List (List ℕ)) (b : List ℕ) → IsIn b xs → C b ≡ true
+pub all-at : (C g : List ℕ → Bool) (xs : List (List ℕ)) (b : List ℕ) → Has b xs → C b ≡ true
     → list_all g (filter C xs) ≡ true → g b ≡ true
 all-at C g [] b there own h = absurd there
 all-at C g (x ∷ xs) b there own h = elim (cases_Bool (C x)) [
@@ -35,31 +37,31 @@ all-at C g (x ∷ xs) b there own h = elim (cases_Bool (C x)) [
       let parts =
       and_parts (g x) (list_all g (filter C xs)) (sym (ap (list_all g) (cond-true (C x) (x ∷ filter C xs) _ a)) ∙ h)
       in
-      elim there [ inl e ↦ subst (λ z. g z ≡ true) e parts.0 | inr k ↦ all-at C g xs b k own parts.1 ]
+      elim there [ inl e ↦ subst (λ z. g z ≡ true) (sym e) parts.0 | inr k ↦ all-at C g xs b k own parts.1 ]
   | inr a ↦
       let rest = sym (ap (list_all g) (cond-false (C x) (x ∷ filter C xs) _ a)) ∙ h in
-      elim there [ inl e ↦ clash (C x) (ap C e ∙ own) a | inr k ↦ all-at C g xs b k own rest ]
+      elim there [ inl e ↦ clash (C x) (sym (ap C e) ∙ own) a | inr k ↦ all-at C g xs b k own rest ]
 ]
 
 -- among the items of a list, the first of least pattern
 module _ (x : Ranked) (law : IsRanked x) (D : List ℕ → Bool) where
   abbrev FirstIn : List (List ℕ) → Option (List ℕ) → Type 0
-  FirstIn xs None = (d : List ℕ) → IsIn d xs → D d ≡ true → ⊥
+  FirstIn xs None = (d : List ℕ) → Has d xs → D d ≡ true → ⊥
   FirstIn xs (Some b) =
-      (D b ≡ true) × ((d : List ℕ) → IsIn d xs → D d ≡ true → x.less d b ≡ false)
-      × ((d : List ℕ) → IsIn d xs → D d ≡ true → before d b ≡ true → x.less b d ≡ true)
+      (D b ≡ true) × ((d : List ℕ) → Has d xs → D d ≡ true → x.less d b ≡ false)
+      × ((d : List ℕ) → Has d xs → D d ≡ true → before d b ≡ true → x.less b d ≡ true)
 
   self-less : (c : List ℕ) → x.less c c ≡ false
   self-less c = false_from_ne_true (x.less c c) (λ z. clash (x.less c c) z (law.not_both c c z))
 
   alone : (y : List ℕ) (ys : List (List ℕ)) → AllByRecursion (λ z. before y z ≡ true) ys → D y ≡ true
-      → ((d : List ℕ) → IsIn d ys → D d ≡ true → x.less d y ≡ false) → FirstIn (y ∷ ys) (Some y)
+      → ((d : List ℕ) → Has d ys → D d ≡ true → x.less d y ≡ false) → FirstIn (y ∷ ys) (Some y)
   alone y ys late own h = (
     own,
-    λ d there e. elim there [ inl is ↦ subst (λ z. x.less z y ≡ false) is (self-less y) | inr k ↦ h d k e ],
+    λ d there e. elim there [ inl is ↦ subst (λ z. x.less z y ≡ false) (sym is) (self-less y) | inr k ↦ h d k e ],
     λ d there e first. elim there [
-      | inl is ↦ clash (before y y) (subst (λ z. before z y ≡ true) (sym is) first) (before-self y)
-      | inr k ↦ clash (before d y) first (before-not y d (each_in (λ z. before y z ≡ true) d ys late k))
+      | inl is ↦ clash (before y y) (subst (λ z. before z y ≡ true) is first) (before-self y)
+      | inr k ↦ clash (before d y) first (before-not y d (has-each (λ z. before y z ≡ true) d ys late k))
     ],
   )
 
@@ -74,12 +76,12 @@ module _ (x : Ranked) (law : IsRanked x) (D : List ℕ → Bool) where
     where
       skip : (o : Option (List ℕ)) → D y ≡ false → FirstIn ys o → FirstIn (y ∷ ys) o
       skip None out k =
-          λ d there e. elim there [ inl is ↦ clash (D d) e (subst (λ z. D z ≡ false) is out) | inr t ↦ k d t e ]
+          λ d there e. elim there [ inl is ↦ clash (D d) e (subst (λ z. D z ≡ false) (sym is) out) | inr t ↦ k d t e ]
       skip (Some b) out k = (
         k.0,
-        λ d there e. elim there [ inl is ↦ clash (D d) e (subst (λ z. D z ≡ false) is out) | inr t ↦ k.1 d t e ],
+        λ d there e. elim there [ inl is ↦ clash (D d) e (subst (λ z. D z ≡ false) (sym is) out) | inr t ↦ k.1 d t e ],
         λ d there e first. elim there
-            [ inl is ↦ clash (D d) e (subst (λ z. D z ≡ false) is out) | inr t ↦ k.2 d t e first ],
+            [ inl is ↦ clash (D d) e (subst (λ z. D z ≡ false) (sym is) out) | inr t ↦ k.2 d t e first ],
       )
 
       more : (o : Option (List ℕ)) → D y ≡ true → FirstIn ys o → (o : Option (List ℕ)) × FirstIn (y ∷ ys) o
@@ -90,8 +92,9 @@ module _ (x : Ranked) (law : IsRanked x) (D : List ℕ → Bool) where
           (
             k.0,
             λ d there e. elim there
-                [ inl is ↦ subst (λ z. x.less z b ≡ false) is (law.not_both b y low) | inr t ↦ k.1 d t e ],
-            λ d there e first. elim there [ inl is ↦ subst (λ z. x.less b z ≡ true) is low | inr t ↦ k.2 d t e first ],
+                [ inl is ↦ subst (λ z. x.less z b ≡ false) (sym is) (law.not_both b y low) | inr t ↦ k.1 d t e ],
+            λ d there e first. elim there
+                [ inl is ↦ subst (λ z. x.less b z ≡ true) (sym is) low | inr t ↦ k.2 d t e first ],
           ),
         )
         | inr high ↦ (
@@ -102,7 +105,7 @@ module _ (x : Ranked) (law : IsRanked x) (D : List ℕ → Bool) where
       ]
 
   -- where all that pass stand in the list, it is the first of least pattern of all
-  pub first_exists : (xs : List (List ℕ)) → Sorted xs → ((d : List ℕ) → D d ≡ true → IsIn d xs)
+  pub first_exists : (xs : List (List ℕ)) → Sorted xs → ((d : List ℕ) → D d ≡ true → Has d xs)
       → (o : Option (List ℕ)) × IsFirstLeast x D o
   first_exists xs sorted all = let k = first_in xs sorted in (k.0, go k.0 k.1)
     where
@@ -121,7 +124,7 @@ module _ (p : Problem) (f : IsField p.dimensions.q) (some : 0 < p.dimensions.s +
   least_of ms rows = list_all (λ other. not (is_less (pattern_of p.dimensions other) (pattern_of p.dimensions rows))) ms
 
   -- the definition computes it
-  pub first_is : (D : List ℕ → Bool) (xs : List (List ℕ)) → Sorted xs → ((d : List ℕ) → D d ≡ true → IsIn d xs)
+  pub first_is : (D : List ℕ → Bool) (xs : List (List ℕ)) → Sorted xs → ((d : List ℕ) → D d ≡ true → Has d xs)
       → (o : Option (List ℕ)) → IsFirstLeast x D o → find (least_of (filter D xs)) (filter D xs) ≡ o
   first_is D xs sorted all None h =
       find-filter D (least_of (filter D xs)) xs ∙ none_found (λ y. D y && least_of (filter D xs) y) xs
@@ -142,7 +145,7 @@ module _ (p : Problem) (f : IsField p.dimensions.q) (some : 0 < p.dimensions.s +
   abbrev designs_that : (List ℕ → Bool) → List ℕ → Bool
   designs_that test d = is_tree_design (tree_of p) d && test d
 
-  there : (test : List ℕ → Bool) (d : List ℕ) → designs_that test d ≡ true → IsIn d (prefixes p)
+  there : (test : List ℕ → Bool) (d : List ℕ) → designs_that test d ≡ true → Has d (prefixes p)
   there test d h = design-in x law d (and_parts _ (test d) h).0 some
 
   module _ (least : p.least ≡ true) where

@@ -17,7 +17,7 @@ use Rattle.fx_tree.proofs.Branches.{wins_branch, loses_branch, barred_best, beat
 use Rattle.fx_tree.proofs.Patterns.{is-ranked}
 use Rattle.fx_tree.proofs.SearchTree.{opens-least, opens-plain, mark-least, mark-plain, branch-ranked, design-plain}
 
-last-row : (p : List ℕ) (r : ℕ) → last_row (p ++ r ∷ []) ≡ r
+pub last-row : (p : List ℕ) (r : ℕ) → last_row (p ++ r ∷ []) ≡ r
 last-row p r =
     let e : length (p ++ r ∷ []) - 1 ≡ length p = omega (arith, length-append p (r ∷ [])) in
     ap (slice_index (p ++ r ∷ [])) e ∙ last_is p r

@@ -7,6 +7,7 @@ use Rattle.std.proofs.lemmas.Bool.{cond-true, cond-false, cases_Bool, and_parts,
 use Rattle.std.proofs.lemmas.Bool.{or_right, eqb-true, false_from_ne_true, not_from_false, not-true}
 use Rattle.std.proofs.lemmas.List.{take-append-le, take_all}
 use Rattle.fx_base.proofs.Lists.{each-all, filter_agree_each, find_agree, find-filter, list_any_agree}
+use Rattle.fx_base.proofs.Members.{has-each}
 use Rattle.fx_designs.specs.Galois.{IsField}
 use Rattle.fx_designs.specs.Vectors.{same}
 use Rattle.fx_designs.specs.Problems.{Dimensions, Problem}
@@ -18,7 +19,6 @@ use Rattle.fx_designs.specs.Nodes.{parent, last_row, lot_of, job_of, counts, exc
 use Rattle.fx_designs.specs.Nodes.{is_not_after, Branch, Word, Worse, word_of}
 use Rattle.fx_laws.specs.Trees.{Tree, tree_of, is_tree_design}
 use Rattle.fx_laws.specs.Walks.{through, is_candidate, subtree, mark_at}
-use Rattle.fx_laws.proofs.Order.{each_in}
 use Rattle.fx_laws.proofs.Candidates.{parent-append}
 use Rattle.fx_laws.proofs.Nodes.{design-candidate, map_same}
 use Rattle.fx_designs.specs.Jobs.{is_of_job, is_of_earlier_lot, excludes_inside, is_branch_inside, first_inside}
@@ -151,7 +151,7 @@ module _ (p : Problem) (f : IsField p.dimensions.q) (j : List ℕ) (job : length
         let none : list_any (λ m. is_complete_allowed p m && excludes p m (lot_of d j)) (prefixes p) ≡ false =
         not-true _ parts.1 in
         let one : (is_complete_allowed p m && excludes p m (lot_of d j)) ≡ false =
-        each_in (λ m. (is_complete_allowed p m && excludes p m (lot_of d j)) ≡ false) m (prefixes p)
+        has-each (λ m. (is_complete_allowed p m && excludes p m (lot_of d j)) ≡ false) m (prefixes p)
         (none-each (λ m. is_complete_allowed p m && excludes p m (lot_of d j)) (prefixes p) none)
         (design-in (ranked p) (is-ranked p f) m h (omega arith)) in
         let is : excludes p m (lot_of d j) ≡ before m (lot_of d j) =

@@ -6,6 +6,7 @@ use Rattle.std.specs.List.{filter, find, flat_map, list_any}
 use Rattle.std.proofs.lemmas.Bool.{cond-true, cond-false, cases_Bool, and_parts, and_from, and_left, and_right}
 use Rattle.std.proofs.lemmas.Bool.{or_right, or_cases, not-true, ne_eqb, eqb-true, lt-ltb}
 use Rattle.fx_base.proofs.Lists.{each-all, filter_agree_each, find_agree, find-filter}
+use Rattle.fx_base.proofs.Members.{has-each}
 use Rattle.fx_designs.specs.Galois.{IsField}
 use Rattle.fx_designs.specs.Problems.{Problem}
 use Rattle.fx_designs.specs.Demands.{is_allowed}
@@ -16,7 +17,7 @@ use Rattle.fx_designs.specs.Nodes.{parent, lot_of, counts, excludes, is_branch, 
 use Rattle.fx_designs.specs.Nodes.{nodes}
 use Rattle.fx_laws.specs.Trees.{Tree, tree_of, tree_answer, is_tree_design, children_of}
 use Rattle.fx_laws.specs.Walks.{through, is_candidate, under, subtree}
-use Rattle.fx_laws.proofs.Order.{each_in, lists-sorted}
+use Rattle.fx_laws.proofs.Order.{lists-sorted}
 use Rattle.fx_laws.proofs.Candidates.{closed-append, under-step}
 use Rattle.fx_laws.proofs.Nodes.{first_decides, design-candidate}
 use Rattle.fx_tree.proofs.Nodes.{answer-same}
@@ -58,7 +59,7 @@ module _ (p : Problem) (f : IsField p.dimensions.q) (some : 0 < p.dimensions.s +
         let none : list_any (λ m. is_complete_allowed p m && excludes p m q) (prefixes p) ≡ false =
         not-true _ parts.1 in
         let one : (is_complete_allowed p m && excludes p m q) ≡ false =
-        each_in (λ m. (is_complete_allowed p m && excludes p m q) ≡ false) m (prefixes p)
+        has-each (λ m. (is_complete_allowed p m && excludes p m q) ≡ false) m (prefixes p)
         (any-none (λ m. is_complete_allowed p m && excludes p m q) (prefixes p) none)
         (design-in (ranked p) (is-ranked p f) m own some) in
         let is : excludes p m q ≡ before m q =
@@ -82,7 +83,7 @@ module _ (p : Problem) (f : IsField p.dimensions.q) (some : 0 < p.dimensions.s +
         go (tree_answer (tree_of p)) refl (ap (λ o. is_not_after o q) (sym (answer-same p f plain)) ∙ last)
         (first_decides (is_tree_design (tree_of p)) (prefixes p) (lists-sorted _ _) q) in
         clash (is_tree_design (tree_of p) m && before m q) (and_from _ _ design first)
-        (each_in (λ z. (is_tree_design (tree_of p) z && before z q) ≡ false) m (prefixes p)
+        (has-each (λ z. (is_tree_design (tree_of p) z && before z q) ≡ false) m (prefixes p)
         (any-none (λ z. is_tree_design (tree_of p) z && before z q) (prefixes p) is_counted) there)
   ]
     where

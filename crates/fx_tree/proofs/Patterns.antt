@@ -8,14 +8,16 @@ use Rattle.std.proofs.lemmas.Bool.{false_from_ne_true, cases_lt, lt-ltb, le-leb,
 use Rattle.std.proofs.lemmas.List.{take_all}
 use Rattle.fx_designs.specs.Galois.{IsField}
 use Rattle.fx_designs.specs.Vectors.{same}
-use Rattle.fx_designs.specs.Problems.{Dimensions, Problem, Requirement}
+use Rattle.fx_designs.specs.Problems.{Dimensions, Problem, Requirement, AtResolution, ForEffects}
 use Rattle.fx_designs.specs.Patterns.{pattern_of, is_less}
 use Rattle.fx_designs.specs.Canonical.{is_canonical}
 use Rattle.fx_designs.specs.Answers.{before}
 use Rattle.fx_designs.specs.Nodes.{counts}
+use Rattle.fx_reduction.specs.Reduction.{IsReducible}
 use Rattle.fx_reduction.proofs.Extensions.{prefix-words}
 use Rattle.fx_reduction.proofs.PatternOrder.{less-self, less-trans, less-either, not_above}
 use Rattle.fx_reduction.proofs.ShortWords.{pattern-length}
+use Rattle.fx_vectors.specs.Question.{CanBeAsked}
 use Rattle.fx_tree.proofs.Nodes.{is-tree}
 use Rattle.fx_tree.specs.Ranked.{IsRanked, counts_for}
 use Rattle.fx_tree.specs.Search.{ranked}
@@ -108,3 +110,8 @@ counts-same p d rows =
 
     plus : m + 2 ≡ m + 1 + 1
     plus = omega arith
+
+-- what can be asked is reducible
+pub reducible : (d : Dimensions) (wanted : Requirement) → CanBeAsked d wanted → IsReducible wanted
+reducible d (AtResolution r) h = h.0
+reducible d (ForEffects estimate besides) h = tt

@@ -19,7 +19,7 @@ use Rattle.fx_laws.proofs.Linear.{dot-zeros, dot_code, zero-mul, zero-add-code}
 use Rattle.fx_laws.proofs.Prefixes.{digits-unit, number-short}
 use Rattle.fx_laws.proofs.Raises.{sum_by-each}
 use Rattle.fx_laws.proofs.Shift.{all-points, points-sum}
-use Rattle.fx_laws.proofs.Sums.{sum_by-pick, sum_by-ext, sum_by-zero, sum_by_map}
+use Rattle.fx_laws.proofs.Sums.{sum_by-pick, sum_by-ext, sum_by-zero, sum_by_map, sum_by-constant}
 use Rattle.fx_tree.specs.Introduced.{introduced, introducing}
 use Rattle.fx_tree.proofs.Extensions.{canonical-front}
 use Rattle.fx_tree.proofs.Introduced.{within, below}
@@ -124,15 +124,11 @@ module _ (q : ℕ) (f : IsField q) where
       ap (dot q v) (first_indexes m rows p h fits)
       ∙ dot_short last v p (number-short q m last f v (digits-vector q m row some) (omega (arith, low, named)))
 
-  ones : (ps : List (List ℕ)) → sum_by (λ p. 1) ps ≡ length ps
-  ones [] = refl
-  ones (p ∷ ps) = sum_by-cons (λ (x : List ℕ). 1) p ps ∙ ap (λ n. 1 + n) (ones ps) ∙ omega arith
-
   -- how many points begin with these codes
   beginning : (m n : ℕ) (c : List ℕ) → IsVector q n c → n ≤ m
       → count_by (λ p. same (take n p) c) (points q m) ≡ q ^ (m - n)
   beginning m zero [] h fits = let all : m - 0 ≡ m = omega arith in
-      ones (points q m) ∙ length-points q m ∙ ap (λ k. q ^ k) (sym all)
+      sum_by-constant 1 (points q m) ∙ omega arith ∙ length-points q m ∙ ap (λ k. q ^ k) (sym all)
   beginning m zero (a ∷ c) h fits = absurd (let e = h.len in omega arith)
   beginning m (suc n) [] h fits = absurd (let e = h.len in omega arith)
   beginning zero (suc n) (a ∷ c) h fits = absurd (omega (arith, fits))

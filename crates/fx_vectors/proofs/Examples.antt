@@ -67,6 +67,7 @@ least_half_fraction =
         runs = omega arith;
         some_factors = omega arith;
         factors = omega arith;
+        factors_of_many_levels = λ h. omega arith;
         block_factors = omega arith;
         factors_in_blocks = λ h. absurd (omega arith);
       };

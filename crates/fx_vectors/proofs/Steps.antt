@@ -10,7 +10,7 @@ use Rattle.fx_designs.specs.Vectors.{dot, last_nonzero, plus, scale, combination
 use Rattle.fx_laws.proofs.Codes.{number-below, digits-vector}
 use Rattle.fx_laws.proofs.Space.{AreVectors}
 use Rattle.fx_laws.proofs.Ranks.{plus-assoc, plus-zero}
-use Rattle.fx_vectors.proofs.Limits.{numbers_fit}
+use Rattle.std.proofs.Math.Nat.{pow-le-pow_right}
 
 pub dot_more : (q : ℕ) (f : IsField q) (v w : List ℕ) (i s : ℕ) → i < length v → i < length w
     → add q (add q s (mul q (get_or v i 0) (get_or w i 0))) (dot q (drop (i + 1) v) (drop (i + 1) w))
@@ -68,10 +68,11 @@ drop-vector q (suc n) (a ∷ v) (suc i) h =
     rw e (drop-vector q n v i rest)
 
 -- the number of the codes from i on fits
-pub number_fits : (q n : ℕ) (v : List ℕ) (i : ℕ) → q ≤ 9 → n ≤ 40 → IsVector q n v → number q (drop i v) < 2 ^ 128
-number_fits q n v i small short h =
+pub number_fits : (q n : ℕ) (v : List ℕ) (i : ℕ) → 0 < q → q ^ n < 2 ^ 127 → IsVector q n v
+    → number q (drop i v) < 2 ^ 128
+number_fits q n v i some short h =
     let below : number q (drop i v) < q ^ (n - i) = number-below q (n - i) (drop i v) (drop-vector q n v i h) in
-    let fits : q ^ (n - i) < 2 ^ 127 = numbers_fit q (n - i) small (omega arith) in
+    let fits : q ^ (n - i) ≤ q ^ n = pow-le-pow_right some (omega arith) in
     let wide : 2 ^ 127 < 2 ^ 128 = lit< tt in
     omega arith
 

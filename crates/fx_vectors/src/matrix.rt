@@ -4,7 +4,7 @@ ghost use Rattle.fx_designs.specs.Vectors.{IsVector, combination, vectors_of};
 ghost use Rattle.fx_vectors.specs.Shape.{IsShape};
 ghost use Rattle.fx_vectors.specs.Matrix.{MatrixView, IsMatrix};
 
-use crate::shape::Shape;
+use crate::shape::{MOST_FACTORS, Shape};
 use crate::vector::Vector;
 use arrayvec::ArrayVec;
 use std::marker::Model;
@@ -14,7 +14,7 @@ use std::marker::Model;
 #[derive(Drop, PartialEq, Eq)]
 pub struct Matrix {
     shape: Shape,
-    rows: ArrayVec<u16, 40>,
+    rows: ArrayVec<u16, MOST_FACTORS>,
 }
 
 impl Model for Matrix {
@@ -45,14 +45,14 @@ impl Matrix {
         ensures shape { result ≡ self.now.shape }
         ensures valid { IsMatrix self.now.shape self.now.rows }
         ensures indexes { result.m ≤ 10 }
-        ensures rows { result.s + result.t ≤ 40 }
+        ensures rows { result.s + result.t ≤ MOST_FACTORS }
     {
         self.shape
     }
 
     pub fn len(&self) -> usize
         ensures count { result ≡ length self.now.rows }
-        ensures fits { result ≤ 40 }
+        ensures fits { result ≤ MOST_FACTORS }
     {
         self.rows.len()
     }

@@ -3,15 +3,23 @@ ghost use Rattle.fx_designs.specs.Galois.{is_order};
 
 use fx_galois::Field;
 
-/// The dimensions of a design. Its runs are q^m, at most 1,024; it has 1 to 40 factors, or 1 to 30
-/// where it has block factors.
+/// The most factors of a design, with two or three levels and without block factors.
+pub const MOST_FACTORS: usize = 63;
+
+/// The most factors with four levels or more.
+pub const MOST_FACTORS_OF_MANY_LEVELS: usize = 40;
+
+/// The most factors in blocks.
+pub const MOST_FACTORS_IN_BLOCKS: usize = 30;
+
+/// The dimensions of a design. Its runs are q^m, at most 1,024.
 #[derive(Clone, Copy, PartialEq, Eq)]
 pub struct Shape {
     /// Levels of a factor: 2, 3, 4, 5, 7, 8 or 9.
     pub q: u8,
     /// Run indexes, at least 1.
     pub m: u8,
-    /// Factors.
+    /// Factors, at least 1, and at most as many as the constants above allow.
     pub s: u8,
     /// Block factors, 0 to 10.
     pub t: u8,

@@ -2,14 +2,15 @@ ghost use Rattle.std.specs.Prelude.{◌≡◌, ℕ, ◌^◌, ◌<◌, ◌≤◌,
 ghost use Rattle.fx_designs.specs.Galois.{digits, number, inv, is_order};
 ghost use Rattle.fx_designs.specs.Vectors.{IsVector, is_normal, last_nonzero, dot, plus, scale, weight, zeros};
 
+use crate::shape::MOST_FACTORS;
 use arrayvec::ArrayVec;
 use fx_galois::Field;
 use std::marker::Model;
 
-/// A vector of at most 40 codes. Clauses see the list of its codes.
+/// A vector of at most `MOST_FACTORS` codes. Clauses see the list of its codes.
 #[derive(Drop, PartialEq, Eq)]
 pub struct Vector {
-    codes: ArrayVec<u8, 40>,
+    codes: ArrayVec<u8, MOST_FACTORS>,
 }
 
 impl Model for Vector {
@@ -25,7 +26,7 @@ impl Model for Vector {
 impl Vector {
     /// The vector of `len` zeros.
     pub fn zero(len: usize) -> Vector
-        requires { len ≤ 40 }
+        requires { len ≤ MOST_FACTORS }
         ensures zeros { result ≡ zeros len }
         ensures vector { (q : ℕ) → 0 < q → IsVector q len result }
     {
@@ -39,8 +40,7 @@ impl Vector {
     /// The vector of `len` codes with the number `n`: its codes are the digits of `n` to the base q,
     /// the lowest first.
     pub fn of_number(field: Field, len: usize, n: u128) -> Vector
-        requires room { len ≤ 40 }
-        requires below { n < field ^ len }
+        requires { len ≤ MOST_FACTORS }
         ensures digits { result ≡ digits field len n }
         ensures vector { IsVector field len result }
     {
@@ -56,7 +56,8 @@ impl Vector {
 
     /// The number v_1 + v_2 q + .. of the codes v_1, v_2, ..
     pub fn number(&self, field: Field) -> u128
-        requires { IsVector field (length self.now) self.now }
+        requires vector { IsVector field (length self.now) self.now }
+        requires fits { field ^ length self.now < 2 ^ 127 }
         ensures number { result ≡ number field self.now }
         ensures below { result < field ^ length self.now }
     {
@@ -70,7 +71,7 @@ impl Vector {
 
     pub fn len(&self) -> usize
         ensures count { result ≡ length self.now }
-        ensures fits { result ≤ 40 }
+        ensures fits { result ≤ MOST_FACTORS }
     {
         self.codes.len()
     }

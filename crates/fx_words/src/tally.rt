@@ -8,12 +8,15 @@ ghost use Rattle.fx_words.specs.Tables.{AreOf, IsLevel, IsTally, AreAdded, IsAdd
 use crate::classes::Classes;
 use crate::level;
 use fx_base::NoMemory;
-use fx_vectors::{Matrix, Pattern, Shape};
+use fx_vectors::{MOST_FACTORS, Matrix, Pattern, Shape};
 use std::alloc::Global;
 use std::marker::Model;
 
+/// How many weights a vector of factors may have.
+const WEIGHTS: usize = MOST_FACTORS + 1;
+
 /// The factor rows of a prefix, with counts of the sums of its first rows by weight and point, from which
-/// its pattern is read. Clauses see the prefix. At the limits of a shape the counts take 28 MB, and the
+/// its pattern is read. Clauses see the prefix. At the limits of a shape the counts take 67 MB, and the
 /// classes of the points 2 MB.
 pub struct Tally {
     prefix: Matrix,
@@ -22,7 +25,7 @@ pub struct Tally {
     counts: Vec<u128>,
     /// For each number of rows of how many weights, from 0 on, the counts are made: most prefixes are
     /// told from the best design by the least weights.
-    made: [usize; 41],
+    made: [usize; WEIGHTS],
 }
 
 // Not derived, so that a place that drops one is proved with one call.
@@ -67,7 +70,7 @@ impl Tally {
             prefix: Matrix::new(shape),
             classes,
             counts,
-            made: [usize::from(shape.s) + 1; 41],
+            made: [usize::from(shape.s) + 1; WEIGHTS],
         })
     }
 
@@ -204,7 +207,7 @@ fn level_of<'a>(
 fn level_size(shape: Shape, classes: &Classes) -> usize
     requires { IsShape shape }
     ensures size { result ≡ (shape.s + 1) * length classes.now.points }
-    ensures fits { result ≤ 41984 }
+    ensures fits { result ≤ 65536 }
 {
     (usize::from(shape.s) + 1) * classes.len()
 }

@@ -182,6 +182,7 @@ fn put_head(
         shape,
         matrix: Some(matrix),
         nodes,
+        reached: 0,
         books: Books::new(alloc),
     };
     head_listing(alloc, 1, step, &outcome, out).expect(rt, "memory");
@@ -248,6 +249,7 @@ fn has_head_of_none(rt: &impl Abort, alloc: Global, step: &Step, expected: &str)
         },
         matrix: None,
         nodes: 50,
+        reached: 0,
         books: Books::new(alloc),
     };
     let mut out = Bytes::new(alloc);

@@ -31,11 +31,11 @@ proc factex; factors A B; size design=4; model resolution=3; output out=factex_b
 const BOOK_FILES: [(&str, &str); 3] = [
     (
         "step1-1.book",
-        "factex-book 1\nsize 3 1 2 0\neffects 3 /\npattern none\nO 1\nW 1 5\nW 0 3\nW 0 1\nEND\n",
+        "factex-book 2\nsize 3 1 2 0\neffects 3 /\npattern none\nO 1\nW 1 1:2 2:1\nW 0 2:1\nW 0 1:1\nEND\n",
     ),
     (
         "step2-1.book",
-        "factex-book 1\nsize 2 1 3 0\nresolution 3\npattern none\nO 1\nEND\n",
+        "factex-book 2\nsize 2 1 3 0\nresolution 3\npattern none\nO 1\nEND\n",
     ),
     ("factex_beside.csv", "A,B\n-1,-1\n-1,1\n1,-1\n1,1\n"),
 ];

@@ -9,6 +9,8 @@ mod complete;
 #[cfg(test)]
 mod edge;
 #[cfg(test)]
+mod judge;
+#[cfg(test)]
 mod plan;
 #[cfg(test)]
 mod program;

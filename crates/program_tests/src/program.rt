@@ -319,7 +319,7 @@ const REFUSED: [(&str, &str); 45] = [
         "E9 1:14 more than 1024 runs",
     ),
     (
-        "proc factex; factors A X1-X40;",
+        "proc factex; factors A X1-X63;",
         "E10 1:24 too many factors",
     ),
     (
@@ -331,8 +331,8 @@ const REFUSED: [(&str, &str); 45] = [
         "E12 1:43 MINABS with ESTIMATE",
     ),
     (
-        "proc factex; factors A B C; blocks nblkfacs=1;",
-        "E13 1:29 MINABS or RESOLUTION=MAX with BLOCKS",
+        "proc factex; factors A B C; blocks nblkfacs=max;",
+        "E13 1:29 MINABS with BLOCKS, or two maxima",
     ),
     (
         "proc factex; factors A B C; size design=min;",
@@ -493,7 +493,7 @@ fn the_seed_of_the_words_shuffles(rt: HostRuntime) {
 }
 
 /// Command lines that are refused, each with the message.
-const REFUSED_WORDS: [(&str, &str); 21] = [
+const REFUSED_WORDS: [(&str, &str); 26] = [
     ("", "C1 word 1"),
     ("x y", "C2 word 1"),
     ("RUN", "C2 word 1"),
@@ -515,6 +515,11 @@ const REFUSED_WORDS: [(&str, &str); 21] = [
     ("large 0", "C4 word 2"),
     ("large 101", "C4 word 2"),
     ("large 1 --seed=1", "C3 word 3"),
+    ("judge", "C6 word 2"),
+    ("judge 6", "C4 word 2"),
+    ("judge 10", "C4 word 2"),
+    ("judge 6 2", "C4 word 2"),
+    ("judge 2 2", "C3 word 3"),
 ];
 
 /// Tests that each command line has its message.
@@ -766,7 +771,7 @@ const PLANNED: &[(&str, &str, &[(&str, &str)], u8)] = &[
         "step 1\nfactors 3 levels 2\nno design in 2 runs\nnodes 1\nbook step1-1.book\n",
         &[(
             "step1-1.book",
-            "factex-book 1\nsize 2 1 3 0\nresolution 3\npattern none\nO 1\nEND\n",
+            "factex-book 2\nsize 2 1 3 0\nresolution 3\npattern none\nO 1\nEND\n",
         )],
         1,
     ),

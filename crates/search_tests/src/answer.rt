@@ -14,9 +14,9 @@ use std::thread::Threads;
 // The questions of each step, their nodes and their answers were computed apart from this program, in
 // Python, from the definitions; those of the least pattern are of its documents.
 
-/// What a step ends with: how, the m of q^m runs, the number of block factors, the rows, if any, and
-/// the number of nodes.
-type Ended = (End, u8, u8, &'static [u16], u64);
+/// What a step ends with: how, the m of q^m runs, the number of block factors, the rows, if any, the
+/// number of nodes, and the resolution that was reached, or 0.
+type Ended = (End, u8, u8, &'static [u16], u64, u8);
 
 /// A step of fixed resolution: its question has 4 nodes.
 const FIXED: &str = ";factors A B C D;size design=8;model resolution=4;";
@@ -42,87 +42,187 @@ const TWO_BLOCKS: &str = ";factors A B C;size design=8;model resolution=3;blocks
 /// The most blocks: 4, 16 and 91 nodes with 1, 2 and 3 block factors, of which the last has no design.
 const MOST_BLOCKS: &str = ";factors A B C;size design=8;model resolution=3;blocks nblkfacs=max;";
 
+/// The highest resolution in two blocks: 4 nodes at resolution 3 and 4 at 4, the last; both have a
+/// design.
+const CLEAR_OF_TWO_BLOCKS: &str =
+    ";factors A B C;size design=8;model resolution=max;blocks nblocks=2;";
+
+/// The highest resolution in four blocks: 9, 9 and 100 nodes at resolution 3, 4 and 5, of which the last
+/// has no design.
+const CLEAR_OF_FOUR_BLOCKS: &str = ";factors A B C D;size design=16;blocks nblocks=4;";
+
 /// The least pattern: 282 nodes. The first lot ends with its 24th, the second with the 55th.
 const LEAST_PATTERN: &str = ";factors A B C D E F G;size design=32;model resolution=max/minabs;";
 
 const STEPS: &[(&str, u64, Ended)] = &[
-    (FIXED, 3, (End::Budget, 3, 0, &[], 3)),
-    (FIXED, 4, (End::Design, 3, 0, &[1, 2, 4, 7], 4)),
-    (FIXED, 5, (End::Design, 3, 0, &[1, 2, 4, 7], 4)),
-    (EFFECTS, 3, (End::Budget, 3, 0, &[], 3)),
-    (EFFECTS, 4, (End::Design, 3, 0, &[1, 2, 4, 7], 4)),
-    (EFFECTS, 5, (End::Design, 3, 0, &[1, 2, 4, 7], 4)),
-    (HIGHEST, 4, (End::Budget, 3, 0, &[], 4)),
-    (HIGHEST, 5, (End::Budget, 3, 0, &[1, 2, 4, 7, 6], 5)),
-    (HIGHEST, 6, (End::Budget, 3, 0, &[1, 2, 4, 7, 6], 6)),
-    (HIGHEST, 14, (End::Budget, 3, 0, &[1, 2, 4, 7, 6], 14)),
-    (HIGHEST, 15, (End::Design, 3, 0, &[1, 2, 4, 7, 6], 15)),
-    (HIGHEST, 16, (End::Design, 3, 0, &[1, 2, 4, 7, 6], 15)),
-    (LEAST_SIZE, 1, (End::Budget, 2, 0, &[], 1)),
-    (LEAST_SIZE, 2, (End::Budget, 2, 0, &[], 2)),
-    (LEAST_SIZE, 3, (End::Budget, 2, 0, &[], 3)),
-    (LEAST_SIZE, 4, (End::Budget, 3, 0, &[], 4)),
-    (LEAST_SIZE, 5, (End::Budget, 3, 0, &[], 5)),
-    (LEAST_SIZE, 13, (End::Budget, 3, 0, &[], 13)),
-    (LEAST_SIZE, 14, (End::Budget, 4, 0, &[], 14)),
-    (LEAST_SIZE, 15, (End::Budget, 4, 0, &[], 15)),
-    (LEAST_SIZE, 30, (End::Budget, 4, 0, &[], 30)),
+    (FIXED, 3, (End::Budget, 3, 0, &[], 3, 0)),
+    (FIXED, 4, (End::Design, 3, 0, &[1, 2, 4, 7], 4, 4)),
+    (FIXED, 5, (End::Design, 3, 0, &[1, 2, 4, 7], 4, 4)),
+    (EFFECTS, 3, (End::Budget, 3, 0, &[], 3, 0)),
+    (EFFECTS, 4, (End::Design, 3, 0, &[1, 2, 4, 7], 4, 0)),
+    (EFFECTS, 5, (End::Design, 3, 0, &[1, 2, 4, 7], 4, 0)),
+    (HIGHEST, 4, (End::Budget, 3, 0, &[], 4, 0)),
+    (HIGHEST, 5, (End::Budget, 3, 0, &[1, 2, 4, 7, 6], 5, 3)),
+    (HIGHEST, 6, (End::Budget, 3, 0, &[1, 2, 4, 7, 6], 6, 3)),
+    (HIGHEST, 14, (End::Budget, 3, 0, &[1, 2, 4, 7, 6], 14, 3)),
+    (HIGHEST, 15, (End::Design, 3, 0, &[1, 2, 4, 7, 6], 15, 3)),
+    (HIGHEST, 16, (End::Design, 3, 0, &[1, 2, 4, 7, 6], 15, 3)),
+    (LEAST_SIZE, 1, (End::Budget, 2, 0, &[], 1, 0)),
+    (LEAST_SIZE, 2, (End::Budget, 2, 0, &[], 2, 0)),
+    (LEAST_SIZE, 3, (End::Budget, 2, 0, &[], 3, 0)),
+    (LEAST_SIZE, 4, (End::Budget, 3, 0, &[], 4, 0)),
+    (LEAST_SIZE, 5, (End::Budget, 3, 0, &[], 5, 0)),
+    (LEAST_SIZE, 13, (End::Budget, 3, 0, &[], 13, 0)),
+    (LEAST_SIZE, 14, (End::Budget, 4, 0, &[], 14, 0)),
+    (LEAST_SIZE, 15, (End::Budget, 4, 0, &[], 15, 0)),
+    (LEAST_SIZE, 30, (End::Budget, 4, 0, &[], 30, 0)),
     (
         LEAST_SIZE,
         31,
-        (End::Design, 4, 0, &[1, 2, 4, 8, 14, 13], 31),
+        (End::Design, 4, 0, &[1, 2, 4, 8, 14, 13], 31, 4),
     ),
     (
         LEAST_SIZE,
         32,
-        (End::Design, 4, 0, &[1, 2, 4, 8, 14, 13], 31),
+        (End::Design, 4, 0, &[1, 2, 4, 8, 14, 13], 31, 4),
     ),
-    (LEAST_IN_BLOCKS, 11, (End::Budget, 3, 1, &[], 11)),
-    (LEAST_IN_BLOCKS, 12, (End::Design, 3, 1, &[1, 2, 4, 7], 12)),
-    (LEAST_IN_PAIRS, 6, (End::Budget, 2, 1, &[], 6)),
-    (LEAST_IN_PAIRS, 7, (End::Budget, 3, 2, &[], 7)),
-    (LEAST_IN_PAIRS, 22, (End::Budget, 3, 2, &[], 22)),
+    (LEAST_IN_BLOCKS, 11, (End::Budget, 3, 1, &[], 11, 0)),
+    (
+        LEAST_IN_BLOCKS,
+        12,
+        (End::Design, 3, 1, &[1, 2, 4, 7], 12, 3),
+    ),
+    (LEAST_IN_PAIRS, 6, (End::Budget, 2, 1, &[], 6, 0)),
+    (LEAST_IN_PAIRS, 7, (End::Budget, 3, 2, &[], 7, 0)),
+    (LEAST_IN_PAIRS, 22, (End::Budget, 3, 2, &[], 22, 0)),
     (
         LEAST_IN_PAIRS,
         23,
-        (End::Design, 3, 2, &[1, 2, 4, 6, 5], 23),
+        (End::Design, 3, 2, &[1, 2, 4, 6, 5], 23, 3),
     ),
-    (TWO_BLOCKS, 3, (End::Budget, 3, 1, &[], 3)),
-    (TWO_BLOCKS, 4, (End::Design, 3, 1, &[1, 2, 4, 7], 4)),
-    (TWO_BLOCKS, 5, (End::Design, 3, 1, &[1, 2, 4, 7], 4)),
-    (MOST_BLOCKS, 3, (End::Budget, 3, 1, &[], 3)),
-    (MOST_BLOCKS, 4, (End::Budget, 3, 1, &[1, 2, 4, 7], 4)),
-    (MOST_BLOCKS, 19, (End::Budget, 3, 1, &[1, 2, 4, 7], 19)),
-    (MOST_BLOCKS, 20, (End::Budget, 3, 2, &[1, 2, 4, 6, 5], 20)),
-    (MOST_BLOCKS, 21, (End::Budget, 3, 2, &[1, 2, 4, 6, 5], 21)),
-    (MOST_BLOCKS, 110, (End::Budget, 3, 2, &[1, 2, 4, 6, 5], 110)),
-    (MOST_BLOCKS, 111, (End::Design, 3, 2, &[1, 2, 4, 6, 5], 111)),
-    (MOST_BLOCKS, 112, (End::Design, 3, 2, &[1, 2, 4, 6, 5], 111)),
-    (LEAST_PATTERN, 30, (End::Budget, 5, 0, &[], 30)),
+    (TWO_BLOCKS, 3, (End::Budget, 3, 1, &[], 3, 0)),
+    (TWO_BLOCKS, 4, (End::Design, 3, 1, &[1, 2, 4, 7], 4, 3)),
+    (TWO_BLOCKS, 5, (End::Design, 3, 1, &[1, 2, 4, 7], 4, 3)),
+    (MOST_BLOCKS, 3, (End::Budget, 3, 1, &[], 3, 0)),
+    (MOST_BLOCKS, 4, (End::Budget, 3, 1, &[1, 2, 4, 7], 4, 3)),
+    (MOST_BLOCKS, 19, (End::Budget, 3, 1, &[1, 2, 4, 7], 19, 3)),
+    (
+        MOST_BLOCKS,
+        20,
+        (End::Budget, 3, 2, &[1, 2, 4, 6, 5], 20, 3),
+    ),
+    (
+        MOST_BLOCKS,
+        21,
+        (End::Budget, 3, 2, &[1, 2, 4, 6, 5], 21, 3),
+    ),
+    (
+        MOST_BLOCKS,
+        110,
+        (End::Budget, 3, 2, &[1, 2, 4, 6, 5], 110, 3),
+    ),
+    (
+        MOST_BLOCKS,
+        111,
+        (End::Design, 3, 2, &[1, 2, 4, 6, 5], 111, 3),
+    ),
+    (
+        MOST_BLOCKS,
+        112,
+        (End::Design, 3, 2, &[1, 2, 4, 6, 5], 111, 3),
+    ),
+    (CLEAR_OF_TWO_BLOCKS, 3, (End::Budget, 3, 1, &[], 3, 0)),
+    (
+        CLEAR_OF_TWO_BLOCKS,
+        4,
+        (End::Budget, 3, 1, &[1, 2, 4, 7], 4, 3),
+    ),
+    (
+        CLEAR_OF_TWO_BLOCKS,
+        5,
+        (End::Budget, 3, 1, &[1, 2, 4, 7], 5, 3),
+    ),
+    (
+        CLEAR_OF_TWO_BLOCKS,
+        7,
+        (End::Budget, 3, 1, &[1, 2, 4, 7], 7, 3),
+    ),
+    (
+        CLEAR_OF_TWO_BLOCKS,
+        8,
+        (End::Design, 3, 1, &[1, 2, 4, 7], 8, 4),
+    ),
+    (
+        CLEAR_OF_TWO_BLOCKS,
+        9,
+        (End::Design, 3, 1, &[1, 2, 4, 7], 8, 4),
+    ),
+    (CLEAR_OF_FOUR_BLOCKS, 8, (End::Budget, 4, 2, &[], 8, 0)),
+    (
+        CLEAR_OF_FOUR_BLOCKS,
+        9,
+        (End::Budget, 4, 2, &[1, 2, 4, 8, 15, 12], 9, 3),
+    ),
+    (
+        CLEAR_OF_FOUR_BLOCKS,
+        10,
+        (End::Budget, 4, 2, &[1, 2, 4, 8, 15, 12], 10, 3),
+    ),
+    (
+        CLEAR_OF_FOUR_BLOCKS,
+        17,
+        (End::Budget, 4, 2, &[1, 2, 4, 8, 15, 12], 17, 3),
+    ),
+    (
+        CLEAR_OF_FOUR_BLOCKS,
+        18,
+        (End::Budget, 4, 2, &[1, 2, 4, 8, 15, 12], 18, 4),
+    ),
+    (
+        CLEAR_OF_FOUR_BLOCKS,
+        19,
+        (End::Budget, 4, 2, &[1, 2, 4, 8, 15, 12], 19, 4),
+    ),
+    (
+        CLEAR_OF_FOUR_BLOCKS,
+        117,
+        (End::Budget, 4, 2, &[1, 2, 4, 8, 15, 12], 117, 4),
+    ),
+    (
+        CLEAR_OF_FOUR_BLOCKS,
+        118,
+        (End::Design, 4, 2, &[1, 2, 4, 8, 15, 12], 118, 4),
+    ),
+    (
+        CLEAR_OF_FOUR_BLOCKS,
+        119,
+        (End::Design, 4, 2, &[1, 2, 4, 8, 15, 12], 118, 4),
+    ),
+    (LEAST_PATTERN, 30, (End::Budget, 5, 0, &[], 30, 0)),
     (
         LEAST_PATTERN,
         55,
-        (End::Budget, 5, 0, &[1, 2, 4, 8, 16, 31, 28], 55),
+        (End::Budget, 5, 0, &[1, 2, 4, 8, 16, 31, 28], 55, 0),
     ),
     (
         LEAST_PATTERN,
         56,
-        (End::Budget, 5, 0, &[1, 2, 4, 8, 16, 30, 29], 56),
+        (End::Budget, 5, 0, &[1, 2, 4, 8, 16, 30, 29], 56, 0),
     ),
     (
         LEAST_PATTERN,
         281,
-        (End::Budget, 5, 0, &[1, 2, 4, 8, 16, 30, 29], 281),
+        (End::Budget, 5, 0, &[1, 2, 4, 8, 16, 30, 29], 281, 0),
     ),
     (
         LEAST_PATTERN,
         282,
-        (End::Design, 5, 0, &[1, 2, 4, 8, 16, 30, 29], 282),
+        (End::Design, 5, 0, &[1, 2, 4, 8, 16, 30, 29], 282, 3),
     ),
     (
         ";factors A B C D E;size design=8;model resolution=4;",
         10,
-        (End::NoDesign, 3, 0, &[], 10),
+        (End::NoDesign, 3, 0, &[], 10, 0),
     ),
 ];
 
@@ -155,11 +255,12 @@ fn has_rows(matrix: &Option<Matrix>, rows: &[u16]) -> bool {
 }
 
 /// Whether an outcome is this one.
-fn has_ended(outcome: &Outcome, (end, m, t, rows, nodes): Ended) -> bool {
+fn has_ended(outcome: &Outcome, (end, m, t, rows, nodes, reached): Ended) -> bool {
     outcome.end == end
         && outcome.shape.m == m
         && outcome.shape.t == t
         && outcome.nodes == nodes
+        && outcome.reached == reached
         && has_rows(&outcome.matrix, rows)
 }
 

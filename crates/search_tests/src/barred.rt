@@ -1,46 +1,54 @@
-ghost use Rattle.std.specs.Prelude.{◌≡◌, ◌≤◌, ◌^◌, IsTrue};
-ghost use Rattle.fx_designs.specs.Galois.{is_order};
+ghost use Rattle.std.specs.Prelude.{◌≡◌};
+ghost use Rattle.fx_vectors.specs.Shape.{IsShape, dimensions_of};
 
-use fx_barred::Reached;
-use fx_galois::Field;
+use crate::questions::{question, shape_of};
+use fx_search::{Barred, Pruner};
 use fx_vectors::Shape;
+use std::process::Abort;
 
-fn field(q: u8) -> Field
-    requires { IsTrue (is_order q) }
-    ensures { result ≡ q }
+/// Adds a row that does not close the prefix.
+fn push_open(rt: &impl Abort, shape: Shape, barred: &mut Barred, row: u16)
+    requires shaped { IsShape shape }
+    requires shape { barred.old.problem.dimensions ≡ dimensions_of shape }
+    ensures shape { barred.new.problem.dimensions ≡ dimensions_of shape }
 {
-    Shape {
-        q,
-        m: 1,
-        s: 1,
-        t: 0,
-    }
-    .field()
+    assert!(rt; barred.len() < shape.rows());
+    assert!(rt; row < shape.runs());
+    assert!(rt; !barred.closes(row));
+    barred.push(row).expect(rt, "memory");
 }
 
-/// Whether all rows of eight runs are reached by two.
-fn reaches_all(reached: &Reached) -> bool
-    requires left { 2 ≤ reached.now.most }
-    requires points { 8 ≤ reached.now.q ^ reached.now.m }
+/// Whether the first eight rows are barred.
+fn bars_eight(rt: &impl Abort, shape: Shape, barred: &Barred) -> bool
+    requires shaped { IsShape shape }
+    requires shape { barred.now.problem.dimensions ≡ dimensions_of shape }
 {
-    for row in 0..8 {
-        if !reached.reaches(2, row) {
-            return false;
-        }
-    }
-    true
+    assert!(rt; barred.len() < shape.rows());
+    barred.barred().next_absent_below(8).is_none()
+}
+
+/// The word by which a row closes the prefix.
+fn closing_word(rt: &impl Abort, shape: Shape, barred: &Barred, row: u16) -> u128
+    requires shaped { IsShape shape }
+    requires shape { barred.now.problem.dimensions ≡ dimensions_of shape }
+{
+    assert!(rt; barred.len() < shape.rows());
+    assert!(rt; row < shape.runs());
+    assert!(rt; barred.closes(row));
+    barred.word(row)
 }
 
 /// A, B, C and D = ABC in eight runs: at resolution 4 no fifth factor is left, and 6, which is BC or
 /// AD, is barred by the word ADE.
 #[test]
 fn all_rows_are_barred_after_a_half_fraction(rt: HostRuntime) {
-    let mut reached = Reached::of(rt.alloc(), field(2), 3, 2, 5).expect(&rt, "memory");
-    reached.push(1);
-    reached.push(2);
-    reached.push(4);
-    reached.push(7);
-    assert!(rt; reaches_all(&reached));
-    assert!(rt; !reached.reaches(1, 6));
-    assert!(rt; reached.closing_word(2, 6) == 25);
+    let question = question(&rt, shape_of(&rt, (2, 3, 5, 0)), 4, false);
+    let shape = question.shape;
+    let mut barred = Barred::of(rt.alloc(), &question).expect(&rt, "memory");
+    push_open(&rt, shape, &mut barred, 1);
+    push_open(&rt, shape, &mut barred, 2);
+    push_open(&rt, shape, &mut barred, 4);
+    push_open(&rt, shape, &mut barred, 7);
+    assert!(rt; bars_eight(&rt, shape, &barred));
+    assert!(rt; closing_word(&rt, shape, &barred, 6) == 25);
 }

@@ -1,3 +1,5 @@
+ghost use Rattle.fx_vectors.specs.Shape.{IsShape};
+
 use fx_base::Bytes;
 use fx_book::{BookStop, book_pieces, read_book, write_book};
 use fx_vectors::{Book, Demands, Mark, Marks};
@@ -7,7 +9,7 @@ use std::thread::Threads;
 
 /// The book of five factors in eight runs at resolution 4, of which there is no design.
 const WORKED: &str =
-    "factex-book 1\nsize 2 3 5 0\nresolution 4\npattern none\nO 1\nO 2\nO 4\nO 7\nW 6 25\nW 5 26\nW 3 28\nW 6 14\nW 5 13\nW 3 11\nEND\n";
+    "factex-book 2\nsize 2 3 5 0\nresolution 4\npattern none\nO 1\nO 2\nO 4\nO 7\nW 6 1:1 4:1 5:1\nW 5 2:1 4:1 5:1\nW 3 3:1 4:1 5:1\nW 6 2:1 3:1 4:1\nW 5 1:1 3:1 4:1\nW 3 1:1 2:1 4:1\nEND\n";
 
 /// The code and the line of a text's first fault, or None for a book.
 fn fault(alloc: Global, text: &[u8]) -> Option<(u8, u32)> {
@@ -66,12 +68,14 @@ fn all_come_back(rt: &impl Abort, alloc: Global, cases: &[&str]) {
 
 #[test]
 fn books_come_back(rt: HostRuntime) {
-    const TEXTS: [&str; 5] = [
+    const TEXTS: [&str; 7] = [
         WORKED,
-        "factex-book 1\nsize 2 3 4 0\nresolution 4\npattern 0 0 0 1\nO 1\nO 2\nO 4\nP 7\nP 6\nP 5\nP 3\nEND\n",
-        "factex-book 1\nsize 2 1 2 0\neffects 1 2 /\npattern none\nO 1\nW 1 3\nW 0 2\nW 0 1\nEND\n",
-        "factex-book 1\nsize 3 2 4 2\neffects 1 2 3 / 4 8 5\npattern none\nEND\n",
-        "factex-book 1\nsize 9 3 40 0\nresolution 99\npattern none\nW 728 147808829414345923316083210206383297600\nEND\n",
+        "factex-book 2\nsize 2 3 4 0\nresolution 4\npattern 0 0 0 1\nO 1\nO 2\nO 4\nP 7\nP 6\nP 5\nP 3\nEND\n",
+        "factex-book 2\nsize 2 1 2 0\neffects 1 2 /\npattern none\nO 1\nW 1 1:1 2:1\nW 0 2:1\nW 0 1:1\nEND\n",
+        "factex-book 2\nsize 3 2 4 2\neffects 1 2 3 / 4 8 5\npattern none\nEND\n",
+        "factex-book 2\nsize 9 3 40 0\nresolution 99\npattern none\nW 728 #147808829414345923316083210206383297600\nEND\n",
+        "factex-book 2\nsize 2 6 63 0\nresolution 99\npattern none\nW 63 #9223372036854775807\nW 1 41:1 63:1\nEND\n",
+        "factex-book 2\nsize 3 6 63 0\nresolution 99\npattern none\nW 728 #1144561273430837494885949696426\nW 0 1:1 2:2 3:1 4:2 5:1 6:2 7:1 63:2\nEND\n",
     ];
     all_come_back(&rt, rt.alloc(), &TEXTS);
 }
@@ -85,7 +89,9 @@ fn add_words(rt: &impl Abort, marks: &mut Marks, count: u32) {
 }
 
 /// The text of a book, from the pieces of so many threads.
-fn text_by<R: Threads + Sync + Abort>(rt: &R, alloc: Global, book: &Book, threads: u8) -> Bytes {
+fn text_by<R: Threads + Sync + Abort>(rt: &R, alloc: Global, book: &Book, threads: u8) -> Bytes
+    requires { IsShape book.now.head.question.shape }
+{
     assert!(rt; threads > 0);
     let pieces = book_pieces(rt, alloc, book, threads).expect(rt, "memory");
     let mut text = Bytes::new(alloc);
@@ -112,11 +118,11 @@ fn pieces_make_the_text(rt: HostRuntime) {
 
 #[test]
 fn first_lines_have_their_faults(rt: HostRuntime) {
-    const CASES: [(&str, u8, u32); 22] = [
+    const CASES: [(&str, u8, u32); 26] = [
         ("", 2, 1),
         ("\n", 2, 1),
         ("factex-book 1", 2, 1),
-        ("factex-book 2\nsize 2 3 5 0\n", 2, 1),
+        ("factex-book 3\nsize 2 3 5 0\n", 2, 1),
         ("factex-book 1\r\nsize 2 3 5 0\n", 2, 1),
         ("factex-book 1\n", 3, 2),
         ("factex-book 1\nsize 2 3 5 0", 3, 2),
@@ -132,6 +138,10 @@ fn first_lines_have_their_faults(rt: HostRuntime) {
         ("factex-book 1\nsize 3 7 5 0\n", 3, 2),
         ("factex-book 1\nsize 2 3 0 0\n", 3, 2),
         ("factex-book 1\nsize 2 3 41 0\n", 3, 2),
+        ("factex-book 1\nsize 2 6 63 0\n", 3, 2),
+        ("factex-book 2\nsize 2 6 64 0\n", 3, 2),
+        ("factex-book 2\nsize 4 3 41 0\n", 3, 2),
+        ("factex-book 2\nsize 2 6 31 1\n", 3, 2),
         ("factex-book 1\nsize 2 3 31 1\n", 3, 2),
         ("factex-book 1\nsize 2 3 5 11\n", 3, 2),
         (
@@ -248,10 +258,8 @@ fn patterns_have_their_faults(rt: HostRuntime) {
     are_faulty(&rt, rt.alloc(), &CASES);
 }
 
-/// Tests that these lines have a fault of this code as entries of five factors in eight runs, where
-/// there is no pattern to beat.
-fn are_no_entries(rt: &impl Abort, alloc: Global, code: u8, lines: &[&str]) {
-    let front = "factex-book 1\nsize 2 3 5 0\nresolution 4\npattern none\nO 1\n";
+/// Tests that these lines have a fault of this code as entries behind these five lines.
+fn are_no_entries(rt: &impl Abort, alloc: Global, front: &str, code: u8, lines: &[&str]) {
     for line in lines {
         let found = fault_with(rt, alloc, front, line, "\nEND\n");
         assert!(rt; found == Some((code, 6)), "{line}");
@@ -260,11 +268,12 @@ fn are_no_entries(rt: &impl Abort, alloc: Global, code: u8, lines: &[&str]) {
 
 #[test]
 fn entries_have_their_faults(rt: HostRuntime) {
-    const MALFORMED: [&str; 16] = [
+    let front = "factex-book 1\nsize 2 3 5 0\nresolution 4\npattern none\nO 1\n";
+    const MALFORMED: [&str; 17] = [
         "", "O", "O ", "O 1 ", "O  1", "O 1\r", "O 01", "O 1 1", "o 1", "P 1", "P 9", "W 1",
-        "W 1 01", "W 1 1 1", "END ", "W 8 x",
+        "W 1 01", "W 1 1 1", "END ", "W 8 x", "W 1 1:1",
     ];
-    are_no_entries(&rt, rt.alloc(), 6, &MALFORMED);
+    are_no_entries(&rt, rt.alloc(), front, 6, &MALFORMED);
     const OUT_OF_RANGE: [&str; 6] = [
         "O 8",
         "O 1000000000000000000000000000000000000000",
@@ -273,7 +282,45 @@ fn entries_have_their_faults(rt: HostRuntime) {
         "W 7 32",
         "W 7 1000000000000000000000000000000000000000",
     ];
-    are_no_entries(&rt, rt.alloc(), 7, &OUT_OF_RANGE);
+    are_no_entries(&rt, rt.alloc(), front, 7, &OUT_OF_RANGE);
+}
+
+/// Of nine factors of three levels, by their places: in a wrong form; then out of range, with nine parts,
+/// with places that fall or repeat, and by the number of a vector of eight entries.
+#[test]
+fn words_have_their_faults(rt: HostRuntime) {
+    let front = "factex-book 2\nsize 3 2 9 0\nresolution 4\npattern none\nO 1\n";
+    const MALFORMED: [&str; 14] = [
+        "W 6 25",
+        "W 6 ",
+        "W 6 4",
+        "W 6 4:",
+        "W 6 :1",
+        "W 6 4:1:1",
+        "W 6 4:01",
+        "W 6 4:1 5",
+        "W 6 4:1 ",
+        "W 6 #",
+        "W 6 #09841",
+        "W 6 #9841 4:1",
+        "W 6 4:1 #9841",
+        "W 9 10:1 x",
+    ];
+    are_no_entries(&rt, rt.alloc(), front, 6, &MALFORMED);
+    const OUT_OF_RANGE: [&str; 11] = [
+        "W 6 1:1 2:1 3:1 4:1 5:1 6:1 7:1 8:1 9:1",
+        "W 6 4:1 3:1",
+        "W 6 4:1 4:1",
+        "W 6 0:1",
+        "W 6 10:1",
+        "W 6 4:0",
+        "W 6 4:3",
+        "W 9 4:1",
+        "W 6 #3280",
+        "W 6 #0",
+        "W 6 #19683",
+    ];
+    are_no_entries(&rt, rt.alloc(), front, 7, &OUT_OF_RANGE);
 }
 
 #[test]

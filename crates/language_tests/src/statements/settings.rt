@@ -63,12 +63,14 @@ const RESOLUTIONS: [(&str, u8, u32, u32); 4] = [
 ];
 
 /// What cannot stand together is refused.
-const CANNOT_STAND_TOGETHER: [(&str, u8, u32, u32); 10] = [
-    ("blocks nblkfacs=1;", 13, 2, 1),
-    ("model r=max;blocks nblocks=2;", 13, 2, 13),
+const CANNOT_STAND_TOGETHER: [(&str, u8, u32, u32); 12] = [
+    ("blocks nblkfacs=max;", 13, 2, 1),
+    ("model r=max;blocks nblocks=max;", 13, 2, 13),
+    ("model r=max;blocks size=min;", 13, 2, 13),
     ("model r=4/minabs;blocks size=2;", 13, 2, 18),
     ("blocks nblkfacs=max;model r=max / minabs;", 13, 2, 1),
     ("size design=min;", 14, 2, 13),
+    ("size design=min;blocks nblkfacs=1;", 14, 2, 13),
     ("size fraction=max;model r=max;", 14, 2, 15),
     ("size nrunfacs=minimum;model r=3/minabs;", 14, 2, 15),
     ("size design=min;model r=3;blocks nblkfacs=max;", 14, 2, 13),
@@ -99,7 +101,7 @@ const BLOCKS_OF_A_LEAST_SIZE: [(&str, u8, u32, u32); 5] = [
 ];
 
 /// Settings within the limits are accepted.
-const WITHIN_THE_LIMITS: [&str; 17] = [
+const WITHIN_THE_LIMITS: [&str; 20] = [
     "size design=2;",
     "size design=01024;",
     "size fraction=1;",
@@ -111,6 +113,9 @@ const WITHIN_THE_LIMITS: [&str; 17] = [
     "model r=max / minabs;",
     "size design=8;model r=3;blocks nblkfacs=3;",
     "size design=1024;model r=3;blocks nblkfacs=10;",
+    "blocks nblkfacs=1;",
+    "model r=max;blocks nblocks=2;",
+    "model r=max;blocks size=2;",
     "size design=8;model r=3;blocks nblocks=8;",
     "size design=8;model r=3;blocks size=1;",
     "size design=8;model r=3;blocks size=4;",

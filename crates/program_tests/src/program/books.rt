@@ -4,7 +4,11 @@ use super::outside::count;
 use super::*;
 
 /// That no five factors of two levels have resolution 4 in eight runs.
-pub(super) const NO_FIVE: &str =
+const NO_FIVE: &str =
+    "factex-book 2\nsize 2 3 5 0\nresolution 4\npattern none\nO 1\nO 2\nO 4\nO 7\nW 6 1:1 4:1 5:1\nW 5 2:1 4:1 5:1\nW 3 3:1 4:1 5:1\nW 6 2:1 3:1 4:1\nW 5 1:1 3:1 4:1\nW 3 1:1 2:1 4:1\nEND\n";
+
+/// The same in version 1.
+pub(super) const NO_FIVE_BEFORE: &str =
     "factex-book 1\nsize 2 3 5 0\nresolution 4\npattern none\nO 1\nO 2\nO 4\nO 7\nW 6 25\nW 5 26\nW 3 28\nW 6 14\nW 5 13\nW 3 11\nEND\n";
 
 /// What is listed where that book is accepted.
@@ -39,11 +43,11 @@ const BOOKS: &[(&str, &str, &[(&str, &str)], u8)] = &[
         &[
             (
                 "step1-1.book",
-                "factex-book 1\nsize 2 1 6 0\nresolution 4\npattern none\nO 1\nEND\n",
+                "factex-book 2\nsize 2 1 6 0\nresolution 4\npattern none\nO 1\nEND\n",
             ),
             (
                 "step1-2.book",
-                "factex-book 1\nsize 2 2 6 0\nresolution 4\npattern none\nO 1\nO 2\nW 3 7\nEND\n",
+                "factex-book 2\nsize 2 2 6 0\nresolution 4\npattern none\nO 1\nO 2\nW 3 1:1 2:1 3:1\nEND\n",
             ),
         ],
         2,
@@ -53,7 +57,7 @@ const BOOKS: &[(&str, &str, &[(&str, &str)], u8)] = &[
         "step 1\nfactors 2 levels 2\nno design in 2 runs\nnodes 4\nbook step1-1.book\n",
         &[(
             "step1-1.book",
-            "factex-book 1\nsize 2 1 2 0\neffects 1 2 /\npattern none\nO 1\nW 1 3\nW 0 2\nW 0 1\nEND\n",
+            "factex-book 2\nsize 2 1 2 0\neffects 1 2 /\npattern none\nO 1\nW 1 1:1 2:1\nW 0 2:1\nW 0 1:1\nEND\n",
         )],
         1,
     ),
@@ -64,7 +68,7 @@ const BOOKS: &[(&str, &str, &[(&str, &str)], u8)] = &[
         &[
             (
                 "step1-1.book",
-                "factex-book 1\nsize 2 3 4 0\nresolution 3\npattern 0 0 0 1\nO 1\nO 2\nO 4\nP 7\nP 6\nP 5\nP 3\nEND\n",
+                "factex-book 2\nsize 2 3 4 0\nresolution 3\npattern 0 0 0 1\nO 1\nO 2\nO 4\nP 7\nP 6\nP 5\nP 3\nEND\n",
             ),
             (
                 "half.csv",
@@ -92,7 +96,7 @@ const LEAST_LISTING: &str =
 #[test]
 fn the_book_of_a_least_pattern_is_accepted(rt: HostRuntime) {
     let book = file_of(&rt, rt.alloc(), LEAST.as_bytes(), SURE, 0, LEAST_LISTING);
-    let head = "factex-book 1\nsize 2 5 7 0\nresolution 3\npattern 0 0 0 1 2 0 0\n";
+    let head = "factex-book 2\nsize 2 5 7 0\nresolution 3\npattern 0 0 0 1 2 0 0\n";
     assert!(rt; book.as_slice().starts_with(head.as_bytes()));
     assert!(rt; count(book.as_slice(), b'\n') == 4 + 282 + 1);
     let listing = "accepted\nsize 2 5 7 0\nresolution 3\npattern 0 0 0 1 2 0 0\n";
@@ -100,8 +104,9 @@ fn the_book_of_a_least_pattern_is_accepted(rt: HostRuntime) {
 }
 
 /// Books that claim the same, each with what `check` lists of it and its status.
-const JUDGED: [(&str, &str, u8); 9] = [
+const JUDGED: [(&str, &str, u8); 10] = [
     (NO_FIVE, NO_FIVE_ACCEPTED, 0),
+    (NO_FIVE_BEFORE, NO_FIVE_ACCEPTED, 0),
     // Another word that closes the same prefix.
     (
         "factex-book 1\nsize 2 3 5 0\nresolution 4\npattern none\nO 1\nO 2\nO 4\nO 7\nW 6 22\nW 5 26\nW 3 28\nW 6 14\nW 5 13\nW 3 11\nEND\n",

@@ -30,12 +30,15 @@ const ALL: &str =
 const BOOK: &str =
     "factex-book 1\nsize 2 1 2 0\neffects 1 2 /\npattern none\nO 1\nW 1 3\nW 0 2\nW 0 1\nEND\n";
 
+/// A plan that is judged.
+const JUDGED: &str = "A,B,C\n-1,-1,-1\n-1,1,1\n1,-1,1\n1,1,-1\n";
+
 /// How many bytes a call takes where each piece is to go in one.
 const PIECE: usize = 5000;
 
 /// Words and texts, with how many bytes a call takes, and how many calls are made: reads, the last of which
 /// finds the end, writes to the listing, and calls on the shelf, which begin a file, write it and end it.
-const CALLS: [(&str, &str, usize, [usize; 3]); 9] = [
+const CALLS: [(&str, &str, usize, [usize; 3]); 11] = [
     ("run", TWO_PLANS, PIECE, [2, 2, 9]),
     ("run", TWO_PLANS, 1, [TWO_PLANS.len() + 1, 198, 115]),
     ("run", CLASSES, PIECE, [2, 1, 3]),
@@ -43,6 +46,8 @@ const CALLS: [(&str, &str, usize, [usize; 3]); 9] = [
     ("run", ALL, PIECE, [2, 1, 6]),
     ("run", "proc factor;", PIECE, [2, 1, 0]),
     ("check", BOOK, 1, [BOOK.len() + 1, 49, 0]),
+    ("judge 2", JUDGED, 1, [JUDGED.len() + 1, 143, 0]),
+    ("judge 4", JUDGED, PIECE, [2, 1, 0]),
     ("make 1", "", PIECE, [0, 1, 0]),
     ("large 2", "", 1, [0, 43, 0]),
 ];

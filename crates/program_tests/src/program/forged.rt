@@ -1,6 +1,6 @@
 //! Small books, each of whose lines is changed in turn. What `check` lists of them was found by a checker in
 //! another language, written from what docs/BOOKS.md says of books.
-use super::books::NO_FIVE;
+use super::books::NO_FIVE_BEFORE;
 use super::outside::{SURE, count, left_by, lists};
 use fx_base::{Bytes, put};
 use std::alloc::Global;
@@ -102,13 +102,13 @@ const BOOKS: [(&str, &str); 3] = [
         \n\
         \n\
         1 B2, accepted, 5 K1\n\
-        1 B2, 8 K5, 5 K1\n\
+        accepted, 8 K5, 5 K1\n\
         6 B7, 3 B4, 11 K1\n\
         6 K1, 6 K1\n\
         4 B5, 8 K5\n\
         6 K1, 6 K1\n\
         2 B3, 6 K1\n\
-        1 B2, 8 K5, 5 K1\n\
+        accepted, 8 K5, 5 K1\n\
         8 B7\n\
         \n\
         1 B2, 2 B3, 3 B4, 4 B5, 5 K1, 6 K1, 7 K1, 8 K1, 9 K1, 10 K1, 11 K6, 12 B8\n\
@@ -145,13 +145,13 @@ const BOOKS: [(&str, &str); 3] = [
         6 B6, 7 B6, 8 B6\n\
         6 B6, 7 B6, 8 B6\n\
         1 B2, 2 B3, 3 B4, 5 K1, 6 K1\n\
-        1 B2, 6 K1, 3 B4, 5 K1, 6 K1\n\
+        6 B6, 6 K1, 3 B4, 5 K1, 6 K1\n\
         2 B3, 3 B4\n\
         accepted, 3 B4, 8 K3\n\
         accepted, 7 K1, 8 K1\n\
         accepted, 3 B4, 8 K3\n\
         3 B4, 3 B4, accepted\n\
-        1 B2, 6 K1, 3 B4, 5 K1, 6 K1\n\
+        6 B6, 6 K1, 3 B4, 5 K1, 6 K1\n\
         6 K3\n\
         \n\
         1 B2, 2 B3, 3 B4, 4 B5, 5 K3, 6 K1, 7 K3, 8 K6, 9 B8\n\
@@ -188,13 +188,13 @@ const BOOKS: [(&str, &str); 3] = [
         8 B6, 9 B6, 10 B6, 11 B6\n\
         8 B6, 9 B6, 10 B6, 11 B6\n\
         1 B2, 8 B7, 5 K1, 8 B6, 9 B6, 10 K1\n\
-        1 B2, accepted, 5 K1, 8 B7, 9 B7, 10 K1\n\
+        8 B6, accepted, 5 K1, 8 B7, 9 B7, 10 K1\n\
         8 B7, 3 B4, 7 K1, 8 K1\n\
         6 K1, 6 K1, 8 K3, 9 K1\n\
         9 K3, 11 K1\n\
         7 K1, 6 B7, 8 K3, 9 B7\n\
         6 B7, 6 K1, 8 K4, 9 K1\n\
-        1 B2, accepted, 5 K1, 8 B7, 9 B7, 10 K1\n\
+        8 B6, accepted, 5 K1, 8 B7, 9 B7, 10 K1\n\
         \n\
         10 K3\n\
         1 B2, 2 B3, 3 B4, 4 B5, 5 K1, 6 K1, 7 K3, 8 K1, 9 K1, 10 K1, 11 K6, 12 B8\n\
@@ -384,7 +384,7 @@ const REPLACED: [(usize, &str, &str); 14] = [
 /// The book with another text in the place of a line, counted from 1.
 fn with_line(rt: &impl Abort, alloc: Global, line: usize, other: &str) -> Bytes {
     let mut text = Bytes::new(alloc);
-    for (i, own) in NO_FIVE.lines().enumerate() {
+    for (i, own) in NO_FIVE_BEFORE.lines().enumerate() {
         if i.saturating_add(1) == line {
             append(rt, &mut text, other.as_bytes());
         } else {

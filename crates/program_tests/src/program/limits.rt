@@ -153,9 +153,21 @@ fn begins_with<R: Threads + Sync + Abort>(
     left.status == 0 && listing.starts_with(first.as_bytes()) && count(listing, b'=') == rules
 }
 
+/// Sixty-three factors of two levels, and one more.
+#[test]
+fn a_step_has_at_most_63_factors(rt: HostRuntime) {
+    let text = "proc factex;\nfactors F1-F64;\nrun;\n";
+    let message = "factex: E10 2:9 too many factors\n";
+    assert!(rt; runs(&rt, rt.alloc(), text, 3, message));
+    let text = "proc factex;\nfactors F1-F63;\nsize design=64;\nmodel resolution=3;\n";
+    let first =
+        "step 1\nfactors 63 levels 2\ndesign 64 runs\nresolution 3\nnodes 63\nrules\n  F7 = F1*F2*F3*F4*F5*F6\n";
+    assert!(rt; begins_with(&rt, rt.alloc(), text, first, 57));
+}
+
 /// Forty factors of nine levels, and one more.
 #[test]
-fn a_step_has_at_most_40_factors(rt: HostRuntime) {
+fn a_step_has_at_most_40_factors_of_many_levels(rt: HostRuntime) {
     let text = "proc factex;\nfactors F1-F41 / nlev=9;\nrun;\n";
     let message = "factex: E10 2:9 too many factors\n";
     assert!(rt; runs(&rt, rt.alloc(), text, 3, message));

@@ -10,7 +10,7 @@ loop-place-preserved c =
     let shaped = c.shape-shape.ensures.valid.shaped in
     next_sum c.args.matrix.now (is_order-field c.args.matrix.now.shape.q shaped.order) shaped.runs c.loop-place.place
     c.loop-place.span c.insert.new.self c.loop-place.invariant
-    (λ y low. c.insert.ensures y low ∙ ap (λ x. (y == x) || has c.loop-place.span y) c.block_sum.ensures.sum)
+    (λ y low. c.insert.ensures.added y low ∙ ap (λ x. (y == x) || has c.loop-place.span y) c.block_sum.ensures.sum)
 
 pub returns : goal.returns
 returns c =

@@ -7,7 +7,7 @@ use Rattle.fx_runs.specs.Runs.{design_of}
 use Rattle.fx_statements.specs.Goals.{goal_of}
 use Rattle.fx_alias.specs.Aliasing.{listed_components}
 use Rattle.fx_alias.specs.Blocked.{component_line, is_blocked}
-use Rattle.fx_alias.specs.Rules.{or_none}
+use Rattle.fx_components.specs.Lines.{or_none}
 use Rattle.fx_alias.proofs.blocked.put_section.Goals as goal
 
 pub returns : goal.returns

@@ -1,6 +1,6 @@
 use Rattle.std.proofs.lemmas.List.Elements.{recursion_from_All}
 use Rattle.fx_alias.proofs.Exact.{exactly_once}
-use Rattle.fx_alias.proofs.Enumerating.{components-vectors}
+use Rattle.fx_components.proofs.Enumerating.{components-vectors}
 use Rattle.fx_alias.proofs.Rising.{rising}
 use Rattle.fx_alias.proofs.laws.components_are_the_normal_vectors.Goals as goal
 

@@ -1,7 +1,7 @@
 use Rattle.std.proofs.Common.{◌≡◌, ◌++◌, ◌∙◌, List, ℕ, append_assoc, ap, subst}
 use Rattle.std.specs.Prelude.{OnOk, codes}
 use Rattle.fx_alias.specs.Patterns.{words_lines}
-use Rattle.fx_alias.specs.Rules.{or_none}
+use Rattle.fx_components.specs.Lines.{or_none}
 use Rattle.fx_alias.proofs.pattern.put_section.Goals as goal
 
 pub returns : goal.returns

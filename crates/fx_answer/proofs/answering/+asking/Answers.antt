@@ -6,12 +6,14 @@ use Rattle.fx_designs.specs.Jobs.{carried}
 use Rattle.fx_designs.specs.Answers.{answer}
 use Rattle.fx_designs.specs.Nodes.{nodes}
 use Rattle.fx_designs.specs.Problems.{Problem}
+use Rattle.fx_search.specs.Standing as fx_search
 use Rattle.fx_statements.specs.Steps.{meaning_of}
-use Rattle.fx_statements.specs.Questions.{found_by, last_found, nodes_of, question_for, until}
+use Rattle.fx_statements.specs.Questions.{cut_short, found_by, last_found, nodes_of, question_for, reached_beside}
+use Rattle.fx_statements.specs.Questions.{until}
 use Rattle.fx_statements.proofs.Concluded.{nodes_more}
 use Rattle.fx_answer.specs.Standing.{StandsFor, books_in_asking, conclusion_in_asking, questions_above}
-use Rattle.fx_answer.proofs.Answered.{found-of, found-stands, found-whole, left-is-whole, left-of, left-stands}
-use Rattle.fx_answer.proofs.Answered.{nothing-stands}
+use Rattle.fx_answer.proofs.Answered.{found-of, found-reached, found-stands, found-whole, left-is-whole, left-of}
+use Rattle.fx_answer.proofs.Answered.{left-stands, nothing-reached, nothing-stands}
 use Rattle.fx_answer.proofs.Asking.{books_so_far, come_more, ended, past}
 use Rattle.fx_answer.proofs.answering.+asking.Goals as goal
 
@@ -67,9 +69,10 @@ ask_from-returns-in_ok-add_answer-in-Found-clause-concluded g t c =
     let same = c.in_ok-question.ensures.problem in
     let h = rw c.in-Found.is at c.in_ok-matrix.ensures.answer in
     let counted : c.in-Found.nodes ≡ length (nodes p) = h.2 ∙ ap (λ p. length (nodes p)) same in
-    IfOk-weaker c.go_on.result _ _ (λ outcome after earlier is stands.
+    IfOk-weaker c.go_on.result _ _ (λ outcome after earlier is stands reached.
     after (earlier ++ p ∷ []) (more earlier p c.args.finished.nodes c.in-Found.nodes is counted)
     (found-stands question c.in-Found.matrix h.0 h.1 p same earlier)
+    (c.resolution_wanted-reached.ensures ∙ found-reached question c.in-Found.matrix h.0 h.1 p same earlier)
     ∙ sym (past step (conclusion_in_asking step) earlier c.args.n c.requires.high
     (omega (arith, is, counted, h.4, c.requires.within))))
     c.go_on.ensures.concluded
@@ -99,9 +102,10 @@ ask_from-returns-in_ok-add_absence-in-Nothing-clause-concluded g t c =
     let same = c.in_ok-question.ensures.problem in
     let h = rw c.in-Nothing.is at c.in_ok-matrix.ensures.answer in
     let counted : c.in-Nothing.nodes ≡ length (nodes p) = h.1 ∙ ap (λ p. length (nodes p)) same in
-    IfOk-weaker c.go_on-in-Nothing.result _ _ (λ outcome after earlier is stands.
+    IfOk-weaker c.go_on-in-Nothing.result _ _ (λ outcome after earlier is stands reached.
     after (earlier ++ p ∷ []) (more earlier p c.args.finished.nodes c.in-Nothing.nodes is counted)
     (nothing-stands p c.args.finished.found earlier (ap answer (sym same) ∙ h.0) stands)
+    (reached ∙ nothing-reached p earlier (ap answer (sym same) ∙ h.0))
     ∙ sym (past step (conclusion_in_asking step) earlier c.args.n c.requires.high
     (omega (arith, is, counted, h.3, c.requires.within))))
     c.go_on-in-Nothing.ensures.concluded
@@ -140,7 +144,7 @@ ask_from-returns-in-Budget-clause-of_step g t c =
     c.in-Budget.best c.args.finished.found h.2 of c.requires.found))
 
 pub ask_from-returns-in-Budget-clause-concluded : goal.ask_from-returns-in-Budget-clause-concluded
-ask_from-returns-in-Budget-clause-concluded g t c = λ earlier is stands.
+ask_from-returns-in-Budget-clause-concluded g t c = λ earlier is stands before.
     let step = meaning_of c.args.step.now in
     let question = c.in_ok-question.question in
     let p = question_for step c.args.n in
@@ -158,7 +162,14 @@ ask_from-returns-in-Budget-clause-concluded g t c = λ earlier is stands.
     (found_by (last_found None earlier) p (carried p n))) spent
     (left-stands question (budget - nodes_before) c.in-Budget.best found_before (last_found None earlier) p h.1 h.2 same
     stands) in
+    let carried_is : fx_search.best_rows c.in-Budget.best ≡ carried p (budget - nodes_of earlier) =
+    h.1 ∙ ap (λ p. carried p (budget - nodes_before)) same ∙ ap (carried p) spent in
+    let reached : c.reached_beside-reached.result ≡ reached_beside (carried p (budget - nodes_of earlier))
+    (last_found None earlier) =
+    c.reached_beside-reached.ensures (last_found None earlier) before
+    ∙ ap (λ left. reached_beside left (last_found None earlier)) carried_is in
     c.cut_short.ensures.concluded p left (sym (ap (λ (p : Problem). p.dimensions) same)) (rw c.or.ensures found)
+    ∙ ap (λ n. cut_short p left n budget) reached
     ∙ sym (ended (conclusion_in_asking step) budget (until step.settings.size) earlier p (questions_above step c.args.n)
     (omega (arith, is, passed, c.requires.within)))
 

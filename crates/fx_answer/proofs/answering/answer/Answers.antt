@@ -1,11 +1,14 @@
-use Rattle.std.proofs.Common.{[], Result, Ok, Err, refl, sym, ap, ◌∙◌, arith, subst}
+use Rattle.std.proofs.Common.{◌≡◌, [], All, Result, Ok, Err, refl, sym, ap, ◌∙◌, arith, subst}
 use Rattle.std.specs.Prelude.{IfOk}
 use Rattle.std.proofs.lemmas.Result.{IfOk-weaker}
 use Rattle.fx_statements.specs.Steps.{meaning_of}
+use Rattle.fx_answer.specs.Books.{books_of}
+use Rattle.fx_answer.specs.Outcomes.{HasShape}
 use Rattle.fx_answer.specs.Standing.{all_books_from, conclusion_from}
 use Rattle.fx_answer.specs.StepClaims.{ClaimsHold}
 use Rattle.fx_answer.proofs.Best.{claims_hold}
 use Rattle.fx_answer.proofs.Asking.{whole, whole_books}
+use Rattle.fx_answer.proofs.Shapes.{shaped_books}
 use Rattle.fx_answer.proofs.Valid.{kept_valid, some_numbers}
 use Rattle.fx_answer.proofs.answering.answer.Goals as goal
 
@@ -18,12 +21,16 @@ returns-clause-outcome g c =
     let step = meaning_of c.args.step.now in
     let result = c.ask_from.result in
     let ensured = c.ask_from.ensures in
-    IfOk-weaker result _ _ (λ outcome h. record {
-      concluded = h.0.1 [] refl tt ∙ ap (conclusion_from step []) c.lowest.ensures ∙ whole step;
+    IfOk-weaker result _ _ (λ outcome h.
+    let books : outcome.books ≡ books_of step =
+    h.1 [] refl (c.lowest.ensures ∙ sym (omega arith)) c.new.ensures ∙ ap (all_books_from step []) c.lowest.ensures
+    ∙ whole_books step in
+    record {
+      concluded = h.0.1 [] refl tt refl ∙ ap (conclusion_from step []) c.lowest.ensures ∙ whole step;
       factors = h.0.0.factors;
       few_blocks = h.0.0.few_blocks;
-      books = h.1 [] refl (c.lowest.ensures ∙ sym (omega arith)) c.new.ensures ∙ ap (all_books_from step [])
-          c.lowest.ensures ∙ whole_books step;
+      books = books;
+      shapes = subst (All HasShape) (sym books) (shaped_books step (kept_valid c.args.step.now));
     }) (both result _ _ (both result _ _ ensured.of_step ensured.concluded) ensured.books)
   where
     both : {T E : Type 0} (r : Result T E) (P Q : T → Type 0) → IfOk r P → IfOk r Q → IfOk r (λ x. P x × Q x)

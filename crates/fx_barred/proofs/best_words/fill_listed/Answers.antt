@@ -107,3 +107,12 @@ returns-clause-best c d wanted eq em all lists x low =
     (subst (λ (n : ℕ). IsVector n c.args.reached.now.room (slice_index_or vectors k v)) (sym eq)
     (c.requires.vectors k v there)) in
     best-listed d wanted rows vectors x o all each lists best'
+
+pub number-requires-clause-fits : goal.number-requires-clause-fits
+number-requires-clause-fits c =
+    let v : List ℕ = c.v-item.result in
+    let i : ℕ = c.loop-v.v-index in
+    let vector : IsVector c.args.reached.now.q c.args.reached.now.room v =
+    subst (IsVector c.args.reached.now.q c.args.reached.now.room) (sym c.v-item.is)
+    (c.requires.vectors i v c.loop-v-test.true) in
+    rw (c.field.ensures, vector.len) c.room-words.ensures.words

@@ -5,6 +5,7 @@ use Rattle.fx_demands.specs.EffectVectors.{last_factor}
 use Rattle.fx_barred.specs.FirstWords.{sum_to, vector_at, HasSum, AreFirst}
 use Rattle.fx_barred.proofs.Firsts.{first-start, first-more, first-end, first-full, last-of-class, vector-at}
 use Rattle.fx_barred.proofs.first_words.fill.Goals as goal
+use Rattle.fx_vectors.specs.declared.shape.TheConstants.{MOST_FACTORS}
 
 abbrev any : ForbiddenVector
 any = record { vector = []; class = 0; number = 0 }
@@ -33,7 +34,7 @@ loop-k-preserved c =
     let k : ℕ = c.loop-k.k in
     let sum : ℕ = c.sum-sum.result in
     let first : ℕ = c.len-n.result * c.from-size.result in
-    let small : r.room ≤ 40 = omega (arith, c.room-room.ensures.room, c.room-room.ensures.fits) in
+    let small : r.room ≤ MOST_FACTORS = omega (arith, c.room-room.ensures.room, c.room-room.ensures.fits) in
     let there : k < length words = omega (arith, c.loop-k-test.true, c.start_of-k-end.ensures.bound) in
     let above = c.start_of-k.ensures.after k any c.loop-k.auto.k there in
     let under = c.start_of-k-end.ensures.before k any c.loop-k-test.true in
@@ -58,7 +59,7 @@ pub returns-clause-first : goal.returns-clause-first
 returns-clause-first c =
     let r = c.args.reached.now in
     let words : List ForbiddenVector = c.args.words.now in
-    let small : r.room ≤ 40 = omega (arith, c.room-room.ensures.room, c.room-room.ensures.fits) in
+    let small : r.room ≤ MOST_FACTORS = omega (arith, c.room-room.ensures.room, c.room-room.ensures.fits) in
     let place : c.len-n.result * c.from-size.result ≡ length r.rows * r.q ^ r.m =
     ap (λ (n : ℕ). n * c.from-size.result) c.len-n.ensures.count ∙ ap (λ (n : ℕ). length r.rows * n)
     (c.from-size.ensures ∙ c.size.ensures.points) in

@@ -36,14 +36,15 @@ returns-in-Err-clause-read c =
     let is : beat_of shape.s (may_be_beaten shape c.args.demands) line ≡ Some c.in-Some.beat =
     sym (ap (λ b. beat_of shape.s b line) c.may_be_beaten-allowed.ensures) ∙ sym c.in_ok-beat_of.ensures.read ∙
     c.in-Some.is in
-    let e : from_beat shape c.args.demands (split 10 (drop c.args.at bytes))
+    let e : from_beat c.args.version shape c.args.demands (split 10 (drop c.args.at bytes))
     ≡ with_marks shape c.args.demands c.in-Some.beat
-    (entries (dimensions_of shape) (is_some c.in-Some.beat) 5 rest) =
-    ap (from_beat shape c.args.demands) cut ∙ line_more (Err (fault kind.Pattern 4))
-    (λ line rest. with_beat shape c.args.demands rest (beat_of shape.s (may_be_beaten shape c.args.demands) line))
-    line rest (some_parts 10 (drop (end + 1) bytes)) ∙ ap (with_beat shape c.args.demands rest) is in
+    (entries c.args.version (dimensions_of shape) (is_some c.in-Some.beat) 5 rest) =
+    ap (from_beat c.args.version shape c.args.demands) cut ∙ line_more (Err (fault kind.Pattern 4))
+    (λ line rest. with_beat c.args.version shape c.args.demands rest
+    (beat_of shape.s (may_be_beaten shape c.args.demands) line)) line rest (some_parts 10 (drop (end + 1) bytes)) ∙
+    ap (with_beat c.args.version shape c.args.demands rest) is in
     let below =
-    subst (λ (b : Bool). IsReading {T = List nodes.Mark} (entries (dimensions_of shape) b 5 rest) (Err c.in-Err.e))
-    c.is_some-beaten.ensures c.in-Err.ensures.read in
+    subst (λ (b : Bool). IsReading {T = List nodes.Mark} (entries c.args.version (dimensions_of shape) b 5 rest)
+    (Err c.in-Err.e)) c.is_some-beaten.ensures c.in-Err.ensures.read in
     subst (λ r. IsReading {T = Book} r (Err c.in-Err.e)) (sym e)
     (no_marks shape c.args.demands c.in-Some.beat _ c.in-Err.e below)

@@ -21,8 +21,9 @@ returns-in-Some-clause-read c =
     c.next_stop-end.ensures.more (omega (arith, c.next_stop-end.ensures.within, c.if-end-bytes.false)) in
     let is : demands_of shape (split 32 line) ≡ Some c.in-Some.demands =
     sym c.in_ok-demands_of.ensures.read ∙ c.in-Some.is in
-    let e : from_demands shape (split 10 (drop c.args.at bytes)) ≡ from_beat shape c.in-Some.demands rest =
-    ap (from_demands shape) cut ∙ line_more (Err (fault kind.Demands 3))
-    (λ line rest. with_demands shape rest (demands_of shape (split 32 line))) line rest
-    (some_parts 10 (drop (end + 1) bytes)) ∙ ap (with_demands shape rest) is in
+    let e : from_demands c.args.version shape (split 10 (drop c.args.at bytes))
+    ≡ from_beat c.args.version shape c.in-Some.demands rest =
+    ap (from_demands c.args.version shape) cut ∙ line_more (Err (fault kind.Demands 3))
+    (λ line rest. with_demands c.args.version shape rest (demands_of shape (split 32 line))) line rest
+    (some_parts 10 (drop (end + 1) bytes)) ∙ ap (with_demands c.args.version shape rest) is in
     subst (λ r. IsReading r c.from_beat.result) (sym e) c.from_beat.ensures.read

@@ -16,8 +16,11 @@ returns-in-Some-clause-read c =
     let line : List ℕ = take (end - c.args.at) (drop c.args.at bytes) in
     let cut : split 10 (drop c.args.at bytes) ≡ line ∷ rest =
     c.next_stop-end.ensures.more (omega (arith, c.next_stop-end.ensures.within, c.if-end-bytes.false)) in
-    let is : shape_of (split 32 line) ≡ Some c.in-Some.shape = sym c.shape_of.ensures.shape ∙ c.in-Some.is in
-    let e : from_size (split 10 (drop c.args.at bytes)) ≡ from_demands c.in-Some.shape rest =
-    ap from_size cut ∙ line_more (Err (fault kind.Size 2)) (λ line rest. with_shape rest (shape_of (split 32 line)))
-    line rest (some_parts 10 (drop (end + 1) bytes)) ∙ ap (with_shape rest) is in
+    let is : shape_of c.args.version (split 32 line) ≡ Some c.in-Some.shape =
+    sym c.shape_of.ensures.shape ∙ c.in-Some.is in
+    let e : from_size c.args.version (split 10 (drop c.args.at bytes))
+    ≡ from_demands c.args.version c.in-Some.shape rest =
+    ap (from_size c.args.version) cut ∙ line_more (Err (fault kind.Size 2))
+    (λ line rest. with_shape c.args.version rest (shape_of c.args.version (split 32 line))) line rest
+    (some_parts 10 (drop (end + 1) bytes)) ∙ ap (with_shape c.args.version rest) is in
     subst (λ r. IsReading r c.from_demands.result) (sym e) c.from_demands.ensures.read

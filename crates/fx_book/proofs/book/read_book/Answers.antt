@@ -1,32 +1,30 @@
-use Rattle.std.proofs.Common.{◌≡◌, ℕ, ◌+◌, ◌-◌, ◌∙◌, ◌∷◌, List, ap, sym, subst, take, drop, arith, Err, le-ltb, ltb}
-use Rattle.std.proofs.Common.{length, true, if◌then◌else◌}
-use Rattle.std.specs.Prelude.{codes}
-use Rattle.std.specs.Str.{bytes_eq}
-use Rattle.std.proofs.lemmas.Bool.{cond-true, cond-false}
+use Rattle.std.proofs.Common.{◌≡◌, ℕ, ◌+◌, ◌-◌, ◌∙◌, ◌∷◌, List, ap, sym, subst, take, drop, arith, Some, Err, le-ltb}
+use Rattle.std.proofs.Common.{ltb, length}
+use Rattle.std.proofs.lemmas.Bool.{cond-false}
 use Rattle.fx_book.specs.Parts.{split}
 use Rattle.fx_book.specs.Reading.{IsReading}
 use Rattle.fx_book.specs.Faults.{fault}
+use Rattle.fx_book.specs.Versions.{version_of}
 use Rattle.fx_book.specs.declared.fault.FaultKind.TheVariants as kind
-use Rattle.fx_book.specs.Heads.{book_of, from_title, from_size}
+use Rattle.fx_book.specs.Heads.{book_of, from_title, from_size, with_version}
 use Rattle.fx_book.proofs.Splits.{some_parts}
 use Rattle.fx_book.proofs.Lines.{line_more}
 use Rattle.fx_book.proofs.book.read_book.Goals as goal
 
-pub returns-clause-read : goal.returns-clause-read
+pub returns-in-Some-clause-read : goal.returns-in-Some-clause-read
 unfolding book_of
-returns-clause-read c =
+returns-in-Some-clause-read c =
     let bytes : List ℕ = c.args.bytes.now in
     let end : ℕ = c.next_stop-end.result in
     let rest : List (List ℕ) = split 10 (drop (end + 1) bytes) in
     let line : List ℕ = take (end - 0) (drop 0 bytes) in
     let cut : split 10 bytes ≡ line ∷ rest =
     c.next_stop-end.ensures.more (omega (arith, c.next_stop-end.ensures.within, c.if-end-bytes.false)) in
-    let is : bytes_eq line (codes "factex-book 1") ≡ true = sym c.is_word.ensures ∙ c.if-not-is_word.false in
-    let e : book_of bytes ≡ from_size rest =
+    let is : version_of line ≡ Some c.in-Some.version = sym c.version_of.ensures ∙ c.in-Some.is in
+    let e : book_of bytes ≡ from_size c.in-Some.version rest =
     cond-false (ltb 268435456 (length bytes)) _ _ (le-ltb _ _ (omega (arith, c.if-bytes-gt-MOST_BYTES.false))) ∙ ap
     from_title cut
-    ∙ line_more (Err (fault kind.Title 1))
-    (λ line rest. if bytes_eq line (codes "factex-book 1") then from_size rest else Err (fault kind.Title 1)) line
-    rest (some_parts 10 (drop (end + 1) bytes))
-    ∙ cond-true (bytes_eq line (codes "factex-book 1")) _ _ is in
+    ∙ line_more (Err (fault kind.Title 1)) (λ line rest. with_version rest (version_of line)) line rest
+    (some_parts 10 (drop (end + 1) bytes))
+    ∙ ap (with_version rest) is in
     subst (λ r. IsReading r c.from_size.result) (sym e) c.from_size.ensures.read

@@ -12,7 +12,7 @@ use Rattle.fx_book.proofs.head.shape_of.Goals as goal
 
 pub returns-then-word-line-clause-shape : goal.returns-then-word-line-clause-shape
 returns-then-word-line-clause-shape c =
-    sym (ap shape_of (c.next_stop-word.ensures.last c.if-word-line.true))
+    sym (ap (shape_of c.args.version) (c.next_stop-word.ensures.last c.if-word-line.true))
 
 pub returns-then-q-line-clause-shape : goal.returns-then-q-line-clause-shape
 returns-then-q-line-clause-shape c =
@@ -22,7 +22,7 @@ returns-then-q-line-clause-shape c =
     let cut_word : split 32 line ≡ word ∷ split 32 (drop (word_end + 1) line) =
     c.next_stop-word.ensures.more (omega (arith, c.next_stop-word.ensures.within, c.if-word-line.false)) ∙ ap
     (λ n. take n line ∷ split 32 (drop (word_end + 1) line)) (sub-zero word_end) in
-    sym (ap shape_of (cut_word ∙ ap (λ r. word ∷ r) (c.next_stop-q.ensures.last c.if-q-line.true)))
+    sym (ap (shape_of c.args.version) (cut_word ∙ ap (λ r. word ∷ r) (c.next_stop-q.ensures.last c.if-q-line.true)))
 
 pub returns-then-m-line-clause-shape : goal.returns-then-m-line-clause-shape
 returns-then-m-line-clause-shape c =
@@ -36,7 +36,7 @@ returns-then-m-line-clause-shape c =
     let q : List ℕ = take (q_end - (word_end + 1)) (drop (word_end + 1) line) in
     let cut_q : split 32 (drop (word_end + 1) line) ≡ q ∷ split 32 (drop (q_end + 1) line) =
     c.next_stop-q.ensures.more (omega (arith, c.next_stop-q.ensures.within, c.if-q-line.false)) in
-    sym (ap shape_of
+    sym (ap (shape_of c.args.version)
     (cut_word ∙ ap (λ r. word ∷ r) (cut_q ∙ ap (λ r. q ∷ r) (c.next_stop-m.ensures.last c.if-m-line.true))))
 
 pub returns-then-s-line-clause-shape : goal.returns-then-s-line-clause-shape
@@ -55,7 +55,7 @@ returns-then-s-line-clause-shape c =
     let m : List ℕ = take (m_end - (q_end + 1)) (drop (q_end + 1) line) in
     let cut_m : split 32 (drop (q_end + 1) line) ≡ m ∷ split 32 (drop (m_end + 1) line) =
     c.next_stop-m.ensures.more (omega (arith, c.next_stop-m.ensures.within, c.if-m-line.false)) in
-    sym (ap shape_of
+    sym (ap (shape_of c.args.version)
     (cut_word ∙ ap (λ r. word ∷ r)
     (cut_q ∙ ap (λ r. q ∷ r) (cut_m ∙ ap (λ r. m ∷ r) (c.next_stop-s.ensures.last c.if-s-line.true)))))
 
@@ -83,10 +83,10 @@ returns-then-t-line-clause-shape c =
     let t : List ℕ = take (t_end - (s_end + 1)) (drop (s_end + 1) line) in
     let cut_t : split 32 (drop (s_end + 1) line) ≡ t ∷ split 32 (drop (t_end + 1) line) =
     c.next_stop-t.ensures.more c.if-t-line.true in
-    sym (ap shape_of
+    sym (ap (shape_of c.args.version)
     (cut_word ∙ ap (λ r. word ∷ r)
-    (cut_q ∙ ap (λ r. q ∷ r) (cut_m ∙ ap (λ r. m ∷ r) (cut_s ∙ ap (λ r. s ∷ r) cut_t)))) ∙ no_shape word q m s t
-    (split 32 (drop (t_end + 1) line)) (some_parts 32 (drop (t_end + 1) line)))
+    (cut_q ∙ ap (λ r. q ∷ r) (cut_m ∙ ap (λ r. m ∷ r) (cut_s ∙ ap (λ r. s ∷ r) cut_t)))) ∙ no_shape c.args.version
+    word q m s t (split 32 (drop (t_end + 1) line)) (some_parts 32 (drop (t_end + 1) line)))
 
 pub returns-then-not-is_word-clause-shape : goal.returns-then-not-is_word-clause-shape
 returns-then-not-is_word-clause-shape c =
@@ -108,7 +108,7 @@ returns-then-not-is_word-clause-shape c =
     let s : List ℕ = take (s_end - (m_end + 1)) (drop (m_end + 1) line) in
     let cut_s : split 32 (drop (m_end + 1) line) ≡ s ∷ split 32 (drop (s_end + 1) line) =
     c.next_stop-s.ensures.more (omega (arith, c.next_stop-s.ensures.within, c.if-s-line.false)) in
-    sym (ap shape_of
+    sym (ap (shape_of c.args.version)
     (cut_word ∙ ap (λ r. word ∷ r)
     (cut_q ∙ ap (λ r. q ∷ r)
     (cut_m ∙ ap (λ r. m ∷ r)
@@ -143,7 +143,7 @@ returns-clause-shape c =
     c.next_stop-t.ensures.last end ∙ ap (λ l. l ∷ [])
     (sym (take_all (t_end - (s_end + 1)) (drop (s_end + 1) line) (omega (arith, length-drop (s_end + 1) line)))) in
     (rw (c.number.ensures, c.number-2.ensures, c.number-3.ensures, c.number-4.ensures) at c.shape_from.ensures.shape)
-    ∙ sym (ap shape_of
+    ∙ sym (ap (shape_of c.args.version)
     (cut_word ∙ ap (λ r. word ∷ r)
     (cut_q ∙ ap (λ r. q ∷ r) (cut_m ∙ ap (λ r. m ∷ r) (cut_s ∙ ap (λ r. s ∷ r) cut_t))))
     ∙ cond-true (bytes_eq word (codes "size")) _ _ (sym c.is_word.ensures ∙ c.if-not-is_word.false))

@@ -1,4 +1,5 @@
-use Rattle.std.proofs.Common.{◌-◌, ℕ, List, arith}
+use Rattle.std.proofs.Common.{◌+◌, ◌-◌, ◌/◌, ℕ, List, arith}
+use Rattle.fx_vectors.specs.Shape.{dimensions_of}
 use Rattle.fx_book.proofs.Joins.{entries-both}
 use Rattle.fx_book.proofs.pieces.+entry_pieces.Goals as goal
 
@@ -10,6 +11,7 @@ returns g t c =
     let front : List (List ℕ) = c.in_ok-pieces.pieces in
     let back : List (List ℕ) = c.in_ok-back.field-0 in
     let ordered = c.requires.ordered in
-    entries-both c.args.marks.now from middle to front back c.append.new.self (omega arith) (omega arith)
+    entries-both (dimensions_of c.args.shape) c.args.marks.now from middle to front back c.append.new.self (omega arith)
+    (omega arith)
     (rw c.in_ok-pieces.was at c.join-back.ensures.second) (rw c.in_ok-back.was at c.join-back.ensures.first)
     c.in_ok-append.ensures.ok

@@ -22,8 +22,8 @@ returns-then-at-bytes-clause-read c =
     let cut = c.next_stop-end.ensures.more (omega (arith, c.next_stop-end.ensures.within, c.if-end-bytes.false)) in
     rw c.stop-then-at-bytes.ensures
     (c.loop-at.invariant.so_far
-    ∙ ap (onto c.loop-at.marks) (ap (entries d b c.loop-at.line) cut
-    ∙ end_followed d b c.loop-at.line line (split 10 after) (some_parts 10 after)
+    ∙ ap (onto c.loop-at.marks) (ap (entries c.args.version d b c.loop-at.line) cut
+    ∙ end_followed c.args.version d b c.loop-at.line line (split 10 after) (some_parts 10 after)
     (sym c.is_word.ensures ∙ c.if-is_word.true)
     (something_left 10 after (omega (arith, length-drop (c.next_stop-end.result + 1) bytes)))))
 
@@ -35,13 +35,14 @@ returns-in-Err-clause-read c =
     let after : List ℕ = drop (c.next_stop-end.result + 1) bytes in
     let line : List ℕ = take (c.next_stop-end.result - c.loop-at.at) (drop c.loop-at.at bytes) in
     let cut = c.next_stop-end.ensures.more (omega (arith, c.next_stop-end.ensures.within, c.if-end-bytes.false)) in
-    let is : entry_of d b (split 32 line) ≡ Err c.in-Err.kind = sym c.entry.ensures.entry ∙ c.in-Err.is in
+    let is : entry_of c.args.version d b (split 32 line) ≡ Err c.in-Err.kind =
+    sym c.entry.ensures.entry ∙ c.in-Err.is in
     rw c.stop-in-Err.ensures
     (c.loop-at.invariant.so_far
-    ∙ ap (onto c.loop-at.marks) (ap (entries d b c.loop-at.line) cut
-    ∙ at_entry d b c.loop-at.line line (split 10 after) (some_parts 10 after)
+    ∙ ap (onto c.loop-at.marks) (ap (entries c.args.version d b c.loop-at.line) cut
+    ∙ at_entry c.args.version d b c.loop-at.line line (split 10 after) (some_parts 10 after)
     (sym c.is_word.ensures ∙ c.if-is_word.false)
-    ∙ ap (λ r. after_entry c.loop-at.line r (entries d b (c.loop-at.line + 1) (split 10 after))) is))
+    ∙ ap (λ r. after_entry c.loop-at.line r (entries c.args.version d b (c.loop-at.line + 1) (split 10 after))) is))
 
 pub loop-at-preserved : goal.loop-at-preserved
 loop-at-preserved c =
@@ -53,7 +54,7 @@ loop-at-preserved c =
     let within = c.next_stop-end.ensures.within in
     let from = c.next_stop-end.ensures.from in
     let cut = c.next_stop-end.ensures.more (omega (arith, within, c.if-end-bytes.false)) in
-    let is : entry_of d b (split 32 line) ≡ Ok c.in-Ok.mark = sym c.entry.ensures.entry ∙ c.in-Ok.is in
+    let is : entry_of c.args.version d b (split 32 line) ≡ Ok c.in-Ok.mark = sym c.entry.ensures.entry ∙ c.in-Ok.is in
     record {
       within = omega (arith, within, c.if-end-bytes.false);
       few = rw c.in_ok-push-in-Ok.ensures.ok
@@ -64,10 +65,13 @@ loop-at-preserved c =
       line = omega (arith, from, c.loop-at.invariant.line);
       so_far =
           c.loop-at.invariant.so_far
-          ∙ ap (onto c.loop-at.marks) (ap (entries d b c.loop-at.line) cut
-          ∙ at_entry d b c.loop-at.line line (split 10 after) (some_parts 10 after)
+          ∙ ap (onto c.loop-at.marks) (ap (entries c.args.version d b c.loop-at.line) cut
+          ∙ at_entry c.args.version d b c.loop-at.line line (split 10 after) (some_parts 10 after)
           (sym c.is_word.ensures ∙ c.if-is_word.false)
-          ∙ ap (λ r. after_entry c.loop-at.line r (entries d b (c.loop-at.line + 1) (split 10 after))) is)
-          ∙ onto_after c.loop-at.marks c.loop-at.line c.in-Ok.mark (entries d b (c.loop-at.line + 1) (split 10 after))
-          ∙ ap (λ ms. onto ms (entries d b (c.loop-at.line + 1) (split 10 after))) (sym c.in_ok-push-in-Ok.ensures.ok);
+          ∙ ap (λ r. after_entry c.loop-at.line r (entries c.args.version d b (c.loop-at.line + 1) (split 10 after)))
+          is)
+          ∙ onto_after c.loop-at.marks c.loop-at.line c.in-Ok.mark
+          (entries c.args.version d b (c.loop-at.line + 1) (split 10 after))
+          ∙ ap (λ ms. onto ms (entries c.args.version d b (c.loop-at.line + 1) (split 10 after)))
+          (sym c.in_ok-push-in-Ok.ensures.ok);
     }

@@ -4,6 +4,8 @@ use Rattle.std.specs.List.{slice_range}
 use Rattle.std.proofs.Math.Seq.{drop-cons}
 use Rattle.fx_designs.specs.Nodes as nodes
 use Rattle.fx_vectors.specs.Marks.{meaning_of}
+use Rattle.fx_vectors.specs.Shape.{dimensions_of}
+use Rattle.fx_book.specs.declared.version.Version.TheVariants.{Second}
 use Rattle.fx_book.specs.Entries.{entry_text, entries_text}
 use Rattle.fx_book.proofs.writing.put_some_entries.Goals as goal
 
@@ -20,7 +22,9 @@ pub loop-i-init : goal.loop-i-init
 loop-i-init c =
     let e : c.args.to - c.args.to ≡ 0 = omega arith in
     record {
-      so_far = c.new-text.ensures ∙ ap (λ (n : ℕ). entries_text (take n (drop c.args.to c.args.marks.now))) (sym e);
+      so_far = c.new-text.ensures ∙ ap
+          (λ (n : ℕ). entries_text Second (dimensions_of c.args.shape) (take n (drop c.args.to c.args.marks.now)))
+          (sym e);
       low = c.requires.ordered;
       short = omega (arith, ap length c.new-text.ensures);
     }
@@ -34,9 +38,10 @@ loop-i-preserved c =
     record {
       so_far =
           c.put_entry.ensures.text
-          ∙ ap (λ (l : List ℕ). entry_text mark ++ l)
-          (c.loop-i.invariant.so_far ∙ ap (λ (k : ℕ). entries_text (slice_range marks k c.args.to)) next)
-          ∙ ap entries_text
+          ∙ ap (λ (l : List ℕ). entry_text Second (dimensions_of c.args.shape) mark ++ l)
+          (c.loop-i.invariant.so_far ∙ ap
+          (λ (k : ℕ). entries_text Second (dimensions_of c.args.shape) (slice_range marks k c.args.to)) next)
+          ∙ ap (entries_text Second (dimensions_of c.args.shape))
           (cons-range marks i c.args.to mark (omega arith) (omega arith) c.get_near-mark.ensures.mark);
       low = omega arith;
       short = omega arith;
@@ -46,6 +51,8 @@ pub returns-clause-ok : goal.returns-clause-ok
 returns-clause-ok c =
     let marks : List nodes.Mark = c.args.marks.now in
     let at : c.loop-i.i ≡ c.args.from = omega (arith, c.loop-i-test.false) in
-    let text : c.as_slice.result.now ≡ entries_text (slice_range marks c.args.from c.args.to) =
-    c.as_slice.ensures ∙ c.loop-i.invariant.so_far ∙ ap (λ (k : ℕ). entries_text (slice_range marks k c.args.to)) at in
+    let text : c.as_slice.result.now
+    ≡ entries_text Second (dimensions_of c.args.shape) (slice_range marks c.args.from c.args.to) =
+    c.as_slice.ensures ∙ c.loop-i.invariant.so_far ∙ ap
+    (λ (k : ℕ). entries_text Second (dimensions_of c.args.shape) (slice_range marks k c.args.to)) at in
     rw text at c.put.ensures.ok

@@ -21,7 +21,7 @@ returns c =
     let back : is_zero (drop d.s (word_vector d c.args.number)) ≡ eqb (c.args.number / 2 ^ d.s) 0 =
     ap (λ q. is_zero (drop d.s (digits q (d.s + d.t) c.args.number))) c.requires.two ∙ rest-zero f d.s (d.s + d.t)
     c.args.number (omega arith) c.requires.below in
-    let few : 2 ^ d.s ≤ 2 ^ 40 = pow-le-pow_right (lit≤ tt) c.requires.shaped.factors in
+    let few : 2 ^ d.s ≤ 2 ^ 63 = pow-le-pow_right (lit≤ tt) c.requires.shaped.factors in
     let place : 1 * 2 ^ d.s % 18446744073709551616 ≡ 2 ^ d.s = omega arith in
     (rw place at c.is_light.ensures) ∙ forbidden_by_weight d c.args.r (word_vector d c.args.number)
     (count_ones (c.args.number % 2 ^ d.s)) (eqb (c.args.number / 2 ^ d.s) 0) front back

@@ -1,11 +1,17 @@
-use Rattle.std.proofs.Common.{◌≡◌, ◌<◌, ◌^◌, ◌*◌, ◌+◌, ◌++◌, [], ◌∷◌, ℕ, arith, sym, ap, ◌∙◌}
+use Rattle.std.proofs.Common.{◌≡◌, ◌<◌, ◌≤◌, ◌^◌, ◌*◌, ◌+◌, ◌++◌, [], ◌∷◌, ℕ, arith, sym, ap, ◌∙◌}
 use Rattle.fx_designs.specs.Galois.{number, digits}
 use Rattle.fx_designs.specs.Vectors.{IsVector}
 use Rattle.fx_laws.proofs.Codes.{digits-number, number-below}
-use Rattle.fx_vectors.proofs.Limits.{numbers_fit}
+use Rattle.std.proofs.Math.Nat.{pow-le-pow_right}
 use Rattle.fx_demands.proofs.EffectVectors.{number-push, push-vector}
 use Rattle.fx_demands.proofs.vector_lists.with_code.Goals as goal
 use Rattle.fx_demands.proofs.vector_lists.with_code.Goals.{After-from-2}
+
+-- the number of one code less fits as well
+shorter-fits : (q n : ℕ) → 0 < q → q ^ (n + 1) < 2 ^ 127 → q ^ n < 2 ^ 127
+shorter-fits q n some fits =
+    let less : q ^ n ≤ q ^ (n + 1) = pow-le-pow_right some (omega arith) in
+    omega (arith, less, fits)
 
 longer_vector : (c : After-from-2) → IsVector c.args.field (c.args.len + 1) (c.args.v.now ++ c.args.c ∷ [])
 longer_vector c = push-vector c.args.field c.args.len c.args.v.now c.args.c c.requires.vector c.requires.code
@@ -21,14 +27,16 @@ sum_is c =
 total_fits : (c : After-from-2) → c.number.result + c.from-2.result * c.pow-power.result < 2 ^ 127
 total_fits c =
     let below = number-below c.args.field (c.args.len + 1) (c.args.v.now ++ c.args.c ∷ []) (longer_vector c) in
-    let fits = numbers_fit c.args.field (c.args.len + 1) (omega arith) (omega arith) in
+    let fits = c.requires.fits in
     let is = sum_is c in
     omega arith
 
 pub pow-power-requires : goal.pow-power-requires
 pow-power-requires c =
-    let fits = numbers_fit c.from.result c.args.len (omega arith) (omega arith) in
-    omega arith
+    let less =
+    shorter-fits c.args.field c.args.len (omega (arith, c.q-known.ensures.least, c.q-known.ensures.order))
+    c.requires.fits in
+    rw (c.from.ensures, c.q.ensures.order) (omega (arith, less))
 
 pub overflow_mul-from : goal.overflow_mul-from
 overflow_mul-from c = let fits = total_fits (goal.at.overflow_mul-from c).After-from-2 in omega arith

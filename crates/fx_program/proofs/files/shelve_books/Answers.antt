@@ -1,10 +1,11 @@
-use Rattle.std.proofs.Common.{rules, ◌≡◌, ◌<◌, ◌≤◌, List, ℕ, length, get_or, ap, ◌∙◌}
+use Rattle.std.proofs.Common.{rules, ◌≡◌, ◌<◌, ◌≤◌, List, ℕ, length, get_or, sym, subst, ap, ◌∙◌}
 use Rattle.fx_base.specs.Pieces.{joined}
 use Rattle.fx_vectors.specs.declared.book.NamedBook.{NamedBook}
 use Rattle.fx_book.specs.Writing.{book_text}
 use Rattle.fx_program.specs.Files.{book_name}
 use Rattle.fx_program.proofs.Filing.{shelved_each, shelved_more, shelved_none, stopped_before, stopped_in}
 use Rattle.fx_program.proofs.files.shelve_books.Goals as goal
+use Rattle.fx_answer.specs.Outcomes.{HasShape}
 
 -- the name and the content of the file of a book
 abbrev name : ℕ → NamedBook → List ℕ
@@ -14,7 +15,7 @@ abbrev content : NamedBook → List ℕ
 content named = book_text named.book
 
 pub loop-named-init : goal.loop-named-init
-loop-named-init g c = shelved_none _ c.requires
+loop-named-init g c = shelved_none _ c.requires.ended
 
 pub returns-in_err-pieces : goal.returns-in_err-pieces
 returns-in_err-pieces g c =
@@ -50,3 +51,11 @@ pub returns : goal.returns
 returns g c =
     let past : length c.args.books.now ≤ c.loop-named.named-index = search rules in
     shelved_each (name c.args.number) content c.args.books.now c.loop-named.named-index _ past c.loop-named.invariant
+
+pub book_pieces-requires-clause-shaped : goal.book_pieces-requires-clause-shaped
+book_pieces-requires-clause-shaped g c lifetimes live =
+    let books = c.args.books.now in
+    let item = c.named-item.result in
+    let is : item ≡ get_or books c.loop-named.named-index item = search rules in
+    let more : c.loop-named.named-index < length books = search rules in
+    subst HasShape (sym is) (c.requires.shapes c.loop-named.named-index item more)

@@ -1,6 +1,6 @@
 use Rattle.std.proofs.Common.{◌++◌, ◌≡◌, List, ℕ, ap, ◌∙◌, subst}
 use Rattle.std.specs.Prelude.{codes, decimal, OnOk}
-use Rattle.fx_program.specs.Making.{factors_at, levels_at}
+use Rattle.fx_program.specs.Making.{made_factors, made_levels}
 use Rattle.std.proofs.lemmas.Result.{on_err_weaker}
 use Rattle.fx_base.proofs.Held.{at_err, nothing, past_first}
 use Rattle.fx_program.proofs.Made.{joined}
@@ -8,8 +8,8 @@ use Rattle.fx_program.proofs.making.put_factors.Goals as goal
 
 pub returns-clause-ok : goal.returns-clause-ok
 returns-clause-ok c =
-    let factors = decimal (factors_at c.args.k) in
-    let levels = decimal (levels_at c.args.k) in
+    let factors = decimal (made_factors c.args.k) in
+    let levels = decimal (made_levels c.args.k) in
     let first =
     c.in_ok-put_number.ensures.ok ∙ ap (λ (n : ℕ). c.put.new.out ++ decimal n)
     (c.from.ensures ∙ c.factors_at.ensures) in
@@ -37,7 +37,7 @@ returns-in_err-put-2-clause-err c =
     (c.from.ensures ∙ c.factors_at.ensures) in
     at_err c.from_residual-in_err-put-2.result
     (past_first c.args.out.now c.put.new.out c.put-2.new.out (codes "factors X1-X") _ c.in_ok-put.ensures.ok
-    (past_first c.put.new.out c.put_number.new.out c.put-2.new.out (decimal (factors_at c.args.k)) _ factors
+    (past_first c.put.new.out c.put_number.new.out c.put-2.new.out (decimal (made_factors c.args.k)) _ factors
     (nothing _ _ _ c.in_err-put-2.ensures.err)))
 
 pub returns-in_err-put_number-2-clause-err : goal.returns-in_err-put_number-2-clause-err
@@ -47,7 +47,7 @@ returns-in_err-put_number-2-clause-err c =
     (c.from.ensures ∙ c.factors_at.ensures) in
     at_err c.from_residual-in_err-put_number-2.result
     (past_first c.args.out.now c.put.new.out c.put_number-2.new.out (codes "factors X1-X") _ c.in_ok-put.ensures.ok
-    (past_first c.put.new.out c.put_number.new.out c.put_number-2.new.out (decimal (factors_at c.args.k)) _ factors
+    (past_first c.put.new.out c.put_number.new.out c.put_number-2.new.out (decimal (made_factors c.args.k)) _ factors
     (past_first c.put_number.new.out c.put-2.new.out c.put_number-2.new.out (codes " / nlev=") _
     c.in_ok-put-2.ensures.ok (nothing _ _ _ c.in_err-put_number-2.ensures.err))))
 
@@ -61,8 +61,8 @@ returns-clause-err c =
     (c.from-2.ensures ∙ c.levels_at.ensures) in
     on_err_weaker c.put-3.result
     (λ h. past_first c.args.out.now c.put.new.out c.put-3.new.out (codes "factors X1-X") _ c.in_ok-put.ensures.ok
-    (past_first c.put.new.out c.put_number.new.out c.put-3.new.out (decimal (factors_at c.args.k)) _ factors
+    (past_first c.put.new.out c.put_number.new.out c.put-3.new.out (decimal (made_factors c.args.k)) _ factors
     (past_first c.put_number.new.out c.put-2.new.out c.put-3.new.out (codes " / nlev=") _ c.in_ok-put-2.ensures.ok
-    (past_first c.put-2.new.out c.put_number-2.new.out c.put-3.new.out (decimal (levels_at c.args.k)) _ levels
+    (past_first c.put-2.new.out c.put_number-2.new.out c.put-3.new.out (decimal (made_levels c.args.k)) _ levels
     (nothing _ _ _ h)))))
     c.put-3.ensures.err

@@ -1,6 +1,6 @@
 use Rattle.std.proofs.Common.{◌++◌, ◌≡◌, List, ℕ, ap, ◌∙◌, subst}
 use Rattle.std.specs.Prelude.{codes, decimal, OnOk}
-use Rattle.fx_program.specs.Making.{runs_at}
+use Rattle.fx_program.specs.Making.{made_runs}
 use Rattle.std.proofs.lemmas.Result.{on_err_weaker}
 use Rattle.fx_base.proofs.Held.{at_err, nothing, past_first}
 use Rattle.fx_program.proofs.Made.{joined}
@@ -12,8 +12,8 @@ returns-clause-ok c =
     c.in_ok-put_number.ensures.ok ∙ ap (λ (n : ℕ). c.put.new.out ++ decimal n) (c.from.ensures ∙ c.runs_at.ensures)
     in
     let e =
-    joined c.put.new.out (decimal (runs_at c.args.k)) c.put_number.new.out (codes ";\n") runs
-    ∙ joined c.args.out.now (codes "size design=") c.put.new.out (decimal (runs_at c.args.k) ++ codes ";\n")
+    joined c.put.new.out (decimal (made_runs c.args.k)) c.put_number.new.out (codes ";\n") runs
+    ∙ joined c.args.out.now (codes "size design=") c.put.new.out (decimal (made_runs c.args.k) ++ codes ";\n")
     c.in_ok-put.ensures.ok in
     subst (λ (l : List ℕ). OnOk c.put-2.result (c.put-2.new.out ≡ l)) e c.put-2.ensures.ok
 
@@ -30,6 +30,6 @@ returns-clause-err c =
     in
     on_err_weaker c.put-2.result
     (λ h. past_first c.args.out.now c.put.new.out c.put-2.new.out (codes "size design=") _ c.in_ok-put.ensures.ok
-    (past_first c.put.new.out c.put_number.new.out c.put-2.new.out (decimal (runs_at c.args.k)) _ runs
+    (past_first c.put.new.out c.put_number.new.out c.put-2.new.out (decimal (made_runs c.args.k)) _ runs
     (nothing _ _ _ h)))
     c.put-2.ensures.err

@@ -1,6 +1,7 @@
 use Rattle.std.proofs.Common.{◌++◌, append_assoc, ap, subst, ◌∙◌}
 use Rattle.fx_vectors.specs.Shape.{dimensions_of}
 use Rattle.fx_statements.specs.Outcomes.{ending_in, HasMatrix}
+use Rattle.fx_statements.specs.Questions.{conclusion_in}
 use Rattle.fx_statements.specs.Steps.{Meaning, meaning_of}
 use Rattle.fx_alias.specs.Heads.{head_lines}
 use Rattle.fx_alias.specs.Rules.{rules_section}
@@ -30,14 +31,14 @@ returns-in_ok-examine_listing-in-Some c =
     let matrix = c.in-Some.matrix in
     let rows = rules_section (dimensions_of matrix.shape) step.factors matrix.rows in
     let books = book_lines c.args.number outcome.books in
-    let head = head_lines c.args.number step (dimensions_of outcome.shape) (ending_in outcome) in
+    let head = head_lines c.args.number step (conclusion_in outcome) in
     let there = subst (HasMatrix outcome.shape (ending_in outcome)) c.in-Some.is outcome.whole in
     c.in_ok-examine_listing-in-Some.ensures.ok
     ∙ ap (λ l. l ++ examined step matrix) c.in_ok-put_book_lines-in-Some.ensures
     ∙ ap (λ l. (l ++ books) ++ examined step matrix) c.in_ok-rules_listing-in-Some.ensures.ok
     ∙ append_assoc (c.head_listing.new.out ++ rows) books (examined step matrix)
     ∙ append_assoc c.head_listing.new.out rows (books ++ examined step matrix)
-    ∙ all_lines c.args.number (dimensions_of outcome.shape) step books (ending_in outcome) _ _
+    ∙ all_lines c.args.number step books (conclusion_in outcome) _ _
     (c.in_ok-head_listing.ensures.ok ∙ ap (λ l. l ++ head) c.new-lines.ensures)
     (with_matrix outcome.shape step books (ending_in outcome) matrix there)
 
@@ -46,9 +47,9 @@ returns-in_ok-put_book_lines-in-None c =
     let outcome = c.args.outcome.now in
     let step : Meaning = meaning_of c.args.step.now in
     let books = book_lines c.args.number outcome.books in
-    let head = head_lines c.args.number step (dimensions_of outcome.shape) (ending_in outcome) in
+    let head = head_lines c.args.number step (conclusion_in outcome) in
     let there = subst (HasMatrix outcome.shape (ending_in outcome)) c.in-None.is outcome.whole in
     c.in_ok-put_book_lines-in-None.ensures
-    ∙ all_lines c.args.number (dimensions_of outcome.shape) step books (ending_in outcome) _ _
+    ∙ all_lines c.args.number step books (conclusion_in outcome) _ _
     (c.in_ok-head_listing.ensures.ok ∙ ap (λ l. l ++ head) c.new-lines.ensures)
     (without_matrix outcome.shape step books (ending_in outcome) there)

@@ -1,6 +1,8 @@
 use Rattle.fx_program.proofs.AnyText.{any_text}
-use Rattle.fx_program_laws.specs.BookClaims.{HighestHasBook, LeastPatternHasBook, LeastSizeHasBooks, MostBlocksHasBook}
-use Rattle.fx_program_laws.proofs.Booked.{block_book, booked, highest_book, least_book, none_booked, size_books}
+use Rattle.fx_program_laws.specs.BookClaims.{HighestHasBook, HighestInBlocksHasBook, LeastPatternHasBook}
+use Rattle.fx_program_laws.specs.BookClaims.{LeastSizeHasBooks, MostBlocksHasBook}
+use Rattle.fx_program_laws.proofs.Booked.{block_book, booked, highest_book, highest_book_in_blocks, least_book}
+use Rattle.fx_program_laws.proofs.Booked.{none_booked, size_books}
 use Rattle.fx_program_laws.proofs.laws.claims_have_books.Goals as goal
 
 pub returns-clause-finished : goal.returns-clause-finished
@@ -11,6 +13,10 @@ returns-clause-none c = none_booked
 
 pub returns-clause-highest : goal.returns-clause-highest
 returns-clause-highest c seed number = any_text (HighestHasBook seed number) (highest_book seed number)
+
+pub returns-clause-highest_in_blocks : goal.returns-clause-highest_in_blocks
+returns-clause-highest_in_blocks c seed number =
+    any_text (HighestInBlocksHasBook seed number) (highest_book_in_blocks seed number)
 
 pub returns-clause-least_pattern : goal.returns-clause-least_pattern
 returns-clause-least_pattern c seed number = any_text (LeastPatternHasBook seed number) (least_book seed number)

@@ -2,6 +2,7 @@ use Rattle.std.proofs.Common.{◌≤◌, ◌&&◌, Bool, not, eqb, length, ◌�
 use Rattle.fx_designs.specs.Vectors.{is_zero}
 use Rattle.fx_designs.specs.Demands.{effect_of}
 use Rattle.fx_vectors.proofs.Limits.{order-bounds}
+use Rattle.fx_vectors.specs.declared.shape.TheConstants.{MOST_FACTORS}
 use Rattle.fx_runs.specs.declared.walk.Within.TheVariants.{EachBlock}
 use Rattle.fx_runs.specs.Supports.{is_among}
 use Rattle.fx_runs.proofs.Walks.{each-same}
@@ -16,5 +17,5 @@ returns c =
     (λ f. not (is_zero f) && is_among c.of_effect.result.inner c.of_effect.result.outer c.of_effect.result.most f)
     (λ f. not (is_zero f) && eqb c.args.e (effect_of f))
     (λ f h.
-    let few : length f ≤ 40 = omega (arith, h.len, valid.shaped.factors) in
+    let few : length f ≤ MOST_FACTORS = omega (arith, h.len, valid.shaped.factors) in
     ap (λ (b : Bool). not (is_zero f) && b) (c.of_effect.ensures f few))

@@ -5,6 +5,7 @@ use Rattle.fx_vectors.specs.declared.shape.Shape.{Shape}
 use Rattle.fx_vectors.proofs.Limits.{order-bounds}
 use Rattle.fx_runs.specs.declared.walk.Within.TheVariants.{AllRuns}
 use Rattle.fx_vectors.specs.Supports.{differs}
+use Rattle.fx_vectors.specs.declared.shape.TheConstants.{MOST_FACTORS}
 use Rattle.fx_runs.specs.Supports.{is_among}
 use Rattle.fx_runs.proofs.Walks.{each-same}
 use Rattle.fx_runs.proofs.judge.is_told_from.Goals as goal
@@ -20,7 +21,7 @@ returns-clause-balanced c =
     && is_among c.of_differences.result.inner c.of_differences.result.outer c.of_differences.result.most f)
     (λ f. not (is_zero f) && differs shape.q c.args.u c.args.v (effect_of f))
     (λ f h.
-    let few : length f ≤ 40 = omega (arith, h.len, valid.shaped.factors) in
+    let few : length f ≤ MOST_FACTORS = omega (arith, h.len, valid.shaped.factors) in
     ap (λ (b : Bool). not (is_zero f) && b)
     (c.of_differences.ensures f few ∙ ap (λ (z : Shape). differs z.q c.args.u c.args.v (effect_of f))
     c.shape.ensures.shape))

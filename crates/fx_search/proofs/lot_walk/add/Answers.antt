@@ -7,7 +7,7 @@ use Rattle.fx_tree.specs.Search.{ranked}
 use Rattle.fx_vectors.specs.Matrix.{MatrixView}
 use Rattle.fx_search.specs.LotWalks.{AreAddable, IsAdded}
 use Rattle.fx_search.specs.Walks.{standing_with_best}
-use Rattle.fx_search.specs.Standing.{Standing, rows_of}
+use Rattle.fx_search.specs.Standing.{Standing, best_rows}
 use Rattle.fx_search.specs.declared.job.JobEnd.{JobEnd}
 use Rattle.fx_search.specs.declared.job.JobEnd.TheVariants.{Closed, Found, Spent, Cut}
 use Rattle.fx_search.proofs.lot_walk.add.Goals as goal
@@ -29,7 +29,7 @@ module _ (p : Problem) (limit : ℕ) (lot : List ℕ) (old new ms : List Mark) (
   long = ap length more ∙ length-append old ms
 
   closed-added : (b : Option MatrixView) → AreAddable p lot (limit - length old) (Closed b n ms ∷ [])
-      → best ≡ better (ranked p) earlier (rows_of b)
+      → best ≡ better (ranked p) earlier (best_rows b)
       → IsAdded p limit old earlier (Closed b n ms ∷ []) new best true
   closed-added b h is =
       (fits, omega (arith, long, h.0), more ∙ ap (λ l. old ++ l) (sym (append-nil ms)), is)

@@ -3,7 +3,7 @@ use Rattle.std.proofs.lemmas.List.{nil_from_length}
 use Rattle.std.specs.Vec.Iter.{into_iter_items, into_iter_len}
 use Rattle.fx_search.specs.LotWalks.{AreAddable}
 use Rattle.fx_search.specs.Walks.{standing_with_best}
-use Rattle.fx_search.specs.Pruning.{size_of}
+use Rattle.fx_search.specs.Pruning.{full_length}
 use Rattle.fx_search.specs.Standing.{Standing}
 use Rattle.fx_search.specs.declared.ranked.Ranked.{Ranked}
 use Rattle.fx_search.proofs.Adding.{adding-start, adding-one, adding-next, adding-many, adding-all}
@@ -39,8 +39,8 @@ add-requires c =
     let here = rw c.in-Some.ensures.steps.0 at i.adding in
     record {
       fits = here.fits;
-      part = subst (λ z. length v.prefix < size_of z) (sym problem)
-          (subst (λ l. length l < size_of s.problem) (sym prefix) c.requires.part);
+      part = subst (λ z. length v.prefix < full_length z) (sym problem)
+          (subst (λ l. length l < full_length s.problem) (sym prefix) c.requires.part);
       rows = c.requires.rows ∙ ap length (sym prefix);
       addable = subst (λ z. AreAddable z v.prefix left (c.in-Some.end ∷ [])) (sym problem)
           (subst (λ l. AreAddable s.problem l left (c.in-Some.end ∷ [])) (sym prefix)

@@ -13,7 +13,7 @@ use Rattle.fx_statements.specs.Goals.{Goal, goal_by, goal_of}
 use Rattle.fx_statements.specs.Steps.{asked_by, examine_of}
 use Rattle.fx_statements.specs.Components.{check_components, components_place}
 use Rattle.fx_statements.specs.Valid.{HasFewComponents}
-use Rattle.fx_statements.proofs.Bounds.{kept, without}
+use Rattle.fx_statements.proofs.Bounds.{kept, levels_said, without}
 use Rattle.fx_statements.proofs.Listed.{few_components}
 use Rattle.fx_text.proofs.Stops.{refused, stopped}
 use Rattle.fx_statements.proofs.stepping.asked_by.Goals as goal
@@ -98,3 +98,10 @@ returns-clause-few_components c =
     (examine_of c.args.statements.now)) (sym same.1)
     (few_components c.in_ok-unblocked.unblocked.q (length c.args.factors.now) (goal_of c.in_ok-wanted.wanted)
     c.args.statements.now (sym c.in_ok-check_components.ensures))
+
+pub returns-clause-levels : goal.returns-clause-levels
+returns-clause-levels c =
+    (kept c.in_ok-unblocked.unblocked c.args.said c.in_ok-settings.settings
+    (sym c.in_ok-settings.ensures.value)).1
+    ∙ levels_said (length c.args.factors.now) c.args.said c.in_ok-unblocked.unblocked
+    (sym c.in_ok-unblocked.ensures.value)

@@ -1,11 +1,15 @@
-use Rattle.std.proofs.Common.{◌≡◌, true, Ok, length, sym, ap, ap₂, subst, All, ◌∙◌, arith}
+use Rattle.std.proofs.Common.{◌≡◌, ℕ, ◌≤◌, true, Ok, List, length, sym, ap, ap₂, subst, All, ◌∙◌, arith}
 use Rattle.std.proofs.lemmas.Result.{err_from_is_err_and}
 use Rattle.std.specs.List.{IsDistinct}
+use Rattle.std.specs.Prelude.{is_some}
+use Rattle.fx_language.specs.declared.symbol.Symbol.TheVariants as word
 use Rattle.fx_text.specs.Names.{is_same_name}
 use Rattle.fx_text.specs.Refusals.{IsRefused}
 use Rattle.fx_settings.specs.Said.{step_said}
 use Rattle.fx_text.specs.Phrases.{start_of}
 use Rattle.fx_settings.specs.Valid.{are_valid}
+use Rattle.fx_settings.specs.Settings.{levels_of}
+use Rattle.fx_settings.specs.declared.said.StepSaid.{StepSaid}
 use Rattle.fx_outputs.specs.Outputs.{outputs_of, names_of}
 use Rattle.fx_outputs.specs.Validity.{HasItsNames, IsWithinLimits}
 use Rattle.fx_outputs.proofs.Names.{all_differ, all_have_names}
@@ -13,12 +17,21 @@ use Rattle.fx_text.proofs.Distinct.{behind_differ}
 use Rattle.fx_statements.proofs.Parts.{named_factors}
 use Rattle.fx_statements.specs.Contexts.{context}
 use Rattle.fx_statements.specs.Goals.{goal_of}
-use Rattle.fx_statements.specs.Valid.{CanBeWanted, HasFewComponents}
+use Rattle.fx_statements.specs.Valid.{CanBeWanted, HasFewComponents, most_factors_of}
 use Rattle.fx_statements.specs.Steps.{asked_by, examine_of, factors_by, head_of, factor_limit}
 use Rattle.fx_statements.proofs.Bounds.{counted, same_settings, unsaid}
 use Rattle.fx_statements.proofs.StepByStep.{step_is, settings_refused, outputs_refused}
 use Rattle.fx_text.proofs.Stops.{refused, stopped}
+use Rattle.fx_text.specs.Statements.{statement_of}
+use Rattle.fx_text.specs.Written.{Written}
 use Rattle.fx_statements.proofs.stepping.step_by.Goals as goal
+
+-- the limit that is worked out is that of the step
+limit : (head : List Written) {n q : ℕ} {said : StepSaid} (statements : List (List Written)) (own : List Written)
+    → n ≡ most_factors_of q (is_some (statement_of word.Blocks statements)) → q ≡ levels_of said
+    → said ≡ step_said head own statements → n ≡ factor_limit own statements
+limit head statements own value levels is =
+    value ∙ ap (λ q. most_factors_of q (is_some (statement_of word.Blocks statements))) (levels ∙ ap levels_of is)
 
 pub invariant_of-result : goal.invariant_of-result
 invariant_of-result c =
@@ -35,11 +48,14 @@ invariant_of-result c =
     let outputs = c.in_ok-outputs.outputs in
     record {
       factor_count =
-          counted statements (length c.in_ok-factors.factors) _
+          counted settings.q statements (length c.in_ok-factors.factors) _
           (λ none. c.in_ok-settings.ensures.unblocked
           (unsaid c.head_of-proc.result c.args.named.now statements c.step_said-said.result c.step_said-said.ensures
           none))
-          bounds.0 (omega (arith, bounds.1, c.factor_limit.ensures.value));
+          bounds.0
+          (subst (λ q. length c.in_ok-factors.factors ≤ most_factors_of q (is_some (statement_of word.Blocks statements)))
+          (c.levels_of.ensures ∙ sym c.in_ok-settings.ensures.levels)
+          (omega (arith, bounds.1, c.factor_limit.ensures.value)));
       distinct = c.in_ok-factors.ensures.distinct;
       settings_valid = subst (λ x. are_valid x ≡ true) (sym same) c.in_ok-settings.ensures.settings_valid;
       effects_askable = subst (λ s. CanBeWanted settings.q s wanted) s c.in_ok-settings.ensures.askable;
@@ -70,9 +86,11 @@ returns-clause-step c =
     let factors = c.in_ok-factors.factors in
     let settings = c.in_ok-settings.settings in
     let wanted = c.in_ok-settings.wanted in
-    let is_named : factors_by (start_of (head_of statements)) (factor_limit statements) named ≡ Ok factors =
+    let is_named : factors_by (start_of (head_of statements)) (factor_limit named statements) named ≡ Ok factors =
     ap₂ (λ place most. factors_by place most named) (sym (c.place.ensures ∙ ap start_of c.head_of-proc.ensures))
-    (sym c.factor_limit.ensures.value) ∙ c.in_ok-factors.ensures.factors in
+    (sym (limit c.head_of-proc.result statements named c.factor_limit.ensures.value c.levels_of.ensures
+    c.step_said-said.ensures))
+    ∙ c.in_ok-factors.ensures.factors in
     let is_asked : asked_by factors (step_said (head_of statements) named statements) statements
     ≡ Ok (settings, goal_of wanted) =
     ap₂ (λ names said. asked_by names said statements) (sym c.as_slice.ensures)
@@ -92,9 +110,11 @@ returns-in_err-outputs-clause-refused c =
     let factors = c.in_ok-factors.factors in
     let settings = c.in_ok-settings.settings in
     let reason = c.in_err-outputs.field-0.0 in
-    let is_named : factors_by (start_of (head_of statements)) (factor_limit statements) named ≡ Ok factors =
+    let is_named : factors_by (start_of (head_of statements)) (factor_limit named statements) named ≡ Ok factors =
     ap₂ (λ place most. factors_by place most named) (sym (c.place.ensures ∙ ap start_of c.head_of-proc.ensures))
-    (sym c.factor_limit.ensures.value) ∙ c.in_ok-factors.ensures.factors in
+    (sym (limit c.head_of-proc.result statements named c.factor_limit.ensures.value c.levels_of.ensures
+    c.step_said-said.ensures))
+    ∙ c.in_ok-factors.ensures.factors in
     let is_asked : asked_by factors (step_said (head_of statements) named statements) statements
     ≡ Ok (settings, goal_of c.in_ok-settings.wanted) =
     ap₂ (λ names said. asked_by names said statements) (sym c.as_slice.ensures)
@@ -119,17 +139,26 @@ pub returns-in_err-factors-clause-refused : goal.returns-in_err-factors-clause-r
 returns-in_err-factors-clause-refused c =
     let statements = c.args.statements.now in
     let factors =
-    rw (c.place.ensures ∙ ap start_of c.head_of-proc.ensures, c.factor_limit.ensures.value) at
+    rw (
+      c.place.ensures ∙ ap start_of c.head_of-proc.ensures,
+      limit c.head_of-proc.result statements c.args.named.now c.factor_limit.ensures.value c.levels_of.ensures
+          c.step_said-said.ensures,
+    ) at
     c.in_err-factors.ensures.refused in
     refused _ _ c.in_err-factors.field-0.0 c.from_residual.ensures.1
-    (stopped (factors_by (start_of (head_of statements)) (factor_limit statements) c.args.named.now) _ _ factors)
+    (stopped (factors_by (start_of (head_of statements)) (factor_limit c.args.named.now statements) c.args.named.now) _
+    _ factors)
 
 pub returns-in_err-settings-clause-refused : goal.returns-in_err-settings-clause-refused
 returns-in_err-settings-clause-refused c =
     let statements = c.args.statements.now in
     let named = c.args.named.now in
     let is_named =
-    rw (c.place.ensures ∙ ap start_of c.head_of-proc.ensures, c.factor_limit.ensures.value) at
+    rw (
+      c.place.ensures ∙ ap start_of c.head_of-proc.ensures,
+      limit c.head_of-proc.result statements c.args.named.now c.factor_limit.ensures.value c.levels_of.ensures
+          c.step_said-said.ensures,
+    ) at
     c.in_ok-factors.ensures.factors in
     let said = c.step_said-said.ensures ∙ ap (λ p. step_said p named statements) c.head_of-proc.ensures in
     let asked = rw (c.as_slice.ensures, said) at c.in_err-settings.ensures.refused in

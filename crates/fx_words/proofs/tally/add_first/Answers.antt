@@ -4,7 +4,7 @@ use Rattle.std.proofs.lemmas.List.{length-take-le}
 use Rattle.fx_laws.proofs.Tables.{is_order-field}
 use Rattle.fx_vectors.specs.declared.shape.Shape.{Shape}
 use Rattle.fx_vectors.specs.Matrix.{IsMatrix}
-use Rattle.fx_vectors.proofs.Limits.{order-bounds}
+use Rattle.fx_vectors.proofs.Limits.{words_fit}
 use Rattle.fx_words.specs.Spreads.{so_far, AreAlike}
 use Rattle.fx_words.proofs.Counts.{put}
 use Rattle.fx_words.proofs.Levels.{so_far-fits}
@@ -99,15 +99,14 @@ overflow_add-counts-in-loop-j-2 c =
     omega (arith, below, runs_in_shape s c.args.classes.now c.requires.classes)) in
     let fits =
     so_far-fits s.q s.m f (take k rows) c.args.row w (slice_index points c.loop-j.j) (1 + 1) point
-    (order-bounds s.q valid.shaped.order).1
+    (words_fit s valid.shaped (length (take k rows) + 1)
     (omega (
       arith,
       c.requires.room,
       c.loop-j.invariant.before.few,
-      valid.shaped.factors,
       length-take-le k rows
           (omega (arith, c.requires.room)),
-    )) (omega (arith, f.more_than_one)) in
+    ))) (omega (arith, f.more_than_one)) in
     omega (arith, total, fits)
 
 pub loop-j-preserved : goal.loop-j-preserved

@@ -1,11 +1,12 @@
 use Rattle.std.proofs.Common.{◌≡◌, ◌<◌, ◌≤◌, ◌+◌, [], ℕ, List, Some, length, subst, sym, ap, ◌∙◌, arith}
 use Rattle.fx_base.specs.Acts.{File}
 use Rattle.fx_base.specs.Memory.{SinkInMemory, ShelfInMemory, SourceInMemory, room_of}
+use Rattle.fx_base.proofs.Options.{same_some}
 use Rattle.fx_program.specs.CommandLine.{bytes_of}
 use Rattle.fx_program.specs.Commands.{command_in}
 use Rattle.fx_program.specs.Output.{world}
 use Rattle.fx_program.specs.Outside.{GivesForSome}
-use Rattle.fx_program.proofs.Complete.{not-failed, some-of}
+use Rattle.fx_program.proofs.Complete.{not-failed}
 use Rattle.program_tests.proofs.complete.status_with_room.Goals as goal
 
 pub returns : goal.returns
@@ -18,9 +19,9 @@ returns g c =
     let empty : c.in_ok-listing.listing.written ≡ [] = ap (λ (z : SinkInMemory). z.written) c.in_ok-listing.ensures in
     let none : c.in_ok-shelf.shelf.files ≡ [] = ap (λ (z : ShelfInMemory). z.files) c.in_ok-shelf.ensures in
     let room_is : listing.room ≡ c.args.listing_room =
-    some-of call.ensures.rooms.1 ∙ ap (λ (z : SinkInMemory). z.room) c.in_ok-listing.ensures in
+    same_some call.ensures.rooms.1 ∙ ap (λ (z : SinkInMemory). z.room) c.in_ok-listing.ensures in
     let shelf_room_is : shelf.room ≡ c.args.shelf_room =
-    some-of call.ensures.rooms.2 ∙ ap (λ (z : ShelfInMemory). z.room) c.in_ok-shelf.ensures in
+    same_some call.ensures.rooms.2 ∙ ap (λ (z : ShelfInMemory). z.room) c.in_ok-shelf.ensures in
     let Gives : List ℕ → List ℕ → List File → Type 0 = λ text written files.
     GivesForSome (command_in words) (Some text) (world (Some written) (Some files))
     (world (Some listing.written) (Some shelf.files)) call.result in

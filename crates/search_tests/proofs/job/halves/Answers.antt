@@ -34,6 +34,7 @@ valid estimate others e o =
         runs = omega arith;
         some_factors = omega arith;
         factors = omega arith;
+        factors_of_many_levels = λ many. absurd (omega (arith, many));
         block_factors = omega arith;
         factors_in_blocks = λ h. absurd (omega arith);
       };

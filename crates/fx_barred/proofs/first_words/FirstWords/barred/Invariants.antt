@@ -1,12 +1,12 @@
-use Rattle.std.proofs.Common.{◌≡◌, ◌<◌, ◌≤◌, ℕ, true, false, length, List}
+use Rattle.std.proofs.Common.{◌≡◌, ◌<◌, ◌≤◌, ℕ, true, false, length}
 use Rattle.fx_designs.specs.Galois.{neg}
-use Rattle.fx_points.specs.Points.{has}
+use Rattle.fx_points.specs.Points.{PointsView, has}
 use Rattle.fx_points.specs.Sums.{sum_of}
 use Rattle.fx_barred.specs.FirstWords.{FirstWordsView, IsFirst, HasNone}
 use Rattle.fx_barred.proofs.first_words.FirstWords.barred.Given as goal
 
 -- what the set says of a point
-abbrev pub IsSaid : FirstWordsView → List ℕ → ℕ → Type 0
+abbrev pub IsSaid : FirstWordsView → PointsView → ℕ → Type 0
 IsSaid v set x =
     (has set x ≡ true → (k : ℕ) × IsFirst v.q v.m v.rows v.words (length v.rows) (sum_of v.q (neg v.q 1) v.m 0 x) k)
     × (has set x ≡ false

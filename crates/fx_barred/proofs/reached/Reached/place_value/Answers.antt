@@ -5,6 +5,7 @@ use Rattle.fx_barred.specs.Reached.{ReachedView}
 use Rattle.fx_barred.proofs.Tables.{power-fits}
 use Rattle.fx_barred.proofs.reached.Reached.place_value.Goals as goal
 use Rattle.fx_barred.proofs.reached.Reached.place_value.Goals.{After-index}
+use Rattle.fx_vectors.specs.declared.shape.TheConstants.{MOST_FACTORS}
 
 -- what is read, and how much room a code more takes
 record Read (c : After-index) : Type 0 where
@@ -12,7 +13,7 @@ record Read (c : After-index) : Type 0 where
   pub next : c.args.code * c.args.self.now.q ^ c.args.j + c.args.self.now.q ^ c.args.j
       ≤ c.args.self.now.q ^ (c.args.j + 1)
   pub fits : c.args.self.now.q ^ (c.args.j + 1) < 2 ^ 128
-  pub few : c.args.j < 40
+  pub few : c.args.j < MOST_FACTORS
 
 read : (c : After-index) → Read c
 read c =
@@ -25,7 +26,6 @@ read c =
     subst (λ (v : ReachedView). j < length v.rows) (sym c.self.view_is) c.requires.row in
     let low : suc code ≤ q = omega (arith, c.requires.code) in
     let few : j < s.room = omega (arith, row, c.self.invariant.within) in
-    let small : q ≤ 9 = omega (arith, same, c.self.invariant.small) in
     let up : q ^ suc j ≡ q * q ^ j = pow-succ' q j in
     let plus_one : j + 1 ≡ suc j = omega arith in
     let more : suc code * q ^ j ≤ q * q ^ j = mul-le-mul_right (q ^ j) low in
@@ -36,7 +36,8 @@ read c =
           (λ (k : ℕ). k ^ j) same;
       next = subst (λ (k : ℕ). code * q ^ j + q ^ j ≤ q ^ k) (sym plus_one) (omega arith);
       fits = subst (λ (k : ℕ). q ^ k < 2 ^ 128) (sym plus_one)
-          (power-fits q (suc j) small (omega (arith, few, c.self.invariant.rows_fit)));
+          (power-fits q (suc j) s.room (omega (arith, low)) (omega (arith, few))
+          (subst (λ (k : ℕ). k ^ s.room < 2 ^ 127) same c.self.invariant.words_fit));
       few = omega (arith, few, c.self.invariant.rows_fit);
     }
 

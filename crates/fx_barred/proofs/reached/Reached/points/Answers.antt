@@ -1,6 +1,6 @@
-use Rattle.std.proofs.Common.{◌≡◌, ◌<◌, ◌≤◌, ◌+◌, ◌*◌, ◌^◌, ◌∙◌, [], length, slice_index_or, sym, subst, ap, arith}
+use Rattle.std.proofs.Common.{◌≡◌, ◌<◌, ◌≤◌, ◌+◌, ◌*◌, ◌^◌, ◌∙◌, length, slice_index_or, sym, subst, ap, arith}
 use Rattle.std.proofs.lemmas.List.{get_or_default}
-use Rattle.fx_points.specs.Points.{has}
+use Rattle.fx_points.specs.Points.{has, no_points}
 use Rattle.fx_barred.specs.Reach.{reaches}
 use Rattle.fx_barred.specs.Reached.{ReachedView}
 use Rattle.fx_barred.proofs.Tables.{place-below}
@@ -15,11 +15,11 @@ returns c x low =
     let h = c.self.invariant.holds (length c.self.inside.rows.items) c.args.left x (omega arith) left point in
     let at : c.index.result.now
     ≡ slice_index_or c.self.inside.sets.items
-    (length c.self.inside.rows.items * (c.self.inside.most + 1) + c.args.left) [] =
+    (length c.self.inside.rows.items * (c.self.inside.most + 1) + c.args.left) no_points =
     (let there = place-below (length c.self.inside.rows.items) c.self.inside.room c.args.left c.self.inside.most
     c.self.invariant.within left in
     let is_at : c.place.result ≡ length c.self.inside.rows.items * (c.self.inside.most + 1) + c.args.left =
     c.place.ensures ∙ ap (λ k. k * (c.self.inside.most + 1) + c.args.left) c.len.ensures.value in
     c.index.ensures ∙ ap (λ k. slice_index_or c.self.inside.sets.items k c.index.result.now) is_at ∙ get_or_default
-    c.self.inside.sets.items _ c.index.result.now [] (omega (arith, c.self.invariant.sets_len))) in
+    c.self.inside.sets.items _ c.index.result.now no_points (omega (arith, c.self.invariant.sets_len))) in
     ap (λ s. has s x) at ∙ h ∙ ap (λ (v : ReachedView). reaches v.q v.m v.rows (length v.rows) c.args.left x) is

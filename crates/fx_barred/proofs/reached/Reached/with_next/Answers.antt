@@ -19,7 +19,9 @@ overflow_add-result c =
     (omega (arith, c.len.ensures.value, c.self.invariant.powers_len, space)) ∙ c.self.invariant.powers_are
     c.len.result (omega (arith, c.len.ensures.value, space)) in
     let at : c.index.result.now ≡ s.sums.q ^ n = read ∙ ap (λ k. s.sums.q ^ k) c.len.ensures.value in
-    let fits = power-fits s.sums.q (suc n) c.self.invariant.small (omega (arith, space, c.self.invariant.rows_fit)) in
+    let fits =
+    power-fits s.sums.q (suc n) s.room (omega (arith, f.more_than_one)) (omega (arith, space))
+    c.self.invariant.words_fit in
     let up = pow-succ' s.sums.q n in
     let two : s.sums.q ^ n * 2 ≤ s.sums.q ^ n * s.sums.q = mul-le-mul_left (s.sums.q ^ n) f.more_than_one in
     omega arith

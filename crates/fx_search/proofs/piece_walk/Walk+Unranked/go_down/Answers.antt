@@ -8,7 +8,7 @@ use Rattle.fx_vectors.specs.Question.{problem_of}
 use Rattle.fx_laws.specs.Walks.{under}
 use Rattle.fx_search.specs.LotWalks.{below}
 use Rattle.fx_search.specs.SearchPieces.{IsChildPlaced}
-use Rattle.fx_search.specs.Pruning.{size_of, count_of_rows}
+use Rattle.fx_search.specs.Pruning.{full_length, count_of_rows}
 use Rattle.fx_search.specs.Walks.{IsInner, LeftFrom, standing_without_best}
 use Rattle.fx_search.specs.declared.unranked.Unranked.{Unranked}
 use Rattle.fx_search.specs.declared.walk.Walk.{Walk}
@@ -39,7 +39,7 @@ returns-clause-down c =
     let pushed = c.in_ok-push.ensures in
     let all = c.begin_children.ensures in
     let long : length child ≡ length w.prefix.rows + 1 = length-append w.prefix.rows (c.args.row ∷ []) in
-    let part : length child < size_of p = omega (arith, long, c.requires.part) in
+    let part : length child < full_length p = omega (arith, long, c.requires.part) in
     let expanded : is_expanded p child ≡ true = opens-plain p h.plain child ∙ c.requires.open_ in
     let bound : u.bound ≤ count_of_rows p =
     subst (λ z. u.bound ≤ count_of_rows (problem_of z)) pushed.at.question_is all.bound in
@@ -56,6 +56,6 @@ returns-clause-down c =
         plain = ap (λ (z : Question). z.least) pushed.at.question_is ∙ h.plain;
       };
       rows = pushed.rows;
-      fresh = subst (λ l. below p l u.bound ≡ under (search_tree p) (size_of p - length l) l) (sym pushed.rows)
+      fresh = subst (λ l. below p l u.bound ≡ under (search_tree p) (full_length p - length l) l) (sym pushed.rows)
           (all-below p (field_of question h.paused.at.valid) child u.bound (inr expanded) part left);
     })

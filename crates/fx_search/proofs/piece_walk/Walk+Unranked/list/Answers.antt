@@ -1,7 +1,7 @@
 use Rattle.std.proofs.Common.{◌≡◌, ◌<◌, [], ℕ, List, length, refl, sym, ap, subst, ◌∙◌, true≢false}
 use Rattle.fx_vectors.specs.declared.question.Question.{Question}
 use Rattle.fx_vectors.specs.Question.{problem_of}
-use Rattle.fx_search.specs.Walks.{IsNoneBelow, standing_without_best}
+use Rattle.fx_search.specs.Walks.{IsNoCanonicalBelow, standing_without_best}
 use Rattle.fx_search.specs.declared.unranked.Unranked.{Unranked}
 use Rattle.fx_search.specs.declared.walk.Walk.{Walk}
 use Rattle.fx_search.proofs.PieceSteps.{ahead-leave}
@@ -12,7 +12,7 @@ pub returns-then-is_empty-clause-last : goal.returns-then-is_empty-clause-last
 returns-then-is_empty-clause-last c is =
     let v : Walk Unranked = c.loop-measure.self in
     let start : v.prefix.rows ≡ [] = c.if-is_empty.ensures.0 refl in
-    (start, subst (λ (l : List ℕ). IsNoneBelow (problem_of v.question.now) l v.bound) start c.in-None.ensures)
+    (start, subst (λ (l : List ℕ). IsNoCanonicalBelow (problem_of v.question.now) l v.bound) start c.in-None.ensures)
 
 pub loop-measure-preserved : goal.loop-measure-preserved
 loop-measure-preserved c =

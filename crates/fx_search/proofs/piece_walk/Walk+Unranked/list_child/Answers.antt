@@ -10,7 +10,7 @@ use Rattle.fx_tree.proofs.Found.{open-walked}
 use Rattle.fx_vectors.specs.declared.question.Question.{Question}
 use Rattle.fx_vectors.specs.Question.{problem_of}
 use Rattle.fx_search.specs.SearchPieces.{IsChildPlaced, IsDownOrBack}
-use Rattle.fx_search.specs.Pruning.{allows, size_of}
+use Rattle.fx_search.specs.Pruning.{is_allowed_with, full_length}
 use Rattle.fx_search.specs.declared.unranked.Unranked.{Unranked}
 use Rattle.fx_search.specs.declared.walk.Walk.{Walk}
 use Rattle.fx_search.proofs.PieceSteps.{ahead-down, any-best}
@@ -29,9 +29,9 @@ returns-then-branch-clause-ahead c =
     let placed = h.placed in
     let f = is_order-field question.shape.q placed.paused.at.valid.shaped.order in
     let closes = rw (placed.paused.at.pruner_problem, placed.paused.at.pruner_rows) at c.closes.ensures in
-    let allowed : allows p q row ≡ true = not-false _ (sym closes ∙ c.if-closes.false) in
+    let allowed : is_allowed_with p q row ≡ true = not-false _ (sym closes ∙ c.if-closes.false) in
     let long : length child ≡ length q + 1 = length-append q (row ∷ []) in
-    let part : length child < size_of p =
+    let part : length child < full_length p =
     omega (arith, long, placed.paused.inner.part, c.len-2.ensures.count, c.rows.ensures, c.if-len-rows.false) in
     let opened =
     open-walked p f q row None refl allowed part (any-best p (is_counted (ranked p) child) None placed.plain) in

@@ -10,13 +10,13 @@ use Rattle.fx_vectors.specs.declared.shape.Shape.{Shape}
 use Rattle.fx_vectors.specs.Shape.{dimensions_of}
 use Rattle.fx_vectors.specs.Question.{IsValid, problem_of, requirement_of}
 use Rattle.fx_tree.specs.declared.front.Front.{Front}
-use Rattle.fx_tree.specs.Following.{front_of, follows, raised}
+use Rattle.fx_tree.specs.Following.{front_of, follows, rank_with}
 use Rattle.fx_tree.proofs.Walks.{follows-extends, front_at}
 use Rattle.fx_tree.proofs.Nexts.{front-next}
 use Rattle.fx_tree.specs.Ranked.{is_counted}
 use Rattle.fx_tree.specs.Search.{search_tree, search_mark, ranked, IsBestAt}
 use Rattle.fx_tree.proofs.Branches.{start_best, end_best, enter_best, leave_best}
-use Rattle.fx_search.specs.Pruning.{size_of}
+use Rattle.fx_search.specs.Pruning.{full_length}
 use Rattle.fx_search.specs.Ends.{Ends}
 use Rattle.fx_search.specs.Walks.{IsAt, IsFrontOf, LeftFrom}
 use Rattle.fx_search.specs.declared.walk.Walk.{Walk}
@@ -85,7 +85,7 @@ walk_child-returns-then-len-self-clause-ended g t c =
       shape = c.requires.at.shape;
       back = tt;
       best = tt;
-      ends = full (search_tree p) (search_mark p) w.limit false w.prefix.rows (size_of p - length d) w.marks w.marks
+      ends = full (search_tree p) (search_mark p) w.limit false w.prefix.rows (full_length p - length d) w.marks w.marks
           w.prefix.rows d (sym c.len.ensures ∙ c.if-len-self.true);
     }
 
@@ -129,13 +129,13 @@ walk_child-walk_below-requires g t c κs within =
     subst (λ (z : Shape). front.rank ≤ z.m) c.requires.at.candidates c.next_front-next.ensures.rank in
     let front_is : front ≡ front_of p.dimensions d =
     c.next_front-next.ensures.front ∙ ap
-    (λ (z : Shape). front_at (c.args.front.count + 1) (raised (dimensions_of z) c.args.front.rank c.args.row)
+    (λ (z : Shape). front_at (c.args.front.count + 1) (rank_with (dimensions_of z) c.args.front.rank c.args.row)
     c.args.row) c.requires.at.candidates
     ∙ front-next p.dimensions (field_of question c.requires.at.valid) p.requirement q c.args.row c.args.front before
     c.requires.child.below c.requires.front.front_is in (
       let rows : length v.prefix.rows ≡ length d = ap length h.rows in
-          let size : size_of (problem_of v.question.now) ≡ size_of p =
-          ap (λ z. size_of (problem_of z)) h.at.question_is in
+          let size : full_length (problem_of v.question.now) ≡ full_length p =
+          ap (λ z. full_length (problem_of z)) h.at.question_is in
           let part = c.requires.child.part in
           omega (arith, rows, size, grown, part),
       (
@@ -211,10 +211,11 @@ walk_child-returns-in-Closed-clause-ended g t c =
       shape = at.shape;
       back = at;
       best = rw left.best h.best;
-      ends = below_closed (search_tree p) (search_mark p) w.limit false q (search_mark p d) (size_of p - length d)
+      ends = below_closed (search_tree p) (search_mark p) w.limit false q (search_mark p d) (full_length p - length d)
           w.marks v.marks x.marks u.prefix.rows d refl o.expanded o.part o.marks x.prefix.rows back
           (subst (λ ms. Ends (search_tree p) (search_mark p) w.limit false
-          (under (search_tree p) (size_of p - length d) d) d Closed v.marks ms u.prefix.rows) (sym left.same.2) h.ends);
+          (under (search_tree p) (full_length p - length d) d) d Closed v.marks ms u.prefix.rows) (sym left.same.2)
+          h.ends);
     }
 
 pub walk_child-returns-in_default-clause-cutter : goal.walk_child-returns-in_default-clause-cutter
@@ -238,7 +239,7 @@ walk_child-returns-in_default-clause-ended g t c =
       shape = h.shape;
       back = else-closed end _ c.in_default.not-Closed;
       best = else-closed end _ c.in_default.not-Closed;
-      ends = below_end (search_tree p) (search_mark p) w.limit stopped q (search_mark p d) (size_of p - length d)
+      ends = below_end (search_tree p) (search_mark p) w.limit stopped q (search_mark p d) (full_length p - length d)
           w.marks v.marks u.marks u.prefix.rows d refl o.expanded o.part o.marks end c.in_default.not-Closed h.ends;
     }
 
@@ -302,8 +303,8 @@ walk_below-walk_child-requires g t c κs within =
           (inl (c.requires.inside e)) i.done next.0 _ (i.best.first e);
     }) in (
       let rows : length v.prefix.rows ≡ length q = ap length i.prefix in
-          let size : size_of (problem_of v.question.now) ≡ size_of p =
-          ap (λ z. size_of (problem_of z)) i.at.question_is in
+          let size : full_length (problem_of v.question.now) ≡ full_length p =
+          ap (λ z. full_length (problem_of z)) i.at.question_is in
           omega (arith, rows, size),
       (
         within.0,

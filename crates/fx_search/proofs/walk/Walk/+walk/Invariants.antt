@@ -5,7 +5,7 @@ use Rattle.fx_laws.specs.Trees.{tree_of, children_of, is_tree_design}
 use Rattle.fx_laws.specs.Walks.{subtree}
 use Rattle.fx_tree.specs.Ranked.{is_counted, extends}
 use Rattle.fx_tree.specs.Search.{search_tree, search_mark, ranked, IsBestAt}
-use Rattle.fx_search.specs.Pruning.{size_of}
+use Rattle.fx_search.specs.Pruning.{full_length}
 use Rattle.fx_designs.specs.Problems.{Problem}
 use Rattle.fx_search.specs.Walks.{IsAt, LeftFrom}
 use Rattle.fx_search.proofs.walk.Walk.+walk.Given as goal
@@ -13,14 +13,14 @@ use Rattle.fx_search.proofs.walk.Walk.+walk.Given as goal
 -- what is below the first children of a prefix
 abbrev below_children : Problem → List ℕ → ℕ → List (List ℕ)
 below_children p rows i =
-    flat_map (λ r. let c = rows ++ r ∷ [] in subtree (search_tree p) (size_of p - length c) c)
+    flat_map (λ r. let c = rows ++ r ∷ [] in subtree (search_tree p) (full_length p - length c) c)
     (take i (children_of (search_tree p) rows))
 
 abbrev pub decreases-walk_below : goal.decreases-walk_below
-decreases-walk_below g l = 2 * (size_of (problem_of l.self.now.question.now) - length l.self.now.prefix.rows) + 1
+decreases-walk_below g l = 2 * (full_length (problem_of l.self.now.question.now) - length l.self.now.prefix.rows) + 1
 
 abbrev pub decreases-walk_child : goal.decreases-walk_child
-decreases-walk_child g l = 2 * (size_of (problem_of l.self.now.question.now) - length l.self.now.prefix.rows)
+decreases-walk_child g l = 2 * (full_length (problem_of l.self.now.question.now) - length l.self.now.prefix.rows)
 
 abbrev pub invariant-walk_below-loop-row : goal.invariant-walk_below-loop-row
 invariant-walk_below-loop-row g l =

@@ -4,7 +4,7 @@ use Rattle.fx_designs.specs.Problems.{Problem}
 use Rattle.fx_designs.specs.Demands.{is_allowed}
 use Rattle.fx_designs.specs.Nodes.{parent}
 use Rattle.fx_vectors.specs.Question.{problem_of}
-use Rattle.fx_search.specs.Pruning.{allows}
+use Rattle.fx_search.specs.Pruning.{is_allowed_with}
 use Rattle.fx_search.proofs.Starts.{each-allowed, expanded-allowed}
 use Rattle.fx_search.proofs.Valid.{field_of}
 use Rattle.fx_search.proofs.walk.Walk.go_to_parent.Goals as goal
@@ -20,9 +20,9 @@ push-requires-clause-open_ g c =
     let allowed : is_allowed p.dimensions p.requirement (parent j) ≡ true =
     ⊎_elim (λ none. absurd (omega (arith, none, low, long))) (λ e. expanded-allowed p (parent j) e)
     c.requires.piece.open_ in
-    ap (λ z. allows (problem_of z) c.loop-i.self.prefix.rows c.row.result) i.is.question_is
-    ∙ ap (λ z. allows p z c.row.result) i.rows
-    ∙ ap₂ (allows p) (sym (take-take c.loop-i.i n j (omega (arith, low))))
+    ap (λ z. is_allowed_with (problem_of z) c.loop-i.self.prefix.rows c.row.result) i.is.question_is
+    ∙ ap (λ z. is_allowed_with p z c.row.result) i.rows
+    ∙ ap₂ (is_allowed_with p) (sym (take-take c.loop-i.i n j (omega (arith, low))))
     (c.row.ensures.row ∙ sym (get_or-take n j c.loop-i.i 0 low))
     ∙ each-allowed p (field_of c.args.self.now.question.now c.requires.at.valid) (parent j) allowed c.loop-i.i
     (omega (arith, low, long))

@@ -10,7 +10,7 @@ use Rattle.fx_tree.specs.Ranked.{is_counted}
 use Rattle.fx_tree.specs.Search.{search_tree, search_mark, ranked, IsBestAt}
 use Rattle.fx_tree.proofs.Found.{barred-shut, barred-best, beaten-shut, beaten-best, open-walked, whole-shut}
 use Rattle.fx_tree.proofs.Found.{better-best, first-design}
-use Rattle.fx_search.specs.Pruning.{size_of}
+use Rattle.fx_search.specs.Pruning.{full_length}
 use Rattle.fx_search.proofs.Steps.{found, shut}
 use Rattle.fx_search.proofs.Valid.{least_at, field_of}
 use Rattle.fx_search.specs.declared.walk.Walk.{Walk}
@@ -48,7 +48,7 @@ pub keep-requires : goal.keep-requires
 keep-requires g c =
     let at = c.requires.at in
     let q : List ℕ = c.args.self.now.prefix.rows in
-    let whole : length q + 1 ≡ size_of (problem_of c.args.self.now.question.now) =
+    let whole : length q + 1 ≡ full_length (problem_of c.args.self.now.question.now) =
     omega (arith, c.requires.child.part, c.in-Better.ensures.kind.1, length-append q (c.args.row ∷ [])) in
     record {
       whole = rw (c.in-Better.ensures.same, at.incumbent_problem, at.incumbent_rows) whole;
@@ -94,7 +94,7 @@ returns-then-closes-clause-visited g c =
       best = barred-best p (field_of question c.requires.at.valid) q c.args.row best barred c.requires.best;
       ends = shut (search_tree p) (search_mark p) (length c.args.self.now.marks + 1) false q
           (Word c.args.row (word_of p cc))
-          (size_of p - length cc) c.args.self.now.marks c.push.new.self q cc k.shut k.mark more
+          (full_length p - length cc) c.args.self.now.marks c.push.new.self q cc k.shut k.mark more
           (omega (
             arith,
             ap length more,
@@ -123,7 +123,7 @@ returns-in_ok-push-in-Beaten-clause-visited g c =
           (beaten-best p (field_of question c.requires.at.valid) q c.args.row was c.in-Beaten.ensures.kind
           c.requires.best);
       ends = shut (search_tree p) (search_mark p) (length c.args.self.now.marks + 1) false q (Worse c.args.row)
-          (size_of p - length cc)
+          (full_length p - length cc)
           c.args.self.now.marks c.push-in-Beaten.new.self q cc k.shut k.mark more
           (omega (arith, ap length more, length-append c.args.self.now.marks (Worse c.args.row ∷ []))) refl;
     }
@@ -138,7 +138,7 @@ returns-in_ok-push-in-Better-clause-visited g c =
     let closes = rw (c.requires.at.pruner_problem, c.requires.at.pruner_rows) at c.closes.ensures in
     let was = (g.I.Incumbent.standing c.args.self.now.incumbent).best in
     let open_ : is_allowed p.dimensions p.requirement cc ≡ true = not-false _ (sym closes ∙ c.if-closes.false) in
-    let whole : length cc ≡ size_of p =
+    let whole : length cc ≡ full_length p =
     omega (arith, c.requires.child.part, c.in-Better.ensures.kind.1, length-append q (c.args.row ∷ [])) in
     let better =
     better-best p (field_of question c.requires.at.valid) q c.args.row whole c.requires.child.canonical open_ was
@@ -158,7 +158,7 @@ returns-in_ok-push-in-Better-clause-visited g c =
           (ap (λ s. s.prefix) kept ∙ ap (λ s. s.prefix) c.in-Better.ensures.same);
       best = rw (kept, c.in-Better.ensures.same, c.requires.at.incumbent_rows) better;
       ends = shut (search_tree p) (search_mark p) (length c.args.self.now.marks + 1) false q (Worse c.args.row)
-          (size_of p - length cc)
+          (full_length p - length cc)
           c.args.self.now.marks c.push-in-Better.new.self q cc k.shut k.mark more
           (omega (arith, ap length more, length-append c.args.self.now.marks (Worse c.args.row ∷ []))) refl;
     }
@@ -171,7 +171,7 @@ returns-in_ok-push-in-First-clause-visited g c =
     let q : List ℕ = c.args.self.now.prefix.rows in
     let cc : List ℕ = q ++ c.args.row ∷ [] in
     let closes = rw (c.requires.at.pruner_problem, c.requires.at.pruner_rows) at c.closes.ensures in
-    let whole : length cc ≡ size_of p =
+    let whole : length cc ≡ full_length p =
     omega (arith, c.requires.child.part, c.in-First.ensures.kind.1, length-append q (c.args.row ∷ [])) in
     let k = first-design p (field_of question c.requires.at.valid) q c.args.row whole c.requires.child.canonical
     (not-false _ (sym closes ∙ c.if-closes.false)) c.in-First.ensures.kind.2 in
@@ -183,7 +183,7 @@ returns-in_ok-push-in-First-clause-visited g c =
       best = tt;
       ends = found (search_tree p) (search_mark p) (length c.args.self.now.marks + 1) false q (Worse c.args.row)
           c.args.self.now.marks
-          c.push-in-First.new.self c.push-in-First-2.new.self.rows cc (size_of p - length cc) e k.0 k.1 more
+          c.push-in-First.new.self c.push-in-First-2.new.self.rows cc (full_length p - length cc) e k.0 k.1 more
           (omega (arith, ap length more, length-append c.args.self.now.marks (Worse c.args.row ∷ [])));
     }
 

@@ -49,6 +49,11 @@ loop-i-preserved c =
           ∙ c.loop-i.invariant.so_far);
     }
 
+pub number-requires-clause-fits : goal.number-requires-clause-fits
+number-requires-clause-fits c =
+    let runs = c.self.invariant.shaped.runs in
+    rw (c.loop-i.invariant.vector.len, c.field-field.ensures, c.from-m.ensures) (omega (arith, runs))
+
 pub returns-clause-sum : goal.returns-clause-sum
 returns-clause-sum c =
     let f : IsField c.field-field.result = field_of (goal.at.returns-clause-sum c).After-from-m in

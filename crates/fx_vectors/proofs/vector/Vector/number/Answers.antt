@@ -16,7 +16,8 @@ next_is c =
 next_fits : (c : In-loop-i) → c.loop-i.number * c.from-q.result + get_or c.args.self.now (c.loop-i.i - 1) 0 < 2 ^ 128
 next_fits c =
     rw (next_is c)
-    (number_fits c.args.field _ c.args.self.now (c.loop-i.i - 1) c.q.ensures.most (omega arith) c.requires)
+    (number_fits c.args.field _ c.args.self.now (c.loop-i.i - 1) (omega (arith, c.q.ensures.least)) c.requires.fits
+    c.requires.vector)
 
 pub overflow_mul-number : goal.overflow_mul-number
 overflow_mul-number c = omega (arith, next_fits c)
@@ -34,4 +35,4 @@ returns-clause-below c =
     let none : c.loop-i.i ≡ 0 = omega arith in
     let whole : c.loop-i.number ≡ number c.args.field c.args.self.now =
     c.loop-i.invariant ∙ ap (λ (i : ℕ). number c.args.field (drop i c.args.self.now)) none in
-    rw whole (number-below c.args.field _ c.args.self.now c.requires)
+    rw whole (number-below c.args.field _ c.args.self.now c.requires.vector)

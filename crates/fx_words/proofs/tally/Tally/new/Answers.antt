@@ -4,13 +4,14 @@ use Rattle.fx_vectors.specs.Matrix.{MatrixView}
 use Rattle.fx_vectors.specs.declared.shape.Shape.{Shape}
 use Rattle.fx_words.specs.Tables.{AreOf, IsTally}
 use Rattle.fx_words.proofs.tally.Tally.new.Goals as goal
+use Rattle.fx_words.specs.declared.tally.TheConstants.{WEIGHTS}
 
 pub invariant_of-result : goal.invariant_of-result
 invariant_of-result c =
     let s : Shape = c.args.shape in
-    let made : List ℕ = replicate 41 (c.from.result + 1) in
+    let made : List ℕ = replicate WEIGHTS (c.from.result + 1) in
     let full : (k : ℕ) → k ≤ s.s → slice_index made k ≡ s.s + 1 =
-    λ k hk. get_or-replicate 41 k (c.from.result + 1) 0 (omega (arith, c.requires.factors)) ∙ ap (λ n. n + 1)
+    λ k hk. get_or-replicate WEIGHTS k (c.from.result + 1) 0 (omega (arith, c.requires.factors)) ∙ ap (λ n. n + 1)
     c.from.ensures
     in
     let start : IsTally s c.in_ok-classes.classes.points [] c.in_ok-counts.counts.items made =

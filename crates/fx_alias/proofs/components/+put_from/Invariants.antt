@@ -1,4 +1,0 @@
-use Rattle.fx_alias.proofs.components.+put_from.Given as goal
-
-abbrev pub decreases-put_from : goal.decreases-put_from
-decreases-put_from l = l.more

@@ -1,0 +1,30 @@
+-- What a text of at most 1,048,576 bytes holds.
+use Rattle.std.proofs.Common.{ℕ, ◌≡◌, ◌≤◌, List, length, Option, None, Result, Ok, Err, sym, ◌∙◌, ap, ap₂}
+use Rattle.std.specs.Prelude.{IfOk, IfErr, nat_lt}
+use Rattle.std.proofs.lemmas.Bool.{cond-false, le-ltb}
+use Rattle.fx_judge.specs.declared.fault.PlanFault.{PlanFault}
+use Rattle.fx_judge.specs.declared.fault.PlanStop.{PlanStop}
+use Rattle.fx_judge.specs.declared.fault.PlanStop.TheVariants.{Refused, NoMemory}
+use Rattle.fx_judge.specs.Plans.{PlanView}
+use Rattle.fx_judge.specs.Reading.{csv_records, first_fault, plan_in, plan_of_text, plan_unless}
+use Rattle.fx_judge.specs.Steps.{Explains, IsFirst}
+
+within : (q : ℕ) (text : List ℕ) → length text ≤ 1048576
+    → plan_of_text q text ≡ plan_unless (first_fault q (csv_records text)) (plan_in q (csv_records text))
+unfolding plan_of_text
+within q text short = cond-false (nat_lt 1048576 (length text)) _ _ (le-ltb 1048576 (length text) short)
+
+pub plan_told : {T : Type 0} (q : ℕ) (text : List ℕ) → length text ≤ 1048576 → (result : Result PlanView T)
+    → IfOk result (λ plan. first_fault q (csv_records text) ≡ None)
+    → IfOk result (λ plan. plan ≡ plan_in q (csv_records text))
+    → IfOk result (λ plan. plan_of_text q text ≡ Ok plan)
+plan_told q text short (Ok plan) none is = within q text short ∙ ap₂ plan_unless none (sym is)
+plan_told q text short (Err stop) none is = tt
+
+pub fault_told : {T : Type 0} (q : ℕ) (text : List ℕ) → length text ≤ 1048576 → (result : Result T PlanStop)
+    → IfErr result (λ stop. IsFirst stop (first_fault q (csv_records text)))
+    → IfErr result (λ stop. Explains stop (plan_of_text q text))
+fault_told q text short (Ok plan) first = tt
+fault_told q text short (Err (Refused found)) first =
+    within q text short ∙ ap (λ (o : Option PlanFault). plan_unless o (plan_in q (csv_records text))) first
+fault_told q text short (Err NoMemory) first = tt

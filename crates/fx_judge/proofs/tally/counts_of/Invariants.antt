@@ -1,0 +1,7 @@
+use Rattle.std.proofs.Common.{map, take}
+use Rattle.fx_designs.specs.Vectors.{dot}
+use Rattle.fx_judge.specs.Tallies.{AreValueCounts}
+use Rattle.fx_judge.proofs.tally.counts_of.Given as goal
+
+abbrev pub invariant-loop-i : goal.invariant-loop-i
+invariant-loop-i l = AreValueCounts 9 (take l.i (map (λ x. dot l.plan.q l.u x) l.plan.rows)) l.counts

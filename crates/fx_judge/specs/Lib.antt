@@ -1,0 +1,10 @@
+pub mod Plans
+pub mod Reading
+pub mod Kinships
+pub mod Regular
+pub mod Rules
+pub mod Listing
+pub mod Columns
+pub mod Tallies
+pub mod Steps
+pub mod Bases
