@@ -1,7 +1,7 @@
 -- A whole text that is read as a book is what is written of it.
 use Rattle.std.proofs.Common.{◌≡◌, ℕ, ◌+◌, ◌^◌, ◌<◌, ◌≤◌, inl, inr, Bool, true, ◌&&◌, cond, eqb, ltb, leb, List, []}
 use Rattle.std.proofs.Common.{◌∷◌, ◌++◌, map, length, Option, Some, None, Result, Ok, Err, refl, sym, ap, ◌∙◌, arith}
-use Rattle.std.proofs.Common.{subst, append_assoc, if◌then◌else◌}
+use Rattle.std.proofs.Common.{subst, append_assoc}
 use Rattle.std.specs.Prelude.{codes, decimal}
 use Rattle.std.specs.Option.{is_some}
 use Rattle.std.specs.Str.{bytes_eq}

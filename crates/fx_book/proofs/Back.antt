@@ -1,6 +1,6 @@
 -- What was written is read.
 use Rattle.std.proofs.Common.{◌≡◌, ◌≢◌, ℕ, zero, suc, ◌+◌, ◌/◌, ◌%◌, ◌^◌, ◌<◌, ◌≤◌, inl, inr, Bool, true, false, not}
-use Rattle.std.proofs.Common.{◌&&◌, ◌||◌, eqb, ltb, List, [], ◌∷◌, ◌++◌, map, take, length, get_or, min, append-nil}
+use Rattle.std.proofs.Common.{◌||◌, eqb, ltb, List, [], ◌∷◌, ◌++◌, map, take, length, get_or, min, append-nil}
 use Rattle.std.proofs.Common.{subst, Some, Ok, refl, sym, ap, ◌∙◌, arith, append_assoc, eq-eqb, ne_eqb, lt-ltb, le-leb}
 use Rattle.std.specs.Prelude.{codes, decimal}
 use Rattle.std.specs.List.{list_all, AllByRecursion}

@@ -26,6 +26,28 @@ entries-both d marks from middle to front back all low high f b same =
     ∙ sym (entries-append Second d (slice_range marks from middle) (slice_range marks middle to)) ∙ ap
     (entries_text Second d) (range-range marks from middle to low high)
 
+-- the text of a book by its first line, the three about its question, its entries and its last line
+pub by_parts : (book : Book)
+    → codes "factex-book 2\n"
+    ++ (head_text book.head
+    ++ (entries_text Second (dimensions_of book.head.question.shape) book.marks ++ codes "END\n")) ≡ book_text book
+by_parts book =
+    let shape : List ℕ = shape_text book.head.question.shape in
+    let demands : List ℕ = demands_text book.head.question.demands in
+    let beat : List ℕ = beat_text book.head.beat in
+    let rest : List ℕ = entries_text Second (dimensions_of book.head.question.shape) book.marks ++ codes "END\n" in
+    ap (λ (l : List ℕ). codes "factex-book 2\n" ++ l)
+    (append_assoc shape (demands ++ beat) rest ∙ ap (λ (l : List ℕ). shape ++ l) (append_assoc demands beat rest))
+
+-- the same with the first four lines as one text
+pub by_front : (book : Book)
+    → (codes "factex-book 2\n" ++ head_text book.head)
+    ++ (entries_text Second (dimensions_of book.head.question.shape) book.marks ++ codes "END\n") ≡ book_text book
+by_front book =
+    append_assoc (codes "factex-book 2\n") (head_text book.head)
+    (entries_text Second (dimensions_of book.head.question.shape) book.marks ++ codes "END\n")
+    ∙ by_parts book
+
 -- the text of a book, from its first four lines, its entries and its last line
 pub book-joined : (book : Book) (front end : List ℕ) (entries some all : List (List ℕ))
     → front ≡ codes "factex-book 2\n" ++ head_text book.head → end ≡ codes "END\n"
@@ -34,19 +56,12 @@ pub book-joined : (book : Book) (front end : List ℕ) (entries some all : List 
     → some ≡ (front ∷ []) ++ entries → all ≡ some ++ end ∷ []
     → joined all ≡ book_text book
 book-joined book front end entries some all f e between s a =
-    let shape : List ℕ = shape_text book.head.question.shape in
-    let demands : List ℕ = demands_text book.head.question.demands in
-    let beat : List ℕ = beat_text book.head.beat in
     let d : Dimensions = dimensions_of book.head.question.shape in
-    let marks : List ℕ = entries_text Second d book.marks in
     let end_is : joined (end ∷ []) ≡ codes "END\n" = append-nil end ∙ e in
     ap joined (a ∙ ap (λ (l : List (List ℕ)). l ++ end ∷ []) s)
     ∙ joined-append (front ∷ entries) (end ∷ [])
     ∙ ap (λ (l : List ℕ). (front ++ joined entries) ++ l) end_is
     ∙ append_assoc front (joined entries) (codes "END\n")
     ∙ ap (λ (l : List ℕ). front ++ (l ++ codes "END\n")) (between ∙ ap (entries_text Second d) (range-all book.marks))
-    ∙ ap (λ (l : List ℕ). l ++ (marks ++ codes "END\n")) f
-    ∙ append_assoc (codes "factex-book 2\n") (head_text book.head) (marks ++ codes "END\n")
-    ∙ ap (λ (l : List ℕ). codes "factex-book 2\n" ++ l)
-    (append_assoc shape (demands ++ beat) (marks ++ codes "END\n") ∙ ap (λ (l : List ℕ). shape ++ l)
-    (append_assoc demands beat (marks ++ codes "END\n")))
+    ∙ ap (λ (l : List ℕ). l ++ (entries_text Second d book.marks ++ codes "END\n")) f
+    ∙ by_front book

@@ -3,6 +3,7 @@ mod Numbers
 mod Lines
 mod Ranges
 mod Joins
+mod Streams
 pub mod Listed
 mod Askable
 mod Placing

@@ -10,7 +10,7 @@ use Rattle.std.proofs.lemmas.Bool.{and_right, ltb-true, leb-true}
 use Rattle.fx_designs.specs.Galois.{digits, number}
 use Rattle.fx_designs.specs.Problems.{Dimensions}
 use Rattle.fx_designs.specs.Vectors.{IsVector, weight}
-use Rattle.fx_laws.proofs.Codes.{digits-vector, digits-number, number-digits, number-below}
+use Rattle.fx_laws.proofs.Codes.{digits-number, number-digits, number-below}
 use Rattle.fx_laws.proofs.Weights.{weight-none, weight-some}
 use Rattle.fx_book.specs.declared.fault.FaultKind.{FaultKind}
 use Rattle.fx_book.specs.declared.fault.FaultKind.TheVariants.{Form, Range}

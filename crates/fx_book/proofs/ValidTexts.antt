@@ -1,8 +1,8 @@
 -- What is read as a book is a valid book.
-use Rattle.std.proofs.Common.{◌≡◌, ℕ, ◌+◌, ◌^◌, ◌<◌, ◌≤◌, inl, inr, Bool, true, false, ◌&&◌, cond, eqb, ltb, leb, List}
-use Rattle.std.proofs.Common.{[], ◌∷◌, ◌++◌, length, All, Option, Some, None, Result, Ok, Err, refl, sym, ap, ◌∙◌}
-use Rattle.std.proofs.Common.{arith, subst, length-append, IsTrue}
-use Rattle.std.specs.Prelude.{codes, decimal}
+use Rattle.std.proofs.Common.{◌≡◌, ℕ, ◌+◌, ◌^◌, ◌<◌, ◌≤◌, inl, inr, Bool, true, ◌&&◌, cond, eqb, ltb, leb, List}
+use Rattle.std.proofs.Common.{[], ◌∷◌, ◌++◌, length, Option, Some, None, Result, Ok, Err, refl, sym, ◌∙◌}
+use Rattle.std.proofs.Common.{arith, subst, length-append}
+use Rattle.std.specs.Prelude.{codes}
 use Rattle.std.specs.List.{AllByRecursion}
 use Rattle.std.specs.Option.{is_some}
 use Rattle.std.specs.Str.{bytes_eq}
@@ -11,12 +11,12 @@ use Rattle.std.proofs.lemmas.Bool.{ltb-false}
 use Rattle.std.proofs.lemmas.List.Elements.{All-from_recursion}
 use Rattle.fx_designs.specs.Problems.{Dimensions}
 use Rattle.fx_designs.specs.Nodes as nodes
-use Rattle.fx_vectors.specs.Shape.{IsShape, dimensions_of}
+use Rattle.fx_vectors.specs.Shape.{dimensions_of}
 use Rattle.fx_vectors.specs.Effects.{numbers_of}
 use Rattle.fx_vectors.specs.Marks.{meaning_of}
 use Rattle.fx_vectors.specs.declared.mark.Mark.{Mark}
 use Rattle.fx_vectors.specs.declared.mark.Mark.TheVariants.{Branch, Word, Worse}
-use Rattle.fx_vectors.specs.Question.{IsValid, CanBeAsked, is_resolution, requirement_of}
+use Rattle.fx_vectors.specs.Question.{is_resolution, requirement_of}
 use Rattle.fx_vectors.specs.declared.shape.Shape.{Shape}
 use Rattle.fx_vectors.specs.declared.effect.Effect.{Effect}
 use Rattle.fx_vectors.specs.declared.book.Book.{Book}
@@ -38,11 +38,11 @@ use Rattle.fx_book.specs.Reading.{entries, after_entry, is_nothing}
 use Rattle.fx_book.specs.Demands.{demands_of, resolution_demands, resolution_within, numbered_effects, as_effects}
 use Rattle.fx_book.specs.Demands.{after_stroke}
 use Rattle.fx_book.specs.Demands.{with_effect, lists_of, may_be_asked, asked_for}
-use Rattle.fx_book.specs.Heads.{book_of, from_title, with_version, from_size, with_shape, from_demands, with_demands}
-use Rattle.fx_book.specs.Heads.{from_beat, with_beat, with_marks, shape_of, may_be_beaten, whole_pattern, beat_from}
+use Rattle.fx_book.specs.Heads.{book_of, from_title, with_version, from_size, with_shape, with_demands}
+use Rattle.fx_book.specs.Heads.{from_beat, with_beat, shape_of, may_be_beaten, whole_pattern, beat_from}
 use Rattle.fx_book.specs.Heads.{beat_of}
-use Rattle.fx_book.specs.Writing.{text_in, shape_text, demands_text, beat_text, book_text}
-use Rattle.fx_book.specs.Valid.{IsEntry, IsBeat, AreFew, AreDemands, IsValidBook}
+use Rattle.fx_book.specs.Writing.{text_in, shape_text, demands_text, beat_text}
+use Rattle.fx_book.specs.Valid.{IsEntry, IsBeat, AreDemands, IsValidBook}
 use Rattle.fx_book.proofs.Askable.{askable}
 use Rattle.fx_book.proofs.Texts.{written_word}
 use Rattle.fx_book.proofs.Accepted.{AreLimits, line_taken, version_taken, size_taken, demands_taken, beat_taken}

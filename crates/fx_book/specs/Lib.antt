@@ -10,3 +10,4 @@ pub mod Heads
 pub mod Writing
 pub mod Valid
 pub mod QuestionBooks
+pub mod Streaming

@@ -1,5 +1,5 @@
 -- The versions of the text of a book: their first lines, and the most factors of a shape.
-use Rattle.std.specs.Prelude.{ℕ, nat_le, if◌then◌else◌, List, ◌++◌, codes, Option, Some, None}
+use Rattle.std.specs.Prelude.{ℕ, nat_le, if◌then◌else◌, List, codes, Option, Some, None}
 use Rattle.std.specs.Str.{bytes_eq}
 use Rattle.fx_book.specs.declared.version.Version.{Version}
 use Rattle.fx_book.specs.declared.version.Version.TheVariants.{First, Second}

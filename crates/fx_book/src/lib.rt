@@ -13,6 +13,7 @@ mod part;
 mod pieces;
 mod question_book;
 mod reading;
+mod streaming;
 mod tail;
 mod version;
 mod word;
@@ -26,5 +27,6 @@ pub use laws::{
 };
 pub use pieces::book_pieces;
 pub use question_book::{absence_book, least_book};
+pub use streaming::{WriteStop, stream_book};
 pub use version::Version;
 pub use writing::{write_book, write_head};

@@ -7,12 +7,16 @@ use Rattle.fx_base.specs.Faults.{Rose}
 use Rattle.fx_base.specs.Writing.{Appends, AppendsPart}
 use Rattle.fx_base.proofs.Doing.{did_one, did_piece, did_then, part_before, part_none, part_one, part_piece, part_then}
 use Rattle.fx_base.proofs.Doing.{part_whole}
+use Rattle.fx_base.specs.declared.sink.Sink as sink
+use Rattle.fx_book.specs.Streaming.{WritesTo}
+use Rattle.fx_book.specs.declared.streaming.WriteStop.{WriteStop}
+use Rattle.fx_book.specs.declared.streaming.WriteStop.TheVariants as write
 use Rattle.fx_program.specs.declared.stop.Stop.{Stop}
 use Rattle.fx_program.specs.declared.stop.Stop.TheVariants as stop
-use Rattle.fx_program.specs.Stops.{HasCause, exit_status}
+use Rattle.fx_program.specs.Stops.{HasCause, exit_status, writing_stop}
 use Rattle.fx_program.specs.Output.{Output, Gives, message, with_files}
 use Rattle.fx_program.specs.Outside.{Ends, HaveSameRooms, Lists, Outside, ShelfView, ShelvesFiles, SinkView, Writes}
-use Rattle.fx_program.specs.Outside.{faults_of, outside}
+use Rattle.fx_program.specs.Outside.{faults_of, outside, sink_view}
 
 -- what is given where all was done, and where it stopped
 pub gives_whole : {a b : World} (output : Output) (status : ℕ) → status ≡ output.status → Did a b (acts output.events)
@@ -113,6 +117,36 @@ module _ {old new : SinkView} (bytes : List ℕ) (status : ℕ) (room : new.room
               (part_one (Piece bytes) (part_piece _ _ shelf.files bytes part));
           cause = record { failed = λ e. inr (inl rose); unchanged = λ other. absurd (other refl) };
           rooms = record { source = refl; listing = room; shelf = refl };
+          closed = tt;
+        });
+  }
+
+-- bytes were written part after part, or some of them
+module _ {K T : Type 0} (members : sink.Ghosts K) (bytes : List ℕ) (status : ℕ) {old new : K} where
+  pub lists_written : {x : T} → status < 4 → WritesTo members bytes old new (Ok x)
+      → Lists (message bytes status) (sink_view members old) (sink_view members new) (Ok status)
+  lists_written low written = lists_piece bytes status written.room low written.done written.cause
+
+  pub lists_stopped : (why : WriteStop) → WritesTo {T = T} members bytes old new (Err why) → (ended : Result ℕ Stop)
+      → IsErrAnd ended (λ e. e ≡ writing_stop why)
+      → Lists (message bytes status) (sink_view members old) (sink_view members new) ended
+  lists_stopped write.WriteFault written ended h =
+      lists_cut bytes status written.room ended h written.part written.cause.0
+  lists_stopped write.NoMemory written ended h = record {
+    whatever = λ source shelf closed.
+        subst
+        (Ends (message bytes status) (outside source (sink_view members old) shelf)
+        (outside source (sink_view members new) shelf))
+        (error_is ended stop.NoMemory h)
+        (record {
+          low = tt;
+          gives = gives_part (message bytes status) 5 (omega arith)
+              (part_one (Piece bytes) (part_piece _ _ shelf.files bytes written.part));
+          cause = record {
+            failed = λ e. absurd (cc e);
+            unchanged = λ e. ap (λ n. source.faults ∷ n ∷ shelf.faults ∷ []) written.cause;
+          };
+          rooms = record { source = refl; listing = written.room; shelf = refl };
           closed = tt;
         });
   }

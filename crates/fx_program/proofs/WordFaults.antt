@@ -67,10 +67,10 @@ run_within : (last : ℕ) (r : Result Options WordFault) → Within last r → W
 run_within last (Ok given) h = tt
 run_within last (Err fault) h = h
 
-check_within : (last : ℕ) (options : List (List ℕ)) → length options + 2 ≤ last + 1
-    → Within last (CommandLine.check_with options)
-check_within last [] fits = tt
-check_within last (other ∷ others) fits =
+without_within : (last : ℕ) (settings : Settings) (options : List (List ℕ)) → length options + 2 ≤ last + 1
+    → Within last (CommandLine.without_options settings options)
+without_within last settings [] fits = tt
+without_within last settings (other ∷ others) fits =
     fault_here last 2 (omega arith) (omega (arith, fits)) 3 (omega arith) (omega arith)
 
 alone_within : (last : ℕ) (others : List (List ℕ)) (r : Result ℕ WordFault) → length others + 3 ≤ last + 1
@@ -125,11 +125,12 @@ command_within last word options fits =
     let some : 2 ≤ last = omega (arith, fits) in
     either last (bytes_eq word (codes "run")) _ _
     (run_within last _ (options_within last 2 true options (omega arith) (omega (arith, fits))))
-    (either last (bytes_eq word (codes "check")) _ _ (check_within last options (omega (arith, fits)))
+    (either last (bytes_eq word (codes "check")) _ _ (without_within last _ options (omega (arith, fits)))
+    (either last (bytes_eq word (codes "upgrade")) _ _ (without_within last _ options (omega (arith, fits)))
     (either last (bytes_eq word (codes "make")) _ _ (make_within last options fits some)
     (either last (bytes_eq word (codes "large")) _ _ (large_within last options fits some)
     (either last (bytes_eq word (codes "judge")) _ _ (judge_within last options fits some)
-    (fault_here last 1 (omega arith) (omega (arith, some)) 2 (omega arith) (omega arith))))))
+    (fault_here last 1 (omega arith) (omega (arith, some)) 2 (omega arith) (omega arith)))))))
 
 settings_within : (words : List (List ℕ)) → Within (length words + 1) (CommandLine.settings_of words)
 unfolding CommandLine.settings_of

@@ -9,7 +9,7 @@ use Rattle.fx_designs.specs.Galois.{is_order}
 use Rattle.fx_lexer.specs.Bytes.{is_digit}
 use Rattle.fx_program.specs.declared.words.Options.{Options}
 use Rattle.fx_program.specs.declared.words.Settings.{Settings}
-use Rattle.fx_program.specs.declared.words.Settings.TheVariants.{Run, Check, Make, Large, Judge}
+use Rattle.fx_program.specs.declared.words.Settings.TheVariants.{Run, Check, Make, Large, Judge, Upgrade}
 use Rattle.fx_program.specs.declared.words.WordFault.{WordFault}
 
 -- the bytes of each word
@@ -146,10 +146,10 @@ abbrev pub judge_with : List (List ℕ) → Result Settings WordFault
 judge_with [] = word_fault 6 2
 judge_with (word ∷ others) = judged_by (alone others (order_at 2 word))
 
--- the settings of `check`, after which there is no word
-abbrev pub check_with : List (List ℕ) → Result Settings WordFault
-check_with [] = Ok Check
-check_with (other ∷ others) = word_fault 3 2
+-- these settings, for a command that no word follows
+abbrev pub without_options : Settings → List (List ℕ) → Result Settings WordFault
+without_options settings [] = Ok settings
+without_options settings (other ∷ others) = word_fault 3 2
 
 -- the settings of a command with these options
 abbrev pub command_with : List ℕ → List (List ℕ) → Result Settings WordFault
@@ -157,12 +157,14 @@ command_with word options =
     (if bytes_eq word (codes "run")
     then run_with (options_in 2 true options)
     else (if bytes_eq word (codes "check")
-    then check_with options
+    then without_options Check options
+    else (if bytes_eq word (codes "upgrade")
+    then without_options Upgrade options
     else (if bytes_eq word (codes "make")
     then make_with options
     else (if bytes_eq word (codes "large")
     then large_with options
-    else (if bytes_eq word (codes "judge") then judge_with options else word_fault 2 1)))))
+    else (if bytes_eq word (codes "judge") then judge_with options else word_fault 2 1))))))
 
 -- 1: there is no word. 2: the first word is no command. 3: a word is no option of the command. 4: a number is none of 1
 -- to 20 digits, or is not in its range. 5: the option is repeated. 6: the number of `make`, `large` or `judge` is

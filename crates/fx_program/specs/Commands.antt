@@ -6,9 +6,9 @@ use Rattle.fx_program.specs.Texts.{program_in}
 use Rattle.fx_judge.specs.Reading.{plan_of_text}
 use Rattle.fx_program.specs.Judging.{judged_output}
 use Rattle.fx_program.specs.Making.{made_text}
-use Rattle.fx_program.specs.Output.{Output, large_output, message, program_output, verdict_output}
+use Rattle.fx_program.specs.Output.{Output, large_output, message, program_output, upgraded_output, verdict_output}
 use Rattle.fx_program.specs.declared.words.Settings.{Settings}
-use Rattle.fx_program.specs.declared.words.Settings.TheVariants.{Run, Check, Make, Large, Judge}
+use Rattle.fx_program.specs.declared.words.Settings.TheVariants.{Run, Check, Make, Large, Judge, Upgrade}
 use Rattle.fx_program.specs.declared.words.WordFault.{WordFault}
 
 -- A command: what it gives for a text of the source; whether it reads the source, and whether it reads such a text to
@@ -38,6 +38,7 @@ command_of (Run threads seed) = record {
   text_run = λ left. left;
 }
 command_of Check = reading 268435456 (λ text. verdict_output (book_of text))
+command_of Upgrade = reading 268435456 (λ text. upgraded_output (book_of text))
 command_of (Make n) = unread (message (made_text n) 0) None
 command_of (Judge q) = record {
   output = λ text. judged_output (plan_of_text q text);

@@ -7,6 +7,7 @@ use Rattle.fx_alias.specs.Sections.{step_lines}
 use Rattle.fx_vectors.specs.declared.book.Book.{Book}
 use Rattle.fx_vectors.specs.declared.book.NamedBook.{NamedBook}
 use Rattle.fx_book.specs.declared.fault.BookFault.{BookFault}
+use Rattle.fx_book.specs.Writing.{book_text}
 use Rattle.fx_checker.specs.Books.{flaw_of}
 use Rattle.fx_checker.specs.Claims.{claim_of}
 use Rattle.fx_checker.specs.Verdicts.{verdict_of}
@@ -82,6 +83,11 @@ verdict_output (Ok book) =
     let verdict = verdict_of (flaw_of (claim_of book.head) book.marks) in
     message (verdict_lines book.head verdict) (verdict_status verdict)
 verdict_output (Err fault) = message (book_fault_line fault) 1
+
+-- what is given for `upgrade` and the book that a text is, or its first fault: the text that is written of the book
+abbrev pub upgraded_output : Result Book BookFault → Output
+upgraded_output (Ok book) = message (book_text book) 0
+upgraded_output (Err fault) = message (book_fault_line fault) 1
 
 -- what stands outside: the listing and the files
 abbrev pub world : Option (List ℕ) → Option (List File) → World

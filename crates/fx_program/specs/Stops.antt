@@ -3,6 +3,8 @@ use Rattle.std.specs.Prelude.{ℕ, ◌≡◌, ◌≢◌, ◌⊎◌, List, [], �
 use Rattle.fx_base.specs.Faults.{Rose}
 use Rattle.fx_base.specs.declared.reading.ReadStop.{ReadStop}
 use Rattle.fx_base.specs.declared.reading.ReadStop.TheVariants as read
+use Rattle.fx_book.specs.declared.streaming.WriteStop.{WriteStop}
+use Rattle.fx_book.specs.declared.streaming.WriteStop.TheVariants as write
 use Rattle.fx_program.specs.declared.stop.Stop.{Stop}
 use Rattle.fx_program.specs.declared.stop.Stop.TheVariants as stop
 
@@ -10,6 +12,11 @@ use Rattle.fx_program.specs.declared.stop.Stop.TheVariants as stop
 abbrev pub reading_stop : ReadStop → Stop
 reading_stop read.ReadFault = stop.Failed
 reading_stop read.NoMemory = stop.NoMemory
+
+-- why the program stops where a book was not written whole
+abbrev pub writing_stop : WriteStop → Stop
+writing_stop write.WriteFault = stop.Failed
+writing_stop write.NoMemory = stop.NoMemory
 
 -- the exit status
 abbrev pub exit_status : Result ℕ Stop → ℕ

@@ -1,4 +1,4 @@
--- What the command `check` lists of a book.
+-- What the commands `check` and `upgrade` list of a book.
 use Rattle.std.specs.Prelude.{ℕ, List, ◌++◌, codes, decimal}
 use Rattle.fx_vectors.specs.declared.book.Head.{Head}
 use Rattle.fx_book.specs.declared.fault.BookFault.{BookFault}

@@ -1,8 +1,20 @@
-ghost use Rattle.std.specs.Prelude.{◌≡◌, ◌<◌, ◌++◌, List, ℕ, Ok, length, IfOk, OnOk};
+ghost use Rattle.std.specs.Prelude.{◌≡◌, ◌<◌, ◌++◌, Err, IfOk, List, Ok, OnOk, Some, false, ℕ};
 ghost use Rattle.fx_book.specs.Heads.{book_of};
 ghost use Rattle.fx_book.specs.Reading.{IsReading};
 ghost use Rattle.fx_book.specs.Valid.{IsValidBook};
+ghost use Rattle.fx_program.specs.declared.words.Settings.TheVariants.{Check};
+ghost use Rattle.fx_program.specs.Claims.{IsProvedBook};
+ghost use Rattle.fx_program.specs.Commands.{command_of};
 ghost use Rattle.fx_program.specs.Output.{message, verdict_output};
+ghost use Rattle.fx_program.specs.Outside.{
+  IsCarriedOut,
+  Lists,
+  ShelfView,
+  outside,
+  sink_view,
+  source_view,
+};
+ghost use Rattle.fx_program.specs.Stops.{exit_status};
 ghost use Rattle.fx_program.specs.Verdicts.{
   book_fault_line,
   rejected_line,
@@ -10,7 +22,9 @@ ghost use Rattle.fx_program.specs.Verdicts.{
   verdict_status,
 };
 
-use fx_base::{Bytes, NoMemory, put, put_number};
+use crate::listing::list;
+use crate::stop::Stop;
+use fx_base::{Bytes, NoMemory, Sink, Source, Taken, put, put_number, read_all};
 use fx_book::{BookFault, BookStop, FaultKind, read_book, write_head};
 use fx_checker::{Verdict, check};
 use fx_vectors::{Book, Head};
@@ -19,79 +33,58 @@ use std::alloc::Global;
 /// The greatest number of bytes of a book.
 pub(crate) const BOOK_LIMIT: usize = 268435456;
 
-/// What is listed of a book, and the exit status.
-#[derive(Drop)]
-pub(crate) struct Judgement {
-    pub(crate) lines: Bytes,
-    pub(crate) status: u8,
-}
+/// The fault of a text that is longer than that.
+pub(crate) const TOO_LONG: BookFault = BookFault {
+    kind: FaultKind::TooLong,
+    line: 1,
+};
 
-/// The judgement of a text: whether it is a book, and a good one. The text is let go before the book
-/// is checked.
-///
-/// # Errors
-///
-/// `NoMemory`.
-pub(crate) fn judge(alloc: Global, text: Bytes) -> Result<Judgement, NoMemory>
-    ensures judged { IfOk result (λ judgement.
-        message judgement.lines judgement.status ≡ verdict_output (book_of text)) }
-    ensures low { IfOk result (λ judgement. judgement.status < 4) }
+/// The exit status where a book is rejected.
+const REJECTED: u8 = 1;
+
+/// The command `check`: reads a book, and lists whether it is accepted.
+pub(crate) fn check_text<S: Source, K: Sink>(
+    alloc: Global,
+    source: &mut S,
+    listing: &mut K,
+) -> Result<u8, Stop>
+    ensures done { (shelf : ShelfView) → shelf.begun ≡ false → IsCarriedOut (command_of Check)
+        (outside (source_view S.Source source.old) (sink_view K.Sink listing.old) shelf)
+        (outside (source_view S.Source source.new) (sink_view K.Sink listing.new) shelf) result }
+    ensures accepted { exit_status result ≡ 0
+        → (text : List ℕ)
+        → S.left source.old ≡ Some text
+        → IsProvedBook text }
 {
-    match read_and_drop(alloc, text) {
-        Ok(book) => judge_book(alloc, &book),
-        Err(BookStop::Fault(fault)) => refused(alloc, fault),
-        Err(BookStop::NoMemory) => Err(NoMemory),
+    let text = match read_all(alloc, source, BOOK_LIMIT)? {
+        Taken::Whole(text) => text,
+        Taken::TooLong => return refuse_book(alloc, TOO_LONG, listing),
+    };
+    match take_book(alloc, text) {
+        Ok(book) => list_verdict(alloc, &book, listing),
+        Err(BookStop::Fault(fault)) => refuse_book(alloc, fault, listing),
+        Err(BookStop::NoMemory) => Err(Stop::NoMemory),
     }
 }
 
-/// The judgement of a text that is longer than a book may be.
-///
-/// # Errors
-///
-/// `NoMemory`.
-pub(crate) fn judge_too_long(alloc: Global) -> Result<Judgement, NoMemory>
-    ensures judged { IfOk result (λ judgement. (text : List ℕ) → 268435456 < length text
-        → message judgement.lines judgement.status ≡ verdict_output (book_of text)) }
-    ensures low { IfOk result (λ judgement. judgement.status < 4) }
-{
-    let fault = BookFault {
-        kind: FaultKind::TooLong,
-        line: 1,
-    };
-    refused(alloc, fault)
-}
-
-fn read_and_drop(alloc: Global, text: Bytes) -> Result<Book, BookStop>
+/// The book of a text, which is let go.
+pub(crate) fn take_book(alloc: Global, text: Bytes) -> Result<Book, BookStop>
     ensures read { IsReading (book_of text) result }
     ensures valid { IfOk result IsValidBook }
 {
     read_book(alloc, text.as_slice())
 }
 
-/// The judgement of a text that is no book, by its first fault.
-fn refused(alloc: Global, fault: BookFault) -> Result<Judgement, NoMemory>
-    ensures { IfOk result (λ judgement. message judgement.lines judgement.status
-        ≡ message (book_fault_line fault) 1) }
-{
-    let mut lines = Bytes::new(alloc);
-    put_rejected(&mut lines, fault.line, b"B", fault.kind.code())?;
-    Ok(Judgement { lines, status: 1 })
-}
-
-/// The judgement of a valid book.
-fn judge_book(alloc: Global, book: &Book) -> Result<Judgement, NoMemory>
+/// Lists whether a book is accepted.
+fn list_verdict<K: Sink>(alloc: Global, book: &Book, listing: &mut K) -> Result<u8, Stop>
     requires { IsValidBook book.now }
-    ensures judged { IfOk result (λ judgement.
-        message judgement.lines judgement.status ≡ verdict_output (Ok book.now)) }
-    ensures low { IfOk result (λ judgement. judgement.status < 4) }
+    ensures { Lists (verdict_output (Ok book.now))
+        (sink_view K.Sink listing.old) (sink_view K.Sink listing.new) result }
 {
     let verdict = check(alloc, book)?;
     let mut lines = Bytes::new(alloc);
     put_verdict(&mut lines, &book.head, verdict)?;
-    Ok(Judgement {
-        lines,
-        status: status_of(verdict),
-    })
+    list(listing, lines.as_slice(), status_of(verdict))
 }
 
 /// 0 for a book that is accepted, 1 for one that is rejected.
@@ -101,8 +94,22 @@ fn status_of(verdict: Verdict) -> u8
 {
     match verdict {
         Verdict::Accepted => 0,
-        Verdict::Rejected { .. } => 1,
+        Verdict::Rejected { .. } => REJECTED,
     }
+}
+
+/// Lists where a text is no book, and why.
+pub(crate) fn refuse_book<K: Sink>(
+    alloc: Global,
+    fault: BookFault,
+    listing: &mut K,
+) -> Result<u8, Stop>
+    ensures { Lists (message (book_fault_line fault) 1)
+        (sink_view K.Sink listing.old) (sink_view K.Sink listing.new) result }
+{
+    let mut line = Bytes::new(alloc);
+    put_rejected(&mut line, fault.line, b"B", fault.kind.code())?;
+    list(listing, line.as_slice(), REJECTED)
 }
 
 /// Appends the lines of a verdict on a book with this head.

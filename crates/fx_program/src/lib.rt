@@ -4,6 +4,7 @@
 mod checking;
 mod files;
 mod judging;
+mod listing;
 mod making;
 mod output_lines;
 mod refusal;
@@ -13,6 +14,7 @@ mod status;
 mod stop;
 mod summary;
 mod text;
+mod upgrading;
 pub mod word_code;
 mod words;
 

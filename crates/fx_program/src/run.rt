@@ -4,8 +4,6 @@ ghost use Rattle.fx_statements.specs.Questions.{conclusion_in};
 ghost use Rattle.fx_alias.specs.Sections.{step_lines};
 ghost use Rattle.fx_answer.specs.Outcomes.{IsOutcome};
 ghost use Rattle.fx_program.specs.CommandLine.{HasOrder, HasThreads, bytes_of, settings_of};
-ghost use Rattle.fx_designs.specs.Galois.{is_order};
-ghost use Rattle.fx_program.specs.Judging.{judged_output};
 ghost use Rattle.fx_program.specs.Making.{made_text};
 ghost use Rattle.fx_program.specs.Texts.{program_in};
 ghost use Rattle.fx_program.specs.Claims.{AllClaimsHold, IsProvedBook, SomeHasNone};
@@ -19,7 +17,6 @@ ghost use Rattle.fx_program.specs.Outside.{
   GivesForSome,
   IsCarriedOut,
   Lists,
-  ShelfView,
   Writes,
   outside,
   shelf_view,
@@ -27,9 +24,10 @@ ghost use Rattle.fx_program.specs.Outside.{
   source_view,
 };
 
-use crate::checking::{BOOK_LIMIT, Judgement, judge, judge_too_long};
+use crate::checking::check_text;
 use crate::files::shelve_files;
-use crate::judging::{PLAN_LIMIT, TOO_LONG, put_plan_fault, read_and_drop};
+use crate::judging::judge_text;
+use crate::listing::list;
 use crate::making::make_text;
 use crate::output_lines::{put_book_lines, put_output_lines};
 use crate::refusal::put_fault;
@@ -38,13 +36,12 @@ use crate::status::{status_of, worse};
 use crate::stop::{REFUSED, Stop, exit_status};
 use crate::summary::{put_summary, summary_of};
 use crate::text::{TextFault, TextStop, at_front, read_program};
+use crate::upgrading::upgrade_text;
 use crate::words::{Settings, WordFault, read_words, word_line};
 use fx_alias::{examine_listing, head_listing, rules_listing};
 use fx_answer::answer;
-use fx_base::{Bytes, NoMemory, Shelf, Sink, Source, Taken, read_all, write_all};
+use fx_base::{Bytes, NoMemory, Shelf, Sink, Source, Taken, read_all};
 use fx_board::FreeGate;
-use fx_galois::Field;
-use fx_judge::{Plan, PlanFault, PlanStop, judge_listing};
 use fx_language::code;
 use fx_statements::{Outcome, Step};
 use fx_vectors::Matrix;
@@ -61,7 +58,7 @@ const TEXT_LIMIT: usize = 1048576;
 ///
 /// The exit status:
 ///
-/// - 0: each step has a design, or there is no step; or the book is accepted, or the plan judged;
+/// - 0: each step has a design, or there is no step; or the book is accepted or upgraded, or the plan judged;
 /// - 1: some step has none, and no budget ended; or the book is rejected;
 /// - 2: the budget of some step ended;
 /// - 3: the words, the text or the plan are refused;
@@ -155,7 +152,8 @@ fn carry_out<R: Threads + Sync, S: Source, K: Sink, F: Shelf>(
                 };
                 run(&session, source, listing, shelf)
             }
-            Settings::Check => check(alloc, source, listing),
+            Settings::Check => check_text(alloc, source, listing),
+            Settings::Upgrade => upgrade_text(alloc, source, listing),
             Settings::Judge { q } => judge_text(alloc, q, source, listing),
             Settings::Make { n } => make(alloc, n, listing),
             Settings::Large { n, threads } => {
@@ -260,77 +258,6 @@ fn lines_of(alloc: Global, number: usize, step: &Step, outcome: &Outcome) -> Res
     }
 }
 
-/// The command `check`: reads a book, and lists whether it is accepted.
-fn check<S: Source, K: Sink>(alloc: Global, source: &mut S, listing: &mut K) -> Result<u8, Stop>
-    ensures done { (shelf : ShelfView) → shelf.begun ≡ false → IsCarriedOut (command_of Settings.Check)
-        (outside (source_view S.Source source.old) (sink_view K.Sink listing.old) shelf)
-        (outside (source_view S.Source source.new) (sink_view K.Sink listing.new) shelf) result }
-    ensures accepted { exit_status result ≡ 0
-        → (text : List ℕ)
-        → S.left source.old ≡ Some text
-        → IsProvedBook text }
-{
-    match read_all(alloc, source, BOOK_LIMIT)? {
-        Taken::Whole(text) => list_judgement(listing, judge(alloc, text)?),
-        Taken::TooLong => list_judgement(listing, judge_too_long(alloc)?),
-    }
-}
-
-/// Lists the judgement of a text.
-fn list_judgement<K: Sink>(listing: &mut K, judgement: Judgement) -> Result<u8, Stop>
-    requires { judgement.status < 4 }
-    ensures { Lists (message judgement.lines judgement.status)
-        (sink_view K.Sink listing.old) (sink_view K.Sink listing.new) result }
-{
-    list(listing, judgement.lines.as_slice(), judgement.status)
-}
-
-/// The command `judge`, at these levels: reads a plan that was made elsewhere, and lists what its runs
-/// show.
-fn judge_text<S: Source, K: Sink>(
-    alloc: Global,
-    q: u8,
-    source: &mut S,
-    listing: &mut K,
-) -> Result<u8, Stop>
-    requires { IsTrue (is_order q) }
-    ensures { (shelf : ShelfView) → shelf.begun ≡ false → IsCarriedOut (command_of (Settings.Judge q))
-        (outside (source_view S.Source source.old) (sink_view K.Sink listing.old) shelf)
-        (outside (source_view S.Source source.new) (sink_view K.Sink listing.new) shelf) result }
-{
-    let field = Field::of(q).unwrap();
-    let text = match read_all(alloc, source, PLAN_LIMIT)? {
-        Taken::Whole(text) => text,
-        Taken::TooLong => return refuse_plan(alloc, TOO_LONG, listing),
-    };
-    match read_and_drop(alloc, text, field) {
-        Ok(plan) => list_plan(alloc, &plan, listing),
-        Err(PlanStop::Refused(fault)) => refuse_plan(alloc, fault, listing),
-        Err(PlanStop::NoMemory) => Err(Stop::NoMemory),
-    }
-}
-
-/// Lists what the runs of a plan show.
-fn list_plan<K: Sink>(alloc: Global, plan: &Plan, listing: &mut K) -> Result<u8, Stop>
-    ensures { Lists (judged_output (Ok plan.now))
-        (sink_view K.Sink listing.old) (sink_view K.Sink listing.new) result }
-{
-    let mut lines = Bytes::new(alloc);
-    judge_listing(alloc, plan, &mut lines)?;
-    list(listing, lines.as_slice(), 0)
-}
-
-/// Lists where a text is refused as a plan, and why.
-fn refuse_plan<K: Sink>(alloc: Global, fault: PlanFault, listing: &mut K) -> Result<u8, Stop>
-    ensures refused { IfOk result (λ status. status ≡ 3) }
-    ensures output { Lists (judged_output (Err fault))
-        (sink_view K.Sink listing.old) (sink_view K.Sink listing.new) result }
-{
-    let mut line = Bytes::new(alloc);
-    put_plan_fault(&mut line, fault)?;
-    list(listing, line.as_slice(), REFUSED)
-}
-
 /// The command `make`, for a text of so many steps.
 fn make<K: Sink>(alloc: Global, n: u8, listing: &mut K) -> Result<u8, Stop>
     ensures { Lists (message (made_text n) 0)
@@ -383,15 +310,4 @@ fn refuse<K: Sink>(alloc: Global, fault: TextFault, listing: &mut K) -> Result<u
     let mut line = Bytes::new(alloc);
     put_fault(&mut line, fault)?;
     list(listing, line.as_slice(), REFUSED)
-}
-
-/// Writes a piece of the listing, and returns the status.
-fn list<K: Sink>(listing: &mut K, bytes: &[u8], status: u8) -> Result<u8, Stop>
-    requires { status < 4 }
-    ensures status { (result ≡ Ok status) ⊎ (result ≡ Err stop.Failed) }
-    ensures output { Lists (message bytes.now status)
-        (sink_view K.Sink listing.old) (sink_view K.Sink listing.new) result }
-{
-    write_all(listing, bytes)?;
-    Ok(status)
 }

@@ -2,6 +2,7 @@ ghost use Rattle.std.specs.Prelude.{◌≡◌};
 ghost use Rattle.fx_program.specs.Stops.{exit_status};
 
 use fx_base::{Failed, NoMemory, ReadStop};
+use fx_book::WriteStop;
 
 /// The exit status where the words or the text are refused.
 pub(crate) const REFUSED: u8 = 3;
@@ -53,6 +54,20 @@ impl From<ReadStop> for Stop {
         match why {
             ReadStop::ReadFault => Stop::Failed,
             ReadStop::NoMemory => Stop::NoMemory,
+        }
+    }
+}
+
+impl From<WriteStop> for Stop {
+    ghost use Rattle.std.specs.Prelude.{◌≡◌};
+    ghost use Rattle.fx_program.specs.Stops.{writing_stop};
+
+    ghost from_gives = { λ why e. e ≡ writing_stop why };
+
+    fn from(why: WriteStop) -> Stop {
+        match why {
+            WriteStop::WriteFault => Stop::Failed,
+            WriteStop::NoMemory => Stop::NoMemory,
         }
     }
 }

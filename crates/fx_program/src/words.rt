@@ -10,7 +10,6 @@ ghost use Rattle.fx_program.specs.CommandLine.{
   IsWordFault,
   after_prefix,
   bytes_of,
-  check_with,
   command_with,
   is_decimal,
   judge_with,
@@ -29,6 +28,7 @@ ghost use Rattle.fx_program.specs.CommandLine.{
   step_count,
   threads_of,
   with_option,
+  without_options,
   word_line,
 };
 
@@ -59,6 +59,8 @@ pub enum Settings {
     },
     /// Checks the book that is read.
     Check,
+    /// Writes the text of the book that is read in version 2.
+    Upgrade,
     /// Writes the program text of so many steps.
     Make {
         n: u8,
@@ -118,7 +120,10 @@ fn command_with(command: &[u8], options: &[Vec<u8>]) -> Result<Settings, WordFau
         return run_with(options);
     }
     if command == b"check".as_slice() {
-        return check_with(options);
+        return without_options(Settings::Check, options);
+    }
+    if command == b"upgrade".as_slice() {
+        return without_options(Settings::Upgrade, options);
     }
     if command == b"make".as_slice() {
         return make_with(options);
@@ -148,14 +153,13 @@ fn run_with(options: &[Vec<u8>]) -> Result<Settings, WordFault>
     })
 }
 
-/// The settings of `check`, after which there is no word.
-fn check_with(options: &[Vec<u8>]) -> Result<Settings, WordFault>
-    ensures threads { IfOk result HasThreads }
-    ensures order { IfOk result HasOrder }
-    ensures settings { result ≡ check_with (bytes_of options.now) }
+/// These settings, for a command that no word follows.
+fn without_options(settings: Settings, options: &[Vec<u8>]) -> Result<Settings, WordFault>
+    ensures given { IfOk result (λ same. same ≡ settings) }
+    ensures settings { result ≡ without_options settings (bytes_of options.now) }
 {
     if options.is_empty() {
-        Ok(Settings::Check)
+        Ok(settings)
     } else {
         Err(WordFault {
             code: word_code::UNKNOWN_OPTION,

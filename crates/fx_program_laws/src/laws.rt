@@ -18,12 +18,15 @@ ghost use Rattle.fx_program_laws.specs.BookClaims.{
 ghost use Rattle.fx_statements.specs.Questions.{asked, last_of, nodes_of, questions_of, resolution_wanted};
 ghost use Rattle.fx_program.specs.Making.{HasSteps, made_text};
 ghost use Rattle.fx_text.specs.Names.{is_same_name};
+ghost use Rattle.fx_vectors.specs.declared.book.Book.{Book};
+ghost use Rattle.fx_book.specs.Heads.{book_of};
+ghost use Rattle.fx_book.specs.Writing.{book_text};
 ghost use Rattle.fx_program.specs.Files.{names_among};
 ghost use Rattle.fx_program.specs.Texts.{program_in};
 ghost use Rattle.fx_designs.specs.Outcomes.{Design, NoDesign};
 ghost use Rattle.fx_program.specs.declared.words.Settings.TheVariants.{Large, Run};
 ghost use Rattle.fx_program.specs.Commands.{output_for, output_of};
-ghost use Rattle.fx_program.specs.Output.{program_output, step_output};
+ghost use Rattle.fx_program.specs.Output.{message, program_output, step_output};
 ghost use Rattle.fx_program_laws.specs.Endings.{EndsWith};
 ghost use Rattle.fx_program_laws.specs.PrintedRules.{HasRulesThatGiveTheLevels};
 ghost use Rattle.fx_tree.specs.Laws.{IsFirstOfLeastPattern};
@@ -202,6 +205,18 @@ pub fn books_are_accepted_in_any_text()
 /// pattern, none of those that do has a less one. It does not matter who wrote it.
 pub fn accepted_books_prove_their_claims()
     ensures { (text : List ℕ) → (output_of (codes "check" ∷ []) text).status ≡ 0 → IsProvedBook text }
+{}
+
+/// Whatever a text says: where it is a book, `upgrade` gives the text of that book in version 2 (`rewritten`).
+/// Of what `upgrade` gives with status 0 `check` gives what it gives of the text, verdict, line and reason,
+/// where it is within the limit of a book (`same`).
+pub fn upgraded_books_have_the_same_verdict()
+    ensures rewritten { (text : List ℕ) (book : Book) → book_of text ≡ Ok book
+        → output_of (codes "upgrade" ∷ []) text ≡ message (book_text book) 0 }
+    ensures same { (text upgraded : List ℕ)
+        → output_of (codes "upgrade" ∷ []) text ≡ message upgraded 0
+        → length upgraded ≤ 268435456
+        → output_of (codes "check" ∷ []) upgraded ≡ output_of (codes "check" ∷ []) text }
 {}
 
 /// Each fault of a text has a row in the table of messages, so that its line names a reason, and a place

@@ -493,7 +493,7 @@ fn the_seed_of_the_words_shuffles(rt: HostRuntime) {
 }
 
 /// Command lines that are refused, each with the message.
-const REFUSED_WORDS: [(&str, &str); 26] = [
+const REFUSED_WORDS: [(&str, &str); 27] = [
     ("", "C1 word 1"),
     ("x y", "C2 word 1"),
     ("RUN", "C2 word 1"),
@@ -501,6 +501,7 @@ const REFUSED_WORDS: [(&str, &str); 26] = [
     ("run x", "C3 word 2"),
     ("check x", "C3 word 2"),
     ("check --seed=1 x", "C3 word 2"),
+    ("upgrade x", "C3 word 2"),
     ("run --seed=1 --seed=2", "C5 word 3"),
     ("run --seed=18446744073709551616", "C4 word 2"),
     ("make", "C6 word 2"),

@@ -163,6 +163,32 @@ fn books_are_judged(rt: HostRuntime) {
     verdicts_are_listed(&rt, rt.alloc(), &JUDGED);
 }
 
+/// Texts, each with what `upgrade` lists of it and its status.
+const UPGRADED: [(&str, &str, u8); 5] = [
+    (NO_FIVE_BEFORE, NO_FIVE, 0),
+    (NO_FIVE, NO_FIVE, 0),
+    // A book that `check` rejects is upgraded all the same.
+    (
+        "factex-book 1\nsize 2 1 2 0\neffects 1 2 /\npattern none\nO 1\nO 1\nW 1 3\nEND\n",
+        "factex-book 2\nsize 2 1 2 0\neffects 1 2 /\npattern none\nO 1\nO 1\nW 1 1:1 2:1\nEND\n",
+        0,
+    ),
+    (
+        "factex-book 1\nsize 2 1 2 0\neffects 1 2 /\npattern none\nO 1\nW 1 1:1 2:1\nEND\n",
+        "rejected line 6 B6\n",
+        1,
+    ),
+    (HALF, "rejected line 1 B2\n", 1),
+];
+
+#[test]
+fn books_are_upgraded(rt: HostRuntime) {
+    for (book, listing, status) in &UPGRADED {
+        let is_so = lists(&rt, rt.alloc(), "upgrade", book.as_bytes(), SURE, *status, listing);
+        assert!(rt; is_so, "{listing}");
+    }
+}
+
 /// After a failed read of a book nothing is read again and nothing is written, and after a failed
 /// write nothing is written again.
 #[test]

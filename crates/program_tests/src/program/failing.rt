@@ -38,7 +38,7 @@ const PIECE: usize = 5000;
 
 /// Words and texts, with how many bytes a call takes, and how many calls are made: reads, the last of which
 /// finds the end, writes to the listing, and calls on the shelf, which begin a file, write it and end it.
-const CALLS: [(&str, &str, usize, [usize; 3]); 11] = [
+const CALLS: [(&str, &str, usize, [usize; 3]); 13] = [
     ("run", TWO_PLANS, PIECE, [2, 2, 9]),
     ("run", TWO_PLANS, 1, [TWO_PLANS.len() + 1, 198, 115]),
     ("run", CLASSES, PIECE, [2, 1, 3]),
@@ -46,6 +46,8 @@ const CALLS: [(&str, &str, usize, [usize; 3]); 11] = [
     ("run", ALL, PIECE, [2, 1, 6]),
     ("run", "proc factor;", PIECE, [2, 1, 0]),
     ("check", BOOK, 1, [BOOK.len() + 1, 49, 0]),
+    ("upgrade", BOOK, 1, [BOOK.len() + 1, 90, 0]),
+    ("upgrade", BOOK, PIECE, [2, 3, 0]),
     ("judge 2", JUDGED, 1, [JUDGED.len() + 1, 143, 0]),
     ("judge 4", JUDGED, PIECE, [2, 1, 0]),
     ("make 1", "", PIECE, [0, 1, 0]),

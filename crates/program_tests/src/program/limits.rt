@@ -242,6 +242,20 @@ fn a_book_of_branches_is_accepted(rt: HostRuntime) {
     assert!(rt; lists(&rt, rt.alloc(), "check", book.as_slice(), ROOMY, 0, listing));
 }
 
+/// A book of 19,263 entries, more than are held as text at a time, is upgraded to itself.
+#[test]
+fn a_long_book_is_upgraded_in_parts(rt: HostRuntime) {
+    let text = "proc factex;factors X1-X11;size design=32;model resolution=3 / minabs;";
+    let listing = "step 1\nfactors 11 levels 2\ndesign 32 runs\nresolution 4 least aberration\nnodes 19263\nrules\n  X6 = X1*X2*X3*X4*X5\n  X7 = X3*X4*X5\n  X8 = X2*X4*X5\n  X9 = X1*X4*X5\n  X10 = X2*X3*X5\n  X11 = X1*X3*X5\nbook step1-1.book\n";
+    let book = file_of(&rt, rt.alloc(), text.as_bytes(), ROOMY, 0, listing);
+    let roomy = Limits {
+        listing_room: 100000,
+        ..ROOMY
+    };
+    let left = left_by(&rt, rt.alloc(), "upgrade", book.as_slice(), roomy);
+    assert!(rt; left.status == 0 && left.listing.bytes() == book.as_slice());
+}
+
 /// Thirty-two factors in thirty-two runs need more nodes than a step has by default.
 #[test]
 fn the_default_budget_ends(rt: HostRuntime) {

@@ -1,4 +1,4 @@
-use Rattle.std.proofs.Common.{◌+◌, ◌-◌, ◌/◌, ℕ, List, arith}
+use Rattle.std.proofs.Common.{◌-◌, ℕ, List, arith}
 use Rattle.fx_vectors.specs.Shape.{dimensions_of}
 use Rattle.fx_book.proofs.Joins.{entries-both}
 use Rattle.fx_book.proofs.pieces.+entry_pieces.Goals as goal

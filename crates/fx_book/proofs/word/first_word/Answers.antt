@@ -1,4 +1,4 @@
-use Rattle.std.proofs.Common.{◌≡◌, ℕ, ◌+◌, ◌-◌, ◌∙◌, ap, sym, ◌∷◌, List, drop, take, arith}
+use Rattle.std.proofs.Common.{ℕ, ◌+◌, ◌-◌, ◌∙◌, ap, sym, List, drop, take}
 use Rattle.fx_vectors.specs.Shape.{dimensions_of}
 use Rattle.fx_book.specs.Parts.{split}
 use Rattle.fx_book.specs.Words.{word_written}

@@ -1,12 +1,12 @@
-use Rattle.std.proofs.Common.{◌≡◌, ℕ, ◌+◌, ◌-◌, ◌^◌, ◌<◌, ◌≤◌, ◌∙◌, ap, sym, subst, ◌∷◌, List, length, drop, take}
-use Rattle.std.proofs.Common.{arith, Some, Ok, refl}
+use Rattle.std.proofs.Common.{◌≡◌, ℕ, ◌+◌, ◌<◌, ◌∙◌, ap, sym, subst, List, length, drop}
+use Rattle.std.proofs.Common.{arith, Ok, refl}
 use Rattle.std.proofs.Math.Nat.{pow-zero}
 use Rattle.std.proofs.lemmas.Bool.{cond-true}
 use Rattle.fx_designs.specs.Problems.{Dimensions}
 use Rattle.fx_vectors.specs.Shape.{dimensions_of}
 use Rattle.fx_vectors.proofs.Limits.{order-bounds, words_fit, rows_fit}
 use Rattle.fx_book.specs.declared.word.Placing.{Placing}
-use Rattle.fx_book.specs.Parts.{split, parts_after}
+use Rattle.fx_book.specs.Parts.{parts_after}
 use Rattle.fx_book.specs.Words.{by_entries, entries_of_parts, with_entry}
 use Rattle.fx_book.proofs.Splits.{some_parts}
 use Rattle.fx_book.proofs.Listed.{next_after, at_line_end}

@@ -1,4 +1,4 @@
-use Rattle.std.proofs.Common.{◌+◌, arith}
+use Rattle.std.proofs.Common.{arith}
 use Rattle.fx_book.proofs.Placing.{weight-drop}
 use Rattle.fx_book.proofs.writing.put_entries_of.Goals as goal
 

@@ -2,7 +2,7 @@ use Rattle.std.proofs.Common.{◌++◌, sym, ap, ◌∙◌}
 use Rattle.fx_program.specs.Judging.{plan_fault_line}
 use Rattle.fx_program.specs.Output.{message}
 use Rattle.fx_program.proofs.Endings.{lists_by, lists_none}
-use Rattle.fx_program.proofs.run.refuse_plan.Goals as goal
+use Rattle.fx_program.proofs.judging.refuse_plan.Goals as goal
 
 pub returns-in_err-put_plan_fault-clause-output : goal.returns-in_err-put_plan_fault-clause-output
 returns-in_err-put_plan_fault-clause-output g c = lists_none _ c.from_residual.result c.from_residual.ensures.1 _

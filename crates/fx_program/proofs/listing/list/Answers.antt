@@ -1,5 +1,5 @@
 use Rattle.fx_program.proofs.Endings.{lists_cut, lists_piece}
-use Rattle.fx_program.proofs.run.list.Goals as goal
+use Rattle.fx_program.proofs.listing.list.Goals as goal
 
 pub returns-clause-output : goal.returns-clause-output
 returns-clause-output g c =

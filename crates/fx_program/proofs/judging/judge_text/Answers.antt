@@ -4,7 +4,7 @@ use Rattle.fx_judge.specs.Reading.{plan_fault, plan_of_text}
 use Rattle.fx_program.specs.Judging.{judged_output}
 use Rattle.fx_program.proofs.Endings.{ends_by, ends_none}
 use Rattle.fx_program.proofs.Commands.{all_read, never_low, part_read, read_failed}
-use Rattle.fx_program.proofs.run.judge_text.Goals as goal
+use Rattle.fx_program.proofs.judging.judge_text.Goals as goal
 
 too_long : (q : ℕ) (text : List ℕ) → 1048576 < length text → plan_of_text q text ≡ Err (plan_fault 1 1)
 unfolding plan_of_text
