@@ -8,6 +8,7 @@ pub mod Listed
 mod Askable
 mod Placing
 mod Back
+mod Stops
 mod Books
 pub mod Whole
 mod Examples

@@ -11,6 +11,9 @@ use Rattle.fx_designs.specs.Galois.{digits, number}
 use Rattle.fx_designs.specs.Problems.{Dimensions}
 use Rattle.fx_designs.specs.Vectors.{IsVector, weight}
 use Rattle.fx_laws.proofs.Codes.{digits-number, number-digits, number-below}
+use Rattle.fx_vectors.proofs.Limits.{order-bounds, words_fit}
+use Rattle.fx_vectors.specs.Shape.{IsShape, dimensions_of}
+use Rattle.fx_vectors.specs.declared.shape.Shape.{Shape}
 use Rattle.fx_laws.proofs.Weights.{weight-none, weight-some}
 use Rattle.fx_book.specs.declared.fault.FaultKind.{FaultKind}
 use Rattle.fx_book.specs.declared.fault.FaultKind.TheVariants.{Form, Range}
@@ -65,7 +68,7 @@ module _ (d : Dimensions) where
       let c = and_parts _ _ b.1 in
       (ltb-true _ _ a.0, leb-true _ _ b.0, ltb-true _ _ c.0, ltb-true _ _ c.1)
 
-  is_entry : (last : ℕ) (e : ℕ × ℕ) → last < e.0 → e.0 ≤ d.s + d.t → 0 < e.1 → e.1 < d.q
+  pub is_entry : (last : ℕ) (e : ℕ × ℕ) → last < e.0 → e.0 ≤ d.s + d.t → 0 < e.1 → e.1 < d.q
       → is_entry_after d last e ≡ true
   is_entry last e low high some code =
       and_from _ _ (lt-ltb _ _ low) (and_from _ _ (le-leb _ _ high) (and_from _ _ (lt-ltb _ _ some) (lt-ltb _ _ code)))
@@ -267,3 +270,12 @@ module _ (d : Dimensions) where
           → cond (fits && true) (Ok (placing.number + 0)) (Err Range) ≡ cond fits (Ok placing.number) (Err Range)
       by_fits true = ap Ok (omega arith)
       by_fits false = refl
+
+-- the number of a vector with one entry more is within the limits
+pub entry_fits : (shape : Shape) → IsShape shape → (last number : ℕ) (e : ℕ × ℕ) → number < shape.q ^ last
+    → is_entry_after (dimensions_of shape) last e ≡ true
+    → (number + e.1 * shape.q ^ (e.0 - 1) < shape.q ^ e.0) × (shape.q ^ e.0 < 2 ^ 127)
+entry_fits shape h last number e below is =
+    let d : Dimensions = dimensions_of shape in
+    let b = entry_bounds d last e is in
+    (placed_below d last number e (omega (arith, (order-bounds shape.q h.order).0)) below is, words_fit shape h e.0 b.1)

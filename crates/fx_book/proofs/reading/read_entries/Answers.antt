@@ -17,24 +17,24 @@ returns-then-at-bytes-clause-read c =
     let d : Dimensions = dimensions_of c.args.shape in
     let b : Bool = c.args.beaten in
     let bytes : List ℕ = c.args.bytes.now in
-    let after : List ℕ = drop (c.next_stop-end.result + 1) bytes in
-    let line : List ℕ = take (c.next_stop-end.result - c.loop-at.at) (drop c.loop-at.at bytes) in
-    let cut = c.next_stop-end.ensures.more (omega (arith, c.next_stop-end.ensures.within, c.if-end-bytes.false)) in
+    let after : List ℕ = drop (c.line_end-end.result + 1) bytes in
+    let line : List ℕ = take (c.line_end-end.result - c.loop-at.at) (drop c.loop-at.at bytes) in
+    let cut = c.line_end-end.ensures.more (omega (arith, c.line_end-end.ensures.within, c.if-end-bytes.false)) in
     rw c.stop-then-at-bytes.ensures
     (c.loop-at.invariant.so_far
     ∙ ap (onto c.loop-at.marks) (ap (entries c.args.version d b c.loop-at.line) cut
     ∙ end_followed c.args.version d b c.loop-at.line line (split 10 after) (some_parts 10 after)
     (sym c.is_word.ensures ∙ c.if-is_word.true)
-    (something_left 10 after (omega (arith, length-drop (c.next_stop-end.result + 1) bytes)))))
+    (something_left 10 after (omega (arith, length-drop (c.line_end-end.result + 1) bytes)))))
 
 pub returns-in-Err-clause-read : goal.returns-in-Err-clause-read
 returns-in-Err-clause-read c =
     let d : Dimensions = dimensions_of c.args.shape in
     let b : Bool = c.args.beaten in
     let bytes : List ℕ = c.args.bytes.now in
-    let after : List ℕ = drop (c.next_stop-end.result + 1) bytes in
-    let line : List ℕ = take (c.next_stop-end.result - c.loop-at.at) (drop c.loop-at.at bytes) in
-    let cut = c.next_stop-end.ensures.more (omega (arith, c.next_stop-end.ensures.within, c.if-end-bytes.false)) in
+    let after : List ℕ = drop (c.line_end-end.result + 1) bytes in
+    let line : List ℕ = take (c.line_end-end.result - c.loop-at.at) (drop c.loop-at.at bytes) in
+    let cut = c.line_end-end.ensures.more (omega (arith, c.line_end-end.ensures.within, c.if-end-bytes.false)) in
     let is : entry_of c.args.version d b (split 32 line) ≡ Err c.in-Err.kind =
     sym c.entry.ensures.entry ∙ c.in-Err.is in
     rw c.stop-in-Err.ensures
@@ -49,11 +49,11 @@ loop-at-preserved c =
     let d : Dimensions = dimensions_of c.args.shape in
     let b : Bool = c.args.beaten in
     let bytes : List ℕ = c.args.bytes.now in
-    let after : List ℕ = drop (c.next_stop-end.result + 1) bytes in
-    let line : List ℕ = take (c.next_stop-end.result - c.loop-at.at) (drop c.loop-at.at bytes) in
-    let within = c.next_stop-end.ensures.within in
-    let from = c.next_stop-end.ensures.from in
-    let cut = c.next_stop-end.ensures.more (omega (arith, within, c.if-end-bytes.false)) in
+    let after : List ℕ = drop (c.line_end-end.result + 1) bytes in
+    let line : List ℕ = take (c.line_end-end.result - c.loop-at.at) (drop c.loop-at.at bytes) in
+    let within = c.line_end-end.ensures.within in
+    let from = c.line_end-end.ensures.from in
+    let cut = c.line_end-end.ensures.more (omega (arith, within, c.if-end-bytes.false)) in
     let is : entry_of c.args.version d b (split 32 line) ≡ Ok c.in-Ok.mark = sym c.entry.ensures.entry ∙ c.in-Ok.is in
     record {
       within = omega (arith, within, c.if-end-bytes.false);
