@@ -1,0 +1,7 @@
+pub mod Rules
+pub mod EvenWords
+pub mod CombinedWords
+pub mod Resolutions
+pub mod Exchanges
+pub mod Additions
+mod Examples

@@ -1,0 +1,3 @@
+pub mod Foldovers
+pub mod Counts
+pub mod Laws
