@@ -8,7 +8,10 @@ use Rattle.std.proofs.lemmas.List.{take_all}
 use Rattle.std.proofs.Math.ListN.{length-set}
 use Rattle.std.proofs.lemmas.List.Sums.{count_by_more_no, count_by_more_yes}
 use Rattle.std.proofs.lemmas.Bool.{cases_eq, eq-eqb, eqb-true, ne_eqb}
+use Rattle.std.proofs.Math.Nat.{pow-le-pow_left, pow-le-pow_right}
+use Rattle.fx_designs.specs.Galois.{is_order}
 use Rattle.fx_laws.proofs.Tests.{bool_same, range_decides}
+use Rattle.fx_vectors.proofs.Limits.{order-bounds}
 use Rattle.fx_derived.specs.Codes.{derived_level, level_count, are_levels_balanced}
 use Rattle.fx_derived.specs.Counts.{AreLevelCounts, AreEqual}
 
@@ -18,12 +21,12 @@ module _ (q : ℕ) (places : List ℕ) (runs : List (List ℕ)) where
 
   -- counts has how often each level came in the first k runs
   pub record Counted (counts : List ℕ) (k : ℕ) : Type 0 where
-    pub len : length counts ≡ 64
-    pub each : (y : ℕ) → y < 64 → get_or counts y 0 ≡ count_by (has y) (take k runs)
+    pub len : length counts ≡ q ^ length places
+    pub each : (y : ℕ) → y < q ^ length places → get_or counts y 0 ≡ count_by (has y) (take k runs)
 
   -- one more run, whose level is v
   pub counted_more : (counts : List ℕ) (k v : ℕ) → k < length runs → derived_level q places (get_or runs k []) ≡ v
-      → v < 64
+      → v < q ^ length places
       → Counted counts k → Counted (set counts v (get_or counts v 0 + 1)) (k + 1)
   counted_more counts k v h is code c = record {
     len = simp length-set c.len;
@@ -66,11 +69,21 @@ module _ (q : ℕ) (places : List ℕ) (runs : List (List ℕ)) where
       )
 
   -- equal counts are balance
-  pub counts_tell : (counts : List ℕ) (b : Bool) → q ^ length places ≤ 64 → 0 < q ^ length places
-      → AreLevelCounts q places runs counts
-      → IsTrue b ↔ AreEqual (q ^ length places) counts → b ≡ are_levels_balanced q places runs
-  counts_tell counts b small some c told =
+  pub counts_tell : (counts : List ℕ) (b : Bool) → 0 < q ^ length places → AreLevelCounts q places runs counts
+      → IsTrue b ↔ AreEqual counts → b ≡ are_levels_balanced q places runs
+  counts_tell counts b some c told =
       bool_same b (are_levels_balanced q places runs)
       (λ e. levels_decide.1
-      (λ y z hy hz. sym (c.each y (omega arith)) ∙ told.0 e y hy ∙ sym (told.0 e z hz) ∙ c.each z (omega arith)))
-      (λ e. told.1 (λ y h. c.each y (omega arith) ∙ levels_decide.0 e y 0 h some ∙ sym (c.each 0 (omega arith))))
+      (λ y z hy hz. sym (c.each y hy) ∙ told.0 e y (omega (arith, c.len)) ∙ sym (told.0 e z (omega (arith, c.len)))
+      ∙ c.each z hz))
+      (λ e. told.1
+      (λ y h.
+      let low : y < q ^ length places = omega (arith, c.len) in
+      c.each y low ∙ levels_decide.0 e y 0 low some ∙ sym (c.each 0 some)))
+
+-- four factors have at most 6,561 levels
+pub levels_fit : (q k : ℕ) → IsTrue (is_order q) → k ≤ 4 → q ^ k < 2 ^ 64
+levels_fit q k known few =
+    let more : 9 ^ k ≤ 9 ^ 4 = pow-le-pow_right (omega arith) few in
+    let less : q ^ k ≤ 9 ^ k = pow-le-pow_left (order-bounds q known).1 k in
+    omega (arith, more, less)

@@ -25,15 +25,15 @@ each : (c : After-row-x) → AllByRecursion (λ x. x < c.from-q.result) (codes c
 each c = codes_low c.from-q.result c.row-x.result.now c.args.places.now (some c)
     (rw (order_is c) c.row-x.ensures.vector.codes)
 
-few : (c : After-row-x) → c.from-q.result ^ length (codes c) ≤ 64
-few c = rw (order_is c, long c) c.requires.levels
+fits : (c : After-row-x) → c.from-q.result ^ length (codes c) < 2 ^ 64
+fits c = rw (order_is c, long c) c.requires.fits
 
 pub overflow_mul-level : goal.overflow_mul-level
 overflow_mul-level c =
     let w = (goal.at.overflow_mul-level c).After-row-x in
     let s = step c.from-q.result (codes w) c.loop-place.place-index (some w)
     (omega (arith, long w, c.loop-place-test.true)) (each w) c.loop-place.level c.loop-place.invariant in
-    omega (arith, s.1, few w)
+    omega (arith, s.1, fits w)
 
 pub overflow_add-level : goal.overflow_add-level
 overflow_add-level c =
@@ -44,7 +44,7 @@ overflow_add-level c =
     c.from-in-loop-place.ensures ∙ c.code.ensures ∙ ap (λ (p : ℕ). get_or c.row-x.result.now (p - 1) 0) c.from.ensures
     ∙ sym (get_or-map (λ p. get_or c.row-x.result.now (p - 1) 0) c.args.places.now c.loop-place.place-index 0 0
     c.loop-place-test.true) in
-    rw code (omega (arith, s.1, few w))
+    rw code (omega (arith, s.1, fits w))
 
 pub loop-place-preserved : goal.loop-place-preserved
 loop-place-preserved c =

@@ -18,17 +18,13 @@ use Rattle.fx_derived.proofs.balanced.levels_balanced.Goals as goal
 pub returns-clause-levels : goal.returns-clause-levels
 returns-clause-levels c =
     let q : ℕ = c.args.matrix.now.shape.q in
-    let k : ℕ = length c.args.places.now in
-    let f : IsField q = is_order-field q c.shape.ensures.valid.shaped.order in
-    let base : c.from.result ≡ q = c.from.ensures ∙ ap (λ (z : Shape). z.q) c.shape.ensures.shape in
-    let levels : c.pow-levels.result ≡ q ^ k = c.pow-levels.ensures ∙ ap (λ (n : ℕ). n ^ k) base in
-    let one : 1 ≤ q ^ k = one-le-pow k q (omega (arith, f.more_than_one)) in
-    let counts : AreLevelCounts q c.args.places.now
-    (runs_of q c.args.matrix.now.shape.m (vectors_of q c.args.matrix.now.shape.m c.args.matrix.now.rows))
-    c.counts_of.result =
-    rw (c.in_ok-runs.ensures.rows, ap (λ (z : Shape). z.q) c.in_ok-runs.ensures.shape) at c.counts_of.ensures in
-    counts_tell q c.args.places.now _ c.counts_of.result c.are_equal.result c.requires.levels (omega arith) counts
-    (subst (λ (n : ℕ). IsTrue c.are_equal.result ↔ AreEqual n c.counts_of.result) levels c.are_equal.ensures)
+    let f : IsField q = is_order-field q c.shape-known.ensures.valid.shaped.order in
+    let some : 1 ≤ q ^ length c.args.places.now =
+    one-le-pow (length c.args.places.now) q (omega (arith, f.more_than_one)) in
+    let counts =
+    rw (c.in_ok-runs.ensures.rows, ap (λ (z : Shape). z.q) c.in_ok-runs.ensures.shape) at c.in_ok-counts.ensures in
+    let equal = rw c.as_slice.ensures.value at c.are_equal.ensures in
+    counts_tell q c.args.places.now _ _ c.are_equal.result (omega (arith, some)) counts equal
 
 pub returns-clause-words : goal.returns-clause-words
 returns-clause-words c =
@@ -36,7 +32,7 @@ returns-clause-words c =
     let m : ℕ = c.args.matrix.now.shape.m in
     let s : ℕ = c.args.matrix.now.shape.s in
     let places : List ℕ = c.args.places.now in
-    let f : IsField q = is_order-field q c.shape.ensures.valid.shaped.order in
+    let f : IsField q = is_order-field q c.shape-known.ensures.valid.shaped.order in
     let rows : List (List ℕ) = vectors_of q m c.args.matrix.now.rows in
     let long : s ≤ length rows =
     omega (arith, length-map c.args.matrix.now.rows (λ r. digits q m r), c.requires.complete) in
