@@ -1,0 +1,5 @@
+pub mod Ends
+pub mod Texts
+pub mod Tables
+pub mod Codes
+pub mod Counts
