@@ -11,6 +11,8 @@ mod board;
 #[cfg(test)]
 mod book;
 #[cfg(test)]
+mod catalogue;
+#[cfg(test)]
 mod checker;
 #[cfg(test)]
 mod demands;

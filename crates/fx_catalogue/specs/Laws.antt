@@ -1,0 +1,42 @@
+-- What the lines of a catalogue claim of all rule matrices.
+use Rattle.std.specs.Prelude.{ℕ, ◌≡◌, ◌<◌, ◌+◌, true, List, length}
+use Rattle.fx_designs.specs.Problems.{Dimensions, AtResolution}
+use Rattle.fx_designs.specs.Demands.{is_met}
+use Rattle.fx_designs.specs.Patterns.{pattern_of}
+use Rattle.fx_designs.specs.Matrices.{NoneMeets}
+use Rattle.fx_designs.specs.Nodes.{nodes}
+use Rattle.fx_reduction.specs.Resolutions.{HasLeastPattern}
+use Rattle.fx_vectors.specs.Matrix.{MatrixView}
+use Rattle.fx_vectors.specs.Shape.{dimensions_of}
+use Rattle.fx_vectors.specs.declared.shape.Shape.{Shape}
+use Rattle.fx_vectors.specs.declared.book.Book.{Book}
+use Rattle.fx_checker.specs.Books.{IsGood}
+use Rattle.fx_checker.specs.Claims.{claim_of}
+use Rattle.fx_catalogue.specs.declared.line.Line.{Line}
+use Rattle.fx_catalogue.specs.declared.line.Line.TheVariants.{Least, Nothing, Budget}
+use Rattle.fx_catalogue.specs.Lines.{problem_at}
+
+-- a whole rule matrix of resolution 3 or more, with its pattern; of all rule matrices of the shape of resolution 3 or
+-- more, canonical or not, none has a less one; and the book that proves it is good
+pub record IsLeast (shape : Shape) (matrix : MatrixView) (pattern : List ℕ) (book : Book) : Type 0 where
+  pub of_shape : matrix.shape ≡ shape
+  pub whole : length matrix.rows ≡ shape.s
+  pub resolution : is_met (dimensions_of shape) (AtResolution 3) matrix.rows ≡ true
+  pub pattern_is : pattern ≡ pattern_of (dimensions_of shape) matrix.rows
+  pub least : HasLeastPattern (dimensions_of shape) (AtResolution 3) matrix.rows
+  pub good : IsGood (claim_of book.head) book.marks
+
+-- no rule matrix of the shape has resolution 3 or more, and the book that proves it is good
+pub record IsAbsent (shape : Shape) (book : Book) : Type 0 where
+  pub none : NoneMeets (dimensions_of shape) (AtResolution 3)
+  pub good : IsGood (claim_of book.head) book.marks
+
+-- what a line within this budget claims
+abbrev pub Holds : Shape → ℕ → Line → Type 0
+Holds shape budget (Least matrix pattern count book) = IsLeast shape matrix pattern book
+Holds shape budget (Nothing count book) = IsAbsent shape book
+Holds shape budget Budget = budget < length (nodes (problem_at shape))
+
+-- the same dimensions with one factor more
+abbrev pub with_factor : Dimensions → Dimensions
+with_factor d = record { q = d.q; m = d.m; s = d.s + 1; t = d.t }
