@@ -8,14 +8,14 @@ use Rattle.fx_catalogue.specs.Lines.{question_of}
 use Rattle.fx_catalogue.proofs.Answered.{least-line, to-beat}
 use Rattle.fx_catalogue.proofs.line.least.Goals as goal
 
-pub least_book-requires-clause-pattern : goal.least_book-requires-clause-pattern
-least_book-requires-clause-pattern c =
+pub least_book-book-requires-clause-pattern : goal.least_book-book-requires-clause-pattern
+least_book-book-requires-clause-pattern c =
     let same = c.question_of.ensures ∙ ap question_of c.shape.ensures.shape in
     to-beat c.args.matrix.shape c.args.matrix.rows c.in_ok-beat.beat c.question_of.result same c.requires.answer
     (c.in_ok-beat.ensures ∙ c.as_slice.ensures ∙ c.in_ok-pattern.ensures)
 
-pub least_book-requires-clause-marks : goal.least_book-requires-clause-marks
-least_book-requires-clause-marks c =
+pub least_book-book-requires-clause-marks : goal.least_book-book-requires-clause-marks
+least_book-book-requires-clause-marks c =
     let same = c.question_of.ensures ∙ ap question_of c.shape.ensures.shape in
     c.requires.marks ∙ ap (λ (q : Question). marks (problem_of q)) (sym same)
 
