@@ -4,7 +4,7 @@ use Rattle.std.specs.Prelude.{Ok, codes, unwrap_or}
 use Rattle.std.proofs.lemmas.List.Elements.{at_from_Contains}
 use Rattle.fx_base.specs.Acts.{File, WholeFile, whole_file}
 use Rattle.fx_base.specs.Memory.{room_of}
-use Rattle.fx_program.specs.declared.words.Settings.TheVariants.{Run, Check, Make, Large, Judge}
+use Rattle.fx_program.specs.declared.words.Settings.TheVariants.{Run, Check, Make, Large, Judge, Upgrade}
 use Rattle.fx_program.specs.CommandLine.{settings_of, word_fault}
 use Rattle.fx_program.specs.Claims.{IsGreatest}
 use Rattle.fx_program.specs.Commands.{command_for, command_of}
@@ -26,8 +26,8 @@ texts_run = (refl, refl, refl, refl, refl, refl)
 sources_read :
     ((command_of (Run 1 0)).reads ≡ true) × ((command_of Check).reads ≡ true) × ((command_of (Make 2)).reads ≡ false)
     × ((command_of (Judge 2)).reads ≡ true) × ((command_of (Large 2 1)).reads ≡ false)
-    × ((command_for (word_fault 1 1)).reads ≡ false)
-sources_read = (refl, refl, refl, refl, refl, refl)
+    × ((command_for (word_fault 1 1)).reads ≡ false) × ((command_of Upgrade).reads ≡ true)
+sources_read = (refl, refl, refl, refl, refl, refl, refl)
 
 -- a program is read to its end whatever its length, a book up to 268,435,456 bytes
 read_whole : (text : List ℕ) → length text ≡ 268435456

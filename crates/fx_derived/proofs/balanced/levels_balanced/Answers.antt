@@ -1,4 +1,4 @@
-use Rattle.std.proofs.Common.{◌≡◌, ◌≤◌, ◌^◌, ◌↔◌, ◌∙◌, ℕ, List, IsTrue, length, sym, ap, subst, arith}
+use Rattle.std.proofs.Common.{◌≤◌, ◌^◌, ◌∙◌, ℕ, List, length, sym, ap, arith}
 use Rattle.std.specs.List.{AllByRecursion}
 use Rattle.std.proofs.Math.Nat.{one-le-pow}
 use Rattle.std.proofs.lemmas.List.{length-map}
@@ -6,11 +6,9 @@ use Rattle.std.proofs.lemmas.List.Elements.{recursion_from_All}
 use Rattle.fx_base.proofs.Lists.{each-both}
 use Rattle.fx_designs.specs.Galois.{digits, IsField}
 use Rattle.fx_designs.specs.Vectors.{vectors_of}
-use Rattle.fx_designs.specs.Runs.{runs_of}
 use Rattle.fx_laws.proofs.Tables.{is_order-field}
 use Rattle.fx_vectors.specs.declared.shape.Shape.{Shape}
 use Rattle.fx_vectors.proofs.Steps.{are_vectors}
-use Rattle.fx_derived.specs.Counts.{AreEqual, AreLevelCounts}
 use Rattle.fx_derived.proofs.LevelCounts.{counts_tell}
 use Rattle.fx_derived.proofs.WordsOn.{apart_from, words_tell}
 use Rattle.fx_derived.proofs.balanced.levels_balanced.Goals as goal

@@ -1,8 +1,8 @@
-use Rattle.std.proofs.Common.{rules, ◌≡◌, ◌<◌, ℕ, List, Ok, Err, length, sym, ap, ap₂, subst, ◌∙◌, refl}
+use Rattle.std.proofs.Common.{rules, ◌≡◌, ◌<◌, ℕ, List, Err, length, sym, ap, ◌∙◌, refl}
 use Rattle.std.proofs.lemmas.Bool.{lt-ltb}
 use Rattle.fx_judge.specs.Reading.{plan_fault, plan_of_text}
 use Rattle.fx_program.specs.Judging.{judged_output}
-use Rattle.fx_program.proofs.Endings.{ends_by, ends_none}
+use Rattle.fx_program.proofs.Endings.{ends_by}
 use Rattle.fx_program.proofs.Commands.{all_read, never_low, part_read, read_failed}
 use Rattle.fx_program.proofs.judging.judge_text.Goals as goal
 
