@@ -7,6 +7,8 @@ mod base;
 #[cfg(test)]
 mod codes;
 #[cfg(test)]
+mod derived;
+#[cfg(test)]
 mod galois;
 #[cfg(test)]
 mod matrices;
