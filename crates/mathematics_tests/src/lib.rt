@@ -7,6 +7,7 @@ mod base;
 #[cfg(test)]
 mod codes;
 #[cfg(test)]
+mod derived;
 mod foldovers;
 #[cfg(test)]
 mod galois;
