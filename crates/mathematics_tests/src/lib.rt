@@ -8,6 +8,7 @@ mod base;
 mod codes;
 #[cfg(test)]
 mod derived;
+#[cfg(test)]
 mod foldovers;
 #[cfg(test)]
 mod galois;
