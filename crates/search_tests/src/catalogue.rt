@@ -33,17 +33,18 @@ fn put_shape<R: Threads + Sync + Abort>(
     }
 }
 
-/// The listing of a catalogue of `q` levels and `m` run indexes, for at most `most` factors.
+/// The listing of a catalogue: `numbers` are those of levels and run indexes, and the most factors.
 fn listed<R: Threads + Sync + Abort>(
     rt: &R,
     alloc: Global,
-    (q, m, most): (u8, u8, u8),
+    numbers: (u8, u8, u8),
     budget: u64,
     threads: u8,
 ) -> Bytes
     requires budget { budget ≤ 5000000 }
     requires threads { (0 < threads) × (threads ≤ 64) }
 {
+    let (q, m, most) = numbers;
     let mut out = Bytes::new(alloc);
     put_head(&mut out, shape_of(rt, (q, m, 1, 0))).expect(rt, "memory");
     for s in 1..=most {
