@@ -34,7 +34,6 @@ fn are_balanced(rt: &impl Abort, alloc: Global, shape: Shape, rows: &[u16], plac
     requires places { ArePlaces shape.s places.now }
     requires some { 2 ≤ length places.now }
     requires few { length places.now ≤ 4 }
-    requires levels { shape.q ^ length places.now ≤ 64 }
 {
     let mut matrix = Matrix::new(shape);
     for row in rows {
@@ -138,7 +137,8 @@ fn the_named_row_changes_fastest_inside(rt: HostRuntime) {
         [b"1", b""],
         [b"1", b"z"],
     ];
-    assert!(rt; has_rows(&inside, &INSIDE) && inside.names().get(1).as_slice() == b"N".as_slice());
+    assert!(rt; has_rows(&inside, &INSIDE) && inside.names().len() == 2);
+    assert!(rt; inside.names().get(1).as_slice() == b"N".as_slice());
     let outside = cross(rt.alloc(), &rows, &named, false).expect(&rt, "memory");
     const OUTSIDE: [[&[u8]; 2]; 6] = [
         [b"-1", b"x"],

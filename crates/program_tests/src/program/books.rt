@@ -184,7 +184,15 @@ const UPGRADED: [(&str, &str, u8); 5] = [
 #[test]
 fn books_are_upgraded(rt: HostRuntime) {
     for (book, listing, status) in &UPGRADED {
-        let is_so = lists(&rt, rt.alloc(), "upgrade", book.as_bytes(), SURE, *status, listing);
+        let is_so = lists(
+            &rt,
+            rt.alloc(),
+            "upgrade",
+            book.as_bytes(),
+            SURE,
+            *status,
+            listing,
+        );
         assert!(rt; is_so, "{listing}");
     }
 }

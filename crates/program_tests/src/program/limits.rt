@@ -246,7 +246,8 @@ fn a_book_of_branches_is_accepted(rt: HostRuntime) {
 #[test]
 fn a_long_book_is_upgraded_in_parts(rt: HostRuntime) {
     let text = "proc factex;factors X1-X11;size design=32;model resolution=3 / minabs;";
-    let listing = "step 1\nfactors 11 levels 2\ndesign 32 runs\nresolution 4 least aberration\nnodes 19263\nrules\n  X6 = X1*X2*X3*X4*X5\n  X7 = X3*X4*X5\n  X8 = X2*X4*X5\n  X9 = X1*X4*X5\n  X10 = X2*X3*X5\n  X11 = X1*X3*X5\nbook step1-1.book\n";
+    let listing =
+        "step 1\nfactors 11 levels 2\ndesign 32 runs\nresolution 4 least aberration\nnodes 19263\nrules\n  X6 = X1*X2*X3*X4*X5\n  X7 = X3*X4*X5\n  X8 = X2*X4*X5\n  X9 = X1*X4*X5\n  X10 = X2*X3*X5\n  X11 = X1*X3*X5\nbook step1-1.book\n";
     let book = file_of(&rt, rt.alloc(), text.as_bytes(), ROOMY, 0, listing);
     let roomy = Limits {
         listing_room: 100000,
