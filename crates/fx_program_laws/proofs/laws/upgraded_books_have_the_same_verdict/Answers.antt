@@ -1,4 +1,6 @@
-use Rattle.std.proofs.Common.{◌≡◌, ◌≤◌, ℕ, List, Result, Ok, Err, length, sym, ap, subst, ◌∙◌, refl, arith}
+use Rattle.std.proofs.Common.{◌≡◌, ◌≤◌, ◌++◌, ℕ, [], List, Result, Ok, Err, length, sym, ap, subst, ◌∙◌, refl, arith}
+use Rattle.std.proofs.Common.{append-nil}
+use Rattle.fx_base.specs.Acts.{pieces}
 use Rattle.fx_vectors.specs.declared.book.Book.{Book}
 use Rattle.fx_book.specs.declared.fault.BookFault.{BookFault}
 use Rattle.fx_book.specs.Heads.{book_of}
@@ -10,7 +12,9 @@ use Rattle.fx_program.specs.Output.{Output, message, upgraded_output, verdict_ou
 use Rattle.fx_program_laws.proofs.laws.upgraded_books_have_the_same_verdict.Goals as goal
 
 same_piece : (a b : List ℕ) → message a 0 ≡ message b 0 → a ≡ b
-same_piece a b e = cc e
+same_piece a b e =
+    let same : a ++ [] ≡ b ++ [] = ap (λ (o : Output). pieces o.events) e in
+    sym (append-nil a) ∙ same ∙ append-nil b
 
 by_read : (text upgraded : List ℕ) (read : Result Book BookFault) → book_of text ≡ read
     → upgraded_output read ≡ message upgraded 0 → length upgraded ≤ 268435456
