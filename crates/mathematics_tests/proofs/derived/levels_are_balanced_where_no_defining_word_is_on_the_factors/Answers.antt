@@ -8,10 +8,10 @@ use Rattle.mathematics_tests.proofs.derived.levels_are_balanced_where_no_definin
 three_places : (a b c : ℕ) → 1 ≤ a → a ≤ 4 → 1 ≤ b → b ≤ 4 → 1 ≤ c → c ≤ 4 → a ≢ b → a ≢ c → b ≢ c
     → ArePlaces 4 (a ∷ b ∷ c ∷ [])
 three_places a b c la ha lb hb lc hc ab ac bc = record {
-  from_1 = All-from_recursion (λ p. 1 ≤ p) (a ∷ b ∷ c ∷ []) (la, lb, lc, tt);
-  factors = All-from_recursion (λ p. p ≤ 4) (a ∷ b ∷ c ∷ []) (ha, hb, hc, tt);
+  from_1 = All-from_recursion (λ p. 1 ≤ p) (a ∷ b ∷ c ∷ []) (la, (lb, (lc, tt)));
+  factors = All-from_recursion (λ p. p ≤ 4) (a ∷ b ∷ c ∷ []) (ha, (hb, (hc, tt)));
   different =
-      AllPairs-cons (λ x y. x ≢ y) a (b ∷ c ∷ []) (All-from_recursion (λ y. a ≢ y) (b ∷ c ∷ []) (ab, ac, tt))
+      AllPairs-cons (λ x y. x ≢ y) a (b ∷ c ∷ []) (All-from_recursion (λ y. a ≢ y) (b ∷ c ∷ []) (ab, (ac, tt)))
       (AllPairs-cons (λ x y. x ≢ y) b (c ∷ []) (All-from_recursion (λ y. b ≢ y) (c ∷ []) (bc, tt))
       (λ i j d less low. absurd (omega arith)));
 }

@@ -7,8 +7,8 @@ use Rattle.mathematics_tests.proofs.derived.levels_of_a_factor_and_its_multiple_
 -- two places that differ
 two_places : (a b : ℕ) → 1 ≤ a → a ≤ 3 → 1 ≤ b → b ≤ 3 → a ≢ b → ArePlaces 3 (a ∷ b ∷ [])
 two_places a b la ha lb hb ab = record {
-  from_1 = All-from_recursion (λ p. 1 ≤ p) (a ∷ b ∷ []) (la, lb, tt);
-  factors = All-from_recursion (λ p. p ≤ 3) (a ∷ b ∷ []) (ha, hb, tt);
+  from_1 = All-from_recursion (λ p. 1 ≤ p) (a ∷ b ∷ []) (la, (lb, tt));
+  factors = All-from_recursion (λ p. p ≤ 3) (a ∷ b ∷ []) (ha, (hb, tt));
   different =
       AllPairs-cons (λ x y. x ≢ y) a (b ∷ []) (All-from_recursion (λ y. a ≢ y) (b ∷ []) (ab, tt))
       (λ i j d less low. absurd (omega arith));
