@@ -5,9 +5,15 @@ use std::alloc::Global;
 use std::process::Abort;
 use std::test::Fail;
 
-/// The fault of a text, where it is refused.
+/// The most bytes that a plan may have.
+const LIMIT: usize = 1048576;
+
+/// The fault of a text within the limit, where it is refused.
 fn fault_of(rt: &HostRuntime, q: u8, text: &[u8]) -> Option<PlanFault> {
     let field = Field::of(q)?;
+    if text.len() > LIMIT {
+        return None;
+    }
     match read_plan(rt.alloc(), text, field) {
         Err(PlanStop::Refused(fault)) => Some(fault),
         _ => None,
@@ -19,6 +25,9 @@ fn lists(rt: &HostRuntime, q: u8, text: &[u8], listing: &[u8]) -> bool {
     let Some(field) = Field::of(q) else {
         return false;
     };
+    if text.len() > LIMIT {
+        return false;
+    }
     let Ok(plan) = read_plan(rt.alloc(), text, field) else {
         return false;
     };
