@@ -1,0 +1,99 @@
+#!/usr/bin/env python3
+"""Explains why `factex` ended with a status from 3 to 6.
+
+Usage: explain.py STATUS MESSAGE WORD .. < TEXT
+
+MESSAGE is what the program printed, the WORDs are those of its command line, and TEXT is what it read. What a status or
+a code means, and what to do about it, is read from the tables of docs/, which have no other copy here.
+"""
+import csv
+import io
+import os
+import re
+import sys
+
+DOCS = os.path.join(os.path.dirname(os.path.realpath(__file__)), "..", "docs")
+# The widest part of a line that is shown.
+WIDTH = 120
+
+
+def plain(cell):
+    """A cell of a table without its marks."""
+    return re.sub(r"\[([^]]*)\]\([^)]*\)|`", r"\1", cell.replace("\\|", "|")).strip()
+
+
+def rows_of(page, code):
+    """The rows of the tables of a page that name a code in their first cell; a row without one continues the row before it."""
+    found, last = [], None
+    for line in open(f"{DOCS}/{page}", encoding="utf-8"):
+        cells = [plain(cell) for cell in re.split(r"(?<!\\)\|", line.strip())[1:-1]] or [None]
+        last = cells[0] or last
+        if last and code in last.split(", "):
+            found.append(cells)
+    return found
+
+
+def meaning_of(code):
+    """What a code means: its text, and when it is given."""
+    if code[0] in "LE":
+        rows = rows_of("LANGUAGE.md", code)
+        when = " or ".join(row[2].rstrip(";") for row in rows if row[2])
+        return f"{rows[0][1]}: {when}" if rows and when else "".join(row[1] for row in rows[:1])
+    rows = rows_of("JUDGE.md" if code[0] == "J" else "COMMANDS.md", code)
+    return rows[0][1] if rows else ""
+
+
+def sentences(parts):
+    """The parts, each as a sentence."""
+    return " ".join(it[0].upper() + it[1:].rstrip(".") + "." for it in parts if it)
+
+
+def show(line, column=None):
+    """Prints a line, and a caret below one of its columns, which are bytes counted from 1."""
+    text = line.decode("utf-8", "replace").rstrip("\r")
+    before = line[: column - 1].decode("utf-8", "replace") if column else ""
+    start = max(0, len(before) - WIDTH // 2)
+    visible = lambda part: "".join(it if it.isprintable() or it == "\t" else "?" for it in part)
+    print("   ", visible(text[start : start + WIDTH]))
+    if column:
+        print("   ", "".join("\t" if it == "\t" else " " for it in before[start:]) + "^")
+
+
+def show_place(message, words, text):
+    """Prints the line, the record or the word that a message names."""
+    place = re.match(r"factex: \w+ (?:(\d+):(\d+)|(record|word) (\d+))", message)
+    if not place:
+        return
+    if place[3] == "word":
+        line = " ".join(["factex", *words]).encode("utf-8", "surrogateescape")
+        before = ["factex", *words][: int(place[4])]
+        show(line, sum(len(it.encode("utf-8", "surrogateescape")) + 1 for it in before) + 1)
+    elif place[3] == "record":
+        records = (it for it in csv.reader(io.StringIO(text().decode("utf-8", "replace").lstrip("\ufeff"))) if it)
+        found = next((it for number, it in enumerate(records, 1) if number == int(place[4])), None)
+        if found:
+            show(",".join(found).encode())
+    else:
+        lines = text().split(b"\n")
+        number, column = int(place[1]), int(place[2])
+        # The end of a text that ends with a line feed is shown at the end of its last line.
+        if number > 1 and number == len(lines) and not lines[-1]:
+            number, column = number - 1, len(lines[number - 2]) + 1
+        if number <= len(lines):
+            show(lines[number - 1], column)
+
+
+def main(status, message, *words):
+    text = lambda: sys.stdin.buffer.read() if not sys.stdin.isatty() else b""
+    if status != "3":
+        for row in rows_of("COMMANDS.md", status):
+            print(f"factex: {sentences(row[1:])}")
+        return
+    code = (message.split() + ["", ""])[1]
+    if re.fullmatch(r"[A-Z]\d+", code):
+        show_place(message, words, text)
+        advice = [row[-1] for row in rows_of("COMMANDS.md", code)][:1]
+        print(f"{code}: {sentences([meaning_of(code), *advice])}")
+
+
+main(*sys.argv[1:])
