@@ -1,0 +1,81 @@
+#!/usr/bin/env python3
+"""Runs the programs and the commands of the documents, and compares what follows them with what they print.
+
+Usage: documents.py COMMAND ..    as documents.py ./factex, or documents.py ./factex try, which keeps no files
+
+A block of code that is a program text is run. A block of EXAMINE and OUTPUT statements is added to the program before
+it. A block that begins like a listing, a plan or a table of runs has to be a part of what the last program or command
+of its page printed or wrote. Prints each block that is not, and ends with status 1 if there is one.
+"""
+import pathlib
+import re
+import subprocess
+import sys
+import tempfile
+
+TOP = pathlib.Path(__file__).resolve().parent.parent
+PAGES = [TOP / "README.md", *(TOP / "docs" / f"{it}.md" for it in ("GUIDE", "LANGUAGE", "PLANS", "JUDGE"))]
+LISTING = re.compile(r"(step|factors|resolution|budget|nodes|book|output|plan) \S|(no )?design |rules$|points |blocked|aliasing|aberration|  \S")
+
+
+def blocks_of(page):
+    """The blocks of code and the tables of a page, each as a list of lines."""
+    block = []
+    for line in [*page.read_text(encoding="utf-8").splitlines(), ""]:
+        if line.startswith("    ") or line.startswith("|") or (block and not block[-1].startswith("|") and not line.strip() and block[-1]):
+            block.append(line[4:] if line.startswith("    ") else line)
+        elif block:
+            while block and not block[-1].strip():
+                block.pop()
+            yield block
+            block = []
+
+
+def printed(command, text):
+    """The lines of the output of a command, and then those of each file that it writes."""
+    with tempfile.TemporaryDirectory() as folder:
+        ran = subprocess.run(command, input=text.encode(), stdout=subprocess.PIPE, stderr=subprocess.DEVNULL, cwd=folder)
+        lines = ran.stdout.decode().splitlines()
+        for file in sorted(pathlib.Path(folder).glob("*.csv")):
+            lines += ["", *file.read_text(encoding="utf-8").splitlines()]
+    return lines
+
+
+def is_part(block, lines):
+    return any(lines[at : at + len(block)] == block for at in range(len(lines)))
+
+
+def rows_of(table):
+    """The rows of a table as lines of comma-separated text."""
+    return [",".join(cell.strip() for cell in line.strip("|").split("|")) for line in table if not line.startswith("|--")]
+
+
+def is_wrong(block, lines, keeps_files):
+    """Whether a block looks like a part of these lines, and is none."""
+    if block[0].startswith("|"):
+        return keeps_files and rows_of(block)[0] in lines and not is_part(rows_of(block), lines)
+    is_plan = keeps_files and re.fullmatch(r"\w+(,\w+)+", block[0])
+    return (is_plan or LISTING.match(block[0])) and not is_part(block, lines)
+
+
+def main(command):
+    program = [str(pathlib.Path(command[0]).resolve()), *command[1:]]
+    keeps_files, wrong = "try" not in command, 0
+    for page in PAGES:
+        text, lines = None, None
+        for block in blocks_of(page):
+            first = block[0].strip().lower()
+            statements = text and re.match(r"(examine|output) [^\[]*$", first)
+            if first.startswith("proc factex") and block[-1].strip().lower().endswith("run;") or statements:
+                text = text[: text.rindex("run;")] + "\n".join(block) + "\nrun;" if statements else "\n".join(block)
+                lines = printed([*program, "run"], text)
+            elif re.fullmatch(r"\./factex judge \d < \S+", first):
+                words, _, file = block[0].partition(" < ")
+                lines = printed([*program, *words.split()[1:]], (TOP / file).read_text(encoding="utf-8"))
+            elif lines is not None and not first.startswith("proc ") and is_wrong(block, lines, keeps_files):
+                print(f"{page.name}: not printed: {block[0]}")
+                wrong = 1
+    return wrong
+
+
+sys.exit(main(sys.argv[1:]))
