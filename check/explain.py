@@ -26,8 +26,8 @@ def rows_of(page, code):
     """The rows of the tables of a page that name a code in their first cell; a row without one continues the row before it."""
     found, last = [], None
     for line in open(f"{DOCS}/{page}", encoding="utf-8"):
-        cells = [plain(cell) for cell in re.split(r"(?<!\\)\|", line.strip())[1:-1]] or [None]
-        last = cells[0] or last
+        cells = [plain(cell) for cell in re.split(r"(?<!\\)\|", line.strip())[1:-1]]
+        last = cells[0] or last if cells else None
         if last and code in last.split(", "):
             found.append(cells)
     return found
@@ -69,10 +69,11 @@ def show_place(message, words, text):
         before = ["factex", *words][: int(place[4])]
         show(line, sum(len(it.encode("utf-8", "surrogateescape")) + 1 for it in before) + 1)
     elif place[3] == "record":
-        records = (it for it in csv.reader(io.StringIO(text().decode("utf-8", "replace").lstrip("\ufeff"))) if it)
-        found = next((it for number, it in enumerate(records, 1) if number == int(place[4])), None)
-        if found:
-            show(",".join(found).encode())
+        csv.field_size_limit(1 << 30)
+        lines = io.StringIO(text().decode("utf-8", "replace").replace("\0", "?").lstrip("\ufeff"), newline=None)
+        found = [record for record in csv.reader(lines) if record][int(place[4]) - 1 : int(place[4])]
+        for record in found:
+            show(",".join(record).encode())
     else:
         lines = text().split(b"\n")
         number, column = int(place[1]), int(place[2])
@@ -93,7 +94,8 @@ def main(status, message, *words):
     if re.fullmatch(r"[A-Z]\d+", code):
         show_place(message, words, text)
         advice = [row[-1] for row in rows_of("COMMANDS.md", code)][:1]
-        print(f"{code}: {sentences([meaning_of(code), *advice])}")
+        explained = sentences([meaning_of(code), *advice])
+        print(f"{code}: {explained}" if explained else f"{code} has no row in the tables of docs/")
 
 
 main(*sys.argv[1:])
