@@ -11,7 +11,7 @@ use Rattle.fx_language.specs.Shapes.{Shape, derivative, is_never, fault_code}
 
 -- the number of a rule by which a text is refused
 abbrev pub is_rule : ℕ → Bool
-is_rule code = nat_le 1 code && nat_le code 32
+is_rule code = nat_le 1 code && nat_le code 36
 
 -- the grammar allows the symbol where it has reached this
 abbrev pub allows : Shape → Symbol → Bool
