@@ -63,12 +63,7 @@ pub(crate) fn put_words(out: &mut Bytes, letter: &[u8], pattern: &Pattern) -> Re
 }
 
 /// Appends how many words of a weight there are, where there is one.
-fn put_weight(
-    out: &mut Bytes,
-    letter: &[u8],
-    weight: usize,
-    words: u128,
-) -> Result<(), NoMemory>
+fn put_weight(out: &mut Bytes, letter: &[u8], weight: usize, words: u128) -> Result<(), NoMemory>
     ensures { OnOk result ((rest : List ℕ)
         → out.new ++ rest
         ≡ out.old ++ (if words == 0 then rest else words_line letter.now weight words ++ rest)) }

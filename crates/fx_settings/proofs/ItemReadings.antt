@@ -251,15 +251,17 @@ none_left (w ∷ others) m h = absurd (short others h)
 
 pub folded_items_law : (s : List Written) → IsStatement grammar.foldover s → AreFoldedItemsRead s
 folded_items_law [] (x0, r0, (f, hf, ef), (x1, r1, (parts, each, e), (m, tm, em), e1), e0) =
-    absurd (alone x1 r1 (ap (λ (l : List Symbol). l ++ r0) ef) em)
+    absurd (alone x1 r1 (ap (λ (l : List Symbol). l ++ r0) ef) e1 em)
   where
-    alone : (x1 r1 : List Symbol) → x0 ++ r0 ≡ f ∷ r0 → r1 ≡ m ∷ [] → ⊥
-    alone [] r1 front last =
-        let short : symbol.Semicolon ∷ [] ≡ f ∷ m ∷ [] = e0 ∙ front ∙ ap (λ (l : List Symbol). f ∷ l) (e1 ∙ last) in
-            cc short
-    alone (a ∷ x1) r1 front last =
-        let short : symbol.Semicolon ∷ [] ≡ f ∷ a ∷ (x1 ++ r1) = e0 ∙ front ∙ ap (λ (l : List Symbol). f ∷ l) e1 in
-            cc short
+    alone : (x y : List Symbol) → x0 ++ r0 ≡ f ∷ r0 → r0 ≡ x ++ y → y ≡ m ∷ [] → ⊥
+    alone [] y front next last =
+        let short : symbol.Semicolon ∷ [] ≡ f ∷ m ∷ [] =
+        e0 ∙ front ∙ ap (λ (l : List Symbol). f ∷ l) (next ∙ last) in
+        cc short
+    alone (a ∷ x) y front next last =
+        let short : symbol.Semicolon ∷ [] ≡ f ∷ a ∷ (x ++ y) =
+        e0 ∙ front ∙ ap (λ (l : List Symbol). f ∷ l) next in
+        cc short
 folded_items_law (word ∷ ws) (x0, r0, (f, hf, ef), (x1, r1, (parts, each, e), (m, tm, em), e1), e0) =
     let whole : word.symbol ∷ (symbols_in ws ++ symbol.Semicolon ∷ []) ≡ f ∷ r0 =
     e0 ∙ ap (λ (l : List Symbol). l ++ r0) ef in

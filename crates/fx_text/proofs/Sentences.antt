@@ -78,7 +78,7 @@ sentence_ends = (
                 (refl, (refl, λ s h. h)),
                 (
                   (refl, (refl, λ s h. h)),
-                  (refl, (refl, (refl, (refl, (refl, (λ s h. h, tt)))))),
+                  ((refl, (refl, (refl, (refl, (refl, (λ s h. h, tt)))))), (refl, (refl, λ s h. h))),
                 ),
               ),
             ),
@@ -177,10 +177,10 @@ module _ (s : List Written) where
   by_its_word : IsStatement grammar.sentence s → IsByItsWord s
   by_its_word (inl m) =
       by_word word.Quit (One (is word.Semicolon)) m (inl refl) (inl refl) (inl refl) (inl refl) (inl refl) (inl refl)
-        (inl refl) (inl refl)
+      (inl refl) (inl refl)
   by_its_word (inr (inl m)) =
       by_word word.Proc grammar.proc_rest m (inr m) (inl refl) (inl refl) (inl refl) (inl refl) (inl refl) (inl refl)
-        (inl refl)
+      (inl refl)
   by_its_word (inr (inr (inl m))) = record {
     proc = λ begun. absurd (empty word.Proc begun m);
     factors = λ begun. absurd (empty word.Factors begun m);
@@ -193,28 +193,28 @@ module _ (s : List Written) where
   }
   by_its_word (inr (inr (inr (inl m)))) =
       by_word word.Run (One (is word.Semicolon)) m (inl refl) (inl refl) (inl refl) (inl refl) (inl refl) (inl refl)
-        (inl refl) (inl refl)
+      (inl refl) (inl refl)
   by_its_word (inr (inr (inr (inr (inl m))))) =
       by_word word.Factors grammar.factors_rest m (inl refl) (inr m) (inl refl) (inl refl) (inl refl) (inl refl)
-        (inl refl) (inl refl)
+      (inl refl) (inl refl)
   by_its_word (inr (inr (inr (inr (inr (inl m)))))) =
       by_word word.Size grammar.size_rest m (inl refl) (inl refl) (inr m) (inl refl) (inl refl) (inl refl) (inl refl)
-        (inl refl)
+      (inl refl)
   by_its_word (inr (inr (inr (inr (inr (inr (inl m))))))) =
       by_word word.Model grammar.model_rest m (inl refl) (inl refl) (inl refl) (inr m) (inl refl) (inl refl) (inl refl)
-        (inl refl)
+      (inl refl)
   by_its_word (inr (inr (inr (inr (inr (inr (inr (inl m)))))))) =
       by_word word.Blocks grammar.blocks_rest m (inl refl) (inl refl) (inl refl) (inl refl) (inr m) (inl refl)
-        (inl refl) (inl refl)
+      (inl refl) (inl refl)
   by_its_word (inr (inr (inr (inr (inr (inr (inr (inr (inl m))))))))) =
       by_word word.Examine grammar.examine_rest m (inl refl) (inl refl) (inl refl) (inl refl) (inl refl) (inr m)
-        (inl refl) (inl refl)
+      (inl refl) (inl refl)
   by_its_word (inr (inr (inr (inr (inr (inr (inr (inr (inr (inl m)))))))))) =
       by_word word.Output grammar.output_rest m (inl refl) (inl refl) (inl refl) (inl refl) (inl refl) (inl refl)
-        (inr m) (inl refl)
+      (inr m) (inl refl)
   by_its_word (inr (inr (inr (inr (inr (inr (inr (inr (inr (inr m)))))))))) =
       by_word word.Foldover grammar.foldover_rest m (inl refl) (inl refl) (inl refl) (inl refl) (inl refl) (inl refl)
-        (inl refl) (inr m)
+      (inl refl) (inr m)
 
 -- the statements of sentences, one after another
 all_of_sentences : (parts : List (List Symbol)) → AllByRecursion (Matches grammar.sentence) parts
