@@ -2,6 +2,7 @@
 use Rattle.std.proofs.Common.{◌≡◌, ℕ, zero, suc, ◌+◌, ◌-◌, ◌<◌, ◌≤◌, true, List, [], ◌∷◌, ◌++◌, drop, length, replicate, Result, Some}
 use Rattle.std.proofs.Common.{Ok, Err, refl, sym, ap, ap₂, ◌∙◌, arith}
 use Rattle.std.specs.Prelude.{decimal, slice_set}
+use Rattle.std.proofs.Math.Numerals.{add-one}
 use Rattle.std.proofs.lemmas.List.{drop_all}
 use Rattle.std.proofs.lemmas.List.FromFn.{length-map-range_with_len}
 use Rattle.fx_designs.specs.Vectors.{zeros}
@@ -58,8 +59,21 @@ all_named factors codes first last range from count low many =
     ∙ ap (names_folded first factors codes) (sym (ap₂ (numbered (stem first.text)) low many))
 
 -- one more of all factors is folded
+one_more_code : (i rest : ℕ)
+    → slice_set (replicate i 1 ++ zeros (suc rest)) i 1 ≡ replicate i 1 ++ 1 ∷ zeros rest
+one_more_code zero rest = refl
+one_more_code (suc i) rest = ap (λ (l : List ℕ). 1 ∷ l) (one_more_code i rest)
+
 pub one_folded : (i n : ℕ) → i < n
     → slice_set (replicate i 1 ++ zeros (n - i)) i 1 ≡ replicate (i + 1) 1 ++ zeros (n - (i + 1))
-one_folded zero (suc n) h = refl
-one_folded (suc i) (suc n) h = ap (λ (l : List ℕ). 1 ∷ l) (one_folded i n (omega (arith, h)))
-one_folded i zero h = absurd (omega (arith, h))
+one_folded i n h =
+    let left : n - i ≡ suc (n - (i + 1)) = omega (arith, h) in
+    ap (λ k. slice_set (replicate i 1 ++ zeros k) i 1) left ∙ one_more_code i (n - (i + 1))
+    ∙ joined i (zeros (n - (i + 1)))
+  where
+    joined : (i : ℕ) (rest : List ℕ) → replicate i 1 ++ 1 ∷ rest ≡ replicate (i + 1) 1 ++ rest
+    joined i rest = both i rest ∙ ap (λ k. replicate k 1 ++ rest) (sym (add-one i))
+      where
+        both : (i : ℕ) (rest : List ℕ) → replicate i 1 ++ 1 ∷ rest ≡ replicate (suc i) 1 ++ rest
+        both zero rest = refl
+        both (suc i) rest = ap (λ (l : List ℕ). 1 ∷ l) (both i rest)

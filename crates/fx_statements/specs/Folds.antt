@@ -1,7 +1,7 @@
 -- The factors that a step folds over.
-use Rattle.std.specs.Prelude.{ℕ, ◌≡◌, ◌==◌, ◌&&◌, not, List, [], ◌∷◌, length, drop, replicate, slice_set, false, Option, Some}
+use Rattle.std.specs.Prelude.{ℕ, ◌≡◌, ◌<◌, ◌==◌, ◌&&◌, not, All, List, [], ◌∷◌, length, drop, replicate, slice_set, false, Option, Some}
 use Rattle.std.specs.Prelude.{None, Result, Ok, Err, if◌then◌else◌}
-use Rattle.fx_designs.specs.Vectors.{IsVector, zeros}
+use Rattle.fx_designs.specs.Vectors.{zeros}
 use Rattle.fx_language.specs.declared.code.TheConstants.{FOLDOVER_NEEDS_TWO_LEVELS, IRREGULAR_RANGE, UNKNOWN_FACTOR}
 use Rattle.fx_language.specs.declared.symbol.Symbol.TheVariants as word
 use Rattle.fx_text.specs.declared.refusal.Refusal.{Refusal}
@@ -13,7 +13,6 @@ use Rattle.fx_text.specs.Statements.{statement_of}
 use Rattle.fx_settings.specs.Items.{Item, items_from, is_regular, names_of}
 use Rattle.fx_settings.specs.Valid.{has_blocks}
 use Rattle.fx_settings.specs.declared.settings.Blocks.{Blocks}
-use Rattle.fx_settings.specs.declared.settings.Blocks.TheVariants as blocks
 use Rattle.fx_settings.specs.declared.settings.StepSettings.{StepSettings}
 use Rattle.fx_statements.specs.declared.fold.Fold.{Fold}
 use Rattle.fx_statements.specs.declared.fold.Fold.TheVariants as fold
@@ -63,12 +62,8 @@ fold_in factors settings (Some statement) = fold_by factors settings statement
 abbrev pub fold_of : List (List ℕ) → StepSettings → List (List Written) → Result Fold Refusal
 fold_of factors settings statements = fold_in factors settings (statement_of word.Foldover statements)
 
--- a fold is of s factors of two levels, without blocks
-pub record IsFolded (q : ℕ) (given : Blocks) (s : ℕ) (codes : List ℕ) : Type 0 where
-  pub levels : q ≡ 2
-  pub unblocked : given ≡ blocks.Without
-  pub vector : IsVector 2 s codes
-
--- where a step has a fold, it is one of its factors
+-- where a step has a fold, it has two levels and no blocks, and the fold has a code, 0 or 1, for each of its s factors
 abbrev pub IsFold : ℕ → Blocks → ℕ → Fold → Type 0
-IsFold q given s chosen = (codes : List ℕ) → chosen ≡ fold.Factors codes → IsFolded q given s codes
+IsFold q given s chosen =
+    (codes : List ℕ) → chosen ≡ fold.Factors codes
+    → (q ≡ 2) × (has_blocks given ≡ false) × (length codes ≡ s) × All (λ c. c < 2) codes

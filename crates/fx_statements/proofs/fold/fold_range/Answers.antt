@@ -7,8 +7,8 @@ use Rattle.fx_effects.proofs.Mains.{number_is_short}
 use Rattle.fx_statements.proofs.Folded.{all_named}
 use Rattle.fx_statements.proofs.fold.fold_range.Goals as goal
 
-pub overflow_add : goal.overflow_add
-overflow_add c =
+pub overflow_add-upto : goal.overflow_add-upto
+overflow_add-upto c =
     let plain = c.is_range.ensures.plain c.if-not-is_range.false in
     let high = number_is_short c.text-high.result.now plain.1 in
     omega (arith, high, c.number_at_end-upto.ensures)
