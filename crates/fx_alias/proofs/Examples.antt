@@ -18,6 +18,7 @@ use Rattle.fx_settings.specs.declared.settings.Blocks.{Blocks}
 use Rattle.fx_settings.specs.declared.settings.Blocks.TheVariants.{Factors, Without}
 use Rattle.fx_statements.specs.Goals.{Goal, AtLeast, Highest, ForEffects}
 use Rattle.fx_statements.specs.Questions.{Conclusion}
+use Rattle.fx_statements.specs.declared.fold.Fold.TheVariants as fold
 use Rattle.fx_statements.specs.Steps.{Meaning, examine_of}
 use Rattle.fx_alias.specs.Aliasing.{alias_section}
 use Rattle.fx_alias.specs.Blocked.{blocked_section}
@@ -45,6 +46,7 @@ step_in blocks s size goal least = record {
       record { q = 2; budget = 1000000; size = size; criterion = criterion.Highest; least = least; blocks = blocks };
   goal = goal;
   examine = examine_of [];
+  fold = fold.Without;
   outputs = [];
 }
 

@@ -8,4 +8,5 @@ pub mod Points
 pub mod Blocked
 pub mod BlockSpans
 pub mod Patterns
+pub mod Folds
 pub mod Sections

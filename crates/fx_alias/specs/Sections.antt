@@ -10,6 +10,7 @@ use Rattle.fx_statements.specs.Questions.{Conclusion}
 use Rattle.fx_statements.specs.Steps.{Meaning}
 use Rattle.fx_alias.specs.Aliasing.{alias_section, listed_components}
 use Rattle.fx_alias.specs.Blocked.{blocked_section}
+use Rattle.fx_alias.specs.Folds.{fold_section}
 use Rattle.fx_alias.specs.Heads.{head_lines}
 use Rattle.fx_alias.specs.Patterns.{pattern_lines}
 use Rattle.fx_alias.specs.Points.{design_section}
@@ -32,9 +33,12 @@ examined step matrix =
 abbrev pub matrix_of : Dimensions → List ℕ → MatrixView
 matrix_of d rows = record { shape = record { q = d.q; m = d.m; s = d.s; t = d.t }; rows = rows }
 
--- what is listed of a matrix: its rules, then the lines of the step's books, and the sections that the step asks for
+-- what is listed of a matrix: its rules, then the lines of the step's books, the sections that the step asks for, and
+-- its fold-over
 abbrev pub matrix_sections : Dimensions → Meaning → List ℕ → List ℕ → List ℕ
-matrix_sections d step books rows = rules_section d step.factors rows ++ (books ++ examined step (matrix_of d rows))
+matrix_sections d step books rows =
+    rules_section d step.factors rows
+    ++ (books ++ (examined step (matrix_of d rows) ++ fold_section step (matrix_of d rows)))
 
 -- the lines after the head, with those of the books
 abbrev pub sections : Dimensions → Meaning → List ℕ → Ending → List ℕ

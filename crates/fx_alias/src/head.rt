@@ -12,7 +12,7 @@ ghost use Rattle.fx_alias.specs.Heads.{blocks_words, budget_line, clear_line, cl
 use fx_base::{Bytes, NoMemory, put, put_number};
 use fx_settings::greatest;
 use fx_statements::{Blocks, End, Outcome, Size, Step, Wanted};
-use fx_vectors::{Matrix, Shape};
+use fx_vectors::{Matrix, Pattern, Shape};
 use fx_words::{pattern_of, resolution};
 use std::alloc::Global;
 
@@ -274,7 +274,19 @@ fn put_resolution(
     let pattern = pattern_of(alloc, matrix)?;
     // A design has at most `MOST_FACTORS` factors.
     let _shape = matrix.shape();
-    let r = resolution(&pattern);
+    put_resolution_of(out, claim, &pattern)
+}
+
+/// Appends the resolution of a pattern and what is claimed of it, or that there are no defining words.
+pub(crate) fn put_resolution_of(
+    out: &mut Bytes,
+    claim: &[u8],
+    pattern: &Pattern,
+) -> Result<(), NoMemory>
+    requires { length pattern.now ≤ 254 }
+    ensures { OnOk result (out.new ≡ out.old ++ resolution_line claim.now pattern.now) }
+{
+    let r = resolution(pattern);
     if usize::from(r) > pattern.len() {
         return put(out, b"no defining words\n");
     }

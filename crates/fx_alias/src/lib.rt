@@ -6,6 +6,7 @@ mod block_span;
 mod blocked;
 mod class;
 mod design;
+mod fold;
 mod head;
 mod laws;
 mod lines;
@@ -17,6 +18,7 @@ mod sections;
 pub use aliasing::alias_listing;
 pub use blocked::blocked_listing;
 pub use design::design_listing;
+pub use fold::fold_listing;
 pub use head::head_listing;
 pub use laws::{
     aliased_where_class_numbers_agree, aliased_where_sums_are_multiples, classes_by_number,

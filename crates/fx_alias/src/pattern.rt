@@ -1,4 +1,4 @@
-ghost use Rattle.std.specs.Prelude.{◌≡◌, ◌++◌, ◌==◌, ℕ, List, if◌then◌else◌, OnErr, OnOk};
+ghost use Rattle.std.specs.Prelude.{◌≡◌, ◌++◌, ◌==◌, ℕ, List, codes, if◌then◌else◌, OnErr, OnOk};
 ghost use Rattle.fx_designs.specs.Patterns.{pattern_of};
 ghost use Rattle.fx_vectors.specs.Shape.{dimensions_of};
 ghost use Rattle.fx_alias.specs.Patterns.{pattern_lines, words_line, words_lines};
@@ -41,36 +41,38 @@ fn put_section(alloc: Global, matrix: &Matrix, out: &mut Bytes) -> Result<(), No
 
 /// Appends the lines of a pattern, or that there are no words.
 fn put_pattern(out: &mut Bytes, pattern: &Pattern) -> Result<(), NoMemory>
-    ensures { OnOk result (out.new ≡ out.old ++ or_none (words_lines 1 pattern.now)) }
+    ensures { OnOk result (out.new ≡ out.old ++ or_none (words_lines (codes "A") 1 pattern.now)) }
 {
     let before = out.len();
-    put_words(out, pattern)?;
+    put_words(out, b"A", pattern)?;
     if out.len() == before {
         return put(out, b"  none\n");
     }
     Ok(())
 }
 
-/// Appends a line for each weight that has words.
-fn put_words(out: &mut Bytes, pattern: &Pattern) -> Result<(), NoMemory>
-    ensures { OnOk result (out.new ≡ out.old ++ words_lines 1 pattern.now) }
+/// Appends a line for each weight that has words, by the letter of the pattern.
+pub(crate) fn put_words(out: &mut Bytes, letter: &[u8], pattern: &Pattern) -> Result<(), NoMemory>
+    ensures { OnOk result (out.new ≡ out.old ++ words_lines letter.now 1 pattern.now) }
 {
     let words = pattern.as_slice();
     for i in 0..words.len() {
-        put_weight(out, i + 1, words[i])?;
+        put_weight(out, letter, i + 1, words[i])?;
     }
     Ok(())
 }
 
 /// Appends how many words of a weight there are, where there is one.
-fn put_weight(out: &mut Bytes, weight: usize, words: u128) -> Result<(), NoMemory>
+fn put_weight(out: &mut Bytes, letter: &[u8], weight: usize, words: u128) -> Result<(), NoMemory>
     ensures { OnOk result ((rest : List ℕ)
-        → out.new ++ rest ≡ out.old ++ (if words == 0 then rest else words_line weight words ++ rest)) }
+        → out.new ++ rest
+        ≡ out.old ++ (if words == 0 then rest else words_line letter.now weight words ++ rest)) }
 {
     if words == 0 {
         return Ok(());
     }
-    put(out, b"  A")?;
+    put(out, b"  ")?;
+    put(out, letter)?;
     put_number(out, weight as u128)?;
     put(out, b" ")?;
     put_number(out, words)?;

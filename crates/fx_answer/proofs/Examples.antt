@@ -8,6 +8,7 @@ use Rattle.fx_settings.specs.declared.settings.Criterion.TheVariants as criterio
 use Rattle.fx_settings.specs.declared.settings.Blocks.{Blocks}
 use Rattle.fx_settings.specs.declared.settings.Blocks.TheVariants as blocks
 use Rattle.fx_statements.specs.Goals.{AtLeast}
+use Rattle.fx_statements.specs.declared.fold.Fold.TheVariants.{Without}
 use Rattle.fx_statements.specs.Steps.{Meaning}
 use Rattle.fx_answer.specs.StepClaims.{Allows}
 
@@ -25,6 +26,7 @@ step_of size given = record {
   };
   goal = AtLeast 3;
   examine = record { aliasing = false; blocked = false; design = false; aberration = false };
+  fold = Without;
   outputs = [];
 }
 

@@ -31,6 +31,23 @@ accepted : refusal (
 unfolding refusal
 accepted = refl
 
+-- FOLDOVER has names and ranges, or none
+foldover : refusal (codes "proc factex;factors A B1-B3;foldover B1-B2 size A;run;proc factex;foldover;") ≡ None
+unfolding refusal
+foldover = refl
+
+foldover_in_part :
+    (refusal (codes "proc factex;foldover A-;") ≡ Some (2, 6)) × (refusal (codes "proc factex;foldover A/B;") ≡ Some (2, 5))
+unfolding refusal
+foldover_in_part = (refl, refl)
+
+-- a step has one, and before its RUN
+foldover_once :
+    (refusal (codes "proc factex;foldover;foldover A;") ≡ Some (26, 5))
+    × (refusal (codes "proc factex;run;foldover;") ≡ Some (27, 5))
+unfolding refusal
+foldover_once = (refl, refl)
+
 -- a new step may have the same statements
 next_step : refusal (codes "proc factex;size design=4;run;proc factex;;model res=max/minabs;size nrunfacs=3;") ≡ None
 unfolding refusal

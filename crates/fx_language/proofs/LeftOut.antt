@@ -11,7 +11,7 @@ use Rattle.fx_language.specs.Symbols.{is, is_left_out, is_word}
 use Rattle.fx_language.specs.Shapes.{Shape, Never, Empty, One, Before, Either, Many, Fault, Matches, guarded, maybe}
 use Rattle.fx_language.specs.Shapes.{◌▸◌, ◌∣◌}
 use Rattle.fx_language.specs.Grammar.{key, name, n, no_open, replication, values, recoded, option, factors, size}
-use Rattle.fx_language.specs.Grammar.{model_word, model_rest, model, blocks, examine_word, examine_rest, examine}
+use Rattle.fx_language.specs.Grammar.{model_word, model_rest, model, blocks, examine_word, examine_rest, examine, foldover}
 use Rattle.fx_language.specs.Grammar.{output_rest, output, proc, proc_rest, statement, step, between, unknown, program}
 use Rattle.fx_language.specs.Laws.{Names, IsAtStart, IsInStatement, IsLeftOut}
 use Rattle.fx_language.proofs.Named.{from_parts}
@@ -312,7 +312,8 @@ in_statement t s (inr (inr (inr (inl h)))) = absurd (no_code 24 size t s refl h)
 in_statement t s (inr (inr (inr (inr (inl h))))) = in_model t s h
 in_statement t s (inr (inr (inr (inr (inr (inl h)))))) = absurd (no_code 24 blocks t s refl h)
 in_statement t s (inr (inr (inr (inr (inr (inr (inl h))))))) = in_examine t s h
-in_statement t s (inr (inr (inr (inr (inr (inr (inr h))))))) = in_output t s h
+in_statement t s (inr (inr (inr (inr (inr (inr (inr (inl h)))))))) = in_output t s h
+in_statement t s (inr (inr (inr (inr (inr (inr (inr (inr h)))))))) = absurd (no_code 24 foldover t s refl h)
 
 further : (before t rest : List Symbol) (word : Symbol) → IsAtStart before → IsInStatement word t rest
     → IsInStatement word (before ++ t) rest

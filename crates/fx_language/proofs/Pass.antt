@@ -9,7 +9,7 @@ use Rattle.std.proofs.lemmas.List.{reverse-append}
 use Rattle.std.proofs.lemmas.List.Sums.{sum_by-cons}
 use Rattle.fx_language.specs.declared.symbol.Symbol.{Symbol}
 use Rattle.fx_language.specs.declared.symbol.Symbol.TheVariants.{Proc, Factex, Nodes, Quit, Run, Factors, Size, Model}
-use Rattle.fx_language.specs.declared.symbol.Symbol.TheVariants.{Blocks}
+use Rattle.fx_language.specs.declared.symbol.Symbol.TheVariants.{Blocks, Foldover}
 use Rattle.fx_language.specs.Symbols.{is, is_once}
 use Rattle.fx_language.specs.Repeats.{is_start, is_behind_equals, first_words, step_words, has_statement, procs}
 use Rattle.fx_language.specs.Repeats.{has_option, is_option_in, begins_with, rule_at, repeated, or_later}
@@ -49,6 +49,7 @@ past_next s seen =
     let size = begun_next Size s seen in
     let model = begun_next Model s seen in
     let blocks = begun_next Blocks s seen in
+    let foldover = begun_next Foldover s seen in
     let count = counted (is_start seen) (is Proc s) s (first_words seen) refl in
     cc
 

@@ -17,12 +17,14 @@ use Rattle.fx_language.specs.declared.effects.EffectPlace.{EffectPlace}
 use Rattle.fx_language.specs.declared.effects.EffectPlace.TheVariants as place
 use Rattle.fx_language.specs.declared.examine.ExaminePlace.{ExaminePlace}
 use Rattle.fx_language.specs.declared.examine.ExaminePlace.TheVariants as examine
+use Rattle.fx_language.specs.declared.foldover.FoldoverPlace.{FoldoverPlace}
+use Rattle.fx_language.specs.declared.foldover.FoldoverPlace.TheVariants as foldover
 use Rattle.fx_language.specs.declared.output.OutputPlace.{OutputPlace}
 use Rattle.fx_language.specs.declared.output.OutputPlace.TheVariants as output
 use Rattle.fx_language.specs.declared.values.ValuesPlace.{ValuesPlace}
 use Rattle.fx_language.specs.declared.values.ValuesPlace.TheVariants as listed
 use Rattle.fx_language.specs.Continuations.{proc_left, factors_left, setting_left, model_left, effects_left}
-use Rattle.fx_language.specs.Continuations.{examine_left, output_left, values_left, shape_at, shape_left}
+use Rattle.fx_language.specs.Continuations.{examine_left, foldover_left, output_left, values_left, shape_at, shape_left}
 
 in_proc_statement : (p : ProcPlace) → is_never (proc_left p) ≡ false
 in_proc_statement proc.Procedure = refl
@@ -48,6 +50,10 @@ in_examine : (p : ExaminePlace) → is_never (examine_left p) ≡ false
 in_examine examine.Sections = refl
 in_examine p = refl
 
+in_foldover : (p : FoldoverPlace) → is_never (foldover_left p) ≡ false
+in_foldover foldover.Items = refl
+in_foldover p = refl
+
 in_output_statement : (p : OutputPlace) → is_never (output_left p) ≡ false
 in_output_statement output.Out = refl
 in_output_statement p = refl
@@ -68,6 +74,7 @@ at_place (state.Setting p) = in_setting p
 at_place (state.Model p) = in_model p
 at_place (state.Effects l p) = in_effects l p
 at_place (state.Examine p) = in_examine p
+at_place (state.Foldover p) = in_foldover p
 at_place (state.Output p) = in_output_statement p
 at_place (state.Values p) = in_values p
 

@@ -94,8 +94,13 @@ between_start t m =
 
 pub statement_start : (t : List Symbol) → Matches statement t → IsAtStart t
 statement_start t m =
-    inr (ends statement t
-    (semicolon, (semicolon, (semicolon, (semicolon, (semicolon, (semicolon, (semicolon, (semicolon, tt)))))))) m)
+    inr (ends statement t (
+      semicolon,
+      (
+        semicolon,
+        (semicolon, (semicolon, (semicolon, (semicolon, (semicolon, ((semicolon, tt), semicolon)))))),
+      ),
+    ) m)
 
 pub proc_start : (t : List Symbol) → Matches proc t → IsAtStart t
 proc_start t m = inr (ends proc t (semicolon, tt) m)

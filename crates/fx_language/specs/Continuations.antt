@@ -27,6 +27,8 @@ use Rattle.fx_language.specs.declared.effects.EffectPlace.{EffectPlace}
 use Rattle.fx_language.specs.declared.effects.EffectPlace.TheVariants as place
 use Rattle.fx_language.specs.declared.examine.ExaminePlace.{ExaminePlace}
 use Rattle.fx_language.specs.declared.examine.ExaminePlace.TheVariants as examine
+use Rattle.fx_language.specs.declared.foldover.FoldoverPlace.{FoldoverPlace}
+use Rattle.fx_language.specs.declared.foldover.FoldoverPlace.TheVariants as foldover
 use Rattle.fx_language.specs.declared.output.OutputPlace.{OutputPlace}
 use Rattle.fx_language.specs.declared.output.OutputPlace.TheVariants as output
 use Rattle.fx_language.specs.declared.values.ValueKind.{ValueKind}
@@ -127,6 +129,12 @@ abbrev pub examine_left : ExaminePlace → Shape
 examine_left examine.Sections = Many examine_word ▸ ending
 examine_left examine.NoOpen = no_open ▸ Many examine_word ▸ ending
 
+-- what is left at a place in a FOLDOVER statement
+abbrev pub foldover_left : FoldoverPlace → Shape
+foldover_left foldover.Items = Many item ▸ ending
+foldover_left foldover.Name = maybe (key Minus ▸ name) ▸ Many item ▸ ending
+foldover_left foldover.Range = name ▸ Many item ▸ ending
+
 -- a, and after it options and the end of an OUTPUT statement
 abbrev pub in_output : Shape → Shape
 in_output a = guarded 24 (is OpenBracket) (a ▸ Many option ▸ key Semicolon) ▸ in_step
@@ -176,6 +184,7 @@ shape_at (state.Setting p) = setting_left p
 shape_at (state.Model p) = model_left p
 shape_at (state.Effects l p) = effects_left l p
 shape_at (state.Examine p) = examine_left p
+shape_at (state.Foldover p) = foldover_left p
 shape_at (state.Output p) = output_left p
 shape_at (state.Values p) = values_left p
 

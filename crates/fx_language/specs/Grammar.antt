@@ -6,7 +6,7 @@ use Rattle.fx_language.specs.declared.symbol.Symbol.TheVariants.{Design, Fractio
 use Rattle.fx_language.specs.declared.symbol.Symbol.TheVariants.{Estimate, Nonnegligible, Resolution, Minabs, Blocks}
 use Rattle.fx_language.specs.declared.symbol.Symbol.TheVariants.{Nblkfacs, Nblocks, Examine, Aliasing, Aberration}
 use Rattle.fx_language.specs.declared.symbol.Symbol.TheVariants.{Output, Out, Pointrep, Designrep, Randomize, Novalran}
-use Rattle.fx_language.specs.declared.symbol.Symbol.TheVariants.{Blockname, Nvals, Cvals, Uniteffect, Whole, Decimal}
+use Rattle.fx_language.specs.declared.symbol.Symbol.TheVariants.{Blockname, Nvals, Cvals, Foldover, Uniteffect, Whole, Decimal}
 use Rattle.fx_language.specs.declared.symbol.Symbol.TheVariants.{Quoted, Semicolon, Equals, Open, Close, OpenBracket}
 use Rattle.fx_language.specs.declared.symbol.Symbol.TheVariants.{Slash, Star, Bar, At, Minus, End}
 use Rattle.fx_language.specs.Symbols.{is, is_word, is_output_option, is_left_out, is_plain_section}
@@ -142,6 +142,14 @@ output_rest = guarded 24 (is OpenBracket) (key Out ▸ key Equals ▸ name ▸ M
 abbrev pub output : Shape
 output = key Output ▸ output_rest
 
+-- after the word FOLDOVER
+abbrev pub foldover_rest : Shape
+foldover_rest = Many item ▸ key Semicolon
+
+-- the FOLDOVER statement
+abbrev pub foldover : Shape
+foldover = key Foldover ▸ foldover_rest
+
 -- the code of a word that begins no statement
 abbrev pub unknown : Shape
 unknown = Fault 24 (is Uniteffect) ∣ Fault 1 is_word
@@ -150,6 +158,7 @@ unknown = Fault 24 (is Uniteffect) ∣ Fault 1 is_word
 abbrev pub statement : Shape
 statement =
     key Semicolon ∣ key Run ▸ key Semicolon ∣ factors ∣ size ∣ model ∣ blocks ∣ examine ∣ output
+    ∣ foldover
 
 -- after the word PROC, where the options that are left out have a code of their own
 abbrev pub proc_rest : Shape

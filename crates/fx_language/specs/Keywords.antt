@@ -46,6 +46,7 @@ keywords =
     (codes "blockname", symbol.Blockname) ∷
     (codes "nvals", symbol.Nvals) ∷
     (codes "cvals", symbol.Cvals) ∷
+    (codes "foldover", symbol.Foldover) ∷
     (codes "time", symbol.Time) ∷
     (codes "nocheck", symbol.Nocheck) ∷
     (codes "namelen", symbol.Namelen) ∷

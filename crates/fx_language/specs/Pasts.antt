@@ -6,7 +6,7 @@ use Rattle.fx_language.specs.declared.repeated.TheConstants.{MOST_STEPS}
 use Rattle.fx_language.specs.declared.symbol.Symbol.{Symbol}
 use Rattle.fx_language.specs.declared.symbol.Symbol.TheVariants.{Proc, Nodes, Run, Quit, Factors, Size, Model, Blocks}
 use Rattle.fx_language.specs.declared.symbol.Symbol.TheVariants.{Output, Pointrep, Designrep, Randomize, Novalran}
-use Rattle.fx_language.specs.declared.symbol.Symbol.TheVariants.{Blockname, Semicolon, Equals}
+use Rattle.fx_language.specs.declared.symbol.Symbol.TheVariants.{Blockname, Foldover, Semicolon, Equals}
 use Rattle.fx_language.specs.declared.repeated.Past.{Past}
 use Rattle.fx_language.specs.declared.repeated.StepPast.{StepPast}
 use Rattle.fx_language.specs.declared.repeated.StatementPast.{StatementPast}
@@ -21,6 +21,7 @@ step_past_of seen = record {
   size = has_statement Size seen;
   model = has_statement Model seen;
   blocks = has_statement Blocks seen;
+  foldover = has_statement Foldover seen;
 }
 
 -- of a statement
@@ -52,6 +53,7 @@ step_has p Factors = p.factors
 step_has p Size = p.size
 step_has p Model = p.model
 step_has p Blocks = p.blocks
+step_has p Foldover = p.foldover
 step_has p s = false
 
 -- the statement has this option
@@ -85,6 +87,7 @@ step_after start s p = record {
   size = begun_after start s Size p.size;
   model = begun_after start s Model p.model;
   blocks = begun_after start s Blocks p.blocks;
+  foldover = begun_after start s Foldover p.foldover;
 }
 
 -- whether the statement begins with this word, after one more symbol

@@ -7,7 +7,7 @@ use Rattle.fx_language.specs.declared.symbol.Symbol.TheVariants.{Estimate, Nonne
 use Rattle.fx_language.specs.declared.symbol.Symbol.TheVariants.{Nblkfacs, Nblocks, Examine, Aliasing, Blocked}
 use Rattle.fx_language.specs.declared.symbol.Symbol.TheVariants.{Confounding, Aberration, Output, Out, Pointrep}
 use Rattle.fx_language.specs.declared.symbol.Symbol.TheVariants.{Designrep, Randomize, Novalran, Blockname, Nvals}
-use Rattle.fx_language.specs.declared.symbol.Symbol.TheVariants.{Cvals, Time, Nocheck, Namelen, Uniteffect, Name, Whole}
+use Rattle.fx_language.specs.declared.symbol.Symbol.TheVariants.{Cvals, Foldover, Time, Nocheck, Namelen, Uniteffect, Name, Whole}
 use Rattle.fx_language.specs.declared.symbol.Symbol.TheVariants.{Decimal, Quoted, Semicolon, Equals, Open, Close}
 use Rattle.fx_language.specs.declared.symbol.Symbol.TheVariants.{OpenBracket, CloseBracket, Slash, Star, Bar, At, Minus}
 use Rattle.fx_language.specs.declared.symbol.Symbol.TheVariants.{End}
@@ -49,26 +49,27 @@ index Novalran = 31
 index Blockname = 32
 index Nvals = 33
 index Cvals = 34
-index Time = 35
-index Nocheck = 36
-index Namelen = 37
-index Uniteffect = 38
-index Name = 39
-index Whole = 40
-index Decimal = 41
-index Quoted = 42
-index Semicolon = 43
-index Equals = 44
-index Open = 45
-index Close = 46
-index OpenBracket = 47
-index CloseBracket = 48
-index Slash = 49
-index Star = 50
-index Bar = 51
-index At = 52
-index Minus = 53
-index End = 54
+index Foldover = 35
+index Time = 36
+index Nocheck = 37
+index Namelen = 38
+index Uniteffect = 39
+index Name = 40
+index Whole = 41
+index Decimal = 42
+index Quoted = 43
+index Semicolon = 44
+index Equals = 45
+index Open = 46
+index Close = 47
+index OpenBracket = 48
+index CloseBracket = 49
+index Slash = 50
+index Star = 51
+index Bar = 52
+index At = 53
+index Minus = 54
+index End = 55
 
 -- it is this symbol
 abbrev pub is : Symbol → Symbol → Bool
@@ -84,7 +85,7 @@ is_output_option s = is Pointrep s || is Designrep s || is Randomize s || is Nov
 
 -- the statements that a step has at most once, before its RUN
 abbrev pub is_once : Symbol → Bool
-is_once s = is Factors s || is Size s || is Model s || is Blocks s
+is_once s = is Factors s || is Size s || is Model s || is Blocks s || is Foldover s
 
 -- the words of PROC that this product doesn't keep
 abbrev pub is_left_out : Symbol → Bool

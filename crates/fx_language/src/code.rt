@@ -95,3 +95,6 @@ pub const BLOCKNAME_WITHOUT_BLOCKS: u8 = 31;
 
 /// The step after the 100th.
 pub const TOO_MANY_STEPS: u8 = 32;
+
+/// FOLDOVER in a step with blocks, or with other than two levels.
+pub const FOLDOVER_NEEDS_TWO_LEVELS: u8 = 36;

@@ -18,7 +18,7 @@ fn row(letters: &'static [u8], symbol: Symbol) -> Spelling
 }
 
 /// Each keyword, and after them the short forms of some.
-pub fn spellings() -> [Spelling; 47]
+pub fn spellings() -> [Spelling; 48]
     ensures { map spelling_row result ≡ keywords ++ short_forms }
 {
     [
@@ -57,6 +57,7 @@ pub fn spellings() -> [Spelling; 47]
         row(b"blockname", Symbol::Blockname),
         row(b"nvals", Symbol::Nvals),
         row(b"cvals", Symbol::Cvals),
+        row(b"foldover", Symbol::Foldover),
         row(b"time", Symbol::Time),
         row(b"nocheck", Symbol::Nocheck),
         row(b"namelen", Symbol::Namelen),

@@ -12,6 +12,7 @@ pub mod code;
 mod effects;
 mod examine;
 mod factors;
+mod foldover;
 mod keyword;
 mod laws;
 mod model;

@@ -53,6 +53,7 @@ pub struct StepPast {
     pub size: bool,
     pub model: bool,
     pub blocks: bool,
+    pub foldover: bool,
 }
 
 /// With which word the statement begins, and which options it has.
@@ -82,6 +83,7 @@ impl Past {
                 size: false,
                 model: false,
                 blocks: false,
+                foldover: false,
             },
             statement: StatementPast {
                 proc: false,
@@ -153,6 +155,7 @@ impl StepPast {
             Symbol::Size => self.size,
             Symbol::Model => self.model,
             Symbol::Blocks => self.blocks,
+            Symbol::Foldover => self.foldover,
             _ => false,
         }
     }
@@ -166,6 +169,7 @@ impl StepPast {
             size: begun_after(start, s, Symbol::Size, self.size),
             model: begun_after(start, s, Symbol::Model, self.model),
             blocks: begun_after(start, s, Symbol::Blocks, self.blocks),
+            foldover: begun_after(start, s, Symbol::Foldover, self.foldover),
         }
     }
 }

@@ -9,6 +9,7 @@ use crate::code;
 use crate::effects::{EffectList, EffectPlace};
 use crate::examine::ExaminePlace;
 use crate::factors::FactorsPlace;
+use crate::foldover::FoldoverPlace;
 use crate::model::ModelPlace;
 use crate::output::OutputPlace;
 use crate::proc::ProcPlace;
@@ -35,6 +36,7 @@ pub enum State {
     Model(ModelPlace),
     Effects(EffectList, EffectPlace),
     Examine(ExaminePlace),
+    Foldover(FoldoverPlace),
     Output(OutputPlace),
     Values(ValuesPlace),
 }
@@ -56,6 +58,7 @@ impl State {
             State::Model(place) => place.next(symbol),
             State::Effects(list, place) => place.next(list, symbol),
             State::Examine(place) => place.next(symbol),
+            State::Foldover(place) => place.next(symbol),
             State::Output(place) => place.next(symbol),
             State::Values(place) => place.next(symbol),
         }
@@ -94,7 +97,8 @@ impl State {
             State::Output(place) => place.named_code(symbol),
             State::Values(place) => place.named_code(symbol),
             State::Closing | State::Ended | State::StatementEnd => None,
-            State::Factors(_) | State::Setting(_) | State::Effects(_, _) => None,
+            State::Factors(_) | State::Setting(_) | State::Effects(_, _) | State::Foldover(_) =>
+                None,
         }
     }
 
@@ -172,6 +176,7 @@ fn inside_step(symbol: Symbol) -> Option<State>
         Symbol::Blocks => Some(State::Setting(SettingPlace::BlocksWord)),
         Symbol::Examine => Some(State::Examine(ExaminePlace::Sections)),
         Symbol::Output => Some(State::Output(OutputPlace::Out)),
+        Symbol::Foldover => Some(State::Foldover(FoldoverPlace::Items)),
         Symbol::Quit => Some(State::Closing),
         Symbol::Proc => Some(State::Proc(ProcPlace::Procedure)),
         Symbol::End => Some(State::Ended),

@@ -40,6 +40,7 @@ pub enum Symbol {
     Blockname,
     Nvals,
     Cvals,
+    Foldover,
     Time,
     Nocheck,
     Namelen,
@@ -101,7 +102,7 @@ impl Symbol {
     {
         matches!(
             self,
-            Symbol::Factors | Symbol::Size | Symbol::Model | Symbol::Blocks
+            Symbol::Factors | Symbol::Size | Symbol::Model | Symbol::Blocks | Symbol::Foldover
         )
     }
 

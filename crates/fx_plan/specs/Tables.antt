@@ -8,6 +8,7 @@ use Rattle.csv.specs.declared.writer.Writer.{Writer}
 use Rattle.fx_runs.specs.Runs.{RunsView}
 use Rattle.fx_runs.specs.RunBlocks.{block_of, run_at}
 use Rattle.fx_outputs.specs.declared.output.OutputSpec.{OutputSpec}
+use Rattle.fx_outputs.specs.declared.shuffle.Shuffle.TheVariants.{Kept}
 use Rattle.fx_outputs.specs.Validity.{column_name}
 use Rattle.fx_plan.specs.Plans.{Arrangement, arranged, replicated, values_of}
 
@@ -61,3 +62,19 @@ arrangement_of runs output seed =
 -- the bytes of the plan of some runs for an output
 abbrev pub plan_of : List (List ℕ) → RunsView → OutputSpec → ℕ → List ℕ
 plan_of names runs output seed = text_of (records_of names runs output (arrangement_of runs output seed))
+
+-- what an OUTPUT statement without options asks for
+abbrev pub plain_output : OutputSpec
+plain_output = record {
+  name = [];
+  pointrep = 1;
+  designrep = 1;
+  shuffle = Kept;
+  recodes = [];
+  block_name = [];
+  block_values = [];
+}
+
+-- the plan of some runs with the names of the factors and the default values, each run once, in order
+abbrev pub plain_plan : List (List ℕ) → RunsView → List ℕ
+plain_plan names runs = plan_of names runs plain_output 0

@@ -49,7 +49,7 @@ pub(crate) fn plan_of(
     output: &OutputSpec,
     seed: u64,
 ) -> Result<Bytes, NoMemory>
-    requires few { length runs.now.rows ≤ 1024 }
+    requires few { length runs.now.rows ≤ 2048 }
     requires fits { runs.now.shape.q ^ runs.now.shape.t ≤ 1024 }
     requires recodes { All (λ r. length r.values ≡ runs.now.shape.q) output.now.recodes }
     requires blocks { output.now.block_values ≢ [] → length output.now.block_values

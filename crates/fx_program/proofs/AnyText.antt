@@ -27,6 +27,7 @@ use Rattle.fx_settings.specs.Valid.{are_valid}
 use Rattle.fx_settings.proofs.Valid.{valid}
 use Rattle.fx_effects.specs.Models.{lists_of}
 use Rattle.fx_statements.specs.Contexts.{context}
+use Rattle.fx_statements.specs.Folds.{fold_of}
 use Rattle.fx_statements.specs.Components.{check_components, components_place}
 use Rattle.fx_statements.specs.Goals.{Goal, AtLeast, Highest, effects_goal, effects_wanted, goal_by}
 use Rattle.fx_statements.specs.Steps.{Meaning, asked_by, examine_of, factors_by, head_of, factor_limit, some_factors}
@@ -143,13 +144,15 @@ module _ (Claimed : Meaning → Type 0) (claim : (step : Meaning) → IsValidSte
       bind_ok (named.names_of_factors (factor_limit given statements) given) (some_factors proc) factors.0 factors.1 in
       let asked =
       bind_ok (asked_by factors.0 (step_said (head_of statements) given statements) statements) _ step factors.2 in
-      let outputs = bind_ok (outputs_of (context factors.0 asked.0.0) earlier statements) _ step asked.2 in
+      let fold = bind_ok (fold_of factors.0 asked.0.0 statements) _ step asked.2 in
+      let outputs = bind_ok (outputs_of (context factors.0 asked.0.0) earlier statements) _ step fold.2 in
       let whole : Meaning =
       record {
         factors = factors.0;
         settings = asked.0.0;
         goal = asked.0.1;
         examine = examine_of statements;
+        fold = fold.0;
         outputs = outputs.0;
       } in
       let one = some_named proc found.0 factors.0 found.2 in

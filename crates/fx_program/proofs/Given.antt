@@ -11,6 +11,7 @@ use Rattle.fx_statements.specs.declared.step.Step.{Step}
 use Rattle.fx_statements.specs.Steps.{Meaning, meaning_of}
 use Rattle.fx_statements.specs.Outcomes.{ending_in, HasMatrix}
 use Rattle.fx_vectors.specs.Shape.{dimensions_of}
+use Rattle.fx_alias.specs.Folds.{fold_section}
 use Rattle.fx_alias.specs.Heads.{head_lines}
 use Rattle.fx_alias.specs.Rules.{rules_section}
 use Rattle.fx_alias.specs.Sections.{examined, sections, step_lines}
@@ -22,7 +23,7 @@ use Rattle.fx_answer.specs.Outcomes.{IsOutcome}
 use Rattle.fx_answer.proofs.StepSettings.{blocks_again}
 use Rattle.fx_program.specs.Statuses.{status_of}
 use Rattle.fx_plan.specs.Steps.{IsDesignOf}
-use Rattle.fx_program.specs.Files.{book_files, book_lines, matrix_in, output_lines, plan_files}
+use Rattle.fx_program.specs.Files.{book_files, book_lines, design_files, design_lines, matrix_in}
 use Rattle.fx_program.specs.Output.{Output, outcome_given, step_output, with_files}
 
 module _ (shape : Shape) where
@@ -32,15 +33,15 @@ module _ (shape : Shape) where
   -- a matrix has the sections of the ending's
   pub with_matrix : (step : Meaning) (books : List ℕ) (ending : Ending) (matrix : MatrixView)
       → HasMatrix shape ending (Some matrix)
-      → rules_section (dimensions_of matrix.shape) step.factors matrix.rows ++ (books ++ examined step matrix)
+      → rules_section (dimensions_of matrix.shape) step.factors matrix.rows ++ (books ++ (examined step matrix ++ fold_section step matrix))
       ≡ sections (dimensions_of shape) step books ending
   with_matrix step books (Design rows count) matrix h =
-      ap (λ (x : MatrixView). rules_section (dimensions_of x.shape) step.factors x.rows ++ (books ++ examined step x))
+      ap (λ (x : MatrixView). rules_section (dimensions_of x.shape) step.factors x.rows ++ (books ++ (examined step x ++ fold_section step x)))
       (same_Some matrix (with_rows rows) h.0)
   with_matrix step books (NoDesign count) matrix h = absurd (cc h)
   with_matrix step books (BudgetEnded None budget) matrix h = absurd (cc h)
   with_matrix step books (BudgetEnded (Some rows) budget) matrix h =
-      ap (λ (x : MatrixView). rules_section (dimensions_of x.shape) step.factors x.rows ++ (books ++ examined step x))
+      ap (λ (x : MatrixView). rules_section (dimensions_of x.shape) step.factors x.rows ++ (books ++ (examined step x ++ fold_section step x)))
       (same_Some matrix (with_rows rows) h.0)
 
   -- and is whole
@@ -88,9 +89,9 @@ matrix_is shape (BudgetEnded (Some rows) budget) matrix h = sym h.0
 -- what is given for a step is what its outcome gives
 pub is_given : (seed number : ℕ) (step : Meaning) (outcome : Outcome) → IsOutcome step outcome
     → step_output seed number step
-    ≡ with_files (book_files number outcome.books ++ plan_files seed step outcome.matrix)
+    ≡ with_files (book_files number outcome.books ++ design_files seed number step outcome.matrix)
     (step_lines number step (book_lines number outcome.books) (conclusion_in outcome)
-    ++ output_lines seed step outcome.matrix)
+    ++ design_lines seed number step outcome.matrix)
     (status_of (ending_in outcome))
 is_given seed number step outcome is =
     ap (outcome_given seed number step (books_of step)) (sym is.concluded)
@@ -98,9 +99,9 @@ is_given seed number step outcome is =
   where
     all : Option MatrixView → Output
     all matrix =
-        with_files (book_files number outcome.books ++ plan_files seed step matrix)
+        with_files (book_files number outcome.books ++ design_files seed number step matrix)
         (step_lines number step (book_lines number outcome.books) (conclusion_in outcome)
-        ++ output_lines seed step matrix)
+        ++ design_lines seed number step matrix)
         (status_of (ending_in outcome))
 
     by_matrix : all (matrix_in (dimensions_of outcome.shape) (ending_in outcome)) ≡ all outcome.matrix

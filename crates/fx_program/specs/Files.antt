@@ -11,10 +11,15 @@ use Rattle.fx_outputs.specs.declared.shuffle.Shuffle.TheVariants.{Kept, Default,
 use Rattle.fx_vectors.specs.Matrix.{MatrixView}
 use Rattle.fx_vectors.specs.declared.book.NamedBook.{NamedBook}
 use Rattle.fx_book.specs.Writing.{book_text}
-use Rattle.fx_runs.specs.Runs.{design_of}
+use Rattle.fx_designs.specs.Runs.{runs_of}
+use Rattle.fx_designs.specs.Vectors.{vectors_of}
+use Rattle.fx_runs.specs.Runs.{RunsView, design_of}
+use Rattle.fx_foldover.specs.Foldovers.{combined_plan}
+use Rattle.fx_statements.specs.declared.fold.Fold.{Fold}
+use Rattle.fx_statements.specs.declared.fold.Fold.TheVariants.{Without, Factors}
 use Rattle.fx_statements.specs.Steps.{Meaning}
 use Rattle.fx_alias.specs.Sections.{matrix_of}
-use Rattle.fx_plan.specs.Tables.{plan_of}
+use Rattle.fx_plan.specs.Tables.{plain_plan, plan_of}
 
 -- the name of the file of the book of a question, in the step of this number
 abbrev pub book_name : ℕ → ℕ → List ℕ
@@ -50,6 +55,36 @@ abbrev pub plan_files : ℕ → Meaning → Option MatrixView → List Event
 plan_files seed step None = []
 plan_files seed step (Some matrix) = map (plan_file seed step.factors matrix) step.outputs
 
+-- the name of the file of the fold-over of the step of this number
+abbrev pub fold_name : ℕ → List ℕ
+fold_name number = codes "step" ++ (decimal number ++ codes "-fold.csv")
+
+-- the runs of a design of two levels, and after them the same runs with the levels of the folded factors exchanged
+abbrev pub fold_runs : MatrixView → List ℕ → RunsView
+fold_runs matrix folded = record {
+  shape = matrix.shape;
+  rows = combined_plan folded (runs_of 2 matrix.shape.m (vectors_of 2 matrix.shape.m matrix.rows));
+}
+
+-- the file of the fold-over of a design, where the step asks for one; none without a matrix
+abbrev pub fold_file : ℕ → List (List ℕ) → Fold → Option MatrixView → List Event
+fold_file number factors Without matrix = []
+fold_file number factors (Factors folded) None = []
+fold_file number factors (Factors folded) (Some matrix) =
+    WholeFile (fold_name number) (plain_plan factors (fold_runs matrix folded)) ∷ []
+
+-- the line of that file
+abbrev pub fold_line : ℕ → Fold → Option MatrixView → List ℕ
+fold_line number Without matrix = []
+fold_line number (Factors folded) None = []
+fold_line number (Factors folded) (Some matrix) =
+    codes "output "
+    ++ (fold_name number ++ (codes " " ++ (decimal (2 * matrix.shape.q ^ matrix.shape.m) ++ codes " rows\n")))
+
+-- the files of the designs of a step: its plans, and then its fold-over
+abbrev pub design_files : ℕ → ℕ → Meaning → Option MatrixView → List Event
+design_files seed number step matrix = plan_files seed step matrix ++ fold_file number step.factors step.fold matrix
+
 -- the names of the files among events
 abbrev pub names_among : List Event → List (List ℕ)
 names_among [] = []
@@ -72,6 +107,10 @@ output_line seed runs output =
 abbrev pub output_lines : ℕ → Meaning → Option MatrixView → List ℕ
 output_lines seed step None = []
 output_lines seed step (Some matrix) = flat_map (output_line seed (matrix.shape.q ^ matrix.shape.m)) step.outputs
+
+-- the lines of the files of the designs of a step
+abbrev pub design_lines : ℕ → ℕ → Meaning → Option MatrixView → List ℕ
+design_lines seed number step matrix = output_lines seed step matrix ++ fold_line number step.fold matrix
 
 -- the rule matrix that comes with an ending in these dimensions
 abbrev pub matrix_in : Dimensions → Ending → Option MatrixView

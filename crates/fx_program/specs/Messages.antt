@@ -39,7 +39,8 @@ reasons =
     (29, codes "number is out of range") ∷
     (30, codes "range of names is not regular") ∷
     (31, codes "BLOCKNAME without BLOCKS") ∷
-    (32, codes "more than 100 steps") ∷ []
+    (32, codes "more than 100 steps") ∷
+    (36, codes "FOLDOVER needs two levels and no BLOCKS") ∷ []
 
 -- what the lexical rules say
 abbrev pub lexical_reasons : List (ℕ × List ℕ)

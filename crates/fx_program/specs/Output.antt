@@ -17,7 +17,7 @@ use Rattle.fx_answer.specs.Books.{books_of}
 use Rattle.fx_program.specs.Messages.{fault_line}
 use Rattle.fx_program.specs.Statuses.{status_of}
 use Rattle.fx_program.specs.Summaries.{summary_lines}
-use Rattle.fx_program.specs.Files.{book_files, book_lines, matrix_in, output_lines, plan_files}
+use Rattle.fx_program.specs.Files.{book_files, book_lines, design_files, design_lines, matrix_in}
 use Rattle.fx_program.specs.Verdicts.{book_fault_line, verdict_lines, verdict_status}
 use Rattle.fx_program.specs.declared.text.TextFault.{TextFault}
 
@@ -35,12 +35,12 @@ abbrev pub with_files : List Event → List ℕ → ℕ → Output
 with_files files bytes status = record { events = files ++ Piece bytes ∷ []; status = status }
 
 -- what is given for the step of this number with these books and this outcome, by the program's seed: the files of its
--- books and then of its plans, then its lines with those that name the files, and its status
+-- books, its plans and its fold-over, then its lines with those that name the files, and its status
 abbrev pub outcome_given : ℕ → ℕ → Meaning → List NamedBook → Conclusion → Output
 outcome_given seed number step books outcome =
     let matrix = matrix_in outcome.dimensions outcome.ending in
-    with_files (book_files number books ++ plan_files seed step matrix)
-    (step_lines number step (book_lines number books) outcome ++ output_lines seed step matrix)
+    with_files (book_files number books ++ design_files seed number step matrix)
+    (step_lines number step (book_lines number books) outcome ++ design_lines seed number step matrix)
     (status_of outcome.ending)
 
 -- what is given for a step, by its outcome and its books

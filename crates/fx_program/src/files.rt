@@ -2,9 +2,10 @@ ghost use Rattle.std.specs.Prelude.{◌≡◌, ◌≤◌, ◌++◌, false, lengt
 ghost use Rattle.fx_statements.specs.Steps.{meaning_of};
 ghost use Rattle.fx_answer.specs.Outcomes.{HasShape, IsOutcome};
 ghost use Rattle.fx_plan.specs.Steps.{IsDesignOf};
-ghost use Rattle.fx_program.specs.Files.{book_files, book_name, file_name, plan_files};
+ghost use Rattle.fx_program.specs.Files.{book_files, book_name, design_files, file_name, plan_files};
 ghost use Rattle.fx_program.specs.Outside.{ShelvesFiles, shelf_view};
 
+use crate::fold::shelve_fold;
 use crate::session::Session;
 use crate::stop::Stop;
 use crate::words::append;
@@ -24,7 +25,7 @@ const PLAN_NAME: usize = 36;
 const BOOK_NAME: usize = 64;
 
 /// Shelves the files of the step of this number with this outcome: its books in the order of their
-/// questions, then its plans in the order of its OUTPUT statements.
+/// questions, then its plans in the order of its OUTPUT statements, then its fold-over.
 pub(crate) fn shelve_files<R: Threads + Sync, F: Shelf>(
     session: &Session<'_, R>,
     number: usize,
@@ -35,11 +36,28 @@ pub(crate) fn shelve_files<R: Threads + Sync, F: Shelf>(
     requires outcome { IsOutcome (meaning_of step.now) outcome.now }
     requires ended { F.begun shelf.old ≡ false }
     ensures { ShelvesFiles (book_files number outcome.now.books
-        ++ plan_files session.now.seed (meaning_of step.now) outcome.now.matrix)
+        ++ design_files session.now.seed number (meaning_of step.now) outcome.now.matrix)
         (shelf_view F.Shelf shelf.old) (shelf_view F.Shelf shelf.new) result }
 {
     shelve_books(session, number, &outcome.books, shelf)?;
-    shelve_plans(session, step, outcome, shelf)
+    shelve_designs(session, number, step, outcome, shelf)
+}
+
+/// Shelves the plans of the step of this number with this outcome, and then its fold-over.
+fn shelve_designs<R, F: Shelf>(
+    session: &Session<'_, R>,
+    number: usize,
+    step: &Step,
+    outcome: &Outcome,
+    shelf: &mut F,
+) -> Result<(), Stop>
+    requires outcome { IsOutcome (meaning_of step.now) outcome.now }
+    requires ended { F.begun shelf.old ≡ false }
+    ensures { ShelvesFiles (design_files session.now.seed number (meaning_of step.now) outcome.now.matrix)
+        (shelf_view F.Shelf shelf.old) (shelf_view F.Shelf shelf.new) result }
+{
+    shelve_plans(session, step, outcome, shelf)?;
+    shelve_fold(session, number, step, outcome, shelf)
 }
 
 /// Shelves the books of the step of this number.

@@ -3,6 +3,7 @@
 
 mod checking;
 mod files;
+mod fold;
 mod judging;
 mod listing;
 mod making;

@@ -100,7 +100,7 @@ fn lexical_reasons() -> [Reason; 5]
 }
 
 /// What the rules with the letter E say.
-fn reasons() -> [Reason; 32]
+fn reasons() -> [Reason; 33]
     ensures { map reason_row result ≡ reasons }
 {
     [
@@ -160,5 +160,9 @@ fn reasons() -> [Reason; 32]
         row(code::IRREGULAR_RANGE, b"range of names is not regular"),
         row(code::BLOCKNAME_WITHOUT_BLOCKS, b"BLOCKNAME without BLOCKS"),
         row(code::TOO_MANY_STEPS, b"more than 100 steps"),
+        row(
+            code::FOLDOVER_NEEDS_TWO_LEVELS,
+            b"FOLDOVER needs two levels and no BLOCKS",
+        ),
     ]
 }

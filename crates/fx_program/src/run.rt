@@ -26,6 +26,7 @@ ghost use Rattle.fx_program.specs.Outside.{
 
 use crate::checking::check_text;
 use crate::files::shelve_files;
+use crate::fold::put_fold_line;
 use crate::judging::judge_text;
 use crate::listing::list;
 use crate::making::make_text;
@@ -38,7 +39,7 @@ use crate::summary::{put_summary, summary_of};
 use crate::text::{TextFault, TextStop, at_front, read_program};
 use crate::upgrading::upgrade_text;
 use crate::words::{Settings, WordFault, read_words, word_line};
-use fx_alias::{examine_listing, head_listing, rules_listing};
+use fx_alias::{examine_listing, fold_listing, head_listing, rules_listing};
 use fx_answer::answer;
 use fx_base::{Bytes, NoMemory, Shelf, Sink, Source, Taken, read_all};
 use fx_board::FreeGate;
@@ -214,7 +215,8 @@ fn run_steps<R: Threads + Sync, K: Sink, F: Shelf>(
     Ok(status)
 }
 
-/// Runs the step of this number: shelves its books and its plans, and then lists its outcome.
+/// Runs the step of this number: shelves its books, its plans and its fold-over, and then lists its
+/// outcome.
 fn run_step<R: Threads + Sync, K: Sink, F: Shelf>(
     session: &Session<'_, R>,
     number: usize,
@@ -231,10 +233,11 @@ fn run_step<R: Threads + Sync, K: Sink, F: Shelf>(
     shelve_files(session, number, step, &outcome, shelf)?;
     let mut lines = lines_of(session.alloc, number, step, &outcome)?;
     put_output_lines(&mut lines, step, &outcome, session.seed)?;
+    put_fold_line(&mut lines, number, step, &outcome)?;
     list(listing, lines.as_slice(), status_of(outcome.end))
 }
 
-/// The lines of the step of this number, by its outcome, but for those of its plans.
+/// The lines of the step of this number, by its outcome, but for those that name its plans.
 fn lines_of(alloc: Global, number: usize, step: &Step, outcome: &Outcome) -> Result<Bytes, NoMemory>
     requires { IsOutcome (meaning_of step.now) outcome.now }
     ensures { IfOk result (λ lines.
@@ -249,6 +252,7 @@ fn lines_of(alloc: Global, number: usize, step: &Step, outcome: &Outcome) -> Res
             rules_listing(alloc, step, matrix, &mut lines)?;
             put_book_lines(&mut lines, number, &outcome.books)?;
             examine_listing(alloc, step, matrix, &mut lines)?;
+            fold_listing(alloc, step, matrix, &mut lines)?;
             Ok(lines)
         }
         None => {

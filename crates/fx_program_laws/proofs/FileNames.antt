@@ -11,8 +11,8 @@ use Rattle.fx_base.proofs.Lists.{each-weaker, each-append, each-append_parts}
 use Rattle.fx_base.specs.Members.{Has}
 use Rattle.fx_base.proofs.Members.{has-left, has-right, has-each}
 use Rattle.fx_designs.specs.Problems.{Problem}
-use Rattle.fx_text.specs.Names.{is_same_name}
-use Rattle.fx_text.proofs.Distinct.{joined_differ, none_differ, behind_differ}
+use Rattle.fx_text.specs.Names.{IsName, is_same_name}
+use Rattle.fx_text.proofs.Distinct.{joined_differ, none_differ, one_differs, behind_differ}
 use Rattle.fx_vectors.proofs.Limits.{order-bounds}
 use Rattle.fx_vectors.specs.Matrix.{MatrixView}
 use Rattle.fx_vectors.specs.declared.book.NamedBook.{NamedBook}
@@ -24,7 +24,10 @@ use Rattle.fx_statements.specs.Steps.{Meaning}
 use Rattle.fx_statements.specs.Questions.{outcome_of, questions_of}
 use Rattle.fx_book.specs.QuestionBooks.{book_for, has_book}
 use Rattle.fx_answer.specs.Books.{books_from, books_of, finished}
-use Rattle.fx_program.specs.Files.{book_files, book_name, file_name, matrix_in, names_among, plan_file, plan_files}
+use Rattle.fx_statements.specs.declared.fold.Fold.{Fold}
+use Rattle.fx_statements.specs.declared.fold.Fold.TheVariants.{Without, Factors}
+use Rattle.fx_program.specs.Files.{book_files, book_name, design_files, file_name, fold_file, fold_name, matrix_in}
+use Rattle.fx_program.specs.Files.{names_among, plan_file, plan_files}
 use Rattle.fx_program.specs.Output.{program_output, step_output, steps_output, worse}
 use Rattle.fx_program.specs.Texts.{program_in}
 use Rattle.fx_program.specs.declared.text.TextFault.{TextFault}
@@ -33,6 +36,7 @@ use Rattle.fx_answer.specs.ValidSteps.{IsValidStep}
 use Rattle.fx_answer.proofs.Valid.{order_of}
 use Rattle.fx_program.proofs.AnyText.{any_text}
 use Rattle.fx_program_laws.proofs.NameSpellings.{books_differ, plans_differ, book_and_plan_differ, differ_from}
+use Rattle.fx_program_laws.proofs.NameSpellings.{book_and_fold_differ, fold_and_plan_differ, folds_differ}
 use Rattle.fx_program_laws.proofs.NameSpellings.{same_from}
 use Rattle.fx_program_laws.proofs.StepCounts.{AreSteps, out_names_of, questions_few, steps_of_text}
 
@@ -138,20 +142,41 @@ plans_apart (x ∷ names) h = (plans_against x names h.0, plans_apart names h.1)
 
 -- the name of the plan of one of these OUT names
 abbrev IsPlanOf : List Name → Name → Type 0
-IsPlanOf outs name = (out : Name) × Has out outs × (name ≡ file_name out)
+IsPlanOf outs name = (out : Name) × Has out outs × IsName out × (name ≡ file_name out)
 
-each-plan : (outs : List Name) → AllByRecursion (IsPlanOf outs) (map file_name outs)
-each-plan [] = tt
-each-plan (x ∷ outs) = (
-  (x, inl refl, refl),
+each-plan : (outs : List Name) → AllByRecursion IsName outs → AllByRecursion (IsPlanOf outs) (map file_name outs)
+each-plan [] spelled = tt
+each-plan (x ∷ outs) spelled = (
+  (x, inl refl, spelled.0, refl),
   each-weaker (IsPlanOf outs) (IsPlanOf (x ∷ outs)) (map file_name outs)
-      (λ name is. (is.0, inr is.1, is.2)) (each-plan outs),
+      (λ name is. (is.0, inr is.1, is.2, is.3)) (each-plan outs spelled.1),
 )
 
-plans_given : (step : Meaning) (matrix : Option MatrixView)
+plans_given : (step : Meaning) (matrix : Option MatrixView) → AllByRecursion IsName (names_of step.outputs)
     → AllByRecursion (IsPlanOf (names_of step.outputs)) (plan_names step matrix)
-plans_given step None = tt
-plans_given step (Some matrix) = each-plan (names_of step.outputs)
+plans_given step None spelled = tt
+plans_given step (Some matrix) spelled = each-plan (names_of step.outputs) spelled
+
+-- the name of the fold-over, if there is one
+abbrev fold_names : ℕ → Fold → Option MatrixView → List Name
+fold_names number Without matrix = []
+fold_names number (Factors folded) None = []
+fold_names number (Factors folded) (Some matrix) = fold_name number ∷ []
+
+abbrev IsFoldOf : ℕ → Name → Type 0
+IsFoldOf number name = name ≡ fold_name number
+
+folds_given : (number : ℕ) (fold : Fold) (matrix : Option MatrixView)
+    → AllByRecursion (IsFoldOf number) (fold_names number fold matrix)
+folds_given number Without matrix = tt
+folds_given number (Factors folded) None = tt
+folds_given number (Factors folded) (Some matrix) = (refl, tt)
+
+folds_apart : (number : ℕ) (fold : Fold) (matrix : Option MatrixView)
+    → IsDistinct is_same_name (fold_names number fold matrix)
+folds_apart number Without matrix = none_differ
+folds_apart number (Factors folded) None = none_differ
+folds_apart number (Factors folded) (Some matrix) = one_differs (fold_name number)
 
 given_apart : (step : Meaning) (matrix : Option MatrixView) → IsDistinct is_same_name (names_of step.outputs)
     → IsDistinct is_same_name (plan_names step matrix)
@@ -176,10 +201,13 @@ across (x ∷ xs) ys a b h (inr left) right = across xs ys a b h.1 left right
 
 -- ---- the names of all steps
 
+abbrev design_names : ℕ → Meaning → Option MatrixView → List Name
+design_names number step matrix = plan_names step matrix ++ fold_names number step.fold matrix
+
 abbrev step_names : ℕ → Meaning → List Name
 step_names number step =
     book_names number (books_of step)
-    ++ plan_names step (matrix_in (outcome_of step).dimensions (outcome_of step).ending)
+    ++ design_names number step (matrix_in (outcome_of step).dimensions (outcome_of step).ending)
 
 abbrev all_names : ℕ → List Meaning → List Name
 all_names number [] = []
@@ -205,14 +233,26 @@ among-plans : (seed : ℕ) (step : Meaning) (matrix : Option MatrixView)
 among-plans seed step None = refl
 among-plans seed step (Some matrix) = among-outputs seed step.factors matrix step.outputs
 
+among-fold : (number : ℕ) (factors : List (List ℕ)) (fold : Fold) (matrix : Option MatrixView)
+    → names_among (fold_file number factors fold matrix) ≡ fold_names number fold matrix
+among-fold number factors Without matrix = refl
+among-fold number factors (Factors folded) None = refl
+among-fold number factors (Factors folded) (Some matrix) = refl
+
+among-designs : (seed number : ℕ) (step : Meaning) (matrix : Option MatrixView)
+    → names_among (design_files seed number step matrix) ≡ design_names number step matrix
+among-designs seed number step matrix =
+    among-append (plan_files seed step matrix) (fold_file number step.factors step.fold matrix)
+    ∙ ap₂ (λ (l r : List Name). l ++ r) (among-plans seed step matrix) (among-fold number step.factors step.fold matrix)
+
 among-step : (seed number : ℕ) (step : Meaning)
     → names_among (step_output seed number step).events ≡ step_names number step
 among-step seed number step =
     let matrix : Option MatrixView = matrix_in (outcome_of step).dimensions (outcome_of step).ending in
-    let files : List Event = book_files number (books_of step) ++ plan_files seed step matrix in
+    let files : List Event = book_files number (books_of step) ++ design_files seed number step matrix in
     among-append files (Piece _ ∷ []) ∙ append-nil (names_among files) ∙ among-append
-    (book_files number (books_of step)) (plan_files seed step matrix)
-    ∙ ap₂ (λ (l r : List Name). l ++ r) (among-books number (books_of step)) (among-plans seed step matrix)
+    (book_files number (books_of step)) (design_files seed number step matrix)
+    ∙ ap₂ (λ (l r : List Name). l ++ r) (among-books number (books_of step)) (among-designs seed number step matrix)
 
 among-steps : (seed number : ℕ) (events : List Event) (status : ℕ) (steps : List Meaning)
     → names_among (steps_output seed number events status steps).events ≡ names_among events ++ all_names number steps
@@ -224,9 +264,47 @@ among-steps seed number events status (step ∷ steps) =
     (among-append events here ∙ ap (λ (l : List Name). names_among events ++ l) (among-step seed number step))
     ∙ append_assoc (names_among events) (step_names number step) (all_names (number + 1) steps)
 
+-- the name of a file of the step of this number that no OUT name makes: of a book, or of the fold-over
+abbrev IsNumbered : ℕ → Name → Type 0
+IsNumbered k name = IsBookOf k 0 name ⊎ IsFoldOf k name
+
+-- a name of this step
+abbrev IsOwn : ℕ → List Name → Name → Type 0
+IsOwn number outs name = IsNumbered number name ⊎ IsPlanOf outs name
+
 -- a name of a step from this number on
 abbrev IsNameOf : ℕ → List Name → Name → Type 0
-IsNameOf number outs name = ((k : ℕ) × (number ≤ k) × IsSmall k × IsBookOf k 0 name) ⊎ IsPlanOf outs name
+IsNameOf number outs name = ((k : ℕ) × (number ≤ k) × IsSmall k × IsNumbered k name) ⊎ IsPlanOf outs name
+
+-- files of different steps that no OUT name makes
+numbered_differ : (k j : ℕ) (name other : Name) → IsSmall k → IsSmall j → (k ≡ j → ⊥) → IsNumbered k name
+    → IsNumbered j other → is_same_name name other ≡ false
+numbered_differ k j name other hk hj apart (inl b) (inl c) =
+    subst (λ (x : Name). is_same_name x other ≡ false) (sym b.3)
+    (subst (λ (x : Name). is_same_name (book_name k b.0) x ≡ false) (sym c.3)
+    (books_differ k b.0 j c.0 hk b.2 hj c.2 (λ same. apart same.0)))
+numbered_differ k j name other hk hj apart (inl b) (inr e) =
+    subst (λ (x : Name). is_same_name x other ≡ false) (sym b.3)
+    (subst (λ (x : Name). is_same_name (book_name k b.0) x ≡ false) (sym e) (book_and_fold_differ k b.0 j hk b.2 hj))
+numbered_differ k j name other hk hj apart (inr e) (inl c) =
+    turned other name
+    (subst (λ (x : Name). is_same_name x name ≡ false) (sym c.3)
+    (subst (λ (x : Name). is_same_name (book_name j c.0) x ≡ false) (sym e) (book_and_fold_differ j c.0 k hj c.2 hk)))
+numbered_differ k j name other hk hj apart (inr e) (inr f) =
+    subst (λ (x : Name). is_same_name x other ≡ false) (sym e)
+    (subst (λ (x : Name). is_same_name (fold_name k) x ≡ false) (sym f) (folds_differ k j hk hj apart))
+
+-- such a file and a plan
+numbered_and_plan : (k : ℕ) (outs : List Name) (name other : Name) → IsSmall k → IsNumbered k name → IsPlanOf outs other
+    → is_same_name name other ≡ false
+numbered_and_plan k outs name other hk (inl b) plan =
+    subst (λ (x : Name). is_same_name x other ≡ false) (sym b.3)
+    (subst (λ (x : Name). is_same_name (book_name k b.0) x ≡ false) (sym plan.3)
+    (book_and_plan_differ k b.0 plan.0 hk b.2))
+numbered_and_plan k outs name other hk (inr e) plan =
+    subst (λ (x : Name). is_same_name x other ≡ false) (sym e)
+    (subst (λ (x : Name). is_same_name (fold_name k) x ≡ false) (sym plan.3)
+    (fold_and_plan_differ k plan.0 hk plan.2))
 
 -- a step has few questions
 abbrev HasFew : Meaning → Type 0
@@ -236,7 +314,8 @@ record AreTold (number : ℕ) (steps : List Meaning) : Type 0 where
   pub differ : IsDistinct is_same_name (all_names number steps)
   pub each : AllByRecursion (IsNameOf number (out_names_of steps)) (all_names number steps)
 
-module _ (number : ℕ) (step : Meaning) (small : IsSmall number) (few : HasFew step) where
+module _ (number : ℕ) (step : Meaning) (small : IsSmall number) (few : HasFew step)
+    (spelled : AllByRecursion IsName (names_of step.outputs)) where
   rise : AreRising 1 (books_of step)
   rise = books_rise 1 (finished (questions_of step) step.settings.budget) (omega (arith, few, wide))
     where
@@ -246,86 +325,111 @@ module _ (number : ℕ) (step : Meaning) (small : IsSmall number) (few : HasFew 
   abbrev matrix_of_step : Option MatrixView
   matrix_of_step = matrix_in (outcome_of step).dimensions (outcome_of step).ending
 
-  step_apart : IsDistinct is_same_name (names_of step.outputs) → IsDistinct is_same_name (step_names number step)
-  step_apart names =
-      joined_differ (book_names number (books_of step)) (plan_names step matrix_of_step)
-      (books_apart number 1 (books_of step) small rise) (given_apart step matrix_of_step names)
-      (cross (IsBookOf number 1) (IsPlanOf (names_of step.outputs)) (book_names number (books_of step))
-      (plan_names step matrix_of_step) (each-book number 1 (books_of step) rise) (plans_given step matrix_of_step)
-      (λ name other plan book.
+  abbrev books : List Name
+  books = book_names number (books_of step)
+
+  abbrev plans : List Name
+  plans = plan_names step matrix_of_step
+
+  abbrev folds : List Name
+  folds = fold_names number step.fold matrix_of_step
+
+  designs_each : AllByRecursion (λ name. IsPlanOf (names_of step.outputs) name ⊎ IsFoldOf number name) (plans ++ folds)
+  designs_each =
+      each-append (λ name. IsPlanOf (names_of step.outputs) name ⊎ IsFoldOf number name) plans folds
+      (each-weaker (IsPlanOf (names_of step.outputs)) (λ name. IsPlanOf (names_of step.outputs) name ⊎ IsFoldOf number name)
+      plans (λ name is. inl is) (plans_given step matrix_of_step spelled))
+      (each-weaker (IsFoldOf number) (λ name. IsPlanOf (names_of step.outputs) name ⊎ IsFoldOf number name)
+      folds (λ name is. inr is) (folds_given number step.fold matrix_of_step))
+
+  designs_apart : IsDistinct is_same_name (names_of step.outputs) → IsDistinct is_same_name (plans ++ folds)
+  designs_apart names =
+      joined_differ plans folds (given_apart step matrix_of_step names) (folds_apart number step.fold matrix_of_step)
+      (cross (IsPlanOf (names_of step.outputs)) (IsFoldOf number) plans folds
+      (plans_given step matrix_of_step spelled) (folds_given number step.fold matrix_of_step)
+      (λ name other fold plan. numbered_and_plan number (names_of step.outputs) name other small (inr fold) plan))
+
+  book_and_design : (name other : Name) → (IsPlanOf (names_of step.outputs) name ⊎ IsFoldOf number name)
+      → IsBookOf number 1 other → is_same_name name other ≡ false
+  book_and_design name other (inl plan) book =
+      turned other name
+      (numbered_and_plan number (names_of step.outputs) other name small (inl (book.0, omega arith, book.2, book.3)) plan)
+  book_and_design name other (inr e) book =
       turned other name
       (subst (λ (x : Name). is_same_name x name ≡ false) (sym book.3)
-      (subst (λ (x : Name). is_same_name (book_name number book.0) x ≡ false) (sym plan.2)
-      (book_and_plan_differ number book.0 plan.0 small book.2)))))
+      (subst (λ (x : Name). is_same_name (book_name number book.0) x ≡ false) (sym e)
+      (book_and_fold_differ number book.0 number small book.2 small)))
+
+  step_apart : IsDistinct is_same_name (names_of step.outputs) → IsDistinct is_same_name (step_names number step)
+  step_apart names =
+      joined_differ books (plans ++ folds) (books_apart number 1 (books_of step) small rise) (designs_apart names)
+      (cross (IsBookOf number 1) (λ name. IsPlanOf (names_of step.outputs) name ⊎ IsFoldOf number name)
+      books (plans ++ folds) (each-book number 1 (books_of step) rise) designs_each
+      (λ name other design book. book_and_design name other design book))
+
+  own_each : AllByRecursion (IsOwn number (names_of step.outputs)) (step_names number step)
+  own_each =
+      each-append (IsOwn number (names_of step.outputs)) books (plans ++ folds)
+      (each-weaker (IsBookOf number 1) (IsOwn number (names_of step.outputs)) books
+      (λ name is. inl (inl (is.0, omega arith, is.2, is.3))) (each-book number 1 (books_of step) rise))
+      (each-weaker (λ name. IsPlanOf (names_of step.outputs) name ⊎ IsFoldOf number name)
+      (IsOwn number (names_of step.outputs)) (plans ++ folds) (λ name is. design_own name is) designs_each)
+    where
+      design_own : (name : Name) → (IsPlanOf (names_of step.outputs) name ⊎ IsFoldOf number name)
+          → IsOwn number (names_of step.outputs) name
+      design_own name (inl plan) = inr plan
+      design_own name (inr e) = inl (inr e)
 
   -- its names, as those of steps from this one on
   step_each : (outs : List Name)
       → AllByRecursion (IsNameOf number (names_of step.outputs ++ outs)) (step_names number step)
   step_each outs =
-      each-append (IsNameOf number (names_of step.outputs ++ outs)) (book_names number (books_of step))
-      (plan_names step matrix_of_step)
-      (each-weaker (IsBookOf number 1) (IsNameOf number (names_of step.outputs ++ outs))
-      (book_names number (books_of step))
-      (λ name is. inl (number, omega arith, small, (is.0, omega arith, is.2, is.3)))
-      (each-book number 1 (books_of step) rise))
-      (each-weaker (IsPlanOf (names_of step.outputs)) (IsNameOf number (names_of step.outputs ++ outs))
-      (plan_names step matrix_of_step) (λ name is. inr (is.0, has-left is.0 (names_of step.outputs) outs is.1, is.2))
-      (plans_given step matrix_of_step))
+      each-weaker (IsOwn number (names_of step.outputs)) (IsNameOf number (names_of step.outputs ++ outs))
+      (step_names number step) (λ name is. own_wider name is) own_each
+    where
+      own_wider : (name : Name) → IsOwn number (names_of step.outputs) name
+          → IsNameOf number (names_of step.outputs ++ outs) name
+      own_wider name (inl is) = inl (number, omega arith, small, is)
+      own_wider name (inr is) = inr (is.0, has-left is.0 (names_of step.outputs) outs is.1, is.2, is.3)
 
   -- a name of it, and one of a later step
   later_differs : (outs : List Name) → IsDistinct is_same_name (names_of step.outputs ++ outs) → (name other : Name)
-      → IsNameOf (number + 1) outs name → (IsBookOf number 1 other ⊎ IsPlanOf (names_of step.outputs) other)
+      → IsNameOf (number + 1) outs name → IsOwn number (names_of step.outputs) other
       → is_same_name name other ≡ false
-  later_differs outs names name other (inl later) (inl book) =
-      let b = later.3 in
-      subst (λ (x : Name). is_same_name x other ≡ false) (sym b.3)
-      (subst (λ (x : Name). is_same_name (book_name later.0 b.0) x ≡ false) (sym book.3)
-      (books_differ later.0 b.0 number book.0 later.2 b.2 small book.2
-      (λ same. let up = later.1 in let here = same.0 in omega arith)))
+  later_differs outs names name other (inl later) (inl mine) =
+      numbered_differ later.0 number name other later.2 small
+      (λ same. let up = later.1 in omega (arith, up, same)) later.3 mine
   later_differs outs names name other (inl later) (inr plan) =
-      let b = later.3 in
-      subst (λ (x : Name). is_same_name x other ≡ false) (sym b.3)
-      (subst (λ (x : Name). is_same_name (book_name later.0 b.0) x ≡ false) (sym plan.2)
-      (book_and_plan_differ later.0 b.0 plan.0 later.2 b.2))
-  later_differs outs names name other (inr plan) (inl book) =
-      turned other name
-      (subst (λ (x : Name). is_same_name x name ≡ false) (sym book.3)
-      (subst (λ (x : Name). is_same_name (book_name number book.0) x ≡ false) (sym plan.2)
-      (book_and_plan_differ number book.0 plan.0 small book.2)))
+      numbered_and_plan later.0 (names_of step.outputs) name other later.2 later.3 plan
+  later_differs outs names name other (inr plan) (inl mine) =
+      turned other name (numbered_and_plan number outs other name small mine plan)
   later_differs outs names name other (inr plan) (inr mine) =
-      subst (λ (x : Name). is_same_name x other ≡ false) (sym plan.2)
-      (subst (λ (x : Name). is_same_name (file_name plan.0) x ≡ false) (sym mine.2)
+      subst (λ (x : Name). is_same_name x other ≡ false) (sym plan.3)
+      (subst (λ (x : Name). is_same_name (file_name plan.0) x ≡ false) (sym mine.3)
       (plans_differ plan.0 mine.0
       (turned mine.0 plan.0 (across (names_of step.outputs) outs mine.0 plan.0 names mine.1 plan.1))))
 
 all_told : (number : ℕ) (steps : List Meaning) → number + length steps < 10 ^ 64 → AllByRecursion HasFew steps
-    → IsDistinct is_same_name (out_names_of steps) → AreTold number steps
-all_told number [] small few names = record { differ = none_differ; each = tt }
-all_told number (step ∷ steps) small few names =
+    → IsDistinct is_same_name (out_names_of steps) → AllByRecursion IsName (out_names_of steps)
+    → AreTold number steps
+all_told number [] small few names spelled = record { differ = none_differ; each = tt }
+all_told number (step ∷ steps) small few names spelled =
     let outs : List Name = out_names_of steps in
     let own : IsDistinct is_same_name (names_of step.outputs) = front_differ (names_of step.outputs) outs names in
+    let both = each-append_parts IsName (names_of step.outputs) outs spelled in
     let later =
-    all_told (number + 1) steps (omega (arith, small)) few.1 (behind_differ (names_of step.outputs) outs names) in
+    all_told (number + 1) steps (omega (arith, small)) few.1 (behind_differ (names_of step.outputs) outs names) both.1
+    in
     let number_small : IsSmall number = omega (arith, small) in
-    let matrix : Option MatrixView = matrix_in (outcome_of step).dimensions (outcome_of step).ending in
-    let mine : AllByRecursion (λ other. IsBookOf number 1 other ⊎ IsPlanOf (names_of step.outputs) other)
-    (step_names number step) =
-    each-append (λ other. IsBookOf number 1 other ⊎ IsPlanOf (names_of step.outputs) other)
-    (book_names number (books_of step)) (plan_names step matrix)
-    (each-weaker (IsBookOf number 1) (λ other. IsBookOf number 1 other ⊎ IsPlanOf (names_of step.outputs) other)
-    (book_names number (books_of step)) (λ name is. inl is)
-    (each-book number 1 (books_of step) (rise number step number_small few.0)))
-    (each-weaker (IsPlanOf (names_of step.outputs))
-    (λ other. IsBookOf number 1 other ⊎ IsPlanOf (names_of step.outputs) other) (plan_names step matrix)
-    (λ name is. inr is) (plans_given step matrix)) in
     record {
       differ = joined_differ (step_names number step) (all_names (number + 1) steps)
-          (step_apart number step number_small few.0 own) later.differ
-          (cross (λ other. IsBookOf number 1 other ⊎ IsPlanOf (names_of step.outputs) other)
-          (IsNameOf (number + 1) outs) (step_names number step) (all_names (number + 1) steps) mine later.each
-          (λ name other is was. later_differs number step number_small few.0 outs names name other is was));
+          (step_apart number step number_small few.0 both.0 own) later.differ
+          (cross (IsOwn number (names_of step.outputs)) (IsNameOf (number + 1) outs)
+          (step_names number step) (all_names (number + 1) steps)
+          (own_each number step number_small few.0 both.0) later.each
+          (λ name other is was. later_differs number step number_small few.0 both.0 outs names name other is was));
       each = each-append (IsNameOf number (names_of step.outputs ++ outs)) (step_names number step)
-          (all_names (number + 1) steps) (step_each number step number_small few.0 outs)
+          (all_names (number + 1) steps) (step_each number step number_small few.0 both.0 outs)
           (each-weaker (IsNameOf (number + 1) outs) (IsNameOf number (names_of step.outputs ++ outs))
           (all_names (number + 1) steps) (wider number (names_of step.outputs) outs) later.each);
     }
@@ -333,7 +437,7 @@ all_told number (step ∷ steps) small few names =
     wider : (number : ℕ) (own outs : List Name) (name : Name) → IsNameOf (number + 1) outs name
         → IsNameOf number (own ++ outs) name
     wider number own outs name (inl is) = inl (is.0, omega (arith, is.1), is.2, is.3)
-    wider number own outs name (inr is) = inr (is.0, has-right is.0 own outs is.1, is.2)
+    wider number own outs name (inr is) = inr (is.0, has-right is.0 own outs is.1, is.2, is.3)
 
 -- ---- of any text
 
@@ -361,7 +465,7 @@ program_differs seed (Ok steps) valid are =
     let s = are steps refl in
     let told =
     all_told 1 steps (omega (arith, s.many)) (few_each steps (recursion_from_All IsValidStep steps valid) s.few)
-    s.names in
+    s.names s.spelled in
     subst (IsDistinct is_same_name) (sym (among-steps seed 1 [] 0 steps)) told.differ
 program_differs seed (Err fault) valid are = none_differ
 

@@ -1,16 +1,21 @@
 -- Names of files: when two of them are the same, without regard to case.
-use Rattle.std.proofs.Common.{ℕ, ◌≡◌, ◌<◌, ◌≤◌, ◌^◌, ◌∙◌, true, false, List, [], ◌∷◌, ◌++◌, map, refl, sym, ap, arith}
-use Rattle.std.specs.Prelude.{codes, decimal}
+use Rattle.std.proofs.Common.{ℕ, ◌≡◌, ◌<◌, ◌≤◌, ◌^◌, ◌∙◌, Bool, true, false, ◌||◌, List, [], ◌∷◌, ◌++◌, map, refl, sym, ap}
+use Rattle.std.proofs.Common.{inl, inr, arith}
+use Rattle.std.specs.Prelude.{◌==◌, codes, decimal}
+use Rattle.std.specs.List.{list_all, list_any}
 use Rattle.std.specs.Char.{to_ascii_lowercase}
 use Rattle.std.specs.Str.Parse.{AllDigits, digits_value}
-use Rattle.std.proofs.lemmas.Bool.{both_ways, false_from_ne_true, lt-ltb}
+use Rattle.std.proofs.Math.Bool.{or-true}
+use Rattle.std.proofs.lemmas.Bool.{and_parts, both_ways, eqb-true, false_from_ne_true, leb_tells, lt-ltb}
 use Rattle.std.proofs.lemmas.Fmt.{decimal_is_IsNumeral_wide}
 use Rattle.std.proofs.lemmas.List.{append_cancel_right, map-append}
+use Rattle.std.proofs.lemmas.List.Folds.{list_any-append}
 use Rattle.std.proofs.lemmas.Slice.Eq.{bytes_eq-Decides}
 use Rattle.std.proofs.lemmas.Str.Parse.{digit_from_value}
-use Rattle.std.proofs.lemmas.Str.Ascii.{lowercase-lowercase}
-use Rattle.fx_text.specs.Names.{is_same_name}
-use Rattle.fx_program.specs.Files.{book_name, file_name}
+use Rattle.std.proofs.lemmas.Str.Ascii.{lowercase-lowercase, lowercase_is}
+use Rattle.fx_lexer.specs.Bytes.{is_word_byte}
+use Rattle.fx_text.specs.Names.{IsName, is_same_name}
+use Rattle.fx_program.specs.Files.{book_name, file_name, fold_name}
 
 abbrev lower : List ℕ → List ℕ
 lower bytes = map to_ascii_lowercase bytes
@@ -132,3 +137,86 @@ book_and_plan_differ k q name hk hq =
     (codes "csv") in
     let same : 107 ≡ 118 = sym book ∙ ap last e ∙ plan in
     omega arith)
+
+-- a hyphen, which is in the name of each fold-over, and in no OUT name
+
+abbrev has_hyphen : List ℕ → Bool
+has_hyphen bytes = list_any (λ b. b == 45) bytes
+
+-- a hyphen has no case, and is no byte of a word
+hyphen_only : (b : ℕ) → to_ascii_lowercase b ≡ 45 → b ≡ 45
+hyphen_only b low = elim (leb_tells 65 b) [
+  | inl from ↦ elim (leb_tells b 90) [
+    | inl upto ↦ let letter = (lowercase_is b).0 (from.1, upto.1) in absurd (omega (arith, letter, low, from.1))
+    | inr past ↦ sym ((lowercase_is b).2 past.1) ∙ low
+  ]
+  | inr before ↦ sym ((lowercase_is b).1 before.1) ∙ low
+]
+
+no_word_byte : (b : ℕ) → is_word_byte b ≡ true → to_ascii_lowercase b ≡ 45 → ⊥
+no_word_byte b h low = let none : false ≡ true = ap is_word_byte (sym (hyphen_only b low)) ∙ h in cc none
+
+hyphen_behind : (xs ys : List ℕ) → has_hyphen (xs ++ 45 ∷ ys) ≡ true
+hyphen_behind [] ys = refl
+hyphen_behind (x ∷ xs) ys = ap (λ b. (x == 45) || b) (hyphen_behind xs ys) ∙ or-true (x == 45)
+
+word_byte_low : (b : ℕ) → is_word_byte b ≡ true → (to_ascii_lowercase (to_ascii_lowercase b) == 45) ≡ false
+word_byte_low b h = by_test (to_ascii_lowercase (to_ascii_lowercase b) == 45) refl
+  where
+    by_test : (e : Bool) → (to_ascii_lowercase (to_ascii_lowercase b) == 45) ≡ e → e ≡ false
+    by_test false e = refl
+    by_test true e =
+        let low : to_ascii_lowercase b ≡ 45 =
+        sym (lowercase-lowercase b) ∙ eqb-true (to_ascii_lowercase (to_ascii_lowercase b)) 45 e in
+        absurd (no_word_byte b h low)
+
+no_hyphen : (name : List ℕ) → list_all is_word_byte name ≡ true → has_hyphen (lower (lower name)) ≡ false
+no_hyphen [] h = refl
+no_hyphen (b ∷ name) h =
+    let both = and_parts (is_word_byte b) (list_all is_word_byte name) h in
+    rw (word_byte_low b both.0, no_hyphen name both.1) refl
+
+-- the name of a fold-over has no case
+lower_fold : (k : ℕ) → k < 10 ^ 64 → lower (fold_name k) ≡ codes "step" ++ (decimal k ++ codes "-fold.csv")
+lower_fold k hk =
+    ap (λ (l : List ℕ). codes "step" ++ l)
+    (map-append to_ascii_lowercase (decimal k) (codes "-fold.csv")
+    ∙ ap (λ (l : List ℕ). l ++ codes "-fold.csv") (low_digits (decimal k) (numeral k hk)))
+
+-- fold-overs of different steps
+pub folds_differ : (k j : ℕ) → k < 10 ^ 64 → j < 10 ^ 64 → (k ≡ j → ⊥)
+    → is_same_name (fold_name k) (fold_name j) ≡ false
+folds_differ k j hk hj apart =
+    differ_from (fold_name k) (fold_name j) (λ e.
+    let whole : codes "step" ++ (decimal k ++ codes "-fold.csv") ≡ codes "step" ++ (decimal j ++ codes "-fold.csv") =
+    sym (lower_fold k hk) ∙ e ∙ lower_fold j hj in
+    let behind : decimal k ++ codes "-fold.csv" ≡ decimal j ++ codes "-fold.csv" = cc whole in
+    apart (same_number k j hk hj (append_cancel_right (decimal k) (decimal j) (codes "-fold.csv") behind)))
+
+-- a book and a fold-over
+pub book_and_fold_differ : (k q j : ℕ) → k < 10 ^ 64 → q < 10 ^ 64 → j < 10 ^ 64
+    → is_same_name (book_name k q) (fold_name j) ≡ false
+unfolding last
+book_and_fold_differ k q j hk hq hj =
+    differ_from (book_name k q) (fold_name j) (λ e.
+    let book : last (lower (book_name k q)) ≡ 107 =
+    ap last (lower_book k q hk hq)
+    ∙ last_behind (codes "step" ++ decimal k) 45 (decimal q ++ codes ".book")
+    ∙ last_behind (45 ∷ decimal q) 46 (codes "book") in
+    let fold : last (lower (fold_name j)) ≡ 118 =
+    ap last (lower_fold j hj) ∙ last_behind (codes "step" ++ decimal j) 45 (codes "fold.csv") in
+    let same : 107 ≡ 118 = sym book ∙ ap last e ∙ fold in
+    omega arith)
+
+-- a fold-over and a plan
+pub fold_and_plan_differ : (k : ℕ) (name : List ℕ) → k < 10 ^ 64 → IsName name
+    → is_same_name (fold_name k) (file_name name) ≡ false
+fold_and_plan_differ k name hk is =
+    differ_from (fold_name k) (file_name name) (λ e.
+    let fold : has_hyphen (lower (fold_name k)) ≡ true =
+    ap has_hyphen (lower_fold k hk) ∙ hyphen_behind (codes "step" ++ decimal k) (codes "fold.csv") in
+    let plan : has_hyphen (lower (file_name name)) ≡ false =
+    ap has_hyphen (map-append to_ascii_lowercase (lower name) (codes ".csv"))
+    ∙ list_any-append (λ b. b == 45) (lower (lower name)) (codes ".csv")
+    ∙ ap (λ b. b || false) (no_hyphen name is.2) in
+    let same : true ≡ false = sym fold ∙ ap has_hyphen e ∙ plan in cc same)

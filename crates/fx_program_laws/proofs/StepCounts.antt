@@ -1,34 +1,40 @@
--- What any text bounds: its steps, the factors and questions of each; and its OUT names, which differ.
+-- What any text bounds: its steps, the factors and questions of each; and its OUT names, which are names and differ.
 use Rattle.std.proofs.Common.{ℕ, ◌≡◌, ◌≤◌, ◌+◌, ◌-◌, ◌^◌, ◌∙◌, suc, max, Bool, true, false, List, [], ◌∷◌, ◌++◌, length}
 use Rattle.std.proofs.Common.{length-append, refl, sym, subst, ap, arith, append-nil, Option, Some, None, Result, Ok}
 use Rattle.std.proofs.Common.{Err, cond}
-use Rattle.std.specs.Prelude.{nat_lt, nat_le, if◌then◌else◌, find, IfOk, is_some}
-use Rattle.std.specs.List.{AllByRecursion, IsDistinct, flat_map, range_with_len}
+use Rattle.std.specs.Prelude.{All, not, nat_lt, nat_le, if◌then◌else◌, find, IfOk, is_some}
+use Rattle.std.specs.List.{AllByRecursion, IsDistinct, flat_map, prefix_len, range_with_len}
 use Rattle.std.proofs.lemmas.Bool.{and_parts, leb-true, ltb-false}
 use Rattle.std.proofs.lemmas.List.{length-map}
 use Rattle.std.proofs.lemmas.List.Concat.{flat_map-append}
 use Rattle.std.proofs.lemmas.List.Sums.{count_by-le-length}
 use Rattle.std.proofs.lemmas.List.FromFn.{length-range_with_len}
-use Rattle.fx_base.proofs.Lists.{each-append}
+use Rattle.std.proofs.lemmas.List.Elements.{recursion_from_All}
+use Rattle.fx_base.proofs.Lists.{each-append, each-take}
 use Rattle.fx_lexer.specs.declared.token.Token.{Token}
 use Rattle.fx_lexer.specs.declared.token.LexFault.{LexFault}
 use Rattle.fx_lexer.specs.Lexing.{lexed}
-use Rattle.fx_lexer.specs.Tokens.{AreInOrder}
-use Rattle.fx_lexer.proofs.Spans.{in_order_of_text}
+use Rattle.fx_lexer.specs.Tokens.{AreInOrder, IsToken}
+use Rattle.fx_lexer.proofs.Spans.{each_of_text, in_order_of_text}
 use Rattle.fx_language.specs.Keywords.{symbols_of}
 use Rattle.fx_language.specs.declared.symbol.Symbol.TheVariants as word
 use Rattle.fx_language.specs.FirstRefusal.{first_refusal}
 use Rattle.fx_text.specs.declared.refusal.Refusal.{Refusal}
-use Rattle.fx_text.specs.Names.{is_same_name}
+use Rattle.fx_text.specs.Names.{IsName, is_same_name}
+use Rattle.fx_text.specs.Sentences.{IsAccepted}
 use Rattle.fx_text.specs.Phrases.{start_of}
-use Rattle.fx_text.specs.Written.{Written, written, written_at}
-use Rattle.fx_text.specs.Statements.{in_front, statement_of, statements_of, steps_of, rest_of_step}
+use Rattle.fx_text.specs.Written.{Written, begins, written, written_at}
+use Rattle.fx_text.specs.Statements.{ends_step, in_front, statement_of, statements_of, steps_of, rest_of_step}
+use Rattle.fx_text.proofs.Sentences.{are_accepted}
 use Rattle.fx_text.proofs.Chains.{bind_ok, same_ok}
 use Rattle.fx_text.proofs.Distinct.{none_differ}
 use Rattle.fx_settings.specs.Factors as named
 use Rattle.fx_settings.specs.Items.{items_of}
 use Rattle.fx_outputs.specs.Outputs.{names_of, outputs_of}
-use Rattle.fx_outputs.proofs.Names.{all_differ}
+use Rattle.fx_outputs.specs.Contexts.{Context}
+use Rattle.fx_outputs.specs.Validity.{HasItsNames}
+use Rattle.fx_outputs.specs.declared.output.OutputSpec.{OutputSpec}
+use Rattle.fx_outputs.proofs.Names.{all_differ, all_have_names}
 use Rattle.fx_settings.specs.declared.settings.Size.{Size}
 use Rattle.fx_settings.specs.declared.settings.Size.TheVariants.{Runs, Minimum}
 use Rattle.fx_settings.specs.Said.{step_said, value_after_equals}
@@ -42,7 +48,9 @@ use Rattle.fx_statements.specs.Steps.{step_by, step_of}
 use Rattle.fx_statements.specs.Programs.{accepted, program_of, steps_behind}
 use Rattle.fx_statements.specs.Questions.{Questions, Turn, asked, highest, is_last, lowest, passes, question_for}
 use Rattle.fx_statements.specs.Questions.{questions_of, turns, up_to}
+use Rattle.fx_statements.specs.Folds.{fold_of}
 use Rattle.fx_statements.proofs.Bounds.{most_of_all}
+use Rattle.fx_statements.proofs.Parts.{none_refused}
 use Rattle.fx_answer.specs.Books.{finished, finished_before}
 use Rattle.fx_answer.proofs.Valid.{few_factors}
 use Rattle.fx_program.specs.Texts.{at_front, or_refused, program_by, program_in}
@@ -58,25 +66,34 @@ out_names_of steps = flat_map (λ (step : Meaning). names_of step.outputs) steps
 record IsReadBehind (earlier : List (List ℕ)) (step : Meaning) : Type 0 where
   pub few : length step.factors ≤ MOST_FACTORS
   pub names : IsDistinct is_same_name (earlier ++ names_of step.outputs)
+  pub spelled : AllByRecursion IsName (names_of step.outputs)
+
+spelled_names : (context : Context) (outputs : List OutputSpec) → AllByRecursion (HasItsNames context) outputs
+    → AllByRecursion IsName (names_of outputs)
+spelled_names context [] h = tt
+spelled_names context (o ∷ outputs) h = (h.0.name, spelled_names context outputs h.1)
 
 step_read : (earlier : List (List ℕ)) (statements : List (List Written)) (factors : Option (List Written))
     (step : Meaning)
-    → IsDistinct is_same_name earlier → step_by earlier statements factors ≡ Ok step → IsReadBehind earlier step
-step_read earlier statements None step differ e = absurd (cc e)
-step_read earlier statements (Some given) step differ e =
+    → AllByRecursion IsAccepted statements → IsDistinct is_same_name earlier
+    → step_by earlier statements factors ≡ Ok step → IsReadBehind earlier step
+step_read earlier statements None step is differ e = absurd (cc e)
+step_read earlier statements (Some given) step is differ e =
     let proc = start_of (head_of statements) in
     let factors = bind_ok (factors_by proc (factor_limit given statements) given) _ step e in
     let found =
     bind_ok (named.names_of_factors (factor_limit given statements) given) (some_factors proc) factors.0 factors.1 in
     let asked =
     bind_ok (asked_by factors.0 (step_said (head_of statements) given statements) statements) _ step factors.2 in
-    let outputs = bind_ok (outputs_of (context factors.0 asked.0.0) earlier statements) _ step asked.2 in
+    let fold = bind_ok (fold_of factors.0 asked.0.0 statements) _ step asked.2 in
+    let outputs = bind_ok (outputs_of (context factors.0 asked.0.0) earlier statements) _ step fold.2 in
     let whole : Meaning =
     record {
       factors = factors.0;
       settings = asked.0.0;
       goal = asked.0.1;
       examine = examine_of statements;
+      fold = fold.0;
       outputs = outputs.0;
     } in
     let few = all_within (factor_limit given statements) [] (items_of given) found.0 (omega arith) found.1 in
@@ -87,36 +104,59 @@ step_read earlier statements (Some given) step differ e =
     (record {
       few = subst (λ (l : List (List ℕ)). length l ≤ MOST_FACTORS) same (omega (arith, few, most));
       names = all_differ (context factors.0 asked.0.0) earlier statements outputs.0 differ outputs.1;
+      spelled = spelled_names (context factors.0 asked.0.0) outputs.0
+          (recursion_from_All (HasItsNames (context factors.0 asked.0.0)) outputs.0
+          (all_have_names (context factors.0 asked.0.0) earlier statements outputs.0 is outputs.1));
     })
 
 record AreReadBehind (steps done : List Meaning) (groups : ℕ) : Type 0 where
   pub few : AllByRecursion (λ (step : Meaning). length step.factors ≤ MOST_FACTORS) steps
   pub names : IsDistinct is_same_name (out_names_of steps)
+  pub spelled : AllByRecursion IsName (out_names_of steps)
   pub many : length steps ≡ length done + groups
 
 all_read : (earlier : List (List ℕ)) (done : List Meaning) (groups : List (List (List Written))) (steps : List Meaning)
-    → earlier ≡ out_names_of done → IsDistinct is_same_name earlier
-    → AllByRecursion (λ (step : Meaning). length step.factors ≤ MOST_FACTORS) done
+    → AllByRecursion (AllByRecursion IsAccepted) groups → earlier ≡ out_names_of done → IsDistinct is_same_name earlier
+    → AllByRecursion IsName earlier → AllByRecursion (λ (step : Meaning). length step.factors ≤ MOST_FACTORS) done
     → steps_behind earlier done groups ≡ Ok steps → AreReadBehind steps done (length groups)
-all_read earlier done [] steps are differ few e =
+all_read earlier done [] steps each are differ spelled few e =
     let same : done ≡ steps = same_ok done steps e in
     record {
       few = subst (AllByRecursion (λ (step : Meaning). length step.factors ≤ MOST_FACTORS)) same few;
       names = subst (IsDistinct is_same_name) (are ∙ ap out_names_of same) differ;
+      spelled = subst (AllByRecursion IsName) (are ∙ ap out_names_of same) spelled;
       many = omega (arith, ap length same);
     }
-all_read earlier done (group ∷ groups) steps are differ few e =
+all_read earlier done (group ∷ groups) steps each are differ spelled few e =
     let step = bind_ok (step_of earlier group) _ steps e in
-    let read = step_read earlier group (statement_of word.Factors group) step.0 differ step.1 in
+    let read = step_read earlier group (statement_of word.Factors group) step.0 each.0 differ step.1 in
     let names : earlier ++ names_of step.0.outputs ≡ out_names_of (done ++ step.0 ∷ []) =
     ap (λ (l : List (List ℕ)). l ++ names_of step.0.outputs) are ∙ ap (λ (l : List (List ℕ)). out_names_of done ++ l)
     (sym (append-nil (names_of step.0.outputs)))
     ∙ sym (flat_map-append (λ (step : Meaning). names_of step.outputs) done (step.0 ∷ [])) in
     let later =
-    all_read (earlier ++ names_of step.0.outputs) (done ++ step.0 ∷ []) groups steps names read.names
+    all_read (earlier ++ names_of step.0.outputs) (done ++ step.0 ∷ []) groups steps each.1 names read.names
+    (each-append IsName earlier (names_of step.0.outputs) spelled read.spelled)
     (each-append (λ (step : Meaning). length step.factors ≤ MOST_FACTORS) done (step.0 ∷ []) few (read.few, tt)) step.2
     in
-    record { few = later.few; names = later.names; many = omega (arith, later.many, length-append done (step.0 ∷ [])) }
+    record {
+      few = later.few;
+      names = later.names;
+      spelled = later.spelled;
+      many = omega (arith, later.many, length-append done (step.0 ∷ []));
+    }
+
+-- the statements of each step are accepted
+in_steps : (statements : List (List Written)) → AllByRecursion IsAccepted statements
+    → AllByRecursion (AllByRecursion IsAccepted) (steps_of statements)
+in_steps [] h = tt
+in_steps (s ∷ rest) h = by_test (begins word.Proc s) (in_steps rest h.1)
+  where
+    by_test : (b : Bool) → AllByRecursion (AllByRecursion IsAccepted) (steps_of rest)
+        → AllByRecursion (AllByRecursion IsAccepted) (if b then (s ∷ rest_of_step rest) ∷ steps_of rest else steps_of rest)
+    by_test true later =
+        ((h.0, each-take IsAccepted (prefix_len (λ s. not (ends_step s)) rest) rest h.1), later)
+    by_test false later = later
 
 -- ---- how many steps there are
 
@@ -153,26 +193,32 @@ tokens_few from upto (t ∷ tokens) h = let rest = tokens_few t.upto upto tokens
 pub record AreSteps (steps : List Meaning) : Type 0 where
   pub few : AllByRecursion (λ (step : Meaning). length step.factors ≤ MOST_FACTORS) steps
   pub names : IsDistinct is_same_name (out_names_of steps)
+  pub spelled : AllByRecursion IsName (out_names_of steps)
   pub many : length steps ≤ 1048576
 
 accepted_read : (text : List ℕ) (tokens : List Token) (refused : Option (ℕ × ℕ)) (steps : List Meaning)
-    → length tokens ≤ 1048576 → accepted text tokens refused ≡ Ok steps → AreSteps steps
-accepted_read text tokens (Some refused) steps few e = absurd (cc e)
-accepted_read text tokens None steps few e =
+    → All (IsToken text) tokens → first_refusal (symbols_of text tokens) ≡ refused → length tokens ≤ 1048576
+    → accepted text tokens refused ≡ Ok steps → AreSteps steps
+accepted_read text tokens (Some refused) steps all is few e = absurd (cc e)
+accepted_read text tokens None steps all is few e =
     let ws : List Written = written text tokens in
-    let read = all_read [] [] (steps_of (statements_of ws)) steps refl none_differ tt e in
+    let each = in_steps (statements_of ws)
+    (are_accepted text tokens all (none_refused (symbols_of text tokens) is)) in
+    let read = all_read [] [] (steps_of (statements_of ws)) steps each refl none_differ tt tt e in
     let count = steps_few (statements_of ws) in
     let statements = statements_few ws in
     record {
       few = read.few;
       names = read.names;
+      spelled = read.spelled;
       many = omega (arith, read.many, count, statements, length-map tokens (λ (t : Token). written_at text t), few);
     }
 
-program_read : (text : List ℕ) (tokens : List Token) (steps : List Meaning) → length tokens ≤ 1048576
-    → program_of text tokens ≡ Ok steps → AreSteps steps
+program_read : (text : List ℕ) (tokens : List Token) (steps : List Meaning) → All (IsToken text) tokens
+    → length tokens ≤ 1048576 → program_of text tokens ≡ Ok steps → AreSteps steps
 unfolding program_of
-program_read text tokens steps few e = accepted_read text tokens (first_refusal (symbols_of text tokens)) steps few e
+program_read text tokens steps all few e =
+    accepted_read text tokens (first_refusal (symbols_of text tokens)) steps all refl few e
 
 unrefused : (program : Result (List Meaning) Refusal) (steps : List Meaning) → or_refused program ≡ Ok steps
     → program ≡ Ok steps
@@ -185,7 +231,9 @@ lexed_read text (Ok tokens) steps is short e =
     let order : AreInOrder 0 (length text) tokens =
     subst (λ (r : Result (List Token) LexFault). IfOk r (λ tokens. AreInOrder 0 (length text) tokens)) is
     (in_order_of_text text) in
-    program_read text tokens steps (omega (arith, tokens_few 0 (length text) tokens order, short))
+    let all : All (IsToken text) tokens =
+    subst (λ (r : Result (List Token) LexFault). IfOk r (λ tokens. All (IsToken text) tokens)) is (each_of_text text) in
+    program_read text tokens steps all (omega (arith, tokens_few 0 (length text) tokens order, short))
     (unrefused (program_of text tokens) steps e)
 lexed_read text (Err fault) steps is short e = absurd (cc e)
 

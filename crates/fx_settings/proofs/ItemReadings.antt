@@ -1,4 +1,4 @@
--- The items of a FACTORS statement, by the grammar.
+-- The items of a FACTORS or a FOLDOVER statement, by the grammar.
 use Rattle.std.proofs.Common.{◌≡◌, true, false, List, [], ◌∷◌, ◌++◌, Option, Some, None, refl, sym, ap, ap₂, subst, ◌∙◌}
 use Rattle.std.proofs.Common.{inl, inr, ◌⊎◌, append_assoc}
 use Rattle.std.specs.List.{AllByRecursion, flat_map}
@@ -16,7 +16,7 @@ use Rattle.fx_text.specs.Ranges.{range_end}
 use Rattle.fx_text.specs.Sentences.{symbols_in, IsStatement}
 use Rattle.fx_text.proofs.Lacking.{before_none, before_part}
 use Rattle.fx_settings.specs.Items.{Item, item_of, items_from}
-use Rattle.fx_settings.specs.ItemReadings.{IsItem, IsWrittenAs, AreItems, AreItemsRead}
+use Rattle.fx_settings.specs.ItemReadings.{IsItem, IsWrittenAs, AreItems, AreItemsRead, AreFoldedItemsRead}
 
 -- a word is no sign
 no_sign : (sign s : Symbol) → is_word sign ≡ false → is_word s ≡ true → is sign s ≡ false
@@ -239,3 +239,42 @@ items_law (word ∷ ws) (
   where
     regrouped : (a b c d : List Symbol) → a ++ (b ++ (c ++ d)) ≡ ((a ++ b) ++ c) ++ d
     regrouped a b c d = simp append_assoc
+
+-- nothing is written between the items and the semicolon
+none_left : (others : List Written) (m : Symbol) → symbols_in others ++ symbol.Semicolon ∷ [] ≡ m ∷ [] → others ≡ []
+none_left [] m h = refl
+none_left (w ∷ others) m h = absurd (short others h)
+  where
+    short : (others : List Written) → w.symbol ∷ symbols_in others ++ symbol.Semicolon ∷ [] ≡ m ∷ [] → ⊥
+    short [] h = cc h
+    short (v ∷ others) h = cc h
+
+pub folded_items_law : (s : List Written) → IsStatement grammar.foldover s → AreFoldedItemsRead s
+folded_items_law [] (x0, r0, (f, hf, ef), (x1, r1, (parts, each, e), (m, tm, em), e1), e0) =
+    absurd (alone x1 r1 (ap (λ (l : List Symbol). l ++ r0) ef) e1 em)
+  where
+    alone : (x y : List Symbol) → x0 ++ r0 ≡ f ∷ r0 → r0 ≡ x ++ y → y ≡ m ∷ [] → ⊥
+    alone [] y front next last =
+        let short : symbol.Semicolon ∷ [] ≡ f ∷ m ∷ [] =
+        e0 ∙ front ∙ ap (λ (l : List Symbol). f ∷ l) (next ∙ last) in
+        cc short
+    alone (a ∷ x) y front next last =
+        let short : symbol.Semicolon ∷ [] ≡ f ∷ a ∷ (x ++ y) =
+        e0 ∙ front ∙ ap (λ (l : List Symbol). f ∷ l) next in
+        cc short
+folded_items_law (word ∷ ws) (x0, r0, (f, hf, ef), (x1, r1, (parts, each, e), (m, tm, em), e1), e0) =
+    let whole : word.symbol ∷ (symbols_in ws ++ symbol.Semicolon ∷ []) ≡ f ∷ r0 =
+    e0 ∙ ap (λ (l : List Symbol). l ++ r0) ef in
+    let behind : symbols_in ws ++ symbol.Semicolon ∷ [] ≡ r0 = cc whole in
+    let all = items parts each ws [] m (behind ∙ e1 ∙ ap₂ (λ (l k : List Symbol). l ++ k) e em) in
+    let written : ws ≡ flat_map (λ (part : List Written). part) all.written =
+    all.all
+    ∙ ap (λ (l : List Written). flat_map (λ (part : List Written). part) all.written ++ l)
+    (none_left all.others m all.others_are) ∙ append-nil _ in
+    record {
+      word = word;
+      written = all.written;
+      statement = ap (λ (l : List Written). word ∷ l) written;
+      items = subst (AreItems all.written)
+          (sym (ap (items_from false) written ∙ read_again all.written all.read all.are)) all.are;
+    }

@@ -12,7 +12,7 @@ use Rattle.fx_text.proofs.Placed as placed
 use Rattle.fx_text.proofs.Placed.{IsPlaced, ArePlaced, Placed}
 
 module _ (P : ℕ → ℕ → Type 0) where
-  items : (behind : Bool) (s : List Written) → ArePlaced P s
+  pub items : (behind : Bool) (s : List Written) → ArePlaced P s
       → AllByRecursion (λ (i : Item). IsPlaced P i.first) (items_from behind s)
   items behind [] h = tt
   items behind (w ∷ rest) h = by_test (behind || is Minus w.symbol) (items (is Minus w.symbol) rest h.1)

@@ -1,17 +1,20 @@
--- The names of factors have 1 to 32 bytes.
+-- The names of factors are names.
 use Rattle.std.proofs.Common.{◌≡◌, ℕ, zero, suc, ◌+◌, ◌-◌, ◌^◌, ◌<◌, ◌≤◌, true, not, List, [], ◌∷◌, ◌++◌, length, map}
-use Rattle.std.proofs.Common.{Option, Some, None, Ok, sym, ap, subst, ◌∙◌, arith}
-use Rattle.std.specs.Prelude.{All, decimal, ◌&&◌, nat_lt, nat_le}
+use Rattle.std.proofs.Common.{Option, Some, None, Ok, refl, sym, ap, ap₂, subst, take, ◌∙◌, arith}
+use Rattle.std.specs.Prelude.{All, decimal, ◌&&◌, ◌||◌, nat_lt, nat_le}
 use Rattle.std.specs.List.{AllByRecursion, flat_map, list_all}
-use Rattle.std.proofs.lemmas.Bool.{and_parts, leb-true, not-false}
+use Rattle.std.proofs.Math.Bool.{or-true}
+use Rattle.std.proofs.lemmas.Bool.{and_parts, le-leb, leb-true, not-false}
 use Rattle.std.proofs.lemmas.List.{length-append, length-map, length-take-le, take-append-drop}
 use Rattle.std.proofs.lemmas.List.Elements.{All-from_recursion}
 use Rattle.std.proofs.lemmas.Slice.Eq.{bytes_eq-Decides}
 use Rattle.std.specs.Char.{to_ascii_lowercase}
-use Rattle.std.proofs.lemmas.Fmt.{length-decimal-le_wide}
-use Rattle.std.proofs.lemmas.Str.Parse.{digits_value_short}
+use Rattle.std.proofs.lemmas.Fmt.{decimal_is_IsNumeral_wide, length-decimal-le_wide}
+use Rattle.std.proofs.lemmas.Str.Parse.{digit_from_value, digits_value_short}
+use Rattle.std.proofs.lemmas.List.Folds.{list_all-append}
+use Rattle.std.specs.Str.Parse.{AllDigits}
 use Rattle.fx_base.proofs.Lists.{each-append, each-append_parts}
-use Rattle.fx_lexer.specs.Bytes.{is_digit}
+use Rattle.fx_lexer.specs.Bytes.{begins_word, is_digit, is_word_byte}
 use Rattle.fx_language.specs.Symbols.{is_word}
 use Rattle.fx_language.specs.Grammar as grammar
 use Rattle.fx_text.specs.Names.{IsName, is_same_name}
@@ -95,26 +98,57 @@ whole_name name =
     sym (length-append (stem name) (digits_at_end name)) ∙ ap (λ (l : List ℕ). length l)
     (take-append-drop (stem_len name) name)
 
+-- digits are bytes of a word
+word_digits : (ds : List ℕ) → AllDigits 10 ds → list_all is_word_byte ds ≡ true
+word_digits [] h = refl
+word_digits (c ∷ ds) h =
+    let range = digit_from_value c h.0 in
+    let digit : is_digit c ≡ true = rw (le-leb 48 c range.0, le-leb c 57 range.1) refl in
+    let here : is_word_byte c ≡ true = ap (λ b. begins_word c || b) digit ∙ or-true (begins_word c) in
+    rw (here, word_digits ds h.1) refl
+
+-- and so are the first bytes of a name
+word_front : (n : ℕ) (name : List ℕ) → list_all is_word_byte name ≡ true → list_all is_word_byte (take n name) ≡ true
+word_front zero name h = refl
+word_front (suc n) [] h = refl
+word_front (suc n) (c ∷ name) h =
+    let both = and_parts (is_word_byte c) (list_all is_word_byte name) h in
+    rw (both.0, word_front n name both.1) refl
+
+-- the number at the end of a name has at most 38 digits
+small_number : (first last : List ℕ) → is_range first last ≡ true → number_at_end last < 10 ^ 38
+small_number first last regular =
+    let whole = (plain first last regular).1 in
+    let numeral = (and_parts (is_numeral (digits_at_end last)) _ whole).0 in
+    let short =
+    and_parts (list_all is_digit (digits_at_end last) && nat_le 1 (length (digits_at_end last)))
+    (nat_le (length (digits_at_end last)) 38) numeral in
+    let some = and_parts (list_all is_digit (digits_at_end last)) (nat_le 1 (length (digits_at_end last))) short.0 in
+    digits_value_short digits (digits_at_end last) 38 some.0 (leb-true (length (digits_at_end last)) 38 short.1)
+
 -- the names of a range, each with a number from `from` on
-in_range : (first last : List ℕ) → is_range first last ≡ true → IsName last → (from count : ℕ)
+in_range : (first last : List ℕ) → is_range first last ≡ true → IsName first → IsName last → (from count : ℕ)
     → from + count ≤ number_at_end last + 1 → AllByRecursion IsName (numbered (stem first) from count)
-in_range first last regular is from zero upto = tt
-in_range first last regular is from (suc count) upto =
+in_range first last regular begun is from zero upto = tt
+in_range first last regular begun is from (suc count) upto =
     let digits = no_longer first last from regular (omega (arith, upto)) in
-    let name : IsName (stem first ++ decimal from) =
-    let long = length-append (stem first) (decimal from) in (
+    let small = small_number first last regular in
+    let numeral = (decimal_is_IsNumeral_wide from (omega (arith, small, upto))).0.1 in
+    let long = length-append (stem first) (decimal from) in
+    let name : IsName (stem first ++ decimal from) = (
       omega (arith, long, some_stem first last regular),
-      omega
-          (arith, long, digits, same_stems first last regular, whole_name last, is.1),
+      omega (arith, long, digits, same_stems first last regular, whole_name last, is.1),
+      list_all-append is_word_byte (stem first) (decimal from)
+          ∙ ap₂ (λ a b. a && b) (word_front (stem_len first) first begun.2) (word_digits (decimal from) numeral),
     ) in
-    (name, in_range first last regular is (from + 1) count (omega (arith, upto)))
+    (name, in_range first last regular begun is (from + 1) count (omega (arith, upto)))
 
 of_item : (first : Written) (last : Option Written) → is_regular_from first last ≡ true → HasItemNames first last
     → AllByRecursion IsName (names_from first last)
 of_item first None regular is = (is, tt)
 of_item first (Some last) regular is =
     let ends = order first.text last.text regular in
-    in_range first.text last.text regular is.1 (number_at_end first.text)
+    in_range first.text last.text regular is.0 is.1 (number_at_end first.text)
     (number_at_end last.text + 1 - number_at_end first.text) (omega (arith, ends))
 
 all_names : (limit : ℕ) (items : List Item) (names all : List (List ℕ))

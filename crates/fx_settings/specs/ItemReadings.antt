@@ -1,10 +1,10 @@
--- That the items of FACTORS are read where the grammar has them.
-use Rattle.std.specs.Prelude.{◌≡◌, ◌⊎◌, true, List, [], ◌∷◌, ◌++◌, Option, Some, None}
+-- That the items of FACTORS and FOLDOVER are read where the grammar has them.
+use Rattle.std.specs.Prelude.{◌≡◌, ◌⊎◌, true, false, List, [], ◌∷◌, ◌++◌, drop, Option, Some, None}
 use Rattle.std.specs.List.{flat_map}
 use Rattle.fx_language.specs.declared.symbol.Symbol.TheVariants.{Minus, Slash}
 use Rattle.fx_language.specs.Symbols.{is, is_word}
 use Rattle.fx_text.specs.Written.{Written, begins}
-use Rattle.fx_settings.specs.Items.{Item, items_of}
+use Rattle.fx_settings.specs.Items.{Item, items_from, items_of}
 
 -- a name alone, or the first and the last name of a range with `-` between them
 abbrev pub IsWrittenAs : List Written → Written → Option Written → Type 0
@@ -31,3 +31,10 @@ pub record AreItemsRead (s : List Written) : Type 0 where
   pub statement : s ≡ word ∷ flat_map (λ part. part) written ++ options
   pub items : AreItems written (items_of s)
   pub behind : (options ≡ []) ⊎ (begins Slash options ≡ true)
+
+-- what is read from a FOLDOVER statement: its items, which are all that follows its first word
+pub record AreFoldedItemsRead (s : List Written) : Type 0 where
+  pub word : Written
+  pub written : List (List Written)
+  pub statement : s ≡ word ∷ flat_map (λ part. part) written
+  pub items : AreItems written (items_from false (drop 1 s))

@@ -2,6 +2,7 @@ pub mod Bounds
 pub mod ComponentCounts
 pub mod StepByStep
 mod Examples
+pub mod Folded
 pub mod Readings
 pub mod Listed
 pub mod Sections

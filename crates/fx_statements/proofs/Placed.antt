@@ -1,7 +1,7 @@
 -- A text that is no program is refused by a rule, at a place of the text.
 use Rattle.std.proofs.Common.{◌≡◌, ℕ, zero, suc, Bool, true, false, List, [], ◌∷◌, ◌++◌, length, Option, Some, None}
 use Rattle.std.proofs.Common.{refl, sym, append-nil}
-use Rattle.std.specs.Prelude.{IfSome, nat_lt, min, slice_get, if◌then◌else◌}
+use Rattle.std.specs.Prelude.{IfSome, ◌==◌, ◌&&◌, not, drop, nat_lt, min, slice_get, if◌then◌else◌}
 use Rattle.std.specs.List.{AllByRecursion}
 use Rattle.fx_designs.specs.Components.{listed_count}
 use Rattle.fx_lexer.specs.declared.place.Place.{Place}
@@ -23,6 +23,13 @@ use Rattle.fx_settings.specs.Said.{step_said}
 use Rattle.fx_settings.specs.Settings.{unblocked_of, step_settings_of}
 use Rattle.fx_effects.specs.Models.{lists_of}
 use Rattle.fx_settings.specs.Factors.{names_of_factors}
+use Rattle.fx_settings.specs.Items.{Item, items_from, is_regular}
+use Rattle.fx_settings.specs.Items.{names_of as item_names}
+use Rattle.fx_settings.specs.Valid.{has_blocks}
+use Rattle.fx_settings.specs.declared.settings.StepSettings.{StepSettings}
+use Rattle.fx_designs.specs.Vectors.{zeros}
+use Rattle.fx_text.specs.Names.{place_of}
+use Rattle.fx_statements.specs.Folds.{folded_at, names_folded, item_folded, items_folded, codes_by, fold_in, fold_of}
 use Rattle.fx_outputs.specs.Outputs.{names_of, outputs_of}
 use Rattle.fx_statements.specs.Contexts.{context}
 use Rattle.fx_statements.specs.Goals.{Goal, effects_goal, effects_wanted, goal_by}
@@ -97,6 +104,48 @@ module _ (P : ℕ → ℕ → Type 0) (front : P 1 1) where
       (few_components unblocked.q (length names) g (components_place statements) (listing_place statements h))
       (λ listed. tt))))
 
+  folded_here : (w : Written) (codes : List ℕ) (i : Option ℕ) → IsPlaced P w → Placed P (folded_at w codes i)
+  folded_here w codes None h = placed.written P 4 w refl h
+  folded_here w codes (Some i) h = tt
+
+  folded_names : (w : Written) (factors : List (List ℕ)) (codes : List ℕ) (names : List (List ℕ)) → IsPlaced P w
+      → Placed P (names_folded w factors codes names)
+  folded_names w factors codes [] h = tt
+  folded_names w factors codes (name ∷ names) h =
+      placed.chain P (folded_at w codes (place_of name factors)) (λ more. names_folded w factors more names)
+      (folded_here w codes (place_of name factors) h) (λ more. folded_names w factors more names h)
+
+  folded_item : (factors : List (List ℕ)) (codes : List ℕ) (i : Item) → IsPlaced P i.first
+      → Placed P (item_folded factors codes i)
+  folded_item factors codes i h =
+      placed.both P (not (is_regular i)) _ _ (placed.written P 30 i.first refl h)
+      (folded_names i.first factors codes (item_names i) h)
+
+  folded_items : (factors : List (List ℕ)) (codes : List ℕ) (s : List Item)
+      → AllByRecursion (λ (i : Item). IsPlaced P i.first) s → Placed P (items_folded factors codes s)
+  folded_items factors codes [] h = tt
+  folded_items factors codes (i ∷ s) h =
+      placed.chain P (item_folded factors codes i) (λ more. items_folded factors more s)
+      (folded_item factors codes i h.0) (λ more. folded_items factors more s h.1)
+
+  codes_placed : (names : List (List ℕ)) (s : List Written) → ArePlaced P s → Placed P (codes_by names s)
+  codes_placed names [] h = tt
+  codes_placed names (w ∷ rest) h =
+      folded_items names (zeros (length names)) (items_from false (w ∷ rest)) (factors.items P false (w ∷ rest) h)
+
+  fold : (names : List (List ℕ)) (x : StepSettings) (statements : List (List Written)) → AreAllPlaced P statements
+      → Placed P (fold_of names x statements)
+  fold names x statements h =
+      of_statement (statement_of symbol.Foldover statements) (placed.statement P symbol.Foldover statements h)
+    where
+      of_statement : (s : Option (List Written)) → IfSome s (ArePlaced P) → Placed P (fold_in names x s)
+      of_statement None h = tt
+      of_statement (Some s) h =
+          placed.both P ((x.q == 2) && not (has_blocks x.blocks)) _ _
+          (placed.chain P (codes_by names (drop 1 s)) _ (codes_placed names (drop 1 s) (placed.dropped P 1 s h))
+          (λ codes. tt))
+          (placed.here P 36 (start_of s) refl (placed.start P s front h))
+
   head : (statements : List (List Written)) → AreAllPlaced P statements → ArePlaced P (head_of statements)
   head [] h = tt
   head (s ∷ rest) h = h.0
@@ -127,8 +176,9 @@ module _ (P : ℕ → ℕ → Type 0) (front : P 1 1) where
           placed.chain P (asked_by names (step_said (head_of statements) named statements) statements) _
           (asked names (step_said (head_of statements) named statements) statements
           (settings.said P (head_of statements) named statements front proc k h) h) (λ x.
+          placed.chain P (fold_of names x.0 statements) _ (fold names x.0 statements h) (λ f.
           placed.chain P (outputs_of (context names x.0) earlier statements) _
-          (outputs.outputs P (context names x.0) earlier statements h) (λ o. tt)))
+          (outputs.outputs P (context names x.0) earlier statements h) (λ o. tt))))
 
   steps : (earlier : List (List ℕ)) (done : List Meaning) (all : List (List (List Written)))
       → AllByRecursion (AreAllPlaced P) all → Placed P (steps_behind earlier done all)

@@ -17,8 +17,10 @@ use Rattle.fx_settings.specs.declared.settings.StepSettings.{StepSettings}
 use Rattle.fx_settings.specs.Said.{step_said}
 use Rattle.fx_text.specs.Phrases.{start_of}
 use Rattle.fx_statements.specs.declared.examine.Examine.{Examine}
+use Rattle.fx_statements.specs.declared.fold.Fold.{Fold}
 use Rattle.fx_statements.specs.declared.wanted.Wanted.{Wanted}
 use Rattle.fx_statements.specs.Contexts.{context}
+use Rattle.fx_statements.specs.Folds.{fold_of}
 use Rattle.fx_statements.specs.Goals.{criterion_wanted, goal_of}
 use Rattle.fx_statements.specs.Valid.{settings_in}
 use Rattle.fx_statements.specs.Steps.{Meaning, asked_by, examine_of, factors_by, head_of, factor_limit, step_by}
@@ -67,10 +69,11 @@ module _ (statements : List (List Written)) (i len : ℕ) (d : List Written) (h 
 
 -- one step, from its parts
 module _ (earlier : List (List ℕ)) (statements : List (List Written)) (named : List Written) (factors : List (List ℕ))
-    (settings : StepSettings) (wanted : Wanted) (outputs : List OutputSpec)
+    (settings : StepSettings) (wanted : Wanted) (fold : Fold) (outputs : List OutputSpec)
     (is_named : factors_by (start_of (head_of statements)) (factor_limit named statements) named ≡ Ok factors)
     (is_asked : asked_by factors (step_said (head_of statements) named statements) statements
     ≡ Ok (settings, goal_of wanted))
+    (is_fold : fold_of factors settings statements ≡ Ok fold)
     (are_outputs : outputs_of (context factors settings) earlier statements ≡ Ok outputs) where
   whole : step_by earlier statements (Some named)
       ≡ Ok (record {
@@ -78,9 +81,10 @@ module _ (earlier : List (List ℕ)) (statements : List (List Written)) (named :
         settings = settings;
         goal = goal_of wanted;
         examine = examine_of statements;
+        fold = fold;
         outputs = outputs;
       })
-  whole = rw (is_named, is_asked, are_outputs) refl
+  whole = rw (is_named, is_asked, is_fold, are_outputs) refl
 
   pub step_is : (examine : Examine) → examine ≡ examine_of statements → criterion_wanted wanted ≡ settings.criterion
       → step_by earlier statements (Some named)
@@ -89,12 +93,13 @@ module _ (earlier : List (List ℕ)) (statements : List (List Written)) (named :
         settings = settings_in settings.q settings.budget settings.size wanted settings.least settings.blocks;
         goal = goal_of wanted;
         examine = examine;
+        fold = fold;
         outputs = outputs;
       })
   step_is examine listed kind =
       whole
       ∙ ap₂ (λ (x : StepSettings) (e : Examine). Ok
-      (record { factors = factors; settings = x; goal = goal_of wanted; examine = e; outputs = outputs }))
+      (record { factors = factors; settings = x; goal = goal_of wanted; examine = e; fold = fold; outputs = outputs }))
       (sym (same_settings settings wanted kind)) (sym listed)
 
 -- a step whose settings are refused
@@ -107,14 +112,19 @@ pub settings_refused : (earlier : List (List ℕ)) (statements : List (List Writ
 settings_refused earlier statements named factors is_named reason h =
     rw is_named (stopped (asked_by factors (step_said (head_of statements) named statements) statements) _ reason h)
 
--- a step whose outputs are refused
+-- a step whose fold or whose outputs are refused
 module _ (earlier : List (List ℕ)) (statements : List (List Written)) (named : List Written) (factors : List (List ℕ))
     (settings : StepSettings) (wanted : Wanted)
     (is_named : factors_by (start_of (head_of statements)) (factor_limit named statements) named ≡ Ok factors)
     (is_asked : asked_by factors (step_said (head_of statements) named statements) statements
     ≡ Ok (settings, goal_of wanted)) where
-  pub outputs_refused : (reason : ParseStop)
+  pub fold_refused : (reason : ParseStop) → IsRefused (fold_of factors settings statements) reason
+      → IsRefused (step_by earlier statements (Some named)) reason
+  fold_refused (stop.Refused refusal) h = rw (is_named, is_asked, h) refl
+  fold_refused stop.NoMemory h = tt
+
+  pub outputs_refused : (fold : Fold) → fold_of factors settings statements ≡ Ok fold → (reason : ParseStop)
       → IsRefused (outputs_of (context factors settings) earlier statements) reason
       → IsRefused (step_by earlier statements (Some named)) reason
-  outputs_refused (stop.Refused refusal) h = rw (is_named, is_asked, h) refl
-  outputs_refused stop.NoMemory h = tt
+  outputs_refused fold is_fold (stop.Refused refusal) h = rw (is_named, is_asked, is_fold, h) refl
+  outputs_refused fold is_fold stop.NoMemory h = tt

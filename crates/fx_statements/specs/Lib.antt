@@ -5,6 +5,7 @@ pub mod Components
 pub mod Valid
 pub mod Readings
 pub mod Contexts
+pub mod Folds
 pub mod Steps
 pub mod Questions
 pub mod Programs

@@ -19,7 +19,9 @@ use Rattle.fx_settings.specs.Settings.{step_settings_of, unblocked_of, number_or
 use Rattle.fx_outputs.specs.declared.output.OutputSpec.{OutputSpec}
 use Rattle.fx_outputs.specs.Outputs.{outputs_of}
 use Rattle.fx_statements.specs.declared.examine.Examine.{Examine}
+use Rattle.fx_statements.specs.declared.fold.Fold.{Fold}
 use Rattle.fx_statements.specs.declared.step.Step.{Step}
+use Rattle.fx_statements.specs.Folds.{fold_of}
 use Rattle.fx_statements.specs.Goals.{Goal, goal_by, goal_of}
 use Rattle.fx_statements.specs.Components.{check_components, components_place}
 use Rattle.fx_statements.specs.Valid.{most_factors_of, settings_in}
@@ -31,6 +33,7 @@ pub record Meaning : Type 0 where
   pub settings : StepSettings
   pub goal : Goal
   pub examine : Examine
+  pub fold : Fold
   pub outputs : List OutputSpec
 
 -- how many factors a step may have, by its FACTORS statement, which says their levels, and whether there are blocks
@@ -80,9 +83,16 @@ step_by earlier statements None = Err (refused_at NO_FACTORS (start_of (head_of 
 step_by earlier statements (Some named) = do
   factors ← factors_by (start_of (head_of statements)) (factor_limit named statements) named
   asked ← asked_by factors (step_said (head_of statements) named statements) statements
+  fold ← fold_of factors asked.0 statements
   outputs ← outputs_of (context factors asked.0) earlier statements
-  Ok (record
-      { factors = factors; settings = asked.0; goal = asked.1; examine = examine_of statements; outputs = outputs })
+  Ok (record {
+    factors = factors;
+    settings = asked.0;
+    goal = asked.1;
+    examine = examine_of statements;
+    fold = fold;
+    outputs = outputs;
+  })
 
 -- the meaning of a step, whose PROC statement is first
 abbrev pub step_of : List (List ℕ) → List (List Written) → Result Meaning Refusal
@@ -95,5 +105,6 @@ meaning_of step = record {
   settings = settings_in step.q step.budget step.size step.wanted step.least step.blocks;
   goal = goal_of step.wanted;
   examine = step.examine;
+  fold = step.fold;
   outputs = step.outputs;
 }

@@ -3,6 +3,7 @@
 
 mod components;
 mod examine;
+mod fold;
 mod laws;
 mod outcome;
 mod parsing;
@@ -12,6 +13,7 @@ mod wanted;
 
 pub use components::listed_factors;
 pub use examine::Examine;
+pub use fold::Fold;
 pub use fx_outputs::{OutputSpec, Outputs, Recode, Recodes, Shuffle};
 pub use fx_settings::{Blocks, Size};
 pub use fx_text::{Names, ParseStop, Refusal};

@@ -8,8 +8,10 @@ ghost use Rattle.fx_outputs.specs.Validity.{HasItsNames, IsWithinLimits};
 ghost use Rattle.fx_statements.specs.Valid.{CanBeWanted, HasFewComponents, HasFewEffects, is_count, settings_in};
 ghost use Rattle.fx_statements.specs.Goals.{goal_of};
 ghost use Rattle.fx_statements.specs.Contexts.{context};
+ghost use Rattle.fx_statements.specs.Folds.{IsFold};
 
 use crate::examine::Examine;
+use crate::fold::Fold;
 use crate::wanted::Wanted;
 use fx_outputs::Outputs;
 use fx_settings::{Blocks, Size};
@@ -36,6 +38,8 @@ pub struct Step {
     pub blocks: Blocks,
     /// The sections of the listing that are asked for.
     pub examine: Examine,
+    /// Which factors are folded over, if any.
+    pub fold: Fold,
     /// The files that the step writes, in order.
     pub outputs: Outputs,
     /// The greatest number of nodes, from 1 to 5,000,000.
@@ -47,6 +51,7 @@ pub struct Step {
     ghost effects_askable: { CanBeWanted q (length factors) wanted },
     ghost few_effects: { HasFewEffects wanted },
     ghost few_components: { HasFewComponents q (length factors) (goal_of wanted) examine },
+    ghost fold_fits: { IsFold q blocks (length factors) fold },
     ghost outputs_within_limits: { All
         (IsWithinLimits (context factors (settings_in q budget size wanted least blocks)))
         outputs },
@@ -67,6 +72,7 @@ impl Drop for Step {
             least: _,
             blocks: _,
             examine: _,
+            fold: _,
             outputs: _,
             budget: _,
         } = self;

@@ -18,6 +18,7 @@ ghost use Rattle.fx_vectors.specs.declared.shape.TheConstants.{MOST_FACTORS};
 
 use crate::components::check_components;
 use crate::examine::examine_of;
+use crate::fold::fold_of;
 use crate::step::Step;
 use crate::wanted::{Wanted, wanted_by};
 use fx_base::Bytes;
@@ -37,7 +38,8 @@ use std::alloc::Global;
 /// # Errors
 ///
 /// The first refusal: E7; those of the factors, of the settings without blocks, of the effects, and
-/// of the blocks; E23 for a listing; those of each OUTPUT statement in order. And `NoMemory`.
+/// of the blocks; E23 for a listing; those of the fold; those of each OUTPUT statement in order. And
+/// `NoMemory`.
 pub(crate) fn step_of(
     alloc: Global,
     earlier: &mut EarlierNames,
@@ -82,6 +84,7 @@ fn step_by(
         named,
     )?;
     let (settings, wanted) = asked_by(alloc, factors.as_slice(), said, statements)?;
+    let fold = fold_of(alloc, factors.as_slice(), settings, statements)?;
     let context = context_of(factors.as_slice(), settings);
     let outputs = outputs(alloc, &context, earlier, statements)?;
     Ok(Step {
@@ -92,6 +95,7 @@ fn step_by(
         least: settings.least,
         blocks: settings.blocks,
         examine: examine_of(statements),
+        fold,
         outputs,
         budget: settings.budget,
     })

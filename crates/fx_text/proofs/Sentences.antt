@@ -78,7 +78,7 @@ sentence_ends = (
                 (refl, (refl, λ s h. h)),
                 (
                   (refl, (refl, λ s h. h)),
-                  (refl, (refl, (refl, (refl, (refl, (λ s h. h, tt)))))),
+                  ((refl, (refl, (refl, (refl, (refl, (λ s h. h, tt)))))), (refl, (refl, λ s h. h))),
                 ),
               ),
             ),
@@ -156,8 +156,9 @@ module _ (s : List Written) where
       → (is word.Blocks own ≡ false) ⊎ IsStatement grammar.blocks s
       → (is word.Examine own ≡ false) ⊎ IsStatement grammar.examine s
       → (is word.Output own ≡ false) ⊎ IsStatement grammar.output s
+      → (is word.Foldover own ≡ false) ⊎ IsStatement grammar.foldover s
       → IsByItsWord s
-  by_word own rest m proc factors size model blocks examine output = record {
+  by_word own rest m proc factors size model blocks examine output foldover = record {
     proc = other word.Proc grammar.proc proc;
     factors = other word.Factors grammar.factors factors;
     size = other word.Size grammar.size size;
@@ -165,6 +166,7 @@ module _ (s : List Written) where
     blocks = other word.Blocks grammar.blocks blocks;
     examine = other word.Examine grammar.examine examine;
     output = other word.Output grammar.output output;
+    foldover = other word.Foldover grammar.foldover foldover;
   }
     where
       other : (first : Symbol) (shape : Shape) → (is first own ≡ false) ⊎ IsStatement shape s → begins first s ≡ true
@@ -175,9 +177,10 @@ module _ (s : List Written) where
   by_its_word : IsStatement grammar.sentence s → IsByItsWord s
   by_its_word (inl m) =
       by_word word.Quit (One (is word.Semicolon)) m (inl refl) (inl refl) (inl refl) (inl refl) (inl refl) (inl refl)
-      (inl refl)
+      (inl refl) (inl refl)
   by_its_word (inr (inl m)) =
       by_word word.Proc grammar.proc_rest m (inr m) (inl refl) (inl refl) (inl refl) (inl refl) (inl refl) (inl refl)
+      (inl refl)
   by_its_word (inr (inr (inl m))) = record {
     proc = λ begun. absurd (empty word.Proc begun m);
     factors = λ begun. absurd (empty word.Factors begun m);
@@ -186,26 +189,32 @@ module _ (s : List Written) where
     blocks = λ begun. absurd (empty word.Blocks begun m);
     examine = λ begun. absurd (empty word.Examine begun m);
     output = λ begun. absurd (empty word.Output begun m);
+    foldover = λ begun. absurd (empty word.Foldover begun m);
   }
   by_its_word (inr (inr (inr (inl m)))) =
       by_word word.Run (One (is word.Semicolon)) m (inl refl) (inl refl) (inl refl) (inl refl) (inl refl) (inl refl)
-      (inl refl)
+      (inl refl) (inl refl)
   by_its_word (inr (inr (inr (inr (inl m))))) =
       by_word word.Factors grammar.factors_rest m (inl refl) (inr m) (inl refl) (inl refl) (inl refl) (inl refl)
-      (inl refl)
+      (inl refl) (inl refl)
   by_its_word (inr (inr (inr (inr (inr (inl m)))))) =
       by_word word.Size grammar.size_rest m (inl refl) (inl refl) (inr m) (inl refl) (inl refl) (inl refl) (inl refl)
+      (inl refl)
   by_its_word (inr (inr (inr (inr (inr (inr (inl m))))))) =
       by_word word.Model grammar.model_rest m (inl refl) (inl refl) (inl refl) (inr m) (inl refl) (inl refl) (inl refl)
+      (inl refl)
   by_its_word (inr (inr (inr (inr (inr (inr (inr (inl m)))))))) =
       by_word word.Blocks grammar.blocks_rest m (inl refl) (inl refl) (inl refl) (inl refl) (inr m) (inl refl)
-      (inl refl)
+      (inl refl) (inl refl)
   by_its_word (inr (inr (inr (inr (inr (inr (inr (inr (inl m))))))))) =
       by_word word.Examine grammar.examine_rest m (inl refl) (inl refl) (inl refl) (inl refl) (inl refl) (inr m)
-      (inl refl)
-  by_its_word (inr (inr (inr (inr (inr (inr (inr (inr (inr m))))))))) =
+      (inl refl) (inl refl)
+  by_its_word (inr (inr (inr (inr (inr (inr (inr (inr (inr (inl m)))))))))) =
       by_word word.Output grammar.output_rest m (inl refl) (inl refl) (inl refl) (inl refl) (inl refl) (inl refl)
-      (inr m)
+      (inr m) (inl refl)
+  by_its_word (inr (inr (inr (inr (inr (inr (inr (inr (inr (inr m)))))))))) =
+      by_word word.Foldover grammar.foldover_rest m (inl refl) (inl refl) (inl refl) (inl refl) (inl refl) (inl refl)
+      (inl refl) (inr m)
 
 -- the statements of sentences, one after another
 all_of_sentences : (parts : List (List Symbol)) → AllByRecursion (Matches grammar.sentence) parts

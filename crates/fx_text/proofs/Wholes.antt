@@ -119,7 +119,7 @@ a_name : (p : Piece) (start : Bool) (rest : List ℕ) → kind_of p ≡ Some kin
     → HasAllowedLength p
     → IsName (spelling p)
 a_name (word []) start rest e form short = absurd (let f : false ≡ true = form.0 in cc)
-a_name (word (b ∷ name)) start rest e form short = (omega arith, short)
+a_name (word (b ∷ name)) start rest e form short = (omega arith, short, form.1)
 a_name p start rest e form short = absurd (cc e)
 
 pub is_name : (text : List ℕ) (t : Token) → IsToken text t → is_word (written_at text t).symbol ≡ true

@@ -26,6 +26,7 @@ pub record IsByItsWord (s : List Written) : Type 0 where
   pub blocks : begins word.Blocks s ≡ true → IsStatement grammar.blocks s
   pub examine : begins word.Examine s ≡ true → IsStatement grammar.examine s
   pub output : begins word.Output s ≡ true → IsStatement grammar.output s
+  pub foldover : begins word.Foldover s ≡ true → IsStatement grammar.foldover s
 
 -- each word of it is a name of 1 to 32 bytes
 abbrev pub HasNames : List Written → Type 0

@@ -13,7 +13,7 @@ ghost use Rattle.fx_text.specs.Statements.{statements_of};
 ghost use Rattle.fx_text.specs.Written.{written};
 
 /// Each statement of a text of which the grammar refuses no symbol is what the grammar describes for
-/// its first word, and its words are names of 1 to 32 bytes.
+/// its first word, and its words are names.
 pub fn statements_are_those_of_the_grammar()
     ensures { (text : List ℕ) (tokens : List Token) → All (IsToken text) tokens
         → refused 0 program (symbols_of text tokens) ≡ None

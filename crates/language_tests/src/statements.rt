@@ -1,5 +1,6 @@
 mod effects;
 mod factors;
+mod folds;
 mod grammar;
 mod meaning;
 mod order;

@@ -27,7 +27,7 @@ const HALF_LISTING: &str =
     "step 1\nfactors 4 levels 2\ndesign 8 runs\nresolution 4\nnodes 4\nrules\n  D = A*B*C\n";
 
 /// Each text with its listing and status.
-const PROGRAMS: [(&str, &str, u8); 43] = [
+const PROGRAMS: [(&str, &str, u8); 44] = [
     (HALF, HALF_LISTING, 0),
     (
         "PROC Factex ;factors A B C D E;\tsize\ndesign = 8;model res=4;run;",
@@ -183,6 +183,11 @@ const PROGRAMS: [(&str, &str, u8); 43] = [
         2,
     ),
     (
+        "proc factex nodes=55; factors A B C D E F G; size design=32; model resolution=max / minabs; foldover A F;",
+        "step 1\nfactors 7 levels 2\nbudget ended after 55 nodes\ndesign 32 runs not proved best\nresolution 4\nrules\n  F = A*B*C*D*E\n  G = C*D*E\nfoldover A*F\n  resolution 4\n  B4 2\n  B6 1\noutput step1-fold.csv 64 rows\n",
+        2,
+    ),
+    (
         "proc factex nodes=56; factors A B C D E F G; size design=32; model resolution=3 / minabs;",
         "step 1\nfactors 7 levels 2\nbudget ended after 56 nodes\ndesign 32 runs not proved best\nresolution 4\nrules\n  F = B*C*D*E\n  G = A*C*D*E\n",
         2,
@@ -250,7 +255,7 @@ fn programs_have_their_listing(rt: HostRuntime) {
 }
 
 /// The examples of docs/LANGUAGE.md and further texts that are refused, each with its message.
-const REFUSED: [(&str, &str); 45] = [
+const REFUSED: [(&str, &str); 46] = [
     (
         "proc factex; factors A B C; /* run;",
         "L1 1:29 comment is not closed",
@@ -306,6 +311,10 @@ const REFUSED: [(&str, &str); 45] = [
         "E6 1:33 number of levels is not 2, 3, 4, 5, 7, 8 or 9",
     ),
     ("proc factex; run;", "E7 1:1 step has no FACTORS statement"),
+    (
+        "proc factex; factors A B / nlev=3; foldover;",
+        "E36 1:36 FOLDOVER needs two levels and no BLOCKS",
+    ),
     (
         "proc factex; factors A B C; size design=12;",
         "E8 1:41 size is not a power of the number of levels",
@@ -748,6 +757,37 @@ fn no_call_follows_a_failed_write(rt: HostRuntime) {
 
 /// Each text with its listing, its files by name and content, and its status.
 const PLANNED: &[(&str, &str, &[(&str, &str)], u8)] = &[
+    (
+        "proc factex;factors A B C D E;size design=8;model resolution=3;foldover;",
+        "step 1\nfactors 5 levels 2\ndesign 8 runs\nresolution 3\nnodes 5\nrules\n  D = A*B*C\n  E = B*C\nfoldover A*B*C*D*E\n  resolution 4\n  B4 1\noutput step1-fold.csv 16 rows\n",
+        &[(
+            "step1-fold.csv",
+            "A,B,C,D,E\n-1,-1,-1,-1,-1\n-1,-1,1,1,1\n-1,1,-1,1,1\n-1,1,1,-1,-1\n1,-1,-1,1,-1\n1,-1,1,-1,1\n1,1,-1,-1,1\n1,1,1,1,-1\n1,1,1,1,1\n1,1,-1,-1,-1\n1,-1,1,-1,-1\n1,-1,-1,1,1\n-1,1,1,-1,1\n-1,1,-1,1,-1\n-1,-1,1,1,-1\n-1,-1,-1,-1,1\n",
+        )],
+        0,
+    ),
+    (
+        "proc factex;factors A;model r=3;run;quit;proc factex;factors A B C;size design=4;model r=3;output out=Half;foldover A;output out=Rest;examine aberration;",
+        "step 1\nfactors 1 levels 2\ndesign 2 runs\nno defining words\nnodes 1\nrules\n  none\nstep 2\nfactors 3 levels 2\ndesign 4 runs\nresolution 3\nnodes 3\nrules\n  C = A*B\naberration\n  A3 1\nfoldover A\n  no defining words\noutput half.csv 4 rows\noutput rest.csv 4 rows\noutput step2-fold.csv 8 rows\n",
+        &[
+            ("half.csv", "A,B,C\n-1,-1,-1\n-1,1,1\n1,-1,1\n1,1,-1\n"),
+            ("rest.csv", "A,B,C\n-1,-1,-1\n-1,1,1\n1,-1,1\n1,1,-1\n"),
+            (
+                "step2-fold.csv",
+                "A,B,C\n-1,-1,-1\n-1,1,1\n1,-1,1\n1,1,-1\n1,-1,-1\n1,1,1\n-1,-1,1\n-1,1,-1\n",
+            ),
+        ],
+        0,
+    ),
+    (
+        "proc factex;factors A B C;size design=2;model r=3;foldover;proc factex nodes=1;factors A B;model r=3;foldover;",
+        "step 1\nfactors 3 levels 2\nno design in 2 runs\nnodes 1\nbook step1-1.book\nstep 2\nfactors 2 levels 2\nbudget ended after 1 nodes\n",
+        &[(
+            "step1-1.book",
+            "factex-book 2\nsize 2 1 3 0\nresolution 3\npattern none\nO 1\nEND\n",
+        )],
+        2,
+    ),
     (
         "proc factex; factors A B; size design=4; model resolution=3; output out=Plan pointrep=2 designrep=2 B cvals=('lo,w' 'h\"i');",
         "step 1\nfactors 2 levels 2\ndesign 4 runs\nno defining words\nnodes 2\nrules\n  none\noutput plan.csv 16 rows\n",

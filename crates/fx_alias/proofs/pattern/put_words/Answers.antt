@@ -6,30 +6,32 @@ use Rattle.fx_alias.specs.Patterns.{words_line, words_lines}
 use Rattle.fx_alias.proofs.pattern.put_words.Goals as goal
 
 -- the lines from one weight on begin with that weight's
-one_more : (a : List ℕ) (i : ℕ) → i < length a
-    → words_lines (i + 1) (drop i a)
+one_more : (letter a : List ℕ) (i : ℕ) → i < length a
+    → words_lines letter (i + 1) (drop i a)
     ≡ (if get_or a i 0 == 0
-    then words_lines (i + 1 + 1) (drop (i + 1) a)
-    else words_line (i + 1) (get_or a i 0) ++ words_lines (i + 1 + 1) (drop (i + 1) a))
-one_more a i low = rw (add-one i, drop-cons a i 0 low) refl
+    then words_lines letter (i + 1 + 1) (drop (i + 1) a)
+    else words_line letter (i + 1) (get_or a i 0) ++ words_lines letter (i + 1 + 1) (drop (i + 1) a))
+one_more letter a i low = rw (add-one i, drop-cons a i 0 low) refl
 
 pub loop-i-preserved : goal.loop-i-preserved
 loop-i-preserved c =
+    let letter : List ℕ = c.args.letter.now in
     let a : List ℕ = c.args.pattern.now in
     let i : ℕ = c.loop-i.i in
     let low : i < length a = omega (arith, c.loop-i-test.true, ap length c.as_slice-words.ensures) in
     let here : slice_index_or c.as_slice-words.result.now i 0 ≡ get_or a i 0 =
     ap (λ (v : List ℕ). slice_index_or v i 0) c.as_slice-words.ensures in
-    c.in_ok-put_weight.ensures (words_lines (i + 1 + 1) (drop (i + 1) a))
+    c.in_ok-put_weight.ensures (words_lines letter (i + 1 + 1) (drop (i + 1) a))
     ∙ ap (λ x. c.loop-i.out
     ++ (if x == 0
-    then words_lines (i + 1 + 1) (drop (i + 1) a)
-    else words_line (i + 1) x ++ words_lines (i + 1 + 1) (drop (i + 1) a))) here
-    ∙ ap (λ (l : List ℕ). c.loop-i.out ++ l) (sym (one_more a i low)) ∙ c.loop-i.invariant
+    then words_lines letter (i + 1 + 1) (drop (i + 1) a)
+    else words_line letter (i + 1) x ++ words_lines letter (i + 1 + 1) (drop (i + 1) a))) here
+    ∙ ap (λ (l : List ℕ). c.loop-i.out ++ l) (sym (one_more letter a i low)) ∙ c.loop-i.invariant
 
 pub returns : goal.returns
 returns c =
+    let letter : List ℕ = c.args.letter.now in
     let a : List ℕ = c.args.pattern.now in
     let past : length a ≤ c.loop-i.i = omega (arith, c.loop-i-test.false, ap length c.as_slice-words.ensures) in
-    sym (append-nil c.loop-i.out) ∙ ap (λ (l : List ℕ). c.loop-i.out ++ words_lines (c.loop-i.i + 1) l)
+    sym (append-nil c.loop-i.out) ∙ ap (λ (l : List ℕ). c.loop-i.out ++ words_lines letter (c.loop-i.i + 1) l)
     (sym (drop_of_length-le a past)) ∙ c.loop-i.invariant

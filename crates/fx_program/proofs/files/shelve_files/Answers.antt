@@ -7,4 +7,4 @@ returns-in_err-shelve_books g c =
     c.from_residual.result c.from_residual.ensures.1
 
 pub returns : goal.returns
-returns g c = shelved_both _ c.in_ok-shelve_books.ensures c.shelve_plans.ensures
+returns g c = shelved_both _ c.in_ok-shelve_books.ensures c.shelve_designs.ensures

@@ -3,6 +3,7 @@ use Rattle.fx_vectors.specs.Shape.{dimensions_of}
 use Rattle.fx_statements.specs.Outcomes.{ending_in, HasMatrix}
 use Rattle.fx_statements.specs.Questions.{conclusion_in}
 use Rattle.fx_statements.specs.Steps.{Meaning, meaning_of}
+use Rattle.fx_alias.specs.Folds.{fold_section}
 use Rattle.fx_alias.specs.Heads.{head_lines}
 use Rattle.fx_alias.specs.Rules.{rules_section}
 use Rattle.fx_alias.specs.Sections.{examined}
@@ -24,20 +25,32 @@ pub examine_listing-requires-clause-few : goal.examine_listing-requires-clause-f
 examine_listing-requires-clause-few c =
     (let design = is_design c.args.step.now c.args.outcome.now c.in-Some.matrix c.requires c.in-Some.is in design.few)
 
-pub returns-in_ok-examine_listing-in-Some : goal.returns-in_ok-examine_listing-in-Some
-returns-in_ok-examine_listing-in-Some c =
+pub fold_listing-requires-clause-levels : goal.fold_listing-requires-clause-levels
+fold_listing-requires-clause-levels c =
+    (let design = is_design c.args.step.now c.args.outcome.now c.in-Some.matrix c.requires c.in-Some.is in design.levels)
+
+pub fold_listing-requires-clause-unblocked : goal.fold_listing-requires-clause-unblocked
+fold_listing-requires-clause-unblocked c =
+    (let design = is_design c.args.step.now c.args.outcome.now c.in-Some.matrix c.requires c.in-Some.is in
+    design.unblocked)
+
+pub returns-in_ok-fold_listing-in-Some : goal.returns-in_ok-fold_listing-in-Some
+returns-in_ok-fold_listing-in-Some c =
     let outcome = c.args.outcome.now in
     let step : Meaning = meaning_of c.args.step.now in
     let matrix = c.in-Some.matrix in
     let rows = rules_section (dimensions_of matrix.shape) step.factors matrix.rows in
     let books = book_lines c.args.number outcome.books in
+    let fold = fold_section step matrix in
     let head = head_lines c.args.number step (conclusion_in outcome) in
     let there = subst (HasMatrix outcome.shape (ending_in outcome)) c.in-Some.is outcome.whole in
-    c.in_ok-examine_listing-in-Some.ensures.ok
-    ∙ ap (λ l. l ++ examined step matrix) c.in_ok-put_book_lines-in-Some.ensures
-    ∙ ap (λ l. (l ++ books) ++ examined step matrix) c.in_ok-rules_listing-in-Some.ensures.ok
-    ∙ append_assoc (c.head_listing.new.out ++ rows) books (examined step matrix)
-    ∙ append_assoc c.head_listing.new.out rows (books ++ examined step matrix)
+    c.in_ok-fold_listing-in-Some.ensures.ok
+    ∙ ap (λ l. l ++ fold) c.in_ok-examine_listing-in-Some.ensures.ok
+    ∙ ap (λ l. (l ++ examined step matrix) ++ fold) c.in_ok-put_book_lines-in-Some.ensures
+    ∙ ap (λ l. ((l ++ books) ++ examined step matrix) ++ fold) c.in_ok-rules_listing-in-Some.ensures.ok
+    ∙ append_assoc ((c.head_listing.new.out ++ rows) ++ books) (examined step matrix) fold
+    ∙ append_assoc (c.head_listing.new.out ++ rows) books (examined step matrix ++ fold)
+    ∙ append_assoc c.head_listing.new.out rows (books ++ (examined step matrix ++ fold))
     ∙ all_lines c.args.number step books (conclusion_in outcome) _ _
     (c.in_ok-head_listing.ensures.ok ∙ ap (λ l. l ++ head) c.new-lines.ensures)
     (with_matrix outcome.shape step books (ending_in outcome) matrix there)

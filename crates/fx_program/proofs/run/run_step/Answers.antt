@@ -1,6 +1,8 @@
-use Rattle.std.proofs.Common.{◌++◌, ℕ, List, sym, ap, ap₂, ◌∙◌}
+use Rattle.std.proofs.Common.{◌++◌, ℕ, List, append_assoc, sym, ap, ap₂, ◌∙◌}
 use Rattle.fx_statements.specs.Steps.{meaning_of}
-use Rattle.fx_program.specs.Files.{book_files, output_lines, plan_files}
+use Rattle.fx_statements.specs.Questions.{conclusion_in}
+use Rattle.fx_alias.specs.Sections.{step_lines}
+use Rattle.fx_program.specs.Files.{book_files, book_lines, design_files, fold_line, output_lines}
 use Rattle.fx_program.specs.Output.{with_files}
 use Rattle.fx_program.proofs.Given.{is_given}
 use Rattle.fx_program.proofs.Endings.{after_files, stopped_after_files, stopped_in_files, writes_by, writes_none}
@@ -30,16 +32,30 @@ returns-in_err-put_output_lines g c =
     (stopped_after_files _ _ _ c.in_ok-shelve_files.ensures _
     c.from_residual-in_err-put_output_lines.result c.from_residual-in_err-put_output_lines.ensures.1)
 
+pub returns-in_err-put_fold_line : goal.returns-in_err-put_fold_line
+returns-in_err-put_fold_line g c =
+    writes_by (is_given c.args.session.now.seed c.args.number
+    (meaning_of c.args.step.now) c.in_ok-outcome.outcome c.in_ok-outcome.ensures.outcome)
+    (stopped_after_files _ _ _ c.in_ok-shelve_files.ensures _
+    c.from_residual-in_err-put_fold_line.result c.from_residual-in_err-put_fold_line.ensures.1)
+
 pub returns : goal.returns
 returns g c =
     let step = meaning_of c.args.step.now in
     let seed = c.args.session.now.seed in
     let outcome = c.in_ok-outcome.outcome in
-    let bytes = c.as_slice.ensures ∙ c.in_ok-put_output_lines.ensures ∙ ap
-    (λ (l : List ℕ). l ++ output_lines seed step outcome.matrix) c.in_ok-lines.ensures in
+    let outputs = output_lines seed step outcome.matrix in
+    let fold = fold_line c.args.number step.fold outcome.matrix in
+    let bytes =
+    c.as_slice.ensures ∙ c.in_ok-put_fold_line.ensures
+    ∙ ap (λ (l : List ℕ). l ++ fold) (c.in_ok-put_output_lines.ensures ∙ ap (λ (l : List ℕ). l ++ outputs)
+    c.in_ok-lines.ensures)
+    ∙ append_assoc (step_lines c.args.number step (book_lines c.args.number outcome.books) (conclusion_in outcome))
+    outputs fold in
     let status = c.status_of.ensures.status outcome.matrix outcome.nodes in
     writes_by
     (is_given seed c.args.number step outcome c.in_ok-outcome.ensures.outcome
     ∙ ap₂ (λ (l : List ℕ) (n : ℕ). with_files
-    (book_files c.args.number outcome.books ++ plan_files seed step outcome.matrix) l n) (sym bytes) (sym status))
+    (book_files c.args.number outcome.books ++ design_files seed c.args.number step outcome.matrix) l n) (sym bytes)
+    (sym status))
     (after_files _ _ _ c.in_ok-shelve_files.ensures c.list.ensures.output)

@@ -16,11 +16,12 @@ use Rattle.fx_outputs.proofs.Names.{all_differ, all_have_names}
 use Rattle.fx_text.proofs.Distinct.{behind_differ}
 use Rattle.fx_statements.proofs.Parts.{named_factors}
 use Rattle.fx_statements.specs.Contexts.{context}
+use Rattle.fx_statements.specs.Folds.{IsFold, fold_of}
 use Rattle.fx_statements.specs.Goals.{goal_of}
 use Rattle.fx_statements.specs.Valid.{CanBeWanted, HasFewComponents, most_factors_of}
 use Rattle.fx_statements.specs.Steps.{asked_by, examine_of, factors_by, head_of, factor_limit}
 use Rattle.fx_statements.proofs.Bounds.{counted, same_settings, unsaid}
-use Rattle.fx_statements.proofs.StepByStep.{step_is, settings_refused, outputs_refused}
+use Rattle.fx_statements.proofs.StepByStep.{step_is, settings_refused, fold_refused, outputs_refused}
 use Rattle.fx_text.proofs.Stops.{refused, stopped}
 use Rattle.fx_text.specs.Statements.{statement_of}
 use Rattle.fx_text.specs.Written.{Written}
@@ -43,7 +44,7 @@ invariant_of-result c =
     let factors = c.in_ok-factors.factors in
     let s = ap length c.as_slice.ensures in
     let read =
-    c.context_of-context.ensures ∙ ap (λ factors. context factors settings) c.as_slice-2.ensures ∙ ap
+    c.context_of-context.ensures ∙ ap (λ factors. context factors settings) c.as_slice-3.ensures ∙ ap
     (context factors) (sym same) in
     let outputs = c.in_ok-outputs.outputs in
     record {
@@ -69,6 +70,9 @@ invariant_of-result c =
           subst (λ e. HasFewComponents settings.q (length factors) (goal_of wanted) e) (sym c.examine_of.ensures)
           (subst (λ n. HasFewComponents settings.q n (goal_of wanted) (examine_of statements)) s
           c.in_ok-settings.ensures.few_components);
+      fold_fits =
+          subst (λ s. IsFold settings.q settings.blocks s c.in_ok-fold.fold) (ap length c.as_slice-2.ensures)
+          c.in_ok-fold.ensures.fits;
       output_names =
           subst (λ x. All (HasItsNames x) outputs) read
           (all_have_names c.context_of-context.result c.args.earlier.now statements outputs c.requires.accepted
@@ -96,12 +100,14 @@ returns-clause-step c =
     ap₂ (λ names said. asked_by names said statements) (sym c.as_slice.ensures)
     (sym (c.step_said-said.ensures ∙ ap (λ p. step_said p named statements) c.head_of-proc.ensures))
     ∙ c.in_ok-settings.ensures.asked in
+    let is_fold : fold_of factors settings statements ≡ Ok c.in_ok-fold.fold =
+    ap (λ names. fold_of names settings statements) (sym c.as_slice-2.ensures) ∙ c.in_ok-fold.ensures.ok in
     let are_outputs : outputs_of (context factors settings) c.args.earlier.now statements ≡ Ok c.in_ok-outputs.outputs =
     ap (λ x. outputs_of x c.args.earlier.now statements)
-    (sym (c.context_of-context.ensures ∙ ap (λ names. context names settings) c.as_slice-2.ensures))
+    (sym (c.context_of-context.ensures ∙ ap (λ names. context names settings) c.as_slice-3.ensures))
     ∙ c.in_ok-outputs.ensures.ok in
-    step_is c.args.earlier.now statements named factors settings wanted c.in_ok-outputs.outputs is_named is_asked
-    are_outputs c.examine_of.result c.examine_of.ensures c.in_ok-settings.ensures.kind
+    step_is c.args.earlier.now statements named factors settings wanted c.in_ok-fold.fold c.in_ok-outputs.outputs
+    is_named is_asked is_fold are_outputs c.examine_of.result c.examine_of.ensures c.in_ok-settings.ensures.kind
 
 pub returns-in_err-outputs-clause-refused : goal.returns-in_err-outputs-clause-refused
 returns-in_err-outputs-clause-refused c =
@@ -120,14 +126,41 @@ returns-in_err-outputs-clause-refused c =
     ap₂ (λ names said. asked_by names said statements) (sym c.as_slice.ensures)
     (sym (c.step_said-said.ensures ∙ ap (λ p. step_said p named statements) c.head_of-proc.ensures))
     ∙ c.in_ok-settings.ensures.asked in
+    let is_fold : fold_of factors settings statements ≡ Ok c.in_ok-fold.fold =
+    ap (λ names. fold_of names settings statements) (sym c.as_slice-2.ensures) ∙ c.in_ok-fold.ensures.ok in
     let refused : IsRefused (outputs_of (context factors settings) c.args.earlier.now statements) reason =
     subst (λ x. IsRefused (outputs_of x c.args.earlier.now statements) reason)
-    (c.context_of-context.ensures ∙ ap (λ names. context names settings) c.as_slice-2.ensures)
+    (c.context_of-context.ensures ∙ ap (λ names. context names settings) c.as_slice-3.ensures)
     c.in_err-outputs.ensures.refused in
     let p = err_from_is_err_and c.from_residual-in_err-outputs.result c.from_residual-in_err-outputs.ensures.1 in
     rw (p.1, p.2)
     (outputs_refused c.args.earlier.now statements named factors settings c.in_ok-settings.wanted is_named is_asked
-    reason refused)
+    c.in_ok-fold.fold is_fold reason refused)
+
+pub returns-in_err-fold-clause-refused : goal.returns-in_err-fold-clause-refused
+returns-in_err-fold-clause-refused c =
+    let statements = c.args.statements.now in
+    let named = c.args.named.now in
+    let factors = c.in_ok-factors.factors in
+    let settings = c.in_ok-settings.settings in
+    let reason = c.in_err-fold.field-0.0 in
+    let is_named : factors_by (start_of (head_of statements)) (factor_limit named statements) named ≡ Ok factors =
+    ap₂ (λ place most. factors_by place most named) (sym (c.place.ensures ∙ ap start_of c.head_of-proc.ensures))
+    (sym (limit c.head_of-proc.result statements named c.factor_limit.ensures.value c.levels_of.ensures
+    c.step_said-said.ensures))
+    ∙ c.in_ok-factors.ensures.factors in
+    let is_asked : asked_by factors (step_said (head_of statements) named statements) statements
+    ≡ Ok (settings, goal_of c.in_ok-settings.wanted) =
+    ap₂ (λ names said. asked_by names said statements) (sym c.as_slice.ensures)
+    (sym (c.step_said-said.ensures ∙ ap (λ p. step_said p named statements) c.head_of-proc.ensures))
+    ∙ c.in_ok-settings.ensures.asked in
+    let fold_is_refused : IsRefused (fold_of factors settings statements) reason =
+    subst (λ names. IsRefused (fold_of names settings statements) reason) c.as_slice-2.ensures
+    c.in_err-fold.ensures.refused in
+    let p = err_from_is_err_and c.from_residual-in_err-fold.result c.from_residual-in_err-fold.ensures.1 in
+    rw (p.1, p.2)
+    (fold_refused c.args.earlier.now statements named factors settings c.in_ok-settings.wanted is_named is_asked
+    reason fold_is_refused)
 
 pub returns-clause-differ : goal.returns-clause-differ
 returns-clause-differ c =
