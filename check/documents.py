@@ -20,15 +20,9 @@ LISTING = re.compile(r"(step|factors|resolution|budget|nodes|book|output|plan) \
 
 def blocks_of(page):
     """The blocks of code and the tables of a page, each as a list of lines."""
-    block = []
-    for line in [*page.read_text(encoding="utf-8").splitlines(), ""]:
-        if line.startswith("    ") or line.startswith("|") or (block and not block[-1].startswith("|") and not line.strip() and block[-1]):
-            block.append(line[4:] if line.startswith("    ") else line)
-        elif block:
-            while block and not block[-1].strip():
-                block.pop()
-            yield block
-            block = []
+    text = page.read_text(encoding="utf-8")
+    for block in re.findall(r"(?:^    .*\n(?:\n(?=    ))*)+|(?:^\|.*\n)+", text, re.M):
+        yield [line[4:] if line.startswith("    ") else line for line in block.splitlines()]
 
 
 def printed(command, text):
