@@ -13,3 +13,4 @@ mod Subjects
 mod Exact
 mod Rising
 pub mod RuleLines
+pub mod Folds

@@ -67,6 +67,8 @@ fn put_fold(
         (combined_pattern m folded.now (vectors_of 2 m matrix.now.rows))) }
 {
     let pattern = fold_pattern(alloc, matrix, folded)?;
+    // A design has at most `MOST_FACTORS` factors.
+    let _shape = matrix.shape();
     let names = lent(alloc, factors)?;
     put(out, b"foldover ")?;
     put_product(out, names.as_slice(), folded)?;

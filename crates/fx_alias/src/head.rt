@@ -1,4 +1,4 @@
-ghost use Rattle.std.specs.Prelude.{◌≡◌, ◌++◌, ◌^◌, OnErr, OnOk, IsTrue};
+ghost use Rattle.std.specs.Prelude.{◌≡◌, ◌++◌, ◌^◌, ◌≤◌, length, OnErr, OnOk, IsTrue};
 ghost use Rattle.fx_designs.specs.Galois.{is_order};
 ghost use Rattle.fx_settings.specs.Powers.{greatest};
 ghost use Rattle.fx_designs.specs.Patterns.{pattern_of};
