@@ -1,3 +1,3 @@
 mod Answered
-mod Fewer
-mod Claimed
+pub mod Fewer
+pub mod Claimed

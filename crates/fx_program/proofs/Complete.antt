@@ -14,7 +14,7 @@ use Rattle.fx_program.specs.Output.{world}
 use Rattle.fx_program.specs.Outside.{GivesForSome}
 use Rattle.fx_program.specs.Stops.{HasStatusCause, SomeRose}
 use Rattle.fx_program.specs.declared.words.Settings.{Settings}
-use Rattle.fx_program.specs.declared.words.Settings.TheVariants.{Run, Check, Make, Large, Judge, Upgrade}
+use Rattle.fx_program.specs.declared.words.Settings.TheVariants.{Run, Check, Make, Large, Judge, Upgrade, Catalogue}
 use Rattle.fx_program.specs.declared.words.WordFault.{WordFault}
 
 -- as far as events have come, they have listed no more bytes than all of them, and shelved no more files
@@ -42,6 +42,7 @@ same-output (Ok Upgrade) text known h = ap (output_for (Ok Upgrade)) (sym (h ref
 same-output (Ok (Judge q)) text known h = ap (output_for (Ok (Judge q))) (sym (h refl))
 same-output (Ok (Make n)) text known h = refl
 same-output (Ok (Large n threads)) text known h = refl
+same-output (Ok (Catalogue q m most threads nodes)) text known h = refl
 same-output (Err fault) text known h = refl
 
 pub gives-within : (words : List (List ℕ)) (left written : List ℕ) (files : List File) (status : ℕ)

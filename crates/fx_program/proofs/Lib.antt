@@ -3,11 +3,14 @@ mod Reading
 mod Endings
 mod Limits
 mod SoFar
+mod Stages
+pub mod CatalogueLines
 mod Filing
 mod Given
 pub mod None
 pub mod AnyText
 pub mod Statuses
+pub mod CatalogueClaims
 mod Summing
 pub mod ProvedBooks
 mod Commands

@@ -1,7 +1,7 @@
--- What is claimed of each step of a program, of the program's status, and of a book that is accepted.
-use Rattle.std.specs.Prelude.{ℕ, ◌≡◌, ◌<◌, ◌≤◌, List, Some, Result, Ok, Err, All}
+-- What is claimed of each step of a program, of the program's status, of a book that is accepted, and of a catalogue.
+use Rattle.std.specs.Prelude.{ℕ, ◌≡◌, ◌<◌, ◌≤◌, true, List, [], ◌∷◌, ◌++◌, Some, Result, Ok, Err, All}
 use Rattle.std.specs.List.{Contains}
-use Rattle.fx_designs.specs.Problems.{Dimensions}
+use Rattle.fx_designs.specs.Problems.{AtResolution, Dimensions}
 use Rattle.fx_designs.specs.Matrices.{NoneMeets}
 use Rattle.fx_vectors.specs.Matrix.{MatrixView}
 use Rattle.fx_vectors.specs.Question.{problem_of}
@@ -9,6 +9,8 @@ use Rattle.fx_vectors.specs.Shape.{dimensions_of}
 use Rattle.fx_vectors.specs.declared.book.Book.{Book}
 use Rattle.fx_book.specs.Heads.{book_of}
 use Rattle.fx_checker.specs.Laws.{NoMatrix}
+use Rattle.fx_catalogue.specs.Catalogues.{Entry, entries, is_nothing, shape_at}
+use Rattle.fx_catalogue.specs.Laws.{Holds}
 use Rattle.fx_statements.specs.Questions.{outcome_of}
 use Rattle.fx_statements.specs.Steps.{Meaning}
 use Rattle.fx_program.specs.Files.{matrix_in}
@@ -58,3 +60,19 @@ pub record IsProvedBook (text : List ℕ) : Type 0 where
   pub book : Book
   pub read : book_of text ≡ Ok book
   pub claim : NoMatrix (problem_of book.head.question) book.head.beat
+
+-- the lines of a catalogue with q levels and q^m runs end with one without a design, and no rule matrix with as many
+-- factors as that one, or more, has resolution 3
+pub record EndsWithNone (q m : ℕ) (list : List Entry) : Type 0 where
+  pub earlier : List Entry
+  pub last : Entry
+  pub behind : list ≡ earlier ++ last ∷ []
+  pub nothing : is_nothing last.line ≡ true
+  pub none : (s : ℕ) → last.factors ≤ s → NoneMeets (dimensions_of (shape_at q m s)) (AtResolution 3)
+
+-- What the catalogue of these numbers claims with this status. What each line claims holds of all rule matrices,
+-- canonical or not: that of those of resolution 3 or more none has a less pattern, or that there is none, and its book
+-- is good; or the question has more nodes than the budget. With status 1 the last line ends it.
+pub record CatalogueHolds (q m most budget status : ℕ) : Type 0 where
+  pub lines : All (λ (e : Entry). Holds (shape_at q m e.factors) budget e.line) (entries q m most budget)
+  pub none : status ≡ 1 → EndsWithNone q m (entries q m most budget)

@@ -1,5 +1,5 @@
 -- What the words of the command line ask for.
-use Rattle.std.specs.Prelude.{ℕ, ◌+◌, ◌^◌, ◌<◌, ◌≤◌, nat_le, nat_lt, ◌&&◌, Bool, true, false, unwrap_or, is_some, List}
+use Rattle.std.specs.Prelude.{ℕ, ◌+◌, ◌^◌, ◌-◌, ◌<◌, ◌≤◌, nat_le, nat_lt, ◌&&◌, Bool, true, false, unwrap_or, is_some, List}
 use Rattle.std.specs.Prelude.{[], ◌∷◌, ◌++◌, if◌then◌else◌, Option, Some, None, Result, Ok, Err, Vec, map, take, drop}
 use Rattle.std.specs.Prelude.{length, codes, decimal, IsTrue}
 use Rattle.std.specs.List.{list_all}
@@ -7,9 +7,13 @@ use Rattle.std.specs.Str.{bytes_eq}
 use Rattle.std.specs.Str.Parse.{digits_value}
 use Rattle.fx_designs.specs.Galois.{is_order}
 use Rattle.fx_lexer.specs.Bytes.{is_digit}
+use Rattle.fx_settings.specs.Powers.{greatest}
+use Rattle.fx_statements.specs.Valid.{most_factors_of}
+use Rattle.fx_program.specs.declared.words.Extra.{Extra}
+use Rattle.fx_program.specs.declared.words.Extra.TheVariants as extra
 use Rattle.fx_program.specs.declared.words.Options.{Options}
 use Rattle.fx_program.specs.declared.words.Settings.{Settings}
-use Rattle.fx_program.specs.declared.words.Settings.TheVariants.{Run, Check, Make, Large, Judge, Upgrade}
+use Rattle.fx_program.specs.declared.words.Settings.TheVariants.{Run, Check, Make, Large, Judge, Upgrade, Catalogue}
 use Rattle.fx_program.specs.declared.words.WordFault.{WordFault}
 
 -- the bytes of each word
@@ -28,77 +32,81 @@ after_prefix front word = if bytes_eq (take (length front) word) front then Some
 abbrev pub is_decimal : List ℕ → Bool
 is_decimal digits = list_all is_digit digits && nat_le 1 (length digits) && nat_le (length digits) 20
 
--- the seed that these digits write: a number below 2^64
-abbrev pub seed_of : List ℕ → Option ℕ
-seed_of digits =
-    if is_decimal digits && nat_lt (digits_value 10 digits) (2 ^ 64) then Some (digits_value 10 digits) else None
+-- the number that these digits write, within these limits
+abbrev pub within : ℕ → ℕ → List ℕ → Option ℕ
+within low high digits =
+    if is_decimal digits && (nat_le low (digits_value 10 digits) && nat_le (digits_value 10 digits) high)
+    then Some (digits_value 10 digits) else None
 
 -- the value of an option of the word at this place, or 4 where there is none
 abbrev pub value_or_fault : {T : Type 0} → ℕ → Option T → Result T WordFault
 value_or_fault place None = word_fault 4 place
 value_or_fault place (Some n) = Ok n
 
--- the number of threads that these digits write: 1 to 64
-abbrev pub threads_of : List ℕ → Option ℕ
-threads_of digits =
-    if is_decimal digits && (nat_le 1 (digits_value 10 digits) && nat_le (digits_value 10 digits) 64)
-    then Some (digits_value 10 digits) else None
+-- the number of the word at this place, within these limits
+abbrev pub number_at : ℕ → ℕ → ℕ → List ℕ → Result ℕ WordFault
+number_at place low high word = value_or_fault place (within low high word)
 
 -- the value of an option of the word at this place, and 5 where the option had a value before
 abbrev pub once : {T : Type 0} → ℕ → Option T → Option T → Result T WordFault
 once place (Some earlier) value = word_fault 5 place
 once place None value = value_or_fault place value
 
--- the options with this number of threads, or with this seed
+-- the options with this number of threads, from 1 to 64, or with this number of the extra option
 abbrev pub add_threads : Options → Result ℕ WordFault → Result Options WordFault
-add_threads given (Ok n) = Ok (record { threads = Some n; seed = given.seed })
+add_threads given (Ok n) = Ok (record { threads = Some n; extra = given.extra })
 add_threads given (Err fault) = Err fault
 
-abbrev pub add_seed : Options → Result ℕ WordFault → Result Options WordFault
-add_seed given (Ok n) = Ok (record { threads = given.threads; seed = Some n })
-add_seed given (Err fault) = Err fault
+abbrev pub add_extra : Options → Result ℕ WordFault → Result Options WordFault
+add_extra given (Ok n) = Ok (record { threads = given.threads; extra = Some n })
+add_extra given (Err fault) = Err fault
 
--- the options with that of the word at this place, by what follows `--threads=` in it, or else `--seed=`; 3 where
--- neither does
-abbrev pub with_option : ℕ → Options → Option (List ℕ) → Option (List ℕ) → Result Options WordFault
-with_option place given (Some digits) seed = add_threads given (once place given.threads (threads_of digits))
-with_option place given None (Some digits) = add_seed given (once place given.seed (seed_of digits))
-with_option place given None None = word_fault 3 place
+-- the options with an extra one of the word at this place, within these limits, by what follows its name; 3 where the
+-- word does not begin so
+abbrev pub extra_by : ℕ → Options → ℕ → ℕ → Option (List ℕ) → Result Options WordFault
+extra_by place given low high (Some digits) = add_extra given (once place given.extra (within low high digits))
+extra_by place given low high None = word_fault 3 place
 
--- what follows `--seed=` in a word, for a command that has a seed
-abbrev pub seed_in : Bool → List ℕ → Option (List ℕ)
-seed_in has_seed word = if has_seed then after_prefix (codes "--seed=") word else None
+abbrev pub with_extra : ℕ → Options → List ℕ → ℕ → ℕ → List ℕ → Result Options WordFault
+with_extra place given name low high word = extra_by place given low high (after_prefix name word)
+
+-- the same of a seed, a number below 2^64, or of a number of nodes, for a command that allows this
+abbrev pub allowed_extra : ℕ → Extra → Options → List ℕ → Result Options WordFault
+allowed_extra place extra.Nothing given word = word_fault 3 place
+allowed_extra place extra.Seed given word = with_extra place given (codes "--seed=") 0 (2 ^ 64 - 1) word
+allowed_extra place extra.Nodes given word = with_extra place given (codes "--nodes=") 1 5000000 word
+
+-- the options with that of the word at this place, by what follows `--threads=` in it
+abbrev pub option_by : ℕ → Extra → Options → List ℕ → Option (List ℕ) → Result Options WordFault
+option_by place allowed given word (Some digits) = add_threads given (once place given.threads (within 1 64 digits))
+option_by place allowed given word None = allowed_extra place allowed given word
+
+abbrev pub with_option : ℕ → Extra → Options → List ℕ → Result Options WordFault
+with_option place allowed given word = option_by place allowed given word (after_prefix (codes "--threads=") word)
 
 -- the options with those of words from this place on
-abbrev pub options_behind : ℕ → Bool → Result Options WordFault → List (List ℕ) → Result Options WordFault
-options_behind place has_seed (Err fault) words = Err fault
-options_behind place has_seed (Ok given) [] = Ok given
-options_behind place has_seed (Ok given) (word ∷ words) =
-    options_behind (place + 1) has_seed
-    (with_option place given (after_prefix (codes "--threads=") word) (seed_in has_seed word)) words
+abbrev pub options_behind : ℕ → Extra → Result Options WordFault → List (List ℕ) → Result Options WordFault
+options_behind place allowed (Err fault) words = Err fault
+options_behind place allowed (Ok given) [] = Ok given
+options_behind place allowed (Ok given) (word ∷ words) =
+    options_behind (place + 1) allowed (with_option place allowed given word) words
 
 -- how many options are given
 abbrev pub option_count : Options → ℕ
-option_count given = (if is_some given.threads then 1 else 0) + (if is_some given.seed then 1 else 0)
+option_count given = (if is_some given.threads then 1 else 0) + (if is_some given.extra then 1 else 0)
 
 -- the options of words from this place on
-abbrev pub options_in : ℕ → Bool → List (List ℕ) → Result Options WordFault
-options_in place has_seed words = options_behind place has_seed (Ok (record { threads = None; seed = None })) words
+abbrev pub options_in : ℕ → Extra → List (List ℕ) → Result Options WordFault
+options_in place allowed words = options_behind place allowed (Ok (record { threads = None; extra = None })) words
 
 -- the settings of `run`: one thread and the seed 0 where they are not given
 abbrev pub run_with : Result Options WordFault → Result Settings WordFault
 run_with (Err fault) = Err fault
-run_with (Ok given) = Ok (Run (unwrap_or given.threads 1) (unwrap_or given.seed 0))
+run_with (Ok given) = Ok (Run (unwrap_or given.threads 1) (unwrap_or given.extra 0))
 
--- the number of steps that these digits write: 1 to 100
-abbrev pub step_count : List ℕ → Option ℕ
-step_count digits =
-    if is_decimal digits && (nat_le 1 (digits_value 10 digits) && nat_le (digits_value 10 digits) 100)
-    then Some (digits_value 10 digits) else None
-
--- the number of steps of the word at this place
+-- the number of steps of the word at this place: 1 to 100
 abbrev pub steps_at : ℕ → List ℕ → Result ℕ WordFault
-steps_at place word = value_or_fault place (step_count word)
+steps_at place word = number_at place 1 100 word
 
 -- a number that no word follows
 abbrev pub alone : List (List ℕ) → Result ℕ WordFault → Result ℕ WordFault
@@ -122,7 +130,7 @@ large_by n (Ok given) = Ok (Large n (unwrap_or given.threads 1))
 
 abbrev pub large_behind : List (List ℕ) → Result ℕ WordFault → Result Settings WordFault
 large_behind others (Err fault) = Err fault
-large_behind others (Ok n) = large_by n (options_in 3 false others)
+large_behind others (Ok n) = large_by n (options_in 3 extra.Nothing others)
 
 abbrev pub large_with : List (List ℕ) → Result Settings WordFault
 large_with [] = word_fault 6 2
@@ -146,6 +154,37 @@ abbrev pub judge_with : List (List ℕ) → Result Settings WordFault
 judge_with [] = word_fault 6 2
 judge_with (word ∷ others) = judged_by (alone others (order_at 2 word))
 
+-- The settings of `catalogue`: the numbers of levels, of run indexes and of the most factors, and then the options,
+-- with one thread and 1,000,000 nodes where they are not given.
+abbrev pub catalogue_by : ℕ → ℕ → ℕ → Result Options WordFault → Result Settings WordFault
+catalogue_by q m most (Err fault) = Err fault
+catalogue_by q m most (Ok given) = Ok (Catalogue q m most (unwrap_or given.threads 1) (unwrap_or given.extra 1000000))
+
+abbrev pub options_of_catalogue : ℕ → ℕ → List (List ℕ) → Result ℕ WordFault → Result Settings WordFault
+options_of_catalogue q m options (Err fault) = Err fault
+options_of_catalogue q m options (Ok most) = catalogue_by q m most (options_in 5 extra.Nodes options)
+
+abbrev pub factors_of_catalogue : ℕ → ℕ → List (List ℕ) → Result Settings WordFault
+factors_of_catalogue q m [] = word_fault 6 4
+factors_of_catalogue q m (word ∷ options) =
+    options_of_catalogue q m options (number_at 4 (m + 1) (most_factors_of q false) word)
+
+abbrev pub behind_indexes : ℕ → List (List ℕ) → Result ℕ WordFault → Result Settings WordFault
+behind_indexes q words (Err fault) = Err fault
+behind_indexes q words (Ok m) = factors_of_catalogue q m words
+
+abbrev pub indexes_of_catalogue : ℕ → List (List ℕ) → Result Settings WordFault
+indexes_of_catalogue q [] = word_fault 6 3
+indexes_of_catalogue q (word ∷ words) = behind_indexes q words (number_at 3 1 (greatest q) word)
+
+abbrev pub behind_levels : List (List ℕ) → Result ℕ WordFault → Result Settings WordFault
+behind_levels words (Err fault) = Err fault
+behind_levels words (Ok q) = indexes_of_catalogue q words
+
+abbrev pub catalogue_with : List (List ℕ) → Result Settings WordFault
+catalogue_with [] = word_fault 6 2
+catalogue_with (word ∷ words) = behind_levels words (order_at 2 word)
+
 -- these settings, for a command that no word follows
 abbrev pub without_options : Settings → List (List ℕ) → Result Settings WordFault
 without_options settings [] = Ok settings
@@ -155,7 +194,7 @@ without_options settings (other ∷ others) = word_fault 3 2
 abbrev pub command_with : List ℕ → List (List ℕ) → Result Settings WordFault
 command_with word options =
     (if bytes_eq word (codes "run")
-    then run_with (options_in 2 true options)
+    then run_with (options_in 2 extra.Seed options)
     else (if bytes_eq word (codes "check")
     then without_options Check options
     else (if bytes_eq word (codes "upgrade")
@@ -164,11 +203,13 @@ command_with word options =
     then make_with options
     else (if bytes_eq word (codes "large")
     then large_with options
-    else (if bytes_eq word (codes "judge") then judge_with options else word_fault 2 1))))))
+    else (if bytes_eq word (codes "judge")
+    then judge_with options
+    else (if bytes_eq word (codes "catalogue") then catalogue_with options else word_fault 2 1)))))))
 
 -- 1: there is no word. 2: the first word is no command. 3: a word is no option of the command. 4: a number is none of 1
--- to 20 digits, or is not in its range. 5: the option is repeated. 6: the number of `make`, `large` or `judge` is
--- missing.
+-- to 20 digits, or is not in its range. 5: the option is repeated. 6: a number of `make`, `large`, `judge` or
+-- `catalogue` is missing.
 unfoldable pub settings_of : List (List ℕ) → Result Settings WordFault
 settings_of [] = word_fault 1 1
 settings_of (word ∷ options) = command_with word options
@@ -186,12 +227,32 @@ AreThreads n = (0 < n) × (n ≤ 64)
 abbrev pub HasThreads : Settings → Type 0
 HasThreads (Run threads seed) = AreThreads threads
 HasThreads (Large n threads) = AreThreads threads
+HasThreads (Catalogue q m most threads nodes) = AreThreads threads
 HasThreads _ = Unit {0}
 
 -- a command that judges a plan has a number of levels that there is
 abbrev pub HasOrder : Settings → Type 0
 HasOrder (Judge q) = IsTrue (is_order q)
 HasOrder _ = Unit {0}
+
+-- from 1 to 5,000,000 nodes, where the extra option is that for nodes
+abbrev pub IsOfExtra : Extra → ℕ → Type 0
+IsOfExtra extra.Nodes n = (1 ≤ n) × (n ≤ 5000000)
+IsOfExtra _ n = Unit {0}
+
+-- the numbers of a catalogue: each line has a shape within the limits and more factors than run indexes
+pub record IsCatalogue (q m most nodes : ℕ) : Type 0 where
+  pub order : IsTrue (is_order q)
+  pub some : 1 ≤ m
+  pub runs : m ≤ greatest q
+  pub dependent : m < most
+  pub factors : most ≤ most_factors_of q false
+  pub budget : (1 ≤ nodes) × (nodes ≤ 5000000)
+
+-- a command that makes a catalogue has such numbers
+abbrev pub HasShapes : Settings → Type 0
+HasShapes (Catalogue q m most threads nodes) = IsCatalogue q m most nodes
+HasShapes _ = Unit {0}
 
 -- the line that tells the fault: its code, and at which word
 abbrev pub word_line : WordFault → List ℕ

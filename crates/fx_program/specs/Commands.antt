@@ -4,11 +4,12 @@ use Rattle.fx_book.specs.Heads.{book_of}
 use Rattle.fx_program.specs.CommandLine.{settings_of, word_line}
 use Rattle.fx_program.specs.Texts.{program_in}
 use Rattle.fx_judge.specs.Reading.{plan_of_text}
+use Rattle.fx_program.specs.Cataloguing.{catalogue_output}
 use Rattle.fx_program.specs.Judging.{judged_output}
 use Rattle.fx_program.specs.Making.{made_text}
 use Rattle.fx_program.specs.Output.{Output, large_output, message, program_output, upgraded_output, verdict_output}
 use Rattle.fx_program.specs.declared.words.Settings.{Settings}
-use Rattle.fx_program.specs.declared.words.Settings.TheVariants.{Run, Check, Make, Large, Judge, Upgrade}
+use Rattle.fx_program.specs.declared.words.Settings.TheVariants.{Run, Check, Make, Large, Judge, Upgrade, Catalogue}
 use Rattle.fx_program.specs.declared.words.WordFault.{WordFault}
 
 -- A command: what it gives for a text of the source; whether it reads the source, and whether it reads such a text to
@@ -47,6 +48,7 @@ command_of (Judge q) = record {
   text_run = λ left. None;
 }
 command_of (Large n threads) = unread (large_output (program_in (made_text n))) (Some (made_text n))
+command_of (Catalogue q m most threads nodes) = unread (catalogue_output q m most nodes) None
 
 -- the command of settings, or what is given for the first fault of the words
 abbrev pub command_for : Result Settings WordFault → Command

@@ -10,6 +10,7 @@ pub mod Summaries
 pub mod Verdicts
 pub mod Output
 pub mod Judging
+pub mod Cataloguing
 pub mod Commands
 pub mod Outside
 pub mod Summed

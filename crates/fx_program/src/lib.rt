@@ -1,6 +1,8 @@
 //! The program: its words, its text, its messages, and the call that does it all.
 #![tactic(auto)]
 
+mod catalogue_words;
+mod cataloguing;
 mod checking;
 mod files;
 mod fold;

@@ -3,11 +3,11 @@ ghost use Rattle.fx_statements.specs.Steps.{meaning_of};
 ghost use Rattle.fx_statements.specs.Questions.{conclusion_in};
 ghost use Rattle.fx_alias.specs.Sections.{step_lines};
 ghost use Rattle.fx_answer.specs.Outcomes.{IsOutcome};
-ghost use Rattle.fx_program.specs.CommandLine.{HasOrder, HasThreads, bytes_of, settings_of};
+ghost use Rattle.fx_program.specs.CommandLine.{HasOrder, HasShapes, HasThreads, bytes_of, settings_of};
 ghost use Rattle.fx_program.specs.Making.{made_text};
 ghost use Rattle.fx_program.specs.Texts.{program_in};
-ghost use Rattle.fx_program.specs.Claims.{AllClaimsHold, IsProvedBook, SomeHasNone};
-ghost use Rattle.fx_program.specs.declared.words.Settings.TheVariants.{Check};
+ghost use Rattle.fx_program.specs.Claims.{AllClaimsHold, CatalogueHolds, IsProvedBook, SomeHasNone};
+ghost use Rattle.fx_program.specs.declared.words.Settings.TheVariants.{Catalogue, Check};
 ghost use Rattle.fx_program.specs.Stops.{HasStatusCause, exit_status};
 ghost use Rattle.fx_program.specs.declared.stop.Stop.TheVariants as stop;
 ghost use Rattle.fx_program.specs.Files.{book_lines};
@@ -24,6 +24,7 @@ ghost use Rattle.fx_program.specs.Outside.{
   source_view,
 };
 
+use crate::cataloguing::{CatalogueNumbers, list_catalogue};
 use crate::checking::check_text;
 use crate::files::shelve_files;
 use crate::fold::put_fold_line;
@@ -59,9 +60,10 @@ const TEXT_LIMIT: usize = 1048576;
 ///
 /// The exit status:
 ///
-/// - 0: each step has a design, or there is no step; or the book is accepted or upgraded, or the plan judged;
-/// - 1: some step has none, and no budget ended; or the book is rejected;
-/// - 2: the budget of some step ended;
+/// - 0: each step or line of a catalogue has a design, or there is no step; or the book is accepted or
+///   upgraded, or the plan judged;
+/// - 1: some step or line has none, and no budget ended; or the book is rejected;
+/// - 2: the budget of some step or line ended;
 /// - 3: the words, the text or the plan are refused;
 /// - 4: a call on the source, the listing or the shelf failed;
 /// - 5: memory ran out.
@@ -113,6 +115,12 @@ pub fn factex<R: Threads + Sync, S: Source, K: Sink, F: Shelf>(
         → S.left source.old ≡ Some text
         → IsProvedBook text }
 
+    // With `catalogue` and a status below 3, what each line claims holds of all rule matrices, and with status 1
+    // none with as many factors as the last line, or more, has resolution 3.
+    ensures catalogued { result < 3 → (q m most threads nodes : ℕ)
+        → settings_of (bytes_of words.now) ≡ Ok (Catalogue q m most threads nodes)
+        → CatalogueHolds q m most nodes result }
+
     // Where the source is read, the statuses of steps and of books come only with it read to its end,
     // but where it has more bytes than a book may have.
     ensures read_to_end { result < 3 → (text : List ℕ)
@@ -134,6 +142,7 @@ fn carry_out<R: Threads + Sync, S: Source, K: Sink, F: Shelf>(
 ) -> Result<u8, Stop>
     requires threads { IfOk asked HasThreads }
     requires order { IfOk asked HasOrder }
+    requires shapes { IfOk asked HasShapes }
     requires shelf { F.begun shelf.old ≡ false }
     ensures done { IsCarriedOut (command_for asked)
         (outside (source_view S.Source source.old) (sink_view K.Sink listing.old) (shelf_view F.Shelf shelf.old))
@@ -165,6 +174,22 @@ fn carry_out<R: Threads + Sync, S: Source, K: Sink, F: Shelf>(
                     seed: 0,
                 };
                 large(&session, n, listing)
+            }
+            Settings::Catalogue {
+                q,
+                m,
+                upto,
+                threads,
+                nodes,
+            } => {
+                let session = Session {
+                    rt,
+                    alloc,
+                    threads,
+                    seed: 0,
+                };
+                let asked = CatalogueNumbers { q, m, upto, nodes };
+                list_catalogue(&session, asked, listing, shelf)
             }
         },
         Err(fault) => list(listing, word_line(fault).as_slice(), REFUSED),

@@ -2,7 +2,7 @@ ghost use Rattle.std.specs.Prelude.{◌<◌, ◌≤◌};
 
 use std::alloc::Global;
 
-/// What a run of steps uses throughout.
+/// What a run of steps, or a list of lines, uses throughout.
 #[derive(Drop)]
 pub(crate) struct Session<'a, R> {
     /// Starts the threads.

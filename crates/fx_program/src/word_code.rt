@@ -15,5 +15,5 @@ pub const INVALID_NUMBER: u8 = 4;
 /// An option that is given already.
 pub const REPEATED_OPTION: u8 = 5;
 
-/// The number of `make`, `large` or `judge` is missing.
+/// A number of `make`, `large`, `judge` or `catalogue` is missing.
 pub const MISSING_NUMBER: u8 = 6;

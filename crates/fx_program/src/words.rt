@@ -6,7 +6,9 @@ ghost use Rattle.fx_lexer.specs.Bytes.{is_digit};
 ghost use Rattle.fx_program.specs.CommandLine.{
   AreThreads,
   HasOrder,
+  HasShapes,
   HasThreads,
+  IsOfExtra,
   IsWordFault,
   after_prefix,
   bytes_of,
@@ -15,23 +17,24 @@ ghost use Rattle.fx_program.specs.CommandLine.{
   judge_with,
   large_with,
   make_with,
+  number_at,
   once,
   option_count,
   options_in,
   order_at,
   order_of,
   run_with,
-  seed_in,
-  seed_of,
   settings_of,
   steps_at,
-  step_count,
-  threads_of,
+  with_extra,
   with_option,
+  within,
   without_options,
   word_line,
 };
+ghost use Rattle.fx_program.specs.declared.words.Extra.TheVariants as extra;
 
+use crate::catalogue_words::catalogue_with;
 use crate::word_code;
 use arrayvec::ArrayVec;
 use fx_galois::Field;
@@ -46,6 +49,12 @@ const THREADS: &[u8] = b"--threads=";
 
 /// How the option for the seed begins.
 const SEED: &[u8] = b"--seed=";
+
+/// How the option for the number of nodes begins.
+const NODES: &[u8] = b"--nodes=";
+
+/// The greatest number of nodes of a question.
+const MOST_NODES: u64 = 5000000;
 
 /// What the words of the command line ask for.
 #[derive(Clone, Copy, PartialEq, Eq)]
@@ -76,6 +85,19 @@ pub enum Settings {
         /// How many levels its factors have.
         q: u8,
     },
+    /// Lists the designs of least pattern for more and more factors.
+    Catalogue {
+        /// How many levels the factors have.
+        q: u8,
+        /// How many run indexes the designs have.
+        m: u8,
+        /// The greatest number of factors.
+        upto: u8,
+        /// How many threads search, 1 to 64.
+        threads: u8,
+        /// How many nodes each question may have.
+        nodes: u64,
+    },
 }
 
 /// Why the words are refused.
@@ -92,6 +114,7 @@ pub fn read_words(words: &[Vec<u8>]) -> Result<Settings, WordFault>
     ensures settings { result ≡ settings_of (bytes_of words.now) }
     ensures threads { IfOk result HasThreads }
     ensures order { IfOk result HasOrder }
+    ensures shapes { IfOk result HasShapes }
     ensures fault { IfErr result (IsWordFault (bytes_of words.now)) }
 {
     match words.split_first() {
@@ -103,11 +126,20 @@ pub fn read_words(words: &[Vec<u8>]) -> Result<Settings, WordFault>
     }
 }
 
+/// The option that a command allows beside that for threads.
+#[derive(Clone, Copy)]
+pub(crate) enum Extra {
+    Nothing,
+    Seed,
+    Nodes,
+}
+
 /// The options of the words, as far as they are given.
 #[derive(Clone, Copy)]
-struct Options {
-    threads: Option<u8>,
-    seed: Option<u64>,
+pub(crate) struct Options {
+    pub(crate) threads: Option<u8>,
+    /// The number of the extra option that the command allows.
+    pub(crate) extra: Option<u64>,
 }
 
 /// The settings of a command with these options.
@@ -115,6 +147,7 @@ fn command_with(command: &[u8], options: &[Vec<u8>]) -> Result<Settings, WordFau
     ensures settings { result ≡ command_with command.now (bytes_of options.now) }
     ensures threads { IfOk result HasThreads }
     ensures order { IfOk result HasOrder }
+    ensures shapes { IfOk result HasShapes }
 {
     if command == b"run".as_slice() {
         return run_with(options);
@@ -134,6 +167,9 @@ fn command_with(command: &[u8], options: &[Vec<u8>]) -> Result<Settings, WordFau
     if command == b"judge".as_slice() {
         return judge_with(options);
     }
+    if command == b"catalogue".as_slice() {
+        return catalogue_with(options);
+    }
     Err(WordFault {
         code: word_code::UNKNOWN_COMMAND,
         word: 1,
@@ -144,12 +180,13 @@ fn command_with(command: &[u8], options: &[Vec<u8>]) -> Result<Settings, WordFau
 fn run_with(options: &[Vec<u8>]) -> Result<Settings, WordFault>
     ensures threads { IfOk result HasThreads }
     ensures order { IfOk result HasOrder }
-    ensures settings { result ≡ run_with (options_in 2 true (bytes_of options.now)) }
+    ensures shapes { IfOk result HasShapes }
+    ensures settings { result ≡ run_with (options_in 2 extra.Seed (bytes_of options.now)) }
 {
-    let given = options_in(2, true, options)?;
+    let given = options_in(2, Extra::Seed, options)?;
     Ok(Settings::Run {
         threads: given.threads.unwrap_or(1),
-        seed: given.seed.unwrap_or(0),
+        seed: given.extra.unwrap_or(0),
     })
 }
 
@@ -172,6 +209,7 @@ fn without_options(settings: Settings, options: &[Vec<u8>]) -> Result<Settings, 
 fn make_with(words: &[Vec<u8>]) -> Result<Settings, WordFault>
     ensures threads { IfOk result HasThreads }
     ensures order { IfOk result HasOrder }
+    ensures shapes { IfOk result HasShapes }
     ensures settings { result ≡ make_with (bytes_of words.now) }
 {
     let Some((word, others)) = words.split_first() else {
@@ -195,6 +233,7 @@ fn make_with(words: &[Vec<u8>]) -> Result<Settings, WordFault>
 fn large_with(words: &[Vec<u8>]) -> Result<Settings, WordFault>
     ensures threads { IfOk result HasThreads }
     ensures order { IfOk result HasOrder }
+    ensures shapes { IfOk result HasShapes }
     ensures settings { result ≡ large_with (bytes_of words.now) }
 {
     let Some((word, others)) = words.split_first() else {
@@ -204,7 +243,7 @@ fn large_with(words: &[Vec<u8>]) -> Result<Settings, WordFault>
         });
     };
     let n = steps_at(2, word.as_slice())?;
-    let given = options_in(3, false, others)?;
+    let given = options_in(3, Extra::Nothing, others)?;
     Ok(Settings::Large {
         n,
         threads: given.threads.unwrap_or(1),
@@ -215,6 +254,7 @@ fn large_with(words: &[Vec<u8>]) -> Result<Settings, WordFault>
 fn judge_with(words: &[Vec<u8>]) -> Result<Settings, WordFault>
     ensures threads { IfOk result HasThreads }
     ensures order { IfOk result HasOrder }
+    ensures shapes { IfOk result HasShapes }
     ensures settings { result ≡ judge_with (bytes_of words.now) }
 {
     let Some((word, others)) = words.split_first() else {
@@ -235,18 +275,23 @@ fn judge_with(words: &[Vec<u8>]) -> Result<Settings, WordFault>
 }
 
 /// The options of words from this place on.
-fn options_in(place: u32, has_seed: bool, words: &[Vec<u8>]) -> Result<Options, WordFault>
-    requires { place ≤ 3 }
+pub(crate) fn options_in(
+    place: u32,
+    allowed: Extra,
+    words: &[Vec<u8>],
+) -> Result<Options, WordFault>
+    requires { place ≤ 5 }
     ensures threads { IfOk result (λ given. IfSome given.threads AreThreads) }
-    ensures options { result ≡ options_in place has_seed (bytes_of words.now) }
+    ensures extra { IfOk result (λ given. IfSome given.extra (IsOfExtra allowed)) }
+    ensures options { result ≡ options_in place allowed (bytes_of words.now) }
 {
     let mut given = Options {
         threads: None,
-        seed: None,
+        extra: None,
     };
     let mut at = place;
     for word in words {
-        given = with_option(at, has_seed, given, word.as_slice())?;
+        given = with_option(at, allowed, given, word.as_slice())?;
         at += 1;
     }
     Ok(given)
@@ -255,44 +300,75 @@ fn options_in(place: u32, has_seed: bool, words: &[Vec<u8>]) -> Result<Options, 
 /// The options with that of the word at this place.
 fn with_option(
     place: u32,
-    has_seed: bool,
+    allowed: Extra,
     given: Options,
     word: &[u8],
 ) -> Result<Options, WordFault>
-    requires { IfSome given.threads AreThreads }
+    requires threads { IfSome given.threads AreThreads }
+    requires extra { IfSome given.extra (IsOfExtra allowed) }
     ensures threads { IfOk result (λ more. IfSome more.threads AreThreads) }
-    ensures options { result
-        ≡ with_option place given (after_prefix (codes "--threads=") word.now) (seed_in has_seed word.now) }
+    ensures extra { IfOk result (λ more. IfSome more.extra (IsOfExtra allowed)) }
+    ensures options { result ≡ with_option place allowed given word.now }
     ensures count { IfOk result (λ more. option_count more ≡ option_count given + 1) }
     ensures few { option_count given ≤ 2 }
 {
     if let Some(digits) = word.strip_prefix(THREADS) {
-        let threads = once(place, given.threads.is_some(), threads_of(digits))?;
+        let threads = once(place, given.threads.is_some(), few_within(1, 64, digits))?;
         return Ok(Options {
             threads: Some(threads),
-            seed: given.seed,
+            extra: given.extra,
         });
     }
-    if has_seed {
-        if let Some(digits) = word.strip_prefix(SEED) {
-            let seed = once(place, given.seed.is_some(), seed_of(digits))?;
-            return Ok(Options {
-                threads: given.threads,
-                seed: Some(seed),
-            });
-        }
+    match allowed {
+        Extra::Nothing => Err(WordFault {
+            code: word_code::UNKNOWN_OPTION,
+            word: place,
+        }),
+        Extra::Seed => with_extra(place, given, SEED, 0, u64::MAX, word),
+        Extra::Nodes => with_extra(place, given, NODES, 1, MOST_NODES, word),
     }
-    Err(WordFault {
-        code: word_code::UNKNOWN_OPTION,
-        word: place,
+}
+
+/// The options with an extra one of this name and within these limits, of the word at this place.
+fn with_extra(
+    place: u32,
+    given: Options,
+    name: &[u8],
+    low: u64,
+    high: u64,
+    word: &[u8],
+) -> Result<Options, WordFault>
+    ensures threads { IfOk result (λ more. more.threads ≡ given.threads) }
+    ensures extra { IfOk result (λ more. IfSome more.extra (λ n. (low ≤ n) × (n ≤ high))) }
+    ensures options { result ≡ with_extra place given name.now low high word.now }
+    ensures count { IfOk result (λ more. option_count more ≡ option_count given + 1) }
+{
+    let Some(digits) = word.strip_prefix(name) else {
+        return Err(WordFault {
+            code: word_code::UNKNOWN_OPTION,
+            word: place,
+        });
+    };
+    let number = once(place, given.extra.is_some(), within(low, high, digits))?;
+    Ok(Options {
+        threads: given.threads,
+        extra: Some(number),
     })
 }
 
-/// The number of steps of the word at this place.
+/// The number of steps of the word at this place, 1 to 100.
 fn steps_at(place: u32, word: &[u8]) -> Result<u8, WordFault>
     ensures { result ≡ steps_at place word.now }
 {
-    match steps_of(word) {
+    number_at(place, 1, 100, word)
+}
+
+/// The number of the word at this place, within these limits.
+pub(crate) fn number_at(place: u32, low: u8, high: u8, word: &[u8]) -> Result<u8, WordFault>
+    ensures number { result ≡ number_at place low high word.now }
+    ensures range { IfOk result (λ n. (low ≤ n) × (n ≤ high)) }
+{
+    match few_within(low, high, word) {
         Some(n) => Ok(n),
         None => Err(WordFault {
             code: word_code::INVALID_NUMBER,
@@ -301,21 +377,8 @@ fn steps_at(place: u32, word: &[u8]) -> Result<u8, WordFault>
     }
 }
 
-/// The number of steps that these digits write, 1 to 100.
-fn steps_of(digits: &[u8]) -> Option<u8>
-    ensures { result ≡ step_count digits.now }
-{
-    if !is_number(digits) {
-        return None;
-    }
-    match u8::try_from(number(digits)) {
-        Ok(n) if 1 <= n && n <= 100 => Some(n),
-        _ => None,
-    }
-}
-
 /// The number of levels of the word at this place.
-fn order_at(place: u32, word: &[u8]) -> Result<u8, WordFault>
+pub(crate) fn order_at(place: u32, word: &[u8]) -> Result<u8, WordFault>
     ensures order { result ≡ order_at place word.now }
     ensures known { IfOk result (λ q. IsTrue (is_order q)) }
 {
@@ -362,28 +425,32 @@ fn once<T: Drop>(place: u32, had: bool, value: Option<T>) -> Result<T, WordFault
     }
 }
 
-/// The number of threads that these digits write, 1 to 64.
-fn threads_of(digits: &[u8]) -> Option<u8>
-    ensures value { result ≡ threads_of digits.now }
-    ensures range { IfSome result AreThreads }
+/// The number that these digits write, within these limits.
+fn few_within(low: u8, high: u8, digits: &[u8]) -> Option<u8>
+    ensures value { result ≡ within low high digits.now }
+    ensures range { IfSome result (λ n. (low ≤ n) × (n ≤ high)) }
 {
     if !is_number(digits) {
         return None;
     }
     match u8::try_from(number(digits)) {
-        Ok(n) if 1 <= n && n <= 64 => Some(n),
+        Ok(n) if low <= n && n <= high => Some(n),
         _ => None,
     }
 }
 
-/// The seed that these digits write.
-fn seed_of(digits: &[u8]) -> Option<u64>
-    ensures { result ≡ seed_of digits.now }
+/// The same of greater numbers.
+fn within(low: u64, high: u64, digits: &[u8]) -> Option<u64>
+    ensures value { result ≡ within low high digits.now }
+    ensures range { IfSome result (λ n. (low ≤ n) × (n ≤ high)) }
 {
     if !is_number(digits) {
         return None;
     }
-    u64::try_from(number(digits)).ok()
+    match u64::try_from(number(digits)) {
+        Ok(n) if low <= n && n <= high => Some(n),
+        _ => None,
+    }
 }
 
 /// Whether these are 1 to 20 decimal digits.

@@ -12,6 +12,10 @@ pub returns-in-Large-clause-done : goal.returns-in-Large-clause-done
 returns-in-Large-clause-done g c =
     rw (c.in-Ok.is, c.in-Large.is) (unread_done (c.large.ensures.whatever _ _ c.requires.shelf))
 
+pub returns-in-Catalogue-clause-done : goal.returns-in-Catalogue-clause-done
+returns-in-Catalogue-clause-done g c =
+    rw (c.in-Ok.is, c.in-Catalogue.is) (unread_done (c.list_catalogue.ensures.whatever _))
+
 pub returns-in-Err-clause-done : goal.returns-in-Err-clause-done
 returns-in-Err-clause-done g c =
     rw c.in-Err.is

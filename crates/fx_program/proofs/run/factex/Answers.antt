@@ -1,6 +1,8 @@
+use Rattle.std.proofs.Common.{◌∙◌}
 use Rattle.fx_answer.specs.StepClaims.{ClaimsHold, OfOutcome}
 use Rattle.fx_answer.proofs.Best.{claims_hold}
 use Rattle.fx_program.proofs.AnyText.{any_text}
+use Rattle.fx_program.proofs.CatalogueClaims.{catalogued}
 use Rattle.fx_program.proofs.Commands.{accepted, given, none_at_all, read_to_end}
 use Rattle.fx_program.proofs.run.factex.Goals as goal
 
@@ -17,6 +19,13 @@ returns-clause-claims g c low text run = any_text (OfOutcome ClaimsHold) claims_
 pub returns-clause-accepted : goal.returns-clause-accepted
 returns-clause-accepted g c =
     rw c.exit_status.ensures (accepted c.read_words.ensures.settings c.carry_out.ensures.done)
+
+pub returns-clause-catalogued : goal.returns-clause-catalogued
+returns-clause-catalogued g c =
+    rw c.exit_status.ensures
+    (λ low q m most threads nodes is.
+    catalogued q m most threads nodes (c.read_words.ensures.settings ∙ is) c.read_words.ensures.shapes
+    c.carry_out.ensures.done low)
 
 pub returns-clause-read_to_end : goal.returns-clause-read_to_end
 returns-clause-read_to_end g c =
