@@ -201,7 +201,7 @@ after_step n = record {
   start = true;
   behind_equals = false;
   procs = n;
-  step = record { run = true; factors = true; size = true; model = true; blocks = false };
+  step = record { run = true; factors = true; size = true; model = true; blocks = false; foldover = false };
   statement =
       record {
         proc = false;
@@ -221,7 +221,7 @@ at_front = record {
   start = true;
   behind_equals = false;
   procs = 0;
-  step = record { run = false; factors = false; size = false; model = false; blocks = false };
+  step = record { run = false; factors = false; size = false; model = false; blocks = false; foldover = false };
   statement =
       record {
         proc = false;
