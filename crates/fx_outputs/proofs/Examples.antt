@@ -8,6 +8,7 @@ use Rattle.fx_text.specs.declared.refusal.Refusal.{Refusal}
 use Rattle.fx_text.specs.Written.{Written, written}
 use Rattle.fx_text.specs.Statements.{statements_of}
 use Rattle.fx_outputs.specs.declared.output.OutputSpec.{OutputSpec}
+use Rattle.fx_outputs.specs.declared.replication.Rep.TheVariants.{Times}
 use Rattle.fx_outputs.specs.Contexts.{Context}
 use Rattle.fx_outputs.specs.declared.context.BlockCount.{BlockCount}
 use Rattle.fx_outputs.specs.declared.context.BlockCount.TheVariants as blocks
@@ -30,10 +31,11 @@ outputs count text = outputs_of (step count) (codes "old" ∷ []) (among text (l
 -- with nothing but a name
 name_alone : outputs blocks.Without (codes "output out=Plan;") ≡ Ok (record {
   name = codes "Plan";
-  pointrep = 1;
-  designrep = 1;
+  pointrep = Times 1;
+  designrep = Times 1;
   shuffle = shuffle.Kept;
   recodes = [];
+  derived = [];
   block_name = [];
   block_values = [];
 } ∷ [])
@@ -46,18 +48,20 @@ each_option : outputs (blocks.Fixed 2)
     ++ codes "a cvals=('it''s' \"\"\"\");run;output out=pointrep randomize nvals nvals=(.5 -3)blockname=out;")
     ≡ Ok (record {
       name = codes "novalran";
-      pointrep = 2;
-      designrep = 3;
+      pointrep = Times 2;
+      designrep = Times 3;
       shuffle = shuffle.Seed 7 false;
       recodes = record { place = 1; values = codes "it's" ∷ codes "\"" ∷ [] } ∷ [];
+      derived = [];
       block_name = codes "day";
       block_values = codes "-1" ∷ codes "2.5" ∷ [];
     } ∷ record {
       name = codes "pointrep";
-      pointrep = 1;
-      designrep = 1;
+      pointrep = Times 1;
+      designrep = Times 1;
       shuffle = shuffle.Default true;
       recodes = record { place = 2; values = codes ".5" ∷ codes "-3" ∷ [] } ∷ [];
+      derived = [];
       block_name = codes "out";
       block_values = [];
     } ∷ [])
@@ -67,10 +71,11 @@ each_option = refl
 -- NOVALRAN alone changes nothing
 values_alone : outputs blocks.Without (codes "output out=a novalran;") ≡ Ok (record {
   name = codes "a";
-  pointrep = 1;
-  designrep = 1;
+  pointrep = Times 1;
+  designrep = Times 1;
   shuffle = shuffle.Kept;
   recodes = [];
+  derived = [];
   block_name = [];
   block_values = [];
 } ∷ [])

@@ -1,5 +1,7 @@
 -- Every output of a step that is accepted keeps the step's limits.
-use Rattle.std.proofs.Common.{◌≡◌, ℕ, ◌*◌, Bool, true, false, List, [], ◌∷◌, ◌++◌, drop, Result, Ok, Err, refl, subst}
+use Rattle.std.proofs.Common.{◌≡◌, ℕ, ◌*◌, ◌≤◌, Bool, true, false, List, [], ◌∷◌, ◌++◌, length, drop, Result, Ok, Err}
+use Rattle.std.proofs.Common.{refl}
+use Rattle.std.proofs.Common.{subst}
 use Rattle.std.specs.Prelude.{All, nat_le, if◌then◌else◌, slice_get}
 use Rattle.std.proofs.lemmas.Bool.{leb-true}
 use Rattle.std.proofs.lemmas.List.Elements.{All-nil, All-push}
@@ -9,15 +11,40 @@ use Rattle.fx_text.specs.declared.refusal.Refusal.{Refusal}
 use Rattle.fx_text.specs.Written.{Written}
 use Rattle.fx_text.specs.Refusals.{refusal_at, ◌>>=◌}
 use Rattle.fx_outputs.specs.declared.output.OutputSpec.{OutputSpec}
+use Rattle.fx_outputs.specs.declared.replication.Rep.TheVariants.{Times}
 use Rattle.fx_outputs.specs.Contexts.{Context}
+use Rattle.fx_outputs.specs.DerivedFactors.{AreDerived}
 use Rattle.fx_outputs.specs.Options.{from_option}
 use Rattle.fx_outputs.specs.Replications.{replication_of, check_rows}
 use Rattle.fx_outputs.specs.Shuffles.{shuffle_of}
 use Rattle.fx_outputs.specs.BlockColumns.{check_blockname, check_column, name_or_empty, block_values}
 use Rattle.fx_outputs.specs.Recodes.{recodes_of}
 use Rattle.fx_outputs.specs.Outputs.{check_new_name, output_spec, outputs_behind, outputs_of}
-use Rattle.fx_outputs.specs.Validity.{IsWithinLimits}
+use Rattle.fx_outputs.specs.Validity.{IsRep, IsWithinLimits}
 use Rattle.fx_outputs.proofs.Accepted.{through, kept_if, repeated, values_of_blocks, all_recoded}
+
+a_number : (n : ℕ) → 1 ≤ n → IsRep (Times n)
+a_number n h = record {
+  some = λ k e. let same : n ≡ k = cc e in subst (λ (x : ℕ). 1 ≤ x) same h;
+  no_plan = λ k e. absurd (cc e);
+}
+
+rows_by : (runs n k each all : ℕ) → Times n ≡ Times each → Times k ≡ Times all → runs * n * k ≤ 200000
+    → runs * each * all ≤ 200000
+rows_by runs n k each all e1 e2 h =
+    let one : n ≡ each = cc e1 in
+    let two : k ≡ all = cc e2 in
+    subst (λ (y : ℕ). runs * each * y ≤ 200000) two (subst (λ (x : ℕ). runs * x * k ≤ 200000) one h)
+
+-- a statement without derived factors
+no_derived : (q s : ℕ) → AreDerived q s []
+no_derived q s = record {
+  places = All-nil _;
+  some = All-nil _;
+  few = All-nil _;
+  levels = All-nil _;
+  values = All-nil _;
+}
 
 module _ (context : Context) where
   output_within : (earlier : List (List ℕ)) (word name : Written) (s : List Written) (output : OutputSpec)
@@ -38,20 +65,25 @@ module _ (context : Context) where
       through (recodes_of context s) _ output (IsWithinLimits context output) e (λ recodes read e.
       let made : OutputSpec = record {
         name = name.text;
-        pointrep = pointrep;
-        designrep = designrep;
+        pointrep = Times pointrep;
+        designrep = Times designrep;
         shuffle = shuffle;
         recodes = recodes;
+        derived = [];
         block_name = name_or_empty (slice_get blockname 2);
         block_values = values;
       } in
       let same : made ≡ output = cc e in
       let rows = kept_if (nat_le (context.runs * pointrep * designrep) 200000) tt u (refusal_at 21 name) few in
       let sure : IsWithinLimits context made = record {
-        pointrep = repeated (slice_get (from_option Pointrep s) 2) pointrep by_point;
-        designrep = repeated (slice_get (from_option Designrep s) 2) designrep by_design;
-        rows = leb-true (context.runs * pointrep * designrep) 200000 rows.0;
+        pointrep = a_number pointrep (repeated (slice_get (from_option Pointrep s) 2) pointrep by_point);
+        designrep = a_number designrep (repeated (slice_get (from_option Designrep s) 2) designrep by_design);
+        rows =
+            λ each all e1 e2. rows_by context.runs pointrep designrep each all e1 e2
+            (leb-true (context.runs * pointrep * designrep) 200000 rows.0);
         recodes = all_recoded context s recodes read;
+        derived = no_derived context.q (length context.factors);
+        free = λ i r low h. absurd (cc h);
         block_values = values_of_blocks context.blocks (slice_get blockname 3) (drop 4 blockname) values given;
       } in
       subst (IsWithinLimits context) same sure)))))))))

@@ -15,6 +15,7 @@ use Rattle.fx_text.specs.Refusals.{refusal_at, ◌>>=◌}
 use Rattle.fx_text.specs.Sentences.{HasNames, IsAccepted}
 use Rattle.fx_text.specs.Written.{Written, begins}
 use Rattle.fx_outputs.specs.declared.output.OutputSpec.{OutputSpec}
+use Rattle.fx_outputs.specs.declared.replication.Rep.TheVariants.{Times}
 use Rattle.fx_outputs.specs.Contexts.{Context}
 use Rattle.fx_outputs.specs.Options.{from_option}
 use Rattle.fx_outputs.specs.Replications.{replication_of, check_rows}
@@ -90,10 +91,11 @@ taken context earlier word name s output e =
     through (recodes_of context s) _ output Goal e (λ recodes read e.
     let made : OutputSpec = record {
       name = name.text;
-      pointrep = pointrep;
-      designrep = designrep;
+      pointrep = Times pointrep;
+      designrep = Times designrep;
       shuffle = shuffle;
       recodes = recodes;
+      derived = [];
       block_name = name_or_empty (slice_get blockname 2);
       block_values = values;
     } in

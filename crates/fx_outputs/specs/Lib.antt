@@ -5,6 +5,7 @@ pub mod Shuffles
 pub mod Values
 pub mod BlockColumns
 pub mod Recodes
+pub mod DerivedFactors
 pub mod Earlier
 pub mod Outputs
 pub mod Validity

@@ -8,6 +8,7 @@ use Rattle.fx_text.specs.Written.{Written}
 use Rattle.fx_text.specs.Names.{place_of}
 use Rattle.fx_text.specs.Refusals.{refusal_at, ◌>>=◌}
 use Rattle.fx_outputs.specs.declared.output.OutputSpec.{OutputSpec}
+use Rattle.fx_outputs.specs.declared.replication.Rep.TheVariants.{Times}
 use Rattle.fx_outputs.specs.Contexts.{Context}
 use Rattle.fx_outputs.specs.Options.{from_option}
 use Rattle.fx_outputs.specs.Replications.{replication_of, check_rows}
@@ -37,10 +38,11 @@ output_spec context earlier word name s =
       recodes ← recodes_of context s
       Ok (record {
         name = name.text;
-        pointrep = pointrep;
-        designrep = designrep;
+        pointrep = Times pointrep;
+        designrep = Times designrep;
         shuffle = shuffle;
         recodes = recodes;
+        derived = [];
         block_name = name_or_empty (slice_get blockname 2);
         block_values = values;
       })

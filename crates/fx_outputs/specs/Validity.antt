@@ -5,6 +5,9 @@ use Rattle.fx_outputs.specs.declared.replication.TheConstants.{MOST_ROWS}
 use Rattle.fx_text.specs.Names.{IsName, place_of}
 use Rattle.fx_outputs.specs.declared.output.OutputSpec.{OutputSpec}
 use Rattle.fx_outputs.specs.declared.recode.Recode.{Recode}
+use Rattle.fx_outputs.specs.declared.replication.Rep.{Rep}
+use Rattle.fx_outputs.specs.declared.replication.Rep.TheVariants.{Times, Plan}
+use Rattle.fx_outputs.specs.DerivedFactors.{AreDerived, AreFree}
 use Rattle.fx_outputs.specs.Contexts.{Context}
 use Rattle.fx_outputs.specs.BlockColumns.{has_blocks}
 use Rattle.fx_outputs.specs.declared.context.BlockCount.TheVariants as blocks
@@ -20,12 +23,21 @@ pub record AreRecodes (context : Context) (recodes : List Recode) : Type 0 where
   pub each : All (IsRecode context) recodes
   pub once : AllPairs (λ (a b : Recode). a.place ≢ b.place) recodes
 
+-- at least once; no plan is named yet
+pub record IsRep (rep : Rep) : Type 0 where
+  pub some : (n : ℕ) → rep ≡ Times n → 1 ≤ n
+  pub no_plan : (number : ℕ) → rep ≢ Plan number
+
 -- an output that keeps the limits of its step; values of the block column are as many as there are blocks
 pub record IsWithinLimits (context : Context) (output : OutputSpec) : Type 0 where
-  pub pointrep : 1 ≤ output.pointrep
-  pub designrep : 1 ≤ output.designrep
-  pub rows : context.runs * output.pointrep * output.designrep ≤ MOST_ROWS
+  pub pointrep : IsRep output.pointrep
+  pub designrep : IsRep output.designrep
+  pub rows :
+      (each all : ℕ) → output.pointrep ≡ Times each → output.designrep ≡ Times all
+      → context.runs * each * all ≤ MOST_ROWS
   pub recodes : AreRecodes context output.recodes
+  pub derived : AreDerived context.q (length context.factors) output.derived
+  pub free : AreFree output.derived output.recodes
   pub block_values : output.block_values ≢ [] → context.blocks ≡ blocks.Fixed (length output.block_values)
 
 -- the name of the column of blocks, BLOCK where the text has none

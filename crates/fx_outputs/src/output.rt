@@ -7,10 +7,11 @@ ghost use Rattle.fx_outputs.specs.Validity.{IsWithinLimits};
 
 use crate::block::{block_name, block_values, check_blockname, check_column};
 use crate::context::OutputContext;
+use crate::derived::Deriveds;
 use crate::earlier::EarlierNames;
 use crate::option::from_option;
 use crate::recode::{Recodes, recodes};
-use crate::replication::{check_rows, replication};
+use crate::replication::{Rep, check_rows, replication};
 use crate::shuffle::{Shuffle, shuffle_asked};
 use fx_base::{Bytes, Items};
 use fx_language::{Symbol, code};
@@ -21,14 +22,16 @@ use std::alloc::Global;
 pub struct OutputSpec {
     /// The OUT name, as it is written.
     pub name: Bytes,
-    /// How often each run is repeated in a row, from 1 to 200,000.
-    pub pointrep: u32,
-    /// How often the whole design is repeated, from 1 to 200,000.
-    pub designrep: u32,
+    /// How often each run is repeated in a row.
+    pub pointrep: Rep,
+    /// How often the whole design is repeated.
+    pub designrep: Rep,
     /// What of the plan is shuffled, and from which seed.
     pub shuffle: Shuffle,
     /// The factors that have values of their own, in the order of the text.
     pub recodes: Recodes,
+    /// The derived factors, in the order of the text.
+    pub derived: Deriveds,
     /// The name of the block column, empty where the text has none.
     pub block_name: Bytes,
     /// The values of the block column, empty where the text has none.
@@ -44,6 +47,7 @@ impl Drop for OutputSpec {
             designrep: _,
             shuffle: _,
             recodes: _,
+            derived: _,
             block_name: _,
             block_values: _,
         } = self;
@@ -121,10 +125,11 @@ fn output(
     let recodes = recodes(alloc, context, phrase)?;
     Ok(OutputSpec {
         name: Bytes::from_slice(alloc, name.text())?,
-        pointrep,
-        designrep,
+        pointrep: Rep::Times(pointrep),
+        designrep: Rep::Times(designrep),
         shuffle,
         recodes,
+        derived: Deriveds::new(alloc),
         block_name: block_name(alloc, &blockname)?,
         block_values,
     })

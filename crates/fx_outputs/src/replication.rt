@@ -7,6 +7,16 @@ use crate::option::from_option;
 use fx_language::{Symbol, code};
 use fx_text::{Lexeme, Phrase, Refusal};
 
+/// How often each run, or the whole list of them, comes in a plan.
+#[derive(Clone, Copy, PartialEq, Eq)]
+pub enum Rep {
+    /// So many times, from 1 to 200,000.
+    Times(u32),
+    /// Once with each row of the plan of the OUTPUT statement of this number, counted from 0 in the
+    /// program.
+    Plan(u32),
+}
+
 /// The most rows of a file, and so the greatest replication.
 const MOST_ROWS: u128 = 200_000;
 

@@ -1,18 +1,17 @@
--- Plans of a design: how many lines they have, and what the shuffled values are.
+-- Plans of a design: how many rows they have, and what the shuffled values are.
 use Rattle.std.proofs.Common.{ℕ, ◌≡◌, ◌<◌, ◌+◌, ◌-◌, ◌*◌, ◌^◌, zero, suc, Bool, true, false, List, [], ◌∷◌, length}
-use Rattle.std.proofs.Common.{replicate, swap, refl, sym, subst, ◌∙◌, ap, arith, IsPermutation}
-use Rattle.std.specs.List.{AllZip, flat_map, range_with_len, sum_by}
+use Rattle.std.proofs.Common.{swap, refl, sym, subst, ◌∙◌, ap, arith, IsPermutation}
+use Rattle.std.specs.List.{AllZip, range_with_len}
 use Rattle.std.proofs.lemmas.List.{length-map}
 use Rattle.std.proofs.lemmas.List.FromFn.{length-range_with_len}
 use Rattle.std.proofs.lemmas.List.Elements.{All-map}
-use Rattle.std.proofs.lemmas.List.Folds.{sum_by-replicate}
 use Rattle.std.proofs.lemmas.List.Sorted.{IsPermutation-refl, IsPermutation-swap, IsPermutation-trans}
 use Rattle.rand_pcg.specs.Lcg.{Lcg}
 use Rattle.fx_designs.specs.Vectors.{IsVector, vectors_of}
 use Rattle.fx_designs.specs.Runs.{points, runs_of, levels_at}
 use Rattle.fx_laws.proofs.Codes.{length-points}
 use Rattle.fx_laws.proofs.Shift.{all-points}
-use Rattle.fx_laws.proofs.Sums.{sum_by-ext, sum_by_flat_map, sum_by-constant}
+use Rattle.fx_laws.proofs.Sums.{sum_by-constant}
 use Rattle.fx_laws.proofs.Tables.{is_order-field}
 use Rattle.fx_vectors.specs.Matrix.{IsMatrix, MatrixView}
 use Rattle.fx_outputs.specs.declared.output.OutputSpec.{OutputSpec}
@@ -22,11 +21,12 @@ use Rattle.fx_runs.specs.Runs.{AreRuns, RunsView, design_of}
 use Rattle.fx_runs.specs.RunBlocks.{block_of}
 use Rattle.fx_runs.proofs.Points.{rows-vector}
 use Rattle.fx_plan.specs.Draws.{drawn, each_shuffled, exchanged, generator, shuffled}
-use Rattle.fx_plan.specs.Plans.{Arrangement, arranged, replicated, shuffled_in_blocks, shuffled_values, values_of}
-use Rattle.fx_plan.specs.Tables.{arrangement_of, records_of}
+use Rattle.fx_derived.specs.Tables.{TableView}
+use Rattle.fx_plan.specs.Plans.{Arrangement, arranged, shuffled_in_blocks, shuffled_values}
+use Rattle.fx_plan.specs.Columns.{column_values}
+use Rattle.fx_plan.specs.Products.{arrangement_of, plan_of, run_of}
 use Rattle.std.proofs.lemmas.List.Edits.{length-swap}
-use Rattle.fx_plan.proofs.Rows.{plan_total}
-use Rattle.fx_plan.proofs.Totals.{repeated_total}
+use Rattle.fx_plan.proofs.Repeating.{plan_total}
 use Rattle.fx_plan.proofs.Words.{drawn_low}
 
 -- the runs of a whole matrix are runs of its shape
@@ -84,41 +84,33 @@ arranged-values (Default values) seed block n a =
 arranged-values (Seed own values) seed block n a =
     values-shuffled values (shuffled_in_blocks (generator own) block n a.order).1 a.values
 
--- the values of each factor are in the plan as a reordering of them
-pub values-reordered : (runs : RunsView) (output : OutputSpec) (seed : ℕ)
-    → AllZip IsPermutation (values_of runs.shape.q runs.shape.s output.recodes) (arrangement_of runs output seed).values
-values-reordered runs output seed =
-    arranged-values output.shuffle seed (block_of runs) (runs.shape.q ^ runs.shape.t) _
-
-replicated-length : (each all n : ℕ) → sum_by (λ x. 1) (replicated each all (range_with_len 0 n)) ≡ n * (each * all)
-replicated-length each all n =
-    let own : (x : ℕ) → sum_by (λ y. 1) (replicate each x) ≡ each =
-    λ x. sum_by-replicate (λ y. 1) each x ∙ omega arith in
-    repeated_total (λ x. 1) all (flat_map (λ x. replicate each x) (range_with_len 0 n))
-    ∙ ap (λ t. all * t)
-    (sum_by_flat_map (λ x. 1) (λ x. replicate each x) (range_with_len 0 n)
-    ∙ sum_by-ext (λ x. sum_by (λ y. 1) (replicate each x)) (λ x. each) (range_with_len 0 n) own
-    ∙ sum_by-constant each (range_with_len 0 n) ∙ ap (λ l. l * each) (length-range_with_len 0 n))
-    ∙ in_order all n each
-  where
-    in_order : (a n e : ℕ) → a * (n * e) ≡ n * (e * a)
-    in_order a n e = grind arith
+-- the values of each column are in the plan as a reordering of them
+pub values-reordered : (runs : RunsView) (output : OutputSpec) (seed : ℕ) (inner outer : TableView)
+    → AllZip IsPermutation (column_values runs.shape.q runs.shape.s output.recodes output.derived)
+    (arrangement_of runs output seed inner outer).values
+values-reordered runs output seed inner outer =
+    arranged-values output.shuffle seed (λ r. block_of runs (run_of (length inner.rows) (length runs.rows) r))
+    (runs.shape.q ^ runs.shape.t) _
 
 pub run-count : (matrix : MatrixView) → length (design_of matrix).rows ≡ matrix.shape.q ^ matrix.shape.m
 unfolding runs_of
 run-count matrix = length-map (points matrix.shape.q matrix.shape.m) _ ∙ length-points matrix.shape.q matrix.shape.m
 
--- a plan has a head line, and a line for each row
-pub record-count : (names : List (List ℕ)) (matrix : MatrixView) (output : OutputSpec) (seed : ℕ)
+-- a plan has a row for each run with each row of either table
+pub row-count : (names : List (List ℕ)) (matrix : MatrixView) (output : OutputSpec) (seed : ℕ) (inner outer : TableView)
     → IsMatrix matrix.shape matrix.rows → length matrix.rows ≡ matrix.shape.s + matrix.shape.t
-    → length (records_of names (design_of matrix) output (arrangement_of (design_of matrix) output seed))
-    ≡ matrix.shape.q ^ matrix.shape.m * (output.pointrep * output.designrep) + 1
-record-count names matrix output seed known whole =
+    → length (plan_of names (design_of matrix) output seed inner outer).rows
+    ≡ matrix.shape.q ^ matrix.shape.m * (length inner.rows * length outer.rows)
+row-count names matrix output seed inner outer known whole =
     let runs = design_of matrix in
-    let a = arrangement_of runs output seed in
-    let rows : length a.order ≡ length runs.rows * (output.pointrep * output.designrep) =
-    sym (sum_by-constant 1 a.order ∙ omega arith) ∙ plan_total (λ x. 1) runs output seed
-    (design-runs matrix known whole)
-    ∙ replicated-length output.pointrep output.designrep (length runs.rows) in
-    ap suc (length-map a.order _ ∙ rows ∙ ap (λ n. n * (output.pointrep * output.designrep)) (run-count matrix)) ∙ omega
-    arith
+    let order = (arrangement_of runs output seed inner outer).order in
+    let all : ℕ = length runs.rows * length inner.rows * length outer.rows in
+    length-map order _
+    ∙ sym (sum_by-constant 1 order ∙ omega arith)
+    ∙ plan_total (λ x. 1) runs output seed inner outer (design-runs matrix known whole)
+    ∙ sum_by-constant 1 (range_with_len 0 all) ∙ ap (λ (x : ℕ). x * 1) (length-range_with_len 0 all)
+    ∙ in_order (length runs.rows) (length inner.rows) (length outer.rows)
+    ∙ ap (λ n. n * (length inner.rows * length outer.rows)) (run-count matrix)
+  where
+    in_order : (a b c : ℕ) → a * b * c * 1 ≡ a * (b * c)
+    in_order a b c = grind arith

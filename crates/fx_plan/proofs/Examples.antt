@@ -1,15 +1,40 @@
 -- Plans.
-use Rattle.std.proofs.Common.{ℕ, ◌≡◌, [], ◌∷◌, refl}
+use Rattle.std.proofs.Common.{ℕ, ◌≡◌, List, [], ◌∷◌, refl}
 use Rattle.std.specs.Prelude.{codes}
 use Rattle.std.specs.Fmt.{digits}
 use Rattle.csv.specs.Writing.{escaped, fields_text, is_blank}
 use Rattle.fx_plan.specs.Draws.{drawn, shuffled}
-use Rattle.fx_plan.specs.Plans.{replicated, values_at}
-use Rattle.fx_plan.specs.Tables.{block_field, head_fields, text_of}
+use Rattle.fx_derived.specs.Tables.{TableView}
+use Rattle.fx_outputs.specs.declared.derived.Derived.{Derived}
+use Rattle.fx_plan.specs.Plans.{values_at}
+use Rattle.fx_plan.specs.Columns.{codes_of, column_names, column_places, values_or_codes}
+use Rattle.fx_plan.specs.Products.{repeats, replicated}
+use Rattle.fx_plan.specs.Tables.{block_field, text_of}
+
+-- a table of the runs 4 and 7, and one with the rows a and b
+runs : TableView
+runs = record { names = codes "r" ∷ []; rows = (codes "4" ∷ []) ∷ (codes "7" ∷ []) ∷ [] }
+
+named : TableView
+named = record { names = codes "n" ∷ []; rows = (codes "a" ∷ []) ∷ (codes "b" ∷ []) ∷ [] }
 
 -- each run in succession, and then the whole list again
-replications : replicated {X = ℕ} 2 3 (4 ∷ 7 ∷ []) ≡ 4 ∷ 4 ∷ 7 ∷ 7 ∷ 4 ∷ 4 ∷ 7 ∷ 7 ∷ 4 ∷ 4 ∷ 7 ∷ 7 ∷ []
+replications : (replicated runs (repeats 2) (repeats 2)).rows
+    ≡ (codes "4" ∷ []) ∷ (codes "4" ∷ []) ∷ (codes "7" ∷ []) ∷ (codes "7" ∷ [])
+    ∷ (codes "4" ∷ []) ∷ (codes "4" ∷ []) ∷ (codes "7" ∷ []) ∷ (codes "7" ∷ []) ∷ []
+unfolding runs
 replications = refl
+
+-- a plan that POINTREP names changes fastest, and one that DESIGNREP names slowest
+named_plans :
+    ((replicated runs named (repeats 1)).rows
+    ≡ (codes "4" ∷ codes "a" ∷ []) ∷ (codes "4" ∷ codes "b" ∷ [])
+    ∷ (codes "7" ∷ codes "a" ∷ []) ∷ (codes "7" ∷ codes "b" ∷ []) ∷ [])
+    × ((replicated runs (repeats 1) named).rows
+    ≡ (codes "4" ∷ codes "a" ∷ []) ∷ (codes "7" ∷ codes "a" ∷ [])
+    ∷ (codes "4" ∷ codes "b" ∷ []) ∷ (codes "7" ∷ codes "b" ∷ []) ∷ [])
+unfolding runs named
+named_plans = (refl, refl)
 
 -- a factor that is recoded has its own values
 values :
@@ -18,12 +43,22 @@ values :
     ≡ codes "low" ∷ codes "high" ∷ [])
 values = (refl, refl)
 
--- the block column comes first, where there are blocks; its name is BLOCK unless another is chosen
-heads :
-    (head_fields 0 (codes "Day") (codes "A" ∷ codes "B" ∷ []) ≡ codes "A" ∷ codes "B" ∷ [])
-    × (head_fields 1 (codes "Day") (codes "A" ∷ []) ≡ codes "Day" ∷ codes "A" ∷ [])
-    × (head_fields 2 [] (codes "A" ∷ []) ≡ codes "BLOCK" ∷ codes "A" ∷ [])
-heads = (refl, refl, refl)
+-- of A, B and C, of which B and C stand in brackets, the derived factor D of C and B
+derived : List Derived
+derived = record { places = 3 ∷ 2 ∷ []; name = codes "D"; values = [] } ∷ []
+
+-- the columns are those of the factors in no brackets, and then the derived ones; C is the higher digit
+columns :
+    (column_places 3 derived ≡ (1 ∷ []) ∷ (3 ∷ 2 ∷ []) ∷ [])
+    × (column_names (codes "A" ∷ codes "B" ∷ codes "C" ∷ []) derived ≡ codes "A" ∷ codes "D" ∷ [])
+    × (codes_of 2 (column_places 3 derived) (1 ∷ 0 ∷ 1 ∷ []) ≡ 1 ∷ 2 ∷ [])
+unfolding derived
+columns = (refl, refl, refl)
+
+-- a derived factor without values has its codes for them
+default_codes : values_or_codes 4 [] ≡ codes "0" ∷ codes "1" ∷ codes "2" ∷ codes "3" ∷ []
+unfolding digits
+default_codes = refl
 
 -- blocks are numbered from 1, and their values are in the order of these numbers
 blocks :

@@ -1,17 +1,16 @@
 -- What holds of each item of a list, of which runs and values are shuffled.
-use Rattle.std.proofs.Common.{ℕ, ◌≡◌, ◌<◌, ◌+◌, ◌-◌, ◌==◌, zero, suc, List, [], ◌∷◌, length, map, filter, replicate}
-use Rattle.std.proofs.Common.{set, get_or, swap, refl, sym, subst, ◌∙◌, arith, inl, inr, All}
+use Rattle.std.proofs.Common.{ℕ, ◌≡◌, ◌+◌, ◌-◌, ◌==◌, zero, suc, List, [], ◌∷◌, length, map, filter}
+use Rattle.std.proofs.Common.{set, get_or, swap, refl, sym, subst, ◌∙◌, ap₂, arith, inl, inr, All}
 use Rattle.std.specs.List.{AllByRecursion, flat_map, range_with_len}
 use Rattle.std.proofs.Math.ListN.{get_or-eq_default}
 use Rattle.std.proofs.lemmas.Bool.{cases_lt}
-use Rattle.std.proofs.lemmas.List.Elements.{All-set, All-append, All-filter, All-replicate, recursion_from_All}
+use Rattle.std.proofs.lemmas.List.Elements.{All-set, All-append, All-filter, recursion_from_All}
 use Rattle.std.proofs.lemmas.List.Elements.{All-from_recursion}
 use Rattle.std.proofs.lemmas.List.Edits.{length-swap}
 use Rattle.rand_pcg.specs.Lcg.{Lcg}
-use Rattle.fx_base.proofs.Ranges.{All-range}
 use Rattle.fx_plan.specs.Draws.{drawn, exchanged, shuffled, each_shuffled, all_shuffled}
 use Rattle.fx_runs.specs.Groups.{by_group}
-use Rattle.fx_plan.specs.Plans.{copies, replicated, shuffled_in_blocks}
+use Rattle.fx_plan.specs.Plans.{shuffled_in_blocks}
 
 module _ {X : Type 0} (P : X → Type 0) where
   at_any : (d : X) (ys : List X) (i : ℕ) → All P (d ∷ ys) → P (get_or (d ∷ ys) i d)
@@ -41,10 +40,6 @@ module _ {X : Type 0} (P : X → Type 0) where
   flat_map_keeps f [] h = λ k d low. absurd (omega arith)
   flat_map_keeps f (y ∷ ys) h = All-append P (f y) (flat_map f ys) h.0 (flat_map_keeps f ys h.1)
 
-  pub repeated_keeps : (n : ℕ) (xs : List X) → All P xs → All P (copies n xs)
-  repeated_keeps zero xs h = λ k d low. absurd (omega arith)
-  repeated_keeps (suc n) xs h = All-append P xs (copies n xs) h (repeated_keeps n xs h)
-
 -- what shuffling keeps of a list, it keeps of each of some lists
 pub each_keeps : {X : Type 0} (Q : List X → Type 0) → ((g : Lcg) (xs : List X) → Q xs → Q (shuffled g xs).0)
     → (lists : List (List X)) (g : Lcg) → AllByRecursion Q lists → AllByRecursion Q (each_shuffled g lists).0
@@ -56,7 +51,7 @@ each_filter : (P : ℕ → Type 0) (block : ℕ → ℕ) (xs : List ℕ) (zs : L
 each_filter P block xs [] h = tt
 each_filter P block xs (z ∷ zs) h = (All-filter (λ x. block x == z) P xs h, each_filter P block xs zs h)
 
--- each run of an order that is shuffled was in it
+-- each row of an order that is shuffled was in it
 pub order_keeps : (P : ℕ → Type 0) (g : Lcg) (block : ℕ → ℕ) (n : ℕ) (xs : List ℕ) → All P xs
     → All P (shuffled_in_blocks g block n xs).0
 order_keeps P g block n xs h =
@@ -67,28 +62,16 @@ order_keeps P g block n xs h =
     flat_map_keeps P (λ group. group) (all_shuffled g groups).0
     (each_keeps (All P) (λ g xs. shuffled_keeps P g xs) (shuffled g groups).0 (shuffled g groups).1 mixed)
 
-times_low : (each n : ℕ) (ks : List ℕ) → AllByRecursion (λ k. k < n) ks
-    → AllByRecursion (λ k. All (λ x. x < n) (replicate each k)) ks
-times_low each n [] h = tt
-times_low each n (k ∷ ks) h = (All-replicate (λ x. x < n) each k h.0, times_low each n ks h.1)
-
--- each run of a plan is one of the design's
-pub replicated_low : (each all n : ℕ) → All (λ k. k < n) (replicated each all (range_with_len 0 n))
-replicated_low each all n =
-    repeated_keeps (λ k. k < n) all (flat_map (λ x. replicate each x) (range_with_len 0 n))
-    (flat_map_keeps (λ k. k < n) (λ x. replicate each x) (range_with_len 0 n)
-    (times_low each n (range_with_len 0 n) (recursion_from_All (λ k. k < n) (range_with_len 0 n) (All-range n))))
-
 length-exchanged : {X : Type 0} (k : ℕ) (g : Lcg) (xs : List X) → length (exchanged g k xs).0 ≡ length xs
 length-exchanged zero g xs = refl
 length-exchanged (suc k) g xs =
     length-exchanged k (drawn g (k + 2)).1 (swap xs (k + 1) (drawn g (k + 2)).0) ∙ length-swap xs (k + 1)
     (drawn g (k + 2)).0
 
--- each list is as long as before
-pub lengths_kept : {X : Type 0} (n : ℕ) (g : Lcg) (lists : List (List X)) → All (λ l. length l ≡ n) lists
-    → All (λ l. length l ≡ n) (each_shuffled g lists).0
-lengths_kept n g lists h =
-    All-from_recursion (λ l. length l ≡ n) (each_shuffled g lists).0
-    (each_keeps (λ l. length l ≡ n) (λ g xs e. length-exchanged (length xs - 1) g xs ∙ e) lists g
-    (recursion_from_All (λ l. length l ≡ n) lists h))
+-- lists keep their lengths where they are shuffled
+pub lengths_shuffled : {X : Type 0} (g : Lcg) (lists : List (List X))
+    → map length (each_shuffled g lists).0 ≡ map length lists
+lengths_shuffled g [] = refl
+lengths_shuffled g (xs ∷ rest) =
+    ap₂ (λ (a : ℕ) (l : List ℕ). a ∷ l) (length-exchanged (length xs - 1) g xs)
+    (lengths_shuffled (shuffled g xs).1 rest)

@@ -1,12 +1,14 @@
 mod Examples
 pub mod Shuffles
-pub mod Replicating
 pub mod Joining
 pub mod Fields
 pub mod Kept
-pub mod Levels
-pub mod Arranged
 pub mod Words
 pub mod Totals
-pub mod Rows
+pub mod Lists
+pub mod Fitting
+pub mod Handing
+pub mod ProductRows
+pub mod Wholes
+pub mod Repeating
 mod Designs

@@ -1,9 +1,8 @@
 -- Sums over lists that are shuffled: how often anything is in them.
-use Rattle.std.proofs.Common.{ℕ, ◌≡◌, ◌<◌, ◌+◌, ◌-◌, ◌*◌, zero, suc, Bool, true, false, cond, eqb, List, [], ◌∷◌}
-use Rattle.std.proofs.Common.{length, filter, replicate, swap, refl, sym, ◌∙◌, ap, ap₂, arith, All}
-use Rattle.std.specs.List.{sum_by, flat_map, range_with_len, AllByRecursion}
-use Rattle.std.proofs.lemmas.List.Sums.{sum_by-cons, sum_by-append}
-use Rattle.std.proofs.lemmas.List.Folds.{sum_by-replicate}
+use Rattle.std.proofs.Common.{ℕ, ◌≡◌, ◌<◌, ◌+◌, ◌-◌, zero, suc, Bool, cond, eqb, List, [], ◌∷◌}
+use Rattle.std.proofs.Common.{length, filter, swap, refl, sym, ◌∙◌, ap, ap₂, arith, All}
+use Rattle.std.specs.List.{sum_by, range_with_len, AllByRecursion}
+use Rattle.std.proofs.lemmas.List.Sums.{sum_by-cons}
 use Rattle.std.proofs.lemmas.List.Sorted.{sum_by-IsPermutation, IsPermutation-swap}
 use Rattle.std.proofs.lemmas.List.Elements.{recursion_from_All}
 use Rattle.std.proofs.lemmas.List.Edits.{length-swap}
@@ -13,7 +12,7 @@ use Rattle.rand_pcg.specs.Lcg.{Lcg}
 use Rattle.fx_base.proofs.Numbers.{eqb_comm}
 use Rattle.fx_plan.specs.Draws.{drawn, exchanged, shuffled, each_shuffled, all_shuffled}
 use Rattle.fx_runs.specs.Groups.{by_group}
-use Rattle.fx_plan.specs.Plans.{copies, replicated, shuffled_in_blocks}
+use Rattle.fx_plan.specs.Plans.{shuffled_in_blocks}
 use Rattle.fx_plan.proofs.Words.{drawn_low}
 
 module _ {X : Type 0} (f : X → ℕ) where
@@ -37,11 +36,6 @@ module _ {X : Type 0} (f : X → ℕ) where
       sum_by-cons (λ l. sum_by f l) (shuffled g xs).0 (each_shuffled (shuffled g xs).1 lists).0
       ∙ ap₂ (λ (a b : ℕ). a + b) (shuffled_total g xs) (each_total lists (shuffled g xs).1)
       ∙ sym (sum_by-cons (λ l. sum_by f l) xs lists)
-
-  pub repeated_total : (n : ℕ) (xs : List X) → sum_by f (copies n xs) ≡ n * sum_by f xs
-  repeated_total zero xs = omega arith
-  repeated_total (suc n) xs =
-      sum_by-append f xs (copies n xs) ∙ ap (λ (x : ℕ). sum_by f xs + x) (repeated_total n xs) ∙ omega arith
 
 module _ (f : ℕ → ℕ) (block : ℕ → ℕ) (n : ℕ) where
   in_its_group : (x : ℕ) → block x < n → sum_by (λ z. cond (eqb (block x) z) (f x) 0) (range_with_len 0 n) ≡ f x
@@ -76,21 +70,3 @@ module _ (f : ℕ → ℕ) (block : ℕ → ℕ) (n : ℕ) where
       ∙ each_total f (shuffled g groups).0 (shuffled g groups).1
       ∙ shuffled_total (λ l. sum_by f l) g groups
       ∙ groups_total xs (recursion_from_All (λ x. block x < n) xs h)
-
--- how often a run is among the replicated ones
-pub replicated_total : (each all n k : ℕ) → k < n
-    → sum_by (λ x. cond (eqb x k) 1 0) (replicated each all (range_with_len 0 n)) ≡ each * all
-replicated_total each all n k low =
-    let f : ℕ → ℕ = λ x. cond (eqb x k) 1 0 in
-    let times : (x : ℕ) → sum_by f (replicate each x) ≡ cond (eqb x k) each 0 =
-    λ x. sum_by-replicate f each x ∙ by_test (eqb x k) in
-    repeated_total f all (flat_map (λ x. replicate each x) (range_with_len 0 n))
-    ∙ ap (λ (t : ℕ). all * t)
-    (sum_by_flat_map f (λ x. replicate each x) (range_with_len 0 n)
-    ∙ sum_by-ext (λ x. sum_by f (replicate each x)) (λ x. cond (eqb x k) each 0) (range_with_len 0 n) times
-    ∙ sum_by-pick (λ x. each) k 0 n (omega arith) (omega arith))
-    ∙ omega arith
-  where
-    by_test : (b : Bool) → each * cond b 1 0 ≡ cond b each 0
-    by_test true = omega arith
-    by_test false = omega arith

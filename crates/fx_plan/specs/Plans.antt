@@ -1,6 +1,6 @@
--- The order of a plan's runs, and the values of codes.
-use Rattle.std.specs.Prelude.{ℕ, zero, suc, ◌+◌, ◌==◌, Bool, if◌then◌else◌, List, [], ◌∷◌, ◌++◌, map, replicate}
-use Rattle.std.specs.List.{flat_map, range_with_len}
+-- The order of a plan's rows, and the values of codes.
+use Rattle.std.specs.Prelude.{ℕ, ◌==◌, Bool, if◌then◌else◌, List, [], ◌∷◌}
+use Rattle.std.specs.List.{flat_map}
 use Rattle.rand_pcg.specs.Lcg.{Lcg}
 use Rattle.fx_outputs.specs.declared.recode.Recode.{Recode}
 use Rattle.fx_outputs.specs.declared.shuffle.Shuffle.{Shuffle}
@@ -8,15 +8,6 @@ use Rattle.fx_outputs.specs.declared.shuffle.Shuffle.TheVariants.{Kept, Default,
 use Rattle.fx_runs.specs.Groups.{by_group}
 use Rattle.fx_runs.specs.Levels.{default_values}
 use Rattle.fx_plan.specs.Draws.{generator, each_shuffled, all_shuffled}
-
--- a whole list so many times
-abbrev pub copies : {X : Type 0} → ℕ → List X → List X
-copies zero xs = []
-copies (suc n) xs = xs ++ copies n xs
-
--- each item `each` times in succession, and that whole list `all` times
-abbrev pub replicated : {X : Type 0} → ℕ → ℕ → List X → List X
-replicated each all xs = copies all (flat_map (λ x. replicate each x) xs)
 
 -- items in random order, where each of n blocks stays together: the blocks are shuffled, and then each of them
 abbrev pub shuffled_in_blocks : {X : Type 0} → Lcg → (X → ℕ) → ℕ → List X → List X × Lcg
@@ -28,14 +19,15 @@ abbrev pub values_at : ℕ → List Recode → ℕ → List (List ℕ)
 values_at q [] place = default_values q
 values_at q (recode ∷ recodes) place = if recode.place == place then recode.values else values_at q recodes place
 
--- the values of each of s factors
-abbrev pub values_of : ℕ → ℕ → List Recode → List (List (List ℕ))
-values_of q s recodes = map (λ i. values_at q recodes (i + 1)) (range_with_len 0 s)
-
--- the run of each row, by its number from 0, and the value of each code of each factor
+-- the rows of a plan in their order, each by its number from 0 among the repeated runs, and the value of each code of
+-- each column
 pub record Arrangement : Type 0 where
   pub order : List ℕ
   pub values : List (List (List ℕ))
+
+-- an order of rows, and values for codes
+abbrev pub arrangement : List ℕ → List (List (List ℕ)) → Arrangement
+arrangement order values = record { order = order; values = values }
 
 -- the values are shuffled, where this is asked
 abbrev pub shuffled_values : Bool → Lcg → List (List (List ℕ)) → List (List (List ℕ))
@@ -47,8 +39,8 @@ shuffled_by g asked block n a = record {
   values = shuffled_values asked (shuffled_in_blocks g block n a.order).1 a.values;
 }
 
--- With RANDOMIZE the runs are shuffled, where `block` is the block of each, of which there are n; then the values of
--- each factor, except with NOVALRAN. All draws are of one generator: that of RANDOMIZE's seed, or else of `seed`.
+-- With RANDOMIZE the rows are shuffled, where `block` is the block of each, of which there are n; then the values of
+-- each column, except with NOVALRAN. All draws are of one generator: that of RANDOMIZE's seed, or else of `seed`.
 abbrev pub arranged : Shuffle → ℕ → (ℕ → ℕ) → ℕ → Arrangement → Arrangement
 arranged Kept seed block n a = a
 arranged (Default values) seed block n a = shuffled_by (generator seed) values block n a

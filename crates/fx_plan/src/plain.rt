@@ -1,10 +1,12 @@
-ghost use Rattle.std.specs.Prelude.{◌≡◌, ◌≤◌, IfOk, length};
-ghost use Rattle.fx_plan.specs.Tables.{plain_output, plain_plan};
+ghost use Rattle.std.specs.Prelude.{◌≡◌, IfOk, length};
+ghost use Rattle.fx_plan.specs.Products.{plain_output, plain_plan};
 
 use crate::planning::plan_of;
+use crate::product::repeats;
+use crate::text::table_text;
 use fx_base::{Bytes, NoMemory};
 use fx_runs::Runs;
-use fx_statements::{Names, OutputSpec, Recodes, Shuffle};
+use fx_statements::{Deriveds, Names, OutputSpec, Recodes, Rep, Shuffle};
 use std::alloc::Global;
 
 /// The bytes of the plan that an OUTPUT statement without options asks for, of some runs without
@@ -13,13 +15,15 @@ use std::alloc::Global;
 /// # Errors
 ///
 /// `NoMemory`.
-pub fn plain_plan(alloc: Global, names: &Names, runs: &Runs) -> Result<Bytes, NoMemory>
-    requires few { length runs.now.rows ≤ 2048 }
+pub fn plain_plan(alloc: Global, factors: &Names, runs: &Runs) -> Result<Bytes, NoMemory>
+    requires names { length factors.now ≡ runs.now.shape.s }
     requires no_blocks { runs.now.shape.t ≡ 0 }
-    ensures { IfOk result (λ bytes. bytes ≡ plain_plan names.now runs.now) }
+    ensures { IfOk result (λ bytes. bytes ≡ plain_plan factors.now runs.now) }
 {
     let output = plain_output(alloc);
-    plan_of(alloc, names, runs, &output, 0)
+    let once = repeats(alloc, 1)?;
+    let table = plan_of(alloc, factors, runs, &output, 0, &once, &once)?;
+    table_text(alloc, &table)
 }
 
 /// What an OUTPUT statement without options asks for.
@@ -28,10 +32,11 @@ fn plain_output(alloc: Global) -> OutputSpec
 {
     OutputSpec {
         name: Bytes::new(alloc),
-        pointrep: 1,
-        designrep: 1,
+        pointrep: Rep::Times(1),
+        designrep: Rep::Times(1),
         shuffle: Shuffle::Kept,
         recodes: Recodes::new(alloc),
+        derived: Deriveds::new(alloc),
         block_name: Bytes::new(alloc),
         block_values: Names::new(alloc),
     }

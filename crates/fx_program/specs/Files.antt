@@ -6,6 +6,8 @@ use Rattle.fx_base.specs.Acts.{Event, Piece, WholeFile}
 use Rattle.fx_designs.specs.Problems.{Dimensions}
 use Rattle.fx_designs.specs.Outcomes.{Ending, Design, NoDesign, BudgetEnded}
 use Rattle.fx_outputs.specs.declared.output.OutputSpec.{OutputSpec}
+use Rattle.fx_outputs.specs.declared.replication.Rep.{Rep}
+use Rattle.fx_outputs.specs.declared.replication.Rep.TheVariants.{Times, Plan}
 use Rattle.fx_outputs.specs.declared.shuffle.Shuffle.{Shuffle}
 use Rattle.fx_outputs.specs.declared.shuffle.Shuffle.TheVariants.{Kept, Default, Seed}
 use Rattle.fx_vectors.specs.Matrix.{MatrixView}
@@ -19,7 +21,8 @@ use Rattle.fx_statements.specs.declared.fold.Fold.{Fold}
 use Rattle.fx_statements.specs.declared.fold.Fold.TheVariants.{Without, Factors}
 use Rattle.fx_statements.specs.Steps.{Meaning}
 use Rattle.fx_alias.specs.Sections.{matrix_of}
-use Rattle.fx_plan.specs.Tables.{plain_plan, plan_of}
+use Rattle.fx_plan.specs.Products.{plain_plan, plan_of, rows_of_rep}
+use Rattle.fx_plan.specs.Tables.{text_of_table}
 
 -- the name of the file of the book of a question, in the step of this number
 abbrev pub book_name : ℕ → ℕ → List ℕ
@@ -45,10 +48,16 @@ book_lines number books = flat_map (book_line number) books
 abbrev pub file_name : List ℕ → List ℕ
 file_name name = str_to_ascii_lowercase name ++ codes ".csv"
 
--- the file that an OUTPUT statement asks for: the plan of a design, by the program's seed
+-- the bytes of the plan of a design for an output, by the program's seed
+abbrev pub plan_bytes : ℕ → List (List ℕ) → MatrixView → OutputSpec → List ℕ
+plan_bytes seed factors matrix output =
+    text_of_table
+    (plan_of factors (design_of matrix) output seed (rows_of_rep output.pointrep None)
+    (rows_of_rep output.designrep None))
+
+-- the file that an OUTPUT statement asks for
 abbrev pub plan_file : ℕ → List (List ℕ) → MatrixView → OutputSpec → Event
-plan_file seed factors matrix output =
-    WholeFile (file_name output.name) (plan_of factors (design_of matrix) output seed)
+plan_file seed factors matrix output = WholeFile (file_name output.name) (plan_bytes seed factors matrix output)
 
 -- the files of a step's plans, in the order of its OUTPUT statements; none without a matrix
 abbrev pub plan_files : ℕ → Meaning → Option MatrixView → List Event
@@ -97,10 +106,16 @@ seed_note seed Kept = []
 seed_note seed (Default values) = codes " seed " ++ decimal seed
 seed_note seed (Seed own values) = codes " seed " ++ decimal own
 
+-- how often a number repeats
+abbrev pub times_of : Rep → ℕ
+times_of (Times n) = n
+times_of (Plan number) = 0
+
 -- the line of a plan of so many runs: its file, its rows, and its seed
 abbrev pub output_line : ℕ → ℕ → OutputSpec → List ℕ
 output_line seed runs output =
-    codes "output " ++ (file_name output.name ++ (codes " " ++ (decimal (runs * (output.pointrep * output.designrep))
+    codes "output " ++ (file_name output.name ++ (codes " " ++ (decimal
+    (runs * (times_of output.pointrep * times_of output.designrep))
     ++ (codes " rows" ++ (seed_note seed output.shuffle ++ codes "\n")))))
 
 -- the lines of a step's plans, in the order of its OUTPUT statements; none without a matrix

@@ -1,8 +1,8 @@
-ghost use Rattle.std.specs.Prelude.{◌≡◌, ◌≤◌, ◌++◌, false, length, All, Some};
+ghost use Rattle.std.specs.Prelude.{◌≡◌, ◌≤◌, ◌++◌, false, length, All, Contains, IfOk, Some};
 ghost use Rattle.fx_statements.specs.Steps.{meaning_of};
 ghost use Rattle.fx_answer.specs.Outcomes.{HasShape, IsOutcome};
 ghost use Rattle.fx_plan.specs.Steps.{IsDesignOf};
-ghost use Rattle.fx_program.specs.Files.{book_files, book_name, design_files, file_name, plan_files};
+ghost use Rattle.fx_program.specs.Files.{book_files, book_name, design_files, file_name, plan_bytes, plan_files};
 ghost use Rattle.fx_program.specs.Outside.{ShelvesFiles, shelf_view};
 
 use crate::fold::shelve_fold;
@@ -10,10 +10,10 @@ use crate::session::Session;
 use crate::stop::Stop;
 use crate::words::append;
 use arrayvec::ArrayVec;
-use fx_base::{Shelf, shelve, shelve_pieces};
+use fx_base::{Bytes, NoMemory, Shelf, shelve, shelve_pieces};
 use fx_book::book_pieces;
-use fx_plan::plan;
-use fx_statements::{Outcome, Step};
+use fx_plan::{plan, table_text};
+use fx_statements::{Outcome, OutputSpec, Step};
 use fx_vectors::{Books, Matrix};
 use itoa::Buffer;
 use std::thread::Threads;
@@ -113,10 +113,34 @@ fn shelve_each<R, F: Shelf>(
 {
     for output in step.outputs.as_slice() {
         let name = file_name(output.name.as_slice());
-        let content = plan(session.alloc, step, matrix, output, session.seed)?;
+        let content = plan_bytes(session, step, matrix, output)?;
         shelve(shelf, name.as_slice(), content.as_slice())?;
     }
     Ok(())
+}
+
+/// The bytes of the plan of a design of the step for an output of it.
+fn plan_bytes<R>(
+    session: &Session<'_, R>,
+    step: &Step,
+    matrix: &Matrix,
+    output: &OutputSpec,
+) -> Result<Bytes, NoMemory>
+    requires design { IsDesignOf step.now matrix.now }
+    requires asked { Contains step.now.outputs output.now }
+    ensures { IfOk result (λ bytes. bytes
+        ≡ plan_bytes session.now.seed step.now.factors matrix.now output.now) }
+{
+    let table = plan(
+        session.alloc,
+        step,
+        matrix,
+        output,
+        session.seed,
+        None,
+        None,
+    )?;
+    table_text(session.alloc, &table)
 }
 
 /// The name of the file of the book of a question, in the step of this number.

@@ -1,10 +1,10 @@
 ghost use Rattle.std.specs.Prelude.{◌≡◌, ◌≤◌, ◌*◌, ◌++◌, codes, decimal, length, Some, OnOk};
 ghost use Rattle.fx_statements.specs.Steps.{meaning_of};
-ghost use Rattle.fx_program.specs.Files.{book_lines, book_name, output_line, output_lines, seed_note};
+ghost use Rattle.fx_program.specs.Files.{book_lines, book_name, output_line, output_lines, seed_note, times_of};
 
 use crate::files::{book_name, file_name};
 use fx_base::{Bytes, NoMemory, put, put_number};
-use fx_statements::{Outcome, OutputSpec, Shuffle, Step};
+use fx_statements::{Outcome, OutputSpec, Rep, Shuffle, Step};
 use fx_vectors::{Books, Matrix};
 
 /// Appends the lines of the books of the step of this number.
@@ -76,17 +76,29 @@ fn put_output_line(
     put(out, b"output ")?;
     put(out, file_name(output.name.as_slice()).as_slice())?;
     put(out, b" ")?;
-    put_number(out, rows(runs, output.pointrep, output.designrep))?;
+    let each = times_of(output.pointrep);
+    let all = times_of(output.designrep);
+    put_number(out, rows(runs, each, all))?;
     put(out, b" rows")?;
     put_seed_note(out, output.shuffle, seed)?;
     put(out, b"\n")
 }
 
-/// The number of rows of a plan of so many runs.
-fn rows(runs: u16, pointrep: u32, designrep: u32) -> u128
-    ensures { result ≡ runs * (pointrep * designrep) }
+/// How often a number repeats.
+fn times_of(rep: Rep) -> u32
+    ensures { result ≡ times_of rep }
 {
-    u128::from(runs) * u128::from(u64::from(pointrep) * u64::from(designrep))
+    match rep {
+        Rep::Times(n) => n,
+        Rep::Plan(_) => 0,
+    }
+}
+
+/// The number of rows of a plan of so many runs.
+fn rows(runs: u16, each: u32, all: u32) -> u128
+    ensures { result ≡ runs * (each * all) }
+{
+    u128::from(runs) * u128::from(u64::from(each) * u64::from(all))
 }
 
 /// Appends the seed of a plan that is shuffled: its own, or else the program's.

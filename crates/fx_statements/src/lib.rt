@@ -14,7 +14,7 @@ mod wanted;
 pub use components::listed_factors;
 pub use examine::Examine;
 pub use fold::Fold;
-pub use fx_outputs::{OutputSpec, Outputs, Recode, Recodes, Shuffle};
+pub use fx_outputs::{Derived, Deriveds, OutputSpec, Outputs, Recode, Recodes, Rep, Shuffle};
 pub use fx_settings::{Blocks, Size};
 pub use fx_text::{Names, ParseStop, Refusal};
 pub use laws::{

@@ -2,7 +2,9 @@ use crate::names_in;
 use fx_base::Bytes;
 use fx_language::symbols;
 use fx_lexer::lex;
-use fx_outputs::{BlockCount, EarlierNames, OutputContext, OutputSpec, Outputs, Shuffle, outputs};
+use fx_outputs::{
+    BlockCount, EarlierNames, OutputContext, OutputSpec, Outputs, Rep, Shuffle, outputs,
+};
 use fx_text::{Names, ParseStop, lexemes, statements};
 use std::alloc::Global;
 use std::process::Abort;
@@ -142,8 +144,8 @@ fn is_first(output: &OutputSpec) -> bool {
         return false;
     };
     output.name.as_slice() == b"Novalran".as_slice()
-        && output.pointrep == 2
-        && output.designrep == 3
+        && output.pointrep == Rep::Times(2)
+        && output.designrep == Rep::Times(3)
         && output.shuffle == shuffle
         && recode.place == 2
         && are(&recode.values, "it's '\"")
@@ -152,8 +154,8 @@ fn is_first(output: &OutputSpec) -> bool {
 }
 
 fn is_second(output: &OutputSpec) -> bool {
-    output.pointrep == 1
-        && output.designrep == 1
+    output.pointrep == Rep::Times(1)
+        && output.designrep == Rep::Times(1)
         && output.shuffle == Shuffle::Kept
         && output.recodes.is_empty()
         && output.block_values.is_empty()

@@ -1,12 +1,13 @@
-ghost use Rattle.std.specs.Prelude.{◌≡◌, ℕ, IsTrue};
+ghost use Rattle.std.specs.Prelude.{◌≡◌, ℕ, IsTrue, None};
 ghost use Rattle.fx_settings.specs.declared.settings.Blocks.TheVariants.{Factors, Without};
+ghost use Rattle.fx_plan.specs.Products.{IsHanded};
 ghost use Rattle.fx_plan.specs.Steps.{IsDesignOf};
 
 use crate::alias::{are_few, matrix_of, program_of, push};
 use crate::rows_of;
 use fx_base::Bytes;
-use fx_plan::{draw, plan};
-use fx_statements::{Blocks, Step};
+use fx_plan::{draw, plan, table_text};
+use fx_statements::{Blocks, Rep, Step};
 use fx_vectors::{Matrix, Shape};
 use rand_core::SeedableRng;
 use rand_pcg::Pcg64;
@@ -93,6 +94,16 @@ fn has_blocks(blocks: Blocks, t: u8) -> bool
     }
 }
 
+/// Whether no plan is named.
+fn is_number(rep: Rep) -> bool
+    ensures { IsTrue result → IsHanded rep None }
+{
+    match rep {
+        Rep::Times(_) => true,
+        Rep::Plan(_) => false,
+    }
+}
+
 /// Whether a text is these parts, one after another.
 fn is_joined(text: &[u8], parts: &[&[u8]]) -> bool {
     let mut rest = text;
@@ -120,7 +131,10 @@ fn is_planned(
 /// The plan of a step for the OUTPUT statement at `i`, by the seed 5.
 fn plan_of(rt: &impl Abort, alloc: Global, step: &Step, matrix: &Matrix, i: usize) -> Bytes {
     assert!(rt; i < step.outputs.len() && is_design(step, matrix));
-    plan(alloc, step, matrix, step.outputs.get(i), 5).expect(rt, "memory")
+    let output = step.outputs.get(i);
+    assert!(rt; is_number(output.pointrep) && is_number(output.designrep));
+    let table = plan(alloc, step, matrix, output, 5, None, None).expect(rt, "memory");
+    table_text(alloc, &table).expect(rt, "memory")
 }
 
 /// The plan of the text's only step.

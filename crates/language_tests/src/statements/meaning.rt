@@ -2,7 +2,7 @@
 use crate::rows_of;
 use crate::statements::{read, text_of};
 use fx_settings::Criterion;
-use fx_statements::{Blocks, Examine, Program, Shuffle, Size, Step, Wanted};
+use fx_statements::{Blocks, Examine, Program, Rep, Shuffle, Size, Step, Wanted};
 use fx_text::Names;
 use fx_vectors::Effects;
 use std::alloc::Global;
@@ -313,7 +313,7 @@ fn is_second(step: &Step) -> bool {
         && step.size == Size::Runs { m: 1 }
         && criterion(&step.wanted) == Criterion::Resolution { r: 4 }
         && step.examine == listed
-        && matches!(step.outputs.as_slice(), [plan] if plan.pointrep == 3)
+        && matches!(step.outputs.as_slice(), [plan] if plan.pointrep == Rep::Times(3))
 }
 
 fn are_both(program: &Program) -> bool {

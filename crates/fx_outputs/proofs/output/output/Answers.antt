@@ -1,4 +1,4 @@
-use Rattle.std.proofs.Common.{◌≡◌, ℕ, List, Result, Ok, Err, drop, refl, ap}
+use Rattle.std.proofs.Common.{◌≡◌, ℕ, List, [], Result, Ok, Err, drop, refl, ap}
 use Rattle.std.specs.Prelude.{slice_get}
 use Rattle.fx_language.specs.declared.symbol.Symbol.TheVariants.{Pointrep, Designrep, Blockname}
 use Rattle.fx_text.specs.declared.refusal.Refusal.{Refusal}
@@ -10,6 +10,7 @@ use Rattle.fx_text.proofs.Stops.{refused, stopped}
 use Rattle.fx_outputs.specs.declared.context.BlockCount.{BlockCount}
 use Rattle.fx_outputs.specs.declared.output.OutputSpec.{OutputSpec}
 use Rattle.fx_outputs.specs.declared.recode.Recode.{Recode}
+use Rattle.fx_outputs.specs.declared.replication.Rep.TheVariants.{Times}
 use Rattle.fx_outputs.specs.declared.shuffle.Shuffle.{Shuffle}
 use Rattle.fx_outputs.specs.BlockColumns.{block_values, check_blockname, check_column, name_or_empty}
 use Rattle.fx_outputs.specs.Contexts.{Context}
@@ -84,10 +85,11 @@ module _ (context : Context) (earlier : List (List ℕ)) (word name : Written) (
                     → meaning ≡ Ok
                     (record {
                       name = name.text;
-                      pointrep = pointrep;
-                      designrep = designrep;
+                      pointrep = Times pointrep;
+                      designrep = Times designrep;
                       shuffle = shuffle;
                       recodes = recodes;
+                      derived = [];
                       block_name = name_or_empty (slice_get column 2);
                       block_values = values;
                     })
@@ -182,7 +184,7 @@ returns-in_err-block_name-clause-refused c = refused _ _ stop.NoMemory c.from_re
 
 pub returns-clause-ok : goal.returns-clause-ok
 returns-clause-ok c =
-    rw (c.in_ok-from_slice.ensures, c.text.ensures, c.in_ok-block_name.ensures)
+    rw (c.in_ok-from_slice.ensures, c.text.ensures, c.new.ensures, c.in_ok-block_name.ensures)
     (is_read c.args.context.now c.args.earlier.now c.args.word.now c.args.name.now c.args.phrase.now
     c.in_ok-add_name.ensures.ok _ _ _ c.in_ok-pointrep.ensures c.in_ok-designrep.ensures
     (ap (λ (x : Context). x.runs) c.context.view_is) c.in_ok-check_rows.ensures _ _ _ c.in_ok-shuffle.ensures

@@ -1,19 +1,27 @@
-use Rattle.std.proofs.Common.{◌∙◌, cond, eqb, length, refl}
+use Rattle.std.proofs.Common.{◌∙◌, ◌≡◌, ℕ, ◌<◌, ◌*◌, cond, eqb, length, sym, subst}
+use Rattle.std.specs.List.{sum_by}
 use Rattle.fx_runs.specs.Runs.{design_of}
-use Rattle.fx_plan.proofs.Rows.{plan_total}
-use Rattle.fx_plan.proofs.Totals.{replicated_total}
-use Rattle.fx_plan.proofs.Designs.{design-runs, record-count, run-count, values-reordered}
+use Rattle.fx_plan.specs.Products.{arrangement_of, run_of}
+use Rattle.fx_plan.proofs.Designs.{design-runs, row-count, run-count, values-reordered}
+use Rattle.fx_plan.proofs.Repeating.{plan_total, run_total}
 use Rattle.fx_plan.proofs.laws.plans_are_of_their_designs.Goals as goal
 
-pub returns-clause-records : goal.returns-clause-records
-returns-clause-records c names matrix output seed known whole =
-    (refl, record-count names matrix output seed known whole)
+pub returns-clause-rows : goal.returns-clause-rows
+returns-clause-rows c names matrix output seed inner outer known whole =
+    row-count names matrix output seed inner outer known whole
 
 pub returns-clause-as_often : goal.returns-clause-as_often
-returns-clause-as_often c matrix output seed k known whole low =
+returns-clause-as_often c matrix output seed inner outer k known whole low =
     let runs = design_of matrix in
-    plan_total (λ x. cond (eqb x k) 1 0) runs output seed (design-runs matrix known whole)
-    ∙ replicated_total output.pointrep output.designrep (length runs.rows) k (rw (run-count matrix) low)
+    let each : ℕ = length inner.rows in
+    let all : ℕ = length outer.rows in
+    let order = (arrangement_of runs output seed inner outer).order in
+    let own : k < length runs.rows = subst (λ (n : ℕ). k < n) (sym (run-count matrix)) low in
+    let often : sum_by (λ r. cond (eqb (run_of each (length runs.rows) r) k) 1 0) order ≡ each * all =
+    plan_total (λ r. cond (eqb (run_of each (length runs.rows) r) k) 1 0) runs output seed inner outer
+    (design-runs matrix known whole)
+    ∙ run_total (length runs.rows) each all k own in
+    subst (λ (n : ℕ). sum_by (λ r. cond (eqb (run_of each n r) k) 1 0) order ≡ each * all) (run-count matrix) often
 
 pub returns-clause-values : goal.returns-clause-values
-returns-clause-values c runs output seed = values-reordered runs output seed
+returns-clause-values c runs output seed inner outer = values-reordered runs output seed inner outer

@@ -1,9 +1,7 @@
 use Rattle.std.proofs.Common.{rules, ◌≡◌, ◌<◌, ◌≤◌, List, ℕ, length, get_or, ap, ◌∙◌}
 use Rattle.fx_outputs.specs.declared.output.OutputSpec.{OutputSpec}
-use Rattle.fx_runs.specs.Runs.{design_of}
 use Rattle.fx_vectors.specs.Matrix.{MatrixView}
-use Rattle.fx_plan.specs.Tables.{plan_of}
-use Rattle.fx_program.specs.Files.{file_name}
+use Rattle.fx_program.specs.Files.{file_name, plan_bytes}
 use Rattle.fx_program.proofs.Filing.{shelved_each, shelved_more, shelved_none, stopped_before, stopped_in}
 use Rattle.fx_program.proofs.files.shelve_each.Goals as goal
 
@@ -12,7 +10,7 @@ abbrev name : OutputSpec → List ℕ
 name output = file_name output.name
 
 abbrev content : List (List ℕ) → MatrixView → ℕ → OutputSpec → List ℕ
-content factors matrix seed output = plan_of factors (design_of matrix) output seed
+content factors matrix seed output = plan_bytes seed factors matrix output
 
 pub loop-output-init : goal.loop-output-init
 loop-output-init g c = shelved_none _ c.requires.ended

@@ -7,18 +7,11 @@ use Rattle.fx_runs.specs.Runs.{RunsView}
 use Rattle.fx_vectors.specs.Matrix.{MatrixView}
 use Rattle.fx_vectors.specs.declared.shape.Shape.{Shape}
 use Rattle.fx_foldover.specs.Foldovers.{combined_plan, exchanged_run}
-use Rattle.fx_plan.specs.Tables.{plain_plan}
+use Rattle.fx_plan.specs.Products.{plain_plan}
 use Rattle.fx_alias.proofs.Folds.{unblocked}
 use Rattle.fx_program.specs.Files.{fold_name, fold_runs}
 use Rattle.fx_program.proofs.Filing.{shelved_each, shelved_more, shelved_none, stopped_before, stopped_in}
 use Rattle.fx_program.proofs.fold.shelve_runs.Goals as goal
-
-combined-length : (fold : List ℕ) (runs : List (List ℕ)) → length (combined_plan fold runs) ≡ 2 * length runs
-unfolding combined_plan
-combined-length fold runs =
-    let both = length-append runs (map (exchanged_run fold) runs) in
-    let second = length-map runs (exchanged_run fold) in
-    omega (arith, both, second)
 
 -- the name and the content of the one file
 abbrev name : ℕ → MatrixView → List ℕ
@@ -47,19 +40,9 @@ pub fold_runs-requires-clause-fold : goal.fold_runs-requires-clause-fold
 fold_runs-requires-clause-fold g c =
     (c.args.step.now.fold_fits c.args.folded.now c.requires.fold).2 ∙ sym c.requires.design.factors
 
-pub plain_plan-requires-clause-few : goal.plain_plan-requires-clause-few
-plain_plan-requires-clause-few g c =
-    let m : ℕ = c.args.matrix.now.shape.m in
-    let vectors = vectors_of 2 m c.args.matrix.now.rows in
-    let long : length c.in_ok-runs.runs.rows ≡ 2 * length (runs_of 2 m vectors) =
-    ap length c.in_ok-runs.ensures.rows ∙ combined-length c.args.folded.now (runs_of 2 m vectors) in
-    let count : length (runs_of 2 m vectors) ≡ 2 ^ m = length-runs 2 m vectors in
-    let two : c.args.matrix.now.shape.q ≡ 2 =
-    c.requires.design.levels ∙ (c.args.step.now.fold_fits c.args.folded.now c.requires.fold).0 in
-    let few : c.args.matrix.now.shape.q ^ m ≤ 1024 =
-    rw (← c.in_ok-runs.ensures.shape, ← c.runs.view_is) c.runs.invariant.shaped.runs in
-    let small : 2 ^ m ≤ 1024 = subst (λ q. q ^ m ≤ 1024) two few in
-    omega (arith, long, count, small)
+pub plain_plan-requires-clause-names : goal.plain_plan-requires-clause-names
+plain_plan-requires-clause-names g c =
+    sym c.requires.design.factors ∙ sym (ap (λ (z : Shape). z.s) c.in_ok-runs.ensures.shape)
 
 pub plain_plan-requires-clause-no_blocks : goal.plain_plan-requires-clause-no_blocks
 plain_plan-requires-clause-no_blocks g c =

@@ -1,0 +1,174 @@
+-- What holds of the columns of a plan, and of their values.
+use Rattle.std.proofs.Common.{ℕ, ◌≡◌, ◌≢◌, ◌<◌, ◌≤◌, ◌+◌, ◌-◌, ◌^◌, ◌==◌, suc, Bool, true, false, cond, not}
+use Rattle.std.proofs.Common.{List, [], ◌∷◌, ◌++◌, length, map, get_or, refl, sym, subst, ◌∙◌, ap, ap₂, arith}
+use Rattle.std.proofs.Common.{All}
+use Rattle.std.specs.Prelude.{decimal}
+use Rattle.std.specs.List.{AllByRecursion, range_with_len}
+use Rattle.std.proofs.Math.Nat.{pow-suc, pow-zero}
+use Rattle.std.proofs.lemmas.List.{get_or-map, get_or_default, length-append, length-map, map-append}
+use Rattle.std.proofs.lemmas.List.FromFn.{get_or-range_with_len, length-map-range_with_len, length-range_with_len}
+use Rattle.std.proofs.lemmas.List.Elements.{All-append, All-filter, All-from_recursion, All-map, recursion_from_All}
+use Rattle.fx_plan.specs.Plans.{values_at}
+use Rattle.fx_outputs.specs.declared.recode.Recode.{Recode}
+use Rattle.fx_runs.proofs.Defaults.{length-default}
+use Rattle.fx_runs.specs.Runs.{RunsView}
+use Rattle.fx_runs.specs.RunBlocks.{block_of}
+use Rattle.fx_outputs.specs.Validity.{column_name}
+use Rattle.fx_outputs.specs.DerivedFactors.{AreDerived, free_places, is_bracketed}
+use Rattle.fx_plan.specs.Tables.{block_field}
+use Rattle.fx_derived.specs.Codes.{ArePlaces, derived_level}
+use Rattle.fx_outputs.specs.declared.output.OutputSpec.{OutputSpec}
+use Rattle.fx_plan.specs.Products.{own_fields, runs_table}
+use Rattle.fx_outputs.specs.declared.derived.Derived.{Derived}
+use Rattle.fx_plan.specs.Columns.{codes_of, column_names, column_places, column_values, values_or_codes}
+
+-- a column of different places, of at most 64 levels
+pub record IsColumn (q s : ℕ) (column : List ℕ) : Type 0 where
+  pub places : ArePlaces s column
+  pub levels : q ^ length column ≤ 64
+
+pow-one : (q : ℕ) → q ^ 1 ≡ q
+pow-one q = pow-suc q 0 ∙ (let e : q ^ 0 ≡ 1 = pow-zero q in rw e (omega arith))
+
+range_in : (s : ℕ) → All (λ p. (1 ≤ p) × (p ≤ s)) (range_with_len 1 s)
+range_in s k d low =
+    let there : k < s = omega (arith, length-range_with_len 1 s) in
+    subst (λ (p : ℕ). (1 ≤ p) × (p ≤ s)) (sym (get_or-range_with_len 1 s k d there)) (omega arith, omega arith)
+
+pub free_in : (s : ℕ) (derived : List Derived) → All (λ p. (1 ≤ p) × (p ≤ s)) (free_places s derived)
+free_in s derived =
+    All-filter (λ p. not (is_bracketed derived p)) (λ p. (1 ≤ p) × (p ≤ s)) (range_with_len 1 s) (range_in s)
+
+one_place : (q s p : ℕ) → q ≤ 9 → 1 ≤ p → p ≤ s → IsColumn q s (p ∷ [])
+one_place q s p small low high = record {
+  places = record {
+    from_1 = All-from_recursion (λ p. 1 ≤ p) (p ∷ []) (low, tt);
+    factors = All-from_recursion (λ p. p ≤ s) (p ∷ []) (high, tt);
+    different = λ i j d less there. absurd (omega arith);
+  };
+  levels = rw (pow-one q) (omega arith);
+}
+
+pub columns_fit : (q s : ℕ) (derived : List Derived) → q ≤ 9 → AreDerived q s derived
+    → All (IsColumn q s) (column_places s derived)
+columns_fit q s derived small h =
+    All-append (IsColumn q s) (map (λ p. p ∷ []) (free_places s derived)) (map (λ (d : Derived). d.places) derived)
+    (All-map (IsColumn q s) (λ p. p ∷ []) (free_places s derived)
+    (λ k d low. let at = free_in s derived k d low in one_place q s _ small at.0 at.1))
+    (All-map (IsColumn q s) (λ (d : Derived). d.places) derived
+    (λ k d low. record { places = h.places k d low; levels = h.levels k d low }))
+
+one_of : (b : Bool) (x y : List (List ℕ)) (q : ℕ) → length x ≡ q → length y ≡ q → length (cond b x y) ≡ q
+one_of true x y q p r = p
+one_of false x y q p r = r
+
+length-values_at : (q : ℕ) (recodes : List Recode) (place : ℕ)
+    → AllByRecursion (λ (r : Recode). length r.values ≡ q) recodes → length (values_at q recodes place) ≡ q
+length-values_at q [] place h = length-default q
+length-values_at q (r ∷ recodes) place h =
+    one_of (r.place == place) r.values (values_at q recodes place) q h.0 (length-values_at q recodes place h.1)
+
+free_lengths : (q : ℕ) (recodes : List Recode) → AllByRecursion (λ (r : Recode). length r.values ≡ q) recodes
+    → (ps : List ℕ)
+    → map length (map (λ p. values_at q recodes p) ps) ≡ map (λ places. q ^ length places) (map (λ p. p ∷ []) ps)
+free_lengths q recodes h [] = refl
+free_lengths q recodes h (p ∷ ps) =
+    ap₂ (λ (a : ℕ) (l : List ℕ). a ∷ l) (length-values_at q recodes p h ∙ sym (pow-one q)) (free_lengths q recodes h ps)
+
+own_length : (n : ℕ) (values : List (List ℕ)) → (values ≢ [] → length values ≡ n)
+    → length (values_or_codes n values) ≡ n
+own_length n [] h = length-map-range_with_len decimal 0 n
+own_length n (v ∷ values) h = h (λ e. (let bad : length (v ∷ values) ≡ 0 = ap length e in omega arith))
+
+derived_lengths : (q : ℕ) (derived : List Derived)
+    → AllByRecursion (λ (d : Derived). d.values ≢ [] → length d.values ≡ q ^ length d.places) derived
+    → map length (map (λ (d : Derived). values_or_codes (q ^ length d.places) d.values) derived)
+    ≡ map (λ places. q ^ length places) (map (λ (d : Derived). d.places) derived)
+derived_lengths q [] h = refl
+derived_lengths q (d ∷ derived) h =
+    ap₂ (λ (a : ℕ) (l : List ℕ). a ∷ l) (own_length (q ^ length d.places) d.values h.0) (derived_lengths q derived h.1)
+
+-- a value for each code of each column
+pub values_fit : (q s : ℕ) (recodes : List Recode) (derived : List Derived)
+    → All (λ (r : Recode). length r.values ≡ q) recodes → AreDerived q s derived
+    → map length (column_values q s recodes derived) ≡ map (λ places. q ^ length places) (column_places s derived)
+values_fit q s recodes derived hr hd =
+    map-append length (map (λ p. values_at q recodes p) (free_places s derived))
+    (map (λ (d : Derived). values_or_codes (q ^ length d.places) d.values) derived)
+    ∙ ap₂ (λ (a b : List ℕ). a ++ b)
+    (free_lengths q recodes (recursion_from_All (λ (r : Recode). length r.values ≡ q) recodes hr)
+    (free_places s derived))
+    (derived_lengths q derived
+    (recursion_from_All (λ (d : Derived). d.values ≢ [] → length d.values ≡ q ^ length d.places) derived hd.values))
+    ∙ sym (map-append (λ places. q ^ length places) (map (λ p. p ∷ []) (free_places s derived))
+    (map (λ (d : Derived). d.places) derived))
+
+-- the list of values of a column is as long as it has codes
+pub values_long : (q : ℕ) (values : List (List (List ℕ))) (columns : List (List ℕ)) (i : ℕ)
+    → map length values ≡ map (λ places. q ^ length places) columns → i < length columns
+    → (i < length values) × (length (get_or values i []) ≡ q ^ length (get_or columns i []))
+values_long q values columns i e low =
+    let many : length values ≡ length columns =
+    sym (length-map values length) ∙ ap length e ∙ length-map columns (λ places. q ^ length places) in (
+      omega arith,
+      sym (get_or-map length values i [] 0 (omega arith)) ∙ ap (λ (l : List ℕ). get_or l i 0) e ∙ get_or-map
+          (λ places. q ^ length places) columns i [] 0 low,
+    )
+
+both_long : {X : Type 0} (b : Bool) (x y : X) (xs ys : List X) → length xs ≡ length ys
+    → length (cond b [] (x ∷ []) ++ xs) ≡ length (cond b [] (y ∷ []) ++ ys)
+both_long true x y xs ys e = e
+both_long false x y xs ys e = ap suc e
+
+names_long : (names : List (List ℕ)) (derived : List Derived)
+    → length (column_names names derived) ≡ length (column_places (length names) derived)
+names_long names derived =
+    let free : List ℕ = free_places (length names) derived in
+    length-append (map (λ p. get_or names (p - 1) []) free) (map (λ (d : Derived). d.name) derived)
+    ∙ ap₂ (λ (a b : ℕ). a + b) (length-map free (λ p. get_or names (p - 1) []) ∙ sym (length-map free (λ p. p ∷ [])))
+    (length-map derived (λ (d : Derived). d.name) ∙ sym (length-map derived (λ (d : Derived). d.places)))
+    ∙ sym (length-append (map (λ p. p ∷ []) free) (map (λ (d : Derived). d.places) derived))
+
+-- a row of the runs has a field for each of their columns
+pub own_long : (names : List (List ℕ)) (runs : RunsView) (output : OutputSpec) (values : List (List (List ℕ))) (k : ℕ)
+    → length names ≡ runs.shape.s
+    → length (own_fields runs output.block_values (column_places runs.shape.s output.derived) values k)
+    ≡ length (runs_table names runs output values).names
+own_long names runs output values k e =
+    let columns : List (List ℕ) = column_places runs.shape.s output.derived in
+    both_long (runs.shape.t == 0) (block_field output.block_values (block_of runs k)) (column_name output.block_name) _
+    _
+    (length-map-range_with_len _ 0 (length columns) ∙ ap (λ (s : ℕ). length (column_places s output.derived)) (sym e) ∙
+    sym (names_long names output.derived))
+
+-- the column at a place
+pub column_at : (q s : ℕ) (derived : List Derived) (columns : List (List ℕ)) (i : ℕ) (column : List ℕ) → q ≤ 9
+    → AreDerived q s derived → columns ≡ column_places s derived
+    → i < length columns → column ≡ get_or columns i column → IsColumn q s column
+column_at q s derived columns i column small h e low is =
+    let all : All (IsColumn q s) columns = subst (All (IsColumn q s)) (sym e) (columns_fit q s derived small h) in
+    subst (IsColumn q s) (sym is) (all i column low)
+
+module _ {V : Type 0} (f : V → List (List ℕ)) (q : ℕ) (values : List V) (columns : List (List ℕ)) (i : ℕ) (v : V)
+    (column : List ℕ)
+    (fit : map length (map f values) ≡ map (λ places. q ^ length places) columns) (low : i < length columns)
+    (is : v ≡ get_or values i v) (at : column ≡ get_or columns i column) where
+  both : (i < length (map f values)) × (length (get_or (map f values) i []) ≡ q ^ length (get_or columns i []))
+  both = values_long q (map f values) columns i fit low
+
+  pub value_there : i < length values
+  value_there = (let a = both.0 in omega (arith, a, length-map values f))
+
+  -- its values are as many as its codes
+  pub value_list : length (f v) ≡ q ^ length column
+  value_list =
+      ap length (ap f is ∙ sym (get_or-map f values i v [] value_there)) ∙ both.1
+      ∙ ap (λ (l : List ℕ). q ^ length l) (get_or_default columns i [] column low ∙ sym at)
+
+  -- the field of a run
+  pub field_at : (x : List ℕ)
+      → get_or (f v) (derived_level q column x) []
+      ≡ get_or (get_or (map f values) i []) (get_or (codes_of q columns x) i 0) []
+  field_at x =
+      ap₂ (λ (l : List (List ℕ)) (k : ℕ). get_or l k []) (ap f is ∙ sym (get_or-map f values i v [] value_there))
+      (ap (λ (p : List ℕ). derived_level q p x) at ∙ sym (get_or-map (λ p. derived_level q p x) columns i column 0 low))

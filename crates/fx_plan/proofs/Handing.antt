@@ -1,0 +1,70 @@
+-- What a plan of a design of a step is handed.
+use Rattle.std.proofs.Common.{◌≡◌, ◌^◌, ◌∙◌, ℕ, List, length, refl, sym, ap, Option, Some, None}
+use Rattle.std.specs.Prelude.{unwrap_or, Contains}
+use Rattle.std.proofs.lemmas.List.Elements.{All-contains}
+use Rattle.fx_derived.specs.Tables.{TableView}
+use Rattle.fx_settings.specs.declared.settings.Blocks.{Blocks}
+use Rattle.fx_settings.specs.declared.settings.Blocks.TheVariants.{Without, Factors, PerBlock, Most}
+use Rattle.fx_outputs.specs.declared.context.BlockCount.TheVariants as count
+use Rattle.fx_outputs.specs.declared.output.OutputSpec.{OutputSpec}
+use Rattle.fx_outputs.specs.declared.replication.Rep.{Rep}
+use Rattle.fx_outputs.specs.declared.replication.Rep.TheVariants.{Times, Plan}
+use Rattle.fx_outputs.specs.Validity.{IsRep, IsWithinLimits}
+use Rattle.fx_runs.specs.Runs.{design_of}
+use Rattle.fx_vectors.specs.Matrix.{MatrixView}
+use Rattle.fx_statements.specs.declared.step.Step.{Step}
+use Rattle.fx_statements.specs.Contexts.{block_count, context}
+use Rattle.fx_statements.specs.Valid.{settings_in}
+use Rattle.fx_plan.specs.Products.{CanBePlanned, IsHanded, rows_of_rep}
+use Rattle.fx_plan.specs.Steps.{IsDesignOf}
+
+-- the table that is used for a replication
+pub handed_is : (rep : Rep) (named : Option TableView) → IsHanded rep named
+    → unwrap_or named (rows_of_rep rep None) ≡ rows_of_rep rep named
+handed_is (Times n) None h = refl
+handed_is (Times n) (Some table) h = absurd h
+handed_is (Plan number) None h = absurd h
+handed_is (Plan number) (Some table) h = refl
+
+-- values of the block column are as many as there are blocks
+values_for_blocks : (q t : ℕ) (blocks : Blocks) (values : List (List ℕ)) → (blocks ≡ Without → t ≡ 0)
+    → ((u : ℕ) → blocks ≡ Factors u → t ≡ u)
+    → block_count q blocks ≡ count.Fixed (length values) → length values ≡ q ^ t
+values_for_blocks q t Without values none own e = absurd (cc e)
+values_for_blocks q t (Factors u) values none own e =
+    let many : q ^ u ≡ length values = cc e in sym many ∙ ap (λ (x : ℕ). q ^ x) (sym (own u refl))
+values_for_blocks q t (PerBlock k) values none own e = absurd (cc e)
+values_for_blocks q t Most values none own e = absurd (cc e)
+
+number_alone : (rep : Rep) → IsRep rep → IsHanded rep None
+number_alone (Times n) h = tt
+number_alone (Plan number) h = absurd (h.no_plan number refl)
+
+-- no plan is named yet
+pub numbers_alone : (step : Step) (output : OutputSpec) → Contains step.outputs output
+    → IsHanded output.pointrep None × IsHanded output.designrep None
+numbers_alone step output asked =
+    let known = All-contains
+    (IsWithinLimits (context step.factors
+    (settings_in step.q step.budget step.size step.wanted step.least step.blocks)))
+    step.outputs output step.outputs_within_limits asked in
+    (number_alone output.pointrep known.pointrep, number_alone output.designrep known.designrep)
+
+-- an output of a step can be planned for each of its designs
+pub can_be_planned : (step : Step) (matrix : MatrixView) (output : OutputSpec) → IsDesignOf step matrix
+    → Contains step.outputs output → CanBePlanned step.factors (design_of matrix) output
+can_be_planned step matrix output design asked =
+    let known = All-contains
+    (IsWithinLimits (context step.factors
+    (settings_in step.q step.budget step.size step.wanted step.least step.blocks)))
+    step.outputs output step.outputs_within_limits asked in
+    record {
+      names = sym design.factors;
+      recodes = λ k d low. (known.recodes.each k d low).each_level ∙ sym design.levels;
+      derived = rw (design.levels, design.factors) known.derived;
+      block_values =
+          λ some. rw design.levels
+          (values_for_blocks step.q matrix.shape.t step.blocks output.block_values design.unblocked
+          design.block_factors (known.block_values some));
+      few_blocks = design.few;
+    }
