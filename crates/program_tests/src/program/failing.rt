@@ -38,7 +38,7 @@ const PIECE: usize = 5000;
 
 /// Words and texts, with how many bytes a call takes, and how many calls are made: reads, the last of which
 /// finds the end, writes to the listing, and calls on the shelf, which begin a file, write it and end it.
-const CALLS: [(&str, &str, usize, [usize; 3]); 13] = [
+const CALLS: [(&str, &str, usize, [usize; 3]); 14] = [
     ("run", TWO_PLANS, PIECE, [2, 2, 9]),
     ("run", TWO_PLANS, 1, [TWO_PLANS.len() + 1, 198, 115]),
     ("run", CLASSES, PIECE, [2, 1, 3]),
@@ -52,6 +52,7 @@ const CALLS: [(&str, &str, usize, [usize; 3]); 13] = [
     ("judge 4", JUDGED, PIECE, [2, 1, 0]),
     ("make 1", "", PIECE, [0, 1, 0]),
     ("large 2", "", 1, [0, 43, 0]),
+    ("catalogue 2 3 5", "", PIECE, [0, 3, 6]),
 ];
 
 /// What fails: a call of the source, the listing or the shelf, or the room of listing or shelf.
