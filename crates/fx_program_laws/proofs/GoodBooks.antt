@@ -62,7 +62,7 @@ is_accepted text book read none =
     ap verdict_output read
     ∙ ap (λ flaw. message (verdict_lines book.head (verdict_of flaw)) (verdict_status (verdict_of flaw))) none
 
-accepted_book : (p : Problem) → IsFinished 5000000 p → (number : ℕ) → has_book p ≡ true
+pub accepted_book : (p : Problem) → IsFinished 5000000 p → (number : ℕ) → has_book p ≡ true
     → IsAcceptedBook (record { question = number; book = book_for p })
 unfolding marks
 accepted_book p finished number has =

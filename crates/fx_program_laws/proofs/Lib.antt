@@ -2,6 +2,7 @@ mod Examples
 pub mod ValidBooks
 mod BookLengths
 mod GoodBooks
+mod CataloguedBooks
 mod Booked
 mod Listed
 mod Least

@@ -1,4 +1,4 @@
--- What is claimed of the books of a step.
+-- What is claimed of the books of a step, and of those of a catalogue.
 use Rattle.std.specs.Prelude.{ℕ, ◌≡◌, ◌<◌, ◌⊎◌, ◌+◌, true, false, List, [], ◌∷◌, Option, Some, None, Ok, All, codes}
 use Rattle.std.specs.Prelude.{is_some, slice_get}
 use Rattle.std.specs.List.{Contains}
@@ -13,6 +13,8 @@ use Rattle.fx_settings.specs.Valid.{has_blocks}
 use Rattle.fx_vectors.specs.Question.{problem_of}
 use Rattle.fx_vectors.specs.declared.book.Book.{Book}
 use Rattle.fx_vectors.specs.declared.book.NamedBook.{NamedBook}
+use Rattle.fx_catalogue.specs.declared.line.Line.{Line}
+use Rattle.fx_catalogue.specs.declared.line.Line.TheVariants.{Least, Nothing, Budget}
 use Rattle.fx_book.specs.Heads.{book_of}
 use Rattle.fx_book.specs.Writing.{book_text}
 use Rattle.fx_checker.specs.declared.verdict.Verdict.TheVariants.{Accepted}
@@ -32,6 +34,12 @@ pub record IsAcceptedBook (named : NamedBook) : Type 0 where
   pub read : book_of (book_text named.book) ≡ Ok named.book
   pub accepted : output_of (codes "check" ∷ []) (book_text named.book)
       ≡ message (verdict_lines named.book.head Accepted) 0
+
+-- the book of a line of a catalogue, for so many factors, is one, where the line has a book
+abbrev pub HasAcceptedBook : ℕ → Line → Type 0
+HasAcceptedBook s (Least matrix pattern count book) = IsAcceptedBook (record { question = s; book = book })
+HasAcceptedBook s (Nothing count book) = IsAcceptedBook (record { question = s; book = book })
+HasAcceptedBook s Budget = Unit {0}
 
 -- each book of a step is one
 abbrev pub HasAcceptedBooks : Meaning → Type 0

@@ -8,6 +8,7 @@ ghost use Rattle.fx_statements.specs.Steps.{Meaning};
 ghost use Rattle.fx_program_laws.specs.BookClaims.{
   HasABookForEach,
   HasABookForEachAsked,
+  HasAcceptedBook,
   HasAcceptedBooks,
   HighestHasBook,
   HighestInBlocksHasBook,
@@ -24,7 +25,9 @@ ghost use Rattle.fx_book.specs.Writing.{book_text};
 ghost use Rattle.fx_program.specs.Files.{names_among};
 ghost use Rattle.fx_program.specs.Texts.{program_in};
 ghost use Rattle.fx_designs.specs.Outcomes.{Design, NoDesign};
-ghost use Rattle.fx_program.specs.declared.words.Settings.TheVariants.{Large, Run};
+ghost use Rattle.fx_program.specs.declared.words.Settings.TheVariants.{Catalogue, Large, Run};
+ghost use Rattle.fx_program.specs.CommandLine.{IsCatalogue};
+ghost use Rattle.fx_catalogue.specs.Catalogues.{Entry, entries};
 ghost use Rattle.fx_program.specs.Commands.{output_for, output_of};
 ghost use Rattle.fx_program.specs.Output.{message, program_output, step_output};
 ghost use Rattle.fx_program_laws.specs.Endings.{EndsWith};
@@ -200,6 +203,12 @@ pub fn books_are_accepted_in_any_text()
     ensures { (text : List ℕ) → EachStep HasAcceptedBooks (program_in text) }
 {}
 
+/// Each book of a catalogue is read from its file as it is, and `check` accepts it, with status 0.
+pub fn catalogued_books_are_accepted()
+    ensures { (q m most nodes : ℕ) → IsCatalogue q m most nodes
+        → All (λ (e : Entry). HasAcceptedBook e.factors e.line) (entries q m most nodes) }
+{}
+
 /// Whatever a text says: where `check` of it ends with status 0, it is a book, and its claim holds: the
 /// runs of no rule matrix at all, canonical or not, meet what its head asks, or, where the head has a
 /// pattern, none of those that do has a less one. It does not matter who wrote it.
@@ -244,4 +253,7 @@ pub fn threads_change_nothing()
         → output_for (Ok (Run threads seed)) text ≡ output_for (Ok (Run other seed)) text }
     ensures large { (n threads other : ℕ) (text : List ℕ)
         → output_for (Ok (Large n threads)) text ≡ output_for (Ok (Large n other)) text }
+    ensures catalogue { (q m most threads other nodes : ℕ) (text : List ℕ)
+        → output_for (Ok (Catalogue q m most threads nodes)) text
+        ≡ output_for (Ok (Catalogue q m most other nodes)) text }
 {}

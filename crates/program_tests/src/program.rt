@@ -1,4 +1,5 @@
 mod books;
+mod catalogues;
 mod failing;
 mod forged;
 mod limits;

@@ -56,6 +56,7 @@ const CALLS: [(&str, &str, usize, [usize; 3]); 14] = [
     ("judge 4", JUDGED, PIECE, [2, 1, 0]),
     ("make 1", "", PIECE, [0, 1, 0]),
     ("large 2", "", 1, [0, 43, 0]),
+    ("catalogue 2 3 5", "", PIECE, [0, 3, 6]),
 ];
 
 /// What fails: a call of the source, the listing or the shelf, or the room of listing or shelf.

@@ -1,0 +1,39 @@
+#!/bin/bash
+# Makes each table of docs/CATALOGUE.md anew, compares it with the page, and has each of its books checked by the program
+# and by the second checker, which takes most of the time: some ten minutes for a book of 20 MB. The gate does not run it.
+#
+# usage: bench/catalogue.sh PROGRAM [PART]      with PART only the tables whose command has it, as '2 4 '
+set -euo pipefail
+program=$(realpath "$1")
+part=${2:-}
+top=$(dirname "$(dirname "$(realpath "$0")")")
+folder=$(mktemp -d)
+trap 'rm -r "$folder"' EXIT
+
+# A table of the page is a command, and the lines that it prints.
+awk -v folder="$folder" '
+    /^    \.\/factex catalogue / { n++; sub(/^    \.\/factex /, ""); print > (folder "/" n ".words"); next }
+    n && /^    (catalogue|factors) / { sub(/^    /, ""); print > (folder "/" n ".lines") }
+' "$top/docs/CATALOGUE.md"
+
+for table in $(ls "$folder" | sed -n 's/\.words$//p' | sort -n); do
+    read -ra words < "$folder/$table.words"
+    [[ "${words[*]} " == *"$part"* ]] || continue
+    mkdir "$folder/run"
+    start=$SECONDS
+    (cd "$folder/run" && "$program" "${words[@]}" > "$folder/listing") && status=0 || status=$?
+    if [ "$status" -gt 1 ] || ! diff "$folder/$table.lines" "$folder/listing"; then
+        echo "${words[*]}: status $status, or not the lines of the page"
+        exit 1
+    fi
+    made=$((SECONDS - start))
+    count=0
+    for book in "$folder"/run/*.book; do
+        "$program" check < "$book" > "$folder/ours"
+        python3 "$top/check/check_book.py" < "$book" > "$folder/theirs"
+        cmp "$folder/ours" "$folder/theirs"
+        count=$((count + 1))
+    done
+    echo "${words[*]}: as on the page in $made s; $count books of $(du -bc "$folder"/run/*.book | tail -1 | cut -f1) bytes accepted by both"
+    rm -r "$folder/run"
+done

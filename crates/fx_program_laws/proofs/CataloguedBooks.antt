@@ -1,0 +1,57 @@
+-- The books of a catalogue are read from their texts as they are, and are accepted.
+use Rattle.std.proofs.Common.{ℕ, ◌≡◌, ◌<◌, ◌≤◌, ◌-◌, ◌+◌, Bool, List, length, Option, Some, None, All, refl, sym, subst}
+use Rattle.std.proofs.Common.{arith, inl, inr}
+use Rattle.std.specs.Prelude.{nat_lt}
+use Rattle.std.proofs.lemmas.Bool.{cases_Bool, cond-true, cond-false, ltb-false}
+use Rattle.std.proofs.lemmas.List.Elements.{All-from_recursion}
+use Rattle.fx_designs.specs.Answers.{answer}
+use Rattle.fx_designs.specs.Nodes.{nodes}
+use Rattle.fx_vectors.specs.declared.shape.Shape.{Shape}
+use Rattle.fx_vectors.specs.Shape.{IsShape}
+use Rattle.fx_catalogue.specs.Catalogues.{Entry, entries, shape_at}
+use Rattle.fx_catalogue.specs.Lines.{line_by, line_of, problem_at}
+use Rattle.fx_catalogue.specs.declared.line.Line.{Line}
+use Rattle.fx_catalogue.specs.declared.line.Line.TheVariants.{Budget}
+use Rattle.fx_program.specs.CommandLine.{IsCatalogue}
+use Rattle.fx_program.proofs.CatalogueClaims.{each_line}
+use Rattle.fx_program.proofs.CatalogueLines.{line_shape}
+use Rattle.fx_program_laws.specs.BookClaims.{HasAcceptedBook, IsAcceptedBook}
+use Rattle.fx_program_laws.proofs.GoodBooks.{MayBeAsked, accepted_book}
+
+module _ (shape : Shape) (shaped : IsShape shape) (free : shape.t ≡ 0) where
+  may : MayBeAsked (problem_at shape)
+  may = record {
+    shaped = shaped;
+    asked = (omega arith, omega arith);
+    least = λ h. (refl, free);
+    few = tt;
+  }
+
+  by_answer : (s : ℕ) (found : Option (List ℕ)) → length (nodes (problem_at shape)) ≤ 5000000
+      → HasAcceptedBook s (line_by shape found)
+  by_answer s None few = accepted_book (problem_at shape) (may, few) s refl
+  by_answer s (Some rows) few = accepted_book (problem_at shape) (may, few) s refl
+
+  line_accepted : (s budget : ℕ) → budget ≤ 5000000 → HasAcceptedBook s (line_of shape budget)
+  unfolding line_of
+  line_accepted s budget few =
+      let count : ℕ = length (nodes (problem_at shape)) in
+      let own : Line = line_by shape (answer (problem_at shape)) in
+      elim (cases_Bool (nat_lt budget count)) [
+        | inl more ↦ subst (HasAcceptedBook s) (sym (cond-true (nat_lt budget count) Budget own more)) tt
+        | inr inside ↦
+            subst (HasAcceptedBook s) (sym (cond-false (nat_lt budget count) Budget own inside))
+            (by_answer s (answer (problem_at shape))
+            (let within : count ≤ budget = ltb-false budget count inside in omega (arith, within, few)))
+      ]
+
+pub catalogue_accepted : (q m most budget : ℕ) → IsCatalogue q m most budget
+    → All (λ (e : Entry). HasAcceptedBook e.factors e.line) (entries q m most budget)
+unfolding entries
+catalogue_accepted q m most budget h =
+    All-from_recursion _ (entries q m most budget)
+    (each_line q m budget (λ (e : Entry). HasAcceptedBook e.factors e.line) (most - m) (m + 1)
+    (λ x from upto.
+    let more : m < x = omega (arith, from) in
+    let low : x ≤ most = omega (arith, upto, h.dependent) in
+    line_accepted (shape_at q m x) (line_shape h x more low) refl x budget h.budget.1))
