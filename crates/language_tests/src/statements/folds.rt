@@ -26,7 +26,12 @@ const REFUSED: [(&str, u8, u32, u32); 14] = [
 const OTHERS: [(&str, u8, u32, u32); 3] = [
     ("proc factex;\nfoldover;", 7, 1, 1),
     ("proc factex;factors A B/nlev=3;\nfoldover;", 36, 2, 1),
-    ("proc factex;factors A/nlev=3;\nfoldover B;examine design;", 36, 2, 1),
+    (
+        "proc factex;factors A/nlev=3;\nfoldover B;examine design;",
+        36,
+        2,
+        1,
+    ),
 ];
 
 /// The codes that FOLDOVER gives A, X1, X2 and X3, as digits.
@@ -57,7 +62,12 @@ fn codes(program: &Program) -> u32 {
 
 /// The codes that this statement gives A, X1, X2 and X3.
 fn folded(rt: &impl Abort, alloc: Global, statement: &str) -> u32 {
-    let text = text_of(rt, alloc, "proc factex;factors A X1-X3;size design=8;", statement);
+    let text = text_of(
+        rt,
+        alloc,
+        "proc factex;factors A X1-X3;size design=8;",
+        statement,
+    );
     match read(rt, alloc, text.as_slice()) {
         Ok(program) => codes(&program),
         Err(_stop) => 3,

@@ -41,7 +41,7 @@ const PIECE: usize = 5000;
 
 /// Words and texts, with how many bytes a call takes, and how many calls are made: reads, the last of which
 /// finds the end, writes to the listing, and calls on the shelf, which begin a file, write it and end it.
-const CALLS: [(&str, &str, usize, [usize; 3]); 14] = [
+const CALLS: [(&str, &str, usize, [usize; 3]); 15] = [
     ("run", TWO_PLANS, PIECE, [2, 2, 9]),
     ("run", TWO_PLANS, 1, [TWO_PLANS.len() + 1, 198, 115]),
     ("run", CLASSES, PIECE, [2, 1, 3]),
