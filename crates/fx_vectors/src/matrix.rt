@@ -93,7 +93,8 @@ impl Matrix {
         longer
     }
 
-    fn copy(&self) -> Matrix
+    /// The same matrix once more.
+    pub fn copy(&self) -> Matrix
         ensures { result ≡ self.now }
     {
         let mut copy = Matrix::new(self.shape);
