@@ -112,13 +112,27 @@ blocked_of : refusal (codes "proc factex;examine blocked(4);") ≡ Some (2, 5)
 unfolding refusal
 blocked_of = refl
 
-second_plan : refusal (codes "proc factex;output out=a designrep=b;") ≡ Some (24, 9)
+-- a replication is a number or a name, which may be an option's word
+named_plans :
+    (refusal (codes "proc factex;output out=a designrep=b;") ≡ None)
+    × (refusal (codes "proc factex;output out=a pointrep=designrep designrep=pointrep;") ≡ None)
+    × (refusal (codes "proc factex;output out=a pointrep=;") ≡ Some (2, 9))
+    × (refusal (codes "proc factex;output out=a pointrep=1.5;") ≡ Some (2, 9))
 unfolding refusal
-second_plan = refl
+named_plans = (refl, refl, refl, refl)
 
-derived : refusal (codes "proc factex;output[A]=B;") ≡ Some (24, 4)
+-- derived factors; in brackets, and after `=`, any word is a name
+derived_factors :
+    (refusal (codes "proc factex;output out=a[A B]=D[C E F G]=H nvals=(1 -2);") ≡ None)
+    × (refusal (codes "proc factex;output out=a pointrep=2[pointrep A]=pointrep;") ≡ None)
+    × (refusal (codes "proc factex;output out=a[A B]=D cvals cvals=('l' 'h');") ≡ None)
+    × (refusal (codes "proc factex;output out=a[A B]=D pointrep=1 pointrep=1;") ≡ Some (28, 16))
+    × (refusal (codes "proc factex;output[A]=B;") ≡ Some (2, 4))
+    × (refusal (codes "proc factex;output out=a[]=B;") ≡ Some (2, 8))
+    × (refusal (codes "proc factex;output out=a[A 2]=B;") ≡ Some (2, 9))
+    × (refusal (codes "proc factex;output out=a[A]B;") ≡ Some (2, 10))
 unfolding refusal
-derived = refl
+derived_factors = (refl, refl, refl, refl, refl, refl, refl, refl)
 
 -- NVALS after a block column's name: its values, a factor of that name, or neither
 nvals_of_blocks : refusal (codes "proc factex;output out=a blockname=b nvals=(1 -2);") ≡ None

@@ -7,7 +7,7 @@ use Rattle.fx_language.specs.Symbols.{is, is_once}
 use Rattle.fx_language.specs.Refusals.{is_rule, refused}
 use Rattle.fx_language.specs.Grammar.{program}
 use Rattle.fx_language.proofs.Rules.{refused_by_a_rule}
-use Rattle.fx_language.specs.Repeats.{is_start, has_statement, procs, begins_with, is_behind_equals, is_option_in}
+use Rattle.fx_language.specs.Repeats.{is_start, has_statement, procs, begins_with, awaits_name, is_option_in}
 use Rattle.fx_language.specs.Repeats.{has_option, rule_at, or_later, repeated}
 use Rattle.fx_language.specs.FirstRefusal.{earlier, first_refusal}
 
@@ -21,7 +21,7 @@ rules seen s rest =
     either (is_start seen && is_once s && has_statement Run seen) 27 _ refl
     (either (is_start seen && is_once s && has_statement s seen) 26 _ refl
     (either (is_start seen && is Proc s && begins_with Factex rest && nat_le 100 (procs seen)) 32 _ refl
-    (either (not (is_behind_equals seen) && is_option_in seen s && has_option s seen) 28 None refl tt)))
+    (either (not (awaits_name seen) && is_option_in seen s && has_option s seen) 28 None refl tt)))
 
 first_of : (i : ℕ) (code : Option ℕ) (more : Option (ℕ × ℕ)) → IfSome code (λ c. is_rule c ≡ true)
     → IfSome more (λ r. is_rule r.0 ≡ true) → IfSome (or_later i code more) (λ r. is_rule r.0 ≡ true)

@@ -10,9 +10,9 @@ use Rattle.fx_language.specs.declared.symbol.Symbol.TheVariants as symbol
 use Rattle.fx_language.specs.Symbols.{is, is_left_out, is_word}
 use Rattle.fx_language.specs.Shapes.{Shape, Never, Empty, One, Before, Either, Many, Fault, Matches, guarded, maybe}
 use Rattle.fx_language.specs.Shapes.{◌▸◌, ◌∣◌}
-use Rattle.fx_language.specs.Grammar.{key, name, n, no_open, replication, values, recoded, option, factors, size}
-use Rattle.fx_language.specs.Grammar.{model_word, model_rest, model, blocks, examine_word, examine_rest, examine, foldover}
-use Rattle.fx_language.specs.Grammar.{output_rest, output, proc, proc_rest, statement, step, between, unknown, program}
+use Rattle.fx_language.specs.Grammar.{key, n, no_open, factors, foldover, size}
+use Rattle.fx_language.specs.Grammar.{model_word, model_rest, model, blocks, examine_word, examine_rest, examine}
+use Rattle.fx_language.specs.Grammar.{output, proc, proc_rest, statement, step, between, unknown, program}
 use Rattle.fx_language.specs.Laws.{Names, IsAtStart, IsInStatement, IsLeftOut}
 use Rattle.fx_language.proofs.Named.{from_parts}
 use Rattle.fx_language.proofs.Lacking.{lacks, none}
@@ -117,7 +117,7 @@ in_model t s (inl h) = absurd h
 in_model t s (inr (x, y, (p, passed, ex), inl h, e)) = absurd (no_code 24 model_word y s refl h)
 in_model t s (inr (x, y, (p, passed, ex), inr (u, v, m, h, ev), e)) =
     let last = behind_minabs v s h in
-    inr (inr (inl (
+    inr (inr (
       last.1,
       (
         u,
@@ -126,7 +126,7 @@ in_model t s (inr (x, y, (p, passed, ex), inr (u, v, m, h, ev), e)) =
             (ev ∙ ap (λ (l : List Symbol). u ++ l) last.0)
             (named_inside 24 model_rest y s refl (inr (u, v, m, h, ev)))),
       ),
-    )))
+    ))
 
 -- EXAMINE
 
@@ -158,149 +158,23 @@ in_examine t s (inr (x, y, (p, passed, ex), inl (u, v, m, h, ev), e)) = of_secti
 
     of_section : ((v ≡ symbol.Aliasing ∷ []) ⊎ (v ≡ symbol.Aberration ∷ [])) × (is symbol.Open s ≡ true) → IsLeftOut t s
     of_section (inl last, opens) =
-        inr (inr (inl (
+        inr (inr (
           opens,
           (
             u,
             inr (inl (in_statement_of symbol.Examine p t x y (u ++ symbol.Aliasing ∷ [])
                 (symbol_is symbol.Examine p passed) e ex (ev ∙ ap (λ (l : List Symbol). u ++ l) last) lacking)),
           ),
-        )))
+        ))
     of_section (inr last, opens) =
-        inr (inr (inl (
+        inr (inr (
           opens,
           (
             u,
             inr (inr (in_statement_of symbol.Examine p t x y (u ++ symbol.Aberration ∷ [])
                 (symbol_is symbol.Examine p passed) e ex (ev ∙ ap (λ (l : List Symbol). u ++ l) last) lacking)),
           ),
-        )))
-
--- OUTPUT
-
--- a bracket, or a word after the option's `=`
-module _ (word : Symbol) where
-  replicated : (t : List Symbol) (s : Symbol)
-      → Names 24 (guarded 24 (is symbol.OpenBracket) (key word ▸ key symbol.Equals ▸ replication)) t s
-      → (is symbol.OpenBracket s ≡ true) ⊎ ((is_word s ≡ true) × (t ≡ word ∷ symbol.Equals ∷ []))
-  replicated t s (inl (inl h)) = absurd h
-  replicated t s (inl (inr (e, bracket, same))) = inl bracket
-  replicated t s (inr (x, y, inr m, h, e)) = absurd m
-  replicated t s (inr (x, y, inl (p, tp, ep), inl (inl h), e)) = absurd h
-  replicated t s (inr (x, y, inl (p, tp, ep), inl (inr (e1, bracket, same)), e)) = inl bracket
-  replicated t s (inr (x, y, inl (p, tp, ep), inr (u, v, inr m, h, e1), e)) = absurd m
-  replicated t s (inr (x, y, inl (p, tp, ep), inr (u, v, inl (q, tq, eq), inl (inl h), e1), e)) = absurd h
-  replicated t s (inr (x, y, inl (p, tp, ep), inr (u, v, inl (q, tq, eq), inl (inr (e2, bracket, same)), e1), e)) =
-      inl bracket
-  replicated t s (inr (x, y, inl (p, tp, ep), inr (u, v, inl (q, tq, eq), inr (e2, a_word, same), e1), e)) =
-      inr (
-        a_word,
-        e ∙ ap (λ (l : List Symbol). l ++ y) ep ∙ ap (λ (l : List Symbol). p ∷ l)
-            (e1 ∙ ap (λ (l : List Symbol). l ++ v) eq ∙ ap (λ (l : List Symbol). q ∷ l) e2)
-            ∙ ap₂ (λ (a b : Symbol). a ∷ b ∷ []) (symbol_is word p tp) (symbol_is symbol.Equals q tq),
-      )
-
--- the options without replications
-abbrev other_options : Shape
-other_options =
-    key symbol.Randomize ▸ maybe (key symbol.Open ▸ n ▸ key symbol.Close)
-    ∣ key symbol.Novalran
-    ∣ key symbol.Blockname ▸ key symbol.Equals ▸ name ▸ maybe values
-    ∣ recoded ▸ values
-
--- a bracket, or a word for a replication
-abbrev IsLeftOutOfOutput : List Symbol → Symbol → Type 0
-IsLeftOutOfOutput t s =
-    (is symbol.OpenBracket s ≡ true)
-    ⊎ ((is_word s ≡ true) × (rest : List Symbol)
-    × ((t ≡ rest ++ symbol.Pointrep ∷ symbol.Equals ∷ []) ⊎ (t ≡ rest ++ symbol.Designrep ∷ symbol.Equals ∷ [])))
-
-in_option : (t : List Symbol) (s : Symbol) → Names 24 (guarded 24 (is symbol.OpenBracket) option) t s
-    → IsLeftOutOfOutput t s
-in_option t s (inl h) = elim (replicated symbol.Pointrep t s h) [
-  | inl bracket ↦ inl bracket
-  | inr k ↦ inr (k.0, [], inl k.1)
-]
-in_option t s (inr (inl h)) = elim (replicated symbol.Designrep t s h) [
-  | inl bracket ↦ inl bracket
-  | inr k ↦ inr (k.0, [], inr k.1)
-]
-in_option t s (inr (inr h)) = inl (guarded_named 24 (is symbol.OpenBracket) other_options t s refl h)
-
-behind_more : (front t : List Symbol) (s : Symbol) → IsLeftOutOfOutput t s → IsLeftOutOfOutput (front ++ t) s
-behind_more front t s (inl bracket) = inl bracket
-behind_more front t s (inr (word, rest, inl e)) =
-    inr (
-      word,
-      front
-          ++ rest,
-      inl
-          (ap (λ (l : List Symbol). front ++ l) e ∙ sym
-          (append_assoc front rest (symbol.Pointrep ∷ symbol.Equals ∷ []))),
-    )
-behind_more front t s (inr (word, rest, inr e)) =
-    inr (
-      word,
-      front
-          ++ rest,
-      inr
-          (ap (λ (l : List Symbol). front ++ l) e ∙ sym
-          (append_assoc front rest (symbol.Designrep ∷ symbol.Equals ∷ []))),
-    )
-
-in_options : (t : List Symbol) (s : Symbol)
-    → Names 24
-    (Many (guarded 24 (is symbol.OpenBracket) option) ▸ guarded 24 (is symbol.OpenBracket) (key symbol.Semicolon)) t s
-    → IsLeftOutOfOutput t s
-in_options t s (inl (u, v, m, h, e)) =
-    subst (λ (l : List Symbol). IsLeftOutOfOutput l s) (sym e) (behind_more u v s (in_option v s h))
-in_options t s (inr (u, v, m, inl h, e)) = absurd h
-in_options t s (inr (u, v, m, inr (e1, bracket, same), e)) = inl bracket
-
-in_rest : (t : List Symbol) (s : Symbol) → Names 24 output_rest t s → IsLeftOutOfOutput t s
-in_rest t s h =
-    elim (from_parts 24 (guarded 24 (is symbol.OpenBracket) (key symbol.Out ▸ key symbol.Equals ▸ name))
-    (Many (guarded 24 (is symbol.OpenBracket) option) ▸ guarded 24 (is symbol.OpenBracket) (key symbol.Semicolon)) t
-    s h) [
-      | inl k ↦ inl (guarded_named 24 (is symbol.OpenBracket) (key symbol.Out ▸ key symbol.Equals ▸ name) t s refl k)
-      | inr k ↦ subst (λ (l : List Symbol). IsLeftOutOfOutput l s) (sym k.4)
-          (behind_more k.0 k.1 s (in_options k.1 s k.3))
-    ]
-
-in_output : (t : List Symbol) (s : Symbol) → Names 24 output t s → IsLeftOut t s
-in_output t s (inl h) = absurd h
-in_output t s (inr (x, y, (p, passed, ex), h, e)) = of_rest (in_rest y s h)
-  where
-    lacking : list_any (is symbol.Semicolon) y ≡ false
-    lacking = named_inside 24 output_rest y s refl h
-
-    of_rest : IsLeftOutOfOutput y s → IsLeftOut t s
-    of_rest (inl bracket) =
-        inr (inr (inr
-        (inr (
-          bracket,
-          y,
-          in_statement_of symbol.Output p t x y y (symbol_is symbol.Output p passed) e ex refl
-              lacking,
-        ))))
-    of_rest (inr (a_word, rest, inl last)) =
-        inr (inr (inr (inl (
-          a_word,
-          (
-            rest,
-            inl (in_statement_of symbol.Output p t x y (rest ++ symbol.Pointrep ∷ symbol.Equals ∷ [])
-                (symbol_is symbol.Output p passed) e ex last lacking),
-          ),
-        ))))
-    of_rest (inr (a_word, rest, inr last)) =
-        inr (inr (inr (inl (
-          a_word,
-          (
-            rest,
-            inr (in_statement_of symbol.Output p t x y (rest ++ symbol.Designrep ∷ symbol.Equals ∷ [])
-                (symbol_is symbol.Output p passed) e ex last lacking),
-          ),
-        ))))
+        ))
 
 -- any statement, and the program
 
@@ -312,7 +186,7 @@ in_statement t s (inr (inr (inr (inl h)))) = absurd (no_code 24 size t s refl h)
 in_statement t s (inr (inr (inr (inr (inl h))))) = in_model t s h
 in_statement t s (inr (inr (inr (inr (inr (inl h)))))) = absurd (no_code 24 blocks t s refl h)
 in_statement t s (inr (inr (inr (inr (inr (inr (inl h))))))) = in_examine t s h
-in_statement t s (inr (inr (inr (inr (inr (inr (inr (inl h)))))))) = in_output t s h
+in_statement t s (inr (inr (inr (inr (inr (inr (inr (inl h)))))))) = absurd (no_code 24 output t s refl h)
 in_statement t s (inr (inr (inr (inr (inr (inr (inr (inr h)))))))) = absurd (no_code 24 foldover t s refl h)
 
 further : (before t rest : List Symbol) (word : Symbol) → IsAtStart before → IsInStatement word t rest
@@ -329,28 +203,12 @@ after_whole : (before t : List Symbol) (s : Symbol) → IsAtStart before → IsL
 after_whole before t s start (inl (unit, begun)) = inl (unit, joined before t start begun)
 after_whole before t s start (inr (inl (left, rest, h))) =
     inr (inl (left, rest, further before t rest symbol.Proc start h))
-after_whole before t s start (inr (inr (inl (opens, (rest, inl h))))) =
-    inr (inr (inl
-    (opens, (rest, inl (further before t (rest ++ symbol.Slash ∷ symbol.Minabs ∷ []) symbol.Model start h)))))
-after_whole before t s start (inr (inr (inl (opens, (rest, inr (inl h)))))) =
-    inr (inr (inl (opens, (rest, inr (inl (further before t (rest ++ symbol.Aliasing ∷ []) symbol.Examine start h))))))
-after_whole before t s start (inr (inr (inl (opens, (rest, inr (inr h)))))) =
-    inr (inr (inl
-    (opens, (rest, inr (inr (further before t (rest ++ symbol.Aberration ∷ []) symbol.Examine start h))))))
-after_whole before t s start (inr (inr (inr (inl (a_word, (rest, inl h)))))) =
-    inr (inr (inr
-    (inl (
-      a_word,
-      (rest, inl (further before t (rest ++ symbol.Pointrep ∷ symbol.Equals ∷ []) symbol.Output start h)),
-    ))))
-after_whole before t s start (inr (inr (inr (inl (a_word, (rest, inr h)))))) =
-    inr (inr (inr
-    (inl (
-      a_word,
-      (rest, inr (further before t (rest ++ symbol.Designrep ∷ symbol.Equals ∷ []) symbol.Output start h)),
-    ))))
-after_whole before t s start (inr (inr (inr (inr (bracket, rest, h))))) =
-    inr (inr (inr (inr (bracket, rest, further before t rest symbol.Output start h))))
+after_whole before t s start (inr (inr (opens, (rest, inl h)))) =
+    inr (inr (opens, (rest, inl (further before t (rest ++ symbol.Slash ∷ symbol.Minabs ∷ []) symbol.Model start h))))
+after_whole before t s start (inr (inr (opens, (rest, inr (inl h))))) =
+    inr (inr (opens, (rest, inr (inl (further before t (rest ++ symbol.Aliasing ∷ []) symbol.Examine start h)))))
+after_whole before t s start (inr (inr (opens, (rest, inr (inr h))))) =
+    inr (inr (opens, (rest, inr (inr (further before t (rest ++ symbol.Aberration ∷ []) symbol.Examine start h)))))
 
 in_step : (t : List Symbol) (s : Symbol) → Names 24 whole_step t s → IsLeftOut t s
 in_step t s h = elim (from_parts 24 step (maybe (key symbol.Quit ▸ key symbol.Semicolon ▸ between)) t s h) [

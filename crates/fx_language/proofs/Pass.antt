@@ -11,7 +11,7 @@ use Rattle.fx_language.specs.declared.symbol.Symbol.{Symbol}
 use Rattle.fx_language.specs.declared.symbol.Symbol.TheVariants.{Proc, Factex, Nodes, Quit, Run, Factors, Size, Model}
 use Rattle.fx_language.specs.declared.symbol.Symbol.TheVariants.{Blocks, Foldover}
 use Rattle.fx_language.specs.Symbols.{is, is_once}
-use Rattle.fx_language.specs.Repeats.{is_start, is_behind_equals, first_words, step_words, has_statement, procs}
+use Rattle.fx_language.specs.Repeats.{is_start, awaits_name, first_words, step_words, has_statement, procs}
 use Rattle.fx_language.specs.Repeats.{has_option, is_option_in, begins_with, rule_at, repeated, or_later}
 use Rattle.fx_language.specs.Pasts.{past_of, past_after, begun_after, rule_code, step_has, statement_has}
 
@@ -77,7 +77,7 @@ rule_is seen rest s =
     else (if b then Some 28
     else None))))
     (twice (is_start seen) s seen)
-    (option_twice (not (is_behind_equals seen)) s seen)
+    (option_twice (not (awaits_name seen)) s seen)
 
 refused_here : (seen rest : List Symbol) (s : Symbol) (i code : ℕ) → rule_at seen s rest ≡ Some code
     → repeated seen i (s ∷ rest) ≡ Some (code, i)

@@ -98,7 +98,7 @@ statement_start t m =
       semicolon,
       (
         semicolon,
-        (semicolon, (semicolon, (semicolon, (semicolon, (semicolon, ((semicolon, tt), semicolon)))))),
+        (semicolon, (semicolon, (semicolon, (semicolon, (semicolon, (semicolon, semicolon)))))),
       ),
     ) m)
 

@@ -3,8 +3,8 @@ use Rattle.std.specs.Prelude.{Option, Some, None}
 use Rattle.fx_language.specs.declared.symbol.Symbol.{Symbol}
 use Rattle.fx_language.specs.declared.symbol.Symbol.TheVariants.{Quit, Nodes, Nlev, Minimum, Maximum, Nonnegligible}
 use Rattle.fx_language.specs.declared.symbol.Symbol.TheVariants.{Minabs, Quoted, Decimal, Semicolon, Equals, Open}
-use Rattle.fx_language.specs.declared.symbol.Symbol.TheVariants.{Close, OpenBracket, Slash, Star, Bar, At, Minus, End}
-use Rattle.fx_language.specs.Symbols.{is, is_left_out}
+use Rattle.fx_language.specs.declared.symbol.Symbol.TheVariants.{Close, CloseBracket, Slash, Star, Bar, At, Minus, End}
+use Rattle.fx_language.specs.Symbols.{is_left_out}
 use Rattle.fx_language.specs.Shapes.{Shape, Never, Empty, Many, guarded, maybe, ◌▸◌, ◌∣◌}
 use Rattle.fx_language.specs.Grammar.{key, name, n, n_or, no_open, item, factors_rest, size_rest, blocks_rest, star}
 use Rattle.fx_language.specs.Grammar.{effect, list, model_rest, examine_word, value, values, replication, option}
@@ -137,7 +137,7 @@ foldover_left foldover.Range = name ▸ Many item ▸ ending
 
 -- a, and after it options and the end of an OUTPUT statement
 abbrev pub in_output : Shape → Shape
-in_output a = guarded 24 (is OpenBracket) (a ▸ Many option ▸ key Semicolon) ▸ in_step
+in_output a = a ▸ Many option ▸ ending
 
 -- the values of a list, and its end
 abbrev pub listed_values : ValueKind → Shape
@@ -155,9 +155,12 @@ output_left output.Replication = in_output replication
 output_left output.Randomize = in_output (maybe (key Open ▸ n ▸ key Close))
 output_left output.Seed = in_output (n ▸ key Close)
 output_left output.SeedEnd = in_output (key Close)
-output_left output.BlocknameEquals = in_output (key Equals ▸ name ▸ maybe values)
-output_left output.BlockColumn = in_output (name ▸ maybe values)
-output_left output.BlockValues = in_output (maybe values)
+output_left output.FirstInBrackets =
+    in_output (name ▸ Many name ▸ key CloseBracket ▸ key Equals ▸ name ▸ maybe values)
+output_left output.InBrackets = in_output (Many name ▸ key CloseBracket ▸ key Equals ▸ name ▸ maybe values)
+output_left output.ColumnEquals = in_output (key Equals ▸ name ▸ maybe values)
+output_left output.Column = in_output (name ▸ maybe values)
+output_left output.ColumnValues = in_output (maybe values)
 output_left (output.ValuesOrFactor k) = in_output (key Equals ▸ key Open ▸ listed_values k) ∣ in_output values
 output_left output.Factor = in_output values
 

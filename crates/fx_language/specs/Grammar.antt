@@ -8,6 +8,7 @@ use Rattle.fx_language.specs.declared.symbol.Symbol.TheVariants.{Nblkfacs, Nbloc
 use Rattle.fx_language.specs.declared.symbol.Symbol.TheVariants.{Output, Out, Pointrep, Designrep, Randomize, Novalran}
 use Rattle.fx_language.specs.declared.symbol.Symbol.TheVariants.{Blockname, Nvals, Cvals, Foldover, Uniteffect, Whole, Decimal}
 use Rattle.fx_language.specs.declared.symbol.Symbol.TheVariants.{Quoted, Semicolon, Equals, Open, Close, OpenBracket}
+use Rattle.fx_language.specs.declared.symbol.Symbol.TheVariants.{CloseBracket}
 use Rattle.fx_language.specs.declared.symbol.Symbol.TheVariants.{Slash, Star, Bar, At, Minus, End}
 use Rattle.fx_language.specs.Symbols.{is, is_word, is_output_option, is_left_out, is_plain_section}
 use Rattle.fx_language.specs.Shapes.{Shape, Empty, One, Many, Fault, guarded, maybe, ◌▸◌, ◌∣◌}
@@ -120,9 +121,13 @@ values =
 abbrev pub recoded : Shape
 recoded = One (λ s. is_word s && not (is_output_option s))
 
--- a replication: a word in place of its number has a code of its own
+-- a replication: a number, or the name of a plan
 abbrev pub replication : Shape
-replication = n ∣ Fault 24 is_word
+replication = One (λ s. is Whole s || is_word s)
+
+-- factors in brackets, the name of the factor that is derived of them, and its values
+abbrev pub derived : Shape
+derived = key OpenBracket ▸ name ▸ Many name ▸ key CloseBracket ▸ key Equals ▸ name ▸ maybe values
 
 -- an option of OUTPUT
 abbrev pub option : Shape
@@ -133,10 +138,11 @@ option =
     ∣ key Novalran
     ∣ key Blockname ▸ key Equals ▸ name ▸ maybe values
     ∣ recoded ▸ values
+    ∣ derived
 
--- after the word OUTPUT, where `[` has a code of its own
+-- after the word OUTPUT
 abbrev pub output_rest : Shape
-output_rest = guarded 24 (is OpenBracket) (key Out ▸ key Equals ▸ name ▸ Many option ▸ key Semicolon)
+output_rest = key Out ▸ key Equals ▸ name ▸ Many option ▸ key Semicolon
 
 -- the OUTPUT statement
 abbrev pub output : Shape

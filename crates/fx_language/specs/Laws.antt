@@ -1,8 +1,8 @@
 -- What the first refusal of a text is, without a word on how it is found.
 use Rattle.std.specs.Prelude.{◌≡◌, ◌↔◌, ◌⊎◌, ℕ, suc, true, false, List, [], ◌∷◌, ◌++◌, take, Some, None}
 use Rattle.fx_language.specs.declared.symbol.Symbol.{Symbol}
-use Rattle.fx_language.specs.declared.symbol.Symbol.TheVariants.{Aberration, Aliasing, Designrep, End, Equals, Examine}
-use Rattle.fx_language.specs.declared.symbol.Symbol.TheVariants.{Minabs, Model, Open, OpenBracket, Output, Pointrep}
+use Rattle.fx_language.specs.declared.symbol.Symbol.TheVariants.{Aberration, Aliasing, End, Examine}
+use Rattle.fx_language.specs.declared.symbol.Symbol.TheVariants.{Minabs, Model, Open}
 use Rattle.fx_language.specs.declared.symbol.Symbol.TheVariants.{Proc, Semicolon, Slash, Uniteffect}
 use Rattle.fx_language.specs.Shapes.{Shape, Never, Empty, One, Before, Either, Many, Fault, Matches, Begins}
 use Rattle.fx_language.specs.Grammar.{program}
@@ -80,19 +80,9 @@ IsBehindSection text =
     × (IsInStatement Model text (rest ++ Slash ∷ Minabs ∷ [])
     ⊎ (IsInStatement Examine text (rest ++ Aliasing ∷ []) ⊎ IsInStatement Examine text (rest ++ Aberration ∷ [])))
 
--- behind `POINTREP =` or `DESIGNREP =` in OUTPUT
-abbrev pub AwaitsReplication : List Symbol → Type 0
-AwaitsReplication text =
-    (rest : List Symbol)
-    × (IsInStatement Output text (rest ++ Pointrep ∷ Equals ∷ [])
-    ⊎ IsInStatement Output text (rest ++ Designrep ∷ Equals ∷ []))
-
--- what is left out of the language: UNITEFFECT, some words of PROC, `(` behind a section or MINABS, a word for a
--- replication, and `[` in OUTPUT
+-- what is left out of the language: UNITEFFECT, some words of PROC, and `(` behind a section or MINABS
 abbrev pub IsLeftOut : List Symbol → Symbol → Type 0
 IsLeftOut text s =
     ((is Uniteffect s ≡ true) × IsAtStart text)
     ⊎ (((is_left_out s ≡ true) × (rest : List Symbol) × IsInStatement Proc text rest)
-    ⊎ (((is Open s ≡ true) × IsBehindSection text)
-    ⊎ (((is_word s ≡ true) × AwaitsReplication text)
-    ⊎ ((is OpenBracket s ≡ true) × (rest : List Symbol) × IsInStatement Output text rest))))
+    ⊎ ((is Open s ≡ true) × IsBehindSection text))

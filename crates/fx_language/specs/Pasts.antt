@@ -6,12 +6,14 @@ use Rattle.fx_language.specs.declared.repeated.TheConstants.{MOST_STEPS}
 use Rattle.fx_language.specs.declared.symbol.Symbol.{Symbol}
 use Rattle.fx_language.specs.declared.symbol.Symbol.TheVariants.{Proc, Nodes, Run, Quit, Factors, Size, Model, Blocks}
 use Rattle.fx_language.specs.declared.symbol.Symbol.TheVariants.{Output, Pointrep, Designrep, Randomize, Novalran}
-use Rattle.fx_language.specs.declared.symbol.Symbol.TheVariants.{Blockname, Foldover, Semicolon, Equals}
+use Rattle.fx_language.specs.declared.symbol.Symbol.TheVariants.{Blockname, Foldover, Semicolon, Equals, OpenBracket}
+use Rattle.fx_language.specs.declared.symbol.Symbol.TheVariants.{CloseBracket}
 use Rattle.fx_language.specs.declared.repeated.Past.{Past}
 use Rattle.fx_language.specs.declared.repeated.StepPast.{StepPast}
 use Rattle.fx_language.specs.declared.repeated.StatementPast.{StatementPast}
 use Rattle.fx_language.specs.Symbols.{is, is_once}
-use Rattle.fx_language.specs.Repeats.{is_start, is_behind_equals, procs, has_statement, is_in, has_option}
+use Rattle.fx_language.specs.Repeats.{is_start, is_behind_equals, is_in_brackets, procs, has_statement, is_in}
+use Rattle.fx_language.specs.Repeats.{has_option}
 
 -- what is kept of a step where these symbols were seen, the last one first
 abbrev pub step_past_of : List Symbol → StepPast
@@ -42,6 +44,7 @@ abbrev pub past_of : List Symbol → Past
 past_of seen = record {
   start = is_start seen;
   behind_equals = is_behind_equals seen;
+  in_brackets = is_in_brackets seen;
   procs = procs seen;
   step = step_past_of seen;
   statement = statement_past_of seen;
@@ -72,7 +75,7 @@ rule_code p s factex_follows =
     if p.start && is_once s && p.step.run then Some STATEMENT_AFTER_RUN
     else (if p.start && step_has p.step s then Some REPEATED_STATEMENT
     else (if p.start && is Proc s && factex_follows && nat_le MOST_STEPS p.procs then Some TOO_MANY_STEPS
-    else (if not p.behind_equals && statement_has p.statement s then Some REPEATED_OPTION
+    else (if not (p.behind_equals || p.in_brackets) && statement_has p.statement s then Some REPEATED_OPTION
     else None)))
 
 -- whether the step has a statement that begins with this word, after one more symbol
@@ -94,21 +97,25 @@ step_after start s p = record {
 abbrev pub in_after : Bool → Symbol → Symbol → Bool → Bool
 in_after start s word had = not (is Semicolon s) && (if start then is word s else had)
 
--- whether the statement has the option, after one more symbol
+-- whether brackets are inside, after one more symbol
+abbrev pub brackets_after : Symbol → Bool → Bool
+brackets_after s inside = is OpenBracket s || (not (is CloseBracket s || is Semicolon s) && inside)
+
+-- whether the statement has the option, after one more symbol, which is a name where `named` is set
 abbrev pub option_after : Bool → Symbol → Symbol → Bool → Bool
-option_after behind_equals s option had = not (is Semicolon s) && ((is option s && not behind_equals) || had)
+option_after named s option had = not (is Semicolon s) && ((is option s && not named) || had)
 
 -- what is kept of the statement, after one more symbol
 abbrev pub statement_after : Bool → Bool → Symbol → StatementPast → StatementPast
-statement_after start behind_equals s p = record {
+statement_after start named s p = record {
   proc = in_after start s Proc p.proc;
   output = in_after start s Output p.output;
-  nodes = option_after behind_equals s Nodes p.nodes;
-  pointrep = option_after behind_equals s Pointrep p.pointrep;
-  designrep = option_after behind_equals s Designrep p.designrep;
-  randomize = option_after behind_equals s Randomize p.randomize;
-  novalran = option_after behind_equals s Novalran p.novalran;
-  blockname = option_after behind_equals s Blockname p.blockname;
+  nodes = option_after named s Nodes p.nodes;
+  pointrep = option_after named s Pointrep p.pointrep;
+  designrep = option_after named s Designrep p.designrep;
+  randomize = option_after named s Randomize p.randomize;
+  novalran = option_after named s Novalran p.novalran;
+  blockname = option_after named s Blockname p.blockname;
 }
 
 -- what is kept after one more symbol
@@ -116,7 +123,8 @@ abbrev pub past_after : Past → Symbol → Past
 past_after p s = record {
   start = is Semicolon s;
   behind_equals = is Equals s;
+  in_brackets = brackets_after s p.in_brackets;
   procs = if p.start && is Proc s then p.procs + 1 else p.procs;
   step = step_after p.start s p.step;
-  statement = statement_after p.start p.behind_equals s p.statement;
+  statement = statement_after p.start (p.behind_equals || p.in_brackets) s p.statement;
 }

@@ -1,5 +1,5 @@
 -- The first symbol of a text that the grammar refuses, and its code.
-use Rattle.std.specs.Prelude.{ℕ, suc, nat_le, Bool, not, ◌==◌, ◌&&◌, ◌||◌, unwrap_or, List, [], ◌∷◌, Option, Some, None}
+use Rattle.std.specs.Prelude.{ℕ, suc, nat_le, Bool, not, ◌&&◌, unwrap_or, List, [], ◌∷◌, Option, Some, None}
 use Rattle.std.specs.Prelude.{if◌then◌else◌}
 use Rattle.std.specs.List.{list_any}
 use Rattle.fx_language.specs.declared.symbol.Symbol.{Symbol}
@@ -11,7 +11,7 @@ use Rattle.fx_language.specs.Shapes.{Shape, derivative, is_never, fault_code}
 
 -- the number of a rule by which a text is refused
 abbrev pub is_rule : ℕ → Bool
-is_rule code = (nat_le 1 code && nat_le code 32) || (code == 36)
+is_rule code = nat_le 1 code && nat_le code 36
 
 -- the grammar allows the symbol where it has reached this
 abbrev pub allows : Shape → Symbol → Bool

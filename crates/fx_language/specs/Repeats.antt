@@ -7,7 +7,7 @@ use Rattle.fx_language.specs.declared.code.TheConstants.{TOO_MANY_STEPS}
 use Rattle.fx_language.specs.declared.repeated.TheConstants.{MOST_STEPS}
 use Rattle.fx_language.specs.declared.symbol.Symbol.{Symbol}
 use Rattle.fx_language.specs.declared.symbol.Symbol.TheVariants.{Proc, Factex, Nodes, Run, Quit, Output, Semicolon}
-use Rattle.fx_language.specs.declared.symbol.Symbol.TheVariants.{Equals}
+use Rattle.fx_language.specs.declared.symbol.Symbol.TheVariants.{Equals, OpenBracket, CloseBracket}
 use Rattle.fx_language.specs.Symbols.{is, is_once, is_output_option}
 
 -- What was seen is listed with its last symbol first. A statement starts at the front of the text and after each `;`.
@@ -43,11 +43,21 @@ abbrev pub is_behind_equals : List Symbol → Bool
 is_behind_equals [] = false
 is_behind_equals (s ∷ seen) = is Equals s
 
--- the statement that was begun has this option; after `=` its word is a name
+-- brackets are open
+abbrev pub is_in_brackets : List Symbol → Bool
+is_in_brackets [] = false
+is_in_brackets (s ∷ seen) =
+    is OpenBracket s || (not (is CloseBracket s || is Semicolon s) && is_in_brackets seen)
+
+-- any word is a name here: after `=`, and in brackets
+abbrev pub awaits_name : List Symbol → Bool
+awaits_name seen = is_behind_equals seen || is_in_brackets seen
+
+-- the statement that was begun has this option
 abbrev pub has_option : Symbol → List Symbol → Bool
 has_option option [] = false
 has_option option (s ∷ seen) =
-    not (is Semicolon s) && ((is option s && not (is_behind_equals seen)) || has_option option seen)
+    not (is Semicolon s) && ((is option s && not (awaits_name seen)) || has_option option seen)
 
 -- the symbol is NODES in a PROC statement, or an option in an OUTPUT statement
 abbrev pub is_option_in : List Symbol → Symbol → Bool
@@ -67,7 +77,7 @@ rule_at seen s rest =
     else (if is_start seen && is_once s && has_statement s seen then Some REPEATED_STATEMENT
     else (if is_start seen && is Proc s && begins_with Factex rest && nat_le MOST_STEPS (procs seen)
     then Some TOO_MANY_STEPS
-    else (if not (is_behind_equals seen) && is_option_in seen s && has_option s seen then Some REPEATED_OPTION
+    else (if not (awaits_name seen) && is_option_in seen s && has_option s seen then Some REPEATED_OPTION
     else None)))
 
 -- the code of a symbol at i, or the refusal of a later one

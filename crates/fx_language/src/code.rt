@@ -81,7 +81,7 @@ pub const REPEATED_STATEMENT: u8 = 26;
 /// A statement after a RUN of its step.
 pub const STATEMENT_AFTER_RUN: u8 = 27;
 
-/// An option that its statement has already, or a factor that it recodes already.
+/// An option that its statement has already, or a factor that it recodes or has in brackets already.
 pub const REPEATED_OPTION: u8 = 28;
 
 /// A number outside of its range.
@@ -95,6 +95,15 @@ pub const BLOCKNAME_WITHOUT_BLOCKS: u8 = 31;
 
 /// The step after the 100th.
 pub const TOO_MANY_STEPS: u8 = 32;
+
+/// A plan that no OUTPUT statement before names.
+pub const UNKNOWN_PLAN: u8 = 33;
+
+/// A column of a file whose name another one has.
+pub const REPEATED_COLUMN: u8 = 34;
+
+/// A derived factor of fewer than two or more than four factors, or of more than 64 levels.
+pub const INVALID_DERIVED_FACTOR: u8 = 35;
 
 /// FOLDOVER in a step with blocks, or with other than two levels.
 pub const FOLDOVER_NEEDS_TWO_LEVELS: u8 = 36;

@@ -1,9 +1,9 @@
-ghost use Rattle.std.specs.Prelude.{◌≡◌};
-ghost use Rattle.fx_language.specs.Shapes.{derivative, fault_code};
+ghost use Rattle.std.specs.Prelude.{◌≡◌, ◌||◌, Some, None, if◌then◌else◌};
+ghost use Rattle.fx_language.specs.Symbols.{is, is_word};
+ghost use Rattle.fx_language.specs.Shapes.{derivative};
 ghost use Rattle.fx_language.specs.Continuations.{output_left, shape_left};
 
-use crate::code;
-use crate::state::{State, any_word, if_word, only};
+use crate::state::{State, any_word, only};
 use crate::symbol::Symbol;
 use crate::values::{ValueKind, ValuesPlace};
 
@@ -20,7 +20,7 @@ pub enum OutputPlace {
     Options,
     /// After POINTREP or DESIGNREP: `=`.
     ReplicationEquals,
-    /// After that: a number.
+    /// After that: a number, or the name of a plan.
     Replication,
     /// After RANDOMIZE: `(`, an option or `;`.
     Randomize,
@@ -28,14 +28,17 @@ pub enum OutputPlace {
     Seed,
     /// After that: `)`.
     SeedEnd,
-    /// After BLOCKNAME: `=`.
-    BlocknameEquals,
-    /// After that: the name of the block column.
-    BlockColumn,
+    /// After `[`: the name of a factor.
+    FirstInBrackets,
+    /// After that: another one, or `]`.
+    InBrackets,
+    /// After BLOCKNAME or `]`: `=`.
+    ColumnEquals,
+    /// After that: the name of the block column or of a derived factor.
+    Column,
     /// After that: its values, an option or `;`.
-    BlockValues,
-    /// After NVALS or CVALS there: the rest of the column's values, or the values of a factor of
-    /// that name.
+    ColumnValues,
+    /// After NVALS or CVALS there: the rest of these values, or the values of a factor of that name.
     ValuesOrFactor(ValueKind),
     /// After the name of a factor: its values.
     Factor,
@@ -54,30 +57,17 @@ impl OutputPlace {
             Self::ReplicationEquals => {
                 only(Symbol::Equals, symbol, State::Output(Self::Replication))
             }
-            Self::Replication => only(Symbol::Whole, symbol, State::Output(Self::Options)),
+            Self::Replication => number_or_word(symbol, State::Output(Self::Options)),
             Self::Randomize => seed_or_option(symbol),
             Self::Seed => only(Symbol::Whole, symbol, State::Output(Self::SeedEnd)),
             Self::SeedEnd => only(Symbol::Close, symbol, State::Output(Self::Options)),
-            Self::BlocknameEquals => {
-                only(Symbol::Equals, symbol, State::Output(Self::BlockColumn))
-            }
-            Self::BlockColumn => any_word(symbol, State::Output(Self::BlockValues)),
-            Self::BlockValues => values_or_option(symbol),
+            Self::FirstInBrackets => any_word(symbol, State::Output(Self::InBrackets)),
+            Self::InBrackets => name_or_end(symbol),
+            Self::ColumnEquals => only(Symbol::Equals, symbol, State::Output(Self::Column)),
+            Self::Column => any_word(symbol, State::Output(Self::ColumnValues)),
+            Self::ColumnValues => values_or_option(symbol),
             Self::ValuesOrFactor(kind) => rest_or_values(kind, symbol),
             Self::Factor => values(symbol),
-        }
-    }
-
-    /// The code that the grammar names for the symbol here.
-    pub(crate) fn named_code(self, symbol: Symbol) -> Option<u8>
-        ensures { result ≡ fault_code symbol (output_left self) }
-    {
-        match symbol {
-            Symbol::OpenBracket => Some(code::NOT_IN_PROFILE),
-            _ => match self {
-                Self::Replication => if_word(symbol, code::NOT_IN_PROFILE),
-                _ => None,
-            },
         }
     }
 }
@@ -92,9 +82,31 @@ fn option(symbol: Symbol) -> Option<State>
         }
         Symbol::Randomize => Some(State::Output(OutputPlace::Randomize)),
         Symbol::Novalran => Some(State::Output(OutputPlace::Options)),
-        Symbol::Blockname => Some(State::Output(OutputPlace::BlocknameEquals)),
+        Symbol::Blockname => Some(State::Output(OutputPlace::ColumnEquals)),
+        Symbol::OpenBracket => Some(State::Output(OutputPlace::FirstInBrackets)),
         Symbol::Semicolon => Some(State::Step),
         _ => any_word(symbol, State::Output(OutputPlace::Factor)),
+    }
+}
+
+/// The place after a number or any word.
+fn number_or_word(symbol: Symbol, behind: State) -> Option<State>
+    ensures { result ≡ if is Symbol.Whole symbol || is_word symbol then Some behind else None }
+{
+    if Symbol::Whole.is(symbol) || symbol.is_word() {
+        Some(behind)
+    } else {
+        None
+    }
+}
+
+/// The place after another name in brackets, or after `]`.
+fn name_or_end(symbol: Symbol) -> Option<State>
+    ensures { derivative symbol (output_left OutputPlace.InBrackets) ≡ shape_left result }
+{
+    match symbol {
+        Symbol::CloseBracket => Some(State::Output(OutputPlace::ColumnEquals)),
+        _ => any_word(symbol, State::Output(OutputPlace::InBrackets)),
     }
 }
 
@@ -108,7 +120,7 @@ fn seed_or_option(symbol: Symbol) -> Option<State>
     }
 }
 
-/// The place after `=`, where NVALS or CVALS begins the block column's values, or after the word that
+/// The place after `=`, where NVALS or CVALS begins the values of the column, or after the word that
 /// begins the values of a factor of that name.
 fn rest_or_values(kind: ValueKind, symbol: Symbol) -> Option<State>
     ensures { derivative symbol (output_left (OutputPlace.ValuesOrFactor kind)) ≡ shape_left result }
@@ -130,9 +142,9 @@ fn values(symbol: Symbol) -> Option<State>
     }
 }
 
-/// The place after the first word of the block column's values, of an option, or after `;`.
+/// The place after the first word of the column's values, of an option, or after `;`.
 fn values_or_option(symbol: Symbol) -> Option<State>
-    ensures { derivative symbol (output_left OutputPlace.BlockValues) ≡ shape_left result }
+    ensures { derivative symbol (output_left OutputPlace.ColumnValues) ≡ shape_left result }
 {
     match symbol {
         Symbol::Nvals => Some(State::Output(OutputPlace::ValuesOrFactor(ValueKind::Numbers))),

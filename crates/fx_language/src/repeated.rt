@@ -1,6 +1,6 @@
-ghost use Rattle.std.specs.Prelude.{◌≡◌, ◌≤◌, ◌<◌, ◌+◌, ◌^◌, []};
+ghost use Rattle.std.specs.Prelude.{◌≡◌, ◌≤◌, ◌<◌, ◌+◌, ◌^◌, ◌||◌, []};
 ghost use Rattle.fx_language.specs.Repeats.{begins_with, repeated};
-ghost use Rattle.fx_language.specs.Pasts.{begun_after, in_after, option_after, past_after, past_of, rule_code, statement_after, statement_has, step_after, step_has};
+ghost use Rattle.fx_language.specs.Pasts.{begun_after, brackets_after, in_after, option_after, past_after, past_of, rule_code, statement_after, statement_has, step_after, step_has};
 
 use crate::code;
 use crate::symbol::Symbol;
@@ -39,6 +39,7 @@ pub struct Past {
     /// A statement starts here.
     pub start: bool,
     pub behind_equals: bool,
+    pub in_brackets: bool,
     /// How many statements begin with PROC.
     pub procs: usize,
     pub step: StepPast,
@@ -76,6 +77,7 @@ impl Past {
         Past {
             start: true,
             behind_equals: false,
+            in_brackets: false,
             procs: 0,
             step: StepPast {
                 run: false,
@@ -111,7 +113,7 @@ impl Past {
         if self.start && Symbol::Proc.is(s) && factex_follows && MOST_STEPS <= self.procs {
             return Some(code::TOO_MANY_STEPS);
         }
-        if !self.behind_equals && self.statement.has(s) {
+        if !self.awaits_name() && self.statement.has(s) {
             return Some(code::REPEATED_OPTION);
         }
         None
@@ -126,10 +128,18 @@ impl Past {
         Past {
             start: Symbol::Semicolon.is(s),
             behind_equals: Symbol::Equals.is(s),
+            in_brackets: brackets_after(s, self.in_brackets),
             procs: self.procs_after(s),
             step: self.step.after(self.start, s),
-            statement: self.statement.after(self.start, self.behind_equals, s),
+            statement: self.statement.after(self.start, self.awaits_name(), s),
         }
+    }
+
+    /// Whether any word is a name here.
+    fn awaits_name(self) -> bool
+        ensures { result ≡ (self.behind_equals || self.in_brackets) }
+    {
+        self.behind_equals || self.in_brackets
     }
 
     fn procs_after(self, s: Symbol) -> usize
@@ -201,18 +211,18 @@ impl StatementPast {
         }
     }
 
-    fn after(self, start: bool, behind_equals: bool, s: Symbol) -> StatementPast
-        ensures { result ≡ statement_after start behind_equals s self }
+    fn after(self, start: bool, named: bool, s: Symbol) -> StatementPast
+        ensures { result ≡ statement_after start named s self }
     {
         StatementPast {
             proc: in_after(start, s, Symbol::Proc, self.proc),
             output: in_after(start, s, Symbol::Output, self.output),
-            nodes: option_after(behind_equals, s, Symbol::Nodes, self.nodes),
-            pointrep: option_after(behind_equals, s, Symbol::Pointrep, self.pointrep),
-            designrep: option_after(behind_equals, s, Symbol::Designrep, self.designrep),
-            randomize: option_after(behind_equals, s, Symbol::Randomize, self.randomize),
-            novalran: option_after(behind_equals, s, Symbol::Novalran, self.novalran),
-            blockname: option_after(behind_equals, s, Symbol::Blockname, self.blockname),
+            nodes: option_after(named, s, Symbol::Nodes, self.nodes),
+            pointrep: option_after(named, s, Symbol::Pointrep, self.pointrep),
+            designrep: option_after(named, s, Symbol::Designrep, self.designrep),
+            randomize: option_after(named, s, Symbol::Randomize, self.randomize),
+            novalran: option_after(named, s, Symbol::Novalran, self.novalran),
+            blockname: option_after(named, s, Symbol::Blockname, self.blockname),
         }
     }
 }
@@ -224,9 +234,17 @@ fn in_after(start: bool, s: Symbol, word: Symbol, had: bool) -> bool
     !Symbol::Semicolon.is(s) && (if start { word.is(s) } else { had })
 }
 
-/// Whether the statement has the option, after the symbol `s`.
-fn option_after(behind_equals: bool, s: Symbol, option: Symbol, had: bool) -> bool
-    ensures { result ≡ option_after behind_equals s option had }
+/// Whether brackets are open after the symbol `s`.
+fn brackets_after(s: Symbol, inside: bool) -> bool
+    ensures { result ≡ brackets_after s inside }
 {
-    !Symbol::Semicolon.is(s) && ((option.is(s) && !behind_equals) || had)
+    let closes = Symbol::CloseBracket.is(s) || Symbol::Semicolon.is(s);
+    Symbol::OpenBracket.is(s) || (!closes && inside)
+}
+
+/// Whether the statement has the option, after the symbol `s`, which is a name where `named` is set.
+fn option_after(named: bool, s: Symbol, option: Symbol, had: bool) -> bool
+    ensures { result ≡ option_after named s option had }
+{
+    !Symbol::Semicolon.is(s) && ((option.is(s) && !named) || had)
 }

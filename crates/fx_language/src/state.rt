@@ -94,11 +94,9 @@ impl State {
             State::Proc(place) => place.named_code(symbol),
             State::Model(place) => place.named_code(symbol),
             State::Examine(place) => place.named_code(symbol),
-            State::Output(place) => place.named_code(symbol),
-            State::Values(place) => place.named_code(symbol),
             State::Closing | State::Ended | State::StatementEnd => None,
-            State::Factors(_) | State::Setting(_) | State::Effects(_, _) | State::Foldover(_) =>
-                None,
+            State::Factors(_) | State::Setting(_) | State::Effects(_, _) => None,
+            State::Foldover(_) | State::Output(_) | State::Values(_) => None,
         }
     }
 

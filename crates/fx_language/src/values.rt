@@ -1,8 +1,7 @@
 ghost use Rattle.std.specs.Prelude.{◌≡◌};
-ghost use Rattle.fx_language.specs.Shapes.{derivative, fault_code};
+ghost use Rattle.fx_language.specs.Shapes.{derivative};
 ghost use Rattle.fx_language.specs.Continuations.{shape_left, values_left};
 
-use crate::code;
 use crate::output::OutputPlace;
 use crate::state::{State, only};
 use crate::symbol::Symbol;
@@ -14,7 +13,7 @@ pub enum ValueKind {
     Texts,
 }
 
-/// A place in the values of a factor or of the block column, after NVALS or CVALS.
+/// A place in the values of a factor or of another column, after NVALS or CVALS.
 #[derive(Clone, Copy)]
 pub enum ValuesPlace {
     /// After that word: `=`.
@@ -51,16 +50,6 @@ impl ValuesPlace {
             Self::MoreNumbers => number_or_end(symbol),
             Self::Text => only(Symbol::Quoted, symbol, State::Values(Self::MoreTexts)),
             Self::MoreTexts => text_or_end(symbol),
-        }
-    }
-
-    /// The code that the grammar names for the symbol here.
-    pub(crate) fn named_code(self, symbol: Symbol) -> Option<u8>
-        ensures { result ≡ fault_code symbol (values_left self) }
-    {
-        match symbol {
-            Symbol::OpenBracket => Some(code::NOT_IN_PROFILE),
-            _ => None,
         }
     }
 }

@@ -1,26 +1,23 @@
 -- An accepted output keeps the limits of its step.
-use Rattle.std.proofs.Common.{◌≡◌, ◌≢◌, ℕ, ◌+◌, ◌≤◌, Bool, true, false, ◌&&◌, List, [], ◌∷◌, ◌++◌, length, get_or}
+use Rattle.std.proofs.Common.{◌≡◌, ◌≢◌, ℕ, ◌≤◌, Bool, true, false, ◌&&◌, List, [], length}
 use Rattle.std.proofs.Common.{Option, Some, None, Result, Ok, Err, refl, sym, ap, subst, ◌∙◌, arith}
 use Rattle.std.specs.Prelude.{◌==◌, nat_le, if◌then◌else◌}
-use Rattle.std.specs.List.{list_any}
-use Rattle.std.proofs.lemmas.Bool.{leb-true, eqb-true, eq-eqb, and_parts}
-use Rattle.std.proofs.lemmas.List.Elements.{All-nil, All-push}
-use Rattle.std.proofs.lemmas.List.Quantifiers.{all_pairs_push, position-Some}
-use Rattle.std.proofs.lemmas.List.Folds.{list_any_at}
+use Rattle.std.proofs.lemmas.Bool.{leb-true, eqb-true, and_parts}
 use Rattle.fx_text.specs.declared.refusal.Refusal.{Refusal}
 use Rattle.fx_text.specs.Written.{Written}
-use Rattle.fx_text.specs.Names.{place_of, is_same_name}
+use Rattle.fx_text.specs.Names.{place_of}
 use Rattle.fx_text.specs.Numbers.{number_of}
 use Rattle.fx_text.specs.Refusals.{refusal_at, ◌>>=◌}
-use Rattle.fx_outputs.specs.declared.recode.Recode.{Recode}
-use Rattle.fx_outputs.specs.Contexts.{Context}
 use Rattle.fx_outputs.specs.declared.context.BlockCount.{BlockCount}
 use Rattle.fx_outputs.specs.declared.context.BlockCount.TheVariants as blocks
-use Rattle.fx_outputs.specs.Replications.{replication_in_range, replication_at}
-use Rattle.fx_outputs.specs.Values.{values_of, checked_values}
-use Rattle.fx_outputs.specs.BlockColumns.{begins_values, values_wanted, block_values}
-use Rattle.fx_outputs.specs.Recodes.{is_recoded, factor_at, has_values, unused_place, recode_of, recodes_behind}
-use Rattle.fx_outputs.specs.Validity.{IsRecode, AreRecodes}
+use Rattle.fx_language.specs.declared.symbol.Symbol.TheVariants.{Whole}
+use Rattle.fx_language.specs.Symbols.{is}
+use Rattle.fx_outputs.specs.declared.earlier.EarlierPlan.{EarlierPlan}
+use Rattle.fx_outputs.specs.declared.replication.Rep.TheVariants.{Times}
+use Rattle.fx_outputs.specs.Earlier.{plan_names}
+use Rattle.fx_outputs.specs.Replications.{plan_at, rep_at, replication_in_range}
+use Rattle.fx_outputs.specs.Values.{begins_values, checked_values, values_if_begun, values_of}
+use Rattle.fx_outputs.specs.BlockColumns.{values_wanted, block_values}
 
 -- What a chain of checks gives is what its last part makes of what its first part gives.
 pub through : {A B : Type 0} (r : Result A Refusal) (f : A → Result B Refusal) (y : B) (P : Type 0) → (r >>= f) ≡ Ok y
@@ -45,9 +42,24 @@ in_range w (Some n) p e =
     let both = and_parts (nat_le 1 n) (nat_le n 200000) kept.0 in
     subst (λ x. 1 ≤ x) kept.1 (leb-true 1 n both.0)
 
-pub repeated : (w : Option Written) (p : ℕ) → replication_at w ≡ Ok p → 1 ≤ p
-repeated None p e = let same : 1 ≡ p = cc e in omega arith
-repeated (Some w) p e = in_range w (number_of w) p e
+times : (given : Result ℕ Refusal) (n : ℕ) → (given >>= λ k. Ok (Times k)) ≡ Ok (Times n) → given ≡ Ok n
+times (Ok k) n e = cc e
+times (Err refusal) n e = absurd (cc e)
+
+no_times : (w : Written) (place : Option ℕ) (n : ℕ) → plan_at w place ≡ Ok (Times n) → ⊥
+no_times w None n e = cc e
+no_times w (Some number) n e = cc e
+
+pub repeated : (earlier : List EarlierPlan) (w : Option Written) (n : ℕ) → rep_at earlier w ≡ Ok (Times n) → 1 ≤ n
+repeated earlier None n e = let same : 1 ≡ n = cc e in omega arith
+repeated earlier (Some w) n e = by_symbol (is Whole w.symbol) e
+  where
+    by_symbol : (b : Bool)
+        → (if b then (replication_in_range w (number_of w) >>= λ k. Ok (Times k))
+        else plan_at w (place_of w.text (plan_names earlier)))
+        ≡ Ok (Times n) → 1 ≤ n
+    by_symbol true e = in_range w (number_of w) n (times (replication_in_range w (number_of w)) n e)
+    by_symbol false e = absurd (no_times w (place_of w.text (plan_names earlier)) n e)
 
 pub as_many : (n : ℕ) (word : Written) (all values : List (List ℕ)) → checked_values (Some n) word all ≡ Ok values
     → length values ≡ n
@@ -77,77 +89,13 @@ values_of_blocks count None rest values e = let none : [] ≡ values = cc e in �
 values_of_blocks count (Some word) rest values e =
     either_values (begins_values word rest) count word (values_of rest) values e
 
-is_factor : (name : Written) (place : Option ℕ) (p : ℕ) → factor_at name place ≡ Ok p
-    → (i : ℕ) × (place ≡ Some i) × (i + 1 ≡ p)
-is_factor name None p e = absurd (cc e)
-is_factor name (Some i) p e = (i, refl, cc e)
-
-module _ (context : Context) where
-  -- a recoded factor that is accepted, and that had no values before
-  abbrev pub IsNext : List Recode → Recode → Type 0
-  IsNext earlier recode = IsRecode context recode × (has_values earlier recode.place ≡ false)
-
-  next : (earlier : List Recode) (name word : Written) (rest : List Written) (recode : Recode)
-      → recode_of context earlier name word rest ≡ Ok recode → IsNext earlier recode
-  next earlier name word rest recode e =
-      let place = place_of name.text context.factors in
-      through (factor_at name place) _ recode (IsNext earlier recode) e (λ factor told e.
-      through (unused_place earlier name factor) _ recode (IsNext earlier recode) e (λ new fresh e.
-      through (checked_values (Some context.q) word (values_of rest)) _ recode (IsNext earlier recode) e
-      (λ values enough e.
-      let at = is_factor name place factor told in
-      let inside = (position-Some (is_same_name name.text) context.factors at.0 [] at.1).0 in
-      let first = kept_unless (has_values earlier factor) factor new (refusal_at 28 name) fresh in
-      let made : Recode = record { place = new; values = values } in
-      let same : made ≡ recode = cc e in
-      let sure : IsNext earlier made = (
-        record {
-          from_1 = omega (arith, at.2, first.1);
-          a_factor = omega (arith, at.2, first.1, inside);
-          each_level = as_many context.q word (values_of rest) values enough;
-        },
-        subst (λ n. has_values earlier n ≡ false) first.1 first.0,
-      ) in
-      subst (IsNext earlier) same sure)))
-
-  nothing : AreRecodes context []
-  nothing = record { each = All-nil (IsRecode context); once = λ i j d low high. absurd (omega arith) }
-
-  one_more : (earlier : List Recode) (recode : Recode) → AreRecodes context earlier → IsNext earlier recode
-      → AreRecodes context (earlier ++ recode ∷ [])
-  one_more earlier recode h is_next = record {
-    each = All-push (IsRecode context) earlier recode h.each is_next.0;
-    once = all_pairs_push (λ (a b : Recode). a.place ≢ b.place) earlier recode h.once (λ k d low same.
-        let found : list_any (λ (r : Recode). r.place == recode.place) earlier ≡ true =
-        list_any_at (λ (r : Recode). r.place == recode.place) earlier k d low
-        (eq-eqb (get_or earlier k d).place recode.place same) in
-        let none : has_values earlier recode.place ≡ false = is_next.1 in
-        cc);
-  }
-
-  -- what holds after the first factor, whether it is recoded or not
-  first : (earlier all : List Recode) (flag : Bool) (read : Result Recode Refusal)
-      (later : List Recode → Result (List Recode) Refusal)
-      → ((recode : Recode) → read ≡ Ok recode → IsNext earlier recode)
-      → ((before : List Recode) → AreRecodes context before → later before ≡ Ok all → AreRecodes context all)
-      → AreRecodes context earlier
-      → (if flag then (read >>= λ recode. later (earlier ++ recode ∷ [])) else later earlier) ≡ Ok all
-      → AreRecodes context all
-  first earlier all false read later is_next go h e = go earlier h e
-  first earlier all true (Err refusal) later is_next go h e = absurd (cc e)
-  first earlier all true (Ok recode) later is_next go h e =
-      go (earlier ++ recode ∷ []) (one_more earlier recode h (is_next recode refl)) e
-
-  recoded : (xs : List Written) (earlier all : List Recode) → AreRecodes context earlier
-      → recodes_behind context earlier xs ≡ Ok all → AreRecodes context all
-  recoded [] earlier all h e = let same : earlier ≡ all = cc e in subst (AreRecodes context) same h
-  recoded (a ∷ []) earlier all h e = let same : earlier ≡ all = cc e in subst (AreRecodes context) same h
-  recoded (a ∷ b ∷ []) earlier all h e = let same : earlier ≡ all = cc e in subst (AreRecodes context) same h
-  recoded (a ∷ b ∷ c ∷ rest) earlier all h e =
-      first earlier all (is_recoded a b c) (recode_of context earlier b c rest)
-      (λ before. recodes_behind context before (b ∷ c ∷ rest))
-      (next earlier b c rest) (λ before good more. recoded (b ∷ c ∷ rest) before all good more) h e
-
-  pub all_recoded : (xs : List Written) (all : List Recode) → recodes_behind context [] xs ≡ Ok all
-      → AreRecodes context all
-  all_recoded xs all e = recoded xs [] all nothing e
+-- where a column has values, they are as many as are wanted
+pub wanted_values : (n : ℕ) (word : Option Written) (rest : List Written) (values : List (List ℕ))
+    → values_if_begun (Some n) word rest ≡ Ok values → values ≢ [] → length values ≡ n
+wanted_values n None rest values e = let none : [] ≡ values = cc e in λ some. absurd (some (sym none))
+wanted_values n (Some word) rest values e = either (begins_values word rest) e
+  where
+    either : (b : Bool) → (if b then checked_values (Some n) word (values_of rest) else Ok []) ≡ Ok values
+        → values ≢ [] → length values ≡ n
+    either true e = λ some. as_many n word (values_of rest) values e
+    either false e = let none : [] ≡ values = cc e in λ some. absurd (some (sym none))

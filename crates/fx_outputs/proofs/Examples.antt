@@ -8,7 +8,8 @@ use Rattle.fx_text.specs.declared.refusal.Refusal.{Refusal}
 use Rattle.fx_text.specs.Written.{Written, written}
 use Rattle.fx_text.specs.Statements.{statements_of}
 use Rattle.fx_outputs.specs.declared.output.OutputSpec.{OutputSpec}
-use Rattle.fx_outputs.specs.declared.replication.Rep.TheVariants.{Times}
+use Rattle.fx_outputs.specs.declared.earlier.EarlierPlan.{EarlierPlan}
+use Rattle.fx_outputs.specs.declared.replication.Rep.TheVariants.{Times, Plan}
 use Rattle.fx_outputs.specs.Contexts.{Context}
 use Rattle.fx_outputs.specs.declared.context.BlockCount.{BlockCount}
 use Rattle.fx_outputs.specs.declared.context.BlockCount.TheVariants as blocks
@@ -23,10 +24,26 @@ among : List ℕ → Result (List Token) LexFault → List (List Written)
 among text (Ok tokens) = statements_of (written text tokens)
 among text (Err fault) = []
 
--- the outputs of these statements, after the OUT name `old`
+-- the plans `old`, of the column X, and `both`, which names it and has the column B
+plans : List EarlierPlan
+plans = record {
+  name = codes "old";
+  rows = 4;
+  own = codes "X" ∷ [];
+  pointrep = Times 1;
+  designrep = Times 1;
+} ∷ record {
+  name = codes "both";
+  rows = 8000;
+  own = codes "B" ∷ [];
+  pointrep = Times 1000;
+  designrep = Plan 0;
+} ∷ []
+
+-- the outputs of these statements, after these plans
 outputs : BlockCount → List ℕ → Result (List OutputSpec) Refusal
-unfolding lexed among step
-outputs count text = outputs_of (step count) (codes "old" ∷ []) (among text (lexed text))
+unfolding lexed among step plans
+outputs count text = outputs_of (step count) plans (among text (lexed text))
 
 -- with nothing but a name
 name_alone : outputs blocks.Without (codes "output out=Plan;") ≡ Ok (record {
@@ -142,3 +159,105 @@ factor_again = refl
 values_of_a_factor : refused_at blocks.Without (codes "output out=b A nvals=(1 2 3);") 17 16
 unfolding refused_at
 values_of_a_factor = refl
+
+-- a derived factor; it may have the name of a factor in brackets, which is no column
+derived_factor : outputs blocks.Without (codes "output out=b randomize[A nvals]=a cvals=('w' 'x' 'y' 'z');")
+    ≡ Ok (record {
+      name = codes "b";
+      pointrep = Times 1;
+      designrep = Times 1;
+      shuffle = shuffle.Default true;
+      recodes = [];
+      derived = record {
+        places = 1 ∷ 2 ∷ [];
+        name = codes "a";
+        values = codes "w" ∷ codes "x" ∷ codes "y" ∷ codes "z" ∷ [];
+      } ∷ [];
+      block_name = [];
+      block_values = [];
+    } ∷ [])
+unfolding outputs
+derived_factor = refl
+
+-- one factor in brackets, and five, of which some are no factors
+one_in_brackets : refused_at blocks.Without (codes "output out=b[A]=D;") 35 13
+unfolding refused_at
+one_in_brackets = refl
+
+five_in_brackets : refused_at blocks.Without (codes "output out=b[A x y z A]=D;") 35 13
+unfolding refused_at
+five_in_brackets = refl
+
+no_factor_in_brackets : refused_at blocks.Without (codes "output out=b[A pointrep]=D nvals=(1);") 4 16
+unfolding refused_at
+no_factor_in_brackets = refl
+
+twice_in_brackets : refused_at blocks.Without (codes "output out=b[A a]=D;") 28 16
+unfolding refused_at
+twice_in_brackets = refl
+
+recoded_before : refused_at blocks.Without (codes "output out=b A nvals=(1 2)[nvals A]=D;") 28 34
+unfolding refused_at
+recoded_before = refl
+
+recoded_behind : refused_at blocks.Without (codes "output out=b[A nvals]=D A nvals=(1 2);") 28 25
+unfolding refused_at
+recoded_behind = refl
+
+values_of_a_derived_factor : refused_at blocks.Without (codes "output out=b[A nvals]=D nvals=(1 2);") 17 25
+unfolding refused_at
+values_of_a_derived_factor = refl
+
+-- the name of the column of blocks
+column_again : refused_at (blocks.Fixed 2) (codes "output out=b[A nvals]=Block;") 34 23
+unfolding refused_at
+column_again = refl
+
+-- a plan is named in any spelling
+named_plan : outputs blocks.Without (codes "output out=b designrep=OLD pointrep=2;") ≡ Ok (record {
+  name = codes "b";
+  pointrep = Times 2;
+  designrep = Plan 0;
+  shuffle = shuffle.Kept;
+  recodes = [];
+  derived = [];
+  block_name = [];
+  block_values = [];
+} ∷ [])
+unfolding outputs
+named_plan = refl
+
+-- a statement that names itself, or a later one; numbers come before names
+names_itself : refused_at blocks.Without (codes "output out=b pointrep=B;") 33 23
+unfolding refused_at
+names_itself = refl
+
+names_a_later_one : refused_at blocks.Without (codes "output out=b designrep=c;output out=c;") 33 24
+unfolding refused_at
+names_a_later_one = refl
+
+numbers_first : refused_at blocks.Without (codes "output out=b pointrep=c designrep=0;") 20 35
+unfolding refused_at
+numbers_first = refl
+
+point_first : refused_at blocks.Without (codes "output out=b designrep=d pointrep=c;") 33 35
+unfolding refused_at
+point_first = refl
+
+-- 16 runs with each of 8,000 rows, and twice
+many_rows_of_plans : refused_at blocks.Without (codes "output out=b pointrep=both designrep=2;") 21 12
+unfolding refused_at
+many_rows_of_plans = refl
+
+-- the column X comes through a plan that `both` names
+through_a_plan : refused_at blocks.Without (codes "output out=b designrep=both[A nvals]=x;") 34 38
+unfolding refused_at
+through_a_plan = refl
+
+two_plans : refused_at blocks.Without (codes "output out=b designrep=old pointrep=old;") 34 37
+unfolding refused_at
+two_plans = refl
+
+plan_and_blocks : refused_at (blocks.Fixed 2) (codes "output out=b blockname=B designrep=both;") 34 36
+unfolding refused_at
+plan_and_blocks = refl

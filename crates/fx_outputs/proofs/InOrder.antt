@@ -1,65 +1,60 @@
--- Recoded factors are read from left to right, one place after another.
-use Rattle.std.proofs.Common.{◌≡◌, ℕ, ◌+◌, ◌-◌, ◌<◌, ◌≤◌, true, false, List, [], ◌∷◌, ◌++◌, length, drop, Ok, refl, ap}
-use Rattle.std.proofs.Common.{◌∙◌, arith}
-use Rattle.std.specs.Prelude.{slice_index_or}
+-- The columns of a file are read from left to right, one place after another.
+use Rattle.std.proofs.Common.{◌≡◌, ℕ, ◌+◌, ◌-◌, ◌<◌, ◌≤◌, ◌||◌, Bool, List, [], ◌∷◌, ◌++◌, length, drop, Ok, Err}
+use Rattle.std.proofs.Common.{refl, ap, ◌∙◌, arith}
+use Rattle.std.specs.Prelude.{slice_index_or, ◌==◌}
+use Rattle.std.specs.List.{list_any}
 use Rattle.fx_base.proofs.Lists.{drop_read}
 use Rattle.fx_text.specs.declared.refusal.ParseStop.{ParseStop}
 use Rattle.fx_text.specs.declared.refusal.ParseStop.TheVariants as stop
+use Rattle.fx_text.specs.declared.refusal.Refusal.{Refusal}
+use Rattle.fx_text.specs.Names.{place_of}
 use Rattle.fx_text.specs.Written.{Written}
 use Rattle.fx_text.specs.Refusals.{IsRefused}
-use Rattle.fx_outputs.specs.declared.recode.Recode.{Recode}
+use Rattle.fx_outputs.specs.declared.columns.Columns.{Columns}
 use Rattle.fx_outputs.specs.Contexts.{Context}
-use Rattle.fx_outputs.specs.Recodes.{is_recoded, recode_of, recodes_behind}
+use Rattle.fx_outputs.specs.Options.{are_open_behind}
+use Rattle.fx_outputs.specs.Columns.{column_at, columns_behind, factor_at, is_used, places_behind, unused_place}
 
--- the name before the word at i, and what stands before the name
-two_left : (xs : List Written) (i : ℕ) (name word : Written) → 2 ≤ i → i < length xs
-    → name ≡ slice_index_or xs (i - 1) name → word ≡ slice_index_or xs i word
-    → drop (i - 1) xs ≡ name ∷ word ∷ drop (i + 1) xs
-two_left xs i name word h low n w =
+-- the lexeme at i, the one before it, and what is behind them
+pub two_left : (xs : List Written) (i : ℕ) (before name : Written) → 1 ≤ i → i < length xs
+    → before ≡ slice_index_or xs (i - 1) before → name ≡ slice_index_or xs i name
+    → drop (i - 1) xs ≡ before ∷ name ∷ drop (i + 1) xs
+two_left xs i before name h low b n =
     let at : i - 1 + 1 ≡ i = omega arith in
-    drop_read xs (i - 1) name (omega arith) n
-    ∙ ap (λ k. name ∷ drop k xs) at
-    ∙ ap (λ l. name ∷ l) (drop_read xs i word low w)
-
-pub two_left_next : (xs : List Written) (i : ℕ) (name word : Written) → 2 ≤ i → i < length xs
-    → name ≡ slice_index_or xs (i - 1) name → word ≡ slice_index_or xs i word
-    → drop (i + 1 - 2) xs ≡ name ∷ word ∷ drop (i + 1) xs
-two_left_next xs i name word h low n w =
-    let at : i + 1 - 2 ≡ i - 1 = omega arith in
-    ap (λ k. drop k xs) at ∙ two_left xs i name word h low n w
-
-pub three_left : (xs : List Written) (i : ℕ) (before name word : Written) → 2 ≤ i → i < length xs
-    → before ≡ slice_index_or xs (i - 2) before → name ≡ slice_index_or xs (i - 1) name
-    → word ≡ slice_index_or xs i word
-    → drop (i - 2) xs ≡ before ∷ name ∷ word ∷ drop (i + 1) xs
-three_left xs i before name word h low b n w =
-    let at : i - 2 + 1 ≡ i - 1 = omega arith in
-    drop_read xs (i - 2) before (omega arith) b
+    drop_read xs (i - 1) before (omega arith) b
     ∙ ap (λ k. before ∷ drop k xs) at
-    ∙ ap (λ l. before ∷ l) (two_left xs i name word h low n w)
+    ∙ ap (λ l. before ∷ l) (drop_read xs i name low n)
 
--- after the last name there is none
-pub none_left : (context : Context) (earlier : List Recode) (xs : List Written) → length xs ≤ 2
-    → recodes_behind context earlier xs ≡ Ok earlier
-none_left context earlier [] h = refl
-none_left context earlier (a ∷ []) h = refl
-none_left context earlier (a ∷ b ∷ []) h = refl
-none_left context earlier (a ∷ b ∷ w ∷ rest) h = absurd (omega arith)
+pub one_left : (xs : List Written) (i : ℕ) (name : Written) → i < length xs → name ≡ slice_index_or xs i name
+    → drop (i + 1 - 1) xs ≡ name ∷ drop (i + 1) xs
+one_left xs i name low n =
+    let at : i + 1 - 1 ≡ i = omega arith in ap (λ k. drop k xs) at ∙ drop_read xs i name low n
 
-module _ (context : Context) (earlier : List Recode) (before name word : Written) (rest : List Written) where
-  pub refused : (reason : ParseStop) → true ≡ is_recoded before name word
-      → IsRefused (recode_of context earlier name word rest) reason
-      → IsRefused (recodes_behind context earlier (before ∷ name ∷ word ∷ rest)) reason
-  refused (stop.Refused refusal) t h = rw (← t, h) refl
-  refused stop.NoMemory t h = tt
+-- after the last symbol there is none
+pub none_left : (context : Context) (inside : Bool) (done : Columns) (xs : List Written) → length xs ≤ 1
+    → columns_behind context inside done xs ≡ Ok done
+none_left context inside done [] h = refl
+none_left context inside done (a ∷ []) h = refl
+none_left context inside done (a ∷ b ∷ rest) h = absurd (omega arith)
 
-  pub read : (recode : Recode) → true ≡ is_recoded before name word
-      → recode_of context earlier name word rest ≡ Ok recode
-      → recodes_behind context earlier (before ∷ name ∷ word ∷ rest)
-      ≡ recodes_behind context (earlier ++ recode ∷ []) (name ∷ word ∷ rest)
-  read recode t h = rw (← t, h) refl
+module _ (context : Context) (inside within : Bool) (done : Columns) (before name : Written) (rest : List Written)
+    (opened : within ≡ are_open_behind inside before) where
+  pub refused : (reason : ParseStop) → IsRefused (column_at context within done before name rest) reason
+      → IsRefused (columns_behind context inside done (before ∷ name ∷ rest)) reason
+  refused (stop.Refused refusal) h = rw (← opened, h) refl
+  refused stop.NoMemory h = tt
 
-  pub passed : false ≡ is_recoded before name word
-      → recodes_behind context earlier (before ∷ name ∷ word ∷ rest)
-      ≡ recodes_behind context earlier (name ∷ word ∷ rest)
-  passed t = rw (← t) refl
+  pub read : (now : Columns) → column_at context within done before name rest ≡ Ok now
+      → columns_behind context inside done (before ∷ name ∷ rest) ≡ columns_behind context within now (name ∷ rest)
+  read now h = rw (← opened, h) refl
+
+module _ (context : Context) (done : Columns) (earlier : List ℕ) (name : Written) (names : List Written) (factor : ℕ)
+    (used : Bool) (told : Ok factor ≡ factor_at name (place_of name.text context.factors))
+    (taken : used ≡ (is_used done factor || list_any (λ p. p == factor) earlier)) where
+  pub place_refused : (refusal : Refusal) → Err refusal ≡ unused_place used name factor
+      → places_behind context done earlier (name ∷ names) ≡ Err refusal
+  place_refused refusal h = rw (← told, ← taken, ← h) refl
+
+  pub place_read : (place : ℕ) → Ok place ≡ unused_place used name factor
+      → places_behind context done earlier (name ∷ names) ≡ places_behind context done (earlier ++ place ∷ []) names
+  place_read place h = rw (← told, ← taken, ← h) refl

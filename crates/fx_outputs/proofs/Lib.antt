@@ -1,9 +1,15 @@
 pub mod Accepted
+pub mod AcceptedColumns
 mod Examples
 pub mod Folded
+pub mod Histories
 pub mod InOrder
 pub mod Limits
 pub mod Readings
+pub mod NamedPlans
 pub mod Names
 pub mod Statements
+pub mod Taken
 pub mod Placed
+pub mod DerivedNames
+pub mod OwnNames

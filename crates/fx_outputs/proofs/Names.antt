@@ -1,5 +1,5 @@
 -- The names of the outputs that are accepted.
-use Rattle.std.proofs.Common.{◌≡◌, ◌≢◌, ℕ, Bool, true, false, List, [], ◌∷◌, ◌++◌, drop, Option, Some, None, Result, Ok}
+use Rattle.std.proofs.Common.{◌≡◌, ◌≢◌, ℕ, Bool, true, false, List, [], ◌∷◌, ◌++◌, None, Result, Ok}
 use Rattle.std.proofs.Common.{Err, refl, sym, ap, ap₂, subst, ◌∙◌, inl, inr, ◌⊎◌, append_assoc, arith}
 use Rattle.std.specs.Prelude.{All, codes, is_some, if◌then◌else◌, not, ◌&&◌, slice_get}
 use Rattle.std.specs.List.{AllByRecursion, IsDistinct}
@@ -7,51 +7,51 @@ use Rattle.std.proofs.lemmas.List.{append-nil, map-append}
 use Rattle.std.proofs.lemmas.List.Elements.{All-nil, All-push}
 use Rattle.fx_base.proofs.Lists.{each-all}
 use Rattle.fx_language.specs.declared.symbol.Symbol.{Symbol}
-use Rattle.fx_language.specs.declared.symbol.Symbol.TheVariants.{Output, Pointrep, Designrep, Blockname, Equals}
+use Rattle.fx_language.specs.declared.symbol.Symbol.TheVariants.{Output, Blockname}
 use Rattle.fx_language.specs.Symbols.{is, is_word}
 use Rattle.fx_text.specs.declared.refusal.Refusal.{Refusal}
 use Rattle.fx_text.specs.Names.{IsName, is_same_name, place_of}
 use Rattle.fx_text.specs.Refusals.{refusal_at, ◌>>=◌}
 use Rattle.fx_text.specs.Sentences.{HasNames, IsAccepted}
 use Rattle.fx_text.specs.Written.{Written, begins}
+use Rattle.fx_outputs.specs.declared.earlier.EarlierPlan.{EarlierPlan}
 use Rattle.fx_outputs.specs.declared.output.OutputSpec.{OutputSpec}
-use Rattle.fx_outputs.specs.declared.replication.Rep.TheVariants.{Times}
 use Rattle.fx_outputs.specs.Contexts.{Context}
-use Rattle.fx_outputs.specs.Options.{from_option}
-use Rattle.fx_outputs.specs.Replications.{replication_of, check_rows}
-use Rattle.fx_outputs.specs.Shuffles.{shuffle_of}
+use Rattle.fx_outputs.specs.Histories.{built}
+use Rattle.fx_outputs.specs.Options.{are_open_behind, awaits_name, from_option, from_option_in}
+use Rattle.fx_outputs.specs.Earlier.{plan_names}
 use Rattle.fx_outputs.specs.BlockColumns.{check_blockname, check_column, check_free, has_blocks, name_or_empty}
-use Rattle.fx_outputs.specs.BlockColumns.{block_values}
-use Rattle.fx_outputs.specs.Recodes.{recodes_of}
-use Rattle.fx_outputs.specs.Outputs.{check_new_name, names_of, output_spec, outputs_behind, outputs_of}
+use Rattle.fx_outputs.specs.BlockColumns.{column_name}
+use Rattle.fx_outputs.specs.Outputs.{names_of, output_spec, outputs_behind, outputs_of, plan_behind}
 use Rattle.fx_outputs.specs.Readings.{HasBlockName}
-use Rattle.fx_outputs.specs.Validity.{HasItsNames, column_name}
-use Rattle.fx_outputs.proofs.Accepted.{through}
+use Rattle.fx_outputs.specs.Validity.{HasItsNames}
 use Rattle.fx_text.proofs.Distinct as distinct
 use Rattle.fx_outputs.proofs.Readings.{names_law}
+use Rattle.fx_outputs.proofs.Taken.{not_found, taken, unless}
 
 -- What holds before the first statement, and after each OUTPUT statement that is read, holds of all.
-module _ (context : Context) (Q : List Written → Type 0) (P : List (List ℕ) → List OutputSpec → Type 0)
-    (read : (earlier : List (List ℕ)) (outputs : List OutputSpec) (a b c d : Written) (options : List Written)
+module _ (context : Context) (Q : List Written → Type 0) (P : List EarlierPlan → List OutputSpec → Type 0)
+    (read : (earlier : List EarlierPlan) (outputs : List OutputSpec) (a b c d : Written) (options : List Written)
     (output : OutputSpec)
     → Q (a ∷ b ∷ c ∷ d ∷ options) → is Output a.symbol ≡ true
     → output_spec context earlier a d (d ∷ options) ≡ Ok output
-    → P earlier outputs → P (earlier ++ output.name ∷ []) (outputs ++ output ∷ [])) where
-  one : (earlier : List (List ℕ)) (outputs all : List OutputSpec) (flag : Bool) (given : Result OutputSpec Refusal)
+    → P earlier outputs → P (earlier ++ plan_behind context earlier output ∷ []) (outputs ++ output ∷ [])) where
+  one : (earlier : List EarlierPlan) (outputs all : List OutputSpec) (flag : Bool) (given : Result OutputSpec Refusal)
       (later : OutputSpec → Result (List OutputSpec) Refusal) (passed : Result (List OutputSpec) Refusal)
       → ((output : OutputSpec) → flag ≡ true → given ≡ Ok output
-      → P (earlier ++ output.name ∷ []) (outputs ++ output ∷ []))
-      → ((output : OutputSpec) → P (earlier ++ output.name ∷ []) (outputs ++ output ∷ []) → later output ≡ Ok all
-      → (last : List (List ℕ)) × P last all)
-      → (passed ≡ Ok all → (last : List (List ℕ)) × P last all)
-      → (if flag then (given >>= later) else passed) ≡ Ok all → (last : List (List ℕ)) × P last all
+      → P (earlier ++ plan_behind context earlier output ∷ []) (outputs ++ output ∷ []))
+      → ((output : OutputSpec) → P (earlier ++ plan_behind context earlier output ∷ []) (outputs ++ output ∷ [])
+      → later output ≡ Ok all
+      → (last : List EarlierPlan) × P last all)
+      → (passed ≡ Ok all → (last : List EarlierPlan) × P last all)
+      → (if flag then (given >>= later) else passed) ≡ Ok all → (last : List EarlierPlan) × P last all
   one earlier outputs all false given later passed here go pass e = pass e
   one earlier outputs all true (Err refusal) later passed here go pass e = absurd (cc e)
   one earlier outputs all true (Ok output) later passed here go pass e = go output (here output refl refl) e
 
-  pub holds_of_all : (statements : List (List Written)) (earlier : List (List ℕ)) (outputs all : List OutputSpec)
+  pub holds_of_all : (statements : List (List Written)) (earlier : List EarlierPlan) (outputs all : List OutputSpec)
       → AllByRecursion Q statements → P earlier outputs
-      → outputs_behind context earlier outputs statements ≡ Ok all → (last : List (List ℕ)) × P last all
+      → outputs_behind context earlier outputs statements ≡ Ok all → (last : List EarlierPlan) × P last all
   holds_of_all [] earlier outputs all each h e = let same : outputs ≡ all = cc e in (earlier, subst (P earlier) same h)
   holds_of_all ([] ∷ rest) earlier outputs all each h e = holds_of_all rest earlier outputs all each.1 h e
   holds_of_all ((a ∷ []) ∷ rest) earlier outputs all each h e = holds_of_all rest earlier outputs all each.1 h e
@@ -59,76 +59,36 @@ module _ (context : Context) (Q : List Written → Type 0) (P : List (List ℕ) 
   holds_of_all ((a ∷ b ∷ c ∷ []) ∷ rest) earlier outputs all each h e = holds_of_all rest earlier outputs all each.1 h e
   holds_of_all ((a ∷ b ∷ c ∷ d ∷ options) ∷ rest) earlier outputs all each h e =
       one earlier outputs all (is Output a.symbol) (output_spec context earlier a d (d ∷ options))
-      (λ output. outputs_behind context (earlier ++ output.name ∷ []) (outputs ++ output ∷ []) rest)
+      (λ output. outputs_behind context (earlier ++ plan_behind context earlier output ∷ []) (outputs ++ output ∷ [])
+      rest)
       (outputs_behind context earlier outputs rest)
       (λ output begun taken. read earlier outputs a b c d options output each.0 begun taken h)
-      (λ output good more. holds_of_all rest (earlier ++ output.name ∷ []) (outputs ++ output ∷ []) all each.1 good
-      more)
+      (λ output good more. holds_of_all rest (earlier ++ plan_behind context earlier output ∷ [])
+      (outputs ++ output ∷ []) all each.1 good more)
       (λ more. holds_of_all rest earlier outputs all each.1 h more) e
 
--- what is known of a statement that is read
-record IsTaken (context : Context) (earlier : List (List ℕ)) (word name : Written) (s : List Written)
-    (output : OutputSpec) : Type 0 where
-  fresh : check_new_name earlier name ≡ Ok tt
-  named : check_blockname context.blocks (slice_get (from_option Blockname s) 0) ≡ Ok tt
-  free : check_column context word (slice_get (from_option Blockname s) 2) ≡ Ok tt
-  name_is : output.name ≡ name.text
-  block_name_is : output.block_name ≡ name_or_empty (slice_get (from_option Blockname s) 2)
-
-taken : (context : Context) (earlier : List (List ℕ)) (word name : Written) (s : List Written) (output : OutputSpec)
-    → output_spec context earlier word name s ≡ Ok output → IsTaken context earlier word name s output
-taken context earlier word name s output e =
-    let blockname = from_option Blockname s in
-    let Goal : Type 0 = IsTaken context earlier word name s output in
-    through (check_new_name earlier name) _ output Goal e (λ u fresh e.
-    through (replication_of Pointrep s) _ output Goal e (λ pointrep by_point e.
-    through (replication_of Designrep s) _ output Goal e (λ designrep by_design e.
-    through (check_rows context.runs pointrep designrep name) _ output Goal e (λ v few e.
-    through (shuffle_of s) _ output Goal e (λ shuffle asked e.
-    through (check_blockname context.blocks (slice_get blockname 0)) _ output Goal e (λ w named e.
-    through (check_column context word (slice_get blockname 2)) _ output Goal e (λ x free e.
-    through (block_values context.blocks (slice_get blockname 3) (drop 4 blockname)) _ output Goal e (λ values given e.
-    through (recodes_of context s) _ output Goal e (λ recodes read e.
-    let made : OutputSpec = record {
-      name = name.text;
-      pointrep = Times pointrep;
-      designrep = Times designrep;
-      shuffle = shuffle;
-      recodes = recodes;
-      derived = [];
-      block_name = name_or_empty (slice_get blockname 2);
-      block_values = values;
-    } in
-    let same : made ≡ output = cc e in
-    let sure : IsTaken context earlier word name s made =
-    record { fresh = fresh; named = named; free = free; name_is = refl; block_name_is = refl } in
-    subst (IsTaken context earlier word name s) same sure)))))))))
-
 -- what is written from an option on is a part of all
-from_names : (option : Symbol) (s : List Written) → HasNames s → HasNames (from_option option s)
-from_names option [] h = tt
-from_names option (before ∷ rest) (first, h) =
-    by_test (begins option rest && not (is Equals before.symbol)) (from_names option rest h)
+from_names_in : (inside : Bool) (option : Symbol) (s : List Written) → HasNames s
+    → HasNames (from_option_in inside option s)
+from_names_in inside option [] h = tt
+from_names_in inside option (before ∷ rest) (first, h) =
+    by_test (begins option rest && not (awaits_name (are_open_behind inside before) before))
+    (from_names_in (are_open_behind inside before) option rest h)
   where
-    by_test : (b : Bool) → HasNames (from_option option rest) → HasNames (if b then rest else from_option option rest)
+    by_test : (b : Bool) → HasNames (from_option_in (are_open_behind inside before) option rest)
+        → HasNames (if b then rest else from_option_in (are_open_behind inside before) option rest)
     by_test true later = h
     by_test false later = later
 
-not_found : (o : Option ℕ) → is_some o ≡ false → o ≡ None
-not_found None e = refl
-not_found (Some i) e = absurd (let f : true ≡ false = e in cc)
-
-unless : (b : Bool) (refusal : Refusal) → ◌≡◌ {A = Result (Unit {0}) Refusal} (if b then Err refusal else Ok tt) (Ok tt)
-    → b ≡ false
-unless true refusal e = absurd (cc e)
-unless false refusal e = refl
+from_names : (option : Symbol) (s : List Written) → HasNames s → HasNames (from_option option s)
+from_names option s h = from_names_in false option s h
 
 is_free : (factors : List (List ℕ)) (name : List ℕ) (w : Written) → check_free factors name w ≡ Ok tt
     → place_of name factors ≡ None
 is_free factors name w e =
     not_found (place_of name factors) (unless (is_some (place_of name factors)) (refusal_at 5 w) e)
 
-its_names : (context : Context) (earlier : List (List ℕ)) (a b c d : Written) (options : List Written)
+its_names : (context : Context) (earlier : List EarlierPlan) (a b c d : Written) (options : List Written)
     (output : OutputSpec)
     → IsAccepted (a ∷ b ∷ c ∷ d ∷ options) → is Output a.symbol ≡ true
     → output_spec context earlier a d (d ∷ options) ≡ Ok output → HasItsNames context output
@@ -189,7 +149,7 @@ its_names context earlier a b c d options output accepted begun e =
         absurd (let refused = subst (λ b. (if b then Ok tt else Err (refusal_at 31 w)) ≡ Ok tt) without named in
         cc refused)
 
-pub all_have_names : (context : Context) (earlier : List (List ℕ)) (statements : List (List Written))
+pub all_have_names : (context : Context) (earlier : List EarlierPlan) (statements : List (List Written))
     (outputs : List OutputSpec) → AllByRecursion IsAccepted statements
     → outputs_of context earlier statements ≡ Ok outputs → All (HasItsNames context) outputs
 all_have_names context earlier statements outputs each e =
@@ -204,19 +164,44 @@ apart : (earlier : List (List ℕ)) (name : List ℕ) → IsDistinct is_same_nam
 apart earlier name h new =
     distinct.joined_differ earlier (name ∷ []) h (distinct.one_differs name) (distinct.not_found earlier name new, tt)
 
-pub all_differ : (context : Context) (earlier : List (List ℕ)) (statements : List (List Written))
-    (outputs : List OutputSpec) → IsDistinct is_same_name earlier
-    → outputs_of context earlier statements ≡ Ok outputs → IsDistinct is_same_name (earlier ++ names_of outputs)
+-- the names of the plans so far
+record AreNamed (earlier before : List EarlierPlan) (done : List OutputSpec) : Type 0 where
+  differ : IsDistinct is_same_name (plan_names before)
+  are : plan_names before ≡ plan_names earlier ++ names_of done
+
+pub all_differ : (context : Context) (earlier : List EarlierPlan) (statements : List (List Written))
+    (outputs : List OutputSpec) → IsDistinct is_same_name (plan_names earlier)
+    → outputs_of context earlier statements ≡ Ok outputs
+    → IsDistinct is_same_name (plan_names earlier ++ names_of outputs)
 all_differ context earlier statements outputs h e =
     let last =
-    holds_of_all context (λ s. Unit {0})
-    (λ before done. (IsDistinct is_same_name before) × (before ≡ earlier ++ names_of done))
+    holds_of_all context (λ s. Unit {0}) (AreNamed earlier)
     (λ before done a b c d options output accepted begun e kept.
     let t = taken context before a d (d ∷ options) output e in
-    let new = unless (is_some (place_of d.text before)) (refusal_at 18 d) t.fresh in (
-      subst (λ n. IsDistinct is_same_name (before ++ n ∷ [])) (sym t.name_is) (apart before d.text kept.0 new),
-      ap (λ (l : List (List ℕ)). l ++ output.name ∷ []) kept.1 ∙ append_assoc earlier (names_of done) (output.name ∷ [])
-          ∙ ap (λ (l : List (List ℕ)). earlier ++ l) (sym (map-append (λ (o : OutputSpec). o.name) done (output ∷ []))),
-    ))
-    statements earlier [] outputs (each-all (λ x. Unit {0}) statements (λ x. tt)) (h, sym (append-nil earlier)) e in
-    subst (IsDistinct is_same_name) last.1.1 last.1.0
+    let new = unless (is_some (place_of d.text (plan_names before))) (refusal_at 18 d) t.fresh in
+    let all : plan_names (before ++ plan_behind context before output ∷ []) ≡ plan_names before ++ output.name ∷ [] =
+    map-append (λ (p : EarlierPlan). p.name) before (plan_behind context before output ∷ []) in
+    record {
+      differ =
+          subst (IsDistinct is_same_name) (sym all)
+          (subst (λ n. IsDistinct is_same_name (plan_names before ++ n ∷ [])) (sym t.name_is)
+          (apart (plan_names before) d.text kept.differ new));
+      are = all
+          ∙ ap (λ (l : List (List ℕ)). l ++ output.name ∷ []) kept.are
+          ∙ append_assoc (plan_names earlier) (names_of done) (output.name ∷ [])
+          ∙ ap (λ (l : List (List ℕ)). plan_names earlier ++ l)
+          (sym (map-append (λ (o : OutputSpec). o.name) done (output ∷ [])));
+    })
+    statements earlier [] outputs (each-all (λ x. Unit {0}) statements (λ x. tt))
+    (record { differ = h; are = sym (append-nil (plan_names earlier)) }) e in
+    subst (IsDistinct is_same_name) last.1.are last.1.differ
+
+-- the names of the plans after some outputs
+pub built_names : (context : Context) (earlier : List EarlierPlan) (outputs : List OutputSpec)
+    → plan_names (built (plan_behind context) earlier outputs) ≡ plan_names earlier ++ names_of outputs
+built_names context earlier [] = sym (append-nil (plan_names earlier))
+built_names context earlier (output ∷ outputs) =
+    built_names context (earlier ++ plan_behind context earlier output ∷ []) outputs
+    ∙ ap (λ (l : List (List ℕ)). l ++ names_of outputs)
+    (map-append (λ (p : EarlierPlan). p.name) earlier (plan_behind context earlier output ∷ []))
+    ∙ append_assoc (plan_names earlier) (output.name ∷ []) (names_of outputs)

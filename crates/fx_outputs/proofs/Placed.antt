@@ -1,6 +1,9 @@
 -- The OUTPUT statements of a step are refused by a rule, at the place of one of their words or numbers.
-use Rattle.std.proofs.Common.{ℕ, ◌*◌, ◌^◌, Bool, true, false, not, ◌&&◌, List, [], ◌∷◌, ◌++◌, length, drop, Option}
-use Rattle.std.proofs.Common.{Some, None, refl}
+use Rattle.std.proofs.Common.{ℕ, zero, suc, ◌*◌, ◌^◌, Bool, true, false, not, ◌&&◌, ◌||◌, List, [], ◌∷◌, ◌++◌, length}
+use Rattle.std.proofs.Common.{drop}
+use Rattle.std.proofs.Common.{take, Option, Some, None, refl}
+use Rattle.std.specs.List.{list_any}
+use Rattle.fx_text.specs.Phrases.{after, preceding}
 use Rattle.std.specs.Prelude.{codes, is_some, nat_le, nat_lt, IfSome, slice_get, ◌==◌, if◌then◌else◌}
 use Rattle.fx_language.specs.declared.symbol.Symbol.{Symbol}
 use Rattle.fx_language.specs.declared.symbol.Symbol.TheVariants as symbol
@@ -8,45 +11,80 @@ use Rattle.fx_language.specs.Symbols.{is}
 use Rattle.fx_text.specs.Written.{Written, begins}
 use Rattle.fx_text.specs.Names.{place_of}
 use Rattle.fx_text.specs.Numbers.{number_of}
+use Rattle.fx_outputs.specs.declared.derived.Derived.{Derived}
+use Rattle.fx_outputs.specs.declared.earlier.EarlierPlan.{EarlierPlan}
 use Rattle.fx_outputs.specs.declared.output.OutputSpec.{OutputSpec}
-use Rattle.fx_outputs.specs.declared.recode.Recode.{Recode}
+use Rattle.fx_outputs.specs.declared.replication.Rep.{Rep}
+use Rattle.fx_outputs.specs.declared.columns.Columns.{Columns}
 use Rattle.fx_outputs.specs.declared.context.BlockCount.{BlockCount}
 use Rattle.fx_outputs.specs.Contexts.{Context}
-use Rattle.fx_outputs.specs.Options.{from_option, has_option}
-use Rattle.fx_outputs.specs.Replications.{replication_in_range, replication_at, replication_of, check_rows}
+use Rattle.fx_outputs.specs.Options.{are_open_behind, awaits_name, from_option, from_option_in, has_option}
+use Rattle.fx_outputs.specs.Earlier.{file_columns, plan_names, rep_columns, rep_rows}
+use Rattle.fx_outputs.specs.Replications.{check_number, check_rows, plan_at, rep_at, replication_in_range, reps_of}
 use Rattle.fx_outputs.specs.Shuffles.{seed_in_range, seeded, seed_written, shuffle_of}
-use Rattle.fx_outputs.specs.Values.{values_of, checked_values}
+use Rattle.fx_outputs.specs.Values.{begins_values, checked_values, values_if_begun, values_of}
 use Rattle.fx_outputs.specs.BlockColumns.{has_blocks, values_wanted, check_blockname, check_free, check_column}
-use Rattle.fx_outputs.specs.BlockColumns.{begins_values, block_values}
-use Rattle.fx_outputs.specs.Recodes.{is_recoded, factor_at, has_values, unused_place, recode_of, recodes_behind}
-use Rattle.fx_outputs.specs.Recodes.{recodes_of}
-use Rattle.fx_outputs.specs.Outputs.{check_new_name, output_spec, outputs_behind, outputs_of}
+use Rattle.fx_outputs.specs.BlockColumns.{block_values, name_or_empty}
+use Rattle.fx_outputs.specs.Columns.{are_in_front, check_name, check_names, check_size, column_at, columns_behind}
+use Rattle.fx_outputs.specs.Columns.{columns_of, derived_names, derived_of, factor_at, is_recoded, is_used}
+use Rattle.fx_outputs.specs.Columns.{places_behind}
+use Rattle.fx_outputs.specs.Columns.{recode_at, recode_of, unused_place}
+use Rattle.fx_outputs.specs.OwnColumns.{other_columns, own_columns}
+use Rattle.fx_outputs.specs.FileColumns.{check_columns, check_plan, meet}
+use Rattle.fx_outputs.specs.Outputs.{check_new_name, output_spec, outputs_behind, outputs_of, plan_behind}
 use Rattle.fx_text.proofs.Placed as placed
 use Rattle.fx_text.proofs.Placed.{IsPlaced, ArePlaced, AreAllPlaced, Placed}
 
 module _ (P : ℕ → ℕ → Type 0) where
-  from : (option : Symbol) (s : List Written) → ArePlaced P s → ArePlaced P (from_option option s)
-  from option [] h = tt
-  from option (w ∷ rest) h = by_test (begins option rest && not (is symbol.Equals w.symbol)) (from option rest h.1)
+  from_in : (inside : Bool) (option : Symbol) (s : List Written) → ArePlaced P s
+      → ArePlaced P (from_option_in inside option s)
+  from_in inside option [] h = tt
+  from_in inside option (w ∷ rest) h =
+      by_test (begins option rest && not (awaits_name (are_open_behind inside w) w))
+      (from_in (are_open_behind inside w) option rest h.1)
     where
-      by_test : (b : Bool) → ArePlaced P (from_option option rest)
-          → ArePlaced P (if b then rest else from_option option rest)
+      by_test : (b : Bool) → ArePlaced P (from_option_in (are_open_behind inside w) option rest)
+          → ArePlaced P (if b then rest else from_option_in (are_open_behind inside w) option rest)
       by_test true later = h.1
       by_test false later = later
+
+  from : (option : Symbol) (s : List Written) → ArePlaced P s → ArePlaced P (from_option option s)
+  from option s h = from_in false option s h
 
   new_name : (earlier : List (List ℕ)) (w : Written) → IsPlaced P w → Placed P (check_new_name earlier w)
   new_name earlier w h = placed.both P (is_some (place_of w.text earlier)) _ _ (placed.written P 18 w refl h) tt
 
-  replication : (option : Symbol) (s : List Written) → ArePlaced P s → Placed P (replication_of option s)
-  replication option s h = of_written (slice_get (from_option option s) 2) (placed.at P 2 _ (from option s h))
-    where
-      of_number : (w : Written) (n : Option ℕ) → IsPlaced P w → Placed P (replication_in_range w n)
-      of_number w None h = placed.written P 20 w refl h
-      of_number w (Some n) h = placed.both P (nat_le 1 n && nat_le n 200000) _ _ tt (placed.written P 20 w refl h)
+  in_range : (w : Written) (n : Option ℕ) → IsPlaced P w → Placed P (replication_in_range w n)
+  in_range w None h = placed.written P 20 w refl h
+  in_range w (Some n) h = placed.both P (nat_le 1 n && nat_le n 200000) _ _ tt (placed.written P 20 w refl h)
 
-      of_written : (w : Option Written) → IfSome w (IsPlaced P) → Placed P (replication_at w)
-      of_written None h = tt
-      of_written (Some w) h = of_number w (number_of w) h
+  number : (w : Option Written) → IfSome w (IsPlaced P) → Placed P (check_number w)
+  number None h = tt
+  number (Some w) h =
+      placed.both P (is symbol.Whole w.symbol) _ _
+      (placed.chain P (replication_in_range w (number_of w)) _ (in_range w (number_of w) h) (λ n. tt)) tt
+
+  rep : (earlier : List EarlierPlan) (w : Option Written) → IfSome w (IsPlaced P) → Placed P (rep_at earlier w)
+  rep earlier None h = tt
+  rep earlier (Some w) h =
+      placed.both P (is symbol.Whole w.symbol) _ _
+      (placed.chain P (replication_in_range w (number_of w)) _ (in_range w (number_of w) h) (λ n. tt))
+      (of_place (place_of w.text (plan_names earlier)))
+    where
+      of_place : (place : Option ℕ) → Placed P (plan_at w place)
+      of_place None = placed.written P 33 w refl h
+      of_place (Some n) = tt
+
+  reps : (earlier : List EarlierPlan) (s : List Written) → ArePlaced P s → Placed P (reps_of earlier s)
+  reps earlier s h =
+      let point : Option Written = slice_get (from_option symbol.Pointrep s) 2 in
+      let design : Option Written = slice_get (from_option symbol.Designrep s) 2 in
+      let at_point = placed.at P 2 _ (from symbol.Pointrep s h) in
+      let at_design = placed.at P 2 _ (from symbol.Designrep s h) in
+      placed.chain P (check_number point) _ (number point at_point) (λ u.
+      placed.chain P (check_number design) _ (number design at_design) (λ v.
+      placed.chain P (rep_at earlier point) _ (rep earlier point at_point) (λ pointrep.
+      placed.chain P (rep_at earlier design) _ (rep earlier design at_design) (λ designrep. tt))))
 
   few_rows : (runs pointrep designrep : ℕ) (w : Written) → IsPlaced P w
       → Placed P (check_rows runs pointrep designrep w)
@@ -94,46 +132,135 @@ module _ (P : ℕ → ℕ → Type 0) where
   as_many None w values h = placed.written P 17 w refl h
   as_many (Some wanted) w values h = placed.both P (length values == wanted) _ _ tt (placed.written P 17 w refl h)
 
+  begun : (wanted : Option ℕ) (w : Option Written) (rest : List Written) → IfSome w (IsPlaced P)
+      → Placed P (values_if_begun wanted w rest)
+  begun wanted None rest h = tt
+  begun wanted (Some w) rest h = placed.both P (begins_values w rest) _ _ (as_many wanted w (values_of rest) h) tt
+
   values : (count : BlockCount) (w : Option Written) (rest : List Written) → IfSome w (IsPlaced P)
       → Placed P (block_values count w rest)
-  values count None rest h = tt
-  values count (Some w) rest h =
-      placed.both P (begins_values w rest) _ _ (as_many (values_wanted count) w (values_of rest) h) tt
+  values count w rest h = begun (values_wanted count) w rest h
 
-  recode : (context : Context) (earlier : List Recode) (name w : Written) (rest : List Written) → IsPlaced P name
-      → IsPlaced P w → Placed P (recode_of context earlier name w rest)
-  recode context earlier name w rest at_name at_w =
+  factor : (name : Written) (place : Option ℕ) → IsPlaced P name → Placed P (factor_at name place)
+  factor name None h = placed.written P 4 name refl h
+  factor name (Some i) h = tt
+
+  unused : (used : Bool) (name : Written) (place : ℕ) → IsPlaced P name → Placed P (unused_place used name place)
+  unused used name place h = placed.both P used _ _ (placed.written P 28 name refl h) tt
+
+  recode : (context : Context) (done : Columns) (name w : Written) (rest : List Written) → IsPlaced P name
+      → IsPlaced P w → Placed P (recode_of context done name w rest)
+  recode context done name w rest at_name at_w =
       placed.chain P (factor_at name (place_of name.text context.factors)) _
-      (of_place (place_of name.text context.factors)) (λ factor.
-      placed.chain P (unused_place earlier name factor) _
-      (placed.both P (has_values earlier factor) _ _ (placed.written P 28 name refl at_name) tt) (λ place.
+      (factor name (place_of name.text context.factors) at_name) (λ place.
+      placed.chain P (unused_place (is_used done place) name place) _
+      (unused (is_used done place) name place at_name) (λ own.
       placed.chain P (checked_values (Some context.q) w (values_of rest)) _
       (as_many (Some context.q) w (values_of rest) at_w)
       (λ given. tt)))
+
+  names : (context : Context) (done : Columns) (earlier : List ℕ) (s : List Written) → ArePlaced P s
+      → Placed P (places_behind context done earlier s)
+  names context done earlier [] h = tt
+  names context done earlier (name ∷ rest) h =
+      placed.chain P (factor_at name (place_of name.text context.factors)) _
+      (factor name (place_of name.text context.factors) h.0) (λ place.
+      placed.chain P (unused_place (is_used done place || list_any (λ p. p == place) earlier) name place) _
+      (unused (is_used done place || list_any (λ p. p == place) earlier) name place h.0) (λ own.
+      names context done (earlier ++ own ∷ []) rest h.1))
+
+  front : (n : ℕ) (s : List Written) → ArePlaced P s → ArePlaced P (take n s)
+  front zero s h = tt
+  front (suc n) [] h = tt
+  front (suc n) (w ∷ rest) h = (h.0, front n rest h.1)
+
+  behind : (s : List Written) → ArePlaced P s → ArePlaced P (after symbol.CloseBracket s)
+  behind [] h = tt
+  behind (w ∷ rest) h = by_test (is symbol.CloseBracket w.symbol) (behind rest h.1)
     where
-      of_place : (place : Option ℕ) → Placed P (factor_at name place)
-      of_place None = placed.written P 4 name refl at_name
-      of_place (Some i) = tt
+      by_test : (b : Bool) → ArePlaced P (after symbol.CloseBracket rest)
+          → ArePlaced P (if b then rest else after symbol.CloseBracket rest)
+      by_test true later = h.1
+      by_test false later = later
 
-  recodes : (context : Context) (earlier : List Recode) (s : List Written) → ArePlaced P s
-      → Placed P (recodes_behind context earlier s)
-  recodes context earlier [] h = tt
-  recodes context earlier (v ∷ []) h = tt
-  recodes context earlier (v ∷ name ∷ []) h = tt
-  recodes context earlier (v ∷ name ∷ w ∷ rest) h =
-      placed.both P (is_recoded v name w) _ _
-      (placed.chain P (recode_of context earlier name w rest) _ (recode context earlier name w rest h.1.0 h.1.1.0)
-      (λ r. recodes context (earlier ++ r ∷ []) (name ∷ w ∷ rest) h.1))
-      (recodes context earlier (name ∷ w ∷ rest) h.1)
+  derived : (context : Context) (done : Columns) (bracket : Written) (rest : List Written) → IsPlaced P bracket
+      → ArePlaced P rest → Placed P (derived_of context done bracket rest)
+  derived context done bracket rest at h =
+      let inside : List Written = preceding symbol.CloseBracket rest in
+      let others : List Written = after symbol.CloseBracket rest in
+      placed.chain P (check_size context.q (length inside) bracket) _
+      (placed.both P (nat_le 2 (length inside) && nat_le (length inside) 4 && nat_le (context.q ^ length inside) 64) _ _
+      tt (placed.written P 35 bracket refl at)) (λ u.
+      placed.chain P (places_behind context done [] inside) _ (names context done [] inside (front _ rest h)) (λ places.
+      placed.chain P (values_if_begun (Some (context.q ^ length inside)) (slice_get others 2) (drop 3 others)) _
+      (begun (Some (context.q ^ length inside)) (slice_get others 2) (drop 3 others)
+      (placed.at P 2 others (behind rest h))) (λ given. tt)))
 
-  output : (context : Context) (earlier : List (List ℕ)) (word name : Written) (s : List Written) → IsPlaced P word
+  recoded : (context : Context) (done : Columns) (before name : Written) (rest : List Written) → IsPlaced P name
+      → ArePlaced P rest → Placed P (recode_at context done before name rest)
+  recoded context done before name [] at h = tt
+  recoded context done before name (w ∷ rest) at h =
+      placed.both P (is_recoded before name w) _ _
+      (placed.chain P (recode_of context done name w rest) _ (recode context done name w rest at h.0) (λ r. tt)) tt
+
+  at_symbol : (context : Context) (within : Bool) (done : Columns) (before name : Written) (rest : List Written)
+      → IsPlaced P name → ArePlaced P rest → Placed P (column_at context within done before name rest)
+  at_symbol context within done before name rest at h =
+      placed.both P within _ _ tt
+      (placed.both P (is symbol.OpenBracket name.symbol) _ _
+      (placed.chain P (derived_of context done name rest) _ (derived context done name rest at h) (λ d. tt))
+      (recoded context done before name rest at h))
+
+  columns : (context : Context) (inside : Bool) (done : Columns) (s : List Written) → ArePlaced P s
+      → Placed P (columns_behind context inside done s)
+  columns context inside done [] h = tt
+  columns context inside done (v ∷ []) h = tt
+  columns context inside done (v ∷ name ∷ rest) h =
+      placed.chain P (column_at context (are_open_behind inside v) done v name rest) _
+      (at_symbol context (are_open_behind inside v) done v name rest h.1.0 h.1.1)
+      (λ now. columns context (are_open_behind inside v) now (name ∷ rest) h.1)
+
+  differing : (names : List (List ℕ)) (s : List Written) → ArePlaced P s → Placed P (check_names names s)
+  differing names [] h = tt
+  differing names (a ∷ []) h = tt
+  differing names (a ∷ b ∷ []) h = tt
+  differing names (a ∷ b ∷ c ∷ rest) h =
+      placed.both P (are_in_front a b) _ _
+      (placed.chain P (check_name names c (derived_names (b ∷ c ∷ rest))) _
+      (placed.both P
+      (is_some (place_of c.text names) || is_some (place_of c.text (derived_names (b ∷ c ∷ rest)))) _ _
+      (placed.written P 34 c refl h.1.1.0) tt)
+      (λ u. differing (names ++ c.text ∷ []) (b ∷ c ∷ rest) h.1))
+      (differing names (b ∷ c ∷ rest) h.1)
+
+  plan : (w : Option Written) (columns own others : List (List ℕ)) → IfSome w (IsPlaced P)
+      → Placed P (check_plan w columns own others)
+  plan None columns own others h = tt
+  plan (Some w) columns own others h =
+      placed.both P (meet columns own || meet columns others) _ _ (placed.written P 34 w refl h) tt
+
+  all_columns : (context : Context) (earlier : List EarlierPlan) (reps : Rep × Rep) (block_name : List ℕ)
+      (derived : List Derived) (s : List Written) → ArePlaced P s
+      → Placed P (check_columns context earlier reps block_name derived s)
+  all_columns context earlier reps block_name derived s h =
+      let point : List (List ℕ) = rep_columns (file_columns earlier) reps.0 in
+      let design : List (List ℕ) = rep_columns (file_columns earlier) reps.1 in
+      let own : List (List ℕ) = own_columns context block_name derived in
+      placed.chain P (check_names (other_columns context block_name derived ++ point ++ design) s) _
+      (differing (other_columns context block_name derived ++ point ++ design) s h) (λ u.
+      placed.chain P (check_plan (slice_get (from_option symbol.Pointrep s) 2) point own design) _
+      (plan (slice_get (from_option symbol.Pointrep s) 2) point own design (placed.at P 2 _ (from symbol.Pointrep s h)))
+      (λ v.
+      plan (slice_get (from_option symbol.Designrep s) 2) design own point
+      (placed.at P 2 _ (from symbol.Designrep s h))))
+
+  output : (context : Context) (earlier : List EarlierPlan) (word name : Written) (s : List Written) → IsPlaced P word
       → IsPlaced P name → ArePlaced P s → Placed P (output_spec context earlier word name s)
   output context earlier word name s at_word at_name h =
-      placed.chain P (check_new_name earlier name) _ (new_name earlier name at_name) (λ u.
-      placed.chain P (replication_of symbol.Pointrep s) _ (replication symbol.Pointrep s h) (λ pointrep.
-      placed.chain P (replication_of symbol.Designrep s) _ (replication symbol.Designrep s h) (λ designrep.
-      placed.chain P (check_rows context.runs pointrep designrep name) _
-      (few_rows context.runs pointrep designrep name at_name) (λ v.
+      placed.chain P (check_new_name (plan_names earlier) name) _ (new_name (plan_names earlier) name at_name) (λ u.
+      placed.chain P (reps_of earlier s) _ (reps earlier s h) (λ repeated.
+      placed.chain P (check_rows context.runs (rep_rows earlier repeated.0) (rep_rows earlier repeated.1) name) _
+      (few_rows context.runs (rep_rows earlier repeated.0) (rep_rows earlier repeated.1) name at_name) (λ v.
       placed.chain P (shuffle_of s) _ (shuffle s h) (λ shuffled.
       placed.chain P (check_blockname context.blocks (slice_get (from_option symbol.Blockname s) 0)) _
       (with_blocks context.blocks _ (placed.at P 0 _ (from symbol.Blockname s h))) (λ x.
@@ -144,9 +271,16 @@ module _ (P : ℕ → ℕ → Type 0) where
       (drop 4 (from_option symbol.Blockname s))) _
       (values context.blocks _ (drop 4 (from_option symbol.Blockname s)) (placed.at P 3 _ (from symbol.Blockname s h)))
       (λ given.
-      placed.chain P (recodes_of context s) _ (recodes context [] s h) (λ read. tt)))))))))
+      placed.chain P (columns_of context s) _
+      (columns context false (record { recodes = []; derived = [] }) s h) (λ read.
+      placed.chain P
+      (check_columns context earlier repeated (name_or_empty (slice_get (from_option symbol.Blockname s) 2))
+      read.derived s) _
+      (all_columns context earlier repeated (name_or_empty (slice_get (from_option symbol.Blockname s) 2)) read.derived
+      s h)
+      (λ v. tt)))))))))
 
-  all : (context : Context) (earlier : List (List ℕ)) (outputs : List OutputSpec) (statements : List (List Written))
+  all : (context : Context) (earlier : List EarlierPlan) (outputs : List OutputSpec) (statements : List (List Written))
       → AreAllPlaced P statements → Placed P (outputs_behind context earlier outputs statements)
   all context earlier outputs [] h = tt
   all context earlier outputs ([] ∷ rest) h = all context earlier outputs rest h.1
@@ -157,9 +291,9 @@ module _ (P : ℕ → ℕ → Type 0) where
       placed.both P (is symbol.Output a.symbol) _ _
       (placed.chain P (output_spec context earlier a d (d ∷ options)) _
       (output context earlier a d (d ∷ options) h.0.0 h.0.1.1.1.0 (h.0.1.1.1))
-      (λ o. all context (earlier ++ o.name ∷ []) (outputs ++ o ∷ []) rest h.1))
+      (λ o. all context (earlier ++ plan_behind context earlier o ∷ []) (outputs ++ o ∷ []) rest h.1))
       (all context earlier outputs rest h.1)
 
-  pub outputs : (context : Context) (earlier : List (List ℕ)) (statements : List (List Written))
+  pub outputs : (context : Context) (earlier : List EarlierPlan) (statements : List (List Written))
       → AreAllPlaced P statements → Placed P (outputs_of context earlier statements)
   outputs context earlier statements h = all context earlier [] statements h

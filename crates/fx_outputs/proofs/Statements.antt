@@ -3,16 +3,18 @@ use Rattle.std.proofs.Common.{◌≡◌, ℕ, suc, ◌<◌, Bool, true, false, �
 use Rattle.std.proofs.Common.{sym, subst, arith}
 use Rattle.std.specs.Prelude.{nat_lt, slice_index_or}
 use Rattle.std.proofs.lemmas.Bool.{ltb-true, lt-ltb, and_parts}
-use Rattle.std.proofs.lemmas.List.{map-append, append_assoc}
 use Rattle.fx_language.specs.declared.symbol.Symbol.TheVariants.{Output}
 use Rattle.fx_language.specs.Symbols.{is}
 use Rattle.fx_text.specs.declared.refusal.ParseStop.{ParseStop}
 use Rattle.fx_text.specs.declared.refusal.ParseStop.TheVariants as stop
 use Rattle.fx_text.specs.Written.{Written, begins}
 use Rattle.fx_text.specs.Refusals.{IsRefused}
+use Rattle.fx_outputs.specs.declared.earlier.EarlierPlan.{EarlierPlan}
 use Rattle.fx_outputs.specs.declared.output.OutputSpec.{OutputSpec}
 use Rattle.fx_outputs.specs.Contexts.{Context}
-use Rattle.fx_outputs.specs.Outputs.{output_spec, outputs_behind, names_of}
+use Rattle.fx_outputs.specs.Histories.{built}
+use Rattle.fx_outputs.specs.Outputs.{output_spec, outputs_behind, plan_behind}
+use Rattle.fx_outputs.proofs.Histories.{built-append}
 
 abbrev pub is_output : List Written → Bool
 is_output s = begins Output s && nat_lt 3 (length s)
@@ -22,7 +24,7 @@ other_word : (begun : Bool) (n : ℕ) → (begun && nat_lt 3 (suc (suc (suc (suc
 other_word true n e = absurd (let long = lt-ltb 3 (suc (suc (suc (suc n)))) (omega arith) in cc)
 other_word false n e = refl
 
-module _ (context : Context) (earlier : List (List ℕ)) (outputs : List OutputSpec) (rest : List (List Written)) where
+module _ (context : Context) (earlier : List EarlierPlan) (outputs : List OutputSpec) (rest : List (List Written)) where
   first_refused : (a b c d : Written) (options : List Written) (reason : ParseStop) → is Output a.symbol ≡ true
       → IsRefused (output_spec context earlier a d (d ∷ options)) reason
       → IsRefused (outputs_behind context earlier outputs ((a ∷ b ∷ c ∷ d ∷ options) ∷ rest)) reason
@@ -32,7 +34,7 @@ module _ (context : Context) (earlier : List (List ℕ)) (outputs : List OutputS
   first_read : (a b c d : Written) (options : List Written) (output : OutputSpec) → is Output a.symbol ≡ true
       → output_spec context earlier a d (d ∷ options) ≡ Ok output
       → outputs_behind context earlier outputs ((a ∷ b ∷ c ∷ d ∷ options) ∷ rest)
-      ≡ outputs_behind context (earlier ++ output.name ∷ []) (outputs ++ output ∷ []) rest
+      ≡ outputs_behind context (earlier ++ plan_behind context earlier output ∷ []) (outputs ++ output ∷ []) rest
   first_read a b c d options output begun h = rw (begun, h) refl
 
   refused_long : (s : List Written) (word name : Written) (reason : ParseStop) → begins Output s ≡ true → 3 < length s
@@ -52,7 +54,7 @@ module _ (context : Context) (earlier : List (List ℕ)) (outputs : List OutputS
       → word ≡ slice_index_or s 0 word → name ≡ slice_index_or s 3 name
       → output_spec context earlier word name (drop 3 s) ≡ Ok output
       → outputs_behind context earlier outputs (s ∷ rest)
-      ≡ outputs_behind context (earlier ++ output.name ∷ []) (outputs ++ output ∷ []) rest
+      ≡ outputs_behind context (earlier ++ plan_behind context earlier output ∷ []) (outputs ++ output ∷ []) rest
   read_long [] word name output begun long w n h = absurd (omega arith)
   read_long (a ∷ []) word name output begun long w n h = absurd (omega arith)
   read_long (a ∷ b ∷ []) word name output begun long w n h = absurd (omega arith)
@@ -74,7 +76,7 @@ module _ (context : Context) (earlier : List (List ℕ)) (outputs : List OutputS
       → word ≡ slice_index_or s 0 word → name ≡ slice_index_or s 3 name
       → output_spec context earlier word name (drop 3 s) ≡ Ok output
       → outputs_behind context earlier outputs (s ∷ rest)
-      ≡ outputs_behind context (earlier ++ output.name ∷ []) (outputs ++ output ∷ []) rest
+      ≡ outputs_behind context (earlier ++ plan_behind context earlier output ∷ []) (outputs ++ output ∷ []) rest
   read s word name output t w n h =
       let both = and_parts (begins Output s) (nat_lt 3 (length s)) (sym t) in
       read_long s word name output both.0 (ltb-true 3 (length s) both.1) w n h
@@ -93,8 +95,9 @@ module _ (context : Context) (earlier : List (List ℕ)) (outputs : List OutputS
   passed (a ∷ b ∷ c ∷ d ∷ options) t =
       first_passed a b c d options (other_word (is Output a.symbol) (length options) (sym t))
 
--- the name of one more output stands last
-pub one_more_name : (before earlier : List (List ℕ)) (outputs : List OutputSpec) (output : OutputSpec)
-    → earlier ≡ before ++ names_of outputs
-    → earlier ++ output.name ∷ [] ≡ before ++ names_of (outputs ++ output ∷ [])
-one_more_name before earlier outputs output e = rw (e, map-append, append_assoc) refl
+-- the plan of one more output stands last
+pub one_more_plan : (context : Context) (before earlier : List EarlierPlan) (outputs : List OutputSpec)
+    (output : OutputSpec) → earlier ≡ built (plan_behind context) before outputs
+    → earlier ++ plan_behind context earlier output ∷ [] ≡ built (plan_behind context) before (outputs ++ output ∷ [])
+one_more_plan context before earlier outputs output e =
+    rw e (sym (built-append (plan_behind context) before outputs (output ∷ [])))

@@ -1,17 +1,15 @@
 -- The column of blocks: its name, and its values.
-use Rattle.std.specs.Prelude.{ℕ, Bool, true, false, ◌&&◌, ◌||◌, is_some, codes, List, [], Option, Some, None, Result}
+use Rattle.std.specs.Prelude.{ℕ, Bool, true, false, is_some, codes, List, [], ◌∷◌, Option, Some, None, Result}
 use Rattle.std.specs.Prelude.{Ok, Err, if◌then◌else◌}
 use Rattle.fx_language.specs.declared.code.TheConstants.{BLOCKNAME_WITHOUT_BLOCKS, REPEATED_NAME}
-use Rattle.fx_language.specs.declared.symbol.Symbol.TheVariants.{Nvals, Cvals, Equals}
-use Rattle.fx_language.specs.Symbols.{is}
 use Rattle.fx_text.specs.declared.refusal.Refusal.{Refusal}
-use Rattle.fx_text.specs.Written.{Written, begins}
+use Rattle.fx_text.specs.Written.{Written}
 use Rattle.fx_text.specs.Names.{place_of}
 use Rattle.fx_text.specs.Refusals.{refusal_at}
 use Rattle.fx_outputs.specs.Contexts.{Context}
 use Rattle.fx_outputs.specs.declared.context.BlockCount.{BlockCount}
 use Rattle.fx_outputs.specs.declared.context.BlockCount.TheVariants as blocks
-use Rattle.fx_outputs.specs.Values.{values_of, checked_values}
+use Rattle.fx_outputs.specs.Values.{values_if_begun}
 
 -- the step has blocks
 abbrev pub has_blocks : BlockCount → Bool
@@ -46,13 +44,12 @@ abbrev pub name_or_empty : Option Written → List ℕ
 name_or_empty None = []
 name_or_empty (Some name) = name.text
 
--- NVALS or CVALS, with `=` after it
-abbrev pub begins_values : Written → List Written → Bool
-begins_values word rest = (is Nvals word.symbol || is Cvals word.symbol) && begins Equals rest
+-- the name of the column of blocks, BLOCK where the text has none
+abbrev pub column_name : List ℕ → List ℕ
+column_name [] = codes "BLOCK"
+column_name (b ∷ name) = b ∷ name
 
 -- The values of the column: none, or as many as there are blocks, whose number is to be known. `word` follows
 -- BLOCKNAME's name, and `rest` after it.
 abbrev pub block_values : BlockCount → Option Written → List Written → Result (List (List ℕ)) Refusal
-block_values count None rest = Ok []
-block_values count (Some word) rest =
-    if begins_values word rest then checked_values (values_wanted count) word (values_of rest) else Ok []
+block_values count word rest = values_if_begun (values_wanted count) word rest

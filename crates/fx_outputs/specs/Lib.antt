@@ -1,12 +1,15 @@
+pub mod Histories
 pub mod Contexts
 pub mod Options
+pub mod Earlier
 pub mod Replications
 pub mod Shuffles
 pub mod Values
 pub mod BlockColumns
-pub mod Recodes
 pub mod DerivedFactors
-pub mod Earlier
+pub mod Columns
+pub mod OwnColumns
+pub mod FileColumns
 pub mod Outputs
 pub mod Validity
 pub mod Readings

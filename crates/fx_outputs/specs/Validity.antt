@@ -1,15 +1,15 @@
 -- What holds of every output that is accepted, without a word on how it is read.
-use Rattle.std.specs.Prelude.{◌≡◌, ◌≢◌, ◌*◌, ◌≤◌, ℕ, true, false, List, [], ◌∷◌, None, codes, length, All}
+use Rattle.std.specs.Prelude.{◌≡◌, ◌≢◌, ◌*◌, ◌≤◌, ℕ, true, false, List, [], None, length, All}
 use Rattle.std.specs.List.{AllPairs}
 use Rattle.fx_outputs.specs.declared.replication.TheConstants.{MOST_ROWS}
 use Rattle.fx_text.specs.Names.{IsName, place_of}
 use Rattle.fx_outputs.specs.declared.output.OutputSpec.{OutputSpec}
 use Rattle.fx_outputs.specs.declared.recode.Recode.{Recode}
 use Rattle.fx_outputs.specs.declared.replication.Rep.{Rep}
-use Rattle.fx_outputs.specs.declared.replication.Rep.TheVariants.{Times, Plan}
+use Rattle.fx_outputs.specs.declared.replication.Rep.TheVariants.{Times}
 use Rattle.fx_outputs.specs.DerivedFactors.{AreDerived, AreFree}
 use Rattle.fx_outputs.specs.Contexts.{Context}
-use Rattle.fx_outputs.specs.BlockColumns.{has_blocks}
+use Rattle.fx_outputs.specs.BlockColumns.{column_name, has_blocks}
 use Rattle.fx_outputs.specs.declared.context.BlockCount.TheVariants as blocks
 
 -- a factor of the step, with a value for each level
@@ -23,10 +23,9 @@ pub record AreRecodes (context : Context) (recodes : List Recode) : Type 0 where
   pub each : All (IsRecode context) recodes
   pub once : AllPairs (λ (a b : Recode). a.place ≢ b.place) recodes
 
--- at least once; no plan is named yet
+-- at least once, where no plan is named
 pub record IsRep (rep : Rep) : Type 0 where
   pub some : (n : ℕ) → rep ≡ Times n → 1 ≤ n
-  pub no_plan : (number : ℕ) → rep ≢ Plan number
 
 -- an output that keeps the limits of its step; values of the block column are as many as there are blocks
 pub record IsWithinLimits (context : Context) (output : OutputSpec) : Type 0 where
@@ -39,11 +38,6 @@ pub record IsWithinLimits (context : Context) (output : OutputSpec) : Type 0 whe
   pub derived : AreDerived context.q (length context.factors) output.derived
   pub free : AreFree output.derived output.recodes
   pub block_values : output.block_values ≢ [] → context.blocks ≡ blocks.Fixed (length output.block_values)
-
--- the name of the column of blocks, BLOCK where the text has none
-abbrev pub column_name : List ℕ → List ℕ
-column_name [] = codes "BLOCK"
-column_name (b ∷ name) = b ∷ name
 
 -- an output whose names have 1 to 32 bytes; with blocks no factor has the name of their column, and without blocks
 -- there is none

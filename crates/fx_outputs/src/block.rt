@@ -1,14 +1,14 @@
 // `blockname` is `BLOCKNAME = name NVALS = ( ..`: the word itself has index 0, the name 2, NVALS or
 // CVALS 3, and what follows it begins at 4.
 
-ghost use Rattle.std.specs.Prelude.{◌≡◌, drop, slice_get, IfOk, IfErr, Some};
+ghost use Rattle.std.specs.Prelude.{◌≡◌, ◌∷◌, ◌++◌, [], if◌then◌else◌, drop, slice_get, IfOk, IfErr, OnOk, Some};
 ghost use Rattle.fx_text.specs.Refusals.{IsRefused};
-ghost use Rattle.fx_outputs.specs.BlockColumns.{begins_values, block_values, check_blockname, check_column, check_free, has_blocks, name_or_empty, values_wanted};
+ghost use Rattle.fx_outputs.specs.BlockColumns.{block_values, check_blockname, check_column, check_free, column_name, has_blocks, name_or_empty, values_wanted};
 
 use crate::context::{BlockCount, OutputContext};
-use crate::value::counted_values;
+use crate::value::values_behind;
 use fx_base::{Bytes, NoMemory};
-use fx_language::{Symbol, code};
+use fx_language::code;
 use fx_text::{Lexeme, Names, ParseStop, Phrase, Refusal, place_of};
 use std::alloc::Global;
 
@@ -65,6 +65,32 @@ pub fn block_name(alloc: Global, blockname: &Phrase<'_>) -> Result<Bytes, NoMemo
     }
 }
 
+/// Adds the name of the block column, if there are blocks. The text's name for it may be empty.
+pub fn push_column(
+    alloc: Global,
+    blocks: BlockCount,
+    name: &[u8],
+    names: &mut Names,
+) -> Result<(), NoMemory>
+    ensures { OnOk result (names.new ≡ names.old ++ (if has_blocks blocks
+        then column_name name.now ∷ [] else [])) }
+{
+    if !has_blocks(blocks) {
+        return Ok(());
+    }
+    names.push(column_name(alloc, name)?)
+}
+
+/// The name of the block column, where the text's name for it may be empty.
+fn column_name(alloc: Global, name: &[u8]) -> Result<Bytes, NoMemory>
+    ensures { IfOk result (λ column. column ≡ column_name name.now) }
+{
+    if name.is_empty() {
+        return Bytes::from_slice(alloc, b"BLOCK");
+    }
+    Bytes::from_slice(alloc, name)
+}
+
 /// The values of the block column, if BLOCKNAME has any.
 ///
 /// # Errors
@@ -83,31 +109,8 @@ pub fn block_values(
 {
     match blockname.at(3) {
         None => Ok(Names::new(alloc)),
-        Some(word) => values_if_begun(alloc, blocks, word, &blockname.from(4)),
+        Some(word) => values_behind(alloc, values_wanted(blocks), word, &blockname.from(4)),
     }
-}
-
-/// The values after `word`, which may begin them.
-fn values_if_begun(
-    alloc: Global,
-    blocks: BlockCount,
-    word: &Lexeme<'_>,
-    rest: &Phrase<'_>,
-) -> Result<Names, ParseStop>
-    ensures ok { IfOk result (λ values. block_values blocks (Some word.now) rest.now ≡ Ok values) }
-    ensures refused { IfErr result (IsRefused (block_values blocks (Some word.now) rest.now)) }
-{
-    if begins_values(word, rest) {
-        return counted_values(alloc, values_wanted(blocks), word, rest);
-    }
-    Ok(Names::new(alloc))
-}
-
-/// Whether the word is NVALS or CVALS with `=` after it.
-fn begins_values(word: &Lexeme<'_>, rest: &Phrase<'_>) -> bool
-    ensures { result ≡ begins_values word.now rest.now }
-{
-    (word.is(Symbol::Nvals) || word.is(Symbol::Cvals)) && rest.begins(Symbol::Equals)
 }
 
 /// Tests that no factor has this name.

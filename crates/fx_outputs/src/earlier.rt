@@ -1,74 +1,135 @@
-ghost use Rattle.std.specs.Prelude.{◌≡◌, ◌++◌, ◌∷◌, [], not, is_some, map, IfOk, OnErr, if◌then◌else◌};
+ghost use Rattle.std.specs.Prelude.{◌≡◌, ◌++◌, ◌∷◌, [], map, slice_index_or, IfOk, None, OnErr, OnOk};
 ghost use Rattle.std.specs.Char.{to_ascii_lowercase};
 ghost use Rattle.fx_text.specs.Names.{place_of};
+ghost use Rattle.fx_outputs.specs.Earlier.{plan_names, rep_rows};
 
+use crate::replication::Rep;
 use fx_base::{Bytes, NoMemory};
+use fx_text::Names;
 use std::alloc::Global;
-use std::collections::BTreeSet;
+use std::collections::BTreeMap;
 use std::marker::Model;
 
-/// The OUT names of a program so far, in order. Clauses see the list. Whether a name is among them is
-/// found in a number of steps that grows with the logarithm of their number.
-pub struct EarlierNames {
-    names: Vec<Bytes>,
-    /// The same names in lowercase.
-    folded: BTreeSet<Vec<u8>>,
+/// What later OUTPUT statements need of an accepted one.
+pub struct EarlierPlan {
+    /// Its OUT name.
+    pub name: Bytes,
+    /// How many rows its file has at most.
+    pub rows: u32,
+    /// The names of the columns of its file, but for those of the plans that it names.
+    pub own: Names,
+    /// How often each run is repeated in a row.
+    pub pointrep: Rep,
+    /// How often the whole design is repeated.
+    pub designrep: Rep,
 }
 
 // Not derived, so that a place that drops one is proved with one call.
-impl Drop for EarlierNames {
+impl Drop for EarlierPlan {
     fn drop(self) {
-        let EarlierNames {
-            names: _,
-            folded: _,
+        let EarlierPlan {
+            name: _,
+            rows: _,
+            own: _,
+            pointrep: _,
+            designrep: _,
         } = self;
     }
 }
 
-impl Model for EarlierNames {
-    ghost use Rattle.std.specs.Prelude.{List, ℕ};
-    ghost use Rattle.fx_outputs.specs.Earlier.{AreLowercase};
-
-    ghost Value = { List (List ℕ) };
-
-    ghost view = { λ n. n.names.items };
-
-    ghost invariant = { λ n. AreLowercase n.names.items n.folded.keys };
+/// The plans of the OUTPUT statements of a program so far, in order. Clauses see the list. A name is
+/// found in a number of steps that grows with the logarithm of how many there are.
+pub struct EarlierPlans {
+    plans: Vec<EarlierPlan>,
+    /// The number of each plan by its name in lowercase.
+    numbers: BTreeMap<Vec<u8>, u32>,
 }
 
-impl EarlierNames {
-    /// No names.
-    pub fn new(alloc: Global) -> EarlierNames
+// Not derived, so that a place that drops one is proved with one call.
+impl Drop for EarlierPlans {
+    fn drop(self) {
+        let EarlierPlans {
+            plans: _,
+            numbers: _,
+        } = self;
+    }
+}
+
+impl Model for EarlierPlans {
+    ghost use Rattle.std.specs.Prelude.{List};
+    ghost use Rattle.fx_outputs.specs.declared.earlier.EarlierPlan.{EarlierPlan};
+    ghost use Rattle.fx_outputs.specs.Earlier.{AreNumbered, plan_names};
+
+    ghost Value = { List EarlierPlan };
+
+    ghost view = { λ n. n.plans.items };
+
+    ghost invariant = { λ n. AreNumbered (plan_names n.plans.items) n.numbers.entries };
+}
+
+impl EarlierPlans {
+    /// No plans.
+    pub fn new(alloc: Global) -> EarlierPlans
         ensures { result ≡ [] }
     {
-        EarlierNames {
-            names: Vec::new(alloc),
-            folded: BTreeSet::new(alloc),
+        EarlierPlans {
+            plans: Vec::new(alloc),
+            numbers: BTreeMap::new(alloc),
         }
     }
 
-    /// Adds a name, unless it is among them without regard to case. Returns whether it was added.
-    pub fn add(&mut self, alloc: Global, name: &[u8]) -> Result<bool, NoMemory>
-        ensures is_new { IfOk result (λ added. added ≡ not (is_some (place_of name.now self.old))) }
-        ensures added { IfOk result (λ added.
-            self.new ≡ (if added then self.old ++ name.now ∷ [] else self.old)) }
-        ensures unchanged { OnErr result (self.new ≡ self.old) }
+    /// The plans, in order.
+    pub(crate) fn as_slice(&self) -> &[EarlierPlan]
+        ensures { result.now ≡ self.now }
+    {
+        self.plans.as_slice()
+    }
+
+    /// The number of the plan with this name, counted from 0, without regard to case.
+    pub(crate) fn find(&self, alloc: Global, name: &[u8]) -> Result<Option<u32>, NoMemory>
+        ensures { IfOk result (λ number. number ≡ place_of name.now (plan_names self.now)) }
     {
         let key = folded(alloc, name)?;
-        if self.folded.contains(key.as_slice()) {
-            return Ok(false);
+        match self.numbers.get(key.as_slice()) {
+            Some(number) => Ok(Some(*number)),
+            None => Ok(None),
         }
-        let name = Bytes::from_slice(alloc, name)?;
-        match self.names.push(name) {
+    }
+
+    /// Adds a plan with a new name.
+    pub(crate) fn push(&mut self, alloc: Global, plan: EarlierPlan) -> Result<(), NoMemory>
+        requires { place_of plan.name (plan_names self.old) ≡ None }
+        ensures pushed { OnOk result (self.new ≡ self.old ++ plan ∷ []) }
+        ensures unchanged { OnErr result (self.new ≡ self.old) }
+    {
+        let key = folded(alloc, plan.name.as_slice())?;
+        let number = match u32::try_from(self.plans.len()) {
+            Ok(number) => number,
+            Err(_) => return Err(NoMemory),
+        };
+        match self.plans.push(plan) {
             Ok(()) => {}
             Err(_) => return Err(NoMemory),
         }
-        match self.folded.insert(key) {
-            Ok(_) => return Ok(true),
+        match self.numbers.insert(key, number) {
+            Ok(_) => return Ok(()),
             Err(_) => {}
         }
-        self.names.pop();
+        self.plans.pop();
         Err(NoMemory)
+    }
+
+    /// How many rows of a replication each run, or the whole design, comes with.
+    pub(crate) fn rep_rows(&self, rep: Rep) -> u32
+        ensures { result ≡ rep_rows self.now rep }
+    {
+        match rep {
+            Rep::Times(n) => n,
+            Rep::Plan(number) => match self.plans.get(number as usize) {
+                Some(plan) => plan.rows,
+                None => 0,
+            },
+        }
     }
 }
 

@@ -2,12 +2,15 @@
 #![tactic(auto)]
 
 mod block;
+mod columns;
 mod context;
 mod derived;
 mod earlier;
 mod laws;
 mod option;
 mod output;
+mod own_columns;
+mod plan_columns;
 mod recode;
 mod replication;
 mod shuffle;
@@ -15,8 +18,11 @@ mod value;
 
 pub use context::{BlockCount, OutputContext};
 pub use derived::{Derived, Deriveds};
-pub use earlier::EarlierNames;
-pub use laws::{names_are_read_by_the_grammar, out_names_differ, outputs_have_names};
+pub use earlier::{EarlierPlan, EarlierPlans};
+pub use laws::{
+    named_plans_are_earlier, names_are_read_by_the_grammar, out_names_differ, outputs_have_names,
+    plans_keep_the_limit,
+};
 pub use output::{OutputSpec, Outputs, outputs};
 pub use recode::{Recode, Recodes};
 pub use replication::Rep;

@@ -1,19 +1,24 @@
-ghost use Rattle.std.specs.Prelude.{◌≡◌, ◌++◌, ◌∷◌, [], ◌&&◌, nat_lt, length, IfOk, IfErr, OnOk, All};
+ghost use Rattle.std.specs.Prelude.{◌≡◌, ◌*◌, ◌≤◌, ◌&&◌, nat_lt, length, IfOk, IfErr, OnOk, All};
 ghost use Rattle.fx_language.specs.declared.symbol.Symbol.TheVariants.{Output};
 ghost use Rattle.fx_text.specs.Written.{begins};
 ghost use Rattle.fx_text.specs.Refusals.{IsRefused};
-ghost use Rattle.fx_outputs.specs.Outputs.{check_new_name, names_of, output_spec, outputs_of};
+ghost use Rattle.fx_outputs.specs.Earlier.{plan_names, rep_rows};
+ghost use Rattle.fx_outputs.specs.Histories.{built};
+ghost use Rattle.fx_outputs.specs.Outputs.{check_new_name, output_spec, outputs_of, plan_behind};
 ghost use Rattle.fx_outputs.specs.Validity.{IsWithinLimits};
 
 use crate::block::{block_name, block_values, check_blockname, check_column};
+use crate::columns::read_columns;
 use crate::context::OutputContext;
 use crate::derived::Deriveds;
-use crate::earlier::EarlierNames;
+use crate::earlier::{EarlierPlan, EarlierPlans};
 use crate::option::from_option;
-use crate::recode::{Recodes, recodes};
-use crate::replication::{Rep, check_rows, replication};
+use crate::own_columns::own_columns;
+use crate::plan_columns::check_columns;
+use crate::recode::Recodes;
+use crate::replication::{Rep, check_rows, reps, row_count};
 use crate::shuffle::{Shuffle, shuffle_asked};
-use fx_base::{Bytes, Items};
+use fx_base::{Bytes, Items, NoMemory};
 use fx_language::{Symbol, code};
 use fx_text::{Lexeme, Names, ParseStop, Phrase, Statement};
 use std::alloc::Global;
@@ -57,23 +62,25 @@ impl Drop for OutputSpec {
 /// The files that a step writes, in order.
 pub type Outputs = Items<OutputSpec>;
 
-/// The OUTPUT statements among the statements of a step, in order. `earlier` are the OUT names that
-/// precede it in the program; those of this step are added. After an error some of them may be.
+/// The OUTPUT statements among the statements of a step, in order. `earlier` are the plans that precede
+/// it in the program; those of this step are added. After an error some of them may be.
 ///
 /// # Errors
 ///
-/// The first refusal, statement by statement, each by E18, E20 for POINTREP and DESIGNREP, E21,
-/// E19, E31, E5, E17 for BLOCKNAME, and its recoded factors from left to right, each by E4, E28,
-/// E17; `NoMemory`.
+/// The first refusal, statement by statement, each by E18, E20 for POINTREP and DESIGNREP, E33 for
+/// both, E21, E19, E31, E5, E17 for BLOCKNAME; its recoded factors and brackets from left to right, a
+/// recoded factor by E4, E28, E17, brackets by E35, E4 and E28 for each name, and E17; and E34 for the
+/// names of derived factors, for POINTREP's plan, and for DESIGNREP's. And `NoMemory`.
 pub fn outputs(
     alloc: Global,
     context: &OutputContext<'_>,
-    earlier: &mut EarlierNames,
+    earlier: &mut EarlierPlans,
     statements: &[Statement<'_>],
 ) -> Result<Outputs, ParseStop>
     ensures ok { IfOk result (λ outputs.
         outputs_of context.now earlier.old statements.now ≡ Ok outputs) }
-    ensures names { IfOk result (λ outputs. earlier.new ≡ earlier.old ++ names_of outputs) }
+    ensures plans { IfOk result (λ outputs.
+        earlier.new ≡ built (plan_behind context.now) earlier.old outputs) }
     ensures within_limits { IfOk result (All (IsWithinLimits context.now)) }
     ensures refused { IfErr result (IsRefused (outputs_of context.now earlier.old statements.now)) }
 {
@@ -84,6 +91,8 @@ pub fn outputs(
             let word = &lexemes[0];
             let name = &lexemes[3];
             let output = output(alloc, context, earlier, word, name, &statement.from(3))?;
+            let plan = plan_behind(alloc, context, earlier, &output)?;
+            earlier.push(alloc, plan)?;
             outputs.push(output)?;
         }
     }
@@ -97,56 +106,91 @@ fn is_output(statement: &Statement<'_>) -> bool
     statement.begins(Symbol::Output) && statement.lexemes().len() > 3
 }
 
-/// An OUTPUT statement: `word` is the word OUTPUT, `name` the OUT name, and `phrase` what stands
-/// after `OUT =`. The name is added to the earlier ones.
+/// An OUTPUT statement after these plans: `word` is the word OUTPUT, `name` the OUT name, and `phrase`
+/// what stands after `OUT =`.
 fn output(
     alloc: Global,
     context: &OutputContext<'_>,
-    earlier: &mut EarlierNames,
+    earlier: &EarlierPlans,
     word: &Lexeme<'_>,
     name: &Lexeme<'_>,
     phrase: &Phrase<'_>,
 ) -> Result<OutputSpec, ParseStop>
     ensures ok { IfOk result (λ output.
-        output_spec context.now earlier.old word.now name.now phrase.now ≡ Ok output) }
-    ensures name { IfOk result (λ output. earlier.new ≡ earlier.old ++ output.name ∷ []) }
+        output_spec context.now earlier.now word.now name.now phrase.now ≡ Ok output) }
     ensures refused { IfErr result
-        (IsRefused (output_spec context.now earlier.old word.now name.now phrase.now)) }
+        (IsRefused (output_spec context.now earlier.now word.now name.now phrase.now)) }
 {
     let blockname = from_option(Symbol::Blockname, phrase);
-    add_name(alloc, earlier, name)?;
-    let pointrep = replication(Symbol::Pointrep, phrase)?;
-    let designrep = replication(Symbol::Designrep, phrase)?;
-    check_rows(context.runs, pointrep, designrep, name)?;
+    check_new_name(alloc, earlier, name)?;
+    let reps = reps(alloc, earlier, phrase)?;
+    let each = earlier.rep_rows(reps.0);
+    let all = earlier.rep_rows(reps.1);
+    check_rows(context.runs, each, all, name)?;
     let shuffle = shuffle_asked(phrase)?;
     check_blockname(context.blocks, &blockname)?;
     check_column(context, word, &blockname)?;
     let block_values = block_values(alloc, context.blocks, &blockname)?;
-    let recodes = recodes(alloc, context, phrase)?;
+    let columns = read_columns(alloc, context, phrase)?;
+    let block_name = block_name(alloc, &blockname)?;
+    let derived = columns.derived.as_slice();
+    check_columns(
+        alloc,
+        context,
+        earlier,
+        reps,
+        block_name.as_slice(),
+        derived,
+        phrase,
+    )?;
+    let (recodes, derived) = columns.into_parts();
     Ok(OutputSpec {
         name: Bytes::from_slice(alloc, name.text())?,
-        pointrep: Rep::Times(pointrep),
-        designrep: Rep::Times(designrep),
+        pointrep: reps.0,
+        designrep: reps.1,
         shuffle,
         recodes,
-        derived: Deriveds::new(alloc),
-        block_name: block_name(alloc, &blockname)?,
+        derived,
+        block_name,
         block_values,
     })
 }
 
-/// Adds the OUT name to the earlier ones.
+/// Tests that no earlier plan has the OUT name.
 ///
 /// # Errors
 ///
-/// E18 at the name: it is one of them. And `NoMemory`.
-fn add_name(alloc: Global, earlier: &mut EarlierNames, name: &Lexeme<'_>) -> Result<(), ParseStop>
-    ensures ok { OnOk result (check_new_name earlier.old name.now ≡ Ok tt) }
-    ensures name { OnOk result (earlier.new ≡ earlier.old ++ name.now.text ∷ []) }
-    ensures refused { IfErr result (IsRefused (check_new_name earlier.old name.now)) }
+/// E18 at the name: one of them has it. And `NoMemory`.
+fn check_new_name(alloc: Global, earlier: &EarlierPlans, name: &Lexeme<'_>) -> Result<(), ParseStop>
+    ensures ok { OnOk result (check_new_name (plan_names earlier.now) name.now ≡ Ok tt) }
+    ensures refused { IfErr result (IsRefused (check_new_name (plan_names earlier.now) name.now)) }
 {
-    if earlier.add(alloc, name.text())? {
+    if earlier.find(alloc, name.text())?.is_none() {
         return Ok(());
     }
     Err(ParseStop::Refused(name.refused(code::REPEATED_OUT_NAME)))
+}
+
+/// What later statements need of an output after these plans.
+fn plan_behind(
+    alloc: Global,
+    context: &OutputContext<'_>,
+    earlier: &EarlierPlans,
+    output: &OutputSpec,
+) -> Result<EarlierPlan, NoMemory>
+    requires { context.now.runs * rep_rows earlier.now output.now.pointrep
+        * rep_rows earlier.now output.now.designrep ≤ 200000 }
+    ensures { IfOk result (λ plan. plan ≡ plan_behind context.now earlier.now output.now) }
+{
+    let each = earlier.rep_rows(output.pointrep);
+    let all = earlier.rep_rows(output.designrep);
+    let rows = row_count(context.runs, each, all) as u32;
+    let derived = output.derived.as_slice();
+    Ok(EarlierPlan {
+        name: Bytes::from_slice(alloc, output.name.as_slice())?,
+        rows,
+        own: own_columns(alloc, context, output.block_name.as_slice(), derived)?,
+        pointrep: output.pointrep,
+        designrep: output.designrep,
+    })
 }

@@ -1,8 +1,9 @@
 ghost use Rattle.std.specs.Prelude.{◌≡◌, IfOk, IfErr};
 ghost use Rattle.fx_text.specs.Refusals.{IsRefused};
 ghost use Rattle.fx_text.specs.Names.{place_of};
-ghost use Rattle.fx_outputs.specs.Recodes.{factor_at, has_values, is_recoded, recode_of, recodes_of, unused_place};
+ghost use Rattle.fx_outputs.specs.Columns.{factor_at, is_recoded, recode_of, unused_place};
 
+use crate::columns::Columns;
 use crate::context::OutputContext;
 use crate::value::counted_values;
 use fx_base::Items;
@@ -31,37 +32,8 @@ impl Drop for Recode {
 /// The recoded factors of a statement, in its order.
 pub type Recodes = Items<Recode>;
 
-/// The recoded factors of what follows `OUT =`, the OUT name first.
-///
-/// # Errors
-///
-/// For the first that is refused: E4 at a name that is no factor's, E28 at a factor that has values
-/// already, E17 at NVALS or CVALS for another number of values than levels; `NoMemory`.
-pub fn recodes(
-    alloc: Global,
-    context: &OutputContext<'_>,
-    phrase: &Phrase<'_>,
-) -> Result<Recodes, ParseStop>
-    ensures ok { IfOk result (λ recodes. recodes_of context.now phrase.now ≡ Ok recodes) }
-    ensures refused { IfErr result (IsRefused (recodes_of context.now phrase.now)) }
-{
-    let lexemes = phrase.lexemes();
-    let mut recodes = Recodes::new(alloc);
-    for i in 2..lexemes.len() {
-        let before = &lexemes[i - 2];
-        let name = &lexemes[i - 1];
-        let word = &lexemes[i];
-        if is_recoded(before, name, word) {
-            let rest = phrase.from(i + 1);
-            let recode = recode_at(alloc, context, recodes.as_slice(), name, word, &rest)?;
-            recodes.push(recode)?;
-        }
-    }
-    Ok(recodes)
-}
-
 /// Whether `name` is a recoded factor's.
-fn is_recoded(before: &Lexeme<'_>, name: &Lexeme<'_>, word: &Lexeme<'_>) -> bool
+pub(crate) fn is_recoded(before: &Lexeme<'_>, name: &Lexeme<'_>, word: &Lexeme<'_>) -> bool
     ensures { result ≡ is_recoded before.now name.now word.now }
 {
     name.symbol().is_word()
@@ -70,22 +42,27 @@ fn is_recoded(before: &Lexeme<'_>, name: &Lexeme<'_>, word: &Lexeme<'_>) -> bool
         && !word.is(Symbol::Equals)
 }
 
-/// A factor and its values, which follow `word`.
-fn recode_at(
+/// A factor and its values, which follow `word`, after the columns that are earlier.
+///
+/// # Errors
+///
+/// E4 at a name that is no factor's, E28 at a factor that has values already or stands in brackets,
+/// E17 at `word` for another number of values than levels; `NoMemory`.
+pub(crate) fn recoded(
     alloc: Global,
     context: &OutputContext<'_>,
-    earlier: &[Recode],
+    done: &Columns,
     name: &Lexeme<'_>,
     word: &Lexeme<'_>,
     rest: &Phrase<'_>,
 ) -> Result<Recode, ParseStop>
     ensures ok { IfOk result (λ recode.
-        recode_of context.now earlier.now name.now word.now rest.now ≡ Ok recode) }
+        recode_of context.now done.now name.now word.now rest.now ≡ Ok recode) }
     ensures refused { IfErr result
-        (IsRefused (recode_of context.now earlier.now name.now word.now rest.now)) }
+        (IsRefused (recode_of context.now done.now name.now word.now rest.now)) }
 {
     let factor = factor_at(context, name)?;
-    let place = unused_place(earlier, name, factor)?;
+    let place = unused_place(done.uses(factor), name, factor)?;
     let values = counted_values(alloc, Some(u32::from(context.q)), word, rest)?;
     Ok(Recode { place, values })
 }
@@ -95,7 +72,7 @@ fn recode_at(
 /// # Errors
 ///
 /// E4 at the name: no factor has it.
-fn factor_at(context: &OutputContext<'_>, name: &Lexeme<'_>) -> Result<u8, Refusal>
+pub(crate) fn factor_at(context: &OutputContext<'_>, name: &Lexeme<'_>) -> Result<u8, Refusal>
     ensures { result ≡ factor_at name.now (place_of name.now.text context.now.factors) }
 {
     match place_of(name.text(), context.factors) {
@@ -104,23 +81,16 @@ fn factor_at(context: &OutputContext<'_>, name: &Lexeme<'_>) -> Result<u8, Refus
     }
 }
 
-/// The place of a factor that has no values yet.
+/// The place of a factor that is not used yet.
 ///
 /// # Errors
 ///
-/// E28 at the name: it has values already.
-fn unused_place(earlier: &[Recode], name: &Lexeme<'_>, place: u8) -> Result<u8, Refusal>
-    ensures { result ≡ unused_place earlier.now name.now place }
+/// E28 at the name: it has values already, or stands in brackets.
+pub(crate) fn unused_place(used: bool, name: &Lexeme<'_>, place: u8) -> Result<u8, Refusal>
+    ensures { result ≡ unused_place used name.now place }
 {
-    if has_values(earlier, place) {
+    if used {
         return Err(name.refused(code::REPEATED_OPTION));
     }
     Ok(place)
-}
-
-/// Whether the factor at this place has values already.
-fn has_values(earlier: &[Recode], place: u8) -> bool
-    ensures { result ≡ has_values earlier.now place }
-{
-    earlier.iter().any(|recode| recode.place == place)
 }

@@ -1,8 +1,8 @@
 // `rest` is what follows NVALS or CVALS, `= ( value ..`: the first value has index 2.
 
-ghost use Rattle.std.specs.Prelude.{◌≡◌, ◌∷◌, IfOk, IfErr};
+ghost use Rattle.std.specs.Prelude.{◌≡◌, ◌∷◌, IfOk, IfErr, Some};
 ghost use Rattle.fx_text.specs.Refusals.{IsRefused};
-ghost use Rattle.fx_outputs.specs.Values.{checked_values, inside, value_of, values_of};
+ghost use Rattle.fx_outputs.specs.Values.{begins_values, checked_values, inside, value_of, values_if_begun, values_of};
 
 use fx_base::{Bytes, NoMemory};
 use fx_language::{Symbol, code};
@@ -34,6 +34,33 @@ pub fn counted_values(
             }
         }
     }
+}
+
+/// The values of a column, if `word`, which follows the column's name, begins them.
+///
+/// # Errors
+///
+/// E17 at `word`, as of `counted_values`, and `NoMemory`.
+pub fn values_behind(
+    alloc: Global,
+    wanted: Option<u32>,
+    word: &Lexeme<'_>,
+    rest: &Phrase<'_>,
+) -> Result<Names, ParseStop>
+    ensures ok { IfOk result (λ values. values_if_begun wanted (Some word.now) rest.now ≡ Ok values) }
+    ensures refused { IfErr result (IsRefused (values_if_begun wanted (Some word.now) rest.now)) }
+{
+    if begins_values(word, rest) {
+        return counted_values(alloc, wanted, word, rest);
+    }
+    Ok(Names::new(alloc))
+}
+
+/// Whether the word is NVALS or CVALS with `=` after it.
+fn begins_values(word: &Lexeme<'_>, rest: &Phrase<'_>) -> bool
+    ensures { result ≡ begins_values word.now rest.now }
+{
+    (word.is(Symbol::Nvals) || word.is(Symbol::Cvals)) && rest.begins(Symbol::Equals)
 }
 
 /// The values after NVALS or CVALS.

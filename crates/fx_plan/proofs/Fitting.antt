@@ -13,7 +13,7 @@ use Rattle.fx_outputs.specs.declared.recode.Recode.{Recode}
 use Rattle.fx_runs.proofs.Defaults.{length-default}
 use Rattle.fx_runs.specs.Runs.{RunsView}
 use Rattle.fx_runs.specs.RunBlocks.{block_of}
-use Rattle.fx_outputs.specs.Validity.{column_name}
+use Rattle.fx_outputs.specs.BlockColumns.{column_name}
 use Rattle.fx_outputs.specs.DerivedFactors.{AreDerived, free_places, is_bracketed}
 use Rattle.fx_plan.specs.Tables.{block_field}
 use Rattle.fx_derived.specs.Codes.{ArePlaces, derived_level}

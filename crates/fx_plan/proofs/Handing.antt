@@ -9,7 +9,7 @@ use Rattle.fx_outputs.specs.declared.context.BlockCount.TheVariants as count
 use Rattle.fx_outputs.specs.declared.output.OutputSpec.{OutputSpec}
 use Rattle.fx_outputs.specs.declared.replication.Rep.{Rep}
 use Rattle.fx_outputs.specs.declared.replication.Rep.TheVariants.{Times, Plan}
-use Rattle.fx_outputs.specs.Validity.{IsRep, IsWithinLimits}
+use Rattle.fx_outputs.specs.Validity.{IsWithinLimits}
 use Rattle.fx_runs.specs.Runs.{design_of}
 use Rattle.fx_vectors.specs.Matrix.{MatrixView}
 use Rattle.fx_statements.specs.declared.step.Step.{Step}
@@ -35,20 +35,6 @@ values_for_blocks q t (Factors u) values none own e =
     let many : q ^ u ≡ length values = cc e in sym many ∙ ap (λ (x : ℕ). q ^ x) (sym (own u refl))
 values_for_blocks q t (PerBlock k) values none own e = absurd (cc e)
 values_for_blocks q t Most values none own e = absurd (cc e)
-
-number_alone : (rep : Rep) → IsRep rep → IsHanded rep None
-number_alone (Times n) h = tt
-number_alone (Plan number) h = absurd (h.no_plan number refl)
-
--- no plan is named yet
-pub numbers_alone : (step : Step) (output : OutputSpec) → Contains step.outputs output
-    → IsHanded output.pointrep None × IsHanded output.designrep None
-numbers_alone step output asked =
-    let known = All-contains
-    (IsWithinLimits (context step.factors
-    (settings_in step.q step.budget step.size step.wanted step.least step.blocks)))
-    step.outputs output step.outputs_within_limits asked in
-    (number_alone output.pointrep known.pointrep, number_alone output.designrep known.designrep)
 
 -- an output of a step can be planned for each of its designs
 pub can_be_planned : (step : Step) (matrix : MatrixView) (output : OutputSpec) → IsDesignOf step matrix

@@ -11,7 +11,7 @@ use Rattle.fx_outputs.specs.declared.replication.Rep.{Rep}
 use Rattle.fx_outputs.specs.declared.replication.Rep.TheVariants.{Times, Plan}
 use Rattle.fx_outputs.specs.declared.shuffle.Shuffle.TheVariants.{Kept}
 use Rattle.fx_outputs.specs.DerivedFactors.{AreDerived}
-use Rattle.fx_outputs.specs.Validity.{column_name}
+use Rattle.fx_outputs.specs.BlockColumns.{column_name}
 use Rattle.fx_plan.specs.Plans.{Arrangement, arranged, arrangement}
 use Rattle.fx_plan.specs.Columns.{codes_of, column_names, column_places, column_values}
 use Rattle.fx_plan.specs.Tables.{block_field, level_fields, text_of_table}

@@ -3,7 +3,7 @@ ghost use Rattle.std.specs.Prelude.{if◌then◌else◌, length, map, slice_inde
 ghost use Rattle.fx_runs.specs.RunBlocks.{block_of, run_at};
 ghost use Rattle.fx_derived.specs.Codes.{ArePlaces, derived_level};
 ghost use Rattle.fx_outputs.specs.DerivedFactors.{free_places};
-ghost use Rattle.fx_outputs.specs.Validity.{column_name};
+ghost use Rattle.fx_outputs.specs.BlockColumns.{column_name};
 ghost use Rattle.fx_plan.specs.Columns.{column_names, column_places};
 ghost use Rattle.fx_plan.specs.Products.{AreValues, own_fields, runs_table};
 ghost use Rattle.fx_plan.specs.Tables.{block_field};

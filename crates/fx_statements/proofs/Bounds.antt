@@ -27,7 +27,6 @@ use Rattle.fx_language.specs.declared.symbol.Symbol.TheVariants as word
 use Rattle.fx_statements.specs.declared.wanted.Wanted.{Wanted}
 use Rattle.fx_statements.specs.Goals.{criterion_wanted}
 use Rattle.fx_statements.specs.Valid.{is_count, settings_in, most_factors_of}
-use Rattle.fx_statements.specs.Steps.{factor_limit}
 use Rattle.fx_vectors.specs.declared.shape.TheConstants.{MOST_FACTORS, MOST_FACTORS_IN_BLOCKS}
 use Rattle.fx_vectors.specs.declared.shape.TheConstants.{MOST_FACTORS_OF_MANY_LEVELS}
 

@@ -30,13 +30,14 @@ use Rattle.fx_settings.specs.declared.settings.StepSettings.{StepSettings}
 use Rattle.fx_designs.specs.Vectors.{zeros}
 use Rattle.fx_text.specs.Names.{place_of}
 use Rattle.fx_statements.specs.Folds.{folded_at, names_folded, item_folded, items_folded, codes_by, fold_in, fold_of}
-use Rattle.fx_outputs.specs.Outputs.{names_of, outputs_of}
+use Rattle.fx_outputs.specs.declared.earlier.EarlierPlan.{EarlierPlan}
+use Rattle.fx_outputs.specs.Outputs.{outputs_of}
 use Rattle.fx_statements.specs.Contexts.{context}
 use Rattle.fx_statements.specs.Goals.{Goal, effects_goal, effects_wanted, goal_by}
 use Rattle.fx_statements.specs.Components.{listed_factors, is_for_components, first_components, components_asked}
 use Rattle.fx_statements.specs.Components.{place_or, components_place, check_components}
 use Rattle.fx_statements.specs.Steps.{Meaning, factor_limit, some_factors, factors_by, head_of, asked_by, step_by}
-use Rattle.fx_statements.specs.Steps.{step_of}
+use Rattle.fx_statements.specs.Steps.{plans_after, step_of}
 use Rattle.fx_statements.specs.Programs.{steps_behind, place_in, accepted, program_of}
 use Rattle.fx_text.proofs.Placed as placed
 use Rattle.fx_text.proofs.Placed.{IsPlaced, ArePlaced, AreAllPlaced, Placed}
@@ -154,7 +155,7 @@ module _ (P : ℕ → ℕ → Type 0) (front : P 1 1) where
   some proc [] h = placed.here P 7 proc refl h
   some proc (name ∷ names) h = tt
 
-  step : (earlier : List (List ℕ)) (statements : List (List Written)) → AreAllPlaced P statements
+  step : (earlier : List EarlierPlan) (statements : List (List Written)) → AreAllPlaced P statements
       → Placed P (step_of earlier statements)
   step earlier statements h =
       of_factors (statement_of symbol.Factors statements) (placed.statement P symbol.Factors statements h)
@@ -180,13 +181,13 @@ module _ (P : ℕ → ℕ → Type 0) (front : P 1 1) where
           placed.chain P (outputs_of (context names x.0) earlier statements) _
           (outputs.outputs P (context names x.0) earlier statements h) (λ o. tt))))
 
-  steps : (earlier : List (List ℕ)) (done : List Meaning) (all : List (List (List Written)))
+  steps : (earlier : List EarlierPlan) (done : List Meaning) (all : List (List (List Written)))
       → AllByRecursion (AreAllPlaced P) all → Placed P (steps_behind earlier done all)
   steps earlier done [] h = tt
   steps earlier done (s ∷ rest) h =
       placed.chain P (step_of earlier s)
-      (λ (meaning : Meaning). steps_behind (earlier ++ names_of meaning.outputs) (done ++ meaning ∷ []) rest)
-      (step earlier s h.0) (λ meaning. steps (earlier ++ names_of meaning.outputs) (done ++ meaning ∷ []) rest h.1)
+      (λ (meaning : Meaning). steps_behind (plans_after earlier meaning) (done ++ meaning ∷ []) rest)
+      (step earlier s h.0) (λ meaning. steps (plans_after earlier meaning) (done ++ meaning ∷ []) rest h.1)
 
 all_written : (text : List ℕ) (tokens : List Token)
     → AllByRecursion (λ (t : Token). IsPlaceIn text t.line t.column) tokens

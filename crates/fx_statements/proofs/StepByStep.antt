@@ -11,7 +11,8 @@ use Rattle.fx_text.specs.Statements.{ends_step, rest_of_step, steps_of}
 use Rattle.fx_text.specs.declared.refusal.ParseStop.{ParseStop}
 use Rattle.fx_text.specs.declared.refusal.ParseStop.TheVariants as stop
 use Rattle.fx_text.specs.Refusals.{IsRefused, ◌>>=◌}
-use Rattle.fx_outputs.specs.Outputs.{names_of, outputs_of}
+use Rattle.fx_outputs.specs.declared.earlier.EarlierPlan.{EarlierPlan}
+use Rattle.fx_outputs.specs.Outputs.{outputs_of}
 use Rattle.fx_outputs.specs.declared.output.OutputSpec.{OutputSpec}
 use Rattle.fx_settings.specs.declared.settings.StepSettings.{StepSettings}
 use Rattle.fx_settings.specs.Said.{step_said}
@@ -24,7 +25,7 @@ use Rattle.fx_statements.specs.Folds.{fold_of}
 use Rattle.fx_statements.specs.Goals.{criterion_wanted, goal_of}
 use Rattle.fx_statements.specs.Valid.{settings_in}
 use Rattle.fx_statements.specs.Steps.{Meaning, asked_by, examine_of, factors_by, head_of, factor_limit, step_by}
-use Rattle.fx_statements.specs.Steps.{step_of}
+use Rattle.fx_statements.specs.Steps.{plans_after, step_of}
 use Rattle.fx_statements.proofs.Bounds.{same_settings}
 use Rattle.fx_text.proofs.Stops.{stopped}
 use Rattle.fx_statements.specs.Programs.{steps_behind}
@@ -49,18 +50,18 @@ module _ (statements : List (List Written)) (i len : ℕ) (d : List Written) (h 
   step_here e =
       ap steps_of from_here ∙ ap (λ b. if b then (proc ∷ rest_of_step rest) ∷ steps_of rest else steps_of rest) e
 
-  pub one_step : (earlier : List (List ℕ)) (done : List Meaning) (meaning : Meaning) → begins Proc proc ≡ true
+  pub one_step : (earlier : List EarlierPlan) (done : List Meaning) (meaning : Meaning) → begins Proc proc ≡ true
       → len ≡ prefix_len (λ s. not (ends_step s)) rest
       → step_of earlier (take (i + (1 + len) - i) (drop i statements)) ≡ Ok meaning
       → steps_behind earlier done (steps_of (drop i statements))
-      ≡ steps_behind (earlier ++ names_of meaning.outputs) (done ++ meaning ∷ []) (steps_of rest)
+      ≡ steps_behind (plans_after earlier meaning) (done ++ meaning ∷ []) (steps_of rest)
   one_step earlier done meaning e long is =
       ap (steps_behind earlier done) (step_here e)
-      ∙ ap (λ r. r >>= (λ (m : Meaning). steps_behind (earlier ++ names_of m.outputs) (done ++ m ∷ []) (steps_of rest)))
+      ∙ ap (λ r. r >>= (λ (m : Meaning). steps_behind (plans_after earlier m) (done ++ m ∷ []) (steps_of rest)))
       (ap (step_of earlier) (sym (slice long)) ∙ is)
 
   -- a step that is refused
-  pub step_refused : (earlier : List (List ℕ)) (done : List Meaning) → begins Proc proc ≡ true
+  pub step_refused : (earlier : List EarlierPlan) (done : List Meaning) → begins Proc proc ≡ true
       → len ≡ prefix_len (λ s. not (ends_step s)) rest
       → (reason : ParseStop) → IsRefused (step_of earlier (take (i + (1 + len) - i) (drop i statements))) reason
       → IsRefused (steps_behind earlier done (steps_of (drop i statements))) reason
@@ -68,7 +69,7 @@ module _ (statements : List (List Written)) (i len : ℕ) (d : List Written) (h 
       rw (step_here e) (stopped (step_of earlier (proc ∷ rest_of_step rest)) _ reason (rw (slice long) at h))
 
 -- one step, from its parts
-module _ (earlier : List (List ℕ)) (statements : List (List Written)) (named : List Written) (factors : List (List ℕ))
+module _ (earlier : List EarlierPlan) (statements : List (List Written)) (named : List Written) (factors : List (List ℕ))
     (settings : StepSettings) (wanted : Wanted) (fold : Fold) (outputs : List OutputSpec)
     (is_named : factors_by (start_of (head_of statements)) (factor_limit named statements) named ≡ Ok factors)
     (is_asked : asked_by factors (step_said (head_of statements) named statements) statements
@@ -103,7 +104,7 @@ module _ (earlier : List (List ℕ)) (statements : List (List Written)) (named :
       (sym (same_settings settings wanted kind)) (sym listed)
 
 -- a step whose settings are refused
-pub settings_refused : (earlier : List (List ℕ)) (statements : List (List Written)) (named : List Written)
+pub settings_refused : (earlier : List EarlierPlan) (statements : List (List Written)) (named : List Written)
     (factors : List (List ℕ))
     → factors_by (start_of (head_of statements)) (factor_limit named statements) named ≡ Ok factors
     → (reason : ParseStop)
@@ -113,7 +114,7 @@ settings_refused earlier statements named factors is_named reason h =
     rw is_named (stopped (asked_by factors (step_said (head_of statements) named statements) statements) _ reason h)
 
 -- a step whose fold or whose outputs are refused
-module _ (earlier : List (List ℕ)) (statements : List (List Written)) (named : List Written) (factors : List (List ℕ))
+module _ (earlier : List EarlierPlan) (statements : List (List Written)) (named : List Written) (factors : List (List ℕ))
     (settings : StepSettings) (wanted : Wanted)
     (is_named : factors_by (start_of (head_of statements)) (factor_limit named statements) named ≡ Ok factors)
     (is_asked : asked_by factors (step_said (head_of statements) named statements) statements

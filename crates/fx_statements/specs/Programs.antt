@@ -10,16 +10,17 @@ use Rattle.fx_text.specs.declared.refusal.Refusal.{Refusal}
 use Rattle.fx_text.specs.Written.{Written, written}
 use Rattle.fx_text.specs.Statements.{statements_of, steps_of}
 use Rattle.fx_text.specs.Refusals.{refused_at, ◌>>=◌}
+use Rattle.fx_outputs.specs.declared.earlier.EarlierPlan.{EarlierPlan}
 use Rattle.fx_outputs.specs.Outputs.{names_of}
 use Rattle.fx_statements.specs.declared.step.Step.{Step}
-use Rattle.fx_statements.specs.Steps.{Meaning, step_of}
+use Rattle.fx_statements.specs.Steps.{Meaning, plans_after, step_of}
 
--- the meanings of some steps, after these OUT names and these meanings
-abbrev pub steps_behind : List (List ℕ) → List Meaning → List (List (List Written)) → Result (List Meaning) Refusal
+-- the meanings of some steps, after these plans and these meanings
+abbrev pub steps_behind : List EarlierPlan → List Meaning → List (List (List Written)) → Result (List Meaning) Refusal
 steps_behind earlier done [] = Ok done
 steps_behind earlier done (step ∷ steps) =
     step_of earlier step
-    >>= (λ (meaning : Meaning). steps_behind (earlier ++ names_of meaning.outputs) (done ++ meaning ∷ []) steps)
+    >>= (λ (meaning : Meaning). steps_behind (plans_after earlier meaning) (done ++ meaning ∷ []) steps)
 
 -- the meaning of what is written in an accepted text
 abbrev pub meaning_of_all : List (List Written) → Result (List Meaning) Refusal

@@ -1,6 +1,5 @@
 -- What a step means.
 use Rattle.std.specs.Prelude.{ℕ, ◌&&◌, Bool, List, [], ◌∷◌, length, is_some, Option, Some, None, Result, Ok, Err}
-use Rattle.std.specs.Prelude.{if◌then◌else◌}
 use Rattle.std.specs.List.{list_any}
 use Rattle.fx_language.specs.declared.code.TheConstants.{NO_FACTORS}
 use Rattle.fx_language.specs.declared.symbol.Symbol.{Symbol}
@@ -16,8 +15,10 @@ use Rattle.fx_settings.specs.declared.said.StepSaid.{StepSaid}
 use Rattle.fx_settings.specs.Said.{step_said, value_after_equals}
 use Rattle.fx_text.specs.Phrases.{has_symbol, start_of}
 use Rattle.fx_settings.specs.Settings.{step_settings_of, unblocked_of, number_or}
+use Rattle.fx_outputs.specs.declared.earlier.EarlierPlan.{EarlierPlan}
 use Rattle.fx_outputs.specs.declared.output.OutputSpec.{OutputSpec}
-use Rattle.fx_outputs.specs.Outputs.{outputs_of}
+use Rattle.fx_outputs.specs.Histories.{built}
+use Rattle.fx_outputs.specs.Outputs.{outputs_of, plan_behind}
 use Rattle.fx_statements.specs.declared.examine.Examine.{Examine}
 use Rattle.fx_statements.specs.declared.fold.Fold.{Fold}
 use Rattle.fx_statements.specs.declared.step.Step.{Step}
@@ -77,8 +78,8 @@ asked_by factors said statements = do
   listed ← check_components unblocked.q (length factors) goal (components_place statements)
   Ok (settings, goal)
 
--- The meaning of a step, after these OUT names, by its FACTORS statement where it has one.
-abbrev pub step_by : List (List ℕ) → List (List Written) → Option (List Written) → Result Meaning Refusal
+-- The meaning of a step, after these plans, by its FACTORS statement where it has one.
+abbrev pub step_by : List EarlierPlan → List (List Written) → Option (List Written) → Result Meaning Refusal
 step_by earlier statements None = Err (refused_at NO_FACTORS (start_of (head_of statements)))
 step_by earlier statements (Some named) = do
   factors ← factors_by (start_of (head_of statements)) (factor_limit named statements) named
@@ -95,8 +96,13 @@ step_by earlier statements (Some named) = do
   })
 
 -- the meaning of a step, whose PROC statement is first
-abbrev pub step_of : List (List ℕ) → List (List Written) → Result Meaning Refusal
+abbrev pub step_of : List EarlierPlan → List (List Written) → Result Meaning Refusal
 step_of earlier statements = step_by earlier statements (statement_of word.Factors statements)
+
+-- the plans of a program after a step
+abbrev pub plans_after : List EarlierPlan → Meaning → List EarlierPlan
+plans_after earlier meaning =
+    built (plan_behind (context meaning.factors meaning.settings)) earlier meaning.outputs
 
 -- what of a step it is
 abbrev pub meaning_of : Step → Meaning

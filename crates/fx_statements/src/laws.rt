@@ -23,7 +23,7 @@ pub fn sections_are_read_by_the_grammar()
     ensures { (s : List Written) → IsStatement grammar.examine s → AreSectionsRead s }
 {}
 
-/// A text that is refused after its tokens are read is refused by a rule that has a number from 1 to 32, or 36,
+/// A text that is refused after its tokens are read is refused by a rule that has a number from 1 to 36,
 /// and at a place in the text, that of one of its bytes or of its end.
 pub fn refusals_have_a_rule_and_a_place()
     ensures { (text : List ℕ) (tokens : List Token) → lexed text ≡ Ok tokens

@@ -15,7 +15,7 @@ use crate::stepping::step_of;
 use fx_base::Items;
 use fx_language::{Symbol, first_refusal, symbols};
 use fx_lexer::{Token, Tokens};
-use fx_outputs::EarlierNames;
+use fx_outputs::EarlierPlans;
 use fx_text::{ParseStop, Place, Refusal, Statement, lexemes, statements};
 use std::alloc::Global;
 
@@ -101,7 +101,7 @@ fn steps(alloc: Global, statements: &[Statement<'_>]) -> Result<Program, ParseSt
     ensures differ { IfOk result (λ program. IsDistinct is_same_name (out_names program)) }
     ensures refused { IfErr result (IsRefused (meaning_of_all statements.now)) }
 {
-    let mut earlier = EarlierNames::new(alloc);
+    let mut earlier = EarlierPlans::new(alloc);
     let mut program = Program::new(alloc);
     for (i, statement) in statements.iter().enumerate() {
         if !statement.begins(Symbol::Proc) {

@@ -1,4 +1,4 @@
-ghost use Rattle.std.specs.Prelude.{◌≡◌, ℕ, ◌++◌, ◌≤◌, ◌^◌, true, false, is_some, Some, None, Ok, length, IfOk, IfErr};
+ghost use Rattle.std.specs.Prelude.{◌≡◌, ℕ, ◌≤◌, ◌^◌, true, false, is_some, Some, None, Ok, length, IfOk, IfErr};
 ghost use Rattle.fx_language.specs.declared.symbol.Symbol.TheVariants as word;
 ghost use Rattle.fx_text.specs.Statements.{statement_of};
 ghost use Rattle.std.specs.List.{AllByRecursion, IsDistinct};
@@ -9,11 +9,11 @@ ghost use Rattle.fx_settings.specs.Settings.{is_level, levels_of};
 ghost use Rattle.fx_settings.specs.Valid.{are_valid, has_blocks, is_size};
 ghost use Rattle.fx_text.specs.Names.{is_same_name};
 ghost use Rattle.fx_text.specs.Refusals.{IsRefused};
-ghost use Rattle.fx_outputs.specs.Outputs.{names_of};
+ghost use Rattle.fx_outputs.specs.Earlier.{plan_names};
 ghost use Rattle.fx_statements.specs.Contexts.{block_count, context, most_runs};
 ghost use Rattle.fx_statements.specs.Goals.{criterion_wanted, goal_of};
 ghost use Rattle.fx_statements.specs.Valid.{CanBeWanted, HasFewComponents, HasFewEffects, most_factors_of};
-ghost use Rattle.fx_statements.specs.Steps.{asked_by, examine_of, factors_by, head_of, meaning_of, step_by, step_of};
+ghost use Rattle.fx_statements.specs.Steps.{asked_by, examine_of, factors_by, head_of, meaning_of, plans_after, step_by, step_of};
 ghost use Rattle.fx_vectors.specs.declared.shape.TheConstants.{MOST_FACTORS};
 
 use crate::components::check_components;
@@ -23,7 +23,7 @@ use crate::step::Step;
 use crate::wanted::{Wanted, wanted_by};
 use fx_base::Bytes;
 use fx_language::{Symbol, code};
-use fx_outputs::{BlockCount, EarlierNames, OutputContext, outputs};
+use fx_outputs::{BlockCount, EarlierPlans, OutputContext, outputs};
 use fx_settings::{
     Blocks, Size, StepSaid, StepSettings, factors_of, greatest, levels_of, step_said,
     step_settings_of, unblocked_of,
@@ -32,8 +32,8 @@ use fx_text::{Names, ParseStop, Phrase, Place, Refusal, Statement, find};
 use fx_vectors::{MOST_FACTORS, MOST_FACTORS_IN_BLOCKS, MOST_FACTORS_OF_MANY_LEVELS};
 use std::alloc::Global;
 
-/// The step of some statements, the first of which is its PROC statement. `earlier` are the OUT
-/// names of earlier steps of the program; those of this step are added.
+/// The step of some statements, the first of which is its PROC statement. `earlier` are the
+/// plans of earlier steps of the program; those of this step are added.
 ///
 /// # Errors
 ///
@@ -42,14 +42,14 @@ use std::alloc::Global;
 /// `NoMemory`.
 pub(crate) fn step_of(
     alloc: Global,
-    earlier: &mut EarlierNames,
+    earlier: &mut EarlierPlans,
     statements: &[Statement<'_>],
 ) -> Result<Step, ParseStop>
     requires accepted { AllByRecursion IsAccepted statements.now }
-    requires differ { IsDistinct is_same_name earlier.old }
+    requires differ { IsDistinct is_same_name (plan_names earlier.old) }
     ensures step { IfOk result (λ step. step_of earlier.old statements.now ≡ Ok (meaning_of step)) }
-    ensures names { IfOk result (λ step. earlier.new ≡ earlier.old ++ names_of step.outputs) }
-    ensures differ { IfOk result (λ step. IsDistinct is_same_name earlier.new) }
+    ensures plans { IfOk result (λ step. earlier.new ≡ plans_after earlier.old (meaning_of step)) }
+    ensures differ { IfOk result (λ step. IsDistinct is_same_name (plan_names earlier.new)) }
     ensures refused { IfErr result (IsRefused (step_of earlier.old statements.now)) }
 {
     match find(Symbol::Factors, statements) {
@@ -60,18 +60,18 @@ pub(crate) fn step_of(
 
 fn step_by(
     alloc: Global,
-    earlier: &mut EarlierNames,
+    earlier: &mut EarlierPlans,
     statements: &[Statement<'_>],
     named: &Phrase<'_>,
 ) -> Result<Step, ParseStop>
     requires accepted { AllByRecursion IsAccepted statements.now }
-    requires differ { IsDistinct is_same_name earlier.old }
+    requires differ { IsDistinct is_same_name (plan_names earlier.old) }
     requires by_grammar { IsStatement grammar.factors named.now }
     requires names { HasNames named.now }
     ensures step { IfOk result (λ step.
         step_by earlier.old statements.now (Some named.now) ≡ Ok (meaning_of step)) }
-    ensures names { IfOk result (λ step. earlier.new ≡ earlier.old ++ names_of step.outputs) }
-    ensures differ { IfOk result (λ step. IsDistinct is_same_name earlier.new) }
+    ensures plans { IfOk result (λ step. earlier.new ≡ plans_after earlier.old (meaning_of step)) }
+    ensures differ { IfOk result (λ step. IsDistinct is_same_name (plan_names earlier.new)) }
     ensures refused { IfErr result
         (IsRefused (step_by earlier.old statements.now (Some named.now))) }
 {

@@ -78,7 +78,7 @@ sentence_ends = (
                 (refl, (refl, λ s h. h)),
                 (
                   (refl, (refl, λ s h. h)),
-                  ((refl, (refl, (refl, (refl, (refl, (λ s h. h, tt)))))), (refl, (refl, λ s h. h))),
+                  ((refl, (refl, (refl, (refl, (refl, λ s h. h))))), (refl, (refl, λ s h. h))),
                 ),
               ),
             ),

@@ -3,25 +3,18 @@ use fx_base::Bytes;
 use fx_language::symbols;
 use fx_lexer::lex;
 use fx_outputs::{
-    BlockCount, EarlierNames, OutputContext, OutputSpec, Outputs, Rep, Shuffle, outputs,
+    BlockCount, EarlierPlans, OutputContext, OutputSpec, Outputs, Rep, Shuffle, outputs,
 };
 use fx_text::{Names, ParseStop, lexemes, statements};
 use std::alloc::Global;
 use std::process::Abort;
 
-/// The OUT name `old` of an earlier statement.
-fn earlier_names(rt: &impl Abort, alloc: Global) -> EarlierNames {
-    let mut earlier = EarlierNames::new(alloc);
-    assert!(rt; earlier.add(alloc, b"old").expect(rt, "memory"));
-    earlier
-}
-
-/// What a text gives after these OUT names, in a step with these factors, with two levels and 16 runs.
+/// What a text gives after these plans, in a step with these factors, with two levels and 16 runs.
 fn read_after(
     rt: &impl Abort,
     alloc: Global,
     factors: &[Bytes],
-    earlier: &mut EarlierNames,
+    earlier: &mut EarlierPlans,
     blocks: BlockCount,
     text: &[u8],
 ) -> Result<Outputs, ParseStop> {
@@ -34,7 +27,24 @@ fn read_after(
     outputs(alloc, &context, earlier, statements.as_slice())
 }
 
-/// What a text gives after the OUT name `old`, in a step with the factors A and Block.
+/// The plan `old` of an earlier step, with the column X.
+fn earlier_plans(rt: &impl Abort, alloc: Global) -> EarlierPlans {
+    let factors = names_in(rt, alloc, "X");
+    let mut earlier = EarlierPlans::new(alloc);
+    let text = b"output out=old;";
+    let read = read_after(
+        rt,
+        alloc,
+        factors.as_slice(),
+        &mut earlier,
+        BlockCount::Without,
+        text,
+    );
+    assert!(rt; read.expect(rt, "an output").len() == 1);
+    earlier
+}
+
+/// What a text gives after the plan `old`, in a step with the factors A and Block.
 fn read(
     rt: &impl Abort,
     alloc: Global,
@@ -42,7 +52,7 @@ fn read(
     text: &str,
 ) -> Result<Outputs, ParseStop> {
     let factors = names_in(rt, alloc, "A Block");
-    let mut earlier = earlier_names(rt, alloc);
+    let mut earlier = earlier_plans(rt, alloc);
     let text = text.as_bytes();
     read_after(rt, alloc, factors.as_slice(), &mut earlier, blocks, text)
 }
@@ -132,7 +142,7 @@ fn are(names: &Names, text: &str) -> bool {
 
 /// Two outputs, the first with all that can be written of one.
 const BOTH: &str = "\
-    output out=Novalran novalran designrep=3 randomize(18446744073709551615) pointrep=2 \
+    output out=Novalran novalran designrep=OLD randomize(18446744073709551615) pointrep=2 \
     block cvals=('it''s' \"'\"\"\") blockname=day nvals=(-1 2.5 07 -.5);run;output out=q blockname=out;";
 
 fn is_first(output: &OutputSpec) -> bool {
@@ -145,7 +155,7 @@ fn is_first(output: &OutputSpec) -> bool {
     };
     output.name.as_slice() == b"Novalran".as_slice()
         && output.pointrep == Rep::Times(2)
-        && output.designrep == Rep::Times(3)
+        && output.designrep == Rep::Plan(0)
         && output.shuffle == shuffle
         && recode.place == 2
         && are(&recode.values, "it's '\"")

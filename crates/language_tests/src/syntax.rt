@@ -65,7 +65,7 @@ const OUTSIDE_OF_STATEMENTS: [(&str, Option<(u8, usize)>); 10] = [
 ];
 
 /// Symbols of statements are refused.
-const IN_STATEMENTS: [(&str, Option<(u8, usize)>); 16] = [
+const IN_STATEMENTS: [(&str, Option<(u8, usize)>); 18] = [
     ("factors A-;", Some((2, 6))),
     ("factors A / levels=2;", Some((3, 6))),
     ("factors A / nlev=2 B;", Some((2, 9))),
@@ -80,8 +80,10 @@ const IN_STATEMENTS: [(&str, Option<(u8, usize)>); 16] = [
     ("examine aberration(2);", Some((24, 5))),
     ("examine design(2);", Some((2, 5))),
     ("output data=A;", Some((3, 4))),
-    ("output out=A pointrep=B;", Some((24, 9))),
-    ("output out=A B nvals=(1 -[2]);", Some((24, 13))),
+    ("output out=A pointrep=B designrep=nvals;", None),
+    ("output out=A B nvals=(1 -[2]);", Some((2, 13))),
+    ("output out=A [B", Some((2, 9))),
+    ("output out=A [B C]=D cvals=('x');", None),
 ];
 
 /// Values behind the block column are its own or a factors.

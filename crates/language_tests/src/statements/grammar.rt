@@ -21,9 +21,9 @@ const WORDS_AND_SIGNS: [(&str, u8, u32, u32); 18] = [
     ("proc factex;\nmodel r=3/minabs(3);", 24, 2, 17),
     ("proc factex;\nexamine aliasing(2);", 24, 2, 17),
     ("proc factex;\nexamine aberration(2);", 24, 2, 19),
-    ("proc factex;\noutput out=a pointrep=b;", 24, 2, 23),
-    ("proc factex;\noutput out=a designrep=b;", 24, 2, 24),
-    ("proc factex;\noutput out=a [A];", 24, 2, 14),
+    ("proc factex;\noutput out=a pointrep=;", 2, 2, 23),
+    ("proc factex;\noutput out=a designrep=.5;", 2, 2, 24),
+    ("proc factex;\noutput out=a [A];", 2, 2, 17),
 ];
 
 /// What stands twice or too late is refused.

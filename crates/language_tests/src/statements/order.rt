@@ -122,10 +122,13 @@ const MEANING: [(&str, u8, u32, u32); 23] = [
 ];
 
 /// A plan is judged in its order.
-const PLANS: [(&str, u8, u32, u32); 8] = [
+const PLANS: [(&str, u8, u32, u32); 11] = [
     ("output out=a designrep=0 pointrep=0;", 18, 2, 12),
     ("output out=b designrep=0 pointrep=0;", 20, 2, 35),
     ("output out=b pointrep=200000 designrep=0;", 20, 2, 40),
+    ("output out=b designrep=c pointrep=0;", 20, 2, 35),
+    ("output out=b designrep=c pointrep=200000;", 33, 2, 24),
+    ("output out=b[A]=D pointrep=a;", 35, 2, 13),
     (
         "output out=b pointrep=200000 randomize(18446744073709551616);",
         21,

@@ -4,11 +4,13 @@ use Rattle.std.proofs.lemmas.Result.{err_from_is_err_and}
 use Rattle.std.proofs.Math.Numerals.{add-one}
 use Rattle.std.proofs.Math.Seq.{drop-cons}
 use Rattle.fx_text.specs.Refusals.{IsRefused}
-use Rattle.fx_outputs.specs.Outputs.{outputs_of, outputs_behind}
+use Rattle.fx_outputs.specs.declared.earlier.EarlierPlan.{EarlierPlan}
+use Rattle.fx_outputs.specs.Outputs.{outputs_of, outputs_behind, plan_behind}
 use Rattle.fx_outputs.proofs.Limits.{all_within}
-use Rattle.fx_outputs.proofs.Statements.{refused, read, passed, one_more_name}
+use Rattle.fx_outputs.proofs.Statements.{refused, read, passed, one_more_plan}
+use Rattle.fx_outputs.proofs.Taken.{few_rows, new_name}
 use Rattle.fx_outputs.proofs.output.outputs.Goals as goal
-use Rattle.fx_outputs.proofs.output.outputs.Goals.{then-is_output+in_ok-output+in_ok-push, else-is_output}
+use Rattle.fx_outputs.proofs.output.outputs.Goals.{then-is_output+in_ok-output+in_ok-plan+in_ok-push+in_ok-push-2, else-is_output}
 
 pub returns-in_err-output-clause-refused : goal.returns-in_err-output-clause-refused
 returns-in_err-output-clause-refused c =
@@ -29,6 +31,17 @@ returns-in_err-output-clause-refused c =
     let p = err_from_is_err_and c.from_residual.result c.from_residual.ensures.1 in
     rw (p.1, p.2) whole
 
+pub plan_behind-requires : goal.plan_behind-requires
+plan_behind-requires c =
+    few_rows c.args.context.now c.loop-statement.earlier c.index-lexemes-0.result c.index-lexemes-3.result
+    c.from.result c.in_ok-output.output c.in_ok-output.ensures.ok
+
+pub push-requires : goal.push-requires
+push-requires c =
+    rw c.in_ok-plan.ensures
+    (new_name c.args.context.now c.loop-statement.earlier c.index-lexemes-0.result c.index-lexemes-3.result
+    c.from.result c.in_ok-output.output c.in_ok-output.ensures.ok)
+
 pub loop-statement-preserved : goal.loop-statement-preserved
 loop-statement-preserved c =
     let all = c.args.statements.now in
@@ -40,28 +53,29 @@ loop-statement-preserved c =
     let left = drop-cons all i s (omega arith) ∙ ap (λ v. v ∷ drop (suc i) all) (sym c.statement-item.is) in
     let so_far = c.loop-statement.invariant.meaning ∙ ap (outputs_behind context earlier outputs) left in
     elim c.if-is_output.branch [
-      | then-is_output+in_ok-output+in_ok-push w ↦
+      | then-is_output+in_ok-output+in_ok-plan+in_ok-push+in_ok-push-2 w ↦
           let one = rw w.from.ensures at w.in_ok-output.ensures.ok in
           let first = rw w.lexemes-lexemes.ensures at w.index-lexemes-0.is in
           let third = rw w.lexemes-lexemes.ensures at w.index-lexemes-3.is in
           let more =
           read context earlier outputs (drop (suc i) all) s w.index-lexemes-0.result w.index-lexemes-3.result
           w.in_ok-output.output w.if-is_output.ensures first third one in
-          let names : c.if-is_output.earlier ≡ earlier ++ w.in_ok-output.output.name ∷ [] =
-          w.earlier-is ∙ w.in_ok-output.ensures.name in
+          let plans : c.if-is_output.earlier ≡ earlier ++ plan_behind context earlier w.in_ok-output.output ∷ [] =
+          w.earlier-is ∙ w.in_ok-push.ensures.pushed
+          ∙ ap (λ (p : EarlierPlan). earlier ++ p ∷ []) w.in_ok-plan.ensures in
           let files : c.if-is_output.outputs ≡ outputs ++ w.in_ok-output.output ∷ [] =
-          w.outputs-is ∙ w.in_ok-push.ensures.ok in
+          w.outputs-is ∙ w.in_ok-push-2.ensures.ok in
           record {
-            meaning = rw (add-one, names, files) (so_far ∙ more);
-            names = rw (names, files)
-                (one_more_name c.args.earlier.now earlier outputs w.in_ok-output.output
-                c.loop-statement.invariant.names);
+            meaning = rw (add-one, plans, files) (so_far ∙ more);
+            plans = rw (plans, files)
+                (one_more_plan context c.args.earlier.now earlier outputs w.in_ok-output.output
+                c.loop-statement.invariant.plans);
           }
       | else-is_output w ↦
           record {
             meaning = rw (add-one, w.earlier-is, w.outputs-is)
                 (so_far ∙ passed context earlier outputs (drop (suc i) all) s w.if-is_output.ensures);
-            names = rw (w.earlier-is, w.outputs-is) c.loop-statement.invariant.names;
+            plans = rw (w.earlier-is, w.outputs-is) c.loop-statement.invariant.plans;
           }
     ]
 

@@ -1,6 +1,6 @@
 use Rattle.std.proofs.Common.{◌≡◌, ◌==◌, [], ◌∷◌, ◌++◌, if◌then◌else◌, map}
 use Rattle.std.specs.List.{range_with_len}
-use Rattle.fx_outputs.specs.Validity.{column_name}
+use Rattle.fx_outputs.specs.BlockColumns.{column_name}
 use Rattle.fx_plan.specs.Columns.{column_names, column_places}
 use Rattle.fx_plan.specs.Products.{own_fields}
 use Rattle.fx_plan.proofs.runs.runs_table.Given as goal

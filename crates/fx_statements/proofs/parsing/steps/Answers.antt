@@ -9,7 +9,11 @@ use Rattle.fx_text.specs.Statements.{ends_step, steps_of}
 use Rattle.fx_statements.specs.Steps.{meaning_of}
 use Rattle.fx_statements.specs.Programs.{out_names, steps_behind}
 use Rattle.fx_statements.proofs.Parts.{names_of_more}
+use Rattle.fx_outputs.specs.declared.earlier.EarlierPlan.{EarlierPlan}
+use Rattle.fx_outputs.specs.Earlier.{plan_names}
 use Rattle.fx_outputs.specs.Outputs.{names_of}
+use Rattle.fx_outputs.proofs.Names.{built_names}
+use Rattle.fx_statements.specs.Contexts.{context}
 use Rattle.fx_text.specs.Names.{is_same_name}
 use Rattle.fx_text.specs.Sentences.{IsAccepted}
 use Rattle.fx_text.proofs.Distinct.{none_differ}
@@ -31,10 +35,12 @@ loop-i-preserved c =
           ∙ one_step statements i c.rest_len-len.result c.index-statements-i.result c.loop-i-test.true c.loop-i.earlier
           (map meaning_of c.loop-i.program) (meaning_of step) proc long c.in_ok-step.ensures.step
           ∙ ap₂ (λ e p. steps_behind e p (steps_of (drop (i + 1) statements)))
-          (sym c.in_ok-step.ensures.names)
+          (sym c.in_ok-step.ensures.plans)
           (sym (ap (map meaning_of) c.in_ok-push.ensures.ok ∙ map-append meaning_of c.loop-i.program (step ∷ [])));
       names =
-          c.in_ok-step.ensures.names ∙ ap (λ (l : List (List ℕ)). l ++ names_of step.outputs) c.loop-i.invariant.names
+          ap plan_names c.in_ok-step.ensures.plans
+          ∙ built_names (context (meaning_of step).factors (meaning_of step).settings) c.loop-i.earlier step.outputs
+          ∙ ap (λ (l : List (List ℕ)). l ++ names_of step.outputs) c.loop-i.invariant.names
           ∙ sym (ap out_names c.in_ok-push.ensures.ok ∙ names_of_more c.loop-i.program step);
       differ = c.in_ok-step.ensures.differ;
     }
@@ -43,8 +49,9 @@ pub loop-i-init : goal.loop-i-init
 loop-i-init c = record {
   meaning = ap₂ (λ e p. steps_behind e (map meaning_of p) (steps_of c.args.statements.now)) (sym c.new-earlier.ensures)
       (sym c.new-program.ensures);
-  names = c.new-earlier.ensures ∙ ap out_names (sym c.new-program.ensures);
-  differ = subst (IsDistinct is_same_name) (sym c.new-earlier.ensures) none_differ;
+  names = ap plan_names c.new-earlier.ensures ∙ ap out_names (sym c.new-program.ensures);
+  differ =
+      subst (λ (l : List EarlierPlan). IsDistinct is_same_name (plan_names l)) (sym c.new-earlier.ensures) none_differ;
 }
 
 pub step_of-requires-clause-accepted : goal.step_of-requires-clause-accepted

@@ -10,9 +10,12 @@ use Rattle.fx_text.specs.Phrases.{start_of}
 use Rattle.fx_settings.specs.Valid.{are_valid}
 use Rattle.fx_settings.specs.Settings.{levels_of}
 use Rattle.fx_settings.specs.declared.said.StepSaid.{StepSaid}
-use Rattle.fx_outputs.specs.Outputs.{outputs_of, names_of}
+use Rattle.fx_outputs.specs.Contexts.{Context}
+use Rattle.fx_outputs.specs.Earlier.{plan_names}
+use Rattle.fx_outputs.specs.Histories.{built}
+use Rattle.fx_outputs.specs.Outputs.{outputs_of, names_of, plan_behind}
 use Rattle.fx_outputs.specs.Validity.{HasItsNames, IsWithinLimits}
-use Rattle.fx_outputs.proofs.Names.{all_differ, all_have_names}
+use Rattle.fx_outputs.proofs.Names.{all_differ, all_have_names, built_names}
 use Rattle.fx_text.proofs.Distinct.{behind_differ}
 use Rattle.fx_statements.proofs.Parts.{named_factors}
 use Rattle.fx_statements.specs.Contexts.{context}
@@ -78,7 +81,7 @@ invariant_of-result c =
           (all_have_names c.context_of-context.result c.args.earlier.now statements outputs c.requires.accepted
           c.in_ok-outputs.ensures.ok);
       out_names_differ =
-          behind_differ c.args.earlier.now (names_of outputs)
+          behind_differ (plan_names c.args.earlier.now) (names_of outputs)
           (all_differ c.context_of-context.result c.args.earlier.now statements outputs c.requires.differ
           c.in_ok-outputs.ensures.ok);
     }
@@ -164,7 +167,9 @@ returns-in_err-fold-clause-refused c =
 
 pub returns-clause-differ : goal.returns-clause-differ
 returns-clause-differ c =
-    subst (IsDistinct is_same_name) (sym c.in_ok-outputs.ensures.names)
+    subst (IsDistinct is_same_name)
+    (sym (ap plan_names c.in_ok-outputs.ensures.plans
+    ∙ built_names c.context_of-context.result c.args.earlier.now c.in_ok-outputs.outputs))
     (all_differ c.context_of-context.result c.args.earlier.now c.args.statements.now c.in_ok-outputs.outputs
     c.requires.differ c.in_ok-outputs.ensures.ok)
 
@@ -199,5 +204,13 @@ returns-in_err-settings-clause-refused c =
     (settings_refused c.args.earlier.now statements named c.in_ok-factors.factors is_named c.in_err-settings.field-0.0
     asked)
 
-pub returns-clause-names : goal.returns-clause-names
-returns-clause-names c = c.in_ok-outputs.ensures.names
+pub returns-clause-plans : goal.returns-clause-plans
+returns-clause-plans c =
+    let settings = c.in_ok-settings.settings in
+    let factors = c.in_ok-factors.factors in
+    let same = same_settings settings c.in_ok-settings.wanted c.in_ok-settings.ensures.kind in
+    let read =
+    c.context_of-context.ensures ∙ ap (λ names. context names settings) c.as_slice-3.ensures
+    ∙ ap (context factors) (sym same) in
+    c.in_ok-outputs.ensures.plans
+    ∙ ap (λ (x : Context). built (plan_behind x) c.args.earlier.now c.in_ok-outputs.outputs) read

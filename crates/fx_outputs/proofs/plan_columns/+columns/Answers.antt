@@ -1,0 +1,70 @@
+use Rattle.std.proofs.Common.{◌≡◌, ◌≤◌, ◌<◌, ◌++◌, [], ℕ, List, length, take, get_or, Result, Ok, Err, OnOk, ap, sym, ◌∙◌}
+use Rattle.std.proofs.Common.{append_assoc, append-nil, arith}
+use Rattle.std.specs.Prelude.{slice_index_or}
+use Rattle.fx_outputs.specs.declared.earlier.EarlierPlan.{EarlierPlan}
+use Rattle.fx_outputs.specs.declared.replication.Rep.{Rep}
+use Rattle.fx_outputs.specs.declared.replication.Rep.TheVariants.{Plan}
+use Rattle.fx_outputs.specs.Earlier.{file_columns, plan_columns, rep_columns}
+use Rattle.fx_outputs.proofs.Histories.{built-at, built-past, built-take}
+use Rattle.fx_outputs.proofs.plan_columns.+columns.Goals as goal
+
+weaker : {A B : Type 0} (r : Result A B) (P Q : Type 0) → (P → Q) → OnOk r P → OnOk r Q
+weaker (Ok a) P Q f h = f h
+weaker (Err b) P Q f h = tt
+
+-- a plan of too large a number has no columns
+none_there : (plans : List EarlierPlan) (before number : ℕ) (rep : Rep) (names : List (List ℕ)) → rep ≡ Plan number
+    → before ≤ length plans → before ≤ number
+    → names ≡ names ++ rep_columns (file_columns (take before plans)) rep
+none_there plans before number rep names is within high =
+    sym (ap (λ (r : Rep). names ++ rep_columns (file_columns (take before plans)) r) is
+    ∙ ap (λ (l : List (List ℕ)). names ++ l) (built-past plan_columns plans before number [] within high)
+    ∙ append-nil names)
+
+there : (plans : List EarlierPlan) (before number : ℕ) (rep : Rep) → rep ≡ Plan number → before ≤ length plans
+    → number < before
+    → slice_index_or (file_columns plans) number [] ≡ rep_columns (file_columns (take before plans)) rep
+there plans before number rep is within low =
+    sym (ap (rep_columns (file_columns (take before plans))) is
+    ∙ built-take plan_columns plans before number [] within low)
+
+-- the columns of a plan's file are its own, and those of what it names
+whole : (plans : List EarlierPlan) (number : ℕ) (plan : EarlierPlan) (names one two three own : List (List ℕ))
+    → number < length plans → plan ≡ get_or plans number plan → own ≡ plan.own → one ≡ names ++ own
+    → two ≡ one ++ rep_columns (file_columns (take number plans)) plan.pointrep
+    → three ≡ two ++ rep_columns (file_columns (take number plans)) plan.designrep
+    → three ≡ names ++ slice_index_or (file_columns plans) number []
+whole plans number plan names one two three own low at is first second third =
+    let point : List (List ℕ) = rep_columns (file_columns (take number plans)) plan.pointrep in
+    let design : List (List ℕ) = rep_columns (file_columns (take number plans)) plan.designrep in
+    let here : slice_index_or (file_columns plans) number [] ≡ plan.own ++ (point ++ design) =
+    built-at plan_columns plans number [] plan low
+    ∙ ap (plan_columns (file_columns (take number plans))) (sym at) in
+    third
+    ∙ ap (λ (l : List (List ℕ)). l ++ design)
+    (second ∙ ap (λ (l : List (List ℕ)). l ++ point) (first ∙ ap (λ (l : List (List ℕ)). names ++ l) is))
+    ∙ append_assoc (names ++ plan.own) point design
+    ∙ append_assoc names plan.own (point ++ design)
+    ∙ ap (λ (l : List (List ℕ)). names ++ l) (sym here)
+
+pub push_plan-returns : goal.push_plan-returns
+push_plan-returns t c =
+    let plan = c.index-plans-number.result in
+    weaker c.push_rep-2.result _ _
+    (whole c.args.plans.now c.args.number plan c.args.names.now c.push_copies.new.names c.push_rep.new.names
+    c.push_rep-2.new.names c.as_slice.result.now c.requires c.index-plans-number.is c.as_slice.ensures
+    c.in_ok-push_copies.ensures c.in_ok-push_rep.ensures)
+    c.push_rep-2.ensures
+
+pub push_rep-returns-then-number-before : goal.push_rep-returns-then-number-before
+push_rep-returns-then-number-before t c =
+    none_there c.args.plans.now c.args.before c.in-Plan.number c.args.rep c.args.names.now c.in-Plan.is c.requires
+    (let high = c.if-number-before.true in omega arith)
+
+pub push_rep-returns-else-number-before : goal.push_rep-returns-else-number-before
+push_rep-returns-else-number-before t c =
+    weaker c.push_plan.result _ _
+    (λ e. e ∙ ap (λ (l : List (List ℕ)). c.args.names.now ++ l)
+    (there c.args.plans.now c.args.before c.in-Plan.number c.args.rep c.in-Plan.is c.requires
+    (let low = c.if-number-before.false in omega arith)))
+    c.push_plan.ensures
