@@ -15,7 +15,8 @@ use Rattle.fx_text.specs.Written.{Written, written}
 use Rattle.fx_text.specs.Statements.{statement_of, statements_of, steps_of}
 use Rattle.fx_text.proofs.Chains.{bind_ok, same_ok}
 use Rattle.fx_settings.specs.Factors as named
-use Rattle.fx_outputs.specs.Outputs.{names_of, outputs_of}
+use Rattle.fx_outputs.specs.declared.earlier.EarlierPlan.{EarlierPlan}
+use Rattle.fx_outputs.specs.Outputs.{outputs_of}
 use Rattle.fx_settings.specs.declared.settings.StepSettings.{StepSettings}
 use Rattle.fx_settings.specs.declared.settings.Criterion.{Criterion}
 use Rattle.fx_settings.specs.declared.settings.Criterion.TheVariants as criterion
@@ -31,7 +32,7 @@ use Rattle.fx_statements.specs.Folds.{fold_of}
 use Rattle.fx_statements.specs.Components.{check_components, components_place}
 use Rattle.fx_statements.specs.Goals.{Goal, AtLeast, Highest, effects_goal, effects_wanted, goal_by}
 use Rattle.fx_statements.specs.Steps.{Meaning, asked_by, examine_of, factors_by, head_of, factor_limit, some_factors}
-use Rattle.fx_statements.specs.Steps.{step_by, step_of}
+use Rattle.fx_statements.specs.Steps.{plans_after, step_by, step_of}
 use Rattle.fx_statements.specs.Programs.{accepted, program_of, steps_behind}
 use Rattle.fx_statements.specs.Valid.{is_count, most_factors_of}
 use Rattle.fx_statements.proofs.Bounds.{counted, kept, levels_said, most_of_all, unsaid, without}
@@ -133,7 +134,7 @@ some_named proc (name ∷ found) factors e =
 
 -- what holds of each valid step holds of each step of a text
 module _ (Claimed : Meaning → Type 0) (claim : (step : Meaning) → IsValidStep step → Claimed step) where
-  step_read : (earlier : List (List ℕ)) (statements : List (List Written)) (factors : Option (List Written))
+  step_read : (earlier : List EarlierPlan) (statements : List (List Written)) (factors : Option (List Written))
       (step : Meaning)
       → step_by earlier statements factors ≡ Ok step → Claimed step
   step_read earlier statements None step e = absurd (cc e)
@@ -164,13 +165,13 @@ module _ (Claimed : Meaning → Type 0) (claim : (step : Meaning) → IsValidSte
       (claim whole (record { settings = read.0; goal = read.1; factors = read.2; effects = read.3 }))
 
   -- step by step
-  all_read : (earlier : List (List ℕ)) (done : List Meaning) (groups : List (List (List Written)))
+  all_read : (earlier : List EarlierPlan) (done : List Meaning) (groups : List (List (List Written)))
       (steps : List Meaning) → All Claimed done
       → steps_behind earlier done groups ≡ Ok steps → All Claimed steps
   all_read earlier done [] steps all e = subst (All Claimed) (same_ok done steps e) all
   all_read earlier done (group ∷ groups) steps all e =
       let step = bind_ok (step_of earlier group) _ steps e in
-      all_read (earlier ++ names_of step.0.outputs) (done ++ step.0 ∷ []) groups steps
+      all_read (plans_after earlier step.0) (done ++ step.0 ∷ []) groups steps
       (All-push Claimed done step.0 all (step_read earlier group (statement_of word.Factors group) step.0 step.1))
       step.2
 

@@ -1,16 +1,15 @@
 -- What the lines of a catalogue claim holds.
-use Rattle.std.proofs.Common.{ℕ, ◌≡◌, ◌<◌, ◌≤◌, ◌+◌, ◌-◌, Bool, true, false, zero, suc, List, [], ◌∷◌, ◌++◌, map, All}
-use Rattle.std.proofs.Common.{refl, sym, ap, subst, ◌∙◌, arith, inl, inr, Result, Ok}
+use Rattle.std.proofs.Common.{ℕ, ◌≡◌, ◌<◌, ◌≤◌, ◌+◌, ◌-◌, Bool, true, false, zero, suc, List, [], ◌∷◌, ◌++◌, map}
+use Rattle.std.proofs.Common.{refl, sym, ap, subst, ◌∙◌, arith, Result, Ok}
 use Rattle.std.specs.Prelude.{IfOk, if◌then◌else◌, ◌||◌}
 use Rattle.std.specs.List.{AllByRecursion, list_any, range_with_len}
-use Rattle.std.proofs.lemmas.Bool.{cases_Bool, cond-true, cond-false}
 use Rattle.std.proofs.lemmas.List.Elements.{All-from_recursion}
 use Rattle.fx_designs.specs.Matrices.{NoneMeets}
 use Rattle.fx_designs.specs.Problems.{AtResolution}
 use Rattle.fx_laws.proofs.Tables.{is_order-field}
 use Rattle.fx_vectors.specs.declared.shape.Shape.{Shape}
 use Rattle.fx_vectors.specs.Shape.{dimensions_of}
-use Rattle.fx_catalogue.specs.Catalogues.{Entry, entries, entries_status, entry_at, is_budget, is_nothing, shape_at}
+use Rattle.fx_catalogue.specs.Catalogues.{Entry, entries, entries_status, entry_at, is_nothing, shape_at}
 use Rattle.fx_catalogue.specs.Catalogues.{up_to}
 use Rattle.fx_catalogue.specs.Laws.{Holds}
 use Rattle.fx_catalogue.specs.Lines.{line_of}

@@ -15,7 +15,7 @@ use Rattle.fx_settings.specs.Powers.{greatest}
 use Rattle.fx_statements.specs.Valid.{most_factors_of}
 use Rattle.fx_vectors.specs.declared.shape.Shape.{Shape}
 use Rattle.fx_vectors.specs.Shape.{IsShape}
-use Rattle.fx_catalogue.specs.Catalogues.{Entry, catalogue_events, entries, entries_status, entry_at, entry_events}
+use Rattle.fx_catalogue.specs.Catalogues.{Entry, entries, entries_status, entry_at, entry_events}
 use Rattle.fx_catalogue.specs.Catalogues.{is_budget, is_nothing, shape_at, up_to}
 use Rattle.fx_catalogue.specs.Lines.{line_by, line_of, problem_at}
 use Rattle.fx_catalogue.specs.Listing.{head_text}

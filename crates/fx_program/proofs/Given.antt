@@ -24,7 +24,8 @@ use Rattle.fx_answer.proofs.StepSettings.{blocks_again}
 use Rattle.fx_program.specs.Statuses.{status_of}
 use Rattle.fx_plan.specs.Steps.{IsDesignOf}
 use Rattle.fx_program.specs.Files.{book_files, book_lines, design_files, design_lines, matrix_in}
-use Rattle.fx_program.specs.Output.{Output, outcome_given, step_output, with_files}
+use Rattle.fx_program.specs.Output.{Output, asked_of, outcome_given, step_output, with_files}
+use Rattle.fx_program.specs.Plans.{AskedView, asked_by}
 
 module _ (shape : Shape) where
   abbrev with_rows : List ℕ → MatrixView
@@ -87,25 +88,32 @@ matrix_is shape (BudgetEnded None budget) matrix h = sym h
 matrix_is shape (BudgetEnded (Some rows) budget) matrix h = sym h.0
 
 -- what is given for a step is what its outcome gives
-pub is_given : (seed number : ℕ) (step : Meaning) (outcome : Outcome) → IsOutcome step outcome
-    → step_output seed number step
-    ≡ with_files (book_files number outcome.books ++ design_files seed number step outcome.matrix)
+pub is_given : (seed number : ℕ) (earlier : List AskedView) (step : Meaning) (outcome : Outcome) → IsOutcome step outcome
+    → step_output seed number earlier step
+    ≡ with_files (book_files number outcome.books ++ design_files seed number earlier step outcome.matrix)
     (step_lines number step (book_lines number outcome.books) (conclusion_in outcome)
-    ++ design_lines seed number step outcome.matrix)
+    ++ design_lines seed number earlier step outcome.matrix)
     (status_of (ending_in outcome))
-is_given seed number step outcome is =
-    ap (outcome_given seed number step (books_of step)) (sym is.concluded)
-    ∙ (ap (λ books. outcome_given seed number step books (conclusion_in outcome)) (sym is.books) ∙ by_matrix)
+is_given seed number earlier step outcome is =
+    ap (outcome_given seed number earlier step (books_of step)) (sym is.concluded)
+    ∙ (ap (λ books. outcome_given seed number earlier step books (conclusion_in outcome)) (sym is.books) ∙ by_matrix)
   where
     all : Option MatrixView → Output
     all matrix =
-        with_files (book_files number outcome.books ++ design_files seed number step matrix)
+        with_files (book_files number outcome.books ++ design_files seed number earlier step matrix)
         (step_lines number step (book_lines number outcome.books) (conclusion_in outcome)
-        ++ design_lines seed number step matrix)
+        ++ design_lines seed number earlier step matrix)
         (status_of (ending_in outcome))
 
     by_matrix : all (matrix_in (dimensions_of outcome.shape) (ending_in outcome)) ≡ all outcome.matrix
     by_matrix = ap all (matrix_is outcome.shape (ending_in outcome) outcome.matrix outcome.whole)
+
+-- the OUTPUT statements of a step, with the matrix of its outcome
+pub asked_again : (step : Meaning) (outcome : Outcome) → IsOutcome step outcome
+    → asked_of step ≡ asked_by step outcome.matrix
+asked_again step outcome is =
+    ap (λ (c : Conclusion). asked_by step (matrix_in c.dimensions c.ending)) (sym is.concluded)
+    ∙ ap (asked_by step) (matrix_is outcome.shape (ending_in outcome) outcome.matrix outcome.whole)
 
 -- the dimensions of a question of a step
 record AreOfStep (step : Meaning) (d : Dimensions) : Type 0 where

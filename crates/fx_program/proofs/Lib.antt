@@ -6,6 +6,7 @@ mod SoFar
 mod Stages
 pub mod CatalogueLines
 mod Filing
+mod Planned
 mod Given
 pub mod None
 pub mod AnyText

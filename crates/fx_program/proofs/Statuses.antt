@@ -8,15 +8,17 @@ use Rattle.fx_base.specs.Acts.{Event}
 use Rattle.fx_statements.specs.Steps.{Meaning}
 use Rattle.fx_program.specs.Texts.{program_in}
 use Rattle.fx_program.specs.declared.text.TextFault.{TextFault}
-use Rattle.fx_program.specs.Output.{program_output, step_output, step_status, steps_output, worse}
+use Rattle.fx_program.specs.Output.{asked_of, program_output, step_output, step_status, steps_output, worse}
+use Rattle.fx_program.specs.Plans.{AskedView}
 use Rattle.fx_program.specs.Claims.{EachStep, IsGreatest, SomeEndsWith, SomeHasNone}
 use Rattle.fx_answer.specs.ValidSteps.{IsValidStep}
 use Rattle.fx_program.proofs.AnyText.{any_text}
 use Rattle.fx_program.proofs.None.{one_told}
 
--- a step's status does not depend on its number and the seed
-same_status : (seed number : ℕ) (step : Meaning) → (step_output seed number step).status ≡ step_status step
-same_status seed number step = refl
+-- a step's status does not depend on its number, the seed and the earlier OUTPUT statements
+same_status : (seed number : ℕ) (earlier : List AskedView) (step : Meaning)
+    → (step_output seed number earlier step).status ≡ step_status step
+same_status seed number earlier step = refl
 
 head : (step : Meaning) (steps : List Meaning) → Contains (step ∷ steps) step
 head step steps = All-head (Contains (step ∷ steps)) step steps (All-contains_itself (step ∷ steps))
@@ -44,50 +46,50 @@ one_more step steps status some =
 
 -- what the steps from some one on add to a status
 module _ (seed : ℕ) where
-  pub final : ℕ → List Event → ℕ → List Meaning → ℕ
-  final number events status steps = (steps_output seed number events status steps).status
+  pub final : ℕ → List AskedView → List Event → ℕ → List Meaning → ℕ
+  final number earlier events status steps = (steps_output seed number earlier events status steps).status
 
-  not_below : (number : ℕ) (events : List Event) (status : ℕ) (steps : List Meaning)
-      → status ≤ final number events status steps
+  not_below : (number : ℕ) (earlier : List AskedView) (events : List Event) (status : ℕ) (steps : List Meaning)
+      → status ≤ final number earlier events status steps
   unfolding final
-  not_below number events status [] = omega arith
-  not_below number events status (step ∷ steps) =
-      let given = step_output seed number step in
+  not_below number earlier events status [] = omega arith
+  not_below number earlier events status (step ∷ steps) =
+      let given = step_output seed number earlier step in
       omega (
         arith,
         (above_both status given.status).0,
-        not_below (number + 1) (events ++ given.events)
+        not_below (number + 1) (earlier ++ asked_of step) (events ++ given.events)
             (worse status given.status) steps,
       )
 
-  each_below : (number : ℕ) (events : List Event) (status : ℕ) (steps : List Meaning)
-      → All (λ step. step_status step ≤ final number events status steps) steps
+  each_below : (number : ℕ) (earlier : List AskedView) (events : List Event) (status : ℕ) (steps : List Meaning)
+      → All (λ step. step_status step ≤ final number earlier events status steps) steps
   unfolding final
-  each_below number events status [] = All-nil (λ (x : Meaning). step_status x ≤ status)
-  each_below number events status (step ∷ steps) =
-      let given = step_output seed number step in
-      All-cons (λ (x : Meaning). step_status x ≤ final number events status (step ∷ steps)) step steps
+  each_below number earlier events status [] = All-nil (λ (x : Meaning). step_status x ≤ status)
+  each_below number earlier events status (step ∷ steps) =
+      let given = step_output seed number earlier step in
+      All-cons (λ (x : Meaning). step_status x ≤ final number earlier events status (step ∷ steps)) step steps
       (omega (
         arith,
-        same_status seed number step,
+        same_status seed number earlier step,
         (above_both status given.status).1,
-        not_below (number + 1)
-            (events ++ given.events) (worse status given.status) steps,
+        not_below (number + 1) (earlier ++ asked_of step) (events ++ given.events)
+            (worse status given.status) steps,
       ))
-      (each_below (number + 1) (events ++ given.events) (worse status given.status) steps)
+      (each_below (number + 1) (earlier ++ asked_of step) (events ++ given.events) (worse status given.status) steps)
 
-  reached : (number : ℕ) (events : List Event) (status : ℕ) (steps : List Meaning)
-      → (final number events status steps ≡ status) ⊎ SomeEndsWith (final number events status steps) steps
+  reached : (number : ℕ) (earlier : List AskedView) (events : List Event) (status : ℕ) (steps : List Meaning)
+      → (final number earlier events status steps ≡ status) ⊎ SomeEndsWith (final number earlier events status steps) steps
   unfolding final
-  reached number events status [] = inl refl
-  reached number events status (step ∷ steps) =
-      let given = step_output seed number step in
-      elim (reached (number + 1) (events ++ given.events) (worse status given.status) steps) [
+  reached number earlier events status [] = inl refl
+  reached number earlier events status (step ∷ steps) =
+      let given = step_output seed number earlier step in
+      elim (reached (number + 1) (earlier ++ asked_of step) (events ++ given.events) (worse status given.status) steps) [
         | inl same ↦ elim (one_of_both status given.status) [
           | inl before ↦ inl (same ∙ before)
           | inr now ↦
               inr (record
-              { step = step; among = head step steps; ends = sym (same_status seed number step) ∙ sym now ∙ sym same })
+              { step = step; among = head step steps; ends = sym (same_status seed number earlier step) ∙ sym now ∙ sym same })
         ]
         | inr some ↦ inr (one_more step steps _ some)
       ]
@@ -95,8 +97,8 @@ module _ (seed : ℕ) where
   pub is_greatest : (steps : List Meaning) → IsGreatest (program_output seed (Ok steps)).status steps
   unfolding final
   is_greatest steps = record {
-    each = each_below 1 [] 0 steps;
-    some = λ above. elim (reached 1 [] 0 steps) [
+    each = each_below 1 [] [] 0 steps;
+    some = λ above. elim (reached 1 [] [] 0 steps) [
       | inl zero ↦ absurd (omega (arith, above, zero))
       | inr some ↦ some
     ];

@@ -12,7 +12,9 @@ use Rattle.fx_program.specs.declared.text.TextFault.{TextFault}
 use Rattle.fx_program.specs.declared.summary.Summary.{Summary}
 use Rattle.fx_program.specs.Statuses.{status_of}
 use Rattle.fx_program.specs.Summaries.{five_lines, is_cut_short, has_design, is_without, nodes_spent, summary_lines}
-use Rattle.fx_program.specs.Output.{endings_of, large_output, message, program_output, step_output, steps_output, worse}
+use Rattle.fx_program.specs.Output.{asked_of, endings_of, large_output, message, program_output, step_output}
+use Rattle.fx_program.specs.Output.{steps_output, worse}
+use Rattle.fx_program.specs.Plans.{AskedView}
 use Rattle.fx_program.proofs.SoFar.{worse_low}
 use Rattle.fx_program.specs.Summed.{HasRoom, IsSummaryOf, with_ending}
 
@@ -22,13 +24,13 @@ count_more : (p : Ending → Bool) (endings : List Ending) (ending : Ending)
 count_more p endings ending = fold-append (λ (n : ℕ) (x : Ending). n + cond (p x) 1 0) 0 endings (ending ∷ [])
 
 -- one step more
-status_more : (seed number : ℕ) (events : List Event) (status : ℕ) (steps : List Meaning) (step : Meaning)
-    → (steps_output seed number events status (steps ++ step ∷ [])).status
-    ≡ worse (steps_output seed number events status steps).status (status_of (outcome_of step).ending)
-status_more seed number events status [] step = refl
-status_more seed number events status (first ∷ steps) step =
-    let given = step_output seed number first in
-    status_more seed (number + 1) (events ++ given.events) (worse status given.status) steps step
+status_more : (seed number : ℕ) (earlier : List AskedView) (events : List Event) (status : ℕ) (steps : List Meaning) (step : Meaning)
+    → (steps_output seed number earlier events status (steps ++ step ∷ [])).status
+    ≡ worse (steps_output seed number earlier events status steps).status (status_of (outcome_of step).ending)
+status_more seed number earlier events status [] step = refl
+status_more seed number earlier events status (first ∷ steps) step =
+    let given = step_output seed number earlier first in
+    status_more seed (number + 1) (earlier ++ asked_of first) (events ++ given.events) (worse status given.status) steps step
 
 -- the summary of none
 pub summary_of_none : IsSummaryOf [] (record { designs = 0; without = 0; cut_short = 0; nodes = 0; status = 0 })
@@ -52,7 +54,7 @@ module _ (steps : List Meaning) (summary : Summary) (so_far : IsSummaryOf steps 
 
     status_is : (program_output 0 (Ok (steps ++ step ∷ []))).status ≡ worse summary.status (status_of ending)
     status_is =
-        status_more 0 1 [] 0 steps step
+        status_more 0 1 [] [] 0 steps step
         ∙ ap (λ (n : ℕ). worse n (status_of (outcome_of step).ending)) (sym so_far.status)
         ∙ ap (λ (x : Ending). worse summary.status (status_of x)) e
 

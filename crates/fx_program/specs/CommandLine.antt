@@ -1,5 +1,5 @@
 -- What the words of the command line ask for.
-use Rattle.std.specs.Prelude.{ℕ, ◌+◌, ◌^◌, ◌-◌, ◌<◌, ◌≤◌, nat_le, nat_lt, ◌&&◌, Bool, true, false, unwrap_or, is_some, List}
+use Rattle.std.specs.Prelude.{ℕ, ◌+◌, ◌^◌, ◌-◌, ◌<◌, ◌≤◌, nat_le, ◌&&◌, Bool, false, unwrap_or, is_some, List}
 use Rattle.std.specs.Prelude.{[], ◌∷◌, ◌++◌, if◌then◌else◌, Option, Some, None, Result, Ok, Err, Vec, map, take, drop}
 use Rattle.std.specs.Prelude.{length, codes, decimal, IsTrue}
 use Rattle.std.specs.List.{list_all}

@@ -1,13 +1,14 @@
 -- The files of a step, and the lines of its listing that name them.
-use Rattle.std.specs.Prelude.{ℕ, ◌*◌, ◌^◌, List, [], ◌∷◌, ◌++◌, map, Option, Some, None, codes, decimal}
+use Rattle.std.specs.Prelude.{ℕ, ◌*◌, ◌^◌, if◌then◌else◌, List, [], ◌∷◌, ◌++◌, length, map, Option, Some, None}
+use Rattle.std.specs.Prelude.{codes, decimal}
 use Rattle.std.specs.List.{flat_map}
 use Rattle.std.specs.Str.{str_to_ascii_lowercase}
 use Rattle.fx_base.specs.Acts.{Event, Piece, WholeFile}
 use Rattle.fx_designs.specs.Problems.{Dimensions}
 use Rattle.fx_designs.specs.Outcomes.{Ending, Design, NoDesign, BudgetEnded}
+use Rattle.fx_derived.specs.Codes.{are_levels_balanced}
+use Rattle.fx_outputs.specs.declared.derived.Derived.{Derived}
 use Rattle.fx_outputs.specs.declared.output.OutputSpec.{OutputSpec}
-use Rattle.fx_outputs.specs.declared.replication.Rep.{Rep}
-use Rattle.fx_outputs.specs.declared.replication.Rep.TheVariants.{Times, Plan}
 use Rattle.fx_outputs.specs.declared.shuffle.Shuffle.{Shuffle}
 use Rattle.fx_outputs.specs.declared.shuffle.Shuffle.TheVariants.{Kept, Default, Seed}
 use Rattle.fx_vectors.specs.Matrix.{MatrixView}
@@ -21,8 +22,11 @@ use Rattle.fx_statements.specs.declared.fold.Fold.{Fold}
 use Rattle.fx_statements.specs.declared.fold.Fold.TheVariants.{Without, Factors}
 use Rattle.fx_statements.specs.Steps.{Meaning}
 use Rattle.fx_alias.specs.Sections.{matrix_of}
-use Rattle.fx_plan.specs.Products.{plain_plan, plan_of, rows_of_rep}
+use Rattle.fx_derived.specs.Tables.{TableView}
+use Rattle.fx_outputs.specs.Histories.{added}
+use Rattle.fx_plan.specs.Products.{plain_plan}
 use Rattle.fx_plan.specs.Tables.{text_of_table}
+use Rattle.fx_program.specs.Plans.{AskedView, asked_by, plan_after}
 
 -- the name of the file of the book of a question, in the step of this number
 abbrev pub book_name : ℕ → ℕ → List ℕ
@@ -48,21 +52,18 @@ book_lines number books = flat_map (book_line number) books
 abbrev pub file_name : List ℕ → List ℕ
 file_name name = str_to_ascii_lowercase name ++ codes ".csv"
 
--- the bytes of the plan of a design for an output, by the program's seed
-abbrev pub plan_bytes : ℕ → List (List ℕ) → MatrixView → OutputSpec → List ℕ
-plan_bytes seed factors matrix output =
-    text_of_table
-    (plan_of factors (design_of matrix) output seed (rows_of_rep output.pointrep None)
-    (rows_of_rep output.designrep None))
+-- the file of a plan with this OUT name, if it is written
+abbrev pub file_of : List ℕ → Option TableView → List Event
+file_of name None = []
+file_of name (Some table) = WholeFile (file_name name) (text_of_table table) ∷ []
 
--- the file that an OUTPUT statement asks for
-abbrev pub plan_file : ℕ → List (List ℕ) → MatrixView → OutputSpec → Event
-plan_file seed factors matrix output = WholeFile (file_name output.name) (plan_bytes seed factors matrix output)
+-- the file of an OUTPUT statement, after the earlier ones
+abbrev pub plan_file : ℕ → List AskedView → AskedView → List Event
+plan_file seed earlier asked = file_of asked.output.name (plan_after seed earlier asked)
 
--- the files of a step's plans, in the order of its OUTPUT statements; none without a matrix
-abbrev pub plan_files : ℕ → Meaning → Option MatrixView → List Event
-plan_files seed step None = []
-plan_files seed step (Some matrix) = map (plan_file seed step.factors matrix) step.outputs
+-- the files of some OUTPUT statements in order, after the earlier ones
+abbrev pub plan_files : ℕ → List AskedView → List AskedView → List Event
+plan_files seed earlier asked = added (plan_file seed) earlier asked
 
 -- the name of the file of the fold-over of the step of this number
 abbrev pub fold_name : ℕ → List ℕ
@@ -90,9 +91,10 @@ fold_line number (Factors folded) (Some matrix) =
     codes "output "
     ++ (fold_name number ++ (codes " " ++ (decimal (2 * matrix.shape.q ^ matrix.shape.m) ++ codes " rows\n")))
 
--- the files of the designs of a step: its plans, and then its fold-over
-abbrev pub design_files : ℕ → ℕ → Meaning → Option MatrixView → List Event
-design_files seed number step matrix = plan_files seed step matrix ++ fold_file number step.factors step.fold matrix
+-- the files of the designs of a step after the earlier OUTPUT statements: its plans, and then its fold-over
+abbrev pub design_files : ℕ → ℕ → List AskedView → Meaning → Option MatrixView → List Event
+design_files seed number earlier step matrix =
+    plan_files seed earlier (asked_by step matrix) ++ fold_file number step.factors step.fold matrix
 
 -- the names of the files among events
 abbrev pub names_among : List Event → List (List ℕ)
@@ -106,26 +108,41 @@ seed_note seed Kept = []
 seed_note seed (Default values) = codes " seed " ++ decimal seed
 seed_note seed (Seed own values) = codes " seed " ++ decimal own
 
--- how often a number repeats
-abbrev pub times_of : Rep → ℕ
-times_of (Times n) = n
-times_of (Plan number) = 0
-
--- the line of a plan of so many runs: its file, its rows, and its seed
+-- the line of a plan: its file, how many rows it has, and its seed
 abbrev pub output_line : ℕ → ℕ → OutputSpec → List ℕ
-output_line seed runs output =
-    codes "output " ++ (file_name output.name ++ (codes " " ++ (decimal
-    (runs * (times_of output.pointrep * times_of output.designrep))
-    ++ (codes " rows" ++ (seed_note seed output.shuffle ++ codes "\n")))))
+output_line seed rows output =
+    codes "output "
+    ++ (file_name output.name
+    ++ (codes " " ++ (decimal rows ++ (codes " rows" ++ (seed_note seed output.shuffle ++ codes "\n")))))
 
--- the lines of a step's plans, in the order of its OUTPUT statements; none without a matrix
-abbrev pub output_lines : ℕ → Meaning → Option MatrixView → List ℕ
-output_lines seed step None = []
-output_lines seed step (Some matrix) = flat_map (output_line seed (matrix.shape.q ^ matrix.shape.m)) step.outputs
+-- the line of a derived factor: how many levels it has, and whether they are balanced over the runs of the design
+abbrev pub derived_line : MatrixView → Derived → List ℕ
+derived_line matrix factor =
+    codes "derived " ++ (factor.name ++ (codes " " ++ (decimal (matrix.shape.q ^ length factor.places)
+    ++ (codes " levels "
+    ++ ((if are_levels_balanced matrix.shape.q factor.places (design_of matrix).rows
+    then codes "balanced" else codes "not balanced") ++ codes "\n")))))
 
--- the lines of the files of the designs of a step
-abbrev pub design_lines : ℕ → ℕ → Meaning → Option MatrixView → List ℕ
-design_lines seed number step matrix = output_lines seed step matrix ++ fold_line number step.fold matrix
+-- the lines of derived factors of a design; none without a matrix
+abbrev pub derived_lines : Option MatrixView → List Derived → List ℕ
+derived_lines None derived = []
+derived_lines (Some matrix) derived = flat_map (derived_line matrix) derived
+
+-- the lines of a plan, if it is written: its own, and those of its derived factors
+abbrev pub plan_lines : ℕ → AskedView → Option TableView → List ℕ
+plan_lines seed asked None = []
+plan_lines seed asked (Some table) =
+    output_line seed (length table.rows) asked.output ++ derived_lines asked.matrix asked.output.derived
+
+-- the lines of some OUTPUT statements in order, after the earlier ones
+abbrev pub output_lines : ℕ → List AskedView → List AskedView → List ℕ
+output_lines seed earlier asked =
+    added (λ before one. plan_lines seed one (plan_after seed before one)) earlier asked
+
+-- the lines of the files of the designs of a step, after the earlier OUTPUT statements
+abbrev pub design_lines : ℕ → ℕ → List AskedView → Meaning → Option MatrixView → List ℕ
+design_lines seed number earlier step matrix =
+    output_lines seed earlier (asked_by step matrix) ++ fold_line number step.fold matrix
 
 -- the rule matrix that comes with an ending in these dimensions
 abbrev pub matrix_in : Dimensions → Ending → Option MatrixView

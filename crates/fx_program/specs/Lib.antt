@@ -4,6 +4,7 @@ pub mod Reasons
 pub mod Texts
 pub mod Stops
 pub mod Statuses
+pub mod Plans
 pub mod Files
 pub mod Making
 pub mod Summaries

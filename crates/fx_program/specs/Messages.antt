@@ -40,6 +40,9 @@ reasons =
     (30, codes "range of names is not regular") ∷
     (31, codes "BLOCKNAME without BLOCKS") ∷
     (32, codes "more than 100 steps") ∷
+    (33, codes "plan is not known") ∷
+    (34, codes "column is repeated") ∷
+    (35, codes "derived factor has too few or too many levels") ∷
     (36, codes "FOLDOVER needs two levels and no BLOCKS") ∷ []
 
 -- what the lexical rules say

@@ -18,6 +18,7 @@ use Rattle.fx_program.specs.Messages.{fault_line}
 use Rattle.fx_program.specs.Statuses.{status_of}
 use Rattle.fx_program.specs.Summaries.{summary_lines}
 use Rattle.fx_program.specs.Files.{book_files, book_lines, design_files, design_lines, matrix_in}
+use Rattle.fx_program.specs.Plans.{AskedView, asked_by}
 use Rattle.fx_program.specs.Verdicts.{book_fault_line, verdict_lines, verdict_status}
 use Rattle.fx_program.specs.declared.text.TextFault.{TextFault}
 
@@ -34,37 +35,43 @@ message bytes status = record { events = Piece bytes ∷ []; status = status }
 abbrev pub with_files : List Event → List ℕ → ℕ → Output
 with_files files bytes status = record { events = files ++ Piece bytes ∷ []; status = status }
 
--- what is given for the step of this number with these books and this outcome, by the program's seed: the files of its
--- books, its plans and its fold-over, then its lines with those that name the files, and its status
-abbrev pub outcome_given : ℕ → ℕ → Meaning → List NamedBook → Conclusion → Output
-outcome_given seed number step books outcome =
+-- what is given for the step of this number with these books and this outcome, by the program's seed and after the
+-- earlier OUTPUT statements: the files of its books, its plans and its fold-over, then its lines with those that name
+-- the files, and its status
+abbrev pub outcome_given : ℕ → ℕ → List AskedView → Meaning → List NamedBook → Conclusion → Output
+outcome_given seed number earlier step books outcome =
     let matrix = matrix_in outcome.dimensions outcome.ending in
-    with_files (book_files number books ++ design_files seed number step matrix)
-    (step_lines number step (book_lines number books) outcome ++ design_lines seed number step matrix)
+    with_files (book_files number books ++ design_files seed number earlier step matrix)
+    (step_lines number step (book_lines number books) outcome ++ design_lines seed number earlier step matrix)
     (status_of outcome.ending)
 
 -- what is given for a step, by its outcome and its books
-abbrev pub step_output : ℕ → ℕ → Meaning → Output
-step_output seed number step = outcome_given seed number step (books_of step) (outcome_of step)
+abbrev pub step_output : ℕ → ℕ → List AskedView → Meaning → Output
+step_output seed number earlier step = outcome_given seed number earlier step (books_of step) (outcome_of step)
 
--- the status of a step, whatever its number and the seed
+-- the status of a step, whatever its number, the seed and the earlier OUTPUT statements
 abbrev pub step_status : Meaning → ℕ
-step_status step = (step_output 0 1 step).status
+step_status step = (step_output 0 1 [] step).status
+
+-- the OUTPUT statements of a step, with the matrix that it ends with
+abbrev pub asked_of : Meaning → List AskedView
+asked_of step = asked_by step (matrix_in (outcome_of step).dimensions (outcome_of step).ending)
 
 -- the greater of two statuses
 abbrev pub worse : ℕ → ℕ → ℕ
 worse a b = if nat_le a b then b else a
 
--- the steps in order from this number on, after these events and this status; the greatest status decides
-abbrev pub steps_output : ℕ → ℕ → List Event → ℕ → List Meaning → Output
-steps_output seed number events status [] = record { events = events; status = status }
-steps_output seed number events status (step ∷ steps) =
-    let given = step_output seed number step in
-    steps_output seed (number + 1) (events ++ given.events) (worse status given.status) steps
+-- the steps in order from this number on, after these OUTPUT statements, these events and this status; the greatest
+-- status decides
+abbrev pub steps_output : ℕ → ℕ → List AskedView → List Event → ℕ → List Meaning → Output
+steps_output seed number earlier events status [] = record { events = events; status = status }
+steps_output seed number earlier events status (step ∷ steps) =
+    let given = step_output seed number earlier step in
+    steps_output seed (number + 1) (earlier ++ asked_of step) (events ++ given.events) (worse status given.status) steps
 
 -- what is given for a program, or for a text that has none
 abbrev pub program_output : ℕ → Result (List Meaning) TextFault → Output
-program_output seed (Ok steps) = steps_output seed 1 [] 0 steps
+program_output seed (Ok steps) = steps_output seed 1 [] [] 0 steps
 program_output seed (Err fault) = message (fault_line fault) 3
 
 -- how the steps of a program end

@@ -1,20 +1,23 @@
-ghost use Rattle.std.specs.Prelude.{◌≡◌, ◌≤◌, ◌++◌, false, length, All, Contains, IfOk, Some};
+ghost use Rattle.std.specs.Prelude.{◌≡◌, ◌≤◌, ◌++◌, ◌∷◌, [], false, length, All, OnOk, Some};
 ghost use Rattle.fx_statements.specs.Steps.{meaning_of};
 ghost use Rattle.fx_answer.specs.Outcomes.{HasShape, IsOutcome};
-ghost use Rattle.fx_plan.specs.Steps.{IsDesignOf};
-ghost use Rattle.fx_program.specs.Files.{book_files, book_name, design_files, file_name, plan_bytes, plan_files};
+ghost use Rattle.fx_program.specs.Files.{book_files, book_name, design_files, file_name, file_of, output_lines, plan_file, plan_files, plan_lines};
+ghost use Rattle.fx_program.specs.Plans.{asked_by, plan_after};
 ghost use Rattle.fx_program.specs.Outside.{ShelvesFiles, shelf_view};
 
 use crate::fold::shelve_fold;
+use crate::output_lines::put_plan_lines;
+use crate::plans::{AskedPlan, AskedPlans, asked_plan, plan_at};
 use crate::session::Session;
 use crate::stop::Stop;
 use crate::words::append;
 use arrayvec::ArrayVec;
-use fx_base::{Bytes, NoMemory, Shelf, shelve, shelve_pieces};
+use fx_base::{Bytes, Shelf, shelve, shelve_pieces};
 use fx_book::book_pieces;
-use fx_plan::{plan, table_text};
-use fx_statements::{Outcome, OutputSpec, Step};
-use fx_vectors::{Books, Matrix};
+use fx_derived::Table;
+use fx_plan::table_text;
+use fx_statements::{Outcome, Step};
+use fx_vectors::Books;
 use itoa::Buffer;
 use std::thread::Threads;
 
@@ -25,38 +28,31 @@ const PLAN_NAME: usize = 36;
 const BOOK_NAME: usize = 64;
 
 /// Shelves the files of the step of this number with this outcome: its books in the order of their
-/// questions, then its plans in the order of its OUTPUT statements, then its fold-over.
-pub(crate) fn shelve_files<R: Threads + Sync, F: Shelf>(
+/// questions, then its plans in the order of its OUTPUT statements, then its fold-over. The statements
+/// are added to the earlier ones, and the lines of the plans are appended.
+pub(crate) fn shelve_files<'a, R: Threads + Sync, F: Shelf>(
     session: &Session<'_, R>,
     number: usize,
-    step: &Step,
+    step: &'a Step,
     outcome: &Outcome,
+    plans: &mut AskedPlans<'a>,
+    lines: &mut Bytes,
     shelf: &mut F,
 ) -> Result<(), Stop>
     requires outcome { IsOutcome (meaning_of step.now) outcome.now }
     requires ended { F.begun shelf.old ≡ false }
-    ensures { ShelvesFiles (book_files number outcome.now.books
-        ++ design_files session.now.seed number (meaning_of step.now) outcome.now.matrix)
+    ensures files { ShelvesFiles (book_files number outcome.now.books
+        ++ design_files session.now.seed number plans.old (meaning_of step.now) outcome.now.matrix)
         (shelf_view F.Shelf shelf.old) (shelf_view F.Shelf shelf.new) result }
+    ensures plans { OnOk result
+        (plans.new ≡ plans.old ++ asked_by (meaning_of step.now) outcome.now.matrix) }
+    ensures lines { OnOk result
+        (lines.new
+        ≡ lines.old
+        ++ output_lines session.now.seed plans.old (asked_by (meaning_of step.now) outcome.now.matrix)) }
 {
     shelve_books(session, number, &outcome.books, shelf)?;
-    shelve_designs(session, number, step, outcome, shelf)
-}
-
-/// Shelves the plans of the step of this number with this outcome, and then its fold-over.
-fn shelve_designs<R, F: Shelf>(
-    session: &Session<'_, R>,
-    number: usize,
-    step: &Step,
-    outcome: &Outcome,
-    shelf: &mut F,
-) -> Result<(), Stop>
-    requires outcome { IsOutcome (meaning_of step.now) outcome.now }
-    requires ended { F.begun shelf.old ≡ false }
-    ensures { ShelvesFiles (design_files session.now.seed number (meaning_of step.now) outcome.now.matrix)
-        (shelf_view F.Shelf shelf.old) (shelf_view F.Shelf shelf.new) result }
-{
-    shelve_plans(session, step, outcome, shelf)?;
+    shelve_plans(session, step, outcome, plans, lines, shelf)?;
     shelve_fold(session, number, step, outcome, shelf)
 }
 
@@ -80,67 +76,83 @@ fn shelve_books<R: Threads + Sync, F: Shelf>(
     Ok(())
 }
 
-/// Shelves the plans of a step with this outcome, in the order of its OUTPUT statements. Without a
-/// matrix there is none.
-fn shelve_plans<R, F: Shelf>(
+/// Shelves the plans of a step with this outcome, in the order of its OUTPUT statements.
+fn shelve_plans<'a, R, F: Shelf>(
     session: &Session<'_, R>,
-    step: &Step,
+    step: &'a Step,
     outcome: &Outcome,
+    plans: &mut AskedPlans<'a>,
+    lines: &mut Bytes,
     shelf: &mut F,
 ) -> Result<(), Stop>
     requires outcome { IsOutcome (meaning_of step.now) outcome.now }
     requires ended { F.begun shelf.old ≡ false }
-    ensures { ShelvesFiles (plan_files session.now.seed (meaning_of step.now) outcome.now.matrix)
+    ensures files { ShelvesFiles
+        (plan_files session.now.seed plans.old (asked_by (meaning_of step.now) outcome.now.matrix))
         (shelf_view F.Shelf shelf.old) (shelf_view F.Shelf shelf.new) result }
-{
-    match &outcome.matrix {
-        Some(matrix) => shelve_each(session, step, matrix, shelf),
-        None => Ok(()),
-    }
-}
-
-/// Shelves the plans of a design of the step.
-fn shelve_each<R, F: Shelf>(
-    session: &Session<'_, R>,
-    step: &Step,
-    matrix: &Matrix,
-    shelf: &mut F,
-) -> Result<(), Stop>
-    requires design { IsDesignOf step.now matrix.now }
-    requires ended { F.begun shelf.old ≡ false }
-    ensures { ShelvesFiles (plan_files session.now.seed (meaning_of step.now) (Some matrix.now))
-        (shelf_view F.Shelf shelf.old) (shelf_view F.Shelf shelf.new) result }
+    ensures plans { OnOk result
+        (plans.new ≡ plans.old ++ asked_by (meaning_of step.now) outcome.now.matrix) }
+    ensures lines { OnOk result
+        (lines.new
+        ≡ lines.old
+        ++ output_lines session.now.seed plans.old (asked_by (meaning_of step.now) outcome.now.matrix)) }
 {
     for output in step.outputs.as_slice() {
-        let name = file_name(output.name.as_slice());
-        let content = plan_bytes(session, step, matrix, output)?;
-        shelve(shelf, name.as_slice(), content.as_slice())?;
+        shelve_plan(
+            session,
+            asked_plan(step, output, outcome),
+            plans,
+            lines,
+            shelf,
+        )?;
     }
     Ok(())
 }
 
-/// The bytes of the plan of a design of the step for an output of it.
-fn plan_bytes<R>(
+/// Shelves the plan of one OUTPUT statement more, if it is written, and appends its lines.
+fn shelve_plan<'a, R, F: Shelf>(
     session: &Session<'_, R>,
-    step: &Step,
-    matrix: &Matrix,
-    output: &OutputSpec,
-) -> Result<Bytes, NoMemory>
-    requires design { IsDesignOf step.now matrix.now }
-    requires asked { Contains step.now.outputs output.now }
-    ensures { IfOk result (λ bytes. bytes
-        ≡ plan_bytes session.now.seed step.now.factors matrix.now output.now) }
+    asked: AskedPlan<'a>,
+    plans: &mut AskedPlans<'a>,
+    lines: &mut Bytes,
+    shelf: &mut F,
+) -> Result<(), Stop>
+    requires ended { F.begun shelf.old ≡ false }
+    ensures files { ShelvesFiles (plan_file session.now.seed plans.old asked.entry)
+        (shelf_view F.Shelf shelf.old) (shelf_view F.Shelf shelf.new) result }
+    ensures plans { OnOk result (plans.new ≡ plans.old ++ asked.entry ∷ []) }
+    ensures lines { OnOk result
+        (lines.new
+        ≡ lines.old
+        ++ plan_lines session.now.seed asked.entry (plan_after session.now.seed plans.old asked.entry)) }
 {
-    let table = plan(
-        session.alloc,
-        step,
-        matrix,
-        output,
-        session.seed,
-        None,
-        None,
-    )?;
-    table_text(session.alloc, &table)
+    let number = plans.len();
+    plans.push(asked)?;
+    match plan_at(session.alloc, session.seed, plans.as_slice(), number)? {
+        Some(table) => shelve_table(session, plans.get(number), &table, lines, shelf),
+        None => Ok(()),
+    }
+}
+
+/// Shelves the plan of an OUTPUT statement, and appends its lines.
+fn shelve_table<R, F: Shelf>(
+    session: &Session<'_, R>,
+    asked: &AskedPlan<'_>,
+    table: &Table,
+    lines: &mut Bytes,
+    shelf: &mut F,
+) -> Result<(), Stop>
+    requires ended { F.begun shelf.old ≡ false }
+    ensures files { ShelvesFiles (file_of asked.now.output.name (Some table.now))
+        (shelf_view F.Shelf shelf.old) (shelf_view F.Shelf shelf.new) result }
+    ensures lines { OnOk result
+        (lines.new ≡ lines.old ++ plan_lines session.now.seed asked.now (Some table.now)) }
+{
+    put_plan_lines(session.alloc, lines, asked, table.len(), session.seed)?;
+    let name = file_name(asked.output.name.as_slice());
+    let content = table_text(session.alloc, table)?;
+    shelve(shelf, name.as_slice(), content.as_slice())?;
+    Ok(())
 }
 
 /// The name of the file of the book of a question, in the step of this number.

@@ -10,6 +10,7 @@ mod judging;
 mod listing;
 mod making;
 mod output_lines;
+mod plans;
 mod refusal;
 mod run;
 mod session;

@@ -100,7 +100,7 @@ fn lexical_reasons() -> [Reason; 5]
 }
 
 /// What the rules with the letter E say.
-fn reasons() -> [Reason; 33]
+fn reasons() -> [Reason; 36]
     ensures { map reason_row result ≡ reasons }
 {
     [
@@ -160,6 +160,12 @@ fn reasons() -> [Reason; 33]
         row(code::IRREGULAR_RANGE, b"range of names is not regular"),
         row(code::BLOCKNAME_WITHOUT_BLOCKS, b"BLOCKNAME without BLOCKS"),
         row(code::TOO_MANY_STEPS, b"more than 100 steps"),
+        row(code::UNKNOWN_PLAN, b"plan is not known"),
+        row(code::REPEATED_COLUMN, b"column is repeated"),
+        row(
+            code::INVALID_DERIVED_FACTOR,
+            b"derived factor has too few or too many levels",
+        ),
         row(
             code::FOLDOVER_NEEDS_TWO_LEVELS,
             b"FOLDOVER needs two levels and no BLOCKS",

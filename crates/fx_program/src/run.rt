@@ -1,4 +1,4 @@
-ghost use Rattle.std.specs.Prelude.{◌≡◌, ◌<◌, ◌≤◌, ◌⊎◌, [], ◌∷◌, ℕ, List, Option, Some, false, Ok, Err, map, ◌++◌, IfOk, IsErr, IsTrue, true};
+ghost use Rattle.std.specs.Prelude.{◌≡◌, ◌<◌, ◌≤◌, ◌⊎◌, [], ◌∷◌, ℕ, List, Option, Some, false, Ok, Err, map, ◌++◌, IfOk, IsErr, IsTrue, OnOk, true};
 ghost use Rattle.fx_statements.specs.Steps.{meaning_of};
 ghost use Rattle.fx_statements.specs.Questions.{conclusion_in};
 ghost use Rattle.fx_alias.specs.Sections.{step_lines};
@@ -11,7 +11,7 @@ ghost use Rattle.fx_program.specs.declared.words.Settings.TheVariants.{Catalogue
 ghost use Rattle.fx_program.specs.Stops.{HasStatusCause, exit_status};
 ghost use Rattle.fx_program.specs.declared.stop.Stop.TheVariants as stop;
 ghost use Rattle.fx_program.specs.Files.{book_lines};
-ghost use Rattle.fx_program.specs.Output.{large_output, message, program_output, step_output, world};
+ghost use Rattle.fx_program.specs.Output.{asked_of, large_output, message, program_output, step_output, world};
 ghost use Rattle.fx_program.specs.Commands.{command_for, command_in, command_of};
 ghost use Rattle.fx_program.specs.Outside.{
   GivesForSome,
@@ -31,7 +31,8 @@ use crate::fold::put_fold_line;
 use crate::judging::judge_text;
 use crate::listing::list;
 use crate::making::make_text;
-use crate::output_lines::{put_book_lines, put_output_lines};
+use crate::output_lines::put_book_lines;
+use crate::plans::AskedPlans;
 use crate::refusal::put_fault;
 use crate::session::Session;
 use crate::status::{status_of, worse};
@@ -42,7 +43,7 @@ use crate::upgrading::upgrade_text;
 use crate::words::{Settings, WordFault, read_words, word_line};
 use fx_alias::{examine_listing, fold_listing, head_listing, rules_listing};
 use fx_answer::answer;
-use fx_base::{Bytes, NoMemory, Shelf, Sink, Source, Taken, read_all};
+use fx_base::{Bytes, NoMemory, Shelf, Sink, Source, Taken, put, read_all};
 use fx_board::FreeGate;
 use fx_language::code;
 use fx_statements::{Outcome, Step};
@@ -233,31 +234,35 @@ fn run_steps<R: Threads + Sync, K: Sink, F: Shelf>(
         (shelf_view F.Shelf shelf.old) (shelf_view F.Shelf shelf.new) result }
 {
     let mut status = 0;
+    let mut plans = AskedPlans::new(session.alloc);
     for (i, step) in steps.iter().enumerate() {
-        let ended = run_step(session, i + 1, step, listing, shelf)?;
+        let ended = run_step(session, i + 1, step, &mut plans, listing, shelf)?;
         status = worse(status, ended);
     }
     Ok(status)
 }
 
 /// Runs the step of this number: shelves its books, its plans and its fold-over, and then lists its
-/// outcome.
-fn run_step<R: Threads + Sync, K: Sink, F: Shelf>(
+/// outcome. Its OUTPUT statements are added to the earlier ones.
+fn run_step<'a, R: Threads + Sync, K: Sink, F: Shelf>(
     session: &Session<'_, R>,
     number: usize,
-    step: &Step,
+    step: &'a Step,
+    plans: &mut AskedPlans<'a>,
     listing: &mut K,
     shelf: &mut F,
 ) -> Result<u8, Stop>
     requires { F.begun shelf.old ≡ false }
-    ensures { Writes (step_output session.now.seed number (meaning_of step.now))
+    ensures output { Writes (step_output session.now.seed number plans.old (meaning_of step.now))
         (sink_view K.Sink listing.old) (sink_view K.Sink listing.new)
         (shelf_view F.Shelf shelf.old) (shelf_view F.Shelf shelf.new) result }
+    ensures plans { OnOk result (plans.new ≡ plans.old ++ asked_of (meaning_of step.now)) }
 {
     let outcome = answer(session.rt, session.alloc, step, session.threads, &FreeGate)?;
-    shelve_files(session, number, step, &outcome, shelf)?;
+    let mut named = Bytes::new(session.alloc);
+    shelve_files(session, number, step, &outcome, plans, &mut named, shelf)?;
     let mut lines = lines_of(session.alloc, number, step, &outcome)?;
-    put_output_lines(&mut lines, step, &outcome, session.seed)?;
+    put(&mut lines, named.as_slice())?;
     put_fold_line(&mut lines, number, step, &outcome)?;
     list(listing, lines.as_slice(), status_of(outcome.end))
 }

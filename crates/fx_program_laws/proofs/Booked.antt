@@ -29,6 +29,7 @@ use Rattle.fx_answer.proofs.Best.{IsAsked, highest_asked, least_asked, more_bloc
 use Rattle.fx_answer.proofs.Best.{smaller_asked}
 use Rattle.fx_program.specs.Files.{book_file, book_files, book_name}
 use Rattle.fx_program.specs.Output.{step_output}
+use Rattle.fx_program.specs.Plans.{AskedView}
 use Rattle.fx_program.specs.Statuses.{status_of}
 use Rattle.fx_program.proofs.None.{none_at_one}
 use Rattle.fx_program_laws.specs.BookClaims.{HasABookForEach, HasABookForEachAsked, HasBook, HighestHasBook}
@@ -68,11 +69,11 @@ among number n (suc k) (q ∷ ps) p e has =
     (book_file number (named i p))) next
     (Contains-append_right (book_files number (book_at n q)) _ _ (among number (n + 1) k ps p e has)))
 
-module _ (seed number : ℕ) (step : Meaning) where
+module _ (seed number : ℕ) (earlier : List AskedView) (step : Meaning) where
   abbrev ps : List Problem
   ps = asked (questions_of step)
 
-  pub booked : HasABookForEach seed number step
+  pub booked : HasABookForEach seed number earlier step
   booked k p at has =
       let own : Contains (book_files number (books_of step)) (book_file number (named (k + 1) p)) =
       subst (λ i. Contains (book_files number (books_of step)) (book_file number (named i p)))
@@ -102,13 +103,13 @@ module _ (seed number : ℕ) (step : Meaning) where
 
   asked_booked : (status_of (outcome_of step).ending ≡ 2 → ⊥) → (k : ℕ) (p : Problem) → slice_get ps k ≡ Some p
       → has_book p ≡ true
-      → Contains (step_output seed number step).events (WholeFile (book_name number (k + 1)) (book_text (book_for p)))
+      → Contains (step_output seed number earlier step).events (WholeFile (book_name number (k + 1)) (book_text (book_for p)))
   asked_booked below k p at has = booked k p (ap (λ l. slice_get l k) (all_finished below) ∙ at) has
 
   has_unanswered : (p : Problem) → answer p ≡ None → has_book p ≡ true
   has_unanswered p is = or_right p.least _ (ap (λ o. not (is_some o)) is)
 
-  pub none_booked : (step_output seed number step).status ≡ 1 → HasABookForEachAsked seed number step
+  pub none_booked : (step_output seed number earlier step).status ≡ 1 → HasABookForEachAsked seed number earlier step
   none_booked one k p at =
       let none = none_at_one (outcome_of step).ending one in
       let all = none-of (questions_of step) step.settings.budget none.0 none.1 in
@@ -121,7 +122,7 @@ module _ (seed number : ℕ) (step : Meaning) where
   module _ (d : Dimensions) (wanted : Requirement) (own : Option (List ℕ)) (q : IsAsked step d wanted own)
       (below : status_of (outcome_of step).ending ≡ 2 → ⊥) where
     has_book_of : (beat : Option (List ℕ)) → beat_of q.question ≡ beat → has_book q.question ≡ true
-        → HasBook seed number step d wanted beat
+        → HasBook seed number earlier step d wanted beat
     has_book_of beat is has = record {
       question = q.place + 1;
       book = book_for q.question;
@@ -151,7 +152,7 @@ module _ (seed number : ℕ) (step : Meaning) where
 
   unanswered_book : (d : Dimensions) (wanted : Requirement) → IsAsked step d wanted None
       → (status_of (outcome_of step).ending ≡ 2 → ⊥)
-      → HasBook seed number step d wanted None
+      → HasBook seed number earlier step d wanted None
   unanswered_book d wanted q below =
       has_book_of d wanted None q below None (no_pattern q.question q.answer_is)
       (has_unanswered q.question q.answer_is)
@@ -165,19 +166,19 @@ module _ (seed number : ℕ) (step : Meaning) where
     abbrev d : Dimensions
     d = (outcome_of step).dimensions
 
-    pub highest_book : HighestHasBook seed number step
+    pub highest_book : HighestHasBook seed number earlier step
     highest_book rows count goal plain without e = elim (highest_asked step valid rows count goal plain without e) [
       | inl full ↦ inl full
       | inr next ↦ inr (unanswered_book d _ next (design_below rows count e))
     ]
 
-    pub highest_book_in_blocks : HighestInBlocksHasBook seed number step
+    pub highest_book_in_blocks : HighestInBlocksHasBook seed number earlier step
     highest_book_in_blocks rows count goal some e = elim (next_in_blocks_asked step valid rows count goal some e) [
       | inl top ↦ inl top
       | inr next ↦ inr (unanswered_book d _ next (design_below rows count e))
     ]
 
-    pub least_book : LeastPatternHasBook seed number step
+    pub least_book : LeastPatternHasBook seed number earlier step
     least_book rows count least e =
         let q = least_asked step valid rows count least e in
         let own : q.question.least ≡ true = q.least ∙ least in
@@ -185,12 +186,12 @@ module _ (seed number : ℕ) (step : Meaning) where
         (with_pattern q.question rows own q.answer_is ∙ ap (λ d. Some (pattern_of d rows)) q.dimensions)
         (ap (λ b. b || not (is_some (answer q.question))) own)
 
-    pub size_books : LeastSizeHasBooks seed number step
+    pub size_books : LeastSizeHasBooks seed number earlier step
     size_books rows count other e h less =
         unanswered_book other (required step.goal) (smaller_asked step valid rows count other e h less)
         (design_below rows count e)
 
-    pub block_book : MostBlocksHasBook seed number step
+    pub block_book : MostBlocksHasBook seed number earlier step
     block_book rows count most e =
         unanswered_book (with_block d) (required step.goal) (more_blocks_asked step valid rows count most e)
         (design_below rows count e)

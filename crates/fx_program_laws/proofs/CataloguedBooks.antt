@@ -1,5 +1,5 @@
 -- The books of a catalogue are read from their texts as they are, and are accepted.
-use Rattle.std.proofs.Common.{ℕ, ◌≡◌, ◌<◌, ◌≤◌, ◌-◌, ◌+◌, Bool, List, length, Option, Some, None, All, refl, sym, subst}
+use Rattle.std.proofs.Common.{ℕ, ◌≡◌, ◌<◌, ◌≤◌, ◌-◌, ◌+◌, List, length, Option, Some, None, All, refl, sym, subst}
 use Rattle.std.proofs.Common.{arith, inl, inr}
 use Rattle.std.specs.Prelude.{nat_lt}
 use Rattle.std.proofs.lemmas.Bool.{cases_Bool, cond-true, cond-false, ltb-false}
@@ -15,7 +15,7 @@ use Rattle.fx_catalogue.specs.declared.line.Line.TheVariants.{Budget}
 use Rattle.fx_program.specs.CommandLine.{IsCatalogue}
 use Rattle.fx_program.proofs.CatalogueClaims.{each_line}
 use Rattle.fx_program.proofs.CatalogueLines.{line_shape}
-use Rattle.fx_program_laws.specs.BookClaims.{HasAcceptedBook, IsAcceptedBook}
+use Rattle.fx_program_laws.specs.BookClaims.{HasAcceptedBook}
 use Rattle.fx_program_laws.proofs.GoodBooks.{MayBeAsked, accepted_book}
 
 module _ (shape : Shape) (shaped : IsShape shape) (free : shape.t ≡ 0) where

@@ -26,9 +26,11 @@ use Rattle.fx_book.specs.QuestionBooks.{book_for, has_book}
 use Rattle.fx_answer.specs.Books.{books_from, books_of, finished}
 use Rattle.fx_statements.specs.declared.fold.Fold.{Fold}
 use Rattle.fx_statements.specs.declared.fold.Fold.TheVariants.{Without, Factors}
-use Rattle.fx_program.specs.Files.{book_files, book_name, design_files, file_name, fold_file, fold_name, matrix_in}
-use Rattle.fx_program.specs.Files.{names_among, plan_file, plan_files}
-use Rattle.fx_program.specs.Output.{program_output, step_output, steps_output, worse}
+use Rattle.fx_derived.specs.Tables.{TableView}
+use Rattle.fx_program.specs.Files.{book_files, book_name, design_files, file_name, file_of, fold_file, fold_name, matrix_in}
+use Rattle.fx_program.specs.Files.{names_among, plan_files}
+use Rattle.fx_program.specs.Output.{asked_of, program_output, step_output, steps_output, worse}
+use Rattle.fx_program.specs.Plans.{AskedView, asked_as, asked_by, plan_after}
 use Rattle.fx_program.specs.Texts.{program_in}
 use Rattle.fx_program.specs.declared.text.TextFault.{TextFault}
 use Rattle.fx_program.specs.Claims.{EachStep}
@@ -122,11 +124,6 @@ books_apart number least (b ∷ books) small h = (
   books_apart number (b.question + 1) books small h.2,
 )
 
--- the names of plans
-abbrev plan_names : Meaning → Option MatrixView → List Name
-plan_names step None = []
-plan_names step (Some matrix) = map file_name (names_of step.outputs)
-
 abbrev AreDifferentPlans : Name → List Name → Type 0
 AreDifferentPlans name names = AllByRecursion (λ other. is_same_name name other ≡ false) names
 
@@ -152,10 +149,57 @@ each-plan (x ∷ outs) spelled = (
       (λ name is. (is.0, inr is.1, is.2, is.3)) (each-plan outs spelled.1),
 )
 
-plans_given : (step : Meaning) (matrix : Option MatrixView) → AllByRecursion IsName (names_of step.outputs)
-    → AllByRecursion (IsPlanOf (names_of step.outputs)) (plan_names step matrix)
-plans_given step None spelled = tt
-plans_given step (Some matrix) spelled = each-plan (names_of step.outputs) spelled
+-- the names of the plans of some OUTPUT statements that are written
+abbrev plan_names : ℕ → List AskedView → List AskedView → List Name
+plan_names seed earlier asked = names_among (plan_files seed earlier asked)
+
+-- what holds of the names that all plans would have holds of those that are written
+module _ (P : Name → Type 0) (seed : ℕ) (factors : List (List ℕ)) (matrix : Option MatrixView) where
+  written_each : (earlier : List AskedView) (outputs : List OutputSpec)
+      → AllByRecursion P (map file_name (names_of outputs))
+      → AllByRecursion P (plan_names seed earlier (map (asked_as factors matrix) outputs))
+  written_each earlier [] h = tt
+  written_each earlier (o ∷ outputs) h =
+      let asked : AskedView = asked_as factors matrix o in
+      let rest : List AskedView = map (asked_as factors matrix) outputs in
+      let later = written_each (earlier ++ asked ∷ []) outputs h.1 in
+      let go : (plan : Option TableView)
+      → AllByRecursion P (names_among (file_of o.name plan ++ plan_files seed (earlier ++ asked ∷ []) rest)) =
+      λ plan. elim plan as
+      (λ plan. AllByRecursion P (names_among (file_of o.name plan ++ plan_files seed (earlier ++ asked ∷ []) rest))) [
+        | None ↦ later
+        | Some table ↦ (h.0, later)
+      ] in
+      go (plan_after seed earlier asked)
+
+module _ (seed : ℕ) (factors : List (List ℕ)) (matrix : Option MatrixView) where
+  written_apart : (earlier : List AskedView) (outputs : List OutputSpec)
+      → IsDistinct is_same_name (map file_name (names_of outputs))
+      → IsDistinct is_same_name (plan_names seed earlier (map (asked_as factors matrix) outputs))
+  unfolding IsDistinct
+  written_apart earlier [] h = tt
+  written_apart earlier (o ∷ outputs) h =
+      let asked : AskedView = asked_as factors matrix o in
+      let rest : List AskedView = map (asked_as factors matrix) outputs in
+      let later = written_apart (earlier ++ asked ∷ []) outputs h.1 in
+      let each =
+      written_each (λ other. is_same_name (file_name o.name) other ≡ false) seed factors matrix (earlier ++ asked ∷ [])
+      outputs h.0 in
+      let go : (plan : Option TableView)
+      → IsDistinct is_same_name (names_among (file_of o.name plan ++ plan_files seed (earlier ++ asked ∷ []) rest)) =
+      λ plan. elim plan as
+      (λ plan. IsDistinct is_same_name (names_among (file_of o.name plan ++ plan_files seed (earlier ++ asked ∷ []) rest))) [
+        | None ↦ later
+        | Some table ↦ (each, later)
+      ] in
+      go (plan_after seed earlier asked)
+
+plans_given : (seed : ℕ) (earlier : List AskedView) (step : Meaning) (matrix : Option MatrixView)
+    → AllByRecursion IsName (names_of step.outputs)
+    → AllByRecursion (IsPlanOf (names_of step.outputs)) (plan_names seed earlier (asked_by step matrix))
+plans_given seed earlier step matrix spelled =
+    written_each (IsPlanOf (names_of step.outputs)) seed step.factors matrix earlier step.outputs
+    (each-plan (names_of step.outputs) spelled)
 
 -- the name of the fold-over, if there is one
 abbrev fold_names : ℕ → Fold → Option MatrixView → List Name
@@ -178,10 +222,11 @@ folds_apart number Without matrix = none_differ
 folds_apart number (Factors folded) None = none_differ
 folds_apart number (Factors folded) (Some matrix) = one_differs (fold_name number)
 
-given_apart : (step : Meaning) (matrix : Option MatrixView) → IsDistinct is_same_name (names_of step.outputs)
-    → IsDistinct is_same_name (plan_names step matrix)
-given_apart step None h = none_differ
-given_apart step (Some matrix) h = plans_apart (names_of step.outputs) h
+given_apart : (seed : ℕ) (earlier : List AskedView) (step : Meaning) (matrix : Option MatrixView)
+    → IsDistinct is_same_name (names_of step.outputs)
+    → IsDistinct is_same_name (plan_names seed earlier (asked_by step matrix))
+given_apart seed earlier step matrix h =
+    written_apart seed step.factors matrix earlier step.outputs (plans_apart (names_of step.outputs) h)
 
 -- OUT names of one list and of another one behind it
 front_differ : (xs ys : List Name) → IsDistinct is_same_name (xs ++ ys) → IsDistinct is_same_name xs
@@ -201,17 +246,19 @@ across (x ∷ xs) ys a b h (inr left) right = across xs ys a b h.1 left right
 
 -- ---- the names of all steps
 
-abbrev design_names : ℕ → Meaning → Option MatrixView → List Name
-design_names number step matrix = plan_names step matrix ++ fold_names number step.fold matrix
+abbrev design_names : ℕ → ℕ → List AskedView → Meaning → Option MatrixView → List Name
+design_names seed number earlier step matrix =
+    plan_names seed earlier (asked_by step matrix) ++ fold_names number step.fold matrix
 
-abbrev step_names : ℕ → Meaning → List Name
-step_names number step =
+abbrev step_names : ℕ → ℕ → List AskedView → Meaning → List Name
+step_names seed number earlier step =
     book_names number (books_of step)
-    ++ design_names number step (matrix_in (outcome_of step).dimensions (outcome_of step).ending)
+    ++ design_names seed number earlier step (matrix_in (outcome_of step).dimensions (outcome_of step).ending)
 
-abbrev all_names : ℕ → List Meaning → List Name
-all_names number [] = []
-all_names number (step ∷ steps) = step_names number step ++ all_names (number + 1) steps
+abbrev all_names : ℕ → ℕ → List AskedView → List Meaning → List Name
+all_names seed number earlier [] = []
+all_names seed number earlier (step ∷ steps) =
+    step_names seed number earlier step ++ all_names seed (number + 1) (earlier ++ asked_of step) steps
 
 among-append : (xs ys : List Event) → names_among (xs ++ ys) ≡ names_among xs ++ names_among ys
 among-append [] ys = refl
@@ -222,47 +269,40 @@ among-books : (number : ℕ) (books : List NamedBook) → names_among (book_file
 among-books number [] = refl
 among-books number (b ∷ books) = ap (λ (l : List Name). book_name number b.question ∷ l) (among-books number books)
 
-among-outputs : (seed : ℕ) (factors : List (List ℕ)) (matrix : MatrixView) (outputs : List OutputSpec)
-    → names_among (map (plan_file seed factors matrix) outputs) ≡ map file_name (names_of outputs)
-among-outputs seed factors matrix [] = refl
-among-outputs seed factors matrix (o ∷ outputs) =
-    ap (λ (l : List Name). file_name o.name ∷ l) (among-outputs seed factors matrix outputs)
-
-among-plans : (seed : ℕ) (step : Meaning) (matrix : Option MatrixView)
-    → names_among (plan_files seed step matrix) ≡ plan_names step matrix
-among-plans seed step None = refl
-among-plans seed step (Some matrix) = among-outputs seed step.factors matrix step.outputs
-
 among-fold : (number : ℕ) (factors : List (List ℕ)) (fold : Fold) (matrix : Option MatrixView)
     → names_among (fold_file number factors fold matrix) ≡ fold_names number fold matrix
 among-fold number factors Without matrix = refl
 among-fold number factors (Factors folded) None = refl
 among-fold number factors (Factors folded) (Some matrix) = refl
 
-among-designs : (seed number : ℕ) (step : Meaning) (matrix : Option MatrixView)
-    → names_among (design_files seed number step matrix) ≡ design_names number step matrix
-among-designs seed number step matrix =
-    among-append (plan_files seed step matrix) (fold_file number step.factors step.fold matrix)
-    ∙ ap₂ (λ (l r : List Name). l ++ r) (among-plans seed step matrix) (among-fold number step.factors step.fold matrix)
+among-designs : (seed number : ℕ) (earlier : List AskedView) (step : Meaning) (matrix : Option MatrixView)
+    → names_among (design_files seed number earlier step matrix) ≡ design_names seed number earlier step matrix
+among-designs seed number earlier step matrix =
+    among-append (plan_files seed earlier (asked_by step matrix)) (fold_file number step.factors step.fold matrix)
+    ∙ ap (λ (l : List Name). plan_names seed earlier (asked_by step matrix) ++ l)
+    (among-fold number step.factors step.fold matrix)
 
-among-step : (seed number : ℕ) (step : Meaning)
-    → names_among (step_output seed number step).events ≡ step_names number step
-among-step seed number step =
+among-step : (seed number : ℕ) (earlier : List AskedView) (step : Meaning)
+    → names_among (step_output seed number earlier step).events ≡ step_names seed number earlier step
+among-step seed number earlier step =
     let matrix : Option MatrixView = matrix_in (outcome_of step).dimensions (outcome_of step).ending in
-    let files : List Event = book_files number (books_of step) ++ design_files seed number step matrix in
+    let files : List Event = book_files number (books_of step) ++ design_files seed number earlier step matrix in
     among-append files (Piece _ ∷ []) ∙ append-nil (names_among files) ∙ among-append
-    (book_files number (books_of step)) (design_files seed number step matrix)
-    ∙ ap₂ (λ (l r : List Name). l ++ r) (among-books number (books_of step)) (among-designs seed number step matrix)
+    (book_files number (books_of step)) (design_files seed number earlier step matrix)
+    ∙ ap₂ (λ (l r : List Name). l ++ r) (among-books number (books_of step))
+    (among-designs seed number earlier step matrix)
 
-among-steps : (seed number : ℕ) (events : List Event) (status : ℕ) (steps : List Meaning)
-    → names_among (steps_output seed number events status steps).events ≡ names_among events ++ all_names number steps
-among-steps seed number events status [] = sym (append-nil (names_among events))
-among-steps seed number events status (step ∷ steps) =
-    let here : List Event = (step_output seed number step).events in
-    among-steps seed (number + 1) (events ++ here) (worse status (step_output seed number step).status) steps
-    ∙ ap (λ (l : List Name). l ++ all_names (number + 1) steps)
-    (among-append events here ∙ ap (λ (l : List Name). names_among events ++ l) (among-step seed number step))
-    ∙ append_assoc (names_among events) (step_names number step) (all_names (number + 1) steps)
+among-steps : (seed number : ℕ) (earlier : List AskedView) (events : List Event) (status : ℕ) (steps : List Meaning)
+    → names_among (steps_output seed number earlier events status steps).events
+    ≡ names_among events ++ all_names seed number earlier steps
+among-steps seed number earlier events status [] = sym (append-nil (names_among events))
+among-steps seed number earlier events status (step ∷ steps) =
+    let here : List Event = (step_output seed number earlier step).events in
+    let plans : List AskedView = earlier ++ asked_of step in
+    among-steps seed (number + 1) plans (events ++ here) (worse status (step_output seed number earlier step).status) steps
+    ∙ ap (λ (l : List Name). l ++ all_names seed (number + 1) plans steps)
+    (among-append events here ∙ ap (λ (l : List Name). names_among events ++ l) (among-step seed number earlier step))
+    ∙ append_assoc (names_among events) (step_names seed number earlier step) (all_names seed (number + 1) plans steps)
 
 -- the name of a file of the step of this number that no OUT name makes: of a book, or of the fold-over
 abbrev IsNumbered : ℕ → Name → Type 0
@@ -310,11 +350,11 @@ numbered_and_plan k outs name other hk (inr e) plan =
 abbrev HasFew : Meaning → Type 0
 HasFew step = length (finished (questions_of step) step.settings.budget) ≤ MOST_FACTORS + 2
 
-record AreTold (number : ℕ) (steps : List Meaning) : Type 0 where
-  pub differ : IsDistinct is_same_name (all_names number steps)
-  pub each : AllByRecursion (IsNameOf number (out_names_of steps)) (all_names number steps)
+record AreTold (seed number : ℕ) (earlier : List AskedView) (steps : List Meaning) : Type 0 where
+  pub differ : IsDistinct is_same_name (all_names seed number earlier steps)
+  pub each : AllByRecursion (IsNameOf number (out_names_of steps)) (all_names seed number earlier steps)
 
-module _ (number : ℕ) (step : Meaning) (small : IsSmall number) (few : HasFew step)
+module _ (seed number : ℕ) (earlier : List AskedView) (step : Meaning) (small : IsSmall number) (few : HasFew step)
     (spelled : AllByRecursion IsName (names_of step.outputs)) where
   rise : AreRising 1 (books_of step)
   rise = books_rise 1 (finished (questions_of step) step.settings.budget) (omega (arith, few, wide))
@@ -329,7 +369,7 @@ module _ (number : ℕ) (step : Meaning) (small : IsSmall number) (few : HasFew 
   books = book_names number (books_of step)
 
   abbrev plans : List Name
-  plans = plan_names step matrix_of_step
+  plans = plan_names seed earlier (asked_by step matrix_of_step)
 
   abbrev folds : List Name
   folds = fold_names number step.fold matrix_of_step
@@ -338,15 +378,15 @@ module _ (number : ℕ) (step : Meaning) (small : IsSmall number) (few : HasFew 
   designs_each =
       each-append (λ name. IsPlanOf (names_of step.outputs) name ⊎ IsFoldOf number name) plans folds
       (each-weaker (IsPlanOf (names_of step.outputs)) (λ name. IsPlanOf (names_of step.outputs) name ⊎ IsFoldOf number name)
-      plans (λ name is. inl is) (plans_given step matrix_of_step spelled))
+      plans (λ name is. inl is) (plans_given seed earlier step matrix_of_step spelled))
       (each-weaker (IsFoldOf number) (λ name. IsPlanOf (names_of step.outputs) name ⊎ IsFoldOf number name)
       folds (λ name is. inr is) (folds_given number step.fold matrix_of_step))
 
   designs_apart : IsDistinct is_same_name (names_of step.outputs) → IsDistinct is_same_name (plans ++ folds)
   designs_apart names =
-      joined_differ plans folds (given_apart step matrix_of_step names) (folds_apart number step.fold matrix_of_step)
+      joined_differ plans folds (given_apart seed earlier step matrix_of_step names) (folds_apart number step.fold matrix_of_step)
       (cross (IsPlanOf (names_of step.outputs)) (IsFoldOf number) plans folds
-      (plans_given step matrix_of_step spelled) (folds_given number step.fold matrix_of_step)
+      (plans_given seed earlier step matrix_of_step spelled) (folds_given number step.fold matrix_of_step)
       (λ name other fold plan. numbered_and_plan number (names_of step.outputs) name other small (inr fold) plan))
 
   book_and_design : (name other : Name) → (IsPlanOf (names_of step.outputs) name ⊎ IsFoldOf number name)
@@ -360,14 +400,14 @@ module _ (number : ℕ) (step : Meaning) (small : IsSmall number) (few : HasFew 
       (subst (λ (x : Name). is_same_name (book_name number book.0) x ≡ false) (sym e)
       (book_and_fold_differ number book.0 number small book.2 small)))
 
-  step_apart : IsDistinct is_same_name (names_of step.outputs) → IsDistinct is_same_name (step_names number step)
+  step_apart : IsDistinct is_same_name (names_of step.outputs) → IsDistinct is_same_name (step_names seed number earlier step)
   step_apart names =
       joined_differ books (plans ++ folds) (books_apart number 1 (books_of step) small rise) (designs_apart names)
       (cross (IsBookOf number 1) (λ name. IsPlanOf (names_of step.outputs) name ⊎ IsFoldOf number name)
       books (plans ++ folds) (each-book number 1 (books_of step) rise) designs_each
       (λ name other design book. book_and_design name other design book))
 
-  own_each : AllByRecursion (IsOwn number (names_of step.outputs)) (step_names number step)
+  own_each : AllByRecursion (IsOwn number (names_of step.outputs)) (step_names seed number earlier step)
   own_each =
       each-append (IsOwn number (names_of step.outputs)) books (plans ++ folds)
       (each-weaker (IsBookOf number 1) (IsOwn number (names_of step.outputs)) books
@@ -382,10 +422,10 @@ module _ (number : ℕ) (step : Meaning) (small : IsSmall number) (few : HasFew 
 
   -- its names, as those of steps from this one on
   step_each : (outs : List Name)
-      → AllByRecursion (IsNameOf number (names_of step.outputs ++ outs)) (step_names number step)
+      → AllByRecursion (IsNameOf number (names_of step.outputs ++ outs)) (step_names seed number earlier step)
   step_each outs =
       each-weaker (IsOwn number (names_of step.outputs)) (IsNameOf number (names_of step.outputs ++ outs))
-      (step_names number step) (λ name is. own_wider name is) own_each
+      (step_names seed number earlier step) (λ name is. own_wider name is) own_each
     where
       own_wider : (name : Name) → IsOwn number (names_of step.outputs) name
           → IsNameOf number (names_of step.outputs ++ outs) name
@@ -409,29 +449,31 @@ module _ (number : ℕ) (step : Meaning) (small : IsSmall number) (few : HasFew 
       (plans_differ plan.0 mine.0
       (turned mine.0 plan.0 (across (names_of step.outputs) outs mine.0 plan.0 names mine.1 plan.1))))
 
-all_told : (number : ℕ) (steps : List Meaning) → number + length steps < 10 ^ 64 → AllByRecursion HasFew steps
+all_told : (seed number : ℕ) (earlier : List AskedView) (steps : List Meaning) → number + length steps < 10 ^ 64 → AllByRecursion HasFew steps
     → IsDistinct is_same_name (out_names_of steps) → AllByRecursion IsName (out_names_of steps)
-    → AreTold number steps
-all_told number [] small few names spelled = record { differ = none_differ; each = tt }
-all_told number (step ∷ steps) small few names spelled =
+    → AreTold seed number earlier steps
+all_told seed number earlier [] small few names spelled = record { differ = none_differ; each = tt }
+all_told seed number earlier (step ∷ steps) small few names spelled =
     let outs : List Name = out_names_of steps in
     let own : IsDistinct is_same_name (names_of step.outputs) = front_differ (names_of step.outputs) outs names in
     let both = each-append_parts IsName (names_of step.outputs) outs spelled in
+    let behind : List AskedView = earlier ++ asked_of step in
     let later =
-    all_told (number + 1) steps (omega (arith, small)) few.1 (behind_differ (names_of step.outputs) outs names) both.1
+    all_told seed (number + 1) behind steps (omega (arith, small)) few.1
+    (behind_differ (names_of step.outputs) outs names) both.1
     in
     let number_small : IsSmall number = omega (arith, small) in
     record {
-      differ = joined_differ (step_names number step) (all_names (number + 1) steps)
-          (step_apart number step number_small few.0 both.0 own) later.differ
+      differ = joined_differ (step_names seed number earlier step) (all_names seed (number + 1) behind steps)
+          (step_apart seed number earlier step number_small few.0 both.0 own) later.differ
           (cross (IsOwn number (names_of step.outputs)) (IsNameOf (number + 1) outs)
-          (step_names number step) (all_names (number + 1) steps)
-          (own_each number step number_small few.0 both.0) later.each
-          (λ name other is was. later_differs number step number_small few.0 both.0 outs names name other is was));
-      each = each-append (IsNameOf number (names_of step.outputs ++ outs)) (step_names number step)
-          (all_names (number + 1) steps) (step_each number step number_small few.0 both.0 outs)
+          (step_names seed number earlier step) (all_names seed (number + 1) behind steps)
+          (own_each seed number earlier step number_small few.0 both.0) later.each
+          (λ name other is was. later_differs seed number earlier step number_small few.0 both.0 outs names name other is was));
+      each = each-append (IsNameOf number (names_of step.outputs ++ outs)) (step_names seed number earlier step)
+          (all_names seed (number + 1) behind steps) (step_each seed number earlier step number_small few.0 both.0 outs)
           (each-weaker (IsNameOf (number + 1) outs) (IsNameOf number (names_of step.outputs ++ outs))
-          (all_names (number + 1) steps) (wider number (names_of step.outputs) outs) later.each);
+          (all_names seed (number + 1) behind steps) (wider number (names_of step.outputs) outs) later.each);
     }
   where
     wider : (number : ℕ) (own outs : List Name) (name : Name) → IsNameOf (number + 1) outs name
@@ -464,9 +506,9 @@ program_differs : (seed : ℕ) (program : Result (List Meaning) TextFault) → E
 program_differs seed (Ok steps) valid are =
     let s = are steps refl in
     let told =
-    all_told 1 steps (omega (arith, s.many)) (few_each steps (recursion_from_All IsValidStep steps valid) s.few)
+    all_told seed 1 [] steps (omega (arith, s.many)) (few_each steps (recursion_from_All IsValidStep steps valid) s.few)
     s.names s.spelled in
-    subst (IsDistinct is_same_name) (sym (among-steps seed 1 [] 0 steps)) told.differ
+    subst (IsDistinct is_same_name) (sym (among-steps seed 1 [] [] 0 steps)) told.differ
 program_differs seed (Err fault) valid are = none_differ
 
 pub names_differ : (seed : ℕ) (text : List ℕ)

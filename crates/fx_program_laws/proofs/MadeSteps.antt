@@ -10,10 +10,10 @@ use Rattle.fx_lexer.specs.declared.token.Token.{Token}
 use Rattle.fx_lexer.specs.TextPieces.{text_of, tokens_among}
 use Rattle.fx_language.specs.Keywords.{symbols_of}
 use Rattle.fx_language.specs.FirstRefusal.{first_refusal}
-use Rattle.fx_outputs.specs.Outputs.{names_of}
+use Rattle.fx_outputs.specs.declared.earlier.EarlierPlan.{EarlierPlan}
 use Rattle.fx_text.specs.Written.{Written, written}
 use Rattle.fx_text.specs.Statements.{statements_of, steps_of, ends_step}
-use Rattle.fx_statements.specs.Steps.{Meaning, step_of}
+use Rattle.fx_statements.specs.Steps.{Meaning, plans_after, step_of}
 use Rattle.fx_statements.specs.Programs.{steps_behind, accepted, program_of}
 use Rattle.fx_program.specs.Making.{HasSteps, made_text}
 use Rattle.fx_program.specs.Texts.{program_in}
@@ -120,7 +120,7 @@ one_step r low =
 -- each has a meaning
 abbrev HasMeaning : ℕ → Type 0
 HasMeaning r =
-    (earlier : List (List ℕ)) (before : List ℕ) → (m : Meaning) × (step_of earlier (statements_at r before) ≡ Ok m)
+    (earlier : List EarlierPlan) (before : List ℕ) → (m : Meaning) × (step_of earlier (statements_at r before) ≡ Ok m)
 
 meaning_at : (r : ℕ) → r < 12 → HasMeaning r
 unfolding digits
@@ -180,19 +180,19 @@ steps_are (k ∷ ks) before =
     ∙ ap (λ (l : List (List (List Written))). statements_at (k % 12) before ∷ l) (steps_are ks after)
 
 -- and all have meanings
-record AreMeant (ks : List ℕ) (before : List ℕ) (earlier : List (List ℕ)) (done : List Meaning) : Type 0 where
+record AreMeant (ks : List ℕ) (before : List ℕ) (earlier : List EarlierPlan) (done : List Meaning) : Type 0 where
   pub out : List Meaning
   pub are : steps_behind earlier done (steps_at before ks) ≡ Ok (done ++ out)
   pub many : length out ≡ length ks
 
-meant : (ks : List ℕ) (before : List ℕ) (earlier : List (List ℕ)) (done : List Meaning)
+meant : (ks : List ℕ) (before : List ℕ) (earlier : List EarlierPlan) (done : List Meaning)
     → AreMeant ks before earlier done
 meant [] before earlier done =
     record { out = []; are = ap (λ (l : List Meaning). Ok l) (sym (append-nil done)); many = refl }
 meant (k ∷ ks) before earlier done =
     let m = meaning_at (k % 12) (omega arith) earlier before in
     let later =
-    meant ks (before ++ text_of (step_pieces (k % 12)) []) (earlier ++ names_of m.0.outputs) (done ++ m.0 ∷ []) in
+    meant ks (before ++ text_of (step_pieces (k % 12)) []) (plans_after earlier m.0) (done ++ m.0 ∷ []) in
     record {
       out = m.0 ∷ later.out;
       are = rw m.1 (later.are ∙ ap (λ (l : List Meaning). Ok l) (append_assoc done (m.0 ∷ []) later.out));

@@ -200,6 +200,7 @@ abbrev after_step : ℕ → Past
 after_step n = record {
   start = true;
   behind_equals = false;
+  in_brackets = false;
   procs = n;
   step = record { run = true; factors = true; size = true; model = true; blocks = false; foldover = false };
   statement =
@@ -220,6 +221,7 @@ abbrev at_front : Past
 at_front = record {
   start = true;
   behind_equals = false;
+  in_brackets = false;
   procs = 0;
   step = record { run = false; factors = false; size = false; model = false; blocks = false; foldover = false };
   statement =

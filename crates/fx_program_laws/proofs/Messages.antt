@@ -1,8 +1,8 @@
 -- Each fault of a text has its message and its place.
 use Rattle.std.proofs.Common.{◌≡◌, ℕ, zero, suc, ◌≤◌, Bool, true, false, ◌&&◌, List, [], length, Result, Ok, Err, refl}
-use Rattle.std.proofs.Common.{subst, sym, inl, inr, arith}
-use Rattle.std.specs.Prelude.{IfErr, ◌==◌, nat_le, nat_lt, if◌then◌else◌}
-use Rattle.std.proofs.lemmas.Bool.{and_parts, or_cases, eqb-true, leb-true, leb-false}
+use Rattle.std.proofs.Common.{subst, arith}
+use Rattle.std.specs.Prelude.{IfErr, nat_le, nat_lt, if◌then◌else◌}
+use Rattle.std.proofs.lemmas.Bool.{and_parts, leb-true, leb-false}
 use Rattle.fx_lexer.specs.declared.token.Token.{Token}
 use Rattle.fx_lexer.specs.declared.token.LexFault.{LexFault}
 use Rattle.fx_lexer.specs.Places.{IsPlaceIn}
@@ -39,11 +39,8 @@ below table (suc n) code all from upto = by_test (nat_le code n) refl (λ within
     by_test false e earlier = subst (λ c. has_row table c ≡ true) (last e) parts.0
 
 row_of : (code : ℕ) → is_rule code ≡ true → has_row reasons code ≡ true
-row_of code rule = elim (or_cases (nat_le 1 code && nat_le code 32) (code == 36) rule) [
-  | inl low ↦ let p = and_parts (nat_le 1 code) (nat_le code 32) low in
-      below reasons 32 code refl (leb-true 1 code p.0) (leb-true code 32 p.1)
-  | inr is ↦ subst (λ c. has_row reasons c ≡ true) (sym (eqb-true code 36 is)) refl
-]
+row_of code rule = let p = and_parts (nat_le 1 code) (nat_le code 36) rule in
+    below reasons 36 code refl (leb-true 1 code p.0) (leb-true code 36 p.1)
 
 lexical_row : (kind : ℕ) → is_lexical_rule kind ≡ true → has_row lexical_reasons kind ≡ true
 lexical_row kind rule = let p = and_parts (nat_le 1 kind) (nat_le kind 5) rule in

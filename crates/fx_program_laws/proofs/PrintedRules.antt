@@ -1,5 +1,5 @@
 -- A matrix that is printed is canonical, so its rules give the levels.
-use Rattle.std.proofs.Common.{ℕ, ◌≡◌, ◌+◌, true, List, Some, length, refl, sym, ap, ◌∙◌, subst, inl, inr}
+use Rattle.std.proofs.Common.{ℕ, ◌≡◌, true, List, Some, sym, subst, inl, inr}
 use Rattle.std.proofs.lemmas.Bool.{and_parts}
 use Rattle.fx_designs.specs.Galois.{IsField}
 use Rattle.fx_designs.specs.Problems.{Dimensions, Problem}

@@ -34,7 +34,9 @@ use Rattle.fx_outputs.specs.Outputs.{names_of, outputs_of}
 use Rattle.fx_outputs.specs.Contexts.{Context}
 use Rattle.fx_outputs.specs.Validity.{HasItsNames}
 use Rattle.fx_outputs.specs.declared.output.OutputSpec.{OutputSpec}
-use Rattle.fx_outputs.proofs.Names.{all_differ, all_have_names}
+use Rattle.fx_outputs.proofs.Names.{all_differ, all_have_names, built_names}
+use Rattle.fx_outputs.specs.Earlier.{plan_names}
+use Rattle.fx_outputs.specs.declared.earlier.EarlierPlan.{EarlierPlan}
 use Rattle.fx_settings.specs.declared.settings.Size.{Size}
 use Rattle.fx_settings.specs.declared.settings.Size.TheVariants.{Runs, Minimum}
 use Rattle.fx_settings.specs.Said.{step_said, value_after_equals}
@@ -44,7 +46,7 @@ use Rattle.fx_settings.proofs.Within.{all_within}
 use Rattle.fx_settings.specs.Settings.{number_or}
 use Rattle.fx_statements.specs.Contexts.{context}
 use Rattle.fx_statements.specs.Steps.{Meaning, asked_by, examine_of, factor_limit, factors_by, head_of, some_factors}
-use Rattle.fx_statements.specs.Steps.{step_by, step_of}
+use Rattle.fx_statements.specs.Steps.{plans_after, step_by, step_of}
 use Rattle.fx_statements.specs.Programs.{accepted, program_of, steps_behind}
 use Rattle.fx_statements.specs.Questions.{Questions, Turn, asked, highest, is_last, lowest, passes, question_for}
 use Rattle.fx_statements.specs.Questions.{questions_of, turns, up_to}
@@ -73,10 +75,10 @@ spelled_names : (context : Context) (outputs : List OutputSpec) → AllByRecursi
 spelled_names context [] h = tt
 spelled_names context (o ∷ outputs) h = (h.0.name, spelled_names context outputs h.1)
 
-step_read : (earlier : List (List ℕ)) (statements : List (List Written)) (factors : Option (List Written))
+step_read : (earlier : List EarlierPlan) (statements : List (List Written)) (factors : Option (List Written))
     (step : Meaning)
-    → AllByRecursion IsAccepted statements → IsDistinct is_same_name earlier
-    → step_by earlier statements factors ≡ Ok step → IsReadBehind earlier step
+    → AllByRecursion IsAccepted statements → IsDistinct is_same_name (plan_names earlier)
+    → step_by earlier statements factors ≡ Ok step → IsReadBehind (plan_names earlier) step
 step_read earlier statements None step is differ e = absurd (cc e)
 step_read earlier statements (Some given) step is differ e =
     let proc = start_of (head_of statements) in
@@ -100,7 +102,7 @@ step_read earlier statements (Some given) step is differ e =
     let same = some_same proc found.0 factors.0 found.2 in
     let most : factor_limit given statements ≤ MOST_FACTORS =
     most_of_all (number_or 2 (value_after_equals given)) (is_some (statement_of word.Blocks statements)) in
-    subst (IsReadBehind earlier) (same_ok whole step outputs.2)
+    subst (IsReadBehind (plan_names earlier)) (same_ok whole step outputs.2)
     (record {
       few = subst (λ (l : List (List ℕ)). length l ≤ MOST_FACTORS) same (omega (arith, few, most));
       names = all_differ (context factors.0 asked.0.0) earlier statements outputs.0 differ outputs.1;
@@ -115,9 +117,11 @@ record AreReadBehind (steps done : List Meaning) (groups : ℕ) : Type 0 where
   pub spelled : AllByRecursion IsName (out_names_of steps)
   pub many : length steps ≡ length done + groups
 
-all_read : (earlier : List (List ℕ)) (done : List Meaning) (groups : List (List (List Written))) (steps : List Meaning)
-    → AllByRecursion (AllByRecursion IsAccepted) groups → earlier ≡ out_names_of done → IsDistinct is_same_name earlier
-    → AllByRecursion IsName earlier → AllByRecursion (λ (step : Meaning). length step.factors ≤ MOST_FACTORS) done
+all_read : (earlier : List EarlierPlan) (done : List Meaning) (groups : List (List (List Written)))
+    (steps : List Meaning)
+    → AllByRecursion (AllByRecursion IsAccepted) groups → plan_names earlier ≡ out_names_of done
+    → IsDistinct is_same_name (plan_names earlier)
+    → AllByRecursion IsName (plan_names earlier) → AllByRecursion (λ (step : Meaning). length step.factors ≤ MOST_FACTORS) done
     → steps_behind earlier done groups ≡ Ok steps → AreReadBehind steps done (length groups)
 all_read earlier done [] steps each are differ spelled few e =
     let same : done ≡ steps = same_ok done steps e in
@@ -130,13 +134,17 @@ all_read earlier done [] steps each are differ spelled few e =
 all_read earlier done (group ∷ groups) steps each are differ spelled few e =
     let step = bind_ok (step_of earlier group) _ steps e in
     let read = step_read earlier group (statement_of word.Factors group) step.0 each.0 differ step.1 in
-    let names : earlier ++ names_of step.0.outputs ≡ out_names_of (done ++ step.0 ∷ []) =
+    let next : plan_names (plans_after earlier step.0) ≡ plan_names earlier ++ names_of step.0.outputs =
+    built_names (context step.0.factors step.0.settings) earlier step.0.outputs in
+    let names : plan_names earlier ++ names_of step.0.outputs ≡ out_names_of (done ++ step.0 ∷ []) =
     ap (λ (l : List (List ℕ)). l ++ names_of step.0.outputs) are ∙ ap (λ (l : List (List ℕ)). out_names_of done ++ l)
     (sym (append-nil (names_of step.0.outputs)))
     ∙ sym (flat_map-append (λ (step : Meaning). names_of step.outputs) done (step.0 ∷ [])) in
     let later =
-    all_read (earlier ++ names_of step.0.outputs) (done ++ step.0 ∷ []) groups steps each.1 names read.names
-    (each-append IsName earlier (names_of step.0.outputs) spelled read.spelled)
+    all_read (plans_after earlier step.0) (done ++ step.0 ∷ []) groups steps each.1 (next ∙ names)
+    (subst (IsDistinct is_same_name) (sym next) read.names)
+    (subst (AllByRecursion IsName) (sym next)
+    (each-append IsName (plan_names earlier) (names_of step.0.outputs) spelled read.spelled))
     (each-append (λ (step : Meaning). length step.factors ≤ MOST_FACTORS) done (step.0 ∷ []) few (read.few, tt)) step.2
     in
     record {

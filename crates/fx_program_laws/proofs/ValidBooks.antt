@@ -32,7 +32,7 @@ use Rattle.fx_reduction.proofs.ShortWords.{pattern-length}
 use Rattle.fx_vectors.specs.Effects.{numbers_of}
 use Rattle.fx_vectors.specs.Question.{CanBeAsked, is_resolution, requirement_of}
 use Rattle.fx_vectors.specs.Shape.{IsShape}
-use Rattle.fx_vectors.proofs.Limits.{order-bounds, words_fit}
+use Rattle.fx_vectors.proofs.Limits.{words_fit}
 use Rattle.fx_demands.proofs.Choice.{chosen}
 use Rattle.fx_book.specs.Demands.{numbered_effects}
 use Rattle.fx_book.specs.Valid.{AreFew, IsBeat, IsEntry, IsValidBook}

@@ -27,6 +27,7 @@ use Rattle.fx_answer.specs.StepClaims.{Allows, required}
 use Rattle.fx_program.specs.Files.{book_name}
 use Rattle.fx_program.specs.Commands.{output_of}
 use Rattle.fx_program.specs.Output.{message, step_output}
+use Rattle.fx_program.specs.Plans.{AskedView}
 use Rattle.fx_program.specs.Verdicts.{verdict_lines}
 
 -- a book that is read from its text as it is, and that the command `check` accepts, with status 0
@@ -47,70 +48,70 @@ HasAcceptedBooks step = All IsAcceptedBook (books_of step)
 
 -- the files of a step have the book of each of its questions that is finished and has one: under the numbers of the
 -- step and of the question
-abbrev pub HasABookForEach : ℕ → ℕ → Meaning → Type 0
-HasABookForEach seed number step = (k : ℕ) (p : Problem)
+abbrev pub HasABookForEach : ℕ → ℕ → List AskedView → Meaning → Type 0
+HasABookForEach seed number earlier step = (k : ℕ) (p : Problem)
     → slice_get (finished (questions_of step) step.settings.budget) k ≡ Some p
     → has_book p ≡ true
-    → Contains (step_output seed number step).events (WholeFile (book_name number (k + 1)) (book_text (book_for p)))
+    → Contains (step_output seed number earlier step).events (WholeFile (book_name number (k + 1)) (book_text (book_for p)))
 
 -- and of each question that is asked
-abbrev pub HasABookForEachAsked : ℕ → ℕ → Meaning → Type 0
-HasABookForEachAsked seed number step = (k : ℕ) (p : Problem)
+abbrev pub HasABookForEachAsked : ℕ → ℕ → List AskedView → Meaning → Type 0
+HasABookForEachAsked seed number earlier step = (k : ℕ) (p : Problem)
     → slice_get (asked (questions_of step)) k ≡ Some p
-    → Contains (step_output seed number step).events (WholeFile (book_name number (k + 1)) (book_text (book_for p)))
+    → Contains (step_output seed number earlier step).events (WholeFile (book_name number (k + 1)) (book_text (book_for p)))
 
 -- The files of a step have a book that claims that the runs of no rule matrix of these dimensions meet what is wanted,
 -- or, with a pattern, that none of those that do has a less one.
-pub record HasBook (seed number : ℕ) (step : Meaning) (d : Dimensions) (wanted : Requirement) (beat : Option (List ℕ))
-    : Type 0 where
+pub record HasBook (seed number : ℕ) (earlier : List AskedView) (step : Meaning) (d : Dimensions)
+    (wanted : Requirement) (beat : Option (List ℕ)) : Type 0 where
   pub question : ℕ
   pub book : Book
-  pub among : Contains (step_output seed number step).events
+  pub among : Contains (step_output seed number earlier step).events
       (WholeFile (book_name number question) (book_text book))
   pub about : problem_of book.head.question ≡ record { dimensions = d; requirement = wanted; least = is_some beat }
   pub pattern : book.head.beat ≡ beat
 
 -- where the highest resolution is asked, without blocks, one that none has the next, unless the design has no defining
 -- words
-abbrev pub HighestHasBook : ℕ → ℕ → Meaning → Type 0
-HighestHasBook seed number step = (rows : List ℕ) (count : ℕ)
+abbrev pub HighestHasBook : ℕ → ℕ → List AskedView → Meaning → Type 0
+HighestHasBook seed number earlier step = (rows : List ℕ) (count : ℕ)
     → step.goal ≡ Highest
     → step.settings.least ≡ false
     → has_blocks step.settings.blocks ≡ false
     → (outcome_of step).ending ≡ Design rows count
     → (resolution_of (pattern_of (outcome_of step).dimensions rows) ≡ (outcome_of step).dimensions.s + 1)
-    ⊎ HasBook seed number step (outcome_of step).dimensions
+    ⊎ HasBook seed number earlier step (outcome_of step).dimensions
     (AtResolution (resolution_of (pattern_of (outcome_of step).dimensions rows) + 1)) None
 
 -- where it is asked in blocks, one that none meets the next after that which was reached, unless it is the highest that
 -- is asked for
-abbrev pub HighestInBlocksHasBook : ℕ → ℕ → Meaning → Type 0
-HighestInBlocksHasBook seed number step = (rows : List ℕ) (count : ℕ)
+abbrev pub HighestInBlocksHasBook : ℕ → ℕ → List AskedView → Meaning → Type 0
+HighestInBlocksHasBook seed number earlier step = (rows : List ℕ) (count : ℕ)
     → step.goal ≡ Highest
     → has_blocks step.settings.blocks ≡ true
     → (outcome_of step).ending ≡ Design rows count
     → ((outcome_of step).reached ≡ top_resolution (outcome_of step).dimensions)
-    ⊎ HasBook seed number step (outcome_of step).dimensions (AtResolution ((outcome_of step).reached + 1)) None
+    ⊎ HasBook seed number earlier step (outcome_of step).dimensions (AtResolution ((outcome_of step).reached + 1)) None
 
 -- where least aberration is asked, one that none has a less pattern than the design
-abbrev pub LeastPatternHasBook : ℕ → ℕ → Meaning → Type 0
-LeastPatternHasBook seed number step = (rows : List ℕ) (count : ℕ)
+abbrev pub LeastPatternHasBook : ℕ → ℕ → List AskedView → Meaning → Type 0
+LeastPatternHasBook seed number earlier step = (rows : List ℕ) (count : ℕ)
     → step.settings.least ≡ true
     → (outcome_of step).ending ≡ Design rows count
-    → HasBook seed number step (outcome_of step).dimensions (required step.goal)
+    → HasBook seed number earlier step (outcome_of step).dimensions (required step.goal)
     (Some (pattern_of (outcome_of step).dimensions rows))
 
 -- for each smaller size that the step allows, one that there is no design: with the least size, that is
-abbrev pub LeastSizeHasBooks : ℕ → ℕ → Meaning → Type 0
-LeastSizeHasBooks seed number step = (rows : List ℕ) (count : ℕ) (d : Dimensions)
+abbrev pub LeastSizeHasBooks : ℕ → ℕ → List AskedView → Meaning → Type 0
+LeastSizeHasBooks seed number earlier step = (rows : List ℕ) (count : ℕ) (d : Dimensions)
     → (outcome_of step).ending ≡ Design rows count
     → Allows step d
     → d.m < (outcome_of step).dimensions.m
-    → HasBook seed number step d (required step.goal) None
+    → HasBook seed number earlier step d (required step.goal) None
 
 -- where the most blocks are asked, one that there is no design with one block factor more
-abbrev pub MostBlocksHasBook : ℕ → ℕ → Meaning → Type 0
-MostBlocksHasBook seed number step = (rows : List ℕ) (count : ℕ)
+abbrev pub MostBlocksHasBook : ℕ → ℕ → List AskedView → Meaning → Type 0
+MostBlocksHasBook seed number earlier step = (rows : List ℕ) (count : ℕ)
     → step.settings.blocks ≡ Most
     → (outcome_of step).ending ≡ Design rows count
-    → HasBook seed number step (with_block (outcome_of step).dimensions) (required step.goal) None
+    → HasBook seed number earlier step (with_block (outcome_of step).dimensions) (required step.goal) None

@@ -30,6 +30,7 @@ ghost use Rattle.fx_program.specs.CommandLine.{IsCatalogue};
 ghost use Rattle.fx_catalogue.specs.Catalogues.{Entry, entries};
 ghost use Rattle.fx_program.specs.Commands.{output_for, output_of};
 ghost use Rattle.fx_program.specs.Output.{message, program_output, step_output};
+ghost use Rattle.fx_program.specs.Plans.{AskedView};
 ghost use Rattle.fx_program_laws.specs.Endings.{EndsWith};
 ghost use Rattle.fx_program_laws.specs.PrintedRules.{HasRulesThatGiveTheLevels};
 ghost use Rattle.fx_tree.specs.Laws.{IsFirstOfLeastPattern};
@@ -56,32 +57,32 @@ ghost use Rattle.fx_program.specs.Claims.{EachStep, HasMatrixAsAsked, IsGreatest
 /// of the canonical list, where least aberration is asked the first of least pattern, of the last question
 /// that has one; or status 1 and the lines that say that there is no design, where no question has one.
 pub fn first_design_is_given()
-    ensures design { (seed number : ℕ) (step : Meaning) (p : Problem) (rows : List ℕ)
+    ensures design { (seed number : ℕ) (earlier : List AskedView) (step : Meaning) (p : Problem) (rows : List ℕ)
         → 1 ≤ length step.factors
         → nodes_of (asked (questions_of step)) ≤ step.settings.budget
         → IsLastWithDesign (asked (questions_of step)) p
         → step.settings.least ≡ false
         → IsFirstDesign p rows
-        → EndsWith seed number step (record {
+        → EndsWith seed number earlier step (record {
           dimensions = p.dimensions;
           ending = Design rows (nodes_of (asked (questions_of step)));
           reached = resolution_wanted p.requirement;
         }) }
-    ensures least { (seed number : ℕ) (step : Meaning) (p : Problem) (rows : List ℕ)
+    ensures least { (seed number : ℕ) (earlier : List AskedView) (step : Meaning) (p : Problem) (rows : List ℕ)
         → 1 ≤ length step.factors
         → nodes_of (asked (questions_of step)) ≤ step.settings.budget
         → IsLastWithDesign (asked (questions_of step)) p
         → step.settings.least ≡ true
         → IsFirstOfLeastPattern p rows
-        → EndsWith seed number step (record {
+        → EndsWith seed number earlier step (record {
           dimensions = p.dimensions;
           ending = Design rows (nodes_of (asked (questions_of step)));
           reached = resolution_wanted p.requirement;
         }) }
-    ensures none { (seed number : ℕ) (step : Meaning) → 1 ≤ length step.factors
+    ensures none { (seed number : ℕ) (earlier : List AskedView) (step : Meaning) → 1 ≤ length step.factors
         → nodes_of (asked (questions_of step)) ≤ step.settings.budget
         → All HasNoDesign (asked (questions_of step))
-        → EndsWith seed number step (record {
+        → EndsWith seed number earlier step (record {
           dimensions = (last_of (questions_of step).first (asked (questions_of step))).dimensions;
           ending = NoDesign (nodes_of (asked (questions_of step)));
           reached = 0;
@@ -91,8 +92,8 @@ pub fn first_design_is_given()
 /// Status 2 comes of a step exactly where the nodes of the questions that are asked for it are more
 /// than its budget.
 pub fn budget_ends_where_nodes_pass_it()
-    ensures { (seed number : ℕ) (step : Meaning)
-        → ((step_output seed number step).status ≡ 2)
+    ensures { (seed number : ℕ) (earlier : List AskedView) (step : Meaning)
+        → ((step_output seed number earlier step).status ≡ 2)
         ↔ (step.settings.budget < nodes_of (asked (questions_of step))) }
 {}
 
@@ -100,13 +101,13 @@ pub fn budget_ends_where_nodes_pass_it()
 /// what is required, in no dimensions that the step allows; and where the nodes of its questions are
 /// within the budget, just then it comes.
 pub fn no_design_means_none_at_all()
-    ensures claimed { (seed number : ℕ) (step : Meaning) → IsValidStep step
-        → (step_output seed number step).status ≡ 1
+    ensures claimed { (seed number : ℕ) (earlier : List AskedView) (step : Meaning) → IsValidStep step
+        → (step_output seed number earlier step).status ≡ 1
         → (d : Dimensions) → Allows step d → NoneMeets d (required step.goal) }
-    ensures certain { (seed number : ℕ) (step : Meaning) → IsValidStep step
+    ensures certain { (seed number : ℕ) (earlier : List AskedView) (step : Meaning) → IsValidStep step
         → nodes_of (asked (questions_of step)) ≤ step.settings.budget
         → ((d : Dimensions) → Allows step d → NoneMeets d (required step.goal))
-        → (step_output seed number step).status ≡ 1 }
+        → (step_output seed number earlier step).status ≡ 1 }
 {}
 
 /// Whatever a text says, each step of its program is valid.
@@ -182,19 +183,19 @@ pub fn greatest_status_decides()
 /// no defining words, and for the highest in blocks, unless it is the highest there is; a book under the pattern of the design for least aberration; the books of all
 /// smaller sizes for the least; and the book of one more block factor for the most blocks.
 pub fn claims_have_books()
-    ensures finished { (seed number : ℕ) (step : Meaning) → HasABookForEach seed number step }
-    ensures none { (seed number : ℕ) (step : Meaning) → (step_output seed number step).status ≡ 1
-        → HasABookForEachAsked seed number step }
-    ensures highest { (seed number : ℕ) (text : List ℕ)
-        → EachStep (HighestHasBook seed number) (program_in text) }
-    ensures highest_in_blocks { (seed number : ℕ) (text : List ℕ)
-        → EachStep (HighestInBlocksHasBook seed number) (program_in text) }
-    ensures least_pattern { (seed number : ℕ) (text : List ℕ)
-        → EachStep (LeastPatternHasBook seed number) (program_in text) }
-    ensures least_size { (seed number : ℕ) (text : List ℕ)
-        → EachStep (LeastSizeHasBooks seed number) (program_in text) }
-    ensures most_blocks { (seed number : ℕ) (text : List ℕ)
-        → EachStep (MostBlocksHasBook seed number) (program_in text) }
+    ensures finished { (seed number : ℕ) (earlier : List AskedView) (step : Meaning) → HasABookForEach seed number earlier step }
+    ensures none { (seed number : ℕ) (earlier : List AskedView) (step : Meaning) → (step_output seed number earlier step).status ≡ 1
+        → HasABookForEachAsked seed number earlier step }
+    ensures highest { (seed number : ℕ) (earlier : List AskedView) (text : List ℕ)
+        → EachStep (HighestHasBook seed number earlier) (program_in text) }
+    ensures highest_in_blocks { (seed number : ℕ) (earlier : List AskedView) (text : List ℕ)
+        → EachStep (HighestInBlocksHasBook seed number earlier) (program_in text) }
+    ensures least_pattern { (seed number : ℕ) (earlier : List AskedView) (text : List ℕ)
+        → EachStep (LeastPatternHasBook seed number earlier) (program_in text) }
+    ensures least_size { (seed number : ℕ) (earlier : List AskedView) (text : List ℕ)
+        → EachStep (LeastSizeHasBooks seed number earlier) (program_in text) }
+    ensures most_blocks { (seed number : ℕ) (earlier : List AskedView) (text : List ℕ)
+        → EachStep (MostBlocksHasBook seed number earlier) (program_in text) }
 {}
 
 /// Whatever a text says: each book of each step of its program is read from its file as it is, and

@@ -256,7 +256,7 @@ fn programs_have_their_listing(rt: HostRuntime) {
 }
 
 /// The examples of docs/LANGUAGE.md and further texts that are refused, each with its message.
-const REFUSED: [(&str, &str); 46] = [
+const REFUSED: [(&str, &str); 49] = [
     (
         "proc factex; factors A B C; /* run;",
         "L1 1:29 comment is not closed",
@@ -428,6 +428,18 @@ const REFUSED: [(&str, &str); 46] = [
     (
         "proc factex; factors A B C; output out=a blockname=day;",
         "E31 1:42 BLOCKNAME without BLOCKS",
+    ),
+    (
+        "proc factex; factors A B C; output out=a designrep=a;",
+        "E33 1:52 plan is not known",
+    ),
+    (
+        "proc factex; factors A B C; output out=a [A B]=c;",
+        "E34 1:48 column is repeated",
+    ),
+    (
+        "proc factex; factors A B C; output out=a [A]=D;",
+        "E35 1:42 derived factor has too few or too many levels",
     ),
 ];
 
@@ -797,6 +809,62 @@ const PLANNED: &[(&str, &str, &[(&str, &str)], u8)] = &[
             "A,B\n-1,\"lo,w\"\n-1,\"lo,w\"\n-1,\"h\"\"i\"\n-1,\"h\"\"i\"\n1,\"lo,w\"\n1,\"lo,w\"\n1,\"h\"\"i\"\n1,\"h\"\"i\"\n-1,\"lo,w\"\n-1,\"lo,w\"\n-1,\"h\"\"i\"\n-1,\"h\"\"i\"\n1,\"lo,w\"\n1,\"lo,w\"\n1,\"h\"\"i\"\n1,\"h\"\"i\"\n",
         )],
         0,
+    ),
+    (
+        "proc factex; factors A B; size design=4; model resolution=3; output out=four [A B]=D cvals=('w' 'x,' 'y\"' '');",
+        "step 1\nfactors 2 levels 2\ndesign 4 runs\nno defining words\nnodes 2\nrules\n  none\noutput four.csv 4 rows\nderived D 4 levels balanced\n",
+        &[("four.csv", "D\nw\n\"x,\"\n\"y\"\"\"\n\"\"\n")],
+        0,
+    ),
+    (
+        "proc factex; factors A B C; size design=4; model resolution=3; output out=p [A B C]=D; output out=q [C A]=D B cvals=('l,o' 'h') randomize(7);",
+        "step 1\nfactors 3 levels 2\ndesign 4 runs\nresolution 3\nnodes 3\nrules\n  C = A*B\noutput p.csv 4 rows\nderived D 8 levels not balanced\noutput q.csv 4 rows seed 7\nderived D 4 levels balanced\n",
+        &[
+            ("p.csv", "D\n0\n3\n5\n6\n"),
+            ("q.csv", "B,D\n\"l,o\",1\nh,3\nh,0\n\"l,o\",2\n"),
+        ],
+        0,
+    ),
+    (
+        "proc factex;factors N;size design=2;model r=3;output out=outer N cvals=('l,o' 'hi');proc factex;factors A B;size design=4;model r=3;output out=c designrep=Outer;output out=d pointrep=OUTER;",
+        "step 1\nfactors 1 levels 2\ndesign 2 runs\nno defining words\nnodes 1\nrules\n  none\noutput outer.csv 2 rows\nstep 2\nfactors 2 levels 2\ndesign 4 runs\nno defining words\nnodes 2\nrules\n  none\noutput c.csv 8 rows\noutput d.csv 8 rows\n",
+        &[
+            ("outer.csv", "N\n\"l,o\"\nhi\n"),
+            (
+                "c.csv",
+                "A,B,N\n-1,-1,\"l,o\"\n-1,1,\"l,o\"\n1,-1,\"l,o\"\n1,1,\"l,o\"\n-1,-1,hi\n-1,1,hi\n1,-1,hi\n1,1,hi\n",
+            ),
+            (
+                "d.csv",
+                "A,B,N\n-1,-1,\"l,o\"\n-1,-1,hi\n-1,1,\"l,o\"\n-1,1,hi\n1,-1,\"l,o\"\n1,-1,hi\n1,1,\"l,o\"\n1,1,hi\n",
+            ),
+        ],
+        0,
+    ),
+    (
+        "proc factex;factors N M;size design=4;model r=3;output out=n [N M]=K randomize(5);proc factex;factors A;model r=3;output out=a pointrep=n;proc factex;factors B;model r=3;output out=b pointrep=a;",
+        "step 1\nfactors 2 levels 2\ndesign 4 runs\nno defining words\nnodes 2\nrules\n  none\noutput n.csv 4 rows seed 5\nderived K 4 levels balanced\nstep 2\nfactors 1 levels 2\ndesign 2 runs\nno defining words\nnodes 1\nrules\n  none\noutput a.csv 8 rows\nstep 3\nfactors 1 levels 2\ndesign 2 runs\nno defining words\nnodes 1\nrules\n  none\noutput b.csv 16 rows\n",
+        &[
+            ("n.csv", "K\n3\n1\n2\n0\n"),
+            ("a.csv", "A,K\n-1,3\n-1,1\n-1,2\n-1,0\n1,3\n1,1\n1,2\n1,0\n"),
+            (
+                "b.csv",
+                "B,A,K\n-1,-1,3\n-1,-1,1\n-1,-1,2\n-1,-1,0\n-1,1,3\n-1,1,1\n-1,1,2\n-1,1,0\n1,-1,3\n1,-1,1\n1,-1,2\n1,-1,0\n1,1,3\n1,1,1\n1,1,2\n1,1,0\n",
+            ),
+        ],
+        0,
+    ),
+    (
+        "proc factex;factors A B C;size design=2;model r=3;output out=none;proc factex;factors N;model r=3;output out=p designrep=none;output out=q;",
+        "step 1\nfactors 3 levels 2\nno design in 2 runs\nnodes 1\nbook step1-1.book\nstep 2\nfactors 1 levels 2\ndesign 2 runs\nno defining words\nnodes 1\nrules\n  none\noutput q.csv 2 rows\n",
+        &[
+            (
+                "step1-1.book",
+                "factex-book 2\nsize 2 1 3 0\nresolution 3\npattern none\nO 1\nEND\n",
+            ),
+            ("q.csv", "N\n-1\n1\n"),
+        ],
+        1,
     ),
     (
         "proc factex; factors A B; model r=3; output out=z randomize(0) novalran; output out=y randomize(18446744073709551615); output out=x randomize novalran;",

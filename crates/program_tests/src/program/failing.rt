@@ -29,6 +29,10 @@ const ALL: &str =
 /// A step with a plan and a fold-over.
 const FOLDED: &str = "proc factex;factors A B;model r=3;output out=z;foldover;";
 
+/// A plan, and two that are crossed with it.
+const CROSSED: &str =
+    "proc factex;factors N;size design=2;model r=3;output out=n;proc factex;factors A B;size design=4;model r=3;output out=x pointrep=n;output out=y designrep=n;";
+
 /// A book that is accepted.
 const BOOK: &str =
     "factex-book 1\nsize 2 1 2 0\neffects 1 2 /\npattern none\nO 1\nW 1 3\nW 0 2\nW 0 1\nEND\n";
@@ -41,13 +45,14 @@ const PIECE: usize = 5000;
 
 /// Words and texts, with how many bytes a call takes, and how many calls are made: reads, the last of which
 /// finds the end, writes to the listing, and calls on the shelf, which begin a file, write it and end it.
-const CALLS: [(&str, &str, usize, [usize; 3]); 15] = [
+const CALLS: [(&str, &str, usize, [usize; 3]); 16] = [
     ("run", TWO_PLANS, PIECE, [2, 2, 9]),
     ("run", TWO_PLANS, 1, [TWO_PLANS.len() + 1, 198, 115]),
     ("run", CLASSES, PIECE, [2, 1, 3]),
     ("run", LEAST, PIECE, [2, 1, 3]),
     ("run", ALL, PIECE, [2, 1, 6]),
     ("run", FOLDED, PIECE, [2, 1, 6]),
+    ("run", CROSSED, PIECE, [2, 2, 9]),
     ("run", "proc factor;", PIECE, [2, 1, 0]),
     ("check", BOOK, 1, [BOOK.len() + 1, 49, 0]),
     ("upgrade", BOOK, 1, [BOOK.len() + 1, 90, 0]),

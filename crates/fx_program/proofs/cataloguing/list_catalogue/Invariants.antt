@@ -1,4 +1,4 @@
-use Rattle.std.proofs.Common.{◌≡◌, ◌<◌, ◌≤◌, ◌+◌, false}
+use Rattle.std.proofs.Common.{◌≡◌, ◌<◌, false}
 use Rattle.fx_program.specs.Cataloguing.{catalogue_output}
 use Rattle.fx_program.specs.Outside.{SourceView, outside, shelf_view, sink_view}
 use Rattle.fx_program.proofs.CatalogueLines.{outputs_from}

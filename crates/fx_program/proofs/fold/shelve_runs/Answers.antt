@@ -1,12 +1,7 @@
-use Rattle.std.proofs.Common.{◌≡◌, ◌≤◌, ◌<◌, ◌+◌, ◌*◌, ◌^◌, ◌∙◌, ℕ, List, [], ◌∷◌, ◌++◌, length, map, refl, sym, ap, ap₂, subst, arith}
-use Rattle.std.proofs.lemmas.List.{length-append, length-map}
-use Rattle.fx_designs.specs.Runs.{runs_of}
-use Rattle.fx_designs.specs.Vectors.{vectors_of}
-use Rattle.fx_runs.proofs.Steps.{length-runs}
+use Rattle.std.proofs.Common.{◌≡◌, ◌∙◌, ℕ, List, [], ◌∷◌, refl, sym, ap, ap₂, arith}
 use Rattle.fx_runs.specs.Runs.{RunsView}
 use Rattle.fx_vectors.specs.Matrix.{MatrixView}
 use Rattle.fx_vectors.specs.declared.shape.Shape.{Shape}
-use Rattle.fx_foldover.specs.Foldovers.{combined_plan, exchanged_run}
 use Rattle.fx_plan.specs.Products.{plain_plan}
 use Rattle.fx_alias.proofs.Folds.{unblocked}
 use Rattle.fx_program.specs.Files.{fold_name, fold_runs}

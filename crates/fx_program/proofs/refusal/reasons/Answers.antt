@@ -16,4 +16,5 @@ returns c =
     (next c.row-25.ensures (next c.row-26.ensures (next c.row-27.ensures (next c.row-28.ensures
     (next c.row-29.ensures
     (next c.row-30.ensures (next c.row-31.ensures (next c.row-32.ensures
-    (next c.row-33.ensures refl))))))))))))))))))))))))))))))))
+    (next c.row-33.ensures (next c.row-34.ensures (next c.row-35.ensures
+    (next c.row-36.ensures refl)))))))))))))))))))))))))))))))))))

@@ -8,7 +8,7 @@ pub loop-i-init : goal.loop-i-init
 loop-i-init g c = record {
   low = omega arith;
   closed = c.requires;
-  so_far = λ source. before_steps c.args.session.now.seed _ _;
+  so_far = λ source. rw c.new-plans.ensures (before_steps c.args.session.now.seed _ _);
 }
 
 pub returns-in_err-ended : goal.returns-in_err-ended
@@ -19,7 +19,7 @@ returns-in_err-ended g c =
     record {
       whatever = λ source.
           stopped (c.loop-i.invariant.so_far source) next
-          c.in_err-ended.field-0.0 (c.in_err-ended.ensures.whatever source)
+          c.in_err-ended.field-0.0 (c.in_err-ended.ensures.output.whatever source)
           c.from_residual.result c.from_residual.ensures.1;
     }
 
@@ -28,13 +28,14 @@ loop-i-preserved g c =
     let next =
     next_step meaning_of c.args.steps.now c.loop-i.i c.index-steps-i.result c.loop-i-test.true ∙ ap
     (λ s. meaning_of s ∷ map meaning_of (drop (c.loop-i.i + 1) c.args.steps.now)) (sym c.index-steps-i.is) in
-    let ends = c.in_ok-ended.ensures.whatever in
+    let ends = c.in_ok-ended.ensures.output.whatever in
     record {
       low =
           subst (λ s. s < 4) (sym c.worse-status.ensures)
           (worse_low c.loop-i.status c.in_ok-ended.ended c.loop-i.invariant.low (ends no_source).low);
       closed = (ends no_source).closed;
-      so_far = λ source. one_more (c.loop-i.invariant.so_far source) next (ends source) c.worse-status.ensures;
+      so_far = λ source. one_more (c.loop-i.invariant.so_far source) next (ends source) c.in_ok-ended.ensures.plans
+          c.worse-status.ensures;
     }
 
 pub returns : goal.returns

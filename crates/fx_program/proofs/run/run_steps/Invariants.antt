@@ -12,6 +12,6 @@ invariant-loop-i g l = record {
   so_far : (source : SourceView) → SoFar l.session.seed
       (outside source (sink_view g.K.Sink l.fn.listing) (shelf_view g.F.Shelf l.fn.shelf))
       (outside source (sink_view g.K.Sink l.listing) (shelf_view g.F.Shelf l.shelf))
-      (steps_output l.session.seed 1 [] 0 (map meaning_of l.steps)) (l.i + 1) l.status
+      (steps_output l.session.seed 1 [] [] 0 (map meaning_of l.steps)) (l.i + 1) l.plans l.status
       (map meaning_of (drop l.i l.steps));
 }
