@@ -12,7 +12,7 @@ TOP = pathlib.Path(__file__).resolve().parent.parent
 PAGE = TOP / "docs" / "CALLS.md"
 HEAD = """# Calls and their clauses
 
-Made by `check/calls.py` from the sources; `check/calls.py --check` compares. For each crate it has the public calls, laws and types with facts. Each row has the first sentence of the comment, and the names of the clauses that are proved: those of `ensures`, or of the facts that every value of a type has; a clause without a name is `-`. A function with an empty body is a law. [PROVED.md](PROVED.md) explains those that matter most.
+`check/calls.py` makes this index of the public calls, laws and types with facts from the sources; `check/calls.py --check` compares. Behind each name are its proved clauses: those of `ensures`, or the facts of every value of a type. `-` is a clause without a name; a call without parentheses has a single such clause. Laws, functions with an empty body, are in bold. Files are in `src` of the crate. [PROVED.md](PROVED.md) explains the clauses that matter most.
 """
 
 
@@ -36,20 +36,11 @@ def exported(crate):
     return names, {"lib", *re.findall(r"^pub mod (\w+)", text, re.M)}
 
 
-def sentence(comment):
-    """The first sentence of a comment, fit for a cell of a table."""
-    text = " ".join(comment).strip()
-    first = re.match(r"(.+?[.!?])(?=\s|$)", text)
-    return (first[1] if first else text).replace("|", "\\|")
-
-
 def of_file(file, names, is_public):
-    """The rows of a file: the item, what its comment says, its clauses, and whether it is a law."""
-    owner, owner_is_public, comment, at, rows = None, False, [], None, []
-    lines = file.read_text(encoding="utf-8").splitlines()
-    for line in lines:
+    """The items of a file: the name, the clauses, and whether it is a law."""
+    owner, owner_is_public, at, items = None, False, None, []
+    for line in file.read_text(encoding="utf-8").splitlines():
         if line.lstrip().startswith("///"):
-            comment.append(line.lstrip()[3:].strip())
             continue
         opens = re.match(r"(?:(pub) )?(impl|trait|struct|enum)\b(?:<[^>]*>)?\s+(.*)", line)
         if opens:
@@ -59,8 +50,8 @@ def of_file(file, names, is_public):
             owner_is_public = not is_of_trait and (is_public or owner in names)
             at = None
             if opens[2] in ("struct", "enum", "trait") and opens[1] and owner_is_public:
-                at = [owner, sentence(comment), [], False]
-                rows.append(at)
+                at = [owner, [], False]
+                items.append(at)
             is_trait = opens[2] == "trait"
         elif line.startswith("}"):
             if line == "}":
@@ -71,33 +62,38 @@ def of_file(file, names, is_public):
             shown = (found[2] == "pub " or inside and owner and is_trait) and (owner_is_public if inside else is_public or found[3] in names)
             at = None
             if shown:
-                at = [f"{owner}::{found[3]}" if inside else found[3], sentence(comment), [], False]
-                rows.append(at)
+                at = [f"{owner}::{found[3]}" if inside else found[3], [], False]
+                items.append(at)
         clause = re.match(r"\s*ensures\*?\s*(?:(\w+)\s*)?(?:\{|$)", line)
         fact = re.match(r"    ghost (\w+): \{", line)
         if at and (clause or fact):
-            at[2].append((clause or fact)[1] or "-")
+            at[1].append((clause or fact)[1] or "-")
         if at and line.strip() == "{}":
-            at[3] = True
-        if not line.lstrip().startswith(("#[", "//")) and line.strip():
-            comment = []
-    return [row for row in rows if row[2]]
+            at[2] = True
+    return [item for item in items if item[1]]
+
+
+def entry(name, clauses, is_law):
+    """An item with the names of its clauses, as the index shows it."""
+    text = f"**`{name}`**" if is_law else f"`{name}`"
+    return text if clauses == ["-"] else f"{text} ({', '.join(clauses)})"
 
 
 def page():
-    """The text of the index."""
+    """The text of the index, with a line for each file."""
     text, last = [HEAD], None
     for floor, name in crates():
         crate = TOP / "crates" / name
         names, public = exported(crate)
         rows = []
         for file in sorted((crate / "src").rglob("*.rt")):
-            for item, said, clauses, is_law in of_file(file, names, file.stem in public):
-                kind = " (law)" if is_law else ""
-                rows.append(f"| `{item}`{kind} | {said} | {', '.join(clauses)} | `{file.relative_to(crate / 'src')}` |")
+            items = of_file(file, names, file.stem in public)
+            if items:
+                listed = ", ".join(entry(*item) for item in items)
+                rows.append(f"- `{file.relative_to(crate / 'src')}`: {listed}")
         if rows:
             text += [f"\n## {floor}\n"] if floor != last else []
-            text += [f"\n### {name}\n\n| call | comment | clauses | file in `src` |\n|---|---|---|---|\n" + "\n".join(rows) + "\n"]
+            text += [f"\n### {name}\n\n" + "\n".join(rows) + "\n"]
             last = floor
     return "".join(text)
 

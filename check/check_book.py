@@ -91,9 +91,14 @@ def last_code(codes):
 # ---- the text
 
 
+# every number of a book is below this, whatever its place
+ABOVE_ALL = 10**100
+
+
 def number(part):
     if part.isascii() and part.isdigit() and (part == "0" or part[0] != "0"):
-        return int(part)
+        # Python converts no text of more than 4,300 digits, and a book has none of more than 100.
+        return int(part) if len(part) <= 100 else ABOVE_ALL
     raise Form
 
 

@@ -3,9 +3,11 @@
 
 Usage: documents.py COMMAND ..    as documents.py ./factex, or documents.py ./factex try, which keeps no files
 
-A block of code that is a program text is run. A block of EXAMINE and OUTPUT statements is added to the program before
-it. A block that begins like a listing, a plan or a table of runs has to be a part of what the last program or command
-of its page printed or wrote. Prints each block that is not, and ends with status 1 if there is one.
+A block of code that is a program text is run, and so is a block that begins with a `judge`, `large` or `catalogue`
+command; what follows the command in its block has to be printed. Catalogues of more than 27 runs take long, and are left
+to bench/catalogue.sh. A block of EXAMINE and OUTPUT statements is added to the program before it. A block that begins
+like a listing, a plan or a table of runs has to be a part of what the last program or command of its page printed or
+wrote. Prints each block that is not, and ends with status 1 if there is one.
 """
 import pathlib
 import re
@@ -14,8 +16,13 @@ import sys
 import tempfile
 
 TOP = pathlib.Path(__file__).resolve().parent.parent
-PAGES = [TOP / "README.md", *(TOP / "docs" / f"{it}.md" for it in ("GUIDE", "LANGUAGE", "PLANS", "JUDGE"))]
-LISTING = re.compile(r"(step|factors|resolution|budget|nodes|book|output|plan) \S|(no )?design |rules$|points |blocked|aliasing|aberration|  \S")
+PAGES = [TOP / "README.md", *(TOP / "docs" / f"{it}.md" for it in ("GUIDE", "LANGUAGE", "PLANS", "JUDGE", "COMMANDS", "CATALOGUE"))]
+LISTING = re.compile(
+    r"(steps?|factors|resolution|budget|nodes|book|output|plan|catalogue) \S"
+    r"|(no )?design |rules$|points |blocked|aliasing|aberration|  \S"
+)
+COMMAND = re.compile(r"\./factex (judge \d|large \d+|catalogue (\d) (\d+) \d+( --nodes=\d+)?)( < (\S+))?")
+MOST_RUNS = 27
 
 
 def blocks_of(page):
@@ -59,13 +66,19 @@ def main(command):
         text, lines = None, None
         for block in blocks_of(page):
             first = block[0].strip().lower()
-            statements = text and re.match(r"(examine|output) [^\[]*$", first)
+            statements = text and re.match(r"(examine |output (?!\S+\.csv ))[^\[]*$", first)
             if first.startswith("proc factex") and block[-1].strip().lower().endswith("run;") or statements:
                 text = text[: text.rindex("run;")] + "\n".join(block) + "\nrun;" if statements else "\n".join(block)
                 lines = printed([*program, "run"], text)
-            elif re.fullmatch(r"\./factex judge \d < \S+", first):
-                words, _, file = block[0].partition(" < ")
-                lines = printed([*program, *words.split()[1:]], (TOP / file).read_text(encoding="utf-8"))
+            elif found := COMMAND.fullmatch(block[0]):
+                words, levels, indexes, _, _, file = found.groups()
+                takes_long = levels and int(levels) ** int(indexes) > MOST_RUNS
+                read = (TOP / file).read_text(encoding="utf-8") if file else ""
+                lines = None if takes_long else printed([*program, *words.split()], read)
+                expected = [line for line in block[1:] if line]
+                if lines is not None and expected and not is_part(expected, lines):
+                    print(f"{page.name}: not printed: {expected[0]}, after {block[0]}")
+                    wrong = 1
             elif lines is not None and not first.startswith("proc ") and is_wrong(block, lines, keeps_files):
                 print(f"{page.name}: not printed: {block[0]}")
                 wrong = 1
