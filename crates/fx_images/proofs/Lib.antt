@@ -1,0 +1,13 @@
+mod Lists
+mod Change
+mod Falls
+mod Better
+mod Matrices
+mod Room
+mod Checker
+mod Floors
+mod Good
+mod Sound
+mod Moving
+mod Comparing
+mod Examples
