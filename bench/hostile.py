@@ -1,0 +1,638 @@
+#!/usr/bin/env python3
+"""Random inputs of every command: bench/hostile.py PROGRAM [--seconds N] [--seed N] [--keep FOLDER]
+
+Each input is a command line, a program text, a book, an upgrade, a plan to judge or a catalogue, right or with small faults.
+For each the program has to end in time (processor time below 2 s and two microseconds a node of its budgets), with status
+0 to 3, as nothing refuses it memory or files, and with nothing on standard error. One thread and four have to give the same
+bytes, files and status; the files have to be those of the listing, and as long; books have to be accepted by `check` and by
+check/check_book.py, which have to agree on every changed book, too; plans have to be judged regular; what `judge` counts has
+to be what is counted here. An input that fails is kept in the folder, by default hostile-failures, with its words. The same
+seed gives the same inputs, until the time ends. Prints the counts by kind; ends with status 1 if anything failed. The gate
+does not run it."""
+import argparse, collections, csv, io, itertools, os, random, re, signal, subprocess, sys, tempfile
+
+sys.path.insert(0, os.path.join(os.path.dirname(os.path.dirname(os.path.abspath(__file__))), "check"))
+import changed_books, check_book
+
+# The greatest m with q^m <= 1,024, for each number of levels q.
+GREATEST_M = {2: 10, 3: 6, 4: 5, 5: 4, 7: 3, 8: 3, 9: 3}
+# The most work that the checker in Python is given, some seconds of it.
+MOST_WORK = 500_000
+Done = collections.namedtuple("Done", "status listing files seconds errors")
+
+
+class Failure(Exception):
+    """What the program did wrong."""
+
+
+# ---- the program
+
+
+class Program:
+    """Runs of the program: their number, and the most processor time for each command."""
+
+    def __init__(self, path):
+        self.path, self.count, self.slowest = os.path.abspath(path), 0, collections.Counter()
+
+    def run(self, words, text=b"", nodes=0, statuses=(0, 1, 2, 3)):
+        limit = 2 + 2e-6 * nodes
+        with tempfile.TemporaryDirectory() as folder, tempfile.TemporaryFile() as source, \
+                tempfile.TemporaryFile() as listing, tempfile.TemporaryFile() as errors:
+            source.write(text)
+            source.seek(0)
+            child = subprocess.Popen([self.path] + words, stdin=source, stdout=listing, stderr=errors, cwd=folder)
+            # The machine may be busy: what is judged is processor time, and a run is cut off late.
+            signal.signal(signal.SIGALRM, lambda *_: os.kill(child.pid, signal.SIGKILL))
+            signal.setitimer(signal.ITIMER_REAL, 20 * limit)
+            _, status, usage = os.wait4(child.pid, 0)
+            signal.setitimer(signal.ITIMER_REAL, 0)
+            child.returncode = os.waitstatus_to_exitcode(status)
+            files = {}
+            for name in os.listdir(folder):
+                with open(os.path.join(folder, name), "rb") as file:
+                    files[name] = file.read()
+            listing.seek(0)
+            errors.seek(0)
+            done = Done(child.returncode, listing.read(), files, usage.ru_utime + usage.ru_stime, errors.read())
+        self.count += 1
+        kind = words[0] if words and isinstance(words[0], str) and words[0] in COMMANDS else "words"
+        self.slowest[kind] = max(self.slowest[kind], done.seconds)
+        # Four threads may walk a quarter more than one.
+        need(done.seconds < (1.3 if "--threads=4" in words else 1) * limit, f"{words}: {done.seconds:.2f} s for {nodes} nodes")
+        need(done.status in statuses, f"{words}: status {done.status}")
+        need(not done.errors, f"{words}: on standard error {done.errors[:200]}")
+        return done
+
+
+def need(holds, what):
+    if not holds:
+        raise Failure(what)
+
+
+def need_refusal(done, form):
+    """One line of this form, and no file, exactly with status 3."""
+    line = re.fullmatch(rb"factex: " + form + rb"\n", done.listing)
+    need((done.status == 3) == bool(line) and not (line and done.files), f"status {done.status}: {done.listing[:100]}")
+    return bool(line)
+
+
+# ---- words
+
+COMMANDS = ["run", "check", "upgrade", "judge", "catalogue", "make", "large"]
+
+
+def random_word(rng):
+    number = rng.choice(["", "0", "00", "1", "2", "3", "8", "9", "64", "65", "100", "101", "1024", "5000001", "1" * 20,
+                         "1" * 21,
+                         "18446744073709551615", "18446744073709551616", "-1", "+1", "1 ", "0x1", "1e3", "\u0661"])
+    return rng.choice([rng.choice(COMMANDS), number,
+                       f"--{rng.choice(['threads', 'seed', 'nodes', 'Seed', 'node', ''])}={number}",
+                       "--threads", "--", "-", "", "RUN", "run ", "--help",
+                       "x" * rng.choice([40, 5000]), "\u00e4", "a\nb", "--seed=1=2"])
+
+
+def try_words(program, rng, _):
+    words = [rng.choice(COMMANDS)] if rng.random() < 0.8 else []
+    words += [random_word(rng) for _ in range(rng.choice([0, 1, 1, 2, 3, 4, 30]))]
+    if words and rng.random() < 0.1:
+        words[rng.randrange(len(words))] = bytes([rng.choice(b"r-1"), rng.randrange(128, 256)])
+    text = rng.choice([b"", b"proc factex; factors A B C; size design=4; output out=a; run;", b"A,B\n1,1\n-1,1\n", b"\xff\n"])
+    yield words, text
+    if any(isinstance(word, bytes) for word in words):
+        done = program.run(words, text, statuses=(6,))
+        need(not done.listing and not done.files, "status 6 with output")
+        return
+    # A catalogue has a line for each number of factors, at most 63, of 1,000,000 nodes or of those that are asked for.
+    done = program.run(words, text, nodes=63 * 5_000_000)
+    if done.listing.startswith(b"factex: C"):
+        need(done.status == 3 and not done.files, f"status {done.status}: {done.listing[:100]}")
+        place = re.fullmatch(rb"factex: C[1-6] word (\d+)\n", done.listing)
+        need(place and 1 <= int(place.group(1)) <= len(words) + 1, f"{done.listing[:100]}")
+
+
+def try_make(program, rng, _):
+    count = str(rng.choice([1, 2, 3, 5, 9, rng.randint(1, 30)]))
+    yield ["make", count], b""
+    text = program.run(["make", count], statuses=(0,)).listing
+    listing = run_both(program, ["run"], text, int(count) * 1_000_000).listing
+    nodes = sum(int(n) for n in re.findall(rb"^(?:nodes|budget ended after) (\d+)", listing, re.M))
+    wanted = [int(count), len(re.findall(rb"^design", listing, re.M)), len(re.findall(rb"^no design", listing, re.M)),
+              len(re.findall(rb"^budget", listing, re.M)), nodes]
+    large = run_both(program, ["large", count], b"", int(count) * 1_000_000).listing
+    if b"not proved best" not in listing:
+        need([int(n) for n in re.findall(rb"\d+", large)] == wanted, f"large: {large}, run: {wanted}")
+
+
+# ---- program texts
+
+
+class Plan:
+    """What is known of an OUTPUT statement: its OUT name, levels, columns, rows, and whether `judge` can read it."""
+
+    def __init__(self, name, q, columns, rows, is_plain):
+        self.name, self.q, self.columns, self.rows, self.is_plain = name, q, columns, rows, is_plain
+
+
+def effect(rng, names, q):
+    return "*".join(rng.sample(names, min(len(names), rng.choice([1, 1, 2, 2, 3, 5] if q < 5 else [1, 1, 1, 2, 2, 3]))))
+
+
+def effects(rng, names, is_range, q):
+    items = []
+    for _ in range(rng.randint(1, 4)):
+        kind = rng.randrange(5)
+        if kind == 0 and is_range:
+            items.append(f"{names[0]}-{names[-1]}")
+        elif kind == 1:
+            items.append("|".join(rng.sample(names, min(len(names), rng.randint(1, 5 if q < 5 else 3))))
+                         + rng.choice(["", "@1", "@2", "@3"]))
+        elif kind == 2:
+            items.append("|".join(effect(rng, names, q) for _ in range(rng.randint(1, 3))))
+        else:
+            items.append(effect(rng, names, q))
+    return " ".join(items)
+
+
+def values(rng, count):
+    if rng.random() < 0.5:
+        numbers = ["1", "0", ".5", "07", "12.25", "-1", "-0", "-3.50", "1" * 38]
+        return "nvals=(" + " ".join(rng.choice(numbers) for _ in range(count)) + ")"
+    texts = ["'a'", "'b, c'", '"it\'s"', "'x''y'", "'\"'", "''", "'\n'", "'\r'", "'\xe4'"]
+    return "cvals=(" + " ".join(rng.choice(texts) for _ in range(count)) + ")"
+
+
+def output(rng, q, m, names, blocks, plans, number):
+    """An OUTPUT statement, and what is known of it. In one of ten it may be refused. With blocks these are their number."""
+    is_wild = rng.random() < 0.1
+    rows, columns, plain, words = q**m, list(names) + ["BLOCK"] * bool(blocks), not blocks, []
+    for option in ("pointrep", "designrep"):
+        kind = rng.random()
+        taken = {name.lower() for name in columns}
+        free = [plan for plan in plans if is_wild or not taken.intersection(name.lower() for name in plan.columns)]
+        if free and kind < 0.5:
+            named = rng.choice(free)
+            words.append(f"{option}={rng.choice([named.name, named.name.upper()])}")
+            rows, plain = rows * named.rows, plain and named.is_plain and named.q == q
+            columns = columns + named.columns
+        elif kind > 0.8:
+            n = rng.choice([1, 2, 3, 7])
+            words.append(f"{option}={n}")
+            rows *= n
+    if rng.random() < 0.3:
+        words += [rng.choice(["randomize", f"randomize({rng.choice([0, 7, 2**64 - 1])})"])] + ["novalran"] * rng.randint(0, 1)
+        plain = False
+    if blocks and (blocks < 100 or is_wild) and rng.random() < 0.4:
+        words.append("blockname=Day" + str(number) + rng.choice(["", " " + values(rng, 2 if is_wild else blocks)]))
+    inside = set()
+    if len(names) > 1 and rng.random() < 0.25:
+        for k in range(rng.randint(1, 2)):
+            free = [name for name in names if name not in inside]
+            if len(free) > 1 and (q < 9 or is_wild):
+                most = 4 if is_wild else max(k for k in (1, 2, 3, 4) if q**k <= 64)
+                taken = rng.sample(free, min(len(free), most, rng.choice([2, 2, 3, 4])))
+                inside.update(taken)
+                words.append(f"[{' '.join(taken)}]=D{number}{k}" + rng.choice(["", " " + values(rng, q ** len(taken))]))
+                plain = False
+    for name in names:
+        if name not in inside and rng.random() < 0.1:
+            words.append(f"{name} {values(rng, q)}")
+            plain = False
+    rng.shuffle(words)
+    name = f"P{number}"
+    if rows > 200_000 and not is_wild:
+        return f"output out={name}", Plan(name, q, list(names) + ["BLOCK"] * bool(blocks), q**m, not blocks)
+    return f"output out={name} {' '.join(words)}", Plan(name, q, columns, rows, plain)
+
+
+def step(rng, number, plans):
+    """The statements of a step, its budget, and the plans that it asks for."""
+    q = rng.choice([2, 2, 2, 2, 3, 3, 4, 5, 7, 8, 9])
+    m = rng.randint(1, rng.choice([3, 4, GREATEST_M[q]]))
+    m = min(m, GREATEST_M[q])
+    count = rng.randint(1, rng.choice([4, 6, 10, 16, 30, 63 if q < 4 else 40]))
+    nodes = rng.choice([1, 2, 5, 20, 100, 500, 2000, 2000, 5000, 20000, None if rng.random() < 0.1 else 1000])
+    stem = rng.choice(["X", f"S{number}_", f"S{number}_", "Abc", "x"])
+    is_range = rng.random() < 0.7
+    names = [f"{stem}{i}" for i in range(1, count + 1)] if is_range or count > 8 else rng.sample("ABCDFGHIJKLM", count)
+    listed = f"{names[0]}-{names[-1]}" if is_range or count > 8 else " ".join(names)
+    statements = [f"factors {listed}" + (f" / nlev={q}" if q > 2 or rng.random() < 0.1 else "")]
+    fixed = rng.random() < 0.85
+    statements.append(rng.choice([f"size design={q**m}", f"size nrunfacs={m}"]) if fixed
+                      else rng.choice(["size design=minimum", "size fraction=max", "size nrunfacs=min"]))
+    kind = rng.choice(["resolution", "maximum", "minabs", "none", "effects", "effects"])
+    blocks = rng.random() < 0.25 and count <= 30 and kind != "minabs"
+    if not fixed and kind in ("maximum", "minabs", "none"):
+        kind = "resolution"
+    if kind == "effects":
+        statements.append(f"model {rng.choice(['estimate', 'e', 'est'])}=({effects(rng, names, is_range, q)})"
+                          + (f" nonneg=({effects(rng, names, is_range, q)})" if rng.random() < 0.4 else ""))
+    elif kind != "none":
+        r = rng.randint(3, rng.choice([4, 5, 7, 12, 99]))
+        asked = "maximum" if kind == "maximum" else rng.choice([r, "max"]) if kind == "minabs" else r
+        statements.append(f"model resolution={asked}" + (" / minabs" if kind == "minabs" else ""))
+    if blocks:
+        t = rng.randint(1, m) if m > 1 else 1
+        most = ["blocks nblocks=maximum", "blocks size=min"] if kind in ("resolution", "effects") and fixed else []
+        statements.append(rng.choice([f"blocks nblkfacs={t}", f"blocks nblocks={q**t}", f"blocks size={q**(m - t)}"] + most))
+        # The number of blocks, where it is given: a BLOCKNAME may have values.
+        blocks = q**t if fixed and "max" not in statements[-1] and "min" not in statements[-1] else 1000
+    if rng.random() < 0.5:
+        sections = ["design", "aliasing", "blocked", "aberration", "confounding"]
+        statements.append("examine " + " ".join(rng.sample(sections, rng.randint(1, 4))))
+    if q == 2 and not blocks and rng.random() < 0.25:
+        statements.append("foldover " + rng.choice(["", " ".join(rng.sample(names, rng.randint(1, min(count, 4)))), listed]))
+    rest = statements[1:]
+    rng.shuffle(rest)
+    for _ in range(rng.choice([0, 0, 1, 1, 2, 3])):
+        text, plan = output(rng, q, GREATEST_M[q] if not fixed else m, names, blocks, plans, len(plans) + 1)
+        plans.append(plan)
+        rest.append(text)
+    head = "proc factex" + (f" nodes={nodes}" if nodes else "")
+    return [head, statements[0]] + rest + ["run"], nodes or 1_000_000
+
+
+def program_text(rng):
+    """A text, the sum of its budgets and its plans."""
+    plans, budget, statements = [], 0, []
+    for number in range(1, rng.choice([1, 1, 1, 2, 3, 5, 12]) + 1):
+        more, nodes = step(rng, number, plans)
+        statements += more
+        budget += nodes
+    gap = rng.choice(["\n", " ", "\r\n", "\t", " /* note; */ ", "\n* note 'x;\n"])
+    text = ";".join(statement + rng.choice(["", "", " "]) for statement in statements)
+    text = re.sub(r";", lambda found: ";" + (gap if rng.random() < 0.7 else "\n"), text) + ";\n"
+    if rng.random() < 0.2:
+        text = "".join(c.upper() if rng.random() < 0.5 else c for c in text)
+    return text.encode("latin-1"), budget, plans
+
+
+TOKEN = re.compile(rb"[A-Za-z_]\w*|[0-9.]+|'[^']*'|\"[^\"]*\"|\s+|.", re.S)
+WORDS = [b"factex", b"proc", b"run", b"quit", b"size", b"model", b"blocks", b"factors", b"output", b"examine", b"foldover",
+         b"max",
+         b"min", b"minabs", b"=", b"(", b")", b"[", b"]", b"@", b"|", b"*", b"/", b"-", b";", b"0", b"1", b"2", b"99", b"1024",
+         b"X1",
+         b"nvals", b"randomize", b"pointrep", b"out", b"P1", b"9" * 39, b"a" * 33, b"'", b"/*", b"uniteffect"]
+
+
+def with_faults(rng, text, split=TOKEN.findall, others=WORDS):
+    """The text with one to three small faults."""
+    for _ in range(rng.choice([1, 1, 1, 2, 3])):
+        parts = split(text)
+        if not parts:
+            return text + b"?"
+        i, j = rng.randrange(len(parts)), rng.randrange(len(parts))
+        kind = rng.randrange(9)
+        if kind == 0:
+            del parts[i]
+        elif kind == 1:
+            parts.insert(i, parts[i])
+        elif kind == 2:
+            parts[i], parts[j] = parts[j], parts[i]
+        elif kind == 3:
+            parts[i : i + 2] = reversed(parts[i : i + 2])
+        elif kind == 4:
+            parts[i] = rng.choice(others)
+        elif kind == 5:
+            parts.insert(i, rng.choice(others))
+        elif kind == 6:
+            change = rng.choice([-1, 1, 7, 1000, 10**20])
+            parts[i] = re.sub(rb"\d+", lambda found: b"%d" % max(0, int(found.group()[:50]) + change), parts[i])
+        elif kind == 7 and rng.random() < 0.3:
+            del parts[i:]
+        text = b"".join(parts)
+        if kind == 8 and text:
+            at = rng.randrange(len(text))
+            byte = rng.choice([0, 9, 10, 13, 32, 34, 39, 59, 127, 128, 255, rng.randrange(256)])
+            text = text[:at] + bytes([byte]) + text[at + rng.randint(0, 1) :]
+    return text
+
+
+def run_both(program, words, text, nodes):
+    """The run with one thread, which has to be that with four."""
+    one = program.run(words, text, nodes)
+    four = program.run(words + ["--threads=4"], text, nodes)
+    need(one[:3] == four[:3], f"{words}: four threads differ: {one.status} {four.status}")
+    return one
+
+
+def rows_of(plan):
+    if b'"' not in plan:
+        return plan.count(b"\n") - 1
+    return sum(1 for row in csv.reader(io.StringIO(plan.decode("latin-1"), newline="")) if row) - 1
+
+
+def check_run(program, rng, words, text, nodes, plans, pool):
+    done = run_both(program, words, text, nodes)
+    if need_refusal(done, rb"[LE]\d+ \d+:\d+ [^\n]+"):
+        return "refused"
+    listing = done.listing
+    ended = re.search(rb"^budget ended|not proved best$", listing, re.M)
+    none = re.search(rb"^no design", listing, re.M)
+    need(done.status == (2 if ended else 1 if none else 0), f"status {done.status} for its listing")
+    books = re.findall(rb"^book (\S+)$", listing, re.M)
+    outputs = re.findall(rb"^output (\S+) (\d+) rows", listing, re.M)
+    listed = sorted(books + [name for name, _ in outputs])
+    need(sorted(name.encode() for name in done.files) == listed, "files differ from the listing")
+    for name, rows in outputs:
+        plan = done.files[name.decode()]
+        need(rows_of(plan) == int(rows), f"{name.decode()} has not {rows.decode()} rows")
+    for name in books:
+        check_written(program, rng, done.files[name.decode()], pool)
+    for plan in plans:
+        check_plan(program, plan, done.files.get(plan.name.lower() + ".csv"), pool)
+    return f"status {done.status}"
+
+
+def check_plan(program, plan, text, pool):
+    """A plan of default values without blocks and derived factors has to be judged regular."""
+    s, q = len(plan.columns), plan.q
+    if not plan.is_plain or text is None or s > 40 or s + s * (s - 1) // 2 * (q - 1) > 300:
+        return
+    if len(text) > 2**20 or rows_of(text) > 4096:
+        return
+    done = program.run(["judge", str(q)], text)
+    need(done.status == 0 and b"\nregular\n" in done.listing, f"{plan.name} is not regular: {done.status} {done.listing[:100]}")
+    pool.counts["plans judged regular"] += 1
+    if len(text) < 20_000:
+        pool.plans[rng_place(pool, pool.plans)] = (q, text)
+
+
+# ---- books
+
+
+class Pool:
+    """Good books and plans that the program wrote, for the changed ones, and counts."""
+
+    def __init__(self, rng):
+        self.rng, self.books, self.plans, self.counts = rng, {}, {}, collections.Counter()
+
+
+def rng_place(pool, kept):
+    return len(kept) if len(kept) < 200 else pool.rng.randrange(200)
+
+
+def python_verdict(text):
+    """What check/check_book.py prints, and its status."""
+    try:
+        book = check_book.Book(text)
+        check_book.Walk(book).check()
+    except check_book.Rejected as rejected:
+        return f"{rejected}\n".encode(), 1
+    return "\n".join(["accepted", *book.lines[1:4], ""]).encode("latin-1"), 0
+
+
+def work_of(text):
+    """About the work of a check in Python: a pattern is counted over all runs, for each level."""
+    size = re.search(rb"\nsize ([2-9]) (\d{1,2}) .*\n.*\npattern \d", text)
+    each = min(int(size.group(1)) ** int(size.group(2)), 1024) * int(size.group(1)) if size else 20
+    return len(text) + text.count(b"\n") * each
+
+
+def check_both(program, text, pool):
+    """The verdict of the program, which has to be that of Python."""
+    done = program.run(["check"], text, statuses=(0, 1))
+    need(not done.files, "check wrote files")
+    is_short = work_of(text) <= MOST_WORK
+    if is_short:
+        theirs = python_verdict(text)
+        need((done.listing, done.status) == theirs, f"check: {done.listing[:80]} {done.status}, Python: {theirs}")
+    pool.counts["books checked by both" if is_short else "books checked by the program alone"] += 1
+    return done
+
+
+def check_written(program, rng, text, pool):
+    done = check_both(program, text, pool)
+    need(done.status == 0, f"a written book: {done.listing[:80]}")
+    if len(text) <= 4000:
+        pool.books[rng_place(pool, pool.books)] = text
+
+
+BOOK_PARTS = re.compile(rb"[^\n]*\n|[^\n]+$")
+BOOK_FIELDS = re.compile(rb"\d+|[A-Za-z]+|.", re.S)
+
+
+def changed_book(rng, text):
+    others = [b"END\n", b"O 1\n", b"W 3 1:1 2:1\n", b"P 7\n", b"", b"\n", b"W 0 #7\n", b"size 2 3 5 0\n",
+              b"pattern none\n", b"resolution 4\n",
+              b"effects 1 2 4 / 3\n", b"size 9 1 1 0\n", b"9" * 5000, b"pattern 0 0 1\n"]
+    if rng.random() < 0.3:
+        first = changed_books.in_first_version(text.decode())
+        text = first.encode() if first else text
+    kind = rng.random()
+    if kind < 0.05:
+        return text
+    if kind < 0.5:
+        return with_faults(rng, text, BOOK_PARTS.findall, others)
+    if kind < 0.6:
+        lines = text.split(b"\n")
+        i = rng.randrange(len(lines))
+        lines[i] = rng.choice(changed_books.WAYS)(lines[i].decode()).encode()
+        return b"\n".join(lines)
+    parts = [b"0", b"1", b"2", b"3", b"9", b"63", b"64", b":", b"#", b" ", b"\n", b"/", b"O", b"W", b"P", b"\r"]
+    return with_faults(rng, text, BOOK_FIELDS.findall, parts)
+
+
+def try_book(program, rng, pool):
+    text = changed_book(rng, rng.choice(list(pool.books.values())))
+    yield ["check"], text
+    check_both(program, text, pool)
+
+
+def try_upgrade(program, rng, pool):
+    text = rng.choice(list(pool.books.values()))
+    if rng.random() < 0.3:
+        first = changed_books.in_first_version(text.decode())
+        yield ["upgrade"], (first or text).encode() if first else text
+        if first:
+            need(program.run(["upgrade"], first.encode()).listing == text, "the upgrade of version 1 is another book")
+        need(program.run(["upgrade"], text).listing == text, "the upgrade of version 2 changes it")
+        return
+    text = changed_book(rng, text)
+    yield ["upgrade"], text
+    checked = check_both(program, text, pool)
+    done = program.run(["upgrade"], text, statuses=(0, 1))
+    if done.status == 1:
+        need(done[:2] == checked[:2], f"upgrade {done.listing[:80]}, check {checked.listing[:80]}")
+        need(b" B" in done.listing, f"upgrade {done.listing[:80]}")
+    else:
+        again = check_both(program, done.listing, pool)
+        need(again[:2] == checked[:2], f"upgraded: {again.listing[:80]}, before: {checked.listing[:80]}")
+        need(program.run(["upgrade"], done.listing).listing == done.listing, "a second upgrade changes it")
+
+
+# ---- plans to be judged
+
+
+def level_values(q):
+    return {2: ["-1", "1"], 3: ["-1", "0", "1"]}.get(q, [str(code) for code in range(q)])
+
+
+def counted(q, codes):
+    """The number of pairs of components, and of those aliased, orthogonal and partial, as JUDGE.md says."""
+    field, s, n = check_book.Field(q), len(codes[0]), len(codes)
+    minus = [next(b for b in range(q) if field.plus[a][b] == 0) for a in range(q)]
+    columns = [[row[i] for row in codes] for i in range(s)]
+    for i, j in itertools.combinations(range(s), 2):
+        for c in range(1, q):
+            columns.append([field.plus[field.times[c][row[i]]][row[j]] for row in codes])
+    counts = [0, 0, 0]
+    for a, b in itertools.combinations(columns, 2):
+        if any(len({field.plus[x][minus[field.times[k][y]]] for x, y in zip(a, b)}) == 1 for k in range(1, q)):
+            counts[0] += 1
+        else:
+            first, second, both = collections.Counter(a), collections.Counter(b), collections.Counter(zip(a, b))
+            counts[1 if all(both[x, y] * n == first[x] * second[y] for x in first for y in second) else 2] += 1
+    return [len(columns) * (len(columns) - 1) // 2, *counts]
+
+
+def random_plan(rng):
+    q = rng.choice([2, 2, 2, 3, 3, 4, 5, 7, 8, 9])
+    s, rows = rng.randint(1, {2: 7, 3: 5}.get(q, 3)), rng.choice([1, 2, 3, 8, 9, 12, 16, rng.randint(1, 80)])
+    table = [[rng.choice(level_values(q)) for _ in range(s)] for _ in range(rows)]
+    if rng.random() < 0.3:
+        table *= rng.randint(1, 3)
+    return q, "\n".join(",".join(row) for row in [[f"F{i}" for i in range(s)]] + table).encode() + b"\n"
+
+
+def try_judge(program, rng, pool):
+    q, text = rng.choice(list(pool.plans.values())) if pool.plans and rng.random() < 0.5 else random_plan(rng)
+    rows = [line.split(b",") for line in text.splitlines()]
+    if rng.random() < 0.4:
+        # Right ones: other ends of lines, quotes, blank lines, a block column, fewer runs, another order.
+        body = rows[1:]
+        rng.shuffle(body)
+        body = body[: rng.randint(1, len(body))] if rng.random() < 0.3 else body
+        codes = [[level_values(q).index(x.decode()) for x in row] for row in body]
+        table = [rows[0]] + body
+        if rng.random() < 0.3 and rows[0][0].lower() != b"block":
+            table = [[rng.choice([b"BLOCK", b"Block"])] + rows[0]] + [[rng.choice([b"1", b"x y", b""])] + row for row in body]
+        end = rng.choice([b"\n", b"\r\n", b"\r"])
+        mark = rng.choice([b"", b'"'])
+        if q < 4:
+            table[1:] = [[b"+1" if x == b"1" and rng.random() < 0.2 else x for x in row] for row in table[1:]]
+        lines = [b",".join(mark + x + mark for x in row) for row in table]
+        text = rng.choice([b"", b"\xef\xbb\xbf"]) + (end + rng.choice([b"", end])).join(lines) + rng.choice([b"", end])
+        yield ["judge", str(q)], text
+        done = program.run(["judge", str(q)], text)
+        need(done.status == 0, f"a right plan: {done.listing[:80]}")
+        numbers = [int(n) for n in re.findall(rb"^(?:pairs|aliased|orthogonal|partial) (\d+)$", done.listing, re.M)]
+        head = b"plan %d rows\nfactors %d levels %d\n" % (len(codes), len(codes[0]), q)
+        need(done.listing.startswith(head), f"{done.listing[:80]}")
+        if len(codes) * len(codes[0]) ** 4 * q**3 < 400_000:
+            need(numbers == counted(q, codes), f"judge counts {numbers}, here {counted(q, codes)}")
+            pool.counts["plans counted again"] += 1
+        need(sum(numbers[1:]) == numbers[0], f"{numbers}")
+        return
+    others = [b"-1", b"1", b"2", b"+1", b"", b'"', b'""', b",", b"\n", b"\r", b" ", b"A", b"BLOCK", b"\xef\xbb\xbf", b"\x00",
+              b"9" * 50, b"x" * 33]
+    text = with_faults(rng, text, re.compile(rb"[^,\n\r]+|.", re.S).findall, others)
+    q = rng.choice([q, q, q, rng.choice([2, 3, 4, 5, 7, 8, 9])])
+    yield ["judge", str(q)], text
+    done = program.run(["judge", str(q)], text, statuses=(0, 3))
+    need_refusal(done, rb"J[1-7] record \d+")
+
+
+# ---- catalogues
+
+
+def try_catalogue(program, rng, pool):
+    q = rng.choice([2, 2, 2, 3, 4, 5, 7, 8, 9])
+    m = rng.randint(1, min(GREATEST_M[q], 7 if q == 2 else 3))
+    s = min(m + rng.randint(1, 6), 63 if q < 4 else 40)
+    nodes = rng.choice([1, 5, 30, 200, 3000, 20000])
+    words = ["catalogue", str(q), str(m), str(s), f"--nodes={nodes}"]
+    yield words, b""
+    done = run_both(program, words, b"", nodes * (s - m))
+    lines = done.listing.decode().splitlines()
+    need(lines[0] == f"catalogue levels {q} runs {q**m}", lines[0])
+    none, ended = lines[-1].endswith("none"), any("budget ended" in line for line in lines)
+    need(done.status == (2 if ended else 1 if none else 0), f"status {done.status}")
+    finished = [re.match(r"factors (\d+) nodes", line).group(1) for line in lines[1:] if "budget" not in line]
+    need(sorted(done.files) == sorted(f"catalogue-{count}.book" for count in finished), f"{sorted(done.files)}")
+    for book in done.files.values():
+        check_written(program, rng, book, pool)
+    if finished:
+        count = rng.choice(finished)
+        text = f"proc factex nodes={nodes}; factors X1-X{count} / nlev={q}; size design={q**m}; "
+        text += "model resolution=3 / minabs; run;"
+        step_run = program.run(["run"], text.encode(), nodes)
+        book = done.files[f"catalogue-{count}.book"]
+        need(step_run.files.get("step1-1.book") == book, f"the step of {count} factors has another book")
+
+
+# ---- the kinds
+
+
+def try_text(program, rng, pool):
+    text, budget, plans = program_text(rng)
+    words = ["run"] + ([f"--seed={rng.choice([0, 5, 2**64 - 1])}"] if rng.random() < 0.2 else [])
+    yield words, text
+    pool.counts["texts, " + check_run(program, rng, words, text, budget, plans, pool)] += 1
+
+
+def try_faulty_text(program, rng, pool):
+    text, budget, _ = program_text(rng)
+    text = with_faults(rng, text)
+    # A fault may take away a budget, or add a step.
+    budget += 1_000_000 * (1 + len(re.findall(rb"proc", text, re.I)))
+    yield ["run"], text
+    pool.counts["texts with faults, " + check_run(program, rng, ["run"], text, budget, [], pool)] += 1
+
+
+KINDS = [("words", 10, try_words), ("make and large", 1, try_make), ("texts", 25, try_text),
+         ("texts with faults", 20, try_faulty_text), ("books", 25, try_book), ("upgrades", 10, try_upgrade),
+         ("plans", 25, try_judge), ("catalogues", 3, try_catalogue)]
+
+FIRST = b"""proc factex; factors A B C D E; size design=8; model resolution=4; output out=a; run;
+proc factex; factors A B C D; size design=8; model resolution=3 / minabs; run;
+proc factex; factors A B C D / nlev=3; size design=9; model estimate=(A B C D A*B); run;
+proc factex; factors A B C D; size design=8; model resolution=4; blocks nblocks=4; run;
+proc factex; factors F1-F12; size design=16; model resolution=10; run;
+"""
+
+
+def keep(folder, name, words, text, what):
+    os.makedirs(folder, exist_ok=True)
+    with open(os.path.join(folder, name + ".input"), "wb") as file:
+        file.write(text)
+    with open(os.path.join(folder, name + ".txt"), "w") as file:
+        file.write(f"{what}\n{words!r}\n")
+
+
+def main():
+    parser = argparse.ArgumentParser(description=__doc__.split("\n\n")[0])
+    parser.add_argument("program")
+    parser.add_argument("--seconds", type=float, default=600)
+    parser.add_argument("--seed", type=int, default=1)
+    parser.add_argument("--keep", default="hostile-failures")
+    arguments = parser.parse_args()
+    program, pool = Program(arguments.program), Pool(random.Random(arguments.seed))
+    check_run(program, pool.rng, ["run"], FIRST, 5_000_000, [], pool)
+    made, failed = collections.Counter(), collections.Counter()
+    end = os.times().elapsed + arguments.seconds
+    while os.times().elapsed < end:
+        number = sum(made.values()) + 1
+        rng = random.Random(f"{arguments.seed} {number}")
+        kind, _, trial = rng.choices(KINDS, [weight for _, weight, _ in KINDS])[0]
+        made[kind] += 1
+        words, text = [], b""
+        try:
+            # A trial first yields its input, so that it can be kept.
+            trials = trial(program, rng, pool)
+            words, text = next(trials)
+            next(trials, None)
+        except Failure as failure:
+            failed[kind] += 1
+            name = f"{arguments.seed}-{number}"
+            keep(arguments.keep, name, words, text, f"{kind}: {failure}")
+            print(f"{name} {kind}: {failure}", flush=True)
+    for kind, count in sorted(made.items()):
+        print(f"{kind}: {count} inputs, {failed[kind]} failed")
+    for what, count in sorted(pool.counts.items()):
+        print(f"{what}: {count}")
+    slowest = ", ".join(f"{kind} {seconds:.2f} s" for kind, seconds in sorted(program.slowest.items()))
+    print(f"runs of the program: {program.count}; most processor time: {slowest}")
+    sys.exit(1 if failed else 0)
+
+
+main()
