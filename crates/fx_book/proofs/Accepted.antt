@@ -12,6 +12,7 @@ use Rattle.fx_vectors.specs.Shape.{IsShape, dimensions_of}
 use Rattle.fx_vectors.specs.Effects.{numbers_of}
 use Rattle.fx_vectors.specs.declared.shape.Shape.{Shape}
 use Rattle.fx_vectors.specs.declared.book.Book.{Book}
+use Rattle.fx_vectors.specs.declared.book.Head.{Head}
 use Rattle.fx_vectors.specs.declared.question.Demands.{Demands}
 use Rattle.fx_vectors.specs.declared.question.Demands.TheVariants.{Resolution, Effects}
 use Rattle.fx_vectors.proofs.Limits.{order-bounds, words_fit}
@@ -31,7 +32,7 @@ use Rattle.fx_book.specs.Demands.{demands_of, resolution_demands, resolution_wit
 use Rattle.fx_book.specs.Demands.{after_stroke}
 use Rattle.fx_book.specs.Demands.{with_effect, lists_of, may_be_asked, asked_for}
 use Rattle.fx_book.specs.Heads.{book_of, is_shape, shape_from, shape_of, may_be_beaten, whole_pattern, beat_from}
-use Rattle.fx_book.specs.Heads.{beat_of, from_title, with_version, from_size, from_demands, from_beat, with_line}
+use Rattle.fx_book.specs.Heads.{beat_of, from_title, with_version, with_head, head_of, from_demands, from_beat, with_line}
 use Rattle.fx_book.specs.Heads.{with_shape, with_demands, with_beat, with_marks}
 use Rattle.fx_book.specs.Writing.{spaced, shape_text, demands_text, beat_text, text_in}
 use Rattle.fx_book.proofs.Numerals.{part_is, parts_are}
@@ -45,15 +46,15 @@ abbrev end : List ℕ
 end = codes "END\n"
 
 -- the first line, where something is made of it
-pub line_taken : (f : BookFault) (make : List ℕ → List (List ℕ) → Result Book BookFault) (lines : List (List ℕ))
-    (book : Book) → with_line (Err f) make lines ≡ Ok book
-    → (line : List ℕ) × (rest : List (List ℕ)) × (lines ≡ line ∷ rest) × (0 < length rest) × (make line rest ≡ Ok book)
-line_taken f make [] book h = cc h
-line_taken f make (line ∷ []) book h = cc h
-line_taken f make (line ∷ next ∷ lines) book h = (line, next ∷ lines, refl, omega arith, h)
+pub line_taken : {T : Type 0} (f : BookFault) (make : List ℕ → List (List ℕ) → Result T BookFault)
+    (lines : List (List ℕ)) (read : T) → with_line (Err f) make lines ≡ Ok read
+    → (line : List ℕ) × (rest : List (List ℕ)) × (lines ≡ line ∷ rest) × (0 < length rest) × (make line rest ≡ Ok read)
+line_taken f make [] read h = cc h
+line_taken f make (line ∷ []) read h = cc h
+line_taken f make (line ∷ next ∷ lines) read h = (line, next ∷ lines, refl, omega arith, h)
 
 -- a line of spaced numbers with its end
-ended : (word : List ℕ) (ns rest : List ℕ)
+pub ended : (word : List ℕ) (ns rest : List ℕ)
     → (word ++ spaced ns) ++ 10 ∷ rest ≡ (word ++ (spaced ns ++ codes "\n")) ++ rest
 ended word ns rest =
     append_assoc word (spaced ns) (10 ∷ rest)
@@ -362,103 +363,108 @@ beat_is s allowed line beat rest h =
           ∙ ended (codes "pattern") k.0 rest ∙ ap (λ (b : Option (List ℕ)). beat_text b ++ rest) k.2
     ]
 
-module _ (version : Version) (shape : Shape) (l : AreLimits version shape) (book : Book) where
-  pub beat_taken : (asked : Demands) (lines : List (List ℕ)) (o : Option (Option (List ℕ)))
-      → with_beat version shape asked lines o ≡ Ok book
+-- the text of lines 2 to 4, and of those after them
+module _ (head : Head) (after : List (List ℕ)) where
+  pub beat_taken : (shape : Shape) (asked : Demands) (lines : List (List ℕ)) (o : Option (Option (List ℕ)))
+      → with_beat shape asked lines o ≡ Ok (head, after)
       → (beat : Option (List ℕ)) × (o ≡ Some beat)
-      × (with_marks shape asked beat (entries version (dimensions_of shape) (is_some beat) 5 lines) ≡ Ok book)
-  beat_taken asked lines None h = cc h
-  beat_taken asked lines (Some beat) h = (beat, refl, h)
+      × (record { question = record { shape = shape; demands = asked; least = is_some beat }; beat = beat } ≡ head)
+      × (lines ≡ after)
+  beat_taken shape asked lines None h = cc h
+  beat_taken shape asked lines (Some beat) h =
+      let own : Head =
+      record { question = record { shape = shape; demands = asked; least = is_some beat }; beat = beat } in
+      let e : (own, lines) ≡ (head, after) = cc h in
+      (beat, refl, ap (λ (x : Head × List (List ℕ)). x.0) e, ap (λ (x : Head × List (List ℕ)). x.1) e)
 
-  pub marks_taken : (asked : Demands) (beat : Option (List ℕ)) (r : Result (List nodes.Mark) BookFault)
-      → with_marks shape asked beat r ≡ Ok book
-      → (marks : List nodes.Mark) × (r ≡ Ok marks)
-      × (record {
-        head = record
-            { question = record { shape = shape; demands = asked; least = is_some beat }; beat = beat };
-        marks = marks;
-      }
-      ≡ book)
-  marks_taken asked beat (Err stop) h = cc h
-  marks_taken asked beat (Ok marks) h = (marks, refl, cc h)
-
-  from_beat_text : (asked : Demands) (lines : List (List ℕ)) → from_beat version shape asked lines ≡ Ok book
-      → (book.head.question.shape ≡ shape) × (book.head.question.demands ≡ asked)
-      × (joined 10 lines ≡ beat_text book.head.beat ++ (entries_text version (dimensions_of shape) book.marks ++ end))
-  from_beat_text asked lines h =
+  from_beat_text : (shape : Shape) (asked : Demands) (lines : List (List ℕ))
+      → from_beat shape asked lines ≡ Ok (head, after)
+      → (head.question.shape ≡ shape) × (head.question.demands ≡ asked)
+      × (joined 10 lines ≡ beat_text head.beat ++ joined 10 after)
+  from_beat_text shape asked lines h =
       let k = line_taken (fault kind.Pattern 4)
-      (λ line rest. with_beat version shape asked rest (beat_of shape.s (may_be_beaten shape asked) line)) lines
-      book h in
-      let b = beat_taken asked k.1 (beat_of shape.s (may_be_beaten shape asked) k.0) k.4 in
-      let m = marks_taken asked b.0 (entries version (dimensions_of shape) (is_some b.0) 5 k.1) b.2 in
-      let after =
-      entries_are version (dimensions_of shape) (is_some b.0) (omega (arith, l.order)) (omega (arith, l.q))
-      (omega (arith, l.rows)) l.runs (words_fit shape l.shaped (shape.s + shape.t) (omega arith)) 5 k.1 m.0 m.1 in (
-        ap (λ (x : Book). x.head.question.shape) (sym m.2),
-        ap (λ (x : Book). x.head.question.demands) (sym m.2),
-        ap (joined 10) k.2 ∙ joined_more 10 k.0 k.1 k.3 ∙ ap (λ r. k.0 ++ 10 ∷ r) after
-            ∙ beat_is shape.s (may_be_beaten shape asked) k.0 b.0
-            (entries_text version (dimensions_of shape) m.0 ++ end) b.1
-            ∙ ap (λ (x : Book). beat_text x.head.beat ++ (entries_text version (dimensions_of shape) x.marks ++ end))
-            m.2,
+      (λ line rest. with_beat shape asked rest (beat_of shape.s (may_be_beaten shape asked) line)) lines
+      (head, after) h in
+      let b = beat_taken shape asked k.1 (beat_of shape.s (may_be_beaten shape asked) k.0) k.4 in (
+        ap (λ (x : Head). x.question.shape) (sym b.2),
+        ap (λ (x : Head). x.question.demands) (sym b.2),
+        ap (joined 10) k.2 ∙ joined_more 10 k.0 k.1 k.3 ∙ ap (λ r. k.0 ++ 10 ∷ joined 10 r) b.3
+            ∙ beat_is shape.s (may_be_beaten shape asked) k.0 b.0 (joined 10 after) b.1
+            ∙ ap (λ (x : Head). beat_text x.beat ++ joined 10 after) b.2,
       )
 
-  pub demands_taken : (lines : List (List ℕ)) (o : Option Demands) → with_demands version shape lines o ≡ Ok book
-      → (asked : Demands) × (o ≡ Some asked) × (from_beat version shape asked lines ≡ Ok book)
-  demands_taken lines None h = cc h
-  demands_taken lines (Some asked) h = (asked, refl, h)
+  pub demands_taken : (shape : Shape) (lines : List (List ℕ)) (o : Option Demands)
+      → with_demands shape lines o ≡ Ok (head, after)
+      → (asked : Demands) × (o ≡ Some asked) × (from_beat shape asked lines ≡ Ok (head, after))
+  demands_taken shape lines None h = cc h
+  demands_taken shape lines (Some asked) h = (asked, refl, h)
 
-  from_demands_text : (lines : List (List ℕ)) → from_demands version shape lines ≡ Ok book
-      → (book.head.question.shape ≡ shape)
-      × (joined 10 lines
-      ≡ demands_text book.head.question.demands
-      ++ (beat_text book.head.beat ++ (entries_text version (dimensions_of shape) book.marks ++ end)))
-  from_demands_text lines h =
+  from_demands_text : (shape : Shape) (lines : List (List ℕ)) → shape.s ≤ MOST_FACTORS
+      → from_demands shape lines ≡ Ok (head, after)
+      → (head.question.shape ≡ shape)
+      × (joined 10 lines ≡ demands_text head.question.demands ++ (beat_text head.beat ++ joined 10 after))
+  from_demands_text shape lines short h =
       let k = line_taken (fault kind.Demands 3)
-      (λ line rest. with_demands version shape rest (demands_of shape (split 32 line))) lines book h in
-      let d = demands_taken k.1 (demands_of shape (split 32 k.0)) k.4 in
-      let b = from_beat_text d.0 k.1 d.2 in
-      let R : List ℕ = beat_text book.head.beat ++ (entries_text version (dimensions_of shape) book.marks ++ end) in (
+      (λ line rest. with_demands shape rest (demands_of shape (split 32 line))) lines (head, after) h in
+      let d = demands_taken shape k.1 (demands_of shape (split 32 k.0)) k.4 in
+      let b = from_beat_text shape d.0 k.1 d.2 in
+      let R : List ℕ = beat_text head.beat ++ joined 10 after in (
         b.0,
         ap (joined 10) k.2 ∙ joined_more 10 k.0 k.1 k.3 ∙ ap (λ r. k.0 ++ 10 ∷ r) b.2 ∙ ap (λ line. line ++ 10 ∷ R)
             (sym (join_split 32 k.0))
-            ∙ demands_are shape (split 32 k.0) d.0 R l.s d.1 ∙ ap (λ (x : Demands). demands_text x ++ R) (sym b.1),
+            ∙ demands_are shape (split 32 k.0) d.0 R short d.1 ∙ ap (λ (x : Demands). demands_text x ++ R) (sym b.1),
       )
 
-module _ (version : Version) (book : Book) where
-  pub size_taken : (lines : List (List ℕ)) (o : Option Shape) → with_shape version lines o ≡ Ok book
-      → (shape : Shape) × (o ≡ Some shape) × (from_demands version shape lines ≡ Ok book)
+  pub size_taken : (lines : List (List ℕ)) (o : Option Shape) → with_shape lines o ≡ Ok (head, after)
+      → (shape : Shape) × (o ≡ Some shape) × (from_demands shape lines ≡ Ok (head, after))
   size_taken lines None h = cc h
   size_taken lines (Some shape) h = (shape, refl, h)
 
-  from_size_text : (lines : List (List ℕ)) → from_size version lines ≡ Ok book
-      → joined 10 lines
-      ≡ shape_text book.head.question.shape
-      ++ (demands_text book.head.question.demands
-      ++ (beat_text book.head.beat
-      ++ (entries_text version (dimensions_of book.head.question.shape) book.marks ++ end)))
-  from_size_text lines h =
-      let k = line_taken (fault kind.Size 2) (λ line rest. with_shape version rest (shape_of version (split 32 line)))
-      lines book h in
+  -- what is read of lines 2 to 4 is what is written of it, and its shape is within the limits
+  pub head_text_is : (version : Version) (lines : List (List ℕ)) → head_of version lines ≡ Ok (head, after)
+      → (AreLimits version head.question.shape)
+      × (joined 10 lines
+      ≡ shape_text head.question.shape
+      ++ (demands_text head.question.demands ++ (beat_text head.beat ++ joined 10 after)))
+  head_text_is version lines h =
+      let k = line_taken (fault kind.Size 2) (λ line rest. with_shape rest (shape_of version (split 32 line))) lines
+      (head, after) h in
       let s = size_taken k.1 (shape_of version (split 32 k.0)) k.4 in
       let shape : Shape = s.0 in
       let i = shape_is version shape (split 32 k.0) s.1 in
-      let d = from_demands_text version shape i.0 book k.1 s.2 in
+      let d = from_demands_text shape k.1 i.0.s s.2 in
       let numbers : List ℕ = shape.q ∷ shape.m ∷ shape.s ∷ shape.t ∷ [] in
-      let R : List ℕ =
-      demands_text book.head.question.demands
-      ++ (beat_text book.head.beat
-      ++ (entries_text version (dimensions_of book.head.question.shape) book.marks ++ end)) in
-      let after : joined 10 k.1 ≡ R =
-      d.1 ∙ ap (λ (x : Shape). demands_text book.head.question.demands
-      ++ (beat_text book.head.beat ++ (entries_text version (dimensions_of x) book.marks ++ end))) (sym d.0) in
-      ap (joined 10) k.2 ∙ joined_more 10 k.0 k.1 k.3 ∙ ap (λ r. k.0 ++ 10 ∷ r) after
-      ∙ ap (λ line. line ++ 10 ∷ R)
-      (text_of 32 k.0 (codes "size" ∷ map decimal numbers) i.1 ∙ joined_spaced (codes "size") numbers)
-      ∙ ended (codes "size") numbers R ∙ ap (λ (x : Shape). shape_text x ++ R) (sym d.0)
+      let R : List ℕ = demands_text head.question.demands ++ (beat_text head.beat ++ joined 10 after) in (
+        subst (λ (x : Shape). AreLimits version x) (sym d.0) i.0,
+        ap (joined 10) k.2 ∙ joined_more 10 k.0 k.1 k.3 ∙ ap (λ r. k.0 ++ 10 ∷ r) d.1
+            ∙ ap (λ line. line ++ 10 ∷ R)
+            (text_of 32 k.0 (codes "size" ∷ map decimal numbers) i.1 ∙ joined_spaced (codes "size") numbers)
+            ∙ ended (codes "size") numbers R ∙ ap (λ (x : Shape). shape_text x ++ R) (sym d.0),
+      )
+
+pub marks_taken : (head : Head) (r : Result (List nodes.Mark) BookFault) (book : Book) → with_marks head r ≡ Ok book
+    → (marks : List nodes.Mark) × (r ≡ Ok marks) × (record { head = head; marks = marks } ≡ book)
+marks_taken head (Err stop) book h = cc h
+marks_taken head (Ok marks) book h = (marks, refl, cc h)
+
+pub head_taken : (version : Version) (r : Result (Head × List (List ℕ)) BookFault) (book : Book)
+    → with_head version r ≡ Ok book
+    → (lines : List (List ℕ)) × (r ≡ Ok (book.head, lines))
+    × (entries version (dimensions_of book.head.question.shape) (is_some book.head.beat) 5 lines ≡ Ok book.marks)
+head_taken version (Err stop) book h = cc h
+head_taken version (Ok read) book h =
+    let head : Head = read.0 in
+    let m = marks_taken head (entries version (dimensions_of head.question.shape) (is_some head.beat) 5 read.1) book h
+    in
+    let is : head ≡ book.head = ap (λ (x : Book). x.head) m.2 in (
+      read.1,
+      ap (λ (x : Head). Ok (x, read.1)) is,
+      subst (λ (x : Book). entries version (dimensions_of x.head.question.shape) (is_some x.head.beat) 5 read.1 ≡
+          Ok x.marks) m.2 m.1,
+    )
 
 pub version_taken : (lines : List (List ℕ)) (o : Option Version) (book : Book) → with_version lines o ≡ Ok book
-    → (version : Version) × (o ≡ Some version) × (from_size version lines ≡ Ok book)
+    → (version : Version) × (o ≡ Some version) × (with_head version (head_of version lines) ≡ Ok book)
 version_taken lines None book h = cc h
 version_taken lines (Some version) book h = (version, refl, h)
 
@@ -498,10 +504,20 @@ read_is_written text book h =
           let k = line_taken (fault kind.Title 1) (λ line rest. with_version rest (version_of line)) (split 10 text)
           book h' in
           let v = version_taken k.1 (version_of k.0) book k.4 in
-          let rest = from_size_text v.0 book k.1 v.2 in (
+          let a = head_taken v.0 (head_of v.0 k.1) book v.2 in
+          let b = head_text_is book.head a.0 v.0 k.1 a.1 in
+          let l = b.0 in
+          let shape : Shape = book.head.question.shape in
+          let rest : joined 10 a.0 ≡ entries_text v.0 (dimensions_of shape) book.marks ++ end =
+          entries_are v.0 (dimensions_of shape) (is_some book.head.beat) (omega (arith, l.order)) (omega (arith, l.q))
+          (omega (arith, l.rows)) l.runs (words_fit shape l.shaped (shape.s + shape.t) (omega arith)) 5 a.0 book.marks
+          a.2 in (
             v.0,
             sym (join_split 10 text) ∙ ap (joined 10) k.2 ∙ joined_more 10 k.0 k.1 k.3 ∙ ap
                 (λ l. l ++ 10 ∷ joined 10 k.1) (title_is k.0 v.0 v.1)
-                ∙ ap (λ l. title_of v.0 ++ 10 ∷ l) rest,
+                ∙ ap (λ l. title_of v.0 ++ 10 ∷ l) b.1
+                ∙ ap (λ l. title_of v.0
+                ++ 10 ∷ (shape_text shape ++ (demands_text book.head.question.demands ++ (beat_text book.head.beat ++ l))))
+                rest,
           )
     ]

@@ -105,7 +105,7 @@ as_mark (nodes.Branch row) = Branch row
 as_mark (nodes.Word row word) = Word row word
 as_mark (nodes.Worse row) = Worse row
 
-same-mark : (m : nodes.Mark) → meaning_of (as_mark m) ≡ m
+pub same-mark : (m : nodes.Mark) → meaning_of (as_mark m) ≡ m
 same-mark (nodes.Branch row) = refl
 same-mark (nodes.Word row word) = refl
 same-mark (nodes.Worse row) = refl
@@ -116,7 +116,7 @@ line_of version d (nodes.Branch row) = 79 ∷ 32 ∷ decimal row
 line_of version d (nodes.Word row word) = 87 ∷ 32 ∷ (decimal row ++ after_blanks (word_parts version d word))
 line_of version d (nodes.Worse row) = 80 ∷ 32 ∷ decimal row
 
-text_line : (version : Version) (d : Dimensions) (m : nodes.Mark) (rest : List ℕ)
+pub text_line : (version : Version) (d : Dimensions) (m : nodes.Mark) (rest : List ℕ)
     → entry_text version d m ++ rest ≡ line_of version d m ++ 10 ∷ rest
 text_line version d (nodes.Branch row) rest = ap (λ l. 79 ∷ 32 ∷ l) (append_assoc (decimal row) (10 ∷ []) rest)
 text_line version d (nodes.Word row word) rest =
@@ -126,7 +126,7 @@ text_line version d (nodes.Word row word) rest =
     ∙ sym (append_assoc (decimal row) parts (10 ∷ rest)))
 text_line version d (nodes.Worse row) rest = ap (λ l. 80 ∷ 32 ∷ l) (append_assoc (decimal row) (10 ∷ []) rest)
 
-no_end : (version : Version) (d : Dimensions) (m : nodes.Mark) → bytes_eq (line_of version d m) (codes "END") ≡ false
+pub no_end : (version : Version) (d : Dimensions) (m : nodes.Mark) → bytes_eq (line_of version d m) (codes "END") ≡ false
 no_end version d (nodes.Branch row) = refl
 no_end version d (nodes.Word row word) = refl
 no_end version d (nodes.Worse row) = refl
@@ -280,7 +280,7 @@ module _ (d : Dimensions) (order : 0 < d.q) (small : d.q < 2 ^ 127) (rows : d.s 
 
 module _ (version : Version) (d : Dimensions) (beaten : Bool) (order : 0 < d.q) (small : d.q < 2 ^ 127)
     (rows : d.s + d.t < 2 ^ 127) (runs : d.q ^ d.m ≤ 1024) (words : d.q ^ (d.s + d.t) < 2 ^ 127) where
-  one_line : (m : nodes.Mark) → IsEntry d beaten m → Without 10 (line_of version d m)
+  pub one_line : (m : nodes.Mark) → IsEntry d beaten m → Without 10 (line_of version d m)
   one_line (nodes.Branch row) h =
       (refl, (refl, digits_without 10 (omega arith) (decimal row) (plain row (omega (arith, h)))))
   one_line (nodes.Word row word) h = (
@@ -296,7 +296,7 @@ module _ (version : Version) (d : Dimensions) (beaten : Bool) (order : 0 < d.q) 
   one_line (nodes.Worse row) h =
       (refl, (refl, digits_without 10 (omega arith) (decimal row) (plain row (omega (arith, h.0)))))
 
-  entry_back : (m : nodes.Mark) → IsEntry d beaten m
+  pub entry_back : (m : nodes.Mark) → IsEntry d beaten m
       → entry_of version d beaten (split 32 (line_of version d m)) ≡ Ok (as_mark m)
   entry_back (nodes.Branch row) h =
       let parts : split 32 (line_of version d (nodes.Branch row)) ≡ (79 ∷ []) ∷ decimal row ∷ [] =

@@ -1,19 +1,19 @@
-mod Splits
+pub mod Splits
 mod Numbers
-mod Lines
+pub mod Lines
 mod Ranges
 mod Joins
 mod Streams
 pub mod Listed
 mod Askable
 mod Placing
-mod Back
+pub mod Back
 mod Stops
-mod Books
+pub mod Books
 pub mod Whole
 mod Examples
-mod Numerals
-mod Texts
+pub mod Numerals
+pub mod Texts
 pub mod Accepted
 pub mod ValidTexts
 pub mod QuestionBooks

@@ -239,7 +239,7 @@ module _ (version : Version) (d : Dimensions) (beaten : Bool) (order : 0 < d.q) 
       ]
 
   -- the parts of an entry
-  abbrev parts_for : nodes.Mark → List (List ℕ)
+  abbrev pub parts_for : nodes.Mark → List (List ℕ)
   parts_for (nodes.Branch row) = codes "O" ∷ decimal row ∷ []
   parts_for (nodes.Word row word) = codes "W" ∷ decimal row ∷ word_parts version d word
   parts_for (nodes.Worse row) = codes "P" ∷ decimal row ∷ []
@@ -291,7 +291,7 @@ module _ (version : Version) (d : Dimensions) (beaten : Bool) (order : 0 < d.q) 
           (part_is part row is r.0)
           ∙ ap (λ l. codes "W" ∷ decimal row ∷ l) written.parts_are ∙ ap (λ (m : Mark). parts_for (meaning_of m)) r.1
 
-  entry_is : (parts : List (List ℕ)) (mark : Mark) → entry_of version d beaten parts ≡ Ok mark
+  pub entry_is : (parts : List (List ℕ)) (mark : Mark) → entry_of version d beaten parts ≡ Ok mark
       → parts ≡ parts_for (meaning_of mark)
   entry_is [] mark h = cc h
   entry_is (letter ∷ []) mark h = cc h
@@ -299,7 +299,7 @@ module _ (version : Version) (d : Dimensions) (beaten : Bool) (order : 0 < d.q) 
   entry_is (letter ∷ row ∷ part ∷ parts) mark h =
       word_is letter row (part ∷ parts) (number_of row) (word_written version d (part ∷ parts)) mark refl refl h
 
-  line_for : (mark : nodes.Mark) (rest : List ℕ)
+  pub line_for : (mark : nodes.Mark) (rest : List ℕ)
       → joined 32 (parts_for mark) ++ 10 ∷ rest ≡ entry_text version d mark ++ rest
   line_for (nodes.Branch row) rest = sym (ap (λ l. codes "O " ++ l) (append_assoc (decimal row) (10 ∷ []) rest))
   line_for (nodes.Word row word) rest =
@@ -318,7 +318,7 @@ module _ (version : Version) (d : Dimensions) (beaten : Bool) (order : 0 < d.q) 
   taken n (Ok mark) (Err stop) marks h = cc h
   taken n (Ok mark) (Ok more) marks h = let e : meaning_of mark ∷ more ≡ marks = cc h in (mark, more, refl, refl, sym e)
 
-  last_line : (next : List ℕ) (lines : List (List ℕ)) → is_nothing (next ∷ lines) ≡ true → joined 10 (next ∷ lines) ≡ []
+  pub last_line : (next : List ℕ) (lines : List (List ℕ)) → is_nothing (next ∷ lines) ≡ true → joined 10 (next ∷ lines) ≡ []
   last_line [] [] h = refl
   last_line (b ∷ next) [] h = let z = eqb-true (length (b ∷ next)) 0 h in absurd (omega arith)
   last_line next (line ∷ lines) h = cc h

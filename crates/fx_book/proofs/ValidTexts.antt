@@ -11,7 +11,7 @@ use Rattle.std.proofs.lemmas.Bool.{ltb-false}
 use Rattle.std.proofs.lemmas.List.Elements.{All-from_recursion}
 use Rattle.fx_designs.specs.Problems.{Dimensions}
 use Rattle.fx_designs.specs.Nodes as nodes
-use Rattle.fx_vectors.specs.Shape.{dimensions_of}
+use Rattle.fx_vectors.specs.Shape.{IsShape, dimensions_of}
 use Rattle.fx_vectors.specs.Effects.{numbers_of}
 use Rattle.fx_vectors.specs.Marks.{meaning_of}
 use Rattle.fx_vectors.specs.declared.mark.Mark.{Mark}
@@ -20,6 +20,7 @@ use Rattle.fx_vectors.specs.Question.{is_resolution, requirement_of}
 use Rattle.fx_vectors.specs.declared.shape.Shape.{Shape}
 use Rattle.fx_vectors.specs.declared.effect.Effect.{Effect}
 use Rattle.fx_vectors.specs.declared.book.Book.{Book}
+use Rattle.fx_vectors.specs.declared.book.Head.{Head}
 use Rattle.fx_vectors.specs.declared.question.Demands.{Demands}
 use Rattle.fx_vectors.specs.declared.question.Demands.TheVariants.{Resolution, Effects}
 use Rattle.fx_vectors.proofs.Limits.{words_fit}
@@ -38,15 +39,15 @@ use Rattle.fx_book.specs.Reading.{entries, after_entry, is_nothing}
 use Rattle.fx_book.specs.Demands.{demands_of, resolution_demands, resolution_within, numbered_effects, as_effects}
 use Rattle.fx_book.specs.Demands.{after_stroke}
 use Rattle.fx_book.specs.Demands.{with_effect, lists_of, may_be_asked, asked_for}
-use Rattle.fx_book.specs.Heads.{book_of, from_title, with_version, from_size, with_shape, with_demands}
+use Rattle.fx_book.specs.Heads.{book_of, from_title, with_version, head_of, with_shape, with_demands}
 use Rattle.fx_book.specs.Heads.{from_beat, with_beat, shape_of, may_be_beaten, whole_pattern, beat_from}
 use Rattle.fx_book.specs.Heads.{beat_of}
 use Rattle.fx_book.specs.Writing.{text_in, shape_text, demands_text, beat_text}
-use Rattle.fx_book.specs.Valid.{IsEntry, IsBeat, AreDemands, IsValidBook}
+use Rattle.fx_book.specs.Valid.{IsEntry, IsBeat, AreDemands, IsValidHead, IsValidBook}
 use Rattle.fx_book.proofs.Askable.{askable}
 use Rattle.fx_book.proofs.Texts.{written_word}
-use Rattle.fx_book.proofs.Accepted.{AreLimits, line_taken, version_taken, size_taken, demands_taken, beat_taken}
-use Rattle.fx_book.proofs.Accepted.{marks_taken, shape_is, read_is_written, stroke_taken}
+use Rattle.fx_book.proofs.Accepted.{line_taken, version_taken, size_taken, demands_taken, beat_taken, head_taken}
+use Rattle.fx_book.proofs.Accepted.{shape_is, head_text_is, read_is_written, stroke_taken}
 
 module _ (version : Version) (d : Dimensions) (beaten : Bool) (order : 0 < d.q) (small : d.q < 2 ^ 127)
     (rows : d.s + d.t < 2 ^ 127) (words : d.q ^ (d.s + d.t) < 2 ^ 127) where
@@ -101,7 +102,7 @@ module _ (version : Version) (d : Dimensions) (beaten : Bool) (order : 0 < d.q) 
           let written = written_word d order small rows words version parts word was in
           subst (λ (m : Mark). IsEntry d beaten (meaning_of m)) r.1 (r.0, written.some, written.below)
 
-  entry_valid : (parts : List (List ℕ)) (mark : Mark) → entry_of version d beaten parts ≡ Ok mark
+  pub entry_valid : (parts : List (List ℕ)) (mark : Mark) → entry_of version d beaten parts ≡ Ok mark
       → IsEntry d beaten (meaning_of mark)
   entry_valid [] mark h = cc h
   entry_valid (letter ∷ []) mark h = cc h
@@ -360,47 +361,35 @@ beat_valid s allowed line beat h =
           ∙ h)
     ]
 
-module _ (version : Version) (book : Book) (few : length book.marks ≤ 268435456) where
-  from_beat_valid : (shape : Shape) → AreLimits version shape → (asked : Demands) → AreDemands shape asked
-      → (lines : List (List ℕ)) → from_beat version shape asked lines ≡ Ok book → IsValidBook book
-  from_beat_valid shape l asked may lines e =
+-- a head that is read is valid
+module _ (head : Head) (after : List (List ℕ)) where
+  from_beat_valid : (shape : Shape) → IsShape shape → (asked : Demands) → AreDemands shape asked
+      → (lines : List (List ℕ)) → from_beat shape asked lines ≡ Ok (head, after) → IsValidHead head
+  from_beat_valid shape shaped asked may lines e =
       let k = line_taken (fault kind.Pattern 4)
-      (λ line rest. with_beat version shape asked rest (beat_of shape.s (may_be_beaten shape asked) line)) lines
-      book e in
-      let b = beat_taken version shape l book asked k.1 (beat_of shape.s (may_be_beaten shape asked) k.0) k.4 in
-      let m = marks_taken version shape l book asked b.0 (entries version (dimensions_of shape) (is_some b.0) 5 k.1) b.2
-      in
+      (λ line rest. with_beat shape asked rest (beat_of shape.s (may_be_beaten shape asked) line)) lines
+      (head, after) e in
+      let b = beat_taken head after shape asked k.1 (beat_of shape.s (may_be_beaten shape asked) k.0) k.4 in
       let beat = beat_valid shape.s (may_be_beaten shape asked) k.0 b.0 b.1 in
-      let own : Book =
-      record {
-        head = record
-            { question = record { shape = shape; demands = asked; least = is_some b.0 }; beat = b.0 };
-        marks = m.0;
-      }
-      in
       let least : is_some b.0 ≡ true → (is_resolution (requirement_of asked) ≡ true) × (shape.t ≡ 0) =
       λ some. (let p = and_parts _ _ (beat.may some) in (p.1, eqb-true _ _ p.0)) in
-      let marks =
-      entries_valid version (dimensions_of shape) (is_some b.0) (omega (arith, l.order)) (omega (arith, l.q))
-      (omega (arith, l.rows)) (words_fit shape l.shaped (shape.s + shape.t) (omega arith)) 5 k.1 m.0 m.1 in
-      subst IsValidBook m.2 (record {
-        question = record { shaped = l.shaped; asked = may.0; least = least };
+      subst IsValidHead b.2 (record {
+        question = record { shaped = shaped; asked = may.0; least = least };
         few_effects = may.1;
         beat = beat.pattern;
-        marks = All-from_recursion (IsEntry (dimensions_of shape) (is_some b.0)) m.0 marks;
-        few_marks = subst (λ (x : Book). length x.marks ≤ 268435456) (sym m.2) few;
       })
 
-  from_size_valid : (lines : List (List ℕ)) → from_size version lines ≡ Ok book → IsValidBook book
-  from_size_valid lines e =
-      let k = line_taken (fault kind.Size 2) (λ line rest. with_shape version rest (shape_of version (split 32 line)))
-      lines book e in
-      let s = size_taken version book k.1 (shape_of version (split 32 k.0)) k.4 in
+  pub head_valid : (version : Version) (lines : List (List ℕ)) → head_of version lines ≡ Ok (head, after)
+      → IsValidHead head
+  head_valid version lines e =
+      let k = line_taken (fault kind.Size 2) (λ line rest. with_shape rest (shape_of version (split 32 line)))
+      lines (head, after) e in
+      let s = size_taken head after k.1 (shape_of version (split 32 k.0)) k.4 in
       let l = (shape_is version s.0 (split 32 k.0) s.1).0 in
       let j = line_taken (fault kind.Demands 3)
-      (λ line rest. with_demands version s.0 rest (demands_of s.0 (split 32 line))) k.1 book s.2 in
-      let a = demands_taken version s.0 l book j.1 (demands_of s.0 (split 32 j.0)) j.4 in
-      from_beat_valid s.0 l a.0 (demands_valid s.0 (split 32 j.0) a.0 a.1) j.1 a.2
+      (λ line rest. with_demands s.0 rest (demands_of s.0 (split 32 line))) k.1 (head, after) s.2 in
+      let a = demands_taken head after s.0 j.1 (demands_of s.0 (split 32 j.0)) j.4 in
+      from_beat_valid s.0 l.shaped a.0 (demands_valid s.0 (split 32 j.0) a.0 a.1) j.1 a.2
 
 few_entries : (version : Version) (book : Book) (text : List ℕ) → text ≡ text_in version book → length text ≤ 268435456
     → length book.marks ≤ 268435456
@@ -432,5 +421,19 @@ read_is_valid text book h =
           let v = version_taken k.1 (version_of k.0) book k.4 in
           let w = read_is_written text book h in
           let low : length text ≤ 268435456 = ltb-false _ _ short in
-          from_size_valid v.0 book (few_entries w.0 book text w.1 low) k.1 v.2
+          let a = head_taken v.0 (head_of v.0 k.1) book v.2 in
+          let head = head_valid book.head a.0 v.0 k.1 a.1 in
+          let l = (head_text_is book.head a.0 v.0 k.1 a.1).0 in
+          let shape : Shape = book.head.question.shape in
+          let marks =
+          entries_valid v.0 (dimensions_of shape) (is_some book.head.beat) (omega (arith, l.order))
+          (omega (arith, l.q)) (omega (arith, l.rows))
+          (words_fit shape l.shaped (shape.s + shape.t) (omega arith)) 5 a.0 book.marks a.2 in
+          record {
+            question = head.question;
+            few_effects = head.few_effects;
+            beat = head.beat;
+            marks = All-from_recursion (IsEntry (dimensions_of shape) (is_some book.head.beat)) book.marks marks;
+            few_marks = few_entries w.0 book text w.1 low;
+          }
     ]

@@ -12,6 +12,7 @@ use Rattle.fx_vectors.specs.Effects.{numbers_of}
 use Rattle.fx_vectors.specs.Question.{CanBeAsked, requirement_of}
 use Rattle.fx_vectors.specs.declared.shape.Shape.{Shape}
 use Rattle.fx_vectors.specs.declared.book.Book.{Book}
+use Rattle.fx_vectors.specs.declared.book.Head.{Head}
 use Rattle.fx_vectors.specs.declared.question.Demands.{Demands}
 use Rattle.fx_vectors.specs.declared.question.Demands.TheVariants.{Resolution, Effects}
 use Rattle.fx_vectors.proofs.Limits.{order-bounds, words_fit, rows_fit}
@@ -22,13 +23,13 @@ use Rattle.fx_book.specs.Parts.{split}
 use Rattle.fx_book.specs.Entries.{entries_text}
 use Rattle.fx_book.specs.Reading.{entries}
 use Rattle.fx_book.specs.Demands.{demands_of}
-use Rattle.fx_book.specs.Heads.{book_of, from_title, with_version, from_size, from_demands, from_beat, with_shape}
+use Rattle.fx_book.specs.Heads.{book_of, from_title, with_version, with_head, head_of, from_demands, from_beat, with_shape}
 use Rattle.fx_book.specs.Heads.{with_demands, with_beat, with_marks, shape_of, beat_of, may_be_beaten}
 use Rattle.fx_book.specs.declared.version.Version.{Version}
 use Rattle.fx_book.specs.declared.version.Version.TheVariants.{First, Second}
 use Rattle.fx_book.specs.Versions.{title_of, version_of, most_factors_in}
 use Rattle.fx_book.specs.Writing.{spaced, shape_text, demands_text, beat_text, text_in, book_text}
-use Rattle.fx_book.specs.Valid.{AreFew, IsEntry, IsBeat, IsValidBook}
+use Rattle.fx_book.specs.Valid.{AreFew, IsEntry, IsBeat, IsValidHead, IsValidBook}
 use Rattle.fx_book.proofs.Splits.{some_parts}
 use Rattle.fx_book.proofs.Lines.{line_more}
 use Rattle.fx_book.proofs.Back.{Without, split_line, without-append, entries_back}
@@ -49,44 +50,30 @@ least_is : (s : ℕ) (least : Bool) (beat : Option (List ℕ)) → IsBeat s leas
 least_is s least None h = sym h
 least_is s least (Some pattern) h = sym h.0
 
-module _ (version : Version) (book : Book) (valid : IsValidBook book)
-    (few_factors : book.head.question.shape.s ≤ most_factors_in version book.head.question.shape.q) where
+-- the lines that say what a book is about, with this text after them
+module _ (version : Version) (head : Head) (valid : IsValidHead head)
+    (few_factors : head.question.shape.s ≤ most_factors_in version head.question.shape.q) (after_beat : List ℕ) where
   abbrev shape : Shape
-  shape = book.head.question.shape
+  shape = head.question.shape
 
   abbrev asked : Demands
-  asked = book.head.question.demands
+  asked = head.question.demands
 
   abbrev beat : Option (List ℕ)
-  beat = book.head.beat
+  beat = head.beat
 
-  -- the text after the line of the pattern, of the demands, of the shape and of the title
-  abbrev after_beat : List ℕ
-  after_beat = entries_text version (dimensions_of shape) book.marks ++ codes "END\n"
-
+  -- the text after the line of the demands and of the shape
   abbrev after_demands : List ℕ
   after_demands = beat_text beat ++ after_beat
 
   abbrev after_shape : List ℕ
   after_shape = demands_text asked ++ after_demands
 
-  abbrev after_title : List ℕ
-  after_title = shape_text shape ++ after_shape
-
-  marks_back : entries version (dimensions_of shape) (is_some beat) 5 (split 10 after_beat) ≡ Ok book.marks
-  marks_back =
-      entries_back version (dimensions_of shape) (is_some beat)
-      (omega (arith, (order-bounds shape.q valid.question.shaped.order).0))
-      (omega (arith, (order-bounds shape.q valid.question.shaped.order).1))
-      (omega (arith, rows_fit shape valid.question.shaped)) valid.question.shaped.runs
-      (words_fit shape valid.question.shaped (shape.s + shape.t) (omega arith))
-      book.marks 5 (recursion_from_All (IsEntry (dimensions_of shape) (is_some beat)) book.marks valid.marks)
-
-  may : book.head.question.least ≡ true → may_be_beaten shape asked ≡ true
+  may : head.question.least ≡ true → may_be_beaten shape asked ≡ true
   may least = let h = valid.question.least least in and_from _ _ (eq-eqb _ _ h.1) h.0
 
   -- the line of the pattern, and what follows it
-  beat_cut : (beat : Option (List ℕ)) (rest : List ℕ) → IsBeat shape.s book.head.question.least beat
+  beat_cut : (beat : Option (List ℕ)) (rest : List ℕ) → IsBeat shape.s head.question.least beat
       → (line : List ℕ) × (split 10 (beat_text beat ++ rest) ≡ line ∷ split 10 rest)
       × (beat_of shape.s (may_be_beaten shape asked) line ≡ Some beat)
   beat_cut None rest h = (codes "pattern none", refl, refl)
@@ -149,57 +136,83 @@ module _ (version : Version) (book : Book) (valid : IsValidBook book)
         effects_back shape estimate others short h few.0 few.1,
       )
 
-  from_beat_back : from_beat version shape asked (split 10 after_demands) ≡ Ok book
+  from_beat_back : from_beat shape asked (split 10 after_demands) ≡ Ok (head, split 10 after_beat)
   from_beat_back =
       let cut = beat_cut beat after_beat valid.beat in
-      ap (from_beat version shape asked) cut.1
+      ap (from_beat shape asked) cut.1
       ∙ line_more (Err (fault kind.Pattern 4))
-      (λ line rest. with_beat version shape asked rest (beat_of shape.s (may_be_beaten shape asked) line)) cut.0
+      (λ line rest. with_beat shape asked rest (beat_of shape.s (may_be_beaten shape asked) line)) cut.0
       (split 10 after_beat) (some_parts 10 after_beat)
-      ∙ ap (with_beat version shape asked (split 10 after_beat)) cut.2 ∙ ap (with_marks shape asked beat) marks_back
-      ∙ ap (λ (least : Bool). Ok
-      (record {
-        head = record { question = record { shape = shape; demands = asked; least = least }; beat = beat };
-        marks = book.marks;
-      }))
-      (least_is shape.s book.head.question.least beat valid.beat)
+      ∙ ap (with_beat shape asked (split 10 after_beat)) cut.2
+      ∙ ap (λ (least : Bool). Ok (
+        record { question = record { shape = shape; demands = asked; least = least }; beat = beat },
+        split 10 after_beat,
+      ))
+      (least_is shape.s head.question.least beat valid.beat)
 
-  from_demands_back : from_demands version shape (split 10 after_shape)
-      ≡ from_beat version shape asked (split 10 after_demands)
+  from_demands_back : from_demands shape (split 10 after_shape) ≡ from_beat shape asked (split 10 after_demands)
   from_demands_back =
       let cut = demands_cut asked after_demands valid.question.asked valid.few_effects in
-      ap (from_demands version shape) cut.1
+      ap (from_demands shape) cut.1
       ∙ line_more (Err (fault kind.Demands 3))
-      (λ line rest. with_demands version shape rest (demands_of shape (split 32 line))) cut.0 (split 10 after_demands)
+      (λ line rest. with_demands shape rest (demands_of shape (split 32 line))) cut.0 (split 10 after_demands)
       (some_parts 10 after_demands)
-      ∙ ap (with_demands version shape (split 10 after_demands)) cut.2
+      ∙ ap (with_demands shape (split 10 after_demands)) cut.2
 
-  from_size_back : from_size version (split 10 after_title) ≡ from_demands version shape (split 10 after_shape)
-  from_size_back =
+  -- a head that was written is read
+  pub head_back : head_of version (split 10 (shape_text shape ++ after_shape)) ≡ Ok (head, split 10 after_beat)
+  head_back =
       let numbers : List ℕ = shape.q ∷ shape.m ∷ shape.s ∷ shape.t ∷ [] in
       let line : List ℕ = codes "size" ++ spaced numbers in
       let own : Without 10 line =
       (refl, (refl, (refl, (refl, one_line numbers (wide_shape version shape valid.question.shaped few_factors)))))
       in
-      ap (from_size version)
+      ap (head_of version)
       (ap (λ l. split 10 (codes "size" ++ l)) (append_assoc (spaced numbers) (10 ∷ []) after_shape) ∙ split_line 10
       line after_shape own)
-      ∙ line_more (Err (fault kind.Size 2)) (λ line rest. with_shape version rest (shape_of version (split 32 line)))
+      ∙ line_more (Err (fault kind.Size 2)) (λ line rest. with_shape rest (shape_of version (split 32 line)))
       line (split 10 after_shape) (some_parts 10 after_shape)
-      ∙ ap (with_shape version (split 10 after_shape)) (shape_back version shape valid.question.shaped few_factors)
+      ∙ ap (with_shape (split 10 after_shape)) (shape_back version shape valid.question.shaped few_factors)
+      ∙ from_demands_back ∙ from_beat_back
+
+module _ (version : Version) (book : Book) (valid : IsValidBook book)
+    (few_factors : book.head.question.shape.s ≤ most_factors_in version book.head.question.shape.q) where
+  abbrev own : Shape
+  own = book.head.question.shape
+
+  -- the text after the line of the pattern and of the title
+  abbrev entries_and_end : List ℕ
+  entries_and_end = entries_text version (dimensions_of own) book.marks ++ codes "END\n"
+
+  abbrev after_title : List ℕ
+  after_title =
+      shape_text own ++ (demands_text book.head.question.demands ++ (beat_text book.head.beat ++ entries_and_end))
+
+  marks_back : entries version (dimensions_of own) (is_some book.head.beat) 5 (split 10 entries_and_end)
+      ≡ Ok book.marks
+  marks_back =
+      entries_back version (dimensions_of own) (is_some book.head.beat)
+      (omega (arith, (order-bounds own.q valid.question.shaped.order).0))
+      (omega (arith, (order-bounds own.q valid.question.shaped.order).1))
+      (omega (arith, rows_fit own valid.question.shaped)) valid.question.shaped.runs
+      (words_fit own valid.question.shaped (own.s + own.t) (omega arith))
+      book.marks 5 (recursion_from_All (IsEntry (dimensions_of own) (is_some book.head.beat)) book.marks valid.marks)
 
   pub written_back : length (text_in version book) ≤ 268435456 → book_of (text_in version book) ≡ Ok book
   unfolding book_of
   written_back few =
+      let valid_head : IsValidHead book.head =
+      record { question = valid.question; few_effects = valid.few_effects; beat = valid.beat } in
       cond-false (ltb 268435456 (length (text_in version book))) _ _ (le-ltb _ _ few)
       ∙ ap from_title (split_line 10 (title_of version) after_title (plain_title version))
       ∙ line_more (Err (fault kind.Title 1)) (λ line rest. with_version rest (version_of line)) (title_of version)
       (split 10 after_title) (some_parts 10 after_title)
       ∙ ap (with_version (split 10 after_title)) (own_title version)
-      ∙ from_size_back ∙ from_demands_back ∙ from_beat_back
+      ∙ ap (with_head version) (head_back version book.head valid_head few_factors entries_and_end)
+      ∙ ap (with_marks book.head) marks_back
 
 -- a valid shape is within the limits of the second version
-second_fits : (shape : Shape) → IsShape shape → shape.s ≤ most_factors_in Second shape.q
+pub second_fits : (shape : Shape) → IsShape shape → shape.s ≤ most_factors_in Second shape.q
 second_fits shape h =
     elim (cases_Bool (leb shape.q 3)) [
       | inl few ↦

@@ -1,6 +1,6 @@
 -- The first four lines of a book, and the whole.
-use Rattle.std.specs.Prelude.{ℕ, ◌==◌, ◌^◌, ◌&&◌, ◌||◌, nat_lt, nat_le, Bool, if◌then◌else◌, List, [], ◌∷◌, length}
-use Rattle.std.specs.Prelude.{codes, Option, Some, None, Result, Ok, Err}
+use Rattle.std.specs.Prelude.{ℕ, ◌≡◌, ◌==◌, ◌^◌, ◌&&◌, ◌||◌, nat_lt, nat_le, Bool, if◌then◌else◌, List, [], ◌∷◌, length}
+use Rattle.std.specs.Prelude.{codes, drop, Option, Some, None, Result, Ok, Err}
 use Rattle.std.specs.Option.{is_some}
 use Rattle.std.specs.Str.{bytes_eq}
 use Rattle.fx_designs.specs.Galois.{is_order}
@@ -10,9 +10,13 @@ use Rattle.fx_vectors.specs.Question.{is_resolution, requirement_of}
 use Rattle.fx_vectors.specs.declared.shape.Shape.{Shape}
 use Rattle.fx_vectors.specs.declared.question.Demands as demands
 use Rattle.fx_vectors.specs.declared.book.Book.{Book}
+use Rattle.fx_vectors.specs.declared.book.Head.{Head}
 use Rattle.fx_vectors.specs.declared.shape.TheConstants.{MOST_FACTORS_IN_BLOCKS}
 use Rattle.fx_book.specs.declared.fault.BookFault.{BookFault}
+use Rattle.fx_book.specs.declared.fault.BookStop.{BookStop}
+use Rattle.fx_book.specs.declared.fault.BookStop.TheVariants.{Fault, NoMemory}
 use Rattle.fx_book.specs.declared.fault.FaultKind.TheVariants.{TooLong, Title, Size, Demands, Pattern}
+use Rattle.fx_book.specs.declared.front.Front.{Front}
 use Rattle.fx_book.specs.declared.version.Version.{Version}
 use Rattle.fx_book.specs.Faults.{fault}
 use Rattle.fx_book.specs.Versions.{version_of, most_factors_in}
@@ -75,46 +79,53 @@ with_line none make [] = none
 with_line none make (line ∷ []) = none
 with_line none make (line ∷ next ∷ lines) = make line (next ∷ lines)
 
-abbrev pub with_marks : Shape → demands.Demands → Option (List ℕ) → Result (List nodes.Mark) BookFault
-    → Result Book BookFault
-with_marks shape asked beat (Err stop) = Err stop
-with_marks shape asked beat (Ok marks) =
-    Ok (record {
-      head = record { question = record { shape = shape; demands = asked; least = is_some beat }; beat = beat };
-      marks = marks;
-    })
+-- what is read of the lines that say what a book is about: a head, and the lines after these
+abbrev pub with_beat : Shape → demands.Demands → List (List ℕ) → Option (Option (List ℕ))
+    → Result (Head × List (List ℕ)) BookFault
+with_beat shape asked lines None = Err (fault Pattern 4)
+with_beat shape asked lines (Some beat) =
+    Ok (record { question = record { shape = shape; demands = asked; least = is_some beat }; beat = beat }, lines)
 
-abbrev pub with_beat : Version → Shape → demands.Demands → List (List ℕ) → Option (Option (List ℕ))
-    → Result Book BookFault
-with_beat version shape asked lines None = Err (fault Pattern 4)
-with_beat version shape asked lines (Some beat) =
-    with_marks shape asked beat (entries version (dimensions_of shape) (is_some beat) 5 lines)
-
-abbrev pub from_beat : Version → Shape → demands.Demands → List (List ℕ) → Result Book BookFault
-from_beat version shape asked lines =
+abbrev pub from_beat : Shape → demands.Demands → List (List ℕ) → Result (Head × List (List ℕ)) BookFault
+from_beat shape asked lines =
     with_line (Err (fault Pattern 4))
-    (λ line rest. with_beat version shape asked rest (beat_of shape.s (may_be_beaten shape asked) line)) lines
+    (λ line rest. with_beat shape asked rest (beat_of shape.s (may_be_beaten shape asked) line)) lines
 
-abbrev pub with_demands : Version → Shape → List (List ℕ) → Option demands.Demands → Result Book BookFault
-with_demands version shape lines None = Err (fault Demands 3)
-with_demands version shape lines (Some asked) = from_beat version shape asked lines
+abbrev pub with_demands : Shape → List (List ℕ) → Option demands.Demands → Result (Head × List (List ℕ)) BookFault
+with_demands shape lines None = Err (fault Demands 3)
+with_demands shape lines (Some asked) = from_beat shape asked lines
 
-abbrev pub from_demands : Version → Shape → List (List ℕ) → Result Book BookFault
-from_demands version shape lines =
-    with_line (Err (fault Demands 3)) (λ line rest. with_demands version shape rest (demands_of shape (parts_of line)))
-    lines
+abbrev pub from_demands : Shape → List (List ℕ) → Result (Head × List (List ℕ)) BookFault
+from_demands shape lines =
+    with_line (Err (fault Demands 3)) (λ line rest. with_demands shape rest (demands_of shape (parts_of line))) lines
 
-abbrev pub with_shape : Version → List (List ℕ) → Option Shape → Result Book BookFault
-with_shape version lines None = Err (fault Size 2)
-with_shape version lines (Some shape) = from_demands version shape lines
+abbrev pub with_shape : List (List ℕ) → Option Shape → Result (Head × List (List ℕ)) BookFault
+with_shape lines None = Err (fault Size 2)
+with_shape lines (Some shape) = from_demands shape lines
 
-abbrev pub from_size : Version → List (List ℕ) → Result Book BookFault
-from_size version lines =
-    with_line (Err (fault Size 2)) (λ line rest. with_shape version rest (shape_of version (parts_of line))) lines
+-- the head that lines 2 to 4 say, and the lines after them, or the first fault
+abbrev pub head_of : Version → List (List ℕ) → Result (Head × List (List ℕ)) BookFault
+head_of version lines =
+    with_line (Err (fault Size 2)) (λ line rest. with_shape rest (shape_of version (parts_of line))) lines
+
+-- just what is read of the lines of a text, unless memory ran out
+abbrev pub IsHeadOf : List ℕ → Result (Head × List (List ℕ)) BookFault → Result Front BookStop → Type 0
+IsHeadOf text read (Ok front) = read ≡ Ok (front.head, lines_of (drop front.from text))
+IsHeadOf text read (Err (Fault stop)) = read ≡ Err stop
+IsHeadOf text read (Err NoMemory) = Unit {0}
+
+abbrev pub with_marks : Head → Result (List nodes.Mark) BookFault → Result Book BookFault
+with_marks head (Err stop) = Err stop
+with_marks head (Ok marks) = Ok (record { head = head; marks = marks })
+
+abbrev pub with_head : Version → Result (Head × List (List ℕ)) BookFault → Result Book BookFault
+with_head version (Err stop) = Err stop
+with_head version (Ok read) =
+    with_marks read.0 (entries version (dimensions_of read.0.question.shape) (is_some read.0.beat) 5 read.1)
 
 abbrev pub with_version : List (List ℕ) → Option Version → Result Book BookFault
 with_version lines None = Err (fault Title 1)
-with_version lines (Some version) = from_size version lines
+with_version lines (Some version) = with_head version (head_of version lines)
 
 abbrev pub from_title : List (List ℕ) → Result Book BookFault
 from_title lines = with_line (Err (fault Title 1)) (λ line rest. with_version rest (version_of line)) lines

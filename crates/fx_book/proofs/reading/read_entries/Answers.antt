@@ -36,7 +36,7 @@ returns-in-Err-clause-read c =
     let line : List ℕ = take (c.line_end-end.result - c.loop-at.at) (drop c.loop-at.at bytes) in
     let cut = c.line_end-end.ensures.more (omega (arith, c.line_end-end.ensures.within, c.if-end-bytes.false)) in
     let is : entry_of c.args.version d b (split 32 line) ≡ Err c.in-Err.kind =
-    sym c.entry.ensures.entry ∙ c.in-Err.is in
+    sym c.read_entry.ensures.entry ∙ c.in-Err.is in
     rw c.stop-in-Err.ensures
     (c.loop-at.invariant.so_far
     ∙ ap (onto c.loop-at.marks) (ap (entries c.args.version d b c.loop-at.line) cut
@@ -54,7 +54,7 @@ loop-at-preserved c =
     let within = c.line_end-end.ensures.within in
     let from = c.line_end-end.ensures.from in
     let cut = c.line_end-end.ensures.more (omega (arith, within, c.if-end-bytes.false)) in
-    let is : entry_of c.args.version d b (split 32 line) ≡ Ok c.in-Ok.mark = sym c.entry.ensures.entry ∙ c.in-Ok.is in
+    let is : entry_of c.args.version d b (split 32 line) ≡ Ok c.in-Ok.mark = sym c.read_entry.ensures.entry ∙ c.in-Ok.is in
     record {
       within = omega (arith, within, c.if-end-bytes.false);
       few = rw c.in_ok-push-in-Ok.ensures.ok
