@@ -35,7 +35,7 @@ use Rattle.fx_images.proofs.Room.{Come, fits, tail}
 use Rattle.fx_reduction.proofs.ShortWords.{pattern-length}
 
 -- one of the numbers, and the least sum of the others
-least-with : (k x : ℕ) (xs : List ℕ) → least_sum (suc k) (x ∷ xs) ≤ x + least_sum k xs
+pub least-with : (k x : ℕ) (xs : List ℕ) → least_sum (suc k) (x ∷ xs) ≤ x + least_sum k xs
 least-with k x xs = elim (cases_Bool (nat_le (length xs) k)) [
   | inl t ↦ subst (λ n. n ≤ x + least_sum k xs)
       (sym (cond-true (nat_le (length xs) k) (x + least_sum k xs) (min (x + least_sum k xs) (least_sum (suc k) xs)) t))
@@ -94,13 +94,13 @@ module _ (d : Dimensions) (f : IsField d.q) where
   abbrev new : List ℕ → ℕ → ℕ → ℕ
   new rows w x = spread d.q d.m (vectors_of d.q d.m rows) (w - 1) x
 
-  as-spread : (rows : List ℕ) (w : ℕ)
+  pub as-spread : (rows : List ℕ) (w : ℕ)
       → constant_words d.q d.m (vectors_of d.q d.m rows) w ≡ spread d.q d.m (vectors_of d.q d.m rows) w 0
   as-spread rows w = constant-words d.q d.m f (vectors_of d.q d.m rows) (rows-vectors d.q d.m f rows) w
       ∙ words-spread d.q d.m (vectors_of d.q d.m rows) w
 
   -- the words that one row makes with the rows before it
-  one-more : (rows : List ℕ) (r w : ℕ) → 0 < w → r < d.q ^ d.m → count (rows ++ r ∷ []) w ≡ count rows w + new rows w r
+  pub one-more : (rows : List ℕ) (r w : ℕ) → 0 < w → r < d.q ^ d.m → count (rows ++ r ∷ []) w ≡ count rows w + new rows w r
   one-more rows r w some low =
       let big : 1 < d.q = f.more_than_one in
       let last : d.q - 1 + 1 ≡ d.q = omega arith in
@@ -155,7 +155,7 @@ module _ (d : Dimensions) (f : IsField d.q) where
   not_less g h a (suc n) few = or_from _ _ (le-ltb (h a) (g a) (few a (omega arith)))
       (and_right _ _ (not_less g h (a + 1) n (λ k low. few k (omega arith))))
 
-  floor-length : (rows : List ℕ) → length (floor d rows) ≡ d.s
+  pub floor-length : (rows : List ℕ) → length (floor d rows) ≡ d.s
   unfolding floor
   floor-length rows = length-map (range_with_len 1 d.s) (floor_at d rows) ∙ length-range_with_len 1 d.s
 

@@ -7,7 +7,9 @@ mod Room
 mod Checker
 mod Floors
 mod Good
-mod Sound
+pub mod Sound
 mod Moving
 mod Comparing
 mod Examples
+mod Least
+mod NewWords

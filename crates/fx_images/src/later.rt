@@ -1,10 +1,14 @@
-ghost use Rattle.std.specs.Prelude.{◌≡◌, ◌<◌, ◌≤◌, ◌^◌, filter, length, min};
+ghost use Rattle.std.specs.Prelude.{◌≡◌, ◌<◌, ◌≤◌, ◌^◌, All, filter, length, min};
 ghost use Rattle.fx_designs.specs.Answers.{falling};
 ghost use Rattle.fx_vectors.specs.Shape.{IsShape, dimensions_of};
-ghost use Rattle.fx_images.specs.Room.{is_later, bound, has_no_room};
+ghost use Rattle.fx_images.specs.Room.{is_later, bound, later_rows, has_no_room};
 
 use crate::units::is_unit;
+use arrayvec::ArrayVec;
 use fx_vectors::{Matrix, Shape, Vector};
+
+/// The most runs of a shape.
+const MOST_RUNS: usize = 1024;
 
 /// Whether fewer rows can still come than factors are missing.
 pub fn has_no_room(prefix: &Matrix) -> bool
@@ -16,6 +20,22 @@ pub fn has_no_room(prefix: &Matrix) -> bool
         return false;
     }
     usize::from(later_rows(shape, bound(prefix))) < factors - prefix.len()
+}
+
+/// The rows that can come next to a prefix with its unit vectors, the greatest first.
+pub(crate) fn rows_to_come(prefix: &Matrix) -> ArrayVec<u16, MOST_RUNS>
+    requires { min prefix.now.shape.s prefix.now.shape.m ≤ length prefix.now.rows }
+    ensures rows { result.items ≡ later_rows (dimensions_of prefix.now.shape) prefix.now.rows }
+    ensures below { All (λ r. r < prefix.now.shape.q ^ prefix.now.shape.m) result.items }
+{
+    let shape = prefix.shape();
+    let mut rows = ArrayVec::new();
+    for row in (0..bound(prefix)).rev() {
+        if is_later(shape, row) {
+            rows.push(row);
+        }
+    }
+    rows
 }
 
 /// What the next row of a prefix with its unit vectors is below.
