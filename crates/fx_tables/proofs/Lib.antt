@@ -1,0 +1,4 @@
+mod Parts
+mod Lines
+mod Back
+mod Valid

@@ -1,0 +1,14 @@
+//! Books of tables: the least pattern of so many factors in so many runs, proved by entries that leave isomorphic
+//! prefixes out; their texts both ways, and their checker.
+#![tactic(auto)]
+
+mod entry;
+mod laws;
+mod line;
+mod reading;
+mod writing;
+
+pub use entry::{Entry, MOST_INDEXES, TableBook};
+pub use laws::{read_tables_are_valid, tables_come_back};
+pub use reading::{MOST_TABLE_BYTES, read_table};
+pub use writing::write_table;
