@@ -34,7 +34,6 @@ use Rattle.fx_book.proofs.Books as numbers
 use Rattle.fx_book.proofs.Whole.{head_back, second_fits}
 use Rattle.fx_images.specs.Books as images
 use Rattle.fx_tables.specs.declared.entry.TableBook.{TableBook}
-use Rattle.fx_tables.specs.declared.reading.TheConstants.{MOST_TABLE_BYTES}
 use Rattle.fx_tables.specs.Tables.{IsEntry, IsValidTable, meanings_of}
 use Rattle.fx_tables.specs.Texts.{entry_text, entries_text, table_text, row_of, of_row, row_within, counted, image_of}
 use Rattle.fx_tables.specs.Texts.{image_from, marked, entry_of, after_entry, entries, with_entries, with_head}
@@ -166,7 +165,7 @@ by_lines head rest =
     ∙ ap (λ l. shape_text head.question.shape ++ l)
     (append_assoc (demands_text head.question.demands) (beat_text head.beat) rest)
 
-pub table_back : (book : TableBook) → IsValidTable book → length (table_text book) ≤ MOST_TABLE_BYTES
+pub table_back : (book : TableBook) → IsValidTable book → length (table_text book) ≤ 33554432
     → table_of (table_text book) ≡ Ok (book.head, meanings_of book.entries)
 unfolding table_of
 table_back book valid short =
@@ -187,7 +186,7 @@ table_back book valid short =
     (omega (arith, (order-bounds shape.q shaped.order).1)) (omega (arith, rows_fit shape shaped)) shaped.runs
     (words_fit shape shaped (shape.s + shape.t) (omega arith)) own 5
     (recursion_from_All (IsEntry d may beaten) own valid.entries) in
-    cond-false (ltb MOST_TABLE_BYTES (length (table_text book))) _ _ (le-ltb _ _ short)
+    cond-false (ltb 33554432 (length (table_text book))) _ _ (le-ltb _ _ short)
     ∙ ap from_title (split_line 10 (codes "factex-table 1") after plain)
     ∙ line_more (Err (fault kind.Title 1))
     (λ line rest. cond (bytes_eq line (codes "factex-table 1")) (with_head (head_of Second rest))

@@ -1,4 +1,4 @@
 mod Parts
 mod Lines
 mod Back
-mod Valid
+mod Accepted

@@ -26,7 +26,6 @@ use Rattle.fx_images.specs.Books as images
 use Rattle.fx_tables.specs.declared.entry.Entry.{Entry}
 use Rattle.fx_tables.specs.declared.entry.TableBook.{TableBook}
 use Rattle.fx_tables.specs.declared.line.Terms.{Terms}
-use Rattle.fx_tables.specs.declared.reading.TheConstants.{MOST_TABLE_BYTES}
 use Rattle.fx_tables.specs.Tables.{meaning_of, meanings_of}
 
 -- the line of an entry
@@ -136,7 +135,7 @@ from_title lines =
 
 -- the head and the entries of the book of a table that a text is, or its first fault
 unfoldable pub table_of : List ℕ → Result (Head × List images.Entry) BookFault
-table_of text = (if nat_lt MOST_TABLE_BYTES (length text) then Err (fault TooLong 1) else from_title (lines_of text))
+table_of text = (if nat_lt 33554432 (length text) then Err (fault TooLong 1) else from_title (lines_of text))
 
 -- just what is read, unless memory ran out
 abbrev pub IsTableReading : Result (Head × List images.Entry) BookFault → Result TableBook BookStop → Type 0

@@ -9,6 +9,6 @@ mod reading;
 mod writing;
 
 pub use entry::{Entry, MOST_INDEXES, TableBook};
-pub use laws::{read_tables_are_valid, tables_come_back};
+pub use laws::{only_tables_are_read, read_tables_are_valid, tables_come_back};
 pub use reading::{MOST_TABLE_BYTES, read_table};
 pub use writing::write_table;

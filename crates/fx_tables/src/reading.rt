@@ -49,7 +49,7 @@ pub fn read_table(alloc: Global, bytes: &[u8]) -> Result<TableBook, BookStop>
 /// The book whose line 2 begins at `at`.
 fn from_head(alloc: Global, bytes: &[u8], at: usize) -> Result<TableBook, BookStop>
     requires at { at ≤ length bytes.now }
-    requires few { length bytes.now ≤ MOST_TABLE_BYTES }
+    requires few { length bytes.now ≤ 33554432 }
     ensures read { IsTableReading (with_head (head_of Second (lines_of (drop at bytes.now)))) result }
     ensures valid { IfOk result IsValidTable }
 {
@@ -105,7 +105,7 @@ fn read_entries(
     terms: Terms,
 ) -> Result<Items<Entry>, BookStop>
     requires from { from ≤ length bytes.now }
-    requires few { length bytes.now ≤ MOST_TABLE_BYTES }
+    requires few { length bytes.now ≤ 33554432 }
     requires terms { AreTerms terms }
     ensures read { IsEntriesReading (entries (dimensions_of terms.shape) terms.at_resolution terms.beaten 5 (lines_of (drop from bytes.now))) result }
     ensures valid { IfOk result (λ read. All (IsEntry (dimensions_of terms.shape) terms.at_resolution terms.beaten) (meanings_of read)) }

@@ -11,7 +11,6 @@ use Rattle.fx_book.specs.Heads.{head_of}
 use Rattle.fx_book.specs.Parts.{split}
 use Rattle.fx_book.proofs.Splits.{some_parts}
 use Rattle.fx_book.proofs.Lines.{line_more}
-use Rattle.fx_tables.specs.declared.reading.TheConstants.{MOST_TABLE_BYTES}
 use Rattle.fx_tables.specs.Texts.{IsTableReading, from_title, table_of, with_head}
 use Rattle.fx_tables.proofs.reading.read_table.Goals as goal
 
@@ -26,7 +25,7 @@ returns-clause-read c =
     c.next_stop-end.ensures.more (omega (arith, c.next_stop-end.ensures.within, c.if-end-bytes.false)) in
     let is : bytes_eq line (codes "factex-table 1") ≡ true = sym c.is_word.ensures ∙ c.if-not-is_word.false in
     let e : table_of bytes ≡ with_head (head_of Second rest) =
-    cond-false (ltb MOST_TABLE_BYTES (length bytes)) _ _
+    cond-false (ltb 33554432 (length bytes)) _ _
     (le-ltb _ _ (omega (arith, c.if-bytes-gt-MOST_TABLE_BYTES.false)))
     ∙ ap from_title cut
     ∙ line_more (Err (fault kind.Title 1))
