@@ -2,3 +2,5 @@ mod Parts
 mod Lines
 mod Back
 mod Accepted
+mod Turns
+mod Good
