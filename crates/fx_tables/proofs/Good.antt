@@ -1,11 +1,12 @@
 -- What a book of entries without a flaw shows.
 use Rattle.std.proofs.Common.{◌≡◌, ◌≢◌, ℕ, ◌+◌, Bool, true, false, ◌&&◌, cond, eqb, eq-eqb, List, [], ◌∷◌, ◌++◌}
-use Rattle.std.proofs.Common.{length, take, All, Option, Some, None, refl, arith}
+use Rattle.std.proofs.Common.{length, take, Option, Some, None, refl, ap, ◌∙◌, arith}
 use Rattle.std.specs.List.{AllByRecursion}
 use Rattle.std.specs.Option.{is_some}
-use Rattle.std.proofs.lemmas.Bool.{and_from, both_ways}
+use Rattle.std.proofs.lemmas.Bool.{and_from, and_parts, both_ways}
 use Rattle.std.proofs.lemmas.List.Elements.{recursion_from_All}
-use Rattle.fx_designs.specs.Problems.{Problem}
+use Rattle.fx_designs.specs.Problems.{Dimensions, Problem}
+use Rattle.fx_designs.specs.Patterns.{is_less}
 use Rattle.fx_designs.specs.Nodes.{Branch, Word, Worse, last_row, is_whole}
 use Rattle.fx_laws.proofs.Tables.{is_order-field}
 use Rattle.fx_tree.proofs.Patterns.{reducible}
@@ -17,20 +18,27 @@ use Rattle.fx_checker.specs.Laws.{NoMatrix}
 use Rattle.fx_checker.specs.declared.verdict.Reason as reasons
 use Rattle.fx_checker.specs.declared.verdict.Reason.TheVariants.{OtherRow, Whole}
 use Rattle.fx_checker.proofs.Good as checked
-use Rattle.fx_images.specs.Images.{is_exchange, has_earlier_image}
+use Rattle.fx_images.specs.Images.{image, is_exchange, has_earlier_image}
 use Rattle.fx_images.specs.Room.{has_no_room}
 use Rattle.fx_images.specs.Floors.{cannot_beat}
 use Rattle.fx_images.specs.Books.{Entry, Marked, Image, NoRoom, Floor, is_resolution, IsRight, turns_after, AreInTurn}
+use Rattle.fx_images.specs.Books.{IsGood}
 use Rattle.fx_images.proofs.Sound.{no_matrix}
 use Rattle.fx_tables.specs.Tables.{IsEntry}
 use Rattle.fx_tables.specs.declared.reason.Reason.{Reason}
 use Rattle.fx_tables.specs.declared.reason.Reason.TheVariants.{OfMarks, NoExchange, NotBefore, HasRoom, LowFloor}
-use Rattle.fx_tables.specs.Checking.{Flaw, flaw, flaw_of, flaw_of_image, first_flaw, is_branch, of_marks, or_later, unless}
+use Rattle.fx_tables.specs.Checking.{AreWritten, Flaw, flaw, flaw_of, flaw_of_image, first_flaw, is_branch, of_marks}
+use Rattle.fx_tables.specs.Checking.{or_later, unless}
 
 none_then : (b : Bool) (besides : Option Reason) (reason : Reason) → cond b besides (Some reason) ≡ None
     → (b ≡ true) × (besides ≡ None)
 none_then true besides reason h = (refl, h)
 none_then false besides reason h = cc h
+
+then_none : (b : Bool) (besides : Option Reason) (reason : Reason) → b ≡ true → besides ≡ None
+    → cond b besides (Some reason) ≡ None
+then_none true besides reason h none = none
+then_none false besides reason h none = cc h
 
 none_of_marks : (found : Option reasons.Reason) → of_marks found ≡ None → found ≡ None
 none_of_marks None h = refl
@@ -82,17 +90,60 @@ none_in_turn x (c ∷ cs) at (e ∷ es) valid h = let k = no_flaw at (flaw x c e
     no_flaw place None later h = (refl, h)
     no_flaw place (Some reason) later h = cc h
 
+pub good : (x : Claim) (entries : List Entry) → AreWritten x entries → flaw_of x entries ≡ None → IsGood x entries
+good x entries written none =
+    none_in_turn x (children x.problem []) 0 entries (recursion_from_All (IsWritten x) entries written) none
+
+-- a right entry has no flaw
+unflawed : (x : Claim) (rows : List ℕ) (e : Entry) → IsRight x rows e → flaw x rows e ≡ None
+unflawed x rows (Marked mark) h = ap of_marks h
+unflawed x rows (Image row change) h =
+    let d : Dimensions = x.problem.dimensions in
+    let here : Bool = eqb row (last_row rows) in
+    let earlier : Bool = has_earlier_image d change rows in
+    let exchange : Bool = is_exchange d change (take d.s rows) in
+    let before : Bool = is_less (take d.s rows) (image d change (take d.s rows)) in
+    let a = and_parts here (is_resolution x.problem.requirement && earlier) h in
+    let b = and_parts (is_resolution x.problem.requirement) earlier a.1 in
+    let c = and_parts exchange before (and_parts (eqb (length change) d.m) (exchange && before) b.1).1 in
+    then_none here (flaw_of_image d change rows) (OfMarks OtherRow) a.0
+    (then_none exchange (unless earlier NotBefore) NoExchange c.0 (then_none earlier None NotBefore b.1 refl))
+unflawed x rows (NoRoom row) h =
+    let here : Bool = eqb row (last_row rows) in
+    let full : Bool = has_no_room x.problem.dimensions rows in
+    let a = and_parts here (is_resolution x.problem.requirement && full) h in
+    let b = and_parts (is_resolution x.problem.requirement) full a.1 in
+    then_none here (unless full HasRoom) (OfMarks OtherRow) a.0 (then_none full None HasRoom b.1 refl)
+unflawed x rows (Floor row) h =
+    let here : Bool = eqb row (last_row rows) in
+    let high : Bool = cannot_beat x.problem.dimensions x.beat rows in
+    let a = and_parts here (is_resolution x.problem.requirement && high) h in
+    let b = and_parts (is_resolution x.problem.requirement) high a.1 in
+    then_none here (unless high LowFloor) (OfMarks OtherRow) a.0 (then_none high None LowFloor b.1 refl)
+
+in_turn_none : (x : Claim) (todo : List (List ℕ)) (at : ℕ) (es : List Entry) → AreInTurn x todo es
+    → first_flaw x todo at es ≡ None
+unfolding first_flaw AreInTurn
+in_turn_none x [] at [] h = refl
+in_turn_none x (c ∷ cs) at [] h = absurd h
+in_turn_none x [] at (e ∷ es) h = absurd h
+in_turn_none x (c ∷ cs) at (e ∷ es) h =
+    ap (λ f. or_later at f (first_flaw x (turns_after x c e cs) (at + 1) es)) (unflawed x c e h.0)
+    ∙ in_turn_none x (turns_after x c e cs) (at + 1) es h.1
+
+pub flawless : (x : Claim) (entries : List Entry) → AreWritten x entries → IsGood x entries → flaw_of x entries ≡ None
+flawless x entries written h = in_turn_none x (children x.problem []) 0 entries h
+
 -- what a book without a flaw claims is so
 pub proved : (question : Question) → IsValid question → (beat : Option (List ℕ)) (entries : List Entry)
-    → All (IsWritten (record { problem = problem_of question; beat = beat })) entries
+    → AreWritten (record { problem = problem_of question; beat = beat }) entries
     → flaw_of (record { problem = problem_of question; beat = beat }) entries ≡ None
     → NoMatrix (problem_of question) beat
 proved question valid beat entries written none =
     let p : Problem = problem_of question in
-    let x : Claim = record { problem = p; beat = beat } in
     no_matrix p (is_order-field p.dimensions.q valid.shaped.order) (omega (arith, valid.shaped.some_factors))
     (reducible p.dimensions p.requirement valid.asked) beat entries
-    (none_in_turn x (children x.problem []) 0 entries (recursion_from_All (IsWritten x) entries written) none)
+    (good (record { problem = p; beat = beat }) entries written none)
 
 -- below a branch the children have their turn
 pub turns-branch : (x : Claim) (rows : List ℕ) (e : Entry) (others : List (List ℕ)) → is_branch e ≡ true

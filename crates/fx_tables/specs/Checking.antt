@@ -1,6 +1,7 @@
 -- What the checker of books of tables returns.
 use Rattle.std.specs.Prelude.{ℕ, ◌≡◌, ◌==◌, ◌+◌, ◌≤◌, Bool, true, false, if◌then◌else◌, List, [], ◌∷◌, Option, Some, None}
-use Rattle.std.specs.Prelude.{length, take, drop}
+use Rattle.std.specs.Prelude.{length, take, drop, All}
+use Rattle.std.specs.Option.{is_some}
 use Rattle.fx_designs.specs.Problems.{Dimensions}
 use Rattle.fx_designs.specs.Nodes.{Branch, Word, Worse, last_row}
 use Rattle.fx_checker.specs.declared.verdict.Reason.TheVariants.{OtherRow, NoTurn, Ended}
@@ -12,7 +13,8 @@ use Rattle.fx_checker.specs.Laws.{NoMatrix}
 use Rattle.fx_images.specs.Images.{is_exchange, has_earlier_image}
 use Rattle.fx_images.specs.Room.{has_no_room}
 use Rattle.fx_images.specs.Floors.{cannot_beat}
-use Rattle.fx_images.specs.Books.{Entry, Marked, Image, NoRoom, Floor, turns_after}
+use Rattle.fx_images.specs.Books.{Entry, Marked, Image, NoRoom, Floor, is_resolution, turns_after}
+use Rattle.fx_tables.specs.Tables.{IsEntry}
 use Rattle.fx_tables.specs.declared.reason.Reason.{Reason}
 use Rattle.fx_tables.specs.declared.reason.Reason.TheVariants.{OfMarks, NoExchange, NotBefore, HasRoom, LowFloor}
 use Rattle.fx_tables.specs.declared.reason.Verdict.{Verdict}
@@ -45,6 +47,11 @@ flaw x rows (Marked mark) = of_marks (books.flaw x rows mark)
 flaw x rows (Image row change) = other_row_or rows row (flaw_of_image x.problem.dimensions change rows)
 flaw x rows (NoRoom row) = other_row_or rows row (unless (has_no_room x.problem.dimensions rows) HasRoom)
 flaw x rows (Floor row) = other_row_or rows row (unless (cannot_beat x.problem.dimensions x.beat rows) LowFloor)
+
+-- the entries can be written in a book of this claim
+abbrev pub AreWritten : Claim → List Entry → Type 0
+AreWritten x entries =
+    All (IsEntry x.problem.dimensions (is_resolution x.problem.requirement) (is_some x.beat)) entries
 
 -- an entry, by its place, that has a flaw, and why
 pub record Flaw : Type 0 where

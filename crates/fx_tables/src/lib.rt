@@ -6,6 +6,7 @@ mod checking;
 mod entry;
 mod exchange;
 mod floor_judge;
+mod good_tables;
 mod laws;
 mod line;
 mod reading;
@@ -15,6 +16,7 @@ mod writing;
 
 pub use checking::check_table;
 pub use entry::{Entry, MOST_INDEXES, TableBook};
+pub use good_tables::good_tables_are_accepted;
 pub use laws::{only_tables_are_read, read_tables_are_valid, tables_come_back};
 pub use reading::{MOST_TABLE_BYTES, read_table};
 pub use reason::{Reason, Verdict};
