@@ -1,6 +1,6 @@
 #!/bin/bash
-# Makes each table of docs/CATALOGUE.md anew, compares it with the page, and has each of its books checked by the program
-# and by the second checker, which takes most of the time: some ten minutes for a book of 20 MB. The gate does not run it.
+# Makes each table of catalogue.txt anew, compares it, and has each of its books checked by the program and by the second
+# checker, which takes most of the time: some ten minutes for a book of 20 MB. The gate does not run it.
 #
 # usage: bench/catalogue.sh PROGRAM [PART]      with PART only the tables whose command has it, as '2 4 '
 set -euo pipefail
@@ -10,11 +10,11 @@ top=$(dirname "$(dirname "$(realpath "$0")")")
 folder=$(mktemp -d)
 trap 'rm -r "$folder"' EXIT
 
-# A table of the page is a command, and the lines that it prints.
+# A table is a command, and the lines that it prints.
 awk -v folder="$folder" '
-    /^    \.\/factex catalogue / { n++; sub(/^    \.\/factex /, ""); print > (folder "/" n ".words"); next }
-    n && /^    (catalogue|factors) / { sub(/^    /, ""); print > (folder "/" n ".lines") }
-' "$top/docs/CATALOGUE.md"
+    /^\.\/factex / { n++; sub(/^\.\/factex /, ""); print > (folder "/" n ".words"); next }
+    NF { print > (folder "/" n ".lines") }
+' "$top/bench/catalogue.txt"
 
 for table in $(ls "$folder" | sed -n 's/\.words$//p' | sort -n); do
     read -ra words < "$folder/$table.words"
@@ -23,7 +23,7 @@ for table in $(ls "$folder" | sed -n 's/\.words$//p' | sort -n); do
     start=$SECONDS
     (cd "$folder/run" && "$program" "${words[@]}" > "$folder/listing") && status=0 || status=$?
     if [ "$status" -gt 1 ] || ! diff "$folder/$table.lines" "$folder/listing"; then
-        echo "${words[*]}: status $status, or not the lines of the page"
+        echo "${words[*]}: status $status, or not its lines"
         exit 1
     fi
     made=$((SECONDS - start))
@@ -34,6 +34,6 @@ for table in $(ls "$folder" | sed -n 's/\.words$//p' | sort -n); do
         cmp "$folder/ours" "$folder/theirs"
         count=$((count + 1))
     done
-    echo "${words[*]}: as on the page in $made s; $count books of $(du -bc "$folder"/run/*.book | tail -1 | cut -f1) bytes accepted by both"
+    echo "${words[*]}: the same, in $made s; $count books of $(du -bc "$folder"/run/*.book | tail -1 | cut -f1) bytes accepted by both"
     rm -r "$folder/run"
 done

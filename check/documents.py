@@ -4,8 +4,8 @@
 Usage: documents.py COMMAND ..    as documents.py ./factex, or documents.py ./factex try, which keeps no files
 
 A block of code that is a program text is run, and so is a block that begins with a `judge`, `large` or `catalogue`
-command; what follows the command in its block has to be printed. Catalogues of more than 27 runs take long, and are left
-to bench/catalogue.sh. A block of EXAMINE and OUTPUT statements is added to the program before it. A block that begins
+command; what follows the command in its block has to be printed. So are the tables of bench/catalogue.txt. Catalogues of
+more than 27 runs take long, and are left to bench/catalogue.sh. A block of EXAMINE and OUTPUT statements is added to the program before it. A block that begins
 like a listing, a plan or a table of runs has to be a part of what the last program or command of its page printed or
 wrote. Prints each block that is not, and ends with status 1 if there is one.
 """
@@ -16,7 +16,12 @@ import sys
 import tempfile
 
 TOP = pathlib.Path(__file__).resolve().parent.parent
-PAGES = [TOP / "README.md", *(TOP / "docs" / f"{it}.md" for it in ("GUIDE", "LANGUAGE", "PLANS", "JUDGE", "COMMANDS", "CATALOGUE"))]
+TABLES = TOP / "bench" / "catalogue.txt"
+PAGES = [
+    TOP / "README.md",
+    *(TOP / "docs" / f"{it}.md" for it in ("GUIDE", "LANGUAGE", "PLANS", "JUDGE", "COMMANDS", "CATALOGUE")),
+    TABLES,
+]
 LISTING = re.compile(
     r"(steps?|factors|resolution|budget|nodes|book|output|plan|catalogue) \S"
     r"|(no )?design |rules$|points |blocked|aliasing|aberration|  \S"
@@ -28,6 +33,8 @@ MOST_RUNS = 27
 def blocks_of(page):
     """The blocks of code and the tables of a page, each as a list of lines."""
     text = page.read_text(encoding="utf-8")
+    if page == TABLES:
+        yield from (table.splitlines() for table in text.split("\n\n"))
     for block in re.findall(r"(?:^    .*\n(?:\n(?=    ))*)+|(?:^\|.*\n)+", text, re.M):
         yield [line[4:] if line.startswith("    ") else line for line in block.splitlines()]
 
