@@ -9,6 +9,7 @@ pub mod Lists
 pub mod Fitting
 pub mod Handing
 pub mod ProductRows
+pub mod Parts
 pub mod Wholes
 pub mod Repeating
 mod Designs

@@ -1,9 +1,9 @@
 -- Steps of loops that map a list.
-use Rattle.std.proofs.Common.{ℕ, ◌≡◌, ◌<◌, ◌+◌, Bool, true, false, cond, List, [], ◌∷◌, ◌++◌, length, map, filter, take}
-use Rattle.std.proofs.Common.{get_or, refl, sym, ◌∙◌, ap, arith, append-nil, append_assoc, Result, Ok, Err}
+use Rattle.std.proofs.Common.{ℕ, ◌≡◌, ◌<◌, ◌≤◌, ◌+◌, ◌-◌, Bool, true, false, cond, List, [], ◌∷◌, ◌++◌, length, map, filter}
+use Rattle.std.proofs.Common.{take, drop, length-drop, get_or, refl, sym, ◌∙◌, ap, arith, append-nil, append_assoc, Result, Ok, Err}
 use Rattle.std.specs.Prelude.{OnOk}
-use Rattle.std.specs.List.{range_with_len}
-use Rattle.std.proofs.lemmas.List.{map-append, take_more}
+use Rattle.std.specs.List.{range_with_len, slice_range}
+use Rattle.std.proofs.lemmas.List.{get_or-drop, map-append, take_more}
 use Rattle.std.proofs.lemmas.Grind.{flat_map-append}
 use Rattle.csv.specs.Writing.{default_writer, row_text}
 use Rattle.fx_base.proofs.Ranges.{range_push}
@@ -44,14 +44,23 @@ pub numbers_more : {X : Type 0} (f : ℕ → X) (n : ℕ)
     → map f (range_with_len 0 n) ++ f n ∷ [] ≡ map f (range_with_len 0 (n + 1))
 numbers_more f n = sym (map-append f (range_with_len 0 n) (n ∷ [])) ∙ ap (map f) (from_zero_more n)
 
+range_snoc : {X : Type 0} (xs : List X) (a b : ℕ) (d : X) → a ≤ b → b < length xs
+    → slice_range xs a (b + 1) ≡ slice_range xs a b ++ get_or xs b d ∷ []
+range_snoc {X} xs a b d order low =
+    ap (λ (n : ℕ). take n (drop a xs)) (omega arith)
+    ∙ take_more (drop a xs) (b - a) d (omega (arith, length-drop a xs))
+    ∙ ap (λ (x : X). take (b - a) (drop a xs) ++ x ∷ [])
+    (get_or-drop a xs (b - a) d ∙ ap (λ (k : ℕ). get_or xs k d) (omega arith))
+
 -- one line more
-pub lines_more : (first : List (List ℕ)) (rows : List (List (List ℕ))) (i : ℕ) → i < length rows
-    → text_of (first ∷ take i rows) ++ row_text default_writer (get_or rows i []) ≡ text_of (first ∷ take (i + 1) rows)
-lines_more first rows i low =
+pub range_more : (rows : List (List (List ℕ))) (from i : ℕ) → from ≤ i → i < length rows
+    → text_of (slice_range rows from i) ++ row_text default_writer (get_or rows i [])
+    ≡ text_of (slice_range rows from (i + 1))
+range_more rows from i order low =
     let line = row_text default_writer in
-    ap (λ (l : List ℕ). text_of (first ∷ take i rows) ++ l) (sym (append-nil (line (get_or rows i []))))
-    ∙ sym (flat_map-append line (first ∷ take i rows) (get_or rows i [] ∷ []))
-    ∙ ap (λ (r : List (List (List ℕ))). text_of (first ∷ r)) (sym (take_more rows i [] low))
+    ap (λ (l : List ℕ). text_of (slice_range rows from i) ++ l) (sym (append-nil (line (get_or rows i []))))
+    ∙ sym (flat_map-append line (slice_range rows from i) (get_or rows i [] ∷ []))
+    ∙ ap text_of (sym (range_snoc rows from i [] order low))
 
 -- a fact that holds whatever a call returned
 pub on_ok : {E : Type 0} (r : Result (Unit {0}) E) (P : Type 0) → P → OnOk r P

@@ -1,14 +1,14 @@
-ghost use Rattle.std.specs.Prelude.{◌≡◌, ◌*◌, ◌^◌, IfOk, length, map};
+ghost use Rattle.std.specs.Prelude.{◌≡◌, ◌<◌, ◌*◌, ◌^◌, All, IfOk, length, map};
 ghost use Rattle.fx_plan.specs.Draws.{generator};
 ghost use Rattle.fx_plan.specs.Plans.{arrangement, shuffled_by, shuffled_values};
 ghost use Rattle.fx_plan.specs.Columns.{column_values};
-ghost use Rattle.fx_plan.specs.Products.{AreValues, CanBePlanned, IsArrangement, planned, plan_of, run_of};
+ghost use Rattle.fx_plan.specs.Products.{AreValues, CanBePlanned, IsArrangement, picked, planned, plan_of, replicated, run_of};
 ghost use Rattle.fx_runs.specs.RunBlocks.{block_of};
 
+use crate::assembled::Plan;
 use crate::columns::{column_values, free_places};
 use crate::draws::shuffle_each;
 use crate::order::{in_order, shuffled_in_blocks};
-use crate::product::product_rows;
 use crate::runs::runs_table;
 use fx_base::{Bytes, NoMemory};
 use fx_derived::Table;
@@ -28,23 +28,33 @@ pub(crate) struct Layout<'a> {
     pub(crate) runs: &'a Runs,
     pub(crate) output: &'a OutputSpec,
     /// The rows that each run is repeated by.
-    pub(crate) inner: &'a Table,
+    pub(crate) inner: &'a Plan,
     /// The rows that the whole list of them is repeated by.
-    pub(crate) outer: &'a Table,
+    pub(crate) outer: &'a Plan,
     ghost planned: { CanBePlanned factors.now runs.now output.now },
 }
 
+/// A plan before its rows are put together: the runs as a table, and the order of the rows in which they are
+/// repeated.
+#[derive(Drop)]
+pub(crate) struct Arranged {
+    pub(crate) runs: Table,
+    pub(crate) order: Vec<u32>,
+}
+
 impl<'a> Layout<'a> {
-    /// The plan, by the program's seed.
-    pub(crate) fn table(&self, seed: u64) -> Result<Table, NoMemory>
-        ensures { IfOk result (λ table. table
+    /// The parts of the plan, by the program's seed.
+    pub(crate) fn arranged(&self, seed: u64) -> Result<Arranged, NoMemory>
+        ensures plan { IfOk result (λ a. picked a.order.items
+            (replicated a.runs self.now.inner.now self.now.outer.now)
             ≡ plan_of self.now.factors.now self.now.runs.now self.now.output.now seed
             self.now.inner.now self.now.outer.now) }
+        ensures there { IfOk result (λ a. All (λ r. r < length a.runs.rows
+            * length self.now.inner.now.rows * length self.now.outer.now.rows) a.order.items) }
     {
         let values = self.first_values()?;
         let rows = row_count(self.runs, self.inner, self.outer)?;
         let order = in_order(self.alloc, rows)?;
-        let order = order.as_slice();
         match self.output.shuffle {
             Shuffle::Kept => self.ordered(order, values.as_slice()),
             Shuffle::Default { values: too } => self.shuffled(order, values, too, seed),
@@ -71,47 +81,58 @@ impl<'a> Layout<'a> {
         Ok(values)
     }
 
-    /// The plan of shuffled rows, and of shuffled values where that is asked too.
+    /// The same with shuffled rows, and with shuffled values where that is asked too.
     fn shuffled(
         &self,
-        order: &[u32],
+        order: Vec<u32>,
         values: Vec<Vec<Bytes>>,
         too: bool,
         seed: u64,
-    ) -> Result<Table, NoMemory>
+    ) -> Result<Arranged, NoMemory>
         requires { IsArrangement self.now.runs.now self.now.output.now self.now.inner.now
-            self.now.outer.now order.now (map (λ v. v.items) values.items) }
-        ensures { let runs = self.now.runs.now in
+            self.now.outer.now order.items (map (λ v. v.items) values.items) }
+        ensures plan { let runs = self.now.runs.now in
             let each = length self.now.inner.now.rows in
             let a = shuffled_by (generator seed) too
             (λ r. block_of runs (run_of each (length runs.rows) r)) (runs.shape.q ^ runs.shape.t)
-            (arrangement order.now (map (λ v. v.items) values.items)) in
-            IfOk result (λ table. table
+            (arrangement order.items (map (λ v. v.items) values.items)) in
+            IfOk result (λ x. picked x.order.items (replicated x.runs self.now.inner.now self.now.outer.now)
             ≡ planned self.now.factors.now runs self.now.output.now self.now.inner.now self.now.outer.now a) }
+        ensures there { IfOk result (λ a. All (λ r. r < length a.runs.rows
+            * length self.now.inner.now.rows * length self.now.outer.now.rows) a.order.items) }
     {
         let mut rng = Pcg64::seed_from_u64(seed);
         let each = self.inner.len();
         let all = self.outer.len();
-        let order = shuffled_in_blocks(self.alloc, &mut rng, self.runs, each, all, order)?;
+        let order = shuffled_in_blocks(
+            self.alloc,
+            &mut rng,
+            self.runs,
+            each,
+            all,
+            order.as_slice(),
+        )?;
         let values = shuffled_values(&mut rng, values, too);
-        self.ordered(order.as_slice(), values.as_slice())
+        self.ordered(order, values.as_slice())
     }
 
-    /// The plan of the rows in this order, with these values for the codes of each column.
-    fn ordered(&self, order: &[u32], values: &[Vec<Bytes>]) -> Result<Table, NoMemory>
+    /// The same with the rows in this order, and with these values for the codes of each column.
+    fn ordered(&self, order: Vec<u32>, values: &[Vec<Bytes>]) -> Result<Arranged, NoMemory>
         requires { IsArrangement self.now.runs.now self.now.output.now self.now.inner.now
-            self.now.outer.now order.now (map (λ v. v.items) values.now) }
-        ensures { IfOk result (λ table. table
+            self.now.outer.now order.items (map (λ v. v.items) values.now) }
+        ensures plan { IfOk result (λ x. picked x.order.items (replicated x.runs self.now.inner.now self.now.outer.now)
             ≡ planned self.now.factors.now self.now.runs.now self.now.output.now self.now.inner.now
-            self.now.outer.now (arrangement order.now (map (λ v. v.items) values.now))) }
+            self.now.outer.now (arrangement order.items (map (λ v. v.items) values.now))) }
+        ensures there { IfOk result (λ a. All (λ r. r < length a.runs.rows
+            * length self.now.inner.now.rows * length self.now.outer.now.rows) a.order.items) }
     {
-        let base = runs_table(self, values)?;
-        product_rows(self.alloc, order, &base, self.inner, self.outer)
+        let runs = runs_table(self, values)?;
+        Ok(Arranged { runs, order })
     }
 }
 
 /// How many rows a plan has. A number that 32 bits do not hold is taken for want of memory.
-fn row_count(runs: &Runs, inner: &Table, outer: &Table) -> Result<u32, NoMemory>
+fn row_count(runs: &Runs, inner: &Plan, outer: &Plan) -> Result<u32, NoMemory>
     ensures { IfOk result (λ n. n
         ≡ length runs.now.rows * length inner.now.rows * length outer.now.rows) }
 {

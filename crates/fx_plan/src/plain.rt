@@ -1,8 +1,8 @@
 ghost use Rattle.std.specs.Prelude.{◌≡◌, IfOk, length};
 ghost use Rattle.fx_plan.specs.Products.{plain_output, plain_plan};
 
+use crate::assembled::repeats;
 use crate::planning::plan_of;
-use crate::product::repeats;
 use crate::text::table_text;
 use fx_base::{Bytes, NoMemory};
 use fx_runs::Runs;
@@ -21,9 +21,9 @@ pub fn plain_plan(alloc: Global, factors: &Names, runs: &Runs) -> Result<Bytes, 
     ensures { IfOk result (λ bytes. bytes ≡ plain_plan factors.now runs.now) }
 {
     let output = plain_output(alloc);
-    let once = repeats(alloc, 1)?;
-    let table = plan_of(alloc, factors, runs, &output, 0, &once, &once)?;
-    table_text(alloc, &table)
+    let (inner, outer) = (repeats(alloc, 1), repeats(alloc, 1));
+    let plan = plan_of(alloc, factors, runs, &output, 0, inner, outer)?;
+    table_text(alloc, &plan)
 }
 
 /// What an OUTPUT statement without options asks for.

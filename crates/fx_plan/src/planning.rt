@@ -1,19 +1,18 @@
-ghost use Rattle.std.specs.Prelude.{◌≡◌, Contains, IfOk, None, unwrap_or};
-ghost use Rattle.std.specs.Option.{option_copied};
+ghost use Rattle.std.specs.Prelude.{◌≡◌, Contains, IfOk};
 ghost use Rattle.fx_plan.specs.Products.{CanBePlanned, IsHanded, plan_of, rows_of_rep};
 ghost use Rattle.fx_plan.specs.Steps.{IsDesignOf};
 ghost use Rattle.fx_runs.specs.Runs.{design_of};
 
-use crate::layout::Layout;
-use crate::product::repeats;
+use crate::assembled::{Plan, repeats};
+use crate::layout::{Arranged, Layout};
+use crate::product::product;
 use fx_base::NoMemory;
-use fx_derived::Table;
 use fx_runs::{Runs, list_runs};
 use fx_statements::{Names, OutputSpec, Rep, Step};
 use fx_vectors::Matrix;
 use std::alloc::Global;
 
-/// The plan that an OUTPUT statement of a step asks for, of a design of the step: a table. `inner` is
+/// The plan that an OUTPUT statement of a step asks for, of a design of the step. `inner` is
 /// the plan that POINTREP names, if it names one, and `outer` the one that DESIGNREP names. `seed` is
 /// the program's, which is used where RANDOMIZE has none of its own.
 ///
@@ -26,49 +25,34 @@ pub fn plan(
     matrix: &Matrix,
     output: &OutputSpec,
     seed: u64,
-    inner: Option<&Table>,
-    outer: Option<&Table>,
-) -> Result<Table, NoMemory>
+    inner: Option<Plan>,
+    outer: Option<Plan>,
+) -> Result<Plan, NoMemory>
     requires design { IsDesignOf step.now matrix.now }
     requires asked { Contains step.now.outputs output.now }
-    requires inner { IsHanded output.now.pointrep (option_copied inner) }
-    requires outer { IsHanded output.now.designrep (option_copied outer) }
-    ensures { IfOk result (λ table. table
+    requires inner { IsHanded output.now.pointrep inner }
+    requires outer { IsHanded output.now.designrep outer }
+    ensures { IfOk result (λ plan. plan
         ≡ plan_of step.now.factors (design_of matrix.now) output.now seed
-        (rows_of_rep output.now.pointrep (option_copied inner.entry))
-        (rows_of_rep output.now.designrep (option_copied outer.entry))) }
+        (rows_of_rep output.now.pointrep inner) (rows_of_rep output.now.designrep outer)) }
 {
     let runs = list_runs(alloc, matrix)?;
-    let inside = blank(alloc, output.pointrep)?;
-    let outside = blank(alloc, output.designrep)?;
-    plan_of(
-        alloc,
-        &step.factors,
-        &runs,
-        output,
-        seed,
-        handed(inner, &inside),
-        handed(outer, &outside),
-    )
+    let inside = handed(alloc, output.pointrep, inner);
+    let outside = handed(alloc, output.designrep, outer);
+    plan_of(alloc, &step.factors, &runs, output, seed, inside, outside)
 }
 
-/// The table that is handed in, or else the other.
-fn handed<'a>(named: Option<&'a Table>, blank: &'a Table) -> &'a Table
-    ensures { result.now ≡ unwrap_or (option_copied named.entry) blank.entry.now }
+/// The plan that is named, or else a plain number of rows.
+fn handed(alloc: Global, rep: Rep, named: Option<Plan>) -> Plan
+    requires { IsHanded rep named }
+    ensures { result ≡ rows_of_rep rep named }
 {
     match named {
-        Some(table) => table,
-        None => blank,
-    }
-}
-
-/// The rows of a plain number of repetitions; none where a plan is named.
-fn blank(alloc: Global, rep: Rep) -> Result<Table, NoMemory>
-    ensures { IfOk result (λ table. table ≡ rows_of_rep rep None) }
-{
-    match rep {
-        Rep::Times(n) => repeats(alloc, n),
-        Rep::Plan(_) => repeats(alloc, 0),
+        Some(plan) => plan,
+        None => match rep {
+            Rep::Times(n) => repeats(alloc, n),
+            Rep::Plan(_) => repeats(alloc, 0),
+        },
     }
 }
 
@@ -84,20 +68,21 @@ pub fn plan_of(
     runs: &Runs,
     output: &OutputSpec,
     seed: u64,
-    inner: &Table,
-    outer: &Table,
-) -> Result<Table, NoMemory>
+    inner: Plan,
+    outer: Plan,
+) -> Result<Plan, NoMemory>
     requires { CanBePlanned factors.now runs.now output.now }
-    ensures { IfOk result (λ table. table
-        ≡ plan_of factors.now runs.now output.now seed inner.now outer.now) }
+    ensures { IfOk result (λ plan. plan
+        ≡ plan_of factors.now runs.now output.now seed inner outer) }
 {
     let layout = Layout {
         alloc,
         factors,
         runs,
         output,
-        inner,
-        outer,
+        inner: &inner,
+        outer: &outer,
     };
-    layout.table(seed)
+    let Arranged { runs: table, order } = layout.arranged(seed)?;
+    product(alloc, order, table, inner, outer)
 }

@@ -1,93 +1,68 @@
-ghost use Rattle.std.specs.Prelude.{◌≡◌, ◌+◌, ◌*◌, ◌<◌, ◌++◌, [], All, IfOk, OnOk, length, slice_index_or};
-ghost use Rattle.fx_plan.specs.Products.{picked, repeats, replicated};
+ghost use Rattle.std.specs.Prelude.{◌≡◌, ◌*◌, ◌/◌, ◌%◌, ◌^◌, ◌<◌, ◌∷◌, ◌++◌, [], All, IfOk, OnOk, length, map};
+ghost use Rattle.fx_plan.specs.Products.{picked, replicated, run_of};
 
-use fx_base::{Bytes, Items, NoMemory};
-use fx_derived::{Table, Texts};
+use crate::assembled::Plan;
+use fx_base::NoMemory;
+use fx_derived::Table;
 use std::alloc::Global;
 
-/// So many rows without columns: what a number of repetitions repeats by.
-///
-/// # Errors
-///
-/// `NoMemory`.
-pub fn repeats(alloc: Global, n: u32) -> Result<Table, NoMemory>
-    ensures { IfOk result (λ table. table ≡ repeats n) }
-{
-    let none = Texts::new(alloc);
-    let mut table = Table::new(alloc, Items::new(alloc));
-    for _ in 0..n {
-        table.push(&none)?;
-    }
-    Ok(table)
-}
-
-/// The rows of these numbers, which count from 0, of the runs that are repeated by two tables, in this
+/// The rows of these numbers, which count from 0, of the runs that are repeated by two plans, in this
 /// order.
-pub(crate) fn product_rows(
+pub(crate) fn product(
     alloc: Global,
-    order: &[u32],
-    runs: &Table,
-    inner: &Table,
-    outer: &Table,
-) -> Result<Table, NoMemory>
-    requires { let n = length runs.now.rows in
-        All (λ r. r < n * length inner.now.rows * length outer.now.rows) order.now }
-    ensures { IfOk result (λ table. table
-        ≡ picked order.now (replicated runs.now inner.now outer.now)) }
+    order: Vec<u32>,
+    runs: Table,
+    inner: Plan,
+    outer: Plan,
+) -> Result<Plan, NoMemory>
+    requires { let n = length runs.rows in
+        All (λ r. r < n * length inner.rows * length outer.rows) order.items }
+    ensures { IfOk result (λ plan. plan ≡ picked order.items (replicated runs inner outer)) }
 {
-    let mut rows = Table::new(alloc, product_names(alloc, runs, inner, outer)?);
-    let mut row = Texts::new(alloc);
+    let sources = sources_of(alloc, order.as_slice(), inner.len(), runs.len())?;
+    let inner = inner.picked(alloc, sources.inner.as_slice())?;
+    let outer = outer.picked(alloc, sources.outer.as_slice())?;
+    Plan::of(alloc, runs, sources.runs)?
+        .beside(inner)?
+        .beside(outer)
+}
+
+/// For each row of a product the numbers of its rows in the three tables.
+#[derive(Drop)]
+struct Sources {
+    runs: Vec<u32>,
+    inner: Vec<u32>,
+    outer: Vec<u32>,
+}
+
+/// Where these rows of the product of n runs come from, where each run has `each` rows in succession.
+fn sources_of(alloc: Global, order: &[u32], each: usize, n: usize) -> Result<Sources, NoMemory>
+    requires each { 0 < length order.now → 0 < each }
+    requires runs { 0 < length order.now → 0 < n }
+    ensures runs { IfOk result (λ s. s.runs.items ≡ map (run_of each n) order.now) }
+    ensures inner { IfOk result (λ s. s.inner.items ≡ map (λ r. r % each) order.now) }
+    ensures outer { IfOk result (λ s. s.outer.items ≡ map (λ r. r / each / n) order.now) }
+{
+    let mut sources = Sources {
+        runs: Vec::new(alloc),
+        inner: Vec::new(alloc),
+        outer: Vec::new(alloc),
+    };
     for r in order {
-        row.clear();
-        put_product(&mut row, runs, inner, outer, *r as usize)?;
-        rows.push(&row)?;
+        let run = *r as usize / each;
+        put(&mut sources.runs, run % n)?;
+        put(&mut sources.inner, *r as usize % each)?;
+        put(&mut sources.outer, run / n)?;
     }
-    Ok(rows)
+    Ok(sources)
 }
 
-/// The columns of the runs and of both tables.
-fn product_names(
-    alloc: Global,
-    runs: &Table,
-    inner: &Table,
-    outer: &Table,
-) -> Result<Items<Bytes>, NoMemory>
-    ensures { IfOk result (λ names. names
-        ≡ (runs.now.names ++ inner.now.names) ++ outer.now.names) }
+fn put(numbers: &mut Vec<u32>, n: usize) -> Result<(), NoMemory>
+    requires { n < 2 ^ 32 }
+    ensures { OnOk result (numbers.new.items ≡ numbers.old.items ++ n ∷ []) }
 {
-    let mut names = Items::new(alloc);
-    put_names(alloc, &mut names, runs.names())?;
-    put_names(alloc, &mut names, inner.names())?;
-    put_names(alloc, &mut names, outer.names())?;
-    Ok(names)
-}
-
-fn put_names(alloc: Global, names: &mut Items<Bytes>, more: &Items<Bytes>) -> Result<(), NoMemory>
-    ensures { OnOk result (names.new ≡ names.old ++ more.now) }
-{
-    for name in more.as_slice() {
-        names.push(Bytes::from_slice(alloc, name.as_slice())?)?;
+    match numbers.push(n as u32) {
+        Ok(()) => Ok(()),
+        Err(_) => Err(NoMemory),
     }
-    Ok(())
-}
-
-/// Adds the texts of row `r` of the runs that are repeated by two tables.
-fn put_product(
-    row: &mut Texts,
-    runs: &Table,
-    inner: &Table,
-    outer: &Table,
-    r: usize,
-) -> Result<(), NoMemory>
-    requires { r < length runs.now.rows * length inner.now.rows * length outer.now.rows }
-    ensures row { OnOk result (row.new ≡ row.old
-        ++ slice_index_or (replicated runs.now inner.now outer.now).rows r []) }
-    ensures wide { OnOk result (length (slice_index_or (replicated runs.now inner.now outer.now).rows r [])
-        ≡ length runs.now.names + length inner.now.names + length outer.now.names) }
-{
-    let each = inner.len();
-    let n = runs.len();
-    row.append(&runs.row(r / each % n))?;
-    row.append(&inner.row(r % each))?;
-    row.append(&outer.row(r / each / n))
 }

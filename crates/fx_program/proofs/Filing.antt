@@ -198,3 +198,33 @@ module _ {X : Type 0} (name content : X → List ℕ) (xs : List X) (i : ℕ) wh
           room = room ∙ so_far.room;
           closed = tt;
         })
+
+module _ {T : Type 0} (name content : List ℕ) {old new : ShelfView} (room : new.room ≡ old.room) where
+  -- the one file is shelved
+  pub file_shelved : (x : T) → Shelves old.files new.files (acts_of (WholeFile name content)) → new.begun ≡ false
+      → new.faults ≡ old.faults → ShelvesFiles (WholeFile name content ∷ []) old new (Ok x)
+  file_shelved x did closed same = shelved_all x (record {
+    files = record {
+      whatever = λ written. did_one (WholeFile name content) (did_file old.files new.files name content written did);
+    };
+    closed = closed;
+    count = same;
+    room = room;
+  })
+
+  -- stopped in it, for this cause
+  pub file_stopped : (why : Stop) → ShelvesPart old.files new.files (acts_of (WholeFile name content))
+      → HasCause {T = T} (old.faults ∷ []) (new.faults ∷ []) (Err why) → (ended : Result T Stop)
+      → IsErrAnd ended (λ e. e ≡ why)
+      → ShelvesFiles (WholeFile name content ∷ []) old new ended
+  file_stopped why part cause ended h =
+      subst (ShelvesFiles (WholeFile name content ∷ []) old new) (error_is ended why h) (record {
+        done = tt;
+        part = record {
+          whatever = λ written.
+              part_one (WholeFile name content) (part_file old.files new.files name content written part);
+        };
+        cause = cause;
+        room = room;
+        closed = tt;
+      })

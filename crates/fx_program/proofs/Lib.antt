@@ -6,6 +6,7 @@ mod SoFar
 mod Stages
 pub mod CatalogueLines
 mod Filing
+mod Filling
 mod Planned
 mod Given
 pub mod None

@@ -1,6 +1,6 @@
 -- What the program finds outside, and how a command, or a stage of one, ends there.
-use Rattle.std.specs.Prelude.{ℕ, ◌≡◌, ◌<◌, List, [], ◌∷◌, Option, Some, Result, Bool, true, false, IfOk, OnOk}
-use Rattle.fx_base.specs.Acts.{Event, File, World}
+use Rattle.std.specs.Prelude.{ℕ, ◌≡◌, ◌<◌, List, [], ◌∷◌, map, Option, Some, Result, Bool, true, false, IfOk, OnOk}
+use Rattle.fx_base.specs.Acts.{Event, File, FileByte, Shelves, ShelvesPart, World}
 use Rattle.fx_base.specs.declared.source.Source as source
 use Rattle.fx_base.specs.declared.sink.Sink as sink
 use Rattle.fx_base.specs.declared.shelf.Shelf as shelf
@@ -92,6 +92,14 @@ pub record ShelvesFiles {T : Type 0} (events : List Event) (old new : ShelfView)
   pub cause : HasCause (old.faults ∷ []) (new.faults ∷ []) result
   pub room : new.room ≡ old.room
   pub closed : OnOk result (new.begun ≡ false)
+
+-- a stage that has the shelf alone has appended these bytes to the file that is begun, or is stopped in them
+pub record Fills {T : Type 0} (bytes : List ℕ) (old new : ShelfView) (result : Result T Stop) : Type 0 where
+  pub done : OnOk result (Shelves old.files new.files (map FileByte bytes))
+  pub part : ShelvesPart old.files new.files (map FileByte bytes)
+  pub cause : HasCause (old.faults ∷ []) (new.faults ∷ []) result
+  pub room : new.room ≡ old.room
+  pub begun : OnOk result (new.begun ≡ true)
 
 -- What a command gives for some text: that of the source, where the source is read and exposes it. A source that
 -- exposes nothing had some text all the same.

@@ -10,12 +10,12 @@ use crate::output_lines::put_plan_lines;
 use crate::plans::{AskedPlan, AskedPlans, asked_plan, plan_at};
 use crate::session::Session;
 use crate::stop::Stop;
+use crate::streaming::stream_plan;
 use crate::words::append;
 use arrayvec::ArrayVec;
-use fx_base::{Bytes, Shelf, shelve, shelve_pieces};
+use fx_base::{Bytes, Shelf, shelve_pieces};
 use fx_book::book_pieces;
-use fx_derived::Table;
-use fx_plan::table_text;
+use fx_plan::Plan;
 use fx_statements::{Outcome, Step};
 use fx_vectors::Books;
 use itoa::Buffer;
@@ -129,30 +129,28 @@ fn shelve_plan<'a, R, F: Shelf>(
     let number = plans.len();
     plans.push(asked)?;
     match plan_at(session.alloc, session.seed, plans.as_slice(), number)? {
-        Some(table) => shelve_table(session, plans.get(number), &table, lines, shelf),
+        Some(plan) => shelve_made(session, plans.get(number), &plan, lines, shelf),
         None => Ok(()),
     }
 }
 
 /// Shelves the plan of an OUTPUT statement, and appends its lines.
-fn shelve_table<R, F: Shelf>(
+fn shelve_made<R, F: Shelf>(
     session: &Session<'_, R>,
     asked: &AskedPlan<'_>,
-    table: &Table,
+    plan: &Plan,
     lines: &mut Bytes,
     shelf: &mut F,
 ) -> Result<(), Stop>
     requires ended { F.begun shelf.old ≡ false }
-    ensures files { ShelvesFiles (file_of asked.now.output.name (Some table.now))
+    ensures files { ShelvesFiles (file_of asked.now.output.name (Some plan.now))
         (shelf_view F.Shelf shelf.old) (shelf_view F.Shelf shelf.new) result }
     ensures lines { OnOk result
-        (lines.new ≡ lines.old ++ plan_lines session.now.seed asked.now (Some table.now)) }
+        (lines.new ≡ lines.old ++ plan_lines session.now.seed asked.now (Some plan.now)) }
 {
-    put_plan_lines(session.alloc, lines, asked, table.len(), session.seed)?;
+    put_plan_lines(session.alloc, lines, asked, plan.len(), session.seed)?;
     let name = file_name(asked.output.name.as_slice());
-    let content = table_text(session.alloc, table)?;
-    shelve(shelf, name.as_slice(), content.as_slice())?;
-    Ok(())
+    stream_plan(session.alloc, name.as_slice(), plan, shelf)
 }
 
 /// The name of the file of the book of a question, in the step of this number.

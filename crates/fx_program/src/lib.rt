@@ -16,6 +16,7 @@ mod run;
 mod session;
 mod status;
 mod stop;
+mod streaming;
 mod summary;
 mod text;
 mod upgrading;

@@ -4,8 +4,7 @@ ghost use Rattle.fx_statements.specs.Steps.{meaning_of};
 ghost use Rattle.fx_program.specs.Plans.{asked_as, is_handed, named_in, plan_made, plans_of};
 
 use fx_base::{Items, NoMemory};
-use fx_derived::Table;
-use fx_plan::plan;
+use fx_plan::{Plan, plan};
 use fx_statements::{Outcome, OutputSpec, Rep, Step};
 use fx_vectors::Matrix;
 use std::alloc::Global;
@@ -72,7 +71,7 @@ pub(crate) fn plan_at(
     seed: u64,
     asked: &[AskedPlan<'_>],
     number: usize,
-) -> Result<Option<Table>, NoMemory>
+) -> Result<Option<Plan>, NoMemory>
     requires { number < length asked.now }
     ensures { IfOk result (λ plan. plan ≡ slice_index_or (plans_of seed asked.now) number None) }
 {
@@ -83,7 +82,7 @@ pub(crate) fn plan_at(
     };
     let inner = named(alloc, seed, asked, number, one.output.pointrep)?;
     let outer = named(alloc, seed, asked, number, one.output.designrep)?;
-    plan_made(alloc, seed, one, matrix, &inner, &outer)
+    plan_made(alloc, seed, one, matrix, inner, outer)
 }
 
 /// The plan that POINTREP or DESIGNREP names among those before this number, if it names one, and that
@@ -95,7 +94,7 @@ fn named(
     asked: &[AskedPlan<'_>],
     before: usize,
     rep: Rep,
-) -> Result<Option<Table>, NoMemory>
+) -> Result<Option<Plan>, NoMemory>
     requires { before ≤ length asked.now }
     ensures { IfOk result (λ plan. plan ≡ named_in (plans_of seed (take before asked.now)) rep) }
 {
@@ -118,24 +117,23 @@ fn plan_made(
     seed: u64,
     asked: &AskedPlan<'_>,
     matrix: &Matrix,
-    inner: &Option<Table>,
-    outer: &Option<Table>,
-) -> Result<Option<Table>, NoMemory>
+    inner: Option<Plan>,
+    outer: Option<Plan>,
+) -> Result<Option<Plan>, NoMemory>
     requires { asked.now.matrix ≡ Some matrix.now }
     ensures { IfOk result (λ plan. plan
-        ≡ plan_made seed asked.now.factors asked.now.output matrix.now inner.now outer.now) }
+        ≡ plan_made seed asked.now.factors asked.now.output matrix.now inner outer) }
 {
     let output = asked.output;
-    if is_handed(output.pointrep, inner) && is_handed(output.designrep, outer) {
-        let (inner, outer) = (inner.as_ref(), outer.as_ref());
-        let table = plan(alloc, asked.step, matrix, output, seed, inner, outer)?;
-        return Ok(Some(table));
+    if is_handed(output.pointrep, &inner) && is_handed(output.designrep, &outer) {
+        let made = plan(alloc, asked.step, matrix, output, seed, inner, outer)?;
+        return Ok(Some(made));
     }
     Ok(None)
 }
 
 /// Whether a plan is there exactly where one is named.
-fn is_handed(rep: Rep, named: &Option<Table>) -> bool
+fn is_handed(rep: Rep, named: &Option<Plan>) -> bool
     ensures { result ≡ is_handed rep named.now }
 {
     match rep {

@@ -133,8 +133,8 @@ fn plan_of(rt: &impl Abort, alloc: Global, step: &Step, matrix: &Matrix, i: usiz
     assert!(rt; i < step.outputs.len() && is_design(step, matrix));
     let output = step.outputs.get(i);
     assert!(rt; is_number(output.pointrep) && is_number(output.designrep));
-    let table = plan(alloc, step, matrix, output, 5, None, None).expect(rt, "memory");
-    table_text(alloc, &table).expect(rt, "memory")
+    let made = plan(alloc, step, matrix, output, 5, None, None).expect(rt, "memory");
+    table_text(alloc, &made).expect(rt, "memory")
 }
 
 /// The plan of the text's only step.

@@ -811,6 +811,12 @@ const PLANNED: &[(&str, &str, &[(&str, &str)], u8)] = &[
         0,
     ),
     (
+        "proc factex; factors A B; size design=4; model resolution=3; output out=four [A B]=D cvals=('w' 'x' 'y' 'z');",
+        "step 1\nfactors 2 levels 2\ndesign 4 runs\nno defining words\nnodes 2\nrules\n  none\noutput four.csv 4 rows\nderived D 4 levels balanced\n",
+        &[("four.csv", "D\nw\nx\ny\nz\n")],
+        0,
+    ),
+    (
         "proc factex; factors A B; size design=4; model resolution=3; output out=four [A B]=D cvals=('w' 'x,' 'y\"' '');",
         "step 1\nfactors 2 levels 2\ndesign 4 runs\nno defining words\nnodes 2\nrules\n  none\noutput four.csv 4 rows\nderived D 4 levels balanced\n",
         &[("four.csv", "D\nw\n\"x,\"\n\"y\"\"\"\n\"\"\n")],

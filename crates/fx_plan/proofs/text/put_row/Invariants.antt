@@ -1,10 +1,10 @@
-use Rattle.std.proofs.Common.{◌≡◌, ◌++◌, ◌+◌, [], length, get_or}
+use Rattle.std.proofs.Common.{◌≡◌, ◌++◌, [], take}
 use Rattle.csv.specs.Records.{fields_of, partial_of}
+use Rattle.fx_plan.specs.Parts.{row_across}
 use Rattle.fx_plan.proofs.text.put_row.Given as goal
 
-abbrev pub invariant-loop : goal.invariant-loop
-invariant-loop l = record {
-  fields : fields_of l.row ++ l.left ≡ fields_of l.fn.row ++ get_or l.table.rows l.i [];
+abbrev pub invariant-loop-part : goal.invariant-loop-part
+invariant-loop-part l = record {
+  fields : fields_of l.row ≡ fields_of l.fn.row ++ row_across (take l.part-index l.part-items) l.i;
   partial : partial_of l.row ≡ [];
-  long : l.counter + length l.left ≡ length (get_or l.table.rows l.i []);
 }

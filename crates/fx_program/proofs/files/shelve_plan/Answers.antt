@@ -27,12 +27,12 @@ returns-in-Some-clause-files g c =
     let is = c.len-number.ensures in
     let plan =
     sym c.in-Some.is ∙ made c.args.plans.now _ c.args.asked _ (c.as_slice.ensures ∙ c.in_ok-push.ensures.ok) is seed _
-    c.in_ok-table.ensures in
+    c.in_ok-plan.ensures in
     let own = last c.args.plans.now _ c.args.asked _ c.in_ok-push.ensures.ok is c.get.result.now c.get.ensures in
     let shelf = shelf_view g.F.Shelf in
     subst₂ (λ (a : AskedView) (plan : Option TableView).
-    ShelvesFiles {T = Unit {0}} (file_of a.output.name plan) (shelf c.args.shelf.now) (shelf c.shelve_table.new.shelf)
-    c.shelve_table.result) own plan c.shelve_table.ensures.files
+    ShelvesFiles {T = Unit {0}} (file_of a.output.name plan) (shelf c.args.shelf.now) (shelf c.shelve_made.new.shelf)
+    c.shelve_made.result) own plan c.shelve_made.ensures.files
 
 pub returns-in-Some-clause-lines : goal.returns-in-Some-clause-lines
 returns-in-Some-clause-lines g c =
@@ -40,11 +40,11 @@ returns-in-Some-clause-lines g c =
     let is = c.len-number.ensures in
     let plan =
     sym c.in-Some.is ∙ made c.args.plans.now _ c.args.asked _ (c.as_slice.ensures ∙ c.in_ok-push.ensures.ok) is seed _
-    c.in_ok-table.ensures in
+    c.in_ok-plan.ensures in
     let own = last c.args.plans.now _ c.args.asked _ c.in_ok-push.ensures.ok is c.get.result.now c.get.ensures in
     subst₂ (λ (a : AskedView) (plan : Option TableView).
-    OnOk c.shelve_table.result (c.shelve_table.new.lines ≡ c.args.lines.now ++ plan_lines seed a plan)) own plan
-    c.shelve_table.ensures.lines
+    OnOk c.shelve_made.result (c.shelve_made.new.lines ≡ c.args.lines.now ++ plan_lines seed a plan)) own plan
+    c.shelve_made.ensures.lines
 
 pub returns-in-None-clause-files : goal.returns-in-None-clause-files
 returns-in-None-clause-files g c =
@@ -52,7 +52,7 @@ returns-in-None-clause-files g c =
     let plan =
     sym c.in-None.is
     ∙ made c.args.plans.now _ c.args.asked _ (c.as_slice.ensures ∙ c.in_ok-push.ensures.ok) c.len-number.ensures seed _
-    c.in_ok-table.ensures in
+    c.in_ok-plan.ensures in
     let shelf = shelf_view g.F.Shelf in
     subst (λ (plan : Option TableView).
     ShelvesFiles {T = Unit {0}} (file_of c.args.asked.output.name plan) (shelf c.args.shelf.now) (shelf c.args.shelf.now)
@@ -64,6 +64,6 @@ returns-in-None-clause-lines g c =
     let plan =
     sym c.in-None.is
     ∙ made c.args.plans.now _ c.args.asked _ (c.as_slice.ensures ∙ c.in_ok-push.ensures.ok) c.len-number.ensures seed _
-    c.in_ok-table.ensures in
+    c.in_ok-plan.ensures in
     subst (λ (plan : Option TableView). c.args.lines.now ≡ c.args.lines.now ++ plan_lines seed c.args.asked plan) plan
     (sym (append-nil c.args.lines.now))

@@ -1,7 +1,4 @@
-use Rattle.std.proofs.Common.{◌≡◌, ap, ap₂, sym, ◌∙◌, true, Option, Some}
-use Rattle.fx_derived.specs.Tables.{TableView}
-use Rattle.fx_plan.specs.Products.{plan_of, rows_of_rep}
-use Rattle.fx_runs.specs.Runs.{design_of}
+use Rattle.std.proofs.Common.{◌≡◌, ap, sym, ◌∙◌, true, Some}
 use Rattle.fx_program.specs.Plans.{AskedView, is_handed, plan_made}
 use Rattle.fx_program.proofs.Planned.{made_of}
 use Rattle.fx_program.proofs.plans.plan_made.Goals as goal
@@ -15,14 +12,11 @@ returns-then-is_handed-2 c =
     let output = c.asked.inside.output.now in
     let factors = c.asked.inside.step.now.factors in
     let matrix = c.args.matrix.now in
-    let inner = c.args.inner.now in
-    let outer = c.args.outer.now in
+    let inner = c.args.inner in
+    let outer = c.args.outer in
     let inside : is_handed output.pointrep inner ≡ true = sym c.is_handed.ensures ∙ c.if-is_handed.true in
     let outside : is_handed output.designrep outer ≡ true =
     sym c.is_handed-then-is_handed.ensures ∙ c.if-is_handed-2.true in
-    ap Some (c.in_ok-table.ensures
-    ∙ ap₂ (λ (x y : Option TableView). plan_of factors (design_of matrix) output c.args.seed
-    (rows_of_rep output.pointrep x) (rows_of_rep output.designrep y)) c.as_ref-inner.ensures.value
-    c.as_ref-outer.ensures.value)
+    ap Some c.in_ok-made.ensures
     ∙ sym (made_of c.args.seed factors output matrix inner outer inside outside)
     ∙ ap (λ (a : AskedView). plan_made c.args.seed a.factors a.output matrix inner outer) c.asked.view_is
