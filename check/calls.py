@@ -10,9 +10,11 @@ import sys
 
 TOP = pathlib.Path(__file__).resolve().parent.parent
 PAGE = TOP / "docs" / "CALLS.md"
+# Left out where their only clause has no name.
+PLAIN = ("::new", "::len", "::is_empty")
 HEAD = """# Calls and their clauses
 
-`check/calls.py` makes this index of the public calls, laws and types with facts from the sources; `check/calls.py --check` compares. Behind each name are its proved clauses: those of `ensures`, or the facts of every value of a type. `-` is a clause without a name; a call without parentheses has a single such clause. Laws, functions with an empty body, are in bold. Files are in `src` of the crate. [PROVED.md](PROVED.md) explains the clauses that matter most.
+`check/calls.py` makes this index of public calls, laws and types from the sources; `check/calls.py --check` compares. Parentheses have the names of the clauses that are proved: those of `ensures`, or the facts of every value of a type. Without parentheses there is one clause without a name, or there are `ok` and `err`. Calls `new`, `len` and `is_empty` with one unnamed clause are left out. Laws, functions with an empty body, are in bold. Files are in `src` of the crate.
 """
 
 
@@ -70,13 +72,13 @@ def of_file(file, names, is_public):
             at[1].append((clause or fact)[1] or "-")
         if at and line.strip() == "{}":
             at[2] = True
-    return [item for item in items if item[1]]
+    return [item for item in items if item[1] and not (item[0].endswith(PLAIN) and item[1] == ["-"])]
 
 
 def entry(name, clauses, is_law):
     """An item with the names of its clauses, as the index shows it."""
     text = f"**`{name}`**" if is_law else f"`{name}`"
-    return text if clauses == ["-"] else f"{text} ({', '.join(clauses)})"
+    return text if clauses in (["-"], ["ok", "err"]) else f"{text} ({', '.join(clauses)})"
 
 
 def page():
