@@ -14,7 +14,7 @@ PAGE = TOP / "docs" / "CALLS.md"
 PLAIN = ("::new", "::len", "::is_empty")
 HEAD = """# Calls and their clauses
 
-`check/calls.py` makes this index of public calls, laws and types from the sources; `check/calls.py --check` compares. Parentheses have the names of the clauses that are proved: those of `ensures`, or the facts of every value of a type. Without parentheses there is one clause without a name, or there are `ok` and `err`. Calls `new`, `len` and `is_empty` with one unnamed clause are left out. Laws, functions with an empty body, are in bold, and in `laws.rt` where no file is named.
+`check/calls.py` makes this index of public calls, laws and types from the sources; `check/calls.py --check` compares. Parentheses have the names of the clauses that are proved: those of `ensures`, or the facts of every value of a type. Without parentheses there is one clause without a name, or there are `ok` and `err`. Calls `new`, `len` and `is_empty` with one unnamed clause are left out. Laws are in bold, and in `laws.rt` where no file is named.
 """
 
 
@@ -92,7 +92,8 @@ def page():
             items = of_file(file, names, file.stem in public)
             if items:
                 listed = ", ".join(entry(*item) for item in items)
-                rows.append("- " + ("" if file.name == "laws.rt" else f"`{file.relative_to(crate / 'src')}`: ") + listed)
+                named = "" if file.name == "laws.rt" else f"`{file.relative_to(crate / 'src')}`: "
+                rows.append(f"- {named}{listed}")
         if rows:
             text += [f"\n## {floor}\n"] if floor != last else []
             text += [f"\n### {name}\n\n" + "\n".join(rows) + "\n"]
