@@ -1,5 +1,5 @@
 #!/usr/bin/env python3
-"""A second checker of books, written from docs/BOOKS.md alone.
+"""A second checker of books, written from docs/BOOKS.md alone, and of books of tables.
 
 Usage: check_book.py < BOOK
 
@@ -8,6 +8,7 @@ Prints `accepted` and the lines 2 to 4 of the book, with status 0, or `rejected 
 import sys
 
 MOST_BYTES = 268_435_456
+MOST_TABLE_BYTES = 33_554_432
 MOST_EFFECTS = 100_000
 MOST_PAIRS = 2_000_000
 MOST_PARTS = 8
@@ -82,6 +83,13 @@ class Field:
         scaled = [self.times[code][r] for r in digits(self.q, m, row)]
         return number_of(self.q, [self.plus[a][b] for a, b in zip(digits(self.q, m, x), scaled)])
 
+    def dot(self, first, second):
+        """The sum of the products of the codes of two vectors."""
+        total = 0
+        for a, b in zip(first, second):
+            total = self.plus[total][self.times[a][b]]
+        return total
+
 
 def last_code(codes):
     """The last code that is not zero."""
@@ -113,7 +121,9 @@ class Book:
         if len(text) > MOST_BYTES:
             raise Rejected(1, "B1")
         self.lines = text.decode("latin-1").split("\n")
-        self.version = self.in_head(1, self.title)
+        self.version, self.is_table = self.in_head(1, self.title)
+        if self.is_table and len(text) > MOST_TABLE_BYTES:
+            raise Rejected(1, "B1")
         self.q, self.m, self.s, self.t = self.in_head(2, self.size)
         self.resolution, self.estimate, self.others = self.in_head(3, self.demands)
         self.pattern = self.in_head(4, self.least)
@@ -131,7 +141,7 @@ class Book:
 
     @staticmethod
     def title(line):
-        versions = {"factex-book 1": 1, "factex-book 2": 2}
+        versions = {"factex-book 1": (1, False), "factex-book 2": (2, False), "factex-table 1": (2, True)}
         if line not in versions:
             raise Form
         return versions[line]
@@ -190,7 +200,7 @@ class Book:
         return pattern
 
     def all_entries(self):
-        """The entries, each with its letter, row and word, up to the line END."""
+        """The entries, each with its letter, row and word or change, up to the line END."""
         entries = []
         for i in range(4, len(self.lines)):
             if i == len(self.lines) - 1:
@@ -210,6 +220,11 @@ class Book:
 
     def entry(self, line):
         parts = line.split(" ")
+        if self.is_table and self.resolution is not None:
+            if parts[0] == "I":
+                return self.numbers("I", parts[1:], self.m)
+            if parts[0] == "R" or (parts[0] == "F" and self.pattern is not None):
+                return self.numbers(parts[0], parts[1:], 0)
         if parts[0] == "W" and len(parts) > 2:
             row = number(parts[1])
             word = self.word_by_number(parts[2:]) if self.version == 1 else self.word(parts[2:])
@@ -222,6 +237,15 @@ class Book:
         if row >= self.runs:
             raise Range
         return parts[0], row, None
+
+    def numbers(self, letter, parts, count):
+        """An entry of a row and so many numbers more, all below the number of runs."""
+        if len(parts) != count + 1:
+            raise Form
+        row, *change = [number(part) for part in parts]
+        if row >= self.runs or any(a >= self.runs for a in change):
+            raise Range
+        return letter, row, change
 
     def word_by_number(self, parts):
         """The codes of a word that is written by its number; none where it is out of its range."""
@@ -295,6 +319,14 @@ class Walk:
                     raise Rejected(line, "K3")
                 if not self.is_forbidden(word):
                     raise Rejected(line, "K4")
+            elif letter == "I":
+                self.check_image(line, word)
+            elif letter == "R":
+                if not self.has_no_room():
+                    raise Rejected(line, "K10")
+            elif letter == "F":
+                if not self.has_units() or self.floor() < self.book.pattern:
+                    raise Rejected(line, "K11")
             elif self.pattern() < self.book.pattern:
                 raise Rejected(line, "K5")
         if self.waiting:
@@ -360,6 +392,42 @@ class Walk:
                 for b in both
             )
         return self.differences[support]
+
+    def check_image(self, line, change):
+        """Whether a change takes the factor rows to each unit vector, and to rows that stand before them."""
+        book, field = self.book, self.field
+        forms = [digits(book.q, book.m, a) for a in change]
+        moved = []
+        for row in self.rows[: book.s]:
+            codes = [field.dot(form, digits(book.q, book.m, row)) for form in forms]
+            last = last_code(codes)
+            scale = next(c for c in range(book.q) if field.times[c][last] == 1) if last else 1
+            moved.append(number_of(book.q, [field.times[scale][code] for code in codes]))
+        if not self.unit <= set(moved):
+            raise Rejected(line, "K8")
+        image = sorted(self.unit) + sorted((row for row in moved if row not in self.unit), reverse=True)
+        if not next((a < b for a, b in zip(self.rows[: book.s], image) if a != b), False):
+            raise Rejected(line, "K9")
+
+    def has_units(self):
+        """Whether the prefix has all its unit vectors, and no block row."""
+        return min(self.book.s, self.book.m) <= len(self.rows) <= self.book.s
+
+    def later_rows(self):
+        """The factor rows that can still come, behind the unit vectors."""
+        book = self.book
+        bound = book.runs if len(self.rows) == min(book.s, book.m) else self.rows[-1]
+        return [row for row in range(1, bound) if self.normal[row] and row not in self.unit]
+
+    def has_no_room(self):
+        return self.has_units() and len(self.later_rows()) < self.book.s - len(self.rows)
+
+    def floor(self):
+        """The least that the entries of a pattern below the prefix can be, each by itself."""
+        missing, later, floor = self.book.s - len(self.rows), self.later_rows(), self.pattern()
+        for weight, counts in enumerate(self.counts[-1][: self.book.s]):
+            floor[weight] += sum(sorted(counts[row] for row in later)[:missing])
+        return floor
 
     def pattern(self):
         """The pattern of the prefix."""
