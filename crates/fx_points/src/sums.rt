@@ -1,4 +1,4 @@
-ghost use Rattle.std.specs.Prelude.{[], ◌≡◌, ◌<◌, ◌≤◌, ◌==◌, ◌||◌, ◌*◌, ◌/◌, ◌%◌, ◌^◌, ℕ, bit_xor, length, slice_index, IsTrue, IfOk};
+ghost use Rattle.std.specs.Prelude.{[], ◌≡◌, ◌+◌, ◌-◌, ◌<◌, ◌≤◌, ◌==◌, ◌||◌, ◌*◌, ◌/◌, ◌%◌, ◌^◌, ℕ, bit_xor, length, slice_index, IsTrue, IfOk};
 ghost use Rattle.fx_designs.specs.Galois.{is_order, neg};
 ghost use Rattle.fx_points.specs.Sums.{SumsView, AreSums, sum_of, is_even};
 
@@ -30,6 +30,8 @@ pub struct Sums {
     upper: Vec<u16>,
     /// Minus each point.
     opposite: Vec<u16>,
+    /// For each code from 1 on the multiples of the points.
+    multiples: Vec<u16>,
 }
 
 // Not derived, so that a place that drops one is proved with one call.
@@ -49,6 +51,7 @@ impl Drop for Sums {
             lower: _,
             upper: _,
             opposite: _,
+            multiples: _,
         } = self;
     }
 }
@@ -60,7 +63,7 @@ impl Model for Sums {
 
     ghost view = { λ x. record { q = x.field; m = x.m } };
 
-    ghost invariant = { λ x. AreSums x.field x.m x.even x.size x.blocks x.half x.width x.height x.low.items x.high.items x.lower.items x.upper.items x.opposite.items };
+    ghost invariant = { λ x. AreSums x.field x.m x.even x.size x.blocks x.half x.width x.height x.low.items x.high.items x.lower.items x.upper.items x.opposite.items x.multiples.items };
 }
 
 impl Sums {
@@ -95,6 +98,7 @@ impl Sums {
             quotients(alloc, size, width)?
         };
         let opposite = opposites(alloc, field, m, size)?;
+        let multiples = multiples(alloc, field, m, size)?;
         Ok(Sums {
             field,
             m,
@@ -109,6 +113,7 @@ impl Sums {
             lower,
             upper,
             opposite,
+            multiples,
         })
     }
 
@@ -167,7 +172,7 @@ impl Sums {
         ensures multiple { result ≡ sum_of self.now.q c self.now.m 0 x }
         ensures below { result < self.now.q ^ self.now.m }
     {
-        sum_with(self.field, self.m, 0, x, c)
+        self.multiples[usize::from(c - 1) * usize::from(self.size) + usize::from(x)]
     }
 
     /// The number of the point that gives zero with this one.
@@ -232,6 +237,24 @@ fn opposites(alloc: Global, field: Field, m: u8, size: u16) -> Result<Vec<u16>, 
     let mut points = Values::new(alloc);
     for x in 0..size {
         points.push(sum_with(field, m, 0, x, minus))?;
+    }
+    Ok(points.into_vec())
+}
+
+/// The multiples of the points: for each code from 1 on, one point after another.
+fn multiples(alloc: Global, field: Field, m: u8, size: u16) -> Result<Vec<u16>, NoMemory>
+    requires runs { field ^ m ≤ 1024 }
+    requires size { size ≡ field ^ m }
+    ensures len { IfOk result (λ points. length points.items ≡ (field - 1) * field ^ m) }
+    ensures are { IfOk result (λ points. (i : ℕ) → i < (field - 1) * field ^ m
+        → slice_index points.items i ≡ sum_of field (i / field ^ m + 1) m 0 (i % field ^ m)) }
+{
+    // Its order, once read, is known to be one of the seven.
+    let codes = u32::from(field.q() - 1);
+    let runs = u32::from(size);
+    let mut points = Values::new(alloc);
+    for i in 0..codes * runs {
+        points.push(sum_with(field, m, 0, (i % runs) as u16, (i / runs) as u8 + 1))?;
     }
     Ok(points.into_vec())
 }

@@ -6,7 +6,6 @@ use Rattle.std.specs.Prelude.{◌==◌, ◌&&◌, if◌then◌else◌, count_by}
 use Rattle.std.specs.List.{sum_by}
 use Rattle.std.proofs.lemmas.Bool.{cases_Bool, cond-true, cond-false}
 use Rattle.std.proofs.lemmas.List.Elements.{recursion_from_All}
-use Rattle.std.proofs.lemmas.List.Sums.{sum_by-cons}
 use Rattle.std.proofs.Math.Nat.{pow-le-pow_right}
 use Rattle.fx_designs.specs.Galois.{IsField, add, mul, digits, number, codes_of}
 use Rattle.fx_designs.specs.Vectors.{IsVector, dot, vectors_of, zeros, same}

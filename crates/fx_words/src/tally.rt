@@ -131,10 +131,23 @@ impl Tally {
             i }
         ensures same { self.new ≡ self.old }
     {
+        let len = self.prefix.len();
         let counts = self.counts.as_mut_slice();
-        make(counts, &mut self.made, &self.prefix, &self.classes, i + 2);
-        let level = level_of(counts, &self.made, &self.prefix, &self.classes);
-        level::words_with(level, &self.prefix, &self.classes, row, i)
+        if self.made[len] >= i + 2 {
+            let level = level_of(counts, &self.made, &self.prefix, &self.classes, len);
+            return level::words_with(level, &self.prefix, &self.classes, row, i);
+        }
+        // Most prefixes have few rows to be tried, and their counts are never made.
+        make(
+            counts,
+            &mut self.made,
+            &self.prefix,
+            &self.classes,
+            len - 1,
+            i + 2,
+        );
+        let level = level_of(counts, &self.made, &self.prefix, &self.classes, len - 1);
+        level::words_with_both(level, &self.prefix, &self.classes, row, i)
     }
 
     /// Whether the pattern is less than another of s entries.
@@ -146,8 +159,16 @@ impl Tally {
     {
         let weights = usize::from(self.prefix.shape().s) + 1;
         let counts = self.counts.as_mut_slice();
-        make(counts, &mut self.made, &self.prefix, &self.classes, weights);
-        let level = level_of(counts, &self.made, &self.prefix, &self.classes);
+        let len = self.prefix.len();
+        make(
+            counts,
+            &mut self.made,
+            &self.prefix,
+            &self.classes,
+            len,
+            weights,
+        );
+        let level = level_of(counts, &self.made, &self.prefix, &self.classes, len);
         level::less_than(level, &self.prefix, &self.classes, other.as_slice())
     }
 
@@ -163,8 +184,16 @@ impl Tally {
     {
         let weights = usize::from(self.prefix.shape().s) + 1;
         let counts = self.counts.as_mut_slice();
-        make(counts, &mut self.made, &self.prefix, &self.classes, weights);
-        let level = level_of(counts, &self.made, &self.prefix, &self.classes);
+        let len = self.prefix.len();
+        make(
+            counts,
+            &mut self.made,
+            &self.prefix,
+            &self.classes,
+            len,
+            weights,
+        );
+        let level = level_of(counts, &self.made, &self.prefix, &self.classes, len);
         level::pattern(alloc, level, &self.prefix, &self.classes)
     }
 }
@@ -187,20 +216,21 @@ pub fn pattern_of(alloc: Global, matrix: &Matrix) -> Result<Pattern, NoMemory>
     tally.pattern(alloc)
 }
 
-/// The counts of all rows of the prefix, as far as they are made.
+/// The counts of the first k rows of the prefix, as far as they are made.
 fn level_of<'a>(
     counts: &'a [u128],
     made: &[usize],
     prefix: &Matrix,
     classes: &Classes,
+    k: usize,
 ) -> &'a [u128]
-    requires { IsTally prefix.now.shape classes.now.points prefix.now.rows counts.now made.now }
-    ensures { IsLevel prefix.now.shape.q prefix.now.shape.m (slice_index made.now (length prefix.now.rows))
-        (vectors_of prefix.now.shape.q prefix.now.shape.m prefix.now.rows) classes.now.points result.now }
+    requires counts { IsTally prefix.now.shape classes.now.points prefix.now.rows counts.now made.now }
+    requires rows { k ≤ length prefix.now.rows }
+    ensures { IsLevel prefix.now.shape.q prefix.now.shape.m (slice_index made.now k)
+        (vectors_of prefix.now.shape.q prefix.now.shape.m (take k prefix.now.rows)) classes.now.points result.now }
 {
-    let len = prefix.len();
-    let from = len * level_size(prefix.shape(), classes);
-    &counts[from..from + made[len] * classes.len()]
+    let from = k * level_size(prefix.shape(), classes);
+    &counts[from..from + made[k] * classes.len()]
 }
 
 /// How many counts there are for a number of rows.
@@ -231,19 +261,48 @@ fn counts_of_no_rows(alloc: Global, shape: Shape, classes: &Classes) -> Result<V
     Ok(counts)
 }
 
-/// Makes the counts of the first `weights` weights, as far as they are not made.
-fn make(counts: &mut [u128], made: &mut [usize], prefix: &Matrix, classes: &Classes, weights: usize)
+/// Makes the counts of the first `weights` weights for each number of rows up to `rows`, as far as they are not
+/// made.
+fn make(
+    counts: &mut [u128],
+    made: &mut [usize],
+    prefix: &Matrix,
+    classes: &Classes,
+    rows: usize,
+    weights: usize,
+)
     requires counts { IsTally prefix.now.shape classes.now.points prefix.now.rows counts.old made.old }
     requires classes { AreOf prefix.now.shape classes.now }
+    requires rows { rows ≤ length prefix.now.rows }
     requires weights { weights ≤ prefix.now.shape.s + 1 }
     ensures counts { IsTally prefix.now.shape classes.now.points prefix.now.rows counts.new made.new }
-    ensures made { weights ≤ slice_index made.new (length prefix.now.rows) }
+    ensures made { weights ≤ slice_index made.new rows }
 {
-    let len = prefix.len();
-    if made[len] >= weights {
+    if made[rows] >= weights {
         return;
     }
-    for k in 0..len {
+    make_all(counts, made, prefix, classes, rows, weights);
+}
+
+/// The same, where they are not all made.
+// Apart from the test before it, which is asked for each weight of each comparison.
+#[inline(never)]
+fn make_all(
+    counts: &mut [u128],
+    made: &mut [usize],
+    prefix: &Matrix,
+    classes: &Classes,
+    rows: usize,
+    weights: usize,
+)
+    requires counts { IsTally prefix.now.shape classes.now.points prefix.now.rows counts.old made.old }
+    requires classes { AreOf prefix.now.shape classes.now }
+    requires rows { rows ≤ length prefix.now.rows }
+    requires weights { weights ≤ prefix.now.shape.s + 1 }
+    ensures counts { IsTally prefix.now.shape classes.now.points prefix.now.rows counts.new made.new }
+    ensures made { weights ≤ slice_index made.new rows }
+{
+    for k in 0..rows {
         make_next(counts, made, prefix, classes, k, weights);
     }
 }

@@ -243,6 +243,9 @@ walk_child-returns-in_default-clause-ended g t c =
           w.marks v.marks u.marks u.prefix.rows d refl o.expanded o.part o.marks end c.in_default.not-Closed h.ends;
     }
 
+pub walk_below-falls-falls-requires : goal.walk_below-falls-falls-requires
+walk_below-falls-falls-requires g t c = record { shape = c.requires.at.candidates }
+
 pub walk_below-first_row-first-requires : goal.walk_below-first_row-first-requires
 walk_below-first_row-first-requires g t c = record { valid = c.requires.at.valid; shape = c.requires.at.candidates }
 
@@ -273,11 +276,12 @@ walk_below-loop-row-init g t c =
       };
     }
 
-pub walk_below-may_follow-requires : goal.walk_below-may_follow-requires
-walk_below-may_follow-requires g t c = record {
+pub walk_below-may_follow_where-requires : goal.walk_below-may_follow_where-requires
+walk_below-may_follow_where-requires g t c = record {
   valid = c.requires.at.valid;
   shape = c.requires.at.candidates;
   rank = c.requires.front.rank;
+  falls = c.falls-falls.ensures;
   below = omega (arith, c.loop-row.auto.row, c.loop-row-test.true, c.row_bound-row.ensures.most);
 }
 
@@ -292,7 +296,7 @@ walk_below-walk_child-requires g t c κs within =
     let r : ℕ = c.loop-row.row - 1 in
     let next =
     next-child question c.requires.at.valid q c.args.front i.done c.loop-row.row _ c.requires.inner.canonical
-    c.requires.front (omega (arith, c.loop-row-test.true)) c.may_follow.ensures c.if-may_follow.true i.left in
+    c.requires.front (omega (arith, c.loop-row-test.true)) c.may_follow_where.ensures c.if-may_follow_where.true i.left in
     let below : r < (search_tree p).rows =
     omega (arith, c.loop-row.auto.row, c.loop-row-test.true, c.row_bound-row.ensures.most) in
     let best : IsBestAt p (is_counted (ranked p) (q ++ r ∷ [])) (g.I.Incumbent.standing v.incumbent).best =
@@ -351,7 +355,7 @@ walk_below-returns-in_default-clause-ended g t c =
     let r : ℕ = c.loop-row.row - 1 in
     let next =
     next-child question c.requires.at.valid q c.args.front i.done c.loop-row.row _ c.requires.inner.canonical
-    c.requires.front (omega (arith, c.loop-row-test.true)) c.may_follow.ensures c.if-may_follow.true i.left in
+    c.requires.front (omega (arith, c.loop-row-test.true)) c.may_follow_where.ensures c.if-may_follow_where.true i.left in
     let stopped : Bool = g.C.Cutter.stopped c.walk_child.new.cutter in
     let end = c.in_ok-end.end in
     let h = rw (i.at.question_is, i.prefix, i.limit) at c.in_ok-end.ensures.ended in
@@ -376,7 +380,7 @@ walk_below-loop-row-preserved-in-Closed g t c =
     let r : ℕ = c.loop-row.row - 1 in
     let next =
     next-child question c.requires.at.valid q c.args.front i.done c.loop-row.row _ c.requires.inner.canonical
-    c.requires.front (omega (arith, c.loop-row-test.true)) c.may_follow.ensures c.if-may_follow.true i.left in
+    c.requires.front (omega (arith, c.loop-row-test.true)) c.may_follow_where.ensures c.if-may_follow_where.true i.left in
     let h = rw (i.at.question_is, i.prefix, i.limit, c.in-Closed.is) at c.in_ok-end.ensures.ended in
     let best = rw next.1 at h.best in
     let step =
@@ -434,7 +438,7 @@ walk_below-loop-row-preserved g t c =
     let up : c.loop-row.row ≡ suc r = omega (arith, c.loop-row-test.true) in
     let fails : (search_tree p).canonical (q ++ r ∷ []) ≡ false =
     sym (follow_at question c.requires.at.valid q c.args.front r c.requires.inner.canonical c.requires.front.front_is) ∙
-    sym c.may_follow.ensures ∙ c.if-may_follow.false in
+    sym c.may_follow_where.ensures ∙ c.if-may_follow_where.false in
     let i = c.loop-row.invariant in
     record {
       at = i.at;

@@ -4,7 +4,7 @@ use Rattle.std.specs.List.{list_any}
 use Rattle.fx_designs.specs.Galois.{codes_of}
 use Rattle.fx_points.specs.Points.{has, no_points}
 use Rattle.fx_points.specs.Sums.{sum_of}
-use Rattle.fx_barred.proofs.reached.fill_next.Given as goal
+use Rattle.fx_barred.proofs.reached.fill_heavier.Given as goal
 
 abbrev pub invariant-loop-w : goal.invariant-loop-w
 invariant-loop-w l = record {
