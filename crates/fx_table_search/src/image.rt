@@ -1,0 +1,50 @@
+ghost use Rattle.std.specs.Prelude.{◌≡◌, ◌<◌, ◌^◌, true, All, IfSome, length};
+
+use crate::bits::change_of_bits;
+use crate::multiples::change_of_multiples;
+use arrayvec::ArrayVec;
+use fx_images::has_earlier_image;
+use fx_tables::MOST_INDEXES;
+use fx_vectors::Matrix;
+
+/// An exchange of the run indexes for factors of the prefix whose image stands before it, if one is found.
+pub(crate) fn earlier_image(prefix: &Matrix) -> Option<ArrayVec<u16, MOST_INDEXES>>
+    ensures count { IfSome result (λ change. length change.items ≡ prefix.now.shape.m) }
+    ensures below { IfSome result (λ change. All (λ a. a < prefix.now.shape.q ^ prefix.now.shape.m) change.items) }
+{
+    let shape = prefix.shape();
+    if prefix.len() <= usize::from(shape.m) {
+        return None;
+    }
+    let change = likely_change(prefix)?;
+    if change.len() != usize::from(shape.m) || !are_below(change.as_slice(), shape.runs()) {
+        return None;
+    }
+    if has_earlier_image(prefix, change.as_slice()) {
+        Some(change)
+    } else {
+        None
+    }
+}
+
+/// A change that was found to be one.
+fn likely_change(prefix: &Matrix) -> Option<ArrayVec<u16, MOST_INDEXES>> {
+    if prefix.shape().q == 2 {
+        change_of_bits(prefix)
+    } else {
+        change_of_multiples(prefix)
+    }
+}
+
+/// Whether each number is below the bound.
+#[tactic(auto, using(crate::proofs::Walks::below_more, crate::proofs::Walks::below_all))]
+fn are_below(numbers: &[u16], bound: u16) -> bool
+    ensures { result ≡ true → All (λ n. n < bound) numbers.now }
+{
+    for n in numbers {
+        if *n >= bound {
+            return false;
+        }
+    }
+    true
+}
