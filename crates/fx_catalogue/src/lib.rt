@@ -7,4 +7,4 @@ mod listing;
 
 pub use laws::{budget_ends_where_passed, lines_are_of_all_matrices, none_with_more_factors};
 pub use line::{Line, least_line};
-pub use listing::{put_head, put_line};
+pub use listing::{put_head, put_line, put_pattern};

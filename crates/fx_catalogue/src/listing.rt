@@ -69,8 +69,12 @@ fn put_least(out: &mut Bytes, pattern: &Pattern, nodes: u64) -> Result<(), NoMem
     put_pattern(out, pattern)
 }
 
-/// Appends the resolution and the pattern of a design.
-fn put_pattern(out: &mut Bytes, pattern: &Pattern) -> Result<(), NoMemory>
+/// Appends the resolution and the word-length pattern of a design.
+///
+/// # Errors
+///
+/// `NoMemory`.
+pub fn put_pattern(out: &mut Bytes, pattern: &Pattern) -> Result<(), NoMemory>
     requires { length pattern.now ≤ 254 }
     ensures { OnOk result (out.new ≡ out.old
         ++ (codes " resolution " ++ (decimal (resolution_of pattern.now) ++ counts_from 1 pattern.now))) }

@@ -1,11 +1,11 @@
 mod Wording
 mod Reading
-mod Endings
-mod Limits
-mod SoFar
-mod Stages
+pub mod Endings
+pub mod Limits
+pub mod SoFar
+pub mod Stages
 pub mod CatalogueLines
-mod Filing
+pub mod Filing
 mod Filling
 mod Planned
 mod Given
@@ -15,7 +15,7 @@ pub mod Statuses
 pub mod CatalogueClaims
 mod Summing
 pub mod ProvedBooks
-mod Commands
+pub mod Commands
 pub mod Made
 pub mod GivenOptions
 mod WordFaults

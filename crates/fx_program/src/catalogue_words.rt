@@ -20,8 +20,13 @@ use fx_vectors::{MOST_FACTORS, MOST_FACTORS_OF_MANY_LEVELS};
 /// How many nodes each question of a catalogue may have, where no option says it.
 const USUAL_NODES: u64 = 1000000;
 
-/// The settings of `catalogue`: the numbers of levels, of run indexes and of the most factors, and then the options.
-pub(crate) fn catalogue_with(words: &[Vec<u8>]) -> Result<Settings, WordFault>
+/// The settings of `catalogue`, by the words after it: the numbers of levels, of run indexes and of the most factors,
+/// and then the options. Takes no memory.
+///
+/// # Errors
+///
+/// The first fault of the words, of which the first is word 2.
+pub fn catalogue_with(words: &[Vec<u8>]) -> Result<Settings, WordFault>
     ensures threads { IfOk result HasThreads }
     ensures order { IfOk result HasOrder }
     ensures shapes { IfOk result HasShapes }

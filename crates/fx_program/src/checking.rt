@@ -34,7 +34,7 @@ use std::alloc::Global;
 pub(crate) const BOOK_LIMIT: usize = 268435456;
 
 /// The fault of a text that is longer than that.
-pub(crate) const TOO_LONG: BookFault = BookFault {
+pub const TOO_LONG: BookFault = BookFault {
     kind: FaultKind::TooLong,
     line: 1,
 };
@@ -98,8 +98,12 @@ fn status_of(verdict: Verdict) -> u8
     }
 }
 
-/// Lists where a text is no book, and why.
-pub(crate) fn refuse_book<K: Sink>(
+/// Lists where a text is no book, and why. The status is 1.
+///
+/// # Errors
+///
+/// `Failed` where a call on the listing failed, and `NoMemory`.
+pub fn refuse_book<K: Sink>(
     alloc: Global,
     fault: BookFault,
     listing: &mut K,
@@ -126,7 +130,11 @@ fn put_verdict(out: &mut Bytes, head: &Head, verdict: Verdict) -> Result<(), NoM
 }
 
 /// Appends the line that names the place of a fault and, by a letter and a number, its kind.
-fn put_rejected(out: &mut Bytes, line: u32, letter: &[u8], code: u8) -> Result<(), NoMemory>
+///
+/// # Errors
+///
+/// `NoMemory`.
+pub fn put_rejected(out: &mut Bytes, line: u32, letter: &[u8], code: u8) -> Result<(), NoMemory>
     ensures { OnOk result (out.new ≡ out.old ++ rejected_line line letter.now code) }
 {
     put(out, b"rejected line ")?;

@@ -23,8 +23,12 @@ mod upgrading;
 pub mod word_code;
 mod words;
 
+pub use catalogue_words::catalogue_with;
+pub use checking::{TOO_LONG, put_rejected, refuse_book};
+pub use listing::list;
 pub use making::make_text;
 pub use run::factex;
-pub use stop::NO_MEMORY;
+pub use status::worse;
+pub use stop::{NO_MEMORY, REFUSED, Stop, exit_status};
 pub use text::{TextFault, TextStop, read_program};
-pub use words::{Settings, WordFault, read_words};
+pub use words::{Settings, WordFault, append, read_words, word_line};

@@ -7,7 +7,11 @@ use crate::stop::Stop;
 use fx_base::{Sink, write_all};
 
 /// Writes a piece of the listing, and returns the status.
-pub(crate) fn list<K: Sink>(listing: &mut K, bytes: &[u8], status: u8) -> Result<u8, Stop>
+///
+/// # Errors
+///
+/// `Failed` where a call on the listing failed.
+pub fn list<K: Sink>(listing: &mut K, bytes: &[u8], status: u8) -> Result<u8, Stop>
     requires { status < 4 }
     ensures status { (result ≡ Ok status) ⊎ (result ≡ Err stop.Failed) }
     ensures output { Lists (message bytes.now status)

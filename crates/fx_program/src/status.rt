@@ -20,7 +20,7 @@ pub(crate) fn status_of(end: End) -> u8
 }
 
 /// The greater of two statuses.
-pub(crate) fn worse(a: u8, b: u8) -> u8
+pub fn worse(a: u8, b: u8) -> u8
     ensures { result ≡ worse a b }
 {
     if a <= b { b } else { a }

@@ -5,7 +5,7 @@ use fx_base::{Failed, NoMemory, ReadStop};
 use fx_book::WriteStop;
 
 /// The exit status where the words or the text are refused.
-pub(crate) const REFUSED: u8 = 3;
+pub const REFUSED: u8 = 3;
 
 /// The exit status where a call on an object outside failed.
 const FAILED: u8 = 4;
@@ -74,7 +74,7 @@ impl From<WriteStop> for Stop {
 
 /// The exit status of a program that ended with this status of its steps or of a refusal, or was
 /// stopped.
-pub(crate) fn exit_status(ended: Result<u8, Stop>) -> u8
+pub fn exit_status(ended: Result<u8, Stop>) -> u8
     ensures { result ≡ exit_status ended }
 {
     match ended {

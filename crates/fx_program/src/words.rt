@@ -468,7 +468,7 @@ fn are_digits(bytes: &[u8]) -> bool
 
 /// The line that reports a fault. It takes no memory, so that refused words are reported even where
 /// there is none.
-pub(crate) fn word_line(fault: WordFault) -> ArrayVec<u8, LINE>
+pub fn word_line(fault: WordFault) -> ArrayVec<u8, LINE>
     ensures { result.items ≡ word_line fault }
 {
     let mut code = Buffer::new();
@@ -483,7 +483,7 @@ pub(crate) fn word_line(fault: WordFault) -> ArrayVec<u8, LINE>
 }
 
 /// Appends bytes for which there is room.
-pub(crate) fn append<const N: usize>(line: &mut ArrayVec<u8, N>, bytes: &[u8])
+pub fn append<const N: usize>(line: &mut ArrayVec<u8, N>, bytes: &[u8])
     requires { length line.old.items + length bytes.now ≤ N }
     ensures { line.new.items ≡ line.old.items ++ bytes.now }
 {
