@@ -1,2 +1,2 @@
 mod Filing
-mod Untouched
+pub mod Untouched

@@ -6,7 +6,7 @@ use Rattle.fx_base.proofs.Doing.{part_none}
 use Rattle.fx_program.specs.Commands.{Command, command_in}
 use Rattle.fx_program.specs.Outside.{GivesForSome}
 
-nothing_given : {old : World} (command : Command) (left : Option (List ℕ)) (status : ℕ) → 4 ≤ status
+pub nothing_given : {old : World} (command : Command) (left : Option (List ℕ)) (status : ℕ) → 4 ≤ status
     → GivesForSome command left old old status
 nothing_given {old} command left status high = record {
   text = unwrap_or left [];
