@@ -2,7 +2,7 @@
 # Makes each table of catalogue.txt anew, compares it, and has each of its books checked by the program and by the second
 # checker, which takes most of the time: some ten minutes for a book of 20 MB. The gate does not run it.
 #
-# usage: bench/catalogue.sh PROGRAM [PART]      with PART only the tables whose command has it, as '2 4 '
+# usage: bench/catalogue.sh ./factex [PART]     with PART only the tables whose command has it, as '2 4 ' or 'tables '
 set -euo pipefail
 program=$(realpath "$1")
 part=${2:-}
@@ -27,9 +27,10 @@ for table in $(ls "$folder" | sed -n 's/\.words$//p' | sort -n); do
         exit 1
     fi
     made=$((SECONDS - start))
-    count=0
+    count=0 check=(check)
+    if [ "${words[0]}" = tables ]; then check=(tables check); fi
     for book in "$folder"/run/*.book; do
-        "$program" check < "$book" > "$folder/ours"
+        "$program" "${check[@]}" < "$book" > "$folder/ours"
         python3 "$top/check/check_book.py" < "$book" > "$folder/theirs"
         cmp "$folder/ours" "$folder/theirs"
         count=$((count + 1))

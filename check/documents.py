@@ -3,8 +3,8 @@
 
 Usage: documents.py COMMAND ..    as documents.py ./factex, or documents.py ./factex try, which keeps no files
 
-A block of code that is a program text is run, and so is a block that begins with a `judge`, `large` or `catalogue`
-command; what follows the command in its block has to be printed. So are the tables of bench/catalogue.txt. Catalogues of
+A block of code that is a program text is run, and so is a block that begins with a `judge`, `large`, `catalogue` or
+`tables` command; what follows the command in its block has to be printed. So are the tables of bench/catalogue.txt. Catalogues of
 more than 27 runs take long, and are left to bench/catalogue.sh. A block of EXAMINE and OUTPUT statements is added to the program before it. A block that begins
 like a listing, a plan or a table of runs has to be a part of what the last program or command of its page printed or
 wrote. Prints each block that is not, and ends with status 1 if there is one.
@@ -19,14 +19,14 @@ TOP = pathlib.Path(__file__).resolve().parent.parent
 TABLES = TOP / "bench" / "catalogue.txt"
 PAGES = [
     TOP / "README.md",
-    *(TOP / "docs" / f"{it}.md" for it in ("GUIDE", "LANGUAGE", "PLANS", "JUDGE", "COMMANDS", "CATALOGUE")),
+    *(TOP / "docs" / f"{it}.md" for it in ("GUIDE", "LANGUAGE", "PLANS", "JUDGE", "COMMANDS", "CATALOGUE", "TABLES")),
     TABLES,
 ]
 LISTING = re.compile(
-    r"(steps?|factors|resolution|budget|nodes|book|output|plan|catalogue) \S"
+    r"(steps?|factors|resolution|budget|nodes|book|output|plan|catalogue|table|rules) \S"
     r"|(no )?design |rules$|points |blocked|aliasing|aberration|  \S"
 )
-COMMAND = re.compile(r"\./factex (judge \d|large \d+|catalogue (\d) (\d+) \d+( --nodes=\d+)?)( < (\S+))?")
+COMMAND = re.compile(r"\./factex (judge \d|large \d+|(?:catalogue|tables) (\d) (\d+) \d+( --nodes=\d+)?)( < (\S+))?")
 MOST_RUNS = 27
 
 

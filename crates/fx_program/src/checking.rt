@@ -103,11 +103,7 @@ fn status_of(verdict: Verdict) -> u8
 /// # Errors
 ///
 /// `Failed` where a call on the listing failed, and `NoMemory`.
-pub fn refuse_book<K: Sink>(
-    alloc: Global,
-    fault: BookFault,
-    listing: &mut K,
-) -> Result<u8, Stop>
+pub fn refuse_book<K: Sink>(alloc: Global, fault: BookFault, listing: &mut K) -> Result<u8, Stop>
     ensures { Lists (message (book_fault_line fault) 1)
         (sink_view K.Sink listing.old) (sink_view K.Sink listing.new) result }
 {

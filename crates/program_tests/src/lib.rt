@@ -14,6 +14,8 @@ mod judge;
 mod plan;
 #[cfg(test)]
 mod program;
+#[cfg(test)]
+mod tables;
 
 // A helper ends the test where memory runs out, by `expect`, and hands on no error: each way out of a function is
 // proved, with all that is dropped on it.

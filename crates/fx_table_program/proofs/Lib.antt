@@ -1,0 +1,4 @@
+mod OfCatalogue
+mod Tabulated
+mod Checked
+mod Given

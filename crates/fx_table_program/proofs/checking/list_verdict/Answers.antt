@@ -1,0 +1,24 @@
+use Rattle.std.proofs.Common.{◌++◌, sym, ap, ap₂, ◌∙◌}
+use Rattle.fx_program.specs.Output.{message}
+use Rattle.fx_program.proofs.Endings.{lists_by, lists_none}
+use Rattle.fx_tables.specs.declared.reason.Verdict.{Verdict}
+use Rattle.fx_table_program.specs.Commands.{verdict_lines, verdict_status}
+use Rattle.fx_table_program.proofs.checking.list_verdict.Goals as goal
+
+pub returns-in_err-verdict-clause-output : goal.returns-in_err-verdict-clause-output
+returns-in_err-verdict-clause-output g c = lists_none _ c.from_residual.result c.from_residual.ensures.1 _
+
+pub returns-in_err-put_verdict-clause-output : goal.returns-in_err-put_verdict-clause-output
+returns-in_err-put_verdict-clause-output g c =
+    lists_none _ c.from_residual-in_err-put_verdict.result c.from_residual-in_err-put_verdict.ensures.1 _
+
+pub returns-clause-output : goal.returns-clause-output
+returns-clause-output g c =
+    let verdict : Verdict = c.in_ok-verdict.verdict in
+    let lines = c.as_slice.ensures ∙ c.in_ok-put_verdict.ensures
+    ∙ ap (λ l. l ++ verdict_lines c.args.book.now.head verdict) c.new-lines.ensures in
+    lists_by
+    (sym (ap₂ message lines c.status_of.ensures.status
+    ∙ ap (λ (v : Verdict). message (verdict_lines c.args.book.now.head v) (verdict_status v))
+    c.in_ok-verdict.ensures.verdict))
+    c.list.ensures.output

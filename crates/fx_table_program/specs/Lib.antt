@@ -1,0 +1,4 @@
+pub mod Tables
+pub mod Listing
+pub mod CommandLine
+pub mod Commands
