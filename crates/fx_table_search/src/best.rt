@@ -1,6 +1,6 @@
 use fx_vectors::{Matrix, Pattern};
 
-/// A whole matrix, and its pattern, which none found before it was below.
+/// The whole matrix of the least pattern found so far, and its pattern.
 #[derive(Drop)]
 pub(crate) struct Best {
     pub matrix: Matrix,

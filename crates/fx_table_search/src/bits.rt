@@ -4,14 +4,17 @@ use fx_tables::MOST_INDEXES;
 use fx_tree::PointSet;
 use fx_vectors::Matrix;
 
-/// A change at two levels that takes the prefix to one that stands before it, if one is found: a unit vector is
-/// exchanged for a row, and then the run indexes are ordered.
-pub(crate) fn change_of_bits(prefix: &Matrix) -> Option<ArrayVec<u16, MOST_INDEXES>> {
+/// A change at two levels by which the image of the prefix is before it, if one is found: a unit vector is exchanged
+/// for a row, and then the run indexes are ordered.
+pub(crate) fn change_of_bits(
+    prefix: &Matrix,
+    turns: &mut u32,
+) -> Option<ArrayVec<u16, MOST_INDEXES>> {
     let own = points_over(prefix, 1, 1);
     for k in 0..prefix.len() {
-        // By the first unit vector nothing is exchanged, and the others give the same.
+        // An exchange for a unit vector changes nothing, so the first is enough.
         if k == 0 || k >= usize::from(prefix.shape().m) {
-            let change = change_by_row(prefix, &own, prefix.row(k));
+            let change = change_by_row(prefix, &own, prefix.row(k), turns);
             if change.is_some() {
                 return change;
             }
@@ -21,13 +24,19 @@ pub(crate) fn change_of_bits(prefix: &Matrix) -> Option<ArrayVec<u16, MOST_INDEX
 }
 
 /// The same by an exchange for this row.
-fn change_by_row(prefix: &Matrix, own: &PointSet, row: u16) -> Option<ArrayVec<u16, MOST_INDEXES>> {
+fn change_by_row(
+    prefix: &Matrix,
+    own: &PointSet,
+    row: u16,
+    turns: &mut u32,
+) -> Option<ArrayVec<u16, MOST_INDEXES>> {
     let shape = prefix.shape();
     for i in 0..shape.m {
         let unit = 1u16 << i;
-        if row & unit != 0 {
+        if row & unit != 0 && *turns > 0 {
+            *turns = turns.saturating_sub(prefix.len() as u32);
             let points = points_over(prefix, unit, row);
-            if let Some(order) = earlier_order(own, &points, shape.runs()) {
+            if let Some(order) = earlier_order(own, &points, shape.runs(), turns) {
                 return Some(change_of(order.as_slice(), unit, row));
             }
         }
@@ -59,7 +68,7 @@ fn insert(points: &mut PointSet, point: u16) {
     }
 }
 
-/// The change that first exchanges the unit vector for the row, and then gives the bits this order.
+/// The change that exchanges the unit vector for the row, and then puts the bits in this order.
 fn change_of(order: &[u16], unit: u16, row: u16) -> ArrayVec<u16, MOST_INDEXES> {
     let mut change = ArrayVec::new();
     for bit in order {

@@ -7,8 +7,9 @@ use fx_images::has_earlier_image;
 use fx_tables::MOST_INDEXES;
 use fx_vectors::Matrix;
 
-/// An exchange of the run indexes for factors of the prefix whose image stands before it, if one is found.
-pub(crate) fn earlier_image(prefix: &Matrix) -> Option<ArrayVec<u16, MOST_INDEXES>>
+/// A change of the run indexes by which the image of the prefix is before it, if one is found within so many turns,
+/// which are counted down.
+pub(crate) fn earlier_image(prefix: &Matrix, turns: &mut u32) -> Option<ArrayVec<u16, MOST_INDEXES>>
     ensures count { IfSome result (λ change. length change.items ≡ prefix.now.shape.m) }
     ensures below { IfSome result (λ change. All (λ a. a < prefix.now.shape.q ^ prefix.now.shape.m) change.items) }
 {
@@ -16,7 +17,7 @@ pub(crate) fn earlier_image(prefix: &Matrix) -> Option<ArrayVec<u16, MOST_INDEXE
     if prefix.len() <= usize::from(shape.m) {
         return None;
     }
-    let change = likely_change(prefix)?;
+    let change = likely_change(prefix, turns)?;
     if change.len() != usize::from(shape.m) || !are_below(change.as_slice(), shape.runs()) {
         return None;
     }
@@ -27,12 +28,12 @@ pub(crate) fn earlier_image(prefix: &Matrix) -> Option<ArrayVec<u16, MOST_INDEXE
     }
 }
 
-/// A change that was found to be one.
-fn likely_change(prefix: &Matrix) -> Option<ArrayVec<u16, MOST_INDEXES>> {
+/// A change that is likely to be one. It is still to be tested.
+fn likely_change(prefix: &Matrix, turns: &mut u32) -> Option<ArrayVec<u16, MOST_INDEXES>> {
     if prefix.shape().q == 2 {
-        change_of_bits(prefix)
+        change_of_bits(prefix, turns)
     } else {
-        change_of_multiples(prefix)
+        change_of_multiples(prefix, turns)
     }
 }
 

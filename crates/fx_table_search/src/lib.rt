@@ -1,5 +1,5 @@
-//! The search for the tables of least patterns: a matrix of least pattern for so many factors in so many runs, with a
-//! book that proves it and that the checker has accepted.
+//! Searches for the lines of tables: a matrix of least pattern for a number of factors in q^m runs, with a book that
+//! proves it and that the checker has accepted.
 #![tactic(auto)]
 
 mod best;

@@ -25,7 +25,7 @@ pub enum TableLine {
     Nothing {
         book: TableBook,
     },
-    /// Nothing is proved by so many entries.
+    /// Nothing is proved within this number of entries.
     Open {
         entries: u32,
     },

@@ -6,10 +6,10 @@ use fx_demands::sum_with;
 use fx_galois::Field;
 use fx_tables::MOST_INDEXES;
 use fx_tree::PointSet;
-use fx_vectors::{Matrix, Shape, Vector};
+use fx_vectors::{Matrix, Shape};
 
-/// The most orders with their multiples that are tried for one exchange.
-const MOST_SCALINGS: u32 = 50_000;
+/// How many turns an order with its multiples takes, which is compared row by row.
+const SCALING: u32 = 8;
 
 /// A unit vector that is exchanged for a row, and the code of the row there.
 #[derive(Clone, Copy)]
@@ -29,13 +29,16 @@ struct Place {
 /// An order of the run indexes, each times a code.
 type Scaling = ArrayVec<Place, MOST_INDEXES>;
 
-/// A change at more than two levels that takes the prefix to one that stands before it, if one is found: a unit
-/// vector is exchanged for a row, and then the run indexes are ordered and multiplied.
-pub(crate) fn change_of_multiples(prefix: &Matrix) -> Option<ArrayVec<u16, MOST_INDEXES>> {
+/// A change at more than two levels by which the image of the prefix is before it, if one is found: a unit vector is
+/// exchanged for a row, and then the run indexes are ordered and multiplied.
+pub(crate) fn change_of_multiples(
+    prefix: &Matrix,
+    turns: &mut u32,
+) -> Option<ArrayVec<u16, MOST_INDEXES>> {
     for k in 0..prefix.len() {
-        // By the first unit vector nothing is exchanged, and the others give the same.
+        // An exchange for a unit vector changes nothing, so the first is enough.
         if k == 0 || k >= usize::from(prefix.shape().m) {
-            let change = change_by_row(prefix, prefix.row(k));
+            let change = change_by_row(prefix, prefix.row(k), turns);
             if change.is_some() {
                 return change;
             }
@@ -45,7 +48,7 @@ pub(crate) fn change_of_multiples(prefix: &Matrix) -> Option<ArrayVec<u16, MOST_
 }
 
 /// The same by an exchange for this row.
-fn change_by_row(prefix: &Matrix, row: u16) -> Option<ArrayVec<u16, MOST_INDEXES>>
+fn change_by_row(prefix: &Matrix, row: u16, turns: &mut u32) -> Option<ArrayVec<u16, MOST_INDEXES>>
     requires { row < prefix.now.shape.q ^ prefix.now.shape.m }
 {
     let shape = prefix.shape();
@@ -53,10 +56,11 @@ fn change_by_row(prefix: &Matrix, row: u16) -> Option<ArrayVec<u16, MOST_INDEXES
         // The first rows are the unit vectors.
         let unit = prefix.row(i);
         let code = code_at(shape.field(), row, unit);
-        if code != 0 {
+        if code != 0 && *turns > 0 {
+            *turns = turns.saturating_sub(prefix.len() as u32);
             let exchange = Exchange { unit, row, code };
             let points = points_over(prefix, exchange);
-            if let Some(scaling) = earlier_scaling(prefix, &points) {
+            if let Some(scaling) = earlier_scaling(prefix, &points, turns) {
                 return Some(change_of(shape, &scaling, exchange));
             }
         }
@@ -127,9 +131,11 @@ fn insert_multiples(points: &mut PointSet, shape: Shape, point: u16)
     }
 }
 
-/// A scaling of the points that stands before the prefix, if one is found.
-fn earlier_scaling(prefix: &Matrix, points: &PointSet) -> Option<Scaling> {
-    for number in 0..scaling_count(prefix.shape()) {
+/// A scaling by which the points are before the prefix, if one is found.
+fn earlier_scaling(prefix: &Matrix, points: &PointSet, turns: &mut u32) -> Option<Scaling> {
+    let most = scaling_count(prefix.shape()).min(*turns / SCALING);
+    for number in 0..most {
+        *turns = turns.saturating_sub(SCALING);
         let scaling = scaling_of(prefix, number);
         if is_earlier(prefix, points, &scaling) {
             return Some(scaling);
@@ -138,7 +144,7 @@ fn earlier_scaling(prefix: &Matrix, points: &PointSet) -> Option<Scaling> {
     None
 }
 
-/// How many scalings are tried: all, where they are few. One code is 1, since multiples of a point count as the point.
+/// The number of scalings. The last code is 1, since a multiple of a point counts as the point.
 fn scaling_count(shape: Shape) -> u32 {
     let mut count = 1u32;
     for i in 1..shape.m {
@@ -146,7 +152,7 @@ fn scaling_count(shape: Shape) -> u32 {
             .saturating_mul(u32::from(i) + 1)
             .saturating_mul(u32::from(shape.q.saturating_sub(1)));
     }
-    count.min(MOST_SCALINGS)
+    count
 }
 
 /// The scaling of a number, whose digits to changing bases choose a unit vector of those that are left, and its code.
@@ -182,7 +188,7 @@ fn first_units(prefix: &Matrix) -> ArrayVec<u16, MOST_INDEXES> {
     units
 }
 
-/// Whether the image stands before the prefix: at the first difference it has the greater row.
+/// Whether the image is before the prefix: at the first difference it has the greater row.
 fn is_earlier(prefix: &Matrix, points: &PointSet, scaling: &Scaling) -> bool {
     let shape = prefix.shape();
     let mut k = usize::from(shape.m);
@@ -191,18 +197,28 @@ fn is_earlier(prefix: &Matrix, points: &PointSet, scaling: &Scaling) -> bool {
         if own {
             k += 1;
         }
-        if is_later(prefix, row) && has_image(shape, points, scaling, row) != own {
+        if may_follow_units(shape, row) && has_image(shape, points, scaling, row) != own {
             return !own;
         }
     }
     false
 }
 
-/// Whether a row is normal, and no unit vector.
-fn is_later(prefix: &Matrix, row: u16) -> bool {
-    let shape = prefix.shape();
-    let vector = Vector::of_number(shape.field(), usize::from(shape.m), u128::from(row));
-    vector.is_normal() && vector.weight() > 1
+/// Whether a row is normal, and no unit vector, so that it may follow them: its first digit is 1, and another is not 0.
+fn may_follow_units(shape: Shape, row: u16) -> bool
+    requires { IsShape shape }
+{
+    let q = u16::from(shape.field().q());
+    let mut rest = row;
+    let mut unit = 1u16;
+    for _ in 0..MOST_INDEXES {
+        if rest < q {
+            return rest == 1 && row != unit;
+        }
+        rest /= q;
+        unit = unit.saturating_mul(q);
+    }
+    false
 }
 
 /// Whether the row is the image of a point.

@@ -2,19 +2,16 @@ use arrayvec::ArrayVec;
 use fx_tables::MOST_INDEXES;
 use fx_tree::PointSet;
 
-/// The most bits that are tried for the places of an order.
-const MOST_TURNS: u32 = 100_000;
-
-/// How an image compares with the prefix, as far as both are known.
+/// How an image compares with the prefix at some rows.
 #[derive(Clone, Copy, PartialEq, Eq)]
-enum Place {
+enum Comparison {
     Before,
     Same,
     After,
 }
 
-/// The first places of an order of the run indexes at two levels: which bit each takes. The greatest row has all bits,
-/// and those that follow lack bits of the first places alone, so a few places decide of the greatest rows.
+/// The first places of an order of the run indexes at two levels, with the bit of each. The greatest row has all bits,
+/// and the next ones lack bits of the first places alone, so a few places settle the greatest rows.
 #[derive(Drop)]
 struct Order {
     runs: u16,
@@ -29,12 +26,14 @@ struct Order {
     next: u16,
 }
 
-/// The bits in an order in which the points stand before others, if one is found. Place by place each bit that is left
-/// is tried, as long as no difference decides.
+/// The bits in an order in which the image is before the prefix, if one is found. `own` are the points of the prefix,
+/// `points` those that are ordered. At each place the bits that are left are tried, until a row differs. Each costs one
+/// of the turns.
 pub(crate) fn earlier_order(
     own: &PointSet,
     points: &PointSet,
     runs: u16,
+    turns: &mut u32,
 ) -> Option<ArrayVec<u16, MOST_INDEXES>> {
     let mut order = Order {
         runs,
@@ -45,18 +44,19 @@ pub(crate) fn earlier_order(
         next: 1,
     };
     let all = runs.saturating_sub(1);
-    match place_of(own, points, all, all) {
-        Place::Before => return Some(order.filled(1)),
-        Place::Same => {}
-        Place::After => return None,
+    match compared_at(own, points, all, all) {
+        Comparison::Before => return Some(order.filled(1)),
+        Comparison::Same => {}
+        Comparison::After => return None,
     }
-    for _turn in 0..MOST_TURNS {
+    for _turn in 0..*turns {
+        *turns = turns.saturating_sub(1);
         let bit = order.next_bit();
         if bit < runs {
-            match order.place_with(own, points, bit) {
-                Place::Before => return Some(order.filled(bit)),
-                Place::Same => order.push(bit),
-                Place::After => order.next = bit << 1,
+            match order.compared_with(own, points, bit) {
+                Comparison::Before => return Some(order.filled(bit)),
+                Comparison::Same => order.push(bit),
+                Comparison::After => order.next = bit << 1,
             }
         } else if order.len > 0 {
             order.pop();
@@ -68,13 +68,13 @@ pub(crate) fn earlier_order(
 }
 
 /// How the image of a point compares with the prefix at this row.
-fn place_of(own: &PointSet, points: &PointSet, point: u16, row: u16) -> Place {
+fn compared_at(own: &PointSet, points: &PointSet, point: u16, row: u16) -> Comparison {
     if has(points, point) == has(own, row) {
-        Place::Same
+        Comparison::Same
     } else if has(own, row) {
-        Place::After
+        Comparison::After
     } else {
-        Place::Before
+        Comparison::Before
     }
 }
 
@@ -95,19 +95,19 @@ impl Order {
         bit
     }
 
-    /// How the image compares with the prefix at the rows that the next place decides of, if it takes this bit.
-    fn place_with(&mut self, own: &PointSet, points: &PointSet, bit: u16) -> Place {
+    /// How the image compares with the prefix at the rows that the next place settles, if it takes this bit.
+    fn compared_with(&mut self, own: &PointSet, points: &PointSet, bit: u16) -> Comparison {
         let all = self.runs.saturating_sub(1);
         let count = (1usize << self.len.min(9)).min(512);
         for i in 0..count {
             let sum = self.sums[i] ^ bit;
             self.sums[count + i] = sum;
-            let place = place_of(own, points, all ^ sum, all ^ (count + i) as u16);
-            if place != Place::Same {
-                return place;
+            let found = compared_at(own, points, all ^ sum, all ^ (count + i) as u16);
+            if found != Comparison::Same {
+                return found;
             }
         }
-        Place::Same
+        Comparison::Same
     }
 
     /// Takes the bit at the next place, unless that is the last.

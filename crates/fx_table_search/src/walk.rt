@@ -17,27 +17,35 @@ use fx_vectors::{Mark, Matrix, Question};
 use fx_words::Tally;
 use std::alloc::Global;
 
-/// What a walk through the canonical prefixes came to.
+/// How many turns the search for images may take at first.
+const FIRST_TURNS: u32 = 1_000_000;
+
+/// How many more it may take with each entry, so that the time is bounded by the number of entries.
+const TURNS: u32 = 16_384;
+
+/// The result of a walk through the canonical prefixes.
 #[derive(Drop)]
 pub(crate) enum Walked {
     /// All prefixes have their entries, and there is no whole matrix.
     Nothing { entries: Items<Entry> },
     /// All prefixes have their entries.
     Least { best: Best, entries: Items<Entry> },
-    /// There are more entries than were to be made.
+    /// The book has more entries than the walk may make.
     Open,
 }
 
-/// Where a walk stands.
+/// A walk at a prefix, which is that of the tally.
 #[derive(Drop)]
 struct Walk {
     tally: Tally,
     best: Option<Best>,
     entries: Items<Entry>,
+    /// How many turns the search for images may still take.
+    turns: u32,
 }
 
-/// Walks through the canonical prefixes, the greatest row first, and leaves out what cannot be less than the least
-/// pattern found before it, and what has an image that stands before it. At most so many entries are made.
+/// Walks through the canonical prefixes, the greatest row first. A prefix is left out where its pattern or its floor is
+/// not less than the best, where it has no room, or where an image is before it. At most `most` entries are made.
 ///
 /// # Errors
 ///
@@ -58,6 +66,7 @@ pub(crate) fn make_entries(
         tally: Tally::new(alloc, shape)?,
         best: None,
         entries: Items::new(alloc),
+        turns: FIRST_TURNS,
     };
     let mut bound = shape.runs();
     // Each turn but the last makes an entry, or goes back over one.
@@ -97,7 +106,7 @@ fn front_of(candidates: &Candidates, prefix: &Matrix) -> Front
 }
 
 impl Walk {
-    /// Makes the entry of the prefix with one row more, and returns what the next row is to be below.
+    /// Makes the entry of the prefix with one row more, and returns the bound of the next row.
     #[tactic(auto, using(crate::proofs::Walks::pushed, crate::proofs::Walks::promoted))]
     fn enter(&mut self, alloc: Global, row: u16) -> Result<u16, NoMemory>
         requires walk { IsWalk self.old.tally.shape self.old }
@@ -112,7 +121,8 @@ impl Walk {
             self.entries.push(worse(row))?;
             return Ok(row);
         }
-        match closing(&mut self.tally, &self.best, row) {
+        self.turns = self.turns.saturating_add(TURNS);
+        match closing(&mut self.tally, &self.best, row, &mut self.turns) {
             Some(entry) => {
                 self.entries.push(entry)?;
                 Ok(row)
@@ -141,7 +151,7 @@ impl Walk {
         Some(row)
     }
 
-    /// What the walk came to.
+    /// The result of a walk that has ended.
     fn ended(self) -> Walked
         requires { IsWalk self.tally.shape self }
         ensures { IsWalked self.tally.shape (length self.entries) result }
@@ -150,6 +160,7 @@ impl Walk {
             tally: _,
             best,
             entries,
+            turns: _,
         } = self;
         match best {
             None => Walked::Nothing { entries },
@@ -216,8 +227,8 @@ fn is_beaten(tally: &mut Tally, best: &Option<Best>, row: u16) -> bool
     }
 }
 
-/// An entry by which the prefix with this row, which is not whole, is left out, if one is found.
-fn closing(tally: &mut Tally, best: &Option<Best>, row: u16) -> Option<Entry>
+/// The entry by which the prefix with this row, which is not whole, is left out, if there is one.
+fn closing(tally: &mut Tally, best: &Option<Best>, row: u16, turns: &mut u32) -> Option<Entry>
     requires part { length tally.old.rows < tally.old.shape.s }
     requires below { row < tally.old.shape.q ^ tally.old.shape.m }
     requires best { IfSome best.now (IsBest tally.old.shape) }
@@ -234,7 +245,7 @@ fn closing(tally: &mut Tally, best: &Option<Best>, row: u16) -> Option<Entry>
     if is_too_high(tally, best, row) {
         return Some(Entry::Floor { row });
     }
-    match earlier_image(&prefix) {
+    match earlier_image(&prefix, turns) {
         None => None,
         Some(change) => Some(Entry::Image { row, change }),
     }
