@@ -43,7 +43,7 @@ class Program:
             child = subprocess.Popen([self.path] + words, stdin=source, stdout=listing, stderr=errors, cwd=folder)
             # The machine may be busy: what is judged is processor time, and a run is cut off late.
             signal.signal(signal.SIGALRM, lambda *_: os.kill(child.pid, signal.SIGKILL))
-            signal.setitimer(signal.ITIMER_REAL, 20 * limit)
+            signal.setitimer(signal.ITIMER_REAL, 100 * limit)
             _, status, usage = os.wait4(child.pid, 0)
             signal.setitimer(signal.ITIMER_REAL, 0)
             child.returncode = os.waitstatus_to_exitcode(status)
