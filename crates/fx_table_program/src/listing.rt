@@ -1,8 +1,5 @@
-ghost use Rattle.std.specs.Prelude.{◌≡◌, ◌<◌, ◌≤◌, ◌^◌, ◌+◌, ◌++◌, All, List, codes, decimal, drop, length, map, IfOk, OnOk};
-ghost use Rattle.fx_designs.specs.Galois.{digits};
-ghost use Rattle.fx_components.specs.Products.{product};
+ghost use Rattle.std.specs.Prelude.{◌≡◌, ◌<◌, ◌+◌, ◌++◌, codes, decimal, drop, length, map, IfOk, OnOk};
 ghost use Rattle.fx_vectors.specs.Shape.{IsShape};
-ghost use Rattle.fx_vectors.specs.Matrix.{MatrixView};
 ghost use Rattle.fx_table_program.specs.Listing.{IsListable, ending_text, first_names, head_text, line_text, rule_text, rules_from, rules_text};
 
 use crate::names::{first_names, put_name};

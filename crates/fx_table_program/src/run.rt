@@ -1,4 +1,4 @@
-ghost use Rattle.std.specs.Prelude.{◌≡◌, ◌<◌, ◌≤◌, ◌⊎◌, [], ◌∷◌, ℕ, List, Some, Ok, Err, IfOk, IsErr, false, true};
+ghost use Rattle.std.specs.Prelude.{◌≡◌, ◌<◌, ◌≤◌, ◌⊎◌, [], ◌∷◌, ℕ, List, Some, Ok, Err, IfOk, IsErr, false};
 ghost use Rattle.fx_program.specs.CommandLine.{bytes_of};
 ghost use Rattle.fx_program.specs.declared.stop.Stop.TheVariants as stop;
 ghost use Rattle.fx_program.specs.Output.{world};

@@ -1,4 +1,4 @@
-ghost use Rattle.std.specs.Prelude.{◌≡◌, ◌<◌, ◌≤◌, ◌+◌, ◌∷◌, [], drop, false, true, length, IfOk, OnOk};
+ghost use Rattle.std.specs.Prelude.{◌≡◌, ◌<◌, ◌≤◌, ◌+◌, ◌∷◌, [], drop, false, length, OnOk};
 ghost use Rattle.fx_program.specs.CommandLine.{AreThreads, IsCatalogue};
 ghost use Rattle.fx_program.specs.Output.{message, worse};
 ghost use Rattle.fx_program.specs.Outside.{Lists, ShelvesFiles, Writes, shelf_view, sink_view};

@@ -1,4 +1,5 @@
-use Rattle.std.proofs.Common.{◌≡◌, ◌≤◌, ◌<◌, ◌+◌, ◌++◌, ◌∷◌, ◌∙◌, ℕ, List, length, drop, get_or, append-nil, append_assoc, sym, ap, arith, add-one, drop-cons}
+use Rattle.std.proofs.Common.{◌≡◌, ◌≤◌, ◌<◌, ◌+◌, ◌++◌, ◌∷◌, ◌∙◌, ℕ, List, length, drop, get_or}
+use Rattle.std.proofs.Common.{append-nil, append_assoc, sym, ap, arith, add-one, drop-cons}
 use Rattle.std.proofs.Math.ListN.{drop_of_length-le}
 use Rattle.fx_vectors.specs.declared.shape.Shape.{Shape}
 use Rattle.fx_table_program.specs.Listing.{rule_text, rules_from}
