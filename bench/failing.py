@@ -2,8 +2,8 @@
 """Fails each call of the built program in turn: python3 bench/failing.py PROGRAM [OPTION..] [FILE..]
 
 Runs each command below, with one thread and with four, or each FILE by its ending, .sas, .book or .csv (judged at two levels),
-with the options. Counts reads, writes and openings of files (io), growths of memory, and new threads, and repeats the run for
-each of these calls:
+with the options; of a PROGRAM named tables its own commands. Counts reads, writes and openings of files (io), growths of
+memory, and new threads, and repeats the run for each of these calls:
 
 - the read, write or opening fails, or the write moves nothing: wanted is status 4, and no such call after it;
 - the growth is refused, alone or with all later ones: status 5;
@@ -87,6 +87,11 @@ TEXTS = {
 SHARED = [("catalogue", ["catalogue", "2", "3", "7"], b""), ("large", ["large", "2"], b"")]
 OTHERS = [("judge", ["judge", "2"], b"A,B,C\n1,1,1\n1,-1,-1\n-1,1,-1\n-1,-1,1\n"), ("plan refused", ["judge", "2"], b"A\n2\n"),
           ("make", ["make", "2"], b""), ("word refused", ["make", "x"], b"")]
+TABLES = [(title, words + more, b"") for title, words in (("lines", ["2", "3", "8"]), ("lines, open", ["2", "3", "6", "--nodes=9"]))
+          for more in ([], ["--threads=4"])]
+TABLES += [(title, ["check"], f"factex-table 1\nsize 2 1 2 0\nresolution 3\npattern none\n{entry}\nEND\n".encode())
+           for title, entry in (("check", "R 1"), ("book rejected", "O 1"), ("no book", "F 1"))]
+TABLES += [("word refused", ["2"], b"")]
 
 
 def run(program, shim, words, text, way="-", first=0, last=0):
@@ -134,7 +139,9 @@ def main():
     with tempfile.TemporaryDirectory() as top:
         shim = os.path.join(top, "fail.so")
         subprocess.run(["cc", "-O1", "-shared", "-fPIC", "-x", "c", "-o", shim, "-", "-ldl"], input=SHIM.encode(), check=True)
-        if not jobs:
+        if not jobs and os.path.basename(program) == "tables":
+            jobs = TABLES
+        elif not jobs:
             texts = [(title, ["run"], f"proc factex nodes=4500;{text}run;".encode()) for title, text in TEXTS.items()]
             acts = run(program, shim, *next(job[1:] for job in texts if job[0] == "no design"))[1]
             book = bytes(byte for act, byte in zip(acts[::2], acts[1::2]) if act == ord("F"))
