@@ -16,6 +16,8 @@ NUMBER = re.compile(r"\d+")
 def in_first_version(text):
     """The same book in version 1: words by their numbers."""
     lines = text.splitlines()
+    if not lines[0].startswith("factex-book"):
+        return None
     q, _, s, _ = map(int, lines[1].split()[1:])
     if s > 40:
         return None
@@ -33,7 +35,7 @@ def in_first_version(text):
 def put(line, which, change):
     """The line with one of its numbers changed: 0 for the first of them, -1 for the last."""
     found = list(NUMBER.finditer(line))
-    if not found:
+    if not -len(found) <= which < len(found):
         return line + "?"
     at = found[which]
     return line[: at.start()] + change(at.group()) + line[at.end() :]
@@ -53,6 +55,9 @@ WAYS = [
     lambda line: line.lower(),
     lambda line: {"O": "W", "W": "P", "P": "O"}.get(line[:1], "X") + line[1:],
     lambda line: {"O": "P", "W": "O", "P": "W"}.get(line[:1], "") + line[1:],
+    lambda line: "R " + line[2:],
+    lambda line: "F " + line[2:],
+    lambda line: put(line, 1, more(1)),
     lambda line: put(line, -1, more(1)),
     lambda line: put(line, -1, more(-1)),
     lambda line: put(line, 0, more(1)),

@@ -1,6 +1,6 @@
 #!/bin/bash
 # Runs the program and the second checker on books of the program, of both versions, and on thousands of changed ones,
-# and prints the first on which they differ.
+# and prints the first on which they differ. Those of a PROGRAM named tables are its own.
 #
 # usage: check/compare.sh PROGRAM
 set -euo pipefail
@@ -10,17 +10,25 @@ folder=$(mktemp -d)
 trap 'rm -r "$folder"' EXIT
 mkdir "$folder/made" "$folder/changed"
 
-# The books of the examples, and small ones: of a resolution, a pattern, effects, blocks, words of many letters.
-for example in "$check"/../crates/examples/data/*.sas; do
-    (mkdir "$folder/run" && cd "$folder/run" && "$program" run < "$example" > "$folder/listing" || true)
-    for book in "$folder"/run/*.book; do
-        [ -e "$book" ] && mv "$book" "$folder/made/$(basename "$example" .sas)-$(basename "$book")"
+make_tables() {
+    local words
+    for words in "2 3 8" "2 4 6" "3 2 5" "3 3 5" "4 2 6" "9 2 4"; do
+        (cd "$folder/made" && "$program" $words > "$folder/listing" || true)
     done
-    rm -r "$folder/run"
-done
-(
-    cd "$folder/made"
-    "$program" run > "$folder/listing" <<'PROGRAM' || true
+}
+
+# The books of the examples, and small ones: of a resolution, a pattern, effects, blocks, words of many letters.
+make_books() {
+    for example in "$check"/../crates/examples/data/*.sas; do
+        (mkdir "$folder/run" && cd "$folder/run" && "$program" run < "$example" > "$folder/listing" || true)
+        for book in "$folder"/run/*.book; do
+            [ -e "$book" ] && mv "$book" "$folder/made/$(basename "$example" .sas)-$(basename "$book")"
+        done
+        rm -r "$folder/run"
+    done
+    (
+        cd "$folder/made"
+        "$program" run > "$folder/listing" <<'PROGRAM' || true
 proc factex; factors A B C D E; size design=8; model resolution=4; run;
 proc factex; factors A B C D; size design=8; model resolution=3 / minabs; run;
 proc factex; factors A B C D / nlev=3; size design=9; model estimate=(A B C D A*B); run;
@@ -28,8 +36,10 @@ proc factex; factors A B C D; size design=8; model resolution=4; blocks nblocks=
 proc factex; factors A B C / nlev=4; size design=16; model resolution=4; run;
 proc factex; factors F1-F12; size design=16; model resolution=10; run;
 PROGRAM
-)
+    )
+}
 
+if [ "$(basename "$program")" = tables ]; then make_tables; else make_books; fi
 for book in "$folder"/made/*.book; do
     # Books of more lines are compared as they are.
     if [ "$(wc -l < "$book")" -le 30 ]; then small+=("$book"); else cp "$book" "$folder/changed/$(basename "$book")"; fi
