@@ -1,18 +1,18 @@
 #!/usr/bin/env python3
-"""Random inputs of every command: bench/hostile.py PROGRAM [--seconds N] [--seed N] [--keep FOLDER]
+"""Random inputs of every command: bench/hostile.py PROGRAM [--tables PROGRAM] [--seconds N] [--seed N] [--keep FOLDER]
 
 Each input is a command line, a program text, a book, an upgrade, a plan to judge or a catalogue, right or with small faults.
 For each the program has to end in time (processor time below 2 s and two microseconds a node of its budgets), with status
 0 to 3, as nothing refuses it memory or files, and with nothing on standard error. One thread and four have to give the same
 bytes, files and status; the files have to be those of the listing, and as long; books have to be accepted by `check` and by
 check/check_book.py, which have to agree on every changed book, too; plans have to be judged regular; what `judge` counts has
-to be what is counted here. An input that fails is kept in the folder, by default hostile-failures, with its words. The same
+to be what is counted here; a table has to have the patterns of the catalogue, and of its own rules. An input that fails is kept in the folder, by default hostile-failures, with its words. The same
 seed gives the same inputs, until the time ends. Prints the counts by kind; ends with status 1 if anything failed. The gate
 does not run it."""
 import argparse, collections, csv, io, itertools, os, random, re, signal, subprocess, sys, tempfile
 
 sys.path.insert(0, os.path.join(os.path.dirname(os.path.dirname(os.path.abspath(__file__))), "check"))
-import changed_books, check_book
+import changed_books, check_book, rules
 
 # The greatest m with q^m <= 1,024, for each number of levels q.
 GREATEST_M = {2: 10, 3: 6, 4: 5, 5: 4, 7: 3, 8: 3, 9: 3}
@@ -560,6 +560,60 @@ def try_catalogue(program, rng, pool):
         need(step_run.files.get("step1-1.book") == book, f"the step of {count} factors has another book")
 
 
+# ---- tables
+
+
+def patterns_of(listing):
+    """The patterns of a catalogue or a table, by the number of factors, and None where there is no design."""
+    found = {}
+    for factors, ending in re.findall(r"^factors (\d+) (?:nodes|entries) \d+ (.*)$", listing.decode(), re.M):
+        found[factors] = ending
+    return found
+
+
+def try_tables(program, rng, pool):
+    q = rng.choice([2, 2, 2, 3, 4, 5, 7, 8, 9])
+    m = rng.randint(1, min(GREATEST_M[q], 7 if q == 2 else 3))
+    s = min(m + rng.randint(1, 6), 63 if q < 4 else 40)
+    entries = rng.choice([1, 5, 30, 200, 1000])
+    words = [str(q), str(m), str(s), f"--nodes={entries}"]
+    yield ["tables", *words], b""
+    done = run_both(pool.tables, words, b"", (s - m) * (1_000_000 + 1500 * entries))
+    lines = [line for line in done.listing.decode().splitlines() if not line.startswith("rules")]
+    need(lines[0] == f"table levels {q} runs {q**m}", lines[0])
+    none, is_open = lines[-1].endswith("none"), any("open after" in line for line in lines)
+    need(done.status == (2 if is_open else 1 if none else 0), f"status {done.status}")
+    ours = patterns_of(done.listing)
+    need(sorted(done.files) == sorted(f"table-{q}-{m}-{factors}.book" for factors in ours), f"{sorted(done.files)}")
+    for line, listed, found in rules.patterns_in(done.listing.decode().splitlines()):
+        need(found == listed, f"{line}: its rules have another pattern")
+    theirs = patterns_of(program.run(["catalogue", *words[:3], "--nodes=20000"], nodes=20000 * (s - m)).listing)
+    need(all(ours[factors] == theirs[factors] for factors in ours if factors in theirs), f"{ours}, catalogue: {theirs}")
+    for book in done.files.values():
+        need(check_both(pool.tables, book, pool).status == 0, "a written book of a table")
+        if len(book) <= 4000:
+            pool.table_books[rng_place(pool, pool.table_books)] = book
+
+
+def try_table_book(program, rng, pool):
+    others = [b"END\n", b"O 1\n", b"R 3\n", b"F 7\n", b"P 7\n", b"I 5 2 1 4\n", b"", b"\n", b"size 2 3 5 0\n", b"pattern none\n",
+              b"resolution 4\n", b"effects 1 2 4 / 3\n", b"size 9 1 1 0\n", b"9" * 5000, b"pattern 0 0 1\n"]
+    parts = [b"0", b"1", b"2", b"3", b"9", b"63", b"64", b" ", b"\n", b"/", b"O", b"R", b"F", b"I", b"P", b"\r"]
+    text = rng.choice(list(pool.table_books.values()))
+    kind = rng.random()
+    if kind < 0.4:
+        text = with_faults(rng, text, BOOK_PARTS.findall, others)
+    elif kind < 0.6:
+        lines = text.split(b"\n")
+        i = rng.randrange(len(lines))
+        lines[i] = rng.choice(changed_books.WAYS)(lines[i].decode()).encode()
+        text = b"\n".join(lines)
+    else:
+        text = with_faults(rng, text, BOOK_FIELDS.findall, parts)
+    yield ["tables", "check"], text
+    check_both(pool.tables, text, pool)
+
+
 # ---- the kinds
 
 
@@ -582,6 +636,7 @@ def try_faulty_text(program, rng, pool):
 KINDS = [("words", 10, try_words), ("make and large", 1, try_make), ("texts", 25, try_text),
          ("texts with faults", 20, try_faulty_text), ("books", 25, try_book), ("upgrades", 10, try_upgrade),
          ("plans", 25, try_judge), ("catalogues", 3, try_catalogue)]
+KINDS_OF_TABLES = [("tables", 5, try_tables), ("books of tables", 30, try_table_book)]
 
 FIRST = b"""proc factex; factors A B C D E; size design=8; model resolution=4; output out=a; run;
 proc factex; factors A B C D; size design=8; model resolution=3 / minabs; run;
@@ -602,18 +657,25 @@ def keep(folder, name, words, text, what):
 def main():
     parser = argparse.ArgumentParser(description=__doc__.split("\n\n")[0])
     parser.add_argument("program")
+    parser.add_argument("--tables")
     parser.add_argument("--seconds", type=float, default=600)
     parser.add_argument("--seed", type=int, default=1)
     parser.add_argument("--keep", default="hostile-failures")
     arguments = parser.parse_args()
     program, pool = Program(arguments.program), Pool(random.Random(arguments.seed))
     check_run(program, pool.rng, ["run"], FIRST, 5_000_000, [], pool)
+    kinds = list(KINDS)
+    if arguments.tables:
+        pool.tables, pool.table_books = Program(arguments.tables), {}
+        kinds += KINDS_OF_TABLES
+        for words in (["2", "3", "8"], ["3", "2", "5"], ["4", "2", "6"]):
+            pool.table_books.update(enumerate(pool.tables.run(words).files.values(), len(pool.table_books)))
     made, failed = collections.Counter(), collections.Counter()
     end = os.times().elapsed + arguments.seconds
     while os.times().elapsed < end:
         number = sum(made.values()) + 1
         rng = random.Random(f"{arguments.seed} {number}")
-        kind, _, trial = rng.choices(KINDS, [weight for _, weight, _ in KINDS])[0]
+        kind, _, trial = rng.choices(kinds, [weight for _, weight, _ in kinds])[0]
         made[kind] += 1
         words, text = [], b""
         try:
@@ -632,6 +694,8 @@ def main():
         print(f"{what}: {count}")
     slowest = ", ".join(f"{kind} {seconds:.2f} s" for kind, seconds in sorted(program.slowest.items()))
     print(f"runs of the program: {program.count}; most processor time: {slowest}")
+    if arguments.tables:
+        print(f"runs of tables: {pool.tables.count}; most processor time: {max(pool.tables.slowest.values()):.2f} s")
     sys.exit(1 if failed else 0)
 
 

@@ -60,28 +60,33 @@ def pattern_of(q, m, rules):
     return [sum(n * term(k, j) for j, n in weights.items()) // q**m // (q - 1) for k in range(1, s + 1)]
 
 
+def patterns_in(lines):
+    """Each line of a table that has a design, with its pattern there and by its rules, as numbers by weight."""
+    line = None
+    for text in lines:
+        if head := re.match(r"table levels (\d+) runs (\d+)", text):
+            q, m = int(head[1]), round(math.log(int(head[2]), int(head[1])))
+        elif text.startswith("factors "):
+            line = text.rstrip()
+        elif text.startswith("rules"):
+            products = [rule.split("=")[1] for rule in text.split()[1:]]
+            rules = [[(int(i), int(c or 1)) for i, c in re.findall(r"X(\d+)(?:\^(\d+))?", it)] for it in products]
+            listed = {int(k): int(n) for k, n in re.findall(r" A(\d+) (\d+)", line)}
+            yield line, listed, {k + 1: n for k, n in enumerate(pattern_of(q, m, rules)) if n}
+
+
 def main(names):
     wrong = count = 0
     for name in names:
-        line = None
-        for text in open(name, encoding="utf-8"):
-            if head := re.match(r"table levels (\d+) runs (\d+)", text):
-                q, m = int(head[1]), round(math.log(int(head[2]), int(head[1])))
-            elif text.startswith("factors "):
-                line = text
-            elif text.startswith("rules "):
-                products = [rule.split("=")[1] for rule in text.split()[1:]]
-                rules = [[(int(i), int(c or 1)) for i, c in re.findall(r"X(\d+)(?:\^(\d+))?", it)] for it in products]
-                pattern = pattern_of(q, m, rules)
-                listed = {int(k): int(n) for k, n in re.findall(r" A(\d+) (\d+)", line)}
-                resolution = int(re.search(r"resolution (\d+)", line)[1])
-                if {k + 1: n for k, n in enumerate(pattern) if n} != listed or min(listed) != resolution:
-                    print(f"{name}: the rules have another pattern: {line}", end="")
-                    wrong = 1
-                count += 1
+        for line, listed, found in patterns_in(open(name, encoding="utf-8")):
+            count += 1
+            if found != listed or f" resolution {min(listed)} " not in line:
+                print(f"{name}: the rules have another pattern: {line}")
+                wrong = 1
     if not count:
         print("there is no table")
     return wrong or not count
 
 
-sys.exit(main(sys.argv[1:]))
+if __name__ == "__main__":
+    sys.exit(main(sys.argv[1:]))
