@@ -5,7 +5,7 @@ use Rattle.fx_table_search.specs.Lines.{Holds}
 use Rattle.fx_table_search.specs.declared.line.TableLine.{TableLine}
 use Rattle.fx_table_search.specs.declared.line.TableLine.TheVariants.{Least, Nothing, Open}
 
--- no matrix has so many factors, and so none has more
+-- whether no matrix has so many factors
 abbrev pub is_nothing : TableLine → Bool
 is_nothing (Least matrix pattern book) = false
 is_nothing (Nothing book) = true

@@ -29,7 +29,8 @@ struct Ahead {
 }
 
 impl Ahead {
-    /// Searches up to so many lines, for `s` factors and more, if all are listed.
+    /// Searches up to so many lines, for `s` factors and more, if all are listed. Only the first round may have fewer,
+    /// since the last lines take longest.
     fn fill<R: Threads + Sync>(
         &mut self,
         rt: &R,
@@ -51,7 +52,7 @@ impl Ahead {
         if self.at < self.lines.len() {
             return Ok(());
         }
-        let last = s + (asked.upto - s).min(threads - 1);
+        let last = s + (asked.upto - s) % threads;
         self.lines = lines_between(rt, alloc, asked, s, last)?;
         self.at = 0;
         Ok(())

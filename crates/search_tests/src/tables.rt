@@ -182,13 +182,15 @@ fn good_tables_are_accepted(rt: HostRuntime) {
         let verdict = judged(&rt, rt.alloc(), text.as_slice());
         assert!(&rt; verdict == Verdict::Accepted, "{entries}");
     }
-    const TEXTS: [&str; 6] = [
+    const TEXTS: [&str; 7] = [
         "factex-table 1\nsize 2 3 5 0\nresolution 3\npattern 0 0 2 1 0\nO 1\nO 2\nO 4\nF 7\nF 6\nF 5\nR 3\nEND\n",
         "factex-table 1\nsize 2 3 5 0\nresolution 3\npattern 0 0 2 1 0\nO 1\nO 2\nO 4\nO 7\nP 6\nP 5\nP 3\nF 6\nF 5\nR 3\nEND\n",
         "factex-table 1\nsize 2 3 8 0\nresolution 3\npattern none\nO 1\nO 2\nR 4\nEND\n",
         "factex-table 1\nsize 2 3 5 0\nresolution 4\npattern none\nO 1\nO 2\nO 4\nO 7\nW 6 2:1 3:1 5:1\nW 5 2:1 4:1 5:1\nW 3 3:1 4:1 5:1\nW 6 2:1 3:1 4:1\nW 5 1:1 3:1 4:1\nR 3\nEND\n",
         "factex-table 1\nsize 3 2 4 0\nresolution 3\npattern 0 0 4 0\nO 1\nO 3\nO 5\nP 4\nR 4\nEND\n",
         "factex-table 1\nsize 5 2 5 0\nresolution 3\npattern 0 0 10 10 11\nO 1\nO 5\nO 9\nO 8\nP 7\nP 6\nF 7\nR 6\nI 8 1 10\nR 7\nR 6\nEND\n",
+        // Images of prefixes with block rows, by a change of the factor rows.
+        "factex-table 1\nsize 3 2 3 2\nresolution 3\npattern none\nO 1\nO 3\nO 5\nW 5 3:1 4:2\nO 4\nW 5 3:1 5:2\nW 4 4:1 5:2\nW 3 2:1 5:2\nW 1 1:1 5:2\nW 0 5:1\nW 3 2:1 4:2\nW 1 1:1 4:2\nW 0 4:1\nO 4\nI 5 2 3\nI 4 2 3\nI 3 2 3\nI 1 2 3\nI 0 2 3\nEND\n",
     ];
     for text in &TEXTS {
         assert!(&rt;
@@ -247,6 +249,12 @@ fn false_tables_are_rejected(rt: HostRuntime) {
                 "factex-table 1\nsize 2 3 7 0\nresolution 3\npattern none\nO 1\nO 2\nR 4\nEND\n",
                 7,
                 10,
+            ),
+            // No row may follow, so the floor has the words of the prefix alone.
+            (
+                "factex-table 1\nsize 2 3 5 0\nresolution 3\npattern 0 0 2 1 0\nO 1\nO 2\nO 4\nF 7\nF 6\nF 5\nF 3\nEND\n",
+                11,
+                11,
             ),
             // Before all unit vectors are there, none of the three can be.
             (
