@@ -33,27 +33,28 @@ class Program:
 
     def __init__(self, path):
         self.path, self.count, self.slowest = os.path.abspath(path), 0, collections.Counter()
+        # Each run has the same folder and streams, emptied: making new ones takes longer than most runs.
+        self.folder = tempfile.TemporaryDirectory()
+        self.streams = [tempfile.TemporaryFile(buffering=0) for _ in range(3)]
 
     def run(self, words, text=b"", nodes=0, statuses=(0, 1, 2, 3)):
         limit = 2 + 2e-6 * nodes
-        with tempfile.TemporaryDirectory() as folder, tempfile.TemporaryFile() as source, \
-                tempfile.TemporaryFile() as listing, tempfile.TemporaryFile() as errors:
-            source.write(text)
-            source.seek(0)
-            child = subprocess.Popen([self.path] + words, stdin=source, stdout=listing, stderr=errors, cwd=folder)
-            # The machine may be busy: what is judged is processor time, and a run is cut off late.
-            signal.signal(signal.SIGALRM, lambda *_: os.kill(child.pid, signal.SIGKILL))
-            signal.setitimer(signal.ITIMER_REAL, 100 * limit)
-            _, status, usage = os.wait4(child.pid, 0)
-            signal.setitimer(signal.ITIMER_REAL, 0)
-            child.returncode = os.waitstatus_to_exitcode(status)
-            files = {}
-            for name in os.listdir(folder):
-                with open(os.path.join(folder, name), "rb") as file:
-                    files[name] = file.read()
-            listing.seek(0)
-            errors.seek(0)
-            done = Done(child.returncode, listing.read(), files, usage.ru_utime + usage.ru_stime, errors.read())
+        for stream in self.streams:
+            stream.seek(0)
+            stream.truncate()
+        source, listing, errors = self.streams
+        source.write(text)
+        source.seek(0)
+        child = subprocess.Popen([self.path] + words, stdin=source, stdout=listing, stderr=errors, cwd=self.folder.name)
+        # The machine may be busy: what is judged is processor time, and a run is cut off late.
+        signal.signal(signal.SIGALRM, lambda *_: os.kill(child.pid, signal.SIGKILL))
+        signal.setitimer(signal.ITIMER_REAL, 100 * limit)
+        _, status, usage = os.wait4(child.pid, 0)
+        signal.setitimer(signal.ITIMER_REAL, 0)
+        child.returncode = os.waitstatus_to_exitcode(status)
+        listing.seek(0)
+        errors.seek(0)
+        done = Done(child.returncode, listing.read(), self.take_files(), usage.ru_utime + usage.ru_stime, errors.read())
         self.count += 1
         kind = words[0] if words and isinstance(words[0], str) and words[0] in COMMANDS else "words"
         self.slowest[kind] = max(self.slowest[kind], done.seconds)
@@ -62,6 +63,16 @@ class Program:
         need(done.status in statuses, f"{words}: status {done.status}")
         need(not done.errors, f"{words}: on standard error {done.errors[:200]}")
         return done
+
+    def take_files(self):
+        """The files of the folder, which are then gone."""
+        files = {}
+        for name in os.listdir(self.folder.name):
+            path = os.path.join(self.folder.name, name)
+            with open(path, "rb") as file:
+                files[name] = file.read()
+            os.remove(path)
+        return files
 
 
 def need(holds, what):

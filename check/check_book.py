@@ -5,6 +5,7 @@ Usage: check_book.py < BOOK
 
 Prints `accepted` and the lines 2 to 4 of the book, with status 0, or `rejected line <n> <code>`, with status 1.
 """
+import functools
 import sys
 
 MOST_BYTES = 268_435_456
@@ -89,6 +90,13 @@ class Field:
         for a, b in zip(first, second):
             total = self.plus[total][self.times[a][b]]
         return total
+
+
+@functools.lru_cache(4096)
+def sums_with(q, m, code, row):
+    """The sum of each vector, by its number, and a multiple of the row."""
+    field = Field(q)
+    return [field.sum_with(m, x, code, row) for x in range(q**m)]
 
 
 def last_code(codes):
@@ -440,7 +448,7 @@ class Walk:
     def with_row(self, counts, row):
         """The counts with one row more."""
         book = self.book
-        moved = [[self.field.sum_with(book.m, x, c, row) for x in range(book.runs)] for c in range(1, book.q)]
+        moved = [sums_with(book.q, book.m, c, row) for c in range(1, book.q)]
         more = [list(weights) for weights in counts] + [[0] * book.runs]
         for weight, old in enumerate(counts):
             new = more[weight + 1]

@@ -8,7 +8,7 @@ use Rattle.std.proofs.lemmas.List.{map-append}
 use Rattle.std.proofs.lemmas.List.Elements.{filter-append}
 use Rattle.fx_alias.specs.Classes.{numbered_behind}
 
--- what u adds to the classes, where `before` stand before it
+-- what u adds to the classes, where `before` precede it
 abbrev pub added : {X : Type 0} → (X → ℕ) → List X → List X → X → List (List X)
 added number items before u =
     cond (eqb (number u) 0 || list_any (λ v. eqb (number u) (number v)) before) []

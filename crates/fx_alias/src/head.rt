@@ -7,7 +7,9 @@ ghost use Rattle.fx_statements.specs.Goals.{goal_of};
 ghost use Rattle.fx_statements.specs.Outcomes.{ending_in};
 ghost use Rattle.fx_statements.specs.Questions.{conclusion_in};
 ghost use Rattle.fx_statements.specs.Steps.{meaning_of};
-ghost use Rattle.fx_alias.specs.Heads.{blocks_words, budget_line, clear_line, clear_to, design_line, head_lines, heading, highest_claim, matrix_lines, no_design_line, nodes_line, outcome_lines, resolution_claim, resolution_line, runs_words, seeks_in_blocks};
+ghost use Rattle.fx_alias.specs.Heads.{blocks_words, budget_line, clear_line, clear_to, design_line, head_lines};
+ghost use Rattle.fx_alias.specs.Heads.{heading, highest_claim, matrix_lines, no_design_line, nodes_line, outcome_lines};
+ghost use Rattle.fx_alias.specs.Heads.{resolution_claim, resolution_line, runs_words, seeks_in_blocks};
 
 use fx_base::{Bytes, NoMemory, put, put_number};
 use fx_settings::greatest;

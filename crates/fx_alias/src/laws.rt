@@ -1,4 +1,5 @@
-ghost use Rattle.std.specs.Prelude.{◌≡◌, ◌<◌, ◌≤◌, ◌↔◌, ◌==◌, ◌&&◌, if◌then◌else◌, nat_le, ℕ, List, IsTrue, true, false, length, filter, count_by, ◌+◌, [], Bool};
+ghost use Rattle.std.specs.Prelude.{◌≡◌, ◌<◌, ◌≤◌, ◌↔◌, ◌==◌, ◌&&◌, if◌then◌else◌, nat_le, ℕ, List, IsTrue, true};
+ghost use Rattle.std.specs.Prelude.{false, length, filter, count_by, ◌+◌, [], Bool};
 ghost use Rattle.std.specs.List.{sum_by, AllByRecursion};
 ghost use Rattle.fx_designs.specs.Galois.{is_order};
 ghost use Rattle.fx_designs.specs.Vectors.{combination, is_normal, same, vectors_of, weight, IsVector};

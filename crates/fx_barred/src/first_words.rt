@@ -1,4 +1,6 @@
-ghost use Rattle.std.specs.Prelude.{◌≡◌, ◌+◌, ◌-◌, ◌*◌, ◌^◌, ◌<◌, ◌≤◌, ◌≢◌, ◌++◌, [], ◌∷◌, ℕ, List, IfOk, IfSome, length, map, take, slice_index, slice_index_or, slice_set, ◌==◌, if◌then◌else◌, true, false, None, All};
+ghost use Rattle.std.specs.Prelude.{◌≡◌, ◌+◌, ◌-◌, ◌*◌, ◌^◌, ◌<◌, ◌≤◌, ◌≢◌, ◌++◌, [], ◌∷◌, ℕ, List, IfOk, IfSome};
+ghost use Rattle.std.specs.Prelude.{length, map, take, slice_index, slice_index_or, slice_set, ◌==◌, if◌then◌else◌};
+ghost use Rattle.std.specs.Prelude.{true, false, None, All};
 ghost use Rattle.std.specs.Option.{IfNone};
 ghost use Rattle.std.specs.Bool.{OnTrue};
 ghost use Rattle.std.specs.List.{AllByRecursion};

@@ -552,8 +552,8 @@ lots_and_jobs :
     × (is_beside (size 2 1 4 0) (1 ∷ 1 ∷ 1 ∷ 1 ∷ []) (1 ∷ []) ≡ false)
 lots_and_jobs = (refl, refl, refl, refl, refl)
 
--- where a least pattern is asked, a matrix of the same pattern that stands before excludes, one of a greater pattern
--- does not, and none of another job of the lot; else each that stands before does
+-- where a least pattern is asked, a matrix of the same pattern that precedes excludes, one of a greater pattern
+-- does not, and none of another job of the lot; else each that precedes does
 excluding :
     (excludes (problem (size 2 2 3 0) (AtResolution 3) true) (1 ∷ 2 ∷ 2 ∷ []) (1 ∷ 2 ∷ 1 ∷ []) ≡ true)
     × (excludes (problem (size 2 3 4 0) (AtResolution 3) true) (1 ∷ 2 ∷ 4 ∷ 6 ∷ []) (1 ∷ 2 ∷ 4 ∷ 5 ∷ []) ≡ true)

@@ -7,7 +7,7 @@ use Rattle.fx_designs.specs.Demands.{is_met}
 use Rattle.fx_designs.specs.Patterns.{pattern_of, is_less}
 use Rattle.fx_designs.specs.Canonical.{is_canonical}
 
--- whether p stands before r: the greater row decides at the first difference, and a proper prefix stands first
+-- whether p precedes r: the greater row decides at the first difference, and a proper prefix stands first
 abbrev pub before : List ℕ → List ℕ → Bool
 before p [] = false
 before [] (b ∷ r) = true

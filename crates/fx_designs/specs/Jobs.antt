@@ -24,7 +24,7 @@ is_of_earlier_lot d rows matrix = nat_lt d.m (length matrix) && before (lot_of d
 abbrev pub counts_inside : Dimensions → List ℕ → List ℕ → Bool
 counts_inside d j matrix = is_of_earlier_lot d j matrix || is_of_job d j matrix
 
--- inside j, whether nothing better than this matrix can be below a prefix: it counts and stands before it, and where a
+-- inside j, whether nothing better than this matrix can be below a prefix: it counts and precedes it, and where a
 -- least pattern is asked its pattern is not greater
 abbrev pub excludes_inside : Problem → List ℕ → List ℕ → List ℕ → Bool
 excludes_inside p j matrix rows =

@@ -42,12 +42,12 @@ abbrev pub is_beside : Dimensions → List ℕ → List ℕ → Bool
 is_beside d matrix rows =
     nat_lt d.m (length rows) && (same (lot_of d matrix) (lot_of d rows) && not (same (job_of d matrix) (job_of d rows)))
 
--- whether a matrix counts for a prefix where a least pattern is asked: it stands before it, and is not in another job
+-- whether a matrix counts for a prefix where a least pattern is asked: it precedes it, and is not in another job
 -- of its lot, so that the jobs of a lot can be worked off side by side
 abbrev pub counts : Dimensions → List ℕ → List ℕ → Bool
 counts d matrix rows = before matrix rows && not (is_beside d matrix rows)
 
--- whether nothing better than this matrix can be below a prefix: the matrix stands before it, and where a least pattern
+-- whether nothing better than this matrix can be below a prefix: the matrix precedes it, and where a least pattern
 -- is asked it counts for the prefix and its pattern is not greater than that of the prefix
 abbrev pub excludes : Problem → List ℕ → List ℕ → Bool
 excludes p matrix rows =
@@ -63,7 +63,7 @@ is_branch p rows =
     && (nat_lt (length rows) (p.dimensions.s + p.dimensions.t)
     && not (list_any (λ matrix. is_complete_allowed p matrix && excludes p matrix rows) (prefixes p)))
 
--- whether the answer, where there is one, does not stand before the rows
+-- whether the answer, where there is one, does not precede the rows
 abbrev pub is_not_after : Option (List ℕ) → List ℕ → Bool
 is_not_after None rows = true
 is_not_after (Some first) rows = not (before first rows)

@@ -60,7 +60,7 @@ exchanges :
 unfolding prime_of degree_of reduction_of add mul neg inv
 exchanges = (refl, refl, refl, refl)
 
--- D = BC stands before D = AC, and not the other way. Nothing stands before itself; a change that is not invertible does
+-- D = BC precedes D = AC, and not the other way. Nothing precedes itself; a change that is not invertible does
 -- not do, and a change has m rows.
 earlier_at_two_levels :
     (has_earlier_image (factors 4 2 3) (2 ∷ 1 ∷ 4 ∷ []) (1 ∷ 2 ∷ 4 ∷ 5 ∷ []) ≡ true)

@@ -101,7 +101,7 @@ pub under-order : (xs ys : List ℕ) → IsUnder (falling_order xs) (falling_ord
 under-order [] ys = tt
 under-order (x ∷ xs) ys = under-put x (falling_order xs) (falling_order (xs ++ ys)) (order-falls xs) (under-order xs ys)
 
--- what is nowhere less than a list that has the greater element at the first difference stands before what begins with
+-- what is nowhere less than a list that has the greater element at the first difference precedes what begins with
 -- the other
 pub stands_before : (rows rest im more : List ℕ) → is_less rows im ≡ true → IsUnder im more
     → before more (rows ++ rest) ≡ true

@@ -178,7 +178,7 @@ module _ (p : Problem) (f : IsField p.dimensions.q) (some : 0 < p.dimensions.s +
     abbrev better : List ℕ → Bool
     better = better_than p.dimensions beat
 
-    -- the image of the first better design below an entry would stand before it
+    -- the image of the first better design below an entry would precede it
     earlier : (c s change : List ℕ) → is_resolution p.requirement ≡ true
         → has_earlier_image p.dimensions change c ≡ true → IsFirst x better (c ++ s) → ⊥
     earlier c s change can h first =

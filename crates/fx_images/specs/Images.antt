@@ -43,7 +43,7 @@ image d change rows = unit_rows d ++ falling_order (filter (λ r. not (is_unit d
 abbrev pub is_exchange : Dimensions → List ℕ → List ℕ → Bool
 is_exchange d change rows = list_all (λ i. list_any (λ r. moved d change r == d.q ^ i) rows) (range_with_len 0 d.m)
 
--- whether an exchange of the run indexes for factors of a prefix gives an image that stands before it: at the first
+-- whether an exchange of the run indexes for factors of a prefix gives an image that precedes it: at the first
 -- difference the image has the greater row
 abbrev pub has_earlier_image : Dimensions → List ℕ → List ℕ → Bool
 has_earlier_image d change rows =

@@ -8,7 +8,7 @@ use Rattle.fx_images.specs.Room.{has_no_room}
 use Rattle.fx_images.specs.Floors.{cannot_beat}
 use Rattle.fx_images.specs.Books.{is_resolution}
 
--- a design that stands before some rows, and whose pattern is not greater
+-- a design that precedes some rows, and whose pattern is not greater
 pub record IsEarlier (p : Problem) (other rows : List ℕ) : Type 0 where
   pub design : is_design p other ≡ true
   pub earlier : before other rows ≡ true

@@ -16,10 +16,10 @@ is_later d r = is_normal (digits d.q d.m r) && not (is_unit d r)
 abbrev pub bound : Dimensions → List ℕ → ℕ
 bound d rows = (if length rows == min d.s d.m then d.q ^ d.m else last_row rows)
 
--- the rows that can still come, the greatest first
+-- the rows that can still follow, the greatest first
 abbrev pub later_rows : Dimensions → List ℕ → List ℕ
 later_rows d rows = filter (λ r. is_later d r) (falling (bound d rows))
 
--- whether fewer rows can still come than factors are missing
+-- whether fewer rows can still follow than factors are missing
 abbrev pub has_no_room : Dimensions → List ℕ → Bool
 has_no_room d rows = nat_le (min d.s d.m) (length rows) && nat_lt (length (later_rows d rows)) (d.s - length rows)

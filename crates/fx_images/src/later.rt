@@ -10,7 +10,7 @@ use fx_vectors::{Matrix, Shape, Vector};
 /// The most runs of a shape.
 const MOST_RUNS: usize = 1024;
 
-/// Whether fewer rows can still come than factors are missing.
+/// Whether fewer rows can still follow than factors are missing.
 pub fn has_no_room(prefix: &Matrix) -> bool
     ensures { result ≡ has_no_room (dimensions_of prefix.now.shape) prefix.now.rows }
 {

@@ -6,7 +6,7 @@ ghost use Rattle.fx_checker.specs.Laws.{NoDesign, NoMatrix};
 ghost use Rattle.fx_images.specs.Books.{Entry, IsGood};
 ghost use Rattle.fx_images.specs.Laws.{EarlierForEach, AnswerIsUnderNone, NoneWithoutRoom, NoneBelowFloor};
 
-/// Where a change of the run indexes takes a prefix to one that stands before it, each design below
+/// Where a change of the run indexes takes a prefix to one that precedes it, each design below
 /// it has one before it of no greater pattern (`designs`), so that the answer is not below it
 /// (`answer`).
 pub fn earlier_images()

@@ -1,5 +1,5 @@
 //! Books that leave isomorphic prefixes out: an exchange of the run indexes takes each such prefix
-//! to one that stands before it. Prefixes without room, or with too high a floor, are left out too.
+//! to one that precedes it. Prefixes without room, or with too high a floor, are left out too.
 #![tactic(auto)]
 
 mod earlier;

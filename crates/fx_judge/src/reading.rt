@@ -1,10 +1,12 @@
-ghost use Rattle.std.specs.Prelude.{◌≡◌, ◌<◌, ◌≤◌, ◌+◌, ◌-◌, [], All, IfErr, IfOk, IsTrue, MatchOption, MatchResult, None, Ok, Some, false, drop, length, map, slice_index_or};
+ghost use Rattle.std.specs.Prelude.{◌≡◌, ◌<◌, ◌≤◌, ◌+◌, ◌-◌, [], All, IfErr, IfOk, IsTrue, MatchOption, MatchResult};
+ghost use Rattle.std.specs.Prelude.{None, Ok, Some, false, drop, length, map, slice_index_or};
 ghost use Rattle.csv.specs.Records.{fields_of};
 ghost use Rattle.fx_designs.specs.Galois.{is_order};
 ghost use Rattle.fx_designs.specs.Vectors.{IsVector};
 ghost use Rattle.fx_runs.specs.Levels.{default_values};
 ghost use Rattle.fx_judge.specs.Plans.{component_total};
-ghost use Rattle.fx_judge.specs.Reading.{are_names, are_values, codes_in, first_fault, factor_names, plan_in, plan_of_text, csv_records, row_fault, unread_columns};
+ghost use Rattle.fx_judge.specs.Reading.{are_names, are_values, codes_in, first_fault, factor_names, plan_in};
+ghost use Rattle.fx_judge.specs.Reading.{plan_of_text, csv_records, row_fault, unread_columns};
 ghost use Rattle.fx_judge.specs.Steps.{AreCodes, Explains, GoesOn, IsFirst, StopsAt};
 
 use crate::fault::{PlanFault, PlanStop};

@@ -1,6 +1,7 @@
 ghost use Rattle.std.specs.Prelude.{◌≡◌, ◌≤◌, ◌<◌, ◌+◌, ◌^◌, ◌||◌, []};
 ghost use Rattle.fx_language.specs.Repeats.{begins_with, repeated};
-ghost use Rattle.fx_language.specs.Pasts.{begun_after, brackets_after, in_after, option_after, past_after, past_of, rule_code, statement_after, statement_has, step_after, step_has};
+ghost use Rattle.fx_language.specs.Pasts.{begun_after, brackets_after, in_after, option_after, past_after, past_of};
+ghost use Rattle.fx_language.specs.Pasts.{rule_code, statement_after, statement_has, step_after, step_has};
 
 use crate::code;
 use crate::symbol::Symbol;

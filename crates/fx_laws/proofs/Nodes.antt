@@ -55,7 +55,7 @@ parent-before p h = go p (length p - 1) (omega arith)
     go (a ∷ p) (suc k) h = or_right _ _ (and_from _ _ (eq-eqb a a refl) (go p k (omega arith)))
 
 module _ (D : List ℕ → Bool) where
-  -- whether an item that passes stands before p
+  -- whether an item that passes precedes p
   abbrev pub some_before : List (List ℕ) → List ℕ → Bool
   some_before xs p = list_any (λ d. D d && before d p) xs
 

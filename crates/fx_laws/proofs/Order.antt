@@ -54,7 +54,7 @@ pub before-not : (p q : List ℕ) → before p q ≡ true → before q p ≡ fal
 before-not p q h =
     false_from_ne_true (before q p) (λ k. let e = before-trans p q p h k in let f = before-self p in absurd (cc (e, f)))
 
--- each item stands before all later ones
+-- each item precedes all later ones
 abbrev pub Sorted : List (List ℕ) → Type 0
 Sorted [] = ⊤
 Sorted (x ∷ xs) = AllByRecursion (λ y. before x y ≡ true) xs × Sorted xs

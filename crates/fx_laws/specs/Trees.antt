@@ -44,7 +44,7 @@ is_tree_design t d = (length d == t.size) && (t.canonical d && t.allowed d)
 abbrev pub tree_answer : Tree → Option (List ℕ)
 tree_answer t = find (is_tree_design t) (tree_prefixes t)
 
--- allowed, not whole, and no design stands before it
+-- allowed, not whole, and no design precedes it
 abbrev pub is_tree_branch : Tree → List ℕ → Bool
 is_tree_branch t p =
     t.allowed p

@@ -2,7 +2,8 @@
 ghost use Rattle.std.specs.Prelude.{◌≡◌, ◌<◌, ◌≤◌, true, false, length, IfSome};
 ghost use Rattle.std.specs.List.{prefix_len};
 ghost use Rattle.fx_lexer.specs.Bytes.{is_digit, is_word_byte};
-ghost use Rattle.fx_lexer.specs.Extents.{begins_comment, begins_remark, closing_len, ends_comment, ends_quoted, fraction_len, opens_pair, quoted_len, remark_len, starts_with_byte};
+ghost use Rattle.fx_lexer.specs.Extents.{begins_comment, begins_remark, closing_len, ends_comment, ends_quoted};
+ghost use Rattle.fx_lexer.specs.Extents.{fraction_len, opens_pair, quoted_len, remark_len, starts_with_byte};
 
 use crate::byte::{is_digit, is_word_byte};
 

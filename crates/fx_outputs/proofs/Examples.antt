@@ -104,7 +104,7 @@ refused_at : BlockCount → List ℕ → ℕ → ℕ → Type 0
 unfolding outputs
 refused_at count text code column = outputs count text ≡ Err (record { code = code; line = 1; column = column })
 
--- the OUT name stands before, in another spelling
+-- the OUT name precedes, in another spelling
 repeated_name : refused_at blocks.Without (codes "output out=OLD pointrep=0;") 18 12
 unfolding refused_at
 repeated_name = refl

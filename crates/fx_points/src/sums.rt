@@ -63,7 +63,8 @@ impl Model for Sums {
 
     ghost view = { λ x. record { q = x.field; m = x.m } };
 
-    ghost invariant = { λ x. AreSums x.field x.m x.even x.size x.blocks x.half x.width x.height x.low.items x.high.items x.lower.items x.upper.items x.opposite.items x.multiples.items };
+    ghost invariant = { λ x. AreSums x.field x.m x.even x.size x.blocks x.half x.width x.height x.low.items
+        x.high.items x.lower.items x.upper.items x.opposite.items x.multiples.items };
 }
 
 impl Sums {

@@ -180,8 +180,9 @@ pub fn greatest_status_decides()
 /// without an answer, or for a least pattern, has one: the marks of its nodes, under the numbers of the
 /// step and of the question. So there are the books of all questions that are asked, where the step ends
 /// without a design; where it has one, the book of the next resolution for the highest, unless there are
-/// no defining words, and for the highest in blocks, unless it is the highest there is; a book under the pattern of the design for least aberration; the books of all
-/// smaller sizes for the least; and the book of one more block factor for the most blocks.
+/// no defining words, and for the highest in blocks, unless it is the highest there is; a book under
+/// the pattern of the design for least aberration; the books of all smaller sizes for the least; and the
+/// book of one more block factor for the most blocks.
 pub fn claims_have_books()
     ensures finished { (seed number : ℕ) (earlier : List AskedView) (step : Meaning) → HasABookForEach seed number earlier step }
     ensures none { (seed number : ℕ) (earlier : List AskedView) (step : Meaning) → (step_output seed number earlier step).status ≡ 1

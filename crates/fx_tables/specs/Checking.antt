@@ -35,7 +35,7 @@ abbrev pub of_marks : Option marks.Reason → Option Reason
 of_marks None = None
 of_marks (Some reason) = Some (OfMarks reason)
 
--- what is wrong with a change: it is no exchange of the run indexes, or the image does not stand before the prefix
+-- what is wrong with a change: it is no exchange of the run indexes, or the image does not precede the prefix
 abbrev pub flaw_of_image : Dimensions → List ℕ → List ℕ → Option Reason
 flaw_of_image d change rows =
     (if is_exchange d change (take d.s rows) then unless (has_earlier_image d change rows) NotBefore

@@ -12,13 +12,13 @@ pub enum Entry {
     Marked {
         mark: Mark,
     },
-    /// An exchange of the run indexes gives an image that stands before the prefix. `change` has the
+    /// An exchange of the run indexes gives an image that precedes the prefix. `change` has the
     /// numbers of m vectors.
     Image {
         row: u16,
         change: ArrayVec<u16, MOST_INDEXES>,
     },
-    /// Fewer rows can still come than factors are missing.
+    /// Fewer rows can still follow than factors are missing.
     NoRoom {
         row: u16,
     },

@@ -8,9 +8,9 @@ pub enum Reason {
     OfMarks { reason: fx_checker::Reason },
     /// The change moves no row of the prefix to some unit vector.
     NoExchange,
-    /// The image does not stand before the prefix.
+    /// The image does not precede the prefix.
     NotBefore,
-    /// As many rows can still come as factors are missing.
+    /// As many rows can still follow as factors are missing.
     HasRoom,
     /// The floor of the prefix is less than the pattern to beat.
     LowFloor,

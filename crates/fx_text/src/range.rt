@@ -3,7 +3,8 @@
 ghost use Rattle.std.specs.Prelude.{◌≡◌, ◌≤◌, ◌++◌, true, decimal, reverse, length, IfOk, MatchOption, None, Some};
 ghost use Rattle.std.specs.List.{list_all, prefix_len};
 ghost use Rattle.fx_lexer.specs.Bytes.{is_digit};
-ghost use Rattle.fx_text.specs.Ranges.{begins_with_zero, digits_at_end, has_leading_zero, is_numeral, is_plain, is_range, number_at_end, range_end, stem, stem_len};
+ghost use Rattle.fx_text.specs.Ranges.{begins_with_zero, digits_at_end, has_leading_zero, is_numeral, is_plain};
+ghost use Rattle.fx_text.specs.Ranges.{is_range, number_at_end, range_end, stem, stem_len};
 
 use crate::lexeme::{Lexeme, number};
 use crate::name::is_same_name;

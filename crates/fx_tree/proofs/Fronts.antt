@@ -16,7 +16,7 @@ front-extends (suc k) rows [] e = absurd (omega arith)
 front-extends (suc k) [] (b ∷ j) e = refl
 front-extends (suc k) (a ∷ rows) (b ∷ j) e = ap (λ z. eqb a b && z) (front-extends k rows j (omega arith))
 
--- a list stands before another by their first k rows, or has the same ones
+-- a list precedes another by their first k rows, or has the same ones
 pub front-before : (k : ℕ) (d q : List ℕ) → k ≤ length d → k ≤ length q
     → (before d q && not (same (take k d) (take k q))) ≡ before (take k d) (take k q)
 front-before zero d q h g = and_right _ _ refl

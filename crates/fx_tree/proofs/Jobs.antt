@@ -142,7 +142,7 @@ module _ (p : Problem) (f : IsField p.dimensions.q) (j : List ℕ) (job : length
         or_left _ _ least ∙ sym (ap (λ o. is_not_after o rows) (find-never (is_own T j) own-never (prefixes p)))
 
   module _ (plain : p.least ≡ false) (branch : is_branch p (lot_of d j) ≡ true) where
-    -- no complete allowed matrix stands before the lot
+    -- no complete allowed matrix precedes the lot
     none-before : (m : List ℕ) → is_complete_allowed p m ≡ true → before m (lot_of d j) ≡ false
     none-before m h =
         let parts =

@@ -47,7 +47,7 @@ module _ (p : Problem) (f : IsField p.dimensions.q) (some : 0 < p.dimensions.s +
     | inr e ↦ opens-plain p e q ∙ (and_parts (is_allowed p.dimensions p.requirement q) _ h).0
   ]
 
-  -- no design stands before a branch where no least pattern is asked
+  -- no design precedes a branch where no least pattern is asked
   none-before-branch : (q : List ℕ) → is_branch p q ≡ true → (m : List ℕ) → D m ≡ true → before m q ≡ true → ⊥
   none-before-branch q branch m h first = elim (cases_Bool p.least) [
     | inl e ↦ clash (D m) h (no-design p e m)

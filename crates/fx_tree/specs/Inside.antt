@@ -11,7 +11,7 @@ use Rattle.fx_tree.specs.Ranked.{extends}
 abbrev pub is_own : Tree → List ℕ → List ℕ → Bool
 is_own t j d = is_tree_design t d && extends d j
 
--- allowed, not whole, and no design that begins with j stands before it
+-- allowed, not whole, and no design that begins with j precedes it
 abbrev pub is_branch_in : Tree → List ℕ → List ℕ → Bool
 is_branch_in t j p =
     t.allowed p && (nat_lt (length p) t.size && not (list_any (λ d. is_own t j d && before d p) (tree_prefixes t)))

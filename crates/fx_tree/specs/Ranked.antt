@@ -26,7 +26,7 @@ extends d [] = true
 extends [] (b ∷ q) = false
 extends (a ∷ d) (b ∷ q) = (a == b) && extends d q
 
--- whether d counts for p: it stands before it, and is not in another job of its lot
+-- whether d counts for p: it precedes it, and is not in another job of its lot
 abbrev pub counts_for : Ranked → List ℕ → List ℕ → Bool
 counts_for x d p =
     before d p

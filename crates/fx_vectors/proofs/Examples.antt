@@ -16,7 +16,7 @@ all_effects_of_four : are_in_order (1 ∷ 2 ∷ 4 ∷ 8 ∷ 3 ∷ 5 ∷ 9 ∷ 6 
 unfolding factors_of ones
 all_effects_of_four = refl
 
--- AD stands before BC, though its number is greater
+-- AD precedes BC, though its number is greater
 not_by_number : are_in_order (6 ∷ 9 ∷ []) ≡ false
 unfolding factors_of ones
 not_by_number = refl

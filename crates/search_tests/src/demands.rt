@@ -64,7 +64,7 @@ fn two_effects(alloc: Global) -> Result<Question, NoMemory>
     })
 }
 
-/// BC, AD and BC again: AD stands before BC, and their union is ABCD.
+/// BC, AD and BC again: AD precedes BC, and their union is ABCD.
 #[test]
 fn unions_come_once_and_in_order(rt: HostRuntime) {
     let stars = Effects::from_slice(rt.alloc(), &[Effect(6), Effect(9), Effect(6)]).expect(

@@ -221,7 +221,7 @@ fn false_tables_are_rejected(rt: HostRuntime) {
             // The image is the prefix itself, or stands behind it.
             ("P 7\nP 6\nI 5 1 2 4\nI 3 4 1 2\n", 10, 9),
             ("I 7 2 1 4\n", 8, 9),
-            // One row can still come, and one is missing.
+            // One row can still follow, and one is missing.
             ("P 7\nP 6\nP 5\nR 3\n", 11, 10),
             ("P 7\nR 6\n", 9, 10),
         ],

@@ -9,7 +9,8 @@ use Rattle.fx_program.proofs.SoFar.{no_source, worse_low}
 use Rattle.fx_program.proofs.Stages.{stages_given}
 use Rattle.fx_table_program.specs.Tables.{AllHold}
 use Rattle.fx_table_program.proofs.Tabulated.{all_listed, head_given, last_line, line_given, listable, no_last_line, none_listed}
-use Rattle.fx_table_program.proofs.Tabulated.{later_lines, next_holds, one_line_more, open_table, opens, stopped_in_head, stopped_in_line, with_last, with_later}
+use Rattle.fx_table_program.proofs.Tabulated.{later_lines, next_holds, one_line_more, open_table, opens}
+use Rattle.fx_table_program.proofs.Tabulated.{stopped_in_head, stopped_in_line, with_last, with_later}
 use Rattle.fx_table_program.proofs.tabulating.list_table.Goals as goal
 
 pub returns-in_err-list_head : goal.returns-in_err-list_head

@@ -40,7 +40,8 @@ pub invariant_of-self-in-Ok-insert : goal.invariant_of-self-in-Ok-insert
 invariant_of-self-in-Ok-insert c =
     let long : vec_len c.self.inside.plans ≡ length c.self.inside.plans.items = search rules in
     numbered c.self.inside.plans.items c.push.new.self.items c.self.inside.numbers.entries c.insert.new.self.entries
-    c.args.plan c.in_ok-key.key c.in-Ok.number c.in-Ok-push.ensures.items (c.in_ok-key.ensures ∙ ap (λ (l : List ℕ). str_to_ascii_lowercase l) c.as_slice.ensures)
+    c.args.plan c.in_ok-key.key c.in-Ok.number c.in-Ok-push.ensures.items
+    (c.in_ok-key.ensures ∙ ap (λ (l : List ℕ). str_to_ascii_lowercase l) c.as_slice.ensures)
     (c.in-Ok.ensures.1 ∙ c.len.ensures ∙ long) c.in-Ok-insert.ensures.entries
     (subst (λ (plans : List EarlierPlan). place_of c.args.plan.name (plan_names plans) ≡ None) (sym c.self.view_is)
     c.requires)
