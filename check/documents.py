@@ -23,7 +23,7 @@ PAGES = [
     TABLES,
 ]
 LISTING = re.compile(
-    r"(steps?|factors|resolution|budget|nodes|book|output|plan|catalogue|table|rules) \S"
+    r"(steps?|factors|resolution|budget|nodes|book|output|foldover|plan|catalogue|table|rules) \S"
     r"|(no )?design |rules$|points |blocked|aliasing|aberration|  \S"
 )
 COMMAND = re.compile(r"\./factex (judge \d|large \d+|(?:catalogue|tables) (\d) (\d+) \d+( --nodes=\d+)?)( < (\S+))?")
