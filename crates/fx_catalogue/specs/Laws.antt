@@ -37,6 +37,6 @@ Holds shape budget (Least matrix pattern count book) = IsLeast shape matrix patt
 Holds shape budget (Nothing count book) = IsAbsent shape book
 Holds shape budget Budget = budget < length (nodes (problem_at shape))
 
--- the same dimensions with one factor more
-abbrev pub with_factor : Dimensions → Dimensions
-with_factor d = record { q = d.q; m = d.m; s = d.s + 1; t = d.t }
+-- the same dimensions with this number of factors
+abbrev pub with_factors : Dimensions → ℕ → Dimensions
+with_factors d s = record { q = d.q; m = d.m; s = s; t = d.t }

@@ -7,7 +7,7 @@ ghost use Rattle.fx_vectors.specs.declared.shape.Shape.{Shape};
 ghost use Rattle.fx_vectors.specs.Shape.{IsShape, dimensions_of};
 ghost use Rattle.fx_book.specs.QuestionBooks.{book_for};
 ghost use Rattle.fx_catalogue.specs.declared.line.Line.TheVariants.{Budget, Nothing};
-ghost use Rattle.fx_catalogue.specs.Laws.{Holds, with_factor};
+ghost use Rattle.fx_catalogue.specs.Laws.{Holds, with_factors};
 ghost use Rattle.fx_catalogue.specs.Lines.{line_of, problem_at};
 
 /// What a line claims holds of all rule matrices of its shape, canonical or not: that none of resolution 3
@@ -28,10 +28,11 @@ pub fn budget_ends_where_passed()
         → (line_of shape budget ≡ Budget) ↔ (budget < length (nodes (problem_at shape))) }
 {}
 
-/// Where no rule matrix has a resolution, none with one factor more has it, so a catalogue ends with its
-/// first line without a design.
+/// Where no rule matrix has a resolution, none with more factors has it, so a catalogue ends with its first
+/// line without a design.
 pub fn none_with_more_factors()
-    ensures { (d : Dimensions) (r : ℕ) → IsTrue (is_order d.q)
+    ensures { (d : Dimensions) (r s : ℕ) → IsTrue (is_order d.q)
         → NoneMeets d (AtResolution r)
-        → NoneMeets (with_factor d) (AtResolution r) }
+        → d.s ≤ s
+        → NoneMeets (with_factors d s) (AtResolution r) }
 {}

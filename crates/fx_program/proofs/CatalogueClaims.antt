@@ -6,7 +6,6 @@ use Rattle.std.specs.List.{AllByRecursion, list_any, range_with_len}
 use Rattle.std.proofs.lemmas.List.Elements.{All-from_recursion}
 use Rattle.fx_designs.specs.Matrices.{NoneMeets}
 use Rattle.fx_designs.specs.Problems.{AtResolution}
-use Rattle.fx_laws.proofs.Tables.{is_order-field}
 use Rattle.fx_vectors.specs.declared.shape.Shape.{Shape}
 use Rattle.fx_vectors.specs.Shape.{dimensions_of}
 use Rattle.fx_catalogue.specs.Catalogues.{Entry, entries, entries_status, entry_at, is_nothing, shape_at}
@@ -102,17 +101,6 @@ module _ {q m most budget : ℕ} (h : IsCatalogue q m most budget) where
   line_holds : (s : ℕ) → m < s → s ≤ most → Holds (shape_at q m s) budget (line_of (shape_at q m s) budget)
   line_holds s more upto = holds (shape_at q m s) (line_shape h s more upto) refl budget
 
-  -- with more factors there is none either
-  none_up : (s k : ℕ) → NoneMeets (dimensions_of (shape_at q m s)) (AtResolution 3)
-      → NoneMeets (dimensions_of (shape_at q m (s + k))) (AtResolution 3)
-  none_up s zero none =
-      subst (λ n. NoneMeets (dimensions_of (shape_at q m n)) (AtResolution 3)) (let e : s ≡ s + 0 = omega arith in e)
-      none
-  none_up s (suc k) none =
-      subst (λ n. NoneMeets (dimensions_of (shape_at q m n)) (AtResolution 3))
-      (let e : s + k + 1 ≡ s + suc k = omega arith in e)
-      (none-above (dimensions_of (shape_at q m (s + k))) (is_order-field q h.order) 3 (none_up s k none))
-
   ends_with_none : entries_status (entries q m most budget) ≡ 1 → EndsWithNone q m (entries q m most budget)
   unfolding entries
   ends_with_none one =
@@ -124,11 +112,9 @@ module _ {q m most budget : ℕ} (h : IsCatalogue q m most budget) where
         last = entry_at q m budget last.factors;
         behind = last.behind;
         nothing = last.nothing;
-        none = λ s from.
-            subst (λ n. NoneMeets (dimensions_of (shape_at q m n)) (AtResolution 3))
-            (let e : last.factors + (s - last.factors) ≡ s = omega (arith, from) in e)
-            (none_up last.factors (s - last.factors)
-            (none_claimed _ budget _ (line_holds last.factors more upto) last.nothing));
+        none =
+            none-above (dimensions_of (shape_at q m last.factors)) h.order 3
+            (none_claimed _ budget _ (line_holds last.factors more upto) last.nothing);
       }
 
   pub catalogue_holds : (status : ℕ) → status ≡ entries_status (entries q m most budget)

@@ -2,3 +2,4 @@ mod OfCatalogue
 mod Tabulated
 mod Checked
 mod Given
+mod Past

@@ -2,6 +2,7 @@
 #![tactic(auto)]
 
 mod checking;
+mod laws;
 mod line;
 mod listing;
 mod names;
@@ -10,6 +11,7 @@ mod standard;
 mod tabulating;
 mod words;
 
+pub use laws::none_past_the_last_line;
 pub use run::tables;
 pub use standard::{run_standard, start};
 pub use words::{TableSettings, read_table_words};

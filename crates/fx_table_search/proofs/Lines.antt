@@ -10,6 +10,7 @@ use Rattle.fx_designs.specs.Galois.{digits}
 use Rattle.fx_designs.specs.Vectors.{vectors_of, weight}
 use Rattle.fx_designs.specs.Problems.{Dimensions, AtResolution}
 use Rattle.fx_designs.specs.Demands.{do_runs_meet, is_met}
+use Rattle.fx_designs.specs.Canonical.{is_canonical}
 use Rattle.fx_designs.specs.Matrices.{row_numbers}
 use Rattle.fx_designs.specs.Runs.{points, is_constant, runs_of}
 use Rattle.fx_designs.specs.Patterns.{constant_words, pattern_of, is_less}
@@ -116,6 +117,7 @@ module _ (matrix : MatrixView) (pattern : List ℕ) (entries : List Entry) (h : 
       (v : Verdict) → v ≡ Accepted
       → v ≡ verdict_of (flaw_of (claim_of (book question beat).head) (meanings_of entries))
       → IsProved (claim_of (book question beat).head) v
+      → is_canonical (dimensions_of question.shape) (requirement_of question.demands) matrix.rows ≡ true
       → do_runs_meet (dimensions_of question.shape) (requirement_of question.demands) xs ≡ true
       → IsLeast matrix.shape matrix pattern (book question beat)
 
@@ -123,9 +125,10 @@ module _ (matrix : MatrixView) (pattern : List ℕ) (entries : List Entry) (h : 
       → xs ≡ runs_of matrix.shape.q matrix.shape.m (vectors_of matrix.shape.q matrix.shape.m matrix.rows)
       → Makes xs (question_of matrix.shape true) pattern
   unfolding is_met Makes
-  makes xs er v ev verdict claim met = record {
+  makes xs er v ev verdict claim canonical met = record {
     of_shape = refl;
     whole = whole;
+    canonical = canonical;
     resolution = subst (λ x. do_runs_meet (dimensions_of matrix.shape) (AtResolution 3) x ≡ true) er met;
     pattern_is = is;
     least = λ factors blocks m meets.

@@ -2,6 +2,7 @@
 use Rattle.std.specs.Prelude.{ℕ, ◌≡◌, ◌≤◌, Bool, true, List, length, Option, Some, None}
 use Rattle.std.specs.Option.{is_some}
 use Rattle.fx_designs.specs.Problems.{AtResolution}
+use Rattle.fx_designs.specs.Canonical.{is_canonical}
 use Rattle.fx_designs.specs.Demands.{is_met}
 use Rattle.fx_designs.specs.Patterns.{pattern_of}
 use Rattle.fx_designs.specs.Matrices.{NoneMeets}
@@ -34,11 +35,12 @@ pub record IsAccepted (book : TableBook) (head : Head) : Type 0 where
   pub valid : IsValidTable book
   pub accepted : verdict_of (flaw_of (claim_of book.head) (meanings_of book.entries)) ≡ Accepted
 
--- a whole rule matrix of resolution 3 or more, with its pattern; of all rule matrices of the shape of resolution 3 or
--- more, canonical or not, none has a less one; and the book that proves it
+-- a whole canonical matrix of resolution 3 or more, with its pattern; of all rule matrices of the shape of resolution 3
+-- or more, canonical or not, none has a less one; and the book that proves it
 pub record IsLeast (shape : Shape) (matrix : MatrixView) (pattern : List ℕ) (book : TableBook) : Type 0 where
   pub of_shape : matrix.shape ≡ shape
   pub whole : length matrix.rows ≡ shape.s
+  pub canonical : is_canonical (dimensions_of shape) (AtResolution 3) matrix.rows ≡ true
   pub resolution : is_met (dimensions_of shape) (AtResolution 3) matrix.rows ≡ true
   pub pattern_is : pattern ≡ pattern_of (dimensions_of shape) matrix.rows
   pub least : HasLeastPattern (dimensions_of shape) (AtResolution 3) matrix.rows

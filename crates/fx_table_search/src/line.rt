@@ -8,14 +8,15 @@ use crate::walk::{Walked, make_entries};
 use fx_base::{Items, NoMemory};
 use fx_runs::{list_runs, meets};
 use fx_tables::{Entry, TableBook, Verdict, check_table};
+use fx_tree::is_canonical;
 use fx_vectors::{Demands, Head, Matrix, Pattern, Question, Shape};
 use std::alloc::Global;
 
 /// What a table has for one number of factors.
 #[derive(Drop)]
 pub enum TableLine {
-    /// A matrix whose runs meet resolution 3, and its word-length pattern: none of the rule matrices that meet it has
-    /// a less one. The book proves it, and was accepted.
+    /// A canonical matrix whose runs meet resolution 3, and its word-length pattern: none of the rule matrices that
+    /// meet it has a less one. The book proves it, and was accepted.
     Least {
         matrix: Matrix,
         pattern: Pattern,
@@ -87,7 +88,7 @@ fn nothing(alloc: Global, shape: Shape, entries: Items<Entry>) -> Result<TableLi
     }
 }
 
-/// The line of a matrix, if its runs meet resolution 3 and its book is accepted.
+/// The line of a matrix, if it is canonical, its runs meet resolution 3 and its book is accepted.
 fn least(alloc: Global, best: Best, entries: Items<Entry>) -> Result<TableLine, NoMemory>
     requires shaped { IsShape best.matrix.shape }
     requires no_blocks { best.matrix.shape.t ≡ 0 }
@@ -100,7 +101,7 @@ fn least(alloc: Global, best: Best, entries: Items<Entry>) -> Result<TableLine, 
     let count = entries.len() as u32;
     let question = question_of(matrix.shape(), true);
     let runs = list_runs(alloc, &matrix)?;
-    if !meets(&question, &runs) {
+    if !is_canonical(&question, &matrix) || !meets(&question, &runs) {
         return Ok(TableLine::Open { entries: count });
     }
     let beat = Pattern::from_slice(alloc, pattern.as_slice())?;

@@ -20,4 +20,5 @@ returns-in-Accepted c =
     (c.question_of-question.ensures ∙ ap (λ (s : Shape). question_of s true) c.shape.ensures.shape)
     (c.in_ok-beat.ensures ∙ c.as_slice.ensures)
     _ c.in-Accepted.is c.in_ok-check_table.ensures.verdict c.in_ok-check_table.ensures.claim
+    (sym c.is_canonical.ensures ∙ c.if-not-is_canonical.false)
     (sym c.meets.ensures ∙ c.if-not-meets.false)
