@@ -1,4 +1,4 @@
-use Rattle.std.proofs.Common.{◌≡◌, true, List, length, ap, subst, arith}
+use Rattle.std.proofs.Common.{◌≡◌, ◌+◌, true, List, length, ap, subst, arith}
 use Rattle.std.specs.List.{list_any}
 use Rattle.fx_table_search.specs.declared.line.TableLine.{TableLine}
 use Rattle.fx_table_program.specs.Tables.{is_nothing}
