@@ -6,9 +6,9 @@ For each the program has to end in time (processor time below 2 s and two micros
 0 to 3, as nothing refuses it memory or files, and with nothing on standard error. One thread and four have to give the same
 bytes, files and status; the files have to be those of the listing, and as long; books have to be accepted by `check` and by
 check/check_book.py, which have to agree on every changed book, too; plans have to be judged regular; what `judge` counts has
-to be what is counted here; a table has to have the patterns of the catalogue, and of its own rules. An input that fails is kept in the folder, by default hostile-failures, with its words. The same
-seed gives the same inputs, until the time ends. Prints the counts by kind; ends with status 1 if anything failed. The gate
-does not run it."""
+to be what is counted here; a table has to have the patterns of the catalogue, and of its own rules. An input that fails is
+kept in the folder, by default hostile-failures, with its words. The same seed gives the same inputs, until the time ends.
+Prints the counts by kind; ends with status 1 if anything failed. The gate does not run it."""
 import argparse, collections, csv, io, itertools, os, random, re, signal, subprocess, sys, tempfile
 
 sys.path.insert(0, os.path.join(os.path.dirname(os.path.dirname(os.path.abspath(__file__))), "check"))
@@ -480,7 +480,7 @@ def level_values(q):
 
 def counted(q, codes):
     """The number of pairs of components, and of those aliased, orthogonal and partial, as JUDGE.md says."""
-    field, s, n = check_book.Field(q), len(codes[0]), len(codes)
+    field, s, n = check_book.field_of(q), len(codes[0]), len(codes)
     minus = [next(b for b in range(q) if field.plus[a][b] == 0) for a in range(q)]
     columns = [[row[i] for row in codes] for i in range(s)]
     for i, j in itertools.combinations(range(s), 2):

@@ -2,9 +2,9 @@
 """bench/worst.py PROGRAM [--minutes M] [--first SEED] [--limit SECONDS] [--only SEED]: a hunt for the slowest question.
 
 Draws random questions at the limits, one a seed, runs each as a whole run of the program, and prints its nodes, seconds of
-processor time, nanoseconds a node and peak memory. At the end it prints the worst ten in time, the worst ten in memory, and each question
-that took more than one second plus two microseconds a node. --only SEED prints the text of one question and runs it alone.
-The gate does not run it."""
+processor time, nanoseconds a node and peak memory. At the end it prints the worst ten in time, the worst ten in memory, and
+each question that took more than one second plus two microseconds a node. --only SEED prints the text of one question and
+runs it alone. The gate does not run it."""
 import argparse, os, random, re, subprocess, sys, tempfile, time
 
 # The greatest m with q^m <= 1,024, for each number of levels q.

@@ -77,13 +77,6 @@ class Field:
                 product[k - degree + i] = (product[k - degree + i] + product[k] * coefficient) % p
         return number_of(p, product[:degree])
 
-    def sum_with(self, m, x, code, row):
-        """The number of the vector x, plus a multiple of the row, of m codes each."""
-        if self.q == 2:
-            return x ^ row if code else x
-        scaled = [self.times[code][r] for r in digits(self.q, m, row)]
-        return number_of(self.q, [self.plus[a][b] for a, b in zip(digits(self.q, m, x), scaled)])
-
     def dot(self, first, second):
         """The sum of the products of the codes of two vectors."""
         total = 0
@@ -92,11 +85,20 @@ class Field:
         return total
 
 
+@functools.cache
+def field_of(q):
+    return Field(q)
+
+
 @functools.lru_cache(4096)
 def sums_with(q, m, code, row):
-    """The sum of each vector, by its number, and a multiple of the row."""
-    field = Field(q)
-    return [field.sum_with(m, x, code, row) for x in range(q**m)]
+    """The sum of each vector of m codes, by its number, and a multiple of the row."""
+    field = field_of(q)
+    sums = [0]
+    for other in digits(q, m, row):
+        step = field.times[code][other]
+        sums = [low + len(sums) * field.plus[a][step] for a in range(q) for low in sums]
+    return sums
 
 
 def last_code(codes):
@@ -300,7 +302,7 @@ class Walk:
 
     def __init__(self, book):
         self.book = book
-        self.field = Field(book.q)
+        self.field = field_of(book.q)
         self.rows = []
         self.ranks = [0]
         # How many combinations of each weight of the rows have each sum.
@@ -376,7 +378,7 @@ class Walk:
         total = 0
         for code, row in zip(word, self.rows):
             if code:
-                total = self.field.sum_with(self.book.m, total, code, row)
+                total = sums_with(self.book.q, self.book.m, code, row)[total]
         return total == 0
 
     def is_forbidden(self, word):

@@ -4,10 +4,10 @@
 Usage: documents.py COMMAND ..    as documents.py ./factex, or documents.py ./factex try, which keeps no files
 
 A block of code that is a program text is run, and so is a block that begins with a `judge`, `large`, `catalogue` or
-`tables` command; what follows the command in its block has to be printed. So are the tables of bench/catalogue.txt. Catalogues of
-more than 27 runs take long, and are left to bench/catalogue.sh. A block of EXAMINE and OUTPUT statements is added to the program before it. A block that begins
-like a listing, a plan or a table of runs has to be a part of what the last program or command of its page printed or
-wrote. Prints each block that is not, and ends with status 1 if there is one.
+`tables` command; what follows the command in its block has to be printed. So are the tables of bench/catalogue.txt.
+Catalogues of more than 27 runs take long, and are left to bench/catalogue.sh. A block of EXAMINE and OUTPUT statements is
+added to the program before it. A block that begins like a listing, a plan or a table of runs has to be a part of what the
+last program or command of its page printed or wrote. Prints each block that is not, and ends with status 1 if there is one.
 """
 import pathlib
 import re
