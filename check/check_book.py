@@ -87,6 +87,7 @@ class Field:
 
 @functools.cache
 def field_of(q):
+    """The field of q codes, made once."""
     return Field(q)
 
 
