@@ -2,6 +2,7 @@ ghost use Rattle.std.specs.Prelude.{◌≡◌, ◌<◌, ◌≤◌, ◌+◌, ◌^
 ghost use Rattle.fx_designs.specs.Answers.{answer};
 ghost use Rattle.fx_designs.specs.Problems.{Problem};
 ghost use Rattle.fx_vectors.specs.Shape.{IsShape, dimensions_of};
+ghost use Rattle.fx_search.specs.FactorRows.{AreForbidden};
 ghost use Rattle.fx_search.specs.Standing.{best_rows};
 ghost use Rattle.fx_statements.specs.Steps.{Meaning, meaning_of};
 ghost use Rattle.fx_statements.specs.Questions.{
@@ -39,6 +40,8 @@ use crate::booking::{add_absence, add_answer, question_number};
 use crate::question::{highest, lowest, question_for, resolution_wanted};
 use fx_base::NoMemory;
 use fx_board::{Alone, Asked, Gate, ask_after};
+use fx_demands::ForbiddenVectors;
+use fx_search::forbidden_vectors_of;
 use fx_statements::{End, Outcome, Size, Step};
 use fx_vectors::{Books, Matrix, Shape};
 use std::alloc::Global;
@@ -88,7 +91,10 @@ pub fn answer<R: Threads + Sync, G: Gate>(
         nodes: 0,
         books: Books::new(alloc),
     };
-    ask_from(rt, alloc, step, threads, gate, lowest(step), none)
+    let n = lowest(step);
+    // One list serves all questions: they differ in runs, blocks or resolution alone.
+    let words = forbidden_vectors_of(alloc, &question_for(alloc, step, n)?)?;
+    ask_from(rt, alloc, step, &words, threads, gate, n, none)
 }
 
 /// Asks the questions for the numbers from `n` on, after those that are finished.
@@ -97,6 +103,7 @@ fn ask_from<R: Threads + Sync, G: Gate>(
     rt: &R,
     alloc: Global,
     step: &Step,
+    words: &ForbiddenVectors,
     threads: u8,
     gate: &G,
     n: u8,
@@ -105,6 +112,7 @@ fn ask_from<R: Threads + Sync, G: Gate>(
     requires threads { (0 < threads) × (threads ≤ 64) }
     requires low { lowest (meaning_of step.now) step.now.size ≤ n }
     requires high { n ≤ highest (meaning_of step.now) step.now.size }
+    requires words { (k : ℕ) → AreForbidden (question_for (meaning_of step.now) k) words.now }
     requires within { finished.nodes ≤ step.now.budget }
     requires found { IsOf (meaning_of step.now) finished.found }
     requires whole { IsWhole finished.found }
@@ -129,9 +137,10 @@ fn ask_from<R: Threads + Sync, G: Gate>(
         rt,
         alloc,
         &question,
+        words,
         step.budget - finished.nodes,
         threads,
-        Alone::of(&question),
+        Alone::few(),
         gate,
     )? {
         Asked::Found {
@@ -146,7 +155,9 @@ fn ask_from<R: Threads + Sync, G: Gate>(
                 nodes: finished.nodes + nodes,
                 books,
             };
-            go_on(rt, alloc, step, threads, gate, n, shape, true, finished)
+            go_on(
+                rt, alloc, step, words, threads, gate, n, shape, true, finished,
+            )
         }
         Asked::Nothing { nodes, marks } => {
             add_absence(&mut books, number, question, marks)?;
@@ -156,7 +167,9 @@ fn ask_from<R: Threads + Sync, G: Gate>(
                 nodes: finished.nodes + nodes,
                 books,
             };
-            go_on(rt, alloc, step, threads, gate, n, shape, false, finished)
+            go_on(
+                rt, alloc, step, words, threads, gate, n, shape, false, finished,
+            )
         }
         Asked::Budget { best } => {
             let reached = reached_beside(&best, finished.reached);
@@ -171,6 +184,7 @@ fn go_on<R: Threads + Sync, G: Gate>(
     rt: &R,
     alloc: Global,
     step: &Step,
+    words: &ForbiddenVectors,
     threads: u8,
     gate: &G,
     n: u8,
@@ -181,6 +195,7 @@ fn go_on<R: Threads + Sync, G: Gate>(
     requires threads { (0 < threads) × (threads ≤ 64) }
     requires low { lowest (meaning_of step.now) step.now.size ≤ n }
     requires high { n ≤ highest (meaning_of step.now) step.now.size }
+    requires words { (k : ℕ) → AreForbidden (question_for (meaning_of step.now) k) words.now }
     requires within { finished.nodes ≤ step.now.budget }
     requires shape { IsShapeOf (meaning_of step.now) shape }
     requires dimensions { (question_for (meaning_of step.now) n).dimensions ≡ dimensions_of shape }
@@ -202,7 +217,7 @@ fn go_on<R: Threads + Sync, G: Gate>(
     if n == highest(step) || is_last(step.size, is_answered) {
         return Ok(concluded(shape, finished));
     }
-    ask_from(rt, alloc, step, threads, gate, n + 1, finished)
+    ask_from(rt, alloc, step, words, threads, gate, n + 1, finished)
 }
 
 /// Whether no further question is asked after one that has an answer, or has none.

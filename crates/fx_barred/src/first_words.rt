@@ -27,17 +27,17 @@ use std::marker::Model;
 
 /// The rows so far, and for each point that may come next the first forbidden vector that it brings
 /// to zero. Clauses see the rows and the vectors.
-pub struct FirstWords {
+pub struct FirstWords<'a> {
     /// The rows and their multiples. No rows are taken together here.
     reached: Reached,
-    words: ForbiddenVectors,
+    words: &'a ForbiddenVectors,
     /// For each number of rows, and each sum over them, one more than the first vector that has it and
     /// its last factor right after these rows, or 0.
     tables: Vec<usize>,
 }
 
 // Not derived, so that a place that drops one is proved with one call.
-impl Drop for FirstWords {
+impl Drop for FirstWords<'_> {
     fn drop(self) {
         let FirstWords {
             reached: _,
@@ -47,17 +47,17 @@ impl Drop for FirstWords {
     }
 }
 
-impl Model for FirstWords {
+impl<'a> Model for FirstWords<'a> {
     ghost use Rattle.fx_barred.specs.FirstWords.{FirstWordsView, AreFirstWords};
 
     ghost Value = { FirstWordsView };
 
-    ghost view = { λ x. record { q = x.reached.q; m = x.reached.m; room = x.reached.room; words = x.words; rows = x.reached.rows } };
+    ghost view = { λ x. record { q = x.reached.q; m = x.reached.m; room = x.reached.room; words = x.words.now; rows = x.reached.rows } };
 
-    ghost invariant = { λ x. AreFirstWords x.reached x.words x.tables.items };
+    ghost invariant = { λ x. AreFirstWords x.reached x.words.now x.tables.items };
 }
 
-impl FirstWords {
+impl<'a> FirstWords<'a> {
     /// No rows, and place for `s` of them, where these vectors over `s` factors are forbidden.
     ///
     /// # Errors
@@ -68,15 +68,15 @@ impl FirstWords {
         field: Field,
         m: u8,
         s: usize,
-        words: ForbiddenVectors,
-    ) -> Result<FirstWords, NoMemory>
+        words: &'a ForbiddenVectors,
+    ) -> Result<FirstWords<'a>, NoMemory>
         requires runs { field ^ m ≤ 1024 }
         requires some { 1 ≤ s }
         requires room { s ≤ MOST_FACTORS }
         requires fits { field ^ s < 2 ^ 127 }
-        requires words { AreWords field s words }
+        requires words { AreWords field s words.now }
         ensures { IfOk result (λ first.
-            first ≡ record { q = field; m = m; room = s; words = words; rows = [] }) }
+            first ≡ record { q = field; m = m; room = s; words = words.now; rows = [] }) }
     {
         let reached = Reached::of(alloc, field, m, 0, s)?;
         let mut tables = filled(alloc, 0usize, s * usize::from(reached.size()))?;

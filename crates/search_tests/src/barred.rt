@@ -2,7 +2,7 @@ ghost use Rattle.std.specs.Prelude.{◌≡◌};
 ghost use Rattle.fx_vectors.specs.Shape.{IsShape, dimensions_of};
 
 use crate::questions::{question, shape_of};
-use fx_search::{Barred, Pruner};
+use fx_search::{Barred, Pruner, forbidden_vectors_of};
 use fx_vectors::Shape;
 use std::process::Abort;
 
@@ -44,7 +44,8 @@ fn closing_word(rt: &impl Abort, shape: Shape, barred: &Barred, row: u16) -> u12
 fn all_rows_are_barred_after_a_half_fraction(rt: HostRuntime) {
     let question = question(&rt, shape_of(&rt, (2, 3, 5, 0)), 4, false);
     let shape = question.shape;
-    let mut barred = Barred::of(rt.alloc(), &question).expect(&rt, "memory");
+    let words = forbidden_vectors_of(rt.alloc(), &question).expect(&rt, "memory");
+    let mut barred = Barred::of(rt.alloc(), &question, &words).expect(&rt, "memory");
     push_open(&rt, shape, &mut barred, 1);
     push_open(&rt, shape, &mut barred, 2);
     push_open(&rt, shape, &mut barred, 4);

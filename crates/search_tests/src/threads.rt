@@ -6,7 +6,7 @@ use crate::questions::{main_effects, question, shape_of};
 use crate::rows_of;
 use crate::searches::are_same_marks;
 use fx_board::{Alone, Asked, FreeGate, ask, ask_after};
-use fx_search::ask_alone;
+use fx_search::{ask_alone, forbidden_vectors_of};
 use fx_vectors::Question;
 use std::alloc::Global;
 use std::process::Abort;
@@ -79,7 +79,10 @@ fn answer_so<R: Threads + Sync + Abort>(
     requires budget { budget ≤ 5000000 }
 {
     let threads = threads.clamp(1, 64);
-    let asked = ask_after(rt, alloc, question, budget, threads, nodes, &FreeGate);
+    let words = forbidden_vectors_of(alloc, question).expect(rt, "memory");
+    let asked = ask_after(
+        rt, alloc, question, &words, budget, threads, nodes, &FreeGate,
+    );
     are_same(&asked.expect(rt, "memory"), alone)
 }
 
@@ -100,7 +103,7 @@ fn all_answer_so<R: Threads + Sync + Abort>(
         }
     }
     let asked = ask(rt, alloc, question, budget, 4, &FreeGate).expect(rt, "memory");
-    are_same(&asked, alone) && answer_so(rt, alloc, question, budget, 4, Alone::of(question), alone)
+    are_same(&asked, alone) && answer_so(rt, alloc, question, budget, 4, Alone::few(), alone)
 }
 
 /// Whether each number of threads answers as one does, under a budget.

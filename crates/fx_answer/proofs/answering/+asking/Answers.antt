@@ -6,6 +6,7 @@ use Rattle.fx_designs.specs.Jobs.{carried}
 use Rattle.fx_designs.specs.Answers.{answer}
 use Rattle.fx_designs.specs.Nodes.{nodes}
 use Rattle.fx_designs.specs.Problems.{Problem}
+use Rattle.fx_search.specs.FactorRows.{AreForbidden}
 use Rattle.fx_search.specs.Standing as fx_search
 use Rattle.fx_statements.specs.Steps.{meaning_of}
 use Rattle.fx_statements.specs.Questions.{cut_short, found_by, last_found, nodes_of, question_for, reached_beside}
@@ -21,6 +22,10 @@ use Rattle.fx_answer.proofs.answering.+asking.Goals as goal
 more : (earlier : List Problem) (p : Problem) (before count : ℕ) → before ≡ nodes_of earlier → count ≡ length (nodes p)
     → before + count ≡ nodes_of (earlier ++ p ∷ [])
 more earlier p before count is counted = let e = nodes_more earlier p in omega (arith, e, is, counted)
+
+pub ask_from-ask_after-requires-clause-words : goal.ask_from-ask_after-requires-clause-words
+ask_from-ask_after-requires-clause-words g t c lifetimes live =
+    subst (λ p. AreForbidden p c.args.words.now) (sym c.in_ok-question.ensures.problem) (c.requires.words c.args.n)
 
 pub ask_from-go_on-requires : goal.ask_from-go_on-requires
 ask_from-go_on-requires g t c lifetimes live =
@@ -48,8 +53,11 @@ ask_from-go_on-requires g t c lifetimes live =
                   (
                     c.requires.high,
                     (
-                      omega (arith, c.requires.within, h.4),
-                      (of, (dimensions, (answered, (found, found-whole question c.in-Found.matrix h.0 h.1)))),
+                      c.requires.words,
+                      (
+                        omega (arith, c.requires.within, h.4),
+                        (of, (dimensions, (answered, (found, found-whole question c.in-Found.matrix h.0 h.1)))),
+                      ),
                     ),
                   ),
                 ),

@@ -30,7 +30,7 @@ returns-else-found-eq0-clause-some c =
     let up : found ≡ suc (found - 1) = omega (arith, c.if-found-eq0.false) in
     let first =
     (c.self.invariant.first n (omega arith) room).some y (found - 1) c.minus.ensures.below (sym read ∙ up) in
-    let at : IsFirst r.q r.m r.rows s.words n (sum_of r.q (neg r.q 1) r.m 0 c.args.row) (found - 1) =
-    subst (λ (y : ℕ). IsFirst r.q r.m r.rows s.words n y (found - 1)) c.minus.ensures.negative first in
+    let at : IsFirst r.q r.m r.rows s.words.now n (sum_of r.q (neg r.q 1) r.m 0 c.args.row) (found - 1) =
+    subst (λ (y : ℕ). IsFirst r.q r.m r.rows s.words.now n y (found - 1)) c.minus.ensures.negative first in
     subst (λ (v : FirstWordsView). IsFirst v.q v.m v.rows v.words (length v.rows)
     (sum_of v.q (neg v.q 1) v.m 0 c.args.row) (found - 1)) c.self.view_is at

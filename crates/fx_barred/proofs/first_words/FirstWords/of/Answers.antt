@@ -23,11 +23,11 @@ invariant_of-result c =
     let room : c.args.s ≡ r.room = sym (ap (λ (v : ReachedView). v.room) now) in
     let total : length c.fill.new.tables ≡ r.room * r.q ^ r.m =
     len ∙ count ∙ ap (λ (n : ℕ). c.args.s * n) size ∙ ap (λ (n : ℕ). n * r.q ^ r.m) room in
-    let words : AreWords r.q r.room c.args.words =
-    subst (λ (v : ReachedView). AreWords v.q v.room c.args.words) (sym now) c.requires.words in
-    let first : AreFirst r.q r.m r.rows c.args.words (length r.rows) (length c.args.words) (length r.rows * r.q ^ r.m)
+    let words : AreWords r.q r.room c.args.words.now =
+    subst (λ (v : ReachedView). AreWords v.q v.room c.args.words.now) (sym now) c.requires.words in
+    let first : AreFirst r.q r.m r.rows c.args.words.now (length r.rows) (length c.args.words.now) (length r.rows * r.q ^ r.m)
     c.fill.new.tables =
     subst (λ (l : List ForbiddenVector). AreFirst r.q r.m r.rows l (length r.rows) (length l)
     (length r.rows * r.q ^ r.m) c.fill.new.tables) c.as_slice.ensures c.fill.ensures.first in
-    subst (λ (l : List ℕ). AreFirstWords r c.args.words l) (sym new)
-    (words_start r c.args.words c.fill.new.tables (ap (λ (v : ReachedView). v.rows) now) words total first)
+    subst (λ (l : List ℕ). AreFirstWords r c.args.words.now l) (sym new)
+    (words_start r c.args.words.now c.fill.new.tables (ap (λ (v : ReachedView). v.rows) now) words total first)

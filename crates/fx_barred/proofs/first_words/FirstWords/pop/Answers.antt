@@ -9,5 +9,5 @@ invariant_of-self c =
     let s = c.self.inside in
     let some : 0 < length s.reached.rows =
     subst (λ (v : FirstWordsView). 0 < length v.rows) (sym c.self.view_is) c.requires in
-    subst (λ (r : ReachedView). AreFirstWords r s.words s.tables.items) (sym c.pop.ensures)
-    (words_pop s.reached s.words s.tables.items some c.self.invariant)
+    subst (λ (r : ReachedView). AreFirstWords r s.words.now s.tables.items) (sym c.pop.ensures)
+    (words_pop s.reached s.words.now s.tables.items some c.self.invariant)

@@ -25,18 +25,18 @@ invariant_of-self c =
     (subst (λ (v : ReachedView). k < length v.rows * v.q ^ v.m) (sym now)
     (subst (λ (n : ℕ). k < n * r.q ^ r.m) (sym long) low))
     ∙ ap (λ (l : List ℕ). slice_index l k) old in
-    let first : AreFirst next.q next.m next.rows s.words (length r.rows + 1) (length s.words)
+    let first : AreFirst next.q next.m next.rows s.words.now (length r.rows + 1) (length s.words.now)
     ((length r.rows + 1) * r.q ^ r.m) c.fill.new.tables =
-    subst (λ (n : ℕ). AreFirst next.q next.m next.rows s.words n (length s.words) (n * r.q ^ r.m) c.fill.new.tables)
+    subst (λ (n : ℕ). AreFirst next.q next.m next.rows s.words.now n (length s.words.now) (n * r.q ^ r.m) c.fill.new.tables)
     long
-    (subst (λ (v : ReachedView). AreFirst v.q v.m v.rows s.words (length v.rows) (length s.words)
+    (subst (λ (v : ReachedView). AreFirst v.q v.m v.rows s.words.now (length v.rows) (length s.words.now)
     (length v.rows * v.q ^ v.m) c.fill.new.tables) now
     (subst (λ (l : List ForbiddenVector). AreFirst c.push.new.self.q c.push.new.self.m c.push.new.self.rows l
     (length c.push.new.self.rows) (length l) (length c.push.new.self.rows * c.push.new.self.q ^ c.push.new.self.m)
     c.fill.new.tables) c.as_slice.ensures c.fill.ensures.first)) in
-    subst (λ (l : List ℕ). AreFirstWords c.push.new.self s.words l) (sym new)
-    (subst (λ (v : ReachedView). AreFirstWords v s.words c.fill.new.tables) (sym now)
-    (words_push r c.args.row s.words s.tables.items c.fill.new.tables c.self.invariant len kept (λ more. first)))
+    subst (λ (l : List ℕ). AreFirstWords c.push.new.self s.words.now l) (sym new)
+    (subst (λ (v : ReachedView). AreFirstWords v s.words.now c.fill.new.tables) (sym now)
+    (words_push r c.args.row s.words.now s.tables.items c.fill.new.tables c.self.invariant len kept (λ more. first)))
 
 pub invariant_of-self-else-len-room : goal.invariant_of-self-else-len-room
 invariant_of-self-else-len-room c =
@@ -49,6 +49,6 @@ invariant_of-self-else-len-room c =
     subst (λ (n : ℕ). r.room ≤ n) long
     (subst (λ (v : ReachedView). v.room ≤ length v.rows) now
     (omega (arith, c.room.ensures.room, c.len.ensures.count, c.if-len-room.false))) in
-    subst (λ (v : ReachedView). AreFirstWords v s.words s.tables.items) (sym now)
-    (words_push r c.args.row s.words s.tables.items s.tables.items c.self.invariant refl (λ k low. refl)
+    subst (λ (v : ReachedView). AreFirstWords v s.words.now s.tables.items) (sym now)
+    (words_push r c.args.row s.words.now s.tables.items s.tables.items c.self.invariant refl (λ k low. refl)
     (λ more. absurd (omega arith)))

@@ -1,6 +1,7 @@
 use Rattle.std.proofs.Common.{◌≡◌, ◌∙◌, ap, sym, subst}
 use Rattle.fx_designs.specs.Jobs.{best_before}
 use Rattle.fx_vectors.specs.Question.{problem_of}
+use Rattle.fx_search.specs.FactorRows.{AreForbidden}
 use Rattle.fx_search.specs.Folds.{IsLot}
 use Rattle.fx_search.specs.LotWalks.{lot_view}
 use Rattle.fx_vectors.specs.declared.question.Question.{Question}
@@ -19,7 +20,8 @@ ends-requires-clause-jobs g c κs within =
     let rows : c.lot.result.now.rows ≡ v.rows = c.lot.ensures.rows in
     let lot = c.lot.result.now in
     let at = h.placed.paused.at in
-    let made : AreJobsOf v.question c.candidates.result.now lot jobs.rows earlier = record {
+    let words = c.args.self.now.words.now in
+    let made : AreJobsOf v.question c.candidates.result.now words lot jobs.rows earlier = record {
       lot_is = record {
         valid = at.valid;
         least = h.placed.least;
@@ -31,5 +33,7 @@ ends-requires-clause-jobs g c κs within =
       };
       rows_are = subst (λ l. AreRowsOf v.question l jobs.rows) (sym rows)
           (next-are v.question at.valid v.rows v.bound jobs.rows jobs.end c.requires.next h.placed.paused.bound);
+      words_are = subst (λ (z : Question). AreForbidden (problem_of z) words) (sym c.requires.question)
+          c.requires.words;
     } in
-    subst (λ (z : Question). AreJobsOf z c.candidates.result.now lot jobs.rows earlier) c.requires.question made
+    subst (λ (z : Question). AreJobsOf z c.candidates.result.now words lot jobs.rows earlier) c.requires.question made
