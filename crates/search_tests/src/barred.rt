@@ -1,7 +1,8 @@
 ghost use Rattle.std.specs.Prelude.{◌≡◌};
 ghost use Rattle.fx_vectors.specs.Shape.{IsShape, dimensions_of};
 
-use crate::questions::{question, shape_of};
+use crate::questions::{main_effects, question, shape_of};
+use fx_demands::ForbiddenVectors;
 use fx_search::{Barred, Pruner, forbidden_vectors_of};
 use fx_vectors::Shape;
 use std::process::Abort;
@@ -52,4 +53,31 @@ fn all_rows_are_barred_after_a_half_fraction(rt: HostRuntime) {
     push_open(&rt, shape, &mut barred, 7);
     assert!(rt; bars_eight(&rt, shape, &barred));
     assert!(rt; closing_word(&rt, shape, &barred, 6) == 25);
+}
+
+/// Whether the vectors have these numbers.
+fn have_numbers(vectors: &ForbiddenVectors, numbers: &[u128]) -> bool {
+    if vectors.len() != numbers.len() {
+        return false;
+    }
+    for i in 0..numbers.len() {
+        if vectors.get(i).number != numbers[i] {
+            return false;
+        }
+    }
+    true
+}
+
+/// A and B are estimated at three levels where A, B, A^2*B and A*B are balanced. For a resolution no vectors are
+/// listed.
+#[test]
+fn vectors_of_two_main_effects_are_listed(rt: HostRuntime) {
+    let shape = shape_of(&rt, (3, 2, 2, 0));
+    assert!(rt; shape.s >= 2);
+    let effects = main_effects(rt.alloc(), shape).expect(&rt, "memory");
+    let listed = forbidden_vectors_of(rt.alloc(), &effects).expect(&rt, "memory");
+    assert!(rt; have_numbers(&listed, &[1, 3, 5, 4]));
+    let resolution = question(&rt, shape, 3, false);
+    let none = forbidden_vectors_of(rt.alloc(), &resolution).expect(&rt, "memory");
+    assert!(rt; none.is_empty());
 }
