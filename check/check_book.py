@@ -1,9 +1,10 @@
 #!/usr/bin/env python3
 """A second checker of books, written from docs/BOOKS.md alone, and of books of tables.
 
-Usage: check_book.py < BOOK
+Usage: check_book.py [BOOK ..]
 
-Prints `accepted` and the lines 2 to 4 of the book, with status 0, or `rejected line <n> <code>`, with status 1.
+Prints `accepted` and the lines 2 to 4 of the book, with status 0, or `rejected line <n> <code>`, with status 1. Without a
+file the book is read from standard input; several are checked in turn, each below its name, with the greatest status.
 """
 import functools
 import sys
@@ -462,9 +463,10 @@ class Walk:
         return more
 
 
-def main():
+def verdict(stream):
+    """Prints the verdict on one book, and returns its status."""
     try:
-        book = Book(sys.stdin.buffer.read(MOST_BYTES + 1))
+        book = Book(stream.read(MOST_BYTES + 1))
         Walk(book).check()
     except Rejected as rejected:
         print(rejected)
@@ -473,5 +475,17 @@ def main():
     return 0
 
 
+def main(files):
+    if not files:
+        return verdict(sys.stdin.buffer)
+    worst = 0
+    for file in files:
+        if len(files) > 1:
+            print(file)
+        with open(file, "rb") as stream:
+            worst = max(worst, verdict(stream))
+    return worst
+
+
 if __name__ == "__main__":
-    sys.exit(main())
+    sys.exit(main(sys.argv[1:]))

@@ -1,7 +1,7 @@
 #!/usr/bin/env python3
 """Runs the programs and the commands of the documents, and compares what follows them with what they print.
 
-Usage: documents.py COMMAND ..    as documents.py ./factex, or documents.py ./factex try, which keeps no files
+Usage: documents.py ./factex
 
 A block of code that is a program text is run, and so is a block that begins with a `judge`, `large`, `catalogue` or
 `tables` command; what follows the command in its block has to be printed. So are the tables of bench/catalogue.txt.
@@ -58,17 +58,17 @@ def rows_of(table):
     return [",".join(cell.strip() for cell in line.strip("|").split("|")) for line in table if not line.startswith("|--")]
 
 
-def is_wrong(block, lines, keeps_files):
+def is_wrong(block, lines):
     """Whether a block looks like a part of these lines, and is none."""
     if block[0].startswith("|"):
-        return keeps_files and rows_of(block)[0] in lines and not is_part(rows_of(block), lines)
-    is_plan = keeps_files and re.fullmatch(r"\w+(,\w+)+", block[0])
+        return rows_of(block)[0] in lines and not is_part(rows_of(block), lines)
+    is_plan = re.fullmatch(r"\w+(,\w+)+", block[0])
     return (is_plan or LISTING.match(block[0])) and not is_part(block, lines)
 
 
-def main(command):
-    program = [str(pathlib.Path(command[0]).resolve()), *command[1:]]
-    keeps_files, wrong = "try" not in command, 0
+def main(script):
+    program = [str(pathlib.Path(script).resolve())]
+    wrong = 0
     for page in PAGES:
         text, lines = None, None
         for block in blocks_of(page):
@@ -86,10 +86,10 @@ def main(command):
                 if lines is not None and expected and not is_part(expected, lines):
                     print(f"{page.name}: not printed: {expected[0]}, after {block[0]}")
                     wrong = 1
-            elif lines is not None and not first.startswith("proc ") and is_wrong(block, lines, keeps_files):
+            elif lines is not None and not first.startswith("proc ") and is_wrong(block, lines):
                 print(f"{page.name}: not printed: {block[0]}")
                 wrong = 1
     return wrong
 
 
-sys.exit(main(sys.argv[1:]))
+sys.exit(main(sys.argv[1]))

@@ -1,13 +1,14 @@
 #!/usr/bin/env python3
-"""Explains why `factex` ended with a status from 3 to 6.
+"""Explains why `factex` ended with a status from 3 to 6, or rejected a book.
 
-Usage: explain.py STATUS MESSAGE WORD .. < TEXT
+Usage: explain.py STATUS MESSAGE FILE WORD ..
 
-MESSAGE is what the program printed, the WORDs are those of its command line, and TEXT is what it read. What a status or
-a code means, and what to do about it, is read from the tables of docs/, which have no other copy here.
+MESSAGE is the first line that the program printed, FILE what it read, and the WORDs are those of its command line. What a
+status or a code means, and what to do about it, is read from the tables of docs/, which have no other copy here.
 """
 import csv
 import io
+import itertools
 import os
 import re
 import sys
@@ -22,13 +23,19 @@ def plain(cell):
     return re.sub(r"\[([^]]*)\]\([^)]*\)|`", r"\1", cell.replace("\\|", "|")).strip()
 
 
+def names(cell, code):
+    """Whether a first cell names a code: `E8, E15`, or `B2 to B5`."""
+    ends = re.fullmatch(r"([A-Z])(\d+) to [A-Z](\d+)", cell)
+    return code in (f"{ends[1]}{n}" for n in range(int(ends[2]), int(ends[3]) + 1)) if ends else code in cell.split(", ")
+
+
 def rows_of(page, code):
     """The rows of the tables of a page that name a code in their first cell; a row without one continues the row before it."""
     found, last = [], None
     for line in open(f"{DOCS}/{page}", encoding="utf-8"):
         cells = [plain(cell) for cell in re.split(r"(?<!\\)\|", line.strip())[1:-1]]
         last = cells[0] or last if cells else None
-        if last and code in last.split(", "):
+        if last and names(last, code):
             found.append(cells)
     return found
 
@@ -84,8 +91,25 @@ def show_place(message, words, text):
             show(lines[number - 1], column)
 
 
-def main(status, message, *words):
-    text = lambda: sys.stdin.buffer.read() if not sys.stdin.isatty() else b""
+def explain_rejected(message, file):
+    """Says why a book was rejected: its line, and what the code means."""
+    number, code = re.fullmatch(r"rejected line (\d+) (\w+)", message).groups()
+    with open(file, "rb") as book:
+        first = book.readline(100)
+        if not first.startswith((b"factex-book ", b"factex-table ")):
+            print("factex: this is no book, whose first line is factex-book 2, factex-book 1 or factex-table 1")
+            return
+        book.seek(0)
+        line = next(itertools.islice(book, int(number) - 1, None), b"")
+    show(line.rstrip(b"\n"))
+    print(f"{code}: {sentences(row[1] for row in rows_of('BOOKS.md', code))}")
+
+
+def main(status, message, file, *words):
+    text = lambda: open(file, "rb").read()
+    if message.startswith("rejected "):
+        explain_rejected(message, file)
+        return
     if status != "3":
         for row in rows_of("COMMANDS.md", status):
             print(f"factex: {sentences(row[1:])}")

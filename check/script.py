@@ -1,0 +1,188 @@
+#!/usr/bin/env python3
+"""Tries the script ./factex as users do: from a clone in a folder with a blank in its name, with no kit on the path.
+
+Prints what is not as documented, and ends with status 1 if anything is."""
+import os
+import pathlib
+import pty
+import re
+import shutil
+import subprocess
+import sys
+import tempfile
+import time
+
+TOP = pathlib.Path(__file__).resolve().parent.parent
+# The most seconds of the first command.
+MOST_SECONDS = 1.0
+REFUSED = b"proc factex;\nfactors A B C D;\nsize design=8;\nmodle resolution=4;\nrun;\n"
+ONE_STEP = b"proc factex; factors A B C D; size design=8; model resolution=4; output out=Plan; run;\n"
+BOOK = ["factex-book 2", "size 2 3 5 0", "resolution 4", "pattern none", "O 1", "O 2", "O 4", "O 7", "W 6 1:1 4:1 5:1", "W 5 2:1 4:1 5:1"]
+BOOK += ["W 3 3:1 4:1 5:1", "W 6 2:1 3:1 4:1", "W 5 1:1 3:1 4:1", "W 3 1:1 2:1 4:1", "END", ""]
+TABLE = "factex-table 1\nsize 2 1 2 0\nresolution 3\npattern none\nR 1\nEND\n"
+wrong = []
+
+
+class Clone:
+    """A clone of the repository without the kit, and a folder to work in."""
+
+    def __init__(self, room):
+        self.top = room / "a clone"
+        subprocess.run(["git", "clone", "-q", str(TOP), str(self.top)], check=True)
+        self.here = room / "a folder"
+        self.here.mkdir()
+
+    def run(self, words, text=b"", script=None, **how):
+        """A run of the script, with its files as a dictionary. The files are removed."""
+        how = {"input": text, "stdout": subprocess.PIPE, **how}
+        if "stdin" in how:
+            del how["input"]
+        command = [script or self.top / "factex", *words]
+        ran = subprocess.run(command, cwd=self.here, env={"PATH": "/usr/bin:/bin"}, stderr=subprocess.PIPE, timeout=60, **how)
+        ran.files = {it.name: it.read_bytes() for it in self.here.iterdir() if it.suffix in (".csv", ".book")}
+        for name in ran.files:
+            (self.here / name).unlink()
+        return ran
+
+
+def expect(what, holds):
+    if not holds:
+        print(f"check/script.py: not as documented: {what}")
+        wrong.append(what)
+
+
+def blocks_of_readme():
+    """The listing and the run sheet of README, as text."""
+    readme = (TOP / "README.md").read_text(encoding="utf-8")
+    listing = re.search(r"(?:^    .*\n)+", readme[readme.index("    step 1") :], re.M)[0]
+    rows = re.findall(r"^\|(.*)\|$", readme[: readme.index("First commands")], re.M)
+    cells = [",".join(cell.strip() for cell in row.split("|")) for row in rows if not row.startswith("--")]
+    return "".join(line[4:] + "\n" for line in listing.splitlines()), "\n".join(cells) + "\n"
+
+
+def try_first_command(clone):
+    """The first command of README: listing, run sheet, status, and time, the best of three."""
+    example = clone.top / "crates/examples/data/sheet.sas"
+    times = []
+    for _ in range(3):
+        began = time.monotonic()
+        ran = clone.run(["run", example])
+        times.append(time.monotonic() - began)
+    listing, sheet = blocks_of_readme()
+    expect("the listing of the first command", ran.stdout.decode() == listing and ran.returncode == 0 and not ran.stderr)
+    expect("its run sheet", {name: text.decode() for name, text in ran.files.items()} == {"sheet.csv": sheet})
+    expect(f"its time: {min(times):.2f} s", min(times) <= MOST_SECONDS)
+
+
+def try_words(clone):
+    """The words that every user tries."""
+    for word in ("help", "-h", "--help"):
+        ran = clone.run([word])
+        expect(word, ran.returncode == 0 and ran.stdout.startswith(b"usage: factex run") and not ran.stderr)
+    ran = clone.run(["--version"])
+    expect("--version", ran.returncode == 0 and re.fullmatch(rb"factex \d+\.\d+, program [0-9a-f]{12}, rattle-kit-.*\n", ran.stdout))
+    ran = clone.run([])
+    expect("no word", ran.returncode == 3 and ran.stdout.startswith(b"factex: C1") and b"usage: factex run" in ran.stderr)
+    ran = clone.run(["run", "--seed=5"], ONE_STEP)
+    (clone.here / "--seed=5").write_bytes(REFUSED)
+    expect("an option with the name of a file", clone.run(["run", "--seed=5"], ONE_STEP).stdout == ran.stdout != b"")
+    (clone.here / "--seed=5").unlink()
+
+
+def try_texts(clone):
+    """A text from a named file, a pipe, a file read in part, a terminal, and by `-`."""
+    whole = clone.run(["run"], ONE_STEP)
+    expect("a text from a pipe", whole.returncode == 0 and list(whole.files) == ["plan.csv"])
+    refused = clone.run(["run"], REFUSED)
+    shown = b"    modle resolution=4;\n    ^\n"
+    expect("a refusal", refused.returncode == 3 and refused.stdout.startswith(b"factex: E1 4:1 ") and shown in refused.stderr)
+    file = clone.here / "a text.sas"
+    for text, same in ((ONE_STEP, whole), (REFUSED, refused)):
+        file.write_bytes(text)
+        (clone.here / "link.sas").symlink_to(file)
+        for words in (["run", "a text.sas"], ["run", "link.sas"], ["run", "/dev/stdin"], ["run", "-"]):
+            ran = clone.run(words, text)
+            expect(" ".join(words), (ran.returncode, ran.stdout, ran.stderr, ran.files) == (same.returncode, same.stdout, same.stderr, same.files))
+        (clone.here / "link.sas").unlink()
+        # What stands before the part that is read would write a plan if it were read again.
+        file.write_bytes(ONE_STEP.replace(b"Plan", b"Other") + text)
+        with open(file, "rb") as part:
+            part.seek(len(ONE_STEP) + 1)
+            ran = clone.run(["run"], stdin=part)
+        expect("a file read in part", (ran.returncode, ran.stdout, ran.stderr, ran.files) == (same.returncode, same.stdout, same.stderr, same.files))
+    main, end = pty.openpty()
+    os.write(main, REFUSED + b"\x04" + ONE_STEP + b"\x04")
+    ran = clone.run(["run"], stdin=end)
+    expect("a text from a terminal", (ran.returncode, ran.stdout, ran.files) == (3, refused.stdout, {}) and shown in ran.stderr)
+    os.close(main)
+    os.close(end)
+    expect("a plan to be judged", clone.run(["judge", "2", "-"], b"A,B\n1,2\n").stderr.startswith(b"    1,2\n"))
+    file.unlink()
+
+
+def try_checks(clone):
+    """Books of both kinds by one command, and texts that are none."""
+    texts = {"a book": "\n".join(BOOK), "a table": TABLE, "wrong": "\n".join(BOOK[:8] + ["W 6 4:1 5:1"] + BOOK[9:]), "no book": "A,B\n1,2\n"}
+    ends = {"a book": (0, "accepted"), "a table": (0, "accepted"), "wrong": (1, "rejected line 9 K3"), "no book": (1, "rejected line 1 B2")}
+    said = {"wrong": b"    W 6 4:1 5:1\nK3: ", "no book": b"factex: this is no book"}
+    for name, text in texts.items():
+        (clone.here / name).write_text(text)
+        for words in (["check", name], ["check"], ["tables", "check", name]):
+            ran = clone.run(words, text.encode())
+            first = ran.stdout.decode().split("\n")[0]
+            expect(f"{words} of {name}", (ran.returncode, first) == ends[name] and ran.stderr.startswith(said.get(name, b"")))
+    ran = clone.run(["check", *texts])
+    lines = ran.stdout.decode().split("\n")
+    expect("several books", ran.returncode == 1 and [it for it in lines if it in texts] == list(texts) and lines.count("accepted") == 2)
+    other = clone.top / "check/check_book.py"
+    ran = clone.run(list(texts), script=other)
+    expect("the checker in Python", ran.returncode == 1 and ran.stdout.decode().split("\n") == lines)
+    for name in texts:
+        (clone.here / name).unlink()
+
+
+def try_streams(clone):
+    """Streams that are closed, or full, have the status of the program alone; a pipe that is closed early has 4."""
+    text = clone.here / "text"
+    text.write_bytes(ONE_STEP)
+    program = clone.top / "bin/factex"
+    for streams in ("<&-", ">&-", "2>&-", "<&- >&- 2>&-", ">/dev/full", "< .", "<text >&-", "<text >/dev/full", "<text 2>&-", "<text"):
+        lines = [f"'{command}' run {streams}" for command in (program, clone.top / "factex")]
+        statuses = {clone.run(["-c", line], script="/bin/bash", stdin=subprocess.DEVNULL).returncode for line in lines}
+        expect(f"the status with {streams}", len(statuses) == 1)
+    line = f"'{clone.top / 'factex'}' run < text | head -c 1; exit ${{PIPESTATUS[0]}}"
+    expect("a pipe that is closed early", clone.run(["-c", line], script="/bin/bash", stdin=subprocess.DEVNULL).returncode == 4)
+    text.unlink()
+
+
+def try_folders(clone):
+    """A link to the script, a checkout that nobody can write to, several runs at once, and a changed source."""
+    link = clone.here / "a link"
+    link.symlink_to(clone.top / "factex")
+    expect("a link to the script", clone.run(["run"], ONE_STEP, script=link).returncode == 0)
+    link.unlink()
+    nobody = ["setpriv", "--reuid=65534", "--regid=65534", "--clear-groups"] if os.geteuid() == 0 else []
+    subprocess.run(["chmod", "-R", "a-w,a+rX", clone.top], check=True)
+    for folder in (clone.here.parent, clone.here):
+        folder.chmod(0o777)
+    ran = clone.run([*nobody[1:], clone.top / "factex", "run"], ONE_STEP, script=nobody[0] if nobody else clone.top / "factex")
+    expect("a checkout without permission to write", ran.returncode == 0 and list(ran.files) == ["plan.csv"])
+    subprocess.run(["chmod", "-R", "u+w", clone.top], check=True)
+    many = [subprocess.Popen([clone.top / "factex", "make", "3"], stdout=subprocess.PIPE, env={"PATH": "/usr/bin:/bin"}) for _ in range(8)]
+    expect("several runs at once", len({it.communicate()[0] for it in many}) == 1 and not any(it.returncode for it in many))
+    with open(clone.top / "crates/fx_base/src/lib.rt", "a") as source:
+        source.write("\n")
+    ran = clone.run(["make", "1"])
+    expect("a changed source", ran.returncode == 7 and b"built from other sources" in ran.stderr and b"rt is not on the path" in ran.stderr)
+
+
+def main():
+    with tempfile.TemporaryDirectory() as room:
+        clone = Clone(pathlib.Path(room))
+        for attempt in (try_first_command, try_words, try_texts, try_checks, try_streams, try_folders):
+            attempt(clone)
+    return 1 if wrong else 0
+
+
+if __name__ == "__main__":
+    sys.exit(main())
