@@ -1,15 +1,31 @@
 #!/usr/bin/env python3
-"""bench/worst.py PROGRAM [--minutes M] [--first SEED] [--limit SECONDS] [--only SEED]: a hunt for the slowest question.
+"""bench/worst.py PROGRAM --tables PROGRAM [--minutes M] [--first SEED] [--only SEED]: a hunt for the slowest input.
 
-Draws random questions at the limits, one a seed, runs each as a whole run of the program, and prints its nodes, seconds of
-processor time, nanoseconds a node and peak memory. At the end it prints the worst ten in time, the worst ten in memory, and
-each question that took more than one second plus two microseconds a node. --only SEED prints the text of one question and
-runs it alone. The gate does not run it."""
-import argparse, os, random, re, subprocess, sys, tempfile, time
+Draws random inputs of every command at the limits, one a seed: questions, books and their upgrades, plans to be judged,
+catalogues, tables, programs of many steps. Runs each as a whole run of the program, with one thread, four or 64, and prints
+what it counts (nodes, entries or bytes), its seconds of processor time, its peak memory and the bytes of its input. At the
+end it prints the worst five of each command, and each run above the bounds of docs/PERFORMANCE.md, and ends with status 1 if
+there is one. --only SEED prints the input of one seed and runs it alone. The gate does not run it."""
+import argparse, collections, os, random, re, subprocess, sys, tempfile, time
 
-# The greatest m with q^m <= 1,024, for each number of levels q.
+# The greatest m with q^m <= 1,024, and the most factors, for each number of levels q.
 GREATEST_M = {2: 10, 3: 6, 4: 5, 5: 4, 7: 3, 8: 3, 9: 3}
+MOST_FACTORS = {2: 63, 3: 63, 4: 40, 5: 40, 7: 40, 8: 40, 9: 40}
 DEFAULT_NODES = 1_000_000
+# What a run may cost: seconds, microseconds for each node, entry or byte that it counts, and megabytes besides 100 bytes a node.
+Bound = collections.namedtuple("Bound", "unit seconds each megabytes")
+BOUNDS = {
+    "run": Bound("nodes", 2, 20, 250),
+    "check": Bound("entries", 2, 10, 550),
+    "upgrade": Bound("bytes", 2, 1, 550),
+    "judge": Bound("bytes", 2, 2, 50),
+    "catalogue": Bound("nodes", 2, 20, 150),
+    "large": Bound("nodes", 2, 20, 150),
+    "tables": Bound("entries", 4, 10_000, 150),
+    "tables check": Bound("entries", 2, 100, 450),
+}
+# What a run with several threads may take more than with one.
+MORE = 1.5
 
 
 def product(rng, factors, most):
@@ -41,10 +57,10 @@ def model(rng, factors, fixed_size):
     """A MODEL statement, or nothing. The highest resolution and MINABS need a fixed size."""
     kind = rng.choice(["resolution", "maximum", "minabs", "none", "effects", "effects", "effects"])
     if kind == "effects":
-        most = rng.choice([2, 3, 4, 6, 10, 20, 40])
+        most = rng.choice([2, 3, 4, 6, 10, 20, 63])
         text = f"model estimate=({effects(rng, factors, most)})"
         if rng.random() < 0.5:
-            text += f" nonnegligible=({effects(rng, factors, rng.choice([2, 4, 40]))})"
+            text += f" nonnegligible=({effects(rng, factors, rng.choice([2, 4, 63]))})"
         return text + ";"
     if kind == "resolution" or not fixed_size:
         return f"model resolution={rng.randint(3, rng.choice([4, 6, 12, 99]))};"
@@ -55,11 +71,10 @@ def model(rng, factors, fixed_size):
     return ""
 
 
-def question(seed):
-    """The text of the question with this seed."""
-    rng = random.Random(seed)
+def question(rng):
+    """The text of a program with one step, and its budget in nodes."""
     levels = rng.choice([2, 2, 2, 3, 3, 4, 5, 7, 8, 9])
-    most_factors = rng.choice([5, 10, 20, 40])
+    most_factors = rng.choice([5, 10, 20, 40, MOST_FACTORS[levels]])
     count = rng.choice([most_factors, rng.randint(1, most_factors)])
     factors = [f"X{i}" for i in range(1, count + 1)]
     greatest = GREATEST_M[levels]
@@ -70,44 +85,100 @@ def question(seed):
     head = f"proc factex nodes={nodes};" if nodes else "proc factex;"
     names = "X1" if count == 1 else f"X1-X{count}"
     wanted = model(rng, factors, fixed_size) or ("" if fixed_size else "model resolution=3;")
-    return f"{head} factors {names} / nlev={levels}; size design={size}; {wanted} run;"
+    return f"{head} factors {names} / nlev={levels}; size design={size}; {wanted} run;", nodes or DEFAULT_NODES
+
+
+def plan(rng):
+    """A plan to be judged, random or with runs of a few values, and its number of levels."""
+    levels = rng.choice(list(GREATEST_M))
+    names = [f"X{i}" for i in range(1, rng.choice([2, 5, 12, 24, 40]) + 1)]
+    rows = rng.choice([levels ** rng.randint(1, GREATEST_M[levels]), rng.randint(1, 4096)])
+    values = ["-1", "1"] if levels == 2 else ["-1", "0", "1"] if levels == 3 else [str(x) for x in range(levels)]
+    text = ",".join(names) + "\n" + "".join(",".join(rng.choice(values) for _ in names) + "\n" for _ in range(rows))
+    return levels, text[: 1 << 20]
+
+
+def shape(rng, most_runs):
+    """Levels, run indexes and factors of a catalogue or table."""
+    levels = rng.choice(list(GREATEST_M))
+    m = rng.randint(1, max(i for i in range(1, GREATEST_M[levels] + 1) if levels**i <= most_runs))
+    return levels, m, rng.randint(m + 1, MOST_FACTORS[levels])
 
 
 class Run:
-    """One run of the program: how it ended, its nodes, seconds of processor time and peak memory."""
+    """One run of a program: what it read, how it ended, what it counted, its seconds of processor time and peak memory."""
 
-    def __init__(self, program, seed, limit):
-        self.seed = seed
-        self.text = question(seed)
+    def __init__(self, seed, program, words, text, count, threads=1):
+        self.seed, self.words, self.text = seed, words, text
+        self.kind = " ".join(it for it in words[:2] if it.isalpha() and (it == words[0] or it == "check"))
+        self.threads, self.bound = threads, BOUNDS[self.kind]
+        own = words[words[0] == "tables" :] + ([f"--threads={threads}"] if threads > 1 else [])
+        self.folder = tempfile.TemporaryDirectory()
         # In a folder of its own, since the program writes books to the current one.
-        with tempfile.TemporaryFile() as source, tempfile.TemporaryFile() as listing, tempfile.TemporaryDirectory() as folder:
-            source.write(self.text.encode())
+        with tempfile.TemporaryFile() as source, tempfile.TemporaryFile() as listing:
+            source.write(text)
             source.seek(0)
             start = time.perf_counter()
-            child = subprocess.Popen([program, "run"], stdin=source, stdout=listing, stderr=subprocess.DEVNULL, cwd=folder)
-            self.ended, status, peak, self.seconds = wait(child, start + limit)
+            child = subprocess.Popen([program, *own], stdin=source, stdout=listing, stderr=subprocess.DEVNULL, cwd=self.folder.name)
+            self.ended, status, peak, self.seconds = wait(child, start + 20 * self.most_seconds(count))
             listing.seek(0)
-            found = re.search(rb"^nodes (\d+)", listing.read(), re.M)
+            self.listing = listing.read()
         self.status = os.waitstatus_to_exitcode(status)
         self.megabytes = peak / 1024
-        budget = re.search(r"nodes=(\d+)", self.text)
-        self.nodes = int(found.group(1)) if found else int(budget.group(1)) if budget else DEFAULT_NODES
-        if self.status == 3:
-            self.nodes = 0
+        found = [int(it) for it in re.findall(rb"(?:nodes|entries|after) (\d+)", self.listing)]
+        self.count = sum(found) if found and self.bound.unit != "bytes" else count
 
-    def over(self):
-        """The seconds above one second plus two microseconds a node."""
-        return self.seconds - 1 - 2e-6 * self.nodes
+    def most_seconds(self, count):
+        return (self.bound.seconds + self.bound.each * 1e-6 * count) * (MORE if self.threads > 1 else 1)
 
-    def memory(self):
-        """The megabytes besides the marks, which take at least 4 bytes a node."""
-        return self.megabytes - 4 * self.nodes / 2**20
+    def is_over(self):
+        most_megabytes = self.bound.megabytes + (100e-6 * self.count if self.bound.unit == "nodes" else 0)
+        return not self.ended or self.seconds > self.most_seconds(self.count) or self.megabytes > most_megabytes
+
+    def share(self):
+        """The part of the bound that it took."""
+        return self.seconds / self.most_seconds(self.count)
 
     def line(self):
         end = f"status {self.status}" if self.ended else "cut off"
-        each = self.seconds * 1e9 / self.nodes if self.nodes else 0
-        return (f"seed {self.seed:8} {end:9} {self.nodes:8} nodes {self.seconds:8.3f} s {each:9.0f} ns a node "
-                f"{self.megabytes:7.1f} MB  {self.text}")
+        return (f"seed {self.seed:8} {' '.join(self.words):30} {self.threads:2} threads {end:9} {self.count:9} {self.bound.unit:7} "
+                f"{self.seconds:8.3f} s {self.megabytes:7.1f} MB {len(self.text):8} bytes  {self.text[:400].decode('latin-1') if self.kind == 'run' else ''}")
+
+    def books(self):
+        """The books that it wrote."""
+        names = sorted(it for it in os.listdir(self.folder.name) if it.endswith(".book"))
+        return [open(os.path.join(self.folder.name, name), "rb").read() for name in names]
+
+
+def runs_of(seed, factex, tables):
+    """The runs of one seed."""
+    rng = random.Random(seed)
+    threads = rng.choice([1, 1, 1, 4, 64])
+    kind = rng.choice(["run"] * 6 + ["judge", "catalogue", "large", "tables", "tables"])
+    if kind == "run":
+        text, nodes = question(rng)
+        first = Run(seed, factex, ["run"], text.encode(), nodes, threads)
+        books = first.books()
+        yield first
+        for book in books[:1]:
+            if len(book) < 30_000_000:
+                yield Run(seed, factex, ["check"], book, book.count(b"\n"))
+                yield Run(seed, factex, ["upgrade"], book, len(book))
+    elif kind == "judge":
+        levels, text = plan(rng)
+        yield Run(seed, factex, ["judge", str(levels)], text.encode(), len(text))
+    elif kind == "large":
+        yield Run(seed, factex, ["large", str(rng.randint(1, 100))], b"", 100 * DEFAULT_NODES, threads)
+    else:
+        levels, m, s = shape(rng, 1024)
+        nodes = rng.choice([1, 20, 1000, 100_000]) if kind == "catalogue" else rng.choice([1, 5, 20, 100])
+        words = [kind, str(levels), str(m), str(s), f"--nodes={nodes}"]
+        first = Run(seed, tables if kind == "tables" else factex, words, b"", nodes * (s - m), threads)
+        books = first.books()
+        yield first
+        for book in books[-1:]:
+            kind = ["tables", "check"] if kind == "tables" else ["check"]
+            yield Run(seed, tables if len(kind) > 1 else factex, kind, book, book.count(b"\n"))
 
 
 def wait(child, deadline):
@@ -139,37 +210,40 @@ def peak_memory(pid):
 
 
 def report(runs):
-    print(f"\n{len(runs)} questions, load {os.getloadavg()[0]:.1f}")
-    print("the worst ten in seconds above two microseconds a node:")
-    for run in sorted(runs, key=Run.over, reverse=True)[:10]:
+    over = [run for run in runs if run.is_over()]
+    print(f"\n{len(runs)} runs, load {os.getloadavg()[0]:.1f}")
+    for kind in BOUNDS:
+        own = [run for run in runs if run.kind == kind]
+        print(f"{kind}: {len(own)} runs; the nearest to the bound in seconds, and the greatest:")
+        for run in sorted(own, key=Run.share, reverse=True)[:5] + sorted(own, key=lambda it: it.megabytes, reverse=True)[:1]:
+            print(run.line())
+    print(f"above the bounds: {len(over)}")
+    for run in over:
         print(run.line())
-    print("the worst ten in memory besides the marks:")
-    for run in sorted(runs, key=Run.memory, reverse=True)[:10]:
-        print(run.line())
-    slow = [run for run in runs if run.over() > 0 or not run.ended]
-    print(f"above one second plus two microseconds a node: {len(slow)}")
-    for run in slow:
-        print(run.line())
-    return 1 if slow else 0
+    return 1 if over else 0
 
 
 def main():
     parser = argparse.ArgumentParser(description=__doc__.split("\n\n")[0])
     parser.add_argument("program")
+    parser.add_argument("--tables", required=True)
     parser.add_argument("--minutes", type=float, default=10)
-    parser.add_argument("--first", type=int, default=1, help="the seed of the first question")
-    parser.add_argument("--limit", type=float, default=30, help="seconds after which a run is cut off")
-    parser.add_argument("--only", type=int, help="run the question of this seed alone")
+    parser.add_argument("--first", type=int, default=1, help="the first seed")
+    parser.add_argument("--only", type=int, help="run the input of this seed alone")
     arguments = parser.parse_args()
-    program = os.path.abspath(arguments.program)
+    programs = os.path.abspath(arguments.program), os.path.abspath(arguments.tables)
     if arguments.only is not None:
-        print(Run(program, arguments.only, arguments.limit).line())
+        for run in runs_of(arguments.only, *programs):
+            print(run.line(), run.text.decode("latin-1"), sep="\n")
         return 0
-    runs = []
-    end = time.perf_counter() + 60 * arguments.minutes
+    runs, seed, end = [], arguments.first, time.perf_counter() + 60 * arguments.minutes
     while time.perf_counter() < end:
-        runs.append(Run(program, arguments.first + len(runs), arguments.limit))
-        print(runs[-1].line(), flush=True)
+        for run in runs_of(seed, *programs):
+            # Kept for the report without its files.
+            run.folder.cleanup()
+            runs.append(run)
+            print(run.line(), flush=True)
+        seed += 1
     return report(runs)
 
 

@@ -1,7 +1,7 @@
 #!/usr/bin/env python3
 """Makes the tables of highest resolutions in docs/GUIDE.md again, and compares.
 
-Usage: resolutions.py PROGRAM    as resolutions.py crates/factex/out/factex
+Usage: resolutions.py PROGRAM    as resolutions.py bin/factex
 
 Prints each entry that differs, and ends with status 1 if there is one.
 """
