@@ -1,6 +1,6 @@
 -- The listed numbers of the forbidden vectors tell which vectors over the factors are forbidden.
-use Rattle.std.proofs.Common.{ℕ, ◌≡◌, ◌<◌, ◌≤◌, ◌+◌, ◌-◌, ◌/◌, ◌%◌, ◌^◌, zero, suc, Bool, true, false, eqb, ◌∙◌, List, [], ◌∷◌, map, take, drop, length}
-use Rattle.std.proofs.Common.{refl, sym, ap, subst, arith, inl, inr, take-append-drop}
+use Rattle.std.proofs.Common.{ℕ, ◌≡◌, ◌<◌, ◌+◌, ◌/◌, ◌%◌, ◌^◌, zero, suc, Bool, true, ◌∙◌, List, [], ◌∷◌, map, take, drop, length}
+use Rattle.std.proofs.Common.{refl, sym, ap, subst, arith, inl, inr}
 use Rattle.std.specs.Prelude.{◌↔◌, Contains, slice_index_or, IsTrue}
 use Rattle.std.specs.List.{AllByRecursion}
 use Rattle.std.specs.List.Sorted.{IsNonDecreasing}
