@@ -11,16 +11,10 @@ use Rattle.std.proofs.lemmas.List.Elements.{All-append, All-filter, All-from_rec
 use Rattle.fx_plan.specs.Plans.{values_at}
 use Rattle.fx_outputs.specs.declared.recode.Recode.{Recode}
 use Rattle.fx_runs.proofs.Defaults.{length-default}
-use Rattle.fx_runs.specs.Runs.{RunsView}
-use Rattle.fx_runs.specs.RunBlocks.{block_of}
-use Rattle.fx_outputs.specs.BlockColumns.{column_name}
 use Rattle.fx_outputs.specs.DerivedFactors.{AreDerived, free_places, is_bracketed}
-use Rattle.fx_plan.specs.Tables.{block_field}
-use Rattle.fx_derived.specs.Codes.{ArePlaces, derived_level}
-use Rattle.fx_outputs.specs.declared.output.OutputSpec.{OutputSpec}
-use Rattle.fx_plan.specs.Products.{own_fields, runs_table}
+use Rattle.fx_derived.specs.Codes.{ArePlaces}
 use Rattle.fx_outputs.specs.declared.derived.Derived.{Derived}
-use Rattle.fx_plan.specs.Columns.{codes_of, column_names, column_places, column_values, values_or_codes}
+use Rattle.fx_plan.specs.Columns.{column_places, column_values, values_or_codes}
 
 -- a column of different places, of at most 64 levels
 pub record IsColumn (q s : ℕ) (column : List ℕ) : Type 0 where
@@ -103,44 +97,6 @@ values_fit q s recodes derived hr hd =
     ∙ sym (map-append (λ places. q ^ length places) (map (λ p. p ∷ []) (free_places s derived))
     (map (λ (d : Derived). d.places) derived))
 
--- the list of values of a column is as long as it has codes
-pub values_long : (q : ℕ) (values : List (List (List ℕ))) (columns : List (List ℕ)) (i : ℕ)
-    → map length values ≡ map (λ places. q ^ length places) columns → i < length columns
-    → (i < length values) × (length (get_or values i []) ≡ q ^ length (get_or columns i []))
-values_long q values columns i e low =
-    let many : length values ≡ length columns =
-    sym (length-map values length) ∙ ap length e ∙ length-map columns (λ places. q ^ length places) in (
-      omega arith,
-      sym (get_or-map length values i [] 0 (omega arith)) ∙ ap (λ (l : List ℕ). get_or l i 0) e ∙ get_or-map
-          (λ places. q ^ length places) columns i [] 0 low,
-    )
-
-both_long : {X : Type 0} (b : Bool) (x y : X) (xs ys : List X) → length xs ≡ length ys
-    → length (cond b [] (x ∷ []) ++ xs) ≡ length (cond b [] (y ∷ []) ++ ys)
-both_long true x y xs ys e = e
-both_long false x y xs ys e = ap suc e
-
-names_long : (names : List (List ℕ)) (derived : List Derived)
-    → length (column_names names derived) ≡ length (column_places (length names) derived)
-names_long names derived =
-    let free : List ℕ = free_places (length names) derived in
-    length-append (map (λ p. get_or names (p - 1) []) free) (map (λ (d : Derived). d.name) derived)
-    ∙ ap₂ (λ (a b : ℕ). a + b) (length-map free (λ p. get_or names (p - 1) []) ∙ sym (length-map free (λ p. p ∷ [])))
-    (length-map derived (λ (d : Derived). d.name) ∙ sym (length-map derived (λ (d : Derived). d.places)))
-    ∙ sym (length-append (map (λ p. p ∷ []) free) (map (λ (d : Derived). d.places) derived))
-
--- a row of the runs has a field for each of their columns
-pub own_long : (names : List (List ℕ)) (runs : RunsView) (output : OutputSpec) (values : List (List (List ℕ))) (k : ℕ)
-    → length names ≡ runs.shape.s
-    → length (own_fields runs output.block_values (column_places runs.shape.s output.derived) values k)
-    ≡ length (runs_table names runs output values).names
-own_long names runs output values k e =
-    let columns : List (List ℕ) = column_places runs.shape.s output.derived in
-    both_long (runs.shape.t == 0) (block_field output.block_values (block_of runs k)) (column_name output.block_name) _
-    _
-    (length-map-range_with_len _ 0 (length columns) ∙ ap (λ (s : ℕ). length (column_places s output.derived)) (sym e) ∙
-    sym (names_long names output.derived))
-
 -- the column at a place
 pub column_at : (q s : ℕ) (derived : List Derived) (columns : List (List ℕ)) (i : ℕ) (column : List ℕ) → q ≤ 9
     → AreDerived q s derived → columns ≡ column_places s derived
@@ -148,27 +104,3 @@ pub column_at : (q s : ℕ) (derived : List Derived) (columns : List (List ℕ))
 column_at q s derived columns i column small h e low is =
     let all : All (IsColumn q s) columns = subst (All (IsColumn q s)) (sym e) (columns_fit q s derived small h) in
     subst (IsColumn q s) (sym is) (all i column low)
-
-module _ {V : Type 0} (f : V → List (List ℕ)) (q : ℕ) (values : List V) (columns : List (List ℕ)) (i : ℕ) (v : V)
-    (column : List ℕ)
-    (fit : map length (map f values) ≡ map (λ places. q ^ length places) columns) (low : i < length columns)
-    (is : v ≡ get_or values i v) (at : column ≡ get_or columns i column) where
-  both : (i < length (map f values)) × (length (get_or (map f values) i []) ≡ q ^ length (get_or columns i []))
-  both = values_long q (map f values) columns i fit low
-
-  pub value_there : i < length values
-  value_there = (let a = both.0 in omega (arith, a, length-map values f))
-
-  -- its values are as many as its codes
-  pub value_list : length (f v) ≡ q ^ length column
-  value_list =
-      ap length (ap f is ∙ sym (get_or-map f values i v [] value_there)) ∙ both.1
-      ∙ ap (λ (l : List ℕ). q ^ length l) (get_or_default columns i [] column low ∙ sym at)
-
-  -- the field of a run
-  pub field_at : (x : List ℕ)
-      → get_or (f v) (derived_level q column x) []
-      ≡ get_or (get_or (map f values) i []) (get_or (codes_of q columns x) i 0) []
-  field_at x =
-      ap₂ (λ (l : List (List ℕ)) (k : ℕ). get_or l k []) (ap f is ∙ sym (get_or-map f values i v [] value_there))
-      (ap (λ (p : List ℕ). derived_level q p x) at ∙ sym (get_or-map (λ p. derived_level q p x) columns i column 0 low))

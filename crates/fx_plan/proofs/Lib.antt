@@ -11,5 +11,6 @@ pub mod Handing
 pub mod ProductRows
 pub mod Parts
 pub mod Wholes
+pub mod Coding
 pub mod Repeating
 mod Designs

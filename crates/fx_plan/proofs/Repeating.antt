@@ -119,7 +119,7 @@ run_total n each all k low =
     in_order : (a b c : ℕ) → a * b * c ≡ c * a * b
     in_order a b c = grind arith
 
-block_low : (runs : RunsView) → AreRuns runs.shape runs.rows → (k : ℕ) → k < length runs.rows
+pub block_low : (runs : RunsView) → AreRuns runs.shape runs.rows → (k : ℕ) → k < length runs.rows
     → block_of runs k < runs.shape.q ^ runs.shape.t
 block_low runs h k low =
     number_in runs.shape.q runs.shape.s runs.shape.t runs.shape.s (run_at runs k)

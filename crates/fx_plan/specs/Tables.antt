@@ -1,5 +1,5 @@
 -- The fields of a plan, and the lines of its file.
-use Rattle.std.specs.Prelude.{ℕ, ◌≡◌, ◌+◌, false, List, [], ◌∷◌, map, Some, Vec, slice_index, slice_index_or, decimal}
+use Rattle.std.specs.Prelude.{ℕ, ◌≡◌, ◌+◌, false, List, [], ◌∷◌, length, map, Some, Vec, slice_index, slice_index_or, decimal}
 use Rattle.std.specs.Global.{Global}
 use Rattle.std.specs.List.{flat_map, range_with_len}
 use Rattle.csv.specs.Writing.{default_writer, row_text, writer_setup, fields_written, has_written, text_written}
@@ -15,6 +15,10 @@ block_field (value ∷ values) z = slice_index_or (value ∷ values) z []
 abbrev pub level_fields : ℕ → List (List (List ℕ)) → List ℕ → List (List ℕ)
 level_fields columns values codes =
     map (λ i. slice_index_or (slice_index_or values i []) (slice_index codes i) []) (range_with_len 0 columns)
+
+-- the texts of some numbers: in each of some columns that of its number
+abbrev pub coded_row : List (List (List ℕ)) → List ℕ → List (List ℕ)
+coded_row texts numbers = level_fields (length numbers) texts numbers
 
 -- the bytes of records
 abbrev pub text_of : List (List (List ℕ)) → List ℕ

@@ -1,17 +1,23 @@
-ghost use Rattle.std.specs.Prelude.{◌≡◌, ◌<◌, ◌∷◌, [], All, IfOk, length, map, slice_index_or};
+ghost use Rattle.std.specs.Prelude.{◌≡◌, ◌<◌, ◌≤◌, ◌∷◌, [], All, IfOk, length, map, slice_index_or};
 ghost use Rattle.fx_derived.specs.Tables.{TableView};
 ghost use Rattle.fx_plan.specs.Parts.{side_by_side};
 ghost use Rattle.fx_plan.specs.Products.{picked, repeats};
 
+use crate::coded::{CodedRow, CodedTable};
 use fx_base::{Bytes, Items, NoMemory};
-use fx_derived::{Row, Table};
 use std::alloc::Global;
 use std::marker::Model;
+
+/// How many rows are held as text at a time, at most.
+const ROWS: usize = 64;
+
+/// How many bytes these rows should have together.
+const TEXT: usize = 1 << 20;
 
 /// Rows of a table, by their numbers from 0. Clauses see the table of these rows.
 #[derive(Drop)]
 pub(crate) struct Part {
-    table: Table,
+    table: CodedTable,
     rows: Vec<u32>,
 }
 
@@ -35,7 +41,7 @@ impl Part {
     }
 
     /// The row at `i`, counted from 0.
-    pub(crate) fn row(&self, i: usize) -> Row<'_>
+    pub(crate) fn row(&self, i: usize) -> CodedRow<'_>
         requires { i < length self.now.rows }
         ensures { result ≡ slice_index_or self.now.rows i [] }
     {
@@ -89,7 +95,7 @@ impl Model for Plan {
 
 impl Plan {
     /// The rows of a table in this order, by their numbers from 0.
-    pub(crate) fn of(alloc: Global, table: Table, order: Vec<u32>) -> Result<Plan, NoMemory>
+    pub(crate) fn of(alloc: Global, table: CodedTable, order: Vec<u32>) -> Result<Plan, NoMemory>
         requires { All (λ r. r < length table.rows) order.items }
         ensures { IfOk result (λ plan. plan ≡ picked order.items table) }
     {
@@ -104,6 +110,18 @@ impl Plan {
         ensures { result ≡ length self.now.rows }
     {
         self.len
+    }
+
+    /// How many rows to hold as text at a time, so that the text stays small: one where rows are long.
+    pub fn rows_at_once(&self) -> usize
+        ensures some { 1 ≤ result }
+        ensures few { result ≤ 64 }
+    {
+        let mut widest: usize = 0;
+        for part in self.parts.as_slice() {
+            widest = widest.saturating_add(part.table.widest());
+        }
+        (TEXT / widest.max(1)).clamp(1, ROWS)
     }
 
     /// The parts, side by side.

@@ -88,7 +88,8 @@ pub(crate) fn column_values(
     Ok(values)
 }
 
-fn push_list(lists: &mut Vec<Vec<Bytes>>, list: Vec<Bytes>) -> Result<(), NoMemory>
+/// Adds a list of texts.
+pub(crate) fn push_list(lists: &mut Vec<Vec<Bytes>>, list: Vec<Bytes>) -> Result<(), NoMemory>
     ensures { OnOk result (map (λ v. v.items) lists.new.items
         ≡ map (λ v. v.items) lists.old.items ++ list.items ∷ []) }
 {
@@ -159,7 +160,8 @@ fn copied(alloc: Global, names: &Names) -> Result<Vec<Bytes>, NoMemory>
     Ok(values)
 }
 
-fn push(alloc: Global, values: &mut Vec<Bytes>, value: &[u8]) -> Result<(), NoMemory>
+/// Adds a text.
+pub(crate) fn push(alloc: Global, values: &mut Vec<Bytes>, value: &[u8]) -> Result<(), NoMemory>
     ensures { OnOk result (values.new.items ≡ values.old.items ++ value.now ∷ []) }
 {
     let value = Bytes::from_slice(alloc, value)?;

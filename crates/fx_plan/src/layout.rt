@@ -6,12 +6,12 @@ ghost use Rattle.fx_plan.specs.Products.{AreValues, CanBePlanned, IsArrangement,
 ghost use Rattle.fx_runs.specs.RunBlocks.{block_of};
 
 use crate::assembled::Plan;
+use crate::coded::CodedTable;
 use crate::columns::{column_values, free_places};
 use crate::draws::shuffle_each;
 use crate::order::{in_order, shuffled_in_blocks};
 use crate::runs::runs_table;
 use fx_base::{Bytes, NoMemory};
-use fx_derived::Table;
 use fx_runs::Runs;
 use fx_statements::{Names, OutputSpec, Shuffle};
 use rand_core::SeedableRng;
@@ -38,7 +38,7 @@ pub(crate) struct Layout<'a> {
 /// repeated.
 #[derive(Drop)]
 pub(crate) struct Arranged {
-    pub(crate) runs: Table,
+    pub(crate) runs: CodedTable,
     pub(crate) order: Vec<u32>,
 }
 
@@ -56,7 +56,7 @@ impl<'a> Layout<'a> {
         let rows = row_count(self.runs, self.inner, self.outer)?;
         let order = in_order(self.alloc, rows)?;
         match self.output.shuffle {
-            Shuffle::Kept => self.ordered(order, values.as_slice()),
+            Shuffle::Kept => self.ordered(order, values),
             Shuffle::Default { values: too } => self.shuffled(order, values, too, seed),
             Shuffle::Seed {
                 seed: own,
@@ -113,16 +113,16 @@ impl<'a> Layout<'a> {
             order.as_slice(),
         )?;
         let values = shuffled_values(&mut rng, values, too);
-        self.ordered(order, values.as_slice())
+        self.ordered(order, values)
     }
 
     /// The same with the rows in this order, and with these values for the codes of each column.
-    fn ordered(&self, order: Vec<u32>, values: &[Vec<Bytes>]) -> Result<Arranged, NoMemory>
+    fn ordered(&self, order: Vec<u32>, values: Vec<Vec<Bytes>>) -> Result<Arranged, NoMemory>
         requires { IsArrangement self.now.runs.now self.now.output.now self.now.inner.now
-            self.now.outer.now order.items (map (λ v. v.items) values.now) }
+            self.now.outer.now order.items (map (λ v. v.items) values.items) }
         ensures plan { IfOk result (λ x. picked x.order.items (replicated x.runs self.now.inner.now self.now.outer.now)
             ≡ planned self.now.factors.now self.now.runs.now self.now.output.now self.now.inner.now
-            self.now.outer.now (arrangement order.items (map (λ v. v.items) values.now))) }
+            self.now.outer.now (arrangement order.items (map (λ v. v.items) values.items))) }
         ensures there { IfOk result (λ a. All (λ r. r < length a.runs.rows
             * length self.now.inner.now.rows * length self.now.outer.now.rows) a.order.items) }
     {

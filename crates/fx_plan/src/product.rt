@@ -2,8 +2,8 @@ ghost use Rattle.std.specs.Prelude.{◌≡◌, ◌*◌, ◌/◌, ◌%◌, ◌^�
 ghost use Rattle.fx_plan.specs.Products.{picked, replicated, run_of};
 
 use crate::assembled::Plan;
+use crate::coded::CodedTable;
 use fx_base::NoMemory;
-use fx_derived::Table;
 use std::alloc::Global;
 
 /// The rows of these numbers, which count from 0, of the runs that are repeated by two plans, in this
@@ -11,7 +11,7 @@ use std::alloc::Global;
 pub(crate) fn product(
     alloc: Global,
     order: Vec<u32>,
-    runs: Table,
+    runs: CodedTable,
     inner: Plan,
     outer: Plan,
 ) -> Result<Plan, NoMemory>

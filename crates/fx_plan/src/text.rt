@@ -4,9 +4,9 @@ ghost use Rattle.csv.specs.Writing.{default_writer, row_text};
 ghost use Rattle.fx_plan.specs.Tables.{HasWritten, text_of, text_of_table};
 
 use crate::assembled::Plan;
+use crate::coded::CodedRow;
 use csv::{ByteRecord, Writer, WriterBuilder};
 use fx_base::{Bytes, Items, NoMemory, put};
-use fx_derived::Row;
 use std::alloc::Global;
 
 /// The bytes of a plan: comma-separated text with a head line.
@@ -114,20 +114,19 @@ fn put_row(row: &mut ByteRecord, plan: &Plan, i: usize) -> Result<(), NoMemory>
     ensures partial { OnOk result (partial_of row.new ≡ []) }
 {
     for part in plan.parts() {
-        put_texts(row, part.row(i))?;
+        put_texts(row, &part.row(i))?;
     }
     Ok(())
 }
 
 /// Adds the texts of a row of a part.
-fn put_texts(row: &mut ByteRecord, texts: Row<'_>) -> Result<(), NoMemory>
+fn put_texts(row: &mut ByteRecord, texts: &CodedRow<'_>) -> Result<(), NoMemory>
     requires { partial_of row.old ≡ [] }
-    ensures fields { OnOk result (fields_of row.new ≡ fields_of row.old ++ texts.entry) }
+    ensures fields { OnOk result (fields_of row.new ≡ fields_of row.old ++ texts.now) }
     ensures partial { OnOk result (partial_of row.new ≡ []) }
 {
-    let mut left = texts;
-    for _ in 0..left.len() {
-        push(row, left.pop_front())?;
+    for i in 0..texts.len() {
+        push(row, texts.get(i))?;
     }
     Ok(())
 }

@@ -8,9 +8,6 @@ use fx_base::{Shelf, put};
 use fx_plan::{Plan, head_text, rows_text};
 use std::alloc::Global;
 
-/// How many rows of a plan are held as text at a time.
-const PART: usize = 64;
-
 /// Shelves a plan part after part, so that its text is never held whole.
 pub(crate) fn stream_plan<F: Shelf>(
     alloc: Global,
@@ -36,16 +33,25 @@ fn fill_plan<F: Shelf>(alloc: Global, plan: &Plan, shelf: &mut F) -> Result<(), 
     ensures { Fills (text_of_table plan.now)
         (shelf_view F.Shelf shelf.old) (shelf_view F.Shelf shelf.new) result }
 {
-    let first = plan.len().min(PART);
+    let part = plan.rows_at_once();
+    let first = plan.len().min(part);
     let mut text = head_text(alloc, plan)?;
     let rows = rows_text(alloc, plan, 0, first)?;
     put(&mut text, rows.as_slice())?;
     fill(shelf, text.as_slice())?;
-    fill_rows(alloc, plan, first, shelf)
+    fill_rows(alloc, plan, first, part, shelf)
 }
 
-/// Appends the lines of the rows of a plan from `from` on, counted from 0, to the file that is begun.
-fn fill_rows<F: Shelf>(alloc: Global, plan: &Plan, from: usize, shelf: &mut F) -> Result<(), Stop>
+/// Appends the lines of the rows of a plan from `from` on, counted from 0, to the file that is begun,
+/// `part` rows at a time.
+fn fill_rows<F: Shelf>(
+    alloc: Global,
+    plan: &Plan,
+    from: usize,
+    part: usize,
+    shelf: &mut F,
+) -> Result<(), Stop>
+    requires part { 1 ≤ part }
     requires begun { F.begun shelf.old ≡ true }
     requires within { from ≤ length plan.now.rows }
     ensures { Fills (text_of (drop from plan.now.rows))
@@ -53,7 +59,7 @@ fn fill_rows<F: Shelf>(alloc: Global, plan: &Plan, from: usize, shelf: &mut F) -
 {
     let mut at = from;
     while at < plan.len() {
-        let next = at + (plan.len() - at).min(PART);
+        let next = at + (plan.len() - at).min(part);
         let text = rows_text(alloc, plan, at, next)?;
         fill(shelf, text.as_slice())?;
         at = next;

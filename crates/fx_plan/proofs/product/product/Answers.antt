@@ -18,7 +18,7 @@ picked-requires-2 c =
     let is : c.as_slice-3.result.now
     ≡ map (λ r. r / length c.args.inner.rows / length c.args.runs.rows) c.args.order.items =
     c.as_slice-3.ensures.value
-    ∙ rw (c.as_slice.ensures.value, c.len.ensures, c.len-2.ensures.count) at c.in_ok-sources.ensures.outer in
+    ∙ rw (c.as_slice.ensures.value, c.len.ensures, c.len-2.ensures) at c.in_ok-sources.ensures.outer in
     subst (All (λ i. i < length c.args.outer.rows)) (sym is)
     (outside_low c.args.runs c.args.inner c.args.outer c.args.order.items c.requires)
 
@@ -26,7 +26,7 @@ pub of-requires : goal.of-requires
 of-requires c =
     let is : c.in_ok-sources.sources.runs.items
     ≡ map (run_of (length c.args.inner.rows) (length c.args.runs.rows)) c.args.order.items =
-    rw (c.as_slice.ensures.value, c.len.ensures, c.len-2.ensures.count) at c.in_ok-sources.ensures.runs in
+    rw (c.as_slice.ensures.value, c.len.ensures, c.len-2.ensures) at c.in_ok-sources.ensures.runs in
     subst (All (λ i. i < length c.args.runs.rows)) (sym is)
     (own_low c.args.runs c.args.inner c.args.outer c.args.order.items c.requires)
 
@@ -35,7 +35,7 @@ beside-requires c =
     let order : List ℕ = c.args.order.items in
     let runs : c.in_ok-sources.sources.runs.items
     ≡ map (run_of (length c.args.inner.rows) (length c.args.runs.rows)) order =
-    rw (c.as_slice.ensures.value, c.len.ensures, c.len-2.ensures.count) at c.in_ok-sources.ensures.runs in
+    rw (c.as_slice.ensures.value, c.len.ensures, c.len-2.ensures) at c.in_ok-sources.ensures.runs in
     let inner : c.as_slice-2.result.now ≡ map (λ r. r % length c.args.inner.rows) order =
     c.as_slice-2.ensures.value ∙ rw (c.as_slice.ensures.value, c.len.ensures) at c.in_ok-sources.ensures.inner in
     count c.as_slice-2.result.now c.args.inner c.in_ok-inner.inner (sym c.in_ok-inner.ensures)
@@ -48,11 +48,11 @@ beside-requires-2 c =
     let order : List ℕ = c.args.order.items in
     let runs : c.in_ok-sources.sources.runs.items
     ≡ map (run_of (length c.args.inner.rows) (length c.args.runs.rows)) order =
-    rw (c.as_slice.ensures.value, c.len.ensures, c.len-2.ensures.count) at c.in_ok-sources.ensures.runs in
+    rw (c.as_slice.ensures.value, c.len.ensures, c.len-2.ensures) at c.in_ok-sources.ensures.runs in
     let outer : c.as_slice-3.result.now
     ≡ map (λ r. r / length c.args.inner.rows / length c.args.runs.rows) order =
     c.as_slice-3.ensures.value
-    ∙ rw (c.as_slice.ensures.value, c.len.ensures, c.len-2.ensures.count) at c.in_ok-sources.ensures.outer in
+    ∙ rw (c.as_slice.ensures.value, c.len.ensures, c.len-2.ensures) at c.in_ok-sources.ensures.outer in
     let own : length c.in_ok-of.field-0.rows ≡ length order =
     count c.in_ok-sources.sources.runs.items c.args.runs c.in_ok-of.field-0 (sym c.in_ok-of.ensures)
     ∙ ap length runs ∙ length-map order (run_of (length c.args.inner.rows) (length c.args.runs.rows)) in
@@ -66,13 +66,13 @@ returns c =
     let order : List ℕ = c.args.order.items in
     let runs : c.in_ok-sources.sources.runs.items
     ≡ map (run_of (length c.args.inner.rows) (length c.args.runs.rows)) order =
-    rw (c.as_slice.ensures.value, c.len.ensures, c.len-2.ensures.count) at c.in_ok-sources.ensures.runs in
+    rw (c.as_slice.ensures.value, c.len.ensures, c.len-2.ensures) at c.in_ok-sources.ensures.runs in
     let inner : c.as_slice-2.result.now ≡ map (λ r. r % length c.args.inner.rows) order =
     c.as_slice-2.ensures.value ∙ rw (c.as_slice.ensures.value, c.len.ensures) at c.in_ok-sources.ensures.inner in
     let outer : c.as_slice-3.result.now
     ≡ map (λ r. r / length c.args.inner.rows / length c.args.runs.rows) order =
     c.as_slice-3.ensures.value
-    ∙ rw (c.as_slice.ensures.value, c.len.ensures, c.len-2.ensures.count) at c.in_ok-sources.ensures.outer in
+    ∙ rw (c.as_slice.ensures.value, c.len.ensures, c.len-2.ensures) at c.in_ok-sources.ensures.outer in
     subst (λ (t : TableView). IfOk c.beside-2.result (λ plan. plan ≡ t))
     (product_is c.args.runs c.args.inner c.args.outer order c.requires c.in_ok-of.field-0 c.in_ok-inner.inner
     c.in_ok-outer.outer c.in_ok-beside.field-0

@@ -1,10 +1,9 @@
-use Rattle.std.proofs.Common.{◌≡◌, ◌++◌, ◌+◌, [], length}
+use Rattle.std.proofs.Common.{◌≡◌, ◌++◌, [], take}
 use Rattle.csv.specs.Records.{fields_of, partial_of}
 use Rattle.fx_plan.proofs.text.put_texts.Given as goal
 
-abbrev pub invariant-loop : goal.invariant-loop
-invariant-loop l = record {
-  fields : fields_of l.row ++ l.left ≡ fields_of l.fn.row ++ l.fn.texts;
+abbrev pub invariant-loop-i : goal.invariant-loop-i
+invariant-loop-i l = record {
+  fields : fields_of l.row ≡ fields_of l.fn.row ++ take l.i l.texts;
   partial : partial_of l.row ≡ [];
-  long : l.counter + length l.left ≡ length l.fn.texts;
 }

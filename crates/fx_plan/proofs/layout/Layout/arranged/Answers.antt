@@ -13,10 +13,10 @@ returns-in-Kept-clause-plan c =
     subst (λ (t : TableView). IfOk c.ordered.result (λ x. picked x.order.items
     (replicated x.runs c.args.self.now.inner.now c.args.self.now.outer.now) ≡ t))
     (plan_by c.args.self.now.factors.now c.args.self.now.runs.now c.args.self.now.output.now c.args.self.now.inner.now
-    c.args.self.now.outer.now c.args.seed c.in_ok-order.order.items (map (λ v. v.items) c.as_slice.result.now)
+    c.args.self.now.outer.now c.args.seed c.in_ok-order.order.items (map (λ v. v.items) c.in_ok-values.values.items)
     Kept (search rules)
     (c.in_ok-order.ensures.order ∙ ap (range_with_len 0) c.in_ok-rows.ensures)
-    (ap (map (λ v. v.items)) c.as_slice.ensures.value ∙ c.in_ok-values.ensures.values))
+    c.in_ok-values.ensures.values)
     c.ordered.ensures.plan
 
 pub returns-in-Default-clause-plan : goal.returns-in-Default-clause-plan

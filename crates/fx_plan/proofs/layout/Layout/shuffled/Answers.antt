@@ -16,6 +16,6 @@ returns-clause-plan c =
     (shuffled_parts c.args.self.now.factors.now c.args.self.now.runs.now c.args.self.now.output.now
     inner outer (generator c.args.seed) c.shuffled_in_blocks.new.rng
     c.args.too c.args.order.items c.in_ok-order.order.items
-    (map (λ v. v.items) c.args.values.items) (map (λ v. v.items) c.as_slice-2.result.now)
+    (map (λ v. v.items) c.args.values.items) (map (λ v. v.items) c.shuffled_values-values.result.items)
     (rw c.as_slice.ensures.value at h) (search rules))
     c.ordered.ensures.plan
