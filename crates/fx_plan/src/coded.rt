@@ -24,16 +24,18 @@ impl Model for CodedTable {
     ghost Value = { TableView };
 
     ghost view = { λ t. record {
-        names = t.names;
-        rows = map (λ codes. coded_row (map (λ v. v.items) t.texts.items) codes.items) t.rows.items } };
+      names = t.names;
+      rows = map (λ codes. coded_row (map (λ v. v.items) t.texts.items) codes.items) t.rows.items;
+    } };
 }
 
 impl CodedTable {
     /// The table of rows of such numbers.
     pub(crate) fn new(names: Names, texts: Vec<Vec<Bytes>>, rows: Vec<Vec<u16>>) -> CodedTable
         ensures { result ≡ record {
-            names = names;
-            rows = map (λ codes. coded_row (map (λ v. v.items) texts.items) codes.items) rows.items } }
+          names = names;
+          rows = map (λ codes. coded_row (map (λ v. v.items) texts.items) codes.items) rows.items;
+        } }
     {
         CodedTable { names, texts, rows }
     }

@@ -190,10 +190,7 @@ fn put_field(layout: &Layout<'_>, fields: &mut Vec<Bytes>, z: u32) -> Result<(),
 }
 
 /// The texts of all columns.
-fn all_texts(
-    blocks: Vec<Vec<Bytes>>,
-    values: Vec<Vec<Bytes>>,
-) -> Result<Vec<Vec<Bytes>>, NoMemory>
+fn all_texts(blocks: Vec<Vec<Bytes>>, values: Vec<Vec<Bytes>>) -> Result<Vec<Vec<Bytes>>, NoMemory>
     ensures { IfOk result (λ texts. map (λ v. v.items) texts.items
         ≡ map (λ v. v.items) blocks.items ++ map (λ v. v.items) values.items) }
 {

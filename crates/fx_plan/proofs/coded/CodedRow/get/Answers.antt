@@ -1,5 +1,4 @@
 use Rattle.std.proofs.Common.{◌<◌, ◌∙◌, [], length, map, sym, ap, arith, get_or}
-
 use Rattle.fx_plan.proofs.Coding.{coded_at, coded_long}
 use Rattle.fx_plan.proofs.coded.CodedRow.get.Goals as goal
 
