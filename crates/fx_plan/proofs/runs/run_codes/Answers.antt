@@ -1,5 +1,5 @@
-use Rattle.std.proofs.Common.{◌≡◌, ◌==◌, ◌++◌, ◌∷◌, [], ◌∙◌, ℕ, List, map}
-use Rattle.std.proofs.Common.{length, ap, ap₂, arith, if◌then◌else◌, take_all}
+use Rattle.std.proofs.Common.{◌==◌, ◌++◌, ◌∷◌, [], ◌∙◌, ℕ, List, map}
+use Rattle.std.proofs.Common.{ap, ap₂, arith, if◌then◌else◌, take_all}
 use Rattle.fx_vectors.proofs.Limits.{order-bounds}
 use Rattle.fx_runs.specs.RunBlocks.{block_of, run_at}
 use Rattle.fx_derived.specs.Codes.{derived_level}
