@@ -1,24 +1,25 @@
-ghost use Rattle.std.specs.Prelude.{◌≡◌, ◌+◌, ◌-◌, ◌*◌, ◌^◌, ◌<◌, ◌≤◌, ◌≢◌, ◌++◌, [], ◌∷◌, ℕ, List, IfOk, IfSome};
-ghost use Rattle.std.specs.Prelude.{length, map, take, slice_index, slice_index_or, slice_set, ◌==◌, if◌then◌else◌};
+ghost use Rattle.std.specs.Prelude.{◌≡◌, ◌+◌, ◌-◌, ◌*◌, ◌^◌, ◌<◌, ◌≤◌, ◌++◌, [], ◌∷◌, ℕ, IfOk, IfSome};
+ghost use Rattle.std.specs.Prelude.{length, take, slice_index_or, ◌==◌};
 ghost use Rattle.std.specs.Prelude.{true, false, None, All};
 ghost use Rattle.std.specs.Option.{IfNone};
-ghost use Rattle.std.specs.Bool.{OnTrue};
 ghost use Rattle.std.specs.List.{AllByRecursion};
 ghost use Rattle.fx_designs.specs.Galois.{neg};
 ghost use Rattle.fx_demands.specs.declared.forbidden_list.ForbiddenVector.{ForbiddenVector};
 ghost use Rattle.fx_designs.specs.Problems.{Dimensions, Requirement};
 ghost use Rattle.fx_designs.specs.Vectors.{IsVector};
-ghost use Rattle.fx_demands.specs.EffectVectors.{IsInOrder, AreFactorParts};
+ghost use Rattle.fx_demands.specs.EffectVectors.{AreFactorParts};
 ghost use Rattle.fx_points.specs.Points.{has};
 ghost use Rattle.fx_barred.specs.BestWords.{AreBest, AreWithin};
 ghost use Rattle.fx_points.specs.Sums.{sum_of};
-ghost use Rattle.fx_barred.specs.FirstWords.{FirstWordsView, AreFirstWords, AreWords, AreFirst, IsFirst, HasNone, vector_at};
+ghost use Rattle.fx_barred.specs.Places.{AreLists};
+ghost use Rattle.fx_barred.specs.FirstWords.{FirstWordsView, AreFirstWords, AreWords, IsFirst, HasNone};
 ghost use Rattle.fx_vectors.specs.declared.shape.TheConstants.{MOST_FACTORS};
 
 use crate::best_words::{Best, fill_listed};
+use crate::next_vectors::{LISTS, drop_lists, empty_lists, fill_with};
 use crate::reached::{Reached, filled};
-use fx_base::NoMemory;
-use fx_demands::{ForbiddenVector, ForbiddenVectors};
+use fx_base::{NoMemory, Values};
+use fx_demands::ForbiddenVectors;
 use fx_galois::Field;
 use fx_points::PointSet;
 use fx_vectors::Vector;
@@ -28,33 +29,40 @@ use std::marker::Model;
 /// The rows so far, and for each point that may come next the first forbidden vector that it brings
 /// to zero. Clauses see the rows and the vectors.
 pub struct FirstWords<'a> {
+    alloc: Global,
     /// The rows and their multiples. No rows are taken together here.
     reached: Reached,
     words: &'a ForbiddenVectors,
     /// For each number of rows, and each sum over them, one more than the first vector that has it and
     /// its last factor right after these rows, or 0.
     tables: Vec<usize>,
+    /// For each number of rows lists of places that stand for all vectors with their last factor right after these
+    /// rows.
+    lists: Vec<Values<usize>>,
 }
 
 // Not derived, so that a place that drops one is proved with one call.
 impl Drop for FirstWords<'_> {
     fn drop(self) {
         let FirstWords {
+            alloc: _,
             reached: _,
             words: _,
             tables: _,
+            lists: _,
         } = self;
     }
 }
 
 impl<'a> Model for FirstWords<'a> {
     ghost use Rattle.fx_barred.specs.FirstWords.{FirstWordsView, AreFirstWords};
+    ghost use Rattle.fx_barred.specs.Places.{AreLists};
 
     ghost Value = { FirstWordsView };
 
     ghost view = { λ x. record { q = x.reached.q; m = x.reached.m; room = x.reached.room; words = x.words.now; rows = x.reached.rows } };
 
-    ghost invariant = { λ x. AreFirstWords x.reached x.words.now x.tables.items };
+    ghost invariant = { λ x. AreFirstWords x.reached x.words.now x.tables.items × AreLists x.reached x.words.now x.lists.items };
 }
 
 impl<'a> FirstWords<'a> {
@@ -79,12 +87,21 @@ impl<'a> FirstWords<'a> {
             first ≡ record { q = field; m = m; room = s; words = words.now; rows = [] }) }
     {
         let reached = Reached::of(alloc, field, m, 0, s)?;
+        let mut lists = empty_lists(alloc, LISTS * s)?;
         let mut tables = filled(alloc, 0usize, s * usize::from(reached.size()))?;
-        fill(&reached, words.as_slice(), tables.as_mut_slice());
+        fill_with(
+            alloc,
+            &reached,
+            words.as_slice(),
+            tables.as_mut_slice(),
+            lists.as_mut_slice(),
+        );
         Ok(FirstWords {
+            alloc,
             reached,
             words,
             tables,
+            lists,
         })
     }
 
@@ -176,10 +193,12 @@ impl<'a> FirstWords<'a> {
     {
         self.reached.push(row);
         if self.reached.len() < self.reached.room() {
-            fill(
+            fill_with(
+                self.alloc,
                 &self.reached,
                 self.words.as_slice(),
                 self.tables.as_mut_slice(),
+                self.lists.as_mut_slice(),
             );
         }
     }
@@ -190,86 +209,9 @@ impl<'a> FirstWords<'a> {
         ensures { self.new
             ≡ record self.old { rows = take (length self.old.rows - 1) self.old.rows } }
     {
+        // There are at most `MOST_FACTORS` rows.
+        let _room = self.reached.room();
+        drop_lists(self.alloc, self.reached.len(), self.lists.as_mut_slice());
         self.reached.pop();
     }
-}
-
-/// Fills the table for the rows so far.
-fn fill(reached: &Reached, words: &[ForbiddenVector], tables: &mut [usize])
-    requires room { length reached.now.rows < reached.now.room }
-    requires words { AreWords reached.now.q reached.now.room words.now }
-    requires tables { length tables.old ≡ reached.now.room * reached.now.q ^ reached.now.m }
-    ensures len { length tables.new ≡ length tables.old }
-    ensures kept { (k : ℕ) → k < length reached.now.rows * reached.now.q ^ reached.now.m
-        → slice_index tables.new k ≡ slice_index tables.old k }
-    ensures first { let i = length reached.now.rows in
-        AreFirst reached.now.q reached.now.m reached.now.rows words.now i (length words.now)
-        (i * reached.now.q ^ reached.now.m) tables.new }
-{
-    // There are at most `MOST_FACTORS` rows.
-    let _room = reached.room();
-    let n = reached.len();
-    let size = usize::from(reached.size());
-    let first = n * size;
-    clear(tables, first, size);
-    for k in start_of(words, n + 1)..start_of(words, n + 2) {
-        // Once each sum has its vector, later ones change nothing.
-        if k % 64 == 0 && is_full(tables, first, size) {
-            return;
-        }
-        let sum = reached.sum(&words[k].vector);
-        put_first(tables, first + usize::from(sum), k);
-    }
-}
-
-/// Whether there is no zero.
-fn is_full(tables: &[usize], first: usize, size: usize) -> bool
-    requires { first + size ≤ length tables.now }
-    ensures { OnTrue result ((y : ℕ) → y < size → slice_index tables.now (first + y) ≢ 0) }
-{
-    for y in 0..size {
-        if tables[first + y] == 0 {
-            return false;
-        }
-    }
-    true
-}
-
-/// Puts in zeros.
-fn clear(tables: &mut [usize], first: usize, size: usize)
-    requires { first + size ≤ length tables.old }
-    ensures len { length tables.new ≡ length tables.old }
-    ensures zeros { (y : ℕ) → y < size → slice_index tables.new (first + y) ≡ 0 }
-    ensures kept { (k : ℕ) → k < first → slice_index tables.new k ≡ slice_index tables.old k }
-{
-    for y in 0..size {
-        tables[first + y] = 0;
-    }
-}
-
-/// Puts in one more than k where there is a zero.
-fn put_first(tables: &mut [usize], place: usize, k: usize)
-    requires there { place < length tables.old }
-    requires fits { k + 1 < 2 ^ 64 }
-    ensures len { length tables.new ≡ length tables.old }
-    ensures others { (j : ℕ) → j ≢ place → slice_index tables.new j ≡ slice_index tables.old j }
-    ensures here { slice_index tables.new place ≡ (if slice_index tables.old place == 0 then k + 1 else slice_index tables.old place) }
-{
-    if tables[place] == 0 {
-        tables[place] = k + 1;
-    }
-}
-
-/// How many vectors have their last factor before the one at this position.
-fn start_of(words: &[ForbiddenVector], last: usize) -> usize
-    requires order { IsInOrder words.now }
-    requires last { last ≤ MOST_FACTORS + 1 }
-    ensures bound { result ≤ length words.now }
-    ensures before { (k : ℕ) (d : ForbiddenVector) → k < result
-        → (slice_index_or words.now k d).class < 64 * last }
-    ensures after { (k : ℕ) (d : ForbiddenVector) → result ≤ k → k < length words.now
-        → 64 * last ≤ (slice_index_or words.now k d).class }
-{
-    let class = 64 * last as u16;
-    words.partition_point(|word| word.class < class)
 }

@@ -4,6 +4,7 @@
 mod best_words;
 mod first_words;
 mod laws;
+mod next_vectors;
 mod reached;
 
 pub use best_words::{Best, fill_light, fill_next, points_with_words};

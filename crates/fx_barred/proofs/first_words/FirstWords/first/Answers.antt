@@ -23,13 +23,13 @@ returns-else-found-eq0-clause-some c =
     let wide = mul-le-mul_right size (let low : n + 1 ≤ r.room = omega arith in low) in
     let next : (n + 1) * size ≡ n * size + size = add_one-mul n size in
     let there : n * size + y < length s.tables.items =
-    omega (arith, c.minus.ensures.below, c.self.invariant.tables_len) in
+    omega (arith, c.minus.ensures.below, c.self.invariant.0.tables_len) in
     let read : found ≡ slice_index s.tables.items (n * size + y) =
     c.index-found.ensures ∙ ap (λ (k : ℕ). slice_index_or s.tables.items k found) place ∙ get_or_default s.tables.items
     (n * size + y) found 0 there in
     let up : found ≡ suc (found - 1) = omega (arith, c.if-found-eq0.false) in
     let first =
-    (c.self.invariant.first n (omega arith) room).some y (found - 1) c.minus.ensures.below (sym read ∙ up) in
+    (c.self.invariant.0.first n (omega arith) room).some y (found - 1) c.minus.ensures.below (sym read ∙ up) in
     let at : IsFirst r.q r.m r.rows s.words.now n (sum_of r.q (neg r.q 1) r.m 0 c.args.row) (found - 1) =
     subst (λ (y : ℕ). IsFirst r.q r.m r.rows s.words.now n y (found - 1)) c.minus.ensures.negative first in
     subst (λ (v : FirstWordsView). IsFirst v.q v.m v.rows v.words (length v.rows)

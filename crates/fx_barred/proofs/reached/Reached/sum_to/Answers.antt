@@ -2,7 +2,7 @@ use Rattle.std.proofs.Common.{◌<◌, ◌^◌, refl, subst, arith}
 use Rattle.fx_laws.proofs.Tables.{is_order-field}
 use Rattle.fx_points.proofs.Halves.{power-some}
 use Rattle.fx_barred.specs.Reached.{ReachedView}
-use Rattle.fx_barred.proofs.reached.Reached.sum.Goals as goal
+use Rattle.fx_barred.proofs.reached.Reached.sum_to.Goals as goal
 
 pub loop-j-init : goal.loop-j-init
 loop-j-init c =

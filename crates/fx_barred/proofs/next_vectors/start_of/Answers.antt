@@ -4,7 +4,7 @@ use Rattle.std.proofs.lemmas.Bool.{ltb-true, cases_lt, lt-ltb, both_ways}
 use Rattle.std.proofs.lemmas.List.Sorted.{IsPartitionPoint-from_clause, IsPartitionedBy-ltb}
 use Rattle.fx_demands.specs.declared.forbidden_list.ForbiddenVector.{ForbiddenVector}
 use Rattle.fx_demands.specs.EffectVectors.{IsInOrder}
-use Rattle.fx_barred.proofs.first_words.start_of.Goals as goal
+use Rattle.fx_barred.proofs.next_vectors.start_of.Goals as goal
 
 classes : (words : List ForbiddenVector) → IsInOrder words → IsNonDecreasingBy (λ w. w.class) words
 classes words order i j d le low =

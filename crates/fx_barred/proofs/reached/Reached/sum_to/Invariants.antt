@@ -1,6 +1,6 @@
 use Rattle.std.proofs.Common.{◌≡◌, ◌<◌, ◌^◌}
 use Rattle.fx_barred.specs.FirstWords.{sum_to}
-use Rattle.fx_barred.proofs.reached.Reached.sum.Given as goal
+use Rattle.fx_barred.proofs.reached.Reached.sum_to.Given as goal
 
 abbrev pub invariant-loop-j : goal.invariant-loop-j
 invariant-loop-j l = record {

@@ -1,5 +1,5 @@
 use Rattle.std.proofs.Common.{◌≡◌, ◌<◌, ◌+◌, ℕ, length, slice_index}
-use Rattle.fx_barred.proofs.first_words.clear.Given as goal
+use Rattle.fx_barred.proofs.next_vectors.clear.Given as goal
 
 abbrev pub invariant-loop-y : goal.invariant-loop-y
 invariant-loop-y l = record {

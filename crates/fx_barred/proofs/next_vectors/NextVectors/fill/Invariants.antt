@@ -1,0 +1,13 @@
+use Rattle.std.proofs.Common.{◌≡◌, ◌≢◌, ◌<◌, ◌≤◌, ◌+◌, ℕ, length, slice_index}
+use Rattle.fx_barred.specs.Places.{ArePlaced, place_at}
+use Rattle.fx_barred.proofs.next_vectors.NextVectors.fill.Given as goal
+
+abbrev pub invariant-loop-j : goal.invariant-loop-j
+invariant-loop-j l = record {
+  len : length l.tables ≡ length l.fn.tables;
+  kept : (k : ℕ) → k < l.first → slice_index l.tables k ≡ slice_index l.fn.tables k;
+  most : l.known ≤ l.size;
+  known : (y : ℕ) → y < l.known → slice_index l.tables (l.first + y) ≢ 0;
+  placed : ArePlaced l.self.reached.now.q l.self.reached.now.m l.self.reached.now.rows l.self.words.now (length l.self.reached.now.rows)
+      (place_at l.list l.self.start) l.j l.first l.tables;
+}

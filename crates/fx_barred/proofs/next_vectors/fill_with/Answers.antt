@@ -1,0 +1,14 @@
+use Rattle.std.proofs.Common.{ℕ, ◌≤◌, subst, arith}
+use Rattle.fx_barred.specs.Places.{IsRange}
+use Rattle.fx_barred.proofs.Listing.{range-is}
+use Rattle.fx_vectors.specs.declared.shape.TheConstants.{MOST_FACTORS}
+use Rattle.fx_barred.proofs.next_vectors.fill_with.Goals as goal
+
+pub invariant_of-next-clause-range : goal.invariant_of-next-clause-range
+invariant_of-next-clause-range c =
+    let r = c.args.reached.now in
+    let small : r.room ≤ MOST_FACTORS = omega (arith, c.room-room.ensures.room, c.room-room.ensures.fits) in
+    subst (λ (n : ℕ). IsRange c.args.words.now n c.start_of.result c.start_of-2.result) c.len-n.ensures.count
+    (range-is r.q r.room c.args.words.now c.len-n.result c.start_of.result c.start_of-2.result c.requires.words small
+    c.start_of.ensures.bound c.start_of-2.ensures.bound c.start_of.ensures.before c.start_of.ensures.after
+    c.start_of-2.ensures.before c.start_of-2.ensures.after)
