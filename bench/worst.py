@@ -1,18 +1,19 @@
 #!/usr/bin/env python3
 """bench/worst.py PROGRAM --tables PROGRAM [--minutes M] [--first SEED] [--only SEED]: a hunt for the slowest input.
 
-Draws random inputs of every command at the limits, one a seed: questions, books and their upgrades, plans to be judged,
-catalogues, tables, programs of many steps. Runs each as a whole run of the program, with one thread, four or 64, and prints
+First the worst inputs that are known. Then it draws random inputs of every command at the limits, one a seed: questions, books
+and their upgrades, plans to be judged, catalogues, tables, programs of many steps. Runs each as a whole run of the program, with one thread, four or 64, and prints
 what it counts (nodes, entries or bytes), its seconds of processor time, its peak memory and the bytes of its input. At the
 end it prints the worst five of each command, and each run above the bounds of docs/PERFORMANCE.md, and ends with status 1 if
 there is one. --only SEED prints the input of one seed and runs it alone. The gate does not run it."""
-import argparse, collections, os, random, re, subprocess, sys, tempfile, time
+import argparse, collections, itertools, os, random, re, subprocess, sys, tempfile, time
 
 # The greatest m with q^m <= 1,024, and the most factors, for each number of levels q.
 GREATEST_M = {2: 10, 3: 6, 4: 5, 5: 4, 7: 3, 8: 3, 9: 3}
 MOST_FACTORS = {2: 63, 3: 63, 4: 40, 5: 40, 7: 40, 8: 40, 9: 40}
 DEFAULT_NODES = 1_000_000
-# What a run may cost: seconds, microseconds for each node, entry or byte that it counts, and megabytes besides 100 bytes a node.
+# What a run may cost: seconds, microseconds for each node, entry or byte that it counts, and megabytes besides 100 bytes a
+# node. Each byte of a file that it writes may cost five nanoseconds more.
 Bound = collections.namedtuple("Bound", "unit seconds each megabytes")
 BOUNDS = {
     "run": Bound("nodes", 2, 20, 250),
@@ -124,6 +125,7 @@ class Run:
             listing.seek(0)
             self.listing = listing.read()
         self.status = os.waitstatus_to_exitcode(status)
+        self.written = sum(it.stat().st_size for it in os.scandir(self.folder.name))
         self.megabytes = peak / 1024
         found = [int(it) for it in re.findall(rb"(?:nodes|entries|after) (\d+)", self.listing)]
         self.count = sum(found) if found and self.bound.unit != "bytes" else count
@@ -132,8 +134,9 @@ class Run:
         return (self.bound.seconds + self.bound.each * 1e-6 * count) * (MORE if self.threads > 1 else 1)
 
     def is_over(self):
+        most_seconds = self.most_seconds(self.count) + 5e-9 * self.written
         most_megabytes = self.bound.megabytes + (100e-6 * self.count if self.bound.unit == "nodes" else 0)
-        return not self.ended or self.seconds > self.most_seconds(self.count) or self.megabytes > most_megabytes
+        return not self.ended or self.seconds > most_seconds or self.megabytes > most_megabytes
 
     def share(self):
         """The part of the bound that it took."""
@@ -142,12 +145,66 @@ class Run:
     def line(self):
         end = f"status {self.status}" if self.ended else "cut off"
         return (f"seed {self.seed:8} {' '.join(self.words):30} {self.threads:2} threads {end:9} {self.count:9} {self.bound.unit:7} "
-                f"{self.seconds:8.3f} s {self.megabytes:7.1f} MB {len(self.text):8} bytes  {self.text[:400].decode('latin-1') if self.kind == 'run' else ''}")
+                f"{self.seconds:8.3f} s {self.megabytes:7.1f} MB {len(self.text):8} bytes  {self.text[:300].decode('latin-1') if self.kind == 'run' else ''}")
 
     def books(self):
         """The books that it wrote."""
         names = sorted(it for it in os.listdir(self.folder.name) if it.endswith(".book"))
         return [open(os.path.join(self.folder.name, name), "rb").read() for name in names]
+
+
+def product_of(first, last, sign="*"):
+    return sign.join(f"X{i}" for i in range(first, last + 1))
+
+
+def book_by_effects(most_bytes):
+    """A good front of a book with effects: 60 words in turn, each with another row, so that none is known from before."""
+    by_size = lambda number: (number.bit_count(), [i for i in range(63) if number >> i & 1])
+    pairs = itertools.combinations(range(10, 61), 2)
+    estimate = sorted((1 << 62 | 1 << i | 1 << j for i, j in pairs), key=by_size)[:980]
+    others = sorted(range(1, 1024), key=by_size)
+    lines = ["factex-book 2", "size 2 10 63 0", f"effects {' '.join(map(str, estimate))} / {' '.join(map(str, others))}", "pattern none"]
+    lines += [f"O {1 << i}" for i in range(10)] + ["O 1023"] * 51
+    turns = itertools.cycle(estimate[-60:])
+    for second in range(1023, -1, -1):
+        lines.append(f"O {second}")
+        for row in range(1023, -1, -1):
+            word = next(turns) ^ row
+            parts = [f"{i + 1}:1" for i in range(63) if word >> i & 1]
+            lines.append(f"W {row} " + (f"#{word}" if len(parts) > 8 else " ".join(parts)))
+        if sum(map(len, lines)) > most_bytes:
+            return "\n".join([*lines, "END", ""])
+
+
+def table_of_floors(most_bytes):
+    """A book of a table with a floor at each pair of later rows, whose pattern decides nothing before its last weight."""
+    units = [1 << i for i in range(10)]
+    rows = [row for row in range(1023, 0, -1) if row not in units]
+    lines = ["factex-table 1", "size 2 10 63 0", "resolution 3", "pattern " + " ".join(["0"] * 63)] + [f"O {row}" for row in units]
+    for first, row in enumerate(rows):
+        lines += [f"O {row}"] + [f"F {later}" for later in rows[first + 1 :]]
+        if sum(map(len, lines)) > most_bytes:
+            return "\n".join([*lines, "END", ""])
+
+
+def known_runs(factex, tables):
+    """The worst inputs that are known, of which each is a seed below 0."""
+    pushes = (f"proc factex nodes=100000; factors X1-X21/nlev=3; size design=9; model e=(X1 X19 X20 X21) "
+              f"n=({product_of(2, 17, '|')}@2 {product_of(2, 17)} {product_of(2, 18)}); run;")
+    forced = f"proc factex nodes=100000; factors X1-X37; size design=4; model e=(X1|X2) n=({product_of(21, 36, '|')} X37 X37*X1); run;"
+    drawn = ("proc factex nodes=200000; factors X1-X63/nlev=3; size design=729; model e=(X1-X19 X49*X17*X7*X29*X21*X59) n=(X57|X5|X40|"
+             "X35|X22|X29|X21|X54|X31|X1|X46|X60|X63|X28|X13|X44|X25|X14|X24|X33|X4|X23|X18@2 X38 X53*X21*X47*X63*X1*X49*X57*X52*X37*"
+             "X51*X9*X26*X3); run;")
+    lots = "proc factex nodes=5000000; factors X1-X14; size design=1024; model resolution=maximum / minabs; run;"
+    value = "'" + product_of(1, 10, "|") + "x" * 1_048_000 + "'"
+    long = f"proc factex; factors X1-X10 A; size design=1024; model e=({product_of(1, 10, '|')}) n=(A); output out=a A cvals=({value} 'y'); run;"
+    yield Run(-1, factex, ["run"], pushes.encode(), 100_000)
+    yield Run(-2, factex, ["run"], forced.encode(), 100_000)
+    yield Run(-3, factex, ["run"], drawn.encode(), 200_000)
+    yield Run(-4, factex, ["run"], lots.encode(), 5_000_000, 64)
+    yield Run(-5, factex, ["run"], long.encode()[: 1 << 20], 0)
+    for seed, program, words, book in ((-6, factex, ["check"], book_by_effects(1_000_000)), (-7, tables, ["tables", "check"], table_of_floors(335_000))):
+        yield Run(seed, program, words, book.encode(), book.count("\n"))
 
 
 def runs_of(seed, factex, tables):
@@ -236,14 +293,13 @@ def main():
         for run in runs_of(arguments.only, *programs):
             print(run.line(), run.text.decode("latin-1"), sep="\n")
         return 0
-    runs, seed, end = [], arguments.first, time.perf_counter() + 60 * arguments.minutes
-    while time.perf_counter() < end:
-        for run in runs_of(seed, *programs):
-            # Kept for the report without its files.
-            run.folder.cleanup()
-            runs.append(run)
-            print(run.line(), flush=True)
-        seed += 1
+    runs, end = [], time.perf_counter() + 60 * arguments.minutes
+    seeds = itertools.takewhile(lambda _: time.perf_counter() < end, itertools.count(arguments.first))
+    for run in itertools.chain(known_runs(*programs), itertools.chain.from_iterable(runs_of(it, *programs) for it in seeds)):
+        # Kept for the report without its files.
+        run.folder.cleanup()
+        runs.append(run)
+        print(run.line(), flush=True)
     return report(runs)
 
 
