@@ -176,10 +176,21 @@ def try_folders(clone):
     expect("a changed source", ran.returncode == 7 and b"built from other sources" in ran.stderr and b"rt is not on the path" in ran.stderr)
 
 
+def try_systems(clone):
+    """Another system, and an older C library, by programs of their names in front of the path."""
+    for name, says, needs in (("uname", "Darwin arm64", b"needs Linux on x86-64"), ("getconf", "glibc 2.31", b"needs the GNU C library 2.34")):
+        fake = clone.here / name
+        fake.write_text(f"#!/bin/sh\necho {says}\n")
+        fake.chmod(0o755)
+        ran = subprocess.run([clone.top / "factex", "make", "1"], env={"PATH": f"{clone.here}:/usr/bin:/bin"}, capture_output=True)
+        expect(f"a system with {says}", ran.returncode == 7 and needs in ran.stderr and not ran.stdout)
+        fake.unlink()
+
+
 def main():
     with tempfile.TemporaryDirectory() as room:
         clone = Clone(pathlib.Path(room))
-        for attempt in (try_first_command, try_words, try_texts, try_checks, try_streams, try_folders):
+        for attempt in (try_first_command, try_words, try_texts, try_checks, try_streams, try_systems, try_folders):
             attempt(clone)
     return 1 if wrong else 0
 
