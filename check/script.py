@@ -6,7 +6,7 @@ import os
 import pathlib
 import pty
 import re
-import shutil
+import signal
 import subprocess
 import sys
 import tempfile
@@ -116,6 +116,11 @@ def try_texts(clone):
     expect("a text from a terminal", (ran.returncode, ran.stdout, ran.files) == (3, refused.stdout, {}) and shown in ran.stderr)
     os.close(main)
     os.close(end)
+    for words in (["run", "typo.sas"], ["run", "--help"], ["judge"], ["judge", "plan.csv"], ["check", "--bogus"]):
+        main, end = pty.openpty()
+        expect(f"{words} are refused before anything is read", clone.run(words, stdin=end).returncode == 3)
+        os.close(main)
+        os.close(end)
     expect("a plan to be judged", clone.run(["judge", "2", "-"], b"A,B\n1,2\n").stderr.startswith(b"    1,2\n"))
     file.unlink()
 
@@ -124,7 +129,7 @@ def try_checks(clone):
     """Books of both kinds by one command, and texts that are none."""
     texts = {"a book": "\n".join(BOOK), "a table": TABLE, "wrong": "\n".join(BOOK[:8] + ["W 6 4:1 5:1"] + BOOK[9:]), "no book": "A,B\n1,2\n"}
     ends = {"a book": (0, "accepted"), "a table": (0, "accepted"), "wrong": (1, "rejected line 9 K3"), "no book": (1, "rejected line 1 B2")}
-    said = {"wrong": b"    W 6 4:1 5:1\nK3: ", "no book": b"factex: this is no book"}
+    said = {"wrong": b"    W 6 4:1 5:1\nK3: ", "no book": b"factex: this is not a book"}
     for name, text in texts.items():
         (clone.here / name).write_text(text)
         for words in (["check", name], ["check"], ["tables", "check", name]):
@@ -134,6 +139,10 @@ def try_checks(clone):
     ran = clone.run(["check", *texts])
     lines = ran.stdout.decode().split("\n")
     expect("several books", ran.returncode == 1 and [it for it in lines if it in texts] == list(texts) and lines.count("accepted") == 2)
+    expect("a missing book", b"factex check missing\n                 ^\n" in clone.run(["check", "a book", "missing", "a table"]).stderr)
+    (clone.here / "-t").write_text(TABLE)
+    expect("a book with a name that begins with -", clone.run(["check", "-t"]).returncode == 0)
+    (clone.here / "-t").unlink()
     other = clone.top / "check/check_book.py"
     ran = clone.run(list(texts), script=other)
     expect("the checker in Python", ran.returncode == 1 and ran.stdout.decode().split("\n") == lines)
@@ -173,7 +182,27 @@ def try_folders(clone):
     with open(clone.top / "crates/fx_base/src/lib.rt", "a") as source:
         source.write("\n")
     ran = clone.run(["make", "1"])
-    expect("a changed source", ran.returncode == 7 and b"built from other sources" in ran.stderr and b"rt is not on the path" in ran.stderr)
+    expect("a changed source", ran.returncode == 7 and b"not built from these sources" in ran.stderr and b"rt is not on the path" in ran.stderr)
+
+
+def try_signals(clone):
+    """A signal to the script alone ends the program too, and leaves nothing in the temporary folder."""
+    slow = b"proc factex nodes=5000000; factors X1-X12 / nlev=3; size design=81; model resolution=3 / minabs; run;" * 20
+    kept = clone.here / "kept"
+    kept.mkdir()
+    for number in (signal.SIGINT, signal.SIGTERM, signal.SIGHUP):
+        child = subprocess.Popen([clone.top / "factex", "run"], cwd=clone.here, env={"PATH": "/usr/bin:/bin", "TMPDIR": str(kept)},
+                                 stdin=subprocess.PIPE, stdout=subprocess.PIPE, stderr=subprocess.DEVNULL)
+        child.stdin.write(slow)
+        child.stdin.close()
+        time.sleep(0.5)
+        child.send_signal(number)
+        began = time.monotonic()
+        # The program holds the other end of the pipe as long as it runs.
+        child.stdout.read()
+        child.wait()
+        expect(f"{number!r} to the script", time.monotonic() - began < 2 and not list(kept.iterdir()))
+    kept.rmdir()
 
 
 def try_systems(clone):
@@ -190,7 +219,7 @@ def try_systems(clone):
 def main():
     with tempfile.TemporaryDirectory() as room:
         clone = Clone(pathlib.Path(room))
-        for attempt in (try_first_command, try_words, try_texts, try_checks, try_streams, try_systems, try_folders):
+        for attempt in (try_first_command, try_words, try_texts, try_checks, try_streams, try_signals, try_systems, try_folders):
             attempt(clone)
     return 1 if wrong else 0
 
