@@ -2,10 +2,10 @@
 """bench/worst.py PROGRAM --tables PROGRAM [--minutes M] [--first SEED] [--only SEED]: a hunt for the slowest input.
 
 First the worst inputs that are known. Then it draws random inputs of every command at the limits, one a seed: questions, books
-and their upgrades, plans to be judged, catalogues, tables, programs of many steps. Runs each as a whole run of the program, with one thread, four or 64, and prints
-what it counts (nodes, entries or bytes), its seconds of processor time, its peak memory and the bytes of its input. At the
-end it prints the worst five of each command, and each run above the bounds of docs/PERFORMANCE.md, and ends with status 1 if
-there is one. --only SEED prints the input of one seed and runs it alone. The gate does not run it."""
+and their upgrades, plans to be judged, catalogues, tables, programs of many steps. Each is a whole run of the program, with one
+thread, four or 64. Prints what it counts (nodes, entries or bytes), its seconds of processor time, its peak memory and the
+bytes of its input; at the end the worst five of each command, and each run above the bounds of docs/PERFORMANCE.md, of which
+there have to be none. --only SEED prints the input of one seed and runs it alone. The gate does not run it."""
 import argparse, collections, itertools, os, random, re, subprocess, sys, tempfile, time
 
 # The greatest m with q^m <= 1,024, and the most factors, for each number of levels q.
@@ -17,16 +17,18 @@ DEFAULT_NODES = 1_000_000
 Bound = collections.namedtuple("Bound", "unit seconds each megabytes")
 BOUNDS = {
     "run": Bound("nodes", 2, 20, 250),
-    "check": Bound("entries", 2, 10, 550),
+    "check": Bound("entries", 3, 15, 550),
     "upgrade": Bound("bytes", 2, 1, 550),
     "judge": Bound("bytes", 2, 2, 50),
     "catalogue": Bound("nodes", 2, 20, 150),
     "large": Bound("nodes", 2, 20, 150),
     "tables": Bound("entries", 4, 10_000, 150),
-    "tables check": Bound("entries", 2, 100, 450),
+    "tables check": Bound("entries", 2, 400, 450),
 }
-# What a run with several threads may take more than with one.
-MORE = 1.5
+# Microseconds for each node of chains: prefixes with one way on, on which no two forbidden vectors have the same codes.
+CHAINS = 1000
+# What a run with several threads may take more than with one, and the megabytes of 64.
+MORE, MORE_MEGABYTES = 7, 1500
 
 
 def product(rng, factors, most):
@@ -109,10 +111,12 @@ def shape(rng, most_runs):
 class Run:
     """One run of a program: what it read, how it ended, what it counted, its seconds of processor time and peak memory."""
 
-    def __init__(self, seed, program, words, text, count, threads=1):
+    def __init__(self, seed, program, words, text, count, threads=1, each=None):
         self.seed, self.words, self.text = seed, words, text
         self.kind = " ".join(it for it in words[:2] if it.isalpha() and (it == words[0] or it == "check"))
         self.threads, self.bound = threads, BOUNDS[self.kind]
+        if each:
+            self.bound = self.bound._replace(each=each)
         own = words[words[0] == "tables" :] + ([f"--threads={threads}"] if threads > 1 else [])
         self.folder = tempfile.TemporaryDirectory()
         # In a folder of its own, since the program writes books to the current one.
@@ -136,6 +140,8 @@ class Run:
     def is_over(self):
         most_seconds = self.most_seconds(self.count) + 5e-9 * self.written
         most_megabytes = self.bound.megabytes + (100e-6 * self.count if self.bound.unit == "nodes" else 0)
+        if self.threads > 1:
+            most_megabytes = max(most_megabytes, MORE_MEGABYTES)
         return not self.ended or self.seconds > most_seconds or self.megabytes > most_megabytes
 
     def share(self):
@@ -191,7 +197,7 @@ def known_runs(factex, tables):
     """The worst inputs that are known, of which each is a seed below 0."""
     pushes = (f"proc factex nodes=100000; factors X1-X21/nlev=3; size design=9; model e=(X1 X19 X20 X21) "
               f"n=({product_of(2, 17, '|')}@2 {product_of(2, 17)} {product_of(2, 18)}); run;")
-    forced = f"proc factex nodes=100000; factors X1-X37; size design=4; model e=(X1|X2) n=({product_of(21, 36, '|')} X37 X37*X1); run;"
+    chains = f"proc factex nodes=10000; factors X1-X37; size design=4; model e=(X1|X2) n=({product_of(21, 36, '|')} X37 X37*X1); run;"
     drawn = ("proc factex nodes=200000; factors X1-X63/nlev=3; size design=729; model e=(X1-X19 X49*X17*X7*X29*X21*X59) n=(X57|X5|X40|"
              "X35|X22|X29|X21|X54|X31|X1|X46|X60|X63|X28|X13|X44|X25|X14|X24|X33|X4|X23|X18@2 X38 X53*X21*X47*X63*X1*X49*X57*X52*X37*"
              "X51*X9*X26*X3); run;")
@@ -199,7 +205,7 @@ def known_runs(factex, tables):
     value = "'" + product_of(1, 10, "|") + "x" * 1_048_000 + "'"
     long = f"proc factex; factors X1-X10 A; size design=1024; model e=({product_of(1, 10, '|')}) n=(A); output out=a A cvals=({value} 'y'); run;"
     yield Run(-1, factex, ["run"], pushes.encode(), 100_000)
-    yield Run(-2, factex, ["run"], forced.encode(), 100_000)
+    yield Run(-2, factex, ["run"], chains.encode(), 10_000, each=CHAINS)
     yield Run(-3, factex, ["run"], drawn.encode(), 200_000)
     yield Run(-4, factex, ["run"], lots.encode(), 5_000_000, 64)
     yield Run(-5, factex, ["run"], long.encode()[: 1 << 20], 0)
