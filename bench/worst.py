@@ -125,7 +125,7 @@ class Run:
             source.seek(0)
             start = time.perf_counter()
             child = subprocess.Popen([program, *own], stdin=source, stdout=listing, stderr=subprocess.DEVNULL, cwd=self.folder.name)
-            self.ended, status, peak, self.seconds = wait(child, start + 20 * self.most_seconds(count))
+            self.ended, status, peak, self.seconds = wait(child, start + max(120, 20 * self.most_seconds(count)))
             listing.seek(0)
             self.listing = listing.read()
         self.status = os.waitstatus_to_exitcode(status)
