@@ -22,7 +22,7 @@ BOUNDS = {
     "judge": Bound("bytes", 2, 2, 50),
     "catalogue": Bound("nodes", 2, 20, 150),
     "large": Bound("nodes", 2, 20, 150),
-    "tables": Bound("entries", 4, 10_000, 150),
+    "tables": Bound("entries", 4, 80_000, 150),
     "tables check": Bound("entries", 2, 400, 450),
 }
 # Microseconds for each node of chains: prefixes with one way on, on which no two forbidden vectors have the same codes.
