@@ -85,7 +85,10 @@ TEXTS = {
     "text refused": "factors A B;size design=3;",
 }
 SHARED = [("catalogue", ["catalogue", "2", "3", "7"], b""), ("large", ["large", "2"], b"")]
-OTHERS = [("judge", ["judge", "2"], b"A,B,C\n1,1,1\n1,-1,-1\n-1,1,-1\n-1,-1,1\n"), ("plan refused", ["judge", "2"], b"A\n2\n"),
+RULES = (b"rules D=A*B [1]=A*C\nproc factex;factors A B C D;size design=8;blocks nblocks=2;model resolution=3;examine aliasing blocked;"
+         b"output out=P randomize(3);\nrules none\nproc factex;factors A B;size design=4;foldover;")
+OTHERS = [("rules", ["plan"], RULES), ("rules refused", ["plan"], b"rules C=A*A\nproc factex;factors A B C;size design=4;"),
+          ("judge", ["judge", "2"], b"A,B,C\n1,1,1\n1,-1,-1\n-1,1,-1\n-1,-1,1\n"), ("plan refused", ["judge", "2"], b"A\n2\n"),
           ("make", ["make", "2"], b""), ("word refused", ["make", "x"], b"")]
 TABLES = [(title, words + more, b"") for title, words in (("lines", ["2", "3", "8"]), ("lines, open", ["2", "3", "6", "--nodes=9"]))
           for more in ([], ["--threads=4"])]

@@ -1,15 +1,16 @@
 #!/usr/bin/env python3
 """Random inputs of every command: bench/hostile.py PROGRAM [--tables PROGRAM] [--seconds N] [--seed N] [--keep FOLDER]
 
-Each input is a command line, a program text, a book, an upgrade, a plan to judge or a catalogue, right or with small faults.
+Each input is a command line, a program text, rules before its steps, a book, an upgrade, a plan to judge or a catalogue,
+right or with small faults.
 For each the program has to end in time (processor time below 2 s and two microseconds a node of its budgets), with status
 0 to 3, as nothing refuses it memory or files, and with nothing on standard error. One thread and four have to give the same
 bytes, files and status; the files have to be those of the listing, and as long; books have to be accepted by `check` and by
 check/check_book.py, which have to agree on every changed book, too; plans have to be judged regular; what `judge` counts has
-to be what is counted here; a table has to have the patterns of the catalogue, and of its own rules. An input that fails is
+to be what is counted here, and so has the head of a design that rules give; the rules of a listing have to give its design; a table has to have the patterns of the catalogue, and of its own rules. An input that fails is
 kept in the folder, by default hostile-failures, with its words. The same seed gives the same inputs, until the time ends.
 Prints the counts by kind; ends with status 1 if anything failed. The gate does not run it."""
-import argparse, collections, csv, io, itertools, os, random, re, signal, subprocess, sys, tempfile
+import argparse, collections, csv, io, itertools, math, os, random, re, signal, subprocess, sys, tempfile
 
 sys.path.insert(0, os.path.join(os.path.dirname(os.path.dirname(os.path.abspath(__file__))), "check"))
 import changed_books, check_book, rules
@@ -89,7 +90,7 @@ def need_refusal(done, form):
 
 # ---- words
 
-COMMANDS = ["run", "check", "upgrade", "judge", "catalogue", "make", "large"]
+COMMANDS = ["run", "plan", "check", "upgrade", "judge", "catalogue", "make", "large"]
 
 
 def random_word(rng):
@@ -366,6 +367,129 @@ def check_plan(program, plan, text, pool):
     pool.counts["plans judged regular"] += 1
     if len(text) < 20_000:
         pool.plans[rng_place(pool, pool.plans)] = (q, text)
+
+
+# ---- rules before steps
+
+
+def steps_of(listing):
+    """The lines of each step of a listing from `rules` on, without those that name books, and without marks."""
+    for step in re.split(rb"^(?=step \d+$)", listing, flags=re.M)[1:]:
+        lines = step.split(b"\n")
+        if b"rules" not in lines:
+            yield None
+            continue
+        yield [line.removesuffix(b" = blocks") for line in lines[lines.index(b"rules") :] if not line.startswith(b"book ")]
+
+
+def try_way_back(program, rng, pool):
+    """The rules that `run` prints, before its steps, give the same rules, sections and files under `plan`."""
+    text, budget, _ = program_text(rng)
+    yield ["run"], text
+    searched = program.run(["run"], text, budget)
+    steps = list(steps_of(searched.listing))
+    pieces = re.split(rb"(?i)(?=\bproc\s+factex\b)", text)
+    if not steps or None in steps or len(pieces) != len(steps) + 1:
+        return
+    rules = [b"\n".join(itertools.takewhile(lambda line: line == step[0] or line.startswith(b"  "), step)) for step in steps]
+    both = pieces[0] + b"".join(b"\n" + rule + b"\n" + piece for rule, piece in zip(rules, pieces[1:]))
+    given = program.run(["plan"], both)
+    if re.match(rb"factex: (P10|E25) ", given.listing):
+        return
+    need(given.status < 2, f"plan ends with {given.status}: {given.listing[:100]}")
+    need(list(steps_of(given.listing)) == steps, "plan lists another design than run")
+    files = {name: content for name, content in searched.files.items() if not name.endswith(".book")}
+    need(given.files == files, "plan writes other files than run")
+    pool.counts["listings read back by plan"] += 1
+
+
+def random_rules(rng):
+    """Levels, run indexes, factors and block factors of a small design, with the product of each that has a rule."""
+    q = rng.choice([2, 2, 2, 3, 3, 4, 5, 7, 8, 9])
+    m = rng.randint(1, 2 if q > 5 else 3 if q > 2 else 5)
+    s, t = rng.randint(1, 7 if q < 4 else 5), rng.choice([0, 0, 1, 1, 2])
+    rows, firsts = [], []
+    for place in range(s + min(t, m)):
+        if len(firsts) < m and rng.random() < (0.7 if len(firsts) < place + 1 else 0.3):
+            firsts.append(place)
+            rows.append(None)
+        else:
+            rows.append([(index + 1, rng.randrange(1, q)) for index in range(len(firsts)) if rng.random() < 0.6])
+    return q, m, s, rows, firsts
+
+
+def words_here(q, runs, s):
+    """How many vectors of each weight over s factors are constant over runs of a group, by the weights of its runs."""
+    weights = collections.Counter(sum(level != 0 for level in run[:s]) for run in runs)
+    term = lambda k, j: sum((-1) ** i * (q - 1) ** (k - i) * math.comb(j, i) * math.comb(s - j, k - i) for i in range(k + 1))
+    return [sum(n * term(k, j) for j, n in weights.items()) // len(runs) // (q - 1) for k in range(1, s + 1)]
+
+
+def clear_here(q, runs, s):
+    """How many factors, and how many components of two factors of how many, are clear over these runs."""
+    negative = [next(b for b in range(q) if rules.add(q, a, b) == 0) for a in range(q)]
+    vectors = [{i: 1} for i in range(s)] + [{i: c, j: 1} for j in range(s) for i in range(j) for c in range(1, q)]
+    value = lambda vector, run: rules.level(q, run, [(i + 1, c) for i, c in vector.items()])
+    columns = [tuple(value(vector, run) for run in runs) for vector in vectors]
+    # Two are aliased where a multiple of the one is the other up to a constant; all are 0 in the first run.
+    alike = lambda a, b: any(all(rules.times(q, c, x) == y for x, y in zip(a, b)) for c in range(1, q))
+    blocks = collections.defaultdict(list)
+    for run in runs:
+        blocks[run[s:]].append(run)
+    clear = [0, 0]
+    for u, (vector, column) in enumerate(zip(vectors, columns)):
+        lost = all(len({value(vector, run) for run in block}) == 1 for block in blocks.values())
+        if not lost and not any(alike(column, other) for v, other in enumerate(columns) if v != u):
+            clear[len(vector) - 1] += 1
+    return clear[0], clear[1], len(vectors) - s
+
+
+def try_rules(program, rng, pool):
+    """Random rules: the head of their listing has to be what is counted here over the runs."""
+    q, m, s, rows, firsts = random_rules(rng)
+    name = lambda place: f"X{place + 1}" if place < s else f"[{place - s + 1}]"
+    power = lambda index, code: name(firsts[index - 1]) + (f"^{code}" if code > 1 else "")
+    product = lambda row: "*".join(power(*it) for it in row) or "0"
+    parts = [f"{name(place)} = {product(row)}" for place, row in enumerate(rows) if row is not None]
+    parts += [f"{name(place)} = run factor {number + 1}" for number, place in enumerate(firsts) if place >= s and rng.random() < 0.5]
+    parts.sort(key=lambda part: [name(place) for place in range(len(rows))].index(part.split(" ")[0]))
+    blocks = f"blocks nblocks={q ** (len(rows) - s)};" if len(rows) > s else ""
+    model = rng.choice(["", "model resolution=max;", "model resolution=3;", f"model resolution={rng.randint(3, 9)};",
+                        "model estimate=(X1);", f"model estimate=(X1{'|X2' if s > 1 else ''});"])
+    text = f"rules {' '.join(parts) or 'none'}\nproc factex; factors X1-X{s} / nlev={q}; size design={q**m}; {blocks} {model} run;\n"
+    yield ["plan"], text.encode()
+    listing = program.run(["plan"], text.encode(), statuses=(0, 1)).listing.decode()
+    numbers = iter(range(1, m + 1))
+    rows = [[(next(numbers), 1)] if row is None else row for row in rows]
+    runs = [tuple(rules.level(q, run, row) for row in rows) for run in itertools.product(range(q), repeat=m)]
+    factors, pairs, all_pairs = clear_here(q, runs, s)
+    kind = "interactions" if q == 2 else "components"
+    need(f"\nclear {factors} of {s} factors, {pairs} of {all_pairs} two-factor {kind}\n" in listing, "other counts of what is clear")
+    words = words_here(q, runs, s)
+    first = next((k + 1 for k, n in enumerate(words) if n), None)
+    need(f"\nresolution {first}\n" in listing if first else "\nno defining words\n" in listing, f"the resolution is {first}")
+    if len(rows) > s:
+        inside = words_here(q, [run for run in runs if not any(run[s:])], s)
+        lost = "".join(f" B{k + 1} {n - words[k]}" for k, n in enumerate(inside) if n > words[k]) or " none"
+        need(f"\nconfounded with blocks{lost}\n" in listing, f"confounded with blocks are{lost}")
+    if r := re.search(r"resolution=(\d)", model):
+        meets = not any(words[: int(r[1]) - 1]) and len(rows) == s
+        if len(rows) > s:
+            return
+        need(("\nmeets the model\n" if meets else "\ndoes not meet the model\n") in listing, f"{model} is met: {meets}")
+    pool.counts["heads of given designs counted"] += 1
+
+
+def try_faulty_rules(program, rng, pool):
+    """Rules and steps with small faults end with a refusal or a listing."""
+    trial = try_rules(program, rng, pool)
+    _, text = next(trial)
+    others = [b"rules", b"none", b"0", b"=", b"*", b"^2", b"X1", b"x2", b"X99", b"[1]", b"[3]", b"run factor 2", b"proc factex;", b"\n"]
+    text = with_faults(rng, text, re.compile(rb"[\w\[\]]+|\s+|[^\w\s]").findall, others)
+    yield ["plan"], text
+    done = program.run(["plan"], text)
+    refused = need_refusal(done, rb"[LEP]\d+ \d+:\d+ [^\n]+")
+    pool.counts["rules with faults, " + ("refused" if refused else f"status {done.status}")] += 1
 
 
 # ---- books
@@ -646,6 +770,7 @@ def try_faulty_text(program, rng, pool):
 
 KINDS = [("words", 10, try_words), ("make and large", 1, try_make), ("texts", 25, try_text),
          ("texts with faults", 20, try_faulty_text), ("books", 25, try_book), ("upgrades", 10, try_upgrade),
+         ("rules of listings", 10, try_way_back), ("rules", 10, try_rules), ("rules with faults", 15, try_faulty_rules),
          ("plans", 25, try_judge), ("catalogues", 3, try_catalogue)]
 KINDS_OF_TABLES = [("tables", 5, try_tables), ("books of tables", 30, try_table_book)]
 

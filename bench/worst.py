@@ -17,6 +17,7 @@ DEFAULT_NODES = 1_000_000
 Bound = collections.namedtuple("Bound", "unit seconds each megabytes")
 BOUNDS = {
     "run": Bound("nodes", 2, 20, 250),
+    "plan": Bound("steps", 2, 2_000_000, 250),
     "check": Bound("entries", 3, 15, 550),
     "upgrade": Bound("bytes", 2, 1, 550),
     "judge": Bound("bytes", 2, 2, 50),
@@ -213,11 +214,31 @@ def known_runs(factex, tables):
         yield Run(seed, program, words, book.encode(), book.count("\n"))
 
 
+def rules(rng):
+    """A text with steps and rules before them, and their number."""
+    steps = rng.choice([1, 1, 1, 3, 100])
+    text = ""
+    for _ in range(steps):
+        levels = rng.choice(list(GREATEST_M))
+        m = rng.choice([GREATEST_M[levels], rng.randint(1, GREATEST_M[levels])])
+        blocks = rng.choice([0, 0, 1, m])
+        s = rng.randint(m, 30 if blocks else MOST_FACTORS[levels])
+        powers = lambda: "*".join(f"X{i}{rng.choice(['', f'^{levels - 1}'])}" for i in range(1, m + 1) if rng.random() < 0.7) or "0"
+        given = [f"X{i}={powers()}" for i in range(m + 1, s + 1)] + [f"[{k}]={powers()}" for k in range(1, blocks + 1)]
+        factors = [f"X{i}" for i in range(1, s + 1)]
+        wanted = rng.choice(["", model(rng, factors, False), model(rng, factors, False)])
+        parting = rng.choice([" ", " ", " ", "\n" * rng.choice([1, 20])])
+        text += f"rules {parting.join(given) or 'none'}\nproc factex; factors X1-X{s} / nlev={levels}; size design={levels**m}; "
+        text += f"blocks nblocks={levels**blocks}; " if blocks else ""
+        text += f"{wanted} {rng.choice(['', 'examine aliasing;', 'examine blocked aliasing aberration;'])}\n"
+    return text, steps
+
+
 def runs_of(seed, factex, tables):
     """The runs of one seed."""
     rng = random.Random(seed)
     threads = rng.choice([1, 1, 1, 4, 64])
-    kind = rng.choice(["run"] * 6 + ["judge", "catalogue", "large", "tables", "tables"])
+    kind = rng.choice(["run"] * 6 + ["plan", "judge", "catalogue", "large", "tables", "tables"])
     if kind == "run":
         text, nodes = question(rng)
         first = Run(seed, factex, ["run"], text.encode(), nodes, threads)
@@ -227,6 +248,9 @@ def runs_of(seed, factex, tables):
             if len(book) < 30_000_000:
                 yield Run(seed, factex, ["check"], book, book.count(b"\n"))
                 yield Run(seed, factex, ["upgrade"], book, len(book))
+    elif kind == "plan":
+        text, steps = rules(rng)
+        yield Run(seed, factex, ["plan"], text.encode(), steps)
     elif kind == "judge":
         levels, text = plan(rng)
         yield Run(seed, factex, ["judge", str(levels)], text.encode(), len(text))

@@ -3,7 +3,7 @@
 
 Usage: documents.py ./factex
 
-A block of code that is a program text is run, and so is a block that begins with a `judge`, `large`, `catalogue` or
+A block of code that is a program text is run, under `plan` where it begins with rules, and so is a block that begins with a `judge`, `large`, `catalogue` or
 `tables` command; what follows the command in its block has to be printed. So are the tables of bench/catalogue.txt.
 Catalogues of more than 27 runs take long, and are left to bench/catalogue.sh. A block of EXAMINE and OUTPUT statements is
 added to the program before it. A block that begins like a listing, a plan or a table of runs has to be a part of what the
@@ -19,7 +19,7 @@ TOP = pathlib.Path(__file__).resolve().parent.parent
 TABLES = TOP / "bench" / "catalogue.txt"
 PAGES = [
     TOP / "README.md",
-    *(TOP / "docs" / f"{it}.md" for it in ("GUIDE", "LANGUAGE", "PLANS", "JUDGE", "COMMANDS", "CATALOGUE", "TABLES")),
+    *(TOP / "docs" / f"{it}.md" for it in ("GUIDE", "LANGUAGE", "PLANS", "RULES", "JUDGE", "COMMANDS", "CATALOGUE", "TABLES")),
     TABLES,
 ]
 LISTING = re.compile(
@@ -74,7 +74,9 @@ def main(script):
         for block in blocks_of(page):
             first = block[0].strip().lower()
             statements = text and re.match(r"(examine |output (?!\S+\.csv ))[^\[]*$", first)
-            if first.startswith("proc factex") and block[-1].strip().lower().endswith("run;") or statements:
+            if re.match("rules( |$)", first) and any(it.lower().startswith("proc factex") for it in block):
+                lines = printed([*program, "plan"], "\n".join(block) + "\n")
+            elif first.startswith("proc factex") and block[-1].strip().lower().endswith("run;") or statements:
                 text = text[: text.rindex("run;")] + "\n".join(block) + "\nrun;" if statements else "\n".join(block)
                 lines = printed([*program, "run"], text)
             elif found := COMMAND.fullmatch(block[0]):

@@ -46,7 +46,7 @@ def meaning_of(code):
         rows = rows_of("LANGUAGE.md", code)
         when = " or ".join(row[2].rstrip(";") for row in rows if row[2])
         return f"{rows[0][1]}: {when}" if rows and when else "".join(row[1] for row in rows[:1])
-    rows = rows_of("JUDGE.md" if code[0] == "J" else "COMMANDS.md", code)
+    rows = rows_of({"J": "JUDGE.md", "P": "RULES.md"}.get(code[0], "COMMANDS.md"), code)
     return rows[0][1] if rows else ""
 
 
@@ -118,7 +118,7 @@ def main(status, message, file, *words):
     code = (message.split() + ["", ""])[1]
     if re.fullmatch(r"[A-Z]\d+", code):
         show_place(message, words, text)
-        advice = [row[-1] for row in rows_of("COMMANDS.md", code)][:1]
+        advice = [row[-1] for row in rows_of("RULES.md" if code[0] == "P" else "COMMANDS.md", code)][:1]
         explained = sentences([meaning_of(code), *advice])
         print(f"{code}: {explained}" if explained else f"{code} has no row in the tables of docs/")
 

@@ -10,7 +10,7 @@ use Rattle.fx_designs.specs.Components.{components}
 use Rattle.fx_designs.specs.Problems.{Dimensions, AtResolution}
 use Rattle.fx_designs.specs.Patterns.{constant_words, pattern_of}
 use Rattle.fx_designs.specs.Outcomes.{Ending, Design, NoDesign, BudgetEnded}
-use Rattle.fx_runs.specs.Runs.{RunsView}
+use Rattle.fx_runs.specs.Runs.{RunsView, design_of}
 use Rattle.fx_settings.specs.declared.settings.Size.{Size}
 use Rattle.fx_settings.specs.declared.settings.Size.TheVariants.{Runs, Minimum}
 use Rattle.fx_settings.specs.declared.settings.Criterion.TheVariants as criterion
@@ -20,8 +20,12 @@ use Rattle.fx_statements.specs.Goals.{Goal, AtLeast, Highest, ForEffects}
 use Rattle.fx_statements.specs.Questions.{Conclusion}
 use Rattle.fx_statements.specs.declared.fold.Fold.TheVariants as fold
 use Rattle.fx_statements.specs.Steps.{Meaning, examine_of}
+use Rattle.fx_alias.specs.declared.marks.BlockMarks.TheVariants as marks
 use Rattle.fx_alias.specs.Aliasing.{alias_section}
 use Rattle.fx_alias.specs.Blocked.{blocked_section}
+use Rattle.fx_alias.specs.BlockWords.{block_words_of}
+use Rattle.fx_alias.specs.Given.{given_head}
+use Rattle.fx_alias.specs.Sections.{matrix_of}
 use Rattle.fx_alias.specs.Points.{design_section}
 use Rattle.fx_alias.specs.Heads.{head_lines}
 use Rattle.fx_components.specs.Products.{product}
@@ -186,11 +190,11 @@ three_names = codes "A" ∷ codes "B" ∷ codes "C" ∷ []
 
 -- C = A*B; A and C with the same levels; and C = A*B at three levels
 aliases :
-    (alias_section three_names 2 (runs_of 2 2 (vectors_of 2 2 (1 ∷ 2 ∷ 3 ∷ []))) (components 2 3 2)
+    (alias_section marks.Without three_names (design_of (matrix_of (size 2 2 3) (1 ∷ 2 ∷ 3 ∷ []))) (components 2 3 2)
     ≡ codes "aliasing\n  A = B*C\n  B = A*C\n  C = A*B\n")
-    × (alias_section three_names 2 (runs_of 2 2 (vectors_of 2 2 (1 ∷ 2 ∷ 1 ∷ []))) (components 2 3 2)
+    × (alias_section marks.Without three_names (design_of (matrix_of (size 2 2 3) (1 ∷ 2 ∷ 1 ∷ []))) (components 2 3 2)
     ≡ codes "aliasing\n  mean = A*C\n  A = C\n  B\n  A*B = B*C\n")
-    × (alias_section three_names 3 (runs_of 3 2 (vectors_of 3 2 (1 ∷ 3 ∷ 4 ∷ []))) (components 3 3 2)
+    × (alias_section marks.Without three_names (design_of (matrix_of (size 3 2 3) (1 ∷ 3 ∷ 4 ∷ []))) (components 3 3 2)
     ≡ codes "aliasing\n  A = B^2*C\n  B = A^2*C\n  C = A*B\n  A^2*B = A*C = B*C\n")
 unfolding digits is_aliased is_constant runs_of add mul neg prime_of degree_of reduction_of
 aliases = (refl, refl, refl)
@@ -217,6 +221,33 @@ confounded :
     × (blocked_section (codes "A" ∷ codes "B" ∷ []) (two_factors 0) (components 2 2 2) ≡ codes "blocked\n  none\n")
 unfolding digits is_constant is_constant_in_blocks runs_of add mul neg prime_of degree_of reduction_of
 confounded = (refl, refl)
+
+-- with marks the class of A*B says so; there are none without blocks
+marked_classes :
+    (alias_section marks.With (codes "A" ∷ codes "B" ∷ []) (two_factors 1) (components 2 2 2)
+    ≡ codes "aliasing\n  A\n  B\n  A*B = blocks\n")
+    × (alias_section marks.Without (codes "A" ∷ codes "B" ∷ []) (two_factors 1) (components 2 2 2)
+    ≡ codes "aliasing\n  A\n  B\n  A*B\n")
+    × (alias_section marks.With (codes "A" ∷ codes "B" ∷ []) (two_factors 0) (components 2 2 2)
+    ≡ codes "aliasing\n  A\n  B\n  A*B\n")
+unfolding digits is_aliased is_constant is_constant_in_blocks runs_of add mul neg prime_of degree_of reduction_of
+marked_classes = (refl, refl, refl)
+
+-- C constant, so A and A*C are aliased; A*B confounded with blocks; a block factor with a run index of its own
+given_heads :
+    (given_head 1 (step_of 3 (Runs 2) (AtLeast 3) false) (matrix_of (size 2 2 3) (1 ∷ 2 ∷ 0 ∷ [])) (Some false)
+    ≡ codes "step 1\nfactors 3 levels 2\ndesign 4 runs given\nresolution 1\ndoes not meet the model\nclear 0 of 3 factors, 1 of 3 two-factor interactions\n")
+    × (given_head 2 (step_in (Factors 1) 2 (Runs 2) (AtLeast 3) false)
+    (matrix_of (in_blocks 2 2 2 1) (1 ∷ 2 ∷ 3 ∷ [])) (Some true)
+    ≡ codes "step 2\nfactors 2 levels 2\ndesign 4 runs in 2 blocks given\nno defining words\nmeets the model\nclear 2 of 2 factors, 0 of 1 two-factor interactions\nconfounded with blocks B2 1\n")
+    × (given_head 1 (step_in (Factors 1) 2 (Runs 3) Highest false)
+    (matrix_of (in_blocks 2 3 2 1) (1 ∷ 2 ∷ 4 ∷ [])) None
+    ≡ codes "step 1\nfactors 2 levels 2\ndesign 8 runs in 2 blocks given\nno defining words\nclear 2 of 2 factors, 1 of 1 two-factor interactions\nconfounded with blocks none\n")
+    × (given_head 1 (step_of 2 (Runs 2) Highest false) (matrix_of (size 3 2 2) (1 ∷ 3 ∷ [])) None
+    ≡ codes "step 1\nfactors 2 levels 3\ndesign 9 runs given\nno defining words\nclear 2 of 2 factors, 2 of 2 two-factor components\n")
+unfolding digits given_head block_words_of is_aliased is_constant is_constant_in_blocks constant_words pattern_of
+    runs_of add mul neg prime_of degree_of reduction_of
+given_heads = (refl, refl, refl, refl)
 
 -- the fraction D = A*B*C of eight runs: canonical, with a rule for its last row alone, over the three names before it
 a_rule :

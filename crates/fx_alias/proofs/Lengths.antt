@@ -2,7 +2,7 @@
 use Rattle.std.proofs.Common.{rules, ℕ, zero, suc, ◌≡◌, ◌<◌, ◌+◌, ◌-◌, ◌*◌, ◌^◌, Bool, true, false, cond, List, [], ◌∷◌}
 use Rattle.std.proofs.Common.{◌++◌, length, map, refl, sym, ◌∙◌, ap, ap₂, arith, length-append, pow-suc, mul-one}
 use Rattle.std.proofs.Math.Nat.{pow-zero}
-use Rattle.std.specs.List.{flat_map, list_any, range_with_len, sum_by, AllByRecursion}
+use Rattle.std.specs.List.{flat_map, list_any, range_with_len, AllByRecursion}
 use Rattle.std.proofs.lemmas.List.{length-map, append-nil}
 use Rattle.std.proofs.lemmas.List.Concat.{length-flat_map}
 use Rattle.std.proofs.lemmas.List.FromFn.{length-range_with_len}

@@ -8,20 +8,21 @@ use Rattle.std.proofs.lemmas.Grind.{flat_map-append}
 
 -- the line of one more class, where there is one
 pub next_line : (line : List (List ℕ) → List ℕ) (at : List ℕ → List (List ℕ)) (start done now : List ℕ)
-    (before more : List (List ℕ)) (b : Bool) (group : List ℕ)
+    (before more : List (List ℕ)) (b : Bool) (group class : List ℕ)
+    → line (at []) ≡ [] → class ≡ cond b [] group
     → done ≡ start ++ flat_map line (map at before) → cond b [] (group ∷ []) ≡ more
-    → now ≡ done ++ cond b [] (line (at group)) → now ≡ start ++ flat_map line (map at (before ++ more))
-next_line line at start done now before more b group e1 is e2 =
-    e2 ∙ ap (λ (l : List ℕ). l ++ cond b [] (line (at group))) e1 ∙ append_assoc start (flat_map line (map at before))
-    (cond b [] (line (at group)))
+    → now ≡ done ++ line (at class) → now ≡ start ++ flat_map line (map at (before ++ more))
+next_line line at start done now before more b group class none this e1 is e2 =
+    e2 ∙ ap (λ (l : List ℕ). l ++ line (at class)) e1 ∙ append_assoc start (flat_map line (map at before))
+    (line (at class))
     ∙ ap (λ (l : List ℕ). start ++ l)
     (ap (λ (l : List ℕ). flat_map line (map at before) ++ l)
-    (by_test b ∙ ap (λ (l : List (List ℕ)). flat_map line (map at l)) is)
+    (ap (λ (l : List ℕ). line (at l)) this ∙ by_test b ∙ ap (λ (l : List (List ℕ)). flat_map line (map at l)) is)
     ∙ sym (flat_map-append line (map at before) (map at more))
     ∙ ap (flat_map line) (sym (map-append at before more)))
   where
-    by_test : (b : Bool) → cond b [] (line (at group)) ≡ flat_map line (map at (cond b [] (group ∷ [])))
-    by_test true = refl
+    by_test : (b : Bool) → line (at (cond b [] group)) ≡ flat_map line (map at (cond b [] (group ∷ [])))
+    by_test true = none
     by_test false = sym (append-nil (line (at group)))
 
 -- the line of one more item, where it is kept

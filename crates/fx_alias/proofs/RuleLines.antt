@@ -1,5 +1,5 @@
 -- The line of one row among the rules of a matrix.
-use Rattle.std.proofs.Common.{ℕ, ◌≡◌, ◌<◌, ◌≤◌, ◌+◌, ◌^◌, zero, suc, true, List, [], ◌∷◌, ◌++◌, map, length, take, drop}
+use Rattle.std.proofs.Common.{ℕ, ◌≡◌, ◌<◌, ◌≤◌, ◌+◌, ◌^◌, zero, suc, true, false, List, [], ◌∷◌, ◌++◌, map, length, take, drop}
 use Rattle.std.proofs.Common.{refl, sym, ap, ◌∙◌, subst, inl, inr, arith, append_assoc, append-nil, drop-cons, take-suc}
 use Rattle.std.specs.Prelude.{◌==◌, nat_le, slice_index, slice_index_or}
 use Rattle.std.proofs.lemmas.Bool.{cases_Bool, leb-true, leb-false}
@@ -7,11 +7,11 @@ use Rattle.std.proofs.lemmas.List.{length-map, length-append, map-append, take-a
 use Rattle.std.specs.List.{range_with_len}
 use Rattle.std.proofs.lemmas.List.FromFn.{length-range_with_len}
 use Rattle.fx_designs.specs.Galois.{IsField, digits}
-use Rattle.fx_designs.specs.Vectors.{dot, vectors_of}
+use Rattle.fx_designs.specs.Vectors.{IsVector, dot, vectors_of}
 use Rattle.fx_designs.specs.Runs.{levels_at}
 use Rattle.fx_designs.specs.Problems.{Dimensions, Requirement}
 use Rattle.fx_designs.specs.Canonical.{is_canonical}
-use Rattle.fx_tree.specs.Introduced.{introducing}
+use Rattle.fx_tree.specs.Introduced.{introduced, introducing}
 use Rattle.fx_tree.proofs.RuleLevels.{levels}
 use Rattle.fx_tree.proofs.Walks.{canonical-fronts}
 use Rattle.fx_alias.specs.Rules.{Subject, block_names, HasItsRule, introduction, row_names, rule_line, rule_lines}
@@ -92,11 +92,18 @@ module _ (q m : ℕ) where
         rw other (behind _ subject row (rule_of old s.name (digits q m r)) _ rest)
   ]
 
-pub its_rule : (d : Dimensions) (f : IsField d.q) (wanted : Requirement) (factors : List (List ℕ)) (rows : List ℕ)
-    (k : ℕ)
-    → is_canonical d wanted rows ≡ true → length rows ≡ d.s + d.t → length factors ≡ d.s → k < d.s + d.t
-    → HasItsRule d factors rows k
-its_rule d f wanted factors rows k can long count low =
+-- where row k introduces no run index, the levels of the rows before it that do give its own
+abbrev pub HasItsLevel : Dimensions → List ℕ → ℕ → Type 0
+HasItsLevel d rows k = (slice_index rows k == d.q ^ introduced d.q 0 (take k rows)) ≡ false
+    → (p : List ℕ) → IsVector d.q d.m p
+    → dot d.q (digits d.q d.m (slice_index rows k))
+    (introducing d.q 0 (take k rows) (levels_at d.q (vectors_of d.q d.m (take k rows)) p))
+    ≡ dot d.q (digits d.q d.m (slice_index rows k)) p
+
+-- such a row has its rule
+pub with_level : (d : Dimensions) (factors : List (List ℕ)) (rows : List ℕ) (k : ℕ)
+    → length rows ≡ d.s + d.t → length factors ≡ d.s → k < d.s + d.t → HasItsLevel d rows k → HasItsRule d factors rows k
+with_level d factors rows k long count low own =
     let blocks = block_names d.t in
     let many : length blocks ≡ d.t = length-map (range_with_len 1 d.t) _ ∙ length-range_with_len 1 d.t in
     let subs = subjects factors blocks in
@@ -110,11 +117,6 @@ its_rule d f wanted factors rows k can long count low =
     let line = listed d.q d.m [] subs (drop (suc k) subs) rows (drop (suc k) rows) k subject row at_subject at_row in
     let named : introducing d.q 0 (take k rows) (names subs) ≡ introducing d.q 0 (take k rows) (row_names d factors) =
     ap (introducing d.q 0 (take k rows)) (subject-names factors blocks) in
-    let with_row : take (suc k) rows ≡ take k rows ++ row ∷ [] = take-suc rows k 0 (omega (arith, long, low)) in
-    let front : is_canonical d wanted (take k rows ++ row ∷ []) ≡ true =
-    subst (λ l. is_canonical d wanted l ≡ true) with_row
-    (canonical-fronts d f wanted (drop (suc k) rows) (take (suc k) rows)
-    (subst (λ l. is_canonical d wanted l ≡ true) (sym (take-append-drop (suc k) rows)) can)) in
     let levels_of : List ℕ → List ℕ → List ℕ = λ l p. levels_at d.q (vectors_of d.q d.m l) p in
     record {
       before = line.front;
@@ -135,5 +137,19 @@ its_rule d f wanted factors rows k can long count low =
           ap (λ l. dot d.q (digits d.q d.m row) (introducing d.q 0 (take k rows) l)) split
           ∙ ap (dot d.q (digits d.q d.m row))
           (introducing-front d.q 0 (take k rows) (levels_of (take k rows) p) (levels_of (drop k rows) p) short)
-          ∙ levels d f wanted (take k rows) row p front none h;
+          ∙ own none p h;
     }
+
+-- each row of a canonical matrix has its rule
+pub its_rule : (d : Dimensions) (f : IsField d.q) (wanted : Requirement) (factors : List (List ℕ)) (rows : List ℕ)
+    (k : ℕ)
+    → is_canonical d wanted rows ≡ true → length rows ≡ d.s + d.t → length factors ≡ d.s → k < d.s + d.t
+    → HasItsRule d factors rows k
+its_rule d f wanted factors rows k can long count low =
+    let row = slice_index rows k in
+    let with_row : take (suc k) rows ≡ take k rows ++ row ∷ [] = take-suc rows k 0 (omega (arith, long, low)) in
+    let front : is_canonical d wanted (take k rows ++ row ∷ []) ≡ true =
+    subst (λ l. is_canonical d wanted l ≡ true) with_row
+    (canonical-fronts d f wanted (drop (suc k) rows) (take (suc k) rows)
+    (subst (λ l. is_canonical d wanted l ≡ true) (sym (take-append-drop (suc k) rows)) can)) in
+    with_level d factors rows k long count low (λ none p h. levels d f wanted (take k rows) row p front none h)

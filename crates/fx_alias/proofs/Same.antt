@@ -79,21 +79,22 @@ classes_at number components numbers is =
     (numbered_same (λ i. number (at i)) (λ i. get_or numbers i 0) (range_with_len 0 n) [] (range_with_len 0 n) same tt
     same)
 
-zero_tests : (f g : ℕ → ℕ) (xs : List ℕ) → AllByRecursion (λ x. f x ≡ g x) xs
-    → AllByRecursion (λ x. eqb (g x) 0 ≡ eqb (f x) 0) xs
-zero_tests f g [] h = tt
-zero_tests f g (x ∷ xs) h = (ap (λ (z : ℕ). eqb z 0) (sym h.0), zero_tests f g xs h.1)
+number_tests : (f g : ℕ → ℕ) (z : ℕ) (xs : List ℕ) → AllByRecursion (λ x. f x ≡ g x) xs
+    → AllByRecursion (λ x. eqb (g x) z ≡ eqb (f x) z) xs
+number_tests f g z [] h = tt
+number_tests f g z (x ∷ xs) h = (ap (λ (y : ℕ). eqb y z) (sym h.0), number_tests f g z xs h.1)
 
--- the components of number 0 by the numbers at their places
-pub zeros_at : (number : List ℕ → ℕ) (components : List (List ℕ)) (numbers : List ℕ) → numbers ≡ map number components
+-- the components of one number by the numbers at their places
+pub items_at : (number : List ℕ → ℕ) (components : List (List ℕ)) (numbers : List ℕ) (z : ℕ)
+    → numbers ≡ map number components
     → map (λ i. get_or components i [])
-    (filter (λ i. eqb (get_or numbers i 0) 0) (range_with_len 0 (length components)))
-    ≡ filter (λ u. eqb (number u) 0) components
-zeros_at number components numbers is =
+    (filter (λ i. eqb (get_or numbers i 0) z) (range_with_len 0 (length components)))
+    ≡ filter (λ u. eqb (number u) z) components
+items_at number components numbers z is =
     let places : List ℕ = range_with_len 0 (length components) in
     let at : ℕ → List ℕ = λ i. get_or components i [] in
     ap (map at)
-    (filter_agree_each (λ i. eqb (get_or numbers i 0) 0) (λ i. eqb (number (at i)) 0) places
-    (zero_tests (λ i. number (at i)) (λ i. get_or numbers i 0) places (same_at number components numbers is)))
-    ∙ sym (filter_mapped at number (λ u. eqb (number u) 0) places)
-    ∙ ap (filter (λ u. eqb (number u) 0)) (at_all components)
+    (filter_agree_each (λ i. eqb (get_or numbers i 0) z) (λ i. eqb (number (at i)) z) places
+    (number_tests (λ i. number (at i)) (λ i. get_or numbers i 0) z places (same_at number components numbers is)))
+    ∙ sym (filter_mapped at number (λ u. eqb (number u) z) places)
+    ∙ ap (filter (λ u. eqb (number u) z)) (at_all components)

@@ -7,6 +7,9 @@ pub mod Aliasing
 pub mod Points
 pub mod Blocked
 pub mod BlockSpans
+pub mod BlockWords
+pub mod Clear
+pub mod Given
 pub mod Patterns
 pub mod Folds
 pub mod Sections

@@ -140,7 +140,7 @@ fn put_where_blocked(
 }
 
 /// Whether the component is constant inside each block, and not over all runs.
-fn is_blocked(matrix: &Matrix, span: &PointSet, u: &Vector) -> bool
+pub(crate) fn is_blocked(matrix: &Matrix, span: &PointSet, u: &Vector) -> bool
     requires span { IsBlockSpan matrix.now span.now }
     requires vector { IsVector matrix.now.shape.q matrix.now.shape.s u.now }
     requires complete { length matrix.now.rows ≡ matrix.now.shape.s + matrix.now.shape.t }
@@ -150,7 +150,7 @@ fn is_blocked(matrix: &Matrix, span: &PointSet, u: &Vector) -> bool
 }
 
 /// The number of the sum of the factor rules, each times the code of `u` at its place.
-fn factor_sum(matrix: &Matrix, u: &Vector) -> u16
+pub(crate) fn factor_sum(matrix: &Matrix, u: &Vector) -> u16
     requires vector { IsVector matrix.now.shape.q matrix.now.shape.s u.now }
     requires complete { length matrix.now.rows ≡ matrix.now.shape.s + matrix.now.shape.t }
     ensures sum { let q = matrix.now.shape.q in let m = matrix.now.shape.m in

@@ -62,7 +62,7 @@ fn put_head(
 }
 
 /// Appends the number of the step, its factors and their levels.
-fn put_heading(out: &mut Bytes, number: usize, s: usize, q: u8) -> Result<(), NoMemory>
+pub(crate) fn put_heading(out: &mut Bytes, number: usize, s: usize, q: u8) -> Result<(), NoMemory>
     ensures { OnOk result (out.new ≡ out.old ++ heading number s q) }
 {
     put(out, b"step ")?;
@@ -105,7 +105,7 @@ fn put_outcome(
 }
 
 /// Appends the runs and the blocks of a design, with a caveat where there is one.
-fn put_design(out: &mut Bytes, caveat: &[u8], shape: Shape) -> Result<(), NoMemory>
+pub(crate) fn put_design(out: &mut Bytes, caveat: &[u8], shape: Shape) -> Result<(), NoMemory>
     requires { IsShape shape }
     ensures { OnOk result (out.new ≡ out.old ++ design_line caveat.now (dimensions_of shape)) }
 {
@@ -261,7 +261,7 @@ fn highest_claim(wanted: &Wanted, blocks: Blocks) -> &'static [u8]
 }
 
 /// Appends the resolution of a design and what is claimed of it, or that it has no defining words.
-fn put_resolution(
+pub(crate) fn put_resolution(
     alloc: Global,
     out: &mut Bytes,
     claim: &[u8],

@@ -1,4 +1,4 @@
-ghost use Rattle.std.specs.Prelude.{◌≡◌, ◌<◌, ◌≤◌, [], ◌++◌, All, OnOk, IfOk, true, if◌then◌else◌, length, map, codes};
+ghost use Rattle.std.specs.Prelude.{◌≡◌, ◌<◌, ◌≤◌, Bool, List, ℕ, [], ◌++◌, All, OnOk, IfOk, true, if◌then◌else◌, length, map, codes};
 ghost use Rattle.fx_alias.specs.ClassNumbers.{at_places};
 ghost use Rattle.fx_components.specs.Products.{product};
 ghost use Rattle.fx_alias.specs.Aliasing.{class_line, equated_products, mean_line};
@@ -43,21 +43,39 @@ pub(crate) fn put_mean(
     put(out, b"\n")
 }
 
-/// Appends the line of a class, whose members are at these places of the components.
+/// Appends the line of a class, whose members are at these places of the components, where there are
+/// any. It ends with ` = blocks` where the first of them is marked.
 pub(crate) fn put_class(
     out: &mut Bytes,
     names: &[&Bytes],
     components: &Items<Vector>,
+    marked: &[bool],
     places: &[usize],
 ) -> Result<(), NoMemory>
     requires long { All (λ u. length names.now ≤ length u) components.now }
     requires there { All (λ i. i < length components.now) places.now }
-    ensures { OnOk result
-        (out.new ≡ out.old
-        ++ class_line (map (λ n. n.now) names.now) (at_places components.now places.now)) }
+    requires each { length marked.now ≡ length components.now }
+    ensures { OnOk result ((is_marked : List ℕ → Bool)
+        → marked.now ≡ map is_marked components.now
+        → out.new ≡ out.old
+        ++ class_line is_marked (map (λ n. n.now) names.now) (at_places components.now places.now)) }
 {
+    if places.is_empty() {
+        return Ok(());
+    }
     put(out, b"  ")?;
     put_members(out, names, components, places)?;
+    put_end(out, marked[places[0]])
+}
+
+/// Appends the end of the line of a class.
+fn put_end(out: &mut Bytes, is_marked: bool) -> Result<(), NoMemory>
+    ensures { OnOk result
+        (out.new ≡ out.old ++ ((if is_marked then codes " = blocks" else []) ++ codes "\n")) }
+{
+    if is_marked {
+        return put(out, b" = blocks\n");
+    }
     put(out, b"\n")
 }
 

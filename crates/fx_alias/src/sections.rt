@@ -13,6 +13,7 @@ ghost use Rattle.fx_alias.specs.Sections.{examined};
 use crate::aliasing::alias_listing;
 use crate::blocked::blocked_listing;
 use crate::design::design_listing;
+use crate::marks::BlockMarks;
 use crate::pattern::pattern_listing;
 use fx_base::{Bytes, NoMemory, put};
 use fx_statements::Step;
@@ -20,7 +21,8 @@ use fx_vectors::Matrix;
 use std::alloc::Global;
 
 /// Appends the sections that the step's EXAMINE statements ask for: the runs, the aliases, what is
-/// confounded with blocks, and the word-length pattern.
+/// confounded with blocks, and the word-length pattern. With marks a class of aliases that is
+/// confounded with blocks says so.
 ///
 /// The matrix has all rows of its shape, and a rule for each factor of the step.
 ///
@@ -29,6 +31,7 @@ use std::alloc::Global;
 /// `NoMemory`; `out` is then as before.
 pub fn examine_listing(
     alloc: Global,
+    marks: BlockMarks,
     step: &Step,
     matrix: &Matrix,
     out: &mut Bytes,
@@ -37,17 +40,18 @@ pub fn examine_listing(
     requires factors { matrix.now.shape.s ≡ length step.now.factors }
     requires few { matrix.now.shape.q ^ matrix.now.shape.t ≤ 1024 }
     ensures ok { OnOk result
-        (out.new ≡ out.old ++ examined (meaning_of step.now) matrix.now) }
+        (out.new ≡ out.old ++ examined marks (meaning_of step.now) matrix.now) }
     ensures err { OnErr result (out.new ≡ out.old) }
 {
     let mut lines = Bytes::new(alloc);
-    put_sections(alloc, step, matrix, &mut lines)?;
+    put_sections(alloc, marks, step, matrix, &mut lines)?;
     put(out, lines.as_slice())
 }
 
 /// Appends the sections.
 fn put_sections(
     alloc: Global,
+    marks: BlockMarks,
     step: &Step,
     matrix: &Matrix,
     out: &mut Bytes,
@@ -56,10 +60,10 @@ fn put_sections(
     requires factors { matrix.now.shape.s ≡ length step.now.factors }
     requires few { matrix.now.shape.q ^ matrix.now.shape.t ≤ 1024 }
     ensures { OnOk result
-        (out.new ≡ out.old ++ examined (meaning_of step.now) matrix.now) }
+        (out.new ≡ out.old ++ examined marks (meaning_of step.now) matrix.now) }
 {
     put_design(alloc, step, matrix, out)?;
-    put_aliases(alloc, step, matrix, out)?;
+    put_aliases(alloc, marks, step, matrix, out)?;
     put_blocked(alloc, step, matrix, out)?;
     put_pattern(alloc, step, matrix, out)
 }
@@ -81,17 +85,24 @@ fn put_design(alloc: Global, step: &Step, matrix: &Matrix, out: &mut Bytes) -> R
 }
 
 /// Appends the section of the aliases, where it is asked for.
-fn put_aliases(alloc: Global, step: &Step, matrix: &Matrix, out: &mut Bytes) -> Result<(), NoMemory>
+fn put_aliases(
+    alloc: Global,
+    marks: BlockMarks,
+    step: &Step,
+    matrix: &Matrix,
+    out: &mut Bytes,
+) -> Result<(), NoMemory>
     requires complete { length matrix.now.rows ≡ matrix.now.shape.s + matrix.now.shape.t }
     requires factors { matrix.now.shape.s ≡ length step.now.factors }
+    requires few { matrix.now.shape.q ^ matrix.now.shape.t ≤ 1024 }
     ensures { OnOk result
         (out.new
         ≡ out.old ++ (if step.now.examine.aliasing
-        then alias_section step.now.factors matrix.now.shape.q (design_of matrix.now).rows
+        then alias_section marks step.now.factors (design_of matrix.now)
         (listed_components matrix.now.shape.q matrix.now.shape.s (goal_of step.now.wanted)) else [])) }
 {
     if step.examine.aliasing {
-        alias_listing(alloc, step, matrix, out)
+        alias_listing(alloc, marks, step, matrix, out)
     } else {
         Ok(())
     }

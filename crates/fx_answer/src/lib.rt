@@ -6,3 +6,4 @@ mod booking;
 mod question;
 
 pub use answering::answer;
+pub use question::question_for;

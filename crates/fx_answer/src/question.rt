@@ -52,8 +52,13 @@ pub(crate) fn highest(step: &Step) -> u8
     }
 }
 
-/// The question of a step for the number `n`.
-pub(crate) fn question_for(alloc: Global, step: &Step, n: u8) -> Result<Question, NoMemory>
+/// The question of a step for the number `n`: of its size, its block factors or its resolution, whichever
+/// it leaves free; for a step that leaves nothing free the question for 3 is the only one.
+///
+/// # Errors
+///
+/// `NoMemory`.
+pub fn question_for(alloc: Global, step: &Step, n: u8) -> Result<Question, NoMemory>
     requires low { lowest (meaning_of step.now) step.now.size ≤ n }
     requires high { n ≤ highest (meaning_of step.now) step.now.size }
     ensures problem { IfOk result (λ question. problem_of question ≡ question_for (meaning_of step.now) n) }

@@ -14,7 +14,7 @@ use Rattle.fx_program.specs.Output.{world}
 use Rattle.fx_program.specs.Outside.{GivesForSome}
 use Rattle.fx_program.specs.Stops.{HasStatusCause, SomeRose}
 use Rattle.fx_program.specs.declared.words.Settings.{Settings}
-use Rattle.fx_program.specs.declared.words.Settings.TheVariants.{Run, Check, Make, Large, Judge, Upgrade, Catalogue}
+use Rattle.fx_program.specs.declared.words.Settings.TheVariants.{Run, Plan, Check, Make, Large, Judge, Upgrade, Catalogue}
 use Rattle.fx_program.specs.declared.words.WordFault.{WordFault}
 
 -- as far as events have come, they have listed no more bytes than all of them, and shelved no more files
@@ -37,6 +37,7 @@ come-fits (PastFile come) = (let rest = come-fits come in (rest.0, omega (arith,
 same-output : (asked : Result Settings WordFault) (text known : List ℕ)
     → ((command_for asked).reads ≡ true → known ≡ text) → output_for asked text ≡ output_for asked known
 same-output (Ok (Run threads seed)) text known h = ap (output_for (Ok (Run threads seed))) (sym (h refl))
+same-output (Ok (Plan seed)) text known h = ap (output_for (Ok (Plan seed))) (sym (h refl))
 same-output (Ok Check) text known h = ap (output_for (Ok Check)) (sym (h refl))
 same-output (Ok Upgrade) text known h = ap (output_for (Ok Upgrade)) (sym (h refl))
 same-output (Ok (Judge q)) text known h = ap (output_for (Ok (Judge q))) (sym (h refl))

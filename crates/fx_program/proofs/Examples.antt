@@ -9,7 +9,7 @@ use Rattle.fx_program.specs.CommandLine.{settings_of, word_fault}
 use Rattle.fx_program.specs.Claims.{IsGreatest}
 use Rattle.fx_program.specs.Commands.{command_for, command_of}
 use Rattle.fx_program.specs.Making.{made_text}
-use Rattle.fx_program.specs.Output.{Gives, message, world}
+use Rattle.fx_program.specs.Output.{Gives, message, step_status, world}
 use Rattle.fx_program.specs.Stops.{HasStatusCause}
 use Rattle.fx_program.proofs.Complete.{none-rose}
 
@@ -58,7 +58,7 @@ no_failed_call : HasStatusCause (0 ∷ 0 ∷ 0 ∷ []) (0 ∷ 0 ∷ 0 ∷ []) 4 
 no_failed_call h = none-rose 0 0 0 0 refl refl (h.failed refl)
 
 -- without a step the status is 0
-no_step : IsGreatest 1 [] → ⊥
+no_step : IsGreatest step_status 1 [] → ⊥
 no_step h = (let there = at_from_Contains [] _ (h.some (omega arith)).among in omega (arith, there.1))
 
 -- the words of `judge`: one of the seven numbers of levels, and no more

@@ -15,6 +15,7 @@ use Rattle.fx_alias.specs.Folds.{fold_section}
 use Rattle.fx_alias.specs.Heads.{head_lines}
 use Rattle.fx_alias.specs.Rules.{rules_section}
 use Rattle.fx_alias.specs.Sections.{examined, sections, step_lines}
+use Rattle.fx_alias.specs.declared.marks.BlockMarks.TheVariants.{Without}
 use Rattle.fx_statements.specs.Questions.{Conclusion, block_factors, conclusion_in, outcome_of, question_for}
 use Rattle.fx_statements.specs.Questions.{run_factors}
 use Rattle.fx_statements.proofs.Concluded.{step-question}
@@ -34,15 +35,15 @@ module _ (shape : Shape) where
   -- a matrix has the sections of the ending's
   pub with_matrix : (step : Meaning) (books : List ℕ) (ending : Ending) (matrix : MatrixView)
       → HasMatrix shape ending (Some matrix)
-      → rules_section (dimensions_of matrix.shape) step.factors matrix.rows ++ (books ++ (examined step matrix ++ fold_section step matrix))
+      → rules_section (dimensions_of matrix.shape) step.factors matrix.rows ++ (books ++ (examined Without step matrix ++ fold_section step matrix))
       ≡ sections (dimensions_of shape) step books ending
   with_matrix step books (Design rows count) matrix h =
-      ap (λ (x : MatrixView). rules_section (dimensions_of x.shape) step.factors x.rows ++ (books ++ (examined step x ++ fold_section step x)))
+      ap (λ (x : MatrixView). rules_section (dimensions_of x.shape) step.factors x.rows ++ (books ++ (examined Without step x ++ fold_section step x)))
       (same_Some matrix (with_rows rows) h.0)
   with_matrix step books (NoDesign count) matrix h = absurd (cc h)
   with_matrix step books (BudgetEnded None budget) matrix h = absurd (cc h)
   with_matrix step books (BudgetEnded (Some rows) budget) matrix h =
-      ap (λ (x : MatrixView). rules_section (dimensions_of x.shape) step.factors x.rows ++ (books ++ (examined step x ++ fold_section step x)))
+      ap (λ (x : MatrixView). rules_section (dimensions_of x.shape) step.factors x.rows ++ (books ++ (examined Without step x ++ fold_section step x)))
       (same_Some matrix (with_rows rows) h.0)
 
   -- and is whole
@@ -87,16 +88,14 @@ matrix_is shape (NoDesign count) matrix h = sym h
 matrix_is shape (BudgetEnded None budget) matrix h = sym h
 matrix_is shape (BudgetEnded (Some rows) budget) matrix h = sym h.0
 
--- what is given for a step is what its outcome gives
-pub is_given : (seed number : ℕ) (earlier : List AskedView) (step : Meaning) (outcome : Outcome) → IsOutcome step outcome
-    → step_output seed number earlier step
+-- what is given by the matrix of an outcome, however it came about
+pub is_made : (seed number : ℕ) (earlier : List AskedView) (step : Meaning) (outcome : Outcome)
+    → outcome_given seed number earlier step outcome.books (conclusion_in outcome)
     ≡ with_files (book_files number outcome.books ++ design_files seed number earlier step outcome.matrix)
     (step_lines number step (book_lines number outcome.books) (conclusion_in outcome)
     ++ design_lines seed number earlier step outcome.matrix)
     (status_of (ending_in outcome))
-is_given seed number earlier step outcome is =
-    ap (outcome_given seed number earlier step (books_of step)) (sym is.concluded)
-    ∙ (ap (λ books. outcome_given seed number earlier step books (conclusion_in outcome)) (sym is.books) ∙ by_matrix)
+is_made seed number earlier step outcome = ap all (matrix_is outcome.shape (ending_in outcome) outcome.matrix outcome.whole)
   where
     all : Option MatrixView → Output
     all matrix =
@@ -105,8 +104,12 @@ is_given seed number earlier step outcome is =
         ++ design_lines seed number earlier step matrix)
         (status_of (ending_in outcome))
 
-    by_matrix : all (matrix_in (dimensions_of outcome.shape) (ending_in outcome)) ≡ all outcome.matrix
-    by_matrix = ap all (matrix_is outcome.shape (ending_in outcome) outcome.matrix outcome.whole)
+-- what is given for a step is given by its outcome
+pub by_outcome : (seed number : ℕ) (earlier : List AskedView) (step : Meaning) (outcome : Outcome) → IsOutcome step outcome
+    → step_output seed number earlier step ≡ outcome_given seed number earlier step outcome.books (conclusion_in outcome)
+by_outcome seed number earlier step outcome is =
+    ap (outcome_given seed number earlier step (books_of step)) (sym is.concluded)
+    ∙ ap (λ books. outcome_given seed number earlier step books (conclusion_in outcome)) (sym is.books)
 
 -- the OUTPUT statements of a step, with the matrix of its outcome
 pub asked_again : (step : Meaning) (outcome : Outcome) → IsOutcome step outcome

@@ -42,6 +42,14 @@ any_seed : (o : Option ℕ) → IfSome o (IsOfExtra extra.Seed)
 any_seed None = tt
 any_seed (Some n) = tt
 
+any_seed_alone : (o : Option ℕ) → IfSome o (IsOfExtra extra.SeedAlone)
+any_seed_alone None = tt
+any_seed_alone (Some n) = tt
+
+pub of_seed_alone : (r : Result Options WordFault) → IfOk r (λ more. IfSome more.extra (IsOfExtra extra.SeedAlone))
+of_seed_alone (Ok more) = any_seed_alone more.extra
+of_seed_alone (Err fault) = tt
+
 pub of_seed : (r : Result Options WordFault) → IfOk r (λ more. IfSome more.extra (IsOfExtra extra.Seed))
 of_seed (Ok more) = any_seed more.extra
 of_seed (Err fault) = tt

@@ -13,6 +13,7 @@ pub mod None
 pub mod AnyText
 pub mod Statuses
 pub mod CatalogueClaims
+pub mod PlanClaims
 mod Summing
 pub mod ProvedBooks
 pub mod Commands
@@ -21,3 +22,4 @@ pub mod GivenOptions
 mod WordFaults
 pub mod Complete
 mod Examples
+mod Ruling

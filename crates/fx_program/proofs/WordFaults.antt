@@ -57,6 +57,7 @@ module _ (last place : ℕ) (from : 1 ≤ place) (to : place ≤ last) where
       → Within last (CommandLine.allowed_extra place allowed given word)
   allowed_within extra.Nothing given word = fault_here 3 (omega arith) (omega arith)
   allowed_within extra.Seed given word = extra_by_within given 0 (2 ^ 64 - 1) _
+  allowed_within extra.SeedAlone given word = extra_by_within given 0 (2 ^ 64 - 1) _
   allowed_within extra.Nodes given word = extra_by_within given 1 5000000 _
 
   option_within : (allowed : Extra) (given : Options) (word : List ℕ) (digits : Option (List ℕ))
@@ -83,6 +84,10 @@ options_within last place allowed words from to =
 run_within : (last : ℕ) (r : Result Options WordFault) → Within last r → Within last (CommandLine.run_with r)
 run_within last (Ok given) h = tt
 run_within last (Err fault) h = h
+
+plan_within : (last : ℕ) (r : Result Options WordFault) → Within last r → Within last (CommandLine.plan_with r)
+plan_within last (Ok given) h = tt
+plan_within last (Err fault) h = h
 
 without_within : (last : ℕ) (settings : Settings) (options : List (List ℕ)) → length options + 2 ≤ last + 1
     → Within last (CommandLine.without_options settings options)
@@ -187,13 +192,15 @@ command_within last word options fits =
     let some : 2 ≤ last = omega (arith, fits) in
     either last (bytes_eq word (codes "run")) _ _
     (run_within last _ (options_within last 2 extra.Seed options (omega arith) (omega (arith, fits))))
+    (either last (bytes_eq word (codes "plan")) _ _
+    (plan_within last _ (options_within last 2 extra.SeedAlone options (omega arith) (omega (arith, fits))))
     (either last (bytes_eq word (codes "check")) _ _ (without_within last _ options (omega (arith, fits)))
     (either last (bytes_eq word (codes "upgrade")) _ _ (without_within last _ options (omega (arith, fits)))
     (either last (bytes_eq word (codes "make")) _ _ (make_within last options fits some)
     (either last (bytes_eq word (codes "large")) _ _ (large_within last options fits some)
     (either last (bytes_eq word (codes "judge")) _ _ (judge_within last options fits some)
     (either last (bytes_eq word (codes "catalogue")) _ _ (catalogue_within last options fits)
-    (fault_here last 1 (omega arith) (omega (arith, some)) 2 (omega arith) (omega arith))))))))
+    (fault_here last 1 (omega arith) (omega (arith, some)) 2 (omega arith) (omega arith)))))))))
 
 settings_within : (words : List (List ℕ)) → Within (length words + 1) (CommandLine.settings_of words)
 unfolding CommandLine.settings_of

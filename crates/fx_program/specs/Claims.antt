@@ -1,5 +1,5 @@
 -- What is claimed of each step of a program, of the program's status, of a book that is accepted, and of a catalogue.
-use Rattle.std.specs.Prelude.{ℕ, ◌≡◌, ◌<◌, ◌≤◌, true, List, [], ◌∷◌, ◌++◌, Some, Result, Ok, Err, All}
+use Rattle.std.specs.Prelude.{slice_range, ℕ, ◌≡◌, ◌<◌, ◌≤◌, true, List, [], ◌∷◌, ◌++◌, Some, Result, Ok, Err, All}
 use Rattle.std.specs.List.{Contains}
 use Rattle.fx_designs.specs.Problems.{AtResolution, Dimensions}
 use Rattle.fx_designs.specs.Matrices.{NoneMeets}
@@ -13,7 +13,12 @@ use Rattle.fx_catalogue.specs.Catalogues.{Entry, entries, is_nothing, shape_at}
 use Rattle.fx_catalogue.specs.Laws.{Holds}
 use Rattle.fx_statements.specs.Questions.{outcome_of}
 use Rattle.fx_statements.specs.Steps.{Meaning}
+use Rattle.fx_rules.specs.Parts.{parts_of}
+use Rattle.fx_rules.specs.Reading.{matrix_of_rules}
+use Rattle.fx_rules.specs.declared.parts.Part.{Part}
 use Rattle.fx_program.specs.Files.{matrix_in}
+use Rattle.fx_program.specs.Planning.{RuledView, met_by, planned_in, shape_given}
+use Rattle.fx_program.specs.Statuses.{met_status}
 use Rattle.fx_program.specs.Output.{step_status}
 use Rattle.fx_answer.specs.StepClaims.{Allows, ClaimsHold, IsAsItAsks, OfOutcome, required}
 use Rattle.fx_program.specs.declared.text.TextFault.{TextFault}
@@ -43,16 +48,31 @@ pub record SomeHasNone (program : Result (List Meaning) TextFault) : Type 0 wher
   pub one : step_status step ≡ 1
   pub none : (d : Dimensions) → Allows step d → NoneMeets d (required step.goal)
 
--- some step ends with this status
-pub record SomeEndsWith (status : ℕ) (steps : List Meaning) : Type 0 where
-  pub step : Meaning
+-- some of these steps ends with this status
+pub record SomeEndsWith {A : Type 0} (status_of : A → ℕ) (status : ℕ) (steps : List A) : Type 0 where
+  pub step : A
   pub among : Contains steps step
-  pub ends : step_status step ≡ status
+  pub ends : status_of step ≡ status
 
--- the greatest of the statuses of the steps, and 0 without a step
-pub record IsGreatest (status : ℕ) (steps : List Meaning) : Type 0 where
-  pub each : All (λ step. step_status step ≤ status) steps
-  pub some : 0 < status → SomeEndsWith status steps
+-- the greatest of the statuses of these steps, and 0 without a step
+pub record IsGreatest {A : Type 0} (status_of : A → ℕ) (status : ℕ) (steps : List A) : Type 0 where
+  pub each : All (λ step. status_of step ≤ status) steps
+  pub some : 0 < status → SomeEndsWith status_of status steps
+
+-- the rules of some part of the text give the step its matrix
+pub record IsOfItsRules (text : List ℕ) (one : RuledView) : Type 0 where
+  pub part : Part
+  pub among : Contains (parts_of text) part
+  pub read :
+      matrix_of_rules (shape_given one.step) one.step.factors (slice_range text part.at part.end) ≡ Ok one.matrix
+
+-- What `plan` gives for this text with this status: for each step the design of its rules, which meets the model where
+-- there is one, if the status is 0; if it is 1, some does not.
+pub record IsPlanned (text : List ℕ) (status : ℕ) : Type 0 where
+  pub steps : List RuledView
+  pub read : planned_in text ≡ Ok steps
+  pub each : All (IsOfItsRules text) steps
+  pub status_is : IsGreatest (λ one. met_status (met_by one)) status steps
 
 -- a text that is a book whose claim holds: the runs of no rule matrix at all, canonical or not, meet what its head
 -- asks, or, where the head has a pattern, none of those that do has a less one

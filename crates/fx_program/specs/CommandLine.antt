@@ -13,7 +13,7 @@ use Rattle.fx_program.specs.declared.words.Extra.{Extra}
 use Rattle.fx_program.specs.declared.words.Extra.TheVariants as extra
 use Rattle.fx_program.specs.declared.words.Options.{Options}
 use Rattle.fx_program.specs.declared.words.Settings.{Settings}
-use Rattle.fx_program.specs.declared.words.Settings.TheVariants.{Run, Check, Make, Large, Judge, Upgrade, Catalogue}
+use Rattle.fx_program.specs.declared.words.Settings.TheVariants.{Run, Plan, Check, Make, Large, Judge, Upgrade, Catalogue}
 use Rattle.fx_program.specs.declared.words.WordFault.{WordFault}
 
 -- the bytes of each word
@@ -74,6 +74,7 @@ with_extra place given name low high word = extra_by place given low high (after
 abbrev pub allowed_extra : ℕ → Extra → Options → List ℕ → Result Options WordFault
 allowed_extra place extra.Nothing given word = word_fault 3 place
 allowed_extra place extra.Seed given word = with_extra place given (codes "--seed=") 0 (2 ^ 64 - 1) word
+allowed_extra place extra.SeedAlone given word = with_extra place given (codes "--seed=") 0 (2 ^ 64 - 1) word
 allowed_extra place extra.Nodes given word = with_extra place given (codes "--nodes=") 1 5000000 word
 
 -- the options with that of the word at this place, by what follows `--threads=` in it
@@ -81,8 +82,13 @@ abbrev pub option_by : ℕ → Extra → Options → List ℕ → Option (List �
 option_by place allowed given word (Some digits) = add_threads given (once place given.threads (within 1 64 digits))
 option_by place allowed given word None = allowed_extra place allowed given word
 
+-- what follows `--threads=` in a word, for a command that allows this option
+abbrev pub after_threads : Extra → List ℕ → Option (List ℕ)
+after_threads extra.SeedAlone word = None
+after_threads _ word = after_prefix (codes "--threads=") word
+
 abbrev pub with_option : ℕ → Extra → Options → List ℕ → Result Options WordFault
-with_option place allowed given word = option_by place allowed given word (after_prefix (codes "--threads=") word)
+with_option place allowed given word = option_by place allowed given word (after_threads allowed word)
 
 -- the options with those of words from this place on
 abbrev pub options_behind : ℕ → Extra → Result Options WordFault → List (List ℕ) → Result Options WordFault
@@ -103,6 +109,11 @@ options_in place allowed words = options_behind place allowed (Ok (record { thre
 abbrev pub run_with : Result Options WordFault → Result Settings WordFault
 run_with (Err fault) = Err fault
 run_with (Ok given) = Ok (Run (unwrap_or given.threads 1) (unwrap_or given.extra 0))
+
+-- the settings of `plan`: the seed 0 where it is not given
+abbrev pub plan_with : Result Options WordFault → Result Settings WordFault
+plan_with (Err fault) = Err fault
+plan_with (Ok given) = Ok (Plan (unwrap_or given.extra 0))
 
 -- the number of steps of the word at this place: 1 to 100
 abbrev pub steps_at : ℕ → List ℕ → Result ℕ WordFault
@@ -195,6 +206,8 @@ abbrev pub command_with : List ℕ → List (List ℕ) → Result Settings WordF
 command_with word options =
     (if bytes_eq word (codes "run")
     then run_with (options_in 2 extra.Seed options)
+    else (if bytes_eq word (codes "plan")
+    then plan_with (options_in 2 extra.SeedAlone options)
     else (if bytes_eq word (codes "check")
     then without_options Check options
     else (if bytes_eq word (codes "upgrade")
@@ -205,7 +218,7 @@ command_with word options =
     then large_with options
     else (if bytes_eq word (codes "judge")
     then judge_with options
-    else (if bytes_eq word (codes "catalogue") then catalogue_with options else word_fault 2 1)))))))
+    else (if bytes_eq word (codes "catalogue") then catalogue_with options else word_fault 2 1))))))))
 
 -- 1: there is no word. 2: the first word is no command. 3: a word is no option of the command. 4: a number is none of 1
 -- to 20 digits, or is not in its range. 5: the option is repeated. 6: a number of `make`, `large`, `judge` or

@@ -7,9 +7,10 @@ use Rattle.fx_judge.specs.Reading.{plan_of_text}
 use Rattle.fx_program.specs.Cataloguing.{catalogue_output}
 use Rattle.fx_program.specs.Judging.{judged_output}
 use Rattle.fx_program.specs.Making.{made_text}
+use Rattle.fx_program.specs.Planning.{planned_in, planned_output}
 use Rattle.fx_program.specs.Output.{Output, large_output, message, program_output, upgraded_output, verdict_output}
 use Rattle.fx_program.specs.declared.words.Settings.{Settings}
-use Rattle.fx_program.specs.declared.words.Settings.TheVariants.{Run, Check, Make, Large, Judge, Upgrade, Catalogue}
+use Rattle.fx_program.specs.declared.words.Settings.TheVariants.{Run, Plan, Check, Make, Large, Judge, Upgrade, Catalogue}
 use Rattle.fx_program.specs.declared.words.WordFault.{WordFault}
 
 -- A command: what it gives for a text of the source; whether it reads the source, and whether it reads such a text to
@@ -37,6 +38,12 @@ command_of (Run threads seed) = record {
   reads = true;
   reads_all_of = λ text. true;
   text_run = λ left. left;
+}
+command_of (Plan seed) = record {
+  output = λ text. planned_output seed (planned_in text);
+  reads = true;
+  reads_all_of = λ text. true;
+  text_run = λ left. None;
 }
 command_of Check = reading 268435456 (λ text. verdict_output (book_of text))
 command_of Upgrade = reading 268435456 (λ text. upgraded_output (book_of text))

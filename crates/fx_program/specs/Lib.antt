@@ -10,6 +10,8 @@ pub mod Making
 pub mod Summaries
 pub mod Verdicts
 pub mod Output
+pub mod Ended
+pub mod Planning
 pub mod Judging
 pub mod Cataloguing
 pub mod Commands

@@ -2,6 +2,10 @@
 use Rattle.std.specs.Prelude.{◌≡◌, ℕ, ◌==◌, Bool, true, List, [], ◌∷◌, ◌++◌, if◌then◌else◌, codes, decimal}
 use Rattle.std.specs.List.{list_any}
 use Rattle.fx_lexer.specs.Places.{IsPlaceIn}
+use Rattle.fx_lexer.specs.declared.place.Place.{Place}
+use Rattle.fx_rules.specs.Problems.{code_of}
+use Rattle.fx_program.specs.declared.plan_fault.PlanFault.{PlanFault}
+use Rattle.fx_program.specs.declared.plan_fault.PlanFault.TheVariants as fault
 use Rattle.fx_program.specs.declared.text.TextFault.{TextFault}
 use Rattle.fx_program.specs.declared.text.TextFault.TheVariants.{Lexical, Refused}
 
@@ -54,6 +58,20 @@ lexical_reasons =
     (4, codes "number is too long") ∷
     (5, codes "name is too long") ∷ []
 
+-- what those with the letter P say, on rules that stand before a step
+abbrev pub plan_reasons : List (ℕ × List ℕ)
+plan_reasons =
+    (1, codes "rules are not of their form") ∷
+    (2, codes "name is no factor and no block factor") ∷
+    (3, codes "rules are not in the order of the factors") ∷
+    (4, codes "factor has no run index before this product") ∷
+    (5, codes "factor is twice in a product") ∷
+    (6, codes "power is no code") ∷
+    (7, codes "more factors without a rule than run indexes") ∷
+    (8, codes "run factor is not the next") ∷
+    (9, codes "a step has no rules, or rules have no step") ∷
+    (10, codes "a minimum, a maximum or MINABS with rules") ∷ []
+
 -- what stands beside a number in a table
 abbrev pub listed_at : List (ℕ × List ℕ) → ℕ → List ℕ
 listed_at [] code = []
@@ -74,6 +92,17 @@ abbrev pub fault_line : TextFault → List ℕ
 fault_line (Lexical fault) =
     line_at (codes "L") fault.kind fault.line fault.column (listed_at lexical_reasons fault.kind)
 fault_line (Refused refusal) = line_at (codes "E") refusal.code refusal.line refusal.column (reason_of refusal.code)
+
+-- the line of a rule with the letter P
+abbrev pub plan_line : ℕ → Place → List ℕ
+plan_line code place = line_at (codes "P") code place.line place.column (listed_at plan_reasons code)
+
+-- the line of a fault of a text with rules
+abbrev pub plan_fault_line : PlanFault → List ℕ
+plan_fault_line (fault.Program wrong) = fault_line wrong
+plan_fault_line (fault.Apart place) = plan_line 9 place
+plan_fault_line (fault.Searching place) = plan_line 10 place
+plan_fault_line (fault.Rules problem place) = plan_line (code_of problem) place
 
 -- the table has a row for this number
 abbrev pub has_row : List (ℕ × List ℕ) → ℕ → Bool

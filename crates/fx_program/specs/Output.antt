@@ -61,13 +61,18 @@ asked_of step = asked_by step (matrix_in (outcome_of step).dimensions (outcome_o
 abbrev pub worse : ℕ → ℕ → ℕ
 worse a b = if nat_le a b then b else a
 
--- the steps in order from this number on, after these OUTPUT statements, these events and this status; the greatest
--- status decides
+-- what is given for some steps in order from this number on, each by its number and the OUTPUT statements before it,
+-- after these OUTPUT statements, these events and this status; the greatest status decides
+abbrev pub in_order : {A : Type 0} → (ℕ → List AskedView → A → Output) → (A → List AskedView) → ℕ → List AskedView
+    → List Event → ℕ → List A → Output
+in_order give asks number earlier events status [] = record { events = events; status = status }
+in_order give asks number earlier events status (step ∷ steps) =
+    let given = give number earlier step in
+    in_order give asks (number + 1) (earlier ++ asks step) (events ++ given.events) (worse status given.status) steps
+
+-- the same of steps whose designs are searched for
 abbrev pub steps_output : ℕ → ℕ → List AskedView → List Event → ℕ → List Meaning → Output
-steps_output seed number earlier events status [] = record { events = events; status = status }
-steps_output seed number earlier events status (step ∷ steps) =
-    let given = step_output seed number earlier step in
-    steps_output seed (number + 1) (earlier ++ asked_of step) (events ++ given.events) (worse status given.status) steps
+steps_output seed = in_order (step_output seed) asked_of
 
 -- what is given for a program, or for a text that has none
 abbrev pub program_output : ℕ → Result (List Meaning) TextFault → Output

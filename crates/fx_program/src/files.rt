@@ -1,6 +1,7 @@
 ghost use Rattle.std.specs.Prelude.{◌≡◌, ◌≤◌, ◌++◌, ◌∷◌, [], false, length, All, OnOk, Some};
 ghost use Rattle.fx_statements.specs.Steps.{meaning_of};
-ghost use Rattle.fx_answer.specs.Outcomes.{HasShape, IsOutcome};
+ghost use Rattle.fx_answer.specs.Outcomes.{HasShape};
+ghost use Rattle.fx_program.specs.Ended.{IsEnded};
 ghost use Rattle.fx_program.specs.Files.{book_files, book_name, design_files, file_name, file_of, output_lines, plan_file, plan_files, plan_lines};
 ghost use Rattle.fx_program.specs.Plans.{asked_by, plan_after};
 ghost use Rattle.fx_program.specs.Outside.{ShelvesFiles, shelf_view};
@@ -39,7 +40,7 @@ pub(crate) fn shelve_files<'a, R: Threads + Sync, F: Shelf>(
     lines: &mut Bytes,
     shelf: &mut F,
 ) -> Result<(), Stop>
-    requires outcome { IsOutcome (meaning_of step.now) outcome.now }
+    requires outcome { IsEnded step.now outcome.now }
     requires ended { F.begun shelf.old ≡ false }
     ensures files { ShelvesFiles (book_files number outcome.now.books
         ++ design_files session.now.seed number plans.old (meaning_of step.now) outcome.now.matrix)
@@ -85,7 +86,7 @@ fn shelve_plans<'a, R, F: Shelf>(
     lines: &mut Bytes,
     shelf: &mut F,
 ) -> Result<(), Stop>
-    requires outcome { IsOutcome (meaning_of step.now) outcome.now }
+    requires outcome { IsEnded step.now outcome.now }
     requires ended { F.begun shelf.old ≡ false }
     ensures files { ShelvesFiles
         (plan_files session.now.seed plans.old (asked_by (meaning_of step.now) outcome.now.matrix))

@@ -1,7 +1,7 @@
 ghost use Rattle.std.specs.Prelude.{◌≡◌, ◌++◌, ◌*◌, ◌^◌, codes, decimal, false, Some, OnOk};
 ghost use Rattle.fx_statements.specs.Steps.{meaning_of};
 ghost use Rattle.fx_statements.specs.declared.fold.Fold.TheVariants.{Factors};
-ghost use Rattle.fx_answer.specs.Outcomes.{IsOutcome};
+ghost use Rattle.fx_program.specs.Ended.{IsEnded};
 ghost use Rattle.fx_plan.specs.Steps.{IsDesignOf};
 ghost use Rattle.fx_program.specs.Files.{fold_file, fold_line, fold_name};
 ghost use Rattle.fx_program.specs.Outside.{ShelvesFiles, shelf_view};
@@ -30,7 +30,7 @@ pub(crate) fn shelve_fold<R, F: Shelf>(
     outcome: &Outcome,
     shelf: &mut F,
 ) -> Result<(), Stop>
-    requires outcome { IsOutcome (meaning_of step.now) outcome.now }
+    requires outcome { IsEnded step.now outcome.now }
     requires ended { F.begun shelf.old ≡ false }
     ensures { ShelvesFiles (fold_file number step.now.factors step.now.fold outcome.now.matrix)
         (shelf_view F.Shelf shelf.old) (shelf_view F.Shelf shelf.new) result }

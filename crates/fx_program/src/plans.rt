@@ -1,5 +1,5 @@
 ghost use Rattle.std.specs.Prelude.{◌≡◌, ◌<◌, ◌≤◌, Contains, length, take, IfOk, slice_index_or, Some, None};
-ghost use Rattle.fx_answer.specs.Outcomes.{IsOutcome};
+ghost use Rattle.fx_program.specs.Ended.{IsEnded};
 ghost use Rattle.fx_statements.specs.Steps.{meaning_of};
 ghost use Rattle.fx_program.specs.Plans.{asked_as, is_handed, named_in, plan_made, plans_of};
 
@@ -38,7 +38,7 @@ pub(crate) fn asked_plan<'a>(
     output: &'a OutputSpec,
     outcome: &Outcome,
 ) -> AskedPlan<'a>
-    requires outcome { IsOutcome (meaning_of step.now) outcome.now }
+    requires outcome { IsEnded step.now outcome.now }
     requires among { Contains step.now.outputs output.now }
     ensures { result ≡ asked_as step.now.factors outcome.now.matrix output.now }
 {

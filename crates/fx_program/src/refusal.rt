@@ -1,10 +1,18 @@
 ghost use Rattle.std.specs.Prelude.{◌≡◌, ◌++◌, map, OnOk};
 ghost use Rattle.fx_program.specs.Reasons.{reason_row};
-ghost use Rattle.fx_program.specs.Messages.{fault_line, lexical_reasons, line_at, listed_at, reason_of, reasons};
+ghost use Rattle.fx_program.specs.Messages.{fault_line, lexical_reasons, line_at, listed_at, plan_fault_line, plan_line, plan_reasons, reason_of, reasons};
 
+use crate::plan_fault::PlanFault;
 use crate::text::TextFault;
 use fx_base::{Bytes, NoMemory, put, put_number};
 use fx_language::code;
+use fx_text::Place;
+
+/// The rule that a step has rules of its own, and rules a step.
+const APART: u8 = 9;
+
+/// The rule that a step with rules leaves nothing to a search.
+const SEARCHING: u8 = 10;
 
 /// A row of a table of reasons: the number of a rule, and what it says.
 #[derive(Clone, Copy)]
@@ -36,6 +44,26 @@ pub(crate) fn put_fault(out: &mut Bytes, fault: TextFault) -> Result<(), NoMemor
             )
         }
     }
+}
+
+/// Appends the line that tells where a text with rules is refused, and why.
+pub(crate) fn put_plan_fault(out: &mut Bytes, fault: PlanFault) -> Result<(), NoMemory>
+    ensures { OnOk result (out.new ≡ out.old ++ plan_fault_line fault) }
+{
+    match fault {
+        PlanFault::Program(fault) => put_fault(out, fault),
+        PlanFault::Apart(place) => put_plan_line(out, APART, place),
+        PlanFault::Searching(place) => put_plan_line(out, SEARCHING, place),
+        PlanFault::Rules(problem, place) => put_plan_line(out, problem.code(), place),
+    }
+}
+
+/// Appends the line of a rule on rules that stand before a step.
+fn put_plan_line(out: &mut Bytes, code: u8, place: Place) -> Result<(), NoMemory>
+    ensures { OnOk result (out.new ≡ out.old ++ plan_line code place) }
+{
+    let reason = listed_at(&plan_reasons(), code);
+    put_line(out, b"P", code, place.line, place.column, reason)
 }
 
 /// Appends the line: the rule by its letter and number, the place, and what the rule says.
@@ -96,6 +124,24 @@ fn lexical_reasons() -> [Reason; 5]
         row(3, b"character is not allowed"),
         row(4, b"number is too long"),
         row(5, b"name is too long"),
+    ]
+}
+
+/// What the rules with the letter P say.
+fn plan_reasons() -> [Reason; 10]
+    ensures { map reason_row result ≡ plan_reasons }
+{
+    [
+        row(1, b"rules are not of their form"),
+        row(2, b"name is no factor and no block factor"),
+        row(3, b"rules are not in the order of the factors"),
+        row(4, b"factor has no run index before this product"),
+        row(5, b"factor is twice in a product"),
+        row(6, b"power is no code"),
+        row(7, b"more factors without a rule than run indexes"),
+        row(8, b"run factor is not the next"),
+        row(APART, b"a step has no rules, or rules have no step"),
+        row(SEARCHING, b"a minimum, a maximum or MINABS with rules"),
     ]
 }
 

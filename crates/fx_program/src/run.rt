@@ -1,16 +1,12 @@
 ghost use Rattle.std.specs.Prelude.{◌≡◌, ◌<◌, ◌≤◌, ◌⊎◌, [], ◌∷◌, ℕ, List, Option, Some, false, Ok, Err, map, ◌++◌, IfOk, IsErr, IsTrue, OnOk, true};
 ghost use Rattle.fx_statements.specs.Steps.{meaning_of};
-ghost use Rattle.fx_statements.specs.Questions.{conclusion_in};
-ghost use Rattle.fx_alias.specs.Sections.{step_lines};
-ghost use Rattle.fx_answer.specs.Outcomes.{IsOutcome};
 ghost use Rattle.fx_program.specs.CommandLine.{HasOrder, HasShapes, HasThreads, bytes_of, settings_of};
 ghost use Rattle.fx_program.specs.Making.{made_text};
 ghost use Rattle.fx_program.specs.Texts.{program_in};
-ghost use Rattle.fx_program.specs.Claims.{AllClaimsHold, CatalogueHolds, IsProvedBook, SomeHasNone};
-ghost use Rattle.fx_program.specs.declared.words.Settings.TheVariants.{Catalogue, Check};
+ghost use Rattle.fx_program.specs.Claims.{AllClaimsHold, CatalogueHolds, IsPlanned, IsProvedBook, SomeHasNone};
+ghost use Rattle.fx_program.specs.declared.words.Settings.TheVariants.{Catalogue, Check, Plan};
 ghost use Rattle.fx_program.specs.Stops.{HasStatusCause, exit_status};
 ghost use Rattle.fx_program.specs.declared.stop.Stop.TheVariants as stop;
-ghost use Rattle.fx_program.specs.Files.{book_lines};
 ghost use Rattle.fx_program.specs.Output.{asked_of, large_output, message, program_output, step_output, world};
 ghost use Rattle.fx_program.specs.Commands.{command_for, command_in, command_of};
 ghost use Rattle.fx_program.specs.Outside.{
@@ -26,33 +22,27 @@ ghost use Rattle.fx_program.specs.Outside.{
 
 use crate::cataloguing::{CatalogueNumbers, list_catalogue};
 use crate::checking::check_text;
-use crate::files::shelve_files;
-use crate::fold::put_fold_line;
+use crate::giving::{Ended, Origin, give};
 use crate::judging::judge_text;
 use crate::listing::list;
 use crate::making::make_text;
-use crate::output_lines::put_book_lines;
+use crate::planning::plan_text;
 use crate::plans::AskedPlans;
 use crate::refusal::put_fault;
 use crate::session::Session;
-use crate::status::{status_of, worse};
+use crate::status::worse;
 use crate::stop::{REFUSED, Stop, exit_status};
 use crate::summary::{put_summary, summary_of};
-use crate::text::{TextFault, TextStop, at_front, read_program};
+use crate::text::{TEXT_LIMIT, TextFault, TextStop, at_front, read_program};
 use crate::upgrading::upgrade_text;
 use crate::words::{Settings, WordFault, read_words, word_line};
-use fx_alias::{examine_listing, fold_listing, head_listing, rules_listing};
 use fx_answer::answer;
-use fx_base::{Bytes, NoMemory, Shelf, Sink, Source, Taken, put, read_all};
+use fx_base::{Bytes, Shelf, Sink, Source, Taken, read_all};
 use fx_board::FreeGate;
 use fx_language::code;
-use fx_statements::{Outcome, Step};
-use fx_vectors::Matrix;
+use fx_statements::Step;
 use std::alloc::Global;
 use std::thread::Threads;
-
-/// The greatest number of bytes of a program text.
-const TEXT_LIMIT: usize = 1048576;
 
 /// Does all that the program does, for the words of the command line without the program's name,
 /// and returns its exit status.
@@ -61,9 +51,10 @@ const TEXT_LIMIT: usize = 1048576;
 ///
 /// The exit status:
 ///
-/// - 0: each step or line of a catalogue has a design, or there is no step; or the book is accepted or
-///   upgraded, or the plan judged;
-/// - 1: some step or line has none, and no budget ended; or the book is rejected;
+/// - 0: each step or line of a catalogue has a design, or there is no step; or each design that rules give
+///   meets its model; or the book is accepted or upgraded, or the plan judged;
+/// - 1: some step or line has none, and no budget ended; or some given design does not meet its model; or the
+///   book is rejected;
 /// - 2: the budget of some step or line ended;
 /// - 3: the words, the text or the plan are refused;
 /// - 4: a call on the source, the listing or the shelf failed;
@@ -122,6 +113,14 @@ pub fn factex<R: Threads + Sync, S: Source, K: Sink, F: Shelf>(
         → settings_of (bytes_of words.now) ≡ Ok (Catalogue q m most threads nodes)
         → CatalogueHolds q m most nodes result }
 
+    // With `plan` and a status below 3, each step has the design of its rules, and the status tells whether each
+    // meets its model.
+    ensures planned { result < 3 → (seed : ℕ)
+        → settings_of (bytes_of words.now) ≡ Ok (Plan seed)
+        → (text : List ℕ)
+        → S.left source.old ≡ Some text
+        → IsPlanned text result }
+
     // Where the source is read, the statuses of steps and of books come only with it read to its end,
     // but where it has more bytes than a book may have.
     ensures read_to_end { result < 3 → (text : List ℕ)
@@ -162,6 +161,15 @@ fn carry_out<R: Threads + Sync, S: Source, K: Sink, F: Shelf>(
                     seed,
                 };
                 run(&session, source, listing, shelf)
+            }
+            Settings::Plan { seed } => {
+                let session = Session {
+                    rt,
+                    alloc,
+                    threads: 1,
+                    seed,
+                };
+                plan_text(&session, source, listing, shelf)
             }
             Settings::Check => check_text(alloc, source, listing),
             Settings::Upgrade => upgrade_text(alloc, source, listing),
@@ -259,37 +267,13 @@ fn run_step<'a, R: Threads + Sync, K: Sink, F: Shelf>(
     ensures plans { OnOk result (plans.new ≡ plans.old ++ asked_of (meaning_of step.now)) }
 {
     let outcome = answer(session.rt, session.alloc, step, session.threads, &FreeGate)?;
-    let mut named = Bytes::new(session.alloc);
-    shelve_files(session, number, step, &outcome, plans, &mut named, shelf)?;
-    let mut lines = lines_of(session.alloc, number, step, &outcome)?;
-    put(&mut lines, named.as_slice())?;
-    put_fold_line(&mut lines, number, step, &outcome)?;
-    list(listing, lines.as_slice(), status_of(outcome.end))
-}
-
-/// The lines of the step of this number, by its outcome, but for those that name its plans.
-fn lines_of(alloc: Global, number: usize, step: &Step, outcome: &Outcome) -> Result<Bytes, NoMemory>
-    requires { IsOutcome (meaning_of step.now) outcome.now }
-    ensures { IfOk result (λ lines.
-        lines
-        ≡ step_lines number (meaning_of step.now) (book_lines number outcome.now.books)
-        (conclusion_in outcome.now)) }
-{
-    let mut lines = Bytes::new(alloc);
-    head_listing(alloc, number, step, outcome, &mut lines)?;
-    match &outcome.matrix {
-        Some(matrix) => {
-            rules_listing(alloc, step, matrix, &mut lines)?;
-            put_book_lines(&mut lines, number, &outcome.books)?;
-            examine_listing(alloc, step, matrix, &mut lines)?;
-            fold_listing(alloc, step, matrix, &mut lines)?;
-            Ok(lines)
-        }
-        None => {
-            put_book_lines(&mut lines, number, &outcome.books)?;
-            Ok(lines)
-        }
-    }
+    let ended = Ended {
+        number,
+        step,
+        outcome,
+        origin: Origin::Search,
+    };
+    give(session, &ended, plans, listing, shelf)
 }
 
 /// The command `make`, for a text of so many steps.

@@ -1,7 +1,7 @@
 ghost use Rattle.std.specs.Prelude.{◌≡◌, ◌<◌, ℕ, Option};
 ghost use Rattle.fx_vectors.specs.Matrix.{MatrixView};
 ghost use Rattle.fx_statements.specs.Endings.{ending_by};
-ghost use Rattle.fx_program.specs.Statuses.{status_of};
+ghost use Rattle.fx_program.specs.Statuses.{met_status, status_of};
 ghost use Rattle.fx_program.specs.Output.{worse};
 
 use fx_statements::End;
@@ -16,6 +16,17 @@ pub(crate) fn status_of(end: End) -> u8
         End::Design => 0,
         End::NoDesign => 1,
         End::Budget => 2,
+    }
+}
+
+/// 1 where a given design does not meet the model of its step; without a model there is nothing to meet.
+pub(crate) fn met_status(is_met: Option<bool>) -> u8
+    ensures status { result ≡ met_status is_met }
+    ensures low { result < 4 }
+{
+    match is_met {
+        None | Some(true) => 0,
+        Some(false) => 1,
     }
 }
 

@@ -6,6 +6,9 @@ use fx_lexer::{LexFault, LexStop, lex};
 use fx_statements::{ParseStop, Program, Refusal, parse};
 use std::alloc::Global;
 
+/// The greatest number of bytes of a program text, with its rules or without.
+pub(crate) const TEXT_LIMIT: usize = 1048576;
+
 /// Why a text has no program.
 #[derive(Debug, Clone, Copy)]
 pub enum TextFault {

@@ -1,4 +1,4 @@
-ghost use Rattle.std.specs.Prelude.{◌≡◌, ◌≤◌, ◌+◌, ◌++◌, codes, length, true, false, Option, Some, is_some, IfErr, IfOk, IfSome, IsTrue};
+ghost use Rattle.std.specs.Prelude.{◌≡◌, ◌≤◌, ◌+◌, ◌++◌, codes, length, true, false, Option, None, Some, MatchOption, is_some, IfErr, IfOk, IfSome, IsTrue};
 ghost use Rattle.std.specs.List.{list_all};
 ghost use Rattle.std.specs.Str.{bytes_eq};
 ghost use Rattle.fx_designs.specs.Galois.{is_order};
@@ -11,6 +11,7 @@ ghost use Rattle.fx_program.specs.CommandLine.{
   IsOfExtra,
   IsWordFault,
   after_prefix,
+  after_threads,
   bytes_of,
   command_with,
   is_decimal,
@@ -23,6 +24,7 @@ ghost use Rattle.fx_program.specs.CommandLine.{
   options_in,
   order_at,
   order_of,
+  plan_with,
   run_with,
   settings_of,
   steps_at,
@@ -63,6 +65,11 @@ pub enum Settings {
     Run {
         /// How many threads search, 1 to 64.
         threads: u8,
+        /// What random numbers start from, where a statement has no seed of its own.
+        seed: u64,
+    },
+    /// Gives the designs of the rules that stand in the text that is read before each of its steps.
+    Plan {
         /// What random numbers start from, where a statement has no seed of its own.
         seed: u64,
     },
@@ -126,12 +133,13 @@ pub fn read_words(words: &[Vec<u8>]) -> Result<Settings, WordFault>
     }
 }
 
-/// The option that a command allows beside that for threads.
+/// The options that a command allows: that for threads, alone or with one more, or the seed alone.
 #[derive(Clone, Copy)]
 pub(crate) enum Extra {
     Nothing,
     Seed,
     Nodes,
+    SeedAlone,
 }
 
 /// The options of the words, as far as they are given.
@@ -151,6 +159,9 @@ fn command_with(command: &[u8], options: &[Vec<u8>]) -> Result<Settings, WordFau
 {
     if command == b"run".as_slice() {
         return run_with(options);
+    }
+    if command == b"plan".as_slice() {
+        return plan_with(options);
     }
     if command == b"check".as_slice() {
         return without_options(Settings::Check, options);
@@ -186,6 +197,19 @@ fn run_with(options: &[Vec<u8>]) -> Result<Settings, WordFault>
     let given = options_in(2, Extra::Seed, options)?;
     Ok(Settings::Run {
         threads: given.threads.unwrap_or(1),
+        seed: given.extra.unwrap_or(0),
+    })
+}
+
+/// The settings of `plan`, with the seed 0 where it is not given.
+fn plan_with(options: &[Vec<u8>]) -> Result<Settings, WordFault>
+    ensures threads { IfOk result HasThreads }
+    ensures order { IfOk result HasOrder }
+    ensures shapes { IfOk result HasShapes }
+    ensures settings { result ≡ plan_with (options_in 2 extra.SeedAlone (bytes_of options.now)) }
+{
+    let given = options_in(2, Extra::SeedAlone, options)?;
+    Ok(Settings::Plan {
         seed: given.extra.unwrap_or(0),
     })
 }
@@ -312,7 +336,7 @@ fn with_option(
     ensures count { IfOk result (λ more. option_count more ≡ option_count given + 1) }
     ensures few { option_count given ≤ 2 }
 {
-    if let Some(digits) = word.strip_prefix(THREADS) {
+    if let Some(digits) = after_threads(allowed, word) {
         let threads = once(place, given.threads.is_some(), few_within(1, 64, digits))?;
         return Ok(Options {
             threads: Some(threads),
@@ -325,7 +349,19 @@ fn with_option(
             word: place,
         }),
         Extra::Seed => with_extra(place, given, SEED, 0, u64::MAX, word),
+        Extra::SeedAlone => with_extra(place, given, SEED, 0, u64::MAX, word),
         Extra::Nodes => with_extra(place, given, NODES, 1, MOST_NODES, word),
+    }
+}
+
+/// What follows `--threads=` in a word, for a command that allows this option.
+fn after_threads(allowed: Extra, word: &[u8]) -> Option<&[u8]>
+    ensures { MatchOption result (after_threads allowed word.now ≡ None)
+        (λ digits. after_threads allowed word.now ≡ Some digits.now) }
+{
+    match allowed {
+        Extra::Nothing | Extra::Seed | Extra::Nodes => word.strip_prefix(THREADS),
+        Extra::SeedAlone => None,
     }
 }
 

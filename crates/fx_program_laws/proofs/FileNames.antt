@@ -1,10 +1,11 @@
--- The files of a program have different names.
+-- The files that a text gives have different names, whether their designs are searched for or of rules.
 use Rattle.std.proofs.Common.{ℕ, ◌≡◌, ◌<◌, ◌≤◌, ◌+◌, ◌^◌, ◌⊎◌, ◌∙◌, Bool, true, false, List, [], ◌∷◌, ◌++◌, map, length}
 use Rattle.std.proofs.Common.{refl, sym, subst, ap, ap₂, arith, append_assoc, append-nil, inl, inr, Option, Some, None}
 use Rattle.std.proofs.Common.{Result, Ok, Err}
 use Rattle.std.specs.Prelude.{if◌then◌else◌}
 use Rattle.std.specs.List.{AllByRecursion, IsDistinct}
 use Rattle.std.proofs.lemmas.Bool.{and_parts, both_ways}
+use Rattle.std.proofs.lemmas.List.{length-map}
 use Rattle.std.proofs.lemmas.List.Elements.{recursion_from_All}
 use Rattle.fx_base.specs.Acts.{Event, Piece, WholeFile}
 use Rattle.fx_base.proofs.Lists.{each-weaker, each-append, each-append_parts}
@@ -16,7 +17,6 @@ use Rattle.fx_text.proofs.Distinct.{joined_differ, none_differ, one_differs, beh
 use Rattle.fx_vectors.proofs.Limits.{order-bounds}
 use Rattle.fx_vectors.specs.Matrix.{MatrixView}
 use Rattle.fx_vectors.specs.declared.book.NamedBook.{NamedBook}
-use Rattle.fx_vectors.specs.declared.shape.TheConstants.{MOST_FACTORS}
 use Rattle.fx_outputs.specs.declared.output.OutputSpec.{OutputSpec}
 use Rattle.fx_outputs.specs.Outputs.{names_of}
 use Rattle.fx_settings.specs.Settings.{is_level}
@@ -29,9 +29,11 @@ use Rattle.fx_statements.specs.declared.fold.Fold.TheVariants.{Without, Factors}
 use Rattle.fx_derived.specs.Tables.{TableView}
 use Rattle.fx_program.specs.Files.{book_files, book_name, design_files, file_name, file_of, fold_file, fold_name, matrix_in}
 use Rattle.fx_program.specs.Files.{names_among, plan_files}
-use Rattle.fx_program.specs.Output.{asked_of, program_output, step_output, steps_output, worse}
+use Rattle.fx_program.specs.Output.{Output, asked_of, in_order, program_output, step_output, worse}
+use Rattle.fx_program.specs.Planning.{RuledView, asked_given, given_output, planned_in, planned_output}
 use Rattle.fx_program.specs.Plans.{AskedView, asked_as, asked_by, plan_after}
 use Rattle.fx_program.specs.Texts.{program_in}
+use Rattle.fx_program.specs.declared.plan_fault.PlanFault.{PlanFault}
 use Rattle.fx_program.specs.declared.text.TextFault.{TextFault}
 use Rattle.fx_program.specs.Claims.{EachStep}
 use Rattle.fx_answer.specs.ValidSteps.{IsValidStep}
@@ -40,7 +42,10 @@ use Rattle.fx_program.proofs.AnyText.{any_text}
 use Rattle.fx_program_laws.proofs.NameSpellings.{books_differ, plans_differ, book_and_plan_differ, differ_from}
 use Rattle.fx_program_laws.proofs.NameSpellings.{book_and_fold_differ, fold_and_plan_differ, folds_differ}
 use Rattle.fx_program_laws.proofs.NameSpellings.{same_from}
-use Rattle.fx_program_laws.proofs.StepCounts.{AreSteps, out_names_of, questions_few, steps_of_text}
+use Rattle.fx_program_laws.proofs.PlannedSteps.{are_planned}
+use Rattle.fx_program_laws.proofs.StepCounts.{AreSteps, HasFactors, out_names_of, questions_few}
+use Rattle.fx_program_laws.proofs.StepCounts.{steps_of_text}
+use Rattle.fx_rules.specs.Parts.{blanked, parts_of}
 
 abbrev Name : Type 0
 Name = List ℕ
@@ -250,15 +255,35 @@ abbrev design_names : ℕ → ℕ → List AskedView → Meaning → Option Matr
 design_names seed number earlier step matrix =
     plan_names seed earlier (asked_by step matrix) ++ fold_names number step.fold matrix
 
-abbrev step_names : ℕ → ℕ → List AskedView → Meaning → List Name
-step_names seed number earlier step =
-    book_names number (books_of step)
-    ++ design_names seed number earlier step (matrix_in (outcome_of step).dimensions (outcome_of step).ending)
+-- that of a step of which its files are made: its books, and its matrix, if it has one
+record Filed : Type 0 where
+  pub step : Meaning
+  pub books : List NamedBook
+  pub matrix : Option MatrixView
 
-abbrev all_names : ℕ → ℕ → List AskedView → List Meaning → List Name
+-- a step whose design is searched for
+abbrev searched : Meaning → Filed
+searched step = record {
+  step = step;
+  books = books_of step;
+  matrix = matrix_in (outcome_of step).dimensions (outcome_of step).ending;
+}
+
+-- a step whose design is of rules
+abbrev given : RuledView → Filed
+given one = record { step = one.step; books = []; matrix = Some one.matrix }
+
+abbrev outs_of : List Filed → List Name
+outs_of all = out_names_of (map (λ (one : Filed). one.step) all)
+
+abbrev step_names : ℕ → ℕ → List AskedView → Filed → List Name
+step_names seed number earlier one =
+    book_names number one.books ++ design_names seed number earlier one.step one.matrix
+
+abbrev all_names : ℕ → ℕ → List AskedView → List Filed → List Name
 all_names seed number earlier [] = []
-all_names seed number earlier (step ∷ steps) =
-    step_names seed number earlier step ++ all_names seed (number + 1) (earlier ++ asked_of step) steps
+all_names seed number earlier (one ∷ all) =
+    step_names seed number earlier one ++ all_names seed (number + 1) (earlier ++ asked_by one.step one.matrix) all
 
 among-append : (xs ys : List Event) → names_among (xs ++ ys) ≡ names_among xs ++ names_among ys
 among-append [] ys = refl
@@ -282,27 +307,36 @@ among-designs seed number earlier step matrix =
     ∙ ap (λ (l : List Name). plan_names seed earlier (asked_by step matrix) ++ l)
     (among-fold number step.factors step.fold matrix)
 
-among-step : (seed number : ℕ) (earlier : List AskedView) (step : Meaning)
-    → names_among (step_output seed number earlier step).events ≡ step_names seed number earlier step
-among-step seed number earlier step =
-    let matrix : Option MatrixView = matrix_in (outcome_of step).dimensions (outcome_of step).ending in
-    let files : List Event = book_files number (books_of step) ++ design_files seed number earlier step matrix in
-    among-append files (Piece _ ∷ []) ∙ append-nil (names_among files) ∙ among-append
-    (book_files number (books_of step)) (design_files seed number earlier step matrix)
-    ∙ ap₂ (λ (l r : List Name). l ++ r) (among-books number (books_of step))
-    (among-designs seed number earlier step matrix)
+among-step : (seed number : ℕ) (earlier : List AskedView) (one : Filed) (bytes : List ℕ)
+    → names_among
+    ((book_files number one.books ++ design_files seed number earlier one.step one.matrix) ++ Piece bytes ∷ [])
+    ≡ step_names seed number earlier one
+among-step seed number earlier one bytes =
+    let files : List Event = book_files number one.books ++ design_files seed number earlier one.step one.matrix in
+    among-append files (Piece bytes ∷ []) ∙ append-nil (names_among files) ∙ among-append
+    (book_files number one.books) (design_files seed number earlier one.step one.matrix)
+    ∙ ap₂ (λ (l r : List Name). l ++ r) (among-books number one.books)
+    (among-designs seed number earlier one.step one.matrix)
 
-among-steps : (seed number : ℕ) (earlier : List AskedView) (events : List Event) (status : ℕ) (steps : List Meaning)
-    → names_among (steps_output seed number earlier events status steps).events
-    ≡ names_among events ++ all_names seed number earlier steps
-among-steps seed number earlier events status [] = sym (append-nil (names_among events))
-among-steps seed number earlier events status (step ∷ steps) =
-    let here : List Event = (step_output seed number earlier step).events in
-    let plans : List AskedView = earlier ++ asked_of step in
-    among-steps seed (number + 1) plans (events ++ here) (worse status (step_output seed number earlier step).status) steps
-    ∙ ap (λ (l : List Name). l ++ all_names seed (number + 1) plans steps)
-    (among-append events here ∙ ap (λ (l : List Name). names_among events ++ l) (among-step seed number earlier step))
-    ∙ append_assoc (names_among events) (step_names seed number earlier step) (all_names seed (number + 1) plans steps)
+-- the names of what is given in order, where each step gives the files of its books and its matrix
+module _ {A : Type 0} (seed : ℕ) (give : ℕ → List AskedView → A → Output) (asks : A → List AskedView) (filed : A → Filed)
+    (own : (number : ℕ) (earlier : List AskedView) (a : A)
+    → names_among (give number earlier a).events ≡ step_names seed number earlier (filed a))
+    (asked : (a : A) → asks a ≡ asked_by (filed a).step (filed a).matrix) where
+  among-steps : (number : ℕ) (earlier : List AskedView) (events : List Event) (status : ℕ) (steps : List A)
+      → names_among (in_order give asks number earlier events status steps).events
+      ≡ names_among events ++ all_names seed number earlier (map filed steps)
+  among-steps number earlier events status [] = sym (append-nil (names_among events))
+  among-steps number earlier events status (step ∷ steps) =
+      let here : List Event = (give number earlier step).events in
+      let plans : List AskedView = earlier ++ asks step in
+      let names : List Name = step_names seed number earlier (filed step) in
+      among-steps (number + 1) plans (events ++ here) (worse status (give number earlier step).status) steps
+      ∙ ap (λ (l : List Name). l ++ all_names seed (number + 1) plans (map filed steps))
+      (among-append events here ∙ ap (λ (l : List Name). names_among events ++ l) (own number earlier step))
+      ∙ append_assoc (names_among events) names (all_names seed (number + 1) plans (map filed steps))
+      ∙ ap (λ (a : List AskedView). names_among events
+      ++ (names ++ all_names seed (number + 1) (earlier ++ a) (map filed steps))) (asked step)
 
 -- the name of a file of the step of this number that no OUT name makes: of a book, or of the fold-over
 abbrev IsNumbered : ℕ → Name → Type 0
@@ -346,27 +380,24 @@ numbered_and_plan k outs name other hk (inr e) plan =
     (subst (λ (x : Name). is_same_name (fold_name k) x ≡ false) (sym plan.3)
     (fold_and_plan_differ k plan.0 hk plan.2))
 
--- a step has few questions
-abbrev HasFew : Meaning → Type 0
-HasFew step = length (finished (questions_of step) step.settings.budget) ≤ MOST_FACTORS + 2
+-- the books of a step are numbered in order
+abbrev AreNumbered : Filed → Type 0
+AreNumbered one = AreRising 1 one.books
 
-record AreTold (seed number : ℕ) (earlier : List AskedView) (steps : List Meaning) : Type 0 where
-  pub differ : IsDistinct is_same_name (all_names seed number earlier steps)
-  pub each : AllByRecursion (IsNameOf number (out_names_of steps)) (all_names seed number earlier steps)
+record AreTold (seed number : ℕ) (earlier : List AskedView) (all : List Filed) : Type 0 where
+  pub differ : IsDistinct is_same_name (all_names seed number earlier all)
+  pub each : AllByRecursion (IsNameOf number (outs_of all)) (all_names seed number earlier all)
 
-module _ (seed number : ℕ) (earlier : List AskedView) (step : Meaning) (small : IsSmall number) (few : HasFew step)
-    (spelled : AllByRecursion IsName (names_of step.outputs)) where
-  rise : AreRising 1 (books_of step)
-  rise = books_rise 1 (finished (questions_of step) step.settings.budget) (omega (arith, few, wide))
-    where
-      wide : 43 < 10 ^ 64
-      wide = omega arith
+module _ (seed number : ℕ) (earlier : List AskedView) (one : Filed) (small : IsSmall number) (rise : AreNumbered one)
+    (spelled : AllByRecursion IsName (names_of one.step.outputs)) where
+  abbrev step : Meaning
+  step = one.step
 
   abbrev matrix_of_step : Option MatrixView
-  matrix_of_step = matrix_in (outcome_of step).dimensions (outcome_of step).ending
+  matrix_of_step = one.matrix
 
   abbrev books : List Name
-  books = book_names number (books_of step)
+  books = book_names number one.books
 
   abbrev plans : List Name
   plans = plan_names seed earlier (asked_by step matrix_of_step)
@@ -400,18 +431,18 @@ module _ (seed number : ℕ) (earlier : List AskedView) (step : Meaning) (small 
       (subst (λ (x : Name). is_same_name (book_name number book.0) x ≡ false) (sym e)
       (book_and_fold_differ number book.0 number small book.2 small)))
 
-  step_apart : IsDistinct is_same_name (names_of step.outputs) → IsDistinct is_same_name (step_names seed number earlier step)
+  step_apart : IsDistinct is_same_name (names_of step.outputs) → IsDistinct is_same_name (step_names seed number earlier one)
   step_apart names =
-      joined_differ books (plans ++ folds) (books_apart number 1 (books_of step) small rise) (designs_apart names)
+      joined_differ books (plans ++ folds) (books_apart number 1 one.books small rise) (designs_apart names)
       (cross (IsBookOf number 1) (λ name. IsPlanOf (names_of step.outputs) name ⊎ IsFoldOf number name)
-      books (plans ++ folds) (each-book number 1 (books_of step) rise) designs_each
+      books (plans ++ folds) (each-book number 1 one.books rise) designs_each
       (λ name other design book. book_and_design name other design book))
 
-  own_each : AllByRecursion (IsOwn number (names_of step.outputs)) (step_names seed number earlier step)
+  own_each : AllByRecursion (IsOwn number (names_of step.outputs)) (step_names seed number earlier one)
   own_each =
       each-append (IsOwn number (names_of step.outputs)) books (plans ++ folds)
       (each-weaker (IsBookOf number 1) (IsOwn number (names_of step.outputs)) books
-      (λ name is. inl (inl (is.0, omega arith, is.2, is.3))) (each-book number 1 (books_of step) rise))
+      (λ name is. inl (inl (is.0, omega arith, is.2, is.3))) (each-book number 1 one.books rise))
       (each-weaker (λ name. IsPlanOf (names_of step.outputs) name ⊎ IsFoldOf number name)
       (IsOwn number (names_of step.outputs)) (plans ++ folds) (λ name is. design_own name is) designs_each)
     where
@@ -422,10 +453,10 @@ module _ (seed number : ℕ) (earlier : List AskedView) (step : Meaning) (small 
 
   -- its names, as those of steps from this one on
   step_each : (outs : List Name)
-      → AllByRecursion (IsNameOf number (names_of step.outputs ++ outs)) (step_names seed number earlier step)
+      → AllByRecursion (IsNameOf number (names_of step.outputs ++ outs)) (step_names seed number earlier one)
   step_each outs =
       each-weaker (IsOwn number (names_of step.outputs)) (IsNameOf number (names_of step.outputs ++ outs))
-      (step_names seed number earlier step) (λ name is. own_wider name is) own_each
+      (step_names seed number earlier one) (λ name is. own_wider name is) own_each
     where
       own_wider : (name : Name) → IsOwn number (names_of step.outputs) name
           → IsNameOf number (names_of step.outputs ++ outs) name
@@ -449,31 +480,31 @@ module _ (seed number : ℕ) (earlier : List AskedView) (step : Meaning) (small 
       (plans_differ plan.0 mine.0
       (turned mine.0 plan.0 (across (names_of step.outputs) outs mine.0 plan.0 names mine.1 plan.1))))
 
-all_told : (seed number : ℕ) (earlier : List AskedView) (steps : List Meaning) → number + length steps < 10 ^ 64 → AllByRecursion HasFew steps
-    → IsDistinct is_same_name (out_names_of steps) → AllByRecursion IsName (out_names_of steps)
-    → AreTold seed number earlier steps
-all_told seed number earlier [] small few names spelled = record { differ = none_differ; each = tt }
-all_told seed number earlier (step ∷ steps) small few names spelled =
-    let outs : List Name = out_names_of steps in
-    let own : IsDistinct is_same_name (names_of step.outputs) = front_differ (names_of step.outputs) outs names in
-    let both = each-append_parts IsName (names_of step.outputs) outs spelled in
-    let behind : List AskedView = earlier ++ asked_of step in
+all_told : (seed number : ℕ) (earlier : List AskedView) (all : List Filed) → number + length all < 10 ^ 64
+    → AllByRecursion AreNumbered all
+    → IsDistinct is_same_name (outs_of all) → AllByRecursion IsName (outs_of all)
+    → AreTold seed number earlier all
+all_told seed number earlier [] small rise names spelled = record { differ = none_differ; each = tt }
+all_told seed number earlier (one ∷ all) small rise names spelled =
+    let outs : List Name = outs_of all in
+    let here : List Name = names_of one.step.outputs in
+    let own : IsDistinct is_same_name here = front_differ here outs names in
+    let both = each-append_parts IsName here outs spelled in
+    let behind : List AskedView = earlier ++ asked_by one.step one.matrix in
     let later =
-    all_told seed (number + 1) behind steps (omega (arith, small)) few.1
-    (behind_differ (names_of step.outputs) outs names) both.1
-    in
+    all_told seed (number + 1) behind all (omega (arith, small)) rise.1 (behind_differ here outs names) both.1 in
     let number_small : IsSmall number = omega (arith, small) in
     record {
-      differ = joined_differ (step_names seed number earlier step) (all_names seed (number + 1) behind steps)
-          (step_apart seed number earlier step number_small few.0 both.0 own) later.differ
-          (cross (IsOwn number (names_of step.outputs)) (IsNameOf (number + 1) outs)
-          (step_names seed number earlier step) (all_names seed (number + 1) behind steps)
-          (own_each seed number earlier step number_small few.0 both.0) later.each
-          (λ name other is was. later_differs seed number earlier step number_small few.0 both.0 outs names name other is was));
-      each = each-append (IsNameOf number (names_of step.outputs ++ outs)) (step_names seed number earlier step)
-          (all_names seed (number + 1) behind steps) (step_each seed number earlier step number_small few.0 both.0 outs)
-          (each-weaker (IsNameOf (number + 1) outs) (IsNameOf number (names_of step.outputs ++ outs))
-          (all_names seed (number + 1) behind steps) (wider number (names_of step.outputs) outs) later.each);
+      differ = joined_differ (step_names seed number earlier one) (all_names seed (number + 1) behind all)
+          (step_apart seed number earlier one number_small rise.0 both.0 own) later.differ
+          (cross (IsOwn number here) (IsNameOf (number + 1) outs)
+          (step_names seed number earlier one) (all_names seed (number + 1) behind all)
+          (own_each seed number earlier one number_small rise.0 both.0) later.each
+          (λ name other is was. later_differs seed number earlier one number_small rise.0 both.0 outs names name other is was));
+      each = each-append (IsNameOf number (here ++ outs)) (step_names seed number earlier one)
+          (all_names seed (number + 1) behind all) (step_each seed number earlier one number_small rise.0 both.0 outs)
+          (each-weaker (IsNameOf (number + 1) outs) (IsNameOf number (here ++ outs))
+          (all_names seed (number + 1) behind all) (wider number here outs) later.each);
     }
   where
     wider : (number : ℕ) (own outs : List Name) (name : Name) → IsNameOf (number + 1) outs name
@@ -486,32 +517,77 @@ all_told seed number earlier (step ∷ steps) small few names spelled =
 two_levels : (q : ℕ) → is_level q ≡ true → 2 ≤ q
 two_levels q e = (order-bounds q (order_of q e)).0
 
-few_each : (steps : List Meaning) → AllByRecursion IsValidStep steps
-    → AllByRecursion (λ (step : Meaning). length step.factors ≤ MOST_FACTORS) steps → AllByRecursion HasFew steps
-few_each [] valid few = tt
-few_each (step ∷ steps) valid few = (questions_of_step step valid.0 few.0, few_each steps valid.1 few.1)
+-- the books of a step are numbered by its questions, of which there are few
+rise_of_step : (step : Meaning) → IsValidStep step → HasFactors step → AreNumbered (searched step)
+rise_of_step step valid own =
+    let a = and_parts _ _ valid.settings in
+    let b = and_parts _ _ a.0 in
+    let c = and_parts _ _ b.0 in
+    let d = and_parts _ _ c.0 in
+    let e = and_parts _ _ d.0 in
+    let count = questions_few step (two_levels step.settings.q e.0) d.1 own.few in
+    books_rise 1 (finished (questions_of step) step.settings.budget) (omega (arith, count, wide))
   where
-    questions_of_step : (step : Meaning) → IsValidStep step → length step.factors ≤ MOST_FACTORS → HasFew step
-    questions_of_step step valid few =
-        let a = and_parts _ _ valid.settings in
-        let b = and_parts _ _ a.0 in
-        let c = and_parts _ _ b.0 in
-        let d = and_parts _ _ c.0 in
-        let e = and_parts _ _ d.0 in
-        questions_few step (two_levels step.settings.q e.0) d.1 few
+    wide : 43 < 10 ^ 64
+    wide = omega arith
+
+rise_searched : (steps : List Meaning) → AllByRecursion IsValidStep steps
+    → AllByRecursion HasFactors steps → AllByRecursion AreNumbered (map searched steps)
+rise_searched [] valid own = tt
+rise_searched (step ∷ steps) valid own = (rise_of_step step valid.0 own.0, rise_searched steps valid.1 own.1)
+
+rise_given : (steps : List RuledView) → AllByRecursion AreNumbered (map given steps)
+rise_given [] = tt
+rise_given (one ∷ steps) = (tt, rise_given steps)
+
+-- the steps of what is filed
+steps_searched : (steps : List Meaning) → map (λ (one : Filed). one.step) (map searched steps) ≡ steps
+steps_searched [] = refl
+steps_searched (step ∷ steps) = ap (λ (l : List Meaning). step ∷ l) (steps_searched steps)
+
+steps_given : (steps : List RuledView)
+    → map (λ (one : Filed). one.step) (map given steps) ≡ map (λ (one : RuledView). one.step) steps
+steps_given [] = refl
+steps_given (one ∷ steps) = ap (λ (l : List Meaning). one.step ∷ l) (steps_given steps)
+
+-- what is filed of the steps of a text
+of_steps : (seed : ℕ) (all : List Filed) (steps : List Meaning) → map (λ (one : Filed). one.step) all ≡ steps
+    → AllByRecursion AreNumbered all → AreSteps steps → IsDistinct is_same_name (all_names seed 1 [] all)
+of_steps seed all steps are rise s =
+    let count : length all ≡ length steps = sym (length-map all (λ (one : Filed). one.step)) ∙ ap length are in
+    (all_told seed 1 [] all (omega (arith, count, s.many)) rise
+    (subst (λ (l : List Meaning). IsDistinct is_same_name (out_names_of l)) (sym are) s.names)
+    (subst (λ (l : List Meaning). AllByRecursion IsName (out_names_of l)) (sym are) s.spelled)).differ
 
 program_differs : (seed : ℕ) (program : Result (List Meaning) TextFault) → EachStep IsValidStep program
     → ((steps : List Meaning) → program ≡ Ok steps → AreSteps steps)
     → IsDistinct is_same_name (names_among (program_output seed program).events)
 program_differs seed (Ok steps) valid are =
     let s = are steps refl in
-    let told =
-    all_told seed 1 [] steps (omega (arith, s.many)) (few_each steps (recursion_from_All IsValidStep steps valid) s.few)
-    s.names s.spelled in
-    subst (IsDistinct is_same_name) (sym (among-steps seed 1 [] [] 0 steps)) told.differ
+    subst (IsDistinct is_same_name)
+    (sym (among-steps seed (step_output seed) asked_of searched
+    (λ number earlier step. among-step seed number earlier (searched step) _) (λ step. refl) 1 [] [] 0 steps))
+    (of_steps seed (map searched steps) steps (steps_searched steps)
+    (rise_searched steps (recursion_from_All IsValidStep steps valid) s.factors) s)
 program_differs seed (Err fault) valid are = none_differ
 
 pub names_differ : (seed : ℕ) (text : List ℕ)
     → IsDistinct is_same_name (names_among (program_output seed (program_in text)).events)
 names_differ seed text =
     program_differs seed (program_in text) (any_text IsValidStep (λ step valid. valid) text) (steps_of_text text)
+
+plan_differs : (seed : ℕ) (text : List ℕ) (plan : Result (List RuledView) PlanFault) → planned_in text ≡ plan
+    → IsDistinct is_same_name (names_among (planned_output seed plan).events)
+plan_differs seed text (Ok steps) is =
+    let program = blanked text (parts_of text) in
+    let own : List Meaning = map (λ (one : RuledView). one.step) steps in
+    subst (IsDistinct is_same_name)
+    (sym (among-steps seed (given_output seed) asked_given given
+    (λ number earlier one. among-step seed number earlier (given one) _) (λ one. refl) 1 [] [] 0 steps))
+    (of_steps seed (map given steps) own (steps_given steps) (rise_given steps)
+    (steps_of_text program own (are_planned text steps is).program))
+plan_differs seed text (Err wrong) is = none_differ
+
+pub planned_names_differ : (seed : ℕ) (text : List ℕ)
+    → IsDistinct is_same_name (names_among (planned_output seed (planned_in text)).events)
+planned_names_differ seed text = plan_differs seed text (planned_in text) refl

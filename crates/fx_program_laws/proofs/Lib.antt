@@ -13,5 +13,9 @@ pub mod MadeSymbols
 pub mod MadeSteps
 pub mod NameSpellings
 pub mod StepCounts
+pub mod PlannedSteps
 pub mod FileNames
 mod PrintedRules
+mod GivenDesigns
+mod ReadBack
+mod ReadBackExamples

@@ -2,7 +2,7 @@
 use Rattle.std.proofs.Common.{ℕ, ◌≡◌, true, List, Some, sym, subst, inl, inr}
 use Rattle.std.proofs.lemmas.Bool.{and_parts}
 use Rattle.fx_designs.specs.Galois.{IsField}
-use Rattle.fx_designs.specs.Problems.{Dimensions, Problem}
+use Rattle.fx_designs.specs.Problems.{Dimensions, Problem, Requirement}
 use Rattle.fx_designs.specs.Canonical.{is_canonical}
 use Rattle.fx_reduction.proofs.LeastPattern.{answer-design}
 use Rattle.fx_tree.proofs.RuleLevels.{combinations}
@@ -23,17 +23,26 @@ canonical p rows left = elim left [
   | inr own ↦ (and_parts _ _ (and_parts _ _ (carried_allowed p own.0 rows own.1)).1).0
 ]
 
+-- the matrix that is listed is canonical
+pub canonical_listed : (step : Meaning) (rows : List ℕ) → rows_in (outcome_of step).ending ≡ Some rows
+    → (wanted : Requirement) × (is_canonical (outcome_of step).dimensions wanted rows ≡ true)
+canonical_listed step rows e =
+    let each = each-of_step step in
+    let own = left-of (IsQuestionOf step) (questions_of step) step.settings.budget rows each.0 each.1 e in
+    let wanted = own.question.requirement in (
+      wanted,
+      subst (λ (x : Dimensions). is_canonical x wanted rows ≡ true) (sym own.dimensions)
+          (canonical own.question rows own.left),
+    )
+
 rules_give : (step : Meaning) → IsValidStep step → (rows : List ℕ) → rows_in (outcome_of step).ending ≡ Some rows
     → RulesGiveTheLevels step.factors (outcome_of step).dimensions rows
 rules_give step valid rows e =
-    let each = each-of_step step in
-    let own = left-of (IsQuestionOf step) (questions_of step) step.settings.budget rows each.0 each.1 e in
     let asked = what_it_asks step valid rows e in
     let d = (outcome_of step).dimensions in
-    let wanted = own.question.requirement in
-    let can : is_canonical d wanted rows ≡ true =
-    subst (λ (x : Dimensions). is_canonical x wanted rows ≡ true) (sym own.dimensions)
-    (canonical own.question rows own.left) in
+    let listed = canonical_listed step rows e in
+    let wanted : Requirement = listed.0 in
+    let can : is_canonical d wanted rows ≡ true = listed.1 in
     let f : IsField d.q = subst IsField (sym asked.allowed.levels) (field step valid) in
     record {
       rules = λ k low. its_rule d f wanted step.factors rows k can asked.whole (sym asked.allowed.factors) low;

@@ -1,4 +1,5 @@
--- What any text bounds: its steps, the factors and questions of each; and its OUT names, which are names and differ.
+-- What any text bounds: its steps, the factors and questions of each. The factors of a step and the OUT names of a text
+-- are names and differ.
 use Rattle.std.proofs.Common.{ℕ, ◌≡◌, ◌≤◌, ◌+◌, ◌-◌, ◌^◌, ◌∙◌, suc, max, Bool, true, false, List, [], ◌∷◌, ◌++◌, length}
 use Rattle.std.proofs.Common.{length-append, refl, sym, subst, ap, arith, append-nil, Option, Some, None, Result, Ok}
 use Rattle.std.proofs.Common.{Err, cond}
@@ -42,6 +43,7 @@ use Rattle.fx_settings.specs.declared.settings.Size.TheVariants.{Runs, Minimum}
 use Rattle.fx_settings.specs.Said.{step_said, value_after_equals}
 use Rattle.fx_settings.specs.Valid.{is_size}
 use Rattle.fx_designs.specs.Problems.{Problem}
+use Rattle.fx_settings.proofs.Distinct.{factors_differ}
 use Rattle.fx_settings.proofs.Within.{all_within}
 use Rattle.fx_settings.specs.Settings.{number_or}
 use Rattle.fx_statements.specs.Contexts.{context}
@@ -52,7 +54,8 @@ use Rattle.fx_statements.specs.Questions.{Questions, Turn, asked, highest, is_la
 use Rattle.fx_statements.specs.Questions.{questions_of, turns, up_to}
 use Rattle.fx_statements.specs.Folds.{fold_of}
 use Rattle.fx_statements.proofs.Bounds.{most_of_all}
-use Rattle.fx_statements.proofs.Parts.{none_refused}
+use Rattle.fx_statements.proofs.Parts.{named_factors, none_refused}
+use Rattle.fx_statements.proofs.Parts as parts
 use Rattle.fx_answer.specs.Books.{finished, finished_before}
 use Rattle.fx_answer.proofs.Valid.{few_factors}
 use Rattle.fx_program.specs.Texts.{at_front, or_refused, program_by, program_in}
@@ -65,8 +68,14 @@ use Rattle.fx_vectors.specs.declared.shape.TheConstants.{MOST_FACTORS}
 abbrev pub out_names_of : List Meaning → List (List ℕ)
 out_names_of steps = flat_map (λ (step : Meaning). names_of step.outputs) steps
 
-record IsReadBehind (earlier : List (List ℕ)) (step : Meaning) : Type 0 where
+-- the factors of a step
+pub record HasFactors (step : Meaning) : Type 0 where
   pub few : length step.factors ≤ MOST_FACTORS
+  pub names : All IsName step.factors
+  pub distinct : IsDistinct is_same_name step.factors
+
+record IsReadBehind (earlier : List (List ℕ)) (step : Meaning) : Type 0 where
+  pub factors : HasFactors step
   pub names : IsDistinct is_same_name (earlier ++ names_of step.outputs)
   pub spelled : AllByRecursion IsName (names_of step.outputs)
 
@@ -77,10 +86,11 @@ spelled_names context (o ∷ outputs) h = (h.0.name, spelled_names context outpu
 
 step_read : (earlier : List EarlierPlan) (statements : List (List Written)) (factors : Option (List Written))
     (step : Meaning)
-    → AllByRecursion IsAccepted statements → IsDistinct is_same_name (plan_names earlier)
+    → AllByRecursion IsAccepted statements → statement_of word.Factors statements ≡ factors
+    → IsDistinct is_same_name (plan_names earlier)
     → step_by earlier statements factors ≡ Ok step → IsReadBehind (plan_names earlier) step
-step_read earlier statements None step is differ e = absurd (cc e)
-step_read earlier statements (Some given) step is differ e =
+step_read earlier statements None step is here differ e = absurd (cc e)
+step_read earlier statements (Some given) step is here differ e =
     let proc = start_of (head_of statements) in
     let factors = bind_ok (factors_by proc (factor_limit given statements) given) _ step e in
     let found =
@@ -102,9 +112,16 @@ step_read earlier statements (Some given) step is differ e =
     let same = some_same proc found.0 factors.0 found.2 in
     let most : factor_limit given statements ≤ MOST_FACTORS =
     most_of_all (number_or 2 (value_after_equals given)) (is_some (statement_of word.Blocks statements)) in
+    let accepted = parts.found IsAccepted word.Factors statements given is here in
     subst (IsReadBehind (plan_names earlier)) (same_ok whole step outputs.2)
     (record {
-      few = subst (λ (l : List (List ℕ)). length l ≤ MOST_FACTORS) same (omega (arith, few, most));
+      factors = record {
+        few = subst (λ (l : List (List ℕ)). length l ≤ MOST_FACTORS) same (omega (arith, few, most));
+        names = named_factors proc (factor_limit given statements) given factors.0
+            (accepted.0.by_its_word.factors accepted.1) accepted.0.names factors.1;
+        distinct = subst (IsDistinct is_same_name) same
+            (factors_differ (factor_limit given statements) given found.0 found.1);
+      };
       names = all_differ (context factors.0 asked.0.0) earlier statements outputs.0 differ outputs.1;
       spelled = spelled_names (context factors.0 asked.0.0) outputs.0
           (recursion_from_All (HasItsNames (context factors.0 asked.0.0)) outputs.0
@@ -112,7 +129,7 @@ step_read earlier statements (Some given) step is differ e =
     })
 
 record AreReadBehind (steps done : List Meaning) (groups : ℕ) : Type 0 where
-  pub few : AllByRecursion (λ (step : Meaning). length step.factors ≤ MOST_FACTORS) steps
+  pub factors : AllByRecursion HasFactors steps
   pub names : IsDistinct is_same_name (out_names_of steps)
   pub spelled : AllByRecursion IsName (out_names_of steps)
   pub many : length steps ≡ length done + groups
@@ -121,19 +138,19 @@ all_read : (earlier : List EarlierPlan) (done : List Meaning) (groups : List (Li
     (steps : List Meaning)
     → AllByRecursion (AllByRecursion IsAccepted) groups → plan_names earlier ≡ out_names_of done
     → IsDistinct is_same_name (plan_names earlier)
-    → AllByRecursion IsName (plan_names earlier) → AllByRecursion (λ (step : Meaning). length step.factors ≤ MOST_FACTORS) done
+    → AllByRecursion IsName (plan_names earlier) → AllByRecursion HasFactors done
     → steps_behind earlier done groups ≡ Ok steps → AreReadBehind steps done (length groups)
-all_read earlier done [] steps each are differ spelled few e =
+all_read earlier done [] steps each are differ spelled own e =
     let same : done ≡ steps = same_ok done steps e in
     record {
-      few = subst (AllByRecursion (λ (step : Meaning). length step.factors ≤ MOST_FACTORS)) same few;
+      factors = subst (AllByRecursion HasFactors) same own;
       names = subst (IsDistinct is_same_name) (are ∙ ap out_names_of same) differ;
       spelled = subst (AllByRecursion IsName) (are ∙ ap out_names_of same) spelled;
       many = omega (arith, ap length same);
     }
-all_read earlier done (group ∷ groups) steps each are differ spelled few e =
+all_read earlier done (group ∷ groups) steps each are differ spelled own e =
     let step = bind_ok (step_of earlier group) _ steps e in
-    let read = step_read earlier group (statement_of word.Factors group) step.0 each.0 differ step.1 in
+    let read = step_read earlier group (statement_of word.Factors group) step.0 each.0 refl differ step.1 in
     let next : plan_names (plans_after earlier step.0) ≡ plan_names earlier ++ names_of step.0.outputs =
     built_names (context step.0.factors step.0.settings) earlier step.0.outputs in
     let names : plan_names earlier ++ names_of step.0.outputs ≡ out_names_of (done ++ step.0 ∷ []) =
@@ -145,10 +162,10 @@ all_read earlier done (group ∷ groups) steps each are differ spelled few e =
     (subst (IsDistinct is_same_name) (sym next) read.names)
     (subst (AllByRecursion IsName) (sym next)
     (each-append IsName (plan_names earlier) (names_of step.0.outputs) spelled read.spelled))
-    (each-append (λ (step : Meaning). length step.factors ≤ MOST_FACTORS) done (step.0 ∷ []) few (read.few, tt)) step.2
+    (each-append HasFactors done (step.0 ∷ []) own (read.factors, tt)) step.2
     in
     record {
-      few = later.few;
+      factors = later.factors;
       names = later.names;
       spelled = later.spelled;
       many = omega (arith, later.many, length-append done (step.0 ∷ []));
@@ -199,7 +216,7 @@ tokens_few from upto (t ∷ tokens) h = let rest = tokens_few t.upto upto tokens
 
 -- what is known of the steps of a text
 pub record AreSteps (steps : List Meaning) : Type 0 where
-  pub few : AllByRecursion (λ (step : Meaning). length step.factors ≤ MOST_FACTORS) steps
+  pub factors : AllByRecursion HasFactors steps
   pub names : IsDistinct is_same_name (out_names_of steps)
   pub spelled : AllByRecursion IsName (out_names_of steps)
   pub many : length steps ≤ 1048576
@@ -216,7 +233,7 @@ accepted_read text tokens None steps all is few e =
     let count = steps_few (statements_of ws) in
     let statements = statements_few ws in
     record {
-      few = read.few;
+      factors = read.factors;
       names = read.names;
       spelled = read.spelled;
       many = omega (arith, read.many, count, statements, length-map tokens (λ (t : Token). written_at text t), few);

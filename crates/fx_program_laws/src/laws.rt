@@ -19,6 +19,7 @@ ghost use Rattle.fx_program_laws.specs.BookClaims.{
 ghost use Rattle.fx_statements.specs.Questions.{asked, last_of, nodes_of, questions_of, resolution_wanted};
 ghost use Rattle.fx_program.specs.Making.{HasSteps, made_text};
 ghost use Rattle.fx_text.specs.Names.{is_same_name};
+ghost use Rattle.fx_vectors.specs.Matrix.{MatrixView};
 ghost use Rattle.fx_vectors.specs.declared.book.Book.{Book};
 ghost use Rattle.fx_book.specs.Heads.{book_of};
 ghost use Rattle.fx_book.specs.Writing.{book_text};
@@ -29,10 +30,13 @@ ghost use Rattle.fx_program.specs.declared.words.Settings.TheVariants.{Catalogue
 ghost use Rattle.fx_program.specs.CommandLine.{IsCatalogue};
 ghost use Rattle.fx_catalogue.specs.Catalogues.{Entry, entries};
 ghost use Rattle.fx_program.specs.Commands.{output_for, output_of};
-ghost use Rattle.fx_program.specs.Output.{message, program_output, step_output};
+ghost use Rattle.fx_program.specs.Output.{message, program_output, step_output, step_status};
+ghost use Rattle.fx_program.specs.Planning.{planned_in, planned_output};
 ghost use Rattle.fx_program.specs.Plans.{AskedView};
 ghost use Rattle.fx_program_laws.specs.Endings.{EndsWith};
+ghost use Rattle.fx_program_laws.specs.GivenDesigns.{EachRuled, HasGivenDesign};
 ghost use Rattle.fx_program_laws.specs.PrintedRules.{HasRulesThatGiveTheLevels};
+ghost use Rattle.fx_program_laws.specs.ReadBack.{IsBehindItsRules, IsReadBack};
 ghost use Rattle.fx_tree.specs.Laws.{IsFirstOfLeastPattern};
 ghost use Rattle.fx_answer.specs.StepClaims.{
   Allows,
@@ -130,6 +134,23 @@ pub fn rules_give_the_levels_in_any_text()
     ensures { (text : List ℕ) → EachStep HasRulesThatGiveTheLevels (program_in text) }
 {}
 
+/// Whatever a text with rules says: the matrix of each of its steps has the shape for which the step asks,
+/// and each of its rows, one for each factor and block factor, is the next unit vector or a combination of
+/// the run indexes before. Its rules give the level of each factor and block factor at every run, and those
+/// that introduce run indexes have each combination of levels in equally many runs.
+pub fn given_designs_in_any_text()
+    ensures { (text : List ℕ) → EachRuled HasGivenDesign (planned_in text) }
+{}
+
+/// Whatever a text says: what `run` lists of the rules of a step that leaves nothing to a search but its
+/// rules is read, as the rules of this step, as the same matrix (`rules`). So `plan` gives the matrix of
+/// `run` where these rules are put before the text of the step (`plan`).
+pub fn listed_rules_are_read_back()
+    ensures rules { (text : List ℕ) → EachStep IsReadBack (program_in text) }
+    ensures plan { (text : List ℕ) (step : Meaning) (matrix : MatrixView) → IsBehindItsRules text step matrix
+        → planned_in text ≡ Ok (record { step = step; matrix = matrix } ∷ []) }
+{}
+
 /// Whatever a text says: where a step of its program ends without a design, the runs of no rule matrix at
 /// all meet what is required, in no dimensions that the step allows.
 pub fn no_design_in_any_text()
@@ -173,7 +194,7 @@ pub fn most_blocks_in_any_text()
 /// some step has none and no budget ended, 2 that the budget of some step ended.
 pub fn greatest_status_decides()
     ensures { (seed : ℕ) (steps : List Meaning)
-        → IsGreatest (program_output seed (Ok steps)).status steps }
+        → IsGreatest step_status (program_output seed (Ok steps)).status steps }
 {}
 
 /// Each claim has its book among the files of the step, whatever the status. Each finished question
@@ -241,11 +262,13 @@ pub fn made_texts_are_programs()
     ensures { (n : ℕ) → n ≤ 100 → HasSteps n (program_in (made_text n)) }
 {}
 
-/// The files of a program have different names, without regard to case: those of its books and of its
-/// plans.
+/// The files of a program have different names, without regard to case: those of its books, of its plans
+/// and of its fold-overs, whether its designs are searched for (`run`) or of rules (`planned`).
 pub fn file_names_differ()
-    ensures { (seed : ℕ) (text : List ℕ)
+    ensures run { (seed : ℕ) (text : List ℕ)
         → IsDistinct is_same_name (names_among (program_output seed (program_in text)).events) }
+    ensures planned { (seed : ℕ) (text : List ℕ)
+        → IsDistinct is_same_name (names_among (planned_output seed (planned_in text)).events) }
 {}
 
 /// The number of threads changes nothing: whatever the text, the output of a command is that of the

@@ -7,7 +7,7 @@ use Rattle.fx_statements.specs.Valid.{most_factors_of}
 use Rattle.fx_program.specs.CommandLine.{behind_indexes, behind_levels, catalogue_by, catalogue_with, factors_of_catalogue}
 use Rattle.fx_program.specs.CommandLine.{indexes_of_catalogue, number_at, options_of_catalogue, order_at}
 use Rattle.fx_program.specs.declared.words.Settings.{Settings}
-use Rattle.fx_program.specs.declared.words.Settings.TheVariants.{Run, Check, Make, Large, Judge, Upgrade, Catalogue}
+use Rattle.fx_program.specs.declared.words.Settings.TheVariants.{Run, Plan, Check, Make, Large, Judge, Upgrade, Catalogue}
 use Rattle.fx_program.specs.declared.words.WordFault.{WordFault}
 use Rattle.fx_table_program.specs.CommandLine.{alone, of_catalogue, settings_of}
 
@@ -51,6 +51,7 @@ no_other : (settings : Settings) → IsOfCatalogue (Ok settings)
     → ⊥
 no_other (Catalogue q m most threads nodes) of none = none q m most threads nodes refl
 no_other (Run threads seed) of none = of
+no_other (Plan seed) of none = of
 no_other Check of none = of
 no_other Upgrade of none = of
 no_other (Make n) of none = of

@@ -2,7 +2,8 @@ ghost use Rattle.std.specs.Prelude.{◌≡◌, ◌≤◌, ◌+◌, ◌^◌, IsTr
 ghost use Rattle.fx_vectors.specs.Shape.{IsShape};
 
 use fx_alias::{
-    alias_listing, blocked_listing, design_listing, head_listing, pattern_listing, rules_listing,
+    BlockMarks, alias_listing, blocked_listing, design_listing, head_listing, pattern_listing,
+    rules_listing,
 };
 use fx_base::Bytes;
 use fx_lexer::lex;
@@ -49,7 +50,7 @@ pub fn are_few(shape: Shape) -> bool
 }
 
 /// Whether a matrix has a row for each factor of the step and of its blocks.
-fn is_for(matrix: &Matrix, step: &Step) -> bool
+pub fn is_for(matrix: &Matrix, step: &Step) -> bool
     ensures complete { IsTrue result
         → length matrix.now.rows ≡ matrix.now.shape.s + matrix.now.shape.t }
     ensures factors { IsTrue result → matrix.now.shape.s ≡ length step.now.factors }
@@ -68,7 +69,7 @@ fn step_has_aliases(
 ) -> bool {
     assert!(rt; is_for(matrix, step));
     let mut out = Bytes::new(alloc);
-    alias_listing(alloc, step, matrix, &mut out).expect(rt, "memory");
+    alias_listing(alloc, BlockMarks::Without, step, matrix, &mut out).expect(rt, "memory");
     out.as_slice() == expected.as_bytes()
 }
 

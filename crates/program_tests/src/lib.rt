@@ -9,11 +9,15 @@ mod complete;
 #[cfg(test)]
 mod edge;
 #[cfg(test)]
+mod given;
+#[cfg(test)]
 mod judge;
 #[cfg(test)]
 mod plan;
 #[cfg(test)]
 mod program;
+#[cfg(test)]
+mod rules;
 #[cfg(test)]
 mod tables;
 

@@ -2,6 +2,7 @@ mod books;
 mod catalogues;
 mod failing;
 mod forged;
+mod given;
 mod limits;
 mod outside;
 
@@ -515,7 +516,7 @@ fn the_seed_of_the_words_shuffles(rt: HostRuntime) {
 }
 
 /// Command lines that are refused, each with the message.
-const REFUSED_WORDS: [(&str, &str); 27] = [
+const REFUSED_WORDS: [(&str, &str); 30] = [
     ("", "C1 word 1"),
     ("x y", "C2 word 1"),
     ("RUN", "C2 word 1"),
@@ -538,6 +539,9 @@ const REFUSED_WORDS: [(&str, &str); 27] = [
     ("large 0", "C4 word 2"),
     ("large 101", "C4 word 2"),
     ("large 1 --seed=1", "C3 word 3"),
+    ("plan --threads=2", "C3 word 2"),
+    ("plan --seed=1 --seed=1", "C5 word 3"),
+    ("plan --seed=18446744073709551616", "C4 word 2"),
     ("judge", "C6 word 2"),
     ("judge 6", "C4 word 2"),
     ("judge 10", "C4 word 2"),

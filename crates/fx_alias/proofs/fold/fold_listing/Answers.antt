@@ -1,4 +1,4 @@
-use Rattle.std.proofs.Common.{◌≡◌, ◌+◌, ◌∙◌, ℕ, arith}
+use Rattle.std.proofs.Common.{◌∙◌, arith}
 use Rattle.fx_alias.proofs.Folds.{unblocked}
 use Rattle.fx_alias.proofs.fold.fold_listing.Goals as goal
 

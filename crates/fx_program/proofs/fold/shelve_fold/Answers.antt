@@ -1,10 +1,9 @@
 use Rattle.fx_program.proofs.Filing.{shelved_all, shelved_none}
-use Rattle.fx_program.proofs.Given.{is_design}
 use Rattle.fx_program.proofs.fold.shelve_fold.Goals as goal
 
 pub shelve_runs-requires-clause-design : goal.shelve_runs-requires-clause-design
 shelve_runs-requires-clause-design g c =
-    is_design c.args.step.now c.args.outcome.now c.in-Some.matrix c.requires.outcome c.in-Some.is
+    c.requires.outcome.design c.in-Some.matrix c.in-Some.is
 
 pub returns-in-Without : goal.returns-in-Without
 returns-in-Without g c = rw c.in-Without.is (shelved_all _ (shelved_none _ c.requires.ended))

@@ -3,7 +3,6 @@ use Rattle.std.proofs.lemmas.List.Elements.{All-contains}
 use Rattle.fx_outputs.specs.Validity.{HasItsNames}
 use Rattle.fx_statements.specs.Contexts.{context}
 use Rattle.fx_statements.specs.Valid.{settings_in}
-use Rattle.fx_program.proofs.Given.{is_design}
 use Rattle.fx_program.proofs.plans.asked_plan.Goals as goal
 
 pub invariant_of-result : goal.invariant_of-result
@@ -17,5 +16,5 @@ invariant_of-result c =
     record {
       among = c.requires.among;
       short = names.name.1;
-      design = λ own e. is_design step c.args.outcome.now own c.requires.outcome (sym c.copied.ensures ∙ e);
+      design = λ own e. c.requires.outcome.design own (sym c.copied.ensures ∙ e);
     }

@@ -3,6 +3,7 @@ use Rattle.fx_answer.specs.StepClaims.{ClaimsHold, OfOutcome}
 use Rattle.fx_answer.proofs.Best.{claims_hold}
 use Rattle.fx_program.proofs.AnyText.{any_text}
 use Rattle.fx_program.proofs.CatalogueClaims.{catalogued}
+use Rattle.fx_program.proofs.PlanClaims.{planned}
 use Rattle.fx_program.proofs.Commands.{accepted, given, none_at_all, read_to_end}
 use Rattle.fx_program.proofs.run.factex.Goals as goal
 
@@ -26,6 +27,11 @@ returns-clause-catalogued g c =
     (λ low q m most threads nodes is.
     catalogued q m most threads nodes (c.read_words.ensures.settings ∙ is) c.read_words.ensures.shapes
     c.carry_out.ensures.done low)
+
+pub returns-clause-planned : goal.returns-clause-planned
+returns-clause-planned g c =
+    rw c.exit_status.ensures
+    (λ low seed is text left. planned seed (c.read_words.ensures.settings ∙ is) c.carry_out.ensures.done low text left)
 
 pub returns-clause-read_to_end : goal.returns-clause-read_to_end
 returns-clause-read_to_end g c =

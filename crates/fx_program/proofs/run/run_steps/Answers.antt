@@ -8,7 +8,7 @@ pub loop-i-init : goal.loop-i-init
 loop-i-init g c = record {
   low = omega arith;
   closed = c.requires;
-  so_far = λ source. rw c.new-plans.ensures (before_steps c.args.session.now.seed _ _);
+  so_far = λ source. rw c.new-plans.ensures (before_steps _ _ _ _);
 }
 
 pub returns-in_err-ended : goal.returns-in_err-ended

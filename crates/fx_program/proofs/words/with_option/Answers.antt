@@ -1,5 +1,5 @@
 use Rattle.std.proofs.Common.{◌∙◌, sym}
-use Rattle.fx_program.proofs.GivenOptions.{few, had_none, kept_threads, of_seed, one_more}
+use Rattle.fx_program.proofs.GivenOptions.{few, had_none, kept_threads, of_seed, of_seed_alone, one_more}
 use Rattle.fx_program.proofs.words.with_option.Goals as goal
 
 pub returns-in_err-threads-clause-few : goal.returns-in_err-threads-clause-few
@@ -26,6 +26,16 @@ returns-in-Seed-clause-extra c = rw c.in-Seed.is (of_seed c.with_extra.result)
 
 pub returns-in-Seed-clause-few : goal.returns-in-Seed-clause-few
 returns-in-Seed-clause-few c = few c.args.given.threads c.args.given.extra
+
+pub returns-in-SeedAlone-clause-threads : goal.returns-in-SeedAlone-clause-threads
+returns-in-SeedAlone-clause-threads c =
+    kept_threads c.args.given c.with_extra-in-SeedAlone.result c.requires.threads c.with_extra-in-SeedAlone.ensures.threads
+
+pub returns-in-SeedAlone-clause-extra : goal.returns-in-SeedAlone-clause-extra
+returns-in-SeedAlone-clause-extra c = rw c.in-SeedAlone.is (of_seed_alone c.with_extra-in-SeedAlone.result)
+
+pub returns-in-SeedAlone-clause-few : goal.returns-in-SeedAlone-clause-few
+returns-in-SeedAlone-clause-few c = few c.args.given.threads c.args.given.extra
 
 pub returns-in-Nodes-clause-threads : goal.returns-in-Nodes-clause-threads
 returns-in-Nodes-clause-threads c =

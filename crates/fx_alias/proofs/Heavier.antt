@@ -1,0 +1,51 @@
+-- Vectors with a sum, counted by the words that one row more makes of them.
+use Rattle.std.proofs.Common.{ℕ, ◌≡◌, ◌<◌, ◌+◌, ◌-◌, ◌*◌, ◌/◌, ◌^◌, ◌∙◌, ◌++◌, List, [], ◌∷◌, length, get_or, sym, ap}
+use Rattle.std.proofs.Common.{arith}
+use Rattle.std.proofs.lemmas.List.{length_push}
+use Rattle.std.proofs.Math.Nat.{add-mul-div_left}
+use Rattle.fx_designs.specs.Galois.{IsField}
+use Rattle.fx_designs.specs.Patterns.{pattern_of}
+use Rattle.fx_designs.specs.Problems.{Dimensions}
+use Rattle.fx_designs.specs.Vectors.{vectors_of}
+use Rattle.fx_points.proofs.Halves.{power-some}
+use Rattle.fx_vectors.specs.Shape.{IsShape}
+use Rattle.fx_vectors.specs.declared.shape.Shape.{Shape}
+use Rattle.fx_words.specs.Spreads.{spread, so_far}
+use Rattle.fx_words.proofs.Entries.{entry}
+use Rattle.fx_words.proofs.Levels.{so_far-all, so_far-zero}
+use Rattle.fx_alias.specs.BlockWords.{with_room}
+
+-- with x as one row more, each vector with the sum x makes a word that is heavier by one
+pub heavier : (d : Dimensions) → IsField d.q → (rows : List ℕ) (k x : ℕ) → length rows < d.s → k < d.s → x < d.q ^ d.m
+    → get_or (pattern_of d (rows ++ x ∷ [])) k 0
+    ≡ get_or (pattern_of d rows) k 0 + spread d.q d.m (vectors_of d.q d.m rows) k x
+heavier d f rows k x room low below =
+    let q : ℕ = d.q in
+    let m : ℕ = d.m in
+    let own : ℕ = spread q m (vectors_of q m rows) (k + 1) 0 in
+    let sums : ℕ = spread q m (vectors_of q m rows) k x in
+    let one : 1 < q = f.more_than_one in
+    let last : q ≡ q - 1 + 1 = omega (arith, one) in
+    let lighter : k + 1 - 1 ≡ k = omega arith in
+    let more : spread q m (vectors_of q m (rows ++ x ∷ [])) (k + 1) 0 ≡ own + (q - 1) * sums =
+    sym (so_far-all q m f rows x (k + 1) 0 (power-some q m (omega (arith, one))))
+    ∙ ap (λ c. so_far q m rows x (k + 1) 0 c) last
+    ∙ so_far-zero q m f rows x (k + 1) (q - 1) (omega arith) (omega (arith, one)) below
+    ∙ ap (λ w. own + (q - 1) * spread q m (vectors_of q m rows) w x) lighter in
+    entry d f (rows ++ x ∷ []) k (omega (arith, length_push rows x, room)) low
+    ∙ ap (λ n. n / (q - 1)) more
+    ∙ add-mul-div_left own sums (omega (arith, one))
+    ∙ ap (λ n. n + sums) (sym (entry d f rows k (omega (arith, room)) low))
+
+-- in blocks there are few factors, and so there is room for one more
+pub room_shape : (shape : Shape) → IsShape shape → 0 < shape.t → IsShape (with_room shape)
+room_shape shape h blocks = record {
+  order = h.order;
+  some_indexes = h.some_indexes;
+  runs = h.runs;
+  some_factors = omega arith;
+  factors = omega (arith, h.factors_in_blocks blocks);
+  factors_of_many_levels = λ many. omega (arith, h.factors_in_blocks blocks);
+  block_factors = omega arith;
+  factors_in_blocks = λ some. absurd (omega (arith, some));
+}

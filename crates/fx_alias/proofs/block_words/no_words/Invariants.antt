@@ -1,0 +1,6 @@
+use Rattle.std.proofs.Common.{◌≡◌, take}
+use Rattle.fx_alias.specs.BlockWords.{block_words_of}
+use Rattle.fx_alias.proofs.block_words.no_words.Given as goal
+
+abbrev pub invariant-loop-i : goal.invariant-loop-i
+invariant-loop-i l = l.words ≡ take l._i (block_words_of l.matrix)

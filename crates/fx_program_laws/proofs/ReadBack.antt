@@ -1,0 +1,158 @@
+-- The rules of a design that `run` gives are read, by `plan`, as this design.
+use Rattle.std.proofs.Common.{ℕ, ◌≡◌, ◌∙◌, ◌+◌, ◌==◌, true, false, List, [], ◌∷◌, Some, Result, Ok, Err, length, refl, sym}
+use Rattle.std.proofs.Common.{ap, ap₂, subst, arith}
+use Rattle.std.specs.Prelude.{slice_range}
+use Rattle.std.specs.List.{AllByRecursion}
+use Rattle.std.proofs.lemmas.Bool.{eq-eqb}
+use Rattle.std.proofs.lemmas.List.Elements.{All-from_recursion, All-head, recursion_from_All}
+use Rattle.fx_designs.specs.Galois.{IsField}
+use Rattle.fx_designs.specs.Canonical.{is_canonical}
+use Rattle.fx_designs.specs.Problems.{Dimensions, Requirement}
+use Rattle.fx_laws.proofs.CanonicalTest.{canonical_decides}
+use Rattle.fx_laws.proofs.Tables.{is_order-field}
+use Rattle.fx_vectors.specs.Matrix.{MatrixView}
+use Rattle.fx_settings.specs.declared.settings.Blocks.{Blocks}
+use Rattle.fx_settings.specs.declared.settings.Blocks.TheVariants as blocks
+use Rattle.fx_settings.specs.declared.settings.Size.{Size}
+use Rattle.fx_settings.specs.declared.settings.Size.TheVariants.{Runs, Minimum}
+use Rattle.fx_settings.specs.Valid.{has_most}
+use Rattle.fx_statements.specs.Questions.{block_factors, outcome_of, run_factors}
+use Rattle.fx_statements.specs.Steps.{Meaning}
+use Rattle.fx_alias.specs.Rules.{rules_section}
+use Rattle.fx_answer.specs.StepClaims.{Allows, rows_in}
+use Rattle.fx_answer.specs.ValidSteps.{IsValidStep}
+use Rattle.fx_answer.proofs.Best.{what_it_asks}
+use Rattle.fx_rules.specs.Laws.{AreFactors, IsGiven}
+use Rattle.fx_rules.specs.Parts.{blanked, parts_of}
+use Rattle.fx_rules.specs.Reading.{matrix_of_rules}
+use Rattle.fx_rules.specs.declared.parts.Part.{Part}
+use Rattle.fx_rules.proofs.Stepping.{canonical_stepped}
+use Rattle.fx_rules.proofs.WayBack.{way_back}
+use Rattle.fx_program.specs.Claims.{EachStep}
+use Rattle.fx_program.specs.Planning.{dimensions_given, is_minimum, is_searched, planned_by, planned_in, ruled_steps}
+use Rattle.fx_program.specs.Planning.{shape_given}
+use Rattle.fx_program.specs.Texts.{program_in}
+use Rattle.fx_program.specs.declared.text.TextFault.{TextFault}
+use Rattle.fx_program.proofs.AnyText.{any_text}
+use Rattle.fx_program_laws.specs.ReadBack.{IsBehindItsRules, IsReadBack}
+use Rattle.fx_program_laws.proofs.GivenDesigns.{neither, shaped}
+use Rattle.fx_program_laws.proofs.Listed.{of_ending}
+use Rattle.fx_program_laws.proofs.PrintedRules.{canonical_listed}
+use Rattle.fx_program_laws.proofs.StepCounts.{AreSteps, HasFactors, steps_of_text}
+
+-- where nothing is left to a search, each question is of the same dimensions
+same_runs : (size : Size) (m n : ℕ) → is_minimum size ≡ false → run_factors size m ≡ run_factors size n
+same_runs (Runs k) m n e = refl
+same_runs Minimum m n e = absurd (cc e)
+
+same_blocks : (given : Blocks) (m j k : ℕ) → has_most given ≡ false → block_factors given m j ≡ block_factors given m k
+same_blocks blocks.Without m j k e = refl
+same_blocks (blocks.Factors t) m j k e = refl
+same_blocks (blocks.PerBlock n) m j k e = refl
+same_blocks blocks.Most m j k e = absurd (cc e)
+
+abbrev dims : ℕ → ℕ → ℕ → ℕ → Dimensions
+dims q m s t = record { q = q; m = m; s = s; t = t }
+
+one_size : (step : Meaning) (d : Dimensions) → is_searched step.settings ≡ false → Allows step d
+    → d ≡ dimensions_given step
+one_size step d fixed allowed =
+    let both = neither (has_most step.settings.blocks) (is_minimum step.settings.size)
+    (neither step.settings.least _ fixed).1 in
+    let runs : d.m ≡ run_factors step.settings.size 3 =
+    allowed.runs ∙ same_runs step.settings.size d.m 3 both.1 in
+    let given : d.t ≡ block_factors step.settings.blocks (run_factors step.settings.size 3) 3 =
+    allowed.blocks ∙ ap (λ (m : ℕ). block_factors step.settings.blocks m d.t) runs
+    ∙ same_blocks step.settings.blocks (run_factors step.settings.size 3) d.t 3 both.0 in
+    ap (λ (q : ℕ). dims q d.m d.s d.t) allowed.levels
+    ∙ ap (λ (m : ℕ). dims step.settings.q m d.s d.t) runs
+    ∙ ap (λ (s : ℕ). dims step.settings.q (run_factors step.settings.size 3) s d.t) allowed.factors
+    ∙ ap (dims step.settings.q (run_factors step.settings.size 3) (length step.factors)) given
+
+-- a canonical matrix can be given by rules
+canonical_given : (step : Meaning) (rows : List ℕ) (wanted : Requirement) → IsValidStep step
+    → is_searched step.settings ≡ false → length rows ≡ (dimensions_given step).s + (dimensions_given step).t
+    → is_canonical (dimensions_given step) wanted rows ≡ true → IsGiven (shape_given step) rows
+canonical_given step rows wanted valid fixed whole can =
+    let d : Dimensions = dimensions_given step in
+    let shape = shaped step valid fixed in
+    let f : IsField d.q = is_order-field d.q shape.order in
+    record {
+      matrix = record {
+        shaped = shape;
+        len = omega (arith, whole);
+        below = recursion_from_All _ rows ((canonical_decides d f rows wanted).0 can).below;
+      };
+      whole = whole;
+      stepped = canonical_stepped d wanted f [] rows can;
+    }
+
+read_back : (step : Meaning) → IsValidStep step → HasFactors step → IsReadBack step
+read_back step valid own plain matrix e =
+    of_ending Back (outcome_of step).dimensions (outcome_of step).ending matrix back e
+  where
+    Back : Dimensions → List ℕ → Type 0
+    Back d rows =
+        matrix_of_rules (shape_given step) step.factors (rules_section d step.factors rows)
+        ≡ Ok (record { shape = record { q = d.q; m = d.m; s = d.s; t = d.t }; rows = rows })
+
+    names : AreFactors (shape_given step) step.factors
+    names = record {
+      count = refl;
+      names = own.names;
+      distinct = own.distinct;
+      no_none = plain.no_none;
+      no_run = plain.no_run;
+      no_zero = plain.no_zero;
+    }
+
+    back : (rows : List ℕ) → rows_in (outcome_of step).ending ≡ Some rows → Back (outcome_of step).dimensions rows
+    back rows is =
+        let d : Dimensions = (outcome_of step).dimensions in
+        let asked = what_it_asks step valid rows is in
+        let same : d ≡ dimensions_given step = one_size step d plain.fixed asked.allowed in
+        let listed = canonical_listed step rows is in
+        let can = subst (λ (x : Dimensions). is_canonical x listed.0 rows ≡ true) same listed.1 in
+        let whole = subst (λ (x : Dimensions). length rows ≡ x.s + x.t) same asked.whole in
+        subst (λ (x : Dimensions). Back x rows) (sym same)
+        (way_back (shape_given step) step.factors rows names
+        (canonical_given step rows listed.0 valid plain.fixed whole can))
+
+each_back : (steps : List Meaning) → AllByRecursion IsValidStep steps → AllByRecursion HasFactors steps
+    → AllByRecursion IsReadBack steps
+each_back [] valid own = tt
+each_back (step ∷ steps) valid own = (read_back step valid.0 own.0, each_back steps valid.1 own.1)
+
+of_program : (program : Result (List Meaning) TextFault) → EachStep IsValidStep program
+    → ((steps : List Meaning) → program ≡ Ok steps → AreSteps steps) → EachStep IsReadBack program
+of_program (Ok steps) valid are =
+    All-from_recursion IsReadBack steps
+    (each_back steps (recursion_from_All IsValidStep steps valid) (are steps refl).factors)
+of_program (Err fault) valid are = tt
+
+pub listed_back : (text : List ℕ) → EachStep IsReadBack (program_in text)
+listed_back text =
+    of_program (program_in text) (any_text IsValidStep (λ step valid. valid) text) (steps_of_text text)
+
+-- ---- a text of one step behind its rules
+
+-- one step with its own part
+ruled_one : (text : List ℕ) (p : Part) (step : Meaning) (matrix : MatrixView) → is_searched step.settings ≡ false
+    → matrix_of_rules (shape_given step) step.factors (slice_range text p.at p.end) ≡ Ok matrix
+    → ruled_steps text (p ∷ []) (p.step ∷ []) (step ∷ []) ≡ Ok (record { step = step; matrix = matrix } ∷ [])
+ruled_one text p step matrix fixed read =
+    let same : (p.step == p.step) ≡ true = eq-eqb p.step p.step refl in rw (same, fixed, read) refl
+
+pub planned_back : (text : List ℕ) (step : Meaning) (matrix : MatrixView) → IsBehindItsRules text step matrix
+    → planned_in text ≡ Ok (record { step = step; matrix = matrix } ∷ [])
+unfolding planned_in
+planned_back text step matrix h =
+    let each = listed_back (blanked text (parts_of text)) in
+    let back : IsReadBack step =
+    All-head IsReadBack step [] (subst (EachStep IsReadBack) h.program each) in
+    let read : matrix_of_rules (shape_given step) step.factors (slice_range text h.part.at h.part.end) ≡ Ok matrix =
+    ap (matrix_of_rules (shape_given step) step.factors) h.rules ∙ back h.plain matrix h.listed in
+    ap₂ (λ (starts : List ℕ) (r : Result (List Meaning) TextFault). planned_by text (parts_of text) starts r)
+    h.its_step h.program
+    ∙ ap (λ (ps : List Part). ruled_steps text ps (h.part.step ∷ []) (step ∷ [])) h.one_part
+    ∙ ruled_one text h.part step matrix h.plain.fixed read
