@@ -1,5 +1,5 @@
 -- The rules of a design that `run` gives are read, by `plan`, as this design.
-use Rattle.std.proofs.Common.{ℕ, ◌≡◌, ◌∙◌, ◌+◌, ◌==◌, true, false, List, [], ◌∷◌, Some, Result, Ok, Err, length, refl, sym}
+use Rattle.std.proofs.Common.{ℕ, ◌≡◌, ◌∙◌, ◌+◌, ◌==◌, true, false, List, [], ◌∷◌, map, Some, Result, Ok, Err, length, refl, sym}
 use Rattle.std.proofs.Common.{ap, ap₂, subst, arith}
 use Rattle.std.specs.Prelude.{slice_range}
 use Rattle.std.specs.List.{AllByRecursion}
@@ -11,6 +11,8 @@ use Rattle.fx_designs.specs.Problems.{Dimensions, Requirement}
 use Rattle.fx_laws.proofs.CanonicalTest.{canonical_decides}
 use Rattle.fx_laws.proofs.Tables.{is_order-field}
 use Rattle.fx_vectors.specs.Matrix.{MatrixView}
+use Rattle.fx_vectors.specs.Shape.{dimensions_of}
+use Rattle.fx_vectors.specs.declared.shape.Shape.{Shape}
 use Rattle.fx_settings.specs.declared.settings.Blocks.{Blocks}
 use Rattle.fx_settings.specs.declared.settings.Blocks.TheVariants as blocks
 use Rattle.fx_settings.specs.declared.settings.Size.{Size}
@@ -29,14 +31,17 @@ use Rattle.fx_rules.specs.declared.parts.Part.{Part}
 use Rattle.fx_rules.proofs.Stepping.{canonical_stepped}
 use Rattle.fx_rules.proofs.WayBack.{way_back}
 use Rattle.fx_program.specs.Claims.{EachStep}
-use Rattle.fx_program.specs.Planning.{dimensions_given, is_minimum, is_searched, planned_by, planned_in, ruled_steps}
-use Rattle.fx_program.specs.Planning.{shape_given}
+use Rattle.fx_program.specs.Planning.{RuledView, dimensions_given, is_minimum, is_searched, planned_by, planned_in}
+use Rattle.fx_program.specs.Planning.{ruled_steps, shape_given}
 use Rattle.fx_program.specs.Texts.{program_in}
+use Rattle.fx_program.specs.declared.plan_fault.PlanFault.{PlanFault}
 use Rattle.fx_program.specs.declared.text.TextFault.{TextFault}
 use Rattle.fx_program.proofs.AnyText.{any_text}
-use Rattle.fx_program_laws.specs.ReadBack.{IsBehindItsRules, IsReadBack}
-use Rattle.fx_program_laws.proofs.GivenDesigns.{neither, shaped}
+use Rattle.fx_program_laws.specs.GivenDesigns.{EachRuled, HasGivenDesign}
+use Rattle.fx_program_laws.specs.ReadBack.{IsBehindItsRules, IsGivenBack, IsPlain, IsReadBack}
+use Rattle.fx_program_laws.proofs.GivenDesigns.{given_designs, neither, shaped}
 use Rattle.fx_program_laws.proofs.Listed.{of_ending}
+use Rattle.fx_program_laws.proofs.PlannedSteps.{are_planned}
 use Rattle.fx_program_laws.proofs.PrintedRules.{canonical_listed}
 use Rattle.fx_program_laws.proofs.StepCounts.{AreSteps, HasFactors, steps_of_text}
 
@@ -87,6 +92,17 @@ canonical_given step rows wanted valid fixed whole can =
       stepped = canonical_stepped d wanted f [] rows can;
     }
 
+-- the names of its factors
+factors_are : (step : Meaning) → HasFactors step → IsPlain step → AreFactors (shape_given step) step.factors
+factors_are step own plain = record {
+  count = refl;
+  names = own.names;
+  distinct = own.distinct;
+  no_none = plain.no_none;
+  no_run = plain.no_run;
+  no_zero = plain.no_zero;
+}
+
 read_back : (step : Meaning) → IsValidStep step → HasFactors step → IsReadBack step
 read_back step valid own plain matrix e =
     of_ending Back (outcome_of step).dimensions (outcome_of step).ending matrix back e
@@ -95,16 +111,6 @@ read_back step valid own plain matrix e =
     Back d rows =
         matrix_of_rules (shape_given step) step.factors (rules_section d step.factors rows)
         ≡ Ok (record { shape = record { q = d.q; m = d.m; s = d.s; t = d.t }; rows = rows })
-
-    names : AreFactors (shape_given step) step.factors
-    names = record {
-      count = refl;
-      names = own.names;
-      distinct = own.distinct;
-      no_none = plain.no_none;
-      no_run = plain.no_run;
-      no_zero = plain.no_zero;
-    }
 
     back : (rows : List ℕ) → rows_in (outcome_of step).ending ≡ Some rows → Back (outcome_of step).dimensions rows
     back rows is =
@@ -115,7 +121,7 @@ read_back step valid own plain matrix e =
         let can = subst (λ (x : Dimensions). is_canonical x listed.0 rows ≡ true) same listed.1 in
         let whole = subst (λ (x : Dimensions). length rows ≡ x.s + x.t) same asked.whole in
         subst (λ (x : Dimensions). Back x rows) (sym same)
-        (way_back (shape_given step) step.factors rows names
+        (way_back (shape_given step) step.factors rows (factors_are step own plain)
         (canonical_given step rows listed.0 valid plain.fixed whole can))
 
 each_back : (steps : List Meaning) → AllByRecursion IsValidStep steps → AllByRecursion HasFactors steps
@@ -133,6 +139,32 @@ of_program (Err fault) valid are = tt
 pub listed_back : (text : List ℕ) → EachStep IsReadBack (program_in text)
 listed_back text =
     of_program (program_in text) (any_text IsValidStep (λ step valid. valid) text) (steps_of_text text)
+
+-- what `plan` lists
+given_back : (one : RuledView) → HasGivenDesign one → HasFactors one.step → IsGivenBack one
+given_back one design own plain =
+    let rows : List ℕ = one.matrix.rows in
+    subst (λ (shape : Shape). matrix_of_rules (shape_given one.step) one.step.factors
+    (rules_section (dimensions_of shape) one.step.factors rows) ≡ Ok (record { shape = shape; rows = rows }))
+    (sym design.of_rules.shape_is)
+    (way_back (shape_given one.step) one.step.factors rows (factors_are one.step own plain) design.of_rules.given)
+
+each_given_back : (all : List RuledView) → AllByRecursion HasGivenDesign all
+    → AllByRecursion HasFactors (map (λ (one : RuledView). one.step) all) → AllByRecursion IsGivenBack all
+each_given_back [] designs own = tt
+each_given_back (one ∷ all) designs own = (given_back one designs.0 own.0, each_given_back all designs.1 own.1)
+
+of_plan : (text : List ℕ) (plan : Result (List RuledView) PlanFault) → planned_in text ≡ plan
+    → EachRuled HasGivenDesign plan → EachRuled IsGivenBack plan
+of_plan text (Ok all) is designs =
+    let steps : List Meaning = map (λ (one : RuledView). one.step) all in
+    let read = steps_of_text (blanked text (parts_of text)) steps (are_planned text all is).program in
+    All-from_recursion IsGivenBack all
+    (each_given_back all (recursion_from_All HasGivenDesign all designs) read.factors)
+of_plan text (Err wrong) is designs = tt
+
+pub planned_rules_back : (text : List ℕ) → EachRuled IsGivenBack (planned_in text)
+planned_rules_back text = of_plan text (planned_in text) refl (given_designs text)
 
 -- ---- a text of one step behind its rules
 

@@ -10,7 +10,7 @@ use Rattle.fx_rules.specs.Parts.{blanked, parts_of}
 use Rattle.fx_rules.specs.Reading.{matrix_of_rules}
 use Rattle.fx_rules.specs.declared.parts.Part.{Part}
 use Rattle.fx_program.specs.Files.{matrix_in}
-use Rattle.fx_program.specs.Planning.{is_searched, shape_given, step_starts}
+use Rattle.fx_program.specs.Planning.{RuledView, is_searched, shape_given, step_starts}
 use Rattle.fx_program.specs.Texts.{program_in}
 
 -- A step that leaves nothing to a search but its rules: its runs are fixed, and its blocks, and no least pattern is
@@ -33,6 +33,11 @@ listed_rules step matrix = rules_section (dimensions_of matrix.shape) step.facto
 abbrev pub IsReadBack : Meaning → Type 0
 IsReadBack step = IsPlain step → (matrix : MatrixView) → IsListed step matrix
     → matrix_of_rules (shape_given step) step.factors (listed_rules step matrix) ≡ Ok matrix
+
+-- and so is what `plan` lists of the rules of such a step
+abbrev pub IsGivenBack : RuledView → Type 0
+IsGivenBack one = IsPlain one.step
+    → matrix_of_rules (shape_given one.step) one.step.factors (listed_rules one.step one.matrix) ≡ Ok one.matrix
 
 -- a text of one plain step, behind a part that is what `run` lists of the rules of the step's matrix
 pub record IsBehindItsRules (text : List ℕ) (step : Meaning) (matrix : MatrixView) : Type 0 where

@@ -36,7 +36,7 @@ ghost use Rattle.fx_program.specs.Plans.{AskedView};
 ghost use Rattle.fx_program_laws.specs.Endings.{EndsWith};
 ghost use Rattle.fx_program_laws.specs.GivenDesigns.{EachRuled, HasGivenDesign};
 ghost use Rattle.fx_program_laws.specs.PrintedRules.{HasRulesThatGiveTheLevels};
-ghost use Rattle.fx_program_laws.specs.ReadBack.{IsBehindItsRules, IsReadBack};
+ghost use Rattle.fx_program_laws.specs.ReadBack.{IsBehindItsRules, IsGivenBack, IsReadBack};
 ghost use Rattle.fx_tree.specs.Laws.{IsFirstOfLeastPattern};
 ghost use Rattle.fx_answer.specs.StepClaims.{
   Allows,
@@ -143,10 +143,11 @@ pub fn given_designs_in_any_text()
 {}
 
 /// Whatever a text says: what `run` lists of the rules of a step that leaves nothing to a search but its
-/// rules is read, as the rules of this step, as the same matrix (`rules`). So `plan` gives the matrix of
-/// `run` where these rules are put before the text of the step (`plan`).
+/// rules is read, as the rules of this step, as the same matrix (`rules`), and so is what `plan` lists
+/// (`given`). So `plan` gives the matrix of `run` where its rules are put before the text of the step (`plan`).
 pub fn listed_rules_are_read_back()
     ensures rules { (text : List ℕ) → EachStep IsReadBack (program_in text) }
+    ensures given { (text : List ℕ) → EachRuled IsGivenBack (planned_in text) }
     ensures plan { (text : List ℕ) (step : Meaning) (matrix : MatrixView) → IsBehindItsRules text step matrix
         → planned_in text ≡ Ok (record { step = step; matrix = matrix } ∷ []) }
 {}
