@@ -121,6 +121,13 @@ def try_texts(clone):
         expect(f"{words} are refused before anything is read", clone.run(words, stdin=end).returncode == 3)
         os.close(main)
         os.close(end)
+    rules = b"rules C=A*B\nproc factex; factors A B C; size design=4; output out=given;\n"
+    file.write_bytes(rules)
+    for words in (["plan", "a text.sas"], ["plan", "-"], ["plan", "--seed=1"]):
+        ran = clone.run(words, rules)
+        expect(" ".join(words), ran.returncode == 0 and b"\ndesign 4 runs given\n" in ran.stdout and list(ran.files) == ["given.csv"])
+    ran = clone.run(["plan"], rules.replace(b"A*B", b"A*A"))
+    expect("rules are explained", ran.returncode == 3 and ran.stderr.startswith(b"    rules C=A*A\n              ^\nP5: "))
     expect("a plan to be judged", clone.run(["judge", "2", "-"], b"A,B\n1,2\n").stderr.startswith(b"    1,2\n"))
     file.unlink()
 
