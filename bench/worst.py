@@ -17,7 +17,7 @@ DEFAULT_NODES = 1_000_000
 Bound = collections.namedtuple("Bound", "unit seconds each megabytes")
 BOUNDS = {
     "run": Bound("nodes", 2, 20, 250),
-    "plan": Bound("steps", 2, 2_000_000, 250),
+    "plan": Bound("steps", 2, 3_000_000, 250),
     "check": Bound("entries", 3, 15, 550),
     "upgrade": Bound("bytes", 2, 1, 550),
     "judge": Bound("bytes", 2, 2, 50),
