@@ -154,7 +154,7 @@ const REFUSED: [(&str, &str); 9] = [
         "P10 2:2 a minimum, a maximum or MINABS with rules",
     ),
     (
-        "rules none\nproc factex;factors A B;size design=4;blocks nblocks=maximum;",
+        "rules none\nproc factex;factors A B;size design=4;model r=3;blocks nblocks=maximum;",
         "P10 1:1 a minimum, a maximum or MINABS with rules",
     ),
     (
