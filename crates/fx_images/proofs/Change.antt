@@ -21,7 +21,7 @@ use Rattle.fx_base.proofs.Lists.{each-append}
 use Rattle.fx_images.proofs.Falls.{formed-room}
 
 -- what the levels of a combination of rows are
-combination-levels : (q : ℕ) (f : IsField q) (m : ℕ) (a : List (List ℕ)) (u : List ℕ) (rows : List (List ℕ))
+pub combination-levels : (q : ℕ) (f : IsField q) (m : ℕ) (a : List (List ℕ)) (u : List ℕ) (rows : List (List ℕ))
     → combination q (length a) u (map (levels_at q a) rows) ≡ levels_at q a (combination q m u rows)
 combination-levels q f m a [] rows = sym (levels-zeros q f a m)
 combination-levels q f m a (c ∷ u) [] = sym (levels-zeros q f a m)
@@ -93,12 +93,12 @@ module _ (q m : ℕ) (f : IsField q) (rows : List (List ℕ)) (len : length rows
   pub by-vector : (v : List ℕ) → IsVector q m (by v)
   by-vector v = subst (λ n. IsVector q n (by v)) len (levels-vector q f rows v)
 
-  by-combination : (u : List ℕ) (ws : List (List ℕ)) → combination q m u (map by ws) ≡ by (combination q m u ws)
+  pub by-combination : (u : List ℕ) (ws : List (List ℕ)) → combination q m u (map by ws) ≡ by (combination q m u ws)
   by-combination u ws = subst (λ n. combination q n u (map by ws) ≡ by (combination q m u ws)) len
       (combination-levels q f m rows u ws)
 
   -- what is taken to unit vectors is independent
-  rank-lifted : (k j : ℕ) (bs ws : List (List ℕ)) → k + j ≡ m → AreVectors q m bs → AreVectors q m ws
+  pub rank-lifted : (k j : ℕ) (bs ws : List (List ℕ)) → k + j ≤ m → AreVectors q m bs → AreVectors q m ws
       → Spans q m k (map by bs) → map by ws ≡ units_from m k j → rank_after q m bs ws ≡ j
   rank-lifted k zero bs [] e hb hw h is = refl
   rank-lifted k zero bs (w ∷ ws) e hb hw h is = absurd (cc is)

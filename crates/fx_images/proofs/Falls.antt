@@ -56,7 +56,7 @@ falls_at q (x ∷ y ∷ xs) (suc k) h below =
     subst (λ z. number q (row (x ∷ y ∷ xs) z) < number q (row (y ∷ xs) k)) e (falls_at q (y ∷ xs) k h.1 (omega arith))
 
 module _ (q m : ℕ) (f : IsField q) where
-  free-tail : (x : List ℕ) (xs : List (List ℕ)) → AreVectors q m (x ∷ xs) → IsWordFree q m f (x ∷ xs) → IsWordFree q m f xs
+  pub free-tail : (x : List ℕ) (xs : List (List ℕ)) → AreVectors q m (x ∷ xs) → IsWordFree q m f (x ∷ xs) → IsWordFree q m f xs
   free-tail x xs h free u hu some few e =
       free (0 ∷ u) (record {
         len = (let e' = hu.len in omega arith);
@@ -117,7 +117,7 @@ module _ (q m : ℕ) (f : IsField q) where
       (rw two (omega arith)) (rw two (omega arith))
       (ap (λ v. plus q v (combination q m u xs)) (scale-one q m f x h.0) ∙ e))
 
-  free-nonzero : (xs : List (List ℕ)) → AreVectors q m xs → IsWordFree q m f xs → AllByRecursion (λ r. r ≡ zeros m → ⊥) xs
+  pub free-nonzero : (xs : List (List ℕ)) → AreVectors q m xs → IsWordFree q m f xs → AllByRecursion (λ r. r ≡ zeros m → ⊥) xs
   free-nonzero [] h free = tt
   free-nonzero (x ∷ xs) h free = (free-zero x xs h free, free-nonzero xs h.1 (free-tail x xs h free))
 
@@ -130,7 +130,7 @@ module _ (q m : ℕ) (f : IsField q) where
       let apart : number q x ≡ number q y → ⊥ = λ e. d.0 (number-same q m f x y hx h.0 e) in
       (omega arith, strict_below x ys hx h.1 d.1 w.1)
 
-  free-strict : (xs : List (List ℕ)) → AreVectors q m xs → IsWordFree q m f xs → FallsWeakly q xs → FallsStrictly q xs
+  pub free-strict : (xs : List (List ℕ)) → AreVectors q m xs → IsWordFree q m f xs → FallsWeakly q xs → FallsStrictly q xs
   free-strict [] h free w = tt
   free-strict (x ∷ xs) h free w =
       (strict_below x xs h.0 h.1 (free-differs x xs h free) w.0, free-strict xs h.1 (free-tail x xs h free) w.1)

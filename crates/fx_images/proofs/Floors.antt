@@ -46,7 +46,7 @@ least-with k x xs = elim (cases_Bool (nat_le (length xs) k)) [
 ]
 
 -- without it, where there are enough others
-least-without : (k x : ℕ) (xs : List ℕ) → suc k ≤ length xs → least_sum (suc k) (x ∷ xs) ≤ least_sum (suc k) xs
+pub least-without : (k x : ℕ) (xs : List ℕ) → suc k ≤ length xs → least_sum (suc k) (x ∷ xs) ≤ least_sum (suc k) xs
 least-without k x xs h = elim (cases_Bool (nat_le (length xs) k)) [
   | inl t ↦ absurd (let low : length xs ≤ k = grind (arith, nat_tests, t) in omega arith)
   | inr o ↦ subst (λ n. n ≤ least_sum (suc k) xs)

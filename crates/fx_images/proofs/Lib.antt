@@ -1,15 +1,15 @@
-mod Lists
-mod Change
-mod Falls
+pub mod Lists
+pub mod Change
+pub mod Falls
 mod Better
-mod Matrices
-mod Room
+pub mod Matrices
+pub mod Room
 mod Checker
-mod Floors
+pub mod Floors
 mod Good
 pub mod Sound
 mod Moving
-mod Comparing
+pub mod Comparing
 mod Examples
-mod Least
+pub mod Least
 mod NewWords

@@ -60,7 +60,7 @@ all_range p a (suc n) h i low high =
           all_range p (a + 1) n parts.1 i (omega arith) (omega arith)
     ]
 
-any_range : (p : ℕ → Bool) (a n i : ℕ) → a ≤ i → i < a + n → p i ≡ true → list_any p (range_with_len a n) ≡ true
+pub any_range : (p : ℕ → Bool) (a n i : ℕ) → a ≤ i → i < a + n → p i ≡ true → list_any p (range_with_len a n) ≡ true
 any_range p a zero i low high h = absurd (omega arith)
 any_range p a (suc n) i low high h =
     elim (cases_Bool (eqb a i)) [
@@ -70,14 +70,14 @@ any_range p a (suc n) i low high h =
           or_right (p a) (list_any p (range_with_len (a + 1) n)) (any_range p (a + 1) n i (omega arith) (omega arith) h)
     ]
 
-found_range : (p : ℕ → Bool) (a n : ℕ) → list_any p (range_with_len a n) ≡ true → (i : ℕ) × (i < a + n) × (p i ≡ true)
+pub found_range : (p : ℕ → Bool) (a n : ℕ) → list_any p (range_with_len a n) ≡ true → (i : ℕ) × (i < a + n) × (p i ≡ true)
 found_range p a zero h = absurd (cc h)
 found_range p a (suc n) h = elim (or_cases (p a) (list_any p (range_with_len (a + 1) n)) h) [
   | inl here ↦ (a, omega arith, here)
   | inr later ↦ (let r = found_range p (a + 1) n later in (r.0, omega (arith, r.1), r.2))
 ]
 
-each_range : (P : ℕ → Type 0) (a n : ℕ) → ((i : ℕ) → a ≤ i → i < a + n → P i) → AllByRecursion P (range_with_len a n)
+pub each_range : (P : ℕ → Type 0) (a n : ℕ) → ((i : ℕ) → a ≤ i → i < a + n → P i) → AllByRecursion P (range_with_len a n)
 each_range P a zero h = tt
 each_range P a (suc n) h =
     (h a (omega arith) (omega arith), each_range P (a + 1) n (λ i low high. h i (omega arith) (omega arith)))
@@ -90,7 +90,7 @@ swapped-map g zero (x ∷ y ∷ xs) = refl
 swapped-map g (suc k) [] = refl
 swapped-map g (suc k) (x ∷ xs) = ap (λ z. g x ∷ z) (swapped-map g k xs)
 
-reordered-map : {X Y : Type 0} (g : X → Y) (ks : List ℕ) (xs : List X)
+pub reordered-map : {X Y : Type 0} (g : X → Y) (ks : List ℕ) (xs : List X)
     → map g (reordered ks xs) ≡ reordered ks (map g xs)
 reordered-map g [] xs = refl
 reordered-map g (k ∷ ks) xs = reordered-map g ks (swapped k xs) ∙ ap (reordered ks) (swapped-map g k xs)
@@ -100,7 +100,7 @@ member-left x [] ys h = absurd h
 member-left x (y ∷ xs) ys (inl e) = inl e
 member-left x (y ∷ xs) ys (inr h) = inr (member-left x xs ys h)
 
-any_member : (g : ℕ → ℕ) (x : ℕ) (rows : List ℕ) → list_any (λ r. eqb (g r) x) rows ≡ true → IsMember x (map g rows)
+pub any_member : (g : ℕ → ℕ) (x : ℕ) (rows : List ℕ) → list_any (λ r. eqb (g r) x) rows ≡ true → IsMember x (map g rows)
 any_member g x [] h = absurd (cc h)
 any_member g x (r ∷ rows) h = elim (or_cases (eqb (g r) x) (list_any (λ r. eqb (g r) x) rows) h) [
   | inl e ↦ inl (eqb-true (g r) x e)
@@ -121,7 +121,7 @@ module _ (d : Dimensions) (f : IsField d.q) where
   some = omega (arith, f.more_than_one)
 
   -- the unit vectors and their numbers
-  units-vectors : (k j : ℕ) → k + j ≤ d.m
+  pub units-vectors : (k j : ℕ) → k + j ≤ d.m
       → vectors_of d.q d.m (map (λ i. d.q ^ i) (range_with_len k j)) ≡ units_from d.m k j
   units-vectors k zero h = refl
   units-vectors k (suc j) h =
@@ -136,7 +136,7 @@ module _ (d : Dimensions) (f : IsField d.q) where
       ∙ digits-unit d.q d.m j f low in
       unit-long d.m j low (subst (IsShort j) same (short-le (suc i) j (unit d.m i) (omega arith) (unit_short d.m i)))
 
-  units-differ : (k j : ℕ) → k + j ≤ d.m → Differ (map (λ i. d.q ^ i) (range_with_len k j))
+  pub units-differ : (k j : ℕ) → k + j ≤ d.m → Differ (map (λ i. d.q ^ i) (range_with_len k j))
   units-differ k zero h = tt
   units-differ k (suc j) h = (
     each-map (λ y. d.q ^ k ≡ y → ⊥) (λ i. d.q ^ i) (range_with_len (k + 1) j)
@@ -149,7 +149,7 @@ module _ (d : Dimensions) (f : IsField d.q) where
       (eq-eqb (d.q ^ i) (d.q ^ i) refl)
 
   -- rows of which none is a unit vector
-  no-units : (ys : List ℕ) → ((i : ℕ) → i < d.m → AllByRecursion (λ v. unit d.m i ≡ v → ⊥) (vectors_of d.q d.m ys))
+  pub no-units : (ys : List ℕ) → ((i : ℕ) → i < d.m → AllByRecursion (λ v. unit d.m i ≡ v → ⊥) (vectors_of d.q d.m ys))
       → filter (λ r. not (is_unit d r)) ys ≡ ys
   no-units [] h = refl
   no-units (y ∷ ys) h = elim (cases_Bool (is_unit d y)) [
@@ -164,7 +164,7 @@ module _ (d : Dimensions) (f : IsField d.q) where
         ∙ ap (λ z. y ∷ z) (no-units ys (λ i low. (h i low).1))
   ]
 
-  falls-weakly : (ys : List ℕ) → AllByRecursion (λ r. r < d.q ^ d.m) ys → Falls ys
+  pub falls-weakly : (ys : List ℕ) → AllByRecursion (λ r. r < d.q ^ d.m) ys → Falls ys
       → FallsWeakly d.q (vectors_of d.q d.m ys)
   falls-weakly [] low h = tt
   falls-weakly (y ∷ ys) low h = (each ys low.1 h.0, falls-weakly ys low.1 h.1)
@@ -176,14 +176,14 @@ module _ (d : Dimensions) (f : IsField d.q) where
           (rw (number-digits d.q d.m z some low'.0, number-digits d.q d.m y some low.0) h.0, each zs low'.1 h.1)
 
   module _ (change : List ℕ) (count : length change ≡ d.m) where
-    abbrev by : List ℕ → List ℕ
+    abbrev pub by : List ℕ → List ℕ
     by v = levels_at d.q (vectors_of d.q d.m change) v
 
-    many : length (vectors_of d.q d.m change) ≡ d.m
+    pub many : length (vectors_of d.q d.m change) ≡ d.m
     many = length-map change (λ r. digits d.q d.m r) ∙ count
 
     -- vectors that the change takes to the unit vectors
-    preimage : (i : ℕ) (rows : List ℕ) → i < d.m → IsMember (d.q ^ i) (map (moved d change) rows)
+    pub preimage : (i : ℕ) (rows : List ℕ) → i < d.m → IsMember (d.q ^ i) (map (moved d change) rows)
         → (w : List ℕ) × IsVector d.q d.m w × (by w ≡ unit d.m i)
     preimage i [] low h = absurd h
     preimage i (r ∷ rows) low (inr h) = preimage i rows low h
@@ -201,7 +201,7 @@ module _ (d : Dimensions) (f : IsField d.q) where
               (e ∙ sym (number-unit d.q d.m i low)),
         )
 
-    preimages : (rows : List ℕ) → IsExchange d change rows → (k j : ℕ) → k + j ≤ d.m
+    pub preimages : (rows : List ℕ) → IsExchange d change rows → (k j : ℕ) → k + j ≤ d.m
         → (ws : List (List ℕ)) × AreVectors d.q d.m ws × (map by ws ≡ units_from d.m k j)
     preimages rows h k zero room = ([], tt, refl)
     preimages rows h k (suc j) room =
@@ -209,19 +209,19 @@ module _ (d : Dimensions) (f : IsField d.q) where
         let more = preimages rows h (suc k) j (omega arith) in
         (one.0 ∷ more.0, (one.1, more.1), ap₂ (λ x xs. x ∷ xs) one.2 more.2)
 
-    invertible : (rows : List ℕ) → IsExchange d change rows → IsChange d.q d.m by
+    pub invertible : (rows : List ℕ) → IsExchange d change rows → IsChange d.q d.m by
     invertible rows h =
         let ws = preimages rows h 0 d.m (omega arith) in
         is-change d.q d.m f (vectors_of d.q d.m change) many ws.0 ws.1 ws.2
 
     -- the normal multiples of what the change makes of rows
-    abbrev changed : List ℕ → List (List ℕ)
+    abbrev pub changed : List ℕ → List (List ℕ)
     changed rows = map by (vectors_of d.q d.m rows)
 
-    abbrev normed : List ℕ → List (List ℕ)
+    abbrev pub normed : List ℕ → List (List ℕ)
     normed rows = scaled d.q (map (normal_factor d.q d.m f) (changed rows)) (changed rows)
 
-    numbers : (rows : List ℕ) → map (number d.q) (normed rows) ≡ map (moved d change) rows
+    pub numbers : (rows : List ℕ) → map (number d.q) (normed rows) ≡ map (moved d change) rows
     numbers [] = refl
     numbers (r ∷ rows) = ap (λ z. moved d change r ∷ z) (numbers rows)
 

@@ -1,0 +1,81 @@
+-- With more rows no word of two factors becomes clear.
+use Rattle.std.proofs.Common.{ℕ, ◌≡◌, ◌<◌, ◌≤◌, Bool, true, false, cond, eqb, ◌&&◌, List, ◌++◌, length, refl, sym, ◌∙◌}
+use Rattle.std.proofs.Common.{ap, arith, inl, inr, le_trans}
+use Rattle.std.specs.Prelude.{nat_lt}
+use Rattle.std.proofs.lemmas.Bool.{or_cases, or_left, or_right, lt-ltb, ltb-true}
+use Rattle.std.proofs.lemmas.List.{map-append}
+use Rattle.std.proofs.lemmas.List.Elements.{recursion_from_All}
+use Rattle.fx_designs.specs.Galois.{IsField, digits}
+use Rattle.fx_designs.specs.Vectors.{IsVector, weight, combination, vectors_of}
+use Rattle.fx_designs.specs.Runs.{points}
+use Rattle.fx_designs.specs.Spans.{in_span}
+use Rattle.fx_laws.proofs.Shift.{all-points}
+use Rattle.fx_laws.proofs.Raises.{sum_by-le}
+use Rattle.fx_laws.proofs.CanonicalTest.{rows-vectors}
+use Rattle.fx_strata.specs.Designs.{Strata}
+use Rattle.fx_strata.specs.Words.{words_in}
+use Rattle.fx_strata.specs.Sums.{effects_at, is_unclear_sum}
+use Rattle.fx_strata.specs.Canonical.{base, unclear}
+use Rattle.fx_strata.proofs.Totals.{total, total-turned, total-more, counted}
+use Rattle.fx_strata.proofs.Unclear.{near, effects-total}
+
+pub one-less : (a b c : Bool) → (a ≡ true → b ≡ true) → cond {A = ℕ} (a && c) 1 0 ≤ cond {A = ℕ} (b && c) 1 0
+one-less true b c h = (let e = h refl in rw e (omega arith))
+one-less false true true h = omega arith
+one-less false true false h = omega arith
+one-less false false c h = omega arith
+
+module _ (x : Strata) (f : IsField x.q) where
+  -- of more rows there is no less
+  pub total-longer : (g : ℕ → List ℕ → ℕ) (c s : List ℕ)
+      → total x.q x.m f g (vectors_of x.q x.m c) ≤ total x.q x.m f g (vectors_of x.q x.m (c ++ s))
+  total-longer g c s =
+      let vc : List (List ℕ) = vectors_of x.q x.m c in
+      let vs : List (List ℕ) = vectors_of x.q x.m s in
+      let more = total-more x.q x.m f g vs vc (rows-vectors x.q x.m f s) (rows-vectors x.q x.m f c) in
+      let last : total x.q x.m f g (vs ++ vc) ≡ total x.q x.m f g (vectors_of x.q x.m (c ++ s)) =
+      total-turned x.q x.m f g vs vc ∙ ap (total x.q x.m f g) (sym (map-append (λ r. digits x.q x.m r) c s)) in
+      omega arith
+
+  -- of a greater value there is no less
+  pub total-less : (g h : ℕ → List ℕ → ℕ) (zs : List (List ℕ))
+      → ((u : List ℕ) → IsVector x.q (length zs) u
+      → g (weight u) (combination x.q x.m u zs) ≤ h (weight u) (combination x.q x.m u zs))
+      → total x.q x.m f g zs ≤ total x.q x.m f h zs
+  total-less g h zs less =
+      sum_by-le (λ u. g (weight u) (combination x.q x.m u zs)) (λ u. h (weight u) (combination x.q x.m u zs))
+      (points x.q (length zs))
+      (recursion_from_All _ (points x.q (length zs)) (all-points x.q (length zs) (omega (arith, f.more_than_one))
+      (λ u. g (weight u) (combination x.q x.m u zs) ≤ h (weight u) (combination x.q x.m u zs)) less))
+
+  pub effects-longer : (c s v : List ℕ)
+      → effects_at x.q x.m (vectors_of x.q x.m c) v ≤ effects_at x.q x.m (vectors_of x.q x.m (c ++ s)) v
+  effects-longer c s v =
+      let a = effects-total x.q x.m f (vectors_of x.q x.m c) v in
+      let b = effects-total x.q x.m f (vectors_of x.q x.m (c ++ s)) v in
+      let more = total-longer (near x.q x.m f v) c s in
+      omega arith
+
+  pub unclear-longer : (c s v : List ℕ) → is_unclear_sum x (base x) (vectors_of x.q x.m c) v ≡ true
+      → is_unclear_sum x (base x) (vectors_of x.q x.m (c ++ s)) v ≡ true
+  unclear-longer c s v t = elim (or_cases (in_span x.q x.m (base x) v)
+      (nat_lt 1 (effects_at x.q x.m (vectors_of x.q x.m c) v)) t) [
+        | inl i ↦ or_left _ _ i
+        | inr l ↦
+            let more : 1 < effects_at x.q x.m (vectors_of x.q x.m c) v = ltb-true _ _ l in
+            let up = effects-longer c s v in
+            let few : 1 < effects_at x.q x.m (vectors_of x.q x.m (c ++ s)) v = omega arith in
+            or_right _ _ (lt-ltb _ _ few)
+      ]
+
+  pub unclear-more : (c s : List ℕ) → unclear x c ≤ unclear x (c ++ s)
+  unfolding words_in
+  unclear-more c s =
+      let old : List ℕ → Bool = is_unclear_sum x (base x) (vectors_of x.q x.m c) in
+      let new : List ℕ → Bool = is_unclear_sum x (base x) (vectors_of x.q x.m (c ++ s)) in
+      le_trans
+      (total-less (counted x.q x.m f old 2) (counted x.q x.m f new 2) (vectors_of x.q x.m c)
+      (λ u hu. one-less (old (combination x.q x.m u (vectors_of x.q x.m c)))
+      (new (combination x.q x.m u (vectors_of x.q x.m c))) (eqb (weight u) 2)
+      (unclear-longer c s (combination x.q x.m u (vectors_of x.q x.m c)))))
+      (total-longer (counted x.q x.m f new 2) c s)

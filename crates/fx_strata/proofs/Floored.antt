@@ -1,0 +1,395 @@
+-- No design below a prefix is worth less than its floor.
+use Rattle.std.proofs.Common.{ℕ, ◌≡◌, ◌<◌, ◌≤◌, ◌+◌, ◌-◌, ◌*◌, zero, suc, Bool, true, false, not, cond, eqb, ◌&&◌}
+use Rattle.std.proofs.Common.{eqb-true, List, [], ◌∷◌, ◌++◌, map, length, take, refl, sym, subst, ◌∙◌, ap, ap₂, arith}
+use Rattle.std.proofs.Common.{inl, inr, Some, append_assoc, length-append, le_trans, drop, take-append-drop, append-nil}
+use Rattle.std.proofs.lemmas.Bool.{both_ways, false_from_ne_true, and_from, ltb-true, cases_Bool, cases_eq, cases_lt}
+use Rattle.std.proofs.lemmas.Bool.{cond-true, cond-false, and_parts, or_cases, not-true, le-ltb, or_from, and_right}
+use Rattle.std.proofs.lemmas.Bool.{lt-ltb}
+use Rattle.std.specs.List.{filter, sum_by, AllByRecursion}
+use Rattle.std.proofs.lemmas.List.{map-append, length-map, take-append-le, take_all}
+use Rattle.std.proofs.lemmas.List.Sums.{sum_by-cons}
+use Rattle.std.proofs.Math.Nat.{mul-le-mul_left}
+use Rattle.std.specs.Prelude.{nat_lt, count_by}
+use Rattle.fx_designs.specs.Galois.{IsField, digits}
+use Rattle.fx_designs.specs.Vectors.{is_zero, vectors_of}
+use Rattle.fx_designs.specs.Problems.{Dimensions}
+use Rattle.fx_designs.specs.Patterns.{is_less}
+use Rattle.fx_designs.specs.Answers.{falling}
+use Rattle.fx_laws.proofs.Sums.{sum_by-ext, sum_by-zero, sum_by_map}
+use Rattle.fx_laws.proofs.CanonicalTest.{rows-vectors, take-vectors}
+use Rattle.fx_reduction.proofs.PatternOrder.{not_above}
+use Rattle.fx_images.specs.Floors.{least_sum}
+use Rattle.fx_images.proofs.Floors.{least-with, least-without}
+use Rattle.fx_strata.specs.Designs.{Strata, Part, Words, Unclear, Order, part_of, key_of, Figures}
+use Rattle.fx_strata.specs.Words.{words_in}
+use Rattle.fx_strata.specs.Sums.{is_in_base}
+use Rattle.fx_strata.specs.Canonical.{dimensions_of, base, words, unclear, figures, is_later, AreLater, IsLaid}
+use Rattle.fx_strata.specs.Canonical.{IsDesign}
+use Rattle.fx_strata.specs.Clear.{is_live, live_sums, pairs}
+use Rattle.fx_strata.specs.Stages.{stage_after, has_units, bound, later_rows, missing}
+use Rattle.fx_strata.specs.Floors.{new_words, is_spare, taking, unclear_floor, needs_none, floor_at, floor}
+use Rattle.fx_strata.specs.Floors.{does_not_beat, cannot_beat}
+use Rattle.fx_strata.specs.Laws.{NoneWithoutRoom, NoneBelow}
+use Rattle.fx_strata.proofs.Totals.{total, total-turned, total-more, added, counted}
+use Rattle.fx_strata.proofs.Free.{IsFree, each-none}
+use Rattle.fx_strata.proofs.Rests.{Rest, fits}
+use Rattle.fx_strata.proofs.Follows.{rest, no_room}
+use Rattle.fx_strata.proofs.Clearer.{unclear-more}
+use Rattle.fx_strata.proofs.Live.{not-clear}
+use Rattle.fx_strata.proofs.First.{others-live}
+
+-- rows that come have at least the least sum of all that can come
+come-sum : (d : Dimensions) (from : ℕ) (g : ℕ → ℕ) (n : ℕ) (xs : List ℕ) → AreLater d from n xs
+    → least_sum (length xs) (map g (filter (λ r. is_later d from r) (falling n))) ≤ sum_by g xs
+come-sum d from g n [] h = omega arith
+come-sum d from g zero (x ∷ xs) h = absurd (let e = h.1 in omega arith)
+come-sum d from g (suc n) (x ∷ xs) h =
+    let rest : List ℕ = filter (λ r. is_later d from r) (falling n) in
+    let k : ℕ = length xs in
+    let sum : sum_by g (x ∷ xs) ≡ g x + sum_by g xs = sum_by-cons g x xs in
+    elim (cases_eq x n) [
+      | inl e ↦
+          let on : is_later d from n ≡ true = subst (λ z. is_later d from z ≡ true) e h.0 in
+          let less : least_sum k (map g rest) ≤ sum_by g xs =
+          come-sum d from g n xs (subst (λ z. AreLater d from z xs) e h.2) in
+          let with : least_sum (suc k) (g n ∷ map g rest) ≤ g n + least_sum k (map g rest) =
+          least-with k (g n) (map g rest) in
+          let same : g x ≡ g n = ap g e in
+          subst (λ l. least_sum (suc k) (map g l) ≤ sum_by g (x ∷ xs))
+          (sym (cond-true (is_later d from n) (n ∷ rest) rest on)) (omega arith)
+      | inr ne ↦
+          let low : x < n = (let e = h.1 in omega arith) in
+          let less : least_sum (suc k) (map g rest) ≤ sum_by g (x ∷ xs) =
+          come-sum d from g n (x ∷ xs) (h.0, low, h.2) in
+          elim (cases_Bool (is_later d from n)) [
+            | inl t ↦
+                let many : suc k ≤ length rest = fits d from n (x ∷ xs) (h.0, low, h.2) in
+                let out : least_sum (suc k) (g n ∷ map g rest) ≤ least_sum (suc k) (map g rest) =
+                least-without k (g n) (map g rest) (let e = length-map rest g in omega arith) in
+                subst (λ l. least_sum (suc k) (map g l) ≤ sum_by g (x ∷ xs))
+                (sym (cond-true (is_later d from n) (n ∷ rest) rest t)) (omega arith)
+            | inr o ↦ subst (λ l. least_sum (suc k) (map g l) ≤ sum_by g (x ∷ xs))
+                (sym (cond-false (is_later d from n) (n ∷ rest) rest o)) less
+          ]
+    ]
+
+-- of rows that come no more pass a test than of all that can come
+come-count : (d : Dimensions) (from : ℕ) (p : ℕ → Bool) (n : ℕ) (xs : List ℕ) → AreLater d from n xs
+    → count_by p xs ≤ count_by p (filter (λ r. is_later d from r) (falling n))
+come-count d from p n [] h = omega arith
+come-count d from p zero (x ∷ xs) h = absurd (let e = h.1 in omega arith)
+come-count d from p (suc n) (x ∷ xs) h =
+    let rest : List ℕ = filter (λ r. is_later d from r) (falling n) in
+    let head : count_by p (n ∷ rest) ≡ cond (p n) 1 0 + count_by p rest = sum_by-cons (λ r. cond (p r) 1 0) n rest in
+    let first : count_by p (x ∷ xs) ≡ cond (p x) 1 0 + count_by p xs = sum_by-cons (λ r. cond (p r) 1 0) x xs in
+    elim (cases_eq x n) [
+      | inl e ↦
+          let on : is_later d from n ≡ true = subst (λ z. is_later d from z ≡ true) e h.0 in
+          let less : count_by p xs ≤ count_by p rest =
+          come-count d from p n xs (subst (λ z. AreLater d from z xs) e h.2) in
+          let same : cond {A = ℕ} (p x) 1 0 ≡ cond (p n) 1 0 = ap (λ z. cond {A = ℕ} (p z) 1 0) e in
+          subst (λ l. count_by p (x ∷ xs) ≤ count_by p l)
+          (sym (cond-true (is_later d from n) (n ∷ rest) rest on)) (omega arith)
+      | inr ne ↦
+          let low : x < n = (let e = h.1 in omega arith) in
+          let less : count_by p (x ∷ xs) ≤ count_by p rest = come-count d from p n (x ∷ xs) (h.0, low, h.2) in
+          elim (cases_Bool (is_later d from n)) [
+            | inl t ↦ subst (λ l. count_by p (x ∷ xs) ≤ count_by p l)
+                (sym (cond-true (is_later d from n) (n ∷ rest) rest t)) (omega arith)
+            | inr o ↦ subst (λ l. count_by p (x ∷ xs) ≤ count_by p l)
+                (sym (cond-false (is_later d from n) (n ∷ rest) rest o)) less
+          ]
+    ]
+
+-- each passes one of two tests
+covered : (p r : ℕ → Bool) (xs : List ℕ) → AllByRecursion (λ x. p x ≡ false → r x ≡ true) xs
+    → length xs ≤ sum_by (λ x. cond {A = ℕ} (p x) 1 0) xs + count_by r xs
+covered p r [] h = omega arith
+covered p r (x ∷ xs) h =
+    let e = sum_by-cons (λ x. cond {A = ℕ} (p x) 1 0) x xs in
+    let e' : count_by r (x ∷ xs) ≡ cond (r x) 1 0 + count_by r xs = sum_by-cons (λ x. cond {A = ℕ} (r x) 1 0) x xs in
+    let more = covered p r xs h.1 in
+    elim (cases_Bool (p x)) [
+      | inl t ↦ let one : cond {A = ℕ} (p x) 1 0 ≡ 1 = cond-true (p x) 1 0 t in omega arith
+      | inr o ↦ let one : cond {A = ℕ} (r x) 1 0 ≡ 1 = cond-true (r x) 1 0 (h.0 o) in omega arith
+    ]
+
+-- where a less key has no constant words of three factors
+no-threes : (order : Order) (key : List ℕ) (a : Figures) → needs_none order key ≡ true
+    → is_less (key_of order a) key ≡ true → a.words false 3 ≡ 0
+no-threes [] key a h less = absurd (cc h)
+no-threes (Unclear ∷ order) key a h less = absurd (cc h)
+no-threes (Words kind k ∷ order) [] a h less = absurd (cc h)
+no-threes (Words kind k ∷ order) (count ∷ key) a h less =
+    let p = and_parts (not kind) (eqb k 3 && eqb count 0) h in
+    let p1 = and_parts (eqb k 3) (eqb count 0) p.1 in
+    let constant : kind ≡ false = not-true kind p.0 in
+    let three : k ≡ 3 = eqb-true k 3 p1.0 in
+    let none : count ≡ 0 = eqb-true count 0 p1.1 in
+    let n : ℕ = a.words kind k in
+    let zero_words : n ≡ 0 = elim (or_cases (nat_lt n count) (eqb n count && is_less (key_of order a) key) less) [
+      | inl l ↦ absurd (let l' : n < count = ltb-true n count l in omega arith)
+      | inr l ↦ eqb-true n count (and_parts (eqb n count) (is_less (key_of order a) key) l).0 ∙ none
+    ] in
+    sym (ap₂ a.words constant three) ∙ zero_words
+
+-- a list that is nowhere greater is not greater
+pub not_less : {X : Type 0} (g h : X → ℕ) (ts : List X) → ((t : X) → g t ≤ h t) → is_less (map h ts) (map g ts) ≡ false
+not_less g h [] few = refl
+not_less g h (t ∷ ts) few = or_from _ _ (le-ltb (h t) (g t) (few t)) (and_right _ _ (not_less g h ts few))
+
+module _ (x : Strata) (f : IsField x.q) where
+  -- all words of some rows whose sum passes a test
+  count : (List ℕ → Bool) → ℕ → List ℕ → ℕ
+  count test k rows = words_in x.q x.m test (vectors_of x.q x.m rows) k
+
+  module _ (test : List ℕ → Bool) (k : ℕ) where
+    abbrev g : ℕ → List ℕ → ℕ
+    g = counted x.q x.m f test k
+
+    as-total : (rows : List ℕ) → count test k rows ≡ total x.q x.m f g (vectors_of x.q x.m rows)
+    unfolding count words_in
+    as-total rows = refl
+
+    added-row : (c : List ℕ) (r : ℕ)
+        → total x.q x.m f g (digits x.q x.m r ∷ vectors_of x.q x.m c) ≡ count test k (c ++ r ∷ [])
+    added-row c r =
+        total-turned x.q x.m f g (digits x.q x.m r ∷ []) (vectors_of x.q x.m c)
+        ∙ ap (total x.q x.m f g) (sym (map-append (λ r. digits x.q x.m r) c (r ∷ [])))
+        ∙ sym (as-total (c ++ r ∷ []))
+
+    grow : (c xs : List ℕ)
+        → count test k c + sum_by (λ r. count test k (c ++ r ∷ []) - count test k c) xs ≤ count test k (c ++ xs)
+    grow c xs =
+        let vc : List (List ℕ) = vectors_of x.q x.m c in
+        let vx : List (List ℕ) = vectors_of x.q x.m xs in
+        let more : total x.q x.m f g vc + sum_by (added x.q x.m f g vc) vx ≤ total x.q x.m f g (vx ++ vc) =
+        total-more x.q x.m f g vx vc (rows-vectors x.q x.m f xs) (rows-vectors x.q x.m f c) in
+        let last : total x.q x.m f g (vx ++ vc) ≡ count test k (c ++ xs) =
+        total-turned x.q x.m f g vx vc ∙ ap (total x.q x.m f g) (sym (map-append (λ r. digits x.q x.m r) c xs))
+        ∙ sym (as-total (c ++ xs)) in
+        let each : sum_by (added x.q x.m f g vc) vx ≡ sum_by (λ r. count test k (c ++ r ∷ []) - count test k c) xs =
+        sum_by_map (added x.q x.m f g vc) (λ r. digits x.q x.m r) xs
+        ∙ sum_by-ext _ _ xs (λ r. ap₂ (λ (a b : ℕ). a - b) (added-row c r) (sym (as-total c))) in
+        let first = as-total c in
+        omega arith
+
+    grows : (c xs : List ℕ) → count test k c ≤ count test k (c ++ xs)
+    grows c xs = (let e = grow c xs in omega arith)
+
+  abbrev T : List ℕ → Bool
+  T v = is_in_base x (base x) v
+
+  constant-words : (k : ℕ) (rows : List ℕ) → words x rows false k ≡ count is_zero k rows
+  unfolding count
+  constant-words k rows = refl
+
+  confounded-words : (k : ℕ) (rows : List ℕ) → words x rows true k ≡ count T k rows - count T k (take x.w rows)
+  unfolding count
+  confounded-words k rows =
+      ap (λ (l : List (List ℕ)). words_in x.q x.m T (vectors_of x.q x.m rows) k - words_in x.q x.m T l k)
+      (take-vectors x.q x.m x.w rows)
+
+  none-yet : (k : ℕ) (rows : List ℕ) → length rows ≤ x.w → words x rows true k ≡ 0
+  none-yet k rows few =
+      confounded-words k rows ∙ ap (λ l. count T k rows - count T k l) (take_all x.w rows few) ∙ (omega arith)
+
+  sum-none : (h : ℕ → ℕ) (xs : List ℕ) → ((r : ℕ) → h r ≡ 0) → sum_by h xs ≡ 0
+  sum-none h xs none = sum_by-ext h (λ r. 0) xs none ∙ sum_by-zero xs
+
+  -- what is there, and what each further row adds alone
+  words-grow : (b : Bool) (k : ℕ) (c xs : List ℕ)
+      → words x c b k + sum_by (λ r. new_words x c r b k) xs ≤ words x (c ++ xs) b k
+  words-grow false k c xs =
+      let e = constant-words k c in
+      let e' = constant-words k (c ++ xs) in
+      let each : sum_by (λ r. new_words x c r false k) xs
+      ≡ sum_by (λ r. count is_zero k (c ++ r ∷ []) - count is_zero k c) xs =
+      sum_by-ext _ _ xs (λ r. ap₂ (λ (a b : ℕ). a - b) (constant-words k (c ++ r ∷ [])) (constant-words k c)) in
+      let more = grow is_zero k c xs in
+      omega arith
+  words-grow true k c xs = elim (cases_lt (length c) x.w) [
+    | inl low ↦
+        let none = none-yet k c (omega arith) in
+        let each : sum_by (λ r. new_words x c r true k) xs ≡ 0 =
+        sum-none (λ r. new_words x c r true k) xs
+        (λ r. let e = none-yet k (c ++ r ∷ []) (omega (arith, length-append c (r ∷ []))) in omega arith) in
+        omega arith
+    | inr high ↦
+        let fixed : (ys : List ℕ) → words x (c ++ ys) true k ≡ count T k (c ++ ys) - count T k (take x.w c) =
+        λ ys. confounded-words k (c ++ ys) ∙ ap (λ l. count T k (c ++ ys) - count T k l) (take-append-le x.w c ys high)
+        in
+        let here = confounded-words k c in
+        let part : count T k (take x.w c) ≤ count T k c =
+        subst (λ l. count T k (take x.w c) ≤ count T k l) (take-append-drop x.w c)
+        (grows T k (take x.w c) (drop x.w c)) in
+        let each : sum_by (λ r. new_words x c r true k) xs ≡ sum_by (λ r. count T k (c ++ r ∷ []) - count T k c) xs =
+        sum_by-ext _ _ xs (λ r.
+        let e = fixed (r ∷ []) in
+        let up = grows T k c (r ∷ []) in
+        omega arith) in
+        let more = grow T k c xs in
+        let last = fixed xs in
+        omega arith
+  ]
+
+  -- the confounded words that a row makes, after all inside factors
+  pub new-confounded : (k : ℕ) (c : List ℕ) (r : ℕ) → x.w ≤ length c
+      → new_words x c r true k
+      ≡ words_in x.q x.m (is_in_base x (base x)) (vectors_of x.q x.m (c ++ r ∷ [])) k
+      - words_in x.q x.m (is_in_base x (base x)) (vectors_of x.q x.m c) k
+  unfolding count
+  new-confounded k c r high =
+      let fixed : words x (c ++ r ∷ []) true k ≡ count T k (c ++ r ∷ []) - count T k (take x.w c) =
+      confounded-words k (c ++ r ∷ [])
+      ∙ ap (λ l. count T k (c ++ r ∷ []) - count T k l) (take-append-le x.w c (r ∷ []) high) in
+      let here = confounded-words k c in
+      let part : count T k (take x.w c) ≤ count T k c =
+      subst (λ l. count T k (take x.w c) ≤ count T k l) (take-append-drop x.w c)
+      (grows T k (take x.w c) (drop x.w c)) in
+      let up : count T k c ≤ count T k (c ++ r ∷ []) = grows T k c (r ∷ []) in
+      omega arith
+
+  pub inside-grows : (k : ℕ) (c : List ℕ) (r : ℕ)
+      → words_in x.q x.m (is_in_base x (base x)) (vectors_of x.q x.m c) k
+      ≤ words_in x.q x.m (is_in_base x (base x)) (vectors_of x.q x.m (c ++ r ∷ [])) k
+  unfolding count
+  inside-grows k c r = grows T k c (r ∷ [])
+
+  pub words-more : (b : Bool) (k : ℕ) (c s : List ℕ) → words x c b k ≤ words x (c ++ s) b k
+  words-more b k c s = (let e = words-grow b k c s in omega arith)
+
+  -- with the new words of each further row
+  words-grow-by-rows : (b : Bool) (k : ℕ) (c xs s : List ℕ)
+      → words x c b k + sum_by (λ r. new_words x c r b k) xs ≤ words x (c ++ (xs ++ s)) b k
+  words-grow-by-rows b k c xs s =
+      le_trans (words-grow b k c xs)
+      (subst (λ l. words x (c ++ xs) b k ≤ words x l b k) (append_assoc c xs s) (words-more b k (c ++ xs) s))
+
+  module _ (c s : List ℕ) (D : IsDesign x (c ++ s)) where
+    laid : IsLaid x (c ++ s)
+    laid = D.laid
+
+    free : IsFree x.q x.m f (vectors_of x.q x.m (c ++ s))
+    unfolding words_in
+    free = record { one = D.none_of_one; two = D.none_of_two }
+
+    -- where no word of three factors is constant, rows that come make none
+    makes-none : (none : Bool) → (none ≡ true → words x (c ++ s) false 3 ≡ 0) → (xs behind : List ℕ) → s ≡ xs ++ behind
+        → AllByRecursion (λ r. is_live x c (digits x.q x.m r) ≡ false → is_spare x none c r ≡ true) xs
+    makes-none none three xs behind is = elim (cases_Bool none) [
+      | inr o ↦ unasked xs o
+      | inl t ↦
+          let all : words x (c ++ (xs ++ behind)) false 3 ≡ 0 =
+          subst (λ l. words x (c ++ l) false 3 ≡ 0) is (three t) in
+          let more : words x (c ++ xs) false 3 ≤ words x ((c ++ xs) ++ behind) false 3 =
+          words-more false 3 (c ++ xs) behind in
+          let whole : words x ((c ++ xs) ++ behind) false 3 ≡ words x (c ++ (xs ++ behind)) false 3 =
+          ap (λ l. words x l false 3) (append_assoc c xs behind) in
+          let grown = words-grow false 3 c xs in
+          asked xs (each-none (λ r. new_words x c r false 3) xs (omega arith))
+    ]
+      where
+        unasked : (ys : List ℕ) → none ≡ false
+            → AllByRecursion (λ r. is_live x c (digits x.q x.m r) ≡ false → is_spare x none c r ≡ true) ys
+        unasked [] o = tt
+        unasked (r ∷ ys) o = (
+          λ dead. and_from _ _ (ap not dead) (ap (λ b. not (b && nat_lt 0 (new_words x c r false 3))) o),
+          unasked ys o,
+        )
+
+        asked : (ys : List ℕ) → AllByRecursion (λ r. new_words x c r false 3 ≡ 0) ys
+            → AllByRecursion (λ r. is_live x c (digits x.q x.m r) ≡ false → is_spare x none c r ≡ true) ys
+        asked [] e = tt
+        asked (r ∷ ys) e = (
+          λ dead. and_from _ _ (ap not dead)
+              (ap (λ (n : ℕ). not (none && nat_lt 0 n)) e.0 ∙ never none),
+          asked ys e.1,
+        )
+          where
+            never : (b : Bool) → not (b && nat_lt 0 0) ≡ true
+            never true = refl
+            never false = refl
+
+    pub floor-unclear : has_units x c ≡ true → (none : Bool) → (none ≡ true → words x (c ++ s) false 3 ≡ 0)
+        → unclear_floor x none c ≤ unclear x (c ++ s)
+    floor-unclear there none three =
+        let old = unclear-more x f c s in
+        let size : pairs x.q (length (c ++ s)) ≡ pairs x.q (x.w + x.n) = ap (pairs x.q) laid.len in
+        let stage : ℕ = missing x c - count_by (is_spare x none c) (later_rows x c) in
+        elim (cases_lt (length c) x.w) [
+          | inl low ↦
+              let live : ℕ = sum_by (λ r. cond {A = ℕ} (is_live x c (digits x.q x.m r)) 1 0) s in
+              let part : pairs x.q (length (c ++ s)) + (x.q - 1) * live ≤ unclear x (c ++ s) + live_sums x c =
+              not-clear x f laid.base c s s [] (sym (append-nil s)) free in
+              let is : taking x none c ≡ x.n =
+              cond-true (nat_lt (length c) x.w) x.n stage (lt-ltb (length c) x.w low) in
+              let many : x.n ≤ live = others-live x f c s D low in
+              let times : (x.q - 1) * taking x none c ≤ (x.q - 1) * live = mul-le-mul_left (x.q - 1) (omega arith) in
+              omega arith
+          | inr high ↦
+              let p : Rest x c s = rest x f c s laid there in
+              let live : ℕ = sum_by (λ r. cond {A = ℕ} (is_live x c (digits x.q x.m r)) 1 0) p.rows in
+              let part : pairs x.q (length (c ++ s)) + (x.q - 1) * live ≤ unclear x (c ++ s) + live_sums x c =
+              not-clear x f laid.base c s p.rows p.behind p.is free in
+              let each : length p.rows ≤ live + count_by (is_spare x none c) p.rows =
+              covered (λ r. is_live x c (digits x.q x.m r)) (is_spare x none c) p.rows
+              (makes-none none three p.rows p.behind p.is) in
+              let few : count_by (is_spare x none c) p.rows ≤ count_by (is_spare x none c) (later_rows x c) =
+              come-count (dimensions_of x) (stage_after x c).first_unit (is_spare x none c) (bound x c) p.rows
+              p.later in
+              let len = p.len in
+              let is : taking x none c ≡ stage =
+              cond-false (nat_lt (length c) x.w) x.n stage (le-ltb (length c) x.w high) in
+              let many : taking x none c ≤ live = omega arith in
+              let times : (x.q - 1) * taking x none c ≤ (x.q - 1) * live = mul-le-mul_left (x.q - 1) many in
+              omega arith
+        ]
+
+    floor-low : has_units x c ≡ true → (none : Bool) → (none ≡ true → words x (c ++ s) false 3 ≡ 0)
+        → (part : Part) → floor_at x none c part ≤ part_of (figures x (c ++ s)) part
+    floor-low there none three Unclear = floor-unclear there none three
+    floor-low there none three (Words b k) =
+        let p : Rest x c s = rest x f c s laid there in
+        let g : ℕ → ℕ = λ r. new_words x c r b k in
+        let grown : words x c b k + sum_by g p.rows ≤ words x (c ++ s) b k =
+        subst (λ l. words x c b k + sum_by g p.rows ≤ words x (c ++ l) b k) (sym p.is)
+        (words-grow-by-rows b k c p.rows p.behind) in
+        let least : least_sum (length p.rows) (map g (later_rows x c)) ≤ sum_by g p.rows =
+        come-sum (dimensions_of x) (stage_after x c).first_unit g (bound x c) p.rows p.later in
+        let least' : least_sum (missing x c) (map g (later_rows x c)) ≤ sum_by g p.rows =
+        subst (λ n. least_sum n (map g (later_rows x c)) ≤ sum_by g p.rows) p.len least in
+        omega arith
+
+    floored : (order : Order) (key : List ℕ) → cannot_beat x order (Some key) c ≡ true
+        → is_less (key_of order (figures x (c ++ s))) key ≡ false
+    floored order key h = false_from_ne_true _ (λ less.
+        let none : Bool = needs_none order key in
+        let p = and_parts (has_units x c) (not (is_less (floor x order none c) key)) h in
+        both_ways (is_less (key_of order (figures x (c ++ s))) key)
+        (not_above (key_of order (figures x (c ++ s))) (floor x order none c) key
+        (length-map order (part_of (figures x (c ++ s))) ∙ sym (length-map order (floor_at x none c)))
+        (not_less (floor_at x none c) (part_of (figures x (c ++ s))) order
+        (floor-low p.0 none (λ e. no-threes order key (figures x (c ++ s)) e less))) (not-true _ p.1)) less)
+
+  part-grows : (c s : List ℕ) (part : Part) → part_of (figures x c) part ≤ part_of (figures x (c ++ s)) part
+  part-grows c s (Words b k) = words-more b k c s
+  part-grows c s Unclear = unclear-more x f c s
+
+  -- the key alone
+  worse : (order : Order) (c s key : List ℕ) → does_not_beat x order (Some key) c ≡ true
+      → is_less (key_of order (figures x (c ++ s))) key ≡ false
+  worse order c s key h =
+      not_above (key_of order (figures x (c ++ s))) (key_of order (figures x c)) key
+      (length-map order (part_of (figures x (c ++ s))) ∙ sym (length-map order (part_of (figures x c))))
+      (not_less (part_of (figures x c)) (part_of (figures x (c ++ s))) order (part-grows c s)) (not-true _ h)
+
+  pub none_below : (order : Order) → NoneBelow x order
+  none_below order c s key h D =
+      elim (or_cases (does_not_beat x order (Some key) c) (cannot_beat x order (Some key) c) h) [
+        | inl w ↦ worse order c s key w
+        | inr w ↦ floored c s D order key w
+      ]
+
+  pub none_without_room : NoneWithoutRoom x
+  none_without_room c s h D = no_room x f c s D.laid h

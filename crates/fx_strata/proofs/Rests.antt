@@ -1,0 +1,131 @@
+-- The rows of a stage that a prefix lacks.
+use Rattle.std.proofs.Common.{ℕ, ◌≡◌, ◌<◌, ◌≤◌, ◌+◌, ◌-◌, ◌^◌, zero, suc, true, cond, eqb, List, [], ◌∷◌, ◌++◌, length}
+use Rattle.std.proofs.Common.{slice_index, refl, sym, subst, ◌∙◌, ap, ap₂, arith, inl, inr, eq-eqb, append_assoc}
+use Rattle.std.proofs.Common.{length-append}
+use Rattle.std.specs.List.{filter, range_with_len}
+use Rattle.std.proofs.Math.Seq.{get_or-append_seam}
+use Rattle.std.proofs.lemmas.Bool.{cases_Bool, cases_eq, cond-true, cond-false, ne_eqb}
+use Rattle.std.proofs.lemmas.List.{length-map}
+use Rattle.std.proofs.lemmas.List.FromFn.{length-range_with_len}
+use Rattle.fx_designs.specs.Problems.{Dimensions}
+use Rattle.fx_designs.specs.Answers.{falling}
+use Rattle.fx_designs.specs.Nodes.{last_row}
+use Rattle.fx_strata.specs.Designs.{Strata}
+use Rattle.fx_strata.specs.Canonical.{dimensions_of, units, is_later, AreLater, IsStage}
+use Rattle.fx_strata.specs.Stages.{Stage, stage_after, bound, missing}
+
+-- two ways to part a list
+pub split : {X : Type 0} (xs ys us vs : List X) → xs ++ ys ≡ us ++ vs → length us ≤ length xs
+    → (ms : List X) × (xs ≡ us ++ ms) × (vs ≡ ms ++ ys)
+split xs ys [] vs e h = (xs, refl, sym e)
+split [] ys (u ∷ us) vs e h = absurd (omega arith)
+split (x ∷ xs) ys (u ∷ us) vs e h =
+    let head : x ≡ u = cc e in
+    let rest : xs ++ ys ≡ us ++ vs = cc e in
+    let r = split xs ys us vs rest (omega arith) in
+    (r.0, ap₂ (λ y l. y ∷ l) head r.1, r.2)
+
+module _ (d : Dimensions) (from : ℕ) where
+  -- behind some rows that fall come others below the last of them
+  later-after : (b : ℕ) (us done xs : List ℕ) (r : ℕ) → AreLater d from b ((r ∷ done) ++ xs)
+      → AreLater d from (last_row (us ++ r ∷ done)) xs
+  later-after b us [] xs r h =
+      let long : length (us ++ r ∷ []) - 1 ≡ length us + 0 = (let e = length-append us (r ∷ []) in omega arith) in
+      subst (λ z. AreLater d from z xs)
+      (sym (ap (slice_index (us ++ r ∷ [])) (let e : length us + 0 ≡ length us = omega arith in long ∙ e)
+      ∙ get_or-append_seam us r [] 0)) h.2
+  later-after b us (r' ∷ done) xs r h =
+      subst (λ l. AreLater d from (last_row l) xs) (append_assoc us (r ∷ []) (r' ∷ done))
+      (later-after r (us ++ r ∷ []) done xs r' h.2)
+
+  -- they are no more than all that may come
+  pub fits : (n : ℕ) (xs : List ℕ) → AreLater d from n xs
+      → length xs ≤ length (filter (λ r. is_later d from r) (falling n))
+  fits zero [] h = omega arith
+  fits zero (x ∷ xs) h = absurd (let e = h.1 in omega arith)
+  fits (suc n) [] h = omega arith
+  fits (suc n) (x ∷ xs) h =
+      let rest : List ℕ = filter (λ r. is_later d from r) (falling n) in
+      elim (cases_eq x n) [
+        | inl e ↦
+            let on : is_later d from n ≡ true = subst (λ z. is_later d from z ≡ true) e h.0 in
+            let less = fits n xs (subst (λ z. AreLater d from z xs) e h.2) in
+            subst (λ l. suc (length xs) ≤ length l) (sym (cond-true (is_later d from n) (n ∷ rest) rest on))
+            (omega arith)
+        | inr ne ↦
+            let low : x < n = (let e = h.1 in omega arith) in
+            let less = fits n (x ∷ xs) (h.0, low, h.2) in
+            elim (cases_Bool (is_later d from n)) [
+              | inl t ↦ subst (λ l. suc (length xs) ≤ length l)
+                  (sym (cond-true (is_later d from n) (n ∷ rest) rest t)) (omega arith)
+              | inr o ↦ subst (λ l. suc (length xs) ≤ length l)
+                  (sym (cond-false (is_later d from n) (n ∷ rest) rest o)) (omega arith)
+            ]
+      ]
+
+-- the rows of its stage that a prefix lacks, and the rows behind
+pub record Rest (x : Strata) (c s : List ℕ) : Type 0 where
+  pub rows : List ℕ
+  pub behind : List ℕ
+  pub is : s ≡ rows ++ behind
+  pub later : AreLater (dimensions_of x) (stage_after x c).first_unit (bound x c) rows
+  pub len : length rows ≡ missing x c
+
+module _ (x : Strata) where
+  abbrev d : Dimensions
+  d = dimensions_of x
+
+  -- in one stage of a design
+  pub in-stage : (st : Stage) (pre rows post c s : List ℕ) → length pre ≡ st.begin → c ++ s ≡ pre ++ (rows ++ post)
+      → IsStage d st.first_unit st.units rows → st.begin + st.units ≤ length c → length c ≤ st.begin + length rows
+      → (xs : List ℕ) × (behind : List ℕ) × (s ≡ xs ++ behind)
+      × AreLater d st.first_unit
+      (cond (eqb (length c) (st.begin + st.units)) (x.q ^ (st.first_unit + st.units)) (last_row c)) xs
+      × (length xs ≡ st.begin + length rows - length c)
+  in-stage st pre rows post c s at is stage there few =
+      let us : List ℕ = pre ++ units x.q st.first_unit st.units in
+      let many : length (units x.q st.first_unit st.units) ≡ st.units =
+      length-map (range_with_len st.first_unit st.units) (λ i. x.q ^ i)
+      ∙ length-range_with_len st.first_unit st.units in
+      let lu : length us ≡ st.begin + st.units =
+      (let e = length-append pre (units x.q st.first_unit st.units) in omega arith) in
+      let whole : c ++ s ≡ us ++ (stage.others ++ post) =
+      is ∙ ap (λ l. pre ++ (l ++ post)) stage.is
+      ∙ ap (λ l. pre ++ l) (append_assoc (units x.q st.first_unit st.units) stage.others post)
+      ∙ sym (append_assoc pre (units x.q st.first_unit st.units) (stage.others ++ post)) in
+      let one = split c s us (stage.others ++ post) whole (omega arith) in
+      let done : List ℕ = one.0 in
+      let lr : length rows ≡ st.units + length stage.others =
+      ap (λ (l : List ℕ). length l) stage.is ∙ length-append (units x.q st.first_unit st.units) stage.others
+      ∙ ap (λ (n : ℕ). n + length stage.others) many in
+      let lc : length c ≡ st.begin + st.units + length done =
+      ap (λ (l : List ℕ). length l) one.1 ∙ length-append us done ∙ ap (λ (n : ℕ). n + length done) lu in
+      let two = split stage.others post done s one.2 (omega arith) in
+      let xs : List ℕ = two.0 in
+      let lo : length stage.others ≡ length done + length xs =
+      ap (λ (l : List ℕ). length l) two.1 ∙ length-append done xs in
+      let falls : AreLater d st.first_unit (x.q ^ (st.first_unit + st.units)) (done ++ xs) =
+      subst (AreLater d st.first_unit (x.q ^ (st.first_unit + st.units))) two.1 stage.later in (
+        xs,
+        post,
+        two.2,
+        below st us done xs c one.1 lc falls,
+        omega arith,
+      )
+    where
+      below : (st : Stage) (us done xs c : List ℕ) → c ≡ us ++ done → length c ≡ st.begin + st.units + length done
+          → AreLater d st.first_unit (x.q ^ (st.first_unit + st.units)) (done ++ xs)
+          → AreLater d st.first_unit
+          (cond (eqb (length c) (st.begin + st.units)) (x.q ^ (st.first_unit + st.units)) (last_row c)) xs
+      below st us [] xs c e lc falls =
+          let same : length c ≡ st.begin + st.units = omega arith in
+          subst (λ z. AreLater d st.first_unit z xs)
+          (sym (cond-true (eqb (length c) (st.begin + st.units)) (x.q ^ (st.first_unit + st.units)) (last_row c)
+          (eq-eqb (length c) (st.begin + st.units) same))) falls
+      below st us (r ∷ done) xs c e lc falls =
+          let other : length c ≡ st.begin + st.units → ⊥ = λ k. omega arith in
+          subst (λ z. AreLater d st.first_unit z xs)
+          (sym (cond-false (eqb (length c) (st.begin + st.units)) (x.q ^ (st.first_unit + st.units)) (last_row c)
+          (ne_eqb (length c) (st.begin + st.units) other)))
+          (subst (λ l. AreLater d st.first_unit (last_row l) xs) (sym e)
+          (later-after d st.first_unit (x.q ^ (st.first_unit + st.units)) us done xs r falls))

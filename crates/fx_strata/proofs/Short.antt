@@ -1,0 +1,132 @@
+-- Short vectors have no higher rank than their length.
+use Rattle.std.proofs.Common.{ℕ, ◌≡◌, ◌<◌, ◌≤◌, ◌+◌, ◌-◌, zero, suc, cond, List, [], ◌∷◌, ◌++◌, map, length, take, refl}
+use Rattle.std.proofs.Common.{sym, subst, ◌∙◌, ap, ap₂, arith, length-append}
+use Rattle.std.specs.List.{AllByRecursion}
+use Rattle.std.proofs.lemmas.List.{length-map, map-append}
+use Rattle.fx_base.proofs.Lists.{each-append}
+use Rattle.fx_designs.specs.Galois.{add, mul, IsField}
+use Rattle.fx_designs.specs.Vectors.{IsVector, plus, scale, zeros, combination}
+use Rattle.fx_designs.specs.Spans.{in_span, rank_of, rank_after}
+use Rattle.fx_laws.specs.Changes.{IsShort}
+use Rattle.fx_laws.proofs.Space.{AreVectors, zeros-vector, combination-vector}
+use Rattle.fx_laws.proofs.Changes.{short-zeros}
+use Rattle.fx_laws.proofs.Tests.{bool_same}
+use Rattle.fx_laws.proofs.Ranks.{in_span-true, in_span-holds}
+use Rattle.fx_images.proofs.Change.{rank-most}
+
+module _ (q h j : ℕ) (f : IsField q) where
+  -- with zeros behind
+  abbrev lift : List ℕ → List ℕ
+  lift v = v ++ zeros j
+
+  zeros-sum : (c : ℕ) → plus q (scale q c (zeros j)) (zeros j) ≡ zeros j
+  zeros-sum c = go j
+    where
+      go : (n : ℕ) → plus q (scale q c (zeros n)) (zeros n) ≡ zeros n
+      go zero = refl
+      go (suc n) =
+          ap₂ (λ a v. a ∷ v) (ap (λ z. add q z 0) (f.mul_zero c) ∙ f.add_zero 0 (omega (arith, f.more_than_one)))
+          (go n)
+
+  lift-sum : (n c : ℕ) (v w : List ℕ) → length v ≡ n → length w ≡ n
+      → plus q (scale q c (lift v)) (lift w) ≡ lift (plus q (scale q c v) w)
+  lift-sum n c [] [] e e' = zeros-sum c
+  lift-sum n c [] (b ∷ w) e e' = absurd (omega arith)
+  lift-sum n c (a ∷ v) [] e e' = absurd (omega arith)
+  lift-sum zero c (a ∷ v) (b ∷ w) e e' = absurd (omega arith)
+  lift-sum (suc n) c (a ∷ v) (b ∷ w) e e' =
+      ap (λ l. add q (mul q c a) b ∷ l) (lift-sum n c v w (omega arith) (omega arith))
+
+  zeros-lift : (n : ℕ) → zeros (n + j) ≡ zeros n ++ zeros j
+  zeros-lift zero = ap zeros (let e : 0 + j ≡ j = omega arith in e)
+  zeros-lift (suc n) = ap zeros (let e : suc n + j ≡ suc (n + j) = omega arith in e) ∙ ap (λ l. 0 ∷ l) (zeros-lift n)
+
+  lift-combination : (u : List ℕ) (rows : List (List ℕ)) → AreVectors q h rows
+      → combination q (h + j) u (map lift rows) ≡ lift (combination q h u rows)
+  lift-combination [] rows hr = zeros-lift h
+  lift-combination (a ∷ u) [] hr = zeros-lift h
+  lift-combination (a ∷ u) (r ∷ rows) hr =
+      ap (plus q (scale q a (lift r))) (lift-combination u rows hr.1)
+      ∙ lift-sum h a r (combination q h u rows) hr.0.len (let v = combination-vector q h f u rows hr.1 in v.len)
+
+  lift-vector : (n : ℕ) (v : List ℕ) → IsVector q n v → IsVector q (n + j) (lift v)
+  lift-vector n v hv = record {
+    len = length-append v (zeros j) ∙ ap₂ (λ (a b : ℕ). a + b) hv.len (let z = zeros-vector q j f in z.len);
+    codes = each-append (λ c. c < q) v (zeros j) hv.codes (let z = zeros-vector q j f in z.codes);
+  }
+
+  lift-vectors : (rows : List (List ℕ)) → AreVectors q h rows → AreVectors q (h + j) (map lift rows)
+  lift-vectors [] hr = tt
+  lift-vectors (r ∷ rows) hr = (lift-vector h r hr.0, lift-vectors rows hr.1)
+
+  lift-back : (n : ℕ) (v w : List ℕ) → length v ≡ n → length w ≡ n → lift v ≡ lift w → v ≡ w
+  lift-back n [] [] e e' is = refl
+  lift-back n [] (b ∷ w) e e' is = absurd (omega arith)
+  lift-back n (a ∷ v) [] e e' is = absurd (omega arith)
+  lift-back zero (a ∷ v) (b ∷ w) e e' is = absurd (omega arith)
+  lift-back (suc n) (a ∷ v) (b ∷ w) e e' is =
+      let first : a ≡ b = cc is in
+      let rest : lift v ≡ lift w = cc is in
+      ap₂ (λ a l. a ∷ l) first (lift-back n v w (omega arith) (omega arith) rest)
+
+  span-same : (bs : List (List ℕ)) (r : List ℕ) → AreVectors q h bs → IsVector q h r
+      → in_span q (h + j) (map lift bs) (lift r) ≡ in_span q h bs r
+  span-same bs r hb hr = bool_same _ _
+      (λ e. let s = in_span-true q (h + j) f (map lift bs) (lift r) (lift-vectors bs hb) (lift-vector h r hr) e in
+      in_span-holds q h f bs r (record {
+        by = s.by;
+        vector = subst (λ n. IsVector q n s.by) (length-map bs lift) s.vector;
+        gives = lift-back h (combination q h s.by bs) r (let v = combination-vector q h f s.by bs hb in v.len) hr.len
+            (sym (lift-combination s.by bs hb) ∙ s.gives);
+      }))
+      (λ e. let s = in_span-true q h f bs r hb hr e in
+      in_span-holds q (h + j) f (map lift bs) (lift r) (record {
+        by = s.by;
+        vector = subst (λ n. IsVector q n s.by) (sym (length-map bs lift)) s.vector;
+        gives = lift-combination s.by bs hb ∙ ap lift s.gives;
+      }))
+
+  rank-same : (bs rows : List (List ℕ)) → AreVectors q h bs → AreVectors q h rows
+      → rank_after q (h + j) (map lift bs) (map lift rows) ≡ rank_after q h bs rows
+  rank-same bs [] hb hr = refl
+  rank-same bs (r ∷ rows) hb hr =
+      ap₂ (λ (a b : ℕ). a + b) (ap (λ b. cond {A = ℕ} b 0 1) (span-same bs r hb hr.0))
+      (ap (λ l. rank_after q (h + j) l (map lift rows)) (sym (map-append lift bs (r ∷ [])))
+      ∙ rank-same (bs ++ r ∷ []) rows (each-append (λ r. IsVector q h r) bs (r ∷ []) hb (hr.0, tt)) hr.1)
+
+-- a short vector is its first entries and zeros
+short-is : (q h j : ℕ) (v : List ℕ) → IsVector q (h + j) v → IsShort h v
+    → (v ≡ take h v ++ zeros j) × IsVector q h (take h v)
+short-is q zero j [] hv s =
+    (ap zeros (let e : 0 ≡ j = (let l = hv.len in omega arith) in e), record { len = refl; codes = tt })
+short-is q zero j (a ∷ v) hv s = (
+  short-zeros j (a ∷ v) (let l = hv.len in omega arith) s,
+  record { len = refl; codes = tt },
+)
+short-is q (suc h) j [] hv s = absurd (let l = hv.len in omega arith)
+short-is q (suc h) j (a ∷ v) hv s =
+    let r = short-is q h j v (record { len = (let l = hv.len in omega arith); codes = hv.codes.1 }) s in (
+      ap (λ l. a ∷ l) r.0,
+      record { len = (let l = r.1 in let e = l.len in omega arith); codes = (hv.codes.0, (let l = r.1 in l.codes)) },
+    )
+
+pub rank-short : (q m h : ℕ) (f : IsField q) (rows : List (List ℕ)) → h ≤ m → AreVectors q m rows
+    → AllByRecursion (λ r. IsShort h r) rows → rank_of q m rows ≤ h
+rank-short q m h f rows room hr short =
+    let j : ℕ = m - h in
+    let e : h + j ≡ m = omega arith in
+    let hr' : AreVectors q (h + j) rows = subst (λ n. AreVectors q n rows) (sym e) hr in
+    let cut = all rows hr' short in
+    let same : rank_of q (h + j) rows ≡ rank_of q h (map (take h) rows) =
+    ap (rank_of q (h + j)) cut.0 ∙ rank-same q h j f [] (map (take h) rows) tt cut.1 in
+    let most : rank_of q h (map (take h) rows) ≤ h = rank-most q h f (map (take h) rows) cut.1 in
+    let last : rank_of q m rows ≡ rank_of q (h + j) rows = ap (λ n. rank_of q n rows) (sym e) in
+    omega arith
+  where
+    all : (rows : List (List ℕ)) → AreVectors q (h + (m - h)) rows → AllByRecursion (λ r. IsShort h r) rows
+        → (rows ≡ map (λ v. v ++ zeros (m - h)) (map (take h) rows)) × AreVectors q h (map (take h) rows)
+    all [] hr s = (refl, tt)
+    all (r ∷ rows) hr s =
+        let one = short-is q h (m - h) r hr.0 s.0 in
+        let more = all rows hr.1 s.1 in
+        (ap₂ (λ a l. a ∷ l) one.0 more.0, (one.1, more.1))

@@ -1,0 +1,13 @@
+pub mod Designs
+pub mod Orders
+pub mod Words
+pub mod Sums
+pub mod Canonical
+pub mod Clear
+pub mod Images
+pub mod Stages
+pub mod Floors
+pub mod Books
+pub mod Spreads
+pub mod Laws
+pub mod Ordinary
