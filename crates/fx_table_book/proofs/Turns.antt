@@ -1,0 +1,130 @@
+-- The entries of an order, one turn of weights after another.
+use Rattle.std.proofs.Common.{◌≡◌, ℕ, zero, suc, ◌+◌, ◌-◌, ◌*◌, ◌≤◌, List, [], ◌∷◌, ◌++◌, map, sym, ap, ◌∙◌, arith}
+use Rattle.std.proofs.Common.{append_assoc, append-nil, All, true, false, subst}
+use Rattle.std.specs.Prelude.{Result, Ok, Err, IfOk}
+use Rattle.std.specs.List.{range_with_len, flat_map, AllByRecursion}
+use Rattle.std.proofs.lemmas.Bool.{and_parts, leb-true}
+use Rattle.std.proofs.lemmas.Grind.{flat_map-append}
+use Rattle.std.proofs.lemmas.List.Concat.{flat_map_single}
+use Rattle.std.proofs.lemmas.List.Elements.{filter-append, filter_passes, recursion_from_All, All-from_recursion}
+use Rattle.fx_strata.specs.Designs.{Strata, Part, Words}
+use Rattle.fx_strata.specs.Designs as designs
+use Rattle.fx_strata.specs.Orders.{compared, is_compared, weights}
+use Rattle.fx_table_book.specs.declared.order.Part as book
+use Rattle.fx_table_book.specs.declared.order.Part.TheVariants.{Constant, Confounded, Unclear}
+use Rattle.fx_table_book.specs.declared.order.Order.{Order}
+use Rattle.fx_table_book.specs.declared.order.Order.TheVariants.{FactorsFirst, ChengWuFirst, ChengWuSecond}
+use Rattle.fx_table_book.specs.declared.order.Order.TheVariants.{SitterChenFeder, MostClear}
+use Rattle.fx_table_book.specs.Tables.{IsWeight, order_of, parts_of, part_of}
+
+range-more : (a n k : ℕ) → a + n ≡ k → range_with_len a (suc n) ≡ range_with_len a n ++ k ∷ []
+range-more a zero k e = let same : a ≡ k = omega (arith, e) in ap (λ (c : ℕ). c ∷ []) same
+range-more a (suc n) k e = ap (λ (l : List ℕ). a ∷ l) (range-more (a + 1) n k (omega (arith, e)))
+
+module _ (x : Strata) where
+  pub compared-append : (xs ys : List Part) → compared x (xs ++ ys) ≡ compared x xs ++ compared x ys
+  compared-append xs ys = filter-append (is_compared x) xs ys
+
+  -- two parts that are put one after the other
+  pub two : (old : List Part) (a b : Part)
+      → (old ++ compared x (a ∷ [])) ++ compared x (b ∷ []) ≡ old ++ compared x (a ∷ b ∷ [])
+  two old a b =
+      append_assoc old (compared x (a ∷ [])) (compared x (b ∷ []))
+      ∙ ap (λ (l : List Part). old ++ l) (sym (compared-append (a ∷ []) (b ∷ [])))
+
+  pub three : (old : List Part) (a b c : Part)
+      → ((old ++ compared x (a ∷ [])) ++ compared x (b ∷ [])) ++ compared x (c ∷ [])
+      ≡ old ++ compared x (a ∷ b ∷ c ∷ [])
+  three old a b c =
+      ap (λ (l : List Part). l ++ compared x (c ∷ [])) (two old a b)
+      ∙ append_assoc old (compared x (a ∷ b ∷ [])) (compared x (c ∷ []))
+      ∙ ap (λ (l : List Part). old ++ l) (sym (compared-append (a ∷ b ∷ []) (c ∷ [])))
+
+  -- the parts of the turns before one
+  abbrev pub turns_before : (ℕ → List Part) → ℕ → List Part
+  turns_before f k = compared x (flat_map f (range_with_len 1 (k - 1)))
+
+  -- and with that turn
+  pub turn_more : (start old new : List Part) (f : ℕ → List Part) (k next : ℕ)
+      → 1 ≤ k
+      → next ≡ k + 1
+      → old ≡ start ++ turns_before f k
+      → new ≡ old ++ compared x (f k)
+      → new ≡ start ++ turns_before f next
+  turn_more start old new f zero next some is was now = absurd (omega arith)
+  turn_more start old new f (suc n) next some is was now =
+      let before : List ℕ = range_with_len 1 n in
+      let less : suc n - 1 ≡ n = omega arith in
+      let more : next - 1 ≡ suc n = omega (arith, is) in
+      let one : 1 + n ≡ suc n = omega arith in
+      let range : range_with_len 1 (next - 1) ≡ before ++ suc n ∷ [] =
+      ap (range_with_len 1) more ∙ range-more 1 n (suc n) one in
+      let before_it : turns_before f (suc n) ≡ compared x (flat_map f before) =
+      ap (λ (i : ℕ). compared x (flat_map f (range_with_len 1 i))) less in
+      let turns : flat_map f (before ++ suc n ∷ []) ≡ flat_map f before ++ f (suc n) =
+      flat_map-append f before (suc n ∷ [])
+      ∙ ap (λ (l : List Part). flat_map f before ++ l) (append-nil (f (suc n))) in
+      now
+      ∙ ap (λ (l : List Part). l ++ compared x (f (suc n))) (was ∙ ap (λ (l : List Part). start ++ l) before_it)
+      ∙ append_assoc start (compared x (flat_map f before)) (compared x (f (suc n)))
+      ∙ ap (λ (l : List Part). start ++ l)
+      (sym (ap (λ (l : List ℕ). compared x (flat_map f l)) range ∙ ap (compared x) turns
+      ∙ compared-append (flat_map f before) (f (suc n))))
+
+  -- all turns
+  pub turns_of_all : (f : ℕ → List Part) (k s : ℕ)
+      → k ≡ s + 1
+      → turns_before f k ≡ compared x (flat_map f (range_with_len 1 s))
+  turns_of_all f k s e =
+      let less : k - 1 ≡ s = omega (arith, e) in ap (λ (n : ℕ). compared x (flat_map f (range_with_len 1 n))) less
+
+  -- turns of a part each
+  pub singles : (f : ℕ → Part) (k s : ℕ)
+      → k ≡ s + 1
+      → turns_before (λ k. f k ∷ []) k ≡ compared x (map f (range_with_len 1 s))
+  singles f k s e =
+      turns_of_all (λ k. f k ∷ []) k s e ∙ ap (compared x) (flat_map_single f (range_with_len 1 s))
+
+  -- what is compared has a weight of so many factors
+  each_weight : (parts : List book.Part)
+      → AllByRecursion (λ p. is_compared x p ≡ true) (parts_of parts)
+      → AllByRecursion (IsWeight (x.w + x.n)) parts
+  each_weight [] h = tt
+  each_weight (part ∷ parts) h = (own part h.0, each_weight parts h.1)
+    where
+      own : (part : book.Part) → is_compared x (part_of part) ≡ true → IsWeight (x.w + x.n) part
+      own (Constant k) h =
+          let p = and_parts _ _ h in
+          let low : 3 ≤ k = leb-true 3 k p.0 in
+          (omega arith, leb-true k (x.w + x.n) p.1)
+      own (Confounded k) h =
+          let p = and_parts _ _ (and_parts _ _ h).1 in
+          let low : 2 ≤ k = leb-true 2 k p.0 in
+          (omega arith, leb-true k (x.w + x.n) p.1)
+      own Unclear h = tt
+
+  -- the parts of which an order has those that are compared
+  abbrev all_of : Order → List Part
+  all_of FactorsFirst = map (Words false) (weights x) ++ map (Words true) (weights x)
+  all_of ChengWuFirst = flat_map (λ k. Words false (2 * k - 1) ∷ Words false (2 * k) ∷ Words true k ∷ []) (weights x)
+  all_of ChengWuSecond =
+      flat_map (λ k. Words false (2 * k - 2) ∷ Words false (2 * k - 1) ∷ Words true k ∷ []) (weights x)
+  all_of SitterChenFeder = flat_map (λ k. Words false (k + 1) ∷ Words true k ∷ []) (weights x)
+  all_of MostClear =
+      Words false 3 ∷ designs.Unclear ∷ map (λ k. Words false (3 + k)) (weights x) ++ map (Words true) (weights x)
+
+  passes : (order : Order) → All (λ p. is_compared x p ≡ true) (order_of order x)
+  passes FactorsFirst = filter_passes (is_compared x) (all_of FactorsFirst)
+  passes ChengWuFirst = filter_passes (is_compared x) (all_of ChengWuFirst)
+  passes ChengWuSecond = filter_passes (is_compared x) (all_of ChengWuSecond)
+  passes SitterChenFeder = filter_passes (is_compared x) (all_of SitterChenFeder)
+  passes MostClear = filter_passes (is_compared x) (all_of MostClear)
+
+  pub weights_of : {E : Type 0} (order : Order) (r : Result (List book.Part) E)
+      → IfOk r (λ (parts : List book.Part). parts_of parts ≡ order_of order x)
+      → IfOk r (λ (parts : List book.Part). All (IsWeight (x.w + x.n)) parts)
+  weights_of order (Err e) h = tt
+  weights_of order (Ok parts) h =
+      All-from_recursion (IsWeight (x.w + x.n)) parts
+      (each_weight parts (recursion_from_All (λ p. is_compared x p ≡ true) (parts_of parts)
+      (subst (All (λ p. is_compared x p ≡ true)) (sym h) (passes order))))
