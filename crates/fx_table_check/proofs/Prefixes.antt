@@ -1,0 +1,155 @@
+-- What is kept of a prefix says how many words of each kind it has.
+use Rattle.std.proofs.Common.{ℕ, ◌≡◌, ◌<◌, ◌≤◌, ◌+◌, ◌-◌, ◌*◌, ◌^◌, zero, suc, Bool, true, false, List, [], ◌∷◌, ◌++◌}
+use Rattle.std.proofs.Common.{length, take}
+use Rattle.std.proofs.Common.{slice_index, sym, subst, ◌∙◌, ap, ap₂, arith}
+use Rattle.std.specs.List.{AllByRecursion}
+use Rattle.std.proofs.lemmas.List.{length_push, take-append-le, take-map, map_push, length-take, length-map, take_all}
+use Rattle.std.proofs.lemmas.List.{take-take}
+use Rattle.std.proofs.Math.Nat.{pow-le-pow_right}
+use Rattle.fx_designs.specs.Patterns.{pattern_of}
+use Rattle.fx_base.proofs.Lists.{each-append}
+use Rattle.fx_vectors.specs.declared.shape.Shape.{Shape}
+use Rattle.fx_vectors.specs.Matrix.{MatrixView, IsMatrix}
+use Rattle.fx_points.specs.Sums.{SumsView}
+use Rattle.fx_strata.specs.Canonical.{dimensions_of, words}
+use Rattle.fx_table_book.specs.declared.base.Base.{Base}
+use Rattle.fx_table_check.specs.Counts.{coset, confounded_at}
+use Rattle.fx_table_book.specs.Tables.{strata_of, shape_of, IsBase}
+use Rattle.fx_table_check.specs.Prefixes.{PrefixView, IsPrefix}
+use Rattle.fx_table_book.proofs.Bases.{field, some-levels}
+use Rattle.fx_table_check.proofs.Counts.{words-false, words-true, words-most}
+
+each-at : (P : ℕ → Type 0) (rows : List ℕ) → AllByRecursion P rows → (i : ℕ) → i < length rows → P (slice_index rows i)
+each-at P [] h i low = absurd (omega arith)
+each-at P (r ∷ rows) h zero low = h.0
+each-at P (r ∷ rows) h (suc i) low = each-at P rows h.1 i (omega arith)
+
+-- a row more, below q^m
+pub record Extends (base : Base) (rows : List ℕ) (r i : ℕ) : Type 0 where
+  pub valid : IsBase base
+  pub low : AllByRecursion (λ r. r < base.q ^ base.m) rows
+  pub below : r < base.q ^ base.m
+  pub room : length rows < base.w + base.n
+  pub at : i < base.w + base.n
+
+-- what is known of a prefix and the row says this
+pub extends : (base : Base) (v now : PrefixView) (r i : ℕ) → v ≡ now → base ≡ v.base → IsBase base
+    → (tally read : MatrixView) → tally.rows ≡ v.rows → tally.shape ≡ shape_of base → read ≡ tally
+    → IsMatrix read.shape read.rows → r < now.base.q ^ now.base.m → length now.rows < now.base.w + now.base.n
+    → i < now.base.w + now.base.n
+    → Extends base v.rows r i
+extends base v now r i same own h tally read rows shape was m below room at =
+    let matrix : IsMatrix tally.shape tally.rows = subst (λ (t : MatrixView). IsMatrix t.shape t.rows) was m in
+    let back : base ≡ now.base = own ∙ ap (λ (z : PrefixView). z.base) same in record {
+      valid = h;
+      low = subst (λ l. AllByRecursion (λ r. r < base.q ^ base.m) l) rows
+          (subst (λ (s : Shape). AllByRecursion (λ r. r < s.q ^ s.m) tally.rows) shape matrix.below);
+      below = subst (λ (b : Base). r < b.q ^ b.m) (sym back) below;
+      room = subst (λ (b : Base). length v.rows < b.w + b.n) (sym back)
+          (subst (λ l. length l < now.base.w + now.base.n) (sym (ap (λ (z : PrefixView). z.rows) same)) room);
+      at = subst (λ (b : Base). i < b.w + b.n) (sym back) at;
+    }
+
+module _ (base : Base) (rows : List ℕ) (r i : ℕ) (e : Extends base rows r i) where
+  valid : IsBase base
+  valid = e.valid
+
+  all-low : AllByRecursion (λ r. r < base.q ^ base.m) (rows ++ r ∷ [])
+  all-low = each-append (λ r. r < base.q ^ base.m) rows (r ∷ []) e.low (e.below, tt)
+
+  fits : length (rows ++ r ∷ []) ≤ base.w + base.n
+  fits = omega (arith, length_push rows r, e.room)
+
+  pub constant : words (strata_of base) (rows ++ r ∷ []) false (i + 1)
+      ≡ (base.q - 1) * slice_index (pattern_of (dimensions_of (strata_of base)) (rows ++ r ∷ [])) i
+  constant =
+      words-false (strata_of base) (field base valid) valid.inside (rows ++ r ∷ [])
+      (each-at (λ r. r < base.q ^ base.m) (rows ++ r ∷ []) all-low) fits i e.at
+
+  pub confounded : words (strata_of base) (rows ++ r ∷ []) true (i + 1)
+      ≡ (base.q - 1)
+      * (confounded_at (strata_of base) (rows ++ r ∷ []) i
+      - confounded_at (strata_of base) (take base.w (rows ++ r ∷ [])) i)
+  confounded =
+      words-true (strata_of base) (field base valid) valid.inside (rows ++ r ∷ [])
+      (each-at (λ r. r < base.q ^ base.m) (rows ++ r ∷ []) all-low) fits i e.at
+
+  -- the inside factors alone have no confounded words of any account
+  pub none-yet : length rows < base.w → ◌≡◌ {A = ℕ} (words (strata_of base) (rows ++ r ∷ []) true (i + 1)) 0
+  none-yet few =
+      confounded
+      ∙ ap (λ l. (base.q - 1)
+      * (confounded_at (strata_of base) (rows ++ r ∷ []) i - confounded_at (strata_of base) l i))
+      (take_all base.w (rows ++ r ∷ []) (omega (arith, length_push rows r)))
+      ∙ none (base.q - 1) (confounded_at (strata_of base) (rows ++ r ∷ []) i)
+    where
+      none : (a b : ℕ) → ◌≡◌ {A = ℕ} (a * (b - b)) 0
+      none a b = ap (λ n. a * n) (let z : b - b ≡ 0 = omega arith in z) ∙ (omega arith)
+
+  pub confounded-late : base.w ≤ length rows → (noted : ℕ)
+      → noted ≡ confounded_at (strata_of base) (take base.w rows) i
+      → (base.q - 1) * (confounded_at (strata_of base) (rows ++ r ∷ []) i - noted)
+      ≡ words (strata_of base) (rows ++ r ∷ []) true (i + 1)
+  confounded-late late noted is =
+      ap (λ n. (base.q - 1) * (confounded_at (strata_of base) (rows ++ r ∷ []) i - n))
+      (is ∙ ap (λ l. confounded_at (strata_of base) l i) (sym (take-append-le base.w rows (r ∷ []) late)))
+      ∙ sym confounded
+
+  pub most : (b : Bool) (k : ℕ) → words (strata_of base) (rows ++ r ∷ []) b k ≤ 2 ^ 120
+  most b k =
+      let few = words-most (strata_of base) (field base valid) valid.inside (rows ++ r ∷ []) b k in
+      let more : base.q ^ length (rows ++ r ∷ []) ≤ base.q ^ (base.w + base.n) =
+      pow-le-pow_right (some-levels base valid) fits in
+      omega (arith, few, more, valid.few_words)
+
+-- what is noted, where the prefix is the same
+pub noted-of : (v u : PrefixView) → v ≡ u → (noted : List ℕ) (i : ℕ)
+    → ((i : ℕ) → i < v.base.w + v.base.n → v.base.w ≤ length v.rows
+    → slice_index noted i ≡ confounded_at (strata_of v.base) (take v.base.w v.rows) i)
+    → i < u.base.w + u.base.n → u.base.w ≤ length u.rows
+    → slice_index noted i ≡ confounded_at (strata_of u.base) (take u.base.w u.rows) i
+noted-of v u same noted i known at late =
+    subst (λ (z : PrefixView). (i : ℕ) → i < z.base.w + z.base.n → z.base.w ≤ length z.rows
+    → slice_index noted i ≡ confounded_at (strata_of z.base) (take z.base.w z.rows) i) same known i at late
+
+-- one row more
+pub pushed : (base : Base) (rows modulo : MatrixView) (noted : List ℕ) (others : Shape) (sums : SumsView)
+    → IsPrefix base rows modulo noted others sums
+    → (r : ℕ) → length rows.rows < base.w + base.n
+    → (noted' : List ℕ)
+    → ((i : ℕ) → i < base.w + base.n → base.w ≤ length rows.rows + 1
+    → slice_index noted' i ≡ confounded_at (strata_of base) (take base.w (rows.rows ++ r ∷ [])) i)
+    → IsPrefix base (record rows { rows = rows.rows ++ r ∷ [] })
+    (record modulo { rows = modulo.rows ++ coset (strata_of base) r ∷ [] }) noted' others sums
+pushed base rows modulo noted others sums h r room noted' are = record {
+  valid = h.valid;
+  shape = h.shape;
+  coset_shape = h.coset_shape;
+  others_shape = h.others_shape;
+  sums_are = h.sums_are;
+  cosets = ap (λ l. l ++ coset (strata_of base) r ∷ []) h.cosets ∙ sym (map_push (coset (strata_of base)) rows.rows r);
+  few = omega (arith, length_push rows.rows r);
+  inside = λ i at late. are i at (omega (arith, late, length_push rows.rows r));
+}
+
+-- one row less
+pub popped : (base : Base) (rows modulo : MatrixView) (noted : List ℕ) (others : Shape) (sums : SumsView)
+    → IsPrefix base rows modulo noted others sums
+    → IsPrefix base (record rows { rows = take (length rows.rows - 1) rows.rows })
+    (record modulo { rows = take (length modulo.rows - 1) modulo.rows }) noted others sums
+popped base rows modulo noted others sums h =
+    let k : ℕ = length rows.rows - 1 in
+    let len : length modulo.rows ≡ length rows.rows =
+    ap (λ (l : List ℕ). length l) h.cosets ∙ length-map rows.rows (coset (strata_of base)) in
+    let short = length-take k rows.rows in record {
+      valid = h.valid;
+      shape = h.shape;
+      coset_shape = h.coset_shape;
+      others_shape = h.others_shape;
+      sums_are = h.sums_are;
+      cosets = ap₂ (λ n l. take (n - 1) l) len h.cosets ∙ take-map (coset (strata_of base)) k rows.rows;
+      few = omega (arith, short, h.few);
+      inside = λ i at late. h.inside i at (omega (arith, late, short))
+          ∙ ap (λ l. confounded_at (strata_of base) l i)
+          (sym (take-take base.w k rows.rows (omega (arith, late, short))));
+    }

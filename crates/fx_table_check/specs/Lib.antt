@@ -1,0 +1,7 @@
+pub mod Counts
+pub mod Effects
+pub mod Goals
+pub mod Prefixes
+pub mod Checking
+pub mod Keys
+pub mod Moves
