@@ -1,0 +1,4 @@
+mod Stepping
+mod Shapes
+pub mod Ruled
+mod Examples
