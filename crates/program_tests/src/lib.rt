@@ -19,6 +19,10 @@ mod program;
 #[cfg(test)]
 mod rules;
 #[cfg(test)]
+mod table_lines;
+#[cfg(test)]
+mod table_rules;
+#[cfg(test)]
 mod tables;
 
 // A helper ends the test where memory runs out, by `expect`, and hands on no error: each way out of a function is

@@ -25,6 +25,8 @@ mod questions;
 #[cfg(test)]
 mod searches;
 #[cfg(test)]
+mod table_books;
+#[cfg(test)]
 mod table_search;
 #[cfg(test)]
 mod tables;
