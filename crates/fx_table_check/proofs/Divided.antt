@@ -60,9 +60,10 @@ pub valid-more : (q : ℕ) (key : List ℕ) (i value c : ℕ) → c ≡ q - 1 �
 valid-more q key i value c codes whole low valid more is =
     let exact : (q - 1) * (value / c) ≡ value =
     ap (λ n. n * (value / c)) (sym codes) ∙ none (c * (value / c)) (value % c) whole ∙ div-add-mod value c in
-    subst (λ (l : List ℕ). IsKey q (i + 1) (Some l)) (sym is)
-    ( length-append key (value / c ∷ []) ∙ ap (λ k. k + 1) valid.0
-    , All-push (λ a. (q - 1) * a < 2 ^ 127) key (value / c) valid.1 (subst (λ n. n < 2 ^ 127) (sym exact) low))
+    subst (λ (l : List ℕ). IsKey q (i + 1) (Some l)) (sym is) (
+      length-append key (value / c ∷ []) ∙ ap (λ k. k + 1) valid.0,
+      All-push (λ a. (q - 1) * a < 2 ^ 127) key (value / c) valid.1 (subst (λ n. n < 2 ^ 127) (sym exact) low),
+    )
   where
     none : (a b : ℕ) → b ≡ 0 → a ≡ a + b
     none a b e = omega arith

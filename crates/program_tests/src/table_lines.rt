@@ -46,8 +46,9 @@ const MORE_LEVELS: [Case<'static>; 10] = [
 fn head_of(rt: &impl Abort, alloc: Global, base: &str, order: &str) -> TableBook
     ensures { IsBook result }
 {
-    let text = format!(in alloc; "factex-table 2\nbase {base}\norder {order}\nkey none\nEND\n")
-        .expect(rt, "memory");
+    let text = format!(in alloc;
+        "factex-table 2\nbase {base}\norder {order}\nkey none\nEND\n"
+    ).expect(rt, "memory");
     read_table_book(alloc, text.as_bytes()).expect(rt, "a head")
 }
 
