@@ -19,7 +19,7 @@ use Rattle.fx_laws.proofs.Ranks.{in_span-true, in_span-holds, map-vectors, in_sp
 use Rattle.fx_laws.proofs.Raises.{scale-combination}
 use Rattle.fx_laws.proofs.Forms.{inv-positive, scale-one}
 use Rattle.fx_laws.proofs.Scalings.{scale-scale, scaled-combination, scaled-length, scaled-vectors, times-vector}
-use Rattle.fx_strata.specs.Designs.{Strata, Order, Words, Unclear, base_of, words_of, unclear_of, figures_of, key_of}
+use Rattle.fx_strata.specs.Designs.{Strata, Order, Words, Unclear, base_of, words_of, unclear_of}
 use Rattle.fx_strata.specs.Designs.{IsStratified, IsLeast, NoneLess}
 use Rattle.fx_strata.specs.Words.{words_in}
 use Rattle.fx_strata.specs.Sums.{is_in_base, sums_of, effects_at, is_unclear_sum}

@@ -22,6 +22,7 @@ pub mod First
 pub mod Floored
 pub mod Good
 pub mod Spreads
+pub mod Fewer
 mod Ordinary
 mod Once
 mod Orders

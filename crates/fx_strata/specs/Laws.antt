@@ -1,6 +1,6 @@
 -- What is proved of designs with a base.
 use Rattle.std.specs.Prelude.{ℕ, ◌≡◌, ◌<◌, ◌≤◌, ◌==◌, ◌+◌, ◌^◌, ◌&&◌, ◌||◌, ◌↔◌, not, nat_lt, Bool, true, false, List}
-use Rattle.std.specs.Prelude.{◌++◌, map, length, count_by, All, Option, Some, None}
+use Rattle.std.specs.Prelude.{◌++◌, map, take, length, count_by, All, Option, Some, None}
 use Rattle.std.specs.List.{range_with_len}
 use Rattle.fx_designs.specs.Galois.{digits}
 use Rattle.fx_designs.specs.Vectors.{IsVector, weight, scale, vectors_of}
@@ -204,3 +204,14 @@ LeastOfAll x = (rows : List ℕ)
     → is_design x.strata rows ≡ true
     → x.beat ≡ Some (key_of x.order (figures x.strata rows))
     → IsLeast x.strata x.order (base x.strata) (vectors_of x.strata.q x.strata.m rows)
+
+-- designs with another number of factors outside the base
+abbrev pub with_outside : Strata → ℕ → Strata
+with_outside x n = record { q = x.q; m = x.m; h = x.h; w = x.w; n = n }
+
+-- a design without its last factors is one of fewer factors
+abbrev pub FewerFactors : Strata → Type 0
+FewerFactors x = (n : ℕ) (blocks factors : List (List ℕ))
+    → n ≤ x.n
+    → IsStratified x blocks factors
+    → IsStratified (with_outside x n) blocks (take (x.w + n) factors)

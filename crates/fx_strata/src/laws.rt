@@ -5,6 +5,7 @@ ghost use Rattle.fx_strata.specs.Designs.{Strata, Order};
 ghost use Rattle.fx_strata.specs.Orders.{CompareOnce};
 ghost use Rattle.fx_strata.specs.Books.{Claim, Entry, is_good};
 ghost use Rattle.fx_strata.specs.Spreads.{WordsBySpreads, NewWordsBySpreads};
+ghost use Rattle.fx_strata.specs.Laws.{FewerFactors};
 ghost use Rattle.fx_strata.specs.Laws.{CanonicalForEvery, CanonicalAreDesigns, DesignsAreTested, EarlierForEach};
 ghost use Rattle.fx_strata.specs.Laws.{NoneWithoutRoom, NoneBelow, HasFactors, NoneBetter, LeastOfAll};
 ghost use Rattle.fx_strata.specs.Laws.{ClearAreAlone, SameClear, ClearOrNot, ClearByTallies, LiveByTallies};
@@ -29,6 +30,12 @@ pub fn canonical_designs_suffice()
 /// has one before it with as many words of each kind and weight, and as many clear ones.
 pub fn earlier_images()
     ensures { (x : Strata) → IsTrue (is_order x.q) → EarlierForEach x }
+{}
+
+/// A design without its last factors is one of fewer factors, so where there is none of so many there is
+/// none of more.
+pub fn fewer_factors()
+    ensures { (x : Strata) → IsTrue (is_order x.q) → FewerFactors x }
 {}
 
 /// No design is below a prefix that too few rows can follow.
