@@ -3,7 +3,7 @@ use Rattle.std.proofs.Common.{ℕ, ◌≡◌, ◌<◌, List, length, Result, Err
 use Rattle.std.specs.Prelude.{IsErrAnd}
 use Rattle.std.proofs.lemmas.Bool.{lt-ltb}
 use Rattle.fx_book.specs.declared.fault.FaultKind.TheVariants.{TooLong}
-use Rattle.fx_tables.specs.Texts.{table_of}
+use Rattle.fx_table_book.specs.Texts.{book_of}
 use Rattle.fx_program.specs.declared.stop.Stop.{Stop}
 use Rattle.fx_program.specs.Output.{Output}
 use Rattle.fx_program.specs.Outside.{Ends, Outside}
@@ -11,8 +11,8 @@ use Rattle.fx_program.specs.Stops.{exit_status}
 use Rattle.fx_program.proofs.Endings.{error_is, stopped_high}
 
 -- no book of a table
-pub long_table : (text : List ℕ) → 33554432 < length text → table_of text ≡ Err (record { kind = TooLong; line = 1 })
-unfolding table_of
+pub long_table : (text : List ℕ) → 33554432 < length text → book_of text ≡ Err (record { kind = TooLong; line = 1 })
+unfolding book_of
 long_table text long = rw (lt-ltb 33554432 (length text) long) refl
 
 -- a stop does not end with status 0

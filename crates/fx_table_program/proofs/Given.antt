@@ -1,8 +1,8 @@
 -- What is given for words, by the settings that they ask for.
-use Rattle.std.proofs.Common.{ℕ, ◌≡◌, ◌≤◌, ◌-◌, List, [], Option, Result, Ok, Err, subst}
+use Rattle.std.proofs.Common.{ℕ, ◌≡◌, ◌≤◌, ◌+◌, ◌-◌, List, [], Option, Result, Ok, Err, subst}
 use Rattle.std.specs.Prelude.{IfOk}
 use Rattle.fx_base.specs.Acts.{World}
-use Rattle.fx_table_search.specs.declared.line.TableLine.{TableLine}
+use Rattle.fx_table_lines.specs.declared.line.TableLine.{TableLine}
 use Rattle.fx_program.specs.declared.stop.Stop.{Stop}
 use Rattle.fx_program.specs.declared.words.WordFault.{WordFault}
 use Rattle.fx_program.specs.Outside.{Outside, world_of}
@@ -10,7 +10,7 @@ use Rattle.fx_program.specs.Stops.{exit_status}
 use Rattle.fx_edge.proofs.Untouched.{nothing_given}
 use Rattle.fx_table_program.specs.declared.words.TableSettings.{TableSettings}
 use Rattle.fx_table_program.specs.declared.words.TableSettings.TheVariants.{Check, Table}
-use Rattle.fx_table_program.specs.CommandLine.{settings_of}
+use Rattle.fx_table_program.specs.CommandLine.{first_line, settings_of}
 use Rattle.fx_table_program.specs.Commands.{AreLinesFor, IsTabulated, Tabulates, command_for}
 use Rattle.fx_table_program.proofs.Tabulated.{open_table, opens}
 
@@ -30,13 +30,13 @@ tabulated {words} {asked} {old} {new} {ended} same given =
 -- lines for settings, all of them open
 open_lines : Result TableSettings WordFault → List TableLine
 open_lines (Ok Check) = []
-open_lines (Ok (Table q m most threads entries)) = opens (most - m)
+open_lines (Ok (Table asked)) = opens (asked.upto + 1 - first_line asked)
 open_lines (Err fault) = []
 
 open_lines_hold : (asked : Result TableSettings WordFault) → AreLinesFor asked (open_lines asked)
 unfolding open_lines
 open_lines_hold (Ok Check) = tt
-open_lines_hold (Ok (Table q m most threads entries)) = open_table q m most entries
+open_lines_hold (Ok (Table asked)) = open_table asked
 open_lines_hold (Err fault) = tt
 
 -- where nothing was read and nothing written, whatever the words are

@@ -1,4 +1,7 @@
-mod OfCatalogue
+mod Limits
+mod Wording
+mod Entries
+mod ShortNames
 mod Tabulated
 mod Checked
 mod Given

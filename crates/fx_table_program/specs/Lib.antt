@@ -1,4 +1,6 @@
-pub mod Tables
-pub mod Listing
 pub mod CommandLine
+pub mod Figures
+pub mod Listing
+pub mod Tables
+pub mod Outputs
 pub mod Commands

@@ -1,95 +1,105 @@
--- What is given for a table: the files of its books, and its lines as texts.
-use Rattle.std.specs.Prelude.{ℕ, ◌≤◌, ◌+◌, ◌^◌, List, [], ◌∷◌, ◌++◌, length, map, drop, codes, decimal}
-use Rattle.std.specs.List.{range_with_len}
-use Rattle.fx_base.specs.Acts.{Event, Piece, WholeFile}
+-- The head of a table, the names of the files of its books, and the rules of a design.
+use Rattle.std.specs.Prelude.{ℕ, ◌==◌, ◌+◌, ◌-◌, ◌^◌, nat_lt, if◌then◌else◌, Bool, List, [], ◌∷◌, ◌++◌, map}
+use Rattle.std.specs.Prelude.{codes, decimal}
+use Rattle.std.specs.List.{list_all, list_any, range_with_len}
 use Rattle.fx_designs.specs.Galois.{digits}
-use Rattle.fx_designs.specs.Patterns.{resolution_of}
 use Rattle.fx_components.specs.Products.{product}
-use Rattle.fx_catalogue.specs.Listing.{counts_from}
+use Rattle.fx_vectors.specs.declared.shape.Shape.{Shape}
 use Rattle.fx_vectors.specs.Matrix.{MatrixView}
-use Rattle.fx_vectors.specs.Shape.{IsShape}
-use Rattle.fx_tables.specs.declared.entry.TableBook.{TableBook}
-use Rattle.fx_tables.specs.Texts.{table_text}
-use Rattle.fx_table_search.specs.declared.line.TableLine.{TableLine}
-use Rattle.fx_table_search.specs.declared.line.TableLine.TheVariants.{Least, Nothing, Open}
-use Rattle.fx_program.specs.Output.{Output, with_files, worse}
+use Rattle.fx_table_book.specs.declared.base.Base.{Base}
+use Rattle.fx_table_book.specs.declared.order.Order.{Order}
+use Rattle.fx_table_book.specs.declared.order.Order.TheVariants.{FactorsFirst, ChengWuFirst, ChengWuSecond}
+use Rattle.fx_table_book.specs.declared.order.Order.TheVariants.{SitterChenFeder, MostClear}
 
-abbrev pub head_text : ℕ → ℕ → List ℕ
-head_text q m = codes "table levels " ++ (decimal q ++ (codes " runs " ++ (decimal (q ^ m) ++ codes "\n")))
+-- the order, where it is not that of factors first, behind these signs
+abbrev pub order_text : List ℕ → Order → List ℕ
+order_text signs FactorsFirst = []
+order_text signs ChengWuFirst = signs ++ codes "W1"
+order_text signs ChengWuSecond = signs ++ codes "W2"
+order_text signs SitterChenFeder = signs ++ codes "SCF"
+order_text signs MostClear = signs ++ codes "CLEAR"
 
--- the name of factor k, counted from 1
-abbrev pub factor_name : ℕ → List ℕ
-factor_name k = codes "X" ++ decimal k
+abbrev pub whole_plots_text : Base → List ℕ
+whole_plots_text base =
+    codes " whole plots " ++ (decimal (base.q ^ base.h) ++ (codes " inside " ++ decimal base.w))
 
-abbrev pub first_names : ℕ → List (List ℕ)
-first_names m = map factor_name (range_with_len 1 m)
+-- the groups of the runs, where there is a base
+abbrev pub groups_text : Base → List ℕ
+groups_text base =
+    (if base.h == 0
+    then []
+    else (if base.w == 0 then codes " blocks " ++ decimal (base.q ^ base.h) else whole_plots_text base))
 
--- the rule of factor k, a product of the first m factors
-abbrev pub rule_text : ℕ → ℕ → ℕ → ℕ → List ℕ
-rule_text q m k row = codes " " ++ (factor_name k ++ (codes "=" ++ product (first_names m) (digits q m row)))
+-- the first line of a table of such designs, whatever the number of factors outside the base
+abbrev pub head_text : Base → Order → List ℕ
+head_text base order =
+    codes "table levels "
+    ++ (decimal base.q
+    ++ (codes " runs "
+    ++ (decimal (base.q ^ base.m) ++ (groups_text base ++ (order_text (codes " order ") order ++ codes "\n")))))
 
--- the rules of factor k and those after it, by their rows
-abbrev pub rules_from : ℕ → ℕ → ℕ → List ℕ → List ℕ
-rules_from q m k [] = []
-rules_from q m k (row ∷ rows) = rule_text q m k row ++ rules_from q m (k + 1) rows
+abbrev pub inside_text : ℕ → List ℕ
+inside_text inside = (if inside == 0 then [] else decimal inside ++ codes " ")
 
--- the rules of the factors after the first m
-abbrev pub rules_text : MatrixView → List ℕ
-rules_text matrix =
-    codes "rules"
-    ++ (rules_from matrix.shape.q matrix.shape.m (matrix.shape.m + 1) (drop matrix.shape.m matrix.rows) ++ codes "\n")
+-- the factors of a line: those inside the base, where there are some, and those outside
+abbrev pub factors_text : Base → List ℕ
+factors_text base = codes "factors " ++ (inside_text base.w ++ (decimal base.n ++ codes " "))
 
--- what a line has after the number of factors
-abbrev pub ending_text : TableLine → List ℕ
-ending_text (Least matrix pattern book) =
-    codes "entries "
-    ++ (decimal (length book.entries)
-    ++ (codes " resolution "
-    ++ (decimal (resolution_of pattern) ++ (counts_from 1 pattern ++ (codes "\n" ++ rules_text matrix)))))
-ending_text (Nothing book) = codes "entries " ++ (decimal (length book.entries) ++ codes " none\n")
-ending_text (Open entries) = codes "open after " ++ (decimal entries ++ codes " entries\n")
+abbrev pub whole_name : Base → List ℕ
+whole_name base = codes "-whole-" ++ (decimal (base.q ^ base.h) ++ (codes "-" ++ decimal base.w))
 
--- the line for s factors, and its rules where it has a design
-abbrev pub line_text : ℕ → TableLine → List ℕ
-line_text s line = codes "factors " ++ (decimal s ++ (codes " " ++ ending_text line))
+abbrev pub groups_name : Base → List ℕ
+groups_name base =
+    (if base.h == 0
+    then []
+    else (if base.w == 0 then codes "-blocks-" ++ decimal (base.q ^ base.h) else whole_name base))
 
 -- the name of the file of a book
-abbrev pub book_name : ℕ → ℕ → ℕ → List ℕ
-book_name q m s =
-    codes "table-" ++ (decimal q ++ (codes "-" ++ (decimal m ++ (codes "-" ++ (decimal s ++ codes ".book")))))
+abbrev pub book_name : Base → Order → List ℕ
+book_name base order =
+    codes "table-"
+    ++ (decimal base.q
+    ++ (codes "-"
+    ++ (decimal base.m
+    ++ (codes "-"
+    ++ (decimal base.n ++ (groups_name base ++ (order_text (codes "-") order ++ codes ".book")))))))
 
-abbrev pub book_file : ℕ → ℕ → ℕ → TableBook → Event
-book_file q m s book = WholeFile (book_name q m s) (table_text book)
+-- the name of the row at k, counted from 0, of s factors and then block factors
+abbrev pub row_name : ℕ → ℕ → List ℕ
+row_name s k = (if nat_lt k s then codes "X" ++ decimal (k + 1) else codes "[" ++ (decimal (k - s + 1) ++ codes "]"))
 
--- the file of the book of a line that is not open
-abbrev pub files_of : ℕ → ℕ → ℕ → TableLine → List Event
-files_of q m s (Least matrix pattern book) = book_file q m s book ∷ []
-files_of q m s (Nothing book) = book_file q m s book ∷ []
-files_of q m s (Open entries) = []
+-- the place of the first of these rows, or their number where it is none
+abbrev pub place_of : ℕ → List ℕ → ℕ
+place_of row [] = 0
+place_of row (first ∷ rows) = (if row == first then 0 else place_of row rows + 1)
 
--- the status of a line: 0 for a design, 1 for none, 2 where it is open
-abbrev pub line_status : TableLine → ℕ
-line_status (Least matrix pattern book) = 0
-line_status (Nothing book) = 1
-line_status (Open entries) = 2
+-- the names of the first rows that are the unit vectors
+abbrev pub unit_names : MatrixView → List (List ℕ)
+unit_names matrix =
+    map (λ j. row_name matrix.shape.s (place_of (matrix.shape.q ^ j) matrix.rows)) (range_with_len 0 matrix.shape.m)
 
--- the book, and then the line
-abbrev pub line_output : ℕ → ℕ → ℕ → TableLine → Output
-line_output q m s line = with_files (files_of q m s line) (line_text s line) (line_status line)
+abbrev pub is_unit : ℕ → ℕ → ℕ → Bool
+is_unit q m row = list_any (λ j. (q ^ j) == row) (range_with_len 0 m)
 
--- the lines from s factors on, after these events and this status; the greatest status decides
-abbrev pub lines_output : ℕ → ℕ → ℕ → List Event → ℕ → List TableLine → Output
-lines_output q m s events status [] = record { events = events; status = status }
-lines_output q m s events status (line ∷ lines) =
-    let given = line_output q m s line in
-    lines_output q m (s + 1) (events ++ given.events) (worse status given.status) lines
+-- the rule of the row at k, a product of the rows that are unit vectors and have these names; these need none
+abbrev pub rule_of : List (List ℕ) → Shape → ℕ → ℕ → List ℕ
+rule_of names shape k row =
+    codes " " ++ (row_name shape.s k ++ (codes "=" ++ product names (digits shape.q shape.m row)))
 
--- a line that can be listed: a pattern of at most 254 weights, and a book within the limits
-abbrev pub IsListable : TableLine → Type 0
-IsListable (Least matrix pattern book) = (length pattern ≤ 254) × IsShape book.head.question.shape
-IsListable (Nothing book) = IsShape book.head.question.shape
-IsListable (Open entries) = Unit {0}
+abbrev pub rule_text : List (List ℕ) → Shape → ℕ → ℕ → List ℕ
+rule_text names shape k row = (if is_unit shape.q shape.m row then [] else rule_of names shape k row)
 
--- what is given for a table with these lines
-abbrev pub table_output : ℕ → ℕ → List TableLine → Output
-table_output q m lines = lines_output q m (m + 1) (Piece (head_text q m) ∷ []) 0 lines
+-- the rules of rows, of which the first is at k
+abbrev pub rules_from : List (List ℕ) → Shape → ℕ → List ℕ → List ℕ
+rules_from names shape k [] = []
+rules_from names shape k (row ∷ rows) = rule_text names shape k row ++ rules_from names shape (k + 1) rows
+
+abbrev pub some_rules : MatrixView → List ℕ
+some_rules matrix =
+    (if list_all (is_unit matrix.shape.q matrix.shape.m) matrix.rows
+    then codes " none"
+    else rules_from (unit_names matrix) matrix.shape 0 matrix.rows)
+
+-- a rule for each row that is no unit vector
+abbrev pub rules_text : MatrixView → List ℕ
+rules_text matrix = codes "rules" ++ (some_rules matrix ++ codes "\n")

@@ -1,25 +1,55 @@
--- A table: for some levels and runs the lines of more and more factors, up to the first without a design.
-use Rattle.std.specs.Prelude.{ℕ, ◌≡◌, ◌+◌, ◌-◌, Bool, true, false, List, [], ◌∷◌, length}
-use Rattle.fx_catalogue.specs.Catalogues.{shape_at, up_to}
-use Rattle.fx_table_search.specs.Lines.{Holds}
-use Rattle.fx_table_search.specs.declared.line.TableLine.{TableLine}
-use Rattle.fx_table_search.specs.declared.line.TableLine.TheVariants.{Least, Nothing, Open}
+-- A table: the lines of more and more factors outside the base, up to the first without a design.
+use Rattle.std.specs.Prelude.{ℕ, ◌≡◌, ◌≤◌, ◌+◌, ◌-◌, Bool, true, false, List, [], ◌∷◌, length}
+use Rattle.fx_catalogue.specs.Catalogues.{up_to}
+use Rattle.fx_table_book.specs.declared.base.Base.{Base}
+use Rattle.fx_table_book.specs.declared.book.TableBook.{TableBook}
+use Rattle.fx_strata.specs.Designs.{IsStratified}
+use Rattle.fx_table_book.specs.Tables.{strata_of}
+use Rattle.fx_table_book.specs.Texts.{book_text}
+use Rattle.fx_table_lines.specs.Lines.{Holds}
+use Rattle.fx_table_lines.specs.declared.line.TableLine.{TableLine}
+use Rattle.fx_table_lines.specs.declared.line.TableLine.TheVariants.{Least, Nothing, Open}
+use Rattle.fx_table_program.specs.declared.words.Asked.{Asked}
+use Rattle.fx_table_program.specs.CommandLine.{first_line}
 
--- whether no matrix has so many factors
+-- designs with n factors outside the base
+abbrev pub base_at : Asked → ℕ → Base
+base_at asked n = record { q = asked.q; m = asked.m; h = asked.h; w = asked.inside; n = n }
+
+-- whether there is no design with so many factors
 abbrev pub is_nothing : TableLine → Bool
-is_nothing (Least matrix pattern book) = false
+is_nothing (Least rows rules key book) = false
 is_nothing (Nothing book) = true
-is_nothing (Open entries) = false
+is_nothing (Open entries rows) = false
 
--- what each of the lines claims holds: of the first for s factors, of the next for one more, and so on
-abbrev pub AllHold : ℕ → ℕ → ℕ → ℕ → List TableLine → Type 0
-AllHold q m budget s [] = Unit {0}
-AllHold q m budget s (line ∷ lines) = Holds (shape_at q m s) budget line × AllHold q m budget (s + 1) lines
+-- the text of a book is none that is too long to be read
+abbrev pub IsShort : TableBook → Type 0
+IsShort book = length (book_text book) ≤ 33554432
 
--- Lines for m + 1 factors and more, at most `most`, each within the budget of entries, and what each claims holds of
--- all rule matrices. The first without a design is the last.
-pub record IsTable (q m most budget : ℕ) (lines : List TableLine) : Type 0 where
+-- the book of a line can be read: where its text would be too long, the line is open
+abbrev pub IsReadable : TableLine → Type 0
+IsReadable (Least rows rules key book) = IsShort book
+IsReadable (Nothing book) = IsShort book
+IsReadable (Open entries rows) = Unit {0}
+
+-- what the line for n factors outside the base claims holds, and its book can be read
+pub record IsLine (asked : Asked) (n : ℕ) (line : TableLine) : Type 0 where
+  pub holds : Holds (base_at asked n) asked.order asked.entries line
+  pub readable : IsReadable line
+
+-- so it is with each of the lines: with the first for n factors, with the next for one more, and so on
+abbrev pub AllHold : Asked → ℕ → List TableLine → Type 0
+AllHold asked n [] = Unit {0}
+AllHold asked n (line ∷ lines) = IsLine asked n line × AllHold asked (n + 1) lines
+
+-- Lines from the first on that a table can have, each within the budget of entries, and what each claims holds of all
+-- designs in blocks or split plots. The first without a design is the last.
+pub record IsTable (asked : Asked) (lines : List TableLine) : Type 0 where
   pub all : List TableLine
-  pub count : length all ≡ most - m
-  pub hold : AllHold q m budget (m + 1) all
+  pub count : length all ≡ asked.upto + 1 - first_line asked
+  pub hold : AllHold asked (first_line asked) all
   pub listed : lines ≡ up_to is_nothing all
+
+-- there is no design with n factors outside the base
+abbrev pub HasNone : Asked → ℕ → Type 0
+HasNone asked n = (blocks factors : List (List ℕ)) → IsStratified (strata_of (base_at asked n)) blocks factors → ⊥

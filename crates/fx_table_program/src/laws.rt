@@ -1,19 +1,17 @@
 ghost use Rattle.std.specs.Prelude.{◌≡◌, ◌≤◌, ◌+◌, ℕ, List, IsTrue, length, true};
 ghost use Rattle.std.specs.List.{list_any};
 ghost use Rattle.fx_designs.specs.Galois.{is_order};
-ghost use Rattle.fx_designs.specs.Matrices.{NoneMeets};
-ghost use Rattle.fx_designs.specs.Problems.{AtResolution};
-ghost use Rattle.fx_vectors.specs.Shape.{dimensions_of};
-ghost use Rattle.fx_catalogue.specs.Catalogues.{shape_at};
-ghost use Rattle.fx_table_search.specs.declared.line.TableLine.{TableLine};
-ghost use Rattle.fx_table_program.specs.Tables.{IsTable, is_nothing};
+ghost use Rattle.fx_table_lines.specs.declared.line.TableLine.{TableLine};
+ghost use Rattle.fx_table_program.specs.declared.words.Asked.{Asked};
+ghost use Rattle.fx_table_program.specs.CommandLine.{first_line};
+ghost use Rattle.fx_table_program.specs.Tables.{HasNone, IsTable, is_nothing};
 
-/// Where a table has a line without a design, which is its last, no rule matrix with as many factors, or more,
-/// has resolution 3.
+/// Where a table has a line without a design, which is its last, there is no design with as many
+/// factors outside the base, or more.
 pub fn none_past_the_last_line()
-    ensures { (q m most budget : ℕ) (lines : List TableLine) (s : ℕ) → IsTrue (is_order q)
-        → IsTable q m most budget lines
+    ensures { (asked : Asked) (lines : List TableLine) (n : ℕ) → IsTrue (is_order asked.q)
+        → IsTable asked lines
         → list_any is_nothing lines ≡ true
-        → m + length lines ≤ s
-        → NoneMeets (dimensions_of (shape_at q m s)) (AtResolution 3) }
+        → first_line asked + length lines ≤ n + 1
+        → HasNone asked n }
 {}

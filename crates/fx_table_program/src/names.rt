@@ -1,59 +1,91 @@
-ghost use Rattle.std.specs.Prelude.{◌≡◌, ◌++◌, IfOk, OnOk};
-ghost use Rattle.fx_table_program.specs.Listing.{book_name, factor_name, first_names};
+ghost use Rattle.std.specs.Prelude.{◌≡◌, ◌<◌, ◌≤◌, ◌+◌, ◌^◌, ◌++◌, length, codes, decimal, IfOk, OnOk};
+ghost use Rattle.fx_table_book.specs.Tables.{IsBase};
+ghost use Rattle.fx_table_program.specs.Listing.{book_name, groups_name, order_text, whole_name};
 
 use arrayvec::ArrayVec;
-use fx_base::{Bytes, NoMemory, put, put_number};
 use fx_program::append;
-use fx_text::Names;
+use fx_table_book::{Base, Order};
 use itoa::Buffer;
-use std::alloc::Global;
 
-/// The room for the name of a book: `table-`, three numbers of at most 40 digits with signs between them, and `.book`.
-const BOOK_NAME: usize = 133;
+/// The room for the name of a book: `table-`, five numbers of at most 40 digits with signs between them, an order, and
+/// `.book`.
+const BOOK_NAME: usize = 256;
 
-/// The names of the first `m` factors.
-pub(crate) fn first_names(alloc: Global, m: u8) -> Result<Names, NoMemory>
-    ensures { IfOk result (λ names. names ≡ first_names m) }
-{
-    let mut names = Names::new(alloc);
-    for k in 0..m {
-        names.push(name_of(alloc, usize::from(k) + 1)?)?;
-    }
-    Ok(names)
-}
-
-/// The name of factor `k`, counted from 1.
-fn name_of(alloc: Global, k: usize) -> Result<Bytes, NoMemory>
-    ensures { IfOk result (λ name. name ≡ factor_name k) }
-{
-    let mut name = Bytes::new(alloc);
-    put_name(&mut name, k)?;
-    Ok(name)
-}
-
-/// Appends the name of factor `k`, counted from 1.
-pub(crate) fn put_name(out: &mut Bytes, k: usize) -> Result<(), NoMemory>
-    ensures { OnOk result (out.new ≡ out.old ++ factor_name k) }
-{
-    put(out, b"X")?;
-    put_number(out, k as u128)?;
-    Ok(())
-}
-
-/// The name of the file of the book for `s` factors.
-pub(crate) fn book_name(q: u8, m: u8, s: u8) -> ArrayVec<u8, BOOK_NAME>
-    ensures { result.items ≡ book_name q m s }
+/// The name of the file of a book.
+pub(crate) fn book_name(base: Base, order: Order) -> ArrayVec<u8, BOOK_NAME>
+    requires { IsBase base }
+    ensures { result.items ≡ book_name base order }
 {
     let mut levels = Buffer::new();
     let mut indexes = Buffer::new();
     let mut factors = Buffer::new();
     let mut file = ArrayVec::new();
     append(&mut file, b"table-");
-    append(&mut file, levels.format(q).as_bytes());
+    append(&mut file, levels.format(base.q).as_bytes());
     append(&mut file, b"-");
-    append(&mut file, indexes.format(m).as_bytes());
+    append(&mut file, indexes.format(base.m).as_bytes());
     append(&mut file, b"-");
-    append(&mut file, factors.format(s).as_bytes());
+    append(&mut file, factors.format(base.n).as_bytes());
+    append_groups(&mut file, base);
+    append_order(&mut file, order);
     append(&mut file, b".book");
     file
+}
+
+/// Appends the groups of the runs, where there is a base.
+fn append_groups(file: &mut ArrayVec<u8, BOOK_NAME>, base: Base)
+    requires base { IsBase base }
+    requires room { length file.old.items ≤ 150 }
+    ensures text { file.new.items ≡ file.old.items ++ groups_name base }
+    ensures room { length file.new.items ≤ length file.old.items + 88 }
+{
+    if base.h == 0 {
+        return;
+    }
+    if base.w == 0 {
+        return append_blocks(file, base);
+    }
+    append_whole_plots(file, base)
+}
+
+/// Appends the number of blocks.
+fn append_blocks(file: &mut ArrayVec<u8, BOOK_NAME>, base: Base)
+    requires base { IsBase base }
+    requires room { length file.old.items ≤ 150 }
+    ensures text { file.new.items ≡ file.old.items ++ (codes "-blocks-" ++ decimal (base.q ^ base.h)) }
+    ensures room { length file.new.items ≤ length file.old.items + 88 }
+{
+    let mut blocks = Buffer::new();
+    append(file, b"-blocks-");
+    append(file, blocks.format(base.blocks()).as_bytes());
+}
+
+/// Appends the number of whole plots, and that of the factors inside.
+fn append_whole_plots(file: &mut ArrayVec<u8, BOOK_NAME>, base: Base)
+    requires base { IsBase base }
+    requires room { length file.old.items ≤ 150 }
+    ensures text { file.new.items ≡ file.old.items ++ whole_name base }
+    ensures room { length file.new.items ≤ length file.old.items + 88 }
+{
+    let mut plots = Buffer::new();
+    let mut inside = Buffer::new();
+    append(file, b"-whole-");
+    append(file, plots.format(base.blocks()).as_bytes());
+    append(file, b"-");
+    append(file, inside.format(base.w).as_bytes());
+}
+
+/// Appends the order, where it is not that of factors first.
+fn append_order(file: &mut ArrayVec<u8, BOOK_NAME>, order: Order)
+    requires { length file.old.items ≤ 240 }
+    ensures text { file.new.items ≡ file.old.items ++ order_text (codes "-") order }
+    ensures room { length file.new.items ≤ length file.old.items + 6 }
+{
+    match order {
+        Order::FactorsFirst => (),
+        Order::ChengWuFirst => append(file, b"-W1"),
+        Order::ChengWuSecond => append(file, b"-W2"),
+        Order::SitterChenFeder => append(file, b"-SCF"),
+        Order::MostClear => append(file, b"-CLEAR"),
+    }
 }

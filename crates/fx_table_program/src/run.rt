@@ -9,13 +9,11 @@ ghost use Rattle.fx_table_program.specs.declared.words.TableSettings.TheVariants
 ghost use Rattle.fx_table_program.specs.Commands.{IsProvedTable, IsTabulated, Tabulates, reads};
 
 use crate::checking::check_text;
-use crate::line::TableNumbers;
 use crate::tabulating::list_table;
 use crate::words::{TableSettings, read_table_words};
 use fx_base::{Shelf, Sink, Source};
 use fx_program::{REFUSED, Stop, WordFault, exit_status, list, word_line};
 use std::alloc::Global;
-use std::thread::Threads;
 
 /// Does all that the program does, for the words of the command line without the program's name,
 /// and returns its exit status.
@@ -30,8 +28,7 @@ use std::thread::Threads;
 /// - 3: the words are refused;
 /// - 4: a call on the source, the listing or the shelf failed;
 /// - 5: memory ran out.
-pub fn tables<R: Threads + Sync, S: Source, K: Sink, F: Shelf>(
-    rt: &R,
+pub fn tables<S: Source, K: Sink, F: Shelf>(
     alloc: Global,
     words: &[Vec<u8>],
     source: &mut S,
@@ -41,8 +38,8 @@ pub fn tables<R: Threads + Sync, S: Source, K: Sink, F: Shelf>(
     requires { F.begun shelf.old ≡ false }
     ensures status_range { result ≤ 5 }
 
-    // For a table, what each line claims holds of all rule matrices: that of those of resolution 3 or more none has a
-    // less pattern, or that there is none; and its book is accepted.
+    // For a table, what each line claims holds of all designs in blocks or split plots: that none has a less key, or
+    // that there is none; and its book is accepted.
     ensures output { Tabulates (bytes_of words.now) (S.left source.old)
         (world (K.written listing.old) (F.files shelf.old))
         (world (K.written listing.new) (F.files shelf.new)) result }
@@ -58,18 +55,17 @@ pub fn tables<R: Threads + Sync, S: Source, K: Sink, F: Shelf>(
     ensures unread { reads (settings_of (bytes_of words.now)) ≡ false → source.new ≡ source.old }
     ensures refused { IsErr (settings_of (bytes_of words.now)) → (result ≡ 3) ⊎ (result ≡ 4) }
 
-    // With `check`, status 0 comes only of a book whose claim holds of all rule matrices.
+    // With `check`, status 0 comes only of a book whose claim holds of all designs in blocks or split plots.
     ensures accepted { result ≡ 0 → settings_of (bytes_of words.now) ≡ Ok Check
         → (text : List ℕ)
         → S.left source.old ≡ Some text
         → IsProvedTable text }
 {
-    exit_status(carry_out(rt, alloc, read_table_words(words), source, listing, shelf))
+    exit_status(carry_out(alloc, read_table_words(words), source, listing, shelf))
 }
 
 /// Carries out the command of these settings, or lists why the words are refused.
-fn carry_out<R: Threads + Sync, S: Source, K: Sink, F: Shelf>(
-    rt: &R,
+fn carry_out<S: Source, K: Sink, F: Shelf>(
     alloc: Global,
     asked: Result<TableSettings, WordFault>,
     source: &mut S,
@@ -92,21 +88,7 @@ fn carry_out<R: Threads + Sync, S: Source, K: Sink, F: Shelf>(
     match asked {
         Ok(settings) => match settings {
             TableSettings::Check => check_text(alloc, source, listing),
-            TableSettings::Table {
-                q,
-                m,
-                upto,
-                threads,
-                entries,
-            } => {
-                let asked = TableNumbers {
-                    q,
-                    m,
-                    upto,
-                    entries,
-                };
-                list_table(rt, alloc, asked, threads, listing, shelf)
-            }
+            TableSettings::Table { asked } => list_table(alloc, asked, listing, shelf),
         },
         Err(fault) => list(listing, word_line(fault).as_slice(), REFUSED),
     }

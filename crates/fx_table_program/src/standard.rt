@@ -18,15 +18,13 @@ use fx_program::NO_MEMORY;
 use std::alloc::Global;
 use std::env::Args;
 use std::io::{ErrorKind, Read, Write};
-use std::thread::Threads;
 use std::{env, io};
 
 /// Does all that the program does, from this reader and to this writer, for the words of the command
 /// line without the program's name.
 ///
 /// The shelf must not have a file that is begun and not ended.
-fn run<T: Threads + Sync, R: Read, W: Write, F: Shelf>(
-    rt: &T,
+fn run<R: Read, W: Write, F: Shelf>(
     alloc: Global,
     words: &[Vec<u8>],
     reader: R,
@@ -48,7 +46,7 @@ fn run<T: Threads + Sync, R: Read, W: Write, F: Shelf>(
 {
     let mut input = Input::new(reader);
     let mut output = Output::new(writer);
-    let status = tables(rt, alloc, words, &mut input, &mut output, shelf);
+    let status = tables(alloc, words, &mut input, &mut output, shelf);
     Ran {
         status,
         input,
@@ -59,8 +57,7 @@ fn run<T: Threads + Sync, R: Read, W: Write, F: Shelf>(
 /// Does all that the program does, for what the system passes as its command line, name and words.
 ///
 /// The shelf must not have a file that is begun and not ended.
-pub fn start<T: Threads + Sync, R: Read, W: Write, F: Shelf>(
-    rt: &T,
+pub fn start<R: Read, W: Write, F: Shelf>(
     alloc: Global,
     args: io::Result<Args>,
     reader: R,
@@ -92,7 +89,7 @@ pub fn start<T: Threads + Sync, R: Read, W: Write, F: Shelf>(
 {
     let status = match args {
         Ok(args) => match words_after_name(alloc, args) {
-            Ok(words) => return run(rt, alloc, words.as_slice(), reader, writer, shelf),
+            Ok(words) => return run(alloc, words.as_slice(), reader, writer, shelf),
             Err(_) => NO_MEMORY,
         },
         Err(error) => status_without_words(&error),
@@ -105,14 +102,12 @@ pub fn start<T: Threads + Sync, R: Read, W: Write, F: Shelf>(
 }
 
 /// Runs the program for the command line, from standard input to standard output, with the files in
-/// the current folder, and returns its exit status. `threads` is the same runtime, which may start
-/// threads in `main` alone.
-pub fn run_standard<T: Threads + Sync>(rt: &HostRuntime, threads: &T) -> u8
+/// the current folder, and returns its exit status.
+pub fn run_standard(rt: &HostRuntime) -> u8
     ensures { result ≤ 6 }
 {
     let mut shelf = FolderShelf::new(CurrentFolder::new(rt));
     let ran = start(
-        threads,
         rt.alloc(),
         env::args(rt),
         rt.stdin(),

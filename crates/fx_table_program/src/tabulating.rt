@@ -1,135 +1,192 @@
-ghost use Rattle.std.specs.Prelude.{◌≡◌, ◌<◌, ◌≤◌, ◌+◌, ◌∷◌, [], drop, false, length, OnOk};
-ghost use Rattle.fx_program.specs.CommandLine.{AreThreads, IsCatalogue};
+ghost use Rattle.std.specs.Prelude.{◌≡◌, ◌<◌, ◌≤◌, ◌^◌, ◌∷◌, ℕ, [], false, IfOk};
 ghost use Rattle.fx_program.specs.Output.{message, worse};
 ghost use Rattle.fx_program.specs.Outside.{Lists, ShelvesFiles, Writes, shelf_view, sink_view};
-ghost use Rattle.fx_vectors.specs.Shape.{IsShape};
+ghost use Rattle.fx_table_book.specs.Tables.{IsBase, IsProper};
+ghost use Rattle.fx_table_lines.specs.Lines.{Holds};
+ghost use Rattle.fx_table_program.specs.CommandLine.{IsAsked, first_line};
 ghost use Rattle.fx_table_program.specs.Commands.{ListsTable};
-ghost use Rattle.fx_table_program.specs.Tables.{AllHold};
-ghost use Rattle.fx_table_program.specs.Listing.{IsListable, book_file, files_of, head_text, line_output, line_status};
+ghost use Rattle.fx_table_program.specs.Outputs.{book_file, files_of, line_output, line_status, table_head};
+ghost use Rattle.fx_table_program.specs.Tables.{IsLine, IsReadable, IsShort, base_at};
 
-use crate::line::{TableNumbers, lines_between};
-use crate::listing::{put_head, put_line};
+use crate::line_text::put_line;
+use crate::listing::put_head;
 use crate::names::book_name;
-use fx_base::{Bytes, Items, NoMemory, Shelf, Sink, shelve};
+use crate::words::{Asked, first_line};
+use arrayvec::ArrayVec;
+use fx_base::{Bytes, NoMemory, Shelf, Sink, shelve};
 use fx_program::{Stop, list, worse};
-use fx_table_search::TableLine;
-use fx_tables::{TableBook, write_table};
-use fx_vectors::Shape;
+use fx_table_book::{Base, MOST_TABLE_BYTES, Order, TableBook, write_table_book};
+use fx_table_lines::{TableLine, table_line};
+use fx_vectors::MOST_FACTORS;
 use std::alloc::Global;
-use std::thread::Threads;
 
 /// The status of a line without a design.
 const NO_DESIGN: u8 = 1;
 
-/// Lines that are searched together, of which those from a place on are not listed yet.
-#[derive(Drop)]
-struct Ahead {
-    lines: Items<TableLine>,
-    at: usize,
-}
+/// No book has more entries.
+const MOST_ENTRIES: usize = 5_000_000;
 
-impl Ahead {
-    /// Searches up to so many lines, for `s` factors and more, if all are listed. Only the first round may have fewer,
-    /// since the last lines take longest.
-    fn fill<R: Threads + Sync>(
-        &mut self,
-        rt: &R,
-        alloc: Global,
-        asked: TableNumbers,
-        threads: u8,
-        s: u8,
-    ) -> Result<(), NoMemory>
-        requires numbers { IsCatalogue asked.q asked.m asked.upto asked.entries }
-        requires threads { AreThreads threads }
-        requires factors { (asked.m < s) × (s ≤ asked.upto) }
-        requires within { self.old.at ≤ length self.old.lines }
-        requires few { length self.old.lines ≤ 64 }
-        requires hold { AllHold asked.q asked.m asked.entries s (drop self.old.at self.old.lines) }
-        ensures next { OnOk result (self.new.at < length self.new.lines) }
-        ensures few { OnOk result (length self.new.lines ≤ 64) }
-        ensures hold { OnOk result (AllHold asked.q asked.m asked.entries s (drop self.new.at self.new.lines)) }
-    {
-        if self.at < self.lines.len() {
-            return Ok(());
-        }
-        let last = s + (asked.upto - s) % threads;
-        self.lines = lines_between(rt, alloc, asked, s, last)?;
-        self.at = 0;
-        Ok(())
-    }
-}
+/// The rows of a design.
+type Rows = ArrayVec<u16, MOST_FACTORS>;
 
-/// Lists a table: its head, and then a line for each number of factors, up to the first without a design. Up to so
-/// many lines are searched at once. The book of a line is shelved before it is listed.
-pub(crate) fn list_table<R: Threads + Sync, K: Sink, F: Shelf>(
-    rt: &R,
+/// Lists a table: its head, and then a line for each number of factors outside the base, up to the first without a
+/// design. The search for each begins with the design of the line before. The book of a line is shelved before it is
+/// listed.
+pub(crate) fn list_table<K: Sink, F: Shelf>(
     alloc: Global,
-    asked: TableNumbers,
-    threads: u8,
+    asked: Asked,
     listing: &mut K,
     shelf: &mut F,
 ) -> Result<u8, Stop>
-    requires numbers { IsCatalogue asked.q asked.m asked.upto asked.entries }
-    requires threads { AreThreads threads }
+    requires asked { IsAsked asked }
     requires ended { F.begun shelf.old ≡ false }
-    ensures { ListsTable asked.q asked.m asked.upto asked.entries
+    ensures { ListsTable asked
         (sink_view K.Sink listing.old) (sink_view K.Sink listing.new)
         (shelf_view F.Shelf shelf.old) (shelf_view F.Shelf shelf.new) result }
 {
     list_head(alloc, asked, listing)?;
     let mut status = 0;
-    let mut ahead = Ahead {
-        lines: Items::new(alloc),
-        at: 0,
-    };
-    for s in asked.m + 1..asked.upto + 1 {
-        ahead.fill(rt, alloc, asked, threads, s)?;
-        let ended = list_line(alloc, asked, s, ahead.lines.get(ahead.at), listing, shelf)?;
+    let mut before = Rows::new();
+    for n in first_line(asked)..asked.upto + 1 {
+        let line = line_for(alloc, asked, n, before.as_slice())?;
+        let base = base_at(asked, n);
+        let ended = list_line(alloc, base, asked.order, &line, listing, shelf)?;
         status = worse(status, ended);
         // With more factors there is none either.
         if ended == NO_DESIGN {
             return Ok(status);
         }
-        ahead.at += 1;
+        before = rows_of(line);
     }
     Ok(status)
 }
 
 /// Lists the first line of a table.
-fn list_head<K: Sink>(alloc: Global, asked: TableNumbers, listing: &mut K) -> Result<u8, Stop>
-    requires { IsCatalogue asked.q asked.m asked.upto asked.entries }
-    ensures { Lists (message (head_text asked.q asked.m) 0)
+fn list_head<K: Sink>(alloc: Global, asked: Asked, listing: &mut K) -> Result<u8, Stop>
+    requires { IsAsked asked }
+    ensures { Lists (message (table_head asked) 0)
         (sink_view K.Sink listing.old) (sink_view K.Sink listing.new) result }
 {
-    let shape = Shape {
-        q: asked.q,
-        m: asked.m,
-        s: asked.upto,
-        t: 0,
-    };
     let mut line = Bytes::new(alloc);
-    put_head(&mut line, shape)?;
+    put_head(&mut line, base_at(asked, asked.upto), asked.order)?;
     list(listing, line.as_slice(), 0)
 }
 
-/// Lists the line for `s` factors, once its book is shelved, and returns its status.
+/// Designs with n factors outside the base.
+fn base_at(asked: Asked, n: u8) -> Base
+    requires asked { IsAsked asked }
+    requires line { (first_line asked ≤ n) × (n ≤ asked.upto) }
+    ensures base { result ≡ base_at asked n }
+    ensures valid { IsBase result }
+    ensures proper { IsProper result }
+{
+    Base {
+        q: asked.q,
+        m: asked.m,
+        h: asked.h,
+        w: asked.inside,
+        n,
+    }
+}
+
+/// The line for n factors outside the base. It is open where the text of its book would be too long to be read.
+fn line_for(alloc: Global, asked: Asked, n: u8, before: &[u16]) -> Result<TableLine, NoMemory>
+    requires asked { IsAsked asked }
+    requires line { (first_line asked ≤ n) × (n ≤ asked.upto) }
+    ensures { IfOk result (IsLine asked n) }
+{
+    let base = base_at(asked, n);
+    let line = table_line(alloc, base, asked.order, asked.entries as u32, before)?;
+    if has_long_book(alloc, &line)? {
+        return Ok(opened(line));
+    }
+    Ok(line)
+}
+
+/// Whether the text of a line's book would be too long.
+fn has_long_book(alloc: Global, line: &TableLine) -> Result<bool, NoMemory>
+    ensures { IfOk result (λ is_long. is_long ≡ false → IsReadable line.now) }
+{
+    match line {
+        TableLine::Least {
+            rows: _,
+            rules: _,
+            key: _,
+            book,
+        } => is_long(alloc, book),
+        TableLine::Nothing { book } => is_long(alloc, book),
+        TableLine::Open { .. } => Ok(false),
+    }
+}
+
+/// Whether the text of a book would be too long.
+fn is_long(alloc: Global, book: &TableBook) -> Result<bool, NoMemory>
+    ensures { IfOk result (λ is_long. is_long ≡ false → IsShort book.now) }
+{
+    let mut text = Bytes::new(alloc);
+    write_table_book(book, &mut text)?;
+    Ok(text.len() > MOST_TABLE_BYTES)
+}
+
+/// The line that is open after the entries of its book.
+fn opened(line: TableLine) -> TableLine
+    ensures holds { (base : Base) (order : Order) (budget : ℕ)
+        → Holds base order budget line → Holds base order budget result }
+    ensures readable { IsReadable result }
+{
+    match line {
+        TableLine::Least {
+            rows,
+            rules: _rules,
+            key: _key,
+            book,
+        } => TableLine::Open {
+            entries: book.entries.len().min(MOST_ENTRIES) as u32,
+            rows: Some(rows),
+        },
+        TableLine::Nothing { book } => TableLine::Open {
+            entries: book.entries.len().min(MOST_ENTRIES) as u32,
+            rows: None,
+        },
+        TableLine::Open { entries, rows } => TableLine::Open { entries, rows },
+    }
+}
+
+/// The rows of the design of a line, if it has one.
+fn rows_of(line: TableLine) -> Rows {
+    match line {
+        TableLine::Least {
+            rows,
+            rules: _rules,
+            key: _key,
+            book: _book,
+        } => rows,
+        TableLine::Nothing { book: _book } => Rows::new(),
+        TableLine::Open { entries: _, rows } => match rows {
+            Some(rows) => rows,
+            None => Rows::new(),
+        },
+    }
+}
+
+/// Lists a line, once its book is shelved, and returns its status.
 fn list_line<K: Sink, F: Shelf>(
     alloc: Global,
-    asked: TableNumbers,
-    s: u8,
+    base: Base,
+    order: Order,
     line: &TableLine,
     listing: &mut K,
     shelf: &mut F,
 ) -> Result<u8, Stop>
-    requires listable { IsListable line.now }
+    requires base { IsBase base }
     requires ended { F.begun shelf.old ≡ false }
-    ensures { Writes (line_output asked.q asked.m s line.now)
+    ensures { Writes (line_output base order line.now)
         (sink_view K.Sink listing.old) (sink_view K.Sink listing.new)
         (shelf_view F.Shelf shelf.old) (shelf_view F.Shelf shelf.new) result }
 {
-    shelve_line(alloc, asked, s, line, shelf)?;
+    shelve_line(alloc, base, order, line, shelf)?;
     let mut text = Bytes::new(alloc);
-    put_line(alloc, &mut text, s, line)?;
+    put_line(alloc, &mut text, base, order, line)?;
     list(listing, text.as_slice(), line_status(line))
 }
 
@@ -148,43 +205,47 @@ fn line_status(line: &TableLine) -> u8
 /// Shelves the book of a line that is not open.
 fn shelve_line<F: Shelf>(
     alloc: Global,
-    asked: TableNumbers,
-    s: u8,
+    base: Base,
+    order: Order,
     line: &TableLine,
     shelf: &mut F,
 ) -> Result<(), Stop>
-    requires listable { IsListable line.now }
+    requires base { IsBase base }
     requires ended { F.begun shelf.old ≡ false }
-    ensures { ShelvesFiles (files_of asked.q asked.m s line.now)
+    ensures { ShelvesFiles (files_of base order line.now)
         (shelf_view F.Shelf shelf.old) (shelf_view F.Shelf shelf.new) result }
 {
     match line {
         TableLine::Least {
-            matrix: _,
-            pattern: _,
+            rows: _,
+            rules: _,
+            key: _,
             book,
-        } => shelve_book(alloc, asked, s, book, shelf),
-        TableLine::Nothing { book } => shelve_book(alloc, asked, s, book, shelf),
-        TableLine::Open { entries: _ } => Ok(()),
+        } => shelve_book(alloc, base, order, book, shelf),
+        TableLine::Nothing { book } => shelve_book(alloc, base, order, book, shelf),
+        TableLine::Open {
+            entries: _,
+            rows: _,
+        } => Ok(()),
     }
 }
 
-/// Shelves the book of the line for `s` factors.
+/// Shelves the book of a line.
 fn shelve_book<F: Shelf>(
     alloc: Global,
-    asked: TableNumbers,
-    s: u8,
+    base: Base,
+    order: Order,
     book: &TableBook,
     shelf: &mut F,
 ) -> Result<(), Stop>
-    requires shaped { IsShape book.now.head.question.shape }
+    requires base { IsBase base }
     requires ended { F.begun shelf.old ≡ false }
-    ensures { ShelvesFiles (book_file asked.q asked.m s book.now ∷ [])
+    ensures { ShelvesFiles (book_file base order book.now ∷ [])
         (shelf_view F.Shelf shelf.old) (shelf_view F.Shelf shelf.new) result }
 {
-    let name = book_name(asked.q, asked.m, s);
+    let name = book_name(base, order);
     let mut text = Bytes::new(alloc);
-    write_table(book, &mut text)?;
+    write_table_book(book, &mut text)?;
     shelve(shelf, name.as_slice(), text.as_slice())?;
     Ok(())
 }

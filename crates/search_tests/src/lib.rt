@@ -27,10 +27,6 @@ mod searches;
 #[cfg(test)]
 mod table_books;
 #[cfg(test)]
-mod table_search;
-#[cfg(test)]
-mod tables;
-#[cfg(test)]
 mod threads;
 #[cfg(test)]
 mod tree;

@@ -5,5 +5,5 @@ use fx_table_program::run_standard;
 use std::process::ExitCode;
 
 fn main(rt: HostRuntime) -> ExitCode {
-    ExitCode::from(run_standard(&rt, &rt))
+    ExitCode::from(run_standard(&rt))
 }

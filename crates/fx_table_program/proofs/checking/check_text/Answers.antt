@@ -2,6 +2,7 @@ use Rattle.std.proofs.Common.{[], None, Some, false, refl, ap, subst, arith}
 use Rattle.fx_program.specs.Outside.{ShelfView}
 use Rattle.fx_program.proofs.Endings.{ends_by}
 use Rattle.fx_program.proofs.Commands.{all_read, not_read, part_read, read_failed}
+use Rattle.fx_table_book.specs.Texts.{contents}
 use Rattle.fx_table_program.specs.Commands.{IsProvedTable, verdict_output}
 use Rattle.fx_table_program.proofs.Checked.{long_table, status_kept, stop_not_zero}
 use Rattle.fx_table_program.proofs.checking.check_text.Goals as goal
@@ -46,8 +47,7 @@ pub returns-in-Ok-clause-accepted : goal.returns-in-Ok-clause-accepted
 returns-in-Ok-clause-accepted g c zero text e =
     let all = rw c.in-Whole.is at c.in_ok-text.ensures.answer in
     subst IsProvedTable (all.all text e) (record {
-      head = c.in-Ok.book.head;
-      entries = _;
+      book = contents c.in-Ok.book;
       read = c.in-Ok.ensures.read;
       claim = c.list_verdict.ensures.proved zero;
     })

@@ -1,7 +1,8 @@
 use Rattle.std.proofs.Common.{◌++◌, sym, ap, ap₂, ◌∙◌}
 use Rattle.fx_program.specs.Output.{message}
 use Rattle.fx_program.proofs.Endings.{lists_by, lists_none}
-use Rattle.fx_tables.specs.declared.reason.Verdict.{Verdict}
+use Rattle.fx_table_book.specs.Texts.{contents}
+use Rattle.fx_table_check.specs.declared.reason.Verdict.{Verdict}
 use Rattle.fx_table_program.specs.Commands.{verdict_lines, verdict_status}
 use Rattle.fx_table_program.proofs.checking.list_verdict.Goals as goal
 
@@ -16,9 +17,9 @@ pub returns-clause-output : goal.returns-clause-output
 returns-clause-output g c =
     let verdict : Verdict = c.in_ok-verdict.verdict in
     let lines = c.as_slice.ensures ∙ c.in_ok-put_verdict.ensures
-    ∙ ap (λ l. l ++ verdict_lines c.args.book.now.head verdict) c.new-lines.ensures in
+    ∙ ap (λ l. l ++ verdict_lines (contents c.args.book.now) verdict) c.new-lines.ensures in
     lists_by
     (sym (ap₂ message lines c.status_of.ensures.status
-    ∙ ap (λ (v : Verdict). message (verdict_lines c.args.book.now.head v) (verdict_status v))
+    ∙ ap (λ (v : Verdict). message (verdict_lines (contents c.args.book.now) v) (verdict_status v))
     c.in_ok-verdict.ensures.verdict))
     c.list.ensures.output

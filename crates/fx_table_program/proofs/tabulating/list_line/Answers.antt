@@ -1,7 +1,7 @@
 use Rattle.std.proofs.Common.{ℕ, List, ◌++◌, sym, ap, ap₂, ◌∙◌}
 use Rattle.fx_program.specs.Output.{with_files}
 use Rattle.fx_program.proofs.Endings.{after_files, stopped_after_files, stopped_in_files, writes_by}
-use Rattle.fx_table_program.specs.Listing.{files_of, line_text}
+use Rattle.fx_table_program.specs.Outputs.{files_of, line_text}
 use Rattle.fx_table_program.proofs.tabulating.list_line.Goals as goal
 
 pub returns-in_err-shelve_line : goal.returns-in_err-shelve_line
@@ -16,10 +16,9 @@ returns-in_err-put_line g c =
 
 pub returns : goal.returns
 returns g c =
-    let s = c.args.s in
     let line = c.args.line.now in
-    let bytes = c.as_slice.ensures ∙ c.in_ok-put_line.ensures ∙ ap (λ (l : List ℕ). l ++ line_text s line) c.new-text.ensures in
+    let bytes = c.as_slice.ensures ∙ c.in_ok-put_line.ensures ∙ ap (λ (l : List ℕ). l ++ line_text c.args.base c.args.order line) c.new-text.ensures in
     writes_by
-    (ap₂ (λ (l : List ℕ) (n : ℕ). with_files (files_of c.args.asked.q c.args.asked.m s line) l n) (sym bytes)
+    (ap₂ (λ (l : List ℕ) (n : ℕ). with_files (files_of c.args.base c.args.order line) l n) (sym bytes)
     (sym c.line_status.ensures.status))
     (after_files _ _ _ c.in_ok-shelve_line.ensures c.list.ensures.output)

@@ -1,7 +1,0 @@
-mod Parts
-mod Lines
-mod Back
-mod Accepted
-mod Examples
-mod Turns
-mod Good

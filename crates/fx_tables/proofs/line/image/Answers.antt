@@ -1,5 +1,0 @@
-use Rattle.fx_vectors.proofs.Limits.{indexes_fit}
-use Rattle.fx_tables.proofs.line.image.Goals as goal
-
-pub numbers_after-requires-clause-few : goal.numbers_after-requires-clause-few
-numbers_after-requires-clause-few c = indexes_fit c.args.terms.shape c.requires.terms.shaped
