@@ -90,11 +90,13 @@ RULES = (b"rules D=A*B [1]=A*C\nproc factex;factors A B C D;size design=8;blocks
 OTHERS = [("rules", ["plan"], RULES), ("rules refused", ["plan"], b"rules C=A*A\nproc factex;factors A B C;size design=4;"),
           ("judge", ["judge", "2"], b"A,B,C\n1,1,1\n1,-1,-1\n-1,1,-1\n-1,-1,1\n"), ("plan refused", ["judge", "2"], b"A\n2\n"),
           ("make", ["make", "2"], b""), ("word refused", ["make", "x"], b"")]
-TABLES = [(title, words + more, b"") for title, words in (("lines", ["2", "3", "8"]), ("lines, open", ["2", "3", "6", "--nodes=9"]))
-          for more in ([], ["--threads=4"])]
+TABLES = [("lines", ["2", "3", "8"], b""), ("lines, open", ["2", "3", "6", "--nodes=5"], b""),
+          ("lines in blocks", ["2", "3", "5", "--blocks=4", "--order=W1"], b""),
+          ("split plots", ["2", "3", "4", "--whole-plots=2", "--inside=1", "--order=CLEAR"], b"")]
 TABLES += [(title, ["check"], f"factex-table 1\nsize 2 1 2 0\nresolution 3\npattern none\n{entry}\nEND\n".encode())
            for title, entry in (("check", "R 1"), ("book rejected", "O 1"), ("no book", "F 1"))]
-TABLES += [("word refused", ["2"], b"")]
+TABLES += [("check, base", ["check"], b"factex-table 2\nbase 2 1 0 0 2\norder FF\nkey none\nR 1\nEND\n"),
+           ("word refused", ["2"], b""), ("option refused", ["2", "3", "5", "--inside=1"], b"")]
 
 
 def run(program, shim, words, text, way="-", first=0, last=0):

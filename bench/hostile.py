@@ -508,12 +508,8 @@ def rng_place(pool, kept):
 
 def python_verdict(text):
     """What check/check_book.py prints, and its status."""
-    try:
-        book = check_book.Book(text)
-        check_book.Walk(book).check()
-    except check_book.Rejected as rejected:
-        return f"{rejected}\n".encode(), 1
-    return "\n".join(["accepted", *book.lines[1:4], ""]).encode("latin-1"), 0
+    lines, status = check_book.judged(text)
+    return "\n".join([*lines, ""]).encode("latin-1"), status
 
 
 def work_of(text):
@@ -701,29 +697,87 @@ def try_catalogue(program, rng, pool):
 def patterns_of(listing):
     """The patterns of a catalogue or a table, by the number of factors, and None where there is no design."""
     found = {}
-    for factors, ending in re.findall(r"^factors (\d+) (?:nodes|entries) \d+ (.*)$", listing.decode(), re.M):
+    for factors, ending in re.findall(r"^factors (?:\d+ )?(\d+) (?:nodes|entries) \d+ (.*)$", listing.decode(), re.M):
         found[factors] = ending
     return found
+
+
+ORDERS = ["FF", "W1", "W2", "SCF", "CLEAR"]
+
+
+def random_groups(rng, q, m):
+    """The dimension of a base, how many factors are inside, and the words that ask for them."""
+    kind = rng.choice(["none", "blocks", "whole plots"]) if m > 1 else "none"
+    if kind == "none":
+        return 0, 0, []
+    h = rng.randint(1, m - 1)
+    if kind == "blocks":
+        return h, 0, [f"--blocks={q**h}"]
+    inside = rng.randint(h, min((q**h - 1) // (q - 1), h + 4))
+    return h, inside, [f"--whole-plots={q**h}", f"--inside={inside}"]
+
+
+def faulty_table_words(rng, words):
+    """The words with an option that is unknown, wrong, repeated, or without another that it needs."""
+    options = ["--threads=2", "--Blocks=2", "--blocks", "--blocks=0", "--blocks=1", "--blocks=2", "--blocks=3", "--blocks=4",
+               "--blocks=1024", "--blocks=-2", "--whole-plots=2", "--whole-plots=4", "--inside=0", "--inside=1", "--inside=2",
+               "--inside=63", "--inside=64", "--order=FF", "--order=W2", "--order=ff", "--order=W3", "--order=", "--nodes=0",
+               "--nodes=9", "--nodes=5000001", "--nodes=" + "1" * 21, "64", "check", ""]
+    words = list(words)
+    for _ in range(rng.choice([1, 1, 2, 3])):
+        kind = rng.random()
+        if kind < 0.3 and words:
+            del words[rng.randrange(len(words))]
+        elif kind < 0.5 and words:
+            words[rng.randrange(len(words))] = rng.choice(["0", "1", "2", "6", "10", "40", "63", "64", *options])
+        else:
+            words.insert(rng.randint(min(3, len(words)), len(words)), rng.choice(options))
+    return words
+
+
+def try_table_words(program, rng, pool):
+    q, m = rng.choice([(2, 3), (2, 4), (3, 3), (4, 2), (9, 2)])
+    _, _, groups = random_groups(rng, q, m)
+    words = [str(q), str(m), str(m + rng.randint(0, 3)), *groups, f"--order={rng.choice(ORDERS)}", "--nodes=9"]
+    words = faulty_table_words(rng, words)
+    if not any(re.fullmatch("--nodes=[1-9]", word) for word in words):
+        words.append("--nodes=5")
+    yield ["tables", *words], b""
+    done = pool.tables.run(words, nodes=63 * 1_500_000)
+    if done.listing.startswith(b"factex: C"):
+        place = re.fullmatch(rb"factex: C[1-6] word (\d+)\n", done.listing)
+        need(done.status == 3 and not done.files and place, f"status {done.status}: {done.listing[:100]}")
+        need(2 <= int(place[1]) <= len(words) + 2, f"{done.listing[:100]}")
+        pool.counts["words of tables refused"] += 1
+    else:
+        need(done.status < 3, f"status {done.status}: {done.listing[:100]}")
 
 
 def try_tables(program, rng, pool):
     q = rng.choice([2, 2, 2, 3, 4, 5, 7, 8, 9])
     m = rng.randint(1, min(GREATEST_M[q], 7 if q == 2 else 3))
-    s = min(m + rng.randint(1, 6), 63 if q < 4 else 40)
-    entries = rng.choice([1, 5, 30, 200, 1000])
-    words = [str(q), str(m), str(s), f"--nodes={entries}"]
+    h, inside, groups = random_groups(rng, q, m)
+    most, first = 63 if q < 4 else 40, m - h if h else m + 1
+    s = min(first + rng.randint(0, 6), most - inside, int(120 / math.log2(q)) - inside)
+    order, entries = rng.choice(ORDERS), rng.choice([1, 5, 30, 200, 1000])
+    words = [str(q), str(m), str(s), *groups, *([f"--order={order}"] if order != "FF" else []), f"--nodes={entries}"]
     yield ["tables", *words], b""
-    done = run_both(pool.tables, words, b"", (s - m) * (1_000_000 + 1500 * entries))
+    done = pool.tables.run(words, nodes=(s - first + 1) * (1_000_000 + 40_000 * entries))
     lines = [line for line in done.listing.decode().splitlines() if not line.startswith("rules")]
-    need(lines[0] == f"table levels {q} runs {q**m}", lines[0])
+    title = f" whole plots {q**h} inside {inside}" if inside else f" blocks {q**h}" if h else ""
+    title += f" order {order}" if order != "FF" else ""
+    need(lines[0] == f"table levels {q} runs {q**m}{title}", lines[0])
     none, is_open = lines[-1].endswith("none"), any("open after" in line for line in lines)
     need(done.status == (2 if is_open else 1 if none else 0), f"status {done.status}")
     ours = patterns_of(done.listing)
-    need(sorted(done.files) == sorted(f"table-{q}-{m}-{factors}.book" for factors in ours), f"{sorted(done.files)}")
-    for line, listed, found in rules.patterns_in(done.listing.decode().splitlines()):
-        need(found == listed, f"{line}: its rules have another pattern")
-    theirs = patterns_of(program.run(["catalogue", *words[:3], "--nodes=20000"], nodes=20000 * (s - m)).listing)
-    need(all(ours[factors] == theirs[factors] for factors in ours if factors in theirs), f"{ours}, catalogue: {theirs}")
+    name = f"table-{q}-{m}-%s" + (f"-whole-{q**h}-{inside}" if inside else f"-blocks-{q**h}" if h else "")
+    name += (f"-{order}" if order != "FF" else "") + ".book"
+    need(sorted(done.files) == sorted(name % factors for factors in ours), f"{sorted(done.files)}")
+    for line, listed, found in rules.patterns_in(done.listing.decode().splitlines()) if q**m <= 128 else ():
+        need(found == listed, f"{line}: its rules have other figures")
+    if not h and order != "CLEAR":
+        theirs = patterns_of(program.run(["catalogue", *words[:3], "--nodes=20000"], nodes=20000 * (s - m)).listing)
+        need(all(ours[factors] == theirs[factors] for factors in ours if factors in theirs), f"{ours}, catalogue: {theirs}")
     for book in done.files.values():
         need(check_both(pool.tables, book, pool).status == 0, "a written book of a table")
         if len(book) <= 4000:
@@ -732,7 +786,7 @@ def try_tables(program, rng, pool):
 
 def try_table_book(program, rng, pool):
     others = [b"END\n", b"O 1\n", b"R 3\n", b"F 7\n", b"P 7\n", b"I 5 2 1 4\n", b"", b"\n", b"size 2 3 5 0\n", b"pattern none\n",
-              b"resolution 4\n", b"effects 1 2 4 / 3\n", b"size 9 1 1 0\n", b"9" * 5000, b"pattern 0 0 1\n"]
+              b"resolution 4\n", b"base 2 3 0 0 5\n", b"base 2 3 1 1 3\n", b"order FF\n", b"order CLEAR\n", b"key none\n", b"key 0 1\n", b"size 9 1 1 0\n", b"9" * 5000, b"pattern 0 0 1\n"]
     parts = [b"0", b"1", b"2", b"3", b"9", b"63", b"64", b" ", b"\n", b"/", b"O", b"R", b"F", b"I", b"P", b"\r"]
     text = rng.choice(list(pool.table_books.values()))
     kind = rng.random()
@@ -772,7 +826,7 @@ KINDS = [("words", 10, try_words), ("make and large", 1, try_make), ("texts", 25
          ("texts with faults", 20, try_faulty_text), ("books", 25, try_book), ("upgrades", 10, try_upgrade),
          ("rules of listings", 10, try_way_back), ("rules", 10, try_rules), ("rules with faults", 15, try_faulty_rules),
          ("plans", 25, try_judge), ("catalogues", 3, try_catalogue)]
-KINDS_OF_TABLES = [("tables", 5, try_tables), ("books of tables", 30, try_table_book)]
+KINDS_OF_TABLES = [("tables", 5, try_tables), ("words of tables", 5, try_table_words), ("books of tables", 30, try_table_book)]
 
 FIRST = b"""proc factex; factors A B C D E; size design=8; model resolution=4; output out=a; run;
 proc factex; factors A B C D; size design=8; model resolution=3 / minabs; run;
@@ -809,7 +863,8 @@ def main():
     if arguments.tables:
         pool.tables, pool.table_books = Program(arguments.tables), {}
         kinds += KINDS_OF_TABLES
-        for words in (["2", "3", "8"], ["3", "2", "5"], ["4", "2", "6"]):
+        for words in (["2", "3", "8"], ["3", "2", "5"], ["4", "2", "6"], ["2", "3", "6", "--blocks=4"],
+                      ["2", "3", "5", "--whole-plots=2", "--inside=1"], ["2", "4", "7", "--order=CLEAR"]):
             pool.table_books.update(enumerate(pool.tables.run(words).files.values(), len(pool.table_books)))
     made, failed = collections.Counter(), collections.Counter()
     end = os.times().elapsed + arguments.seconds

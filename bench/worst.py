@@ -6,7 +6,7 @@ and their upgrades, plans to be judged, catalogues, tables, programs of many ste
 thread, four or 64. Prints what it counts (nodes, entries or bytes), its seconds of processor time, its peak memory and the
 bytes of its input; at the end the worst five of each command, and each run above the bounds of docs/PERFORMANCE.md, of which
 there have to be none. --only SEED prints the input of one seed and runs it alone. The gate does not run it."""
-import argparse, collections, itertools, os, random, re, subprocess, sys, tempfile, time
+import argparse, collections, itertools, math, os, random, re, subprocess, sys, tempfile, time
 
 # The greatest m with q^m <= 1,024, and the most factors, for each number of levels q.
 GREATEST_M = {2: 10, 3: 6, 4: 5, 5: 4, 7: 3, 8: 3, 9: 3}
@@ -107,6 +107,22 @@ def shape(rng, most_runs):
     levels = rng.choice(list(GREATEST_M))
     m = rng.randint(1, max(i for i in range(1, GREATEST_M[levels] + 1) if levels**i <= most_runs))
     return levels, m, rng.randint(m + 1, MOST_FACTORS[levels])
+
+
+def groups(rng, levels, m, s):
+    """Options of a table, its most factors outside the base, and how many lines it has."""
+    most = min(MOST_FACTORS[levels], int(120 / math.log2(levels)))
+    kind = rng.choice(["none", "blocks", "whole plots"]) if m > 1 else "none"
+    h = rng.randint(1, m - 1) if kind != "none" else 0
+    inside, more = 0, [f"--order={rng.choice(['FF', 'W1', 'W2', 'SCF', 'CLEAR'])}"]
+    if kind == "blocks":
+        more.append(f"--blocks={levels**h}")
+    elif kind == "whole plots":
+        inside = rng.randint(h, min((levels**h - 1) // (levels - 1), most - m + h))
+        more += [f"--whole-plots={levels**h}", f"--inside={inside}"]
+    first = m - h if h else m + 1
+    s = max(first, min(s, most - inside))
+    return more, s, s - first + 1
 
 
 class Run:
@@ -260,7 +276,12 @@ def runs_of(seed, factex, tables):
         levels, m, s = shape(rng, 1024)
         nodes = rng.choice([1, 20, 1000, 100_000]) if kind == "catalogue" else rng.choice([1, 5, 20, 100])
         words = [kind, str(levels), str(m), str(s), f"--nodes={nodes}"]
-        first = Run(seed, tables if kind == "tables" else factex, words, b"", nodes * (s - m), threads)
+        lines = s - m
+        if kind == "tables":
+            threads = 1
+            more, s, lines = groups(rng, levels, m, s)
+            words = [kind, str(levels), str(m), str(s), *more, f"--nodes={nodes}"]
+        first = Run(seed, tables if kind == "tables" else factex, words, b"", nodes * lines, threads)
         books = first.books()
         yield first
         for book in books[-1:]:

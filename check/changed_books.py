@@ -13,11 +13,24 @@ from pathlib import Path
 NUMBER = re.compile(r"\d+")
 
 
+def table_in_first_version(lines):
+    """The same book of a table in version 1, which is for tables without a base."""
+    if lines[0] != "factex-table 2" or lines[2] != "order FF":
+        return None
+    q, m, h, _, n = lines[1].split()[1:]
+    if h != "0":
+        return None
+    key = lines[3].removeprefix("key ")
+    pattern = key if key == "none" else f"0 0 {key}"
+    head = ["factex-table 1", f"size {q} {m} {n} 0", "resolution 3", f"pattern {pattern}"]
+    return "\n".join(head + lines[4:]) + "\n"
+
+
 def in_first_version(text):
     """The same book in version 1: words by their numbers."""
     lines = text.splitlines()
-    if not lines[0].startswith("factex-book"):
-        return None
+    if lines[0].startswith("factex-table"):
+        return table_in_first_version(lines)
     q, _, s, _ = map(int, lines[1].split()[1:])
     if s > 40:
         return None

@@ -12,7 +12,8 @@ mkdir "$folder/made" "$folder/changed"
 
 make_tables() {
     local words
-    for words in "2 3 8" "2 4 6" "3 2 5" "3 3 5" "4 2 6" "9 2 4"; do
+    for words in "2 3 8" "2 4 6" "3 2 5" "3 3 5" "4 2 6" "9 2 4" "2 3 6 --blocks=2" "2 4 5 --blocks=4 --order=W1" \
+        "2 4 6 --order=CLEAR" "3 2 4 --blocks=3 --order=SCF" "2 4 4 --whole-plots=4 --inside=2 --order=W2"; do
         (cd "$folder/made" && "$program" $words > "$folder/listing" || true)
     done
 }

@@ -26,7 +26,7 @@ LISTING = re.compile(
     r"(steps?|factors|resolution|budget|nodes|book|output|foldover|plan|catalogue|table|rules) \S"
     r"|(no )?design |rules$|points |blocked|aliasing|aberration|  \S"
 )
-COMMAND = re.compile(r"\./factex (judge \d|large \d+|(?:catalogue|tables) (\d) (\d+) \d+( --nodes=\d+)?)( < (\S+))?")
+COMMAND = re.compile(r"\./factex (judge \d|large \d+|(?:catalogue|tables) (\d) (\d+) \d+((?: --[a-z-]+=\w+)*))( < (\S+))?")
 MOST_RUNS = 27
 
 

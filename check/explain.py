@@ -97,7 +97,7 @@ def explain_rejected(message, file):
     with open(file, "rb") as book:
         first = book.readline(100)
         if not first.startswith((b"factex-book ", b"factex-table ")):
-            print("factex: this is not a book: the first line of a book is factex-book 2, factex-book 1 or factex-table 1")
+            print("factex: this is not a book: the first line of a book is factex-book or factex-table, and 2 or 1")
             return
         book.seek(0)
         line = next(itertools.islice(book, int(number) - 1, None), b"")
