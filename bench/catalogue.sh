@@ -1,6 +1,6 @@
 #!/bin/bash
-# Makes each table of catalogue.txt anew, compares it, and has each of its books checked by the program and by the second
-# checker, which takes most of the time: some ten minutes for a book of 20 MB. The gate does not run it.
+# Makes each table of catalogue.txt and of the folder tables/ anew, compares it and the books in that folder, and has each
+# book checked by the program and by the second checker. The gate does not run it.
 #
 # usage: bench/catalogue.sh ./factex [PART]     with PART only the tables whose command has it, as '2 4 ' or 'tables '
 set -euo pipefail
@@ -14,7 +14,7 @@ trap 'rm -r "$folder"' EXIT
 awk -v folder="$folder" '
     /^\.\/factex / { n++; sub(/^\.\/factex /, ""); print > (folder "/" n ".words"); next }
     NF { print > (folder "/" n ".lines") }
-' "$top/bench/catalogue.txt"
+' "$top/bench/catalogue.txt" "$top"/tables/*.txt
 
 for table in $(ls "$folder" | sed -n 's/\.words$//p' | sort -n); do
     read -ra words < "$folder/$table.words"
@@ -33,6 +33,7 @@ for table in $(ls "$folder" | sed -n 's/\.words$//p' | sort -n); do
         "$program" "${check[@]}" < "$book" > "$folder/ours"
         python3 "$top/check/check_book.py" < "$book" > "$folder/theirs"
         cmp "$folder/ours" "$folder/theirs"
+        if [ "${words[0]}" = tables ]; then cmp "$book" "$top/tables/books/$(basename "$book")"; fi
         count=$((count + 1))
     done
     echo "${words[*]}: the same, in $made s; $count books of $(du -bc "$folder"/run/*.book | tail -1 | cut -f1) bytes accepted by both"

@@ -4,7 +4,7 @@
 Usage: documents.py ./factex
 
 A block of code that is a program text is run, under `plan` where it begins with rules, and so is a block that begins with a `judge`, `large`, `catalogue` or
-`tables` command; what follows the command in its block has to be printed. So are the tables of bench/catalogue.txt.
+`tables` command; what follows the command in its block has to be printed. So are the tables of bench/catalogue.txt and of tables/.
 Catalogues of more than 27 runs take long, and are left to bench/catalogue.sh. A block of EXAMINE and OUTPUT statements is
 added to the program before it. A block that begins like a listing, a plan or a table of runs has to be a part of what the
 last program or command of its page printed or wrote. Prints each block that is not, and ends with status 1 if there is one.
@@ -16,11 +16,12 @@ import sys
 import tempfile
 
 TOP = pathlib.Path(__file__).resolve().parent.parent
-TABLES = TOP / "bench" / "catalogue.txt"
+TABLES = [TOP / "bench" / "catalogue.txt", *sorted((TOP / "tables").glob("*.txt"))]
 PAGES = [
     TOP / "README.md",
     *(TOP / "docs" / f"{it}.md" for it in ("GUIDE", "LANGUAGE", "PLANS", "RULES", "JUDGE", "COMMANDS", "CATALOGUE", "TABLES")),
-    TABLES,
+    *TABLES,
+    TOP / "tables" / "README.md",
 ]
 LISTING = re.compile(
     r"(steps?|factors|resolution|budget|nodes|book|output|foldover|plan|catalogue|table|rules) \S"
@@ -33,7 +34,7 @@ MOST_RUNS = 27
 def blocks_of(page):
     """The blocks of code and the tables of a page, each as a list of lines."""
     text = page.read_text(encoding="utf-8")
-    if page == TABLES:
+    if page in TABLES:
         yield from (table.splitlines() for table in text.split("\n\n"))
     for block in re.findall(r"(?:^    .*\n(?:\n(?=    ))*)+|(?:^\|.*\n)+", text, re.M):
         yield [line[4:] if line.startswith("    ") else line for line in block.splitlines()]

@@ -1,7 +1,7 @@
 #!/usr/bin/env python3
 """Recomputes the figures of tables from their rules.
 
-Usage: rules.py FILE ..    files with what `./factex tables` prints, other lines among it, as bench/catalogue.txt
+Usage: rules.py FILE ..    files with what `./factex tables` prints, other lines among it, as those in tables/
 
 The runs of a design are listed by its rules. How many factors are not at level 0, counted over the runs, determines the
 word-length pattern (MacWilliams and Sloane, The Theory of Error-Correcting Codes), and counted over the runs of one block or
