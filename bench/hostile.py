@@ -425,11 +425,19 @@ def words_here(q, runs, s):
     return [sum(n * term(k, j) for j, n in weights.items()) // len(runs) // (q - 1) for k in range(1, s + 1)]
 
 
+def level(q, run, rule):
+    """The level of a factor at a run, by its rule: run indexes, counted from 1, with their codes."""
+    found = 0
+    for index, code in rule:
+        found = rules.add(q, found, rules.times(q, run[index - 1], code))
+    return found
+
+
 def clear_here(q, runs, s):
     """How many factors, and how many components of two factors of how many, are clear over these runs."""
     negative = [next(b for b in range(q) if rules.add(q, a, b) == 0) for a in range(q)]
     vectors = [{i: 1} for i in range(s)] + [{i: c, j: 1} for j in range(s) for i in range(j) for c in range(1, q)]
-    value = lambda vector, run: rules.level(q, run, [(i + 1, c) for i, c in vector.items()])
+    value = lambda vector, run: level(q, run, [(i + 1, c) for i, c in vector.items()])
     columns = [tuple(value(vector, run) for run in runs) for vector in vectors]
     # Two are aliased where a multiple of the one is the other up to a constant; all are 0 in the first run.
     alike = lambda a, b: any(all(rules.times(q, c, x) == y for x, y in zip(a, b)) for c in range(1, q))
@@ -461,7 +469,7 @@ def try_rules(program, rng, pool):
     listing = program.run(["plan"], text.encode(), statuses=(0, 1)).listing.decode()
     numbers = iter(range(1, m + 1))
     rows = [[(next(numbers), 1)] if row is None else row for row in rows]
-    runs = [tuple(rules.level(q, run, row) for row in rows) for run in itertools.product(range(q), repeat=m)]
+    runs = [tuple(level(q, run, row) for row in rows) for run in itertools.product(range(q), repeat=m)]
     factors, pairs, all_pairs = clear_here(q, runs, s)
     kind = "interactions" if q == 2 else "components"
     need(f"\nclear {factors} of {s} factors, {pairs} of {all_pairs} two-factor {kind}\n" in listing, "other counts of what is clear")
