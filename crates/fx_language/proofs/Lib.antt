@@ -17,6 +17,7 @@ pub mod LeftOut
 pub mod Places
 mod Keys
 mod Steps
+mod SymbolSets
 pub mod Pass
 mod Examples
 pub mod FirstRefusal

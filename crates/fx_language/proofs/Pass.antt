@@ -1,32 +1,73 @@
 -- What the pass keeps is what the rules ask of the symbols that were seen.
-use Rattle.std.proofs.Common.{◌≡◌, ℕ, ◌+◌, ◌<◌, Bool, true, false, cond, ◌&&◌, ◌||◌, not, List, ◌∷◌, length, get_or}
+use Rattle.std.proofs.Common.{◌≡◌, ℕ, ◌+◌, ◌<◌, Bool, true, false, cond, ◌&&◌, ◌||◌, not, List, [], ◌∷◌, length, get_or}
 use Rattle.std.proofs.Common.{take, drop, reverse, Some, None, refl, sym, ap, ap₂, ◌∙◌, arith}
-use Rattle.std.specs.Prelude.{if◌then◌else◌, count_by, nat_le}
+use Rattle.std.specs.Prelude.{if◌then◌else◌, count_by}
 use Rattle.std.specs.List.{list_any}
 use Rattle.std.proofs.Math.Seq.{drop-cons, take-suc}
 use Rattle.std.proofs.Math.Numerals.{add-one}
 use Rattle.std.proofs.lemmas.List.{reverse-append}
 use Rattle.std.proofs.lemmas.List.Sums.{sum_by-cons}
 use Rattle.fx_language.specs.declared.symbol.Symbol.{Symbol}
-use Rattle.fx_language.specs.declared.symbol.Symbol.TheVariants.{Proc, Factex, Nodes, Quit, Run, Factors, Size, Model}
-use Rattle.fx_language.specs.declared.symbol.Symbol.TheVariants.{Blocks, Foldover}
-use Rattle.fx_language.specs.Symbols.{is, is_once}
-use Rattle.fx_language.specs.Repeats.{is_start, awaits_name, first_words, step_words, has_statement, procs}
+use Rattle.fx_language.specs.declared.symbol.Symbol.TheVariants.{Proc, Factex, Nodes, Output, Quit, Run, Semicolon}
+use Rattle.fx_language.specs.declared.symbol_set.SymbolSet.{SymbolSet}
+use Rattle.fx_language.specs.Symbols.{is, is_output_option}
+use Rattle.fx_language.specs.SymbolSets.{empty, has, including}
+use Rattle.fx_language.specs.Repeats.{is_start, is_in, awaits_name, first_words, step_words, has_statement}
 use Rattle.fx_language.specs.Repeats.{has_option, is_option_in, begins_with, rule_at, repeated, or_later}
-use Rattle.fx_language.specs.Pasts.{past_of, past_after, begun_after, rule_code, step_has, statement_has}
+use Rattle.fx_language.specs.Pasts.{past_of, past_after, step_set, begun, option_set, is_option_of, rule_code}
+use Rattle.fx_language.proofs.SameSymbol.{symbol_is}
+use Rattle.fx_language.proofs.SymbolSets.{has_none, has_including}
 
--- a word of the step, after one more symbol
-begun : (start ends : Bool) (word s : Symbol) (words : List Symbol) → (is Proc s || is Quit s) ≡ ends
-    → list_any (is word) (step_words (if start then s ∷ words else words))
-    ≡ (if start
-    then not ends && (is word s || list_any (is word) (step_words words)) else list_any (is word) (step_words words))
-begun false ends word s words e = refl
-begun true true word s words e = rw e refl
-begun true false word s words e = rw e refl
+-- the statements of the step
+step_next : (start ends : Bool) (word s : Symbol) (words : List Symbol) (set : SymbolSet)
+    → (is Proc s || is Quit s) ≡ ends → has set word ≡ list_any (is word) (step_words words)
+    → has (if start then (if ends then empty else including s set) else set) word
+    ≡ list_any (is word) (step_words (if start then s ∷ words else words))
+step_next false ends word s words set e h = h
+step_next true true word s words set e h = rw e (has_none word)
+step_next true false word s words set e h = rw e (has_including s word set ∙ ap (λ b. is word s || b) h)
 
-begun_next : (word s : Symbol) (seen : List Symbol)
-    → has_statement word (s ∷ seen) ≡ begun_after (is_start seen) s word (has_statement word seen)
-begun_next word s seen = begun (is_start seen) (is Proc s || is Quit s) word s (first_words seen) refl
+in_step : (word : Symbol) (seen : List Symbol) → has (step_set seen) word ≡ has_statement word seen
+in_step word [] = has_none word
+in_step word (s ∷ seen) =
+    step_next (is_start seen) (is Proc s || is Quit s) word s (first_words seen) (step_set seen) refl (in_step word seen)
+
+-- the options of the statement
+option_next : (ends named : Bool) (word s : Symbol) (set : SymbolSet) (had : Bool) → has set word ≡ had
+    → has (if ends then empty else (if named then set else including s set)) word
+    ≡ (not ends && ((is word s && not named) || had))
+option_next true named word s set had h = has_none word
+option_next false true word s set had h = by (is word s)
+  where
+    by : (b : Bool) → has set word ≡ ((b && false) || had)
+    by true = h
+    by false = h
+option_next false false word s set had h = has_including s word set ∙ by (is word s)
+  where
+    by : (b : Bool) → (b || has set word) ≡ ((b && true) || had)
+    by true = refl
+    by false = h
+
+in_statement : (word : Symbol) (seen : List Symbol) → has (option_set seen) word ≡ has_option word seen
+in_statement word [] = has_none word
+in_statement word (s ∷ seen) =
+    option_next (is Semicolon s) (awaits_name seen) word s (option_set seen) (has_option word seen)
+    (in_statement word seen)
+
+-- the first word of the statement
+first_next : (start ends : Bool) (word s first : Symbol) (had : Bool) → is word Semicolon ≡ false
+    → is Semicolon s ≡ ends → had ≡ is word first
+    → (not ends && (if start then is word s else had)) ≡ is word (if start || ends then s else first)
+first_next true true word s first had other e h = sym (ap (is word) (symbol_is Semicolon s e) ∙ other)
+first_next false true word s first had other e h = sym (ap (is word) (symbol_is Semicolon s e) ∙ other)
+first_next true false word s first had other e h = refl
+first_next false false word s first had other e h = h
+
+first_is : (word : Symbol) → is word Semicolon ≡ false → (seen : List Symbol) → is_in word seen ≡ is word (begun seen)
+first_is word other [] = sym other
+first_is word other (s ∷ seen) =
+    first_next (is_start seen) (is Semicolon s) word s (begun seen) (is_in word seen) other refl
+    (first_is word other seen)
 
 count_next : (proc : Bool) (s : Symbol) (words : List Symbol) → is Proc s ≡ proc
     → count_by (is Proc) (s ∷ words) ≡ (if proc then count_by (is Proc) words + 1 else count_by (is Proc) words)
@@ -43,41 +84,17 @@ counted true proc s words e = count_next proc s words e
 
 -- what is kept after one more symbol
 pub past_next : (s : Symbol) (seen : List Symbol) → past_of (s ∷ seen) ≡ past_after (past_of seen) s
-past_next s seen =
-    let run = begun_next Run s seen in
-    let factors = begun_next Factors s seen in
-    let size = begun_next Size s seen in
-    let model = begun_next Model s seen in
-    let blocks = begun_next Blocks s seen in
-    let foldover = begun_next Foldover s seen in
-    let count = counted (is_start seen) (is Proc s) s (first_words seen) refl in
-    cc
+past_next s seen = let count = counted (is_start seen) (is Proc s) s (first_words seen) refl in cc
 
--- a statement that stands twice
-twice : (start : Bool) (s : Symbol) (seen : List Symbol)
-    → (start && is_once s && has_statement s seen) ≡ (start && step_has (past_of seen).step s)
-twice false s seen = refl
-twice true Factors seen = refl
-twice true s seen = refl
-
--- an option that stands twice
-option_twice : (free : Bool) (s : Symbol) (seen : List Symbol)
-    → (free && is_option_in seen s && has_option s seen) ≡ (free && statement_has (past_of seen).statement s)
-option_twice false s seen = refl
-option_twice true Nodes seen = refl
-option_twice true s seen = refl
+option_is : (s : Symbol) (seen : List Symbol) → is_option_in seen s ≡ is_option_of (begun seen) s
+option_is s seen =
+    ap₂ (λ a b. if is Nodes s then a else is_output_option s && b)
+    (first_is Proc refl seen) (first_is Output refl seen)
 
 pub rule_is : (seen rest : List Symbol) (s : Symbol)
     → rule_at seen s rest ≡ rule_code (past_of seen) s (begins_with Factex rest)
 rule_is seen rest s =
-    ap₂
-    (λ a b. if is_start seen && is_once s && has_statement Run seen then Some 27
-    else (if a then Some 26
-    else (if is_start seen && is Proc s && begins_with Factex rest && nat_le 100 (procs seen) then Some 32
-    else (if b then Some 28
-    else None))))
-    (twice (is_start seen) s seen)
-    (option_twice (not (awaits_name seen)) s seen)
+    rw (in_step Run seen, in_step s seen, option_is s seen, in_statement s seen) refl
 
 refused_here : (seen rest : List Symbol) (s : Symbol) (i code : ℕ) → rule_at seen s rest ≡ Some code
     → repeated seen i (s ∷ rest) ≡ Some (code, i)

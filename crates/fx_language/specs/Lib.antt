@@ -8,5 +8,6 @@ pub mod Refusals
 pub mod Laws
 pub mod Continuations
 pub mod Repeats
+pub mod SymbolSets
 pub mod Pasts
 pub mod FirstRefusal

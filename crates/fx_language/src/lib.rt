@@ -23,6 +23,7 @@ mod repeated;
 mod setting;
 mod state;
 mod symbol;
+mod symbol_set;
 mod token;
 mod values;
 

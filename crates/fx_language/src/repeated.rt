@@ -1,10 +1,11 @@
 ghost use Rattle.std.specs.Prelude.{◌≡◌, ◌≤◌, ◌<◌, ◌+◌, ◌^◌, ◌||◌, []};
 ghost use Rattle.fx_language.specs.Repeats.{begins_with, repeated};
-ghost use Rattle.fx_language.specs.Pasts.{begun_after, brackets_after, in_after, option_after, past_after, past_of};
-ghost use Rattle.fx_language.specs.Pasts.{rule_code, statement_after, statement_has, step_after, step_has};
+ghost use Rattle.fx_language.specs.Pasts.{begun_after, brackets_after, is_option_of, options_after, past_after, past_of};
+ghost use Rattle.fx_language.specs.Pasts.{rule_code, step_after};
 
 use crate::code;
 use crate::symbol::Symbol;
+use crate::symbol_set::SymbolSet;
 
 /// The most steps of a program.
 const MOST_STEPS: usize = 100;
@@ -43,32 +44,12 @@ pub struct Past {
     pub in_brackets: bool,
     /// How many statements begin with PROC.
     pub procs: usize,
-    pub step: StepPast,
-    pub statement: StatementPast,
-}
-
-/// Which statements the step has.
-#[derive(Clone, Copy)]
-pub struct StepPast {
-    pub run: bool,
-    pub factors: bool,
-    pub size: bool,
-    pub model: bool,
-    pub blocks: bool,
-    pub foldover: bool,
-}
-
-/// With which word the statement begins, and which options it has.
-#[derive(Clone, Copy)]
-pub struct StatementPast {
-    pub proc: bool,
-    pub output: bool,
-    pub nodes: bool,
-    pub pointrep: bool,
-    pub designrep: bool,
-    pub randomize: bool,
-    pub novalran: bool,
-    pub blockname: bool,
+    /// The first words of the statements of the step.
+    pub step: SymbolSet,
+    /// The first word of the statement, `;` where none is begun.
+    pub begun: Symbol,
+    /// The words of the statement that are not names.
+    pub options: SymbolSet,
 }
 
 impl Past {
@@ -80,24 +61,9 @@ impl Past {
             behind_equals: false,
             in_brackets: false,
             procs: 0,
-            step: StepPast {
-                run: false,
-                factors: false,
-                size: false,
-                model: false,
-                blocks: false,
-                foldover: false,
-            },
-            statement: StatementPast {
-                proc: false,
-                output: false,
-                nodes: false,
-                pointrep: false,
-                designrep: false,
-                randomize: false,
-                novalran: false,
-                blockname: false,
-            },
+            step: SymbolSet::empty(),
+            begun: Symbol::Semicolon,
+            options: SymbolSet::empty(),
         }
     }
 
@@ -105,16 +71,16 @@ impl Past {
     fn rule(self, s: Symbol, factex_follows: bool) -> Option<u8>
         ensures { result ≡ rule_code self s factex_follows }
     {
-        if self.start && s.is_once() && self.step.run {
+        if self.start && s.is_once() && self.step.has(Symbol::Run) {
             return Some(code::STATEMENT_AFTER_RUN);
         }
-        if self.start && self.step.has(s) {
+        if self.start && s.is_once() && self.step.has(s) {
             return Some(code::REPEATED_STATEMENT);
         }
         if self.start && Symbol::Proc.is(s) && factex_follows && MOST_STEPS <= self.procs {
             return Some(code::TOO_MANY_STEPS);
         }
-        if !self.awaits_name() && self.statement.has(s) {
+        if !self.awaits_name() && is_option_of(self.begun, s) && self.options.has(s) {
             return Some(code::REPEATED_OPTION);
         }
         None
@@ -131,8 +97,9 @@ impl Past {
             behind_equals: Symbol::Equals.is(s),
             in_brackets: brackets_after(s, self.in_brackets),
             procs: self.procs_after(s),
-            step: self.step.after(self.start, s),
-            statement: self.statement.after(self.start, self.awaits_name(), s),
+            step: step_after(self.start, s, self.step),
+            begun: begun_after(self.start, s, self.begun),
+            options: options_after(self.awaits_name(), s, self.options),
         }
     }
 
@@ -156,83 +123,53 @@ impl Past {
     }
 }
 
-impl StepPast {
-    /// Whether the step has a statement that begins as this one does, and may have one alone.
-    fn has(self, s: Symbol) -> bool
-        ensures { result ≡ step_has self s }
-    {
-        match s {
-            Symbol::Factors => self.factors,
-            Symbol::Size => self.size,
-            Symbol::Model => self.model,
-            Symbol::Blocks => self.blocks,
-            Symbol::Foldover => self.foldover,
-            _ => false,
-        }
-    }
-
-    fn after(self, start: bool, s: Symbol) -> StepPast
-        ensures { result ≡ step_after start s self }
-    {
-        StepPast {
-            run: begun_after(start, s, Symbol::Run, self.run),
-            factors: begun_after(start, s, Symbol::Factors, self.factors),
-            size: begun_after(start, s, Symbol::Size, self.size),
-            model: begun_after(start, s, Symbol::Model, self.model),
-            blocks: begun_after(start, s, Symbol::Blocks, self.blocks),
-            foldover: begun_after(start, s, Symbol::Foldover, self.foldover),
-        }
-    }
-}
-
-/// Whether the step has a statement that begins with this word, after the symbol `s`.
-fn begun_after(start: bool, s: Symbol, word: Symbol, had: bool) -> bool
-    ensures { result ≡ begun_after start s word had }
+/// Whether it is an option of a statement with this first word.
+fn is_option_of(begun: Symbol, s: Symbol) -> bool
+    ensures { result ≡ is_option_of begun s }
 {
-    if start {
-        !(Symbol::Proc.is(s) || Symbol::Quit.is(s)) && (word.is(s) || had)
+    if Symbol::Nodes.is(s) {
+        Symbol::Proc.is(begun)
     } else {
-        had
+        s.is_output_option() && Symbol::Output.is(begun)
     }
 }
 
-impl StatementPast {
-    /// Whether the statement has this option.
-    fn has(self, s: Symbol) -> bool
-        ensures { result ≡ statement_has self s }
-    {
-        match s {
-            Symbol::Nodes => self.proc && self.nodes,
-            Symbol::Pointrep => self.output && self.pointrep,
-            Symbol::Designrep => self.output && self.designrep,
-            Symbol::Randomize => self.output && self.randomize,
-            Symbol::Novalran => self.output && self.novalran,
-            Symbol::Blockname => self.output && self.blockname,
-            _ => false,
-        }
-    }
-
-    fn after(self, start: bool, named: bool, s: Symbol) -> StatementPast
-        ensures { result ≡ statement_after start named s self }
-    {
-        StatementPast {
-            proc: in_after(start, s, Symbol::Proc, self.proc),
-            output: in_after(start, s, Symbol::Output, self.output),
-            nodes: option_after(named, s, Symbol::Nodes, self.nodes),
-            pointrep: option_after(named, s, Symbol::Pointrep, self.pointrep),
-            designrep: option_after(named, s, Symbol::Designrep, self.designrep),
-            randomize: option_after(named, s, Symbol::Randomize, self.randomize),
-            novalran: option_after(named, s, Symbol::Novalran, self.novalran),
-            blockname: option_after(named, s, Symbol::Blockname, self.blockname),
-        }
-    }
-}
-
-/// Whether the statement begins with this word, after the symbol `s`.
-fn in_after(start: bool, s: Symbol, word: Symbol, had: bool) -> bool
-    ensures { result ≡ in_after start s word had }
+/// The first words of the step's statements, after the symbol `s`.
+fn step_after(start: bool, s: Symbol, words: SymbolSet) -> SymbolSet
+    ensures { result ≡ step_after start s words }
 {
-    !Symbol::Semicolon.is(s) && (if start { word.is(s) } else { had })
+    if !start {
+        return words;
+    }
+    if Symbol::Proc.is(s) || Symbol::Quit.is(s) {
+        return SymbolSet::empty();
+    }
+    words.with(s)
+}
+
+/// The first word of the statement, after the symbol `s`.
+fn begun_after(start: bool, s: Symbol, begun: Symbol) -> Symbol
+    ensures { result ≡ begun_after start s begun }
+{
+    if start || Symbol::Semicolon.is(s) {
+        s
+    } else {
+        begun
+    }
+}
+
+/// The words of the statement that are not names, after the symbol `s`, which is a name where `named`
+/// is set.
+fn options_after(named: bool, s: Symbol, options: SymbolSet) -> SymbolSet
+    ensures { result ≡ options_after named s options }
+{
+    if Symbol::Semicolon.is(s) {
+        return SymbolSet::empty();
+    }
+    if named {
+        return options;
+    }
+    options.with(s)
 }
 
 /// Whether brackets are open after the symbol `s`.
@@ -241,11 +178,4 @@ fn brackets_after(s: Symbol, inside: bool) -> bool
 {
     let closes = Symbol::CloseBracket.is(s) || Symbol::Semicolon.is(s);
     Symbol::OpenBracket.is(s) || (!closes && inside)
-}
-
-/// Whether the statement has the option, after the symbol `s`, which is a name where `named` is set.
-fn option_after(named: bool, s: Symbol, option: Symbol, had: bool) -> bool
-    ensures { result ≡ option_after named s option had }
-{
-    !Symbol::Semicolon.is(s) && ((option.is(s) && !named) || had)
 }

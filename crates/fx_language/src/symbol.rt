@@ -120,7 +120,8 @@ impl Symbol {
         )
     }
 
-    fn index(self) -> u8
+    /// Its place in the order of the symbols.
+    pub fn index(self) -> u8
         ensures { result ≡ index self }
     {
         self as u8
