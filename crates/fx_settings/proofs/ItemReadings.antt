@@ -15,6 +15,7 @@ use Rattle.fx_text.specs.Phrases.{preceding, has_symbol}
 use Rattle.fx_text.specs.Ranges.{range_end}
 use Rattle.fx_text.specs.Sentences.{symbols_in, IsStatement}
 use Rattle.fx_text.proofs.Lacking.{before_none, before_part}
+use Rattle.fx_text.proofs.ByLexemes.{Reads, by_lexemes, before_end, semicolon}
 use Rattle.fx_settings.specs.Items.{Item, item_of, items_from}
 use Rattle.fx_settings.specs.ItemReadings.{IsItem, IsWrittenAs, AreItems, AreItemsRead, AreFoldedItemsRead}
 
@@ -25,97 +26,27 @@ no_sign sign s none word = elim (cases_Bool (is sign s)) [
   | inr differs ↦ differs
 ]
 
--- one item, and what is written after it
-record One_item (ws : List Written) (rest : List Symbol) : Type 0 where
-  written : List Written
+-- an item
+record IsOne (part : List Written) : Type 0 where
   read : Item
-  others : List Written
-  is_item : IsItem written read
-  all : ws ≡ written ++ others
-  others_are : symbols_in others ++ symbol.Semicolon ∷ [] ≡ rest
+  is_item : IsItem part read
 
-name_alone : (ws : List Written) (a : Symbol) (rest : List Symbol) (m : Symbol) → is_word a ≡ true
-    → symbols_in ws ++ symbol.Semicolon ∷ [] ≡ a ∷ (rest ++ m ∷ [])
-    → One_item ws (rest ++ m ∷ [])
-name_alone [] a rest m word h = absurd (alone rest h)
-  where
-    alone : (rest : List Symbol) → symbol.Semicolon ∷ [] ≡ a ∷ (rest ++ m ∷ []) → ⊥
-    alone [] h = cc h
-    alone (x ∷ rest) h = cc h
-name_alone (w ∷ ws) a rest m word h =
-    let same : w.symbol ≡ a = cc h in
-    record {
-      written = w ∷ [];
-      read = item_of w None;
-      others = ws;
-      is_item = (ap is_word same ∙ word, refl);
-      all = refl;
-      others_are = cc h;
-    }
+one_item : (part : List Written) → Reads grammar.item part → IsOne part
+one_item part (x, y, (a, ha, ea), inr ey, e) =
+    record { read = item_of a None; is_item = (ha, rw (ea, ey) at e) }
+one_item part (x, y, (a, ha, ea), inl (u, v, (b, hb, eb), (c, hc, ec), f), e) =
+    record { read = item_of a (Some c); is_item = (ha, (b, hb, hc, rw (ea, f, eb, ec) at e)) }
 
-range : (ws : List Written) (a b c : Symbol) (rest : List Symbol) (m : Symbol) → is_word a ≡ true
-    → is symbol.Minus b ≡ true → is_word c ≡ true
-    → symbols_in ws ++ symbol.Semicolon ∷ [] ≡ a ∷ b ∷ c ∷ (rest ++ m ∷ []) → One_item ws (rest ++ m ∷ [])
-range [] a b c rest m ha hb hc h = absurd (cc h)
-range (w ∷ []) a b c rest m ha hb hc h = absurd (cc h)
-range (w ∷ v ∷ []) a b c rest m ha hb hc h = absurd (alone rest (cc h))
-  where
-    alone : (rest : List Symbol) → symbol.Semicolon ∷ [] ≡ c ∷ (rest ++ m ∷ []) → ⊥
-    alone [] h = cc h
-    alone (x ∷ rest) h = cc h
-range (w ∷ v ∷ u ∷ ws) a b c rest m ha hb hc h =
-    let first : w.symbol ≡ a = cc h in
-    let second : v.symbol ≡ b = cc h in
-    let third : u.symbol ≡ c = cc h in
-    record {
-      written = w ∷ v ∷ u ∷ [];
-      read = item_of w (Some u);
-      others = ws;
-      is_item = (ap is_word first ∙ ha, (v, ap (is symbol.Minus) second ∙ hb, ap is_word third ∙ hc, refl));
-      all = refl;
-      others_are = cc h;
-    }
-
-one_item : (part : List Symbol) (ws : List Written) (rest : List Symbol) (m : Symbol) → Matches grammar.item part
-    → symbols_in ws ++ symbol.Semicolon ∷ [] ≡ part ++ (rest ++ m ∷ []) → One_item ws (rest ++ m ∷ [])
-one_item part ws rest m (x, y, (a, ha, ea), inr ey, e) h =
-    name_alone ws a rest m ha
-    (h ∙ ap (λ (l : List Symbol). l ++ (rest ++ m ∷ [])) (e ∙ ap₂ (λ (l k : List Symbol). l ++ k) ea ey))
-one_item part ws rest m (x, y, (a, ha, ea), inl (p, q, (b, hb, eb), (c, hc, ec), f), e) h =
-    range ws a b c rest m ha hb hc
-    (h ∙ ap (λ (l : List Symbol). l ++ (rest ++ m ∷ []))
-    (e ∙ ap₂ (λ (l k : List Symbol). l ++ k) ea (f ∙ ap₂ (λ (l k : List Symbol). l ++ k) eb ec)))
-
--- items, each as it is written, and what is written after them
-record Items (ws : List Written) (rest : List Symbol) : Type 0 where
-  written : List (List Written)
+record AreAll (parts : List (List Written)) : Type 0 where
   read : List Item
-  others : List Written
-  are : AreItems written read
-  all : ws ≡ flat_map (λ (part : List Written). part) written ++ others
-  others_are : symbols_in others ++ symbol.Semicolon ∷ [] ≡ rest
+  are : AreItems parts read
 
-grouped : (p rest z : List Symbol) (m : Symbol) → (p ++ rest) ++ (z ++ m ∷ []) ≡ p ++ ((rest ++ z) ++ m ∷ [])
-grouped p rest z m = simp append_assoc
-
-items : (parts : List (List Symbol)) → AllByRecursion (Matches grammar.item) parts
-    → (ws : List Written) (z : List Symbol) (m : Symbol)
-    → symbols_in ws ++ symbol.Semicolon ∷ [] ≡ flat_map (λ (part : List Symbol). part) parts ++ (z ++ m ∷ [])
-    → Items ws (z ++ m ∷ [])
-items [] each ws z m h = record { written = []; read = []; others = ws; are = tt; all = refl; others_are = h }
-items (p ∷ parts) each ws z m h =
-    let rest : List Symbol = flat_map (λ (part : List Symbol). part) parts in
-    let o = one_item p ws (rest ++ z) m each.0 (h ∙ grouped p rest z m) in
-    let later = items parts each.1 o.others z m (o.others_are ∙ append_assoc rest z (m ∷ [])) in
-    record {
-      written = o.written ∷ later.written;
-      read = o.read ∷ later.read;
-      others = later.others;
-      are = (o.is_item, later.are);
-      all = o.all ∙ ap (λ (l : List Written). o.written ++ l) later.all ∙ sym
-          (append_assoc o.written (flat_map (λ (part : List Written). part) later.written) later.others);
-      others_are = later.others_are;
-    }
+all_items : (parts : List (List Written)) → AllByRecursion (Reads grammar.item) parts → AreAll parts
+all_items [] each = record { read = []; are = tt }
+all_items (p ∷ parts) each =
+    let one = one_item p each.0 in
+    let later = all_items parts each.1 in
+    record { read = one.read ∷ later.read; are = (one.is_item, later.are) }
 
 -- no item begins with `-`
 no_range : (written : List (List Written)) (read : List Item) → AreItems written read
@@ -178,103 +109,49 @@ before_all front options lack (inl empty) =
 before_all front [] lack (inr some) = absurd (let f : false ≡ true = some in cc)
 before_all front (w ∷ options) lack (inr some) = before_part symbol.Slash front w options lack some
 
--- what the grammar has behind the items
-abbrev levels : Shape
-levels = Either
-    (Before (One (is symbol.Slash))
-    (Before (One (is symbol.Nlev)) (Before (One (is symbol.Equals)) (One (is symbol.Whole))))) Empty
+regrouped : (a b c d e : List Written) → a ++ (b ++ (c ++ (d ++ e))) ≡ (((a ++ b) ++ c) ++ d) ++ e
+regrouped a b c d e = simp append_assoc
 
-begun : (options : List Written) (z : List Symbol) (m : Symbol) → Matches levels z
-    → symbols_in options ++ symbol.Semicolon ∷ [] ≡ z ++ m ∷ [] → (options ≡ []) ⊎ (begins symbol.Slash options ≡ true)
-begun [] z m h e = inl refl
-begun (w ∷ options) z m (inr empty) e = absurd (short options (e ∙ ap (λ (l : List Symbol). l ++ m ∷ []) empty))
-  where
-    short : (options : List Written) → w.symbol ∷ symbols_in options ++ symbol.Semicolon ∷ [] ≡ m ∷ [] → ⊥
-    short [] h = cc h
-    short (v ∷ options) h = cc h
-begun (w ∷ options) z m (inl (x, y, (s, hs, es), n, f)) e =
-    let same : w.symbol ≡ s =
-    cc (e ∙ ap (λ (l : List Symbol). l ++ m ∷ []) (f ∙ ap (λ (l : List Symbol). l ++ y) es)) in
-    inr (ap (is symbol.Slash) same ∙ hs)
+begun : (options : List Written)
+    → Reads (Either (Before (One (is symbol.Slash)) (Before (One (is symbol.Nlev)) (Before (One (is symbol.Equals))
+    (One (is symbol.Whole))))) Empty) options
+    → (options ≡ []) ⊎ (begins symbol.Slash options ≡ true)
+begun options (inl (x, y, (w, hw, ew), h, e)) = inr (rw (rw ew at e) hw)
+begun options (inr e) = inl e
 
 pub items_law : (s : List Written) → IsStatement grammar.factors s → AreItemsRead s
-items_law []
-    (x0, r0, (f, hf, ef), (x1, r1, n, (x2, r2, g, (x3, r3, i, (x4, r4, o, (m, tm, em), e4), e3), e2), e1), e0) =
-    absurd (alone r0 r1 n (e0 ∙ ap (λ (l : List Symbol). l ++ r0) ef) e1)
+items_law s by_grammar = read (by_lexemes grammar.factors s by_grammar)
   where
-    alone : (r0 r1 : List Symbol) → Matches (One is_word) x1 → symbol.Semicolon ∷ [] ≡ f ∷ r0 → r0 ≡ x1 ++ r1 → ⊥
-    alone r0 r1 (a, ha, ea) h k = let some : r0 ≡ a ∷ r1 = k ∙ ap (λ (l : List Symbol). l ++ r1) ea in
-        cc (h ∙ ap (λ (l : List Symbol). f ∷ l) some)
-items_law (word ∷ ws) (
-  x0,
-  r0,
-  (f, hf, ef),
-  (x1, r1, n, (x2, r2, g, (x3, r3, (parts, each, e), (x4, r4, o, (m, tm, em), e4), e3), e2), e1),
-  e0,
-) =
-    let flat : List Symbol = flat_map (λ (part : List Symbol). part) parts in
-    let first : Matches grammar.item (x1 ++ x2) = (x1, x2, n, g, refl) in
-    let rest : r0 ≡ ((x1 ++ x2) ++ flat) ++ (x4 ++ m ∷ []) =
-    e1 ∙ ap (λ (l : List Symbol). x1 ++ l)
-    (e2 ∙ ap (λ (l : List Symbol). x2 ++ l)
-    (e3 ∙ ap₂ (λ (l k : List Symbol). l ++ k) e (e4 ∙ ap (λ (l : List Symbol). x4 ++ l) em)))
-    ∙ regrouped x1 x2 flat (x4 ++ m ∷ []) in
-    let whole : word.symbol ∷ (symbols_in ws ++ symbol.Semicolon ∷ []) ≡ f ∷ r0 =
-    e0 ∙ ap (λ (l : List Symbol). l ++ r0) ef in
-    let behind : symbols_in ws ++ symbol.Semicolon ∷ [] ≡ r0 = cc whole in
-    let all = items ((x1 ++ x2) ∷ parts) (first, each) ws x4 m (behind ∙ rest) in
-    let options = begun all.others x4 m o all.others_are in
-    let front : List Written = flat_map (λ (part : List Written). part) all.written in
-    record {
-      word = word;
-      written = all.written;
-      options = all.others;
-      statement = ap (λ (l : List Written). word ∷ l) all.all;
-      items = subst (AreItems all.written)
-          (sym (ap (items_from false)
-          (ap (preceding symbol.Slash) all.all ∙ before_all front all.others (no_slash all.written all.read all.are)
-          options) ∙ read_again all.written all.read all.are)) all.are;
-      behind = options;
-    }
-  where
-    regrouped : (a b c d : List Symbol) → a ++ (b ++ (c ++ d)) ≡ ((a ++ b) ++ c) ++ d
-    regrouped a b c d = simp append_assoc
-
--- nothing is written between the items and the semicolon
-none_left : (others : List Written) (m : Symbol) → symbols_in others ++ symbol.Semicolon ∷ [] ≡ m ∷ [] → others ≡ []
-none_left [] m h = refl
-none_left (w ∷ others) m h = absurd (short others h)
-  where
-    short : (others : List Written) → w.symbol ∷ symbols_in others ++ symbol.Semicolon ∷ [] ≡ m ∷ [] → ⊥
-    short [] h = cc h
-    short (v ∷ others) h = cc h
+    read : Reads grammar.factors (s ++ semicolon ∷ []) → AreItemsRead s
+    read (x0, y0, (f, hf, ef), (x1, y1, n, (x2, y2, g, (x3, y3, (parts, each, fl), (x4, y4, o, (m, tm, em), e4), e3), e2), e1), e0) =
+        let all = all_items ((x1 ++ x2) ∷ parts) ((x1, x2, n, g, refl), each) in
+        let front : List Written = (x1 ++ x2) ++ flat_map (λ part. part) parts in
+        let inner : y0 ≡ (front ++ x4) ++ m ∷ [] =
+        (rw (e2, e3, fl, e4, em) at e1) ∙ regrouped x1 x2 (flat_map (λ part. part) parts) x4 (m ∷ []) in
+        let whole = before_end s (f ∷ front ++ x4) m (rw (ef, inner) at e0) in
+        record {
+          word = f;
+          written = (x1 ++ x2) ∷ parts;
+          options = x4;
+          statement = whole;
+          items = rw whole
+              (subst (AreItems ((x1 ++ x2) ∷ parts))
+              (sym (ap (items_from false)
+              (before_all front x4 (no_slash ((x1 ++ x2) ∷ parts) all.read all.are) (begun x4 o))
+              ∙ read_again ((x1 ++ x2) ∷ parts) all.read all.are)) all.are);
+          behind = begun x4 o;
+        }
 
 pub folded_items_law : (s : List Written) → IsStatement grammar.foldover s → AreFoldedItemsRead s
-folded_items_law [] (x0, r0, (f, hf, ef), (x1, r1, (parts, each, e), (m, tm, em), e1), e0) =
-    absurd (alone x1 r1 (ap (λ (l : List Symbol). l ++ r0) ef) e1 em)
+folded_items_law s by_grammar = read (by_lexemes grammar.foldover s by_grammar)
   where
-    alone : (x y : List Symbol) → x0 ++ r0 ≡ f ∷ r0 → r0 ≡ x ++ y → y ≡ m ∷ [] → ⊥
-    alone [] y front next last =
-        let short : symbol.Semicolon ∷ [] ≡ f ∷ m ∷ [] =
-        e0 ∙ front ∙ ap (λ (l : List Symbol). f ∷ l) (next ∙ last) in
-        cc short
-    alone (a ∷ x) y front next last =
-        let short : symbol.Semicolon ∷ [] ≡ f ∷ a ∷ (x ++ y) =
-        e0 ∙ front ∙ ap (λ (l : List Symbol). f ∷ l) next in
-        cc short
-folded_items_law (word ∷ ws) (x0, r0, (f, hf, ef), (x1, r1, (parts, each, e), (m, tm, em), e1), e0) =
-    let whole : word.symbol ∷ (symbols_in ws ++ symbol.Semicolon ∷ []) ≡ f ∷ r0 =
-    e0 ∙ ap (λ (l : List Symbol). l ++ r0) ef in
-    let behind : symbols_in ws ++ symbol.Semicolon ∷ [] ≡ r0 = cc whole in
-    let all = items parts each ws [] m (behind ∙ e1 ∙ ap₂ (λ (l k : List Symbol). l ++ k) e em) in
-    let written : ws ≡ flat_map (λ (part : List Written). part) all.written =
-    all.all
-    ∙ ap (λ (l : List Written). flat_map (λ (part : List Written). part) all.written ++ l)
-    (none_left all.others m all.others_are) ∙ append-nil _ in
-    record {
-      word = word;
-      written = all.written;
-      statement = ap (λ (l : List Written). word ∷ l) written;
-      items = subst (AreItems all.written)
-          (sym (ap (items_from false) written ∙ read_again all.written all.read all.are)) all.are;
-    }
+    read : Reads grammar.foldover (s ++ semicolon ∷ []) → AreFoldedItemsRead s
+    read (x0, y0, (f, hf, ef), (x1, y1, (parts, each, fl), (m, tm, em), e1), e0) =
+        let all = all_items parts each in
+        let whole = before_end s (f ∷ flat_map (λ part. part) parts) m (rw (ef, e1, fl, em) at e0) in
+        record {
+          word = f;
+          written = parts;
+          statement = whole;
+          items = rw whole (subst (AreItems parts) (sym (read_again parts all.read all.are)) all.are);
+        }

@@ -1,4 +1,3 @@
-pub mod Cut
 pub mod Cuts
 pub mod Lacking
 pub mod Sentences
@@ -10,3 +9,4 @@ pub mod Numbered
 pub mod RangeParts
 pub mod Placed
 pub mod Stops
+pub mod ByLexemes
