@@ -1,5 +1,5 @@
 -- An accepted output keeps the limits of its step.
-use Rattle.std.proofs.Common.{◌≡◌, ◌≢◌, ℕ, ◌≤◌, Bool, true, false, ◌&&◌, List, [], length}
+use Rattle.std.proofs.Common.{◌∷◌, ◌≡◌, ◌≢◌, ℕ, ◌≤◌, Bool, true, false, ◌&&◌, List, [], length}
 use Rattle.std.proofs.Common.{Option, Some, None, Result, Ok, Err, refl, sym, ap, subst, ◌∙◌, arith}
 use Rattle.std.specs.Prelude.{◌==◌, nat_le, if◌then◌else◌}
 use Rattle.std.proofs.lemmas.Bool.{leb-true, eqb-true, and_parts}
@@ -16,7 +16,7 @@ use Rattle.fx_outputs.specs.declared.earlier.EarlierPlan.{EarlierPlan}
 use Rattle.fx_outputs.specs.declared.replication.Rep.TheVariants.{Times}
 use Rattle.fx_outputs.specs.Earlier.{plan_names}
 use Rattle.fx_outputs.specs.Replications.{plan_at, rep_at, replication_in_range}
-use Rattle.fx_outputs.specs.Values.{begins_values, checked_values, values_if_begun, values_of}
+use Rattle.fx_outputs.specs.Values.{checked_values, values_if_any, values_of}
 use Rattle.fx_outputs.specs.BlockColumns.{values_wanted, block_values}
 
 -- What a chain of checks gives is what its last part makes of what its first part gives.
@@ -77,25 +77,14 @@ of_blocks blocks.Without word all values e = absurd (cc e)
 of_blocks blocks.Open word all values e = absurd (cc e)
 of_blocks (blocks.Fixed n) word all values e = λ _. ap blocks.Fixed (sym (as_many n word all values e))
 
-either_values : (b : Bool) (count : BlockCount) (word : Written) (all values : List (List ℕ))
-    → (if b then checked_values (values_wanted count) word all else Ok []) ≡ Ok values → AreForBlocks count values
-either_values true count word all values e = of_blocks count word all values e
-either_values false count word all values e = let none : [] ≡ values = cc e in λ some. absurd (some (sym none))
-
-pub values_of_blocks : (count : BlockCount) (word : Option Written) (rest : List Written) (values : List (List ℕ))
-    → block_values count word rest ≡ Ok values
-    → values ≢ [] → count ≡ blocks.Fixed (length values)
-values_of_blocks count None rest values e = let none : [] ≡ values = cc e in λ some. absurd (some (sym none))
-values_of_blocks count (Some word) rest values e =
-    either_values (begins_values word rest) count word (values_of rest) values e
+pub values_of_blocks : (count : BlockCount) (written : List Written) (values : List (List ℕ))
+    → block_values count written ≡ Ok values → values ≢ [] → count ≡ blocks.Fixed (length values)
+values_of_blocks count [] values e = let none : [] ≡ values = cc e in λ some. absurd (some (sym none))
+values_of_blocks count (word ∷ rest) values e = of_blocks count word (values_of rest) values e
 
 -- where a column has values, they are as many as are wanted
-pub wanted_values : (n : ℕ) (word : Option Written) (rest : List Written) (values : List (List ℕ))
-    → values_if_begun (Some n) word rest ≡ Ok values → values ≢ [] → length values ≡ n
-wanted_values n None rest values e = let none : [] ≡ values = cc e in λ some. absurd (some (sym none))
-wanted_values n (Some word) rest values e = either (begins_values word rest) e
-  where
-    either : (b : Bool) → (if b then checked_values (Some n) word (values_of rest) else Ok []) ≡ Ok values
-        → values ≢ [] → length values ≡ n
-    either true e = λ some. as_many n word (values_of rest) values e
-    either false e = let none : [] ≡ values = cc e in λ some. absurd (some (sym none))
+pub wanted_values : (n : ℕ) (written : List Written) (values : List (List ℕ))
+    → values_if_any (Some n) written ≡ Ok values → values ≢ [] → length values ≡ n
+wanted_values n [] values e = let none : [] ≡ values = cc e in λ some. absurd (some (sym none))
+wanted_values n (word ∷ rest) values e = λ some. as_many n word (values_of rest) values e
+

@@ -11,7 +11,7 @@ use Rattle.std.proofs.lemmas.List.Quantifiers.{all_pairs_push, position-Some}
 use Rattle.std.proofs.lemmas.List.Folds.{list_any_at, list_any-append}
 use Rattle.fx_derived.specs.Codes.{ArePlaces}
 use Rattle.fx_language.specs.declared.symbol.Symbol.TheVariants.{CloseBracket, OpenBracket}
-use Rattle.fx_language.specs.Symbols.{is}
+use Rattle.fx_language.specs.Symbols.{is, is_output_option}
 use Rattle.fx_text.specs.Written.{Written}
 use Rattle.fx_text.specs.Names.{place_of, is_same_name}
 use Rattle.fx_text.specs.Phrases.{after, preceding}
@@ -20,12 +20,10 @@ use Rattle.fx_outputs.specs.declared.recode.Recode.{Recode}
 use Rattle.fx_outputs.specs.declared.derived.Derived.{Derived}
 use Rattle.fx_outputs.specs.declared.columns.Columns.{Columns}
 use Rattle.fx_outputs.specs.Contexts.{Context}
-use Rattle.fx_outputs.specs.Options.{are_open_behind}
-use Rattle.fx_outputs.specs.Values.{values_of, checked_values, values_if_begun}
+use Rattle.fx_outputs.specs.Values.{values_of, checked_values, values_if_any}
 use Rattle.fx_outputs.specs.BlockColumns.{name_or_empty}
 use Rattle.fx_outputs.specs.DerivedFactors.{AreDerived, AreFree, is_bracketed}
-use Rattle.fx_outputs.specs.Columns.{check_size, column_at, columns_behind, derived_of, factor_at, has_values}
-use Rattle.fx_outputs.specs.Columns.{is_recoded}
+use Rattle.fx_outputs.specs.Columns.{check_size, column_of, columns_behind, columns_of, derived_of, factor_at, has_values}
 use Rattle.fx_outputs.specs.Columns.{is_used, places_behind, recode_at, recode_of, unused_place, with_derived}
 use Rattle.fx_outputs.specs.Columns.{with_recode}
 use Rattle.fx_outputs.specs.Validity.{IsRecode, AreRecodes}
@@ -174,7 +172,7 @@ module _ (context : Context) where
       let Goal : Type 0 = IsNextDerived done d in
       through (check_size context.q (length names) bracket) _ d Goal e (λ u size e.
       through (places_behind context done [] names) _ d Goal e (λ places told e.
-      through (values_if_begun (Some (context.q ^ length names)) (slice_get behind 2) (drop 3 behind)) _ d Goal e
+      through (values_if_any (Some (context.q ^ length names)) (drop 2 behind)) _ d Goal e
       (λ values given e.
       let known = all_places done names [] places (no_places done) told in
       let count : length places ≡ length names = omega (arith, known.count) in
@@ -186,7 +184,7 @@ module _ (context : Context) where
         some = rw count limits.0;
         few = rw count limits.1;
         levels = rw count limits.2;
-        values = rw count (wanted_values (context.q ^ length names) (slice_get behind 2) (drop 3 behind) values given);
+        values = rw count (wanted_values (context.q ^ length names) (drop 2 behind) values given);
       } in
       subst (IsNextDerived done) same sure)))
 
@@ -246,45 +244,36 @@ module _ (context : Context) where
                   (recursion_from_All (λ p. is_used done p ≡ false) d.places is_next.unused.unused) own found
               last false found e = cc e
 
-  of_recode : (done now : Columns) (before name : Written) (rest : List Written) → AreColumns done
-      → recode_at context done before name rest ≡ Ok now → AreColumns now
-  of_recode done now before name [] h e = let same : done ≡ now = cc e in subst AreColumns same h
-  of_recode done now before name (word ∷ rest) h e = by_test (is_recoded before name word) e
-    where
-      by_test : (b : Bool)
-          → (if b then (recode_of context done name word rest >>= λ recode. Ok (with_recode done recode)) else Ok done)
-          ≡ Ok now
-          → AreColumns now
-      by_test true e =
-          through (recode_of context done name word rest) _ now (AreColumns now) e (λ recode read e.
-          let same : with_recode done recode ≡ now = cc e in
-          subst AreColumns same (one_recode done recode h (next done name word rest recode read)))
-      by_test false e = let same : done ≡ now = cc e in subst AreColumns same h
+  of_recode : (done now : Columns) (name : Written) (rest : List Written) → AreColumns done
+      → recode_at context done name rest ≡ Ok now → AreColumns now
+  of_recode done now name [] h e = let same : done ≡ now = cc e in subst AreColumns same h
+  of_recode done now name (word ∷ rest) h e =
+      through (recode_of context done name word rest) _ now (AreColumns now) e (λ recode read e.
+      let same : with_recode done recode ≡ now = cc e in
+      subst AreColumns same (one_recode done recode h (next done name word rest recode read)))
 
-  of_column : (within : Bool) (done now : Columns) (before name : Written) (rest : List Written) → AreColumns done
-      → column_at context within done before name rest ≡ Ok now → AreColumns now
-  of_column true done now before name rest h e = let same : done ≡ now = cc e in subst AreColumns same h
-  of_column false done now before name rest h e = by_test (is OpenBracket name.symbol) e
+  of_column : (done now : Columns) (option : List Written) → AreColumns done
+      → column_of context done option ≡ Ok now → AreColumns now
+  of_column done now [] h e = let same : done ≡ now = cc e in subst AreColumns same h
+  of_column done now (first ∷ rest) h e = by_test (is OpenBracket first.symbol) (is_output_option first.symbol) e
     where
-      by_test : (b : Bool)
-          → (if b then (derived_of context done name rest >>= λ d. Ok (with_derived done d))
-          else recode_at context done before name rest) ≡ Ok now
+      by_test : (b option : Bool)
+          → (if b then (derived_of context done first rest >>= λ d. Ok (with_derived done d))
+          else (if option then Ok done else recode_at context done first rest)) ≡ Ok now
           → AreColumns now
-      by_test true e =
-          through (derived_of context done name rest) _ now (AreColumns now) e (λ d read e.
+      by_test true option e =
+          through (derived_of context done first rest) _ now (AreColumns now) e (λ d read e.
           let same : with_derived done d ≡ now = cc e in
-          subst AreColumns same (one_derived done d h (next_derived done name rest d read)))
-      by_test false e = of_recode done now before name rest h e
+          subst AreColumns same (one_derived done d h (next_derived done first rest d read)))
+      by_test false true e = let same : done ≡ now = cc e in subst AreColumns same h
+      by_test false false e = of_recode done now first rest h e
 
-  of_columns : (inside : Bool) (done all : Columns) (s : List Written) → AreColumns done
-      → columns_behind context inside done s ≡ Ok all → AreColumns all
-  of_columns inside done all [] h e = let same : done ≡ all = cc e in subst AreColumns same h
-  of_columns inside done all (a ∷ []) h e = let same : done ≡ all = cc e in subst AreColumns same h
-  of_columns inside done all (before ∷ name ∷ rest) h e =
-      through (column_at context (are_open_behind inside before) done before name rest) _ all (AreColumns all) e
-      (λ now read e.
-      of_columns (are_open_behind inside before) now all (name ∷ rest)
-      (of_column (are_open_behind inside before) done now before name rest h read) e)
+  of_columns : (done all : Columns) (options : List (List Written)) → AreColumns done
+      → columns_behind context done options ≡ Ok all → AreColumns all
+  of_columns done all [] h e = let same : done ≡ all = cc e in subst AreColumns same h
+  of_columns done all (option ∷ options) h e =
+      through (column_of context done option) _ all (AreColumns all) e
+      (λ now read e. of_columns now all options (of_column done now option h read) e)
 
   none_yet : AreColumns (record { recodes = []; derived = [] })
   none_yet = record {
@@ -294,6 +283,6 @@ module _ (context : Context) where
     free = All-nil _;
   }
 
-  pub all_columns : (s : List Written) (all : Columns)
-      → columns_behind context false (record { recodes = []; derived = [] }) s ≡ Ok all → AreColumns all
-  all_columns s all e = of_columns false (record { recodes = []; derived = [] }) all s none_yet e
+  pub all_columns : (options : List (List Written)) (all : Columns)
+      → columns_of context options ≡ Ok all → AreColumns all
+  all_columns options all e = of_columns (record { recodes = []; derived = [] }) all options none_yet e

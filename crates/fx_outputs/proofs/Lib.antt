@@ -5,11 +5,11 @@ pub mod Folded
 pub mod Histories
 pub mod InOrder
 pub mod Limits
-pub mod Readings
+pub mod OptionCuts
 pub mod NamedPlans
 pub mod Names
 pub mod Statements
 pub mod Taken
 pub mod Placed
-pub mod DerivedNames
 pub mod OwnNames
+pub mod OptionParts

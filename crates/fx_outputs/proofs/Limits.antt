@@ -15,7 +15,7 @@ use Rattle.fx_outputs.specs.declared.replication.Rep.{Rep}
 use Rattle.fx_outputs.specs.declared.replication.Rep.TheVariants.{Times}
 use Rattle.fx_outputs.specs.Contexts.{Context}
 use Rattle.fx_outputs.specs.DerivedFactors.{AreDerived, AreFree}
-use Rattle.fx_outputs.specs.Options.{from_option}
+use Rattle.fx_outputs.specs.Options.{option_of, options_of}
 use Rattle.fx_outputs.specs.Earlier.{rep_rows}
 use Rattle.fx_outputs.specs.Outputs.{output_spec, outputs_behind, outputs_of, plan_behind}
 use Rattle.fx_outputs.specs.Validity.{AreRecodes, IsWithinLimits}
@@ -30,7 +30,7 @@ rows_by earlier runs each all point design e1 e2 h =
     (subst (λ (r : Rep). runs * rep_rows earlier r * rep_rows earlier design ≤ 200000) e1 h)
 
 module _ (context : Context) where
-  output_within : (earlier : List EarlierPlan) (word name : Written) (s : List Written) (output : OutputSpec)
+  output_within : (earlier : List EarlierPlan) (word name : Written) (s : List (List Written)) (output : OutputSpec)
       → output_spec context earlier word name s ≡ Ok output → IsWithinLimits context output
   output_within earlier word name s output e =
       let t = taken context earlier word name s output e in
@@ -39,12 +39,12 @@ module _ (context : Context) where
       record {
         pointrep = record {
           some =
-              λ n is. repeated earlier (slice_get (from_option Pointrep s) 2) n
+              λ n is. repeated earlier (slice_get (option_of Pointrep s) 2) n
               (reps.point ∙ ap (λ (r : Rep). Ok r) is);
         };
         designrep = record {
           some =
-              λ n is. repeated earlier (slice_get (from_option Designrep s) 2) n
+              λ n is. repeated earlier (slice_get (option_of Designrep s) 2) n
               (reps.design ∙ ap (λ (r : Rep). Ok r) is);
         };
         rows =
@@ -57,7 +57,7 @@ module _ (context : Context) where
             subst (λ (d : List Derived). AreFree d output.recodes) (sym t.derived_are)
             (subst (AreFree t.columns.derived) (sym t.recodes_are) known.free);
         block_values =
-            values_of_blocks context.blocks (slice_get (from_option Blockname s) 3) (drop 4 (from_option Blockname s))
+            values_of_blocks context.blocks (drop 3 (option_of Blockname s))
             output.block_values t.values;
       }
 
@@ -83,11 +83,11 @@ module _ (context : Context) where
   within ((a ∷ b ∷ []) ∷ rest) earlier outputs all h e = within rest earlier outputs all h e
   within ((a ∷ b ∷ c ∷ []) ∷ rest) earlier outputs all h e = within rest earlier outputs all h e
   within ((a ∷ b ∷ c ∷ d ∷ options) ∷ rest) earlier outputs all h e =
-      first outputs all (is Output a.symbol) (output_spec context earlier a d (d ∷ options))
+      first outputs all (is Output a.symbol) (output_spec context earlier a d (options_of (d ∷ options)))
       (λ output. outputs_behind context (earlier ++ plan_behind context earlier output ∷ []) (outputs ++ output ∷ [])
       rest)
       (outputs_behind context earlier outputs rest)
-      (output_within earlier a d (d ∷ options))
+      (output_within earlier a d (options_of (d ∷ options)))
       (λ output good more. within rest (earlier ++ plan_behind context earlier output ∷ []) (outputs ++ output ∷ []) all good more)
       (λ more. within rest earlier outputs all h more) h e
 

@@ -19,7 +19,7 @@ use Rattle.fx_outputs.specs.declared.replication.Rep.{Rep}
 use Rattle.fx_outputs.specs.declared.replication.Rep.TheVariants.{Times, Plan}
 use Rattle.fx_outputs.specs.Contexts.{Context}
 use Rattle.fx_outputs.specs.Histories.{built}
-use Rattle.fx_outputs.specs.Options.{from_option}
+use Rattle.fx_outputs.specs.Options.{option_of, options_of}
 use Rattle.fx_outputs.specs.Earlier.{HasFewRows, plan_names}
 use Rattle.fx_outputs.specs.Replications.{plan_at, rep_at, replication_in_range}
 use Rattle.fx_outputs.specs.Outputs.{output_spec, outputs_of, plan_behind}
@@ -57,7 +57,7 @@ one_named earlier option (Some w) number at e = by_symbol (is Whole w.symbol) e
           same = found.1;
         }
 
-pub all_earlier : (context : Context) (earlier : List EarlierPlan) (word name : Written) (s : List Written)
+pub all_earlier : (context : Context) (earlier : List EarlierPlan) (word name : Written) (s : List (List Written))
     (output : OutputSpec)
     → output_spec context earlier word name s ≡ Ok output → NamesEarlier earlier s output
 all_earlier context earlier word name s output e =
@@ -65,10 +65,10 @@ all_earlier context earlier word name s output e =
     let reps = each_rep earlier s (output.pointrep, output.designrep) t.reps in
     record {
       point =
-          λ number is. one_named earlier (from_option Pointrep s) (slice_get (from_option Pointrep s) 2) number refl
+          λ number is. one_named earlier (option_of Pointrep s) (slice_get (option_of Pointrep s) 2) number refl
           (reps.point ∙ ap (λ (r : Rep). Ok r) is);
       design =
-          λ number is. one_named earlier (from_option Designrep s) (slice_get (from_option Designrep s) 2) number refl
+          λ number is. one_named earlier (option_of Designrep s) (slice_get (option_of Designrep s) 2) number refl
           (reps.design ∙ ap (λ (r : Rep). Ok r) is);
     }
 
@@ -86,7 +86,7 @@ all_few context earlier statements outputs h e =
     (λ before done a b c d options output accepted begun e kept. record {
       are = one_more_plan context earlier before done output kept.are;
       few = All-push HasFewRows before (plan_behind context before output) kept.few
-          (few_rows context before a d (d ∷ options) output e);
+          (few_rows context before a d (options_of (d ∷ options)) output e);
     })
     statements earlier [] outputs (each-all (λ x. Unit {0}) statements (λ x. tt)) (record { are = refl; few = h }) e in
     subst (All HasFewRows) last.1.are last.1.few

@@ -7,26 +7,29 @@ use Rattle.std.proofs.lemmas.List.{append-nil, map-append}
 use Rattle.std.proofs.lemmas.List.Elements.{All-nil, All-push}
 use Rattle.fx_base.proofs.Lists.{each-all}
 use Rattle.fx_language.specs.declared.symbol.Symbol.{Symbol}
-use Rattle.fx_language.specs.declared.symbol.Symbol.TheVariants.{Output, Blockname}
-use Rattle.fx_language.specs.Symbols.{is, is_word}
+use Rattle.fx_language.specs.declared.symbol.Symbol.TheVariants.{Output, Blockname, Designrep, Novalran, OpenBracket, Pointrep, Randomize}
+use Rattle.fx_language.specs.Symbols.{is, is_output_option, is_word}
 use Rattle.fx_text.specs.declared.refusal.Refusal.{Refusal}
 use Rattle.fx_text.specs.Names.{IsName, is_same_name, place_of}
 use Rattle.fx_text.specs.Refusals.{refusal_at, ◌>>=◌}
-use Rattle.fx_text.specs.Sentences.{HasNames, IsAccepted}
+use Rattle.fx_text.specs.Sentences.{HasNames, IsAccepted, symbols_in}
+use Rattle.fx_language.specs.Shapes.{Matches}
+use Rattle.fx_language.specs.Grammar as grammar
 use Rattle.fx_text.specs.Written.{Written, begins}
 use Rattle.fx_outputs.specs.declared.earlier.EarlierPlan.{EarlierPlan}
 use Rattle.fx_outputs.specs.declared.output.OutputSpec.{OutputSpec}
 use Rattle.fx_outputs.specs.Contexts.{Context}
 use Rattle.fx_outputs.specs.Histories.{built}
-use Rattle.fx_outputs.specs.Options.{are_open_behind, awaits_name, from_option, from_option_in}
+use Rattle.fx_outputs.specs.Options.{option_of, options_of}
 use Rattle.fx_outputs.specs.Earlier.{plan_names}
 use Rattle.fx_outputs.specs.BlockColumns.{check_blockname, check_column, check_free, has_blocks, name_or_empty}
 use Rattle.fx_outputs.specs.BlockColumns.{column_name}
 use Rattle.fx_outputs.specs.Outputs.{names_of, output_spec, outputs_behind, outputs_of, plan_behind}
-use Rattle.fx_outputs.specs.Readings.{HasBlockName}
 use Rattle.fx_outputs.specs.Validity.{HasItsNames}
 use Rattle.fx_text.proofs.Distinct as distinct
-use Rattle.fx_outputs.proofs.Readings.{names_law}
+use Rattle.fx_text.proofs.ByLexemes.{Reads, reads}
+use Rattle.fx_outputs.proofs.OptionCuts.{apart, options_law}
+use Rattle.fx_outputs.proofs.OptionParts as parts
 use Rattle.fx_outputs.proofs.Taken.{not_found, taken, unless}
 
 -- What holds before the first statement, and after each OUTPUT statement that is read, holds of all.
@@ -34,7 +37,7 @@ module _ (context : Context) (Q : List Written → Type 0) (P : List EarlierPlan
     (read : (earlier : List EarlierPlan) (outputs : List OutputSpec) (a b c d : Written) (options : List Written)
     (output : OutputSpec)
     → Q (a ∷ b ∷ c ∷ d ∷ options) → is Output a.symbol ≡ true
-    → output_spec context earlier a d (d ∷ options) ≡ Ok output
+    → output_spec context earlier a d (options_of (d ∷ options)) ≡ Ok output
     → P earlier outputs → P (earlier ++ plan_behind context earlier output ∷ []) (outputs ++ output ∷ [])) where
   one : (earlier : List EarlierPlan) (outputs all : List OutputSpec) (flag : Bool) (given : Result OutputSpec Refusal)
       (later : OutputSpec → Result (List OutputSpec) Refusal) (passed : Result (List OutputSpec) Refusal)
@@ -58,7 +61,7 @@ module _ (context : Context) (Q : List Written → Type 0) (P : List EarlierPlan
   holds_of_all ((a ∷ b ∷ []) ∷ rest) earlier outputs all each h e = holds_of_all rest earlier outputs all each.1 h e
   holds_of_all ((a ∷ b ∷ c ∷ []) ∷ rest) earlier outputs all each h e = holds_of_all rest earlier outputs all each.1 h e
   holds_of_all ((a ∷ b ∷ c ∷ d ∷ options) ∷ rest) earlier outputs all each h e =
-      one earlier outputs all (is Output a.symbol) (output_spec context earlier a d (d ∷ options))
+      one earlier outputs all (is Output a.symbol) (output_spec context earlier a d (options_of (d ∷ options)))
       (λ output. outputs_behind context (earlier ++ plan_behind context earlier output ∷ []) (outputs ++ output ∷ [])
       rest)
       (outputs_behind context earlier outputs rest)
@@ -67,21 +70,42 @@ module _ (context : Context) (Q : List Written → Type 0) (P : List EarlierPlan
       (outputs ++ output ∷ []) all each.1 good more)
       (λ more. holds_of_all rest earlier outputs all each.1 h more) e
 
--- what is written from an option on is a part of all
-from_names_in : (inside : Bool) (option : Symbol) (s : List Written) → HasNames s
-    → HasNames (from_option_in inside option s)
-from_names_in inside option [] h = tt
-from_names_in inside option (before ∷ rest) (first, h) =
-    by_test (begins option rest && not (awaits_name (are_open_behind inside before) before))
-    (from_names_in (are_open_behind inside before) option rest h)
-  where
-    by_test : (b : Bool) → HasNames (from_option_in (are_open_behind inside before) option rest)
-        → HasNames (if b then rest else from_option_in (are_open_behind inside before) option rest)
-    by_test true later = h
-    by_test false later = later
+-- BLOCKNAME, `=` and a name
+record HasBlockName (written : List Written) : Type 0 where
+  word : Written
+  equals : Written
+  name : Written
+  rest : List Written
+  all : written ≡ word ∷ equals ∷ name ∷ rest
+  is_name : is_word name.symbol ≡ true
 
-from_names : (option : Symbol) (s : List Written) → HasNames s → HasNames (from_option option s)
-from_names option s h = from_names_in false option s h
+another : (o : List Written) (w : Written) (more : List Written) (test : Symbol → Bool) → test w.symbol ≡ true
+    → test Blockname ≡ false → o ≡ w ∷ more → begins Blockname o ≡ true → HasBlockName o
+another o w more test it other all begun =
+    absurd (let f : false ≡ true = sym (apart Blockname test w.symbol other it) ∙ (rw all at begun) in cc)
+
+block_option : (o : List Written) → Reads grammar.option o → begins Blockname o ≡ true → HasBlockName o
+block_option o (inl (x, y, (w, hw, ew), h, i)) = another o w y (is Pointrep) hw refl (rw ew at i)
+block_option o (inr (inl (x, y, (w, hw, ew), h, i))) = another o w y (is Designrep) hw refl (rw ew at i)
+block_option o (inr (inr (inl (x, y, (w, hw, ew), h, i)))) = another o w y (is Randomize) hw refl (rw ew at i)
+block_option o (inr (inr (inr (inl (w, hw, ew))))) = another o w [] (is Novalran) hw refl ew
+block_option o (inr (inr (inr (inr (inl (x1, y1, (b, hb, eb), (x2, y2, (e, he, ee), (x3, y3, (w, hw, ew), v, i3), i2), i1)))))) =
+    λ begun. record { word = b; equals = e; name = w; rest = y3; all = rw (eb, i2, ee, i3, ew) at i1; is_name = hw }
+block_option o (inr (inr (inr (inr (inr (inl (x, y, (w, hw, ew), h, i))))))) =
+    another o w y (λ s. is_word s && not (is_output_option s)) hw refl (rw ew at i)
+block_option o (inr (inr (inr (inr (inr (inr (x, y, (w, hw, ew), h, i))))))) =
+    another o w y (is OpenBracket) hw refl (rw ew at i)
+
+block_found : (options : List (List Written)) → AllByRecursion (λ o. Matches grammar.option (symbols_in o)) options
+    → (option_of Blockname options ≡ []) ⊎ HasBlockName (option_of Blockname options)
+block_found [] each = inl refl
+block_found (o ∷ options) each = by_test (begins Blockname o) refl (block_found options each.1)
+  where
+    by_test : (b : Bool) → begins Blockname o ≡ b
+        → (option_of Blockname options ≡ []) ⊎ HasBlockName (option_of Blockname options)
+        → ((if b then o else option_of Blockname options) ≡ []) ⊎ HasBlockName (if b then o else option_of Blockname options)
+    by_test true begun later = inr (block_option o (reads grammar.option o (symbols_in o) refl each.0) begun)
+    by_test false other later = later
 
 is_free : (factors : List (List ℕ)) (name : List ℕ) (w : Written) → check_free factors name w ≡ Ok tt
     → place_of name factors ≡ None
@@ -91,26 +115,30 @@ is_free factors name w e =
 its_names : (context : Context) (earlier : List EarlierPlan) (a b c d : Written) (options : List Written)
     (output : OutputSpec)
     → IsAccepted (a ∷ b ∷ c ∷ d ∷ options) → is Output a.symbol ≡ true
-    → output_spec context earlier a d (d ∷ options) ≡ Ok output → HasItsNames context output
+    → output_spec context earlier a d (options_of (d ∷ options)) ≡ Ok output → HasItsNames context output
 its_names context earlier a b c d options output accepted begun e =
-    let t = taken context earlier a d (d ∷ options) output e in
-    let r = names_law (a ∷ b ∷ c ∷ d ∷ options) (accepted.by_its_word.output begun) in
+    let all = options_of (d ∷ options) in
+    let t = taken context earlier a d all output e in
+    let r = options_law (a ∷ b ∷ c ∷ d ∷ options) (accepted.by_its_word.output begun) in
     let here : d ≡ r.name = cc r.statement in
     let others : options ≡ r.options = cc r.statement in
     let name : IsName d.text =
     accepted.names.1.1.1.0 (subst (λ (w : Written). is_word w.symbol ≡ true) (sym here) r.is_name) in
     let found =
-    subst (λ (l : List Written). (from_option Blockname l ≡ []) ⊎ HasBlockName (from_option Blockname l))
-    (sym (ap₂ (λ (w : Written) (l : List Written). w ∷ l) here others)) r.block_name in
-    let names = from_names Blockname (d ∷ options) (accepted.names.1.1.1) in
+    block_found all
+    (subst (λ (l : List Written). AllByRecursion (λ o. Matches grammar.option (symbols_in o)) (options_of l))
+    (sym (ap₂ (λ (w : Written) (l : List Written). w ∷ l) here others)) r.each) in
+    let names =
+    parts.option (λ w. is_word w.symbol ≡ true → IsName w.text) Blockname all
+    (parts.options (λ w. is_word w.symbol ≡ true → IsName w.text) [] false (d ∷ options) tt accepted.names.1.1.1) in
     record {
       name = subst IsName (sym t.name_is) name;
       block_name =
           subst (λ n. n ≢ [] → IsName n) (sym t.block_name_is)
-          (block_name (from_option Blockname (d ∷ options)) names found);
+          (block_name (option_of Blockname all) names found);
       column = λ with_blocks. subst (λ n. place_of (column_name n) context.factors ≡ None) (sym t.block_name_is)
-          (column (from_option Blockname (d ∷ options)) names found with_blocks t.free);
-      no_column = λ without. t.block_name_is ∙ no_column (from_option Blockname (d ∷ options)) without t.named;
+          (column (option_of Blockname all) names found with_blocks t.free);
+      no_column = λ without. t.block_name_is ∙ no_column (option_of Blockname all) without t.named;
     }
   where
     block_name : (f : List Written) → HasNames f → (f ≡ []) ⊎ HasBlockName f → name_or_empty (slice_get f 2) ≢ []
@@ -159,9 +187,9 @@ all_have_names context earlier statements outputs each e =
     statements earlier [] outputs each (All-nil (HasItsNames context)) e).1
 
 -- a name that is new differs from each of the others
-apart : (earlier : List (List ℕ)) (name : List ℕ) → IsDistinct is_same_name earlier
+separate : (earlier : List (List ℕ)) (name : List ℕ) → IsDistinct is_same_name earlier
     → is_some (place_of name earlier) ≡ false → IsDistinct is_same_name (earlier ++ name ∷ [])
-apart earlier name h new =
+separate earlier name h new =
     distinct.joined_differ earlier (name ∷ []) h (distinct.one_differs name) (distinct.not_found earlier name new, tt)
 
 -- the names of the plans so far
@@ -177,7 +205,7 @@ all_differ context earlier statements outputs h e =
     let last =
     holds_of_all context (λ s. Unit {0}) (AreNamed earlier)
     (λ before done a b c d options output accepted begun e kept.
-    let t = taken context before a d (d ∷ options) output e in
+    let t = taken context before a d (options_of (d ∷ options)) output e in
     let new = unless (is_some (place_of d.text (plan_names before))) (refusal_at 18 d) t.fresh in
     let all : plan_names (before ++ plan_behind context before output ∷ []) ≡ plan_names before ++ output.name ∷ [] =
     map-append (λ (p : EarlierPlan). p.name) before (plan_behind context before output ∷ []) in
@@ -185,7 +213,7 @@ all_differ context earlier statements outputs h e =
       differ =
           subst (IsDistinct is_same_name) (sym all)
           (subst (λ n. IsDistinct is_same_name (plan_names before ++ n ∷ [])) (sym t.name_is)
-          (apart (plan_names before) d.text kept.differ new));
+          (separate (plan_names before) d.text kept.differ new));
       are = all
           ∙ ap (λ (l : List (List ℕ)). l ++ output.name ∷ []) kept.are
           ∙ append_assoc (plan_names earlier) (names_of done) (output.name ∷ [])

@@ -7,7 +7,7 @@ use Rattle.fx_text.specs.Phrases.{after, preceding}
 use Rattle.std.specs.Prelude.{codes, is_some, nat_le, nat_lt, IfSome, slice_get, ◌==◌, if◌then◌else◌}
 use Rattle.fx_language.specs.declared.symbol.Symbol.{Symbol}
 use Rattle.fx_language.specs.declared.symbol.Symbol.TheVariants as symbol
-use Rattle.fx_language.specs.Symbols.{is}
+use Rattle.fx_language.specs.Symbols.{is, is_output_option}
 use Rattle.fx_text.specs.Written.{Written, begins}
 use Rattle.fx_text.specs.Names.{place_of}
 use Rattle.fx_text.specs.Numbers.{number_of}
@@ -18,15 +18,16 @@ use Rattle.fx_outputs.specs.declared.replication.Rep.{Rep}
 use Rattle.fx_outputs.specs.declared.columns.Columns.{Columns}
 use Rattle.fx_outputs.specs.declared.context.BlockCount.{BlockCount}
 use Rattle.fx_outputs.specs.Contexts.{Context}
-use Rattle.fx_outputs.specs.Options.{are_open_behind, awaits_name, from_option, from_option_in, has_option}
+use Rattle.fx_outputs.specs.Options.{option_of, options_of}
+use Rattle.fx_outputs.proofs.OptionParts as parts
 use Rattle.fx_outputs.specs.Earlier.{file_columns, plan_names, rep_columns, rep_rows}
 use Rattle.fx_outputs.specs.Replications.{check_number, check_rows, plan_at, rep_at, replication_in_range, reps_of}
 use Rattle.fx_outputs.specs.Shuffles.{seed_in_range, seeded, seed_written, shuffle_of}
-use Rattle.fx_outputs.specs.Values.{begins_values, checked_values, values_if_begun, values_of}
+use Rattle.fx_outputs.specs.Values.{checked_values, values_if_any, values_of}
 use Rattle.fx_outputs.specs.BlockColumns.{has_blocks, values_wanted, check_blockname, check_free, check_column}
 use Rattle.fx_outputs.specs.BlockColumns.{block_values, name_or_empty}
-use Rattle.fx_outputs.specs.Columns.{are_in_front, check_name, check_names, check_size, column_at, columns_behind}
-use Rattle.fx_outputs.specs.Columns.{columns_of, derived_names, derived_of, factor_at, is_recoded, is_used}
+use Rattle.fx_outputs.specs.Columns.{check_name, check_names, check_size, column_of, columns_behind}
+use Rattle.fx_outputs.specs.Columns.{columns_of, derived_name, derived_names, derived_of, factor_at, is_used, named}
 use Rattle.fx_outputs.specs.Columns.{places_behind}
 use Rattle.fx_outputs.specs.Columns.{recode_at, recode_of, unused_place}
 use Rattle.fx_outputs.specs.OwnColumns.{other_columns, own_columns}
@@ -36,20 +37,8 @@ use Rattle.fx_text.proofs.Placed as placed
 use Rattle.fx_text.proofs.Placed.{IsPlaced, ArePlaced, AreAllPlaced, Placed}
 
 module _ (P : ℕ → ℕ → Type 0) where
-  from_in : (inside : Bool) (option : Symbol) (s : List Written) → ArePlaced P s
-      → ArePlaced P (from_option_in inside option s)
-  from_in inside option [] h = tt
-  from_in inside option (w ∷ rest) h =
-      by_test (begins option rest && not (awaits_name (are_open_behind inside w) w))
-      (from_in (are_open_behind inside w) option rest h.1)
-    where
-      by_test : (b : Bool) → ArePlaced P (from_option_in (are_open_behind inside w) option rest)
-          → ArePlaced P (if b then rest else from_option_in (are_open_behind inside w) option rest)
-      by_test true later = h.1
-      by_test false later = later
-
-  from : (option : Symbol) (s : List Written) → ArePlaced P s → ArePlaced P (from_option option s)
-  from option s h = from_in false option s h
+  from : (word : Symbol) (all : List (List Written)) → AreAllPlaced P all → ArePlaced P (option_of word all)
+  from word all h = parts.option (IsPlaced P) word all h
 
   new_name : (earlier : List (List ℕ)) (w : Written) → IsPlaced P w → Placed P (check_new_name earlier w)
   new_name earlier w h = placed.both P (is_some (place_of w.text earlier)) _ _ (placed.written P 18 w refl h) tt
@@ -75,10 +64,10 @@ module _ (P : ℕ → ℕ → Type 0) where
       of_place None = placed.written P 33 w refl h
       of_place (Some n) = tt
 
-  reps : (earlier : List EarlierPlan) (s : List Written) → ArePlaced P s → Placed P (reps_of earlier s)
+  reps : (earlier : List EarlierPlan) (s : List (List Written)) → AreAllPlaced P s → Placed P (reps_of earlier s)
   reps earlier s h =
-      let point : Option Written = slice_get (from_option symbol.Pointrep s) 2 in
-      let design : Option Written = slice_get (from_option symbol.Designrep s) 2 in
+      let point : Option Written = slice_get (option_of symbol.Pointrep s) 2 in
+      let design : Option Written = slice_get (option_of symbol.Designrep s) 2 in
       let at_point = placed.at P 2 _ (from symbol.Pointrep s h) in
       let at_design = placed.at P 2 _ (from symbol.Designrep s h) in
       placed.chain P (check_number point) _ (number point at_point) (λ u.
@@ -91,13 +80,13 @@ module _ (P : ℕ → ℕ → Type 0) where
   few_rows runs pointrep designrep w h =
       placed.both P (nat_le (runs * pointrep * designrep) 200000) _ _ tt (placed.written P 21 w refl h)
 
-  shuffle : (s : List Written) → ArePlaced P s → Placed P (shuffle_of s)
+  shuffle : (s : List (List Written)) → AreAllPlaced P s → Placed P (shuffle_of s)
   shuffle s h =
-      placed.both P (has_option symbol.Randomize s) _ _
-      (of_written (not (has_option symbol.Novalran s)) (seed_written seed) in_seed) tt
+      placed.both P (begins symbol.Randomize seed) _ _
+      (of_written (not (begins symbol.Novalran (option_of symbol.Novalran s))) (seed_written seed) in_seed) tt
     where
       seed : List Written
-      seed = from_option symbol.Randomize s
+      seed = option_of symbol.Randomize s
 
       in_seed : IfSome (seed_written seed) (IsPlaced P)
       in_seed = by_test (begins symbol.Open (drop 1 seed))
@@ -132,14 +121,9 @@ module _ (P : ℕ → ℕ → Type 0) where
   as_many None w values h = placed.written P 17 w refl h
   as_many (Some wanted) w values h = placed.both P (length values == wanted) _ _ tt (placed.written P 17 w refl h)
 
-  begun : (wanted : Option ℕ) (w : Option Written) (rest : List Written) → IfSome w (IsPlaced P)
-      → Placed P (values_if_begun wanted w rest)
-  begun wanted None rest h = tt
-  begun wanted (Some w) rest h = placed.both P (begins_values w rest) _ _ (as_many wanted w (values_of rest) h) tt
-
-  values : (count : BlockCount) (w : Option Written) (rest : List Written) → IfSome w (IsPlaced P)
-      → Placed P (block_values count w rest)
-  values count w rest h = begun (values_wanted count) w rest h
+  begun : (wanted : Option ℕ) (s : List Written) → ArePlaced P s → Placed P (values_if_any wanted s)
+  begun wanted [] h = tt
+  begun wanted (w ∷ rest) h = as_many wanted w (values_of rest) h.0
 
   factor : (name : Written) (place : Option ℕ) → IsPlaced P name → Placed P (factor_at name place)
   factor name None h = placed.written P 4 name refl h
@@ -192,46 +176,49 @@ module _ (P : ℕ → ℕ → Type 0) where
       (placed.both P (nat_le 2 (length inside) && nat_le (length inside) 4 && nat_le (context.q ^ length inside) 64) _ _
       tt (placed.written P 35 bracket refl at)) (λ u.
       placed.chain P (places_behind context done [] inside) _ (names context done [] inside (front _ rest h)) (λ places.
-      placed.chain P (values_if_begun (Some (context.q ^ length inside)) (slice_get others 2) (drop 3 others)) _
-      (begun (Some (context.q ^ length inside)) (slice_get others 2) (drop 3 others)
-      (placed.at P 2 others (behind rest h))) (λ given. tt)))
+      placed.chain P (values_if_any (Some (context.q ^ length inside)) (drop 2 others)) _
+      (begun (Some (context.q ^ length inside)) (drop 2 others) (placed.dropped P 2 others (behind rest h)))
+      (λ given. tt)))
 
-  recoded : (context : Context) (done : Columns) (before name : Written) (rest : List Written) → IsPlaced P name
-      → ArePlaced P rest → Placed P (recode_at context done before name rest)
-  recoded context done before name [] at h = tt
-  recoded context done before name (w ∷ rest) at h =
-      placed.both P (is_recoded before name w) _ _
-      (placed.chain P (recode_of context done name w rest) _ (recode context done name w rest at h.0) (λ r. tt)) tt
+  recoded : (context : Context) (done : Columns) (name : Written) (rest : List Written) → IsPlaced P name
+      → ArePlaced P rest → Placed P (recode_at context done name rest)
+  recoded context done name [] at h = tt
+  recoded context done name (w ∷ rest) at h =
+      placed.chain P (recode_of context done name w rest) _ (recode context done name w rest at h.0) (λ r. tt)
 
-  at_symbol : (context : Context) (within : Bool) (done : Columns) (before name : Written) (rest : List Written)
-      → IsPlaced P name → ArePlaced P rest → Placed P (column_at context within done before name rest)
-  at_symbol context within done before name rest at h =
-      placed.both P within _ _ tt
-      (placed.both P (is symbol.OpenBracket name.symbol) _ _
-      (placed.chain P (derived_of context done name rest) _ (derived context done name rest at h) (λ d. tt))
-      (recoded context done before name rest at h))
+  option : (context : Context) (done : Columns) (s : List Written) → ArePlaced P s → Placed P (column_of context done s)
+  option context done [] h = tt
+  option context done (w ∷ rest) h =
+      placed.both P (is symbol.OpenBracket w.symbol) _ _
+      (placed.chain P (derived_of context done w rest) _ (derived context done w rest h.0 h.1) (λ d. tt))
+      (placed.both P (is_output_option w.symbol) _ _ tt (recoded context done w rest h.0 h.1))
 
-  columns : (context : Context) (inside : Bool) (done : Columns) (s : List Written) → ArePlaced P s
-      → Placed P (columns_behind context inside done s)
-  columns context inside done [] h = tt
-  columns context inside done (v ∷ []) h = tt
-  columns context inside done (v ∷ name ∷ rest) h =
-      placed.chain P (column_at context (are_open_behind inside v) done v name rest) _
-      (at_symbol context (are_open_behind inside v) done v name rest h.1.0 h.1.1)
-      (λ now. columns context (are_open_behind inside v) now (name ∷ rest) h.1)
+  columns : (context : Context) (done : Columns) (all : List (List Written)) → AreAllPlaced P all
+      → Placed P (columns_behind context done all)
+  columns context done [] h = tt
+  columns context done (o ∷ all) h =
+      placed.chain P (column_of context done o) _ (option context done o h.0) (λ now. columns context now all h.1)
 
-  differing : (names : List (List ℕ)) (s : List Written) → ArePlaced P s → Placed P (check_names names s)
+  its_name : (o : List Written) → ArePlaced P o → IfSome (derived_name o) (IsPlaced P)
+  its_name o h = by_test (begins symbol.OpenBracket o)
+    where
+      by_test : (b : Bool) → IfSome (if b then slice_get (after symbol.CloseBracket o) 1 else None) (IsPlaced P)
+      by_test true = placed.at P 1 (after symbol.CloseBracket o) (behind o h)
+      by_test false = tt
+
+  naming : (names : List (List ℕ)) (name : Option Written) (later : List (List ℕ)) → IfSome name (IsPlaced P)
+      → Placed P (named names name later)
+  naming names None later h = tt
+  naming names (Some w) later h =
+      placed.chain P (check_name names w later) _
+      (placed.both P (is_some (place_of w.text names) || is_some (place_of w.text later)) _ _
+      (placed.written P 34 w refl h) tt) (λ u. tt)
+
+  differing : (names : List (List ℕ)) (all : List (List Written)) → AreAllPlaced P all → Placed P (check_names names all)
   differing names [] h = tt
-  differing names (a ∷ []) h = tt
-  differing names (a ∷ b ∷ []) h = tt
-  differing names (a ∷ b ∷ c ∷ rest) h =
-      placed.both P (are_in_front a b) _ _
-      (placed.chain P (check_name names c (derived_names (b ∷ c ∷ rest))) _
-      (placed.both P
-      (is_some (place_of c.text names) || is_some (place_of c.text (derived_names (b ∷ c ∷ rest)))) _ _
-      (placed.written P 34 c refl h.1.1.0) tt)
-      (λ u. differing (names ++ c.text ∷ []) (b ∷ c ∷ rest) h.1))
-      (differing names (b ∷ c ∷ rest) h.1)
+  differing names (o ∷ all) h =
+      placed.chain P (named names (derived_name o) (derived_names all)) _
+      (naming names (derived_name o) (derived_names all) (its_name o h.0)) (λ more. differing more all h.1)
 
   plan : (w : Option Written) (columns own others : List (List ℕ)) → IfSome w (IsPlaced P)
       → Placed P (check_plan w columns own others)
@@ -240,7 +227,7 @@ module _ (P : ℕ → ℕ → Type 0) where
       placed.both P (meet columns own || meet columns others) _ _ (placed.written P 34 w refl h) tt
 
   all_columns : (context : Context) (earlier : List EarlierPlan) (reps : Rep × Rep) (block_name : List ℕ)
-      (derived : List Derived) (s : List Written) → ArePlaced P s
+      (derived : List Derived) (s : List (List Written)) → AreAllPlaced P s
       → Placed P (check_columns context earlier reps block_name derived s)
   all_columns context earlier reps block_name derived s h =
       let point : List (List ℕ) = rep_columns (file_columns earlier) reps.0 in
@@ -248,35 +235,34 @@ module _ (P : ℕ → ℕ → Type 0) where
       let own : List (List ℕ) = own_columns context block_name derived in
       placed.chain P (check_names (other_columns context block_name derived ++ point ++ design) s) _
       (differing (other_columns context block_name derived ++ point ++ design) s h) (λ u.
-      placed.chain P (check_plan (slice_get (from_option symbol.Pointrep s) 2) point own design) _
-      (plan (slice_get (from_option symbol.Pointrep s) 2) point own design (placed.at P 2 _ (from symbol.Pointrep s h)))
+      placed.chain P (check_plan (slice_get (option_of symbol.Pointrep s) 2) point own design) _
+      (plan (slice_get (option_of symbol.Pointrep s) 2) point own design (placed.at P 2 _ (from symbol.Pointrep s h)))
       (λ v.
-      plan (slice_get (from_option symbol.Designrep s) 2) design own point
+      plan (slice_get (option_of symbol.Designrep s) 2) design own point
       (placed.at P 2 _ (from symbol.Designrep s h))))
 
-  output : (context : Context) (earlier : List EarlierPlan) (word name : Written) (s : List Written) → IsPlaced P word
-      → IsPlaced P name → ArePlaced P s → Placed P (output_spec context earlier word name s)
+  output : (context : Context) (earlier : List EarlierPlan) (word name : Written) (s : List (List Written)) → IsPlaced P word
+      → IsPlaced P name → AreAllPlaced P s → Placed P (output_spec context earlier word name s)
   output context earlier word name s at_word at_name h =
       placed.chain P (check_new_name (plan_names earlier) name) _ (new_name (plan_names earlier) name at_name) (λ u.
       placed.chain P (reps_of earlier s) _ (reps earlier s h) (λ repeated.
       placed.chain P (check_rows context.runs (rep_rows earlier repeated.0) (rep_rows earlier repeated.1) name) _
       (few_rows context.runs (rep_rows earlier repeated.0) (rep_rows earlier repeated.1) name at_name) (λ v.
       placed.chain P (shuffle_of s) _ (shuffle s h) (λ shuffled.
-      placed.chain P (check_blockname context.blocks (slice_get (from_option symbol.Blockname s) 0)) _
+      placed.chain P (check_blockname context.blocks (slice_get (option_of symbol.Blockname s) 0)) _
       (with_blocks context.blocks _ (placed.at P 0 _ (from symbol.Blockname s h))) (λ x.
-      placed.chain P (check_column context word (slice_get (from_option symbol.Blockname s) 2)) _
+      placed.chain P (check_column context word (slice_get (option_of symbol.Blockname s) 2)) _
       (column context word _ at_word (placed.at P 2 _ (from symbol.Blockname s h))) (λ y.
       placed.chain P
-      (block_values context.blocks (slice_get (from_option symbol.Blockname s) 3)
-      (drop 4 (from_option symbol.Blockname s))) _
-      (values context.blocks _ (drop 4 (from_option symbol.Blockname s)) (placed.at P 3 _ (from symbol.Blockname s h)))
+      (block_values context.blocks (drop 3 (option_of symbol.Blockname s))) _
+      (begun _ (drop 3 (option_of symbol.Blockname s)) (placed.dropped P 3 _ (from symbol.Blockname s h)))
       (λ given.
       placed.chain P (columns_of context s) _
-      (columns context false (record { recodes = []; derived = [] }) s h) (λ read.
+      (columns context (record { recodes = []; derived = [] }) s h) (λ read.
       placed.chain P
-      (check_columns context earlier repeated (name_or_empty (slice_get (from_option symbol.Blockname s) 2))
+      (check_columns context earlier repeated (name_or_empty (slice_get (option_of symbol.Blockname s) 2))
       read.derived s) _
-      (all_columns context earlier repeated (name_or_empty (slice_get (from_option symbol.Blockname s) 2)) read.derived
+      (all_columns context earlier repeated (name_or_empty (slice_get (option_of symbol.Blockname s) 2)) read.derived
       s h)
       (λ v. tt)))))))))
 
@@ -287,10 +273,10 @@ module _ (P : ℕ → ℕ → Type 0) where
   all context earlier outputs ((a ∷ []) ∷ rest) h = all context earlier outputs rest h.1
   all context earlier outputs ((a ∷ b ∷ []) ∷ rest) h = all context earlier outputs rest h.1
   all context earlier outputs ((a ∷ b ∷ c ∷ []) ∷ rest) h = all context earlier outputs rest h.1
-  all context earlier outputs ((a ∷ b ∷ c ∷ d ∷ options) ∷ rest) h =
+  all context earlier outputs ((a ∷ b ∷ c ∷ d ∷ opts) ∷ rest) h =
       placed.both P (is symbol.Output a.symbol) _ _
-      (placed.chain P (output_spec context earlier a d (d ∷ options)) _
-      (output context earlier a d (d ∷ options) h.0.0 h.0.1.1.1.0 (h.0.1.1.1))
+      (placed.chain P (output_spec context earlier a d (options_of (d ∷ opts))) _
+      (output context earlier a d (options_of (d ∷ opts)) h.0.0 h.0.1.1.1.0 (parts.options (IsPlaced P) [] false (d ∷ opts) tt h.0.1.1.1))
       (λ o. all context (earlier ++ plan_behind context earlier o ∷ []) (outputs ++ o ∷ []) rest h.1))
       (all context earlier outputs rest h.1)
 

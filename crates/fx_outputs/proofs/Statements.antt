@@ -12,6 +12,7 @@ use Rattle.fx_text.specs.Refusals.{IsRefused}
 use Rattle.fx_outputs.specs.declared.earlier.EarlierPlan.{EarlierPlan}
 use Rattle.fx_outputs.specs.declared.output.OutputSpec.{OutputSpec}
 use Rattle.fx_outputs.specs.Contexts.{Context}
+use Rattle.fx_outputs.specs.Options.{options_of}
 use Rattle.fx_outputs.specs.Histories.{built}
 use Rattle.fx_outputs.specs.Outputs.{output_spec, outputs_behind, plan_behind}
 use Rattle.fx_outputs.proofs.Histories.{built-append}
@@ -26,20 +27,20 @@ other_word false n e = refl
 
 module _ (context : Context) (earlier : List EarlierPlan) (outputs : List OutputSpec) (rest : List (List Written)) where
   first_refused : (a b c d : Written) (options : List Written) (reason : ParseStop) → is Output a.symbol ≡ true
-      → IsRefused (output_spec context earlier a d (d ∷ options)) reason
+      → IsRefused (output_spec context earlier a d (options_of (d ∷ options))) reason
       → IsRefused (outputs_behind context earlier outputs ((a ∷ b ∷ c ∷ d ∷ options) ∷ rest)) reason
   first_refused a b c d options (stop.Refused refusal) begun h = rw (begun, h) refl
   first_refused a b c d options stop.NoMemory begun h = tt
 
   first_read : (a b c d : Written) (options : List Written) (output : OutputSpec) → is Output a.symbol ≡ true
-      → output_spec context earlier a d (d ∷ options) ≡ Ok output
+      → output_spec context earlier a d (options_of (d ∷ options)) ≡ Ok output
       → outputs_behind context earlier outputs ((a ∷ b ∷ c ∷ d ∷ options) ∷ rest)
       ≡ outputs_behind context (earlier ++ plan_behind context earlier output ∷ []) (outputs ++ output ∷ []) rest
   first_read a b c d options output begun h = rw (begun, h) refl
 
   refused_long : (s : List Written) (word name : Written) (reason : ParseStop) → begins Output s ≡ true → 3 < length s
       → word ≡ slice_index_or s 0 word → name ≡ slice_index_or s 3 name
-      → IsRefused (output_spec context earlier word name (drop 3 s)) reason
+      → IsRefused (output_spec context earlier word name (options_of (drop 3 s))) reason
       → IsRefused (outputs_behind context earlier outputs (s ∷ rest)) reason
   refused_long [] word name reason begun long w n h = absurd (omega arith)
   refused_long (a ∷ []) word name reason begun long w n h = absurd (omega arith)
@@ -47,12 +48,12 @@ module _ (context : Context) (earlier : List EarlierPlan) (outputs : List Output
   refused_long (a ∷ b ∷ c ∷ []) word name reason begun long w n h = absurd (omega arith)
   refused_long (a ∷ b ∷ c ∷ d ∷ options) word name reason begun long w n h =
       first_refused a b c d options reason begun
-      (subst (λ v. IsRefused (output_spec context earlier a v (d ∷ options)) reason) n
-      (subst (λ v. IsRefused (output_spec context earlier v name (d ∷ options)) reason) w h))
+      (subst (λ v. IsRefused (output_spec context earlier a v (options_of (d ∷ options))) reason) n
+      (subst (λ v. IsRefused (output_spec context earlier v name (options_of (d ∷ options))) reason) w h))
 
   read_long : (s : List Written) (word name : Written) (output : OutputSpec) → begins Output s ≡ true → 3 < length s
       → word ≡ slice_index_or s 0 word → name ≡ slice_index_or s 3 name
-      → output_spec context earlier word name (drop 3 s) ≡ Ok output
+      → output_spec context earlier word name (options_of (drop 3 s)) ≡ Ok output
       → outputs_behind context earlier outputs (s ∷ rest)
       ≡ outputs_behind context (earlier ++ plan_behind context earlier output ∷ []) (outputs ++ output ∷ []) rest
   read_long [] word name output begun long w n h = absurd (omega arith)
@@ -61,12 +62,12 @@ module _ (context : Context) (earlier : List EarlierPlan) (outputs : List Output
   read_long (a ∷ b ∷ c ∷ []) word name output begun long w n h = absurd (omega arith)
   read_long (a ∷ b ∷ c ∷ d ∷ options) word name output begun long w n h =
       first_read a b c d options output begun
-      (subst (λ v. output_spec context earlier a v (d ∷ options) ≡ Ok output) n
-      (subst (λ v. output_spec context earlier v name (d ∷ options) ≡ Ok output) w h))
+      (subst (λ v. output_spec context earlier a v (options_of (d ∷ options)) ≡ Ok output) n
+      (subst (λ v. output_spec context earlier v name (options_of (d ∷ options)) ≡ Ok output) w h))
 
   pub refused : (s : List Written) (word name : Written) (reason : ParseStop) → true ≡ is_output s
       → word ≡ slice_index_or s 0 word → name ≡ slice_index_or s 3 name
-      → IsRefused (output_spec context earlier word name (drop 3 s)) reason
+      → IsRefused (output_spec context earlier word name (options_of (drop 3 s))) reason
       → IsRefused (outputs_behind context earlier outputs (s ∷ rest)) reason
   refused s word name reason t w n h =
       let both = and_parts (begins Output s) (nat_lt 3 (length s)) (sym t) in
@@ -74,7 +75,7 @@ module _ (context : Context) (earlier : List EarlierPlan) (outputs : List Output
 
   pub read : (s : List Written) (word name : Written) (output : OutputSpec) → true ≡ is_output s
       → word ≡ slice_index_or s 0 word → name ≡ slice_index_or s 3 name
-      → output_spec context earlier word name (drop 3 s) ≡ Ok output
+      → output_spec context earlier word name (options_of (drop 3 s)) ≡ Ok output
       → outputs_behind context earlier outputs (s ∷ rest)
       ≡ outputs_behind context (earlier ++ plan_behind context earlier output ∷ []) (outputs ++ output ∷ []) rest
   read s word name output t w n h =

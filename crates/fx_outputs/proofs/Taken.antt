@@ -13,7 +13,7 @@ use Rattle.fx_outputs.specs.declared.earlier.EarlierPlan.{EarlierPlan}
 use Rattle.fx_outputs.specs.declared.output.OutputSpec.{OutputSpec}
 use Rattle.fx_outputs.specs.declared.replication.Rep.{Rep}
 use Rattle.fx_outputs.specs.Contexts.{Context}
-use Rattle.fx_outputs.specs.Options.{from_option}
+use Rattle.fx_outputs.specs.Options.{option_of}
 use Rattle.fx_outputs.specs.Earlier.{plan_names, rep_rows}
 use Rattle.fx_outputs.specs.Replications.{check_number, check_rows, rep_at, reps_of}
 use Rattle.fx_outputs.specs.Shuffles.{shuffle_of}
@@ -24,15 +24,15 @@ use Rattle.fx_outputs.specs.Outputs.{check_new_name, output_spec}
 use Rattle.fx_outputs.proofs.Accepted.{kept_if, through}
 
 -- what POINTREP and DESIGNREP say, one by one
-pub record AreReps (earlier : List EarlierPlan) (s : List Written) (reps : Rep × Rep) : Type 0 where
-  pub point : rep_at earlier (slice_get (from_option Pointrep s) 2) ≡ Ok reps.0
-  pub design : rep_at earlier (slice_get (from_option Designrep s) 2) ≡ Ok reps.1
+pub record AreReps (earlier : List EarlierPlan) (s : List (List Written)) (reps : Rep × Rep) : Type 0 where
+  pub point : rep_at earlier (slice_get (option_of Pointrep s) 2) ≡ Ok reps.0
+  pub design : rep_at earlier (slice_get (option_of Designrep s) 2) ≡ Ok reps.1
 
-pub each_rep : (earlier : List EarlierPlan) (s : List Written) (reps : Rep × Rep) → reps_of earlier s ≡ Ok reps
+pub each_rep : (earlier : List EarlierPlan) (s : List (List Written)) (reps : Rep × Rep) → reps_of earlier s ≡ Ok reps
     → AreReps earlier s reps
 each_rep earlier s reps e =
-    let point = slice_get (from_option Pointrep s) 2 in
-    let design = slice_get (from_option Designrep s) 2 in
+    let point = slice_get (option_of Pointrep s) 2 in
+    let design = slice_get (option_of Designrep s) 2 in
     let Goal : Type 0 = AreReps earlier s reps in
     through (check_number point) _ reps Goal e (λ u one e.
     through (check_number design) _ reps Goal e (λ v two e.
@@ -41,16 +41,16 @@ each_rep earlier s reps e =
     let same : (pointrep, designrep) ≡ reps = cc e in
     subst (AreReps earlier s) same (record { point = three; design = four })))))
 
-pub record IsTaken (context : Context) (earlier : List EarlierPlan) (word name : Written) (s : List Written)
+pub record IsTaken (context : Context) (earlier : List EarlierPlan) (word name : Written) (s : List (List Written))
     (output : OutputSpec) : Type 0 where
   pub columns : Columns
   pub fresh : check_new_name (plan_names earlier) name ≡ Ok tt
   pub reps : reps_of earlier s ≡ Ok (output.pointrep, output.designrep)
   pub rows : check_rows context.runs (rep_rows earlier output.pointrep) (rep_rows earlier output.designrep) name ≡ Ok tt
-  pub named : check_blockname context.blocks (slice_get (from_option Blockname s) 0) ≡ Ok tt
-  pub free : check_column context word (slice_get (from_option Blockname s) 2) ≡ Ok tt
+  pub named : check_blockname context.blocks (slice_get (option_of Blockname s) 0) ≡ Ok tt
+  pub free : check_column context word (slice_get (option_of Blockname s) 2) ≡ Ok tt
   pub values :
-      block_values context.blocks (slice_get (from_option Blockname s) 3) (drop 4 (from_option Blockname s))
+      block_values context.blocks (drop 3 (option_of Blockname s))
       ≡ Ok output.block_values
   pub read : columns_of context s ≡ Ok columns
   pub differ :
@@ -58,13 +58,13 @@ pub record IsTaken (context : Context) (earlier : List EarlierPlan) (word name :
   pub name_is : output.name ≡ name.text
   pub recodes_are : output.recodes ≡ columns.recodes
   pub derived_are : output.derived ≡ columns.derived
-  pub block_name_is : output.block_name ≡ name_or_empty (slice_get (from_option Blockname s) 2)
+  pub block_name_is : output.block_name ≡ name_or_empty (slice_get (option_of Blockname s) 2)
 
-pub taken : (context : Context) (earlier : List EarlierPlan) (word name : Written) (s : List Written)
+pub taken : (context : Context) (earlier : List EarlierPlan) (word name : Written) (s : List (List Written))
     (output : OutputSpec)
     → output_spec context earlier word name s ≡ Ok output → IsTaken context earlier word name s output
 taken context earlier word name s output e =
-    let blockname = from_option Blockname s in
+    let blockname = option_of Blockname s in
     let block_name : List ℕ = name_or_empty (slice_get blockname 2) in
     let Goal : Type 0 = IsTaken context earlier word name s output in
     through (check_new_name (plan_names earlier) name) _ output Goal e (λ u fresh e.
@@ -74,7 +74,7 @@ taken context earlier word name s output e =
     through (shuffle_of s) _ output Goal e (λ shuffle asked e.
     through (check_blockname context.blocks (slice_get blockname 0)) _ output Goal e (λ w named e.
     through (check_column context word (slice_get blockname 2)) _ output Goal e (λ x free e.
-    through (block_values context.blocks (slice_get blockname 3) (drop 4 blockname)) _ output Goal e (λ values given e.
+    through (block_values context.blocks (drop 3 blockname)) _ output Goal e (λ values given e.
     through (columns_of context s) _ output Goal e (λ columns read e.
     through (check_columns context earlier reps block_name columns.derived s) _ output Goal e (λ y differ e.
     let made : OutputSpec = record {
@@ -114,7 +114,7 @@ pub unless : (b : Bool) (refusal : Refusal) → ◌≡◌ {A = Result (Unit {0})
 unless true refusal e = absurd (cc e)
 unless false refusal e = refl
 
-module _ (context : Context) (earlier : List EarlierPlan) (word name : Written) (s : List Written)
+module _ (context : Context) (earlier : List EarlierPlan) (word name : Written) (s : List (List Written))
     (output : OutputSpec) (e : output_spec context earlier word name s ≡ Ok output) where
   pub new_name : place_of output.name (plan_names earlier) ≡ None
   new_name =

@@ -9,7 +9,7 @@ use Rattle.fx_text.specs.Refusals.{refusal_at}
 use Rattle.fx_outputs.specs.Contexts.{Context}
 use Rattle.fx_outputs.specs.declared.context.BlockCount.{BlockCount}
 use Rattle.fx_outputs.specs.declared.context.BlockCount.TheVariants as blocks
-use Rattle.fx_outputs.specs.Values.{values_if_begun}
+use Rattle.fx_outputs.specs.Values.{values_if_any}
 
 -- the step has blocks
 abbrev pub has_blocks : BlockCount → Bool
@@ -49,7 +49,7 @@ abbrev pub column_name : List ℕ → List ℕ
 column_name [] = codes "BLOCK"
 column_name (b ∷ name) = b ∷ name
 
--- The values of the column: none, or as many as there are blocks, whose number is to be known. `word` follows
--- BLOCKNAME's name, and `rest` after it.
-abbrev pub block_values : BlockCount → Option Written → List Written → Result (List (List ℕ)) Refusal
-block_values count word rest = values_if_begun (values_wanted count) word rest
+-- The values of the column, which follow BLOCKNAME's name: none, or as many as there are blocks, whose number is to be
+-- known.
+abbrev pub block_values : BlockCount → List Written → Result (List (List ℕ)) Refusal
+block_values count values = values_if_any (values_wanted count) values

@@ -1,14 +1,14 @@
 -- The columns of a file that are recoded or derived, from left to right.
-use Rattle.std.specs.Prelude.{ℕ, ◌+◌, ◌^◌, ◌==◌, nat_le, Bool, false, not, ◌&&◌, ◌||◌, List, [], ◌∷◌, ◌++◌, length}
+use Rattle.std.specs.Prelude.{ℕ, ◌+◌, ◌^◌, ◌==◌, nat_le, Bool, ◌&&◌, ◌||◌, List, [], ◌∷◌, ◌++◌, length}
 use Rattle.std.specs.Prelude.{drop}
 use Rattle.std.specs.Prelude.{slice_get, is_some, Option, Some, None, Result, Ok, Err, if◌then◌else◌}
 use Rattle.std.specs.List.{list_any}
 use Rattle.fx_language.specs.declared.code.TheConstants.{INVALID_DERIVED_FACTOR, REPEATED_COLUMN, REPEATED_OPTION}
 use Rattle.fx_language.specs.declared.code.TheConstants.{UNKNOWN_FACTOR}
-use Rattle.fx_language.specs.declared.symbol.Symbol.TheVariants.{Equals, OpenBracket, CloseBracket}
-use Rattle.fx_language.specs.Symbols.{is, is_word, is_output_option}
+use Rattle.fx_language.specs.declared.symbol.Symbol.TheVariants.{OpenBracket, CloseBracket}
+use Rattle.fx_language.specs.Symbols.{is, is_output_option}
 use Rattle.fx_text.specs.declared.refusal.Refusal.{Refusal}
-use Rattle.fx_text.specs.Written.{Written}
+use Rattle.fx_text.specs.Written.{Written, begins}
 use Rattle.fx_text.specs.Names.{place_of}
 use Rattle.fx_text.specs.Phrases.{preceding, after}
 use Rattle.fx_text.specs.Refusals.{refusal_at, ◌>>=◌}
@@ -16,16 +16,9 @@ use Rattle.fx_outputs.specs.declared.recode.Recode.{Recode}
 use Rattle.fx_outputs.specs.declared.derived.Derived.{Derived}
 use Rattle.fx_outputs.specs.declared.columns.Columns.{Columns}
 use Rattle.fx_outputs.specs.Contexts.{Context}
-use Rattle.fx_outputs.specs.Options.{are_open_behind}
-use Rattle.fx_outputs.specs.Values.{values_of, checked_values, values_if_begun}
+use Rattle.fx_outputs.specs.Values.{values_of, checked_values, values_if_any}
 use Rattle.fx_outputs.specs.BlockColumns.{name_or_empty}
 use Rattle.fx_outputs.specs.DerivedFactors.{is_bracketed}
-
--- a recoded factor's name: a word that is no option, and `=` is neither in front of it nor after it
-abbrev pub is_recoded : Written → Written → Written → Bool
-is_recoded before name word =
-    is_word name.symbol && not (is_output_option name.symbol)
-    && not (is Equals before.symbol) && not (is Equals word.symbol)
 
 -- the place of a factor among the step's, from 1, or E4 at the name
 abbrev pub factor_at : Written → Option ℕ → Result ℕ Refusal
@@ -76,7 +69,7 @@ derived_of context done bracket rest =
     do
       _ ← check_size context.q (length names) bracket
       places ← places_behind context done [] names
-      values ← values_if_begun (Some (context.q ^ length names)) (slice_get behind 2) (drop 3 behind)
+      values ← values_if_any (Some (context.q ^ length names)) (drop 2 behind)
       Ok (record { places = places; name = name_or_empty (slice_get behind 1); values = values })
 
 abbrev pub with_recode : Columns → Recode → Columns
@@ -85,46 +78,43 @@ with_recode done recode = record { recodes = done.recodes ++ recode ∷ []; deri
 abbrev pub with_derived : Columns → Derived → Columns
 with_derived done derived = record { recodes = done.recodes; derived = done.derived ++ derived ∷ [] }
 
--- what stands at a name, if it is a recoded factor's
-abbrev pub recode_at : Context → Columns → Written → Written → List Written → Result Columns Refusal
-recode_at context done before name [] = Ok done
-recode_at context done before name (word ∷ rest) =
-    if is_recoded before name word
-    then (recode_of context done name word rest >>= λ recode. Ok (with_recode done recode))
-    else Ok done
+-- a recoded factor's name, and behind it NVALS or CVALS
+abbrev pub recode_at : Context → Columns → Written → List Written → Result Columns Refusal
+recode_at context done name [] = Ok done
+recode_at context done name (word ∷ rest) =
+    recode_of context done name word rest >>= λ recode. Ok (with_recode done recode)
 
--- what stands at a symbol, after the earlier columns: a derived factor, a recoded one, or neither; `within` says
--- whether the symbol is in brackets
-abbrev pub column_at : Context → Bool → Columns → Written → Written → List Written → Result Columns Refusal
-column_at context within done before name rest =
-    if within then Ok done
-    else (if is OpenBracket name.symbol
-    then (derived_of context done name rest >>= λ derived. Ok (with_derived done derived))
-    else recode_at context done before name rest)
+-- what an option says, after the earlier columns: a derived factor, a recoded one, or neither
+abbrev pub column_of : Context → Columns → List Written → Result Columns Refusal
+column_of context done [] = Ok done
+column_of context done (first ∷ rest) =
+    if is OpenBracket first.symbol
+    then (derived_of context done first rest >>= λ derived. Ok (with_derived done derived))
+    else (if is_output_option first.symbol then Ok done else recode_at context done first rest)
 
--- The recoded and derived factors from left to right, after those that are earlier. Each symbol has one in front of
--- it; `inside` says whether brackets are open in front of the first.
-abbrev pub columns_behind : Context → Bool → Columns → List Written → Result Columns Refusal
-columns_behind context inside done (before ∷ name ∷ rest) =
-    let within = are_open_behind inside before in
-    column_at context within done before name rest >>= λ now. columns_behind context within now (name ∷ rest)
-columns_behind context inside done _ = Ok done
+-- the recoded and derived factors of options, from left to right, after those that are earlier
+abbrev pub columns_behind : Context → Columns → List (List Written) → Result Columns Refusal
+columns_behind context done [] = Ok done
+columns_behind context done (option ∷ options) =
+    column_of context done option >>= λ now. columns_behind context now options
 
--- the recoded and derived factors of what follows `OUT =`, the OUT name first
-abbrev pub columns_of : Context → List Written → Result Columns Refusal
-columns_of context s = columns_behind context false (record { recodes = []; derived = [] }) s
+-- the recoded and derived factors of the options of a statement
+abbrev pub columns_of : Context → List (List Written) → Result Columns Refusal
+columns_of context options = columns_behind context (record { recodes = []; derived = [] }) options
 
--- the name of a derived factor follows these two
-abbrev pub are_in_front : Written → Written → Bool
-are_in_front bracket equals = is CloseBracket bracket.symbol && is Equals equals.symbol
+-- the name of a derived factor, if the option has one
+abbrev pub derived_name : List Written → Option Written
+derived_name option = if begins OpenBracket option then slice_get (after CloseBracket option) 1 else None
 
--- the names of derived factors, as they are written
-abbrev pub derived_names : List Written → List (List ℕ)
-derived_names (bracket ∷ equals ∷ name ∷ rest) =
-    if are_in_front bracket equals
-    then name.text ∷ derived_names (equals ∷ name ∷ rest)
-    else derived_names (equals ∷ name ∷ rest)
-derived_names _ = []
+-- some names, and before them that of a derived factor, if there is one
+abbrev pub with_name : Option Written → List (List ℕ) → List (List ℕ)
+with_name None names = names
+with_name (Some name) names = name.text ∷ names
+
+-- the names of the derived factors of these options, as they are written
+abbrev pub derived_names : List (List Written) → List (List ℕ)
+derived_names [] = []
+derived_names (option ∷ options) = with_name (derived_name option) (derived_names options)
 
 -- a name is not that of one of these columns or of a later derived factor, or E34 at the name
 abbrev pub check_name : List (List ℕ) → Written → List (List ℕ) → Result (Unit {0}) Refusal
@@ -133,11 +123,13 @@ check_name columns name later =
     then Err (refusal_at REPEATED_COLUMN name)
     else Ok tt
 
+-- the columns with a derived factor's name, if it is none of them and none of later ones
+abbrev pub named : List (List ℕ) → Option Written → List (List ℕ) → Result (List (List ℕ)) Refusal
+named columns None later = Ok columns
+named columns (Some name) later = check_name columns name later >>= λ u. Ok (columns ++ name.text ∷ [])
+
 -- the same of the name of each derived factor; `columns` are the other columns, and the derived ones so far
-abbrev pub check_names : List (List ℕ) → List Written → Result (Unit {0}) Refusal
-check_names columns (bracket ∷ equals ∷ name ∷ rest) =
-    if are_in_front bracket equals
-    then (check_name columns name (derived_names (equals ∷ name ∷ rest))
-    >>= λ u. check_names (columns ++ name.text ∷ []) (equals ∷ name ∷ rest))
-    else check_names columns (equals ∷ name ∷ rest)
-check_names columns _ = Ok tt
+abbrev pub check_names : List (List ℕ) → List (List Written) → Result (Unit {0}) Refusal
+check_names columns [] = Ok tt
+check_names columns (option ∷ options) =
+    named columns (derived_name option) (derived_names options) >>= λ all. check_names all options

@@ -12,7 +12,7 @@ use Rattle.fx_outputs.specs.declared.derived.Derived.{Derived}
 use Rattle.fx_outputs.specs.declared.earlier.EarlierPlan.{EarlierPlan}
 use Rattle.fx_outputs.specs.declared.replication.Rep.{Rep}
 use Rattle.fx_outputs.specs.Contexts.{Context}
-use Rattle.fx_outputs.specs.Options.{from_option}
+use Rattle.fx_outputs.specs.Options.{option_of}
 use Rattle.fx_outputs.specs.Earlier.{file_columns, rep_columns}
 use Rattle.fx_outputs.specs.Columns.{check_names}
 use Rattle.fx_outputs.specs.OwnColumns.{other_columns, own_columns}
@@ -29,13 +29,13 @@ check_plan (Some w) columns own others =
 
 -- The columns of a file, by its block column's name, its derived factors, and what POINTREP and DESIGNREP add: each
 -- derived name against the others from left to right, and then the columns of either plan.
-abbrev pub check_columns : Context → List EarlierPlan → Rep × Rep → List ℕ → List Derived → List Written
+abbrev pub check_columns : Context → List EarlierPlan → Rep × Rep → List ℕ → List Derived → List (List Written)
     → Result (Unit {0}) Refusal
-check_columns context earlier reps block_name derived s =
+check_columns context earlier reps block_name derived options =
     let point = rep_columns (file_columns earlier) reps.0 in
     let design = rep_columns (file_columns earlier) reps.1 in
     let own = own_columns context block_name derived in
     do
-      _ ← check_names (other_columns context block_name derived ++ point ++ design) s
-      _ ← check_plan (slice_get (from_option Pointrep s) 2) point own design
-      check_plan (slice_get (from_option Designrep s) 2) design own point
+      _ ← check_names (other_columns context block_name derived ++ point ++ design) options
+      _ ← check_plan (slice_get (option_of Pointrep options) 2) point own design
+      check_plan (slice_get (option_of Designrep options) 2) design own point

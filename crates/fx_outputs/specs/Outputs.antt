@@ -11,7 +11,7 @@ use Rattle.fx_text.specs.Refusals.{refusal_at, ◌>>=◌}
 use Rattle.fx_outputs.specs.declared.earlier.EarlierPlan.{EarlierPlan}
 use Rattle.fx_outputs.specs.declared.output.OutputSpec.{OutputSpec}
 use Rattle.fx_outputs.specs.Contexts.{Context}
-use Rattle.fx_outputs.specs.Options.{from_option}
+use Rattle.fx_outputs.specs.Options.{option_of, options_of}
 use Rattle.fx_outputs.specs.Earlier.{plan_names, rep_rows}
 use Rattle.fx_outputs.specs.Replications.{reps_of, check_rows}
 use Rattle.fx_outputs.specs.Shuffles.{shuffle_of}
@@ -25,22 +25,22 @@ abbrev pub check_new_name : List (List ℕ) → Written → Result (Unit {0}) Re
 check_new_name earlier name =
     if is_some (place_of name.text earlier) then Err (refusal_at REPEATED_OUT_NAME name) else Ok tt
 
--- An OUTPUT statement after these plans: `word` is the word OUTPUT, `name` the OUT name, and `s` what stands after
--- `OUT =`, the name first.
-abbrev pub output_spec : Context → List EarlierPlan → Written → Written → List Written → Result OutputSpec Refusal
-output_spec context earlier word name s =
-    let blockname = from_option Blockname s in
+-- An OUTPUT statement after these plans: `word` is the word OUTPUT, `name` the OUT name.
+abbrev pub output_spec : Context → List EarlierPlan → Written → Written → List (List Written)
+    → Result OutputSpec Refusal
+output_spec context earlier word name options =
+    let blockname = option_of Blockname options in
     let block_name = name_or_empty (slice_get blockname 2) in
     do
       _ ← check_new_name (plan_names earlier) name
-      reps ← reps_of earlier s
+      reps ← reps_of earlier options
       _ ← check_rows context.runs (rep_rows earlier reps.0) (rep_rows earlier reps.1) name
-      shuffle ← shuffle_of s
+      shuffle ← shuffle_of options
       _ ← check_blockname context.blocks (slice_get blockname 0)
       _ ← check_column context word (slice_get blockname 2)
-      values ← block_values context.blocks (slice_get blockname 3) (drop 4 blockname)
-      columns ← columns_of context s
-      _ ← check_columns context earlier reps block_name columns.derived s
+      values ← block_values context.blocks (drop 3 blockname)
+      columns ← columns_of context options
+      _ ← check_columns context earlier reps block_name columns.derived options
       Ok (record {
         name = name.text;
         pointrep = reps.0;
@@ -69,7 +69,7 @@ abbrev pub outputs_behind : Context → List EarlierPlan → List OutputSpec →
 outputs_behind context earlier outputs [] = Ok outputs
 outputs_behind context earlier outputs ((word ∷ out ∷ equals ∷ name ∷ options) ∷ rest) =
     if is Output word.symbol
-    then (output_spec context earlier word name (name ∷ options)
+    then (output_spec context earlier word name (options_of (name ∷ options))
     >>= λ output.
     outputs_behind context (earlier ++ plan_behind context earlier output ∷ []) (outputs ++ output ∷ []) rest)
     else outputs_behind context earlier outputs rest

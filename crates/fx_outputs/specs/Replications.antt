@@ -13,7 +13,7 @@ use Rattle.fx_text.specs.Refusals.{refusal_at, ◌>>=◌}
 use Rattle.fx_outputs.specs.declared.earlier.EarlierPlan.{EarlierPlan}
 use Rattle.fx_outputs.specs.declared.replication.Rep.{Rep}
 use Rattle.fx_outputs.specs.declared.replication.Rep.TheVariants.{Times, Plan}
-use Rattle.fx_outputs.specs.Options.{from_option}
+use Rattle.fx_outputs.specs.Options.{option_of}
 use Rattle.fx_outputs.specs.Earlier.{plan_names}
 
 -- a number from 1 to 200,000, or E20
@@ -42,10 +42,10 @@ rep_at earlier (Some w) =
     else plan_at w (place_of w.text (plan_names earlier))
 
 -- POINTREP and DESIGNREP: first the numbers, then the names
-abbrev pub reps_of : List EarlierPlan → List Written → Result (Rep × Rep) Refusal
-reps_of earlier s =
-    let point = slice_get (from_option Pointrep s) 2 in
-    let design = slice_get (from_option Designrep s) 2 in
+abbrev pub reps_of : List EarlierPlan → List (List Written) → Result (Rep × Rep) Refusal
+reps_of earlier options =
+    let point = slice_get (option_of Pointrep options) 2 in
+    let design = slice_get (option_of Designrep options) 2 in
     do
       _ ← check_number point
       _ ← check_number design

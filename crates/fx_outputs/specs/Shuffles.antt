@@ -9,7 +9,7 @@ use Rattle.fx_text.specs.Numbers.{number_of}
 use Rattle.fx_text.specs.Refusals.{refusal_at}
 use Rattle.fx_outputs.specs.declared.shuffle.Shuffle.{Shuffle}
 use Rattle.fx_outputs.specs.declared.shuffle.Shuffle.TheVariants as shuffle
-use Rattle.fx_outputs.specs.Options.{from_option, has_option}
+use Rattle.fx_outputs.specs.Options.{option_of}
 
 -- a seed of 64 bits, or E19
 abbrev pub seed_in_range : Bool → Written → Option ℕ → Result Shuffle Refusal
@@ -27,8 +27,9 @@ abbrev pub seed_written : List Written → Option Written
 seed_written s = if begins Open (drop 1 s) then slice_get s 2 else None
 
 -- rows are shuffled with RANDOMIZE alone; with it the values of the factors too, but not with NOVALRAN
-abbrev pub shuffle_of : List Written → Result Shuffle Refusal
-shuffle_of s =
-    if has_option Randomize s
-    then seeded (not (has_option Novalran s)) (seed_written (from_option Randomize s))
+abbrev pub shuffle_of : List (List Written) → Result Shuffle Refusal
+shuffle_of options =
+    let randomize = option_of Randomize options in
+    if begins Randomize randomize
+    then seeded (not (begins Novalran (option_of Novalran options))) (seed_written randomize)
     else Ok shuffle.Kept

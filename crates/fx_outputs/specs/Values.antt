@@ -1,12 +1,12 @@
 -- The values that NVALS or CVALS gives in the place of a factor's levels, or of the numbers of blocks.
-use Rattle.std.specs.Prelude.{ℕ, ◌==◌, ◌&&◌, ◌||◌, Bool, true, false, List, [], ◌∷◌, length, drop, Option, Some, None}
+use Rattle.std.specs.Prelude.{ℕ, ◌==◌, Bool, true, false, List, [], ◌∷◌, length, drop, Option, Some, None}
 use Rattle.std.specs.Prelude.{Result, Ok}
 use Rattle.std.specs.Prelude.{Err, if◌then◌else◌}
 use Rattle.fx_language.specs.declared.code.TheConstants.{WRONG_NUMBER_OF_VALUES}
-use Rattle.fx_language.specs.declared.symbol.Symbol.TheVariants.{Quoted, Close, Minus, Nvals, Cvals, Equals}
+use Rattle.fx_language.specs.declared.symbol.Symbol.TheVariants.{Quoted, Close, Minus}
 use Rattle.fx_language.specs.Symbols.{is}
 use Rattle.fx_text.specs.declared.refusal.Refusal.{Refusal}
-use Rattle.fx_text.specs.Written.{Written, begins}
+use Rattle.fx_text.specs.Written.{Written}
 use Rattle.fx_text.specs.Refusals.{refusal_at}
 
 -- What follows a text's first quote, without its last one, and of each two quotes the second. `met` says that
@@ -45,12 +45,7 @@ checked_values None word values = Err (refusal_at WRONG_NUMBER_OF_VALUES word)
 checked_values (Some wanted) word values =
     if length values == wanted then Ok values else Err (refusal_at WRONG_NUMBER_OF_VALUES word)
 
--- NVALS or CVALS, with `=` after it
-abbrev pub begins_values : Written → List Written → Bool
-begins_values word rest = (is Nvals word.symbol || is Cvals word.symbol) && begins Equals rest
-
--- The values of a column: none, or as many as are wanted. `word` follows the column's name, and `rest` after it.
-abbrev pub values_if_begun : Option ℕ → Option Written → List Written → Result (List (List ℕ)) Refusal
-values_if_begun wanted None rest = Ok []
-values_if_begun wanted (Some word) rest =
-    if begins_values word rest then checked_values wanted word (values_of rest) else Ok []
+-- The values of a column, which are what follows its name: none, or as many as are wanted.
+abbrev pub values_if_any : Option ℕ → List Written → Result (List (List ℕ)) Refusal
+values_if_any wanted [] = Ok []
+values_if_any wanted (word ∷ rest) = checked_values wanted word (values_of rest)

@@ -1,12 +1,12 @@
-// `blockname` is `BLOCKNAME = name NVALS = ( ..`: the word itself has index 0, the name 2, NVALS or
-// CVALS 3, and what follows it begins at 4.
+// `blockname` is `BLOCKNAME = name NVALS = ( .. )`: the word itself has index 0, the name 2, and its
+// values begin at 3.
 
 ghost use Rattle.std.specs.Prelude.{◌≡◌, ◌∷◌, ◌++◌, [], if◌then◌else◌, drop, slice_get, IfOk, IfErr, OnOk, Some};
 ghost use Rattle.fx_text.specs.Refusals.{IsRefused};
 ghost use Rattle.fx_outputs.specs.BlockColumns.{block_values, check_blockname, check_column, check_free, column_name, has_blocks, name_or_empty, values_wanted};
 
 use crate::context::{BlockCount, OutputContext};
-use crate::value::values_behind;
+use crate::value::values_if_any;
 use fx_base::{Bytes, NoMemory};
 use fx_language::code;
 use fx_text::{Lexeme, Names, ParseStop, Phrase, Refusal, place_of};
@@ -102,15 +102,10 @@ pub fn block_values(
     blocks: BlockCount,
     blockname: &Phrase<'_>,
 ) -> Result<Names, ParseStop>
-    ensures ok { IfOk result (λ values.
-        block_values blocks (slice_get blockname.now 3) (drop 4 blockname.now) ≡ Ok values) }
-    ensures refused { IfErr result
-        (IsRefused (block_values blocks (slice_get blockname.now 3) (drop 4 blockname.now))) }
+    ensures ok { IfOk result (λ values. block_values blocks (drop 3 blockname.now) ≡ Ok values) }
+    ensures refused { IfErr result (IsRefused (block_values blocks (drop 3 blockname.now))) }
 {
-    match blockname.at(3) {
-        None => Ok(Names::new(alloc)),
-        Some(word) => values_behind(alloc, values_wanted(blocks), word, &blockname.from(4)),
-    }
+    values_if_any(alloc, values_wanted(blocks), &blockname.from(3))
 }
 
 /// Tests that no factor has this name.

@@ -1,13 +1,12 @@
 ghost use Rattle.std.specs.Prelude.{◌≡◌, ◌==◌, IfOk, IfErr, OnOk, Ok};
 ghost use Rattle.std.specs.List.{list_any};
 ghost use Rattle.fx_text.specs.Refusals.{IsRefused};
-ghost use Rattle.fx_outputs.specs.Columns.{column_at, columns_of, has_values, is_used, recode_at};
+ghost use Rattle.fx_outputs.specs.Columns.{column_of, columns_of, has_values, is_used, recode_at};
 ghost use Rattle.fx_outputs.specs.DerivedFactors.{is_bracketed};
 
 use crate::context::OutputContext;
 use crate::derived::{Derived, Deriveds, derived_factor};
-use crate::option::are_open_behind;
-use crate::recode::{Recode, Recodes, is_recoded, recoded};
+use crate::recode::{Recode, Recodes, recoded};
 use fx_language::Symbol;
 use fx_text::{Lexeme, ParseStop, Phrase};
 use std::alloc::Global;
@@ -72,7 +71,7 @@ pub(crate) fn is_among(places: &[u8], place: u8) -> bool
     places.iter().any(|p| *p == place)
 }
 
-/// The recoded and derived factors of what follows `OUT =`, the OUT name first.
+/// The recoded and derived factors of the options of a statement.
 ///
 /// # Errors
 ///
@@ -81,74 +80,64 @@ pub(crate) fn is_among(places: &[u8], place: u8) -> bool
 pub fn read_columns(
     alloc: Global,
     context: &OutputContext<'_>,
-    phrase: &Phrase<'_>,
+    options: &[Phrase<'_>],
 ) -> Result<Columns, ParseStop>
-    ensures ok { IfOk result (λ columns. columns_of context.now phrase.now ≡ Ok columns) }
-    ensures refused { IfErr result (IsRefused (columns_of context.now phrase.now)) }
+    ensures ok { IfOk result (λ columns. columns_of context.now options.now ≡ Ok columns) }
+    ensures refused { IfErr result (IsRefused (columns_of context.now options.now)) }
 {
-    let lexemes = phrase.lexemes();
     let mut done = Columns {
         recodes: Recodes::new(alloc),
         derived: Deriveds::new(alloc),
     };
-    let mut within = false;
-    for i in 1..lexemes.len() {
-        let before = &lexemes[i - 1];
-        let name = &lexemes[i];
-        let rest = phrase.from(i + 1);
-        within = are_open_behind(within, before);
-        read_column(alloc, context, within, &mut done, before, name, &rest)?;
+    for option in options {
+        read_column(alloc, context, &mut done, option)?;
     }
     Ok(done)
 }
 
-/// Reads what stands at `name`, which is in brackets where `within` is set.
+/// Reads the derived or recoded factor of an option, if it has one.
 fn read_column(
     alloc: Global,
     context: &OutputContext<'_>,
-    within: bool,
     done: &mut Columns,
-    before: &Lexeme<'_>,
-    name: &Lexeme<'_>,
-    rest: &Phrase<'_>,
+    option: &Phrase<'_>,
 ) -> Result<(), ParseStop>
-    ensures ok { OnOk result (column_at context.now within done.old before.now name.now rest.now ≡ Ok done.new) }
-    ensures refused { IfErr result
-        (IsRefused (column_at context.now within done.old before.now name.now rest.now)) }
+    ensures ok { OnOk result (column_of context.now done.old option.now ≡ Ok done.new) }
+    ensures refused { IfErr result (IsRefused (column_of context.now done.old option.now)) }
 {
-    if within {
+    let lexemes = option.lexemes();
+    if lexemes.is_empty() {
         return Ok(());
     }
-    if name.is(Symbol::OpenBracket) {
-        let factor = derived_factor(alloc, context, done, name, rest)?;
+    let first = &lexemes[0];
+    let rest = option.from(1);
+    if first.is(Symbol::OpenBracket) {
+        let factor = derived_factor(alloc, context, done, first, &rest)?;
         done.derived.push(factor)?;
         return Ok(());
     }
-    read_recode(alloc, context, done, before, name, rest)
+    if first.symbol().is_output_option() {
+        return Ok(());
+    }
+    read_recode(alloc, context, done, first, &rest)
 }
 
-/// Reads what stands at `name`, if it is a recoded factor's.
+/// Reads a factor's values, if there are any.
 fn read_recode(
     alloc: Global,
     context: &OutputContext<'_>,
     done: &mut Columns,
-    before: &Lexeme<'_>,
     name: &Lexeme<'_>,
     rest: &Phrase<'_>,
 ) -> Result<(), ParseStop>
-    ensures ok { OnOk result (recode_at context.now done.old before.now name.now rest.now ≡ Ok done.new) }
-    ensures refused { IfErr result
-        (IsRefused (recode_at context.now done.old before.now name.now rest.now)) }
+    ensures ok { OnOk result (recode_at context.now done.old name.now rest.now ≡ Ok done.new) }
+    ensures refused { IfErr result (IsRefused (recode_at context.now done.old name.now rest.now)) }
 {
     let lexemes = rest.lexemes();
     if lexemes.is_empty() {
         return Ok(());
     }
-    let word = &lexemes[0];
-    if !is_recoded(before, name, word) {
-        return Ok(());
-    }
-    let factor = recoded(alloc, context, done, name, word, &rest.from(1))?;
+    let factor = recoded(alloc, context, done, name, &lexemes[0], &rest.from(1))?;
     done.recodes.push(factor)?;
     Ok(())
 }

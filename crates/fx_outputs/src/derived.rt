@@ -1,14 +1,13 @@
-ghost use Rattle.std.specs.Prelude.{◌≡◌, ◌^◌, ◌||◌, ◌==◌, [], length, slice_get, drop, IfOk, IfErr, Ok, Err, OnOk, Some};
+ghost use Rattle.std.specs.Prelude.{◌≡◌, ◌^◌, ◌||◌, ◌==◌, [], length, slice_get, IfOk, IfErr, Ok, Err, OnOk};
 ghost use Rattle.std.specs.List.{list_any};
 ghost use Rattle.fx_text.specs.Refusals.{IsRefused};
 ghost use Rattle.fx_outputs.specs.BlockColumns.{name_or_empty};
 ghost use Rattle.fx_outputs.specs.Columns.{check_size, derived_of, is_used, places_behind};
-ghost use Rattle.fx_outputs.specs.Values.{values_if_begun};
 
 use crate::columns::{Columns, is_among};
 use crate::context::OutputContext;
 use crate::recode::{factor_at, unused_place};
-use crate::value::values_behind;
+use crate::value::values_if_any;
 use fx_base::{Bytes, Items, NoMemory};
 use fx_language::{Symbol, code};
 use fx_text::{Lexeme, Names, ParseStop, Phrase, Refusal};
@@ -61,7 +60,7 @@ pub(crate) fn derived_factor(
     let behind = rest.after(Symbol::CloseBracket);
     let levels = level_count(context.q, names.lexemes().len(), bracket)?;
     let places = places(alloc, context, done, &names)?;
-    let values = derived_values(alloc, levels, &behind)?;
+    let values = values_if_any(alloc, Some(levels), &behind.from(2))?;
     Ok(Derived {
         places,
         name: derived_name(alloc, &behind)?,
@@ -113,19 +112,6 @@ fn is_taken(done: &Columns, places: &[u8], factor: u8) -> bool
     ensures { result ≡ (is_used done.now factor || list_any (λ p. p == factor) places.now) }
 {
     done.uses(factor) || is_among(places, factor)
-}
-
-/// The values of a derived factor of so many levels, if it has any. `behind` is what follows `]`.
-fn derived_values(alloc: Global, levels: u32, behind: &Phrase<'_>) -> Result<Names, ParseStop>
-    ensures ok { IfOk result (λ values.
-        values_if_begun (Some levels) (slice_get behind.now 2) (drop 3 behind.now) ≡ Ok values) }
-    ensures refused { IfErr result
-        (IsRefused (values_if_begun (Some levels) (slice_get behind.now 2) (drop 3 behind.now))) }
-{
-    match behind.at(2) {
-        None => Ok(Names::new(alloc)),
-        Some(word) => values_behind(alloc, Some(levels), word, &behind.from(3)),
-    }
 }
 
 /// The name of a derived factor. `behind` is what follows `]`.

@@ -11,15 +11,15 @@ ghost use Rattle.fx_outputs.specs.Contexts.{Context};
 ghost use Rattle.fx_outputs.specs.Earlier.{HasFewRows, plan_names};
 ghost use Rattle.fx_outputs.specs.Histories.{built};
 ghost use Rattle.fx_outputs.specs.Outputs.{names_of, output_spec, outputs_of, plan_behind};
-ghost use Rattle.fx_outputs.specs.Readings.{AreNamesRead, NamesEarlier};
+ghost use Rattle.fx_outputs.specs.Readings.{AreOptionsRead, NamesEarlier};
 ghost use Rattle.fx_outputs.specs.Validity.{HasItsNames};
 ghost use Rattle.fx_outputs.specs.declared.earlier.EarlierPlan.{EarlierPlan};
 ghost use Rattle.fx_outputs.specs.declared.output.OutputSpec.{OutputSpec};
 
-/// What is read as the OUT name and as BLOCKNAME's name of an OUTPUT statement is what the grammar
-/// has there.
+/// What is read as the OUT name of an OUTPUT statement is what the grammar has there, and its options
+/// are those of the grammar, one after another.
 pub fn names_are_read_by_the_grammar()
-    ensures { (s : List Written) → IsStatement grammar.output s → AreNamesRead s }
+    ensures { (s : List Written) → IsStatement grammar.output s → AreOptionsRead s }
 {}
 
 /// The names of the outputs of accepted statements have 1 to 32 bytes, and no factor has the name of
@@ -33,7 +33,7 @@ pub fn outputs_have_names()
 /// A plan that an OUTPUT statement names is an earlier one, of the name that is written.
 pub fn named_plans_are_earlier()
     ensures { (context : Context) (earlier : List EarlierPlan) (word name : Written)
-        (s : List Written) (output : OutputSpec)
+        (s : List (List Written)) (output : OutputSpec)
         → output_spec context earlier word name s ≡ Ok output → NamesEarlier earlier s output }
 {}
 

@@ -1,41 +1,80 @@
-ghost use Rattle.std.specs.Prelude.{◌≡◌};
-ghost use Rattle.fx_outputs.specs.Options.{are_open_behind, awaits_name, from_option, has_option};
+ghost use Rattle.std.specs.Prelude.{◌≡◌, ◌≤◌, length, take, IfOk};
+ghost use Rattle.fx_outputs.specs.Options.{are_open_behind, begins_option, is_first, option_len, option_of, options_of};
 
+use fx_base::{Items, NoMemory};
 use fx_language::Symbol;
 use fx_text::{Lexeme, Phrase};
+use std::alloc::Global;
 
-/// What stands from an option's word on. The OUT name is first in what is searched.
-pub fn from_option<'a>(option: Symbol, phrase: &Phrase<'a>) -> Phrase<'a>
-    ensures { result ≡ from_option option phrase.now }
+/// The options of an OUTPUT statement, each with all that belongs to it.
+pub type Options<'a> = Items<Phrase<'a>>;
+
+/// The options of what follows `OUT =`, the OUT name first.
+pub fn options_of<'a>(alloc: Global, phrase: &Phrase<'a>) -> Result<Options<'a>, NoMemory>
+    ensures { IfOk result (λ options. options ≡ options_of phrase.now) }
 {
+    let lexemes = phrase.lexemes();
+    let mut options = Options::new(alloc);
     let mut within = false;
-    for (i, before) in phrase.lexemes().iter().enumerate() {
-        let rest = phrase.from(i + 1);
+    for (i, before) in lexemes.iter().enumerate() {
+        let rest = &lexemes[i + 1..];
         within = are_open_behind(within, before);
-        if rest.begins(option) && !awaits_name(within, before) {
-            return rest;
+        if begins_option(within, before, rest) {
+            options.push(Phrase::new(&rest[..option_len(within, rest)]))?;
         }
     }
-    Phrase::new(&[])
+    Ok(options)
+}
+
+/// How much precedes the next option.
+fn option_len(inside: bool, lexemes: &[Lexeme<'_>]) -> usize
+    ensures value { result ≡ option_len inside lexemes.now }
+    ensures bound { result ≤ length lexemes.now }
+{
+    let mut within = inside;
+    for (i, w) in lexemes.iter().enumerate() {
+        within = are_open_behind(within, w);
+        if begins_option(within, w, &lexemes[i + 1..]) {
+            return i + 1;
+        }
+    }
+    lexemes.len()
 }
 
 /// Whether brackets are open behind a lexeme, where `inside` says whether they are in front of it.
-pub fn are_open_behind(inside: bool, w: &Lexeme<'_>) -> bool
+fn are_open_behind(inside: bool, w: &Lexeme<'_>) -> bool
     ensures { result ≡ are_open_behind inside w.now }
 {
     w.is(Symbol::OpenBracket) || (inside && !w.is(Symbol::CloseBracket))
 }
 
-/// Whether any word behind a lexeme is a name; `within` says whether brackets are open there.
-fn awaits_name(within: bool, before: &Lexeme<'_>) -> bool
-    ensures { result ≡ awaits_name within before.now }
+/// Whether an option begins behind `before`, outside of brackets: any word behind `=` is a name.
+fn begins_option(within: bool, before: &Lexeme<'_>, rest: &[Lexeme<'_>]) -> bool
+    ensures { result ≡ begins_option within before.now rest.now }
 {
-    before.is(Symbol::Equals) || within
+    !rest.is_empty()
+        && !(within || before.is(Symbol::Equals))
+        && is_first(&rest[0], &Phrase::new(&rest[1..]))
 }
 
-/// Whether the statement has this option.
-pub fn has_option(option: Symbol, phrase: &Phrase<'_>) -> bool
-    ensures { result ≡ has_option option phrase.now }
+/// Whether it is `[`, the word of an option, or another word without `=` after it.
+fn is_first(w: &Lexeme<'_>, rest: &Phrase<'_>) -> bool
+    ensures { result ≡ is_first w.now rest.now }
 {
-    from_option(option, phrase).begins(option)
+    let symbol = w.symbol();
+    w.is(Symbol::OpenBracket)
+        || symbol.is_output_option()
+        || (symbol.is_word() && !rest.begins(Symbol::Equals))
+}
+
+/// The option that begins with this word, nothing where there is none.
+pub fn option_of<'a>(word: Symbol, options: &[Phrase<'a>]) -> Phrase<'a>
+    ensures { result ≡ option_of word options.now }
+{
+    for option in options {
+        if option.begins(word) {
+            return Phrase::new(option.lexemes());
+        }
+    }
+    Phrase::new(&[])
 }

@@ -12,7 +12,7 @@ use crate::columns::read_columns;
 use crate::context::OutputContext;
 use crate::derived::Deriveds;
 use crate::earlier::{EarlierPlan, EarlierPlans};
-use crate::option::from_option;
+use crate::option::{option_of, options_of};
 use crate::own_columns::own_columns;
 use crate::plan_columns::check_columns;
 use crate::recode::Recodes;
@@ -90,7 +90,8 @@ pub fn outputs(
             let lexemes = statement.lexemes();
             let word = &lexemes[0];
             let name = &lexemes[3];
-            let output = output(alloc, context, earlier, word, name, &statement.from(3))?;
+            let options = options_of(alloc, &statement.from(3))?;
+            let output = output(alloc, context, earlier, word, name, options.as_slice())?;
             let plan = plan_behind(alloc, context, earlier, &output)?;
             earlier.push(alloc, plan)?;
             outputs.push(output)?;
@@ -106,32 +107,31 @@ fn is_output(statement: &Statement<'_>) -> bool
     statement.begins(Symbol::Output) && statement.lexemes().len() > 3
 }
 
-/// An OUTPUT statement after these plans: `word` is the word OUTPUT, `name` the OUT name, and `phrase`
-/// what stands after `OUT =`.
+/// An OUTPUT statement after these plans: `word` is the word OUTPUT, `name` the OUT name.
 fn output(
     alloc: Global,
     context: &OutputContext<'_>,
     earlier: &EarlierPlans,
     word: &Lexeme<'_>,
     name: &Lexeme<'_>,
-    phrase: &Phrase<'_>,
+    options: &[Phrase<'_>],
 ) -> Result<OutputSpec, ParseStop>
     ensures ok { IfOk result (λ output.
-        output_spec context.now earlier.now word.now name.now phrase.now ≡ Ok output) }
+        output_spec context.now earlier.now word.now name.now options.now ≡ Ok output) }
     ensures refused { IfErr result
-        (IsRefused (output_spec context.now earlier.now word.now name.now phrase.now)) }
+        (IsRefused (output_spec context.now earlier.now word.now name.now options.now)) }
 {
-    let blockname = from_option(Symbol::Blockname, phrase);
+    let blockname = option_of(Symbol::Blockname, options);
     check_new_name(alloc, earlier, name)?;
-    let reps = reps(alloc, earlier, phrase)?;
+    let reps = reps(alloc, earlier, options)?;
     let each = earlier.rep_rows(reps.0);
     let all = earlier.rep_rows(reps.1);
     check_rows(context.runs, each, all, name)?;
-    let shuffle = shuffle_asked(phrase)?;
+    let shuffle = shuffle_asked(options)?;
     check_blockname(context.blocks, &blockname)?;
     check_column(context, word, &blockname)?;
     let block_values = block_values(alloc, context.blocks, &blockname)?;
-    let columns = read_columns(alloc, context, phrase)?;
+    let columns = read_columns(alloc, context, options)?;
     let block_name = block_name(alloc, &blockname)?;
     let derived = columns.derived.as_slice();
     check_columns(
@@ -141,7 +141,7 @@ fn output(
         reps,
         block_name.as_slice(),
         derived,
-        phrase,
+        options,
     )?;
     let (recodes, derived) = columns.into_parts();
     Ok(OutputSpec {

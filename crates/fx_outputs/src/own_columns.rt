@@ -1,6 +1,6 @@
-ghost use Rattle.std.specs.Prelude.{◌≡◌, ◌++◌, ◌<◌, length, map, IfOk, IfErr, OnOk, Ok};
+ghost use Rattle.std.specs.Prelude.{◌≡◌, ◌++◌, ◌<◌, length, map, IfOk, IfErr, MatchOption, None, OnOk, Ok, Some};
 ghost use Rattle.fx_text.specs.Refusals.{IsRefused};
-ghost use Rattle.fx_outputs.specs.Columns.{are_in_front, check_name, check_names, derived_names};
+ghost use Rattle.fx_outputs.specs.Columns.{check_name, check_names, derived_name, derived_names};
 ghost use Rattle.fx_outputs.specs.OwnColumns.{free_names, other_columns, own_columns};
 
 use crate::block::push_column;
@@ -77,19 +77,15 @@ fn push_derived(alloc: Global, derived: &[Derived], names: &mut Names) -> Result
 pub(crate) fn check_names(
     alloc: Global,
     columns: Names,
-    phrase: &Phrase<'_>,
+    options: &[Phrase<'_>],
 ) -> Result<(), ParseStop>
-    ensures ok { OnOk result (check_names columns phrase.now ≡ Ok tt) }
-    ensures refused { IfErr result (IsRefused (check_names columns phrase.now)) }
+    ensures ok { OnOk result (check_names columns options.now ≡ Ok tt) }
+    ensures refused { IfErr result (IsRefused (check_names columns options.now)) }
 {
-    let lexemes = phrase.lexemes();
     let mut columns = columns;
-    for i in 2..lexemes.len() {
-        let bracket = &lexemes[i - 2];
-        let equals = &lexemes[i - 1];
-        let name = &lexemes[i];
-        if are_in_front(bracket, equals) {
-            let later = derived_names(alloc, &phrase.from(i - 1))?;
+    for (i, option) in options.iter().enumerate() {
+        if let Some(name) = derived_name(option) {
+            let later = derived_names(alloc, &options[i + 1..])?;
             check_name(&columns, name, &later)?;
             columns.push(Bytes::from_slice(alloc, name.text())?)?;
         }
@@ -97,11 +93,15 @@ pub(crate) fn check_names(
     Ok(())
 }
 
-/// Whether the name of a derived factor follows these two.
-fn are_in_front(bracket: &Lexeme<'_>, equals: &Lexeme<'_>) -> bool
-    ensures { result ≡ are_in_front bracket.now equals.now }
+/// The name of a derived factor, if the option has one.
+fn derived_name<'a>(option: &Phrase<'a>) -> Option<&'a Lexeme<'a>>
+    ensures { MatchOption result (derived_name option.now ≡ None)
+        (λ w. derived_name option.now ≡ Some w.now) }
 {
-    bracket.is(Symbol::CloseBracket) && equals.is(Symbol::Equals)
+    if option.begins(Symbol::OpenBracket) {
+        return option.after(Symbol::CloseBracket).at(1);
+    }
+    None
 }
 
 /// Tests that a name is not that of one of these columns or of a later derived factor.
@@ -116,17 +116,13 @@ fn check_name(columns: &Names, name: &Lexeme<'_>, later: &Names) -> Result<(), R
     Ok(())
 }
 
-/// The names of the derived factors of a statement.
-fn derived_names(alloc: Global, phrase: &Phrase<'_>) -> Result<Names, NoMemory>
-    ensures { IfOk result (λ names. names ≡ derived_names phrase.now) }
+/// The names of the derived factors of these options.
+fn derived_names(alloc: Global, options: &[Phrase<'_>]) -> Result<Names, NoMemory>
+    ensures { IfOk result (λ names. names ≡ derived_names options.now) }
 {
-    let lexemes = phrase.lexemes();
     let mut names = Names::new(alloc);
-    for i in 2..lexemes.len() {
-        let bracket = &lexemes[i - 2];
-        let equals = &lexemes[i - 1];
-        let name = &lexemes[i];
-        if are_in_front(bracket, equals) {
+    for option in options {
+        if let Some(name) = derived_name(option) {
             names.push(Bytes::from_slice(alloc, name.text())?)?;
         }
     }

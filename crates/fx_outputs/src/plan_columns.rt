@@ -6,7 +6,7 @@ ghost use Rattle.fx_outputs.specs.FileColumns.{check_columns, check_plan, meet};
 use crate::context::OutputContext;
 use crate::derived::Derived;
 use crate::earlier::{EarlierPlan, EarlierPlans};
-use crate::option::from_option;
+use crate::option::option_of;
 use crate::own_columns::{check_names, other_columns, own_columns};
 use crate::replication::Rep;
 use fx_base::{Bytes, NoMemory};
@@ -28,28 +28,28 @@ pub(crate) fn check_columns(
     reps: (Rep, Rep),
     block_name: &[u8],
     derived: &[Derived],
-    phrase: &Phrase<'_>,
+    options: &[Phrase<'_>],
 ) -> Result<(), ParseStop>
     ensures ok { OnOk result
-        (check_columns context.now earlier.now reps block_name.now derived.now phrase.now ≡ Ok tt) }
+        (check_columns context.now earlier.now reps block_name.now derived.now options.now ≡ Ok tt) }
     ensures refused { IfErr result (IsRefused
-        (check_columns context.now earlier.now reps block_name.now derived.now phrase.now)) }
+        (check_columns context.now earlier.now reps block_name.now derived.now options.now)) }
 {
     let point = rep_columns(alloc, earlier, reps.0)?;
     let design = rep_columns(alloc, earlier, reps.1)?;
     let mut columns = other_columns(alloc, context, block_name, derived)?;
     push_copies(alloc, point.as_slice(), &mut columns)?;
     push_copies(alloc, design.as_slice(), &mut columns)?;
-    check_names(alloc, columns, phrase)?;
+    check_names(alloc, columns, options)?;
     let own = own_columns(alloc, context, block_name, derived)?;
     check_plan(
-        &from_option(Symbol::Pointrep, phrase),
+        &option_of(Symbol::Pointrep, options),
         &point,
         &own,
         &design,
     )?;
     check_plan(
-        &from_option(Symbol::Designrep, phrase),
+        &option_of(Symbol::Designrep, options),
         &design,
         &own,
         &point,
@@ -58,7 +58,7 @@ pub(crate) fn check_columns(
 }
 
 /// Tests the columns of a named plan against a file's own and those of the other named plan. `option`
-/// is what stands from POINTREP or DESIGNREP on.
+/// is POINTREP or DESIGNREP with its value.
 fn check_plan(
     option: &Phrase<'_>,
     columns: &Names,

@@ -1,13 +1,13 @@
 ghost use Rattle.std.specs.Prelude.{◌≡◌, IfOk, IfErr};
 ghost use Rattle.fx_text.specs.Refusals.{IsRefused};
 ghost use Rattle.fx_text.specs.Names.{place_of};
-ghost use Rattle.fx_outputs.specs.Columns.{factor_at, is_recoded, recode_of, unused_place};
+ghost use Rattle.fx_outputs.specs.Columns.{factor_at, recode_of, unused_place};
 
 use crate::columns::Columns;
 use crate::context::OutputContext;
 use crate::value::counted_values;
 use fx_base::Items;
-use fx_language::{Symbol, code};
+use fx_language::code;
 use fx_text::{Lexeme, Names, ParseStop, Phrase, Refusal, place_of};
 use std::alloc::Global;
 
@@ -31,16 +31,6 @@ impl Drop for Recode {
 
 /// The recoded factors of a statement, in its order.
 pub type Recodes = Items<Recode>;
-
-/// Whether `name` is a recoded factor's.
-pub(crate) fn is_recoded(before: &Lexeme<'_>, name: &Lexeme<'_>, word: &Lexeme<'_>) -> bool
-    ensures { result ≡ is_recoded before.now name.now word.now }
-{
-    name.symbol().is_word()
-        && !name.symbol().is_output_option()
-        && !before.is(Symbol::Equals)
-        && !word.is(Symbol::Equals)
-}
 
 /// A factor and its values, which follow `word`, after the columns that are earlier.
 ///

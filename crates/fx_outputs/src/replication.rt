@@ -1,5 +1,5 @@
-// What stands from an option on is `POINTREP = n ..` or `DESIGNREP = n ..`, or has a name in place of
-// the number, which has index 2.
+// An option is `POINTREP = n` or `DESIGNREP = n`, or has a name in place of the number, which has
+// index 2.
 
 ghost use Rattle.std.specs.Prelude.{◌≡◌, ◌*◌, slice_get, IfErr, IfOk, OnOk, Err, Ok, Some};
 ghost use Rattle.fx_text.specs.Numbers.{number_of};
@@ -7,7 +7,7 @@ ghost use Rattle.fx_text.specs.Refusals.{IsRefused};
 ghost use Rattle.fx_outputs.specs.Replications.{check_number, check_rows, rep_at, replication_in_range, reps_of};
 
 use crate::earlier::EarlierPlans;
-use crate::option::from_option;
+use crate::option::option_of;
 use fx_language::{Symbol, code};
 use fx_text::{Lexeme, ParseStop, Phrase, Refusal};
 use std::alloc::Global;
@@ -34,13 +34,13 @@ const MOST_ROWS: u128 = 200_000;
 pub fn reps(
     alloc: Global,
     earlier: &EarlierPlans,
-    phrase: &Phrase<'_>,
+    options: &[Phrase<'_>],
 ) -> Result<(Rep, Rep), ParseStop>
-    ensures ok { IfOk result (λ reps. reps_of earlier.now phrase.now ≡ Ok reps) }
-    ensures refused { IfErr result (IsRefused (reps_of earlier.now phrase.now)) }
+    ensures ok { IfOk result (λ reps. reps_of earlier.now options.now ≡ Ok reps) }
+    ensures refused { IfErr result (IsRefused (reps_of earlier.now options.now)) }
 {
-    let point = from_option(Symbol::Pointrep, phrase);
-    let design = from_option(Symbol::Designrep, phrase);
+    let point = option_of(Symbol::Pointrep, options);
+    let design = option_of(Symbol::Designrep, options);
     check_number(&point)?;
     check_number(&design)?;
     let pointrep = replication(alloc, earlier, &point)?;

@@ -1,7 +1,7 @@
 ghost use Rattle.std.specs.Prelude.{◌≡◌, MatchOption, None, Some};
 ghost use Rattle.fx_outputs.specs.Shuffles.{seed_written, seeded, shuffle_of};
 
-use crate::option::{from_option, has_option};
+use crate::option::option_of;
 use fx_language::{Symbol, code};
 use fx_text::{Lexeme, Phrase, Refusal};
 
@@ -21,14 +21,15 @@ pub enum Shuffle {
 /// # Errors
 ///
 /// E19 at a seed of more than 64 bits.
-pub fn shuffle_asked(phrase: &Phrase<'_>) -> Result<Shuffle, Refusal>
-    ensures { result ≡ shuffle_of phrase.now }
+pub fn shuffle_asked(options: &[Phrase<'_>]) -> Result<Shuffle, Refusal>
+    ensures { result ≡ shuffle_of options.now }
 {
-    if !has_option(Symbol::Randomize, phrase) {
+    let randomize = option_of(Symbol::Randomize, options);
+    if !randomize.begins(Symbol::Randomize) {
         return Ok(Shuffle::Kept);
     }
-    let values = !has_option(Symbol::Novalran, phrase);
-    match seed_written(&from_option(Symbol::Randomize, phrase)) {
+    let values = !option_of(Symbol::Novalran, options).begins(Symbol::Novalran);
+    match seed_written(&randomize) {
         None => Ok(Shuffle::Default { values }),
         Some(seed) => seeded(seed, values),
     }

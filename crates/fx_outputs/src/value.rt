@@ -1,8 +1,8 @@
 // `rest` is what follows NVALS or CVALS, `= ( value ..`: the first value has index 2.
 
-ghost use Rattle.std.specs.Prelude.{◌≡◌, ◌∷◌, IfOk, IfErr, Some};
+ghost use Rattle.std.specs.Prelude.{◌≡◌, ◌∷◌, IfOk, IfErr};
 ghost use Rattle.fx_text.specs.Refusals.{IsRefused};
-ghost use Rattle.fx_outputs.specs.Values.{begins_values, checked_values, inside, value_of, values_if_begun, values_of};
+ghost use Rattle.fx_outputs.specs.Values.{checked_values, inside, value_of, values_if_any, values_of};
 
 use fx_base::{Bytes, NoMemory};
 use fx_language::{Symbol, code};
@@ -36,31 +36,24 @@ pub fn counted_values(
     }
 }
 
-/// The values of a column, if `word`, which follows the column's name, begins them.
+/// The values of a column, which are what follows its name, if there are any.
 ///
 /// # Errors
 ///
-/// E17 at `word`, as of `counted_values`, and `NoMemory`.
-pub fn values_behind(
+/// E17 at NVALS or CVALS, as of `counted_values`, and `NoMemory`.
+pub fn values_if_any(
     alloc: Global,
     wanted: Option<u32>,
-    word: &Lexeme<'_>,
-    rest: &Phrase<'_>,
+    values: &Phrase<'_>,
 ) -> Result<Names, ParseStop>
-    ensures ok { IfOk result (λ values. values_if_begun wanted (Some word.now) rest.now ≡ Ok values) }
-    ensures refused { IfErr result (IsRefused (values_if_begun wanted (Some word.now) rest.now)) }
+    ensures ok { IfOk result (λ all. values_if_any wanted values.now ≡ Ok all) }
+    ensures refused { IfErr result (IsRefused (values_if_any wanted values.now)) }
 {
-    if begins_values(word, rest) {
-        return counted_values(alloc, wanted, word, rest);
+    let lexemes = values.lexemes();
+    if lexemes.is_empty() {
+        return Ok(Names::new(alloc));
     }
-    Ok(Names::new(alloc))
-}
-
-/// Whether the word is NVALS or CVALS with `=` after it.
-fn begins_values(word: &Lexeme<'_>, rest: &Phrase<'_>) -> bool
-    ensures { result ≡ begins_values word.now rest.now }
-{
-    (word.is(Symbol::Nvals) || word.is(Symbol::Cvals)) && rest.begins(Symbol::Equals)
+    counted_values(alloc, wanted, &lexemes[0], &values.from(1))
 }
 
 /// The values after NVALS or CVALS.

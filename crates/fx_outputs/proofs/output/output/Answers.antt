@@ -15,7 +15,7 @@ use Rattle.fx_outputs.specs.declared.replication.Rep.{Rep}
 use Rattle.fx_outputs.specs.declared.shuffle.Shuffle.{Shuffle}
 use Rattle.fx_outputs.specs.BlockColumns.{block_values, check_blockname, check_column, name_or_empty}
 use Rattle.fx_outputs.specs.Contexts.{Context}
-use Rattle.fx_outputs.specs.Options.{from_option}
+use Rattle.fx_outputs.specs.Options.{option_of}
 use Rattle.fx_outputs.specs.Earlier.{plan_names, rep_rows}
 use Rattle.fx_outputs.specs.Outputs.{check_new_name, output_spec}
 use Rattle.fx_outputs.specs.Columns.{columns_of}
@@ -25,7 +25,7 @@ use Rattle.fx_outputs.specs.Shuffles.{shuffle_of}
 use Rattle.fx_outputs.proofs.output.output.Goals as goal
 
 -- the meaning of a statement, part by part
-module _ (context : Context) (earlier : List EarlierPlan) (word name : Written) (s : List Written) where
+module _ (context : Context) (earlier : List EarlierPlan) (word name : Written) (s : List (List Written)) where
   abbrev meaning : Result OutputSpec Refusal
   meaning = output_spec context earlier word name s
 
@@ -43,7 +43,7 @@ module _ (context : Context) (earlier : List EarlierPlan) (word name : Written) 
         at_shuffle refusal e = rw (fresh, repeated, ← rw (inner, outer, most) at few, ← e) refl
 
         module _ (shuffle : Shuffle) (column : List Written) (blocks : BlockCount) (asked : Ok shuffle ≡ shuffle_of s)
-            (behind : column ≡ from_option Blockname s) (own : blocks ≡ context.blocks) where
+            (behind : column ≡ option_of Blockname s) (own : blocks ≡ context.blocks) where
           at_blockname : (refusal : Refusal) → Err refusal ≡ check_blockname blocks (slice_get column 0)
               → meaning ≡ Err refusal
           at_blockname refusal e =
@@ -65,7 +65,7 @@ module _ (context : Context) (earlier : List EarlierPlan) (word name : Written) 
 
             module _ (free : Ok tt ≡ check_column context word (slice_get column 2)) where
               at_values : (reason : ParseStop)
-                  → IsRefused (block_values blocks (slice_get column 3) (drop 4 column)) reason
+                  → IsRefused (block_values blocks (drop 3 column)) reason
                   → IsRefused meaning reason
               at_values reason h =
                   rw (
@@ -77,10 +77,10 @@ module _ (context : Context) (earlier : List EarlierPlan) (word name : Written) 
                     ← rw own at named,
                     ← free,
                   )
-                  (stopped (block_values context.blocks (slice_get column 3) (drop 4 column)) _ reason (rw own at h))
+                  (stopped (block_values context.blocks (drop 3 column)) _ reason (rw own at h))
 
               module _ (values : List (List ℕ))
-                  (given : block_values blocks (slice_get column 3) (drop 4 column) ≡ Ok values) where
+                  (given : block_values blocks (drop 3 column) ≡ Ok values) where
                 at_columns : (reason : ParseStop) → IsRefused (columns_of context s) reason → IsRefused meaning reason
                 at_columns reason h =
                     rw (
@@ -150,67 +150,67 @@ returns-in_err-check_new_name-clause-refused c =
 pub returns-in_err-reps-clause-refused : goal.returns-in_err-reps-clause-refused
 returns-in_err-reps-clause-refused c =
     refused _ _ c.in_err-reps.field-0.0 c.from_residual-in_err-reps.ensures.1
-    (at_reps c.args.context.now c.args.earlier.now c.args.word.now c.args.name.now c.args.phrase.now
+    (at_reps c.args.context.now c.args.earlier.now c.args.word.now c.args.name.now c.args.options.now
     c.in_ok-check_new_name.ensures.ok _ c.in_err-reps.ensures.refused)
 
 pub returns-in_err-check_rows-clause-refused : goal.returns-in_err-check_rows-clause-refused
 returns-in_err-check_rows-clause-refused c =
     refused _ _ (stop.Refused c.in_err-check_rows.field-0.0) c.from_residual-in_err-check_rows.ensures.1
-    (at_rows c.args.context.now c.args.earlier.now c.args.word.now c.args.name.now c.args.phrase.now
+    (at_rows c.args.context.now c.args.earlier.now c.args.word.now c.args.name.now c.args.options.now
     c.in_ok-check_new_name.ensures.ok c.in_ok-reps.reps _ _ _ c.in_ok-reps.ensures.ok c.rep_rows-each.ensures
     c.rep_rows-all.ensures (ap (λ (x : Context). x.runs) c.context.view_is) _ c.in_err-check_rows.ensures)
 
 pub returns-in_err-shuffle-clause-refused : goal.returns-in_err-shuffle-clause-refused
 returns-in_err-shuffle-clause-refused c =
     refused _ _ (stop.Refused c.in_err-shuffle.field-0.0) c.from_residual-in_err-shuffle.ensures.1
-    (at_shuffle c.args.context.now c.args.earlier.now c.args.word.now c.args.name.now c.args.phrase.now
+    (at_shuffle c.args.context.now c.args.earlier.now c.args.word.now c.args.name.now c.args.options.now
     c.in_ok-check_new_name.ensures.ok c.in_ok-reps.reps _ _ _ c.in_ok-reps.ensures.ok c.rep_rows-each.ensures
     c.rep_rows-all.ensures (ap (λ (x : Context). x.runs) c.context.view_is) c.in_ok-check_rows.ensures _ c.in_err-shuffle.ensures)
 
 pub returns-in_err-check_blockname-clause-refused : goal.returns-in_err-check_blockname-clause-refused
 returns-in_err-check_blockname-clause-refused c =
     refused _ _ (stop.Refused c.in_err-check_blockname.field-0.0) c.from_residual-in_err-check_blockname.ensures.1
-    (at_blockname c.args.context.now c.args.earlier.now c.args.word.now c.args.name.now c.args.phrase.now
+    (at_blockname c.args.context.now c.args.earlier.now c.args.word.now c.args.name.now c.args.options.now
     c.in_ok-check_new_name.ensures.ok c.in_ok-reps.reps _ _ _ c.in_ok-reps.ensures.ok c.rep_rows-each.ensures
     c.rep_rows-all.ensures (ap (λ (x : Context). x.runs) c.context.view_is) c.in_ok-check_rows.ensures _ _ _ c.in_ok-shuffle.ensures
-    c.from_option-blockname.ensures (ap (λ (x : Context). x.blocks) c.context.view_is) _ c.in_err-check_blockname.ensures)
+    c.option_of-blockname.ensures (ap (λ (x : Context). x.blocks) c.context.view_is) _ c.in_err-check_blockname.ensures)
 
 pub returns-in_err-check_column-clause-refused : goal.returns-in_err-check_column-clause-refused
 returns-in_err-check_column-clause-refused c =
     refused _ _ (stop.Refused c.in_err-check_column.field-0.0) c.from_residual-in_err-check_column.ensures.1
-    (at_column c.args.context.now c.args.earlier.now c.args.word.now c.args.name.now c.args.phrase.now
+    (at_column c.args.context.now c.args.earlier.now c.args.word.now c.args.name.now c.args.options.now
     c.in_ok-check_new_name.ensures.ok c.in_ok-reps.reps _ _ _ c.in_ok-reps.ensures.ok c.rep_rows-each.ensures
     c.rep_rows-all.ensures (ap (λ (x : Context). x.runs) c.context.view_is) c.in_ok-check_rows.ensures _ _ _ c.in_ok-shuffle.ensures
-    c.from_option-blockname.ensures (ap (λ (x : Context). x.blocks) c.context.view_is)
+    c.option_of-blockname.ensures (ap (λ (x : Context). x.blocks) c.context.view_is)
     c.in_ok-check_blockname.ensures _ c.in_err-check_column.ensures)
 
 pub returns-in_err-block_values-clause-refused : goal.returns-in_err-block_values-clause-refused
 returns-in_err-block_values-clause-refused c =
     refused _ _ c.in_err-block_values.field-0.0 c.from_residual-in_err-block_values.ensures.1
-    (at_values c.args.context.now c.args.earlier.now c.args.word.now c.args.name.now c.args.phrase.now
+    (at_values c.args.context.now c.args.earlier.now c.args.word.now c.args.name.now c.args.options.now
     c.in_ok-check_new_name.ensures.ok c.in_ok-reps.reps _ _ _ c.in_ok-reps.ensures.ok c.rep_rows-each.ensures
     c.rep_rows-all.ensures (ap (λ (x : Context). x.runs) c.context.view_is) c.in_ok-check_rows.ensures _ _ _ c.in_ok-shuffle.ensures
-    c.from_option-blockname.ensures (ap (λ (x : Context). x.blocks) c.context.view_is)
+    c.option_of-blockname.ensures (ap (λ (x : Context). x.blocks) c.context.view_is)
     c.in_ok-check_blockname.ensures c.in_ok-check_column.ensures _
     c.in_err-block_values.ensures.refused)
 
 pub returns-in_err-columns-clause-refused : goal.returns-in_err-columns-clause-refused
 returns-in_err-columns-clause-refused c =
     refused _ _ c.in_err-columns.field-0.0 c.from_residual-in_err-columns.ensures.1
-    (at_columns c.args.context.now c.args.earlier.now c.args.word.now c.args.name.now c.args.phrase.now
+    (at_columns c.args.context.now c.args.earlier.now c.args.word.now c.args.name.now c.args.options.now
     c.in_ok-check_new_name.ensures.ok c.in_ok-reps.reps _ _ _ c.in_ok-reps.ensures.ok c.rep_rows-each.ensures
     c.rep_rows-all.ensures (ap (λ (x : Context). x.runs) c.context.view_is) c.in_ok-check_rows.ensures _ _ _ c.in_ok-shuffle.ensures
-    c.from_option-blockname.ensures (ap (λ (x : Context). x.blocks) c.context.view_is)
+    c.option_of-blockname.ensures (ap (λ (x : Context). x.blocks) c.context.view_is)
     c.in_ok-check_blockname.ensures c.in_ok-check_column.ensures _ c.in_ok-block_values.ensures.ok _
     c.in_err-columns.ensures.refused)
 
 pub returns-in_err-check_columns-clause-refused : goal.returns-in_err-check_columns-clause-refused
 returns-in_err-check_columns-clause-refused c =
     refused _ _ c.in_err-check_columns.field-0.0 c.from_residual-in_err-check_columns.ensures.1
-    (at_names c.args.context.now c.args.earlier.now c.args.word.now c.args.name.now c.args.phrase.now
+    (at_names c.args.context.now c.args.earlier.now c.args.word.now c.args.name.now c.args.options.now
     c.in_ok-check_new_name.ensures.ok c.in_ok-reps.reps _ _ _ c.in_ok-reps.ensures.ok c.rep_rows-each.ensures
     c.rep_rows-all.ensures (ap (λ (x : Context). x.runs) c.context.view_is) c.in_ok-check_rows.ensures _ _ _ c.in_ok-shuffle.ensures
-    c.from_option-blockname.ensures (ap (λ (x : Context). x.blocks) c.context.view_is)
+    c.option_of-blockname.ensures (ap (λ (x : Context). x.blocks) c.context.view_is)
     c.in_ok-check_blockname.ensures c.in_ok-check_column.ensures _ c.in_ok-block_values.ensures.ok
     c.in_ok-columns.columns c.in_ok-columns.ensures.ok _
     (rw (c.as_slice-derived.ensures, c.as_slice.ensures, c.in_ok-block_name.ensures) at
@@ -231,10 +231,10 @@ returns-clause-ok c =
       c.into_parts-recodes.ensures.derived,
       c.in_ok-block_name.ensures,
     )
-    (is_read c.args.context.now c.args.earlier.now c.args.word.now c.args.name.now c.args.phrase.now
+    (is_read c.args.context.now c.args.earlier.now c.args.word.now c.args.name.now c.args.options.now
     c.in_ok-check_new_name.ensures.ok c.in_ok-reps.reps _ _ _ c.in_ok-reps.ensures.ok c.rep_rows-each.ensures
     c.rep_rows-all.ensures (ap (λ (x : Context). x.runs) c.context.view_is) c.in_ok-check_rows.ensures _ _ _ c.in_ok-shuffle.ensures
-    c.from_option-blockname.ensures (ap (λ (x : Context). x.blocks) c.context.view_is)
+    c.option_of-blockname.ensures (ap (λ (x : Context). x.blocks) c.context.view_is)
     c.in_ok-check_blockname.ensures c.in_ok-check_column.ensures _ c.in_ok-block_values.ensures.ok
     c.in_ok-columns.columns c.in_ok-columns.ensures.ok
     (rw (c.as_slice-derived.ensures, c.as_slice.ensures, c.in_ok-block_name.ensures) at

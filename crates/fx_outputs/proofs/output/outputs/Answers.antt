@@ -10,7 +10,7 @@ use Rattle.fx_outputs.proofs.Limits.{all_within}
 use Rattle.fx_outputs.proofs.Statements.{refused, read, passed, one_more_plan}
 use Rattle.fx_outputs.proofs.Taken.{few_rows, new_name}
 use Rattle.fx_outputs.proofs.output.outputs.Goals as goal
-use Rattle.fx_outputs.proofs.output.outputs.Goals.{then-is_output+in_ok-output+in_ok-plan+in_ok-push+in_ok-push-2, else-is_output}
+use Rattle.fx_outputs.proofs.output.outputs.Goals.{then-is_output+in_ok-options+in_ok-output+in_ok-plan+in_ok-push+in_ok-push-2, else-is_output}
 
 pub returns-in_err-output-clause-refused : goal.returns-in_err-output-clause-refused
 returns-in_err-output-clause-refused c =
@@ -20,7 +20,7 @@ returns-in_err-output-clause-refused c =
     let s = c.statement-item.result in
     let reason = c.in_err-output.field-0.0 in
     let left = drop-cons all i s (omega arith) ∙ ap (λ v. v ∷ drop (suc i) all) (sym c.statement-item.is) in
-    let one = rw c.from.ensures at c.in_err-output.ensures.refused in
+    let one = rw (c.as_slice.ensures, c.in_ok-options.ensures, c.from.ensures) at c.in_err-output.ensures.refused in
     let first = rw c.lexemes-lexemes.ensures at c.index-lexemes-0.is in
     let third = rw c.lexemes-lexemes.ensures at c.index-lexemes-3.is in
     let more =
@@ -28,19 +28,19 @@ returns-in_err-output-clause-refused c =
     c.index-lexemes-3.result reason c.if-is_output.ensures first third one in
     let whole : IsRefused (outputs_of context c.args.earlier.now all) reason =
     rw (c.loop-statement.invariant.meaning, left) more in
-    let p = err_from_is_err_and c.from_residual.result c.from_residual.ensures.1 in
+    let p = err_from_is_err_and c.from_residual-in_err-output.result c.from_residual-in_err-output.ensures.1 in
     rw (p.1, p.2) whole
 
 pub plan_behind-requires : goal.plan_behind-requires
 plan_behind-requires c =
     few_rows c.args.context.now c.loop-statement.earlier c.index-lexemes-0.result c.index-lexemes-3.result
-    c.from.result c.in_ok-output.output c.in_ok-output.ensures.ok
+    c.as_slice.result.now c.in_ok-output.output c.in_ok-output.ensures.ok
 
 pub push-requires : goal.push-requires
 push-requires c =
     rw c.in_ok-plan.ensures
     (new_name c.args.context.now c.loop-statement.earlier c.index-lexemes-0.result c.index-lexemes-3.result
-    c.from.result c.in_ok-output.output c.in_ok-output.ensures.ok)
+    c.as_slice.result.now c.in_ok-output.output c.in_ok-output.ensures.ok)
 
 pub loop-statement-preserved : goal.loop-statement-preserved
 loop-statement-preserved c =
@@ -53,8 +53,8 @@ loop-statement-preserved c =
     let left = drop-cons all i s (omega arith) ∙ ap (λ v. v ∷ drop (suc i) all) (sym c.statement-item.is) in
     let so_far = c.loop-statement.invariant.meaning ∙ ap (outputs_behind context earlier outputs) left in
     elim c.if-is_output.branch [
-      | then-is_output+in_ok-output+in_ok-plan+in_ok-push+in_ok-push-2 w ↦
-          let one = rw w.from.ensures at w.in_ok-output.ensures.ok in
+      | then-is_output+in_ok-options+in_ok-output+in_ok-plan+in_ok-push+in_ok-push-2 w ↦
+          let one = rw (w.as_slice.ensures, w.in_ok-options.ensures, w.from.ensures) at w.in_ok-output.ensures.ok in
           let first = rw w.lexemes-lexemes.ensures at w.index-lexemes-0.is in
           let third = rw w.lexemes-lexemes.ensures at w.index-lexemes-3.is in
           let more =
