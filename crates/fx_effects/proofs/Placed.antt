@@ -119,22 +119,22 @@ module _ (P : ℕ → ℕ → Type 0) where
   lists q factors s front h = of_word (slice_get s 1) (placed.at P 1 s h)
     where
       list : List Written
-      list = after symbol.Open s
+      list = drop 4 s
 
       rest : List Written
       rest = after symbol.Close list
 
       in_list : ArePlaced P list
-      in_list = placed.after_it P symbol.Open s h
+      in_list = placed.dropped P 4 s h
 
       in_rest : ArePlaced P rest
       in_rest = placed.after_it P symbol.Close list in_list
 
-      of_word : (w : Option Written) → IfSome w (IsPlaced P) → Placed P (by_word q factors w (after symbol.Open s))
+      of_word : (w : Option Written) → IfSome w (IsPlaced P) → Placed P (by_word q factors w (drop 4 s))
       of_word None k = placed.here P 2 (record { line = 1; column = 1 }) refl front
       of_word (Some w) k =
           two q factors w (preceding symbol.Close list) (first_or w rest)
-          (preceding symbol.Close (after symbol.Open rest)) k
+          (preceding symbol.Close (drop 3 rest)) k
           (placed.before_it P symbol.Close list in_list)
           (or_first w rest k in_rest)
-          (placed.before_it P symbol.Close (after symbol.Open rest) (placed.after_it P symbol.Open rest in_rest))
+          (placed.before_it P symbol.Close (drop 3 rest) (placed.dropped P 3 rest in_rest))

@@ -279,7 +279,7 @@ module _ (factors : List (List ℕ)) where
   all_told q word written (Ok lists) is apart =
       let rest = after Close written in
       can_be_told q lists
-      (lists_at-of q word (preceding Close written) (first_or word rest) (preceding Close (after Open rest)) lists is)
+      (lists_at-of q word (preceding Close written) (first_or word rest) (preceding Close (drop 3 rest)) lists is)
       apart
   all_told q word written (Err stop) is apart = tt
 
@@ -290,17 +290,17 @@ module _ (factors : List (List ℕ)) where
       × (length lists.nonnegligible ≤ 100000)
   lists_told few q statement lists is = go (slice_get statement 1) is
     where
-      go : (word : Option Written) → by_word q factors word (after Open statement) ≡ Ok lists
+      go : (word : Option Written) → by_word q factors word (drop 4 statement) ≡ Ok lists
           → CanBeTold q s lists.estimate lists.nonnegligible × (length lists.estimate ≤ 100000)
           × (length lists.nonnegligible ≤ 100000)
       go None is = absurd (cc is)
       go (Some word) is =
-          let written = after Open statement in
+          let written = drop 4 statement in
           let rest = after Close written in
-          let of = lists_at-of q word (preceding Close written) (first_or word rest) (preceding Close (after Open rest))
+          let of = lists_at-of q word (preceding Close written) (first_or word rest) (preceding Close (drop 3 rest))
           lists
           is in
           let apart =
-          lists_at-apart few q word (preceding Close written) (first_or word rest) (preceding Close (after Open rest))
+          lists_at-apart few q word (preceding Close written) (first_or word rest) (preceding Close (drop 3 rest))
           lists is in
           (can_be_told q lists of apart, apart.few_estimate, apart.few_nonnegligible)

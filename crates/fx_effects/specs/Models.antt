@@ -1,9 +1,9 @@
 -- What a MODEL statement with ESTIMATE asks for.
 use Rattle.std.specs.Prelude.{ℕ, ◌≤◌, ◌==◌, IsTrue, nat_le, not, List, [], ◌∷◌, length, filter, Option, Some, None}
-use Rattle.std.specs.Prelude.{Result, Ok, Err, slice_get, if◌then◌else◌}
+use Rattle.std.specs.Prelude.{Result, Ok, Err, drop, slice_get, if◌then◌else◌}
 use Rattle.std.specs.List.{list_all, list_any}
 use Rattle.fx_language.specs.declared.code.TheConstants.{TOO_MANY_DEMANDS, UNEXPECTED_SYMBOL}
-use Rattle.fx_language.specs.declared.symbol.Symbol.TheVariants.{Close, Open}
+use Rattle.fx_language.specs.declared.symbol.Symbol.TheVariants.{Close}
 use Rattle.fx_text.specs.declared.refusal.Refusal.{Refusal}
 use Rattle.fx_text.specs.Phrases.{after, preceding}
 use Rattle.fx_text.specs.Written.{Written}
@@ -58,11 +58,12 @@ lists_at q factors word written other_word other_written =
     check_some_effects word first >>= (λ some.
     told_apart q word first second)))))
 
--- what follows `MODEL ESTIMATE = (`, at the word ESTIMATE: a list, and after its `)` the second word and its list
+-- what follows `MODEL ESTIMATE = (`, at the word ESTIMATE: a list, and after its `)` the second word, `=`, `(` and its
+-- list
 abbrev pub lists_after : ℕ → List (List ℕ) → Written → List Written → Result EffectLists Refusal
 lists_after q factors word written =
     lists_at q factors word (preceding Close written) (first_or word (after Close written))
-    (preceding Close (after Open (after Close written)))
+    (preceding Close (drop 3 (after Close written)))
 
 -- where nothing follows MODEL, which the grammar refuses too, there is no word to be named
 abbrev pub by_word : ℕ → List (List ℕ) → Option Written → List Written → Result EffectLists Refusal
@@ -71,4 +72,4 @@ by_word q factors (Some word) written = lists_after q factors word written
 
 -- the lists of a statement `MODEL ESTIMATE = ( .. )`, which may go on by `NONNEGLIGIBLE = ( .. )`
 abbrev pub lists_of : ℕ → List (List ℕ) → List Written → Result EffectLists Refusal
-lists_of q factors statement = by_word q factors (slice_get statement 1) (after Open statement)
+lists_of q factors statement = by_word q factors (slice_get statement 1) (drop 4 statement)

@@ -67,7 +67,7 @@ pub fn effects_of(
             Place { line: 1, column: 1 },
             code::UNEXPECTED_SYMBOL,
         ))),
-        Some(word) => effects_after(alloc, field, factors, word, &statement.after(Symbol::Open)),
+        Some(word) => effects_after(alloc, field, factors, word, &statement.from(4)),
     }
 }
 
@@ -88,7 +88,7 @@ fn effects_after<'a>(
     let rest = written.after(Symbol::Close);
     let other_word = first_or(word, &rest);
     let first = written.before(Symbol::Close);
-    let others = rest.after(Symbol::Open).before(Symbol::Close);
+    let others = rest.from(3).before(Symbol::Close);
     lists_at(
         alloc,
         field,

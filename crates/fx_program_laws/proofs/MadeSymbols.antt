@@ -20,6 +20,7 @@ use Rattle.fx_language.specs.Keywords.{symbol_of, symbols_of}
 use Rattle.fx_language.specs.Grammar.{program}
 use Rattle.fx_language.specs.Refusals.{refused}
 use Rattle.fx_language.specs.declared.repeated.Past.{Past}
+use Rattle.fx_language.specs.SymbolSets.{empty, including}
 use Rattle.fx_language.specs.Pasts.{past_of, past_after, rule_code}
 use Rattle.fx_language.specs.Continuations.{in_step}
 use Rattle.fx_language.specs.Repeats.{repeated, or_later, rule_at, begins_with}
@@ -202,18 +203,9 @@ after_step n = record {
   behind_equals = false;
   in_brackets = false;
   procs = n;
-  step = record { run = true; factors = true; size = true; model = true; blocks = false; foldover = false };
-  statement =
-      record {
-        proc = false;
-        output = false;
-        nodes = false;
-        pointrep = false;
-        designrep = false;
-        randomize = false;
-        novalran = false;
-        blockname = false;
-      };
+  step = including Run (including Model (including Size (including Factors empty)));
+  begun = Semicolon;
+  options = empty;
 }
 
 -- at the front
@@ -223,18 +215,9 @@ at_front = record {
   behind_equals = false;
   in_brackets = false;
   procs = 0;
-  step = record { run = false; factors = false; size = false; model = false; blocks = false; foldover = false };
-  statement =
-      record {
-        proc = false;
-        output = false;
-        nodes = false;
-        pointrep = false;
-        designrep = false;
-        randomize = false;
-        novalran = false;
-        blockname = false;
-      };
+  step = empty;
+  begun = Semicolon;
+  options = empty;
 }
 
 walk_of_step : (least : Bool) (n : ℕ) (rest : List Symbol) → n < 100

@@ -19,8 +19,8 @@ use Rattle.fx_settings.specs.declared.said.BlocksSaid.{BlocksSaid}
 use Rattle.fx_settings.specs.declared.said.StepSaid.{StepSaid}
 use Rattle.fx_settings.specs.declared.rule.Rule.{Rule}
 use Rattle.fx_settings.specs.declared.settings.StepSettings.{StepSettings}
-use Rattle.fx_settings.specs.Said.{value_at, value_after_equals, first_place, last_place, size_said, resolution_said}
-use Rattle.fx_settings.specs.Said.{model_said, blocks_said, step_said}
+use Rattle.fx_settings.specs.Said.{value_at, value_after_equals, setting_of, size_said, model_said, blocks_said}
+use Rattle.fx_settings.specs.Said.{nodes_said, step_said}
 use Rattle.fx_settings.specs.Rules.{first_refusal, unless_refused}
 use Rattle.fx_settings.specs.Settings.{value_place, size_place, resolution_place, minabs_place, blocks_place}
 use Rattle.fx_settings.specs.Settings.{block_value_place, rules, undivided, unblocked_of, block_rules, divided}
@@ -70,37 +70,36 @@ module _ (P : ℕ → ℕ → Type 0) where
       mapped value_at (IsValuePlaced P) (slice_get (after symbol.Equals s) 0)
       (placed.at P 0 _ (placed.after_it P symbol.Equals s h)) (λ w k. k)
 
-  last : (which : Symbol) (s : List Written) → ArePlaced P s → IfSome (last_place which s) (IsPlace P)
-  last which s h = of_front (drop (length s - 1) s) (placed.dropped P _ s h)
-    where
-      by_test : (b : Bool) (w : Written) → IsPlaced P w → IfSome (if b then Some (place_at w) else None) (IsPlace P)
-      by_test true w h = h
-      by_test false w h = tt
-
-      of_front : (l : List Written) → ArePlaced P l → IfSome (first_place which l) (IsPlace P)
-      of_front [] h = tt
-      of_front (w ∷ l) h = by_test (is which w.symbol) w h.0
+  setting : (s : List Written) → ArePlaced P s → IfSome (setting_of s) (λ x. IsValuePlaced P x.value)
+  setting [] h = tt
+  setting (a ∷ []) h = tt
+  setting (a ∷ b ∷ []) h = tt
+  setting (a ∷ b ∷ c ∷ []) h = tt
+  setting (a ∷ b ∷ c ∷ d ∷ s) h = h.1.1.1.0
 
   sizes : (s : List Written) → ArePlaced P s → IfSome (size_said s) (IsSizePlaced P)
-  sizes s h = mapped _ (IsSizePlaced P) (value_after_equals s) (value s h) (λ v k. k)
+  sizes s h = mapped _ (IsSizePlaced P) (setting_of s) (setting s h) (λ x k. k)
 
   models : (s : List Written) → ArePlaced P s → IfSome (model_said s) (IsModelPlaced P)
-  models s h = by_test (begins symbol.Estimate (drop 1 s))
+  models s h =
+      mapped _ (IsModelPlaced P) (setting_of s) (setting s h)
+      (λ x k. (
+        resolution (is symbol.Estimate x.word) x.value k,
+        mapped place_at (IsPlace P) (slice_get (after symbol.Slash s) 0)
+            (placed.at P 0 _ (placed.after_it P symbol.Slash s h)) (λ w at. at),
+      ))
     where
-      minabs : Option Place
-      minabs = last_place symbol.Minabs s
-
-      at_minabs : IfSome minabs (IsPlace P)
-      at_minabs = last symbol.Minabs s h
-
-      by_test : (b : Bool) → let effects : Option ModelSaid = Some (record { resolution = None; minabs = minabs }) in
-          IfSome (if b then effects else option_map (resolution_said minabs) (value_after_equals s)) (IsModelPlaced P)
-      by_test true = (tt, at_minabs)
-      by_test false = mapped _ (IsModelPlaced P) (value_after_equals s) (value s h) (λ v k. (k, at_minabs))
+      resolution : (b : Bool) (v : Value) → IsValuePlaced P v → IfSome (if b then None else Some v) (IsValuePlaced P)
+      resolution true v k = tt
+      resolution false v k = k
 
   in_blocks : (s : List Written) → P 1 1 → ArePlaced P s → IfSome (blocks_said s) (AreBlocksPlaced P)
   in_blocks s front h =
-      mapped _ (AreBlocksPlaced P) (value_after_equals s) (value s h) (λ v k. (placed.start P s front h, k))
+      mapped _ (AreBlocksPlaced P) (setting_of s) (setting s h) (λ x k. (placed.start P s front h, k))
+
+  budget : (s : List Written) → ArePlaced P s → IfSome (nodes_said s) (IsValuePlaced P)
+  budget s h =
+      mapped _ (IsValuePlaced P) (setting_of (drop 1 s)) (setting (drop 1 s) (placed.dropped P 1 s h)) (λ x k. k)
 
   pub said : (proc factors : List Written) (statements : List (List Written)) → P 1 1 → ArePlaced P proc
       → ArePlaced P factors → AreAllPlaced P statements → IsSaidPlaced P (step_said proc factors statements)
@@ -109,7 +108,7 @@ module _ (P : ℕ → ℕ → Type 0) where
       record {
         factors = placed.start P factors front in_factors;
         levels = value factors in_factors;
-        nodes = value proc in_proc;
+        nodes = budget proc in_proc;
         size = chained size_said (IsSizePlaced P) _ (found symbol.Size) sizes;
         model = chained model_said (IsModelPlaced P) _ (found symbol.Model) models;
         blocks = chained blocks_said (AreBlocksPlaced P) _ (found symbol.Blocks) (λ s. in_blocks s front);

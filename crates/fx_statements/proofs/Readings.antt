@@ -12,8 +12,7 @@ use Rattle.fx_text.specs.Phrases.{after, preceding, has_symbol}
 use Rattle.fx_text.specs.Sentences.{IsStatement}
 use Rattle.fx_text.proofs.ByLexemes.{Reads, by_lexemes, before_end, lacking, semicolon}
 use Rattle.fx_text.proofs.Lacking.{after_part, before_part}
-use Rattle.fx_effects.specs.Models.{first_or, lists_at, lists_after, lists_of}
-use Rattle.fx_settings.proofs.Readings.{turned}
+use Rattle.fx_effects.specs.Models.{first_or, lists_at, lists_of}
 use Rattle.fx_statements.specs.Readings.{HasList, IsSecondRead, IsModelRead}
 
 -- a word, `=`, and effects in parentheses, before what `next` describes
@@ -76,24 +75,11 @@ before text more l = record {
   between = l.between;
 }
 
--- what is after the first `(`
-after_open : (w q o : Written) (l : List Written) → is symbol.Open w.symbol ≡ false → is symbol.Open q.symbol ≡ false
-    → is symbol.Open o.symbol ≡ true → after symbol.Open (w ∷ q ∷ o ∷ l) ≡ l
-after_open w q o l hw hq ho = rw (hw, hq, ho) refl
-
-no_second : (rest : List Written) → has_symbol symbol.Open rest ≡ false → IsSecondRead rest
-no_second rest lack =
-    inl (lack, ap (after symbol.Open) (sym (append-nil rest)) ∙ after_part symbol.Open rest [] lack)
-
 one_second : (rest : List Written) (l : HasList rest) → is symbol.Nonnegligible l.word.symbol ≡ true
     → IsSecondRead rest
 one_second rest l word =
-    let between : preceding symbol.Close (after symbol.Open rest) ≡ l.list =
-    ap (λ x. preceding symbol.Close (after symbol.Open x)) l.all
-    ∙ ap (preceding symbol.Close)
-    (after_open l.word l.equals l.open_ (l.list ++ l.close ∷ l.rest)
-    (turned symbol.Nonnegligible symbol.Open l.word.symbol word)
-    (turned symbol.Equals symbol.Open l.equals.symbol l.sign) l.opens)
+    let between : preceding symbol.Close (drop 3 rest) ≡ l.list =
+    ap (λ (x : List Written). preceding symbol.Close (drop 3 x)) l.all
     ∙ before_part symbol.Close l.list l.close l.rest l.between l.closes in
     inr (l, word, between)
 
@@ -113,23 +99,15 @@ ending text (a1, b1, w, (a2, b2, q, (a3, b3, o, (a4, b4, f, (a5, b5, fs, c, i5),
       i1,
     )
 
-read_lists : (model : Written) (parts : List Written) (first : HasList parts) → is symbol.Model model.symbol ≡ true
-    → is symbol.Estimate first.word.symbol ≡ true → (q : ℕ) (factors : List (List ℕ))
+read_lists : (model : Written) (parts : List Written) (l : HasList parts) (q : ℕ) (factors : List (List ℕ))
     → lists_of q factors (model ∷ parts)
-    ≡ lists_at q factors first.word first.list (first_or first.word first.rest)
-    (preceding symbol.Close (after symbol.Open first.rest))
-read_lists model parts l tm te q factors =
-    let x : List Written = l.list ++ l.close ∷ l.rest in
-    let opened : after symbol.Open (model ∷ l.word ∷ l.equals ∷ l.open_ ∷ x) ≡ x =
-    rw (turned symbol.Model symbol.Open model.symbol tm)
-    (after_open l.word l.equals l.open_ x (turned symbol.Estimate symbol.Open l.word.symbol te)
-    (turned symbol.Equals symbol.Open l.equals.symbol l.sign) l.opens) in
-    let closed : after symbol.Close x ≡ l.rest =
+    ≡ lists_at q factors l.word l.list (first_or l.word l.rest) (preceding symbol.Close (drop 3 l.rest))
+read_lists model parts l q factors =
+    let closed : after symbol.Close (l.list ++ l.close ∷ l.rest) ≡ l.rest =
     after_part symbol.Close l.list (l.close ∷ l.rest) l.between ∙ rw l.closes refl in
     ap (λ (p : List Written). lists_of q factors (model ∷ p)) l.all
-    ∙ ap (lists_after q factors l.word) opened
     ∙ ap₂ (λ (first rest : List Written). lists_at q factors l.word first (first_or l.word rest)
-    (preceding symbol.Close (after symbol.Open rest)))
+    (preceding symbol.Close (drop 3 rest)))
     (before_part symbol.Close l.list l.close l.rest l.between l.closes) closed
 
 -- what the grammar has after the first list
@@ -143,12 +121,19 @@ after_first =
 abbrev options : Shape
 options = Either (Before (One (is symbol.Slash)) (Before (One (is symbol.Minabs)) grammar.no_open)) Empty
 
+short : (text : List Written) → Reads options text → drop 3 text ≡ []
+short text (inl (x, y, (a, ha, ea), (p, q, b, inr fault, i2), i1)) = absurd fault
+short text (inl (x, y, (a, ha, ea), (p, q, (b, hb, eb), inl none, i2), i1)) =
+    let all : text ≡ a ∷ b ∷ [] = rw (ea, i2, eb, none) at i1 in
+    ap (λ (l : List Written). drop 3 l) all
+short text (inr empty) = ap (λ (l : List Written). drop 3 l) empty
+
 second_of : (rest more : List Written) → Reads after_first rest → Reads options more → IsSecondRead (rest ++ more)
 second_of rest more (inl n) o =
     let u = ending rest n in
     one_second (rest ++ more) (before rest more u.list) u.word_is
 second_of rest more (inr empty) o =
-    rw empty (no_second more (lacking symbol.Open options more refl o))
+    rw empty (inl (lacking symbol.Open options more refl o, short more o))
 
 pub model_law : (s : List Written) → IsStatement grammar.model s
     → IsModelRead s ⊎ (begins symbol.Resolution (drop 1 s) ≡ true)
@@ -172,7 +157,7 @@ model_law s by_grammar = read (by_lexemes grammar.model s by_grammar)
           word = t.word_is;
           second = second_of t.list.rest x2 t.next_is opt;
           read = λ q factors. ap (lists_of q factors) all
-              ∙ read_lists k (x1 ++ x2) first tk t.word_is q factors;
+              ∙ read_lists k (x1 ++ x2) first q factors;
         })
     read (x0, r0, (k, tk, ek), (x1, r1, inr (p, y, (r, tr, er), v, j), (x2, r2, opt, (z, tz, ez), e2), e1), e0) =
         let all : s ≡ k ∷ x1 ++ x2 = whole k x1 x2 z (rw (ek, e1, e2, ez) at e0) in

@@ -1,12 +1,12 @@
 -- That the lists of MODEL are read between the parentheses that the grammar has, and the sections of EXAMINE where it
 -- has them.
-use Rattle.std.specs.Prelude.{◌≡◌, ◌⊎◌, ℕ, true, false, List, [], ◌∷◌, ◌++◌}
+use Rattle.std.specs.Prelude.{◌≡◌, ◌⊎◌, ℕ, true, false, List, [], ◌∷◌, ◌++◌, drop}
 use Rattle.std.specs.List.{AllByRecursion}
 use Rattle.fx_language.specs.declared.symbol.Symbol.{Symbol}
 use Rattle.fx_language.specs.declared.symbol.Symbol.TheVariants as symbol
 use Rattle.fx_language.specs.Symbols.{is, is_section}
 use Rattle.fx_text.specs.Written.{Written}
-use Rattle.fx_text.specs.Phrases.{after, preceding, has_symbol}
+use Rattle.fx_text.specs.Phrases.{preceding, has_symbol}
 use Rattle.fx_effects.specs.Models.{first_or, lists_at, lists_of}
 
 -- a list of effects with its word: `word = ( list )`, where no `)` is in the list
@@ -27,9 +27,9 @@ pub record HasList (written : List Written) : Type 0 where
 -- parentheses
 abbrev pub IsSecondRead : List Written → Type 0
 IsSecondRead rest =
-    ((has_symbol symbol.Open rest ≡ false) × (after symbol.Open rest ≡ []))
+    ((has_symbol symbol.Open rest ≡ false) × (drop 3 rest ≡ []))
     ⊎ ((second : HasList rest) × (is symbol.Nonnegligible second.word.symbol ≡ true)
-    × (preceding symbol.Close (after symbol.Open rest) ≡ second.list))
+    × (preceding symbol.Close (drop 3 rest) ≡ second.list))
 
 -- what is read from a MODEL statement with ESTIMATE
 pub record IsModelRead (s : List Written) : Type 0 where
@@ -42,7 +42,7 @@ pub record IsModelRead (s : List Written) : Type 0 where
   pub read : (q : ℕ) (factors : List (List ℕ))
       → lists_of q factors s
       ≡ lists_at q factors first.word first.list (first_or first.word first.rest)
-      (preceding symbol.Close (after symbol.Open first.rest))
+      (preceding symbol.Close (drop 3 first.rest))
 
 -- what is read from an EXAMINE statement: its words after the first, each of which is a section
 pub record AreSectionsRead (s : List Written) : Type 0 where

@@ -7,7 +7,7 @@ returns-clause-refused c =
       c.lexemes-2.ensures,
       c.before-first.ensures,
       c.before-others.ensures,
-      c.after.ensures,
+      c.from.ensures,
       c.first_or-other_word.ensures,
       c.after-rest.ensures,
     ) at c.lists_at.ensures.refused
