@@ -21,7 +21,7 @@ record Listed (first : Symbol) (next : Shape) (text : List Written) : Type 0 whe
   word_is : is first list.word.symbol ≡ true
   next_is : Reads next list.rest
 
-listed : (first : Symbol) (next : Shape) (text : List Written)
+abbrev listed : (first : Symbol) (next : Shape) (text : List Written)
     → Reads (Before (One (is first))
     (Before (One (is symbol.Equals))
     (Before (One (is symbol.Open))
@@ -59,7 +59,7 @@ listed first next text (
 }
 
 -- the list, where more is written
-before : (text more : List Written) → HasList text → HasList (text ++ more)
+abbrev before : (text more : List Written) → HasList text → HasList (text ++ more)
 before text more l = record {
   word = l.word;
   equals = l.equals;
@@ -84,7 +84,7 @@ one_second rest l word =
     inr (l, word, between)
 
 -- the list at the end of its description
-ending : (text : List Written)
+abbrev ending : (text : List Written)
     → Reads (Before (One (is symbol.Nonnegligible))
     (Before (One (is symbol.Equals))
     (Before (One (is symbol.Open))
