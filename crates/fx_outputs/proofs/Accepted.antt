@@ -87,4 +87,3 @@ pub wanted_values : (n : ℕ) (written : List Written) (values : List (List ℕ)
     → values_if_any (Some n) written ≡ Ok values → values ≢ [] → length values ≡ n
 wanted_values n [] values e = let none : [] ≡ values = cc e in λ some. absurd (some (sym none))
 wanted_values n (word ∷ rest) values e = λ some. as_many n word (values_of rest) values e
-

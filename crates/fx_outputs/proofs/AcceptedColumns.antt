@@ -23,7 +23,8 @@ use Rattle.fx_outputs.specs.Contexts.{Context}
 use Rattle.fx_outputs.specs.Values.{values_of, checked_values, values_if_any}
 use Rattle.fx_outputs.specs.BlockColumns.{name_or_empty}
 use Rattle.fx_outputs.specs.DerivedFactors.{AreDerived, AreFree, is_bracketed}
-use Rattle.fx_outputs.specs.Columns.{check_size, column_of, columns_behind, columns_of, derived_of, factor_at, has_values}
+use Rattle.fx_outputs.specs.Columns.{check_size, column_of, columns_behind, columns_of, derived_of, factor_at}
+use Rattle.fx_outputs.specs.Columns.{has_values}
 use Rattle.fx_outputs.specs.Columns.{is_used, places_behind, recode_at, recode_of, unused_place, with_derived}
 use Rattle.fx_outputs.specs.Columns.{with_recode}
 use Rattle.fx_outputs.specs.Validity.{IsRecode, AreRecodes}

@@ -23,7 +23,8 @@ use Rattle.fx_outputs.proofs.Accepted.{repeated, values_of_blocks}
 use Rattle.fx_outputs.proofs.AcceptedColumns.{all_columns}
 use Rattle.fx_outputs.proofs.Taken.{each_rep, few_rows, taken}
 
-rows_by : (earlier : List EarlierPlan) (runs each all : ℕ) (point design : Rep) → point ≡ Times each → design ≡ Times all
+rows_by : (earlier : List EarlierPlan) (runs each all : ℕ) (point design : Rep) → point ≡ Times each
+    → design ≡ Times all
     → runs * rep_rows earlier point * rep_rows earlier design ≤ 200000 → runs * each * all ≤ 200000
 rows_by earlier runs each all point design e1 e2 h =
     subst (λ (r : Rep). runs * each * rep_rows earlier r ≤ 200000) e2
@@ -88,7 +89,8 @@ module _ (context : Context) where
       rest)
       (outputs_behind context earlier outputs rest)
       (output_within earlier a d (options_of (d ∷ options)))
-      (λ output good more. within rest (earlier ++ plan_behind context earlier output ∷ []) (outputs ++ output ∷ []) all good more)
+      (λ output good more. within rest (earlier ++ plan_behind context earlier output ∷ []) (outputs ++ output ∷ []) all
+          good more)
       (λ more. within rest earlier outputs all h more) h e
 
   pub all_within : (earlier : List EarlierPlan) (statements : List (List Written)) (all : List OutputSpec)

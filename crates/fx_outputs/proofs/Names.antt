@@ -7,7 +7,8 @@ use Rattle.std.proofs.lemmas.List.{append-nil, map-append}
 use Rattle.std.proofs.lemmas.List.Elements.{All-nil, All-push}
 use Rattle.fx_base.proofs.Lists.{each-all}
 use Rattle.fx_language.specs.declared.symbol.Symbol.{Symbol}
-use Rattle.fx_language.specs.declared.symbol.Symbol.TheVariants.{Output, Blockname, Designrep, Novalran, OpenBracket, Pointrep, Randomize}
+use Rattle.fx_language.specs.declared.symbol.Symbol.TheVariants.{Output, Blockname, Designrep, Novalran, OpenBracket}
+use Rattle.fx_language.specs.declared.symbol.Symbol.TheVariants.{Pointrep, Randomize}
 use Rattle.fx_language.specs.Symbols.{is, is_output_option, is_word}
 use Rattle.fx_text.specs.declared.refusal.Refusal.{Refusal}
 use Rattle.fx_text.specs.Names.{IsName, is_same_name, place_of}
@@ -89,7 +90,8 @@ block_option o (inl (x, y, (w, hw, ew), h, i)) = another o w y (is Pointrep) hw 
 block_option o (inr (inl (x, y, (w, hw, ew), h, i))) = another o w y (is Designrep) hw refl (rw ew at i)
 block_option o (inr (inr (inl (x, y, (w, hw, ew), h, i)))) = another o w y (is Randomize) hw refl (rw ew at i)
 block_option o (inr (inr (inr (inl (w, hw, ew))))) = another o w [] (is Novalran) hw refl ew
-block_option o (inr (inr (inr (inr (inl (x1, y1, (b, hb, eb), (x2, y2, (e, he, ee), (x3, y3, (w, hw, ew), v, i3), i2), i1)))))) =
+block_option o
+    (inr (inr (inr (inr (inl (x1, y1, (b, hb, eb), (x2, y2, (e, he, ee), (x3, y3, (w, hw, ew), v, i3), i2), i1)))))) =
     λ begun. record { word = b; equals = e; name = w; rest = y3; all = rw (eb, i2, ee, i3, ew) at i1; is_name = hw }
 block_option o (inr (inr (inr (inr (inr (inl (x, y, (w, hw, ew), h, i))))))) =
     another o w y (λ s. is_word s && not (is_output_option s)) hw refl (rw ew at i)
@@ -103,7 +105,8 @@ block_found (o ∷ options) each = by_test (begins Blockname o) refl (block_foun
   where
     by_test : (b : Bool) → begins Blockname o ≡ b
         → (option_of Blockname options ≡ []) ⊎ HasBlockName (option_of Blockname options)
-        → ((if b then o else option_of Blockname options) ≡ []) ⊎ HasBlockName (if b then o else option_of Blockname options)
+        → ((if b then o else option_of Blockname options) ≡ [])
+        ⊎ HasBlockName (if b then o else option_of Blockname options)
     by_test true begun later = inr (block_option o (reads grammar.option o (symbols_in o) refl each.0) begun)
     by_test false other later = later
 

@@ -1,5 +1,6 @@
 -- The options of an OUTPUT statement are those of the grammar.
-use Rattle.std.proofs.Common.{◌≡◌, ℕ, suc, Bool, true, false, List, [], ◌∷◌, ◌++◌, length, refl, sym, ap, subst, ◌∙◌, inl, inr}
+use Rattle.std.proofs.Common.{◌≡◌, ℕ, suc, Bool, true, false, List, [], ◌∷◌, ◌++◌, length, refl, sym, ap, subst, ◌∙◌}
+use Rattle.std.proofs.Common.{inl, inr}
 use Rattle.std.proofs.Common.{append_assoc, get_or}
 use Rattle.std.specs.Prelude.{not, ◌&&◌, ◌||◌, if◌then◌else◌, take}
 use Rattle.std.specs.List.{AllByRecursion, flat_map, list_all}
@@ -82,7 +83,8 @@ further : (done : List (List Written)) (inside : Bool) (before : Written) (rest 
     → options_behind done inside (before ∷ rest) ≡ options_behind done (are_open_behind inside before) rest
 further done inside before rest h =
     let within = are_open_behind inside before in
-    ap (λ (b : Bool). options_behind (if b then done ++ take (option_len within rest) rest ∷ [] else done) within rest) h
+    ap (λ (b : Bool). options_behind (if b then done ++ take (option_len within rest) rest ∷ [] else done) within rest)
+      h
 
 pass : (done : List (List Written)) (inside : Bool) (before : Written) (more rest : List Written)
     → Quiet inside before more rest → Reached done inside (before ∷ more ++ rest) rest
@@ -177,7 +179,11 @@ ended a f x y h (u, v, (parts, each, fl), c, i) =
     (both (flat_map (λ part. part) parts) v (flat a f parts each) (one_key symbol.Close v refl refl refl refl c)))
 
 values_read : (x : List Written) → Reads grammar.values x → HasValues x
-values_read x (inl h) = values_of symbol.Nvals (Before (Either (One (is symbol.Minus)) Empty) (Before (Either grammar.n (One (is symbol.Decimal))) (Before (Many grammar.value) (One (is symbol.Close))))) numbers refl refl refl x h
+values_read x (inl h) =
+    values_of symbol.Nvals
+      (Before (Either (One (is symbol.Minus)) Empty)
+        (Before (Either grammar.n (One (is symbol.Decimal))) (Before (Many grammar.value) (One (is symbol.Close)))))
+      numbers refl refl refl x h
   where
     numbers : (x : List Written)
         → Reads (Before (Either (One (is symbol.Minus)) Empty) (Before (Either grammar.n (One (is symbol.Decimal)))
@@ -185,7 +191,10 @@ values_read x (inl h) = values_of symbol.Nvals (Before (Either (One (is symbol.M
     numbers x (u, y, m, (v, z, k, more, j), i) =
         rw (i, j, sym (append_assoc u v z)) (ended grammar.value value_quiet (u ++ v) z
         (value_quiet (u ++ v) (u, v, m, k, refl)) more)
-values_read x (inr h) = values_of symbol.Cvals (Before (One (is symbol.Quoted)) (Before (Many (One (is symbol.Quoted))) (One (is symbol.Close)))) texts refl refl refl x h
+values_read x (inr h) =
+    values_of symbol.Cvals
+      (Before (One (is symbol.Quoted)) (Before (Many (One (is symbol.Quoted))) (One (is symbol.Close)))) texts refl refl
+      refl x h
   where
     text : (x : List Written) → Reads (One (is symbol.Quoted)) x → AllByRecursion IsQuiet x
     text x h = one_key symbol.Quoted x refl refl refl refl h
@@ -201,8 +210,10 @@ values_go_on : (inside : Bool) (before : Written) (x rest : List Written) → ar
 values_go_on inside before x rest closed h =
     let q = h.each in
     rw h.all (
-      passed (are_open_behind inside before) before h.word (h.sign ∷ h.first ∷ h.more ++ rest) h.word_is, (
-        passed _ h.word h.sign (h.first ∷ h.more ++ rest) (rw h.sign_is refl), (
+      passed (are_open_behind inside before) before h.word (h.sign ∷ h.first ∷ h.more ++ rest) h.word_is,
+      (
+        passed _ h.word h.sign (h.first ∷ h.more ++ rest) (rw h.sign_is refl),
+        (
           passed _ h.sign h.first (h.more ++ rest) (rw (q.0.bracket, q.0.option, q.0.word) refl),
           all_quiet _ h.first h.more rest (rw (closed, h.no_bracket, h.sign_is, q.0.bracket) refl) q.0.sign q.1,
         ),
@@ -227,8 +238,10 @@ module _ (rest : List Written) where
         all = rw (ew, i2, ee, ev) at i1;
         begins_it = starts w (e ∷ v ∷ rest) same;
         goes_on = (
-          passed _ w e (v ∷ rest) (rw sign refl), (
-            behind_sign (are_open_behind (are_open_behind false w) e) e v rest sign, (
+          passed _ w e (v ∷ rest) (rw sign refl),
+          (
+            behind_sign (are_open_behind (are_open_behind false w) e) e v rest sign,
+            (
               rw (sign, same, b, apart symbol.OpenBracket (λ s. is symbol.Whole s || is_word s) v.symbol refl hv) refl,
               apart symbol.Equals (λ s. is symbol.Whole s || is_word s) v.symbol refl hv,
             ),
@@ -239,7 +252,8 @@ module _ (rest : List Written) where
   column : (w e n : Written) (x : List Written) → are_open_behind false w ≡ false → e.symbol ≡ symbol.Equals
       → is_word n.symbol ≡ true → Reads (Either grammar.values Empty) x → Quiet false w (e ∷ n ∷ x) rest
   column w e n x closed sign word v = (
-    passed _ w e (n ∷ x ++ rest) (rw sign refl), (
+    passed _ w e (n ∷ x ++ rest) (rw sign refl),
+    (
       behind_sign (are_open_behind (are_open_behind false w) e) e n (x ++ rest) sign,
       maybe_values _ n x rest (rw (closed, sign, apart symbol.OpenBracket is_word n.symbol refl word) refl)
           (apart symbol.Equals is_word n.symbol refl word) v,
@@ -259,13 +273,17 @@ module _ (rest : List Written) where
       closing (m ∷ more) q = rw ends (rw ends at q)
   in_brackets inside before (part ∷ names) c more opened ((n, word, e), each) ends later =
       let tail = in_brackets true n names c more
-      (rw (apart symbol.OpenBracket is_word n.symbol refl word, apart symbol.CloseBracket is_word n.symbol refl word) refl)
+      (rw (apart symbol.OpenBracket is_word n.symbol refl word, apart symbol.CloseBracket is_word n.symbol refl word)
+          refl)
       each ends later in
       rw e (rw opened refl, rw opened tail)
 
   bracketed : (p : List Written) → Reads grammar.derived p → IsPart p rest
   bracketed p
-      (x1, y1, (o, ho, eo), (x2, y2, n, (x3, y3, (names, each, fl), (x4, y4, (c, hc, ec), (x5, y5, (e, he, ee), (x6, y6, (w, hw, ew), v, i6), i5), i4), i3), i2), i1) =
+      (x1, y1, (o, ho, eo),
+            (x2, y2, n,
+              (x3, y3, (names, each, fl),
+                (x4, y4, (c, hc, ec), (x5, y5, (e, he, ee), (x6, y6, (w, hw, ew), v, i6), i5), i4), i3), i2), i1) =
       let opens = symbol_is symbol.OpenBracket o.symbol ho in
       let ends = symbol_is symbol.CloseBracket c.symbol hc in
       let inner : List Written = flat_map (λ part. part) names in
@@ -303,7 +321,8 @@ module _ (rest : List Written) where
   one_option p (inr (inr (inr (inl (w, hw, ew))))) =
       let same = symbol_is symbol.Novalran w.symbol hw in
       record { first = w; more = []; all = ew; begins_it = rw same refl; goes_on = (rw same refl, rw same refl) }
-  one_option p (inr (inr (inr (inr (inl (x1, y1, (b, hb, eb), (x2, y2, (e, he, ee), (x3, y3, (w, hw, ew), v, i3), i2), i1)))))) =
+  one_option p
+      (inr (inr (inr (inr (inl (x1, y1, (b, hb, eb), (x2, y2, (e, he, ee), (x3, y3, (w, hw, ew), v, i3), i2), i1)))))) =
       let same = symbol_is symbol.Blockname b.symbol hb in
       record {
         first = b;
@@ -345,7 +364,8 @@ next done inside last w more rest closed plain first goes_on later =
     let all : List Written = w ∷ more ++ rest in
     let within = are_open_behind inside last in
     let here : begins_option within last all ≡ true = rw (closed, plain, first) refl in
-    ap (λ (b : Bool). options_behind (if b then done ++ take (option_len within all) all ∷ [] else done) within all) here
+    ap (λ (b : Bool). options_behind (if b then done ++ take (option_len within all) all ∷ [] else done) within all)
+      here
     ∙ ap (λ (b : Bool). options_behind (done ++ take (option_len b all) all ∷ []) b all) closed
     ∙ ap (λ (n : ℕ). options_behind (done ++ take n all ∷ []) false all) (len false w more rest goes_on later)
     ∙ ap (λ (l : List Written). options_behind (done ++ l ∷ []) false all)
@@ -386,7 +406,10 @@ pub options_law : (s : List Written) → IsStatement grammar.output s → AreOpt
 options_law s by_grammar = read (by_lexemes grammar.output s by_grammar)
   where
     read : Reads grammar.output (s ++ semicolon ∷ []) → AreOptionsRead s
-    read (x0, y0, (f, hf, ef), (x1, y1, (o, ho, eo), (x2, y2, (e, he, ee), (x3, y3, (n, hn, en), (x4, y4, (parts, each, fl), (m, hm, em), i4), i3), i2), i1), i0) =
+    read (x0, y0, (f, hf, ef),
+          (x1, y1, (o, ho, eo),
+            (x2, y2, (e, he, ee), (x3, y3, (n, hn, en), (x4, y4, (parts, each, fl), (m, hm, em), i4), i3), i2), i1), i0)
+        =
         let inner : List Written = flat_map (λ part. part) parts in
         let text : s ++ semicolon ∷ [] ≡ (f ∷ o ∷ e ∷ n ∷ inner) ++ m ∷ [] =
         rw (ef, i1, eo, i2, ee, i3, en, i4, fl, em) at i0 in

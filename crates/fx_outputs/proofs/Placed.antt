@@ -214,7 +214,8 @@ module _ (P : ℕ → ℕ → Type 0) where
       (placed.both P (is_some (place_of w.text names) || is_some (place_of w.text later)) _ _
       (placed.written P 34 w refl h) tt) (λ u. tt)
 
-  differing : (names : List (List ℕ)) (all : List (List Written)) → AreAllPlaced P all → Placed P (check_names names all)
+  differing : (names : List (List ℕ)) (all : List (List Written)) → AreAllPlaced P all
+      → Placed P (check_names names all)
   differing names [] h = tt
   differing names (o ∷ all) h =
       placed.chain P (named names (derived_name o) (derived_names all)) _
@@ -241,7 +242,8 @@ module _ (P : ℕ → ℕ → Type 0) where
       plan (slice_get (option_of symbol.Designrep s) 2) design own point
       (placed.at P 2 _ (from symbol.Designrep s h))))
 
-  output : (context : Context) (earlier : List EarlierPlan) (word name : Written) (s : List (List Written)) → IsPlaced P word
+  output : (context : Context) (earlier : List EarlierPlan) (word name : Written) (s : List (List Written))
+      → IsPlaced P word
       → IsPlaced P name → AreAllPlaced P s → Placed P (output_spec context earlier word name s)
   output context earlier word name s at_word at_name h =
       placed.chain P (check_new_name (plan_names earlier) name) _ (new_name (plan_names earlier) name at_name) (λ u.
@@ -276,7 +278,8 @@ module _ (P : ℕ → ℕ → Type 0) where
   all context earlier outputs ((a ∷ b ∷ c ∷ d ∷ opts) ∷ rest) h =
       placed.both P (is symbol.Output a.symbol) _ _
       (placed.chain P (output_spec context earlier a d (options_of (d ∷ opts))) _
-      (output context earlier a d (options_of (d ∷ opts)) h.0.0 h.0.1.1.1.0 (parts.options (IsPlaced P) [] false (d ∷ opts) tt h.0.1.1.1))
+      (output context earlier a d (options_of (d ∷ opts)) h.0.0 h.0.1.1.1.0
+          (parts.options (IsPlaced P) [] false (d ∷ opts) tt h.0.1.1.1))
       (λ o. all context (earlier ++ plan_behind context earlier o ∷ []) (outputs ++ o ∷ []) rest h.1))
       (all context earlier outputs rest h.1)
 

@@ -1,5 +1,6 @@
 -- What is known of an OUTPUT statement that is accepted.
-use Rattle.std.proofs.Common.{◌≡◌, ℕ, ◌*◌, ◌≤◌, Bool, true, false, List, drop, Option, Some, None, Result, Ok, Err, refl}
+use Rattle.std.proofs.Common.{◌≡◌, ℕ, ◌*◌, ◌≤◌, Bool, true, false, List, drop, Option, Some, None, Result, Ok, Err}
+use Rattle.std.proofs.Common.{refl}
 use Rattle.std.proofs.Common.{subst, sym}
 use Rattle.std.specs.Prelude.{is_some, nat_le, slice_get, if◌then◌else◌}
 use Rattle.std.proofs.lemmas.Bool.{leb-true}
@@ -109,7 +110,8 @@ pub not_found : (o : Option ℕ) → is_some o ≡ false → o ≡ None
 not_found None e = refl
 not_found (Some i) e = absurd (let f : true ≡ false = e in cc)
 
-pub unless : (b : Bool) (refusal : Refusal) → ◌≡◌ {A = Result (Unit {0}) Refusal} (if b then Err refusal else Ok tt) (Ok tt)
+pub unless : (b : Bool) (refusal : Refusal)
+    → ◌≡◌ {A = Result (Unit {0}) Refusal} (if b then Err refusal else Ok tt) (Ok tt)
     → b ≡ false
 unless true refusal e = absurd (cc e)
 unless false refusal e = refl

@@ -42,12 +42,7 @@ pub(crate) fn check_columns(
     push_copies(alloc, design.as_slice(), &mut columns)?;
     check_names(alloc, columns, options)?;
     let own = own_columns(alloc, context, block_name, derived)?;
-    check_plan(
-        &option_of(Symbol::Pointrep, options),
-        &point,
-        &own,
-        &design,
-    )?;
+    check_plan(&option_of(Symbol::Pointrep, options), &point, &own, &design)?;
     check_plan(
         &option_of(Symbol::Designrep, options),
         &design,

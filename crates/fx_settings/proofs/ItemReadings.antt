@@ -123,7 +123,8 @@ pub items_law : (s : List Written) → IsStatement grammar.factors s → AreItem
 items_law s by_grammar = read (by_lexemes grammar.factors s by_grammar)
   where
     read : Reads grammar.factors (s ++ semicolon ∷ []) → AreItemsRead s
-    read (x0, y0, (f, hf, ef), (x1, y1, n, (x2, y2, g, (x3, y3, (parts, each, fl), (x4, y4, o, (m, tm, em), e4), e3), e2), e1), e0) =
+    read (x0, y0, (f, hf, ef),
+          (x1, y1, n, (x2, y2, g, (x3, y3, (parts, each, fl), (x4, y4, o, (m, tm, em), e4), e3), e2), e1), e0) =
         let all = all_items ((x1 ++ x2) ∷ parts) ((x1, x2, n, g, refl), each) in
         let front : List Written = (x1 ++ x2) ++ flat_map (λ part. part) parts in
         let inner : y0 ≡ (front ++ x4) ++ m ∷ [] =

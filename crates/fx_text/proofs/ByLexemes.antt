@@ -82,9 +82,11 @@ many_match : (a : Shape) → ((s : List Written) → Reads a s → Matches a (sy
     → AllByRecursion (Reads a) parts → Matches (Many a) (symbols_in (flat_map (λ part. part) parts))
 many_match a f [] each = ([], tt, refl)
 many_match a f (p ∷ parts) each =
-    let later = many_match a f parts each.1 in
-    (symbols_in p ∷ later.0, (f p each.0, later.1),
-    joined p (flat_map (λ part. part) parts) ∙ ap (λ l. symbols_in p ++ l) later.2)
+    let later = many_match a f parts each.1 in (
+      symbols_in p ∷ later.0,
+      (f p each.0, later.1),
+      joined p (flat_map (λ part. part) parts) ∙ ap (λ l. symbols_in p ++ l) later.2,
+    )
 
 -- and conversely
 pub matches : (a : Shape) (s : List Written) → Reads a s → Matches a (symbols_in s)

@@ -34,7 +34,8 @@ module _ (context : Context) (earlier : List EarlierPlan) (word name : Written) 
     at_reps reason h = rw fresh (stopped (reps_of earlier s) _ reason h)
 
     module _ (reps : Rep × Rep) (each all runs : ℕ) (repeated : reps_of earlier s ≡ Ok reps)
-        (inner : each ≡ rep_rows earlier reps.0) (outer : all ≡ rep_rows earlier reps.1) (most : runs ≡ context.runs) where
+        (inner : each ≡ rep_rows earlier reps.0) (outer : all ≡ rep_rows earlier reps.1)
+          (most : runs ≡ context.runs) where
       at_rows : (refusal : Refusal) → Err refusal ≡ check_rows runs each all name → meaning ≡ Err refusal
       at_rows refusal e = rw (fresh, repeated, ← rw (inner, outer, most) at e) refl
 
@@ -165,14 +166,16 @@ returns-in_err-shuffle-clause-refused c =
     refused _ _ (stop.Refused c.in_err-shuffle.field-0.0) c.from_residual-in_err-shuffle.ensures.1
     (at_shuffle c.args.context.now c.args.earlier.now c.args.word.now c.args.name.now c.args.options.now
     c.in_ok-check_new_name.ensures.ok c.in_ok-reps.reps _ _ _ c.in_ok-reps.ensures.ok c.rep_rows-each.ensures
-    c.rep_rows-all.ensures (ap (λ (x : Context). x.runs) c.context.view_is) c.in_ok-check_rows.ensures _ c.in_err-shuffle.ensures)
+    c.rep_rows-all.ensures (ap (λ (x : Context). x.runs) c.context.view_is) c.in_ok-check_rows.ensures _
+      c.in_err-shuffle.ensures)
 
 pub returns-in_err-check_blockname-clause-refused : goal.returns-in_err-check_blockname-clause-refused
 returns-in_err-check_blockname-clause-refused c =
     refused _ _ (stop.Refused c.in_err-check_blockname.field-0.0) c.from_residual-in_err-check_blockname.ensures.1
     (at_blockname c.args.context.now c.args.earlier.now c.args.word.now c.args.name.now c.args.options.now
     c.in_ok-check_new_name.ensures.ok c.in_ok-reps.reps _ _ _ c.in_ok-reps.ensures.ok c.rep_rows-each.ensures
-    c.rep_rows-all.ensures (ap (λ (x : Context). x.runs) c.context.view_is) c.in_ok-check_rows.ensures _ _ _ c.in_ok-shuffle.ensures
+    c.rep_rows-all.ensures (ap (λ (x : Context). x.runs) c.context.view_is) c.in_ok-check_rows.ensures _ _ _
+      c.in_ok-shuffle.ensures
     c.option_of-blockname.ensures (ap (λ (x : Context). x.blocks) c.context.view_is) _ c.in_err-check_blockname.ensures)
 
 pub returns-in_err-check_column-clause-refused : goal.returns-in_err-check_column-clause-refused
@@ -180,7 +183,8 @@ returns-in_err-check_column-clause-refused c =
     refused _ _ (stop.Refused c.in_err-check_column.field-0.0) c.from_residual-in_err-check_column.ensures.1
     (at_column c.args.context.now c.args.earlier.now c.args.word.now c.args.name.now c.args.options.now
     c.in_ok-check_new_name.ensures.ok c.in_ok-reps.reps _ _ _ c.in_ok-reps.ensures.ok c.rep_rows-each.ensures
-    c.rep_rows-all.ensures (ap (λ (x : Context). x.runs) c.context.view_is) c.in_ok-check_rows.ensures _ _ _ c.in_ok-shuffle.ensures
+    c.rep_rows-all.ensures (ap (λ (x : Context). x.runs) c.context.view_is) c.in_ok-check_rows.ensures _ _ _
+      c.in_ok-shuffle.ensures
     c.option_of-blockname.ensures (ap (λ (x : Context). x.blocks) c.context.view_is)
     c.in_ok-check_blockname.ensures _ c.in_err-check_column.ensures)
 
@@ -189,7 +193,8 @@ returns-in_err-block_values-clause-refused c =
     refused _ _ c.in_err-block_values.field-0.0 c.from_residual-in_err-block_values.ensures.1
     (at_values c.args.context.now c.args.earlier.now c.args.word.now c.args.name.now c.args.options.now
     c.in_ok-check_new_name.ensures.ok c.in_ok-reps.reps _ _ _ c.in_ok-reps.ensures.ok c.rep_rows-each.ensures
-    c.rep_rows-all.ensures (ap (λ (x : Context). x.runs) c.context.view_is) c.in_ok-check_rows.ensures _ _ _ c.in_ok-shuffle.ensures
+    c.rep_rows-all.ensures (ap (λ (x : Context). x.runs) c.context.view_is) c.in_ok-check_rows.ensures _ _ _
+      c.in_ok-shuffle.ensures
     c.option_of-blockname.ensures (ap (λ (x : Context). x.blocks) c.context.view_is)
     c.in_ok-check_blockname.ensures c.in_ok-check_column.ensures _
     c.in_err-block_values.ensures.refused)
@@ -199,7 +204,8 @@ returns-in_err-columns-clause-refused c =
     refused _ _ c.in_err-columns.field-0.0 c.from_residual-in_err-columns.ensures.1
     (at_columns c.args.context.now c.args.earlier.now c.args.word.now c.args.name.now c.args.options.now
     c.in_ok-check_new_name.ensures.ok c.in_ok-reps.reps _ _ _ c.in_ok-reps.ensures.ok c.rep_rows-each.ensures
-    c.rep_rows-all.ensures (ap (λ (x : Context). x.runs) c.context.view_is) c.in_ok-check_rows.ensures _ _ _ c.in_ok-shuffle.ensures
+    c.rep_rows-all.ensures (ap (λ (x : Context). x.runs) c.context.view_is) c.in_ok-check_rows.ensures _ _ _
+      c.in_ok-shuffle.ensures
     c.option_of-blockname.ensures (ap (λ (x : Context). x.blocks) c.context.view_is)
     c.in_ok-check_blockname.ensures c.in_ok-check_column.ensures _ c.in_ok-block_values.ensures.ok _
     c.in_err-columns.ensures.refused)
@@ -209,7 +215,8 @@ returns-in_err-check_columns-clause-refused c =
     refused _ _ c.in_err-check_columns.field-0.0 c.from_residual-in_err-check_columns.ensures.1
     (at_names c.args.context.now c.args.earlier.now c.args.word.now c.args.name.now c.args.options.now
     c.in_ok-check_new_name.ensures.ok c.in_ok-reps.reps _ _ _ c.in_ok-reps.ensures.ok c.rep_rows-each.ensures
-    c.rep_rows-all.ensures (ap (λ (x : Context). x.runs) c.context.view_is) c.in_ok-check_rows.ensures _ _ _ c.in_ok-shuffle.ensures
+    c.rep_rows-all.ensures (ap (λ (x : Context). x.runs) c.context.view_is) c.in_ok-check_rows.ensures _ _ _
+      c.in_ok-shuffle.ensures
     c.option_of-blockname.ensures (ap (λ (x : Context). x.blocks) c.context.view_is)
     c.in_ok-check_blockname.ensures c.in_ok-check_column.ensures _ c.in_ok-block_values.ensures.ok
     c.in_ok-columns.columns c.in_ok-columns.ensures.ok _
@@ -233,7 +240,8 @@ returns-clause-ok c =
     )
     (is_read c.args.context.now c.args.earlier.now c.args.word.now c.args.name.now c.args.options.now
     c.in_ok-check_new_name.ensures.ok c.in_ok-reps.reps _ _ _ c.in_ok-reps.ensures.ok c.rep_rows-each.ensures
-    c.rep_rows-all.ensures (ap (λ (x : Context). x.runs) c.context.view_is) c.in_ok-check_rows.ensures _ _ _ c.in_ok-shuffle.ensures
+    c.rep_rows-all.ensures (ap (λ (x : Context). x.runs) c.context.view_is) c.in_ok-check_rows.ensures _ _ _
+      c.in_ok-shuffle.ensures
     c.option_of-blockname.ensures (ap (λ (x : Context). x.blocks) c.context.view_is)
     c.in_ok-check_blockname.ensures c.in_ok-check_column.ensures _ c.in_ok-block_values.ensures.ok
     c.in_ok-columns.columns c.in_ok-columns.ensures.ok

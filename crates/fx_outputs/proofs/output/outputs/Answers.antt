@@ -10,7 +10,8 @@ use Rattle.fx_outputs.proofs.Limits.{all_within}
 use Rattle.fx_outputs.proofs.Statements.{refused, read, passed, one_more_plan}
 use Rattle.fx_outputs.proofs.Taken.{few_rows, new_name}
 use Rattle.fx_outputs.proofs.output.outputs.Goals as goal
-use Rattle.fx_outputs.proofs.output.outputs.Goals.{then-is_output+in_ok-options+in_ok-output+in_ok-plan+in_ok-push+in_ok-push-2, else-is_output}
+use Rattle.fx_outputs.proofs.output.outputs.Goals.{then-is_output+in_ok-options+in_ok-output+in_ok-plan+in_ok-push+in_ok-push-2}
+use Rattle.fx_outputs.proofs.output.outputs.Goals.{else-is_output}
 
 pub returns-in_err-output-clause-refused : goal.returns-in_err-output-clause-refused
 returns-in_err-output-clause-refused c =
