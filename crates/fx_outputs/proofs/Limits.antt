@@ -90,7 +90,7 @@ module _ (context : Context) where
       (outputs_behind context earlier outputs rest)
       (output_within earlier a d (options_of (d ∷ options)))
       (λ output good more. within rest (earlier ++ plan_behind context earlier output ∷ []) (outputs ++ output ∷ []) all
-          good more)
+      good more)
       (λ more. within rest earlier outputs all h more) h e
 
   pub all_within : (earlier : List EarlierPlan) (statements : List (List Written)) (all : List OutputSpec)

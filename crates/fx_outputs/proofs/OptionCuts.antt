@@ -84,7 +84,7 @@ further : (done : List (List Written)) (inside : Bool) (before : Written) (rest 
 further done inside before rest h =
     let within = are_open_behind inside before in
     ap (λ (b : Bool). options_behind (if b then done ++ take (option_len within rest) rest ∷ [] else done) within rest)
-      h
+    h
 
 pass : (done : List (List Written)) (inside : Bool) (before : Written) (more rest : List Written)
     → Quiet inside before more rest → Reached done inside (before ∷ more ++ rest) rest
@@ -181,9 +181,9 @@ ended a f x y h (u, v, (parts, each, fl), c, i) =
 values_read : (x : List Written) → Reads grammar.values x → HasValues x
 values_read x (inl h) =
     values_of symbol.Nvals
-      (Before (Either (One (is symbol.Minus)) Empty)
-        (Before (Either grammar.n (One (is symbol.Decimal))) (Before (Many grammar.value) (One (is symbol.Close)))))
-      numbers refl refl refl x h
+    (Before (Either (One (is symbol.Minus)) Empty)
+    (Before (Either grammar.n (One (is symbol.Decimal))) (Before (Many grammar.value) (One (is symbol.Close)))))
+    numbers refl refl refl x h
   where
     numbers : (x : List Written)
         → Reads (Before (Either (One (is symbol.Minus)) Empty) (Before (Either grammar.n (One (is symbol.Decimal)))
@@ -193,8 +193,8 @@ values_read x (inl h) =
         (value_quiet (u ++ v) (u, v, m, k, refl)) more)
 values_read x (inr h) =
     values_of symbol.Cvals
-      (Before (One (is symbol.Quoted)) (Before (Many (One (is symbol.Quoted))) (One (is symbol.Close)))) texts refl refl
-      refl x h
+    (Before (One (is symbol.Quoted)) (Before (Many (One (is symbol.Quoted))) (One (is symbol.Close)))) texts refl refl
+    refl x h
   where
     text : (x : List Written) → Reads (One (is symbol.Quoted)) x → AllByRecursion IsQuiet x
     text x h = one_key symbol.Quoted x refl refl refl refl h
@@ -274,16 +274,30 @@ module _ (rest : List Written) where
   in_brackets inside before (part ∷ names) c more opened ((n, word, e), each) ends later =
       let tail = in_brackets true n names c more
       (rw (apart symbol.OpenBracket is_word n.symbol refl word, apart symbol.CloseBracket is_word n.symbol refl word)
-          refl)
+      refl)
       each ends later in
       rw e (rw opened refl, rw opened tail)
 
   bracketed : (p : List Written) → Reads grammar.derived p → IsPart p rest
-  bracketed p
-      (x1, y1, (o, ho, eo),
-            (x2, y2, n,
-              (x3, y3, (names, each, fl),
-                (x4, y4, (c, hc, ec), (x5, y5, (e, he, ee), (x6, y6, (w, hw, ew), v, i6), i5), i4), i3), i2), i1) =
+  bracketed p (
+    x1,
+    y1,
+    (o, ho, eo),
+    (
+      x2,
+      y2,
+      n,
+      (
+        x3,
+        y3,
+        (names, each, fl),
+        (x4, y4, (c, hc, ec), (x5, y5, (e, he, ee), (x6, y6, (w, hw, ew), v, i6), i5), i4),
+        i3,
+      ),
+      i2,
+    ),
+    i1,
+  ) =
       let opens = symbol_is symbol.OpenBracket o.symbol ho in
       let ends = symbol_is symbol.CloseBracket c.symbol hc in
       let inner : List Written = flat_map (λ part. part) names in
@@ -365,7 +379,7 @@ next done inside last w more rest closed plain first goes_on later =
     let within = are_open_behind inside last in
     let here : begins_option within last all ≡ true = rw (closed, plain, first) refl in
     ap (λ (b : Bool). options_behind (if b then done ++ take (option_len within all) all ∷ [] else done) within all)
-      here
+    here
     ∙ ap (λ (b : Bool). options_behind (done ++ take (option_len b all) all ∷ []) b all) closed
     ∙ ap (λ (n : ℕ). options_behind (done ++ take n all ∷ []) false all) (len false w more rest goes_on later)
     ∙ ap (λ (l : List Written). options_behind (done ++ l ∷ []) false all)
@@ -406,9 +420,19 @@ pub options_law : (s : List Written) → IsStatement grammar.output s → AreOpt
 options_law s by_grammar = read (by_lexemes grammar.output s by_grammar)
   where
     read : Reads grammar.output (s ++ semicolon ∷ []) → AreOptionsRead s
-    read (x0, y0, (f, hf, ef),
-          (x1, y1, (o, ho, eo),
-            (x2, y2, (e, he, ee), (x3, y3, (n, hn, en), (x4, y4, (parts, each, fl), (m, hm, em), i4), i3), i2), i1), i0)
+    read (
+      x0,
+      y0,
+      (f, hf, ef),
+      (
+        x1,
+        y1,
+        (o, ho, eo),
+        (x2, y2, (e, he, ee), (x3, y3, (n, hn, en), (x4, y4, (parts, each, fl), (m, hm, em), i4), i3), i2),
+        i1,
+      ),
+      i0,
+    )
         =
         let inner : List Written = flat_map (λ part. part) parts in
         let text : s ++ semicolon ∷ [] ≡ (f ∷ o ∷ e ∷ n ∷ inner) ++ m ∷ [] =

@@ -279,7 +279,7 @@ module _ (P : ℕ → ℕ → Type 0) where
       placed.both P (is symbol.Output a.symbol) _ _
       (placed.chain P (output_spec context earlier a d (options_of (d ∷ opts))) _
       (output context earlier a d (options_of (d ∷ opts)) h.0.0 h.0.1.1.1.0
-          (parts.options (IsPlaced P) [] false (d ∷ opts) tt h.0.1.1.1))
+      (parts.options (IsPlaced P) [] false (d ∷ opts) tt h.0.1.1.1))
       (λ o. all context (earlier ++ plan_behind context earlier o ∷ []) (outputs ++ o ∷ []) rest h.1))
       (all context earlier outputs rest h.1)
 

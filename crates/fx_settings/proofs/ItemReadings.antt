@@ -1,5 +1,5 @@
 -- The items of a FACTORS or a FOLDOVER statement, by the grammar.
-use Rattle.std.proofs.Common.{◌≡◌, true, false, List, [], ◌∷◌, ◌++◌, Option, Some, None, refl, sym, ap, ap₂, subst, ◌∙◌}
+use Rattle.std.proofs.Common.{◌≡◌, true, false, List, [], ◌∷◌, ◌++◌, Option, Some, None, refl, sym, ap, subst, ◌∙◌}
 use Rattle.std.proofs.Common.{inl, inr, ◌⊎◌, append_assoc}
 use Rattle.std.specs.List.{AllByRecursion, flat_map}
 use Rattle.std.proofs.lemmas.Bool.{cases_Bool}
@@ -7,13 +7,13 @@ use Rattle.std.proofs.lemmas.List.{append-nil}
 use Rattle.fx_language.specs.declared.symbol.Symbol.{Symbol}
 use Rattle.fx_language.specs.declared.symbol.Symbol.TheVariants as symbol
 use Rattle.fx_language.specs.Symbols.{is, is_word}
-use Rattle.fx_language.specs.Shapes.{Shape, Empty, One, Before, Either, Matches}
+use Rattle.fx_language.specs.Shapes.{Empty, One, Before, Either}
 use Rattle.fx_language.specs.Grammar as grammar
 use Rattle.fx_language.proofs.SameSymbol.{symbol_is}
 use Rattle.fx_text.specs.Written.{Written, begins}
 use Rattle.fx_text.specs.Phrases.{preceding, has_symbol}
 use Rattle.fx_text.specs.Ranges.{range_end}
-use Rattle.fx_text.specs.Sentences.{symbols_in, IsStatement}
+use Rattle.fx_text.specs.Sentences.{IsStatement}
 use Rattle.fx_text.proofs.Lacking.{before_none, before_part}
 use Rattle.fx_text.proofs.ByLexemes.{Reads, by_lexemes, before_end, semicolon}
 use Rattle.fx_settings.specs.Items.{Item, item_of, items_from}
@@ -123,8 +123,13 @@ pub items_law : (s : List Written) → IsStatement grammar.factors s → AreItem
 items_law s by_grammar = read (by_lexemes grammar.factors s by_grammar)
   where
     read : Reads grammar.factors (s ++ semicolon ∷ []) → AreItemsRead s
-    read (x0, y0, (f, hf, ef),
-          (x1, y1, n, (x2, y2, g, (x3, y3, (parts, each, fl), (x4, y4, o, (m, tm, em), e4), e3), e2), e1), e0) =
+    read (
+      x0,
+      y0,
+      (f, hf, ef),
+      (x1, y1, n, (x2, y2, g, (x3, y3, (parts, each, fl), (x4, y4, o, (m, tm, em), e4), e3), e2), e1),
+      e0,
+    ) =
         let all = all_items ((x1 ++ x2) ∷ parts) ((x1, x2, n, g, refl), each) in
         let front : List Written = (x1 ++ x2) ++ flat_map (λ part. part) parts in
         let inner : y0 ≡ (front ++ x4) ++ m ∷ [] =

@@ -1,5 +1,5 @@
 -- The settings of a step are refused by a rule, at the place of a word or number of the step.
-use Rattle.std.proofs.Common.{◌≡◌, ℕ, ◌-◌, Bool, true, false, List, [], ◌∷◌, length, drop, Option, Some, None, refl}
+use Rattle.std.proofs.Common.{◌≡◌, ℕ, Bool, true, false, List, [], ◌∷◌, drop, Option, Some, None, refl}
 use Rattle.std.specs.Prelude.{IfSome, slice_get, unwrap_or, if◌then◌else◌}
 use Rattle.std.specs.List.{AllByRecursion, list_all}
 use Rattle.std.proofs.lemmas.Bool.{and_parts}
@@ -9,7 +9,7 @@ use Rattle.fx_language.specs.declared.symbol.Symbol.TheVariants as symbol
 use Rattle.fx_language.specs.Symbols.{is}
 use Rattle.fx_language.specs.Refusals.{is_rule}
 use Rattle.fx_lexer.specs.declared.place.Place.{Place}
-use Rattle.fx_text.specs.Written.{Written, begins}
+use Rattle.fx_text.specs.Written.{Written}
 use Rattle.fx_text.specs.Phrases.{after}
 use Rattle.fx_text.specs.Refusals.{place_at}
 use Rattle.fx_settings.specs.declared.said.Value.{Value}

@@ -6,7 +6,6 @@ use Rattle.fx_language.specs.declared.symbol.Symbol.{Symbol}
 use Rattle.fx_language.specs.Symbols.{is}
 use Rattle.fx_text.specs.Written.{Written}
 use Rattle.fx_text.specs.Phrases.{after, preceding, has_symbol}
-use Rattle.fx_language.proofs.Lacking.{lacks, none}
 
 -- the same of what is written
 pub any_written : (t : Symbol) (s : List Written) → has_symbol t s ≡ list_any (is t) (map (λ (w : Written). w.symbol) s)

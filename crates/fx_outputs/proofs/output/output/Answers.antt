@@ -35,7 +35,7 @@ module _ (context : Context) (earlier : List EarlierPlan) (word name : Written) 
 
     module _ (reps : Rep × Rep) (each all runs : ℕ) (repeated : reps_of earlier s ≡ Ok reps)
         (inner : each ≡ rep_rows earlier reps.0) (outer : all ≡ rep_rows earlier reps.1)
-          (most : runs ≡ context.runs) where
+        (most : runs ≡ context.runs) where
       at_rows : (refusal : Refusal) → Err refusal ≡ check_rows runs each all name → meaning ≡ Err refusal
       at_rows refusal e = rw (fresh, repeated, ← rw (inner, outer, most) at e) refl
 
@@ -167,7 +167,7 @@ returns-in_err-shuffle-clause-refused c =
     (at_shuffle c.args.context.now c.args.earlier.now c.args.word.now c.args.name.now c.args.options.now
     c.in_ok-check_new_name.ensures.ok c.in_ok-reps.reps _ _ _ c.in_ok-reps.ensures.ok c.rep_rows-each.ensures
     c.rep_rows-all.ensures (ap (λ (x : Context). x.runs) c.context.view_is) c.in_ok-check_rows.ensures _
-      c.in_err-shuffle.ensures)
+    c.in_err-shuffle.ensures)
 
 pub returns-in_err-check_blockname-clause-refused : goal.returns-in_err-check_blockname-clause-refused
 returns-in_err-check_blockname-clause-refused c =
@@ -175,7 +175,7 @@ returns-in_err-check_blockname-clause-refused c =
     (at_blockname c.args.context.now c.args.earlier.now c.args.word.now c.args.name.now c.args.options.now
     c.in_ok-check_new_name.ensures.ok c.in_ok-reps.reps _ _ _ c.in_ok-reps.ensures.ok c.rep_rows-each.ensures
     c.rep_rows-all.ensures (ap (λ (x : Context). x.runs) c.context.view_is) c.in_ok-check_rows.ensures _ _ _
-      c.in_ok-shuffle.ensures
+    c.in_ok-shuffle.ensures
     c.option_of-blockname.ensures (ap (λ (x : Context). x.blocks) c.context.view_is) _ c.in_err-check_blockname.ensures)
 
 pub returns-in_err-check_column-clause-refused : goal.returns-in_err-check_column-clause-refused
@@ -184,7 +184,7 @@ returns-in_err-check_column-clause-refused c =
     (at_column c.args.context.now c.args.earlier.now c.args.word.now c.args.name.now c.args.options.now
     c.in_ok-check_new_name.ensures.ok c.in_ok-reps.reps _ _ _ c.in_ok-reps.ensures.ok c.rep_rows-each.ensures
     c.rep_rows-all.ensures (ap (λ (x : Context). x.runs) c.context.view_is) c.in_ok-check_rows.ensures _ _ _
-      c.in_ok-shuffle.ensures
+    c.in_ok-shuffle.ensures
     c.option_of-blockname.ensures (ap (λ (x : Context). x.blocks) c.context.view_is)
     c.in_ok-check_blockname.ensures _ c.in_err-check_column.ensures)
 
@@ -194,7 +194,7 @@ returns-in_err-block_values-clause-refused c =
     (at_values c.args.context.now c.args.earlier.now c.args.word.now c.args.name.now c.args.options.now
     c.in_ok-check_new_name.ensures.ok c.in_ok-reps.reps _ _ _ c.in_ok-reps.ensures.ok c.rep_rows-each.ensures
     c.rep_rows-all.ensures (ap (λ (x : Context). x.runs) c.context.view_is) c.in_ok-check_rows.ensures _ _ _
-      c.in_ok-shuffle.ensures
+    c.in_ok-shuffle.ensures
     c.option_of-blockname.ensures (ap (λ (x : Context). x.blocks) c.context.view_is)
     c.in_ok-check_blockname.ensures c.in_ok-check_column.ensures _
     c.in_err-block_values.ensures.refused)
@@ -205,7 +205,7 @@ returns-in_err-columns-clause-refused c =
     (at_columns c.args.context.now c.args.earlier.now c.args.word.now c.args.name.now c.args.options.now
     c.in_ok-check_new_name.ensures.ok c.in_ok-reps.reps _ _ _ c.in_ok-reps.ensures.ok c.rep_rows-each.ensures
     c.rep_rows-all.ensures (ap (λ (x : Context). x.runs) c.context.view_is) c.in_ok-check_rows.ensures _ _ _
-      c.in_ok-shuffle.ensures
+    c.in_ok-shuffle.ensures
     c.option_of-blockname.ensures (ap (λ (x : Context). x.blocks) c.context.view_is)
     c.in_ok-check_blockname.ensures c.in_ok-check_column.ensures _ c.in_ok-block_values.ensures.ok _
     c.in_err-columns.ensures.refused)
@@ -216,7 +216,7 @@ returns-in_err-check_columns-clause-refused c =
     (at_names c.args.context.now c.args.earlier.now c.args.word.now c.args.name.now c.args.options.now
     c.in_ok-check_new_name.ensures.ok c.in_ok-reps.reps _ _ _ c.in_ok-reps.ensures.ok c.rep_rows-each.ensures
     c.rep_rows-all.ensures (ap (λ (x : Context). x.runs) c.context.view_is) c.in_ok-check_rows.ensures _ _ _
-      c.in_ok-shuffle.ensures
+    c.in_ok-shuffle.ensures
     c.option_of-blockname.ensures (ap (λ (x : Context). x.blocks) c.context.view_is)
     c.in_ok-check_blockname.ensures c.in_ok-check_column.ensures _ c.in_ok-block_values.ensures.ok
     c.in_ok-columns.columns c.in_ok-columns.ensures.ok _
@@ -241,7 +241,7 @@ returns-clause-ok c =
     (is_read c.args.context.now c.args.earlier.now c.args.word.now c.args.name.now c.args.options.now
     c.in_ok-check_new_name.ensures.ok c.in_ok-reps.reps _ _ _ c.in_ok-reps.ensures.ok c.rep_rows-each.ensures
     c.rep_rows-all.ensures (ap (λ (x : Context). x.runs) c.context.view_is) c.in_ok-check_rows.ensures _ _ _
-      c.in_ok-shuffle.ensures
+    c.in_ok-shuffle.ensures
     c.option_of-blockname.ensures (ap (λ (x : Context). x.blocks) c.context.view_is)
     c.in_ok-check_blockname.ensures c.in_ok-check_column.ensures _ c.in_ok-block_values.ensures.ok
     c.in_ok-columns.columns c.in_ok-columns.ensures.ok
