@@ -1,9 +1,9 @@
 -- A word of two factors is clear where no main effect and no other word of two factors is aliased with it.
-use Rattle.std.proofs.Common.{ℕ, ◌≡◌, ◌<◌, ◌≤◌, ◌+◌, ◌-◌, ◌^◌, zero, suc, Bool, true, false, cond, eqb, ◌&&◌, List, []}
+use Rattle.std.proofs.Common.{ℕ, ◌≡◌, ◌<◌, ◌≤◌, ◌+◌, ◌-◌, ◌^◌, suc, Bool, true, false, cond, eqb, ◌&&◌, List, []}
 use Rattle.std.proofs.Common.{◌∷◌, ◌++◌, length, refl, sym, subst, ◌∙◌, ap, ap₂, arith, inl, inr, ◌⊎◌, eqb-true, eq-eqb}
 use Rattle.std.specs.Prelude.{nat_lt}
 use Rattle.std.specs.List.{AllByRecursion, sum_by, range_with_len, list_any}
-use Rattle.std.proofs.lemmas.Bool.{cases_Bool, cases_eq, cond-true, cond-false, and_parts, and_from, or_cases, or_from}
+use Rattle.std.proofs.lemmas.Bool.{cases_Bool, cases_eq, cond-true, cond-false, and_parts, and_from, or_from}
 use Rattle.std.proofs.lemmas.Bool.{or_left, both_ways, le-ltb}
 use Rattle.std.proofs.lemmas.List.Elements.{recursion_from_All}
 use Rattle.fx_designs.specs.Galois.{mul, inv, IsField, number}
@@ -21,28 +21,13 @@ use Rattle.fx_laws.proofs.Sums.{sum_by-plus}
 use Rattle.fx_laws.proofs.Forms.{scale-one}
 use Rattle.fx_laws.proofs.Scalings.{scale-scale}
 use Rattle.fx_reduction.proofs.Weights.{scale-weight}
+use Rattle.fx_laws.proofs.Weights.{same-self, same-true}
 use Rattle.fx_strata.specs.Designs.{Strata, is_effect, is_unclear, effects_of}
 use Rattle.fx_strata.specs.Laws.{IsAlone, ClearAreAlone}
 use Rattle.fx_strata.proofs.Runs.{in-blocks, over-all}
 use Rattle.fx_strata.proofs.Unclear.{no-difference, minus-vector}
-use Rattle.fx_strata.proofs.Live.{same-self, once, or-parts, not-more, at-most}
-
--- one of the numbers from a on passes
-any-range : (p : ℕ → Bool) (a n : ℕ) → list_any p (range_with_len a n) ≡ true
-    → (i : ℕ) × (a ≤ i) × (i < a + n) × (p i ≡ true)
-any-range p a zero h = absurd (cc h)
-any-range p a (suc n) h = elim (or_cases (p a) (list_any p (range_with_len (a + 1) n)) h) [
-  | inl t ↦ (a, omega arith, omega arith, t)
-  | inr t ↦ (let r = any-range p (a + 1) n t in (r.0, omega (arith, r.1), omega (arith, r.2), r.3))
-]
-
-same-is : (u w : List ℕ) → same u w ≡ true → u ≡ w
-same-is [] [] h = refl
-same-is [] (b ∷ w) h = absurd (cc h)
-same-is (a ∷ u) [] h = absurd (cc h)
-same-is (a ∷ u) (b ∷ w) h =
-    let p = and_parts (eqb a b) (same u w) h in
-    ap₂ (λ x l. x ∷ l) (eqb-true a b p.0) (same-is u w p.1)
+use Rattle.fx_strata.proofs.Exchanges.{found_range}
+use Rattle.fx_strata.proofs.Live.{once, or-parts, not-more, at-most}
 
 -- a multiple of u with the levels of u is u, since u has no one value on all runs
 module _ (x : Strata) (f : IsField x.q) (base factors : List (List ℕ)) (hb : AreVectors x.q x.m base)
@@ -166,8 +151,8 @@ module _ (x : Strata) (f : IsField x.q) (base factors : List (List ℕ)) (u : Li
       (recursion_from_All _ ps (all-points x.q n some
       (λ w. cond {A = ℕ} (same u w) 1 0 + cond {A = ℕ} (same v w) 1 0 ≤ cond {A = ℕ} (P w) 1 0)
       (λ w hw. bits-less (same u w) (same v w) (P w)
-      (λ e. subst (λ z. P z ≡ true) (same-is u w e) pu) (λ e. subst (λ z. P z ≡ true) (same-is v w e) pv)
-      (λ e k. apart (same-is u w e ∙ sym (same-is v w k)))))) in
+      (λ e. subst (λ z. P z ≡ true) (same-true u w e) pu) (λ e. subst (λ z. P z ≡ true) (same-true v w e) pv)
+      (λ e k. apart (same-true u w e ∙ sym (same-true v w k)))))) in
       omega arith
 
   -- where all that are counted are u
@@ -180,7 +165,7 @@ module _ (x : Strata) (f : IsField x.q) (base factors : List (List ℕ)) (u : Li
       (λ w. cond {A = ℕ} (P w) 1 0 ≤ cond {A = ℕ} (same u w) 1 0)
       (λ w hw. elim (cases_Bool (P w)) [
         | inl t ↦
-            let is : same u w ≡ true = subst (λ z. same u z ≡ true) (sym (only w hw t)) (same-self x.q x.m f u) in
+            let is : same u w ≡ true = subst (λ z. same u z ≡ true) (sym (only w hw t)) (same-self u) in
             let one : cond {A = ℕ} (same u w) 1 0 ≡ 1 = cond-true (same u w) 1 0 is in
             let l = at-most x.q x.m f (P w) in
             omega arith
@@ -207,7 +192,7 @@ module _ (x : Strata) (f : IsField x.q) (base factors : List (List ℕ)) (u : Li
         record {
           varies = p.0;
           alone = λ v hv effect aliased.
-              (let r = any-range (λ c. is_constant x.q (minus x.q u (scale x.q c v)) runs) 1 (x.q - 1) aliased in
+              (let r = found_range (λ c. is_constant x.q (minus x.q u (scale x.q c v)) runs) 1 (x.q - 1) aliased in
               let c : ℕ = r.0 in
               let pos : 0 < c = omega (arith, r.1) in
               let low : c < x.q = omega (arith, r.2) in
@@ -218,11 +203,11 @@ module _ (x : Strata) (f : IsField x.q) (base factors : List (List ℕ)) (u : Li
               let is : same u w ≡ true = elim (cases_Bool (same u w)) [
                 | inl t ↦ t
                 | inr o ↦ absurd (let l = two-counted w hw itself pw
-                    (λ e. both_ways (same u w) o (subst (λ z. same u z ≡ true) e (same-self x.q x.m f u))) in
+                    (λ e. both_ways (same u w) o (subst (λ z. same u z ≡ true) e (same-self u))) in
                     omega arith)
               ] in (
                 inv x.q c,
-                sym (ap (scale x.q (inv x.q c)) (same-is u w is) ∙ scale-scale x.q f (inv x.q c) c v
+                sym (ap (scale x.q (inv x.q c)) (same-true u w is) ∙ scale-scale x.q f (inv x.q c) c v
                     ∙ ap (λ a. scale x.q a v) (f.mul_inv c pos low) ∙ scale-one x.q n f v hv),
               ));
         }

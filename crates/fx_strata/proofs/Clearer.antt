@@ -1,5 +1,5 @@
 -- With more rows no word of two factors becomes clear.
-use Rattle.std.proofs.Common.{ℕ, ◌≡◌, ◌<◌, ◌≤◌, Bool, true, false, cond, eqb, ◌&&◌, List, ◌++◌, length, refl, sym, ◌∙◌}
+use Rattle.std.proofs.Common.{ℕ, ◌≡◌, ◌<◌, ◌≤◌, Bool, true, eqb, List, ◌++◌, length, sym, ◌∙◌}
 use Rattle.std.proofs.Common.{ap, arith, inl, inr, le_trans}
 use Rattle.std.specs.Prelude.{nat_lt}
 use Rattle.std.proofs.lemmas.Bool.{or_cases, or_left, or_right, lt-ltb, ltb-true}
@@ -16,14 +16,8 @@ use Rattle.fx_strata.specs.Designs.{Strata}
 use Rattle.fx_strata.specs.Words.{words_in}
 use Rattle.fx_strata.specs.Sums.{effects_at, is_unclear_sum}
 use Rattle.fx_strata.specs.Canonical.{base, unclear}
-use Rattle.fx_strata.proofs.Totals.{total, total-turned, total-more, counted}
+use Rattle.fx_strata.proofs.Totals.{one-less, total, total-turned, total-more, counted}
 use Rattle.fx_strata.proofs.Unclear.{near, effects-total}
-
-pub one-less : (a b c : Bool) → (a ≡ true → b ≡ true) → cond {A = ℕ} (a && c) 1 0 ≤ cond {A = ℕ} (b && c) 1 0
-one-less true b c h = (let e = h refl in rw e (omega arith))
-one-less false true true h = omega arith
-one-less false true false h = omega arith
-one-less false false c h = omega arith
 
 module _ (x : Strata) (f : IsField x.q) where
   -- of more rows there is no less

@@ -1,6 +1,7 @@
 -- Each design below a prefix with an earlier image has one before it with as many words of each kind.
-use Rattle.std.proofs.Common.{ℕ, ◌≡◌, ◌<◌, ◌≤◌, ◌+◌, ◌-◌, ◌^◌, zero, suc, Bool, true, false, not, eqb, ◌&&◌, List, []}
-use Rattle.std.proofs.Common.{◌∷◌, ◌++◌, map, length, take, drop, refl, sym, subst, ◌∙◌, ap, ap₂, arith, inl, inr, ◌⊎◌}
+use Rattle.std.proofs.Common.{ℕ, ◌≡◌, ◌<◌, ◌≤◌, ◌+◌, ◌-◌, ◌^◌, zero, suc, Bool, true, false, not, eqb, ◌&&◌, List}
+use Rattle.std.proofs.Common.{[], ◌∷◌, ◌++◌, map, length, take, drop, refl, sym, subst, ◌∙◌, ap, ap₂, arith, inl, inr}
+use Rattle.std.proofs.Common.{◌⊎◌}
 use Rattle.std.proofs.Common.{eqb-true, eq-eqb, append-nil, take-append-drop, length-append}
 use Rattle.std.specs.Prelude.{nat_le}
 use Rattle.std.specs.List.{AllByRecursion, filter, range_with_len}
@@ -17,13 +18,14 @@ use Rattle.fx_designs.specs.Problems.{Dimensions}
 use Rattle.fx_designs.specs.Canonical.{is_unit}
 use Rattle.fx_designs.specs.Patterns.{is_less}
 use Rattle.fx_designs.specs.Answers.{falling}
-use Rattle.fx_laws.specs.Changes.{IsChange}
+use Rattle.fx_laws.specs.Changes.{IsChange, IsShort}
 use Rattle.fx_laws.proofs.Codes.{number-digits, digits-vector}
 use Rattle.fx_laws.proofs.Prefixes.{number-short, short-number}
 use Rattle.fx_laws.proofs.CanonicalTest.{rows-vectors}
-use Rattle.fx_images.specs.Images.{falling_order, moved}
-use Rattle.fx_images.proofs.Lists.{IsUnder, under-same, under-order, stands_before, IsMember}
-use Rattle.fx_images.proofs.Matrices.{member-left, each_range, numbers}
+use Rattle.fx_base.proofs.Ranges.{each-range}
+use Rattle.fx_strata.specs.Changes.{falling_order, moved}
+use Rattle.fx_strata.proofs.Lists.{IsUnder, under-same, under-order, stands_before, IsMember}
+use Rattle.fx_strata.proofs.Exchanges.{member-left, numbers}
 use Rattle.fx_strata.specs.Designs.{Strata}
 use Rattle.fx_strata.specs.Words.{words_in}
 use Rattle.fx_strata.specs.Sums.{sums_of, unclear_sums}
@@ -101,11 +103,23 @@ module _ (d : Dimensions) (f : IsField d.q) where
       subst (AllByRecursion (λ r. InRange from len r)) (sym s.is)
       (each-append (λ r. InRange from len r) (units d.q from len) s.others
       (each-map (λ r. InRange from len r) (λ i. d.q ^ i) (range_with_len from len)
-      (each_range (λ i. InRange from len (d.q ^ i)) from len (λ i low high. record {
+      (each-range (λ i. InRange from len (d.q ^ i)) from len (λ i low high. record {
         low = pow-le-pow_right (omega (arith, f.more_than_one)) low;
         high = pow-less d f i (from + len) high;
       })))
       (later-range from len (d.q ^ (from + len)) s.others (omega arith) s.later))
+
+-- rows below q^h are short
+pub shorts : (x : Strata) (f : IsField x.q) → x.h ≤ x.m → (rs : List ℕ)
+    → AllByRecursion (λ r. InRange (dimensions_of x) f 0 x.h r) rs
+    → AllByRecursion (λ v. IsShort x.h v) (vectors_of x.q x.m rs)
+shorts x f room [] h = tt
+shorts x f room (r ∷ rs) h =
+    let some : 0 < x.q = omega (arith, f.more_than_one) in
+    let below : r < x.q ^ x.h = subst (λ n. r < x.q ^ n) (let e : 0 + x.h ≡ x.h = omega arith in e) h.0.high in
+    let wide : x.q ^ x.h ≤ x.q ^ x.m = pow-le-pow_right some room in
+    let is : number x.q (digits x.q x.m r) ≡ r = number-digits x.q x.m r some (omega arith) in
+    (number-short x.q x.m x.h f (digits x.q x.m r) (digits-vector x.q x.m r some) (omega arith), shorts x f room rs h.1)
 
 module _ (x : Strata) (f : IsField x.q) where
   -- a front part put in order is under the whole
@@ -236,7 +250,7 @@ module _ (x : Strata) (f : IsField x.q) (c s change : List ℕ) (h : has_earlier
         (sym (cond-false (eqb x.w 0) (falling (x.q ^ x.h)) (units x.q 0 x.h ++ take x.w c) (ne_eqb x.w 0 ne)))
         (each-append (λ r. r < x.q ^ x.h) (units x.q 0 x.h) (take x.w c)
         (each-map (λ r. r < x.q ^ x.h) (λ i. x.q ^ i) (range_with_len 0 x.h)
-        (each_range (λ i. x.q ^ i < x.q ^ x.h) 0 x.h
+        (each-range (λ i. x.q ^ i < x.q ^ x.h) 0 x.h
         (λ i low high. pow-less (dimensions_of x) f i x.h (omega arith))))
         (elim first-range [
           | inl e ↦ absurd (ne e)

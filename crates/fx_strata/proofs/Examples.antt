@@ -5,11 +5,14 @@ use Rattle.fx_designs.specs.Spans.{in_span}
 use Rattle.fx_designs.specs.Vectors.{vectors_of}
 use Rattle.fx_laws.proofs.Tables.{is_order-field}
 use Rattle.fx_words.specs.Spreads.{spread}
+use Rattle.fx_designs.specs.Problems.{Dimensions}
 use Rattle.fx_strata.specs.Designs.{Strata, key_of, IsLeast}
 use Rattle.fx_strata.specs.Orders.{factors_first, cheng_wu_first, most_clear}
 use Rattle.fx_strata.specs.Words.{words_in}
 use Rattle.fx_strata.specs.Sums.{effects_at}
-use Rattle.fx_strata.specs.Canonical.{figures, base}
+use Rattle.fx_strata.specs.Canonical.{figures, base, units}
+use Rattle.fx_strata.specs.Changes.{normal_multiple, moved, falling_order}
+use Rattle.fx_strata.specs.Floors.{least_sum}
 use Rattle.fx_strata.specs.Stages.{is_design}
 use Rattle.fx_strata.specs.Books.{Claim, Entry, Branch, Worse, Image, NoRoom, Floor, is_good}
 use Rattle.fx_strata.proofs.Good.{least_of_all}
@@ -216,3 +219,27 @@ clear_blocks-least : IsLeast clear_blocks (most_clear clear_blocks) (base clear_
 clear_blocks-least =
     least_of_all clear_blocks-claim (is_order-field 2 refl) (omega arith) clear_blocks-entries
     clear_blocks-good (omega arith) clear_blocks-rows clear_blocks-design (ap Some (sym clear_blocks-key))
+
+-- s factors of q levels in q^m runs
+abbrev factors : ℕ → ℕ → ℕ → Dimensions
+factors s q m = record { q = q; m = m; s = s; t = 0 }
+
+-- at three levels 2 2 is twice 1 1, which is normal
+multiples : (normal_multiple 3 (2 ∷ 2 ∷ []) ≡ 1 ∷ 1 ∷ []) × (normal_multiple 3 (0 ∷ 0 ∷ []) ≡ 0 ∷ 0 ∷ [])
+unfolding prime_of degree_of reduction_of add mul neg inv
+multiples = (refl, refl)
+
+-- with A and B exchanged AC becomes BC. At three levels, where the second index is taken twice, A + B becomes A + 2B,
+-- whose normal multiple is 2A + B. What is taken to zero stays zero.
+rows_moved :
+    (moved (factors 4 2 3) (2 ∷ 1 ∷ 4 ∷ []) 5 ≡ 6)
+    × (moved (factors 3 3 2) (1 ∷ 6 ∷ []) 4 ≡ 5)
+    × (moved (factors 4 2 3) (1 ∷ 1 ∷ 1 ∷ []) 6 ≡ 0)
+unfolding prime_of degree_of reduction_of add mul neg inv
+rows_moved = (refl, refl, refl)
+
+orders : (units 3 0 3 ≡ 1 ∷ 3 ∷ 9 ∷ []) × (falling_order (3 ∷ 7 ∷ 5 ∷ []) ≡ 7 ∷ 5 ∷ 3 ∷ [])
+orders = (refl, refl)
+
+least_sums : (least_sum 2 (5 ∷ 1 ∷ 3 ∷ []) ≡ 4) × (least_sum 0 (5 ∷ 1 ∷ []) ≡ 0) × (least_sum 4 (5 ∷ 1 ∷ 3 ∷ []) ≡ 9)
+least_sums = (refl, refl, refl)

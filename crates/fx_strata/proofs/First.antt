@@ -3,7 +3,6 @@ use Rattle.std.proofs.Common.{ℕ, ◌≡◌, ◌<◌, ◌≤◌, ◌+◌, ◌-�
 use Rattle.std.proofs.Common.{◌++◌, length, take, drop, refl, sym, subst, ◌∙◌, ap, arith, inl, inr, eq-eqb}
 use Rattle.std.proofs.Common.{take-append-drop, length-append, ap₂}
 use Rattle.std.specs.List.{AllByRecursion, sum_by}
-use Rattle.std.proofs.Math.Nat.{pow-le-pow_right}
 use Rattle.std.proofs.lemmas.Bool.{and_from, ne_eqb, cond-true, false_from_ne_true, lt-ltb, ltb-true}
 use Rattle.std.proofs.lemmas.List.{length-take}
 use Rattle.std.proofs.lemmas.List.Sums.{sum_by-cons}
@@ -31,7 +30,7 @@ use Rattle.fx_strata.specs.Clear.{is_live}
 use Rattle.fx_strata.specs.Laws.{LiveByTallies}
 use Rattle.fx_strata.proofs.Moved.{in-base, base-in}
 use Rattle.fx_strata.proofs.Keeping.{short-combination}
-use Rattle.fx_strata.proofs.Earlier.{InRange, stage-range}
+use Rattle.fx_strata.proofs.Earlier.{InRange, stage-range, shorts}
 use Rattle.fx_strata.proofs.Rests.{split}
 use Rattle.fx_strata.proofs.Live.{hit, spread-total}
 
@@ -67,19 +66,10 @@ module _ (x : Strata) (f : IsField x.q) (c s : List ℕ) (D : IsDesign x (c ++ s
       let e' = D.laid.len in
       split (take x.w all) (drop x.w all) c s (take-append-drop x.w all) (omega arith)
 
-  shorts : (rs : List ℕ) → AllByRecursion (λ r. InRange d f 0 x.h r) rs
-      → AllByRecursion (λ v. IsShort x.h v) (vectors_of x.q x.m rs)
-  shorts [] h = tt
-  shorts (r ∷ rs) h =
-      let below : r < x.q ^ x.h = subst (λ n. r < x.q ^ n) (let e : 0 + x.h ≡ x.h = omega arith in e) h.0.high in
-      let wide : x.q ^ x.h ≤ x.q ^ x.m = pow-le-pow_right some room in
-      let is : number x.q (digits x.q x.m r) ≡ r = number-digits x.q x.m r some (omega arith) in
-      (number-short x.q x.m x.h f (digits x.q x.m r) (digits-vector x.q x.m r some) (omega arith), shorts rs h.1)
-
   inside : AllByRecursion (λ v. IsShort x.h v) (vectors_of x.q x.m c)
   inside = elim (D.laid.first) [
     | inl e ↦ absurd (omega arith)
-    | inr st ↦ shorts c (each-append_parts (λ r. InRange d f 0 x.h r) c halves.0
+    | inr st ↦ shorts x f room c (each-append_parts (λ r. InRange d f 0 x.h r) c halves.0
         (subst (AllByRecursion (λ r. InRange d f 0 x.h r)) halves.1 (stage-range d f 0 x.h (take x.w all) st))).0
   ]
 

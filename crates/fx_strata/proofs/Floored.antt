@@ -1,7 +1,8 @@
 -- No design below a prefix is worth less than its floor.
 use Rattle.std.proofs.Common.{ℕ, ◌≡◌, ◌<◌, ◌≤◌, ◌+◌, ◌-◌, ◌*◌, zero, suc, Bool, true, false, not, cond, eqb, ◌&&◌}
 use Rattle.std.proofs.Common.{eqb-true, List, [], ◌∷◌, ◌++◌, map, length, take, refl, sym, subst, ◌∙◌, ap, ap₂, arith}
-use Rattle.std.proofs.Common.{inl, inr, Some, append_assoc, length-append, le_trans, drop, take-append-drop, append-nil}
+use Rattle.std.proofs.Common.{inl, inr, Some, min, append_assoc, length-append, le_trans, drop, take-append-drop}
+use Rattle.std.proofs.Common.{append-nil}
 use Rattle.std.proofs.lemmas.Bool.{both_ways, false_from_ne_true, and_from, ltb-true, cases_Bool, cases_eq, cases_lt}
 use Rattle.std.proofs.lemmas.Bool.{cond-true, cond-false, and_parts, or_cases, not-true, le-ltb, or_from, and_right}
 use Rattle.std.proofs.lemmas.Bool.{lt-ltb}
@@ -9,7 +10,8 @@ use Rattle.std.specs.List.{filter, sum_by, AllByRecursion}
 use Rattle.std.proofs.lemmas.List.{map-append, length-map, take-append-le, take_all}
 use Rattle.std.proofs.lemmas.List.Sums.{sum_by-cons}
 use Rattle.std.proofs.Math.Nat.{mul-le-mul_left}
-use Rattle.std.specs.Prelude.{nat_lt, count_by}
+use Rattle.std.specs.Prelude.{nat_lt, nat_le, count_by}
+use Rattle.std.proofs.lemmas.Bool.Decides.{nat_tests}
 use Rattle.fx_designs.specs.Galois.{IsField, digits}
 use Rattle.fx_designs.specs.Vectors.{is_zero, vectors_of}
 use Rattle.fx_designs.specs.Problems.{Dimensions}
@@ -18,8 +20,6 @@ use Rattle.fx_designs.specs.Answers.{falling}
 use Rattle.fx_laws.proofs.Sums.{sum_by-ext, sum_by-zero, sum_by_map}
 use Rattle.fx_laws.proofs.CanonicalTest.{rows-vectors, take-vectors}
 use Rattle.fx_reduction.proofs.PatternOrder.{not_above}
-use Rattle.fx_images.specs.Floors.{least_sum}
-use Rattle.fx_images.proofs.Floors.{least-with, least-without}
 use Rattle.fx_strata.specs.Designs.{Strata, Part, Words, Unclear, Order, part_of, key_of, Figures}
 use Rattle.fx_strata.specs.Words.{words_in}
 use Rattle.fx_strata.specs.Sums.{is_in_base}
@@ -27,7 +27,7 @@ use Rattle.fx_strata.specs.Canonical.{dimensions_of, base, words, unclear, figur
 use Rattle.fx_strata.specs.Canonical.{IsDesign}
 use Rattle.fx_strata.specs.Clear.{is_live, live_sums, pairs}
 use Rattle.fx_strata.specs.Stages.{stage_after, has_units, bound, later_rows, missing}
-use Rattle.fx_strata.specs.Floors.{new_words, is_spare, taking, unclear_floor, needs_none, floor_at, floor}
+use Rattle.fx_strata.specs.Floors.{least_sum, new_words, is_spare, taking, unclear_floor, needs_none, floor_at, floor}
 use Rattle.fx_strata.specs.Floors.{does_not_beat, cannot_beat}
 use Rattle.fx_strata.specs.Laws.{NoneWithoutRoom, NoneBelow}
 use Rattle.fx_strata.proofs.Totals.{total, total-turned, total-more, added, counted}
@@ -37,6 +37,26 @@ use Rattle.fx_strata.proofs.Follows.{rest, no_room}
 use Rattle.fx_strata.proofs.Clearer.{unclear-more}
 use Rattle.fx_strata.proofs.Live.{not-clear}
 use Rattle.fx_strata.proofs.First.{others-live}
+
+-- one of the numbers, and the least sum of the others
+pub least-with : (k x : ℕ) (xs : List ℕ) → least_sum (suc k) (x ∷ xs) ≤ x + least_sum k xs
+least-with k x xs = elim (cases_Bool (nat_le (length xs) k)) [
+  | inl t ↦ subst (λ n. n ≤ x + least_sum k xs)
+      (sym (cond-true (nat_le (length xs) k) (x + least_sum k xs) (min (x + least_sum k xs) (least_sum (suc k) xs)) t))
+      (omega arith)
+  | inr o ↦ subst (λ n. n ≤ x + least_sum k xs)
+      (sym (cond-false (nat_le (length xs) k) (x + least_sum k xs) (min (x + least_sum k xs) (least_sum (suc k) xs)) o))
+      (omega arith)
+]
+
+-- without it, where there are enough others
+pub least-without : (k x : ℕ) (xs : List ℕ) → suc k ≤ length xs → least_sum (suc k) (x ∷ xs) ≤ least_sum (suc k) xs
+least-without k x xs h = elim (cases_Bool (nat_le (length xs) k)) [
+  | inl t ↦ absurd (let low : length xs ≤ k = grind (arith, nat_tests, t) in omega arith)
+  | inr o ↦ subst (λ n. n ≤ least_sum (suc k) xs)
+      (sym (cond-false (nat_le (length xs) k) (x + least_sum k xs) (min (x + least_sum k xs) (least_sum (suc k) xs)) o))
+      (omega arith)
+]
 
 -- rows that come have at least the least sum of all that can come
 come-sum : (d : Dimensions) (from : ℕ) (g : ℕ → ℕ) (n : ℕ) (xs : List ℕ) → AreLater d from n xs

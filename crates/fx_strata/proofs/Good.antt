@@ -4,7 +4,7 @@ use Rattle.std.proofs.Common.{◌∷◌, ◌++◌, map, length, Option, Some, No
 use Rattle.std.proofs.Common.{inr, eqb-true, append_assoc, length-append}
 use Rattle.std.specs.Prelude.{nat_lt}
 use Rattle.std.specs.List.{AllByRecursion, filter}
-use Rattle.std.proofs.Math.Nat.{mul-le-mul_right, mul_comm, pow-suc, pow-zero}
+use Rattle.std.proofs.Math.Nat.{mul-le-mul_right, mul-le-mul_left, pow-suc, pow-zero}
 use Rattle.std.proofs.lemmas.Bool.{cases_Bool, cases_eq, cond-true, cond-false, and_parts, or_cases, or_left, or_right}
 use Rattle.std.proofs.lemmas.Bool.{both_ways, false_from_ne_true, ltb-true}
 use Rattle.std.proofs.lemmas.List.{length-map}
@@ -15,6 +15,7 @@ use Rattle.fx_designs.specs.Patterns.{is_less}
 use Rattle.fx_designs.specs.Answers.{falling, before}
 use Rattle.fx_designs.specs.Nodes.{last_row}
 use Rattle.fx_reduction.proofs.PatternOrder.{less-either, less-trans}
+use Rattle.fx_base.proofs.Numbers.{add_one-mul}
 use Rattle.fx_strata.specs.Designs.{Strata, Part, Words, Unclear, Figures, Order, part_of, key_of, key_of_design}
 use Rattle.fx_strata.specs.Designs.{base_of, figures_of}
 use Rattle.fx_strata.specs.Canonical.{base, figures, IsDesign}
@@ -69,9 +70,6 @@ abbrev place : ℕ → List ℕ → ℕ
 place b [] = 0
 place b (r ∷ rows) = r * b ^ length rows + place b rows
 
-one_more : (y n : ℕ) → (y + 1) * n ≡ y * n + n
-one_more y n = grind arith
-
 place-below : (b n : ℕ) (v : List ℕ) → IsVector b n v → place b v < b ^ n
 place-below b zero [] h = rw (pow-zero b) (omega arith)
 place-below b (suc n) [] h = absurd (let e = h.len in omega arith)
@@ -79,10 +77,8 @@ place-below b zero (a ∷ v) h = absurd (let e = h.len in omega arith)
 place-below b (suc n) (a ∷ v) h =
     let len : length v ≡ n = (let e = h.len in omega arith) in
     let rest : place b v < b ^ n = place-below b n v (record { len = len; codes = h.codes.1 }) in
-    let wide : (a + 1) * b ^ n ≤ b * b ^ n = mul-le-mul_right (b ^ n) (omega (arith, h.codes.0)) in
-    let parts : (a + 1) * b ^ n ≡ a * b ^ n + b ^ n = one_more a (b ^ n) in
-    let last : b * b ^ n ≡ b ^ suc n = mul_comm b (b ^ n) ∙ sym (pow-suc b n) in
-    rw len (omega arith)
+    let wide = mul-le-mul_left {m = a + 1} {n = b} (b ^ n) (omega (arith, h.codes.0)) in
+    rw (len, pow-suc b n) (grind (arith, rest, wide))
 
 -- what stands before is of greater place
 before-place : (b : ℕ) (xs ys : List ℕ) → length xs ≡ length ys → AllByRecursion (λ r. r < b) xs
@@ -98,7 +94,7 @@ before-place b (x ∷ xs) (y ∷ ys) e hx hy h =
           let under : place b ys < b ^ length ys =
           place-below b (length ys) ys (record { len = refl; codes = hy.1 }) in
           let wide : (y + 1) * b ^ length ys ≤ x * b ^ length ys = mul-le-mul_right (b ^ length ys) (omega arith) in
-          let parts : (y + 1) * b ^ length ys ≡ y * b ^ length ys + b ^ length ys = one_more y (b ^ length ys) in
+          let parts : (y + 1) * b ^ length ys ≡ y * b ^ length ys + b ^ length ys = add_one-mul y (b ^ length ys) in
           let is : x * b ^ length xs ≡ x * b ^ length ys = ap (λ n. x * b ^ n) same in
           omega arith
       | inr t ↦

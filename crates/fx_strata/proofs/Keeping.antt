@@ -20,10 +20,10 @@ use Rattle.fx_laws.proofs.Ranks.{number-same, short-scale, change-injective, spa
 use Rattle.fx_laws.proofs.Prefixes.{number-short, number-unit}
 use Rattle.fx_laws.proofs.Reorders.{units_from}
 use Rattle.fx_laws.proofs.Forms.{normal_factor, rank-snoc}
-use Rattle.fx_images.specs.Images.{moved}
-use Rattle.fx_images.proofs.Lists.{IsMember}
-use Rattle.fx_images.proofs.Matrices.{member-left, any_member, all_range, invertible, units-vectors, many}
-use Rattle.fx_images.proofs.Change.{rank-lifted}
+use Rattle.fx_strata.specs.Changes.{moved}
+use Rattle.fx_strata.proofs.Lists.{IsMember}
+use Rattle.fx_strata.proofs.Exchanges.{member-left, any_member, all_range, invertible, units-vectors, many}
+use Rattle.fx_strata.proofs.Change.{rank-lifted}
 use Rattle.fx_strata.specs.Designs.{Strata}
 use Rattle.fx_strata.specs.Canonical.{base}
 use Rattle.fx_strata.specs.Images.{brings}

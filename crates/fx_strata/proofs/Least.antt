@@ -3,7 +3,6 @@ use Rattle.std.proofs.Common.{ℕ, ◌≡◌, ◌<◌, ◌≤◌, ◌+◌, ◌-�
 use Rattle.std.proofs.Common.{◌++◌, length, take, drop, refl, sym, subst, ◌∙◌, ap, ap₂, arith, inl, inr, eq-eqb}
 use Rattle.std.proofs.Common.{append-nil, take-append-drop}
 use Rattle.std.specs.List.{AllByRecursion, range_with_len}
-use Rattle.std.proofs.Math.Nat.{pow-le-pow_right}
 use Rattle.std.proofs.lemmas.Bool.{cases_eq, cond-true, cond-false, ne_eqb, false_from_ne_true, lt-ltb}
 use Rattle.std.proofs.lemmas.List.{length-map, map-append, drop-map}
 use Rattle.std.proofs.lemmas.List.Elements.{All-from_recursion}
@@ -14,19 +13,19 @@ use Rattle.fx_designs.specs.Vectors.{IsVector, weight, is_zero, combination, vec
 use Rattle.fx_designs.specs.Spans.{in_span, rank_of}
 use Rattle.fx_designs.specs.Problems.{Dimensions}
 use Rattle.fx_designs.specs.Runs.{points}
-use Rattle.fx_laws.specs.Changes.{IsShort, IsFormedTo}
+use Rattle.fx_laws.specs.Changes.{IsFormedTo}
 use Rattle.fx_laws.proofs.Codes.{number-digits, digits-vector}
 use Rattle.fx_laws.proofs.Space.{AreVectors, combination-vector, scale-vector}
 use Rattle.fx_laws.proofs.Tests.{bool_same}
 use Rattle.fx_laws.proofs.Ranks.{Spans, spans-none, spans-short, in_span-true, in_span-holds, rank-formed, plus-zero}
-use Rattle.fx_laws.proofs.Prefixes.{number-short, short-number}
+use Rattle.fx_laws.proofs.Prefixes.{short-number}
 use Rattle.fx_laws.proofs.Reorders.{units_from}
 use Rattle.fx_laws.proofs.CanonicalTest.{rows-vectors, take-vectors}
 use Rattle.fx_laws.proofs.Sums.{sum_by-same, sum_by-zero}
 use Rattle.fx_laws.proofs.Raises.{none-combination}
 use Rattle.fx_laws.proofs.Weights.{zeros_from_weight}
-use Rattle.fx_images.proofs.Falls.{formed-units}
-use Rattle.fx_images.proofs.Matrices.{units-vectors}
+use Rattle.fx_strata.proofs.Falls.{formed-units}
+use Rattle.fx_strata.proofs.Exchanges.{units-vectors}
 use Rattle.fx_strata.specs.Designs.{Strata, base_of, words_of, unclear_of, IsStratified}
 use Rattle.fx_strata.specs.Words.{words_in}
 use Rattle.fx_strata.specs.Sums.{effects_at, is_in_base, is_unclear_sum}
@@ -37,7 +36,7 @@ use Rattle.fx_strata.proofs.Moved.{unscaled, in-base, base-in}
 use Rattle.fx_strata.proofs.Runs.{words-are-sums}
 use Rattle.fx_strata.proofs.Unclear.{unclear-are-sums}
 use Rattle.fx_strata.proofs.Raised.{spans-formed}
-use Rattle.fx_strata.proofs.Earlier.{InRange, stage-range}
+use Rattle.fx_strata.proofs.Earlier.{InRange, stage-range, shorts}
 
 module _ (x : Strata) (f : IsField x.q) (rows : List ℕ) (D : IsDesign x rows) where
   abbrev d : Dimensions
@@ -58,15 +57,6 @@ module _ (x : Strata) (f : IsField x.q) (rows : List ℕ) (D : IsDesign x rows) 
   hF : AreVectors x.q x.m F
   hF = rows-vectors x.q x.m f rows
 
-  shorts : (rs : List ℕ) → AllByRecursion (λ r. InRange d f 0 x.h r) rs
-      → AllByRecursion (λ v. IsShort x.h v) (vectors_of x.q x.m rs)
-  shorts [] h = tt
-  shorts (r ∷ rs) h =
-      let low : r < x.q ^ x.h = subst (λ n. r < x.q ^ n) (let e : 0 + x.h ≡ x.h = omega arith in e) h.0.high in
-      let wide : x.q ^ x.h ≤ x.q ^ x.m = pow-le-pow_right some room in
-      let is : number x.q (digits x.q x.m r) ≡ r = number-digits x.q x.m r some (omega arith) in
-      (number-short x.q x.m x.h f (digits x.q x.m r) (digits-vector x.q x.m r some) (omega arith), shorts rs h.1)
-
   -- the base rows are unit vectors and others in their span
   formed : IsFormedTo x.m 0 bs x.h
   formed = elim (cases_eq x.w 0) [
@@ -84,7 +74,8 @@ module _ (x : Strata) (f : IsField x.q) (rows : List ℕ) (D : IsDesign x rows) 
           ∙ sym (map-append (λ r. digits x.q x.m r) (units x.q 0 x.h) st.others)
           ∙ ap (vectors_of x.q x.m) (sym st.is) ∙ sym (take-vectors x.q x.m x.w rows)
           ∙ sym (cond-false (eqb x.w 0) (base x) (take x.w F) (ne_eqb x.w 0 ne)))
-          (formed-units x.m 0 x.h x.h (vectors_of x.q x.m st.others) (omega arith) room (shorts st.others range))
+          (formed-units x.m 0 x.h x.h (vectors_of x.q x.m st.others) (omega arith) room
+          (shorts x f room st.others range))
     ]
   ]
 

@@ -1,3 +1,8 @@
+pub mod Lists
+pub mod Falls
+pub mod Change
+pub mod Exchanges
+mod Entries
 pub mod Totals
 mod Free
 mod Stages

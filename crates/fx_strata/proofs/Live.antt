@@ -19,7 +19,7 @@ use Rattle.fx_designs.specs.Spans.{in_span}
 use Rattle.fx_laws.specs.Changes.{IsChange}
 use Rattle.fx_laws.specs.Scalings.{AreScalars, scaled}
 use Rattle.fx_laws.proofs.Codes.{number-below, digits-number, number-digits, digits-vector}
-use Rattle.fx_laws.proofs.Space.{ext, AreVectors, plus-vector, scale-vector, zeros-vector, combination-vector}
+use Rattle.fx_laws.proofs.Space.{ext, AreVectors, plus-vector, scale-vector, combination-vector}
 use Rattle.fx_laws.proofs.Shift.{all-points, points-sum}
 use Rattle.fx_laws.proofs.Sums.{sum_by-ext, sum_by-plus, sum_by-zero, sum_by-constant, sum_by-swap, sum_by-same}
 use Rattle.fx_laws.proofs.Sums.{sum_by-pick, sum_by_map}
@@ -28,12 +28,14 @@ use Rattle.fx_laws.proofs.Raises.{sum_by-each, sum_by-le}
 use Rattle.fx_laws.proofs.Ranks.{short-scale, plus-zero}
 use Rattle.fx_laws.proofs.Forms.{scale-one}
 use Rattle.fx_laws.proofs.Scalings.{scale-scale}
-use Rattle.fx_laws.proofs.Linear.{dot-plus, dot-scale, dot-zeros}
+use Rattle.fx_laws.proofs.Linear.{dot-plus, dot-scale}
 use Rattle.fx_laws.proofs.Weights.{zeros_from_weight}
 use Rattle.fx_laws.proofs.CanonicalTest.{rows-vectors}
 use Rattle.fx_reduction.proofs.Weights.{weight-minus, minus-apart}
 use Rattle.fx_words.specs.Spreads.{spread}
-use Rattle.fx_images.proofs.Matrices.{each_range}
+use Rattle.fx_base.proofs.Ranges.{each-range}
+use Rattle.fx_base.proofs.Numbers.{eqb_comm}
+use Rattle.fx_laws.proofs.Weights.{same-self}
 use Rattle.fx_strata.specs.Designs.{Strata, is_effect, is_unclear}
 use Rattle.fx_strata.specs.Words.{words_in}
 use Rattle.fx_strata.specs.Sums.{effects_at, is_unclear_sum}
@@ -161,17 +163,9 @@ module _ (q m : ℕ) (f : IsField q) where
       ∙ ap₂ (λ (a b : ℕ). a + b) (sym (spread-total rows 1 (number q v))) (sym (spread-total rows 2 (number q v)))
 
   -- a vector is once among all
-  pub same-self : (u : List ℕ) → same u u ≡ true
-  same-self [] = refl
-  same-self (a ∷ u) = and_from (eqb a a) (same u u) (eq-eqb a a refl) (same-self u)
-
   fold : (e s : Bool) (c a : ℕ) → cond {A = ℕ} (e && s) 1 0 ≡ cond e (cond {A = ℕ} s 1 0) 0
   fold true s c a = refl
   fold false s c a = refl
-
-  turned : (a c : ℕ) → eqb a c ≡ eqb c a
-  turned a c = bool_same (eqb a c) (eqb c a) (λ e. eq-eqb c a (sym (eqb-true a c e)))
-      (λ e. eq-eqb a c (sym (eqb-true c a e)))
 
   pick-cond : (b : Bool) (ps : List (List ℕ)) (s : List ℕ → ℕ)
       → sum_by (λ p. cond b (s p) 0) ps ≡ cond b (sum_by s ps) 0
@@ -189,7 +183,7 @@ module _ (q m : ℕ) (f : IsField q) where
       points-sum q n (λ w. cond {A = ℕ} (same (a ∷ u) w) 1 0)
       ∙ sum_by-ext _ (λ c. cond (eqb c a) inner 0) (codes_of q) (λ c.
       sum_by-ext _ (λ p. cond (eqb c a) (cond {A = ℕ} (same u p) 1 0) 0) (points q n)
-      (λ p. fold (eqb a c) (same u p) c a ∙ ap (λ b. cond b (cond {A = ℕ} (same u p) 1 0) 0) (turned a c))
+      (λ p. fold (eqb a c) (same u p) c a ∙ ap (λ b. cond b (cond {A = ℕ} (same u p) 1 0) 0) (eqb_comm a c))
       ∙ pick-cond (eqb c a) (points q n) (λ p. cond {A = ℕ} (same u p) 1 0))
       ∙ sum_by-pick (λ c. inner) a 0 q (omega arith) (omega arith)
       ∙ once n u hu
@@ -263,9 +257,8 @@ module _ (q m : ℕ) (f : IsField q) where
 
   -- a multiple is a change of the run indexes
   scale-zeros : (c n : ℕ) → scale q c (zeros n) ≡ zeros n
-  scale-zeros c n = ext q n f (scale q c (zeros n)) (zeros n) (scale-vector q n f c (zeros n) (zeros-vector q n f))
-      (zeros-vector q n f)
-      (λ p. dot-scale q f c (zeros n) p ∙ ap (mul q c) (dot-zeros q f n p) ∙ f.mul_zero c ∙ sym (dot-zeros q f n p))
+  scale-zeros c zero = refl
+  scale-zeros c (suc n) = ap₂ (λ (x : ℕ) (w : List ℕ). x ∷ w) (f.mul_zero c) (scale-zeros c n)
 
   pub scaling : (c : ℕ) → 0 < c → c < q → IsChange q m (λ v. scale q c v)
   scaling c pos low = record {
@@ -471,7 +464,7 @@ module _ (x : Strata) (f : IsField x.q) (room : x.h ≤ x.m) (c s : List ℕ) wh
         let both : sum_by (λ n. a n + b n) ns ≡ sum_by a ns + sum_by b ns = sum_by-plus a b ns in
         let less : sum_by (λ n. a n + b n) ns ≤ live_sums x c =
         sum_by-le (λ n. a n + b n) (λ n. cond (L (digits x.q x.m n)) 1 0) ns
-        (each_range (λ n. a n + b n ≤ cond (L (digits x.q x.m n)) 1 0) 0 (x.q ^ x.m)
+        (each-range (λ n. a n + b n ≤ cond (L (digits x.q x.m n)) 1 0) 0 (x.q ^ x.m)
         (λ n low high. per-sum n (omega arith))) in
         omega arith
 

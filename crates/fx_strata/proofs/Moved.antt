@@ -27,9 +27,9 @@ use Rattle.fx_laws.proofs.Forms.{normal_factor, factors-scalars, each_normal, sc
 use Rattle.fx_laws.proofs.Scalings.{scale-scale, scaled-length, scaled-vectors}
 use Rattle.fx_laws.proofs.CanonicalTest.{take-vectors}
 use Rattle.fx_reduction.proofs.Numbers.{back}
-use Rattle.fx_images.proofs.Lists.{IsMember}
-use Rattle.fx_images.proofs.Falls.{free-nonzero}
-use Rattle.fx_images.proofs.Matrices.{units-vectors, reordered-map}
+use Rattle.fx_strata.proofs.Lists.{IsMember}
+use Rattle.fx_strata.proofs.Falls.{free-nonzero}
+use Rattle.fx_strata.proofs.Exchanges.{units-vectors, reordered-map}
 use Rattle.fx_strata.specs.Designs.{Strata}
 use Rattle.fx_strata.specs.Words.{words_in}
 use Rattle.fx_strata.specs.Sums.{is_in_base, is_unclear_sum, unclear_sums, sums_of}
@@ -60,9 +60,6 @@ length-reordered (k ∷ ks) xs = length-reordered ks (swapped k xs) ∙ length-s
 module _ (x : Strata) (f : IsField x.q) (room : x.h ≤ x.m) where
   abbrev pub d : Dimensions
   d = dimensions_of x
-
-  some : 0 < x.q
-  some = omega (arith, f.more_than_one)
 
   fits : x.h + (x.m - x.h) ≤ x.m
   fits = omega (arith, room)

@@ -35,7 +35,6 @@ use Rattle.fx_strata.specs.Orders.{is_compared, compared, factors_first}
 use Rattle.fx_strata.specs.Words.{words_in}
 use Rattle.fx_strata.specs.Sums.{is_in_base, sums_of}
 use Rattle.fx_strata.specs.Ordinary.{ordinary, LessPatternsAreBetter, MatricesAreDesigns}
-use Rattle.fx_strata.proofs.Free.{IsFree}
 use Rattle.fx_strata.proofs.Runs.{words-are-sums}
 
 -- what is less than a list that begins with 0 begins with 0 too, and goes on with less
@@ -124,10 +123,6 @@ module _ (d : Dimensions) (f : IsField d.q) (none : d.t ≡ 0) where
 
     none-of : (k : ℕ) → 0 < k → k < 3 → words_of x [] factors false k ≡ 0
     none-of k some low = words-are-sums x f [] factors tt hf (omega arith) false k ∙ sums-none k some low
-
-    free : IsFree d.q d.m f factors
-    unfolding words_in
-    free = record { one = sums-none 1 (omega arith) (omega arith); two = sums-none 2 (omega arith) (omega arith) }
 
     -- the base has no vector that is not zero
     nothing-inside : sums_of x [] factors true 1 ≡ 0

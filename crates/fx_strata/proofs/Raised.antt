@@ -1,6 +1,7 @@
 -- Rows over a base, and how their rank is raised without more words.
-use Rattle.std.proofs.Common.{ℕ, ◌≡◌, ◌<◌, ◌≤◌, ◌+◌, ◌-◌, zero, suc, Bool, true, false, not, cond, eqb, ◌&&◌, List, []}
-use Rattle.std.proofs.Common.{◌∷◌, ◌++◌, map, length, refl, sym, subst, ◌∙◌, ap, ap₂, arith, inl, inr, ◌⊎◌, eqb-true}
+use Rattle.std.proofs.Common.{ℕ, ◌≡◌, ◌<◌, ◌≤◌, ◌+◌, ◌-◌, zero, suc, Bool, true, false, not, cond, eqb, ◌&&◌, List}
+use Rattle.std.proofs.Common.{[], ◌∷◌, ◌++◌, map, length, refl, sym, subst, ◌∙◌, ap, ap₂, arith, inl, inr, ◌⊎◌}
+use Rattle.std.proofs.Common.{eqb-true}
 use Rattle.std.proofs.Common.{eq-eqb, append_assoc, append-nil, le_trans}
 use Rattle.std.specs.List.{AllByRecursion, sum_by}
 use Rattle.std.specs.Prelude.{nat_lt, ◌||◌}
@@ -26,12 +27,13 @@ use Rattle.fx_laws.proofs.Raises.{ZeroAt, zero-combination, raised-sum, raised-l
 use Rattle.fx_laws.proofs.Raises.{rank-raised, sum_by-le}
 use Rattle.fx_laws.proofs.Follows.{formed-append, formed-short, formed-up, short-unit, unit-unit, raise_some, short-le}
 use Rattle.fx_laws.proofs.Weights.{zeros_from_weight, weight-zeros}
-use Rattle.fx_images.proofs.Falls.{formed-room}
+use Rattle.fx_reduction.proofs.Cancelling.{add-negated}
+use Rattle.fx_strata.proofs.Falls.{formed-room}
 use Rattle.fx_strata.specs.Designs.{Strata, is_effect}
 use Rattle.fx_strata.specs.Words.{words_in}
 use Rattle.fx_strata.specs.Sums.{effects_at, is_in_base, is_unclear_sum, unclear_sums}
-use Rattle.fx_strata.proofs.Totals.{total-same, total-changed, counted}
-use Rattle.fx_strata.proofs.Unclear.{effects-changed, less-self}
+use Rattle.fx_strata.proofs.Totals.{one-less, total-same, total-changed, counted}
+use Rattle.fx_strata.proofs.Unclear.{effects-changed}
 
 -- formed rows span all that is short
 pub spans-formed : (q m k n : ℕ) (f : IsField q) (bs rows : List (List ℕ)) → AreVectors q m rows → Spans q m k bs
@@ -62,12 +64,6 @@ abbrev pub counts : Strata → List (List ℕ) → List (List ℕ) → List (Lis
 counts x bs xs ys false k = words_in x.q x.m is_zero (xs ++ ys) k
 counts x bs xs ys true k =
     words_in x.q x.m (is_in_base x bs) (xs ++ ys) k - words_in x.q x.m (is_in_base x bs) xs k
-
-one-less : (a b c : Bool) → (a ≡ true → b ≡ true) → cond {A = ℕ} (a && c) 1 0 ≤ cond {A = ℕ} (b && c) 1 0
-one-less true b c h = (let e = h refl in rw e (omega arith))
-one-less false true true h = omega arith
-one-less false true false h = omega arith
-one-less false false c h = omega arith
 
 module _ (x : Strata) (f : IsField x.q) where
   -- a change of the run indexes keeps all this
@@ -200,7 +196,7 @@ module _ (x : Strata) (f : IsField x.q) where
         λ c low. add-over x.q f k (add x.q c k) (f.mul_code su.0 (dot x.q v p')) (f.add_code c k) in
         let alone : (c : ℕ) → c < x.q → add x.q (add x.q c k) (mul x.q (neg x.q 1) k) ≡ c =
         λ c low. f.add_assoc c k (mul x.q (neg x.q 1) k)
-        ∙ ap (add x.q c) (less-self x.q x.m f k (f.mul_code su.0 (dot x.q v p'))) ∙ f.add_zero c low in
+        ∙ ap (add x.q c) (add-negated x.q f k (f.mul_code su.0 (dot x.q v p'))) ∙ f.add_zero c low in
         sym (alone a (dot_code x.q f (old-of w) p')) ∙ ap (λ z. add x.q z (mul x.q (neg x.q 1) k)) both
         ∙ alone b (dot_code x.q f (old-of u) p'))
 

@@ -21,8 +21,8 @@ use Rattle.fx_laws.proofs.Forms.{formed-scaled}
 use Rattle.fx_laws.proofs.Follows.{formed-append, formed-short}
 use Rattle.fx_laws.proofs.Prefixes.{number-unit}
 use Rattle.fx_laws.proofs.Weights.{zeros_from_weight}
-use Rattle.fx_images.proofs.Lists.{IsMember}
-use Rattle.fx_images.proofs.Falls.{free-nonzero}
+use Rattle.fx_strata.proofs.Lists.{IsMember}
+use Rattle.fx_strata.proofs.Falls.{free-nonzero}
 use Rattle.fx_strata.specs.Designs.{words_of, unclear_of, Strata, base_of, IsStratified}
 use Rattle.fx_strata.specs.Words.{words_in}
 use Rattle.fx_strata.specs.Sums.{is_in_base, sums_of, unclear_sums}

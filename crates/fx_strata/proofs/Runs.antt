@@ -180,6 +180,12 @@ turned-and true false = refl
 turned-and false true = refl
 turned-and false false = refl
 
+-- what is the same of each vector adds up to the same
+pub each-point : (q n : ℕ) → 0 < q → (g h : List ℕ → ℕ) → ((u : List ℕ) → IsVector q n u → g u ≡ h u)
+    → sum_by g (points q n) ≡ sum_by h (points q n)
+each-point q n positive g h same =
+    sum_by-each g h (points q n) (recursion_from_All _ (points q n) (all-points q n positive (λ u. g u ≡ h u) same))
+
 module _ (x : Strata) (f : IsField x.q) (base factors : List (List ℕ)) (hb : AreVectors x.q x.m base)
     (hf : AreVectors x.q x.m factors) (enough : x.w ≤ length factors) where
   n : ℕ
@@ -188,15 +194,9 @@ module _ (x : Strata) (f : IsField x.q) (base factors : List (List ℕ)) (hb : A
   positive : 0 < x.q
   positive = omega (arith, f.more_than_one)
 
-  each-point : (g h : List ℕ → ℕ) → ((u : List ℕ) → IsVector x.q (length factors) u → g u ≡ h u)
-      → sum_by g (points x.q (length factors)) ≡ sum_by h (points x.q (length factors))
-  each-point g h same =
-      sum_by-each g h (points x.q (length factors)) (recursion_from_All _ (points x.q (length factors))
-      (all-points x.q (length factors) positive (λ u. g u ≡ h u) same))
-
   pub words-are-sums : (b : Bool) (k : ℕ) → words_of x base factors b k ≡ sums_of x base factors b k
   unfolding constant_words words_in
-  words-are-sums false k = each-point
+  words-are-sums false k = each-point x.q (length factors) positive
       (λ u. cond (eqb (weight u) k && is_constant x.q u (runs_of x.q x.m factors)) 1 0)
       (λ u. cond (is_zero (combination x.q x.m u factors) && eqb (weight u) k) 1 0)
       (λ u hu. turned-and (eqb (weight u) k) (is_constant x.q u (runs_of x.q x.m factors))
@@ -206,7 +206,7 @@ module _ (x : Strata) (f : IsField x.q) (base factors : List (List ℕ)) (hb : A
       let at : List ℕ → ℕ = λ u. g (weight u) (combination x.q x.m u factors) in
       let ps : List (List ℕ) = points x.q (length factors) in
       let here : words_of x base factors true k ≡ sum_by (λ u. cond (not (is_zero (drop x.w u))) (at u) 0) ps =
-      each-point (λ u. cond (is_confounded x base factors u && eqb (weight u) k) 1 0)
+      each-point x.q (length factors) positive (λ u. cond (is_confounded x base factors u && eqb (weight u) k) 1 0)
       (λ u. cond (not (is_zero (drop x.w u))) (at u) 0)
       (λ u hu.
       arranged (is_zero (drop x.w u))

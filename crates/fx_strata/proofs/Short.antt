@@ -12,7 +12,7 @@ use Rattle.fx_laws.proofs.Space.{AreVectors, zeros-vector, combination-vector}
 use Rattle.fx_laws.proofs.Changes.{short-zeros}
 use Rattle.fx_laws.proofs.Tests.{bool_same}
 use Rattle.fx_laws.proofs.Ranks.{in_span-true, in_span-holds}
-use Rattle.fx_images.proofs.Change.{rank-most}
+use Rattle.fx_strata.proofs.Change.{rank-most}
 
 module _ (q h j : ℕ) (f : IsField q) where
   -- with zeros behind

@@ -11,7 +11,6 @@ use Rattle.fx_designs.specs.Galois.{mul, IsField, digits}
 use Rattle.fx_designs.specs.Vectors.{IsVector, plus, scale, zeros, weight, is_zero, combination, vectors_of}
 use Rattle.fx_designs.specs.Runs.{points}
 use Rattle.fx_designs.specs.Spans.{in_span}
-use Rattle.fx_designs.specs.Problems.{Dimensions}
 use Rattle.fx_laws.specs.Changes.{IsShort}
 use Rattle.fx_laws.proofs.Space.{scale-vector, combination-vector}
 use Rattle.fx_laws.proofs.Codes.{digits-vector}
@@ -23,8 +22,9 @@ use Rattle.fx_laws.proofs.Raises.{sum_by-each}
 use Rattle.fx_laws.proofs.CanonicalTest.{rows-vectors}
 use Rattle.fx_laws.proofs.Weights.{weight-zeros, zeros_from_weight}
 use Rattle.fx_words.specs.Spreads.{spread, so_far}
+use Rattle.fx_reduction.proofs.ConstantTests.{constant-words}
+use Rattle.fx_words.proofs.Spreads.{words-spread}
 use Rattle.fx_words.proofs.Levels.{so_far-all, so_far-zero}
-use Rattle.fx_images.proofs.Floors.{as-spread}
 use Rattle.fx_strata.specs.Designs.{Strata}
 use Rattle.fx_strata.specs.Words.{words_in}
 use Rattle.fx_strata.specs.Sums.{is_in_base}
@@ -81,9 +81,8 @@ zero-spread : (q m : ℕ) (f : IsField q) (rows : List ℕ) (k : ℕ)
     → words_in q m is_zero (vectors_of q m rows) k ≡ spread q m (vectors_of q m rows) k 0
 zero-spread q m f rows k =
     let x : Strata = record { q = q; m = m; h = 0; w = 0; n = 0 } in
-    let d : Dimensions = record { q = q; m = m; s = 0; t = 0 } in
     sym (words-are-sums x f [] (vectors_of q m rows) tt (rows-vectors q m f rows) (omega arith) false k)
-    ∙ as-spread d f rows k
+    ∙ constant-words q m f (vectors_of q m rows) (rows-vectors q m f rows) k ∙ words-spread q m (vectors_of q m rows) k
 
 -- a row more
 pushed : (q m : ℕ) (f : IsField q) (rows : List ℕ) (r k : ℕ) → 0 < k → r < q ^ m
@@ -130,7 +129,7 @@ module _ (x : Strata) (f : IsField x.q) (room : x.h ≤ x.m) where
       (λ e. base-in x f room v hv (drop-short x.h (length (drop x.h v)) v
       (zeros_from_weight (drop x.h v) (length (drop x.h v)) refl (eqb-true (weight (drop x.h v)) 0 e))))
 
-  zero-inside : (v : List ℕ) → IsVector x.q x.m v → is_zero v ≡ true → in_span x.q x.m (base x) v ≡ true
+  pub zero-inside : (v : List ℕ) → IsVector x.q x.m v → is_zero v ≡ true → in_span x.q x.m (base x) v ≡ true
   zero-inside v hv e = base-in x f room v hv
       (subst (IsShort x.h) (sym (zeros_from_weight v x.m hv.len (eqb-true (weight v) 0 e))) (zeros-short x.m x.h))
 

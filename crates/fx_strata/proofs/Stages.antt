@@ -21,11 +21,12 @@ use Rattle.fx_laws.proofs.Reorders.{units_from, each-reordered, reordered-append
 use Rattle.fx_laws.proofs.Falling.{FallsStrictly}
 use Rattle.fx_laws.proofs.CanonicalTest.{rows-vectors}
 use Rattle.fx_reduction.proofs.Numbers.{back}
-use Rattle.fx_images.specs.Images.{falling_order}
-use Rattle.fx_images.proofs.Lists.{order-falls, order_by_swaps, IsMember, Pulled, pull}
-use Rattle.fx_images.proofs.Falls.{free-units, free-strict}
-use Rattle.fx_images.proofs.Matrices.{each_range, found_range, units-vectors, units-differ, is-unit, falls-weakly}
-use Rattle.fx_images.proofs.Matrices.{reordered-map}
+use Rattle.fx_base.proofs.Ranges.{each-range}
+use Rattle.fx_strata.specs.Changes.{falling_order}
+use Rattle.fx_strata.proofs.Lists.{order-falls, order_by_swaps, IsMember, Pulled, pull}
+use Rattle.fx_strata.proofs.Falls.{free-units, free-strict}
+use Rattle.fx_strata.proofs.Exchanges.{found_range, units-vectors, units-differ, is-unit, falls-weakly}
+use Rattle.fx_strata.proofs.Exchanges.{reordered-map}
 use Rattle.fx_strata.specs.Canonical.{units, AreLater}
 use Rattle.fx_strata.proofs.Totals.{total-reordered, counted}
 use Rattle.fx_strata.proofs.Free.{IsFree, word-free, free-back}
@@ -58,8 +59,8 @@ module _ (d : Dimensions) (f : IsField d.q) where
       | inl t ↦
           let found = found_range (λ i. eqb r (d.q ^ i)) 0 d.m t in
           let i : ℕ = found.0 in
-          let small : i < d.m = omega (arith, found.1) in
-          let is : r ≡ d.q ^ i = eqb-true r (d.q ^ i) found.2 in
+          let small : i < d.m = omega (arith, found.2) in
+          let is : r ≡ d.q ^ i = eqb-true r (d.q ^ i) found.3 in
           absurd (elim (cases_lt i from) [
             | inl less ↦
                 let p : d.q ^ i < d.q ^ from = pow-less i from less in
@@ -161,10 +162,10 @@ module _ (d : Dimensions) (f : IsField d.q) where
       pulled : Pulled passes (units d.q from len) nums
       pulled = pull passes (units d.q from len) nums
           (each-map (λ x. passes x ≡ false) (λ i. d.q ^ i) (range_with_len from len)
-          (each_range (λ i. passes (d.q ^ i) ≡ false) from len (λ i low high. ap not (is-unit d f i (omega arith)))))
+          (each-range (λ i. passes (d.q ^ i) ≡ false) from len (λ i low high. ap not (is-unit d f i (omega arith)))))
           (units-differ d f from len room)
           (each-map (λ x. IsMember x nums) (λ i. d.q ^ i) (range_with_len from len)
-          (each_range (λ i. IsMember (d.q ^ i) nums) from len come))
+          (each-range (λ i. IsMember (d.q ^ i) nums) from len come))
 
       rest-in : AllByRecursion (λ r. InStage r) pulled.rest
       rest-in = (each-append_parts (λ r. InStage r) (units d.q from len) pulled.rest

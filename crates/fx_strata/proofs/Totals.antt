@@ -1,6 +1,6 @@
 -- Sums over all words of some rows, of anything that depends on the weight of the word and on its sum.
-use Rattle.std.proofs.Common.{ℕ, ◌≡◌, ◌<◌, ◌≤◌, ◌+◌, ◌-◌, suc, Bool, cond, eqb, ◌&&◌, List, [], ◌∷◌, ◌++◌, map, length}
-use Rattle.std.proofs.Common.{refl, sym, ◌∙◌, ap, ap₂, arith, append-nil}
+use Rattle.std.proofs.Common.{ℕ, ◌≡◌, ◌<◌, ◌≤◌, ◌+◌, ◌-◌, suc, Bool, true, false, cond, eqb, ◌&&◌, List, [], ◌∷◌, ◌++◌}
+use Rattle.std.proofs.Common.{map, length, refl, sym, ◌∙◌, ap, ap₂, arith, append-nil}
 use Rattle.std.specs.Prelude.{nat_lt}
 use Rattle.std.specs.List.{sum_by, range_with_len}
 use Rattle.std.proofs.lemmas.List.{length-map}
@@ -224,3 +224,10 @@ module _ (q m : ℕ) (f : IsField q) where
 module _ (q m : ℕ) (f : IsField q) (test : List ℕ → Bool) (k : ℕ) where
   abbrev pub counted : ℕ → List ℕ → ℕ
   counted j v = cond (test v && eqb j k) 1 0
+
+-- with a test that holds no more often no more is counted
+pub one-less : (a b c : Bool) → (a ≡ true → b ≡ true) → cond {A = ℕ} (a && c) 1 0 ≤ cond {A = ℕ} (b && c) 1 0
+one-less true b c h = (let e = h refl in rw e (omega arith))
+one-less false true true h = omega arith
+one-less false true false h = omega arith
+one-less false false c h = omega arith

@@ -1,27 +1,24 @@
 -- Words of one factor or two that have one sum, and the words of two factors that are not clear.
-use Rattle.std.proofs.Common.{ℕ, ◌≡◌, ◌<◌, cond, eqb, ◌&&◌, ◌||◌, List, map, length, refl, sym, ◌∙◌, ap, ap₂, arith}
+use Rattle.std.proofs.Common.{ℕ, ◌≡◌, cond, eqb, ◌&&◌, ◌||◌, List, map, length, refl, sym, ◌∙◌, ap, ap₂, arith}
 use Rattle.std.proofs.Common.{eqb-true, eq-eqb}
 use Rattle.std.specs.Prelude.{nat_lt}
-use Rattle.std.specs.List.{sum_by}
-use Rattle.std.proofs.lemmas.List.Elements.{recursion_from_All}
 use Rattle.fx_designs.specs.Galois.{add, mul, neg, IsField, number}
 use Rattle.fx_designs.specs.Vectors.{IsVector, dot, scale, minus, zeros, weight, is_zero, combination}
-use Rattle.fx_designs.specs.Runs.{points, runs_of, is_constant}
+use Rattle.fx_designs.specs.Runs.{runs_of, is_constant}
 use Rattle.fx_laws.specs.Changes.{IsChange}
-use Rattle.fx_laws.proofs.Linear.{dot-zeros, dot_code, zero-mul}
-use Rattle.fx_laws.proofs.Separation.{add-mul, one-mul}
+use Rattle.fx_laws.proofs.Linear.{dot-zeros, dot_code}
 use Rattle.fx_laws.proofs.Changes.{add-over, change-zeros}
 use Rattle.fx_laws.proofs.Space.{ext, AreVectors, plus-vector, scale-vector, zeros-vector, combination-vector}
-use Rattle.fx_laws.proofs.Shift.{all-points}
 use Rattle.fx_laws.proofs.Tests.{bool_same}
 use Rattle.fx_laws.proofs.Ranks.{change-injective, number-same}
-use Rattle.fx_laws.proofs.Raises.{plus-combination, scale-combination, sum_by-each}
+use Rattle.fx_laws.proofs.Raises.{plus-combination, scale-combination}
 use Rattle.fx_laws.proofs.Weights.{zeros_from_weight, weight-zeros}
+use Rattle.fx_reduction.proofs.Cancelling.{add-negated}
 use Rattle.fx_strata.specs.Designs.{Strata, is_effect, is_unclear, effects_of, unclear_of}
 use Rattle.fx_strata.specs.Words.{words_in}
 use Rattle.fx_strata.specs.Sums.{effects_at, is_unclear_sum, unclear_sums}
 use Rattle.fx_strata.proofs.Totals.{total, total-same, total-changed}
-use Rattle.fx_strata.proofs.Runs.{in-blocks, over-all}
+use Rattle.fx_strata.proofs.Runs.{each-point, in-blocks, over-all}
 
 module _ (q m : ℕ) (f : IsField q) where
   -- of the words that are counted for the sum v
@@ -63,11 +60,6 @@ module _ (q m : ℕ) (f : IsField q) where
         effects-total (map a zs) (a v) ∙ total-changed q m f (near (a v)) a change zs hz ∙ effects-kept v hv zs hz
 
   -- the difference of two sums
-  pub less-self : (a : ℕ) → a < q → add q a (mul q (neg q 1) a) ≡ 0
-  less-self a low =
-      ap (λ z. add q z (mul q (neg q 1) a)) (sym (one-mul q f a low)) ∙ sym (add-mul q f 1 (neg q 1) a)
-      ∙ ap (λ z. mul q z a) (f.add_neg 1) ∙ zero-mul q f a
-
   difference : (u v p : List ℕ) (rows : List (List ℕ)) → dot q (combination q m (minus q u v) rows) p
       ≡ add q (dot q (combination q m u rows) p) (mul q (neg q 1) (dot q (combination q m v rows) p))
   difference u v p rows =
@@ -94,18 +86,12 @@ module _ (q m : ℕ) (f : IsField q) where
       (λ e. ap is_zero (ext q m f c (zeros m) hc (zeros-vector q m f) (λ p.
       difference u v p rows
       ∙ ap (λ z. add q (dot q a p) (mul q (neg q 1) (dot q z p))) (number-same q m f b a hb ha (eqb-true _ _ e))
-      ∙ less-self (dot q a p) (dot_code q f a p) ∙ sym (dot-zeros q f m p)))
+      ∙ add-negated q f (dot q a p) (dot_code q f a p) ∙ sym (dot-zeros q f m p)))
       ∙ eq-eqb (weight (zeros m)) 0 (weight-zeros m))
 
 -- over the runs
 module _ (x : Strata) (f : IsField x.q) (base factors : List (List ℕ)) (hb : AreVectors x.q x.m base)
     (hf : AreVectors x.q x.m factors) where
-  each-point : (g h : List ℕ → ℕ) → ((u : List ℕ) → IsVector x.q (length factors) u → g u ≡ h u)
-      → sum_by g (points x.q (length factors)) ≡ sum_by h (points x.q (length factors))
-  each-point g h same =
-      sum_by-each g h (points x.q (length factors)) (recursion_from_All _ (points x.q (length factors))
-      (all-points x.q (length factors) (omega (arith, f.more_than_one)) (λ u. g u ≡ h u) same))
-
   pub minus-vector : (u v : List ℕ) → IsVector x.q (length factors) u → IsVector x.q (length factors) v
       → IsVector x.q (length factors) (minus x.q u v)
   minus-vector u v hu hv =
@@ -115,7 +101,7 @@ module _ (x : Strata) (f : IsField x.q) (base factors : List (List ℕ)) (hb : A
   pub effects-are : (u : List ℕ) → IsVector x.q (length factors) u
       → effects_of x factors u ≡ effects_at x.q x.m factors (combination x.q x.m u factors)
   unfolding effects_at
-  effects-are u hu = each-point
+  effects-are u hu = each-point x.q (length factors) (omega (arith, f.more_than_one))
       (λ v. cond (is_constant x.q (minus x.q u v) (runs_of x.q x.m factors) && is_effect (weight v)) 1 0)
       (λ v. cond (eqb (number x.q (combination x.q x.m v factors)) (number x.q (combination x.q x.m u factors))
       && is_effect (weight v)) 1 0)
@@ -129,7 +115,7 @@ module _ (x : Strata) (f : IsField x.q) (base factors : List (List ℕ)) (hb : A
 
   pub unclear-are-sums : unclear_of x base factors ≡ unclear_sums x base factors
   unfolding words_in
-  unclear-are-sums = each-point
+  unclear-are-sums = each-point x.q (length factors) (omega (arith, f.more_than_one))
       (λ u. cond (is_unclear x base factors u && eqb (weight u) 2) 1 0)
       (λ u. cond (is_unclear_sum x base factors (combination x.q x.m u factors) && eqb (weight u) 2) 1 0)
       (λ u hu. ap (λ b. cond {A = ℕ} (b && eqb (weight u) 2) 1 0) (unclear-test u hu))

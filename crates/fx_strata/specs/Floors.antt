@@ -1,13 +1,21 @@
 -- Floors of keys: at least so much each entry of the key counts for each design below a prefix.
-use Rattle.std.specs.Prelude.{ℕ, ◌==◌, ◌+◌, ◌-◌, ◌*◌, ◌&&◌, not, nat_lt, max, Bool, false, List, [], ◌∷◌, ◌++◌, map}
+use Rattle.std.specs.Prelude.{ℕ, zero, suc, ◌==◌, ◌+◌, ◌-◌, ◌*◌, ◌&&◌, not, nat_lt, nat_le, min, max, Bool, false, List}
+use Rattle.std.specs.Prelude.{[], ◌∷◌, ◌++◌, map}
 use Rattle.std.specs.Prelude.{count_by, length, if◌then◌else◌, Option, Some, None}
 use Rattle.fx_designs.specs.Galois.{digits}
 use Rattle.fx_designs.specs.Patterns.{is_less}
-use Rattle.fx_images.specs.Floors.{least_sum}
 use Rattle.fx_strata.specs.Designs.{Strata, Part, Words, Unclear, Order, key_of}
 use Rattle.fx_strata.specs.Canonical.{words, unclear, figures}
 use Rattle.fx_strata.specs.Clear.{is_live, live_sums, pairs}
 use Rattle.fx_strata.specs.Stages.{has_units, later_rows, missing}
+
+-- the least sum of k of the numbers, or of all where there are fewer
+abbrev pub least_sum : ℕ → List ℕ → ℕ
+least_sum zero counts = 0
+least_sum (suc k) [] = 0
+least_sum (suc k) (x ∷ counts) =
+    (if nat_le (length counts) k then x + least_sum k counts else min (x + least_sum k counts)
+    (least_sum (suc k) counts))
 
 -- the words that a further row makes with rows of the prefix alone
 abbrev pub new_words : Strata → List ℕ → ℕ → Bool → ℕ → ℕ

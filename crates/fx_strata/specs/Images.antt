@@ -7,7 +7,7 @@ use Rattle.fx_designs.specs.Problems.{Dimensions}
 use Rattle.fx_designs.specs.Canonical.{is_unit}
 use Rattle.fx_designs.specs.Patterns.{is_less}
 use Rattle.fx_designs.specs.Answers.{falling}
-use Rattle.fx_images.specs.Images.{falling_order, moved}
+use Rattle.fx_strata.specs.Changes.{falling_order, moved}
 use Rattle.fx_strata.specs.Designs.{Strata}
 use Rattle.fx_strata.specs.Canonical.{units, dimensions_of}
 
@@ -23,7 +23,7 @@ first_in_order x rows = (if x.w == 0 then [] else in_order (dimensions_of x) 0 x
 abbrev pub second_in_order : Strata → List ℕ → List ℕ
 second_in_order x rows = in_order (dimensions_of x) x.h (x.m - x.h) rows
 
--- what a change makes of each of some rows; it is given as in `fx_images`, by m numbers
+-- what a change makes of each of some rows
 abbrev pub moved_rows : Strata → List ℕ → List ℕ → List ℕ
 moved_rows x change rows = map (moved (dimensions_of x) change) rows
 

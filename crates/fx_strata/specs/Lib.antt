@@ -4,6 +4,7 @@ pub mod Words
 pub mod Sums
 pub mod Canonical
 pub mod Clear
+pub mod Changes
 pub mod Images
 pub mod Stages
 pub mod Floors

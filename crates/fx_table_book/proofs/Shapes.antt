@@ -124,11 +124,3 @@ base_little base h =
       h = omega (arith, h.inside, m);
       factors = h.shaped.factors;
     }
-
--- what has too many factors does not pass
-pub too_many : (base : Base) → 63 < base.w + base.n → is_base base ≡ false
-too_many base many =
-    elim (cases_Bool (is_base base)) [
-      | inl t ↦ absurd (let few = (base_is base t).base.shaped.factors in omega (arith, few, many))
-      | inr out ↦ out
-    ]

@@ -5,7 +5,6 @@ use Rattle.std.specs.Prelude.{Result, Ok, Err, IfOk}
 use Rattle.std.specs.List.{range_with_len, flat_map, AllByRecursion}
 use Rattle.std.proofs.lemmas.Bool.{and_parts, leb-true}
 use Rattle.std.proofs.lemmas.Grind.{flat_map-append}
-use Rattle.std.proofs.lemmas.List.Concat.{flat_map_single}
 use Rattle.std.proofs.lemmas.List.Elements.{filter-append, filter_passes, recursion_from_All, All-from_recursion}
 use Rattle.fx_strata.specs.Designs.{Strata, Part, Words}
 use Rattle.fx_strata.specs.Designs as designs
@@ -70,20 +69,6 @@ module _ (x : Strata) where
       ∙ ap (λ (l : List Part). start ++ l)
       (sym (ap (λ (l : List ℕ). compared x (flat_map f l)) range ∙ ap (compared x) turns
       ∙ compared-append (flat_map f before) (f (suc n))))
-
-  -- all turns
-  pub turns_of_all : (f : ℕ → List Part) (k s : ℕ)
-      → k ≡ s + 1
-      → turns_before f k ≡ compared x (flat_map f (range_with_len 1 s))
-  turns_of_all f k s e =
-      let less : k - 1 ≡ s = omega (arith, e) in ap (λ (n : ℕ). compared x (flat_map f (range_with_len 1 n))) less
-
-  -- turns of a part each
-  pub singles : (f : ℕ → Part) (k s : ℕ)
-      → k ≡ s + 1
-      → turns_before (λ k. f k ∷ []) k ≡ compared x (map f (range_with_len 1 s))
-  singles f k s e =
-      turns_of_all (λ k. f k ∷ []) k s e ∙ ap (compared x) (flat_map_single f (range_with_len 1 s))
 
   -- what is compared has a weight of so many factors
   each_weight : (parts : List book.Part)

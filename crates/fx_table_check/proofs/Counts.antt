@@ -11,11 +11,9 @@ use Rattle.fx_designs.specs.Vectors.{IsVector, weight, combination, vectors_of, 
 use Rattle.fx_designs.specs.Runs.{points}
 use Rattle.fx_designs.specs.Spans.{in_span}
 use Rattle.fx_designs.specs.Patterns.{pattern_of}
-use Rattle.fx_laws.specs.Changes.{IsShort}
 use Rattle.fx_laws.proofs.Space.{combination-vector, zeros-vector}
 use Rattle.fx_laws.proofs.Ranks.{number-same}
-use Rattle.fx_laws.proofs.Changes.{zeros-short}
-use Rattle.fx_laws.proofs.Weights.{weight-zeros, zeros_from_weight}
+use Rattle.fx_laws.proofs.Weights.{weight-zeros}
 use Rattle.std.proofs.Math.Nat.{mul_comm, mul-div_cancel, mul-sub, div-mul-le_self}
 use Rattle.std.proofs.lemmas.List.{get_or-map, get_or-take, length-take}
 use Rattle.fx_laws.proofs.CanonicalTest.{rows-vectors, take-vectors}
@@ -32,6 +30,7 @@ use Rattle.fx_strata.specs.Sums.{is_in_base}
 use Rattle.fx_strata.specs.Canonical.{dimensions_of, base, words}
 use Rattle.fx_strata.proofs.Totals.{total-same, counted}
 use Rattle.fx_strata.proofs.Moved.{in-base, base-in}
+use Rattle.fx_strata.proofs.Spreads.{zero-inside}
 use Rattle.fx_table_check.specs.Counts.{coset, cosets, confounded_at}
 use Rattle.fx_table_check.proofs.Cosets.{flat, flat-combination, flat-rows, flat-short, short-flat}
 
@@ -79,11 +78,6 @@ module _ (x : Strata) (f : IsField x.q) (room : x.h ≤ x.m) where
       ∙ ap is_zero (flat-combination x.q f x.m x.h u (vecs rows))
       ∙ in-test (combination x.q x.m u (vecs rows)) (sum-vector rows u)))
 
-  zero-in : (v : List ℕ) → IsVector x.q x.m v → is_zero v ≡ true → in_span x.q x.m (base x) v ≡ true
-  zero-in v hv e =
-      base-in x f room v hv (subst (IsShort x.h) (sym (zeros_from_weight v x.m hv.len (eqb-true (weight v) 0 e)))
-      (zeros-short x.m x.h))
-
   both-parts : (z i b : Bool) → (z ≡ true → i ≡ true)
       → cond {A = ℕ} ((not z && i) && b) 1 0 + cond (z && b) 1 0 ≡ cond (i && b) 1 0
   both-parts true true true h = refl
@@ -107,7 +101,7 @@ module _ (x : Strata) (f : IsField x.q) (room : x.h ≤ x.m) where
       refl
       (λ u hu. both-parts (is_zero (combination x.q x.m u (vecs rows)))
       (in_span x.q x.m (base x) (combination x.q x.m u (vecs rows))) (eqb (weight u) k)
-      (zero-in (combination x.q x.m u (vecs rows)) (sum-vector rows u)))
+      (zero-inside x f room (combination x.q x.m u (vecs rows)) (sum-vector rows u)))
 
   -- each word counts with its multiples
   module _ (rows : List ℕ) (low : (i : ℕ) → i < length rows → slice_index rows i < x.q ^ x.m) where

@@ -10,3 +10,5 @@ pub mod UpToTwo
 pub mod Multiples
 pub mod Divided
 pub mod Good
+pub mod Comparing
+pub mod LeastOf

@@ -2,7 +2,7 @@
 use Rattle.std.proofs.Common.{ℕ, ◌≡◌, Bool, eqb, ◌||◌, List, [], ◌∷◌, ◌++◌, map, refl, sym, ◌∙◌, ap, ap₂}
 use Rattle.std.specs.List.{list_any}
 use Rattle.std.proofs.lemmas.List.{map-append}
-use Rattle.fx_images.specs.Images.{moved}
+use Rattle.fx_strata.specs.Changes.{moved}
 use Rattle.fx_strata.specs.Designs.{Strata}
 use Rattle.fx_strata.specs.Canonical.{units, dimensions_of}
 use Rattle.fx_table_check.specs.declared.moved.Moved.{Moved}

@@ -3,7 +3,7 @@ use Rattle.std.proofs.Common.{ℕ, ◌≡◌, ◌<◌, ◌≤◌, ◌+◌, ◌-�
 use Rattle.std.proofs.Common.{length, take}
 use Rattle.std.proofs.Common.{slice_index, sym, subst, ◌∙◌, ap, ap₂, arith}
 use Rattle.std.specs.List.{AllByRecursion}
-use Rattle.std.proofs.lemmas.List.{length_push, take-append-le, take-map, map_push, length-take, length-map, take_all}
+use Rattle.std.proofs.lemmas.List.{length_push, take-append-le, take-map, length-take, length-map}
 use Rattle.std.proofs.lemmas.List.{take-take}
 use Rattle.std.proofs.Math.Nat.{pow-le-pow_right}
 use Rattle.fx_designs.specs.Patterns.{pattern_of}
@@ -74,18 +74,6 @@ module _ (base : Base) (rows : List ℕ) (r i : ℕ) (e : Extends base rows r i)
       words-true (strata_of base) (field base valid) valid.inside (rows ++ r ∷ [])
       (each-at (λ r. r < base.q ^ base.m) (rows ++ r ∷ []) all-low) fits i e.at
 
-  -- the inside factors alone have no confounded words of any account
-  pub none-yet : length rows < base.w → ◌≡◌ {A = ℕ} (words (strata_of base) (rows ++ r ∷ []) true (i + 1)) 0
-  none-yet few =
-      confounded
-      ∙ ap (λ l. (base.q - 1)
-      * (confounded_at (strata_of base) (rows ++ r ∷ []) i - confounded_at (strata_of base) l i))
-      (take_all base.w (rows ++ r ∷ []) (omega (arith, length_push rows r)))
-      ∙ none (base.q - 1) (confounded_at (strata_of base) (rows ++ r ∷ []) i)
-    where
-      none : (a b : ℕ) → ◌≡◌ {A = ℕ} (a * (b - b)) 0
-      none a b = ap (λ n. a * n) (let z : b - b ≡ 0 = omega arith in z) ∙ (omega arith)
-
   pub confounded-late : base.w ≤ length rows → (noted : ℕ)
       → noted ≡ confounded_at (strata_of base) (take base.w rows) i
       → (base.q - 1) * (confounded_at (strata_of base) (rows ++ r ∷ []) i - noted)
@@ -111,26 +99,6 @@ pub noted-of : (v u : PrefixView) → v ≡ u → (noted : List ℕ) (i : ℕ)
 noted-of v u same noted i known at late =
     subst (λ (z : PrefixView). (i : ℕ) → i < z.base.w + z.base.n → z.base.w ≤ length z.rows
     → slice_index noted i ≡ confounded_at (strata_of z.base) (take z.base.w z.rows) i) same known i at late
-
--- one row more
-pub pushed : (base : Base) (rows modulo : MatrixView) (noted : List ℕ) (others : Shape) (sums : SumsView)
-    → IsPrefix base rows modulo noted others sums
-    → (r : ℕ) → length rows.rows < base.w + base.n
-    → (noted' : List ℕ)
-    → ((i : ℕ) → i < base.w + base.n → base.w ≤ length rows.rows + 1
-    → slice_index noted' i ≡ confounded_at (strata_of base) (take base.w (rows.rows ++ r ∷ [])) i)
-    → IsPrefix base (record rows { rows = rows.rows ++ r ∷ [] })
-    (record modulo { rows = modulo.rows ++ coset (strata_of base) r ∷ [] }) noted' others sums
-pushed base rows modulo noted others sums h r room noted' are = record {
-  valid = h.valid;
-  shape = h.shape;
-  coset_shape = h.coset_shape;
-  others_shape = h.others_shape;
-  sums_are = h.sums_are;
-  cosets = ap (λ l. l ++ coset (strata_of base) r ∷ []) h.cosets ∙ sym (map_push (coset (strata_of base)) rows.rows r);
-  few = omega (arith, length_push rows.rows r);
-  inside = λ i at late. are i at (omega (arith, late, length_push rows.rows r));
-}
 
 -- one row less
 pub popped : (base : Base) (rows modulo : MatrixView) (noted : List ℕ) (others : Shape) (sums : SumsView)

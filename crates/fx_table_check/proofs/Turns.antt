@@ -33,16 +33,6 @@ module _ (x : Strata) where
       ∙ ap (λ j. children_below x (take k rows) n ++ after x (take k rows) j)
       (sym (length-take-le k rows (omega arith)))
 
-  pub found-turns : (rows : List ℕ) (below row : ℕ)
-      → filter (may_follow x rows) (falling below) ≡ row ∷ filter (may_follow x rows) (falling row)
-      → pending x rows below ≡ (rows ++ row ∷ []) ∷ pending x rows row
-  found-turns rows below row e = ap (λ l. map (λ r. rows ++ r ∷ []) l ++ after x rows (length rows)) e
-
-  pub none-left : (rows : List ℕ) (below : ℕ) → filter (may_follow x rows) (falling below) ≡ [] → length rows ≡ 0
-      → pending x rows below ≡ []
-  none-left rows below none len =
-      ap (λ l. map (λ r. rows ++ r ∷ []) l ++ after x rows (length rows)) none ∙ ap (after x rows) len
-
   -- a branch is entered
   pub entered : (rows : List ℕ) (row n : ℕ) → n ≡ x.q ^ x.m
       → children x (rows ++ row ∷ []) ++ pending x rows row ≡ pending x (rows ++ row ∷ []) n

@@ -82,21 +82,11 @@ module _ (x : Strata) (f : IsField x.q) (room : x.h ≤ x.m) (rows : List ℕ) (
   like : number x.q (digits x.q x.m r) ≡ r
   like = number-digits x.q x.m r (omega (arith, f.more_than_one)) top
 
-  pub dead-clear : is_live x rows (digits x.q x.m r) ≡ false → false ≡ is_clear_sum x rows (digits x.q x.m r)
-  dead-clear dead = sym (ap (λ t. t && eqb (sums_at x rows 2 (number x.q (digits x.q x.m r))) 1) dead)
-
   pub live-clear : is_live x rows (digits x.q x.m r) ≡ true → eqb b 1 ≡ is_clear_sum x rows (digits x.q x.m r)
   live-clear live =
       ap (λ (k : ℕ). eqb k 1) two ∙ one-same (sums_at x rows 2 r)
       ∙ sym (ap (λ t. t && eqb (sums_at x rows 2 (number x.q (digits x.q x.m r))) 1) live
       ∙ ap (λ (k : ℕ). eqb (sums_at x rows 2 k) 1) like)
-
-  pub word-of-two : nat_lt 0 b ≡ nat_lt 0 (sums_at x rows 2 r)
-  word-of-two = ap (λ (k : ℕ). nat_lt 0 k) two ∙ elim (cases_lt (sums_at x rows 2 r) 2) [
-    | inl l ↦ ap (λ (k : ℕ). nat_lt 0 k) (few-same (sums_at x rows 2 r) l)
-    | inr g ↦ ap (λ (k : ℕ). nat_lt 0 k) (many-two (sums_at x rows 2 r) (omega arith))
-        ∙ sym (lt-ltb 0 (sums_at x rows 2 r) (omega arith))
-  ]
 
 -- a row makes a constant word of three factors where a word of two has it as its sum
 pub makes-three : (x : Strata) (f : IsField x.q) → x.h ≤ x.m → (rows : List ℕ) (r : ℕ) → r < x.q ^ x.m
@@ -191,9 +181,6 @@ count-false p n c is o =
 module _ (later spare : ℕ → Bool) (n : ℕ) where
   abbrev counted : ℕ → ℕ
   counted k = count_by spare (filter later (falling k))
-
-  pub not-later : later n ≡ false → counted (suc n) ≡ counted n
-  not-later o = ap (λ b. count_by spare (cond b (n ∷ filter later (falling n)) (filter later (falling n)))) o
 
   later-more : later n ≡ true → counted (suc n) ≡ cond {A = ℕ} (spare n) 1 0 + counted n
   later-more t =

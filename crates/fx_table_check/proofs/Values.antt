@@ -11,9 +11,9 @@ use Rattle.std.proofs.lemmas.List.{get_or-map, length-map, length_push}
 use Rattle.std.proofs.Math.Nat.{pow-le-pow_right}
 use Rattle.fx_designs.specs.Galois.{IsField}
 use Rattle.fx_designs.specs.Patterns.{is_less}
-use Rattle.fx_images.specs.Floors.{least_sum}
-use Rattle.fx_images.proofs.Floors.{least-with}
-use Rattle.fx_words.proofs.Entries.{less-here, less-past}
+use Rattle.fx_strata.specs.Floors.{least_sum}
+use Rattle.fx_strata.proofs.Floored.{least-with}
+use Rattle.fx_words.proofs.Entries.{less-here}
 use Rattle.fx_strata.specs.Designs as designs
 use Rattle.fx_strata.specs.Designs.{Strata}
 use Rattle.fx_strata.specs.Canonical.{words}
@@ -60,10 +60,6 @@ module _ (a b : List ℕ) (i v : ℕ) (ha : i < length a) (hb : i < length b) (i
       || (eqb (get_or a i 0) (get_or b i 0) && is_less (drop (i + 1) a) (drop (i + 1) b))) =
       rw (add-one i, drop-cons a i 0 ha, drop-cons b i 0 hb) refl in
       sym (here ∙ same_head (get_or a i 0) (get_or b i 0) (is_less (drop (i + 1) a) (drop (i + 1) b)) (sym is ∙ e)) ∙ so
-
-pub ended : (a b : List ℕ) (i : ℕ) → length a ≤ i → is_less (drop i a) (drop i b) ≡ is_less a b
-    → true ≡ not (is_less a b)
-ended a b i past so = ap not (sym (less-past a b i past) ∙ so)
 
 -- the entry of a key
 pub key-at : (parts : List Part) (f : designs.Part → ℕ) (i : ℕ) (part : Part) → i < length parts

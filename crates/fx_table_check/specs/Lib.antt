@@ -5,3 +5,4 @@ pub mod Prefixes
 pub mod Checking
 pub mod Keys
 pub mod Moves
+pub mod Least

@@ -1,9 +1,12 @@
 -- Prefixes of designs, and what is kept of each.
-use Rattle.std.specs.Prelude.{ℕ, ◌≡◌, ◌<◌, ◌≤◌, ◌+◌, Bool, List, length, take, slice_index, slice_index_or}
+use Rattle.std.specs.Prelude.{ℕ, ◌≡◌, ◌<◌, ◌≤◌, ◌+◌, ◌&&◌, not, Bool, List, length, take, slice_index, slice_index_or}
+use Rattle.fx_designs.specs.Galois.{digits}
+use Rattle.fx_designs.specs.Vectors.{is_normal}
+use Rattle.fx_designs.specs.Problems.{Dimensions}
+use Rattle.fx_designs.specs.Canonical.{is_unit}
 use Rattle.fx_vectors.specs.declared.shape.Shape.{Shape}
 use Rattle.fx_vectors.specs.Shape.{dimensions_of}
 use Rattle.fx_vectors.specs.Matrix.{MatrixView}
-use Rattle.fx_images.specs.Room.{is_later}
 use Rattle.fx_points.specs.Sums.{SumsView}
 use Rattle.fx_strata.specs.Stages as stages
 use Rattle.fx_table_book.specs.declared.base.Base.{Base}
@@ -29,6 +32,10 @@ pub record IsPrefix (base : Base) (rows modulo : MatrixView) (noted : List ℕ) 
   pub few : length rows.rows ≤ base.w + base.n
   pub inside : (i : ℕ) → i < base.w + base.n → base.w ≤ length rows.rows
       → slice_index noted i ≡ confounded_at (strata_of base) (take base.w rows.rows) i
+
+-- a factor row behind the unit vectors is normal, and no unit vector itself
+abbrev pub is_later : Dimensions → ℕ → Bool
+is_later d r = is_normal (digits d.q d.m r) && not (is_unit d r)
 
 -- whether each row below n is normal and no unit vector
 pub record AreOthers (shape : Shape) (n : ℕ) (known : List Bool) : Type 0 where

@@ -1,6 +1,6 @@
 ghost use Rattle.std.specs.Prelude.{◌≡◌, ◌<◌, ◌≤◌, ◌+◌, ◌-◌, ◌^◌, ◌++◌, [], ◌∷◌, All, length, true, map, Some};
-ghost use Rattle.fx_images.specs.Floors.{least_sum};
-ghost use Rattle.fx_images.specs.Least.{least_of};
+ghost use Rattle.fx_strata.specs.Floors.{least_sum};
+ghost use Rattle.fx_table_check.specs.Least.{least_of};
 ghost use Rattle.fx_strata.specs.Canonical.{words};
 ghost use Rattle.fx_strata.specs.Floors.{new_words, does_not_beat, cannot_beat};
 ghost use Rattle.fx_strata.specs.Stages.{has_units, missing, later_rows};

@@ -1,14 +1,14 @@
 ghost use Rattle.std.specs.Prelude.{◌≡◌, ◌==◌, ◌<◌, ◌≤◌, ◌+◌, ◌^◌, ◌++◌, All, length};
 ghost use Rattle.std.specs.List.{list_any};
 ghost use Rattle.fx_designs.specs.Answers.{falling};
-ghost use Rattle.fx_images.specs.Images.{moved};
+ghost use Rattle.fx_strata.specs.Changes.{moved};
 ghost use Rattle.fx_strata.specs.Canonical.{units, dimensions_of};
 ghost use Rattle.fx_strata.specs.Images.{moved_rows};
 ghost use Rattle.fx_table_book.specs.Tables.{strata_of, IsBase};
 ghost use Rattle.fx_table_check.specs.Moves.{AreMoved};
 
 use arrayvec::ArrayVec;
-use fx_images::moved_row;
+use fx_strata::moved_row;
 use fx_table_book::{Base, MOST_INDEXES};
 use fx_vectors::MOST_FACTORS;
 

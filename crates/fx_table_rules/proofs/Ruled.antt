@@ -17,8 +17,8 @@ use Rattle.fx_laws.proofs.Forms.{normal_factor, factors-scalars}
 use Rattle.fx_laws.proofs.Scalings.{scaled-vectors}
 use Rattle.fx_laws.proofs.CanonicalTest.{rows-vectors, take-vectors}
 use Rattle.fx_reduction.proofs.Numbers.{back}
-use Rattle.fx_images.proofs.Lists.{IsMember}
-use Rattle.fx_images.proofs.Matrices.{invertible, by, changed, normed, numbers}
+use Rattle.fx_strata.proofs.Lists.{IsMember}
+use Rattle.fx_strata.proofs.Exchanges.{invertible, by, changed, normed, numbers}
 use Rattle.fx_strata.specs.Designs.{Strata, Order, Words, Unclear, key_of, key_of_design, IsStratified}
 use Rattle.fx_strata.specs.Canonical.{dimensions_of, units, base, figures}
 use Rattle.fx_strata.specs.Images.{moved_rows}

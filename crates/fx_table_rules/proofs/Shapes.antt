@@ -11,8 +11,8 @@ use Rattle.fx_laws.proofs.Space.{scale-vector}
 use Rattle.fx_laws.proofs.Forms.{normal_factor}
 use Rattle.fx_vectors.specs.Shape.{IsShape}
 use Rattle.fx_vectors.proofs.Limits.{indexes_fit}
-use Rattle.fx_images.specs.Images.{moved}
-use Rattle.fx_images.proofs.Change.{by-vector}
+use Rattle.fx_strata.specs.Changes.{moved}
+use Rattle.fx_strata.proofs.Change.{by-vector}
 use Rattle.fx_strata.specs.Designs.{Strata}
 use Rattle.fx_table_book.specs.declared.base.Base.{Base}
 use Rattle.fx_table_book.specs.Tables.{shape_of, strata_of, IsBase}

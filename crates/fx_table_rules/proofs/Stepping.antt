@@ -6,7 +6,7 @@ use Rattle.std.proofs.lemmas.Bool.{cases_Bool, cases_eq, cases_lt, cond-true, co
 use Rattle.std.proofs.Math.Nat.{pow-le-pow_right, one-le-pow, pow-suc, mul-le-mul_left}
 use Rattle.fx_tree.specs.Introduced.{introduced}
 use Rattle.fx_rules.specs.Stepped.{IsStepped}
-use Rattle.fx_images.proofs.Lists.{IsMember}
+use Rattle.fx_strata.proofs.Lists.{IsMember}
 
 pub stepped_snoc : (q k : ℕ) (rows : List ℕ) (row : ℕ) → IsStepped q k rows → row ≤ q ^ introduced q k rows
     → IsStepped q k (rows ++ row ∷ [])

@@ -9,7 +9,7 @@ ghost use Rattle.fx_table_rules.specs.Rules.{block_factors, rule_shape, all_rows
 
 use crate::forms::forms_for;
 use arrayvec::ArrayVec;
-use fx_images::moved_row;
+use fx_strata::moved_row;
 use fx_table_book::Base;
 use fx_vectors::{MOST_FACTORS, MOST_FACTORS_IN_BLOCKS, Matrix, Shape};
 

@@ -1,7 +1,7 @@
-use Rattle.std.proofs.Common.{ℕ, ◌+◌, ◌^◌, ◌++◌, ◌∷◌, [], List, map, refl, sym, ap, ap₂, ◌∙◌, arith}
+use Rattle.std.proofs.Common.{[], ℕ, ◌+◌, ◌^◌, ◌++◌, ◌∷◌, List, map, refl, sym, ap, ap₂, ◌∙◌, arith}
 use Rattle.std.proofs.lemmas.List.{map_push}
 use Rattle.std.proofs.lemmas.List.FromFn.{map-range_with_len_more}
-use Rattle.fx_images.specs.Images.{moved}
+use Rattle.fx_strata.specs.Changes.{moved}
 use Rattle.fx_strata.specs.Canonical.{units, dimensions_of}
 use Rattle.fx_vectors.proofs.Limits.{indexes_fit}
 use Rattle.fx_table_book.specs.Tables.{strata_of, shape_of}

@@ -3,7 +3,7 @@ use Rattle.std.proofs.Common.{sym, ap, ◌∙◌, arith, eq-eqb}
 use Rattle.std.specs.List.{list_any}
 use Rattle.std.proofs.lemmas.Bool.{ne_eqb}
 use Rattle.fx_designs.specs.Answers.{falling}
-use Rattle.fx_images.specs.Images.{moved}
+use Rattle.fx_strata.specs.Changes.{moved}
 use Rattle.fx_strata.specs.Canonical.{dimensions_of}
 use Rattle.fx_table_book.specs.Tables.{strata_of}
 use Rattle.fx_table_check.proofs.Ranges.{any-here, any-next, falling-first}

@@ -1,7 +1,7 @@
 use Rattle.std.proofs.Common.{ℕ, ◌≡◌, ◌<◌, ◌^◌, sym, subst, ap, ap₂, ◌∙◌}
 use Rattle.fx_laws.proofs.Tables.{is_order-field}
 use Rattle.fx_vectors.specs.Matrix.{MatrixView}
-use Rattle.fx_images.specs.Images.{moved}
+use Rattle.fx_strata.specs.Changes.{moved}
 use Rattle.fx_strata.specs.Canonical.{dimensions_of}
 use Rattle.fx_vectors.specs.Shape as shape
 use Rattle.fx_table_book.specs.Tables.{strata_of}

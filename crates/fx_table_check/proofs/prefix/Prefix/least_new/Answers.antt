@@ -3,9 +3,9 @@ use Rattle.std.proofs.Common.{sym, ap, ◌∙◌, arith}
 use Rattle.std.specs.Prelude.{sum}
 use Rattle.fx_strata.specs.Stages.{later_rows}
 use Rattle.fx_strata.specs.Floors.{new_words}
-use Rattle.fx_images.specs.Floors.{least_sum}
+use Rattle.fx_strata.specs.Floors.{least_sum}
 use Rattle.fx_table_book.specs.Tables.{strata_of}
-use Rattle.fx_images.proofs.Least.{least-sum}
+use Rattle.fx_table_check.proofs.LeastOf.{least-sum}
 use Rattle.fx_table_check.proofs.Values.{least-fits, missing-room}
 use Rattle.fx_table_check.proofs.prefix.Prefix.least_new.Goals as goal
 use Rattle.fx_table_check.proofs.prefix.Prefix.least_new.Goals.{After-as_slice}

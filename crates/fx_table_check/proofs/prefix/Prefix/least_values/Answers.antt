@@ -1,8 +1,8 @@
-use Rattle.std.proofs.Common.{suc, ◌≡◌, ◌+◌, ◌-◌, ◌++◌, ℕ, [], ◌∷◌, Bool, true, map}
+use Rattle.std.proofs.Common.{[], suc, ◌≡◌, ◌+◌, ◌-◌, ◌++◌, ℕ, ◌∷◌, Bool, true, map}
 use Rattle.std.proofs.Common.{sym, ap, ◌∙◌, arith}
 use Rattle.fx_strata.specs.Canonical.{words}
 use Rattle.fx_strata.specs.Floors.{new_words}
-use Rattle.fx_images.specs.Least.{least_of}
+use Rattle.fx_table_check.specs.Least.{least_of}
 use Rattle.fx_table_book.specs.Tables.{strata_of}
 use Rattle.fx_table_check.specs.Prefixes.{PrefixView}
 use Rattle.fx_designs.specs.Answers.{falling}

@@ -1,7 +1,7 @@
 use Rattle.std.proofs.Common.{◌≡◌, ◌+◌, map}
 use Rattle.std.specs.List.{filter}
 use Rattle.fx_designs.specs.Answers.{falling}
-use Rattle.fx_images.specs.Least.{least_of}
+use Rattle.fx_table_check.specs.Least.{least_of}
 use Rattle.fx_strata.specs.Canonical.{is_later, dimensions_of}
 use Rattle.fx_strata.specs.Stages.{stage_after}
 use Rattle.fx_strata.specs.Floors.{new_words}

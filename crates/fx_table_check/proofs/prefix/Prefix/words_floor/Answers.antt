@@ -1,8 +1,8 @@
-use Rattle.std.proofs.Common.{◌+◌, ◌++◌, ℕ, [], ◌∷◌, map}
+use Rattle.std.proofs.Common.{[], ◌+◌, ◌++◌, ℕ, ◌∷◌, map}
 use Rattle.std.proofs.Common.{ap, ap₂, ◌∙◌}
 use Rattle.fx_strata.specs.Stages.{missing, later_rows}
 use Rattle.fx_strata.specs.Floors.{new_words}
-use Rattle.fx_images.specs.Floors.{least_sum}
+use Rattle.fx_strata.specs.Floors.{least_sum}
 use Rattle.fx_table_book.specs.Tables.{strata_of}
 use Rattle.fx_table_check.specs.Prefixes.{PrefixView}
 use Rattle.fx_table_check.proofs.prefix.Prefix.words_floor.Goals as goal
