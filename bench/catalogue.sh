@@ -27,10 +27,9 @@ for table in $(ls "$folder" | sed -n 's/\.words$//p' | sort -n); do
         exit 1
     fi
     made=$((SECONDS - start))
-    count=0 check=(check)
-    if [ "${words[0]}" = tables ]; then check=(tables check); fi
+    count=0
     for book in "$folder"/run/*.book; do
-        "$program" "${check[@]}" < "$book" > "$folder/ours"
+        "$program" check < "$book" > "$folder/ours"
         python3 "$top/check/check_book.py" < "$book" > "$folder/theirs"
         cmp "$folder/ours" "$folder/theirs"
         if [ "${words[0]}" = tables ]; then cmp "$book" "$top/tables/books/$(basename "$book")"; fi

@@ -2,7 +2,7 @@
 """Fails each call of the built program in turn: python3 bench/failing.py PROGRAM [OPTION..] [FILE..]
 
 Runs each command below, with one thread and with four, or each FILE by its ending, .sas, .book or .csv (judged at two levels),
-with the options; of a PROGRAM named tables its own commands. Counts reads, writes and openings of files (io), growths of
+with the options. Counts reads, writes and openings of files (io), growths of
 memory, and new threads, and repeats the run for each of these calls:
 
 - the read, write or opening fails, or the write moves nothing: wanted is status 4, and no such call after it;
@@ -90,13 +90,13 @@ RULES = (b"rules D=A*B [1]=A*C\nproc factex;factors A B C D;size design=8;blocks
 OTHERS = [("rules", ["plan"], RULES), ("rules refused", ["plan"], b"rules C=A*A\nproc factex;factors A B C;size design=4;"),
           ("judge", ["judge", "2"], b"A,B,C\n1,1,1\n1,-1,-1\n-1,1,-1\n-1,-1,1\n"), ("plan refused", ["judge", "2"], b"A\n2\n"),
           ("make", ["make", "2"], b""), ("word refused", ["make", "x"], b"")]
-TABLES = [("lines", ["2", "3", "8"], b""), ("lines, open", ["2", "3", "6", "--nodes=5"], b""),
-          ("lines in blocks", ["2", "3", "5", "--blocks=4", "--order=W1"], b""),
-          ("split plots", ["2", "3", "4", "--whole-plots=2", "--inside=1", "--order=CLEAR"], b"")]
+TABLES = [("lines", ["tables", "2", "3", "8"], b""), ("lines, open", ["tables", "2", "3", "6", "--nodes=5"], b""),
+          ("lines in blocks", ["tables", "2", "3", "5", "--blocks=4", "--order=W1"], b""),
+          ("split plots", ["tables", "2", "3", "4", "--whole-plots=2", "--inside=1", "--order=CLEAR"], b"")]
 TABLES += [(title, ["check"], f"factex-table 1\nsize 2 1 2 0\nresolution 3\npattern none\n{entry}\nEND\n".encode())
            for title, entry in (("check", "R 1"), ("book rejected", "O 1"), ("no book", "F 1"))]
 TABLES += [("check, base", ["check"], b"factex-table 2\nbase 2 1 0 0 2\norder FF\nkey none\nR 1\nEND\n"),
-           ("word refused", ["2"], b""), ("option refused", ["2", "3", "5", "--inside=1"], b"")]
+           ("word refused", ["tables", "2"], b""), ("option refused", ["tables", "2", "3", "5", "--inside=1"], b"")]
 
 
 def run(program, shim, words, text, way="-", first=0, last=0):
@@ -144,15 +144,13 @@ def main():
     with tempfile.TemporaryDirectory() as top:
         shim = os.path.join(top, "fail.so")
         subprocess.run(["cc", "-O1", "-shared", "-fPIC", "-x", "c", "-o", shim, "-", "-ldl"], input=SHIM.encode(), check=True)
-        if not jobs and os.path.basename(program) == "tables":
-            jobs = TABLES
-        elif not jobs:
+        if not jobs:
             texts = [(title, ["run"], f"proc factex nodes=4500;{text}run;".encode()) for title, text in TEXTS.items()]
             acts = run(program, shim, *next(job[1:] for job in texts if job[0] == "no design"))[1]
             book = bytes(byte for act, byte in zip(acts[::2], acts[1::2]) if act == ord("F"))
             jobs = [(title, words + more, text) for title, words, text in texts + SHARED for more in ([], ["--threads=4"])]
             jobs += [("check", ["check"], book), ("book rejected", ["check"], book.replace(b"W 3", b"W 4")),
-                     ("upgrade", ["upgrade"], in_first_version(book.decode()).encode()), *OTHERS]
+                     ("upgrade", ["upgrade"], in_first_version(book.decode()).encode()), *OTHERS, *TABLES]
         print("command          threads   io growths new threads   runs failed")
         sys.exit(1 if sum([tried(program, shim, *job) for job in jobs]) else 0)
 

@@ -1,5 +1,5 @@
 #!/usr/bin/env python3
-"""Random inputs of every command: bench/hostile.py PROGRAM [--tables PROGRAM] [--seconds N] [--seed N] [--keep FOLDER]
+"""Random inputs of every command: bench/hostile.py PROGRAM [--seconds N] [--seed N] [--keep FOLDER]
 
 Each input is a command line, a program text, rules before its steps, a book, an upgrade, a plan to judge or a catalogue,
 right or with small faults.
@@ -751,7 +751,7 @@ def try_table_words(program, rng, pool):
     if not any(re.fullmatch("--nodes=[1-9]", word) for word in words):
         words.append("--nodes=5")
     yield ["tables", *words], b""
-    done = pool.tables.run(words, nodes=63 * 1_500_000)
+    done = program.run(["tables", *words], nodes=63 * 1_500_000)
     if done.listing.startswith(b"factex: C"):
         place = re.fullmatch(rb"factex: C[1-6] word (\d+)\n", done.listing)
         need(done.status == 3 and not done.files and place, f"status {done.status}: {done.listing[:100]}")
@@ -770,7 +770,7 @@ def try_tables(program, rng, pool):
     order, entries = rng.choice(ORDERS), rng.choice([1, 5, 30, 200, 1000])
     words = [str(q), str(m), str(s), *groups, *([f"--order={order}"] if order != "FF" else []), f"--nodes={entries}"]
     yield ["tables", *words], b""
-    done = pool.tables.run(words, nodes=(s - first + 1) * (1_000_000 + 40_000 * entries))
+    done = program.run(["tables", *words], nodes=(s - first + 1) * (1_000_000 + 40_000 * entries))
     lines = [line for line in done.listing.decode().splitlines() if not line.startswith("rules")]
     title = f" whole plots {q**h} inside {inside}" if inside else f" blocks {q**h}" if h else ""
     title += f" order {order}" if order != "FF" else ""
@@ -787,7 +787,7 @@ def try_tables(program, rng, pool):
         theirs = patterns_of(program.run(["catalogue", *words[:3], "--nodes=20000"], nodes=20000 * (s - m)).listing)
         need(all(ours[factors] == theirs[factors] for factors in ours if factors in theirs), f"{ours}, catalogue: {theirs}")
     for book in done.files.values():
-        need(check_both(pool.tables, book, pool).status == 0, "a written book of a table")
+        need(check_both(program, book, pool).status == 0, "a written book of a table")
         if len(book) <= 4000:
             pool.table_books[rng_place(pool, pool.table_books)] = book
 
@@ -807,8 +807,8 @@ def try_table_book(program, rng, pool):
         text = b"\n".join(lines)
     else:
         text = with_faults(rng, text, BOOK_FIELDS.findall, parts)
-    yield ["tables", "check"], text
-    check_both(pool.tables, text, pool)
+    yield ["check"], text
+    check_both(program, text, pool)
 
 
 # ---- the kinds
@@ -833,8 +833,8 @@ def try_faulty_text(program, rng, pool):
 KINDS = [("words", 10, try_words), ("make and large", 1, try_make), ("texts", 25, try_text),
          ("texts with faults", 20, try_faulty_text), ("books", 25, try_book), ("upgrades", 10, try_upgrade),
          ("rules of listings", 10, try_way_back), ("rules", 10, try_rules), ("rules with faults", 15, try_faulty_rules),
-         ("plans", 25, try_judge), ("catalogues", 3, try_catalogue)]
-KINDS_OF_TABLES = [("tables", 5, try_tables), ("words of tables", 5, try_table_words), ("books of tables", 30, try_table_book)]
+         ("plans", 25, try_judge), ("catalogues", 3, try_catalogue), ("tables", 5, try_tables), ("words of tables", 5, try_table_words),
+         ("books of tables", 30, try_table_book)]
 
 FIRST = b"""proc factex; factors A B C D E; size design=8; model resolution=4; output out=a; run;
 proc factex; factors A B C D; size design=8; model resolution=3 / minabs; run;
@@ -859,7 +859,6 @@ def keep(folder, name, words, text, what):
 def main():
     parser = argparse.ArgumentParser(description=__doc__.split("\n\n")[0])
     parser.add_argument("program")
-    parser.add_argument("--tables")
     parser.add_argument("--seconds", type=float, default=600)
     parser.add_argument("--seed", type=int, default=1)
     parser.add_argument("--keep", default="hostile-failures")
@@ -867,19 +866,16 @@ def main():
     program, pool = Program(arguments.program), Pool(random.Random(arguments.seed))
     check_run(program, pool.rng, ["run"], FIRST, 5_000_000, [], pool)
     check_run(program, pool.rng, ["run"], LONG_LIST, 5_000, [], pool)
-    kinds = list(KINDS)
-    if arguments.tables:
-        pool.tables, pool.table_books = Program(arguments.tables), {}
-        kinds += KINDS_OF_TABLES
-        for words in (["2", "3", "8"], ["3", "2", "5"], ["4", "2", "6"], ["2", "3", "6", "--blocks=4"],
-                      ["2", "3", "5", "--whole-plots=2", "--inside=1"], ["2", "4", "7", "--order=CLEAR"]):
-            pool.table_books.update(enumerate(pool.tables.run(words).files.values(), len(pool.table_books)))
+    pool.table_books = {}
+    for words in (["2", "3", "8"], ["3", "2", "5"], ["4", "2", "6"], ["2", "3", "6", "--blocks=4"],
+                  ["2", "3", "5", "--whole-plots=2", "--inside=1"], ["2", "4", "7", "--order=CLEAR"]):
+        pool.table_books.update(enumerate(program.run(["tables", *words]).files.values(), len(pool.table_books)))
     made, failed = collections.Counter(), collections.Counter()
     end = os.times().elapsed + arguments.seconds
     while os.times().elapsed < end:
         number = sum(made.values()) + 1
         rng = random.Random(f"{arguments.seed} {number}")
-        kind, _, trial = rng.choices(kinds, [weight for _, weight, _ in kinds])[0]
+        kind, _, trial = rng.choices(KINDS, [weight for _, weight, _ in KINDS])[0]
         made[kind] += 1
         words, text = [], b""
         try:
@@ -898,8 +894,6 @@ def main():
         print(f"{what}: {count}")
     slowest = ", ".join(f"{kind} {seconds:.2f} s" for kind, seconds in sorted(program.slowest.items()))
     print(f"runs of the program: {program.count}; most processor time: {slowest}")
-    if arguments.tables:
-        print(f"runs of tables: {pool.tables.count}; most processor time: {max(pool.tables.slowest.values()):.2f} s")
     sys.exit(1 if failed else 0)
 
 

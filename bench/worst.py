@@ -1,5 +1,5 @@
 #!/usr/bin/env python3
-"""bench/worst.py PROGRAM --tables PROGRAM [--minutes M] [--first SEED] [--only SEED]: a hunt for the slowest input.
+"""bench/worst.py PROGRAM [--minutes M] [--first SEED] [--only SEED]: a hunt for the slowest input.
 
 First the worst inputs that are known. Then it draws random inputs of every command at the limits, one a seed: questions, books
 and their upgrades, plans to be judged, catalogues, tables, programs of many steps. Each is a whole run of the program, with one
@@ -24,7 +24,7 @@ BOUNDS = {
     "catalogue": Bound("nodes", 2, 20, 150),
     "large": Bound("nodes", 2, 20, 150),
     "tables": Bound("entries", 4, 80_000, 150),
-    "tables check": Bound("entries", 2, 400, 450),
+    "check of tables": Bound("entries", 2, 400, 450),
 }
 # Microseconds for each node of chains: prefixes with one way on, on which no two forbidden vectors have the same codes.
 CHAINS = 1000
@@ -130,11 +130,11 @@ class Run:
 
     def __init__(self, seed, program, words, text, count, threads=1, each=None):
         self.seed, self.words, self.text = seed, words, text
-        self.kind = " ".join(it for it in words[:2] if it.isalpha() and (it == words[0] or it == "check"))
+        self.kind = "check of tables" if text.startswith(b"factex-table") else words[0]
         self.threads, self.bound = threads, BOUNDS[self.kind]
         if each:
             self.bound = self.bound._replace(each=each)
-        own = words[words[0] == "tables" :] + ([f"--threads={threads}"] if threads > 1 else [])
+        own = words + ([f"--threads={threads}"] if threads > 1 else [])
         self.folder = tempfile.TemporaryDirectory()
         # In a folder of its own, since the program writes books to the current one.
         with tempfile.TemporaryFile() as source, tempfile.TemporaryFile() as listing:
@@ -210,7 +210,7 @@ def table_of_floors(most_bytes):
             return "\n".join([*lines, "END", ""])
 
 
-def known_runs(factex, tables):
+def known_runs(factex):
     """The worst inputs that are known, of which each is a seed below 0."""
     pushes = (f"proc factex nodes=100000; factors X1-X21/nlev=3; size design=9; model e=(X1 X19 X20 X21) "
               f"n=({product_of(2, 17, '|')}@2 {product_of(2, 17)} {product_of(2, 18)}); run;")
@@ -226,8 +226,8 @@ def known_runs(factex, tables):
     yield Run(-3, factex, ["run"], drawn.encode(), 200_000)
     yield Run(-4, factex, ["run"], lots.encode(), 5_000_000, 64)
     yield Run(-5, factex, ["run"], long.encode()[: 1 << 20], 0)
-    for seed, program, words, book in ((-6, factex, ["check"], book_by_effects(1_000_000)), (-7, tables, ["tables", "check"], table_of_floors(335_000))):
-        yield Run(seed, program, words, book.encode(), book.count("\n"))
+    for seed, book in ((-6, book_by_effects(1_000_000)), (-7, table_of_floors(335_000))):
+        yield Run(seed, factex, ["check"], book.encode(), book.count("\n"))
 
 
 def rules(rng):
@@ -250,7 +250,7 @@ def rules(rng):
     return text, steps
 
 
-def runs_of(seed, factex, tables):
+def runs_of(seed, factex):
     """The runs of one seed."""
     rng = random.Random(seed)
     threads = rng.choice([1, 1, 1, 4, 64])
@@ -281,12 +281,11 @@ def runs_of(seed, factex, tables):
             threads = 1
             more, s, lines = groups(rng, levels, m, s)
             words = [kind, str(levels), str(m), str(s), *more, f"--nodes={nodes}"]
-        first = Run(seed, tables if kind == "tables" else factex, words, b"", nodes * lines, threads)
+        first = Run(seed, factex, words, b"", nodes * lines, threads)
         books = first.books()
         yield first
         for book in books[-1:]:
-            kind = ["tables", "check"] if kind == "tables" else ["check"]
-            yield Run(seed, tables if len(kind) > 1 else factex, kind, book, book.count(b"\n"))
+            yield Run(seed, factex, ["check"], book, book.count(b"\n"))
 
 
 def wait(child, deadline):
@@ -334,19 +333,18 @@ def report(runs):
 def main():
     parser = argparse.ArgumentParser(description=__doc__.split("\n\n")[0])
     parser.add_argument("program")
-    parser.add_argument("--tables", required=True)
     parser.add_argument("--minutes", type=float, default=10)
     parser.add_argument("--first", type=int, default=1, help="the first seed")
     parser.add_argument("--only", type=int, help="run the input of this seed alone")
     arguments = parser.parse_args()
-    programs = os.path.abspath(arguments.program), os.path.abspath(arguments.tables)
+    program = os.path.abspath(arguments.program)
     if arguments.only is not None:
-        for run in runs_of(arguments.only, *programs):
+        for run in runs_of(arguments.only, program):
             print(run.line(), run.text.decode("latin-1"), sep="\n")
         return 0
     runs, end = [], time.perf_counter() + 60 * arguments.minutes
     seeds = itertools.takewhile(lambda _: time.perf_counter() < end, itertools.count(arguments.first))
-    for run in itertools.chain(known_runs(*programs), itertools.chain.from_iterable(runs_of(it, *programs) for it in seeds)):
+    for run in itertools.chain(known_runs(program), itertools.chain.from_iterable(runs_of(it, program) for it in seeds)):
         # Kept for the report without its files.
         run.folder.cleanup()
         runs.append(run)

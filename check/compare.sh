@@ -1,6 +1,6 @@
 #!/bin/bash
-# Runs the program and the second checker on books of the program, of both versions, and on thousands of changed ones,
-# and prints the first on which they differ. Those of a PROGRAM named tables are its own.
+# Runs the program and the second checker on books of the program, of both versions and of tables, and on thousands of
+# changed ones, and prints the first on which they differ.
 #
 # usage: check/compare.sh PROGRAM
 set -euo pipefail
@@ -10,11 +10,12 @@ folder=$(mktemp -d)
 trap 'rm -r "$folder"' EXIT
 mkdir "$folder/made" "$folder/changed"
 
+# Books of tables, ordinary ones, in blocks and in split plots.
 make_tables() {
     local words
     for words in "2 3 8" "2 4 6" "3 2 5" "3 3 5" "4 2 6" "9 2 4" "2 3 6 --blocks=2" "2 4 5 --blocks=4 --order=W1" \
         "2 4 6 --order=CLEAR" "3 2 4 --blocks=3 --order=SCF" "2 4 4 --whole-plots=4 --inside=2 --order=W2"; do
-        (cd "$folder/made" && "$program" $words > "$folder/listing" || true)
+        (cd "$folder/made" && "$program" tables $words > "$folder/listing" || true)
     done
 }
 
@@ -40,7 +41,8 @@ PROGRAM
     )
 }
 
-if [ "$(basename "$program")" = tables ]; then make_tables; else make_books; fi
+make_books
+make_tables
 for book in "$folder"/made/*.book; do
     # Books of more lines are compared as they are.
     if [ "$(wc -l < "$book")" -le 30 ]; then small+=("$book"); else cp "$book" "$folder/changed/$(basename "$book")"; fi

@@ -1,14 +1,9 @@
 -- What calls on the open file do to the files of a shelf over a folder.
 use Rattle.std.proofs.Common.{ℕ, ◌≡◌, ◌++◌, List, [], ◌∷◌, map, Option, Some, None, refl, sym, ap, ◌∙◌}
-use Rattle.std.specs.Io.KnownBytes.{Keeps, Appends}
-use Rattle.fx_base.specs.Faults.{IsUnchanged}
-use Rattle.fx_base.specs.Acts.{File, Shelves, BeginFile, FileByte, EndFile, shelved, as_ended}
+use Rattle.std.specs.Io.KnownBytes.{Appends}
+use Rattle.fx_base.specs.Acts.{File, Shelves, FileByte, EndFile, shelved, as_ended}
 use Rattle.fx_base.proofs.Words.{on_last-at, shelved-content}
-use Rattle.fx_edge.specs.Folders.{open_file, with_open, Creates, Closes}
-
-pub begun : (made now : Option (List File)) (content : Option (List ℕ)) (name : List ℕ) → Creates made now content
-    → Shelves made (with_open now content name) (BeginFile name ∷ [])
-begun made now content name h = record { exposed = λ files e. rw (h.stays files e, h.empty files e) refl }
+use Rattle.fx_edge.specs.Folders.{open_file, with_open, Closes}
 
 pub written : (made : Option (List File)) (old new : Option (List ℕ)) (name bytes : List ℕ) → Appends old new bytes
     → Shelves (with_open made old name) (with_open made new name) (map FileByte bytes)
@@ -22,14 +17,6 @@ written (Some made) (Some xs) (Some ys) name bytes h = record {
       ∙ sym (shelved-content bytes made (open_file name xs))
       ∙ ap (shelved (map FileByte bytes)) same);
 }
-
-pub kept : (made : Option (List File)) (old new : Option (List ℕ)) (name : List ℕ) → Keeps old new
-    → IsUnchanged (with_open made old name) (with_open made new name)
-kept None old new name h = record { exposed = λ files e. absurd (cc e) }
-kept (Some made) None new name h = record { exposed = λ files e. absurd (cc e) }
-kept (Some made) (Some xs) None name h = absurd h
-kept (Some made) (Some xs) (Some ys) name h =
-    record { exposed = λ files e. ap (λ (b : List ℕ). Some (made ++ open_file name b ∷ [])) h ∙ e }
 
 pub closed : (made now : Option (List File)) (content : Option (List ℕ)) (name : List ℕ) → Closes made now name content
     → Shelves (with_open made content name) now (EndFile ∷ [])

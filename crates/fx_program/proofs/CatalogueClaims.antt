@@ -19,6 +19,7 @@ use Rattle.fx_catalogue.proofs.Fewer.{none-above}
 use Rattle.fx_program.specs.Claims.{CatalogueHolds, EndsWithNone}
 use Rattle.fx_program.specs.CommandLine.{HasShapes, IsCatalogue}
 use Rattle.fx_program.specs.Commands.{command_for}
+use Rattle.fx_program.specs.Output.{Output}
 use Rattle.fx_program.specs.Outside.{IsCarriedOut, Outside}
 use Rattle.fx_program.specs.Stops.{exit_status}
 use Rattle.fx_program.specs.declared.stop.Stop.{Stop}
@@ -136,4 +137,5 @@ pub catalogued : {asked : Result Settings WordFault} {old new : Outside} {ended 
 catalogued {asked} {old} {new} {ended} q m most threads budget is shapes done low =
     let numbers = subst (λ (a : Result Settings WordFault). IfOk a HasShapes) is shapes in
     let own = subst (λ (a : Result Settings WordFault). IsCarriedOut (command_for a) old new ended) is done in
-    catalogue_holds numbers (exit_status ended) (own.ends.gives.same (omega (arith, low)))
+    catalogue_holds numbers (exit_status ended)
+    (own.ends.gives.same (omega (arith, low)) ∙ ap (λ (o : Output). o.status) own.given)

@@ -1,11 +1,13 @@
 -- The lines of a catalogue, one after another, and what is given for all of them.
-use Rattle.std.proofs.Common.{eqb, ℕ, ◌≡◌, ◌<◌, ◌≤◌, ◌+◌, ◌-◌, ◌^◌, Bool, true, false, List, [], ◌∷◌, ◌++◌, map, refl, sym}
+use Rattle.std.proofs.Common.{eqb, ℕ, ◌≡◌, ◌<◌, ◌≤◌, ◌+◌, ◌-◌, ◌^◌, Bool, true, false, List, [], ◌∷◌, ◌++◌, map, refl}
+use Rattle.std.proofs.Common.{sym}
 use Rattle.std.proofs.Common.{ap}
 use Rattle.std.proofs.Common.{inl, inr, ap₂, subst, ◌∙◌, arith, suc, append_assoc, append-nil, IsTrue, Option, Some}
 use Rattle.std.proofs.Common.{None, length}
 use Rattle.std.specs.Prelude.{nat_lt, nat_le, if◌then◌else◌, ◌||◌, IsErrAnd, Result, Ok, Err}
 use Rattle.std.specs.List.{flat_map, list_all, list_any, range_with_len}
-use Rattle.std.proofs.lemmas.Bool.{and_parts, both_ways, cases_Bool, cond-true, cond-false, eqb-true, leb-true, or_cases}
+use Rattle.std.proofs.lemmas.Bool.{and_parts, both_ways, cases_Bool, cond-true, cond-false, eqb-true, leb-true}
+use Rattle.std.proofs.lemmas.Bool.{or_cases}
 use Rattle.std.proofs.Math.Nat.{pow-le-pow_right}
 use Rattle.fx_base.specs.Acts.{Event, Piece}
 use Rattle.fx_designs.specs.Answers.{answer}
@@ -29,11 +31,11 @@ use Rattle.fx_program.specs.declared.stop.Stop.{Stop}
 use Rattle.fx_program.proofs.Stages.{StagesSoFar, before_stages, in_order, one_more_stage, stopped_in_stage}
 
 -- shapes of the lines
-abbrev levels : List ℕ
+abbrev pub levels : List ℕ
 levels = 2 ∷ 3 ∷ 4 ∷ 5 ∷ 7 ∷ 8 ∷ 9 ∷ []
 
 -- what holds at each of some numbers of levels holds at one of them
-at_order : (levels : List ℕ) (P : ℕ → Bool) (q : ℕ) → list_all P levels ≡ true
+pub at_order : (levels : List ℕ) (P : ℕ → Bool) (q : ℕ) → list_all P levels ≡ true
     → list_any (λ x. eqb q x) levels ≡ true
     → P q ≡ true
 at_order [] P q all among = absurd (both_ways _ refl among)
@@ -47,7 +49,7 @@ at_order (x ∷ levels) P q all among =
 most_runs : (q : ℕ) → IsTrue (is_order q) → q ^ greatest q ≤ 1024
 most_runs q h = leb-true (q ^ greatest q) 1024 (at_order levels (λ q. nat_le (q ^ greatest q) 1024) q refl h)
 
-more_than_one : (q : ℕ) → IsTrue (is_order q) → 1 ≤ q
+pub more_than_one : (q : ℕ) → IsTrue (is_order q) → 1 ≤ q
 more_than_one q h = leb-true 1 q (at_order levels (λ q. nat_le 1 q) q refl h)
 
 few_of_many : (q : ℕ) → IsTrue (is_order q) → 3 < q → most_factors_of q false ≤ 40
@@ -57,22 +59,29 @@ few_of_many q h many =
       | inr most ↦ leb-true (most_factors_of q false) 40 most
     ]
 
-few : (q : ℕ) → IsTrue (is_order q) → most_factors_of q false ≤ 63
-few q h = leb-true (most_factors_of q false) 63 (at_order levels (λ q. nat_le (most_factors_of q false) 63) q refl h)
+pub few_factors : (q : ℕ) → IsTrue (is_order q) → most_factors_of q false ≤ 63
+few_factors q h =
+    leb-true (most_factors_of q false) 63 (at_order levels (λ q. nat_le (most_factors_of q false) 63) q refl h)
+
+-- a shape with so many levels, run indexes and factors
+pub shape_within : (q m s : ℕ) → IsTrue (is_order q) → 1 ≤ m → m ≤ greatest q → 1 ≤ s → s ≤ most_factors_of q false
+    → IsShape (record { q = q; m = m; s = s; t = 0 })
+shape_within q m s known some few any within = record {
+  order = known;
+  some_indexes = some;
+  runs = (let up = pow-le-pow_right {n = q} (more_than_one q known) {i = m} {j = greatest q} few in
+      omega (arith, up, most_runs q known));
+  some_factors = any;
+  factors = omega (arith, within, few_factors q known);
+  factors_of_many_levels = λ many. omega (arith, within, few_of_many q known many);
+  block_factors = omega arith;
+  factors_in_blocks = λ some. absurd (omega (arith, some));
+}
 
 module _ {q m most budget : ℕ} (h : IsCatalogue q m most budget) where
   pub line_shape : (s : ℕ) → m < s → s ≤ most → IsShape (shape_at q m s)
-  line_shape s more upto = record {
-    order = h.order;
-    some_indexes = h.some;
-    runs = (let up = pow-le-pow_right {n = q} (more_than_one q h.order) {i = m} {j = greatest q} h.runs in
-        omega (arith, up, most_runs q h.order));
-    some_factors = omega (arith, more);
-    factors = omega (arith, upto, h.factors, few q h.order);
-    factors_of_many_levels = λ many. omega (arith, upto, h.factors, few_of_many q h.order many);
-    block_factors = omega arith;
-    factors_in_blocks = λ some. absurd (omega (arith, some));
-  }
+  line_shape s more upto =
+      shape_within q m s h.order h.some h.runs (omega (arith, more)) (omega (arith, upto, h.factors))
 
 -- the shape of a line's book is that of the line
 by_shaped : (shape : Shape) → IsShape shape → (found : Option (List ℕ)) → HasShapedBook (line_by shape found)

@@ -1,6 +1,6 @@
 -- What a command has done is no more than what is defined of it, so it needs no more room.
-use Rattle.std.proofs.Common.{ℕ, ◌≡◌, ◌≤◌, ◌+◌, true, List, [], ◌∷◌, length, Some, refl, sym, ap, ◌∙◌, arith, ◌<◌, ◌≢◌}
-use Rattle.std.proofs.Common.{inl, inr, length-append}
+use Rattle.std.proofs.Common.{ℕ, ◌≡◌, ◌≤◌, ◌+◌, true, List, [], ◌∷◌, length, Some, refl, sym, ◌∙◌, arith, ◌<◌, ◌≢◌}
+use Rattle.std.proofs.Common.{inl, inr, length-append, subst}
 use Rattle.std.specs.Prelude.{Result, Ok, Err}
 use Rattle.std.proofs.lemmas.List.{length-take}
 use Rattle.fx_base.specs.Acts.{Event, Piece, File, files_of, listed, pieces, HasCome, AtStart, InPiece, InFile}
@@ -9,12 +9,13 @@ use Rattle.fx_base.specs.Memory.{room_of}
 use Rattle.fx_base.proofs.Words.{comes}
 use Rattle.fx_base.proofs.Options.{same_some}
 use Rattle.fx_program.specs.CommandLine.{settings_of}
-use Rattle.fx_program.specs.Commands.{command_for, output_for, output_of, command_in}
-use Rattle.fx_program.specs.Output.{world}
+use Rattle.fx_program.specs.Commands.{AreGiven, command_for, command_in}
+use Rattle.fx_program.specs.Output.{Output, world}
 use Rattle.fx_program.specs.Outside.{GivesForSome}
 use Rattle.fx_program.specs.Stops.{HasStatusCause, SomeRose}
 use Rattle.fx_program.specs.declared.words.Settings.{Settings}
-use Rattle.fx_program.specs.declared.words.Settings.TheVariants.{Run, Plan, Check, Make, Large, Judge, Upgrade, Catalogue}
+use Rattle.fx_program.specs.declared.words.Settings.TheVariants.{Run, Plan, Check, Make, Large, Judge, Upgrade}
+use Rattle.fx_program.specs.declared.words.Settings.TheVariants.{Catalogue, Tables}
 use Rattle.fx_program.specs.declared.words.WordFault.{WordFault}
 
 -- as far as events have come, they have listed no more bytes than all of them, and shelved no more files
@@ -33,33 +34,41 @@ come-fits (PastPiece {bytes} {events} {listing} come) =
     (omega (arith, rest.0, all, length-append bytes listing), rest.1)
 come-fits (PastFile come) = (let rest = come-fits come in (rest.0, omega (arith, rest.1)))
 
--- a command whose output hangs on the text reads it
-same-output : (asked : Result Settings WordFault) (text known : List ℕ)
-    → ((command_for asked).reads ≡ true → known ≡ text) → output_for asked text ≡ output_for asked known
-same-output (Ok (Run threads seed)) text known h = ap (output_for (Ok (Run threads seed))) (sym (h refl))
-same-output (Ok (Plan seed)) text known h = ap (output_for (Ok (Plan seed))) (sym (h refl))
-same-output (Ok Check) text known h = ap (output_for (Ok Check)) (sym (h refl))
-same-output (Ok Upgrade) text known h = ap (output_for (Ok Upgrade)) (sym (h refl))
-same-output (Ok (Judge q)) text known h = ap (output_for (Ok (Judge q))) (sym (h refl))
-same-output (Ok (Make n)) text known h = refl
-same-output (Ok (Large n threads)) text known h = refl
-same-output (Ok (Catalogue q m most threads nodes)) text known h = refl
-same-output (Err fault) text known h = refl
+-- what a command gives for a text that it does not read it gives for each
+same-given : (asked : Result Settings WordFault) (text known : List ℕ) (output : Output)
+    → ((command_for asked).reads ≡ true → known ≡ text) → (command_for asked).gives text output
+    → (command_for asked).gives known output
+same-given (Ok (Run threads seed)) text known output h given =
+    subst (λ t. (command_for (Ok (Run threads seed))).gives t output) (sym (h refl)) given
+same-given (Ok (Plan seed)) text known output h given =
+    subst (λ t. (command_for (Ok (Plan seed))).gives t output) (sym (h refl)) given
+same-given (Ok Check) text known output h given =
+    subst (λ t. (command_for (Ok Check)).gives t output) (sym (h refl)) given
+same-given (Ok Upgrade) text known output h given =
+    subst (λ t. (command_for (Ok Upgrade)).gives t output) (sym (h refl)) given
+same-given (Ok (Judge q)) text known output h given =
+    subst (λ t. (command_for (Ok (Judge q))).gives t output) (sym (h refl)) given
+same-given (Ok (Make n)) text known output h given = given
+same-given (Ok (Large n threads)) text known output h given = given
+same-given (Ok (Catalogue q m most threads nodes)) text known output h given = given
+same-given (Ok (Tables asked)) text known output h given = given
+same-given (Err fault) text known output h given = given
 
-pub gives-within : (words : List (List ℕ)) (left written : List ℕ) (files : List File) (status : ℕ)
-    → GivesForSome (command_in words) (Some left) (world (Some []) (Some [])) (world (Some written) (Some files)) status
-    → (length written ≤ length (pieces (output_of words left).events))
-    × (room_of files ≤ room_of (files_of (output_of words left).events))
-gives-within words left written files status h =
-    let events = (output_of words h.text).events in
-    let part = h.gives.part in
-    let come = comes events part.done part.left part.front in
-    let is_listed : written ≡ listed part.done = same_some (part.did.listing.exposed [] refl) in
-    let is_shelved : files ≡ come.new = same_some (part.did.shelf.exposed [] refl) ∙ come.added [] in
-    let same : output_of words h.text ≡ output_of words left =
-    same-output (settings_of words) h.text left (λ reads. h.exposed reads left refl) in
-    let fits = come-fits come.come in
-    rw (is_listed, is_shelved, sym same) fits
+module _ (words : List (List ℕ)) (left written : List ℕ) (files : List File) (status : ℕ)
+    (h : GivesForSome (command_in words) (Some left) (world (Some []) (Some [])) (world (Some written) (Some files))
+    status) where
+  given-too : AreGiven words left h.output
+  given-too =
+      same-given (settings_of words) h.text left h.output (λ reads. h.exposed reads left refl) h.given
+
+  pub gives-within : (length written ≤ length (pieces h.output.events))
+      × (room_of files ≤ room_of (files_of h.output.events))
+  gives-within =
+      let part = h.gives.part in
+      let come = comes h.output.events part.done part.left part.front in
+      let is_listed : written ≡ listed part.done = same_some (part.did.listing.exposed [] refl) in
+      let is_shelved : files ≡ come.new = same_some (part.did.shelf.exposed [] refl) ∙ come.added [] in
+      rw (is_listed, is_shelved) (come-fits come.come)
 
 pub none-rose : (a b c d : ℕ) → b ≡ 0 → d ≡ 0 → SomeRose (0 ∷ a ∷ c ∷ []) (0 ∷ b ∷ d ∷ []) → ⊥
 none-rose a b c d hb hd (inl rose) = omega (arith, rose)
@@ -72,11 +81,12 @@ pub not-failed : (words : List (List ℕ)) (left written : List ℕ) (files : Li
     (status a b c d room shelf_room : ℕ)
     → GivesForSome (command_in words) (Some left) (world (Some []) (Some [])) (world (Some written) (Some files)) status
     → HasStatusCause (0 ∷ a ∷ c ∷ []) (0 ∷ b ∷ d ∷ []) status
-    → length (pieces (output_of words left).events) < room → (length written < room → b ≡ 0)
-    → room_of (files_of (output_of words left).events) + 64 ≤ shelf_room → (room_of files + 64 ≤ shelf_room → d ≡ 0)
+    → ((output : Output) → AreGiven words left output
+    → (length (pieces output.events) < room) × (room_of (files_of output.events) + 64 ≤ shelf_room))
+    → (length written < room → b ≡ 0) → (room_of files + 64 ≤ shelf_room → d ≡ 0)
     → status ≢ 4
-not-failed words left written files status a b c d room shelf_room gives cause enough sure shelf_enough shelf_sure
-    four =
+not-failed words left written files status a b c d room shelf_room gives cause enough sure shelf_sure four =
     let within = gives-within words left written files status gives in
-    none-rose a b c d (sure (omega (arith, within.0, enough))) (shelf_sure (omega (arith, within.1, shelf_enough)))
+    let fits = enough gives.output (given-too words left written files status gives) in
+    none-rose a b c d (sure (omega (arith, within.0, fits.0))) (shelf_sure (omega (arith, within.1, fits.1)))
     (cause.failed four)

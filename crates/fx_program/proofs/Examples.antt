@@ -1,13 +1,18 @@
 -- What commands read and run, and what an output and a status exclude.
 use Rattle.std.proofs.Common.{ℕ, ◌≡◌, true, false, List, [], ◌∷◌, length, Some, None, Option, ap, refl, arith}
-use Rattle.std.specs.Prelude.{Ok, codes, unwrap_or}
+use Rattle.std.specs.Prelude.{Ok, Err, codes, unwrap_or}
+use Rattle.std.specs.Fmt.{digits}
 use Rattle.std.proofs.lemmas.List.Elements.{at_from_Contains}
 use Rattle.fx_base.specs.Acts.{File, WholeFile, whole_file}
 use Rattle.fx_base.specs.Memory.{room_of}
-use Rattle.fx_program.specs.declared.words.Settings.TheVariants.{Run, Check, Make, Large, Judge, Upgrade}
-use Rattle.fx_program.specs.CommandLine.{settings_of, word_fault}
+use Rattle.fx_judge.specs.Reading.{plan_fault}
+use Rattle.fx_table_book.specs.declared.order.Order.TheVariants.{FactorsFirst, SitterChenFeder}
+use Rattle.fx_program.specs.declared.words.Settings.TheVariants.{Run, Plan, Check, Make, Large, Judge, Upgrade, Tables}
+use Rattle.fx_program.specs.CommandLine.{settings_of}
+use Rattle.fx_program.specs.Words.{word_fault}
 use Rattle.fx_program.specs.Claims.{IsGreatest}
-use Rattle.fx_program.specs.Commands.{command_for, command_of}
+use Rattle.fx_program.specs.Commands.{command_for, command_of, is_of_table}
+use Rattle.fx_program.specs.Judging.{judged_output, plan_fault_line}
 use Rattle.fx_program.specs.Making.{made_text}
 use Rattle.fx_program.specs.Output.{Gives, message, step_status, world}
 use Rattle.fx_program.specs.Stops.{HasStatusCause}
@@ -27,16 +32,50 @@ sources_read :
     ((command_of (Run 1 0)).reads ≡ true) × ((command_of Check).reads ≡ true) × ((command_of (Make 2)).reads ≡ false)
     × ((command_of (Judge 2)).reads ≡ true) × ((command_of (Large 2 1)).reads ≡ false)
     × ((command_for (word_fault 1 1)).reads ≡ false) × ((command_of Upgrade).reads ≡ true)
-sources_read = (refl, refl, refl, refl, refl, refl, refl)
+    × ((command_of (Plan 0)).reads ≡ true)
+sources_read = (refl, refl, refl, refl, refl, refl, refl, refl)
 
 -- a program is read to its end whatever its length, a book up to 268,435,456 bytes
 read_whole : (text : List ℕ) → length text ≡ 268435456
-    → ((command_of Check).reads_all_of text ≡ true) × ((command_of (Run 1 0)).reads_all_of text ≡ true)
-read_whole text long = rw long (refl, refl)
+    → ((command_of Check).reads_all_of text ≡ true) × ((command_of Upgrade).reads_all_of text ≡ true)
+    × ((command_of (Run 1 0)).reads_all_of text ≡ true) × ((command_of (Plan 0)).reads_all_of text ≡ true)
+    × ((command_of (Judge 2)).reads_all_of text ≡ true)
+read_whole text long = rw long (refl, refl, refl, refl, refl)
 
 not_read_whole : (text : List ℕ) → length text ≡ 268435457
-    → ((command_of Check).reads_all_of text ≡ false) × ((command_of (Run 1 0)).reads_all_of text ≡ true)
-not_read_whole text long = rw long (refl, refl)
+    → ((command_of Check).reads_all_of text ≡ false) × ((command_of Upgrade).reads_all_of text ≡ false)
+    × ((command_of (Run 1 0)).reads_all_of text ≡ true)
+not_read_whole text long = rw long (refl, refl, refl)
+
+-- a plan that is refused
+refused_plan :
+    (plan_fault_line (plan_fault 4 2) ≡ codes "factex: J4 record 2\n")
+    × ((judged_output (Err (plan_fault 4 2))).status ≡ 3)
+unfolding digits
+refused_plan = (refl, refl)
+
+-- a book of a table is told by its first line
+kinds_of_books :
+    (is_of_table (codes "factex-table 1\nsize") ≡ true) × (is_of_table (codes "factex-table 2\n") ≡ true)
+    × (is_of_table (codes "factex-table 2") ≡ false) × (is_of_table (codes "factex-table 3\n") ≡ false)
+    × (is_of_table (codes "factex-book 2\nsize") ≡ false) × (is_of_table [] ≡ false)
+kinds_of_books = (refl, refl, refl, refl, refl, refl)
+
+-- the words of a table: ordinary, in blocks, in split plots
+table_words :
+    (settings_of (codes "tables" ∷ codes "2" ∷ codes "4" ∷ codes "6" ∷ [])
+    ≡ Ok
+    (Tables (record { q = 2; m = 4; upto = 6; h = 0; inside = 0; order = FactorsFirst; entries = 1000000 })))
+    × (settings_of (codes "tables" ∷ codes "3" ∷ codes "2" ∷ codes "4" ∷ codes "--nodes=7" ∷ codes "--blocks=3" ∷ [])
+    ≡ Ok (Tables (record { q = 3; m = 2; upto = 4; h = 1; inside = 0; order = FactorsFirst; entries = 7 })))
+    × (settings_of
+    (codes "tables" ∷ codes "2" ∷ codes "4" ∷ codes "4" ∷ codes "--inside=3" ∷ codes "--whole-plots=4"
+    ∷ codes "--order=SCF" ∷ [])
+    ≡ Ok (Tables (record { q = 2; m = 4; upto = 4; h = 2; inside = 3; order = SitterChenFeder; entries = 1000000 })))
+    × (settings_of (codes "tables" ∷ codes "2" ∷ codes "4" ∷ codes "4" ∷ codes "--inside=3" ∷ []) ≡ word_fault 6 6)
+    × (settings_of (codes "tables" ∷ codes "2" ∷ codes "3" ∷ codes "3" ∷ []) ≡ word_fault 4 4)
+unfolding settings_of
+table_words = (refl, refl, refl, refl, refl)
 
 -- a status below 4 comes with the whole output, also where it is that of a refusal, and is the output's own
 half_listed : Gives (message (1 ∷ 2 ∷ []) 3) (world (Some []) None) (world (Some (1 ∷ [])) None) 3 → ⊥

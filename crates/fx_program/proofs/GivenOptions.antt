@@ -4,7 +4,8 @@ use Rattle.std.specs.Prelude.{IfOk, IfSome}
 use Rattle.fx_program.specs.declared.words.Extra.TheVariants as extra
 use Rattle.fx_program.specs.declared.words.Options.{Options}
 use Rattle.fx_program.specs.declared.words.WordFault.{WordFault}
-use Rattle.fx_program.specs.CommandLine.{AreThreads, IsOfExtra, option_count, once}
+use Rattle.fx_program.specs.CommandLine.{AreThreads, IsOfExtra, option_count}
+use Rattle.fx_program.specs.Words.{once}
 
 pub few : (threads extra : Option ℕ) → option_count (record { threads = threads; extra = extra }) ≤ 2
 few None None = omega arith

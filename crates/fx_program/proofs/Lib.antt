@@ -19,7 +19,14 @@ pub mod ProvedBooks
 pub mod Commands
 pub mod Made
 pub mod GivenOptions
+mod WordPlaces
+mod TableFaults
 mod WordFaults
+mod ProvedTables
 pub mod Complete
 mod Examples
 mod Ruling
+mod TableLimits
+mod TableNames
+mod Tabulated
+pub mod SomeOutput

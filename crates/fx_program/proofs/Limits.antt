@@ -5,6 +5,7 @@ use Rattle.std.proofs.lemmas.Bool.{lt-ltb}
 use Rattle.std.proofs.lemmas.List.{length-replicate}
 use Rattle.fx_base.specs.Reading.{IsOverLimit}
 use Rattle.fx_book.specs.Heads.{book_of}
+use Rattle.fx_table_book.specs.Texts as tables
 use Rattle.fx_book.specs.declared.fault.FaultKind.TheVariants.{TooLong}
 
 module _ (limit : ℕ) where
@@ -25,3 +26,9 @@ module _ (limit : ℕ) where
 pub long_book : (text : List ℕ) → 268435456 < length text → book_of text ≡ Err (record { kind = TooLong; line = 1 })
 unfolding book_of
 long_book text long = rw (lt-ltb 268435456 (length text) long) refl
+
+-- nor one of a table
+pub long_table : (text : List ℕ) → 33554432 < length text
+    → tables.book_of text ≡ Err (record { kind = TooLong; line = 1 })
+unfolding tables.book_of
+long_table text long = rw (lt-ltb 33554432 (length text) long) refl

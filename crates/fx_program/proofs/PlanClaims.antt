@@ -1,9 +1,11 @@
 -- What `plan` gives for a text.
-use Rattle.std.proofs.Common.{ℕ, ◌≡◌, ◌<◌, List, [], ◌∷◌, ◌++◌, length, Option, Some, None, Result, Ok, Err, All, refl, sym, ap, subst}
+use Rattle.std.proofs.Common.{ℕ, ◌≡◌, ◌<◌, List, [], ◌∷◌, ◌++◌, length, Option, Some, None, Result, Ok, Err, All, refl}
+use Rattle.std.proofs.Common.{sym, ap, subst}
 use Rattle.std.proofs.Common.{◌∙◌, arith, Bool, true, false}
 use Rattle.std.specs.Prelude.{find, slice_index, slice_range, if◌then◌else◌}
 use Rattle.std.specs.List.{Contains}
-use Rattle.std.proofs.lemmas.List.Elements.{All-nil, All-append, All-cons, All-contains, All-contains_itself, All-head, All-tail}
+use Rattle.std.proofs.lemmas.List.Elements.{All-nil, All-append, All-cons, All-contains, All-contains_itself, All-head}
+use Rattle.std.proofs.lemmas.List.Elements.{All-tail}
 use Rattle.std.proofs.lemmas.Option.{same_Some}
 use Rattle.std.proofs.lemmas.Result.{IfOk-at_ok}
 use Rattle.fx_vectors.specs.Matrix.{MatrixView}
@@ -14,8 +16,10 @@ use Rattle.fx_rules.specs.declared.parts.Part.{Part}
 use Rattle.fx_rules.specs.declared.problem.RulesFault.{RulesFault}
 use Rattle.fx_program.specs.Claims.{IsGreatest, IsOfItsRules, IsPlanned}
 use Rattle.fx_program.specs.Commands.{command_for}
+use Rattle.fx_program.specs.Output.{Output}
 use Rattle.fx_program.specs.Outside.{IsCarriedOut, Outside}
-use Rattle.fx_program.specs.Planning.{RuledView, all_ruled, and_then, asked_given, given_output, idle_part, is_searched, met_by}
+use Rattle.fx_program.specs.Planning.{RuledView, all_ruled, and_then, asked_given, given_output, idle_part, is_searched}
+use Rattle.fx_program.specs.Planning.{met_by}
 use Rattle.fx_program.specs.Planning.{or_idle, planned_by, planned_in, planned_output, ruled, ruled_by, ruled_in}
 use Rattle.fx_program.specs.Planning.{ruled_steps, shape_given, step_starts}
 use Rattle.fx_program.specs.Statuses.{met_status}
@@ -36,12 +40,14 @@ module _ (text : List ℕ) where
       → (if c then Some p else find test parts) ≡ Some part
       → Contains (p ∷ parts) part
   found_first test p parts part true later e =
-      subst (Contains (p ∷ parts)) (same_Some p part e) (All-head (Contains (p ∷ parts)) p parts (All-contains_itself (p ∷ parts)))
+      subst (Contains (p ∷ parts)) (same_Some p part e)
+      (All-head (Contains (p ∷ parts)) p parts (All-contains_itself (p ∷ parts)))
   found_first test p parts part false later e =
       All-contains (Contains (p ∷ parts)) parts part
       (All-tail (Contains (p ∷ parts)) p parts (All-contains_itself (p ∷ parts))) (later e)
 
-  found_among : (test : Part → Bool) (parts : List Part) (part : Part) → find test parts ≡ Some part → Contains parts part
+  found_among : (test : Part → Bool) (parts : List Part) (part : Part) → find test parts ≡ Some part
+      → Contains parts part
   found_among test [] part e = absurd (cc e)
   found_among test (p ∷ parts) part e = found_first test p parts part (test p) (found_among test parts part) e
 
@@ -142,5 +148,5 @@ planned {asked} {old} {new} {ended} seed is done low text left =
     let own = subst (λ (a : Result Settings WordFault). IsCarriedOut (command_for a) old new ended) is done in
     let same : text ≡ own.text = own.exposed refl text left in
     is_planned text seed (exit_status ended) _ refl
-    (own.ends.gives.same (omega (arith, low))
+    (own.ends.gives.same (omega (arith, low)) ∙ ap (λ (o : Output). o.status) own.given
     ∙ ap (λ t. (planned_output seed (planned_in t)).status) (sym same)) low

@@ -17,14 +17,14 @@ use Rattle.fx_vectors.specs.Matrix.{MatrixView}
 use Rattle.fx_vectors.specs.declared.book.NamedBook.{NamedBook}
 use Rattle.fx_rules.proofs.Blanks.{length-blanked_from}
 use Rattle.fx_program.specs.Ended.{ended_lines, ended_output, ended_status, lines_if_given}
-use Rattle.fx_program.specs.Planning.{RuledView, all_ruled, and_then, given_output, met_by, part_before, planned_by, procs_behind}
+use Rattle.fx_program.specs.Planning.{RuledView, all_ruled, and_then, given_output, met_by, part_before, planned_by}
+use Rattle.fx_program.specs.Planning.{procs_behind}
 use Rattle.fx_program.specs.Planning.{planned_in, ruled, ruled_steps, step_starts}
 use Rattle.fx_program.specs.Plans.{AskedView}
 use Rattle.fx_program.specs.Statuses.{met_status}
 use Rattle.fx_program.specs.Texts.{program_in}
 use Rattle.fx_program.specs.declared.giving.Origin.{Origin}
 use Rattle.fx_program.specs.declared.giving.Origin.TheVariants.{Rules}
-use Rattle.fx_program.specs.declared.plan_fault.PlanFault.{PlanFault}
 use Rattle.fx_program.specs.declared.plan_fault.PlanFault.TheVariants as fault
 use Rattle.fx_program.specs.declared.text.TextFault.{TextFault}
 
@@ -50,20 +50,12 @@ one_ruled text parts starts done one step steps i long is =
     ap (λ r. and_then r (λ one. all_ruled text parts starts (done ++ one ∷ []) steps))
     (ap (λ n. ruled text parts (slice_index starts n) step) long ∙ is)
 
--- a step that is refused
-pub one_refused : (text : List ℕ) (parts : List Part) (starts : List ℕ) (done : List RuledView) (wrong : PlanFault)
-    (step : Meaning) (steps : List Meaning) (i : ℕ) → length done ≡ i
-    → ruled text parts (slice_index starts i) step ≡ Err wrong
-    → all_ruled text parts starts done (step ∷ steps) ≡ Err wrong
-one_refused text parts starts done wrong step steps i long is =
-    ap (λ r. and_then r (λ one. all_ruled text parts starts (done ++ one ∷ []) steps))
-    (ap (λ n. ruled text parts (slice_index starts n) step) long ∙ is)
-
 -- a token more, of those among which steps begin
 pub count_symbols : (text : List ℕ) (tokens : List Token) → length (symbols_of text tokens) ≡ length tokens
 count_symbols text tokens = length-map tokens _
 
-pub one_token : (fresh : Bool) (starts : List ℕ) (tokens : List Token) (symbols : List Symbol) (i : ℕ) (t : Token) (s : Symbol)
+pub one_token : (fresh : Bool) (starts : List ℕ) (tokens : List Token) (symbols : List Symbol) (i : ℕ) (t : Token)
+    (s : Symbol)
     → drop i tokens ≡ t ∷ drop (i + 1) tokens → drop i symbols ≡ s ∷ drop (i + 1) symbols
     → (starts ++ (if fresh && is Proc s then t.from ∷ [] else []))
     ++ procs_behind (is Semicolon s) (drop (i + 1) tokens) (drop (i + 1) symbols)
@@ -92,7 +84,8 @@ by_fault text bytes parts wrong own blank read =
     ∙ ap (planned_by text parts (step_starts bytes)) read
 
 -- what is given for a step is what its outcome gives, where that has the matrix of the rules and no books
-pub given_is : (seed : ℕ) (earlier : List AskedView) (own : RuledView) (number n : ℕ) (step : Meaning) (outcome : Outcome)
+pub given_is : (seed : ℕ) (earlier : List AskedView) (own : RuledView) (number n : ℕ) (step : Meaning)
+    (outcome : Outcome)
     (origin : Origin)
     → n ≡ number → step ≡ own.step → outcome.matrix ≡ Some own.matrix → outcome.books ≡ [] → origin ≡ Rules (met_by own)
     → given_output seed number earlier own

@@ -1,5 +1,5 @@
 -- A fault of the words is of one of the six codes, at a word.
-use Rattle.std.proofs.Common.{ℕ, ◌≡◌, ◌≤◌, ◌+◌, ◌-◌, ◌^◌, Bool, true, false, cond, List, [], ◌∷◌, length, arith, subst}
+use Rattle.std.proofs.Common.{ℕ, ◌≡◌, ◌≤◌, ◌+◌, ◌-◌, ◌^◌, false, List, [], ◌∷◌, length, arith, subst}
 use Rattle.std.proofs.Common.{sym}
 use Rattle.std.specs.Prelude.{Option, Some, None, Result, Ok, Err, IfErr, codes}
 use Rattle.std.specs.Str.{bytes_eq}
@@ -11,32 +11,11 @@ use Rattle.fx_program.specs.declared.words.Options.{Options}
 use Rattle.fx_program.specs.declared.words.Settings.{Settings}
 use Rattle.fx_program.specs.declared.words.WordFault.{WordFault}
 use Rattle.fx_program.specs.CommandLine
-
--- a fault at a word from 1 to the last
-record IsWithin (last : ℕ) (fault : WordFault) : Type 0 where
-  pub code : (1 ≤ fault.code) × (fault.code ≤ 6)
-  pub word : (1 ≤ fault.word) × (fault.word ≤ last)
-
-abbrev Within : {T : Type 0} → ℕ → Result T WordFault → Type 0
-Within last result = IfErr result (IsWithin last)
-
-either : {T : Type 0} (last : ℕ) (b : Bool) (x y : Result T WordFault) → Within last x → Within last y
-    → Within last (cond b x y)
-either last true x y hx hy = hx
-either last false x y hx hy = hy
+use Rattle.fx_program.specs.Words
+use Rattle.fx_program.proofs.WordPlaces.{Within, either, fault_here, once_within, value_within}
+use Rattle.fx_program.proofs.TableFaults.{tables_within}
 
 module _ (last place : ℕ) (from : 1 ≤ place) (to : place ≤ last) where
-  fault_here : (code : ℕ) → 1 ≤ code → code ≤ 6 → IsWithin last (record { code = code; word = place })
-  fault_here code low high = record { code = (low, high); word = (from, to) }
-
-  value_within : {T : Type 0} (value : Option T) → Within last (CommandLine.value_or_fault place value)
-  value_within None = fault_here 4 (omega arith) (omega arith)
-  value_within (Some n) = tt
-
-  once_within : {T : Type 0} (earlier value : Option T) → Within last (CommandLine.once place earlier value)
-  once_within (Some n) value = fault_here 5 (omega arith) (omega arith)
-  once_within None value = value_within value
-
   threads_within : (given : Options) (r : Result ℕ WordFault) → Within last r
       → Within last (CommandLine.add_threads given r)
   threads_within given (Ok n) h = tt
@@ -50,12 +29,12 @@ module _ (last place : ℕ) (from : 1 ≤ place) (to : place ≤ last) where
   extra_by_within : (given : Options) (low high : ℕ) (digits : Option (List ℕ))
       → Within last (CommandLine.extra_by place given low high digits)
   extra_by_within given low high (Some digits) =
-      extra_within given _ (once_within given.extra (CommandLine.within low high digits))
-  extra_by_within given low high None = fault_here 3 (omega arith) (omega arith)
+      extra_within given _ (once_within last place from to given.extra (Words.within low high digits))
+  extra_by_within given low high None = fault_here last place from to 3 (omega arith) (omega arith)
 
   allowed_within : (allowed : Extra) (given : Options) (word : List ℕ)
       → Within last (CommandLine.allowed_extra place allowed given word)
-  allowed_within extra.Nothing given word = fault_here 3 (omega arith) (omega arith)
+  allowed_within extra.Nothing given word = fault_here last place from to 3 (omega arith) (omega arith)
   allowed_within extra.Seed given word = extra_by_within given 0 (2 ^ 64 - 1) _
   allowed_within extra.SeedAlone given word = extra_by_within given 0 (2 ^ 64 - 1) _
   allowed_within extra.Nodes given word = extra_by_within given 1 5000000 _
@@ -63,7 +42,7 @@ module _ (last place : ℕ) (from : 1 ≤ place) (to : place ≤ last) where
   option_within : (allowed : Extra) (given : Options) (word : List ℕ) (digits : Option (List ℕ))
       → Within last (CommandLine.option_by place allowed given word digits)
   option_within allowed given word (Some digits) =
-      threads_within given _ (once_within given.threads (CommandLine.within 1 64 digits))
+      threads_within given _ (once_within last place from to given.threads (Words.within 1 64 digits))
   option_within allowed given word None = allowed_within allowed given word
 
 options_behind_within : (last place : ℕ) (allowed : Extra) (r : Result Options WordFault) (words : List (List ℕ))
@@ -111,7 +90,7 @@ make_within : (last : ℕ) (options : List (List ℕ)) → length options + 2 �
 make_within last [] fits some = fault_here last 2 (omega arith) some 6 (omega arith) (omega arith)
 make_within last (word ∷ others) fits some =
     made_within last _ (alone_within last others _ (omega (arith, fits))
-    (value_within last 2 (omega arith) some (CommandLine.within 1 100 word)))
+    (value_within last 2 (omega arith) some (Words.within 1 100 word)))
 
 large_by_within : (last n : ℕ) (r : Result Options WordFault) → Within last r → Within last (CommandLine.large_by n r)
 large_by_within last n (Ok given) h = tt
@@ -128,7 +107,7 @@ large_within : (last : ℕ) (options : List (List ℕ)) → length options + 2 �
 large_within last [] fits some = fault_here last 2 (omega arith) some 6 (omega arith) (omega arith)
 large_within last (word ∷ others) fits some =
     large_behind_within last others _ (omega (arith, fits))
-    (value_within last 2 (omega arith) some (CommandLine.within 1 100 word))
+    (value_within last 2 (omega arith) some (Words.within 1 100 word))
 
 judged_within : (last : ℕ) (r : Result ℕ WordFault) → Within last r → Within last (CommandLine.judged_by r)
 judged_within last (Ok q) h = tt
@@ -139,7 +118,7 @@ judge_within : (last : ℕ) (options : List (List ℕ)) → length options + 2 �
 judge_within last [] fits some = fault_here last 2 (omega arith) some 6 (omega arith) (omega arith)
 judge_within last (word ∷ others) fits some =
     judged_within last _ (alone_within last others _ (omega (arith, fits))
-    (value_within last 2 (omega arith) some (CommandLine.order_of word)))
+    (value_within last 2 (omega arith) some (Words.order_of word)))
 
 catalogue_by_within : (last q m most : ℕ) (r : Result Options WordFault) → Within last r
     → Within last (CommandLine.catalogue_by q m most r)
@@ -159,7 +138,7 @@ catalogue_factors_within last q m [] fits =
 catalogue_factors_within last q m (word ∷ options) fits =
     catalogue_options_within last q m options _ (omega (arith, fits))
     (value_within last 4 (omega arith) (omega (arith, fits))
-    (CommandLine.within (m + 1) (most_factors_of q false) word))
+    (Words.within (m + 1) (most_factors_of q false) word))
 
 behind_indexes_within : (last q : ℕ) (words : List (List ℕ)) (r : Result ℕ WordFault) → length words + 4 ≤ last
     → Within last r → Within last (CommandLine.behind_indexes q words r)
@@ -172,7 +151,7 @@ catalogue_indexes_within last q [] fits =
     fault_here last 3 (omega arith) (omega (arith, fits)) 6 (omega arith) (omega arith)
 catalogue_indexes_within last q (word ∷ words) fits =
     behind_indexes_within last q words _ (omega (arith, fits))
-    (value_within last 3 (omega arith) (omega (arith, fits)) (CommandLine.within 1 (greatest q) word))
+    (value_within last 3 (omega arith) (omega (arith, fits)) (Words.within 1 (greatest q) word))
 
 behind_levels_within : (last : ℕ) (words : List (List ℕ)) (r : Result ℕ WordFault) → length words + 3 ≤ last
     → Within last r → Within last (CommandLine.behind_levels words r)
@@ -184,7 +163,7 @@ catalogue_within : (last : ℕ) (words : List (List ℕ)) → length words + 2 �
 catalogue_within last [] fits = fault_here last 2 (omega arith) (omega (arith, fits)) 6 (omega arith) (omega arith)
 catalogue_within last (word ∷ words) fits =
     behind_levels_within last words _ (omega (arith, fits))
-    (value_within last 2 (omega arith) (omega (arith, fits)) (CommandLine.order_of word))
+    (value_within last 2 (omega arith) (omega (arith, fits)) (Words.order_of word))
 
 command_within : (last : ℕ) (word : List ℕ) (options : List (List ℕ)) → length options + 2 ≤ last
     → Within last (CommandLine.command_with word options)
@@ -200,7 +179,8 @@ command_within last word options fits =
     (either last (bytes_eq word (codes "large")) _ _ (large_within last options fits some)
     (either last (bytes_eq word (codes "judge")) _ _ (judge_within last options fits some)
     (either last (bytes_eq word (codes "catalogue")) _ _ (catalogue_within last options fits)
-    (fault_here last 1 (omega arith) (omega (arith, some)) 2 (omega arith) (omega arith)))))))))
+    (either last (bytes_eq word (codes "tables")) _ _ (tables_within last options fits)
+    (fault_here last 1 (omega arith) (omega (arith, some)) 2 (omega arith) (omega arith))))))))))
 
 settings_within : (words : List (List ℕ)) → Within (length words + 1) (CommandLine.settings_of words)
 unfolding CommandLine.settings_of

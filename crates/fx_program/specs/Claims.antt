@@ -1,5 +1,5 @@
 -- What is claimed of each step of a program, of the program's status, of a book that is accepted, and of a catalogue.
-use Rattle.std.specs.Prelude.{slice_range, ℕ, ◌≡◌, ◌<◌, ◌≤◌, true, List, [], ◌∷◌, ◌++◌, Some, Result, Ok, Err, All}
+use Rattle.std.specs.Prelude.{slice_range, ℕ, ◌≡◌, ◌<◌, ◌≤◌, ◌⊎◌, true, List, [], ◌∷◌, ◌++◌, Some, Result, Ok, Err, All}
 use Rattle.std.specs.List.{Contains}
 use Rattle.fx_designs.specs.Problems.{AtResolution, Dimensions}
 use Rattle.fx_designs.specs.Matrices.{NoneMeets}
@@ -9,6 +9,9 @@ use Rattle.fx_vectors.specs.Shape.{dimensions_of}
 use Rattle.fx_vectors.specs.declared.book.Book.{Book}
 use Rattle.fx_book.specs.Heads.{book_of}
 use Rattle.fx_checker.specs.Laws.{NoMatrix}
+use Rattle.fx_strata.specs.Laws.{NoneBetter}
+use Rattle.fx_table_book.specs.Texts as tables
+use Rattle.fx_table_book.specs.Texts.{Contents}
 use Rattle.fx_catalogue.specs.Catalogues.{Entry, entries, is_nothing, shape_at}
 use Rattle.fx_catalogue.specs.Laws.{Holds}
 use Rattle.fx_statements.specs.Questions.{outcome_of}
@@ -20,6 +23,7 @@ use Rattle.fx_program.specs.Files.{matrix_in}
 use Rattle.fx_program.specs.Planning.{RuledView, met_by, planned_in, shape_given}
 use Rattle.fx_program.specs.Statuses.{met_status}
 use Rattle.fx_program.specs.Output.{step_status}
+use Rattle.fx_program.specs.TableVerdicts.{claim_in}
 use Rattle.fx_answer.specs.StepClaims.{Allows, ClaimsHold, IsAsItAsks, OfOutcome, required}
 use Rattle.fx_program.specs.declared.text.TextFault.{TextFault}
 
@@ -80,6 +84,16 @@ pub record IsProvedBook (text : List ℕ) : Type 0 where
   pub book : Book
   pub read : book_of text ≡ Ok book
   pub claim : NoMatrix (problem_of book.head.question) book.head.beat
+
+-- a text that is the book of a table whose claim holds of all designs in blocks or split plots
+pub record IsProvedTable (text : List ℕ) : Type 0 where
+  pub book : Contents
+  pub read : tables.book_of text ≡ Ok book
+  pub claim : NoneBetter (claim_in book)
+
+-- a text that is a book of either kind whose claim holds
+abbrev pub IsProved : List ℕ → Type 0
+IsProved text = IsProvedBook text ⊎ IsProvedTable text
 
 -- the lines of a catalogue with q levels and q^m runs end with one without a design, and no rule matrix with as many
 -- factors as that one, or more, has resolution 3

@@ -1,56 +1,24 @@
 -- What the words of the command line ask for.
-use Rattle.std.specs.Prelude.{ℕ, ◌+◌, ◌^◌, ◌-◌, ◌<◌, ◌≤◌, nat_le, ◌&&◌, Bool, false, unwrap_or, is_some, List}
-use Rattle.std.specs.Prelude.{[], ◌∷◌, ◌++◌, if◌then◌else◌, Option, Some, None, Result, Ok, Err, Vec, map, take, drop}
+use Rattle.std.specs.Prelude.{ℕ, ◌+◌, ◌^◌, ◌-◌, ◌<◌, ◌≤◌, false, unwrap_or, is_some, List}
+use Rattle.std.specs.Prelude.{[], ◌∷◌, ◌++◌, if◌then◌else◌, Option, Some, None, Result, Ok, Err, Vec, map}
 use Rattle.std.specs.Prelude.{length, codes, decimal, IsTrue}
-use Rattle.std.specs.List.{list_all}
 use Rattle.std.specs.Str.{bytes_eq}
-use Rattle.std.specs.Str.Parse.{digits_value}
 use Rattle.fx_designs.specs.Galois.{is_order}
-use Rattle.fx_lexer.specs.Bytes.{is_digit}
 use Rattle.fx_settings.specs.Powers.{greatest}
 use Rattle.fx_statements.specs.Valid.{most_factors_of}
 use Rattle.fx_program.specs.declared.words.Extra.{Extra}
 use Rattle.fx_program.specs.declared.words.Extra.TheVariants as extra
 use Rattle.fx_program.specs.declared.words.Options.{Options}
 use Rattle.fx_program.specs.declared.words.Settings.{Settings}
-use Rattle.fx_program.specs.declared.words.Settings.TheVariants.{Run, Plan, Check, Make, Large, Judge, Upgrade, Catalogue}
+use Rattle.fx_program.specs.declared.words.Settings.TheVariants.{Run, Plan, Check, Make, Large, Judge, Upgrade}
+use Rattle.fx_program.specs.declared.words.Settings.TheVariants.{Catalogue, Tables}
 use Rattle.fx_program.specs.declared.words.WordFault.{WordFault}
+use Rattle.fx_program.specs.Words.{after_prefix, number_at, once, order_at, within, word_fault}
+use Rattle.fx_program.specs.TableWords.{IsAsked, tables_with}
 
 -- the bytes of each word
 abbrev pub bytes_of : {A : Type 0} → List (Vec ℕ A) → List (List ℕ)
 bytes_of words = map (λ word. word.items) words
-
--- the fault of this code at a word
-abbrev pub word_fault : {T : Type 0} → ℕ → ℕ → Result T WordFault
-word_fault code word = Err (record { code = code; word = word })
-
--- what follows this beginning of a word, where the word begins so
-abbrev pub after_prefix : List ℕ → List ℕ → Option (List ℕ)
-after_prefix front word = if bytes_eq (take (length front) word) front then Some (drop (length front) word) else None
-
--- 1 to 20 decimal digits
-abbrev pub is_decimal : List ℕ → Bool
-is_decimal digits = list_all is_digit digits && nat_le 1 (length digits) && nat_le (length digits) 20
-
--- the number that these digits write, within these limits
-abbrev pub within : ℕ → ℕ → List ℕ → Option ℕ
-within low high digits =
-    if is_decimal digits && (nat_le low (digits_value 10 digits) && nat_le (digits_value 10 digits) high)
-    then Some (digits_value 10 digits) else None
-
--- the value of an option of the word at this place, or 4 where there is none
-abbrev pub value_or_fault : {T : Type 0} → ℕ → Option T → Result T WordFault
-value_or_fault place None = word_fault 4 place
-value_or_fault place (Some n) = Ok n
-
--- the number of the word at this place, within these limits
-abbrev pub number_at : ℕ → ℕ → ℕ → List ℕ → Result ℕ WordFault
-number_at place low high word = value_or_fault place (within low high word)
-
--- the value of an option of the word at this place, and 5 where the option had a value before
-abbrev pub once : {T : Type 0} → ℕ → Option T → Option T → Result T WordFault
-once place (Some earlier) value = word_fault 5 place
-once place None value = value_or_fault place value
 
 -- the options with this number of threads, from 1 to 64, or with this number of the extra option
 abbrev pub add_threads : Options → Result ℕ WordFault → Result Options WordFault
@@ -147,15 +115,6 @@ abbrev pub large_with : List (List ℕ) → Result Settings WordFault
 large_with [] = word_fault 6 2
 large_with (word ∷ others) = large_behind others (steps_at 2 word)
 
--- the number of levels that these digits write: one of the seven that there are
-abbrev pub order_of : List ℕ → Option ℕ
-order_of digits =
-    if is_decimal digits && is_order (digits_value 10 digits) then Some (digits_value 10 digits) else None
-
--- the number of levels of the word at this place
-abbrev pub order_at : ℕ → List ℕ → Result ℕ WordFault
-order_at place word = value_or_fault place (order_of word)
-
 -- the settings of `judge`: the number of levels is the one word after the command
 abbrev pub judged_by : Result ℕ WordFault → Result Settings WordFault
 judged_by (Err fault) = Err fault
@@ -218,11 +177,13 @@ command_with word options =
     then large_with options
     else (if bytes_eq word (codes "judge")
     then judge_with options
-    else (if bytes_eq word (codes "catalogue") then catalogue_with options else word_fault 2 1))))))))
+    else (if bytes_eq word (codes "catalogue")
+    then catalogue_with options
+    else (if bytes_eq word (codes "tables") then tables_with options else word_fault 2 1)))))))))
 
 -- 1: there is no word. 2: the first word is no command. 3: a word is no option of the command. 4: a number is none of 1
--- to 20 digits, or is not in its range. 5: the option is repeated. 6: a number of `make`, `large`, `judge` or
--- `catalogue` is missing.
+-- to 20 digits, or is not in its range, or an order has another name. 5: the option is repeated. 6: a number of `make`,
+-- `large`, `judge`, `catalogue` or `tables` is missing, or `--inside` without `--whole-plots`, or the reverse.
 unfoldable pub settings_of : List (List ℕ) → Result Settings WordFault
 settings_of [] = word_fault 1 1
 settings_of (word ∷ options) = command_with word options
@@ -262,9 +223,10 @@ pub record IsCatalogue (q m most nodes : ℕ) : Type 0 where
   pub factors : most ≤ most_factors_of q false
   pub budget : (1 ≤ nodes) × (nodes ≤ 5000000)
 
--- a command that makes a catalogue has such numbers
+-- a command that makes a catalogue or a table has such numbers
 abbrev pub HasShapes : Settings → Type 0
 HasShapes (Catalogue q m most threads nodes) = IsCatalogue q m most nodes
+HasShapes (Tables asked) = IsAsked asked
 HasShapes _ = Unit {0}
 
 -- the line that tells the fault: its code, and at which word

@@ -1,3 +1,5 @@
+pub mod Words
+pub mod TableWords
 pub mod CommandLine
 pub mod Messages
 pub mod Reasons
@@ -14,6 +16,9 @@ pub mod Ended
 pub mod Planning
 pub mod Judging
 pub mod Cataloguing
+pub mod Tables
+pub mod Tabulating
+pub mod TableVerdicts
 pub mod Commands
 pub mod Outside
 pub mod Summed

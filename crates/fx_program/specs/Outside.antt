@@ -101,19 +101,30 @@ pub record Fills {T : Type 0} (bytes : List ℕ) (old new : ShelfView) (result :
   pub room : new.room ≡ old.room
   pub begun : OnOk result (new.begun ≡ true)
 
+-- a stage that has the listing and the shelf alone, and gives some output of a kind
+pub record WritesSome (Given : Output → Type 0) (old new : SinkView) (before now : ShelfView) (result : Result ℕ Stop)
+    : Type 0 where
+  pub output : Output
+  pub given : Given output
+  pub writes : Writes output old new before now result
+
 -- What a command gives for some text: that of the source, where the source is read and exposes it. A source that
 -- exposes nothing had some text all the same.
 pub record GivesForSome (command : Command) (left : Option (List ℕ)) (old new : World) (status : ℕ) : Type 0 where
   pub text : List ℕ
   pub exposed : command.reads ≡ true → (known : List ℕ) → left ≡ Some known → known ≡ text
-  pub gives : Gives (command.output text) old new status
+  pub output : Output
+  pub given : command.gives text output
+  pub gives : Gives output old new status
 
 -- A command has ended for some such text, or is stopped. A status below that of a refusal comes only with such a text
 -- read to its end, if the command reads that.
 pub record IsCarriedOut (command : Command) (old new : Outside) (result : Result ℕ Stop) : Type 0 where
   pub text : List ℕ
   pub exposed : command.reads ≡ true → (known : List ℕ) → old.source.left ≡ Some known → known ≡ text
-  pub ends : Ends (command.output text) old new result
+  pub output : Output
+  pub given : command.gives text output
+  pub ends : Ends output old new result
   pub read_to_end : exit_status result < 3 → (known : List ℕ)
       → command.reads_all_of known ≡ true
       → old.source.left ≡ Some known

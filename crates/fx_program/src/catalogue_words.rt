@@ -22,11 +22,7 @@ const USUAL_NODES: u64 = 1000000;
 
 /// The settings of `catalogue`, by the words after it: the numbers of levels, of run indexes and of the most factors,
 /// and then the options. Takes no memory.
-///
-/// # Errors
-///
-/// The first fault of the words, of which the first is word 2.
-pub fn catalogue_with(words: &[Vec<u8>]) -> Result<Settings, WordFault>
+pub(crate) fn catalogue_with(words: &[Vec<u8>]) -> Result<Settings, WordFault>
     ensures threads { IfOk result HasThreads }
     ensures order { IfOk result HasOrder }
     ensures shapes { IfOk result HasShapes }
@@ -87,7 +83,7 @@ fn with_indexes(q: u8, m: u8, words: &[Vec<u8>]) -> Result<Settings, WordFault>
 }
 
 /// The most factors of a design with so many levels.
-fn most_factors(q: u8) -> u8
+pub(crate) fn most_factors(q: u8) -> u8
     ensures { result ≡ most_factors_of q false }
 {
     if q == 2 || q == 3 {

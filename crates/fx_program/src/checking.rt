@@ -1,10 +1,9 @@
-ghost use Rattle.std.specs.Prelude.{◌≡◌, ◌<◌, ◌++◌, Err, IfOk, List, Ok, OnOk, Some, false, ℕ};
+ghost use Rattle.std.specs.Prelude.{◌≡◌, ◌<◌, ◌++◌, Err, IfOk, Ok, OnOk, false};
 ghost use Rattle.fx_book.specs.Heads.{book_of};
 ghost use Rattle.fx_book.specs.Reading.{IsReading};
 ghost use Rattle.fx_book.specs.Valid.{IsValidBook};
 ghost use Rattle.fx_program.specs.declared.words.Settings.TheVariants.{Check};
-ghost use Rattle.fx_program.specs.Claims.{IsProvedBook};
-ghost use Rattle.fx_program.specs.Commands.{command_of};
+ghost use Rattle.fx_program.specs.Commands.{checked_output, command_of, is_of_table};
 ghost use Rattle.fx_program.specs.Output.{message, verdict_output};
 ghost use Rattle.fx_program.specs.Outside.{
   IsCarriedOut,
@@ -14,7 +13,6 @@ ghost use Rattle.fx_program.specs.Outside.{
   sink_view,
   source_view,
 };
-ghost use Rattle.fx_program.specs.Stops.{exit_status};
 ghost use Rattle.fx_program.specs.Verdicts.{
   book_fault_line,
   rejected_line,
@@ -24,6 +22,7 @@ ghost use Rattle.fx_program.specs.Verdicts.{
 
 use crate::listing::list;
 use crate::stop::Stop;
+use crate::table_checking::check_table_text;
 use fx_base::{Bytes, NoMemory, Sink, Source, Taken, put, put_number, read_all};
 use fx_book::{BookFault, BookStop, FaultKind, read_book, write_head};
 use fx_checker::{Verdict, check};
@@ -34,7 +33,7 @@ use std::alloc::Global;
 pub(crate) const BOOK_LIMIT: usize = 268435456;
 
 /// The fault of a text that is longer than that.
-pub const TOO_LONG: BookFault = BookFault {
+pub(crate) const TOO_LONG: BookFault = BookFault {
     kind: FaultKind::TooLong,
     line: 1,
 };
@@ -48,23 +47,38 @@ pub(crate) fn check_text<S: Source, K: Sink>(
     source: &mut S,
     listing: &mut K,
 ) -> Result<u8, Stop>
-    ensures done { (shelf : ShelfView) → shelf.begun ≡ false → IsCarriedOut (command_of Check)
+    ensures { (shelf : ShelfView) → shelf.begun ≡ false → IsCarriedOut (command_of Check)
         (outside (source_view S.Source source.old) (sink_view K.Sink listing.old) shelf)
         (outside (source_view S.Source source.new) (sink_view K.Sink listing.new) shelf) result }
-    ensures accepted { exit_status result ≡ 0
-        → (text : List ℕ)
-        → S.left source.old ≡ Some text
-        → IsProvedBook text }
 {
     let text = match read_all(alloc, source, BOOK_LIMIT)? {
         Taken::Whole(text) => text,
         Taken::TooLong => return refuse_book(alloc, TOO_LONG, listing),
     };
+    check_whole(alloc, text, listing)
+}
+
+/// Lists the verdict on a text, as a book of the kind as which it begins.
+fn check_whole<K: Sink>(alloc: Global, text: Bytes, listing: &mut K) -> Result<u8, Stop>
+    ensures { Lists (checked_output text)
+        (sink_view K.Sink listing.old) (sink_view K.Sink listing.new) result }
+{
+    if is_of_table(text.as_slice()) {
+        return check_table_text(alloc, text, listing);
+    }
     match take_book(alloc, text) {
         Ok(book) => list_verdict(alloc, &book, listing),
         Err(BookStop::Fault(fault)) => refuse_book(alloc, fault, listing),
         Err(BookStop::NoMemory) => Err(Stop::NoMemory),
     }
+}
+
+/// Whether a text has the first line of a book of a table, of either version.
+fn is_of_table(text: &[u8]) -> bool
+    ensures { result ≡ is_of_table text.now }
+{
+    text.strip_prefix(b"factex-table 1\n").is_some()
+        || text.strip_prefix(b"factex-table 2\n").is_some()
 }
 
 /// The book of a text, which is let go.
@@ -98,17 +112,17 @@ fn status_of(verdict: Verdict) -> u8
     }
 }
 
-/// Lists where a text is no book, and why. The status is 1.
-///
-/// # Errors
-///
-/// `Failed` where a call on the listing failed, and `NoMemory`.
-pub fn refuse_book<K: Sink>(alloc: Global, fault: BookFault, listing: &mut K) -> Result<u8, Stop>
+/// Lists where a text is no book, and why.
+pub(crate) fn refuse_book<K: Sink>(
+    alloc: Global,
+    fault: BookFault,
+    listing: &mut K,
+) -> Result<u8, Stop>
     ensures { Lists (message (book_fault_line fault) 1)
         (sink_view K.Sink listing.old) (sink_view K.Sink listing.new) result }
 {
     let mut line = Bytes::new(alloc);
-    put_rejected(&mut line, fault.line, b"B", fault.kind.code())?;
+    put_rejected(&mut line, u128::from(fault.line), b"B", fault.kind.code())?;
     list(listing, line.as_slice(), REJECTED)
 }
 
@@ -121,20 +135,23 @@ fn put_verdict(out: &mut Bytes, head: &Head, verdict: Verdict) -> Result<(), NoM
             put(out, b"accepted\n")?;
             write_head(head, out)
         }
-        Verdict::Rejected { line, reason } => put_rejected(out, line, b"K", reason.code()),
+        Verdict::Rejected { line, reason } => {
+            put_rejected(out, u128::from(line), b"K", reason.code())
+        }
     }
 }
 
 /// Appends the line that names the place of a fault and, by a letter and a number, its kind.
-///
-/// # Errors
-///
-/// `NoMemory`.
-pub fn put_rejected(out: &mut Bytes, line: u32, letter: &[u8], code: u8) -> Result<(), NoMemory>
+pub(crate) fn put_rejected(
+    out: &mut Bytes,
+    line: u128,
+    letter: &[u8],
+    code: u8,
+) -> Result<(), NoMemory>
     ensures { OnOk result (out.new ≡ out.old ++ rejected_line line letter.now code) }
 {
     put(out, b"rejected line ")?;
-    put_number(out, u128::from(line))?;
+    put_number(out, line)?;
     put(out, b" ")?;
     put(out, letter)?;
     put_number(out, u128::from(code))?;

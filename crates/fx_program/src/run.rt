@@ -3,7 +3,7 @@ ghost use Rattle.fx_statements.specs.Steps.{meaning_of};
 ghost use Rattle.fx_program.specs.CommandLine.{HasOrder, HasShapes, HasThreads, bytes_of, settings_of};
 ghost use Rattle.fx_program.specs.Making.{made_text};
 ghost use Rattle.fx_program.specs.Texts.{program_in};
-ghost use Rattle.fx_program.specs.Claims.{AllClaimsHold, CatalogueHolds, IsPlanned, IsProvedBook, SomeHasNone};
+ghost use Rattle.fx_program.specs.Claims.{AllClaimsHold, CatalogueHolds, IsPlanned, IsProved, SomeHasNone};
 ghost use Rattle.fx_program.specs.declared.words.Settings.TheVariants.{Catalogue, Check, Plan};
 ghost use Rattle.fx_program.specs.Stops.{HasStatusCause, exit_status};
 ghost use Rattle.fx_program.specs.declared.stop.Stop.TheVariants as stop;
@@ -33,6 +33,7 @@ use crate::session::Session;
 use crate::status::worse;
 use crate::stop::{REFUSED, Stop, exit_status};
 use crate::summary::{put_summary, summary_of};
+use crate::tabulating::list_table;
 use crate::text::{TEXT_LIMIT, TextFault, TextStop, at_front, read_program};
 use crate::upgrading::upgrade_text;
 use crate::words::{Settings, WordFault, read_words, word_line};
@@ -51,7 +52,7 @@ use std::thread::Threads;
 ///
 /// The exit status:
 ///
-/// - 0: each step or line of a catalogue has a design, or there is no step; or each design that rules give
+/// - 0: each step or line of a catalogue or table has a design, or there is no step; or each design that rules give
 ///   meets its model; or the book is accepted or upgraded, or the plan judged;
 /// - 1: some step or line has none, and no budget ended; or some given design does not meet its model; or the
 ///   book is rejected;
@@ -71,7 +72,9 @@ pub fn factex<R: Threads + Sync, S: Source, K: Sink, F: Shelf>(
     ensures status_range { result ≤ 5 }
 
     // With a status below 4 the output is exactly the defined one, else a prefix of it: that of the text of
-    // the source, where the source exposes it, and of some text where it exposes nothing.
+    // the source, where the source exposes it, and of some text where it exposes nothing. That of `tables` is of
+    // lines of which each holds of all designs in blocks or split plots: that none has a less key, or that there is
+    // none, with a book that is accepted.
     ensures output { GivesForSome (command_in (bytes_of words.now)) (S.left source.old)
         (world (K.written listing.old) (F.files shelf.old))
         (world (K.written listing.new) (F.files shelf.new)) result }
@@ -101,11 +104,12 @@ pub fn factex<R: Threads + Sync, S: Source, K: Sink, F: Shelf>(
         → (command_in (bytes_of words.now)).text_run (S.left source.old) ≡ Some text
         → AllClaimsHold (program_in text) }
 
-    // With `check`, status 0 comes only of a book whose claim holds of all rule matrices.
+    // With `check`, status 0 comes only of a book whose claim holds: of all rule matrices, or, where it is that of a
+    // table, of all designs in blocks or split plots.
     ensures accepted { result ≡ 0 → settings_of (bytes_of words.now) ≡ Ok Check
         → (text : List ℕ)
         → S.left source.old ≡ Some text
-        → IsProvedBook text }
+        → IsProved text }
 
     // With `catalogue` and a status below 3, what each line claims holds of all rule matrices, and with status 1
     // none with as many factors as the last line, or more, has resolution 3.
@@ -200,6 +204,7 @@ fn carry_out<R: Threads + Sync, S: Source, K: Sink, F: Shelf>(
                 let asked = CatalogueNumbers { q, m, upto, nodes };
                 list_catalogue(&session, asked, listing, shelf)
             }
+            Settings::Tables { asked } => list_table(alloc, asked, listing, shelf),
         },
         Err(fault) => list(listing, word_line(fault).as_slice(), REFUSED),
     }

@@ -3,40 +3,12 @@ ghost use Rattle.std.specs.List.{list_all};
 ghost use Rattle.std.specs.Str.{bytes_eq};
 ghost use Rattle.fx_designs.specs.Galois.{is_order};
 ghost use Rattle.fx_lexer.specs.Bytes.{is_digit};
-ghost use Rattle.fx_program.specs.CommandLine.{
-  AreThreads,
-  HasOrder,
-  HasShapes,
-  HasThreads,
-  IsOfExtra,
-  IsWordFault,
-  after_prefix,
-  after_threads,
-  bytes_of,
-  command_with,
-  is_decimal,
-  judge_with,
-  large_with,
-  make_with,
-  number_at,
-  once,
-  option_count,
-  options_in,
-  order_at,
-  order_of,
-  plan_with,
-  run_with,
-  settings_of,
-  steps_at,
-  with_extra,
-  with_option,
-  within,
-  without_options,
-  word_line,
-};
+ghost use Rattle.fx_program.specs.CommandLine.{AreThreads, HasOrder, HasShapes, HasThreads, IsOfExtra, IsWordFault, after_threads, bytes_of, command_with, judge_with, large_with, make_with, option_count, options_in, plan_with, run_with, settings_of, steps_at, with_extra, with_option, without_options, word_line};
+ghost use Rattle.fx_program.specs.Words.{after_prefix, is_decimal, number_at, once, order_at, order_of, within};
 ghost use Rattle.fx_program.specs.declared.words.Extra.TheVariants as extra;
 
 use crate::catalogue_words::catalogue_with;
+use crate::table_words::{AskedTable, tables_with};
 use crate::word_code;
 use arrayvec::ArrayVec;
 use fx_galois::Field;
@@ -104,6 +76,10 @@ pub enum Settings {
         threads: u8,
         /// How many nodes each question may have.
         nodes: u64,
+    },
+    /// Lists the designs of least key for more and more factors: ordinary ones, in blocks or in split plots.
+    Tables {
+        asked: AskedTable,
     },
 }
 
@@ -180,6 +156,9 @@ fn command_with(command: &[u8], options: &[Vec<u8>]) -> Result<Settings, WordFau
     }
     if command == b"catalogue".as_slice() {
         return catalogue_with(options);
+    }
+    if command == b"tables".as_slice() {
+        return tables_with(options);
     }
     Err(WordFault {
         code: word_code::UNKNOWN_COMMAND,
@@ -442,9 +421,10 @@ fn order_of(digits: &[u8]) -> Option<u8>
 }
 
 /// The value of an option of the word at this place, unless the option had one before.
-fn once<T: Drop>(place: u32, had: bool, value: Option<T>) -> Result<T, WordFault>
+pub(crate) fn once<T: Drop>(place: u32, had: bool, value: Option<T>) -> Result<T, WordFault>
     ensures once { (earlier : Option T) → is_some earlier ≡ had → result ≡ once place earlier value }
     ensures value { IfOk result (λ given. value ≡ Some given) }
+    ensures new { IfOk result (λ given. had ≡ false) }
 {
     if had {
         return Err(WordFault {
@@ -476,7 +456,7 @@ fn few_within(low: u8, high: u8, digits: &[u8]) -> Option<u8>
 }
 
 /// The same of greater numbers.
-fn within(low: u64, high: u64, digits: &[u8]) -> Option<u64>
+pub(crate) fn within(low: u64, high: u64, digits: &[u8]) -> Option<u64>
     ensures value { result ≡ within low high digits.now }
     ensures range { IfSome result (λ n. (low ≤ n) × (n ≤ high)) }
 {

@@ -30,7 +30,8 @@ use Rattle.fx_book.specs.Heads.{book_of}
 use Rattle.fx_book.specs.declared.fault.FaultKind.TheVariants as kind
 use Rattle.fx_book.specs.Faults.{fault}
 use Rattle.fx_checker.specs.Books.{first_flaw}
-use Rattle.fx_program.specs.CommandLine.{settings_of, word_fault}
+use Rattle.fx_program.specs.CommandLine.{settings_of}
+use Rattle.fx_program.specs.Words.{word_fault}
 use Rattle.fx_program.specs.declared.words.Settings.TheVariants.{Run, Make, Large}
 use Rattle.fx_program.specs.Messages.{fault_line}
 use Rattle.fx_program.specs.Verdicts.{book_fault_line}
@@ -39,8 +40,8 @@ use Rattle.fx_program.specs.declared.text.TextFault.TheVariants.{Refused}
 use Rattle.fx_designs.specs.Outcomes.{Design, NoDesign, BudgetEnded}
 use Rattle.fx_program.specs.Making.{made_text, step_text}
 use Rattle.fx_program.specs.Summaries.{summary_lines}
-use Rattle.fx_program.specs.Commands.{command_in, output_of}
-use Rattle.fx_program.specs.Output.{Output, message, Gives, world}
+use Rattle.fx_program.specs.Commands.{AreGiven, command_in}
+use Rattle.fx_program.specs.Output.{Output, message, Gives, world, program_output}
 use Rattle.fx_program.specs.Outside.{GivesForSome}
 
 -- what is given for the word `run` and a text
@@ -50,7 +51,11 @@ unfolding digits prime_of degree_of reduction_of add mul neg inv runs_of is_cons
     program_in step_lines is_aliased is_constant_in_blocks lib.Count.ones constant_words pattern_of first_least
     best_before carried conclusion_of are_blocks_even is_balanced_in_blocks is_estimated finished closing_word word_of
     marks
-given text = output_of (codes "run" ∷ []) text
+given text = program_output 0 (program_in text)
+
+run_given : (text : List ℕ) → AreGiven (codes "run" ∷ []) text (given text)
+unfolding given settings_of
+run_given text = refl
 
 -- what is given for a step that has one book
 booked : List ℕ → List ℕ → List ℕ → ℕ → Output
@@ -321,28 +326,35 @@ none_and_design = refl
 
 -- a book that is accepted, one with a word that is none of the prefix, one that ends too early, and a text that is none
 judged :
-    (output_of (codes "check" ∷ [])
+    (AreGiven (codes "check" ∷ [])
     (codes "factex-book 1\nsize 2 2 3 0\nresolution 4\npattern none\nO 1\nO 2\nW 3 7\nEND\n")
-    ≡ message (codes "accepted\nsize 2 2 3 0\nresolution 4\npattern none\n") 0)
-    × (output_of (codes "check" ∷ [])
+    (message (codes "accepted\nsize 2 2 3 0\nresolution 4\npattern none\n") 0))
+    × (AreGiven (codes "check" ∷ [])
     (codes "factex-book 1\nsize 2 2 3 0\nresolution 4\npattern none\nO 1\nO 2\nW 3 5\nEND\n")
-    ≡ message (codes "rejected line 7 K3\n") 1)
-    × (output_of (codes "check" ∷ []) (codes "factex-book 1\nsize 2 2 3 0\nresolution 4\npattern none\nO 1\nO 2\nEND\n")
-    ≡ message (codes "rejected line 7 K6\n") 1)
-    × (output_of (codes "check" ∷ []) (codes "proc factex;\n") ≡ message (codes "rejected line 1 B2\n") 1)
+    (message (codes "rejected line 7 K3\n") 1))
+    × (AreGiven (codes "check" ∷ []) (codes "factex-book 1\nsize 2 2 3 0\nresolution 4\npattern none\nO 1\nO 2\nEND\n")
+    (message (codes "rejected line 7 K6\n") 1))
+    × (AreGiven (codes "check" ∷ []) (codes "proc factex;\n")
+    (message (codes "rejected line 1 B2\n") 1))
 unfolding digits prime_of degree_of reduction_of add mul neg inv runs_of is_constant is_balanced in_span must_balance
     is_canonical settings_of book_of first_flaw
 judged = (refl, refl, refl, refl)
 
 -- words: the first fault, whatever the text says
 refused_words :
-    (output_of [] (codes "proc") ≡ message (codes "factex: C1 word 1\n") 3)
-    × (output_of (codes "x" ∷ codes "y" ∷ []) (codes "proc") ≡ message (codes "factex: C2 word 1\n") 3)
-    × (output_of (codes "RUN" ∷ []) (codes "proc") ≡ message (codes "factex: C2 word 1\n") 3)
-    × (output_of (codes "runs" ∷ []) (codes "proc") ≡ message (codes "factex: C2 word 1\n") 3)
-    × (output_of (codes "run" ∷ codes "x" ∷ []) (codes "proc") ≡ message (codes "factex: C3 word 2\n") 3)
-    × (output_of (codes "run" ∷ codes "run" ∷ codes "y" ∷ []) (codes "proc") ≡ message (codes "factex: C3 word 2\n") 3)
-    × (output_of (codes "check" ∷ codes "x" ∷ codes "y" ∷ []) (codes "proc") ≡ message (codes "factex: C3 word 2\n") 3)
+    (AreGiven [] (codes "proc") (message (codes "factex: C1 word 1\n") 3))
+    × (AreGiven (codes "x" ∷ codes "y" ∷ []) (codes "proc")
+    (message (codes "factex: C2 word 1\n") 3))
+    × (AreGiven (codes "RUN" ∷ []) (codes "proc")
+    (message (codes "factex: C2 word 1\n") 3))
+    × (AreGiven (codes "runs" ∷ []) (codes "proc")
+    (message (codes "factex: C2 word 1\n") 3))
+    × (AreGiven (codes "run" ∷ codes "x" ∷ []) (codes "proc")
+    (message (codes "factex: C3 word 2\n") 3))
+    × (AreGiven (codes "run" ∷ codes "run" ∷ codes "y" ∷ []) (codes "proc")
+    (message (codes "factex: C3 word 2\n") 3))
+    × (AreGiven (codes "check" ∷ codes "x" ∷ codes "y" ∷ []) (codes "proc")
+    (message (codes "factex: C3 word 2\n") 3))
 unfolding digits settings_of
 refused_words = (refl, refl, refl, refl, refl, refl, refl)
 
@@ -400,9 +412,8 @@ numbers_of_steps = (refl, refl, refl, refl, refl, refl, refl, refl, refl, refl, 
 
 -- the text of two steps; a step of three levels that asks for least aberration
 made_steps :
-    (output_of (codes "make" ∷ codes "2" ∷ []) (codes "proc")
-    ≡ message (codes
-    "proc factex nodes=20000;\nfactors X1-X6 / nlev=2;\nsize design=32;\nmodel resolution=max;\nrun;\nproc factex nodes=20000;\nfactors X1-X7 / nlev=2;\nsize design=16;\nmodel resolution=max;\nrun;\n") 0)
+    (AreGiven (codes "make" ∷ codes "2" ∷ []) (codes "proc") (message (codes
+    "proc factex nodes=20000;\nfactors X1-X6 / nlev=2;\nsize design=32;\nmodel resolution=max;\nrun;\nproc factex nodes=20000;\nfactors X1-X7 / nlev=2;\nsize design=16;\nmodel resolution=max;\nrun;\n") 0))
     × (step_text 12
     ≡ codes "proc factex nodes=20000;\nfactors X1-X5 / nlev=3;\nsize design=27;\nmodel resolution=max / minabs;\nrun;\n")
 unfolding digits settings_of made_text
@@ -460,6 +471,8 @@ unfolding given
 empty_source left none = record {
   text = [];
   exposed = λ read. none;
+  output = given [];
+  given = refl;
   gives = record {
     same = λ low. refl;
     whole = λ low. nothing_done;

@@ -36,10 +36,11 @@ use Rattle.fx_answer.specs.Books.{book_at, books_from, books_of, finished, finis
 use Rattle.fx_answer.specs.ValidSteps.{CanBeSought, IsValidStep}
 use Rattle.fx_answer.proofs.Valid.{least_valid, requirement_valid, shape_valid, some_numbers}
 use Rattle.fx_program_laws.specs.BookClaims.{HasAcceptedBooks, IsAcceptedBook}
-use Rattle.fx_program.specs.Commands.{output_of}
+use Rattle.fx_program.specs.Commands.{AreGiven}
 use Rattle.fx_program.specs.Output.{message, verdict_output}
 use Rattle.fx_program.specs.Verdicts.{verdict_lines, verdict_status}
 use Rattle.fx_program.specs.CommandLine.{settings_of}
+use Rattle.fx_program_laws.proofs.BookKinds.{checked_marks}
 use Rattle.fx_program_laws.proofs.BookLengths.{book_short}
 use Rattle.fx_program_laws.proofs.ValidBooks as books
 
@@ -54,13 +55,14 @@ pub record MayBeAsked (p : Problem) : Type 0 where
 abbrev pub IsFinished : ℕ → Problem → Type 0
 IsFinished budget p = MayBeAsked p × (length (nodes p) ≤ budget)
 
--- the verdict on a text that is a book without a flaw
-is_accepted : (text : List ℕ) (book : Book) → book_of text ≡ Ok book → flaw_of (claim_of book.head) book.marks ≡ None
-    → output_of (codes "check" ∷ []) text ≡ message (verdict_lines book.head Accepted) 0
+-- the verdict on the text of a book without a flaw
+is_accepted : (book : Book) → book_of (book_text book) ≡ Ok book → flaw_of (claim_of book.head) book.marks ≡ None
+    → AreGiven (codes "check" ∷ []) (book_text book) (message (verdict_lines book.head Accepted) 0)
 unfolding settings_of
-is_accepted text book read none =
-    ap verdict_output read
-    ∙ ap (λ flaw. message (verdict_lines book.head (verdict_of flaw)) (verdict_status (verdict_of flaw))) none
+is_accepted book read none =
+    sym (checked_marks book
+    ∙ ap verdict_output read
+    ∙ ap (λ flaw. message (verdict_lines book.head (verdict_of flaw)) (verdict_status (verdict_of flaw))) none)
 
 pub accepted_book : (p : Problem) → IsFinished 5000000 p → (number : ℕ) → has_book p ≡ true
     → IsAcceptedBook (record { question = number; book = book_for p })
@@ -75,7 +77,7 @@ accepted_book p finished number has =
     let none =
     in_turn_none (claim_of book.head) (children (claim_of book.head).problem []) 0 book.marks
     (books.good_book p may.shaped may.asked has) in
-    record { read = read; accepted = is_accepted (book_text book) book read none }
+    record { read = read; accepted = is_accepted book read none }
 
 each_book : (number : ℕ) (ps : List Problem) → AllByRecursion (IsFinished 5000000) ps
     → AllByRecursion IsAcceptedBook (books_from number ps)

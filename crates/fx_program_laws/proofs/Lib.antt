@@ -19,3 +19,5 @@ mod PrintedRules
 mod GivenDesigns
 mod ReadBack
 mod ReadBackExamples
+mod Past
+mod BookKinds

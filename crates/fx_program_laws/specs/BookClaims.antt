@@ -25,7 +25,7 @@ use Rattle.fx_book.specs.QuestionBooks.{book_for, has_book}
 use Rattle.fx_answer.specs.Books.{books_of, finished}
 use Rattle.fx_answer.specs.StepClaims.{Allows, required}
 use Rattle.fx_program.specs.Files.{book_name}
-use Rattle.fx_program.specs.Commands.{output_of}
+use Rattle.fx_program.specs.Commands.{AreGiven}
 use Rattle.fx_program.specs.Output.{message, step_output}
 use Rattle.fx_program.specs.Plans.{AskedView}
 use Rattle.fx_program.specs.Verdicts.{verdict_lines}
@@ -33,8 +33,8 @@ use Rattle.fx_program.specs.Verdicts.{verdict_lines}
 -- a book that is read from its text as it is, and that the command `check` accepts, with status 0
 pub record IsAcceptedBook (named : NamedBook) : Type 0 where
   pub read : book_of (book_text named.book) ≡ Ok named.book
-  pub accepted : output_of (codes "check" ∷ []) (book_text named.book)
-      ≡ message (verdict_lines named.book.head Accepted) 0
+  pub accepted : AreGiven (codes "check" ∷ []) (book_text named.book)
+      (message (verdict_lines named.book.head Accepted) 0)
 
 -- the book of a line of a catalogue, for so many factors, is one, where the line has a book
 abbrev pub HasAcceptedBook : ℕ → Line → Type 0
@@ -52,13 +52,15 @@ abbrev pub HasABookForEach : ℕ → ℕ → List AskedView → Meaning → Type
 HasABookForEach seed number earlier step = (k : ℕ) (p : Problem)
     → slice_get (finished (questions_of step) step.settings.budget) k ≡ Some p
     → has_book p ≡ true
-    → Contains (step_output seed number earlier step).events (WholeFile (book_name number (k + 1)) (book_text (book_for p)))
+    → Contains (step_output seed number earlier step).events
+    (WholeFile (book_name number (k + 1)) (book_text (book_for p)))
 
 -- and of each question that is asked
 abbrev pub HasABookForEachAsked : ℕ → ℕ → List AskedView → Meaning → Type 0
 HasABookForEachAsked seed number earlier step = (k : ℕ) (p : Problem)
     → slice_get (asked (questions_of step)) k ≡ Some p
-    → Contains (step_output seed number earlier step).events (WholeFile (book_name number (k + 1)) (book_text (book_for p)))
+    → Contains (step_output seed number earlier step).events
+    (WholeFile (book_name number (k + 1)) (book_text (book_for p)))
 
 -- The files of a step have a book that claims that the runs of no rule matrix of these dimensions meet what is wanted,
 -- or, with a pattern, that none of those that do has a less one.

@@ -1,5 +1,10 @@
-ghost use Rattle.std.specs.Prelude.{◌≡◌, ◌↔◌, ◌<◌, ◌≤◌, [], ◌∷◌, List, ℕ, Ok, IfErr, true, false, codes, length, All};
-ghost use Rattle.std.specs.List.{IsDistinct};
+ghost use Rattle.std.specs.Prelude.{◌≡◌, ◌↔◌, ◌<◌, ◌≤◌, ◌+◌, [], ◌∷◌, List, ℕ, Ok, IfErr, IsTrue, true, false, codes, length, All};
+ghost use Rattle.std.specs.List.{IsDistinct, list_any};
+ghost use Rattle.fx_designs.specs.Galois.{is_order};
+ghost use Rattle.fx_table_lines.specs.declared.line.TableLine.{TableLine};
+ghost use Rattle.fx_program.specs.declared.table_words.AskedTable.{AskedTable};
+ghost use Rattle.fx_program.specs.TableWords.{first_line};
+ghost use Rattle.fx_program.specs.Tables.{HasNone, IsTable, is_nothing};
 ghost use Rattle.fx_program.specs.Messages.{HasItsMessage};
 ghost use Rattle.fx_designs.specs.Matrices.{NoneMeets};
 ghost use Rattle.fx_designs.specs.Problems.{Dimensions, Problem};
@@ -29,8 +34,8 @@ ghost use Rattle.fx_designs.specs.Outcomes.{Design, NoDesign};
 ghost use Rattle.fx_program.specs.declared.words.Settings.TheVariants.{Catalogue, Large, Run};
 ghost use Rattle.fx_program.specs.CommandLine.{IsCatalogue};
 ghost use Rattle.fx_catalogue.specs.Catalogues.{Entry, entries};
-ghost use Rattle.fx_program.specs.Commands.{output_for, output_of};
-ghost use Rattle.fx_program.specs.Output.{message, program_output, step_output, step_status};
+ghost use Rattle.fx_program.specs.Commands.{AreGiven, command_of};
+ghost use Rattle.fx_program.specs.Output.{Output, message, program_output, step_output, step_status};
 ghost use Rattle.fx_program.specs.Planning.{planned_in, planned_output};
 ghost use Rattle.fx_program.specs.Plans.{AskedView};
 ghost use Rattle.fx_program_laws.specs.Endings.{EndsWith};
@@ -54,7 +59,7 @@ ghost use Rattle.fx_answer.specs.StepClaims.{
   required,
 };
 ghost use Rattle.fx_answer.specs.ValidSteps.{IsValidStep};
-ghost use Rattle.fx_program.specs.Claims.{EachStep, HasMatrixAsAsked, IsGreatest, IsProvedBook};
+ghost use Rattle.fx_program.specs.Claims.{EachStep, HasMatrixAsAsked, IsGreatest, IsProved};
 
 /// The outcome of a step with some factors, where the nodes of the questions that are asked for it are
 /// within its budget, and what is given for it: status 0 with the files and the lines of the first design
@@ -235,9 +240,22 @@ pub fn catalogued_books_are_accepted()
 
 /// Whatever a text says: where `check` of it ends with status 0, it is a book, and its claim holds: the
 /// runs of no rule matrix at all, canonical or not, meet what its head asks, or, where the head has a
-/// pattern, none of those that do has a less one. It does not matter who wrote it.
+/// pattern, none of those that do has a less one; or, of a table, no design in blocks or split plots at all
+/// has a less key. It does not matter who wrote it.
 pub fn accepted_books_prove_their_claims()
-    ensures { (text : List ℕ) → (output_of (codes "check" ∷ []) text).status ≡ 0 → IsProvedBook text }
+    ensures { (text : List ℕ) (given : Output) → AreGiven (codes "check" ∷ []) text given
+        → given.status ≡ 0
+        → IsProved text }
+{}
+
+/// Where a table has a line without a design, which is its last, there is no design with as many
+/// factors outside the base, or more.
+pub fn none_past_the_last_line()
+    ensures { (asked : AskedTable) (lines : List TableLine) (n : ℕ) → IsTrue (is_order asked.q)
+        → IsTable asked lines
+        → list_any is_nothing lines ≡ true
+        → first_line asked + length lines ≤ n + 1
+        → HasNone asked n }
 {}
 
 /// Whatever a text says: where it is a book, `upgrade` gives the text of that book in version 2 (`rewritten`).
@@ -245,11 +263,12 @@ pub fn accepted_books_prove_their_claims()
 /// where it is within the limit of a book (`same`).
 pub fn upgraded_books_have_the_same_verdict()
     ensures rewritten { (text : List ℕ) (book : Book) → book_of text ≡ Ok book
-        → output_of (codes "upgrade" ∷ []) text ≡ message (book_text book) 0 }
-    ensures same { (text upgraded : List ℕ)
-        → output_of (codes "upgrade" ∷ []) text ≡ message upgraded 0
+        → AreGiven (codes "upgrade" ∷ []) text (message (book_text book) 0) }
+    ensures same { (text upgraded : List ℕ) (given : Output)
+        → AreGiven (codes "upgrade" ∷ []) text (message upgraded 0)
         → length upgraded ≤ 268435456
-        → output_of (codes "check" ∷ []) upgraded ≡ output_of (codes "check" ∷ []) text }
+        → AreGiven (codes "check" ∷ []) text given
+        → AreGiven (codes "check" ∷ []) upgraded given }
 {}
 
 /// Each fault of a text has a row in the table of messages, so that its line names a reason, and a place
@@ -275,11 +294,11 @@ pub fn file_names_differ()
 /// The number of threads changes nothing: whatever the text, the output of a command is that of the
 /// same command with another number.
 pub fn threads_change_nothing()
-    ensures run { (threads other seed : ℕ) (text : List ℕ)
-        → output_for (Ok (Run threads seed)) text ≡ output_for (Ok (Run other seed)) text }
-    ensures large { (n threads other : ℕ) (text : List ℕ)
-        → output_for (Ok (Large n threads)) text ≡ output_for (Ok (Large n other)) text }
-    ensures catalogue { (q m most threads other nodes : ℕ) (text : List ℕ)
-        → output_for (Ok (Catalogue q m most threads nodes)) text
-        ≡ output_for (Ok (Catalogue q m most other nodes)) text }
+    ensures run { (threads other seed : ℕ) (text : List ℕ) (given : Output)
+        → (command_of (Run threads seed)).gives text given → (command_of (Run other seed)).gives text given }
+    ensures large { (n threads other : ℕ) (text : List ℕ) (given : Output)
+        → (command_of (Large n threads)).gives text given → (command_of (Large n other)).gives text given }
+    ensures catalogue { (q m most threads other nodes : ℕ) (text : List ℕ) (given : Output)
+        → (command_of (Catalogue q m most threads nodes)).gives text given
+        → (command_of (Catalogue q m most other nodes)).gives text given }
 {}

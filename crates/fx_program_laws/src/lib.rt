@@ -11,6 +11,6 @@ pub use laws::{
     highest_resolution_in_any_text, highest_resolution_in_blocks_in_any_text,
     least_pattern_in_any_text, least_size_in_any_text, listed_rules_are_read_back,
     made_texts_are_programs, most_blocks_in_any_text, no_design_in_any_text,
-    no_design_means_none_at_all, rules_give_the_levels_in_any_text, threads_change_nothing,
-    upgraded_books_have_the_same_verdict, valid_steps_in_any_text,
+    no_design_means_none_at_all, none_past_the_last_line, rules_give_the_levels_in_any_text,
+    threads_change_nothing, upgraded_books_have_the_same_verdict, valid_steps_in_any_text,
 };

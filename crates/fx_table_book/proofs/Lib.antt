@@ -2,7 +2,7 @@ pub mod Bases
 mod Turns
 mod LineParts
 mod Lines
-mod Shapes
+pub mod Shapes
 mod Fronts
 mod Small
 mod Back

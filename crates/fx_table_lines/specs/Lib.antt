@@ -1,2 +1,4 @@
 pub mod Walks
 pub mod Lines
+pub mod Figures
+pub mod Listing

@@ -2,7 +2,8 @@ ghost use Rattle.std.specs.Prelude.{◌≢◌, ◌<◌, ◌≤◌, ◌+◌, leng
 ghost use Rattle.fx_base.specs.Acts.{files_of, pieces};
 ghost use Rattle.fx_base.specs.Memory.{room_of};
 ghost use Rattle.fx_program.specs.CommandLine.{bytes_of};
-ghost use Rattle.fx_program.specs.Commands.{output_of};
+ghost use Rattle.fx_program.specs.Commands.{AreGiven};
+ghost use Rattle.fx_program.specs.Output.{Output};
 
 use fx_base::{Bytes, NoMemory, SureShelf, SureSink, SureSource};
 use fx_program::factex;
@@ -26,8 +27,10 @@ fn status_with_room<R: Threads + Sync>(
     listing_room: usize,
     shelf_room: usize,
 ) -> Result<u8, NoMemory>
-    requires listing { length (pieces (output_of (bytes_of words.now) text).events) < listing_room }
-    requires shelf { room_of (files_of (output_of (bytes_of words.now) text).events) + 64 ≤ shelf_room }
+    requires listing { (output : Output) → AreGiven (bytes_of words.now) text output
+        → length (pieces output.events) < listing_room }
+    requires shelf { (output : Output) → AreGiven (bytes_of words.now) text output
+        → room_of (files_of output.events) + 64 ≤ shelf_room }
     ensures { IfOk result (λ status. (status ≤ 5) × (status ≢ 4)) }
 {
     let mut source = SureSource::new(text, STEP);

@@ -122,6 +122,12 @@ fn first_fault_is_named_at_its_record(rt: HostRuntime) -> Result<(), Fail> {
     assert!(rt; refuses(&rt, 2, b"BLOCK\n1\n", 3, 1));
     assert!(rt; refuses(&rt, 2, b"A,Block\n1\n", 4, 2));
     assert!(rt; refuses(&rt, 2, b"A,B\n\n1\n", 4, 2));
+    // Too few fields come before a wrong one.
+    assert!(rt; refuses(&rt, 2, b"A,B\nx\n", 4, 2));
+    // Names begin with a letter, and have at most 32 bytes.
+    assert!(rt; refuses(&rt, 2, b"1A\n1\n", 3, 1));
+    assert!(rt; fault_of(&rt, 2, b"A2345678901234567890123456789012\n1\n").is_none());
+    assert!(rt; refuses(&rt, 2, b"A23456789012345678901234567890123\n1\n", 3, 1));
     assert!(rt; refuses(&rt, 2, b"A,B\n1,1\n-1,2\n", 5, 3));
     assert!(rt; refuses(&rt, 4, b"A,B\n0,+1\n", 5, 2));
     assert!(rt; refuses(&rt, 2, b"A,B\n1,\"1\n", 5, 2));
@@ -133,13 +139,19 @@ fn add(rt: &impl Abort, out: &mut Bytes, bytes: &[u8]) {
     put(out, bytes).expect(rt, "memory");
 }
 
-/// Names F1 to Fn, and a row of low levels.
-fn wide(rt: &impl Abort, alloc: Global, n: usize) -> Bytes {
+/// Names F1 to Fn.
+fn names(rt: &impl Abort, alloc: Global, n: usize) -> Bytes {
     let mut out = Bytes::new(alloc);
     for i in 0..n {
         add(rt, &mut out, if i == 0 { b"F" } else { b",F" });
         put_number(&mut out, i as u128 + 1).expect(rt, "memory");
     }
+    out
+}
+
+/// Names F1 to Fn, and a row of low levels.
+fn wide(rt: &impl Abort, alloc: Global, n: usize) -> Bytes {
+    let mut out = names(rt, alloc, n);
     for i in 0..n {
         add(rt, &mut out, if i == 0 { b"\n-1" } else { b",-1" });
     }
@@ -154,6 +166,9 @@ fn limits_of_plans_are_kept(rt: HostRuntime) {
     assert!(rt; refuses(&rt, 2, wide(&rt, alloc, 25).as_slice(), 6, 1));
     assert!(rt; refuses(&rt, 2, wide(&rt, alloc, 40).as_slice(), 6, 1));
     assert!(rt; refuses(&rt, 2, wide(&rt, alloc, 41).as_slice(), 3, 1));
+    // Too many come before no run.
+    assert!(rt; refuses(&rt, 2, names(&rt, alloc, 24).as_slice(), 2, 2));
+    assert!(rt; refuses(&rt, 2, names(&rt, alloc, 25).as_slice(), 6, 1));
     // 4,096 runs, and one more.
     let mut text = Bytes::from_slice(alloc, b"A\n").expect(&rt, "memory");
     for _i in 0..4096 {

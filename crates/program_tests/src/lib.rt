@@ -22,8 +22,6 @@ mod rules;
 mod table_lines;
 #[cfg(test)]
 mod table_rules;
-#[cfg(test)]
-mod tables;
 
 // A helper ends the test where memory runs out, by `expect`, and hands on no error: each way out of a function is
 // proved, with all that is dropped on it.

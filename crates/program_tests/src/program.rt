@@ -5,6 +5,7 @@ mod forged;
 mod given;
 mod limits;
 mod outside;
+mod tables;
 
 use crate::rows_of;
 use fx_base::{Bytes, put};
@@ -29,7 +30,17 @@ const HALF_LISTING: &str =
     "step 1\nfactors 4 levels 2\ndesign 8 runs\nresolution 4\nnodes 4\nrules\n  D = A*B*C\n";
 
 /// Each text with its listing and status.
-const PROGRAMS: [(&str, &str, u8); 44] = [
+const PROGRAMS: [(&str, &str, u8); 46] = [
+    (
+        "proc factex; factors A B C D; output out=a [A B C D]=Q;",
+        "step 1\nfactors 4 levels 2\ndesign 16 runs\nno defining words\nnodes 12\nrules\n  none\noutput a.csv 16 rows\nderived Q 16 levels balanced\n",
+        0,
+    ),
+    (
+        "proc factex; factors A B C / nlev=4; output out=a [A B C]=Q;",
+        "step 1\nfactors 3 levels 4\ndesign 64 runs\nno defining words\nnodes 6\nrules\n  none\noutput a.csv 64 rows\nderived Q 64 levels balanced\n",
+        0,
+    ),
     (HALF, HALF_LISTING, 0),
     (
         "PROC Factex ;factors A B C D E;\tsize\ndesign = 8;model res=4;run;",
@@ -257,7 +268,7 @@ fn programs_have_their_listing(rt: HostRuntime) {
 }
 
 /// The examples of docs/LANGUAGE.md and further texts that are refused, each with its message.
-const REFUSED: [(&str, &str); 49] = [
+const REFUSED: [(&str, &str); 52] = [
     (
         "proc factex; factors A B C; /* run;",
         "L1 1:29 comment is not closed",
@@ -439,8 +450,21 @@ const REFUSED: [(&str, &str); 49] = [
         "E34 1:48 column is repeated",
     ),
     (
+        "proc factex; factors A B C D; output out=a [A B]=E [C D]=E;",
+        "E34 1:50 column is repeated",
+    ),
+    (
         "proc factex; factors A B C; output out=a [A]=D;",
         "E35 1:42 derived factor has too few or too many levels",
+    ),
+    // Four factors are the most, and 64 levels.
+    (
+        "proc factex; factors A B C D E; output out=a [A B C D E]=Q;",
+        "E35 1:46 derived factor has too few or too many levels",
+    ),
+    (
+        "proc factex; factors A B C / nlev=5; output out=a [A B C]=Q;",
+        "E35 1:51 derived factor has too few or too many levels",
     ),
 ];
 
@@ -560,6 +584,45 @@ fn words_are_refused<R: Threads + Sync + Abort>(rt: &R, alloc: Global, cases: &[
 #[test]
 fn refused_words_are_told(rt: HostRuntime) {
     words_are_refused(&rt, rt.alloc(), &REFUSED_WORDS);
+}
+
+/// A plan that is refused is named by its code and its record, and the status is that of a refusal.
+#[test]
+fn refused_plans_are_told(rt: HostRuntime) {
+    let alloc = rt.alloc();
+    let line = "factex: J4 record 2\n";
+    assert!(rt; lists(&rt, alloc, "judge 2", b"A,B\nx\n", SURE, 3, line));
+    let wide = Limits {
+        step: 65536,
+        ..SURE
+    };
+    let mut long = Bytes::from_slice(alloc, b"A\n1\n1\n1\n").expect(&rt, "memory");
+    for _i in 1..131072 {
+        put(&mut long, b"1\n1\n1\n1\n").expect(&rt, "memory");
+    }
+    assert!(rt;
+        lists(
+            &rt,
+            alloc,
+            "judge 2",
+            long.as_slice(),
+            wide,
+            3,
+            "factex: J7 record 4098\n"
+        )
+    );
+    put(&mut long, b"\n").expect(&rt, "memory");
+    assert!(rt;
+        lists(
+            &rt,
+            alloc,
+            "judge 2",
+            long.as_slice(),
+            wide,
+            3,
+            "factex: J1 record 1\n"
+        )
+    );
 }
 
 /// Whether the words of a line have these settings.
@@ -863,6 +926,33 @@ const PLANNED: &[(&str, &str, &[(&str, &str)], u8)] = &[
             ),
         ],
         0,
+    ),
+    // The columns of POINTREP's plan come before those of DESIGNREP's.
+    (
+        "proc factex;factors N;size design=2;model r=3;output out=n;proc factex;factors M;size design=2;model r=3;output out=m;proc factex;factors A;size design=2;model r=3;output out=c pointrep=n designrep=m;",
+        "step 1\nfactors 1 levels 2\ndesign 2 runs\nno defining words\nnodes 1\nrules\n  none\noutput n.csv 2 rows\nstep 2\nfactors 1 levels 2\ndesign 2 runs\nno defining words\nnodes 1\nrules\n  none\noutput m.csv 2 rows\nstep 3\nfactors 1 levels 2\ndesign 2 runs\nno defining words\nnodes 1\nrules\n  none\noutput c.csv 8 rows\n",
+        &[
+            ("n.csv", "N\n-1\n1\n"),
+            ("m.csv", "M\n-1\n1\n"),
+            (
+                "c.csv",
+                "A,N,M\n-1,-1,-1\n-1,1,-1\n1,-1,-1\n1,1,-1\n-1,-1,1\n-1,1,1\n1,-1,1\n1,1,1\n",
+            ),
+        ],
+        0,
+    ),
+    // A plan that is not written makes none.
+    (
+        "proc factex;factors A B C;size design=2;model r=3;output out=none;proc factex;factors N;model r=3;output out=p pointrep=none;output out=q;",
+        "step 1\nfactors 3 levels 2\nno design in 2 runs\nnodes 1\nbook step1-1.book\nstep 2\nfactors 1 levels 2\ndesign 2 runs\nno defining words\nnodes 1\nrules\n  none\noutput q.csv 2 rows\n",
+        &[
+            (
+                "step1-1.book",
+                "factex-book 2\nsize 2 1 3 0\nresolution 3\npattern none\nO 1\nEND\n",
+            ),
+            ("q.csv", "N\n-1\n1\n"),
+        ],
+        1,
     ),
     (
         "proc factex;factors A B C;size design=2;model r=3;output out=none;proc factex;factors N;model r=3;output out=p designrep=none;output out=q;",

@@ -12,12 +12,12 @@ too_long q text long = rw (lt-ltb 1048576 (length text) long) refl
 
 pub returns-in_err-text : goal.returns-in_err-text
 returns-in_err-text g c shelf closed =
-    read_failed _ c.in_err-text.ensures.unchanged c.in_err-text.field-0.0 _ _
+    read_failed _ (λ text. refl) c.in_err-text.ensures.unchanged c.in_err-text.field-0.0 _ _
     c.from_residual.result c.from_residual.ensures.1 c.in_err-text.ensures.cause
 
 pub returns-in-TooLong : goal.returns-in-TooLong
 returns-in-TooLong g c shelf closed =
-    part_read _ c.in_ok-text.ensures.unchanged c.in_ok-text.ensures.cause 1048576
+    part_read _ (λ text. refl) c.in_ok-text.ensures.unchanged c.in_ok-text.ensures.cause 1048576
     (rw c.in-TooLong.is at c.in_ok-text.ensures.answer)
     (λ text long. ends_by (ap judged_output (too_long c.args.q text long))
     (c.refuse_plan.ensures.output.whatever _ shelf closed))
@@ -26,7 +26,7 @@ returns-in-TooLong g c shelf closed =
 pub returns-in-Ok : goal.returns-in-Ok
 returns-in-Ok g c shelf closed =
     let same : c.unwrap-field.result ≡ c.args.q = search rules in
-    all_read _ c.in_ok-text.ensures.unchanged c.in_ok-text.ensures.cause 1048576 _
+    all_read _ (λ text. refl) c.in_ok-text.ensures.unchanged c.in_ok-text.ensures.cause 1048576 _
     (rw c.in-Whole.is at c.in_ok-text.ensures.answer)
     (ends_by (ap judged_output (ap (λ q. plan_of_text q c.in-Whole.text) (sym same) ∙ c.in-Ok.ensures.plan))
     (c.list_plan.ensures.whatever _ shelf closed))
@@ -35,7 +35,7 @@ pub returns-in-Err-Refused : goal.returns-in-Err-Refused
 returns-in-Err-Refused g c shelf closed =
     let same : c.unwrap-field.result ≡ c.args.q = search rules in
     let found = rw c.in-Err-Refused.field-0-is at c.in-Err-Refused.ensures.refused in
-    all_read _ c.in_ok-text.ensures.unchanged c.in_ok-text.ensures.cause 1048576 _
+    all_read _ (λ text. refl) c.in_ok-text.ensures.unchanged c.in_ok-text.ensures.cause 1048576 _
     (rw c.in-Whole.is at c.in_ok-text.ensures.answer)
     (ends_by (ap judged_output (ap (λ q. plan_of_text q c.in-Whole.text) (sym same) ∙ found))
     (c.refuse_plan-in-Err-Refused.ensures.output.whatever _ shelf closed))

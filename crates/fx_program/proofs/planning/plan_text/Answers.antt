@@ -18,19 +18,19 @@ too_long text long =
 
 pub returns-in_err-text : goal.returns-in_err-text
 returns-in_err-text g c =
-    read_failed _ c.in_err-text.ensures.unchanged c.in_err-text.field-0.0 _ _
+    read_failed _ (λ text. refl) c.in_err-text.ensures.unchanged c.in_err-text.field-0.0 _ _
     c.from_residual.result c.from_residual.ensures.1 c.in_err-text.ensures.cause
 
 pub returns-in-Whole : goal.returns-in-Whole
 returns-in-Whole g c =
-    all_read _ c.in_ok-text.ensures.unchanged c.in_ok-text.ensures.cause 1048576 _
+    all_read _ (λ text. refl) c.in_ok-text.ensures.unchanged c.in_ok-text.ensures.cause 1048576 _
     (rw c.in-Whole.is at c.in_ok-text.ensures.answer)
     (ends_by (ap (λ l. planned_output c.args.session.now.seed (planned_in l)) (sym c.as_slice.ensures))
     (c.plan_steps.ensures.whatever _))
 
 pub returns-in-TooLong : goal.returns-in-TooLong
 returns-in-TooLong g c =
-    part_read _ c.in_ok-text.ensures.unchanged c.in_ok-text.ensures.cause 1048576
+    part_read _ (λ text. refl) c.in_ok-text.ensures.unchanged c.in_ok-text.ensures.cause 1048576
     (rw c.in-TooLong.is at c.in_ok-text.ensures.answer)
     (λ text long. ends_by (ap (planned_output c.args.session.now.seed)
     (too_long text long ∙ ap (λ w. Err (fault.Program w)) (sym c.at_front.ensures)))

@@ -13,12 +13,12 @@ too_long text long = rw (lt-ltb 1048576 (length text) long) refl
 
 pub returns-in_err-text : goal.returns-in_err-text
 returns-in_err-text g c =
-    read_failed _ c.in_err-text.ensures.unchanged c.in_err-text.field-0.0 _ _
+    read_failed _ (λ text. refl) c.in_err-text.ensures.unchanged c.in_err-text.field-0.0 _ _
     c.from_residual.result c.from_residual.ensures.1 c.in_err-text.ensures.cause
 
 pub returns-in-TooLong : goal.returns-in-TooLong
 returns-in-TooLong g c =
-    part_read _ c.in_ok-text.ensures.unchanged c.in_ok-text.ensures.cause 1048576
+    part_read _ (λ text. refl) c.in_ok-text.ensures.unchanged c.in_ok-text.ensures.cause 1048576
     (rw c.in-TooLong.is at c.in_ok-text.ensures.answer)
     (λ text long. ends_by (ap (program_output c.args.session.now.seed)
     (too_long text long ∙ ap Err (sym c.at_front.ensures)))
@@ -27,7 +27,7 @@ returns-in-TooLong g c =
 
 pub returns-in-Ok : goal.returns-in-Ok
 returns-in-Ok g c =
-    all_read _ c.in_ok-text.ensures.unchanged c.in_ok-text.ensures.cause 1048576 _
+    all_read _ (λ text. refl) c.in_ok-text.ensures.unchanged c.in_ok-text.ensures.cause 1048576 _
     (rw c.in-Whole.is at c.in_ok-text.ensures.answer)
     (ends_by
     (ap (λ l. program_output c.args.session.now.seed (program_in l)) (sym c.as_slice.ensures) ∙ ap
@@ -38,7 +38,7 @@ returns-in-Ok g c =
 pub returns-in-Err-Fault : goal.returns-in-Err-Fault
 returns-in-Err-Fault g c =
     let found = rw c.in-Err-Fault.field-0-is at c.in-Err-Fault.ensures.fault in
-    all_read _ c.in_ok-text.ensures.unchanged c.in_ok-text.ensures.cause 1048576 _
+    all_read _ (λ text. refl) c.in_ok-text.ensures.unchanged c.in_ok-text.ensures.cause 1048576 _
     (rw c.in-Whole.is at c.in_ok-text.ensures.answer)
     (ends_by (ap (λ l. program_output c.args.session.now.seed (program_in l)) (sym c.as_slice.ensures) ∙ ap
     (program_output c.args.session.now.seed) found)
@@ -46,6 +46,6 @@ returns-in-Err-Fault g c =
 
 pub returns : goal.returns
 returns g c =
-    all_read _ c.in_ok-text.ensures.unchanged c.in_ok-text.ensures.cause 1048576 _
+    all_read _ (λ text. refl) c.in_ok-text.ensures.unchanged c.in_ok-text.ensures.cause 1048576 _
     (rw c.in-Whole.is at c.in_ok-text.ensures.answer)
     (ends_none _ _ refl _)

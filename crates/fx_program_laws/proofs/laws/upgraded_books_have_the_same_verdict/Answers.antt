@@ -8,6 +8,8 @@ use Rattle.fx_book.specs.Writing.{book_text}
 use Rattle.fx_book.proofs.Whole.{book_back}
 use Rattle.fx_book.proofs.ValidTexts.{read_is_valid}
 use Rattle.fx_program.specs.CommandLine.{settings_of}
+use Rattle.fx_program.specs.Commands.{checked_output}
+use Rattle.fx_program_laws.proofs.BookKinds.{checked_marks, checked_read}
 use Rattle.fx_program.specs.Output.{Output, message, upgraded_output, verdict_output}
 use Rattle.fx_program_laws.proofs.laws.upgraded_books_have_the_same_verdict.Goals as goal
 
@@ -18,20 +20,23 @@ same_piece a b e =
 
 by_read : (text upgraded : List ℕ) (read : Result Book BookFault) → book_of text ≡ read
     → upgraded_output read ≡ message upgraded 0 → length upgraded ≤ 268435456
-    → verdict_output (book_of upgraded) ≡ verdict_output (book_of text)
+    → checked_output text ≡ checked_output upgraded
 by_read text upgraded (Ok book) is e few =
     let same : book_text book ≡ upgraded = same_piece (book_text book) upgraded e in
-    ap verdict_output
-    (ap book_of (sym same)
-    ∙ book_back book (read_is_valid text book is) (subst (λ (l : List ℕ). length l ≤ 268435456) (sym same) few)
-    ∙ sym is)
+    checked_read text book is
+    ∙ ap verdict_output
+    (is
+    ∙ sym (book_back book (read_is_valid text book is) (subst (λ (l : List ℕ). length l ≤ 268435456) (sym same) few)))
+    ∙ sym (checked_marks book)
+    ∙ ap checked_output same
 by_read text upgraded (Err fault) is e few =
     let low : 1 ≡ 0 = ap (λ (o : Output). o.status) e in absurd (omega (arith, low))
 
 pub returns-clause-rewritten : goal.returns-clause-rewritten
 unfolding settings_of
-returns-clause-rewritten c = λ text book is. ap upgraded_output is
+returns-clause-rewritten c = λ text book is. sym (ap upgraded_output is)
 
 pub returns-clause-same : goal.returns-clause-same
 unfolding settings_of
-returns-clause-same c = λ text upgraded e few. by_read text upgraded (book_of text) refl e few
+returns-clause-same c = λ text upgraded given e few checked.
+    checked ∙ by_read text upgraded (book_of text) refl (sym e) few

@@ -32,8 +32,7 @@ returns g c =
       call.ensures.status_range,
       not-failed words c.args.text listing.written shelf.files call.result c.in_ok-listing.listing.faults listing.faults
           c.in_ok-shelf.shelf.faults shelf.faults c.args.listing_room c.args.shelf_room gives call.ensures.cause
-          c.requires.listing
+          (λ output given. (c.requires.listing output given, c.requires.shelf output given))
           (λ low. c.faults-listed.ensures.sure (subst (λ z. length listing.written < z) (sym room_is) low))
-          c.requires.shelf
           (λ low. c.faults-shelved.ensures.sure (subst (λ z. room_of shelf.files + 64 ≤ z) (sym shelf_room_is) low)),
     )

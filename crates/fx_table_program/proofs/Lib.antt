@@ -1,8 +1,0 @@
-mod Limits
-mod Wording
-mod Entries
-mod ShortNames
-mod Tabulated
-mod Checked
-mod Given
-mod Past

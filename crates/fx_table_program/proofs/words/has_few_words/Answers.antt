@@ -1,8 +1,0 @@
-use Rattle.std.proofs.Common.{arith}
-use Rattle.fx_table_program.proofs.Limits.{all_words_fit}
-use Rattle.fx_table_program.proofs.words.has_few_words.Goals as goal
-
-pub pow-requires : goal.pow-requires
-pow-requires c =
-    let fits = all_words_fit c.args.q c.requires.levels c.args.factors c.requires.factors in
-    rw (c.from.ensures, c.from-2.ensures) (omega (arith, fits))
