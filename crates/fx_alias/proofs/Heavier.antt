@@ -8,12 +8,9 @@ use Rattle.fx_designs.specs.Patterns.{pattern_of}
 use Rattle.fx_designs.specs.Problems.{Dimensions}
 use Rattle.fx_designs.specs.Vectors.{vectors_of}
 use Rattle.fx_points.proofs.Halves.{power-some}
-use Rattle.fx_vectors.specs.Shape.{IsShape}
-use Rattle.fx_vectors.specs.declared.shape.Shape.{Shape}
 use Rattle.fx_words.specs.Spreads.{spread, so_far}
 use Rattle.fx_words.proofs.Entries.{entry}
 use Rattle.fx_words.proofs.Levels.{so_far-all, so_far-zero}
-use Rattle.fx_alias.specs.BlockWords.{with_room}
 
 -- with x as one row more, each vector with the sum x makes a word that is heavier by one
 pub heavier : (d : Dimensions) → IsField d.q → (rows : List ℕ) (k x : ℕ) → length rows < d.s → k < d.s → x < d.q ^ d.m
@@ -36,16 +33,3 @@ heavier d f rows k x room low below =
     ∙ ap (λ n. n / (q - 1)) more
     ∙ add-mul-div_left own sums (omega (arith, one))
     ∙ ap (λ n. n + sums) (sym (entry d f rows k (omega (arith, room)) low))
-
--- in blocks there are few factors, and so there is room for one more
-pub room_shape : (shape : Shape) → IsShape shape → 0 < shape.t → IsShape (with_room shape)
-room_shape shape h blocks = record {
-  order = h.order;
-  some_indexes = h.some_indexes;
-  runs = h.runs;
-  some_factors = omega arith;
-  factors = omega (arith, h.factors_in_blocks blocks);
-  factors_of_many_levels = λ many. omega (arith, h.factors_in_blocks blocks);
-  block_factors = omega arith;
-  factors_in_blocks = λ some. absurd (omega (arith, some));
-}

@@ -119,12 +119,6 @@ few_in_blocks q (blocks.Factors t) s m n few some = few
 few_in_blocks q (blocks.PerBlock k) s m n few some = few
 few_in_blocks q blocks.Most s m n few some = few
 
-most_has : (given : Blocks) → has_most given ≡ true → has_blocks given ≡ true
-most_has blocks.Most h = refl
-most_has blocks.Without h = absurd (both_ways _ refl h)
-most_has (blocks.Factors t) h = absurd (both_ways _ refl h)
-most_has (blocks.PerBlock k) h = absurd (both_ways _ refl h)
-
 -- the numbers for which a step asks
 module _ (step : Meaning) (n : ℕ) where
   sizes : lowest step Minimum ≤ n → n ≤ highest step Minimum → (1 ≤ n) × (n ≤ greatest step.settings.q)

@@ -1,30 +1,19 @@
 -- What a plan of a design of a step is handed.
-use Rattle.std.proofs.Common.{◌≡◌, ◌^◌, ◌∙◌, ℕ, List, length, refl, sym, ap, Option, Some, None}
-use Rattle.std.specs.Prelude.{unwrap_or, Contains}
+use Rattle.std.proofs.Common.{◌≡◌, ◌^◌, ◌∙◌, ℕ, List, length, refl, sym, ap}
+use Rattle.std.specs.Prelude.{Contains}
 use Rattle.std.proofs.lemmas.List.Elements.{All-contains}
-use Rattle.fx_derived.specs.Tables.{TableView}
 use Rattle.fx_settings.specs.declared.settings.Blocks.{Blocks}
 use Rattle.fx_settings.specs.declared.settings.Blocks.TheVariants.{Without, Factors, PerBlock, Most}
 use Rattle.fx_outputs.specs.declared.context.BlockCount.TheVariants as count
 use Rattle.fx_outputs.specs.declared.output.OutputSpec.{OutputSpec}
-use Rattle.fx_outputs.specs.declared.replication.Rep.{Rep}
-use Rattle.fx_outputs.specs.declared.replication.Rep.TheVariants.{Times, Plan}
 use Rattle.fx_outputs.specs.Validity.{IsWithinLimits}
 use Rattle.fx_runs.specs.Runs.{design_of}
 use Rattle.fx_vectors.specs.Matrix.{MatrixView}
 use Rattle.fx_statements.specs.declared.step.Step.{Step}
 use Rattle.fx_statements.specs.Contexts.{block_count, context}
 use Rattle.fx_statements.specs.Valid.{settings_in}
-use Rattle.fx_plan.specs.Products.{CanBePlanned, IsHanded, rows_of_rep}
+use Rattle.fx_plan.specs.Products.{CanBePlanned}
 use Rattle.fx_plan.specs.Steps.{IsDesignOf}
-
--- the table that is used for a replication
-pub handed_is : (rep : Rep) (named : Option TableView) → IsHanded rep named
-    → unwrap_or named (rows_of_rep rep None) ≡ rows_of_rep rep named
-handed_is (Times n) None h = refl
-handed_is (Times n) (Some table) h = absurd h
-handed_is (Plan number) None h = absurd h
-handed_is (Plan number) (Some table) h = refl
 
 -- values of the block column are as many as there are blocks
 values_for_blocks : (q t : ℕ) (blocks : Blocks) (values : List (List ℕ)) → (blocks ≡ Without → t ≡ 0)

@@ -1,7 +1,6 @@
 -- Steps of loops that map a list.
 use Rattle.std.proofs.Common.{ℕ, ◌≡◌, ◌<◌, ◌≤◌, ◌+◌, ◌-◌, Bool, true, false, cond, List, [], ◌∷◌, ◌++◌, length, map, filter}
-use Rattle.std.proofs.Common.{take, drop, length-drop, get_or, refl, sym, ◌∙◌, ap, arith, append-nil, append_assoc, Result, Ok, Err}
-use Rattle.std.specs.Prelude.{OnOk}
+use Rattle.std.proofs.Common.{take, drop, length-drop, get_or, refl, sym, ◌∙◌, ap, arith, append-nil, append_assoc}
 use Rattle.std.specs.List.{range_with_len, slice_range}
 use Rattle.std.proofs.lemmas.List.{get_or-drop, map-append, take_more}
 use Rattle.std.proofs.lemmas.Grind.{flat_map-append}
@@ -61,8 +60,3 @@ range_more rows from i order low =
     ap (λ (l : List ℕ). text_of (slice_range rows from i) ++ l) (sym (append-nil (line (get_or rows i []))))
     ∙ sym (flat_map-append line (slice_range rows from i) (get_or rows i [] ∷ []))
     ∙ ap text_of (sym (range_snoc rows from i [] order low))
-
--- a fact that holds whatever a call returned
-pub on_ok : {E : Type 0} (r : Result (Unit {0}) E) (P : Type 0) → P → OnOk r P
-on_ok (Ok u) P p = p
-on_ok (Err e) P p = tt

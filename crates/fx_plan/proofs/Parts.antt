@@ -140,13 +140,6 @@ module _ (runs inner outer : TableView) (order : List ℕ)
   outside_low = All-map (λ i. i < length outer.rows) (λ r. r / each / n) order
       (λ k d low. rows.outside_low runs inner outer (get_or order k d) (there k d low))
 
-  -- a row of a product needs rows of the tables
-  pub some_each : 0 < length order → 0 < each
-  some_each some = (rows.some_of n each (length outer.rows) (get_or order 0 0) (there 0 0 some)).1
-
-  pub some_runs : 0 < length order → 0 < n
-  some_runs some = (rows.some_of n each (length outer.rows) (get_or order 0 0) (there 0 0 some)).0
-
   picked_by : (f : ℕ → ℕ) (t : TableView) (k : ℕ) → k < length order
       → get_or (picked (map f order) t).rows k [] ≡ get_or t.rows (f (get_or order k 0)) []
   picked_by f t k low =
