@@ -19,7 +19,7 @@ TOP = pathlib.Path(__file__).resolve().parent.parent
 TABLES = [TOP / "bench" / "catalogue.txt", *sorted((TOP / "tables").glob("*.txt"))]
 PAGES = [
     TOP / "README.md",
-    *(TOP / "docs" / f"{it}.md" for it in ("GUIDE", "LANGUAGE", "PLANS", "RULES", "JUDGE", "COMMANDS", "CATALOGUE", "TABLES")),
+    *(TOP / "docs" / f"{it}.md" for it in ("GUIDE", "LANGUAGE", "PLANS", "RULES", "JUDGE", "COMMANDS", "TABLES")),
     *TABLES,
     TOP / "tables" / "README.md",
 ]

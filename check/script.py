@@ -12,6 +12,9 @@ import sys
 import tempfile
 import time
 
+sys.dont_write_bytecode = True
+import claims
+
 TOP = pathlib.Path(__file__).resolve().parent.parent
 # The most seconds of the first command.
 MOST_SECONDS = 1.0
@@ -20,6 +23,20 @@ ONE_STEP = b"proc factex; factors A B C D; size design=8; model resolution=4; ou
 BOOK = ["factex-book 2", "size 2 3 5 0", "resolution 4", "pattern none", "O 1", "O 2", "O 4", "O 7", "W 6 1:1 4:1 5:1", "W 5 2:1 4:1 5:1"]
 BOOK += ["W 3 3:1 4:1 5:1", "W 6 2:1 3:1 4:1", "W 5 1:1 3:1 4:1", "W 3 1:1 2:1 4:1", "END", ""]
 TABLE = "factex-table 1\nsize 2 1 2 0\nresolution 3\npattern none\nR 1\nEND\n"
+MESSAGES = pathlib.Path(__file__).with_name("messages.txt")
+PROVED = "proved: no regular design with "
+# The first lines of books, and their claims.
+CLAIMS = {
+    "factex-book 2\nsize 2 3 5 0\nresolution 4\npattern none": "5 factors of 2 levels in 8 runs has resolution 4",
+    "factex-book 1\nsize 2 4 6 3\nresolution 5\npattern none": "6 factors of 2 levels in 16 runs in 8 blocks has resolution 5 and keeps each effect of at most 2 factors clear of blocks",
+    "factex-book 2\nsize 2 3 3 1\neffects 1 5 / 2 4\npattern none": "3 factors of 2 levels in 8 runs in 2 blocks estimates, clear of blocks, X1, X1*X3 in the presence of X2, X3",
+    "factex-book 2\nsize 3 2 4 0\nresolution 3\npattern 0 0 4 0": "4 factors of 3 levels in 9 runs that has resolution 3 or more has less aberration than A3 4",
+    "factex-table 1\nsize 2 4 6 0\nresolution 3\npattern 0 0 0 3 0 0": "6 factors of 2 levels in 16 runs that has resolution 3 or more has less aberration than A4 3",
+    "factex-table 1\nsize 2 3 8 0\nresolution 3\npattern none": "8 factors of 2 levels in 8 runs has resolution 3",
+    "factex-table 2\nbase 2 3 1 0 4\norder FF\nkey 0 1 2 0 0": "4 factors of 2 levels in 8 runs in 2 blocks, each main effect clear of blocks, has resolution 3 and, in the order FF, a lesser key than A4 1 B2 2",
+    "factex-table 2\nbase 2 4 2 2 4\norder W1\nkey 0 3 1 0 0 4 2 2 0": "6 factors of 2 levels in 16 runs in 4 whole plots, just 2 factors constant in each, has resolution 3 and, in the order W1, a lesser key than A4 3 B2 1 B3 4 B4 2 B5 2",
+    "factex-table 2\nbase 2 5 0 0 9\norder CLEAR\nkey 0 21 7 7 0 0 0 1": "9 factors of 2 levels in 32 runs has resolution 3 and, in the order CLEAR, a lesser key than not clear 21 A4 7 A5 7 A9 1",
+}
 wrong = []
 
 
@@ -43,6 +60,14 @@ class Clone:
         for name in ran.files:
             (self.here / name).unlink()
         return ran
+
+    def said(self, words, text=b""):
+        """What the script says on standard error, where its output and status are those of the program alone."""
+        ran = self.run(words, text)
+        alone = self.run(words, text, script=self.top / "bin" / "factex")
+        same = (ran.returncode, ran.stdout, ran.files) == (alone.returncode, alone.stdout, alone.files)
+        expect(f"output and status of {words} on {text[-60:]} as of the program alone", same)
+        return ran.stderr.decode()
 
 
 def expect(what, holds):
@@ -94,7 +119,7 @@ def try_texts(clone):
     whole = clone.run(["run"], ONE_STEP)
     expect("a text from a pipe", whole.returncode == 0 and list(whole.files) == ["plan.csv"])
     refused = clone.run(["run"], REFUSED)
-    shown = b"    modle resolution=4;\n    ^\n"
+    shown = b'<stdin>:4:1: error: statement is not known: "modle"; did you mean MODEL? [E1]\n    modle resolution=4;\n    ^\nexpected: '
     expect("a refusal", refused.returncode == 3 and refused.stdout.startswith(b"factex: E1 4:1 ") and shown in refused.stderr)
     file = clone.here / "a text.sas"
     for text, same in ((ONE_STEP, whole), (REFUSED, refused)):
@@ -102,7 +127,8 @@ def try_texts(clone):
         (clone.here / "link.sas").symlink_to(file)
         for words in (["run", "a text.sas"], ["run", "link.sas"], ["run", "/dev/stdin"], ["run", "-"]):
             ran = clone.run(words, text)
-            expect(" ".join(words), (ran.returncode, ran.stdout, ran.stderr, ran.files) == (same.returncode, same.stdout, same.stderr, same.files))
+            says = same.stderr.replace(b"<stdin>", words[1].replace("-", "<stdin>").encode())
+            expect(" ".join(words), (ran.returncode, ran.stdout, ran.stderr, ran.files) == (same.returncode, same.stdout, says, same.files))
         (clone.here / "link.sas").unlink()
         # What stands before the part that is read would write a plan if it were read again.
         file.write_bytes(ONE_STEP.replace(b"Plan", b"Other") + text)
@@ -127,8 +153,8 @@ def try_texts(clone):
         ran = clone.run(words, rules)
         expect(" ".join(words), ran.returncode == 0 and b"\ndesign 4 runs given\n" in ran.stdout and list(ran.files) == ["given.csv"])
     ran = clone.run(["plan"], rules.replace(b"A*B", b"A*A"))
-    expect("rules are explained", ran.returncode == 3 and ran.stderr.startswith(b"    rules C=A*A\n              ^\nP5: "))
-    expect("a plan to be judged", clone.run(["judge", "2", "-"], b"A,B\n1,2\n").stderr.startswith(b"    1,2\n"))
+    expect("rules are explained", ran.returncode == 3 and ran.stderr.endswith(b" [P5]\n    rules C=A*A\n              ^\n"))
+    expect("a plan to be judged", clone.run(["judge", "2", "-"], b"A,B\n1,2\n").stderr.endswith(b" [J5]\n    1,2\n"))
     file.unlink()
 
 
@@ -136,13 +162,16 @@ def try_checks(clone):
     """Books of both kinds by one command, and texts that are none."""
     texts = {"a book": "\n".join(BOOK), "a table": TABLE, "wrong": "\n".join(BOOK[:8] + ["W 6 4:1 5:1"] + BOOK[9:]), "no book": "A,B\n1,2\n"}
     ends = {"a book": (0, "accepted"), "a table": (0, "accepted"), "wrong": (1, "rejected line 9 K3"), "no book": (1, "rejected line 1 B2")}
-    said = {"wrong": b"    W 6 4:1 5:1\nK3: ", "no book": b"factex: this is not a book"}
+    nothing = "so it proves nothing, and its claim may be true or false"
+    said = {"wrong": f":9: rejected: the word is not a zero sum of the prefix, {nothing} [K3]\n    W 6 4:1 5:1\n"}
+    said["no book"] = ":1: not a book: the first line of a book is factex-book or factex-table, and 2 or 1 [B2]\n"
     for name, text in texts.items():
         (clone.here / name).write_text(text)
-        for words in (["check", name], ["check"], ["tables", "check", name]):
+        for words in (["check", name], ["check"]):
             ran = clone.run(words, text.encode())
             first = ran.stdout.decode().split("\n")[0]
-            expect(f"{words} of {name}", (ran.returncode, first) == ends[name] and ran.stderr.startswith(said.get(name, b"")))
+            says = name in said and (name if name in words else "<stdin>") + said[name]
+            expect(f"{words} of {name}", (ran.returncode, first) == ends[name] and (not says or ran.stderr.decode() == says))
     ran = clone.run(["check", *texts])
     lines = ran.stdout.decode().split("\n")
     expect("several books", ran.returncode == 1 and [it for it in lines if it in texts] == list(texts) and lines.count("accepted") == 2)
@@ -155,6 +184,100 @@ def try_checks(clone):
     expect("the checker in Python", ran.returncode == 1 and ran.stdout.decode().split("\n") == lines)
     for name in texts:
         (clone.here / name).unlink()
+
+
+def rows_of_messages():
+    """The words, the text and the messages of each row of messages.txt; of the messages marked ? only the first counts."""
+    for row in re.split(r"^\$ ", MESSAGES.read_text(encoding="utf-8"), flags=re.M)[1:]:
+        head, *lines = row.rstrip("\n").split("\n")
+        text = [it for it in lines if it[:2] not in ("! ", "? ")]
+        yield head.split(), "".join(it + "\n" for it in text).encode(), [it for it in lines if it[:2] in ("! ", "? ")]
+
+
+def try_messages(clone):
+    """Each message of messages.txt; all 48 keywords misspelt; and each example of LANGUAGE's refusals."""
+    for words, text, messages in rows_of_messages():
+        into = any(it.startswith("--into") for it in words)
+        said = (clone.run(words, text).stderr.decode() if into else clone.said(words, text)).splitlines()
+        marks = messages[0][:2]
+        expect(f"the message of {words} on {text}: {said}", [marks + it for it in said][: 1 if marks == "? " else None] == messages)
+    language = (TOP / "docs/LANGUAGE.md").read_text(encoding="utf-8")
+    examples = re.findall(r"^\| (\w*) \|.*\| `(.*)` \|$", language[language.index("## Refusals") :], re.M)
+    for number, (code, example) in enumerate(examples):
+        code = code or next(it for it, _ in reversed(examples[:number]) if it)
+        text = example.replace("\\|", "|") if example.startswith("proc") else f"proc factex; factors A B C; {example}".replace("\\|", "|")
+        said = clone.said(["run"], text.encode()).splitlines()
+        expect(f"a message for {text}: {said}", re.fullmatch(rf"<stdin>:1:\d+: error: .*\w.*; .*\w.* \[{code}\]", said[0] if said else ""))
+    (clone.here / "a text.sas").write_bytes(REFUSED)
+    expect("the file's name in a message", clone.run(["run", "a text.sas"]).stderr.startswith(b"a text.sas:4:1: error: "))
+    (clone.here / "a text.sas").unlink()
+    expect("a text without steps", clone.said(["run"], b"* nothing;\n") == "factex: <stdin> has no step\n")
+    for number, code in enumerate(re.findall(r'^    \("([^"]*)"', (TOP / "check/causes.py").read_text(encoding="utf-8"), re.M)):
+        expect(f"the codes of cause {number}: {code}", re.fullmatch(r"([LECJ]\d+|[456])( [LECJ]\d+)*", code))
+
+
+def try_claims(clone):
+    """What books prove, in words, by their heads."""
+    for head, claim in CLAIMS.items():
+        said = claims.claim_of(head.split("\n"))[0]
+        expect(f"the claim of {head}: {said}", said == PROVED + claim)
+    for text, claim in (("\n".join(BOOK), "5 factors of 2 levels in 8 runs has resolution 4"), (TABLE, "2 factors of 2 levels in 2 runs has resolution 3")):
+        said = clone.run(["check"], text.encode()).stderr.decode()
+        expect("an accepted book", said == f"{PROVED}{claim}\nIt is the claim of your step only if these are its numbers: a book has no names.\n")
+    books = (TOP / "docs/BOOKS.md").read_text(encoding="utf-8")
+    step = b"proc factex; factors A B C D E F G H; size design=32; model resolution=5; run;"
+    book = clone.run(["run"], step).files["step1-1.book"]
+    said = clone.run(["check"], book).stderr.decode().splitlines()[0]
+    expect("the claim and the entry of BOOKS", f"    {said}\n" in books and b"\nW 30 1:1 6:1 7:1\n" in book and "`W 30 1:1 6:1 7:1`" in books)
+    for other in (b"size 2 5 9 0", b"size 2 5 7 0"):
+        expect(f"{other} is accepted", clone.run(["check"], book.replace(b"size 2 5 8 0", other)).returncode == 0)
+
+
+def try_into(clone):
+    """Plans and books in a folder of their own, and what is said of those that are replaced."""
+    text = clone.here / "text.sas"
+    text.write_bytes(ONE_STEP)
+    whole = clone.run(["run"], ONE_STEP)
+    for folder in ("new", "new/deep er", "-x", "new", str(clone.here / "whole")):
+        ran = clone.run(["run", f"--into={folder}", "text.sas"])
+        found = {it.name: it.read_bytes() for it in (clone.here / folder).iterdir() if it.is_file()}
+        expect(f"plans in {folder}", (ran.returncode, ran.stdout, ran.stderr, ran.files, found) == (0, whole.stdout, b"", {}, whole.files))
+    (clone.here / "plan.csv").write_text("mine\n")
+    ran = clone.run(["run"], ONE_STEP)
+    expect("a plan that is replaced in the current folder", (ran.returncode, ran.stderr, ran.files) == (0, b"factex: replaced plan.csv\n", whole.files))
+    ran = clone.run(["run", "--into=new"], ONE_STEP.replace(b"out=Plan", b"out =\n Plan /**/ randomize(1)"))
+    expect("a plan that is replaced", (ran.returncode, ran.stderr) == (0, b"factex: replaced plan.csv\n"))
+    tables = (["catalogue", "2", "3", "5"], b""), (["catalogue", "2", "3", "5"], b""), (["catalogue", "2", "4", "6"], b"factex: replaced catalogue-5.book\n")
+    tables += (["tables", "2", "3", "5"], b""), (["tables", "2", "3", "5"], b"")
+    for words, says in tables:
+        ran = clone.run([*words, "--into=new"])
+        expect(f"{words} --into: {ran.stderr}", (ran.returncode, ran.stderr, ran.files) == (0, says, {}))
+    expect("books in a folder", {"catalogue-4.book", "table-2-3-4.book"} < {it.name for it in (clone.here / "new").iterdir()})
+    ran = clone.run(["-c", f"'{clone.top / 'factex'}' run --into=new text.sas >&-"], script="/bin/bash", stdin=subprocess.DEVNULL)
+    expect("a folder, and standard output closed", ran.returncode == 4 and not ran.files)
+    for folder in ("text.sas", "text.sas/x"):
+        ran = clone.run(["run", f"--into={folder}", "text.sas"])
+        expect(f"no folder {folder}", ran.returncode == 4 and ran.stdout == b"" and b"text.sas" in ran.stderr and not ran.files)
+    ran = clone.run(["run", "--into=new", "missing.sas"])
+    expect("a missing text", ran.returncode == 3 and b"no file missing.sas can be read" in ran.stderr)
+    text.unlink()
+    subprocess.run(["rm", "-r", "--", "new", "-x", "whole"], cwd=clone.here, check=True)
+
+
+def try_make(clone):
+    """The Makefile of COMMANDS: a design, no design, and a text that is refused."""
+    commands = (TOP / "docs/COMMANDS.md").read_text(encoding="utf-8")
+    rule = re.search(r"^    \.DELETE_ON_ERROR:\n(?:    .*\n)+", commands, re.M)[0]
+    folder = clone.top / "studies"
+    folder.mkdir()
+    (folder / "Makefile").write_text("".join(it[4:] + "\n" for it in rule.splitlines()).replace("./factex", "../factex"))
+    texts = {"good": ONE_STEP, "none": ONE_STEP.replace(b"resolution=4", b"resolution=5"), "refused": REFUSED}
+    for name, text in texts.items():
+        (folder / f"{name}.sas").write_bytes(text)
+        ran = subprocess.run(["make", f"{name}.lst"], cwd=folder, env={"PATH": "/usr/bin:/bin"}, capture_output=True)
+        made = name != "refused"
+        expect(f"make {name}.lst", (ran.returncode == 0) == made and (folder / f"{name}.lst").exists() == made)
+    expect("the plan of make", (folder / "good" / "plan.csv").exists())
 
 
 def try_streams(clone):
@@ -226,7 +349,7 @@ def try_systems(clone):
 def main():
     with tempfile.TemporaryDirectory() as room:
         clone = Clone(pathlib.Path(room))
-        for attempt in (try_first_command, try_words, try_texts, try_checks, try_streams, try_signals, try_systems, try_folders):
+        for attempt in (try_first_command, try_words, try_texts, try_messages, try_checks, try_claims, try_into, try_make, try_streams, try_signals, try_systems, try_folders):
             attempt(clone)
     return 1 if wrong else 0
 
