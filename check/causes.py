@@ -2,7 +2,7 @@
 
 A row has codes, a pattern, and what to say. The pattern is looked for, without regard to case, in what surrounds the place,
 with `‸` before what was found: of a text its step, without comments and needless blanks; of the command line its words. Of a
-plan it is the record. In braces are groups of the pattern, or what explain.py finds out; a row whose braces have no value does not
+plan it is the record, of a book its kind and the line. In braces are groups of the pattern, or what explain.py finds out; a row whose braces have no value does not
 fit. `{SAS x}` is the last cell of the row of x in LANGUAGE.md, "Coming from SAS".
 """
 
@@ -13,22 +13,31 @@ CAUSES = [
     ("E1", r"‸(title\d*|footnote\d*|ods|options|goptions|libname|data|set|print|input|cards|datalines|var|by|label|format)\b", "{SAS TITLE}"),
     ("E1", r"proc ‸(?!f)\w+", "{SAS TITLE}"),
     ("E1 E24", r"‸uniteffects?\b", "{SAS UNITEFFECT}"),
-    ("E3", r"blocks ‸units?\b", "{SAS UNITEFFECT}"),
+    ("E3", r"blocks ‸units?\b", "for plain blocks write NBLOCKS=4; {SAS UNITEFFECT}"),
+    ("L3", r"out=(?P<stem>\w+)‸\.\s*csv\b", "write OUT={stem}; .csv is added"),
     ("L3", r"out=\w+‸\.\s*(?P<name>\w+)", "write OUT={name}: {SAS OUT=work.plan}"),
     ("E24", r"aliasing‸\((?P<n>\d*)", "remove ({n}): {SAS ALIASING(3)}"),
     ("E24", r"minabs‸\((?P<n>\d*)", "remove ({n}): {SAS MINABS(4)}"),
     ("E24", r"aberration‸\((?P<n>\d*)", "remove ({n}): ABERRATION counts words of every length"),
-    ("E24", r"‸(time|nocheck|namelen)\b", "{SAS TIME=}"),
+    ("E24", r"‸namelen\b", "{SAS NAMELEN=}"),
+    ("E24", r"‸(time|nocheck)\b", "{SAS TIME=}"),
     ("E2", r"‸'[^']*'n\b|‸\"[^\"]*\"n\b", "{SAS '01DEC2026'd}"),
     ("E2", r"cvals=\([^)]*‸d[t]?\b", "{SAS '01DEC2026'd}"),
-    ("E2", r"size‸=", "{SAS SIZE=MINIMUM}"),
+    ("E2", r"\bsize‸=\s*(?P<n>\d+)", "write SIZE DESIGN={n}"),
+    ("E2", r"\bsize‸=", "{SAS SIZE=MINIMUM}"),
     ("E2", r"cvals=\([^)]*‸[\w.-]", "{SAS values without quotes}"),
     ("L3", r"[(\w'\"]‸,", "{SAS commas}"),
     ("E26", r"‸factors\b", "{SAS a second FACTORS}"),
     ("E33", "", "{SAS POINTREP=}"),
     # Numbers, names and quotes.
     ("E2", r"[\d.] ‸e\d+\b", "{SAS 1e3}"),
+    ("E2", r"\b(?P<option>resolution|res|r)=‸[ivx]+\b", "write {option}={roman}"),
+    ("E2", r"\b(resolution|res|r)=‸i{1,2}\b", "a resolution is from 3 to 99"),
     ("E2", r"\b(resolution|res|r)=‸[ivx]+\b", "{SAS RES=IV}"),
+    ("E2", r"/minabs‸=\s*(?P<n>\d*)", "remove ={n}: {SAS MINABS(4)}"),
+    ("E2", r"\brandomize‸=\s*(?P<n>\d*)", "write RANDOMIZE({n})"),
+    ("E2 E3", r";model\b[^;]*‸(est|estimate|e|res|resolution|r)\s*=", "write one of RESOLUTION and ESTIMATE, not both"),
+    ("L3", r"(?P<a>\w+)‸:\s*(?P<b>[A-Za-z_]\w*)", "write {a}*{b}"),
     ("E2", r"(factors|model|foldover|out=|blockname=|\])[^;']*‸['\"]", "a name has no quotes: it has letters, digits and _, as in Mold_temp"),
     ("E2", r"nvals=\([^)]*‸['\"]", "write texts in CVALS, numbers in NVALS"),
     ("E2", r"nvals=\([^)]*‸(to|by)\b", "write each value"),
@@ -48,7 +57,8 @@ CAUSES = [
     ("E2 E3", "", "{misread} is read as a factor; did you mean {options}?"),
     ("E1 E2 E3 E4", "", "did you mean {near}?"),
     # The other refusals of a text.
-    ("L1", "", "close the comment with */"),
+    ("L1", r"‸/", "close the comment with */"),
+    ("L1", "", "end the comment with a semicolon"),
     ("L2", "", "close the text with the quote that opens it; a quote inside is written twice"),
     ("L4", "", "a number has at most 38 bytes"),
     ("L5", "", "a name has at most 32 bytes"),
@@ -97,6 +107,9 @@ CAUSES = [
     ("C2", "", "{found} is no command; did you mean {near}?"),
     ("C2", "", "the commands are run, plan, check, upgrade, judge, catalogue, tables, make and large"),
     ("C3", r"‸--(into|replace)\b", "--into=FOLDER is for run, plan, catalogue and tables, once; files there are replaced"),
+    ("C3", r"^factex (?!check|upgrade|judge|make)\w+ .*(?P<option>--(seed|threads|nodes|blocks|whole-plots|inside|order|into)) ‸(?!-)(?P<value>.+)", "write {option}={value}"),
+    ("C3", r"^factex (?!check|upgrade|judge|make)\w+ .*‸(?P<option>--(seed|threads|nodes|blocks|whole-plots|inside|order))$", "write {option}= and a value"),
+    ("C3", r"^factex (run|plan|check|upgrade|judge)\b.*‸(?!-)", "cannot read file {unread}"),
     ("C3", r"^factex (run|plan|check|upgrade|judge)\b.*‸(?!-)(?P<file>.+)", "no file {file} can be read, or it is one word too many"),
     ("C3", "", "{found} is no option; did you mean {near}?"),
     ("C3", "", "remove {found}: this command has no such option"),
@@ -119,6 +132,7 @@ CAUSES = [
     ("J1 J7", "", "the plan is too long: at most 1,048,576 bytes and 4,096 runs"),
     ("J2", "", "there are no runs: add a line for each"),
     ("J3", r"^[^,]*;", "separate the names by commas, not semicolons"),
+    ("J3", r"^,", "the first name is empty: write the plan without row names, by row.names = FALSE in R, index=False in pandas"),
     ("J3", "", "{odd} is no name: write letters, digits and _, at most 32"),
     ("J3", "", "{repeated} is twice among the names, which differ without regard to case"),
     ("J3", "", "name 1 to 40 factors"),
@@ -126,6 +140,10 @@ CAUSES = [
     ("J5", "", "{field} in the column {column} is no level: write {levels}, and remove columns that are no factors"),
     ("J5", "", "a field is no level: write {levels}"),
     ("J6", "", "leave out columns: 24 factors at two levels are the most"),
+    # Rules and books, where the tables of docs/ say less.
+    ("P1", r"(?P<name>\w+)\s*=[^=]*‸\+\s*(?P<n>\d+)", "leave out + {n}; it exchanges {name}'s levels"),
+    ("B2", r"\r", "lines end in CR LF: write line feeds only"),
+    ("B4", r"^factex-book ‸resolution \d+$", "a resolution is from 3 to 99"),
     # The statuses.
     ("4", "", "reading or writing failed: a full disk, a closed pipe, a folder without permission; what was written remains, the last file perhaps cut off"),
     ("5", "", "memory ran out; what was written remains, the last file perhaps cut off"),

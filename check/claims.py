@@ -30,7 +30,7 @@ def demand(requirement, blocks):
         clear = "each main effect" if most == 1 else f"each effect of at most {most} factors"
         return f"has resolution {requirement[1]}" + (f" and keeps {clear} clear of blocks" if blocks else "")
     slash = requirement.index("/")
-    clear = "estimates" + (", clear of blocks," if blocks else "") + f" {effects(requirement[1:slash])}"
+    clear = "estimates together" + (", clear of blocks," if blocks else "") + f" {effects(requirement[1:slash])}"
     others = requirement[slash + 1 :]
     return clear + (f" in the presence of {effects(others)}" if others else "")
 
@@ -86,7 +86,7 @@ def claim_of_table(head):
         return f"{subject} has resolution 3"
     counts = words_of(zip(names_of_key(order[0], dimension > 0, inside + outside), key))
     if order[0] == "CLEAR" or dimension:
-        return f"{subject} has resolution 3 and, in the order {order[0]}, a lesser key than {counts}"
+        return f"{subject} has resolution 3 or more and, in the order {order[0]}, a lesser key than {counts}"
     return f"{subject} that has resolution 3 or more has less aberration than {counts}"
 
 

@@ -1,11 +1,11 @@
 #!/usr/bin/env python3
-"""Explains why `factex` ended with a status from 3 to 6, or what its verdict on a book means.
+"""Explains why `factex` ended with a status from 3 to 6, or what its verdict on a book means; warns of a missing semicolon.
 
 Usage: explain.py STATUS MESSAGE FILE NAME WORD ..
 
 MESSAGE is the first line that the program printed, FILE what it read, NAME what the user calls that, and the WORDs are those of
 the command line. Why something is refused, and what to write, has one table, causes.py; what rejects a book, and what refuses
-rules, the tables of docs/.
+rules, mostly the tables of docs/.
 """
 import csv
 import io
@@ -25,6 +25,7 @@ WIDTH, LONGEST = 120, 40
 MOST_TOKENS = 500
 COMMANDS = ["run", "plan", "check", "upgrade", "judge", "catalogue", "tables", "make", "large", "prove", "sources", "help"]
 OPTIONS = ["--seed=", "--threads=", "--nodes=", "--blocks=", "--whole-plots=", "--inside=", "--order=", "--into="]
+ROMAN = {"III": "3", "IV": "4", "V": "5", "VI": "6", "VII": "7", "VIII": "8", "IX": "9", "X": "10"}
 LEVELS = {"2": ["-1", "1"], "3": ["-1", "0", "1"]}
 
 
@@ -33,9 +34,10 @@ def plain(cell):
     return re.sub(r"\[([^]]*)\]\([^)]*\)|`", r"\1", cell.replace("\\|", "|")).strip()
 
 
-def tables_of(page):
-    """The rows of the tables of a page."""
-    for line in open(f"{DOCS}/{page}", encoding="utf-8"):
+def tables_of(page, heading=""):
+    """The rows of the tables of a page, from a heading on."""
+    text = open(f"{DOCS}/{page}", encoding="utf-8").read()
+    for line in text[text.index(heading) :].splitlines():
         if line.startswith("|"):
             yield [plain(cell) for cell in re.split(r"(?<!\\)\|", line.strip())[1:-1]]
 
@@ -46,9 +48,10 @@ def names(cell, code):
     return code in (f"{ends[1]}{n}" for n in range(int(ends[2]), int(ends[3]) + 1)) if ends else code in cell.split(", ")
 
 
-def row_of(page, code):
-    """The row of a page that names a code in its first cell, or a row of empty cells."""
-    return next((row for row in tables_of(page) if names(row[0], code)), [""] * 4)
+def row_of(page, code, heading=""):
+    """The row of a page that names a code in its first cell, the first from a heading on if any is, or a row of empty cells."""
+    rows = itertools.chain(tables_of(page, heading), tables_of(page))
+    return next((row for row in rows if names(row[0], code)), [""] * 4)
 
 
 def coming_from_sas(habit):
@@ -96,6 +99,19 @@ def either(words):
     return " or ".join(filter(None, [", ".join(words[:-1]), words[-1]])) if words else None
 
 
+def plain_text(read, has_rules):
+    """A program text, its bytes as Latin-1, with blanks for its rules."""
+    text = read.decode("latin-1")
+    if has_rules:
+        text = re.sub(r"(?ims)^[ \t]*rules\b.*?(?=^[ \t]*proc\b(?!\s*=)|\Z)", lambda it: re.sub(r"[^\n]", " ", it[0]), text)
+    return text
+
+
+def begins_line(text, at):
+    """Whether nothing but blanks is before this place in its line."""
+    return not text[text.rfind("\n", 0, at) + 1 : at].strip()
+
+
 class Text:
     """A program text, and the place in it that is refused. Bytes are read as Latin-1, so that they are counted."""
 
@@ -107,17 +123,14 @@ class Text:
             line, column = line - 1, len(lines[line - 2]) + 1
         self.line, self.column = lines[line - 1] if line <= len(lines) else b"", column
         self.rest = read[self.at :].decode("utf-8", "replace")
-        text = read.decode("latin-1")
-        if has_rules:
-            text = re.sub(r"(?ims)^[ \t]*rules\b.*?(?=^[ \t]*proc\b(?!\s*=)|\Z)", lambda it: re.sub(r"[^\n]", " ", it[0]), text)
-        self.text = text
-        self.tokens = grammar.tokens_of(text[: self.at])
+        self.text = plain_text(read, has_rules)
+        self.tokens = grammar.tokens_of(self.text[: self.at])
         self.expected = grammar.expected_after(self.tokens)
 
     def found(self):
         """The word, number, text or sign at the place; nothing at the end."""
-        token = grammar.TOKEN.match(self.rest)
-        return token.group() if token else self.rest[:1]
+        token = None if self.rest.startswith("/*") else grammar.TOKEN.match(self.rest)
+        return token.group() if token else re.match(r"(/\*|.)?", self.rest, re.S)[0]
 
     def around(self):
         """The step around the place: the tokens before it without needless blanks, and what follows."""
@@ -138,8 +151,7 @@ class Text:
         if ";" in self.expected and self.found().upper() in grammar.STATEMENTS:
             return quoted(self.found())
         for token in self.statement()[1:][-MOST_TOKENS:]:
-            begins_line = not self.text[self.text.rfind("\n", 0, token.at) + 1 : token.at].strip()
-            if begins_line and len(token.text) > 2 and grammar.nearest(token.text, grammar.STATEMENTS):
+            if begins_line(self.text, token.at) and len(token.text) > 2 and grammar.nearest(token.text, grammar.STATEMENTS):
                 line = self.text.count("\n", 0, token.at) + 1
                 return f"{quoted(token.text)} in line {line}"
         return None
@@ -176,6 +188,7 @@ class Text:
         """Why it is refused, and what to write."""
         near, (misread, options) = self.near(code), self.misread()
         values = {"late": self.late(), "near": either(near), "misread": misread, "options": either(options)}
+        values["roman"] = ROMAN.get(self.found().upper())
         cause = cause_of(code, self.around(), values)
         if cause.startswith("did you mean") and near[0] in grammar.LEFT_OUT:
             before = self.around().partition("‸")[0]
@@ -190,12 +203,28 @@ def explain_text(code, message, read, name, words):
     found = text.found()
     says = says if code != "E2" else "unexpected"
     what = f"{says}{'' if code == 'E2' else ':'} {quoted(found)}" if found else f"{says}{' end' if code == 'E2' else ''}"
-    cause = row_of("RULES.md", code)[3] if code[0] == "P" else text.cause(code)
+    if code[0] == "P":
+        before = read[max(0, text.at - 4096) : text.at].decode("utf-8", "replace")
+        cause = cause_of(code, f"{before}‸{text.rest[:4096]}", {}) or row_of("RULES.md", code)[3]
+    else:
+        cause = text.cause(code)
     print(f"{name}:{line}:{column}: error: {'; '.join(filter(None, [what, cause]))} [{code}]")
     show(text.line, text.column)
     if code in ("E1", "E2", "E3") and text.expected:
         called = [grammar.CALLED.get(it, it) for it in text.expected]
         print(f"expected: {either([it for it in called if it])}")
+
+
+def warn(read, name, has_rules):
+    """Warns of a word that begins statements and is read as a factor, where it begins a line."""
+    text = plain_text(read, has_rules)
+    begun, count = None, 0
+    for token in grammar.tokens_of(text):
+        begun, count = (None, 0) if token.text == ";" else (begun or token.symbol, count + 1)
+        if begun == "FACTORS" and count > 2 and token.text.upper() in grammar.STATEMENTS and begins_line(text, token.at):
+            line, column = text.count("\n", 0, token.at) + 1, token.at - text.rfind("\n", 0, token.at)
+            print(f"{name}:{line}:{column}: warning: {token.text} is read as a factor; is a semicolon missing before it?")
+            begun = "warned"
 
 
 def is_allowed(word):
@@ -213,6 +242,8 @@ def explain_words(code, message, words):
     candidates = COMMANDS if code == "C2" else OPTIONS if code == "C3" and found.startswith("--") else []
     word = found.partition("=")[0] + "=" if code == "C3" else found
     values = {"found": quoted(found), "near": either(grammar.nearest(word, [it for it in candidates if it != word]))}
+    if re.search(r"[./]", found) and not os.access(found, os.R_OK):
+        values["unread"] = clear(found)
     before = " ".join(["factex", *words[:at], ""])
     print(f"factex: error: {cause_of(code, f'{before}‸{found}', values)} [{code}]")
     show((before + " ".join(words[at:])).encode("utf-8", "surrogateescape"), len(before.encode("utf-8", "surrogateescape")) + 1)
@@ -269,7 +300,9 @@ def explain_book(message, file, name):
             return
         book.seek(0)
         line = next(itertools.islice(book, int(number) - 1, None), b"")
-    reason = row_of("BOOKS.md", code)[1]
+    kind, shown = head[0].split()[0].decode(), line.rstrip(b"\n").decode("latin-1")
+    heading = "## Books of tables" if kind == "factex-table" else ""
+    reason = cause_of(code, f"{kind} ‸{shown}", {}) or row_of("BOOKS.md", code, heading)[1]
     proves = "so it proves nothing, and its claim may be true or false" if code[0] == "K" else "so this is no book"
     print(f"{name}:{number}: rejected: {reason}, {proves} [{code}]")
     if line.strip():
@@ -281,6 +314,9 @@ def main(status, message, file, name, *words):
     read = lambda: open(file, "rb").read()
     if message == "accepted" or message.startswith("rejected "):
         explain_book(message, file, name)
+        return
+    if status in ("0", "1", "2"):
+        warn(read(), name, words[0] == "plan")
         return
     code = (message.split() + ["", ""])[1] if status == "3" else status
     if re.match(r"factex: \w+ \d", message):

@@ -5,6 +5,7 @@ Usage: resolutions.py PROGRAM    as resolutions.py bin/factex
 
 Prints each entry that differs, and ends with status 1 if there is one.
 """
+import itertools
 import pathlib
 import re
 import subprocess
@@ -36,8 +37,9 @@ def main(program):
     with tempfile.TemporaryDirectory() as folder:
         for levels, least, table in zip((2, 3), (3, 2), tables, strict=True):
             for line in table.splitlines():
-                factors, *entries = cells(line)
-                for m, expected in enumerate(entries, least):
+                rows, *entries = cells(line)
+                numbers = [int(it) for it in rows.split(" to ")]
+                for factors, (m, expected) in itertools.product(range(numbers[0], numbers[-1] + 1), enumerate(entries, least)):
                     runs = levels**m
                     if expected != (made := entry(program, levels, factors, runs, folder)):
                         print(f"{factors} factors with {levels} levels in {runs} runs: {made}, not {expected}")

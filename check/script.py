@@ -29,13 +29,13 @@ PROVED = "proved: no regular design with "
 CLAIMS = {
     "factex-book 2\nsize 2 3 5 0\nresolution 4\npattern none": "5 factors of 2 levels in 8 runs has resolution 4",
     "factex-book 1\nsize 2 4 6 3\nresolution 5\npattern none": "6 factors of 2 levels in 16 runs in 8 blocks has resolution 5 and keeps each effect of at most 2 factors clear of blocks",
-    "factex-book 2\nsize 2 3 3 1\neffects 1 5 / 2 4\npattern none": "3 factors of 2 levels in 8 runs in 2 blocks estimates, clear of blocks, X1, X1*X3 in the presence of X2, X3",
+    "factex-book 2\nsize 2 3 3 1\neffects 1 5 / 2 4\npattern none": "3 factors of 2 levels in 8 runs in 2 blocks estimates together, clear of blocks, X1, X1*X3 in the presence of X2, X3",
     "factex-book 2\nsize 3 2 4 0\nresolution 3\npattern 0 0 4 0": "4 factors of 3 levels in 9 runs that has resolution 3 or more has less aberration than A3 4",
     "factex-table 1\nsize 2 4 6 0\nresolution 3\npattern 0 0 0 3 0 0": "6 factors of 2 levels in 16 runs that has resolution 3 or more has less aberration than A4 3",
     "factex-table 1\nsize 2 3 8 0\nresolution 3\npattern none": "8 factors of 2 levels in 8 runs has resolution 3",
-    "factex-table 2\nbase 2 3 1 0 4\norder FF\nkey 0 1 2 0 0": "4 factors of 2 levels in 8 runs in 2 blocks, each main effect clear of blocks, has resolution 3 and, in the order FF, a lesser key than A4 1 B2 2",
-    "factex-table 2\nbase 2 4 2 2 4\norder W1\nkey 0 3 1 0 0 4 2 2 0": "6 factors of 2 levels in 16 runs in 4 whole plots, just 2 factors constant in each, has resolution 3 and, in the order W1, a lesser key than A4 3 B2 1 B3 4 B4 2 B5 2",
-    "factex-table 2\nbase 2 5 0 0 9\norder CLEAR\nkey 0 21 7 7 0 0 0 1": "9 factors of 2 levels in 32 runs has resolution 3 and, in the order CLEAR, a lesser key than not clear 21 A4 7 A5 7 A9 1",
+    "factex-table 2\nbase 2 3 1 0 4\norder FF\nkey 0 1 2 0 0": "4 factors of 2 levels in 8 runs in 2 blocks, each main effect clear of blocks, has resolution 3 or more and, in the order FF, a lesser key than A4 1 B2 2",
+    "factex-table 2\nbase 2 4 2 2 4\norder W1\nkey 0 3 1 0 0 4 2 2 0": "6 factors of 2 levels in 16 runs in 4 whole plots, just 2 factors constant in each, has resolution 3 or more and, in the order W1, a lesser key than A4 3 B2 1 B3 4 B4 2 B5 2",
+    "factex-table 2\nbase 2 5 0 0 9\norder CLEAR\nkey 0 21 7 7 0 0 0 1": "9 factors of 2 levels in 32 runs has resolution 3 or more and, in the order CLEAR, a lesser key than not clear 21 A4 7 A5 7 A9 1",
 }
 wrong = []
 
@@ -161,10 +161,13 @@ def try_texts(clone):
 def try_checks(clone):
     """Books of both kinds by one command, and texts that are none."""
     texts = {"a book": "\n".join(BOOK), "a table": TABLE, "wrong": "\n".join(BOOK[:8] + ["W 6 4:1 5:1"] + BOOK[9:]), "no book": "A,B\n1,2\n"}
+    texts["returns"] = "\r\n".join(BOOK)
     ends = {"a book": (0, "accepted"), "a table": (0, "accepted"), "wrong": (1, "rejected line 9 K3"), "no book": (1, "rejected line 1 B2")}
+    ends["returns"] = ends["no book"]
     nothing = "so it proves nothing, and its claim may be true or false"
     said = {"wrong": f":9: rejected: the word is not a zero sum of the prefix, {nothing} [K3]\n    W 6 4:1 5:1\n"}
     said["no book"] = ":1: not a book: the first line of a book is factex-book or factex-table, and 2 or 1 [B2]\n"
+    said["returns"] = ":1: rejected: lines end in CR LF: write line feeds only, so this is no book [B2]\n    factex-book 2\n"
     for name, text in texts.items():
         (clone.here / name).write_text(text)
         for words in (["check", name], ["check"]):
@@ -187,7 +190,7 @@ def try_checks(clone):
 
 
 def rows_of_messages():
-    """The words, the text and the messages of each row of messages.txt; of the messages marked ? only the first counts."""
+    """The words, the text and the messages, if any, of each row of messages.txt; of those marked ? only the first counts."""
     for row in re.split(r"^\$ ", MESSAGES.read_text(encoding="utf-8"), flags=re.M)[1:]:
         head, *lines = row.rstrip("\n").split("\n")
         text = [it for it in lines if it[:2] not in ("! ", "? ")]
@@ -199,7 +202,7 @@ def try_messages(clone):
     for words, text, messages in rows_of_messages():
         into = any(it.startswith("--into") for it in words)
         said = (clone.run(words, text).stderr.decode() if into else clone.said(words, text)).splitlines()
-        marks = messages[0][:2]
+        marks = messages[0][:2] if messages else "! "
         expect(f"the message of {words} on {text}: {said}", [marks + it for it in said][: 1 if marks == "? " else None] == messages)
     language = (TOP / "docs/LANGUAGE.md").read_text(encoding="utf-8")
     examples = re.findall(r"^\| (\w*) \|.*\| `(.*)` \|$", language[language.index("## Refusals") :], re.M)
@@ -213,7 +216,7 @@ def try_messages(clone):
     (clone.here / "a text.sas").unlink()
     expect("a text without steps", clone.said(["run"], b"* nothing;\n") == "factex: <stdin> has no step\n")
     for number, code in enumerate(re.findall(r'^    \("([^"]*)"', (TOP / "check/causes.py").read_text(encoding="utf-8"), re.M)):
-        expect(f"the codes of cause {number}: {code}", re.fullmatch(r"([LECJ]\d+|[456])( [LECJ]\d+)*", code))
+        expect(f"the codes of cause {number}: {code}", re.fullmatch(r"([LECJPB]\d+|[456])( [LECJPB]\d+)*", code))
 
 
 def try_claims(clone):
@@ -259,7 +262,7 @@ def try_into(clone):
         ran = clone.run(["run", f"--into={folder}", "text.sas"])
         expect(f"no folder {folder}", ran.returncode == 4 and ran.stdout == b"" and b"text.sas" in ran.stderr and not ran.files)
     ran = clone.run(["run", "--into=new", "missing.sas"])
-    expect("a missing text", ran.returncode == 3 and b"no file missing.sas can be read" in ran.stderr)
+    expect("a missing text", ran.returncode == 3 and b"cannot read file missing.sas" in ran.stderr)
     text.unlink()
     subprocess.run(["rm", "-r", "--", "new", "-x", "whole"], cwd=clone.here, check=True)
 
