@@ -40,7 +40,7 @@ use Rattle.fx_outputs.specs.Earlier.{plan_names}
 use Rattle.fx_outputs.specs.declared.earlier.EarlierPlan.{EarlierPlan}
 use Rattle.fx_settings.specs.declared.settings.Size.{Size}
 use Rattle.fx_settings.specs.declared.settings.Size.TheVariants.{Runs, Minimum}
-use Rattle.fx_settings.specs.Said.{step_said, value_after_equals}
+use Rattle.fx_settings.specs.Said.{step_said, levels_said}
 use Rattle.fx_settings.specs.Valid.{is_size}
 use Rattle.fx_designs.specs.Problems.{Problem}
 use Rattle.fx_settings.proofs.Distinct.{factors_differ}
@@ -111,7 +111,7 @@ step_read earlier statements (Some given) step is here differ e =
     let few = all_within (factor_limit given statements) [] (items_of given) found.0 (omega arith) found.1 in
     let same = some_same proc found.0 factors.0 found.2 in
     let most : factor_limit given statements ≤ MOST_FACTORS =
-    most_of_all (number_or 2 (value_after_equals given)) (is_some (statement_of word.Blocks statements)) in
+    most_of_all (number_or 2 (levels_said given)) (is_some (statement_of word.Blocks statements)) in
     let accepted = parts.found IsAccepted word.Factors statements given is here in
     subst (IsReadBehind (plan_names earlier)) (same_ok whole step outputs.2)
     (record {

@@ -19,7 +19,7 @@ use Rattle.fx_settings.specs.declared.said.BlocksSaid.{BlocksSaid}
 use Rattle.fx_settings.specs.declared.said.StepSaid.{StepSaid}
 use Rattle.fx_settings.specs.declared.rule.Rule.{Rule}
 use Rattle.fx_settings.specs.declared.settings.StepSettings.{StepSettings}
-use Rattle.fx_settings.specs.Said.{value_at, value_after_equals, setting_of, size_said, model_said, blocks_said}
+use Rattle.fx_settings.specs.Said.{setting_of, size_said, model_said, blocks_said, levels_said}
 use Rattle.fx_settings.specs.Said.{nodes_said, step_said}
 use Rattle.fx_settings.specs.Rules.{first_refusal, unless_refused}
 use Rattle.fx_settings.specs.Settings.{value_place, size_place, resolution_place, minabs_place, blocks_place}
@@ -65,24 +65,21 @@ chained f Q None h each = tt
 chained f Q (Some x) h each = each x h
 
 module _ (P : ℕ → ℕ → Type 0) where
-  value : (s : List Written) → ArePlaced P s → IfSome (value_after_equals s) (IsValuePlaced P)
-  value s h =
-      mapped value_at (IsValuePlaced P) (slice_get (after symbol.Equals s) 0)
-      (placed.at P 0 _ (placed.after_it P symbol.Equals s h)) (λ w k. k)
-
   setting : (s : List Written) → ArePlaced P s → IfSome (setting_of s) (λ x. IsValuePlaced P x.value)
   setting [] h = tt
   setting (a ∷ []) h = tt
   setting (a ∷ b ∷ []) h = tt
-  setting (a ∷ b ∷ c ∷ []) h = tt
-  setting (a ∷ b ∷ c ∷ d ∷ s) h = h.1.1.1.0
+  setting (a ∷ b ∷ c ∷ s) h = h.1.1.0
+
+  second : (s : List Written) → ArePlaced P s → IfSome (setting_of (drop 1 s)) (λ x. IsValuePlaced P x.value)
+  second s h = setting (drop 1 s) (placed.dropped P 1 s h)
 
   sizes : (s : List Written) → ArePlaced P s → IfSome (size_said s) (IsSizePlaced P)
-  sizes s h = mapped _ (IsSizePlaced P) (setting_of s) (setting s h) (λ x k. k)
+  sizes s h = mapped _ (IsSizePlaced P) _ (second s h) (λ x k. k)
 
   models : (s : List Written) → ArePlaced P s → IfSome (model_said s) (IsModelPlaced P)
   models s h =
-      mapped _ (IsModelPlaced P) (setting_of s) (setting s h)
+      mapped _ (IsModelPlaced P) _ (second s h)
       (λ x k. (
         resolution (is symbol.Estimate x.word) x.value k,
         mapped place_at (IsPlace P) (slice_get (after symbol.Slash s) 0)
@@ -95,11 +92,14 @@ module _ (P : ℕ → ℕ → Type 0) where
 
   in_blocks : (s : List Written) → P 1 1 → ArePlaced P s → IfSome (blocks_said s) (AreBlocksPlaced P)
   in_blocks s front h =
-      mapped _ (AreBlocksPlaced P) (setting_of s) (setting s h) (λ x k. (placed.start P s front h, k))
+      mapped _ (AreBlocksPlaced P) _ (second s h) (λ x k. (placed.start P s front h, k))
 
   budget : (s : List Written) → ArePlaced P s → IfSome (nodes_said s) (IsValuePlaced P)
   budget s h =
-      mapped _ (IsValuePlaced P) (setting_of (drop 1 s)) (setting (drop 1 s) (placed.dropped P 1 s h)) (λ x k. k)
+      mapped _ (IsValuePlaced P) _ (setting (drop 2 s) (placed.dropped P 2 s h)) (λ x k. k)
+
+  levels : (s : List Written) → ArePlaced P s → IfSome (levels_said s) (IsValuePlaced P)
+  levels s h = mapped _ (IsValuePlaced P) _ (setting (after symbol.Slash s) (placed.after_it P symbol.Slash s h)) (λ x k. k)
 
   pub said : (proc factors : List Written) (statements : List (List Written)) → P 1 1 → ArePlaced P proc
       → ArePlaced P factors → AreAllPlaced P statements → IsSaidPlaced P (step_said proc factors statements)
@@ -107,7 +107,7 @@ module _ (P : ℕ → ℕ → Type 0) where
       let found = λ (word : Symbol). placed.statement P word statements each in
       record {
         factors = placed.start P factors front in_factors;
-        levels = value factors in_factors;
+        levels = levels factors in_factors;
         nodes = budget proc in_proc;
         size = chained size_said (IsSizePlaced P) _ (found symbol.Size) sizes;
         model = chained model_said (IsModelPlaced P) _ (found symbol.Model) models;

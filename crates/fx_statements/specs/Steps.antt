@@ -12,7 +12,7 @@ use Rattle.fx_text.specs.Refusals.{refused_at, ◌>>=◌}
 use Rattle.fx_settings.specs.Factors.{names_of_factors}
 use Rattle.fx_settings.specs.declared.settings.StepSettings.{StepSettings}
 use Rattle.fx_settings.specs.declared.said.StepSaid.{StepSaid}
-use Rattle.fx_settings.specs.Said.{step_said, value_after_equals}
+use Rattle.fx_settings.specs.Said.{step_said, levels_said}
 use Rattle.fx_text.specs.Phrases.{has_symbol, start_of}
 use Rattle.fx_settings.specs.Settings.{step_settings_of, unblocked_of, number_or}
 use Rattle.fx_outputs.specs.declared.earlier.EarlierPlan.{EarlierPlan}
@@ -40,7 +40,7 @@ pub record Meaning : Type 0 where
 -- how many factors a step may have, by its FACTORS statement, which says their levels, and whether there are blocks
 abbrev pub factor_limit : List Written → List (List Written) → ℕ
 factor_limit named statements =
-    most_factors_of (number_or 2 (value_after_equals named)) (is_some (statement_of word.Blocks statements))
+    most_factors_of (number_or 2 (levels_said named)) (is_some (statement_of word.Blocks statements))
 
 -- E7 where there are none: `proc` is the place of PROC
 abbrev pub some_factors : Place → List (List ℕ) → Result (List (List ℕ)) Refusal
