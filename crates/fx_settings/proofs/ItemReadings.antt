@@ -7,16 +7,16 @@ use Rattle.std.proofs.lemmas.List.{append-nil}
 use Rattle.fx_language.specs.declared.symbol.Symbol.{Symbol}
 use Rattle.fx_language.specs.declared.symbol.Symbol.TheVariants as symbol
 use Rattle.fx_language.specs.Symbols.{is, is_word}
-use Rattle.fx_language.specs.Shapes.{Empty, One, Before, Either}
+use Rattle.fx_language.specs.Shapes.{Empty, One, Before, Either, Matches}
 use Rattle.fx_language.specs.Grammar as grammar
 use Rattle.fx_language.proofs.SameSymbol.{symbol_is}
 use Rattle.fx_text.specs.Written.{Written, begins}
 use Rattle.fx_text.specs.Phrases.{preceding, has_symbol}
 use Rattle.fx_text.specs.Ranges.{range_end}
-use Rattle.fx_text.specs.Sentences.{IsStatement}
+use Rattle.fx_text.specs.Sentences.{IsStatement, symbols_in}
 use Rattle.fx_text.proofs.Lacking.{before_none, before_part}
-use Rattle.fx_text.proofs.ByLexemes.{Reads, by_lexemes, before_end, semicolon}
-use Rattle.fx_settings.specs.Items.{Item, item_of, items_from}
+use Rattle.fx_text.proofs.ByLexemes.{Reads, matches, by_lexemes, before_end, semicolon}
+use Rattle.fx_settings.specs.Items.{Item, item_of, items_behind}
 use Rattle.fx_settings.specs.ItemReadings.{IsItem, IsWrittenAs, AreItems, AreItemsRead, AreFoldedItemsRead}
 
 -- a word is no sign
@@ -32,10 +32,15 @@ record IsOne (part : List Written) : Type 0 where
   is_item : IsItem part read
 
 one_item : (part : List Written) → Reads grammar.item part → IsOne part
-one_item part (x, y, (a, ha, ea), inr ey, e) =
-    record { read = item_of a None; is_item = (ha, rw (ea, ey) at e) }
-one_item part (x, y, (a, ha, ea), inl (u, v, (b, hb, eb), (c, hc, ec), f), e) =
-    record { read = item_of a (Some c); is_item = (ha, (b, hb, hc, rw (ea, f, eb, ec) at e)) }
+one_item part h = read h
+  where
+    is : Matches grammar.item (symbols_in part)
+    is = matches grammar.item part h
+
+    read : Reads grammar.item part → IsOne part
+    read (x, y, (a, ha, ea), inr ey, e) = record { read = item_of a None; is_item = (is, ha, rw (ea, ey) at e) }
+    read (x, y, (a, ha, ea), inl (u, v, (b, hb, eb), (c, hc, ec), f), e) =
+        record { read = item_of a (Some c); is_item = (is, ha, (b, hb, hc, rw (ea, f, eb, ec) at e)) }
 
 record AreAll (parts : List (List Written)) : Type 0 where
   read : List Item
@@ -54,31 +59,38 @@ no_range : (written : List (List Written)) (read : List Item) → AreItems writt
 no_range [] [] h = refl
 no_range [] (i ∷ read) h = absurd h
 no_range (p ∷ written) [] h = absurd h
-no_range (p ∷ written) (i ∷ read) h = by_last i.last h.0.1
+no_range (p ∷ written) (i ∷ read) h = by_last i.last h.0.2
   where
     rest : List Written
     rest = flat_map (λ (part : List Written). part) written
 
     by_last : (last : Option Written) → IsWrittenAs p i.first last → range_end (p ++ rest) ≡ None
-    by_last None e = rw e (rw (no_sign symbol.Minus i.first.symbol refl h.0.0) refl)
-    by_last (Some last) (minus, hm, hl, e) = rw e (rw (no_sign symbol.Minus i.first.symbol refl h.0.0) refl)
+    by_last None e = rw e (rw (no_sign symbol.Minus i.first.symbol refl h.0.1) refl)
+    by_last (Some last) (minus, hm, hl, e) = rw e (rw (no_sign symbol.Minus i.first.symbol refl h.0.1) refl)
 
 -- the items of what is written so are these
-read_again : (written : List (List Written)) (read : List Item) → AreItems written read
-    → items_from false (flat_map (λ (part : List Written). part) written) ≡ read
-read_again [] [] h = refl
-read_again [] (i ∷ read) h = absurd h
-read_again (p ∷ written) [] h = absurd h
-read_again (p ∷ written) (i ∷ read) h = by_last i.last h.0.1 ∙ ap (λ l. i ∷ l) (read_again written read h.1)
+read_again : (written : List (List Written)) (read : List Item) → AreItems written read → (before : Written)
+    → is symbol.Minus before.symbol ≡ false
+    → items_behind (before ∷ flat_map (λ (part : List Written). part) written) ≡ read
+read_again [] [] h before plain = refl
+read_again [] (i ∷ read) h before plain = absurd h
+read_again (p ∷ written) [] h before plain = absurd h
+read_again (p ∷ written) (i ∷ read) h before plain = by_last i.last h.0.2 (read_again written read h.1)
   where
     rest : List Written
     rest = flat_map (λ (part : List Written). part) written
 
+    first : is symbol.Minus i.first.symbol ≡ false
+    first = no_sign symbol.Minus i.first.symbol refl h.0.1
+
     by_last : (last : Option Written) → IsWrittenAs p i.first last
-        → items_from false (p ++ rest) ≡ item_of i.first last ∷ items_from false rest
-    by_last None e = rw e (rw (no_sign symbol.Minus i.first.symbol refl h.0.0, no_range written read h.1) refl)
-    by_last (Some last) (minus, hm, hl, e) =
-        rw e (rw (no_sign symbol.Minus i.first.symbol refl h.0.0, hm, no_sign symbol.Minus last.symbol refl hl) refl)
+        → ((w : Written) → is symbol.Minus w.symbol ≡ false → items_behind (w ∷ rest) ≡ read)
+        → items_behind (before ∷ p ++ rest) ≡ item_of i.first last ∷ read
+    by_last None e later =
+        rw e (rw (plain, first, no_range written read h.1) (ap (λ l. item_of i.first None ∷ l) (later i.first first)))
+    by_last (Some last) (minus, hm, hl, e) later =
+        rw e (rw (plain, first, hm)
+        (ap (λ l. item_of i.first (Some last) ∷ l) (later last (no_sign symbol.Minus last.symbol refl hl))))
 
 -- items have no `/`
 no_slash : (written : List (List Written)) (read : List Item) → AreItems written read
@@ -86,7 +98,7 @@ no_slash : (written : List (List Written)) (read : List Item) → AreItems writt
 no_slash [] [] h = refl
 no_slash [] (i ∷ read) h = absurd h
 no_slash (p ∷ written) [] h = absurd h
-no_slash (p ∷ written) (i ∷ read) h = by_last i.last h.0.1 (no_slash written read h.1)
+no_slash (p ∷ written) (i ∷ read) h = by_last i.last h.0.2 (no_slash written read h.1)
   where
     rest : List Written
     rest = flat_map (λ (part : List Written). part) written
@@ -96,9 +108,9 @@ no_slash (p ∷ written) (i ∷ read) h = by_last i.last h.0.1 (no_slash written
 
     by_last : (last : Option Written) → IsWrittenAs p i.first last → has_symbol symbol.Slash rest ≡ false
         → has_symbol symbol.Slash (p ++ rest) ≡ false
-    by_last None e later = rw e (rw (no_sign symbol.Slash i.first.symbol refl h.0.0) later)
+    by_last None e later = rw e (rw (no_sign symbol.Slash i.first.symbol refl h.0.1) later)
     by_last (Some last) (minus, hm, hl, e) later =
-        let first = no_sign symbol.Slash i.first.symbol refl h.0.0 in
+        let first = no_sign symbol.Slash i.first.symbol refl h.0.1 in
         rw e (rw (first, other minus.symbol hm, no_sign symbol.Slash last.symbol refl hl) later)
 
 -- what is before the first `/`
@@ -132,6 +144,9 @@ items_law s by_grammar = read (by_lexemes grammar.factors s by_grammar)
     ) =
         let all = all_items ((x1 ++ x2) ∷ parts) ((x1, x2, n, g, refl), each) in
         let front : List Written = (x1 ++ x2) ++ flat_map (λ part. part) parts in
+        let same : f.symbol ≡ symbol.Factors = symbol_is symbol.Factors f.symbol hf in
+        let lack : has_symbol symbol.Slash (f ∷ front) ≡ false =
+        rw (ap (is symbol.Slash) same) (no_slash ((x1 ++ x2) ∷ parts) all.read all.are) in
         let inner : y0 ≡ (front ++ x4) ++ m ∷ [] =
         (rw (e2, e3, fl, e4, em) at e1) ∙ regrouped x1 x2 (flat_map (λ part. part) parts) x4 (m ∷ []) in
         let whole = before_end s (f ∷ front ++ x4) m (rw (ef, inner) at e0) in
@@ -142,9 +157,8 @@ items_law s by_grammar = read (by_lexemes grammar.factors s by_grammar)
           statement = whole;
           items = rw whole
               (subst (AreItems ((x1 ++ x2) ∷ parts))
-              (sym (ap (items_from false)
-              (before_all front x4 (no_slash ((x1 ++ x2) ∷ parts) all.read all.are) (begun x4 o))
-              ∙ read_again ((x1 ++ x2) ∷ parts) all.read all.are)) all.are);
+              (sym (ap items_behind (before_all (f ∷ front) x4 lack (begun x4 o))
+              ∙ read_again ((x1 ++ x2) ∷ parts) all.read all.are f (ap (is symbol.Minus) same))) all.are);
           behind = begun x4 o;
         }
 
@@ -159,5 +173,8 @@ folded_items_law s by_grammar = read (by_lexemes grammar.foldover s by_grammar)
           word = f;
           written = parts;
           statement = whole;
-          items = rw whole (subst (AreItems parts) (sym (read_again parts all.read all.are)) all.are);
+          items = rw whole
+              (subst (AreItems parts)
+              (sym (read_again parts all.read all.are f (ap (is symbol.Minus) (symbol_is symbol.Foldover f.symbol hf))))
+              all.are);
         }

@@ -1,28 +1,27 @@
 -- A FACTORS statement is refused by a rule, at the place of one of its words.
-use Rattle.std.proofs.Common.{ℕ, ◌+◌, Bool, true, false, ◌||◌, not, List, [], ◌∷◌, length, refl}
+use Rattle.std.proofs.Common.{ℕ, ◌+◌, Bool, true, false, ◌||◌, not, List, [], ◌∷◌, length, None, Some, refl}
 use Rattle.std.specs.Prelude.{nat_lt, if◌then◌else◌}
 use Rattle.std.specs.List.{AllByRecursion}
 use Rattle.fx_language.specs.declared.symbol.Symbol.TheVariants.{Minus, Slash}
 use Rattle.fx_language.specs.Symbols.{is}
 use Rattle.fx_text.specs.Written.{Written}
 use Rattle.fx_text.specs.Ranges.{range_end}
-use Rattle.fx_settings.specs.Items.{Item, item_of, items_from, items_of, is_regular, names_of}
+use Rattle.fx_settings.specs.Items.{Item, item_of, items_behind, items_of, with_item, is_regular, names_of}
 use Rattle.fx_settings.specs.Factors.{are_known, added, all_added, names_of_factors}
 use Rattle.fx_text.proofs.Placed as placed
 use Rattle.fx_text.proofs.Placed.{IsPlaced, ArePlaced, Placed}
 
 module _ (P : ℕ → ℕ → Type 0) where
-  pub items : (behind : Bool) (s : List Written) → ArePlaced P s
-      → AllByRecursion (λ (i : Item). IsPlaced P i.first) (items_from behind s)
-  items behind [] h = tt
-  items behind (w ∷ rest) h = by_test (behind || is Minus w.symbol) (items (is Minus w.symbol) rest h.1)
+  pub items : (s : List Written) → ArePlaced P s → AllByRecursion (λ (i : Item). IsPlaced P i.first) (items_behind s)
+  items [] h = tt
+  items (before ∷ []) h = tt
+  items (before ∷ w ∷ rest) h = by_test (is Minus before.symbol || is Minus w.symbol) (items (w ∷ rest) h.1)
     where
-      by_test : (b : Bool) → AllByRecursion (λ (i : Item). IsPlaced P i.first) (items_from (is Minus w.symbol) rest)
+      by_test : (b : Bool) → AllByRecursion (λ (i : Item). IsPlaced P i.first) (items_behind (w ∷ rest))
           → AllByRecursion (λ (i : Item). IsPlaced P i.first)
-          (if b then items_from (is Minus w.symbol) rest
-          else item_of w (range_end rest) ∷ items_from (is Minus w.symbol) rest)
+          (with_item (if b then None else Some (item_of w (range_end rest))) (items_behind (w ∷ rest)))
       by_test true later = later
-      by_test false later = (h.0, later)
+      by_test false later = (h.1.0, later)
 
   one : (limit : ℕ) (names : List (List ℕ)) (i : Item) → IsPlaced P i.first → Placed P (added limit names i)
   one limit names i h =
@@ -38,4 +37,4 @@ module _ (P : ℕ → ℕ → Type 0) where
       (λ more. all limit more s h.1)
 
   pub factors : (limit : ℕ) (s : List Written) → ArePlaced P s → Placed P (names_of_factors limit s)
-  factors limit s h = all limit [] (items_of s) (items false _ (placed.before_it P Slash _ (placed.dropped P 1 s h)))
+  factors limit s h = all limit [] (items_of s) (items _ (placed.before_it P Slash s h))

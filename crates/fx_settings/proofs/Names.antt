@@ -40,7 +40,7 @@ each_item : (written : List (List Written)) (items : List Item) → AreItems wri
 each_item [] [] h names = tt
 each_item [] (i ∷ items) h names = absurd h
 each_item (p ∷ written) [] h names = absurd h
-each_item (p ∷ written) (i ∷ items) h names = by_last i.last h.0.1 (each_item written items h.1)
+each_item (p ∷ written) (i ∷ items) h names = by_last i.last h.0.2 (each_item written items h.1)
   where
     rest : List Written
     rest = flat_map (λ (part : List Written). part) written
@@ -50,11 +50,11 @@ each_item (p ∷ written) (i ∷ items) h names = by_last i.last h.0.1 (each_ite
         → HasItemNames i.first last × AllByRecursion (λ (i : Item). HasItemNames i.first i.last) items
     by_last None e later =
         let here : HasNames (i.first ∷ rest) = subst (λ (l : List Written). HasNames (l ++ rest)) e names in
-        (here.0 h.0.0, later here.1)
+        (here.0 h.0.1, later here.1)
     by_last (Some last) (minus, hm, hl, e) later =
         let here : HasNames (i.first ∷ minus ∷ last ∷ rest) =
         subst (λ (l : List Written). HasNames (l ++ rest)) e names in
-        ((here.0 h.0.0, here.1.1.0 hl), later here.1.1.1)
+        ((here.0 h.0.1, here.1.1.0 hl), later here.1.1.1)
 
 -- a number up to that of the last name has no more digits than it
 no_longer : (first last : List ℕ) (n : ℕ) → is_range first last ≡ true → n ≤ number_at_end last

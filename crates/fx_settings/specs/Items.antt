@@ -1,5 +1,5 @@
--- The items of a FACTORS statement.
-use Rattle.std.specs.Prelude.{ℕ, Bool, true, false, ◌||◌, List, [], ◌∷◌, drop, Option, Some, None, if◌then◌else◌}
+-- The items of a FACTORS or a FOLDOVER statement.
+use Rattle.std.specs.Prelude.{ℕ, Bool, true, ◌||◌, List, [], ◌∷◌, Option, Some, None, if◌then◌else◌}
 use Rattle.fx_language.specs.declared.symbol.Symbol.TheVariants.{Slash, Minus}
 use Rattle.fx_language.specs.Symbols.{is}
 use Rattle.fx_text.specs.Written.{Written}
@@ -15,16 +15,25 @@ pub record Item : Type 0 where
 abbrev pub item_of : Written → Option Written → Item
 item_of first last = record { first = first; last = last }
 
--- the items, where `-` precedes the first lexeme or not: all that is neither `-` nor after one begins an item
-abbrev pub items_from : Bool → List Written → List Item
-items_from behind_minus [] = []
-items_from behind_minus (w ∷ rest) =
-    if behind_minus || is Minus w.symbol then items_from (is Minus w.symbol) rest
-    else item_of w (range_end rest) ∷ items_from (is Minus w.symbol) rest
+-- the item that begins behind `before`: none does with `-` or after it
+abbrev pub item_behind : Written → List Written → Option Item
+item_behind before [] = None
+item_behind before (w ∷ rest) =
+    if is Minus before.symbol || is Minus w.symbol then None else Some (item_of w (range_end rest))
+
+-- with one item more, where there is one
+abbrev pub with_item : Option Item → List Item → List Item
+with_item None items = items
+with_item (Some item) items = item ∷ items
+
+-- the items behind the first word, in order; each symbol has one in front of it
+abbrev pub items_behind : List Written → List Item
+items_behind [] = []
+items_behind (before ∷ rest) = with_item (item_behind before rest) (items_behind rest)
 
 -- the items of a FACTORS statement
 abbrev pub items_of : List Written → List Item
-items_of statement = items_from false (preceding Slash (drop 1 statement))
+items_of statement = items_behind (preceding Slash statement)
 
 -- one name is regular, and a range has to be one
 abbrev pub is_regular_from : Written → Option Written → Bool

@@ -1,19 +1,18 @@
 ghost use Rattle.std.specs.Prelude.{◌≡◌, ◌≤◌, ◌+◌, ◌^◌, ◌++◌, Ok, false, decimal, not, length, IfOk, IfErr, OnOk, MatchOption, None, Some};
 ghost use Rattle.std.specs.List.{IsDistinct, prefix_len};
-ghost use Rattle.std.specs.Option.{option_map};
 ghost use Rattle.fx_language.specs.declared.symbol.Symbol.TheVariants.{Slash};
 ghost use Rattle.fx_language.specs.Symbols.{is};
 ghost use Rattle.fx_text.specs.Names.{is_same_name};
 ghost use Rattle.fx_text.specs.Refusals.{IsRefused};
-ghost use Rattle.fx_text.specs.Ranges.{numbered, range_end, stem};
+ghost use Rattle.fx_text.specs.Ranges.{numbered, stem};
 ghost use Rattle.fx_settings.specs.Items.{item_of};
 ghost use Rattle.fx_settings.specs.Factors.{added, are_known, names_of_factors, known_at};
 
+use crate::item::{NameItem, item_behind};
 use fx_base::{Bytes, NoMemory};
 use fx_language::{Symbol, code};
 use fx_text::{
-    Lexeme, Names, ParseStop, Phrase, is_range, number_at_end, numbered_name, place_of, range_end,
-    stem,
+    Lexeme, Names, ParseStop, Phrase, is_range, number_at_end, numbered_name, place_of, stem,
 };
 use std::alloc::Global;
 
@@ -30,40 +29,25 @@ pub fn factors_of(alloc: Global, statement: &Phrase<'_>, limit: usize) -> Result
     ensures distinct { IfOk result (IsDistinct is_same_name) }
 {
     let mut names = Names::new(alloc);
-    let items = statement.from(1).before(Symbol::Slash).lexemes();
-    let mut behind_minus = false;
-    for (i, w) in items.iter().enumerate() {
-        let minus = w.is(Symbol::Minus);
-        if !(behind_minus || minus) {
-            add(alloc, &mut names, limit, w, range_end(&items[i + 1..]))?;
+    let lexemes = statement.before(Symbol::Slash).lexemes();
+    for (i, before) in lexemes.iter().enumerate() {
+        if let Some(item) = item_behind(before, &lexemes[i + 1..]) {
+            add(alloc, &mut names, limit, &item)?;
         }
-        behind_minus = minus;
     }
     Ok(names)
 }
 
 /// Adds the names of an item.
-fn add(
-    alloc: Global,
-    names: &mut Names,
-    limit: usize,
-    first: &Lexeme<'_>,
-    last: Option<&Lexeme<'_>>,
-) -> Result<(), ParseStop>
+fn add(alloc: Global, names: &mut Names, limit: usize, item: &NameItem<'_>) -> Result<(), ParseStop>
     requires { length names.old ≤ limit }
-    ensures added { OnOk result
-        (added limit names.old
-        (item_of first.now (option_map (λ w. w.now) last.entry))
-        ≡ Ok names.new) }
-    ensures refused { IfErr result
-        (IsRefused
-        (added limit names.old
-        (item_of first.now (option_map (λ w. w.now) last.entry)))) }
+    ensures added { OnOk result (added limit names.old item.now ≡ Ok names.new) }
+    ensures refused { IfErr result (IsRefused (added limit names.old item.now)) }
     ensures bound { OnOk result (length names.new ≤ limit) }
 {
-    match last {
-        None => add_name(alloc, names, limit, first),
-        Some(last) => add_range(alloc, names, limit, first, last),
+    match item.last {
+        None => add_name(alloc, names, limit, item.first),
+        Some(last) => add_range(alloc, names, limit, item.first, last),
     }
 }
 

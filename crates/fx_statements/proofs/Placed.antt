@@ -23,7 +23,7 @@ use Rattle.fx_settings.specs.Said.{step_said}
 use Rattle.fx_settings.specs.Settings.{unblocked_of, step_settings_of}
 use Rattle.fx_effects.specs.Models.{lists_of}
 use Rattle.fx_settings.specs.Factors.{names_of_factors}
-use Rattle.fx_settings.specs.Items.{Item, items_from, is_regular}
+use Rattle.fx_settings.specs.Items.{Item, items_behind, is_regular}
 use Rattle.fx_settings.specs.Items.{names_of as item_names}
 use Rattle.fx_settings.specs.Valid.{has_blocks}
 use Rattle.fx_settings.specs.declared.settings.StepSettings.{StepSettings}
@@ -131,8 +131,9 @@ module _ (P : ℕ → ℕ → Type 0) (front : P 1 1) where
 
   codes_placed : (names : List (List ℕ)) (s : List Written) → ArePlaced P s → Placed P (codes_by names s)
   codes_placed names [] h = tt
-  codes_placed names (w ∷ rest) h =
-      folded_items names (zeros (length names)) (items_from false (w ∷ rest)) (factors.items P false (w ∷ rest) h)
+  codes_placed names (word ∷ []) h = tt
+  codes_placed names (word ∷ w ∷ rest) h =
+      folded_items names (zeros (length names)) (items_behind (word ∷ w ∷ rest)) (factors.items P (word ∷ w ∷ rest) h)
 
   fold : (names : List (List ℕ)) (x : StepSettings) (statements : List (List Written)) → AreAllPlaced P statements
       → Placed P (fold_of names x statements)
@@ -143,8 +144,7 @@ module _ (P : ℕ → ℕ → Type 0) (front : P 1 1) where
       of_statement None h = tt
       of_statement (Some s) h =
           placed.both P ((x.q == 2) && not (has_blocks x.blocks)) _ _
-          (placed.chain P (codes_by names (drop 1 s)) _ (codes_placed names (drop 1 s) (placed.dropped P 1 s h))
-          (λ codes. tt))
+          (placed.chain P (codes_by names s) _ (codes_placed names s h) (λ codes. tt))
           (placed.here P 36 (start_of s) refl (placed.start P s front h))
 
   head : (statements : List (List Written)) → AreAllPlaced P statements → ArePlaced P (head_of statements)

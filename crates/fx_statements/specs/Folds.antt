@@ -1,5 +1,5 @@
 -- The factors that a step folds over.
-use Rattle.std.specs.Prelude.{ℕ, ◌≡◌, ◌<◌, ◌==◌, ◌&&◌, not, All, List, [], ◌∷◌, length, drop, replicate, slice_set, false, Option, Some}
+use Rattle.std.specs.Prelude.{ℕ, ◌≡◌, ◌<◌, ◌==◌, ◌&&◌, not, All, List, [], ◌∷◌, length, replicate, slice_set, false, Option, Some}
 use Rattle.std.specs.Prelude.{None, Result, Ok, Err, if◌then◌else◌}
 use Rattle.fx_designs.specs.Vectors.{zeros}
 use Rattle.fx_language.specs.declared.code.TheConstants.{FOLDOVER_NEEDS_TWO_LEVELS, IRREGULAR_RANGE, UNKNOWN_FACTOR}
@@ -10,7 +10,7 @@ use Rattle.fx_text.specs.Names.{place_of}
 use Rattle.fx_text.specs.Phrases.{start_of}
 use Rattle.fx_text.specs.Refusals.{refusal_at, refused_at, ◌>>=◌}
 use Rattle.fx_text.specs.Statements.{statement_of}
-use Rattle.fx_settings.specs.Items.{Item, items_from, is_regular, names_of}
+use Rattle.fx_settings.specs.Items.{Item, items_behind, is_regular, names_of}
 use Rattle.fx_settings.specs.Valid.{has_blocks}
 use Rattle.fx_settings.specs.declared.settings.Blocks.{Blocks}
 use Rattle.fx_settings.specs.declared.settings.StepSettings.{StepSettings}
@@ -42,16 +42,17 @@ items_folded factors codes [] = Ok codes
 items_folded factors codes (item ∷ items) =
     item_folded factors codes item >>= (λ more. items_folded factors more items)
 
--- the fold by what follows the word FOLDOVER: without an item all factors are folded
+-- the codes by a FOLDOVER statement: without an item all factors are folded
 abbrev pub codes_by : List (List ℕ) → List Written → Result (List ℕ) Refusal
-codes_by factors [] = Ok (replicate (length factors) 1)
-codes_by factors (w ∷ rest) = items_folded factors (zeros (length factors)) (items_from false (w ∷ rest))
+codes_by factors (word ∷ w ∷ rest) =
+    items_folded factors (zeros (length factors)) (items_behind (word ∷ w ∷ rest))
+codes_by factors s = Ok (replicate (length factors) 1)
 
 -- the fold by a FOLDOVER statement: E36 with other than two levels, or with blocks
 abbrev pub fold_by : List (List ℕ) → StepSettings → List Written → Result Fold Refusal
 fold_by factors settings statement =
     if (settings.q == 2) && not (has_blocks settings.blocks)
-    then codes_by factors (drop 1 statement) >>= (λ codes. Ok (fold.Factors codes))
+    then codes_by factors statement >>= (λ codes. Ok (fold.Factors codes))
     else Err (refused_at FOLDOVER_NEEDS_TWO_LEVELS (start_of statement))
 
 abbrev pub fold_in : List (List ℕ) → StepSettings → Option (List Written) → Result Fold Refusal

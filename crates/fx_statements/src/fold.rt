@@ -1,20 +1,19 @@
-ghost use Rattle.std.specs.Prelude.{◌≡◌, ◌≤◌, ◌+◌, ◌^◌, length, replicate, drop, Ok, Some, None, Err, IfOk, IfErr, OnOk};
-ghost use Rattle.std.specs.Option.{option_map};
-ghost use Rattle.fx_designs.specs.Vectors.{IsVector};
+ghost use Rattle.std.specs.Prelude.{◌≡◌, ◌≤◌, ◌+◌, ◌^◌, length, replicate, Ok, Some, None, Err, IfOk, IfErr, OnOk};
+ghost use Rattle.fx_designs.specs.Vectors.{IsVector, zeros};
 ghost use Rattle.fx_text.specs.Names.{place_of};
 ghost use Rattle.fx_text.specs.Ranges.{numbered, stem};
 ghost use Rattle.fx_text.specs.Refusals.{IsRefused};
-ghost use Rattle.fx_settings.specs.Items.{item_of};
+ghost use Rattle.fx_settings.specs.Items.{items_behind, item_of};
 ghost use Rattle.fx_settings.specs.Valid.{has_blocks};
 ghost use Rattle.fx_vectors.specs.declared.shape.TheConstants.{MOST_FACTORS};
-ghost use Rattle.fx_statements.specs.Folds.{IsFold, codes_by, fold_by, fold_of, folded_at, item_folded, names_folded};
+ghost use Rattle.fx_statements.specs.Folds.{IsFold, codes_by, fold_by, fold_of, folded_at, item_folded, items_folded, names_folded};
 
 use fx_base::Bytes;
 use fx_language::{Symbol, code};
-use fx_settings::{Blocks, StepSettings};
+use fx_settings::{Blocks, NameItem, StepSettings, item_behind};
 use fx_text::{
     Lexeme, ParseStop, Phrase, Refusal, Statement, find, is_range, number_at_end, numbered_name,
-    place_of, range_end, stem,
+    place_of, stem,
 };
 use fx_vectors::Vector;
 use std::alloc::Global;
@@ -66,7 +65,7 @@ fn fold_by(
         let place = statement.place();
         return Err(ParseStop::Refused(Refusal::at(place, code::FOLDOVER_NEEDS_TWO_LEVELS)));
     }
-    let codes = codes_by(alloc, factors, statement.from(1).lexemes())?;
+    let codes = codes_by(alloc, factors, statement)?;
     Ok(Fold::Factors(codes))
 }
 
@@ -80,24 +79,44 @@ fn are_blocked(blocks: Blocks) -> bool
     }
 }
 
-/// The fold by what follows the word FOLDOVER.
-fn codes_by(alloc: Global, factors: &[Bytes], items: &[Lexeme<'_>]) -> Result<Vector, ParseStop>
+/// The codes by a FOLDOVER statement: without an item all factors are folded.
+fn codes_by(
+    alloc: Global,
+    factors: &[Bytes],
+    statement: &Phrase<'_>,
+) -> Result<Vector, ParseStop>
     requires { length factors.now ≤ MOST_FACTORS }
-    ensures ok { IfOk result (λ codes. codes_by factors.now items.now ≡ Ok codes) }
+    ensures ok { IfOk result (λ codes. codes_by factors.now statement.now ≡ Ok codes) }
     ensures vector { IfOk result (IsVector 2 (length factors.now)) }
-    ensures refused { IfErr result (IsRefused (codes_by factors.now items.now)) }
+    ensures refused { IfErr result (IsRefused (codes_by factors.now statement.now)) }
 {
-    if items.is_empty() {
-        return Ok(all_folded(factors.len()));
+    match statement.lexemes() {
+        [_, _, ..] => items_folded(alloc, factors, statement),
+        _ => Ok(all_folded(factors.len())),
     }
+}
+
+/// The codes by the items of a FOLDOVER statement.
+fn items_folded(
+    alloc: Global,
+    factors: &[Bytes],
+    statement: &Phrase<'_>,
+) -> Result<Vector, ParseStop>
+    requires { length factors.now ≤ MOST_FACTORS }
+    ensures ok { IfOk result (λ codes.
+        items_folded factors.now (zeros (length factors.now)) (items_behind statement.now)
+        ≡ Ok codes) }
+    ensures vector { IfOk result (IsVector 2 (length factors.now)) }
+    ensures refused { IfErr result
+        (IsRefused
+        (items_folded factors.now (zeros (length factors.now)) (items_behind statement.now))) }
+{
+    let lexemes = statement.lexemes();
     let mut codes = Vector::zero(factors.len());
-    let mut behind_minus = false;
-    for (i, w) in items.iter().enumerate() {
-        let minus = w.is(Symbol::Minus);
-        if !(behind_minus || minus) {
-            fold_item(alloc, factors, &mut codes, w, range_end(&items[i + 1..]))?;
+    for (i, before) in lexemes.iter().enumerate() {
+        if let Some(item) = item_behind(before, &lexemes[i + 1..]) {
+            fold_item(alloc, factors, &mut codes, &item)?;
         }
-        behind_minus = minus;
     }
     Ok(codes)
 }
@@ -120,26 +139,19 @@ fn fold_item(
     alloc: Global,
     factors: &[Bytes],
     codes: &mut Vector,
-    first: &Lexeme<'_>,
-    last: Option<&Lexeme<'_>>,
+    item: &NameItem<'_>,
 ) -> Result<(), ParseStop>
     requires { IsVector 2 (length factors.now) codes.old }
-    ensures folded { OnOk result
-        (item_folded factors.now codes.old
-        (item_of first.now (option_map (λ w. w.now) last.entry))
-        ≡ Ok codes.new) }
+    ensures folded { OnOk result (item_folded factors.now codes.old item.now ≡ Ok codes.new) }
     ensures vector { OnOk result (IsVector 2 (length factors.now) codes.new) }
-    ensures refused { IfErr result
-        (IsRefused
-        (item_folded factors.now codes.old
-        (item_of first.now (option_map (λ w. w.now) last.entry)))) }
+    ensures refused { IfErr result (IsRefused (item_folded factors.now codes.old item.now)) }
 {
-    match last {
+    match item.last {
         None => {
-            fold_name(factors, codes, first, first.text())?;
+            fold_name(factors, codes, item.first, item.first.text())?;
             Ok(())
         }
-        Some(last) => fold_range(alloc, factors, codes, first, last),
+        Some(last) => fold_range(alloc, factors, codes, item.first, last),
     }
 }
 
