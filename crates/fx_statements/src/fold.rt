@@ -80,11 +80,7 @@ fn are_blocked(blocks: Blocks) -> bool
 }
 
 /// The codes by a FOLDOVER statement: without an item all factors are folded.
-fn codes_by(
-    alloc: Global,
-    factors: &[Bytes],
-    statement: &Phrase<'_>,
-) -> Result<Vector, ParseStop>
+fn codes_by(alloc: Global, factors: &[Bytes], statement: &Phrase<'_>) -> Result<Vector, ParseStop>
     requires { length factors.now ≤ MOST_FACTORS }
     ensures ok { IfOk result (λ codes. codes_by factors.now statement.now ≡ Ok codes) }
     ensures vector { IfOk result (IsVector 2 (length factors.now)) }
