@@ -1,7 +1,7 @@
 -- A text that is no program is refused by a rule, at a place of the text.
 use Rattle.std.proofs.Common.{◌≡◌, ℕ, zero, suc, Bool, true, false, List, [], ◌∷◌, ◌++◌, length, Option, Some, None}
 use Rattle.std.proofs.Common.{refl, sym, append-nil}
-use Rattle.std.specs.Prelude.{IfSome, ◌==◌, ◌&&◌, not, drop, nat_lt, min, slice_get, if◌then◌else◌}
+use Rattle.std.specs.Prelude.{IfSome, ◌==◌, ◌&&◌, not, nat_lt, min, slice_get, if◌then◌else◌}
 use Rattle.std.specs.List.{AllByRecursion}
 use Rattle.fx_designs.specs.Components.{listed_count}
 use Rattle.fx_lexer.specs.declared.place.Place.{Place}
