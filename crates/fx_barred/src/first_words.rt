@@ -12,10 +12,12 @@ ghost use Rattle.fx_points.specs.Points.{has};
 ghost use Rattle.fx_barred.specs.BestWords.{AreBest, AreWithin};
 ghost use Rattle.fx_points.specs.Sums.{sum_of};
 ghost use Rattle.fx_barred.specs.Places.{AreLists};
+ghost use Rattle.fx_barred.specs.Keeping.{AreKept};
 ghost use Rattle.fx_barred.specs.FirstWords.{FirstWordsView, AreFirstWords, AreWords, IsFirst, HasNone};
 ghost use Rattle.fx_vectors.specs.declared.shape.TheConstants.{MOST_FACTORS};
 
 use crate::best_words::{Best, fill_listed};
+use crate::kept::{Kept, none_kept};
 use crate::next_vectors::{LISTS, drop_lists, empty_lists, fill_with};
 use crate::reached::{Reached, filled};
 use fx_base::{NoMemory, Values};
@@ -39,6 +41,8 @@ pub struct FirstWords<'a> {
     /// For each number of rows lists of places that stand for all vectors with their last factor right after these
     /// rows.
     lists: Vec<Values<usize>>,
+    /// For each number of rows places that stand for all of these vectors, whatever the first rows are.
+    kept: Vec<Kept>,
 }
 
 // Not derived, so that a place that drops one is proved with one call.
@@ -50,6 +54,7 @@ impl Drop for FirstWords<'_> {
             words: _,
             tables: _,
             lists: _,
+            kept: _,
         } = self;
     }
 }
@@ -57,12 +62,13 @@ impl Drop for FirstWords<'_> {
 impl<'a> Model for FirstWords<'a> {
     ghost use Rattle.fx_barred.specs.FirstWords.{FirstWordsView, AreFirstWords};
     ghost use Rattle.fx_barred.specs.Places.{AreLists};
+    ghost use Rattle.fx_barred.specs.Keeping.{AreKept};
 
     ghost Value = { FirstWordsView };
 
     ghost view = { λ x. record { q = x.reached.q; m = x.reached.m; room = x.reached.room; words = x.words.now; rows = x.reached.rows } };
 
-    ghost invariant = { λ x. AreFirstWords x.reached x.words.now x.tables.items × AreLists x.reached x.words.now x.lists.items };
+    ghost invariant = { λ x. AreFirstWords x.reached x.words.now x.tables.items × AreLists x.reached x.words.now x.lists.items × AreKept x.reached.q x.reached.m x.reached.room x.words.now x.kept.items };
 }
 
 impl<'a> FirstWords<'a> {
@@ -88,6 +94,7 @@ impl<'a> FirstWords<'a> {
     {
         let reached = Reached::of(alloc, field, m, 0, s)?;
         let mut lists = empty_lists(alloc, LISTS * s)?;
+        let mut kept = none_kept(alloc, s)?;
         let mut tables = filled(alloc, 0usize, s * usize::from(reached.size()))?;
         fill_with(
             alloc,
@@ -95,6 +102,7 @@ impl<'a> FirstWords<'a> {
             words.as_slice(),
             tables.as_mut_slice(),
             lists.as_mut_slice(),
+            kept.as_mut_slice(),
         );
         Ok(FirstWords {
             alloc,
@@ -102,6 +110,7 @@ impl<'a> FirstWords<'a> {
             words,
             tables,
             lists,
+            kept,
         })
     }
 
@@ -199,6 +208,7 @@ impl<'a> FirstWords<'a> {
                 self.words.as_slice(),
                 self.tables.as_mut_slice(),
                 self.lists.as_mut_slice(),
+                self.kept.as_mut_slice(),
             );
         }
     }

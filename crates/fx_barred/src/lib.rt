@@ -3,6 +3,7 @@
 
 mod best_words;
 mod first_words;
+mod kept;
 mod laws;
 mod next_vectors;
 mod reached;

@@ -5,10 +5,13 @@ ghost use Rattle.std.specs.Bool.{OnTrue, OnFalse};
 ghost use Rattle.fx_demands.specs.declared.forbidden_list.ForbiddenVector.{ForbiddenVector};
 ghost use Rattle.fx_demands.specs.EffectVectors.{IsInOrder};
 ghost use Rattle.fx_barred.specs.Places.{StandFor, IsKnown, IsAdded, IsRange, AreLists, place_at, place_count};
-ghost use Rattle.fx_barred.specs.FirstWords.{AreWords, AreFirst, vector_at};
+ghost use Rattle.fx_barred.specs.Keeping.{AreAlikeBefore, AreKept, IsAddedBefore, IsKept, IsStoodByOne, StandBefore};
+ghost use Rattle.fx_barred.specs.declared.kept.Kept.{Kept};
+ghost use Rattle.fx_barred.specs.FirstWords.{AreWords, AreFirst, sum_to, vector_at};
 ghost use Rattle.fx_vectors.specs.declared.shape.TheConstants.{MOST_FACTORS};
 
-use crate::reached::Reached;
+use crate::kept::{Kept, same_from};
+use crate::reached::{Reached, filled};
 use fx_base::{NoMemory, Values};
 use fx_demands::ForbiddenVector;
 use fx_vectors::{MOST_FACTORS, Vector};
@@ -16,6 +19,15 @@ use std::alloc::Global;
 
 /// How many lists of places there are for each number of rows. The first is always empty.
 pub(crate) const LISTS: usize = 4;
+
+/// At most so many places are kept for other first rows, and they are found only where so many of the last rows have
+/// stayed.
+const MOST_KEPT: usize = 512;
+
+const FEWEST_STAYED: usize = 4;
+
+/// In how many slots places are looked up.
+const SLOTS: usize = 4096;
 
 /// Of how many vectors lists of places are made, and of how many times the points. Fewer are looked at one by one.
 const MANY: usize = 1024;
@@ -40,11 +52,13 @@ pub(crate) fn fill_with(
     words: &[ForbiddenVector],
     tables: &mut [usize],
     lists: &mut [Values<usize>],
+    kept: &mut [Kept],
 )
     requires room { length reached.now.rows < reached.now.room }
     requires words { AreWords reached.now.q reached.now.room words.now }
     requires tables { length tables.old ≡ reached.now.room * reached.now.q ^ reached.now.m }
     requires lists { AreLists reached.now words.now lists.old }
+    requires known { AreKept reached.now.q reached.now.m reached.now.room words.now kept.old }
     ensures len { length tables.new ≡ length tables.old }
     ensures kept { (k : ℕ) → k < length reached.now.rows * reached.now.q ^ reached.now.m
         → slice_index tables.new k ≡ slice_index tables.old k }
@@ -52,6 +66,7 @@ pub(crate) fn fill_with(
         AreFirst reached.now.q reached.now.m reached.now.rows words.now i (length words.now)
         (i * reached.now.q ^ reached.now.m) tables.new }
     ensures lists { AreLists reached.now words.now lists.new }
+    ensures known { AreKept reached.now.q reached.now.m reached.now.room words.now kept.new }
 {
     // There are at most `MOST_FACTORS` rows.
     let _room = reached.room();
@@ -63,12 +78,159 @@ pub(crate) fn fill_with(
         start: start_of(words, n + 1),
         end: start_of(words, n + 2),
     };
-    next.fill_table(tables, lists);
+    if next.fill_kept(tables, &kept[n]) {
+        return;
+    }
+    if next.fill_table(tables, lists) {
+        kept[n] = next.renewed(&kept[n]);
+    }
 }
 
 impl NextVectors<'_> {
-    /// Fills the table for the rows so far.
-    fn fill_table(&self, tables: &mut [usize], lists: &mut [Values<usize>])
+    /// Fills the table for the rows so far with the places that were kept, where only first rows are others. Whether
+    /// it did.
+    fn fill_kept(&self, tables: &mut [usize], kept: &Kept) -> bool
+        requires words { AreWords self.now.reached.now.q self.now.reached.now.room self.now.words.now }
+        requires tables { let r = self.now.reached.now in length tables.old ≡ r.room * r.q ^ r.m }
+        requires known { let r = self.now.reached.now in IsKept r.q r.m self.now.words.now (length r.rows) kept.now }
+        ensures len { length tables.new ≡ length tables.old }
+        ensures kept { let r = self.now.reached.now in
+            (k : ℕ) → k < length r.rows * r.q ^ r.m → slice_index tables.new k ≡ slice_index tables.old k }
+        ensures full { let r = self.now.reached.now in let i = length r.rows in
+            OnTrue result (AreFirst r.q r.m r.rows self.now.words.now i (length self.now.words.now) (i * r.q ^ r.m) tables.new) }
+    {
+        if kept.list.len() == 0 {
+            return false;
+        }
+        if same_from(self.reached.rows(), kept.rows.as_slice()) > kept.depth {
+            return false;
+        }
+        // Its order, once read, is known to be one of the seven.
+        let _known = self.reached.q();
+        let count = self.count(&kept.list);
+        let _ = self.fill(tables, &kept.list, count);
+        true
+    }
+
+    /// The places to be kept after these, where the rows that have stayed are enough.
+    fn renewed(&self, old: &Kept) -> Kept
+        requires words { AreWords self.now.reached.now.q self.now.reached.now.room self.now.words.now }
+        ensures { let r = self.now.reached.now in IsKept r.q r.m self.now.words.now (length r.rows) result }
+    {
+        let rows = self.reached.rows();
+        let depth = same_from(rows, old.rows.as_slice());
+        let Ok(rows) = Values::from_slice(self.alloc, rows) else {
+            return Kept::none(self.alloc);
+        };
+        let list = self.places_before(depth);
+        Kept { rows, depth, list }
+    }
+
+    /// Of the vectors those that stand for all, whatever the first `depth` rows are: each other one comes after one of
+    /// these with the same codes on those rows and the same sum. None where they would be too many, or the rows after
+    /// those too few.
+    fn places_before(&self, depth: usize) -> Values<usize>
+        requires words { AreWords self.now.reached.now.q self.now.reached.now.room self.now.words.now }
+        requires depth { depth ≤ length self.now.reached.now.rows }
+        ensures { let r = self.now.reached.now in 0 < length result
+            → StandBefore r.q r.m r.rows self.now.words.now (length r.rows) depth (slice_index result) (length result) }
+    {
+        let mut list = Values::new(self.alloc);
+        if self.reached.len() - depth < FEWEST_STAYED {
+            return list;
+        }
+        let Ok(slots) = filled(self.alloc, 0usize, SLOTS) else {
+            return list;
+        };
+        let mut slots = slots;
+        for k in self.start..self.end {
+            if list.len() >= MOST_KEPT {
+                return Values::new(self.alloc);
+            }
+            if !self.add_before(slots.as_mut_slice(), k, depth, &mut list) {
+                return Values::new(self.alloc);
+            }
+        }
+        list
+    }
+
+    /// Adds place `k`, unless the vector of the place whose number is in its slot stands for it, and puts its number
+    /// there. Tells whether there was memory for it.
+    fn add_before(
+        &self,
+        slots: &mut [usize],
+        k: usize,
+        depth: usize,
+        list: &mut Values<usize>,
+    ) -> bool
+        requires words { AreWords self.now.reached.now.q self.now.reached.now.room self.now.words.now }
+        requires slots { length slots.old ≡ 4096 }
+        requires there { k < length self.now.words.now }
+        requires depth { depth ≤ length self.now.reached.now.rows }
+        requires places { (x : ℕ) → x < length list.old → slice_index list.old x < length self.now.words.now }
+        ensures len { length slots.new ≡ length slots.old }
+        ensures added { let r = self.now.reached.now in
+            OnTrue result (IsAddedBefore r.q r.m r.rows self.now.words.now (length r.rows) depth k list.old list.new) }
+    {
+        let vector = &self.words[k].vector;
+        let sum = self.reached.sum(vector);
+        let slot = slot_of(vector, depth, sum);
+        if self.is_stood_for(list, slots[slot], k, sum, depth) {
+            return true;
+        }
+        slots[slot] = list.len();
+        if list.push(k).is_err() {
+            return false;
+        }
+        true
+    }
+
+    /// Whether the list has a place of this number, and the vector there stands for that one at place `k`, which has
+    /// this sum.
+    fn is_stood_for(
+        &self,
+        list: &Values<usize>,
+        known: usize,
+        k: usize,
+        sum: u16,
+        depth: usize,
+    ) -> bool
+        requires words { AreWords self.now.reached.now.q self.now.reached.now.room self.now.words.now }
+        requires places { (x : ℕ) → x < length list.now → slice_index list.now x < length self.now.words.now }
+        requires there { k < length self.now.words.now }
+        requires depth { depth ≤ length self.now.reached.now.rows }
+        requires sum { let r = self.now.reached.now in
+            sum ≡ sum_to r.q r.m r.rows (vector_at self.now.words.now k) (length r.rows) }
+        ensures { let r = self.now.reached.now in
+            OnTrue result (IsStoodByOne r.q r.m r.rows self.now.words.now (length r.rows) depth list.now k) }
+    {
+        if known >= list.len() {
+            return false;
+        }
+        self.is_alike(list.get(known), k, sum, depth)
+    }
+
+    /// Whether the vectors at places `p` and `k`, of which the second has this sum, have the same codes on the first
+    /// `depth` rows and the same sum.
+    fn is_alike(&self, p: usize, k: usize, sum: u16, depth: usize) -> bool
+        requires words { AreWords self.now.reached.now.q self.now.reached.now.room self.now.words.now }
+        requires first { p < length self.now.words.now }
+        requires second { k < length self.now.words.now }
+        requires depth { depth ≤ length self.now.reached.now.rows }
+        requires sum { let r = self.now.reached.now in
+            sum ≡ sum_to r.q r.m r.rows (vector_at self.now.words.now k) (length r.rows) }
+        ensures { let r = self.now.reached.now in
+            OnTrue result (AreAlikeBefore r.q r.m r.rows self.now.words.now (length r.rows) depth p k) }
+    {
+        let vector = &self.words[p].vector;
+        if !agree(vector, &self.words[k].vector, 0, depth) {
+            return false;
+        }
+        self.reached.sum(vector) == sum
+    }
+
+    /// Fills the table for the rows so far. Whether it took long.
+    fn fill_table(&self, tables: &mut [usize], lists: &mut [Values<usize>]) -> bool
         requires words { AreWords self.now.reached.now.q self.now.reached.now.room self.now.words.now }
         requires tables { let r = self.now.reached.now in length tables.old ≡ r.room * r.q ^ r.m }
         requires lists { AreLists self.now.reached.now self.now.words.now lists.old }
@@ -85,13 +247,14 @@ impl NextVectors<'_> {
         let last = last_list(lists, LISTS * n);
         if last > 0 {
             self.fill_by_lists(tables, lists, last);
-            return;
+            return false;
         }
         // Often few vectors have all sums.
         if self.fill_soon(tables, &lists[LISTS * n]) {
-            return;
+            return false;
         }
         self.fill_by_lists(tables, lists, last);
+        true
     }
 
     /// Fills the table for the rows so far, and tells whether it has all. Else the places are so many that lists of
@@ -341,6 +504,18 @@ pub(crate) fn empty_lists(alloc: Global, count: usize) -> Result<Vec<Values<usiz
         }
     }
     Ok(lists)
+}
+
+/// The slot of a vector with this sum, by its first `depth` codes.
+fn slot_of(vector: &Vector, depth: usize, sum: u16) -> usize
+    requires { depth ≤ length vector.now }
+    ensures { result < 4096 }
+{
+    let mut slot = usize::from(sum) % SLOTS;
+    for x in 0..depth {
+        slot = (5 * slot + usize::from(vector.code(x))) % SLOTS;
+    }
+    slot
 }
 
 /// How many of the rows come after those that list `l` took into its sums.

@@ -54,6 +54,10 @@ const CLEAR_OF_FOUR_BLOCKS: &str = ";factors A B C D;size design=16;blocks nbloc
 /// The least pattern: 282 nodes. The first lot ends with its 24th, the second with the 55th.
 const LEAST_PATTERN: &str = ";factors A B C D E F G;size design=32;model resolution=max/minabs;";
 
+/// X3 and X4 are free, and the rows of the ten after them have to be 0, which thousands of vectors say of the last.
+const CONSTANT: &str =
+    ";factors X1-X15;size design=4;model e=(X1|X2) n=(X5|X6|X7|X8|X9|X10|X11|X12|X13|X14 X15 X15*X1);";
+
 const STEPS: &[(&str, u64, Ended)] = &[
     (FIXED, 3, (End::Budget, 3, 0, &[], 3, 0)),
     (FIXED, 4, (End::Design, 3, 0, &[1, 2, 4, 7], 4, 4)),
@@ -224,6 +228,9 @@ const STEPS: &[(&str, u64, Ended)] = &[
         10,
         (End::NoDesign, 3, 0, &[], 10, 0),
     ),
+    (CONSTANT, 728, (End::Budget, 2, 0, &[], 728, 0)),
+    (CONSTANT, 729, (End::NoDesign, 2, 0, &[], 729, 0)),
+    (CONSTANT, 730, (End::NoDesign, 2, 0, &[], 729, 0)),
 ];
 
 /// The text of a step with this budget.

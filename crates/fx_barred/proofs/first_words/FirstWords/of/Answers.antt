@@ -6,6 +6,9 @@ use Rattle.fx_barred.specs.FirstWords.{AreFirstWords, AreWords, AreFirst}
 use Rattle.fx_barred.specs.Places.{AreLists}
 use Rattle.fx_barred.proofs.Firsts.{words_start}
 use Rattle.fx_barred.proofs.Listing.{lists-start}
+use Rattle.fx_barred.proofs.Keeping.{kept-start}
+use Rattle.fx_barred.specs.declared.kept.Kept.{Kept}
+use Rattle.fx_barred.specs.Keeping.{AreKept}
 use Rattle.fx_barred.proofs.Tables.{written}
 use Rattle.fx_barred.proofs.first_words.FirstWords.of.Goals as goal
 
@@ -37,12 +40,23 @@ invariant_of-result c =
     lists-start r c.args.words.now lists (4 * c.args.s) (ap (λ (n : ℕ). 4 * n) room) c.in_ok-lists.ensures in
     let lists_len : length c.fill_with.new.lists ≡ length lists = c.fill_with.ensures.lists.len ∙ sym start.len in
     let lists_new = written c.in_ok-lists.lists.len c.fill_with.new.lists lists lists_len
-    (omega (arith, lists_len, ap length lists_old, c.as_mut_slice-2.ensures.len)) in (
+    (omega (arith, lists_len, ap length lists_old, c.as_mut_slice-2.ensures.len)) in
+    let kept : List Kept = c.in_ok-kept.kept.items in
+    let kept_old : c.as_mut_slice-3.result.now ≡ kept = c.as_mut_slice-3.ensures.value in
+    let kept_begun : AreKept r.q r.m r.room c.args.words.now kept =
+    kept-start r.q r.m r.room c.args.words.now kept c.args.s room c.in_ok-kept.ensures in
+    let kept_len : length c.fill_with.new.kept ≡ length kept =
+    c.fill_with.ensures.known.len ∙ sym kept_begun.len in
+    let kept_new = written c.in_ok-kept.kept.len c.fill_with.new.kept kept kept_len
+    (omega (arith, kept_len, ap length kept_old, c.as_mut_slice-3.ensures.len)) in (
       subst (λ (l : List ℕ). AreFirstWords r c.args.words.now l) (sym new)
           (words_start r c.args.words.now c.fill_with.new.tables (ap (λ (v : ReachedView). v.rows) now) words total first),
       subst (λ (l : List (List ℕ)). AreLists r c.args.words.now l) (sym lists_new)
           (subst (λ (w : List ForbiddenVector). AreLists r w c.fill_with.new.lists) c.as_slice.ensures
           c.fill_with.ensures.lists),
+      subst (λ (l : List Kept). AreKept r.q r.m r.room c.args.words.now l) (sym kept_new)
+          (subst (λ (w : List ForbiddenVector). AreKept r.q r.m r.room w c.fill_with.new.kept) c.as_slice.ensures
+          c.fill_with.ensures.known),
     )
 
 pub fill_with-requires-clause-lists : goal.fill_with-requires-clause-lists
@@ -52,3 +66,10 @@ fill_with-requires-clause-lists c =
     subst (λ (l : List (List ℕ)). AreLists r c.as_slice.result.now l) (sym c.as_mut_slice-2.ensures.value)
     (lists-start r c.as_slice.result.now c.in_ok-lists.lists.items (4 * c.args.s) (ap (λ (n : ℕ). 4 * n) room)
     c.in_ok-lists.ensures)
+
+pub fill_with-requires-clause-known : goal.fill_with-requires-clause-known
+fill_with-requires-clause-known c =
+    let r : ReachedView = c.in_ok-reached.reached in
+    let room : c.args.s ≡ r.room = sym (ap (λ (v : ReachedView). v.room) c.in_ok-reached.ensures) in
+    subst (λ (l : List Kept). AreKept r.q r.m r.room c.as_slice.result.now l) (sym c.as_mut_slice-3.ensures.value)
+    (kept-start r.q r.m r.room c.as_slice.result.now c.in_ok-kept.kept.items c.args.s room c.in_ok-kept.ensures)

@@ -2,6 +2,7 @@ use Rattle.std.proofs.Common.{ℕ, ◌≡◌, ◌<◌, ◌+◌, ◌-◌, ◌*◌
 use Rattle.fx_barred.specs.Reached.{ReachedView}
 use Rattle.fx_barred.specs.FirstWords.{AreFirstWords, FirstWordsView}
 use Rattle.fx_barred.specs.Places.{AreLists}
+use Rattle.fx_barred.specs.Keeping.{AreKept}
 use Rattle.fx_barred.proofs.Firsts.{words_pop}
 use Rattle.fx_barred.proofs.Listing.{lists-pop}
 use Rattle.fx_barred.proofs.Tables.{written}
@@ -26,4 +27,6 @@ invariant_of-self c =
           (λ l up few.
           subst (λ (n : ℕ). slice_index_or c.drop_lists.new.lists (4 * (n + (16 - 4 * l)) + l) [] ≡ []) c.len.ensures.count
           (c.drop_lists.ensures.dropped l up few)))),
+      subst (λ (r : ReachedView). AreKept r.q r.m r.room s.words.now s.kept.items) (sym c.pop.ensures)
+          c.self.invariant.2,
     )

@@ -4,6 +4,8 @@ use Rattle.fx_demands.specs.declared.forbidden_list.ForbiddenVector.{ForbiddenVe
 use Rattle.fx_barred.specs.Reached.{ReachedView}
 use Rattle.fx_barred.specs.FirstWords.{AreFirstWords, AreFirst}
 use Rattle.fx_barred.specs.Places.{AreLists}
+use Rattle.fx_barred.specs.declared.kept.Kept.{Kept}
+use Rattle.fx_barred.specs.Keeping.{AreKept}
 use Rattle.fx_barred.proofs.Firsts.{words_push}
 use Rattle.fx_barred.proofs.Listing.{lists-push}
 use Rattle.fx_barred.proofs.Tables.{written}
@@ -42,13 +44,24 @@ invariant_of-self c =
     let lists_len : length c.fill_with.new.lists ≡ length lists =
     c.fill_with.ensures.lists.len ∙ ap (λ (v : ReachedView). 4 * v.room) now ∙ sym before.len in
     let lists_new = written s.lists.len c.fill_with.new.lists lists lists_len
-    (omega (arith, lists_len, ap length lists_old, c.as_mut_slice-then-len-room.ensures.len)) in (
+    (omega (arith, lists_len, ap length lists_old, c.as_mut_slice-then-len-room.ensures.len)) in
+    let stored : List Kept = s.kept.items in
+    let kept_old : c.as_mut_slice-then-len-room-2.result.now ≡ stored = c.as_mut_slice-then-len-room-2.ensures.value in
+    let kept_before : AreKept next.q next.m next.room s.words.now stored = c.self.invariant.2 in
+    let kept_len : length c.fill_with.new.kept ≡ length stored =
+    c.fill_with.ensures.known.len ∙ ap (λ (v : ReachedView). v.room) now ∙ sym kept_before.len in
+    let kept_new = written s.kept.len c.fill_with.new.kept stored kept_len
+    (omega (arith, kept_len, ap length kept_old, c.as_mut_slice-then-len-room-2.ensures.len)) in (
       subst (λ (l : List ℕ). AreFirstWords c.push.new.self s.words.now l) (sym new)
           (subst (λ (v : ReachedView). AreFirstWords v s.words.now c.fill_with.new.tables) (sym now)
           (words_push r c.args.row s.words.now s.tables.items c.fill_with.new.tables c.self.invariant.0 len kept (λ more. first))),
       subst (λ (l : List (List ℕ)). AreLists c.push.new.self s.words.now l) (sym lists_new)
           (subst (λ (w : List ForbiddenVector). AreLists c.push.new.self w c.fill_with.new.lists) c.as_slice.ensures
           c.fill_with.ensures.lists),
+      subst (λ (l : List Kept). AreKept c.push.new.self.q c.push.new.self.m c.push.new.self.room s.words.now l)
+          (sym kept_new)
+          (subst (λ (w : List ForbiddenVector). AreKept c.push.new.self.q c.push.new.self.m c.push.new.self.room w
+          c.fill_with.new.kept) c.as_slice.ensures c.fill_with.ensures.known),
     )
 
 pub invariant_of-self-else-len-room : goal.invariant_of-self-else-len-room
@@ -67,6 +80,7 @@ invariant_of-self-else-len-room c =
           (λ more. absurd (omega arith))),
       subst (λ (v : ReachedView). AreLists v s.words.now s.lists.items) (sym now)
           (lists-push r c.args.row s.words.now s.lists.items c.self.invariant.1),
+      subst (λ (v : ReachedView). AreKept v.q v.m v.room s.words.now s.kept.items) (sym now) c.self.invariant.2,
     )
 
 pub fill_with-requires-clause-lists : goal.fill_with-requires-clause-lists
@@ -78,3 +92,13 @@ fill_with-requires-clause-lists c =
     (subst (λ (l : List (List ℕ)). AreLists c.push.new.self s.words.now l) (sym c.as_mut_slice-then-len-room.ensures.value)
     (subst (λ (v : ReachedView). AreLists v s.words.now s.lists.items) (sym c.push.ensures)
     (lists-push r c.args.row s.words.now s.lists.items c.self.invariant.1)))
+
+pub fill_with-requires-clause-known : goal.fill_with-requires-clause-known
+fill_with-requires-clause-known c =
+    let s = c.self.inside in
+    subst (λ (w : List ForbiddenVector). AreKept c.push.new.self.q c.push.new.self.m c.push.new.self.room w
+    c.as_mut_slice-then-len-room-2.result.now) (sym c.as_slice.ensures)
+    (subst (λ (l : List Kept). AreKept c.push.new.self.q c.push.new.self.m c.push.new.self.room s.words.now l)
+    (sym c.as_mut_slice-then-len-room-2.ensures.value)
+    (subst (λ (v : ReachedView). AreKept v.q v.m v.room s.words.now s.kept.items) (sym c.push.ensures)
+    c.self.invariant.2))
