@@ -5,7 +5,7 @@ use crate::board::Holding;
 use crate::questions::{main_effects, question, shape_of};
 use crate::rows_of;
 use crate::searches::are_same_marks;
-use fx_board::{Alone, Asked, FreeGate, ask, ask_after};
+use fx_board::{Alone, Asked, FreeGate, ask, ask_after, walking};
 use fx_search::{ask_alone, forbidden_vectors_of};
 use fx_vectors::Question;
 use std::alloc::Global;
@@ -234,4 +234,14 @@ fn a_second_thread_works_off_jobs_of_a_least_question(rt: HostRuntime) {
     let asked = ask(&rt, rt.alloc(), &question, 1_000_000, 2, &gate).expect(&rt, "memory");
     assert!(rt; matches!(asked, Asked::Found { nodes: 80, .. }));
     assert!(rt; gate.met.load(Ordering::SeqCst) == 1);
+}
+
+#[test]
+fn few_threads_walk_where_more_would_walk_in_vain(rt: HostRuntime) {
+    assert!(rt; walking(64, false, 0) == 64);
+    assert!(rt; walking(64, false, 1) == 2);
+    assert!(rt; walking(64, true, 0) == 2);
+    assert!(rt; walking(64, false, 131_072) == 2);
+    assert!(rt; walking(64, false, 131_073) == 1);
+    assert!(rt; walking(1, true, 131_072) == 1);
 }
