@@ -27,9 +27,9 @@ BOUNDS = {
     "check of tables": Bound("entries", 2, 400, 450),
 }
 # Microseconds for each node of chains: prefixes with one way on, on which no two forbidden vectors have the same codes.
-CHAINS = 1000
-# What a run with several threads may take more than with one, and the megabytes of 64.
-MORE, MORE_MEGABYTES = 7, 1500
+CHAINS = 500
+# What a run with several threads may take more than with one.
+MORE = 1.5
 
 
 def product(rng, factors, most):
@@ -157,8 +157,6 @@ class Run:
     def is_over(self):
         most_seconds = self.most_seconds(self.count) + 5e-9 * self.written
         most_megabytes = self.bound.megabytes + (100e-6 * self.count if self.bound.unit == "nodes" else 0)
-        if self.threads > 1:
-            most_megabytes = max(most_megabytes, MORE_MEGABYTES)
         return not self.ended or self.seconds > most_seconds or self.megabytes > most_megabytes
 
     def share(self):
@@ -214,7 +212,12 @@ def known_runs(factex):
     """The worst inputs that are known, of which each is a seed below 0."""
     pushes = (f"proc factex nodes=100000; factors X1-X21/nlev=3; size design=9; model e=(X1 X19 X20 X21) "
               f"n=({product_of(2, 17, '|')}@2 {product_of(2, 17)} {product_of(2, 18)}); run;")
-    chains = f"proc factex nodes=10000; factors X1-X37; size design=4; model e=(X1|X2) n=({product_of(21, 36, '|')} X37 X37*X1); run;"
+    free = "".join(f" {product_of(3, 20)}*X{i}" for i in range(21, 37))
+    chains = [f"proc factex nodes=20000; factors X1-X37; size design={2 ** m}; model e=({product_of(1, m, '|')}) "
+              f"n=({product_of(21, 36, '|')} X37 X37*X1{more}); run;" for m, more in ((2, ""), (2, free), (3, ""), (4, ""))]
+    chains.append(f"proc factex nodes=20000; factors X1-X28; size design=4; model e=(X1|X2) n=({product_of(11, 18, '|')}|"
+                  f"{product_of(20, 27, '|')} X28 X28*X1); run;")
+    pairs = f"proc factex; factors X1-X40; size design=1024; model e=({product_of(1, 40, '|')}@2); run;"
     drawn = ("proc factex nodes=200000; factors X1-X63/nlev=3; size design=729; model e=(X1-X19 X49*X17*X7*X29*X21*X59) n=(X57|X5|X40|"
              "X35|X22|X29|X21|X54|X31|X1|X46|X60|X63|X28|X13|X44|X25|X14|X24|X33|X4|X23|X18@2 X38 X53*X21*X47*X63*X1*X49*X57*X52*X37*"
              "X51*X9*X26*X3); run;")
@@ -222,9 +225,12 @@ def known_runs(factex):
     value = "'" + product_of(1, 10, "|") + "x" * 1_048_000 + "'"
     long = f"proc factex; factors X1-X10 A; size design=1024; model e=({product_of(1, 10, '|')}) n=(A); output out=a A cvals=({value} 'y'); run;"
     yield Run(-1, factex, ["run"], pushes.encode(), 100_000)
-    yield Run(-2, factex, ["run"], chains.encode(), 10_000, each=CHAINS)
-    yield Run(-3, factex, ["run"], drawn.encode(), 200_000)
-    yield Run(-4, factex, ["run"], lots.encode(), 5_000_000, 64)
+    for text in chains:
+        yield Run(-2, factex, ["run"], text.encode(), 20_000, each=CHAINS)
+    for threads in (1, 64):
+        yield Run(-3, factex, ["run"], drawn.encode(), 200_000, threads)
+    for text, nodes in ((lots, 5_000_000), (pairs, 1_000_000)):
+        yield Run(-4, factex, ["run"], text.encode(), nodes, 64)
     yield Run(-5, factex, ["run"], long.encode()[: 1 << 20], 0)
     for seed, book in ((-6, book_by_effects(1_000_000)), (-7, table_of_floors(335_000))):
         yield Run(seed, factex, ["check"], book.encode(), book.count("\n"))
