@@ -9,3 +9,4 @@ mod NextResolution
 mod FullBlocks
 pub mod Best
 mod Examples
+mod Refutations

@@ -1,3 +1,4 @@
 mod Answered
 pub mod Fewer
 pub mod Claimed
+mod Examples

@@ -6,6 +6,8 @@ use Rattle.std.proofs.lemmas.List.Elements.{at_from_Contains}
 use Rattle.fx_base.specs.Acts.{File, WholeFile, whole_file}
 use Rattle.fx_base.specs.Memory.{room_of}
 use Rattle.fx_judge.specs.Reading.{plan_fault}
+use Rattle.fx_book.specs.Parts.{lines_of}
+use Rattle.fx_table_book.specs.Texts as tables
 use Rattle.fx_table_book.specs.declared.order.Order.TheVariants.{FactorsFirst, SitterChenFeder}
 use Rattle.fx_program.specs.declared.words.Settings.TheVariants.{Run, Plan, Check, Make, Large, Judge, Upgrade, Tables}
 use Rattle.fx_program.specs.CommandLine.{settings_of}
@@ -46,6 +48,11 @@ not_read_whole : (text : List ℕ) → length text ≡ 268435457
     → ((command_of Check).reads_all_of text ≡ false) × ((command_of Upgrade).reads_all_of text ≡ false)
     × ((command_of (Run 1 0)).reads_all_of text ≡ true)
 not_read_whole text long = rw long (refl, refl, refl)
+
+-- a table's book of 33,554,432 bytes is read
+table_read_whole : (text : List ℕ) → length text ≡ 33554432 → tables.book_of text ≡ tables.from_title (lines_of text)
+unfolding tables.book_of
+table_read_whole text long = rw long refl
 
 -- a plan that is refused
 refused_plan :

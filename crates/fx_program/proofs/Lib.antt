@@ -30,3 +30,4 @@ mod TableLimits
 mod TableNames
 mod Tabulated
 pub mod SomeOutput
+mod Uses

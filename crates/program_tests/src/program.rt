@@ -1,3 +1,4 @@
+mod ample;
 mod books;
 mod catalogues;
 mod failing;

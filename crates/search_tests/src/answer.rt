@@ -234,7 +234,7 @@ const STEPS: &[(&str, u64, Ended)] = &[
 ];
 
 /// The text of a step with this budget.
-fn text_of(rt: &impl Abort, alloc: Global, budget: u64, step: &str) -> Bytes {
+pub(crate) fn text_of(rt: &impl Abort, alloc: Global, budget: u64, step: &str) -> Bytes {
     let mut text = Bytes::from_slice(alloc, b"proc factex nodes=").expect(rt, "memory");
     put_number(&mut text, u128::from(budget)).expect(rt, "memory");
     put(&mut text, step.as_bytes()).expect(rt, "memory");
@@ -242,7 +242,7 @@ fn text_of(rt: &impl Abort, alloc: Global, budget: u64, step: &str) -> Bytes {
 }
 
 /// The program of a text.
-fn program_of(rt: &impl Abort, alloc: Global, text: &[u8]) -> Program {
+pub(crate) fn program_of(rt: &impl Abort, alloc: Global, text: &[u8]) -> Program {
     assert!(rt; text.len() <= 1_048_576);
     let tokens = lex(alloc, text).expect(rt, "tokens");
     parse(alloc, text, &tokens).expect(rt, "a program")

@@ -68,11 +68,13 @@ fn all_come_back(rt: &impl Abort, alloc: Global, cases: &[&str]) {
 
 #[test]
 fn books_come_back(rt: HostRuntime) {
-    const TEXTS: [&str; 7] = [
+    const TEXTS: [&str; 9] = [
         WORKED,
         "factex-book 2\nsize 2 3 4 0\nresolution 4\npattern 0 0 0 1\nO 1\nO 2\nO 4\nP 7\nP 6\nP 5\nP 3\nEND\n",
         "factex-book 2\nsize 2 1 2 0\neffects 1 2 /\npattern none\nO 1\nW 1 1:1 2:1\nW 0 2:1\nW 0 1:1\nEND\n",
         "factex-book 2\nsize 3 2 4 2\neffects 1 2 3 / 4 8 5\npattern none\nEND\n",
+        "factex-book 2\nsize 2 10 1 10\nresolution 3\npattern none\nEND\n",
+        "factex-book 2\nsize 2 3 2 0\nresolution 3\npattern 0 170141183460469231731687303715884105727\nEND\n",
         "factex-book 2\nsize 9 3 40 0\nresolution 99\npattern none\nW 728 #147808829414345923316083210206383297600\nEND\n",
         "factex-book 2\nsize 2 6 63 0\nresolution 99\npattern none\nW 63 #9223372036854775807\nW 1 41:1 63:1\nEND\n",
         "factex-book 2\nsize 3 6 63 0\nresolution 99\npattern none\nW 728 #1144561273430837494885949696426\nW 0 1:1 2:2 3:1 4:2 5:1 6:2 7:1 63:2\nEND\n",

@@ -31,6 +31,8 @@ mod threads;
 #[cfg(test)]
 mod tree;
 #[cfg(test)]
+mod watching;
+#[cfg(test)]
 mod words;
 
 // A helper ends the test where memory runs out, by `expect`, and hands on no error: each way out of a function is

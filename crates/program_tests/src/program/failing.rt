@@ -1,6 +1,7 @@
 //! Each call outside fails in turn, and the room for each byte is missing in turn. What is left is the
 //! beginning of the whole, and no call follows the one that failed.
 use super::outside::{Limits, Outside, SURE, left_by};
+use crate::rows_of;
 use fx_base::{Bytes, MemoryShelf, put};
 use std::alloc::Global;
 use std::process::Abort;
@@ -39,6 +40,9 @@ const BOOK: &str =
 
 /// A plan that is judged.
 const JUDGED: &str = "A,B,C\n-1,-1,-1\n-1,1,1\n1,-1,1\n1,1,-1\n";
+
+/// A step with rules, and a plan of it.
+const GIVEN: &str = "rules C=A*B\nproc factex; factors A B C; size design=4; output out=inner;";
 
 /// How many bytes a call takes where each piece is to go in one.
 const PIECE: usize = 5000;
@@ -260,6 +264,115 @@ fn all_make_calls<R: Threads + Sync + Abort>(
 #[test]
 fn each_call_fails_in_turn(rt: HostRuntime) {
     all_make_calls(&rt, rt.alloc(), &CALLS);
+}
+
+/// Words and texts of one step or one line, with how many reads, writes to the listing and calls on the shelf are made, each
+/// piece in one call, and how many of these writes come before the files.
+const FEW_CALLS: [(&str, &str, [usize; 3], usize); 10] = [
+    ("run", ALL, [2, 1, 6], 0),
+    ("run", FOLDED, [2, 1, 6], 0),
+    ("run", "proc factor;", [2, 1, 0], 0),
+    ("plan", GIVEN, [2, 1, 3], 0),
+    ("check", BOOK, [2, 1, 0], 0),
+    ("upgrade", BOOK, [2, 3, 0], 0),
+    ("judge 2", JUDGED, [2, 1, 0], 0),
+    ("make 1", "", [0, 1, 0], 0),
+    ("catalogue 2 3 4", "", [0, 2, 3], 1),
+    ("tables 2 3 4", "", [0, 2, 3], 1),
+];
+
+/// The limits where one call fails, and each call that is made after it on any of the objects, and not before.
+fn limits_after(failing: Failing, call: usize, calls: &[usize; 3], before: usize) -> Limits {
+    let reads = Some(calls[0].saturating_add(1));
+    match failing {
+        Failing::Reads => Limits {
+            step: PIECE,
+            first_read: Some(call),
+            first_write: Some(1),
+            first_file: Some(1),
+            ..SURE
+        },
+        Failing::Writes => Limits {
+            step: PIECE,
+            first_read: reads,
+            first_write: Some(call),
+            first_file: Some(if call <= before {
+                1
+            } else {
+                calls[2].saturating_add(1)
+            }),
+            ..SURE
+        },
+        Failing::Files | Failing::ListingRoom | Failing::ShelfRoom => Limits {
+            step: PIECE,
+            first_read: reads,
+            first_write: Some(before.saturating_add(1)),
+            first_file: Some(call),
+            ..SURE
+        },
+    }
+}
+
+/// Tests that no call follows where calls of one object fail, the first to the last of so many.
+fn none_follows<R: Threads + Sync + Abort>(
+    rt: &R,
+    alloc: Global,
+    asked: (&str, &str),
+    failing: Failing,
+    count: usize,
+    calls: &[usize; 3],
+    before: usize,
+) {
+    let (line, text) = asked;
+    for call in 1..=count {
+        let limits = limits_after(failing, call, calls, before);
+        let left = left_by(rt, alloc, line, text.as_bytes(), limits);
+        assert!(rt; left.status == 4 && left.faults() == 1, "{line} {call}");
+    }
+}
+
+/// After the first failed call none is made on any object, no read at the end and no write of nothing either: each would
+/// fail, too, and be counted.
+#[test]
+fn no_call_follows_the_first_failed_one(rt: HostRuntime) {
+    for (line, text, calls, before) in rows_of(&FEW_CALLS) {
+        let asked = (*line, *text);
+        none_follows(
+            &rt,
+            rt.alloc(),
+            asked,
+            Failing::Reads,
+            calls[0],
+            calls,
+            *before,
+        );
+        none_follows(
+            &rt,
+            rt.alloc(),
+            asked,
+            Failing::Writes,
+            calls[1],
+            calls,
+            *before,
+        );
+        none_follows(
+            &rt,
+            rt.alloc(),
+            asked,
+            Failing::Files,
+            calls[2],
+            calls,
+            *before,
+        );
+        // With all calls there is no fault.
+        let limits = limits_after(Failing::Reads, calls[0].saturating_add(1), calls, *before);
+        let whole = Limits {
+            first_write: None,
+            first_file: None,
+            ..limits
+        };
+        assert!(rt; left_by(&rt, rt.alloc(), line, text.as_bytes(), whole).faults() == 0);
+    }
 }
 
 /// Whether the run takes just the room of its listing there, and room on the shelf.

@@ -124,7 +124,7 @@ fn steps_with_rules_write_their_plans(rt: HostRuntime) {
 }
 
 /// Each text with its message.
-const REFUSED: [(&str, &str); 9] = [
+const REFUSED: [(&str, &str); 14] = [
     (
         "rules D=\nproc factex;factors A B C D;size design=8;",
         "P1 2:1 rules are not of their form",
@@ -134,8 +134,28 @@ const REFUSED: [(&str, &str); 9] = [
         "P2 1:11 name is no factor and no block factor",
     ),
     (
+        "rules E=A*B D=A*C\nproc factex;factors A B C D E;size design=16;",
+        "P3 1:13 rules are not in the order of the factors",
+    ),
+    (
+        "rules C=A*D\nproc factex;factors A B C D;size design=8;",
+        "P4 1:11 factor has no run index before this product",
+    ),
+    (
+        "rules C=A*A\nproc factex;factors A B C;size design=4;",
+        "P5 1:11 factor is twice in a product",
+    ),
+    (
+        "rules C=A^3*B\nproc factex;factors A B C / nlev=3;size design=9;",
+        "P6 1:11 power is no code",
+    ),
+    (
         "rules D=A*B\nproc factex;factors A B C D;size design=4;",
         "P7 1:7 more factors without a rule than run indexes",
+    ),
+    (
+        "rules [1]=run factor 3\nproc factex;factors A;size design=4;blocks nblocks=2;",
+        "P8 1:22 run factor is not the next",
     ),
     (
         "proc factex;factors A B;size design=4;",

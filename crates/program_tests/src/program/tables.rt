@@ -41,7 +41,7 @@ fn has_whole_files(left: &Outside, files: usize) -> bool {
 }
 
 /// Lines, each with its listing, the number of its books, and its status.
-const TABLES: [(&str, &str, usize, u8); 14] = [
+const TABLES: [(&str, &str, usize, u8); 15] = [
     ("tables 2 3 5", FIVE, 2, 0),
     // No line comes after the one without a design.
     ("tables 2 3 63", EIGHT, 5, 1),
@@ -77,6 +77,13 @@ const TABLES: [(&str, &str, usize, u8); 14] = [
     (
         "tables 2 4 5 --blocks=2 --order=SCF",
         "table levels 2 runs 16 blocks 2 order SCF\nfactors 3 entries 1 no defining words\nrules none\nfactors 4 entries 14 no defining words B4 1\nrules [1]=X1*X2*X3*X4\nfactors 5 entries 41 resolution 4 A4 1 B3 2\nrules X5=X1*X3*X4 [1]=X2*X3*X4\n",
+        3,
+        0,
+    ),
+    // The second of these orders tells apart what the third does not.
+    (
+        "tables 2 5 6 --blocks=2 --order=W2",
+        "table levels 2 runs 32 blocks 2 order W2\nfactors 4 entries 1 no defining words\nrules none\nfactors 5 entries 30 no defining words B5 1\nrules [1]=X1*X2*X3*X4*X5\nfactors 6 entries 97 resolution 6 A6 1 B3 2\nrules X6=X1*X2*X3*X4*X5 [1]=X3*X4*X5\n",
         3,
         0,
     ),
