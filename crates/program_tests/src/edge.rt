@@ -20,11 +20,11 @@ const PLAN: &str = "A,B,C\n-1,-1,\"lo,w\"\n-1,1,hi\n1,-1,hi\n1,1,\"lo,w\"\n";
 
 const BARRED: &str = "proc factex; factors A; model resolution=3; output out=Factex_Barred;";
 
-/// Two steps without a design, and a plan.
+/// Two steps without a design, and a plan with a name of 36 bytes.
 const BOOKS: &str = "\
 proc factex; factors A B / nlev=3; size design=3; model estimate=(A*B); run;
 proc factex; factors A B C; size design=2; model resolution=3; run;
-proc factex; factors A B; size design=4; model resolution=3; output out=factex_beside;
+proc factex; factors A B; size design=4; model resolution=3; output out=factex_beside_a_name_of_32_bytes;
 ";
 
 /// What is written to the files of that program, by their names.
@@ -37,7 +37,10 @@ const BOOK_FILES: [(&str, &str); 3] = [
         "step2-1.book",
         "factex-book 2\nsize 2 1 3 0\nresolution 3\npattern none\nO 1\nEND\n",
     ),
-    ("factex_beside.csv", "A,B\n-1,-1\n-1,1\n1,-1\n1,1\n"),
+    (
+        "factex_beside_a_name_of_32_bytes.csv",
+        "A,B\n-1,-1\n-1,1\n1,-1\n1,1\n",
+    ),
 ];
 
 /// The words of a command line, between blanks.

@@ -1,6 +1,4 @@
 //! Searches whose gate counts what their workers begin and end.
-ghost use Rattle.std.specs.Prelude.{◌<◌, ◌≤◌};
-
 use crate::answer::{program_of, text_of};
 use crate::questions::{question, shape_of};
 use crate::rows_of;
@@ -73,7 +71,8 @@ impl Watching {
                 return false;
             }
         }
-        self.wrong.load(Ordering::SeqCst) == 0 && 0 < count_of(self.begun.as_slice(), most - 1)
+        self.wrong.load(Ordering::SeqCst) == 0
+            && 0 < count_of(self.begun.as_slice(), most.saturating_sub(1))
     }
 }
 
@@ -156,6 +155,7 @@ fn each_number_of_a_line_is_begun_and_ended_once(rt: HostRuntime) {
     for (q, m, s) in [(2, 6, 12), (3, 4, 12)] {
         let gate = Watching::new(&rt, rt.alloc());
         let shape = shape_of(&rt, (q, m, s, 0));
+        assert!(rt; shape.t == 0 && shape.m < shape.s);
         least_line(&rt, rt.alloc(), shape, 12_000, 2, &gate).expect(&rt, "memory");
         assert!(rt; gate.is_orderly(1), "{q}");
     }
